@@ -1,0 +1,4 @@
+pub mod Keys
+pub mod Causes
+pub mod Readings
+pub mod Told

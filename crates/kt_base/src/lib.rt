@@ -1,0 +1,25 @@
+//! The words that every layer speaks: cells and byte strings, the two refusals that any call may meet,
+//! the limits, and the outside world as traits. It stands on nothing.
+//!
+//! For the layers above: a call on the outside answers `Failed` only where the outside's count of faults rose.
+#![tactic(auto)]
+
+pub mod cell;
+pub mod chore;
+pub mod clock;
+pub mod key;
+pub mod limits;
+pub mod lists;
+pub mod memory;
+pub mod octets;
+pub mod outside;
+pub mod refusal;
+
+pub use cell::{Cell, Cells, Kind, Row};
+pub use chore::Chore;
+pub use clock::MemClock;
+pub use lists::{CallList, ReadingList};
+pub use memory::{MemSink, MemSource};
+pub use octets::Octets;
+pub use outside::{Clock, Sink, Source};
+pub use refusal::{Failed, NoMemory};
