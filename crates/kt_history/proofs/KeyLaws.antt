@@ -8,7 +8,7 @@ use Rattle.std.proofs.lemmas.Cmp.{nat_list_cmp_total, alike_right, eq_by_cmp_equ
 use Rattle.std.specs.FinMap.Entries.{find, put, where_key, find-put, find-where_key, find_tied}
 use Rattle.kt_history.specs.declared.change.Change.{Change}
 use Rattle.kt_history.specs.Rows.{Row, Rows, Changes, AreApart, apply, set_row, changed, key_cmp}
-use Rattle.kt_history.specs.History.{Past, PastWrite, replay, rows_at}
+use Rattle.kt_history.specs.History.{PastWrite, Rise, replay, replay_row, row_after, each_key_for_itself}
 
 is_equal : (o : Ordering) → is_eq o ≡ true → o ≡ Equal
 is_equal Less h = cc
@@ -26,11 +26,6 @@ find-set_row q k None rows =
     ∙ turned (eq_by_cmp key_cmp k q) (find key_cmp q rows) None
     ∙ ap (λ b. cond b None (find key_cmp q rows)) ((eq_by_cmp_equiv nat_list_cmp_total).symm k q)
 
--- the row after a change, if there is one
-abbrev pub row_after : Option Change → Option Row → Option Row
-row_after None row = row
-row_after (Some change) row = apply change row
-
 pub find-changed : (q : List ℕ) (changes : Changes) (rows : Rows) → AreApart changes → find key_cmp q (changed changes rows) ≡ row_after (find key_cmp q changes) (find key_cmp q rows)
 find-changed q [] rows h = refl
 find-changed q (c ∷ changes) rows h =
@@ -44,24 +39,15 @@ find-changed q (c ∷ changes) rows h =
       | false ↦ λ _. refl
     ] refl
 
--- the row of a key at t: its changes at or below t, in order
-abbrev pub replay_row : ℕ → List ℕ → List PastWrite → Option Row → Option Row
-replay_row t q [] row = row
-replay_row t q (w ∷ writes) row = replay_row t q writes (cond (nat_le w.ts t) (row_after (find key_cmp q w.changes) row) row)
-
-abbrev pub AllApart : List PastWrite → Type 0
-AllApart [] = Unit {0}
-AllApart (w ∷ writes) = AreApart w.changes × AllApart writes
-
-pub find-replay : (t : ℕ) (q : List ℕ) (writes : List PastWrite) (rows : Rows) → AllApart writes → find key_cmp q (replay t writes rows) ≡ replay_row t q writes (find key_cmp q rows)
-find-replay t q [] rows h = refl
-find-replay t q (w ∷ writes) rows h =
-    find-replay t q writes (cond (nat_le w.ts t) (changed w.changes rows) rows) h.1
+pub find-replay : (low t : ℕ) (q : List ℕ) (writes : List PastWrite) (rows : Rows) → Rise low writes → find key_cmp q (replay t writes rows) ≡ replay_row t q writes (find key_cmp q rows)
+find-replay low t q [] rows h = refl
+find-replay low t q (w ∷ writes) rows h =
+    find-replay w.ts t q writes (cond (nat_le w.ts t) (changed w.changes rows) rows) h.3
     ∙ ap (replay_row t q writes) (elim (nat_le w.ts t) as (λ b. find key_cmp q (cond b (changed w.changes rows) rows) ≡ cond b (row_after (find key_cmp q w.changes) (find key_cmp q rows)) (find key_cmp q rows)) [
-      | true ↦ find-changed q w.changes rows h.0
+      | true ↦ find-changed q w.changes rows h.2
       | false ↦ refl
     ])
 
 -- the row of a key in the rows at t is its own history up to t
-pub find-rows_at : (past : Past) (t : ℕ) (q : List ℕ) → AllApart past.writes → find key_cmp q (rows_at past t) ≡ replay_row t q past.writes (find key_cmp q past.base)
-find-rows_at past t q h = find-replay t q past.writes past.base h
+pub find-rows_at : each_key_for_itself
+find-rows_at past t q is = find-replay past.mark t q past.writes past.base is.writes

@@ -10,17 +10,10 @@ use Rattle.kt_history.specs.declared.event.Event.TheVariants.{Begin, End, Look, 
 use Rattle.kt_history.specs.declared.change.Change.{Change}
 use Rattle.kt_history.specs.declared.operation.RowOp.{RowOp}
 use Rattle.kt_history.specs.Rows.{Row, Rows as TableRows, Changes, AreApart, key_cmp}
-use Rattle.kt_history.specs.History.{Past, PastWrite, Rise, rows_at, with_write}
+use Rattle.kt_history.specs.History.{Past, PastWrite, IsPast, IsPastUpTo, IsUpTo, Rise, rows_at, with_write}
 use Rattle.kt_history.specs.Operations.{changes_on, effect_on, keyed, DifferentKeys}
 use Rattle.kt_history.specs.Machine.{Workload, State, Allowed, after, state_after, IsRunFrom, HasDifferentKeys, command_at, ops_of}
-use Rattle.kt_history.proofs.RowLaws.{IsUpTo}
 use Rattle.kt_history.proofs.Runs.{begins_above, c_rises}
-
--- the timestamps rise from the mark, and end at the last timestamp
-pub record EndsAt (c : ℕ) (past : Past) : Type 0 where
-  pub mark : past.mark ≤ c
-  pub rise : Rise past.mark past.writes
-  pub up_to : IsUpTo c past.writes
 
 both : (a b : Bool) → a ≡ true → b ≡ true → (a && b) ≡ true
 both true b p q = q
@@ -52,16 +45,16 @@ up_to_push : (c : ℕ) (ws : List PastWrite) (w : PastWrite) → IsUpTo c ws →
 up_to_push c [] w up le = both _ _ (is_le w.ts c le) refl
 up_to_push c (v ∷ ws) w up le = both _ _ (left _ _ up) (up_to_push c ws w (right _ _ up) le)
 
-pub ends_with_write : (c ts : ℕ) (past : Past) (changes : Changes) → EndsAt c past → c < ts → AreApart changes → EndsAt ts (with_write past ts changes)
-ends_with_write c ts past [] e lt apart = record { mark = omega (arith, e.mark); rise = e.rise; up_to = up_to_later c ts past.writes (omega arith) e.up_to }
+pub ends_with_write : (c ts : ℕ) (past : Past) (changes : Changes) → IsPastUpTo c past → c < ts → AreApart changes → IsPastUpTo ts (with_write past ts changes)
+ends_with_write c ts past [] e lt apart = record { is = e.is; mark = omega (arith, e.mark); writes = up_to_later c ts past.writes (omega arith) e.writes }
 ends_with_write c ts past (x ∷ changes) e lt apart = record {
+  is = record { rows = e.is.rows; writes = rise_push past.mark c past.writes _ e.is.writes e.writes e.mark lt (λ eq. cc) apart };
   mark = omega (arith, e.mark);
-  rise = rise_push past.mark c past.writes _ e.rise e.up_to e.mark lt (λ eq. cc) apart;
-  up_to = up_to_push ts past.writes _ (up_to_later c ts past.writes (omega arith) e.up_to) (omega arith);
+  writes = up_to_push ts past.writes _ (up_to_later c ts past.writes (omega arith) e.writes) (omega arith);
 }
 
-ends_later : (c d : ℕ) (past : Past) → c ≤ d → EndsAt c past → EndsAt d past
-ends_later c d past le e = record { mark = omega (arith, e.mark); rise = e.rise; up_to = up_to_later c d past.writes le e.up_to }
+ends_later : (c d : ℕ) (past : Past) → c ≤ d → IsPastUpTo c past → IsPastUpTo d past
+ends_later c d past le e = record { is = e.is; mark = omega (arith, e.mark); writes = up_to_later c d past.writes le e.writes }
 
 or_left : (a b : Bool) → (a || b) ≡ false → a ≡ false
 or_left true b h = cc
@@ -90,7 +83,7 @@ apart-changes_on fill rows (op ∷ ops) h =
       | Some change ↦ (find-changes_on fill rows op.key ops h.0, apart-changes_on fill rows ops h.1)
     ]
 
-pub ends_after : (work : Workload) (st : State) (e : Event) → HasDifferentKeys work → Allowed work st e → EndsAt st.c st.past → EndsAt (after work st e).c (after work st e).past
+pub ends_after : (work : Workload) (st : State) (e : Event) → HasDifferentKeys work → Allowed work st e → IsPastUpTo st.c st.past → IsPastUpTo (after work st e).c (after work st e).past
 ends_after work st (Begin s i ts m) keys h p = ends_with_write st.c ts st.past (changes_on work.fill (rows_at st.past (ts - 1)) (ops_of (command_at work s i))) p (begins_above work st s i ts m h) (apart-changes_on work.fill (rows_at st.past (ts - 1)) (ops_of (command_at work s i)) (keys s i))
 ends_after work st (End s i ts) keys h p = p
 ends_after work st (Look s i t m) keys h p = ends_later st.c t st.past (c_rises work st (Look s i t m) h) p
@@ -102,6 +95,6 @@ ends_after work st (Chore s i) keys h p = p
 ends_after work st (Large s i n) keys h p = p
 ends_after work st Stop keys h p = p
 
-pub ends_after_all : (work : Workload) (st : State) (es : List Event) → HasDifferentKeys work → IsRunFrom work st es → EndsAt st.c st.past → EndsAt (state_after work st es).c (state_after work st es).past
+pub ends_after_all : (work : Workload) (st : State) (es : List Event) → HasDifferentKeys work → IsRunFrom work st es → IsPastUpTo st.c st.past → IsPastUpTo (state_after work st es).c (state_after work st es).past
 ends_after_all work st [] keys run p = p
 ends_after_all work st (e ∷ es) keys run p = ends_after_all work (after work st e) es keys run.1 (ends_after work st e keys run.0 p)

@@ -6,7 +6,7 @@ use Rattle.std.proofs.lemmas.Bool.{cases_lt}
 use Rattle.std.proofs.Common.{inl, inr}
 use Rattle.std.proofs.lemmas.Bool.Decides.{nat_tests}
 use Rattle.kt_history.specs.Rows.{Rows, Changes, changed}
-use Rattle.kt_history.specs.History.{Past, PastWrite, IsPast, Rise, replay, rows_at, raise, with_write}
+use Rattle.kt_history.specs.History.{Past, PastWrite, IsPast, IsUpTo, Rise, replay, rows_at, raise, with_write}
 
 pub replay-append : (t : ℕ) (ws vs : List PastWrite) (rows : Rows) → replay t (ws ++ vs) rows ≡ replay t vs (replay t ws rows)
 replay-append t [] vs rows = refl
@@ -35,10 +35,6 @@ pub rows_at-with_write_from : (past : Past) (ts : ℕ) (changes : Changes) (t : 
 rows_at-with_write_from past ts [] t h = refl
 rows_at-with_write_from past ts (c ∷ changes) t h =
     replay-append t past.writes _ past.base ∙ ap (λ b. cond b (changed (c ∷ changes) (rows_at past t)) (rows_at past t)) (is_le ts t h)
-
--- no write above u
-abbrev pub IsUpTo : ℕ → List PastWrite → Type 0
-IsUpTo u writes = list_all (λ w. nat_le w.ts u) writes ≡ true
 
 first_of_all : (a b : Bool) → (a && b) ≡ true → a ≡ true
 first_of_all true b h = refl

@@ -10,7 +10,7 @@ use Rattle.kt_history.specs.declared.operation.RowOp.{RowOp}
 use Rattle.kt_history.specs.declared.event.Event.{Event}
 use Rattle.kt_history.specs.declared.event.Event.TheVariants.{Begin, End, Look, Rows, Ancient, Busy, Mark, Chore, Large, Stop}
 use Rattle.kt_history.specs.Rows.{Row}
-use Rattle.kt_history.specs.History.{Past, rows_at, with_write}
+use Rattle.kt_history.specs.History.{Past, IsPastUpTo, rows_at, with_write}
 use Rattle.kt_history.specs.Operations.{changes_on, share_key, DifferentKeys, need}
 
 -- what a run is of: the commands of each session, and the size of the pool; the key columns and the others, in order, and of each
@@ -213,3 +213,7 @@ start work past c = record { past = past; a = past.mark; c = c; flying = []; tur
 -- the lines are a run of the workload from this past and last timestamp
 abbrev pub IsRun : Workload → Past → ℕ → List Event → Type 0
 IsRun work past c events = IsRunFrom work (start work past c) events
+
+-- in a run of a plan whose writes are on different keys, the past stays one, and no write of it is above the last timestamp
+abbrev pub a_past_stays_one : Type 0
+a_past_stays_one = (work : Workload) (past : Past) (c : ℕ) (events : List Event) → HasDifferentKeys work → IsPastUpTo c past → IsRun work past c events → IsPastUpTo (state_after work (start work past c) events).c (state_after work (start work past c) events).past

@@ -5,6 +5,7 @@
 #![tactic(auto)]
 
 pub mod change;
+pub mod changes;
 pub mod command;
 pub mod effect;
 pub mod event;
@@ -12,11 +13,14 @@ pub mod laws;
 pub mod operation;
 pub mod reply;
 pub mod scan;
+pub mod target;
 
 pub use change::{Change, Outcome};
+pub use changes::{ChangeList, Delta, DeltaList, KeyChange};
 pub use command::{Command, Plan, Session};
 pub use effect::outcome;
 pub use event::{Event, EventList};
 pub use operation::{OpKind, OpList, RowOp, Write};
 pub use reply::{OutcomeList, Reply, RowList};
 pub use scan::{At, ColumnIds, Pred, PredList, Scan, Test};
+pub use target::{Kindly, Target};
