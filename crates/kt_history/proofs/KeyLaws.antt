@@ -1,12 +1,11 @@
 -- The row of one key: it depends on the changes of that key alone.
-use Rattle.std.proofs.Common.{◌≡◌, ℕ, List, [], ◌∷◌, Some, None, Option, refl, true, false, Bool, cond, sym, ap, ◌∙◌, subst}
+use Rattle.std.proofs.Common.{◌≡◌, ℕ, List, [], ◌∷◌, Some, None, Option, refl, true, false, Bool, cond, sym, ap, ◌∙◌}
 use Rattle.std.specs.Prelude.{not, nat_le}
 use Rattle.std.specs.Ordering.{is_eq, eq_by_cmp}
 use Rattle.std.specs.declared.cmp.Ordering.{Ordering}
 use Rattle.std.specs.declared.cmp.Ordering.TheVariants.{Less, Equal, Greater}
 use Rattle.std.proofs.lemmas.Cmp.{nat_list_cmp_total, alike_right, eq_by_cmp_equiv}
-use Rattle.std.specs.FinMap.Entries.{find, put, where_key, find-put, find-where_key, find_tied}
-use Rattle.kt_history.specs.declared.change.Change.{Change}
+use Rattle.std.specs.FinMap.Entries.{find, find-put, find-where_key, find_tied}
 use Rattle.kt_history.specs.Rows.{Row, Rows, Changes, AreApart, apply, set_row, changed, key_cmp}
 use Rattle.kt_history.specs.History.{PastWrite, Rise, replay, replay_row, row_after, each_key_for_itself}
 

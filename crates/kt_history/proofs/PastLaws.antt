@@ -1,16 +1,15 @@
 -- In a run the past stays one: its timestamps rise, and none is above the last timestamp.
-use Rattle.std.proofs.Common.{◌≡◌, ◌≢◌, ℕ, ◌+◌, ◌-◌, ◌<◌, ◌≤◌, List, [], ◌∷◌, ◌++◌, refl, true, false, Bool, ◌&&◌, arith, max, Option, Some, None, cond, ap, ◌∙◌}
+use Rattle.std.proofs.Common.{◌≡◌, ◌≢◌, ℕ, ◌-◌, ◌<◌, ◌≤◌, List, [], ◌∷◌, ◌++◌, refl, true, false, Bool, ◌&&◌, arith, max, Some, None, cond, ap, ◌∙◌}
 use Rattle.std.specs.Prelude.{nat_le, ◌||◌}
-use Rattle.std.specs.List.{list_all, list_any, cons_option}
+use Rattle.std.specs.List.{list_any, cons_option}
 use Rattle.std.specs.Ordering.{eq_by_cmp}
 use Rattle.std.specs.FinMap.Entries.{find}
 use Rattle.std.proofs.lemmas.Bool.Decides.{nat_tests}
 use Rattle.kt_history.specs.declared.event.Event.{Event}
 use Rattle.kt_history.specs.declared.event.Event.TheVariants.{Begin, End, Look, Rows, Ancient, Busy, Mark, Chore, Large, Stop}
-use Rattle.kt_history.specs.declared.change.Change.{Change}
 use Rattle.kt_history.specs.declared.operation.RowOp.{RowOp}
 use Rattle.kt_history.specs.Rows.{Row, Rows as TableRows, Changes, AreApart, key_cmp}
-use Rattle.kt_history.specs.History.{Past, PastWrite, IsPast, IsPastUpTo, IsUpTo, Rise, rows_at, with_write}
+use Rattle.kt_history.specs.History.{Past, PastWrite, IsPastUpTo, IsUpTo, Rise, rows_at, with_write}
 use Rattle.kt_history.specs.Operations.{changes_on, effect_on, keyed, DifferentKeys}
 use Rattle.kt_history.specs.Machine.{Workload, State, Allowed, after, state_after, IsRunFrom, HasDifferentKeys, command_at, ops_of}
 use Rattle.kt_history.proofs.Runs.{begins_above, c_rises}

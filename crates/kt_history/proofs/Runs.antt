@@ -1,18 +1,16 @@
 -- Runs of the machine: what every run keeps, and that an answer stays.
-use Rattle.std.proofs.Common.{◌≡◌, ℕ, suc, ◌+◌, ◌-◌, ◌<◌, ◌≤◌, List, [], ◌∷◌, ◌++◌, Some, None, Option, refl, true, false, Bool, ◌&&◌, ◌||◌, cond, sym, ap, ◌∙◌, subst, arith, max, min}
-use Rattle.std.specs.Prelude.{nat_le, nat_lt, not, ◌==◌, is_some, IsSome}
+use Rattle.std.proofs.Common.{◌≡◌, ℕ, ◌-◌, ◌<◌, ◌≤◌, List, [], ◌∷◌, ◌++◌, Some, None, Option, refl, true, false, Bool, ◌&&◌, ◌||◌, cond, ap, ◌∙◌, arith, max}
+use Rattle.std.specs.Prelude.{nat_le, not, ◌==◌, IsSome}
 use Rattle.std.specs.List.{list_all, list_any, filter, find}
 use Rattle.std.proofs.lemmas.Bool.Decides.{nat_tests}
 use Rattle.kt_history.specs.declared.command.Command.{Command}
 use Rattle.kt_history.specs.declared.command.Command.TheVariants as command
-use Rattle.kt_history.specs.declared.scan.At.{At}
 use Rattle.kt_history.specs.declared.operation.RowOp.{RowOp}
 use Rattle.kt_history.specs.declared.event.Event.{Event}
 use Rattle.kt_history.specs.declared.event.Event.TheVariants.{Begin, End, Look, Rows, Ancient, Busy, Mark, Chore, Large, Stop}
-use Rattle.kt_history.specs.declared.reply.Reply.{Reply}
-use Rattle.kt_history.specs.History.{Past, rows_at}
+use Rattle.kt_history.specs.History.{rows_at}
 use Rattle.kt_history.specs.Operations.{outcomes_on, changes_on}
-use Rattle.kt_history.specs.Machine.{Workload, State, Flying, Allowed, IfWrite, MayBegin, MayRead, ops_of, after, state_after, IsRunFrom, command_at, next_timestamp}
+use Rattle.kt_history.specs.Machine.{Workload, State, Flying, Allowed, IfWrite, MayBegin, ops_of, after, state_after, IsRunFrom, command_at, next_timestamp}
 use Rattle.kt_history.specs.declared.reply.Reply.TheVariants as reply
 use Rattle.kt_history.specs.Replies.{reply_of, reply_at, answers, shown_by, told}
 use Rattle.kt_history.proofs.RowLaws.{rows_at-with_write_below}

@@ -1,5 +1,5 @@
 -- Worked histories, computed.
-use Rattle.std.proofs.Common.{◌≡◌, ℕ, List, [], ◌∷◌, Some, None, Option, refl, true, false, lit≤, lit<, rules}
+use Rattle.std.proofs.Common.{◌≡◌, ℕ, List, [], ◌∷◌, Some, None, refl, rules}
 use Rattle.std.specs.Prelude.{pos}
 use Rattle.kt_base.specs.declared.cell.Kind.TheVariants as kind
 use Rattle.kt_base.specs.declared.cell.Cell.{Cell}
@@ -7,7 +7,7 @@ use Rattle.kt_base.specs.declared.cell.Cell.TheVariants as cell
 use Rattle.kt_base.specs.Keys.{number_key}
 use Rattle.std.specs.Int.{w64}
 use Rattle.kt_history.specs.declared.change.Outcome.TheVariants.{Done, Present, Absent}
-use Rattle.kt_history.specs.declared.operation.OpKind.TheVariants.{Insert, Upsert, Update, Delete}
+use Rattle.kt_history.specs.declared.operation.OpKind.TheVariants.{Insert, Update, Delete}
 use Rattle.kt_history.specs.declared.operation.OpKind.{OpKind}
 use Rattle.kt_history.specs.declared.operation.RowOp.{RowOp}
 use Rattle.kt_history.specs.declared.scan.At.TheVariants.{Looked, Given}
@@ -15,7 +15,7 @@ use Rattle.kt_history.specs.declared.command.Command.{Command}
 use Rattle.kt_history.specs.declared.command.Command.TheVariants as command
 use Rattle.kt_base.specs.declared.chore.Chore.TheVariants as chore
 use Rattle.kt_history.specs.declared.event.Event.{Event}
-use Rattle.kt_history.specs.declared.event.Event.TheVariants.{Begin, End, Look, Rows, Ancient, Busy, Mark, Chore, Large, Stop}
+use Rattle.kt_history.specs.declared.event.Event.TheVariants.{Begin, End, Look, Rows, Busy, Chore}
 use Rattle.kt_history.specs.declared.reply.Reply.TheVariants as reply
 use Rattle.kt_history.specs.History.{Past}
 use Rattle.kt_history.specs.Machine.{Workload, IsRun}

@@ -1,5 +1,5 @@
 -- The writes of a table since a time, and its rows at each time from then on.
-use Rattle.std.specs.Prelude.{◌≡◌, ◌≢◌, ◌<◌, ◌≤◌, Bool, true, false, List, [], ◌∷◌, ◌++◌, ℕ, Option, Some, None, nat_le, nat_lt, if◌then◌else◌, IsTrue}
+use Rattle.std.specs.Prelude.{◌≡◌, ◌≢◌, ◌<◌, ◌≤◌, true, List, [], ◌∷◌, ◌++◌, ℕ, Option, Some, None, nat_le, nat_lt, if◌then◌else◌, IsTrue}
 use Rattle.std.specs.List.{filter, list_all}
 use Rattle.std.specs.FinMap.Entries.{is_sorted, find}
 use Rattle.kt_history.specs.declared.change.Change.{Change}

@@ -1,5 +1,5 @@
 -- The tablet as a machine over the lines of its history.
-use Rattle.std.specs.Prelude.{◌≡◌, ◌≢◌, ℕ, zero, suc, ◌+◌, ◌-◌, ◌*◌, ◌^◌, ◌<◌, ◌≤◌, min, max, Bool, true, false, not, List, [], ◌∷◌, ◌++◌, Option, Some, None, nat_lt, ◌==◌, ◌&&◌, slice_get, slice_set}
+use Rattle.std.specs.Prelude.{◌≡◌, ℕ, zero, suc, ◌+◌, ◌-◌, ◌*◌, ◌^◌, ◌<◌, ◌≤◌, min, max, Bool, true, false, not, List, [], ◌∷◌, ◌++◌, Option, Some, None, nat_lt, ◌==◌, ◌&&◌, slice_get, slice_set}
 use Rattle.std.specs.List.{filter, list_any, list_all}
 use Rattle.kt_base.specs.declared.cell.Kind.{Kind}
 use Rattle.kt_history.specs.declared.command.Command.{Command}

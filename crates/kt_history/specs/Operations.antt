@@ -1,5 +1,5 @@
 -- What an operation does, by whether its key is present, and what it needs of the pool.
-use Rattle.std.specs.Prelude.{◌≡◌, ℕ, ◌+◌, ◌*◌, ◌/◌, Bool, true, false, is_some, List, [], ◌∷◌, ◌++◌, length, map, Option, Some, None}
+use Rattle.std.specs.Prelude.{◌≡◌, ℕ, ◌+◌, ◌*◌, ◌/◌, Bool, true, false, is_some, List, [], ◌∷◌, length, map, Option, Some, None}
 use Rattle.std.specs.List.{filter_map, sum_by, list_any}
 use Rattle.std.specs.Ordering.{eq_by_cmp}
 use Rattle.std.specs.FinMap.Entries.{find}

@@ -1,7 +1,6 @@
 -- The reply to each command, read off the line of the history that answered it.
 use Rattle.std.specs.Prelude.{◌≡◌, ℕ, ◌+◌, ◌-◌, Bool, true, false, not, ◌&&◌, ◌==◌, List, [], ◌∷◌, ◌++◌, map, Option, Some, None, unwrap_or, if◌then◌else◌}
-use Rattle.std.specs.List.{filter, filter_map, list_all, find}
-use Rattle.std.specs.Option.{option_map}
+use Rattle.std.specs.List.{filter, list_all, find}
 use Rattle.std.specs.declared.cmp.Ordering.{Ordering}
 use Rattle.std.specs.Ordering.{nat_cmp, int_cmp, bool_cmp, is_eq, is_lt, is_le, is_gt, is_ge, is_some_and}
 use Rattle.std.specs.Cmp.Lexicographic.{slice_cmp}

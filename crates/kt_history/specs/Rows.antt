@@ -1,12 +1,11 @@
 -- Changes of one row, and the rows of a table under their encoded keys.
-use Rattle.std.specs.Prelude.{◌≡◌, Bool, true, false, List, [], ◌∷◌, ℕ, Option, Some, None, not, is_some, IfSome, IsTrue}
+use Rattle.std.specs.Prelude.{◌≡◌, Bool, true, List, [], ◌∷◌, ℕ, Option, Some, None, not, is_some, IfSome, IsTrue}
 use Rattle.std.specs.Ordering.{nat_cmp, eq_by_cmp}
 use Rattle.std.specs.declared.cmp.Ordering.{Ordering}
 use Rattle.std.specs.Cmp.Lexicographic.{slice_cmp}
 use Rattle.std.specs.FinMap.Entries.{find, put, where_key, is_sorted}
 use Rattle.std.specs.List.{list_all}
 use Rattle.kt_base.specs.declared.cell.Cell.{Cell}
-use Rattle.kt_base.specs.declared.cell.Cell.TheVariants.{Null}
 use Rattle.kt_history.specs.declared.change.Change.{Change}
 use Rattle.kt_history.specs.declared.change.Change.TheVariants.{Ins, Upd, Del}
 

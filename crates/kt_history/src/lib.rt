@@ -18,7 +18,7 @@ pub mod target;
 pub use change::{Change, Outcome};
 pub use changes::{ChangeList, Delta, DeltaList, KeyChange};
 pub use command::{Command, Plan, Session};
-pub use effect::outcome;
+pub use effect::{apply, outcome, undo_of};
 pub use event::{Event, EventList};
 pub use operation::{OpKind, OpList, RowOp, Write};
 pub use reply::{OutcomeList, Reply, RowList};
