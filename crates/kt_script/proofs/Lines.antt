@@ -32,7 +32,7 @@ join : (P : ℕ → Type 0) (xs ys : List ℕ) → AllByRecursion P xs → AllBy
 join P [] ys all more_all = more_all
 join P (x ∷ xs) ys all more_all = (all.0, join P xs ys all.1 more_all)
 
-plain_quote : (body : List ℕ) → AllByRecursion IsPlain body → AllByRecursion (λ c. c ≢ 34) body
+pub plain_quote : (body : List ℕ) → AllByRecursion IsPlain body → AllByRecursion (λ c. c ≢ 34) body
 plain_quote [] p = tt
 plain_quote (c ∷ body) p = (p.0.quote, plain_quote body p.1)
 
@@ -75,7 +75,7 @@ pub record IsInsert (text : List ℕ) : Type 0 where
   pub short : length body ≤ 65536
   pub text_is : text ≡ codes "insert " ++ (signed_decimal id ++ 32 ∷ 34 ∷ (body ++ 34 ∷ []))
 
-insert_text : (id : ℤ) (body : List ℕ) → words (codes "insert" ∷ signed_decimal id ∷ (34 ∷ body ++ 34 ∷ []) ∷ []) ≡ codes "insert " ++ (signed_decimal id ++ 32 ∷ 34 ∷ (body ++ 34 ∷ []))
+pub insert_text : (id : ℤ) (body : List ℕ) → words (codes "insert" ∷ signed_decimal id ∷ (34 ∷ body ++ 34 ∷ []) ∷ []) ≡ codes "insert " ++ (signed_decimal id ++ 32 ∷ 34 ∷ (body ++ 34 ∷ []))
 insert_text id body = simp (append-nil, append_assoc)
 
 pub command_case : {text : List ℕ} {c : Command} → SpellsCommand text c → (text ≡ codes "scan now") ⊎ IsInsert text
@@ -163,7 +163,7 @@ SpellsLines-push _ _ text c no_lines spells_line = subst (λ l. SpellsLines l (c
 SpellsLines-push _ _ text c (more {text = first} {rest = rest} {c = d} {commands = commands} head_line spells) spells_line =
     subst (λ l. SpellsLines l (d ∷ (commands ++ c ∷ []))) (sym (append_assoc (line first) rest (line text))) (more head_line (SpellsLines-push rest commands text c spells spells_line))
 
-no_text : (a x : List ℕ) → [] ≡ line a ++ x → ⊥
+pub no_text : (a x : List ℕ) → [] ≡ line a ++ x → ⊥
 no_text [] x e = cc
 no_text (b ∷ a) x e = cc
 
@@ -187,7 +187,7 @@ has_head no_session = ([], refl)
 has_head (one_session {lines = lines} spells) = (line (codes "session") ++ lines, refl)
 
 -- after one front there is one rest
-same_tail : (front a b : List ℕ) → front ++ a ≡ front ++ b → a ≡ b
+pub same_tail : (front a b : List ℕ) → front ++ a ≡ front ++ b → a ≡ b
 same_tail [] a b e = e
 same_tail (x ∷ front) a b e = let tails : front ++ a ≡ front ++ b = cc in same_tail front a b tails
 

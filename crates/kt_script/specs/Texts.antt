@@ -72,32 +72,49 @@ literals (kind ∷ kinds) (c ∷ cells) = literal kind c ∷ literals kinds cell
 abbrev pub row_text : List Kind → List Cell → List ℕ
 row_text kinds cells = words (literals kinds cells)
 
-abbrev pub row_line : List Kind → List Cell → List ℕ
-row_line kinds cells = line (row_text kinds cells)
-
 abbrev pub outcome_word : Outcome → List ℕ
 outcome_word Done = codes "ok"
 outcome_word Present = codes "present"
 outcome_word Absent = codes "absent"
 
+-- a reply's word
+abbrev pub reply_word : Reply → List ℕ
+reply_word (reply.At ts outcomes) = codes "at"
+reply_word (reply.Rows t rows) = codes "rows"
+reply_word (reply.Ancient t a) = codes "ancient"
+reply_word (reply.Busy t f) = codes "busy"
+reply_word (reply.Ahm a) = codes "ahm"
+reply_word reply.Done = codes "done"
+reply_word (reply.Large n) = codes "large"
+reply_word reply.Stopped = codes "stopped"
+
+-- the numbers after it
+abbrev pub reply_numbers : Reply → List ℕ
+reply_numbers (reply.At ts outcomes) = ts ∷ []
+reply_numbers (reply.Rows t rows) = t ∷ length rows ∷ []
+reply_numbers (reply.Ancient t a) = t ∷ a ∷ []
+reply_numbers (reply.Busy t f) = t ∷ f ∷ []
+reply_numbers (reply.Ahm a) = a ∷ []
+reply_numbers reply.Done = []
+reply_numbers (reply.Large n) = n ∷ []
+reply_numbers reply.Stopped = []
+
+-- the outcomes after these
+abbrev pub outcome_words : Reply → List (List ℕ)
+outcome_words (reply.At ts outcomes) = map outcome_word outcomes
+outcome_words _ = []
+
 -- the words of a reply's first line
 abbrev pub reply_words : Reply → List (List ℕ)
-reply_words (reply.At ts outcomes) = codes "at" ∷ decimal ts ∷ map outcome_word outcomes
-reply_words (reply.Rows t rows) = codes "rows" ∷ decimal t ∷ decimal (length rows) ∷ []
-reply_words (reply.Ancient t a) = codes "ancient" ∷ decimal t ∷ decimal a ∷ []
-reply_words (reply.Busy t f) = codes "busy" ∷ decimal t ∷ decimal f ∷ []
-reply_words (reply.Ahm a) = codes "ahm" ∷ decimal a ∷ []
-reply_words reply.Done = codes "done" ∷ []
-reply_words (reply.Large n) = codes "large" ∷ decimal n ∷ []
-reply_words reply.Stopped = codes "stopped" ∷ []
+reply_words r = reply_word r ∷ (map decimal (reply_numbers r) ++ outcome_words r)
 
--- the lines after a reply's first: a scan's rows, under columns of these kinds
-abbrev pub row_lines : List Kind → Reply → List ℕ
-row_lines kinds (reply.Rows t rows) = flat_map (row_line kinds) rows
-row_lines kinds _ = []
+-- the texts of a scan's rows, under columns of these kinds
+abbrev pub row_texts : List Kind → Reply → List (List ℕ)
+row_texts kinds (reply.Rows t rows) = map (row_text kinds) rows
+row_texts kinds _ = []
 
 abbrev pub reply_text : ShownReply → List ℕ
-reply_text shown = line (words (reply_words shown.reply)) ++ row_lines shown.kinds shown.reply
+reply_text shown = line (words (reply_words shown.reply)) ++ flat_map line (row_texts shown.kinds shown.reply)
 
 -- a session's number and its replies
 abbrev pub session_text : ℕ → List ShownReply → List ℕ
@@ -108,17 +125,33 @@ abbrev pub sessions_text : ℕ → List (List ShownReply) → List ℕ
 sessions_text s [] = []
 sessions_text s (replies ∷ sessions) = session_text s replies ++ sessions_text (s + 1) sessions
 
+abbrev pub event_word : Event → List ℕ
+event_word (event.Begin s i ts m) = codes "begin"
+event_word (event.End s i ts) = codes "end"
+event_word (event.Look s i t m) = codes "look"
+event_word (event.Rows s i t) = codes "rows"
+event_word (event.Ancient s i t a) = codes "ancient"
+event_word (event.Busy s i t f) = codes "busy"
+event_word (event.Mark s i a) = codes "mark"
+event_word (event.Chore s i) = codes "chore"
+event_word (event.Large s i n) = codes "large"
+event_word event.Stop = codes "stop"
+
+abbrev pub event_numbers : Event → List ℕ
+event_numbers (event.Begin s i ts m) = s ∷ i ∷ ts ∷ m ∷ []
+event_numbers (event.End s i ts) = s ∷ i ∷ ts ∷ []
+event_numbers (event.Look s i t m) = s ∷ i ∷ t ∷ m ∷ []
+event_numbers (event.Rows s i t) = s ∷ i ∷ t ∷ []
+event_numbers (event.Ancient s i t a) = s ∷ i ∷ t ∷ a ∷ []
+event_numbers (event.Busy s i t f) = s ∷ i ∷ t ∷ f ∷ []
+event_numbers (event.Mark s i a) = s ∷ i ∷ a ∷ []
+event_numbers (event.Chore s i) = s ∷ i ∷ []
+event_numbers (event.Large s i n) = s ∷ i ∷ n ∷ []
+event_numbers event.Stop = []
+
+-- a line of the history
 abbrev pub event_words : Event → List (List ℕ)
-event_words (event.Begin s i ts m) = codes "begin" ∷ decimal s ∷ decimal i ∷ decimal ts ∷ decimal m ∷ []
-event_words (event.End s i ts) = codes "end" ∷ decimal s ∷ decimal i ∷ decimal ts ∷ []
-event_words (event.Look s i t m) = codes "look" ∷ decimal s ∷ decimal i ∷ decimal t ∷ decimal m ∷ []
-event_words (event.Rows s i t) = codes "rows" ∷ decimal s ∷ decimal i ∷ decimal t ∷ []
-event_words (event.Ancient s i t a) = codes "ancient" ∷ decimal s ∷ decimal i ∷ decimal t ∷ decimal a ∷ []
-event_words (event.Busy s i t f) = codes "busy" ∷ decimal s ∷ decimal i ∷ decimal t ∷ decimal f ∷ []
-event_words (event.Mark s i a) = codes "mark" ∷ decimal s ∷ decimal i ∷ decimal a ∷ []
-event_words (event.Chore s i) = codes "chore" ∷ decimal s ∷ decimal i ∷ []
-event_words (event.Large s i n) = codes "large" ∷ decimal s ∷ decimal i ∷ decimal n ∷ []
-event_words event.Stop = codes "stop" ∷ []
+event_words e = event_word e ∷ map decimal (event_numbers e)
 
 abbrev pub event_line : Event → List ℕ
 event_line e = line (words (event_words e))

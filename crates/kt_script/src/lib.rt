@@ -6,10 +6,13 @@
 #![tactic(auto)]
 
 pub mod form;
+pub mod laws;
 pub mod lists;
 pub mod literal;
 pub mod output;
 pub mod refusal;
+#[cfg(test)]
+mod tests;
 
 pub use form::read_plan;
 pub use lists::{KindList, ReplyList, ReplyLists, ShownReply};

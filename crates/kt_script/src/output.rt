@@ -3,7 +3,7 @@
 ghost use Rattle.std.specs.Prelude.{◌≡◌, ◌≤◌, ◌+◌, ◌<◌, ◌^◌, ◌++◌, ◌∷◌, [], OnOk, OnErr, length, map, codes};
 ghost use Rattle.std.specs.List.{flat_map};
 ghost use Rattle.std.specs.Fmt.{decimal};
-ghost use Rattle.kt_script.specs.Texts.{line, words, literals, row_text, row_line, outcome_word, reply_words, row_lines, reply_text, session_text, sessions_text, event_line, last_text, output_text};
+ghost use Rattle.kt_script.specs.Texts.{line, words, literals, row_text, outcome_word, reply_words, reply_text, session_text, sessions_text, event_line, last_text, output_text};
 
 use crate::lists::{ReplyLists, ShownReply};
 use crate::literal::{print_literal, print_number};
@@ -112,14 +112,14 @@ fn fitting<'a>(kinds: &[Kind], cells: &'a [Cell]) -> &'a [Cell]
 }
 
 fn print_row(kinds: &[Kind], row: &Row, out: &mut Octets) -> Result<(), NoMemory>
-    ensures ok { OnOk result (out.new ≡ out.old ++ row_line kinds.now row.now) }
+    ensures ok { OnOk result (out.new ≡ out.old ++ line (row_text kinds.now row.now)) }
 {
     print_cells(kinds, fitting(kinds, row.as_slice()), out)?;
     out.push(b'\n')
 }
 
 fn print_rows(kinds: &[Kind], rows: &[Row], out: &mut Octets) -> Result<(), NoMemory>
-    ensures ok { OnOk result (out.new ≡ out.old ++ flat_map (row_line kinds.now) rows.now) }
+    ensures ok { OnOk result (out.new ≡ out.old ++ flat_map line (map (row_text kinds.now) rows.now)) }
 {
     for row in rows {
         print_row(kinds, row, out)?;
