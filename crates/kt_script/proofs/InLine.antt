@@ -1,5 +1,5 @@
 -- Which bytes the words and the rows of an output have.
-use Rattle.std.proofs.Common.{◌≡◌, ℕ, suc, ◌+◌, ◌/◌, ◌%◌, ◌<◌, ◌≤◌, List, [], ◌∷◌, ◌++◌, refl, sym, ap, ◌∙◌, subst, arith, length, map, Bool, true, false, ◌&&◌}
+use Rattle.std.proofs.Common.{◌≡◌, ℕ, ◌+◌, ◌/◌, ◌%◌, ◌<◌, ◌≤◌, List, [], ◌∷◌, ◌++◌, refl, subst, arith, map, Bool, true, false, ◌&&◌}
 use Rattle.std.specs.Prelude.{◌≢◌, ◌||◌, ◌==◌, nat_lt, codes, if◌then◌else◌}
 use Rattle.std.specs.List.{flat_map, AllByRecursion, list_all}
 use Rattle.std.specs.Fmt.{decimal, signed_decimal}
@@ -16,7 +16,7 @@ use Rattle.kt_history.specs.declared.reply.Reply.{Reply}
 use Rattle.kt_history.specs.declared.reply.Reply.TheVariants as reply
 use Rattle.kt_script.specs.declared.output.LastLine.{LastLine}
 use Rattle.kt_script.specs.declared.output.LastLine.TheVariants as last
-use Rattle.kt_script.specs.Texts.{spaced, words, hex, hex_digit, string_byte, bytes_literal, literal, literals, row_text, outcome_word, reply_word, reply_numbers, outcome_words, reply_words, event_word, event_numbers, event_words, last_words}
+use Rattle.kt_script.specs.Texts.{spaced, words, hex, string_byte, bytes_literal, literal, literals, row_text, outcome_word, reply_word, reply_numbers, outcome_words, reply_words, event_word, event_numbers, event_words, last_words}
 use Rattle.kt_script.specs.Laws.{Fits64, CellFits, LastFits}
 use Rattle.kt_script.proofs.Numbers.{IsInk, decimal_ink, signed_ink, no_byte}
 use Rattle.kt_script.proofs.Cuts.{Without}

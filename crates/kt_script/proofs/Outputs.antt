@@ -1,5 +1,5 @@
 -- Reading the lines of an output gives back its replies, its history and its last line.
-use Rattle.std.proofs.Common.{◌≡◌, ℕ, zero, suc, ◌+◌, ◌<◌, ◌≤◌, ◌^◌, List, [], ◌∷◌, ◌++◌, refl, sym, ap, ◌∙◌, subst, arith, length, map, Bool, true, false, append_assoc}
+use Rattle.std.proofs.Common.{◌≡◌, ℕ, zero, suc, ◌+◌, ◌≤◌, ◌^◌, List, [], ◌∷◌, ◌++◌, refl, sym, ap, ◌∙◌, arith, length, map, append_assoc}
 use Rattle.std.specs.Prelude.{codes, if◌then◌else◌, All}
 use Rattle.std.specs.List.{flat_map, AllByRecursion}
 use Rattle.std.specs.Fmt.{decimal}
@@ -15,10 +15,10 @@ use Rattle.kt_history.specs.declared.reply.Reply.TheVariants as reply
 use Rattle.kt_script.specs.declared.output.LastLine.{LastLine}
 use Rattle.kt_script.specs.declared.output.LastLine.TheVariants as last
 use Rattle.kt_script.specs.declared.lists.ShownReply.{ShownReply}
-use Rattle.kt_script.specs.Texts.{line, words, row_text, row_texts, reply_numbers, reply_words, reply_text, session_text, sessions_text, event_numbers, event_words, event_line, last_words, last_text, output_text}
+use Rattle.kt_script.specs.Texts.{line, words, row_text, row_texts, reply_numbers, reply_words, reply_text, sessions_text, event_numbers, event_words, event_line, last_words, last_text, output_text}
 use Rattle.kt_script.specs.Laws.{Seen, seen, without_rows, Fits64, CellFits, RowsFit, ReplyFits, EventFits, LastFits, OutputFits, texts_give_back}
 use Rattle.kt_script.proofs.Cuts.{cut, cut_words, cut_lines, Without}
-use Rattle.kt_script.proofs.InLine.{Ink, join, reply_ink, event_ink, last_ink, session_ink, without, ink_in_line, row_in_line}
+use Rattle.kt_script.proofs.InLine.{join, reply_ink, event_ink, last_ink, session_ink, without, ink_in_line, row_in_line}
 use Rattle.kt_script.proofs.Readback.{is, reply_of, reply_back, count_of, count_back, event_of, event_back, last_of, last_back}
 
 -- the lines of an output

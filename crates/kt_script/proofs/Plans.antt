@@ -3,12 +3,11 @@ use Rattle.std.proofs.Common.{◌≡◌, ℕ, ℤ, List, [], ◌∷◌, ◌++◌
 use Rattle.std.specs.Prelude.{codes, FitsSigned, All}
 use Rattle.std.specs.Int.{w64}
 use Rattle.std.specs.Fmt.{signed_decimal}
-use Rattle.std.specs.List.{AllByRecursion}
 use Rattle.std.proofs.lemmas.List.Elements.{recursion_from_All}
 use Rattle.std.proofs.lemmas.Fmt.{signed_decimal_injective}
 use Rattle.kt_history.specs.declared.command.Command.{Command}
 use Rattle.kt_script.specs.Texts.{line, words}
-use Rattle.kt_script.specs.Form.{IsPlain, SpellsCommand, an_insert, a_scan, SpellsLines, no_lines, more, SpellsPlan, no_session, one_session, Spells, head, insert, scan_now}
+use Rattle.kt_script.specs.Form.{IsPlain, SpellsCommand, an_insert, a_scan, SpellsLines, no_lines, more, SpellsPlan, no_session, one_session, head, insert}
 use Rattle.kt_script.specs.Laws.{one_plan}
 use Rattle.kt_script.proofs.Numbers.{mag_fits, signed_ink, no_byte}
 use Rattle.kt_script.proofs.Lines.{one_front, plain_quote, insert_text, no_newline, flat, no_text, same_tail}
