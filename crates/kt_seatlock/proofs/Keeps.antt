@@ -14,11 +14,11 @@ use Rattle.kt_seatlock.specs.declared.view.View.{View}
 use Rattle.kt_seatlock.specs.declared.view.Joined.{Joined}
 use Rattle.kt_seatlock.specs.declared.view.Stage.{Stage}
 use Rattle.kt_seatlock.specs.declared.view.Stage.TheVariants.{Vacant, Filling, Outside, Inside, Gone}
-use Rattle.kt_seatlock.specs.Trails.{Each, Follows, Adds, KeepsParts}
-use Rattle.kt_seatlock.specs.Views.{IsLive, lives, weight, pick, told, first_view, gone_view, both_views, left_view, filling_view, ahead_view, right_view, inside_view, outside_view, filled_view}
-use Rattle.kt_seatlock.specs.Rule.{Phase, vacant, filling, free, held, IsFull, InStage, part_at, trail_at, AtTurn, Took, AreKept, Stands, Knows, total, Kept}
+use Rattle.kt_seatlock.specs.Trails.{Each, own, Follows, Adds, KeepsParts}
+use Rattle.kt_seatlock.specs.Views.{IsLive, lives, got_in, weight, pick, told, first_view, gone_view, both_views, left_view, filling_view, ahead_view, right_view, inside_view, outside_view, filled_view}
+use Rattle.kt_seatlock.specs.Rule.{Phase, vacant, filling, free, held, IsFull, InStage, part_at, trail_at, AtTurn, Took, AreKept, HasJustTheirs, Stands, Knows, total, Kept}
 use Rattle.kt_seatlock.specs.Steps.{began, counted, took, left, filled}
-use Rattle.kt_seatlock.proofs.Trails.{each_map, each_append, at_end, within, only, total_set, total_snoc, others_none, each_behind, follows_self, follows_visit, fresh_visit, follows_longer}
+use Rattle.kt_seatlock.proofs.Trails.{each_map, each_append, at_end, within, only, total_set, total_snoc, others_none, each_behind, follows_self, follows_visit, fresh_visit, follows_longer, own_follows}
 
 module _ {T E P : Type 0} (trail : T → List E) (part : T → ℕ → P) (owner : E → Option ℕ) where
   abbrev V : Type 0
@@ -242,7 +242,7 @@ module _ {T E P : Type 0} (trail : T → List E) (part : T → ℕ → P) (owner
           seat_of = r.seat_of;
           three = length-set s.words 1 new ∙ r.three;
           one = length-set s.homes 0 none ∙ r.one;
-          turn = (turn_now s r 1 new (omega arith), (w, set_here s.views id w (within s.views id me.0 at), refl, no_more _ _ (count_now s new ∙ f.3)));
+          turn = (turn_now s r 1 new (omega arith), (w, set_here s.views id w (within s.views id me.0 at), refl, refl, no_more _ _ (count_now s new ∙ f.3)));
           seats = seats_stay (K (held id x) r.given r.giver r.seat_of) s.views id w ((λ _. take_stands r.given r.giver id r.seat_of me.0 x st), refl)
               (λ j d other e. let k = subst (λ z. K z r.given r.giver r.seat_of j d) f.1 (r.seats j d e) in ((λ live. others_stand r.given r.giver id j r.seat_of d x (k.0 live)), taken_stage x id j d.stage k.1));
           whole = same_weight s r id me.0 w at (ap (λ (z : Stage T). lives z + length me.0.joined) (sym is));
@@ -276,11 +276,12 @@ module _ {T E P : Type 0} (trail : T → List E) (part : T → ℕ → P) (owner
   left_stage x y id j other (Inside z) e = let same : j ≡ id = cc in absurd (other same)
   left_stage x y id j other Gone e = tt
 
-  leaves_at : (slots id : ℕ) (v : V) (x y : T) → v.stage ≡ Inside x → length (trail x) + v.ahead ≡ length (trail y) → Adds owner v.number (trail x) (trail y) → KeepsParts part v.number x y
+  leaves_at : (slots id : ℕ) (v : V) (x y : T) → v.stage ≡ Inside x → length v.seen + v.ahead ≡ length (trail y) → Adds owner v.number v.seen (trail y) → KeepsParts part v.number x y
       → Allows Rule slots id (v, (0, Some y) ∷ []) 1 (λ n. (n + 1) % 2 ^ 64) (left trail part (step slots 1 1 0 none) (v, (0, Some y) ∷ []))
-  leaves_at slots id v x y is long adds same s r _ at small = let known = r.seats id v at in let ph : r.phase ≡ held id x = subst (InStage r.phase id) is known.1 in
+  leaves_at slots id v x y is long adds_seen same s r _ at small = let known = r.seats id v at in let ph : r.phase ≡ held id x = subst (InStage r.phase id) is known.1 in
       let turn = subst (λ z. AtTurn trail part owner z (get_or s.words 0 0) (get_or s.words 1 0) s.homes s.views) ph r.turn in let st = subst (λ z. S z r.given r.giver r.seat_of id v) ph (known.0 (live_inside v.stage x is)) in
-      let low : v.number < r.given = st.below in let here : turn.1.0 ≡ v = some-injective turn.1.0 v (sym turn.1.1 ∙ at) in let w : V = outside_view trail part v y in let n : ℕ = (get_or s.words 1 0 + 1) % 2 ^ 64 in (
+      let low : v.number < r.given = st.below in let here : turn.1.0 ≡ v = some-injective turn.1.0 v (sym turn.1.1 ∙ at) in let whole_seen : v.seen ≡ trail x = ap (λ (z : V). z.seen) (sym here) ∙ turn.1.3 in
+      let adds = subst (λ z. Adds owner v.number z (trail y)) whole_seen adds_seen in let w : V = outside_view trail part v y in let n : ℕ = (get_or s.words 1 0 + 1) % 2 ^ 64 in (
         w,
         gives,
         tt,
@@ -291,7 +292,7 @@ module _ {T E P : Type 0} (trail : T → List E) (part : T → ℕ → P) (owner
           seat_of = r.seat_of;
           three = length-set s.words 1 n ∙ r.three;
           one = length-set s.homes 0 (some (Some y)) ∙ r.one;
-          turn = (turn_now s r 0 n (up_even (get_or s.words 1 0) small turn.0), home s r y, count_now s n ∙ (turn.1.3 ∙ (ap (λ (z : V). length (trail x) + z.ahead) here ∙ long)));
+          turn = (turn_now s r 0 n (up_even (get_or s.words 1 0) small turn.0), home s r y, count_now s n ∙ (turn.1.4 ∙ ((λ i. length (sym whole_seen i) + (here i).ahead) ∙ long)));
           seats = seats_stay (K (free y) r.given r.giver r.seat_of) s.views id w ((λ _. leave_stands r.given r.giver id r.seat_of v x y adds same st), tt)
               (λ j d other e. let k = subst (λ z. K z r.given r.giver r.seat_of j d) ph (r.seats j d e) in
               let apart : (m : ℕ) → r.seat_of m ≡ j → m ≢ v.number = λ m own i. other (sym own ∙ (ap r.seat_of i ∙ st.mine)) in (
@@ -305,9 +306,17 @@ module _ {T E P : Type 0} (trail : T → List E) (part : T → ℕ → P) (owner
         λ y' e. let same_value : y ≡ y' = ap (content y) e in (λ k. (outside_view trail part v (same_value k), [])),
       )
 
-  pub leaves : (slots id : ℕ) (me : M) (v : V) (x y : T) (k : ℕ) → me ≡ (ahead_view v k, (0, Some y) ∷ []) → v.stage ≡ Inside x → length (trail x) + k ≡ length (trail y)
-      → Adds owner v.number (trail x) (trail y) → KeepsParts part v.number x y → Allows Rule slots id me 1 (λ n. (n + 1) % 2 ^ 64) (left trail part (step slots 1 1 0 none) me)
+  pub leaves : (slots id : ℕ) (me : M) (v : V) (x y : T) (k : ℕ) → me ≡ (ahead_view v k, (0, Some y) ∷ []) → v.stage ≡ Inside x → length v.seen + k ≡ length (trail y) → Adds owner v.number v.seen (trail y) → KeepsParts part v.number x y
+      → Allows Rule slots id me 1 (λ n. (n + 1) % 2 ^ 64) (left trail part (step slots 1 1 0 none) me)
   leaves slots id me v x y k has is long adds same = subst (λ (c : M). Allows Rule slots id c 1 (λ n. (n + 1) % 2 ^ 64) (left trail part (step slots 1 1 0 none) c)) (sym has) (leaves_at slots id (ahead_view v k) x y is long adds same)
+
+  -- a seat that got a value is inside
+  pub inside_of : (st : Stage T) → got_in st ≢ None → (x : T) × (st ≡ Inside x)
+  inside_of Vacant ne = absurd (ne refl)
+  inside_of Filling ne = absurd (ne refl)
+  inside_of Outside ne = absurd (ne refl)
+  inside_of (Inside x) ne = (x, refl)
+  inside_of Gone ne = absurd (ne refl)
 
   count_stands : (ph : Phase T) (g r id k : ℕ) (o : ℕ → ℕ) (v : V) → S ph g r o id v → S ph g r o id (ahead_view v k)
   count_stands ph g r id k o v st = record { mine = st.mine; below = st.below; saw = st.saw; has = st.has; took = st.took; gives = st.gives }
@@ -316,12 +325,13 @@ module _ {T E P : Type 0} (trail : T → List E) (part : T → ℕ → P) (owner
   one_more n m a e room = omega arith
 
   -- the seat inside counts an entry
-  pub counts : (slots id : ℕ) (me : M) (x : T) → me.0.stage ≡ Inside x → length (trail x) + me.0.ahead + 1 < 18446744073709551616 → Allows Rule slots id me 0 (λ n. (n + 1) % 2 ^ 64) (counted (step slots 0 1 0 none) me)
+  pub counts : (slots id : ℕ) (me : M) (x : T) → me.0.stage ≡ Inside x → length me.0.seen + me.0.ahead + 1 < 18446744073709551616 → Allows Rule slots id me 0 (λ n. (n + 1) % 2 ^ 64) (counted (step slots 0 1 0 none) me)
   counts slots id me x is room s r _ at small = let known = r.seats id me.0 at in let ph : r.phase ≡ held id x = subst (InStage r.phase id) is known.1 in
       let turn = subst (λ z. AtTurn trail part owner z (get_or s.words 0 0) (get_or s.words 1 0) s.homes s.views) ph r.turn in
       let st = subst (λ z. S z r.given r.giver r.seat_of id me.0) ph (known.0 (live_inside me.0.stage x is)) in
       let here : turn.1.0 ≡ me.0 = some-injective turn.1.0 me.0 (sym turn.1.1 ∙ at) in
-      let was : get_or s.words 0 0 ≡ length (trail x) + me.0.ahead = turn.1.3 ∙ ap (λ (z : V). length (trail x) + z.ahead) here in
+      let whole_seen : me.0.seen ≡ trail x = ap (λ (z : V). z.seen) (sym here) ∙ turn.1.3 in let was : get_or s.words 0 0 ≡ length (trail x) + me.0.ahead = turn.1.4 ∙ ap (λ (z : V). length (trail x) + z.ahead) here in
+      let fits : length (trail x) + me.0.ahead + 1 < 18446744073709551616 = subst (λ (z : List E). length z + me.0.ahead + 1 < 18446744073709551616) whole_seen room in
       let three : length s.words ≡ 3 = r.three in
       let w : V = ahead_view me.0 (me.0.ahead + 1) in let n : ℕ = (get_or s.words 0 0 + 1) % 2 ^ 64 in (
         w,
@@ -336,7 +346,7 @@ module _ {T E P : Type 0} (trail : T → List E) (part : T → ℕ → P) (owner
           one = r.one;
           turn = (
             ap (λ z. z % 2) (get_or-set_other s.words 0 1 n 0 (λ e. omega arith)) ∙ turn.0,
-            (w, set_here s.views id w (within s.views id me.0 at), is, get_or-set_same s.words 0 n 0 (omega arith) ∙ one_more (get_or s.words 0 0) (length (trail x)) me.0.ahead was room),
+            (w, set_here s.views id w (within s.views id me.0 at), is, whole_seen, get_or-set_same s.words 0 n 0 (omega arith) ∙ one_more (get_or s.words 0 0) (length (trail x)) me.0.ahead was fits),
           );
           seats = seats_stay (K (held id x) r.given r.giver r.seat_of) s.views id w ((λ _. count_stands (held id x) r.given r.giver id (me.0.ahead + 1) r.seat_of me.0 st), subst (InStage (held id x) id) (sym is) refl)
               (λ j d other e. subst (λ z. K z r.given r.giver r.seat_of j d) ph (r.seats j d e));
@@ -352,7 +362,7 @@ module _ {T E P : Type 0} (trail : T → List E) (part : T → ℕ → P) (owner
   turn_stays vacant count turn homes vs vs' full a same = absurd full
   turn_stays filling count turn homes vs vs' full a same = absurd full
   turn_stays (free x) count turn homes vs vs' full a same = a
-  turn_stays (held j x) count turn homes vs vs' full a same = (a.0, (a.1.0, same j a.1.0 x a.1.1 a.1.2, a.1.2, a.1.3))
+  turn_stays (held j x) count turn homes vs vs' full a same = (a.0, (a.1.0, same j a.1.0 x a.1.1 a.1.2, a.1.2, a.1.3, a.1.4))
 
   -- a seat that is outside is not one that is inside
   not_inside : (vs : List V) (id j : ℕ) (v d : V) (x : T) → get_elem? vs id ≡ some v → v.stage ≡ Outside → get_elem? vs j ≡ some d → d.stage ≡ Inside x → j ≢ id
@@ -519,3 +529,7 @@ module _ {T E P : Type 0} (trail : T → List E) (part : T → ℕ → P) (owner
 
   pub none_there : (xs : List (Option T)) (o : Option T) (y : T) → get_elem? xs 0 ≡ some None → get_elem? xs 0 ≡ some o → o ≢ Some y
   none_there xs o y f at is = let e : None ≡ Some y = some-injective None (Some y) (sym f ∙ (at ∙ ap some is)) in absurd (cc)
+
+  pub just_theirs : (x : T) (l : List (Joined E P)) → AreKept trail part owner x l → HasJustTheirs owner (trail x) l
+  just_theirs x l h = each_map (λ (q : Joined E P). (q.part ≡ Some (part x q.number)) × Follows owner q.number q.seen (trail x)) (λ (q : Joined E P). own owner q.number (trail x) ≡ own owner q.number q.seen)
+      (λ q k. own_follows owner q.number q.seen (trail x) k.1) l h

@@ -1,5 +1,5 @@
 -- Lists of entries and of views.
-use Rattle.std.proofs.Common.{◌≡◌, ℕ, zero, suc, ◌+◌, ◌<◌, ◌≤◌, leb, cond, Bool, true, false, ◌≢◌, ◌⊎◌, inl, inr, ⊎_elim, List, [], ◌∷◌, ◌++◌, length, set, sym, refl, ap, ◌∙◌, subst, arith, append_assoc, leb-true, ne_eqb, length-append}
+use Rattle.std.proofs.Common.{◌≡◌, ℕ, zero, suc, ◌+◌, ◌<◌, ◌≤◌, leb, cond, Bool, true, false, ◌≢◌, ◌⊎◌, inl, inr, ⊎_elim, List, [], ◌∷◌, ◌++◌, length, set, sym, refl, ap, ◌∙◌, subst, arith, append_assoc, leb-true, ne_eqb, eq-eqb, length-append}
 use Rattle.std.proofs.lemmas.List.{append-nil}
 use Rattle.std.proofs.lemmas.List.Elements.{filter-append}
 use Rattle.std.specs.Prelude.{Option, Some, None}
@@ -125,3 +125,8 @@ module _ {E : Type 0} (owner : E → Option ℕ) where
   -- a trail that goes on by entries of others has the same entries of one's own
   pub own_follows : (n : ℕ) (seen t : List E) → Follows owner n seen t → own owner n t ≡ own owner n seen
   own_follows n seen t f = ap (own owner n) f.1 ∙ (filter-append (λ e. bears (owner e) n) seen f.0 ∙ (ap (λ z. own owner n seen ++ z) (own_none n f.0 f.2) ∙ append-nil (own owner n seen)))
+
+  -- an entry of one's own comes last among one's own
+  pub own_visit : (n : ℕ) (before after : List E) (e : E) → after ≡ before ++ e ∷ [] → owner e ≡ Some n → own owner n after ≡ own owner n before ++ e ∷ []
+  own_visit n before after e is bear =
+      ap (own owner n) is ∙ (filter-append (λ e. bears (owner e) n) before (e ∷ []) ∙ ap (λ b. own owner n before ++ cond b (e ∷ []) []) (ap (λ o. bears o n) bear ∙ eq-eqb n n refl))

@@ -1,7 +1,8 @@
 -- What a clause says of a pass and of its lock.
-use Rattle.std.specs.Prelude.{◌≡◌, ℕ, ◌+◌, List, [], Option, length}
+use Rattle.std.specs.Prelude.{◌≡◌, ◌≢◌, ℕ, ◌+◌, List, [], Option, None, length}
+use Rattle.kt_seatlock.specs.Views.{got_in}
 use Rattle.kt_seatlock.specs.declared.view.Joined.{Joined}
-use Rattle.kt_seatlock.specs.declared.view.Stage.TheVariants.{Vacant, Outside, Inside}
+use Rattle.kt_seatlock.specs.declared.view.Stage.TheVariants.{Vacant, Outside}
 use Rattle.kt_seatlock.specs.declared.shared.Shared.{Ghosts}
 use Rattle.kt_seatlock.specs.declared.pass.Pass.{Pass}
 use Rattle.kt_seatlock.specs.declared.lock.SeatLock.{SeatLock}
@@ -42,9 +43,12 @@ module _ {T E P : Type 0} {g : Ghosts T E P} where
   abbrev pub IsOutside : Pass T E P g → Type 0
   IsOutside p = p.seat.me.0.stage ≡ Outside
 
-  -- the pass is inside, got this value and has seen its trail
-  abbrev pub IsInside : Pass T E P g → T → Type 0
-  IsInside p x = (p.seat.me.0.stage ≡ Inside x) × (p.seat.me.0.seen ≡ g.trail x)
+  -- the value that the pass got, where it is inside
+  abbrev pub got : Pass T E P g → Option T
+  got p = got_in p.seat.me.0.stage
+
+  abbrev pub IsInside : Pass T E P g → Type 0
+  IsInside p = got p ≢ None
 
   abbrev pub IsPassOf : SeatLock T E P → Pass T E P g → Type 0
   IsPassOf lock p = p.seat.table_id ≡ lock.table.shared.table_id

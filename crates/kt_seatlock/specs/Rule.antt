@@ -5,7 +5,7 @@ use mathlib.Core.Option.{some}
 use mathlib.Core.Option as maybe
 use lib.ListN.{get_elem?}
 use Rattle.atomic_table.specs.Table.{State}
-use Rattle.kt_seatlock.specs.Trails.{Each, Follows}
+use Rattle.kt_seatlock.specs.Trails.{Each, own, Follows}
 use Rattle.kt_seatlock.specs.Views.{IsLive, weight, told}
 use Rattle.kt_seatlock.specs.declared.view.View.{View}
 use Rattle.kt_seatlock.specs.declared.view.Joined.{Joined}
@@ -47,13 +47,17 @@ trail_at trail filling = []
 trail_at trail (free x) = trail x
 trail_at trail (held j x) = trail x
 
+-- of each number, the trail has just the entries that its pass had seen, each once and in order
+abbrev pub HasJustTheirs : {E P : Type 0} → (E → Option ℕ) → List E → List (Joined E P) → Type 0
+HasJustTheirs owner trail l = Each (λ q. own owner q.number trail ≡ own owner q.number q.seen) l
+
 module _ {T E P : Type 0} (trail : T → List E) (part : T → ℕ → P) (owner : E → Option ℕ) where
   -- what the words and the slot are in a phase
   abbrev pub AtTurn : Phase T → ℕ → ℕ → List (maybe.Option (Option T)) → List (View T E P) → Type 0
   AtTurn vacant count turn homes views = (turn % 2 ≡ 1) × (get_elem? homes 0 ≡ some (some None)) × (length views ≡ 1) × (count ≡ 0)
   AtTurn filling count turn homes views = (turn % 2 ≡ 1) × (length views ≡ 1) × (count ≡ 0)
   AtTurn (free x) count turn homes views = (turn % 2 ≡ 0) × (get_elem? homes 0 ≡ some (some (Some x))) × (count ≡ length (trail x))
-  AtTurn (held j x) count turn homes views = (turn % 2 ≡ 1) × ((v : View T E P) × (get_elem? views j ≡ some v) × (v.stage ≡ Inside x) × (count ≡ length (trail x) + v.ahead))
+  AtTurn (held j x) count turn homes views = (turn % 2 ≡ 1) × ((v : View T E P) × (get_elem? views j ≡ some v) × (v.stage ≡ Inside x) × (v.seen ≡ trail x) × (count ≡ length (trail x) + v.ahead))
 
   -- what the seat j, whose number is n, is right about where q was joined into it
   abbrev pub Took : Phase T → ℕ → (ℕ → ℕ) → ℕ → ℕ → Joined E P → Type 0

@@ -28,6 +28,14 @@ carried_in Outside = []
 carried_in (Inside x) = (0, None) ∷ []
 carried_in Gone = []
 
+-- the value that a seat got and has not put back
+abbrev pub got_in : {T : Type 0} → Stage T → Option T
+got_in Vacant = None
+got_in Filling = None
+got_in Outside = None
+got_in (Inside x) = Some x
+got_in Gone = None
+
 -- how many numbers a seat answers for
 abbrev pub weight : {T E P : Type 0} → View T E P → ℕ
 weight v = lives v.stage + length v.joined

@@ -16,6 +16,7 @@ mod plays;
 mod rule;
 mod shared;
 mod tells;
+mod uses;
 mod view;
 mod visits;
 
@@ -23,4 +24,5 @@ pub use lock::{NoMemory, SeatLock};
 pub use pass::Pass;
 pub use rule::Seats;
 pub use shared::Shared;
+pub use uses::{Journal, Line, note};
 pub use view::{Joined, Stage, View};

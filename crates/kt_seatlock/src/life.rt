@@ -1,7 +1,7 @@
 //! The life of a lock: made vacant, filled once, and closed by its last pass.
 ghost use Rattle.std.specs.Prelude.{◌≡◌, ◌≤◌, [], Some, IfOk};
-ghost use Rattle.kt_seatlock.specs.Trails.{Follows};
-ghost use Rattle.kt_seatlock.specs.Rule.{AreKept};
+ghost use Rattle.kt_seatlock.specs.Trails.{own, Follows};
+ghost use Rattle.kt_seatlock.specs.Rule.{AreKept, HasJustTheirs};
 ghost use Rattle.kt_seatlock.specs.Passes.{number, seen, part, joined, given, filled, passes_of, IsVacant, IsOutside, IsPassOf, IsSamePass, IsLastPass};
 
 use crate::lock::{NoMemory, SeatLock, TURN};
@@ -59,6 +59,8 @@ impl<T: Shared> SeatLock<T> {
         ensures trail { Follows T.owner (number pass) (seen pass) (T.trail result) }
         ensures part { part pass ≡ Some (T.part result (number pass)) }
         ensures joined { AreKept T.trail T.part T.owner result (joined pass) }
+        ensures visits { own T.owner (number pass) (T.trail result) ≡ own T.owner (number pass) (seen pass) }
+        ensures visits_of_joined { HasJustTheirs T.owner (T.trail result) (joined pass) }
     {
         let SeatLock { table, passes: _ } = self;
         let Pass {

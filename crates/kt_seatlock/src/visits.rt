@@ -1,9 +1,8 @@
 //! Visits, and waiting for those of others.
-ghost use Rattle.std.specs.Prelude.{◌≡◌, ◌+◌, ◌≤◌, ℕ, Some, length};
-ghost use Rattle.kt_seatlock.specs.Trails.{Follows, Adds, KeepsParts};
-ghost use Rattle.kt_seatlock.specs.Views.{ahead_view};
-ghost use Rattle.kt_seatlock.specs.Passes.{number, seen, part, IsOutside, IsInside, IsPassOf, IsSame, IsSamePass, IsAsFull};
-ghost use Rattle.kt_seatlock.specs.declared.view.Stage.TheVariants.{Inside};
+ghost use Rattle.std.specs.Prelude.{◌≡◌, ◌+◌, ◌≤◌, ◌≢◌, ℕ, Some, None, IfSome, length};
+ghost use Rattle.kt_seatlock.specs.Trails.{own, Follows, Adds, KeepsParts};
+ghost use Rattle.kt_seatlock.specs.Views.{got_in, ahead_view};
+ghost use Rattle.kt_seatlock.specs.Passes.{number, seen, part, got, IsOutside, IsInside, IsPassOf, IsSame, IsSamePass, IsAsFull};
 
 use crate::lock::{ENTRIES, SLEEPERS, SeatLock, TURN};
 use crate::pass::Pass;
@@ -21,8 +20,10 @@ impl<T: Shared> SeatLock<T> {
     pub fn enter<R: Wait>(&self, rt: &R, pass: &mut Pass<T>) -> T
         requires own { IsPassOf self.now pass.old }
         requires outside { IsOutside pass.old }
-        ensures pass { IsSamePass pass.old pass.new × IsAsFull pass.old pass.new × IsInside pass.new result }
+        ensures pass { IsSamePass pass.old pass.new × IsAsFull pass.old pass.new }
+        ensures got { (got pass.new ≡ Some result) × (seen pass.new ≡ T.trail result) }
         ensures trail { Follows T.owner (number pass.old) (seen pass.old) (T.trail result) }
+        ensures visits { own T.owner (number pass.old) (T.trail result) ≡ own T.owner (number pass.old) (seen pass.old) }
         ensures part { (part pass.old ≡ Some (T.part result (number pass.old))) × (part pass.new ≡ part pass.old) }
     {
         let shared = &self.table.shared;
@@ -57,7 +58,9 @@ impl<T: Shared> SeatLock<T> {
     /// Puts the value back.
     pub fn leave(&self, pass: &mut Pass<T>, value: T)
         requires own { IsPassOf self.now pass.old }
-        requires inside { (got : T) × IsInside pass.old got × Adds T.owner (number pass.old) (T.trail got) (T.trail value) × KeepsParts T.part (number pass.old) got value }
+        requires inside { IsInside pass.old }
+        requires trail { Adds T.owner (number pass.old) (seen pass.old) (T.trail value) }
+        requires parts { IfSome (got pass.old) (λ x. KeepsParts T.part (number pass.old) x value) }
         ensures pass { IsSamePass pass.old pass.new × IsAsFull pass.old pass.new × IsOutside pass.new }
         ensures told { (seen pass.new ≡ T.trail value) × (part pass.new ≡ Some (T.part value (number pass.new))) }
     {
@@ -77,7 +80,7 @@ impl<T: Shared> SeatLock<T> {
     // Counts the entry that a visit added, where it added one.
     fn count(&self, seat: &mut Seat<Option<T>, View<T, T::Entry, T::Part>>, before: u64, after: u64)
         requires own { seat.old.table_id ≡ self.now.table.shared.table_id }
-        requires inside { (got : T) × (seat.old.me.0.stage ≡ Inside got) × (before ≡ length (T.trail got)) }
+        requires inside { (got_in seat.old.me.0.stage ≢ None) × (before ≡ length seat.old.me.0.seen) }
         requires level { seat.old.me.0.ahead ≡ 0 }
         requires one { (before ≤ after) × (after ≤ before + 1) }
         ensures own { (seat.new.table_id ≡ seat.old.table_id) × (seat.new.id ≡ seat.old.id) }
