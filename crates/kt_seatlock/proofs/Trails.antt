@@ -8,6 +8,10 @@ use lib.ListN.{get_elem?}
 use Rattle.kt_seatlock.specs.Trails.{Each, longer, bears, own, Follows, Adds}
 use Rattle.kt_seatlock.specs.Rule.{total}
 
+abbrev tail_of : {A : Type 0} → List A → List A
+tail_of [] = []
+tail_of (x ∷ xs) = xs
+
 module _ {A : Type 0} where
   pub each_map : (P Q : A → Type 0) → ((x : A) → P x → Q x) → (l : List A) → Each P l → Each Q l
   each_map P Q f [] e = tt
@@ -21,9 +25,6 @@ module _ {A : Type 0} where
   each_behind P [] m a = a
   each_behind P (x ∷ xs) m a = each_behind P xs m a.1
 
-  abbrev tail_of : List A → List A
-  tail_of [] = []
-  tail_of (x ∷ xs) = xs
 
   -- of two ends of one list, the shorter is a part of the longer
   each_shorter : (P : A → Type 0) (xs ys r t : List A) → xs ++ r ≡ ys ++ t → length xs ≤ length ys → Each P r → Each P t
@@ -69,6 +70,10 @@ module _ {A : Type 0} where
     others_none (x ∷ xs) zero (suc j) v w e t ne at = let h : f x ≡ f v = ap f (some-injective x v e) in let p = part_of_total xs j w at in omega arith
     others_none (x ∷ xs) (suc i) zero v w e t ne at = let h : f x ≡ f w = ap f (some-injective x w at) in let p = part_of_total xs i v e in omega arith
     others_none (x ∷ xs) (suc i) (suc j) v w e t ne at = let p = part_of_total xs i v e in others_none xs i j v w e (omega arith) (λ s. ne (ap suc s)) at
+
+abbrev head_or : {A : Type 0} → A → List A → A
+head_or d [] = d
+head_or d (x ∷ xs) = x
 
 module _ {E : Type 0} (owner : E → Option ℕ) where
   pub follows_self : (n : ℕ) (t : List E) → Follows owner n t t
@@ -130,3 +135,24 @@ module _ {E : Type 0} (owner : E → Option ℕ) where
   pub own_visit : (n : ℕ) (before after : List E) (e : E) → after ≡ before ++ e ∷ [] → owner e ≡ Some n → own owner n after ≡ own owner n before ++ e ∷ []
   own_visit n before after e is bear =
       ap (own owner n) is ∙ (filter-append (λ e. bears (owner e) n) before (e ∷ []) ∙ ap (λ b. own owner n before ++ cond b (e ∷ []) []) (ap (λ o. bears o n) bear ∙ eq-eqb n n refl))
+
+  -- the last of two lists that are alike before it
+  last_same : (before : List E) (e d : E) → before ++ e ∷ [] ≡ before ++ d ∷ [] → e ≡ d
+  last_same [] e d h = ap (head_or e) h
+  last_same (x ∷ xs) e d h = last_same xs e d (ap tail_of h)
+
+  pub refuses_anew : (n : ℕ) (before after : List E) → ((more : List E) → after ≢ before ++ more) → ¬ Adds owner n before after
+  refuses_anew n before after none a = ⊎_elim
+      (λ (same : after ≡ before). none [] (same ∙ sym (append-nil before)))
+      (λ (h : (e : E) × (after ≡ before ++ e ∷ []) × ((owner e ≡ Some n) ⊎ (owner e ≡ None))). none (h.0 ∷ []) h.1)
+      a
+
+  pub refuses_foreign : (n m : ℕ) (before : List E) (e : E) → owner e ≡ Some m → m ≢ n → ¬ Adds owner n before (before ++ e ∷ [])
+  refuses_foreign n m before e bears_m ne a = ⊎_elim
+      (λ (same : before ++ e ∷ [] ≡ before). let long = length-append before (e ∷ []) in let is : length (before ++ e ∷ []) ≡ length before = ap length same in absurd (omega arith))
+      (λ (h : (d : E) × (before ++ e ∷ [] ≡ before ++ d ∷ []) × ((owner d ≡ Some n) ⊎ (owner d ≡ None))).
+          let is : e ≡ h.0 = last_same before e h.0 h.1 in foreign n m (owner h.0) ne h.2 (ap owner (sym is) ∙ bears_m))
+      a
+
+  pub refuses_two : (n : ℕ) (before : List E) (e d : E) → ¬ Adds owner n before (before ++ e ∷ d ∷ [])
+  refuses_two n before e d a = let more = adds_length n before (before ++ e ∷ d ∷ []) a in let long = length-append before (e ∷ d ∷ []) in absurd (omega arith)

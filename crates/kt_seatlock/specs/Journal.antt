@@ -1,10 +1,14 @@
 -- The journal of the example.
-use Rattle.std.specs.Prelude.{ℕ, List, slice_index, Option, Some}
+use Rattle.std.specs.Prelude.{ℕ, List, map, slice_index, Option, Some}
 use Rattle.kt_seatlock.specs.declared.uses.Line.{Line}
 use Rattle.kt_seatlock.specs.declared.uses.Journal.{Journal}
 
 abbrev pub line : ℕ → ℕ → Line
 line by text = record { by = by; text = text }
+
+-- a line for each text, in order
+abbrev pub all_lines : ℕ → List ℕ → List Line
+all_lines by texts = map (line by) texts
 
 -- each line bears its writer's number
 abbrev pub writer : Line → Option ℕ

@@ -68,3 +68,11 @@ module _ {T E P : Type 0} {g : Ghosts T E P} where
   -- every other pass was joined into it
   abbrev pub IsLastPass : Pass T E P g → Type 0
   IsLastPass p = length (joined p) + 1 ≡ given p
+
+  -- the pass may enter the lock
+  abbrev pub MayEnter : SeatLock T E P → Pass T E P g → Type 0
+  MayEnter lock p = IsPassOf lock p × IsOutside p
+
+  -- the same pass after some visits, outside again
+  abbrev pub IsBack : Pass T E P g → Pass T E P g → Type 0
+  IsBack p q = IsSamePass p q × IsAsFull p q × IsOutside q

@@ -8,6 +8,7 @@
 //! a few words should therefore keep its bulk in a `Box`. A caller that waits tries for a short while, sleeps, and is woken when a visit ends.
 #![tactic(auto)]
 
+mod laws;
 mod life;
 mod lock;
 mod parting;
@@ -16,13 +17,16 @@ mod plays;
 mod rule;
 mod shared;
 mod tells;
+#[cfg(test)]
+mod tests;
 mod uses;
 mod view;
 mod visits;
 
+pub use laws::{own_law, part_law, trail_law};
 pub use lock::{NoMemory, SeatLock};
 pub use pass::Pass;
 pub use rule::Seats;
 pub use shared::Shared;
-pub use uses::{Journal, Line, note};
+pub use uses::{Journal, Line, note, write_all};
 pub use view::{Joined, Stage, View};

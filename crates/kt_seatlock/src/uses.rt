@@ -1,8 +1,8 @@
 //! A journal in a lock, as an example of a shared value and of a visit.
-ghost use Rattle.std.specs.Prelude.{◌≡◌, ◌∷◌, ◌++◌, [], MatchResult};
+ghost use Rattle.std.specs.Prelude.{◌≡◌, ◌∷◌, ◌++◌, [], MatchResult, OnOk};
 ghost use Rattle.kt_seatlock.specs.Trails.{own, Adds, KeepsParts};
-ghost use Rattle.kt_seatlock.specs.Passes.{number, seen, IsOutside, IsPassOf, IsSamePass, IsAsFull};
-ghost use Rattle.kt_seatlock.specs.Journal.{line, writer, lines_of, count_of};
+ghost use Rattle.kt_seatlock.specs.Passes.{number, seen, MayEnter, IsBack};
+ghost use Rattle.kt_seatlock.specs.Journal.{line, all_lines, writer, lines_of, count_of};
 
 use crate::lock::{NoMemory, SeatLock};
 use crate::pass::Pass;
@@ -68,12 +68,29 @@ pub fn note<R: Wait>(
     pass: &mut Pass<Journal>,
     text: u64,
 ) -> Result<(), NoMemory>
-    requires { IsPassOf lock.now pass.old × IsOutside pass.old }
-    ensures pass { IsSamePass pass.old pass.new × IsAsFull pass.old pass.new × IsOutside pass.new }
+    requires { MayEnter lock.now pass.old }
+    ensures pass { IsBack pass.old pass.new }
     ensures lines { MatchResult result (λ _. own writer (number pass.old) (seen pass.new) ≡ own writer (number pass.old) (seen pass.old) ++ line (number pass.old) text ∷ []) (λ _. own writer (number pass.old) (seen pass.new) ≡ own writer (number pass.old) (seen pass.old)) }
 {
     let mut journal = lock.enter(rt, pass);
     let done = journal.write(pass.number(), text);
     lock.leave(pass, journal);
     done
+}
+
+/// A visit for each text, in order, as far as there is memory.
+pub fn write_all<R: Wait>(
+    rt: &R,
+    lock: &SeatLock<Journal>,
+    pass: &mut Pass<Journal>,
+    texts: &[u64],
+) -> Result<(), NoMemory>
+    requires { MayEnter lock.now pass.old }
+    ensures pass { IsBack pass.old pass.new }
+    ensures lines { OnOk result (own writer (number pass.old) (seen pass.new) ≡ own writer (number pass.old) (seen pass.old) ++ all_lines (number pass.old) texts.now) }
+{
+    for text in texts {
+        note(rt, lock, pass, *text)?;
+    }
+    Ok(())
 }
