@@ -25,7 +25,6 @@ module _ {A : Type 0} where
   each_behind P [] m a = a
   each_behind P (x ∷ xs) m a = each_behind P xs m a.1
 
-
   -- of two ends of one list, the shorter is a part of the longer
   each_shorter : (P : A → Type 0) (xs ys r t : List A) → xs ++ r ≡ ys ++ t → length xs ≤ length ys → Each P r → Each P t
   each_shorter P [] ys r t e le h = each_behind P ys t (subst (Each P) e h)
@@ -151,7 +150,7 @@ module _ {E : Type 0} (owner : E → Option ℕ) where
   refuses_foreign n m before e bears_m ne a = ⊎_elim
       (λ (same : before ++ e ∷ [] ≡ before). let long = length-append before (e ∷ []) in let is : length (before ++ e ∷ []) ≡ length before = ap length same in absurd (omega arith))
       (λ (h : (d : E) × (before ++ e ∷ [] ≡ before ++ d ∷ []) × ((owner d ≡ Some n) ⊎ (owner d ≡ None))).
-          let is : e ≡ h.0 = last_same before e h.0 h.1 in foreign n m (owner h.0) ne h.2 (ap owner (sym is) ∙ bears_m))
+      let is : e ≡ h.0 = last_same before e h.0 h.1 in foreign n m (owner h.0) ne h.2 (ap owner (sym is) ∙ bears_m))
       a
 
   pub refuses_two : (n : ℕ) (before : List E) (e d : E) → ¬ Adds owner n before (before ++ e ∷ d ∷ [])
