@@ -60,8 +60,8 @@ impl Journal {
     }
 }
 
-#[tactic(auto, using(crate::proofs::Trails::own_visit))]
 /// A visit that writes a line, or none where memory runs out.
+#[tactic(auto, using(crate::proofs::Trails::own_visit))]
 pub fn note<R: Wait>(
     rt: &R,
     lock: &SeatLock<Journal>,
