@@ -1,7 +1,7 @@
 //! A disk that fails the calls that are listed.
-ghost use Rattle.std.specs.Prelude.{◌≡◌, ◌+◌, ◌-◌, ◌^◌, ◌≤◌, min, ℕ, IsErr, OnOk, OnErr, MatchResult};
+ghost use Rattle.std.specs.Prelude.{◌≡◌, ◌+◌, ◌-◌, ◌^◌, ◌≤◌, min, is_err, MatchResult};
 ghost use Rattle.kt_base.specs.Causes.{Rose, HasCause};
-ghost use Rattle.kt_disk.specs.Fault.{inner_of, plan_of, untouched};
+ghost use Rattle.kt_disk.specs.Fault.{inner_of, plan_of, untouched, is_listed_call, is_listed_change, fails_look, fails_change, after_look, after_change};
 
 use crate::{Disk, DiskNo, Fail, FailList, FileList};
 use kt_base::Failed;
@@ -48,14 +48,46 @@ impl<D: Disk> FaultDisk<D> {
     }
 }
 
+// Whether the call of this number is among those that are to fail.
+fn lists_call(fails: &[Fail], number: u64) -> bool
+    ensures { result ≡ is_listed_call fails.now number }
+{
+    let mut rest = fails;
+    'fails: while let [first, others @ ..] = rest {
+        if let Fail::Any(listed) = first
+            && *listed == number
+        {
+            return true;
+        }
+        rest = others;
+    }
+    false
+}
+
+// Whether the call of this number of those that change a file is to fail.
+fn lists_change(fails: &[Fail], number: u64) -> bool
+    ensures { result ≡ is_listed_change fails.now number }
+{
+    let mut rest = fails;
+    'fails: while let [first, others @ ..] = rest {
+        if let Fail::Change(listed) = first
+            && *listed == number
+        {
+            return true;
+        }
+        rest = others;
+    }
+    false
+}
+
 impl Plan {
-    // Counts a call of any kind, and fails it where it is listed.
-    fn call(&mut self) -> Result<(), Failed>
-        ensures cause { HasCause self.old.faults self.new.faults result }
-        ensures ok { OnOk result (self.new.faults ≡ self.old.faults) }
+    // Counts a call that changes no file, and fails it where it is listed.
+    fn look(&mut self) -> Result<(), Failed>
+        ensures failed { is_err result ≡ fails_look self.old }
+        ensures counted { self.new ≡ after_look self.old }
     {
         self.calls = self.calls.saturating_add(1);
-        if self.fails.as_slice().contains(&Fail::Any(self.calls)) {
+        if lists_call(self.fails.as_slice(), self.calls) {
             self.faults = self.faults.saturating_add(1);
             return Err(Failed);
         }
@@ -64,12 +96,13 @@ impl Plan {
 
     // Counts a call that changes a file, and fails it where it is listed.
     fn change(&mut self) -> Result<(), Failed>
-        ensures cause { HasCause self.old.faults self.new.faults result }
-        ensures ok { OnOk result (self.new.faults ≡ self.old.faults) }
+        ensures failed { is_err result ≡ fails_change self.old }
+        ensures counted { self.new ≡ after_change self.old }
     {
+        self.calls = self.calls.saturating_add(1);
         self.changes = self.changes.saturating_add(1);
-        self.call()?;
-        if self.fails.as_slice().contains(&Fail::Change(self.changes)) {
+        let fails = self.fails.as_slice();
+        if lists_call(fails, self.calls) || lists_change(fails, self.changes) {
             self.faults = self.faults.saturating_add(1);
             return Err(Failed);
         }
@@ -91,17 +124,17 @@ impl<D: Disk> Disk for FaultDisk<D> {
     ghost reads_as_image = { λ f. D.reads_as_image f.inner };
 
     fn files(&mut self, alloc: Global) -> Result<FileList, DiskNo> {
-        self.plan.call()?;
+        self.plan.look()?;
         self.inner.files(alloc)
     }
 
     fn len(&mut self, file: u64) -> Result<u64, Failed> {
-        self.plan.call()?;
+        self.plan.look()?;
         self.inner.len(file)
     }
 
     fn read(&mut self, file: u64, at: u64, into: &mut [u8]) -> Result<(), Failed> {
-        self.plan.call()?;
+        self.plan.look()?;
         self.inner.read(file, at, into)
     }
 

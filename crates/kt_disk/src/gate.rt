@@ -1,4 +1,7 @@
 //! Points at which a test may hold a run, and a disk that calls them.
+ghost use Rattle.std.specs.Prelude.{◌≡◌};
+ghost use Rattle.kt_disk.specs.Held.{within};
+
 use crate::{Disk, DiskNo, FileList};
 use kt_base::Failed;
 use std::alloc::Global;
@@ -38,7 +41,9 @@ pub struct HeldDisk<'g, D: Disk, G: Gate> {
 }
 
 impl<'g, D: Disk, G: Gate> HeldDisk<'g, D, G> {
-    pub fn of(inner: D, gate: &'g G, mark: u32) -> Self {
+    pub fn of(inner: D, gate: &'g G, mark: u32) -> HeldDisk<'g, D, G>
+        ensures { within result ≡ inner }
+    {
         HeldDisk {
             inner,
             gate,
@@ -47,7 +52,9 @@ impl<'g, D: Disk, G: Gate> HeldDisk<'g, D, G> {
         }
     }
 
-    pub fn into_inner(self) -> D {
+    pub fn into_inner(self) -> D
+        ensures { result ≡ within self.entry }
+    {
         let HeldDisk {
             inner,
             gate: _,

@@ -18,3 +18,6 @@ pub use fault::FaultDisk;
 pub use gate::{Gate, HeldDisk, PassGate, Point};
 pub use lists::{Fail, FailList, FileBytes, FileBytesList, FileList};
 pub use memory::MemDisk;
+
+#[cfg(test)]
+mod tests;

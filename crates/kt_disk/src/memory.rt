@@ -53,6 +53,13 @@ impl MemDisk {
         }
     }
 
+    /// The moment on the disk's own clock: each call is one more.
+    pub fn moment(&self) -> u64
+        ensures { result ≡ mem_now self.now }
+    {
+        self.calls.len() as u64
+    }
+
     /// An image that a crash at that moment may leave, as a disk. Each write that is not yet stable then takes its
     /// turn of `pick`: 0 leaves it out, 1 whole, 2 its first half, 3 its range filled with ones. No pick is 0.
     pub fn crash(&self, alloc: Global, moment: u64, pick: &[u8]) -> Result<MemDisk, NoMemory>
