@@ -22,6 +22,12 @@ use Rattle.kt_app.specs.declared.session.Progress.{Progress}
 use Rattle.kt_app.specs.Session.{AreTaken, IsTaken, turn_lines, turn_rows, turn_reply, turn_shown, lines_from, replies_from, last_from}
 use Rattle.kt_app.specs.Turns.{TakesAll}
 use Rattle.kt_app.specs.Headline.{IsOutput, IsAnswered, empty, end_of, replies_in}
+use Rattle.std.specs.Prelude.{All}
+use Rattle.std.proofs.lemmas.List.Elements.{All-nil}
+use Rattle.kt_script.specs.Laws.{Fits64, EventFits, ReplyFits, OutputFits}
+use Rattle.kt_script.proofs.Outputs.{read_alike}
+use Rattle.kt_app.specs.Headline.{one_history}
+use Rattle.kt_app.proofs.Fits.{session_fits}
 use Rattle.kt_app.proofs.SessionLaws.{all_run, all_end, all_told, shown_alike}
 
 turn_readings : (x : Command) (c i m : ℕ) (rest : List Event) → IsTaken x → readings_of (turn_lines x c i m ++ rest) ≡ m ∷ readings_of rest
@@ -87,20 +93,25 @@ module _ (cells : ℕ) (roomy : 262144 ≤ cells) (commands : List Command) (tak
       let told_all = all_told cells roomy commands commands empty 0 0 rs [] (λ t le. refl) refl taken each in
       ap (λ r. r ∷ []) (now ∙ told_all ∙ same_replies cells 0 (commands ∷ []) [] commands [] 0 rs)
 
-  pub session_is_output : (p : Progress) (text : List ℕ) → p.last ≡ last_from 0 rs → p.events.items ≡ lines → p.replies.items ≡ replies_from (workload 0 []) commands [] 0 rs → text ≡ output_text (p.replies.items ∷ []) p.events.items (last.Numbers 0 p.last 0) → IsOutput work text rs
-  session_is_output p text last_is events_are p_replies text_is =
+  pub session_is_output : length commands < 2 ^ 27 → AllByRecursion Fits64 rs → (p : Progress) (text : List ℕ) → p.last ≡ last_from 0 rs → p.events.items ≡ lines → p.replies.items ≡ replies_from (workload 0 []) commands [] 0 rs → text ≡ output_text (p.replies.items ∷ []) p.events.items (last.Numbers 0 p.last 0) → IsOutput work text rs
+  session_is_output few small p text last_is events_are p_replies text_is =
       let ends = all_end cells roomy commands commands empty 0 0 rs refl taken each in
       record {
         events = lines;
         run = runs;
         clock = readings_are commands 0 1 rs taken each;
+        fits =
+            let replies = replies_from (workload 0 []) commands [] 0 rs ∷ [] in
+            let with_c = subst (λ (n : ℕ). OutputFits replies lines (last.Numbers 0 n 0)) (sym ends.0) (session_fits commands rs taken few each small) in
+            let with_a = subst (λ (n : ℕ). OutputFits replies lines (last.Numbers n (end_of work lines).c 0)) (sym ends.1) with_c in
+            subst (λ (x : List (List ShownReply)). OutputFits x lines (last.Numbers (end_of work lines).a (end_of work lines).c 0)) (sym replies_are) with_a;
         answered = subst (AllByRecursion (AllByRecursion (λ (r : ShownReply). IsAnswered r.reply))) (sym replies_are) (all_answer (workload 0 []) commands [] 0 rs taken, tt);
         printed = text_is ∙ ((λ i. output_text (p_replies i ∷ []) (events_are i) (last.Numbers 0 (last_is i) 0))
             ∙ sym (λ i. output_text (replies_are i) lines (last.Numbers (ends.1 i) (ends.0 i) 0)));
       }
 
 pub nothing_is_output : (cells : ℕ) (text : List ℕ) → text ≡ output_text [] [] (last.Numbers 0 0 0) → IsOutput (workload cells []) text []
-nothing_is_output cells text text_is = record { events = []; run = tt; clock = refl; answered = tt; printed = text_is }
+nothing_is_output cells text text_is = record { events = []; run = tt; clock = refl; fits = record { count = omega arith; replies_fit = All-nil (All ReplyFits); events_fit = All-nil EventFits; end_fits = (omega arith, omega arith, omega arith) }; answered = tt; printed = text_is }
 
 -- what is spelled is taken
 taken_line : {text : List ℕ} {c : Command} → SpellsCommand text c → IsTaken c
@@ -130,3 +141,8 @@ first_session (x ∷ plan) commands text spells e =
     let same : x ≡ commands = cc in
     let one = is_one spells.form in
     (subst AreTaken same one.0, omega (arith, ap length same, one.1, spells.short), λ i. same i ∷ one.2 i)
+
+pub history_is_one : one_history
+history_is_one work text r s a b =
+    let same = read_alike (replies_in work a.events) (replies_in work b.events) a.events b.events _ _ a.fits b.fits (sym a.printed ∙ b.printed) in
+    (same.1, sym a.clock ∙ ap readings_of same.1 ∙ b.clock)

@@ -15,6 +15,7 @@ use Rattle.kt_history.specs.Replies.{answer, kinds_of}
 use Rattle.kt_script.specs.declared.lists.ShownReply.{ShownReply}
 use Rattle.kt_script.specs.declared.output.LastLine.TheVariants as last
 use Rattle.kt_script.specs.Form.{workload, Spells}
+use Rattle.kt_script.specs.Laws.{OutputFits}
 use Rattle.kt_script.specs.Texts.{output_text}
 
 -- a fresh tablet
@@ -56,11 +57,13 @@ IsAnswered reply.Done = Unit {0}
 IsAnswered (reply.Large n) = Unit {0}
 IsAnswered reply.Stopped = ⊥
 
--- the output text of some run of the workload, in which every command was answered and the clock gave these readings
+-- the output text of some run of the workload, in which every command was answered, every number fits in 64 bits, and the
+-- clock gave these readings
 pub record IsOutput (work : Workload) (text readings : List ℕ) : Type 0 where
   pub events : List Event
   pub run : IsRun work empty 0 events
   pub clock : readings_of events ≡ readings
+  pub fits : OutputFits (replies_in work events) events (last.Numbers (end_of work events).a (end_of work events).c 0)
   pub answered : AllByRecursion (AllByRecursion (λ (r : ShownReply). IsAnswered r.reply)) (replies_in work events)
   pub printed : text ≡ output_text (replies_in work events) events (last.Numbers (end_of work events).a (end_of work events).c 0)
 
@@ -89,3 +92,7 @@ IsNoScript text = (plan : List (List Command)) → Spells text plan → ⊥
 -- the words are in the written form: the one word `run`
 abbrev pub AreRun : List (List ℕ) → Type 0
 AreRun words = words ≡ codes "run" ∷ []
+
+-- the text of a run has one history: it can be read off the bytes
+abbrev pub one_history : Type 0
+one_history = (work : Workload) (text r s : List ℕ) (a : IsOutput work text r) (b : IsOutput work text s) → (a.events ≡ b.events) × (r ≡ s)

@@ -3,6 +3,8 @@ use Rattle.std.specs.Prelude.{◌≡◌, ℕ, suc, ◌+◌, ◌^◌, ◌≤◌, 
 use Rattle.kt_base.specs.Causes.{Grows}
 use Rattle.kt_history.specs.declared.command.Command.{Command}
 use Rattle.kt_history.specs.Machine.{next_timestamp}
+use Rattle.std.specs.List.{AllByRecursion}
+use Rattle.kt_script.specs.Laws.{Fits64}
 use Rattle.kt_script.specs.Form.{workload}
 use Rattle.kt_app.specs.declared.session.Progress.{Progress}
 use Rattle.kt_app.specs.Session.{turn_lines, turn_rows, turn_shown, lines_from, replies_from, last_from}
@@ -17,6 +19,7 @@ pub record TakesTurn (command : Command) (i m : ℕ) (old new : Progress) : Type
 -- after k of the commands, with these readings of the clock: what is left goes on from here to all of it
 pub record Begun (commands : List Command) (k : ℕ) (readings : List ℕ) (p : Progress) : Type 0 where
   pub few : length readings ≡ k
+  pub small : AllByRecursion Fits64 readings
   pub last : p.last ≤ 2 ^ 62 + k
   pub ends : (more : List ℕ) → last_from p.last more ≡ last_from 0 (readings ++ more)
   pub events : (more : List ℕ) → p.events.items ++ lines_from (drop k commands) p.last (suc k) more ≡ lines_from commands 0 1 (readings ++ more)
@@ -27,6 +30,7 @@ pub record TakesAll {C : Type 0} (commands : List Command) (told : C → Option 
   pub readings : List ℕ
   pub given : Grows (told old) (told new) readings
   pub each : length readings ≡ length commands
+  pub small : AllByRecursion Fits64 readings
   pub last : p.last ≡ last_from 0 readings
   pub events : p.events.items ≡ lines_from commands 0 1 readings
   pub replies : p.replies.items ≡ replies_from (workload 0 []) commands [] 0 readings

@@ -4,6 +4,7 @@
 //! that run's. It stands on kt_script, kt_history and kt_base.
 #![tactic(auto)]
 
+pub mod laws;
 pub mod session;
 pub mod streams;
 pub mod table;

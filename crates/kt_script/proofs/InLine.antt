@@ -17,7 +17,7 @@ use Rattle.kt_history.specs.declared.reply.Reply.TheVariants as reply
 use Rattle.kt_script.specs.declared.output.LastLine.{LastLine}
 use Rattle.kt_script.specs.declared.output.LastLine.TheVariants as last
 use Rattle.kt_script.specs.Texts.{spaced, words, hex, string_byte, bytes_literal, literal, literals, row_text, outcome_word, reply_word, reply_numbers, outcome_words, reply_words, event_word, event_numbers, event_words, last_words}
-use Rattle.kt_script.specs.Laws.{Fits64, CellFits, LastFits}
+use Rattle.kt_script.specs.Laws.{Fits64, LastFits}
 use Rattle.kt_script.proofs.Numbers.{IsInk, decimal_ink, signed_ink, no_byte}
 use Rattle.kt_script.proofs.Cuts.{Without}
 
@@ -46,7 +46,7 @@ ink (x ∷ xs) h = (above x (left _ _ h), ink xs (right _ _ h))
 
 numbers_ink : (ns : List ℕ) → AllByRecursion Fits64 ns → AllByRecursion Ink (map decimal ns)
 numbers_ink [] p = tt
-numbers_ink (n ∷ ns) p = (decimal_ink n p.0, numbers_ink ns p.1)
+numbers_ink (n ∷ ns) p = (decimal_ink n, numbers_ink ns p.1)
 
 outcome_ink : (o : Outcome) → Ink (outcome_word o)
 outcome_ink Done = ink (codes "ok") refl
@@ -97,11 +97,11 @@ event_ink e p = (event_word_ink e, numbers_ink (event_numbers e) p)
 
 pub last_ink : (end : LastLine) → LastFits end → AllByRecursion Ink (last_words end)
 last_ink (last.Numbers a c rowsets) p =
-    (ink (codes "tablet") refl, (ink (codes "ahm") refl, (decimal_ink a p.0, (ink (codes "last") refl, (decimal_ink c p.1, (ink (codes "rowsets") refl, (decimal_ink rowsets p.2, tt)))))))
+    (ink (codes "tablet") refl, (ink (codes "ahm") refl, (decimal_ink a, (ink (codes "last") refl, (decimal_ink c, (ink (codes "rowsets") refl, (decimal_ink rowsets, tt)))))))
 last_ink last.Stopped p = (ink (codes "tablet") refl, (ink (codes "stopped") refl, tt))
 
 pub session_ink : (s : ℕ) → Fits64 s → AllByRecursion Ink (codes "session" ∷ decimal s ∷ [])
-session_ink s h = (ink (codes "session") refl, (decimal_ink s h, tt))
+session_ink s h = (ink (codes "session") refl, (decimal_ink s, tt))
 
 -- words of ink have no space, and no newline
 pub without : (byte : ℕ) → byte ≤ 32 → (ws : List (List ℕ)) → AllByRecursion Ink ws → AllByRecursion (Without byte) ws
@@ -157,18 +157,18 @@ bytes_in_line kind.Int64 bytes = string_in_line bytes
 bytes_in_line kind.String bytes = string_in_line bytes
 bytes_in_line kind.Binary bytes = binary_in_line bytes
 
-literal_in_line : (k : Kind) (c : Cell) → CellFits c → Without 10 (literal k c)
-literal_in_line k cell.Null h = no_byte 10 (omega arith) (codes "null") (ink (codes "null") refl)
-literal_in_line k (cell.Int n) h = no_byte 10 (omega arith) (signed_decimal n) (signed_ink n h)
-literal_in_line k (cell.Bool false) h = no_byte 10 (omega arith) (codes "false") (ink (codes "false") refl)
-literal_in_line k (cell.Bool true) h = no_byte 10 (omega arith) (codes "true") (ink (codes "true") refl)
-literal_in_line k (cell.Bytes bytes) h = bytes_in_line k bytes
+literal_in_line : (k : Kind) (c : Cell) → Without 10 (literal k c)
+literal_in_line k cell.Null = no_byte 10 (omega arith) (codes "null") (ink (codes "null") refl)
+literal_in_line k (cell.Int n) = no_byte 10 (omega arith) (signed_decimal n) (signed_ink n)
+literal_in_line k (cell.Bool false) = no_byte 10 (omega arith) (codes "false") (ink (codes "false") refl)
+literal_in_line k (cell.Bool true) = no_byte 10 (omega arith) (codes "true") (ink (codes "true") refl)
+literal_in_line k (cell.Bytes bytes) = bytes_in_line k bytes
 
-literals_in_line : (kinds : List Kind) (cells : List Cell) → AllByRecursion CellFits cells → AllByRecursion (Without 10) (literals kinds cells)
-literals_in_line kinds [] p = tt
-literals_in_line [] (c ∷ cells) p = tt
-literals_in_line (k ∷ kinds) (c ∷ cells) p = (literal_in_line k c p.0, literals_in_line kinds cells p.1)
+literals_in_line : (kinds : List Kind) (cells : List Cell) → AllByRecursion (Without 10) (literals kinds cells)
+literals_in_line kinds [] = tt
+literals_in_line [] (c ∷ cells) = tt
+literals_in_line (k ∷ kinds) (c ∷ cells) = (literal_in_line k c, literals_in_line kinds cells)
 
 -- a row is a line
-pub row_in_line : (kinds : List Kind) (cells : List Cell) → AllByRecursion CellFits cells → Without 10 (row_text kinds cells)
-row_in_line kinds cells p = words_in_line (literals kinds cells) (literals_in_line kinds cells p)
+pub row_in_line : (kinds : List Kind) (cells : List Cell) → Without 10 (row_text kinds cells)
+row_in_line kinds cells = words_in_line (literals kinds cells) (literals_in_line kinds cells)

@@ -101,7 +101,7 @@ not_cut text rest c scan found none spells = elim (command_case spells) [
 split_insert : (text rest digits literal : List ℕ) → text ≡ codes "insert " ++ rest → rest ≡ digits ++ 32 ∷ literal → All (λ b. b ≢ 32) digits → (ins : IsInsert text) → (digits ≡ signed_decimal ins.id) × (literal ≡ 34 ∷ (ins.body ++ 34 ∷ []))
 split_insert text rest digits literal found cut first ins =
     let same : digits ++ 32 ∷ literal ≡ signed_decimal ins.id ++ 32 ∷ 34 ∷ (ins.body ++ 34 ∷ []) = cc (found, cut, ins.text_is) in
-    one_front 32 digits (signed_decimal ins.id) literal (34 ∷ (ins.body ++ 34 ∷ [])) (recursion_from_All (λ b. b ≢ 32) digits first) (no_byte 32 (omega arith) (signed_decimal ins.id) (signed_ink ins.id ins.fits)) same
+    one_front 32 digits (signed_decimal ins.id) literal (34 ∷ (ins.body ++ 34 ∷ [])) (recursion_from_All (λ b. b ≢ 32) digits first) (no_byte 32 (omega arith) (signed_decimal ins.id) (signed_ink ins.id)) same
 
 pub not_number : (text rest digits literal : List ℕ) (c : Command) → (text ≡ codes "scan now" → ⊥) → text ≡ codes "insert " ++ rest → rest ≡ digits ++ 32 ∷ literal → All (λ b. b ≢ 32) digits
     → ((n : ℤ) → FitsSigned w64 n → digits ≢ signed_decimal n) → SpellsCommand text c → ⊥
@@ -149,7 +149,7 @@ plain_in_line (c ∷ body) p = (λ e. omega (arith, p.0.low), plain_in_line body
 -- a line that spells a command has no newline
 pub no_newline : {text : List ℕ} {c : Command} → SpellsCommand text c → AllByRecursion IsInLine text
 no_newline (an_insert id body fits plain short) = subst (AllByRecursion IsInLine) (sym (insert_text id body)) (join IsInLine (codes "insert ") (signed_decimal id ++ 32 ∷ 34 ∷ (body ++ 34 ∷ [])) (from_test (codes "insert ") refl) (
-    join IsInLine (signed_decimal id) (32 ∷ 34 ∷ (body ++ 34 ∷ [])) (no_byte 10 (omega arith) (signed_decimal id) (signed_ink id fits))
+    join IsInLine (signed_decimal id) (32 ∷ 34 ∷ (body ++ 34 ∷ [])) (no_byte 10 (omega arith) (signed_decimal id) (signed_ink id))
     ((λ e. omega arith), ((λ e. omega arith), join IsInLine body (34 ∷ []) (plain_in_line body (recursion_from_All IsPlain body plain)) ((λ e. omega arith), tt)))
     ))
 no_newline a_scan = from_test (codes "scan now") refl

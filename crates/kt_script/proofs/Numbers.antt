@@ -1,16 +1,16 @@
 -- The texts of numbers.
-use Rattle.std.proofs.Common.{◌≡◌, ℕ, suc, ◌+◌, ◌%◌, ◌<◌, ◌≤◌, ◌^◌, ℤ, List, [], ◌∷◌, ◌++◌, refl, sym, ap, ◌∙◌, subst, arith, length, take, Bool, true, false, ◌&&◌}
+use Rattle.std.proofs.Common.{◌≡◌, ℕ, zero, suc, cond, nat_lt, ◌+◌, ◌/◌, ◌%◌, ◌<◌, ◌≤◌, ◌^◌, ℤ, List, [], ◌∷◌, ◌++◌, refl, sym, ap, ◌∙◌, subst, arith, length, take, Bool, true, false, ◌&&◌}
 use Rattle.std.proofs.lemmas.Bool.{eqb-true}
-use Rattle.std.specs.Prelude.{◌≢◌, pos, negsuc, FitsSigned, Result, Ok, nat_eq}
+use Rattle.std.specs.Prelude.{◌≢◌, pos, negsuc, FitsSigned, Result, Ok, nat_eq, ◌==◌}
 use Rattle.std.specs.Int.{w64}
 use Rattle.std.specs.List.{AllByRecursion}
 use Rattle.std.specs.Cmp.Lexicographic.{pointwise, nat_list_eq_equiv}
-use Rattle.std.specs.Fmt.{decimal, signed_decimal}
+use Rattle.std.specs.Fmt.{digit_glyph, digits, digits_onto, decimal, signed_decimal}
 use Rattle.std.specs.Str.{IsAscii, IsUtf8}
 use Rattle.std.specs.Str.Parse.{ParsesSigned}
 use Rattle.std.proofs.Math.Seq.{take-append_seam}
 use Rattle.std.proofs.lemmas.Str.{IsUtf8-from_ascii}
-use Rattle.std.proofs.lemmas.Fmt.{IsAscii-signed, parse-signed_decimal, decimal_by_steps}
+use Rattle.std.proofs.lemmas.Fmt.{IsAscii-signed, parse-signed_decimal}
 use lib.Signed.{mag}
 
 pub mag_fits : (z : ℤ) → FitsSigned w64 z → mag z < 2 ^ 63
@@ -47,20 +47,27 @@ same_text (x ∷ xs) (y ∷ ys) h = let heads : x ≡ y = eqb-true x y (left (na
 pub not_front : (text word front : List ℕ) → front ≡ take (length word) text → (front ≡ word → ⊥) → (rest : List ℕ) → text ≡ word ++ rest → ⊥
 not_front text word front is differ rest e = differ (is ∙ ap (take (length word)) e ∙ take-append_seam word rest)
 
-push : (P : ℕ → Type 0) (xs : List ℕ) (y : ℕ) → AllByRecursion P xs → P y → AllByRecursion P (xs ++ y ∷ [])
-push P [] y all p = (p, tt)
-push P (x ∷ xs) y all p = (all.0, push P xs y all.1 p)
-
 -- above the space
 abbrev pub IsInk : ℕ → Type 0
 IsInk c = 32 < c
 
-pub decimal_ink : (n : ℕ) → n < 2 ^ 64 → AllByRecursion IsInk (decimal n)
-decimal_ink n h = decimal_by_steps (λ m ds. AllByRecursion IsInk ds) (λ m lt. (omega arith, tt)) (λ m ds le all. push IsInk ds (48 + m % 10) all (omega arith)) n h
+glyph_ink : (d : ℕ) → IsInk (digit_glyph false d)
+glyph_ink d = elim (nat_lt d 10) as (λ b. 32 < cond b (48 + d) (87 + d)) [ true ↦ omega arith | false ↦ omega arith ]
 
-pub signed_ink : (z : ℤ) → FitsSigned w64 z → AllByRecursion IsInk (signed_decimal z)
-signed_ink (pos n) h = decimal_ink n (omega (arith, mag_fits (pos n) h))
-signed_ink (negsuc n) h = (omega arith, decimal_ink (suc n) (omega (arith, mag_fits (negsuc n) h)))
+digits_ink : (k n : ℕ) (acc : List ℕ) → AllByRecursion IsInk acc → AllByRecursion IsInk (digits_onto k 10 false n acc)
+digits_ink zero n acc h = h
+digits_ink (suc k) n acc h = elim (n / 10 == 0) as (λ b. AllByRecursion IsInk (cond b (digit_glyph false (n % 10) ∷ acc) (digits_onto k 10 false (n / 10) (digit_glyph false (n % 10) ∷ acc)))) [
+  | true ↦ (glyph_ink (n % 10), h)
+  | false ↦ digits_ink k (n / 10) (digit_glyph false (n % 10) ∷ acc) (glyph_ink (n % 10), h)
+]
+
+pub decimal_ink : (n : ℕ) → AllByRecursion IsInk (decimal n)
+unfolding digits
+decimal_ink n = digits_ink 64 n [] tt
+
+pub signed_ink : (z : ℤ) → AllByRecursion IsInk (signed_decimal z)
+signed_ink (pos n) = decimal_ink n
+signed_ink (negsuc n) = (omega arith, decimal_ink (suc n))
 
 pub no_byte : (byte : ℕ) → byte ≤ 32 → (xs : List ℕ) → AllByRecursion IsInk xs → AllByRecursion (λ c. c ≢ byte) xs
 no_byte byte h [] all = tt

@@ -16,7 +16,7 @@ use Rattle.kt_script.specs.declared.output.LastLine.{LastLine}
 use Rattle.kt_script.specs.declared.output.LastLine.TheVariants as last
 use Rattle.kt_script.specs.declared.lists.ShownReply.{ShownReply}
 use Rattle.kt_script.specs.Texts.{line, words, row_text, row_texts, reply_numbers, reply_words, reply_text, sessions_text, event_numbers, event_words, event_line, last_words, last_text, output_text}
-use Rattle.kt_script.specs.Laws.{Seen, seen, without_rows, Fits64, CellFits, RowsFit, ReplyFits, EventFits, LastFits, OutputFits, texts_give_back}
+use Rattle.kt_script.specs.Laws.{Seen, seen, without_rows, Fits64, ReplyFits, EventFits, LastFits, OutputFits, texts_give_back}
 use Rattle.kt_script.proofs.Cuts.{cut, cut_words, cut_lines, Without}
 use Rattle.kt_script.proofs.InLine.{join, reply_ink, event_ink, last_ink, session_ink, without, ink_in_line, row_in_line}
 use Rattle.kt_script.proofs.Readback.{is, reply_of, reply_back, count_of, count_back, event_of, event_back, last_of, last_back}
@@ -70,22 +70,22 @@ record Good (r : ShownReply) : Type 0 where
   numbers : AllByRecursion Fits64 (reply_numbers r.reply)
   rows : AllByRecursion (Without 10) (row_texts r.kinds r.reply)
 
-rows_good : (kinds : List Kind) (rows : List (List Cell)) → AllByRecursion (All CellFits) rows → AllByRecursion (Without 10) (map (row_text kinds) rows)
-rows_good kinds [] p = tt
-rows_good kinds (cells ∷ rows) p = (row_in_line kinds cells (recursion_from_All CellFits cells p.0), rows_good kinds rows p.1)
+rows_good : (kinds : List Kind) (rows : List (List Cell)) → AllByRecursion (Without 10) (map (row_text kinds) rows)
+rows_good kinds [] = tt
+rows_good kinds (cells ∷ rows) = (row_in_line kinds cells, rows_good kinds rows)
 
-texts_good : (kinds : List Kind) (r : Reply) → RowsFit r → AllByRecursion (Without 10) (row_texts kinds r)
-texts_good kinds (reply.At ts os) p = tt
-texts_good kinds (reply.Rows t rows) p = rows_good kinds rows (recursion_from_All (All CellFits) rows p)
-texts_good kinds (reply.Ancient t a) p = tt
-texts_good kinds (reply.Busy t f) p = tt
-texts_good kinds (reply.Ahm a) p = tt
-texts_good kinds reply.Done p = tt
-texts_good kinds (reply.Large n) p = tt
-texts_good kinds reply.Stopped p = tt
+texts_good : (kinds : List Kind) (r : Reply) → AllByRecursion (Without 10) (row_texts kinds r)
+texts_good kinds (reply.At ts os) = tt
+texts_good kinds (reply.Rows t rows) = rows_good kinds rows
+texts_good kinds (reply.Ancient t a) = tt
+texts_good kinds (reply.Busy t f) = tt
+texts_good kinds (reply.Ahm a) = tt
+texts_good kinds reply.Done = tt
+texts_good kinds (reply.Large n) = tt
+texts_good kinds reply.Stopped = tt
 
 good : (r : ShownReply) → ReplyFits r → Good r
-good r p = record { numbers = recursion_from_All Fits64 (reply_numbers r.reply) p.numbers; rows = texts_good r.kinds r.reply p.rows }
+good r p = record { numbers = recursion_from_All Fits64 (reply_numbers r.reply) p; rows = texts_good r.kinds r.reply }
 
 all_good : (rs : List ShownReply) → AllByRecursion ReplyFits rs → AllByRecursion Good rs
 all_good [] p = tt

@@ -16,7 +16,7 @@ same_insert : (m n : ℤ) (a b : List ℕ) → FitsSigned w64 m → FitsSigned w
     → words (codes "insert" ∷ signed_decimal m ∷ (34 ∷ a ++ 34 ∷ []) ∷ []) ≡ words (codes "insert" ∷ signed_decimal n ∷ (34 ∷ b ++ 34 ∷ []) ∷ []) → insert m a ≡ insert n b
 same_insert m n a b f g p q e =
     let both : signed_decimal m ++ 32 ∷ 34 ∷ (a ++ 34 ∷ []) ≡ signed_decimal n ++ 32 ∷ 34 ∷ (b ++ 34 ∷ []) = same_tail (codes "insert ") _ _ (sym (insert_text m a) ∙ (e ∙ insert_text n b)) in
-    let cut = one_front 32 (signed_decimal m) (signed_decimal n) (34 ∷ (a ++ 34 ∷ [])) (34 ∷ (b ++ 34 ∷ [])) (no_byte 32 (omega arith) (signed_decimal m) (signed_ink m f)) (no_byte 32 (omega arith) (signed_decimal n) (signed_ink n g)) both in
+    let cut = one_front 32 (signed_decimal m) (signed_decimal n) (34 ∷ (a ++ 34 ∷ [])) (34 ∷ (b ++ 34 ∷ [])) (no_byte 32 (omega arith) (signed_decimal m) (signed_ink m)) (no_byte 32 (omega arith) (signed_decimal n) (signed_ink n)) both in
     let number : m ≡ n = signed_decimal_injective m n (mag_fits m f) (mag_fits n g) cut.0 in
     let quoted : a ++ 34 ∷ [] ≡ b ++ 34 ∷ [] = same_tail (34 ∷ []) _ _ cut.1 in
     let text : a ≡ b = (one_front 34 a b [] [] (plain_quote a (recursion_from_All IsPlain a p)) (plain_quote b (recursion_from_All IsPlain b q)) quoted).0 in

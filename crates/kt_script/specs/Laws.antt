@@ -1,8 +1,5 @@
 -- What the texts give back.
-use Rattle.std.specs.Prelude.{◌≡◌, ℕ, ◌^◌, ◌<◌, List, [], length, map, All, FitsSigned}
-use Rattle.std.specs.Int.{w64}
-use Rattle.kt_base.specs.declared.cell.Cell.{Cell}
-use Rattle.kt_base.specs.declared.cell.Cell.TheVariants as cell
+use Rattle.std.specs.Prelude.{◌≡◌, ℕ, ◌^◌, ◌<◌, List, [], length, map, All}
 use Rattle.kt_history.specs.declared.command.Command.{Command}
 use Rattle.kt_history.specs.declared.event.Event.{Event}
 use Rattle.kt_history.specs.declared.reply.Reply.{Reply}
@@ -29,17 +26,8 @@ seen shown = record { reply = without_rows shown.reply; rows = row_texts shown.k
 abbrev pub Fits64 : ℕ → Type 0
 Fits64 n = n < 2 ^ 64
 
-abbrev pub CellFits : Cell → Type 0
-CellFits (cell.Int n) = FitsSigned w64 n
-CellFits _ = Unit {0}
-
-abbrev pub RowsFit : Reply → Type 0
-RowsFit (reply.Rows t rows) = All (All CellFits) rows
-RowsFit _ = Unit {0}
-
-pub record ReplyFits (shown : ShownReply) : Type 0 where
-  pub numbers : All Fits64 (reply_numbers shown.reply)
-  pub rows : RowsFit shown.reply
+abbrev pub ReplyFits : ShownReply → Type 0
+ReplyFits shown = All Fits64 (reply_numbers shown.reply)
 
 abbrev pub EventFits : Event → Type 0
 EventFits e = All Fits64 (event_numbers e)

@@ -1,0 +1,5 @@
+use Rattle.kt_app.proofs.OutputLaws.{history_is_one}
+use Rattle.kt_app.proofs.laws.history_law.Goals as goal
+
+pub returns : goal.returns
+returns c = history_is_one
