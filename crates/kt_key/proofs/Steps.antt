@@ -1,5 +1,5 @@
 -- A key's spelling, one cell after another.
-use Rattle.std.proofs.Common.{◌≡◌, ℕ, ◌+◌, ◌<◌, Bool, true, false, ◌&&◌, cond, List, [], ◌∷◌, ◌++◌, length, drop, zero, suc, ◌==◌, get_or, refl, sym, ap, arith, add-one}
+use Rattle.std.proofs.Common.{◌≡◌, ℕ, ◌+◌, ◌<◌, Bool, true, false, ◌&&◌, cond, List, [], ◌∷◌, ◌++◌, length, drop, zero, suc, ◌==◌, get_or, refl, sym, ap, ◌∙◌, arith, add-one}
 use Rattle.std.specs.List.{count_by}
 use Rattle.std.proofs.lemmas.List.Sums.{sum_by-cons}
 use Rattle.kt_base.specs.declared.cell.Kind.{Kind}
@@ -65,3 +65,19 @@ spelling-last (x ∷ kinds) [] at k c long there last = absurd (omega (arith, lo
 spelling-last (x ∷ []) (y ∷ cells) zero k c long there last = ap (λ z. last_spelling x z) (sym there)
 spelling-last (x ∷ next ∷ kinds) (y ∷ cells) zero k c long there last = absurd (omega (arith, last))
 spelling-last (x ∷ kinds) (y ∷ cells) (suc at) k c long there last = spelling-last kinds cells at k c (omega (arith, long)) there (omega (arith, last))
+
+-- each cell of a key is of its kind
+pub is_key-at : (kinds : List Kind) (cells : List Cell) (at : ℕ) (c : Cell) → is_key kinds cells ≡ true → c ≡ get_or cells at c → at < length kinds → has_kind (get_or kinds at kind.Bool) c ≡ true
+is_key-at [] cells at c key there within = absurd (omega (arith, within))
+is_key-at (k ∷ kinds) [] at c key there within = absurd cc
+is_key-at (k ∷ kinds) (x ∷ cells) zero c key there within = ap (has_kind k) there ∙ (is_key_more k kinds x cells key).0
+is_key-at (k ∷ kinds) (x ∷ cells) (suc at) c key there within = is_key-at kinds cells at c (is_key_more k kinds x cells key).1 there (omega (arith, within))
+
+pub is_key-cons : (k : Kind) (kinds : List Kind) (c : Cell) (cells : List Cell) → is_bool k ≡ false → has_kind k c ≡ true → is_key kinds cells ≡ true → is_key (k ∷ kinds) (c ∷ cells) ≡ true
+is_key-cons kind.Bool kinds c cells strong here more = absurd cc
+is_key-cons kind.Int8 kinds c cells strong here more = ap (λ b. b && is_key kinds cells) here ∙ more
+is_key-cons kind.Int16 kinds c cells strong here more = ap (λ b. b && is_key kinds cells) here ∙ more
+is_key-cons kind.Int32 kinds c cells strong here more = ap (λ b. b && is_key kinds cells) here ∙ more
+is_key-cons kind.Int64 kinds c cells strong here more = ap (λ b. b && is_key kinds cells) here ∙ more
+is_key-cons kind.String kinds c cells strong here more = ap (λ b. b && is_key kinds cells) here ∙ more
+is_key-cons kind.Binary kinds c cells strong here more = ap (λ b. b && is_key kinds cells) here ∙ more

@@ -11,7 +11,7 @@ use Rattle.kt_base.specs.declared.cell.Cell.TheVariants as cell
 use Rattle.kt_base.specs.Keys.{number_key, width_of}
 use Rattle.kt_key.specs.Fit.{is_bool, has_kind, is_key}
 use Rattle.kt_key.specs.Spelling.{spelling, inner_spelling, last_spelling}
-use Rattle.kt_key.proofs.Steps.{length-escaped}
+use Rattle.kt_key.proofs.Steps.{length-escaped, is_key-cons}
 use Rattle.kt_schema.specs.declared.column.Column.{Column}
 use Rattle.kt_schema.specs.First.{passes_at}
 use Rattle.kt_schema.specs.Columns.{is_late, is_weak, columns_no, key_columns, key_kinds}
@@ -75,15 +75,6 @@ key_cell true kinds bool false like allowed strong = absurd (false≢true (sym a
 key_cell false true bool true like allowed strong = absurd (false≢true (sym strong))
 key_cell false true bool false like allowed strong = (refl, strong)
 key_cell false false bool nullable like allowed strong = absurd (false≢true (sym like))
-
-is_key-cons : (k : Kind) (kinds : List Kind) (c : Cell) (cells : List Cell) → is_bool k ≡ false → has_kind k c ≡ true → is_key kinds cells ≡ true → is_key (k ∷ kinds) (c ∷ cells) ≡ true
-is_key-cons kind.Bool kinds c cells strong here more = absurd (false≢true (sym strong))
-is_key-cons kind.Int8 kinds c cells strong here more = ap (λ b. b && is_key kinds cells) here ∙ more
-is_key-cons kind.Int16 kinds c cells strong here more = ap (λ b. b && is_key kinds cells) here ∙ more
-is_key-cons kind.Int32 kinds c cells strong here more = ap (λ b. b && is_key kinds cells) here ∙ more
-is_key-cons kind.Int64 kinds c cells strong here more = ap (λ b. b && is_key kinds cells) here ∙ more
-is_key-cons kind.String kinds c cells strong here more = ap (λ b. b && is_key kinds cells) here ∙ more
-is_key-cons kind.Binary kinds c cells strong here more = ap (λ b. b && is_key kinds cells) here ∙ more
 
 -- the front cells of a row are a key
 pub keyed : (columns : List Column) (row : List Cell) → ((k : ℕ) → is_late columns k ≡ false) → ((k : ℕ) → passes_at is_weak columns k ≡ false)
