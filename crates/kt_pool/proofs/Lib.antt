@@ -6,3 +6,4 @@ pub mod Standing
 pub mod Changes
 pub mod Fresh
 pub mod Methods
+pub mod Callers

@@ -12,3 +12,5 @@ mod cells;
 pub mod error;
 pub mod place;
 pub mod pool;
+#[cfg(test)]
+mod tests;
