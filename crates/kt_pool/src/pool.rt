@@ -1,0 +1,197 @@
+ghost use Rattle.std.specs.Prelude.{◌≡◌, ◌≢◌, ℕ, ◌+◌, ◌-◌, ◌*◌, ◌/◌, ◌<◌, ◌≤◌, ◌↔◌, length, IsOk, IfOk, OnOk, OnErr, MatchResult, slice_index, set, Some, None};
+ghost use Rattle.std.specs.Prelude.{replicate, ◌++◌, if◌then◌else◌, min, slice_range};
+ghost use Rattle.std.specs.Result.{is_ok};
+ghost use Rattle.std.specs.Ordering.{nat_cmp};
+ghost use Rattle.std.specs.Cmp.Lexicographic.{slice_cmp};
+ghost use Rattle.std.specs.Vec.{vec_capacity, vec_len};
+ghost use Rattle.kt_pool.specs.Contents.{Contents, cells_for, used, free, at_cell, Stands, bytes_at, with_place, with_reserved, overwritten};
+
+use crate::cells::{
+    Cell, NOTHING, append, byte, cells_taken, chunk, compare, fill, len_of, release, write,
+};
+use crate::error::{Full, NoMemory};
+use crate::place::Place;
+use std::alloc::Global;
+use std::cmp::Ordering;
+use std::marker::Model;
+
+/// The most cells of a pool: the length of a place that takes them all still fits its word.
+const MOST_CELLS: u32 = 76_695_844;
+
+/// A pool of cells.
+#[derive(Drop)]
+pub struct Pool {
+    cells: Vec<Cell>,
+    first: u32,
+    free: u32,
+    reserved: u32,
+}
+
+impl Model for Pool {
+    ghost use Rattle.kt_pool.specs.Contents.{Contents};
+
+    ghost Value = { Contents };
+
+    ghost use Rattle.kt_pool.specs.Sound.{IsSound, places_in};
+
+    ghost view = { λ p. record { places = places_in p.cells.items; reserved = p.reserved } };
+
+    ghost invariant = { λ p. IsSound p.cells.items p.first p.free p.reserved };
+}
+
+impl Pool {
+    /// A pool of so many free cells. There is no memory for more than 76,695,844 of them.
+    pub fn new(alloc: Global, cells: u32) -> Result<Pool, NoMemory>
+        ensures places { IfOk result (λ pool. pool.places ≡ replicate cells None) }
+        ensures reserved { IfOk result (λ pool. pool.reserved ≡ 0) }
+    {
+        if cells > MOST_CELLS {
+            return Err(NoMemory);
+        }
+        let mut list = Vec::with_capacity(alloc, cells as usize)?;
+        for i in 0..cells {
+            list.push(Cell {
+                bytes: [0; 56],
+                next: i + 1,
+                len: NOTHING,
+            })?;
+        }
+        Ok(Pool {
+            cells: list,
+            first: 0,
+            free: cells,
+            reserved: 0,
+        })
+    }
+
+    /// How many cells there are.
+    pub fn size(&self) -> u32
+        ensures { result ≡ length self.now.places }
+    {
+        self.cells.len() as u32
+    }
+
+    /// How many cells no place has.
+    pub fn free(&self) -> u32
+        ensures free { result ≡ free self.now }
+        ensures all { result + used self.now ≡ length self.now.places }
+    {
+        self.free
+    }
+
+    /// How many of the free cells are promised.
+    pub fn reserved(&self) -> u32
+        ensures reserved { result ≡ self.now.reserved }
+        ensures free { result ≤ free self.now }
+    {
+        self.reserved
+    }
+
+    /// Promises n more cells.
+    pub fn reserve(&mut self, n: u32) -> Result<(), Full>
+        ensures ok { OnOk result (self.new ≡ with_reserved self.old (self.old.reserved + n)) }
+        ensures err { OnErr result (self.new ≡ self.old) }
+        ensures full { IsOk result ↔ (n ≤ free self.old - self.old.reserved) }
+        ensures says { MatchResult result (λ _. Unit {0}) (λ e. (e.need ≡ n) × (e.free ≡ free self.old - self.old.reserved)) }
+    {
+        let left = self.free - self.reserved;
+        if n > left {
+            return Err(Full {
+                need: n,
+                free: left,
+            });
+        }
+        self.reserved += n;
+        Ok(())
+    }
+
+    /// Takes back the promise of n cells.
+    pub fn release(&mut self, n: u32)
+        requires { n ≤ self.old.reserved }
+        ensures { self.new ≡ with_reserved self.old (self.old.reserved - n) }
+    {
+        self.reserved -= n;
+    }
+
+    /// Places these bytes in reserved cells, where no place stood.
+    pub fn place(&mut self, bytes: &[u8]) -> Place
+        requires { cells_for (length bytes.now) ≤ self.old.reserved }
+        ensures vacant { at_cell self.old result.cell ≡ None }
+        ensures inside { result.cell < length self.old.places }
+        ensures placed { self.new ≡ with_place self.old result.cell (Some bytes.now) (self.old.reserved - cells_for (length bytes.now)) }
+    {
+        let first = self.first;
+        let after = fill(&mut self.cells, first, bytes);
+        let taken = cells_taken(bytes.len()) as u32;
+        self.first = after;
+        self.free -= taken;
+        self.reserved -= taken;
+        Place { cell: first }
+    }
+
+    /// How many bytes are placed there.
+    pub fn len(&self, place: Place) -> usize
+        requires { Stands self.now place.cell }
+        ensures { result ≡ length (bytes_at self.now place.cell) }
+    {
+        len_of(&self.cells, place.cell)
+    }
+
+    /// One of the bytes placed there.
+    pub fn read(&self, place: Place, at: usize) -> u8
+        requires { at < length (bytes_at self.now place.cell) }
+        ensures { result ≡ slice_index (bytes_at self.now place.cell) at }
+    {
+        byte(&self.cells, place.cell, at)
+    }
+
+    /// The bytes placed there, from `at` to the end of that cell.
+    pub fn chunk(&self, place: Place, at: usize) -> &[u8]
+        requires { at < length (bytes_at self.now place.cell) }
+        ensures { result.now ≡ slice_range (bytes_at self.now place.cell) at (min (length (bytes_at self.now place.cell)) (56 * (at / 56) + 56)) }
+    {
+        let len = len_of(&self.cells, place.cell);
+        chunk(&self.cells, place.cell, len, at)
+    }
+
+    /// The order of the bytes placed there and a key.
+    pub fn compare(&self, place: Place, key: &[u8]) -> Ordering
+        requires { Stands self.now place.cell }
+        ensures { result ≡ slice_cmp nat_cmp (bytes_at self.now place.cell) key.now }
+    {
+        let len = len_of(&self.cells, place.cell);
+        compare(&self.cells, place.cell, len, key)
+    }
+
+    /// Appends the bytes placed there. It fails only where `out` has no room and none is to be had.
+    pub fn append_to(&self, place: Place, out: &mut Vec<u8>) -> Result<(), NoMemory>
+        requires { Stands self.now place.cell }
+        ensures items { out.new.items ≡ (if is_ok result then out.old.items ++ bytes_at self.now place.cell else out.old.items) }
+        ensures room { OnErr result (vec_capacity out.old < vec_len out.old + length (bytes_at self.now place.cell)) }
+    {
+        let len = len_of(&self.cells, place.cell);
+        append(&self.cells, place.cell, len, out)?;
+        Ok(())
+    }
+
+    /// Writes these bytes over those placed there, from `at` on.
+    pub fn set(&mut self, place: Place, at: usize, bytes: &[u8])
+        requires stands { Stands self.old place.cell }
+        requires within { at + length bytes.now ≤ length (bytes_at self.old place.cell) }
+        ensures { self.new ≡ with_place self.old place.cell (Some (overwritten at bytes.now (bytes_at self.old place.cell))) self.old.reserved }
+    {
+        if !bytes.is_empty() {
+            write(&mut self.cells, place.cell, at, bytes);
+        }
+    }
+
+    /// Makes the cells of a place free.
+    pub fn give_back(&mut self, place: Place)
+        requires { Stands self.old place.cell }
+        ensures { self.new ≡ with_place self.old place.cell None self.old.reserved }
+    {
+        let taken = release(&mut self.cells, place.cell, self.first);
+        self.first = place.cell;
+        self.free += taken;
+    }
+}

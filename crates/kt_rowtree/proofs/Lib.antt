@@ -1,0 +1,3 @@
+pub mod Upto
+pub mod Found
+pub mod Deep

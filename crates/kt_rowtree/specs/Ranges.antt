@@ -1,0 +1,57 @@
+-- Which rowsets hold a key.
+use Rattle.std.specs.Prelude.{◌≡◌, ◌≢◌, ℕ, ◌<◌, ◌≤◌, Bool, true, ◌&&◌, List, [], map, length, get_or, Option, MatchOption}
+use Rattle.kt_rowtree.specs.Ids.{Ids}
+use Rattle.std.specs.List.{filter, All}
+use Rattle.std.specs.List.Sorted.{IsPermutation, IsSorted}
+use Rattle.std.specs.Ordering.{nat_cmp, is_le}
+use Rattle.std.specs.Cmp.Lexicographic.{slice_cmp}
+use Rattle.kt_rowtree.specs.declared.lists.Range.{Range}
+
+-- a is b or comes before it
+abbrev pub is_upto : List ℕ → List ℕ → Bool
+is_upto a b = is_le (slice_cmp nat_cmp a b)
+
+-- the range holds the key
+abbrev pub holds : List ℕ → Range → Bool
+holds key range = is_upto range.least key && is_upto key range.greatest
+
+-- the rowsets whose range holds the key
+abbrev pub holders_of : List ℕ → List Range → List ℕ
+holders_of key ranges = map (λ (r : Range). r.rowset) (filter (holds key) ranges)
+
+-- these are the rowsets that hold the key, by number
+pub record AreHolders (key : List ℕ) (ranges : List Range) (ids : List ℕ) : Type 0 where
+  pub all : IsPermutation (holders_of key ranges) ids
+  pub by_number : IsSorted nat_cmp ids
+
+-- these are the rowsets that hold the least of the keys that lie in the most ranges, by number
+pub record IsDeepest (ranges : List Range) (ids : List ℕ) : Type 0 where
+  pub key : List ℕ
+  pub holders : AreHolders key ranges ids
+  pub most : (other : List ℕ) → length (holders_of other ranges) ≤ length (holders_of key ranges)
+  pub least : (other : List ℕ) → length (holders_of other ranges) ≡ length (holders_of key ranges) → is_upto key other ≡ true
+
+-- no range ends before it begins
+abbrev pub IsOrderly : List Range → Type 0
+IsOrderly ranges = All (λ (r : Range). is_upto r.least r.greatest ≡ true) ranges
+
+-- the ranges stand by their least keys
+abbrev pub IsByLeast : List Range → Type 0
+IsByLeast ranges = (j k : ℕ) (d : Range) → j ≤ k → k < length ranges → is_upto (get_or ranges j d).least (get_or ranges k d).least ≡ true
+
+-- from `low` on, up to the range at `k`, none ends after that range does
+abbrev pub EndsLast : List Range → ℕ → ℕ → Type 0
+EndsLast ranges low k = (j : ℕ) (d : Range) → low ≤ j → j < k → is_upto (get_or ranges j d).greatest (get_or ranges k d).greatest ≡ true
+
+-- each number of this list says from where on the range there ends last
+pub record AreSkips (ranges : List Range) (skips : List ℕ) : Type 0 where
+  pub count : length skips ≤ length ranges
+  pub back : (k : ℕ) → k < length skips → get_or skips k 0 ≤ k
+  pub last : (k : ℕ) → k < length skips → EndsLast ranges (get_or skips k 0) k
+
+-- what a row tree keeps of its ranges
+pub record IsRowTree (ranges : List Range) (skips : List ℕ) (stack : Option Ids) : Type 0 where
+  pub by_least : IsByLeast ranges
+  pub are_skips : AreSkips ranges skips
+  pub all : length skips ≡ length ranges
+  pub stack_is : MatchOption stack (ranges ≡ []) (λ s. IsDeepest ranges s.ids)

@@ -1,0 +1,99 @@
+//! The searches over ranges that stand by their least keys.
+ghost use Rattle.std.specs.Prelude.{◌≡◌, ◌<◌, ◌≤◌, ◌+◌, ◌++◌, ◌∷◌, [], ℕ, length, get_or, take, true, false, reverse, vec_len, List};
+ghost use Rattle.std.specs.Vec.{vec_capacity};
+ghost use Rattle.kt_rowtree.specs.Ranges.{is_upto, holders_of, AreHolders, IsByLeast, EndsLast, AreSkips};
+
+use crate::lists::Range;
+
+/// Whether the range begins at the key or before it.
+fn begins_by(range: &Range, key: &[u8]) -> bool
+    ensures { result ≡ is_upto range.now.least key.now }
+{
+    range.least.order(key).is_le()
+}
+
+/// Whether the range ends at the key or before it.
+fn ends_by(range: &Range, key: &[u8]) -> bool
+    ensures { result ≡ is_upto range.now.greatest key.now }
+{
+    range.greatest.order(key).is_le()
+}
+
+/// Whether the range ends at the key or after it.
+fn ends_from(range: &Range, key: &[u8]) -> bool
+    ensures { result ≡ is_upto key.now range.now.greatest }
+{
+    range.greatest.order(key).is_ge()
+}
+
+/// How many ranges begin at the key or before it.
+pub fn reach(ranges: &[Range], key: &[u8]) -> usize
+    requires { IsByLeast ranges.now }
+    ensures bound { result ≤ length ranges.now }
+    ensures below { (k : ℕ) (d : Range) → k < result → is_upto (get_or ranges.now k d).least key.now ≡ true }
+    ensures above { (k : ℕ) (d : Range) → result ≤ k → k < length ranges.now → is_upto (get_or ranges.now k d).least key.now ≡ false }
+{
+    let mut low = 0;
+    let mut high = ranges.len();
+    while low < high {
+        let mid = low + (high - low) / 2;
+        if begins_by(&ranges[mid], key) {
+            low = mid + 1;
+        } else {
+            high = mid;
+        }
+    }
+    low
+}
+
+/// From where on, up to the range at `at`, none ends after it.
+pub fn skip_of(ranges: &[Range], skips: &[usize], at: usize) -> usize
+    requires inside { at < length ranges.now }
+    requires skips { AreSkips ranges.now skips.now }
+    requires here { length skips.now ≡ at }
+    ensures back { result ≤ at }
+    ensures last { EndsLast ranges.now result at }
+{
+    let mut low = at;
+    let end = ranges[at].greatest.as_slice();
+    while low > 0 && ends_by(&ranges[low - 1], end) {
+        low = skips[low - 1];
+    }
+    low
+}
+
+/// Appends the rowsets whose range holds the key, in the reverse order of the ranges.
+pub fn collect(ranges: &[Range], skips: &[usize], key: &[u8], out: &mut Vec<u64>)
+    requires by_least { IsByLeast ranges.now }
+    requires skips { AreSkips ranges.now skips.now }
+    requires all { length skips.now ≡ length ranges.now }
+    requires empty { out.old.items ≡ [] }
+    requires room { length (holders_of key.now ranges.now) ≤ vec_capacity out.old }
+    ensures ids { out.new.items ≡ reverse (holders_of key.now ranges.now) }
+    ensures room { vec_capacity out.old ≤ vec_capacity out.new }
+{
+    let mut at = reach(ranges, key);
+    while at > 0 {
+        let range = &ranges[at - 1];
+        if ends_from(range, key) {
+            let _ = out.push(range.rowset);
+            at -= 1;
+        } else {
+            at = skips[at - 1];
+        }
+    }
+}
+
+/// Puts the rowsets whose range holds the key into `out`, by number, in place of what is there.
+pub fn gather(ranges: &[Range], skips: &[usize], key: &[u8], out: &mut Vec<u64>)
+    requires by_least { IsByLeast ranges.now }
+    requires skips { AreSkips ranges.now skips.now }
+    requires all { length skips.now ≡ length ranges.now }
+    requires room { length (holders_of key.now ranges.now) ≤ vec_capacity out.old }
+    ensures holders { AreHolders key.now ranges.now out.new.items }
+    ensures room { vec_capacity out.old ≤ vec_capacity out.new }
+{
+    out.clear();
+    collect(ranges, skips, key, out);
+    out.sort_unstable();
+}
