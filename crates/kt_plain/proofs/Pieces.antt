@@ -1,8 +1,8 @@
 -- Byte lists kept as their bytes in one list and the end of each: nothing is lost either way.
-use Rattle.std.proofs.Common.{◌≡◌, ℕ, zero, suc, ◌+◌, ◌-◌, ◌<◌, ◌≤◌, List, [], ◌∷◌, ◌++◌, length, take, drop, get_or, refl, sym, ap, ◌∙◌, arith}
+use Rattle.std.proofs.Common.{◌≡◌, ℕ, zero, suc, ◌+◌, ◌-◌, ◌<◌, ◌≤◌, List, [], ◌∷◌, ◌++◌, length, drop, get_or, refl, sym, ap, ◌∙◌, arith}
 use Rattle.std.specs.Prelude.{slice_range}
 use Rattle.std.specs.List.{concat}
-use Rattle.std.proofs.lemmas.List.{append_assoc, append-nil, drop_all, drop_at, drop-append-le, length-append, length-drop, length-take, take-append-le, take_at, take_all}
+use Rattle.std.proofs.lemmas.List.{append_assoc, drop_all, drop_at, drop-append-le, length-append, length-drop, length-take, take-append-le, take_at, take_all}
 use Rattle.std.proofs.lemmas.List.Folds.{drop_split}
 use Rattle.kt_plain.specs.Cuts.{pieces, IsCut, ends_of}
 

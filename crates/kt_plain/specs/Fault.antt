@@ -1,7 +1,9 @@
 -- The first fault of bytes that spell no items.
-use Rattle.std.specs.Prelude.{◌≡◌, ◌<◌, ◌≤◌, ◌+◌, ◌*◌, ◌%◌, ◌⊎◌, ℕ, List, ◌++◌, length, take, slice_index, nat_lt, if◌then◌else◌}
+use Rattle.std.specs.Prelude.{◌≡◌, ◌<◌, ◌≤◌, ◌+◌, ◌*◌, ◌%◌, ◌⊎◌, ℕ, List, ◌++◌, length, take, slice_index, nat_lt, if◌then◌else◌, Result, Ok, Err, MatchResult}
 use Rattle.kt_plain.specs.declared.widths.Width.{Width}
 use Rattle.kt_plain.specs.declared.items.Items.{Items}
+use Rattle.kt_plain.specs.declared.errors.CodecNo.{CodecNo}
+use Rattle.kt_plain.specs.declared.errors.CodecNo.TheVariants.{Place, Memory}
 use Rattle.kt_plain.specs.Widths.{field_len}
 use Rattle.kt_plain.specs.Spelling.{Spells}
 
@@ -33,3 +35,19 @@ pub record IsFault (width : Width) (n : ℕ) (bytes : List ℕ) (place : ℕ) : 
   pub begins_field : at < n * field_len width → at % field_len width ≡ 0
   pub before : CanGoOn width n (take at bytes)
   pub reported : IsReported width n bytes at place
+
+-- what holds of the place, where a decoder gave one
+abbrev pub IfPlace : Result Items CodecNo → (ℕ → Type 0) → Type 0
+IfPlace (Ok items) P = Unit {0}
+IfPlace (Err (Place offset)) P = P offset
+IfPlace (Err Memory) P = Unit {0}
+
+-- the decoder gave these items, unless memory ran out
+abbrev pub IsOrMemory : Result Items CodecNo → Items → Type 0
+IsOrMemory r items = MatchResult r (λ got. got ≡ items) (λ e. e ≡ Memory)
+
+-- the place of the first byte above 1
+pub record IsFirstAbove (bytes : List ℕ) (at : ℕ) : Type 0 where
+  pub within : at < length bytes
+  pub before : (i : ℕ) → i < at → slice_index bytes i < 2
+  pub above : 1 < slice_index bytes at

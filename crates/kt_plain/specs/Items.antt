@@ -1,5 +1,5 @@
 -- The items of a block, and one of them.
-use Rattle.std.specs.Prelude.{◌≡◌, ℕ, List, [], length, Some, slice_get, slice_index_or}
+use Rattle.std.specs.Prelude.{◌≡◌, ℕ, length, Some, slice_get}
 use Rattle.kt_plain.specs.declared.items.Items.{Items}
 use Rattle.kt_plain.specs.declared.items.Items.TheVariants.{Numbers, Texts}
 use Rattle.kt_plain.specs.declared.items.Item.{Item}

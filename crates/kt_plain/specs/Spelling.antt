@@ -7,13 +7,8 @@ use Rattle.kt_plain.specs.declared.widths.Width.TheVariants as widths
 use Rattle.kt_plain.specs.declared.items.Items.{Items}
 use Rattle.kt_plain.specs.declared.items.Items.TheVariants.{Numbers, Texts}
 use Rattle.kt_plain.specs.Cuts.{ends_of}
-use Rattle.kt_plain.specs.Widths.{number, IsInWidth}
+use Rattle.kt_plain.specs.Widths.{number, IsInWidth, IsNumeric}
 use Rattle.kt_plain.specs.Items.{count}
-
--- a width of numbers, and not of byte lists
-abbrev pub IsNumeric : Width → Type 0
-IsNumeric widths.Bytes = ⊥
-IsNumeric _ = Unit {0}
 
 -- the items have a spelling in the width: numbers of that width, or fewer than 2^32 bytes together,
 -- and fewer than 2^32 items
@@ -31,3 +26,7 @@ pub record Spells (width : Width) (n : ℕ) (items : Items) (bytes : List ℕ) :
   pub fits : Fits width items
   pub counted : count items ≡ n
   pub spelled : bytes ≡ spelling width items
+
+-- bytes spell one list of items at most
+abbrev pub SpellsOne : Type 0
+SpellsOne = (width : Width) (n : ℕ) (bytes : List ℕ) (a b : Items) → Spells width n a bytes → Spells width n b bytes → a ≡ b

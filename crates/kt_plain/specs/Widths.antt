@@ -1,6 +1,7 @@
 -- How wide a number is, and its bytes.
-use Rattle.std.specs.Prelude.{◌≡◌, ◌⊎◌, ℕ, ℤ, pos, List, [], ◌∷◌, FitsSigned}
-use Rattle.std.specs.Int.{w8, w16, w32, w64, to_le_bytes, cast_unsigned}
+use Rattle.std.specs.Prelude.{◌≡◌, ◌⊎◌, ℕ, ℤ, pos, List, [], ◌∷◌, slice_index, FitsSigned}
+use Rattle.std.specs.Int.{w8, w16, w32, w64, to_le_bytes, cast_unsigned, cast_signed}
+use Rattle.byteorder.specs.Endian.{little_number}
 use Rattle.kt_plain.specs.declared.widths.Width.{Width}
 use Rattle.kt_plain.specs.declared.widths.Width.TheVariants.{Bit, One, Two, Four, Eight, Bytes}
 
@@ -30,3 +31,17 @@ IsInWidth Two z = FitsSigned w16 z
 IsInWidth Four z = FitsSigned w32 z
 IsInWidth Eight z = FitsSigned w64 z
 IsInWidth Bytes z = ⊥
+
+-- a width of numbers, and not of byte lists
+abbrev pub IsNumeric : Width → Type 0
+IsNumeric Bytes = ⊥
+IsNumeric _ = Unit {0}
+
+-- the number whose bytes stand at the front
+abbrev pub value : Width → List ℕ → ℤ
+value Bit bytes = pos (slice_index bytes 0)
+value One bytes = cast_signed w8 (slice_index bytes 0)
+value Two bytes = cast_signed w16 (little_number 2 bytes)
+value Four bytes = cast_signed w32 (little_number 4 bytes)
+value Eight bytes = cast_signed w64 (little_number 8 bytes)
+value Bytes bytes = pos 0

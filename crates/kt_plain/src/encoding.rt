@@ -3,8 +3,8 @@
 ghost use Rattle.std.specs.Prelude.{◌≡◌, ◌≤◌, ◌+◌, ◌*◌, ◌++◌, length, take, drop, All, FitsSigned, IfOk, IfErr, OnOk};
 ghost use Rattle.std.specs.List.{flat_map};
 ghost use Rattle.std.specs.Int.{w8, w16, w32};
-ghost use Rattle.kt_plain.specs.Widths.{number, IsInWidth};
-ghost use Rattle.kt_plain.specs.Spelling.{IsNumeric, Fits, spelling};
+ghost use Rattle.kt_plain.specs.Widths.{number, IsInWidth, IsNumeric};
+ghost use Rattle.kt_plain.specs.Spelling.{Fits, spelling};
 
 use crate::errors::CodecNo;
 use crate::items::Items;

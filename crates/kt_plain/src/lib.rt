@@ -11,16 +11,21 @@ mod encoding;
 mod errors;
 mod faults;
 mod items;
+mod laws;
 mod numbers;
 mod octets;
 mod texts;
 mod widths;
 
-//pub use decoding::decode;
+pub use decoding::decode;
 pub use encoding::encode;
 pub use errors::{CodecNo, NoMemory};
 pub use items::{Item, Items, get};
+pub use laws::one_value;
 pub use numbers::Numbers;
 pub use octets::Octets;
 pub use texts::Texts;
 pub use widths::Width;
+
+#[cfg(test)]
+mod tests;

@@ -1,9 +1,10 @@
 //! A list of byte lists.
 
-ghost use Rattle.std.specs.Prelude.{◌≡◌, ◌==◌, ◌+◌, ◌<◌, ◌≤◌, ◌^◌, ◌++◌, ◌∷◌, [], length, IfOk, OnOk, OnErr, slice_index, slice_index_or, slice_range};
+ghost use Rattle.std.specs.Prelude.{◌≡◌, ◌==◌, ◌+◌, ◌*◌, ◌<◌, ◌≤◌, ◌^◌, ◌++◌, ◌∷◌, [], ℕ, List, length, IfOk, OnOk, OnErr, slice_index, slice_index_or, slice_range};
 ghost use Rattle.std.specs.List.{concat, flat_map};
 ghost use Rattle.std.specs.Int.{w32, to_le_bytes};
-ghost use Rattle.kt_plain.specs.Cuts.{ends_of};
+ghost use Rattle.byteorder.specs.Endian.{IsRead, little_number};
+ghost use Rattle.kt_plain.specs.Cuts.{ends_of, AreSpelled};
 
 use crate::errors::NoMemory;
 use byteorder::{ByteOrder, LittleEndian};
@@ -80,6 +81,17 @@ impl Texts {
         joined(alloc, &self.ends, &self.bytes)
     }
 
+    /// The byte lists whose ends and bytes these are.
+    pub(crate) fn read(alloc: Global, bytes: &[u8], n: usize) -> Result<Texts, AllocError>
+        requires { (texts : List (List ℕ)) × AreSpelled texts n bytes.now }
+        ensures { (texts : List (List ℕ)) → AreSpelled texts n bytes.now → IfOk result (λ read. read ≡ texts) }
+    {
+        let (front, rest) = bytes.split_at(4 * n);
+        let ends = numbers_of(alloc, front, n)?;
+        let bytes = Vec::from_slice(alloc, rest)?;
+        Ok(Texts { bytes, ends })
+    }
+
     /// Adds a byte list at the end. An `Err` changes nothing.
     pub fn push(&mut self, text: &[u8]) -> Result<(), NoMemory>
         requires { length (concat self.old) + length text.now < 2 ^ 32 }
@@ -98,6 +110,17 @@ fn joined(alloc: Global, ends: &[u32], bytes: &[u8]) -> Result<Vec<u8>, AllocErr
     LittleEndian::write_u32_into(ends, &mut out);
     out.extend_from_slice(bytes)?;
     Ok(out)
+}
+
+/// The numbers of four bytes each.
+fn numbers_of(alloc: Global, bytes: &[u8], n: usize) -> Result<Vec<u32>, AllocError>
+    requires { length bytes.now ≡ 4 * n }
+    ensures len { IfOk result (λ v. length v.items ≡ n) }
+    ensures read { IfOk result (λ v. IsRead little_number 4 bytes.now v.items) }
+{
+    let mut numbers = vec![in alloc; 0u32; n]?;
+    LittleEndian::read_u32_into(bytes, &mut numbers);
+    Ok(numbers)
 }
 
 /// The bytes of a range.

@@ -1,4 +1,4 @@
-use Rattle.std.proofs.Common.{◌≡◌, ◌⊎◌, arith, length, sym, ◌∙◌, rules, get_or, ap, subst, inl, inr, refl}
+use Rattle.std.proofs.Common.{◌≡◌, ◌⊎◌, arith, length, sym, ◌∙◌, rules, get_or, inl, inr, refl}
 use Rattle.std.specs.Prelude.{pos, ℤ, FitsSigned, nat_abs}
 use Rattle.std.specs.Int.{w8, w64, cast_unsigned}
 use Rattle.std.proofs.lemmas.Int.{to_z-of_z}

@@ -1,8 +1,7 @@
-use Rattle.std.proofs.Common.{◌≡◌, ◌++◌, List, ℕ, ap, ◌∙◌, sym, refl}
-use Rattle.std.specs.Prelude.{IfOk}
+use Rattle.std.proofs.Common.{◌≡◌, ◌++◌, ◌∙◌, refl}
 use Rattle.std.specs.List.{concat, flat_map}
 use Rattle.std.specs.Int.{w32, to_le_bytes}
-use Rattle.kt_plain.specs.Cuts.{pieces, ends_of, IsCut}
+use Rattle.kt_plain.specs.Cuts.{ends_of}
 use Rattle.kt_plain.proofs.Pieces.{concat-all, ends_of-pieces}
 use Rattle.std.proofs.lemmas.Result.{IfOk-weaker}
 use Rattle.kt_plain.proofs.texts.Texts.spelled.Goals as goal
