@@ -1,21 +1,19 @@
 -- A number is its field's bytes, and each field is a number's.
-use Rattle.std.proofs.Common.{◌≡◌, ◌⊎◌, ℕ, zero, suc, ◌+◌, ◌*◌, ◌/◌, ◌^◌, ◌<◌, ◌≤◌, List, [], ◌∷◌, ◌++◌, length, take, drop, get_or, ℤ, pos, negsuc, refl, sym, ap, ◌∙◌, arith, inl, inr}
-use Rattle.std.specs.Prelude.{FitsSigned, All}
-use Rattle.std.specs.List.{flat_map}
-use Rattle.std.specs.Int.{w8, w16, w32, w64, to_le_bytes, from_le_bytes, bytes_low_first, cast_unsigned, cast_signed}
+use Rattle.std.proofs.Common.{◌≡◌, ◌⊎◌, ℕ, zero, suc, ◌^◌, ◌<◌, ◌≤◌, List, [], ◌∷◌, ◌++◌, length, take, get_or, ℤ, pos, negsuc, refl, ap, ◌∙◌, arith, inl, inr}
+use Rattle.std.specs.Prelude.{FitsSigned}
+use Rattle.std.specs.Int.{w8, w16, w32, w64, to_le_bytes, from_le_bytes, cast_unsigned, cast_signed}
 use Rattle.std.proofs.lemmas.Int.{to_z-of_z, of_z-to_z}
-use Rattle.std.proofs.lemmas.Nat.{mod_below, le_bytes_2, le_bytes_4, le_bytes_8}
-use Rattle.std.proofs.lemmas.List.{drop_at, drop-drop, ext_get_or, length-append, length-drop, length-take, take-append-drop}
-use Rattle.std.proofs.lemmas.List.Elements.{All-nil, All-cons, All-head, All-tail}
+use Rattle.std.proofs.lemmas.Nat.{le_bytes_2, le_bytes_4, le_bytes_8}
+use Rattle.std.proofs.lemmas.List.{length-take}
 use borrow.Author.Gap.{read_sfits}
-use Rattle.byteorder.specs.Endian.{little_number, IsReadBy}
+use Rattle.byteorder.specs.Endian.{little_number}
 use Rattle.byteorder.specs.Numbers.{little_number-reads_back, little_from-lt, little_from-take, little_from-append}
 use Rattle.kt_rle.specs.declared.widths.Width.{Width}
 use Rattle.kt_rle.specs.declared.widths.Width.TheVariants.{Bit, One, Two, Four, Eight}
 use Rattle.kt_rle.specs.Widths.{field_len, number, value, IsInWidth}
 use Rattle.kt_rle.specs.Fault.{AreBytes}
 use Rattle.std.proofs.lemmas.List.{get_or_append_left}
-use Rattle.kt_rle.proofs.Bytes.{bytes-le32, below-take, below-drop}
+use Rattle.kt_rle.proofs.Bytes.{bytes-le32, below-take}
 
 -- the laws of a width
 pub record IsExact (w : Width) : Type 0 where

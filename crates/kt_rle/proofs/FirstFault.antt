@@ -1,5 +1,5 @@
 -- The first fault of bytes that are not the runs of n items.
-use Rattle.std.proofs.Common.{◌≡◌, ℕ, zero, suc, ◌+◌, ◌-◌, ◌*◌, ◌/◌, ◌%◌, ◌^◌, ◌<◌, ◌≤◌, List, [], ◌∷◌, ◌++◌, length, take, drop, ℤ, Option, Some, None, refl, sym, ap, ◌∙◌, subst, arith, inl, inr}
+use Rattle.std.proofs.Common.{◌≡◌, ℕ, suc, ◌+◌, ◌-◌, ◌*◌, ◌/◌, ◌^◌, ◌<◌, ◌≤◌, List, [], ◌∷◌, ◌++◌, length, take, drop, ℤ, Option, Some, None, refl, sym, ap, ◌∙◌, subst, arith, inl, inr}
 use Rattle.std.specs.List.{flat_map}
 use Rattle.std.specs.Int.{w32, to_le_bytes}
 use Rattle.std.proofs.Math.Seq.{take-add}
@@ -11,13 +11,13 @@ use Rattle.byteorder.specs.Endian.{little_number}
 use Rattle.byteorder.specs.Numbers.{little_from-append}
 use Rattle.kt_rle.specs.declared.widths.Width.{Width}
 use Rattle.kt_rle.specs.declared.items.Items.{Items}
-use Rattle.kt_rle.specs.Widths.{field_len, number, value, IsInWidth}
+use Rattle.kt_rle.specs.Widths.{number, value, IsInWidth}
 use Rattle.kt_rle.specs.Runs.{Run, expand, run_bytes, run_len, AreRuns, runs_in}
 use Rattle.kt_rle.specs.Spelling.{Spells}
 use Rattle.kt_rle.specs.Fault.{AreBytes, CanGoOn, IsSpelling, IsFault}
-use Rattle.kt_rle.proofs.Bytes.{below-append, below-take, below-drop, bytes-le32}
-use Rattle.kt_rle.proofs.Fields.{IsExact, exact}
-use Rattle.kt_rle.proofs.RunLists.{total, length-expanded, total-append, length-spelled, bytes-runs, run_at, length-runs_in, runs_in-add, run_at-front, runs_in-front, runs_in-spelled, len_bytes, spelled-runs_in, LastIs, LastDiffers, AreRuns-push, run_within, not_the_last, next_number, next-differs, next-fits, LastIs-push, differs_from_last, runs_in-more}
+use Rattle.kt_rle.proofs.Bytes.{below-append, below-drop}
+use Rattle.kt_rle.proofs.Fields.{exact}
+use Rattle.kt_rle.proofs.RunLists.{total, length-expanded, total-append, length-spelled, bytes-runs, run_at, runs_in-add, run_at-front, runs_in-front, runs_in-spelled, len_bytes, spelled-runs_in, LastIs, LastDiffers, AreRuns-push, run_within, not_the_last, next_number, next-differs, next-fits, LastIs-push, differs_from_last, runs_in-more}
 
 -- ---- what a spelling says
 
@@ -118,9 +118,12 @@ pub runs_go_on : (w : Width) (n : ℕ) (rs : List Run) → AreRuns w rs → tota
 runs_go_on w n rs are le few =
     let c = complete w n rs are le in
     let tail : List Run = c.0 in
-    let s = build w n (rs ++ tail) c.1 c.2 few in
-    (flat_map expand (rs ++ tail), flat_map (run_bytes w) tail, bytes-runs w tail c.3,
-     subst (λ (xs : List ℕ). Spells w n (flat_map expand (rs ++ tail)) xs) (flat_map-append (run_bytes w) rs tail) s)
+    let s = build w n (rs ++ tail) c.1 c.2 few in (
+      flat_map expand (rs ++ tail),
+      flat_map (run_bytes w) tail,
+      bytes-runs w tail c.3,
+      subst (λ (xs : List ℕ). Spells w n (flat_map expand (rs ++ tail)) xs) (flat_map-append (run_bytes w) rs tail) s,
+    )
 
 -- so do they with the length of one run more
 pub len_goes_on : (w : Width) (n : ℕ) (rs : List Run) (len : ℕ) → AreRuns w rs → 0 < len → total rs + len ≤ n → n < 2 ^ 32 → CanGoOn w n (flat_map (run_bytes w) rs ++ to_le_bytes w32 len)
@@ -137,9 +140,12 @@ len_goes_on w n rs len are some le few =
     let shape : flat_map (run_bytes w) ((rs ++ r ∷ []) ++ tail) ≡ (front ++ bytes) ++ (num ++ rest) =
     flat_map-append (run_bytes w) (rs ++ r ∷ []) tail
     ∙ ap (λ (xs : List ℕ). xs ++ rest) (flat_map-append (run_bytes w) rs (r ∷ []) ∙ ap (λ (xs : List ℕ). front ++ xs) (append-nil (bytes ++ num)) ∙ sym (append_assoc front bytes num))
-    ∙ append_assoc (front ++ bytes) num rest in
-    (flat_map expand ((rs ++ r ∷ []) ++ tail), num ++ rest, below-append 256 num rest ((exact w).bytes (next_number rs) (next-fits w rs)) (bytes-runs w tail c.3),
-     subst (λ (xs : List ℕ). Spells w n (flat_map expand ((rs ++ r ∷ []) ++ tail)) xs) shape s)
+    ∙ append_assoc (front ++ bytes) num rest in (
+      flat_map expand ((rs ++ r ∷ []) ++ tail),
+      num ++ rest,
+      below-append 256 num rest ((exact w).bytes (next_number rs) (next-fits w rs)) (bytes-runs w tail c.3),
+      subst (λ (xs : List ℕ). Spells w n (flat_map expand ((rs ++ r ∷ []) ++ tail)) xs) shape s,
+    )
 
 -- ---- what is read within a front
 
@@ -228,11 +234,11 @@ fault_follows w n bytes i last place few fits lt h e =
     let shape : flat_map (run_bytes w) (runs_in w i bytes) ≡ take at bytes = spelled-runs_in w i bytes (omega arith) fits in
     record {
       refused = λ (items, spells).
-        let next = next_run w n i bytes (determined w n items bytes spells) lt in
-        let run = run_within w (runs_in w i bytes) (run_at w (drop at bytes)) next.0 next.1 in
-        let le = next.2 in
-        let some = run.0 in
-        omega arith;
+          let next = next_run w n i bytes (determined w n items bytes spells) lt in
+          let run = run_within w (runs_in w i bytes) (run_at w (drop at bytes)) next.0 next.1 in
+          let le = next.2 in
+          let some = run.0 in
+          omega arith;
       runs = i;
       within = omega arith;
       before = before w n bytes i 0 last few fits (omega arith) h;
@@ -248,17 +254,19 @@ fault_lacks_length w n bytes i left last few fits within short some h =
     let same : runs_in w i (take at bytes) ≡ runs_in w i bytes = ap (runs_in w i) (sym (append-nil (take at bytes))) ∙ same_runs w i at bytes [] (omega arith) within in
     record {
       refused = λ (items, spells).
-        let all = whole_runs w n i bytes (determined w n items bytes spells) within (omega arith) in
-        omega (arith, all);
+          let all = whole_runs w n i bytes (determined w n items bytes spells) within (omega arith) in
+          omega (arith, all);
       runs = i;
       within = within;
       before = before w n bytes i left last few fits within h;
       reported = inr (inl (
         (λ (items, spells).
-          let all = whole_runs w n i (take at bytes) (determined w n items (take at bytes) spells) (omega arith) (omega arith) in
-          let one = ap total same in
-          omega (arith, all, one)),
-        short, refl));
+            let all = whole_runs w n i (take at bytes) (determined w n items (take at bytes) spells) (omega arith) (omega arith) in
+            let one = ap total same in
+            omega (arith, all, one)),
+        short,
+        refl,
+      ));
     }
 
 pub fault_wrong_length : (w : Width) (n : ℕ) (bytes : List ℕ) (i left : ℕ) (last : Option ℤ) (place : ℕ) → n < 2 ^ 32 → AreBytes bytes → run_len w * i + 4 ≤ length bytes
@@ -269,15 +277,15 @@ fault_wrong_length w n bytes i left last place few fits within h wrong e =
     let front_len : length front ≡ at + 4 = omega (arith, length-take (at + 4) bytes) in
     let sum = h.sum in
     let stuck : ¬ CanGoOn w n front = λ (items, rest, rest_fits, spells).
-        let whole : List ℕ = front ++ rest in
-        let next = next_run w n i whole (determined w n items whole spells) (omega (arith, length-append front rest)) in
-        let run = run_within w (runs_in w i whole) (run_at w (drop at whole)) next.0 next.1 in
-        let runs = ap total (same_runs w i (at + 4) bytes rest (omega arith) within) in
-        let len = same_len at (at + 4) bytes rest (omega arith) within in
-        let some : 0 < little_number 4 (drop at bytes) = subst (λ (k : ℕ). 0 < k) len run.0 in
-        let more = wrong some in
-        let le = next.2 in
-        omega (arith, runs, len, more, le) in
+    let whole : List ℕ = front ++ rest in
+    let next = next_run w n i whole (determined w n items whole spells) (omega (arith, length-append front rest)) in
+    let run = run_within w (runs_in w i whole) (run_at w (drop at whole)) next.0 next.1 in
+    let runs = ap total (same_runs w i (at + 4) bytes rest (omega arith) within) in
+    let len = same_len at (at + 4) bytes rest (omega arith) within in
+    let some : 0 < little_number 4 (drop at bytes) = subst (λ (k : ℕ). 0 < k) len run.0 in
+    let more = wrong some in
+    let le = next.2 in
+    omega (arith, runs, len, more, le) in
     record {
       refused = not_spelled w n (at + 4) bytes fits stuck;
       runs = i;
@@ -292,8 +300,8 @@ fault_lacks_number w n bytes i left last few fits within short some h pos_len le
     let sum = h.sum in
     record {
       refused = λ (items, spells).
-        let all = whole_runs w n i bytes (determined w n items bytes spells) (omega arith) short in
-        omega (arith, all);
+          let all = whole_runs w n i bytes (determined w n items bytes spells) (omega arith) short in
+          omega (arith, all);
       runs = i;
       within = omega arith;
       before = before w n bytes i left last few fits (omega arith) h;
@@ -308,9 +316,9 @@ fault_wrong_number w n bytes i left last place few fits within h pos_len le wron
     let number_at : drop 4 (drop at bytes) ≡ drop (at + 4) bytes = drop-drop 4 at bytes in
     record {
       refused = λ (items, spells).
-        let next = next_run w n i bytes (determined w n items bytes spells) (omega arith) in
-        let run = run_within w (runs_in w i bytes) (run_at w (drop at bytes)) next.0 next.1 in
-        wrong run.1;
+          let next = next_run w n i bytes (determined w n items bytes spells) (omega arith) in
+          let run = run_within w (runs_in w i bytes) (run_at w (drop at bytes)) next.0 next.1 in
+          wrong run.1;
       runs = i;
       within = omega arith;
       before = before w n bytes i left last few fits (omega arith) h;
@@ -326,12 +334,12 @@ fault_wrong_run w n bytes i left last z place few fits within h pos_len le is in
     let front_len : length front ≡ at + run_len w = omega (arith, length-take (at + run_len w) bytes) in
     let number_at : drop 4 (drop at bytes) ≡ drop (at + 4) bytes = drop-drop 4 at bytes in
     let stuck : ¬ CanGoOn w n front = λ (items, rest, rest_fits, spells).
-        let whole : List ℕ = front ++ rest in
-        let next = next_run w n i whole (determined w n items whole spells) (omega (arith, length-append front rest)) in
-        let runs = same_runs w i (at + run_len w) bytes rest (omega arith) within in
-        let run : run_at w (drop at whole) ≡ run_at w (drop at bytes) = same_run w at (at + run_len w) bytes rest (omega arith) within in
-        let last_is : LastIs (runs_in w i whole) (Some z) = rw (runs, ← same) h.last_is in
-        not_the_last w (runs_in w i whole) z (run_at w (drop at whole)) next.0 last_is next.1 (is ∙ ap (λ (r : Run). r.value) (sym run)) in
+    let whole : List ℕ = front ++ rest in
+    let next = next_run w n i whole (determined w n items whole spells) (omega (arith, length-append front rest)) in
+    let runs = same_runs w i (at + run_len w) bytes rest (omega arith) within in
+    let run : run_at w (drop at whole) ≡ run_at w (drop at bytes) = same_run w at (at + run_len w) bytes rest (omega arith) within in
+    let last_is : LastIs (runs_in w i whole) (Some z) = rw (runs, ← same) h.last_is in
+    not_the_last w (runs_in w i whole) z (run_at w (drop at whole)) next.0 last_is next.1 (is ∙ ap (λ (r : Run). r.value) (sym run)) in
     record {
       refused = not_spelled w n (at + run_len w) bytes fits stuck;
       runs = i;

@@ -1,18 +1,18 @@
 -- Lists of runs, their numbers and their bytes.
-use Rattle.std.proofs.Common.{◌≡◌, ◌≢◌, ℕ, zero, suc, ◌+◌, ◌-◌, ◌*◌, ◌/◌, ◌%◌, ◌^◌, ◌<◌, ◌≤◌, List, [], ◌∷◌, ◌++◌, length, take, drop, get_or, replicate, ℤ, pos, negsuc, Option, Some, None, refl, sym, ap, ◌∙◌, subst, arith, inl, inr}
+use Rattle.std.proofs.Common.{◌≡◌, ◌≢◌, ℕ, zero, suc, ◌+◌, ◌*◌, ◌^◌, ◌<◌, ◌≤◌, List, [], ◌∷◌, ◌++◌, length, take, drop, replicate, ℤ, pos, negsuc, Option, Some, None, refl, sym, ap, ◌∙◌, arith}
 use Rattle.std.specs.List.{flat_map}
 use Rattle.std.specs.Int.{w32, to_le_bytes, from_le_bytes}
 use Rattle.std.proofs.Math.Seq.{take-add}
 use Rattle.std.proofs.lemmas.Nat.{le_bytes_4}
-use Rattle.std.proofs.lemmas.List.{append_assoc, append-nil, drop_at, drop-append-le, drop-drop, length-append, length-drop, length-replicate, length-take}
+use Rattle.std.proofs.lemmas.List.{append_assoc, drop_at, drop-append-le, drop-drop, length-append, length-drop, length-replicate, length-take}
 use Rattle.byteorder.specs.Endian.{little_number}
 use Rattle.byteorder.specs.Numbers.{little_number-reads_back, little_from-append, little_from-take}
 use Rattle.kt_rle.specs.declared.widths.Width.{Width}
 use Rattle.kt_rle.specs.Widths.{field_len, number, value, IsInWidth}
-use Rattle.kt_rle.specs.Runs.{Run, expand, run_bytes, run_len, DiffersFirst, AreRuns, runs_in}
+use Rattle.kt_rle.specs.Runs.{Run, expand, run_bytes, run_len, AreRuns, runs_in}
 use Rattle.kt_rle.specs.Fault.{AreBytes}
 use Rattle.kt_rle.proofs.Bytes.{below-append, below-take, below-drop, bytes-le32}
-use Rattle.kt_rle.proofs.Fields.{IsExact, exact, zero_in_width, one_in_width}
+use Rattle.kt_rle.proofs.Fields.{exact, zero_in_width, one_in_width}
 
 -- how many numbers runs have
 abbrev pub total : List Run → ℕ
@@ -66,8 +66,8 @@ runs_in-add w (suc a) b bytes =
     let next : run_len w + run_len w * a ≡ run_len w * suc a = omega arith in
     ap (λ (k : ℕ). runs_in w k bytes) e
     ∙ ap (λ (rs : List Run). run_at w bytes ∷ rs)
-      (runs_in-add w a b (drop (run_len w) bytes)
-      ∙ ap (λ (xs : List ℕ). runs_in w a (drop (run_len w) bytes) ++ runs_in w b xs) (drop-drop (run_len w * a) (run_len w) bytes ∙ ap (λ (at : ℕ). drop at bytes) next))
+    (runs_in-add w a b (drop (run_len w) bytes)
+    ∙ ap (λ (xs : List ℕ). runs_in w a (drop (run_len w) bytes) ++ runs_in w b xs) (drop-drop (run_len w * a) (run_len w) bytes ∙ ap (λ (at : ℕ). drop at bytes) next))
 
 pub runs_in-more : (w : Width) (i : ℕ) (bytes : List ℕ) → runs_in w (i + 1) bytes ≡ runs_in w i bytes ++ run_at w (drop (run_len w * i) bytes) ∷ []
 runs_in-more w i bytes = runs_in-add w i 1 bytes

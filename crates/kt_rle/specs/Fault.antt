@@ -55,11 +55,11 @@ pub record IsFault (width : Width) (n : ℕ) (bytes : List ℕ) (place : ℕ) : 
   pub within : run_len width * runs ≤ length bytes
   pub before : CanGoOn width n (take (run_len width * runs) bytes)
   pub reported : Follows width n bytes (run_len width * runs) place
-    ⊎ (LacksLength width n bytes (run_len width * runs) place
-    ⊎ (WrongLength width n bytes (run_len width * runs) place
-    ⊎ (LacksNumber width n bytes (run_len width * runs) place
-    ⊎ (WrongNumber width n bytes (run_len width * runs) place
-    ⊎ WrongRun width n bytes (run_len width * runs) place))))
+      ⊎ (LacksLength width n bytes (run_len width * runs) place
+      ⊎ (WrongLength width n bytes (run_len width * runs) place
+      ⊎ (LacksNumber width n bytes (run_len width * runs) place
+      ⊎ (WrongNumber width n bytes (run_len width * runs) place
+      ⊎ WrongRun width n bytes (run_len width * runs) place))))
 
 -- what holds of the place, where a decoder gave one
 abbrev pub IfPlace : Result Items CodecNo → (ℕ → Type 0) → Type 0

@@ -1,5 +1,5 @@
 -- The one spelling of each list of numbers.
-use Rattle.std.specs.Prelude.{◌≡◌, ◌<◌, ◌^◌, ℕ, ℤ, List, length, All}
+use Rattle.std.specs.Prelude.{◌≡◌, ◌<◌, ◌^◌, ℕ, List, length, All}
 use Rattle.std.specs.List.{flat_map}
 use Rattle.kt_rle.specs.declared.widths.Width.{Width}
 use Rattle.kt_rle.specs.declared.items.Items.{Items}

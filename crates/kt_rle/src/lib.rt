@@ -11,6 +11,7 @@ mod encoding;
 mod errors;
 mod faults;
 mod items;
+mod laws;
 mod octets;
 mod reading;
 mod widths;
@@ -19,5 +20,9 @@ pub use decoding::decode;
 pub use encoding::encode;
 pub use errors::{CodecNo, NoMemory};
 pub use items::{Item, Items, get};
+pub use laws::{one_spelling, one_value};
 pub use octets::Octets;
 pub use widths::Width;
+
+#[cfg(test)]
+mod tests;

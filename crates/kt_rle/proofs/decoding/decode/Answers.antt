@@ -1,4 +1,4 @@
-use Rattle.std.proofs.Common.{◌≡◌, sym, subst, ◌∙◌}
+use Rattle.std.proofs.Common.{sym, subst, ◌∙◌}
 use Rattle.kt_rle.specs.declared.items.Items.{Items}
 use Rattle.kt_rle.specs.Spelling.{Spells}
 use Rattle.kt_rle.proofs.FirstFault.{items_are}

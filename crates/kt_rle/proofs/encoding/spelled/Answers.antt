@@ -1,12 +1,12 @@
-use Rattle.std.proofs.Common.{◌≡◌, arith, rules, length, drop, take, ℤ, List, sym, ◌∙◌, ap, subst, get_or, ℕ}
-use Rattle.std.specs.Prelude.{pos, All, FitsSigned}
+use Rattle.std.proofs.Common.{arith, rules, length, ℤ, List, sym, get_or, ℕ}
+use Rattle.std.specs.Prelude.{pos, FitsSigned}
 use Rattle.std.specs.Int.{w64}
 use Rattle.std.proofs.lemmas.Int.{to_z-of_z}
 use Rattle.std.proofs.lemmas.Bool.{eqb-true}
 use Rattle.std.proofs.lemmas.List.{take_rest, length-drop}
 use Rattle.std.proofs.lemmas.List.Elements.{All-drop}
 use Rattle.kt_rle.specs.Widths.{IsInWidth}
-use Rattle.kt_rle.proofs.Encoded.{Goes, goes_start, goes_more, goes_end}
+use Rattle.kt_rle.proofs.Encoded.{goes_more, goes_end}
 use Rattle.kt_rle.proofs.encoding.spelled.Goals as goal
 
 pub loop-rest-preserved : goal.loop-rest-preserved

@@ -1,4 +1,4 @@
-use Rattle.std.proofs.Common.{◌≡◌, ◌⊎◌, ◌+◌, ◌-◌, ◌*◌, ◌/◌, ◌^◌, ◌<◌, ◌≤◌, ℕ, List, length, drop, ℤ, Some, arith, rules, ap, sym, subst, ◌∙◌, refl}
+use Rattle.std.proofs.Common.{◌≡◌, ◌⊎◌, ◌+◌, ◌-◌, ◌*◌, ◌/◌, ◌^◌, ◌<◌, ◌≤◌, ℕ, List, length, drop, ℤ, arith, rules, ap, sym, subst, ◌∙◌, refl}
 use Rattle.std.specs.Prelude.{pos, FitsSigned, IsTrue, false}
 use Rattle.std.specs.Int.{w64}
 use Rattle.std.proofs.lemmas.Bool.{eqb-true}
@@ -26,8 +26,8 @@ returns-then-not-is_run_len c =
     let reach = in_reach w i bytes c.from_run-run.result.now from c.from_run-run.ensures.long in
     let len : c.read_u32-len.result ≡ little_number 4 (drop (run_len w * i) bytes) = c.read_u32-len.ensures ∙ ap (little_number 4) from in
     let wrong : 0 < little_number 4 (drop (run_len w * i) bytes) → c.runs.left < little_number 4 (drop (run_len w * i) bytes) = λ some.
-        let more = c.if-not-is_run_len.ensures.no (omega (arith, len, some)) in
-        omega (arith, len, more) in
+    let more = c.if-not-is_run_len.ensures.no (omega (arith, len, some)) in
+    omega (arith, len, more) in
     fault_wrong_length w c.args.n bytes i c.runs.left c.runs.last (length bytes - length c.from_run-run.result.now) few fits_bytes (omega (arith, reach.0)) c.runs.invariant wrong reach.1
 
 pub returns-then-not-is_number : goal.returns-then-not-is_number
@@ -179,6 +179,6 @@ returns-else-is_run_len c =
     let len : c.read_u32.result ≡ little_number 4 (drop (run_len w * i) bytes) = c.read_u32.ensures ∙ ap (little_number 4) c.behind_runs-rest.ensures.behind in
     let four = c.if-rest-lt4.false in
     let wrong : 0 < little_number 4 (drop (run_len w * i) bytes) → c.runs.left < little_number 4 (drop (run_len w * i) bytes) = λ some.
-        let more = c.if-is_run_len.ensures.no (omega (arith, len, some)) in
-        omega (arith, len, more) in
+    let more = c.if-is_run_len.ensures.no (omega (arith, len, some)) in
+    omega (arith, len, more) in
     fault_wrong_length w c.args.n bytes i c.runs.left c.runs.last (length bytes - length c.behind_runs-rest.result.now) few fits_bytes (omega (arith, within, four)) has wrong place
