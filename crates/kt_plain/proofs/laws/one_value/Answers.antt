@@ -1,0 +1,5 @@
+use Rattle.kt_plain.proofs.Decoded.{spells_one}
+use Rattle.kt_plain.proofs.laws.one_value.Goals as goal
+
+pub returns : goal.returns
+returns c = spells_one

@@ -1,0 +1,5 @@
+pub mod Cuts
+pub mod Widths
+pub mod Items
+pub mod Spelling
+pub mod Fault

@@ -1,0 +1,5 @@
+pub mod Bytes
+pub mod Fields
+pub mod RunLists
+pub mod FirstFault
+pub mod Encoded

@@ -1,0 +1,5 @@
+use Rattle.kt_rle.proofs.Encoded.{spelled_once}
+use Rattle.kt_rle.proofs.laws.one_spelling.Goals as goal
+
+pub returns : goal.returns
+returns c = spelled_once

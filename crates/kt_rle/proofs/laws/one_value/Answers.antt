@@ -1,0 +1,5 @@
+use Rattle.kt_rle.proofs.Encoded.{spells_one}
+use Rattle.kt_rle.proofs.laws.one_value.Goals as goal
+
+pub returns : goal.returns
+returns c = spells_one

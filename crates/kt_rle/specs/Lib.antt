@@ -1,0 +1,4 @@
+pub mod Widths
+pub mod Runs
+pub mod Spelling
+pub mod Fault

@@ -1,0 +1,38 @@
+-- Runs of one number.
+use Rattle.std.specs.Prelude.{◌≢◌, ◌<◌, ◌+◌, ℕ, zero, suc, ℤ, List, [], ◌∷◌, ◌++◌, drop, replicate}
+use Rattle.std.specs.Int.{w32, to_le_bytes}
+use Rattle.byteorder.specs.Endian.{little_number}
+use Rattle.kt_rle.specs.declared.widths.Width.{Width}
+use Rattle.kt_rle.specs.Widths.{field_len, number, value, IsInWidth}
+
+-- a number, and how often it stands there
+pub record Run : Type 0 where
+  pub len : ℕ
+  pub value : ℤ
+
+-- the numbers of a run
+abbrev pub expand : Run → List ℤ
+expand r = replicate r.len r.value
+
+-- a run's length in four bytes, and its number
+abbrev pub run_bytes : Width → Run → List ℕ
+run_bytes w r = to_le_bytes w32 r.len ++ number w r.value
+
+-- how many bytes a run takes
+abbrev pub run_len : Width → ℕ
+run_len w = 4 + field_len w
+
+-- the first run, if any, has another number
+abbrev pub DiffersFirst : ℤ → List Run → Type 0
+DiffersFirst z [] = Unit {0}
+DiffersFirst z (r ∷ rs) = z ≢ r.value
+
+-- lengths are at least 1, the numbers are of the width, and neighbours differ
+abbrev pub AreRuns : Width → List Run → Type 0
+AreRuns w [] = Unit {0}
+AreRuns w (r ∷ rs) = (0 < r.len) × IsInWidth w r.value × DiffersFirst r.value rs × AreRuns w rs
+
+-- the lengths and numbers in the first fields
+abbrev pub runs_in : Width → ℕ → List ℕ → List Run
+runs_in w zero bytes = []
+runs_in w (suc k) bytes = (record { len = little_number 4 bytes; value = value w (drop 4 bytes) }) ∷ runs_in w k (drop (run_len w) bytes)
