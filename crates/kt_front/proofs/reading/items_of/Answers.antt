@@ -1,0 +1,31 @@
+use Rattle.std.proofs.Common.{◌≡◌, ◌++◌, ◌∷◌, [], subst, ap, ◌∙◌, List, ℕ, take, Ok}
+use Rattle.std.proofs.lemmas.Result.{err_from_is_err_and}
+use Rattle.kt_front.specs.Items.{last}
+use Rattle.kt_front.specs.Spelling.{base}
+use Rattle.kt_front.specs.Reading.{items_at, Stops, cell_at}
+use Rattle.kt_front.proofs.Cells.{last_push, take-base}
+use Rattle.kt_front.proofs.Loop.{goes_on, ends, is_done}
+use Rattle.kt_front.proofs.reading.items_of.Goals as goal
+
+pub returns-in_err-cell : goal.returns-in_err-cell
+returns-in_err-cell c =
+    let p = err_from_is_err_and c.from_residual.result c.from_residual.ensures.1 in
+    let b : base c.loop-i.i c.last.result.now ≡ base c.loop-i.i (last c.loop-i.items) = ap (base c.loop-i.i) c.last.ensures in
+    let stopped : Stops c.in_err-cell.field-0.0 (cell_at (base c.loop-i.i (last c.loop-i.items)) c.loop-i.rest.now) = subst (λ (w : List ℕ). Stops c.in_err-cell.field-0.0 (cell_at w c.loop-i.rest.now)) (c.base_of.ensures ∙ b) c.in_err-cell.ensures.read in
+    rw (p.1, p.2) (ends c.in_err-cell.field-0.0 c.loop-i.items c.args.n c.loop-i.i (last c.loop-i.items) c.loop-i.rest.now (items_at c.args.n 0 [] c.args.bytes.now) c.loop-i-test.true stopped c.loop-i.invariant)
+
+pub loop-i-preserved : goal.loop-i-preserved
+loop-i-preserved c =
+    let before = last c.loop-i.items in
+    let cell = c.in_ok-cell.cell in
+    let item : List ℕ = take cell.shared before ++ cell.rest.now in
+    let w : c.base_of.result.now ≡ base c.loop-i.i before = c.base_of.ensures ∙ ap (base c.loop-i.i) c.last.ensures in
+    let same : take cell.shared c.base_of.result.now ≡ take cell.shared before = ap (take cell.shared) w ∙ take-base cell.shared c.loop-i.i before (rw w at c.in_ok-cell.ensures.there) in
+    let read : cell_at (base c.loop-i.i before) c.loop-i.rest.now ≡ Ok (item, cell.after.now) = rw (← w) (c.in_ok-cell.ensures.read ∙ ap (λ (front : List ℕ). Ok (front ++ cell.rest.now, cell.after.now)) same) in
+    let go = goes_on c.loop-i.items c.args.n c.loop-i.i before c.loop-i.rest.now item cell.after.now (items_at c.args.n 0 [] c.args.bytes.now) c.loop-i-test.true read c.loop-i.invariant in
+    let new : c.push_behind.new.self ≡ c.loop-i.items ++ item ∷ [] = c.in_ok-push_behind.ensures.ok in
+    let new_last : last c.push_behind.new.self ≡ item = ap last new ∙ last_push c.loop-i.items item in
+    rw (new_last, new) go
+
+pub returns : goal.returns
+returns c = is_done c.loop-i.items c.args.n c.loop-i.i (last c.loop-i.items) c.loop-i.rest.now (items_at c.args.n 0 [] c.args.bytes.now) c.loop-i-test.false c.loop-i.invariant

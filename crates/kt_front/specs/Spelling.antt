@@ -1,0 +1,42 @@
+-- The one spelling of a list of byte lists.
+use Rattle.std.specs.Prelude.{ℕ, suc, ◌-◌, ◌%◌, ◌<◌, ◌^◌, List, [], ◌∷◌, ◌++◌, length, drop, nat_eq, ◌==◌, if◌then◌else◌}
+use Rattle.std.specs.List.{common_prefix_len}
+use Rattle.std.specs.Int.{w32, to_le_bytes}
+
+-- how many bytes two byte lists begin with alike
+abbrev pub shared : List ℕ → List ℕ → ℕ
+shared xs ys = common_prefix_len nat_eq xs ys
+
+-- What cell number i may share bytes with: the item before it. A stretch begins at each number
+-- divisible by 16, with nothing to share.
+abbrev pub base : ℕ → List ℕ → List ℕ
+base i before = if i % 16 == 0 then [] else before
+
+-- a number in four bytes, the low one first
+unfoldable pub number : ℕ → List ℕ
+number n = to_le_bytes w32 n
+
+-- a cell: how many bytes it shares, how many follow, and those
+unfoldable pub cell : List ℕ → List ℕ → List ℕ
+cell with item = number (shared with item) ++ number (length item - shared with item) ++ drop (shared with item) item
+
+-- the cells from number i on, behind this item
+abbrev pub cells : ℕ → List ℕ → List (List ℕ) → List ℕ
+cells i before [] = []
+cells i before (item ∷ items) = cell (base i before) item ++ cells (suc i) item items
+
+unfoldable pub spelling : List (List ℕ) → List ℕ
+spelling items = cells 0 [] items
+
+-- both numbers of a cell have room in their fields
+pub record CellFits (with item : List ℕ) : Type 0 where
+  pub shared_part : shared with item < 2 ^ 32
+  pub rest : length item - shared with item < 2 ^ 32
+
+abbrev pub AllFit : ℕ → List ℕ → List (List ℕ) → Type 0
+AllFit i before [] = Unit {0}
+AllFit i before (item ∷ items) = CellFits (base i before) item × AllFit (suc i) item items
+
+-- what has a spelling
+unfoldable pub Fits : List (List ℕ) → Type 0
+Fits items = AllFit 0 [] items

@@ -1,0 +1,121 @@
+//! Ordering an item against a key on the encoded bytes.
+
+ghost use Rattle.std.specs.Prelude.{◌≡◌, ◌≤◌, ◌<◌, ◌*◌, ◌+◌, ℕ, List, [], length, drop, get_or, IfOk, IfErr};
+ghost use Rattle.kt_front.specs.Spelling.{shared, spelling};
+ghost use Rattle.kt_front.specs.Reading.{Gives};
+ghost use Rattle.kt_front.specs.Walking as spec;
+ghost use Rattle.kt_front.specs.Walking.{fields_at, IsBlock, order};
+
+use crate::error::Stop;
+use crate::number::u32_at;
+use crate::prefix::{STRETCH, common_prefix};
+use std::cmp::Ordering;
+
+/// A cell as it stands: how many bytes it shares, the rest of its item, and the bytes behind it.
+#[derive(Clone, Copy)]
+pub struct Cell<'a> {
+    pub shared: usize,
+    pub rest: &'a [u8],
+    pub after: &'a [u8],
+}
+
+/// The cell at the front, as far as its lengths tell.
+#[tactic(auto, unfolding(crate::specs::Walking::fields_at))]
+pub fn next_cell(bytes: &[u8]) -> Result<Cell<'_>, Stop>
+    ensures read { Gives (λ c. record { shared = c.shared; rest = c.rest.now; after = c.after.now }) result (fields_at bytes.now) }
+    ensures within { IfOk result (λ c. length c.after.now ≤ length bytes.now) }
+    ensures missing { IfErr result (λ e. e ≡ Stop.Fault 0) }
+{
+    let (shared, rest) = u32_at(bytes)?;
+    let (len, rest) = u32_at(rest)?;
+    if rest.len() < len {
+        return Err(Stop::Fault { left: 0 });
+    }
+    let (rest, after) = rest.split_at(len);
+    Ok(Cell {
+        shared,
+        rest,
+        after,
+    })
+}
+
+/// The bytes behind the first `n` cells of a block.
+pub fn behind(bytes: &[u8], n: u32) -> &[u8]
+    ensures there { (items : List (List ℕ)) → IsBlock bytes.now items → n ≤ length items → result.now ≡ spec.behind n 0 [] items }
+    ensures within { length result.now ≤ length bytes.now }
+{
+    let mut rest = bytes;
+    for _ in 0..n {
+        let Ok(cell) = next_cell(rest) else {
+            return rest;
+        };
+        rest = cell.after;
+    }
+    rest
+}
+
+/// How far an item goes with a key, and how the two are ordered.
+#[derive(Clone, Copy)]
+struct Meeting {
+    matched: usize,
+    way: Ordering,
+}
+
+/// How an item meets a key, where both are these bytes behind a front that they have in common.
+fn meet(rest: &[u8], tail: &[u8]) -> Meeting
+    ensures alike { result.matched ≡ shared rest.now tail.now }
+    ensures way { result.way ≡ order rest.now tail.now }
+    ensures within { result.matched ≤ length tail.now }
+{
+    let matched = common_prefix(rest, tail);
+    let way = rest[matched..].cmp(&tail[matched..]);
+    Meeting { matched, way }
+}
+
+impl Meeting {
+    /// How the next item meets the key. Where it shares more with the one before than that one does
+    /// with the key, it meets the key as that one did.
+    fn next(self, cell: Cell<'_>, key: &[u8]) -> Meeting
+        requires { self.matched ≤ length key.now }
+        ensures near_alike { cell.entry.shared ≤ self.matched → result.matched ≡ cell.entry.shared + shared cell.entry.rest.now (drop cell.entry.shared key.now) }
+        ensures near_way { cell.entry.shared ≤ self.matched → result.way ≡ order cell.entry.rest.now (drop cell.entry.shared key.now) }
+        ensures far_alike { self.matched < cell.entry.shared → result.matched ≡ self.matched }
+        ensures far_way { self.matched < cell.entry.shared → result.way ≡ self.way }
+        ensures within { result.matched ≤ length key.now }
+    {
+        if cell.shared <= self.matched {
+            let met = meet(cell.rest, &key[cell.shared..]);
+            Meeting {
+                matched: cell.shared + met.matched,
+                way: met.way,
+            }
+        } else {
+            self
+        }
+    }
+}
+
+/// The order of item `k` and the key, in a block that begins with a stretch.
+pub fn order_in(bytes: &[u8], k: u32, key: &[u8]) -> Ordering
+    ensures { (items : List (List ℕ)) → IsBlock bytes.now items → k < length items → result ≡ order (get_or items k []) key.now }
+{
+    let mut rest = bytes;
+    let mut meeting = meet(&[], key);
+    for _ in 0..k as usize + 1 {
+        let Ok(cell) = next_cell(rest) else {
+            return meeting.way;
+        };
+        meeting = meeting.next(cell, key);
+        rest = cell.after;
+    }
+    meeting.way
+}
+
+/// The order of item `i` and the key. It goes over the lengths of the cells before the item's
+/// stretch; `compare_at` does not.
+pub fn compare(bytes: &[u8], i: u32, key: &[u8]) -> Ordering
+    ensures { (items : List (List ℕ)) → IsBlock bytes.now items → i < length items → result ≡ order (get_or items i []) key.now }
+{
+    let place = i % STRETCH;
+    order_in(behind(bytes, i - place), place, key)
+}

@@ -1,0 +1,40 @@
+//! From a list to its block.
+
+ghost use Rattle.std.specs.Prelude.{◌≡◌, ◌<◌, ◌^◌, ◌++◌, length, sum_by, OnOk, IfOk, IfErr};
+ghost use Rattle.kt_front.specs.Spelling.{cell, spelling, Fits};
+
+use crate::error::{CodecNo, Width};
+use crate::items::Items;
+use crate::octets::Octets;
+use crate::prefix::{base_of, common_prefix};
+use std::alloc::{AllocError, Global};
+
+#[tactic(auto, unfolding(crate::specs::Spelling::cell, crate::specs::Spelling::number))]
+fn put_cell(out: &mut Vec<u8>, with: &[u8], item: &[u8]) -> Result<(), AllocError>
+    requires { length item.now < 2 ^ 32 }
+    ensures { OnOk result (out.new.items ≡ out.old.items ++ cell with.now item.now) }
+{
+    let shared = common_prefix(with, item);
+    let rest = &item[shared..];
+    out.extend_from_slice(&(shared as u32).to_le_bytes())?;
+    out.extend_from_slice(&(rest.len() as u32).to_le_bytes())?;
+    out.extend_from_slice(rest)?;
+    Ok(())
+}
+
+/// The one spelling of the list.
+pub fn encode(alloc: Global, cells: &Items, width: Width) -> Result<Octets, CodecNo>
+    requires { sum_by length cells.now < 2 ^ 32 }
+    ensures ok { IfOk result (λ bytes. (bytes ≡ spelling cells.now) × Fits cells.now) }
+    ensures err { IfErr result (λ e. e ≡ CodecNo.Memory) }
+{
+    let Width::Bytes = width;
+    let mut out = Vec::new(alloc);
+    let mut before: &[u8] = &[];
+    for i in 0..cells.len() {
+        let item = cells.item(i);
+        put_cell(&mut out, base_of(i, before), item)?;
+        before = item;
+    }
+    Ok(Octets::from_vec(out))
+}
