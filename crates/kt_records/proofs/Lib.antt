@@ -1,0 +1,7 @@
+pub mod Taken
+pub mod Items
+pub mod Cells
+pub mod Operations
+pub mod Commits
+pub mod Records
+pub mod Lengths

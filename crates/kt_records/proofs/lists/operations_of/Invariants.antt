@@ -1,0 +1,6 @@
+use Rattle.std.proofs.Common.{◌≡◌, ◌-◌, []}
+use Rattle.kt_records.specs.Reading.{many_at, operation_at}
+use Rattle.kt_records.proofs.lists.operations_of.Given as goal
+
+abbrev pub invariant-ops : goal.invariant-ops
+invariant-ops l = many_at operation_at (l.count - l.counter) l.ops.items l.rest ≡ many_at operation_at l.count [] l.bytes

@@ -1,0 +1,181 @@
+-- Reading a record from left to right. A fault is told by how many bytes stand from its place to the end:
+-- none where bytes are missing, and all from its first byte on where a field is wrong.
+use Rattle.std.specs.Prelude.{◌≡◌, ℕ, zero, suc, ◌-◌, Bool, true, false, List, [], ◌∷◌, ◌++◌, length, take, drop, Result, Ok, Err, nat_lt, ◌==◌, if◌then◌else◌}
+use Rattle.std.specs.Int.{Width, w16, w32, w64, byte_len, from_le_bytes, cast_signed}
+use Rattle.kt_base.specs.declared.cell.Cell.{Cell}
+use Rattle.kt_base.specs.declared.cell.Cell.TheVariants as cells
+use Rattle.kt_history.specs.declared.change.Outcome.{Outcome}
+use Rattle.kt_history.specs.declared.change.Outcome.TheVariants.{Done, Present, Absent}
+use Rattle.kt_history.specs.declared.operation.OpKind.{OpKind}
+use Rattle.kt_history.specs.declared.operation.OpKind.TheVariants.{Insert, Upsert, Update, Delete}
+use Rattle.kt_history.specs.declared.operation.RowOp.{RowOp}
+use Rattle.kt_history.specs.declared.target.Target.{Target}
+use Rattle.kt_history.specs.declared.target.Target.TheVariants as stores
+use Rattle.kt_records.specs.declared.entry.CommitRow.{CommitRow}
+use Rattle.kt_records.specs.declared.entry.Entry.{Entry}
+use Rattle.kt_records.specs.declared.entry.Entry.TheVariants.{Replicate, Commit}
+use Rattle.kt_records.specs.declared.refusal.CodecNo.{CodecNo}
+use Rattle.kt_records.specs.declared.refusal.CodecNo.TheVariants as no
+use Rattle.kt_records.specs.declared.refusal.Stop.{Stop}
+use Rattle.kt_records.specs.declared.refusal.Stop.TheVariants as stop
+use Rattle.kt_records.specs.Rules.{next_id, may_list, has_key, may_change, may_hold}
+
+infixl 10 ◌>>=◌
+abbrev pub ◌>>=◌ : {A B : Type 0} → Result A ℕ → (A → Result B ℕ) → Result B ℕ
+(Ok x) >>= f = f x
+(Err left) >>= f = Err left
+
+-- what a function returned, seen by view, is what reading gives, unless memory ran out
+abbrev pub Fails : {Y : Type 0} → Stop → Result Y ℕ → Type 0
+Fails stop.Memory read = Unit {0}
+Fails (stop.Left left) read = read ≡ Err left
+
+abbrev pub Gives : {X Y : Type 0} → (X → Y) → Result X Stop → Result Y ℕ → Type 0
+Gives view (Ok x) read = read ≡ Ok (view x)
+Gives view (Err e) read = Fails e read
+
+-- A field is a value and the bytes after it.
+abbrev pub number_at : Width → List ℕ → Result (ℕ × List ℕ) ℕ
+number_at w bytes = if nat_lt (length bytes) (byte_len w) then Err 0 else Ok (from_le_bytes w (take (byte_len w) bytes), drop (byte_len w) bytes)
+
+-- so many bytes behind their count
+unfoldable pub bytes_at : List ℕ → Result (List ℕ × List ℕ) ℕ
+bytes_at bytes = do
+  n ← number_at w32 bytes
+  if nat_lt (length n.1) n.0 then Err 0 else Ok (take n.0 n.1, drop n.0 n.1)
+
+unfoldable pub flag_at : List ℕ → Result (Bool × List ℕ) ℕ
+flag_at [] = Err 0
+flag_at (zero ∷ rest) = Ok (false, rest)
+flag_at (suc zero ∷ rest) = Ok (true, rest)
+flag_at (suc (suc b) ∷ rest) = Err (suc (length rest))
+
+unfoldable pub cell_at : List ℕ → Result (Cell × List ℕ) ℕ
+cell_at [] = Err 0
+cell_at (zero ∷ rest) = Ok (cells.Null, rest)
+cell_at (suc zero ∷ rest) = do
+  b ← flag_at rest
+  Ok (cells.Bool b.0, b.1)
+cell_at (suc (suc zero) ∷ rest) = do
+  n ← number_at w64 rest
+  Ok (cells.Int (cast_signed w64 n.0), n.1)
+cell_at (suc (suc (suc zero)) ∷ rest) = do
+  text ← bytes_at rest
+  Ok (cells.Bytes text.0, text.1)
+cell_at (suc (suc (suc (suc b))) ∷ rest) = Err (suc (length rest))
+
+-- an id above those before it, and its cell
+unfoldable pub listed_cell_at : List (ℕ × Cell) → List ℕ → Result ((ℕ × Cell) × List ℕ) ℕ
+listed_cell_at front bytes = do
+  id ← number_at w16 bytes
+  if nat_lt id.0 (next_id front) then Err (length bytes) else do
+    c ← cell_at id.1
+    Ok ((id.0, c.0), c.1)
+
+-- so many items, each read behind those before it
+unfoldable pub many_at : {X : Type 0} → (List X → List ℕ → Result (X × List ℕ) ℕ) → ℕ → List X → List ℕ → Result (List X × List ℕ) ℕ
+many_at item zero front bytes = Ok (front, bytes)
+many_at item (suc n) front bytes = do
+  x ← item front bytes
+  many_at item n (front ++ x.0 ∷ []) x.1
+
+-- the cells of an operation of this kind
+unfoldable pub cell_list_at : OpKind → List ℕ → Result (List (ℕ × Cell) × List ℕ) ℕ
+cell_list_at kind bytes = do
+  n ← number_at w16 bytes
+  if may_list kind n.0 then many_at listed_cell_at n.0 [] n.1 else Err (length bytes)
+
+unfoldable pub kind_at : List ℕ → Result (OpKind × List ℕ) ℕ
+kind_at [] = Err 0
+kind_at (zero ∷ rest) = Err (suc (length rest))
+kind_at (suc zero ∷ rest) = Ok (Insert, rest)
+kind_at (suc (suc zero) ∷ rest) = Ok (Upsert, rest)
+kind_at (suc (suc (suc zero)) ∷ rest) = Ok (Update, rest)
+kind_at (suc (suc (suc (suc zero))) ∷ rest) = Ok (Delete, rest)
+kind_at (suc (suc (suc (suc (suc b)))) ∷ rest) = Err (suc (length rest))
+
+-- a key that none of these operations has
+unfoldable pub new_key_at : List RowOp → List ℕ → Result (List ℕ × List ℕ) ℕ
+new_key_at front bytes = do
+  n ← number_at w16 bytes
+  if nat_lt (length n.1) n.0 then Err 0 else (if has_key front (take n.0 n.1) then Err (length n.1) else Ok (take n.0 n.1, drop n.0 n.1))
+
+unfoldable pub operation_at : List RowOp → List ℕ → Result (RowOp × List ℕ) ℕ
+operation_at front bytes = do
+  kind ← kind_at bytes
+  key ← new_key_at front kind.1
+  cells ← cell_list_at kind.0 key.1
+  Ok (record { kind = kind.0; key = key.0; cells = cells.0 }, cells.1)
+
+unfoldable pub target_at : List ℕ → Result (Target × List ℕ) ℕ
+target_at [] = Err 0
+target_at (zero ∷ rest) = Err (suc (length rest))
+target_at (suc zero ∷ rest) = do
+  number ← number_at w64 rest
+  Ok (stores.Mem number.0, number.1)
+target_at (suc (suc zero) ∷ rest) = do
+  rowset ← number_at w64 rest
+  dms ← number_at w64 rowset.1
+  Ok (stores.Delta rowset.0 dms.0, dms.1)
+target_at (suc (suc (suc b)) ∷ rest) = Err (suc (length rest))
+
+unfoldable pub outcome_at : List ℕ → Result (Outcome × List ℕ) ℕ
+outcome_at [] = Err 0
+outcome_at (zero ∷ rest) = Ok (Done, rest)
+outcome_at (suc zero ∷ rest) = Ok (Present, rest)
+outcome_at (suc (suc zero) ∷ rest) = Ok (Absent, rest)
+outcome_at (suc (suc (suc b)) ∷ rest) = Err (suc (length rest))
+
+-- the stores that an operation of this outcome changed, behind their count
+unfoldable pub target_list_at : Outcome → List ℕ → Result (List Target × List ℕ) ℕ
+target_list_at outcome [] = Err 0
+target_list_at outcome (n ∷ rest) = if may_change outcome n then many_at (λ front. target_at) n [] rest else Err (suc (length rest))
+
+unfoldable pub commit_row_at : List ℕ → Result (CommitRow × List ℕ) ℕ
+commit_row_at bytes = do
+  outcome ← outcome_at bytes
+  targets ← target_list_at outcome.0 outcome.1
+  Ok (record { outcome = outcome.0; targets = targets.0 }, targets.1)
+
+unfoldable pub replicate_at : List ℕ → Result (Entry × List ℕ) ℕ
+replicate_at bytes = do
+  ts ← number_at w64 bytes
+  n ← number_at w16 ts.1
+  if may_hold n.0 then (do
+    ops ← many_at operation_at n.0 [] n.1
+    Ok (Replicate ts.0 ops.0, ops.1)) else Err (length ts.1)
+
+unfoldable pub commit_at : List ℕ → Result (Entry × List ℕ) ℕ
+commit_at bytes = do
+  ts ← number_at w64 bytes
+  n ← number_at w16 ts.1
+  rows ← many_at (λ front. commit_row_at) n.0 [] n.1
+  Ok (Commit ts.0 rows.0, rows.1)
+
+unfoldable pub entry_at : List ℕ → Result (Entry × List ℕ) ℕ
+entry_at [] = Err 0
+entry_at (zero ∷ rest) = Err (suc (length rest))
+entry_at (suc zero ∷ rest) = replicate_at rest
+entry_at (suc (suc zero) ∷ rest) = commit_at rest
+entry_at (suc (suc (suc b)) ∷ rest) = Err (suc (length rest))
+
+-- nothing stands behind the record
+unfoldable pub whole_at : List ℕ → Result Entry ℕ
+whole_at bytes = do
+  entry ← entry_at bytes
+  if length entry.1 == 0 then Ok entry.0 else Err (length entry.1)
+
+-- the offset of a fault among so many bytes
+abbrev pub with_offset : ℕ → Result Entry ℕ → Result Entry ℕ
+with_offset total (Ok entry) = Ok entry
+with_offset total (Err left) = Err (total - left)
+
+-- the record that all of the bytes spell, or the offset of the first fault
+abbrev pub record_of : List ℕ → Result Entry ℕ
+record_of bytes = with_offset (length bytes) (whole_at bytes)
+
+-- this was answered, unless memory ran out
+abbrev pub Answers : Result Entry CodecNo → Result Entry ℕ → Type 0
+Answers (Ok entry) read = read ≡ Ok entry
+Answers (Err (no.Place offset)) read = read ≡ Err offset
+Answers (Err no.Memory) read = Unit {0}

@@ -1,0 +1,64 @@
+-- The one spelling of each record. Numbers are little-endian.
+use Rattle.std.specs.Prelude.{ℕ, Bool, true, false, List, [], ◌∷◌, ◌++◌, length}
+use Rattle.std.specs.List.{flat_map}
+use Rattle.std.specs.Int.{w16, w32, w64, to_le_bytes, cast_unsigned}
+use Rattle.kt_base.specs.declared.cell.Cell.{Cell}
+use Rattle.kt_base.specs.declared.cell.Cell.TheVariants as cells
+use Rattle.kt_history.specs.declared.change.Outcome.{Outcome}
+use Rattle.kt_history.specs.declared.change.Outcome.TheVariants.{Done, Present, Absent}
+use Rattle.kt_history.specs.declared.operation.OpKind.{OpKind}
+use Rattle.kt_history.specs.declared.operation.OpKind.TheVariants.{Insert, Upsert, Update, Delete}
+use Rattle.kt_history.specs.declared.operation.RowOp.{RowOp}
+use Rattle.kt_history.specs.declared.target.Target.{Target}
+use Rattle.kt_history.specs.declared.target.Target.TheVariants as stores
+use Rattle.kt_records.specs.declared.entry.CommitRow.{CommitRow}
+use Rattle.kt_records.specs.declared.entry.Entry.{Entry}
+use Rattle.kt_records.specs.declared.entry.Entry.TheVariants.{Replicate, Commit}
+
+abbrev pub flag : Bool → ℕ
+flag false = 0
+flag true = 1
+
+-- a cell: what it is, and its value
+abbrev pub cell : Cell → List ℕ
+cell cells.Null = 0 ∷ []
+cell (cells.Bool b) = 1 ∷ flag b ∷ []
+cell (cells.Int n) = 2 ∷ to_le_bytes w64 (cast_unsigned w64 n)
+cell (cells.Bytes bytes) = 3 ∷ (to_le_bytes w32 (length bytes) ++ bytes)
+
+-- a column's id and its cell
+abbrev pub listed_cell : ℕ × Cell → List ℕ
+listed_cell c = to_le_bytes w16 c.0 ++ cell c.1
+
+-- their count, and the cells
+abbrev pub cell_list : List (ℕ × Cell) → List ℕ
+cell_list cells = to_le_bytes w16 (length cells) ++ flat_map listed_cell cells
+
+abbrev pub kind : OpKind → ℕ
+kind Insert = 1
+kind Upsert = 2
+kind Update = 3
+kind Delete = 4
+
+-- an operation: its kind, its key behind the key's length, and its cells
+abbrev pub operation : RowOp → List ℕ
+operation op = kind op.kind ∷ (to_le_bytes w16 (length op.key) ++ op.key ++ cell_list op.cells)
+
+abbrev pub outcome : Outcome → ℕ
+outcome Done = 0
+outcome Present = 1
+outcome Absent = 2
+
+-- a store that was changed
+abbrev pub target : Target → List ℕ
+target (stores.Mem number) = 1 ∷ to_le_bytes w64 number
+target (stores.Delta rowset dms) = 2 ∷ (to_le_bytes w64 rowset ++ to_le_bytes w64 dms)
+
+-- what became of an operation, and the count of the stores and the stores that it changed
+abbrev pub commit_row : CommitRow → List ℕ
+commit_row row = outcome row.outcome ∷ length row.targets ∷ flat_map target row.targets
+
+-- a record: which one it is, its timestamp, and what it lists behind their count
+abbrev pub spelling : Entry → List ℕ
+spelling (Replicate ts ops) = 1 ∷ (to_le_bytes w64 ts ++ to_le_bytes w16 (length ops) ++ flat_map operation ops)
+spelling (Commit ts rows) = 2 ∷ (to_le_bytes w64 ts ++ to_le_bytes w16 (length rows) ++ flat_map commit_row rows)

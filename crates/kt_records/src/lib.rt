@@ -1,0 +1,23 @@
+//! The two records of the log as bytes: a REPLICATE, which has a write's timestamp and operations, and a COMMIT,
+//! which says what became of each operation and which stores it changed.
+//!
+//! For the layers above: `spell` appends the one spelling of a record, and `read_record` answers a record exactly
+//! where its bytes are that spelling, or the place of the first fault. It stands on kt_base and kt_history.
+#![tactic(auto)]
+
+pub mod entry;
+mod fields;
+pub mod laws;
+mod lists;
+mod reading;
+pub mod refusal;
+mod tail;
+mod writing;
+
+pub use entry::{CommitRow, CommitRows, Entry, RecordList, TargetList};
+pub use reading::read_record;
+pub use refusal::CodecNo;
+pub use writing::spell;
+
+#[cfg(test)]
+mod tests;
