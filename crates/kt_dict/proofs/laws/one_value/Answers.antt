@@ -1,0 +1,5 @@
+use Rattle.kt_dict.proofs.Blocks.{one_list}
+use Rattle.kt_dict.proofs.laws.one_value.Goals as goal
+
+pub returns : goal.returns
+returns c = one_list

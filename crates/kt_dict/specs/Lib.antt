@@ -1,0 +1,4 @@
+pub mod Pieces
+pub mod Spelling
+pub mod Reading
+pub mod Writing

@@ -1,0 +1,26 @@
+use super::*;
+use std::test::Fail;
+
+const BLOCK: [u8; 18] = [2, 0, 1, 0, 0, 0, 97, 1, 0, 0, 0, 98, 0, 0, 1, 0, 0, 0];
+
+#[test]
+fn three_items(rt: HostRuntime) -> Result<(), Fail> {
+    let items = match decode(rt.alloc(), &BLOCK, 3, Width::Bytes) {
+        Ok(items) => items,
+        Err(_) => return Err("the block is refused".into()),
+    };
+    assert_eq!(rt; items.len(), 3);
+    assert_eq!(rt; get(&items, 1), b"b".as_slice());
+    Ok(())
+}
+
+#[test]
+fn second_entry_is_never_used(rt: HostRuntime) {
+    let bytes = [2, 0, 1, 0, 0, 0, 97, 1, 0, 0, 0, 98, 0, 0, 0, 0];
+    assert!(rt;
+        matches!(
+            decode(rt.alloc(), &bytes, 2, Width::Bytes),
+            Err(CodecNo::Place { offset: 14 })
+        )
+    );
+}

@@ -1,0 +1,87 @@
+//! From a list to its block.
+
+ghost use Rattle.std.specs.Prelude.{◌≡◌, ◌<◌, ◌≤◌, ◌^◌, ◌++◌, length, map, sum_by, OnOk, IfOk, IfErr};
+ghost use Rattle.std.specs.List.{All, flat_map};
+ghost use Rattle.kt_dict.specs.Spelling.{code, dictionary, entry, short, spelling, Fits};
+ghost use Rattle.kt_dict.specs.Writing.{IsRefusal};
+
+use crate::error::{CodecNo, NoMemory, Width};
+use crate::items::Items;
+use crate::octets::Octets;
+use crate::reading::MOST;
+use crate::table::{place_of, use_item};
+use indexmap::IndexSet;
+use std::alloc::{AllocError, Global};
+
+/// The different items, in the order of their first use.
+fn table_of(alloc: Global, cells: &Items) -> Result<IndexSet<&[u8]>, NoMemory>
+    ensures { IfOk result (λ table. map (λ k. k.now) table.keys ≡ dictionary cells.now) }
+{
+    let mut table = IndexSet::new(alloc);
+    for i in 0..cells.len() {
+        use_item(&mut table, cells.item(i))?;
+    }
+    Ok(table)
+}
+
+#[tactic(auto, unfolding(crate::specs::Spelling::entry, crate::specs::Spelling::number))]
+fn put_entry(out: &mut Vec<u8>, bytes: &[u8]) -> Result<(), AllocError>
+    requires { length bytes.now < 2 ^ 32 }
+    ensures { OnOk result (out.new.items ≡ out.old.items ++ entry bytes.now) }
+{
+    out.extend_from_slice(&(bytes.len() as u32).to_le_bytes())?;
+    out.extend_from_slice(bytes)?;
+    Ok(())
+}
+
+#[tactic(auto, unfolding(crate::specs::Spelling::short))]
+fn put_short(out: &mut Vec<u8>, n: usize) -> Result<(), AllocError>
+    requires { n < 2 ^ 16 }
+    ensures { OnOk result (out.new.items ≡ out.old.items ++ short n) }
+{
+    out.extend_from_slice(&(n as u16).to_le_bytes())?;
+    Ok(())
+}
+
+fn put_entries(out: &mut Vec<u8>, entries: &[&[u8]]) -> Result<(), AllocError>
+    requires { All (λ x. length x.now < 2 ^ 32) entries.now }
+    ensures { OnOk result (out.new.items ≡ out.old.items ++ flat_map entry (map (λ k. k.now) entries.now)) }
+{
+    for bytes in entries {
+        put_entry(out, bytes)?;
+    }
+    Ok(())
+}
+
+fn put_codes(out: &mut Vec<u8>, table: &IndexSet<&[u8]>, cells: &Items) -> Result<(), AllocError>
+    requires { length (map (λ k. k.now) table.now.keys) ≤ 4096 }
+    ensures { OnOk result (out.new.items ≡ out.old.items ++ flat_map (code (map (λ k. k.now) table.now.keys)) cells.now) }
+{
+    for i in 0..cells.len() {
+        put_short(out, place_of(table, cells.item(i)))?;
+    }
+    Ok(())
+}
+
+/// The one spelling of the list.
+pub fn encode(alloc: Global, cells: &Items, width: Width) -> Result<Octets, CodecNo>
+    requires few { length cells.now < 2 ^ 32 }
+    requires small { sum_by length cells.now < 2 ^ 32 }
+    ensures ok { IfOk result (λ bytes. (bytes ≡ spelling cells.now) × Fits cells.now) }
+    // Too many different items, or no memory.
+    ensures refused { IfErr result (λ e. IsRefusal cells.now e) }
+{
+    let Width::Bytes = width;
+    let table = table_of(alloc, cells)?;
+    let count = table.len();
+    if count > MOST {
+        return Err(CodecNo::TooMany {
+            count: count as u32,
+        });
+    }
+    let mut out = Vec::new(alloc);
+    put_short(&mut out, count)?;
+    put_entries(&mut out, table.as_slice())?;
+    put_codes(&mut out, &table, cells)?;
+    Ok(Octets::from_vec(out))
+}
