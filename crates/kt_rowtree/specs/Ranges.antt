@@ -1,5 +1,5 @@
 -- Which rowsets hold a key.
-use Rattle.std.specs.Prelude.{◌≡◌, ◌≢◌, ℕ, ◌<◌, ◌≤◌, Bool, true, ◌&&◌, List, [], map, length, get_or, Option, MatchOption}
+use Rattle.std.specs.Prelude.{◌≡◌, ℕ, ◌<◌, ◌≤◌, Bool, true, ◌&&◌, List, [], map, length, get_or, Option, MatchOption}
 use Rattle.kt_rowtree.specs.Ids.{Ids}
 use Rattle.std.specs.List.{filter, All}
 use Rattle.std.specs.List.Sorted.{IsPermutation, IsSorted}

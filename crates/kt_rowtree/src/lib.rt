@@ -9,4 +9,6 @@ pub use tree::RowTree;
 
 pub mod lists;
 mod search;
+#[cfg(test)]
+mod tests;
 pub mod tree;

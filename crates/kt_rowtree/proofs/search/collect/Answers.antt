@@ -1,6 +1,5 @@
-use Rattle.std.proofs.Common.{arith, sym, ap, ◌∙◌, ◌-◌, ◌++◌, ◌∷◌, [], ◌<◌, ◌≤◌, length, take, drop, vec_len, reverse}
+use Rattle.std.proofs.Common.{arith, sym, ◌∙◌, ◌-◌, ◌++◌, ◌∷◌, [], ◌<◌, vec_len}
 use Rattle.std.specs.Vec.{vec_capacity}
-use Rattle.kt_rowtree.specs.Ranges.{holders_of}
 use Rattle.kt_rowtree.proofs.Found.{found_more, found_room, found_skip, found_all, push_fits}
 use Rattle.kt_rowtree.proofs.search.collect.Goals as goal
 

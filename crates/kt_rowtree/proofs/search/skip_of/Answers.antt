@@ -1,5 +1,4 @@
-use Rattle.std.proofs.Common.{arith, sym, ap, ◌∙◌, ◌≡◌, get_or}
-use Rattle.kt_rowtree.specs.Ranges.{is_upto}
+use Rattle.std.proofs.Common.{sym, ap, ◌∙◌, ◌≡◌, get_or}
 use Rattle.kt_rowtree.specs.declared.lists.Range.{Range}
 use Rattle.kt_rowtree.proofs.Found.{skip_last, skip_back, read_at}
 use Rattle.kt_rowtree.proofs.search.skip_of.Goals as goal
