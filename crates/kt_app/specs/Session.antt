@@ -1,0 +1,87 @@
+-- One session alone, its commands one after another.
+use Rattle.std.specs.Prelude.{◌≡◌, ℕ, suc, ◌≤◌, List, [], ◌∷◌, ◌++◌, length, map, None, false}
+use Rattle.std.specs.List.{AllByRecursion}
+use Rattle.std.specs.Int.{w64}
+use Rattle.kt_base.specs.declared.cell.Cell.{Cell}
+use Rattle.kt_base.specs.declared.cell.Cell.TheVariants as cell
+use Rattle.kt_base.specs.Keys.{number_of_key}
+use Rattle.kt_history.specs.declared.command.Command.{Command}
+use Rattle.kt_history.specs.declared.command.Command.TheVariants as command
+use Rattle.kt_history.specs.declared.operation.OpKind.TheVariants.{Insert}
+use Rattle.kt_history.specs.declared.operation.RowOp.{RowOp}
+use Rattle.kt_history.specs.declared.scan.At.TheVariants.{Looked}
+use Rattle.kt_history.specs.declared.event.Event.{Event}
+use Rattle.kt_history.specs.declared.event.Event.TheVariants as event
+use Rattle.kt_history.specs.declared.reply.Reply.{Reply}
+use Rattle.kt_history.specs.declared.reply.Reply.TheVariants as reply
+use Rattle.kt_history.specs.Rows.{Rows, Row, changed}
+use Rattle.kt_history.specs.History.{Past, rows_at}
+use Rattle.kt_history.specs.Operations.{changes_on, outcomes_on}
+use Rattle.kt_history.specs.Machine.{Workload, State, next_timestamp}
+use Rattle.kt_history.specs.Replies.{shown}
+use Rattle.kt_script.specs.declared.lists.ShownReply.{ShownReply}
+use Rattle.kt_app.specs.Headline.{kinds_shown}
+
+-- a command of the form that is taken: a write of one insert, or a scan of the present
+abbrev pub IsTaken : Command → Type 0
+IsTaken (command.Write w) = (op : RowOp) × (w.ops ≡ op ∷ []) × (op.kind ≡ Insert) × (length op.key ≡ 8) × (text : List ℕ) × (op.cells ≡ (2, cell.Bytes text) ∷ []) × (length text ≤ 65536)
+IsTaken (command.Scan scan) = (scan.at ≡ Looked) × (scan.columns ≡ None) × (scan.preds ≡ [])
+IsTaken (command.Mark t) = ⊥
+IsTaken (command.Chore chore) = ⊥
+
+-- each command is taken
+abbrev pub AreTaken : List Command → Type 0
+AreTaken commands = AllByRecursion IsTaken commands
+
+-- the lines of the i-th command, where c is the last timestamp and the clock reads m
+abbrev pub turn_lines : Command → ℕ → ℕ → ℕ → List Event
+turn_lines (command.Write w) c i m = event.Begin 1 i (next_timestamp c m) m ∷ event.End 1 i (next_timestamp c m) ∷ []
+turn_lines (command.Scan scan) c i m = event.Look 1 i (next_timestamp c m) m ∷ event.Rows 1 i (next_timestamp c m) ∷ []
+turn_lines _ c i m = []
+
+-- the rows that it leaves
+abbrev pub turn_rows : Workload → Command → Rows → Rows
+turn_rows work (command.Write w) rows = changed (changes_on work.fill rows w.ops) rows
+turn_rows work _ rows = rows
+
+-- its reply
+abbrev pub turn_reply : Workload → Command → Rows → ℕ → Reply
+turn_reply work (command.Write w) rows t = reply.At t (outcomes_on work.fill rows w.ops)
+turn_reply work (command.Scan scan) rows t = reply.Rows t (shown work.keys scan rows)
+turn_reply work _ rows t = reply.Stopped
+
+-- its reply with the kinds of its columns
+abbrev pub turn_shown : Workload → Command → Rows → ℕ → ShownReply
+turn_shown work command rows t = record { kinds = kinds_shown work command; reply = turn_reply work command rows t }
+
+-- the lines of commands one after another, with a reading for each
+abbrev pub lines_from : List Command → ℕ → ℕ → List ℕ → List Event
+lines_from [] c i readings = []
+lines_from (x ∷ commands) c i [] = []
+lines_from (x ∷ commands) c i (m ∷ readings) = turn_lines x c i m ++ lines_from commands (next_timestamp c m) (suc i) readings
+
+-- their replies
+abbrev pub replies_from : Workload → List Command → Rows → ℕ → List ℕ → List ShownReply
+replies_from work [] rows c readings = []
+replies_from work (x ∷ commands) rows c [] = []
+replies_from work (x ∷ commands) rows c (m ∷ readings) = turn_shown work x rows (next_timestamp c m) ∷ replies_from work commands (turn_rows work x rows) (next_timestamp c m) readings
+
+-- the last timestamp
+abbrev pub last_from : ℕ → List ℕ → ℕ
+last_from c [] = c
+last_from c (m ∷ readings) = last_from (next_timestamp c m) readings
+
+-- nothing flies, and the one session is at its i-th command
+abbrev pub at_rest : Past → ℕ → ℕ → State
+at_rest past c i = record { past = past; a = 0; c = c; flying = []; turns = record { next = i; look = None } ∷ []; stopped = false }
+
+-- from the last timestamp on these are the rows
+abbrev pub Shows : Past → ℕ → Rows → Type 0
+Shows past c rows = (t : ℕ) → c ≤ t → rows_at past t ≡ rows
+
+-- a row whose key is a number, with all its cells
+abbrev pub number_row : List ℕ × Row → List Cell
+number_row row = cell.Int (number_of_key w64 row.0) ∷ map (λ c. c.1) row.1
+
+abbrev pub number_rows : Rows → List (List Cell)
+number_rows rows = map number_row rows

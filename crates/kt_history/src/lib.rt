@@ -1,0 +1,26 @@
+//! The tablet as a machine: what changes do to rows, what a history is, which lines may come next, and the
+//! reply that each line gives. The types are the plain values that contracts speak of.
+//!
+//! For the layers above: the definitions in `specs/`, and the laws of `laws` over them. It stands on kt_base.
+#![tactic(auto)]
+
+pub mod change;
+pub mod changes;
+pub mod command;
+pub mod effect;
+pub mod event;
+pub mod laws;
+pub mod operation;
+pub mod reply;
+pub mod scan;
+pub mod target;
+
+pub use change::{Change, Outcome};
+pub use changes::{ChangeList, Delta, DeltaList, KeyChange};
+pub use command::{Command, Plan, Session};
+pub use effect::{apply, outcome, undo_of};
+pub use event::{Event, EventList};
+pub use operation::{OpKind, OpList, RowOp, Write};
+pub use reply::{OutcomeList, Reply, RowList};
+pub use scan::{At, ColumnIds, Pred, PredList, Scan, Test};
+pub use target::{Kindly, Target};

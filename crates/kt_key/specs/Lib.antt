@@ -1,0 +1,5 @@
+pub mod Fit
+pub mod Spelling
+pub mod Reading
+pub mod Order
+pub mod Parts

@@ -1,0 +1,9 @@
+pub mod Words
+pub mod Strings
+pub mod Numbers
+pub mod Lines
+pub mod Cuts
+pub mod InLine
+pub mod Readback
+pub mod Outputs
+pub mod Plans

@@ -1,0 +1,7 @@
+use Rattle.std.proofs.Common.{◌≡◌, ◌++◌, map, take}
+use Rattle.std.specs.List.{flat_map}
+use Rattle.kt_script.specs.Texts.{line, row_text}
+use Rattle.kt_script.proofs.output.print_rows.Given as goal
+
+abbrev pub invariant-loop-row : goal.invariant-loop-row
+invariant-loop-row l = l.out ≡ l.fn.out ++ flat_map line (map (row_text l.kinds) (take l.row-index l.rows))

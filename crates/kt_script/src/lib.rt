@@ -1,0 +1,20 @@
+//! Texts: what a script spells, and what is printed of a run. A text is cut into lines first, and each line is
+//! read by itself.
+//!
+//! For the layers above: `read_plan` answers a plan exactly where the text spells it, and `print_output` appends
+//! the one text of the replies, the history and the last line. It stands on kt_base and kt_history.
+#![tactic(auto)]
+
+pub mod form;
+pub mod laws;
+pub mod lists;
+pub mod literal;
+pub mod output;
+pub mod refusal;
+#[cfg(test)]
+mod tests;
+
+pub use form::read_plan;
+pub use lists::{KindList, ReplyList, ReplyLists, ShownReply};
+pub use output::{LastLine, print_output};
+pub use refusal::ScriptNo;

@@ -1,0 +1,229 @@
+//! The output of a run: the replies of each session, the history and the last line.
+
+ghost use Rattle.std.specs.Prelude.{◌≡◌, ◌≤◌, ◌+◌, ◌<◌, ◌^◌, ◌++◌, ◌∷◌, [], OnOk, OnErr, length, map, codes};
+ghost use Rattle.std.specs.List.{flat_map};
+ghost use Rattle.std.specs.Fmt.{decimal};
+ghost use Rattle.kt_script.specs.Texts.{line, words, literals, row_text, outcome_word, reply_words, reply_text, session_text, sessions_text, event_line, last_text, output_text};
+
+use crate::lists::{ReplyLists, ShownReply};
+use crate::literal::{print_literal, print_number};
+use kt_base::{Cell, Kind, NoMemory, Octets, Row};
+use kt_history::{Event, EventList, Outcome, Reply};
+use std::alloc::Global;
+
+/// The end of the output: the ancient history mark, the last timestamp and the count of disk rowsets, or that
+/// the run was stopped.
+#[derive(Clone, Copy, Debug, PartialEq, Eq)]
+pub enum LastLine {
+    Numbers { a: u64, c: u64, rowsets: u64 },
+    Stopped,
+}
+
+fn print_words(word: &[u8], numbers: &[u64], out: &mut Octets) -> Result<(), NoMemory>
+    ensures ok { OnOk result (out.new ≡ out.old ++ words (word.now ∷ map decimal numbers.now)) }
+{
+    out.extend(word)?;
+    for number in numbers {
+        out.push(b' ')?;
+        print_number(*number, out)?;
+    }
+    Ok(())
+}
+
+fn print_line(word: &[u8], numbers: &[u64], out: &mut Octets) -> Result<(), NoMemory>
+    ensures ok { OnOk result (out.new ≡ out.old ++ line (words (word.now ∷ map decimal numbers.now))) }
+{
+    print_words(word, numbers, out)?;
+    out.push(b'\n')
+}
+
+fn print_event(event: &Event, out: &mut Octets) -> Result<(), NoMemory>
+    ensures ok { OnOk result (out.new ≡ out.old ++ event_line event.now) }
+{
+    match *event {
+        Event::Begin { s, i, ts, m } => {
+            print_line(b"begin", &[u64::from(s), u64::from(i), ts, m], out)
+        }
+        Event::End { s, i, ts } => print_line(b"end", &[u64::from(s), u64::from(i), ts], out),
+        Event::Look { s, i, t, m } => {
+            print_line(b"look", &[u64::from(s), u64::from(i), t, m], out)
+        }
+        Event::Rows { s, i, t } => print_line(b"rows", &[u64::from(s), u64::from(i), t], out),
+        Event::Ancient { s, i, t, a } => {
+            print_line(b"ancient", &[u64::from(s), u64::from(i), t, a], out)
+        }
+        Event::Busy { s, i, t, f } => {
+            print_line(b"busy", &[u64::from(s), u64::from(i), t, f], out)
+        }
+        Event::Mark { s, i, a } => print_line(b"mark", &[u64::from(s), u64::from(i), a], out),
+        Event::Chore { s, i } => print_line(b"chore", &[u64::from(s), u64::from(i)], out),
+        Event::Large { s, i, n } => {
+            print_line(b"large", &[u64::from(s), u64::from(i), u64::from(n)], out)
+        }
+        Event::Stop => print_line(b"stop", &[], out),
+    }
+}
+
+fn print_events(events: &[Event], out: &mut Octets) -> Result<(), NoMemory>
+    ensures ok { OnOk result (out.new ≡ out.old ++ flat_map event_line events.now) }
+{
+    for event in events {
+        print_event(event, out)?;
+    }
+    Ok(())
+}
+
+fn print_last(last: &LastLine, out: &mut Octets) -> Result<(), NoMemory>
+    ensures ok { OnOk result (out.new ≡ out.old ++ last_text last.now) }
+{
+    match *last {
+        LastLine::Numbers { a, c, rowsets } => {
+            print_words(b"tablet ahm", &[a], out)?;
+            print_words(b" last", &[c], out)?;
+            print_line(b" rowsets", &[rowsets], out)
+        }
+        LastLine::Stopped => out.extend(b"tablet stopped\n"),
+    }
+}
+
+fn print_cells(kinds: &[Kind], cells: &[Cell], out: &mut Octets) -> Result<(), NoMemory>
+    requires { length cells.now ≤ length kinds.now }
+    ensures ok { OnOk result (out.new ≡ out.old ++ row_text kinds.now cells.now) }
+{
+    for (at, cell) in cells.iter().enumerate() {
+        if at > 0 {
+            out.push(b' ')?;
+        }
+        print_literal(kinds[at], cell, out)?;
+    }
+    Ok(())
+}
+
+// The cells that have a column.
+fn fitting<'a>(kinds: &[Kind], cells: &'a [Cell]) -> &'a [Cell]
+    ensures short { length result.now ≤ length kinds.now }
+    ensures same { literals kinds.now result.now ≡ literals kinds.now cells.now }
+{
+    if cells.len() <= kinds.len() {
+        cells
+    } else {
+        &cells[..kinds.len()]
+    }
+}
+
+fn print_row(kinds: &[Kind], row: &Row, out: &mut Octets) -> Result<(), NoMemory>
+    ensures ok { OnOk result (out.new ≡ out.old ++ line (row_text kinds.now row.now)) }
+{
+    print_cells(kinds, fitting(kinds, row.as_slice()), out)?;
+    out.push(b'\n')
+}
+
+fn print_rows(kinds: &[Kind], rows: &[Row], out: &mut Octets) -> Result<(), NoMemory>
+    ensures ok { OnOk result (out.new ≡ out.old ++ flat_map line (map (row_text kinds.now) rows.now)) }
+{
+    for row in rows {
+        print_row(kinds, row, out)?;
+    }
+    Ok(())
+}
+
+fn print_outcome(outcome: Outcome, out: &mut Octets) -> Result<(), NoMemory>
+    ensures ok { OnOk result (out.new ≡ out.old ++ 32 ∷ outcome_word outcome) }
+{
+    match outcome {
+        Outcome::Done => out.extend(b" ok"),
+        Outcome::Present => out.extend(b" present"),
+        Outcome::Absent => out.extend(b" absent"),
+    }
+}
+
+fn print_at(ts: u64, outcomes: &[Outcome], out: &mut Octets) -> Result<(), NoMemory>
+    ensures ok { OnOk result (out.new ≡ out.old ++ line (words (codes "at" ∷ decimal ts ∷ map outcome_word outcomes.now))) }
+{
+    print_words(b"at", &[ts], out)?;
+    for outcome in outcomes {
+        print_outcome(*outcome, out)?;
+    }
+    out.push(b'\n')
+}
+
+// The first line of a reply.
+fn print_first(reply: &Reply, out: &mut Octets) -> Result<(), NoMemory>
+    ensures ok { OnOk result (out.new ≡ out.old ++ line (words (reply_words reply.now))) }
+{
+    match reply {
+        Reply::At { ts, outcomes } => print_at(*ts, outcomes.as_slice(), out),
+        Reply::Rows { t, rows } => print_line(b"rows", &[*t, rows.as_slice().len() as u64], out),
+        Reply::Ancient { t, a } => print_line(b"ancient", &[*t, *a], out),
+        Reply::Busy { t, f } => print_line(b"busy", &[*t, *f], out),
+        Reply::Ahm { a } => print_line(b"ahm", &[*a], out),
+        Reply::Done => print_line(b"done", &[], out),
+        Reply::Large { n } => print_line(b"large", &[u64::from(*n)], out),
+        Reply::Stopped => print_line(b"stopped", &[], out),
+    }
+}
+
+fn print_reply(shown: &ShownReply, out: &mut Octets) -> Result<(), NoMemory>
+    ensures ok { OnOk result (out.new ≡ out.old ++ reply_text shown.now) }
+{
+    print_first(&shown.reply, out)?;
+    match &shown.reply {
+        Reply::Rows { rows, .. } => print_rows(shown.kinds.as_slice(), rows.as_slice(), out),
+        _ => Ok(()),
+    }
+}
+
+fn print_replies(replies: &[ShownReply], out: &mut Octets) -> Result<(), NoMemory>
+    ensures ok { OnOk result (out.new ≡ out.old ++ flat_map reply_text replies.now) }
+{
+    for reply in replies {
+        print_reply(reply, out)?;
+    }
+    Ok(())
+}
+
+fn print_session(number: u64, replies: &[ShownReply], out: &mut Octets) -> Result<(), NoMemory>
+    ensures ok { OnOk result (out.new ≡ out.old ++ session_text number replies.now) }
+{
+    print_line(b"session", &[number], out)?;
+    print_replies(replies, out)
+}
+
+fn print_sessions(sessions: &ReplyLists, out: &mut Octets) -> Result<(), NoMemory>
+    ensures ok { OnOk result (out.new ≡ out.old ++ sessions_text 1 sessions.now) }
+{
+    for (at, session) in sessions.as_slice().iter().enumerate() {
+        print_session(at as u64 + 1, session.as_slice(), out)?;
+    }
+    Ok(())
+}
+
+fn print_all(
+    sessions: &ReplyLists,
+    events: &EventList,
+    last: &LastLine,
+    out: &mut Octets,
+) -> Result<(), NoMemory>
+    ensures ok { OnOk result (out.new ≡ out.old ++ output_text sessions.now events.now last.now) }
+{
+    print_sessions(sessions, out)?;
+    out.extend(b"history\n")?;
+    print_events(events.as_slice(), out)?;
+    print_last(last, out)
+}
+
+/// Appends the output text. Without memory nothing is appended.
+pub fn print_output(
+    alloc: Global,
+    sessions: &ReplyLists,
+    events: &EventList,
+    last: &LastLine,
+    out: &mut Octets,
+) -> Result<(), NoMemory>
+    ensures ok { OnOk result (out.new ≡ out.old ++ output_text sessions.now events.now last.now) }
+    ensures err { OnErr result (out.new ≡ out.old) }
+{
+    let mut text = Octets::new(alloc);
+    print_all(sessions, events, last, &mut text)?;
+    out.extend(text.as_slice())
+}

@@ -1,0 +1,6 @@
+table
+column id int64 key
+column v string
+session
+insert 1 "a"
+insert 1 "a"
