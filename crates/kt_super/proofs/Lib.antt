@@ -1,0 +1,13 @@
+pub mod Loops
+pub mod Numbers
+pub mod RowsetLaws
+pub mod ColumnLaws
+pub mod BodyLaws
+pub mod RowsetTakes
+pub mod ColumnTakes
+pub mod BodyTakes
+pub mod Closing
+pub mod Moves
+pub mod Supers
+pub mod Prepares
+pub mod Appends

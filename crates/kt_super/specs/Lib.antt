@@ -1,0 +1,6 @@
+pub mod Reading
+pub mod Columns
+pub mod Rowsets
+pub mod Body
+pub mod Slots
+pub mod Told

@@ -1,0 +1,24 @@
+//! The superblock in its two slots: reading it, preparing the next one, and opening its gate.
+//!
+//! For the layers above: `load` tells the superblock of the disk and makes both slots stable. A crash at any moment of
+//! `prepare` leaves the old superblock, at any moment of `open_gate` the old one or the new, and each leaves all files
+//! but the slot as they were. It stands on `kt_disk` and `kt_schema`.
+#![tactic(auto)]
+
+mod body;
+mod columns;
+mod fields;
+mod gate;
+mod loading;
+pub mod meta;
+mod preparing;
+pub mod refusal;
+mod rowsets;
+mod slot;
+mod spell;
+
+pub use gate::open_gate;
+pub use loading::load;
+pub use meta::{FileRef, FileRefs, Meta, MetaRowset, MetaRowsets, Prepared};
+pub use preparing::prepare;
+pub use refusal::{BodyNo, Fault, Place, PrepareNo, SuperNo};

@@ -1,0 +1,103 @@
+//! Reading the superblock of a disk.
+ghost use Rattle.std.specs.Prelude.{◌≡◌, ◌≢◌, ◌≤◌, ℕ, IsTrue, Ok, Err, IfOk, OnOk, IfSome};
+ghost use Rattle.kt_super.specs.Body.{IsMeta};
+ghost use Rattle.kt_base.specs.Causes.{Rose, HasCause};
+ghost use Rattle.kt_disk.specs.Disk.{held, Same, Turns};
+ghost use Rattle.kt_super.specs.Slots.{newer, super_of, slot_at, AreStable};
+ghost use Rattle.kt_super.specs.Told.{TellsOf};
+
+use crate::slot::{SlotNo, slot_of};
+use crate::{Meta, SuperNo};
+use kt_base::Failed;
+use kt_disk::Disk;
+use std::alloc::Global;
+
+// Makes both slots stable.
+fn steady<D: Disk>(disk: &mut D) -> Result<(), Failed>
+    ensures stable { OnOk result (IsTrue D.tells → AreStable D.seen D.now D.leaves disk.new) }
+    ensures seen { OnOk result (IsTrue D.tells → D.seen disk.new ≡ D.seen disk.old) }
+    ensures others { IsTrue D.tells → (n : ℕ) → n ≢ 1 → n ≢ 2 → D.seen disk.new n ≡ D.seen disk.old n }
+    ensures images { IsTrue D.tells → Turns D.now D.leaves Same disk.old disk.new }
+    ensures cause { HasCause (D.faults disk.old) (D.faults disk.new) result }
+{
+    disk.sync(1)?;
+    disk.sync(2)?;
+    Ok(())
+}
+
+// All bytes of a slot.
+fn slot_bytes<D: Disk>(alloc: Global, disk: &mut D, slot: u64) -> Result<Vec<u8>, SuperNo>
+    ensures bytes { IfOk result (λ bytes. IsTrue D.tells → bytes.items ≡ held (D.seen disk.old) slot) }
+    ensures seen { IsTrue D.tells → D.seen disk.new ≡ D.seen disk.old }
+    ensures images { IsTrue D.tells → Turns D.now D.leaves Same disk.old disk.new }
+    ensures place { (at offset : _) → result ≡ Err (SuperNo.Place at offset) → ⊥ }
+    ensures fault { result ≡ Err SuperNo.Fault → Rose (D.faults disk.old) (D.faults disk.new) }
+    ensures faults { D.faults disk.old ≤ D.faults disk.new }
+{
+    let len = disk.len(slot)?;
+    let mut bytes = vec![in alloc; 0; len as usize]?;
+    disk.read(slot, 0, bytes.as_mut_slice())?;
+    Ok(bytes)
+}
+
+// What a slot tells.
+fn slot_told<D: Disk>(alloc: Global, disk: &mut D, slot: u64) -> Result<Option<Meta>, SuperNo>
+    ensures rules { IfOk result (λ found. IfSome found IsMeta) }
+    ensures told { IsTrue D.tells → TellsOf slot result (slot_at slot (held (D.seen disk.old) slot)) }
+    ensures seen { IsTrue D.tells → D.seen disk.new ≡ D.seen disk.old }
+    ensures images { IsTrue D.tells → Turns D.now D.leaves Same disk.old disk.new }
+    ensures fault { result ≡ Err SuperNo.Fault → Rose (D.faults disk.old) (D.faults disk.new) }
+    ensures faults { D.faults disk.old ≤ D.faults disk.new }
+{
+    let bytes = slot_bytes(alloc, disk, slot)?;
+    match slot_of(alloc, slot, bytes.as_slice()) {
+        Ok(found) => Ok(found),
+        Err(SlotNo::Memory) => Err(SuperNo::Memory),
+        Err(SlotNo::At(offset)) => Err(SuperNo::Place { slot, offset }),
+    }
+}
+
+fn newer(one: Option<Meta>, two: Option<Meta>) -> Option<Meta>
+    requires one { IfSome one IsMeta }
+    requires two { IfSome two IsMeta }
+    ensures value { result ≡ newer one two }
+    ensures rules { IfSome result IsMeta }
+{
+    match (one, two) {
+        (None, two) => two,
+        (Some(one), None) => Some(one),
+        (Some(one), Some(two)) => {
+            if one.number < two.number {
+                Some(two)
+            } else {
+                Some(one)
+            }
+        }
+    }
+}
+
+/// The superblock of a disk, none where no slot is open. Both slots are stable then.
+pub fn load<D: Disk>(alloc: Global, disk: &mut D) -> Result<Option<Meta>, SuperNo>
+    // The superblock of the disk as it read before.
+    ensures found { IfOk result (λ found. IsTrue D.tells → super_of (D.seen disk.old) ≡ Ok found) }
+
+    ensures rules { IfOk result (λ found. IfSome found IsMeta) }
+
+    // An open slot is not in the grammar, and here is its first fault, that of slot 1 first.
+    ensures place { (slot offset : _) → result ≡ Err (SuperNo.Place slot offset) → IsTrue D.tells → super_of (D.seen disk.old) ≡ Err (record { slot = slot; offset = offset }) }
+
+    ensures stable { OnOk result (IsTrue D.tells → AreStable D.seen D.now D.leaves disk.new) }
+    ensures seen { OnOk result (IsTrue D.tells → D.seen disk.new ≡ D.seen disk.old) }
+    ensures others { IsTrue D.tells → (n : ℕ) → n ≢ 1 → n ≢ 2 → D.seen disk.new n ≡ D.seen disk.old n }
+
+    // A crash at any moment leaves what one before the call might have left.
+    ensures images { IsTrue D.tells → Turns D.now D.leaves Same disk.old disk.new }
+
+    ensures fault { result ≡ Err SuperNo.Fault → Rose (D.faults disk.old) (D.faults disk.new) }
+    ensures faults { D.faults disk.old ≤ D.faults disk.new }
+{
+    steady(disk)?;
+    let one = slot_told(alloc, disk, 1)?;
+    let two = slot_told(alloc, disk, 2)?;
+    Ok(newer(one, two))
+}
