@@ -1,0 +1,203 @@
+//! The clock and the flying writes of a tablet.
+ghost use Rattle.std.specs.Prelude.{◌≡◌, ◌+◌, ◌-◌, ◌^◌, ◌<◌, ◌++◌, ◌∷◌, [], ℕ, min, max, not, false, true, IfOk, IfErr, OnOk, OnErr, Option, Some, None, ◌==◌};
+ghost use Rattle.std.specs.List.{filter};
+ghost use Rattle.std.specs.Result.{result_err};
+ghost use Rattle.kt_history.specs.Machine.{next_timestamp, clean_below};
+ghost use Rattle.kt_mvcc.specs.Flying.{least_of, holds_one, holder, flies};
+ghost use Rattle.kt_mvcc.specs.Waits.{IsRefused, lesser_of};
+
+use crate::flier::{Flier, KeyList, share_key};
+use kt_base::NoMemory;
+use kt_base::limits::READING_MOST;
+use std::alloc::Global;
+use std::marker::Model;
+
+/// The last timestamp, the ancient history mark, and the writes that fly with the keys that they hold.
+#[derive(Debug, Drop)]
+pub struct Flight {
+    c: u64,
+    a: u64,
+    flying: Vec<Flier>,
+}
+
+impl Model for Flight {
+    ghost use Rattle.std.specs.Prelude.{◌-◌, vec_capacity, vec_len};
+    ghost use Rattle.kt_mvcc.specs.Flying.{Clock};
+
+    ghost Value = { Clock };
+
+    ghost view = { λ f. record { c = f.c; a = f.a; flying = f.flying.items; room = vec_capacity f.flying - vec_len f.flying } };
+}
+
+/// Why a write does not begin.
+#[derive(Clone, Copy, Debug, PartialEq, Eq)]
+pub enum MvccNo {
+    /// The flying write of this timestamp holds one of the keys, and it is the least that does.
+    Wait { ts: u64 },
+    /// There was no memory for it.
+    Memory,
+}
+
+// The timestamp that follows c at a reading of the clock.
+fn next(c: u64, m: u64) -> u64
+    requires { c < 2 ^ 64 - 1 }
+    ensures { result ≡ next_timestamp c m }
+{
+    (c + 1).max(m.min(READING_MOST) * 4096)
+}
+
+fn lesser(found: Option<u64>, ts: u64) -> u64
+    ensures { result ≡ lesser_of found ts }
+{
+    match found {
+        Some(least) => least.min(ts),
+        None => ts,
+    }
+}
+
+fn least_of(flying: &[Flier]) -> Option<u64>
+    ensures { result ≡ least_of flying.now }
+{
+    let mut found = None;
+    for flier in flying {
+        found = Some(lesser(found, flier.ts));
+    }
+    found
+}
+
+fn holder(flying: &[Flier], keys: &KeyList) -> Option<u64>
+    ensures { result ≡ holder keys.now flying.now }
+{
+    let mut found = None;
+    for flier in flying {
+        if share_key(keys.as_slice(), flier.keys.as_slice()) {
+            found = Some(lesser(found, flier.ts));
+        }
+    }
+    found
+}
+
+impl Flight {
+    /// A clock under which nothing flies.
+    pub fn new(alloc: Global, c: u64, a: u64) -> Flight
+        ensures last { result.c ≡ c }
+        ensures mark { result.a ≡ a }
+        ensures rests { result.flying ≡ [] }
+    {
+        Flight {
+            c,
+            a,
+            flying: Vec::new(alloc),
+        }
+    }
+
+    /// The last timestamp.
+    pub fn last(&self) -> u64
+        ensures { result ≡ self.now.c }
+    {
+        self.c
+    }
+
+    /// The ancient history mark.
+    pub fn mark(&self) -> u64
+        ensures { result ≡ self.now.a }
+    {
+        self.a
+    }
+
+    /// Lets the last timestamp be no less than a time.
+    pub fn raise(&mut self, t: u64)
+        ensures { self.new ≡ record self.old { c = max self.old.c t } }
+    {
+        self.c = self.c.max(t);
+    }
+
+    /// Draws the next timestamp at a reading of the clock.
+    pub fn draw(&mut self, m: u64) -> u64
+        requires { self.old.c < 2 ^ 64 - 1 }
+        ensures value { result ≡ next_timestamp self.old.c m }
+        ensures after { self.new ≡ record self.old { c = result } }
+    {
+        self.c = next(self.c, m);
+        self.c
+    }
+
+    /// Whether a write of these keys may begin, and otherwise the least flying write that holds one of them.
+    pub fn try_keys(&self, keys: &KeyList) -> Result<(), u64>
+        ensures { result_err result ≡ holder keys.now self.now.flying }
+    {
+        match holder(&self.flying, keys) {
+            Some(ts) => Err(ts),
+            None => Ok(()),
+        }
+    }
+
+    /// Makes room for a write of so many keys, which then begins without memory.
+    pub fn reserve(&mut self, _alloc: Global, _keys: usize) -> Result<(), NoMemory>
+        ensures room { OnOk result (0 < self.new.room) }
+        ensures same { self.new ≡ record self.old { room = self.new.room } }
+    {
+        self.flying.reserve(1)?;
+        Ok(())
+    }
+
+    /// Begins a write: its keys are held, and its timestamp is drawn at a reading of the clock.
+    pub fn begin(&mut self, _alloc: Global, who: u32, keys: KeyList, m: u64) -> Result<u64, MvccNo>
+        requires rests { flies who self.old.flying ≡ false }
+        requires below { self.old.c < 2 ^ 64 - 1 }
+        ensures ts { IfOk result (λ ts. (ts ≡ next_timestamp self.old.c m) × (self.new.c ≡ ts)) }
+        ensures flying { IfOk result (λ ts. self.new.flying ≡ self.old.flying ++ record { who = who; ts = ts; keys = keys } ∷ []) }
+        ensures mark { self.new.a ≡ self.old.a }
+        ensures free { OnOk result (holder keys self.old.flying ≡ None) }
+        ensures refused { IfErr result (IsRefused keys self.old) }
+        ensures unchanged { OnErr result (self.new ≡ record self.old { room = self.new.room }) }
+    {
+        if let Some(ts) = holder(&self.flying, &keys) {
+            return Err(MvccNo::Wait { ts });
+        }
+        let ts = next(self.c, m);
+        match self.flying.push(Flier { who, ts, keys }) {
+            Ok(()) => {
+                self.c = ts;
+                Ok(ts)
+            }
+            Err(_) => Err(MvccNo::Memory),
+        }
+    }
+
+    /// Ends a write, and lets go of its keys.
+    pub fn end(&mut self, who: u32)
+        requires { flies who self.old.flying ≡ true }
+        ensures last { self.new.c ≡ self.old.c }
+        ensures mark { self.new.a ≡ self.old.a }
+        ensures flying { self.new.flying ≡ filter (λ f. not (f.who == who)) self.old.flying }
+    {
+        self.flying.retain(|flier| flier.who != who);
+    }
+
+    /// The least flying timestamp.
+    pub fn least(&self) -> Option<u64>
+        ensures { result ≡ least_of self.now.flying }
+    {
+        least_of(&self.flying)
+    }
+
+    /// Up to here no write flies and none will begin.
+    pub fn clean(&self) -> u64
+        ensures { result ≡ clean_below (least_of self.now.flying) self.now.c }
+    {
+        match self.least() {
+            Some(least) => least.saturating_sub(1),
+            None => self.c,
+        }
+    }
+
+    /// Raises the ancient history mark towards a time, and no further than no write flies.
+    pub fn raise_mark(&mut self, to: u64) -> u64
+        ensures value { result ≡ max self.old.a (min to (clean_below (least_of self.old.flying) self.old.c)) }
+        ensures after { self.new ≡ record self.old { a = result } }
+    {
+        self.a = self.a.max(to.min(self.clean()));
+        self.a
+    }
+}
