@@ -1,0 +1,13 @@
+pub mod Frames
+pub mod Crash
+pub mod Publish
+pub mod Loop
+pub mod Short
+pub mod Opened
+pub mod Openable
+pub mod Framed
+pub mod Faults
+pub mod Lifted
+pub mod Batch
+pub mod Matched
+pub mod Fresh

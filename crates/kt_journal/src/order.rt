@@ -1,0 +1,66 @@
+//! The order of a log's records.
+ghost use Rattle.std.specs.Prelude.{◌≡◌, true, [], ◌∷◌, List, IfOk};
+ghost use Rattle.kt_records.specs.declared.entry.Entry.{Entry};
+ghost use Rattle.kt_journal.specs.Order.{is_above, is_count, follows};
+ghost use Rattle.kt_journal.specs.Tracks.{Tracks};
+
+use kt_base::NoMemory;
+use kt_records::Entry;
+use std::alloc::Global;
+use std::collections::BTreeMap;
+
+/// The timestamp of the newest write, and the writes that wait for their COMMIT with their numbers of operations.
+#[derive(Drop)]
+pub struct Order {
+    pub last: Option<u64>,
+    pub waiting: BTreeMap<u64, usize>,
+}
+
+fn above(last: Option<u64>, ts: u64) -> bool
+    ensures { result ≡ is_above last ts }
+{
+    match last {
+        None => true,
+        Some(last) => last < ts,
+    }
+}
+
+fn counts(waiting: Option<usize>, count: usize) -> bool
+    ensures { result ≡ is_count waiting count }
+{
+    match waiting {
+        None => false,
+        Some(operations) => operations == count,
+    }
+}
+
+impl Order {
+    pub fn new(alloc: Global) -> Order
+        ensures { Tracks result [] }
+    {
+        Order {
+            last: None,
+            waiting: BTreeMap::new(alloc),
+        }
+    }
+
+    /// Adds a record, where it may follow. Where it may not, the order is of no more use.
+    pub fn add(&mut self, entry: &Entry) -> Result<bool, NoMemory>
+        ensures { (before : List Entry) → Tracks self.old before → IfOk result (λ ok. (ok ≡ follows before entry.now) × (ok ≡ true → Tracks self.new (entry.now ∷ before))) }
+    {
+        match entry {
+            Entry::Replicate { ts, ops } => {
+                if !above(self.last, *ts) {
+                    return Ok(false);
+                }
+                self.waiting.insert(*ts, ops.len())?;
+                self.last = Some(*ts);
+                Ok(true)
+            }
+            Entry::Commit { ts, rows } => {
+                let waiting = self.waiting.remove(ts);
+                Ok(counts(waiting, rows.len()))
+            }
+        }
+    }
+}
