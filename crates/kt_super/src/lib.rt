@@ -22,3 +22,6 @@ pub use loading::load;
 pub use meta::{FileRef, FileRefs, Meta, MetaRowset, MetaRowsets, Prepared};
 pub use preparing::prepare;
 pub use refusal::{BodyNo, Fault, Place, PrepareNo, SuperNo};
+
+#[cfg(test)]
+mod tests;
