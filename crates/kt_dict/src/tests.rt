@@ -15,6 +15,20 @@ fn three_items(rt: HostRuntime) -> Result<(), Fail> {
 }
 
 #[test]
+fn three_items_are_written(rt: HostRuntime) -> Result<(), Fail> {
+    let mut items = Items::new(rt.alloc());
+    items.push(b"a")?;
+    items.push(b"b")?;
+    items.push(b"a")?;
+    let bytes = match encode(rt.alloc(), &items, Width::Bytes) {
+        Ok(bytes) => bytes,
+        Err(_) => return Err("no memory".into()),
+    };
+    assert_eq!(rt; bytes.as_slice(), BLOCK.as_slice());
+    Ok(())
+}
+
+#[test]
 fn second_entry_is_never_used(rt: HostRuntime) {
     let bytes = [2, 0, 1, 0, 0, 0, 97, 1, 0, 0, 0, 98, 0, 0, 0, 0];
     assert!(rt;
