@@ -1,0 +1,6 @@
+pub mod Cuts
+pub mod Hash
+pub mod Filter
+pub mod Index
+pub mod Tables
+pub mod Upto

@@ -1,0 +1,25 @@
+//! The filter and the index of a file's keys: a Bloom filter that never hides a key, and every sixteenth key in
+//! order.
+//!
+//! For the layers above: `build` makes both from the keys. The filter has exactly the bits that the keys set and
+//! no other bytes have them, and a search of the index takes no more comparisons than its length has binary
+//! digits. It stands on no crate but std.
+#![tactic(auto)]
+
+mod bits;
+mod errors;
+mod filters;
+mod hashing;
+mod indexes;
+mod keys;
+pub mod laws;
+mod lookups;
+mod steps;
+
+pub use errors::NoMemory;
+pub use keys::KeyList;
+pub use lookups::{Lookup, build};
+pub use steps::Steps;
+
+#[cfg(test)]
+mod tests;
