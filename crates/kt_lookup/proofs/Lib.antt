@@ -3,5 +3,6 @@ pub mod BitSets
 pub mod OneFilter
 pub mod Halves
 pub mod Search
+pub mod FieldsAt
 mod Worked
 pub mod Singles

@@ -41,8 +41,13 @@ index_rises keys rises i j lt less =
     let last : 16 * j < length keys = omega (arith, n) in
     rw (get_or-index keys i (omega (arith, n)), get_or-index keys j (omega (arith, n))) (rises (16 * i) (16 * j) (omega arith) last)
 
-pub are_tables : (keys : List (List ℕ)) (filter : List ℕ) (index : List (List ℕ)) → 0 < length keys → length keys ≤ 3435973836 → Rises keys → filter ≡ filter_of keys → index ≡ index_of keys → AreTables filter index
-are_tables keys filter index some few rises made is =
+index_short : (keys : List (List ℕ)) → ((j : ℕ) → j < length keys → length (get_or keys j []) ≤ 65535) → (j : ℕ) → j < length (index_of keys) → length (get_or (index_of keys) j []) ≤ 65535
+index_short keys short j less =
+    let n = length-index keys in
+    rw (get_or-index keys j (omega (arith, n))) (short (16 * j) (omega (arith, n)))
+
+pub are_tables : (keys : List (List ℕ)) (filter : List ℕ) (index : List (List ℕ)) → 0 < length keys → length keys ≤ 3435973836 → Rises keys → ((j : ℕ) → j < length keys → length (get_or keys j []) ≤ 65535) → filter ≡ filter_of keys → index ≡ index_of keys → AreTables filter index
+are_tables keys filter index some few rises short made is =
     let n : length filter ≡ filter_len keys = ap length made ∙ len_filter keys in
     let m : length index ≡ (length keys + 15) / 16 = ap length is ∙ length-index keys in
     record {
@@ -50,4 +55,5 @@ are_tables keys filter index some few rises made is =
       small = omega (arith, n);
       few = omega (arith, m);
       rises = subst (λ (x : List (List ℕ)). Rises x) (sym is) (index_rises keys rises);
+      short = subst (λ (x : List (List ℕ)). (j : ℕ) → j < length x → length (get_or x j []) ≤ 65535) (sym is) (index_short keys short);
     }

@@ -3,4 +3,5 @@ pub mod Hash
 pub mod Filter
 pub mod Index
 pub mod Tables
+pub mod Tail
 pub mod Upto

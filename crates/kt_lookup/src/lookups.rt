@@ -1,8 +1,9 @@
 //! The filter and the index together.
 
-ghost use Rattle.std.specs.Prelude.{◌≡◌, ◌+◌, ◌-◌, ◌*◌, ◌^◌, ◌<◌, ◌≤◌, ◌↔◌, [], ℕ, List, length, IsTrue, IfOk, slice_index_or};
+ghost use Rattle.std.specs.Prelude.{◌≡◌, ◌+◌, ◌-◌, ◌*◌, ◌^◌, ◌<◌, ◌≤◌, ◌↔◌, [], ℕ, List, ◌++◌, drop, length, IsTrue, IfOk, MatchResult, Ok, Err, slice_index_or};
 ghost use Rattle.kt_lookup.specs.Hash.{hash_of};
 ghost use Rattle.kt_lookup.specs.Filter.{HasAll, filter_of as filter_of_keys};
+ghost use Rattle.kt_lookup.specs.Tail.{spelling, used_of};
 ghost use Rattle.kt_lookup.specs.Index.{IsBelow, Rises, index_of as index_of_keys};
 
 use crate::errors::NoMemory;
@@ -10,7 +11,9 @@ use crate::filters::{filter_of, has_hash};
 use crate::hashing::fnv;
 use crate::indexes::{index_of, search};
 use crate::keys::KeyList;
+use crate::octets::Octets;
 use crate::steps::Steps;
+use crate::tails::{self, Differs};
 use std::alloc::Global;
 use std::marker::Model;
 use std::sync::ledger::Ledger;
@@ -59,6 +62,23 @@ impl Lookup {
         ensures { result.now ≡ self.now.index }
     {
         &self.index
+    }
+
+    /// What a base file has of both: the filter behind its length, and each key of the index behind its length.
+    pub fn spell(&self, alloc: Global) -> Result<Octets, NoMemory>
+        ensures { IfOk result (λ bytes. bytes ≡ spelling self.now.filter self.now.index) }
+    {
+        tails::spell(alloc, &self.filter, &self.index)
+    }
+
+    /// Whether the bytes begin with what a base file has of both, and how many of them that is.
+    pub fn check(&self, bytes: &[u8]) -> Result<usize, Differs>
+        ensures found { IfOk result (λ used. bytes.now ≡ spelling self.now.filter self.now.index ++ drop used bytes.now) }
+        ensures only { (rest : List ℕ) → bytes.now ≡ spelling self.now.filter self.now.index ++ rest → result ≡ Ok (length (spelling self.now.filter self.now.index)) }
+        // Which fault it is.
+        ensures exact { MatchResult result (λ used. used_of self.now.filter self.now.index bytes.now ≡ Ok used) (λ e. used_of self.now.filter self.now.index bytes.now ≡ Err e.offset) }
+    {
+        tails::check(&self.filter, &self.index, bytes)
     }
 
     /// Whether the key may be among the keys: whether its six bits are set.

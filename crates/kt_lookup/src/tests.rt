@@ -65,3 +65,31 @@ fn entries_are_found(rt: HostRuntime) -> Result<(), Fail> {
     assert_eq!(rt; first(&lookup, &[0x21]), 3);
     Ok(())
 }
+
+/// What a base file of the key 61 alone has behind its columns.
+const BEHIND: [u8; 9] = [2, 0, 0, 0, 0x49, 0x32, 1, 0, 0x61];
+
+fn fault_at(lookup: &Lookup, place: usize) -> Option<u64> {
+    let mut bytes = BEHIND;
+    if place < 9 {
+        bytes[place] ^= 0x40;
+    }
+    lookup.check(&bytes).err().map(|e| e.offset)
+}
+
+#[test]
+fn both_are_spelled_and_checked(rt: HostRuntime) -> Result<(), Fail> {
+    let alloc = rt.alloc();
+    let mut keys = KeyList::new(alloc);
+    keys.push(b"a")?;
+    let lookup = build(alloc, &keys)?;
+    let bytes = lookup.spell(alloc)?;
+    assert_eq!(rt; bytes.as_slice(), BEHIND.as_slice());
+    assert_eq!(rt; lookup.check(&BEHIND), Ok(9));
+    assert_eq!(rt; lookup.check(&BEHIND[..7]), Err(Differs { offset: 7 }));
+    assert_eq!(rt; fault_at(&lookup, 1), Some(0));
+    assert_eq!(rt; fault_at(&lookup, 5), Some(4));
+    assert_eq!(rt; fault_at(&lookup, 6), Some(6));
+    assert_eq!(rt; fault_at(&lookup, 8), Some(8));
+    Ok(())
+}

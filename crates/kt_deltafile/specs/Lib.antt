@@ -1,0 +1,6 @@
+pub mod File
+pub mod Order
+pub mod Rules
+pub mod Spelling
+pub mod Reading
+pub mod Laws

@@ -1,0 +1,195 @@
+//! Reading a delta file.
+ghost use Rattle.std.specs.Prelude.{◌≡◌, IfOk, Ok, [], List};
+ghost use Rattle.kt_history.specs.declared.changes.Delta.{Delta};
+ghost use Rattle.kt_records.specs.Reading.{Gives, many_at};
+ghost use Rattle.kt_deltafile.specs.declared.file.Way.{Way};
+ghost use Rattle.kt_deltafile.specs.Order.{last_ordinal, in_order, may_come, may_follow};
+ghost use Rattle.kt_deltafile.specs.Rules.{may_insert, FileFits};
+ghost use Rattle.kt_deltafile.specs.Spelling.{spelling};
+ghost use Rattle.kt_deltafile.specs.Reading.{change_at, record_at, way_at, body_at, whole_at, file_of, Answers};
+
+use crate::cells::cells_of;
+use crate::fields::{u32_of, u64_of};
+use crate::file::{DeltaFile, Way};
+use kt_history::{Change, Delta, DeltaList};
+use kt_records::CodecNo;
+use kt_records::refusal::Stop;
+use std::alloc::Global;
+
+/// The letters KTD1, as a number.
+const KTD1: u32 = 0x3144544b;
+
+fn is_in_order(way: Way, a: u64, b: u64) -> bool
+    ensures { result ≡ in_order way a b }
+{
+    match way {
+        Way::Redo => a < b,
+        Way::Undo => b < a,
+    }
+}
+
+fn comes(rows: u32, front: &[Delta], ordinal: u32) -> bool
+    ensures { result ≡ may_come rows front.now ordinal }
+{
+    least_of(front) <= ordinal && ordinal < rows
+}
+
+/// The least ordinal that may follow these records.
+fn least_of(front: &[Delta]) -> u32
+    ensures { result ≡ last_ordinal front.now }
+{
+    match front {
+        [] => 0,
+        [.., last] => last.ordinal,
+    }
+}
+
+fn follows(way: Way, front: &[Delta], ordinal: u32, ts: u64) -> bool
+    ensures { result ≡ may_follow way front.now ordinal ts }
+{
+    match front {
+        [] => true,
+        [.., last] => last.ordinal != ordinal || is_in_order(way, last.ts, ts),
+    }
+}
+
+fn inserts(way: Way) -> bool
+    ensures { result ≡ may_insert way }
+{
+    match way {
+        Way::Redo => false,
+        Way::Undo => true,
+    }
+}
+
+#[tactic(auto, unfolding(crate::specs::Reading::change_at))]
+fn change_of(alloc: Global, way: Way, bytes: &[u8]) -> Result<(Change, &[u8]), Stop>
+    ensures { Gives (λ x. (x.0, x.1.now)) result (change_at way bytes.now) }
+{
+    match bytes {
+        [] => Err(Stop::Left(0)),
+        [1, rest @ ..] => {
+            if !inserts(way) {
+                return Err(Stop::Left(bytes.len()));
+            }
+            let (cells, rest) = cells_of(alloc, rest)?;
+            Ok((Change::Ins(cells), rest))
+        }
+        [2, rest @ ..] => {
+            let (cells, rest) = cells_of(alloc, rest)?;
+            Ok((Change::Upd(cells), rest))
+        }
+        [3, rest @ ..] => Ok((Change::Del, rest)),
+        [_, ..] => Err(Stop::Left(bytes.len())),
+    }
+}
+
+#[tactic(auto, unfolding(crate::specs::Reading::record_at))]
+fn record_of<'a>(
+    alloc: Global,
+    way: Way,
+    rows: u32,
+    front: &[Delta],
+    bytes: &'a [u8],
+) -> Result<(Delta, &'a [u8]), Stop>
+    ensures { Gives (λ x. (x.0, x.1.now)) result (record_at way rows front.now bytes.now) }
+{
+    let (ordinal, after) = u32_of(bytes)?;
+    if !comes(rows, front, ordinal) {
+        return Err(Stop::Left(bytes.len()));
+    }
+    let (ts, rest) = u64_of(after)?;
+    if !follows(way, front, ordinal, ts) {
+        return Err(Stop::Left(after.len()));
+    }
+    let (change, rest) = change_of(alloc, way, rest)?;
+    let delta = Delta {
+        ordinal,
+        ts,
+        change,
+    };
+    Ok((delta, rest))
+}
+
+fn records_of(
+    alloc: Global,
+    way: Way,
+    rows: u32,
+    count: u32,
+    bytes: &[u8],
+) -> Result<(Vec<Delta>, &[u8]), Stop>
+    ensures { Gives (λ x. (x.0.items, x.1.now)) result (many_at (record_at way rows) count [] bytes.now) }
+{
+    let mut records = Vec::new(alloc);
+    let mut rest = bytes;
+    'records: for _ in 0..count {
+        let (one, after) = record_of(alloc, way, rows, &records, rest)?;
+        records.push(one)?;
+        rest = after;
+    }
+    Ok((records, rest))
+}
+
+#[tactic(auto, unfolding(crate::specs::Reading::way_at))]
+fn way_of(bytes: &[u8]) -> Result<(Way, &[u8]), Stop>
+    ensures { Gives (λ x. (x.0, x.1.now)) result (way_at bytes.now) }
+{
+    match bytes {
+        [] => Err(Stop::Left(0)),
+        [1, rest @ ..] => Ok((Way::Redo, rest)),
+        [2, rest @ ..] => Ok((Way::Undo, rest)),
+        [_, ..] => Err(Stop::Left(bytes.len())),
+    }
+}
+
+/// What stands behind the letters: the way, and the records behind their count.
+struct Body<'a> {
+    way: Way,
+    records: Vec<Delta>,
+    rest: &'a [u8],
+}
+
+#[tactic(auto, unfolding(crate::specs::Reading::body_at))]
+fn body_of(alloc: Global, rows: u32, bytes: &[u8]) -> Result<Body<'_>, Stop>
+    ensures { Gives (λ x. (record { way = x.way; list = x.records.items }, x.rest.now)) result (body_at rows bytes.now) }
+{
+    let (way, rest) = way_of(bytes)?;
+    let (count, rest) = u32_of(rest)?;
+    let (records, rest) = records_of(alloc, way, rows, count, rest)?;
+    Ok(Body { way, records, rest })
+}
+
+/// The way and the records that all of the bytes spell.
+#[tactic(auto, unfolding(crate::specs::Reading::whole_at))]
+fn whole_of(alloc: Global, rows: u32, bytes: &[u8]) -> Result<(Way, DeltaList), Stop>
+    ensures { Gives (λ x. record { way = x.0; list = x.1 }) result (whole_at rows bytes.now) }
+{
+    let (word, rest) = u32_of(bytes)?;
+    if word != KTD1 {
+        return Err(Stop::Left(bytes.len()));
+    }
+    let Body { way, records, rest } = body_of(alloc, rows, rest)?;
+    if !rest.is_empty() {
+        return Err(Stop::Left(rest.len()));
+    }
+    Ok((way, DeltaList::of(records)))
+}
+
+/// The delta file of a base file of so many rows that the bytes spell, all of the bytes.
+pub fn decode(alloc: Global, bytes: &[u8], rows: u32) -> Result<DeltaFile, CodecNo>
+    // What is read keeps the rules and is spelled so.
+    ensures found { IfOk result (λ file. FileFits file.way rows file.list × (bytes.now ≡ spelling file.way file.list)) }
+    // What is spelled so is read, unless memory runs out.
+    ensures only { (way : Way) (list : List Delta) → FileFits way rows list → bytes.now ≡ spelling way list → Answers result (Ok (record { way = way; list = list })) }
+    // Which fault it is.
+    ensures exact { Answers result (file_of rows bytes.now) }
+{
+    match whole_of(alloc, rows, bytes) {
+        Ok((way, list)) => Ok(DeltaFile::of(list, way)),
+        Err(Stop::Memory) => Err(CodecNo::Memory),
+        Err(Stop::Left(left)) => {
+            let offset = bytes.len().saturating_sub(left) as u64;
+            Err(CodecNo::Place { offset })
+        }
+    }
+}
