@@ -1,12 +1,10 @@
 -- What callers of a tree know of it when they change other places of its pool.
-use Rattle.std.proofs.Common.{◌≡◌, ℕ, ◌+◌, ◌<◌, ◌≤◌, inl, inr, List, [], length, refl, sym, ap, ◌∙◌, arith, subst, Some, None}
-use Rattle.std.proofs.lemmas.Bool.{cases_lt}
+use Rattle.std.proofs.Common.{◌≡◌, ℕ, ap, arith}
 use Rattle.kt_pool.specs.Contents.{Contents, Stands, at_cell}
-use Rattle.kt_tree.specs.Entries.{Entry}
-use Rattle.kt_tree.specs.Shapes.{Shape, leaf, count, flat, IsTreeAt, nothing}
+use Rattle.kt_tree.specs.Shapes.{leaf, count, flat, IsTreeAt, nothing}
 use Rattle.kt_tree.specs.Trees.{IsTree, shape_of, entries, Owns}
 use Rattle.kt_tree.specs.declared.tree.Tree.{Tree}
-use Rattle.kt_tree.proofs.Shapes.{kept, spelled_is, shape_is, no_tree}
+use Rattle.kt_tree.proofs.Shapes.{kept, spelled_is}
 use Rattle.kt_tree.proofs.Trees.{tree_is, owned_stands}
 
 -- a tree of no node, in any pool

@@ -1,5 +1,5 @@
 -- A tree whose places are given back.
-use Rattle.std.proofs.Common.{◌≡◌, ◌≢◌, ℕ, ◌+◌, ◌<◌, ◌≤◌, inl, inr, List, [], ◌∷◌, ◌++◌, length, refl, sym, ap, ◌∙◌, arith, subst, Some, None}
+use Rattle.std.proofs.Common.{◌≡◌, ◌≢◌, ℕ, ◌+◌, ◌<◌, inl, inr, List, [], ◌∷◌, ◌++◌, length, refl, sym, ap, ◌∙◌, arith, Some, None}
 use Rattle.std.specs.Prelude.{is_some}
 use Rattle.std.specs.List.{sum_by}
 use Rattle.std.proofs.lemmas.Bool.{cases_lt, cases_eq}
@@ -7,13 +7,12 @@ use Rattle.std.proofs.lemmas.List.Sums.{sum_by-append, sum_by-cons}
 use Rattle.kt_pool.specs.Contents.{Contents, Stands, at_cell, bytes_at, used, cells_of, cells_for, with_place}
 use Rattle.kt_pool.proofs.Callers.{at_same, at_other, size_same, reserved_after}
 use Rattle.kt_tree.specs.Entries.{Entry}
-use Rattle.kt_tree.specs.Shapes.{nothing, node_of, IsNode, Shape, leaf, node, root_of, flat, one_at, count, IsTreeAt}
+use Rattle.kt_tree.specs.Shapes.{nothing, node_of, Shape, leaf, node, flat, count, IsTreeAt}
 use Rattle.kt_tree.specs.Trees.{need}
 use Rattle.kt_tree.specs.Changes.{Clears}
 use Rattle.kt_tree.specs.declared.node.Node.{Node}
-use Rattle.kt_tree.proofs.Places.{one_same, one_other, stands_inside, stands_some, some_bytes, bytes_same, used_after}
+use Rattle.kt_tree.proofs.Places.{one_same, one_other, stands_inside, stands_some, some_bytes, used_after}
 use Rattle.kt_tree.proofs.Shapes.{kept, nodes_at, nodes_are}
-use Rattle.kt_tree.proofs.Splitting.{to_node}
 use Rattle.kt_tree.proofs.Joining.{node_says, tree_right, tree_left, root_node, is_root}
 
 -- the cells of these keys and of their nodes

@@ -1,17 +1,16 @@
 -- A node that is hung into a tree.
-use Rattle.std.proofs.Common.{◌≡◌, ◌≢◌, ℕ, ◌+◌, ◌<◌, ◌≤◌, Bool, true, false, List, [], ◌∷◌, ◌++◌, length, refl, sym, ap, ◌∙◌, arith, subst, Some, None}
-use Rattle.std.specs.Ordering.{is_eq, is_lt}
-use Rattle.std.specs.declared.cmp.Ordering.{Ordering}
-use Rattle.std.specs.declared.cmp.Ordering.TheVariants.{Less, Equal, Greater}
-use Rattle.kt_pool.specs.Contents.{Contents, at_cell, bytes_at}
-use Rattle.kt_tree.specs.Entries.{Entry, order, IsRising, is_at, put}
-use Rattle.kt_tree.specs.Shapes.{nothing, node_of, IsNode, Shape, leaf, node, root_of, flat, one_at, count, IsTreeAt, Rewrites}
-use Rattle.kt_tree.specs.Changes.{IsAbsent, Lacks, Splits, Becomes, alone, StandsBy}
+use Rattle.std.proofs.Common.{◌≡◌, ◌≢◌, ℕ, ◌+◌, ◌<◌, false, List, ◌∷◌, ◌++◌, length, refl, sym, ap, ◌∙◌, arith, subst}
+use Rattle.std.specs.Ordering.{is_lt}
+use Rattle.std.specs.declared.cmp.Ordering.TheVariants.{Less}
+use Rattle.kt_pool.specs.Contents.{Contents, bytes_at}
+use Rattle.kt_tree.specs.Entries.{order, put}
+use Rattle.kt_tree.specs.Shapes.{nothing, node_of, IsNode, Shape, leaf, node, root_of, flat, one_at, count, Rewrites}
+use Rattle.kt_tree.specs.Changes.{Splits, Becomes, alone, StandsBy}
 use Rattle.kt_tree.specs.declared.node.Node.{Node}
 use Rattle.kt_tree.proofs.Orders.{rising_below, put_before, put_after, put_past, put_first, above_is}
 use Rattle.kt_tree.proofs.Places.{one_same, bytes_same}
-use Rattle.kt_tree.proofs.Shapes.{kept, nodes_at, nodes_are, no_tree, root_long}
-use Rattle.kt_tree.proofs.Splitting.{to_node, not_less, lacks_right, lacks_left, own_order, own_other, fewer_right, fewer_left}
+use Rattle.kt_tree.proofs.Shapes.{kept, no_tree, root_long}
+use Rattle.kt_tree.proofs.Splitting.{to_node, not_less, lacks_right, lacks_left, own_order, own_other}
 use Rattle.kt_tree.proofs.Joining.{unchanged, joined_right, joined_left}
 use Rattle.kt_tree.proofs.Overwriting.{becomes_as}
 

@@ -1,20 +1,17 @@
 -- A tree below a node that has changed, and the tree that they make.
-use Rattle.std.proofs.Common.{◌≡◌, ◌≢◌, ℕ, ◌+◌, ◌<◌, ◌≤◌, Bool, true, false, List, [], ◌∷◌, ◌++◌, length, refl, sym, ap, ◌∙◌, arith, subst, append_assoc, Some, None, Option}
-use Rattle.std.specs.Prelude.{MatchOption}
+use Rattle.std.proofs.Common.{◌≡◌, ℕ, ◌+◌, ◌≤◌, Bool, List, ◌∷◌, ◌++◌, refl, sym, ap, ◌∙◌, arith, subst, Some, None, Option}
 use Rattle.std.specs.List.{find}
-use Rattle.std.specs.Option.{option_map}
-use Rattle.std.specs.Ordering.{nat_cmp, is_eq, is_lt}
-use Rattle.std.specs.declared.cmp.Ordering.{Ordering}
-use Rattle.std.specs.declared.cmp.Ordering.TheVariants.{Less, Equal, Greater}
-use Rattle.kt_pool.specs.Contents.{Contents, Stands, at_cell, bytes_at}
-use Rattle.kt_tree.specs.Entries.{Entry, order, IsBelow, AreBelow, AreAbove, IsRising, is_at, value_of, put}
-use Rattle.kt_tree.specs.Shapes.{nothing, node_of, IsNode, Shape, leaf, node, root_of, flat, size, one_at, count, Holds, IsTreeAt, Rewrites}
-use Rattle.kt_tree.specs.Changes.{IsAbsent, Lacks, Splits, Becomes, alone, StandsBy}
+use Rattle.std.specs.Ordering.{is_eq}
+use Rattle.std.specs.declared.cmp.Ordering.TheVariants.{Equal, Greater}
+use Rattle.kt_pool.specs.Contents.{Contents, at_cell, bytes_at}
+use Rattle.kt_tree.specs.Entries.{Entry, order, IsBelow, IsRising, is_at}
+use Rattle.kt_tree.specs.Shapes.{node_of, IsNode, Shape, node, root_of, flat, one_at, count, IsTreeAt, Rewrites}
+use Rattle.kt_tree.specs.Changes.{Becomes}
 use Rattle.kt_tree.specs.declared.node.Node.{Node}
-use Rattle.kt_tree.proofs.Orders.{below_weaker, above_weaker, rising_right, rising_left, rising_below, rising_above, find_past, find_in, find_first, find_next, none_below, none_above, above_is, below_same, put_past, put_first, put_before, put_here, put_after}
-use Rattle.kt_tree.proofs.Places.{bytes_same, bytes_some, stands_some, one_same}
-use Rattle.kt_tree.proofs.Shapes.{node_kept, kept, nodes_at, nodes_are, no_tree, left_tree, right_tree, root_says, root_long, key_is}
-use Rattle.kt_tree.proofs.Splitting.{to_node, moved, not_less}
+use Rattle.kt_tree.proofs.Orders.{below_weaker, above_weaker, rising_below, rising_above, find_past, find_in, find_first, find_next, none_below, none_above, above_is, below_same}
+use Rattle.kt_tree.proofs.Places.{one_same}
+use Rattle.kt_tree.proofs.Shapes.{kept, left_tree, right_tree, root_says, key_is}
+use Rattle.kt_tree.proofs.Splitting.{to_node, moved}
 
 pub find_left : (p : Entry → Bool) (xs ys : List Entry) → find p ys ≡ None → find p (xs ++ ys) ≡ find p xs
 find_left p xs ys none = by (find p xs) refl

@@ -1,12 +1,10 @@
 -- A value that is written over.
-use Rattle.std.proofs.Common.{◌≡◌, ◌≢◌, ℕ, ◌+◌, ◌<◌, ◌≤◌, Bool, true, false, List, [], ◌∷◌, ◌++◌, length, refl, sym, ap, ◌∙◌, arith, subst, Some, None, Option}
+use Rattle.std.proofs.Common.{◌≡◌, ◌≢◌, ℕ, ◌<◌, List, ◌∷◌, ◌++◌, sym, ap, ◌∙◌, arith, subst, Some, None, Option}
 use Rattle.std.specs.Prelude.{MatchOption}
-use Rattle.std.specs.List.{find}
 use Rattle.std.specs.Option.{option_map}
-use Rattle.std.specs.declared.cmp.Ordering.{Ordering}
 use Rattle.std.specs.declared.cmp.Ordering.TheVariants.{Less, Equal, Greater}
 use Rattle.kt_pool.specs.Contents.{Contents, bytes_at}
-use Rattle.kt_tree.specs.Entries.{Entry, order, IsRising, is_at, value_of, put}
+use Rattle.kt_tree.specs.Entries.{Entry, order, IsRising, value_of, put}
 use Rattle.kt_tree.specs.Shapes.{nothing, node_of, IsNode, Shape, leaf, node, root_of, flat, one_at, count, IsTreeAt, Rewrites}
 use Rattle.kt_tree.specs.Changes.{IsAbsent, Becomes}
 use Rattle.kt_tree.specs.declared.node.Node.{Node}

@@ -1,16 +1,16 @@
 -- A tree that is cut in two.
-use Rattle.std.proofs.Common.{◌≡◌, ◌≢◌, ℕ, ◌+◌, ◌<◌, ◌≤◌, Bool, true, false, List, [], ◌∷◌, ◌++◌, length, refl, sym, ap, ◌∙◌, arith, subst, append_assoc, Some, None}
-use Rattle.std.specs.Ordering.{nat_cmp, is_eq, is_lt}
+use Rattle.std.proofs.Common.{◌≡◌, ◌≢◌, ℕ, ◌<◌, true, false, List, [], ◌∷◌, ◌++◌, length, refl, sym, ap, ◌∙◌, arith, subst, append_assoc}
+use Rattle.std.specs.Ordering.{is_eq, is_lt}
 use Rattle.std.specs.declared.cmp.Ordering.{Ordering}
 use Rattle.std.specs.declared.cmp.Ordering.TheVariants.{Less, Equal, Greater}
-use Rattle.kt_pool.specs.Contents.{Contents, Stands, at_cell, bytes_at}
-use Rattle.kt_tree.specs.Entries.{Entry, order, IsBelow, AreBelow, AreAbove, IsRising, is_at}
-use Rattle.kt_tree.specs.Shapes.{nothing, node_of, IsNode, Shape, leaf, node, root_of, flat, size, one_at, count, Holds, IsTreeAt, Rewrites}
-use Rattle.kt_tree.specs.Changes.{IsAbsent, Lacks, Splits}
+use Rattle.kt_pool.specs.Contents.{Contents, Stands, bytes_at}
+use Rattle.kt_tree.specs.Entries.{order, IsBelow, is_at}
+use Rattle.kt_tree.specs.Shapes.{nothing, node_of, IsNode, Shape, leaf, node, root_of, flat, one_at, count, IsTreeAt, Rewrites}
+use Rattle.kt_tree.specs.Changes.{Lacks, Splits}
 use Rattle.kt_tree.specs.declared.node.Node.{Node}
 use Rattle.kt_tree.proofs.Orders.{below_weaker, above_weaker, below_append, above_append, rising_right, rising_left, rising_below, rising_above, none_left, none_right, none_first, above_is}
-use Rattle.kt_tree.proofs.Places.{bytes_same, bytes_some, stands_some, one_same}
-use Rattle.kt_tree.proofs.Shapes.{node_kept, kept, nodes_at, nodes_are, no_tree, left_tree, right_tree, root_says, root_long, key_is}
+use Rattle.kt_tree.proofs.Places.{bytes_same, stands_some, one_same}
+use Rattle.kt_tree.proofs.Shapes.{kept, nodes_at, nodes_are, no_tree, left_tree, right_tree, root_says, root_long, key_is}
 
 pub not_less : (o : Ordering) → is_lt o ≡ false → is_eq o ≡ false → o ≡ Greater
 not_less Less e f = cc

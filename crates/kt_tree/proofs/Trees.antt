@@ -1,19 +1,19 @@
 -- A tree after a change.
-use Rattle.std.proofs.Common.{◌≡◌, ◌≢◌, ℕ, ◌+◌, ◌-◌, ◌<◌, ◌≤◌, ◌⊎◌, inl, inr, List, [], ◌∷◌, ◌++◌, length, refl, sym, ap, ◌∙◌, arith, subst, Some, None, Option, length-append}
-use Rattle.std.specs.Prelude.{is_some, MatchOption}
+use Rattle.std.proofs.Common.{◌≡◌, ◌≢◌, ℕ, ◌+◌, ◌-◌, ◌<◌, ◌≤◌, ◌⊎◌, inl, inr, List, ◌∷◌, length, refl, sym, ap, ◌∙◌, arith, subst, Some, None, Option, length-append}
+use Rattle.std.specs.Prelude.{is_some}
 use Rattle.std.specs.List.{find}
 use Rattle.std.specs.Option.{option_map}
 use Rattle.std.proofs.lemmas.Bool.{cases_lt, cases_eq, false≢true}
-use Rattle.kt_pool.specs.Contents.{Contents, Stands, at_cell, bytes_at, used, cells_of, cells_for, with_place}
-use Rattle.kt_pool.proofs.Callers.{at_same, at_other, size_same, reserved_after, apart}
+use Rattle.kt_pool.specs.Contents.{Contents, Stands, at_cell, used, cells_of, cells_for, with_place}
+use Rattle.kt_pool.proofs.Callers.{at_same, at_other, size_same, reserved_after}
 use Rattle.kt_tree.specs.Entries.{Entry, IsRising, is_at, value_of, put}
-use Rattle.kt_tree.specs.Shapes.{nothing, IsNode, Shape, leaf, node, root_of, flat, size, one_at, count, Holds, IsTreeAt, Rewrites}
+use Rattle.kt_tree.specs.Shapes.{nothing, IsNode, Shape, leaf, node, flat, size, count, Holds, IsTreeAt}
 use Rattle.kt_tree.specs.Takes.{Takes}
 use Rattle.kt_tree.specs.Trees.{shape_of, entries, Owns, IsTree, need}
-use Rattle.kt_tree.specs.Changes.{IsAbsent, Lacks, Becomes, alone, StandsBy}
+use Rattle.kt_tree.specs.Changes.{IsAbsent, Becomes, alone, StandsBy}
 use Rattle.kt_tree.specs.declared.tree.Tree.{Tree}
 use Rattle.kt_tree.proofs.Orders.{rising_put, length-put_new, length-put_old}
-use Rattle.kt_tree.proofs.Places.{one_same, one_other, stands_inside, stands_some, used_after}
+use Rattle.kt_tree.proofs.Places.{one_same, one_other, stands_some, used_after}
 use Rattle.kt_tree.proofs.Shapes.{kept, spelled_is, size_small}
 use Rattle.kt_tree.proofs.Hanging.{both}
 

@@ -1,5 +1,5 @@
 -- A walk down a tree.
-use Rattle.std.proofs.Common.{◌≡◌, ◌≢◌, ℕ, ◌+◌, ◌<◌, ◌≤◌, Bool, true, false, List, [], ◌∷◌, ◌++◌, length, refl, sym, ap, ◌∙◌, arith, subst, Some, None, Option}
+use Rattle.std.proofs.Common.{◌≡◌, ◌≢◌, ℕ, Bool, true, false, List, [], ◌∷◌, ◌++◌, refl, sym, ap, ◌∙◌, arith, subst, Some, None, Option}
 use Rattle.std.specs.List.{find}
 use Rattle.std.specs.Option.{option_map}
 use Rattle.std.specs.Ordering.{is_gt}
@@ -9,7 +9,7 @@ use Rattle.std.proofs.lemmas.Bool.{false≢true}
 use Rattle.kt_pool.specs.Contents.{Contents, at_cell, bytes_at}
 use Rattle.kt_tree.specs.Entries.{Entry, order, AreBelow, IsRising, is_at, value_of, is_past, is_after}
 use Rattle.kt_tree.specs.Shapes.{nothing, node_of, Shape, leaf, node, root_of, flat, count, IsTreeAt}
-use Rattle.kt_tree.specs.Trees.{entries, shape_of, IsPair, IsPairOf, place_at}
+use Rattle.kt_tree.specs.Trees.{entries, place_at}
 use Rattle.kt_tree.specs.Walks.{Seeks, SeeksAfter, or_else}
 use Rattle.kt_tree.specs.declared.node.Node.{Node}
 use Rattle.kt_tree.specs.declared.tree.Tree.{Tree}

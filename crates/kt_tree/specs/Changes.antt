@@ -1,8 +1,8 @@
 -- What a change to a tree needs, and what it leaves.
-use Rattle.std.specs.Prelude.{◌≡◌, ℕ, ◌+◌, ◌<◌, ◌≤◌, List, ◌++◌, length, Option, None, Some}
+use Rattle.std.specs.Prelude.{◌≡◌, ℕ, ◌+◌, ◌<◌, ◌≤◌, List, ◌++◌, length, None}
 use Rattle.std.specs.List.{find, sum_by}
 use Rattle.kt_pool.specs.Contents.{Contents, at_cell, used}
-use Rattle.kt_tree.specs.Entries.{Entry, AreBelow, AreAbove, IsRising, is_at, put}
+use Rattle.kt_tree.specs.Entries.{Entry, AreBelow, AreAbove, IsRising, is_at}
 use Rattle.kt_tree.specs.Shapes.{Shape, leaf, node, IsTreeAt, Holds, root_of, flat, count, Rewrites}
 use Rattle.kt_tree.specs.Trees.{need}
 

@@ -1,8 +1,8 @@
 -- Nodes in the cells of a pool, and the trees that they make.
-use Rattle.std.specs.Prelude.{◌≡◌, ◌≢◌, ℕ, zero, suc, ◌+◌, ◌<◌, ◌≤◌, ◌==◌, cond, List, [], ◌∷◌, ◌++◌, length, drop, Some, None}
+use Rattle.std.specs.Prelude.{◌≡◌, ℕ, zero, suc, ◌+◌, ◌<◌, ◌≤◌, ◌==◌, cond, List, [], ◌∷◌, ◌++◌, length, drop, Some}
 use Rattle.std.specs.List.{flat_map}
 use Rattle.byteorder.specs.Endian.{little_number, little_bytes}
-use Rattle.kt_pool.specs.Contents.{Contents, Stands, at_cell, bytes_at, used, with_place}
+use Rattle.kt_pool.specs.Contents.{Contents, Stands, at_cell, bytes_at, used}
 use Rattle.kt_tree.specs.Entries.{Entry}
 use Rattle.kt_tree.specs.declared.node.Node.{Node}
 

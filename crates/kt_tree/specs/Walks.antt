@@ -1,7 +1,7 @@
 -- How far a walk down a tree has come.
 use Rattle.std.specs.Prelude.{◌≡◌, ℕ, ◌≤◌, List, Option, None, Some}
 use Rattle.std.specs.List.{find}
-use Rattle.kt_pool.specs.Contents.{Contents, at_cell}
+use Rattle.kt_pool.specs.Contents.{Contents}
 use Rattle.kt_tree.specs.Entries.{Entry, IsRising, is_at, is_after}
 use Rattle.kt_tree.specs.Shapes.{Shape, IsTreeAt, flat, count}
 use Rattle.kt_tree.specs.Trees.{entries, shape_of, IsPairOf}

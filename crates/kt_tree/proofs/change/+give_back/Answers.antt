@@ -1,4 +1,4 @@
-use Rattle.std.proofs.Common.{arith, ◌≡◌, ◌≢◌}
+use Rattle.std.proofs.Common.{arith, ◌≢◌}
 use Rattle.kt_tree.specs.Shapes.{nothing}
 use Rattle.kt_tree.proofs.Clearing.{clear_left_there, clear_left_fewer, clear_right_there, clear_right_fewer, clear_key, clear_root, clears}
 use Rattle.kt_tree.proofs.change.+give_back.Goals as goal

@@ -1,4 +1,4 @@
-use Rattle.std.proofs.Common.{arith, ◌≡◌, ◌≢◌, sym, ◌∙◌, ap}
+use Rattle.std.proofs.Common.{arith, ◌≢◌, sym, ◌∙◌, ap}
 use Rattle.std.specs.Ordering.{is_lt}
 use Rattle.kt_tree.specs.Shapes.{nothing}
 use Rattle.kt_tree.proofs.Splitting.{fewer_right, fewer_left, less_is}

@@ -1,4 +1,4 @@
-use Rattle.std.proofs.Common.{arith, ◌≡◌, ◌≢◌, sym, ◌∙◌}
+use Rattle.std.proofs.Common.{arith, ◌≢◌, sym}
 use Rattle.kt_tree.specs.Shapes.{nothing}
 use Rattle.kt_tree.proofs.Overwriting.{tree_right_there, tree_left_there, tree_right_fewer, tree_left_fewer, overs_right, overs_left, overs_here}
 use Rattle.kt_tree.proofs.change.+overwrite.Goals as goal

@@ -1,6 +1,5 @@
-use Rattle.std.proofs.Common.{arith, ◌≡◌, ◌≢◌, ◌<◌, sym, ◌∙◌, ap}
+use Rattle.std.proofs.Common.{arith, ◌≢◌, sym, ◌∙◌, ap}
 use Rattle.kt_tree.specs.Shapes.{nothing}
-use Rattle.kt_tree.proofs.Shapes.{nodes_at}
 use Rattle.kt_tree.proofs.Splitting.{right_there, left_there, fewer_right, fewer_left, long_right, long_left, splits_right, splits_left, less_is}
 use Rattle.std.specs.Ordering.{is_lt}
 use Rattle.kt_tree.proofs.change.+split.Goals as goal

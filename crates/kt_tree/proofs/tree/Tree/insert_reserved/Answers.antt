@@ -1,13 +1,11 @@
-use Rattle.std.proofs.Common.{arith, ◌≡◌, ◌+◌, refl, sym, ap, ◌∙◌, List, ℕ, Some}
-use Rattle.std.specs.Option.{option_map}
+use Rattle.std.proofs.Common.{arith, ◌≡◌, ◌+◌, refl, List, ℕ}
 use Rattle.kt_pool.specs.Contents.{Contents}
 use Rattle.kt_tree.specs.Shapes.{Shape, IsTreeAt, flat}
 use Rattle.kt_tree.specs.Entries.{IsRising}
-use Rattle.kt_tree.specs.Trees.{IsTree, shape_of, entries, place_at}
+use Rattle.kt_tree.specs.Trees.{IsTree, shape_of, entries}
 use Rattle.kt_tree.specs.Changes.{IsAbsent}
 use Rattle.kt_tree.specs.declared.tree.Tree.{Tree}
-use Rattle.kt_tree.proofs.Orders.{value_none}
-use Rattle.kt_tree.proofs.Trees.{over_tree, over_entries, over_takes, over_keeps, over_grows, over_frame, stands_by, fewer_keys, grown_tree, grown_entries, grown_takes, grown_keeps, grown_grows, grown_frame}
+use Rattle.kt_tree.proofs.Trees.{over_tree, over_entries, over_keeps, over_grows, over_frame, stands_by, fewer_keys, grown_tree, grown_entries, grown_takes, grown_keeps, grown_grows, grown_frame}
 use Rattle.kt_tree.proofs.tree.Tree.insert_reserved.Goals as goal
 
 -- the key was not there, and nothing has changed yet

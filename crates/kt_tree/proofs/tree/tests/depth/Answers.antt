@@ -1,4 +1,4 @@
-use Rattle.std.proofs.Common.{arith, ◌≡◌, ◌≢◌, sym}
+use Rattle.std.proofs.Common.{arith, ◌≢◌, sym}
 use Rattle.kt_tree.specs.Shapes.{nothing}
 use Rattle.kt_tree.proofs.Overwriting.{tree_right_fewer, tree_left_fewer}
 use Rattle.kt_tree.proofs.Walks.{seeks_right, seeks_left}
