@@ -1,0 +1,38 @@
+-- What callers of a tree know of it when they change other places of its pool.
+use Rattle.std.proofs.Common.{◌≡◌, ℕ, ap, arith}
+use Rattle.kt_pool.specs.Contents.{Contents, Stands, at_cell}
+use Rattle.kt_tree.specs.Shapes.{leaf, count, flat, IsTreeAt, nothing}
+use Rattle.kt_tree.specs.Trees.{IsTree, shape_of, entries, Owns}
+use Rattle.kt_tree.specs.declared.tree.Tree.{Tree}
+use Rattle.kt_tree.proofs.Shapes.{kept, spelled_is}
+use Rattle.kt_tree.proofs.Trees.{tree_is, owned_stands}
+
+-- a tree of no node, in any pool
+pub bare_tree : (tree : Tree) (pool : Contents) → tree.root ≡ nothing → tree.count ≡ 0 → IsTree tree pool
+bare_tree tree pool e n = tree_is tree pool leaf (record { root = e; holds = tt; apart = λ k. omega arith }) tt n
+
+pub bare_owns : (tree : Tree) (pool : Contents) → tree.root ≡ nothing → (k : ℕ) → ¬ Owns tree pool k
+bare_owns tree pool e k o =
+    let is = spelled_is pool tree.root leaf (record { root = e; holds = tt; apart = λ k. omega arith }) in
+    let none = ap (λ s. count s k) is in absurd (omega arith)
+
+-- the places of a tree stand
+pub owned : (tree : Tree) (pool : Contents) (k : ℕ) → IsTree tree pool → Owns tree pool k → Stands pool k
+owned tree pool k t o = owned_stands pool (shape_of tree pool) k t.stands.holds o
+
+-- where a call changes no place of a tree, the tree stands with the same entries and the same places
+module _ (tree : Tree) (old new : Contents) (t : IsTree tree old) (same : (k : ℕ) → Owns tree old k → at_cell new k ≡ at_cell old k) where
+  form_new : IsTreeAt new tree.root (shape_of tree old)
+  form_new = record { root = t.stands.root; holds = kept old new (shape_of tree old) t.stands.holds (λ k low. same k low); apart = t.stands.apart }
+
+  pub still_tree : IsTree tree new
+  still_tree = tree_is tree new (shape_of tree old) form_new t.rising t.counted
+
+  pub still_entries : entries tree new ≡ entries tree old
+  still_entries = ap flat (spelled_is new tree.root (shape_of tree old) form_new)
+
+  pub still_owns : (k : ℕ) → Owns tree new k → Owns tree old k
+  still_owns k o = let e = ap (λ s. count s k) (spelled_is new tree.root (shape_of tree old) form_new) in omega arith
+
+  pub owns_still : (k : ℕ) → Owns tree old k → Owns tree new k
+  owns_still k o = let e = ap (λ s. count s k) (spelled_is new tree.root (shape_of tree old) form_new) in omega arith

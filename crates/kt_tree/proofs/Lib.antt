@@ -1,0 +1,11 @@
+pub mod Orders
+pub mod Places
+pub mod Shapes
+pub mod Splitting
+pub mod Joining
+pub mod Overwriting
+pub mod Hanging
+pub mod Clearing
+pub mod Trees
+pub mod Walks
+pub mod Callers

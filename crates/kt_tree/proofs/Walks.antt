@@ -1,0 +1,128 @@
+-- A walk down a tree.
+use Rattle.std.proofs.Common.{◌≡◌, ◌≢◌, ℕ, Bool, true, false, List, [], ◌∷◌, ◌++◌, refl, sym, ap, ◌∙◌, arith, subst, Some, None, Option}
+use Rattle.std.specs.List.{find}
+use Rattle.std.specs.Option.{option_map}
+use Rattle.std.specs.Ordering.{is_gt}
+use Rattle.std.specs.declared.cmp.Ordering.{Ordering}
+use Rattle.std.specs.declared.cmp.Ordering.TheVariants.{Less, Equal, Greater}
+use Rattle.std.proofs.lemmas.Bool.{false≢true}
+use Rattle.kt_pool.specs.Contents.{Contents, at_cell, bytes_at}
+use Rattle.kt_tree.specs.Entries.{Entry, order, AreBelow, IsRising, is_at, value_of, is_past, is_after}
+use Rattle.kt_tree.specs.Shapes.{nothing, node_of, Shape, leaf, node, root_of, flat, count, IsTreeAt}
+use Rattle.kt_tree.specs.Trees.{entries, place_at}
+use Rattle.kt_tree.specs.Walks.{Seeks, SeeksAfter, or_else}
+use Rattle.kt_tree.specs.declared.node.Node.{Node}
+use Rattle.kt_tree.specs.declared.tree.Tree.{Tree}
+use Rattle.kt_tree.specs.declared.tree.Pair.{Pair}
+use Rattle.kt_tree.proofs.Orders.{below_weaker, below_same, rising_right, rising_left, rising_below, find_past, find_in, find_first, find_next, none_after}
+use Rattle.kt_tree.proofs.Places.{one_same}
+use Rattle.kt_tree.proofs.Shapes.{key_is}
+use Rattle.kt_tree.proofs.Joining.{node_says, node_order, tree_right, tree_left, find_right, find_lefts, find_here}
+
+module _ (tree : Tree) (pool : Contents) (cell : ℕ) (key : List ℕ) (n : Node) (read : n ≡ node_of (bytes_at pool cell)) (ne : cell ≢ nothing) where
+  to_right : order (bytes_at pool n.key) key ≡ Less → (s : Shape) → IsTreeAt pool cell s → IsRising (flat s) → find (is_at key) (entries tree pool) ≡ find (is_at key) (flat s) → Seeks tree pool n.right key
+  to_right o leaf t rising same = absurd (ne t.root)
+  to_right o (node at l own place value r) t rising same = record {
+    form = r;
+    stands = tree_right pool cell key n read at l own place value r t;
+    rising = (rising_right (flat l) (record { key = own; value = value } ∷ flat r) rising).1;
+    same = same ∙ find_right pool cell key n read at l own place value r t rising (sym (node_order pool cell key n read at l own place value r t) ∙ o);
+  }
+
+  to_left : order (bytes_at pool n.key) key ≡ Greater → (s : Shape) → IsTreeAt pool cell s → IsRising (flat s) → find (is_at key) (entries tree pool) ≡ find (is_at key) (flat s) → Seeks tree pool n.left key
+  to_left o leaf t rising same = absurd (ne t.root)
+  to_left o (node at l own place value r) t rising same = record {
+    form = l;
+    stands = tree_left pool cell key n read at l own place value r t;
+    rising = rising_left (flat l) (record { key = own; value = value } ∷ flat r) rising;
+    same = same ∙ find_lefts pool cell key n read at l own place value r t rising (sym (node_order pool cell key n read at l own place value r t) ∙ o);
+  }
+
+  found_by : order (bytes_at pool n.key) key ≡ Equal → (s : Shape) → IsTreeAt pool cell s → IsRising (flat s) → find (is_at key) (entries tree pool) ≡ find (is_at key) (flat s) → Some (place_at n.value) ≡ option_map place_at (value_of key (entries tree pool))
+  found_by o leaf t rising same = absurd (ne t.root)
+  found_by o (node at l own place value r) t rising same =
+      let says = node_says pool cell key n read at l own place value r t in
+      let e = same ∙ find_here pool cell key n read at l own place value r t rising (sym (node_order pool cell key n read at l own place value r t) ∙ o) in
+      ap (λ (m : Node). Some (place_at m.value)) says ∙ sym (ap (λ o. option_map place_at (option_map (λ (e : Entry). e.value) o)) e)
+
+  pub seeks_right : order (bytes_at pool n.key) key ≡ Less → Seeks tree pool cell key → Seeks tree pool n.right key
+  seeks_right o h = to_right o h.form h.stands h.rising h.same
+
+  pub seeks_left : order (bytes_at pool n.key) key ≡ Greater → Seeks tree pool cell key → Seeks tree pool n.left key
+  seeks_left o h = to_left o h.form h.stands h.rising h.same
+
+  pub found_here : order (bytes_at pool n.key) key ≡ Equal → Seeks tree pool cell key → Some (place_at n.value) ≡ option_map place_at (value_of key (entries tree pool))
+  found_here o h = found_by o h.form h.stands h.rising h.same
+
+-- ---- the first key after another
+
+find_mid : (p : Entry → Bool) (xs : List Entry) (e : Entry) (ys : List Entry) → p e ≡ true → find p (xs ++ e ∷ ys) ≡ or_else (find p xs) (Some e)
+find_mid p xs e ys passes = by (find p xs) refl
+  where
+    by : (o : Option Entry) → find p xs ≡ o → find p (xs ++ e ∷ ys) ≡ or_else o (Some e)
+    by None none = find_past p xs (e ∷ ys) none ∙ find_first p e ys passes
+    by (Some x) some = find_in p xs (e ∷ ys) x some
+
+else_twice : (a : Option Entry) (e : Entry) (f : Option Entry) → or_else (or_else a (Some e)) f ≡ or_else a (Some e)
+else_twice None e f = refl
+else_twice (Some x) e f = refl
+
+-- where a key is not after another, none below it is
+none_past : (key : Option (List ℕ)) (own : List ℕ) (es : List Entry) → is_past key own ≡ false → AreBelow own es → find (is_after key) es ≡ None
+none_past None own es fails h = absurd (false≢true (sym fails))
+none_past (Some key) own es fails h = by (order own key) refl fails
+  where
+    by : (o : Ordering) → order own key ≡ o → is_gt o ≡ false → find (is_after (Some key)) es ≡ None
+    by Less e f = none_after key es (below_weaker own key es e h)
+    by Equal e f = none_after key es (below_same own key es e h)
+    by Greater e f = absurd (false≢true (sym f))
+
+module _ (tree : Tree) (pool : Contents) (cell : ℕ) (key : Option (List ℕ)) (n : Node) (read : n ≡ node_of (bytes_at pool cell)) (ne : cell ≢ nothing) (best : Option Pair) where
+  past_right : is_past key (bytes_at pool n.key) ≡ false → (h : SeeksAfter tree pool cell key best) → (s : Shape) → h.form ≡ s → SeeksAfter tree pool n.right key best
+  past_right fails h leaf is = absurd (ne (h.stands.root ∙ ap root_of is))
+  past_right fails h (node at l own place value r) is =
+      let t = subst (IsTreeAt pool cell) is h.stands in
+      let rising = subst IsRising (ap flat is) h.rising in
+      let says = node_says pool cell [] n read at l own place value r t in
+      let own_is : bytes_at pool n.key ≡ own = ap (λ (m : Node). bytes_at pool m.key) says ∙ key_is pool cell at l own place value r t in
+      let no_own : is_past key own ≡ false = ap (is_past key) (sym own_is) ∙ fails in
+      record {
+        form = r;
+        stands = tree_right pool cell [] n read at l own place value r t;
+        rising = (rising_right (flat l) (record { key = own; value = value } ∷ flat r) rising).1;
+        part = λ k. let p = h.part k in let e = ap (λ s. count s k) is in omega arith;
+        found = h.found;
+        is_best = h.is_best;
+        same = h.same ∙ ap (λ s. or_else (find (is_after key) (flat s)) h.found) is
+            ∙ ap (λ o. or_else o h.found) (find_past (is_after key) (flat l) (record { key = own; value = value } ∷ flat r) (none_past key own (flat l) no_own (rising_below (flat l) (record { key = own; value = value }) (flat r) rising)) ∙ find_next (is_after key) (record { key = own; value = value }) (flat r) no_own);
+      }
+
+  past_left : is_past key (bytes_at pool n.key) ≡ true → (h : SeeksAfter tree pool cell key best) → (s : Shape) → h.form ≡ s → SeeksAfter tree pool n.left key (Some (record { key = place_at n.key; value = place_at n.value }))
+  past_left passes h leaf is = absurd (ne (h.stands.root ∙ ap root_of is))
+  past_left passes h (node at l own place value r) is =
+      let t = subst (IsTreeAt pool cell) is h.stands in
+      let rising = subst IsRising (ap flat is) h.rising in
+      let says = node_says pool cell [] n read at l own place value r t in
+      let own_is : bytes_at pool n.key ≡ own = ap (λ (m : Node). bytes_at pool m.key) says ∙ key_is pool cell at l own place value r t in
+      let yes_own : is_past key own ≡ true = ap (is_past key) (sym own_is) ∙ passes in
+      record {
+        form = l;
+        stands = tree_left pool cell [] n read at l own place value r t;
+        rising = rising_left (flat l) (record { key = own; value = value } ∷ flat r) rising;
+        part = λ k. let p = h.part k in let e = ap (λ s. count s k) is in omega arith;
+        found = Some (record { key = own; value = value });
+        is_best = record {
+          key = ap (λ (m : Node). at_cell pool m.key) says ∙ t.holds.1;
+          owned = let p = h.part n.key in let e = ap (λ s. count s n.key) is in let one = one_same place n.key (sym (ap (λ (m : Node). m.key) says)) in omega arith;
+          value = ap (λ (m : Node). m.value) says;
+        };
+        same = h.same ∙ ap (λ s. or_else (find (is_after key) (flat s)) h.found) is
+            ∙ ap (λ o. or_else o h.found) (find_mid (is_after key) (flat l) (record { key = own; value = value }) (flat r) yes_own)
+            ∙ else_twice (find (is_after key) (flat l)) (record { key = own; value = value }) h.found;
+      }
+
+  pub after_right : is_past key (bytes_at pool n.key) ≡ false → SeeksAfter tree pool cell key best → SeeksAfter tree pool n.right key best
+  after_right fails h = past_right fails h h.form refl
+
+  pub after_left : is_past key (bytes_at pool n.key) ≡ true → SeeksAfter tree pool cell key best → SeeksAfter tree pool n.left key (Some (record { key = place_at n.key; value = place_at n.value }))
+  after_left passes h = past_left passes h h.form refl

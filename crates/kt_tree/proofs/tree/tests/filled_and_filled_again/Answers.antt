@@ -1,0 +1,4 @@
+use Rattle.kt_tree.proofs.tree.tests.filled_and_filled_again.Goals as goal
+
+pub put-requires-clause-tree : goal.put-requires-clause-tree
+put-requires-clause-tree g c = c.new-tree.ensures.tree c.reserve.new.self

@@ -1,0 +1,6 @@
+pub mod Entries
+pub mod Shapes
+pub mod Takes
+pub mod Trees
+pub mod Walks
+pub mod Changes

@@ -1,0 +1,46 @@
+-- What a tree is to its callers, read with its pool.
+use Rattle.std.specs.Prelude.{◌≡◌, ℕ, ◌+◌, ◌<◌, List, length, Option, None, Some}
+use Rattle.kt_pool.specs.Contents.{Contents, cells_for, at_cell}
+use Rattle.kt_pool.specs.declared.place.Place.{Place}
+use Rattle.kt_tree.specs.Entries.{Entry, IsRising}
+use Rattle.kt_tree.specs.Shapes.{Shape, shape_at, flat, count, IsTreeAt}
+use Rattle.kt_tree.specs.declared.tree.Pair.{Pair}
+use Rattle.kt_tree.specs.declared.tree.Tree.{Tree}
+
+abbrev pub shape_of : Tree → Contents → Shape
+shape_of tree pool = shape_at pool (length pool.places) tree.root
+
+-- the keys of the tree, rising, each with the place of its value
+abbrev pub entries : Tree → Contents → List Entry
+entries tree pool = flat (shape_of tree pool)
+
+-- this cell begins a place of the tree: that of a node, or of a key
+abbrev pub Owns : Tree → Contents → ℕ → Type 0
+Owns tree pool k = 0 < count (shape_of tree pool) k
+
+-- the tree stands in this pool
+pub record IsTree (tree : Tree) (pool : Contents) : Type 0 where
+  pub stands : IsTreeAt pool tree.root (shape_of tree pool)
+  pub rising : IsRising (entries tree pool)
+  pub counted : tree.count ≡ length (entries tree pool)
+
+-- a place, by its cell
+abbrev pub place_at : ℕ → Place
+place_at cell = record { cell = cell }
+
+-- the pair is that of the entry: where its key is placed, and its value
+pub record IsPair (tree : Tree) (pool : Contents) (p : Pair) (e : Entry) : Type 0 where
+  pub key : at_cell pool p.key.cell ≡ Some e.key
+  pub owned : Owns tree pool p.key.cell
+  pub value : p.value.cell ≡ e.value
+
+-- there is a pair where there is an entry, and it is that one's
+abbrev pub IsPairOf : Tree → Contents → Option Pair → Option Entry → Type 0
+IsPairOf tree pool None None = Unit {0}
+IsPairOf tree pool (Some p) (Some e) = IsPair tree pool p e
+IsPairOf tree pool None (Some e) = ⊥
+IsPairOf tree pool (Some p) None = ⊥
+
+-- the cells that a new key takes: one for its node, and its own
+abbrev pub need : List ℕ → ℕ
+need key = 1 + cells_for (length key)

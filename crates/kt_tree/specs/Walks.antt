@@ -1,0 +1,30 @@
+-- How far a walk down a tree has come.
+use Rattle.std.specs.Prelude.{◌≡◌, ℕ, ◌≤◌, List, Option, None, Some}
+use Rattle.std.specs.List.{find}
+use Rattle.kt_pool.specs.Contents.{Contents}
+use Rattle.kt_tree.specs.Entries.{Entry, IsRising, is_at, is_after}
+use Rattle.kt_tree.specs.Shapes.{Shape, IsTreeAt, flat, count}
+use Rattle.kt_tree.specs.Trees.{entries, shape_of, IsPairOf}
+use Rattle.kt_tree.specs.declared.tree.Tree.{Tree}
+use Rattle.kt_tree.specs.declared.tree.Pair.{Pair}
+
+-- the key is in the tree that begins here, if it is anywhere
+pub record Seeks (tree : Tree) (pool : Contents) (cell : ℕ) (key : List ℕ) : Type 0 where
+  pub form : Shape
+  pub stands : IsTreeAt pool cell form
+  pub rising : IsRising (flat form)
+  pub same : find (is_at key) (entries tree pool) ≡ find (is_at key) (flat form)
+
+abbrev pub or_else : Option Entry → Option Entry → Option Entry
+or_else None e = e
+or_else (Some x) e = Some x
+
+-- the first key after this one is in the tree that begins here, or else it is the best so far
+pub record SeeksAfter (tree : Tree) (pool : Contents) (cell : ℕ) (key : Option (List ℕ)) (best : Option Pair) : Type 0 where
+  pub form : Shape
+  pub stands : IsTreeAt pool cell form
+  pub rising : IsRising (flat form)
+  pub part : (k : ℕ) → count form k ≤ count (shape_of tree pool) k
+  pub found : Option Entry
+  pub is_best : IsPairOf tree pool best found
+  pub same : find (is_after key) (entries tree pool) ≡ or_else (find (is_after key) (flat form)) found

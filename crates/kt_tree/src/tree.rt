@@ -1,0 +1,145 @@
+//! The sorted map.
+ghost use Rattle.std.specs.Prelude.{◌≡◌, ◌≤◌, ◌+◌, ◌⊎◌, ℕ, [], length, IfSome, None, is_some, if◌then◌else◌};
+ghost use Rattle.std.specs.Option.{option_map, option_copied};
+ghost use Rattle.std.specs.List.{sum_by};
+ghost use Rattle.kt_pool.specs.Contents.{Contents, Stands, at_cell, bytes_at, used};
+ghost use Rattle.kt_tree.specs.Entries.{Entry, value_of, is_past, next, put};
+ghost use Rattle.kt_tree.specs.Takes.{Takes};
+ghost use Rattle.kt_tree.specs.Trees.{IsTree, IsPairOf, entries, Owns, need, place_at};
+
+use crate::change::{give_back, hang, overwrite};
+use crate::node::{NOTHING, node_in, place};
+use kt_pool::{Place, Pool};
+use std::cmp::Ordering;
+
+#[cfg(test)]
+mod tests;
+
+/// A key's place, and that of its value.
+#[derive(Clone, Copy, Debug, PartialEq, Eq)]
+pub struct Pair {
+    pub key: Place,
+    pub value: Place,
+}
+
+/// Whether the key that is placed there is above this one, if there is one.
+fn is_past(pool: &Pool, place: Place, key: Option<&[u8]>) -> bool
+    requires { Stands pool.now place.cell }
+    ensures { result ≡ is_past (option_copied key.entry) (bytes_at pool.now place.cell) }
+{
+    match key {
+        Some(key) => pool.compare(place, key).is_gt(),
+        None => true,
+    }
+}
+
+/// A sorted map in a pool's cells. It gives them back by `empty_into` only.
+#[derive(Drop)]
+pub struct Tree {
+    root: u32,
+    count: u32,
+}
+
+impl Tree {
+    /// A tree with no key. It takes no cell.
+    pub fn new() -> Tree
+        ensures tree { (pool : Contents) → IsTree result pool }
+        ensures empty { (pool : Contents) → entries result pool ≡ [] }
+        ensures bare { (pool : Contents) (k : ℕ) → ¬ Owns result pool k }
+    {
+        Tree {
+            root: NOTHING,
+            count: 0,
+        }
+    }
+
+    /// How many keys there are.
+    pub fn len(&self) -> u32
+        ensures { (pool : Contents) → IsTree self.now pool → result ≡ length (entries self.now pool) }
+    {
+        self.count
+    }
+
+    /// Sets the place of a key's value, in reserved cells: one for the node and those of the key, of which none is taken
+    /// where the key is there. Says where its value was.
+    pub fn insert_reserved(&mut self, pool: &mut Pool, key: &[u8], value: Place) -> Option<Place>
+        requires tree { IsTree self.old pool.old }
+        requires reserved { need key.now ≤ pool.old.reserved }
+        ensures tree { IsTree self.new pool.new }
+        ensures put { entries self.new pool.new ≡ put key.now value.cell (entries self.old pool.old) }
+        ensures old { result ≡ option_map place_at (value_of key.now (entries self.old pool.old)) }
+        ensures takes { Takes pool.old pool.new (if is_some result then 0 else need key.now) }
+        // Its new places are vacant before, and every other place keeps its bytes.
+        ensures keeps { (k : ℕ) → Owns self.old pool.old k → Owns self.new pool.new k }
+        ensures grows { (k : ℕ) → Owns self.new pool.new k → Owns self.old pool.old k ⊎ (at_cell pool.old k ≡ None) }
+        ensures frame { (k : ℕ) → ¬ Owns self.new pool.new k → at_cell pool.new k ≡ at_cell pool.old k }
+    {
+        if let Some(old) = overwrite(pool, self.root, key, value.cell) {
+            return Some(Place { cell: old });
+        }
+        let at = pool.place(key);
+        let fresh = place(pool, at.cell, value.cell);
+        self.root = hang(pool, self.root, fresh, key);
+        prove!(self.count < pool.size());
+        self.count += 1;
+        None
+    }
+
+    /// Where the value of this key is placed, if it is there.
+    pub fn get(&self, pool: &Pool, key: &[u8]) -> Option<Place>
+        requires { IsTree self.now pool.now }
+        ensures { result ≡ option_map place_at (value_of key.now (entries self.now pool.now)) }
+    {
+        let mut cell = self.root;
+        while cell != NOTHING {
+            let node = node_in(pool, cell);
+            match pool.compare(Place { cell: node.key }, key) {
+                Ordering::Less => cell = node.right,
+                Ordering::Greater => cell = node.left,
+                Ordering::Equal => return Some(Place { cell: node.value }),
+            }
+        }
+        None
+    }
+
+    /// The least key above this one, or the least of all, and its value.
+    pub fn after(&self, pool: &Pool, key: Option<&[u8]>) -> Option<Pair>
+        requires { IsTree self.now pool.now }
+        ensures pair { IsPairOf self.now pool.now result (next (option_copied key.entry) (entries self.now pool.now)) }
+        ensures stands { IfSome result (λ pair. Stands pool.now pair.key.cell) }
+    {
+        let mut best = None;
+        let mut cell = self.root;
+        while cell != NOTHING {
+            let node = node_in(pool, cell);
+            let at = Place { cell: node.key };
+            if is_past(pool, at, key) {
+                best = Some(Pair {
+                    key: at,
+                    value: Place { cell: node.value },
+                });
+                cell = node.left;
+            } else {
+                cell = node.right;
+            }
+        }
+        best
+    }
+
+    /// Gives back the cells of all nodes and keys. The values keep theirs.
+    pub fn empty_into(&mut self, pool: &mut Pool)
+        requires { IsTree self.old pool.old }
+        ensures tree { IsTree self.new pool.new }
+        ensures empty { entries self.new pool.new ≡ [] }
+        ensures size { length pool.new.places ≡ length pool.old.places }
+        ensures reserved { pool.new.reserved ≡ pool.old.reserved }
+        ensures used { used pool.new + sum_by (λ (e : Entry). need e.key) (entries self.old pool.old) ≡ used pool.old }
+        ensures gone { (k : ℕ) → Owns self.old pool.old k → at_cell pool.new k ≡ None }
+        ensures frame { (k : ℕ) → ¬ Owns self.old pool.old k → at_cell pool.new k ≡ at_cell pool.old k }
+        ensures bare { (k : ℕ) → ¬ Owns self.new pool.new k }
+    {
+        give_back(pool, self.root);
+        self.root = NOTHING;
+        self.count = 0;
+    }
+}
