@@ -1,0 +1,13 @@
+//! Why a log is not opened.
+
+/// Why a log is not opened.
+#[derive(Clone, Copy, Debug, PartialEq, Eq)]
+pub enum PlainNo {
+    /// The log is at fault in the frame whose gate stands at this offset.
+    B3 { offset: u64 },
+    /// Its last timestamp is too great for another run.
+    B6 { last: u64 },
+    /// A call on the device failed.
+    Fault,
+    Memory,
+}
