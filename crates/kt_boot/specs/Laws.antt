@@ -17,7 +17,7 @@ abbrev pub a_replicate_adds_its_write : Type 0
 a_replicate_adds_its_write = (fill : Row) (records : List Entry) (past : Past) (ts : ℕ) (ops : List RowOp) → IsLog (records ++ Replicate ts ops ∷ [])
     → replay fill records empty records ≡ Ok past
     → (replay fill (records ++ Replicate ts ops ∷ []) empty (records ++ Replicate ts ops ∷ []) ≡ Ok (with_write past ts (changes_on fill (rows_at past (ts - 1)) ops)))
-      × (last_of (records ++ Replicate ts ops ∷ []) ≡ ts)
+    × (last_of (records ++ Replicate ts ops ∷ []) ≡ ts)
 
 -- the rows of a COMMIT call needed exactly the operations that changed these rows
 pub data Tells (fill : Row) (rows : Rows) : List RowOp → List CommitRow → Type 0 where
@@ -30,4 +30,4 @@ a_commit_changes_nothing = (fill : Row) (records : List Entry) (past : Past) (ts
     → IsLog (records ++ Replicate ts ops ∷ Commit ts commits ∷ [])
     → replay fill records empty records ≡ Ok past → Tells fill (rows_at past (ts - 1)) ops commits
     → (replay fill (records ++ Replicate ts ops ∷ Commit ts commits ∷ []) empty (records ++ Replicate ts ops ∷ Commit ts commits ∷ []) ≡ Ok (with_write past ts (changes_on fill (rows_at past (ts - 1)) ops)))
-      × (last_of (records ++ Replicate ts ops ∷ Commit ts commits ∷ []) ≡ ts)
+    × (last_of (records ++ Replicate ts ops ∷ Commit ts commits ∷ []) ≡ ts)

@@ -23,11 +23,7 @@ pub struct Plain<L: Disk> {
 }
 
 /// Opens the log of a device, for a table of this schema. An `Err` hands the device back.
-pub fn open_plain<L: Disk>(
-    alloc: Global,
-    log: L,
-    schema: &Schema,
-) -> Result<Plain<L>, (L, PlainNo)>
+pub fn open_plain<L: Disk>(alloc: Global, log: L, schema: &Schema) -> Result<Plain<L>, (L, PlainNo)>
     requires openable { IsTrue L.tells → CanOpen L.now L.leaves log }
 
     // The past is the one that the log holds, and the table has the rows at its end.

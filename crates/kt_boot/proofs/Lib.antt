@@ -1,0 +1,2 @@
+pub mod LogOrder
+pub mod Replays
