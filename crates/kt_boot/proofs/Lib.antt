@@ -1,2 +1,3 @@
 pub mod LogOrder
 pub mod Replays
+pub mod Rows
