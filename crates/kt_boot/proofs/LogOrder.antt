@@ -1,5 +1,5 @@
 -- What the order of a log tells of the records before a REPLICATE.
-use Rattle.std.proofs.Common.{◌≡◌, ℕ, ◌<◌, ◌≤◌, max, List, [], ◌∷◌, ◌++◌, Some, None, Option, refl, true, false, Bool, cond, sym, ap, ◌∙◌, arith}
+use Rattle.std.proofs.Common.{◌≡◌, ℕ, ◌<◌, List, [], ◌∷◌, ◌++◌, Some, None, Option, refl, true, false, cond, ap, ◌∙◌, arith}
 use Rattle.std.specs.Prelude.{◌==◌, nat_lt, length}
 use Rattle.std.proofs.lemmas.Bool.Decides.{nat_tests}
 use Rattle.kt_history.specs.declared.operation.RowOp.{RowOp}

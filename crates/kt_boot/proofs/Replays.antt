@@ -1,9 +1,8 @@
 -- The replay of a log that grows.
-use Rattle.std.proofs.Common.{◌≡◌, ℕ, ◌-◌, ◌<◌, List, [], ◌∷◌, ◌++◌, Some, None, Option, Result, Ok, Err, refl, true, false, Bool, ◌&&◌, cond, sym, ap, ◌∙◌, arith}
+use Rattle.std.proofs.Common.{◌≡◌, ℕ, ◌-◌, ◌<◌, List, [], ◌∷◌, ◌++◌, Some, None, Result, Ok, Err, refl, true, false, cond, ap, ◌∙◌}
 use Rattle.std.specs.Prelude.{is_some, ◌==◌}
-use Rattle.std.specs.List.{list_all, cons_option}
+use Rattle.std.specs.List.{cons_option}
 use Rattle.kt_history.specs.declared.operation.RowOp.{RowOp}
-use Rattle.kt_history.specs.declared.change.Change.{Change}
 use Rattle.kt_history.specs.Rows.{Row, Rows}
 use Rattle.kt_history.specs.History.{Past, rows_at, with_write}
 use Rattle.kt_history.specs.Operations.{effect_on, changes_on, keyed}
@@ -11,9 +10,9 @@ use Rattle.kt_records.specs.declared.entry.Entry.{Entry}
 use Rattle.kt_records.specs.declared.entry.Entry.TheVariants.{Replicate, Commit}
 use Rattle.kt_records.specs.declared.entry.CommitRow.{CommitRow}
 use Rattle.kt_journal.specs.Order.{InOrder}
-use Rattle.kt_boot.specs.Replay.{is_needed, needed_ops, commit_of, replayed, all_change, is_fitting, replay, empty, last_of}
+use Rattle.kt_boot.specs.Replay.{needed_ops, commit_of, replayed, all_change, is_fitting, replay, empty}
 use Rattle.kt_boot.specs.Laws.{Tells, a_replicate_adds_its_write, a_commit_changes_nothing}
-use Rattle.kt_boot.specs.Laws.Tells.{nothing, and_one}
+use Rattle.kt_boot.specs.Laws.Tells.{and_one}
 use Rattle.kt_boot.proofs.LogOrder.{differs_down, same, is_later, no_commit_yet, last_of-ends, commit_of-append, commit_of-after}
 
 -- more records go on from the past of those before

@@ -61,7 +61,7 @@ module _ {K : Type 0} (bytes : K → List ℕ) where
   inserted k new [] = refl
   inserted k new (row ∷ rows) =
       elim (key_cmp (bytes k) (bytes row.0)) as (λ o. seen (match_ordering o ((k, new) ∷ row ∷ rows) ((row.0, new) ∷ rows) (row ∷ insert_entry (λ x y. key_cmp (bytes x) (bytes y)) rows k new))
-          ≡ by_order o ((bytes k, new) ∷ seen (row ∷ rows)) ((bytes row.0, new) ∷ seen rows) ((bytes row.0, row.1) ∷ put key_cmp (bytes k) new (seen rows))) [
+      ≡ by_order o ((bytes k, new) ∷ seen (row ∷ rows)) ((bytes row.0, new) ∷ seen rows) ((bytes row.0, row.1) ∷ put key_cmp (bytes k) new (seen rows))) [
         | Less ↦ refl
         | Equal ↦ refl
         | Greater ↦ ap (λ rest. (bytes row.0, row.1) ∷ rest) (inserted k new rows)
@@ -71,7 +71,7 @@ module _ {K : Type 0} (bytes : K → List ℕ) where
   removed q [] h = refl
   removed q (row ∷ rows) h =
       elim (eq_by_cmp key_cmp q (bytes row.0)) as (λ b. eq_by_cmp key_cmp q (bytes row.0) ≡ b → seen (cond b rows (row ∷ remove_entry (is_at (λ k. key_cmp q (bytes k))) rows))
-          ≡ cond (not b) ((bytes row.0, row.1) ∷ where_key key_cmp (λ other. not (eq_by_cmp key_cmp q other)) (seen rows)) (where_key key_cmp (λ other. not (eq_by_cmp key_cmp q other)) (seen rows))) [
+      ≡ cond (not b) ((bytes row.0, row.1) ∷ where_key key_cmp (λ other. not (eq_by_cmp key_cmp q other)) (seen rows)) (where_key key_cmp (λ other. not (eq_by_cmp key_cmp q other)) (seen rows))) [
         | true ↦ λ same. sym (all_stay q (bytes row.0) (equal _ same) (seen rows) (left_true _ _ h))
         | false ↦ λ _. ap (λ rest. (bytes row.0, row.1) ∷ rest) (removed q rows (right_true _ _ h))
       ] refl

@@ -1,6 +1,5 @@
 -- What a record more does to what a log holds.
-use Rattle.std.specs.Prelude.{◌≡◌, ◌↔◌, ℕ, ◌-◌, ◌<◌, max, List, [], ◌∷◌, ◌++◌, map, Some, None, Result, Ok, is_some, Bool}
-use Rattle.std.specs.List.{list_all, zip}
+use Rattle.std.specs.Prelude.{◌≡◌, ℕ, ◌-◌, List, [], ◌∷◌, ◌++◌, Ok, is_some}
 use Rattle.kt_history.specs.declared.operation.RowOp.{RowOp}
 use Rattle.kt_history.specs.Rows.{Row, Rows}
 use Rattle.kt_history.specs.History.{Past, rows_at, with_write}
@@ -8,7 +7,6 @@ use Rattle.kt_history.specs.Operations.{changes_on, effect_on}
 use Rattle.kt_records.specs.declared.entry.Entry.{Entry}
 use Rattle.kt_records.specs.declared.entry.Entry.TheVariants.{Replicate, Commit}
 use Rattle.kt_records.specs.declared.entry.CommitRow.{CommitRow}
-use Rattle.kt_journal.specs.Order.{waiting, newest_first}
 use Rattle.kt_journal.specs.Log.{IsLog}
 use Rattle.kt_boot.specs.Replay.{replay, last_of, empty, is_needed}
 

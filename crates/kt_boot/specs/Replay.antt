@@ -4,7 +4,7 @@ use Rattle.std.specs.List.{list_any, list_all}
 use Rattle.kt_history.specs.declared.target.Target.{Target}
 use Rattle.kt_history.specs.declared.target.Target.TheVariants.{Mem, Delta}
 use Rattle.kt_history.specs.declared.operation.RowOp.{RowOp}
-use Rattle.kt_history.specs.Rows.{Row, Rows, Changes}
+use Rattle.kt_history.specs.Rows.{Row, Rows}
 use Rattle.kt_history.specs.History.{Past, rows_at, with_write}
 use Rattle.kt_history.specs.Operations.{effect_on, changes_on}
 use Rattle.kt_records.specs.declared.entry.Entry.{Entry}

@@ -8,9 +8,10 @@ pub mod laws;
 mod opening;
 mod past;
 mod refusal;
+mod replay;
 mod table;
 
 pub use opening::{Plain, open_plain};
 pub use past::{PastList, PastWrite};
 pub use refusal::PlainNo;
-pub use table::Table;
+pub use table::{Table, TableRows};

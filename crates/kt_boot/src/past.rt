@@ -1,6 +1,11 @@
 //! The past that a log holds.
-use kt_base::Octets;
+ghost use Rattle.std.specs.Prelude.{◌≡◌, map, length, OnOk};
+ghost use Rattle.kt_history.specs.History.{with_write};
+ghost use Rattle.kt_boot.specs.Replay.{empty};
+
+use kt_base::{NoMemory, Octets};
 use kt_history::Change;
+use std::alloc::Global;
 use std::marker::Model;
 
 /// A write that changed rows: its timestamp, and the change of each of its keys.
@@ -23,4 +28,39 @@ impl Model for PastList {
     ghost Value = { Past };
 
     ghost view = { λ p. record { mark = 0; base = []; writes = map (λ w. record { ts = w.ts; changes = w.changes.items }) p.writes.items } };
+}
+
+impl PastList {
+    /// The past of a fresh table.
+    pub fn new(alloc: Global) -> PastList
+        ensures { result ≡ empty }
+    {
+        PastList {
+            writes: Vec::new(alloc),
+        }
+    }
+
+    /// The writes by rising timestamp.
+    pub fn as_slice(&self) -> &[PastWrite]
+        ensures { map (λ w. record { ts = w.ts; changes = w.changes.items }) result.now ≡ self.now.writes }
+    {
+        &self.writes
+    }
+
+    /// How many writes it has.
+    pub fn len(&self) -> usize
+        ensures { result ≡ length self.now.writes }
+    {
+        self.writes.len()
+    }
+
+    // Adds a write above all others, unless it changes nothing.
+    pub(crate) fn add(&mut self, ts: u64, changes: Vec<(Octets, Change)>) -> Result<(), NoMemory>
+        ensures { OnOk result (self.new ≡ with_write self.old ts changes.items) }
+    {
+        if !changes.is_empty() {
+            self.writes.push(PastWrite { ts, changes })?;
+        }
+        Ok(())
+    }
 }

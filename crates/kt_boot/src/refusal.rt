@@ -1,5 +1,7 @@
 //! Why a log is not opened.
 
+use kt_base::NoMemory;
+
 /// Why a log is not opened.
 #[derive(Clone, Copy, Debug, PartialEq, Eq)]
 pub enum PlainNo {
@@ -10,4 +12,15 @@ pub enum PlainNo {
     /// A call on the device failed.
     Fault,
     Memory,
+}
+
+impl From<NoMemory> for PlainNo {
+    ghost use Rattle.std.specs.Prelude.{◌≡◌};
+    ghost use Rattle.kt_boot.specs.declared.refusal.PlainNo.TheVariants.{Memory};
+
+    ghost from_gives = { λ _ e. e ≡ Memory };
+
+    fn from(_: NoMemory) -> Self {
+        PlainNo::Memory
+    }
 }

@@ -152,7 +152,12 @@ impl Table {
     }
 
     /// Does a change of a key. Without memory the rows stay as they were.
-    pub(crate) fn change(&mut self, alloc: Global, key: &[u8], change: &Change) -> Result<(), NoMemory>
+    pub(crate) fn change(
+        &mut self,
+        alloc: Global,
+        key: &[u8],
+        change: &Change,
+    ) -> Result<(), NoMemory>
         ensures ok { OnOk result (self.new ≡ changed ((key.now, change.now) ∷ []) self.old) }
         ensures err { OnErr result (self.new ≡ self.old) }
     {

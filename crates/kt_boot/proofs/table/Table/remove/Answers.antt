@@ -10,7 +10,7 @@ pub invariant_of-self : goal.invariant_of-self
 invariant_of-self c =
     let rows = c.self.inside.rows.entries in
     let is : seen (λ key. key.items) c.remove.new.self.entries ≡ where_key key_cmp (λ other. not (eq_by_cmp key_cmp c.args.key.now other)) (seen (λ key. key.items) rows)
-        = ap (seen (λ key. key.items)) c.remove.ensures.entries ∙ removed (λ key. key.items) c.args.key.now rows c.self.invariant in
+    = ap (seen (λ key. key.items)) c.remove.ensures.entries ∙ removed (λ key. key.items) c.args.key.now rows c.self.invariant in
     subst (λ (rows : Rows). IsTrue (is_sorted key_cmp rows)) (sym is) (sorted_set c.args.key.now None (seen (λ key. key.items) rows) c.self.invariant)
 
 pub returns : goal.returns
