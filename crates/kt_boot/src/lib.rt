@@ -15,3 +15,6 @@ pub use opening::{Plain, open_plain};
 pub use past::{PastList, PastWrite};
 pub use refusal::PlainNo;
 pub use table::{Table, TableRows};
+
+#[cfg(test)]
+mod tests;

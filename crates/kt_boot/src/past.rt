@@ -1,5 +1,5 @@
 //! The past that a log holds.
-ghost use Rattle.std.specs.Prelude.{◌≡◌, map, length, OnOk};
+ghost use Rattle.std.specs.Prelude.{◌≡◌, ◌==◌, map, length, OnOk};
 ghost use Rattle.kt_history.specs.History.{with_write};
 ghost use Rattle.kt_boot.specs.Replay.{empty};
 
@@ -52,6 +52,12 @@ impl PastList {
         ensures { result ≡ length self.now.writes }
     {
         self.writes.len()
+    }
+
+    pub fn is_empty(&self) -> bool
+        ensures { result ≡ (length self.now.writes == 0) }
+    {
+        self.writes.is_empty()
     }
 
     // Adds a write above all others, unless it changes nothing.
