@@ -1,0 +1,5 @@
+pub mod LogOrder
+pub mod Replays
+pub mod Rows
+pub mod Replayed
+pub mod Gates

@@ -1,0 +1,19 @@
+use Rattle.std.proofs.Common.{◌-◌, ◌<◌, length, arith}
+use Rattle.std.specs.Ordering.{nat_cmp}
+use Rattle.std.specs.BTreeMap as tree
+use Rattle.kt_boot.proofs.Replayed.{placed}
+use Rattle.kt_boot.proofs.replay.commit_places.Goals as goal
+
+pub records-preserved-in_ok-insert : goal.records-preserved-in_ok-insert
+records-preserved-in_ok-insert c =
+    let records = c.args.records.now in
+    let at = c.records.at in
+    let within = c.records.invariant.within in
+    let more = c.records-test.true in
+    let lt : at - 1 < length records = omega arith in
+    record {
+      within = omega arith;
+      each = λ ts.
+          placed records (at - 1) at c.in-Commit.ts c.in-Commit.rows c.index-records-at.result lt (omega arith) c.index-records-at.is c.in-Commit.is
+          (tree.get nat_cmp c.records.places ts) (tree.get nat_cmp c.insert.new.self ts) ts (c.in_ok-insert.ensures.updates.0 ts) (c.records.invariant.each ts);
+    }

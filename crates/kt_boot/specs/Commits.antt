@@ -1,0 +1,26 @@
+-- The rows of a COMMIT by its place among the records.
+use Rattle.std.specs.Prelude.{ℕ, ◌==◌, Bool, false, List, Option, Some, None, slice_get}
+use Rattle.kt_records.specs.declared.entry.Entry.{Entry}
+use Rattle.kt_records.specs.declared.entry.Entry.TheVariants.{Replicate, Commit}
+use Rattle.kt_records.specs.declared.entry.CommitRow.{CommitRow}
+use Rattle.kt_boot.specs.Replay.{is_needed}
+
+abbrev pub rows_in : Option Entry → Option (List CommitRow)
+rows_in None = None
+rows_in (Some (Replicate ts ops)) = None
+rows_in (Some (Commit ts rows)) = Some rows
+
+-- the rows of the COMMIT at this place
+abbrev pub commit_at : List Entry → Option ℕ → Option (List CommitRow)
+commit_at records None = None
+commit_at records (Some at) = rows_in (slice_get records at)
+
+-- a row that is there, and calls its operation needed
+abbrev pub needs : Option CommitRow → Bool
+needs None = false
+needs (Some row) = is_needed row
+
+-- whether it is the COMMIT of this timestamp
+abbrev pub is_commit_of : ℕ → Entry → Bool
+is_commit_of ts (Replicate t ops) = false
+is_commit_of ts (Commit t rows) = t == ts

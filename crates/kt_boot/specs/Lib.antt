@@ -1,0 +1,5 @@
+pub mod Replay
+pub mod Opening
+pub mod Laws
+pub mod Commits
+pub mod Refusal

@@ -1,0 +1,179 @@
+ghost use Rattle.std.specs.Prelude.{◌≡◌, [], IfOk};
+
+use crate::{Plain, PlainNo, open_plain};
+use kt_base::{Cell, Kind, Octets};
+use kt_disk::{FileBytes, FileBytesList, MemDisk};
+use kt_schema::{Column, ColumnList, Schema};
+use std::alloc::Global;
+use std::test::Fail;
+
+// The row of key a with 5 in column 2, inserted at 4096 and again at 8192, where the key is present.
+const INSERT: [u8; 28] = [
+    1, 0, 16, 0, 0, 0, 0, 0, 0, 1, 0, 1, 1, 0, 97, 1, 0, 2, 0, 2, 5, 0, 0, 0, 0, 0, 0, 0,
+];
+
+const AGAIN: [u8; 28] = [
+    1, 0, 32, 0, 0, 0, 0, 0, 0, 1, 0, 1, 1, 0, 97, 1, 0, 2, 0, 2, 5, 0, 0, 0, 0, 0, 0, 0,
+];
+
+// What became of the first: done in MemRowSet 1, and done in the first delta store of rowset 1.
+const IN_MEMORY: [u8; 22] = [
+    2, 0, 16, 0, 0, 0, 0, 0, 0, 1, 0, 0, 1, 1, 1, 0, 0, 0, 0, 0, 0, 0,
+];
+
+const IN_DELTA: [u8; 30] = [
+    2, 0, 16, 0, 0, 0, 0, 0, 0, 1, 0, 0, 1, 2, 1, 0, 0, 0, 0, 0, 0, 0, 1, 0, 0, 0, 0, 0, 0, 0,
+];
+
+// What became of the second: it was present, and done in MemRowSet 1, which cannot be.
+const PRESENT: [u8; 13] = [2, 0, 32, 0, 0, 0, 0, 0, 0, 1, 0, 1, 0];
+
+const DONE: [u8; 22] = [
+    2, 0, 32, 0, 0, 0, 0, 0, 0, 1, 0, 0, 1, 1, 1, 0, 0, 0, 0, 0, 0, 0,
+];
+
+// An upsert of key b, which names no cell, at 2^63 - 2^21 - 1, and the byte 9 of a later timestamp.
+const UPSERT: [u8; 17] = [
+    1, 0xff, 0xff, 0xdf, 0xff, 0xff, 0xff, 0xff, 0x7f, 1, 0, 2, 1, 0, 98, 0, 0,
+];
+
+const LATER: [u8; 17] = [
+    1, 0, 0, 0xe0, 0xff, 0xff, 0xff, 0xff, 0x7f, 1, 0, 2, 1, 0, 98, 0, 0,
+];
+
+fn column(alloc: Global, id: u16, name: &[u8], key: bool) -> Result<Column, Fail> {
+    Ok(Column {
+        id,
+        name: Octets::from_slice(alloc, name)?,
+        kind: Kind::Int64,
+        key,
+        nullable: false,
+        default: if key { None } else { Some(Cell::Int(7)) },
+    })
+}
+
+// A key, and a number that is 7 by default.
+fn schema(alloc: Global) -> Result<Schema, Fail> {
+    let mut columns = Vec::new(alloc);
+    columns.push(column(alloc, 1, b"k", true)?)?;
+    columns.push(column(alloc, 2, b"n", false)?)?;
+    Ok(Schema::new(alloc, ColumnList::of(columns))?)
+}
+
+// The frames of these payloads, and a closed gate.
+fn log_of(alloc: Global, payloads: &[&[u8]]) -> Result<Octets, Fail> {
+    let mut log = Octets::new(alloc);
+    for payload in payloads {
+        log.extend(&[1, (payload.len() % 256) as u8, 0, 0, 0])?;
+        log.extend(*payload)?;
+    }
+    log.push(0)?;
+    Ok(log)
+}
+
+fn disk_with(alloc: Global, bytes: &[u8]) -> Result<MemDisk, Fail>
+    ensures { IfOk result (λ disk. disk.calls ≡ []) }
+{
+    let bytes = Octets::from_slice(alloc, bytes)?;
+    let files = FileBytesList::of(vec![in alloc; FileBytes { file: 1, bytes }]?);
+    Ok(MemDisk::of(alloc, &files)?)
+}
+
+fn opened(alloc: Global, disk: MemDisk) -> Result<Result<Plain<MemDisk>, PlainNo>, Fail>
+    requires { disk.calls ≡ [] }
+{
+    let schema = schema(alloc)?;
+    match open_plain(alloc, disk, &schema) {
+        Ok(plain) => Ok(Ok(plain)),
+        Err((_, no)) => Ok(Err(no)),
+    }
+}
+
+// How many writes and rows a log has and its last timestamp, or why it is refused.
+fn told(alloc: Global, log: &[u8]) -> Result<Result<(usize, usize, u64), PlainNo>, Fail> {
+    match opened(alloc, disk_with(alloc, log)?)? {
+        Ok(plain) => Ok(Ok((plain.past.len(), plain.table.len(), plain.c))),
+        Err(no) => Ok(Err(no)),
+    }
+}
+
+#[test]
+fn logs_open_or_are_refused(rt: HostRuntime) -> Result<(), Fail> {
+    let alloc = rt.alloc();
+    let edge = (1 << 63) - (1 << 21);
+    let table: [(&[&[u8]], Result<(usize, usize, u64), PlainNo>); 9] = [
+        (&[], Ok((0, 0, 0))),
+        (&[&INSERT], Ok((1, 1, 4096))),
+        (&[&INSERT, &IN_MEMORY], Ok((1, 1, 4096))),
+        (&[&INSERT, &IN_DELTA], Ok((0, 0, 4096))),
+        (&[&INSERT, &AGAIN, &PRESENT], Ok((1, 1, 8192))),
+        (&[&INSERT, &AGAIN, &DONE], Err(PlainNo::B3 { offset: 66 })),
+        (&[&INSERT, &UPSERT], Ok((2, 2, edge - 1))),
+        (&[&INSERT, &LATER], Err(PlainNo::B6 { last: edge })),
+        (
+            &[&INSERT, &AGAIN, &DONE, &LATER],
+            Err(PlainNo::B6 { last: edge }),
+        ),
+    ];
+    for (payloads, expected) in table {
+        let log = log_of(alloc, payloads)?;
+        assert_eq!(rt; told(alloc, log.as_slice())?, expected);
+    }
+    Ok(())
+}
+
+#[test]
+fn a_log_cut_anywhere_opens_or_is_at_fault(rt: HostRuntime) -> Result<(), Fail> {
+    let alloc = rt.alloc();
+    let log = log_of(alloc, &[&INSERT, &IN_MEMORY, &AGAIN, &PRESENT, &UPSERT])?;
+    let log = log.as_slice();
+    let gates = [0, 33, 60, 93, 111, 133];
+    let writes = [0, 1, 1, 1, 1, 2];
+    for len in 0..log.len() + 1 {
+        let behind = gates.iter().filter(|gate| **gate <= len).count();
+        let at = behind.saturating_sub(1);
+        let (Some(gate), Some(count)) = (gates.get(at), writes.get(at)) else {
+            return Err("a gate more".into());
+        };
+        let found = told(alloc, &log[..len])?;
+        if len.saturating_sub(*gate) > 1 && *gate < 133 {
+            assert_eq!(rt;
+                found,
+                Err(PlainNo::B3 {
+                    offset: *gate as u64
+                })
+            );
+        } else {
+            assert_eq!(rt; found.map(|plain| plain.0), Ok(*count));
+        }
+    }
+    for (gate, count) in gates.iter().zip(&writes) {
+        let mut shut = log.to_vec(alloc)?;
+        if let Some(byte) = shut.get_mut(*gate) {
+            *byte = 0;
+        }
+        assert_eq!(rt; told(alloc, &shut)?.map(|plain| plain.0), Ok(*count));
+    }
+    Ok(())
+}
+
+#[test]
+fn an_upsert_without_a_cell_takes_the_default(rt: HostRuntime) -> Result<(), Fail> {
+    let alloc = rt.alloc();
+    let log = log_of(alloc, &[&INSERT, &UPSERT])?;
+    let Ok(plain) = opened(alloc, disk_with(alloc, log.as_slice())?)? else {
+        return Err("not opened".into());
+    };
+    let mut seen = Vec::new(alloc);
+    for (key, cells) in plain.table.iter() {
+        seen.push((key.first().copied(), format!(in alloc; "{cells:?}")?))?;
+    }
+    assert_eq!(rt; seen.len(), 2);
+    assert_eq!(rt; seen[0].0, Some(97));
+    assert_eq!(rt; seen[1].0, Some(98));
+    assert!(rt; seen[0].1.contains("Int(5)"));
+    assert!(rt; seen[1].1.contains("Int(7)"));
+    assert_eq!(rt; plain.past.as_slice().len(), 2);
+    assert_eq!(rt; plain.journal.count(), 2);
+    Ok(())
+}
