@@ -5,12 +5,14 @@ use Rattle.kt_history.specs.Machine as machine
 use Rattle.kt_mvcc.specs.Keys.{same_key}
 use Rattle.kt_mvcc.specs.declared.flier.Flier.{Flier}
 
--- c is the last timestamp, a the ancient history mark; room is how many writes more can begin without memory
+-- c is the last timestamp, a the ancient history mark; room is how many writes more can begin without memory,
+-- and key_room how many keys more can be found by their hashes
 pub record Clock : Type 0 where
   pub c : ℕ
   pub a : ℕ
   pub flying : List Flier
   pub room : ℕ
+  pub key_room : ℕ
 
 -- a flying write as the tablet machine has it. Its session stands for it, and what it writes is not looked at
 abbrev pub as_flying : Flier → machine.Flying

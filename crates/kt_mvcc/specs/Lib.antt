@@ -1,3 +1,4 @@
 pub mod Keys
 pub mod Flying
+pub mod Held
 pub mod Waits

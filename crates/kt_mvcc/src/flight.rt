@@ -1,32 +1,40 @@
 //! The clock and the flying writes of a tablet.
-ghost use Rattle.std.specs.Prelude.{◌≡◌, ◌+◌, ◌-◌, ◌^◌, ◌<◌, ◌++◌, ◌∷◌, [], ℕ, min, max, not, false, true, IfOk, IfErr, OnOk, OnErr, Option, Some, None, ◌==◌};
+ghost use Rattle.std.specs.Prelude.{◌≡◌, ◌+◌, ◌-◌, ◌^◌, ◌<◌, ◌≤◌, ◌++◌, ◌∷◌, [], ℕ, min, max, not, false, true, IfOk, IfErr, OnOk, OnErr, Option, Some, None, ◌==◌};
 ghost use Rattle.std.specs.List.{filter};
 ghost use Rattle.std.specs.Result.{result_err};
 ghost use Rattle.kt_history.specs.Machine.{next_timestamp, clean_below};
 ghost use Rattle.kt_mvcc.specs.Flying.{least_of, holds_one, holder, flies};
+ghost use Rattle.kt_mvcc.specs.Held.{Tells, KeepsOthers};
 ghost use Rattle.kt_mvcc.specs.Waits.{IsRefused, lesser_of};
 
 use crate::flier::{Flier, KeyList, share_key};
+use crate::held::Held;
 use kt_base::NoMemory;
 use kt_base::limits::READING_MOST;
 use std::alloc::Global;
 use std::marker::Model;
 
 /// The last timestamp, the ancient history mark, and the writes that fly with the keys that they hold.
+/// A key that no write holds is found by its hash, whatever flies; where one is held, the writes are looked at in turn.
 #[derive(Debug, Drop)]
 pub struct Flight {
     c: u64,
     a: u64,
     flying: Vec<Flier>,
+    held: Held,
 }
 
 impl Model for Flight {
     ghost use Rattle.std.specs.Prelude.{◌-◌, vec_capacity, vec_len};
+    ghost use Rattle.std.specs.HashMap.{spare};
     ghost use Rattle.kt_mvcc.specs.Flying.{Clock};
+    ghost use Rattle.kt_mvcc.specs.Held.{Tells};
 
     ghost Value = { Clock };
 
-    ghost view = { λ f. record { c = f.c; a = f.a; flying = f.flying.items; room = vec_capacity f.flying - vec_len f.flying } };
+    ghost view = { λ f. record { c = f.c; a = f.a; flying = f.flying.items; room = vec_capacity f.flying - vec_len f.flying; key_room = spare f.held.writers } };
+
+    ghost invariant = { λ f. Tells f.held f.flying.items };
 }
 
 /// Why a write does not begin.
@@ -65,7 +73,8 @@ fn least_of(flying: &[Flier]) -> Option<u64>
     found
 }
 
-fn holder(flying: &[Flier], keys: &KeyList) -> Option<u64>
+// The least of the flying writes that hold one of the keys, found by looking at each.
+fn find_holder(flying: &[Flier], keys: &KeyList) -> Option<u64>
     ensures { result ≡ holder keys.now flying.now }
 {
     let mut found = None;
@@ -75,6 +84,28 @@ fn holder(flying: &[Flier], keys: &KeyList) -> Option<u64>
         }
     }
     found
+}
+
+// The least of the flying writes that hold one of the keys. Where the hashes tell that none does, no write is looked at.
+fn holder(held: &Held, flying: &[Flier], keys: &KeyList) -> Option<u64>
+    requires { Tells held.now flying.now }
+    ensures { result ≡ holder keys.now flying.now }
+{
+    if held.is_free(keys.as_slice()) {
+        return None;
+    }
+    find_holder(flying, keys)
+}
+
+// Lets go of the keys of a writer that ends.
+fn release(held: &mut Held, flying: &[Flier], who: u32)
+    ensures { KeepsOthers who held.old held.new }
+{
+    for flier in flying {
+        if flier.who == who {
+            held.release(who, flier.keys.as_slice());
+        }
+    }
 }
 
 impl Flight {
@@ -88,6 +119,7 @@ impl Flight {
             c,
             a,
             flying: Vec::new(alloc),
+            held: Held::new(alloc),
         }
     }
 
@@ -126,17 +158,19 @@ impl Flight {
     pub fn try_keys(&self, keys: &KeyList) -> Result<(), u64>
         ensures { result_err result ≡ holder keys.now self.now.flying }
     {
-        match holder(&self.flying, keys) {
+        match holder(&self.held, &self.flying, keys) {
             Some(ts) => Err(ts),
             None => Ok(()),
         }
     }
 
     /// Makes room for a write of so many keys, which then begins without memory.
-    pub fn reserve(&mut self, _alloc: Global, _keys: usize) -> Result<(), NoMemory>
+    pub fn reserve(&mut self, _alloc: Global, keys: usize) -> Result<(), NoMemory>
         ensures room { OnOk result (0 < self.new.room) }
-        ensures same { self.new ≡ record self.old { room = self.new.room } }
+        ensures keys { OnOk result (keys ≤ self.new.key_room) }
+        ensures same { self.new ≡ record self.old { room = self.new.room; key_room = self.new.key_room } }
     {
+        self.held.reserve(keys)?;
         self.flying.reserve(1)?;
         Ok(())
     }
@@ -150,12 +184,16 @@ impl Flight {
         ensures mark { self.new.a ≡ self.old.a }
         ensures free { OnOk result (holder keys self.old.flying ≡ None) }
         ensures refused { IfErr result (IsRefused keys self.old) }
-        ensures unchanged { OnErr result (self.new ≡ record self.old { room = self.new.room }) }
+        ensures unchanged { OnErr result (self.new ≡ record self.old { room = self.new.room; key_room = self.new.key_room }) }
     {
-        if let Some(ts) = holder(&self.flying, &keys) {
+        if let Some(ts) = holder(&self.held, &self.flying, &keys) {
             return Err(MvccNo::Wait { ts });
         }
         let ts = next(self.c, m);
+        if self.flying.try_reserve(1).is_err() {
+            return Err(MvccNo::Memory);
+        }
+        self.held.hold(who, keys.as_slice());
         match self.flying.push(Flier { who, ts, keys }) {
             Ok(()) => {
                 self.c = ts;
@@ -172,7 +210,11 @@ impl Flight {
         ensures mark { self.new.a ≡ self.old.a }
         ensures flying { self.new.flying ≡ filter (λ f. not (f.who == who)) self.old.flying }
     {
+        release(&mut self.held, &self.flying, who);
         self.flying.retain(|flier| flier.who != who);
+        if self.flying.is_empty() {
+            self.held.clear();
+        }
     }
 
     /// The least flying timestamp.

@@ -6,6 +6,7 @@
 
 pub mod flier;
 pub mod flight;
+mod held;
 
 pub use flier::{Flier, KeyList};
 pub use flight::{Flight, MvccNo};

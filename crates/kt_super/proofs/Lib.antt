@@ -6,6 +6,7 @@ pub mod BodyLaws
 pub mod RowsetTakes
 pub mod ColumnTakes
 pub mod BodyTakes
+pub mod SlotTakes
 pub mod Closing
 pub mod Moves
 pub mod Supers

@@ -4,3 +4,4 @@ pub mod Rowsets
 pub mod Body
 pub mod Slots
 pub mod Told
+pub mod Spellings

@@ -9,6 +9,7 @@ mod body;
 mod columns;
 mod fields;
 mod gate;
+pub mod laws;
 mod loading;
 pub mod meta;
 mod preparing;

@@ -114,6 +114,62 @@ fn prepare_next(alloc: Global, disk: &mut MemDisk) -> Result<(), Fail> {
     }
 }
 
+// Publishes the second superblock on a disk with the first, and tells the moment before its gate is opened.
+fn publish_next(alloc: Global, disk: &mut MemDisk) -> Result<u64, Fail> {
+    let Ok(Some(found)) = load(alloc, disk) else {
+        return Err("no superblock".into());
+    };
+    if found.number != 1 {
+        return Err("another superblock".into());
+    }
+    let mut meta = found;
+    meta.number = 2;
+    meta.a = 0x0101_0101_0101_0101;
+    let Ok(prepared) = prepare(alloc, disk, &meta) else {
+        return Err("not prepared".into());
+    };
+    let before = disk.moment();
+    match open_gate(disk, prepared) {
+        Ok(()) => Ok(before),
+        Err(_) => Err("not opened".into()),
+    }
+}
+
+// The numbers of the superblocks that a crash at a moment may leave: the least and the greatest.
+fn numbers_at(alloc: Global, disk: &MemDisk, moment: u64) -> Result<(u64, u64), Fail> {
+    let mut least = u64::MAX;
+    let mut greatest = 0;
+    for way in 0..16u8 {
+        let Ok(mut image) = disk.crash(alloc, moment.min(disk.moment()), &[way % 4, way / 4]) else {
+            return Err("no memory".into());
+        };
+        let meta = loaded(alloc, &mut image)?;
+        least = least.min(meta.number);
+        greatest = greatest.max(meta.number);
+    }
+    Ok((least, greatest))
+}
+
+#[test]
+fn publishing_leaves_the_old_superblock_or_the_new(rt: HostRuntime) -> Result<(), Fail> {
+    let alloc = rt.alloc();
+    let mut disk = disk_of(alloc, &FIRST)?;
+    let before = publish_next(alloc, &mut disk)?;
+    let last = disk.moment();
+    for moment in 0..last {
+        let (least, greatest) = numbers_at(alloc, &disk, moment)?;
+        assert_eq!(rt; least, 1);
+        assert_eq!(rt; greatest, if moment <= before { 1 } else { 2 });
+    }
+    assert_eq!(rt; numbers_at(alloc, &disk, last)?, (2, 2));
+    let meta = loaded(alloc, &mut disk)?;
+    assert_eq!(rt;
+        (meta.number, meta.a, meta.next_file),
+        (2, 0x0101_0101_0101_0101, 3)
+    );
+    Ok(())
+}
+
 // Each image that a crash of the disk may leave has the superblock of number 1.
 fn has_first_everywhere(alloc: Global, disk: &MemDisk) -> Result<bool, Fail> {
     for back in 0..disk.moment() {

@@ -1,19 +1,9 @@
-use Rattle.std.proofs.Common.{◌≡◌, ◌+◌, drop, Some, sym, ap, ◌∙◌, arith}
-use Rattle.kt_mvcc.specs.Flying.{holder, holds_one}
-use Rattle.kt_mvcc.proofs.Least.{merged, holder_more, holder_less}
+use Rattle.std.proofs.Common.{sym}
+use Rattle.kt_mvcc.specs.Held.{IsFree}
+use Rattle.kt_mvcc.proofs.Index.{free_none}
 use Rattle.kt_mvcc.proofs.flight.holder.Goals as goal
-use Rattle.kt_mvcc.proofs.flight.holder.Goals.{then-share_key, else-share_key}
 
-pub loop-flier-preserved : goal.loop-flier-preserved
-loop-flier-preserved c =
-    let flying = c.args.flying.now in
-    let keys = c.args.keys.now in
-    let i = c.loop-flier.flier-index in
-    let f = c.flier-item.result in
-    let shares : c.share_key.result ≡ holds_one keys f = rw (c.as_slice.ensures, c.as_slice-in-loop-flier.ensures) at c.share_key.ensures in
-    elim c.if-share_key.branch [
-      | then-share_key w ↦ ap (λ o. merged o (holder keys (drop (i + 1) flying))) (w.found-is ∙ ap Some w.lesser.ensures)
-          ∙ holder_more keys c.loop-flier.found flying i f (holder keys flying) (omega arith) c.flier-item.is (sym shares ∙ w.if-share_key.true) c.loop-flier.invariant
-      | else-share_key w ↦ ap (λ o. merged o (holder keys (drop (i + 1) flying))) w.found-is
-          ∙ holder_less keys c.loop-flier.found flying i f (holder keys flying) (omega arith) c.flier-item.is (sym shares ∙ w.if-share_key.false) c.loop-flier.invariant
-    ]
+pub returns-then-is_free : goal.returns-then-is_free
+returns-then-is_free c =
+    let free : IsFree c.args.held.now c.as_slice.result.now = c.is_free.ensures c.if-is_free.true in
+    sym (free_none c.args.held.now c.args.flying.now c.args.keys.now c.requires (rw c.as_slice.ensures at free))

@@ -1,6 +1,16 @@
-use Rattle.std.proofs.Common.{rules}
+use Rattle.std.proofs.Common.{◌≡◌, ◌==◌, not, rules}
+use Rattle.std.specs.List.{filter}
 use Rattle.std.proofs.lemmas.Fn.{filter_same}
+use Rattle.kt_mvcc.proofs.Index.{tells_fewer}
 use Rattle.kt_mvcc.proofs.flight.Flight.end.Goals as goal
 
-pub returns-clause-flying : goal.returns-clause-flying
-returns-clause-flying c = rw (← c.self.view_is) (filter_same _ _ _ (λ x b f' k. search rules) _ _ c.retain.ensures.filtered)
+pub invariant_of-self-else-is_empty : goal.invariant_of-self-else-is_empty
+invariant_of-self-else-is_empty c =
+    let kept : c.retain.new.self.items ≡ filter (λ f. not (f.who == c.args.who)) c.self.inside.flying.items = filter_same _ _ _ (λ x b f' k. search rules) _ _ c.retain.ensures.filtered in
+    rw kept (tells_fewer c.self.inside.held c.release.new.held c.args.who c.self.inside.flying.items c.release.ensures c.self.invariant)
+
+pub returns-then-is_empty-clause-flying : goal.returns-then-is_empty-clause-flying
+returns-then-is_empty-clause-flying c = rw (← c.self.view_is) (filter_same _ _ _ (λ x b f' k. search rules) _ _ c.retain.ensures.filtered)
+
+pub returns-else-is_empty-clause-flying : goal.returns-else-is_empty-clause-flying
+returns-else-is_empty-clause-flying c = rw (← c.self.view_is) (filter_same _ _ _ (λ x b f' k. search rules) _ _ c.retain.ensures.filtered)

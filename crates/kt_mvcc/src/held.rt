@@ -1,0 +1,104 @@
+//! Which flying write holds a key, found by a hash of the key.
+ghost use Rattle.std.specs.Prelude.{◌≡◌, ◌≤◌, [], true, Some, OnOk, nat_eq};
+ghost use Rattle.std.specs.List.{All};
+ghost use Rattle.std.specs.HashMap.{get, spare};
+ghost use Rattle.kt_mvcc.specs.Held.{hash_of, Keeps, KeepsOthers, Tells, IsFree};
+
+use crate::flier::Flier;
+use kt_base::{NoMemory, Octets};
+use std::alloc::Global;
+use std::collections::HashMap;
+
+/// The writer of each held key, by the key's hash. Where two writers' keys have one hash, it is not whole.
+#[derive(Debug, Drop)]
+pub struct Held {
+    pub writers: HashMap<u64, u32>,
+    pub whole: bool,
+}
+
+// The FNV-1a hash of a key.
+fn hash_of(key: &[u8]) -> u64
+    ensures { result ≡ hash_of key.now }
+{
+    let mut hash: u64 = 0xcbf2_9ce4_8422_2325;
+    for byte in key {
+        hash = (hash ^ u64::from(*byte)).wrapping_mul(0x100_0000_01b3);
+    }
+    hash
+}
+
+impl Held {
+    pub fn new(alloc: Global) -> Held
+        ensures { Tells result [] }
+    {
+        Held {
+            writers: HashMap::new(alloc),
+            whole: true,
+        }
+    }
+
+    /// Makes room for more keys.
+    pub fn reserve(&mut self, keys: usize) -> Result<(), NoMemory>
+        ensures keeps { Keeps self.old self.new }
+        ensures room { OnOk result (keys ≤ spare self.new.writers) }
+    {
+        self.writers.reserve(keys)?;
+        Ok(())
+    }
+
+    /// Whether none of the keys is held, as far as the hashes tell.
+    pub fn is_free(&self, keys: &[Octets]) -> bool
+        ensures { result ≡ true → IsFree self.now keys.now }
+    {
+        self.whole
+            && keys
+                .iter()
+                .all(|key| !self.writers.contains_key(&hash_of(key.as_slice())))
+    }
+
+    fn put(&mut self, hash: u64, who: u32)
+        ensures keeps { self.new.whole ≡ true → Keeps self.old self.new }
+        ensures put { self.new.whole ≡ true → get nat_eq self.new.writers hash ≡ Some who }
+    {
+        match self.writers.insert(hash, who) {
+            Ok(None) => {}
+            Ok(Some(other)) => self.whole &= other == who,
+            Err(_) => self.whole = false,
+        }
+    }
+
+    /// Writes down that a writer holds these keys.
+    pub fn hold(&mut self, who: u32, keys: &[Octets])
+        ensures keeps { self.new.whole ≡ true → Keeps self.old self.new }
+        ensures held { self.new.whole ≡ true → All (λ key. get nat_eq self.new.writers (hash_of key) ≡ Some who) keys.now }
+    {
+        for key in keys {
+            self.put(hash_of(key.as_slice()), who);
+        }
+    }
+
+    fn take(&mut self, hash: u64, who: u32)
+        ensures { KeepsOthers who self.old self.new }
+    {
+        if self.writers.get(&hash) == Some(&who) {
+            self.writers.remove(&hash);
+        }
+    }
+
+    /// Lets go of these keys of a writer.
+    pub fn release(&mut self, who: u32, keys: &[Octets])
+        ensures { KeepsOthers who self.old self.new }
+    {
+        for key in keys {
+            self.take(hash_of(key.as_slice()), who);
+        }
+    }
+
+    /// Lets go of all keys.
+    pub fn clear(&mut self)
+        ensures { Tells self.new [] }
+    {
+        self.writers.clear();
+        self.whole = true;
+    }
+}

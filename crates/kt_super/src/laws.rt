@@ -1,0 +1,12 @@
+//! Laws of superblocks, each the contract of a function that does nothing.
+ghost use Rattle.kt_super.specs.Spellings.{spelled_in_one_way, spelling_is_read};
+
+/// No superblock has two spellings.
+pub fn spelling_law()
+    ensures { spelled_in_one_way }
+{}
+
+/// A superblock that is spelled behind an open gate is read again.
+pub fn reading_law()
+    ensures { spelling_is_read }
+{}
