@@ -8,7 +8,7 @@
 pub mod form;
 pub mod laws;
 pub mod lists;
-pub mod literal;
+pub mod number;
 pub mod output;
 pub mod refusal;
 #[cfg(test)]
