@@ -7,3 +7,4 @@ pub mod Readback
 pub mod Outputs
 pub mod Plans
 pub mod ScriptTests
+pub mod Pieces

@@ -1,6 +1,8 @@
 -- Column lines: what a line says of its column, and why it is refused below these columns.
-use Rattle.std.specs.Prelude.{ℕ, ◌+◌, ◌++◌, min, Bool, true, false, not, ◌&&◌, List, [], ◌∷◌, length, take, Option, Some, None, if◌then◌else◌, ◌==◌, nat_le, Result, Ok, Err, codes}
+use Rattle.std.specs.Prelude.{◌≡◌, ◌<◌, ℕ, ◌+◌, ◌++◌, min, Bool, true, false, not, ◌&&◌, List, [], ◌∷◌, length, take, Option, Some, None, if◌then◌else◌, ◌==◌, nat_le, Result, Ok, Err, codes}
 use Rattle.std.specs.List.{list_any}
+use Rattle.std.specs.Ordering.{nat_cmp, is_eq}
+use Rattle.std.specs.Cmp.Lexicographic.{slice_cmp}
 use Rattle.kt_base.specs.declared.cell.Kind.{Kind}
 use Rattle.kt_base.specs.declared.cell.Kind.TheVariants as kind
 use Rattle.kt_base.specs.declared.cell.Cell.{Cell}
@@ -10,7 +12,10 @@ use Rattle.kt_base.specs.Literals.{same, cell_in}
 use Rattle.kt_key.specs.Fit.{is_bool}
 use Rattle.kt_schema.specs.Names.{is_name}
 use Rattle.kt_schema.specs.declared.column.Column.{Column}
-use Rattle.kt_script.specs.Pieces.{words_of}
+use Rattle.kt_script.specs.declared.columns.Line.{Line}
+use Rattle.kt_script.specs.declared.columns.LineNo.{LineNo}
+use Rattle.kt_script.specs.declared.columns.LineNo.TheVariants as line
+use Rattle.kt_script.specs.Pieces.{words_of, text_now}
 use Rattle.kt_script.specs.Reasons.{sound, reason_if, cell_value}
 
 -- What a column line says. A default is the text of a literal.
@@ -69,7 +74,7 @@ default_no kind (Some literal) = default_reason (cell_in kind literal)
 abbrev pub place_no : List Column → ColumnLine → ℕ
 place_no columns c = min (reason_if (c.key && list_any (λ d. not d.key) columns) 6)
     (min (reason_if (c.key && is_bool c.kind) 7)
-    (min (reason_if (list_any (λ d. same c.name d.name) columns) 8)
+    (min (reason_if (list_any (λ d. is_eq (slice_cmp nat_cmp c.name d.name)) columns) 8)
     (reason_if (nat_le 300 (length columns)) 9)))
 
 abbrev pub said_no : List Column → Option ColumnLine → ℕ
@@ -95,3 +100,19 @@ columns_with columns line = with_column columns (column_line (words_of line))
 -- column lines end with at least one key column above
 abbrev pub keys_no : List Column → ℕ
 keys_no columns = reason_if (not (list_any (λ c. c.key) columns)) 5
+
+-- a line as its words say it
+abbrev pub line_view : Line → ColumnLine
+line_view l = record { name = l.name.now; kind = l.kind; key = l.key; nullable = l.nullable; default = text_now l.default }
+
+-- the cell of a default, or its reason
+abbrev pub ReadsDefault : Kind → Option (List ℕ) → Result (Option Cell) LineNo → Type 0
+ReadsDefault kind text (Ok cell) = (default_no kind text ≡ sound) × (cell ≡ default_value kind text)
+ReadsDefault kind text (Err (line.Reason r)) = (default_no kind text ≡ r) × (r < sound)
+ReadsDefault kind text (Err line.Memory) = Unit {0}
+
+-- one column more, or the reason of its line
+abbrev pub ReadsColumn : List Column → List ℕ → Result Column LineNo → Type 0
+ReadsColumn columns text (Ok c) = (column_no columns text ≡ sound) × (columns_with columns text ≡ columns ++ c ∷ [])
+ReadsColumn columns text (Err (line.Reason r)) = (column_no columns text ≡ r) × (r < sound)
+ReadsColumn columns text (Err line.Memory) = Unit {0}

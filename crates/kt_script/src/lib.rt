@@ -5,12 +5,14 @@
 //! the one text of the replies, the history and the last line. It stands on kt_base and kt_history.
 #![tactic(auto)]
 
+pub mod columns;
 pub mod form;
 pub mod laws;
 pub mod lists;
 pub mod number;
 pub mod output;
 pub mod refusal;
+pub mod word;
 #[cfg(test)]
 mod tests;
 
