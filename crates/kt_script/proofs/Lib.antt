@@ -8,3 +8,4 @@ pub mod Outputs
 pub mod Plans
 pub mod ScriptTests
 pub mod Pieces
+pub mod Faults

@@ -1,11 +1,17 @@
 -- Scripts: the first line that is refused, and what a script says where none is.
 -- A script has at most one session so far.
-use Rattle.std.specs.Prelude.{ℕ, ◌+◌, min, Bool, true, false, not, ◌||◌, List, [], ◌∷◌, ◌++◌, length, Option, Some, None, if◌then◌else◌, ◌==◌, nat_lt, nat_le, codes}
+use Rattle.std.specs.Prelude.{◌≡◌, ◌<◌, Result, Ok, Err, ℕ, ◌+◌, min, Bool, true, false, not, ◌||◌, List, [], ◌∷◌, ◌++◌, length, Option, Some, None, if◌then◌else◌, ◌==◌, nat_lt, nat_le, codes}
+use Rattle.std.proofs.Common.{Bor}
 use Rattle.std.specs.List.{sum_by}
 use Rattle.kt_base.specs.Literals.{same}
 use Rattle.kt_schema.specs.declared.column.Column.{Column}
 use Rattle.kt_history.specs.declared.command.Command.{Command}
 use Rattle.kt_history.specs.declared.command.Command.TheVariants as command
+use Rattle.kt_script.specs.declared.columns.LineNo.{LineNo}
+use Rattle.kt_script.specs.declared.columns.LineNo.TheVariants as line
+use Rattle.kt_script.specs.declared.head.Head.{Head}
+use Rattle.kt_script.specs.declared.head.ReadNo.{ReadNo}
+use Rattle.kt_script.specs.declared.head.ReadNo.TheVariants as read
 use Rattle.kt_script.specs.Pieces.{cut, words_of}
 use Rattle.kt_script.specs.Reasons.{sound, reason_if}
 use Rattle.kt_script.specs.Columns.{begins_column, column_no, columns_with, keys_no}
@@ -163,3 +169,38 @@ said_unless (Some fault) script = None
 -- what a text says, if it is a script
 abbrev pub script_of : List ℕ → Option Said
 script_of text = said_unless (fault_of text) (said (above_end start (cut 10 text)))
+
+-- a fault that is told
+abbrev pub at : ℕ → ℕ → Option Fault
+at number reason = Some (record { number = number; reason = reason })
+
+-- the line at the front, if it has its newline
+abbrev pub first_piece : List (List ℕ) → List ℕ
+first_piece [] = []
+first_piece (rest ∷ []) = []
+first_piece (line ∷ more ∷ pieces) = line
+
+-- the refusal of a line, by its number
+abbrev pub located : ℕ → LineNo → ReadNo
+located number (line.Reason r) = read.Line number r
+located number line.Memory = read.Memory
+
+-- the first line and the text behind it, or no newline
+abbrev pub IsLineCut : List ℕ → Option (Bor (List ℕ) × Bor (List ℕ)) → Type 0
+IsLineCut text None = cut 10 text ≡ text ∷ []
+IsLineCut text (Some line) = (cut 10 text ≡ line.0.now ∷ cut 10 line.1.now) × (length line.1.now < length text)
+
+-- Columns that are read from below this, as line number: a fault, or the columns, and what is left below them, where no line is a column's.
+abbrev pub IsReadFrom : Above → ℕ → List ℕ → Result Head ReadNo → Type 0
+IsReadFrom above number text (Ok h) = (fault_from above number (cut 10 text) ≡ fault_from (head h.columns.items) (length h.columns.items + 2) (cut 10 h.rest.now))
+    × (above_end above (cut 10 text) ≡ above_end (head h.columns.items) (cut 10 h.rest.now))
+    × (begins_column (first_piece (cut 10 h.rest.now)) ≡ false)
+IsReadFrom above number text (Err (read.Line n reason)) = fault_from above number (cut 10 text) ≡ at n reason
+IsReadFrom above number text (Err read.Memory) = Unit {0}
+
+abbrev pub IsColumns : List ℕ → Result Head ReadNo → Type 0
+IsColumns text result = IsReadFrom (head []) 2 text result
+
+-- the columns of a text, or a fault of its first lines
+abbrev pub IsHead : List ℕ → Result Head ReadNo → Type 0
+IsHead text result = IsReadFrom start 1 text result

@@ -1,5 +1,5 @@
 -- Write lines: what a line says of its operations, and why it is refused.
-use Rattle.std.specs.Prelude.{ℕ, min, Bool, true, false, not, ◌&&◌, ◌||◌, List, [], ◌∷◌, ◌++◌, length, take, drop, map, Option, Some, None, is_some, if◌then◌else◌, ◌==◌, nat_lt, codes}
+use Rattle.std.specs.Prelude.{ℕ, min, Bool, true, false, not, ◌&&◌, ◌||◌, List, [], ◌∷◌, ◌++◌, length, drop, map, Option, Some, None, is_some, if◌then◌else◌, ◌==◌, nat_lt, codes}
 use Rattle.std.specs.List.{list_any, before_first, onto_first}
 use Rattle.std.specs.Ordering.{nat_cmp}
 use Rattle.std.specs.FinMap.Entries.{put}
@@ -15,10 +15,9 @@ use Rattle.kt_history.specs.declared.operation.OpKind.TheVariants as op
 use Rattle.kt_history.specs.declared.operation.RowOp.{RowOp}
 use Rattle.kt_script.specs.Reasons.{sound, reason_if, cell_no, cell_value, form_no}
 
--- one literal per column
+-- a literal for each column at the front of some words
 abbrev pub cells_no : List Column → List (List ℕ) → ℕ
-cells_no [] [] = sound
-cells_no [] (word ∷ words) = 12
+cells_no [] words = sound
 cells_no (c ∷ columns) [] = 12
 cells_no (c ∷ columns) (word ∷ words) = min (cell_no c word) (cells_no columns words)
 
@@ -27,21 +26,32 @@ cells_of [] words = []
 cells_of (c ∷ columns) [] = []
 cells_of (c ∷ columns) (word ∷ words) = cell_value c.kind word ∷ cells_of columns words
 
+abbrev pub is_empty : {A : Type 0} → List A → Bool
+is_empty [] = true
+is_empty (x ∷ xs) = false
+
+-- no word is left
+abbrev pub none_left_no : List (List ℕ) → ℕ
+none_left_no words = reason_if (not (is_empty words)) 12
+
 -- how many literals spell a key
 abbrev pub key_len : List Column → ℕ
 key_len columns = length (key_columns columns)
 
 abbrev pub key_cells : List Column → List (List ℕ) → List Cell
-key_cells columns words = cells_of (key_columns columns) (take (key_len columns) words)
+key_cells columns words = cells_of (key_columns columns) words
 
 -- the encoded key that the first words spell
 abbrev pub key_of : List Column → List (List ℕ) → List ℕ
 key_of columns words = spelling (key_kinds columns) (key_cells columns words)
 
--- the literals of a key, which is not too long
+-- a key that is too long
+abbrev pub long_no : List Column → List (List ℕ) → ℕ
+long_no columns words = reason_if (is_key (key_kinds columns) (key_cells columns words) && nat_lt 16384 (length (key_of columns words))) 17
+
+-- the literals of a key
 abbrev pub key_no : List Column → List (List ℕ) → ℕ
-key_no columns words = min (cells_no (key_columns columns) (take (key_len columns) words))
-    (reason_if (is_key (key_kinds columns) (key_cells columns words) && nat_lt 16384 (length (key_of columns words))) 17)
+key_no columns words = min (cells_no (key_columns columns) words) (long_no columns words)
 
 -- the bytes of signs, which no name has
 abbrev pub is_sign : ℕ → Bool
@@ -84,16 +94,12 @@ must_be_named names c = (not c.nullable && not (is_some c.default)) && not (list
 abbrev pub left_out_no : List Column → List (List ℕ) → ℕ
 left_out_no others words = reason_if (list_any (must_be_named (map name_in words)) others) 15
 
-abbrev pub is_empty : {A : Type 0} → List A → Bool
-is_empty [] = true
-is_empty (x ∷ xs) = false
-
 -- why an operation's words behind its first are refused
 abbrev pub insert_no : List Column → List (List ℕ) → ℕ
-insert_no columns words = min (cells_no columns words) (key_no columns words)
+insert_no columns words = min (cells_no columns words) (min (none_left_no (drop (length columns) words)) (long_no columns words))
 
 abbrev pub delete_no : List Column → List (List ℕ) → ℕ
-delete_no columns words = min (cells_no (key_columns columns) words) (key_no columns words)
+delete_no columns words = min (key_no columns words) (none_left_no (drop (key_len columns) words))
 
 abbrev pub changes_no : List Column → List (List ℕ) → ℕ
 changes_no columns words = min (key_no columns words) (all_named_no (other_columns columns) [] (drop (key_len columns) words))

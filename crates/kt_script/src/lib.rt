@@ -7,6 +7,7 @@
 
 pub mod columns;
 pub mod form;
+pub mod head;
 pub mod laws;
 pub mod lists;
 pub mod number;
