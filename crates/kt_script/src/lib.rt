@@ -8,14 +8,16 @@
 pub mod columns;
 pub mod form;
 pub mod head;
+#[cfg(test)]
+mod head_tests;
 pub mod laws;
 pub mod lists;
 pub mod number;
 pub mod output;
 pub mod refusal;
-pub mod word;
 #[cfg(test)]
 mod tests;
+pub mod word;
 
 pub use form::read_plan;
 pub use lists::{KindList, ReplyList, ReplyLists, ShownReply};
