@@ -1,2 +1,9 @@
 pub mod Grows
 pub mod Doubles
+pub mod LiteralTests
+pub mod Strings
+pub mod Decimals
+pub mod Unquoting
+pub mod Values
+pub mod Spelled
+pub mod Literals

@@ -1,4 +1,5 @@
 pub mod Keys
+pub mod Literals
 pub mod Causes
 pub mod Readings
 pub mod Told

@@ -10,6 +10,7 @@ pub mod clock;
 pub mod key;
 pub mod limits;
 pub mod lists;
+pub mod literal;
 pub mod memory;
 pub mod octets;
 pub mod outside;

@@ -1,15 +1,11 @@
 -- Cutting at a byte takes a text of lines apart, and a line of words.
-use Rattle.std.proofs.Common.{◌≡◌, ℕ, List, [], ◌∷◌, ◌++◌, refl, ap, ◌∙◌, cond, eqb, eq-eqb, append_assoc}
+use Rattle.std.proofs.Common.{◌≡◌, ℕ, List, [], ◌∷◌, ◌++◌, refl, ap, ◌∙◌, cond, eqb, eq-eqb, append_assoc, Bool, true, false}
 use Rattle.std.specs.Prelude.{◌≢◌}
 use Rattle.std.specs.List.{flat_map, onto_first, AllByRecursion}
 use Rattle.std.proofs.lemmas.Bool.{ne_eqb}
 use mathlib.Core.List.{append-nil}
 use Rattle.kt_script.specs.Texts.{line, spaced, words}
-
--- the pieces between the bytes of a kind
-abbrev pub cut : ℕ → List ℕ → List (List ℕ)
-cut byte [] = [] ∷ []
-cut byte (x ∷ xs) = cond (eqb x byte) ([] ∷ cut byte xs) (onto_first x (cut byte xs))
+use Rattle.kt_script.specs.Pieces.{cut}
 
 -- without a byte
 abbrev pub Without : ℕ → List ℕ → Type 0
@@ -31,3 +27,16 @@ cut_words w (v ∷ vs) p q = cut_front 32 w (v ++ flat_map spaced vs) p ∙ ap (
 pub cut_lines : (lines : List (List ℕ)) → AllByRecursion (Without 10) lines → cut 10 (flat_map line lines) ≡ lines ++ [] ∷ []
 cut_lines [] p = refl
 cut_lines (l ∷ lines) p = ap (cut 10) (append_assoc l (10 ∷ []) (flat_map line lines)) ∙ (cut_front 10 l (flat_map line lines) p.0 ∙ ap (λ r. l ∷ r) (cut_lines lines p.1))
+
+-- a text has a piece
+pub some_piece : (byte : ℕ) (xs : List ℕ) → (piece : List ℕ) × (pieces : List (List ℕ)) × (cut byte xs ≡ piece ∷ pieces)
+some_piece byte [] = ([], [], refl)
+some_piece byte (x ∷ xs) = by (eqb x byte)
+  where
+    first : (pieces : List (List ℕ)) → (piece : List ℕ) × (more : List (List ℕ)) × (onto_first x pieces ≡ piece ∷ more)
+    first [] = (x ∷ [], [], refl)
+    first (p ∷ ps) = (x ∷ p, ps, refl)
+
+    by : (t : Bool) → (piece : List ℕ) × (pieces : List (List ℕ)) × (cond t ([] ∷ cut byte xs) (onto_first x (cut byte xs)) ≡ piece ∷ pieces)
+    by true = ([], cut byte xs, refl)
+    by false = first (cut byte xs)

@@ -16,7 +16,8 @@ use Rattle.kt_history.specs.declared.reply.Reply.{Reply}
 use Rattle.kt_history.specs.declared.reply.Reply.TheVariants as reply
 use Rattle.kt_script.specs.declared.output.LastLine.{LastLine}
 use Rattle.kt_script.specs.declared.output.LastLine.TheVariants as last
-use Rattle.kt_script.specs.Texts.{spaced, words, hex, string_byte, bytes_literal, literal, literals, row_text, outcome_word, reply_word, reply_numbers, outcome_words, reply_words, event_word, event_numbers, event_words, last_words}
+use Rattle.kt_base.specs.Literals.{hex, string_byte, bytes_literal, literal}
+use Rattle.kt_script.specs.Texts.{spaced, words, literals, row_text, outcome_word, reply_word, reply_numbers, outcome_words, reply_words, event_word, event_numbers, event_words, last_words}
 use Rattle.kt_script.specs.Laws.{Fits64, LastFits}
 use Rattle.kt_script.proofs.Numbers.{IsInk, decimal_ink, signed_ink, no_byte}
 use Rattle.kt_script.proofs.Cuts.{Without}

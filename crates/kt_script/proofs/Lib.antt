@@ -1,5 +1,4 @@
 pub mod Words
-pub mod Strings
 pub mod Numbers
 pub mod Lines
 pub mod Cuts
@@ -7,3 +6,6 @@ pub mod InLine
 pub mod Readback
 pub mod Outputs
 pub mod Plans
+pub mod ScriptTests
+pub mod Pieces
+pub mod Faults

@@ -17,7 +17,8 @@ use Rattle.kt_script.specs.declared.output.LastLine.TheVariants as last
 use Rattle.kt_script.specs.declared.lists.ShownReply.{ShownReply}
 use Rattle.kt_script.specs.Texts.{line, words, row_text, row_texts, reply_numbers, reply_words, reply_text, sessions_text, event_numbers, event_words, event_line, last_words, last_text, output_text}
 use Rattle.kt_script.specs.Laws.{Seen, seen, without_rows, Fits64, ReplyFits, EventFits, LastFits, OutputFits, texts_give_back}
-use Rattle.kt_script.proofs.Cuts.{cut, cut_words, cut_lines, Without}
+use Rattle.kt_script.specs.Pieces.{cut}
+use Rattle.kt_script.proofs.Cuts.{cut_words, cut_lines, Without}
 use Rattle.kt_script.proofs.InLine.{join, reply_ink, event_ink, last_ink, session_ink, without, ink_in_line, row_in_line}
 use Rattle.kt_script.proofs.Readback.{is, reply_of, reply_back, count_of, count_back, event_of, event_back, last_of, last_back}
 

@@ -5,7 +5,8 @@ use Rattle.std.proofs.lemmas.Grind.{flat_map-append}
 use mathlib.Core.List.{map-append, append-nil}
 use Rattle.kt_base.specs.declared.cell.Kind.{Kind}
 use Rattle.kt_base.specs.declared.cell.Cell.{Cell}
-use Rattle.kt_script.specs.Texts.{spaced, words, literal, literals, session_text, sessions_text}
+use Rattle.kt_base.specs.Literals.{literal}
+use Rattle.kt_script.specs.Texts.{spaced, words, literals, session_text, sessions_text}
 use Rattle.kt_script.specs.declared.lists.ShownReply.{ShownReply}
 
 pub words_push : (w : List ℕ) (ws : List (List ℕ)) (v : List ℕ) → words ((w ∷ ws) ++ v ∷ []) ≡ words (w ∷ ws) ++ (32 ∷ v)

@@ -1,3 +1,9 @@
 pub mod Texts
 pub mod Form
 pub mod Laws
+pub mod Pieces
+pub mod Reasons
+pub mod Columns
+pub mod Writes
+pub mod Scans
+pub mod Scripts

@@ -1,11 +1,10 @@
 -- The output text: what is printed of the replies, the history and the last line.
-use Rattle.std.specs.Prelude.{ℕ, ◌+◌, ◌/◌, ◌%◌, Bool, false, true, ◌||◌, List, [], ◌∷◌, ◌++◌, length, map, if◌then◌else◌, ◌==◌, nat_lt, codes}
-use Rattle.std.specs.Fmt.{decimal, signed_decimal}
+use Rattle.std.specs.Prelude.{ℕ, ◌+◌, List, [], ◌∷◌, ◌++◌, length, map, codes}
+use Rattle.std.specs.Fmt.{decimal}
 use Rattle.std.specs.List.{flat_map}
 use Rattle.kt_base.specs.declared.cell.Kind.{Kind}
-use Rattle.kt_base.specs.declared.cell.Kind.TheVariants as kind
 use Rattle.kt_base.specs.declared.cell.Cell.{Cell}
-use Rattle.kt_base.specs.declared.cell.Cell.TheVariants as cell
+use Rattle.kt_base.specs.Literals.{literal}
 use Rattle.kt_history.specs.declared.change.Outcome.{Outcome}
 use Rattle.kt_history.specs.declared.change.Outcome.TheVariants.{Done, Present, Absent}
 use Rattle.kt_history.specs.declared.event.Event.{Event}
@@ -28,40 +27,6 @@ spaced word = 32 ∷ word
 abbrev pub words : List (List ℕ) → List ℕ
 words [] = []
 words (w ∷ ws) = w ++ flat_map spaced ws
-
--- a hexadecimal digit in lower case
-abbrev pub hex_digit : ℕ → ℕ
-hex_digit n = if nat_lt n 10 then 48 + n else 87 + n
-
-abbrev pub hex : ℕ → List ℕ
-hex b = hex_digit (b / 16) ∷ hex_digit (b % 16) ∷ []
-
--- a byte that does not stand for itself in a string literal
-abbrev pub is_escaped : ℕ → Bool
-is_escaped b = ((b == 34) || (b == 92)) || (nat_lt b 32 || (b == 127))
-
--- a byte in a string literal
-abbrev pub string_byte : ℕ → List ℕ
-string_byte b = if (b == 34) || (b == 92) then 92 ∷ b ∷ [] else (if nat_lt b 32 || (b == 127) then 92 ∷ 120 ∷ hex b else b ∷ [])
-
--- bytes between quotes
-abbrev pub string_literal : List ℕ → List ℕ
-string_literal bytes = 34 ∷ flat_map string_byte bytes ++ 34 ∷ []
-
-abbrev pub binary_literal : List ℕ → List ℕ
-binary_literal bytes = codes "x\"" ++ flat_map hex bytes ++ 34 ∷ []
-
-abbrev pub bytes_literal : Kind → List ℕ → List ℕ
-bytes_literal kind.Binary bytes = binary_literal bytes
-bytes_literal _ bytes = string_literal bytes
-
--- the one spelling of a cell in a column of this kind
-abbrev pub literal : Kind → Cell → List ℕ
-literal kind cell.Null = codes "null"
-literal kind (cell.Int n) = signed_decimal n
-literal kind (cell.Bool false) = codes "false"
-literal kind (cell.Bool true) = codes "true"
-literal kind (cell.Bytes bytes) = bytes_literal kind bytes
 
 -- the literals of a row, under columns of these kinds
 abbrev pub literals : List Kind → List Cell → List (List ℕ)

@@ -33,8 +33,8 @@ fn after<'a>(text: &'a [u8], word: &[u8]) -> Option<&'a [u8]>
     if front == word { Some(rest) } else { None }
 }
 
-// The bytes before the first byte of a kind, and those after it.
-fn cut_at(text: &[u8], byte: u8) -> Option<(&[u8], &[u8])>
+/// The bytes before the first byte of a kind, and those after it.
+pub fn cut_at(text: &[u8], byte: u8) -> Option<(&[u8], &[u8])>
     ensures cut { IfSome result (λ x. text.now ≡ x.0.now ++ byte ∷ x.1.now) }
     ensures first { IfSome result (λ x. All (λ b. b ≢ byte) x.0.now) }
     ensures none { IfNone result (All (λ b. b ≢ byte) text.now) }

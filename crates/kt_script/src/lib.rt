@@ -5,14 +5,19 @@
 //! the one text of the replies, the history and the last line. It stands on kt_base and kt_history.
 #![tactic(auto)]
 
+pub mod columns;
 pub mod form;
+pub mod head;
+#[cfg(test)]
+mod head_tests;
 pub mod laws;
 pub mod lists;
-pub mod literal;
+pub mod number;
 pub mod output;
 pub mod refusal;
 #[cfg(test)]
 mod tests;
+pub mod word;
 
 pub use form::read_plan;
 pub use lists::{KindList, ReplyList, ReplyLists, ShownReply};

@@ -6,7 +6,8 @@ ghost use Rattle.std.specs.Fmt.{decimal};
 ghost use Rattle.kt_script.specs.Texts.{line, words, literals, row_text, outcome_word, reply_words, reply_text, session_text, sessions_text, event_line, last_text, output_text};
 
 use crate::lists::{ReplyLists, ShownReply};
-use crate::literal::{print_literal, print_number};
+use crate::number::print_number;
+use kt_base::literal::append_literal;
 use kt_base::{Cell, Kind, NoMemory, Octets, Row};
 use kt_history::{Event, EventList, Outcome, Reply};
 use std::alloc::Global;
@@ -94,7 +95,7 @@ fn print_cells(kinds: &[Kind], cells: &[Cell], out: &mut Octets) -> Result<(), N
         if at > 0 {
             out.push(b' ')?;
         }
-        print_literal(kinds[at], cell, out)?;
+        append_literal(cell, kinds[at], out)?;
     }
     Ok(())
 }

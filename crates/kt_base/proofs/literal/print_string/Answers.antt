@@ -1,8 +1,8 @@
 use Rattle.std.proofs.Common.{◌∙◌, ap, ◌++◌, ◌∷◌, [], append_assoc}
 use Rattle.std.specs.List.{flat_map}
-use Rattle.kt_script.specs.Texts.{string_byte}
-use Rattle.kt_script.proofs.Strings.{plain_step, byte_step}
-use Rattle.kt_script.proofs.literal.print_string.Goals as goal
+use Rattle.kt_base.specs.Literals.{string_byte}
+use Rattle.kt_base.proofs.Strings.{plain_step, byte_step}
+use Rattle.kt_base.proofs.literal.print_string.Goals as goal
 
 pub loop-rest-init : goal.loop-rest-init
 loop-rest-init c = ap (λ x. x ++ flat_map string_byte c.args.bytes.now) c.in_ok-push.ensures.ok ∙ append_assoc c.args.out.now (34 ∷ []) (flat_map string_byte c.args.bytes.now)

@@ -1,8 +1,8 @@
 use Rattle.std.proofs.Common.{◌∙◌, ap, take, length}
 use Rattle.std.specs.Option.{unwrap_or}
-use Rattle.kt_script.specs.Texts.{is_escaped}
-use Rattle.kt_script.proofs.Strings.{front_is}
-use Rattle.kt_script.proofs.literal.cut_plain.Goals as goal
+use Rattle.kt_base.specs.Literals.{is_escaped}
+use Rattle.kt_base.proofs.Strings.{front_is}
+use Rattle.kt_base.proofs.literal.cut_plain.Goals as goal
 
 pub returns-clause-plain : goal.returns-clause-plain
 returns-clause-plain c =

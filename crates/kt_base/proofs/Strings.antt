@@ -7,7 +7,7 @@ use Rattle.std.proofs.lemmas.List.Sums.{prefix_len-le-length}
 use Rattle.std.proofs.lemmas.Grind.{flat_map-append}
 use Rattle.std.proofs.lemmas.Bool.Decides.{nat_tests}
 use Rattle.std.proofs.Common.{Some, None, take}
-use Rattle.kt_script.specs.Texts.{is_escaped, string_byte, hex}
+use Rattle.kt_base.specs.Literals.{is_escaped, string_byte, hex}
 
 -- where a list ends without a pass, its length stands for the first place
 pub front_is : (p : ℕ → Bool) (xs : List ℕ) → unwrap_or (position p xs) (length xs) ≡ position_or_len p xs

@@ -1,7 +1,7 @@
 use Rattle.std.proofs.Common.{◌≡◌, ◌++◌, ◌∷◌, length}
 use Rattle.std.specs.List.{flat_map}
-use Rattle.kt_script.specs.Texts.{string_byte}
-use Rattle.kt_script.proofs.literal.print_string.Given as goal
+use Rattle.kt_base.specs.Literals.{string_byte}
+use Rattle.kt_base.proofs.literal.print_string.Given as goal
 
 -- what is printed, and the rest's spelling, are the whole
 abbrev pub invariant-loop-rest : goal.invariant-loop-rest

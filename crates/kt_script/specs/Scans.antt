@@ -1,0 +1,188 @@
+-- Scan lines: what a line says, and why it is refused. Only the present is scanned so far.
+use Rattle.std.specs.Prelude.{ℕ, zero, suc, min, Bool, true, false, not, is_some, ◌&&◌, List, [], ◌∷◌, ◌++◌, length, map, Option, Some, None, if◌then◌else◌, ◌==◌, Result, Ok, Err, codes}
+use Rattle.std.specs.List.{list_any, filter_map}
+use Rattle.std.specs.Option.{option_map, option_or}
+use Rattle.kt_base.specs.declared.cell.Kind.TheVariants as kind
+use Rattle.kt_base.specs.declared.cell.Cell.{Cell}
+use Rattle.kt_base.specs.declared.literal.LiteralNo.{LiteralNo}
+use Rattle.kt_base.specs.declared.literal.LiteralNo.TheVariants as no
+use Rattle.kt_base.specs.Literals.{same, cell_in}
+use Rattle.kt_schema.specs.Names.{is_name}
+use Rattle.kt_schema.specs.declared.column.Column.{Column}
+use Rattle.kt_history.specs.declared.scan.At.TheVariants.{Looked}
+use Rattle.kt_history.specs.declared.scan.Test.{Test}
+use Rattle.kt_history.specs.declared.scan.Test.TheVariants as test
+use Rattle.kt_history.specs.declared.scan.Pred.{Pred}
+use Rattle.kt_history.specs.declared.scan.Scan.{Scan}
+use Rattle.kt_script.specs.Pieces.{cut}
+use Rattle.kt_script.specs.Reasons.{sound, reason_if, form_no, cell_value}
+use Rattle.kt_script.specs.Writes.{name_in, behind_name, column_named}
+
+-- How a cell is compared with a literal.
+pub data Sign : Type 0 where
+  equal : Sign
+  below : Sign
+  at_most : Sign
+  above : Sign
+  at_least : Sign
+
+-- What is said of a column: a comparison with the text of a literal, or whether it is null.
+pub data Asked : Type 0 where
+  compared : Sign → List ℕ → Asked
+  null : Asked
+  not_null : Asked
+
+-- A test of the column of this name.
+pub record PredLine : Type 0 where
+  pub name : List ℕ
+  pub asked : Asked
+
+-- a sign that may have = behind it
+abbrev pub or_equal : Sign → Sign → List ℕ → Asked
+or_equal strict loose [] = compared strict []
+or_equal strict loose (b ∷ literal) = if b == 61 then compared loose literal else compared strict (b ∷ literal)
+
+-- the sign and the literal behind a name
+abbrev pub signed : List ℕ → Option Asked
+signed [] = None
+signed (b ∷ rest) = if b == 61 then Some (compared equal rest) else (if b == 60 then Some (or_equal below at_most rest) else (if b == 62 then Some (or_equal above at_least rest) else None))
+
+-- the words behind a test, and the test
+abbrev pub Taken : Type 0
+Taken = PredLine × List (List ℕ)
+
+-- NAME is null, or NAME is not null
+abbrev pub null_asked : List ℕ → List (List ℕ) → Option Taken
+null_asked name [] = None
+null_asked name (is ∷ []) = None
+null_asked name (is ∷ word ∷ []) = if same is (codes "is") && same word (codes "null") then Some (record { name = name; asked = null }, []) else None
+null_asked name (is ∷ word ∷ more ∷ words) = if same is (codes "is") && same word (codes "null") then Some (record { name = name; asked = null }, more ∷ words)
+    else (if same is (codes "is") && same word (codes "not") && same more (codes "null") then Some (record { name = name; asked = not_null }, words) else None)
+
+abbrev pub asked_by : Option Asked → List ℕ → List (List ℕ) → Option Taken
+asked_by None name words = null_asked name words
+asked_by (Some asked) name words = Some (record { name = name; asked = asked }, words)
+
+-- the first test of some words
+abbrev pub pred_at : List (List ℕ) → Option Taken
+pred_at [] = None
+pred_at (word ∷ words) = if is_name (name_in word) then asked_by (signed (behind_name word)) (name_in word) words else None
+
+-- a test and those behind it, with "and" between them
+abbrev pub behind_pred : (List (List ℕ) → Option (List PredLine)) → PredLine → List (List ℕ) → Option (List PredLine)
+behind_pred later pred [] = Some (pred ∷ [])
+behind_pred later pred (word ∷ words) = if same word (codes "and") then option_map (λ preds. pred ∷ preds) (later words) else None
+
+abbrev pub preds_after : (List (List ℕ) → Option (List PredLine)) → Option Taken → Option (List PredLine)
+preds_after later None = None
+preds_after later (Some taken) = behind_pred later taken.0 taken.1
+
+-- the tests that some words say, at most so many
+abbrev pub preds_in : ℕ → List (List ℕ) → Option (List PredLine)
+preds_in zero words = None
+preds_in (suc n) words = preds_after (preds_in n) (pred_at words)
+
+-- What a scan line says: the names that it selects, if it does, and its tests.
+pub record ScanLine : Type 0 where
+  pub names : Option (List (List ℕ))
+  pub preds : List PredLine
+
+abbrev pub with_preds : Option (List (List ℕ)) → Option (List PredLine) → Option ScanLine
+with_preds names None = None
+with_preds names (Some preds) = Some (record { names = names; preds = preds })
+
+-- nothing more, or "where" and tests
+abbrev pub where_line : Option (List (List ℕ)) → List (List ℕ) → Option ScanLine
+where_line names [] = Some (record { names = names; preds = [] })
+where_line names (word ∷ words) = if same word (codes "where") then with_preds names (preds_in (length words) words) else None
+
+-- behind "scan now": nothing more, or "select" and names, and then "where" and tests
+abbrev pub select_line : List (List ℕ) → Option ScanLine
+select_line [] = where_line None []
+select_line (word ∷ []) = None
+select_line (word ∷ names ∷ words) = if same word (codes "select") then where_line (Some (cut 44 names)) words else where_line None (word ∷ names ∷ words)
+
+-- behind "scan"
+abbrev pub scan_line : List (List ℕ) → Option ScanLine
+scan_line [] = None
+scan_line (word ∷ words) = if same word (codes "now") then select_line words else None
+
+-- a name of the schema
+abbrev pub name_no : List Column → List ℕ → ℕ
+name_no columns name = if is_name name then reason_if (not (is_some (column_named columns name))) 13 else 12
+
+-- each selected name once
+abbrev pub names_no : List Column → List (List ℕ) → List (List ℕ) → ℕ
+names_no columns seen [] = sound
+names_no columns seen (name ∷ names) = min (name_no columns name) (min (reason_if (list_any (λ n. same n name) seen) 13) (names_no columns (seen ++ name ∷ []) names))
+
+-- null is not compared
+abbrev pub compared_reason : Result Cell LiteralNo → ℕ
+compared_reason (Ok c) = sound
+compared_reason (Err no.Form) = 12
+compared_reason (Err no.Null) = 12
+compared_reason (Err no.Kind) = 14
+compared_reason (Err no.Long) = 16
+compared_reason (Err no.Memory) = sound
+
+-- a literal that is not null, of any kind
+abbrev pub literal_reason : Result Cell LiteralNo → ℕ
+literal_reason (Err no.Form) = 12
+literal_reason (Err no.Null) = 12
+literal_reason read = sound
+
+abbrev pub asked_no : Option Column → Asked → ℕ
+asked_no None (compared sign literal) = min 13 (literal_reason (cell_in kind.Bool literal))
+asked_no None null = 13
+asked_no None not_null = 13
+asked_no (Some c) (compared sign literal) = compared_reason (cell_in c.kind literal)
+asked_no (Some c) null = sound
+asked_no (Some c) not_null = sound
+
+abbrev pub preds_no : List Column → List PredLine → ℕ
+preds_no columns [] = sound
+preds_no columns (p ∷ preds) = min (asked_no (column_named columns p.name) p.asked) (preds_no columns preds)
+
+abbrev pub select_no : List Column → Option (List (List ℕ)) → ℕ
+select_no columns None = sound
+select_no columns (Some names) = names_no columns [] names
+
+-- why a scan is refused
+abbrev pub line_no : List Column → Option ScanLine → ℕ
+line_no columns None = 12
+line_no columns (Some line) = min (select_no columns line.names) (preds_no columns line.preds)
+
+abbrev pub scan_no : List Column → List (List ℕ) → ℕ
+scan_no columns words = line_no columns (scan_line words)
+
+-- the id of a column, if it is there
+abbrev pub id_of : Option Column → Option ℕ
+id_of None = None
+id_of (Some c) = Some c.id
+
+abbrev pub ids_of : List Column → List (List ℕ) → List ℕ
+ids_of columns names = filter_map (λ name. id_of (column_named columns name)) names
+
+abbrev pub test_of : Column → Asked → Test
+test_of c (compared equal literal) = test.Eq (cell_value c.kind literal)
+test_of c (compared below literal) = test.Lt (cell_value c.kind literal)
+test_of c (compared at_most literal) = test.Le (cell_value c.kind literal)
+test_of c (compared above literal) = test.Gt (cell_value c.kind literal)
+test_of c (compared at_least literal) = test.Ge (cell_value c.kind literal)
+test_of c null = test.IsNull
+test_of c not_null = test.NotNull
+
+abbrev pub pred_of : Option Column → Asked → Option Pred
+pred_of None asked = None
+pred_of (Some c) asked = Some (record { column = c.id; test = test_of c asked })
+
+abbrev pub preds_of : List Column → List PredLine → List Pred
+preds_of columns preds = filter_map (λ (p : PredLine). pred_of (column_named columns p.name) p.asked) preds
+
+abbrev pub scan_said : List Column → Option ScanLine → Scan
+scan_said columns None = record { at = Looked; columns = None; preds = [] }
+scan_said columns (Some line) = record { at = Looked; columns = option_map (ids_of columns) line.names; preds = preds_of columns line.preds }
+
+-- the scan that a line says
+abbrev pub scan_of : List Column → List (List ℕ) → Scan
+scan_of columns words = scan_said columns (scan_line words)

@@ -1,0 +1,206 @@
+-- Scripts: the first line that is refused, and what a script says where none is.
+-- A script has at most one session so far.
+use Rattle.std.specs.Prelude.{◌≡◌, ◌<◌, Result, Ok, Err, ℕ, ◌+◌, min, Bool, true, false, not, ◌||◌, List, [], ◌∷◌, ◌++◌, length, Option, Some, None, if◌then◌else◌, ◌==◌, nat_lt, nat_le, codes}
+use Rattle.std.proofs.Common.{Bor}
+use Rattle.std.specs.List.{sum_by}
+use Rattle.kt_base.specs.Literals.{same}
+use Rattle.kt_schema.specs.declared.column.Column.{Column}
+use Rattle.kt_history.specs.declared.command.Command.{Command}
+use Rattle.kt_history.specs.declared.command.Command.TheVariants as command
+use Rattle.kt_script.specs.declared.columns.LineNo.{LineNo}
+use Rattle.kt_script.specs.declared.columns.LineNo.TheVariants as line
+use Rattle.kt_script.specs.declared.head.Head.{Head}
+use Rattle.kt_script.specs.declared.head.ReadNo.{ReadNo}
+use Rattle.kt_script.specs.declared.head.ReadNo.TheVariants as read
+use Rattle.kt_script.specs.Pieces.{cut, words_of}
+use Rattle.kt_script.specs.Reasons.{sound, reason_if}
+use Rattle.kt_script.specs.Columns.{begins_column, column_no, columns_with, keys_no}
+use Rattle.kt_script.specs.Writes.{op_kind, write_no, write_of}
+use Rattle.kt_script.specs.Scans.{scan_no, scan_of}
+
+abbrev pub most_bytes : ℕ
+most_bytes = 67108864
+
+abbrev pub most_sessions : ℕ
+most_sessions = 1
+
+abbrev pub most_commands : ℕ
+most_commands = 262144
+
+-- A line of a session, by its first word.
+pub data Word : Type 0 where
+  session : Word
+  scan : Word
+  write : Word
+  other : Word
+
+abbrev pub word_of_op : Bool → Word
+word_of_op true = write
+word_of_op false = other
+
+abbrev pub word_of : List ℕ → Word
+word_of word = if same word (codes "session") then session else (if same word (codes "scan") then scan
+    else word_of_op (same word (codes "insert") || (same word (codes "upsert") || (same word (codes "update") || same word (codes "delete")))))
+
+-- why a command of these words is refused
+abbrev pub command_no : List Column → Word → List (List ℕ) → ℕ
+command_no columns session words = 12
+command_no columns other words = 11
+command_no columns scan [] = 12
+command_no columns scan (word ∷ words) = scan_no columns words
+command_no columns write words = write_no columns words
+
+abbrev pub command_of : List Column → Word → List (List ℕ) → Command
+command_of columns scan [] = command.Scan (scan_of columns [])
+command_of columns scan (word ∷ words) = command.Scan (scan_of columns words)
+command_of columns w words = command.Write (record { ops = write_of columns words })
+
+-- how many commands there are, and whether a session is begun
+abbrev pub commands_in : List (List Command) → ℕ
+commands_in plan = sum_by (λ (commands : List Command). length commands) plan
+
+abbrev pub is_begun : List (List Command) → Bool
+is_begun plan = nat_lt 0 (length plan)
+
+-- a session line is its word alone
+abbrev pub session_no : List (List Command) → List (List ℕ) → ℕ
+session_no plan [] = 12
+session_no plan (word ∷ []) = reason_if (nat_le most_sessions (length plan)) 20
+session_no plan (word ∷ more ∷ words) = 12
+
+abbrev pub in_session_no : List Column → List (List Command) → Word → List (List ℕ) → ℕ
+in_session_no columns plan w words = if is_begun plan then min (command_no columns w words) (reason_if (nat_le most_commands (commands_in plan)) 20) else 11
+
+abbrev pub worded_no : List Column → List (List Command) → Word → List (List ℕ) → ℕ
+worded_no columns plan session words = session_no plan words
+worded_no columns plan scan words = in_session_no columns plan scan words
+worded_no columns plan write words = in_session_no columns plan write words
+worded_no columns plan other words = 11
+
+abbrev pub first_word : List (List ℕ) → Word
+first_word [] = other
+first_word (word ∷ words) = word_of word
+
+abbrev pub body_no : List Column → List (List Command) → List (List ℕ) → ℕ
+body_no columns plan words = worded_no columns plan (first_word words) words
+
+-- the commands with one more in the last session
+abbrev pub push_last : Command → List (List Command) → List (List Command)
+push_last c [] = (c ∷ []) ∷ []
+push_last c (commands ∷ []) = (commands ++ c ∷ []) ∷ []
+push_last c (commands ∷ more ∷ plan) = commands ∷ push_last c (more ∷ plan)
+
+abbrev pub worded_plan : List Column → List (List Command) → Word → List (List ℕ) → List (List Command)
+worded_plan columns plan session words = plan ++ [] ∷ []
+worded_plan columns plan scan words = push_last (command_of columns scan words) plan
+worded_plan columns plan write words = push_last (command_of columns write words) plan
+worded_plan columns plan other words = plan
+
+abbrev pub body_plan : List Column → List (List Command) → List (List ℕ) → List (List Command)
+body_plan columns plan words = worded_plan columns plan (first_word words) words
+
+-- What stands above a line: nothing, the first line and columns, or columns and the sessions below them.
+pub data Above : Type 0 where
+  start : Above
+  head : List Column → Above
+  body : List Column → List (List Command) → Above
+
+-- why a line is refused below these
+abbrev pub line_no : Above → List ℕ → ℕ
+line_no start line = reason_if (not (same line (codes "table"))) 3
+line_no (head columns) line = if begins_column line then column_no columns line else min (keys_no columns) (body_no columns [] (words_of line))
+line_no (body columns plan) line = body_no columns plan (words_of line)
+
+-- why a script must not end below these
+abbrev pub end_no : Above → ℕ
+end_no start = 3
+end_no (head columns) = keys_no columns
+end_no (body columns plan) = sound
+
+-- what stands above the next line
+abbrev pub after : Above → List ℕ → Above
+after start line = head []
+after (head columns) line = if begins_column line then head (columns_with columns line) else body columns (body_plan columns [] (words_of line))
+after (body columns plan) line = body columns (body_plan columns plan (words_of line))
+
+-- A fault: the number of a line, from 1, and the least reason that holds in it.
+pub record Fault : Type 0 where
+  pub number : ℕ
+  pub reason : ℕ
+
+abbrev pub fault_if : ℕ → ℕ → Option Fault → Option Fault
+fault_if number reason later = if nat_lt reason sound then Some (record { number = number; reason = reason }) else later
+
+-- what follows the last newline: nothing, or a line without its newline
+abbrev pub rest_no : Above → List ℕ → ℕ
+rest_no above [] = end_no above
+rest_no above (b ∷ bytes) = 2
+
+-- the first fault of some lines, the first of which has this number. The last piece is what follows the last newline
+abbrev pub fault_from : Above → ℕ → List (List ℕ) → Option Fault
+fault_from above number [] = None
+fault_from above number (rest ∷ []) = fault_if number (rest_no above rest) None
+fault_from above number (line ∷ more ∷ pieces) = fault_if number (line_no above line) (fault_from (after above line) (number + 1) (more ∷ pieces))
+
+-- what stands above the end
+abbrev pub above_end : Above → List (List ℕ) → Above
+above_end above [] = above
+above_end above (rest ∷ []) = above
+above_end above (line ∷ more ∷ pieces) = above_end (after above line) (more ∷ pieces)
+
+-- the first fault of a text
+abbrev pub fault_of : List ℕ → Option Fault
+fault_of text = if nat_lt most_bytes (length text) then Some (record { number = 0; reason = 1 }) else fault_from start 1 (cut 10 text)
+
+-- What a script says: the columns of its table, and the commands of each session.
+pub record Said : Type 0 where
+  pub columns : List Column
+  pub plan : List (List Command)
+
+abbrev pub said : Above → Said
+said start = record { columns = []; plan = [] }
+said (head columns) = record { columns = columns; plan = [] }
+said (body columns plan) = record { columns = columns; plan = plan }
+
+abbrev pub said_unless : Option Fault → Said → Option Said
+said_unless None script = Some script
+said_unless (Some fault) script = None
+
+-- what a text says, if it is a script
+abbrev pub script_of : List ℕ → Option Said
+script_of text = said_unless (fault_of text) (said (above_end start (cut 10 text)))
+
+-- a fault that is told
+abbrev pub at : ℕ → ℕ → Option Fault
+at number reason = Some (record { number = number; reason = reason })
+
+-- the line at the front, if it has its newline
+abbrev pub first_piece : List (List ℕ) → List ℕ
+first_piece [] = []
+first_piece (rest ∷ []) = []
+first_piece (line ∷ more ∷ pieces) = line
+
+-- the refusal of a line, by its number
+abbrev pub located : ℕ → LineNo → ReadNo
+located number (line.Reason r) = read.Line number r
+located number line.Memory = read.Memory
+
+-- the first line and the text behind it, or no newline
+abbrev pub IsLineCut : List ℕ → Option (Bor (List ℕ) × Bor (List ℕ)) → Type 0
+IsLineCut text None = cut 10 text ≡ text ∷ []
+IsLineCut text (Some line) = (cut 10 text ≡ line.0.now ∷ cut 10 line.1.now) × (length line.1.now < length text)
+
+-- Columns that are read from below this, as line number: a fault, or the columns, and what is left below them, where no line is a column's.
+abbrev pub IsReadFrom : Above → ℕ → List ℕ → Result Head ReadNo → Type 0
+IsReadFrom above number text (Ok h) = (fault_from above number (cut 10 text) ≡ fault_from (head h.columns.items) (length h.columns.items + 2) (cut 10 h.rest.now))
+    × (above_end above (cut 10 text) ≡ above_end (head h.columns.items) (cut 10 h.rest.now))
+    × (begins_column (first_piece (cut 10 h.rest.now)) ≡ false)
+IsReadFrom above number text (Err (read.Line n reason)) = fault_from above number (cut 10 text) ≡ at n reason
+IsReadFrom above number text (Err read.Memory) = Unit {0}
+
+abbrev pub IsColumns : List ℕ → Result Head ReadNo → Type 0
+IsColumns text result = IsReadFrom (head []) 2 text result
+
+-- the columns of a text, or a fault of its first lines
+abbrev pub IsHead : List ℕ → Result Head ReadNo → Type 0
+IsHead text result = IsReadFrom start 1 text result

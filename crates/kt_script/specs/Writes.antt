@@ -1,0 +1,185 @@
+-- Write lines: what a line says of its operations, and why it is refused.
+use Rattle.std.specs.Prelude.{ℕ, min, Bool, true, false, not, ◌&&◌, ◌||◌, List, [], ◌∷◌, ◌++◌, length, drop, map, Option, Some, None, is_some, if◌then◌else◌, ◌==◌, nat_lt, codes}
+use Rattle.std.specs.List.{list_any, before_first, onto_first}
+use Rattle.std.specs.Ordering.{nat_cmp}
+use Rattle.std.specs.FinMap.Entries.{put}
+use Rattle.kt_base.specs.declared.cell.Cell.{Cell}
+use Rattle.kt_base.specs.Literals.{same}
+use Rattle.kt_key.specs.Fit.{is_key}
+use Rattle.kt_key.specs.Spelling.{spelling}
+use Rattle.kt_schema.specs.Names.{is_name}
+use Rattle.kt_schema.specs.Columns.{key_columns, other_columns, key_kinds}
+use Rattle.kt_schema.specs.declared.column.Column.{Column}
+use Rattle.kt_history.specs.declared.operation.OpKind.{OpKind}
+use Rattle.kt_history.specs.declared.operation.OpKind.TheVariants as op
+use Rattle.kt_history.specs.declared.operation.RowOp.{RowOp}
+use Rattle.kt_script.specs.Reasons.{sound, reason_if, cell_no, cell_value, form_no}
+
+-- a literal for each column at the front of some words
+abbrev pub cells_no : List Column → List (List ℕ) → ℕ
+cells_no [] words = sound
+cells_no (c ∷ columns) [] = 12
+cells_no (c ∷ columns) (word ∷ words) = min (cell_no c word) (cells_no columns words)
+
+abbrev pub cells_of : List Column → List (List ℕ) → List Cell
+cells_of [] words = []
+cells_of (c ∷ columns) [] = []
+cells_of (c ∷ columns) (word ∷ words) = cell_value c.kind word ∷ cells_of columns words
+
+abbrev pub is_empty : {A : Type 0} → List A → Bool
+is_empty [] = true
+is_empty (x ∷ xs) = false
+
+-- no word is left
+abbrev pub none_left_no : List (List ℕ) → ℕ
+none_left_no words = reason_if (not (is_empty words)) 12
+
+-- how many literals spell a key
+abbrev pub key_len : List Column → ℕ
+key_len columns = length (key_columns columns)
+
+abbrev pub key_cells : List Column → List (List ℕ) → List Cell
+key_cells columns words = cells_of (key_columns columns) words
+
+-- the encoded key that the first words spell
+abbrev pub key_of : List Column → List (List ℕ) → List ℕ
+key_of columns words = spelling (key_kinds columns) (key_cells columns words)
+
+-- a key that is too long
+abbrev pub long_no : List Column → List (List ℕ) → ℕ
+long_no columns words = reason_if (is_key (key_kinds columns) (key_cells columns words) && nat_lt 16384 (length (key_of columns words))) 17
+
+-- the literals of a key
+abbrev pub key_no : List Column → List (List ℕ) → ℕ
+key_no columns words = min (cells_no (key_columns columns) words) (long_no columns words)
+
+-- the bytes of signs, which no name has
+abbrev pub is_sign : ℕ → Bool
+is_sign b = (b == 61) || ((b == 60) || (b == 62))
+
+-- what stands before the first sign, and what stands from it on
+abbrev pub name_in : List ℕ → List ℕ
+name_in word = before_first is_sign word
+
+abbrev pub behind_name : List ℕ → List ℕ
+behind_name word = drop (length (name_in word)) word
+
+abbrev pub column_named : List Column → List ℕ → Option Column
+column_named [] name = None
+column_named (c ∷ columns) name = if same c.name name then Some c else column_named columns name
+
+-- a literal under a column that may be missing
+abbrev pub under_no : Option Column → List ℕ → ℕ
+under_no None literal = min 13 (form_no literal)
+under_no (Some c) literal = cell_no c literal
+
+-- the literal behind the sign of NAME=LIT
+abbrev pub given_no : List Column → List ℕ → List ℕ → ℕ
+given_no others name [] = 12
+given_no others name (b ∷ literal) = if is_name name && (b == 61) then under_no (column_named others name) literal else 12
+
+-- NAME=LIT, of a column that is no key
+abbrev pub named_no : List Column → List ℕ → ℕ
+named_no others word = given_no others (name_in word) (behind_name word)
+
+-- a word for each name, none of which is among those before it
+abbrev pub all_named_no : List Column → List (List ℕ) → List (List ℕ) → ℕ
+all_named_no others seen [] = sound
+all_named_no others seen (word ∷ words) = min (named_no others word) (min (reason_if (list_any (λ n. same n (name_in word)) seen) 13) (all_named_no others (seen ++ name_in word ∷ []) words))
+
+-- a column that an upsert has to name
+abbrev pub must_be_named : List (List ℕ) → Column → Bool
+must_be_named names c = (not c.nullable && not (is_some c.default)) && not (list_any (λ n. same n c.name) names)
+
+abbrev pub left_out_no : List Column → List (List ℕ) → ℕ
+left_out_no others words = reason_if (list_any (must_be_named (map name_in words)) others) 15
+
+-- why an operation's words behind its first are refused
+abbrev pub insert_no : List Column → List (List ℕ) → ℕ
+insert_no columns words = min (cells_no columns words) (min (none_left_no (drop (length columns) words)) (long_no columns words))
+
+abbrev pub delete_no : List Column → List (List ℕ) → ℕ
+delete_no columns words = min (key_no columns words) (none_left_no (drop (key_len columns) words))
+
+abbrev pub changes_no : List Column → List (List ℕ) → ℕ
+changes_no columns words = min (key_no columns words) (all_named_no (other_columns columns) [] (drop (key_len columns) words))
+
+abbrev pub upsert_no : List Column → List (List ℕ) → ℕ
+upsert_no columns words = min (changes_no columns words) (left_out_no (other_columns columns) (drop (key_len columns) words))
+
+abbrev pub update_no : List Column → List (List ℕ) → ℕ
+update_no columns words = min (changes_no columns words) (reason_if (is_empty (drop (key_len columns) words)) 12)
+
+-- the kind of an operation by its first word
+abbrev pub op_kind : List ℕ → Option OpKind
+op_kind word = if same word (codes "insert") then Some op.Insert else (if same word (codes "upsert") then Some op.Upsert else (if same word (codes "update") then Some op.Update else (if same word (codes "delete") then Some op.Delete else None)))
+
+abbrev pub kind_no : List Column → Option OpKind → List (List ℕ) → ℕ
+kind_no columns None words = 12
+kind_no columns (Some op.Insert) words = insert_no columns words
+kind_no columns (Some op.Upsert) words = upsert_no columns words
+kind_no columns (Some op.Update) words = update_no columns words
+kind_no columns (Some op.Delete) words = delete_no columns words
+
+-- why an operation is refused
+abbrev pub op_no : List Column → List (List ℕ) → ℕ
+op_no columns [] = 12
+op_no columns (word ∷ words) = kind_no columns (op_kind word) words
+
+-- the words of each operation
+abbrev pub ops_of : List (List ℕ) → List (List (List ℕ))
+ops_of [] = [] ∷ []
+ops_of (word ∷ words) = if same word (codes ";") then [] ∷ ops_of words else onto_first word (ops_of words)
+
+abbrev pub ops_no : List Column → List (List (List ℕ)) → ℕ
+ops_no columns [] = sound
+ops_no columns (words ∷ ops) = min (op_no columns words) (ops_no columns ops)
+
+abbrev pub twice : List (List ℕ) → Bool
+twice [] = false
+twice (x ∷ xs) = list_any (λ y. same x y) xs || twice xs
+
+abbrev pub op_key : List Column → List (List ℕ) → List ℕ
+op_key columns [] = []
+op_key columns (word ∷ words) = key_of columns words
+
+-- why a write is refused
+abbrev pub write_no : List Column → List (List ℕ) → ℕ
+write_no columns words = min (ops_no columns (ops_of words))
+    (min (reason_if (nat_lt 64 (length (ops_of words))) 18)
+    (reason_if (twice (map (op_key columns) (ops_of words))) 19))
+
+-- cells under their columns
+abbrev pub under : List Column → List Cell → List (ℕ × Cell)
+under [] cells = []
+under (c ∷ columns) [] = []
+under (c ∷ columns) (cell ∷ cells) = (c.id, cell) ∷ under columns cells
+
+-- the cells with one more, if its column is there
+abbrev pub with_named : Option Column → List ℕ → List (ℕ × Cell) → List (ℕ × Cell)
+with_named None literal cells = cells
+with_named (Some c) literal cells = put nat_cmp c.id (cell_value c.kind literal) cells
+
+-- the named cells after these, by rising id
+abbrev pub all_named : List Column → List (ℕ × Cell) → List (List ℕ) → List (ℕ × Cell)
+all_named others cells [] = cells
+all_named others cells (word ∷ words) = all_named others (with_named (column_named others (name_in word)) (drop 1 (behind_name word)) cells) words
+
+abbrev pub op_cells : List Column → Option OpKind → List (List ℕ) → List (ℕ × Cell)
+op_cells columns (Some op.Insert) words = under (other_columns columns) (drop (key_len columns) (cells_of columns words))
+op_cells columns (Some op.Upsert) words = all_named (other_columns columns) [] (drop (key_len columns) words)
+op_cells columns (Some op.Update) words = all_named (other_columns columns) [] (drop (key_len columns) words)
+op_cells columns (Some op.Delete) words = []
+op_cells columns None words = []
+
+abbrev pub kind_or_delete : Option OpKind → OpKind
+kind_or_delete None = op.Delete
+kind_or_delete (Some kind) = kind
+
+abbrev pub op_of : List Column → List (List ℕ) → RowOp
+op_of columns [] = record { kind = op.Delete; key = []; cells = [] }
+op_of columns (word ∷ words) = record { kind = kind_or_delete (op_kind word); key = key_of columns words; cells = op_cells columns (op_kind word) words }
+
+-- the operations that a write line says
+abbrev pub write_of : List Column → List (List ℕ) → List RowOp
+write_of columns words = map (op_of columns) (ops_of words)

@@ -1,0 +1,209 @@
+//! Column lines.
+
+ghost use Rattle.std.specs.Prelude.{◌≡◌, ◌≤◌, ◌<◌, ◌++◌, ◌∷◌, [], not, length, IfOk};
+ghost use Rattle.std.specs.List.{list_any};
+ghost use Rattle.std.specs.Option.{option_map};
+ghost use Rattle.std.specs.Ordering.{nat_cmp, is_eq};
+ghost use Rattle.std.specs.Cmp.Lexicographic.{slice_cmp};
+ghost use Rattle.kt_script.specs.Pieces.{words_of, words_in, text_now};
+ghost use Rattle.kt_script.specs.Reasons.{sound};
+ghost use Rattle.kt_script.specs.Columns.{kind_of, with_default, as_key, marked, column_line, line_view, place_no, column_no, columns_with, ReadsDefault, ReadsColumn};
+
+use crate::word::next_word;
+use kt_base::limits::COLUMNS;
+use kt_base::literal::{LiteralNo, read_literal};
+use kt_base::{Cell, Kind, Octets};
+use kt_schema::{Column, is_name};
+use std::alloc::Global;
+
+/// No reason holds.
+pub const SOUND: u8 = 21;
+
+/// Why a line is not read: the least reason that holds in it, or want of memory.
+#[derive(Clone, Copy, Debug, PartialEq, Eq)]
+pub enum LineNo {
+    Reason(u8),
+    Memory,
+}
+
+// What a column line says. A default is the text of a literal.
+#[derive(Clone, Copy)]
+pub struct Line<'a> {
+    name: &'a [u8],
+    kind: Kind,
+    key: bool,
+    nullable: bool,
+    default: Option<&'a [u8]>,
+}
+
+fn kind_of(word: &[u8]) -> Option<Kind>
+    ensures { result ≡ kind_of word.now }
+{
+    if word == b"bool".as_slice() {
+        Some(Kind::Bool)
+    } else if word == b"int8".as_slice() {
+        Some(Kind::Int8)
+    } else if word == b"int16".as_slice() {
+        Some(Kind::Int16)
+    } else if word == b"int32".as_slice() {
+        Some(Kind::Int32)
+    } else if word == b"int64".as_slice() {
+        Some(Kind::Int64)
+    } else if word == b"string".as_slice() {
+        Some(Kind::String)
+    } else if word == b"binary".as_slice() {
+        Some(Kind::Binary)
+    } else {
+        None
+    }
+}
+
+// Behind the kind and `nullable`: nothing, or the default.
+fn with_default<'a>(
+    name: &'a [u8],
+    kind: Kind,
+    nullable: bool,
+    rest: Option<&'a [u8]>,
+) -> Option<Line<'a>>
+    ensures { option_map line_view result ≡ with_default name.now kind nullable (words_in rest.entry) }
+{
+    let line = Line {
+        name,
+        kind,
+        key: false,
+        nullable,
+        default: None,
+    };
+    let Some((word, rest)) = next_word(rest) else {
+        return Some(line);
+    };
+    let (literal, rest) = next_word(rest)?;
+    if next_word(rest).is_some() || word != b"default".as_slice() {
+        return None;
+    }
+    Some(Line {
+        name,
+        kind,
+        key: false,
+        nullable,
+        default: Some(literal),
+    })
+}
+
+fn as_key<'a>(name: &'a [u8], kind: Kind, rest: Option<&'a [u8]>) -> Option<Line<'a>>
+    ensures { option_map line_view result ≡ as_key name.now kind (words_in rest.entry) }
+{
+    match next_word(rest) {
+        Some(_) => None,
+        None => Some(Line {
+            name,
+            kind,
+            key: true,
+            nullable: false,
+            default: None,
+        }),
+    }
+}
+
+// Behind the kind.
+fn marked<'a>(name: &'a [u8], kind: Kind, rest: Option<&'a [u8]>) -> Option<Line<'a>>
+    ensures { option_map line_view result ≡ marked name.now kind (words_in rest.entry) }
+{
+    let Some((word, behind)) = next_word(rest) else {
+        return with_default(name, kind, false, None);
+    };
+    if word == b"key".as_slice() {
+        as_key(name, kind, behind)
+    } else if word == b"nullable".as_slice() {
+        with_default(name, kind, true, behind)
+    } else {
+        with_default(name, kind, false, rest)
+    }
+}
+
+fn column_line(line: &[u8]) -> Option<Line<'_>>
+    ensures { option_map line_view result ≡ column_line (words_of line.now) }
+{
+    let (first, rest) = next_word(Some(line))?;
+    let (name, rest) = next_word(rest)?;
+    let (kind, rest) = next_word(rest)?;
+    if first != b"column".as_slice() || !is_name(name) {
+        return None;
+    }
+    let kind = kind_of(kind)?;
+    marked(name, kind, rest)
+}
+
+fn read_default(alloc: Global, kind: Kind, text: Option<&[u8]>) -> Result<Option<Cell>, LineNo>
+    ensures { ReadsDefault kind (text_now text.entry) result }
+{
+    let Some(text) = text else {
+        return Ok(None);
+    };
+    match read_literal(alloc, text, kind) {
+        Ok(cell) => Ok(Some(cell)),
+        Err(LiteralNo::Form) => Err(LineNo::Reason(4)),
+        Err(LiteralNo::Memory) => Err(LineNo::Memory),
+        Err(LiteralNo::Null | LiteralNo::Kind | LiteralNo::Long) => Err(LineNo::Reason(10)),
+    }
+}
+
+fn has_other(columns: &[Column]) -> bool
+    ensures { result ≡ list_any (λ d. not d.key) columns.now }
+{
+    columns.iter().any(|column| !column.key)
+}
+
+fn has_name(columns: &[Column], name: &[u8]) -> bool
+    ensures { result ≡ list_any (λ d. is_eq (slice_cmp nat_cmp name.now d.name)) columns.now }
+{
+    columns
+        .iter()
+        .any(|column| name.cmp(&column.name.as_slice()).is_eq())
+}
+
+// Why a column may not stand below these columns.
+fn place_no(columns: &[Column], line: &Line<'_>) -> u8
+    ensures { result ≡ place_no columns.now (line_view line.now) }
+{
+    if line.key && has_other(columns) {
+        6
+    } else if line.key && line.kind == Kind::Bool {
+        7
+    } else if has_name(columns, line.name) {
+        8
+    } else if COLUMNS <= columns.len() {
+        9
+    } else {
+        SOUND
+    }
+}
+
+/// The column that a line says below these columns.
+pub fn read_column(alloc: Global, columns: &[Column], text: &[u8]) -> Result<Column, LineNo>
+    ensures { ReadsColumn columns.now text.now result }
+{
+    let Some(line) = column_line(text) else {
+        return Err(LineNo::Reason(4));
+    };
+    let place = place_no(columns, &line);
+    let default = match read_default(alloc, line.kind, line.default) {
+        Ok(default) => default,
+        Err(LineNo::Reason(reason)) => return Err(LineNo::Reason(reason.min(place))),
+        Err(LineNo::Memory) => return Err(LineNo::Memory),
+    };
+    if place < SOUND {
+        return Err(LineNo::Reason(place));
+    }
+    let Ok(name) = Octets::from_slice(alloc, line.name) else {
+        return Err(LineNo::Memory);
+    };
+    Ok(Column {
+        id: columns.len() as u16 + 1,
+        name,
+        kind: line.kind,
+        key: line.key,
+        nullable: line.nullable,
+        default,
+    })
+}
