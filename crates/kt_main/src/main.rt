@@ -4,7 +4,10 @@
 //! program, and the clock counts 1, 2, 3 and so on, so that each run of a script prints the same.
 #![tactic(auto)]
 
+mod dir;
 mod edges;
+#[cfg(test)]
+mod tests;
 
 use edges::{Stdin, Stdout, Ticks};
 use kt_app::tablet_main;
