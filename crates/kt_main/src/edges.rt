@@ -2,6 +2,8 @@
 
 use kt_base::{Clock, Failed, Sink, Source};
 use std::io::{Read, Write};
+use std::time;
+use std::time::{SystemTime, UNIX_EPOCH};
 
 /// A source that reads a stream.
 #[derive(Drop)]
@@ -85,5 +87,34 @@ impl Clock for Ticks {
     fn now(&mut self) -> u64 {
         self.reading = self.reading.saturating_add(1);
         self.reading
+    }
+}
+
+/// The machine's clock, in microseconds since 1970, and 0 before or where it cannot be read.
+#[derive(Drop)]
+pub struct MachineClock<'a, R> {
+    rt: &'a R,
+}
+
+impl<'a, R: time::Clock> MachineClock<'a, R> {
+    pub fn new(rt: &'a R) -> MachineClock<'a, R> {
+        MachineClock { rt }
+    }
+}
+
+fn micros_since_1970(clock: &impl time::Clock) -> Option<u64> {
+    let now = SystemTime::now(clock).ok()?;
+    let since = now.duration_since(UNIX_EPOCH).ok()?;
+    let micros = since.as_secs().saturating_mul(1_000_000);
+    Some(micros.saturating_add(u64::from(since.subsec_micros())))
+}
+
+impl<'a, R: time::Clock> Clock for MachineClock<'a, R> {
+    ghost use Rattle.std.specs.Prelude.{None};
+
+    ghost readings = { λ _. None };
+
+    fn now(&mut self) -> u64 {
+        micros_since_1970(self.rt).unwrap_or(0)
     }
 }
