@@ -3,3 +3,4 @@ pub mod Replays
 pub mod Rows
 pub mod Replayed
 pub mod Gates
+pub mod Pasts

@@ -3,3 +3,4 @@ pub mod Opening
 pub mod Laws
 pub mod Commits
 pub mod Refusal
+pub mod Pasts

@@ -32,7 +32,7 @@ const DONE: [u8; 22] = [
     2, 0, 32, 0, 0, 0, 0, 0, 0, 1, 0, 0, 1, 1, 1, 0, 0, 0, 0, 0, 0, 0,
 ];
 
-// An upsert of key b, which names no cell, at 2^63 - 2^21 - 1, and the byte 9 of a later timestamp.
+// An upsert of key b, which names no cell, at 2^63 - 2^21 - 1, and one at the timestamp behind it.
 const UPSERT: [u8; 17] = [
     1, 0xff, 0xff, 0xdf, 0xff, 0xff, 0xff, 0xff, 0x7f, 1, 0, 2, 1, 0, 98, 0, 0,
 ];
