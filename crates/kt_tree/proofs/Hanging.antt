@@ -4,7 +4,7 @@ use Rattle.std.specs.Ordering.{is_lt}
 use Rattle.std.specs.declared.cmp.Ordering.TheVariants.{Less}
 use Rattle.kt_pool.specs.Contents.{Contents, bytes_at}
 use Rattle.kt_tree.specs.Entries.{order, put}
-use Rattle.kt_tree.specs.Shapes.{nothing, node_of, IsNode, Shape, leaf, node, root_of, flat, one_at, count, Rewrites}
+use Rattle.kt_tree.specs.Shapes.{nothing, node_of, head_of, IsNode, Shape, leaf, node, root_of, flat, one_at, count, Rewrites}
 use Rattle.kt_tree.specs.Changes.{Splits, Becomes, alone, StandsBy}
 use Rattle.kt_tree.specs.declared.node.Node.{Node}
 use Rattle.kt_tree.proofs.Orders.{rising_below, put_before, put_after, put_past, put_first, above_is}
@@ -32,7 +32,7 @@ hung_alone pool root fresh key e s place value h =
     }
 
 module _ (old : Contents) (root fresh : ℕ) (key : List ℕ) (s : Shape) (place value : ℕ) (h : StandsBy old root fresh key s place value) where
-  fresh_long : length (bytes_at old fresh) ≡ 16
+  fresh_long : length (bytes_at old fresh) ≡ 24
   fresh_long = h.holds.0.long
 
   pub fresh_inside : fresh < nothing
@@ -40,16 +40,16 @@ module _ (old : Contents) (root fresh : ℕ) (key : List ℕ) (s : Shape) (place
 
   module _ (mid : Contents) (lo hi : ℕ) (sp : Splits old mid s key lo hi) where
     -- the node is where it was after the tree is cut
-    pub fresh_still : length (bytes_at mid fresh) ≡ 16
+    pub fresh_still : length (bytes_at mid fresh) ≡ 24
     fresh_still = let a = h.apart fresh in let one = one_same fresh fresh refl in ap length (bytes_same old mid fresh (sp.rewrites.frame fresh (omega arith))) ∙ fresh_long
 
     -- the node stands above both halves
-    pub hung_top : (n : Node) → n ≡ node_of (bytes_at old fresh) → (new : Contents) → IsNode new fresh (to_node lo hi n.key n.value) → Rewrites mid new (one_at fresh) → Becomes old new fresh (put key value (flat s)) (both s fresh key place value)
+    pub hung_top : (n : Node) → n ≡ node_of (bytes_at old fresh) → (new : Contents) → IsNode new fresh (to_node lo hi n.key n.value n.head) → Rewrites mid new (one_at fresh) → Becomes old new fresh (put key value (flat s)) (both s fresh key place value)
     hung_top n read new nd ot =
         let P : Node → Type 0 = λ m. IsNode new fresh m in
-        let says : n ≡ to_node nothing nothing place value = read ∙ h.holds.0.says in
-        let as_node : to_node lo hi n.key n.value ≡ to_node (root_of sp.low) (root_of sp.high) place value =
-        ap (λ (m : Node). to_node lo hi m.key m.value) says ∙ ap (λ x. to_node x hi place value) sp.low_root ∙ ap (λ x. to_node (root_of sp.low) x place value) sp.high_root in
+        let says : n ≡ to_node nothing nothing place value (head_of key) = read ∙ h.holds.0.says in
+        let as_node : to_node lo hi n.key n.value n.head ≡ to_node (root_of sp.low) (root_of sp.high) place value (head_of key) =
+        ap (λ (m : Node). to_node lo hi m.key m.value m.head) says ∙ ap (λ x. to_node x hi place value (head_of key)) sp.low_root ∙ ap (λ x. to_node (root_of sp.low) x place value (head_of key)) sp.high_root in
         let one = one_same place place refl in
         record {
           form = node fresh sp.low key place value sp.high;
@@ -59,6 +59,7 @@ module _ (old : Contents) (root fresh : ℕ) (key : List ℕ) (s : Shape) (place
             (let a = h.apart place in ot.frame place (omega arith) ∙ sp.rewrites.frame place (omega arith)) ∙ h.holds.1,
             kept mid new sp.low sp.low_holds (λ k low. let a = h.apart k in let c = sp.same_places k in ot.frame k (omega arith)),
             kept mid new sp.high sp.high_holds (λ k low. let a = h.apart k in let c = sp.same_places k in ot.frame k (omega arith)),
+            h.holds.4,
           );
           same =
               sym (ap (put key value) (sym sp.same) ∙ put_past key value (flat sp.low) (flat sp.high) sp.below ∙ ap (λ es. flat sp.low ++ es) (put_first key value (flat sp.high) sp.above));
@@ -92,13 +93,13 @@ module _ (old : Contents) (root fresh : ℕ) (key : List ℕ) (n : Node) (read :
     root_out = let a = h.apart root in let b = one_same cell root (sym h.lacks.tree.root) in (omega arith, omega arith)
 
     module _ (mid new : Contents) (child : ℕ) (ot : Rewrites mid new (one_at root)) where
-      hung_right : order (bytes_at old n.key) key ≡ Less → Becomes old mid child (put key value (flat r)) (both r fresh key place value) → IsNode new root (to_node n.left child n.key n.value) → Becomes old new root (put key value (flat (node cell l own at v r))) (both (node cell l own at v r) fresh key place value)
+      hung_right : order (bytes_at old n.key) key ≡ Less → Becomes old mid child (put key value (flat r)) (both r fresh key place value) → IsNode new root (to_node n.left child n.key n.value n.head) → Becomes old new root (put key value (flat (node cell l own at v r))) (both (node cell l own at v r) fresh key place value)
       hung_right less b nd =
           becomes_as old new root (flat l ++ record { key = own; value = v } ∷ put key value (flat r)) (put key value (flat (node cell l own at v r))) (both (node cell l own at v r) fresh key place value)
           (sym (put_after key value (flat l) (record { key = own; value = v }) (flat r) (sym (own_order old root key n read cell l own at v r h.lacks) ∙ less) (rising_below (flat l) (record { key = own; value = v }) (flat r) h.lacks.rising)))
           (joined_right old root key n read cell l own at v r h.lacks.tree mid new child (put key value (flat r)) (both r fresh key place value) (count (alone fresh key place value)) (both (node cell l own at v r) fresh key place value) b h.apart (λ k. refl) ot (λ k. refl) nd)
 
-      hung_left : is_lt (order (bytes_at old n.key) key) ≡ false → Becomes old mid child (put key value (flat l)) (both l fresh key place value) → IsNode new root (to_node child n.right n.key n.value) → Becomes old new root (put key value (flat (node cell l own at v r))) (both (node cell l own at v r) fresh key place value)
+      hung_left : is_lt (order (bytes_at old n.key) key) ≡ false → Becomes old mid child (put key value (flat l)) (both l fresh key place value) → IsNode new root (to_node child n.right n.key n.value n.head) → Becomes old new root (put key value (flat (node cell l own at v r))) (both (node cell l own at v r) fresh key place value)
       hung_left more b nd =
           becomes_as old new root (put key value (flat l) ++ record { key = own; value = v } ∷ flat r) (put key value (flat (node cell l own at v r))) (both (node cell l own at v r) fresh key place value)
           (sym (put_before key value (flat l) (record { key = own; value = v }) (flat r) (above_is own key (not_less (order own key) (sym (ap is_lt (own_order old root key n read cell l own at v r h.lacks)) ∙ more) (own_other old root key n read cell l own at v r h.lacks)))))
@@ -114,23 +115,23 @@ module _ (old : Contents) (root fresh : ℕ) (key : List ℕ) (n : Node) (read :
     by_left_there (node cell l own at v r) place value h = (l, place, value, by_left cell l own at v r place value h)
 
     module _ (mid : Contents) (child : ℕ) where
-      pub long_hung_right : (s : Shape) (place value : ℕ) → StandsBy old root fresh key s place value → ((r : Shape) (place value : ℕ) → StandsBy old n.right fresh key r place value → Becomes old mid child (put key value (flat r)) (both r fresh key place value)) → length (bytes_at mid root) ≡ 16
+      pub long_hung_right : (s : Shape) (place value : ℕ) → StandsBy old root fresh key s place value → ((r : Shape) (place value : ℕ) → StandsBy old n.right fresh key r place value → Becomes old mid child (put key value (flat r)) (both r fresh key place value)) → length (bytes_at mid root) ≡ 24
       long_hung_right leaf place value h f = absurd (ne h.lacks.tree.root)
       long_hung_right (node cell l own at v r) place value h f =
           ap length (bytes_same old mid root ((f r place value (by_right cell l own at v r place value h)).rewrites.frame root (root_out cell l own at v r place value h).0)) ∙ root_long old root cell l own at v r h.lacks.tree
 
-      pub long_hung_left : (s : Shape) (place value : ℕ) → StandsBy old root fresh key s place value → ((l : Shape) (place value : ℕ) → StandsBy old n.left fresh key l place value → Becomes old mid child (put key value (flat l)) (both l fresh key place value)) → length (bytes_at mid root) ≡ 16
+      pub long_hung_left : (s : Shape) (place value : ℕ) → StandsBy old root fresh key s place value → ((l : Shape) (place value : ℕ) → StandsBy old n.left fresh key l place value → Becomes old mid child (put key value (flat l)) (both l fresh key place value)) → length (bytes_at mid root) ≡ 24
       long_hung_left leaf place value h f = absurd (ne h.lacks.tree.root)
       long_hung_left (node cell l own at v r) place value h f =
           ap length (bytes_same old mid root ((f l place value (by_left cell l own at v r place value h)).rewrites.frame root (root_out cell l own at v r place value h).1)) ∙ root_long old root cell l own at v r h.lacks.tree
 
       module _ (new : Contents) (ot : Rewrites mid new (one_at root)) where
-        pub hangs_right : order (bytes_at old n.key) key ≡ Less → IsNode new root (to_node n.left child n.key n.value) → ((r : Shape) (place value : ℕ) → StandsBy old n.right fresh key r place value → Becomes old mid child (put key value (flat r)) (both r fresh key place value)) → (s : Shape) (place value : ℕ) → StandsBy old root fresh key s place value → Becomes old new root (put key value (flat s)) (both s fresh key place value)
+        pub hangs_right : order (bytes_at old n.key) key ≡ Less → IsNode new root (to_node n.left child n.key n.value n.head) → ((r : Shape) (place value : ℕ) → StandsBy old n.right fresh key r place value → Becomes old mid child (put key value (flat r)) (both r fresh key place value)) → (s : Shape) (place value : ℕ) → StandsBy old root fresh key s place value → Becomes old new root (put key value (flat s)) (both s fresh key place value)
         hangs_right less nd f leaf place value h = absurd (ne h.lacks.tree.root)
         hangs_right less nd f (node cell l own at v r) place value h =
             hung_right cell l own at v r place value h mid new child ot less (f r place value (by_right cell l own at v r place value h)) nd
 
-        pub hangs_left : is_lt (order (bytes_at old n.key) key) ≡ false → IsNode new root (to_node child n.right n.key n.value) → ((l : Shape) (place value : ℕ) → StandsBy old n.left fresh key l place value → Becomes old mid child (put key value (flat l)) (both l fresh key place value)) → (s : Shape) (place value : ℕ) → StandsBy old root fresh key s place value → Becomes old new root (put key value (flat s)) (both s fresh key place value)
+        pub hangs_left : is_lt (order (bytes_at old n.key) key) ≡ false → IsNode new root (to_node child n.right n.key n.value n.head) → ((l : Shape) (place value : ℕ) → StandsBy old n.left fresh key l place value → Becomes old mid child (put key value (flat l)) (both l fresh key place value)) → (s : Shape) (place value : ℕ) → StandsBy old root fresh key s place value → Becomes old new root (put key value (flat s)) (both s fresh key place value)
         hangs_left more nd f leaf place value h = absurd (ne h.lacks.tree.root)
         hangs_left more nd f (node cell l own at v r) place value h =
             hung_left cell l own at v r place value h mid new child ot more (f l place value (by_left cell l own at v r place value h)) nd

@@ -5,7 +5,7 @@ use Rattle.std.specs.Ordering.{is_eq}
 use Rattle.std.specs.declared.cmp.Ordering.TheVariants.{Equal, Greater}
 use Rattle.kt_pool.specs.Contents.{Contents, at_cell, bytes_at}
 use Rattle.kt_tree.specs.Entries.{Entry, order, IsBelow, IsRising, is_at}
-use Rattle.kt_tree.specs.Shapes.{node_of, IsNode, Shape, node, root_of, flat, one_at, count, IsTreeAt, Rewrites}
+use Rattle.kt_tree.specs.Shapes.{node_of, head_of, IsNode, Shape, node, root_of, flat, one_at, count, IsTreeAt, Rewrites}
 use Rattle.kt_tree.specs.Changes.{Becomes}
 use Rattle.kt_tree.specs.declared.node.Node.{Node}
 use Rattle.kt_tree.proofs.Orders.{below_weaker, above_weaker, rising_below, rising_above, find_past, find_in, find_first, find_next, none_below, none_above, above_is, below_same}
@@ -25,7 +25,7 @@ pub unchanged : (pool : Contents) (own : ℕ → ℕ) → Rewrites pool pool own
 unchanged pool own = record { size = refl; reserved = refl; used = refl; frame = λ k none. refl }
 
 module _ (old : Contents) (root : ℕ) (key : List ℕ) (n : Node) (read : n ≡ node_of (bytes_at old root)) (cell : ℕ) (l : Shape) (own : List ℕ) (place value : ℕ) (r : Shape) (t : IsTreeAt old root (node cell l own place value r)) where
-  pub node_says : n ≡ to_node (root_of l) (root_of r) place value
+  pub node_says : n ≡ to_node (root_of l) (root_of r) place value (head_of own)
   node_says = read ∙ root_says old root cell l own place value r t
 
   pub node_order : order (bytes_at old n.key) key ≡ order own key
@@ -39,7 +39,7 @@ module _ (old : Contents) (root : ℕ) (key : List ℕ) (n : Node) (read : n ≡
 
   -- the node that was read stands at the root
   pub root_node : IsNode old root n
-  root_node = let P : Node → Type 0 = λ m. IsNode old root m in subst P (sym node_says) (subst (λ c. IsNode old c (to_node (root_of l) (root_of r) place value)) (sym t.root) t.holds.0)
+  root_node = let P : Node → Type 0 = λ m. IsNode old root m in subst P (sym node_says) (subst (λ c. IsNode old c (to_node (root_of l) (root_of r) place value (head_of own))) (sym t.root) t.holds.0)
 
   pub is_root : (k : ℕ) → one_at root k ≡ one_at cell k
   is_root k = ap (λ c. one_at c k) t.root
@@ -48,20 +48,21 @@ module _ (old : Contents) (root : ℕ) (key : List ℕ) (n : Node) (read : n ≡
     same_at : (k : ℕ) → one_at root k ≡ 0 → below k ≡ 0 → at_cell new k ≡ at_cell old k
     same_at k a c = ot.frame k a ∙ b.rewrites.frame k c
 
-    pub joined_right : (is : (k : ℕ) → below k ≡ count r k + extra k) → IsNode new root (to_node n.left child n.key n.value) → Becomes old new root (flat l ++ record { key = own; value = value } ∷ es) all
+    pub joined_right : (is : (k : ℕ) → below k ≡ count r k + extra k) → IsNode new root (to_node n.left child n.key n.value n.head) → Becomes old new root (flat l ++ record { key = own; value = value } ∷ es) all
     joined_right is nd =
         let P : Node → Type 0 = λ m. IsNode new cell m in
-        let as_node : to_node n.left child n.key n.value ≡ to_node (root_of l) (root_of b.form) place value =
-        ap (λ (m : Node). to_node m.left child m.key m.value) node_says ∙ ap (λ x. to_node (root_of l) x place value) b.root_is in
+        let as_node : to_node n.left child n.key n.value n.head ≡ to_node (root_of l) (root_of b.form) place value (head_of own) =
+        ap (λ (m : Node). to_node m.left child m.key m.value m.head) node_says ∙ ap (λ x. to_node (root_of l) x place value (head_of own)) b.root_is in
         let one = one_same place place refl in
         record {
           form = node cell l own place value b.form;
           root_is = t.root;
           holds = (
-            subst P as_node (subst (λ c. IsNode new c (to_node n.left child n.key n.value)) t.root nd),
+            subst P as_node (subst (λ c. IsNode new c (to_node n.left child n.key n.value n.head)) t.root nd),
             (let f = free place in let i = is place in let c = is_root place in same_at place (omega arith) (omega arith)) ∙ t.holds.1,
             kept old new l t.holds.2 (λ k low. let f = free k in let i = is k in let c = is_root k in same_at k (omega arith) (omega arith)),
             kept mid new b.form b.holds (λ k low. let f = free k in let i = is k in let c = is_root k in let p = b.places k in ot.frame k (omega arith)),
+            t.holds.4,
           );
           same = ap (λ es. flat l ++ record { key = own; value = value } ∷ es) b.same;
           places = λ k. let a = all_is k in let i = is k in let p = b.places k in omega arith;
@@ -73,20 +74,21 @@ module _ (old : Contents) (root : ℕ) (key : List ℕ) (n : Node) (read : n ≡
           };
         }
 
-    pub joined_left : (is : (k : ℕ) → below k ≡ count l k + extra k) → IsNode new root (to_node child n.right n.key n.value) → Becomes old new root (es ++ record { key = own; value = value } ∷ flat r) all
+    pub joined_left : (is : (k : ℕ) → below k ≡ count l k + extra k) → IsNode new root (to_node child n.right n.key n.value n.head) → Becomes old new root (es ++ record { key = own; value = value } ∷ flat r) all
     joined_left is nd =
         let P : Node → Type 0 = λ m. IsNode new cell m in
-        let as_node : to_node child n.right n.key n.value ≡ to_node (root_of b.form) (root_of r) place value =
-        ap (λ (m : Node). to_node child m.right m.key m.value) node_says ∙ ap (λ x. to_node x (root_of r) place value) b.root_is in
+        let as_node : to_node child n.right n.key n.value n.head ≡ to_node (root_of b.form) (root_of r) place value (head_of own) =
+        ap (λ (m : Node). to_node child m.right m.key m.value m.head) node_says ∙ ap (λ x. to_node x (root_of r) place value (head_of own)) b.root_is in
         let one = one_same place place refl in
         record {
           form = node cell b.form own place value r;
           root_is = t.root;
           holds = (
-            subst P as_node (subst (λ c. IsNode new c (to_node child n.right n.key n.value)) t.root nd),
+            subst P as_node (subst (λ c. IsNode new c (to_node child n.right n.key n.value n.head)) t.root nd),
             (let f = free place in let i = is place in let c = is_root place in same_at place (omega arith) (omega arith)) ∙ t.holds.1,
             kept mid new b.form b.holds (λ k low. let f = free k in let i = is k in let c = is_root k in let p = b.places k in ot.frame k (omega arith)),
             kept old new r t.holds.3 (λ k low. let f = free k in let i = is k in let c = is_root k in same_at k (omega arith) (omega arith)),
+            t.holds.4,
           );
           same = ap (λ es. es ++ record { key = own; value = value } ∷ flat r) b.same;
           places = λ k. let a = all_is k in let i = is k in let p = b.places k in omega arith;
@@ -99,19 +101,20 @@ module _ (old : Contents) (root : ℕ) (key : List ℕ) (n : Node) (read : n ≡
         }
 
   -- a value that is written over
-  pub written_here : (new : Contents) (v : ℕ) → IsNode new root (to_node n.left n.right n.key v) → Rewrites old new (one_at root) → Becomes old new root (flat l ++ record { key = own; value = v } ∷ flat r) (count (node cell l own place value r))
+  pub written_here : (new : Contents) (v : ℕ) → IsNode new root (to_node n.left n.right n.key v n.head) → Rewrites old new (one_at root) → Becomes old new root (flat l ++ record { key = own; value = v } ∷ flat r) (count (node cell l own place value r))
   written_here new v nd ot =
       let P : Node → Type 0 = λ m. IsNode new cell m in
-      let as_node : to_node n.left n.right n.key v ≡ to_node (root_of l) (root_of r) place v = ap (λ (m : Node). to_node m.left m.right m.key v) node_says in
+      let as_node : to_node n.left n.right n.key v n.head ≡ to_node (root_of l) (root_of r) place v (head_of own) = ap (λ (m : Node). to_node m.left m.right m.key v m.head) node_says in
       let one = one_same place place refl in
       record {
         form = node cell l own place v r;
         root_is = t.root;
         holds = (
-          subst P as_node (subst (λ c. IsNode new c (to_node n.left n.right n.key v)) t.root nd),
+          subst P as_node (subst (λ c. IsNode new c (to_node n.left n.right n.key v n.head)) t.root nd),
           ot.frame place (let f = t.apart place in let c = is_root place in omega arith) ∙ t.holds.1,
           kept old new l t.holds.2 (λ k low. ot.frame k (let f = t.apart k in let c = is_root k in omega arith)),
           kept old new r t.holds.3 (λ k low. ot.frame k (let f = t.apart k in let c = is_root k in omega arith)),
+          t.holds.4,
         );
         same = refl;
         places = λ k. refl;

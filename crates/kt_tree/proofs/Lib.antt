@@ -1,4 +1,5 @@
 pub mod Orders
+pub mod Heads
 pub mod Places
 pub mod Shapes
 pub mod Splitting

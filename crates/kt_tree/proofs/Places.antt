@@ -65,22 +65,25 @@ some_bytes pool k s = by (at_cell pool k) s
 pub used_after : (old new : Contents) (k : ℕ) (o : Option (List ℕ)) (r : ℕ) → new ≡ with_place old k o r → k < length old.places → used new + cells_of (at_cell old k) ≡ used old + cells_of o
 used_after old new k o r e inside = ap (λ (p : Contents). used p + cells_of (at_cell old k)) e ∙ sum_by-set cells_of old.places k o None inside
 
-abbrev of : ℕ → ℕ → ℕ → ℕ → Node
-of left right key value = record { left = left; right = right; key = key; value = value }
+abbrev of : ℕ → ℕ → ℕ → ℕ → ℕ → ℕ → Node
+of left right key value high low = record { left = left; right = right; key = key; value = value; head = record { high = high; low = low } }
 
-same_node : (a b : Node) → a.left ≡ b.left → a.right ≡ b.right → a.key ≡ b.key → a.value ≡ b.value → a ≡ b
-same_node a b e f g h =
-    ap (λ x. of x a.right a.key a.value) e ∙ ap (λ x. of b.left x a.key a.value) f
-    ∙ ap (λ x. of b.left b.right x a.value) g ∙ ap (λ x. of b.left b.right b.key x) h
+same_node : (a b : Node) → a.left ≡ b.left → a.right ≡ b.right → a.key ≡ b.key → a.value ≡ b.value → a.head.high ≡ b.head.high → a.head.low ≡ b.head.low → a ≡ b
+same_node a b e f g h i j =
+    ap (λ x. of x a.right a.key a.value a.head.high a.head.low) e ∙ ap (λ x. of b.left x a.key a.value a.head.high a.head.low) f
+    ∙ ap (λ x. of b.left b.right x a.value a.head.high a.head.low) g ∙ ap (λ x. of b.left b.right b.key x a.head.high a.head.low) h
+    ∙ ap (λ x. of b.left b.right b.key b.value x a.head.low) i ∙ ap (λ x. of b.left b.right b.key b.value b.head.high x) j
 
 -- the bytes of a node spell that node
-pub node_of-spelling : (n : Node) → n.left < 2 ^ 32 → n.right < 2 ^ 32 → n.key < 2 ^ 32 → n.value < 2 ^ 32 → node_of (spelling n) ≡ n
-node_of-spelling n a b c d =
+pub node_of-spelling : (n : Node) → n.left < 2 ^ 32 → n.right < 2 ^ 32 → n.key < 2 ^ 32 → n.value < 2 ^ 32 → n.head.high < 2 ^ 32 → n.head.low < 2 ^ 32 → node_of (spelling n) ≡ n
+node_of-spelling n a b c d e f =
     same_node (node_of (spelling n)) n
-    (little_number-reads_back 4 n.left (little_bytes 4 n.right ++ little_bytes 4 n.key ++ little_bytes 4 n.value ++ []) a)
-    (little_number-reads_back 4 n.right (little_bytes 4 n.key ++ little_bytes 4 n.value ++ []) b)
-    (little_number-reads_back 4 n.key (little_bytes 4 n.value ++ []) c)
-    (little_number-reads_back 4 n.value [] d)
+    (little_number-reads_back 4 n.left (little_bytes 4 n.right ++ little_bytes 4 n.key ++ little_bytes 4 n.value ++ little_bytes 4 n.head.high ++ little_bytes 4 n.head.low ++ []) a)
+    (little_number-reads_back 4 n.right (little_bytes 4 n.key ++ little_bytes 4 n.value ++ little_bytes 4 n.head.high ++ little_bytes 4 n.head.low ++ []) b)
+    (little_number-reads_back 4 n.key (little_bytes 4 n.value ++ little_bytes 4 n.head.high ++ little_bytes 4 n.head.low ++ []) c)
+    (little_number-reads_back 4 n.value (little_bytes 4 n.head.high ++ little_bytes 4 n.head.low ++ []) d)
+    (little_number-reads_back 4 n.head.high (little_bytes 4 n.head.low ++ []) e)
+    (little_number-reads_back 4 n.head.low [] f)
 
 -- a node that is written stands
 pub node_written : (old new : Contents) (cell : ℕ) (n : Node) (bytes : List ℕ) (r : ℕ) → new ≡ with_place old cell (Some bytes) r → cell < length old.places → cell < nothing → bytes ≡ spelling n → node_of bytes ≡ n → IsNode new cell n
@@ -94,7 +97,7 @@ node_written old new cell n bytes r e inside small is reads = record {
 pub overwritten_all : (bytes old : List ℕ) → length bytes ≡ length old → overwritten 0 bytes old ≡ bytes
 overwritten_all bytes old e = ap (λ xs. bytes ++ xs) (drop_all (0 + length bytes) old (omega arith)) ∙ append-nil bytes
 
-module _ (old new : Contents) (cell : ℕ) (n : Node) (bytes : List ℕ) (e : new ≡ with_place old cell (Some (overwritten 0 bytes (bytes_at old cell))) old.reserved) (long : length (bytes_at old cell) ≡ 16) (is : bytes ≡ spelling n) where
+module _ (old new : Contents) (cell : ℕ) (n : Node) (bytes : List ℕ) (e : new ≡ with_place old cell (Some (overwritten 0 bytes (bytes_at old cell))) old.reserved) (long : length (bytes_at old cell) ≡ 24) (is : bytes ≡ spelling n) where
   there : Stands old cell
   there = stands_there old cell 0 (omega arith)
 

@@ -4,7 +4,7 @@ use Rattle.std.specs.Prelude.{is_some, ◌==◌}
 use Rattle.std.proofs.lemmas.Bool.{cases_eq}
 use Rattle.std.proofs.lemmas.Bool.Decides.{nat_tests}
 use Rattle.kt_pool.specs.Contents.{Contents, at_cell, bytes_at}
-use Rattle.kt_tree.specs.Shapes.{nothing, node_of, IsNode, Shape, leaf, node, root_of, size, one_at, count, Holds, IsTreeAt, shape_at}
+use Rattle.kt_tree.specs.Shapes.{nothing, node_of, head_of, IsNode, Shape, leaf, node, root_of, size, one_at, count, Holds, IsTreeAt, shape_at}
 use Rattle.kt_tree.specs.declared.node.Node.{Node}
 use Rattle.kt_tree.proofs.Places.{bytes_same, bytes_some, stands_inside, stands_some, one_same, one_other}
 
@@ -24,10 +24,11 @@ kept old new leaf h f = tt
 kept old new (node cell l key place value r) h f =
     let a = one_same cell cell refl in
     let b = one_same place place refl in (
-      node_kept old new cell (record { left = root_of l; right = root_of r; key = place; value = value }) (f cell (omega arith)) h.0,
+      node_kept old new cell (record { left = root_of l; right = root_of r; key = place; value = value; head = head_of key }) (f cell (omega arith)) h.0,
       f place (omega arith) ∙ h.1,
       kept old new l h.2 (λ k low. f k (omega arith)),
       kept old new r h.3 (λ k low. f k (omega arith)),
+      h.4,
     )
 
 -- ---- the form that the pool spells
@@ -45,7 +46,7 @@ shape_is pool leaf (suc n) h low = refl
 shape_is pool (node cell l key place value r) zero h low = absurd (omega arith)
 shape_is pool (node cell l key place value r) (suc n) h low =
     let i = h.0.inside in
-    node_step pool n cell (record { left = root_of l; right = root_of r; key = place; value = value }) (omega arith) h.0.says
+    node_step pool n cell (record { left = root_of l; right = root_of r; key = place; value = value; head = head_of key }) (omega arith) h.0.says
     ∙ ap (λ x. node cell x (bytes_at pool place) place value (shape_at pool n (root_of r))) (shape_is pool l n h.2 (omega arith))
     ∙ ap (λ b. node cell l b place value (shape_at pool n (root_of r))) (bytes_some pool place key h.1)
     ∙ ap (λ x. node cell l key place value x) (shape_is pool r n h.3 (omega arith))
@@ -121,10 +122,10 @@ module _ (pool : Contents) (root cell : ℕ) (l : Shape) (key : List ℕ) (place
   right_tree = record { root = refl; holds = t.holds.3; apart = λ k. let a = t.apart k in omega arith }
 
   -- what the node at the root says
-  pub root_says : node_of (bytes_at pool root) ≡ record { left = root_of l; right = root_of r; key = place; value = value }
+  pub root_says : node_of (bytes_at pool root) ≡ record { left = root_of l; right = root_of r; key = place; value = value; head = head_of key }
   root_says = ap (λ c. node_of (bytes_at pool c)) t.root ∙ t.holds.0.says
 
-  pub root_long : length (bytes_at pool root) ≡ 16
+  pub root_long : length (bytes_at pool root) ≡ 24
   root_long = ap (λ c. length (bytes_at pool c)) t.root ∙ t.holds.0.long
 
   pub key_is : bytes_at pool place ≡ key

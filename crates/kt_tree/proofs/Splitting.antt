@@ -5,8 +5,9 @@ use Rattle.std.specs.declared.cmp.Ordering.{Ordering}
 use Rattle.std.specs.declared.cmp.Ordering.TheVariants.{Less, Equal, Greater}
 use Rattle.kt_pool.specs.Contents.{Contents, Stands, bytes_at}
 use Rattle.kt_tree.specs.Entries.{order, IsBelow, is_at}
-use Rattle.kt_tree.specs.Shapes.{nothing, node_of, IsNode, Shape, leaf, node, root_of, flat, one_at, count, IsTreeAt, Rewrites}
+use Rattle.kt_tree.specs.Shapes.{nothing, node_of, head_of, IsNode, Shape, leaf, node, root_of, flat, one_at, count, IsTreeAt, Rewrites}
 use Rattle.kt_tree.specs.Changes.{Lacks, Splits}
+use Rattle.kt_tree.specs.declared.node.Head.{Head}
 use Rattle.kt_tree.specs.declared.node.Node.{Node}
 use Rattle.kt_tree.proofs.Orders.{below_weaker, above_weaker, below_append, above_append, rising_right, rising_left, rising_below, rising_above, none_left, none_right, none_first, above_is}
 use Rattle.kt_tree.proofs.Places.{bytes_same, stands_some, one_same}
@@ -22,8 +23,8 @@ less_is Less e = refl
 less_is Equal e = cc
 less_is Greater e = cc
 
-abbrev pub to_node : ℕ → ℕ → ℕ → ℕ → Node
-to_node left right key value = record { left = left; right = right; key = key; value = value }
+abbrev pub to_node : ℕ → ℕ → ℕ → ℕ → Head → Node
+to_node left right key value head = record { left = left; right = right; key = key; value = value; head = head }
 
 -- the tree below a node, as far as the pool names it
 pub moved : (pool : Contents) (a b : ℕ) (s : Shape) → a ≡ b → IsTreeAt pool b s → IsTreeAt pool a s
@@ -49,7 +50,7 @@ split_none pool root key s e h =
 
 module _ (old : Contents) (root : ℕ) (key : List ℕ) (n : Node) (read : n ≡ node_of (bytes_at old root)) where
   module _ (cell : ℕ) (l : Shape) (own : List ℕ) (place value : ℕ) (r : Shape) (h : Lacks old root key (node cell l own place value r)) where
-    says : n ≡ record { left = root_of l; right = root_of r; key = place; value = value }
+    says : n ≡ record { left = root_of l; right = root_of r; key = place; value = value; head = head_of own }
     says = read ∙ root_says old root cell l own place value r h.tree
 
     -- the order that was read is that of the node's key
@@ -79,15 +80,15 @@ module _ (old : Contents) (root : ℕ) (key : List ℕ) (n : Node) (read : n ≡
 
     module _ (mid new : Contents) (lo hi : ℕ) where
       -- the cut goes on at the right
-      pub split_right : order (bytes_at old n.key) key ≡ Less → Splits old mid r key lo hi → IsNode new root (record { left = n.left; right = lo; key = n.key; value = n.value }) → Rewrites mid new (one_at root) → Splits old new (node cell l own place value r) key root hi
+      pub split_right : order (bytes_at old n.key) key ≡ Less → Splits old mid r key lo hi → IsNode new root (to_node n.left lo n.key n.value n.head) → Rewrites mid new (one_at root) → Splits old new (node cell l own place value r) key root hi
       split_right less sp nd ot =
           let t = h.tree in
           let is_root = λ (k : ℕ). ap (λ c. one_at c k) t.root in
           let same_at = λ (k : ℕ) (a : one_at root k ≡ 0) (b : count r k ≡ 0). ot.frame k a ∙ sp.rewrites.frame k b in
           let low_node = node cell l own place value sp.low in
           let P : Node → Type 0 = λ m. IsNode new cell m in
-          let as_node : to_node n.left lo n.key n.value ≡ to_node (root_of l) (root_of sp.low) place value =
-          ap (λ (m : Node). to_node m.left lo m.key m.value) says ∙ ap (λ x. to_node (root_of l) x place value) sp.low_root in
+          let as_node : to_node n.left lo n.key n.value n.head ≡ to_node (root_of l) (root_of sp.low) place value (head_of own) =
+          ap (λ (m : Node). to_node m.left lo m.key m.value m.head) says ∙ ap (λ x. to_node (root_of l) x place value (head_of own)) sp.low_root in
           let is_below : IsBelow own key = sym own_order ∙ less in
           let one = one_same place place refl in
           record {
@@ -96,10 +97,11 @@ module _ (old : Contents) (root : ℕ) (key : List ℕ) (n : Node) (read : n ≡
             low_root = t.root;
             high_root = sp.high_root;
             low_holds = (
-              subst P as_node (subst (λ c. IsNode new c (record { left = n.left; right = lo; key = n.key; value = n.value })) t.root nd),
+              subst P as_node (subst (λ c. IsNode new c (to_node n.left lo n.key n.value n.head)) t.root nd),
               same_at place (let a = t.apart place in let b = is_root place in omega arith) (let a = t.apart place in omega arith) ∙ t.holds.1,
               kept old new l t.holds.2 (λ k low. let a = t.apart k in let b = is_root k in same_at k (omega arith) (omega arith)),
               kept mid new sp.low sp.low_holds (λ k low. let a = t.apart k in let b = is_root k in let c = sp.same_places k in ot.frame k (omega arith)),
+              t.holds.4,
             );
             high_holds = kept mid new sp.high sp.high_holds (λ k low. let a = t.apart k in let b = is_root k in let c = sp.same_places k in ot.frame k (omega arith));
             same = append_assoc (flat l) (record { key = own; value = value } ∷ flat sp.low) (flat sp.high) ∙ ap (λ es. flat l ++ record { key = own; value = value } ∷ es) sp.same;
@@ -115,14 +117,14 @@ module _ (old : Contents) (root : ℕ) (key : List ℕ) (n : Node) (read : n ≡
           }
 
       -- the cut goes on at the left
-      pub split_left : is_lt (order (bytes_at old n.key) key) ≡ false → Splits old mid l key lo hi → IsNode new root (record { left = hi; right = n.right; key = n.key; value = n.value }) → Rewrites mid new (one_at root) → Splits old new (node cell l own place value r) key lo root
+      pub split_left : is_lt (order (bytes_at old n.key) key) ≡ false → Splits old mid l key lo hi → IsNode new root (to_node hi n.right n.key n.value n.head) → Rewrites mid new (one_at root) → Splits old new (node cell l own place value r) key lo root
       split_left more sp nd ot =
           let t = h.tree in
           let is_root = λ (k : ℕ). ap (λ c. one_at c k) t.root in
           let same_at = λ (k : ℕ) (a : one_at root k ≡ 0) (b : count l k ≡ 0). ot.frame k a ∙ sp.rewrites.frame k b in
           let P : Node → Type 0 = λ m. IsNode new cell m in
-          let as_node : to_node hi n.right n.key n.value ≡ to_node (root_of sp.high) (root_of r) place value =
-          ap (λ (m : Node). to_node hi m.right m.key m.value) says ∙ ap (λ x. to_node x (root_of r) place value) sp.high_root in
+          let as_node : to_node hi n.right n.key n.value n.head ≡ to_node (root_of sp.high) (root_of r) place value (head_of own) =
+          ap (λ (m : Node). to_node hi m.right m.key m.value m.head) says ∙ ap (λ x. to_node x (root_of r) place value (head_of own)) sp.high_root in
           let is_above : IsBelow key own = above_is own key (not_less (order own key) (sym (ap is_lt own_order) ∙ more) own_other) in
           let one = one_same place place refl in
           record {
@@ -132,10 +134,11 @@ module _ (old : Contents) (root : ℕ) (key : List ℕ) (n : Node) (read : n ≡
             high_root = t.root;
             low_holds = kept mid new sp.low sp.low_holds (λ k low. let a = t.apart k in let b = is_root k in let c = sp.same_places k in ot.frame k (omega arith));
             high_holds = (
-              subst P as_node (subst (λ c. IsNode new c (record { left = hi; right = n.right; key = n.key; value = n.value })) t.root nd),
+              subst P as_node (subst (λ c. IsNode new c (to_node hi n.right n.key n.value n.head)) t.root nd),
               same_at place (let a = t.apart place in let b = is_root place in omega arith) (let a = t.apart place in omega arith) ∙ t.holds.1,
               kept mid new sp.high sp.high_holds (λ k low. let a = t.apart k in let b = is_root k in let c = sp.same_places k in ot.frame k (omega arith)),
               kept old new r t.holds.3 (λ k low. let a = t.apart k in let b = is_root k in same_at k (omega arith) (omega arith)),
+              t.holds.4,
             );
             same = sym (append_assoc (flat sp.low) (flat sp.high) (record { key = own; value = value } ∷ flat r)) ∙ ap (λ es. es ++ record { key = own; value = value } ∷ flat r) sp.same;
             same_places = λ k. let c = sp.same_places k in omega arith;
@@ -173,29 +176,29 @@ module _ (old : Contents) (root : ℕ) (key : List ℕ) (n : Node) (read : n ≡
         omega arith
 
     module _ (mid : Contents) (lo hi : ℕ) where
-      pub long_right : (s : Shape) → Lacks old root key s → ((r : Shape) → Lacks old n.right key r → Splits old mid r key lo hi) → length (bytes_at mid root) ≡ 16
+      pub long_right : (s : Shape) → Lacks old root key s → ((r : Shape) → Lacks old n.right key r → Splits old mid r key lo hi) → length (bytes_at mid root) ≡ 24
       long_right leaf h f = absurd (ne h.tree.root)
       long_right (node cell l own place value r) h f =
           let sp = f r (lacks_right cell l own place value r h) in
           ap length (bytes_same old mid root (sp.rewrites.frame root (root_alone cell l own place value r h).1)) ∙ root_long old root cell l own place value r h.tree
 
-      pub long_left : (s : Shape) → Lacks old root key s → ((l : Shape) → Lacks old n.left key l → Splits old mid l key lo hi) → length (bytes_at mid root) ≡ 16
+      pub long_left : (s : Shape) → Lacks old root key s → ((l : Shape) → Lacks old n.left key l → Splits old mid l key lo hi) → length (bytes_at mid root) ≡ 24
       long_left leaf h f = absurd (ne h.tree.root)
       long_left (node cell l own place value r) h f =
           let sp = f l (lacks_left cell l own place value r h) in
           ap length (bytes_same old mid root (sp.rewrites.frame root (root_alone cell l own place value r h).0)) ∙ root_long old root cell l own place value r h.tree
 
       module _ (new : Contents) (ot : Rewrites mid new (one_at root)) where
-        pub splits_right : order (bytes_at old n.key) key ≡ Less → IsNode new root (to_node n.left lo n.key n.value) → ((r : Shape) → Lacks old n.right key r → Splits old mid r key lo hi) → (s : Shape) → Lacks old root key s → Splits old new s key root hi
+        pub splits_right : order (bytes_at old n.key) key ≡ Less → IsNode new root (to_node n.left lo n.key n.value n.head) → ((r : Shape) → Lacks old n.right key r → Splits old mid r key lo hi) → (s : Shape) → Lacks old root key s → Splits old new s key root hi
         splits_right less nd f leaf h = absurd (ne h.tree.root)
         splits_right less nd f (node cell l own place value r) h = split_right cell l own place value r h mid new lo hi less (f r (lacks_right cell l own place value r h)) nd ot
 
-        pub splits_left : is_lt (order (bytes_at old n.key) key) ≡ false → IsNode new root (to_node hi n.right n.key n.value) → ((l : Shape) → Lacks old n.left key l → Splits old mid l key lo hi) → (s : Shape) → Lacks old root key s → Splits old new s key lo root
+        pub splits_left : is_lt (order (bytes_at old n.key) key) ≡ false → IsNode new root (to_node hi n.right n.key n.value n.head) → ((l : Shape) → Lacks old n.left key l → Splits old mid l key lo hi) → (s : Shape) → Lacks old root key s → Splits old new s key lo root
         splits_left more nd f leaf h = absurd (ne h.tree.root)
         splits_left more nd f (node cell l own place value r) h = split_left cell l own place value r h mid new lo hi more (f l (lacks_left cell l own place value r h)) nd ot
 
 -- a tree's node has its length, where there is one
-pub long_there : (pool : Contents) (root : ℕ) (s : Shape) → root ≢ nothing → IsTreeAt pool root s → length (bytes_at pool root) ≡ 16
+pub long_there : (pool : Contents) (root : ℕ) (s : Shape) → root ≢ nothing → IsTreeAt pool root s → length (bytes_at pool root) ≡ 24
 long_there pool root leaf ne t = absurd (ne t.root)
 long_there pool root (node cell l own place value r) ne t = root_long pool root cell l own place value r t
 

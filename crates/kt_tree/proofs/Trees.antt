@@ -7,7 +7,7 @@ use Rattle.std.proofs.lemmas.Bool.{cases_lt, cases_eq, false≢true}
 use Rattle.kt_pool.specs.Contents.{Contents, Stands, at_cell, used, cells_of, cells_for, with_place}
 use Rattle.kt_pool.proofs.Callers.{at_same, at_other, size_same, reserved_after}
 use Rattle.kt_tree.specs.Entries.{Entry, IsRising, is_at, value_of, put}
-use Rattle.kt_tree.specs.Shapes.{nothing, IsNode, Shape, leaf, node, flat, size, count, Holds, IsTreeAt}
+use Rattle.kt_tree.specs.Shapes.{nothing, head_of, AreBytes, IsNode, Shape, leaf, node, flat, size, count, Holds, IsTreeAt}
 use Rattle.kt_tree.specs.Takes.{Takes}
 use Rattle.kt_tree.specs.Trees.{shape_of, entries, Owns, IsTree, need}
 use Rattle.kt_tree.specs.Changes.{IsAbsent, Becomes, alone, StandsBy}
@@ -104,7 +104,7 @@ vacant_out pool s k h vacant = elim (cases_lt 0 (count s k)) [
   | inr none ↦ omega arith
 ]
 
-module _ (old p0 p1 p2 : Contents) (tree : Tree) (key : List ℕ) (v at fresh : ℕ) (t : IsTree tree old) (absent : IsAbsent key (entries tree old)) (same : p0 ≡ old) (at_vacant : at_cell p0 at ≡ None) (at_inside : at < length p0.places) (g1 : p1 ≡ with_place p0 at (Some key) (p0.reserved - cells_for (length key))) (fresh_vacant : at_cell p1 fresh ≡ None) (others : (k : ℕ) → k ≢ fresh → at_cell p2 k ≡ at_cell p1 k) (takes : Takes p1 p2 1) (nd : IsNode p2 fresh (record { left = nothing; right = nothing; key = at; value = v })) where
+module _ (old p0 p1 p2 : Contents) (tree : Tree) (key : List ℕ) (v at fresh : ℕ) (t : IsTree tree old) (absent : IsAbsent key (entries tree old)) (same : p0 ≡ old) (at_vacant : at_cell p0 at ≡ None) (at_inside : at < length p0.places) (g1 : p1 ≡ with_place p0 at (Some key) (p0.reserved - cells_for (length key))) (fresh_vacant : at_cell p1 fresh ≡ None) (others : (k : ℕ) → k ≢ fresh → at_cell p2 k ≡ at_cell p1 k) (takes : Takes p1 p2 1) (nd : IsNode p2 fresh (record { left = nothing; right = nothing; key = at; value = v; head = head_of key })) (bytes : AreBytes key) where
   s : Shape
   s = shape_of tree old
 
@@ -153,7 +153,7 @@ module _ (old p0 p1 p2 : Contents) (tree : Tree) (key : List ℕ) (v at fresh : 
       rising = t.rising;
       absent = absent;
     };
-    holds = (nd, others at fresh_other ∙ key_there, tt, tt);
+    holds = (nd, others at fresh_other ∙ key_there, tt, tt, bytes);
     apart = alone_apart;
   }
 

@@ -9,7 +9,7 @@ use Rattle.std.proofs.lemmas.Bool.{false≢true}
 use Rattle.kt_pool.specs.Contents.{Contents, at_cell, bytes_at}
 use Rattle.kt_tree.specs.Entries.{Entry, order, AreBelow, IsRising, is_at, value_of, is_past, is_after}
 use Rattle.kt_tree.specs.Shapes.{nothing, node_of, Shape, leaf, node, root_of, flat, count, IsTreeAt}
-use Rattle.kt_tree.specs.Trees.{entries, place_at}
+use Rattle.kt_tree.specs.Trees.{IsTree, entries, place_at, shape_of}
 use Rattle.kt_tree.specs.Walks.{Seeks, SeeksAfter, or_else}
 use Rattle.kt_tree.specs.declared.node.Node.{Node}
 use Rattle.kt_tree.specs.declared.tree.Tree.{Tree}
@@ -126,3 +126,19 @@ module _ (tree : Tree) (pool : Contents) (cell : ℕ) (key : Option (List ℕ)) 
 
   pub after_left : is_past key (bytes_at pool n.key) ≡ true → SeeksAfter tree pool cell key best → SeeksAfter tree pool n.left key (Some (record { key = place_at n.key; value = place_at n.value }))
   after_left passes h = past_left passes h h.form refl
+
+else_none : (o : Option Entry) → o ≡ or_else o None
+else_none None = refl
+else_none (Some x) = refl
+
+-- at first there is the whole tree to seek in
+pub after_first : (tree : Tree) (pool : Contents) (key : Option (List ℕ)) → IsTree tree pool → SeeksAfter tree pool tree.root key None
+after_first tree pool key t = record {
+  form = shape_of tree pool;
+  stands = t.stands;
+  rising = t.rising;
+  part = λ k. omega arith;
+  found = None;
+  is_best = tt;
+  same = else_none (find (is_after key) (entries tree pool));
+}

@@ -1,9 +1,10 @@
 -- Nodes in the cells of a pool, and the trees that they make.
-use Rattle.std.specs.Prelude.{◌≡◌, ℕ, zero, suc, ◌+◌, ◌<◌, ◌≤◌, ◌==◌, cond, List, [], ◌∷◌, ◌++◌, length, drop, Some}
+use Rattle.std.specs.Prelude.{◌≡◌, ℕ, zero, suc, ◌+◌, ◌<◌, ◌≤◌, ◌==◌, cond, List, [], ◌∷◌, ◌++◌, length, drop, Some, get_or}
 use Rattle.std.specs.List.{flat_map}
-use Rattle.byteorder.specs.Endian.{little_number, little_bytes}
+use Rattle.byteorder.specs.Endian.{big_from, little_number, little_bytes}
 use Rattle.kt_pool.specs.Contents.{Contents, Stands, at_cell, bytes_at, used}
 use Rattle.kt_tree.specs.Entries.{Entry}
+use Rattle.kt_tree.specs.declared.node.Head.{Head}
 use Rattle.kt_tree.specs.declared.node.Node.{Node}
 
 -- the cell of no node
@@ -17,17 +18,26 @@ node_of bytes = record {
   right = little_number 4 (drop 4 bytes);
   key = little_number 4 (drop 8 bytes);
   value = little_number 4 (drop 12 bytes);
+  head = record { high = little_number 4 (drop 16 bytes); low = little_number 4 (drop 20 bytes) };
 }
 
 -- the bytes of a node
 abbrev pub spelling : Node → List ℕ
-spelling n = flat_map (little_bytes 4) (n.left ∷ n.right ∷ n.key ∷ n.value ∷ [])
+spelling n = flat_map (little_bytes 4) (n.left ∷ n.right ∷ n.key ∷ n.value ∷ n.head.high ∷ n.head.low ∷ [])
+
+-- the first eight bytes of a key, as two numbers with the highest byte first; past its end they are 0
+abbrev pub head_of : List ℕ → Head
+head_of key = record { high = big_from 0 4 key; low = big_from 4 4 key }
+
+-- each is a byte
+abbrev pub AreBytes : List ℕ → Type 0
+AreBytes bytes = (i : ℕ) → get_or bytes i 0 < 256
 
 -- the node stands at this cell
 pub record IsNode (pool : Contents) (cell : ℕ) (n : Node) : Type 0 where
   pub inside : cell < nothing
   pub stands : Stands pool cell
-  pub long : length (bytes_at pool cell) ≡ 16
+  pub long : length (bytes_at pool cell) ≡ 24
   pub says : node_of (bytes_at pool cell) ≡ n
 
 -- the form of a tree: for each node its cell, what is left of it, its key and where that is placed, the place of its
@@ -63,8 +73,8 @@ count (node cell left key place value right) k = count left k + (one_at cell k +
 abbrev pub Holds : Contents → Shape → Type 0
 Holds pool leaf = Unit {0}
 Holds pool (node cell left key place value right) =
-    IsNode pool cell (record { left = root_of left; right = root_of right; key = place; value = value })
-    × (at_cell pool place ≡ Some key) × Holds pool left × Holds pool right
+    IsNode pool cell (record { left = root_of left; right = root_of right; key = place; value = value; head = head_of key })
+    × (at_cell pool place ≡ Some key) × Holds pool left × Holds pool right × AreBytes key
 
 -- the tree that begins at this cell has this form, and none of its places is taken twice
 pub record IsTreeAt (pool : Contents) (cell : ℕ) (s : Shape) : Type 0 where

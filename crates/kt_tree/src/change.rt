@@ -5,7 +5,7 @@ ghost use Rattle.kt_tree.specs.Entries.{IsRising, value_of, put};
 ghost use Rattle.kt_tree.specs.Shapes.{Shape, IsTreeAt, HasTree, flat, count};
 ghost use Rattle.kt_tree.specs.Changes.{IsAbsent, Lacks, Splits, Becomes, alone, StandsBy, Clears};
 
-use crate::node::{NOTHING, Node, node_in, write};
+use crate::node::{NOTHING, node_in, order, write};
 use kt_pool::{Place, Pool};
 use std::cmp::Ordering;
 
@@ -35,7 +35,7 @@ pub fn split(pool: &mut Pool, root: u32, key: &[u8]) -> Halves
         };
     }
     let mut node = node_in(pool, root);
-    if pool.compare(Place { cell: node.key }, key).is_lt() {
+    if order(pool, &node, key).is_lt() {
         let halves = split(pool, node.right, key);
         node.right = halves.low;
         write(pool, root, node);
@@ -71,7 +71,7 @@ pub fn hang(pool: &mut Pool, root: u32, fresh: u32, key: &[u8]) -> u32
         return fresh;
     }
     let mut node = node_in(pool, root);
-    if pool.compare(Place { cell: node.key }, key).is_lt() {
+    if order(pool, &node, key).is_lt() {
         node.right = hang(pool, node.right, fresh, key);
         write(pool, root, node);
         root
@@ -91,7 +91,7 @@ pub fn overwrite(pool: &mut Pool, root: u32, key: &[u8], value: u32) -> Option<u
         return None;
     }
     let mut node = node_in(pool, root);
-    match pool.compare(Place { cell: node.key }, key) {
+    match order(pool, &node, key) {
         Ordering::Less => overwrite(pool, node.right, key, value),
         Ordering::Greater => overwrite(pool, node.left, key, value),
         Ordering::Equal => {

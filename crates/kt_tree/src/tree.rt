@@ -4,11 +4,12 @@ ghost use Rattle.std.specs.Option.{option_map, option_copied};
 ghost use Rattle.std.specs.List.{sum_by};
 ghost use Rattle.kt_pool.specs.Contents.{Contents, Stands, at_cell, bytes_at, used};
 ghost use Rattle.kt_tree.specs.Entries.{Entry, value_of, is_past, next, put};
+ghost use Rattle.kt_tree.specs.Shapes.{head_of, AreBytes};
 ghost use Rattle.kt_tree.specs.Takes.{Takes};
 ghost use Rattle.kt_tree.specs.Trees.{IsTree, IsPairOf, entries, Owns, need, place_at};
 
 use crate::change::{give_back, hang, overwrite};
-use crate::node::{NOTHING, node_in, place};
+use crate::node::{NOTHING, Node, head_of, node_in, order, place};
 use kt_pool::{Place, Pool};
 use std::cmp::Ordering;
 
@@ -22,13 +23,15 @@ pub struct Pair {
     pub value: Place,
 }
 
-/// Whether the key that is placed there is above this one, if there is one.
-fn is_past(pool: &Pool, place: Place, key: Option<&[u8]>) -> bool
-    requires { Stands pool.now place.cell }
-    ensures { result ≡ is_past (option_copied key.entry) (bytes_at pool.now place.cell) }
+/// Whether a node's key is above this one, if there is one.
+fn is_past(pool: &Pool, node: &Node, key: Option<&[u8]>) -> bool
+    requires stands { Stands pool.now node.now.key }
+    requires head { node.now.head ≡ head_of (bytes_at pool.now node.now.key) }
+    requires bytes { AreBytes (bytes_at pool.now node.now.key) }
+    ensures { result ≡ is_past (option_copied key.entry) (bytes_at pool.now node.now.key) }
 {
     match key {
-        Some(key) => pool.compare(place, key).is_gt(),
+        Some(key) => order(pool, node, key).is_gt(),
         None => true,
     }
 }
@@ -78,7 +81,7 @@ impl Tree {
             return Some(Place { cell: old });
         }
         let at = pool.place(key);
-        let fresh = place(pool, at.cell, value.cell);
+        let fresh = place(pool, at.cell, value.cell, head_of(key));
         self.root = hang(pool, self.root, fresh, key);
         prove!(self.count < pool.size());
         self.count += 1;
@@ -93,7 +96,7 @@ impl Tree {
         let mut cell = self.root;
         while cell != NOTHING {
             let node = node_in(pool, cell);
-            match pool.compare(Place { cell: node.key }, key) {
+            match order(pool, &node, key) {
                 Ordering::Less => cell = node.right,
                 Ordering::Greater => cell = node.left,
                 Ordering::Equal => return Some(Place { cell: node.value }),
@@ -112,10 +115,9 @@ impl Tree {
         let mut cell = self.root;
         while cell != NOTHING {
             let node = node_in(pool, cell);
-            let at = Place { cell: node.key };
-            if is_past(pool, at, key) {
+            if is_past(pool, &node, key) {
                 best = Some(Pair {
-                    key: at,
+                    key: Place { cell: node.key },
                     value: Place { cell: node.value },
                 });
                 cell = node.left;

@@ -2,7 +2,7 @@ ghost use Rattle.std.specs.Prelude.{◌≡◌, ◌≤◌, ◌<◌, ◌+◌, ℕ,
 ghost use Rattle.kt_tree.specs.Trees.{IsTree, need};
 
 use super::Tree;
-use crate::node::{NOTHING, node_in};
+use crate::node::{NOTHING, node_in, order};
 use kt_pool::{Place, Pool};
 use std::cmp::Ordering;
 use std::process::Abort;
@@ -94,7 +94,7 @@ fn depth(tree: &Tree, pool: &Pool, key: &[u8]) -> u32
     while cell != NOTHING {
         steps = steps.saturating_add(1);
         let node = node_in(pool, cell);
-        match pool.compare(Place { cell: node.key }, key) {
+        match order(pool, &node, key) {
             Ordering::Less => cell = node.right,
             Ordering::Greater => cell = node.left,
             Ordering::Equal => return steps,

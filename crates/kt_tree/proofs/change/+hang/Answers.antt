@@ -48,11 +48,11 @@ write-requires-else-is_lt-clause-long t c =
 pub returns-then-is_lt : goal.returns-then-is_lt
 returns-then-is_lt t c =
     let ne : c.args.root ≢ nothing = omega arith in
-    let less = sym c.compare.ensures ∙ less_is c.compare.result (sym c.is_lt.ensures ∙ c.if-is_lt.true) in
+    let less = sym c.order.ensures ∙ less_is c.order.result (sym c.is_lt.ensures ∙ c.if-is_lt.true) in
     hangs_right c.args.pool.now c.args.root c.args.fresh c.args.key.now c.node_in-node.result c.node_in-node.ensures ne c.hang.new.pool c.hang.result c.write-then-is_lt.new.pool c.write-then-is_lt.ensures.others less c.write-then-is_lt.ensures.node c.hang.ensures
 
 pub returns-else-is_lt : goal.returns-else-is_lt
 returns-else-is_lt t c =
     let ne : c.args.root ≢ nothing = omega arith in
-    let more = sym (ap is_lt c.compare.ensures) ∙ sym c.is_lt.ensures ∙ c.if-is_lt.false in
+    let more = sym (ap is_lt c.order.ensures) ∙ sym c.is_lt.ensures ∙ c.if-is_lt.false in
     hangs_left c.args.pool.now c.args.root c.args.fresh c.args.key.now c.node_in-node.result c.node_in-node.ensures ne c.hang-else-is_lt.new.pool c.hang-else-is_lt.result c.write-else-is_lt.new.pool c.write-else-is_lt.ensures.others more c.write-else-is_lt.ensures.node c.hang-else-is_lt.ensures

@@ -31,11 +31,11 @@ write-requires-else-is_lt-clause-long t c =
 pub returns-then-is_lt : goal.returns-then-is_lt
 returns-then-is_lt t c =
     let ne : c.args.root ≢ nothing = omega arith in
-    let less = sym c.compare.ensures ∙ less_is c.compare.result (sym c.is_lt.ensures ∙ c.if-is_lt.true) in
+    let less = sym c.order.ensures ∙ less_is c.order.result (sym c.is_lt.ensures ∙ c.if-is_lt.true) in
     splits_right c.args.pool.now c.args.root c.args.key.now c.node_in-node.result c.node_in-node.ensures ne c.split-halves.new.pool c.split-halves.result.low c.split-halves.result.high c.write.new.pool c.write.ensures.others less c.write.ensures.node c.split-halves.ensures
 
 pub returns-else-is_lt : goal.returns-else-is_lt
 returns-else-is_lt t c =
     let ne : c.args.root ≢ nothing = omega arith in
-    let more = sym (ap is_lt c.compare.ensures) ∙ sym c.is_lt.ensures ∙ c.if-is_lt.false in
+    let more = sym (ap is_lt c.order.ensures) ∙ sym c.is_lt.ensures ∙ c.if-is_lt.false in
     splits_left c.args.pool.now c.args.root c.args.key.now c.node_in-node.result c.node_in-node.ensures ne c.split-halves-else-is_lt.new.pool c.split-halves-else-is_lt.result.low c.split-halves-else-is_lt.result.high c.write-else-is_lt.new.pool c.write-else-is_lt.ensures.others more c.write-else-is_lt.ensures.node c.split-halves-else-is_lt.ensures

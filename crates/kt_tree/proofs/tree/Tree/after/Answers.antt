@@ -2,7 +2,7 @@ use Rattle.std.proofs.Common.{arith, ◌≢◌, sym, ◌∙◌, []}
 use Rattle.std.specs.Option.{option_copied}
 use Rattle.kt_tree.specs.Shapes.{nothing}
 use Rattle.kt_tree.proofs.Overwriting.{tree_right_fewer, tree_left_fewer}
-use Rattle.kt_tree.proofs.Walks.{after_right, after_left}
+use Rattle.kt_tree.proofs.Walks.{after_first, after_right, after_left}
 use Rattle.kt_tree.proofs.tree.Tree.after.Goals as goal
 
 pub loop-cell-smaller-then-is_past : goal.loop-cell-smaller-then-is_past
@@ -26,3 +26,6 @@ pub loop-cell-preserved : goal.loop-cell-preserved
 loop-cell-preserved c =
     let ne : c.loop-cell.cell ≢ nothing = omega arith in
     after_right c.args.self.now c.args.pool.now c.loop-cell.cell (option_copied c.args.key) c.node_in-node.result c.node_in-node.ensures ne c.loop-cell.best (sym c.is_past.ensures ∙ c.if-is_past.false) c.loop-cell.invariant
+
+pub loop-cell-init : goal.loop-cell-init
+loop-cell-init c = after_first c.args.self.now c.args.pool.now (option_copied c.args.key) c.requires
