@@ -14,6 +14,7 @@ pub mod operation;
 pub mod reply;
 pub mod scan;
 pub mod target;
+pub mod view;
 
 pub use change::{Change, Outcome};
 pub use changes::{ChangeList, Delta, DeltaList, KeyChange};
@@ -24,3 +25,4 @@ pub use operation::{OpKind, OpList, RowOp, Write};
 pub use reply::{OutcomeList, Reply, RowList};
 pub use scan::{At, ColumnIds, Pred, PredList, Scan, Test};
 pub use target::{Kindly, Target};
+pub use view::View;

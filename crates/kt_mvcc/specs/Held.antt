@@ -27,3 +27,7 @@ Keeps old new = (new.whole ≡ true → old.whole ≡ true) × ((hash who : ℕ)
 -- the writers that stood stand, but one
 abbrev pub KeepsOthers : ℕ → Held → Held → Type 0
 KeepsOthers one old new = (new.whole ≡ true → old.whole ≡ true) × ((hash who : ℕ) → who ≢ one → get nat_eq old.writers hash ≡ Some who → get nat_eq new.writers hash ≡ Some who)
+
+-- where the writer did not stand, it does not stand
+abbrev pub Lacks : ℕ → Held → Held → Type 0
+Lacks one old new = (hash : ℕ) → get nat_eq old.writers hash ≢ Some one → get nat_eq new.writers hash ≢ Some one

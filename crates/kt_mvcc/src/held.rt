@@ -1,8 +1,8 @@
 //! Which flying write holds a key, found by a hash of the key.
-ghost use Rattle.std.specs.Prelude.{◌≡◌, ◌≤◌, [], true, Some, OnOk, nat_eq};
+ghost use Rattle.std.specs.Prelude.{◌≡◌, ◌≢◌, ◌≤◌, [], true, Some, OnOk, nat_eq};
 ghost use Rattle.std.specs.List.{All};
-ghost use Rattle.std.specs.HashMap.{get, spare};
-ghost use Rattle.kt_mvcc.specs.Held.{hash_of, Keeps, KeepsOthers, Tells, IsFree};
+ghost use Rattle.std.specs.HashMap.{get, spare, IsEmpty};
+ghost use Rattle.kt_mvcc.specs.Held.{hash_of, Keeps, KeepsOthers, Lacks, Tells, IsFree};
 
 use crate::flier::Flier;
 use kt_base::{NoMemory, Octets};
@@ -41,6 +41,7 @@ impl Held {
     pub fn reserve(&mut self, keys: usize) -> Result<(), NoMemory>
         ensures keeps { Keeps self.old self.new }
         ensures room { OnOk result (keys ≤ spare self.new.writers) }
+        ensures whole { self.new.whole ≡ self.old.whole }
     {
         self.writers.reserve(keys)?;
         Ok(())
@@ -48,7 +49,8 @@ impl Held {
 
     /// Whether none of the keys is held, as far as the hashes tell.
     pub fn is_free(&self, keys: &[Octets]) -> bool
-        ensures { result ≡ true → IsFree self.now keys.now }
+        ensures free { result ≡ true → IsFree self.now keys.now }
+        ensures held { IsFree self.now keys.now → result ≡ true }
     {
         self.whole
             && keys
@@ -78,7 +80,9 @@ impl Held {
     }
 
     fn take(&mut self, hash: u64, who: u32)
-        ensures { KeepsOthers who self.old self.new }
+        ensures keeps { KeepsOthers who self.old self.new }
+        ensures gone { get nat_eq self.new.writers hash ≢ Some who }
+        ensures others { Lacks who self.old self.new }
     {
         if self.writers.get(&hash) == Some(&who) {
             self.writers.remove(&hash);
@@ -87,7 +91,9 @@ impl Held {
 
     /// Lets go of these keys of a writer.
     pub fn release(&mut self, who: u32, keys: &[Octets])
-        ensures { KeepsOthers who self.old self.new }
+        ensures keeps { KeepsOthers who self.old self.new }
+        ensures gone { All (λ key. get nat_eq self.new.writers (hash_of key) ≢ Some who) keys.now }
+        ensures others { Lacks who self.old self.new }
     {
         for key in keys {
             self.take(hash_of(key.as_slice()), who);
@@ -96,7 +102,8 @@ impl Held {
 
     /// Lets go of all keys.
     pub fn clear(&mut self)
-        ensures { Tells self.new [] }
+        ensures empty { IsEmpty self.new.writers }
+        ensures whole { self.new.whole ≡ true }
     {
         self.writers.clear();
         self.whole = true;

@@ -1,0 +1,35 @@
+//! A view of a table: a store that tells its rows.
+ghost use Rattle.std.specs.Prelude.{◌≡◌, ◌≤◌, ℕ, List, Option, IfOk, IsSome};
+ghost use Rattle.std.specs.List.{Contains};
+ghost use Rattle.std.specs.Option.{option_copied};
+ghost use Rattle.kt_history.specs.Rows.{Row};
+ghost use Rattle.kt_history.specs.Views.{key_above, AreRising};
+
+use kt_base::{Cells, NoMemory, Octets};
+use std::alloc::Global;
+
+/// A store that tells its keys, and their rows from a time on.
+pub trait View {
+    /// From here on it tells its rows.
+    ghost mark: { Self → ℕ };
+
+    /// Its keys by rising bytes, those of deleted rows too.
+    ghost keys: { Self → List (List ℕ) };
+
+    /// The row of a key at a time.
+    ghost row_of: { Self → List ℕ → ℕ → Option Row };
+
+    /// The row of a key at a time, from the mark on.
+    fn row_at(&self, alloc: Global, key: &[u8], t: u64) -> Result<Option<Cells>, NoMemory>
+        ensures { IfOk result (λ found. mark self.now ≤ t → found ≡ row_of self.now key.now t) };
+
+    /// The least key above another, or the least of all, those of deleted rows too.
+    fn key_after(&self, alloc: Global, after: Option<&[u8]>) -> Result<Option<Octets>, NoMemory>
+        ensures { IfOk result (λ found. found ≡ key_above (option_copied after.entry) (keys self.now)) };
+
+    /// The keys rise.
+    ghost keys_rise: { (view : Self) → AreRising (keys view) };
+
+    /// A row has a key of the view's.
+    ghost rows_have_keys: { (view : Self) (key : List ℕ) (t : ℕ) → mark view ≤ t → IsSome (row_of view key t) → Contains (keys view) key };
+}

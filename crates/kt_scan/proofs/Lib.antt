@@ -1,0 +1,4 @@
+pub mod KeyOrder
+pub mod KeyReads
+pub mod RowLines
+pub mod WholeRows

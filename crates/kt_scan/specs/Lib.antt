@@ -1,0 +1,4 @@
+pub mod Encoded
+pub mod Live
+pub mod Lines
+pub mod Single
