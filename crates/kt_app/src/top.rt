@@ -26,7 +26,7 @@ use kt_boot::{Plain, PlainNo, open_plain};
 use kt_disk::{Disk, Gate};
 use kt_history::Plan;
 use kt_schema::{Column, ColumnList, Schema};
-use kt_script::literal::print_number;
+use kt_script::number::print_number;
 use kt_script::{ScriptNo, read_plan};
 use std::alloc::Global;
 

@@ -1,10 +1,11 @@
 //! Opening a log.
-ghost use Rattle.std.specs.Prelude.{◌≡◌, ◌≢◌, ◌+◌, ◌≤◌, IsTrue, length, Ok, Err, IfOk, IfErr};
+ghost use Rattle.std.specs.Prelude.{◌≡◌, ◌≢◌, ◌+◌, ◌≤◌, List, IsTrue, length, Ok, Err, IfOk, IfErr};
 ghost use Rattle.kt_base.specs.Causes.{Rose};
 ghost use Rattle.kt_disk.specs.Disk.{LeavesOnly};
+ghost use Rattle.kt_records.specs.declared.entry.Entry.{Entry};
 ghost use Rattle.kt_records.specs.Rules.{KeepsRules};
 ghost use Rattle.kt_records.specs.Spelling.{spelling};
-ghost use Rattle.kt_journal.specs.Log.{records_of, IsLog, Holds, CanOpen};
+ghost use Rattle.kt_journal.specs.Log.{log_of, records_of, IsLog, Holds, CanOpen};
 ghost use Rattle.kt_schema.specs.Columns.{fill_of};
 ghost use Rattle.kt_history.specs.History.{rows_at};
 ghost use Rattle.kt_boot.specs.Replay.{last_of, gate_of};
@@ -132,6 +133,9 @@ pub fn open_plain<L: Disk>(alloc: Global, log: L, schema: &Schema) -> Result<Pla
     // The past is the one that the log holds, and the table has the rows at its end.
     ensures found { IfOk result (λ plain. IsTrue L.tells → content (fill_of schema.now) (L.seen log) ≡ Ok (record { past = plain.past; last = plain.c })) }
     ensures table { IfOk result (λ plain. plain.table ≡ rows_at plain.past plain.c) }
+
+    // That is what records in order hold, those of the log where the device tells.
+    ensures sound { IfOk result (λ plain. (records : List Entry) × IsLog records × (opened (fill_of schema.now) (Ok records) ≡ Ok (record { past = plain.past; last = plain.c })) × (IsTrue L.tells → log_of (L.seen log) ≡ Ok records)) }
 
     // The log goes on from its records, which are durable.
     ensures usable { IfOk result (λ plain. IsTrue plain.journal.usable) }

@@ -22,7 +22,7 @@ use std::process::ExitCode;
 use std::{env, io};
 
 // Runs the top call between the standard streams, and gives the status.
-fn run<L: Disk, D: Disk, C: Clock>(
+fn run<L: Disk + Drop, D: Disk + Drop, C: Clock + Drop>(
     rt: &HostRuntime,
     words: &[&str],
     log: L,
