@@ -53,6 +53,13 @@ fn filled_and_filled_again(rt: HostRuntime) -> Result<(), Fail> {
     tree.empty_into(&mut pool);
     assert_eq!(rt; pool.free(), 6);
     assert_eq!(rt; tree.len(), 0);
+    pool.reserve(6)?;
+    let mut again = Tree::new();
+    put(&rt, &mut again, &mut pool, b"", 5);
+    put(&rt, &mut again, &mut pool, b"a", 6);
+    put(&rt, &mut again, &mut pool, b"b", 7);
+    assert_eq!(rt; pool.free(), 0);
+    assert!(rt; is_next(&again, &pool, Some(b""), b"a"));
     Ok(())
 }
 
