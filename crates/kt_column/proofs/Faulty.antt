@@ -1,0 +1,108 @@
+-- A fault stands within the bytes.
+use Rattle.std.proofs.Common.{◌≡◌, ◌≤◌, ◌<◌, ◌+◌, ◌*◌, ◌^◌, ◌⊎◌, inl, inr, ℕ, List, length, drop, arith, refl, sym, subst}
+use Rattle.std.proofs.lemmas.List.{length-drop}
+use Rattle.kt_plain.specs.declared.widths.Width.{Width}
+use Rattle.kt_plain.specs.Fault as plain
+use Rattle.kt_rle.specs.declared.widths.Width.{Width as RunWidth}
+use Rattle.kt_rle.specs.Fault as run_length
+use Rattle.kt_rle.specs.Runs.{run_len}
+use Rattle.kt_column.specs.declared.errors.Stop.{Stop}
+use Rattle.kt_column.specs.declared.errors.Stop.TheVariants.{Memory, Fault, Whole}
+use Rattle.kt_column.specs.declared.form.Form.{Form}
+use Rattle.kt_column.specs.declared.form.Encoding.{Encoding}
+use Rattle.kt_column.specs.declared.form.Encoding.TheVariants.{Plain, RunLength, Dictionary, Prefix}
+use Rattle.kt_column.specs.Forms.{width}
+use Rattle.kt_column.specs.Values.{run_width}
+use Rattle.kt_column.specs.Reading.{IsFaultOf, IsStop}
+use Rattle.std.proofs.Common.{Bool, true, false, suc, take, ◌∷◌, ◌++◌, ap, ◌∙◌, length-append, length-take}
+use Rattle.std.proofs.Math.Seq.{take-append-add}
+use Rattle.std.specs.Int.{w32, to_le_bytes}
+use Rattle.kt_base.specs.declared.cell.Cell.{Cell}
+use Rattle.kt_column.specs.Forms.{is_nullable, code}
+use Rattle.kt_column.specs.Nulls.{byte_len, null_bytes}
+use Rattle.kt_column.specs.Blocks.{nulls_in}
+use Rattle.kt_column.specs.Faults.{IsShiftable, IsFrontStop, IsContentStop, IsHead, IsBody, IsFound, IsBodyFault, IsBlockStop, shifted, value_count}
+
+plain_within : (w : Width) (n : ℕ) (bytes : List ℕ) (at place : ℕ) → at ≤ length bytes → plain.IsReported w n bytes at place → place ≤ length bytes
+plain_within w n bytes at place le (inl h) = omega (arith, h.1)
+plain_within w n bytes at place le (inr h) = omega (arith, h.1)
+
+run_reported : (w : RunWidth) (n : ℕ) (bytes : List ℕ) (at place : ℕ) → at ≤ length bytes →
+    run_length.Follows w n bytes at place ⊎ (run_length.LacksLength w n bytes at place ⊎ (run_length.WrongLength w n bytes at place ⊎ (run_length.LacksNumber w n bytes at place ⊎ (run_length.WrongNumber w n bytes at place ⊎ run_length.WrongRun w n bytes at place)))) → place ≤ length bytes
+run_reported w n bytes at place le (inl h) = omega (arith, h.2)
+run_reported w n bytes at place le (inr (inl h)) = omega (arith, h.2)
+run_reported w n bytes at place le (inr (inr (inl h))) = omega (arith, h.2)
+run_reported w n bytes at place le (inr (inr (inr (inl h)))) = omega (arith, h.3)
+run_reported w n bytes at place le (inr (inr (inr (inr (inl h))))) = omega (arith, h.0, h.3)
+run_reported w n bytes at place le (inr (inr (inr (inr (inr h))))) = omega (arith, h.4)
+
+run_within : (w : RunWidth) (n : ℕ) (bytes : List ℕ) (place : ℕ) → run_length.IsFault w n bytes place → place ≤ length bytes
+run_within w n bytes place f = run_reported w n bytes (run_len w * f.runs) place f.within f.reported
+
+pub fault_within : (w : Width) (e : Encoding) (n : ℕ) (bytes : List ℕ) (at : ℕ) → IsFaultOf w e n bytes at → at ≤ length bytes
+fault_within w Plain n bytes at f = plain_within w n bytes f.at at f.within f.reported
+fault_within w RunLength n bytes at f = run_within (run_width w) n bytes at f
+fault_within w Dictionary n bytes at f = omega (arith, f.2)
+fault_within w Prefix n bytes at f = omega (arith, f.2)
+
+pub shiftable : (form : Form) (e : Encoding) (n skip : ℕ) (bytes : List ℕ) (stop : Stop) → skip + length bytes < 2 ^ 64 → IsStop form e n bytes stop → IsShiftable skip stop
+shiftable form e n skip bytes Memory room why = tt
+shiftable form e n skip bytes (Fault at) room why = (let within = fault_within (width form) e n bytes at why in omega (arith, within))
+shiftable form e n skip bytes Whole room why = tt
+
+-- the fault of a content stands within it
+
+front_within : (nullable : Bool) (n : ℕ) (part : List ℕ) (at : ℕ) → IsFrontStop nullable n part (Fault at) → at ≤ length part
+front_within true n part at (inl h) = omega (arith, h.1)
+front_within true n part at (inr h) = omega (arith, h.0, h.1, h.2)
+front_within false n part at h = elim h [ ]
+
+five : (form : Form) (e : Encoding) (n k : ℕ) (part : List ℕ) (stop behind : Stop) → stop ≡ shifted k behind → k ≤ length part → 5 + length part < 2 ^ 64 → IsStop form e n (drop k part) behind → IsShiftable 5 stop
+five form e n k part stop Memory is le room why = subst (IsShiftable 5) (sym is) tt
+five form e n k part stop (Fault at) is le room why = subst (IsShiftable 5) (sym is) (let within = fault_within (width form) e n (drop k part) at why in omega (arith, within, length-drop k part))
+five form e n k part stop Whole is le room why = subst (IsShiftable 5) (sym is) tt
+
+five_front : (nullable : Bool) (n : ℕ) (part : List ℕ) (stop : Stop) → 5 + length part < 2 ^ 64 → IsFrontStop nullable n part stop → IsShiftable 5 stop
+five_front nullable n part Memory room h = tt
+five_front nullable n part (Fault at) room h = (let within = front_within nullable n part at h in omega (arith, within))
+five_front nullable n part Whole room h = tt
+
+pub five_more : (form : Form) (e : Encoding) (n : ℕ) (part : List ℕ) (stop : Stop) → 5 + length part < 2 ^ 64 → IsContentStop form e n part stop → IsShiftable 5 stop
+five_more form e n part stop room (inl h) = five_front (is_nullable form) n part stop room h
+five_more form e n part stop room (inr h) = five form e (value_count (is_nullable form) n h.nulls) (byte_len (length h.nulls)) part stop h.behind h.place h.front.within room h.why
+
+-- the bytes of a block that was read
+
+take_five : (e : Encoding) (len : ℕ) (rest : List ℕ) → length (to_le_bytes w32 len) ≡ 4 → take (5 + len) (code e ∷ (to_le_bytes w32 len ++ rest)) ≡ code e ∷ (to_le_bytes w32 len ++ take len rest)
+take_five e len rest four =
+    let five : 5 + len ≡ suc (length (to_le_bytes w32 len) + len) = omega (arith, four) in
+    ap (λ k. take k (code e ∷ (to_le_bytes w32 len ++ rest))) five ∙ ap (λ r. code e ∷ r) (take-append-add (to_le_bytes w32 len) rest len)
+
+pub found_block : (form : Form) (e : Encoding) (n len : ℕ) (bytes rest : List ℕ) (cs : List Cell) → IsHead form bytes e len rest → IsBody form e n len rest cs → IsFound form n bytes cs (5 + len)
+found_block form e n len bytes rest cs h b =
+    let content : List ℕ = null_bytes (nulls_in form cs) ++ b.content.values in
+    let len-is : length (take len rest) ≡ len = omega (arith, length-take len rest, b.within) in
+    let parts : take len rest ≡ null_bytes (nulls_in form cs) ++ b.content.values = b.content.parts in
+    let long : length (null_bytes (nulls_in form cs) ++ b.content.values) ≡ len = ap length (sym parts) ∙ len-is in
+    let four : length (to_le_bytes w32 len) ≡ 4 = refl in
+    let whole : length bytes ≡ 5 + length rest = ap length h.parts ∙ omega (arith, length-append (to_le_bytes w32 len) rest, four) in
+    let front : take (5 + len) bytes ≡ code e ∷ (to_le_bytes w32 len ++ take len rest) = ap (take (5 + len)) h.parts ∙ take_five e len rest four in
+    record {
+      within = omega (arith, whole, b.within);
+      counted = b.content.counted;
+      spelled = record {
+        cells = b.content.cells;
+        block = record {
+          encoding = e;
+          values = b.content.values;
+          shortest = b.shortest b.content.values (h.open_, b.content.encoded);
+          room = omega (arith, long, h.room);
+          spelled = front ∙ ap (λ c. code e ∷ (to_le_bytes w32 len ++ c)) parts ∙ ap (λ k. code e ∷ (to_le_bytes w32 k ++ (null_bytes (nulls_in form cs) ++ b.content.values))) (sym long);
+        };
+      };
+    }
+
+pub body_stop : (form : Form) (n : ℕ) (bytes : List ℕ) (stop : Stop) → IsBodyFault form n bytes stop → IsBlockStop form n bytes stop
+body_stop form n bytes Memory h = tt
+body_stop form n bytes (Fault at) h = inr h
+body_stop form n bytes Whole h = inr h

@@ -1,0 +1,9 @@
+pub mod Widths
+pub mod Chosen
+pub mod Lists
+pub mod Readings
+pub mod NullBits
+pub mod Weaving
+pub mod Contents
+pub mod Faulty
+pub mod Heads

@@ -1,0 +1,75 @@
+-- What the codecs read, as values of a block.
+use Rattle.std.proofs.Common.{◌≡◌, ◌<◌, ◌≤◌, ◌^◌, ℕ, ℤ, List, [], ◌∷◌, length, All, arith, sym, subst, lit≤}
+use Rattle.std.specs.List.{concat, flat_map}
+use Rattle.std.proofs.lemmas.List.Elements.{All-nil, All-append, All-replicate}
+use Rattle.std.proofs.lemmas.List.Sums.{sum_by-le}
+use Rattle.kt_plain.specs.declared.widths.Width.{Width}
+use Rattle.kt_plain.specs.declared.widths.Width.TheVariants as widths
+use Rattle.kt_plain.specs.declared.items.Items.TheVariants.{Numbers, Texts}
+use Rattle.kt_plain.specs.Widths as plain
+use Rattle.kt_rle.specs.declared.widths.Width.{Width as RunWidth}
+use Rattle.kt_rle.specs.Widths as run_length
+use Rattle.kt_rle.specs.Runs.{Run, expand, AreRuns}
+use Rattle.kt_rle.specs.Spelling as runs
+use Rattle.kt_dict.specs.Reading as dictionary
+use Rattle.kt_front.specs.Reading as prefix
+use Rattle.kt_column.specs.declared.form.Form.{Form}
+use Rattle.kt_column.specs.declared.form.Form.TheVariants.{Cells, Keys}
+use Rattle.kt_column.specs.declared.form.Encoding.TheVariants.{RunLength, Dictionary, Prefix}
+use Rattle.kt_column.specs.Forms.{width, limit}
+use Rattle.kt_column.specs.Values.{run_width, AreValues}
+use Rattle.kt_column.specs.declared.errors.Stop.{Stop}
+use Rattle.kt_column.specs.declared.errors.Stop.TheVariants.{Memory, Fault, Whole}
+use Rattle.kt_column.specs.Reading.{Reads, IsLong, IsStop}
+use Rattle.kt_column.proofs.Widths.{sum_of_concat}
+
+in_plain_width : (w : Width) (z : ℤ) → plain.IsNumeric w → run_length.IsInWidth (run_width w) z → plain.IsInWidth w z
+in_plain_width widths.Bit z n h = h
+in_plain_width widths.One z n h = h
+in_plain_width widths.Two z n h = h
+in_plain_width widths.Four z n h = h
+in_plain_width widths.Eight z n h = h
+in_plain_width widths.Bytes z n h = elim n [ ]
+
+all_expanded : (w : RunWidth) (rs : List Run) → AreRuns w rs → All (run_length.IsInWidth w) (flat_map expand rs)
+all_expanded w [] are = All-nil (run_length.IsInWidth w)
+all_expanded w (r ∷ rs) are = All-append (run_length.IsInWidth w) (expand r) (flat_map expand rs) (All-replicate (run_length.IsInWidth w) r.len r.value are.1) (all_expanded w rs are.3)
+
+pub runs_read : (form : Form) (n : ℕ) (bytes : List ℕ) (zs : List ℤ) → plain.IsNumeric (width form) → n ≤ 8192 → runs.Spells (run_width (width form)) n zs bytes → Reads form RunLength n bytes (Numbers zs)
+runs_read form n bytes zs numeric few s =
+    let all : All (run_length.IsInWidth (run_width (width form))) zs = subst (λ xs. All (run_length.IsInWidth (run_width (width form))) xs) (sym s.expanded) (all_expanded (run_width (width form)) s.runs s.are) in
+    record {
+      values = record { fits = (numeric, omega (arith, s.counted), λ k d lt. in_plain_width (width form) _ numeric (all k d lt)); few = omega (arith, s.counted); short = tt };
+      counted = s.counted;
+      encoded = subst (λ k. runs.Spells (run_width (width form)) k zs bytes) (sym s.counted) s;
+    }
+
+limited : (form : Form) → limit form ≤ 65536
+limited (Cells kind nullable) = lit≤ tt
+limited Keys = lit≤ tt
+
+-- few short byte lists are few bytes
+pub small_together : (form : Form) (ts : List (List ℕ)) → length ts ≤ 8192 → All (λ t. length t ≤ limit form) ts → length (concat ts) < 2 ^ 32
+small_together form ts few short =
+    let all : All (λ t. length t ≤ 65536) ts = λ k d lt. (let one = short k d lt in let most = limited form in omega arith) in
+    let together = sum_by-le length 65536 ts all in
+    omega (arith, together, sum_of_concat ts)
+
+pub are_values : (form : Form) (ts : List (List ℕ)) → width form ≡ widths.Bytes → length ts ≤ 8192 → All (λ t. length t ≤ limit form) ts → AreValues form (Texts ts)
+are_values form ts bytes few short = record { fits = (bytes, omega (arith, few), small_together form ts few short); few = few; short = short }
+
+pub dictionary_read : (form : Form) (n : ℕ) (bytes : List ℕ) (ts : List (List ℕ)) → width form ≡ widths.Bytes → n ≤ 8192 → dictionary.Spells bytes n ts → All (λ t. length t ≤ limit form) ts → Reads form Dictionary n bytes (Texts ts)
+dictionary_read form n bytes ts w few s short = record { values = are_values form ts w (omega (arith, s.count)) short; counted = s.count; encoded = (s.fits, s.parts) }
+
+pub prefix_read : (form : Form) (n : ℕ) (bytes : List ℕ) (ts : List (List ℕ)) → width form ≡ widths.Bytes → n ≤ 8192 → prefix.Spells bytes n ts → All (λ t. length t ≤ limit form) ts → Reads form Prefix n bytes (Texts ts)
+prefix_read form n bytes ts w few s short = record { values = are_values form ts w (omega (arith, s.count)) short; counted = s.count; encoded = (s.fits, s.parts) }
+
+pub dictionary_stop : (form : Form) (n : ℕ) (bytes : List ℕ) (ts : List (List ℕ)) (stop : Stop) → dictionary.Spells bytes n ts → IsLong (limit form) ts stop → IsStop form Dictionary n bytes stop
+dictionary_stop form n bytes ts Memory s long = tt
+dictionary_stop form n bytes ts (Fault at) s long = elim long [ ]
+dictionary_stop form n bytes ts Whole s long = record { items = Texts ts; counted = s.count; encoded = (s.fits, s.parts); long = long }
+
+pub prefix_stop : (form : Form) (n : ℕ) (bytes : List ℕ) (ts : List (List ℕ)) (stop : Stop) → prefix.Spells bytes n ts → IsLong (limit form) ts stop → IsStop form Prefix n bytes stop
+prefix_stop form n bytes ts Memory s long = tt
+prefix_stop form n bytes ts (Fault at) s long = elim long [ ]
+prefix_stop form n bytes ts Whole s long = record { items = Texts ts; counted = s.count; encoded = (s.fits, s.parts); long = long }

@@ -1,0 +1,139 @@
+-- The first fault of bytes that begin with no block's spelling. A block is read from left to right:
+-- its encoding, its length, which cells are null, the values. A field is at fault at its first byte.
+-- What the length says is read on its own, so bytes that its values lack or leave are a fault where
+-- they end. Where bytes are missing, the place is the length. The rules on a block as a whole, that
+-- its encoding is the shortest and that no byte list is too long, are rules on its first field, the
+-- encoding: they are checked last, and then it is at fault.
+use Rattle.std.specs.Prelude.{◌≡◌, ◌≢◌, ◌≤◌, ◌<◌, ◌+◌, ◌^◌, ◌⊎◌, ℕ, Bool, true, false, List, [], ◌∷◌, ◌++◌, length, take, drop, slice_index}
+use Rattle.std.specs.Int.{w32, to_le_bytes}
+use Rattle.kt_base.specs.declared.cell.Cell.{Cell}
+use Rattle.kt_column.specs.declared.errors.CodecNo.{CodecNo}
+use Rattle.kt_column.specs.declared.errors.CodecNo.TheVariants as answers
+use Rattle.kt_column.specs.declared.errors.Stop.{Stop}
+use Rattle.kt_column.specs.declared.errors.Stop.TheVariants.{Memory, Fault, Whole}
+use Rattle.kt_column.specs.declared.form.Form.{Form}
+use Rattle.kt_column.specs.declared.form.Encoding.{Encoding}
+use Rattle.kt_column.specs.Forms.{width, is_nullable, code, MayUse}
+use Rattle.kt_column.specs.Values.{IsEncoded, IsShortest, MayStand}
+use Rattle.kt_column.specs.Reading.{IsStop}
+use Rattle.kt_column.specs.Nulls.{byte_len, null_bytes, count_present, IsNullStop}
+use Rattle.kt_column.specs.Blocks.{AreCells, nulls_in, values_in, SpellsBlock}
+
+-- the encoding or the length of a block is missing, or the encoding is none that the column may use
+abbrev pub IsHeadFault : Form → List ℕ → ℕ → Type 0
+IsHeadFault form bytes at =
+    ((length bytes ≡ 0) × (at ≡ 0))
+    ⊎ (((0 < length bytes) × (at ≡ 0) × ((e : Encoding) → MayUse form e → slice_index bytes 0 ≢ code e))
+    ⊎ ((length bytes < 5) × (at ≡ length bytes) × ((e : Encoding) × MayUse form e × (slice_index bytes 0 ≡ code e) × (0 < length bytes))))
+
+abbrev pub IsHeadStop : Form → List ℕ → Stop → Type 0
+IsHeadStop form bytes Memory = ⊥
+IsHeadStop form bytes (Fault at) = IsHeadFault form bytes at
+IsHeadStop form bytes Whole = ⊥
+
+-- the bytes begin with an encoding that the column may use, and a length
+pub record IsHead (form : Form) (bytes : List ℕ) (encoding : Encoding) (len : ℕ) (rest : List ℕ) : Type 0 where
+  pub open_ : MayUse form encoding
+  pub room : len < 2 ^ 32
+  pub parts : bytes ≡ code encoding ∷ (to_le_bytes w32 len ++ rest)
+
+-- the nulls of n cells, where the column has such: they stand at the front
+abbrev pub AreNullsFor : Bool → ℕ → List Bool → Type 0
+AreNullsFor true n nulls = length nulls ≡ n
+AreNullsFor false n nulls = nulls ≡ []
+
+pub record FrontNulls (form : Form) (n : ℕ) (part : List ℕ) (nulls : List Bool) : Type 0 where
+  pub for_form : AreNullsFor (is_nullable form) n nulls
+  pub within : byte_len (length nulls) ≤ length part
+  pub spelled : null_bytes nulls ≡ take (byte_len (length nulls)) part
+
+-- how many values n cells have
+abbrev pub value_count : Bool → ℕ → List Bool → ℕ
+value_count true n nulls = count_present nulls
+value_count false n nulls = n
+
+-- why no nulls were read
+abbrev pub IsFrontStop : Bool → ℕ → List ℕ → Stop → Type 0
+IsFrontStop true n part stop = IsNullStop n part stop
+IsFrontStop false n part Memory = Unit {0}
+IsFrontStop false n part (Fault at) = ⊥
+IsFrontStop false n part Whole = ⊥
+
+-- a fault behind so many bytes
+abbrev pub shifted : ℕ → Stop → Stop
+shifted k Memory = Memory
+shifted k (Fault at) = Fault (k + at)
+shifted k Whole = Whole
+
+-- the bytes are which of n cells are null, and their values in an encoding
+pub record ReadsContent (form : Form) (encoding : Encoding) (n : ℕ) (part : List ℕ) (cs : List Cell) : Type 0 where
+  pub cells : AreCells form cs
+  pub counted : length cs ≡ n
+  pub values : List ℕ
+  pub encoded : IsEncoded (width form) encoding (values_in form cs) values
+  pub parts : part ≡ null_bytes (nulls_in form cs) ++ values
+
+-- why the values behind some nulls were not read
+pub record IsValuesStop (form : Form) (encoding : Encoding) (n : ℕ) (part : List ℕ) (stop : Stop) : Type 0 where
+  pub nulls : List Bool
+  pub front : FrontNulls form n part nulls
+  pub behind : Stop
+  pub why : IsStop form encoding (value_count (is_nullable form) n nulls) (drop (byte_len (length nulls)) part) behind
+  pub place : stop ≡ shifted (byte_len (length nulls)) behind
+
+-- why no content was read
+abbrev pub IsContentStop : Form → Encoding → ℕ → List ℕ → Stop → Type 0
+IsContentStop form encoding n part stop = IsFrontStop (is_nullable form) n part stop ⊎ IsValuesStop form encoding n part stop
+
+-- the place has room
+abbrev pub IsShiftable : ℕ → Stop → Type 0
+IsShiftable k Memory = Unit {0}
+IsShiftable k (Fault at) = k + at < 2 ^ 64
+IsShiftable k Whole = Unit {0}
+
+-- the content of a block with this length, as far as it is there
+abbrev pub there : ℕ → List ℕ → List ℕ
+there len rest = take len rest
+
+-- what is behind the first fields of these cells' block
+pub record IsBody (form : Form) (encoding : Encoding) (n len : ℕ) (rest : List ℕ) (cs : List Cell) : Type 0 where
+  pub within : len ≤ length rest
+  pub content : ReadsContent form encoding n (take len rest) cs
+  pub shortest : (values : List ℕ) → MayStand form (values_in form cs) encoding values → IsShortest form (values_in form cs) encoding values
+
+-- an encoding and a length, and content for them, whose encoding is not the shortest
+pub record IsLonger (form : Form) (encoding : Encoding) (n : ℕ) (part : List ℕ) : Type 0 where
+  pub cs : List Cell
+  pub content : ReadsContent form encoding n part cs
+  pub longer : (values : List ℕ) → ¬ IsShortest form (values_in form cs) encoding values
+
+-- the fault of a block behind its first fields: of its content, of bytes that are missing, or of the
+-- block as a whole
+abbrev pub IsBodyStop : Form → Encoding → ℕ → ℕ → List ℕ → Stop → Type 0
+IsBodyStop form encoding n len rest stop =
+    ((behind : Stop) × IsContentStop form encoding n (there len rest) behind × (stop ≡ shifted 5 behind))
+    ⊎ (((cs : List Cell) × ReadsContent form encoding n (there len rest) cs × (length rest < len) × (stop ≡ Fault (5 + length rest)))
+    ⊎ (IsLonger form encoding n (there len rest) × (len ≤ length rest) × (stop ≡ Whole)))
+
+-- why no block was read: its first fields, or what is behind them
+pub record IsBodyFault (form : Form) (n : ℕ) (bytes : List ℕ) (stop : Stop) : Type 0 where
+  pub encoding : Encoding
+  pub len : ℕ
+  pub rest : List ℕ
+  pub front : IsHead form bytes encoding len rest
+  pub body : IsBodyStop form encoding n len rest stop
+
+abbrev pub IsBlockStop : Form → ℕ → List ℕ → Stop → Type 0
+IsBlockStop form n bytes Memory = Unit {0}
+IsBlockStop form n bytes stop = IsHeadStop form bytes stop ⊎ IsBodyFault form n bytes stop
+
+-- the first so many bytes are the spelling of these n cells
+pub record IsFound (form : Form) (n : ℕ) (bytes : List ℕ) (cs : List Cell) (len : ℕ) : Type 0 where
+  pub within : len ≤ length bytes
+  pub counted : length cs ≡ n
+  pub spelled : SpellsBlock form cs (take len bytes)
+
+-- The answer of a decoder without a block. A fault of the block as a whole is one of its first byte.
+abbrev pub IsRefusal : Form → ℕ → List ℕ → CodecNo → Type 0
+IsRefusal form n bytes answers.Memory = Unit {0}
+IsRefusal form n bytes (answers.Place offset) = IsBlockStop form n bytes (Fault offset) ⊎ (IsBlockStop form n bytes Whole × (offset ≡ 0))

@@ -1,0 +1,6 @@
+pub mod Forms
+pub mod Values
+pub mod Reading
+pub mod Nulls
+pub mod Blocks
+pub mod Faults

@@ -1,0 +1,52 @@
+-- Reading the values of a block.
+use Rattle.std.specs.Prelude.{◌≡◌, ◌≤◌, ◌+◌, ℕ, List, length, All, Result, Err, MatchResult}
+use Rattle.kt_plain.specs.declared.widths.Width.{Width}
+use Rattle.kt_plain.specs.declared.items.Items.{Items}
+use Rattle.kt_plain.specs.Items.{count}
+use Rattle.kt_plain.specs.Fault as plain
+use Rattle.kt_rle.specs.Fault as run_length
+use Rattle.kt_dict.specs.Reading as dictionary
+use Rattle.kt_front.specs.Reading as prefix
+use Rattle.kt_column.specs.declared.errors.Stop.{Stop}
+use Rattle.kt_column.specs.declared.errors.Stop.TheVariants.{Memory, Fault, Whole}
+use Rattle.kt_column.specs.declared.form.Form.{Form}
+use Rattle.kt_column.specs.declared.form.Encoding.{Encoding}
+use Rattle.kt_column.specs.declared.form.Encoding.TheVariants.{Plain, RunLength, Dictionary, Prefix}
+use Rattle.kt_column.specs.Forms.{width, limit}
+use Rattle.kt_column.specs.Values.{run_width, AreShort, AreValues, IsEncoded}
+
+-- the bytes are these n values in an encoding
+pub record Reads (form : Form) (encoding : Encoding) (n : ℕ) (bytes : List ℕ) (items : Items) : Type 0 where
+  pub values : AreValues form items
+  pub counted : count items ≡ n
+  pub encoded : IsEncoded (width form) encoding items bytes
+
+-- the first fault of bytes that are no n values in an encoding, as its codec places it
+abbrev pub IsFaultOf : Width → Encoding → ℕ → List ℕ → ℕ → Type 0
+IsFaultOf w Plain n bytes at = plain.IsFault w n bytes at
+IsFaultOf w RunLength n bytes at = run_length.IsFault (run_width w) n bytes at
+IsFaultOf w Dictionary n bytes at = (left : ℕ) × (dictionary.block_at n bytes ≡ Err left) × (at + left ≡ length bytes)
+IsFaultOf w Prefix n bytes at = (left : ℕ) × (prefix.block_at n bytes ≡ Err left) × (at + left ≡ length bytes)
+
+-- the bytes are n values in an encoding, and one of them is too long
+pub record HasLong (form : Form) (encoding : Encoding) (n : ℕ) (bytes : List ℕ) : Type 0 where
+  pub items : Items
+  pub counted : count items ≡ n
+  pub encoded : IsEncoded (width form) encoding items bytes
+  pub long : ¬ AreShort (limit form) items
+
+-- why byte lists were not taken over: one is longer than this, or memory ran out
+abbrev pub IsLong : ℕ → List (List ℕ) → Stop → Type 0
+IsLong most ts Memory = Unit {0}
+IsLong most ts (Fault at) = ⊥
+IsLong most ts Whole = ¬ All (λ t. length t ≤ most) ts
+
+-- why no values were read
+abbrev pub IsStop : Form → Encoding → ℕ → List ℕ → Stop → Type 0
+IsStop form encoding n bytes Memory = Unit {0}
+IsStop form encoding n bytes (Fault at) = IsFaultOf (width form) encoding n bytes at
+IsStop form encoding n bytes Whole = HasLong form encoding n bytes
+
+-- these, unless memory ran out
+abbrev pub IsOrMemory : {X : Type 0} → Result X Stop → X → Type 0
+IsOrMemory result x = MatchResult result (λ got. got ≡ x) (λ e. e ≡ Memory)

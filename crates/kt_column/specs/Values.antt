@@ -1,0 +1,78 @@
+-- The values of a block, which are its cells that are not null, and their bytes.
+use Rattle.std.specs.Prelude.{◌≡◌, ◌≤◌, ◌<◌, ◌⊎◌, ℕ, List, length, All, Option, Some, None, MatchOption}
+use Rattle.kt_plain.specs.declared.widths.Width.{Width}
+use Rattle.kt_plain.specs.declared.widths.Width.TheVariants as widths
+use Rattle.kt_plain.specs.declared.items.Items.{Items}
+use Rattle.kt_plain.specs.declared.items.Items.TheVariants.{Numbers, Texts}
+use Rattle.kt_plain.specs.Items.{count}
+use Rattle.kt_plain.specs.Spelling as plain
+use Rattle.kt_rle.specs.declared.widths.Width.{Width as RunWidth}
+use Rattle.kt_rle.specs.declared.widths.Width.TheVariants as run_widths
+use Rattle.kt_rle.specs.Spelling as run_length
+use Rattle.kt_dict.specs.Spelling as dictionary
+use Rattle.kt_front.specs.Spelling as prefix
+use Rattle.kt_column.specs.declared.form.Form.{Form}
+use Rattle.kt_column.specs.declared.form.Encoding.{Encoding}
+use Rattle.kt_column.specs.declared.form.Encoding.TheVariants.{Plain, RunLength, Dictionary, Prefix}
+use Rattle.kt_column.specs.declared.values.Chosen.{Chosen}
+use Rattle.kt_column.specs.Forms.{width, limit, code, MayUse}
+
+-- the width of numbers, as the run-length encoding names it
+abbrev pub run_width : Width → RunWidth
+run_width widths.Bit = run_widths.Bit
+run_width widths.One = run_widths.One
+run_width widths.Two = run_widths.Two
+run_width widths.Four = run_widths.Four
+run_width _ = run_widths.Eight
+
+-- no byte list is longer
+abbrev pub AreShort : ℕ → Items → Type 0
+AreShort most (Numbers zs) = Unit {0}
+AreShort most (Texts ts) = All (λ t. length t ≤ most) ts
+
+-- the values may stand in a block
+pub record AreValues (form : Form) (items : Items) : Type 0 where
+  pub fits : plain.Fits (width form) items
+  pub few : count items ≤ 8192
+  pub short : AreShort (limit form) items
+
+-- the bytes are those of the values in an encoding, which is one for their kind
+abbrev pub IsEncoded : Width → Encoding → Items → List ℕ → Type 0
+IsEncoded w Plain items bytes = bytes ≡ plain.spelling w items
+IsEncoded w RunLength (Numbers zs) bytes = run_length.Spells (run_width w) (length zs) zs bytes
+IsEncoded w RunLength (Texts ts) bytes = ⊥
+IsEncoded w Dictionary (Numbers zs) bytes = ⊥
+IsEncoded w Dictionary (Texts ts) bytes = dictionary.Fits ts × (bytes ≡ dictionary.spelling ts)
+IsEncoded w Prefix (Numbers zs) bytes = ⊥
+IsEncoded w Prefix (Texts ts) bytes = prefix.Fits ts × (bytes ≡ prefix.spelling ts)
+
+-- the bytes are those of the values in an encoding that the column may use
+abbrev pub MayStand : Form → Items → Encoding → List ℕ → Type 0
+MayStand form items encoding bytes = MayUse form encoding × IsEncoded (width form) encoding items bytes
+
+-- shorter, or as long and of a lower number
+abbrev pub IsBefore : Encoding → List ℕ → Encoding → List ℕ → Type 0
+IsBefore e bytes f others = (length bytes < length others) ⊎ ((length bytes ≡ length others) × (code e ≤ code f))
+
+-- the bytes are those of the values in the shortest encoding that the column may use, and in the one
+-- of the lowest number among equals
+pub record IsShortest (form : Form) (items : Items) (encoding : Encoding) (bytes : List ℕ) : Type 0 where
+  pub stands : MayStand form items encoding bytes
+  pub least : (other : Encoding) (others : List ℕ) → MayStand form items other others → IsBefore encoding bytes other others
+
+-- the same of the encodings up to a number, and none where the column may use none of these
+abbrev pub IsLeastUpTo : Form → Items → ℕ → Encoding → List ℕ → Type 0
+IsLeastUpTo form items most encoding bytes =
+    MayStand form items encoding bytes × (code encoding ≤ most) × ((other : Encoding) (others : List ℕ) → code other ≤ most → MayStand form items other others → IsBefore encoding bytes other others)
+
+abbrev pub IsNoneUpTo : Form → Items → ℕ → Type 0
+IsNoneUpTo form items most = (other : Encoding) (others : List ℕ) → code other ≤ most → ¬ MayStand form items other others
+
+abbrev pub IsBestUpTo : Form → Items → ℕ → Option Chosen → Type 0
+IsBestUpTo form items most best = MatchOption best (IsNoneUpTo form items most) (λ c. IsLeastUpTo form items most c.encoding c.bytes.items)
+
+-- the shorter of two, and the first where they are as long
+abbrev pub IsShorter : Option Chosen → Chosen → Chosen → Type 0
+IsShorter None other result = result ≡ other
+IsShorter (Some best) other result =
+    ((length best.bytes.items ≤ length other.bytes.items) × (result ≡ best)) ⊎ ((length other.bytes.items < length best.bytes.items) × (result ≡ other))

@@ -1,0 +1,184 @@
+//! From the bytes of a block to its cells.
+
+ghost use Rattle.std.specs.Prelude.{◌≡◌, ◌<◌, ◌≤◌, ◌+◌, ◌^◌, ◌++◌, ℕ, List, length, drop, take, IfOk, IfErr, MatchResult};
+ghost use Rattle.kt_column.specs.declared.errors.Stop.TheVariants as stops;
+ghost use Rattle.kt_column.specs.Blocks.{SpellsBlock};
+ghost use Rattle.kt_base.specs.declared.cell.Cell.{Cell};
+ghost use Rattle.kt_plain.specs.declared.items.Items.{Items};
+ghost use Rattle.kt_column.specs.Forms.{width, is_nullable, MayUse};
+ghost use Rattle.kt_column.specs.Reading.{Reads, IsStop, IsOrMemory};
+ghost use Rattle.kt_column.specs.Nulls.{byte_len};
+ghost use Rattle.kt_column.specs.Faults as spec;
+ghost use Rattle.kt_column.specs.Faults.{AreNullsFor, FrontNulls, IsBody, IsBodyStop, IsBlockStop, IsContentStop, IsFound, IsRefusal, IsShiftable, IsValuesStop, ReadsContent, shifted};
+
+use crate::block::Block;
+use crate::errors::{CodecNo, Stop};
+use crate::form::{Encoding, Form};
+use crate::nulls::Nulls;
+use crate::parts::{Head, front_nulls, read_head};
+use crate::reading::read;
+use kt_base::NoMemory;
+use kt_plain::Items;
+use std::alloc::Global;
+
+/// A fault behind so many bytes.
+fn behind(len: usize, stop: Stop) -> Stop
+    requires { IsShiftable len stop }
+    ensures { result ≡ shifted len stop }
+{
+    match stop {
+        Stop::Fault { at } => Stop::Fault { at: len + at },
+        _ => stop,
+    }
+}
+
+/// How many values n cells have.
+#[tactic(auto, using(crate::proofs::NullBits::present_le))]
+fn value_count(form: Form, n: u32, nulls: &Nulls) -> u32
+    requires few { n ≤ 8192 }
+    requires nulls { AreNullsFor (is_nullable form) n nulls.now }
+    ensures value { result ≡ spec.value_count (is_nullable form) n nulls.now }
+    ensures few { result ≤ 8192 }
+{
+    if form.is_nullable() {
+        nulls.present()
+    } else {
+        n
+    }
+}
+
+/// The bytes behind those of the nulls.
+fn behind_nulls<'a>(nulls: &Nulls, part: &'a [u8]) -> &'a [u8]
+    requires { byte_len (length nulls.now) ≤ length part.now }
+    ensures { result.now ≡ drop (byte_len (length nulls.now)) part.now }
+{
+    &part[nulls.byte_len()..]
+}
+
+/// The values behind the nulls.
+fn values_behind(
+    alloc: Global,
+    form: Form,
+    encoding: Encoding,
+    n: u32,
+    nulls: &Nulls,
+    part: &[u8],
+) -> Result<Items, Stop>
+    requires few { n ≤ 8192 }
+    requires open { MayUse form encoding }
+    requires front { FrontNulls form n part.now nulls.now }
+    ensures found { IfOk result (Reads form encoding (spec.value_count (is_nullable form) n nulls.now) (drop (byte_len (length nulls.now)) part.now)) }
+    ensures only { (items : Items) → Reads form encoding (spec.value_count (is_nullable form) n nulls.now) (drop (byte_len (length nulls.now)) part.now) items → IsOrMemory result items }
+    ensures stop { IfErr result (IsValuesStop form encoding n part.now) }
+{
+    let count = value_count(form, n, nulls);
+    match read(alloc, form, encoding, count, behind_nulls(nulls, part)) {
+        Ok(items) => Ok(items),
+        Err(stop) => Err(behind(nulls.byte_len(), stop)),
+    }
+}
+
+/// The block whose nulls and values these bytes are.
+fn content(
+    alloc: Global,
+    form: Form,
+    encoding: Encoding,
+    n: u32,
+    part: &[u8],
+) -> Result<Block, Stop>
+    requires few { n ≤ 8192 }
+    requires open { MayUse form encoding }
+    ensures form { IfOk result (λ block. block.form ≡ form) }
+    ensures found { IfOk result (λ block. ReadsContent form encoding n part.now block.cells) }
+    ensures only { (cs : List Cell) → ReadsContent form encoding n part.now cs → IsOrMemory result (record { form = form; cells = cs }) }
+    ensures stop { IfErr result (IsContentStop form encoding n part.now) }
+{
+    let nulls = match front_nulls(alloc, form, n, part) {
+        Ok(nulls) => nulls,
+        Err(stop) => return Err(stop),
+    };
+    match values_behind(alloc, form, encoding, n, &nulls, part) {
+        Ok(items) => Ok(Block::of(form, nulls, items)),
+        Err(stop) => Err(stop),
+    }
+}
+
+/// A block, and how many bytes it takes.
+#[derive(Debug, Drop)]
+pub struct Found {
+    pub block: Block,
+    pub len: usize,
+}
+
+/// The part of the bytes that is there.
+fn there(rest: &[u8], len: usize) -> &[u8]
+    ensures { result.now ≡ spec.there len rest.now }
+{
+    if rest.len() < len { rest } else { &rest[..len] }
+}
+
+/// The block behind its first fields.
+fn body(alloc: Global, form: Form, n: u32, head: Head<'_>) -> Result<Block, Stop>
+    requires few { n ≤ 8192 }
+    requires open { MayUse form head.encoding }
+    requires room { 5 + length head.rest.now < 2 ^ 64 }
+    ensures form { IfOk result (λ block. block.form ≡ form) }
+    ensures found { IfOk result (λ block. IsBody form head.entry.encoding n head.entry.len head.entry.rest.now block.cells) }
+    ensures only { (cs : List Cell) → IsBody form head.entry.encoding n head.entry.len head.entry.rest.now cs → IsOrMemory result (record { form = form; cells = cs }) }
+    ensures stop { IfErr result (IsBodyStop form head.entry.encoding n head.entry.len head.entry.rest.now) }
+{
+    let block = match content(alloc, form, head.encoding, n, there(head.rest, head.len)) {
+        Ok(block) => block,
+        Err(stop) => return Err(behind(5, stop)),
+    };
+    if head.rest.len() < head.len {
+        return Err(Stop::Fault {
+            at: 5 + head.rest.len(),
+        });
+    }
+    match block.is_shortest(alloc, head.encoding) {
+        Ok(true) => Ok(block),
+        Ok(false) => Err(Stop::Whole),
+        Err(NoMemory) => Err(Stop::Memory),
+    }
+}
+
+/// The block at the front of the bytes, and how many bytes it takes.
+pub(crate) fn read_block(alloc: Global, form: Form, n: u32, bytes: &[u8]) -> Result<Found, Stop>
+    requires { n ≤ 8192 }
+    ensures form { IfOk result (λ f. f.block.form ≡ form) }
+    ensures found { IfOk result (λ f. IsFound form n bytes.now f.block.cells f.len) }
+    ensures only { (cs : List Cell) (front rest : List ℕ) → SpellsBlock form cs front → length cs ≡ n → bytes.now ≡ front ++ rest → MatchResult result (λ f. (f.block ≡ record { form = form; cells = cs }) × (f.len ≡ length front)) (λ e. e ≡ stops.Memory) }
+    ensures stop { IfErr result (IsBlockStop form n bytes.now) }
+{
+    let head = match read_head(form, bytes) {
+        Ok(head) => head,
+        Err(stop) => return Err(stop),
+    };
+    match body(alloc, form, n, head) {
+        Ok(block) => Ok(Found {
+            block,
+            len: 5 + head.len,
+        }),
+        Err(stop) => Err(stop),
+    }
+}
+
+/// The block of n cells that the bytes begin with, and how many bytes it takes.
+pub fn decode(alloc: Global, form: Form, n: u32, bytes: &[u8]) -> Result<Found, CodecNo>
+    requires { n ≤ 8192 }
+    ensures form { IfOk result (λ f. f.block.form ≡ form) }
+    // What is read is spelled so.
+    ensures found { IfOk result (λ f. IsFound form n bytes.now f.block.cells f.len) }
+    // What is spelled so is read, unless memory runs out.
+    ensures only { (cs : List Cell) (front rest : List ℕ) → SpellsBlock form cs front → length cs ≡ n → bytes.now ≡ front ++ rest → MatchResult result (λ f. (f.block ≡ record { form = form; cells = cs }) × (f.len ≡ length front)) (λ e. e ≡ CodecNo.Memory) }
+    // Where the first fault is.
+    ensures place { IfErr result (IsRefusal form n bytes.now) }
+{
+    match read_block(alloc, form, n, bytes) {
+        Ok(found) => Ok(found),
+        Err(Stop::Memory) => Err(CodecNo::Memory),
+        Err(Stop::Fault { at }) => Err(CodecNo::Place { offset: at as u64 }),
+        Err(Stop::Whole) => Err(CodecNo::Place { offset: 0 }),
+    }
+}

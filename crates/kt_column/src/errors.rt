@@ -1,0 +1,65 @@
+//! Why a call gave no answer.
+
+use kt_base::NoMemory;
+use std::alloc::{AllocError, AllocFailed};
+
+/// Why `decode` gave no column.
+#[derive(Clone, Copy, Debug, PartialEq, Eq)]
+pub enum CodecNo {
+    /// No column's spelling begins the bytes: the place of the first fault.
+    Place { offset: u64 },
+    /// Memory ran out.
+    Memory,
+}
+
+/// Why reading stopped: no memory, a fault at a place, or one of the block as a whole.
+#[derive(Clone, Copy, Debug)]
+pub enum Stop {
+    Memory,
+    Fault { at: usize },
+    Whole,
+}
+
+impl From<NoMemory> for Stop {
+    ghost use Rattle.std.specs.Prelude.{◌≡◌};
+    ghost use Rattle.kt_column.specs.declared.errors.Stop.TheVariants.{Memory};
+
+    ghost from_gives = { λ _ e. e ≡ Memory };
+
+    fn from(_e: NoMemory) -> Stop {
+        Stop::Memory
+    }
+}
+
+impl From<AllocError> for Stop {
+    ghost use Rattle.std.specs.Prelude.{◌≡◌};
+    ghost use Rattle.kt_column.specs.declared.errors.Stop.TheVariants.{Memory};
+
+    ghost from_gives = { λ _ e. e ≡ Memory };
+
+    fn from(_e: AllocError) -> Stop {
+        Stop::Memory
+    }
+}
+
+impl<T: Drop> From<AllocFailed<T>> for Stop {
+    ghost use Rattle.std.specs.Prelude.{◌≡◌};
+    ghost use Rattle.kt_column.specs.declared.errors.Stop.TheVariants.{Memory};
+
+    ghost from_gives = { λ _ e. e ≡ Memory };
+
+    fn from(_e: AllocFailed<T>) -> Stop {
+        Stop::Memory
+    }
+}
+
+impl From<kt_plain::NoMemory> for Stop {
+    ghost use Rattle.std.specs.Prelude.{◌≡◌};
+    ghost use Rattle.kt_column.specs.declared.errors.Stop.TheVariants.{Memory};
+
+    ghost from_gives = { λ _ e. e ≡ Memory };
+
+    fn from(_e: kt_plain::NoMemory) -> Stop {
+        Stop::Memory
+    }
+}

@@ -1,0 +1,32 @@
+//! The blocks of a column: up to 8,192 cells of one kind, or encoded keys, in the shortest of the four
+//! encodings that their kind allows, and of encodings that are as long in the one of the lowest number.
+//!
+//! In memory a block is decoded, whatever its encoding: one list of its values that are not null, numbers as i64
+//! and byte lists in one buffer with the end of each, and in a nullable column for each cell the
+//! place of its value among them. So `cell` and `compare` look up one place and decode nothing again,
+//! and the encoding is chosen when a block is written. Contracts see a block as its list of cells.
+//!
+//! `spell` writes the one spelling of a block, and `decode` answers the cells exactly where the bytes
+//! begin with their spelling, and otherwise the first place at which they don't. A block that is
+//! written in an encoding that is not the shortest, or with a byte list that is too long, is at fault
+//! at its first byte, the number of its encoding: both are rules on the block as a whole.
+#![tactic(auto)]
+
+mod block;
+mod decoding;
+mod errors;
+mod form;
+mod laws;
+mod nulls;
+mod parts;
+mod reading;
+mod values;
+
+pub use block::Block;
+pub use decoding::{Found, decode};
+pub use errors::CodecNo;
+pub use form::{Encoding, Form};
+pub use laws::one_spelling;
+
+#[cfg(test)]
+mod tests;

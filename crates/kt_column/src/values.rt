@@ -1,0 +1,170 @@
+//! The values of a block in their shortest encoding.
+
+ghost use Rattle.std.specs.Prelude.{◌≡◌, ◌<◌, ◌≤◌, ◌+◌, ◌-◌, ◌^◌, ◌++◌, ◌∷◌, [], ℕ, List, length, sum_by, IfOk, MatchOption};
+ghost use Rattle.kt_column.specs.Forms.{width, code};
+ghost use Rattle.kt_column.specs.Values.{AreValues, IsEncoded, IsShortest, IsBestUpTo, IsShorter, MayStand, run_width};
+ghost use Rattle.kt_plain.specs.Widths as plain_widths;
+ghost use Rattle.kt_rle.specs.Spelling as run_length;
+ghost use Rattle.kt_dict.specs.Spelling as dictionary;
+ghost use Rattle.kt_front.specs.Spelling as prefix;
+
+use crate::form::{Encoding, Form};
+use kt_base::NoMemory;
+use kt_plain::{Items, Numbers, Texts, Width};
+use std::alloc::Global;
+
+/// The bytes of a block's values, and their encoding.
+#[derive(Debug, Drop)]
+pub struct Chosen {
+    pub encoding: Encoding,
+    pub bytes: Vec<u8>,
+}
+
+/// The width of numbers, as the run-length encoding names it.
+pub(crate) fn run_width(width: Width) -> kt_rle::Width
+    ensures { result ≡ run_width width }
+{
+    match width {
+        Width::Bit => kt_rle::Width::Bit,
+        Width::One => kt_rle::Width::One,
+        Width::Two => kt_rle::Width::Two,
+        Width::Four => kt_rle::Width::Four,
+        Width::Eight | Width::Bytes => kt_rle::Width::Eight,
+    }
+}
+
+fn plain(alloc: Global, form: Form, items: &Items) -> Result<Vec<u8>, NoMemory>
+    requires { AreValues form items.now }
+    ensures { IfOk result (λ bytes. IsEncoded (width form) Encoding.Plain items.now bytes.items) }
+{
+    match kt_plain::encode(alloc, items, form.width()) {
+        Ok(octets) => Ok(octets.into_vec()),
+        Err(_) => Err(NoMemory),
+    }
+}
+
+fn run_lengths(alloc: Global, width: Width, numbers: &Numbers) -> Result<Vec<u8>, NoMemory>
+    requires { run_length.Fits (run_width width) numbers.now }
+    ensures { IfOk result (λ bytes. run_length.Spells (run_width width) (length numbers.now) numbers.now bytes.items) }
+{
+    let copy = kt_rle::Items::from_vec(Vec::from_slice(alloc, numbers.as_slice())?);
+    match kt_rle::encode(alloc, &copy, run_width(width)) {
+        Ok(octets) => Ok(octets.into_vec()),
+        Err(_) => Err(NoMemory),
+    }
+}
+
+fn for_dictionary(alloc: Global, texts: &Texts) -> Result<kt_dict::Items, NoMemory>
+    ensures { IfOk result (λ items. items ≡ texts.now) }
+{
+    let mut items = kt_dict::Items::new(alloc);
+    'texts: for i in 0..texts.len() {
+        if items.push(texts.get(i)).is_err() {
+            return Err(NoMemory);
+        }
+    }
+    Ok(items)
+}
+
+fn for_prefix(alloc: Global, texts: &Texts) -> Result<kt_front::Items, NoMemory>
+    ensures { IfOk result (λ items. items ≡ texts.now) }
+{
+    let mut items = kt_front::Items::new(alloc);
+    'texts: for i in 0..texts.len() {
+        if items.push(texts.get(i)).is_err() {
+            return Err(NoMemory);
+        }
+    }
+    Ok(items)
+}
+
+/// The values in a dictionary, or none where there are too many different ones.
+fn dictionary(alloc: Global, texts: &Texts) -> Result<Option<Vec<u8>>, NoMemory>
+    requires few { length texts.now < 2 ^ 32 }
+    requires small { sum_by length texts.now < 2 ^ 32 }
+    ensures { IfOk result (λ bytes. MatchOption bytes (¬ dictionary.Fits texts.now) (λ b. dictionary.Fits texts.now × (b.items ≡ dictionary.spelling texts.now))) }
+{
+    let items = for_dictionary(alloc, texts)?;
+    match kt_dict::encode(alloc, &items, kt_dict::Width::Bytes) {
+        Ok(octets) => Ok(Some(octets.into_vec())),
+        Err(kt_dict::CodecNo::TooMany { .. }) => Ok(None),
+        Err(_) => Err(NoMemory),
+    }
+}
+
+fn prefixes(alloc: Global, texts: &Texts) -> Result<Vec<u8>, NoMemory>
+    requires { sum_by length texts.now < 2 ^ 32 }
+    ensures { IfOk result (λ bytes. prefix.Fits texts.now × (bytes.items ≡ prefix.spelling texts.now)) }
+{
+    let items = for_prefix(alloc, texts)?;
+    match kt_front::encode(alloc, &items, kt_front::Width::Bytes) {
+        Ok(octets) => Ok(octets.into_vec()),
+        Err(_) => Err(NoMemory),
+    }
+}
+
+/// The values in an encoding, or none where the column may not use it or they have no such bytes.
+fn encoded(
+    alloc: Global,
+    form: Form,
+    encoding: Encoding,
+    items: &Items,
+) -> Result<Option<Vec<u8>>, NoMemory>
+    requires { AreValues form items.now }
+    ensures { IfOk result (λ found. MatchOption found ((bytes : List ℕ) → ¬ MayStand form items.now encoding bytes) (λ b. MayStand form items.now encoding b.items)) }
+{
+    if !form.may_use(encoding) {
+        return Ok(None);
+    }
+    match (encoding, items) {
+        (Encoding::Plain, _) => Ok(Some(plain(alloc, form, items)?)),
+        (Encoding::RunLength, Items::Numbers(numbers)) => {
+            Ok(Some(run_lengths(alloc, form.width(), numbers)?))
+        }
+        (Encoding::Dictionary, Items::Texts(texts)) => dictionary(alloc, texts),
+        (Encoding::Prefix, Items::Texts(texts)) => Ok(Some(prefixes(alloc, texts)?)),
+        _ => Ok(None),
+    }
+}
+
+/// The shorter one, and the first where they are as long.
+fn shorter(best: Option<Chosen>, other: Chosen) -> Chosen
+    ensures { IsShorter best other result }
+{
+    match best {
+        Some(best) if best.bytes.len() <= other.bytes.len() => best,
+        _ => other,
+    }
+}
+
+/// The best of the encodings up to this one, from the best of those before it.
+fn try_next(
+    alloc: Global,
+    form: Form,
+    items: &Items,
+    best: Option<Chosen>,
+    encoding: Encoding,
+) -> Result<Option<Chosen>, NoMemory>
+    requires values { AreValues form items.now }
+    requires before { IsBestUpTo form items.now (code encoding - 1) best }
+    ensures { IfOk result (IsBestUpTo form items.now (code encoding)) }
+{
+    match encoded(alloc, form, encoding, items)? {
+        Some(bytes) => Ok(Some(shorter(best, Chosen { encoding, bytes }))),
+        None => Ok(best),
+    }
+}
+
+/// The values in the shortest encoding that the column may use, the lowest number among equals.
+pub fn shortest(alloc: Global, form: Form, items: &Items) -> Result<Chosen, NoMemory>
+    requires { AreValues form items.now }
+    ensures { IfOk result (λ chosen. IsShortest form items.now chosen.encoding chosen.bytes.items) }
+{
+    let best = try_next(alloc, form, items, None, Encoding::Plain)?;
+    let best = try_next(alloc, form, items, best, Encoding::RunLength)?;
+    let best = try_next(alloc, form, items, best, Encoding::Dictionary)?;
+    match try_next(alloc, form, items, best, Encoding::Prefix)? {
+        Some(chosen) => Ok(chosen),
+        None => unreachable!(),
+    }
+}
