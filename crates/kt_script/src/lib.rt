@@ -7,13 +7,16 @@
 //! lists of bytes. It stands on kt_base, kt_key, kt_schema and kt_history.
 #![tactic(auto)]
 
+pub mod asked;
 pub mod columns;
 pub mod form;
 pub mod head;
 #[cfg(test)]
 mod head_tests;
 pub mod laws;
+pub mod least;
 pub mod lists;
+pub mod names;
 pub mod number;
 pub mod output;
 pub mod refusal;
