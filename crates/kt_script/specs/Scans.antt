@@ -19,7 +19,8 @@ use Rattle.kt_script.specs.declared.asked.Sign.{Sign}
 use Rattle.kt_script.specs.declared.asked.Sign.TheVariants.{Equal, Below, AtMost, Above, AtLeast}
 use Rattle.kt_script.specs.declared.asked.Question.{Question}
 use Rattle.kt_script.specs.declared.asked.Question.TheVariants as question
-use Rattle.kt_script.specs.Pieces.{cut}
+use Rattle.kt_script.specs.declared.test_words.TakenTest.{TakenTest}
+use Rattle.kt_script.specs.Pieces.{cut, words_in}
 use Rattle.kt_script.specs.Reasons.{sound, reason_if, form_no, cell_value}
 use Rattle.kt_script.specs.Writes.{name_in, behind_name, column_named}
 
@@ -48,13 +49,20 @@ signed (b ∷ rest) = if b == 61 then Some (compared Equal rest) else (if b == 6
 abbrev pub Taken : Type 0
 Taken = PredLine × List (List ℕ)
 
+-- behind "is not"
+abbrev pub not_null_asked : List ℕ → List (List ℕ) → Option Taken
+not_null_asked name [] = None
+not_null_asked name (word ∷ words) = if same word (codes "null") then Some (record { name = name; asked = not_null }, words) else None
+
+-- behind "is"
+abbrev pub is_asked : List ℕ → List ℕ → List (List ℕ) → Option Taken
+is_asked name word words = if same word (codes "null") then Some (record { name = name; asked = null }, words) else (if same word (codes "not") then not_null_asked name words else None)
+
 -- NAME is null, or NAME is not null
 abbrev pub null_asked : List ℕ → List (List ℕ) → Option Taken
 null_asked name [] = None
 null_asked name (is ∷ []) = None
-null_asked name (is ∷ word ∷ []) = if same is (codes "is") && same word (codes "null") then Some (record { name = name; asked = null }, []) else None
-null_asked name (is ∷ word ∷ more ∷ words) = if same is (codes "is") && same word (codes "null") then Some (record { name = name; asked = null }, more ∷ words)
-    else (if same is (codes "is") && same word (codes "not") && same more (codes "null") then Some (record { name = name; asked = not_null }, words) else None)
+null_asked name (is ∷ word ∷ words) = if same is (codes "is") then is_asked name word words else None
 
 abbrev pub asked_by : Option Asked → List ℕ → List (List ℕ) → Option Taken
 asked_by None name words = null_asked name words
@@ -194,3 +202,7 @@ abbrev pub asked_view : Question → Asked
 asked_view (question.Compared sign literal) = compared sign literal.now
 asked_view question.Null = null
 asked_view question.NotNull = not_null
+
+-- a test and the words behind it, as they are read
+abbrev pub taken_view : TakenTest → Taken
+taken_view t = (record { name = t.name.now; asked = asked_view t.question }, words_in t.rest)

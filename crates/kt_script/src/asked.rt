@@ -87,7 +87,9 @@ fn read_compared(
     match read {
         Ok(cell) => Ok(cell),
         Err(LiteralNo::Memory) => Err(NoMemory),
-        Err(LiteralNo::Form | LiteralNo::Null | LiteralNo::Kind | LiteralNo::Long) => Ok(Cell::Null),
+        Err(LiteralNo::Form | LiteralNo::Null | LiteralNo::Kind | LiteralNo::Long) => Ok(
+            Cell::Null,
+        ),
     }
 }
 

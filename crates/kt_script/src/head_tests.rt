@@ -177,7 +177,9 @@ fn columns_of_every_form_are_read(rt: HostRuntime) -> Result<(), Fail> {
     let text =
         b"table\ncolumn host string key\ncolumn tick int64 key\ncolumn cpu int32 nullable\ncolumn up bool default true\ncolumn note string nullable default \"a b\"\nsession\n";
     let head = read_head(alloc, text);
-    assert!(rt; matches!(&head, Ok(head) if head.columns.len() == 5 && head.rest == b"session\n"));
+    assert!(rt;
+        matches!(&head, Ok(head) if head.columns.len() == 5 && head.rest == b"session\n".as_slice())
+    );
     Ok(())
 }
 
@@ -187,7 +189,7 @@ fn a_table_has_a_key(rt: HostRuntime) -> Result<(), Fail> {
     let text = b"table\ncolumn id int64 key\ncolumn v string\nsession\n";
     let table = read_table(alloc, text);
     assert!(rt;
-        matches!(&table, Ok(table) if table.schema.columns().len() == 2 && table.rest == b"session\n")
+        matches!(&table, Ok(table) if table.schema.columns().len() == 2 && table.rest == b"session\n".as_slice())
     );
     let texts = [
         (b"table\n".as_slice(), 2, 5),

@@ -54,13 +54,7 @@ fn cell_reason(nullable: bool, read: &Result<Cell, LiteralNo>) -> u8
     match read {
         Ok(_) => SOUND,
         Err(LiteralNo::Form) => 12,
-        Err(LiteralNo::Null) => {
-            if nullable {
-                SOUND
-            } else {
-                15
-            }
-        }
+        Err(LiteralNo::Null) => { if nullable { SOUND } else { 15 } }
         Err(LiteralNo::Kind) => 14,
         Err(LiteralNo::Long) => 16,
         Err(LiteralNo::Memory) => SOUND,
@@ -82,7 +76,9 @@ pub fn read_cell(
     match read {
         Ok(cell) => Ok(cell),
         Err(LiteralNo::Memory) => Err(NoMemory),
-        Err(LiteralNo::Form | LiteralNo::Null | LiteralNo::Kind | LiteralNo::Long) => Ok(Cell::Null),
+        Err(LiteralNo::Form | LiteralNo::Null | LiteralNo::Kind | LiteralNo::Long) => Ok(
+            Cell::Null,
+        ),
     }
 }
 

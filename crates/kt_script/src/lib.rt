@@ -20,6 +20,7 @@ pub mod names;
 pub mod number;
 pub mod output;
 pub mod refusal;
+pub mod test_words;
 #[cfg(test)]
 mod tests;
 pub mod word;
