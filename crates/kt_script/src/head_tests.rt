@@ -140,7 +140,7 @@ fn the_first_fault_of_the_first_lines_is_told(rt: HostRuntime) -> Result<(), Fai
     ];
     for (text, line, why) in texts {
         let told =
-            matches!(read_head(alloc, text), Err(ReadNo::Line { number, reason }) if number == line && reason == why);
+            matches!(read_table(alloc, text), Err(ReadNo::Line { number, reason }) if number == line && reason == why);
         assert!(rt; told);
     }
     Ok(())
