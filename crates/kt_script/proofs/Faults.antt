@@ -1,6 +1,7 @@
 -- The first fault of a text, line by line.
 use Rattle.std.proofs.Common.{◌≡◌, ℕ, ◌+◌, ◌<◌, List, [], ◌∷◌, ◌++◌, refl, sym, ap, subst, ◌∙◌, arith, length, Bool, true, false, Option, Some, None, Bor, Result, Ok, Err, append_assoc, length-append}
 use Rattle.std.specs.Prelude.{◌≢◌, IfSome, IfNone, min, not, All, nat_lt, if◌then◌else◌, codes}
+use Rattle.std.specs.List.{list_any}
 use Rattle.std.proofs.lemmas.Bool.Decides.{nat_tests}
 use Rattle.std.proofs.lemmas.List.Elements.{recursion_from_All}
 use Rattle.kt_schema.specs.declared.column.Column.{Column}
@@ -13,7 +14,7 @@ use Rattle.kt_script.specs.declared.head.ReadNo.TheVariants as read
 use Rattle.kt_script.specs.Pieces.{cut, words_of}
 use Rattle.kt_script.specs.Reasons.{sound}
 use Rattle.kt_script.specs.Columns.{begins_column, column_no, columns_with, keys_no, ReadsColumn}
-use Rattle.kt_script.specs.Scripts.{Above, start, head, body, line_no, after, Fault, fault_if, fault_from, above_end, at, located, first_piece, body_no, body_plan, IsColumns, IsHead, IsReadFrom, IsLineCut}
+use Rattle.kt_script.specs.Scripts.{Above, start, head, body, line_no, after, Fault, fault_if, fault_from, above_end, at, located, first_piece, body_no, body_plan, IsColumns, IsHead, IsReadFrom, IsLineCut, IsNoKey}
 use Rattle.kt_script.proofs.Cuts.{cut_front, cut_end, some_piece}
 
 pub line_cut : (text front rest : List ℕ) → text ≡ front ++ 10 ∷ rest → All (λ b. b ≢ 10) front → (cut 10 text ≡ front ∷ cut 10 rest) × (length rest < length text)
@@ -49,7 +50,7 @@ untold : (n : ℕ) (reason : ℕ) (later : Option Fault) → reason ≡ sound �
 untold n reason later is = ap (λ k. fault_if n k later) is
 
 column_line_no : (columns : List Column) (text : List ℕ) → begins_column text ≡ true → line_no (head columns) text ≡ column_no columns text
-column_line_no columns text t = ap (λ b. if b then column_no columns text else min (keys_no columns) (body_no columns [] (words_of text))) t
+column_line_no columns text t = ap (λ b. if b then column_no columns text else (if list_any (λ c. c.key) columns then body_no columns [] (words_of text) else 5)) t
 
 column_after : (columns : List Column) (text : List ℕ) → begins_column text ≡ true → after (head columns) text ≡ head (columns_with columns text)
 column_after columns text t = ap (λ b. if b then head (columns_with columns text) else body columns (body_plan columns [] (words_of text))) t
@@ -90,10 +91,28 @@ behind_table text front behind result is t reads = by result reads
     fault_same = fault_step start 1 text front behind is ∙ ap (λ b. fault_if 1 (if not b then 3 else sound) (fault_from (head []) 2 (cut 10 behind))) t
 
     by : (r : Result Head ReadNo) → IsColumns behind r → IsHead text r
-    by (Ok h) reads_h = (fault_same ∙ reads_h.0, end_step start text front behind is ∙ reads_h.1, reads_h.2)
+    by (Ok h) reads_h = (fault_same ∙ reads_h.0, end_step start text front behind is ∙ reads_h.1, reads_h.2, reads_h.3)
     by (Err (read.Line n r)) reads_h = fault_same ∙ reads_h
     by (Err read.Memory) reads_h = tt
 
 pub line_case : (text : List ℕ) (r : Option (Bor (List ℕ) × Bor (List ℕ))) → IfSome r (λ x. text ≡ x.0.now ++ 10 ∷ x.1.now) → IfSome r (λ x. All (λ b. b ≢ 10) x.0.now) → IfNone r (All (λ b. b ≢ 10) text) → IsLineCut text r
 line_case text None is first none = line_none text none
 line_case text (Some x) is first none = line_cut text x.0.now x.1.now is first
+
+-- below columns without a key, whatever line comes is refused
+pub no_key_line : (rest front behind : List ℕ) → cut 10 rest ≡ front ∷ cut 10 behind → IsNoKey rest 5
+no_key_line rest front behind is columns n key other =
+    let none : begins_column front ≡ false = sym (ap begins_column (first_step rest front behind is)) ∙ other in
+    let reason : line_no (head columns) front ≡ 5 = ap (λ b. if b then column_no columns front else (if list_any (λ c. c.key) columns then body_no columns [] (words_of front) else 5)) none ∙ ap (λ b. if b then body_no columns [] (words_of front) else 5) key in
+    fault_step (head columns) n rest front behind is ∙ told n 5 (line_no (head columns) front) _ reason (omega arith)
+
+pub no_key_end : (rest : List ℕ) → cut 10 rest ≡ rest ∷ [] → rest ≡ [] → IsNoKey rest 5
+no_key_end rest is none columns n key other =
+    ap (fault_from (head columns) n) (is ∙ ap (λ x. x ∷ []) none) ∙ ap (λ b. fault_if n (if not b then 5 else sound) None) key
+
+pub no_key_rest : (rest : List ℕ) → cut 10 rest ≡ rest ∷ [] → (rest ≡ [] → ⊥) → IsNoKey rest 2
+no_key_rest rest is some columns n key other = ap (fault_from (head columns) n) is ∙ by rest some
+  where
+    by : (xs : List ℕ) → (xs ≡ [] → ⊥) → fault_from (head columns) n (xs ∷ []) ≡ at n 2
+    by [] g = absurd (g refl)
+    by (x ∷ xs) g = refl

@@ -9,3 +9,4 @@ pub mod Plans
 pub mod ScriptTests
 pub mod Pieces
 pub mod Faults
+pub mod Tables

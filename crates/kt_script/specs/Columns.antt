@@ -1,5 +1,5 @@
 -- Column lines: what a line says of its column, and why it is refused below these columns.
-use Rattle.std.specs.Prelude.{◌≡◌, ◌<◌, ℕ, ◌+◌, ◌++◌, min, Bool, true, false, not, ◌&&◌, List, [], ◌∷◌, length, take, Option, Some, None, if◌then◌else◌, ◌==◌, nat_le, Result, Ok, Err, codes}
+use Rattle.std.specs.Prelude.{◌≡◌, ◌<◌, ◌≤◌, ℕ, ◌+◌, ◌++◌, min, Bool, true, false, not, ◌&&◌, List, [], ◌∷◌, length, take, Option, Some, None, if◌then◌else◌, ◌==◌, nat_le, Result, Ok, Err, codes}
 use Rattle.std.specs.List.{list_any}
 use Rattle.std.specs.Ordering.{nat_cmp, is_eq}
 use Rattle.std.specs.Cmp.Lexicographic.{slice_cmp}
@@ -11,6 +11,8 @@ use Rattle.kt_base.specs.declared.literal.LiteralNo.TheVariants as no
 use Rattle.kt_base.specs.Literals.{same, cell_in}
 use Rattle.kt_key.specs.Fit.{is_bool}
 use Rattle.kt_schema.specs.Names.{is_name}
+use Rattle.kt_schema.specs.First.{passes_at}
+use Rattle.kt_schema.specs.Columns.{is_late, is_weak, is_again}
 use Rattle.kt_schema.specs.declared.column.Column.{Column}
 use Rattle.kt_script.specs.declared.columns.Line.{Line}
 use Rattle.kt_script.specs.declared.columns.LineNo.{LineNo}
@@ -116,3 +118,10 @@ abbrev pub ReadsColumn : List Column → List ℕ → Result Column LineNo → T
 ReadsColumn columns text (Ok c) = (column_no columns text ≡ sound) × (columns_with columns text ≡ columns ++ c ∷ [])
 ReadsColumn columns text (Err (line.Reason r)) = (column_no columns text ≡ r) × (r < sound)
 ReadsColumn columns text (Err line.Memory) = Unit {0}
+
+-- columns of which each may stand below those before it: no key behind another column, none weak, no name again, at most 300
+pub record IsTable (columns : List Column) : Type 0 where
+  pub late : (k : ℕ) → k < length columns → is_late columns k ≡ false
+  pub weak : (k : ℕ) → k < length columns → passes_at is_weak columns k ≡ false
+  pub again : (k : ℕ) → k < length columns → is_again columns k ≡ false
+  pub few : length columns ≤ 300

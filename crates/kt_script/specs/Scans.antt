@@ -1,5 +1,6 @@
 -- Scan lines: what a line says, and why it is refused. Only the present is scanned so far.
-use Rattle.std.specs.Prelude.{ℕ, zero, suc, min, Bool, true, false, not, is_some, ◌&&◌, List, [], ◌∷◌, ◌++◌, length, map, Option, Some, None, if◌then◌else◌, ◌==◌, Result, Ok, Err, codes}
+use Rattle.std.specs.Prelude.{◌≡◌, ℕ, zero, suc, min, Bool, true, false, not, is_some, ◌&&◌, List, [], ◌∷◌, ◌++◌, length, map, Option, Some, None, if◌then◌else◌, ◌==◌, Result, Ok, Err, codes}
+use Rattle.std.proofs.Common.{Bor}
 use Rattle.std.specs.List.{list_any, filter_map}
 use Rattle.std.specs.Option.{option_map, option_or}
 use Rattle.kt_base.specs.declared.cell.Kind.TheVariants as kind
@@ -14,17 +15,14 @@ use Rattle.kt_history.specs.declared.scan.Test.{Test}
 use Rattle.kt_history.specs.declared.scan.Test.TheVariants as test
 use Rattle.kt_history.specs.declared.scan.Pred.{Pred}
 use Rattle.kt_history.specs.declared.scan.Scan.{Scan}
-use Rattle.kt_script.specs.Pieces.{cut}
+use Rattle.kt_script.specs.declared.asked.Sign.{Sign}
+use Rattle.kt_script.specs.declared.asked.Sign.TheVariants.{Equal, Below, AtMost, Above, AtLeast}
+use Rattle.kt_script.specs.declared.asked.Question.{Question}
+use Rattle.kt_script.specs.declared.asked.Question.TheVariants as question
+use Rattle.kt_script.specs.declared.test_words.TakenTest.{TakenTest}
+use Rattle.kt_script.specs.Pieces.{cut, words_in}
 use Rattle.kt_script.specs.Reasons.{sound, reason_if, form_no, cell_value}
 use Rattle.kt_script.specs.Writes.{name_in, behind_name, column_named}
-
--- How a cell is compared with a literal.
-pub data Sign : Type 0 where
-  equal : Sign
-  below : Sign
-  at_most : Sign
-  above : Sign
-  at_least : Sign
 
 -- What is said of a column: a comparison with the text of a literal, or whether it is null.
 pub data Asked : Type 0 where
@@ -45,19 +43,26 @@ or_equal strict loose (b ∷ literal) = if b == 61 then compared loose literal e
 -- the sign and the literal behind a name
 abbrev pub signed : List ℕ → Option Asked
 signed [] = None
-signed (b ∷ rest) = if b == 61 then Some (compared equal rest) else (if b == 60 then Some (or_equal below at_most rest) else (if b == 62 then Some (or_equal above at_least rest) else None))
+signed (b ∷ rest) = if b == 61 then Some (compared Equal rest) else (if b == 60 then Some (or_equal Below AtMost rest) else (if b == 62 then Some (or_equal Above AtLeast rest) else None))
 
 -- the words behind a test, and the test
 abbrev pub Taken : Type 0
 Taken = PredLine × List (List ℕ)
 
+-- behind "is not"
+abbrev pub not_null_asked : List ℕ → List (List ℕ) → Option Taken
+not_null_asked name [] = None
+not_null_asked name (word ∷ words) = if same word (codes "null") then Some (record { name = name; asked = not_null }, words) else None
+
+-- behind "is"
+abbrev pub is_asked : List ℕ → List ℕ → List (List ℕ) → Option Taken
+is_asked name word words = if same word (codes "null") then Some (record { name = name; asked = null }, words) else (if same word (codes "not") then not_null_asked name words else None)
+
 -- NAME is null, or NAME is not null
 abbrev pub null_asked : List ℕ → List (List ℕ) → Option Taken
 null_asked name [] = None
 null_asked name (is ∷ []) = None
-null_asked name (is ∷ word ∷ []) = if same is (codes "is") && same word (codes "null") then Some (record { name = name; asked = null }, []) else None
-null_asked name (is ∷ word ∷ more ∷ words) = if same is (codes "is") && same word (codes "null") then Some (record { name = name; asked = null }, more ∷ words)
-    else (if same is (codes "is") && same word (codes "not") && same more (codes "null") then Some (record { name = name; asked = not_null }, words) else None)
+null_asked name (is ∷ word ∷ words) = if same is (codes "is") then is_asked name word words else None
 
 abbrev pub asked_by : Option Asked → List ℕ → List (List ℕ) → Option Taken
 asked_by None name words = null_asked name words
@@ -164,11 +169,11 @@ abbrev pub ids_of : List Column → List (List ℕ) → List ℕ
 ids_of columns names = filter_map (λ name. id_of (column_named columns name)) names
 
 abbrev pub test_of : Column → Asked → Test
-test_of c (compared equal literal) = test.Eq (cell_value c.kind literal)
-test_of c (compared below literal) = test.Lt (cell_value c.kind literal)
-test_of c (compared at_most literal) = test.Le (cell_value c.kind literal)
-test_of c (compared above literal) = test.Gt (cell_value c.kind literal)
-test_of c (compared at_least literal) = test.Ge (cell_value c.kind literal)
+test_of c (compared Equal literal) = test.Eq (cell_value c.kind literal)
+test_of c (compared Below literal) = test.Lt (cell_value c.kind literal)
+test_of c (compared AtMost literal) = test.Le (cell_value c.kind literal)
+test_of c (compared Above literal) = test.Gt (cell_value c.kind literal)
+test_of c (compared AtLeast literal) = test.Ge (cell_value c.kind literal)
 test_of c null = test.IsNull
 test_of c not_null = test.NotNull
 
@@ -186,3 +191,18 @@ scan_said columns (Some line) = record { at = Looked; columns = option_map (ids_
 -- the scan that a line says
 abbrev pub scan_of : List Column → List (List ℕ) → Scan
 scan_of columns words = scan_said columns (scan_line words)
+
+-- the names behind a comma, of what is left of them
+abbrev pub names_in : Option (Bor (List ℕ)) → List (List ℕ)
+names_in None = []
+names_in (Some rest) = cut 44 rest.now
+
+-- a question as its words ask it
+abbrev pub asked_view : Question → Asked
+asked_view (question.Compared sign literal) = compared sign literal.now
+asked_view question.Null = null
+asked_view question.NotNull = not_null
+
+-- a test and the words behind it, as they are read
+abbrev pub taken_view : TakenTest → Taken
+taken_view t = (record { name = t.name.now; asked = asked_view t.question }, words_in t.rest)

@@ -2,7 +2,7 @@
 -- A script has at most one session so far.
 use Rattle.std.specs.Prelude.{◌≡◌, ◌<◌, Result, Ok, Err, ℕ, ◌+◌, min, Bool, true, false, not, ◌||◌, List, [], ◌∷◌, ◌++◌, length, Option, Some, None, if◌then◌else◌, ◌==◌, nat_lt, nat_le, codes}
 use Rattle.std.proofs.Common.{Bor}
-use Rattle.std.specs.List.{sum_by}
+use Rattle.std.specs.List.{sum_by, list_any}
 use Rattle.kt_base.specs.Literals.{same}
 use Rattle.kt_schema.specs.declared.column.Column.{Column}
 use Rattle.kt_history.specs.declared.command.Command.{Command}
@@ -10,11 +10,12 @@ use Rattle.kt_history.specs.declared.command.Command.TheVariants as command
 use Rattle.kt_script.specs.declared.columns.LineNo.{LineNo}
 use Rattle.kt_script.specs.declared.columns.LineNo.TheVariants as line
 use Rattle.kt_script.specs.declared.head.Head.{Head}
+use Rattle.kt_script.specs.declared.head.Table.{Table}
 use Rattle.kt_script.specs.declared.head.ReadNo.{ReadNo}
 use Rattle.kt_script.specs.declared.head.ReadNo.TheVariants as read
 use Rattle.kt_script.specs.Pieces.{cut, words_of}
 use Rattle.kt_script.specs.Reasons.{sound, reason_if}
-use Rattle.kt_script.specs.Columns.{begins_column, column_no, columns_with, keys_no}
+use Rattle.kt_script.specs.Columns.{begins_column, column_no, columns_with, keys_no, IsTable}
 use Rattle.kt_script.specs.Writes.{op_kind, write_no, write_of}
 use Rattle.kt_script.specs.Scans.{scan_no, scan_of}
 
@@ -108,7 +109,7 @@ pub data Above : Type 0 where
 -- why a line is refused below these
 abbrev pub line_no : Above → List ℕ → ℕ
 line_no start line = reason_if (not (same line (codes "table"))) 3
-line_no (head columns) line = if begins_column line then column_no columns line else min (keys_no columns) (body_no columns [] (words_of line))
+line_no (head columns) line = if begins_column line then column_no columns line else (if list_any (λ c. c.key) columns then body_no columns [] (words_of line) else 5)
 line_no (body columns plan) line = body_no columns plan (words_of line)
 
 -- why a script must not end below these
@@ -194,7 +195,7 @@ IsLineCut text (Some line) = (cut 10 text ≡ line.0.now ∷ cut 10 line.1.now) 
 abbrev pub IsReadFrom : Above → ℕ → List ℕ → Result Head ReadNo → Type 0
 IsReadFrom above number text (Ok h) = (fault_from above number (cut 10 text) ≡ fault_from (head h.columns.items) (length h.columns.items + 2) (cut 10 h.rest.now))
     × (above_end above (cut 10 text) ≡ above_end (head h.columns.items) (cut 10 h.rest.now))
-    × (begins_column (first_piece (cut 10 h.rest.now)) ≡ false)
+    × (begins_column (first_piece (cut 10 h.rest.now)) ≡ false) × IsTable h.columns.items
 IsReadFrom above number text (Err (read.Line n reason)) = fault_from above number (cut 10 text) ≡ at n reason
 IsReadFrom above number text (Err read.Memory) = Unit {0}
 
@@ -204,3 +205,15 @@ IsColumns text result = IsReadFrom (head []) 2 text result
 -- the columns of a text, or a fault of its first lines
 abbrev pub IsHead : List ℕ → Result Head ReadNo → Type 0
 IsHead text result = IsReadFrom start 1 text result
+
+-- The schema of a text, and what is left below its columns, or a fault up to there.
+abbrev pub IsTableRead : List ℕ → Result Table ReadNo → Type 0
+IsTableRead text (Ok t) = (fault_from start 1 (cut 10 text) ≡ fault_from (head t.schema) (length t.schema + 2) (cut 10 t.rest.now))
+    × (above_end start (cut 10 text) ≡ above_end (head t.schema) (cut 10 t.rest.now))
+    × (begins_column (first_piece (cut 10 t.rest.now)) ≡ false)
+IsTableRead text (Err (read.Line n reason)) = fault_from start 1 (cut 10 text) ≡ at n reason
+IsTableRead text (Err read.Memory) = Unit {0}
+
+-- why a text that stands below columns without a key is refused in its first line
+abbrev pub IsNoKey : List ℕ → ℕ → Type 0
+IsNoKey rest reason = (columns : List Column) (n : ℕ) → list_any (λ c. c.key) columns ≡ false → begins_column (first_piece (cut 10 rest)) ≡ false → fault_from (head columns) n (cut 10 rest) ≡ at n reason

@@ -1,5 +1,6 @@
 -- Write lines: what a line says of its operations, and why it is refused.
-use Rattle.std.specs.Prelude.{ℕ, min, Bool, true, false, not, ◌&&◌, ◌||◌, List, [], ◌∷◌, ◌++◌, length, drop, map, Option, Some, None, is_some, if◌then◌else◌, ◌==◌, nat_lt, codes}
+use Rattle.std.specs.Prelude.{◌≡◌, ℕ, min, Bool, true, false, not, ◌&&◌, ◌||◌, List, [], ◌∷◌, ◌++◌, length, drop, map, Option, Some, None, is_some, if◌then◌else◌, ◌==◌, nat_lt, codes}
+use Rattle.std.proofs.Common.{Bor}
 use Rattle.std.specs.List.{list_any, before_first, onto_first}
 use Rattle.std.specs.Ordering.{nat_cmp}
 use Rattle.std.specs.FinMap.Entries.{put}
@@ -183,3 +184,8 @@ op_of columns (word ∷ words) = record { kind = kind_or_delete (op_kind word); 
 -- the operations that a write line says
 abbrev pub write_of : List Column → List (List ℕ) → List RowOp
 write_of columns words = map (op_of columns) (ops_of words)
+
+-- a column of some columns, as it is kept there
+abbrev pub IsFound : List Column → List ℕ → Option (Bor Column) → Type 0
+IsFound columns name None = column_named columns name ≡ None
+IsFound columns name (Some c) = column_named columns name ≡ Some c.now

@@ -1,15 +1,16 @@
 //! The first lines of a script: the word `table`, and the columns.
 
-ghost use Rattle.std.specs.Prelude.{◌≡◌, ◌≤◌, ◌∷◌, ◌+◌, ◌++◌, [], OnOk};
-ghost use Rattle.kt_base.specs.Literals.{same};
+ghost use Rattle.std.specs.Prelude.{◌≡◌, ◌≤◌, ◌∷◌, ◌+◌, ◌++◌, [], OnOk, IfOk, true, None};
+ghost use Rattle.std.specs.List.{list_any};
+ghost use Rattle.kt_schema.specs.Columns.{told_no};
 ghost use Rattle.kt_script.specs.Pieces.{cut};
-ghost use Rattle.kt_script.specs.Columns.{begins_column};
-ghost use Rattle.kt_script.specs.Scripts.{IsHead, IsColumns, IsLineCut, located};
+ghost use Rattle.kt_script.specs.Columns.{begins_column, IsTable};
+ghost use Rattle.kt_script.specs.Scripts.{IsHead, IsColumns, IsLineCut, IsTableRead, IsNoKey, located};
 
 use crate::columns::{LineNo, read_column};
 use crate::form::cut_at;
 use kt_base::NoMemory;
-use kt_schema::Column;
+use kt_schema::{Column, ColumnList, Schema, SchemaNo};
 use std::alloc::Global;
 
 /// Why a text is not read: the first line that is refused, with the least reason that holds in it, or want of memory.
@@ -33,6 +34,13 @@ impl From<NoMemory> for ReadNo {
 #[derive(Debug, Drop)]
 pub struct Head<'a> {
     pub columns: Vec<Column>,
+    pub rest: &'a [u8],
+}
+
+/// The schema of a script, and the text below its columns. They stand from line 2 on.
+#[derive(Debug, Drop)]
+pub struct Table<'a> {
+    pub schema: Schema,
     pub rest: &'a [u8],
 }
 
@@ -102,4 +110,59 @@ pub fn read_head(alloc: Global, text: &[u8]) -> Result<Head<'_>, ReadNo>
             reason: 3,
         })
     }
+}
+
+fn has_key(columns: &[Column]) -> bool
+    ensures { result ≡ list_any (λ c. c.key) columns.now }
+{
+    columns.iter().any(|column| column.key)
+}
+
+// Why the line below columns without a key is refused.
+fn no_key(rest: &[u8]) -> u8
+    ensures { IsNoKey rest.now result }
+{
+    match cut_line(rest) {
+        Some(_) => 5,
+        None => { if rest.is_empty() { 5 } else { 2 } }
+    }
+}
+
+// Columns that make a schema are refused for want of memory alone.
+fn no_memory(no: SchemaNo) -> NoMemory
+    requires { told_no no ≡ None }
+{
+    match no {
+        SchemaNo::Memory => NoMemory,
+        SchemaNo::S1 => unreachable!(),
+        SchemaNo::S2 { .. } => unreachable!(),
+        SchemaNo::S3 { .. } => unreachable!(),
+        SchemaNo::S4 { .. } => unreachable!(),
+        SchemaNo::S5 => unreachable!(),
+    }
+}
+
+fn make_schema(alloc: Global, columns: Vec<Column>) -> Result<Schema, NoMemory>
+    requires table { IsTable columns.items }
+    requires key { list_any (λ c. c.key) columns.items ≡ true }
+    ensures { IfOk result (λ schema. schema ≡ columns.items) }
+{
+    match Schema::new(alloc, ColumnList::of(columns)) {
+        Ok(schema) => Ok(schema),
+        Err(no) => Err(no_memory(no)),
+    }
+}
+
+/// The schema of a text, or the fault of one of the lines up to the first one below the columns.
+pub fn read_table(alloc: Global, text: &[u8]) -> Result<Table<'_>, ReadNo>
+    ensures { IsTableRead text.now result }
+{
+    let Head { columns, rest } = read_head(alloc, text)?;
+    if !has_key(&columns) {
+        let number = columns.len() as u64 + 2;
+        let reason = no_key(rest);
+        return Err(ReadNo::Line { number, reason });
+    }
+    let schema = make_schema(alloc, columns)?;
+    Ok(Table { schema, rest })
 }

@@ -1,5 +1,5 @@
 //! First lines that are refused, and columns at a limit and past it.
-use crate::head::{ReadNo, read_head};
+use crate::head::{ReadNo, read_head, read_table};
 use kt_base::{NoMemory, Octets};
 use std::alloc::Global;
 use std::test::Fail;
@@ -140,7 +140,7 @@ fn the_first_fault_of_the_first_lines_is_told(rt: HostRuntime) -> Result<(), Fai
     ];
     for (text, line, why) in texts {
         let told =
-            matches!(read_head(alloc, text), Err(ReadNo::Line { number, reason }) if number == line && reason == why);
+            matches!(read_table(alloc, text), Err(ReadNo::Line { number, reason }) if number == line && reason == why);
         assert!(rt; told);
     }
     Ok(())
@@ -177,6 +177,31 @@ fn columns_of_every_form_are_read(rt: HostRuntime) -> Result<(), Fail> {
     let text =
         b"table\ncolumn host string key\ncolumn tick int64 key\ncolumn cpu int32 nullable\ncolumn up bool default true\ncolumn note string nullable default \"a b\"\nsession\n";
     let head = read_head(alloc, text);
-    assert!(rt; matches!(&head, Ok(head) if head.columns.len() == 5 && head.rest == b"session\n"));
+    assert!(rt;
+        matches!(&head, Ok(head) if head.columns.len() == 5 && head.rest == b"session\n".as_slice())
+    );
+    Ok(())
+}
+
+#[test]
+fn a_table_has_a_key(rt: HostRuntime) -> Result<(), Fail> {
+    let alloc = rt.alloc();
+    let text = b"table\ncolumn id int64 key\ncolumn v string\nsession\n";
+    let table = read_table(alloc, text);
+    assert!(rt;
+        matches!(&table, Ok(table) if table.schema.columns().len() == 2 && table.rest == b"session\n".as_slice())
+    );
+    let texts = [
+        (b"table\n".as_slice(), 2, 5),
+        (b"table\nsession\n".as_slice(), 2, 5),
+        (b"table\nsession".as_slice(), 2, 2),
+        (b"table\ncolumn v string\n".as_slice(), 3, 5),
+        (b"table\ncolumn v string\nscan now\n".as_slice(), 3, 5),
+    ];
+    for (text, line, why) in texts {
+        let told =
+            matches!(read_table(alloc, text), Err(ReadNo::Line { number, reason }) if number == line && reason == why);
+        assert!(rt; told);
+    }
     Ok(())
 }

@@ -1,0 +1,47 @@
+//! Columns by their names, and the names that a scan selects.
+
+ghost use Rattle.std.specs.Prelude.{◌≡◌, ◌∷◌};
+ghost use Rattle.kt_script.specs.Pieces.{cut};
+ghost use Rattle.kt_script.specs.Writes.{IsFound};
+ghost use Rattle.kt_script.specs.Scans.{names_in, name_no};
+
+use crate::columns::SOUND;
+use crate::form::cut_at;
+use kt_schema::{Column, is_name};
+
+/// The first column of this name.
+pub fn find_column<'a>(columns: &'a [Column], name: &[u8]) -> Option<&'a Column>
+    ensures { IsFound columns.now name.now result }
+{
+    let mut left = columns;
+    while let Some((column, behind)) = left.split_first() {
+        if column.name.as_slice() == name {
+            return Some(column);
+        }
+        left = behind;
+    }
+    None
+}
+
+/// The first of some names with commas between them, and what is left behind its comma.
+pub fn cut_name(text: &[u8]) -> (&[u8], Option<&[u8]>)
+    ensures { cut 44 text.now ≡ result.0.now ∷ names_in result.1 }
+{
+    match cut_at(text, b',') {
+        Some((name, behind)) => (name, Some(behind)),
+        None => (text, None),
+    }
+}
+
+/// Why a name is not selected: it is none, or no column has it.
+pub fn name_no(columns: &[Column], name: &[u8]) -> u8
+    ensures { result ≡ name_no columns.now name.now }
+{
+    if !is_name(name) {
+        12
+    } else if find_column(columns, name).is_none() {
+        13
+    } else {
+        SOUND
+    }
+}
