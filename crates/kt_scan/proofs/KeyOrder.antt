@@ -202,7 +202,7 @@ filter_some after (x ∷ xs) k rising e = by (p x) refl (filter_some after xs k 
 
 -- ---- all views
 
-abbrev add : {V : Type 0} → (V → List Key) → List Key → V → List Key
+abbrev pub add : {V : Type 0} → (V → List Key) → List Key → V → List Key
 add keys known view = with_keys known (keys view)
 
 -- the keys of one view more
