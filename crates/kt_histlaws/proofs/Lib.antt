@@ -1,0 +1,13 @@
+pub mod OneKey
+pub mod Pending
+pub mod Applying
+pub mod Flown
+pub mod Fitting
+pub mod NextRow
+pub mod Applied
+pub mod Shown
+pub mod Events
+pub mod Jobs
+pub mod Disks
+pub mod Content
+pub mod Parts

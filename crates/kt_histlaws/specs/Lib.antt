@@ -1,0 +1,10 @@
+pub mod Histories
+pub mod Pending
+pub mod Flights
+pub mod Fitting
+pub mod Core
+pub mod Events
+pub mod Parts
+pub mod Jobs
+pub mod Disks
+pub mod Laws

@@ -1,0 +1,10 @@
+pub mod InOrder
+pub mod Sets
+pub mod Greatest
+pub mod Rows
+pub mod Parts
+pub mod Bounds
+pub mod Backwards
+pub mod Ends
+pub mod Picks
+pub mod Given

@@ -1,0 +1,6 @@
+use Rattle.std.proofs.Common.{◌≡◌, ◌+◌, length}
+use Rattle.kt_policy.proofs.Rows.{AreRows}
+use Rattle.kt_policy.proofs.filling.is_part.Given as goal
+
+abbrev pub invariant-loop-k : goal.invariant-loop-k
+invariant-loop-k l = record { count : length l.rows ≡ length l.part + 1; rows_are : AreRows l.part l.budget (l.k + 1) l.rows }
