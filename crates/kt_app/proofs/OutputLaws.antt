@@ -1,34 +1,33 @@
 -- What one session alone did is what the machine may do, and what is printed of it is the output text.
-use Rattle.std.proofs.Common.{◌≡◌, ℕ, suc, ◌+◌, ◌^◌, List, [], ◌∷◌, ◌++◌, Option, Some, None, refl, sym, ap, ◌∙◌, subst, arith, length, map, append_assoc, drop}
+use Rattle.std.proofs.Common.{◌≡◌, ℕ, zero, suc, ◌+◌, ◌^◌, ◌<◌, ◌≤◌, List, [], ◌∷◌, ◌++◌, Option, Some, None, refl, sym, ap, ◌∙◌, subst, arith, length, map, append_assoc, drop, cond, Bool, true, false, length-append}
 use mathlib.Core.List.{append-nil}
 use Rattle.std.specs.List.{AllByRecursion}
-use Rattle.std.specs.Prelude.{true, false, unwrap_or, codes}
-use Rattle.kt_base.specs.Causes.{Grows}
+use Rattle.std.specs.Prelude.{unwrap_or, All, slice_get}
+use Rattle.std.proofs.lemmas.List.Elements.{All-nil, All-from_recursion}
 use Rattle.kt_history.specs.declared.command.Command.{Command}
 use Rattle.kt_history.specs.declared.command.Command.TheVariants as command
 use Rattle.kt_history.specs.declared.event.Event.{Event}
+use Rattle.kt_history.specs.declared.event.Event.TheVariants as event
 use Rattle.kt_history.specs.declared.reply.Reply.{Reply}
 use Rattle.kt_history.specs.declared.reply.Reply.TheVariants as reply
 use Rattle.kt_history.specs.Rows.{Rows}
-use Rattle.kt_history.specs.Machine.{Workload, State, IsRun, readings_of, start, state_after, next_timestamp}
-use Rattle.kt_history.specs.Replies.{answer, told}
-use Rattle.kt_history.proofs.Runs.{answer_is_told}
-use Rattle.std.proofs.Common.{◌<◌, ◌≤◌, length-append, slice_get, Vec, Global}
-use Rattle.kt_script.specs.Form.{workload, head, Spells, SpellsPlan, no_session, one_session, SpellsCommand, an_insert, a_scan, SpellsLines, no_lines, more}
+use Rattle.kt_history.specs.History.{Past}
+use Rattle.kt_history.specs.Machine.{Workload, State, IsRun, IsRunFrom, readings_of, start, state_after, next_timestamp}
+use Rattle.kt_history.specs.Replies.{answer, told, past_after}
+use Rattle.kt_history.proofs.Runs.{answer_is_told, IsRunFrom-append, state_after-append}
+use Rattle.kt_script.specs.Form.{workload}
 use Rattle.kt_script.specs.declared.lists.ShownReply.{ShownReply}
-use Rattle.kt_script.specs.Texts.{output_text, line}
+use Rattle.kt_script.specs.declared.output.LastLine.{LastLine}
 use Rattle.kt_script.specs.declared.output.LastLine.TheVariants as last
-use Rattle.kt_app.specs.declared.session.Progress.{Progress}
-use Rattle.kt_app.specs.Session.{AreTaken, IsTaken, turn_lines, turn_rows, turn_reply, turn_shown, lines_from, replies_from, last_from}
-use Rattle.kt_app.specs.Turns.{TakesAll}
-use Rattle.kt_app.specs.Headline.{IsOutput, IsAnswered, empty, end_of, replies_in}
-use Rattle.std.specs.Prelude.{All}
-use Rattle.std.proofs.lemmas.List.Elements.{All-nil}
-use Rattle.kt_script.specs.Laws.{Fits64, EventFits, ReplyFits, OutputFits}
+use Rattle.kt_script.specs.Texts.{output_text}
+use Rattle.kt_script.specs.Laws.{Fits64, EventFits, ReplyFits, LastFits, OutputFits}
 use Rattle.kt_script.proofs.Outputs.{read_alike}
-use Rattle.kt_app.specs.Headline.{one_history}
-use Rattle.kt_app.proofs.Fits.{session_fits}
+use Rattle.kt_app.specs.declared.session.Progress.{Progress}
+use Rattle.kt_app.specs.Session.{AreTaken, IsTaken, EndsAt, at_rest, turn_lines, turn_rows, turn_reply, turn_shown, turn_past, past_from, lines_from, replies_from, last_from, not_answered, stopped_replies}
+use Rattle.kt_app.specs.Turns.{Begun}
+use Rattle.kt_app.specs.Headline.{IsOutput, IsAnswered, shown_from, AreAnswered, end_of, end_line, replies_in, one_history}
 use Rattle.kt_app.proofs.SessionLaws.{all_run, all_end, all_told, shown_alike}
+use Rattle.kt_app.proofs.TurnLaws.{events_are, replies_are, bound}
 
 turn_readings : (x : Command) (c i m : ℕ) (rest : List Event) → IsTaken x → readings_of (turn_lines x c i m ++ rest) ≡ m ∷ readings_of rest
 turn_readings (command.Write w) c i m rest taken = refl
@@ -36,14 +35,17 @@ turn_readings (command.Scan scan) c i m rest taken = refl
 turn_readings (command.Mark t) c i m rest taken = absurd taken
 turn_readings (command.Chore chore) c i m rest taken = absurd taken
 
-readings_are : (xs : List Command) (c i : ℕ) (ms : List ℕ) → AreTaken xs → length ms ≡ length xs → readings_of (lines_from xs c i ms) ≡ ms
-readings_are [] c i [] taken len = refl
-readings_are [] c i (m ∷ ms) taken len = absurd (omega arith)
-readings_are (x ∷ xs) c i [] taken len = absurd (omega arith)
-readings_are (x ∷ xs) c i (m ∷ ms) taken len =
-    turn_readings x c i m (lines_from xs (next_timestamp c m) (suc i) ms) taken.0 ∙ ap (λ rest. m ∷ rest) (readings_are xs (next_timestamp c m) (suc i) ms taken.1 (omega arith))
+readings_are : (xs : List Command) (c i : ℕ) (ms : List ℕ) (tail : List Event) → AreTaken xs → length ms ≤ length xs → readings_of (lines_from xs c i ms ++ tail) ≡ ms ++ readings_of tail
+readings_are [] c i [] tail taken len = refl
+readings_are [] c i (m ∷ ms) tail taken len = absurd (omega arith)
+readings_are (x ∷ xs) c i [] tail taken len = refl
+readings_are (x ∷ xs) c i (m ∷ ms) tail taken len =
+    ap readings_of (append_assoc (turn_lines x c i m) (lines_from xs (next_timestamp c m) (suc i) ms) tail)
+    ∙ turn_readings x c i m (lines_from xs (next_timestamp c m) (suc i) ms ++ tail) taken.0
+    ∙ ap (λ rest. m ∷ rest) (readings_are xs (next_timestamp c m) (suc i) ms tail taken.1 (omega arith))
 
--- the plan and the pool do not matter to a turn
+-- ---- the plan and the pool do not matter to a turn
+
 same_reply : (m n : ℕ) (p q : List (List Command)) (x : Command) (rows : Rows) (t : ℕ) → turn_shown (workload m p) x rows t ≡ turn_shown (workload n q) x rows t
 same_reply m n p q (command.Write w) rows t = refl
 same_reply m n p q (command.Scan scan) rows t = refl
@@ -56,6 +58,22 @@ same_rows m n p q (command.Scan scan) rows = refl
 same_rows m n p q (command.Mark u) rows = refl
 same_rows m n p q (command.Chore chore) rows = refl
 
+pub same_past : (m n : ℕ) (p q : List (List Command)) (x : Command) (past : Past) (t : ℕ) → turn_past (workload m p) x past t ≡ turn_past (workload n q) x past t
+same_past m n p q (command.Write w) past t = refl
+same_past m n p q (command.Scan scan) past t = refl
+same_past m n p q (command.Mark u) past t = refl
+same_past m n p q (command.Chore chore) past t = refl
+
+same_stopped : (m n : ℕ) (p q : List (List Command)) (x : Command) → not_answered (workload m p) x ≡ not_answered (workload n q) x
+same_stopped m n p q (command.Write w) = refl
+same_stopped m n p q (command.Scan scan) = refl
+same_stopped m n p q (command.Mark u) = refl
+same_stopped m n p q (command.Chore chore) = refl
+
+all_stopped : (m n : ℕ) (p q : List (List Command)) (xs : List Command) → map (not_answered (workload m p)) xs ≡ map (not_answered (workload n q)) xs
+all_stopped m n p q [] = refl
+all_stopped m n p q (x ∷ xs) = λ i. same_stopped m n p q x i ∷ all_stopped m n p q xs i
+
 same_replies : (m n : ℕ) (p q : List (List Command)) (xs : List Command) (rows : Rows) (c : ℕ) (ms : List ℕ) → replies_from (workload m p) xs rows c ms ≡ replies_from (workload n q) xs rows c ms
 same_replies m n p q [] rows c ms = refl
 same_replies m n p q (x ∷ xs) rows c [] = refl
@@ -64,7 +82,15 @@ same_replies m n p q (x ∷ xs) rows c (r ∷ ms) =
     let rest = same_replies m n p q xs (turn_rows (workload m p) x rows) t ms ∙ ap (λ rs. replies_from (workload n q) xs rs t ms) (same_rows m n p q x rows) in
     λ i. same_reply m n p q x rows t i ∷ rest i
 
--- a turn of the form answers its command
+pub same_pasts : (m n : ℕ) (p q : List (List Command)) (xs : List Command) (past : Past) (c : ℕ) (ms : List ℕ) → past_from (workload m p) xs past c ms ≡ past_from (workload n q) xs past c ms
+same_pasts m n p q [] past c ms = refl
+same_pasts m n p q (x ∷ xs) past c [] = refl
+same_pasts m n p q (x ∷ xs) past c (r ∷ ms) =
+    let t = next_timestamp c r in
+    same_pasts m n p q xs (turn_past (workload m p) x past t) t ms ∙ ap (λ h. past_from (workload n q) xs h t ms) (same_past m n p q x past t)
+
+-- ---- a turn of the form answers its command
+
 turn_answers : (work : Workload) (x : Command) (rows : Rows) (t : ℕ) → IsTaken x → IsAnswered (turn_reply work x rows t)
 turn_answers work (command.Write w) rows t taken = tt
 turn_answers work (command.Scan scan) rows t taken = tt
@@ -76,73 +102,127 @@ all_answer work [] rows c ms taken = tt
 all_answer work (x ∷ xs) rows c [] taken = tt
 all_answer work (x ∷ xs) rows c (m ∷ ms) taken = (turn_answers work x rows (next_timestamp c m) taken.0, all_answer work xs (turn_rows work x rows) (next_timestamp c m) ms taken.1)
 
-module _ (cells : ℕ) (roomy : 262144 ≤ cells) (commands : List Command) (taken : AreTaken commands) (rs : List ℕ) (each : length rs ≡ length commands) where
+-- ---- every number fits
+
+join : {X : Type 0} (P : X → Type 0) (xs ys : List X) → AllByRecursion P xs → AllByRecursion P ys → AllByRecursion P (xs ++ ys)
+join P [] ys p q = q
+join P (x ∷ xs) ys p q = (p.0, join P xs ys p.1 q)
+
+three : (a b c : ℕ) → Fits64 a → Fits64 b → Fits64 c → All Fits64 (a ∷ b ∷ c ∷ [])
+three a b c p q r = All-from_recursion Fits64 (a ∷ b ∷ c ∷ []) (p, (q, (r, tt)))
+
+pub four : (a b c d : ℕ) → Fits64 a → Fits64 b → Fits64 c → Fits64 d → All Fits64 (a ∷ b ∷ c ∷ d ∷ [])
+four a b c d p q r s = All-from_recursion Fits64 (a ∷ b ∷ c ∷ d ∷ []) (p, (q, (r, (s, tt))))
+
+turn_lines_fit : (x : Command) (c i m : ℕ) → IsTaken x → Fits64 i → Fits64 (next_timestamp c m) → Fits64 m → AllByRecursion EventFits (turn_lines x c i m)
+turn_lines_fit (command.Write w) c i m taken p q r = (four 1 i (next_timestamp c m) m (omega arith) p q r, (three 1 i (next_timestamp c m) (omega arith) p q, tt))
+turn_lines_fit (command.Scan scan) c i m taken p q r = (four 1 i (next_timestamp c m) m (omega arith) p q r, (three 1 i (next_timestamp c m) (omega arith) p q, tt))
+turn_lines_fit (command.Mark u) c i m taken p q r = absurd taken
+turn_lines_fit (command.Chore chore) c i m taken p q r = absurd taken
+
+lines_fit : (xs : List Command) (c k : ℕ) (ms : List ℕ) → AreTaken xs → AllByRecursion Fits64 ms → c ≤ 2 ^ 63 + k → k + length xs < 2 ^ 32 → AllByRecursion EventFits (lines_from xs c (suc k) ms)
+lines_fit [] c k ms taken small low few = tt
+lines_fit (x ∷ xs) c k [] taken small low few = tt
+lines_fit (x ∷ xs) c k (m ∷ ms) taken small low few =
+    let next : next_timestamp c m ≤ 2 ^ 63 + suc k = bound c m k (next_timestamp c m) low refl in
+    join EventFits (turn_lines x c (suc k) m) (lines_from xs (next_timestamp c m) (suc (suc k)) ms)
+    (turn_lines_fit x c (suc k) m taken.0 (omega (arith, few)) (omega (arith, next, few)) small.0)
+    (lines_fit xs (next_timestamp c m) (suc k) ms taken.1 small.1 next (omega (arith, few)))
+
+stopped_fit : (work : Workload) (xs : List Command) → AllByRecursion ReplyFits (map (not_answered work) xs)
+stopped_fit work [] = tt
+stopped_fit work (x ∷ xs) = (All-nil Fits64, stopped_fit work xs)
+
+-- ---- the output of a session
+
+pub drop_all : {X : Type 0} (xs : List X) (n : ℕ) → length xs ≤ n → drop n xs ≡ []
+drop_all [] zero h = refl
+drop_all [] (suc n) h = refl
+drop_all (x ∷ xs) zero h = absurd (omega arith)
+drop_all (x ∷ xs) (suc n) h = drop_all xs n (omega arith)
+
+-- Lines behind those of the answered commands, which answer nothing.
+pub record IsTail (cells : ℕ) (commands : List Command) (past : Past) (c i : ℕ) (tail : List Event) : Type 0 where
+  pub run : IsRunFrom (workload cells (commands ∷ [])) (at_rest past c i) tail
+  pub quiet : (st : State) (j : ℕ) → told (workload cells (commands ∷ [])) st tail 1 j ≡ None
+  pub fits : AllByRecursion EventFits tail
+
+module _ (cells : ℕ) (roomy : 262144 ≤ cells) (commands : List Command) (taken : AreTaken commands) (few : length commands < 2 ^ 27) (past : Past) (c : ℕ) (rows : Rows) (ends : EndsAt past c rows) (low : c ≤ 2 ^ 63)
+    (done : List ℕ) (p : Progress) (b : Begun commands c rows done p) (tail : List Event) (t : IsTail cells commands (past_from (workload 0 []) commands past c done) p.last (suc (length done)) tail) where
   abbrev work : Workload
   work = workload cells (commands ∷ [])
 
+  abbrev later : Past
+  later = past_from (workload 0 []) commands past c done
+
   abbrev lines : List Event
-  lines = lines_from commands 0 1 rs
+  lines = lines_from commands c 1 done
 
-  runs : IsRun work empty 0 lines
-  runs = all_run cells roomy commands commands empty 0 0 rs refl taken
+  abbrev whole : List Event
+  whole = lines ++ tail
 
-  -- the replies of the history are the session's
-  replies_are : replies_in work lines ≡ replies_from (workload 0 []) commands [] 0 rs ∷ []
-  replies_are =
-      let now = shown_alike work (answer work (end_of work lines).past lines 1) (told work (start work empty 0) lines 1) 1 commands (λ j le. answer_is_told work (start work empty 0) lines 1 j refl runs) in
-      let told_all = all_told cells roomy commands commands empty 0 0 rs [] (λ t le. refl) refl taken each in
-      ap (λ r. r ∷ []) (now ∙ told_all ∙ same_replies cells 0 (commands ∷ []) [] commands [] 0 rs)
+  starts : start work past c ≡ at_rest past c 1
+  starts = ap (λ (a : ℕ). record { past = past; a = a; c = c; flying = []; turns = record { next = 1; look = None } ∷ []; stopped = false }) ends.mark
 
-  pub session_is_output : length commands < 2 ^ 27 → AllByRecursion Fits64 rs → (p : Progress) (text : List ℕ) → p.last ≡ last_from 0 rs → p.events.items ≡ lines → p.replies.items ≡ replies_from (workload 0 []) commands [] 0 rs → text ≡ output_text (p.replies.items ∷ []) p.events.items (last.Numbers 0 p.last 0) → IsOutput work text rs
-  session_is_output few small p text last_is events_are p_replies text_is =
-      let ends = all_end cells roomy commands commands empty 0 0 rs refl taken each in
-      record {
-        events = lines;
-        run = runs;
-        clock = readings_are commands 0 1 rs taken each;
-        fits =
-            let replies = replies_from (workload 0 []) commands [] 0 rs ∷ [] in
-            let with_c = subst (λ (n : ℕ). OutputFits replies lines (last.Numbers 0 n 0)) (sym ends.0) (session_fits commands rs taken few each small) in
-            let with_a = subst (λ (n : ℕ). OutputFits replies lines (last.Numbers n (end_of work lines).c 0)) (sym ends.1) with_c in
-            subst (λ (x : List (List ShownReply)). OutputFits x lines (last.Numbers (end_of work lines).a (end_of work lines).c 0)) (sym replies_are) with_a;
-        answered = subst (AllByRecursion (AllByRecursion (λ (r : ShownReply). IsAnswered r.reply))) (sym replies_are) (all_answer (workload 0 []) commands [] 0 rs taken, tt);
-        printed = text_is ∙ ((λ i. output_text (p_replies i ∷ []) (events_are i) (last.Numbers 0 (last_is i) 0))
-            ∙ sym (λ i. output_text (replies_are i) lines (last.Numbers (ends.1 i) (ends.0 i) 0)));
-      }
+  rests : state_after work (at_rest past c 1) lines ≡ at_rest later p.last (suc (length done))
+  rests =
+      let last_is = sym b.last in
+      let count : 0 + length done ≡ length done = omega arith in
+      all_end cells roomy commands commands past c 0 done refl taken b.few
+      ∙ ap (λ n. at_rest (past_from work commands past c done) (last_from c done) (suc n)) count
+      ∙ (λ i. at_rest (same_pasts cells 0 (commands ∷ []) [] commands past c done i) (last_is i) (suc (length done)))
 
-pub nothing_is_output : (cells : ℕ) (text : List ℕ) → text ≡ output_text [] [] (last.Numbers 0 0 0) → IsOutput (workload cells []) text []
-nothing_is_output cells text text_is = record { events = []; run = tt; clock = refl; fits = record { count = omega arith; replies_fit = All-nil (All ReplyFits); events_fit = All-nil EventFits; end_fits = (omega arith, omega arith, omega arith) }; answered = tt; printed = text_is }
+  runs_rest : IsRunFrom work (at_rest past c 1) whole
+  runs_rest = IsRunFrom-append work (at_rest past c 1) lines tail (all_run cells roomy commands commands past c 0 done refl taken) (subst (λ st. IsRunFrom work st tail) (sym rests) t.run)
 
--- what is spelled is taken
-taken_line : {text : List ℕ} {c : Command} → SpellsCommand text c → IsTaken c
-taken_line (an_insert id text fits plain short) = (_, refl, refl, refl, text, refl, short)
-taken_line a_scan = (refl, refl, refl)
+  pub runs : IsRun work past c whole
+  runs = subst (λ st. IsRunFrom work st whole) (sym starts) runs_rest
 
-taken_lines : {lines : List ℕ} {commands : List Command} → SpellsLines lines commands → AreTaken commands
-taken_lines no_lines = tt
-taken_lines (more first rest) = (taken_line first, taken_lines rest)
+  pub leaves_state : end_of work past c whole ≡ state_after work (at_rest later p.last (suc (length done))) tail
+  leaves_state = ap (λ st. state_after work st whole) starts ∙ state_after-append work (at_rest past c 1) lines tail ∙ ap (λ st. state_after work st tail) rests
 
-no_more : {lines : List ℕ} {commands : List Command} → SpellsLines lines commands → length commands ≤ length lines
-no_more no_lines = omega arith
-no_more (more {text = text} {rest = tail} first rest) = omega (arith, length-append (line text) tail, length-append text (10 ∷ []), no_more rest)
+  abbrev replies : List ShownReply
+  replies = p.replies.items ++ map (not_answered (workload 0 [])) (drop (length done) commands)
 
--- the one session of a plan that is spelled
-abbrev pub IsOne : List (List Command) → List ℕ → Type 0
-IsOne [] text = Unit {0}
-IsOne (commands ∷ plan) text = AreTaken commands × (length commands ≤ length text) × (plan ≡ [])
+  replies_told : replies_in work past c whole ≡ replies ∷ []
+  replies_told =
+      let now = shown_alike work (answer work (past_after work past c whole) whole 1) (told work (start work past c) whole 1) 1 commands (λ j le. answer_is_told work (start work past c) whole 1 j refl runs) in
+      let at_start = ap (λ st. shown_from work (told work st whole 1) 1 commands) starts in
+      let told_all = all_told cells roomy commands tail t.quiet commands past c 0 done rows ends.shows refl taken b.few in
+      let said = ap (λ l. l ++ map (not_answered (workload 0 [])) (drop (length done) commands)) (sym (replies_are commands c rows done p b)) in
+      ap (λ r. r ∷ []) (now ∙ at_start ∙ told_all ∙ (λ i. same_replies cells 0 (commands ∷ []) [] commands rows c done i ++ all_stopped cells 0 (commands ∷ []) [] (drop (length done) commands) i) ∙ said)
 
-is_one : {text : List ℕ} {plan : List (List Command)} → SpellsPlan text plan → IsOne plan text
-is_one no_session = tt
-is_one (one_session {lines = lines} {commands = commands} rest) = (taken_lines rest, omega (arith, length-append (head ++ line (codes "session")) lines, no_more rest), refl)
+  replies_all_fit : AllByRecursion ReplyFits replies
+  replies_all_fit = join ReplyFits p.replies.items (map (not_answered (workload 0 [])) (drop (length done) commands)) b.fits (stopped_fit (workload 0 []) (drop (length done) commands))
 
-pub first_session : (plan : List (List Command)) (commands : List Command) (text : List ℕ) → Spells text plan → slice_get plan 0 ≡ Some commands → AreTaken commands × (length commands < 2 ^ 27) × (plan ≡ commands ∷ [])
-first_session [] commands text spells e = cc
-first_session (x ∷ plan) commands text spells e =
-    let same : x ≡ commands = cc in
-    let one = is_one spells.form in
-    (subst AreTaken same one.0, omega (arith, ap length same, one.1, spells.short), λ i. same i ∷ one.2 i)
+  events_all_fit : AllByRecursion EventFits whole
+  events_all_fit = join EventFits lines tail (lines_fit commands c 0 done taken b.small (omega (arith, low)) (omega (arith, few))) t.fits
+
+  pub is_output : (stopped : Bool) (text : List ℕ) (end : LastLine) → LastFits end → end_line (end_of work past c whole) ≡ end → (end_of work past c whole).stopped ≡ stopped
+      → (stopped ≡ true → (before : List Event) × (whole ≡ before ++ event.Stop ∷ [])) → (stopped ≡ false → length commands ≤ length done)
+      → text ≡ output_text (replies ∷ []) (p.events.items ++ tail) end → IsOutput work past c stopped text (done ++ readings_of tail) whole
+  is_output stopped text end end_fits end_is ended stop all text_is = record {
+    run = runs;
+    clock = readings_are commands c 1 done tail taken b.few;
+    fits =
+        let fit : OutputFits (replies ∷ []) whole end = record { count = omega arith; replies_fit = All-from_recursion (All ReplyFits) (replies ∷ []) (All-from_recursion ReplyFits replies replies_all_fit, tt); events_fit = All-from_recursion EventFits whole events_all_fit; end_fits = end_fits } in
+        let with_end = subst (λ (x : LastLine). OutputFits (replies ∷ []) whole x) (sym end_is) fit in
+        subst (λ (x : List (List ShownReply)). OutputFits x whole (end_line (end_of work past c whole))) (sym replies_told) with_end;
+    ended = ended;
+    stop = stop;
+    answered = λ going.
+        let none_left : drop (length done) commands ≡ [] = drop_all commands (length done) (all going) in
+        let only : replies ≡ p.replies.items = ap (λ l. p.replies.items ++ map (not_answered (workload 0 [])) l) none_left ∙ append-nil p.replies.items in
+        let answers = all_answer (workload 0 []) commands rows c done taken in
+        let said = subst (AllByRecursion (λ (r : ShownReply). IsAnswered r.reply)) (sym (only ∙ replies_are commands c rows done p b)) answers in
+        subst AreAnswered (sym replies_told) (said, tt);
+    printed =
+        let replies_back = sym replies_told in
+        let end_back = sym end_is in
+        text_is ∙ (λ i. output_text (replies_back i) (events_are commands c rows done p b i ++ tail) (end_back i));
+  }
 
 pub history_is_one : one_history
-history_is_one work text r s a b =
-    let same = read_alike (replies_in work a.events) (replies_in work b.events) a.events b.events _ _ a.fits b.fits (sym a.printed ∙ b.printed) in
-    (same.1, sym a.clock ∙ ap readings_of same.1 ∙ b.clock)
+history_is_one work p q c d b e text r s xs ys x y =
+    let same = read_alike (replies_in work p c xs) (replies_in work q d ys) xs ys _ _ x.fits y.fits (sym x.printed ∙ y.printed) in
+    (same.1, sym x.clock ∙ ap readings_of same.1 ∙ y.clock)

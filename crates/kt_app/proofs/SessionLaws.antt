@@ -1,5 +1,5 @@
 -- The commands of one session, one after another, are a run of the machine, with their replies.
-use Rattle.std.proofs.Common.{◌≡◌, ℕ, zero, suc, ◌+◌, ◌-◌, ◌*◌, ◌/◌, ◌<◌, ◌≤◌, List, [], ◌∷◌, ◌++◌, Some, None, Option, refl, true, false, Bool, cond, sym, ap, ◌∙◌, subst, arith, rules, length, drop, max, min, slice_get, ◌&&◌, ◌||◌}
+use Rattle.std.proofs.Common.{◌≡◌, ℕ, zero, suc, ◌+◌, ◌-◌, ◌*◌, ◌/◌, ◌<◌, ◌≤◌, List, [], ◌∷◌, ◌++◌, Some, None, Option, refl, true, false, Bool, cond, sym, ap, ◌∙◌, subst, arith, rules, length, drop, map, append_assoc, max, min, slice_get, ◌&&◌, ◌||◌}
 use Rattle.std.specs.Prelude.{◌==◌, unwrap_or}
 use Rattle.kt_history.specs.declared.reply.Reply.TheVariants as reply
 use Rattle.std.proofs.lemmas.Bool.Decides.{nat_tests}
@@ -16,21 +16,17 @@ use Rattle.kt_history.specs.declared.reply.Reply.{Reply}
 use Rattle.kt_history.specs.Rows.{Rows, changed}
 use Rattle.kt_history.specs.History.{Past, rows_at, with_write}
 use Rattle.kt_history.specs.Operations.{changes_on, outcomes_on, op_len, need}
+use Rattle.kt_app.proofs.PastLaws.{up_to_later, up_to_with, mark_stays}
 use Rattle.kt_history.specs.Machine.{Workload, State, next_timestamp, IsRunFrom, state_after, Allowed, command_at, after}
 use Rattle.kt_script.specs.Form.{workload}
 use Rattle.kt_app.specs.Headline.{kinds_shown, shown_from}
-use Rattle.kt_app.specs.Session.{IsTaken, AreTaken, at_rest, Shows, turn_lines, turn_rows, turn_reply, lines_from, replies_from, last_from}
+use Rattle.kt_app.specs.Session.{IsTaken, AreTaken, at_rest, Shows, EndsAt, turn_lines, turn_rows, turn_reply, turn_past, past_from, lines_from, replies_from, last_from, not_answered}
 
 -- what such a write needs
 small : (op : RowOp) (text : List ℕ) → length op.key ≡ 8 → op.cells ≡ (2, cell.Bytes text) ∷ [] → length text ≤ 65536 → need (op ∷ []) ≤ 262144
 small op text key cells short =
     let len : op_len op ≡ 5 + 8 + (0 + (2 + (5 + length text))) = rw (cells, key) refl in
     rw len (omega (arith, short))
-
--- the past after a turn
-abbrev turn_past : Workload → Command → Past → ℕ → Past
-turn_past work (command.Write w) past ts = with_write past ts (changes_on work.fill (rows_at past (ts - 1)) w.ops)
-turn_past work _ past ts = past
 
 tests : (i t : ℕ) → ((i == i) && (t == t) || false) ≡ true
 tests i t = grind (arith, nat_tests)
@@ -41,6 +37,12 @@ later c m t le = (omega arith, omega arith)
 before : (c m : ℕ) → next_timestamp c m - 1 < next_timestamp c m
 before c m = omega arith
 
+add_none : (k : ℕ) → k + 0 ≡ k
+add_none k = omega arith
+
+add_later : (k n : ℕ) → suc k + n ≡ k + suc n
+add_later k n = omega arith
+
 itself : (n : ℕ) → (n == n) ≡ true
 itself n = grind (arith, nat_tests)
 
@@ -48,6 +50,14 @@ apart : (j n : ℕ) → n < j → (j == n) ≡ false
 apart j n h = grind (arith, nat_tests)
 
 -- replies that are told alike from the i-th on
+-- no reply is told
+none_shown : (work : Workload) (f : ℕ → Option Reply) (i : ℕ) (xs : List Command) → ((j : ℕ) → f j ≡ None) → shown_from work f i xs ≡ map (not_answered work) xs
+none_shown work f i [] none = refl
+none_shown work f i (x ∷ xs) none =
+    let here : f i ≡ None = none i in
+    let rest = none_shown work f (i + 1) xs none in
+    λ n. record { kinds = kinds_shown work x; reply = unwrap_or (here n) reply.Stopped } ∷ rest n
+
 pub shown_alike : (work : Workload) (f g : ℕ → Option Reply) (i : ℕ) (xs : List Command) → ((j : ℕ) → i ≤ j → f j ≡ g j) → shown_from work f i xs ≡ shown_from work g i xs
 shown_alike work f g i [] same = refl
 shown_alike work f g i (x ∷ xs) same =
@@ -55,12 +65,46 @@ shown_alike work f g i (x ∷ xs) same =
     let rest : shown_from work f (i + 1) xs ≡ shown_from work g (i + 1) xs = shown_alike work f g (i + 1) xs (λ j le. same j (omega arith)) in
     λ n. record { kinds = kinds_shown work x; reply = unwrap_or (here n) reply.Stopped } ∷ rest n
 
+-- what is left after k commands
+pub uncons : (k : ℕ) (all : List Command) (x : Command) (xs : List Command) → drop k all ≡ x ∷ xs → (slice_get all k ≡ Some x) × (drop (suc k) all ≡ xs)
+uncons zero [] x xs h = cc
+uncons zero (y ∷ ys) x xs h = (cc, cc)
+uncons (suc k) [] x xs h = cc
+uncons (suc k) (y ∷ ys) x xs h = uncons k ys x xs h
+
+-- a turn, whatever the plan and the pool
+module _ (work : Workload) where
+  -- with the rows of the turn
+  pub turn_shows : (past : Past) (c m : ℕ) (rows : Rows) (x : Command) → Shows past c rows → Shows (turn_past work x past (next_timestamp c m)) (next_timestamp c m) (turn_rows work x rows)
+  turn_shows past c m rows (command.Write w) shows t le =
+      let ts = next_timestamp c m in
+      let lows = later c m t le in
+      let before : rows_at past (ts - 1) ≡ rows = shows (ts - 1) lows.1 in
+      let now : rows_at past t ≡ rows = shows t lows.0 in
+      rows_at-with_write_from past ts (changes_on work.fill (rows_at past (ts - 1)) w.ops) t le
+      ∙ (λ j. changed (changes_on work.fill (before j) w.ops) (now j))
+  turn_shows past c m rows (command.Scan scan) shows t le = shows t (later c m t le).0
+  turn_shows past c m rows (command.Mark t') shows t le = shows t (later c m t le).0
+  turn_shows past c m rows (command.Chore chore) shows t le = shows t (later c m t le).0
+
+  -- and a past that ends there
+  pub turn_ends_at : (past : Past) (c m : ℕ) (rows : Rows) (x : Command) → EndsAt past c rows → EndsAt (turn_past work x past (next_timestamp c m)) (next_timestamp c m) (turn_rows work x rows)
+  turn_ends_at past c m rows (command.Write w) e = record {
+    mark = mark_stays past (next_timestamp c m) (changes_on work.fill (rows_at past (next_timestamp c m - 1)) w.ops) ∙ e.mark;
+    upto = up_to_with past c (next_timestamp c m) (changes_on work.fill (rows_at past (next_timestamp c m - 1)) w.ops) e.upto (omega arith);
+    shows = turn_shows past c m rows (command.Write w) e.shows;
+  }
+  turn_ends_at past c m rows (command.Scan scan) e = record { mark = e.mark; upto = up_to_later c (next_timestamp c m) past.writes (omega arith) e.upto; shows = turn_shows past c m rows (command.Scan scan) e.shows }
+  turn_ends_at past c m rows (command.Mark t) e = record { mark = e.mark; upto = up_to_later c (next_timestamp c m) past.writes (omega arith) e.upto; shows = turn_shows past c m rows (command.Mark t) e.shows }
+  turn_ends_at past c m rows (command.Chore t) e = record { mark = e.mark; upto = up_to_later c (next_timestamp c m) past.writes (omega arith) e.upto; shows = turn_shows past c m rows (command.Chore t) e.shows }
+
+
 module _ (cells : ℕ) (roomy : 262144 ≤ cells) (commands : List Command) where
   abbrev work : Workload
   work = workload cells (commands ∷ [])
 
   -- a turn is allowed
-  turn_runs : (past : Past) (c i m : ℕ) (x : Command) → slice_get commands i ≡ Some x → IsTaken x → IsRunFrom work (at_rest past c (suc i)) (turn_lines x c (suc i) m)
+  pub turn_runs : (past : Past) (c i m : ℕ) (x : Command) → slice_get commands i ≡ Some x → IsTaken x → IsRunFrom work (at_rest past c (suc i)) (turn_lines x c (suc i) m)
   turn_runs past c i m (command.Write w) is taken =
       let room : need w.ops ≤ cells = rw taken.1 (omega (arith, roomy, small taken.0 taken.4 taken.3 taken.5 taken.6)) in
       ((refl, record { next = refl; rests = refl }, rw is (record { room = room; apart = refl; next = refl })), ((refl, tests (suc i) (next_timestamp c m)), tt))
@@ -82,26 +126,6 @@ module _ (cells : ℕ) (roomy : 262144 ≤ cells) (commands : List Command) wher
   turn_ends past c i m (command.Mark t) is taken = absurd taken
   turn_ends past c i m (command.Chore chore) is taken = absurd taken
 
-  -- with the rows of the turn
-  turn_shows : (past : Past) (c m : ℕ) (rows : Rows) (x : Command) → Shows past c rows → Shows (turn_past work x past (next_timestamp c m)) (next_timestamp c m) (turn_rows work x rows)
-  turn_shows past c m rows (command.Write w) shows t le =
-      let ts = next_timestamp c m in
-      let lows = later c m t le in
-      let before : rows_at past (ts - 1) ≡ rows = shows (ts - 1) lows.1 in
-      let now : rows_at past t ≡ rows = shows t lows.0 in
-      rows_at-with_write_from past ts (changes_on work.fill (rows_at past (ts - 1)) w.ops) t le
-      ∙ (λ j. changed (changes_on work.fill (before j) w.ops) (now j))
-  turn_shows past c m rows (command.Scan scan) shows t le = shows t (later c m t le).0
-  turn_shows past c m rows (command.Mark t') shows t le = shows t (later c m t le).0
-  turn_shows past c m rows (command.Chore chore) shows t le = shows t (later c m t le).0
-
-  -- what is left after k commands
-  uncons : (k : ℕ) (all : List Command) (x : Command) (xs : List Command) → drop k all ≡ x ∷ xs → (slice_get all k ≡ Some x) × (drop (suc k) all ≡ xs)
-  uncons zero [] x xs h = cc
-  uncons zero (y ∷ ys) x xs h = (cc, cc)
-  uncons (suc k) [] x xs h = cc
-  uncons (suc k) (y ∷ ys) x xs h = uncons k ys x xs h
-
   -- the lines are a run
   pub all_run : (xs : List Command) (past : Past) (c k : ℕ) (ms : List ℕ) → drop k commands ≡ xs → AreTaken xs → IsRunFrom work (at_rest past c (suc k)) (lines_from xs c (suc k) ms)
   all_run [] past c k ms is taken = tt
@@ -113,18 +137,19 @@ module _ (cells : ℕ) (roomy : 262144 ≤ cells) (commands : List Command) wher
       (turn_runs past c k m x here.0 taken.0)
       (rw (turn_ends past c k m x here.0 taken.0) rest)
 
-  -- the last timestamp and the mark in the end
-  pub all_end : (xs : List Command) (past : Past) (c k : ℕ) (ms : List ℕ) → drop k commands ≡ xs → AreTaken xs → length ms ≡ length xs
-      → ((state_after work (at_rest past c (suc k)) (lines_from xs c (suc k) ms)).c ≡ last_from c ms) × ((state_after work (at_rest past c (suc k)) (lines_from xs c (suc k) ms)).a ≡ 0)
-  all_end [] past c k [] is taken len = (refl, refl)
+  -- and leave this
+  pub all_end : (xs : List Command) (past : Past) (c k : ℕ) (ms : List ℕ) → drop k commands ≡ xs → AreTaken xs → length ms ≤ length xs
+      → state_after work (at_rest past c (suc k)) (lines_from xs c (suc k) ms) ≡ at_rest (past_from work xs past c ms) (last_from c ms) (suc (k + length ms))
+  all_end [] past c k [] is taken len = ap (λ n. at_rest past c (suc n)) (sym (add_none k))
   all_end [] past c k (m ∷ ms) is taken len = absurd (omega arith)
-  all_end (x ∷ xs) past c k [] is taken len = absurd (omega arith)
+  all_end (x ∷ xs) past c k [] is taken len = ap (λ n. at_rest past c (suc n)) (sym (add_none k))
   all_end (x ∷ xs) past c k (m ∷ ms) is taken len =
       let here = uncons k commands x xs is in
-      let rest = all_end xs (turn_past work x past (next_timestamp c m)) (next_timestamp c m) (suc k) ms here.1 taken.1 (omega arith) in
-      let step = state_after-append work (at_rest past c (suc k)) (turn_lines x c (suc k) m) (lines_from xs (next_timestamp c m) (suc (suc k)) ms)
-      ∙ ap (λ st. state_after work st (lines_from xs (next_timestamp c m) (suc (suc k)) ms)) (turn_ends past c k m x here.0 taken.0) in
-      (ap (λ (st : State). st.c) step ∙ rest.0, ap (λ (st : State). st.a) step ∙ rest.1)
+      let ts = next_timestamp c m in
+      state_after-append work (at_rest past c (suc k)) (turn_lines x c (suc k) m) (lines_from xs ts (suc (suc k)) ms)
+      ∙ ap (λ st. state_after work st (lines_from xs ts (suc (suc k)) ms)) (turn_ends past c k m x here.0 taken.0)
+      ∙ all_end xs (turn_past work x past ts) ts (suc k) ms here.1 taken.1 (omega arith)
+      ∙ ap (λ n. at_rest (past_from work (x ∷ xs) past c (m ∷ ms)) (last_from ts ms) (suc n)) (add_later k (length ms))
 
   -- a turn's reply is told
   turn_told : (past : Past) (c k m : ℕ) (rows : Rows) (x : Command) (rest : List Event) → Shows past c rows → slice_get commands k ≡ Some x → IsTaken x
@@ -151,20 +176,25 @@ module _ (cells : ℕ) (roomy : 262144 ≤ cells) (commands : List Command) wher
   turn_passed past c k m j (command.Mark t) rest is taken later = absurd taken
   turn_passed past c k m j (command.Chore chore) rest is taken later = absurd taken
 
-  -- the replies of the session are those that the lines tell
-  pub all_told : (xs : List Command) (past : Past) (c k : ℕ) (ms : List ℕ) (rows : Rows) → Shows past c rows → drop k commands ≡ xs → AreTaken xs → length ms ≡ length xs
-      → shown_from work (told work (at_rest past c (suc k)) (lines_from xs c (suc k) ms) 1) (suc k) xs ≡ replies_from work xs rows c ms
-  all_told [] past c k ms rows shows is taken len = refl
-  all_told (x ∷ xs) past c k [] rows shows is taken len = absurd (omega arith)
-  all_told (x ∷ xs) past c k (m ∷ ms) rows shows is taken len =
+  -- The replies of the session are those that the lines tell, where nothing is told behind them.
+  pub all_told : (tail : List Event) → ((st : State) (j : ℕ) → told work st tail 1 j ≡ None)
+      → (xs : List Command) (past : Past) (c k : ℕ) (ms : List ℕ) (rows : Rows) → Shows past c rows → drop k commands ≡ xs → AreTaken xs → length ms ≤ length xs
+      → shown_from work (told work (at_rest past c (suc k)) (lines_from xs c (suc k) ms ++ tail) 1) (suc k) xs ≡ replies_from work xs rows c ms ++ map (not_answered work) (drop (length ms) xs)
+  all_told tail quiet [] past c k [] rows shows is taken len = refl
+  all_told tail quiet [] past c k (m ∷ ms) rows shows is taken len = absurd (omega arith)
+  all_told tail quiet (x ∷ xs) past c k [] rows shows is taken len = none_shown work _ (suc k) (x ∷ xs) (quiet (at_rest past c (suc k)))
+  all_told tail quiet (x ∷ xs) past c k (m ∷ ms) rows shows is taken len =
       let here = uncons k commands x xs is in
       let ts = next_timestamp c m in
-      let after_lines = lines_from xs ts (suc (suc k)) ms in
+      let after_lines = lines_from xs ts (suc (suc k)) ms ++ tail in
+      let lines = turn_lines x c (suc k) m ++ after_lines in
+      let same_lines : lines_from (x ∷ xs) c (suc k) (m ∷ ms) ++ tail ≡ lines = append_assoc (turn_lines x c (suc k) m) (lines_from xs ts (suc (suc k)) ms) tail in
       let first = turn_told past c k m rows x after_lines shows here.0 taken.0 in
-      let later_ones : (j : ℕ) → suc (suc k) ≤ j → told work (at_rest past c (suc k)) (turn_lines x c (suc k) m ++ after_lines) 1 j ≡ told work (at_rest (turn_past work x past ts) ts (suc (suc k))) after_lines 1 j
+      let later_ones : (j : ℕ) → suc (suc k) ≤ j → told work (at_rest past c (suc k)) lines 1 j ≡ told work (at_rest (turn_past work x past ts) ts (suc (suc k))) after_lines 1 j
       = λ j le. turn_passed past c k m j x after_lines here.0 taken.0 (omega arith) in
       let next : suc k + 1 ≡ suc (suc k) = omega arith in
-      let rest = all_told xs (turn_past work x past ts) ts (suc k) ms (turn_rows work x rows) (turn_shows past c m rows x shows) here.1 taken.1 (omega arith) in
-      let tail = ap (λ n. shown_from work (told work (at_rest past c (suc k)) (turn_lines x c (suc k) m ++ after_lines) 1) n xs) next
+      let rest = all_told tail quiet xs (turn_past work x past ts) ts (suc k) ms (turn_rows work x rows) (turn_shows work past c m rows x shows) here.1 taken.1 (omega arith) in
+      let behind = ap (λ n. shown_from work (told work (at_rest past c (suc k)) lines 1) n xs) next
       ∙ shown_alike work _ _ (suc (suc k)) xs later_ones ∙ rest in
-      λ n. record { kinds = kinds_shown work x; reply = unwrap_or (first n) reply.Stopped } ∷ tail n
+      ap (λ l. shown_from work (told work (at_rest past c (suc k)) l 1) (suc k) (x ∷ xs)) same_lines
+      ∙ (λ n. record { kinds = kinds_shown work x; reply = unwrap_or (first n) reply.Stopped } ∷ behind n)

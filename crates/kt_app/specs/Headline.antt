@@ -1,29 +1,25 @@
 -- What the program prints: the output text of a run of the script.
-use Rattle.std.specs.Prelude.{◌≡◌, ℕ, ◌+◌, List, [], ◌∷◌, Option, Some, None, unwrap_or, map, codes}
-use Rattle.std.specs.List.{AllByRecursion}
-use Rattle.std.specs.Io.KnownBytes.{Appends}
-use Rattle.kt_base.specs.Causes.{Grows}
+use Rattle.std.specs.Prelude.{◌≡◌, ℕ, ◌+◌, ◌≤◌, nat_le, Bool, true, false, if◌then◌else◌, List, [], ◌∷◌, ◌++◌, Option, Some, None, unwrap_or, map, codes}
+use Rattle.std.specs.List.{AllByRecursion, filter}
 use Rattle.kt_base.specs.declared.cell.Kind.{Kind}
 use Rattle.kt_history.specs.declared.command.Command.{Command}
 use Rattle.kt_history.specs.declared.command.Command.TheVariants as command
 use Rattle.kt_history.specs.declared.event.Event.{Event}
+use Rattle.kt_history.specs.declared.event.Event.TheVariants as event
 use Rattle.kt_history.specs.declared.reply.Reply.{Reply}
 use Rattle.kt_history.specs.declared.reply.Reply.TheVariants as reply
 use Rattle.kt_history.specs.History.{Past}
 use Rattle.kt_history.specs.Machine.{Workload, State, IsRun, readings_of, start, state_after}
-use Rattle.kt_history.specs.Replies.{answer, kinds_of}
+use Rattle.kt_history.specs.Replies.{answer, kinds_of, past_after}
 use Rattle.kt_script.specs.declared.lists.ShownReply.{ShownReply}
+use Rattle.kt_script.specs.declared.output.LastLine.{LastLine}
 use Rattle.kt_script.specs.declared.output.LastLine.TheVariants as last
-use Rattle.kt_script.specs.Form.{workload, Spells}
+use Rattle.kt_script.specs.Form.{Spells}
 use Rattle.kt_script.specs.Laws.{OutputFits}
 use Rattle.kt_script.specs.Texts.{output_text}
 
--- a fresh tablet
-abbrev pub empty : Past
-empty = record { mark = 0; base = []; writes = [] }
-
-abbrev pub end_of : Workload → List Event → State
-end_of work events = state_after work (start work empty 0) events
+abbrev pub end_of : Workload → Past → ℕ → List Event → State
+end_of work past c events = state_after work (start work past c) events
 
 -- the kinds of the columns that the rows of a command's reply have
 abbrev pub kinds_shown : Workload → Command → List Kind
@@ -43,8 +39,12 @@ all_shown work f s [] = []
 all_shown work f s (commands ∷ plan) = shown_from work (f s) 1 commands ∷ all_shown work f (s + 1) plan
 
 -- the replies of a history
-abbrev pub replies_in : Workload → List Event → List (List ShownReply)
-replies_in work events = all_shown work (answer work (end_of work events).past events) 1 work.plan
+abbrev pub replies_in : Workload → Past → ℕ → List Event → List (List ShownReply)
+replies_in work past c events = all_shown work (answer work (past_after work past c events) events) 1 work.plan
+
+-- the last line tells how the run ended
+abbrev pub end_line : State → LastLine
+end_line st = if st.stopped then last.Stopped else last.Numbers st.a st.c 0
 
 -- the command was answered
 abbrev pub IsAnswered : Reply → Type 0
@@ -57,29 +57,29 @@ IsAnswered reply.Done = Unit {0}
 IsAnswered (reply.Large n) = Unit {0}
 IsAnswered reply.Stopped = ⊥
 
--- the output text of some run of the workload, in which every command was answered, every number fits in 64 bits, and the
--- clock gave these readings
-pub record IsOutput (work : Workload) (text readings : List ℕ) : Type 0 where
-  pub events : List Event
-  pub run : IsRun work empty 0 events
+abbrev pub AreAnswered : List (List ShownReply) → Type 0
+AreAnswered replies = AllByRecursion (AllByRecursion (λ (r : ShownReply). IsAnswered r.reply)) replies
+
+-- The text is the output text of this run of the workload from a past, in which every number fits in 64 bits and the
+-- clock gave these readings. Its history ends with `stop` where it was stopped, and else every command was answered.
+pub record IsOutput (work : Workload) (past : Past) (c : ℕ) (stopped : Bool) (text readings : List ℕ) (events : List Event) : Type 0 where
+  pub run : IsRun work past c events
   pub clock : readings_of events ≡ readings
-  pub fits : OutputFits (replies_in work events) events (last.Numbers (end_of work events).a (end_of work events).c 0)
-  pub answered : AllByRecursion (AllByRecursion (λ (r : ShownReply). IsAnswered r.reply)) (replies_in work events)
-  pub printed : text ≡ output_text (replies_in work events) events (last.Numbers (end_of work events).a (end_of work events).c 0)
+  pub fits : OutputFits (replies_in work past c events) events (end_line (end_of work past c events))
+  pub ended : (end_of work past c events).stopped ≡ stopped
+  pub stop : stopped ≡ true → (before : List Event) × (events ≡ before ++ event.Stop ∷ [])
+  pub answered : stopped ≡ false → AreAnswered (replies_in work past c events)
+  pub printed : text ≡ output_text (replies_in work past c events) events (end_line (end_of work past c events))
 
--- the text is the output text of a run of these sessions over so many cells, in which the clock gave what it gave since then
-pub record Answers {C : Type 0} (told : C → Option (List ℕ)) (old new : C) (cells : ℕ) (plan : List (List Command)) (text : List ℕ) : Type 0 where
-  pub readings : List ℕ
-  pub given : Grows (told old) (told new) readings
-  pub output : IsOutput (workload cells plan) text readings
+-- the past with its writes up to a timestamp
+abbrev pub upto : ℕ → Past → Past
+upto t past = record past { writes = filter (λ w. nat_le w.ts t) past.writes }
 
--- the text is the output text of a run of the script
-abbrev pub RunsScript : {C : Type 0} → (C → Option (List ℕ)) → C → C → ℕ → List ℕ → List ℕ → Type 0
-RunsScript told old new cells script text = (plan : List (List Command)) × Spells script plan × Answers told old new cells plan text
-
--- what was written is the output text of a run of the script
-abbrev pub PrintsRun : {C : Type 0} → (C → Option (List ℕ)) → C → C → ℕ → Option (List ℕ) → Option (List ℕ) → List ℕ → Type 0
-PrintsRun told old new cells before after script = (text : List ℕ) × RunsScript told old new cells script text × Appends before after text
+-- each acknowledged write, which has an `end` line, is at or below t
+abbrev pub AcknowledgedBy : ℕ → List Event → Type 0
+AcknowledgedBy t [] = Unit {0}
+AcknowledgedBy t (event.End s i ts ∷ events) = (ts ≤ t) × AcknowledgedBy t events
+AcknowledgedBy t (_ ∷ events) = AcknowledgedBy t events
 
 -- the bytes spell a script
 abbrev pub IsScript : List ℕ → Type 0
@@ -93,6 +93,6 @@ IsNoScript text = (plan : List (List Command)) → Spells text plan → ⊥
 abbrev pub AreRun : List (List ℕ) → Type 0
 AreRun words = words ≡ codes "run" ∷ []
 
--- the text of a run has one history: it can be read off the bytes
+-- the text of a run has one history: it can be read off the bytes, whatever past the run began from
 abbrev pub one_history : Type 0
-one_history = (work : Workload) (text r s : List ℕ) (a : IsOutput work text r) (b : IsOutput work text s) → (a.events ≡ b.events) × (r ≡ s)
+one_history = (work : Workload) (p q : Past) (c d : ℕ) (b e : Bool) (text r s : List ℕ) (xs ys : List Event) → IsOutput work p c b text r xs → IsOutput work q d e text s ys → (xs ≡ ys) × (r ≡ s)

@@ -1,5 +1,6 @@
+pub mod Book
+pub mod Crash
 pub mod Headline
 pub mod Outside
-pub mod Places
 pub mod Session
 pub mod Turns

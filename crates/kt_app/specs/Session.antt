@@ -1,5 +1,5 @@
 -- One session alone, its commands one after another.
-use Rattle.std.specs.Prelude.{◌≡◌, ℕ, suc, ◌≤◌, List, [], ◌∷◌, ◌++◌, length, map, None, false}
+use Rattle.std.specs.Prelude.{◌≡◌, ℕ, suc, ◌-◌, ◌≤◌, ◌⊎◌, List, [], ◌∷◌, ◌++◌, length, map, drop, None, false}
 use Rattle.std.specs.List.{AllByRecursion}
 use Rattle.std.specs.Int.{w64}
 use Rattle.kt_base.specs.declared.cell.Cell.{Cell}
@@ -15,11 +15,12 @@ use Rattle.kt_history.specs.declared.event.Event.TheVariants as event
 use Rattle.kt_history.specs.declared.reply.Reply.{Reply}
 use Rattle.kt_history.specs.declared.reply.Reply.TheVariants as reply
 use Rattle.kt_history.specs.Rows.{Rows, Row, changed}
-use Rattle.kt_history.specs.History.{Past, rows_at}
+use Rattle.kt_history.specs.History.{Past, rows_at, with_write, IsUpTo}
 use Rattle.kt_history.specs.Operations.{changes_on, outcomes_on}
 use Rattle.kt_history.specs.Machine.{Workload, State, next_timestamp}
 use Rattle.kt_history.specs.Replies.{shown}
 use Rattle.kt_script.specs.declared.lists.ShownReply.{ShownReply}
+use Rattle.kt_script.specs.Form.{workload}
 use Rattle.kt_app.specs.Headline.{kinds_shown}
 
 -- a command of the form that is taken: a write of one insert, or a scan of the present
@@ -71,6 +72,25 @@ abbrev pub last_from : ℕ → List ℕ → ℕ
 last_from c [] = c
 last_from c (m ∷ readings) = last_from (next_timestamp c m) readings
 
+-- the past that a command leaves, where it is done at ts
+abbrev pub turn_past : Workload → Command → Past → ℕ → Past
+turn_past work (command.Write w) past ts = with_write past ts (changes_on work.fill (rows_at past (ts - 1)) w.ops)
+turn_past work _ past ts = past
+
+-- the past that commands leave, as far as there is a reading for each
+abbrev pub past_from : Workload → List Command → Past → ℕ → List ℕ → Past
+past_from work [] past c readings = past
+past_from work (x ∷ commands) past c [] = past
+past_from work (x ∷ commands) past c (m ∷ readings) = past_from work commands (turn_past work x past (next_timestamp c m)) (next_timestamp c m) readings
+
+-- what is printed for a command that was not answered
+abbrev pub not_answered : Workload → Command → ShownReply
+not_answered work command = record { kinds = kinds_shown work command; reply = reply.Stopped }
+
+-- these replies, and behind them what is printed for the commands that were not answered
+abbrev pub stopped_replies : List Command → List ShownReply → List ShownReply
+stopped_replies commands replies = replies ++ map (not_answered (workload 0 [])) (drop (length replies) commands)
+
 -- nothing flies, and the one session is at its i-th command
 abbrev pub at_rest : Past → ℕ → ℕ → State
 at_rest past c i = record { past = past; a = 0; c = c; flying = []; turns = record { next = i; look = None } ∷ []; stopped = false }
@@ -78,6 +98,12 @@ at_rest past c i = record { past = past; a = 0; c = c; flying = []; turns = reco
 -- from the last timestamp on these are the rows
 abbrev pub Shows : Past → ℕ → Rows → Type 0
 Shows past c rows = (t : ℕ) → c ≤ t → rows_at past t ≡ rows
+
+-- a past from 0 on that ends at c with these rows
+pub record EndsAt (past : Past) (c : ℕ) (rows : Rows) : Type 0 where
+  pub mark : past.mark ≡ 0
+  pub upto : IsUpTo c past.writes
+  pub shows : Shows past c rows
 
 -- a row whose key is a number, with all its cells
 abbrev pub number_row : List ℕ × Row → List Cell

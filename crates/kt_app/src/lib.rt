@@ -1,15 +1,16 @@
 //! The top call: it reads a script, runs its commands and prints what came of them.
 //!
-//! Its contract is what a user relies on: the printed history is a run of the tablet machine, and each reply is
-//! that run's. It stands on kt_script, kt_history and kt_base.
+//! Its contract is what a user relies on: the printed history is a run of the tablet machine from what the log held,
+//! each reply is that run's, and whatever a crash leaves of the log holds every acknowledged write. It stands on kt_boot
+//! and kt_script.
 #![tactic(auto)]
 
 pub mod laws;
+mod log;
+mod rows;
+pub mod run;
 pub mod session;
 pub mod streams;
-pub mod table;
-#[cfg(test)]
-mod tests;
 pub mod top;
 
 pub use top::tablet_main;

@@ -1,25 +1,29 @@
 //! The commands of a session, one after another.
 
-ghost use Rattle.std.specs.Prelude.{◌≡◌, ◌≤◌, ◌<◌, ◌+◌, ◌^◌, [], ◌∷◌, ◌++◌, length, IfOk, OnOk, is_some, map, None, List, ℕ};
-ghost use Rattle.std.specs.Int.{w64};
-ghost use Rattle.kt_base.specs.declared.cell.Cell.TheVariants.{Int};
-ghost use Rattle.kt_base.specs.declared.cell.Kind.TheVariants.{Int64, String};
-ghost use Rattle.kt_base.specs.Keys.{number_of_key};
-ghost use Rattle.kt_base.specs.Causes.{Grows};
+ghost use Rattle.std.specs.Prelude.{◌≡◌, ◌≢◌, ◌≤◌, ◌<◌, ◌+◌, ◌^◌, ◌-◌, [], ◌∷◌, ◌++◌, length, map, IsTrue, Err, IfOk, OnOk, IsErrOf, List, ℕ};
+ghost use Rattle.kt_base.specs.Causes.{Rose, Grows};
+ghost use Rattle.kt_disk.specs.Disk.{Files};
+ghost use Rattle.kt_journal.specs.Log.{records_of, CanOpen};
+ghost use Rattle.kt_history.specs.declared.event.Event.TheVariants.{End};
 ghost use Rattle.kt_history.specs.Machine.{next_timestamp};
-ghost use Rattle.kt_script.specs.Form.{workload, null_cell};
+ghost use Rattle.kt_history.specs.History.{Past};
 ghost use Rattle.kt_history.specs.Rows.{changed};
-ghost use Rattle.kt_history.specs.Operations.{outcomes_on, changes_on};
-ghost use Rattle.kt_app.specs.Turns.{TakesTurn, TakesAll};
-ghost use Rattle.kt_app.specs.Session.{IsTaken, AreTaken, turn_lines, turn_rows, lines_from, replies_from, last_from, number_row, number_rows};
+ghost use Rattle.kt_history.specs.Operations.{effect_on, outcomes_on, changes_on};
+ghost use Rattle.kt_script.specs.Form.{workload, null_cell};
+ghost use Rattle.kt_script.specs.Laws.{Fits64};
+ghost use Rattle.kt_app.specs.Book.{Keeps, AreFramed, commit_on, HoldsPast};
+ghost use Rattle.kt_app.specs.Session.{IsTaken, AreTaken, EndsAt, turn_past, not_answered};
+ghost use Rattle.kt_app.specs.Turns.{TakesTurn, BeginsTurn, EndsTurn, IsWrite, Books, LeavesEither, Answers, Breaks};
 
-use crate::table::Table;
-use kt_base::key::decode_number;
+use crate::log::{Book, append_queue, commit, replicate};
+use crate::rows::{both_kinds, rows_shown};
 use kt_base::limits::READING_MOST;
-use kt_base::{Cell, Cells, Clock, Kind, NoMemory, Octets, Row};
-use kt_history::{
-    Command, Event, OpKind, Outcome, OutcomeList, Reply, RowList, RowOp, Scan, Write,
-};
+use kt_base::{Cell, Cells, Clock, NoMemory};
+use kt_boot::Table;
+use kt_disk::{Disk, Gate, Point};
+use kt_history::{Command, Event, Outcome, OutcomeList, Reply, RowOp, Scan, Write};
+use kt_journal::AppendNo;
+use kt_records::Entry;
 use kt_script::{KindList, ShownReply};
 use std::alloc::Global;
 
@@ -45,76 +49,98 @@ fn timestamp_after(last: u64, reading: u64) -> u64
     if last + 1 < drawn { drawn } else { last + 1 }
 }
 
-fn cells_shown(alloc: Global, number: i64, others: &[(u16, Cell)]) -> Result<Vec<Cell>, NoMemory>
-    ensures { IfOk result (λ shown. shown.items ≡ Int number ∷ map (λ c. c.1) others.now) }
+// The value column is null where nothing is given.
+fn fill(alloc: Global) -> Result<Cells, NoMemory>
+    ensures { IfOk result (λ cells. cells ≡ null_cell) }
 {
-    let mut shown = Vec::new(alloc);
-    shown.push(Cell::Int(number))?;
-    for other in others {
-        shown.push(other.1.copy()?)?;
-    }
-    Ok(shown)
+    Ok(Cells::of(vec![in alloc; (2, Cell::Null)]?))
 }
 
-fn row_shown(alloc: Global, row: &(Octets, Cells)) -> Result<Row, NoMemory>
-    requires { length row.now.0 ≡ 8 }
-    ensures { IfOk result (λ shown. shown ≡ number_row row.now) }
-{
-    let number = decode_number(row.0.as_slice());
-    Ok(Row::of(cells_shown(alloc, number, row.1.as_slice())?))
-}
-
-// The kinds of the two columns.
-fn both_kinds(alloc: Global) -> Result<KindList, NoMemory>
-    ensures { IfOk result (λ kinds. kinds ≡ Int64 ∷ String ∷ []) }
-{
-    Ok(KindList::of(vec![in alloc; Kind::Int64, Kind::String]?))
-}
-
-fn rows_shown(alloc: Global, table: &Table) -> Result<RowList, NoMemory>
-    ensures { IfOk result (λ shown. shown ≡ number_rows table.now) }
-{
-    let mut shown = Vec::new(alloc);
-    for row in table.as_slice() {
-        shown.push(row_shown(alloc, row)?)?;
-    }
-    Ok(RowList::of(shown))
-}
-
-fn apply_insert(table: &mut Table, op: &RowOp) -> Result<Outcome, NoMemory>
-    requires kind { op.now.kind ≡ OpKind.Insert }
-    requires key { length op.now.key ≡ 8 }
+fn apply_op(alloc: Global, table: &mut Table, op: &RowOp) -> Result<Outcome, NoMemory>
     ensures outcome { IfOk result (λ o. outcomes_on null_cell table.old (op.now ∷ []) ≡ o ∷ []) }
     ensures rows { OnOk result (table.new ≡ changed (changes_on null_cell table.old (op.now ∷ [])) table.old) }
 {
-    let key = op.key.copy()?;
-    let cells = op.cells.copy()?;
-    let outcome = table.insert(key, cells)?;
-    Ok(outcome)
+    let fill = fill(alloc)?;
+    table.take(alloc, op, &fill)
 }
 
-fn take_write(
+// The `begin` line of a write, and its REPLICATE.
+fn begin_write(
     alloc: Global,
-    write: &Write,
+    op: &RowOp,
     i: u32,
     m: u64,
+    queue: &mut Vec<Entry>,
     progress: &mut Progress,
 ) -> Result<(), NoMemory>
-    requires taken { IsTaken (Command.Write write.now) }
     requires room { progress.old.last + 1 < 2 ^ 64 }
-    ensures turn { OnOk result (TakesTurn (Command.Write write.now) i m progress.old progress.new) }
+    ensures turn { OnOk result (BeginsTurn i m progress.old progress.new) }
+    ensures queue { OnOk result (queue.new.items ≡ queue.old.items ++ Entry.Replicate (next_timestamp progress.old.last m) (op.now ∷ []) ∷ []) }
 {
     let ts = timestamp_after(progress.last, m);
-    let ops = write.ops.as_slice();
-    let outcome = apply_insert(&mut progress.table, &ops[0])?;
-    let outcomes = OutcomeList::of(vec![in alloc; outcome]?);
+    queue.push(replicate(alloc, op, ts)?)?;
     progress.events.push(Event::Begin { s: 1, i, ts, m })?;
+    progress.last = ts;
+    Ok(())
+}
+
+// Applies a write whose REPLICATE is durable, queues its COMMIT and answers it.
+fn end_write(
+    alloc: Global,
+    op: &RowOp,
+    i: u32,
+    queue: &mut Vec<Entry>,
+    progress: &mut Progress,
+) -> Result<(), NoMemory>
+    ensures turn { OnOk result (EndsTurn (op.now ∷ []) i progress.old progress.new) }
+    ensures queue { OnOk result (queue.new.items ≡ queue.old.items ++ commit_on null_cell progress.old.table progress.old.last (op.now ∷ []) ∷ []) }
+{
+    let ts = progress.last;
+    let outcome = apply_op(alloc, &mut progress.table, op)?;
+    queue.push(commit(alloc, ts, outcome)?)?;
     progress.events.push(Event::End { s: 1, i, ts })?;
+    let outcomes = OutcomeList::of(vec![in alloc; outcome]?);
     progress.replies.push(ShownReply {
         kinds: KindList::of(Vec::new(alloc)),
         reply: Reply::At { ts, outcomes },
     })?;
-    progress.last = ts;
+    Ok(())
+}
+
+// A write: its REPLICATE is durable before it is applied.
+fn take_write<L: Disk, G: Gate>(
+    alloc: Global,
+    write: &Write,
+    i: u32,
+    m: u64,
+    gate: &G,
+    book: &mut Book<L>,
+    progress: &mut Progress,
+) -> Result<(), AppendNo>
+    requires taken { IsTaken (Command.Write write.now) }
+    requires room { progress.old.last + 1 < 2 ^ 64 }
+    requires reading { Fits64 m }
+    requires usable { IsTrue book.old.journal.usable }
+    requires openable { IsTrue L.tells → CanOpen L.now L.leaves book.old.journal.disk }
+    requires framed { AreFramed book.old.queue.items }
+    requires kept { IsTrue L.tells → (past : Past) × EndsAt past progress.old.last progress.old.table × Keeps null_cell (records_of (L.seen book.old.journal.disk)) book.old.queue.items past progress.old.last }
+    ensures turn { OnOk result (TakesTurn (Command.Write write.now) i m progress.old progress.new) }
+    ensures booked { OnOk result (Books L.tells L.seen book.old.journal.disk book.new.journal.disk book.old.queue.items book.new.queue.items (Command.Write write.now) progress.old progress.new) }
+    ensures usable { OnOk result (IsTrue book.new.journal.usable × AreFramed book.new.queue.items) }
+    ensures broken { result ≡ Err AppendNo.Fault → BeginsTurn i m progress.old progress.new
+        × LeavesEither L.tells L.seen L.now L.leaves book.old.journal.disk book.new.journal.disk book.old.queue.items (Command.Write write.now) progress.old progress.new }
+    ensures openable { IsTrue L.tells → CanOpen L.now L.leaves book.new.journal.disk }
+    ensures fault { result ≡ Err AppendNo.Fault → Rose (L.faults book.old.journal.disk) (L.faults book.new.journal.disk) }
+    ensures faults { L.faults book.old.journal.disk ≤ L.faults book.new.journal.disk }
+{
+    let op = &write.ops.as_slice()[0];
+    begin_write(alloc, op, i, m, &mut book.queue, progress)?;
+    gate.at(Point::Begun {
+        session: 1,
+        index: i,
+    });
+    append_queue(alloc, book)?;
+    end_write(alloc, op, i, &mut book.queue, progress)?;
     Ok(())
 }
 
@@ -141,43 +167,100 @@ fn take_scan(
 }
 
 /// Answers the i-th command, at the clock's reading m.
-fn take_turn(
+fn take_turn<L: Disk, G: Gate>(
     alloc: Global,
     command: &Command,
     i: u32,
     m: u64,
+    gate: &G,
+    book: &mut Book<L>,
     progress: &mut Progress,
-) -> Result<(), NoMemory>
+) -> Result<(), AppendNo>
     requires taken { IsTaken command.now }
     requires room { progress.old.last + 1 < 2 ^ 64 }
+    requires reading { Fits64 m }
+    requires usable { IsTrue book.old.journal.usable }
+    requires openable { IsTrue L.tells → CanOpen L.now L.leaves book.old.journal.disk }
+    requires framed { AreFramed book.old.queue.items }
+    requires kept { IsTrue L.tells → (past : Past) × EndsAt past progress.old.last progress.old.table × Keeps null_cell (records_of (L.seen book.old.journal.disk)) book.old.queue.items past progress.old.last }
     ensures turn { OnOk result (TakesTurn command.now i m progress.old progress.new) }
+    ensures booked { OnOk result (Books L.tells L.seen book.old.journal.disk book.new.journal.disk book.old.queue.items book.new.queue.items command.now progress.old progress.new) }
+    ensures usable { OnOk result (IsTrue book.new.journal.usable × AreFramed book.new.queue.items) }
+    ensures broken { result ≡ Err AppendNo.Fault → IsWrite command.now × BeginsTurn i m progress.old progress.new
+        × LeavesEither L.tells L.seen L.now L.leaves book.old.journal.disk book.new.journal.disk book.old.queue.items command.now progress.old progress.new }
+    ensures openable { IsTrue L.tells → CanOpen L.now L.leaves book.new.journal.disk }
+    ensures fault { result ≡ Err AppendNo.Fault → Rose (L.faults book.old.journal.disk) (L.faults book.new.journal.disk) }
+    ensures faults { L.faults book.old.journal.disk ≤ L.faults book.new.journal.disk }
 {
     match command {
-        Command::Write(write) => take_write(alloc, write, i, m, progress),
-        Command::Scan(scan) => take_scan(alloc, scan, i, m, progress),
+        Command::Write(write) => take_write(alloc, write, i, m, gate, book, progress),
+        Command::Scan(scan) => Ok(take_scan(alloc, scan, i, m, progress)?),
         Command::Mark(_) | Command::Chore(_) => Ok(()),
     }
 }
 
-/// Answers the commands in order, each at a reading of the clock.
-pub fn take_all<C: Clock>(
+/// Answers the commands in order, each at a reading of the clock, until a device fails.
+pub fn take_all<L: Disk, C: Clock, G: Gate>(
     alloc: Global,
     commands: &[Command],
     clock: &mut C,
-) -> Result<Progress, NoMemory>
+    gate: &G,
+    book: &mut Book<L>,
+    progress: &mut Progress,
+) -> Result<(), AppendNo>
     requires taken { AreTaken commands.now }
     requires few { length commands.now < 2 ^ 27 }
-    ensures run { IfOk result (λ p. TakesAll commands.now C.readings clock.old clock.new p) }
+    requires fresh { (progress.old.events.items ≡ []) × (progress.old.replies.items ≡ []) × (progress.old.last ≤ 2 ^ 63) }
+    requires usable { IsTrue book.old.journal.usable }
+    requires openable { IsTrue L.tells → CanOpen L.now L.leaves book.old.journal.disk }
+    requires framed { AreFramed book.old.queue.items }
+    requires kept { IsTrue L.tells → (past : Past) × EndsAt past progress.old.last progress.old.table × Keeps null_cell (records_of (L.seen book.old.journal.disk)) book.old.queue.items past progress.old.last }
+    ensures run { OnOk result (Answers C.readings clock.old clock.new L.tells L.seen book.old.journal.disk book.new.journal.disk book.old.queue.items book.new.queue.items commands.now (length commands.now) progress.old progress.new) }
+    ensures usable { OnOk result (IsTrue book.new.journal.usable × AreFramed book.new.queue.items) }
+    ensures broken { result ≡ Err AppendNo.Fault → Breaks C.readings clock.old clock.new L.tells L.seen L.now L.leaves book.old.journal.disk book.new.journal.disk book.old.queue.items commands.now progress.old progress.new }
+    ensures openable { IsTrue L.tells → CanOpen L.now L.leaves book.new.journal.disk }
+    ensures fault { result ≡ Err AppendNo.Fault → Rose (L.faults book.old.journal.disk) (L.faults book.new.journal.disk) }
+    ensures faults { L.faults book.old.journal.disk ≤ L.faults book.new.journal.disk }
 {
-    let mut progress = Progress {
-        table: Table::new(alloc),
-        last: 0,
-        events: Vec::new(alloc),
-        replies: Vec::new(alloc),
-    };
     for (at, command) in commands.iter().enumerate() {
+        let index = at as u32 + 1;
+        gate.at(Point::Before { session: 1, index });
         let m = clock.now();
-        take_turn(alloc, command, at as u32 + 1, m, &mut progress)?;
+        take_turn(alloc, command, index, m, gate, book, progress)?;
+        gate.at(Point::After { session: 1, index });
     }
-    Ok(progress)
+    Ok(())
+}
+
+// What is printed for a command that was not answered.
+fn unanswered(alloc: Global, command: &Command) -> Result<ShownReply, NoMemory>
+    requires { IsTaken command.now }
+    ensures { IfOk result (λ shown. shown ≡ not_answered (workload 0 []) command.now) }
+{
+    let kinds = match command {
+        Command::Scan(_) => both_kinds(alloc)?,
+        _ => KindList::of(Vec::new(alloc)),
+    };
+    Ok(ShownReply {
+        kinds,
+        reply: Reply::Stopped,
+    })
+}
+
+/// Ends a session that a device fault stopped: the `stop` line, and for the commands left that they were stopped.
+pub fn stop(
+    alloc: Global,
+    left: &[Command],
+    events: &mut Vec<Event>,
+    replies: &mut Vec<ShownReply>,
+) -> Result<(), NoMemory>
+    requires taken { AreTaken left.now }
+    ensures events { OnOk result (events.new.items ≡ events.old.items ++ Event.Stop ∷ []) }
+    ensures replies { OnOk result (replies.new.items ≡ replies.old.items ++ map (not_answered (workload 0 [])) left.now) }
+{
+    events.push(Event::Stop)?;
+    for command in left {
+        replies.push(unanswered(alloc, command)?)?;
+    }
+    Ok(())
 }

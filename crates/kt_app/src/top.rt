@@ -1,94 +1,42 @@
-//! The top call: it reads a script, runs its commands and prints what came of them.
+//! The top call: it reads a script, opens the log, runs the commands and prints what came of them.
 
-ghost use Rattle.std.specs.Prelude.{◌≡◌, ◌≢◌, ◌⊎◌, ◌↔◌, IsTrue, ◌^◌, ◌≤◌, ◌<◌, ◌++◌, ◌∷◌, [], length, IfOk, IfSome, Some, OnOk, OnErr, IsErrOf, codes, map, List, ℕ, Option};
+ghost use Rattle.std.specs.Prelude.{◌≡◌, ◌≢◌, ◌⊎◌, ◌↔◌, IsTrue, ◌^◌, ◌≤◌, ◌<◌, ◌++◌, ◌∷◌, [], length, Bool, true, false, Ok, Err, IfOk, IfSome, Some, OnOk, OnErr, IsErrOf, codes, map, List, ℕ, Option};
+ghost use Rattle.std.specs.Fmt.{decimal};
 ghost use Rattle.std.specs.Io.KnownBytes.{Appends};
 ghost use Rattle.kt_base.specs.Causes.{Rose, HasCause, Grows};
-ghost use Rattle.kt_script.specs.Form.{Spells};
-ghost use Rattle.kt_script.specs.Texts.{output_text};
-ghost use Rattle.kt_script.specs.declared.output.LastLine.TheVariants.{Numbers};
-ghost use Rattle.kt_app.specs.Headline.{IsOutput, Answers, RunsScript, PrintsRun, IsScript, IsNoScript, AreRun};
-ghost use Rattle.kt_app.specs.Session.{AreTaken};
+ghost use Rattle.kt_records.specs.declared.entry.Entry.{Entry};
+ghost use Rattle.kt_journal.specs.Log.{log_of, records_of, IsLog, Holds, CanOpen};
+ghost use Rattle.kt_schema.specs.Columns.{fill_of};
+ghost use Rattle.kt_history.specs.History.{Past, rows_at};
+ghost use Rattle.kt_script.specs.Form.{Spells, null_cell};
+ghost use Rattle.kt_boot.specs.Opening.{Found, content, opened};
+ghost use Rattle.kt_app.specs.Headline.{IsScript, IsNoScript, AreRun};
+ghost use Rattle.kt_app.specs.Crash.{Ran, RunsPlan, RunsScript, refusal_text, IsRefusal, LeavesAsBefore};
+ghost use Rattle.kt_app.specs.Book.{Keeps};
+ghost use Rattle.kt_app.specs.Session.{EndsAt};
 ghost use Rattle.kt_app.specs.Outside.{Reads, WritesFront, Gains};
 
-use crate::session::{Progress, take_all};
+use crate::log::Book;
+use crate::run::{Output, run_plan};
+use crate::session::Progress;
 use crate::streams::{MANY, ReadNo, read_all, write_all};
 use kt_base::limits::POOL_CELLS;
-use kt_base::{Clock, NoMemory, Octets, Sink, Source};
-use kt_history::{Command, EventList, Plan};
-use kt_script::{LastLine, ReplyList, ReplyLists, ScriptNo, print_output, read_plan};
+use kt_base::{Clock, Kind, NoMemory, Octets, Sink, Source};
+use kt_boot::{Plain, PlainNo, open_plain};
+use kt_disk::{Disk, Gate};
+use kt_history::Plan;
+use kt_schema::{Column, ColumnList, Schema};
+use kt_script::literal::print_number;
+use kt_script::{ScriptNo, read_plan};
 use std::alloc::Global;
 
-/// Runs the commands of one session, and gives the output text.
-fn run_session<C: Clock>(
-    alloc: Global,
-    commands: &[Command],
-    clock: &mut C,
-) -> Result<Octets, NoMemory>
-    requires taken { AreTaken commands.now }
-    requires few { length commands.now < 2 ^ 27 }
-    ensures { IfOk result (λ text. Answers C.readings clock.old clock.new POOL_CELLS (commands.now ∷ []) text) }
-{
-    let done = take_all(alloc, commands, clock)?;
-    text_of(alloc, done)
-}
-
-// The output of a session that ran alone.
-fn text_of(alloc: Global, done: Progress) -> Result<Octets, NoMemory>
-    ensures { IfOk result (λ text. text ≡ output_text (done.replies.items ∷ []) done.events.items (Numbers 0 done.last 0)) }
-{
-    let Progress {
-        table: _,
-        last,
-        events,
-        replies,
-    } = done;
-    let sessions = ReplyLists::of(vec![in alloc; ReplyList::of(replies)]?);
-    text_with(alloc, &sessions, &EventList::of(events), last)
-}
-
-fn text_with(
-    alloc: Global,
-    sessions: &ReplyLists,
-    events: &EventList,
-    last: u64,
-) -> Result<Octets, NoMemory>
-    ensures { IfOk result (λ text. text ≡ output_text sessions.now events.now (Numbers 0 last 0)) }
-{
-    let mut out = Octets::new(alloc);
-    let last = LastLine::Numbers {
-        a: 0,
-        c: last,
-        rowsets: 0,
-    };
-    print_output(alloc, sessions, events, &last, &mut out)?;
-    Ok(out)
-}
-
-// The output of a script without a session.
-fn nothing_text(alloc: Global) -> Result<Octets, NoMemory>
-    ensures { IfOk result (λ text. text ≡ output_text [] [] (Numbers 0 0 0)) }
-{
-    let sessions = ReplyLists::of(Vec::new(alloc));
-    let events = EventList::of(Vec::new(alloc));
-    text_with(alloc, &sessions, &events, 0)
-}
-
-// Runs a script without a session.
-fn run_nothing<C: Clock>(alloc: Global, clock: &C) -> Result<Octets, NoMemory>
-    ensures { IfOk result (λ text. Answers C.readings clock.now clock.now POOL_CELLS [] text) }
-{
-    nothing_text(alloc)
-}
-
-/// Runs the commands of each session, and gives the output text.
-fn run_plan<C: Clock>(alloc: Global, plan: &Plan, clock: &mut C) -> Result<Octets, NoMemory>
-    requires { (text : List ℕ) × Spells text plan.now }
-    ensures { IfOk result (λ text. Answers C.readings clock.old clock.new POOL_CELLS plan.now text) }
-{
-    match plan.as_slice().first() {
-        None => run_nothing(alloc, clock),
-        Some(session) => run_session(alloc, session.as_slice(), clock),
-    }
+/// What a call of the program ends with: its status, and its devices and its clock.
+#[derive(Drop)]
+pub struct Ended<L, D, C> {
+    pub status: u8,
+    pub log: L,
+    pub store: D,
+    pub clock: C,
 }
 
 /// Why no output text was made.
@@ -149,67 +97,296 @@ fn are_run(words: &[&str]) -> bool
     words.len() == 1 && is_run(words[0])
 }
 
-// Runs a script that was read, and writes its output.
-fn run_and_write<K: Sink, C: Clock>(alloc: Global, plan: &Plan, sink: &mut K, clock: &mut C) -> u8
-    requires { (text : List ℕ) × Spells text plan.now }
-    ensures printed { result ≡ 0 → (text : List ℕ) × Answers C.readings clock.old clock.new POOL_CELLS plan.now text × Appends (K.written sink.old) (K.written sink.new) text }
-    ensures cut { result ≡ 6 → (text : List ℕ) × Answers C.readings clock.old clock.new POOL_CELLS plan.now text × WritesFront (K.written sink.old) (K.written sink.new) text }
-    ensures sink_fault { result ≡ 6 → Rose (K.faults sink.old) (K.faults sink.new) }
-    ensures memory { result ≡ 7 → Appends (K.written sink.old) (K.written sink.new) [] }
-    ensures statuses { (result ≡ 0) ⊎ (result ≡ 6) ⊎ (result ≡ 7) }
+const STOPPED_OPENING: &[u8] = b"stopped opening\n";
+
+// The line of a refusal.
+fn refused_line(alloc: Global, word: &[u8], number: u64) -> Result<Octets, NoMemory>
+    ensures { IfOk result (λ text. text ≡ word.now ++ decimal number ++ 10 ∷ []) }
 {
-    match run_plan(alloc, plan, clock) {
-        Ok(text) => finish(sink, text.as_slice(), 0),
+    let mut text = Octets::from_slice(alloc, word)?;
+    print_number(number, &mut text)?;
+    text.push(b'\n')?;
+    Ok(text)
+}
+
+// Refuses a log whose content is at fault.
+fn refuse_with<K: Sink>(alloc: Global, sink: &mut K, word: &[u8], number: u64) -> u8
+    ensures refused { result ≡ 3 → Appends (K.written sink.old) (K.written sink.new) (word.now ++ decimal number ++ 10 ∷ []) }
+    ensures cut { result ≡ 6 → Rose (K.faults sink.old) (K.faults sink.new) × WritesFront (K.written sink.old) (K.written sink.new) (word.now ++ decimal number ++ 10 ∷ []) }
+    ensures memory { result ≡ 7 → Appends (K.written sink.old) (K.written sink.new) [] }
+    ensures statuses { (result ≡ 3) ⊎ (result ≡ 6) ⊎ (result ≡ 7) }
+{
+    match refused_line(alloc, word, number) {
+        Ok(text) => finish(sink, text.as_slice(), 3),
         Err(NoMemory) => 7,
     }
 }
 
-/// The whole program: the words of its command line, what it reads and writes, and its clock. It answers the status,
-/// and hands the clock back.
-pub fn tablet_main<S: Source, K: Sink, C: Clock>(
+// Writes why a log was not opened.
+fn refuse<K: Sink>(alloc: Global, sink: &mut K, no: PlainNo) -> u8
+    ensures refused { result ≡ 3 → IsRefusal no × Appends (K.written sink.old) (K.written sink.new) (refusal_text no) }
+    ensures fault { result ≡ 4 → (no ≡ PlainNo.Fault) × Appends (K.written sink.old) (K.written sink.new) STOPPED_OPENING.now }
+    ensures cut { result ≡ 6 → Rose (K.faults sink.old) (K.faults sink.new) × WritesFront (K.written sink.old) (K.written sink.new) (refusal_text no) × (no ≢ PlainNo.Memory) }
+    ensures memory { result ≡ 7 → Appends (K.written sink.old) (K.written sink.new) [] }
+    ensures statuses { (result ≡ 3) ⊎ (result ≡ 4) ⊎ (result ≡ 6) ⊎ (result ≡ 7) }
+{
+    match no {
+        PlainNo::B3 { offset } => refuse_with(alloc, sink, b"refused B3 ", offset),
+        PlainNo::B6 { last } => refuse_with(alloc, sink, b"refused B6 ", last),
+        PlainNo::Fault => finish(sink, STOPPED_OPENING, 4),
+        PlainNo::Memory => 7,
+    }
+}
+
+// The columns of the one table that scripts have so far.
+fn columns(alloc: Global) -> Result<ColumnList, NoMemory>
+    ensures { IfOk result (λ columns. fill_of columns ≡ null_cell) }
+{
+    let id = Column {
+        id: 1,
+        name: Octets::from_slice(alloc, b"id")?,
+        kind: Kind::Int64,
+        key: true,
+        nullable: false,
+        default: None,
+    };
+    let v = Column {
+        id: 2,
+        name: Octets::from_slice(alloc, b"v")?,
+        kind: Kind::String,
+        key: false,
+        nullable: false,
+        default: None,
+    };
+    Ok(ColumnList::of(vec![in alloc; id, v]?))
+}
+
+fn schema(alloc: Global) -> Result<Schema, NoMemory>
+    ensures { IfOk result (λ schema. fill_of schema ≡ null_cell) }
+{
+    match Schema::new(alloc, columns(alloc)?) {
+        Ok(schema) => Ok(schema),
+        Err(_) => Err(NoMemory),
+    }
+}
+
+// The status of a run, whose output is written.
+fn write_output<K: Sink>(sink: &mut K, output: &Output) -> u8
+    ensures printed { result ≡ 0 → (output.now.stopped ≡ false) × Appends (K.written sink.old) (K.written sink.new) output.now.text }
+    ensures stopped { result ≡ 4 → (output.now.stopped ≡ true) × Appends (K.written sink.old) (K.written sink.new) output.now.text }
+    ensures cut { result ≡ 6 → Rose (K.faults sink.old) (K.faults sink.new) × WritesFront (K.written sink.old) (K.written sink.new) output.now.text }
+    ensures statuses { (result ≡ 0) ⊎ (result ≡ 4) ⊎ (result ≡ 6) }
+{
+    let status = if output.stopped { 4 } else { 0 };
+    finish(sink, output.text.as_slice(), status)
+}
+
+// Runs a plan over an open log, and writes its output.
+fn run_and_write<K: Sink, L: Disk, C: Clock, G: Gate>(
+    alloc: Global,
+    plan: &Plan,
+    sink: &mut K,
+    clock: &mut C,
+    gate: &G,
+    book: &mut Book<L>,
+    progress: Progress,
+) -> u8
+    requires spelled { (text : List ℕ) × Spells text plan.now }
+    requires fresh { (progress.events.items ≡ []) × (progress.replies.items ≡ []) × (progress.last ≤ 2 ^ 63) }
+    requires usable { IsTrue book.old.journal.usable }
+    requires openable { IsTrue L.tells → CanOpen L.now L.leaves book.old.journal.disk }
+    requires queue { book.old.queue.items ≡ [] }
+    requires ends { (past : Past) × EndsAt past progress.last progress.table × (IsTrue L.tells → Keeps null_cell (records_of (L.seen book.old.journal.disk)) [] past progress.last) }
+    requires durable { IsTrue L.tells → Holds L.now L.leaves book.old.journal.disk (records_of (L.seen book.old.journal.disk)) }
+    ensures printed { result ≡ 0 → (past : Past) → EndsAt past progress.last progress.table → (IsTrue L.tells → Keeps null_cell (records_of (L.seen book.old.journal.disk)) [] past progress.last)
+        → (text : List ℕ) × Ran C.readings clock.old clock.new L.tells L.now L.leaves book.new.journal.disk POOL_CELLS plan.now past progress.last false text × Appends (K.written sink.old) (K.written sink.new) text }
+    ensures stopped { result ≡ 4 → (past : Past) → EndsAt past progress.last progress.table → (IsTrue L.tells → Keeps null_cell (records_of (L.seen book.old.journal.disk)) [] past progress.last)
+        → (text : List ℕ) × Ran C.readings clock.old clock.new L.tells L.now L.leaves book.new.journal.disk POOL_CELLS plan.now past progress.last true text × Appends (K.written sink.old) (K.written sink.new) text }
+    ensures fault { result ≡ 4 → Rose (L.faults book.old.journal.disk) (L.faults book.new.journal.disk) }
+    ensures cut { result ≡ 6 → (past : Past) → EndsAt past progress.last progress.table → (IsTrue L.tells → Keeps null_cell (records_of (L.seen book.old.journal.disk)) [] past progress.last)
+        → (text : List ℕ) × (stopped : Bool) × Ran C.readings clock.old clock.new L.tells L.now L.leaves book.new.journal.disk POOL_CELLS plan.now past progress.last stopped text × WritesFront (K.written sink.old) (K.written sink.new) text }
+    ensures sink_fault { result ≡ 6 → Rose (K.faults sink.old) (K.faults sink.new) }
+    ensures memory { result ≡ 7 → Appends (K.written sink.old) (K.written sink.new) [] }
+    ensures statuses { (result ≡ 0) ⊎ (result ≡ 4) ⊎ (result ≡ 6) ⊎ (result ≡ 7) }
+    ensures openable { IsTrue L.tells → CanOpen L.now L.leaves book.new.journal.disk }
+    ensures faults { L.faults book.old.journal.disk ≤ L.faults book.new.journal.disk }
+{
+    match run_plan(alloc, plan, clock, gate, book, progress) {
+        Ok(output) => write_output(sink, &output),
+        Err(NoMemory) => 7,
+    }
+}
+
+// Runs a plan over a log that was opened, and writes its output.
+fn run_plain<K: Sink, L: Disk, C: Clock, G: Gate>(
+    alloc: Global,
+    plan: &Plan,
+    plain: Plain<L>,
+    sink: &mut K,
+    clock: &mut C,
+    gate: &G,
+) -> (u8, L)
+    requires spelled { (text : List ℕ) × Spells text plan.now }
+    requires sound { (records : List Entry) × IsLog records × (opened null_cell (Ok records) ≡ Ok (record { past = plain.past; last = plain.c })) × (IsTrue L.tells → records_of (L.seen plain.journal.disk) ≡ records) }
+    requires table { plain.table ≡ rows_at plain.past plain.c }
+    requires usable { IsTrue plain.journal.usable }
+    requires openable { IsTrue L.tells → CanOpen L.now L.leaves plain.journal.disk }
+    requires durable { IsTrue L.tells → Holds L.now L.leaves plain.journal.disk (records_of (L.seen plain.journal.disk)) }
+    ensures printed { result.0 ≡ 0 → (text : List ℕ) × Ran C.readings clock.old clock.new L.tells L.now L.leaves result.1 POOL_CELLS plan.now plain.past plain.c false text × Appends (K.written sink.old) (K.written sink.new) text }
+    ensures stopped { result.0 ≡ 4 → (text : List ℕ) × Ran C.readings clock.old clock.new L.tells L.now L.leaves result.1 POOL_CELLS plan.now plain.past plain.c true text × Appends (K.written sink.old) (K.written sink.new) text }
+    ensures fault { result.0 ≡ 4 → Rose (L.faults plain.journal.disk) (L.faults result.1) }
+    ensures cut { result.0 ≡ 6 → (text : List ℕ) × (stopped : Bool) × Ran C.readings clock.old clock.new L.tells L.now L.leaves result.1 POOL_CELLS plan.now plain.past plain.c stopped text × WritesFront (K.written sink.old) (K.written sink.new) text }
+    ensures sink_fault { result.0 ≡ 6 → Rose (K.faults sink.old) (K.faults sink.new) }
+    ensures memory { result.0 ≡ 7 → Appends (K.written sink.old) (K.written sink.new) [] }
+    ensures statuses { (result.0 ≡ 0) ⊎ (result.0 ≡ 4) ⊎ (result.0 ≡ 6) ⊎ (result.0 ≡ 7) }
+    ensures openable { IsTrue L.tells → CanOpen L.now L.leaves result.1 }
+    ensures faults { L.faults plain.journal.disk ≤ L.faults result.1 }
+{
+    let Plain {
+        journal,
+        past: _,
+        table,
+        c,
+    } = plain;
+    let progress = Progress {
+        table,
+        last: c,
+        events: Vec::new(alloc),
+        replies: Vec::new(alloc),
+    };
+    let mut book = Book {
+        journal,
+        queue: Vec::new(alloc),
+    };
+    let status = run_and_write(alloc, plan, sink, clock, gate, &mut book, progress);
+    let Book { journal, queue: _ } = book;
+    (status, journal.into_disk())
+}
+
+// Opens the log, and runs a plan over it.
+fn open_and_run<K: Sink, L: Disk, C: Clock, G: Gate>(
+    alloc: Global,
+    plan: &Plan,
+    log: L,
+    sink: &mut K,
+    clock: &mut C,
+    gate: &G,
+) -> (u8, L)
+    requires spelled { (text : List ℕ) × Spells text plan.now }
+    requires openable { IsTrue L.tells → CanOpen L.now L.leaves log }
+    ensures printed { result.0 ≡ 0 → (text : List ℕ) × RunsPlan C.readings clock.old clock.new L.tells L.seen L.now L.leaves log result.1 POOL_CELLS plan.now false text × Appends (K.written sink.old) (K.written sink.new) text }
+    ensures refused { result.0 ≡ 3 → (no : PlainNo) × IsRefusal no × (IsTrue L.tells → content null_cell (L.seen log) ≡ Err no) × Appends (K.written sink.old) (K.written sink.new) (refusal_text no) }
+    ensures refuses { (no : PlainNo) → IsTrue L.tells → content null_cell (L.seen log) ≡ Err no → (3 ≤ result.0) }
+    ensures stopped { result.0 ≡ 4 → Rose (L.faults log) (L.faults result.1)
+        × (Appends (K.written sink.old) (K.written sink.new) STOPPED_OPENING.now × (clock.new ≡ clock.old) × LeavesAsBefore L.tells L.now L.leaves log result.1
+        ⊎ ((text : List ℕ) × RunsPlan C.readings clock.old clock.new L.tells L.seen L.now L.leaves log result.1 POOL_CELLS plan.now true text × Appends (K.written sink.old) (K.written sink.new) text)) }
+    ensures untouched { result.0 ≡ 3 → (clock.new ≡ clock.old) × LeavesAsBefore L.tells L.now L.leaves log result.1 }
+    ensures sink_fault { result.0 ≡ 6 → Rose (K.faults sink.old) (K.faults sink.new) }
+    ensures cut { result.0 ≡ 6 → (text : List ℕ) × WritesFront (K.written sink.old) (K.written sink.new) text
+        × (((no : PlainNo) × (no ≢ PlainNo.Memory) × (text ≡ refusal_text no))
+        ⊎ ((stopped : Bool) × RunsPlan C.readings clock.old clock.new L.tells L.seen L.now L.leaves log result.1 POOL_CELLS plan.now stopped text)) }
+    ensures memory { result.0 ≡ 7 → Appends (K.written sink.old) (K.written sink.new) [] }
+    ensures statuses { (result.0 ≡ 0) ⊎ (result.0 ≡ 3) ⊎ (result.0 ≡ 4) ⊎ (result.0 ≡ 6) ⊎ (result.0 ≡ 7) }
+    ensures openable { IsTrue L.tells → CanOpen L.now L.leaves result.1 }
+{
+    let schema = match schema(alloc) {
+        Ok(schema) => schema,
+        Err(NoMemory) => return (7, log),
+    };
+    match open_plain(alloc, log, &schema) {
+        Ok(plain) => run_plain(alloc, plan, plain, sink, clock, gate),
+        Err((log, no)) => (refuse(alloc, sink, no), log),
+    }
+}
+
+/// The whole program: the words of its command line, what it reads and writes, its log, its store and its clock. It
+/// answers the status, and hands the devices and the clock back. The store is not used yet.
+pub fn tablet_main<S: Source, K: Sink, L: Disk, D: Disk, C: Clock, G: Gate>(
     alloc: Global,
     words: &[&str],
     source: &mut S,
     sink: &mut K,
+    log: L,
+    store: D,
     mut clock: C,
-) -> (u8, C)
-    // On status 0 what was written is the output text of a run of the script that all bytes of the source spell: each
-    // printed reply is that run's, and the readings in its history are those that the clock gave in this call.
-    ensures printed { result.0 ≡ 0 → IfSome (S.left source.old) (λ script. PrintsRun C.readings clock result.1 POOL_CELLS (K.written sink.old) (K.written sink.new) script) }
+    gate: &G,
+) -> Ended<L, D, C>
+    // Each image that a crash may leave of the log has it, or next to nothing.
+    requires openable { IsTrue L.tells → CanOpen L.now L.leaves log }
+
+    // On status 0 what was written is the output text of a run of the script that all bytes of the source spell, over what
+    // the log held: each printed reply is that run's, the readings in its history are those that the clock gave in this
+    // call, and whatever a crash now leaves of the log holds all its writes.
+    ensures printed { result.status ≡ 0 → IfSome (S.left source.old) (λ script. (text : List ℕ)
+        × RunsScript C.readings clock result.clock L.tells L.seen L.now L.leaves log result.log POOL_CELLS false script text × Appends (K.written sink.old) (K.written sink.new) text) }
+
+    // Status 4 comes only where the log has failed in this call. Either it was not opened, or the same holds of a run that
+    // ends with `stop`, and whatever a crash leaves has the first of its writes, with every one that has an `end` line.
+    ensures stopped { result.status ≡ 4 → Rose (L.faults log) (L.faults result.log)
+        × (Appends (K.written sink.old) (K.written sink.new) STOPPED_OPENING.now × (result.clock ≡ clock) × LeavesAsBefore L.tells L.now L.leaves log result.log
+        ⊎ IfSome (S.left source.old) (λ script. (text : List ℕ)
+        × RunsScript C.readings clock result.clock L.tells L.seen L.now L.leaves log result.log POOL_CELLS true script text × Appends (K.written sink.old) (K.written sink.new) text)) }
 
     // Status 1 comes exactly where the words are not in the form, unless the sink fails.
-    ensures usage { result.0 ≡ 1 → ¬ AreRun (map (λ w. w.now) words.now) × Appends (K.written sink.old) (K.written sink.new) USAGE.now }
-    ensures words { ¬ AreRun (map (λ w. w.now) words.now) → (result.0 ≡ 1) ⊎ (result.0 ≡ 6) }
+    ensures usage { result.status ≡ 1 → ¬ AreRun (map (λ w. w.now) words.now) × Appends (K.written sink.old) (K.written sink.new) USAGE.now }
+    ensures words { ¬ AreRun (map (λ w. w.now) words.now) → (result.status ≡ 1) ⊎ (result.status ≡ 6) }
 
     // Status 2 comes exactly where no script spells the text, unless source, sink or memory fail.
-    ensures not_taken { result.0 ≡ 2 → IfSome (S.left source.old) IsNoScript × Appends (K.written sink.old) (K.written sink.new) NOT_TAKEN.now }
-    ensures no_script { (script : List ℕ) → AreRun (map (λ w. w.now) words.now) → S.left source.old ≡ Some script → IsNoScript script → (result.0 ≡ 2) ⊎ (5 ≤ result.0) }
+    ensures not_taken { result.status ≡ 2 → IfSome (S.left source.old) IsNoScript × Appends (K.written sink.old) (K.written sink.new) NOT_TAKEN.now }
+    ensures no_script { (script : List ℕ) → AreRun (map (λ w. w.now) words.now) → S.left source.old ≡ Some script → IsNoScript script → (result.status ≡ 2) ⊎ (5 ≤ result.status) }
 
-    // Words in the form, a script, and no count that rises: the run is whole, or memory ran out.
-    ensures complete { (script : List ℕ) → AreRun (map (λ w. w.now) words.now) → S.left source.old ≡ Some script → IsScript script
-        → ¬ Rose (S.faults source.old) (S.faults source.new) → ¬ Rose (K.faults sink.old) (K.faults sink.new) → (result.0 ≡ 0) ⊎ (result.0 ≡ 7) }
-    ensures source_fault { result.0 ≡ 5 → Rose (S.faults source.old) (S.faults source.new) × Appends (K.written sink.old) (K.written sink.new) [] }
-    ensures sink_fault { result.0 ≡ 6 → Rose (K.faults sink.old) (K.faults sink.new) }
+    // Status 3 comes exactly where the log's content is refused, unless source, sink, log or memory fail, and tells why.
+    ensures refused { result.status ≡ 3 → (no : PlainNo) × IsRefusal no × (IsTrue L.tells → content null_cell (L.seen log) ≡ Err no)
+        × Appends (K.written sink.old) (K.written sink.new) (refusal_text no) }
+    ensures refuses { (script : List ℕ) (no : PlainNo) → AreRun (map (λ w. w.now) words.now) → S.left source.old ≡ Some script → IsScript script
+        → IsTrue L.tells → content null_cell (L.seen log) ≡ Err no → (3 ≤ result.status) }
 
-    // There a front of one of the three texts was written.
-    ensures cut { result.0 ≡ 6 → (text : List ℕ) × WritesFront (K.written sink.old) (K.written sink.new) text
-        × ((text ≡ USAGE.now) ⊎ (text ≡ NOT_TAKEN.now) ⊎ IfSome (S.left source.old) (λ script. RunsScript C.readings clock result.1 POOL_CELLS script text)) }
-    ensures memory { result.0 ≡ 7 → Appends (K.written sink.old) (K.written sink.new) [] }
+    // Words in the form, a script, a log that is not refused, and no count that rises: the run is whole, or memory ran out.
+    ensures complete { (script : List ℕ) (found : Found) → AreRun (map (λ w. w.now) words.now) → S.left source.old ≡ Some script → IsScript script
+        → IsTrue L.tells → content null_cell (L.seen log) ≡ Ok found
+        → ¬ Rose (S.faults source.old) (S.faults source.new) → ¬ Rose (K.faults sink.old) (K.faults sink.new) → ¬ Rose (L.faults log) (L.faults result.log)
+        → (result.status ≡ 0) ⊎ (result.status ≡ 7) }
+    ensures source_fault { result.status ≡ 5 → Rose (S.faults source.old) (S.faults source.new) × Appends (K.written sink.old) (K.written sink.new) [] }
+    ensures sink_fault { result.status ≡ 6 → Rose (K.faults sink.old) (K.faults sink.new) }
 
-    // The clock is asked only for a script that was read.
-    ensures unasked { (result.0 ≡ 1) ⊎ (result.0 ≡ 2) ⊎ (result.0 ≡ 5) → result.1 ≡ clock }
-    ensures statuses { (result.0 ≤ 2) ⊎ ((5 ≤ result.0) × (result.0 ≤ 7)) }
+    // There a front of one of the texts was written.
+    ensures cut { result.status ≡ 6 → (text : List ℕ) × WritesFront (K.written sink.old) (K.written sink.new) text
+        × (((text ≡ USAGE.now) ⊎ (text ≡ NOT_TAKEN.now)) × (result.log ≡ log) × (result.clock ≡ clock)
+        ⊎ (((no : PlainNo) × (no ≢ PlainNo.Memory) × (text ≡ refusal_text no))
+        ⊎ IfSome (S.left source.old) (λ script. (stopped : Bool) × RunsScript C.readings clock result.clock L.tells L.seen L.now L.leaves log result.log POOL_CELLS stopped script text))) }
+    ensures memory { result.status ≡ 7 → Appends (K.written sink.old) (K.written sink.new) [] }
+
+    // The log and the clock are used only for a script that was read, the clock only over a log that was opened, and the
+    // store not at all. A log that is refused holds what it held.
+    ensures unused { (result.status ≡ 1) ⊎ (result.status ≡ 2) ⊎ (result.status ≡ 5) → (result.log ≡ log) × (result.clock ≡ clock) }
+    ensures untouched { result.status ≡ 3 → (result.clock ≡ clock) × LeavesAsBefore L.tells L.now L.leaves log result.log }
+    ensures store { result.store ≡ store }
+
+    // The log may be opened again, whatever the status.
+    ensures openable { IsTrue L.tells → CanOpen L.now L.leaves result.log }
+    ensures statuses { result.status ≤ 7 }
 {
     if !are_run(words) {
-        return (finish(sink, USAGE, 1), clock);
+        return end_with(finish(sink, USAGE, 1), log, store, clock);
     }
     match take_plan(alloc, source) {
         Ok(plan) => {
-            let status = run_and_write(alloc, &plan, sink, &mut clock);
-            (status, clock)
+            let (status, log) = open_and_run(alloc, &plan, log, sink, &mut clock, gate);
+            end_with(status, log, store, clock)
         }
-        Err(EndNo::NotTaken) => (finish(sink, NOT_TAKEN, 2), clock),
-        Err(EndNo::Failed) => (5, clock),
-        Err(EndNo::Memory) => (7, clock),
+        Err(EndNo::NotTaken) => end_with(finish(sink, NOT_TAKEN, 2), log, store, clock),
+        Err(EndNo::Failed) => end_with(5, log, store, clock),
+        Err(EndNo::Memory) => end_with(7, log, store, clock),
+    }
+}
+
+fn end_with<L, D, C>(status: u8, log: L, store: D, clock: C) -> Ended<L, D, C>
+    ensures { (result.status ≡ status) × (result.log ≡ log) × (result.store ≡ store) × (result.clock ≡ clock) }
+{
+    Ended {
+        status,
+        log,
+        store,
+        clock,
     }
 }
