@@ -321,3 +321,7 @@ pub broken_few : {C L : Type 0} (told : C → Option (List ℕ)) (clock ticked :
     → Breaks told clock ticked tells seen now leaves old new waits commands p q ⊎ Closes told clock ticked tells seen now leaves old new waits commands p q → length q.replies.items ≤ length commands
 broken_few told clock ticked tells seen now leaves old new waits commands p q (inl k) = omega (arith, ap length k.turn.replies, answered_count commands p.last p.table k.done k.middle k.begun, k.begun.few)
 broken_few told clock ticked tells seen now leaves old new waits commands p q (inr k) = omega (arith, answered_count commands p.last p.table k.readings q k.begun, k.begun.few)
+
+pub ran_as : {C L : Type 0} {told : C → Option (List ℕ)} {clock ticked : C} {tells : Bool} {now : L → ℕ} {leaves : L → ℕ → Files → Type 0} {disk : L} {cells : ℕ} {plan : List (List Command)} {past : Past} {c : ℕ} {b d : Bool} {text : List ℕ}
+    → b ≡ d → Ran told clock ticked tells now leaves disk cells plan past c b text → Ran told clock ticked tells now leaves disk cells plan past c d text
+ran_as {told = told} {clock = clock} {ticked = ticked} {tells = tells} {now = now} {leaves = leaves} {disk = disk} {cells = cells} {plan = plan} {past = past} {c = c} {text = text} e r = subst (λ (x : Bool). Ran told clock ticked tells now leaves disk cells plan past c x text) e r
