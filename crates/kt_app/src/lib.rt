@@ -11,6 +11,8 @@ mod rows;
 pub mod run;
 pub mod session;
 pub mod streams;
+#[cfg(test)]
+mod tests;
 pub mod top;
 
 pub use top::tablet_main;

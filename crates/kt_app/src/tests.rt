@@ -37,7 +37,7 @@ fn clock(alloc: Global, first: u64, second: u64) -> Result<MemClock, Fail> {
 }
 
 // The status, what was written, and the log, where a script of these lines is run at these readings.
-fn run<L: Disk>(
+fn run<L: Disk + Drop>(
     alloc: Global,
     lines: &[u8],
     log: L,
@@ -45,7 +45,6 @@ fn run<L: Disk>(
     second: u64,
 ) -> Result<(u8, MemSink, L), Fail>
     requires { IsTrue L.tells → CanOpen L.now L.leaves log }
-    ensures { IfOk result (λ ended. IsTrue L.tells → CanOpen L.now L.leaves ended.2) }
 {
     let mut source = MemSource::of(script(alloc, lines)?, no_calls(alloc));
     let mut sink = room(alloc, no_calls(alloc))?;
@@ -55,13 +54,27 @@ fn run<L: Disk>(
     Ok((ended.status, sink, ended.log))
 }
 
-// An empty disk of which this change fails.
-fn failing(alloc: Global, change: u64) -> Result<FaultDisk<MemDisk>, Fail> {
+// The same over an empty log.
+fn run_fresh(alloc: Global, lines: &[u8], first: u64, second: u64) -> Result<(u8, MemSink), Fail> {
+    let (status, sink, _) = run(alloc, lines, MemDisk::new(alloc), first, second)?;
+    Ok((status, sink))
+}
+
+// The same over a log that nothing was done to yet, at the reading 1.
+fn run_over(alloc: Global, lines: &[u8], log: MemDisk) -> Result<(u8, MemSink, MemDisk), Fail>
+    requires { log.calls ≡ [] }
+{
+    run(alloc, lines, log, 1, 1)
+}
+
+// The same over an empty log of which this change fails.
+fn run_failing(alloc: Global, lines: &[u8], change: u64) -> Result<(u8, MemSink, MemDisk), Fail> {
     let fails = FailList::of(vec![in alloc; DiskFail::Change(change)]?);
-    match FaultDisk::of(alloc, MemDisk::new(alloc), fails) {
-        Ok(disk) => Ok(disk),
-        Err(_) => Err("no memory".into()),
-    }
+    let Ok(log) = FaultDisk::of(alloc, MemDisk::new(alloc), fails) else {
+        return Err("no memory".into());
+    };
+    let (status, sink, log) = run(alloc, lines, log, 1, 2)?;
+    Ok((status, sink, log.into_inner()))
 }
 
 // What a crash at its last moment leaves of a disk.
@@ -75,7 +88,7 @@ fn image(alloc: Global, disk: &MemDisk, pick: &[u8]) -> Result<MemDisk, Fail>
 fn one_insert_and_one_scan(rt: HostRuntime) -> Result<(), Fail> {
     let alloc = rt.alloc();
     let lines = b"session\ninsert 1 \"a\"\nscan now\n";
-    let (status, sink, _) = run(alloc, lines, MemDisk::new(alloc), 1, 2)?;
+    let (status, sink) = run_fresh(alloc, lines, 1, 2)?;
     assert_eq!(rt; status, 0);
     let printed =
         b"session 1\nat 4096 ok\nrows 8192 1\n1 \"a\"\nhistory\nbegin 1 1 4096 1\nend 1 1 4096\nlook 1 2 8192 2\nrows 1 2 8192\ntablet ahm 0 last 8192 rowsets 0\n";
@@ -87,7 +100,7 @@ fn one_insert_and_one_scan(rt: HostRuntime) -> Result<(), Fail> {
 fn the_timestamp_goes_on_where_the_clock_goes_back(rt: HostRuntime) -> Result<(), Fail> {
     let alloc = rt.alloc();
     let lines = b"session\ninsert 1 \"a\"\ninsert 2 \"b\"\n";
-    let (status, sink, _) = run(alloc, lines, MemDisk::new(alloc), 5, 3)?;
+    let (status, sink) = run_fresh(alloc, lines, 5, 3)?;
     assert_eq!(rt; status, 0);
     let printed =
         b"session 1\nat 20480 ok\nat 20481 ok\nhistory\nbegin 1 1 20480 5\nend 1 1 20480\nbegin 1 2 20481 3\nend 1 2 20481\ntablet ahm 0 last 20481 rowsets 0\n";
@@ -99,7 +112,7 @@ fn the_timestamp_goes_on_where_the_clock_goes_back(rt: HostRuntime) -> Result<()
 fn a_key_that_is_there_is_present(rt: HostRuntime) -> Result<(), Fail> {
     let alloc = rt.alloc();
     let lines = b"session\ninsert 1 \"a\"\ninsert 1 \"a\"\n";
-    let (status, sink, _) = run(alloc, lines, MemDisk::new(alloc), 1, 2)?;
+    let (status, sink) = run_fresh(alloc, lines, 1, 2)?;
     assert_eq!(rt; status, 0);
     let printed =
         b"session 1\nat 4096 ok\nat 8192 present\nhistory\nbegin 1 1 4096 1\nend 1 1 4096\nbegin 1 2 8192 2\nend 1 2 8192\ntablet ahm 0 last 8192 rowsets 0\n";
@@ -111,13 +124,14 @@ fn a_key_that_is_there_is_present(rt: HostRuntime) -> Result<(), Fail> {
 fn a_write_without_its_commit_is_found_each_time(rt: HostRuntime) -> Result<(), Fail> {
     let alloc = rt.alloc();
     let lines = b"session\ninsert 1 \"a\"\nscan now\n";
-    let (status, _, log) = run(alloc, lines, failing(alloc, 7)?, 1, 2)?;
+    let (status, _, log) = run_failing(alloc, lines, 7)?;
     assert_eq!(rt; status, 4);
-    let log = image(alloc, &log.into_inner(), &[])?;
-    let (again, sink, log) = run(alloc, b"session\nscan now\n", log, 1, 1)?;
+    let log = image(alloc, &log, &[])?;
+    let (again, sink, log) = run_over(alloc, b"session\nscan now\n", log)?;
     assert_eq!(rt; again, 0);
     assert_eq!(rt; sink.bytes(), ONE_ROW);
-    let (third, sink, _) = run(alloc, b"session\nscan now\n", log, 1, 1)?;
+    let log = image(alloc, &log, &[])?;
+    let (third, sink, _) = run_over(alloc, b"session\nscan now\n", log)?;
     assert_eq!(rt; third, 0);
     assert_eq!(rt; sink.bytes(), ONE_ROW);
     Ok(())
@@ -127,13 +141,13 @@ fn a_write_without_its_commit_is_found_each_time(rt: HostRuntime) -> Result<(), 
 fn a_device_that_fails_stops_the_run(rt: HostRuntime) -> Result<(), Fail> {
     let alloc = rt.alloc();
     let lines = b"session\ninsert 1 \"a\"\ninsert 2 \"b\"\nscan now\n";
-    let (status, sink, log) = run(alloc, lines, failing(alloc, 7)?, 1, 2)?;
+    let (status, sink, log) = run_failing(alloc, lines, 7)?;
     assert_eq!(rt; status, 4);
     let printed =
         b"session 1\nat 4096 ok\nstopped\nstopped\nhistory\nbegin 1 1 4096 1\nend 1 1 4096\nbegin 1 2 8192 2\nstop\ntablet stopped\n";
     assert_eq!(rt; sink.bytes(), printed.as_slice());
-    let log = image(alloc, &log.into_inner(), &[])?;
-    let (again, sink, _) = run(alloc, b"session\nscan now\n", log, 1, 1)?;
+    let log = image(alloc, &log, &[])?;
+    let (again, sink, _) = run_over(alloc, b"session\nscan now\n", log)?;
     assert_eq!(rt; again, 0);
     assert_eq!(rt; sink.bytes(), ONE_ROW);
     Ok(())
@@ -142,7 +156,7 @@ fn a_device_that_fails_stops_the_run(rt: HostRuntime) -> Result<(), Fail> {
 #[test]
 fn a_device_that_fails_at_once_stops_the_opening(rt: HostRuntime) -> Result<(), Fail> {
     let alloc = rt.alloc();
-    let (status, sink, _) = run(alloc, b"session\nscan now\n", failing(alloc, 1)?, 1, 1)?;
+    let (status, sink, _) = run_failing(alloc, b"session\nscan now\n", 1)?;
     assert_eq!(rt; status, 4);
     assert_eq!(rt; sink.bytes(), b"stopped opening\n".as_slice());
     Ok(())
@@ -152,10 +166,10 @@ fn a_device_that_fails_at_once_stops_the_opening(rt: HostRuntime) -> Result<(), 
 fn a_write_cut_in_half_is_not_found(rt: HostRuntime) -> Result<(), Fail> {
     let alloc = rt.alloc();
     let lines = b"session\ninsert 1 \"a\"\ninsert 2 \"b\"\ninsert 3 \"c\"\n";
-    let (status, _, log) = run(alloc, lines, failing(alloc, 12)?, 1, 2)?;
+    let (status, _, log) = run_failing(alloc, lines, 12)?;
     assert_eq!(rt; status, 4);
-    let log = image(alloc, &log.into_inner(), &[2])?;
-    let (again, sink, _) = run(alloc, b"session\nscan now\n", log, 1, 1)?;
+    let log = image(alloc, &log, &[2])?;
+    let (again, sink, _) = run_over(alloc, b"session\nscan now\n", log)?;
     assert_eq!(rt; again, 0);
     let printed =
         b"session 1\nrows 8193 2\n1 \"a\"\n2 \"b\"\nhistory\nlook 1 1 8193 1\nrows 1 1 8193\ntablet ahm 0 last 8193 rowsets 0\n";
@@ -169,7 +183,7 @@ fn a_log_at_fault_is_refused(rt: HostRuntime) -> Result<(), Fail> {
     let bytes = Octets::from_slice(alloc, &[1, 1, 0, 0, 0, 3, 0])?;
     let files = FileBytesList::of(vec![in alloc; FileBytes { file: 1, bytes }]?);
     let log = MemDisk::of(alloc, &files)?;
-    let (status, sink, _) = run(alloc, b"session\nscan now\n", log, 1, 1)?;
+    let (status, sink, _) = run_over(alloc, b"session\nscan now\n", log)?;
     assert_eq!(rt; status, 3);
     assert_eq!(rt; sink.bytes(), b"refused B3 0\n".as_slice());
     Ok(())
@@ -233,7 +247,7 @@ fn a_sink_that_fails_has_nothing(rt: HostRuntime) -> Result<(), Fail> {
 fn a_text_outside_the_form_is_not_taken(rt: HostRuntime) -> Result<(), Fail> {
     let alloc = rt.alloc();
     let lines = b"session\ninsert 01 \"a\"\n";
-    let (status, sink, _) = run(alloc, lines, MemDisk::new(alloc), 1, 2)?;
+    let (status, sink) = run_fresh(alloc, lines, 1, 2)?;
     assert_eq!(rt; status, 2);
     assert_eq!(rt; sink.bytes(), b"script not taken\n".as_slice());
     Ok(())
