@@ -1,14 +1,12 @@
 -- What a write does to the log: its REPLICATE is durable before it is applied, and its COMMIT is queued.
-use Rattle.std.proofs.Common.{◌≡◌, ◌⊎◌, ℕ, suc, ◌+◌, ◌-◌, ◌^◌, ◌<◌, ◌≤◌, max, List, [], ◌∷◌, ◌++◌, Some, None, Option, refl, sym, ap, ◌∙◌, subst, arith, true, false, Bool, cond, length, map, Ok, Err, Result, is_some, append_assoc, length-append, inl, inr, get_or}
+use Rattle.std.proofs.Common.{◌≡◌, ◌⊎◌, ℕ, ◌+◌, ◌-◌, ◌^◌, ◌<◌, ◌≤◌, List, [], ◌∷◌, ◌++◌, Some, None, Option, refl, sym, ap, ◌∙◌, subst, arith, true, cond, length, map, Ok, Result, is_some, append_assoc, length-append, inl, inr, get_or}
 use mathlib.Core.List.{append-nil}
-use Rattle.std.specs.Prelude.{◌==◌, nat_lt, nat_le}
-use Rattle.std.specs.List.{AllByRecursion, flat_map}
+use Rattle.std.specs.Prelude.{◌==◌, nat_lt}
 use Rattle.std.proofs.lemmas.Bool.Decides.{nat_tests}
 use Rattle.std.specs.FinMap.Entries.{find}
 use Rattle.kt_base.specs.declared.cell.Cell.TheVariants as cell
 use Rattle.kt_history.specs.declared.change.Outcome.{Outcome}
 use Rattle.kt_history.specs.declared.change.Outcome.TheVariants.{Done, Present, Absent}
-use Rattle.kt_history.specs.declared.command.Command.{Command}
 use Rattle.kt_history.specs.declared.command.Command.TheVariants as command
 use Rattle.kt_history.specs.declared.operation.OpKind.TheVariants.{Insert}
 use Rattle.kt_history.specs.declared.operation.RowOp.{RowOp}
@@ -17,24 +15,21 @@ use Rattle.kt_history.specs.History.{Past, rows_at, with_write}
 use Rattle.kt_history.specs.Operations.{effect, effect_on, changes_on, outcomes_on, op_len}
 use Rattle.kt_records.specs.declared.entry.Entry.{Entry}
 use Rattle.kt_records.specs.declared.entry.Entry.TheVariants.{Replicate, Commit}
-use Rattle.kt_records.specs.declared.entry.CommitRow.{CommitRow}
-use Rattle.kt_records.specs.Rules.{ReplicateFits, CommitFits, RowFits}
+use Rattle.kt_records.specs.Rules.{ReplicateFits, RowFits}
 use Rattle.kt_history.specs.declared.operation.Write.{Write}
 use Rattle.kt_records.specs.Spelling.{spelling, operation}
 use Rattle.kt_records.proofs.Lengths.{length-operation}
-use Rattle.kt_journal.specs.Order.{last_ts, is_above, is_count, waiting, follows, newest_first, InOrder, IsFramed}
+use Rattle.kt_journal.specs.Order.{last_ts, is_above, is_count, waiting, follows, newest_first, IsFramed}
 use Rattle.kt_journal.specs.Log.{IsLog, log_of, IsOldOrBoth}
 use Rattle.kt_journal.proofs.Framed.{order_push, newest_push}
 use Rattle.kt_disk.specs.Disk.{Files}
 use Rattle.kt_script.specs.Form.{workload, null_cell}
 use Rattle.kt_boot.specs.Replay.{replay, last_of, empty, is_needed}
-use Rattle.kt_boot.specs.Laws.{Tells, nothing, and_one, a_replicate_adds_its_write, a_commit_changes_nothing}
-use Rattle.kt_boot.specs.Opening.{Found, found_or_late}
+use Rattle.kt_boot.specs.Laws.{Tells, nothing, and_one}
 use Rattle.kt_boot.proofs.Replays.{replicate_adds, commit_changes_nothing}
 use Rattle.kt_history.specs.Machine.{next_timestamp}
 use Rattle.kt_app.proofs.PastLaws.{Finds, push}
-use Rattle.kt_app.specs.Crash.{held_in, held_by}
-use Rattle.kt_app.specs.Book.{Keeps, AreFramed, HoldsPast, targets_of, commit_row, commit_on}
+use Rattle.kt_app.specs.Book.{Keeps, AreFramed, HoldsPast, commit_row, commit_on}
 use Rattle.kt_app.specs.Session.{IsTaken, EndsAt, turn_past}
 
 abbrev pub an_ok : List Entry → Result (List Entry) ℕ
@@ -67,11 +62,14 @@ keeps_one : (op : RowOp) (text : List ℕ) (ts : ℕ) → op.kind ≡ Insert →
 keeps_one op text ts kind key cells short fits = record {
   ts = fits;
   count = refl;
-  ops = (record {
-    new_key = refl;
-    key = omega (arith, key);
-    cells = rw (kind, cells) (record { listed = refl; count = omega arith; cells = (record { rising = omega arith; id = omega arith; cell = omega (arith, short) }, tt) });
-  }, tt);
+  ops = (
+    record {
+      new_key = refl;
+      key = omega (arith, key);
+      cells = rw (kind, cells) (record { listed = refl; count = omega arith; cells = (record { rising = omega arith; id = omega arith; cell = omega (arith, short) }, tt) });
+    },
+    tt,
+  );
 }
 
 one_len : (op : RowOp) (text : List ℕ) → length op.key ≡ 8 → op.cells ≡ (2, cell.Bytes text) ∷ [] → length text ≤ 65536 → op_len op ≤ 66000

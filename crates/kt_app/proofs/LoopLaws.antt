@@ -1,6 +1,6 @@
 -- The commands of a session in turn: what they did and what the log holds.
-use Rattle.std.proofs.Common.{◌≡◌, ◌⊎◌, ℕ, suc, ◌+◌, ◌^◌, ◌<◌, ◌≤◌, List, [], ◌∷◌, ◌++◌, Option, Some, refl, sym, ap, ◌∙◌, subst, arith, length, drop, Bool, get_or}
-use Rattle.std.specs.Prelude.{IsTrue, slice_get, Result, Ok, Err, OnOk}
+use Rattle.std.proofs.Common.{◌≡◌, ℕ, suc, ◌+◌, ◌^◌, ◌<◌, ◌≤◌, List, [], ◌∷◌, ◌++◌, Option, refl, sym, ap, ◌∙◌, subst, arith, length, drop, Bool, get_or}
+use Rattle.std.specs.Prelude.{IsTrue, Result, Ok, Err, OnOk}
 use Rattle.kt_base.specs.Causes.{Grows}
 use Rattle.kt_base.proofs.Grows.{grows_none, grows_more}
 use Rattle.kt_disk.specs.Disk.{Files, LeavesOnly}
@@ -8,12 +8,11 @@ use Rattle.kt_records.specs.declared.entry.Entry.{Entry}
 use Rattle.kt_journal.specs.Log.{records_of, Holds, IsOldOrBoth}
 use Rattle.kt_history.specs.declared.command.Command.{Command}
 use Rattle.kt_history.specs.History.{Past}
-use Rattle.kt_history.specs.Machine.{Workload, next_timestamp}
+use Rattle.kt_history.specs.Machine.{next_timestamp}
 use Rattle.kt_script.specs.Form.{workload, null_cell}
 use Rattle.kt_script.specs.Laws.{Fits64}
 use Rattle.kt_app.specs.declared.session.Progress.{Progress}
-use Rattle.kt_app.specs.Session.{EndsAt, past_from, turn_past, turn_rows, last_from}
-use Rattle.kt_app.specs.Book.{Keeps, HoldsPast}
+use Rattle.kt_app.specs.Session.{past_from, turn_past, last_from}
 use Rattle.kt_app.specs.Turns.{TakesTurn, BeginsTurn, IsWrite, Books, LeavesEither, Answers, Breaks, Closes}
 use Rattle.kt_app.proofs.BookLaws.{holds_past, both_hold, an_ok}
 use Rattle.kt_app.proofs.SessionLaws.{turn_ends_at, uncons}

@@ -1,15 +1,13 @@
 -- What one session alone did is what the machine may do, and what is printed of it is the output text.
-use Rattle.std.proofs.Common.{◌≡◌, ℕ, zero, suc, ◌+◌, ◌^◌, ◌<◌, ◌≤◌, List, [], ◌∷◌, ◌++◌, Option, Some, None, refl, sym, ap, ◌∙◌, subst, arith, length, map, append_assoc, drop, cond, Bool, true, false, length-append}
+use Rattle.std.proofs.Common.{◌≡◌, ℕ, zero, suc, ◌+◌, ◌^◌, ◌<◌, ◌≤◌, List, [], ◌∷◌, ◌++◌, None, refl, sym, ap, ◌∙◌, subst, arith, length, map, append_assoc, drop, Bool, true, false}
 use mathlib.Core.List.{append-nil}
 use Rattle.std.specs.List.{AllByRecursion}
-use Rattle.std.specs.Prelude.{unwrap_or, All, slice_get}
+use Rattle.std.specs.Prelude.{All}
 use Rattle.std.proofs.lemmas.List.Elements.{All-nil, All-from_recursion}
 use Rattle.kt_history.specs.declared.command.Command.{Command}
 use Rattle.kt_history.specs.declared.command.Command.TheVariants as command
 use Rattle.kt_history.specs.declared.event.Event.{Event}
 use Rattle.kt_history.specs.declared.event.Event.TheVariants as event
-use Rattle.kt_history.specs.declared.reply.Reply.{Reply}
-use Rattle.kt_history.specs.declared.reply.Reply.TheVariants as reply
 use Rattle.kt_history.specs.Rows.{Rows}
 use Rattle.kt_history.specs.History.{Past}
 use Rattle.kt_history.specs.Machine.{Workload, State, IsRun, IsRunFrom, readings_of, start, state_after, next_timestamp}
@@ -18,12 +16,11 @@ use Rattle.kt_history.proofs.Runs.{answer_is_told, IsRunFrom-append, state_after
 use Rattle.kt_script.specs.Form.{workload}
 use Rattle.kt_script.specs.declared.lists.ShownReply.{ShownReply}
 use Rattle.kt_script.specs.declared.output.LastLine.{LastLine}
-use Rattle.kt_script.specs.declared.output.LastLine.TheVariants as last
 use Rattle.kt_script.specs.Texts.{output_text}
 use Rattle.kt_script.specs.Laws.{Fits64, EventFits, ReplyFits, LastFits, OutputFits}
 use Rattle.kt_script.proofs.Outputs.{read_alike}
 use Rattle.kt_app.specs.declared.session.Progress.{Progress}
-use Rattle.kt_app.specs.Session.{AreTaken, IsTaken, EndsAt, at_rest, turn_lines, turn_rows, turn_reply, turn_shown, turn_past, past_from, lines_from, replies_from, last_from, not_answered, stopped_replies}
+use Rattle.kt_app.specs.Session.{AreTaken, IsTaken, EndsAt, at_rest, turn_lines, turn_rows, turn_reply, turn_shown, turn_past, past_from, lines_from, replies_from, last_from, not_answered}
 use Rattle.kt_app.specs.Turns.{Begun}
 use Rattle.kt_app.specs.Headline.{IsOutput, IsAnswered, shown_from, AreAnswered, end_of, end_line, replies_in, one_history}
 use Rattle.kt_app.proofs.SessionLaws.{all_run, all_end, all_told, shown_alike}

@@ -1,7 +1,6 @@
 -- How a run ends: whole, stopped in an append of a write, or stopped in the last append.
-use Rattle.std.proofs.Common.{◌≡◌, ◌⊎◌, inl, inr, ℕ, zero, suc, ◌+◌, ◌-◌, ◌^◌, ◌<◌, ◌≤◌, List, [], ◌∷◌, ◌++◌, Option, Some, None, Ok, Err, Result, refl, sym, ap, ◌∙◌, subst, arith, length, map, append_assoc, drop, Bool, true, false, cond, length-append}
+use Rattle.std.proofs.Common.{◌≡◌, ◌⊎◌, inl, inr, ℕ, zero, suc, ◌+◌, ◌-◌, ◌^◌, ◌<◌, ◌≤◌, List, [], ◌∷◌, ◌++◌, Option, Some, None, Ok, Result, refl, sym, ap, ◌∙◌, subst, arith, length, map, append_assoc, drop, Bool, true, false, length-append}
 use mathlib.Core.List.{append-nil}
-use Rattle.std.specs.List.{AllByRecursion}
 use Rattle.std.specs.Prelude.{IsTrue, slice_get}
 use Rattle.std.proofs.lemmas.List.Elements.{All-nil}
 use Rattle.kt_base.specs.Causes.{Grows}
@@ -19,7 +18,6 @@ use Rattle.std.specs.Prelude.{codes, All}
 use Rattle.kt_base.proofs.Grows.{grows_none}
 use Rattle.kt_app.proofs.BookLaws.{holds_past}
 use Rattle.kt_script.specs.Form.{workload, null_cell, head, Spells, SpellsPlan, no_session, one_session, SpellsCommand, an_insert, a_scan, SpellsLines, no_lines, more}
-use Rattle.kt_script.specs.declared.lists.ShownReply.{ShownReply}
 use Rattle.kt_script.specs.declared.output.LastLine.TheVariants as last
 use Rattle.kt_script.specs.Texts.{output_text, line}
 use Rattle.kt_script.specs.Laws.{Fits64, EventFits, ReplyFits}
@@ -29,14 +27,14 @@ use Rattle.kt_app.specs.declared.session.Progress.{Progress}
 use Rattle.kt_app.specs.Session.{AreTaken, IsTaken, EndsAt, at_rest, turn_lines, turn_past, past_from, lines_from, last_from, not_answered, stopped_replies}
 use Rattle.kt_app.specs.Turns.{Begun, BeginsTurn, IsWrite, Breaks, Closes}
 use Rattle.kt_app.specs.Book.{HoldsPast, Keeps}
-use Rattle.kt_app.specs.Headline.{IsOutput, AcknowledgedBy, upto, end_of, end_line}
+use Rattle.kt_app.specs.Headline.{IsOutput, AcknowledgedBy, upto, end_line}
 use Rattle.kt_app.specs.Crash.{HoldsAll, HoldsPrefix, held_by, Ran}
-use Rattle.kt_journal.specs.Log.{records_of, Holds, log_of}
+use Rattle.kt_journal.specs.Log.{records_of, Holds}
 use Rattle.kt_records.specs.declared.entry.Entry.{Entry}
 use Rattle.kt_app.proofs.PastLaws.{upto_all, upto_before, up_to_with}
 use Rattle.kt_app.proofs.SessionLaws.{turn_runs}
 use Rattle.kt_app.proofs.TurnLaws.{answered_count, bound}
-use Rattle.kt_app.proofs.OutputLaws.{IsTail, is_output, leaves_state, same_past, four, drop_all}
+use Rattle.kt_app.proofs.OutputLaws.{IsTail, is_output, leaves_state, four, drop_all}
 
 -- ---- the acknowledged writes
 

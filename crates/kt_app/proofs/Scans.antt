@@ -1,11 +1,6 @@
 -- What a scan of everything shows.
-use Rattle.std.proofs.Common.{◌≡◌, ℕ, List, [], ◌∷◌, length, ◌^◌, ◌<◌, arith, Some, None, Option, refl, true, false, cond, sym, ap, ◌∙◌, is_some}
-use Rattle.std.specs.FinMap.Entries.{find, put}
-use Rattle.kt_history.specs.declared.change.Outcome.{Outcome}
-use Rattle.kt_history.specs.declared.change.Outcome.TheVariants.{Done, Present}
-use Rattle.kt_history.specs.declared.operation.OpKind.TheVariants.{Insert}
-use Rattle.kt_history.specs.declared.operation.RowOp.{RowOp}
-use Rattle.std.specs.List.{cons_option, filter}
+use Rattle.std.proofs.Common.{◌≡◌, ℕ, List, [], ◌∷◌, length, ◌^◌, ◌<◌, arith, None, refl, ap}
+use Rattle.std.specs.List.{filter}
 use Rattle.std.proofs.Common.{map}
 use Rattle.kt_base.specs.declared.cell.Kind.TheVariants.{Int64, String}
 use Rattle.kt_history.specs.declared.scan.Scan.{Scan}
@@ -16,8 +11,7 @@ use Rattle.std.proofs.lemmas.List.Elements.{All-from_recursion}
 use Rattle.kt_history.specs.declared.command.Command.TheVariants as command
 use Rattle.kt_script.specs.Laws.{Fits64, ReplyFits}
 use Rattle.kt_app.specs.Session.{number_row, number_rows, turn_shown}
-use Rattle.kt_history.specs.Rows.{Row, Rows, key_cmp, changed}
-use Rattle.kt_history.specs.Operations.{effect, effect_on, keyed, changes_on, outcomes_on}
+use Rattle.kt_history.specs.Rows.{Rows}
 
 -- what a scan of everything shows
 plain : (rows : Rows) → map (selected None) (filter (kept []) (map (whole_row ((1, Int64) ∷ [])) rows)) ≡ number_rows rows

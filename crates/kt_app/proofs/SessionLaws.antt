@@ -1,23 +1,22 @@
 -- The commands of one session, one after another, are a run of the machine, with their replies.
-use Rattle.std.proofs.Common.{◌≡◌, ℕ, zero, suc, ◌+◌, ◌-◌, ◌*◌, ◌/◌, ◌<◌, ◌≤◌, List, [], ◌∷◌, ◌++◌, Some, None, Option, refl, true, false, Bool, cond, sym, ap, ◌∙◌, subst, arith, rules, length, drop, map, append_assoc, max, min, slice_get, ◌&&◌, ◌||◌}
+use Rattle.std.proofs.Common.{◌≡◌, ℕ, zero, suc, ◌+◌, ◌-◌, ◌<◌, ◌≤◌, List, [], ◌∷◌, ◌++◌, Some, None, Option, refl, true, false, sym, ap, ◌∙◌, arith, length, drop, map, append_assoc, max, slice_get, ◌&&◌, ◌||◌}
 use Rattle.std.specs.Prelude.{◌==◌, unwrap_or}
 use Rattle.kt_history.specs.declared.reply.Reply.TheVariants as reply
 use Rattle.std.proofs.lemmas.Bool.Decides.{nat_tests}
 use Rattle.kt_history.proofs.RowLaws.{rows_at-with_write_from, rows_at-with_write_below}
-use Rattle.kt_history.proofs.Runs.{IsRunFrom-append, state_after-append, answer_is_told}
+use Rattle.kt_history.proofs.Runs.{IsRunFrom-append, state_after-append}
 use Rattle.kt_history.specs.Replies.{told, shown}
 use Rattle.kt_base.specs.declared.cell.Cell.TheVariants as cell
 use Rattle.kt_history.specs.declared.command.Command.{Command}
 use Rattle.kt_history.specs.declared.command.Command.TheVariants as command
 use Rattle.kt_history.specs.declared.operation.RowOp.{RowOp}
 use Rattle.kt_history.specs.declared.event.Event.{Event}
-use Rattle.kt_history.specs.declared.event.Event.TheVariants as event
 use Rattle.kt_history.specs.declared.reply.Reply.{Reply}
 use Rattle.kt_history.specs.Rows.{Rows, changed}
-use Rattle.kt_history.specs.History.{Past, rows_at, with_write}
+use Rattle.kt_history.specs.History.{Past, rows_at}
 use Rattle.kt_history.specs.Operations.{changes_on, outcomes_on, op_len, need}
 use Rattle.kt_app.proofs.PastLaws.{up_to_later, up_to_with, mark_stays}
-use Rattle.kt_history.specs.Machine.{Workload, State, next_timestamp, IsRunFrom, state_after, Allowed, command_at, after}
+use Rattle.kt_history.specs.Machine.{Workload, State, next_timestamp, IsRunFrom, state_after}
 use Rattle.kt_script.specs.Form.{workload}
 use Rattle.kt_app.specs.Headline.{kinds_shown, shown_from}
 use Rattle.kt_app.specs.Session.{IsTaken, AreTaken, at_rest, Shows, EndsAt, turn_lines, turn_rows, turn_reply, turn_past, past_from, lines_from, replies_from, last_from, not_answered}
@@ -97,7 +96,6 @@ module _ (work : Workload) where
   turn_ends_at past c m rows (command.Scan scan) e = record { mark = e.mark; upto = up_to_later c (next_timestamp c m) past.writes (omega arith) e.upto; shows = turn_shows past c m rows (command.Scan scan) e.shows }
   turn_ends_at past c m rows (command.Mark t) e = record { mark = e.mark; upto = up_to_later c (next_timestamp c m) past.writes (omega arith) e.upto; shows = turn_shows past c m rows (command.Mark t) e.shows }
   turn_ends_at past c m rows (command.Chore t) e = record { mark = e.mark; upto = up_to_later c (next_timestamp c m) past.writes (omega arith) e.upto; shows = turn_shows past c m rows (command.Chore t) e.shows }
-
 
 module _ (cells : ℕ) (roomy : 262144 ≤ cells) (commands : List Command) where
   abbrev work : Workload

@@ -1,17 +1,15 @@
 -- One turn after another.
-use Rattle.std.proofs.Common.{◌≡◌, ℕ, zero, suc, ◌+◌, ◌*◌, ◌<◌, ◌≤◌, ◌^◌, min, max, List, [], ◌∷◌, ◌++◌, refl, sym, ap, ◌∙◌, subst, arith, length, drop, append_assoc, length-append}
+use Rattle.std.proofs.Common.{◌≡◌, ℕ, suc, ◌+◌, ◌<◌, ◌≤◌, ◌^◌, List, [], ◌∷◌, ◌++◌, refl, sym, ap, ◌∙◌, arith, length, drop, append_assoc, length-append}
 use Rattle.kt_history.specs.declared.command.Command.{Command}
 use Rattle.kt_history.specs.Machine.{Workload, next_timestamp}
-use Rattle.std.specs.List.{AllByRecursion}
 use Rattle.kt_script.specs.Laws.{Fits64, ReplyFits}
 use Rattle.kt_script.specs.Form.{workload}
 use Rattle.kt_app.specs.declared.session.Progress.{Progress}
 use Rattle.kt_app.proofs.PastLaws.{push}
-use Rattle.kt_app.specs.Session.{turn_lines, turn_rows, turn_past, past_from, lines_from, replies_from, last_from}
+use Rattle.kt_app.specs.Session.{turn_rows, turn_past, past_from, lines_from, replies_from, last_from}
 use Rattle.kt_history.specs.History.{Past}
-use Rattle.std.proofs.Common.{get_or, drop-cons, Option}
+use Rattle.std.proofs.Common.{get_or, drop-cons}
 use mathlib.Core.List.{append-nil}
-use Rattle.kt_base.specs.Causes.{Grows}
 use Rattle.kt_history.specs.Rows.{Rows}
 use Rattle.kt_app.specs.Turns.{TakesTurn, Begun}
 

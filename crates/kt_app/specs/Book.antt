@@ -1,5 +1,5 @@
 -- The log of a run: what its records hold, and what becomes of one write.
-use Rattle.std.specs.Prelude.{◌≡◌, ℕ, ◌≤◌, ◌<◌, ◌⊎◌, List, [], ◌∷◌, ◌++◌, map, Result, Ok}
+use Rattle.std.specs.Prelude.{◌≡◌, ℕ, ◌≤◌, List, [], ◌∷◌, ◌++◌, map, Ok}
 use Rattle.std.specs.List.{AllByRecursion}
 use Rattle.kt_history.specs.declared.change.Outcome.{Outcome}
 use Rattle.kt_history.specs.declared.change.Outcome.TheVariants.{Done, Present, Absent}
@@ -10,13 +10,12 @@ use Rattle.kt_history.specs.Rows.{Row, Rows}
 use Rattle.kt_history.specs.History.{Past}
 use Rattle.kt_history.specs.Operations.{outcomes_on}
 use Rattle.kt_records.specs.declared.entry.Entry.{Entry}
-use Rattle.kt_records.specs.declared.entry.Entry.TheVariants.{Replicate, Commit}
+use Rattle.kt_records.specs.declared.entry.Entry.TheVariants.{Commit}
 use Rattle.kt_records.specs.declared.entry.CommitRow.{CommitRow}
 use Rattle.kt_journal.specs.Order.{IsFramed}
-use Rattle.kt_journal.specs.Log.{IsLog, log_of}
+use Rattle.kt_journal.specs.Log.{IsLog}
 use Rattle.kt_disk.specs.Disk.{Files}
 use Rattle.kt_boot.specs.Replay.{replay, last_of, empty}
-use Rattle.kt_boot.specs.Opening.{Found}
 use Rattle.kt_app.specs.Crash.{held_by}
 
 -- an operation that is done changes the one store in memory

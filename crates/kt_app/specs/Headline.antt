@@ -1,5 +1,5 @@
 -- What the program prints: the output text of a run of the script.
-use Rattle.std.specs.Prelude.{◌≡◌, ℕ, ◌+◌, ◌≤◌, nat_le, Bool, true, false, if◌then◌else◌, List, [], ◌∷◌, ◌++◌, Option, Some, None, unwrap_or, map, codes}
+use Rattle.std.specs.Prelude.{◌≡◌, ℕ, ◌+◌, ◌≤◌, nat_le, Bool, true, false, if◌then◌else◌, List, [], ◌∷◌, ◌++◌, Option, unwrap_or, codes}
 use Rattle.std.specs.List.{AllByRecursion, filter}
 use Rattle.kt_base.specs.declared.cell.Kind.{Kind}
 use Rattle.kt_history.specs.declared.command.Command.{Command}

@@ -4,7 +4,6 @@ use Rattle.kt_base.specs.Causes.{Grows}
 use Rattle.kt_history.specs.declared.command.Command.{Command}
 use Rattle.kt_history.specs.declared.command.Command.TheVariants as command
 use Rattle.kt_history.specs.declared.event.Event.TheVariants as event
-use Rattle.kt_history.specs.declared.event.Event.{Event}
 use Rattle.kt_history.specs.declared.operation.RowOp.{RowOp}
 use Rattle.kt_history.specs.declared.reply.Reply.TheVariants as reply
 use Rattle.kt_history.specs.Rows.{Rows, changed}

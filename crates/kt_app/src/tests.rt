@@ -50,7 +50,16 @@ fn run<L: Disk + Drop>(
     let mut sink = room(alloc, no_calls(alloc))?;
     let clock = clock(alloc, first, second)?;
     let store = MemDisk::new(alloc);
-    let ended = tablet_main(alloc, &["run"], &mut source, &mut sink, log, store, clock, &PassGate);
+    let ended = tablet_main(
+        alloc,
+        &["run"],
+        &mut source,
+        &mut sink,
+        log,
+        store,
+        clock,
+        &PassGate,
+    );
     Ok((ended.status, sink, ended.log))
 }
 
@@ -201,7 +210,16 @@ fn status_with(
     let clock = clock(alloc, 1, 2)?;
     let log = MemDisk::new(alloc);
     let store = MemDisk::new(alloc);
-    let ended = tablet_main(alloc, words, &mut source, &mut sink, log, store, clock, &PassGate);
+    let ended = tablet_main(
+        alloc,
+        words,
+        &mut source,
+        &mut sink,
+        log,
+        store,
+        clock,
+        &PassGate,
+    );
     Ok((ended.status, sink))
 }
 

@@ -1,5 +1,3 @@
-use Rattle.kt_app.proofs.RunLaws.{stopped_held}
-use Rattle.kt_app.proofs.LoopLaws.{answers_step}
 use Rattle.kt_app.proofs.OutputLaws.{history_is_one}
 use Rattle.kt_app.proofs.laws.history_law.Goals as goal
 

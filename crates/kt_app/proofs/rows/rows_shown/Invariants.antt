@@ -1,4 +1,4 @@
-use Rattle.std.proofs.Common.{◌≡◌, ◌++◌, map, take}
+use Rattle.std.proofs.Common.{◌≡◌, ◌++◌}
 use Rattle.kt_app.specs.Session.{number_rows}
 use Rattle.kt_app.proofs.rows.rows_shown.Given as goal
 

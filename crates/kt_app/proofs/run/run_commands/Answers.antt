@@ -1,4 +1,4 @@
-use Rattle.std.proofs.Common.{arith, refl, inl, inr}
+use Rattle.std.proofs.Common.{inr}
 use Rattle.kt_app.proofs.LoopLaws.{closes_ok, closes_fault, on_ok}
 use Rattle.kt_app.proofs.run.run_commands.Goals as goal
 

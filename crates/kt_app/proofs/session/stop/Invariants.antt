@@ -1,6 +1,6 @@
 use Rattle.std.proofs.Common.{◌≡◌, ◌++◌, [], map, take}
 use Rattle.kt_script.specs.Form.{workload}
-use Rattle.kt_app.specs.Session.{AreTaken, not_answered}
+use Rattle.kt_app.specs.Session.{not_answered}
 use Rattle.kt_app.proofs.session.stop.Given as goal
 
 abbrev pub invariant-loop-command : goal.invariant-loop-command

@@ -1,5 +1,5 @@
-use Rattle.std.proofs.Common.{arith, refl}
-use Rattle.kt_app.proofs.BookLaws.{in_order, turn_keeps, turn_either, queue_framed, commit_is_framed}
+use Rattle.std.proofs.Common.{arith}
+use Rattle.kt_app.proofs.BookLaws.{in_order, turn_keeps, turn_either}
 use Rattle.kt_app.proofs.session.take_write.Goals as goal
 
 pub append_queue-requires-clause-in_order : goal.append_queue-requires-clause-in_order
@@ -8,10 +8,13 @@ append_queue-requires-clause-in_order g c = λ tells.
     in_order c.args.write.now c.as_slice.result.now c.index-as_slice-0.result c.requires.taken c.as_slice.ensures c.index-as_slice-0.is c.args.progress.now.last c.args.m c.requires.room _ _ k.0 _ k.2 k.1 _ c.in_ok-begin_write.ensures.queue
 
 pub returns-in_err-append_queue-clause-broken : goal.returns-in_err-append_queue-clause-broken
-returns-in_err-append_queue-clause-broken g c = λ _. (c.in_ok-begin_write.ensures.turn, λ tells past ends keeps image left.
-    let moment = c.in_err-append_queue.ensures.any_moment tells in
-    turn_either c.args.write.now c.as_slice.result.now c.index-as_slice-0.result c.requires.taken c.as_slice.ensures c.index-as_slice-0.is c.args.progress.now.last c.args.m c.requires.room _ _ past _ keeps ends _ c.in_ok-begin_write.ensures.queue
-    image _ c.in_ok-begin_write.ensures.turn.last (moment.each _ image moment.later (omega arith) left))
+returns-in_err-append_queue-clause-broken g c = λ _. (
+  c.in_ok-begin_write.ensures.turn,
+  λ tells past ends keeps image left.
+      let moment = c.in_err-append_queue.ensures.any_moment tells in
+      turn_either c.args.write.now c.as_slice.result.now c.index-as_slice-0.result c.requires.taken c.as_slice.ensures c.index-as_slice-0.is c.args.progress.now.last c.args.m c.requires.room _ _ past _ keeps ends _ c.in_ok-begin_write.ensures.queue
+      image _ c.in_ok-begin_write.ensures.turn.last (moment.each _ image moment.later (omega arith) left),
+)
 
 pub returns-clause-booked : goal.returns-clause-booked
 returns-clause-booked g c = λ tells past ends keeps.

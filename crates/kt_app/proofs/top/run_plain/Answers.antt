@@ -1,4 +1,4 @@
-use Rattle.std.proofs.Common.{arith, refl, sym, subst, []}
+use Rattle.std.proofs.Common.{arith, sym, subst, []}
 use Rattle.kt_script.specs.Form.{null_cell}
 use Rattle.kt_app.specs.Book.{Keeps}
 use Rattle.kt_app.proofs.PastLaws.{opened_finds, finds_ends}
@@ -14,30 +14,32 @@ run_and_write-status-requires-clause-fresh g c =
 pub run_and_write-status-requires-clause-ends : goal.run_and_write-status-requires-clause-ends
 run_and_write-status-requires-clause-ends g c =
     let s = c.requires.sound in
-    let found = opened_finds null_cell s.0 c.args.plain.past c.args.plain.c s.2 in
-    (c.args.plain.past, finds_ends null_cell s.0 c.args.plain.past c.args.plain.c c.args.plain.table found c.requires.table,
-      λ t. subst (λ r. Keeps null_cell r [] c.args.plain.past c.args.plain.c) (sym (s.3 t)) (opened_keeps s.0 c.args.plain.past c.args.plain.c s.1 found))
+    let found = opened_finds null_cell s.0 c.args.plain.past c.args.plain.c s.2 in (
+      c.args.plain.past,
+      finds_ends null_cell s.0 c.args.plain.past c.args.plain.c c.args.plain.table found c.requires.table,
+      λ t. subst (λ r. Keeps null_cell r [] c.args.plain.past c.args.plain.c) (sym (s.3 t)) (opened_keeps s.0 c.args.plain.past c.args.plain.c s.1 found),
+    )
 
 pub returns-clause-printed : goal.returns-clause-printed
 returns-clause-printed g c = λ e.
     let s = c.requires.sound in
     let found = opened_finds null_cell s.0 c.args.plain.past c.args.plain.c s.2 in
     rw c.into_disk.ensures (c.run_and_write-status.ensures.printed e c.args.plain.past (finds_ends null_cell s.0 c.args.plain.past c.args.plain.c c.args.plain.table found c.requires.table)
-      (λ t. subst (λ r. Keeps null_cell r [] c.args.plain.past c.args.plain.c) (sym (s.3 t)) (opened_keeps s.0 c.args.plain.past c.args.plain.c s.1 found)))
+    (λ t. subst (λ r. Keeps null_cell r [] c.args.plain.past c.args.plain.c) (sym (s.3 t)) (opened_keeps s.0 c.args.plain.past c.args.plain.c s.1 found)))
 
 pub returns-clause-stopped : goal.returns-clause-stopped
 returns-clause-stopped g c = λ e.
     let s = c.requires.sound in
     let found = opened_finds null_cell s.0 c.args.plain.past c.args.plain.c s.2 in
     rw c.into_disk.ensures (c.run_and_write-status.ensures.stopped e c.args.plain.past (finds_ends null_cell s.0 c.args.plain.past c.args.plain.c c.args.plain.table found c.requires.table)
-      (λ t. subst (λ r. Keeps null_cell r [] c.args.plain.past c.args.plain.c) (sym (s.3 t)) (opened_keeps s.0 c.args.plain.past c.args.plain.c s.1 found)))
+    (λ t. subst (λ r. Keeps null_cell r [] c.args.plain.past c.args.plain.c) (sym (s.3 t)) (opened_keeps s.0 c.args.plain.past c.args.plain.c s.1 found)))
 
 pub returns-clause-cut : goal.returns-clause-cut
 returns-clause-cut g c = λ e.
     let s = c.requires.sound in
     let found = opened_finds null_cell s.0 c.args.plain.past c.args.plain.c s.2 in
     rw c.into_disk.ensures (c.run_and_write-status.ensures.cut e c.args.plain.past (finds_ends null_cell s.0 c.args.plain.past c.args.plain.c c.args.plain.table found c.requires.table)
-      (λ t. subst (λ r. Keeps null_cell r [] c.args.plain.past c.args.plain.c) (sym (s.3 t)) (opened_keeps s.0 c.args.plain.past c.args.plain.c s.1 found)))
+    (λ t. subst (λ r. Keeps null_cell r [] c.args.plain.past c.args.plain.c) (sym (s.3 t)) (opened_keeps s.0 c.args.plain.past c.args.plain.c s.1 found)))
 
 pub returns-clause-openable : goal.returns-clause-openable
 returns-clause-openable g c = rw c.into_disk.ensures c.run_and_write-status.ensures.openable
