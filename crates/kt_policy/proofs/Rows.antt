@@ -6,17 +6,9 @@ use Rattle.std.proofs.lemmas.Bool.{cases_lt}
 use Rattle.kt_policy.specs.declared.candidate.Candidate.{Candidate}
 use Rattle.kt_policy.specs.Gain.{IsCandidate, AreCandidates}
 use Rattle.kt_policy.specs.Sums.{IsMost, IsRow, IsPart}
-use Rattle.kt_policy.specs.Steps.{with_more, IsNext}
+use Rattle.kt_policy.specs.Steps.{IsNext}
 use Rattle.kt_policy.proofs.Sets.{In, Absent, in_take, in_from_all, absent_from, place_in}
 use Rattle.kt_policy.proofs.Greatest.{most_of_none, most_once, row_more, next_from_row, row_small}
-
--- a row that is made entry by entry
-pub sums_push : (c : Candidate) (row next : List ℕ) (b v : ℕ) → length next ≡ b → ((k : ℕ) → k < b → get_or next k 0 ≡ with_more c row k) → v ≡ with_more c row b
-    → (k : ℕ) → k < b + 1 → get_or (next ++ v ∷ []) k 0 ≡ with_more c row k
-sums_push c row next b v count sums is k lt = elim (cases_lt k b) [
-  | inl below ↦ get_or_append_left next (v ∷ []) 0 k (omega (arith, count)) ∙ sums k below
-  | inr from ↦ let e : b ≡ k = omega arith in get_or_push next v 0 k (count ∙ e) ∙ is ∙ ap (with_more c row) e
-]
 
 -- the row of no candidates
 pub first_row : (budget : ℕ) (row : List ℕ) → length row ≡ budget + 1 → ((k : ℕ) → k < length row → get_or row k 0 ≡ 0) → IsRow [] budget row

@@ -31,9 +31,11 @@ fn next_row(alloc: Global, candidate: &Candidate, row: &[u32]) -> Result<Vec<u32
     requires small { All (λ n. n < 2 ^ 31) row.now }
     ensures { IfOk result (λ next. IsNext candidate.now row.now next.items) }
 {
-    let mut next = Vec::with_capacity(alloc, row.len())?;
-    for b in 0..row.len() {
-        next.push(with_more(candidate, row, b))?;
+    let mut next = row.to_vec(alloc)?;
+    let units = candidate.units as usize;
+    let width = candidate.width();
+    for b in units..row.len() {
+        next[b] = next[b].max(row[b - units] + width);
     }
     Ok(next)
 }
