@@ -1,5 +1,5 @@
 //! Byte strings.
-ghost use Rattle.std.specs.Prelude.{◌≡◌, ◌+◌, ◌≤◌, ◌++◌, ◌∷◌, [], ◌==◌, length, IfOk, OnOk, OnErr, ℕ, IsOk, vec_capacity, vec_len};
+ghost use Rattle.std.specs.Prelude.{◌≡◌, ◌+◌, ◌≤◌, ◌++◌, ◌∷◌, [], ◌==◌, length, IfOk, OnOk, OnErr, ℕ, IsOk, take, drop, vec_capacity, vec_len};
 
 use crate::NoMemory;
 use std::alloc::Global;
@@ -76,6 +76,22 @@ impl Octets {
         ensures err { OnErr result (self.new ≡ self.old) }
     {
         self.bytes.extend_from_slice(more)?;
+        Ok(())
+    }
+
+    /// Writes bytes over those from a place on, and appends what goes past the end. Without memory nothing changes.
+    pub fn write_at(&mut self, at: usize, bytes: &[u8]) -> Result<(), NoMemory>
+        requires { at ≤ length self.old }
+        ensures ok { OnOk result (self.new ≡ take at self.old ++ bytes.now ++ drop (at + length bytes.now) self.old) }
+        ensures err { OnErr result (self.new ≡ self.old) }
+    {
+        let over = self.bytes.len() - at;
+        if bytes.len() <= over {
+            self.bytes[at..at + bytes.len()].copy_from_slice(bytes);
+        } else {
+            self.bytes.extend_from_slice(&bytes[over..])?;
+            self.bytes[at..at + over].copy_from_slice(&bytes[..over]);
+        }
         Ok(())
     }
 

@@ -189,13 +189,20 @@ fn write(
     ensures calls { OnOk result (calls.new.items ≡ calls.old.items ++ (record { file = file; change = Change.Write at bytes.now }) ∷ []) }
     ensures err { OnErr result (((n : ℕ) → tree.get nat_cmp files.new n ≡ tree.get nat_cmp files.old n) × (calls.new.items ≡ calls.old.items)) }
 {
-    let next = overwritten(alloc, bytes_in(files, file), at as usize, bytes)?;
     let noted = Octets::from_slice(alloc, bytes)?;
     let event = Event {
         file,
         change: Change::Write(at, noted),
     };
-    store(files, calls, event, next)
+    let Some(octets) = files.get_mut(&file) else {
+        return store(files, calls, event, Octets::from_slice(alloc, bytes)?);
+    };
+    calls.push(event)?;
+    if octets.write_at(at as usize, bytes).is_err() {
+        let _ = calls.pop();
+        return Err(NoMemory);
+    }
+    Ok(())
 }
 
 // A file that is there is shortened.
