@@ -41,6 +41,11 @@ const LATER: [u8; 17] = [
     1, 0, 0, 0xe0, 0xff, 0xff, 0xff, 0xff, 0x7f, 1, 0, 2, 1, 0, 98, 0, 0,
 ];
 
+// Upserts of keys c and d, which name no cell, at 12288 and 16384.
+const THIRD: [u8; 17] = [1, 0, 48, 0, 0, 0, 0, 0, 0, 1, 0, 2, 1, 0, 99, 0, 0];
+
+const FOURTH: [u8; 17] = [1, 0, 64, 0, 0, 0, 0, 0, 0, 1, 0, 2, 1, 0, 100, 0, 0];
+
 fn column(alloc: Global, id: u16, name: &[u8], key: bool) -> Result<Column, Fail> {
     Ok(Column {
         id,
@@ -125,10 +130,13 @@ fn logs_open_or_are_refused(rt: HostRuntime) -> Result<(), Fail> {
 #[test]
 fn a_log_cut_anywhere_opens_or_is_at_fault(rt: HostRuntime) -> Result<(), Fail> {
     let alloc = rt.alloc();
-    let log = log_of(alloc, &[&INSERT, &IN_MEMORY, &AGAIN, &PRESENT, &UPSERT])?;
+    let payloads: [&[u8]; 7] = [
+        &INSERT, &IN_MEMORY, &AGAIN, &PRESENT, &THIRD, &FOURTH, &UPSERT,
+    ];
+    let log = log_of(alloc, &payloads)?;
     let log = log.as_slice();
-    let gates = [0, 33, 60, 93, 111, 133];
-    let writes = [0, 1, 1, 1, 1, 2];
+    let gates = [0, 33, 60, 93, 111, 133, 155, 177];
+    let writes = [0, 1, 1, 1, 1, 2, 3, 4];
     for len in 0..log.len() + 1 {
         let behind = gates.iter().filter(|gate| **gate <= len).count();
         let at = behind.saturating_sub(1);
@@ -136,7 +144,7 @@ fn a_log_cut_anywhere_opens_or_is_at_fault(rt: HostRuntime) -> Result<(), Fail> 
             return Err("a gate more".into());
         };
         let found = told(alloc, &log[..len])?;
-        if len.saturating_sub(*gate) > 1 && *gate < 133 {
+        if len.saturating_sub(*gate) > 1 && *gate < 177 {
             assert_eq!(rt;
                 found,
                 Err(PlainNo::B3 {
