@@ -1,5 +1,7 @@
 pub mod KeyOrder
 pub mod KeyReads
+pub mod KeyTexts
+pub mod KeyWidths
 pub mod RowLines
 pub mod WholeRows
 pub mod LiveRows

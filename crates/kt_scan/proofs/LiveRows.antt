@@ -1,5 +1,5 @@
 -- The rows over several views rise by key, and have for each key its row in the views.
-use Rattle.std.proofs.Common.{◌≡◌, ℕ, zero, suc, ◌<◌, Bool, true, false, ◌&&◌, ◌||◌, cond, List, [], ◌∷◌, length, get_or, Option, Some, None, IsSome, refl, sym, ap, ◌∙◌, subst, arith}
+use Rattle.std.proofs.Common.{◌≡◌, ℕ, zero, suc, ◌<◌, Bool, true, false, ◌&&◌, ◌||◌, cond, T, List, [], ◌∷◌, length, get_or, Option, Some, None, IsSome, refl, sym, ap, ◌∙◌, subst, arith}
 use Rattle.std.specs.List.{fold, list_any, All, AllByRecursion, Contains, cons_option}
 use Rattle.std.specs.Option.{option_or, option_map}
 use Rattle.std.specs.declared.cmp.Ordering.{Ordering}
@@ -7,13 +7,13 @@ use Rattle.std.specs.declared.cmp.Ordering.TheVariants.{Less, Equal, Greater}
 use Rattle.std.specs.Ordering.{is_lt, is_eq, eq_by_cmp}
 use Rattle.std.specs.Cmp.{tied_itself}
 use Rattle.std.specs.FinMap.{nat_cmp-IsAntisymmetric, slice_cmp-IsAntisymmetric}
-use Rattle.std.specs.FinMap.Entries.{by_order, find, below_all, is_sorted}
+use Rattle.std.specs.FinMap.Entries.{by_order, find, below_all, is_sorted, same_entries}
 use Rattle.std.proofs.lemmas.Cmp.{nat_list_cmp_total}
 use Rattle.std.proofs.lemmas.Bool.{false≢true}
-use Rattle.std.proofs.lemmas.List.Elements.{All-head, All-tail}
-use Rattle.kt_history.specs.Rows.{Row, key_cmp}
+use Rattle.std.proofs.lemmas.List.Elements.{All-head, All-tail, All-cons, All-nil}
+use Rattle.kt_history.specs.Rows.{Row, Rows, key_cmp}
 use Rattle.kt_history.specs.Views.{AreRising}
-use Rattle.kt_scan.specs.Live.{with_key, with_keys, all_keys, row_in, rows_of, live_rows}
+use Rattle.kt_scan.specs.Live.{with_key, with_keys, all_keys, row_in, rows_of, live_rows, AreRowsOf}
 use Rattle.kt_scan.proofs.KeyOrder.{Below, add, all_rise}
 
 abbrev Key : Type 0
@@ -145,3 +145,19 @@ module _ {V : Type 0} (keys : V → List Key) (row : V → List ℕ → ℕ → 
 
   pub sorted_live : is_sorted key_cmp (live_rows keys row views t) ≡ true
   sorted_live = sorted_rows (all_keys keys views) (all_rise keys views)
+
+-- ---- the rows are these alone
+
+module _ {V : Type 0} (keys : V → List Key) (row : V → List ℕ → ℕ → Option Row) (t : ℕ) (Tells : V → Type 0) (have : (v : V) (key : Key) → Tells v → IsSome (row v key t) → Contains (keys v) key) where
+  pub only_live : (views : List V) → All Tells views → (rows : Rows) → AreRowsOf (λ key. row_in row views key t) rows → live_rows keys row views t ≡ rows
+  only_live views tell rows are =
+      same_entries key_cmp nat_list_cmp_total (slice_cmp-IsAntisymmetric nat_cmp-IsAntisymmetric) (live_rows keys row views t) rows
+      (subst T (sym (sorted_live keys row views t)) tt) (subst T (sym are.0) tt)
+      (λ key. found_live key keys row t Tells (λ v. have v key) views tell ∙ sym (are.1 key))
+
+  or_none : (o : Option Row) → option_or o None ≡ o
+  or_none None = refl
+  or_none (Some r) = refl
+
+  pub table_live : (view : V) → Tells view → (rows : Rows) → AreRowsOf (λ key. row view key t) rows → live_rows keys row (view ∷ []) t ≡ rows
+  table_live view tell rows are = only_live (view ∷ []) (All-cons Tells view [] tell (All-nil Tells)) rows (are.0, λ key. are.1 key ∙ sym (or_none (row view key t)))

@@ -6,13 +6,11 @@ use Rattle.std.proofs.lemmas.List.{append-nil}
 use Rattle.kt_base.specs.declared.cell.Kind.{Kind}
 use Rattle.kt_base.specs.declared.cell.Cell.{Cell}
 use Rattle.kt_base.specs.Keys.{key_cells}
-use Rattle.kt_key.specs.Reading.{Spells}
 use Rattle.kt_schema.specs.declared.column.Column.{Column}
 use Rattle.kt_schema.specs.Columns.{key_columns, key_kinds}
 use Rattle.kt_history.specs.Rows.{Row}
 use Rattle.kt_history.specs.Replies.{whole_row}
 use Rattle.kt_scan.specs.Encoded.{keys_of, ids_with}
-use Rattle.kt_scan.proofs.KeyReads.{keys-are-read}
 
 abbrev both_of : Column → ℕ × Kind
 both_of c = (c.id, c.kind)
@@ -45,9 +43,9 @@ cells_are [] cells = refl
 cells_are (c ∷ columns) [] = refl
 cells_are (c ∷ columns) (cell ∷ cells) = ap (λ xs. (c.id, cell) ∷ xs) (cells_are columns cells)
 
-pub whole_is : (columns : List Column) (row : List Cell) (key : List ℕ) (cells : Row) → Spells (key_kinds columns) row key → ids_with (key_columns columns) row ++ cells ≡ whole_row (keys_of columns) (key, cells)
-whole_is columns row key cells spells =
-    let read : key_cells (map (λ k. k.1) (keys_of columns)) key ≡ row = ap (λ kinds. key_cells kinds key) (kinds_are (key_columns columns)) ∙ keys-are-read (key_kinds columns) row key spells in
+pub whole_is : (columns : List Column) (row : List Cell) (key : List ℕ) (cells : Row) → row ≡ key_cells (key_kinds columns) key → ids_with (key_columns columns) row ++ cells ≡ whole_row (keys_of columns) (key, cells)
+whole_is columns row key cells is =
+    let read : key_cells (map (λ k. k.1) (keys_of columns)) key ≡ row = ap (λ kinds. key_cells kinds key) (kinds_are (key_columns columns)) ∙ sym is in
     ap (λ xs. xs ++ cells) (sym (ap (zip (map (λ k. k.0) (keys_of columns))) read ∙ cells_are (key_columns columns) row))
 
 drop_more : {A : Type 0} (n : ℕ) (xs : List A) (x : A) (others : List A) → drop n xs ≡ x ∷ others → drop (suc n) xs ≡ others

@@ -1,4 +1,4 @@
--- Encoded keys of a schema.
+-- The keys of a schema, as bytes.
 use Rattle.std.specs.Prelude.{◌≡◌, ℕ, List, map}
 use Rattle.std.specs.List.{zip}
 use Rattle.kt_base.specs.declared.cell.Kind.{Kind}
@@ -7,10 +7,6 @@ use Rattle.kt_base.specs.Keys.{key_cells}
 use Rattle.kt_key.specs.Reading.{Spells}
 use Rattle.kt_schema.specs.declared.column.Column.{Column}
 use Rattle.kt_schema.specs.Columns.{key_columns}
-
--- some key cells have these bytes for their spelling
-abbrev pub IsEncoded : List Kind → List ℕ → Type 0
-IsEncoded kinds bytes = (cells : List Cell) × Spells kinds cells bytes
 
 -- the ids and kinds of the key columns
 abbrev pub keys_of : List Column → List (ℕ × Kind)

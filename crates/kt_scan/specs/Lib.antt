@@ -2,3 +2,4 @@ pub mod Encoded
 pub mod Live
 pub mod Lines
 pub mod Single
+pub mod Parts

@@ -1,9 +1,9 @@
 -- The rows that live in several views.
-use Rattle.std.specs.Prelude.{ℕ, List, [], ◌∷◌, Option, Some, None, if◌then◌else◌}
+use Rattle.std.specs.Prelude.{◌≡◌, ℕ, true, List, [], ◌∷◌, Option, Some, None, if◌then◌else◌}
 use Rattle.std.specs.List.{fold, filter_map}
 use Rattle.std.specs.Option.{option_or, option_map}
 use Rattle.std.specs.Ordering.{is_lt}
-use Rattle.std.specs.FinMap.Entries.{by_order}
+use Rattle.std.specs.FinMap.Entries.{by_order, find, is_sorted}
 use Rattle.kt_history.specs.Rows.{Row, Rows, key_cmp}
 
 -- the lesser of two keys that may be missing
@@ -36,3 +36,7 @@ rows_of row views t keys = filter_map (λ key. option_map (λ r. (key, r)) (row_
 -- the rows at t over all views, by rising key
 abbrev pub live_rows : {V : Type 0} → (V → List (List ℕ)) → (V → List ℕ → ℕ → Option Row) → List V → ℕ → Rows
 live_rows keys row views t = rows_of row views t (all_keys keys views)
+
+-- rows that rise by key, and are for each key what is told of it
+abbrev pub AreRowsOf : (List ℕ → Option Row) → Rows → Type 0
+AreRowsOf told rows = (is_sorted key_cmp rows ≡ true) × ((key : List ℕ) → find key_cmp key rows ≡ told key)

@@ -1,14 +1,13 @@
 //! A whole row, from its encoded key and its other cells.
 ghost use Rattle.std.specs.Prelude.{◌≡◌, ◌++◌, ℕ, Some, IfOk};
-ghost use Rattle.kt_schema.specs.Columns.{key_kinds};
 ghost use Rattle.std.specs.Option.{option_copied};
 ghost use Rattle.std.specs.Ordering.{nat_cmp};
 ghost use Rattle.std.specs.FinMap.Entries.{find};
 ghost use Rattle.kt_history.specs.Replies.{whole_row};
-ghost use Rattle.kt_scan.specs.Encoded.{IsEncoded, keys_of, ids_with};
+ghost use Rattle.kt_scan.specs.Encoded.{keys_of, ids_with};
 
+use crate::key_cells::key_cells;
 use kt_base::{Cell, Cells, NoMemory, Row};
-use kt_key::decode_key;
 use kt_schema::{Column, Schema};
 use std::alloc::Global;
 
@@ -45,12 +44,9 @@ pub fn whole_row(
     key: &[u8],
     cells: Cells,
 ) -> Result<Vec<(u16, Cell)>, NoMemory>
-    requires { IsEncoded (key_kinds schema.now) key.now }
     ensures { IfOk result (λ whole. whole.items ≡ whole_row (keys_of schema.now) (key.now, cells)) }
 {
-    let Some(key) = decode_key(alloc, schema.key_kinds(), key)? else {
-        unreachable!()
-    };
+    let key = key_cells(alloc, schema.key_kinds(), key)?;
     behind(under(alloc, schema.key_columns(), key)?, cells)
 }
 

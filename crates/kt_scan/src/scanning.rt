@@ -1,9 +1,8 @@
 //! A scan over several views.
 ghost use Rattle.std.specs.Prelude.{◌≡◌, ◌≤◌, ℕ, IfOk};
 ghost use Rattle.std.specs.List.{All};
-ghost use Rattle.kt_schema.specs.Columns.{key_kinds};
 ghost use Rattle.kt_history.specs.Replies.{shown};
-ghost use Rattle.kt_scan.specs.Encoded.{IsEncoded, keys_of};
+ghost use Rattle.kt_scan.specs.Encoded.{keys_of};
 ghost use Rattle.kt_scan.specs.Live.{row_in, live_rows};
 ghost use Rattle.kt_scan.specs.Lines.{line_of};
 
@@ -24,8 +23,7 @@ fn line_of<V: View>(
     schema: &Schema,
     key: &[u8],
 ) -> Result<Option<Row>, NoMemory>
-    requires told { All (λ v. V.mark v ≤ t) views.now }
-    requires key { IsEncoded (key_kinds schema.now) key.now }
+    requires { All (λ v. V.mark v ≤ t) views.now }
     ensures { IfOk result (λ line. line ≡ line_of (keys_of schema.now) scan.now key.now (row_in V.row_of views.now key.now t)) }
 {
     match row_at(alloc, views, key, t)? {
@@ -46,7 +44,6 @@ pub fn run<V: View>(
 ) -> Result<RowList, NoMemory>
     requires since { a ≤ t }
     requires told { All (λ v. V.mark v ≤ a) views.now }
-    requires keys { All (λ v. All (IsEncoded (key_kinds schema.now)) (V.keys v)) views.now }
     ensures { IfOk result (λ rows. rows ≡ shown (keys_of schema.now) scan.now (live_rows V.keys V.row_of views.now t)) }
 {
     let mut lines = Vec::new(alloc);

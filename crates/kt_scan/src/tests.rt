@@ -6,7 +6,6 @@ ghost use Rattle.kt_scan.specs.Single.{single_row, single_has_key};
 use crate::run;
 use kt_base::{Cell, Cells, Kind, NoMemory, Octets};
 use kt_history::{At, ColumnIds, Pred, PredList, RowList, Scan, Test, View};
-use kt_key::decode_key;
 use kt_schema::{Column, ColumnList, Schema};
 use std::alloc::{AllocError, Global};
 use std::test::Fail;
@@ -92,7 +91,7 @@ fn row_at_100(alloc: Global, key: &[u8], from: u64, cpu: Cell) -> Result<Single,
     })
 }
 
-// What a scan shows of views whose keys the schema has.
+// What a scan shows of some views.
 fn shown(
     alloc: Global,
     views: &[Single],
@@ -100,11 +99,6 @@ fn shown(
     scan: &Scan,
     schema: &Schema,
 ) -> Result<RowList, Fail> {
-    for view in views {
-        let Ok(Some(_)) = decode_key(alloc, schema.key_kinds(), view.key.as_slice()) else {
-            return Err("no key".into());
-        };
-    }
     match run(alloc, views, t, scan, schema, 0) {
         Ok(rows) => Ok(rows),
         Err(NoMemory) => Err("no memory".into()),

@@ -1,27 +1,19 @@
-use Rattle.std.proofs.Common.{◌≡◌, List, ℕ, ◌∷◌, Option, Some, None, IfSome, ◌∙◌, sym, ap, subst, length, arith}
+use Rattle.std.proofs.Common.{◌≡◌, List, ℕ, ◌∷◌, Option, Some, None, ◌∙◌, sym, ap, length, arith}
 use Rattle.std.specs.List.{filter}
 use Rattle.kt_history.specs.Views.{is_above, key_above}
-use Rattle.kt_schema.specs.Columns.{key_kinds}
-use Rattle.kt_scan.specs.Encoded.{IsEncoded, keys_of}
+use Rattle.kt_scan.specs.Encoded.{keys_of}
 use Rattle.kt_base.specs.declared.cell.Kind.{Kind}
 use Rattle.kt_base.specs.declared.cell.Cell.{Cell}
 use Rattle.std.proofs.lemmas.List.{append-nil}
 use Rattle.kt_scan.specs.Live.{all_keys, row_in}
 use Rattle.kt_scan.specs.Lines.{line_of}
-use Rattle.kt_scan.proofs.KeyOrder.{least_holds, above_none, filter_none, filter_some, all_rise}
+use Rattle.kt_scan.proofs.KeyOrder.{above_none, filter_none, filter_some, all_rise}
 use Rattle.kt_scan.proofs.RowLines.{shown_of, shown_then, shown_all}
 use Rattle.kt_scan.proofs.scanning.run.Goals as goal
 use Rattle.kt_scan.proofs.scanning.run.Goals.{in-Some-2+in_ok-push, in_default-2}
 
 pub loop-after-init : goal.loop-after-init
 loop-after-init g c = rw c.new-lines.ensures.items (ap (shown_of g.V.View.row_of c.args.views.now c.args.t (keys_of c.args.schema.now) c.args.scan.now) (above_none (all_keys g.V.View.keys c.args.views.now)))
-
-pub line_of-requires-clause-key : goal.line_of-requires-clause-key
-line_of-requires-clause-key g c =
-    let found : key_above c.loop-after.after (all_keys g.V.View.keys c.args.views.now) ≡ Some c.in-Some.key = sym c.in_ok-key.ensures ∙ c.in-Some.is in
-    let encoded : IsEncoded (key_kinds c.args.schema.now) c.in-Some.key =
-    subst (λ (o : Option (List ℕ)). IfSome o (IsEncoded (key_kinds c.args.schema.now))) found (least_holds (IsEncoded (key_kinds c.args.schema.now)) g.V.View.keys c.loop-after.after c.args.views.now c.requires.keys) in
-    subst (IsEncoded (key_kinds c.args.schema.now)) (sym c.as_slice.ensures) encoded
 
 pub loop-after-preserved : goal.loop-after-preserved
 loop-after-preserved g c =

@@ -1,0 +1,199 @@
+//! The cells that the bytes of a key spell, whatever bytes they are.
+ghost use Rattle.std.specs.Prelude.{◌≡◌, ◌-◌, ◌^◌, ◌≤◌, pos, ◌-ℤ◌, length, take, slice_index, IfOk};
+ghost use Rattle.std.specs.Int.{from_be_bytes, w16, w32, w64};
+ghost use Rattle.kt_base.specs.Keys.{width_of, number_of_key, last_cell, key_cells};
+ghost use Rattle.kt_scan.specs.Parts.{IsMark, IsTextAt, IsFirst};
+
+use kt_base::{Cell, Kind, NoMemory, Octets, Row};
+use kt_key::length::width;
+use memchr::memchr;
+use std::alloc::Global;
+
+const HALF: i128 = 1 << 63;
+
+// A text before its end, and how many bytes it took with that.
+#[derive(Drop)]
+struct Text {
+    text: Octets,
+    len: usize,
+}
+
+// A cell at the front of some bytes, and how many of them it took.
+#[derive(Drop)]
+struct Taken {
+    cell: Cell,
+    len: usize,
+}
+
+// What stands behind the zero byte at which some bytes begin: the text ends, it had a zero byte, or nothing.
+#[derive(Clone, Copy)]
+enum Mark {
+    End,
+    Zero,
+    Short,
+}
+
+fn mark_of(after: &[u8]) -> Mark
+    requires some { 1 ≤ length after.now }
+    requires zero { slice_index after.now 0 ≡ 0 }
+    ensures { IsMark after.now result }
+{
+    if after.len() < 2 {
+        return Mark::Short;
+    }
+    match after[1] {
+        0 => Mark::End,
+        _ => Mark::Zero,
+    }
+}
+
+// The bytes before the last one.
+fn but_last(bytes: &[u8]) -> &[u8]
+    ensures { result.now ≡ take (length bytes.now - 1) bytes.now }
+{
+    &bytes[..bytes.len().saturating_sub(1)]
+}
+
+fn text_at(alloc: Global, bytes: &[u8]) -> Result<Text, NoMemory>
+    ensures { IfOk result (λ read. IsTextAt bytes.now read) }
+{
+    let mut text = Octets::new(alloc);
+    let mut rest = bytes;
+    while let Some(zero) = memchr(0, rest) {
+        let (run, after) = rest.split_at(zero);
+        text.extend(run)?;
+        match mark_of(after) {
+            Mark::End => {
+                let len = bytes.len() - (after.len() - 2);
+                return Ok(Text { text, len });
+            }
+            Mark::Zero => {
+                text.push(0)?;
+                let (_, behind) = after.split_at(2);
+                rest = behind;
+            }
+            Mark::Short => {
+                let len = bytes.len();
+                return Ok(Text { text, len });
+            }
+        }
+    }
+    text.extend(but_last(rest))?;
+    let len = bytes.len();
+    Ok(Text { text, len })
+}
+
+// The byte at a place, and 0 behind the last.
+fn byte_at(bytes: &[u8], at: usize) -> u8
+    ensures { result ≡ slice_index bytes.now at }
+{
+    if at < bytes.len() { bytes[at] } else { 0 }
+}
+
+// The bytes of a number that are there.
+fn front(bytes: &[u8], len: usize) -> &[u8]
+    ensures { result.now ≡ take len bytes.now }
+{
+    if len < bytes.len() {
+        &bytes[..len]
+    } else {
+        bytes
+    }
+}
+
+fn raised_2(bytes: &[u8]) -> u16
+    ensures { result ≡ from_be_bytes w16 bytes.now }
+{
+    u16::from_be_bytes([byte_at(bytes, 0), byte_at(bytes, 1)])
+}
+
+fn raised_4(bytes: &[u8]) -> u32
+    ensures { result ≡ from_be_bytes w32 bytes.now }
+{
+    u32::from_be_bytes([
+        byte_at(bytes, 0),
+        byte_at(bytes, 1),
+        byte_at(bytes, 2),
+        byte_at(bytes, 3),
+    ])
+}
+
+fn raised_8(bytes: &[u8]) -> u64
+    ensures { result ≡ from_be_bytes w64 bytes.now }
+{
+    u64::from_be_bytes([
+        byte_at(bytes, 0),
+        byte_at(bytes, 1),
+        byte_at(bytes, 2),
+        byte_at(bytes, 3),
+        byte_at(bytes, 4),
+        byte_at(bytes, 5),
+        byte_at(bytes, 6),
+        byte_at(bytes, 7),
+    ])
+}
+
+fn lowered_8(number: u64) -> i64
+    ensures { result ≡ pos number -ℤ pos (2 ^ 63) }
+{
+    (i128::from(number) - HALF) as i64
+}
+
+// The number at the front of some bytes. Bytes that are missing are 0.
+fn number_at(kind: Kind, bytes: &[u8]) -> i64
+    ensures { result ≡ number_of_key (width_of kind) bytes.now }
+{
+    match kind {
+        Kind::Int8 => i64::from(byte_at(front(bytes, 1), 0)) - (1 << 7),
+        Kind::Int16 => i64::from(raised_2(front(bytes, 2))) - (1 << 15),
+        Kind::Int32 => i64::from(raised_4(front(bytes, 4))) - (1 << 31),
+        _ => lowered_8(raised_8(front(bytes, 8))),
+    }
+}
+
+// A key cell that has others behind it.
+fn first_cell(alloc: Global, kind: Kind, bytes: &[u8]) -> Result<Taken, NoMemory>
+    ensures { IfOk result (λ read. IsFirst kind bytes.now read) }
+{
+    match kind {
+        Kind::String | Kind::Binary => {
+            let Text { text, len } = text_at(alloc, bytes)?;
+            Ok(Taken {
+                cell: Cell::Bytes(text),
+                len,
+            })
+        }
+        _ => Ok(Taken {
+            cell: Cell::Int(number_at(kind, bytes)),
+            len: front(bytes, width(kind)).len(),
+        }),
+    }
+}
+
+fn last_cell(alloc: Global, kind: Kind, bytes: &[u8]) -> Result<Cell, NoMemory>
+    ensures { IfOk result (λ cell. cell ≡ last_cell kind bytes.now) }
+{
+    match kind {
+        Kind::String | Kind::Binary => Ok(Cell::Bytes(Octets::from_slice(alloc, bytes)?)),
+        _ => Ok(Cell::Int(number_at(kind, bytes))),
+    }
+}
+
+/// The cells that the bytes of a key spell, for key columns of these kinds.
+pub fn key_cells(alloc: Global, kinds: &[Kind], bytes: &[u8]) -> Result<Row, NoMemory>
+    ensures { IfOk result (λ row. row ≡ key_cells kinds.now bytes.now) }
+{
+    let mut cells = Vec::with_capacity(alloc, kinds.len())?;
+    let Some((last, others)) = kinds.split_last() else {
+        return Ok(Row::of(cells));
+    };
+    let mut rest = bytes;
+    for kind in others {
+        let Taken { cell, len } = first_cell(alloc, *kind, rest)?;
+        cells.push(cell)?;
+        let (_, behind) = rest.split_at(len);
+        rest = behind;
+    }
+    cells.push(last_cell(alloc, *last, rest)?)?;
+    Ok(Row::of(cells))
+}
