@@ -21,7 +21,7 @@ use Rattle.kt_base.specs.declared.cell.Cell.{Cell}
 use Rattle.kt_column.specs.Forms.{is_nullable, code}
 use Rattle.kt_column.specs.Nulls.{byte_len, null_bytes}
 use Rattle.kt_column.specs.Blocks.{nulls_in}
-use Rattle.kt_column.specs.Faults.{IsShiftable, IsFrontStop, IsContentStop, IsHead, IsBody, IsFound, IsBodyFault, IsBlockStop, shifted, value_count}
+use Rattle.kt_column.specs.Faults.{IsShiftable, IsFrontStop, IsContentStop, IsHead, IsHeadFault, IsBody, IsBodyStop, IsFound, IsBodyFault, IsBlockStop, shifted, value_count}
 
 plain_within : (w : Width) (n : ℕ) (bytes : List ℕ) (at place : ℕ) → at ≤ length bytes → plain.IsReported w n bytes at place → place ≤ length bytes
 plain_within w n bytes at place le (inl h) = omega (arith, h.1)
@@ -106,3 +106,43 @@ pub body_stop : (form : Form) (n : ℕ) (bytes : List ℕ) (stop : Stop) → IsB
 body_stop form n bytes Memory h = tt
 body_stop form n bytes (Fault at) h = inr h
 body_stop form n bytes Whole h = inr h
+
+-- the fault of a block stands within the bytes
+
+head_within : (form : Form) (bytes : List ℕ) (at : ℕ) → IsHeadFault form bytes at → at ≤ length bytes
+head_within form bytes at (inl h) = omega (arith, h.1)
+head_within form bytes at (inr (inl h)) = omega (arith, h.1)
+head_within form bytes at (inr (inr h)) = omega (arith, h.1)
+
+values_within : (form : Form) (e : Encoding) (n k at : ℕ) (part : List ℕ) (behind : Stop) → Fault at ≡ shifted k behind → k ≤ length part → IsStop form e n (drop k part) behind → at ≤ length part
+values_within form e n k at part Memory is le why = absurd (cc)
+values_within form e n k at part (Fault i) is le why =
+    let place : at ≡ k + i = cc in
+    let within = fault_within (width form) e n (drop k part) i why in
+    omega (arith, place, within, length-drop k part)
+values_within form e n k at part Whole is le why = absurd (cc)
+
+content_within : (form : Form) (e : Encoding) (n : ℕ) (part : List ℕ) (at : ℕ) → IsContentStop form e n part (Fault at) → at ≤ length part
+content_within form e n part at (inl h) = front_within (is_nullable form) n part at h
+content_within form e n part at (inr h) = values_within form e (value_count (is_nullable form) n h.nulls) (byte_len (length h.nulls)) at part h.behind h.place h.front.within h.why
+
+behind_head : (form : Form) (e : Encoding) (n at : ℕ) (part : List ℕ) (behind : Stop) → Fault at ≡ shifted 5 behind → IsContentStop form e n part behind → at ≤ 5 + length part
+behind_head form e n at part Memory is why = absurd (cc)
+behind_head form e n at part (Fault i) is why =
+    let place : at ≡ 5 + i = cc in
+    let within = content_within form e n part i why in
+    omega (arith, place, within)
+behind_head form e n at part Whole is why = absurd (cc)
+
+body_within : (form : Form) (e : Encoding) (n len : ℕ) (rest : List ℕ) (at : ℕ) → IsBodyStop form e n len rest (Fault at) → at ≤ 5 + length rest
+body_within form e n len rest at (inl h) = (let within = behind_head form e n at (take len rest) h.0 h.2 h.1 in omega (arith, within, length-take len rest))
+body_within form e n len rest at (inr (inl h)) = (let place : at ≡ 5 + length rest = cc in omega (arith, place))
+body_within form e n len rest at (inr (inr h)) = absurd (cc)
+
+pub block_within : (form : Form) (n : ℕ) (bytes : List ℕ) (at : ℕ) → IsBlockStop form n bytes (Fault at) → at ≤ length bytes
+block_within form n bytes at (inl h) = head_within form bytes at h
+block_within form n bytes at (inr h) =
+    let within = body_within form h.encoding n h.len h.rest at h.body in
+    let four : length (to_le_bytes w32 h.len) ≡ 4 = refl in
+    let whole : length bytes ≡ 5 + length h.rest = ap length h.front.parts ∙ omega (arith, length-append (to_le_bytes w32 h.len) h.rest, four) in
+    omega (arith, whole, within)

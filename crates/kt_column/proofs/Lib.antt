@@ -7,3 +7,7 @@ pub mod Weaving
 pub mod Contents
 pub mod Faulty
 pub mod Heads
+pub mod Places
+pub mod Columns
+pub mod Progress
+pub mod Once

@@ -4,3 +4,4 @@ pub mod Reading
 pub mod Nulls
 pub mod Blocks
 pub mod Faults
+pub mod Columns

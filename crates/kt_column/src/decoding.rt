@@ -165,7 +165,7 @@ pub(crate) fn read_block(alloc: Global, form: Form, n: u32, bytes: &[u8]) -> Res
 }
 
 /// The block of n cells that the bytes begin with, and how many bytes it takes.
-pub fn decode(alloc: Global, form: Form, n: u32, bytes: &[u8]) -> Result<Found, CodecNo>
+pub fn decode_block(alloc: Global, form: Form, n: u32, bytes: &[u8]) -> Result<Found, CodecNo>
     requires { n ≤ 8192 }
     ensures form { IfOk result (λ f. f.block.form ≡ form) }
     // What is read is spelled so.

@@ -3,13 +3,24 @@
 use kt_base::NoMemory;
 use std::alloc::{AllocError, AllocFailed};
 
-/// Why `decode` gave no column.
+/// Why bytes gave no block, or no column.
 #[derive(Clone, Copy, Debug, PartialEq, Eq)]
 pub enum CodecNo {
-    /// No column's spelling begins the bytes: the place of the first fault.
+    /// No such spelling begins the bytes: the place of the first fault.
     Place { offset: u64 },
     /// Memory ran out.
     Memory,
+}
+
+impl From<NoMemory> for CodecNo {
+    ghost use Rattle.std.specs.Prelude.{◌≡◌};
+    ghost use Rattle.kt_column.specs.declared.errors.CodecNo.TheVariants.{Memory};
+
+    ghost from_gives = { λ _ e. e ≡ Memory };
+
+    fn from(_e: NoMemory) -> CodecNo {
+        CodecNo::Memory
+    }
 }
 
 /// Why reading stopped: no memory, a fault at a place, or one of the block as a whole.

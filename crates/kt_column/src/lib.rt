@@ -1,18 +1,23 @@
-//! The blocks of a column: up to 8,192 cells of one kind, or encoded keys, in the shortest of the four
-//! encodings that their kind allows, and of encodings that are as long in the one of the lowest number.
+//! A column as it is written into a base file: blocks of up to 8,192 cells of one kind, or of encoded
+//! keys, all of them full but the last. Each block is in the shortest of the four encodings that its
+//! kind allows, and of encodings that are as long in the one of the lowest number.
 //!
 //! In memory a block is decoded, whatever its encoding: one list of its values that are not null, numbers as i64
 //! and byte lists in one buffer with the end of each, and in a nullable column for each cell the
-//! place of its value among them. So `cell` and `compare` look up one place and decode nothing again,
-//! and the encoding is chosen when a block is written. Contracts see a block as its list of cells.
+//! place of its value among them. So `cell` and `compare` take one division and look up one place, and
+//! decode nothing again, and the encoding is chosen when a block is written. Contracts see a block and
+//! a column as their lists of cells.
 //!
-//! `spell` writes the one spelling of a block, and `decode` answers the cells exactly where the bytes
-//! begin with their spelling, and otherwise the first place at which they don't. A block that is
-//! written in an encoding that is not the shortest, or with a byte list that is too long, is at fault
-//! at its first byte, the number of its encoding: both are rules on the block as a whole.
+//! `spell` writes the one spelling, and `decode` answers the cells exactly where the bytes begin with
+//! their spelling, and otherwise the first place at which they don't. A block that is written in an
+//! encoding that is not the shortest, or with a byte list that is too long, is at fault at its first
+//! byte, the number of its encoding: both are rules on the block as a whole.
 #![tactic(auto)]
 
 mod block;
+mod cells;
+mod column;
+mod column_decoding;
 mod decoding;
 mod errors;
 mod form;
@@ -23,10 +28,15 @@ mod reading;
 mod values;
 
 pub use block::Block;
-pub use decoding::{Found, decode};
+pub use cells::Cells1;
+pub use column::{ColumnData, build, build_keys};
+pub use column_decoding::{decode, decode_keys};
+pub use decoding::{Found, decode_block};
 pub use errors::CodecNo;
 pub use form::{Encoding, Form};
-pub use laws::one_spelling;
+pub use laws::{one_column, one_column_spelling, one_spelling};
 
+#[cfg(test)]
+mod column_tests;
 #[cfg(test)]
 mod tests;

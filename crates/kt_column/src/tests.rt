@@ -22,7 +22,7 @@ fn stands(rt: &impl Abort, alloc: Global, form: Form, n: u32, bytes: &[u8]) -> R
     if n > 8192 {
         return Err("too many cells".into());
     }
-    let found = decode(alloc, form, n, bytes)
+    let found = decode_block(alloc, form, n, bytes)
         .ok()
         .ok_or("the bytes are refused")?;
     assert_eq!(rt; found.len, bytes.len());
@@ -34,7 +34,7 @@ fn stands(rt: &impl Abort, alloc: Global, form: Form, n: u32, bytes: &[u8]) -> R
 /// Whether the bytes are refused at a place.
 fn refused(alloc: Global, form: Form, n: u32, bytes: &[u8], at: u64) -> bool {
     n <= 8192
-        && match decode(alloc, form, n, bytes) {
+        && match decode_block(alloc, form, n, bytes) {
             Err(CodecNo::Place { offset }) => offset == at,
             _ => false,
         }
@@ -78,6 +78,8 @@ fn runs(rt: HostRuntime) -> Result<(), Fail> {
     )?;
     let run: [u8; 13] = [2, 8, 0, 0, 0, 2, 0, 0, 0, 7, 0, 0, 0];
     assert!(rt; refused(alloc, four, 2, &run, 0));
+    let neighbours: [u8; 15] = [2, 10, 0, 0, 0, 1, 0, 0, 0, 5, 1, 0, 0, 0, 5];
+    assert!(rt; refused(alloc, of(Kind::Int8), 2, &neighbours, 10));
     Ok(())
 }
 
@@ -133,7 +135,7 @@ fn nulls(rt: HostRuntime) -> Result<(), Fail> {
     assert!(rt; refused(alloc, NULLABLE, 9, &[1, 2, 0, 0, 0, 255, 3], 6));
     let bytes: [u8; 8] = [1, 3, 0, 0, 0, 2, 7, 255];
     stands(&rt, alloc, NULLABLE, 3, &bytes)?;
-    let found = decode(alloc, NULLABLE, 3, &bytes)
+    let found = decode_block(alloc, NULLABLE, 3, &bytes)
         .ok()
         .ok_or("the bytes are refused")?;
     assert_eq!(rt; found.block.len(), 3);
@@ -149,11 +151,15 @@ fn keys(rt: HostRuntime) -> Result<(), Fail> {
         4, 19, 0, 0, 0, 0, 0, 0, 0, 2, 0, 0, 0, 97, 98, 2, 0, 0, 0, 1, 0, 0, 0, 99,
     ];
     stands(&rt, alloc, Form::Keys, 2, &bytes)?;
-    let found = decode(alloc, Form::Keys, 2, &bytes)
+    let found = decode_block(alloc, Form::Keys, 2, &bytes)
         .ok()
         .ok_or("the bytes are refused")?;
     assert_eq!(rt; found.block.len(), 2);
     assert_eq!(rt; found.block.compare(1, b"abd"), Ordering::Less);
+    let fewer: [u8; 25] = [
+        4, 20, 0, 0, 0, 0, 0, 0, 0, 2, 0, 0, 0, 97, 98, 1, 0, 0, 0, 2, 0, 0, 0, 98, 99,
+    ];
+    assert!(rt; refused(alloc, Form::Keys, 2, &fewer, 15));
     let empty = Block::build(alloc, Form::Keys, &[])?;
     assert_eq!(rt; empty.spell(alloc)?.as_slice(), [4, 0, 0, 0, 0].as_slice());
     Ok(())

@@ -1,4 +1,7 @@
+ghost use Rattle.std.specs.Prelude.{◌≡◌, ◌*◌, length, sum_by, IfOk};
+
 use super::*;
+use std::alloc::Global;
 use std::test::Fail;
 
 const BLOCK: [u8; 18] = [2, 0, 1, 0, 0, 0, 97, 1, 0, 0, 0, 98, 0, 0, 1, 0, 0, 0];
@@ -37,4 +40,28 @@ fn second_entry_is_never_used(rt: HostRuntime) {
             Err(CodecNo::Place { offset: 14 })
         )
     );
+}
+
+/// So many different items of two bytes.
+fn numbered(alloc: Global, count: u16) -> Result<Items, NoMemory>
+    ensures count { IfOk result (λ items. length items ≡ count) }
+    ensures bytes { IfOk result (λ items. sum_by length items ≡ 2 * count) }
+{
+    let mut items = Items::new(alloc);
+    for i in 0..count {
+        items.push(&i.to_le_bytes())?;
+    }
+    Ok(items)
+}
+
+#[test]
+fn too_many_different_items(rt: HostRuntime) -> Result<(), Fail> {
+    let items = numbered(rt.alloc(), 4097)?;
+    assert!(rt;
+        matches!(
+            encode(rt.alloc(), &items, Width::Bytes),
+            Err(CodecNo::TooMany { count: 4097 })
+        )
+    );
+    Ok(())
 }
