@@ -1,0 +1,5 @@
+pub mod Rows
+pub mod Tables
+pub mod Spelling
+pub mod Reading
+pub mod Laws

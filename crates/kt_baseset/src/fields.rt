@@ -1,0 +1,120 @@
+//! Fields of fixed length, read from the front of some bytes.
+ghost use Rattle.std.specs.Prelude.{◌≡◌, ◌≤◌, drop, length};
+ghost use Rattle.std.specs.Int.{w16, w32};
+ghost use Rattle.kt_records.specs.Reading.{Gives, number_at, flag_at};
+ghost use Rattle.kt_baseset.specs.Spelling.{kind_number};
+ghost use Rattle.kt_baseset.specs.Reading.{rows_at, kind_at, shape_at};
+
+use crate::schema::ColumnShape;
+use kt_base::Kind;
+use kt_records::refusal::Stop;
+
+/// The letters KTB1, as a number.
+const KTB1: u32 = 0x3142544b;
+
+/// The most rows: the length of their filter is still a u32.
+const ROWS: u32 = 3_435_973_836;
+
+pub fn u16_of(bytes: &[u8]) -> Result<(u16, &[u8]), Stop>
+    ensures { Gives (λ x. (x.0, x.1.now)) result (number_at w16 bytes.now) }
+{
+    if bytes.len() < 2 {
+        return Err(Stop::Left(0));
+    }
+    let (front, rest) = bytes.split_at(2);
+    Ok((u16::from_le_bytes([front[0], front[1]]), rest))
+}
+
+fn u32_of(bytes: &[u8]) -> Result<(u32, &[u8]), Stop>
+    ensures { Gives (λ x. (x.0, x.1.now)) result (number_at w32 bytes.now) }
+{
+    if bytes.len() < 4 {
+        return Err(Stop::Left(0));
+    }
+    let (front, rest) = bytes.split_at(4);
+    let number = u32::from_le_bytes([front[0], front[1], front[2], front[3]]);
+    Ok((number, rest))
+}
+
+/// The letters, and how many rows there are.
+#[tactic(auto, unfolding(crate::specs::Reading::rows_at))]
+pub fn rows_of(bytes: &[u8]) -> Result<(u32, &[u8]), Stop>
+    ensures { Gives (λ x. (x.0, x.1.now)) result (rows_at bytes.now) }
+{
+    let (word, behind) = u32_of(bytes)?;
+    if word != KTB1 {
+        return Err(Stop::Left(bytes.len()));
+    }
+    let (rows, rest) = u32_of(behind)?;
+    if 1 <= rows && rows <= ROWS {
+        Ok((rows, rest))
+    } else {
+        Err(Stop::Left(behind.len()))
+    }
+}
+
+#[tactic(auto, unfolding(crate::specs::Reading::kind_at))]
+fn kind_of(bytes: &[u8]) -> Result<(Kind, &[u8]), Stop>
+    ensures { Gives (λ x. (x.0, x.1.now)) result (kind_at bytes.now) }
+{
+    match bytes {
+        [] => Err(Stop::Left(0)),
+        [1, rest @ ..] => Ok((Kind::Bool, rest)),
+        [2, rest @ ..] => Ok((Kind::Int8, rest)),
+        [3, rest @ ..] => Ok((Kind::Int16, rest)),
+        [4, rest @ ..] => Ok((Kind::Int32, rest)),
+        [5, rest @ ..] => Ok((Kind::Int64, rest)),
+        [6, rest @ ..] => Ok((Kind::String, rest)),
+        [7, rest @ ..] => Ok((Kind::Binary, rest)),
+        [_, ..] => Err(Stop::Left(bytes.len())),
+    }
+}
+
+#[tactic(auto, unfolding(kt_records::specs::Reading::flag_at))]
+fn flag_of(bytes: &[u8]) -> Result<(bool, &[u8]), Stop>
+    ensures { Gives (λ x. (x.0, x.1.now)) result (flag_at bytes.now) }
+{
+    match bytes {
+        [] => Err(Stop::Left(0)),
+        [0, rest @ ..] => Ok((false, rest)),
+        [1, rest @ ..] => Ok((true, rest)),
+        [_, ..] => Err(Stop::Left(bytes.len())),
+    }
+}
+
+/// What a column is. Its id is not below the least one.
+#[tactic(auto, unfolding(crate::specs::Reading::shape_at))]
+pub fn shape_of(least: u32, bytes: &[u8]) -> Result<(ColumnShape, &[u8]), Stop>
+    ensures { Gives (λ x. (x.0, x.1.now)) result (shape_at least bytes.now) }
+{
+    let (id, rest) = u16_of(bytes)?;
+    if u32::from(id) < least {
+        return Err(Stop::Left(bytes.len()));
+    }
+    let (kind, rest) = kind_of(rest)?;
+    let (nullable, rest) = flag_of(rest)?;
+    Ok((ColumnShape { id, kind, nullable }, rest))
+}
+
+/// The number of a kind.
+pub fn number_of(kind: Kind) -> u8
+    ensures { result ≡ kind_number kind }
+{
+    match kind {
+        Kind::Bool => 1,
+        Kind::Int8 => 2,
+        Kind::Int16 => 3,
+        Kind::Int32 => 4,
+        Kind::Int64 => 5,
+        Kind::String => 6,
+        Kind::Binary => 7,
+    }
+}
+
+/// The bytes behind so many.
+pub fn after(bytes: &[u8], used: usize) -> &[u8]
+    requires { used ≤ length bytes.now }
+    ensures { result.now ≡ drop used bytes.now }
+{
+    &bytes[used..]
+}

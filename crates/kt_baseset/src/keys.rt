@@ -1,0 +1,129 @@
+//! The keys of a base file: as a column, and as a list.
+ghost use Rattle.std.specs.Prelude.{◌≡◌, ◌<◌, ◌≤◌, ◌+◌, ◌++◌, ◌∷◌, [], ℕ, List, length, map, IfOk, IfErr, OnOk, MatchResult};
+ghost use Rattle.std.specs.Bool.{OnTrue, OnFalse};
+ghost use Rattle.kt_base.specs.declared.cell.Cell.{Cell};
+ghost use Rattle.kt_records.specs.declared.refusal.Stop.TheVariants as stops;
+ghost use Rattle.kt_column.specs.declared.form.Form.TheVariants as forms;
+ghost use Rattle.kt_column.specs.Columns.{IsColumnFound, SpellsColumn};
+ghost use Rattle.kt_lookup.specs.Index.{Rises};
+ghost use Rattle.kt_baseset.specs.Rows.{AreKeys, keys_in};
+ghost use Rattle.kt_baseset.specs.Tables.{bytes_of, keys_of, key_cells};
+ghost use Rattle.kt_baseset.specs.Reading.{IsRefusedAt, IsKeysFault, ReadsKeys, Stops};
+
+use crate::fields::{after, rows_of};
+use crate::rows::KeyedRow;
+use kt_base::{Cell, NoMemory};
+use kt_column::{Cells1, CodecNo, ColumnData, build_keys, decode_keys};
+use kt_lookup::KeyList;
+use kt_records::refusal::Stop;
+use std::alloc::Global;
+
+/// The keys as cells.
+fn cells_of(alloc: Global, rows: &[KeyedRow]) -> Result<Cells1, NoMemory>
+    ensures { IfOk result (λ cells. cells ≡ key_cells (keys_in rows.now)) }
+{
+    let mut cells = Vec::new(alloc);
+    'rows: for row in rows {
+        cells.push(Cell::Bytes(row.key.copy()?))?;
+    }
+    Ok(Cells1::of(cells))
+}
+
+/// The keys as a column.
+pub fn column_of(alloc: Global, rows: &[KeyedRow]) -> Result<ColumnData, NoMemory>
+    requires { AreKeys (keys_in rows.now) }
+    ensures { IfOk result (λ column. column ≡ record { form = forms.Keys; cells = key_cells (keys_in rows.now) }) }
+{
+    let cells = cells_of(alloc, rows)?;
+    build_keys(alloc, &cells)
+}
+
+/// Adds a key's cell to a list of keys.
+fn push_cell(list: &mut KeyList, cell: &Cell) -> Result<(), NoMemory>
+    ensures { OnOk result (list.new ≡ list.old ++ bytes_of cell.now ∷ []) }
+{
+    let pushed = match cell {
+        Cell::Bytes(bytes) => list.push(bytes.as_slice()),
+        _ => list.push(&[]),
+    };
+    match pushed {
+        Ok(()) => Ok(()),
+        Err(_) => Err(NoMemory),
+    }
+}
+
+/// The keys of a column as a list.
+pub fn list_of(alloc: Global, column: &ColumnData) -> Result<KeyList, NoMemory>
+    ensures { IfOk result (λ list. list ≡ keys_of column.now.cells) }
+{
+    let mut list = KeyList::new(alloc);
+    'cells: for i in 0..column.len() {
+        let cell = column.cell(alloc, i)?;
+        push_cell(&mut list, &cell)?;
+    }
+    Ok(list)
+}
+
+/// Whether each key is below the next one.
+pub fn rises(list: &KeyList) -> bool
+    ensures yes { OnTrue result (Rises list.now) }
+    ensures no { OnFalse result (¬ Rises list.now) }
+{
+    'keys: for i in 1..list.len() {
+        if !list.get(i - 1).cmp(list.get(i)).is_lt() {
+            return false;
+        }
+    }
+    true
+}
+
+/// The key column of so many rows, and how many bytes it takes.
+fn keys_at(alloc: Global, rows: u32, bytes: &[u8]) -> Result<(ColumnData, usize), Stop>
+    ensures found { IfOk result (λ found. (found.0.form ≡ forms.Keys) × IsColumnFound forms.Keys rows bytes.now found.0.cells found.1) }
+    ensures only { (cs : List Cell) (front rest : List ℕ) → SpellsColumn forms.Keys cs front → length cs ≡ rows → bytes.now ≡ front ++ rest → MatchResult result (λ found. (found.0 ≡ record { form = forms.Keys; cells = cs }) × (found.1 ≡ length front)) (λ e. e ≡ stops.Memory) }
+    ensures stop { IfErr result (Stops (IsRefusedAt forms.Keys rows bytes.now)) }
+{
+    match decode_keys(alloc, bytes, rows) {
+        Ok(found) => Ok(found),
+        Err(CodecNo::Memory) => Err(Stop::Memory),
+        Err(CodecNo::Place { offset }) => {
+            Err(Stop::Left(bytes.len().saturating_sub(offset as usize)))
+        }
+    }
+}
+
+/// The keys of a base file, and what stands behind them.
+#[derive(Drop)]
+pub struct Front<'a> {
+    pub column: ColumnData,
+    pub list: KeyList,
+    pub rest: &'a [u8],
+}
+
+/// The letters, the number of rows and the keys.
+pub fn front_of(alloc: Global, bytes: &[u8]) -> Result<Front<'_>, Stop>
+    ensures column { IfOk result (λ front. front.column ≡ record { form = forms.Keys; cells = key_cells front.list }) }
+    ensures found { IfOk result (λ front. ReadsKeys bytes.now front.list front.rest.now) }
+    ensures only { (keys : List (List ℕ)) (rest : List ℕ) → ReadsKeys bytes.now keys rest → MatchResult result (λ front. (front.list ≡ keys) × (front.rest.now ≡ rest)) (λ e. e ≡ stops.Memory) }
+    ensures stop { IfErr result (Stops (IsKeysFault bytes.now)) }
+{
+    let (rows, behind) = match rows_of(bytes) {
+        Ok(read) => read,
+        Err(stop) => return Err(stop),
+    };
+    let (column, used) = match keys_at(alloc, rows, behind) {
+        Ok(read) => read,
+        Err(stop) => return Err(stop),
+    };
+    let Ok(list) = list_of(alloc, &column) else {
+        return Err(Stop::Memory);
+    };
+    if !rises(&list) {
+        return Err(Stop::Left(behind.len()));
+    }
+    Ok(Front {
+        column,
+        list,
+        rest: after(behind, used),
+    })
+}
