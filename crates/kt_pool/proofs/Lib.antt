@@ -2,6 +2,7 @@ pub mod Writing
 pub mod Views
 pub mod Along
 pub mod Placing
+pub mod Clearing
 pub mod Standing
 pub mod Changes
 pub mod Fresh

@@ -22,9 +22,9 @@ module _ (cells : List Cell) (first n : ℕ) (inside : first < length cells) whe
     | inr other ↦ let e = get_or-set_other cells first k (record { bytes = load_at cells first; next = next_at cells first; len = n }) blank other in (ap (λ (c : Cell). c.bytes) e, ap (λ (c : Cell). c.next) e)
   ]
 
--- a write in fresh cells, and then the length of the place
-pub filled : (old wrote : List Cell) (first after : ℕ) (bytes : List ℕ) → IsChain old first (cells_for (length bytes)) → KeepsChains old wrote → IsFull old → after ≡ walk old first (cells_for (0 + length bytes)) → ((m i : ℕ) → IsChain old first m → i < 56 * m → byte_at wrote first i ≡ written 0 bytes (byte_at old first) i) → ((k : ℕ) → ((j : ℕ) → j < cells_for (0 + length bytes) → walk old first j ≢ k) → load_at wrote k ≡ load_at old k) → Fills old (set wrote first (record { bytes = load_at wrote first; next = next_at wrote first; len = length bytes })) first bytes after
-filled old wrote first after bytes chain kept full goes done frame =
+-- bytes in fresh cells, and then the length of the place
+pub filled_with : (old wrote : List Cell) (first after : ℕ) (bytes : List ℕ) → IsChain old first (cells_for (length bytes)) → KeepsChains old wrote → IsFull old → after ≡ walk old first (cells_for (length bytes)) → ((i : ℕ) → i < length bytes → byte_at wrote first i ≡ get_or bytes i 0) → ((k : ℕ) → ((j : ℕ) → j < cells_for (length bytes) → walk old first j ≢ k) → load_at wrote k ≡ load_at old k) → Fills old (set wrote first (record { bytes = load_at wrote first; next = next_at wrote first; len = length bytes })) first bytes after
+filled_with old wrote first after bytes chain kept full goes done frame =
     let c : Cell = record { bytes = load_at wrote first; next = next_at wrote first; len = length bytes } in
     let new : List Cell = set wrote first c in
     let inside : first < length wrote = let i = chain.inside 0 (omega arith) in let k = kept.count in omega arith in
@@ -36,10 +36,17 @@ filled old wrote first after bytes chain kept full goes done frame =
       here = ap (λ (c : Cell). c.len) (get_or-set_same wrote first c blank inside);
       others = λ k ne. ap (λ (c : Cell). c.len) (get_or-set_other wrote first k c blank ne) ∙ kept.len k;
       full = λ k low. ap length (same k).0 ∙ kept.full full k (subst (λ n. k < n) (length-set wrote first c) low);
-      goes_on = goes ∙ ap (λ n. walk old first (cells_for n)) (omega arith);
-      placed = λ i low. ap (λ w. get_or (load_at new w) (i % 56) 0) (walk_kept wrote new (λ k. (same k).1) first (i / 56)) ∙ ap (λ xs. get_or xs (i % 56) 0) (same (walk wrote first (i / 56))).0 ∙ done (cells_for (length bytes)) i chain (omega arith) ∙ written_in 0 bytes (byte_at old first) i (omega arith) (omega arith) ∙ ap (λ n. get_or bytes n 0) (omega arith);
-      frame = λ k h. (same k).0 ∙ frame k (λ j low. h j (omega arith));
+      goes_on = goes;
+      placed = λ i low. ap (λ w. get_or (load_at new w) (i % 56) 0) (walk_kept wrote new (λ k. (same k).1) first (i / 56)) ∙ ap (λ xs. get_or xs (i % 56) 0) (same (walk wrote first (i / 56))).0 ∙ done i low;
+      frame = λ k h. (same k).0 ∙ frame k h;
     }
+
+-- a write in fresh cells, and then the length of the place
+pub filled : (old wrote : List Cell) (first after : ℕ) (bytes : List ℕ) → IsChain old first (cells_for (length bytes)) → KeepsChains old wrote → IsFull old → after ≡ walk old first (cells_for (0 + length bytes)) → ((m i : ℕ) → IsChain old first m → i < 56 * m → byte_at wrote first i ≡ written 0 bytes (byte_at old first) i) → ((k : ℕ) → ((j : ℕ) → j < cells_for (0 + length bytes) → walk old first j ≢ k) → load_at wrote k ≡ load_at old k) → Fills old (set wrote first (record { bytes = load_at wrote first; next = next_at wrote first; len = length bytes })) first bytes after
+filled old wrote first after bytes chain kept full goes done frame =
+    filled_with old wrote first after bytes chain kept full (goes ∙ ap (λ n. walk old first (cells_for n)) (omega arith))
+    (λ i low. done (cells_for (length bytes)) i chain (omega arith) ∙ written_in 0 bytes (byte_at old first) i (omega arith) (omega arith) ∙ ap (λ n. get_or bytes n 0) (omega arith))
+    (λ k h. frame k (λ j low. h j (omega arith)))
 
 -- the bytes from `at` to the end of their cell
 pub chunk_bytes : (cells : List Cell) (first len at e : ℕ) → IsChain cells first (cells_for len) → IsFull cells → at < len → at % 56 + e ≤ 56 → at + e ≡ min len (56 * (at / 56) + 56) → take (at % 56 + e - at % 56) (drop (at % 56) (load_at cells (walk cells first (at / 56)))) ≡ between at (min len (56 * (at / 56) + 56)) (content cells first len)

@@ -1,3 +1,4 @@
 pub mod Contents
 pub mod Cells
+pub mod Clearing
 pub mod Sound

@@ -6,7 +6,8 @@ ghost use Rattle.std.specs.Cmp.Lexicographic.{slice_cmp};
 ghost use Rattle.std.specs.Vec.{vec_capacity, vec_len};
 ghost use Rattle.kt_pool.specs.Contents.{cells_for};
 ghost use Rattle.kt_pool.specs.Cells.{KeepsChains, IsChain, IsFull, walk, next_at, len_at, load_at, byte_at, content, written, nothing, Fills, Frees};
-ghost use Rattle.std.specs.Prelude.{◌^◌, min, slice_range};
+ghost use Rattle.kt_pool.specs.Clearing.{Clears};
+ghost use Rattle.std.specs.Prelude.{◌^◌, min, slice_range, replicate};
 
 use std::alloc::AllocError;
 use std::cmp::Ordering;
@@ -86,6 +87,32 @@ pub fn fill(cells: &mut [Cell], first: u32, bytes: &[u8]) -> u32
 {
     let after = write(cells, first, 0, bytes);
     cells[first as usize].len = bytes.len() as u32;
+    after
+}
+
+/// Makes the first `count` cells of a chain all 0, and says which cell comes after them.
+fn clear(cells: &mut [Cell], first: u32, count: usize) -> u32
+    requires chain { IsChain cells.old first count }
+    requires full { IsFull cells.old }
+    ensures { Clears cells.old cells.new first count result }
+{
+    let mut at = first;
+    for _step in 0..count {
+        put(cells, at, 0, &[0; 56]);
+        at = cells[at as usize].next;
+    }
+    at
+}
+
+/// Places so many bytes, all 0, in the first cells of a chain, and says which cell comes after them.
+pub fn fill_blank(cells: &mut [Cell], first: u32, len: usize) -> u32
+    requires chain { IsChain cells.old first (cells_for len) }
+    requires full { IsFull cells.old }
+    requires short { len < nothing }
+    ensures { Fills cells.old cells.new first (replicate len 0) result }
+{
+    let after = clear(cells, first, cells_taken(len));
+    cells[first as usize].len = len as u32;
     after
 }
 

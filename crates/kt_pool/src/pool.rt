@@ -7,7 +7,8 @@ ghost use Rattle.std.specs.Vec.{vec_capacity, vec_len};
 ghost use Rattle.kt_pool.specs.Contents.{Contents, cells_for, used, free, at_cell, Stands, bytes_at, with_place, with_reserved, overwritten};
 
 use crate::cells::{
-    Cell, NOTHING, append, byte, cells_taken, chunk, compare, fill, len_of, release, write,
+    Cell, NOTHING, append, byte, cells_taken, chunk, compare, fill, fill_blank, len_of, release,
+    write,
 };
 use crate::error::{Full, NoMemory};
 use crate::place::Place;
@@ -126,6 +127,22 @@ impl Pool {
         self.first = after;
         self.free -= taken;
         self.reserved -= taken;
+        Place { cell: first }
+    }
+
+    /// Places so many bytes, all 0, in reserved cells, where no place stood.
+    pub fn place_blank(&mut self, len: usize) -> Place
+        requires { cells_for len ≤ self.old.reserved }
+        ensures vacant { at_cell self.old result.cell ≡ None }
+        ensures inside { result.cell < length self.old.places }
+        ensures placed { self.new ≡ with_place self.old result.cell (Some (replicate len 0)) (self.old.reserved - cells_for len) }
+    {
+        let first = self.first;
+        let rest = fill_blank(&mut self.cells, first, len);
+        let count = cells_taken(len) as u32;
+        self.first = rest;
+        self.free -= count;
+        self.reserved -= count;
         Place { cell: first }
     }
 

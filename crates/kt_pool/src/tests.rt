@@ -43,6 +43,21 @@ fn places_of_all_lengths(rt: HostRuntime) -> Result<(), Fail> {
 }
 
 #[test]
+fn blank_where_bytes_stood(rt: HostRuntime) -> Result<(), Fail> {
+    let mut pool = Pool::new(rt.alloc(), 2)?;
+    pool.reserve(2)?;
+    let zeros = [0; 60];
+    let ones = [1; 60];
+    let first = pool.place(&ones);
+    pool.give_back(first);
+    pool.reserve(2)?;
+    let place = pool.place_blank(60);
+    assert_eq!(rt; pool.compare(place, &zeros), Ordering::Equal);
+    assert_eq!(rt; pool.free(), 0);
+    Ok(())
+}
+
+#[test]
 fn filled_and_filled_again(rt: HostRuntime) -> Result<(), Fail> {
     let mut pool = Pool::new(rt.alloc(), 3)?;
     assert!(rt; pool.reserve(4).is_err());
