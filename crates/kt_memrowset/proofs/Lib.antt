@@ -1,0 +1,14 @@
+pub mod Counting
+pub mod Links
+pub mod Chains
+pub mod Trails
+pub mod Rows
+pub mod Writing
+pub mod Extending
+pub mod Splits
+pub mod Frames
+pub mod Joining
+pub mod Applying
+pub mod Releasing
+pub mod Listing
+pub mod Testing

@@ -1,0 +1,21 @@
+-- What stores keep to.
+use Rattle.std.specs.Prelude.{◌≡◌, ◌↔◌, ◌≤◌, ◌+◌, ℕ}
+use Rattle.kt_history.specs.declared.operation.RowOp.{RowOp}
+use Rattle.kt_pool.specs.Contents.{Contents, at_cell}
+use Rattle.kt_tree.specs.Trees.{need}
+use Rattle.kt_memrowset.specs.declared.store.MemRowSet.{MemRowSet}
+use Rattle.kt_memrowset.specs.Stores.{IsStore, store_of, Owns, link_need, share}
+
+-- the store stands at both, with the same rows in the same places
+pub record StaysSo (s : MemRowSet) (old new : Contents) : Type 0 where
+  pub stands : IsStore s new
+  pub same : store_of s new ≡ store_of s old
+  pub owns : (k : ℕ) → Owns s new k ↔ Owns s old k
+
+-- a store stands as it was where no place of its own has changed
+abbrev pub stores_stay : Type 0
+stores_stay = (s : MemRowSet) (old new : Contents) → IsStore s old → ((k : ℕ) → Owns s old k → at_cell new k ≡ at_cell old k) → StaysSo s old new
+
+-- a key and a change of it take at most half of what a write of the operation needs
+abbrev pub shares_suffice : Type 0
+shares_suffice = (op : RowOp) → need op.key + link_need op.cells ≤ share op

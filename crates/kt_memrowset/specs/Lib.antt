@@ -1,0 +1,4 @@
+pub mod Links
+pub mod Stores
+pub mod Writes
+pub mod Laws

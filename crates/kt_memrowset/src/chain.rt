@@ -1,0 +1,177 @@
+//! The changes of one row, in a chain.
+ghost use Rattle.std.specs.Prelude.{◌≡◌, [], ◌∷◌, ℕ, List, ◌++◌, None, length, IfOk, OnOk};
+ghost use Rattle.std.specs.Prelude.{if◌then◌else◌, ◌==◌};
+ghost use Rattle.kt_histlaws.specs.Histories.{after_steps};
+ghost use Rattle.kt_history.specs.Rows.{Row};
+ghost use Rattle.kt_memrowset.specs.Links.{Link, IsLink, IsChainAt, link_at, chain, newest, change_of, steps_of};
+ghost use Rattle.kt_memrowset.specs.Stores.{RowStands, stays, trail_at, IsTrailAt, Releases, row_changes};
+ghost use Rattle.kt_pool.specs.Contents.{Stands, bytes_at};
+
+use crate::link::{NOTHING, head_in};
+use crate::read::cells_of;
+use kt_base::{Cells, NoMemory, Octets};
+use kt_history::{Change, KeyChange, Kindly, apply};
+use kt_pool::{Place, Pool};
+use kt_records::refusal::Stop;
+use std::alloc::Global;
+
+/// Whether there is a row after a change of this kind.
+pub fn stays(kind: Kindly) -> bool
+    ensures { result ≡ stays kind }
+{
+    match kind {
+        Kindly::Ins | Kindly::Upd => true,
+        Kindly::Del => false,
+    }
+}
+
+/// Where the last change of a row is placed.
+pub fn last_of(pool: &Pool, first: u32) -> u32
+    requires { RowStands pool.now first (chain pool.now first) }
+    ensures { (l : Link) (links : List Link) → chain pool.now first ≡ l ∷ links → result ≡ (newest l links).cell }
+{
+    let head = head_in(pool, first);
+    if head.last == NOTHING {
+        first
+    } else {
+        head.last
+    }
+}
+
+/// The cells of a change, read through a buffer.
+fn cells_in(alloc: Global, pool: &Pool, cell: u32, buffer: &mut Vec<u8>) -> Result<Cells, NoMemory>
+    requires { IsLink pool.now (link_at pool.now cell) }
+    ensures { IfOk result (λ cells. cells ≡ (link_at pool.now cell).cells) }
+{
+    buffer.clear();
+    if pool.append_to(Place { cell }, buffer).is_err() {
+        return Err(NoMemory);
+    }
+    match cells_of(alloc, &buffer[21..]) {
+        Ok((cells, _)) => Ok(cells),
+        Err(Stop::Memory) => Err(NoMemory),
+        Err(Stop::Left(_)) => unreachable!(),
+    }
+}
+
+/// A change of this kind, whose cells are read through a buffer.
+pub fn change_in(
+    alloc: Global,
+    pool: &Pool,
+    cell: u32,
+    kind: Kindly,
+    buffer: &mut Vec<u8>,
+) -> Result<Change, NoMemory>
+    requires { IsLink pool.now (link_at pool.now cell) }
+    ensures { IfOk result (λ change. change ≡ change_of kind (link_at pool.now cell).cells) }
+{
+    match kind {
+        Kindly::Ins => Ok(Change::Ins(cells_in(alloc, pool, cell, buffer)?)),
+        Kindly::Upd => Ok(Change::Upd(cells_in(alloc, pool, cell, buffer)?)),
+        Kindly::Del => Ok(Change::Del),
+    }
+}
+
+/// Does the change in this cell to a row, if it is at or below a time.
+fn advance(
+    alloc: Global,
+    pool: &Pool,
+    cell: u32,
+    t: u64,
+    row: &mut Option<Cells>,
+    buffer: &mut Vec<u8>,
+) -> Result<u32, NoMemory>
+    requires { IsLink pool.now (link_at pool.now cell) }
+    ensures { IfOk result (λ next. (next ≡ (link_at pool.now cell).head.next) × (row.new ≡ after_steps t (steps_of (link_at pool.now cell ∷ [])) row.old)) }
+{
+    let head = head_in(pool, cell);
+    if head.ts <= t {
+        apply(&change_in(alloc, pool, cell, head.kind, buffer)?, row)?;
+    }
+    Ok(head.next)
+}
+
+/// The row at a time, whose first change is in this cell.
+pub fn row_at(alloc: Global, pool: &Pool, first: u32, t: u64) -> Result<Option<Cells>, NoMemory>
+    requires { IsChainAt pool.now first (chain pool.now first) }
+    ensures { IfOk result (λ row. row ≡ after_steps t (steps_of (chain pool.now first)) None) }
+{
+    let mut row = None;
+    let mut buffer = Vec::new(alloc);
+    let mut cell = first;
+    while cell != NOTHING {
+        cell = advance(alloc, pool, cell, t, &mut row, &mut buffer)?;
+    }
+    Ok(row)
+}
+
+/// The bytes of a place.
+pub fn octets_at(alloc: Global, pool: &Pool, cell: u32) -> Result<Octets, NoMemory>
+    requires { Stands pool.now cell }
+    ensures { IfOk result (λ octets. octets ≡ bytes_at pool.now cell) }
+{
+    let mut bytes = Vec::new(alloc);
+    if pool.append_to(Place { cell }, &mut bytes).is_err() {
+        return Err(NoMemory);
+    }
+    Ok(Octets::of(bytes))
+}
+
+/// Gives back the cells of all changes of a store, from the newest.
+pub fn release(pool: &mut Pool, newest: u32)
+    requires { IsTrailAt pool.old newest (trail_at pool.old (length pool.old.places) newest) }
+    ensures { Releases pool.old pool.new (trail_at pool.old (length pool.old.places) newest) }
+{
+    let mut cell = newest;
+    while cell != NOTHING {
+        let before = head_in(pool, cell).before;
+        pool.give_back(Place { cell });
+        cell = before;
+    }
+}
+
+/// Lists the change in this cell, if it is at or below a time.
+fn push_change(
+    alloc: Global,
+    pool: &Pool,
+    key: &Octets,
+    cell: u32,
+    upto: u64,
+    list: &mut Vec<KeyChange>,
+    buffer: &mut Vec<u8>,
+) -> Result<u32, NoMemory>
+    requires { IsLink pool.now (link_at pool.now cell) }
+    ensures next { IfOk result (λ next. next ≡ (link_at pool.now cell).head.next) }
+    ensures list { IfOk result (λ next. list.new.items ≡ list.old.items ++ row_changes upto key.now (steps_of (link_at pool.now cell ∷ []))) }
+{
+    let head = head_in(pool, cell);
+    if head.ts <= upto {
+        let change = change_in(alloc, pool, cell, head.kind, buffer)?;
+        list.push(KeyChange {
+            key: key.copy()?,
+            ts: head.ts,
+            change,
+        })?;
+    }
+    Ok(head.next)
+}
+
+/// Lists the changes of a row at or below a time.
+pub fn push_changes(
+    alloc: Global,
+    pool: &Pool,
+    key: &Octets,
+    first: u32,
+    upto: u64,
+    list: &mut Vec<KeyChange>,
+) -> Result<(), NoMemory>
+    requires { IsChainAt pool.now first (chain pool.now first) }
+    ensures { OnOk result (list.new.items ≡ list.old.items ++ row_changes upto key.now (steps_of (chain pool.now first))) }
+{
+    let mut buffer = Vec::new(alloc);
+    let mut cell = first;
+    while cell != NOTHING {
+        cell = push_change(alloc, pool, key, cell, upto, list, &mut buffer)?;
+    }
+    Ok(())
+}
