@@ -1,0 +1,5 @@
+pub mod LogOrder
+pub mod Replays
+pub mod Fronts
+pub mod Sides
+pub mod Worked

@@ -1,0 +1,4 @@
+pub mod Replay
+pub mod Laws
+pub mod Fronts
+pub mod Side
