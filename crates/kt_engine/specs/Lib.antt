@@ -1,0 +1,4 @@
+pub mod Filling
+pub mod Views
+pub mod Visits
+pub mod Stores

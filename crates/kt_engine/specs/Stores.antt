@@ -1,0 +1,43 @@
+-- What a store in the pool does with an operation: the change of its own cells, and the cells that it takes.
+use Rattle.std.specs.Prelude.{◌≡◌, ◌≤◌, ℕ, ◌+◌, ◌/◌, List, [], ◌∷◌, length, map, nat_le, Option}
+use Rattle.std.specs.List.{filter, flat_map}
+use Rattle.kt_history.specs.declared.change.Change.{Change}
+use Rattle.kt_history.specs.declared.change.Change.TheVariants.{Ins, Upd, Del}
+use Rattle.kt_history.specs.declared.changes.KeyChange.{KeyChange}
+use Rattle.kt_history.specs.declared.operation.RowOp.{RowOp}
+use Rattle.kt_history.specs.declared.target.Kindly.{Kindly}
+use Rattle.kt_history.specs.declared.target.Kindly.TheVariants as kindly
+use Rattle.kt_history.specs.Operations.{op_len}
+use Rattle.kt_history.specs.Rows.{Row, apply}
+use Rattle.kt_pool.specs.Contents.{Contents, used}
+use Rattle.kt_histlaws.specs.Histories.{Store, Hist, Steps}
+
+-- the change of this kind, with the operation's own cells
+abbrev pub change_of : Kindly → Row → Change
+change_of kindly.Ins cells = Ins cells
+change_of kindly.Upd cells = Upd cells
+change_of kindly.Del cells = Del
+
+-- the row after all changes
+abbrev pub apply_all : Steps → Option Row → Option Row
+apply_all [] row = row
+apply_all (c ∷ steps) row = apply_all steps (apply c.1 row)
+
+abbrev pub last_row : Hist → Option Row
+last_row h = apply_all h.steps h.first
+
+-- the most cells of the pool that one store takes for an operation: half of what a write needs for it
+abbrev pub share : RowOp → ℕ
+share op = (op_len op + 55) / 56 + 4
+
+-- the changes of a store at or below a time, by key, then timestamp
+abbrev pub changes_upto : ℕ → Store → List KeyChange
+changes_upto t store = flat_map (λ row. map (λ c. record { key = row.0; ts = c.0; change = c.1 }) (filter (λ c. nat_le c.0 t) row.1.steps)) store
+
+-- so many reserved cells at most are taken, and the size stays
+pub record TakesUpTo (most : ℕ) (old new : Contents) : Type 0 where
+  pub cells : ℕ
+  pub few : cells ≤ most
+  pub used : used new ≡ used old + cells
+  pub reserved : new.reserved + cells ≡ old.reserved
+  pub size : length new.places ≡ length old.places

@@ -1,0 +1,14 @@
+//! The tablet as one value: its rows and their pool, its clock, the writes that fly, its history and where each
+//! session stands.
+//!
+//! For the layers above: a tablet is the engine of `kt_histlaws`, which stands for a run of its workload. Each event
+//! adds exactly its line and keeps that it stands.
+#![tactic(auto)]
+
+pub mod store;
+pub mod tablet;
+mod turns;
+
+pub use store::RowStore;
+pub use tablet::write::BeginNo;
+pub use tablet::{LookNo, Stopped, Tablet};
