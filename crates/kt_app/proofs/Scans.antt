@@ -1,32 +1,47 @@
--- What a scan of everything shows.
-use Rattle.std.proofs.Common.{◌≡◌, ℕ, List, [], ◌∷◌, length, ◌^◌, ◌<◌, arith, None, refl, ap}
-use Rattle.std.specs.List.{filter}
-use Rattle.std.proofs.Common.{map}
-use Rattle.kt_base.specs.declared.cell.Kind.TheVariants.{Int64, String}
-use Rattle.kt_history.specs.declared.scan.Scan.{Scan}
-use Rattle.kt_history.specs.Replies.{shown, selected, kept, whole_row, kinds_of}
-use Rattle.kt_script.specs.Form.{workload}
-use Rattle.kt_base.specs.declared.cell.Cell.{Cell}
+-- What a scan of the present shows, and the kinds of its columns.
+use Rattle.std.proofs.Common.{◌≡◌, ℕ, ◌^◌, ◌<◌, List, [], ◌∷◌, ◌++◌, Some, None, refl, ap, arith, length, map, cond, true, false}
+use Rattle.std.specs.Prelude.{unwrap_or}
+use Rattle.std.specs.Ordering.{nat_cmp, eq_by_cmp}
+use Rattle.std.specs.FinMap.Entries.{find}
 use Rattle.std.proofs.lemmas.List.Elements.{All-from_recursion}
+use Rattle.kt_base.specs.declared.cell.Kind.{Kind}
+use Rattle.kt_base.specs.declared.cell.Cell.{Cell}
 use Rattle.kt_history.specs.declared.command.Command.TheVariants as command
-use Rattle.kt_script.specs.Laws.{Fits64, ReplyFits}
-use Rattle.kt_app.specs.Session.{number_row, number_rows, turn_shown}
+use Rattle.kt_history.specs.declared.scan.Scan.{Scan}
 use Rattle.kt_history.specs.Rows.{Rows}
+use Rattle.kt_history.specs.Replies.{shown}
+use Rattle.kt_schema.specs.declared.column.Column.{Column}
+use Rattle.kt_script.specs.Laws.{Fits64, ReplyFits}
+use Rattle.kt_app.specs.Session.{on_table, turn_shown}
 
--- what a scan of everything shows
-plain : (rows : Rows) → map (selected None) (filter (kept []) (map (whole_row ((1, Int64) ∷ [])) rows)) ≡ number_rows rows
-plain [] = refl
-plain (row ∷ rows) = ap (λ rest. number_row row ∷ rest) (plain rows)
+-- a reply whose count fits
+pub scan_fits : (columns : List Column) (scan : Scan) (rows : Rows) (listed : List (List Cell)) → listed ≡ shown (on_table columns).keys scan rows → length listed < 2 ^ 64 → (t s : ℕ) → t ≡ s → t < 2 ^ 64 → ReplyFits (turn_shown (on_table columns) (command.Scan scan) rows s)
+scan_fits columns scan rows listed same few t s is fits =
+    let count : Fits64 (length (shown (on_table columns).keys scan rows)) = omega (arith, ap length same, few) in
+    All-from_recursion Fits64 (s ∷ length (shown (on_table columns).keys scan rows) ∷ []) (omega (arith, is, fits), (count, tt))
 
-pub shown_all : (scan : Scan) → scan.columns ≡ None → scan.preds ≡ [] → (rows : Rows) → shown ((1, Int64) ∷ []) scan rows ≡ number_rows rows
-shown_all scan columns preds rows = rw (columns, preds) (plain rows)
+same_kinds : (columns : List Column) → map (λ c. c.kind) columns ≡ map (λ (k : ℕ × Kind). k.1) (map (λ c. (c.id, c.kind)) columns)
+same_kinds [] = refl
+same_kinds (c ∷ columns) = ap (λ kinds. c.kind ∷ kinds) (same_kinds columns)
 
--- and the kinds of its columns
-pub kinds_all : (scan : Scan) → scan.columns ≡ None → kinds_of (workload 0 []) scan.columns ≡ Int64 ∷ String ∷ []
-kinds_all scan columns = rw columns refl
+-- the kinds of the key columns, and those of the others
+pub all_kinds_are : (keys others : List Column) → map (λ c. c.kind) keys ++ map (λ c. c.kind) others ≡ map (λ (k : ℕ × Kind). k.1) (map (λ c. (c.id, c.kind)) keys ++ map (λ c. (c.id, c.kind)) others)
+all_kinds_are [] others = same_kinds others
+all_kinds_are (c ∷ keys) others = ap (λ kinds. c.kind ∷ kinds) (all_kinds_are keys others)
 
--- whose count fits where the count of its rows does
-pub scan_fits : (scan : Scan) → scan.columns ≡ None → scan.preds ≡ [] → (rows : Rows) (listed : List (List Cell)) → listed ≡ number_rows rows → length listed < 2 ^ 64 → (t s : ℕ) → t ≡ s → t < 2 ^ 64 → ReplyFits (turn_shown (workload 0 []) (command.Scan scan) rows s)
-scan_fits scan columns preds rows listed same few t s is fits =
-    let count : Fits64 (length (shown (workload 0 []).keys scan rows)) = omega (arith, ap length (shown_all scan columns preds rows), ap length same, few) in
-    All-from_recursion Fits64 (s ∷ length (shown (workload 0 []).keys scan rows) ∷ []) (omega (arith, is, fits), (count, tt))
+-- the kind of a key column, and that of another one
+pub kind_found : (id : ℕ) (keys others : List (ℕ × Kind)) (k d : Kind) → find nat_cmp id keys ≡ Some k → unwrap_or (find nat_cmp id (keys ++ others)) d ≡ k
+kind_found id [] others k d h = absurd cc
+kind_found id (c ∷ keys) others k d h =
+    elim (eq_by_cmp nat_cmp id c.0) as (λ b. cond b (Some c.1) (find nat_cmp id keys) ≡ Some k → unwrap_or (cond b (Some c.1) (find nat_cmp id (keys ++ others))) d ≡ k) [
+      | true ↦ λ here. cc
+      | false ↦ λ later. kind_found id keys others k d later
+    ] h
+
+pub kind_later : (id : ℕ) (keys others : List (ℕ × Kind)) (d : Kind) → find nat_cmp id keys ≡ None → unwrap_or (find nat_cmp id (keys ++ others)) d ≡ unwrap_or (find nat_cmp id others) d
+kind_later id [] others d h = refl
+kind_later id (c ∷ keys) others d h =
+    elim (eq_by_cmp nat_cmp id c.0) as (λ b. cond b (Some c.1) (find nat_cmp id keys) ≡ None → unwrap_or (cond b (Some c.1) (find nat_cmp id (keys ++ others))) d ≡ unwrap_or (find nat_cmp id others) d) [
+      | true ↦ λ here. absurd cc
+      | false ↦ λ later. kind_later id keys others d later
+    ] h

@@ -6,26 +6,24 @@ use Rattle.std.proofs.lemmas.Bool.Decides.{nat_tests}
 use Rattle.kt_history.proofs.RowLaws.{rows_at-with_write_from, rows_at-with_write_below}
 use Rattle.kt_history.proofs.Runs.{IsRunFrom-append, state_after-append}
 use Rattle.kt_history.specs.Replies.{told, shown}
-use Rattle.kt_base.specs.declared.cell.Cell.TheVariants as cell
 use Rattle.kt_history.specs.declared.command.Command.{Command}
 use Rattle.kt_history.specs.declared.command.Command.TheVariants as command
-use Rattle.kt_history.specs.declared.operation.RowOp.{RowOp}
+use Rattle.kt_history.specs.declared.operation.Write.{Write}
 use Rattle.kt_history.specs.declared.event.Event.{Event}
 use Rattle.kt_history.specs.declared.reply.Reply.{Reply}
 use Rattle.kt_history.specs.Rows.{Rows, changed}
 use Rattle.kt_history.specs.History.{Past, rows_at}
-use Rattle.kt_history.specs.Operations.{changes_on, outcomes_on, op_len, need}
+use Rattle.kt_history.specs.Operations.{changes_on, outcomes_on, need}
 use Rattle.kt_app.proofs.PastLaws.{up_to_later, up_to_with, mark_stays}
 use Rattle.kt_history.specs.Machine.{Workload, State, next_timestamp, IsRunFrom, state_after}
-use Rattle.kt_script.specs.Form.{workload}
+use Rattle.std.specs.List.{sum_by}
+use Rattle.std.proofs.lemmas.List.Sums.{sum_by-cons}
+use Rattle.kt_schema.specs.declared.column.Column.{Column}
+use Rattle.kt_script.specs.Scripts.{workload}
+use Rattle.kt_script.specs.Fit.{CommandFits}
+use Rattle.kt_app.specs.Crash.{need_of, pool_of}
 use Rattle.kt_app.specs.Headline.{kinds_shown, shown_from}
-use Rattle.kt_app.specs.Session.{IsTaken, AreTaken, at_rest, Shows, EndsAt, turn_lines, turn_rows, turn_reply, turn_past, past_from, lines_from, replies_from, last_from, not_answered}
-
--- what such a write needs
-small : (op : RowOp) (text : List ℕ) → length op.key ≡ 8 → op.cells ≡ (2, cell.Bytes text) ∷ [] → length text ≤ 65536 → need (op ∷ []) ≤ 262144
-small op text key cells short =
-    let len : op_len op ≡ 5 + 8 + (0 + (2 + (5 + length text))) = rw (cells, key) refl in
-    rw len (omega (arith, short))
+use Rattle.kt_app.specs.Session.{AllFit, at_rest, Shows, EndsAt, turn_lines, turn_rows, turn_reply, turn_past, past_from, lines_from, replies_from, last_from, not_answered}
 
 tests : (i t : ℕ) → ((i == i) && (t == t) || false) ≡ true
 tests i t = grind (arith, nat_tests)
@@ -71,6 +69,18 @@ uncons zero (y ∷ ys) x xs h = (cc, cc)
 uncons (suc k) [] x xs h = cc
 uncons (suc k) (y ∷ ys) x xs h = uncons k ys x xs h
 
+-- the pool has room for each write
+abbrev pub HasRoom : ℕ → List Command → Type 0
+HasRoom cells commands = (i : ℕ) (w : Write) → slice_get commands i ≡ Some (command.Write w) → need w.ops ≤ cells
+
+need_within : (commands : List Command) → HasRoom (sum_by need_of commands) commands
+need_within [] i w is = absurd cc
+need_within (c ∷ commands) zero w is = let same : c ≡ command.Write w = cc in omega (arith, sum_by-cons need_of c commands, ap need_of same)
+need_within (c ∷ commands) (suc i) w is = omega (arith, sum_by-cons need_of c commands, need_within commands i w is)
+
+pub has_room : (commands : List Command) → HasRoom (pool_of (commands ∷ [])) commands
+has_room commands i w is = omega (arith, need_within commands i w is)
+
 -- a turn, whatever the plan and the pool
 module _ (work : Workload) where
   -- with the rows of the turn
@@ -97,22 +107,21 @@ module _ (work : Workload) where
   turn_ends_at past c m rows (command.Mark t) e = record { mark = e.mark; upto = up_to_later c (next_timestamp c m) past.writes (omega arith) e.upto; shows = turn_shows past c m rows (command.Mark t) e.shows }
   turn_ends_at past c m rows (command.Chore t) e = record { mark = e.mark; upto = up_to_later c (next_timestamp c m) past.writes (omega arith) e.upto; shows = turn_shows past c m rows (command.Chore t) e.shows }
 
-module _ (cells : ℕ) (roomy : 262144 ≤ cells) (commands : List Command) where
+module _ (columns : List Column) (cells : ℕ) (commands : List Command) (roomy : HasRoom cells commands) where
   abbrev work : Workload
-  work = workload cells (commands ∷ [])
+  work = workload cells (record { columns = columns; plan = commands ∷ [] })
 
   -- a turn is allowed
-  pub turn_runs : (past : Past) (c i m : ℕ) (x : Command) → slice_get commands i ≡ Some x → IsTaken x → IsRunFrom work (at_rest past c (suc i)) (turn_lines x c (suc i) m)
+  pub turn_runs : (past : Past) (c i m : ℕ) (x : Command) → slice_get commands i ≡ Some x → CommandFits columns x → IsRunFrom work (at_rest past c (suc i)) (turn_lines x c (suc i) m)
   turn_runs past c i m (command.Write w) is taken =
-      let room : need w.ops ≤ cells = rw taken.1 (omega (arith, roomy, small taken.0 taken.4 taken.3 taken.5 taken.6)) in
-      ((refl, record { next = refl; rests = refl }, rw is (record { room = room; apart = refl; next = refl })), ((refl, tests (suc i) (next_timestamp c m)), tt))
+      ((refl, record { next = refl; rests = refl }, rw is (record { room = roomy i w is; apart = refl; next = refl })), ((refl, tests (suc i) (next_timestamp c m)), tt))
   turn_runs past c i m (command.Scan scan) is taken =
-      ((refl, record { next = refl; rests = refl }, rw is taken.0, refl), ((refl, rw (is, taken.0) (tt, record { next = refl; rests = refl }), omega arith, refl), tt))
+      ((refl, record { next = refl; rests = refl }, rw is taken.now, refl), ((refl, rw (is, taken.now) (tt, record { next = refl; rests = refl }), omega arith, refl), tt))
   turn_runs past c i m (command.Mark t) is taken = absurd taken
   turn_runs past c i m (command.Chore chore) is taken = absurd taken
 
   -- and leaves the session at its next command
-  turn_ends : (past : Past) (c i m : ℕ) (x : Command) → slice_get commands i ≡ Some x → IsTaken x
+  turn_ends : (past : Past) (c i m : ℕ) (x : Command) → slice_get commands i ≡ Some x → CommandFits columns x
       → state_after work (at_rest past c (suc i)) (turn_lines x c (suc i) m) ≡ at_rest (turn_past work x past (next_timestamp c m)) (next_timestamp c m) (suc (suc i))
   turn_ends past c i m (command.Write w) is taken =
       let next : suc i + 1 ≡ suc (suc i) = omega arith in
@@ -125,7 +134,7 @@ module _ (cells : ℕ) (roomy : 262144 ≤ cells) (commands : List Command) wher
   turn_ends past c i m (command.Chore chore) is taken = absurd taken
 
   -- the lines are a run
-  pub all_run : (xs : List Command) (past : Past) (c k : ℕ) (ms : List ℕ) → drop k commands ≡ xs → AreTaken xs → IsRunFrom work (at_rest past c (suc k)) (lines_from xs c (suc k) ms)
+  pub all_run : (xs : List Command) (past : Past) (c k : ℕ) (ms : List ℕ) → drop k commands ≡ xs → AllFit columns xs → IsRunFrom work (at_rest past c (suc k)) (lines_from xs c (suc k) ms)
   all_run [] past c k ms is taken = tt
   all_run (x ∷ xs) past c k [] is taken = tt
   all_run (x ∷ xs) past c k (m ∷ ms) is taken =
@@ -136,7 +145,7 @@ module _ (cells : ℕ) (roomy : 262144 ≤ cells) (commands : List Command) wher
       (rw (turn_ends past c k m x here.0 taken.0) rest)
 
   -- and leave this
-  pub all_end : (xs : List Command) (past : Past) (c k : ℕ) (ms : List ℕ) → drop k commands ≡ xs → AreTaken xs → length ms ≤ length xs
+  pub all_end : (xs : List Command) (past : Past) (c k : ℕ) (ms : List ℕ) → drop k commands ≡ xs → AllFit columns xs → length ms ≤ length xs
       → state_after work (at_rest past c (suc k)) (lines_from xs c (suc k) ms) ≡ at_rest (past_from work xs past c ms) (last_from c ms) (suc (k + length ms))
   all_end [] past c k [] is taken len = ap (λ n. at_rest past c (suc n)) (sym (add_none k))
   all_end [] past c k (m ∷ ms) is taken len = absurd (omega arith)
@@ -150,7 +159,7 @@ module _ (cells : ℕ) (roomy : 262144 ≤ cells) (commands : List Command) wher
       ∙ ap (λ n. at_rest (past_from work (x ∷ xs) past c (m ∷ ms)) (last_from ts ms) (suc n)) (add_later k (length ms))
 
   -- a turn's reply is told
-  turn_told : (past : Past) (c k m : ℕ) (rows : Rows) (x : Command) (rest : List Event) → Shows past c rows → slice_get commands k ≡ Some x → IsTaken x
+  turn_told : (past : Past) (c k m : ℕ) (rows : Rows) (x : Command) (rest : List Event) → Shows past c rows → slice_get commands k ≡ Some x → CommandFits columns x
       → told work (at_rest past c (suc k)) (turn_lines x c (suc k) m ++ rest) 1 (suc k) ≡ Some (turn_reply work x rows (next_timestamp c m))
   turn_told past c k m rows (command.Write w) rest shows is taken =
       let ts = next_timestamp c m in
@@ -165,7 +174,7 @@ module _ (cells : ℕ) (roomy : 262144 ≤ cells) (commands : List Command) wher
   turn_told past c k m rows (command.Chore chore) rest shows is taken = absurd taken
 
   -- and a later one is told by the lines after it
-  turn_passed : (past : Past) (c k m j : ℕ) (x : Command) (rest : List Event) → slice_get commands k ≡ Some x → IsTaken x → suc k < j
+  turn_passed : (past : Past) (c k m j : ℕ) (x : Command) (rest : List Event) → slice_get commands k ≡ Some x → CommandFits columns x → suc k < j
       → told work (at_rest past c (suc k)) (turn_lines x c (suc k) m ++ rest) 1 j ≡ told work (at_rest (turn_past work x past (next_timestamp c m)) (next_timestamp c m) (suc (suc k))) rest 1 j
   turn_passed past c k m j (command.Write w) rest is taken later =
       rw (apart j (suc k) later) (ap (λ st. told work st rest 1 j) (turn_ends past c k m (command.Write w) is taken))
@@ -176,7 +185,7 @@ module _ (cells : ℕ) (roomy : 262144 ≤ cells) (commands : List Command) wher
 
   -- The replies of the session are those that the lines tell, where nothing is told behind them.
   pub all_told : (tail : List Event) → ((st : State) (j : ℕ) → told work st tail 1 j ≡ None)
-      → (xs : List Command) (past : Past) (c k : ℕ) (ms : List ℕ) (rows : Rows) → Shows past c rows → drop k commands ≡ xs → AreTaken xs → length ms ≤ length xs
+      → (xs : List Command) (past : Past) (c k : ℕ) (ms : List ℕ) (rows : Rows) → Shows past c rows → drop k commands ≡ xs → AllFit columns xs → length ms ≤ length xs
       → shown_from work (told work (at_rest past c (suc k)) (lines_from xs c (suc k) ms ++ tail) 1) (suc k) xs ≡ replies_from work xs rows c ms ++ map (not_answered work) (drop (length ms) xs)
   all_told tail quiet [] past c k [] rows shows is taken len = refl
   all_told tail quiet [] past c k (m ∷ ms) rows shows is taken len = absurd (omega arith)

@@ -3,18 +3,18 @@ use Rattle.std.proofs.Common.{◌≡◌, ℕ, suc, ◌+◌, ◌<◌, ◌≤◌, 
 use Rattle.kt_history.specs.declared.command.Command.{Command}
 use Rattle.kt_history.specs.Machine.{Workload, next_timestamp}
 use Rattle.kt_script.specs.Laws.{Fits64, ReplyFits}
-use Rattle.kt_script.specs.Form.{workload}
+use Rattle.kt_schema.specs.declared.column.Column.{Column}
 use Rattle.kt_app.specs.declared.session.Progress.{Progress}
 use Rattle.kt_app.proofs.PastLaws.{push}
-use Rattle.kt_app.specs.Session.{turn_rows, turn_past, past_from, lines_from, replies_from, last_from}
+use Rattle.kt_app.specs.Session.{on_table, turn_rows, turn_past, past_from, lines_from, replies_from, last_from}
 use Rattle.kt_history.specs.History.{Past}
 use Rattle.std.proofs.Common.{get_or, drop-cons}
 use mathlib.Core.List.{append-nil}
 use Rattle.kt_history.specs.Rows.{Rows}
 use Rattle.kt_app.specs.Turns.{TakesTurn, Begun}
 
-pub begun_none : (commands : List Command) (p : Progress) → p.last ≤ 2 ^ 63 → p.events.items ≡ [] → p.replies.items ≡ [] → Begun commands p.last p.table [] p
-begun_none commands p low events replies = record {
+pub begun_none : (columns : List Column) (commands : List Command) (p : Progress) → p.last ≤ 2 ^ 63 → p.events.items ≡ [] → p.replies.items ≡ [] → Begun columns commands p.last p.table [] p
+begun_none columns commands p low events replies = record {
   few = omega arith;
   small = tt;
   high = omega (arith, low);
@@ -48,9 +48,9 @@ past_push work (y ∷ ys) past c [] x m rest =
     past_none work ys (turn_past work y past (next_timestamp c m)) (next_timestamp c m) ∙ ap (λ z. turn_past work z past (next_timestamp c m)) same
 past_push work (y ∷ ys) past c (r ∷ rs) x m rest = past_push work ys (turn_past work y past (next_timestamp c r)) (next_timestamp c r) rs x m rest
 
-pub begun_more : (commands : List Command) (c : ℕ) (rows : Rows) (rs : List ℕ) (p q : Progress) (x : Command) (m : ℕ) → Fits64 m → Begun commands c rows rs p → length rs < length commands → drop (length rs) commands ≡ x ∷ drop (suc (length rs)) commands
-    → TakesTurn x (suc (length rs)) m p q → Begun commands c rows (rs ++ m ∷ []) q
-begun_more commands c rows rs p q x m low b below rest turn = record {
+pub begun_more : (columns : List Column) (commands : List Command) (c : ℕ) (rows : Rows) (rs : List ℕ) (p q : Progress) (x : Command) (m : ℕ) → Fits64 m → Begun columns commands c rows rs p → length rs < length commands → drop (length rs) commands ≡ x ∷ drop (suc (length rs)) commands
+    → TakesTurn columns x (suc (length rs)) m p q → Begun columns commands c rows (rs ++ m ∷ []) q
+begun_more columns commands c rows rs p q x m low b below rest turn = record {
   few = omega (arith, length_push rs m, below);
   small = push Fits64 rs m b.small low;
   high = omega (arith, length_push rs m, bound p.last m (length rs) q.last b.high turn.last);
@@ -73,11 +73,11 @@ replies_none work [] rows c = refl
 replies_none work (x ∷ xs) rows c = refl
 
 -- what has happened so far, in the words of the readings
-pub events_are : (commands : List Command) (c : ℕ) (rows : Rows) (rs : List ℕ) (p : Progress) → Begun commands c rows rs p → p.events.items ≡ lines_from commands c 1 rs
-events_are commands c rows rs p b = sym (append-nil p.events.items) ∙ ap (λ l. p.events.items ++ l) (sym (lines_none (drop (length rs) commands) p.last (suc (length rs)))) ∙ b.events [] ∙ ap (lines_from commands c 1) (append-nil rs)
+pub events_are : (columns : List Column) (commands : List Command) (c : ℕ) (rows : Rows) (rs : List ℕ) (p : Progress) → Begun columns commands c rows rs p → p.events.items ≡ lines_from commands c 1 rs
+events_are columns commands c rows rs p b = sym (append-nil p.events.items) ∙ ap (λ l. p.events.items ++ l) (sym (lines_none (drop (length rs) commands) p.last (suc (length rs)))) ∙ b.events [] ∙ ap (lines_from commands c 1) (append-nil rs)
 
-pub replies_are : (commands : List Command) (c : ℕ) (rows : Rows) (rs : List ℕ) (p : Progress) → Begun commands c rows rs p → p.replies.items ≡ replies_from (workload 0 []) commands rows c rs
-replies_are commands c rows rs p b = sym (append-nil p.replies.items) ∙ ap (λ l. p.replies.items ++ l) (sym (replies_none (workload 0 []) (drop (length rs) commands) p.table p.last)) ∙ b.replies [] ∙ ap (replies_from (workload 0 []) commands rows c) (append-nil rs)
+pub replies_are : (columns : List Column) (commands : List Command) (c : ℕ) (rows : Rows) (rs : List ℕ) (p : Progress) → Begun columns commands c rows rs p → p.replies.items ≡ replies_from (on_table columns) commands rows c rs
+replies_are columns commands c rows rs p b = sym (append-nil p.replies.items) ∙ ap (λ l. p.replies.items ++ l) (sym (replies_none (on_table columns) (drop (length rs) commands) p.table p.last)) ∙ b.replies [] ∙ ap (replies_from (on_table columns) commands rows c) (append-nil rs)
 
 -- a reply for each reading
 replies_count : (work : Workload) (xs : List Command) (rows : Rows) (c : ℕ) (rs : List ℕ) → length rs ≤ length xs → length (replies_from work xs rows c rs) ≡ length rs
@@ -86,5 +86,5 @@ replies_count work [] rows c (r ∷ rs) few = absurd (omega arith)
 replies_count work (x ∷ xs) rows c [] few = refl
 replies_count work (x ∷ xs) rows c (r ∷ rs) few = ap suc (replies_count work xs (turn_rows work x rows) (next_timestamp c r) rs (omega arith))
 
-pub answered_count : (commands : List Command) (c : ℕ) (rows : Rows) (rs : List ℕ) (p : Progress) → Begun commands c rows rs p → length p.replies.items ≡ length rs
-answered_count commands c rows rs p b = ap length (replies_are commands c rows rs p b) ∙ replies_count (workload 0 []) commands rows c rs b.few
+pub answered_count : (columns : List Column) (commands : List Command) (c : ℕ) (rows : Rows) (rs : List ℕ) (p : Progress) → Begun columns commands c rows rs p → length p.replies.items ≡ length rs
+answered_count columns commands c rows rs p b = ap length (replies_are columns commands c rows rs p b) ∙ replies_count (on_table columns) commands rows c rs b.few

@@ -1,5 +1,5 @@
 -- What the program prints: the output text of a run of the script.
-use Rattle.std.specs.Prelude.{◌≡◌, ℕ, ◌+◌, ◌≤◌, nat_le, Bool, true, false, if◌then◌else◌, List, [], ◌∷◌, ◌++◌, Option, unwrap_or, codes}
+use Rattle.std.specs.Prelude.{◌≡◌, ℕ, ◌+◌, ◌≤◌, nat_le, Bool, true, false, if◌then◌else◌, List, [], ◌∷◌, ◌++◌, Option, Some, unwrap_or, codes}
 use Rattle.std.specs.List.{AllByRecursion, filter}
 use Rattle.kt_base.specs.declared.cell.Kind.{Kind}
 use Rattle.kt_history.specs.declared.command.Command.{Command}
@@ -14,7 +14,7 @@ use Rattle.kt_history.specs.Replies.{answer, kinds_of, past_after}
 use Rattle.kt_script.specs.declared.lists.ShownReply.{ShownReply}
 use Rattle.kt_script.specs.declared.output.LastLine.{LastLine}
 use Rattle.kt_script.specs.declared.output.LastLine.TheVariants as last
-use Rattle.kt_script.specs.Form.{Spells}
+use Rattle.kt_script.specs.Scripts.{Said, script_of}
 use Rattle.kt_script.specs.Laws.{OutputFits}
 use Rattle.kt_script.specs.Texts.{output_text}
 
@@ -81,13 +81,9 @@ AcknowledgedBy t [] = Unit {0}
 AcknowledgedBy t (event.End s i ts ∷ events) = (ts ≤ t) × AcknowledgedBy t events
 AcknowledgedBy t (_ ∷ events) = AcknowledgedBy t events
 
--- the bytes spell a script
-abbrev pub IsScript : List ℕ → Type 0
-IsScript text = (plan : List (List Command)) × Spells text plan
-
 -- no script is spelled so
 abbrev pub IsNoScript : List ℕ → Type 0
-IsNoScript text = (plan : List (List Command)) → Spells text plan → ⊥
+IsNoScript text = (said : Said) → script_of text ≡ Some said → ⊥
 
 -- the words are in the written form: the one word `run`
 abbrev pub AreRun : List (List ℕ) → Type 0

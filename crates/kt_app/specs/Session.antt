@@ -1,38 +1,36 @@
 -- One session alone, its commands one after another.
-use Rattle.std.specs.Prelude.{◌≡◌, ℕ, suc, ◌-◌, ◌≤◌, List, [], ◌∷◌, ◌++◌, length, map, drop, None, false}
+use Rattle.std.specs.Prelude.{◌≡◌, ℕ, suc, ◌-◌, ◌≤◌, List, [], ◌∷◌, ◌++◌, length, map, drop, None, true, false}
 use Rattle.std.specs.List.{AllByRecursion}
-use Rattle.std.specs.Int.{w64}
-use Rattle.kt_base.specs.declared.cell.Cell.{Cell}
-use Rattle.kt_base.specs.declared.cell.Cell.TheVariants as cell
-use Rattle.kt_base.specs.Keys.{number_of_key}
+use Rattle.kt_schema.specs.declared.column.Column.{Column}
 use Rattle.kt_history.specs.declared.command.Command.{Command}
 use Rattle.kt_history.specs.declared.command.Command.TheVariants as command
-use Rattle.kt_history.specs.declared.operation.OpKind.TheVariants.{Insert}
-use Rattle.kt_history.specs.declared.operation.RowOp.{RowOp}
-use Rattle.kt_history.specs.declared.scan.At.TheVariants.{Looked}
 use Rattle.kt_history.specs.declared.event.Event.{Event}
 use Rattle.kt_history.specs.declared.event.Event.TheVariants as event
 use Rattle.kt_history.specs.declared.reply.Reply.{Reply}
 use Rattle.kt_history.specs.declared.reply.Reply.TheVariants as reply
-use Rattle.kt_history.specs.Rows.{Rows, Row, changed}
+use Rattle.kt_history.specs.Rows.{Rows, changed}
 use Rattle.kt_history.specs.History.{Past, rows_at, with_write, IsUpTo}
 use Rattle.kt_history.specs.Operations.{changes_on, outcomes_on}
 use Rattle.kt_history.specs.Machine.{Workload, State, next_timestamp}
 use Rattle.kt_history.specs.Replies.{shown}
 use Rattle.kt_script.specs.declared.lists.ShownReply.{ShownReply}
-use Rattle.kt_script.specs.Form.{workload}
+use Rattle.kt_script.specs.Columns.{counts_from}
+use Rattle.kt_script.specs.Scripts.{workload}
+use Rattle.kt_script.specs.Fit.{CommandFits}
 use Rattle.kt_app.specs.Headline.{kinds_shown}
 
--- a command of the form that is taken: a write of one insert, or a scan of the present
-abbrev pub IsTaken : Command → Type 0
-IsTaken (command.Write w) = (op : RowOp) × (w.ops ≡ op ∷ []) × (op.kind ≡ Insert) × (length op.key ≡ 8) × (text : List ℕ) × (op.cells ≡ (2, cell.Bytes text) ∷ []) × (length text ≤ 65536)
-IsTaken (command.Scan scan) = (scan.at ≡ Looked) × (scan.columns ≡ None) × (scan.preds ≡ [])
-IsTaken (command.Mark t) = ⊥
-IsTaken (command.Chore chore) = ⊥
+-- a table alone: no command, and no room for one
+abbrev pub on_table : List Column → Workload
+on_table columns = workload 0 (record { columns = columns; plan = [] })
 
--- each command is taken
-abbrev pub AreTaken : List Command → Type 0
-AreTaken commands = AllByRecursion IsTaken commands
+-- each command keeps to the rules of the table
+abbrev pub AllFit : List Column → List Command → Type 0
+AllFit columns commands = AllByRecursion (CommandFits columns) commands
+
+-- columns as a script gives them: their ids count up from 1, and they are at most 300
+pub record IsCounted (columns : List Column) : Type 0 where
+  pub counted : counts_from 1 columns ≡ true
+  pub few : length columns ≤ 300
 
 -- the lines of the i-th command, where c is the last timestamp and the clock reads m
 abbrev pub turn_lines : Command → ℕ → ℕ → ℕ → List Event
@@ -88,8 +86,8 @@ abbrev pub not_answered : Workload → Command → ShownReply
 not_answered work command = record { kinds = kinds_shown work command; reply = reply.Stopped }
 
 -- these replies, and behind them what is printed for the commands that were not answered
-abbrev pub stopped_replies : List Command → List ShownReply → List ShownReply
-stopped_replies commands replies = replies ++ map (not_answered (workload 0 [])) (drop (length replies) commands)
+abbrev pub stopped_replies : List Column → List Command → List ShownReply → List ShownReply
+stopped_replies columns commands replies = replies ++ map (not_answered (on_table columns)) (drop (length replies) commands)
 
 -- nothing flies, and the one session is at its i-th command
 abbrev pub at_rest : Past → ℕ → ℕ → State
@@ -104,10 +102,3 @@ pub record EndsAt (past : Past) (c : ℕ) (rows : Rows) : Type 0 where
   pub mark : past.mark ≡ 0
   pub upto : IsUpTo c past.writes
   pub shows : Shows past c rows
-
--- a row whose key is a number, with all its cells
-abbrev pub number_row : List ℕ × Row → List Cell
-number_row row = cell.Int (number_of_key w64 row.0) ∷ map (λ c. c.1) row.1
-
-abbrev pub number_rows : Rows → List (List Cell)
-number_rows rows = map number_row rows

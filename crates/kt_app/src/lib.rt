@@ -1,8 +1,8 @@
 //! The top call: it reads a script, runs its commands and prints what came of them.
 //!
 //! Its contract is what a user relies on: the printed history is a run of the tablet machine from what the log held,
-//! each reply is that run's, and whatever a crash leaves of the log holds every acknowledged write. It stands on kt_boot
-//! and kt_script.
+//! each reply is that run's, and whatever a crash leaves of the log holds every acknowledged write. It stands on kt_boot,
+//! kt_scan and kt_script.
 #![tactic(auto)]
 
 pub mod laws;

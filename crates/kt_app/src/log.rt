@@ -1,6 +1,6 @@
 //! The log of a run, and the records that wait for its next append.
 
-ghost use Rattle.std.specs.Prelude.{◌≡◌, ◌≤◌, ◌++◌, ◌∷◌, [], IsTrue, Ok, Err, OnOk, IfOk};
+ghost use Rattle.std.specs.Prelude.{◌≡◌, ◌≤◌, ◌++◌, ◌∷◌, [], map, IsTrue, Ok, Err, OnOk, IfOk};
 ghost use Rattle.kt_base.specs.Causes.{Rose};
 ghost use Rattle.kt_disk.specs.Disk.{LeavesOnly};
 ghost use Rattle.kt_journal.specs.Log.{records_of, IsLog, Holds, IsOldOrBoth, CanOpen};
@@ -52,11 +52,21 @@ fn op_copy(op: &RowOp) -> Result<RowOp, NoMemory>
     })
 }
 
-/// The REPLICATE of a write of one operation.
-pub fn replicate(alloc: Global, op: &RowOp, ts: u64) -> Result<Entry, NoMemory>
-    ensures { IfOk result (λ entry. entry ≡ Entry.Replicate ts (op.now ∷ [])) }
+fn ops_copy(alloc: Global, ops: &[RowOp]) -> Result<OpList, NoMemory>
+    ensures { IfOk result (λ copy. copy ≡ ops.now) }
 {
-    let ops = OpList::of(vec![in alloc; op_copy(op)?]?);
+    let mut copy = Vec::with_capacity(alloc, ops.len())?;
+    for op in ops {
+        copy.push(op_copy(op)?)?;
+    }
+    Ok(OpList::of(copy))
+}
+
+/// The REPLICATE of a write.
+pub fn replicate(alloc: Global, write: &Write, ts: u64) -> Result<Entry, NoMemory>
+    ensures { IfOk result (λ entry. entry ≡ Entry.Replicate ts write.now.ops) }
+{
+    let ops = ops_copy(alloc, write.ops.as_slice())?;
     Ok(Entry::Replicate { ts, ops })
 }
 
@@ -70,14 +80,23 @@ fn targets(outcome: Outcome) -> TargetList
     }
 }
 
-/// The COMMIT of a write of one operation.
-pub fn commit(alloc: Global, ts: u64, outcome: Outcome) -> Result<Entry, NoMemory>
-    ensures { IfOk result (λ entry. entry ≡ Entry.Commit ts (commit_row outcome ∷ [])) }
+fn row_of(outcome: Outcome) -> CommitRow
+    ensures { result ≡ commit_row outcome }
 {
-    let row = CommitRow {
+    CommitRow {
         outcome,
         targets: targets(outcome),
-    };
-    let rows = CommitRows::of(vec![in alloc; row]?);
+    }
+}
+
+/// The COMMIT of a write whose operations had these outcomes.
+pub fn commit(alloc: Global, ts: u64, outcomes: &[Outcome]) -> Result<Entry, NoMemory>
+    ensures { IfOk result (λ entry. entry ≡ Entry.Commit ts (map commit_row outcomes.now)) }
+{
+    let mut rows = Vec::with_capacity(alloc, outcomes.len())?;
+    for outcome in outcomes {
+        rows.push(row_of(*outcome))?;
+    }
+    let rows = CommitRows::of(rows);
     Ok(Entry::Commit { ts, rows })
 }

@@ -1,66 +1,103 @@
-//! Rows as a scan of the present shows them.
+//! What a scan of the present shows, and the kinds of its columns.
 
-ghost use Rattle.std.specs.Prelude.{◌≡◌, ◌≤◌, ◌<◌, ◌^◌, [], ◌∷◌, length, IfOk, map};
-ghost use Rattle.std.specs.Int.{w64};
-ghost use Rattle.kt_base.specs.declared.cell.Cell.TheVariants.{Int};
-ghost use Rattle.kt_base.specs.declared.cell.Kind.TheVariants.{Int64, String};
-ghost use Rattle.kt_base.specs.Keys.{number_of_key};
-ghost use Rattle.kt_app.specs.Session.{number_row, number_rows};
+ghost use Rattle.std.specs.Prelude.{◌≡◌, ◌<◌, ◌^◌, ◌++◌, length, map, unwrap_or, IfOk, OnOk};
+ghost use Rattle.std.specs.Ordering.{nat_cmp};
+ghost use Rattle.std.specs.FinMap.Entries.{find};
+ghost use Rattle.kt_schema.specs.Columns.{key_columns, other_columns};
+ghost use Rattle.kt_history.specs.Replies.{shown, kinds_of};
+ghost use Rattle.kt_scan.specs.Encoded.{keys_of};
+ghost use Rattle.kt_app.specs.Session.{on_table};
 
-use kt_base::key::decode_number;
-use kt_base::{Cell, Cells, Kind, NoMemory, Row};
+use kt_base::{Kind, NoMemory};
 use kt_boot::Table;
-use kt_history::RowList;
+use kt_history::{RowList, Scan};
+use kt_scan::laws::table_law;
+use kt_scan::run;
+use kt_schema::{Column, Schema};
 use kt_script::KindList;
 use std::alloc::Global;
 
-const KEY_LEN: usize = 8;
-
-// The number that a key begins with. A log may hold keys of any length, and a short one counts as if 00 followed.
-fn number_of(key: &[u8]) -> i64
-    ensures { result ≡ number_of_key w64 key.now }
+// The kind of a column of this id, if there is one.
+fn kind_in(columns: &[Column], id: u16) -> Option<Kind>
+    ensures { result ≡ find nat_cmp id (map (λ c. (c.id, c.kind)) columns.now) }
 {
-    if key.len() >= KEY_LEN {
-        return decode_number(key);
+    for column in columns {
+        if column.id == id {
+            return Some(column.kind);
+        }
     }
-    let mut whole = [0u8; KEY_LEN];
-    whole[..key.len()].copy_from_slice(key);
-    decode_number(&whole)
+    None
 }
 
-fn cells_shown(alloc: Global, number: i64, others: &[(u16, Cell)]) -> Result<Vec<Cell>, NoMemory>
-    ensures { IfOk result (λ shown. shown.items ≡ Int number ∷ map (λ c. c.1) others.now) }
+// The kind of a column of this id, and that of wide numbers where there is none.
+fn kind_of(schema: &Schema, id: u16) -> Kind
+    ensures { result ≡ unwrap_or (find nat_cmp id ((on_table schema.now).keys ++ (on_table schema.now).others)) Kind.Int64 }
 {
-    let mut shown = Vec::new(alloc);
-    shown.push(Cell::Int(number))?;
-    for other in others {
-        shown.push(other.1.copy()?)?;
+    match kind_in(schema.key_columns(), id) {
+        Some(kind) => kind,
+        None => kind_in(schema.other_columns(), id).unwrap_or(Kind::Int64),
     }
-    Ok(shown)
 }
 
-fn row_shown(alloc: Global, key: &[u8], cells: &Cells) -> Result<Row, NoMemory>
-    ensures { IfOk result (λ shown. shown ≡ number_row (key.now, cells.now)) }
+fn add_kinds(columns: &[Column], kinds: &mut Vec<Kind>) -> Result<(), NoMemory>
+    ensures { OnOk result (kinds.new.items ≡ kinds.old.items ++ map (λ c. c.kind) columns.now) }
 {
-    let number = number_of(key);
-    Ok(Row::of(cells_shown(alloc, number, cells.as_slice())?))
-}
-
-/// The kinds of the two columns.
-pub fn both_kinds(alloc: Global) -> Result<KindList, NoMemory>
-    ensures { IfOk result (λ kinds. kinds ≡ Int64 ∷ String ∷ []) }
-{
-    Ok(KindList::of(vec![in alloc; Kind::Int64, Kind::String]?))
-}
-
-/// All rows, with both columns.
-pub fn rows_shown(alloc: Global, table: &Table) -> Result<RowList, NoMemory>
-    ensures rows { IfOk result (λ shown. shown ≡ number_rows table.now) }
-    ensures few { IfOk result (λ shown. length shown < 2 ^ 64) }
-{
-    let mut shown = Vec::with_capacity(alloc, table.len())?;
-    for (key, cells) in table.iter() {
-        shown.push(row_shown(alloc, key, cells)?)?;
+    for column in columns {
+        kinds.push(column.kind)?;
     }
-    Ok(RowList::of(shown))
+    Ok(())
+}
+
+fn all_kinds(alloc: Global, schema: &Schema) -> Result<Vec<Kind>, NoMemory>
+    ensures { IfOk result (λ kinds. kinds.items ≡ map (λ c. c.kind) (key_columns schema.now) ++ map (λ c. c.kind) (other_columns schema.now)) }
+{
+    let mut kinds = Vec::with_capacity(alloc, schema.columns().len())?;
+    add_kinds(schema.key_columns(), &mut kinds)?;
+    add_kinds(schema.other_columns(), &mut kinds)?;
+    Ok(kinds)
+}
+
+fn kinds_at(alloc: Global, schema: &Schema, ids: &[u16]) -> Result<Vec<Kind>, NoMemory>
+    ensures { IfOk result (λ kinds. kinds.items ≡ map (λ id. unwrap_or (find nat_cmp id ((on_table schema.now).keys ++ (on_table schema.now).others)) Kind.Int64) ids.now) }
+{
+    let mut kinds = Vec::with_capacity(alloc, ids.len())?;
+    for id in ids {
+        kinds.push(kind_of(schema, *id))?;
+    }
+    Ok(kinds)
+}
+
+/// The kinds of the columns that a scan shows.
+pub fn kinds_shown(alloc: Global, schema: &Schema, scan: &Scan) -> Result<KindList, NoMemory>
+    ensures { IfOk result (λ kinds. kinds ≡ kinds_of (on_table schema.now) scan.now.columns) }
+{
+    match &scan.columns {
+        None => Ok(KindList::of(all_kinds(alloc, schema)?)),
+        Some(ids) => Ok(KindList::of(kinds_at(alloc, schema, ids.as_slice())?)),
+    }
+}
+
+// As many rows as there are fit the memory.
+fn counted(rows: RowList) -> RowList
+    ensures same { result ≡ rows }
+    ensures few { length result < 2 ^ 64 }
+{
+    let _count = rows.as_slice().len();
+    rows
+}
+
+/// What a scan shows of the rows of the present.
+pub fn rows_shown(
+    alloc: Global,
+    schema: &Schema,
+    table: &Table,
+    scan: &Scan,
+    t: u64,
+) -> Result<RowList, NoMemory>
+    ensures rows { IfOk result (λ rows. rows ≡ shown (keys_of schema.now) scan.now table.now) }
+    ensures few { IfOk result (λ rows. length rows < 2 ^ 64) }
+{
+    table_law(table, t);
+    let rows = run(alloc, table.views(), t, scan, schema, 0)?;
+    Ok(counted(rows))
 }

@@ -5,22 +5,23 @@ ghost use Rattle.kt_base.specs.Causes.{Rose};
 ghost use Rattle.kt_journal.specs.Log.{records_of, CanOpen, Holds, IsLog};
 ghost use Rattle.kt_records.specs.declared.entry.Entry.{Entry};
 ghost use Rattle.kt_history.specs.History.{Past};
-ghost use Rattle.kt_script.specs.Form.{Spells, null_cell};
+ghost use Rattle.kt_schema.specs.Columns.{fill_of};
+ghost use Rattle.kt_script.specs.Fit.{PlanFits};
 ghost use Rattle.kt_script.specs.Texts.{output_text};
 ghost use Rattle.kt_script.specs.declared.output.LastLine.TheVariants.{Numbers, Stopped};
 ghost use Rattle.kt_boot.specs.Opening.{opened};
 ghost use Rattle.kt_app.specs.Book.{Keeps, AreFramed};
-ghost use Rattle.kt_app.specs.Session.{AreTaken, EndsAt, stopped_replies};
+ghost use Rattle.kt_app.specs.Session.{AllFit, IsCounted, EndsAt, stopped_replies};
 ghost use Rattle.kt_app.specs.Turns.{Breaks, Closes};
-ghost use Rattle.kt_app.specs.Crash.{Ran};
+ghost use Rattle.kt_app.specs.Crash.{Ran, work_of};
 
 use crate::log::{Book, append_queue};
 use crate::session::{Progress, stop, take_all};
-use kt_base::limits::POOL_CELLS;
 use kt_base::{Clock, NoMemory, Octets};
 use kt_disk::{Disk, Gate};
 use kt_history::{Command, Event, EventList, Plan};
 use kt_journal::AppendNo;
+use kt_schema::Schema;
 use kt_script::{LastLine, ReplyList, ReplyLists, print_output};
 use std::alloc::Global;
 
@@ -72,65 +73,74 @@ fn numbers(last: u64) -> LastLine
 // Answers the commands, and makes what is queued durable.
 fn run_commands<L: Disk, C: Clock, G: Gate>(
     alloc: Global,
+    schema: &Schema,
     commands: &[Command],
     clock: &mut C,
     gate: &G,
     book: &mut Book<L>,
     progress: &mut Progress,
 ) -> Result<(), AppendNo>
-    requires taken { AreTaken commands.now }
+    requires counted { IsCounted schema.now }
+    requires fits { AllFit schema.now commands.now }
     requires few { length commands.now < 2 ^ 27 }
     requires fresh { (progress.old.events.items ≡ []) × (progress.old.replies.items ≡ []) × (progress.old.last ≤ 2 ^ 63) }
     requires usable { IsTrue book.old.journal.usable }
     requires openable { IsTrue L.tells → CanOpen L.now L.leaves book.old.journal.disk }
     requires framed { AreFramed book.old.queue.items }
-    requires kept { IsTrue L.tells → (past : Past) × EndsAt past progress.old.last progress.old.table × Keeps null_cell (records_of (L.seen book.old.journal.disk)) book.old.queue.items past progress.old.last }
-    ensures run { OnOk result (Closes C.readings clock.old clock.new L.tells L.seen L.now L.leaves book.old.journal.disk book.new.journal.disk book.old.queue.items commands.now progress.old progress.new) }
+    requires kept { IsTrue L.tells → (past : Past) × EndsAt past progress.old.last progress.old.table × Keeps (fill_of schema.now) (records_of (L.seen book.old.journal.disk)) book.old.queue.items past progress.old.last }
+    ensures run { OnOk result (Closes schema.now C.readings clock.old clock.new L.tells L.seen L.now L.leaves book.old.journal.disk book.new.journal.disk book.old.queue.items commands.now progress.old progress.new) }
     ensures broken { result ≡ Err AppendNo.Fault
-        → Breaks C.readings clock.old clock.new L.tells L.seen L.now L.leaves book.old.journal.disk book.new.journal.disk book.old.queue.items commands.now progress.old progress.new
-        ⊎ Closes C.readings clock.old clock.new L.tells L.seen L.now L.leaves book.old.journal.disk book.new.journal.disk book.old.queue.items commands.now progress.old progress.new }
+        → Breaks schema.now C.readings clock.old clock.new L.tells L.seen L.now L.leaves book.old.journal.disk book.new.journal.disk book.old.queue.items commands.now progress.old progress.new
+        ⊎ Closes schema.now C.readings clock.old clock.new L.tells L.seen L.now L.leaves book.old.journal.disk book.new.journal.disk book.old.queue.items commands.now progress.old progress.new }
     ensures openable { IsTrue L.tells → CanOpen L.now L.leaves book.new.journal.disk }
     ensures fault { result ≡ Err AppendNo.Fault → Rose (L.faults book.old.journal.disk) (L.faults book.new.journal.disk) }
     ensures faults { L.faults book.old.journal.disk ≤ L.faults book.new.journal.disk }
 {
-    take_all(alloc, commands, clock, gate, book, progress)?;
+    take_all(alloc, schema, commands, clock, gate, book, progress)?;
     append_queue(alloc, book)
 }
 
 // The output of a session that a device fault stopped.
-fn stopped_text(alloc: Global, commands: &[Command], mut done: Progress) -> Result<Octets, NoMemory>
-    requires taken { AreTaken commands.now }
+fn stopped_text(
+    alloc: Global,
+    schema: &Schema,
+    commands: &[Command],
+    mut done: Progress,
+) -> Result<Octets, NoMemory>
+    requires fits { AllFit schema.now commands.now }
     requires few { length done.replies.items ≤ length commands.now }
-    ensures { IfOk result (λ text. text ≡ output_text (stopped_replies commands.now done.replies.items ∷ []) (done.events.items ++ Event.Stop ∷ []) Stopped) }
+    ensures { IfOk result (λ text. text ≡ output_text (stopped_replies schema.now commands.now done.replies.items ∷ []) (done.events.items ++ Event.Stop ∷ []) Stopped) }
 {
     let left = &commands[done.replies.len()..];
-    stop(alloc, left, &mut done.events, &mut done.replies)?;
+    stop(alloc, schema, left, &mut done.events, &mut done.replies)?;
     text_of(alloc, done, &LastLine::Stopped)
 }
 
 fn run_session<L: Disk, C: Clock, G: Gate>(
     alloc: Global,
+    schema: &Schema,
     commands: &[Command],
     clock: &mut C,
     gate: &G,
     book: &mut Book<L>,
     mut progress: Progress,
 ) -> Result<Output, NoMemory>
-    requires taken { AreTaken commands.now }
+    requires counted { IsCounted schema.now }
+    requires fits { AllFit schema.now commands.now }
     requires few { length commands.now < 2 ^ 27 }
     requires fresh { (progress.events.items ≡ []) × (progress.replies.items ≡ []) × (progress.last ≤ 2 ^ 63) }
     requires usable { IsTrue book.old.journal.usable }
     requires openable { IsTrue L.tells → CanOpen L.now L.leaves book.old.journal.disk }
     requires queue { book.old.queue.items ≡ [] }
-    requires kept { IsTrue L.tells → (past : Past) × EndsAt past progress.last progress.table × Keeps null_cell (records_of (L.seen book.old.journal.disk)) [] past progress.last }
+    requires kept { IsTrue L.tells → (past : Past) × EndsAt past progress.last progress.table × Keeps (fill_of schema.now) (records_of (L.seen book.old.journal.disk)) [] past progress.last }
     ensures run { IfOk result (λ out. (past : Past) → EndsAt past progress.last progress.table
-        → (IsTrue L.tells → Keeps null_cell (records_of (L.seen book.old.journal.disk)) [] past progress.last)
-        → Ran C.readings clock.old clock.new L.tells L.now L.leaves book.new.journal.disk POOL_CELLS (commands.now ∷ []) past progress.last out.stopped out.text) }
+        → (IsTrue L.tells → Keeps (fill_of schema.now) (records_of (L.seen book.old.journal.disk)) [] past progress.last)
+        → Ran C.readings clock.old clock.new L.tells L.now L.leaves book.new.journal.disk (work_of (record { columns = schema.now; plan = commands.now ∷ [] })) past progress.last out.stopped out.text) }
     ensures openable { IsTrue L.tells → CanOpen L.now L.leaves book.new.journal.disk }
     ensures fault { IfOk result (λ out. IsTrue out.stopped → Rose (L.faults book.old.journal.disk) (L.faults book.new.journal.disk)) }
     ensures faults { L.faults book.old.journal.disk ≤ L.faults book.new.journal.disk }
 {
-    match run_commands(alloc, commands, clock, gate, book, &mut progress) {
+    match run_commands(alloc, schema, commands, clock, gate, book, &mut progress) {
         Ok(()) => {
             let last = numbers(progress.last);
             let text = text_of(alloc, progress, &last)?;
@@ -140,7 +150,7 @@ fn run_session<L: Disk, C: Clock, G: Gate>(
             })
         }
         Err(AppendNo::Fault) => {
-            let text = stopped_text(alloc, commands, progress)?;
+            let text = stopped_text(alloc, schema, commands, progress)?;
             Ok(Output {
                 stopped: true,
                 text,
@@ -162,22 +172,24 @@ fn nothing_text(alloc: Global, last: u64) -> Result<Octets, NoMemory>
 /// Runs a plan over an open log, and gives its output text.
 pub fn run_plan<L: Disk, C: Clock, G: Gate>(
     alloc: Global,
+    schema: &Schema,
     plan: &Plan,
     clock: &mut C,
     gate: &G,
     book: &mut Book<L>,
     progress: Progress,
 ) -> Result<Output, NoMemory>
-    requires spelled { (text : List ℕ) × Spells text plan.now }
+    requires counted { IsCounted schema.now }
+    requires fits { PlanFits schema.now plan.now }
     requires fresh { (progress.events.items ≡ []) × (progress.replies.items ≡ []) × (progress.last ≤ 2 ^ 63) }
     requires usable { IsTrue book.old.journal.usable }
     requires openable { IsTrue L.tells → CanOpen L.now L.leaves book.old.journal.disk }
     requires queue { book.old.queue.items ≡ [] }
-    requires kept { IsTrue L.tells → (past : Past) × EndsAt past progress.last progress.table × Keeps null_cell (records_of (L.seen book.old.journal.disk)) [] past progress.last }
+    requires kept { IsTrue L.tells → (past : Past) × EndsAt past progress.last progress.table × Keeps (fill_of schema.now) (records_of (L.seen book.old.journal.disk)) [] past progress.last }
     requires durable { IsTrue L.tells → Holds L.now L.leaves book.old.journal.disk (records_of (L.seen book.old.journal.disk)) }
     ensures run { IfOk result (λ out. (past : Past) → EndsAt past progress.last progress.table
-        → (IsTrue L.tells → Keeps null_cell (records_of (L.seen book.old.journal.disk)) [] past progress.last)
-        → Ran C.readings clock.old clock.new L.tells L.now L.leaves book.new.journal.disk POOL_CELLS plan.now past progress.last out.stopped out.text) }
+        → (IsTrue L.tells → Keeps (fill_of schema.now) (records_of (L.seen book.old.journal.disk)) [] past progress.last)
+        → Ran C.readings clock.old clock.new L.tells L.now L.leaves book.new.journal.disk (work_of (record { columns = schema.now; plan = plan.now })) past progress.last out.stopped out.text) }
     ensures openable { IsTrue L.tells → CanOpen L.now L.leaves book.new.journal.disk }
     ensures fault { IfOk result (λ out. IsTrue out.stopped → Rose (L.faults book.old.journal.disk) (L.faults book.new.journal.disk)) }
     ensures faults { L.faults book.old.journal.disk ≤ L.faults book.new.journal.disk }
@@ -187,6 +199,14 @@ pub fn run_plan<L: Disk, C: Clock, G: Gate>(
             stopped: false,
             text: nothing_text(alloc, progress.last)?,
         }),
-        Some(session) => run_session(alloc, session.as_slice(), clock, gate, book, progress),
+        Some(session) => run_session(
+            alloc,
+            schema,
+            session.as_slice(),
+            clock,
+            gate,
+            book,
+            progress,
+        ),
     }
 }

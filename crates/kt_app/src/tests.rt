@@ -10,6 +10,8 @@ use kt_disk::{
 use std::alloc::Global;
 use std::test::Fail;
 
+mod tables;
+
 const HEAD: &[u8] = b"table\ncolumn id int64 key\ncolumn v string\n";
 
 const ONE_ROW: &[u8] =
@@ -36,19 +38,17 @@ fn clock(alloc: Global, first: u64, second: u64) -> Result<MemClock, Fail> {
     Ok(MemClock::of(ReadingList::of(vec![in alloc; first, second]?)))
 }
 
-// The status, what was written, and the log, where a script of these lines is run at these readings.
-fn run<L: Disk + Drop>(
+// The status, what was written, and the log, where a script is run by this clock.
+fn run_script<L: Disk + Drop>(
     alloc: Global,
-    lines: &[u8],
+    text: Octets,
     log: L,
-    first: u64,
-    second: u64,
+    clock: MemClock,
 ) -> Result<(u8, MemSink, L), Fail>
     requires { IsTrue L.tells → CanOpen L.now L.leaves log }
 {
-    let mut source = MemSource::of(script(alloc, lines)?, no_calls(alloc));
+    let mut source = MemSource::of(text, no_calls(alloc));
     let mut sink = room(alloc, no_calls(alloc))?;
-    let clock = clock(alloc, first, second)?;
     let store = MemDisk::new(alloc);
     let ended = tablet_main(
         alloc,
@@ -61,6 +61,20 @@ fn run<L: Disk + Drop>(
         &PassGate,
     );
     Ok((ended.status, sink, ended.log))
+}
+
+// The same of a script of these lines, at these readings.
+fn run<L: Disk + Drop>(
+    alloc: Global,
+    lines: &[u8],
+    log: L,
+    first: u64,
+    second: u64,
+) -> Result<(u8, MemSink, L), Fail>
+    requires { IsTrue L.tells → CanOpen L.now L.leaves log }
+{
+    let clock = clock(alloc, first, second)?;
+    run_script(alloc, script(alloc, lines)?, log, clock)
 }
 
 // The same over an empty log.
@@ -262,11 +276,11 @@ fn a_sink_that_fails_has_nothing(rt: HostRuntime) -> Result<(), Fail> {
 }
 
 #[test]
-fn a_text_outside_the_form_is_not_taken(rt: HostRuntime) -> Result<(), Fail> {
+fn a_script_that_is_refused_tells_its_first_fault(rt: HostRuntime) -> Result<(), Fail> {
     let alloc = rt.alloc();
     let lines = b"session\ninsert 01 \"a\"\n";
     let (status, sink) = run_fresh(alloc, lines, 1, 2)?;
     assert_eq!(rt; status, 2);
-    assert_eq!(rt; sink.bytes(), b"script not taken\n".as_slice());
+    assert_eq!(rt; sink.bytes(), b"script line 5 reason 12\n".as_slice());
     Ok(())
 }

@@ -1,6 +1,6 @@
 //! The top call: it reads a script, opens the log, runs the commands and prints what came of them.
 
-ghost use Rattle.std.specs.Prelude.{◌≡◌, ◌≢◌, ◌⊎◌, ◌↔◌, IsTrue, ◌^◌, ◌≤◌, ◌<◌, ◌++◌, ◌∷◌, [], length, Bool, true, false, Ok, Err, IfOk, IfSome, Some, OnOk, OnErr, IsErrOf, codes, map, List, ℕ, Option};
+ghost use Rattle.std.specs.Prelude.{◌≡◌, ◌≢◌, ◌⊎◌, ◌↔◌, IsTrue, ◌^◌, ◌≤◌, ◌<◌, ◌++◌, ◌∷◌, [], length, Bool, true, false, Ok, Err, IfOk, IfErr, IfSome, Some, OnOk, OnErr, IsErrOf, codes, map, List, ℕ, Option};
 ghost use Rattle.std.specs.Fmt.{decimal};
 ghost use Rattle.std.specs.Io.KnownBytes.{Appends};
 ghost use Rattle.kt_base.specs.Causes.{Rose, HasCause, Grows};
@@ -8,26 +8,26 @@ ghost use Rattle.kt_records.specs.declared.entry.Entry.{Entry};
 ghost use Rattle.kt_journal.specs.Log.{log_of, records_of, IsLog, Holds, CanOpen};
 ghost use Rattle.kt_schema.specs.Columns.{fill_of};
 ghost use Rattle.kt_history.specs.History.{Past, rows_at};
-ghost use Rattle.kt_script.specs.Form.{Spells, null_cell};
+ghost use Rattle.kt_script.specs.Fit.{PlanFits};
+ghost use Rattle.kt_script.specs.Scripts.{Said, Fault, script_of};
 ghost use Rattle.kt_boot.specs.Opening.{Found, content, opened};
-ghost use Rattle.kt_app.specs.Headline.{IsScript, IsNoScript, AreRun};
-ghost use Rattle.kt_app.specs.Crash.{Ran, RunsPlan, RunsScript, refusal_text, IsRefusal, LeavesAsBefore};
+ghost use Rattle.kt_app.specs.Headline.{IsNoScript, AreRun};
+ghost use Rattle.kt_app.specs.Crash.{work_of, Ran, RunsPlan, RunsScript, IsSaid, IsFaultOf, IsRefused, fault_text, refusal_text, IsRefusal, LeavesAsBefore};
 ghost use Rattle.kt_app.specs.Book.{Keeps};
-ghost use Rattle.kt_app.specs.Session.{EndsAt};
+ghost use Rattle.kt_app.specs.Session.{IsCounted, EndsAt};
 ghost use Rattle.kt_app.specs.Outside.{Reads, WritesFront, Gains};
 
 use crate::log::Book;
 use crate::run::{Output, run_plan};
 use crate::session::Progress;
-use crate::streams::{MANY, ReadNo, read_all, write_all};
-use kt_base::limits::POOL_CELLS;
-use kt_base::{Clock, Kind, NoMemory, Octets, Sink, Source};
+use crate::streams::{ReadNo, read_all, write_all};
+use kt_base::{Clock, NoMemory, Octets, Sink, Source};
 use kt_boot::{Plain, PlainNo, open_plain};
 use kt_disk::{Disk, Gate};
 use kt_history::Plan;
-use kt_schema::{Column, ColumnList, Schema};
+use kt_schema::Schema;
 use kt_script::number::print_number;
-use kt_script::{ScriptNo, read_plan};
+use kt_script::{Script, ScriptNo, read_script};
 use std::alloc::Global;
 
 /// What a call of the program ends with: its status, and its devices and its clock.
@@ -39,39 +39,35 @@ pub struct Ended<L, D, C> {
     pub clock: C,
 }
 
-/// Why no output text was made.
+/// Why no script was read.
 #[derive(Clone, Copy, Debug, PartialEq, Eq)]
-pub enum EndNo {
-    NotTaken,
+pub enum SourceNo {
+    Line { number: u64, reason: u8 },
     Failed,
     Memory,
 }
 
 // Reads a script.
-fn take_plan<S: Source>(alloc: Global, source: &mut S) -> Result<Plan, EndNo>
-    ensures taken { IfOk result (λ plan. (text : List ℕ) × Spells text plan) }
-    ensures all { IfOk result (λ plan. IfSome (S.left source.old) (λ script. Spells script plan)) }
-    ensures not_taken { IsErrOf result EndNo.NotTaken → IfSome (S.left source.old) IsNoScript }
-    ensures failed { IsErrOf result EndNo.Failed → Rose (S.faults source.old) (S.faults source.new) }
+fn take_script<S: Source>(alloc: Global, source: &mut S) -> Result<Script, SourceNo>
+    ensures said { IfOk result (λ s. IsSaid (S.left source.old) (record { columns = s.schema; plan = s.plan })) }
+    ensures fits { IfOk result (λ s. PlanFits s.schema s.plan) }
+    ensures table { IfOk result (λ s. IsCounted s.schema) }
+    ensures not_taken { IfErr result (IsRefused (S.left source.old)) }
+    ensures failed { IsErrOf result SourceNo.Failed → Rose (S.faults source.old) (S.faults source.new) }
 {
     let bytes = match read_all(alloc, source) {
         Ok(bytes) => bytes,
-        Err(ReadNo::Failed) => return Err(EndNo::Failed),
-        Err(ReadNo::Memory) => return Err(EndNo::Memory),
+        Err(ReadNo::Failed) => return Err(SourceNo::Failed),
+        Err(ReadNo::Memory) => return Err(SourceNo::Memory),
     };
-    if bytes.len() >= MANY {
-        return Err(EndNo::NotTaken);
-    }
-    match read_plan(alloc, &bytes) {
-        Ok(plan) => Ok(plan),
-        Err(ScriptNo::NotTaken) => Err(EndNo::NotTaken),
-        Err(ScriptNo::Memory) => Err(EndNo::Memory),
+    match read_script(alloc, &bytes) {
+        Ok(script) => Ok(script),
+        Err(ScriptNo::Line { number, reason }) => Err(SourceNo::Line { number, reason }),
+        Err(ScriptNo::Memory) => Err(SourceNo::Memory),
     }
 }
 
 const USAGE: &[u8] = b"usage: run [--workers N] [--pool CELLS]\n";
-
-const NOT_TAKEN: &[u8] = b"script not taken\n";
 
 // Writes the text of a status.
 fn finish<K: Sink>(sink: &mut K, text: &[u8], status: u8) -> u8
@@ -109,6 +105,31 @@ fn refused_line(alloc: Global, word: &[u8], number: u64) -> Result<Octets, NoMem
     Ok(text)
 }
 
+// The line of a first fault.
+fn fault_line(alloc: Global, number: u64, reason: u8) -> Result<Octets, NoMemory>
+    ensures { IfOk result (λ text. text ≡ fault_text (record { number = number; reason = reason })) }
+{
+    let mut text = Octets::from_slice(alloc, b"script line ")?;
+    print_number(number, &mut text)?;
+    text.extend(b" reason ")?;
+    print_number(u64::from(reason), &mut text)?;
+    text.push(b'\n')?;
+    Ok(text)
+}
+
+// Writes the first fault of a script.
+fn refuse_script<K: Sink>(alloc: Global, sink: &mut K, number: u64, reason: u8) -> u8
+    ensures refused { result ≡ 2 → Appends (K.written sink.old) (K.written sink.new) (fault_text (record { number = number; reason = reason })) }
+    ensures cut { result ≡ 6 → Rose (K.faults sink.old) (K.faults sink.new) × WritesFront (K.written sink.old) (K.written sink.new) (fault_text (record { number = number; reason = reason })) }
+    ensures memory { result ≡ 7 → Appends (K.written sink.old) (K.written sink.new) [] }
+    ensures statuses { (result ≡ 2) ⊎ (result ≡ 6) ⊎ (result ≡ 7) }
+{
+    match fault_line(alloc, number, reason) {
+        Ok(text) => finish(sink, text.as_slice(), 2),
+        Err(NoMemory) => 7,
+    }
+}
+
 // Refuses a log whose content is at fault.
 fn refuse_with<K: Sink>(alloc: Global, sink: &mut K, word: &[u8], number: u64) -> u8
     ensures refused { result ≡ 3 → Appends (K.written sink.old) (K.written sink.new) (word.now ++ decimal number ++ 10 ∷ []) }
@@ -138,38 +159,6 @@ fn refuse<K: Sink>(alloc: Global, sink: &mut K, no: PlainNo) -> u8
     }
 }
 
-// The columns of the one table that scripts have so far.
-fn columns(alloc: Global) -> Result<ColumnList, NoMemory>
-    ensures { IfOk result (λ columns. fill_of columns ≡ null_cell) }
-{
-    let id = Column {
-        id: 1,
-        name: Octets::from_slice(alloc, b"id")?,
-        kind: Kind::Int64,
-        key: true,
-        nullable: false,
-        default: None,
-    };
-    let v = Column {
-        id: 2,
-        name: Octets::from_slice(alloc, b"v")?,
-        kind: Kind::String,
-        key: false,
-        nullable: false,
-        default: None,
-    };
-    Ok(ColumnList::of(vec![in alloc; id, v]?))
-}
-
-fn schema(alloc: Global) -> Result<Schema, NoMemory>
-    ensures { IfOk result (λ schema. fill_of schema ≡ null_cell) }
-{
-    match Schema::new(alloc, columns(alloc)?) {
-        Ok(schema) => Ok(schema),
-        Err(_) => Err(NoMemory),
-    }
-}
-
 // The status of a run, whose output is written.
 fn write_output<K: Sink>(sink: &mut K, output: &Output) -> u8
     ensures printed { result ≡ 0 → (output.now.stopped ≡ false) × Appends (K.written sink.old) (K.written sink.new) output.now.text }
@@ -184,6 +173,7 @@ fn write_output<K: Sink>(sink: &mut K, output: &Output) -> u8
 // Runs a plan over an open log, and writes its output.
 fn run_and_write<K: Sink, L: Disk, C: Clock, G: Gate>(
     alloc: Global,
+    schema: &Schema,
     plan: &Plan,
     sink: &mut K,
     clock: &mut C,
@@ -191,27 +181,28 @@ fn run_and_write<K: Sink, L: Disk, C: Clock, G: Gate>(
     book: &mut Book<L>,
     progress: Progress,
 ) -> u8
-    requires spelled { (text : List ℕ) × Spells text plan.now }
+    requires counted { IsCounted schema.now }
+    requires fits { PlanFits schema.now plan.now }
     requires fresh { (progress.events.items ≡ []) × (progress.replies.items ≡ []) × (progress.last ≤ 2 ^ 63) }
     requires usable { IsTrue book.old.journal.usable }
     requires openable { IsTrue L.tells → CanOpen L.now L.leaves book.old.journal.disk }
     requires queue { book.old.queue.items ≡ [] }
-    requires ends { (past : Past) × EndsAt past progress.last progress.table × (IsTrue L.tells → Keeps null_cell (records_of (L.seen book.old.journal.disk)) [] past progress.last) }
+    requires ends { (past : Past) × EndsAt past progress.last progress.table × (IsTrue L.tells → Keeps (fill_of schema.now) (records_of (L.seen book.old.journal.disk)) [] past progress.last) }
     requires durable { IsTrue L.tells → Holds L.now L.leaves book.old.journal.disk (records_of (L.seen book.old.journal.disk)) }
-    ensures printed { result ≡ 0 → (past : Past) → EndsAt past progress.last progress.table → (IsTrue L.tells → Keeps null_cell (records_of (L.seen book.old.journal.disk)) [] past progress.last)
-        → (text : List ℕ) × Ran C.readings clock.old clock.new L.tells L.now L.leaves book.new.journal.disk POOL_CELLS plan.now past progress.last false text × Appends (K.written sink.old) (K.written sink.new) text }
-    ensures stopped { result ≡ 4 → (past : Past) → EndsAt past progress.last progress.table → (IsTrue L.tells → Keeps null_cell (records_of (L.seen book.old.journal.disk)) [] past progress.last)
-        → (text : List ℕ) × Ran C.readings clock.old clock.new L.tells L.now L.leaves book.new.journal.disk POOL_CELLS plan.now past progress.last true text × Appends (K.written sink.old) (K.written sink.new) text }
+    ensures printed { result ≡ 0 → (past : Past) → EndsAt past progress.last progress.table → (IsTrue L.tells → Keeps (fill_of schema.now) (records_of (L.seen book.old.journal.disk)) [] past progress.last)
+        → (text : List ℕ) × Ran C.readings clock.old clock.new L.tells L.now L.leaves book.new.journal.disk (work_of (record { columns = schema.now; plan = plan.now })) past progress.last false text × Appends (K.written sink.old) (K.written sink.new) text }
+    ensures stopped { result ≡ 4 → (past : Past) → EndsAt past progress.last progress.table → (IsTrue L.tells → Keeps (fill_of schema.now) (records_of (L.seen book.old.journal.disk)) [] past progress.last)
+        → (text : List ℕ) × Ran C.readings clock.old clock.new L.tells L.now L.leaves book.new.journal.disk (work_of (record { columns = schema.now; plan = plan.now })) past progress.last true text × Appends (K.written sink.old) (K.written sink.new) text }
     ensures fault { result ≡ 4 → Rose (L.faults book.old.journal.disk) (L.faults book.new.journal.disk) }
-    ensures cut { result ≡ 6 → (past : Past) → EndsAt past progress.last progress.table → (IsTrue L.tells → Keeps null_cell (records_of (L.seen book.old.journal.disk)) [] past progress.last)
-        → (text : List ℕ) × (stopped : Bool) × Ran C.readings clock.old clock.new L.tells L.now L.leaves book.new.journal.disk POOL_CELLS plan.now past progress.last stopped text × WritesFront (K.written sink.old) (K.written sink.new) text }
+    ensures cut { result ≡ 6 → (past : Past) → EndsAt past progress.last progress.table → (IsTrue L.tells → Keeps (fill_of schema.now) (records_of (L.seen book.old.journal.disk)) [] past progress.last)
+        → (text : List ℕ) × (stopped : Bool) × Ran C.readings clock.old clock.new L.tells L.now L.leaves book.new.journal.disk (work_of (record { columns = schema.now; plan = plan.now })) past progress.last stopped text × WritesFront (K.written sink.old) (K.written sink.new) text }
     ensures sink_fault { result ≡ 6 → Rose (K.faults sink.old) (K.faults sink.new) }
     ensures memory { result ≡ 7 → Appends (K.written sink.old) (K.written sink.new) [] }
     ensures statuses { (result ≡ 0) ⊎ (result ≡ 4) ⊎ (result ≡ 6) ⊎ (result ≡ 7) }
     ensures openable { IsTrue L.tells → CanOpen L.now L.leaves book.new.journal.disk }
     ensures faults { L.faults book.old.journal.disk ≤ L.faults book.new.journal.disk }
 {
-    match run_plan(alloc, plan, clock, gate, book, progress) {
+    match run_plan(alloc, schema, plan, clock, gate, book, progress) {
         Ok(output) => write_output(sink, &output),
         Err(NoMemory) => 7,
     }
@@ -220,22 +211,24 @@ fn run_and_write<K: Sink, L: Disk, C: Clock, G: Gate>(
 // Runs a plan over a log that was opened, and writes its output.
 fn run_plain<K: Sink, L: Disk, C: Clock, G: Gate>(
     alloc: Global,
+    schema: &Schema,
     plan: &Plan,
     plain: Plain<L>,
     sink: &mut K,
     clock: &mut C,
     gate: &G,
 ) -> (u8, L)
-    requires spelled { (text : List ℕ) × Spells text plan.now }
-    requires sound { (records : List Entry) × IsLog records × (opened null_cell (Ok records) ≡ Ok (record { past = plain.past; last = plain.c })) × (IsTrue L.tells → records_of (L.seen plain.journal.disk) ≡ records) }
+    requires counted { IsCounted schema.now }
+    requires fits { PlanFits schema.now plan.now }
+    requires sound { (records : List Entry) × IsLog records × (opened (fill_of schema.now) (Ok records) ≡ Ok (record { past = plain.past; last = plain.c })) × (IsTrue L.tells → records_of (L.seen plain.journal.disk) ≡ records) }
     requires table { plain.table ≡ rows_at plain.past plain.c }
     requires usable { IsTrue plain.journal.usable }
     requires openable { IsTrue L.tells → CanOpen L.now L.leaves plain.journal.disk }
     requires durable { IsTrue L.tells → Holds L.now L.leaves plain.journal.disk (records_of (L.seen plain.journal.disk)) }
-    ensures printed { result.0 ≡ 0 → (text : List ℕ) × Ran C.readings clock.old clock.new L.tells L.now L.leaves result.1 POOL_CELLS plan.now plain.past plain.c false text × Appends (K.written sink.old) (K.written sink.new) text }
-    ensures stopped { result.0 ≡ 4 → (text : List ℕ) × Ran C.readings clock.old clock.new L.tells L.now L.leaves result.1 POOL_CELLS plan.now plain.past plain.c true text × Appends (K.written sink.old) (K.written sink.new) text }
+    ensures printed { result.0 ≡ 0 → (text : List ℕ) × Ran C.readings clock.old clock.new L.tells L.now L.leaves result.1 (work_of (record { columns = schema.now; plan = plan.now })) plain.past plain.c false text × Appends (K.written sink.old) (K.written sink.new) text }
+    ensures stopped { result.0 ≡ 4 → (text : List ℕ) × Ran C.readings clock.old clock.new L.tells L.now L.leaves result.1 (work_of (record { columns = schema.now; plan = plan.now })) plain.past plain.c true text × Appends (K.written sink.old) (K.written sink.new) text }
     ensures fault { result.0 ≡ 4 → Rose (L.faults plain.journal.disk) (L.faults result.1) }
-    ensures cut { result.0 ≡ 6 → (text : List ℕ) × (stopped : Bool) × Ran C.readings clock.old clock.new L.tells L.now L.leaves result.1 POOL_CELLS plan.now plain.past plain.c stopped text × WritesFront (K.written sink.old) (K.written sink.new) text }
+    ensures cut { result.0 ≡ 6 → (text : List ℕ) × (stopped : Bool) × Ran C.readings clock.old clock.new L.tells L.now L.leaves result.1 (work_of (record { columns = schema.now; plan = plan.now })) plain.past plain.c stopped text × WritesFront (K.written sink.old) (K.written sink.new) text }
     ensures sink_fault { result.0 ≡ 6 → Rose (K.faults sink.old) (K.faults sink.new) }
     ensures memory { result.0 ≡ 7 → Appends (K.written sink.old) (K.written sink.new) [] }
     ensures statuses { (result.0 ≡ 0) ⊎ (result.0 ≡ 4) ⊎ (result.0 ≡ 6) ⊎ (result.0 ≡ 7) }
@@ -258,7 +251,7 @@ fn run_plain<K: Sink, L: Disk, C: Clock, G: Gate>(
         journal,
         queue: Vec::new(alloc),
     };
-    let status = run_and_write(alloc, plan, sink, clock, gate, &mut book, progress);
+    let status = run_and_write(alloc, schema, plan, sink, clock, gate, &mut book, progress);
     let Book { journal, queue: _ } = book;
     (status, journal.into_disk())
 }
@@ -266,35 +259,33 @@ fn run_plain<K: Sink, L: Disk, C: Clock, G: Gate>(
 // Opens the log, and runs a plan over it.
 fn open_and_run<K: Sink, L: Disk, C: Clock, G: Gate>(
     alloc: Global,
+    schema: &Schema,
     plan: &Plan,
     log: L,
     sink: &mut K,
     clock: &mut C,
     gate: &G,
 ) -> (u8, L)
-    requires spelled { (text : List ℕ) × Spells text plan.now }
+    requires counted { IsCounted schema.now }
+    requires fits { PlanFits schema.now plan.now }
     requires openable { IsTrue L.tells → CanOpen L.now L.leaves log }
-    ensures printed { result.0 ≡ 0 → (text : List ℕ) × RunsPlan C.readings clock.old clock.new L.tells L.seen L.now L.leaves log result.1 POOL_CELLS plan.now false text × Appends (K.written sink.old) (K.written sink.new) text }
-    ensures refused { result.0 ≡ 3 → (no : PlainNo) × IsRefusal no × (IsTrue L.tells → content null_cell (L.seen log) ≡ Err no) × Appends (K.written sink.old) (K.written sink.new) (refusal_text no) }
-    ensures refuses { (no : PlainNo) → IsTrue L.tells → content null_cell (L.seen log) ≡ Err no → (3 ≤ result.0) }
+    ensures printed { result.0 ≡ 0 → (text : List ℕ) × RunsPlan C.readings clock.old clock.new L.tells L.seen L.now L.leaves log result.1 (work_of (record { columns = schema.now; plan = plan.now })) false text × Appends (K.written sink.old) (K.written sink.new) text }
+    ensures refused { result.0 ≡ 3 → (no : PlainNo) × IsRefusal no × (IsTrue L.tells → content (fill_of schema.now) (L.seen log) ≡ Err no) × Appends (K.written sink.old) (K.written sink.new) (refusal_text no) }
+    ensures refuses { (no : PlainNo) → IsTrue L.tells → content (fill_of schema.now) (L.seen log) ≡ Err no → (3 ≤ result.0) }
     ensures stopped { result.0 ≡ 4 → Rose (L.faults log) (L.faults result.1)
-        × (Appends (K.written sink.old) (K.written sink.new) STOPPED_OPENING.now × (clock.new ≡ clock.old) × LeavesAsBefore L.tells L.now L.leaves log result.1
-        ⊎ ((text : List ℕ) × RunsPlan C.readings clock.old clock.new L.tells L.seen L.now L.leaves log result.1 POOL_CELLS plan.now true text × Appends (K.written sink.old) (K.written sink.new) text)) }
-    ensures untouched { result.0 ≡ 3 → (clock.new ≡ clock.old) × LeavesAsBefore L.tells L.now L.leaves log result.1 }
+        × (Appends (K.written sink.old) (K.written sink.new) STOPPED_OPENING.now × (clock.new ≡ clock.old) × LeavesAsBefore (fill_of schema.now) L.tells L.now L.leaves log result.1
+        ⊎ ((text : List ℕ) × RunsPlan C.readings clock.old clock.new L.tells L.seen L.now L.leaves log result.1 (work_of (record { columns = schema.now; plan = plan.now })) true text × Appends (K.written sink.old) (K.written sink.new) text)) }
+    ensures untouched { result.0 ≡ 3 → (clock.new ≡ clock.old) × LeavesAsBefore (fill_of schema.now) L.tells L.now L.leaves log result.1 }
     ensures sink_fault { result.0 ≡ 6 → Rose (K.faults sink.old) (K.faults sink.new) }
     ensures cut { result.0 ≡ 6 → (text : List ℕ) × WritesFront (K.written sink.old) (K.written sink.new) text
         × (((no : PlainNo) × (no ≢ PlainNo.Memory) × (text ≡ refusal_text no))
-        ⊎ ((stopped : Bool) × RunsPlan C.readings clock.old clock.new L.tells L.seen L.now L.leaves log result.1 POOL_CELLS plan.now stopped text)) }
+        ⊎ ((stopped : Bool) × RunsPlan C.readings clock.old clock.new L.tells L.seen L.now L.leaves log result.1 (work_of (record { columns = schema.now; plan = plan.now })) stopped text)) }
     ensures memory { result.0 ≡ 7 → Appends (K.written sink.old) (K.written sink.new) [] }
     ensures statuses { (result.0 ≡ 0) ⊎ (result.0 ≡ 3) ⊎ (result.0 ≡ 4) ⊎ (result.0 ≡ 6) ⊎ (result.0 ≡ 7) }
     ensures openable { IsTrue L.tells → CanOpen L.now L.leaves result.1 }
 {
-    let schema = match schema(alloc) {
-        Ok(schema) => schema,
-        Err(NoMemory) => return (7, log),
-    };
-    match open_plain(alloc, log, &schema) {
-        Ok(plain) => run_plain(alloc, plan, plain, sink, clock, gate),
+    match open_plain(alloc, log, schema) {
+        Ok(plain) => run_plain(alloc, schema, plan, plain, sink, clock, gate),
         Err((log, no)) => (refuse(alloc, sink, no), log),
     }
 }
@@ -318,32 +309,32 @@ pub fn tablet_main<S: Source, K: Sink, L: Disk, D: Disk, C: Clock, G: Gate>(
     // the log held: each printed reply is that run's, the readings in its history are those that the clock gave in this
     // call, and whatever a crash now leaves of the log holds all its writes.
     ensures printed { result.status ≡ 0 → IfSome (S.left source.old) (λ script. (text : List ℕ)
-        × RunsScript C.readings clock result.clock L.tells L.seen L.now L.leaves log result.log POOL_CELLS false script text × Appends (K.written sink.old) (K.written sink.new) text) }
+        × RunsScript C.readings clock result.clock L.tells L.seen L.now L.leaves log result.log false script text × Appends (K.written sink.old) (K.written sink.new) text) }
 
     // Status 4 comes only where the log has failed in this call. Either it was not opened, or the same holds of a run that
     // ends with `stop`, and whatever a crash leaves has the first of its writes, with every one that has an `end` line.
     ensures stopped { result.status ≡ 4 → Rose (L.faults log) (L.faults result.log)
-        × (Appends (K.written sink.old) (K.written sink.new) STOPPED_OPENING.now × (result.clock ≡ clock) × LeavesAsBefore L.tells L.now L.leaves log result.log
+        × (Appends (K.written sink.old) (K.written sink.new) STOPPED_OPENING.now × (result.clock ≡ clock) × ((said : Said) × IsSaid (S.left source.old) said × LeavesAsBefore (fill_of said.columns) L.tells L.now L.leaves log result.log)
         ⊎ IfSome (S.left source.old) (λ script. (text : List ℕ)
-        × RunsScript C.readings clock result.clock L.tells L.seen L.now L.leaves log result.log POOL_CELLS true script text × Appends (K.written sink.old) (K.written sink.new) text)) }
+        × RunsScript C.readings clock result.clock L.tells L.seen L.now L.leaves log result.log true script text × Appends (K.written sink.old) (K.written sink.new) text)) }
 
     // Status 1 comes exactly where the words are not in the form, unless the sink fails.
     ensures usage { result.status ≡ 1 → ¬ AreRun (map (λ w. w.now) words.now) × Appends (K.written sink.old) (K.written sink.new) USAGE.now }
     ensures words { ¬ AreRun (map (λ w. w.now) words.now) → (result.status ≡ 1) ⊎ (result.status ≡ 6) }
 
-    // Status 2 comes exactly where no script spells the text, unless source, sink or memory fail.
-    ensures not_taken { result.status ≡ 2 → IfSome (S.left source.old) IsNoScript × Appends (K.written sink.old) (K.written sink.new) NOT_TAKEN.now }
+    // Status 2 comes exactly where no script spells the text, unless source, sink or memory fail, and tells its first fault.
+    ensures not_taken { result.status ≡ 2 → (fault : Fault) × IsFaultOf (S.left source.old) fault × Appends (K.written sink.old) (K.written sink.new) (fault_text fault) }
     ensures no_script { (script : List ℕ) → AreRun (map (λ w. w.now) words.now) → S.left source.old ≡ Some script → IsNoScript script → (result.status ≡ 2) ⊎ (5 ≤ result.status) }
 
     // Status 3 comes exactly where the log's content is refused, unless source, sink, log or memory fail, and tells why.
-    ensures refused { result.status ≡ 3 → (no : PlainNo) × IsRefusal no × (IsTrue L.tells → content null_cell (L.seen log) ≡ Err no)
-        × Appends (K.written sink.old) (K.written sink.new) (refusal_text no) }
-    ensures refuses { (script : List ℕ) (no : PlainNo) → AreRun (map (λ w. w.now) words.now) → S.left source.old ≡ Some script → IsScript script
-        → IsTrue L.tells → content null_cell (L.seen log) ≡ Err no → (3 ≤ result.status) }
+    ensures refused { result.status ≡ 3 → (said : Said) × IsSaid (S.left source.old) said × (no : PlainNo) × IsRefusal no
+        × (IsTrue L.tells → content (fill_of said.columns) (L.seen log) ≡ Err no) × Appends (K.written sink.old) (K.written sink.new) (refusal_text no) }
+    ensures refuses { (script : List ℕ) (said : Said) (no : PlainNo) → AreRun (map (λ w. w.now) words.now) → S.left source.old ≡ Some script → script_of script ≡ Some said
+        → IsTrue L.tells → content (fill_of said.columns) (L.seen log) ≡ Err no → (3 ≤ result.status) }
 
     // Words in the form, a script, a log that is not refused, and no count that rises: the run is whole, or memory ran out.
-    ensures complete { (script : List ℕ) (found : Found) → AreRun (map (λ w. w.now) words.now) → S.left source.old ≡ Some script → IsScript script
-        → IsTrue L.tells → content null_cell (L.seen log) ≡ Ok found
+    ensures complete { (script : List ℕ) (said : Said) (found : Found) → AreRun (map (λ w. w.now) words.now) → S.left source.old ≡ Some script → script_of script ≡ Some said
+        → IsTrue L.tells → content (fill_of said.columns) (L.seen log) ≡ Ok found
         → ¬ Rose (S.faults source.old) (S.faults source.new) → ¬ Rose (K.faults sink.old) (K.faults sink.new) → ¬ Rose (L.faults log) (L.faults result.log)
         → (result.status ≡ 0) ⊎ (result.status ≡ 7) }
     ensures source_fault { result.status ≡ 5 → Rose (S.faults source.old) (S.faults source.new) × Appends (K.written sink.old) (K.written sink.new) [] }
@@ -351,15 +342,15 @@ pub fn tablet_main<S: Source, K: Sink, L: Disk, D: Disk, C: Clock, G: Gate>(
 
     // There a front of one of the texts was written.
     ensures cut { result.status ≡ 6 → (text : List ℕ) × WritesFront (K.written sink.old) (K.written sink.new) text
-        × (((text ≡ USAGE.now) ⊎ (text ≡ NOT_TAKEN.now)) × (result.log ≡ log) × (result.clock ≡ clock)
+        × (((text ≡ USAGE.now) ⊎ ((fault : Fault) × IsFaultOf (S.left source.old) fault × (text ≡ fault_text fault))) × (result.log ≡ log) × (result.clock ≡ clock)
         ⊎ (((no : PlainNo) × (no ≢ PlainNo.Memory) × (text ≡ refusal_text no))
-        ⊎ IfSome (S.left source.old) (λ script. (stopped : Bool) × RunsScript C.readings clock result.clock L.tells L.seen L.now L.leaves log result.log POOL_CELLS stopped script text))) }
+        ⊎ IfSome (S.left source.old) (λ script. (stopped : Bool) × RunsScript C.readings clock result.clock L.tells L.seen L.now L.leaves log result.log stopped script text))) }
     ensures memory { result.status ≡ 7 → Appends (K.written sink.old) (K.written sink.new) [] }
 
     // The log and the clock are used only for a script that was read, the clock only over a log that was opened, and the
     // store not at all. A log that is refused holds what it held.
     ensures unused { (result.status ≡ 1) ⊎ (result.status ≡ 2) ⊎ (result.status ≡ 5) → (result.log ≡ log) × (result.clock ≡ clock) }
-    ensures untouched { result.status ≡ 3 → (result.clock ≡ clock) × LeavesAsBefore L.tells L.now L.leaves log result.log }
+    ensures untouched { result.status ≡ 3 → (result.clock ≡ clock) × ((said : Said) × IsSaid (S.left source.old) said × LeavesAsBefore (fill_of said.columns) L.tells L.now L.leaves log result.log) }
     ensures store { result.store ≡ store }
 
     // The log may be opened again, whatever the status.
@@ -369,14 +360,17 @@ pub fn tablet_main<S: Source, K: Sink, L: Disk, D: Disk, C: Clock, G: Gate>(
     if !are_run(words) {
         return end_with(finish(sink, USAGE, 1), log, store, clock);
     }
-    match take_plan(alloc, source) {
-        Ok(plan) => {
-            let (status, log) = open_and_run(alloc, &plan, log, sink, &mut clock, gate);
+    match take_script(alloc, source) {
+        Ok(Script { schema, plan }) => {
+            let (status, log) = open_and_run(alloc, &schema, &plan, log, sink, &mut clock, gate);
             end_with(status, log, store, clock)
         }
-        Err(EndNo::NotTaken) => end_with(finish(sink, NOT_TAKEN, 2), log, store, clock),
-        Err(EndNo::Failed) => end_with(5, log, store, clock),
-        Err(EndNo::Memory) => end_with(7, log, store, clock),
+        Err(SourceNo::Line { number, reason }) => {
+            let status = refuse_script(alloc, sink, number, reason);
+            end_with(status, log, store, clock)
+        }
+        Err(SourceNo::Failed) => end_with(5, log, store, clock),
+        Err(SourceNo::Memory) => end_with(7, log, store, clock),
     }
 }
 

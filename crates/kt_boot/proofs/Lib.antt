@@ -4,3 +4,4 @@ pub mod Rows
 pub mod Replayed
 pub mod Gates
 pub mod Pasts
+pub mod Present

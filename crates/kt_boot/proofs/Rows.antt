@@ -10,7 +10,9 @@ use Rattle.std.proofs.lemmas.Cmp.{nat_list_cmp_total}
 use Rattle.std.specs.Map.{lookup, remove_entry}
 use Rattle.std.specs.BTreeMap.{insert_entry, is_at}
 use Rattle.std.specs.FinMap.Entries.{find, put, where_key, is_sorted, below_all, by_order, is_sorted-put, is_sorted-where_key}
+use Rattle.std.specs.List.{filter}
 use Rattle.kt_history.specs.Rows.{Row, Rows, key_cmp, set_row}
+use Rattle.kt_history.specs.Views.{key_above}
 
 left_true : (a b : Bool) → (a && b) ≡ true → a ≡ true
 left_true true b h = refl
@@ -75,3 +77,22 @@ module _ {K : Type 0} (bytes : K → List ℕ) where
         | true ↦ λ same. sym (all_stay q (bytes row.0) (equal _ same) (seen rows) (left_true _ _ h))
         | false ↦ λ _. ap (λ rest. (bytes row.0, row.1) ∷ rest) (removed q rows (right_true _ _ h))
       ] refl
+
+  -- the key of the first row above another
+  pub above_first : (q : K) (rows rest : List (K × Row)) (row : K × Row) → filter (λ e. is_lt (key_cmp (bytes q) (bytes e.0)) && true) rows ≡ row ∷ rest → key_above (Some (bytes q)) (map (λ e. e.0) (seen rows)) ≡ Some (bytes row.0)
+  above_first q [] rest row h = cc
+  above_first q (e ∷ rows) rest row h =
+      elim (is_lt (key_cmp (bytes q) (bytes e.0))) as (λ b. cond (b && true) (e ∷ filter (λ e. is_lt (key_cmp (bytes q) (bytes e.0)) && true) rows) (filter (λ e. is_lt (key_cmp (bytes q) (bytes e.0)) && true) rows) ≡ row ∷ rest
+      → cond b (Some (bytes e.0)) (key_above (Some (bytes q)) (map (λ e. e.0) (seen rows))) ≡ Some (bytes row.0)) [
+        | true ↦ λ here. let same : e ≡ row = cc in ap (λ (x : K × Row). Some (bytes x.0)) same
+        | false ↦ λ later. above_first q rows rest row later
+      ] h
+
+  pub above_none : (q : K) (rows : List (K × Row)) → filter (λ e. is_lt (key_cmp (bytes q) (bytes e.0)) && true) rows ≡ [] → key_above (Some (bytes q)) (map (λ e. e.0) (seen rows)) ≡ None
+  above_none q [] h = refl
+  above_none q (e ∷ rows) h =
+      elim (is_lt (key_cmp (bytes q) (bytes e.0))) as (λ b. cond (b && true) (e ∷ filter (λ e. is_lt (key_cmp (bytes q) (bytes e.0)) && true) rows) (filter (λ e. is_lt (key_cmp (bytes q) (bytes e.0)) && true) rows) ≡ []
+      → cond b (Some (bytes e.0)) (key_above (Some (bytes q)) (map (λ e. e.0) (seen rows))) ≡ None) [
+        | true ↦ λ here. absurd cc
+        | false ↦ λ later. above_none q rows later
+      ] h

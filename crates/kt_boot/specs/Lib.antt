@@ -4,3 +4,4 @@ pub mod Laws
 pub mod Commits
 pub mod Refusal
 pub mod Pasts
+pub mod Present

@@ -1,15 +1,19 @@
 //! The rows of a table in memory, by rising key.
-ghost use Rattle.std.specs.Prelude.{◌≡◌, ◌↔◌, [], ◌∷◌, length, Option, Some, None, is_some, IfOk, OnOk, OnErr, IsTrue};
+ghost use Rattle.std.specs.Prelude.{◌≡◌, ◌↔◌, [], ◌∷◌, length, map, Option, Some, None, is_some, IfOk, OnOk, OnErr, IsTrue};
 ghost use Rattle.std.specs.FinMap.Entries.{is_sorted, find};
+ghost use Rattle.kt_history.specs.Views.{key_above};
+ghost use Rattle.kt_boot.specs.Present.{keys_now, row_now, keys_now_rise, row_now_has_key};
 ghost use Rattle.kt_history.specs.Rows.{Row, key_cmp, changed, set_row, with_cells};
 ghost use Rattle.kt_history.specs.Operations.{effect, effect_on, changes_on};
 
 use kt_base::{Cells, NoMemory, Octets};
-use kt_history::{Change, OpKind, Outcome, RowOp, apply, outcome};
+use kt_history::{Change, OpKind, Outcome, RowOp, View, apply, outcome};
 use std::alloc::Global;
 use std::collections::BTreeMap;
 use std::collections::btree_map::Iter;
 use std::marker::Model;
+use std::ops::Bound;
+use std::slice::from_ref;
 
 /// The rows by rising key.
 #[derive(Drop)]
@@ -114,6 +118,15 @@ impl Table {
         }
     }
 
+    /// The table as the only view of a scan.
+    pub fn views(&self) -> &[Table]
+        ensures one { result.now ≡ self.now ∷ [] }
+        ensures sorted { IsTrue (is_sorted key_cmp self.now) }
+    {
+        let _rows = &self.rows;
+        from_ref(self)
+    }
+
     fn has(&self, key: &[u8]) -> bool
         ensures { result ≡ is_some (find key_cmp key.now self.now) }
     {
@@ -121,7 +134,8 @@ impl Table {
     }
 
     fn row(&self, key: &[u8]) -> Result<Option<Cells>, NoMemory>
-        ensures { IfOk result (λ row. row ≡ find key_cmp key.now self.now) }
+        ensures row { IfOk result (λ row. row ≡ find key_cmp key.now self.now) }
+        ensures sorted { IsTrue (is_sorted key_cmp self.now) }
     {
         match self.rows.get(key) {
             Some(cells) => Ok(Some(cells.copy()?)),
@@ -183,5 +197,54 @@ impl Table {
             self.change(alloc, op.key.as_slice(), &change)?;
         }
         Ok(outcome(op.kind, present))
+    }
+
+    // The key of the first row.
+    fn first_key(&self, alloc: Global) -> Result<Option<Octets>, NoMemory>
+        ensures key { IfOk result (λ found. found ≡ key_above None (map (λ row. row.0) self.now)) }
+        ensures sorted { IsTrue (is_sorted key_cmp self.now) }
+    {
+        match self.rows.iter().next() {
+            Some((key, _)) => Ok(Some(Octets::from_slice(alloc, key)?)),
+            None => Ok(None),
+        }
+    }
+
+    // The key of the first row above another.
+    fn first_above(&self, alloc: Global, key: &[u8]) -> Result<Option<Octets>, NoMemory>
+        ensures key { IfOk result (λ found. found ≡ key_above (Some key.now) (map (λ row. row.0) self.now)) }
+        ensures sorted { IsTrue (is_sorted key_cmp self.now) }
+    {
+        let rows = &self.rows;
+        let key = Octets::from_slice(alloc, key)?.into_vec();
+        let above = (Bound::Excluded(key), Bound::Unbounded);
+        match rows.range(above).next() {
+            Some((key, _)) => Ok(Some(Octets::from_slice(alloc, key)?)),
+            None => Ok(None),
+        }
+    }
+}
+
+/// The rows of the present, which are the same at each time.
+impl View for Table {
+    ghost mark = { λ _. 0 };
+
+    ghost keys = { keys_now };
+
+    ghost row_of = { λ rows key _. row_now rows key };
+
+    ghost keys_rise = { keys_now_rise };
+
+    ghost rows_have_keys = { λ rows key t told some. row_now_has_key rows key some };
+
+    fn row_at(&self, _alloc: Global, key: &[u8], _t: u64) -> Result<Option<Cells>, NoMemory> {
+        self.row(key)
+    }
+
+    fn key_after(&self, alloc: Global, after: Option<&[u8]>) -> Result<Option<Octets>, NoMemory> {
+        match after {
+            None => self.first_key(alloc),
+            Some(key) => self.first_above(alloc, key),
+        }
     }
 }

@@ -3,6 +3,7 @@ ghost use Rattle.std.specs.Prelude.{◌≡◌, [], IfOk};
 use crate::{Plain, PlainNo, open_plain};
 use kt_base::{Cell, Kind, Octets};
 use kt_disk::{FileBytes, FileBytesList, MemDisk};
+use kt_history::View;
 use kt_schema::{Column, ColumnList, Schema};
 use std::alloc::Global;
 use std::test::Fail;
@@ -183,5 +184,34 @@ fn an_upsert_without_a_cell_takes_the_default(rt: HostRuntime) -> Result<(), Fai
     assert!(rt; seen[1].1.contains("Int(7)"));
     assert_eq!(rt; plain.past.as_slice().len(), 2);
     assert_eq!(rt; plain.journal.count(), 2);
+    Ok(())
+}
+
+#[test]
+fn a_table_is_a_view_of_the_present(rt: HostRuntime) -> Result<(), Fail> {
+    let alloc = rt.alloc();
+    let log = log_of(alloc, &[&INSERT, &UPSERT])?;
+    let Ok(plain) = opened(alloc, disk_with(alloc, log.as_slice())?)? else {
+        return Err("not opened".into());
+    };
+    let mut keys = Vec::new(alloc);
+    for view in plain.table.views() {
+        let first = view.key_after(alloc, None)?;
+        keys.push(
+            first
+                .as_ref()
+                .and_then(|key| key.as_slice().first().copied()),
+        )?;
+        let second = view.key_after(alloc, Some(b"a"))?;
+        keys.push(
+            second
+                .as_ref()
+                .and_then(|key| key.as_slice().first().copied()),
+        )?;
+        assert!(rt; view.key_after(alloc, Some(b"b"))?.is_none());
+        assert!(rt; view.row_at(alloc, b"a", 0)?.is_some());
+        assert!(rt; view.row_at(alloc, b"c", 0)?.is_none());
+    }
+    assert_eq!(rt; keys.as_slice(), [Some(97), Some(98)].as_slice());
     Ok(())
 }

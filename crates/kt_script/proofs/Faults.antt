@@ -9,8 +9,8 @@ use Rattle.kt_base.specs.Literals.{same}
 use Rattle.kt_script.specs.declared.columns.LineNo.{LineNo}
 use Rattle.kt_script.specs.declared.columns.LineNo.TheVariants as line
 use Rattle.kt_script.specs.declared.head.Head.{Head}
-use Rattle.kt_script.specs.declared.head.ReadNo.{ReadNo}
-use Rattle.kt_script.specs.declared.head.ReadNo.TheVariants as read
+use Rattle.kt_script.specs.declared.refusal.ScriptNo.{ScriptNo}
+use Rattle.kt_script.specs.declared.refusal.ScriptNo.TheVariants as why
 use Rattle.kt_script.specs.Pieces.{cut, words_of}
 use Rattle.kt_script.specs.Reasons.{sound}
 use Rattle.kt_script.specs.Columns.{begins_column, column_no, columns_with, keys_no, ReadsColumn}
@@ -41,12 +41,12 @@ end_step above text front behind is =
 pub first_step : (text front behind : List ℕ) → cut 10 text ≡ front ∷ cut 10 behind → first_piece (cut 10 text) ≡ front
 first_step text front behind is = let some = some_piece 10 behind in ap first_piece (is ∙ ap (λ ps. front ∷ ps) some.2)
 
-told : (n r : ℕ) (reason : ℕ) (later : Option Fault) → reason ≡ r → r < sound → fault_if n reason later ≡ at n r
+pub told : (n r : ℕ) (reason : ℕ) (later : Option Fault) → reason ≡ r → r < sound → fault_if n reason later ≡ at n r
 told n r reason later is low =
     let t : nat_lt r sound ≡ true = grind (arith, nat_tests) in
     ap (λ k. fault_if n k later) is ∙ ap (λ b. if b then at n r else later) t
 
-untold : (n : ℕ) (reason : ℕ) (later : Option Fault) → reason ≡ sound → fault_if n reason later ≡ later
+pub untold : (n : ℕ) (reason : ℕ) (later : Option Fault) → reason ≡ sound → fault_if n reason later ≡ later
 untold n reason later is = ap (λ k. fault_if n k later) is
 
 column_line_no : (columns : List Column) (text : List ℕ) → begins_column text ≡ true → line_no (head columns) text ≡ column_no columns text
@@ -84,16 +84,16 @@ not_table text front behind is t =
     fault_step start 1 text front behind is ∙ ap (λ b. fault_if 1 (if not b then 3 else sound) (fault_from (after start front) 2 (cut 10 behind))) t
 
 -- the columns stand behind the first line
-pub behind_table : (text front behind : List ℕ) (result : Result Head ReadNo) → cut 10 text ≡ front ∷ cut 10 behind → same front (codes "table") ≡ true → IsColumns behind result → IsHead text result
-behind_table text front behind result is t reads = by result reads
+pub behind_table : (text front behind : List ℕ) (result : Result Head ScriptNo) → cut 10 text ≡ front ∷ cut 10 behind → length behind < length text → same front (codes "table") ≡ true → IsColumns behind result → IsHead text result
+behind_table text front behind result is less t reads = by result reads
   where
     fault_same : fault_from start 1 (cut 10 text) ≡ fault_from (head []) 2 (cut 10 behind)
     fault_same = fault_step start 1 text front behind is ∙ ap (λ b. fault_if 1 (if not b then 3 else sound) (fault_from (head []) 2 (cut 10 behind))) t
 
-    by : (r : Result Head ReadNo) → IsColumns behind r → IsHead text r
-    by (Ok h) reads_h = (fault_same ∙ reads_h.0, end_step start text front behind is ∙ reads_h.1, reads_h.2, reads_h.3)
-    by (Err (read.Line n r)) reads_h = fault_same ∙ reads_h
-    by (Err read.Memory) reads_h = tt
+    by : (r : Result Head ScriptNo) → IsColumns behind r → IsHead text r
+    by (Ok h) reads_h = (fault_same ∙ reads_h.0, end_step start text front behind is ∙ reads_h.1, reads_h.2, reads_h.3, omega (arith, reads_h.4, less))
+    by (Err (why.Line n r)) reads_h = fault_same ∙ reads_h
+    by (Err why.Memory) reads_h = tt
 
 pub line_case : (text : List ℕ) (r : Option (Bor (List ℕ) × Bor (List ℕ))) → IfSome r (λ x. text ≡ x.0.now ++ 10 ∷ x.1.now) → IfSome r (λ x. All (λ b. b ≢ 10) x.0.now) → IfNone r (All (λ b. b ≢ 10) text) → IsLineCut text r
 line_case text None is first none = line_none text none

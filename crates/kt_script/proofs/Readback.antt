@@ -1,22 +1,22 @@
 -- Reading the words of a line gives back what they were made of.
-use Rattle.std.proofs.Common.{◌≡◌, ℕ, suc, List, [], ◌∷◌, refl, ap, ◌∙◌, length, map, Bool}
+use Rattle.std.proofs.Common.{◌≡◌, ℕ, List, [], ◌∷◌, refl, ap, ◌∙◌, length, map, Bool}
 use Rattle.std.specs.Prelude.{codes, if◌then◌else◌, nat_eq}
 use Rattle.std.specs.List.{AllByRecursion}
 use Rattle.std.specs.Cmp.Lexicographic.{pointwise}
 use Rattle.std.specs.Fmt.{decimal}
 use Rattle.std.specs.Str.Parse.{digits_value}
 use Rattle.std.proofs.lemmas.Fmt.{decimal_is_IsNumeral}
-use Rattle.kt_base.specs.declared.cell.Kind.{Kind}
 use Rattle.kt_history.specs.declared.change.Outcome.{Outcome}
 use Rattle.kt_history.specs.declared.change.Outcome.TheVariants.{Done, Present, Absent}
 use Rattle.kt_history.specs.declared.event.Event.{Event}
 use Rattle.kt_history.specs.declared.event.Event.TheVariants as event
-use Rattle.kt_history.specs.declared.reply.Reply.{Reply}
-use Rattle.kt_history.specs.declared.reply.Reply.TheVariants as reply
+use Rattle.kt_script.specs.declared.replies.ReplyLine.{ReplyLine}
+use Rattle.kt_script.specs.declared.replies.ReplyLine.TheVariants as reply
 use Rattle.kt_script.specs.declared.output.LastLine.{LastLine}
 use Rattle.kt_script.specs.declared.output.LastLine.TheVariants as last
-use Rattle.kt_script.specs.Texts.{row_text, row_texts, outcome_word, reply_numbers, reply_words, event_word, event_numbers, event_words, last_words}
-use Rattle.kt_script.specs.Laws.{Fits64, LastFits, without_rows}
+use Rattle.kt_script.specs.Texts.{outcome_word, event_word, event_numbers, event_words, last_words}
+use Rattle.kt_script.specs.Laws.{Fits64, LastFits}
+use Rattle.kt_script.specs.Outputs.{line_words, line_numbers, rows_in}
 
 -- whether a word is this one
 abbrev pub is : List ℕ → List ℕ → Bool
@@ -44,28 +44,31 @@ outcomes_back : (os : List Outcome) → map outcome_of (map outcome_word os) ≡
 outcomes_back [] = refl
 outcomes_back (o ∷ os) = ap (λ x. x ∷ map outcome_of (map outcome_word os)) (outcome_back o) ∙ ap (λ xs. o ∷ xs) (outcomes_back os)
 
-abbrev reply_by : List ℕ → List ℕ → Reply
-reply_by w [] = if is w (codes "done") then reply.Done else reply.Stopped
-reply_by w (a ∷ []) = if is w (codes "ahm") then reply.Ahm a else reply.Large a
-reply_by w (a ∷ b ∷ ns) = if is w (codes "rows") then reply.Rows a [] else (if is w (codes "ancient") then reply.Ancient a b else reply.Busy a b)
+abbrev reply_by : List ℕ → List ℕ → List (List ℕ) → ReplyLine
+reply_by w [] rows = if is w (codes "done") then reply.Done else reply.Stopped
+reply_by w (a ∷ []) rows = if is w (codes "ahm") then reply.Ahm a else reply.Large a
+reply_by w (a ∷ b ∷ ns) rows = if is w (codes "rows") then reply.Rows a rows else (if is w (codes "ancient") then reply.Ancient a b else reply.Busy a b)
 
-abbrev at_of : List (List ℕ) → Reply
+abbrev at_of : List (List ℕ) → ReplyLine
 at_of [] = reply.Stopped
 at_of (n ∷ os) = reply.At (number n) (map outcome_of os)
 
--- the reply of the words of its first line, without its rows
-abbrev pub reply_of : List (List ℕ) → Reply
-reply_of [] = reply.Stopped
-reply_of (w ∷ ws) = if is w (codes "at") then at_of ws else reply_by w (map number ws)
+-- the reply of the words of its first line, and its rows
+abbrev pub reply_of : List (List ℕ) → List (List ℕ) → ReplyLine
+reply_of [] rows = reply.Stopped
+reply_of (w ∷ ws) rows = if is w (codes "at") then at_of ws else reply_by w (map number ws) rows
 
-pub reply_back : (r : Reply) → AllByRecursion Fits64 (reply_numbers r) → reply_of (reply_words r) ≡ without_rows r
+abbrev by_numbers : List ℕ → List (List ℕ) → List ℕ → ReplyLine
+by_numbers w rows ns = reply_by w ns rows
+
+pub reply_back : (r : ReplyLine) → AllByRecursion Fits64 (line_numbers r) → reply_of (line_words r) (rows_in r) ≡ r
 reply_back (reply.At ts os) p = ap (λ n. reply.At n (map outcome_of (map outcome_word os))) (number_back ts p.0) ∙ ap (reply.At ts) (outcomes_back os)
-reply_back (reply.Rows t rows) p = ap (reply_by (codes "rows")) (numbers_back (t ∷ length rows ∷ []) p)
-reply_back (reply.Ancient t a) p = ap (reply_by (codes "ancient")) (numbers_back (t ∷ a ∷ []) p)
-reply_back (reply.Busy t f) p = ap (reply_by (codes "busy")) (numbers_back (t ∷ f ∷ []) p)
-reply_back (reply.Ahm a) p = ap (reply_by (codes "ahm")) (numbers_back (a ∷ []) p)
+reply_back (reply.Rows t lines) p = ap (by_numbers (codes "rows") lines) (numbers_back (t ∷ length lines ∷ []) p)
+reply_back (reply.Ancient t a) p = ap (by_numbers (codes "ancient") []) (numbers_back (t ∷ a ∷ []) p)
+reply_back (reply.Busy t f) p = ap (by_numbers (codes "busy") []) (numbers_back (t ∷ f ∷ []) p)
+reply_back (reply.Ahm a) p = ap (by_numbers (codes "ahm") []) (numbers_back (a ∷ []) p)
 reply_back reply.Done p = refl
-reply_back (reply.Large n) p = ap (reply_by (codes "large")) (numbers_back (n ∷ []) p)
+reply_back (reply.Large n) p = ap (by_numbers (codes "large") []) (numbers_back (n ∷ []) p)
 reply_back reply.Stopped p = refl
 
 abbrev second : List ℕ → ℕ
@@ -77,19 +80,15 @@ abbrev pub count_of : List (List ℕ) → ℕ
 count_of [] = 0
 count_of (w ∷ ws) = if is w (codes "rows") then second (map number ws) else 0
 
-length_map : {X : Type 0} (f : X → List ℕ) (xs : List X) → length xs ≡ length (map f xs)
-length_map f [] = refl
-length_map f (x ∷ xs) = ap suc (length_map f xs)
-
-pub count_back : (kinds : List Kind) (r : Reply) → AllByRecursion Fits64 (reply_numbers r) → count_of (reply_words r) ≡ length (row_texts kinds r)
-count_back kinds (reply.At ts os) p = refl
-count_back kinds (reply.Rows t rows) p = ap second (numbers_back (t ∷ length rows ∷ []) p) ∙ length_map (row_text kinds) rows
-count_back kinds (reply.Ancient t a) p = refl
-count_back kinds (reply.Busy t f) p = refl
-count_back kinds (reply.Ahm a) p = refl
-count_back kinds reply.Done p = refl
-count_back kinds (reply.Large n) p = refl
-count_back kinds reply.Stopped p = refl
+pub count_back : (r : ReplyLine) → AllByRecursion Fits64 (line_numbers r) → count_of (line_words r) ≡ length (rows_in r)
+count_back (reply.At ts os) p = refl
+count_back (reply.Rows t lines) p = ap second (numbers_back (t ∷ length lines ∷ []) p)
+count_back (reply.Ancient t a) p = refl
+count_back (reply.Busy t f) p = refl
+count_back (reply.Ahm a) p = refl
+count_back reply.Done p = refl
+count_back (reply.Large n) p = refl
+count_back reply.Stopped p = refl
 
 abbrev event_by : List ℕ → List ℕ → Event
 event_by w [] = event.Stop

@@ -7,6 +7,7 @@ use Rattle.std.specs.Ordering.{nat_cmp, is_eq}
 use Rattle.std.specs.Cmp.Lexicographic.{slice_cmp}
 use Rattle.std.proofs.lemmas.Option.{slice_get-get_or}
 use Rattle.std.proofs.lemmas.List.{get_or_append_left, take-append-le}
+use Rattle.std.proofs.lemmas.Bool.{eq-eqb}
 use Rattle.std.proofs.lemmas.Bool.Decides.{nat_tests}
 use Rattle.std.proofs.Math.Seq.{get_or-append_seam, take-append_seam}
 use Rattle.kt_base.specs.declared.cell.Kind.{Kind}
@@ -19,7 +20,7 @@ use Rattle.kt_schema.specs.Columns.{is_late, is_weak, is_again, same_name, colum
 use Rattle.kt_schema.proofs.Places.{first-none}
 use Rattle.kt_script.specs.Pieces.{words_of}
 use Rattle.kt_script.specs.Reasons.{sound, reason_if}
-use Rattle.kt_script.specs.Columns.{ColumnLine, IsTable, kind_of, with_default, as_key, marked, of_kind, column_line, default_no, default_value, place_no, said_no, column_no, with_column, columns_with}
+use Rattle.kt_script.specs.Columns.{ColumnLine, counts_from, IsTable, kind_of, with_default, as_key, marked, of_kind, column_line, default_no, default_value, place_no, said_no, column_no, with_column, columns_with}
 
 below_or_last : (k n : ℕ) → k < suc n → (k < n) ⊎ (k ≡ n)
 below_or_last k n h = grind arith
@@ -42,6 +43,7 @@ pub record Fits (columns : List Column) (c : Column) : Type 0 where
   pub weak : is_weak c ≡ false
   pub again : list_any (λ d. same_name c d) columns ≡ false
   pub few : length columns < 300
+  pub id : c.id ≡ length columns + 1
 
 pub table_more : (columns : List Column) (c : Column) → IsTable columns → Fits columns c → IsTable (columns ++ c ∷ [])
 table_more columns c t f = record {
@@ -60,8 +62,34 @@ table_more columns c t f = record {
         (ap (λ xs. passes_at (λ e. list_any (λ d. same_name e d) xs) (columns ++ c ∷ []) (length columns)) (take-append_seam columns (c ∷ [])) ∙ (passes_last (λ e. list_any (λ d. same_name e d) columns) columns c ∙ f.again))
   ];
   few = let size : length (columns ++ c ∷ []) ≡ length columns + length (c ∷ []) = length-append columns (c ∷ []) in omega (arith, size, f.few);
+  ids = counts_on 1 columns t.ids (f.id ∙ swap);
 }
   where
+    swap : length columns + 1 ≡ 1 + length columns
+    swap = omega arith
+
+    counts_on : (n : ℕ) (xs : List Column) → counts_from n xs ≡ true → c.id ≡ n + length xs → counts_from n (xs ++ c ∷ []) ≡ true
+    counts_on n [] h e = ap (λ b. b && true) (eq-eqb c.id n (e ∙ last))
+      where
+        last : n + 0 ≡ n
+        last = omega arith
+    counts_on n (x ∷ xs) h e = both _ _ (first _ _ h) (counts_on (n + 1) xs (rest _ _ h) (e ∙ step))
+      where
+        step : n + length (x ∷ xs) ≡ n + 1 + length xs
+        step = omega arith
+
+        both : (a b : Bool) → a ≡ true → b ≡ true → (a && b) ≡ true
+        both true b p q = q
+        both false b p q = cc
+
+        first : (a b : Bool) → (a && b) ≡ true → a ≡ true
+        first true b p = refl
+        first false b p = p
+
+        rest : (a b : Bool) → (a && b) ≡ true → b ≡ true
+        rest true b p = p
+        rest false b p = cc
+
     count : (k : ℕ) → k < length (columns ++ c ∷ []) → k < suc (length columns)
     count k h = let size : length (columns ++ c ∷ []) ≡ length columns + length (c ∷ []) = length-append columns (c ∷ []) in omega (arith, size)
 
@@ -70,7 +98,7 @@ table_more columns c t f = record {
 
 -- no column yet
 pub table_none : IsTable []
-table_none = record { late = λ k h. absurd (omega arith); weak = λ k h. absurd (omega arith); again = λ k h. absurd (omega arith); few = omega arith }
+table_none = record { late = λ k h. absurd (omega arith); weak = λ k h. absurd (omega arith); again = λ k h. absurd (omega arith); few = omega arith; ids = refl }
 
 -- with a key they make a schema
 pub table_schema : (columns : List Column) → IsTable columns → list_any (λ c. c.key) columns ≡ true → columns_no columns ≡ None
@@ -155,6 +183,7 @@ column_fits columns text c taken is = by (column_line (words_of text)) refl take
           weak = weak l.key l.nullable (is_bool l.kind) (key_null (words_of text) l g) bool;
           again = again;
           few = grind (arith, nat_tests);
+          id = refl;
         })
       where
         weak : (k n b : Bool) → (k && n) ≡ false → (k && b) ≡ false → (k && (n || b)) ≡ false

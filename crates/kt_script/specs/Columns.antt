@@ -119,9 +119,15 @@ ReadsColumn columns text (Ok c) = (column_no columns text ≡ sound) × (columns
 ReadsColumn columns text (Err (line.Reason r)) = (column_no columns text ≡ r) × (r < sound)
 ReadsColumn columns text (Err line.Memory) = Unit {0}
 
--- columns of which each may stand below those before it: no key behind another column, none weak, no name again, at most 300
+-- the ids count up from this one
+abbrev pub counts_from : ℕ → List Column → Bool
+counts_from n [] = true
+counts_from n (c ∷ columns) = (c.id == n) && counts_from (n + 1) columns
+
+-- columns of which each may stand below those before it: no key behind another column, none weak, no name again, at most 300. The ids count up from 1
 pub record IsTable (columns : List Column) : Type 0 where
   pub late : (k : ℕ) → k < length columns → is_late columns k ≡ false
   pub weak : (k : ℕ) → k < length columns → passes_at is_weak columns k ≡ false
   pub again : (k : ℕ) → k < length columns → is_again columns k ≡ false
   pub few : length columns ≤ 300
+  pub ids : counts_from 1 columns ≡ true

@@ -1,26 +1,29 @@
 -- What the texts give back.
-use Rattle.std.specs.Prelude.{◌≡◌, ℕ, ◌^◌, ◌<◌, List, [], length, map, All}
-use Rattle.kt_history.specs.declared.command.Command.{Command}
+use Rattle.std.specs.Prelude.{◌≡◌, ℕ, ◌^◌, ◌<◌, List, length, map, All}
+use Rattle.kt_base.specs.declared.cell.Kind.{Kind}
 use Rattle.kt_history.specs.declared.event.Event.{Event}
 use Rattle.kt_history.specs.declared.reply.Reply.{Reply}
 use Rattle.kt_history.specs.declared.reply.Reply.TheVariants as reply
+use Rattle.kt_script.specs.declared.replies.ReplyLine.{ReplyLine}
+use Rattle.kt_script.specs.declared.replies.ReplyLine.TheVariants as lined
 use Rattle.kt_script.specs.declared.output.LastLine.{LastLine}
 use Rattle.kt_script.specs.declared.output.LastLine.TheVariants as last
 use Rattle.kt_script.specs.declared.lists.ShownReply.{ShownReply}
-use Rattle.kt_script.specs.Texts.{row_texts, reply_numbers, event_numbers, output_text}
-use Rattle.kt_script.specs.Form.{Spells}
+use Rattle.kt_script.specs.Texts.{row_text, reply_numbers, event_numbers, output_text}
 
--- a reply as far as its text shows it: the texts of rows stand for the rows
-pub record Seen : Type 0 where
-  pub reply : Reply
-  pub rows : List (List ℕ)
+-- a reply as its text shows it: the texts of rows stand for the rows
+abbrev pub seen_of : List Kind → Reply → ReplyLine
+seen_of kinds (reply.At ts outcomes) = lined.At ts outcomes
+seen_of kinds (reply.Rows t rows) = lined.Rows t (map (row_text kinds) rows)
+seen_of kinds (reply.Ancient t a) = lined.Ancient t a
+seen_of kinds (reply.Busy t f) = lined.Busy t f
+seen_of kinds (reply.Ahm a) = lined.Ahm a
+seen_of kinds reply.Done = lined.Done
+seen_of kinds (reply.Large n) = lined.Large n
+seen_of kinds reply.Stopped = lined.Stopped
 
-abbrev pub without_rows : Reply → Reply
-without_rows (reply.Rows t rows) = reply.Rows t []
-without_rows r = r
-
-abbrev pub seen : ShownReply → Seen
-seen shown = record { reply = without_rows shown.reply; rows = row_texts shown.kinds shown.reply }
+abbrev pub seen : ShownReply → ReplyLine
+seen told = seen_of told.kinds told.reply
 
 -- a number that the program can hold
 abbrev pub Fits64 : ℕ → Type 0
@@ -47,7 +50,3 @@ pub record OutputFits (sessions : List (List ShownReply)) (events : List Event) 
 abbrev pub texts_give_back : Type 0
 texts_give_back = (xs ys : List (List ShownReply)) (es fs : List Event) (a b : LastLine) → OutputFits xs es a → OutputFits ys fs b → output_text xs es a ≡ output_text ys fs b
     → (map (map seen) xs ≡ map (map seen) ys) × (es ≡ fs) × (a ≡ b)
-
--- a text spells at most one plan
-abbrev pub one_plan : Type 0
-one_plan = (text : List ℕ) (p q : List (List Command)) → Spells text p → Spells text q → p ≡ q

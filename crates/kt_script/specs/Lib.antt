@@ -1,9 +1,13 @@
 pub mod Texts
-pub mod Form
 pub mod Laws
 pub mod Pieces
 pub mod Reasons
 pub mod Columns
 pub mod Writes
 pub mod Scans
+pub mod Sessions
 pub mod Scripts
+pub mod Fit
+pub mod Print
+pub mod Outputs
+pub mod Reread

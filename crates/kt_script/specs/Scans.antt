@@ -1,5 +1,5 @@
 -- Scan lines: what a line says, and why it is refused. Only the present is scanned so far.
-use Rattle.std.specs.Prelude.{◌≡◌, ℕ, zero, suc, min, Bool, true, false, not, is_some, ◌&&◌, List, [], ◌∷◌, ◌++◌, length, map, Option, Some, None, if◌then◌else◌, ◌==◌, Result, Ok, Err, codes}
+use Rattle.std.specs.Prelude.{◌≡◌, ◌<◌, ℕ, zero, suc, min, Bool, true, false, not, is_some, ◌&&◌, List, [], ◌∷◌, ◌++◌, length, map, Option, Some, None, if◌then◌else◌, ◌==◌, Result, Ok, Err, codes}
 use Rattle.std.proofs.Common.{Bor}
 use Rattle.std.specs.List.{list_any, filter_map}
 use Rattle.std.specs.Option.{option_map, option_or}
@@ -15,6 +15,8 @@ use Rattle.kt_history.specs.declared.scan.Test.{Test}
 use Rattle.kt_history.specs.declared.scan.Test.TheVariants as test
 use Rattle.kt_history.specs.declared.scan.Pred.{Pred}
 use Rattle.kt_history.specs.declared.scan.Scan.{Scan}
+use Rattle.kt_script.specs.declared.columns.LineNo.{LineNo}
+use Rattle.kt_script.specs.declared.columns.LineNo.TheVariants as line
 use Rattle.kt_script.specs.declared.asked.Sign.{Sign}
 use Rattle.kt_script.specs.declared.asked.Sign.TheVariants.{Equal, Below, AtMost, Above, AtLeast}
 use Rattle.kt_script.specs.declared.asked.Question.{Question}
@@ -96,10 +98,13 @@ abbrev pub with_preds : Option (List (List ℕ)) → Option (List PredLine) → 
 with_preds names None = None
 with_preds names (Some preds) = Some (record { names = names; preds = preds })
 
--- nothing more, or "where" and tests
+-- the tests of a line: none, or those behind "where"
+abbrev pub tests_in : List (List ℕ) → Option (List PredLine)
+tests_in [] = Some []
+tests_in (word ∷ words) = if same word (codes "where") then preds_in (length words) words else None
+
 abbrev pub where_line : Option (List (List ℕ)) → List (List ℕ) → Option ScanLine
-where_line names [] = Some (record { names = names; preds = [] })
-where_line names (word ∷ words) = if same word (codes "where") then with_preds names (preds_in (length words) words) else None
+where_line names words = with_preds names (tests_in words)
 
 -- behind "scan now": nothing more, or "select" and names, and then "where" and tests
 abbrev pub select_line : List (List ℕ) → Option ScanLine
@@ -206,3 +211,26 @@ asked_view question.NotNull = not_null
 -- a test and the words behind it, as they are read
 abbrev pub taken_view : TakenTest → Taken
 taken_view t = (record { name = t.name.now; asked = asked_view t.question }, words_in t.rest)
+
+-- tests that are read, if the words say tests, and the least reason before and behind them
+abbrev pub ReadsPreds : List Column → ℕ → ℕ → Option (List PredLine) → Option (List Pred) → Type 0
+ReadsPreds columns old new None None = Unit {0}
+ReadsPreds columns old new None (Some preds) = ⊥
+ReadsPreds columns old new (Some lines) None = ⊥
+ReadsPreds columns old new (Some lines) (Some preds) = (preds ≡ preds_of columns lines) × (new ≡ min old (preds_no columns lines))
+
+-- the scan of a selection and tests, unless a reason holds
+abbrev pub IsMade : Option (List ℕ) → List Pred → ℕ → Result Scan LineNo → Type 0
+IsMade columns preds reason (Ok scan) = (reason ≡ sound) × (scan ≡ record { at = Looked; columns = columns; preds = preds })
+IsMade columns preds reason (Err (line.Reason r)) = (reason ≡ r) × (r < sound)
+IsMade columns preds reason (Err line.Memory) = ⊥
+
+-- the scan of a line as it is said, or its reason
+abbrev pub ReadsLine : List Column → Option ScanLine → Result Scan LineNo → Type 0
+ReadsLine columns said (Ok scan) = (line_no columns said ≡ sound) × (scan ≡ scan_said columns said)
+ReadsLine columns said (Err (line.Reason r)) = (line_no columns said ≡ r) × (r < sound)
+ReadsLine columns said (Err line.Memory) = Unit {0}
+
+-- the scan of a line, or its reason
+abbrev pub ReadsScan : List Column → List (List ℕ) → Result Scan LineNo → Type 0
+ReadsScan columns words result = ReadsLine columns (scan_line words) result

@@ -1,18 +1,20 @@
 -- Scripts: the first line that is refused, and what a script says where none is.
 -- A script has at most one session so far.
-use Rattle.std.specs.Prelude.{◌≡◌, ◌<◌, Result, Ok, Err, ℕ, ◌+◌, min, Bool, true, false, not, ◌||◌, List, [], ◌∷◌, ◌++◌, length, Option, Some, None, if◌then◌else◌, ◌==◌, nat_lt, nat_le, codes}
+use Rattle.std.specs.Prelude.{◌≡◌, ◌<◌, ◌≤◌, Result, Ok, Err, ℕ, ◌+◌, min, Bool, true, false, not, ◌||◌, List, [], ◌∷◌, ◌++◌, length, map, Option, Some, None, if◌then◌else◌, ◌==◌, nat_lt, nat_le, codes}
 use Rattle.std.proofs.Common.{Bor}
 use Rattle.std.specs.List.{sum_by, list_any}
 use Rattle.kt_base.specs.Literals.{same}
+use Rattle.kt_schema.specs.Columns.{key_columns, other_columns, fill_of}
 use Rattle.kt_schema.specs.declared.column.Column.{Column}
+use Rattle.kt_history.specs.Machine.{Workload}
 use Rattle.kt_history.specs.declared.command.Command.{Command}
 use Rattle.kt_history.specs.declared.command.Command.TheVariants as command
 use Rattle.kt_script.specs.declared.columns.LineNo.{LineNo}
 use Rattle.kt_script.specs.declared.columns.LineNo.TheVariants as line
 use Rattle.kt_script.specs.declared.head.Head.{Head}
 use Rattle.kt_script.specs.declared.head.Table.{Table}
-use Rattle.kt_script.specs.declared.head.ReadNo.{ReadNo}
-use Rattle.kt_script.specs.declared.head.ReadNo.TheVariants as read
+use Rattle.kt_script.specs.declared.refusal.ScriptNo.{ScriptNo}
+use Rattle.kt_script.specs.declared.refusal.ScriptNo.TheVariants as why
 use Rattle.kt_script.specs.Pieces.{cut, words_of}
 use Rattle.kt_script.specs.Reasons.{sound, reason_if}
 use Rattle.kt_script.specs.Columns.{begins_column, column_no, columns_with, keys_no, IsTable}
@@ -171,9 +173,37 @@ said_unless (Some fault) script = None
 abbrev pub script_of : List ℕ → Option Said
 script_of text = said_unless (fault_of text) (said (above_end start (cut 10 text)))
 
+-- the run of what a script says, over a pool of so many cells
+abbrev pub workload : ℕ → Said → Workload
+workload cells s = record { plan = s.plan; cells = cells; keys = map (λ c. (c.id, c.kind)) (key_columns s.columns); others = map (λ c. (c.id, c.kind)) (other_columns s.columns); fill = fill_of s.columns }
+
+-- a line of a session is read: the sessions with what it says, or its reason
+abbrev pub ReadsWorded : {A : Type 0} → List Column → List (List Command) → Word → List (List ℕ) → List (List Command) → Result A LineNo → Type 0
+ReadsWorded columns old w words new (Ok done) = (worded_no columns old w words ≡ sound) × (new ≡ worded_plan columns old w words)
+ReadsWorded columns old w words new (Err (line.Reason r)) = (worded_no columns old w words ≡ r) × (r < sound)
+ReadsWorded columns old w words new (Err line.Memory) = Unit {0}
+
+abbrev pub ReadsBody : {A : Type 0} → List Column → List (List Command) → List (List ℕ) → List (List Command) → Result A LineNo → Type 0
+ReadsBody columns old words new result = ReadsWorded columns old (first_word words) words new result
+
+-- one command too many
+abbrev pub full_no : List (List Command) → ℕ
+full_no plan = reason_if (nat_le most_commands (commands_in plan)) 20
+
+-- a command more in the last session, unless it is one too many
+abbrev pub IsPushed : {A : Type 0} → List (List Command) → Command → List (List Command) → Result A LineNo → Type 0
+IsPushed old c new (Ok done) = (full_no old ≡ sound) × (new ≡ push_last c old)
+IsPushed old c new (Err (line.Reason r)) = (full_no old ≡ r) × (r < sound)
+IsPushed old c new (Err line.Memory) = Unit {0}
+
 -- a fault that is told
 abbrev pub at : ℕ → ℕ → Option Fault
 at number reason = Some (record { number = number; reason = reason })
+
+-- the first fault of the text, or want of memory
+abbrev pub IsFirstFault : List ℕ → ScriptNo → Type 0
+IsFirstFault text (why.Line n reason) = fault_of text ≡ at n reason
+IsFirstFault text why.Memory = Unit {0}
 
 -- the line at the front, if it has its newline
 abbrev pub first_piece : List (List ℕ) → List ℕ
@@ -182,9 +212,9 @@ first_piece (rest ∷ []) = []
 first_piece (line ∷ more ∷ pieces) = line
 
 -- the refusal of a line, by its number
-abbrev pub located : ℕ → LineNo → ReadNo
-located number (line.Reason r) = read.Line number r
-located number line.Memory = read.Memory
+abbrev pub located : ℕ → LineNo → ScriptNo
+located number (line.Reason r) = why.Line number r
+located number line.Memory = why.Memory
 
 -- the first line and the text behind it, or no newline
 abbrev pub IsLineCut : List ℕ → Option (Bor (List ℕ) × Bor (List ℕ)) → Type 0
@@ -192,27 +222,27 @@ IsLineCut text None = cut 10 text ≡ text ∷ []
 IsLineCut text (Some line) = (cut 10 text ≡ line.0.now ∷ cut 10 line.1.now) × (length line.1.now < length text)
 
 -- Columns that are read from below this, as line number: a fault, or the columns, and what is left below them, where no line is a column's.
-abbrev pub IsReadFrom : Above → ℕ → List ℕ → Result Head ReadNo → Type 0
+abbrev pub IsReadFrom : Above → ℕ → List ℕ → Result Head ScriptNo → Type 0
 IsReadFrom above number text (Ok h) = (fault_from above number (cut 10 text) ≡ fault_from (head h.columns.items) (length h.columns.items + 2) (cut 10 h.rest.now))
     × (above_end above (cut 10 text) ≡ above_end (head h.columns.items) (cut 10 h.rest.now))
-    × (begins_column (first_piece (cut 10 h.rest.now)) ≡ false) × IsTable h.columns.items
-IsReadFrom above number text (Err (read.Line n reason)) = fault_from above number (cut 10 text) ≡ at n reason
-IsReadFrom above number text (Err read.Memory) = Unit {0}
+    × (begins_column (first_piece (cut 10 h.rest.now)) ≡ false) × IsTable h.columns.items × (length h.rest.now ≤ length text)
+IsReadFrom above number text (Err (why.Line n reason)) = fault_from above number (cut 10 text) ≡ at n reason
+IsReadFrom above number text (Err why.Memory) = Unit {0}
 
-abbrev pub IsColumns : List ℕ → Result Head ReadNo → Type 0
+abbrev pub IsColumns : List ℕ → Result Head ScriptNo → Type 0
 IsColumns text result = IsReadFrom (head []) 2 text result
 
 -- the columns of a text, or a fault of its first lines
-abbrev pub IsHead : List ℕ → Result Head ReadNo → Type 0
+abbrev pub IsHead : List ℕ → Result Head ScriptNo → Type 0
 IsHead text result = IsReadFrom start 1 text result
 
 -- The schema of a text, and what is left below its columns, or a fault up to there.
-abbrev pub IsTableRead : List ℕ → Result Table ReadNo → Type 0
+abbrev pub IsTableRead : List ℕ → Result Table ScriptNo → Type 0
 IsTableRead text (Ok t) = (fault_from start 1 (cut 10 text) ≡ fault_from (head t.schema) (length t.schema + 2) (cut 10 t.rest.now))
     × (above_end start (cut 10 text) ≡ above_end (head t.schema) (cut 10 t.rest.now))
-    × (begins_column (first_piece (cut 10 t.rest.now)) ≡ false)
-IsTableRead text (Err (read.Line n reason)) = fault_from start 1 (cut 10 text) ≡ at n reason
-IsTableRead text (Err read.Memory) = Unit {0}
+    × (begins_column (first_piece (cut 10 t.rest.now)) ≡ false) × IsTable t.schema × (list_any (λ c. c.key) t.schema ≡ true) × (length t.rest.now ≤ length text)
+IsTableRead text (Err (why.Line n reason)) = fault_from start 1 (cut 10 text) ≡ at n reason
+IsTableRead text (Err why.Memory) = Unit {0}
 
 -- why a text that stands below columns without a key is refused in its first line
 abbrev pub IsNoKey : List ℕ → ℕ → Type 0

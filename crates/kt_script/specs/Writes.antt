@@ -1,5 +1,5 @@
 -- Write lines: what a line says of its operations, and why it is refused.
-use Rattle.std.specs.Prelude.{◌≡◌, ℕ, min, Bool, true, false, not, ◌&&◌, ◌||◌, List, [], ◌∷◌, ◌++◌, length, drop, map, Option, Some, None, is_some, if◌then◌else◌, ◌==◌, nat_lt, codes}
+use Rattle.std.specs.Prelude.{◌≡◌, ◌<◌, Result, Ok, Err, ℕ, ◌+◌, min, Bool, true, false, not, ◌&&◌, ◌||◌, List, [], ◌∷◌, ◌++◌, length, drop, map, Option, Some, None, is_some, if◌then◌else◌, ◌==◌, nat_lt, codes}
 use Rattle.std.proofs.Common.{Bor}
 use Rattle.std.specs.List.{list_any, before_first, onto_first}
 use Rattle.std.specs.Ordering.{nat_cmp}
@@ -14,6 +14,10 @@ use Rattle.kt_schema.specs.declared.column.Column.{Column}
 use Rattle.kt_history.specs.declared.operation.OpKind.{OpKind}
 use Rattle.kt_history.specs.declared.operation.OpKind.TheVariants as op
 use Rattle.kt_history.specs.declared.operation.RowOp.{RowOp}
+use Rattle.kt_history.specs.declared.operation.Write.{Write}
+use Rattle.kt_script.specs.declared.columns.LineNo.{LineNo}
+use Rattle.kt_script.specs.declared.columns.LineNo.TheVariants as line
+use Rattle.kt_script.specs.Pieces.{words_in}
 use Rattle.kt_script.specs.Reasons.{sound, reason_if, cell_no, cell_value, form_no}
 
 -- a literal for each column at the front of some words
@@ -189,3 +193,56 @@ write_of columns words = map (op_of columns) (ops_of words)
 abbrev pub IsFound : List Column → List ℕ → Option (Bor Column) → Type 0
 IsFound columns name None = column_named columns name ≡ None
 IsFound columns name (Some c) = column_named columns name ≡ Some c.now
+
+-- the words of the first operation
+abbrev pub first_op : List (List ℕ) → List (List ℕ)
+first_op [] = []
+first_op (word ∷ words) = if same word (codes ";") then [] else word ∷ first_op words
+
+-- the words of each operation behind the first
+abbrev pub later_ops : List (List ℕ) → List (List (List ℕ))
+later_ops [] = []
+later_ops (word ∷ words) = if same word (codes ";") then ops_of words else later_ops words
+
+-- the operation at the front of what is left of a line, and those behind it
+abbrev pub op_in : Option (Bor (List ℕ)) → List (List ℕ)
+op_in rest = first_op (words_in rest)
+
+abbrev pub later_in : Option (Bor (List ℕ)) → List (List (List ℕ))
+later_in rest = later_ops (words_in rest)
+
+-- the operations that are left, if any are
+abbrev pub ops_in : Option (Option (Bor (List ℕ))) → List (List (List ℕ))
+ops_in None = []
+ops_in (Some rest) = ops_of (words_in rest)
+
+-- a word of an operation, and what is left behind it
+abbrev pub IsOpCut : Option (Bor (List ℕ)) → List ℕ → Option (Bor (List ℕ)) → Type 0
+IsOpCut rest word behind = (op_in rest ≡ word ∷ op_in behind) × (later_in behind ≡ later_in rest)
+
+-- names as they are kept
+abbrev pub names_now : List (Bor (List ℕ)) → List (List ℕ)
+names_now names = map (λ (name : Bor (List ℕ)). name.now) names
+
+-- a name that stands before
+abbrev pub again_no : List (List ℕ) → List ℕ → ℕ
+again_no seen name = reason_if (list_any (λ n. same n name) seen) 13
+
+-- the literal behind a name, or none where the word is no NAME=LIT
+abbrev pub IsGiven : List ℕ → List ℕ → Option (Bor (List ℕ)) → Type 0
+IsGiven name behind None = (others : List Column) → given_no others name behind ≡ 12
+IsGiven name behind (Some literal) = (literal.now ≡ drop 1 behind) × ((others : List Column) → given_no others name behind ≡ under_no (column_named others name) literal.now)
+
+-- an operation of a kind with these words behind its first
+abbrev pub op_said : List Column → OpKind → List (List ℕ) → RowOp
+op_said columns kind words = record { kind = kind; key = key_of columns words; cells = op_cells columns (Some kind) words }
+
+-- too many operations, with so many before them
+abbrev pub many_no : ℕ → List (List (List ℕ)) → ℕ
+many_no kept ops = reason_if (nat_lt 64 (kept + length ops)) 18
+
+-- the operations of a write line, or its reason
+abbrev pub ReadsWrite : List Column → List (List ℕ) → Result Write LineNo → Type 0
+ReadsWrite columns words (Ok w) = (write_no columns words ≡ sound) × (w.ops ≡ write_of columns words)
+ReadsWrite columns words (Err (line.Reason r)) = (write_no columns words ≡ r) × (r < sound)
+ReadsWrite columns words (Err line.Memory) = Unit {0}

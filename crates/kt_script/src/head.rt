@@ -8,27 +8,11 @@ ghost use Rattle.kt_script.specs.Columns.{begins_column, IsTable};
 ghost use Rattle.kt_script.specs.Scripts.{IsHead, IsColumns, IsLineCut, IsTableRead, IsNoKey, located};
 
 use crate::columns::{LineNo, read_column};
-use crate::form::cut_at;
+use crate::refusal::ScriptNo;
+use crate::split::cut_at;
 use kt_base::NoMemory;
 use kt_schema::{Column, ColumnList, Schema, SchemaNo};
 use std::alloc::Global;
-
-/// Why a text is not read: the first line that is refused, with the least reason that holds in it, or want of memory.
-#[derive(Clone, Copy, Debug, PartialEq, Eq)]
-pub enum ReadNo {
-    Line { number: u64, reason: u8 },
-    Memory,
-}
-
-impl From<NoMemory> for ReadNo {
-    ghost use Rattle.kt_script.specs.declared.head.ReadNo.TheVariants.{Memory};
-
-    ghost from_gives = { λ _ e. e ≡ Memory };
-
-    fn from(_: NoMemory) -> Self {
-        ReadNo::Memory
-    }
-}
 
 /// The columns of a script, and the text below their lines. They stand from line 2 on.
 #[derive(Debug, Drop)]
@@ -51,12 +35,13 @@ pub fn cut_line(text: &[u8]) -> Option<(&[u8], &[u8])>
     cut_at(text, b'\n')
 }
 
-fn located(number: u64, no: LineNo) -> ReadNo
+/// A refusal, in the line of this number.
+pub fn located(number: u64, no: LineNo) -> ScriptNo
     ensures { result ≡ located number no }
 {
     match no {
-        LineNo::Reason(reason) => ReadNo::Line { number, reason },
-        LineNo::Memory => ReadNo::Memory,
+        LineNo::Reason(reason) => ScriptNo::Line { number, reason },
+        LineNo::Memory => ScriptNo::Memory,
     }
 }
 
@@ -74,7 +59,7 @@ fn push_column(columns: &mut Vec<Column>, column: Column) -> Result<(), NoMemory
 }
 
 // The columns below the first line.
-fn read_columns(alloc: Global, text: &[u8]) -> Result<Head<'_>, ReadNo>
+fn read_columns(alloc: Global, text: &[u8]) -> Result<Head<'_>, ScriptNo>
     ensures { IsColumns text.now result }
 {
     let mut columns = Vec::new(alloc);
@@ -95,17 +80,17 @@ fn read_columns(alloc: Global, text: &[u8]) -> Result<Head<'_>, ReadNo>
 }
 
 /// The columns of a text, or the fault of one of its first lines.
-pub fn read_head(alloc: Global, text: &[u8]) -> Result<Head<'_>, ReadNo>
+pub fn read_head(alloc: Global, text: &[u8]) -> Result<Head<'_>, ScriptNo>
     ensures { IsHead text.now result }
 {
     let Some((line, behind)) = cut_line(text) else {
         let reason = if text.is_empty() { 3 } else { 2 };
-        return Err(ReadNo::Line { number: 1, reason });
+        return Err(ScriptNo::Line { number: 1, reason });
     };
     if line == b"table".as_slice() {
         read_columns(alloc, behind)
     } else {
-        Err(ReadNo::Line {
+        Err(ScriptNo::Line {
             number: 1,
             reason: 3,
         })
@@ -154,14 +139,14 @@ fn make_schema(alloc: Global, columns: Vec<Column>) -> Result<Schema, NoMemory>
 }
 
 /// The schema of a text, or the fault of one of the lines up to the first one below the columns.
-pub fn read_table(alloc: Global, text: &[u8]) -> Result<Table<'_>, ReadNo>
+pub fn read_table(alloc: Global, text: &[u8]) -> Result<Table<'_>, ScriptNo>
     ensures { IsTableRead text.now result }
 {
     let Head { columns, rest } = read_head(alloc, text)?;
     if !has_key(&columns) {
         let number = columns.len() as u64 + 2;
         let reason = no_key(rest);
-        return Err(ReadNo::Line { number, reason });
+        return Err(ScriptNo::Line { number, reason });
     }
     let schema = make_schema(alloc, columns)?;
     Ok(Table { schema, rest })

@@ -1,150 +1,9 @@
 //! First lines that are refused, and columns at a limit and past it.
-use crate::head::{ReadNo, read_head, read_table};
+use crate::head::{read_head, read_table};
+use crate::refusal::ScriptNo;
 use kt_base::{NoMemory, Octets};
 use std::alloc::Global;
 use std::test::Fail;
-
-#[test]
-fn the_first_fault_of_the_first_lines_is_told(rt: HostRuntime) -> Result<(), Fail> {
-    let alloc = rt.alloc();
-    let texts = [
-        (b"table".as_slice(), 1, 2),
-        (b"table\ncolumn id int64 ke".as_slice(), 2, 2),
-        (b"".as_slice(), 1, 3),
-        (b"\n".as_slice(), 1, 3),
-        (b"Table\n".as_slice(), 1, 3),
-        (b"table \n".as_slice(), 1, 3),
-        (b" table\n".as_slice(), 1, 3),
-        (b"column id int64 key\n".as_slice(), 1, 3),
-        (b"table\ncolumn id\n".as_slice(), 2, 4),
-        (b"table\ncolumn 1d int64 key\n".as_slice(), 2, 4),
-        (b"table\ncolumn id int65 key\n".as_slice(), 2, 4),
-        (b"table\ncolumn id int64 key key\n".as_slice(), 2, 4),
-        (b"table\ncolumn id int64 key nullable\n".as_slice(), 2, 4),
-        (b"table\ncolumn id int64 key default 1\n".as_slice(), 2, 4),
-        (
-            b"table\ncolumn id int64 nullable nullable\n".as_slice(),
-            2,
-            4,
-        ),
-        (b"table\ncolumn id int64 default\n".as_slice(), 2, 4),
-        (b"table\ncolumn id int64 default -0\n".as_slice(), 2, 4),
-        (
-            b"table\ncolumn id int64 default 1 nullable\n".as_slice(),
-            2,
-            4,
-        ),
-        (b"table\ncolumn id int64 \n".as_slice(), 2, 4),
-        (
-            b"table\ncolumn aaaaaaaaaaaaaaaaaaaaaaaaaaaaaaaaaaaaaaaaaaaaaaaaaaaaaaaaaaaaaaaaa int64 key\n".as_slice(),
-            2,
-            4,
-        ),
-        (
-            b"table\ncolumn v string\ncolumn id int64 key\n".as_slice(),
-            3,
-            6,
-        ),
-        (
-            b"table\ncolumn id int64 key\ncolumn v string\ncolumn k int8 key\n".as_slice(),
-            4,
-            6,
-        ),
-        (
-            b"table\ncolumn id int64 key\ncolumn v string\ncolumn k bool key\n".as_slice(),
-            4,
-            6,
-        ),
-        (
-            b"table\ncolumn id int64 key\ncolumn v string\ncolumn v int8 key\n".as_slice(),
-            4,
-            6,
-        ),
-        (
-            b"table\ncolumn v int8 nullable default 1\ncolumn id int8 key\n".as_slice(),
-            3,
-            6,
-        ),
-        (b"table\ncolumn b bool key\n".as_slice(), 2, 7),
-        (
-            b"table\ncolumn a int8 key\ncolumn b bool key\n".as_slice(),
-            3,
-            7,
-        ),
-        (
-            b"table\ncolumn a int8 key\ncolumn a bool key\n".as_slice(),
-            3,
-            7,
-        ),
-        (b"table\ncolumn _ bool key\n".as_slice(), 2, 7),
-        (
-            b"table\ncolumn a string key\ncolumn b string key\ncolumn c bool key\n".as_slice(),
-            4,
-            7,
-        ),
-        (
-            b"table\ncolumn id int64 key\ncolumn v string\ncolumn v string\n".as_slice(),
-            4,
-            8,
-        ),
-        (
-            b"table\ncolumn id int64 key\ncolumn v string\ncolumn id int8\n".as_slice(),
-            4,
-            8,
-        ),
-        (
-            b"table\ncolumn a int8 key\ncolumn a int8 key\n".as_slice(),
-            3,
-            8,
-        ),
-        (
-            b"table\ncolumn id int64 key\ncolumn v string\ncolumn v int8 default 128\n".as_slice(),
-            4,
-            8,
-        ),
-        (
-            b"table\ncolumn id int64 key\ncolumn v string\ncolumn w int8 default null\n".as_slice(),
-            4,
-            10,
-        ),
-        (
-            b"table\ncolumn id int64 key\ncolumn v string\ncolumn w int8 nullable default null\n".as_slice(),
-            4,
-            10,
-        ),
-        (
-            b"table\ncolumn id int64 key\ncolumn v string\ncolumn w int8 default 128\n".as_slice(),
-            4,
-            10,
-        ),
-        (
-            b"table\ncolumn id int64 key\ncolumn v string\ncolumn w int8 default \"a\"\n".as_slice(),
-            4,
-            10,
-        ),
-        (
-            b"table\ncolumn id int64 key\ncolumn v string\ncolumn w bool default 1\n".as_slice(),
-            4,
-            10,
-        ),
-        (
-            b"table\ncolumn id int64 key\ncolumn v string\ncolumn w string default x\"00\"\n".as_slice(),
-            4,
-            10,
-        ),
-        (
-            b"table\ncolumn id int64 key\ncolumn v string\ncolumn w binary default \"a\"\n".as_slice(),
-            4,
-            10,
-        ),
-    ];
-    for (text, line, why) in texts {
-        let told =
-            matches!(read_table(alloc, text), Err(ReadNo::Line { number, reason }) if number == line && reason == why);
-        assert!(rt; told);
-    }
-    Ok(())
-}
 
 // A table of so many columns.
 fn wide(alloc: Global, count: u16) -> Result<Octets, NoMemory> {
@@ -166,7 +25,7 @@ fn three_hundred_columns_are_read_and_no_more(rt: HostRuntime) -> Result<(), Fai
     assert!(rt; matches!(&head, Ok(head) if head.columns.len() == 300 && head.rest.is_empty()));
     let more = wide(alloc, 301)?;
     let told =
-        matches!(read_head(alloc, more.as_slice()), Err(ReadNo::Line { number, reason }) if number == 302 && reason == 9);
+        matches!(read_head(alloc, more.as_slice()), Err(ScriptNo::Line { number, reason }) if number == 302 && reason == 9);
     assert!(rt; told);
     Ok(())
 }
@@ -200,7 +59,7 @@ fn a_table_has_a_key(rt: HostRuntime) -> Result<(), Fail> {
     ];
     for (text, line, why) in texts {
         let told =
-            matches!(read_table(alloc, text), Err(ReadNo::Line { number, reason }) if number == line && reason == why);
+            matches!(read_table(alloc, text), Err(ScriptNo::Line { number, reason }) if number == line && reason == why);
         assert!(rt; told);
     }
     Ok(())

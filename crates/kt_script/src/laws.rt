@@ -1,6 +1,7 @@
 //! Laws of the definitions.
 
-ghost use Rattle.kt_script.specs.Laws.{texts_give_back, one_plan};
+ghost use Rattle.kt_script.specs.Laws.{texts_give_back};
+ghost use Rattle.kt_script.specs.Outputs.{outputs_are_one, printed_texts, outputs_give_back, printed_hold};
 
 /// Outputs of one text have the same replies, as far as a text shows them, the same history and the same last
 /// line.
@@ -8,7 +9,11 @@ pub fn texts_law()
     ensures { texts_give_back }
 {}
 
-/// A text spells at most one plan.
-pub fn plans_law()
-    ensures { one_plan }
+/// A text is that of one output at most. A printed text is that of what was printed, with rows as their lines, and
+/// of no other output, and where the rows' cells fit their columns it is read again.
+pub fn outputs_law()
+    ensures one { outputs_are_one }
+    ensures printed { printed_texts }
+    ensures again { outputs_give_back }
+    ensures held { printed_hold }
 {}

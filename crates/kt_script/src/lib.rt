@@ -1,32 +1,57 @@
 //! Texts: what a script spells, and what is printed of a run. A text is cut into lines first, and each line is
 //! read by itself.
 //!
-//! For the layers above: `read_plan` answers a plan exactly where the text spells it, `read_table` answers the schema
-//! of any script or the first fault of its lines up to the first one below the columns, and `print_output` appends
-//! the one text of the replies, the history and the last line. The whole grammar stands in `specs/` as functions on
-//! lists of bytes. It stands on kt_base, kt_key, kt_schema and kt_history.
+//! For the layers above: `read_script` answers a script exactly where the text spells it, and otherwise the first
+//! faulty line with the least reason that holds in it. `print_script` gives the text of a script with the names of each
+//! operation in schema order, which is read as that script (`print::reading_law`). `print_output` appends the one text
+//! of the replies, the history and the last line, and `read_output` reads such a text again, with each row as its line,
+//! or tells the place of the first line that cannot stand where it does. The whole grammar stands in `specs/` as
+//! functions on lists of bytes. It stands on kt_base, kt_key, kt_schema and kt_history.
 #![tactic(auto)]
 
 pub mod asked;
 pub mod columns;
-pub mod form;
 pub mod head;
 #[cfg(test)]
 mod head_tests;
 pub mod laws;
 pub mod least;
 pub mod lists;
+pub mod named;
 pub mod names;
 pub mod number;
+pub mod operations;
+pub mod out_lines;
 pub mod output;
+pub mod print;
+#[cfg(test)]
+mod print_tests;
 pub mod refusal;
+pub mod replies;
+pub mod reread;
+#[cfg(test)]
+mod reread_tests;
+pub mod scans;
+pub mod script;
+#[cfg(test)]
+mod script_tests;
+pub mod sessions;
+pub mod split;
 pub mod test_words;
 #[cfg(test)]
 mod tests;
 pub mod word;
+#[cfg(test)]
+mod write_tests;
+pub mod writes;
 
-pub use form::read_plan;
-pub use head::{ReadNo, Table, read_table};
+pub use head::{Table, read_table};
 pub use lists::{KindList, ReplyList, ReplyLists, ShownReply};
 pub use output::{LastLine, print_output};
+pub use print::print_script;
 pub use refusal::ScriptNo;
+pub use replies::{LineList, ReplyLine, ReplyLineList, ReplyLines};
+pub use reread::{CodecNo, Output, read_output};
+pub use scans::read_scan;
+pub use script::{Script, read_script};
+pub use writes::read_write;

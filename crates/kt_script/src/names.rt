@@ -6,7 +6,7 @@ ghost use Rattle.kt_script.specs.Writes.{IsFound};
 ghost use Rattle.kt_script.specs.Scans.{names_in, name_no};
 
 use crate::columns::SOUND;
-use crate::form::cut_at;
+use crate::split::cut_at;
 use kt_schema::{Column, is_name};
 
 /// The first column of this name.

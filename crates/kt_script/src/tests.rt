@@ -1,7 +1,5 @@
 //! The worked texts, and texts that are no script.
-use crate::{
-    KindList, LastLine, ReplyList, ReplyLists, ScriptNo, ShownReply, print_output, read_plan,
-};
+use crate::{KindList, LastLine, ReplyList, ReplyLists, ShownReply, print_output};
 use kt_base::{Cell, Kind, NoMemory, Octets, Row};
 use kt_history::{Event, EventList, Outcome, OutcomeList, Reply, RowList};
 use std::alloc::Global;
@@ -123,65 +121,5 @@ fn each_kind_of_literal_is_printed(rt: HostRuntime) -> Result<(), Fail> {
     let wanted =
         b"session 1\nrows 8192 1\n\"a\\x00\\\"\\\\\\x7f\xff\" x\"0af0\" -128 true null\nhistory\ntablet stopped\n";
     assert_eq!(rt; out.as_slice(), wanted.as_slice());
-    Ok(())
-}
-
-#[test]
-fn a_script_is_read(rt: HostRuntime) -> Result<(), Fail> {
-    let alloc = rt.alloc();
-    let head = read_plan(alloc, b"table\ncolumn id int64 key\ncolumn v string\n");
-    assert!(rt; matches!(&head, Ok(plan) if plan.is_empty()));
-    let text =
-        b"table\ncolumn id int64 key\ncolumn v string\nsession\ninsert -9223372036854775808 \"a b\"\ninsert 0 \"\"\nscan now\n";
-    let plan = read_plan(alloc, text);
-    assert!(rt; matches!(&plan, Ok(plan) if plan.len() == 1));
-    Ok(())
-}
-
-// The answer to a script of one line.
-fn answer(alloc: Global, line: &[u8]) -> Result<bool, NoMemory> {
-    let mut text = Octets::new(alloc);
-    text.extend(b"table\ncolumn id int64 key\ncolumn v string\nsession\n")?;
-    text.extend(line)?;
-    Ok(matches!(read_plan(alloc, text.as_slice()), Err(ScriptNo::NotTaken)))
-}
-
-#[test]
-fn lines_outside_the_form_are_not_taken(rt: HostRuntime) -> Result<(), Fail> {
-    let alloc = rt.alloc();
-    let lines = [
-        b"scan now".as_slice(),
-        b"\n".as_slice(),
-        b"scan now \n".as_slice(),
-        b"insert 1 \"\x00\"\n".as_slice(),
-        b"insert 1 \"a\n".as_slice(),
-        b"insert 1 a\n".as_slice(),
-        b"insert 1  \"a\"\n".as_slice(),
-        b"insert 1 \"a\\\"\"\n".as_slice(),
-        b"insert 9223372036854775808 \"a\"\n".as_slice(),
-        b"insert -9223372036854775809 \"a\"\n".as_slice(),
-        b"insert 01 \"a\"\n".as_slice(),
-        b"insert -0 \"a\"\n".as_slice(),
-        b"insert +1 \"a\"\n".as_slice(),
-    ];
-    for line in lines {
-        assert!(rt; answer(alloc, line)?);
-    }
-    Ok(())
-}
-
-#[test]
-fn texts_without_the_head_are_not_taken(rt: HostRuntime) -> Result<(), Fail> {
-    let alloc = rt.alloc();
-    let texts = [
-        b"".as_slice(),
-        b"table\ncolumn id int64 key\ncolumn v string".as_slice(),
-        b"table\ncolumn id int64 key\n".as_slice(),
-        b"table\ncolumn id int64 key\ncolumn v string\nsession".as_slice(),
-        b"table\ncolumn id int64 key\ncolumn v string\nscan now\n".as_slice(),
-    ];
-    for text in texts {
-        assert!(rt; matches!(read_plan(alloc, text), Err(ScriptNo::NotTaken)));
-    }
     Ok(())
 }

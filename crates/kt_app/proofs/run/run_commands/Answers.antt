@@ -9,8 +9,8 @@ append_queue-requires-clause-in_order g c = λ tells.
 
 pub returns-clause-run : goal.returns-clause-run
 returns-clause-run g c =
-    on_ok c.append_queue.result _ _ _ (λ is holds. closes_ok g.C.Clock.readings _ _ g.L.Disk.tells g.L.Disk.seen g.L.Disk.now g.L.Disk.leaves _ _ _ _ _ c.args.commands.now _ _ c.in_ok-take_all.ensures.run is holds)
+    on_ok c.append_queue.result _ _ _ (λ is holds. closes_ok c.args.schema.now g.C.Clock.readings _ _ g.L.Disk.tells g.L.Disk.seen g.L.Disk.now g.L.Disk.leaves _ _ _ _ _ c.args.commands.now _ _ c.in_ok-take_all.ensures.run is holds)
     c.append_queue.ensures.records c.append_queue.ensures.durable
 
 pub returns-clause-broken : goal.returns-clause-broken
-returns-clause-broken g c = λ e. inr (closes_fault g.C.Clock.readings _ _ g.L.Disk.tells g.L.Disk.seen g.L.Disk.now g.L.Disk.leaves _ _ _ _ _ c.args.commands.now _ _ c.in_ok-take_all.ensures.run c.append_queue.ensures.any_moment)
+returns-clause-broken g c = λ e. inr (closes_fault c.args.schema.now g.C.Clock.readings _ _ g.L.Disk.tells g.L.Disk.seen g.L.Disk.now g.L.Disk.leaves _ _ _ _ _ c.args.commands.now _ _ c.in_ok-take_all.ensures.run c.append_queue.ensures.any_moment)

@@ -18,15 +18,15 @@ lines-preserved c =
     let reads = subst (λ xs. ReadsColumn xs c.in-Some.line.now (Ok c.in-Ok.column)) c.deref.ensures.value c.in-Ok.ensures in
     let next = column_read columns c.push_column.new.columns.items c.lines.rest.now c.in-Some.line.now c.in-Some.behind.now c.in-Ok.column c.in-Some.ensures.0 (sym c.begins_column.ensures ∙ c.if-not-begins_column.false) reads c.in_ok-push_column.ensures in
     let fits = column_fits columns c.in-Some.line.now c.in-Ok.column reads.0 reads.1 in
-    record { fault = c.lines.invariant.fault ∙ next.0; table = rw c.in_ok-push_column.ensures (table_more columns c.in-Ok.column c.lines.invariant.table fits); end = c.lines.invariant.end ∙ next.1 }
+    record { fault = c.lines.invariant.fault ∙ next.0; table = rw c.in_ok-push_column.ensures (table_more columns c.in-Ok.column c.lines.invariant.table fits); end = c.lines.invariant.end ∙ next.1; size = omega (arith, c.lines.invariant.size, c.in-Some.ensures.1) }
 
 pub lines-init : goal.lines-init
-lines-init c = rw c.new-columns.ensures.items (record { fault = refl; table = table_none; end = refl })
+lines-init c = rw c.new-columns.ensures.items (record { fault = refl; table = table_none; end = refl; size = omega arith })
 
 pub returns-then-not-begins_column : goal.returns-then-not-begins_column
 returns-then-not-begins_column c =
     let none = ap begins_column (first_step c.lines.rest.now c.in-Some.line.now c.in-Some.behind.now c.in-Some.ensures.0) ∙ (sym c.begins_column.ensures ∙ c.if-not-begins_column.true) in
-    (c.lines.invariant.fault, c.lines.invariant.end, none, c.lines.invariant.table)
+    (c.lines.invariant.fault, c.lines.invariant.end, none, c.lines.invariant.table, c.lines.invariant.size)
 
 pub returns : goal.returns
-returns c = (c.lines.invariant.fault, c.lines.invariant.end, ap (λ pieces. begins_column (first_piece pieces)) c.in_default.ensures, c.lines.invariant.table)
+returns c = (c.lines.invariant.fault, c.lines.invariant.end, ap (λ pieces. begins_column (first_piece pieces)) c.in_default.ensures, c.lines.invariant.table, c.lines.invariant.size)

@@ -7,7 +7,7 @@ use Rattle.kt_script.proofs.head.read_head.Goals as goal
 pub returns-then-eq : goal.returns-then-eq
 returns-then-eq c =
     let is : same c.in-Some.line.now (codes "table") ≡ true = sym (ap (same c.in-Some.line.now) c.as_slice.ensures) ∙ sym c.if-eq.ensures in
-    behind_table c.args.text.now c.in-Some.line.now c.in-Some.behind.now c.read_columns.result c.in-Some.ensures.0 is c.read_columns.ensures
+    behind_table c.args.text.now c.in-Some.line.now c.in-Some.behind.now c.read_columns.result c.in-Some.ensures.0 c.in-Some.ensures.1 is c.read_columns.ensures
 
 pub returns-else-eq : goal.returns-else-eq
 returns-else-eq c =

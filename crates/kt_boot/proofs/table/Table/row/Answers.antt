@@ -4,8 +4,8 @@ use Rattle.kt_history.specs.Rows.{key_cmp}
 use Rattle.kt_boot.proofs.Rows.{found}
 use Rattle.kt_boot.proofs.table.Table.row.Goals as goal
 
-pub returns-in_ok-copy-in-Some : goal.returns-in_ok-copy-in-Some
-returns-in_ok-copy-in-Some c = ap Some (c.in_ok-copy-in-Some.ensures) ∙ c.in-Some.ensures.value ∙ found (λ key. key.items) c.args.key.now c.self.inside.rows.entries ∙ ap (find key_cmp c.args.key.now) c.self.view_is
+pub returns-in_ok-copy-in-Some-clause-row : goal.returns-in_ok-copy-in-Some-clause-row
+returns-in_ok-copy-in-Some-clause-row c = ap Some (c.in_ok-copy-in-Some.ensures) ∙ c.in-Some.ensures.value ∙ found (λ key. key.items) c.args.key.now c.self.inside.rows.entries ∙ ap (find key_cmp c.args.key.now) c.self.view_is
 
-pub returns-in-None : goal.returns-in-None
-returns-in-None c = c.in-None.ensures.value ∙ found (λ key. key.items) c.args.key.now c.self.inside.rows.entries ∙ ap (find key_cmp c.args.key.now) c.self.view_is
+pub returns-in-None-clause-row : goal.returns-in-None-clause-row
+returns-in-None-clause-row c = c.in-None.ensures.value ∙ found (λ key. key.items) c.args.key.now c.self.inside.rows.entries ∙ ap (find key_cmp c.args.key.now) c.self.view_is

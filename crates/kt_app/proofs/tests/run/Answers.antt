@@ -1,4 +1,0 @@
-use Rattle.kt_app.proofs.tests.run.Goals as goal
-
-pub tablet_main-ended-requires : goal.tablet_main-ended-requires
-tablet_main-ended-requires g c = record { openable = c.requires }

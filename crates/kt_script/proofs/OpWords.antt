@@ -1,0 +1,344 @@
+-- What the words of operations say, a word at a time.
+use Rattle.std.proofs.Common.{◌≡◌, ℕ, zero, suc, ◌+◌, ◌<◌, ◌≤◌, min, Bool, true, false, not, ◌&&◌, ◌||◌, cond, List, [], ◌∷◌, ◌++◌, length, drop, map, Option, Some, None, Result, Ok, Err, inl, inr, refl, sym, ap, ◌∙◌, arith, append_assoc}
+use Rattle.std.specs.Prelude.{◌⊎◌, ℤ, pos, negsuc, if◌then◌else◌, nat_lt, codes}
+use Rattle.std.specs.List.{list_any, list_all, onto_first}
+use Rattle.std.proofs.lemmas.Bool.Decides.{nat_tests}
+use Rattle.std.proofs.lemmas.List.{take-append-drop}
+use Rattle.kt_base.specs.declared.cell.Kind.{Kind}
+use Rattle.kt_base.specs.declared.cell.Kind.TheVariants as kind
+use Rattle.kt_base.specs.declared.cell.Cell.{Cell}
+use Rattle.kt_base.specs.declared.cell.Cell.TheVariants as cell
+use Rattle.kt_base.specs.declared.literal.LiteralNo.{LiteralNo}
+use Rattle.kt_base.specs.declared.literal.LiteralNo.TheVariants as no
+use Rattle.kt_base.specs.Literals.{same, cell_in, cell_or, cell_under, short_bytes, number_fits, within, fits, Value, nothing, truth, number, text, raw}
+use Rattle.kt_base.proofs.Literals.{all_spelled}
+use Rattle.kt_base.proofs.Values.{both, both_true}
+use Rattle.std.proofs.lemmas.Bool.{false≢true}
+use Rattle.kt_key.specs.Fit.{is_bool, in_range, has_kind, is_key}
+use Rattle.kt_schema.specs.declared.column.Column.{Column}
+use Rattle.kt_schema.specs.First.{passes_at}
+use Rattle.kt_schema.specs.Columns.{is_weak, columns_no, key_columns, other_columns, key_kinds}
+use Rattle.kt_schema.proofs.Columns.{schema_holds, keys_first}
+use Rattle.kt_script.specs.Reasons.{reason_if, cell_no, cell_reason, cell_value, cell_or_null}
+use Rattle.kt_history.specs.declared.operation.OpKind.{OpKind}
+use Rattle.kt_history.specs.declared.operation.RowOp.{RowOp}
+use Rattle.kt_script.proofs.Selections.{any_map}
+use Rattle.kt_script.specs.Writes.{name_in, left_out_no, must_be_named, all_named_no, upsert_no, twice, op_no, op_of, op_key, ops_no, many_no, write_no, cells_no, cells_of, under, key_no, key_len, key_of, key_cells, long_no, none_left_no, insert_no, ops_of, first_op, later_ops}
+
+-- the first operation and those behind it
+pub ops_split : (words : List (List ℕ)) → ops_of words ≡ first_op words ∷ later_ops words
+ops_split [] = refl
+ops_split (w ∷ words) = by (same w (codes ";")) (ops_split words)
+  where
+    by : (t : Bool) → ops_of words ≡ first_op words ∷ later_ops words
+        → (if t then [] ∷ ops_of words else onto_first w (ops_of words)) ≡ (if t then [] else w ∷ first_op words) ∷ (if t then ops_of words else later_ops words)
+    by true e = refl
+    by false e = ap (onto_first w) e
+
+pub cells_no-bound : (columns : List Column) (words : List (List ℕ)) → cells_no columns words ≤ 21
+cells_no-bound [] words = omega arith
+cells_no-bound (c ∷ columns) [] = omega arith
+cells_no-bound (c ∷ columns) (w ∷ words) = let more = cells_no-bound columns words in omega (arith, more)
+
+no_words : (columns : List Column) → (cells_no columns [] ≡ 12) ⊎ (cells_no columns [] ≡ 21)
+no_words [] = inr refl
+no_words (c ∷ columns) = inl refl
+
+no_cells : (columns : List Column) → cells_of columns [] ≡ []
+no_cells [] = refl
+no_cells (c ∷ columns) = refl
+
+-- cells under two groups of columns
+pub cells_no-append : (keys others : List Column) (words : List (List ℕ)) → cells_no (keys ++ others) words ≡ min (cells_no keys words) (cells_no others (drop (length keys) words))
+cells_no-append [] others words = let most = cells_no-bound others words in omega (arith, most)
+cells_no-append (k ∷ keys) others [] = elim (no_words others) [ inl e ↦ omega (arith, e) | inr e ↦ omega (arith, e) ]
+cells_no-append (k ∷ keys) others (w ∷ words) = let more = cells_no-append keys others words in omega (arith, more)
+
+pub cells_of-behind : (keys others : List Column) (words : List (List ℕ)) → drop (length keys) (cells_of (keys ++ others) words) ≡ cells_of others (drop (length keys) words)
+cells_of-behind [] others words = refl
+cells_of-behind (k ∷ keys) others [] = sym (no_cells others)
+cells_of-behind (k ∷ keys) others (w ∷ words) = cells_of-behind keys others words
+
+drop_all : (keys others : List Column) (words : List (List ℕ)) → drop (length others) (drop (length keys) words) ≡ drop (length (keys ++ others)) words
+drop_all [] others words = refl
+drop_all (k ∷ keys) others [] = none (length others)
+  where
+    none : (n : ℕ) → ◌≡◌ {A = List (List ℕ)} (drop n []) []
+    none zero = refl
+    none (suc n) = refl
+drop_all (k ∷ keys) others (w ∷ words) = drop_all keys others words
+
+pub both_groups : (columns : List Column) → columns_no columns ≡ None → key_columns columns ++ other_columns columns ≡ columns
+both_groups columns none =
+    let first = keys_first columns (schema_holds columns none).late in
+    let n = length (key_kinds columns) in
+    rw (first.0, first.1) (take-append-drop n columns)
+
+-- a cell that is read has the kind of its column
+same_range : (half : ℕ) (n : ℤ) → within half n ≡ true → in_range half n ≡ true
+same_range half (pos n) h = h
+same_range half (negsuc n) h = h
+
+pub of_kind : (k : Kind) (x : Cell) → fits k x ≡ true → has_kind k x ≡ true
+of_kind kind.Bool (cell.Int n) h = absurd (false≢true h)
+of_kind kind.Int8 (cell.Int n) h = same_range _ n h
+of_kind kind.Int16 (cell.Int n) h = same_range _ n h
+of_kind kind.Int32 (cell.Int n) h = same_range _ n h
+of_kind kind.Int64 (cell.Int n) h = same_range _ n h
+of_kind kind.String (cell.Int n) h = absurd (false≢true h)
+of_kind kind.Binary (cell.Int n) h = absurd (false≢true h)
+of_kind kind.Bool (cell.Bool b) h = refl
+of_kind kind.Int8 (cell.Bool b) h = absurd (false≢true h)
+of_kind kind.Int16 (cell.Bool b) h = absurd (false≢true h)
+of_kind kind.Int32 (cell.Bool b) h = absurd (false≢true h)
+of_kind kind.Int64 (cell.Bool b) h = absurd (false≢true h)
+of_kind kind.String (cell.Bool b) h = absurd (false≢true h)
+of_kind kind.Binary (cell.Bool b) h = absurd (false≢true h)
+of_kind kind.Bool (cell.Bytes bytes) h = absurd (false≢true h)
+of_kind kind.Int8 (cell.Bytes bytes) h = absurd (false≢true h)
+of_kind kind.Int16 (cell.Bytes bytes) h = absurd (false≢true h)
+of_kind kind.Int32 (cell.Bytes bytes) h = absurd (false≢true h)
+of_kind kind.Int64 (cell.Bytes bytes) h = absurd (false≢true h)
+of_kind kind.String (cell.Bytes bytes) h = refl
+of_kind kind.Binary (cell.Bytes bytes) h = refl
+of_kind kind.Bool cell.Null h = absurd (false≢true h)
+of_kind kind.Int8 cell.Null h = absurd (false≢true h)
+of_kind kind.Int16 cell.Null h = absurd (false≢true h)
+of_kind kind.Int32 cell.Null h = absurd (false≢true h)
+of_kind kind.Int64 cell.Null h = absurd (false≢true h)
+of_kind kind.String cell.Null h = absurd (false≢true h)
+of_kind kind.Binary cell.Null h = absurd (false≢true h)
+
+-- what a text is read as is never want of memory
+short_memory : (bytes : List ℕ) → short_bytes bytes ≡ Err no.Memory → ⊥
+short_memory bytes h = by (nat_lt 65536 (length bytes)) h
+  where
+    by : (t : Bool) → (if t then Err no.Long else Ok (cell.Bytes bytes)) ≡ Err no.Memory → ⊥
+    by true g = cc
+    by false g = cc
+
+number_memory : (t : Bool) (n : ℤ) → (if t then Ok (cell.Int n) else Err no.Kind) ≡ Err no.Memory → ⊥
+number_memory true n h = cc
+number_memory false n h = cc
+
+under_memory : (k : Kind) (v : Value) → cell_under k v ≡ Err no.Memory → ⊥
+under_memory k nothing h = cc
+under_memory kind.Bool (truth b) h = cc
+under_memory kind.Int8 (truth b) h = cc
+under_memory kind.Int16 (truth b) h = cc
+under_memory kind.Int32 (truth b) h = cc
+under_memory kind.Int64 (truth b) h = cc
+under_memory kind.String (truth b) h = cc
+under_memory kind.Binary (truth b) h = cc
+under_memory k (number n) h = number_memory (number_fits k n) n h
+under_memory kind.Bool (text bytes) h = cc
+under_memory kind.Int8 (text bytes) h = cc
+under_memory kind.Int16 (text bytes) h = cc
+under_memory kind.Int32 (text bytes) h = cc
+under_memory kind.Int64 (text bytes) h = cc
+under_memory kind.String (text bytes) h = short_memory bytes h
+under_memory kind.Binary (text bytes) h = cc
+under_memory kind.Bool (raw bytes) h = cc
+under_memory kind.Int8 (raw bytes) h = cc
+under_memory kind.Int16 (raw bytes) h = cc
+under_memory kind.Int32 (raw bytes) h = cc
+under_memory kind.Int64 (raw bytes) h = cc
+under_memory kind.String (raw bytes) h = cc
+under_memory kind.Binary (raw bytes) h = short_memory bytes h
+
+or_memory : (k : Kind) (v : Option Value) → cell_or k v ≡ Err no.Memory → ⊥
+or_memory k None h = cc
+or_memory k (Some v) h = under_memory k v h
+
+-- a text that no reason up to 17 refuses is a cell that the column takes, or null where it may be
+pub read_cell_fits : (c : Column) (word : List ℕ) → 17 < cell_no c word → (fits c.kind (cell_value c.kind word) ≡ true) ⊎ ((c.nullable ≡ true) × (cell_value c.kind word ≡ cell.Null))
+read_cell_fits c word h = by (cell_in c.kind word) refl h
+  where
+    null : (b : Bool) → 17 < cell_reason b (Err no.Null) → b ≡ true
+    null true g = refl
+    null false g = absurd (omega arith)
+
+    by : (r : Result Cell LiteralNo) → cell_in c.kind word ≡ r → 17 < cell_reason c.nullable r → (fits c.kind (cell_or_null r) ≡ true) ⊎ ((c.nullable ≡ true) × (cell_or_null r ≡ cell.Null))
+    by (Ok x) e g = inl (all_spelled c.kind x word e).fit
+    by (Err no.Form) e g = absurd (omega arith)
+    by (Err no.Kind) e g = absurd (omega arith)
+    by (Err no.Null) e g = inr (null c.nullable g, refl)
+    by (Err no.Long) e g = absurd (omega arith)
+    by (Err no.Memory) e g = absurd (or_memory c.kind _ e)
+
+-- a column of a key: none of its cells is null, and it is of no truth values
+abbrev pub is_strong : Column → Bool
+is_strong c = not (c.nullable || is_bool c.kind)
+
+strong_keys : (columns : List Column) → ((k : ℕ) → passes_at is_weak columns k ≡ false) → list_all is_strong (key_columns columns) ≡ true
+strong_keys [] weak = refl
+strong_keys (c ∷ columns) weak = by c.key (weak 0) (strong_keys columns (λ k. weak (suc k)))
+  where
+    by : (b : Bool) → (b && (c.nullable || is_bool c.kind)) ≡ false → list_all is_strong (key_columns columns) ≡ true → list_all is_strong (cond b (c ∷ key_columns columns) (key_columns columns)) ≡ true
+    by true weak more = both _ _ (ap not weak) more
+    by false weak more = more
+
+key_one : (k : Kind) (kinds : List Kind) (x : Cell) (cells : List Cell) → is_bool k ≡ false → has_kind k x ≡ true → is_key kinds cells ≡ true → is_key (k ∷ kinds) (x ∷ cells) ≡ true
+key_one kind.Bool kinds x cells b h more = absurd (false≢true (sym b))
+key_one kind.Int8 kinds x cells b h more = both _ _ h more
+key_one kind.Int16 kinds x cells b h more = both _ _ h more
+key_one kind.Int32 kinds x cells b h more = both _ _ h more
+key_one kind.Int64 kinds x cells b h more = both _ _ h more
+key_one kind.String kinds x cells b h more = both _ _ h more
+key_one kind.Binary kinds x cells b h more = both _ _ h more
+
+keys_fit : (keys : List Column) (words : List (List ℕ)) → list_all is_strong keys ≡ true → 17 < cells_no keys words → is_key (map (λ (c : Column). c.kind) keys) (cells_of keys words) ≡ true
+keys_fit [] words strong h = refl
+keys_fit (c ∷ keys) [] strong h = absurd (omega arith)
+keys_fit (c ∷ keys) (w ∷ words) strong h =
+    let parts = both_true _ _ strong in
+    let kind = neither c.nullable (is_bool c.kind) parts.0 in
+    let here : has_kind c.kind (cell_value c.kind w) ≡ true = elim (read_cell_fits c w (omega (arith, h))) [
+      | inl fit ↦ of_kind c.kind (cell_value c.kind w) fit
+      | inr null ↦ absurd (false≢true (sym kind.0 ∙ null.0))
+    ] in
+    key_one c.kind (map (λ (d : Column). d.kind) keys) (cell_value c.kind w) (cells_of keys words) kind.1 here (keys_fit keys words parts.1 (omega (arith, h)))
+  where
+    neither : (a b : Bool) → not (a || b) ≡ true → (a ≡ false) × (b ≡ false)
+    neither true b g = absurd (false≢true g)
+    neither false true g = absurd (false≢true g)
+    neither false false g = (refl, refl)
+
+-- literals that no reason up to 17 refuses spell a key
+pub key_fits : (columns : List Column) (words : List (List ℕ)) → columns_no columns ≡ None → 17 < cells_no (key_columns columns) words → is_key (key_kinds columns) (key_cells columns words) ≡ true
+key_fits columns words none h = keys_fit (key_columns columns) words (strong_keys columns (schema_holds columns none).weak) h
+
+-- what an insert says of its key and of the other columns
+pub insert_step : (columns : List Column) (words : List (List ℕ)) → columns_no columns ≡ None
+    → insert_no columns words ≡ min (key_no columns words) (min (cells_no (other_columns columns) (drop (key_len columns) words)) (none_left_no (drop (length (other_columns columns)) (drop (key_len columns) words))))
+insert_step columns words none =
+    let keys = key_columns columns in
+    let others = other_columns columns in
+    let groups = both_groups columns none in
+    let cells : cells_no columns words ≡ min (cells_no keys words) (cells_no others (drop (length keys) words)) = ap (λ cs. cells_no cs words) (sym groups) ∙ cells_no-append keys others words in
+    let left : none_left_no (drop (length columns) words) ≡ none_left_no (drop (length others) (drop (length keys) words)) = ap (λ cs. none_left_no (drop (length cs) words)) (sym groups) ∙ ap none_left_no (sym (drop_all keys others words)) in
+    shuffled (cells_no columns words) (cells_no keys words) (cells_no others (drop (length keys) words)) (none_left_no (drop (length columns) words)) (none_left_no (drop (length others) (drop (length keys) words))) (long_no columns words) cells left
+  where
+    shuffled : (a k o b l m : ℕ) → a ≡ min k o → b ≡ l → min a (min b m) ≡ min (min k m) (min o l)
+    shuffled a k o b l m e f = omega arith
+
+pub insert_cells : (columns : List Column) (words : List (List ℕ)) → columns_no columns ≡ None
+    → under (other_columns columns) (drop (key_len columns) (cells_of columns words)) ≡ under (other_columns columns) (cells_of (other_columns columns) (drop (key_len columns) words))
+insert_cells columns words none =
+    ap (λ cs. under (other_columns columns) (drop (key_len columns) (cells_of cs words))) (sym (both_groups columns none)) ∙ ap (under (other_columns columns)) (cells_of-behind (key_columns columns) (other_columns columns) words)
+
+-- what an insert's readers note, one after the other
+pub insert_least : (columns others : List Column) (words first second : List (List ℕ)) (old a b l m : ℕ) → columns_no columns ≡ None → others ≡ other_columns columns
+    → first ≡ drop (key_len columns) words → second ≡ drop (length others) first → a ≡ min old (key_no columns words) → b ≡ min a (cells_no others first) → l ≡ none_left_no second → m ≡ min b l
+    → m ≡ min old (insert_no columns words)
+insert_least columns others words first second old a b l m none group behind_key behind_cells la lb ll lm =
+    let rest = drop (key_len columns) words in
+    let cells : cells_no others first ≡ cells_no (other_columns columns) rest = ap (λ cs. cells_no cs first) group ∙ ap (cells_no (other_columns columns)) behind_key in
+    let left : none_left_no second ≡ none_left_no (drop (length (other_columns columns)) rest) = ap none_left_no (behind_cells ∙ (ap (λ cs. drop (length cs) first) group ∙ ap (drop (length (other_columns columns))) behind_key)) in
+    chain (key_no columns words) (cells_no others first) (cells_no (other_columns columns) rest) (none_left_no (drop (length (other_columns columns)) rest)) (insert_no columns words) la lb (ll ∙ left) lm cells (insert_step columns words none)
+  where
+    chain : (k x z y i : ℕ) → a ≡ min old k → b ≡ min a x → l ≡ y → m ≡ min b l → x ≡ z → i ≡ min k (min z y) → m ≡ min old i
+    chain k x z y i p q r s t u = omega arith
+
+pub same_op : (k : OpKind) (key other : List ℕ) (cells more : List (ℕ × Cell)) → key ≡ other → cells ≡ more → ◌≡◌ {A = RowOp} (record { kind = k; key = key; cells = cells }) (record { kind = k; key = other; cells = more })
+same_op k key other cells more e f = ap (λ (x : List ℕ). record { kind = k; key = x; cells = cells }) e ∙ ap (λ (x : List (ℕ × Cell)). record { kind = k; key = other; cells = x }) f
+
+-- names that are left out add nothing once a reason up to 13 holds
+pub late_left_out : (others : List Column) (words : List (List ℕ)) → 15 ≤ left_out_no others words
+late_left_out others words = by (list_any (must_be_named (map name_in words)) others)
+  where
+    by : (t : Bool) → 15 ≤ reason_if t 15
+    by true = omega arith
+    by false = omega arith
+
+limit : (most n reason : ℕ) → ((most < n) × (reason_if (nat_lt most n) reason ≡ reason)) ⊎ ((n ≤ most) × (reason_if (nat_lt most n) reason ≡ 21))
+limit most n reason = by (nat_lt most n) refl
+  where
+    by : (t : Bool) → nat_lt most n ≡ t → ((most < n) × (reason_if t reason ≡ reason)) ⊎ ((n ≤ most) × (reason_if t reason ≡ 21))
+    by true e = inl (grind (arith, nat_tests), refl)
+    by false e = inr (grind (arith, nat_tests), refl)
+
+counted : (kept new more n a b q o r x y : ℕ) → kept ≤ 64 → new ≡ min 64 (kept + 1) → a ≡ min n q → b ≡ min a r
+    → ((63 < kept) × (r ≡ 18)) ⊎ ((kept ≤ 63) × (r ≡ 21)) → ((64 < new + more) × (x ≡ 18)) ⊎ ((new + more ≤ 64) × (x ≡ 21)) → ((64 < kept + suc more) × (y ≡ 18)) ⊎ ((kept + suc more ≤ 64) × (y ≡ 21))
+    → min b (min o x) ≡ min n (min (min q o) y)
+counted kept new more n a b q o r x y few room la lb (inl f) (inl g) (inl h) = omega arith
+counted kept new more n a b q o r x y few room la lb (inl f) (inl g) (inr h) = omega arith
+counted kept new more n a b q o r x y few room la lb (inl f) (inr g) (inl h) = omega arith
+counted kept new more n a b q o r x y few room la lb (inl f) (inr g) (inr h) = omega arith
+counted kept new more n a b q o r x y few room la lb (inr f) (inl g) (inl h) = omega arith
+counted kept new more n a b q o r x y few room la lb (inr f) (inl g) (inr h) = omega arith
+counted kept new more n a b q o r x y few room la lb (inr f) (inr g) (inl h) = omega arith
+counted kept new more n a b q o r x y few room la lb (inr f) (inr g) (inr h) = omega arith
+
+-- one more operation
+pub least_op : (columns : List Column) (words : List (List ℕ)) (rest : List (List (List ℕ))) (kept new n a b : ℕ) → rest ≡ later_ops words → kept ≤ 64
+    → a ≡ min n (op_no columns (first_op words)) → b ≡ min a (reason_if (nat_lt 63 kept) 18) → new ≡ min 64 (kept + 1)
+    → min b (min (ops_no columns rest) (many_no new rest)) ≡ min n (min (ops_no columns (ops_of words)) (many_no kept (ops_of words)))
+least_op columns words rest kept new n a b is few la lb room =
+    let later = later_ops words in
+    ap (λ ops. min b (min (ops_no columns ops) (many_no new ops))) is
+    ∙ (counted kept new (length later) n a b (op_no columns (first_op words)) (ops_no columns later) (reason_if (nat_lt 63 kept) 18) (many_no new later) (many_no kept (first_op words ∷ later)) few room la lb (limit 63 kept 18) (limit 64 (new + length later) 18) (limit 64 (kept + suc (length later)) 18)
+    ∙ ap (λ ops. min n (min (ops_no columns ops) (many_no kept ops))) (sym (ops_split words)))
+
+pub ops_more : (columns : List Column) (words : List (List ℕ)) (left rest : List (List (List ℕ))) (kept new all : List RowOp) (o : RowOp) → left ≡ ops_of words → rest ≡ later_ops words → o ≡ op_of columns (first_op words)
+    → new ≡ kept ++ o ∷ [] → kept ++ map (op_of columns) left ≡ all → new ++ map (op_of columns) rest ≡ all
+ops_more columns words left rest kept new all o begins is first next so =
+    ap (λ xs. new ++ map (op_of columns) xs) is ∙ (ap (λ xs. xs ++ map (op_of columns) (later_ops words)) next ∙ (append_assoc kept (o ∷ []) (map (op_of columns) (later_ops words))
+    ∙ (ap (λ x. kept ++ (x ∷ map (op_of columns) (later_ops words))) first ∙ (ap (λ ops. kept ++ map (op_of columns) ops) (sym (begins ∙ ops_split words)) ∙ so))))
+
+pub ops_end : (columns : List Column) (n kept : ℕ) → kept ≤ 64 → min n (min (ops_no columns []) (many_no kept [])) ≡ min n 21
+ops_end columns n kept few = by (limit 64 (kept + 0) 18)
+  where
+    by : ((64 < kept + 0) × (many_no kept [] ≡ 18)) ⊎ ((kept + 0 ≤ 64) × (many_no kept [] ≡ 21)) → min n (min 21 (many_no kept [])) ≡ min n 21
+    by (inl p) = absurd (omega arith)
+    by (inr p) = omega (arith, p.1)
+
+pub keys_same : (columns : List Column) (ops : List (List (List ℕ))) → map (λ (o : RowOp). o.key) (map (op_of columns) ops) ≡ map (op_key columns) ops
+keys_same columns [] = refl
+keys_same columns ([] ∷ ops) = ap (λ xs. [] ∷ xs) (keys_same columns ops)
+keys_same columns ((w ∷ words) ∷ ops) = ap (λ xs. key_of columns words ∷ xs) (keys_same columns ops)
+
+either_no : (t : Bool) (reason : ℕ) → (reason_if t reason ≡ reason) ⊎ (reason_if t reason ≡ 21)
+either_no true reason = inl refl
+either_no false reason = inr refl
+
+-- the reason of a write, after its operations
+pub write_least : (columns : List Column) (words : List (List ℕ)) (ops : List RowOp) (n m : ℕ) → n ≡ min 21 (min (ops_no columns (ops_of words)) (many_no 0 (ops_of words)))
+    → (18 < n → ops ≡ map (op_of columns) (ops_of words))
+    → ((18 < n) × (m ≡ min n (reason_if (twice (map (λ (o : RowOp). o.key) ops)) 19))) ⊎ ((n ≤ 18) × (m ≡ n)) → write_no columns words ≡ m
+write_least columns words ops n m least kept last =
+    let whole = ops_of words in
+    let zero_more : 0 + length whole ≡ length whole = omega arith in
+    let many : many_no 0 whole ≡ reason_if (nat_lt 64 (length whole)) 18 = ap (λ k. reason_if (nat_lt 64 k) 18) zero_more in
+    let alike : 18 < n → reason_if (twice (map (λ (o : RowOp). o.key) ops)) 19 ≡ reason_if (twice (map (op_key columns) whole)) 19 =
+    λ h. ap (λ keys. reason_if (twice keys) 19) (ap (map (λ (o : RowOp). o.key)) (kept h) ∙ keys_same columns whole) in
+    by (ops_no columns whole) (reason_if (nat_lt 64 (length whole)) 18) (reason_if (twice (map (op_key columns) whole)) 19) (least ∙ ap (λ k. min 21 (min (ops_no columns whole) k)) many) alike (either_no (twice (map (op_key columns) whole)) 19) last
+  where
+    by : (o k t : ℕ) → n ≡ min 21 (min o k) → (18 < n → reason_if (twice (map (λ (p : RowOp). p.key) ops)) 19 ≡ t) → (t ≡ 19) ⊎ (t ≡ 21)
+        → ((18 < n) × (m ≡ min n (reason_if (twice (map (λ (p : RowOp). p.key) ops)) 19))) ⊎ ((n ≤ 18) × (m ≡ n)) → min o (min k t) ≡ m
+    by o k t e alike (inl u) (inl h) = let f = alike h.0 in omega (arith, f, h.1)
+    by o k t e alike (inr u) (inl h) = let f = alike h.0 in omega (arith, f, h.1)
+    by o k t e alike (inl u) (inr h) = omega arith
+    by o k t e alike (inr u) (inr h) = omega arith
+
+-- the reason of an upsert, after its names
+pub upsert_least : (columns others : List Column) (words rest names : List (List ℕ)) (old a b m : ℕ) → others ≡ other_columns columns → rest ≡ drop (key_len columns) words
+    → a ≡ min old (key_no columns words) → b ≡ min a (all_named_no others [] rest) → (13 < b → names ≡ map name_in rest)
+    → ((13 < b) × (m ≡ min b (reason_if (list_any (must_be_named names) others) 15))) ⊎ ((b ≤ 13) × (m ≡ b)) → m ≡ min old (upsert_no columns words)
+upsert_least columns others words rest names old a b m group behind la lb named last =
+    let R = drop (key_len columns) words in
+    let oc = other_columns columns in
+    let x : all_named_no others [] rest ≡ all_named_no oc [] R = ap (λ cs. all_named_no cs [] rest) group ∙ ap (all_named_no oc []) behind in
+    let y : (13 < b) → reason_if (list_any (must_be_named names) others) 15 ≡ left_out_no oc R = λ h. ap (λ ns. reason_if (list_any (must_be_named ns) others) 15) (named h ∙ ap (map name_in) behind) ∙ ap (λ cs. reason_if (list_any (must_be_named (map name_in R)) cs) 15) group in
+    by (key_no columns words) (all_named_no oc [] R) (left_out_no oc R) la (lb ∙ ap (min a) x) (late_left_out oc R) last y
+  where
+    by : (k z l : ℕ) → a ≡ min old k → b ≡ min a z → 15 ≤ l → ((13 < b) × (m ≡ min b (reason_if (list_any (must_be_named names) others) 15))) ⊎ ((b ≤ 13) × (m ≡ b))
+        → (13 < b → reason_if (list_any (must_be_named names) others) 15 ≡ l) → m ≡ min old (min (min k z) l)
+    by k z l p q late (inl h) same_l = let e = same_l h.0 in omega (arith, e, h.1)
+    by k z l p q late (inr h) same_l = omega arith
+
+-- whether one of some operations has the key of the one before them
+pub twice_more : (left : List RowOp) (o : RowOp) (behind : List RowOp) (key : List ℕ) (b : Bool) → left ≡ o ∷ behind → key ≡ o.key → list_any (λ (p : RowOp). same key p.key) behind ≡ b
+    → twice (map (λ (p : RowOp). p.key) left) ≡ (b || twice (map (λ (p : RowOp). p.key) behind))
+twice_more left o behind key b is own found =
+    ap (λ ops. twice (map (λ (p : RowOp). p.key) ops)) is ∙ ap (λ t. t || twice (map (λ (p : RowOp). p.key) behind)) (any_map (λ y. same o.key y) (λ (p : RowOp). p.key) behind ∙ (ap (λ k. list_any (λ (p : RowOp). same k p.key) behind) (sym own) ∙ found))

@@ -1,0 +1,180 @@
+-- Printed cells are read as these cells.
+use Rattle.std.proofs.Common.{◌≡◌, ℕ, ◌+◌, ◌≤◌, ℤ, pos, negsuc, List, [], ◌∷◌, ◌++◌, refl, sym, ap, ◌∙◌, arith, length, map, drop, Bool, true, false, not, min, Ok, Err, length-append}
+use mathlib.Core.List.{append-nil}
+use Rattle.std.specs.Prelude.{◌&&◌, ◌||◌, nat_lt, nat_le}
+use Rattle.std.specs.List.{AllByRecursion}
+use Rattle.std.proofs.lemmas.Bool.Decides.{nat_tests}
+use Rattle.kt_base.specs.declared.cell.Kind.{Kind}
+use Rattle.kt_base.specs.declared.cell.Kind.TheVariants as kind
+use Rattle.kt_base.specs.declared.cell.Cell.{Cell}
+use Rattle.kt_base.specs.declared.cell.Cell.TheVariants as cell
+use Rattle.kt_base.specs.declared.literal.LiteralNo.TheVariants as no
+use Rattle.kt_base.specs.Keys.{half_of, width_of}
+use Rattle.kt_base.specs.Literals.{literal, fits, within, cell_in, CellBytes}
+use Rattle.kt_base.proofs.Values.{both_true}
+use Rattle.kt_base.proofs.Literals.{all_read}
+use Rattle.kt_key.specs.Fit.{has_kind, in_range, is_key}
+use Rattle.kt_key.specs.Spelling.{spelling, inner_spelling, last_spelling}
+use Rattle.kt_key.proofs.Steps.{length-escaped, is_key_more}
+use Rattle.kt_schema.specs.Rows.{is_long}
+use Rattle.kt_schema.specs.declared.column.Column.{Column}
+use Rattle.kt_script.specs.Reasons.{cell_reason, cell_or_null, cell_no, cell_value}
+use Rattle.kt_script.specs.Texts.{literals}
+use Rattle.kt_script.specs.Writes.{cells_no, cells_of}
+use Rattle.kt_script.specs.Fit.{fits_column, compares}
+use Rattle.kt_script.proofs.PrintedWords.{IsWord, Ranged, literal_word}
+
+pub min_sound : (a b : ℕ) → a ≡ 21 → b ≡ 21 → min a b ≡ 21
+min_sound a b p q = omega arith
+
+same_range : (half : ℕ) (n : ℤ) → in_range half n ≡ within half n
+same_range half (pos n) = refl
+same_range half (negsuc n) = refl
+
+short_enough : (n : ℕ) → not (nat_lt 65536 n) ≡ true → nat_le n 65536 ≡ true
+short_enough n h = grind (arith, nat_tests)
+
+not_long : (n : ℕ) → n ≤ 65536 → not (nat_lt 65536 n) ≡ true
+not_long n h = grind (arith, nat_tests)
+
+-- a cell of a kind that is not too long has a literal
+pub kind_fits : (k : Kind) (x : Cell) → has_kind k x ≡ true → not (is_long x) ≡ true → fits k x ≡ true
+kind_fits k cell.Null h g = absurd cc
+kind_fits kind.Bool (cell.Bool b) h g = refl
+kind_fits kind.Int8 (cell.Bool b) h g = absurd cc
+kind_fits kind.Int16 (cell.Bool b) h g = absurd cc
+kind_fits kind.Int32 (cell.Bool b) h g = absurd cc
+kind_fits kind.Int64 (cell.Bool b) h g = absurd cc
+kind_fits kind.String (cell.Bool b) h g = absurd cc
+kind_fits kind.Binary (cell.Bool b) h g = absurd cc
+kind_fits kind.Bool (cell.Int n) h g = absurd cc
+kind_fits kind.Int8 (cell.Int n) h g = sym (same_range (half_of (width_of kind.Int8)) n) ∙ h
+kind_fits kind.Int16 (cell.Int n) h g = sym (same_range (half_of (width_of kind.Int16)) n) ∙ h
+kind_fits kind.Int32 (cell.Int n) h g = sym (same_range (half_of (width_of kind.Int32)) n) ∙ h
+kind_fits kind.Int64 (cell.Int n) h g = sym (same_range (half_of (width_of kind.Int64)) n) ∙ h
+kind_fits kind.String (cell.Int n) h g = absurd cc
+kind_fits kind.Binary (cell.Int n) h g = absurd cc
+kind_fits kind.Bool (cell.Bytes b) h g = absurd cc
+kind_fits kind.Int8 (cell.Bytes b) h g = absurd cc
+kind_fits kind.Int16 (cell.Bytes b) h g = absurd cc
+kind_fits kind.Int32 (cell.Bytes b) h g = absurd cc
+kind_fits kind.Int64 (cell.Bytes b) h g = absurd cc
+kind_fits kind.String (cell.Bytes b) h g = short_enough (length b) g
+kind_fits kind.Binary (cell.Bytes b) h g = short_enough (length b) g
+
+ranged : (k : Kind) (x : Cell) → fits k x ≡ true → Ranged k x
+ranged k cell.Null h = tt
+ranged k (cell.Int n) h = h
+ranged k (cell.Bool b) h = tt
+ranged k (cell.Bytes b) h = tt
+
+-- the literal of a cell of a kind is a word, and is read as the cell
+pub record ReadsAgain (k : Kind) (x : Cell) : Type 0 where
+  pub read : cell_in k (literal k x) ≡ Ok x
+  pub word : IsWord (literal k x)
+
+pub reads_again : (k : Kind) (x : Cell) → has_kind k x ≡ true → not (is_long x) ≡ true → CellBytes x → ReadsAgain k x
+reads_again k x h g bytes =
+    let fit = kind_fits k x h g in
+    record { read = all_read k x (literal k x) bytes (record { fit = fit; spelled = refl }); word = literal_word k x (ranged k x fit) }
+
+pub compared_again : (c : Column) (x : Cell) → compares c x ≡ true → CellBytes x → ReadsAgain c.kind x
+compared_again c x h bytes = let both = both_true (has_kind c.kind x) (not (is_long x)) h in reads_again c.kind x both.0 both.1 bytes
+
+-- the literal of a cell that a column takes
+pub record CellOk (c : Column) (x : Cell) : Type 0 where
+  pub sound : cell_no c (literal c.kind x) ≡ 21
+  pub value : cell_value c.kind (literal c.kind x) ≡ x
+  pub word : IsWord (literal c.kind x)
+
+some_cell : (c : Column) (x : Cell) → has_kind c.kind x ≡ true → not (is_long x) ≡ true → CellBytes x → CellOk c x
+some_cell c x h g bytes =
+    let again = reads_again c.kind x h g bytes in
+    record { sound = ap (cell_reason c.nullable) again.read; value = ap cell_or_null again.read; word = again.word }
+
+no_null : (a : Bool) → (a || false) ≡ true → a ≡ true
+no_null true h = refl
+no_null false h = h
+
+other_cell : (c : Column) (x : Cell) → ((has_kind c.kind x || false) && not (is_long x)) ≡ true → CellBytes x → CellOk c x
+other_cell c x h bytes = let both = both_true (has_kind c.kind x || false) (not (is_long x)) h in some_cell c x (no_null (has_kind c.kind x) both.0) both.1 bytes
+
+pub cell_ok : (c : Column) (x : Cell) → fits_column c x ≡ true → CellBytes x → CellOk c x
+cell_ok c cell.Null h bytes =
+    let nullable : c.nullable ≡ true = (both_true c.nullable true h).0 in
+    record { sound = ap (λ n. cell_reason n (Err no.Null)) nullable; value = refl; word = literal_word c.kind cell.Null tt }
+cell_ok c (cell.Int n) h bytes = other_cell c (cell.Int n) h bytes
+cell_ok c (cell.Bool b) h bytes = other_cell c (cell.Bool b) h bytes
+cell_ok c (cell.Bytes b) h bytes = other_cell c (cell.Bytes b) h bytes
+
+-- ---- literals in the order of the columns
+
+-- a cell for each column
+abbrev pub CellsOk : List Column → List Cell → Type 0
+CellsOk [] [] = Unit {0}
+CellsOk [] (x ∷ xs) = ⊥
+CellsOk (c ∷ cs) [] = ⊥
+CellsOk (c ∷ cs) (x ∷ xs) = CellOk c x × CellsOk cs xs
+
+abbrev pub kinds_of : List Column → List Kind
+kinds_of cs = map (λ (c : Column). c.kind) cs
+
+pub front_no : (cs : List Column) (xs : List Cell) (ds : List Column) (more : List (List ℕ)) → CellsOk cs xs → cells_no ds more ≡ 21 → cells_no (cs ++ ds) (literals (kinds_of cs) xs ++ more) ≡ 21
+front_no [] [] ds more ok p = p
+front_no [] (x ∷ xs) ds more ok p = absurd ok
+front_no (c ∷ cs) [] ds more ok p = absurd ok
+front_no (c ∷ cs) (x ∷ xs) ds more ok p = min_sound (cell_no c (literal c.kind x)) (cells_no (cs ++ ds) (literals (kinds_of cs) xs ++ more)) ok.0.sound (front_no cs xs ds more ok.1 p)
+
+pub front_of : (cs : List Column) (xs : List Cell) (ds : List Column) (more : List (List ℕ)) → CellsOk cs xs → cells_of (cs ++ ds) (literals (kinds_of cs) xs ++ more) ≡ xs ++ cells_of ds more
+front_of [] [] ds more ok = refl
+front_of [] (x ∷ xs) ds more ok = absurd ok
+front_of (c ∷ cs) [] ds more ok = absurd ok
+front_of (c ∷ cs) (x ∷ xs) ds more ok = ap (λ v. v ∷ cells_of (cs ++ ds) (literals (kinds_of cs) xs ++ more)) ok.0.value ∙ ap (λ vs. x ∷ vs) (front_of cs xs ds more ok.1)
+
+pub front_drop : (cs : List Column) (xs : List Cell) (more : List (List ℕ)) → CellsOk cs xs → drop (length cs) (literals (kinds_of cs) xs ++ more) ≡ more
+front_drop [] [] more ok = refl
+front_drop [] (x ∷ xs) more ok = absurd ok
+front_drop (c ∷ cs) [] more ok = absurd ok
+front_drop (c ∷ cs) (x ∷ xs) more ok = front_drop cs xs more ok.1
+
+pub front_words : (cs : List Column) (xs : List Cell) → CellsOk cs xs → AllByRecursion IsWord (literals (kinds_of cs) xs)
+front_words [] [] ok = tt
+front_words [] (x ∷ xs) ok = absurd ok
+front_words (c ∷ cs) [] ok = absurd ok
+front_words (c ∷ cs) (x ∷ xs) ok = (ok.0.word, front_words cs xs ok.1)
+
+pub all_no : (cs : List Column) (xs : List Cell) (more : List (List ℕ)) → CellsOk cs xs → cells_no cs (literals (kinds_of cs) xs ++ more) ≡ 21
+all_no cs xs more ok = ap (λ ds. cells_no ds (literals (kinds_of cs) xs ++ more)) (sym (append-nil cs)) ∙ front_no cs xs [] more ok refl
+
+pub all_of : (cs : List Column) (xs : List Cell) (more : List (List ℕ)) → CellsOk cs xs → cells_of cs (literals (kinds_of cs) xs ++ more) ≡ xs
+all_of cs xs more ok = ap (λ ds. cells_of ds (literals (kinds_of cs) xs ++ more)) (sym (append-nil cs)) ∙ (front_of cs xs [] more ok ∙ append-nil xs)
+
+-- ---- keys
+
+inner_short : (k : Kind) (x : Cell) → length (inner_spelling k x) ≤ 65536 → not (is_long x) ≡ true
+inner_short k cell.Null h = refl
+inner_short k (cell.Int n) h = refl
+inner_short k (cell.Bool b) h = refl
+inner_short k (cell.Bytes b) h = let size = length-escaped b in let short : length b ≤ 65536 = omega (arith, size) in not_long (length b) short
+
+last_short : (k : Kind) (x : Cell) → length (last_spelling k x) ≤ 65536 → not (is_long x) ≡ true
+last_short k cell.Null h = refl
+last_short k (cell.Int n) h = refl
+last_short k (cell.Bool b) h = refl
+last_short k (cell.Bytes b) h = not_long (length b) h
+
+-- the cells of a key that is not too long
+pub key_ok : (cs : List Column) (xs : List Cell) → is_key (kinds_of cs) xs ≡ true → length (spelling (kinds_of cs) xs) ≤ 65536 → AllByRecursion CellBytes xs → CellsOk cs xs
+key_ok [] [] h short bytes = tt
+key_ok [] (x ∷ xs) h short bytes = absurd cc
+key_ok (c ∷ cs) [] h short bytes = absurd cc
+key_ok (c ∷ []) (x ∷ []) h short bytes = let more = is_key_more c.kind [] x [] h in (some_cell c x more.0 (last_short c.kind x short) bytes.0, tt)
+key_ok (c ∷ []) (x ∷ y ∷ xs) h short bytes = let more = is_key_more c.kind [] x (y ∷ xs) h in absurd (no more.1)
+  where
+    no : ◌≡◌ {A = Bool} false true → ⊥
+    no e = cc
+key_ok (c ∷ d ∷ cs) (x ∷ xs) h short bytes =
+    let rest : List ℕ = spelling (kinds_of (d ∷ cs)) xs in
+    let size : length (inner_spelling c.kind x ++ rest) ≡ length (inner_spelling c.kind x) + length rest = length-append (inner_spelling c.kind x) rest in
+    let more = is_key_more c.kind (kinds_of (d ∷ cs)) x xs h in
+    (some_cell c x more.0 (inner_short c.kind x (omega (arith, size, short))) bytes.0, key_ok (d ∷ cs) xs more.1 (omega (arith, size, short)) bytes.1)

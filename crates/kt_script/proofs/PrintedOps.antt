@@ -1,0 +1,423 @@
+-- A printed operation is read as that operation.
+use Rattle.std.proofs.Common.{◌≡◌, ℕ, suc, ◌<◌, ◌≤◌, List, [], ◌∷◌, ◌++◌, refl, sym, ap, subst, ◌∙◌, cond, arith, length, map, drop, Bool, true, false, not, min, Some}
+use mathlib.Core.List.{append-nil}
+use Rattle.std.specs.Prelude.{◌||◌, ◌&&◌, ◌==◌, is_some, nat_lt, if◌then◌else◌, codes}
+use Rattle.std.specs.List.{list_any, list_all, AllByRecursion}
+use Rattle.std.specs.declared.cmp.Ordering.{Ordering}
+use Rattle.std.specs.declared.cmp.Ordering.TheVariants.{Less, Greater}
+use Rattle.std.specs.Ordering.{nat_cmp, is_eq}
+use Rattle.std.specs.FinMap.Entries.{find}
+use Rattle.std.proofs.Math.Seq.{drop-append_seam}
+use Rattle.std.proofs.lemmas.Bool.{eqb-true}
+use Rattle.std.proofs.lemmas.Bool.Decides.{nat_tests}
+use Rattle.kt_base.specs.declared.cell.Cell.{Cell}
+use Rattle.kt_base.specs.Keys.{key_cells}
+use Rattle.kt_base.specs.Literals.{same, literal, CellBytes}
+use Rattle.kt_base.proofs.Values.{both_true}
+use Rattle.kt_key.specs.Fit.{is_key}
+use Rattle.kt_key.specs.Spelling.{spelling}
+use Rattle.kt_key.specs.Reading.{Spells}
+use Rattle.kt_key.proofs.Numbers.{nat_cmp-by}
+use Rattle.kt_schema.specs.Columns.{key_columns, other_columns, key_kinds}
+use Rattle.kt_schema.specs.declared.column.Column.{Column}
+use Rattle.kt_history.specs.declared.operation.OpKind.{OpKind}
+use Rattle.kt_history.specs.declared.operation.OpKind.TheVariants as op
+use Rattle.kt_history.specs.declared.operation.RowOp.{RowOp}
+use Rattle.kt_script.specs.Reasons.{reason_if, cell_no}
+use Rattle.kt_script.specs.Texts.{literals}
+use Rattle.kt_script.specs.Writes.{name_in, named_no, all_named_no, must_be_named, left_out_no, all_named, is_empty, none_left_no, under, cells_no, cells_of, key_len, key_of, long_no, key_no, changes_no, kind_no, op_kind, op_cells, kind_or_delete, op_no, op_of, op_key}
+use Rattle.kt_script.specs.Writes.{key_cells as cells_in_key}
+use Rattle.kt_script.specs.Fit.{is_part, is_given, fits_column, cells_fit, OpFits}
+use Rattle.kt_script.specs.Print.{ColumnFits, cell_word, cell_words, op_word, op_words, key_words, is_named, has_cells, OpSaid}
+use Rattle.kt_script.proofs.Numbers.{same_text}
+use Rattle.kt_script.proofs.KeyReads.{keys_again}
+use Rattle.kt_script.proofs.InLine.{join}
+use Rattle.kt_script.proofs.PrintedWords.{IsWord, name_is, high}
+use Rattle.kt_script.proofs.PrintedCells.{CellOk, cell_ok, CellsOk, kinds_of, min_sound, front_no, front_of, front_drop, front_words, all_no, all_of, key_ok}
+use Rattle.kt_script.proofs.PrintedTables.{IsNamed, Above, Rising, Tabled, same_self}
+use Rattle.kt_script.proofs.PrintedNames.{Known, named_ok, Bytes, Unseen, Before, zip_all, name_before, named_sound, named_cells, cell_words_words}
+
+true_false : ◌≡◌ {A = Bool} true false → ⊥
+true_false e = cc
+
+-- ---- an upsert leaves no column out that must be named
+
+cmp_below : (a b : ℕ) → a < b → nat_cmp a b ≡ Less
+cmp_below a b h = nat_cmp-by a b Less (λ lt. refl) (λ e. absurd (omega arith)) (λ lt. absurd (omega arith))
+
+cmp_above : (a b : ℕ) → b < a → nat_cmp a b ≡ Greater
+cmp_above a b h = nat_cmp-by a b Greater (λ lt. absurd (omega arith)) (λ e. absurd (omega arith)) (λ lt. refl)
+
+abbrev Later : ℕ → ℕ × Cell → Type 0
+Later k x = k < x.0
+
+part_above : (c : Column) (columns : List Column) (cells : List (ℕ × Cell)) → AllByRecursion (Above c) columns → is_part columns cells ≡ true → AllByRecursion (Later c.id) cells
+part_above c [] [] above part = tt
+part_above c [] (x ∷ cells) above part = absurd cc
+part_above c (d ∷ columns) [] above part = tt
+part_above c (d ∷ columns) (x ∷ cells) above part = by (λ p. part_above c columns cells above.1 p) (λ p. part_above c columns (x ∷ cells) above.1 p) (d.id == x.0) refl part
+  where
+    by : (is_part columns cells ≡ true → AllByRecursion (Later c.id) cells) → (is_part columns (x ∷ cells) ≡ true → AllByRecursion (Later c.id) (x ∷ cells))
+        → (t : Bool) → (d.id == x.0) ≡ t → (if t then fits_column d x.1 && is_part columns cells else is_part columns (x ∷ cells)) ≡ true → AllByRecursion (Later c.id) (x ∷ cells)
+    by here later true is p = let id : d.id ≡ x.0 = eqb-true d.id x.0 is in let low = above.0 in (omega arith, here (both_true (fits_column d x.1) (is_part columns cells) p).1)
+    by here later false is p = later p
+
+find_none : (k : ℕ) (cells : List (ℕ × Cell)) → AllByRecursion (Later k) cells → is_some (find nat_cmp k cells) ≡ false
+find_none k [] p = refl
+find_none k (x ∷ cells) p = ap (λ (o : Ordering). is_some (cond (is_eq o) (Some x.1) (find nat_cmp k cells))) (cmp_below k x.0 p.0) ∙ find_none k cells p.1
+
+find_later : (k : ℕ) (x : ℕ × Cell) (cells : List (ℕ × Cell)) → x.0 < k → find nat_cmp k (x ∷ cells) ≡ find nat_cmp k cells
+find_later k x cells h = ap (λ (o : Ordering). cond (is_eq o) (Some x.1) (find nat_cmp k cells)) (cmp_above k x.0 h)
+
+-- a column with a cell is named
+abbrev FoundIn : List (ℕ × Cell) → List (List ℕ) → Column → Type 0
+FoundIn cells names d = is_some (find nat_cmp d.id cells) ≡ true → list_any (λ n. same n d.name) names ≡ true
+
+nothing_found : (names : List (List ℕ)) (columns : List Column) → AllByRecursion (FoundIn [] names) columns
+nothing_found names [] = tt
+nothing_found names (c ∷ columns) = ((λ h. absurd cc), nothing_found names columns)
+
+or_right : (a b : Bool) → b ≡ true → (a || b) ≡ true
+or_right true b h = refl
+or_right false b h = h
+
+named_found : (columns : List Column) (cells : List (ℕ × Cell)) → AllByRecursion ColumnFits columns → Rising columns → is_part columns cells ≡ true → AllByRecursion (FoundIn cells (map name_in (cell_words true columns cells))) columns
+named_found [] cells fit rising part = tt
+named_found (c ∷ columns) [] fit rising part = nothing_found (map name_in (cell_words true (c ∷ columns) [])) (c ∷ columns)
+named_found (c ∷ columns) (x ∷ cells) fit rising part = by (λ p. named_found columns cells fit.1 rising.1 p) (λ p. named_found columns (x ∷ cells) fit.1 rising.1 p) (c.id == x.0) refl part
+  where
+    by : (is_part columns cells ≡ true → AllByRecursion (FoundIn cells (map name_in (cell_words true columns cells))) columns)
+        → (is_part columns (x ∷ cells) ≡ true → AllByRecursion (FoundIn (x ∷ cells) (map name_in (cell_words true columns (x ∷ cells)))) columns)
+        → (t : Bool) → (c.id == x.0) ≡ t → (if t then fits_column c x.1 && is_part columns cells else is_part columns (x ∷ cells)) ≡ true
+        → AllByRecursion (FoundIn (x ∷ cells) (map name_in (if t then cell_word true c x.1 ∷ cell_words true columns cells else cell_words true columns (x ∷ cells)))) (c ∷ columns)
+    by here later true is p =
+        let id : c.id ≡ x.0 = eqb-true c.id x.0 is in
+        let names : List (List ℕ) = map name_in (cell_words true columns cells) in
+        let w : List ℕ = cell_word true c x.1 in
+        let name : name_in w ≡ c.name = name_before c.name 61 (literal c.kind x.1) (name_is c.name fit.0.name) refl in
+        let rest = here (both_true (fits_column c x.1) (is_part columns cells) p).1 in (
+          (λ h. ap (λ n. same n c.name || list_any (λ m. same m c.name) names) name ∙ ap (λ t. t || list_any (λ m. same m c.name) names) (same_self c.name)),
+          zip_all (Above c) (FoundIn cells names) (FoundIn (x ∷ cells) (name_in w ∷ names)) columns (λ d above old h. or_right (same (name_in w) d.name) (list_any (λ m. same m d.name) names) (old (sym (ap is_some (find_later d.id x cells (omega (arith, above, id)))) ∙ h))) rising.0 rest,
+        )
+    by here later false is p = ((λ h. absurd (true_false (sym h ∙ find_none c.id (x ∷ cells) (part_above c columns (x ∷ cells) rising.0 p)))), later p)
+
+may_stay : (n s f l : Bool) → ((n || s) || f) ≡ true → (f ≡ true → l ≡ true) → ((not n && not s) && not l) ≡ false
+may_stay true s f l h g = refl
+may_stay false true f l h g = refl
+may_stay false false true l h g = ap not (g refl)
+may_stay false false false l h g = absurd cc
+
+none_left_out : (cells : List (ℕ × Cell)) (names : List (List ℕ)) (columns : List Column) → AllByRecursion (FoundIn cells names) columns → list_all (is_given cells) columns ≡ true → list_any (must_be_named names) columns ≡ false
+none_left_out cells names [] found given = refl
+none_left_out cells names (c ∷ columns) found given =
+    let both = both_true (is_given cells c) (list_all (is_given cells) columns) given in
+    ap (λ t. t || list_any (must_be_named names) columns) (may_stay c.nullable (is_some c.default) (is_some (find nat_cmp c.id cells)) (list_any (λ n. same n c.name) names) both.0 found.0) ∙ none_left_out cells names columns found.1 both.1
+
+-- ---- an update names a column
+
+pub some_named : (columns : List Column) (cells : List (ℕ × Cell)) → not (length cells == 0) ≡ true → is_part columns cells ≡ true → is_empty (cell_words true columns cells) ≡ false
+some_named columns [] some part = absurd cc
+some_named [] (x ∷ cells) some part = absurd cc
+some_named (c ∷ columns) (x ∷ cells) some part = by (λ p. some_named columns (x ∷ cells) some p) (c.id == x.0) part
+  where
+    by : (is_part columns (x ∷ cells) ≡ true → is_empty (cell_words true columns (x ∷ cells)) ≡ false) → (t : Bool) → (if t then fits_column c x.1 && is_part columns cells else is_part columns (x ∷ cells)) ≡ true
+        → is_empty (if t then cell_word true c x.1 ∷ cell_words true columns cells else cell_words true columns (x ∷ cells)) ≡ false
+    by later true p = refl
+    by later false p = later p
+
+-- ---- an insert has a cell for each column
+
+abbrev pub values : List (ℕ × Cell) → List Cell
+values cells = map (λ (x : ℕ × Cell). x.1) cells
+
+record FullPart (columns : List Column) (cells : List (ℕ × Cell)) : Type 0 where
+  ok : CellsOk columns (values cells)
+  words : cell_words false columns cells ≡ literals (kinds_of columns) (values cells)
+  below : under columns (values cells) ≡ cells
+
+part_short : (columns : List Column) (cells : List (ℕ × Cell)) → is_part columns cells ≡ true → length cells ≤ length columns
+part_short columns [] part = omega arith
+part_short [] (x ∷ cells) part = absurd cc
+part_short (c ∷ columns) (x ∷ cells) part = by (λ p. part_short columns cells p) (λ p. part_short columns (x ∷ cells) p) (c.id == x.0) part
+  where
+    by : (is_part columns cells ≡ true → length cells ≤ length columns) → (is_part columns (x ∷ cells) ≡ true → length (x ∷ cells) ≤ length columns)
+        → (t : Bool) → (if t then fits_column c x.1 && is_part columns cells else is_part columns (x ∷ cells)) ≡ true → length (x ∷ cells) ≤ length (c ∷ columns)
+    by here later true p = let size = here (both_true (fits_column c x.1) (is_part columns cells) p).1 in omega arith
+    by here later false p = let size = later p in omega arith
+
+full_part : (columns : List Column) (cells : List (ℕ × Cell)) → is_part columns cells ≡ true → length cells ≡ length columns → AllByRecursion Bytes cells → FullPart columns cells
+full_part [] [] part size bytes = record { ok = tt; words = refl; below = refl }
+full_part [] (x ∷ cells) part size bytes = absurd cc
+full_part (c ∷ columns) [] part size bytes = absurd (omega arith)
+full_part (c ∷ columns) (x ∷ cells) part size bytes = by (λ p. full_part columns cells p (omega arith) bytes.1) (c.id == x.0) refl part
+  where
+    by : (is_part columns cells ≡ true → FullPart columns cells) → (t : Bool) → (c.id == x.0) ≡ t → (if t then fits_column c x.1 && is_part columns cells else is_part columns (x ∷ cells)) ≡ true → FullPart (c ∷ columns) (x ∷ cells)
+    by here true is p =
+        let both = both_true (fits_column c x.1) (is_part columns cells) p in
+        let rest = here both.1 in
+        let w : List ℕ = literal c.kind x.1 in
+        record {
+          ok = (cell_ok c x.1 both.0 bytes.0, rest.ok);
+          words = ap (λ t. if t then w ∷ cell_words false columns cells else cell_words false columns (x ∷ cells)) is ∙ ap (λ ws. w ∷ ws) rest.words;
+          below = ap (λ k. (k, x.1) ∷ under columns (values cells)) (eqb-true c.id x.0 is) ∙ ap (λ ys. x ∷ ys) rest.below;
+        }
+    by here false is p = let short = part_short columns (x ∷ cells) p in absurd (omega (arith, short, size))
+
+-- ---- keys
+
+record KeyRead (columns : List Column) (key : List ℕ) (ws more : List (List ℕ)) : Type 0 where
+  no : key_no columns ws ≡ 21
+  long : long_no columns ws ≡ 21
+  spells : key_of columns ws ≡ key
+  rest : drop (key_len columns) ws ≡ more
+
+and_false : (b : Bool) → (b && false) ≡ false
+and_false true = refl
+and_false false = refl
+
+not_over : (n : ℕ) → n ≤ 16384 → nat_lt 16384 n ≡ false
+not_over n h = grind (arith, nat_tests)
+
+key_read : (columns : List Column) (key : List ℕ) (cells : List Cell) (more : List (List ℕ)) → Spells (key_kinds columns) cells key → length key ≤ 16384 → CellsOk (key_columns columns) cells
+    → KeyRead columns key (literals (key_kinds columns) cells ++ more) more
+key_read columns key cells more spells short ok =
+    let ws : List (List ℕ) = literals (key_kinds columns) cells ++ more in
+    let cells_are : cells_of (key_columns columns) ws ≡ cells = all_of (key_columns columns) cells more ok in
+    let key_is : key_of columns ws ≡ key = ap (λ xs. spelling (key_kinds columns) xs) cells_are ∙ spells.spelled in
+    let under_limit : nat_lt 16384 (length (key_of columns ws)) ≡ false = ap (λ k. nat_lt 16384 (length k)) key_is ∙ not_over (length key) short in
+    let long_is : long_no columns ws ≡ 21 =
+    ap (λ t. reason_if (is_key (key_kinds columns) (cells_in_key columns ws) && t) 17) under_limit ∙ ap (λ t. reason_if t 17) (and_false (is_key (key_kinds columns) (cells_in_key columns ws))) in
+    record {
+      no = min_sound (cells_no (key_columns columns) ws) (long_no columns ws) (all_no (key_columns columns) cells more ok) long_is;
+      long = long_is;
+      spells = key_is;
+      rest = front_drop (key_columns columns) cells more ok;
+    }
+
+-- ---- no word parts two operations
+
+abbrev pub Unbroken : List ℕ → Type 0
+Unbroken w = same w (codes ";") ≡ false
+
+-- a word that is not refused is no semicolon, where a semicolon is
+not_semicolon : (f : List ℕ → ℕ) (w : List ℕ) → f w ≡ 21 → f (codes ";") ≡ 12 → Unbroken w
+not_semicolon f w sound refused = by (same w (codes ";")) refl
+  where
+    differ : ◌≡◌ {A = ℕ} 12 21 → ⊥
+    differ e = omega arith
+
+    by : (t : Bool) → same w (codes ";") ≡ t → t ≡ false
+    by true e = absurd (differ (sym refused ∙ (sym (ap f (same_text w (codes ";") e)) ∙ sound)))
+    by false e = refl
+
+cell_unbroken : (c : Column) (x : Cell) → CellOk c x → Unbroken (literal c.kind x)
+cell_unbroken c x ok = not_semicolon (cell_no c) (literal c.kind x) ok.sound refl
+
+front_unbroken : (cs : List Column) (xs : List Cell) → CellsOk cs xs → AllByRecursion Unbroken (literals (kinds_of cs) xs)
+front_unbroken [] [] ok = tt
+front_unbroken [] (x ∷ xs) ok = absurd ok
+front_unbroken (c ∷ cs) [] ok = absurd ok
+front_unbroken (c ∷ cs) (x ∷ xs) ok = (cell_unbroken c x ok.0, front_unbroken cs xs ok.1)
+
+word_unbroken : (named : Bool) (others : List Column) (c : Column) (x : Cell) → Known others c → CellOk c x → Unbroken (cell_word named c x)
+word_unbroken true others c x known ok = not_semicolon (named_no others) (cell_word true c x) (named_ok others c x known ok).sound refl
+word_unbroken false others c x known ok = cell_unbroken c x ok
+
+cell_words_unbroken : (named : Bool) (others columns : List Column) (cells : List (ℕ × Cell)) → AllByRecursion (Known others) columns → is_part columns cells ≡ true → AllByRecursion Bytes cells → AllByRecursion Unbroken (cell_words named columns cells)
+cell_words_unbroken named others [] cells known part bytes = tt
+cell_words_unbroken named others (c ∷ columns) [] known part bytes = tt
+cell_words_unbroken named others (c ∷ columns) (x ∷ cells) known part bytes =
+    by (λ p. cell_words_unbroken named others columns cells known.1 p bytes.1) (λ p. cell_words_unbroken named others columns (x ∷ cells) known.1 p bytes) (c.id == x.0) part
+  where
+    by : (is_part columns cells ≡ true → AllByRecursion Unbroken (cell_words named columns cells)) → (is_part columns (x ∷ cells) ≡ true → AllByRecursion Unbroken (cell_words named columns (x ∷ cells)))
+        → (t : Bool) → (if t then fits_column c x.1 && is_part columns cells else is_part columns (x ∷ cells)) ≡ true
+        → AllByRecursion Unbroken (if t then cell_word named c x.1 ∷ cell_words named columns cells else cell_words named columns (x ∷ cells))
+    by here later true p = let both = both_true (fits_column c x.1) (is_part columns cells) p in (word_unbroken named others c x.1 known.0 (cell_ok c x.1 both.0 bytes.0), here both.1)
+    by here later false p = later p
+
+-- ---- operations
+
+-- the words of an operation, which are read as it
+pub record OpRead (columns : List Column) (o : RowOp) : Type 0 where
+  pub words : AllByRecursion IsWord (op_words columns o)
+  pub unbroken : AllByRecursion Unbroken (op_words columns o)
+  pub no : op_no columns (op_words columns o) ≡ 21
+  pub is : op_of columns (op_words columns o) ≡ o
+  pub key : op_key columns (op_words columns o) ≡ o.key
+
+all_unseen : (columns : List Column) → AllByRecursion (Unseen []) columns
+all_unseen [] = tt
+all_unseen (c ∷ columns) = (refl, all_unseen columns)
+
+all_before : (columns : List Column) → AllByRecursion (Before []) columns
+all_before [] = tt
+all_before (c ∷ columns) = (tt, all_before columns)
+
+no_words : (named : Bool) (columns : List Column) → cell_words named columns [] ≡ []
+no_words named [] = refl
+no_words named (c ∷ columns) = refl
+
+not_zero : (n : ℕ) → (suc n == 0) ≡ true → ⊥
+not_zero n h = grind (arith, nat_tests)
+
+no_cells : (cells : List (ℕ × Cell)) → (length cells == 0) ≡ true → cells ≡ []
+no_cells [] h = refl
+no_cells (x ∷ cells) h = absurd (not_zero (length cells) h)
+
+no_part : (columns : List Column) → is_part columns [] ≡ true
+no_part [] = refl
+no_part (c ∷ columns) = refl
+
+as_many : (cs : List Column) (xs : List Cell) → CellsOk cs xs → length xs ≡ length cs
+as_many [] [] ok = refl
+as_many [] (x ∷ xs) ok = absurd ok
+as_many (c ∷ cs) [] ok = absurd ok
+as_many (c ∷ cs) (x ∷ xs) ok = ap suc (as_many cs xs ok.1)
+
+front_drop_both : (cs : List Column) (xs : List Cell) (ds : List Column) (more : List (List ℕ)) → CellsOk cs xs → drop (length (cs ++ ds)) (literals (kinds_of cs) xs ++ more) ≡ drop (length ds) more
+front_drop_both [] [] ds more ok = refl
+front_drop_both [] (x ∷ xs) ds more ok = absurd ok
+front_drop_both (c ∷ cs) [] ds more ok = absurd ok
+front_drop_both (c ∷ cs) (x ∷ xs) ds more ok = front_drop_both cs xs ds more ok.1
+
+op_word_word : (k : OpKind) → IsWord (op_word k)
+op_word_word op.Insert = high (codes "insert") refl
+op_word_word op.Upsert = high (codes "upsert") refl
+op_word_word op.Update = high (codes "update") refl
+op_word_word op.Delete = high (codes "delete") refl
+
+op_word_unbroken : (k : OpKind) → Unbroken (op_word k)
+op_word_unbroken op.Insert = refl
+op_word_unbroken op.Upsert = refl
+op_word_unbroken op.Update = refl
+op_word_unbroken op.Delete = refl
+
+-- the cells of an operation are some of the columns' cells
+part_of : (columns : List Column) (k : OpKind) (cells : List (ℕ × Cell)) → cells_fit columns k cells ≡ true → is_part columns cells ≡ true
+part_of columns op.Insert cells h = (both_true (is_part columns cells) (length cells == length columns) h).0
+part_of columns op.Upsert cells h = (both_true (is_part columns cells) (list_all (is_given cells) columns) h).0
+part_of columns op.Update cells h = h
+part_of columns op.Delete cells h = ap (is_part columns) (no_cells cells h) ∙ no_part columns
+
+-- what is known of an operation's words
+record Parts (columns : List Column) (k : OpKind) (key : List ℕ) (cells : List (ℕ × Cell)) : Type 0 where
+  key_row : List Cell
+  key_ok : CellsOk (key_columns columns) key_row
+  front : KeyRead columns key (literals (key_kinds columns) key_row ++ cell_words (is_named k) (other_columns columns) cells) (cell_words (is_named k) (other_columns columns) cells)
+  known : AllByRecursion (Known (other_columns columns)) (other_columns columns)
+  part : is_part (other_columns columns) cells ≡ true
+  bytes : AllByRecursion Bytes cells
+
+-- the words behind the first
+abbrev Behind : (columns : List Column) (k : OpKind) (key : List ℕ) (cells : List (ℕ × Cell)) → Parts columns k key cells → List (List ℕ)
+Behind columns k key cells p = literals (key_kinds columns) p.key_row ++ cell_words (is_named k) (other_columns columns) cells
+
+record BehindRead (columns : List Column) (k : OpKind) (key : List ℕ) (cells : List (ℕ × Cell)) (ws : List (List ℕ)) : Type 0 where
+  no : kind_no columns (Some k) ws ≡ 21
+  cells_are : op_cells columns (Some k) ws ≡ cells
+
+changes_read : (columns : List Column) (k : OpKind) (key : List ℕ) (cells : List (ℕ × Cell)) → is_named k ≡ true → Tabled columns → (p : Parts columns k key cells)
+    → (changes_no columns (Behind columns k key cells p) ≡ 21) × (all_named (other_columns columns) [] (drop (key_len columns) (Behind columns k key cells p)) ≡ cells)
+    × (drop (key_len columns) (Behind columns k key cells p) ≡ cell_words true (other_columns columns) cells)
+changes_read columns k key cells named t p =
+    let others : List Column = other_columns columns in
+    let ws : List (List ℕ) = Behind columns k key cells p in
+    let rest : drop (key_len columns) ws ≡ cell_words true others cells = p.front.rest ∙ ap (λ b. cell_words b others cells) named in (
+      min_sound (key_no columns ws) (all_named_no others [] (drop (key_len columns) ws)) p.front.no
+          (ap (λ xs. all_named_no others [] xs) rest ∙ named_sound others others cells [] p.known t.others_apart p.part p.bytes (all_unseen others)),
+      ap (λ xs. all_named others [] xs) rest ∙ named_cells others others cells [] p.known t.others_rising p.part p.bytes (all_before others),
+      rest,
+    )
+
+insert_read : (columns : List Column) (key : List ℕ) (cells : List (ℕ × Cell)) → Tabled columns → (p : Parts columns op.Insert key cells) → length cells ≡ length (other_columns columns)
+    → BehindRead columns op.Insert key cells (Behind columns op.Insert key cells p)
+insert_read columns key cells t p size =
+    let others : List Column = other_columns columns in
+    let keys : List Column = key_columns columns in
+    let full = full_part others cells p.part size p.bytes in
+    let ws : List (List ℕ) = Behind columns op.Insert key cells p in
+    let xs : List (List ℕ) = literals (kinds_of others) (values cells) ++ [] in
+    let whole : List (List ℕ) = literals (key_kinds columns) p.key_row ++ xs in
+    let same_words : ws ≡ whole = ap (λ vs. literals (key_kinds columns) p.key_row ++ vs) (full.words ∙ sym (append-nil (literals (kinds_of others) (values cells)))) in
+    let sound_cells : cells_no columns ws ≡ 21 =
+    ap (cells_no columns) same_words ∙ (ap (λ cs. cells_no cs whole) t.split ∙ front_no keys p.key_row others xs p.key_ok (all_no others (values cells) [] full.ok)) in
+    let cells_are : cells_of columns ws ≡ p.key_row ++ values cells =
+    ap (cells_of columns) same_words ∙ (ap (λ cs. cells_of cs whole) t.split ∙ (front_of keys p.key_row others xs p.key_ok ∙ ap (λ vs. p.key_row ++ vs) (all_of others (values cells) [] full.ok))) in
+    let none_left : drop (length columns) ws ≡ [] =
+    ap (drop (length columns)) same_words ∙ (ap (λ cs. drop (length cs) whole) t.split ∙ (front_drop_both keys p.key_row others xs p.key_ok ∙ front_drop others (values cells) [] full.ok)) in
+    record {
+      no = min_sound (cells_no columns ws) (min (none_left_no (drop (length columns) ws)) (long_no columns ws)) sound_cells
+          (min_sound (none_left_no (drop (length columns) ws)) (long_no columns ws) (ap none_left_no none_left) p.front.long);
+      cells_are = ap (λ vs. under others (drop (key_len columns) vs)) cells_are ∙ (ap (λ n. under others (drop n (p.key_row ++ values cells))) (sym (as_many keys p.key_row p.key_ok))
+          ∙ (ap (under others) (drop-append_seam p.key_row (values cells)) ∙ full.below));
+    }
+
+behind_read : (columns : List Column) (k : OpKind) (key : List ℕ) (cells : List (ℕ × Cell)) → Tabled columns → (p : Parts columns k key cells) → cells_fit (other_columns columns) k cells ≡ true → has_cells k cells ≡ true
+    → BehindRead columns k key cells (Behind columns k key cells p)
+behind_read columns op.Insert key cells t p fit some = insert_read columns key cells t p (size_of (length cells) (length (other_columns columns)) (both_true (is_part (other_columns columns) cells) (length cells == length (other_columns columns)) fit).1)
+  where
+    size_of : (m n : ℕ) → (m == n) ≡ true → m ≡ n
+    size_of m n h = eqb-true m n h
+behind_read columns op.Upsert key cells t p fit some =
+    let others : List Column = other_columns columns in
+    let ws : List (List ℕ) = Behind columns op.Upsert key cells p in
+    let changes = changes_read columns op.Upsert key cells refl t p in
+    let given = (both_true (is_part others cells) (list_all (is_given cells) others) fit).1 in
+    record {
+      no = min_sound (changes_no columns ws) (left_out_no others (drop (key_len columns) ws)) changes.0
+          (ap (left_out_no others) changes.2 ∙ ap (λ b. reason_if b 15) (none_left_out cells (map name_in (cell_words true others cells)) others (named_found others cells t.others_fit t.others_rising p.part) given));
+      cells_are = changes.1;
+    }
+behind_read columns op.Update key cells t p fit some =
+    let others : List Column = other_columns columns in
+    let ws : List (List ℕ) = Behind columns op.Update key cells p in
+    let changes = changes_read columns op.Update key cells refl t p in
+    record {
+      no = min_sound (changes_no columns ws) (reason_if (is_empty (drop (key_len columns) ws)) 12) changes.0 (ap (λ xs. reason_if (is_empty xs) 12) changes.2 ∙ ap (λ b. reason_if b 12) (some_named others cells some p.part));
+      cells_are = changes.1;
+    }
+behind_read columns op.Delete key cells t p fit some =
+    let ws : List (List ℕ) = Behind columns op.Delete key cells p in
+    let none : cells ≡ [] = no_cells cells fit in
+    let rest : drop (key_len columns) ws ≡ [] = p.front.rest ∙ (ap (cell_words true (other_columns columns)) none ∙ no_words true (other_columns columns)) in
+    record { no = min_sound (key_no columns ws) (none_left_no (drop (key_len columns) ws)) p.front.no (ap none_left_no rest); cells_are = sym none }
+
+word_kind : (k : OpKind) → op_kind (op_word k) ≡ Some k
+word_kind op.Insert = refl
+word_kind op.Upsert = refl
+word_kind op.Update = refl
+word_kind op.Delete = refl
+
+pub op_read : (columns : List Column) (o : RowOp) → Tabled columns → OpFits columns o → OpSaid columns o → OpRead columns o
+op_read columns o t fit said =
+    let others : List Column = other_columns columns in
+    let kinds = key_kinds columns in
+    let short = fit.short in
+    let cells_again : key_cells kinds o.key ≡ fit.key_cells = keys_again kinds fit.key_cells o.key fit.key in
+    let size : length (spelling kinds fit.key_cells) ≡ length o.key = ap length fit.key.spelled in
+    let key_bytes : AllByRecursion CellBytes fit.key_cells = subst (AllByRecursion CellBytes) cells_again said.key_bytes in
+    let ok : CellsOk (key_columns columns) fit.key_cells = key_ok (key_columns columns) fit.key_cells fit.key.key (omega (arith, size, short)) key_bytes in
+    let known : AllByRecursion (Known others) others = zip_all (IsNamed others) ColumnFits (Known others) others (λ c n f. record { named = n; fit = f }) t.others_named t.others_fit in
+    let part = part_of others o.kind o.cells fit.cells in
+    let tail : List (List ℕ) = cell_words (is_named o.kind) others o.cells in
+    let p : Parts columns o.kind o.key o.cells = record {
+      key_row = fit.key_cells;
+      key_ok = ok;
+      front = key_read columns o.key fit.key_cells tail fit.key short ok;
+      known = known;
+      part = part;
+      bytes = said.bytes;
+    } in
+    let ws : List (List ℕ) = literals kinds fit.key_cells ++ tail in
+    let same_words : key_words columns o.key ++ tail ≡ ws = ap (λ xs. literals kinds xs ++ tail) cells_again in
+    let behind = behind_read columns o.kind o.key o.cells t p fit.cells said.some in
+    let P : List (List ℕ) → Type 0 = λ xs. AllByRecursion IsWord xs in
+    let Q : List (List ℕ) → Type 0 = λ xs. AllByRecursion Unbroken xs in
+    record {
+      words = (op_word_word o.kind, subst P (sym same_words) (join IsWord (literals kinds fit.key_cells) tail (front_words (key_columns columns) fit.key_cells ok) (cell_words_words (is_named o.kind) others o.cells t.others_fit part said.bytes)));
+      unbroken = (op_word_unbroken o.kind, subst Q (sym same_words) (join Unbroken (literals kinds fit.key_cells) tail (front_unbroken (key_columns columns) fit.key_cells ok) (cell_words_unbroken (is_named o.kind) others others o.cells known part said.bytes)));
+      no = ap (λ xs. kind_no columns (op_kind (op_word o.kind)) xs) same_words ∙ (ap (λ k. kind_no columns k ws) (word_kind o.kind) ∙ behind.no);
+      is = ap (λ xs. op_of columns (op_word o.kind ∷ xs)) same_words ∙ (ap (λ k. record { kind = kind_or_delete k; key = key_of columns ws; cells = op_cells columns k ws }) (word_kind o.kind)
+          ∙ (ap (λ key. record { kind = o.kind; key = key; cells = op_cells columns (Some o.kind) ws }) p.front.spells ∙ ap (λ cells. record { kind = o.kind; key = o.key; cells = cells }) behind.cells_are));
+      key = ap (key_of columns) same_words ∙ p.front.spells;
+    }

@@ -1,0 +1,355 @@
+-- Output texts with each row as its line: what has a text, and the first line that cannot stand where it does.
+use Rattle.std.specs.Prelude.{◌≡◌, ◌≢◌, ◌<◌, ◌^◌, ℕ, ◌+◌, zero, suc, Bool, true, false, ◌||◌, List, [], ◌∷◌, ◌++◌, length, map, All, Option, Some, None, Result, Ok, Err, is_some, nat_lt, if◌then◌else◌, codes}
+use Rattle.std.proofs.Common.{Bor}
+use Rattle.std.specs.Fmt.{decimal}
+use Rattle.std.specs.List.{flat_map, list_all, AllByRecursion}
+use Rattle.std.specs.Option.{option_map, option_and_then}
+use Rattle.std.specs.Str.Parse.{digits_value}
+use Rattle.kt_base.specs.declared.cell.Kind.{Kind}
+use Rattle.kt_base.specs.declared.cell.Cell.{Cell}
+use Rattle.kt_base.specs.declared.cell.Cell.TheVariants as cell
+use Rattle.kt_base.specs.declared.literal.LiteralNo.{LiteralNo}
+use Rattle.kt_base.specs.declared.literal.LiteralNo.TheVariants as literal_no
+use Rattle.kt_base.specs.Literals.{same, value_in, fits, CellBytes}
+use Rattle.kt_history.specs.declared.change.Outcome.{Outcome}
+use Rattle.kt_history.specs.declared.change.Outcome.TheVariants.{Done, Present, Absent}
+use Rattle.kt_history.specs.declared.event.Event.{Event}
+use Rattle.kt_history.specs.declared.event.Event.TheVariants as event
+use Rattle.kt_history.specs.declared.reply.Reply.{Reply}
+use Rattle.kt_history.specs.declared.reply.Reply.TheVariants as told
+use Rattle.kt_script.specs.declared.lists.ShownReply.{ShownReply}
+use Rattle.kt_script.specs.declared.output.LastLine.{LastLine}
+use Rattle.kt_script.specs.declared.output.LastLine.TheVariants as last
+use Rattle.kt_script.specs.declared.replies.ReplyLine.{ReplyLine}
+use Rattle.kt_script.specs.declared.replies.ReplyLine.TheVariants as reply
+use Rattle.kt_script.specs.declared.reread.Output.{Output}
+use Rattle.kt_script.specs.declared.reread.CodecNo.{CodecNo}
+use Rattle.kt_script.specs.declared.reread.CodecNo.TheVariants as no
+use Rattle.kt_script.specs.declared.out_lines.FirstLine.{FirstLine}
+use Rattle.kt_script.specs.Texts.{line, words, outcome_word, reply_numbers, event_numbers, event_line, last_text, output_text}
+use Rattle.kt_script.specs.Pieces.{cut, words_of}
+use Rattle.kt_script.specs.Laws.{Fits64, LastFits, OutputFits, seen}
+
+-- ---- the text of an output
+
+-- the word of a reply
+abbrev pub line_word : ReplyLine → List ℕ
+line_word (reply.At ts outcomes) = codes "at"
+line_word (reply.Rows t lines) = codes "rows"
+line_word (reply.Ancient t a) = codes "ancient"
+line_word (reply.Busy t f) = codes "busy"
+line_word (reply.Ahm a) = codes "ahm"
+line_word reply.Done = codes "done"
+line_word (reply.Large n) = codes "large"
+line_word reply.Stopped = codes "stopped"
+
+-- the numbers after it
+abbrev pub line_numbers : ReplyLine → List ℕ
+line_numbers (reply.At ts outcomes) = ts ∷ []
+line_numbers (reply.Rows t lines) = t ∷ length lines ∷ []
+line_numbers (reply.Ancient t a) = t ∷ a ∷ []
+line_numbers (reply.Busy t f) = t ∷ f ∷ []
+line_numbers (reply.Ahm a) = a ∷ []
+line_numbers reply.Done = []
+line_numbers (reply.Large n) = n ∷ []
+line_numbers reply.Stopped = []
+
+-- the outcomes after these
+abbrev pub line_outcomes : ReplyLine → List (List ℕ)
+line_outcomes (reply.At ts outcomes) = map outcome_word outcomes
+line_outcomes _ = []
+
+-- the words of a reply's first line
+abbrev pub line_words : ReplyLine → List (List ℕ)
+line_words r = line_word r ∷ (map decimal (line_numbers r) ++ line_outcomes r)
+
+-- the lines of its rows
+abbrev pub rows_in : ReplyLine → List (List ℕ)
+rows_in (reply.Rows t lines) = lines
+rows_in _ = []
+
+-- every line of a reply
+abbrev pub lines_in : ReplyLine → List (List ℕ)
+lines_in r = words (line_words r) ∷ rows_in r
+
+abbrev pub lines_text : ReplyLine → List ℕ
+lines_text r = flat_map line (lines_in r)
+
+-- the first line of a session
+abbrev pub session_line : ℕ → List ℕ
+session_line number = words (codes "session" ∷ decimal number ∷ [])
+
+abbrev pub told_session : ℕ → List ReplyLine → List ℕ
+told_session number replies = line (session_line number) ++ flat_map lines_text replies
+
+-- the sessions, numbered from this one on
+abbrev pub told_sessions : ℕ → List (List ReplyLine) → List ℕ
+told_sessions number [] = []
+told_sessions number (replies ∷ sessions) = told_session number replies ++ told_sessions (suc number) sessions
+
+-- the whole text
+abbrev pub told_text : List (List ReplyLine) → List Event → LastLine → List ℕ
+told_text replies events end = told_sessions 1 replies ++ line (codes "history") ++ flat_map event_line events ++ last_text end
+
+abbrev pub text_of : Output → List ℕ
+text_of out = told_text out.replies out.events out.last
+
+-- ---- words and lines
+
+-- the words of what is left of a line
+abbrev pub pieces_in : Option (Bor (List ℕ)) → List (List ℕ)
+pieces_in None = []
+pieces_in (Some rest) = cut 32 rest.now
+
+-- a decimal number without leading zeros, of 64 bits
+abbrev pub number_in : List ℕ → Option ℕ
+number_in word = if same (decimal (digits_value 10 word)) word then (if nat_lt (digits_value 10 word) (2 ^ 64) then Some (digits_value 10 word) else None) else None
+
+abbrev pub onto : {A : Type 0} → A → Option (List A) → Option (List A)
+onto a others = option_map (λ more. a ∷ more) others
+
+-- what each of some words says
+abbrev pub each_in : {A : Type 0} → (List ℕ → Option A) → List (List ℕ) → Option (List A)
+each_in read [] = Some []
+each_in read (word ∷ more) = option_and_then (λ a. onto a (each_in read more)) (read word)
+
+abbrev pub numbers_in : List (List ℕ) → Option (List ℕ)
+numbers_in words = each_in number_in words
+
+-- a value where the word is this one, and else what is said later
+abbrev pub if_word : {A : Type 0} → List ℕ → List ℕ → A → Option A → Option A
+if_word word name a later = if same word name then Some a else later
+
+abbrev pub outcome_in : List ℕ → Option Outcome
+outcome_in word = if_word word (codes "ok") Done (if_word word (codes "present") Present (if_word word (codes "absent") Absent None))
+
+abbrev pub outcomes_in : List (List ℕ) → Option (List Outcome)
+outcomes_in words = each_in outcome_in words
+
+-- a number of 32 bits
+abbrev pub is_short : ℕ → Bool
+is_short n = nat_lt n (2 ^ 32)
+
+-- the first line of a reply, before its rows: the reply without them, and how many there are
+abbrev pub first : ReplyLine → FirstLine
+first r = record { reply = r; due = 0 }
+
+-- a reply by its word and the numbers after it
+abbrev pub first_from : List ℕ → List ℕ → Option FirstLine
+first_from word [] = if_word word (codes "done") (first reply.Done) (if_word word (codes "stopped") (first reply.Stopped) None)
+first_from word (a ∷ []) = if_word word (codes "ahm") (first (reply.Ahm a)) (if is_short a then if_word word (codes "large") (first (reply.Large a)) None else None)
+first_from word (a ∷ b ∷ []) = if_word word (codes "rows") (record { reply = reply.Rows a []; due = b }) (if_word word (codes "ancient") (first (reply.Ancient a b)) (if_word word (codes "busy") (first (reply.Busy a b)) None))
+first_from word _ = None
+
+-- a write's reply, by what stands behind its word
+abbrev pub at_in : List (List ℕ) → Option FirstLine
+at_in [] = None
+at_in (ts ∷ more) = option_and_then (λ n. option_map (λ outcomes. first (reply.At n outcomes)) (outcomes_in more)) (number_in ts)
+
+abbrev pub first_of_words : List (List ℕ) → Option FirstLine
+first_of_words [] = None
+first_of_words (word ∷ more) = if same word (codes "at") then at_in more else option_and_then (first_from word) (numbers_in more)
+
+abbrev pub first_in : List ℕ → Option FirstLine
+first_in text = first_of_words (cut 32 text)
+
+-- a command's event, by the numbers behind those of its session and its place there
+abbrev pub event_at : List ℕ → ℕ → ℕ → List ℕ → Option Event
+event_at word s i [] = if_word word (codes "chore") (event.Chore s i) None
+event_at word s i (a ∷ []) = if_word word (codes "end") (event.End s i a) (if_word word (codes "rows") (event.Rows s i a) (if_word word (codes "mark") (event.Mark s i a) (if is_short a then if_word word (codes "large") (event.Large s i a) None else None)))
+event_at word s i (a ∷ b ∷ []) = if_word word (codes "begin") (event.Begin s i a b) (if_word word (codes "look") (event.Look s i a b) (if_word word (codes "ancient") (event.Ancient s i a b) (if_word word (codes "busy") (event.Busy s i a b) None)))
+event_at word s i _ = None
+
+abbrev pub event_from : List ℕ → List ℕ → Option Event
+event_from word [] = if_word word (codes "stop") event.Stop None
+event_from word (s ∷ []) = None
+event_from word (s ∷ i ∷ more) = if is_short s then (if is_short i then event_at word s i more else None) else None
+
+abbrev pub event_of_words : List (List ℕ) → Option Event
+event_of_words [] = None
+event_of_words (word ∷ more) = option_and_then (event_from word) (numbers_in more)
+
+abbrev pub event_in : List ℕ → Option Event
+event_in text = event_of_words (cut 32 text)
+
+-- a number behind this word, and what follows it
+abbrev pub counted : List ℕ → List (List ℕ) → Option (ℕ × List (List ℕ))
+counted name [] = None
+counted name (word ∷ []) = None
+counted name (word ∷ digits ∷ more) = if same word name then option_map (λ n. (n, more)) (number_in digits) else None
+
+abbrev pub unless_more : {A : Type 0} → A → List (List ℕ) → Option A
+unless_more a [] = Some a
+unless_more a (word ∷ more) = None
+
+abbrev pub last_numbers : List (List ℕ) → Option LastLine
+last_numbers words = option_and_then (λ a. option_and_then (λ c. option_and_then (λ n. unless_more (last.Numbers a.0 c.0 n.0) n.1) (counted (codes "rowsets") c.1)) (counted (codes "last") a.1)) (counted (codes "ahm") words)
+
+abbrev pub last_of_words : List (List ℕ) → Option LastLine
+last_of_words [] = None
+last_of_words (word ∷ more) = if same word (codes "tablet") then last_numbers more else None
+
+abbrev pub last_in : List ℕ → Option LastLine
+last_in text = if same text (codes "tablet stopped") then Some last.Stopped else last_of_words (cut 32 text)
+
+-- whether what was read is a literal, of any kind
+abbrev pub IsFormed : Result Cell LiteralNo → Bool → Type 0
+IsFormed (Ok c) is = is ≡ true
+IsFormed (Err literal_no.Form) is = is ≡ false
+IsFormed (Err literal_no.Memory) is = ⊥
+IsFormed (Err other) is = is ≡ true
+
+-- one or more literals
+abbrev pub is_row : List ℕ → Bool
+is_row text = list_all (λ word. is_some (value_in word)) (words_of text)
+
+-- ---- which line may stand where
+
+-- Where a line stands: below so many sessions, with so many rows of the last reply still to come, in the history, or behind the last line.
+pub data Stage : Type 0 where
+  sessions : ℕ → ℕ → Stage
+  history : Stage
+  ended : Stage
+
+-- a reply has a session above it
+abbrev pub may_reply : ℕ → Option FirstLine → Bool
+may_reply zero line = false
+may_reply (suc n) line = is_some line
+
+abbrev pub stands : Stage → List ℕ → Bool
+stands (sessions n (suc due)) text = is_row text
+stands (sessions n zero) text = may_reply n (first_in text) || (same text (session_line (suc n)) || same text (codes "history"))
+stands history text = is_some (event_in text) || is_some (last_in text)
+stands ended text = false
+
+abbrev pub rows_due : Option FirstLine → ℕ
+rows_due None = 0
+rows_due (Some line) = line.due
+
+-- where the next line stands
+abbrev pub after : Stage → List ℕ → Stage
+after (sessions n (suc due)) text = sessions n due
+after (sessions n zero) text = if may_reply n (first_in text) then sessions n (rows_due (first_in text)) else (if same text (session_line (suc n)) then sessions (suc n) 0 else history)
+after history text = if is_some (event_in text) then history else ended
+after ended text = ended
+
+-- what follows the last newline: nothing, behind the last line, and else bytes are missing
+abbrev pub rest_place : Stage → ℕ → List ℕ → Option ℕ
+rest_place ended at [] = None
+rest_place ended at (b ∷ bytes) = Some at
+rest_place stage at rest = Some (at + length rest)
+
+-- the place of the first fault of some lines, the first of which begins at a place. The last piece is what follows the last newline
+abbrev pub place_from : Stage → ℕ → List (List ℕ) → Option ℕ
+place_from stage at [] = None
+place_from stage at (rest ∷ []) = rest_place stage at rest
+place_from stage at (text ∷ more ∷ pieces) = if stands stage text then place_from (after stage text) (at + length text + 1) (more ∷ pieces) else Some at
+
+-- the place of the first fault of a text, if it is no output's
+abbrev pub place_of : List ℕ → Option ℕ
+place_of text = place_from (sessions 0 0) 0 (cut 10 text)
+
+-- ---- outputs that a program can hold
+
+abbrev pub Fits32 : ℕ → Type 0
+Fits32 n = n < 2 ^ 32
+
+abbrev pub IsRowLine : List ℕ → Type 0
+IsRowLine text = All (λ b. b ≢ 10) text × (is_row text ≡ true)
+
+-- the numbers of 32 bits
+abbrev pub short_of_reply : ReplyLine → List ℕ
+short_of_reply (reply.Large n) = n ∷ []
+short_of_reply _ = []
+
+abbrev pub short_of_event : Event → List ℕ
+short_of_event (event.Begin s i ts m) = s ∷ i ∷ []
+short_of_event (event.End s i ts) = s ∷ i ∷ []
+short_of_event (event.Look s i t m) = s ∷ i ∷ []
+short_of_event (event.Rows s i t) = s ∷ i ∷ []
+short_of_event (event.Ancient s i t a) = s ∷ i ∷ []
+short_of_event (event.Busy s i t f) = s ∷ i ∷ []
+short_of_event (event.Mark s i a) = s ∷ i ∷ []
+short_of_event (event.Chore s i) = s ∷ i ∷ []
+short_of_event (event.Large s i n) = s ∷ i ∷ n ∷ []
+short_of_event event.Stop = []
+
+pub record LineHolds (r : ReplyLine) : Type 0 where
+  pub numbers : AllByRecursion Fits64 (line_numbers r)
+  pub short : AllByRecursion Fits32 (short_of_reply r)
+  pub rows : AllByRecursion IsRowLine (rows_in r)
+
+pub record EventHolds (e : Event) : Type 0 where
+  pub numbers : AllByRecursion Fits64 (event_numbers e)
+  pub short : AllByRecursion Fits32 (short_of_event e)
+
+pub record OutputHolds (out : Output) : Type 0 where
+  pub count : Fits64 (length out.replies)
+  pub replies : AllByRecursion (AllByRecursion LineHolds) out.replies
+  pub events : AllByRecursion EventHolds out.events
+  pub last : LastFits out.last
+
+-- the text is that of this output
+pub record IsTextOf (text : List ℕ) (out : Output) : Type 0 where
+  pub holds : OutputHolds out
+  pub text_is : text ≡ text_of out
+
+-- the first fault is told by its place
+abbrev pub IsPlace : List ℕ → CodecNo → Type 0
+IsPlace text (no.Place offset) = place_of text ≡ Some offset
+IsPlace text no.Memory = Unit {0}
+
+-- no output has the text
+abbrev pub IsNoOutput : List ℕ → CodecNo → Type 0
+IsNoOutput text (no.Place offset) = (out : Output) → ¬ IsTextOf text out
+IsNoOutput text no.Memory = Unit {0}
+
+-- a text is that of one output
+abbrev pub outputs_are_one : Type 0
+outputs_are_one = (text : List ℕ) (a b : Output) → IsTextOf text a → IsTextOf text b → a ≡ b
+
+-- what is printed, as it is read again: each row is its line
+abbrev pub shown_output : List (List ShownReply) → List Event → LastLine → Output
+shown_output replies events end = record { replies = map (map seen) replies; events = events; last = end }
+
+abbrev pub printed_texts : Type 0
+printed_texts = (replies : List (List ShownReply)) (events : List Event) (end : LastLine) → output_text replies events end ≡ text_of (shown_output replies events end)
+
+-- an output that has a printed text is the one that was printed
+abbrev pub outputs_give_back : Type 0
+outputs_give_back = (replies : List (List ShownReply)) (events : List Event) (end : LastLine) (out : Output) → OutputFits replies events end → IsTextOf (output_text replies events end) out → out ≡ shown_output replies events end
+
+-- a cell that has a literal in a column of this kind
+abbrev pub CellHolds : Kind → Cell → Type 0
+CellHolds kind cell.Null = Unit {0}
+CellHolds kind c = (fits kind c ≡ true) × CellBytes c
+
+abbrev pub CellsHold : List Kind → List Cell → Type 0
+CellsHold kinds [] = Unit {0}
+CellsHold [] (c ∷ cells) = Unit {0}
+CellsHold (kind ∷ kinds) (c ∷ cells) = CellHolds kind c × CellsHold kinds cells
+
+-- a row that shows a cell
+abbrev pub RowHolds : List Kind → List Cell → Type 0
+RowHolds (kind ∷ kinds) (c ∷ cells) = CellHolds kind c × CellsHold kinds cells
+RowHolds _ _ = ⊥
+
+abbrev pub rows_told : Reply → List (List Cell)
+rows_told (told.Rows t rows) = rows
+rows_told _ = []
+
+pub record ReplyHolds (shown : ShownReply) : Type 0 where
+  pub numbers : AllByRecursion Fits64 (reply_numbers shown.reply)
+  pub short : AllByRecursion Fits32 (short_of_reply (seen shown))
+  pub rows : AllByRecursion (RowHolds shown.kinds) (rows_told shown.reply)
+
+-- what is printed, and can be read again
+pub record PrintedHolds (replies : List (List ShownReply)) (events : List Event) (end : LastLine) : Type 0 where
+  pub count : Fits64 (length replies)
+  pub each : AllByRecursion (AllByRecursion ReplyHolds) replies
+  pub events_hold : AllByRecursion EventHolds events
+  pub last : LastFits end
+
+-- what is printed of cells that fit their columns is read again
+abbrev pub printed_hold : Type 0
+printed_hold = (replies : List (List ShownReply)) (events : List Event) (end : LastLine) → PrintedHolds replies events end → IsTextOf (output_text replies events end) (shown_output replies events end)

@@ -1,0 +1,240 @@
+-- The one text of a script, with the names of each operation in schema order.
+use Rattle.std.specs.Prelude.{◌≡◌, ℕ, ◌≤◌, Bool, true, false, not, ◌&&◌, length, List, [], ◌∷◌, ◌++◌, map, Option, Some, None, if◌then◌else◌, ◌==◌, All, codes}
+use Rattle.std.specs.Fmt.{decimal}
+use Rattle.std.specs.List.{flat_map, list_any, AllByRecursion}
+use Rattle.kt_base.specs.declared.cell.Kind.{Kind}
+use Rattle.kt_base.specs.declared.cell.Kind.TheVariants as kind
+use Rattle.kt_base.specs.declared.cell.Cell.{Cell}
+use Rattle.kt_base.specs.declared.chore.Chore.{Chore}
+use Rattle.kt_base.specs.declared.chore.Chore.TheVariants as chore
+use Rattle.kt_base.specs.Keys.{key_cells}
+use Rattle.kt_base.specs.Literals.{literal, CellBytes}
+use Rattle.kt_key.specs.Reading.{Spells}
+use Rattle.kt_schema.specs.Names.{is_name}
+use Rattle.kt_schema.specs.Columns.{key_kinds, other_columns}
+use Rattle.kt_schema.specs.declared.column.Column.{Column}
+use Rattle.kt_history.specs.declared.operation.OpKind.{OpKind}
+use Rattle.kt_history.specs.declared.operation.OpKind.TheVariants as op
+use Rattle.kt_history.specs.declared.operation.RowOp.{RowOp}
+use Rattle.kt_history.specs.declared.scan.At.{At}
+use Rattle.kt_history.specs.declared.scan.At.TheVariants.{Looked, Given}
+use Rattle.kt_history.specs.declared.scan.Test.{Test}
+use Rattle.kt_history.specs.declared.scan.Test.TheVariants as test
+use Rattle.kt_history.specs.declared.scan.Pred.{Pred}
+use Rattle.kt_history.specs.declared.scan.Scan.{Scan}
+use Rattle.kt_history.specs.declared.command.Command.{Command}
+use Rattle.kt_history.specs.declared.command.Command.TheVariants as command
+use Rattle.kt_script.specs.Texts.{line, words, literals}
+use Rattle.kt_script.specs.Columns.{IsTable}
+use Rattle.kt_script.specs.Scripts.{Said, most_bytes, script_of}
+use Rattle.kt_script.specs.Fit.{column_of, compares, PlanFits}
+
+-- texts with a separator between each two
+abbrev pub joined : List ℕ → List (List ℕ) → List ℕ
+joined separator [] = []
+joined separator (text ∷ texts) = text ++ flat_map (λ t. separator ++ t) texts
+
+-- ---- columns
+
+abbrev pub kind_word : Kind → List ℕ
+kind_word kind.Bool = codes "bool"
+kind_word kind.Int8 = codes "int8"
+kind_word kind.Int16 = codes "int16"
+kind_word kind.Int32 = codes "int32"
+kind_word kind.Int64 = codes "int64"
+kind_word kind.String = codes "string"
+kind_word kind.Binary = codes "binary"
+
+-- a word where a test holds
+abbrev pub word_if : Bool → List ℕ → List (List ℕ)
+word_if test word = if test then word ∷ [] else []
+
+abbrev pub default_words : Kind → Option Cell → List (List ℕ)
+default_words kind None = []
+default_words kind (Some c) = codes "default" ∷ literal kind c ∷ []
+
+-- behind a column's kind: key, or nullable and the default where it has them
+abbrev pub mark_words : Column → List (List ℕ)
+mark_words c = if c.key then codes "key" ∷ [] else word_if c.nullable (codes "nullable") ++ default_words c.kind c.default
+
+abbrev pub column_words : Column → List (List ℕ)
+column_words c = codes "column" ∷ c.name ∷ kind_word c.kind ∷ mark_words c
+
+abbrev pub column_text : Column → List ℕ
+column_text c = line (words (column_words c))
+
+-- ---- writes
+
+abbrev pub op_word : OpKind → List ℕ
+op_word op.Insert = codes "insert"
+op_word op.Upsert = codes "upsert"
+op_word op.Update = codes "update"
+op_word op.Delete = codes "delete"
+
+-- the literals of an encoded key
+abbrev pub key_words : List Column → List ℕ → List (List ℕ)
+key_words columns key = literals (key_kinds columns) (key_cells (key_kinds columns) key)
+
+-- a cell's literal, with the name of its column or without
+abbrev pub cell_word : Bool → Column → Cell → List ℕ
+cell_word true c cell = c.name ++ 61 ∷ literal c.kind cell
+cell_word false c cell = literal c.kind cell
+
+-- cells by rising id, each under the column of its id
+abbrev pub cell_words : Bool → List Column → List (ℕ × Cell) → List (List ℕ)
+cell_words named [] cells = []
+cell_words named (c ∷ columns) [] = []
+cell_words named (c ∷ columns) (cell ∷ cells) = if c.id == cell.0 then cell_word named c cell.1 ∷ cell_words named columns cells else cell_words named columns (cell ∷ cells)
+
+-- an insert has each cell, the others name theirs
+abbrev pub is_named : OpKind → Bool
+is_named op.Insert = false
+is_named _ = true
+
+abbrev pub op_words : List Column → RowOp → List (List ℕ)
+op_words columns o = op_word o.kind ∷ (key_words columns o.key ++ cell_words (is_named o.kind) (other_columns columns) o.cells)
+
+abbrev pub op_text : List Column → RowOp → List ℕ
+op_text columns o = words (op_words columns o)
+
+abbrev pub write_text : List Column → List RowOp → List ℕ
+write_text columns ops = joined (codes " ; ") (map (op_text columns) ops)
+
+-- ---- scans
+
+abbrev pub name_of : Option Column → List ℕ
+name_of None = []
+name_of (Some c) = c.name
+
+-- what is asked of a column of this kind
+abbrev pub test_text : Kind → Test → List ℕ
+test_text kind (test.Eq cell) = codes "=" ++ literal kind cell
+test_text kind (test.Lt cell) = codes "<" ++ literal kind cell
+test_text kind (test.Le cell) = codes "<=" ++ literal kind cell
+test_text kind (test.Gt cell) = codes ">" ++ literal kind cell
+test_text kind (test.Ge cell) = codes ">=" ++ literal kind cell
+test_text kind test.IsNull = codes " is null"
+test_text kind test.NotNull = codes " is not null"
+
+abbrev pub test_under : Option Column → Test → List ℕ
+test_under None test = []
+test_under (Some c) test = c.name ++ test_text c.kind test
+
+abbrev pub pred_text : List Column → Pred → List ℕ
+pred_text columns p = test_under (column_of columns p.column) p.test
+
+abbrev pub at_text : At → List ℕ
+at_text Looked = codes "now"
+at_text (Given t) = codes "at " ++ decimal t
+
+abbrev pub select_text : List Column → Option (List ℕ) → List ℕ
+select_text columns None = []
+select_text columns (Some ids) = codes " select " ++ joined (codes ",") (map (λ id. name_of (column_of columns id)) ids)
+
+abbrev pub where_text : List Column → List Pred → List ℕ
+where_text columns [] = []
+where_text columns (p ∷ preds) = codes " where " ++ joined (codes " and ") (map (pred_text columns) (p ∷ preds))
+
+abbrev pub scan_text : List Column → Scan → List ℕ
+scan_text columns scan = codes "scan " ++ at_text scan.at ++ select_text columns scan.columns ++ where_text columns scan.preds
+
+-- ---- lines
+
+abbrev pub chore_word : Chore → List ℕ
+chore_word chore.Flush = codes "flush"
+chore_word chore.FlushDeltas = codes "flush-deltas"
+chore_word chore.Minor = codes "minor"
+chore_word chore.Major = codes "major"
+chore_word chore.Compact = codes "compact"
+
+abbrev pub command_text : List Column → Command → List ℕ
+command_text columns (command.Write w) = write_text columns w.ops
+command_text columns (command.Scan scan) = scan_text columns scan
+command_text columns (command.Mark t) = codes "mark " ++ decimal t
+command_text columns (command.Chore c) = chore_word c
+
+abbrev pub session_lines : List Column → List Command → List ℕ
+session_lines columns commands = line (codes "session") ++ flat_map (λ c. line (command_text columns c)) commands
+
+-- the text of a script
+abbrev pub script_text : Said → List ℕ
+script_text s = line (codes "table") ++ flat_map column_text s.columns ++ flat_map (session_lines s.columns) s.plan
+
+-- ---- what is printed
+
+-- the bytes are an encoded key of the schema
+pub record IsKey (columns : List Column) (key : List ℕ) : Type 0 where
+  pub cells : List Cell
+  pub spelled : Spells (key_kinds columns) cells key
+
+-- each key of a command is one
+abbrev pub HasKeys : List Column → Command → Type 0
+HasKeys columns (command.Write w) = All (λ o. IsKey columns o.key) w.ops
+HasKeys columns (command.Scan scan) = Unit {0}
+HasKeys columns (command.Mark t) = Unit {0}
+HasKeys columns (command.Chore c) = Unit {0}
+
+-- ---- reading it again
+
+-- a default of the column's kind, which is not too long. A key has none
+abbrev pub default_fits : Column → Option Cell → Bool
+default_fits c None = true
+default_fits c (Some x) = not c.key && compares c x
+
+-- the bytes of a default are bytes
+abbrev pub DefaultBytes : Option Cell → Type 0
+DefaultBytes None = Unit {0}
+DefaultBytes (Some x) = CellBytes x
+
+-- A column as a script says it.
+pub record ColumnFits (c : Column) : Type 0 where
+  pub name : is_name c.name ≡ true
+  pub default : default_fits c c.default ≡ true
+  pub bytes : DefaultBytes c.default
+
+-- Columns that make a table of a script.
+pub record ColumnsFit (columns : List Column) : Type 0 where
+  pub table : IsTable columns
+  pub key : list_any (λ c. c.key) columns ≡ true
+  pub each : AllByRecursion ColumnFits columns
+
+-- an update has a cell
+abbrev pub has_cells : OpKind → List (ℕ × Cell) → Bool
+has_cells op.Update cells = not (length cells == 0)
+has_cells _ cells = true
+
+-- An operation as a script says it: the bytes of each cell are bytes.
+pub record OpSaid (columns : List Column) (o : RowOp) : Type 0 where
+  pub some : has_cells o.kind o.cells ≡ true
+  pub key_bytes : AllByRecursion CellBytes (key_cells (key_kinds columns) o.key)
+  pub bytes : AllByRecursion (λ (x : ℕ × Cell). CellBytes x.1) o.cells
+
+abbrev pub TestBytes : Test → Type 0
+TestBytes (test.Eq x) = CellBytes x
+TestBytes (test.Lt x) = CellBytes x
+TestBytes (test.Le x) = CellBytes x
+TestBytes (test.Gt x) = CellBytes x
+TestBytes (test.Ge x) = CellBytes x
+TestBytes test.IsNull = Unit {0}
+TestBytes test.NotNull = Unit {0}
+
+-- a selection names a column
+abbrev pub selects : Option (List ℕ) → Bool
+selects None = true
+selects (Some ids) = not (length ids == 0)
+
+-- A scan as a script says it.
+pub record ScanSaid (scan : Scan) : Type 0 where
+  pub some : selects scan.columns ≡ true
+  pub bytes : AllByRecursion (λ (p : Pred). TestBytes p.test) scan.preds
+
+-- a command as a script says it
+abbrev pub CommandSaid : List Column → Command → Type 0
+CommandSaid columns (command.Write w) = AllByRecursion (OpSaid columns) w.ops
+CommandSaid columns (command.Scan scan) = ScanSaid scan
+CommandSaid columns (command.Mark t) = ⊥
+CommandSaid columns (command.Chore c) = ⊥
+
+-- the text of a script is read as that script
+abbrev pub prints_are_read : Type 0
+prints_are_read = (s : Said) → ColumnsFit s.columns → PlanFits s.columns s.plan → AllByRecursion (AllByRecursion (CommandSaid s.columns)) s.plan → length (script_text s) ≤ most_bytes → script_of (script_text s) ≡ Some s

@@ -1,0 +1,173 @@
+//! The words of one operation, and the cells and the key that its first words spell.
+
+ghost use Rattle.std.specs.Prelude.{◌≡◌, ◌<◌, ◌++◌, ◌∷◌, [], min, length, drop, map, ◌&&◌, nat_lt, true, IfOk, OnOk, IfSome, IfNone, None};
+ghost use Rattle.kt_key.specs.Fit.{is_key};
+ghost use Rattle.kt_key.specs.Spelling.{spelling};
+ghost use Rattle.kt_schema.specs.Columns.{columns_no, key_columns, key_kinds};
+ghost use Rattle.kt_script.specs.Reasons.{reason_if};
+ghost use Rattle.kt_script.specs.Writes.{cells_no, cells_of, under, key_no, key_len, key_of, none_left_no, op_in, later_in, ops_in, IsOpCut};
+
+use crate::columns::SOUND;
+use crate::least::{Least, read_cell};
+use crate::word::next_word;
+use kt_base::limits::KEY_LEN;
+use kt_base::{Cell, NoMemory, Octets, Row};
+use kt_key::encode_key;
+use kt_schema::{Column, Schema};
+use std::alloc::Global;
+
+/// Cells that are read, and what is left of the line behind them.
+#[derive(Debug, Drop)]
+pub struct TakenCells<'a> {
+    pub cells: Vec<Cell>,
+    pub rest: Option<&'a [u8]>,
+}
+
+/// Cells with the ids of their columns, and what is left of the line behind them.
+#[derive(Debug, Drop)]
+pub struct TakenOthers<'a> {
+    pub cells: Vec<(u16, Cell)>,
+    pub rest: Option<&'a [u8]>,
+}
+
+/// A key, and what is left of the line behind it.
+#[derive(Debug, Drop)]
+pub struct TakenKey<'a> {
+    pub key: Octets,
+    pub rest: Option<&'a [u8]>,
+}
+
+/// The next word of an operation. It ends before a word `;`.
+pub fn next_op_word(rest: Option<&[u8]>) -> Option<(&[u8], Option<&[u8]>)>
+    ensures some { IfSome result (λ cut. IsOpCut rest.entry cut.0.now cut.1) }
+    ensures none { IfNone result (op_in rest.entry ≡ []) }
+{
+    let (word, behind) = next_word(rest)?;
+    if word == b";".as_slice() {
+        None
+    } else {
+        Some((word, behind))
+    }
+}
+
+/// What is left behind an operation, if it ends with a word `;`.
+pub fn behind_op(rest: Option<&[u8]>) -> Option<Option<&[u8]>>
+    ensures { ops_in result ≡ later_in rest.entry }
+{
+    let mut left = rest;
+    'words: while let Some((word, behind)) = next_word(left) {
+        if word == b";".as_slice() {
+            return Some(behind);
+        }
+        left = behind;
+    }
+    None
+}
+
+/// Why an operation is refused in which words are left.
+pub fn left_no(rest: Option<&[u8]>) -> u8
+    ensures { result ≡ none_left_no (op_in rest.entry) }
+{
+    match next_op_word(rest) {
+        Some(_) => 12,
+        None => SOUND,
+    }
+}
+
+/// A cell for each column.
+pub fn take_cells<'a>(
+    alloc: Global,
+    columns: &[Column],
+    rest: Option<&'a [u8]>,
+    no: &mut Least,
+) -> Result<TakenCells<'a>, NoMemory>
+    ensures cells { IfOk result (λ taken. taken.cells.items ≡ cells_of columns.now (op_in rest.entry)) }
+    ensures behind { IfOk result (λ taken. op_in taken.rest ≡ drop (length columns.now) (op_in rest.entry)) }
+    ensures later { IfOk result (λ taken. later_in taken.rest ≡ later_in rest.entry) }
+    ensures least { OnOk result (no.new ≡ min no.old (cells_no columns.now (op_in rest.entry))) }
+{
+    let mut cells = Vec::with_capacity(alloc, columns.len())?;
+    let mut left = rest;
+    for column in columns {
+        let Some((word, behind)) = next_op_word(left) else {
+            no.note(12);
+            return Ok(TakenCells { cells, rest: left });
+        };
+        cells.push(read_cell(alloc, column, word, no)?)?;
+        left = behind;
+    }
+    no.note(SOUND);
+    Ok(TakenCells { cells, rest: left })
+}
+
+/// A cell for each column, with the column's id.
+pub fn take_others<'a>(
+    alloc: Global,
+    columns: &[Column],
+    rest: Option<&'a [u8]>,
+    no: &mut Least,
+) -> Result<TakenOthers<'a>, NoMemory>
+    ensures cells { IfOk result (λ taken. taken.cells.items ≡ under columns.now (cells_of columns.now (op_in rest.entry))) }
+    ensures behind { IfOk result (λ taken. op_in taken.rest ≡ drop (length columns.now) (op_in rest.entry)) }
+    ensures later { IfOk result (λ taken. later_in taken.rest ≡ later_in rest.entry) }
+    ensures least { OnOk result (no.new ≡ min no.old (cells_no columns.now (op_in rest.entry))) }
+{
+    let mut cells = Vec::with_capacity(alloc, columns.len())?;
+    let mut left = rest;
+    for column in columns {
+        let Some((word, behind)) = next_op_word(left) else {
+            no.note(12);
+            return Ok(TakenOthers { cells, rest: left });
+        };
+        cells.push((column.id, read_cell(alloc, column, word, no)?))?;
+        left = behind;
+    }
+    no.note(SOUND);
+    Ok(TakenOthers { cells, rest: left })
+}
+
+// The key columns, which stand first.
+fn key_columns(schema: &Schema) -> &[Column]
+    ensures value { result.now ≡ key_columns schema.now }
+    ensures fit { columns_no schema.now ≡ None }
+{
+    let (keys, _) = schema.columns().split_at(schema.key_kinds().len());
+    keys
+}
+
+// The encoded key of some cells, unless a reason holds already that a long key would not change.
+fn spell_key(
+    alloc: Global,
+    schema: &Schema,
+    cells: &Row,
+    no: &mut Least,
+) -> Result<Octets, NoMemory>
+    requires { 17 < no.old → is_key (key_kinds schema.now) cells.now ≡ true }
+    ensures key { IfOk result (λ key. 17 < no.new → key ≡ spelling (key_kinds schema.now) cells.now) }
+    ensures least { OnOk result (no.new ≡ min no.old (reason_if (is_key (key_kinds schema.now) cells.now && nat_lt 16384 (length (spelling (key_kinds schema.now) cells.now))) 17)) }
+{
+    if no.reason() <= 17 {
+        return Ok(Octets::new(alloc));
+    }
+    let key = encode_key(alloc, schema.key_kinds(), cells)?;
+    no.note(if key.len() > KEY_LEN { 17 } else { SOUND });
+    Ok(key)
+}
+
+/// The key that an operation begins with.
+pub fn take_key<'a>(
+    alloc: Global,
+    schema: &Schema,
+    rest: Option<&'a [u8]>,
+    no: &mut Least,
+) -> Result<TakenKey<'a>, NoMemory>
+    ensures fit { OnOk result (columns_no schema.now ≡ None) }
+    ensures key { IfOk result (λ taken. 17 < no.new → taken.key ≡ key_of schema.now (op_in rest.entry)) }
+    ensures behind { IfOk result (λ taken. op_in taken.rest ≡ drop (key_len schema.now) (op_in rest.entry)) }
+    ensures later { IfOk result (λ taken. later_in taken.rest ≡ later_in rest.entry) }
+    ensures least { OnOk result (no.new ≡ min no.old (key_no schema.now (op_in rest.entry))) }
+{
+    let TakenCells { cells, rest } = take_cells(alloc, key_columns(schema), rest, no)?;
+    let key = spell_key(alloc, schema, &Row::of(cells), no)?;
+    Ok(TakenKey { key, rest })
+}

@@ -1,0 +1,380 @@
+//! The lines of an output text, each read by itself.
+
+ghost use Rattle.std.specs.Prelude.{◌≡◌, ◌∷◌, [], ℕ, IfOk, IfSome, IfNone, is_some, Some, None, if◌then◌else◌};
+ghost use Rattle.std.specs.Option.{option_map};
+ghost use Rattle.kt_base.specs.Literals.{same, value_in};
+ghost use Rattle.kt_script.specs.Pieces.{cut};
+ghost use Rattle.kt_script.specs.Outputs.{pieces_in, session_line, number_in, numbers_in, outcome_in, outcomes_in, first_from, at_in, first_in, event_at, event_from, event_in, counted, last_numbers, last_in, is_row, IsFormed};
+
+use crate::output::LastLine;
+use crate::replies::{LineList, ReplyLine};
+use crate::split::{after, cut_at};
+use crate::word::next_word;
+use itoa::Buffer;
+use kt_base::literal::{LiteralNo, read_literal};
+use kt_base::{Cell, Kind, NoMemory};
+use kt_history::{Event, Outcome, OutcomeList};
+use std::alloc::Global;
+
+/// The first line of a reply, before its rows: the reply without them, and how many there are.
+#[derive(Debug, Drop)]
+pub struct FirstLine {
+    pub reply: ReplyLine,
+    pub due: u64,
+}
+
+// The bytes up to the first space, and those behind it.
+fn cut_space(text: &[u8]) -> (&[u8], Option<&[u8]>)
+    ensures { cut 32 text.now ≡ result.0.now ∷ pieces_in result.1 }
+{
+    match cut_at(text, b' ') {
+        Some((word, rest)) => (word, Some(rest)),
+        None => (text, None),
+    }
+}
+
+// The next word of what is left of a line.
+fn next_piece(rest: Option<&[u8]>) -> Option<(&[u8], Option<&[u8]>)>
+    ensures some { IfSome result (λ x. pieces_in rest.entry ≡ x.0.now ∷ pieces_in x.1) }
+    ensures none { IfNone result (pieces_in rest.entry ≡ []) }
+{
+    match rest {
+        Some(text) => Some(cut_space(text)),
+        None => None,
+    }
+}
+
+fn number_of(word: &[u8]) -> Option<u64>
+    ensures { result ≡ number_in word.now }
+{
+    let Ok(text) = std::str::from_utf8(word) else {
+        return None;
+    };
+    let Ok(number) = text.parse::<u64>() else {
+        return None;
+    };
+    let mut buffer = Buffer::new();
+    if buffer.format(number).as_bytes() == word {
+        Some(number)
+    } else {
+        None
+    }
+}
+
+// Whether all words that are left are numbers, which are put in place of those in the buffer.
+fn read_numbers(rest: Option<&[u8]>, numbers: &mut Vec<u64>) -> Result<bool, NoMemory>
+    ensures { IfOk result (λ read. numbers_in (pieces_in rest.entry) ≡ (if read then Some numbers.new.items else None)) }
+{
+    numbers.clear();
+    let mut left = rest;
+    'words: while let Some((word, behind)) = next_piece(left) {
+        let Some(number) = number_of(word) else {
+            return Ok(false);
+        };
+        numbers.push(number)?;
+        left = behind;
+    }
+    Ok(true)
+}
+
+fn outcome_of(word: &[u8]) -> Option<Outcome>
+    ensures { result ≡ outcome_in word.now }
+{
+    if word == b"ok".as_slice() {
+        Some(Outcome::Done)
+    } else if word == b"present".as_slice() {
+        Some(Outcome::Present)
+    } else if word == b"absent".as_slice() {
+        Some(Outcome::Absent)
+    } else {
+        None
+    }
+}
+
+fn read_outcomes(alloc: Global, rest: Option<&[u8]>) -> Result<Option<Vec<Outcome>>, NoMemory>
+    ensures { IfOk result (λ read. option_map (λ os. os.items) read ≡ outcomes_in (pieces_in rest.entry)) }
+{
+    let mut outcomes = Vec::new(alloc);
+    let mut left = rest;
+    'words: while let Some((word, behind)) = next_piece(left) {
+        let Some(outcome) = outcome_of(word) else {
+            return Ok(None);
+        };
+        outcomes.push(outcome)?;
+        left = behind;
+    }
+    Ok(Some(outcomes))
+}
+
+fn first(reply: ReplyLine) -> Option<FirstLine>
+    ensures { result ≡ Some (record { reply = reply; due = 0 }) }
+{
+    Some(FirstLine { reply, due: 0 })
+}
+
+fn first_of_one(word: &[u8], a: u64) -> Option<FirstLine>
+    ensures { result ≡ first_from word.now (a ∷ []) }
+{
+    if word == b"ahm".as_slice() {
+        return first(ReplyLine::Ahm { a });
+    }
+    let Ok(n) = u32::try_from(a) else {
+        return None;
+    };
+    if word == b"large".as_slice() {
+        first(ReplyLine::Large { n })
+    } else {
+        None
+    }
+}
+
+fn first_of_two(alloc: Global, word: &[u8], t: u64, a: u64) -> Option<FirstLine>
+    ensures { result ≡ first_from word.now (t ∷ a ∷ []) }
+{
+    if word == b"rows".as_slice() {
+        let lines = LineList::of(Vec::new(alloc));
+        Some(FirstLine {
+            reply: ReplyLine::Rows { t, lines },
+            due: a,
+        })
+    } else if word == b"ancient".as_slice() {
+        first(ReplyLine::Ancient { t, a })
+    } else if word == b"busy".as_slice() {
+        first(ReplyLine::Busy { t, f: a })
+    } else {
+        None
+    }
+}
+
+// A reply by its word and the numbers after it.
+fn first_from(alloc: Global, word: &[u8], numbers: &[u64]) -> Option<FirstLine>
+    ensures { result ≡ first_from word.now numbers.now }
+{
+    match numbers {
+        [] => {
+            if word == b"done".as_slice() {
+                first(ReplyLine::Done)
+            } else if word == b"stopped".as_slice() {
+                first(ReplyLine::Stopped)
+            } else {
+                None
+            }
+        }
+        [a] => first_of_one(word, *a),
+        [t, a] => first_of_two(alloc, word, *t, *a),
+        _ => None,
+    }
+}
+
+// A write's reply, by what stands behind its word.
+fn at_of(alloc: Global, rest: Option<&[u8]>) -> Result<Option<FirstLine>, NoMemory>
+    ensures { IfOk result (λ read. read ≡ at_in (pieces_in rest.entry)) }
+{
+    let Some((word, behind)) = next_piece(rest) else {
+        return Ok(None);
+    };
+    let Some(ts) = number_of(word) else {
+        return Ok(None);
+    };
+    match read_outcomes(alloc, behind)? {
+        Some(outcomes) => Ok(first(ReplyLine::At {
+            ts,
+            outcomes: OutcomeList::of(outcomes),
+        })),
+        None => Ok(None),
+    }
+}
+
+/// The reply that a line begins. The buffer is for its numbers.
+pub fn first_of(
+    alloc: Global,
+    line: &[u8],
+    numbers: &mut Vec<u64>,
+) -> Result<Option<FirstLine>, NoMemory>
+    ensures { IfOk result (λ read. read ≡ first_in line.now) }
+{
+    let (word, rest) = cut_space(line);
+    if word == b"at".as_slice() {
+        return at_of(alloc, rest);
+    }
+    if read_numbers(rest, numbers)? {
+        Ok(first_from(alloc, word, numbers))
+    } else {
+        Ok(None)
+    }
+}
+
+fn event_of_three(word: &[u8], s: u32, i: u32, t: u64) -> Option<Event>
+    ensures { result ≡ event_at word.now s i (t ∷ []) }
+{
+    if word == b"end".as_slice() {
+        return Some(Event::End { s, i, ts: t });
+    }
+    if word == b"rows".as_slice() {
+        return Some(Event::Rows { s, i, t });
+    }
+    if word == b"mark".as_slice() {
+        return Some(Event::Mark { s, i, a: t });
+    }
+    let Ok(n) = u32::try_from(t) else {
+        return None;
+    };
+    if word == b"large".as_slice() {
+        Some(Event::Large { s, i, n })
+    } else {
+        None
+    }
+}
+
+fn event_of_four(word: &[u8], s: u32, i: u32, t: u64, m: u64) -> Option<Event>
+    ensures { result ≡ event_at word.now s i (t ∷ m ∷ []) }
+{
+    if word == b"begin".as_slice() {
+        Some(Event::Begin { s, i, ts: t, m })
+    } else if word == b"look".as_slice() {
+        Some(Event::Look { s, i, t, m })
+    } else if word == b"ancient".as_slice() {
+        Some(Event::Ancient { s, i, t, a: m })
+    } else if word == b"busy".as_slice() {
+        Some(Event::Busy { s, i, t, f: m })
+    } else {
+        None
+    }
+}
+
+fn event_at(word: &[u8], s: u32, i: u32, more: &[u64]) -> Option<Event>
+    ensures { result ≡ event_at word.now s i more.now }
+{
+    match more {
+        [] => {
+            if word == b"chore".as_slice() {
+                Some(Event::Chore { s, i })
+            } else {
+                None
+            }
+        }
+        [t] => event_of_three(word, s, i, *t),
+        [t, m] => event_of_four(word, s, i, *t, *m),
+        _ => None,
+    }
+}
+
+// An event by its word and the numbers after it.
+fn event_from(word: &[u8], numbers: &[u64]) -> Option<Event>
+    ensures { result ≡ event_from word.now numbers.now }
+{
+    match numbers {
+        [] => {
+            if word == b"stop".as_slice() {
+                Some(Event::Stop)
+            } else {
+                None
+            }
+        }
+        [_] => None,
+        [session, command, more @ ..] => {
+            let Ok(s) = u32::try_from(*session) else {
+                return None;
+            };
+            let Ok(i) = u32::try_from(*command) else {
+                return None;
+            };
+            event_at(word, s, i, more)
+        }
+    }
+}
+
+/// The event that a line of the history says. The buffer is for its numbers.
+pub fn event_of(line: &[u8], numbers: &mut Vec<u64>) -> Result<Option<Event>, NoMemory>
+    ensures { IfOk result (λ read. read ≡ event_in line.now) }
+{
+    let (word, rest) = cut_space(line);
+    if read_numbers(rest, numbers)? {
+        Ok(event_from(word, numbers))
+    } else {
+        Ok(None)
+    }
+}
+
+// A number behind this word, and what is left behind it.
+fn counted<'a>(rest: Option<&'a [u8]>, name: &[u8]) -> Option<(u64, Option<&'a [u8]>)>
+    ensures { option_map (λ x. (x.0, pieces_in x.1)) result ≡ counted name.now (pieces_in rest.entry) }
+{
+    let (word, behind) = next_piece(rest)?;
+    let (digits, more) = next_piece(behind)?;
+    if word != name {
+        return None;
+    }
+    let number = number_of(digits)?;
+    Some((number, more))
+}
+
+fn last_numbers(rest: Option<&[u8]>) -> Option<LastLine>
+    ensures { result ≡ last_numbers (pieces_in rest.entry) }
+{
+    let (a, behind) = counted(rest, b"ahm")?;
+    let (c, behind) = counted(behind, b"last")?;
+    let (rowsets, behind) = counted(behind, b"rowsets")?;
+    match behind {
+        Some(_) => None,
+        None => Some(LastLine::Numbers { a, c, rowsets }),
+    }
+}
+
+/// What the last line says.
+pub fn last_of(line: &[u8]) -> Option<LastLine>
+    ensures { result ≡ last_in line.now }
+{
+    if line == b"tablet stopped".as_slice() {
+        return Some(LastLine::Stopped);
+    }
+    let (tablet, rest) = cut_space(line);
+    if tablet == b"tablet".as_slice() {
+        last_numbers(rest)
+    } else {
+        None
+    }
+}
+
+// Whether what was read is a literal, of any kind.
+fn formed(read: &Result<Cell, LiteralNo>) -> Result<bool, NoMemory>
+    ensures { IfOk result (λ is. IsFormed read.now is) }
+{
+    match read {
+        Err(LiteralNo::Memory) => Err(NoMemory),
+        Err(LiteralNo::Form) => Ok(false),
+        _ => Ok(true),
+    }
+}
+
+fn is_literal(alloc: Global, word: &[u8]) -> Result<bool, NoMemory>
+    ensures { IfOk result (λ is. is ≡ is_some (value_in word.now)) }
+{
+    let read = read_literal(alloc, word, Kind::Bool);
+    formed(&read)
+}
+
+/// Whether a line is one or more literals.
+pub fn is_row(alloc: Global, line: &[u8]) -> Result<bool, NoMemory>
+    ensures { IfOk result (λ is. is ≡ is_row line.now) }
+{
+    let mut left = Some(line);
+    'words: while let Some((word, behind)) = next_word(left) {
+        if !is_literal(alloc, word)? {
+            return Ok(false);
+        }
+        left = behind;
+    }
+    Ok(true)
+}
+
+/// Whether a line begins the session of this number.
+pub fn is_session(line: &[u8], number: u64) -> bool
+    ensures { result ≡ same line.now (session_line number) }
+{
+    let Some(digits) = after(line, b"session ") else {
+        return false;
+    };
+    let mut buffer = Buffer::new();
+    digits == buffer.format(number).as_bytes()
+}

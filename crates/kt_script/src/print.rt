@@ -1,0 +1,411 @@
+//! The one text of a script: the names of each operation stand in schema order.
+
+ghost use Rattle.std.specs.Prelude.{◌≡◌, ◌++◌, ◌∷◌, OnOk, IfOk, map, codes, All};
+ghost use Rattle.std.specs.Fmt.{decimal};
+ghost use Rattle.std.specs.List.{flat_map};
+ghost use Rattle.std.specs.Option.{option_copied};
+ghost use Rattle.kt_script.specs.Texts.{line, spaced, literals};
+ghost use Rattle.kt_base.specs.Literals.{literal};
+ghost use Rattle.kt_script.specs.Fit.{column_of, PlanFits};
+ghost use Rattle.kt_script.specs.Print.{joined, kind_word, default_words, mark_words, column_text, op_word, key_words, cell_word, cell_words, is_named, op_text, write_text, name_of, test_text, pred_text, at_text, select_text, where_text, scan_text, chore_word, command_text, session_lines, script_text, IsKey, HasKeys, prints_are_read};
+
+use crate::number::print_number;
+use crate::script::Script;
+use kt_base::literal::append_literal;
+use kt_base::{Cell, Chore, Kind, NoMemory, Octets};
+use kt_history::{At, Command, OpKind, Plan, Pred, RowOp, Scan, Test};
+use kt_key::decode_key;
+use kt_schema::{Column, Schema};
+use std::alloc::Global;
+
+fn print_kind(kind: Kind, out: &mut Octets) -> Result<(), NoMemory>
+    ensures ok { OnOk result (out.new ≡ out.old ++ 32 ∷ kind_word kind) }
+{
+    match kind {
+        Kind::Bool => out.extend(b" bool"),
+        Kind::Int8 => out.extend(b" int8"),
+        Kind::Int16 => out.extend(b" int16"),
+        Kind::Int32 => out.extend(b" int32"),
+        Kind::Int64 => out.extend(b" int64"),
+        Kind::String => out.extend(b" string"),
+        Kind::Binary => out.extend(b" binary"),
+    }
+}
+
+fn print_default(column: &Column, out: &mut Octets) -> Result<(), NoMemory>
+    ensures ok { OnOk result (out.new ≡ out.old ++ flat_map spaced (default_words column.now.kind column.now.default)) }
+{
+    match &column.default {
+        Some(cell) => {
+            out.extend(b" default ")?;
+            append_literal(cell, column.kind, out)
+        }
+        None => Ok(()),
+    }
+}
+
+fn print_marks(column: &Column, out: &mut Octets) -> Result<(), NoMemory>
+    ensures ok { OnOk result (out.new ≡ out.old ++ flat_map spaced (mark_words column.now)) }
+{
+    if column.key {
+        return out.extend(b" key");
+    }
+    if column.nullable {
+        out.extend(b" nullable")?;
+    }
+    print_default(column, out)
+}
+
+fn print_column(column: &Column, out: &mut Octets) -> Result<(), NoMemory>
+    ensures ok { OnOk result (out.new ≡ out.old ++ column_text column.now) }
+{
+    out.extend(b"column ")?;
+    out.extend(column.name.as_slice())?;
+    print_kind(column.kind, out)?;
+    print_marks(column, out)?;
+    out.push(b'\n')
+}
+
+fn print_columns(columns: &[Column], out: &mut Octets) -> Result<(), NoMemory>
+    ensures ok { OnOk result (out.new ≡ out.old ++ flat_map column_text columns.now) }
+{
+    for column in columns {
+        print_column(column, out)?;
+    }
+    Ok(())
+}
+
+// A space and a literal for each cell that has a kind.
+fn print_literals(kinds: &[Kind], cells: &[Cell], out: &mut Octets) -> Result<(), NoMemory>
+    ensures ok { OnOk result (out.new ≡ out.old ++ flat_map spaced (literals kinds.now cells.now)) }
+{
+    let mut left = kinds;
+    for cell in cells {
+        let Some((kind, behind)) = left.split_first() else {
+            return Ok(());
+        };
+        out.push(b' ')?;
+        append_literal(cell, *kind, out)?;
+        left = behind;
+    }
+    Ok(())
+}
+
+fn print_key(alloc: Global, schema: &Schema, key: &[u8], out: &mut Octets) -> Result<(), NoMemory>
+    requires { IsKey schema.now key.now }
+    ensures ok { OnOk result (out.new ≡ out.old ++ flat_map spaced (key_words schema.now key.now)) }
+{
+    let Some(cells) = decode_key(alloc, schema.key_kinds(), key)? else {
+        unreachable!()
+    };
+    print_literals(schema.key_kinds(), cells.as_slice(), out)
+}
+
+fn print_cell(named: bool, column: &Column, cell: &Cell, out: &mut Octets) -> Result<(), NoMemory>
+    ensures ok { OnOk result (out.new ≡ out.old ++ 32 ∷ cell_word named column.now cell.now) }
+{
+    out.push(b' ')?;
+    if named {
+        out.extend(column.name.as_slice())?;
+        out.push(b'=')?;
+    }
+    append_literal(cell, column.kind, out)
+}
+
+// A space and a word for each cell, under the column of its id.
+fn print_cells(
+    named: bool,
+    columns: &[Column],
+    cells: &[(u16, Cell)],
+    out: &mut Octets,
+) -> Result<(), NoMemory>
+    ensures ok { OnOk result (out.new ≡ out.old ++ flat_map spaced (cell_words named columns.now cells.now)) }
+{
+    let mut left = cells;
+    for column in columns {
+        let Some((cell, behind)) = left.split_first() else {
+            return Ok(());
+        };
+        if column.id == cell.0 {
+            print_cell(named, column, &cell.1, out)?;
+            left = behind;
+        }
+    }
+    Ok(())
+}
+
+fn print_op_word(kind: OpKind, out: &mut Octets) -> Result<(), NoMemory>
+    ensures ok { OnOk result (out.new ≡ out.old ++ op_word kind) }
+{
+    match kind {
+        OpKind::Insert => out.extend(b"insert"),
+        OpKind::Upsert => out.extend(b"upsert"),
+        OpKind::Update => out.extend(b"update"),
+        OpKind::Delete => out.extend(b"delete"),
+    }
+}
+
+fn is_named(kind: OpKind) -> bool
+    ensures { result ≡ is_named kind }
+{
+    kind != OpKind::Insert
+}
+
+fn print_op(alloc: Global, schema: &Schema, op: &RowOp, out: &mut Octets) -> Result<(), NoMemory>
+    requires { IsKey schema.now op.now.key }
+    ensures ok { OnOk result (out.new ≡ out.old ++ op_text schema.now op.now) }
+{
+    print_op_word(op.kind, out)?;
+    print_key(alloc, schema, op.key.as_slice(), out)?;
+    let named = is_named(op.kind);
+    print_cells(named, schema.other_columns(), op.cells.as_slice(), out)
+}
+
+fn print_more_ops(
+    alloc: Global,
+    schema: &Schema,
+    ops: &[RowOp],
+    out: &mut Octets,
+) -> Result<(), NoMemory>
+    requires { All (λ o. IsKey schema.now o.key) ops.now }
+    ensures ok { OnOk result (out.new ≡ out.old ++ flat_map (λ t. codes " ; " ++ t) (map (op_text schema.now) ops.now)) }
+{
+    for op in ops {
+        out.extend(b" ; ")?;
+        print_op(alloc, schema, op, out)?;
+    }
+    Ok(())
+}
+
+fn print_write(
+    alloc: Global,
+    schema: &Schema,
+    ops: &[RowOp],
+    out: &mut Octets,
+) -> Result<(), NoMemory>
+    requires { All (λ o. IsKey schema.now o.key) ops.now }
+    ensures ok { OnOk result (out.new ≡ out.old ++ write_text schema.now ops.now) }
+{
+    match ops.split_first() {
+        Some((first, others)) => {
+            print_op(alloc, schema, first, out)?;
+            print_more_ops(alloc, schema, others, out)
+        }
+        None => Ok(()),
+    }
+}
+
+// The column of an id.
+fn column_of(columns: &[Column], id: u16) -> Option<&Column>
+    ensures { option_copied result ≡ column_of columns.now id }
+{
+    let mut left = columns;
+    while let Some((column, behind)) = left.split_first() {
+        if column.id == id {
+            return Some(column);
+        }
+        left = behind;
+    }
+    None
+}
+
+fn print_name(columns: &[Column], id: u16, out: &mut Octets) -> Result<(), NoMemory>
+    ensures ok { OnOk result (out.new ≡ out.old ++ name_of (column_of columns.now id)) }
+{
+    match column_of(columns, id) {
+        Some(column) => out.extend(column.name.as_slice()),
+        None => Ok(()),
+    }
+}
+
+// A comma and a name for each of these.
+fn print_more_names(columns: &[Column], ids: &[u16], out: &mut Octets) -> Result<(), NoMemory>
+    ensures ok { OnOk result (out.new ≡ out.old ++ flat_map (λ t. codes "," ++ t) (map (λ id. name_of (column_of columns.now id)) ids.now)) }
+{
+    for id in ids {
+        out.push(b',')?;
+        print_name(columns, *id, out)?;
+    }
+    Ok(())
+}
+
+fn print_names(columns: &[Column], ids: &[u16], out: &mut Octets) -> Result<(), NoMemory>
+    ensures ok { OnOk result (out.new ≡ out.old ++ joined (codes ",") (map (λ id. name_of (column_of columns.now id)) ids.now)) }
+{
+    match ids.split_first() {
+        Some((first, others)) => {
+            print_name(columns, *first, out)?;
+            print_more_names(columns, others, out)
+        }
+        None => Ok(()),
+    }
+}
+
+fn print_compared(sign: &[u8], kind: Kind, cell: &Cell, out: &mut Octets) -> Result<(), NoMemory>
+    ensures ok { OnOk result (out.new ≡ out.old ++ sign.now ++ literal kind cell.now) }
+{
+    out.extend(sign)?;
+    append_literal(cell, kind, out)
+}
+
+fn print_test(kind: Kind, test: &Test, out: &mut Octets) -> Result<(), NoMemory>
+    ensures ok { OnOk result (out.new ≡ out.old ++ test_text kind test.now) }
+{
+    match test {
+        Test::Eq(cell) => print_compared(b"=", kind, cell, out),
+        Test::Lt(cell) => print_compared(b"<", kind, cell, out),
+        Test::Le(cell) => print_compared(b"<=", kind, cell, out),
+        Test::Gt(cell) => print_compared(b">", kind, cell, out),
+        Test::Ge(cell) => print_compared(b">=", kind, cell, out),
+        Test::IsNull => out.extend(b" is null"),
+        Test::NotNull => out.extend(b" is not null"),
+    }
+}
+
+fn print_pred(columns: &[Column], pred: &Pred, out: &mut Octets) -> Result<(), NoMemory>
+    ensures ok { OnOk result (out.new ≡ out.old ++ pred_text columns.now pred.now) }
+{
+    match column_of(columns, pred.column) {
+        Some(column) => {
+            out.extend(column.name.as_slice())?;
+            print_test(column.kind, &pred.test, out)
+        }
+        None => Ok(()),
+    }
+}
+
+fn print_at(at: At, out: &mut Octets) -> Result<(), NoMemory>
+    ensures ok { OnOk result (out.new ≡ out.old ++ at_text at) }
+{
+    match at {
+        At::Looked => out.extend(b"now"),
+        At::Given(t) => {
+            out.extend(b"at ")?;
+            print_number(t, out)
+        }
+    }
+}
+
+fn print_select(columns: &[Column], scan: &Scan, out: &mut Octets) -> Result<(), NoMemory>
+    ensures ok { OnOk result (out.new ≡ out.old ++ select_text columns.now scan.now.columns) }
+{
+    match &scan.columns {
+        Some(ids) => {
+            out.extend(b" select ")?;
+            print_names(columns, ids.as_slice(), out)
+        }
+        None => Ok(()),
+    }
+}
+
+fn print_more_preds(columns: &[Column], preds: &[Pred], out: &mut Octets) -> Result<(), NoMemory>
+    ensures ok { OnOk result (out.new ≡ out.old ++ flat_map (λ t. codes " and " ++ t) (map (pred_text columns.now) preds.now)) }
+{
+    for pred in preds {
+        out.extend(b" and ")?;
+        print_pred(columns, pred, out)?;
+    }
+    Ok(())
+}
+
+fn print_where(columns: &[Column], preds: &[Pred], out: &mut Octets) -> Result<(), NoMemory>
+    ensures ok { OnOk result (out.new ≡ out.old ++ where_text columns.now preds.now) }
+{
+    match preds.split_first() {
+        Some((first, others)) => {
+            out.extend(b" where ")?;
+            print_pred(columns, first, out)?;
+            print_more_preds(columns, others, out)
+        }
+        None => Ok(()),
+    }
+}
+
+fn print_scan(columns: &[Column], scan: &Scan, out: &mut Octets) -> Result<(), NoMemory>
+    ensures ok { OnOk result (out.new ≡ out.old ++ scan_text columns.now scan.now) }
+{
+    out.extend(b"scan ")?;
+    print_at(scan.at, out)?;
+    print_select(columns, scan, out)?;
+    print_where(columns, scan.preds.as_slice(), out)
+}
+
+fn print_chore(chore: Chore, out: &mut Octets) -> Result<(), NoMemory>
+    ensures ok { OnOk result (out.new ≡ out.old ++ chore_word chore) }
+{
+    match chore {
+        Chore::Flush => out.extend(b"flush"),
+        Chore::FlushDeltas => out.extend(b"flush-deltas"),
+        Chore::Minor => out.extend(b"minor"),
+        Chore::Major => out.extend(b"major"),
+        Chore::Compact => out.extend(b"compact"),
+    }
+}
+
+fn print_mark(t: u64, out: &mut Octets) -> Result<(), NoMemory>
+    ensures ok { OnOk result (out.new ≡ out.old ++ codes "mark " ++ decimal t) }
+{
+    out.extend(b"mark ")?;
+    print_number(t, out)
+}
+
+fn print_command(
+    alloc: Global,
+    schema: &Schema,
+    command: &Command,
+    out: &mut Octets,
+) -> Result<(), NoMemory>
+    requires { HasKeys schema.now command.now }
+    ensures ok { OnOk result (out.new ≡ out.old ++ command_text schema.now command.now) }
+{
+    match command {
+        Command::Write(write) => print_write(alloc, schema, write.ops.as_slice(), out),
+        Command::Scan(scan) => print_scan(schema.columns(), scan, out),
+        Command::Mark(t) => print_mark(*t, out),
+        Command::Chore(chore) => print_chore(*chore, out),
+    }
+}
+
+fn print_commands(
+    alloc: Global,
+    schema: &Schema,
+    commands: &[Command],
+    out: &mut Octets,
+) -> Result<(), NoMemory>
+    requires { All (HasKeys schema.now) commands.now }
+    ensures ok { OnOk result (out.new ≡ out.old ++ session_lines schema.now commands.now) }
+{
+    out.extend(b"session\n")?;
+    for command in commands {
+        print_command(alloc, schema, command, out)?;
+        out.push(b'\n')?;
+    }
+    Ok(())
+}
+
+fn print_plan(alloc: Global, schema: &Schema, plan: &Plan, out: &mut Octets) -> Result<(), NoMemory>
+    requires { All (All (HasKeys schema.now)) plan.now }
+    ensures ok { OnOk result (out.new ≡ out.old ++ flat_map (session_lines schema.now) plan.now) }
+{
+    for session in plan.as_slice() {
+        print_commands(alloc, schema, session.as_slice(), out)?;
+    }
+    Ok(())
+}
+
+/// The text of a script.
+pub fn print_script(alloc: Global, script: &Script) -> Result<Octets, NoMemory>
+    requires { PlanFits script.now.schema script.now.plan }
+    ensures { IfOk result (λ text. text ≡ script_text (record { columns = script.now.schema; plan = script.now.plan })) }
+{
+    let mut text = Octets::new(alloc);
+    text.extend(b"table\n")?;
+    print_columns(script.schema.columns(), &mut text)?;
+    print_plan(alloc, &script.schema, &script.plan, &mut text)?;
+    Ok(text)
+}
+
+/// The text of a script is read as that script.
+pub fn reading_law()
+    ensures { prints_are_read }
+{}

@@ -1,0 +1,270 @@
+//! Write lines.
+
+ghost use Rattle.std.specs.Prelude.{◌≡◌, ◌<◌, ◌≤◌, ◌+◌, ◌++◌, ◌∷◌, [], min, map, length, nat_lt, IfOk, OnOk};
+ghost use Rattle.std.specs.List.{list_any};
+ghost use Rattle.kt_base.specs.Literals.{same};
+ghost use Rattle.kt_history.specs.declared.operation.OpKind.TheVariants as op;
+ghost use Rattle.kt_history.specs.declared.operation.RowOp.{RowOp};
+ghost use Rattle.kt_script.specs.Pieces.{words_in};
+ghost use Rattle.kt_script.specs.Reasons.{reason_if};
+ghost use Rattle.kt_script.specs.Writes.{insert_no, upsert_no, update_no, delete_no, op_kind, op_no, op_of, op_said, ops_of, ops_no, many_no, twice, op_in, later_in, ops_in, ReadsWrite};
+
+use crate::columns::{LineNo, SOUND};
+use crate::least::Least;
+use crate::named::{TakenNames, left_out_no, take_names};
+use crate::operations::{
+    TakenKey, TakenOthers, behind_op, left_no, next_op_word, take_key, take_others,
+};
+use kt_base::limits::OPERATIONS;
+use kt_base::{Cells, NoMemory, Octets};
+use kt_history::{OpKind, OpList, RowOp, Write};
+use kt_schema::Schema;
+use std::alloc::Global;
+
+// An operation, and what is left behind its `;`, if it has one. It counts only where no reason up to 17 holds.
+#[derive(Debug, Drop)]
+struct TakenOp<'a> {
+    op: RowOp,
+    rest: Option<Option<&'a [u8]>>,
+}
+
+fn op_kind(word: &[u8]) -> Option<OpKind>
+    ensures { result ≡ op_kind word.now }
+{
+    if word == b"insert".as_slice() {
+        Some(OpKind::Insert)
+    } else if word == b"upsert".as_slice() {
+        Some(OpKind::Upsert)
+    } else if word == b"update".as_slice() {
+        Some(OpKind::Update)
+    } else if word == b"delete".as_slice() {
+        Some(OpKind::Delete)
+    } else {
+        None
+    }
+}
+
+fn read_insert<'a>(
+    alloc: Global,
+    schema: &Schema,
+    rest: Option<&'a [u8]>,
+    no: &mut Least,
+) -> Result<TakenOp<'a>, NoMemory>
+    ensures op { IfOk result (λ taken. 17 < no.new → taken.op ≡ op_said schema.now op.Insert (op_in rest.entry)) }
+    ensures later { IfOk result (λ taken. ops_in taken.rest ≡ later_in rest.entry) }
+    ensures least { OnOk result (no.new ≡ min no.old (insert_no schema.now (op_in rest.entry))) }
+{
+    let TakenKey { key, rest } = take_key(alloc, schema, rest, no)?;
+    let TakenOthers { cells, rest } = take_others(alloc, schema.other_columns(), rest, no)?;
+    no.note(left_no(rest));
+    let op = RowOp {
+        kind: OpKind::Insert,
+        key,
+        cells: Cells::of(cells),
+    };
+    Ok(TakenOp {
+        op,
+        rest: behind_op(rest),
+    })
+}
+
+fn read_upsert<'a>(
+    alloc: Global,
+    schema: &Schema,
+    rest: Option<&'a [u8]>,
+    no: &mut Least,
+) -> Result<TakenOp<'a>, NoMemory>
+    ensures op { IfOk result (λ taken. 17 < no.new → taken.op ≡ op_said schema.now op.Upsert (op_in rest.entry)) }
+    ensures later { IfOk result (λ taken. ops_in taken.rest ≡ later_in rest.entry) }
+    ensures least { OnOk result (no.new ≡ min no.old (upsert_no schema.now (op_in rest.entry))) }
+{
+    let others = schema.other_columns();
+    let TakenKey { key, rest } = take_key(alloc, schema, rest, no)?;
+    let TakenNames { names, cells, rest } = take_names(alloc, others, rest, no)?;
+    if no.reason() > 13 {
+        no.note(left_out_no(others, &names));
+    }
+    let op = RowOp {
+        kind: OpKind::Upsert,
+        key,
+        cells: Cells::of(cells),
+    };
+    Ok(TakenOp {
+        op,
+        rest: behind_op(rest),
+    })
+}
+
+fn read_update<'a>(
+    alloc: Global,
+    schema: &Schema,
+    rest: Option<&'a [u8]>,
+    no: &mut Least,
+) -> Result<TakenOp<'a>, NoMemory>
+    ensures op { IfOk result (λ taken. 17 < no.new → taken.op ≡ op_said schema.now op.Update (op_in rest.entry)) }
+    ensures later { IfOk result (λ taken. ops_in taken.rest ≡ later_in rest.entry) }
+    ensures least { OnOk result (no.new ≡ min no.old (update_no schema.now (op_in rest.entry))) }
+{
+    let TakenKey { key, rest } = take_key(alloc, schema, rest, no)?;
+    no.note(if next_op_word(rest).is_none() {
+        12
+    } else {
+        SOUND
+    });
+    let TakenNames { cells, rest, .. } = take_names(alloc, schema.other_columns(), rest, no)?;
+    let op = RowOp {
+        kind: OpKind::Update,
+        key,
+        cells: Cells::of(cells),
+    };
+    Ok(TakenOp {
+        op,
+        rest: behind_op(rest),
+    })
+}
+
+fn read_delete<'a>(
+    alloc: Global,
+    schema: &Schema,
+    rest: Option<&'a [u8]>,
+    no: &mut Least,
+) -> Result<TakenOp<'a>, NoMemory>
+    ensures op { IfOk result (λ taken. 17 < no.new → taken.op ≡ op_said schema.now op.Delete (op_in rest.entry)) }
+    ensures later { IfOk result (λ taken. ops_in taken.rest ≡ later_in rest.entry) }
+    ensures least { OnOk result (no.new ≡ min no.old (delete_no schema.now (op_in rest.entry))) }
+{
+    let TakenKey { key, rest } = take_key(alloc, schema, rest, no)?;
+    no.note(left_no(rest));
+    let op = RowOp {
+        kind: OpKind::Delete,
+        key,
+        cells: Cells::of(Vec::new(alloc)),
+    };
+    Ok(TakenOp {
+        op,
+        rest: behind_op(rest),
+    })
+}
+
+// What stands for an operation of no known kind.
+fn no_op(alloc: Global, rest: Option<&[u8]>) -> TakenOp<'_>
+    ensures { ops_in result.rest ≡ later_in rest.entry }
+{
+    let op = RowOp {
+        kind: OpKind::Delete,
+        key: Octets::new(alloc),
+        cells: Cells::of(Vec::new(alloc)),
+    };
+    TakenOp {
+        op,
+        rest: behind_op(rest),
+    }
+}
+
+fn read_op<'a>(
+    alloc: Global,
+    schema: &Schema,
+    rest: Option<&'a [u8]>,
+    no: &mut Least,
+) -> Result<TakenOp<'a>, NoMemory>
+    ensures op { IfOk result (λ taken. 17 < no.new → taken.op ≡ op_of schema.now (op_in rest.entry)) }
+    ensures later { IfOk result (λ taken. ops_in taken.rest ≡ later_in rest.entry) }
+    ensures least { OnOk result (no.new ≡ min no.old (op_no schema.now (op_in rest.entry))) }
+{
+    let Some((word, behind)) = next_op_word(rest) else {
+        no.note(12);
+        return Ok(no_op(alloc, rest));
+    };
+    match op_kind(word) {
+        Some(OpKind::Insert) => read_insert(alloc, schema, behind, no),
+        Some(OpKind::Upsert) => read_upsert(alloc, schema, behind, no),
+        Some(OpKind::Update) => read_update(alloc, schema, behind, no),
+        Some(OpKind::Delete) => read_delete(alloc, schema, behind, no),
+        None => {
+            no.note(12);
+            Ok(no_op(alloc, behind))
+        }
+    }
+}
+
+// Keeps an operation, if there is room for it.
+fn keep_op(ops: &mut Vec<RowOp>, op: RowOp, no: &mut Least) -> Result<(), NoMemory>
+    requires { length ops.old.items ≤ 64 }
+    ensures least { OnOk result (no.new ≡ min no.old (reason_if (nat_lt 63 (length ops.old.items)) 18)) }
+    ensures kept { OnOk result (18 < no.new → ops.new.items ≡ ops.old.items ++ op ∷ []) }
+    ensures room { OnOk result (length ops.new.items ≡ min 64 (length ops.old.items + 1)) }
+{
+    if ops.len() >= OPERATIONS {
+        no.note(18);
+    } else {
+        no.note(SOUND);
+        ops.push(op)?;
+    }
+    Ok(())
+}
+
+// The operations of a line. They count only where no reason up to 18 holds.
+fn read_ops(
+    alloc: Global,
+    schema: &Schema,
+    line: Option<&[u8]>,
+    no: &mut Least,
+) -> Result<Vec<RowOp>, NoMemory>
+    ensures ops { IfOk result (λ ops. 18 < no.new → ops.items ≡ map (op_of schema.now) (ops_of (words_in line.entry))) }
+    ensures least { OnOk result (no.new ≡ min no.old (min (ops_no schema.now (ops_of (words_in line.entry))) (many_no 0 (ops_of (words_in line.entry))))) }
+{
+    let mut ops = Vec::new(alloc);
+    let mut left = Some(line);
+    'ops: while let Some(rest) = left {
+        let taken = read_op(alloc, schema, rest, no)?;
+        keep_op(&mut ops, taken.op, no)?;
+        left = taken.rest;
+    }
+    no.note(SOUND);
+    Ok(ops)
+}
+
+fn has_key(ops: &[RowOp], key: &[u8]) -> bool
+    ensures { result ≡ list_any (λ (o : RowOp). same key.now o.key) ops.now }
+{
+    ops.iter().any(|op| key == op.key.as_slice())
+}
+
+// Whether two operations have one key.
+fn is_twice(ops: &[RowOp]) -> bool
+    ensures { result ≡ twice (map (λ (o : RowOp). o.key) ops.now) }
+{
+    let mut left = ops;
+    'ops: while let Some((op, behind)) = left.split_first() {
+        if has_key(behind, op.key.as_slice()) {
+            return true;
+        }
+        left = behind;
+    }
+    false
+}
+
+fn twice_no(ops: &[RowOp]) -> u8
+    ensures { result ≡ reason_if (twice (map (λ (o : RowOp). o.key) ops.now)) 19 }
+{
+    if is_twice(ops) { 19 } else { SOUND }
+}
+
+/// The write of a line, from its first word on.
+pub fn read_write(alloc: Global, schema: &Schema, line: Option<&[u8]>) -> Result<Write, LineNo>
+    ensures { ReadsWrite schema.now (words_in line.entry) result }
+{
+    let mut no = Least::none();
+    let Ok(ops) = read_ops(alloc, schema, line, &mut no) else {
+        return Err(LineNo::Memory);
+    };
+    if no.reason() > 18 {
+        no.note(twice_no(&ops));
+    }
+    if no.reason() < SOUND {
+        return Err(LineNo::Reason(no.reason()));
+    }
+    Ok(Write {
+        ops: OpList::of(ops),
+    })
+}
