@@ -1,5 +1,0 @@
-use Rattle.std.proofs.Common.{◌≡◌, take, map}
-use Rattle.kt_engine.proofs.tablet.write.keys_of.Given as goal
-
-abbrev pub invariant-loop-op : goal.invariant-loop-op
-invariant-loop-op l = l.keys.items ≡ map (λ op. op.key) (take l.op-index l.ops)

@@ -1,0 +1,189 @@
+-- A write begins, as the goals of begin_now say it.
+use Rattle.std.proofs.Common.{◌≡◌, ℕ, ◌+◌, ◌<◌, ◌≤◌, List, [], ◌∷◌, ◌++◌, Some, None, Option, refl, true, false, Bool, ◌||◌, cond, sym, ap, ◌∙◌, subst, arith, map, length, min}
+use Rattle.std.specs.Prelude.{◌==◌, Result, Ok, Err, IfErr, OnErr}
+use Rattle.std.specs.List.{filter, list_any}
+use Rattle.std.specs.Ordering.{eq_by_cmp}
+use Rattle.std.proofs.lemmas.List.{map-append}
+use Rattle.kt_base.specs.Causes.{Grows}
+use Rattle.kt_history.specs.declared.command.Command.{Command}
+use Rattle.kt_history.specs.declared.command.Command.TheVariants as command
+use Rattle.kt_history.specs.declared.event.Event.{Event}
+use Rattle.kt_history.specs.declared.event.Event.TheVariants.{Begin}
+use Rattle.kt_history.specs.declared.operation.RowOp.{RowOp}
+use Rattle.kt_history.specs.Operations.{need, share_key}
+use Rattle.kt_history.specs.Rows.{Row, key_cmp}
+use Rattle.kt_history.specs.Machine.{Flying, next_timestamp, IfWrite, ops_of, command_at, least}
+use Rattle.kt_mvcc.specs.declared.flier.Flier.{Flier}
+use Rattle.kt_mvcc.specs.Keys.{same_key}
+use Rattle.kt_mvcc.specs.Flying.{least_of, holds_one, holder, flies}
+use Rattle.kt_pool.specs.Contents.{Contents, with_reserved}
+use Rattle.kt_histlaws.specs.Pending.{Aloft}
+use Rattle.kt_histlaws.specs.Histories.{Store}
+use Rattle.kt_histlaws.specs.Flights.{AllOps}
+use Rattle.kt_tablet.specs.Filling.{IsWhole}
+use Rattle.kt_histlaws.specs.Core.{Core, Stands, flown_by}
+use Rattle.kt_histlaws.specs.Events.{begun}
+use Rattle.kt_histlaws.proofs.Events.{begin_stands}
+use Rattle.kt_tablet.specs.declared.tablet.FlyingWrite.{FlyingWrite}
+use Rattle.kt_tablet.specs.Views.{View, IsSound, IsReady, IsPlaced, IsProvided, AreProvided, held_cells, aloft_of, flier_of}
+use Rattle.kt_tablet.specs.Visits.{MayBegin, MayBeginNow, HasBegun, IsLarge, IsRefused, Leaves}
+use Rattle.kt_tablet.specs.declared.tablet.write.BeginNo.{BeginNo}
+use Rattle.kt_tablet.specs.declared.tablet.write.BeginNo.TheVariants as no
+use Rattle.kt_tablet.proofs.Visits.{told_line}
+
+-- the clock of writes finds the same writes in the way
+any_held : (key : List ℕ) (ops : List RowOp) → list_any (λ held. same_key key held) (map (λ op. op.key) ops) ≡ list_any (λ other. eq_by_cmp key_cmp key other.key) ops
+any_held key [] = refl
+any_held key (op ∷ ops) = ap (λ b. same_key key op.key || b) (any_held key ops)
+
+shares : (ops others : List RowOp) → list_any (λ key. list_any (λ held. same_key key held) (map (λ op. op.key) others)) (map (λ op. op.key) ops) ≡ share_key ops others
+shares [] others = refl
+shares (op ∷ ops) others = λ k. any_held op.key others k || shares ops others k
+
+pub holder_is : (ops : List RowOp) (flights : List FlyingWrite) → holder (map (λ op. op.key) ops) (map flier_of flights) ≡ least (filter (λ w. share_key ops w.ops) (map flown_by (map aloft_of flights)))
+holder_is ops [] = refl
+holder_is ops (w ∷ flights) =
+    ap (λ b. least_of (cond b (flier_of w ∷ filter (holds_one (map (λ op. op.key) ops)) (map flier_of flights)) (filter (holds_one (map (λ op. op.key) ops)) (map flier_of flights)))) (shares ops w.ops)
+    ∙ (elim (share_key ops w.ops) as (λ b. least_of (cond b (flier_of w ∷ filter (holds_one (map (λ op. op.key) ops)) (map flier_of flights)) (filter (holds_one (map (λ op. op.key) ops)) (map flier_of flights)))
+    ≡ least (cond b (flown_by (aloft_of w) ∷ filter (λ w. share_key ops w.ops) (map flown_by (map aloft_of flights))) (filter (λ w. share_key ops w.ops) (map flown_by (map aloft_of flights))))) [
+      | true ↦ ap (λ o. Some (lesser o w.ts)) (holder_is ops flights)
+      | false ↦ holder_is ops flights
+    ])
+  where
+    lesser : Option ℕ → ℕ → ℕ
+    lesser None n = n
+    lesser (Some m) n = min m n
+
+some_is_none : (n : ℕ) → Some n ≡ None → ⊥
+some_is_none n e = cc
+
+none_shares : (p : Flying → Bool) (flying : List Flying) → least (filter p flying) ≡ None → list_any p flying ≡ false
+none_shares p [] none = refl
+none_shares p (w ∷ flying) none = elim (p w) as (λ b. least (cond b (w ∷ filter p flying) (filter p flying)) ≡ None → (b || list_any p flying) ≡ false) [
+  | true ↦ λ h. absurd (some_is_none _ h)
+  | false ↦ λ h. none_shares p flying h
+] none
+
+-- what the keys of a write meet
+pub in_the_way : (ops : List RowOp) (keys : List (List ℕ)) (flights : List FlyingWrite) (flying : List Flier) (found : Option ℕ) → keys ≡ map (λ op. op.key) ops → flying ≡ map flier_of flights → found ≡ holder keys flying
+    → least (filter (λ w. share_key ops w.ops) (map flown_by (map aloft_of flights))) ≡ found
+in_the_way ops keys flights flying found written held is = sym (is ∙ (λ k. holder (written k) (held k)) ∙ holder_is ops flights)
+
+pub apart : (ops : List RowOp) (flights : List FlyingWrite) → least (filter (λ w. share_key ops w.ops) (map flown_by (map aloft_of flights))) ≡ None → list_any (λ w. share_key ops w.ops) (map flown_by (map aloft_of flights)) ≡ false
+apart ops flights none = none_shares (λ w. share_key ops w.ops) (map flown_by (map aloft_of flights)) none
+
+rests_too : (s : ℕ) (flights : List FlyingWrite) → list_any (λ w. w.s == s) (map flown_by (map aloft_of flights)) ≡ list_any (λ f. f.who == s) (map flier_of flights)
+rests_too s [] = refl
+rests_too s (w ∷ flights) = ap (λ b. (w.who == s) || b) (rests_too s flights)
+
+pub rests : (s : ℕ) (flights : List FlyingWrite) (flying : List Flier) → flying ≡ map flier_of flights → list_any (λ w. w.s == s) (map flown_by (map aloft_of flights)) ≡ false → flies s flying ≡ false
+rests s flights flying held none = ap (flies s) held ∙ sym (rests_too s flights) ∙ none
+
+-- a write that stands in the plan
+if_write : (o : Option Command) (ops : List RowOp) (P : List RowOp → Type 0) → IfWrite o (λ w. w ≡ ops) → P ops → IfWrite o P
+if_write (Some (command.Write w)) ops P h p = subst P (sym h) p
+if_write (Some (command.Scan scan)) ops P h p = h
+if_write (Some (command.Mark t)) ops P h p = h
+if_write (Some (command.Chore chore)) ops P h p = h
+if_write None ops P h p = h
+
+the_ops : (o : Option Command) (ops : List RowOp) → IfWrite o (λ w. w ≡ ops) → ops_of o ≡ ops
+the_ops (Some (command.Write w)) ops h = h
+the_ops (Some (command.Scan scan)) ops h = absurd h
+the_ops (Some (command.Mark t)) ops h = absurd h
+the_ops (Some (command.Chore chore)) ops h = absurd h
+the_ops None ops h = absurd h
+
+pub may_begin : {C : Type 0} (view old : View C) (s i : ℕ) (ops : List RowOp) (needs : ℕ) → view ≡ old → MayBeginNow old.core s i ops needs → MayBeginNow view.core s i ops needs
+may_begin view old s i ops needs e h = subst (λ v. MayBeginNow v.core s i ops needs) (sym e) h
+
+pub one_flight : (new mid old : List FlyingWrite) (f : FlyingWrite) → new ≡ mid ++ f ∷ [] → mid ≡ old → map aloft_of new ≡ map aloft_of old ++ aloft_of f ∷ []
+one_flight new mid old f h k = ap (map aloft_of) (h ∙ ap (λ l. l ++ f ∷ []) k) ∙ map-append aloft_of old (f ∷ [])
+
+new_begun : (core : Core) (s i ts m : ℕ) (ops : List RowOp) (trail : List Event) (a c : ℕ) (aloft : List Aloft) (stores : List Store) → stores ≡ core.stores → trail ≡ core.trail ++ Begin s i ts m ∷ [] → a ≡ core.a → c ≡ ts → aloft ≡ core.aloft ++ record { s = s; i = i; ts = ts; ops = ops; applied = 0 } ∷ []
+    → record core { trail = trail; a = a; c = c; aloft = aloft; stores = stores } ≡ begun core s i ts m ops
+new_begun core s i ts m ops trail a c aloft stores kept lines stays last fly = λ k. record core { trail = lines k; a = stays k; c = last k; aloft = fly k; stores = kept k }
+
+pub begin_sound : {C : Type 0} (readings : C → Option (List ℕ)) (view : View C) (clock : C) (s i ts m : ℕ) (ops : List RowOp) (needs : ℕ) (trail : List Event) (a c : ℕ) (aloft : List Aloft) (stores : List Store) (pool : Contents)
+    → IsSound readings view → stores ≡ view.core.stores → MayBeginNow view.core s i ops needs → ts ≡ next_timestamp view.core.c m → list_any (λ w. share_key ops w.ops) (map flown_by view.core.aloft) ≡ false → Grows (readings view.clock) (readings clock) (m ∷ [])
+    → trail ≡ view.core.trail ++ Begin s i ts m ∷ [] → a ≡ view.core.a → c ≡ ts → aloft ≡ view.core.aloft ++ record { s = s; i = i; ts = ts; ops = ops; applied = 0 } ∷ []
+    → IsSound readings (record view { core = record view.core { trail = trail; a = a; c = c; aloft = aloft; stores = stores }; clock = clock; pool = pool })
+begin_sound readings view clock s i ts m ops needs trail a c aloft stores pool sound kept may time free more lines stays last fly = record {
+  stands = λ first told. subst Stands (sym (new_begun (record view.core { first = first }) s i ts m ops trail a c aloft stores kept lines stays last fly))
+      (subst (λ os. Stands (begun (record view.core { first = first }) s i ts m os)) (the_ops (command_at view.core.work s i) ops may.may.write)
+      (begin_stands (record view.core { first = first }) s i ts m (sound.stands first told) (
+        may.goes,
+        record { next = may.may.at.next; rests = may.may.at.rests },
+        if_write (command_at view.core.work s i) ops _ may.may.write (record { room = subst (λ n. n ≤ view.core.work.cells) may.may.cells may.fits; apart = free; next = time }),
+      )));
+  clock = told_line readings view.opened view.clock clock view.core.trail trail (Begin s i ts m) sound.clock more lines;
+}
+
+pub has_begun : {C : Type 0} (view old : View C) (s i ts m : ℕ) (ops : List RowOp) (trail : List Event) (a c : ℕ) (aloft : List Aloft) (stores : List Store) → view ≡ old → stores ≡ view.core.stores → ts ≡ next_timestamp view.core.c m
+    → trail ≡ view.core.trail ++ Begin s i ts m ∷ [] → a ≡ view.core.a → c ≡ ts → aloft ≡ view.core.aloft ++ record { s = s; i = i; ts = ts; ops = ops; applied = 0 } ∷ []
+    → HasBegun old.core (record view.core { trail = trail; a = a; c = c; aloft = aloft; stores = stores }) s i ops ts
+has_begun view old s i ts m ops trail a c aloft stores e kept time lines stays last fly =
+    subst (λ v. HasBegun v.core (record view.core { trail = trail; a = a; c = c; aloft = aloft; stores = stores }) s i ops ts) e (record { m = m; time = time; core = new_begun view.core s i ts m ops trail a c aloft stores kept lines stays last fly })
+
+-- what is promised to the write
+held-append : (flights : List FlyingWrite) (w : FlyingWrite) → held_cells (flights ++ w ∷ []) ≡ held_cells flights + w.left
+held-append [] w = omega arith
+held-append (v ∷ flights) w = let e = held-append flights w in omega (arith, e)
+
+provided-append : (fill : Row) (flights : List FlyingWrite) (w : FlyingWrite) → AreProvided fill flights → IsProvided fill w → AreProvided fill (flights ++ w ∷ [])
+provided-append fill [] w all one = (one, tt)
+provided-append fill (v ∷ flights) w all one = (all.0, provided-append fill flights w all.1 one)
+
+length-more : (flights : List FlyingWrite) (w : FlyingWrite) → length (flights ++ w ∷ []) ≡ length flights + 1
+length-more [] w = omega arith
+length-more (v ∷ flights) w = let e = length-more flights w in omega (arith, e)
+
+nothing_needs : (ops : List RowOp) → ops ≡ [] → need ops ≡ 0
+nothing_needs ops e = ap need e
+
+pub ready_begun : (s i ts : ℕ) (ops : List RowOp) (needs : ℕ) (fill : Row) (stopped : Bool) (flights new mid : List FlyingWrite) (flying more_flying : List Flier) (lines room more most : ℕ) (pool after : Contents)
+    → IsReady fill stopped flights flying lines room pool → needs ≡ need ops → AllOps (λ op. IsWhole fill op.kind op.cells) ops
+    → new ≡ mid ++ record { who = s; index = i; ts = ts; ops = ops; applied = 0; left = needs } ∷ [] → mid ≡ flights
+    → more_flying ≡ flying ++ record { who = s; ts = ts; keys = map (λ op. op.key) ops } ∷ [] → after ≡ with_reserved pool (pool.reserved + needs)
+    → more + length flights + 2 ≤ most → IsReady fill stopped new more_flying more most after
+ready_begun s i ts ops needs fill stopped flights new mid flying more_flying lines room more most pool after ready cells whole pushed same held promised fits =
+    subst (λ fs. IsReady fill stopped fs more_flying more most after) (sym (pushed ∙ ap (λ l. l ++ record { who = s; index = i; ts = ts; ops = ops; applied = 0; left = needs } ∷ []) same)) (record {
+      held = held ∙ ap (λ l. l ++ record { who = s; ts = ts; keys = map (λ op. op.key) ops } ∷ []) ready.held ∙ sym (map-append flier_of flights (record { who = s; index = i; ts = ts; ops = ops; applied = 0; left = needs } ∷ []));
+      cells = held-append flights (record { who = s; index = i; ts = ts; ops = ops; applied = 0; left = needs }) ∙ ap (λ n. n + needs) ready.cells ∙ ap (λ p. p.reserved) (sym promised);
+      provided = provided-append fill flights (record { who = s; index = i; ts = ts; ops = ops; applied = 0; left = needs }) ready.provided (record {
+        enough = omega (arith, cells);
+        over = λ none. cells ∙ nothing_needs ops none;
+        whole = whole;
+      });
+      end = λ goes. let one = length-more flights (record { who = s; index = i; ts = ts; ops = ops; applied = 0; left = needs }) in omega (arith, one, fits);
+    })
+
+-- a promise changes nothing of the store
+pub promised_alike : {X : Type 0} (stands : X → Contents → Type 0) (store : X → Contents → Store) (s : X) (pool new : Contents) (n : ℕ) → IsPlaced stands store s pool → new ≡ with_reserved pool n → store s new ≡ store s pool
+promised_alike stands store s pool new n is e = ap (store s) e ∙ (is.looks s pool n is.here).1
+
+pub promised_placed : {X : Type 0} (stands : X → Contents → Type 0) (store : X → Contents → Store) (s : X) (pool new : Contents) (n : ℕ) → IsPlaced stands store s pool → new ≡ with_reserved pool n → IsPlaced stands store s new
+promised_placed stands store s pool new n is e = subst (IsPlaced stands store s) (sym e) (record { here = (is.looks s pool n is.here).0; looks = is.looks })
+
+pub way_old : {C : Type 0} (view old : View C) (ops : List RowOp) (found : Option ℕ) → view ≡ old → least (filter (λ w. share_key ops w.ops) (map flown_by view.core.aloft)) ≡ found → least (filter (λ w. share_key ops w.ops) (map flown_by old.core.aloft)) ≡ found
+way_old view old ops found e h = subst (λ v. least (filter (λ w. share_key ops w.ops) (map flown_by v.core.aloft)) ≡ found) e h
+
+-- what the pool has room for at all, and what it has not
+pub fits_pool : (core : Core) (s i : ℕ) (ops : List RowOp) (needs : ℕ) → (core.stopped ≡ false → MayBegin core s i ops needs) → core.stopped ≡ false → needs ≤ core.work.cells → MayBeginNow core s i ops needs
+fits_pool core s i ops needs may goes fits = record { may = may goes; goes = goes; fits = fits }
+
+pub not_in_pool : (core : Core) (s i : ℕ) (ops : List RowOp) (needs : ℕ) → (core.stopped ≡ false → MayBegin core s i ops needs) → core.stopped ≡ false → core.work.cells < needs → IsLarge core s i needs
+not_in_pool core s i ops needs may goes large = record {
+  at = (may goes).at;
+  goes = goes;
+  write = if_write (command_at core.work s i) ops (λ os. (needs ≡ need os) × (core.work.cells < needs)) (may goes).write ((may goes).cells, large);
+  few = (may goes).few;
+}
+
+pub kept_back : {C : Type 0} (r : Result ℕ BeginNo) (old new : View C) (s i : ℕ) (ops : List RowOp) (needs : ℕ) → IfErr r (IsRefused old ops needs) → OnErr r (new ≡ old) → needs ≤ old.core.work.cells → IfErr r (Leaves old new s i)
+kept_back (Ok ts) old new s i ops needs refused same fits = tt
+kept_back (Err no.Stopped) old new s i ops needs refused same fits = same
+kept_back (Err (no.Large n)) old new s i ops needs refused same fits = absurd (omega (arith, refused.1, fits))
+kept_back (Err (no.Wait ts)) old new s i ops needs refused same fits = same
+kept_back (Err (no.Room n left)) old new s i ops needs refused same fits = same
+kept_back (Err no.Memory) old new s i ops needs refused same fits = same

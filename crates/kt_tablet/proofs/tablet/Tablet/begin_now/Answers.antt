@@ -1,0 +1,53 @@
+use Rattle.std.proofs.Common.{◌≡◌, ◌≤◌, ◌+◌, ◌++◌, ◌∷◌, [], length, Some, None, ◌∙◌, ap, sym, rules}
+use Rattle.std.specs.Vec.{vec_len, vec_capacity}
+use Rattle.kt_history.specs.Machine.{next_timestamp}
+use Rattle.kt_pool.specs.Contents.{with_reserved}
+use Rattle.kt_tablet.specs.Filling.{filled}
+use Rattle.kt_tablet.proofs.Visits.{one_line}
+use Rattle.kt_tablet.proofs.Begins.{may_begin, in_the_way, apart, rests, one_flight, begin_sound, has_begun, ready_begun, promised_alike, promised_placed, way_old}
+use Rattle.kt_tablet.proofs.tablet.Tablet.begin_now.Goals as goal
+
+pub returns-in-Err-clause-refused : goal.returns-in-Err-clause-refused
+returns-in-Err-clause-refused g c =
+    way_old _ _ c.args.ops _ c.self.view_is
+    (in_the_way c.args.ops c.in-Ok.keys c.self.inside.flights.items c.self.inside.flight.flying (Some c.in-Err.ts) c.in-Ok.ensures c.self.invariant.1.held c.in-Err.ensures)
+
+pub begin-requires-clause-rests : goal.begin-requires-clause-rests
+begin-requires-clause-rests g c =
+    let may = may_begin _ _ c.args.number c.args.index c.args.ops c.args.needs c.self.view_is c.requires in
+    rests c.args.number c.self.inside.flights.items c.make_room.new.flight.flying (ap (λ f. f.flying) c.make_room.ensures.flight ∙ c.self.invariant.1.held) may.may.at.rests
+
+pub invariant_of-self-2 : goal.invariant_of-self-2
+invariant_of-self-2 g c =
+    let may = may_begin _ _ c.args.number c.args.index c.args.ops c.args.needs c.self.view_is c.requires in
+    let promised : c.reserve.new.self ≡ with_reserved c.self.inside.pool (c.self.inside.pool.reserved + c.args.needs) = search rules in
+    let room : vec_len c.push_reserved.new.self + length c.self.inside.flights.items + 2 ≤ vec_capacity c.push_reserved.new.self = search rules in (
+      begin_sound g.C.Clock.readings _ c.now-reading.new.self c.args.number c.args.index c.in-Ok-begin.ts c.now-reading.result c.args.ops c.args.needs _ _ _ _ _ _
+          c.self.invariant.0
+          (ap (λ s. filled c.self.inside.fill s ∷ []) (promised_alike g.S.RowStore.stands g.S.RowStore.store c.self.inside.store c.self.inside.pool c.reserve.new.self (c.self.inside.pool.reserved + c.args.needs) c.self.invariant.2 promised))
+          may
+          (c.in-Ok-begin.ensures.ts.0 ∙ ap (λ f. next_timestamp f.c c.now-reading.result) c.make_room.ensures.flight)
+          (apart c.args.ops c.self.inside.flights.items
+          (in_the_way c.args.ops c.in-Ok.keys c.self.inside.flights.items c.make_room.new.flight.flying None c.in-Ok.ensures (ap (λ f. f.flying) c.make_room.ensures.flight ∙ c.self.invariant.1.held) (sym c.in-Ok-begin.ensures.free)))
+          c.now-reading.ensures
+          (one_line _ _ _ _ c.push_reserved.ensures.items c.make_room.ensures.lines)
+          (c.in-Ok-begin.ensures.mark ∙ ap (λ f. f.a) c.make_room.ensures.flight)
+          c.in-Ok-begin.ensures.ts.1
+          (one_flight _ _ _ _ c.push_reserved-2.ensures.items c.make_room.ensures.flights),
+      ready_begun c.args.number c.args.index c.in-Ok-begin.ts c.args.ops c.args.needs _ _ _ _ _ _ _ _ _ _ _ _ _
+          c.self.invariant.1 may.may.cells may.may.whole c.push_reserved-2.ensures.items c.make_room.ensures.flights
+          (c.in-Ok-begin.ensures.flying ∙ (λ k. (c.make_room.ensures.flight k).flying ++ record { who = c.args.number; ts = c.in-Ok-begin.ts; keys = c.in-Ok.ensures k } ∷ []))
+          promised room,
+      promised_placed g.S.RowStore.stands g.S.RowStore.store c.self.inside.store c.self.inside.pool c.reserve.new.self (c.self.inside.pool.reserved + c.args.needs) c.self.invariant.2 promised,
+    )
+
+pub returns-clause-begun : goal.returns-clause-begun
+returns-clause-begun g c =
+    let promised : c.reserve.new.self ≡ with_reserved c.self.inside.pool (c.self.inside.pool.reserved + c.args.needs) = search rules in
+    has_begun _ _ c.args.number c.args.index c.in-Ok-begin.ts c.now-reading.result c.args.ops _ _ _ _ _ c.self.view_is
+    (ap (λ s. filled c.self.inside.fill s ∷ []) (promised_alike g.S.RowStore.stands g.S.RowStore.store c.self.inside.store c.self.inside.pool c.reserve.new.self (c.self.inside.pool.reserved + c.args.needs) c.self.invariant.2 promised))
+    (c.in-Ok-begin.ensures.ts.0 ∙ ap (λ f. next_timestamp f.c c.now-reading.result) c.make_room.ensures.flight)
+    (one_line _ _ _ _ c.push_reserved.ensures.items c.make_room.ensures.lines)
+    (c.in-Ok-begin.ensures.mark ∙ ap (λ f. f.a) c.make_room.ensures.flight)
+    c.in-Ok-begin.ensures.ts.1
+    (one_flight _ _ _ _ c.push_reserved-2.ensures.items c.make_room.ensures.flights)

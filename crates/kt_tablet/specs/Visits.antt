@@ -1,0 +1,100 @@
+-- When an event may come, and what it did.
+use Rattle.std.specs.Prelude.{◌-◌, ◌≡◌, ◌<◌, ◌≤◌, ℕ, ◌^◌, ◌+◌, ◌==◌, ◌&&◌, true, false, List, map, Some, None}
+use Rattle.std.specs.List.{list_any, filter}
+use Rattle.kt_history.specs.declared.operation.RowOp.{RowOp}
+use Rattle.kt_history.specs.Operations.{need, share_key}
+use Rattle.kt_pool.specs.Contents.{free}
+use Rattle.kt_histlaws.specs.Flights.{AllOps}
+use Rattle.kt_tablet.specs.declared.tablet.write.BeginNo.{BeginNo}
+use Rattle.kt_tablet.specs.declared.tablet.write.BeginNo.TheVariants as no
+use Rattle.kt_tablet.specs.Filling.{IsWhole}
+use Rattle.kt_tablet.specs.Views.{View}
+use Rattle.kt_history.specs.declared.scan.At.TheVariants.{Looked}
+use Rattle.kt_history.specs.Machine.{nth, command_at, IfScan, IfMark, IfWrite, IsChore, next_timestamp, least}
+use Rattle.kt_histlaws.specs.Core.{Core, flown_by}
+use Rattle.kt_histlaws.specs.Events.{looked, marked, raised, begun, answered, IsOver}
+use Rattle.kt_history.specs.declared.event.Event.TheVariants as event
+
+-- command i is the next of session s, which has drawn no time and of which no write flies
+pub record IsAt (core : Core) (s i : ℕ) : Type 0 where
+  pub next : nth core.turns s ≡ Some (record { next = i; look = None })
+  pub rests : list_any (λ w. w.s == s) (map flown_by core.aloft) ≡ false
+
+-- a scan of the present may draw its time
+pub record MayLook (core : Core) (s i : ℕ) : Type 0 where
+  pub at : IsAt core s i
+  pub scan : IfScan (command_at core.work s i) (λ w. w ≡ Looked)
+
+-- it has drawn t at the clock's reading m
+pub record HasLooked (old new : Core) (s i t : ℕ) : Type 0 where
+  pub m : ℕ
+  pub time : t ≡ next_timestamp old.c m
+  pub core : new ≡ looked old s i t m
+
+-- a mark may rise
+pub record MayMark (core : Core) (s i to : ℕ) : Type 0 where
+  pub at : IsAt core s i
+  pub command : IfMark (command_at core.work s i) (λ t. t ≡ to)
+  pub few : i + 1 < 2 ^ 32
+
+-- it has risen to a, as far as it may
+pub record HasMarked (old new : Core) (s i to a : ℕ) : Type 0 where
+  pub value : a ≡ raised old to
+  pub core : new ≡ marked old s i a
+
+-- a maintenance command may be answered
+pub record MayAnswerChore (core : Core) (s i : ℕ) : Type 0 where
+  pub at : IsAt core s i
+  pub chore : IsChore (command_at core.work s i)
+  pub few : i + 1 < 2 ^ 32
+
+-- the flying write of a session may end: it flies, and all its rows are applied
+pub record MayEnd (core : Core) (s i ts : ℕ) : Type 0 where
+  pub turn : nth core.turns s ≡ Some (record { next = i; look = None })
+  pub flies : list_any (λ w. (w.s == s) && (w.i == i) && (w.ts == ts)) (map flown_by core.aloft) ≡ true
+  pub over : IsOver s core.aloft
+  pub few : i + 1 < 2 ^ 32
+
+-- this write may begin, unless something stands in its way; it needs so many cells of the pool
+pub record MayBegin (core : Core) (s i : ℕ) (ops : List RowOp) (needs : ℕ) : Type 0 where
+  pub at : IsAt core s i
+  pub write : IfWrite (command_at core.work s i) (λ written. written ≡ ops)
+  pub cells : needs ≡ need ops
+  pub whole : AllOps (λ op. IsWhole core.work.fill op.kind op.cells) ops
+  pub few : i + 1 < 2 ^ 32
+
+-- and it is not too large
+pub record MayBeginNow (core : Core) (s i : ℕ) (ops : List RowOp) (needs : ℕ) : Type 0 where
+  pub may : MayBegin core s i ops needs
+  pub goes : core.stopped ≡ false
+  pub fits : needs ≤ core.work.cells
+
+-- it has begun at ts, at the clock's reading m
+pub record HasBegun (old new : Core) (s i : ℕ) (ops : List RowOp) (ts : ℕ) : Type 0 where
+  pub m : ℕ
+  pub time : ts ≡ next_timestamp old.c m
+  pub core : new ≡ begun old s i ts m ops
+
+-- what stands in a write's way: it needs more cells than there are, it has a key of a flying write, of which this is the least, or
+-- fewer cells are free and not promised. Want of memory alone has no cause
+abbrev pub IsRefused : {C : Type 0} → View C → List RowOp → ℕ → BeginNo → Type 0
+IsRefused view ops needs no.Stopped = view.core.stopped ≡ true
+IsRefused view ops needs (no.Large n) = (n ≡ needs) × (view.core.work.cells < needs)
+IsRefused view ops needs (no.Wait ts) = least (filter (λ w. share_key ops w.ops) (map flown_by view.core.aloft)) ≡ Some ts
+IsRefused view ops needs (no.Room n left) = (n ≡ needs) × (left ≡ free view.pool - view.pool.reserved) × (left < needs)
+IsRefused view ops needs no.Memory = Unit {0}
+
+-- this write needs more cells than there are
+pub record IsLarge (core : Core) (s i needs : ℕ) : Type 0 where
+  pub at : IsAt core s i
+  pub goes : core.stopped ≡ false
+  pub write : IfWrite (command_at core.work s i) (λ ops. (needs ≡ need ops) × (core.work.cells < needs))
+  pub few : i + 1 < 2 ^ 32
+
+-- a write that is too large leaves its line, and every other that does not begin leaves nothing
+abbrev pub Leaves : {C : Type 0} → View C → View C → ℕ → ℕ → BeginNo → Type 0
+Leaves old new s i no.Stopped = new ≡ old
+Leaves old new s i (no.Large n) = new.core ≡ answered old.core s i (event.Large s i n)
+Leaves old new s i (no.Wait ts) = new ≡ old
+Leaves old new s i (no.Room n left) = new ≡ old
+Leaves old new s i no.Memory = new ≡ old

@@ -1,0 +1,49 @@
+//! A store of rows in the cells of a pool.
+
+ghost use Rattle.std.specs.Prelude.{◌≡◌, ◌≤◌, ◌⊎◌, ℕ, None, true, is_some, IfOk};
+ghost use Rattle.std.specs.FinMap.Entries.{put};
+ghost use Rattle.kt_pool.specs.Contents.{Contents, at_cell};
+ghost use Rattle.kt_history.specs.Rows.{key_cmp, fits};
+ghost use Rattle.kt_histlaws.specs.Histories.{Store, hist_in, push};
+ghost use Rattle.kt_histlaws.specs.Flights.{Under};
+ghost use Rattle.kt_tablet.specs.Stores.{change_of, last_row, share, changes_upto, TakesUpTo};
+
+use kt_base::NoMemory;
+use kt_history::{ChangeList, Kindly, RowOp, Target};
+use kt_pool::Pool;
+use std::alloc::Global;
+
+/// A store whose rows and changes lie in a pool. Read with its pool it is a list of histories by key. A store keeps
+/// the cells that an operation names, and knows no schema.
+pub trait RowStore {
+    /// Its places stand in the pool.
+    ghost stands: { Self → Contents → Type 0 };
+
+    /// The histories of its rows, read with the pool in which it stands.
+    ghost store: { Self → Contents → Store };
+
+    /// The cells at which its places begin.
+    ghost owns: { Self → Contents → ℕ → Type 0 };
+
+    /// Whether the row of a key is there after all changes.
+    fn live(&self, pool: &Pool, key: &[u8]) -> bool
+        requires { stands self.now pool.now }
+        ensures { result ≡ is_some (last_row (hist_in key.now (store self.now pool.now))) };
+
+    /// The changes at or below a time, by rising key, then timestamp.
+    fn changes(&self, alloc: Global, pool: &Pool, upto: u64) -> Result<ChangeList, NoMemory>
+        requires { stands self.now pool.now }
+        ensures { IfOk result (λ list. list ≡ changes_upto upto (store self.now pool.now)) };
+
+    /// Adds the change of an operation, in reserved cells. It tells the store that took it.
+    fn apply_reserved(&mut self, pool: &mut Pool, ts: u64, op: &RowOp, change: Kindly) -> Target
+        requires stands { stands self.old pool.old }
+        requires reserved { share op.now ≤ pool.old.reserved }
+        requires above { Under ts (hist_in op.now.key (store self.old pool.old)).steps }
+        requires fits { fits (change_of change op.now.cells) (last_row (hist_in op.now.key (store self.old pool.old))) ≡ true }
+        ensures stands { stands self.new pool.new }
+        ensures pushed { store self.new pool.new ≡ put key_cmp op.now.key (push ts (change_of change op.now.cells) (hist_in op.now.key (store self.old pool.old))) (store self.old pool.old) }
+        ensures takes { TakesUpTo (share op.now) pool.old pool.new }
+        ensures grows { (k : ℕ) → owns self.new pool.new k → owns self.old pool.old k ⊎ (at_cell pool.old k ≡ None) }
+        ensures frame { (k : ℕ) → ¬ owns self.new pool.new k → at_cell pool.new k ≡ at_cell pool.old k };
+}
