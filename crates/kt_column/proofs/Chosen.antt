@@ -13,9 +13,9 @@ use Rattle.kt_column.proofs.Widths.{small_texts}
 use Rattle.kt_column.specs.declared.form.Form.{Form}
 use Rattle.kt_column.specs.declared.form.Encoding.{Encoding}
 use Rattle.kt_column.specs.declared.form.Encoding.TheVariants.{Plain, RunLength, Dictionary, Prefix}
-use Rattle.kt_column.specs.declared.values.Chosen.{Chosen}
+use Rattle.kt_column.specs.declared.lengths.Measured.{Measured}
 use Rattle.kt_column.specs.Forms.{width, code}
-use Rattle.kt_column.specs.Values.{AreValues, IsEncoded, MayStand, IsBefore, IsShortest, IsShorter, IsBestUpTo, IsLeastUpTo, IsNoneUpTo, run_width}
+use Rattle.kt_column.specs.Values.{AreValues, IsEncoded, MayStand, IsBefore, IsShortest, IsShorter, IsBestUpTo, IsMeasuredUpTo, IsLeastUpTo, IsNoneUpTo, Takes, run_width}
 
 -- values have one spelling in an encoding
 pub encoded_once : (w : Width) (e : Encoding) (items : Items) (a b : List ℕ) → IsEncoded w e items a → IsEncoded w e items b → a ≡ b
@@ -60,36 +60,36 @@ before_itself : (e f : Encoding) (a b : List ℕ) → f ≡ e → a ≡ b → Is
 before_itself e f a b h k = inr (ap length k, let same : code e ≡ code f = ap code (sym h) in omega arith)
 
 -- the first, and the last where it is shorter
-first_is_least : (form : Form) (items : Items) (c : Chosen) → IsNoneUpTo form items (code c.encoding - 1) → MayStand form items c.encoding c.bytes.items → IsLeastUpTo form items (code c.encoding) c.encoding c.bytes.items
-first_is_least form items c none stands = (
+first_is_least : (form : Form) (items : Items) (e : Encoding) (a : List ℕ) → IsNoneUpTo form items (code e - 1) → MayStand form items e a → IsLeastUpTo form items (code e) e a
+first_is_least form items e a none stands = (
   stands,
   omega arith,
   λ other others le there.
-      elim (up_to c.encoding other le) [
+      elim (up_to e other le) [
         | inl same ↦ before_itself _ _ _ _ same (same_bytes form items _ _ _ _ same stands there)
         | inr less ↦ absurd (none other others less there)
       ],
 )
 
-shorter_is_least : (form : Form) (items : Items) (best c : Chosen) → IsLeastUpTo form items (code c.encoding - 1) best.encoding best.bytes.items → MayStand form items c.encoding c.bytes.items → length c.bytes.items < length best.bytes.items → IsLeastUpTo form items (code c.encoding) c.encoding c.bytes.items
-shorter_is_least form items best c least stands lt = (
+shorter_is_least : (form : Form) (items : Items) (f e : Encoding) (b a : List ℕ) → IsLeastUpTo form items (code e - 1) f b → MayStand form items e a → length a < length b → IsLeastUpTo form items (code e) e a
+shorter_is_least form items f e b a least stands lt = (
   stands,
   omega arith,
   λ other others le there.
-      elim (up_to c.encoding other le) [
+      elim (up_to e other le) [
         | inl same ↦ before_itself _ _ _ _ same (same_bytes form items _ _ _ _ same stands there)
         | inr less ↦ elim (least.2 other others less there) [ inl h ↦ inl (omega arith) | inr h ↦ inl (omega arith) ]
       ],
 )
 
 -- the one before, where the new one is not shorter
-kept_is_least : (form : Form) (items : Items) (best c : Chosen) → IsLeastUpTo form items (code c.encoding - 1) best.encoding best.bytes.items → MayStand form items c.encoding c.bytes.items → length best.bytes.items ≤ length c.bytes.items → IsLeastUpTo form items (code c.encoding) best.encoding best.bytes.items
-kept_is_least form items best c least stands le = (
+kept_is_least : (form : Form) (items : Items) (f e : Encoding) (b a : List ℕ) → IsLeastUpTo form items (code e - 1) f b → MayStand form items e a → length b ≤ length a → IsLeastUpTo form items (code e) f b
+kept_is_least form items f e b a least stands le = (
   least.0,
   omega arith,
   λ other others below there.
-      elim (up_to c.encoding other below) [
-        | inl same ↦ before_new best.encoding c.encoding other best.bytes.items c.bytes.items others (omega arith) le (ap code same) (same_bytes form items _ _ _ _ same stands there)
+      elim (up_to e other below) [
+        | inl same ↦ before_new f e other b a others (omega arith) le (ap code same) (same_bytes form items _ _ _ _ same stands there)
         | inr less ↦ least.2 other others less there
       ],
 )
@@ -97,10 +97,12 @@ kept_is_least form items best c least stands le = (
     before_new : (e f g : Encoding) (a b d : List ℕ) → code e ≤ code f → length a ≤ length b → code g ≡ code f → b ≡ d → IsBefore e a g d
     before_new e f g a b d h k m n = let same : length b ≡ length d = ap length n in elim (cases_lt (length a) (length d)) [ inl lt ↦ inl lt | inr ge ↦ inr (omega arith, omega arith) ]
 
-pub still_best : (form : Form) (items : Items) (best : Option Chosen) (c result : Chosen) → IsBestUpTo form items (code c.encoding - 1) best → MayStand form items c.encoding c.bytes.items → IsShorter best c result → IsLeastUpTo form items (code c.encoding) result.encoding result.bytes.items
-still_best form items None c result before stands h = subst (λ r. IsLeastUpTo form items (code c.encoding) r.encoding r.bytes.items) (sym h) (first_is_least form items c before stands)
-still_best form items (Some best) c result before stands (inl h) = subst (λ r. IsLeastUpTo form items (code c.encoding) r.encoding r.bytes.items) (sym h.1) (kept_is_least form items best c before stands h.0)
-still_best form items (Some best) c result before stands (inr h) = subst (λ r. IsLeastUpTo form items (code c.encoding) r.encoding r.bytes.items) (sym h.1) (shorter_is_least form items best c before stands h.0)
+pub still_best : (form : Form) (items : Items) (best : Option Measured) (c result : Measured) → IsBestUpTo form items (code c.encoding - 1) best → Takes form items c.encoding c.len → IsShorter best c result → IsMeasuredUpTo form items (code c.encoding) result
+still_best form items None c result before takes h = subst (IsMeasuredUpTo form items (code c.encoding)) (sym h) (takes.0, first_is_least form items c.encoding takes.0 before takes.1, takes.2)
+still_best form items (Some best) c result before takes (inl h) =
+    subst (IsMeasuredUpTo form items (code c.encoding)) (sym h.1) (before.0, kept_is_least form items best.encoding c.encoding before.0 takes.0 before.1 takes.1 (omega (arith, before.2, takes.2, h.0)), before.2)
+still_best form items (Some best) c result before takes (inr h) =
+    subst (IsMeasuredUpTo form items (code c.encoding)) (sym h.1) (takes.0, shorter_is_least form items best.encoding c.encoding before.0 takes.0 before.1 takes.1 (omega (arith, before.2, takes.2, h.0)), takes.2)
 
 -- none of the new number either
 pub still_none : (form : Form) (items : Items) (e : Encoding) → IsNoneUpTo form items (code e - 1) → ((bytes : List ℕ) → ¬ MayStand form items e bytes) → IsNoneUpTo form items (code e)
@@ -129,8 +131,8 @@ shortest_again form items e f a b p h q =
     let same : a ≡ b = same_bytes form items e f a b h p.stands q in
     subst (λ x. IsShortest form items x b) (sym h) (subst (λ x. IsShortest form items e x) same p)
 
-pub shortest_of_code : (form : Form) (items : Items) (e f : Encoding) (a b : List ℕ) → IsShortest form items e a → code e ≡ code f → MayStand form items f b → IsShortest form items f b
-shortest_of_code form items e f a b p h q = shortest_again form items e f a b p (sym (same_code e f h)) q
+pub shortest_of_code : (form : Form) (items : Items) (e f : Encoding) (b : List ℕ) → ((a : List ℕ) × IsShortest form items e a) → code e ≡ code f → MayStand form items f b → IsShortest form items f b
+shortest_of_code form items e f b p h q = shortest_again form items e f p.0 b p.1 (sym (same_code e f h)) q
 
-pub not_of_code : (form : Form) (items : Items) (e f : Encoding) (a b : List ℕ) → IsShortest form items e a → (code e ≡ code f → ⊥) → ¬ IsShortest form items f b
-not_of_code form items e f a b p h q = h (ap code (one_shortest form items e f a b p q))
+pub not_of_code : (form : Form) (items : Items) (e f : Encoding) (b : List ℕ) → ((a : List ℕ) × IsShortest form items e a) → (code e ≡ code f → ⊥) → ¬ IsShortest form items f b
+not_of_code form items e f b p h q = h (ap code (one_shortest form items e f p.0 b p.1 q))

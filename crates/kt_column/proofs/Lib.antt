@@ -1,5 +1,6 @@
 pub mod Widths
 pub mod Chosen
+pub mod Sizes
 pub mod Lists
 pub mod Readings
 pub mod NullBits

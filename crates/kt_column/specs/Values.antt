@@ -14,7 +14,7 @@ use Rattle.kt_front.specs.Spelling as prefix
 use Rattle.kt_column.specs.declared.form.Form.{Form}
 use Rattle.kt_column.specs.declared.form.Encoding.{Encoding}
 use Rattle.kt_column.specs.declared.form.Encoding.TheVariants.{Plain, RunLength, Dictionary, Prefix}
-use Rattle.kt_column.specs.declared.values.Chosen.{Chosen}
+use Rattle.kt_column.specs.declared.lengths.Measured.{Measured}
 use Rattle.kt_column.specs.Forms.{width, limit, code, MayUse}
 
 -- the width of numbers, as the run-length encoding names it
@@ -50,6 +50,10 @@ IsEncoded w Prefix (Texts ts) bytes = prefix.Fits ts × (bytes ≡ prefix.spelli
 abbrev pub MayStand : Form → Items → Encoding → List ℕ → Type 0
 MayStand form items encoding bytes = MayUse form encoding × IsEncoded (width form) encoding items bytes
 
+-- the values may stand in the encoding, in so many bytes
+abbrev pub Takes : Form → Items → Encoding → ℕ → Type 0
+Takes form items encoding n = (bytes : List ℕ) × MayStand form items encoding bytes × (length bytes ≡ n)
+
 -- shorter, or as long and of a lower number
 abbrev pub IsBefore : Encoding → List ℕ → Encoding → List ℕ → Type 0
 IsBefore e bytes f others = (length bytes < length others) ⊎ ((length bytes ≡ length others) × (code e ≤ code f))
@@ -68,11 +72,14 @@ IsLeastUpTo form items most encoding bytes =
 abbrev pub IsNoneUpTo : Form → Items → ℕ → Type 0
 IsNoneUpTo form items most = (other : Encoding) (others : List ℕ) → code other ≤ most → ¬ MayStand form items other others
 
-abbrev pub IsBestUpTo : Form → Items → ℕ → Option Chosen → Type 0
-IsBestUpTo form items most best = MatchOption best (IsNoneUpTo form items most) (λ c. IsLeastUpTo form items most c.encoding c.bytes.items)
+-- the encoding is the shortest of those, and its bytes are as many as it says
+abbrev pub IsMeasuredUpTo : Form → Items → ℕ → Measured → Type 0
+IsMeasuredUpTo form items most m = (bytes : List ℕ) × IsLeastUpTo form items most m.encoding bytes × (length bytes ≡ m.len)
+
+abbrev pub IsBestUpTo : Form → Items → ℕ → Option Measured → Type 0
+IsBestUpTo form items most best = MatchOption best (IsNoneUpTo form items most) (IsMeasuredUpTo form items most)
 
 -- the shorter of two, and the first where they are as long
-abbrev pub IsShorter : Option Chosen → Chosen → Chosen → Type 0
+abbrev pub IsShorter : Option Measured → Measured → Measured → Type 0
 IsShorter None other result = result ≡ other
-IsShorter (Some best) other result =
-    ((length best.bytes.items ≤ length other.bytes.items) × (result ≡ best)) ⊎ ((length other.bytes.items < length best.bytes.items) × (result ≡ other))
+IsShorter (Some best) other result = ((best.len ≤ other.len) × (result ≡ best)) ⊎ ((other.len < best.len) × (result ≡ other))

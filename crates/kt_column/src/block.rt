@@ -15,6 +15,7 @@ ghost use Rattle.std.specs.Bool.{OnTrue, OnFalse};
 ghost use Rattle.kt_column.specs.Values.{AreValues, IsShortest, MayStand};
 
 use crate::form::{Encoding, Form};
+use crate::lengths::shortest_encoding;
 use crate::nulls::Nulls;
 use crate::values::shortest;
 use kt_base::{Cell, NoMemory, Octets};
@@ -204,11 +205,8 @@ fn is_shortest(
     ensures yes { IfOk result (λ b. OnTrue b ((values : List ℕ) → MayStand form items.now encoding values → IsShortest form items.now encoding values)) }
     ensures no { IfOk result (λ b. OnFalse b ((values : List ℕ) → ¬ IsShortest form items.now encoding values)) }
 {
-    let chosen = shortest(alloc, form, items)?;
-    if chosen.encoding as u8 != encoding as u8 {
-        return Ok(false);
-    }
-    Ok(true)
+    let chosen = shortest_encoding(alloc, form, items)?;
+    Ok(chosen as u8 == encoding as u8)
 }
 
 /// The order of a value's bytes and the key.

@@ -22,6 +22,7 @@ mod decoding;
 mod errors;
 mod form;
 mod laws;
+mod lengths;
 mod nulls;
 mod parts;
 mod reading;

@@ -1,14 +1,15 @@
 //! The values of a block in their shortest encoding.
 
 ghost use Rattle.std.specs.Prelude.{◌≡◌, ◌<◌, ◌≤◌, ◌+◌, ◌-◌, ◌^◌, ◌++◌, ◌∷◌, [], ℕ, List, length, sum_by, IfOk, MatchOption};
-ghost use Rattle.kt_column.specs.Forms.{width, code};
-ghost use Rattle.kt_column.specs.Values.{AreValues, IsEncoded, IsShortest, IsBestUpTo, IsShorter, MayStand, run_width};
+ghost use Rattle.kt_column.specs.Forms.{width};
+ghost use Rattle.kt_column.specs.Values.{AreValues, IsEncoded, IsShortest, MayStand, run_width};
 ghost use Rattle.kt_plain.specs.Widths as plain_widths;
 ghost use Rattle.kt_rle.specs.Spelling as run_length;
 ghost use Rattle.kt_dict.specs.Spelling as dictionary;
 ghost use Rattle.kt_front.specs.Spelling as prefix;
 
 use crate::form::{Encoding, Form};
+use crate::lengths::shortest_encoding;
 use kt_base::NoMemory;
 use kt_plain::{Items, Numbers, Texts, Width};
 use std::alloc::Global;
@@ -54,7 +55,7 @@ fn run_lengths(alloc: Global, width: Width, numbers: &Numbers) -> Result<Vec<u8>
     }
 }
 
-fn for_dictionary(alloc: Global, texts: &Texts) -> Result<kt_dict::Items, NoMemory>
+pub(crate) fn for_dictionary(alloc: Global, texts: &Texts) -> Result<kt_dict::Items, NoMemory>
     ensures { IfOk result (λ items. items ≡ texts.now) }
 {
     let mut items = kt_dict::Items::new(alloc);
@@ -127,44 +128,14 @@ fn encoded(
     }
 }
 
-/// The shorter one, and the first where they are as long.
-fn shorter(best: Option<Chosen>, other: Chosen) -> Chosen
-    ensures { IsShorter best other result }
-{
-    match best {
-        Some(best) if best.bytes.len() <= other.bytes.len() => best,
-        _ => other,
-    }
-}
-
-/// The best of the encodings up to this one, from the best of those before it.
-fn try_next(
-    alloc: Global,
-    form: Form,
-    items: &Items,
-    best: Option<Chosen>,
-    encoding: Encoding,
-) -> Result<Option<Chosen>, NoMemory>
-    requires values { AreValues form items.now }
-    requires before { IsBestUpTo form items.now (code encoding - 1) best }
-    ensures { IfOk result (IsBestUpTo form items.now (code encoding)) }
-{
-    match encoded(alloc, form, encoding, items)? {
-        Some(bytes) => Ok(Some(shorter(best, Chosen { encoding, bytes }))),
-        None => Ok(best),
-    }
-}
-
 /// The values in the shortest encoding that the column may use, the lowest number among equals.
 pub fn shortest(alloc: Global, form: Form, items: &Items) -> Result<Chosen, NoMemory>
     requires { AreValues form items.now }
     ensures { IfOk result (λ chosen. IsShortest form items.now chosen.encoding chosen.bytes.items) }
 {
-    let best = try_next(alloc, form, items, None, Encoding::Plain)?;
-    let best = try_next(alloc, form, items, best, Encoding::RunLength)?;
-    let best = try_next(alloc, form, items, best, Encoding::Dictionary)?;
-    match try_next(alloc, form, items, best, Encoding::Prefix)? {
-        Some(chosen) => Ok(chosen),
+    let encoding = shortest_encoding(alloc, form, items)?;
+    match encoded(alloc, form, encoding, items)? {
+        Some(bytes) => Ok(Chosen { encoding, bytes }),
         None => unreachable!(),
     }
 }

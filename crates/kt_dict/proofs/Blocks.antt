@@ -1,17 +1,17 @@
 -- The two laws: what is read is spelled so, and what is spelled so is read.
-use Rattle.std.proofs.Common.{◌≡◌, ℕ, zero, suc, ◌+◌, ◌-◌, ◌^◌, ◌<◌, ◌≤◌, Bool, true, false, cond, ltb, eqb, leb, List, [], ◌∷◌, ◌++◌, length, get_or, take, drop, Result, Ok, Err, refl, sym, ap, subst, ◌∙◌, append_assoc, arith, inl, inr}
+use Rattle.std.proofs.Common.{◌≡◌, ℕ, zero, suc, ◌+◌, ◌^◌, ◌<◌, ◌≤◌, Bool, true, false, cond, ltb, eqb, List, [], ◌∷◌, ◌++◌, length, get_or, take, drop, Result, Ok, Err, refl, sym, ap, subst, ◌∙◌, append_assoc, arith}
 use Rattle.std.specs.Prelude.{nat_lt, nat_le, ◌==◌, ◌&&◌, ◌||◌, IfOk}
 use Rattle.std.specs.List.{flat_map, AllByRecursion}
-use Rattle.std.proofs.lemmas.Bool.{eqb-true, ltb-false, ltb-true, le-ltb, leb-true}
+use Rattle.std.proofs.lemmas.Bool.{eqb-true, ltb-true, le-ltb, leb-true}
 use Rattle.std.proofs.lemmas.Bool.Decides.{nat_tests}
 use Rattle.std.proofs.lemmas.List.{append-nil, nil_from_length, take_all, take_more, length-take-le, get_or-take, get_or_at, take-append-drop, length-append, length-drop}
 use Rattle.std.proofs.lemmas.List.Concat.{flat_map-cons}
-use Rattle.kt_dict.specs.Spelling.{has, place, with_entry, entries_after, dictionary, short, number, entry, code, spelling, Fits}
+use Rattle.kt_dict.specs.Spelling.{has, place, with_entry, entries_after, dictionary, short, entry, code, spelling, Fits}
 use Rattle.kt_dict.specs.Reading.{◌>>=◌, short_at, entry_at, is_count, count_at, entries_at, is_code, code_at, used_with, codes_at, block_at, number_at, Spells, IsAnswer, IsItems}
 use Rattle.kt_dict.specs.declared.error.CodecNo.{CodecNo}
 use Rattle.kt_dict.specs.declared.error.CodecNo.TheVariants as answers
 use Rattle.std.specs.Int.{w16, w32, from_le_bytes}
-use Rattle.kt_dict.proofs.Words.{Own, own_nil, own_push, own_after, has_place, has_not, has_front, has_front_not, place_front, place_push, place-le, after_grows}
+use Rattle.kt_dict.proofs.Words.{Own, own_nil, own_push, own_after, has_place, has_front, has_front_not, place_front, place_push, place-le, after_grows}
 use Rattle.kt_dict.proofs.Fields.{IsBytes, bind_ok, guard_ok, pass_ok, ok_is, Takes, Takes-then, short_takes, short_again, entry_takes, entry_again}
 
 abbrev pub IsShort : List ℕ → Type 0

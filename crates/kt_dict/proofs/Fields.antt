@@ -1,8 +1,8 @@
 -- A field that is read is the field that was written, and what was written is read again.
-use Rattle.std.proofs.Common.{◌≡◌, ℕ, zero, suc, ◌+◌, ◌-◌, ◌^◌, ◌<◌, ◌≤◌, Bool, true, false, cond, ltb, List, [], ◌∷◌, ◌++◌, length, get_or, take, drop, Result, Ok, Err, refl, sym, ap, subst, ◌∙◌, append_assoc, arith, inl, inr}
-use Rattle.std.specs.Int.{w16, w32, from_le_bytes, to_le_bytes}
+use Rattle.std.proofs.Common.{◌≡◌, ℕ, ◌+◌, ◌^◌, ◌<◌, ◌≤◌, Bool, true, false, cond, ltb, List, ◌++◌, length, get_or, take, drop, Result, Ok, Err, refl, sym, ap, subst, ◌∙◌, append_assoc, arith, inl, inr}
+use Rattle.std.specs.Int.{w16, w32, from_le_bytes}
 use Rattle.std.proofs.lemmas.Bool.{cases_lt, ltb-false, le-ltb}
-use Rattle.std.proofs.lemmas.List.{take_at, drop_at, take-append-drop, length-append, length-take, length-drop, get_or-drop, get_or-take, get_or_past}
+use Rattle.std.proofs.lemmas.List.{take_at, drop_at, take-append-drop, length-append, length-take, get_or-drop, get_or-take, get_or_past}
 use Rattle.std.proofs.lemmas.Nat.{le_bytes_2, from_le_bytes-to_le_bytes_2, le_bytes_4, from_le_bytes-to_le_bytes_4}
 use Rattle.kt_dict.specs.Spelling.{short, number, entry}
 use Rattle.kt_dict.specs.Reading.{◌>>=◌, short_at, number_at, entry_at}
@@ -50,7 +50,7 @@ Takes-then a x b y c p q = record { parts = p.parts ∙ ap (λ (t : List ℕ). x
 
 -- ---- numbers
 
-length-number : (n : ℕ) → length (number n) ≡ 4
+pub length-number : (n : ℕ) → length (number n) ≡ 4
 unfolding number
 length-number n = refl
 
@@ -85,7 +85,7 @@ number_again n rest lt =
     let long : ltb (length (number n ++ rest)) 4 ≡ false = le-ltb _ _ (omega (arith, length-append (number n) rest)) in
     rw (long, take_at (number n) rest 4 len, drop_at (number n) rest 4 len, read-number n lt) refl
 
-length-short : (n : ℕ) → length (short n) ≡ 2
+pub length-short : (n : ℕ) → length (short n) ≡ 2
 unfolding short
 length-short n = refl
 

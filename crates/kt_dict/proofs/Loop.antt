@@ -1,11 +1,11 @@
 -- Reading entries, and codes, one after the other, as a loop does.
-use Rattle.std.proofs.Common.{◌≡◌, ℕ, suc, ◌-◌, ◌+◌, ◌≤◌, ◌<◌, Bool, true, false, cond, List, [], ◌∷◌, ◌++◌, length, get_or, Result, Ok, Err, refl, sym, ap, subst, ◌∙◌, arith}
+use Rattle.std.proofs.Common.{◌≡◌, ℕ, suc, ◌-◌, ◌+◌, ◌≤◌, ◌<◌, Bool, true, false, cond, List, [], ◌∷◌, ◌++◌, length, get_or, Result, Ok, Err, refl, sym, ◌∙◌, arith}
 use Rattle.kt_dict.specs.declared.error.Stop.{Stop}
 use Rattle.kt_dict.specs.declared.error.Stop.TheVariants as stops
 use Rattle.std.specs.Prelude.{nat_lt, not}
 use Rattle.std.proofs.lemmas.Bool.{ltb-false}
 use Rattle.kt_dict.specs.Spelling.{has, with_entry}
-use Rattle.kt_dict.specs.Reading.{◌>>=◌, Stops, entry_at, entries_at, code_at, codes_at, used_with}
+use Rattle.kt_dict.specs.Reading.{Stops, entry_at, entries_at, code_at, codes_at, used_with}
 
 abbrev Read : Type 0
 Read = Result (List (List ℕ) × List ℕ) ℕ

@@ -1,12 +1,13 @@
 -- The entries of a list are items of it, so that none is longer than all together.
-use Rattle.std.proofs.Common.{◌≡◌, ℕ, zero, suc, ◌+◌, ◌^◌, ◌<◌, ◌≤◌, Bool, true, false, cond, List, [], ◌∷◌, ◌++◌, length, get_or, map, All, refl, sym, ap, subst, ◌∙◌, arith}
+use Rattle.std.proofs.Common.{◌≡◌, ℕ, zero, suc, ◌+◌, ◌*◌, ◌^◌, ◌<◌, ◌≤◌, true, false, cond, List, [], ◌∷◌, ◌++◌, length, get_or, take, drop, drop-cons, All, refl, sym, ap, subst, ◌∙◌, arith}
 use Rattle.std.specs.List.{AllByRecursion, sum_by, flat_map}
 use Rattle.std.specs.Borrow.{Bor}
-use Rattle.std.proofs.lemmas.List.{length-map}
+use Rattle.std.proofs.lemmas.List.{length-map, length-append}
 use Rattle.std.proofs.lemmas.List.Elements.{All-from_recursion}
 use Rattle.std.proofs.lemmas.List.Sums.{get_or-le-sum_by}
-use Rattle.kt_dict.specs.Spelling.{has, with_entry, entries_after, dictionary, short, entry, code, spelling, Fits}
+use Rattle.kt_dict.specs.Spelling.{has, with_entry, entries_after, dictionary, place, number, short, entry, code, spelling}
 use Rattle.kt_dict.proofs.Words.{nows, after_grows}
+use Rattle.kt_dict.proofs.Fields.{length-number, length-short}
 use Rattle.kt_dict.proofs.Blocks.{IsShort}
 
 short_push : (ds : List (List ℕ)) (x : List ℕ) → AllByRecursion IsShort ds → IsShort x → AllByRecursion IsShort (ds ++ x ∷ [])
@@ -40,3 +41,39 @@ keys_count items ks is =
 pub spelled_by : (items known : List (List ℕ)) (n : ℕ) → known ≡ dictionary items → n ≡ length (dictionary items) → (short n ++ flat_map entry known) ++ flat_map (code known) items ≡ spelling items
 unfolding spelling
 spelled_by items known n is count = ap (λ k. (short k ++ flat_map entry known) ++ flat_map (code known) items) count ∙ ap (λ ds. (short (length (dictionary items)) ++ flat_map entry ds) ++ flat_map (code ds) items) is
+
+-- ---- how long a spelling is
+
+pub length-entry : (bytes : List ℕ) → length (entry bytes) ≡ 4 + length bytes
+unfolding entry
+length-entry bytes = omega (arith, length-append (number (length bytes)) bytes, length-number (length bytes))
+
+length-codes : (known items : List (List ℕ)) → length (flat_map (code known) items) ≡ 2 * length items
+length-codes known [] = refl
+length-codes known (x ∷ items) = omega (arith, length-append (code known x) (flat_map (code known) items), length-short (place known x), length-codes known items)
+
+pub length-spelling : (items known : List (List ℕ)) → known ≡ dictionary items → length (spelling items) ≡ 2 + length (flat_map entry known) + 2 * length items
+unfolding spelling
+length-spelling items known is =
+    let ds : List (List ℕ) = dictionary items in
+    let front = length-append (short (length ds)) (flat_map entry ds) in
+    let whole = length-append (short (length ds) ++ flat_map entry ds) (flat_map (code ds) items) in
+    let same : length (flat_map entry known) ≡ length (flat_map entry ds) = ap (λ es. length (flat_map entry es)) is in
+    omega (arith, front, whole, same, length-short (length ds), length-codes ds items)
+
+-- one entry more
+pub entries_more : (ks : List (Bor (List ℕ))) (i : ℕ) (d : Bor (List ℕ)) → i < length ks → length (flat_map entry (nows (take (i + 1) ks))) ≡ length (flat_map entry (nows (take i ks))) + (4 + length (get_or ks i d).now)
+entries_more [] i d lt = absurd (omega arith)
+entries_more (x ∷ ks) zero d lt = omega (arith, length-append (entry x.now) [], length-entry x.now)
+entries_more (x ∷ ks) (suc i) d lt =
+    let n : suc i + 1 ≡ suc (i + 1) = omega arith in
+    rw n (omega (arith, entries_more ks i d (omega arith), length-append (entry x.now) (flat_map entry (nows (take (i + 1) ks))), length-append (entry x.now) (flat_map entry (nows (take i ks)))))
+
+-- ---- too many items, as soon as there are
+
+pub too_many : (items ds more : List (List ℕ)) (i : ℕ) → i < length items → entries_after ds (drop i items) ≡ dictionary items → more ≡ with_entry ds (get_or items i []) → 4096 < length more → 4096 < length (dictionary items)
+too_many items ds more i lt so_far is many =
+    let rest : List (List ℕ) = drop (suc i) items in
+    let all : entries_after more rest ≡ dictionary items = ap (λ es. entries_after es rest) is ∙ (sym (ap (entries_after ds) (drop-cons items i [] lt)) ∙ so_far) in
+    let g = after_grows more rest in
+    omega (arith, ap length all, ap length g.1, length-append more g.0)

@@ -20,7 +20,7 @@ pub use items::{Item, Items, get};
 pub use laws::one_value;
 pub use octets::Octets;
 pub use reading::decode;
-pub use writing::encode;
+pub use writing::{encode, encoded_len};
 
 #[cfg(test)]
 mod tests;

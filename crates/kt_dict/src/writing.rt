@@ -1,6 +1,6 @@
 //! From a list to its block.
 
-ghost use Rattle.std.specs.Prelude.{◌≡◌, ◌<◌, ◌≤◌, ◌^◌, ◌++◌, length, map, sum_by, OnOk, IfOk, IfErr};
+ghost use Rattle.std.specs.Prelude.{◌≡◌, ◌<◌, ◌≤◌, ◌^◌, ◌++◌, length, map, sum_by, OnOk, IfOk, IfErr, MatchOption};
 ghost use Rattle.std.specs.List.{All, flat_map};
 ghost use Rattle.kt_dict.specs.Spelling.{code, dictionary, entry, short, spelling, Fits};
 ghost use Rattle.kt_dict.specs.Writing.{IsRefusal};
@@ -61,6 +61,46 @@ fn put_codes(out: &mut Vec<u8>, table: &IndexSet<&[u8]>, cells: &Items) -> Resul
         put_short(out, place_of(table, cells.item(i)))?;
     }
     Ok(())
+}
+
+/// How many bytes the entries take.
+fn entries_len(entries: &[&[u8]]) -> usize
+    requires few { length entries.now ≤ 4096 }
+    requires small { All (λ x. length x.now < 2 ^ 32) entries.now }
+    ensures value { result ≡ length (flat_map entry (map (λ k. k.now) entries.now)) }
+    ensures most { result < 2 ^ 45 }
+{
+    let mut len = 0;
+    for bytes in entries {
+        len += 4 + bytes.len();
+    }
+    len
+}
+
+/// The different items, or none where there are too many.
+fn small_table(alloc: Global, cells: &Items) -> Result<Option<IndexSet<&[u8]>>, NoMemory>
+    ensures { IfOk result (λ found. MatchOption found (4096 < length (dictionary cells.now)) (λ table. (map (λ k. k.now) table.keys ≡ dictionary cells.now) × (length (dictionary cells.now) ≤ 4096))) }
+{
+    let mut table = IndexSet::new(alloc);
+    for i in 0..cells.len() {
+        use_item(&mut table, cells.item(i))?;
+        if table.len() > MOST {
+            return Ok(None);
+        }
+    }
+    Ok(Some(table))
+}
+
+/// How many bytes the spelling of the list takes, or none where there are too many different items.
+pub fn encoded_len(alloc: Global, cells: &Items) -> Result<Option<usize>, NoMemory>
+    requires few { length cells.now < 2 ^ 32 }
+    requires small { sum_by length cells.now < 2 ^ 32 }
+    ensures { IfOk result (λ len. MatchOption len (¬ Fits cells.now) (λ n. Fits cells.now × (n ≡ length (spelling cells.now)))) }
+{
+    match small_table(alloc, cells)? {
+        Some(table) => Ok(Some(2 + entries_len(table.as_slice()) + 2 * cells.len())),
+        None => Ok(None),
+    }
 }
 
 /// The one spelling of the list.

@@ -51,6 +51,14 @@ pub length-number : (n : ℕ) → length (number n) ≡ 4
 unfolding number
 length-number n = refl
 
+-- both fields of a cell, and what it does not share
+pub len_of_cell : (with item : List ℕ) → length (cell with item) ≡ 8 + (length item - shared with item)
+unfolding cell
+len_of_cell with item =
+    let n : ℕ = shared with item in
+    let m : ℕ = length item - n in
+    omega (arith, length-append (number n ++ number m) (drop n item), length-append (number n) (number m), length-number n, length-number m, length-drop n item)
+
 number-read : (bytes : List ℕ) (n : ℕ) → length bytes ≡ 4 → IsBytes bytes → n ≡ from_le_bytes w32 bytes → number n ≡ bytes
 unfolding number
 number-read bytes n len fits e = le_bytes_4 bytes n len fits e

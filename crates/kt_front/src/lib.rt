@@ -26,7 +26,7 @@ pub use octets::Octets;
 pub use reading::decode;
 pub use starts::{Starts, compare_at};
 pub use walking::compare;
-pub use writing::encode;
+pub use writing::{cell_len, encode};
 
 #[cfg(test)]
 mod tests;

@@ -1,7 +1,7 @@
 //! From a list to its block.
 
 ghost use Rattle.std.specs.Prelude.{◌≡◌, ◌<◌, ◌^◌, ◌++◌, length, sum_by, OnOk, IfOk, IfErr};
-ghost use Rattle.kt_front.specs.Spelling.{cell, spelling, Fits};
+ghost use Rattle.kt_front.specs.Spelling.{base, cell, spelling, Fits};
 
 use crate::error::{CodecNo, Width};
 use crate::items::Items;
@@ -20,6 +20,14 @@ fn put_cell(out: &mut Vec<u8>, with: &[u8], item: &[u8]) -> Result<(), AllocErro
     out.extend_from_slice(&(rest.len() as u32).to_le_bytes())?;
     out.extend_from_slice(rest)?;
     Ok(())
+}
+
+/// How many bytes cell `i` takes, behind this item.
+#[tactic(auto, using(crate::proofs::Fields::len_of_cell))]
+pub fn cell_len(i: usize, before: &[u8], item: &[u8]) -> usize
+    ensures { result ≡ length (cell (base i before.now) item.now) }
+{
+    8 + (item.len() - common_prefix(base_of(i, before), item))
 }
 
 /// The one spelling of the list.

@@ -7,10 +7,10 @@ use Rattle.byteorder.specs.Endian.{little_number}
 use Rattle.kt_rle.specs.declared.widths.Width.{Width}
 use Rattle.kt_rle.specs.Widths.{IsInWidth, value}
 use Rattle.kt_rle.specs.Runs.{Run, expand, run_bytes, DiffersFirst, AreRuns, run_len, runs_in}
-use Rattle.kt_rle.specs.Spelling.{Spells, SpellsOne, IsSpelledOnce}
+use Rattle.kt_rle.specs.Spelling.{Spells, Takes, SpellsOne, IsSpelledOnce}
 use Rattle.std.proofs.lemmas.Bool.{cases_lt}
 use Rattle.kt_rle.proofs.FirstFault.{items_are}
-use Rattle.kt_rle.proofs.RunLists.{run_at, runs_in-more}
+use Rattle.kt_rle.proofs.RunLists.{run_at, runs_in-more, length-run_bytes}
 
 -- whatever runs give the rest complete the spelling
 abbrev pub Goes : Width → List ℤ → List ℤ → List ℕ → Type 0
@@ -22,6 +22,16 @@ goes_start w zs few tail are e = record { runs = tail; are = are; expanded = e; 
 pub goes_end : (w : Width) (zs rest : List ℤ) (bytes : List ℕ) → length rest ≡ 0 → Goes w zs rest bytes → Spells w (length zs) zs bytes
 goes_end w zs [] bytes len goes = subst (λ (xs : List ℕ). Spells w (length zs) zs xs) (append-nil bytes) (goes [] tt refl)
 goes_end w zs (z ∷ rest) bytes len goes = absurd (omega arith)
+
+-- the same, of which so many runs stand in front
+abbrev pub Counts : Width → List ℤ → List ℤ → ℕ → Type 0
+Counts w zs rest n = (bytes : List ℕ) × Goes w zs rest bytes × (length bytes ≡ run_len w * n)
+
+pub counts_start : (w : Width) (zs : List ℤ) → length zs < 2 ^ 32 → Counts w zs zs 0
+counts_start w zs few = ([], goes_start w zs few, omega arith)
+
+pub counts_end : (w : Width) (zs rest : List ℤ) (n : ℕ) → length rest ≡ 0 → Counts w zs rest n → Takes w zs (n * run_len w)
+counts_end w zs rest n none counts = (counts.0, goes_end w zs rest counts.0 none counts.1, omega (arith, counts.2))
 
 first_value : (n : ℕ) (z d : ℤ) (zs : List ℤ) → 0 < n → get_or (replicate n z ++ zs) 0 d ≡ z
 first_value zero z d zs some = absurd (omega arith)
@@ -60,6 +70,15 @@ goes_more w zs rest bytes bytes' len some le same stop fits is goes tail are e =
     let shape : bytes ++ (run_bytes w r ++ flat_map (run_bytes w) tail) ≡ bytes' ++ flat_map (run_bytes w) tail =
     sym (append_assoc bytes (run_bytes w r) (flat_map (run_bytes w) tail)) ∙ ap (λ (xs : List ℕ). xs ++ flat_map (run_bytes w) tail) (sym is) in
     subst (λ (xs : List ℕ). Spells w (length zs) zs xs) shape s
+
+pub counts_more : (w : Width) (zs rest : List ℤ) (n len : ℕ) → 0 < len → len ≤ length rest
+    → ((k : ℕ) → k < len → get_or rest k (pos 0) ≡ get_or rest 0 (pos 0)) → (len < length rest → get_or rest len (pos 0) ≢ get_or rest 0 (pos 0))
+    → IsInWidth w (get_or rest 0 (pos 0)) → Counts w zs rest n → Counts w zs (drop len rest) (n + 1)
+counts_more w zs rest n len some le same stop fits counts =
+    let run : List ℕ = run_bytes w (record { len = len; value = get_or rest 0 (pos 0) }) in
+    let one = length-run_bytes w (record { len = len; value = get_or rest 0 (pos 0) }) in
+    let next : run_len w * (n + 1) ≡ run_len w * n + run_len w = omega arith in
+    (counts.0 ++ run, goes_more w zs rest counts.0 (counts.0 ++ run) len some le same stop fits refl counts.1, omega (arith, length-append counts.0 run, one, counts.2, next))
 
 -- a run's numbers come behind those before it
 pub expand_more : (w : Width) (bytes run : List ℕ) (i : ℕ) (old new : List ℤ) (k m len : ℕ) (z : ℤ) → run ≡ drop (run_len w * i) bytes → len ≡ little_number 4 run → z ≡ value w (drop 4 run)

@@ -19,6 +19,10 @@ pub record Spells (width : Width) (n : ℕ) (items : Items) (bytes : List ℕ) :
   pub few : n < 2 ^ 32
   pub spelled : bytes ≡ flat_map (run_bytes width) runs
 
+-- the spelling of the items takes so many bytes
+abbrev pub Takes : Width → Items → ℕ → Type 0
+Takes width items n = (bytes : List ℕ) × Spells width (length items) items bytes × (length bytes ≡ n)
+
 -- bytes spell one list of items at most
 abbrev pub SpellsOne : Type 0
 SpellsOne = (width : Width) (n : ℕ) (bytes : List ℕ) (a b : Items) → Spells width n a bytes → Spells width n b bytes → a ≡ b

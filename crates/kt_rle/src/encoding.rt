@@ -3,7 +3,7 @@
 ghost use Rattle.std.specs.Prelude.{◌≡◌, ◌≢◌, ◌≤◌, ◌<◌, ◌++◌, ℕ, pos, length, slice_index_or, IfOk, IfErr, OnOk};
 ghost use Rattle.kt_rle.specs.Widths.{number, IsInWidth};
 ghost use Rattle.kt_rle.specs.Runs.{run_bytes};
-ghost use Rattle.kt_rle.specs.Spelling.{Fits, Spells};
+ghost use Rattle.kt_rle.specs.Spelling.{Fits, Spells, Takes};
 
 use crate::errors::CodecNo;
 use crate::items::Items;
@@ -19,6 +19,21 @@ pub fn encode(alloc: Global, cells: &Items, width: Width) -> Result<Octets, Code
 {
     let bytes = spelled(alloc, cells.as_slice(), width)?;
     Ok(Octets::from_vec(bytes))
+}
+
+/// How many bytes the spelling of the numbers takes, from the count of their runs.
+pub fn encoded_len(values: &[i64], width: Width) -> usize
+    requires { Fits width values.now }
+    ensures { Takes width values.now result }
+{
+    let mut runs = 0;
+    let mut rest = values;
+    while !rest.is_empty() {
+        let len = run_len(rest);
+        runs += 1;
+        rest = &rest[len..];
+    }
+    runs * (4 + width.field_len())
 }
 
 /// The runs of the numbers, from the front.

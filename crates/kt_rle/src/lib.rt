@@ -17,7 +17,7 @@ mod reading;
 mod widths;
 
 pub use decoding::decode;
-pub use encoding::encode;
+pub use encoding::{encode, encoded_len};
 pub use errors::{CodecNo, NoMemory};
 pub use items::{Item, Items, get};
 pub use laws::{one_spelling, one_value};

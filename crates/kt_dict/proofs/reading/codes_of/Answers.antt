@@ -1,8 +1,8 @@
-use Rattle.std.proofs.Common.{◌≡◌, ◌<◌, ◌≤◌, ◌-◌, ◌+◌, ◌++◌, ◌∷◌, [], ap, sym, subst, ◌∙◌, List, ℕ, map, length, get_or, Ok, arith}
+use Rattle.std.proofs.Common.{◌≡◌, ◌-◌, ◌++◌, ◌∷◌, [], ap, ◌∙◌, List, ℕ, length, get_or, Ok}
 use Rattle.std.proofs.lemmas.Result.{err_from_is_err_and}
 use Rattle.std.proofs.lemmas.List.{length-map}
 use Rattle.std.specs.Borrow.{Bor}
-use Rattle.kt_dict.specs.Reading.{codes_at, code_at, Stops, used_with}
+use Rattle.kt_dict.specs.Reading.{codes_at, code_at, Stops}
 use Rattle.kt_dict.proofs.Words.{nows}
 use Rattle.kt_dict.proofs.Loop.{code_goes, code_stops, codes_done, used_within}
 use Rattle.kt_dict.proofs.reading.codes_of.Goals as goal

@@ -1,4 +1,4 @@
-use Rattle.std.proofs.Common.{◌∙◌, ap, not, map}
+use Rattle.std.proofs.Common.{◌∙◌, ap, not}
 use Rattle.kt_dict.proofs.Words.{any_now, keys_now, nows}
 use Rattle.kt_dict.proofs.table.use_item.Goals as goal
 

@@ -1,7 +1,7 @@
-use Rattle.std.proofs.Common.{◌≡◌, ◌++◌, ◌≤◌, ◌<◌, [], List, ℕ, length, map, ap, sym, subst, ◌∙◌, arith}
+use Rattle.std.proofs.Common.{◌≡◌, ◌++◌, ◌<◌, List, ℕ, length, ap, sym, subst, ◌∙◌, arith}
 use Rattle.std.specs.Borrow.{Bor}
 use Rattle.std.specs.List.{All, flat_map}
-use Rattle.kt_dict.specs.Spelling.{dictionary, short, entry, code, spelling, Fits}
+use Rattle.kt_dict.specs.Spelling.{dictionary, short, entry, code}
 use Rattle.kt_dict.proofs.Words.{nows}
 use Rattle.kt_dict.proofs.Short.{short_entries, short_keys, keys_count, spelled_by}
 use Rattle.kt_dict.proofs.writing.encode.Goals as goal

@@ -1,6 +1,0 @@
-use Rattle.kt_column.proofs.Chosen.{still_best}
-use Rattle.kt_column.proofs.values.try_next.Goals as goal
-
-pub returns-in-Some : goal.returns-in-Some
-returns-in-Some c =
-    still_best c.args.form c.args.items.now c.args.best (record { encoding = c.args.encoding; bytes = c.in-Some.bytes }) c.shorter.result c.requires.before (rw c.in-Some.is at c.in_ok-bytes.ensures) c.shorter.ensures
