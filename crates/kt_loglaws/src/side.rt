@@ -163,6 +163,13 @@ impl<L: Disk> LogSide<L> {
         self.queue.len()
     }
 
+    /// How many more records may be queued.
+    pub fn room(&self) -> usize
+        ensures { result ≡ self.now.room }
+    {
+        self.room
+    }
+
     /// Makes room for so many records more, also for when a batch comes back.
     pub fn reserve(&mut self, n: usize) -> Result<(), NoMemory>
         ensures room { OnOk result (self.new ≡ record self.old { room = self.old.room + n }) }
