@@ -1,6 +1,6 @@
 -- A write begins, as the goals of begin_now say it.
-use Rattle.std.proofs.Common.{◌≡◌, ℕ, ◌+◌, ◌<◌, ◌≤◌, List, [], ◌∷◌, ◌++◌, Some, None, Option, refl, true, false, Bool, ◌||◌, cond, sym, ap, ◌∙◌, subst, arith, map, length, min}
-use Rattle.std.specs.Prelude.{◌==◌, Result, Ok, Err, IfErr, OnErr}
+use Rattle.std.proofs.Common.{◌≡◌, ℕ, ◌+◌, ◌≤◌, List, [], ◌∷◌, ◌++◌, Some, None, Option, refl, true, false, Bool, ◌||◌, cond, sym, ap, ◌∙◌, subst, arith, map, length, min}
+use Rattle.std.specs.Prelude.{◌==◌}
 use Rattle.std.specs.List.{filter, list_any}
 use Rattle.std.specs.Ordering.{eq_by_cmp}
 use Rattle.std.proofs.lemmas.List.{map-append}
@@ -19,17 +19,14 @@ use Rattle.kt_mvcc.specs.Flying.{least_of, holds_one, holder, flies}
 use Rattle.kt_pool.specs.Contents.{Contents, with_reserved}
 use Rattle.kt_histlaws.specs.Pending.{Aloft}
 use Rattle.kt_histlaws.specs.Histories.{Store}
-use Rattle.kt_histlaws.specs.Flights.{AllOps}
-use Rattle.kt_tablet.specs.Filling.{IsWhole}
 use Rattle.kt_histlaws.specs.Core.{Core, Stands, flown_by}
 use Rattle.kt_histlaws.specs.Events.{begun}
 use Rattle.kt_histlaws.proofs.Events.{begin_stands}
 use Rattle.kt_tablet.specs.declared.tablet.FlyingWrite.{FlyingWrite}
-use Rattle.kt_tablet.specs.Views.{View, IsSound, IsReady, IsPlaced, IsProvided, AreProvided, held_cells, aloft_of, flier_of}
-use Rattle.kt_tablet.specs.Visits.{MayBegin, MayBeginNow, HasBegun, IsLarge, IsRefused, Leaves}
-use Rattle.kt_tablet.specs.declared.tablet.write.BeginNo.{BeginNo}
-use Rattle.kt_tablet.specs.declared.tablet.write.BeginNo.TheVariants as no
+use Rattle.kt_tablet.specs.Views.{View, IsSound, IsReady, IsProvided, AreProvided, held_cells, aloft_of, flier_of}
+use Rattle.kt_tablet.specs.Visits.{MayBeginNow, HasBegun}
 use Rattle.kt_tablet.proofs.Visits.{told_line}
+use Rattle.kt_tablet.proofs.Flights.{apart-append, rests_here}
 
 -- the clock of writes finds the same writes in the way
 any_held : (key : List ℕ) (ops : List RowOp) → list_any (λ held. same_key key held) (map (λ op. op.key) ops) ≡ list_any (λ other. eq_by_cmp key_cmp key other.key) ops
@@ -109,12 +106,13 @@ pub begin_sound : {C : Type 0} (readings : C → Option (List ℕ)) (view : View
     → trail ≡ view.core.trail ++ Begin s i ts m ∷ [] → a ≡ view.core.a → c ≡ ts → aloft ≡ view.core.aloft ++ record { s = s; i = i; ts = ts; ops = ops; applied = 0 } ∷ []
     → IsSound readings (record view { core = record view.core { trail = trail; a = a; c = c; aloft = aloft; stores = stores }; clock = clock; pool = pool })
 begin_sound readings view clock s i ts m ops needs trail a c aloft stores pool sound kept may time free more lines stays last fly = record {
+  found = sound.found;
   stands = λ first told. subst Stands (sym (new_begun (record view.core { first = first }) s i ts m ops trail a c aloft stores kept lines stays last fly))
       (subst (λ os. Stands (begun (record view.core { first = first }) s i ts m os)) (the_ops (command_at view.core.work s i) ops may.may.write)
       (begin_stands (record view.core { first = first }) s i ts m (sound.stands first told) (
         may.goes,
         record { next = may.may.at.next; rests = may.may.at.rests },
-        if_write (command_at view.core.work s i) ops _ may.may.write (record { room = subst (λ n. n ≤ view.core.work.cells) may.may.cells may.fits; apart = free; next = time }),
+        if_write (command_at view.core.work s i) ops _ may.may.write (record { room = subst (λ n. n ≤ view.core.work.cells) may.cells may.fits; apart = free; next = time }),
       )));
   clock = told_line readings view.opened view.clock clock view.core.trail trail (Begin s i ts m) sound.clock more lines;
 }
@@ -138,52 +136,31 @@ length-more : (flights : List FlyingWrite) (w : FlyingWrite) → length (flights
 length-more [] w = omega arith
 length-more (v ∷ flights) w = let e = length-more flights w in omega (arith, e)
 
-nothing_needs : (ops : List RowOp) → ops ≡ [] → need ops ≡ 0
+pub nothing_needs : (ops : List RowOp) → ops ≡ [] → need ops ≡ 0
 nothing_needs ops e = ap need e
 
-pub ready_begun : (s i ts : ℕ) (ops : List RowOp) (needs : ℕ) (fill : Row) (stopped : Bool) (flights new mid : List FlyingWrite) (flying more_flying : List Flier) (lines room more most : ℕ) (pool after : Contents)
-    → IsReady fill stopped flights flying lines room pool → needs ≡ need ops → AllOps (λ op. IsWhole fill op.kind op.cells) ops
-    → new ≡ mid ++ record { who = s; index = i; ts = ts; ops = ops; applied = 0; left = needs } ∷ [] → mid ≡ flights
-    → more_flying ≡ flying ++ record { who = s; ts = ts; keys = map (λ op. op.key) ops } ∷ [] → after ≡ with_reserved pool (pool.reserved + needs)
+pub ready_begun : (fill : Row) (stopped : Bool) (w : FlyingWrite) (flights new mid : List FlyingWrite) (flying more_flying : List Flier) (lines room more most : ℕ) (pool after : Contents)
+    → IsReady fill stopped flights flying lines room pool → IsProvided fill w → list_any (λ v. v.s == w.who) (map flown_by (map aloft_of flights)) ≡ false
+    → new ≡ mid ++ w ∷ [] → mid ≡ flights
+    → more_flying ≡ flying ++ flier_of w ∷ [] → after ≡ with_reserved pool (pool.reserved + w.left)
     → more + length flights + 2 ≤ most → IsReady fill stopped new more_flying more most after
-ready_begun s i ts ops needs fill stopped flights new mid flying more_flying lines room more most pool after ready cells whole pushed same held promised fits =
-    subst (λ fs. IsReady fill stopped fs more_flying more most after) (sym (pushed ∙ ap (λ l. l ++ record { who = s; index = i; ts = ts; ops = ops; applied = 0; left = needs } ∷ []) same)) (record {
-      held = held ∙ ap (λ l. l ++ record { who = s; ts = ts; keys = map (λ op. op.key) ops } ∷ []) ready.held ∙ sym (map-append flier_of flights (record { who = s; index = i; ts = ts; ops = ops; applied = 0; left = needs } ∷ []));
-      cells = held-append flights (record { who = s; index = i; ts = ts; ops = ops; applied = 0; left = needs }) ∙ ap (λ n. n + needs) ready.cells ∙ ap (λ p. p.reserved) (sym promised);
-      provided = provided-append fill flights (record { who = s; index = i; ts = ts; ops = ops; applied = 0; left = needs }) ready.provided (record {
-        enough = omega (arith, cells);
-        over = λ none. cells ∙ nothing_needs ops none;
-        whole = whole;
-      });
-      end = λ goes. let one = length-more flights (record { who = s; index = i; ts = ts; ops = ops; applied = 0; left = needs }) in omega (arith, one, fits);
+ready_begun fill stopped w flights new mid flying more_flying lines room more most pool after ready provided rests pushed same held promised fits =
+    subst (λ fs. IsReady fill stopped fs more_flying more most after) (sym (pushed ∙ ap (λ l. l ++ w ∷ []) same)) (record {
+      held = held ∙ ap (λ l. l ++ flier_of w ∷ []) ready.held ∙ sym (map-append flier_of flights (w ∷ []));
+      cells = held-append flights w ∙ ap (λ n. n + w.left) ready.cells ∙ ap (λ p. p.reserved) (sym promised);
+      provided = provided-append fill flights w ready.provided provided;
+      apart = apart-append flights w ready.apart (rests_here w.who flights ∙ rests);
+      end = λ goes. let one = length-more flights w in omega (arith, one, fits);
     })
 
 -- a promise changes nothing of the store
-pub promised_alike : {X : Type 0} (stands : X → Contents → Type 0) (store : X → Contents → Store) (s : X) (pool new : Contents) (n : ℕ) → IsPlaced stands store s pool → new ≡ with_reserved pool n → store s new ≡ store s pool
-promised_alike stands store s pool new n is e = ap (store s) e ∙ (is.looks s pool n is.here).1
+pub promised_alike : {X : Type 0} (stands : X → Contents → Type 0) (store : X → Contents → Store) (s : X) (pool new : Contents) (n : ℕ)
+    → ((s : X) (pool : Contents) (n : ℕ) → stands s pool → stands s (with_reserved pool n) × (store s (with_reserved pool n) ≡ store s pool)) → stands s pool → new ≡ with_reserved pool n → store s new ≡ store s pool
+promised_alike stands store s pool new n looks here e = ap (store s) e ∙ (looks s pool n here).1
 
-pub promised_placed : {X : Type 0} (stands : X → Contents → Type 0) (store : X → Contents → Store) (s : X) (pool new : Contents) (n : ℕ) → IsPlaced stands store s pool → new ≡ with_reserved pool n → IsPlaced stands store s new
-promised_placed stands store s pool new n is e = subst (IsPlaced stands store s) (sym e) (record { here = (is.looks s pool n is.here).0; looks = is.looks })
+pub promised_placed : {X : Type 0} (stands : X → Contents → Type 0) (store : X → Contents → Store) (s : X) (pool new : Contents) (n : ℕ)
+    → ((s : X) (pool : Contents) (n : ℕ) → stands s pool → stands s (with_reserved pool n) × (store s (with_reserved pool n) ≡ store s pool)) → stands s pool → new ≡ with_reserved pool n → stands s new
+promised_placed stands store s pool new n looks here e = subst (stands s) (sym e) (looks s pool n here).0
 
 pub way_old : {C : Type 0} (view old : View C) (ops : List RowOp) (found : Option ℕ) → view ≡ old → least (filter (λ w. share_key ops w.ops) (map flown_by view.core.aloft)) ≡ found → least (filter (λ w. share_key ops w.ops) (map flown_by old.core.aloft)) ≡ found
 way_old view old ops found e h = subst (λ v. least (filter (λ w. share_key ops w.ops) (map flown_by v.core.aloft)) ≡ found) e h
-
--- what the pool has room for at all, and what it has not
-pub fits_pool : (core : Core) (s i : ℕ) (ops : List RowOp) (needs : ℕ) → (core.stopped ≡ false → MayBegin core s i ops needs) → core.stopped ≡ false → needs ≤ core.work.cells → MayBeginNow core s i ops needs
-fits_pool core s i ops needs may goes fits = record { may = may goes; goes = goes; fits = fits }
-
-pub not_in_pool : (core : Core) (s i : ℕ) (ops : List RowOp) (needs : ℕ) → (core.stopped ≡ false → MayBegin core s i ops needs) → core.stopped ≡ false → core.work.cells < needs → IsLarge core s i needs
-not_in_pool core s i ops needs may goes large = record {
-  at = (may goes).at;
-  goes = goes;
-  write = if_write (command_at core.work s i) ops (λ os. (needs ≡ need os) × (core.work.cells < needs)) (may goes).write ((may goes).cells, large);
-  few = (may goes).few;
-}
-
-pub kept_back : {C : Type 0} (r : Result ℕ BeginNo) (old new : View C) (s i : ℕ) (ops : List RowOp) (needs : ℕ) → IfErr r (IsRefused old ops needs) → OnErr r (new ≡ old) → needs ≤ old.core.work.cells → IfErr r (Leaves old new s i)
-kept_back (Ok ts) old new s i ops needs refused same fits = tt
-kept_back (Err no.Stopped) old new s i ops needs refused same fits = same
-kept_back (Err (no.Large n)) old new s i ops needs refused same fits = absurd (omega (arith, refused.1, fits))
-kept_back (Err (no.Wait ts)) old new s i ops needs refused same fits = same
-kept_back (Err (no.Room n left)) old new s i ops needs refused same fits = same
-kept_back (Err no.Memory) old new s i ops needs refused same fits = same

@@ -1,3 +1,13 @@
 pub mod Visits
 pub mod Begins
 pub mod Filling
+pub mod MemRows
+pub mod Told
+pub mod Flights
+pub mod Applying
+pub mod Rows
+pub mod Plans
+pub mod Places
+pub mod Snaps
+pub mod Scans
+pub mod Examples

@@ -1,8 +1,8 @@
 -- What an event leaves is sound, as its goals say it.
-use Rattle.std.proofs.Common.{◌≡◌, ℕ, zero, suc, ◌+◌, ◌-◌, ◌<◌, ◌≤◌, List, [], ◌∷◌, ◌++◌, Some, None, Option, refl, true, false, Bool, sym, ap, ◌∙◌, subst, arith, map, length}
-use Rattle.std.specs.Prelude.{slice_get, slice_set, max, min, ◌==◌, ◌&&◌, ◌||◌, not, cond}
+use Rattle.std.proofs.Common.{◌≡◌, ℕ, suc, ◌+◌, ◌<◌, ◌≤◌, ◌^◌, List, [], ◌∷◌, ◌++◌, Some, None, Option, refl, true, false, Bool, sym, ap, ◌∙◌, subst, arith, map, length}
+use Rattle.std.specs.Prelude.{IsSome, is_some, max, min, ◌==◌, ◌&&◌, ◌||◌, not, cond}
 use Rattle.std.specs.List.{filter, list_any}
-use Rattle.std.proofs.lemmas.List.{map-set, append-nil}
+use Rattle.std.proofs.lemmas.List.{append-nil}
 use Rattle.kt_base.specs.Causes.{Grows}
 use Rattle.kt_base.proofs.Grows.{grows_more, grows_none}
 use Rattle.kt_history.specs.declared.command.Command.{Command}
@@ -12,7 +12,7 @@ use Rattle.kt_history.specs.declared.event.Event.TheVariants.{Begin, End, Look, 
 use Rattle.kt_history.specs.Machine.{Turn, nth, set_nth, next_timestamp, readings_of, IfMark, command_at, least, clean_below, first_turns, HasDifferentKeys}
 use Rattle.kt_history.specs.Rows.{Row}
 use Rattle.kt_pool.specs.Contents.{Contents}
-use Rattle.kt_histlaws.specs.Histories.{Shows, hists}
+use Rattle.kt_histlaws.specs.Histories.{Store, Shows, hists}
 use Rattle.kt_histlaws.specs.Fitting.{AreSound}
 use Rattle.kt_mvcc.specs.declared.flier.Flier.{Flier}
 use Rattle.kt_mvcc.specs.Flying.{least_of}
@@ -21,9 +21,11 @@ use Rattle.kt_histlaws.specs.Events.{looked, marked, raised, answered, halted, e
 use Rattle.kt_histlaws.specs.Pending.{Aloft}
 use Rattle.kt_histlaws.proofs.Events.{look_stands, mark_stands, open_stands, chore_stands, large_stands, stop_stands, end_stands}
 use Rattle.kt_tablet.specs.declared.tablet.FlyingWrite.{FlyingWrite}
-use Rattle.kt_tablet.specs.Views.{View, IsSound, IsReady, aloft_of, flier_of, turn_of, held_cells, AreProvided}
-use Rattle.kt_tablet.specs.declared.turns.Place.{Place}
-use Rattle.kt_tablet.specs.Visits.{MayLook, HasLooked, MayMark, HasMarked, MayAnswerChore, MayEnd, IsLarge}
+use Rattle.kt_history.specs.History.{Past}
+use Rattle.kt_tablet.specs.Views.{View, IsSound, Opens, IsReady, aloft_of, flier_of, held_cells, AreProvided}
+use Rattle.kt_tablet.specs.Visits.{MayLook, HasLooked, MayMark, HasMarked, MayAnswerChore, MayEnd, HasEnded, IsLarge, flight_of}
+use Rattle.kt_tablet.proofs.Flights.{apart-filter}
+use Rattle.std.proofs.lemmas.Bool.Decides.{nat_tests}
 
 pub readings-append : (es fs : List Event) → readings_of (es ++ fs) ≡ readings_of es ++ readings_of fs
 readings-append [] fs = refl
@@ -54,16 +56,9 @@ pub told_still : {C : Type 0} (readings : C → Option (List ℕ)) (opened clock
 told_still readings opened clock old trail e sound none lines = subst (λ l. Grows (readings opened) (readings clock) (readings_of l)) (sym lines)
     (subst (Grows (readings opened) (readings clock)) (sym (readings-append old (e ∷ []) ∙ ap (λ r. readings_of old ++ r) none ∙ append-nil (readings_of old))) sound)
 
-some_not_none : {A : Type 0} (x : A) → None ≡ Some x → ⊥
-some_not_none x e = cc
-
-pub counted : (turns : List Turn) (s : ℕ) (turn : Turn) → nth turns s ≡ Some turn → 0 < s
-counted turns zero turn h = absurd (some_not_none turn h)
-counted turns (suc s) turn h = omega arith
-
-pub set_turn : {P : Type 0} (f : P → Turn) (places : List P) (s : ℕ) (place : P) → 0 < s → map f (slice_set places (s - 1) place) ≡ set_nth (map f places) s (f place)
-set_turn f places zero place lt = absurd (omega arith)
-set_turn f places (suc s) place lt = let e : suc s - 1 ≡ s = omega arith in ap (λ n. map f (slice_set places n place)) e ∙ map-set f places s place
+-- a session stands somewhere
+pub has_turn : (turns : List Turn) (s : ℕ) (turn : Turn) → nth turns s ≡ Some turn → IsSome (nth turns s)
+has_turn turns s turn h = ap is_some h
 
 -- a fact of the old value is one of the opened fields
 pub of_old : {C : Type 0} (P : Core → Type 0) (view old : View C) → view ≡ old → (old.core.stopped ≡ false → P old.core) → view.core.stopped ≡ false → P view.core
@@ -72,7 +67,7 @@ of_old P view old e h goes = subst (λ v. v.core.stopped ≡ false → P v.core)
 -- what has been promised is still there, with a line more
 pub ready_line : (fill : Row) (stopped : Bool) (flights : List FlyingWrite) (flying new : List Flier) (lines room more most : ℕ) (pool : Contents)
     → IsReady fill stopped flights flying lines room pool → new ≡ flying → more + length flights + 1 ≤ most → IsReady fill stopped flights new more most pool
-ready_line fill stopped flights flying new lines room more most pool ready same fits = record { held = same ∙ ready.held; cells = ready.cells; provided = ready.provided; end = λ goes. fits }
+ready_line fill stopped flights flying new lines room more most pool ready same fits = record { held = same ∙ ready.held; cells = ready.cells; provided = ready.provided; apart = ready.apart; end = λ goes. fits }
 
 -- LOOK
 new_looked : (core : Core) (s i t m : ℕ) (trail : List Event) (a c : ℕ) (turns : List Turn) → trail ≡ core.trail ++ Look s i t m ∷ [] → a ≡ core.a → c ≡ t → turns ≡ set_nth core.turns s (record { next = i; look = Some t })
@@ -84,6 +79,7 @@ pub look_sound : {C : Type 0} (readings : C → Option (List ℕ)) (view : View 
     → trail ≡ view.core.trail ++ Look s i t m ∷ [] → a ≡ view.core.a → c ≡ t → turns ≡ set_nth view.core.turns s (record { next = i; look = Some t })
     → IsSound readings (record view { core = record view.core { trail = trail; a = a; c = c; turns = turns }; clock = clock })
 look_sound readings view clock s i t m trail a c turns sound goes may time more lines stays last places = record {
+  found = sound.found;
   stands = λ first told. subst Stands (sym (new_looked (record view.core { first = first }) s i t m trail a c turns lines stays last places))
       (look_stands (record view.core { first = first }) s i t m (sound.stands first told) (goes, record { next = may.at.next; rests = may.at.rests }, may.scan, time));
   clock = told_line readings view.opened view.clock clock view.core.trail trail (Look s i t m) sound.clock more lines;
@@ -125,6 +121,7 @@ pub mark_sound : {C : Type 0} (readings : C → Option (List ℕ)) (view : View 
     → trail ≡ view.core.trail ++ Mark s i value ∷ [] → a ≡ value → c ≡ view.core.c → turns ≡ set_nth view.core.turns s (record { next = i + 1; look = None })
     → IsSound readings (record view { core = record view.core { trail = trail; a = a; c = c; turns = turns } })
 mark_sound readings view s i to value trail a c turns sound goes may is lines up stays places = record {
+  found = sound.found;
   stands = λ first told. subst Stands (sym (new_marked (record view.core { first = first }) s i value trail a c turns lines up stays places))
       (mark_stands (record view.core { first = first }) s i value (sound.stands first told)
       (goes, record { next = may.at.next; rests = may.at.rests }, if_mark (command_at view.core.work s i) to (λ t. value ≡ max view.core.a (min t (clean_below (least (map flown_by view.core.aloft)) view.core.c))) may.command is));
@@ -138,27 +135,20 @@ has_marked view old s i to value trail a c turns e is lines up stays places =
     subst (λ v. HasMarked v.core (record view.core { trail = trail; a = a; c = c; turns = turns }) s i to value) e (record { value = is; core = new_marked view.core s i value trail a c turns lines up stays places })
 
 -- OF
-turns_are : (plan : List (List Command)) → map (λ _. record { next = 1; look = None }) plan ≡ first_turns plan
-turns_are [] = refl
-turns_are (commands ∷ plan) = ap (λ r. record { next = 1; look = None } ∷ r) (turns_are plan)
-
-pub turns_first : (places : List Place) (plan : List (List Command)) → places ≡ map (λ _. record { next = 1; look = None }) plan → map turn_of places ≡ first_turns plan
-turns_first places plan e = ap (map turn_of) e ∙ map-map plan ∙ turns_are plan
-  where
-    map-map : (xs : List (List Command)) → map turn_of (map (λ _. record { next = 1; look = None }) xs) ≡ map (λ _. record { next = 1; look = None }) xs
-    map-map [] = refl
-    map-map (x ∷ xs) = ap (λ r. record { next = 1; look = None } ∷ r) (map-map xs)
-
 pub of_sound : {C : Type 0} (readings : C → Option (List ℕ)) (view : View C) → view.core.trail ≡ [] → view.core.aloft ≡ [] → view.core.a ≡ view.mark → view.core.c ≡ view.core.opened → view.core.stopped ≡ false
-    → view.core.turns ≡ first_turns view.core.work.plan → view.opening ≡ view.core.stores → view.opened ≡ view.clock → HasDifferentKeys view.core.work → IsSound readings view
-of_sound readings view lines flies a c goes turns same told planned = record {
+    → view.core.turns ≡ first_turns view.core.work.plan → view.opening ≡ view.core.stores → view.opened ≡ view.clock → HasDifferentKeys view.core.work → (first : Past) × Opens view.opening view.mark view.core.opened first → IsSound readings view
+of_sound readings view lines flies a c goes turns same told planned found = record {
+  found = found;
   stands = λ first o. open_stands (record view.core { first = first }) lines flies (a ∙ sym o.mark_is) c goes turns o.ends
       (subst (λ ss. Shows first.mark ss first) same o.shows) (λ q. subst (λ ss. AreSound first.mark (hists q ss)) same (o.sound q)) planned;
   clock = subst (λ l. Grows (readings view.opened) (readings view.clock) (readings_of l)) (sym lines) (subst (λ x. Grows (readings x) (readings view.clock) []) (sym told) (grows_none (readings view.clock)));
 }
 
+pub of_found : (opening stores : List Store) (mark last : ℕ) → (first : Past) × Opens stores mark last first → opening ≡ stores → (first : Past) × Opens opening mark last first
+of_found opening stores mark last found same = subst (λ ss. (first : Past) × Opens ss mark last first) (sym same) found
+
 pub ready_first : (fill : Row) (flights : List FlyingWrite) (flying : List Flier) (lines room : ℕ) (pool : Contents) → flights ≡ [] → flying ≡ [] → pool.reserved ≡ 0 → lines + 1 ≤ room → IsReady fill false flights flying lines room pool
-ready_first fill flights flying lines room pool none rests unpromised fits = subst (λ fs. IsReady fill false fs flying lines room pool) (sym none) (record { held = rests; cells = sym unpromised; provided = tt; end = λ goes. omega (arith, fits) })
+ready_first fill flights flying lines room pool none rests unpromised fits = subst (λ fs. IsReady fill false fs flying lines room pool) (sym none) (record { held = rests; cells = sym unpromised; provided = tt; apart = tt; end = λ goes. omega (arith, fits) })
 
 -- CHORE
 pub new_answered : (core : Core) (s i : ℕ) (e : Event) (trail : List Event) (turns : List Turn) → trail ≡ core.trail ++ e ∷ [] → turns ≡ set_nth core.turns s (record { next = i + 1; look = None })
@@ -170,6 +160,7 @@ pub chore_sound : {C : Type 0} (readings : C → Option (List ℕ)) (view : View
     → trail ≡ view.core.trail ++ Chore s i ∷ [] → turns ≡ set_nth view.core.turns s (record { next = i + 1; look = None })
     → IsSound readings (record view { core = record view.core { trail = trail; turns = turns } })
 chore_sound readings view s i trail turns sound goes may lines places = record {
+  found = sound.found;
   stands = λ first told. subst Stands (sym (new_answered (record view.core { first = first }) s i (Chore s i) trail turns lines places))
       (chore_stands (record view.core { first = first }) s i (sound.stands first told) (goes, record { next = may.at.next; rests = may.at.rests }, may.chore));
   clock = told_still readings view.opened view.clock view.core.trail trail (Chore s i) sound.clock refl lines;
@@ -187,6 +178,7 @@ new_halted core trail lines = λ k. record core { trail = lines k; stopped = tru
 pub stop_sound : {C : Type 0} (readings : C → Option (List ℕ)) (view : View C) (trail : List Event) → IsSound readings view → view.core.stopped ≡ false → trail ≡ view.core.trail ++ Stop ∷ []
     → IsSound readings (record view { core = record view.core { trail = trail; stopped = true } })
 stop_sound readings view trail sound goes lines = record {
+  found = sound.found;
   stands = λ first told. subst Stands (sym (new_halted (record view.core { first = first }) trail lines)) (stop_stands (record view.core { first = first }) (sound.stands first told) goes);
   clock = told_still readings view.opened view.clock view.core.trail trail Stop sound.clock refl lines;
 }
@@ -198,7 +190,7 @@ true_not_false : true ≡ false → ⊥
 true_not_false e = cc
 
 pub ready_stopped : (fill : Row) (stopped : Bool) (flights : List FlyingWrite) (flying : List Flier) (lines room more most : ℕ) (pool : Contents) → IsReady fill stopped flights flying lines room pool → IsReady fill true flights flying more most pool
-ready_stopped fill stopped flights flying lines room more most pool ready = record { held = ready.held; cells = ready.cells; provided = ready.provided; end = λ goes. absurd (true_not_false goes) }
+ready_stopped fill stopped flights flying lines room more most pool ready = record { held = ready.held; cells = ready.cells; provided = ready.provided; apart = ready.apart; end = λ goes. absurd (true_not_false goes) }
 
 -- END
 filter_aloft : (p : ℕ → Bool) (flights : List FlyingWrite) → map aloft_of (filter (λ f. p f.who) flights) ≡ filter (λ w. p w.s) (map aloft_of flights)
@@ -223,19 +215,55 @@ new_ended : (core : Core) (s i ts : ℕ) (trail : List Event) (a c : ℕ) (aloft
     → record core { trail = trail; a = a; c = c; aloft = aloft; turns = turns } ≡ ended core s i ts
 new_ended core s i ts trail a c aloft turns lines stays last flies places = λ k. record core { trail = lines k; a = stays k; c = last k; aloft = flies k; turns = places k }
 
-pub end_sound : {C : Type 0} (readings : C → Option (List ℕ)) (view : View C) (s i ts : ℕ) (trail : List Event) (a c : ℕ) (aloft : List Aloft) (turns : List Turn)
-    → IsSound readings view → view.core.stopped ≡ false → MayEnd view.core s i ts
-    → trail ≡ view.core.trail ++ End s i ts ∷ [] → a ≡ view.core.a → c ≡ view.core.c → aloft ≡ filter (λ w. not (w.s == s)) view.core.aloft → turns ≡ set_nth view.core.turns s (record { next = i + 1; look = None })
-    → IsSound readings (record view { core = record view.core { trail = trail; a = a; c = c; aloft = aloft; turns = turns } })
-end_sound readings view s i ts trail a c aloft turns sound goes may lines stays last flies places = record {
-  stands = λ first told. subst Stands (sym (new_ended (record view.core { first = first }) s i ts trail a c aloft turns lines stays last flies places)) (end_stands (record view.core { first = first }) s i ts (sound.stands first told) (goes, may.flies) may.over);
-  clock = told_still readings view.opened view.clock view.core.trail trail (End s i ts) sound.clock refl lines;
+-- what ends is this write
+pub record EndsAs (core : Core) (s : ℕ) (w : FlyingWrite) : Type 0 where
+  pub flies : flight_of s core.aloft ≡ Some (aloft_of w)
+  pub turn : nth core.turns s ≡ Some (record { next = w.index; look = None })
+  pub over : IsOver s core.aloft
+  pub few : w.index + 1 < 2 ^ 32
+
+pub same_flight : (x y : Aloft) → Some x ≡ Some y → x ≡ y
+same_flight x y e = cc
+
+pub ends_as : (core : Core) (s : ℕ) (w : FlyingWrite) → MayEnd core s → flight_of s core.aloft ≡ Some (aloft_of w) → EndsAs core s w
+ends_as core s w may flies = let same = same_flight may.flight (aloft_of w) (sym may.flies ∙ flies) in record {
+  flies = flies;
+  turn = may.turn ∙ ap (λ f. Some (record { next = f.i; look = None })) same;
+  over = may.over;
+  few = subst (λ f. f.i + 1 < 2 ^ 32) same may.few;
 }
 
-pub has_ended : {C : Type 0} (view old : View C) (s i ts : ℕ) (trail : List Event) (a c : ℕ) (aloft : List Aloft) (turns : List Turn) → view ≡ old
-    → trail ≡ view.core.trail ++ End s i ts ∷ [] → a ≡ view.core.a → c ≡ view.core.c → aloft ≡ filter (λ w. not (w.s == s)) view.core.aloft → turns ≡ set_nth view.core.turns s (record { next = i + 1; look = None })
-    → record view.core { trail = trail; a = a; c = c; aloft = aloft; turns = turns } ≡ ended old.core s i ts
-has_ended view old s i ts trail a c aloft turns e lines stays last flies places = new_ended view.core s i ts trail a c aloft turns lines stays last flies places ∙ ap (λ v. ended v.core s i ts) e
+itself : (n : ℕ) → (n == n) ≡ true
+itself n = grind (arith, nat_tests)
+
+all_three : (s i ts : ℕ) (w flight : Aloft) (rest : Bool) → Some w ≡ Some flight → i ≡ flight.i → ts ≡ flight.ts → (((w.i == i) && (w.ts == ts)) || rest) ≡ true
+all_three s i ts w flight rest e here time = let same = same_flight w flight e in
+    ap (λ b. b || rest) ((λ k. ((w.i == (here ∙ ap (λ f. f.i) (sym same)) k) && (w.ts == (time ∙ ap (λ f. f.ts) (sym same)) k))) ∙ (λ k. (itself w.i k && itself w.ts k)))
+
+pub flies_so : (s i ts : ℕ) (aloft : List Aloft) (flight : Aloft) → flight_of s aloft ≡ Some flight → i ≡ flight.i → ts ≡ flight.ts → list_any (λ w. (w.s == s) && (w.i == i) && (w.ts == ts)) (map flown_by aloft) ≡ true
+flies_so s i ts [] flight h here time = cc
+flies_so s i ts (w ∷ aloft) flight h here time = elim (w.s == s) as (λ b. cond b (Some w) (flight_of s aloft) ≡ Some flight → ((b && (w.i == i) && (w.ts == ts)) || list_any (λ w. (w.s == s) && (w.i == i) && (w.ts == ts)) (map flown_by aloft)) ≡ true) [
+  | true ↦ λ e. all_three s i ts w flight (list_any (λ w. (w.s == s) && (w.i == i) && (w.ts == ts)) (map flown_by aloft)) e here time
+  | false ↦ λ e. flies_so s i ts aloft flight e here time
+] h
+
+pub end_sound : {C : Type 0} (readings : C → Option (List ℕ)) (view : View C) (s : ℕ) (w : FlyingWrite) (trail : List Event) (a c : ℕ) (aloft : List Aloft) (turns : List Turn)
+    → IsSound readings view → view.core.stopped ≡ false → EndsAs view.core s w
+    → trail ≡ view.core.trail ++ End s w.index w.ts ∷ [] → a ≡ view.core.a → c ≡ view.core.c → aloft ≡ filter (λ w. not (w.s == s)) view.core.aloft → turns ≡ set_nth view.core.turns s (record { next = w.index + 1; look = None })
+    → IsSound readings (record view { core = record view.core { trail = trail; a = a; c = c; aloft = aloft; turns = turns } })
+end_sound readings view s w trail a c aloft turns sound goes ends lines stays last flies places = record {
+  found = sound.found;
+  stands = λ first told. subst Stands (sym (new_ended (record view.core { first = first }) s w.index w.ts trail a c aloft turns lines stays last flies places))
+      (end_stands (record view.core { first = first }) s w.index w.ts (sound.stands first told) (goes, flies_so s w.index w.ts view.core.aloft (aloft_of w) ends.flies refl refl) ends.over);
+  clock = told_still readings view.opened view.clock view.core.trail trail (End s w.index w.ts) sound.clock refl lines;
+}
+
+pub has_ended : {C : Type 0} (view old : View C) (s : ℕ) (w : FlyingWrite) (trail : List Event) (a c : ℕ) (aloft : List Aloft) (turns : List Turn) → view ≡ old → EndsAs view.core s w
+    → trail ≡ view.core.trail ++ End s w.index w.ts ∷ [] → a ≡ view.core.a → c ≡ view.core.c → aloft ≡ filter (λ w. not (w.s == s)) view.core.aloft → turns ≡ set_nth view.core.turns s (record { next = w.index + 1; look = None })
+    → HasEnded old.core (record view.core { trail = trail; a = a; c = c; aloft = aloft; turns = turns }) s w.index w.ts
+has_ended view old s w trail a c aloft turns e ends lines stays last flies places =
+    subst (λ v. HasEnded v.core (record view.core { trail = trail; a = a; c = c; aloft = aloft; turns = turns }) s w.index w.ts) e
+    (record { flight = aloft_of w; flies = ends.flies; index = refl; time = refl; core = new_ended view.core s w.index w.ts trail a c aloft turns lines stays last flies places })
 
 -- a write that is over holds no cells, and its line is its own
 cells_left : (s : ℕ) (fill : Row) (flights : List FlyingWrite) → AreProvided fill flights → IsOver s (map aloft_of flights) → held_cells (filter (λ f. not (f.who == s)) flights) ≡ held_cells flights
@@ -288,18 +316,9 @@ ready_ended s i ts fill stopped flights kept flying new lines room more most poo
       held = ends ∙ ap (filter (λ f. not (f.who == s))) ready.held ∙ sym (filter_flier (λ n. not (n == s)) flights);
       cells = cells_left s fill flights ready.provided over ∙ ready.cells;
       provided = still_provided (λ f. not (f.who == s)) fill flights ready.provided;
+      apart = apart-filter (λ f. not (f.who == s)) flights ready.apart;
       end = λ g. let fits = ready.end goes in let fewer = one_fewer s i ts flights flies in omega (arith, one, same, fits, fewer);
     })
-
--- a session that has a turn has its place
-pub placed : {P : Type 0} (f : P → Turn) (places : List P) (s : ℕ) (turn : Turn) → nth (map f places) s ≡ Some turn → s - 1 < length places
-placed f places zero turn h = absurd (some_not_none turn h)
-placed f places (suc s) turn h = let within = got f places s turn h in omega (arith, within)
-  where
-    got : {P : Type 0} (f : P → Turn) (places : List P) (k : ℕ) (turn : Turn) → slice_get (map f places) k ≡ Some turn → k < length places
-    got f [] k turn h = absurd (some_not_none turn h)
-    got f (x ∷ xs) zero turn h = omega arith
-    got f (x ∷ xs) (suc k) turn h = let within = got f xs k turn h in omega (arith, within)
 
 -- LARGE
 pub large_sound : {C : Type 0} (readings : C → Option (List ℕ)) (view : View C) (s i n : ℕ) (trail : List Event) (turns : List Turn)
@@ -307,6 +326,7 @@ pub large_sound : {C : Type 0} (readings : C → Option (List ℕ)) (view : View
     → trail ≡ view.core.trail ++ Large s i n ∷ [] → turns ≡ set_nth view.core.turns s (record { next = i + 1; look = None })
     → IsSound readings (record view { core = record view.core { trail = trail; turns = turns } })
 large_sound readings view s i n trail turns sound may lines places = record {
+  found = sound.found;
   stands = λ first told. subst Stands (sym (new_answered (record view.core { first = first }) s i (Large s i n) trail turns lines places))
       (large_stands (record view.core { first = first }) s i n (sound.stands first told) (may.goes, record { next = may.at.next; rests = may.at.rests }, may.write));
   clock = told_still readings view.opened view.clock view.core.trail trail (Large s i n) sound.clock refl lines;

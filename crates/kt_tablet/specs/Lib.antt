@@ -1,4 +1,11 @@
 pub mod Filling
+pub mod Places
 pub mod Views
 pub mod Visits
 pub mod Stores
+pub mod Rows
+pub mod Snaps
+pub mod SnapLaws
+pub mod Reads
+pub mod StoreLaws
+pub mod Examples

@@ -1,5 +1,5 @@
 -- What a store in the pool does with an operation: the change of its own cells, and the cells that it takes.
-use Rattle.std.specs.Prelude.{◌≡◌, ◌≤◌, ℕ, ◌+◌, ◌/◌, List, [], ◌∷◌, length, map, nat_le, Option}
+use Rattle.std.specs.Prelude.{◌≡◌, ◌≤◌, ℕ, ◌+◌, ◌/◌, false, true, List, [], ◌∷◌, length, map, nat_le, Option, None}
 use Rattle.std.specs.List.{filter, flat_map}
 use Rattle.kt_history.specs.declared.change.Change.{Change}
 use Rattle.kt_history.specs.declared.change.Change.TheVariants.{Ins, Upd, Del}
@@ -8,9 +8,12 @@ use Rattle.kt_history.specs.declared.operation.RowOp.{RowOp}
 use Rattle.kt_history.specs.declared.target.Kindly.{Kindly}
 use Rattle.kt_history.specs.declared.target.Kindly.TheVariants as kindly
 use Rattle.kt_history.specs.Operations.{op_len}
-use Rattle.kt_history.specs.Rows.{Row, apply}
+use Rattle.std.specs.FinMap.Entries.{is_sorted}
+use Rattle.kt_history.specs.Rows.{Row, apply, key_cmp}
 use Rattle.kt_pool.specs.Contents.{Contents, used}
 use Rattle.kt_histlaws.specs.Histories.{Store, Hist, Steps}
+use Rattle.kt_memrowset.specs.declared.store.MemRowSet.{MemRowSet}
+use Rattle.kt_memrowset.specs.Stores.{IsStore, is_frozen}
 
 -- the change of this kind, with the operation's own cells
 abbrev pub change_of : Kindly → Row → Change
@@ -41,3 +44,18 @@ pub record TakesUpTo (most : ℕ) (old new : Contents) : Type 0 where
   pub used : used new ≡ used old + cells
   pub reserved : new.reserved + cells ≡ old.reserved
   pub size : length new.places ≡ length old.places
+
+-- a MemRowSet stands in the pool and takes inserts
+pub record IsOpenStore (s : MemRowSet) (pool : Contents) : Type 0 where
+  pub stands : IsStore s pool
+  pub thawed : is_frozen s ≡ false
+
+-- no row was there before its changes
+abbrev pub AllBare : Store → Type 0
+AllBare [] = Unit {0}
+AllBare (r ∷ store) = (r.1.first ≡ None) × AllBare store
+
+-- the keys rise, and all that the store has of a row are its changes
+pub record IsGrown (store : Store) : Type 0 where
+  pub sorted : is_sorted key_cmp store ≡ true
+  pub bare : AllBare store

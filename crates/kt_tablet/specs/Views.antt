@@ -1,33 +1,37 @@
 -- What a tablet's fields mean, and what it keeps.
-use Rattle.std.specs.Prelude.{◌≡◌, ◌≤◌, ℕ, ◌+◌, Bool, false, List, [], ◌∷◌, map, length, Option, drop}
+use Rattle.std.specs.Prelude.{◌≡◌, ◌≤◌, ℕ, ◌+◌, Bool, true, false, List, [], ◌∷◌, map, length, Option, drop, vec_len, vec_capacity}
 use Rattle.kt_base.specs.declared.cell.Kind.{Kind}
 use Rattle.kt_base.specs.Causes.{Grows}
 use Rattle.kt_history.specs.declared.command.Command.{Command}
 use Rattle.kt_history.specs.Operations.{need}
+use Rattle.kt_history.specs.declared.target.Target.{Target}
 use Rattle.kt_history.specs.Rows.{Row}
 use Rattle.kt_history.specs.History.{Past, IsPastUpTo}
-use Rattle.kt_history.specs.Machine.{Workload, Turn, readings_of}
-use Rattle.kt_pool.specs.Contents.{Contents, with_reserved}
+use Rattle.kt_history.specs.Machine.{Workload, readings_of, start, state_after}
+use Rattle.kt_pool.specs.Contents.{Contents}
 use Rattle.kt_schema.specs.declared.column.Column.{Column}
 use Rattle.kt_schema.specs.Columns.{key_columns, other_columns}
 use Rattle.kt_mvcc.specs.declared.flier.Flier.{Flier}
+use Rattle.kt_records.specs.Rules.{may_hold, EachAfter, FollowingOp}
 use Rattle.kt_histlaws.specs.Histories.{Store, Shows, hists}
 use Rattle.kt_histlaws.specs.Pending.{Aloft}
 use Rattle.kt_histlaws.specs.Fitting.{AreSound}
 use Rattle.kt_histlaws.specs.Flights.{AllOps}
 use Rattle.kt_histlaws.specs.Core.{Core, Stands}
 use Rattle.kt_tablet.specs.declared.tablet.FlyingWrite.{FlyingWrite}
-use Rattle.kt_tablet.specs.declared.turns.Place.{Place}
+use Rattle.kt_history.specs.declared.event.Event.{Event}
 use Rattle.kt_tablet.specs.Filling.{IsWhole}
+use Rattle.kt_tablet.specs.Rows.{AreNoted, OneOfEach}
 
 -- what a clause sees of a tablet: the engine, whose first past is left open; its clock, now and at opening; the stores and the
--- mark that opening found; and the pool
+-- mark that opening found; the name of the store; and the pool
 pub record View (C : Type 0) : Type 0 where
   pub core : Core
   pub clock : C
   pub opened : C
   pub opening : List Store
   pub mark : ℕ
+  pub target : Target
   pub pool : Contents
 
 abbrev pub empty : Past
@@ -43,9 +47,6 @@ work_of columns plan cells fill = record { plan = plan; cells = cells; keys = ma
 abbrev pub aloft_of : FlyingWrite → Aloft
 aloft_of w = record { s = w.who; i = w.index; ts = w.ts; ops = w.ops; applied = w.applied }
 
-abbrev pub turn_of : Place → Turn
-turn_of p = record { next = p.next; look = p.look }
-
 -- the write as the clock of writes has it, with the keys that it holds
 abbrev pub flier_of : FlyingWrite → Flier
 flier_of w = record { who = w.who; ts = w.ts; keys = map (λ op. op.key) w.ops }
@@ -57,8 +58,9 @@ pub record Opens (opening : List Store) (mark last : ℕ) (first : Past) : Type 
   pub shows : Shows first.mark opening first
   pub sound : (q : List ℕ) → AreSound first.mark (hists q opening)
 
--- it stands for a run from each past that opening found, and its lines show what the clock gave
+-- opening found a past, it stands for a run from each such, and its lines show what the clock gave
 pub record IsSound {C : Type 0} (readings : C → Option (List ℕ)) (view : View C) : Type 0 where
+  pub found : (first : Past) × Opens view.opening view.mark view.core.opened first
   pub stands : (first : Past) → Opens view.opening view.mark view.core.opened first → Stands (record view.core { first = first })
   pub clock : Grows (readings view.opened) (readings view.clock) (readings_of view.core.trail)
 
@@ -67,27 +69,29 @@ abbrev pub held_cells : List FlyingWrite → ℕ
 held_cells [] = 0
 held_cells (w ∷ flights) = w.left + held_cells flights
 
--- a flying write holds the cells that its rows not yet applied need, and none once all are; each insert of it is whole
+-- a flying write holds the cells that its rows not yet applied need, and none once all are; its operations are as they are recorded, each insert is whole, and what becomes of them has room
 pub record IsProvided (fill : Row) (w : FlyingWrite) : Type 0 where
   pub enough : need (drop w.applied w.ops) ≤ w.left
   pub over : drop w.applied w.ops ≡ [] → w.left ≡ 0
+  pub count : may_hold (length w.ops) ≡ true
+  pub each : EachAfter FollowingOp [] w.ops
   pub whole : AllOps (λ op. IsWhole fill op.kind op.cells) w.ops
+  pub noted : (vec_len w.outcomes ≡ w.applied) × (vec_len w.rows ≡ w.applied)
+  pub room : (length w.ops ≤ vec_capacity w.outcomes) × (length w.ops ≤ vec_capacity w.rows)
 
 abbrev pub AreProvided : Row → List FlyingWrite → Type 0
 AreProvided fill [] = Unit {0}
 AreProvided fill (w ∷ flights) = IsProvided fill w × AreProvided fill flights
 
--- what has been promised is there: a flying write's keys are held, its rows have their cells, and its end has its line. So has the stop
+-- what has been promised is there: a flying write's keys are held, its rows have their cells, and its end has its line. So has the
+-- stop. No session has two that fly
 pub record IsReady (fill : Row) (stopped : Bool) (flights : List FlyingWrite) (flying : List Flier) (lines room : ℕ) (pool : Contents) : Type 0 where
   pub held : flying ≡ map flier_of flights
   pub cells : held_cells flights ≡ pool.reserved
   pub provided : AreProvided fill flights
+  pub apart : OneOfEach flights
   pub end : stopped ≡ false → lines + length flights + 1 ≤ room
 
--- a store of this type stands in its pool, and looks at the places of a pool alone, not at what is promised
-abbrev pub LooksAtPlaces : {X : Type 0} → (X → Contents → Type 0) → (X → Contents → Store) → Type 0
-LooksAtPlaces {X} stands store = (s : X) (pool : Contents) (n : ℕ) → stands s pool → stands s (with_reserved pool n) × (store s (with_reserved pool n) ≡ store s pool)
-
-pub record IsPlaced {X : Type 0} (stands : X → Contents → Type 0) (store : X → Contents → Store) (s : X) (pool : Contents) : Type 0 where
-  pub here : stands s pool
-  pub looks : LooksAtPlaces stands store
+-- what flying writes have noted is what a run from each past that opening found says
+abbrev pub AreTold : Workload → List Store → ℕ → ℕ → List Event → Target → List FlyingWrite → Type 0
+AreTold work opening mark opened trail target flights = (first : Past) → Opens opening mark opened first → AreNoted work.fill (state_after work (start work first opened) trail).past target flights

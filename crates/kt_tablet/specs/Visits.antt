@@ -1,18 +1,25 @@
 -- When an event may come, and what it did.
-use Rattle.std.specs.Prelude.{◌-◌, ◌≡◌, ◌<◌, ◌≤◌, ℕ, ◌^◌, ◌+◌, ◌==◌, ◌&&◌, true, false, List, map, Some, None}
-use Rattle.std.specs.List.{list_any, filter}
+use Rattle.std.specs.Prelude.{◌-◌, ◌≡◌, ◌<◌, ◌≤◌, ℕ, ◌^◌, ◌+◌, ◌==◌, true, false, List, [], length, map, slice_get, Option, Some, None}
+use Rattle.std.specs.List.{list_any, filter, find}
 use Rattle.kt_history.specs.declared.operation.RowOp.{RowOp}
-use Rattle.kt_history.specs.Operations.{need, share_key}
+use Rattle.kt_history.specs.declared.change.Outcome.{Outcome}
+use Rattle.kt_history.specs.declared.target.Target.{Target}
+use Rattle.kt_history.specs.History.{rows_at}
+use Rattle.kt_history.specs.Operations.{need, share_key, effect_on, outcomes_on}
 use Rattle.kt_pool.specs.Contents.{free}
+use Rattle.kt_records.specs.declared.entry.CommitRow.{CommitRow}
+use Rattle.kt_records.specs.Rules.{may_hold, EachAfter, FollowingOp}
 use Rattle.kt_histlaws.specs.Flights.{AllOps}
 use Rattle.kt_tablet.specs.declared.tablet.write.BeginNo.{BeginNo}
 use Rattle.kt_tablet.specs.declared.tablet.write.BeginNo.TheVariants as no
+use Rattle.kt_tablet.specs.Rows.{commit_row}
+use Rattle.kt_histlaws.specs.Pending.{Aloft}
 use Rattle.kt_tablet.specs.Filling.{IsWhole}
 use Rattle.kt_tablet.specs.Views.{View}
 use Rattle.kt_history.specs.declared.scan.At.TheVariants.{Looked}
 use Rattle.kt_history.specs.Machine.{nth, command_at, IfScan, IfMark, IfWrite, IsChore, next_timestamp, least}
-use Rattle.kt_histlaws.specs.Core.{Core, flown_by}
-use Rattle.kt_histlaws.specs.Events.{looked, marked, raised, begun, answered, IsOver}
+use Rattle.kt_histlaws.specs.Core.{Core, flown_by, run_past}
+use Rattle.kt_histlaws.specs.Events.{looked, marked, raised, begun, answered, applied, advance, ended, IsNextOp, IsOver}
 use Rattle.kt_history.specs.declared.event.Event.TheVariants as event
 
 -- command i is the next of session s, which has drawn no time and of which no write flies
@@ -48,24 +55,72 @@ pub record MayAnswerChore (core : Core) (s i : ℕ) : Type 0 where
   pub chore : IsChore (command_at core.work s i)
   pub few : i + 1 < 2 ^ 32
 
--- the flying write of a session may end: it flies, and all its rows are applied
-pub record MayEnd (core : Core) (s i ts : ℕ) : Type 0 where
-  pub turn : nth core.turns s ≡ Some (record { next = i; look = None })
-  pub flies : list_any (λ w. (w.s == s) && (w.i == i) && (w.ts == ts)) (map flown_by core.aloft) ≡ true
-  pub over : IsOver s core.aloft
-  pub few : i + 1 < 2 ^ 32
+-- the flying write of a session
+abbrev pub flight_of : ℕ → List Aloft → Option Aloft
+flight_of s aloft = find (λ w. w.s == s) aloft
 
--- this write may begin, unless something stands in its way; it needs so many cells of the pool
-pub record MayBegin (core : Core) (s i : ℕ) (ops : List RowOp) (needs : ℕ) : Type 0 where
+-- the next row of the flying write of a session may be applied
+pub record MayApply (core : Core) (s at : ℕ) : Type 0 where
+  pub flight : Aloft
+  pub flies : flight_of s core.aloft ≡ Some flight
+  pub next : flight.applied ≡ at
+  pub more : at < length flight.ops
+
+-- it is applied: its change, if any, in the one store
+pub record HasApplied (old new : Core) (s at : ℕ) (outcome : Outcome) : Type 0 where
+  pub j : ℕ
+  pub flight : Aloft
+  pub flies : flight_of s old.aloft ≡ Some flight
+  pub op : RowOp
+  pub next : IsNextOp j old.aloft flight.ts op
+  pub row : slice_get flight.ops at ≡ Some op
+  pub core : new ≡ applied old j 0 flight.ts op
+  pub now : flight_of s new.aloft ≡ Some (advance flight)
+
+-- the outcome is the run's: what the operation does to the rows just before the write
+pub record IsRunOutcome (core : Core) (s at : ℕ) (outcome : Outcome) : Type 0 where
+  pub flight : Aloft
+  pub flies : flight_of s core.aloft ≡ Some flight
+  pub op : RowOp
+  pub row : slice_get flight.ops at ≡ Some op
+  pub outcome_is : outcome ≡ (effect_on core.work.fill (rows_at (run_past core) (flight.ts - 1)) op).1
+
+-- the flying write of a session may end: it is the session's next command, and all its rows are applied
+pub record MayEnd (core : Core) (s : ℕ) : Type 0 where
+  pub flight : Aloft
+  pub flies : flight_of s core.aloft ≡ Some flight
+  pub turn : nth core.turns s ≡ Some (record { next = flight.i; look = None })
+  pub over : IsOver s core.aloft
+  pub few : flight.i + 1 < 2 ^ 32
+
+-- it has ended, as command i at ts
+pub record HasEnded (old new : Core) (s i ts : ℕ) : Type 0 where
+  pub flight : Aloft
+  pub flies : flight_of s old.aloft ≡ Some flight
+  pub index : i ≡ flight.i
+  pub time : ts ≡ flight.ts
+  pub core : new ≡ ended old s i ts
+
+-- what is told of it: the outcomes that the run says, and for the log each with the store that was changed
+pub record IsDone (core : Core) (target : Target) (s : ℕ) (outcomes : List Outcome) (rows : List CommitRow) : Type 0 where
+  pub flight : Aloft
+  pub flies : flight_of s core.aloft ≡ Some flight
+  pub each : outcomes ≡ outcomes_on core.work.fill (rows_at (run_past core) (flight.ts - 1)) flight.ops
+  pub told : rows ≡ map (commit_row target) outcomes
+
+-- this write may begin, unless something stands in its way
+pub record MayBegin (core : Core) (s i : ℕ) (ops : List RowOp) : Type 0 where
   pub at : IsAt core s i
   pub write : IfWrite (command_at core.work s i) (λ written. written ≡ ops)
-  pub cells : needs ≡ need ops
+  pub count : may_hold (length ops) ≡ true
+  pub each : EachAfter FollowingOp [] ops
   pub whole : AllOps (λ op. IsWhole core.work.fill op.kind op.cells) ops
   pub few : i + 1 < 2 ^ 32
 
--- and it is not too large
+-- and it needs so many cells of the pool, which are not too many
 pub record MayBeginNow (core : Core) (s i : ℕ) (ops : List RowOp) (needs : ℕ) : Type 0 where
-  pub may : MayBegin core s i ops needs
+  pub may : MayBegin core s i ops
+  pub cells : needs ≡ need ops
   pub goes : core.stopped ≡ false
   pub fits : needs ≤ core.work.cells
 
@@ -75,16 +130,16 @@ pub record HasBegun (old new : Core) (s i : ℕ) (ops : List RowOp) (ts : ℕ) :
   pub time : ts ≡ next_timestamp old.c m
   pub core : new ≡ begun old s i ts m ops
 
--- what stands in a write's way: it needs more cells than there are, it has a key of a flying write, of which this is the least, or
+-- what stands in a write's way: it needs more cells than a write may, it has a key of a flying write, of which this is the least, or
 -- fewer cells are free and not promised. Want of memory alone has no cause
-abbrev pub IsRefused : {C : Type 0} → View C → List RowOp → ℕ → BeginNo → Type 0
-IsRefused view ops needs no.Stopped = view.core.stopped ≡ true
-IsRefused view ops needs (no.Large n) = (n ≡ needs) × (view.core.work.cells < needs)
-IsRefused view ops needs (no.Wait ts) = least (filter (λ w. share_key ops w.ops) (map flown_by view.core.aloft)) ≡ Some ts
-IsRefused view ops needs (no.Room n left) = (n ≡ needs) × (left ≡ free view.pool - view.pool.reserved) × (left < needs)
-IsRefused view ops needs no.Memory = Unit {0}
+abbrev pub IsRefused : {C : Type 0} → View C → List RowOp → BeginNo → Type 0
+IsRefused view ops no.Stopped = view.core.stopped ≡ true
+IsRefused view ops (no.Large n) = (n ≡ need ops) × (view.core.work.cells < n)
+IsRefused view ops (no.Wait ts) = least (filter (λ w. share_key ops w.ops) (map flown_by view.core.aloft)) ≡ Some ts
+IsRefused view ops (no.Room n left) = (n ≡ need ops) × (left ≡ free view.pool - view.pool.reserved) × (left < n)
+IsRefused view ops no.Memory = Unit {0}
 
--- this write needs more cells than there are
+-- this write needs more cells than a write may
 pub record IsLarge (core : Core) (s i needs : ℕ) : Type 0 where
   pub at : IsAt core s i
   pub goes : core.stopped ≡ false

@@ -5,10 +5,19 @@
 //! adds exactly its line and keeps that it stands.
 #![tactic(auto)]
 
+mod amend;
+mod memrowset;
+mod need;
+pub mod snap;
 pub mod store;
 pub mod tablet;
+#[cfg(test)]
+mod tests;
 mod turns;
 
+pub use snap::{Snap, SnapList, SnapView};
 pub use store::RowStore;
+pub use tablet::rows::WriteEnd;
+pub use tablet::scan::SnapNo;
 pub use tablet::write::BeginNo;
 pub use tablet::{LookNo, Stopped, Tablet};

@@ -1,12 +1,14 @@
 //! A store of rows in the cells of a pool.
 
-ghost use Rattle.std.specs.Prelude.{◌≡◌, ◌≤◌, ◌⊎◌, ℕ, None, true, is_some, IfOk};
+ghost use Rattle.std.specs.Prelude.{◌≡◌, ◌≤◌, ◌<◌, ◌^◌, ◌⊎◌, ℕ, None, true, is_some, IfOk, length, []};
 ghost use Rattle.std.specs.FinMap.Entries.{put};
-ghost use Rattle.kt_pool.specs.Contents.{Contents, at_cell};
+ghost use Rattle.kt_pool.specs.Contents.{Contents, at_cell, with_reserved};
 ghost use Rattle.kt_history.specs.Rows.{key_cmp, fits};
+ghost use Rattle.kt_history.specs.declared.target.Target.{Target};
+ghost use Rattle.kt_records.specs.Rules.{EachAfter, FollowingCell};
 ghost use Rattle.kt_histlaws.specs.Histories.{Store, hist_in, push};
 ghost use Rattle.kt_histlaws.specs.Flights.{Under};
-ghost use Rattle.kt_tablet.specs.Stores.{change_of, last_row, share, changes_upto, TakesUpTo};
+ghost use Rattle.kt_tablet.specs.Stores.{change_of, last_row, share, changes_upto, TakesUpTo, IsGrown};
 
 use kt_base::NoMemory;
 use kt_history::{ChangeList, Kindly, RowOp, Target};
@@ -16,7 +18,7 @@ use std::alloc::Global;
 /// A store whose rows and changes lie in a pool. Read with its pool it is a list of histories by key. A store keeps
 /// the cells that an operation names, and knows no schema.
 pub trait RowStore {
-    /// Its places stand in the pool.
+    /// Its places stand in the pool, and it takes every operation.
     ghost stands: { Self → Contents → Type 0 };
 
     /// The histories of its rows, read with the pool in which it stands.
@@ -24,6 +26,9 @@ pub trait RowStore {
 
     /// The cells at which its places begin.
     ghost owns: { Self → Contents → ℕ → Type 0 };
+
+    /// Its name.
+    ghost target: { Self → Target };
 
     /// Whether the row of a key is there after all changes.
     fn live(&self, pool: &Pool, key: &[u8]) -> bool
@@ -39,11 +44,21 @@ pub trait RowStore {
     fn apply_reserved(&mut self, pool: &mut Pool, ts: u64, op: &RowOp, change: Kindly) -> Target
         requires stands { stands self.old pool.old }
         requires reserved { share op.now ≤ pool.old.reserved }
+        requires count { length op.now.cells < 2 ^ 16 }
+        requires cells { EachAfter FollowingCell [] op.now.cells }
         requires above { Under ts (hist_in op.now.key (store self.old pool.old)).steps }
         requires fits { fits (change_of change op.now.cells) (last_row (hist_in op.now.key (store self.old pool.old))) ≡ true }
         ensures stands { stands self.new pool.new }
         ensures pushed { store self.new pool.new ≡ put key_cmp op.now.key (push ts (change_of change op.now.cells) (hist_in op.now.key (store self.old pool.old))) (store self.old pool.old) }
+        ensures named { result ≡ target self.old }
+        ensures name { target self.new ≡ target self.old }
         ensures takes { TakesUpTo (share op.now) pool.old pool.new }
         ensures grows { (k : ℕ) → owns self.new pool.new k → owns self.old pool.old k ⊎ (at_cell pool.old k ≡ None) }
         ensures frame { (k : ℕ) → ¬ owns self.new pool.new k → at_cell pool.new k ≡ at_cell pool.old k };
+
+    /// It looks at the places of a pool alone, not at what is promised.
+    ghost looks: { (s : Self) (pool : Contents) (n : ℕ) → stands s pool → stands s (with_reserved pool n) × (store s (with_reserved pool n) ≡ store s pool) };
+
+    /// Its keys rise, and all that it has of a row are its changes.
+    ghost grown: { (s : Self) (pool : Contents) → stands s pool → IsGrown (store s pool) };
 }

@@ -1,12 +1,19 @@
 //! The tablet and its events.
+pub mod opening;
+pub mod rows;
+pub mod scan;
 pub mod write;
 
+ghost use Rattle.std.specs.Prelude.{◌≡◌, ◌+◌, ◌≤◌, IfOk, [], vec_len, vec_capacity};
+ghost use Rattle.kt_schema.specs.Columns.{fill_of};
+
 use crate::store::RowStore;
-use crate::turns::{Place, first_places};
+use crate::turns::Turns;
 use kt_base::{Cells, Clock, NoMemory};
-use kt_history::{Event, OpList, Plan};
+use kt_history::{Event, OpList, Outcome, Plan};
 use kt_mvcc::Flight;
 use kt_pool::Pool;
+use kt_records::CommitRow;
 use kt_schema::Schema;
 use std::alloc::Global;
 use std::marker::Model;
@@ -22,17 +29,22 @@ pub struct FlyingWrite {
     pub applied: usize,
     /// The reserved cells of the pool that it still holds.
     pub left: u32,
+    /// What became of the rows applied so far.
+    pub outcomes: Vec<Outcome>,
+    /// The same for the log, with the stores that were changed.
+    pub rows: Vec<CommitRow>,
 }
 
 /// A tablet: the rows of its store in the cells of its pool, the clock, the writes that fly, the lines of its history
 /// and where each session stands.
+#[derive(Drop)]
 pub struct Tablet<S: RowStore, C: Clock> {
     store: S,
     pool: Pool,
     clock: C,
     flight: Flight,
     flights: Vec<FlyingWrite>,
-    places: Vec<Place>,
+    turns: Turns,
     trail: Vec<Event>,
     stopped: bool,
     cells: u32,
@@ -49,7 +61,7 @@ pub struct Tablet<S: RowStore, C: Clock> {
 impl<S: RowStore, C: Clock> Model for Tablet<S, C> {
     ghost use Rattle.std.specs.Prelude.{map, ◌∷◌, [], vec_capacity, vec_len};
     ghost use Rattle.kt_tablet.specs.Filling.{filled};
-    ghost use Rattle.kt_tablet.specs.Views.{View, IsSound, IsReady, IsPlaced, aloft_of, turn_of, work_of, empty};
+    ghost use Rattle.kt_tablet.specs.Views.{View, IsSound, IsReady, AreTold, aloft_of, work_of, empty};
 
     ghost Value = { View C };
 
@@ -62,7 +74,7 @@ impl<S: RowStore, C: Clock> Model for Tablet<S, C> {
         a = e.flight.a;
         c = e.flight.c;
         aloft = map aloft_of e.flights.items;
-        turns = map turn_of e.places.items;
+        turns = e.turns;
         stopped = e.stopped;
         stores = filled e.fill (S.store e.store e.pool) ∷ [];
       };
@@ -70,6 +82,7 @@ impl<S: RowStore, C: Clock> Model for Tablet<S, C> {
       opened = e.opened.value;
       opening = filled e.fill (S.store e.opening.value e.opening_pool.value) ∷ [];
       mark = e.mark;
+      target = S.target e.store;
       pool = e.pool;
     } };
 
@@ -82,7 +95,7 @@ impl<S: RowStore, C: Clock> Model for Tablet<S, C> {
         a = e.flight.a;
         c = e.flight.c;
         aloft = map aloft_of e.flights.items;
-        turns = map turn_of e.places.items;
+        turns = e.turns;
         stopped = e.stopped;
         stores = filled e.fill (S.store e.store e.pool) ∷ [];
       };
@@ -90,8 +103,9 @@ impl<S: RowStore, C: Clock> Model for Tablet<S, C> {
       opened = e.opened.value;
       opening = filled e.fill (S.store e.opening.value e.opening_pool.value) ∷ [];
       mark = e.mark;
+      target = S.target e.store;
       pool = e.pool;
-    }) × IsReady e.fill e.stopped e.flights.items e.flight.flying (vec_len e.trail) (vec_capacity e.trail) e.pool × IsPlaced S.stands S.store e.store e.pool };
+    }) × IsReady e.fill e.stopped e.flights.items e.flight.flying (vec_len e.trail) (vec_capacity e.trail) e.pool × S.stands e.store e.pool × AreTold (work_of e.schema.value e.plan.value e.cells e.fill) (filled e.fill (S.store e.opening.value e.opening_pool.value) ∷ []) e.mark e.last e.trail.items (S.target e.store) e.flights.items };
 }
 
 /// Why a scan of the present draws no time, or the mark does not rise.
@@ -107,54 +121,72 @@ pub enum LookNo {
 #[derive(Clone, Copy, Debug, PartialEq, Eq)]
 pub struct Stopped;
 
-impl<S: RowStore + Drop, C: Clock + Drop> Tablet<S, C> {
-    ghost use Rattle.std.specs.Prelude.{◌≡◌, ℕ, length, IfOk, [], false};
-    ghost use Rattle.kt_history.specs.Machine.{HasDifferentKeys};
-    ghost use Rattle.kt_schema.specs.Columns.{fill_of};
-    ghost use Rattle.kt_tablet.specs.Views.{work_of, LooksAtPlaces};
+// The columns of a filled insert, no session yet, and room for the line of a stop.
+fn first_parts(alloc: Global, schema: &Schema) -> Result<(Cells, Turns, Vec<Event>), NoMemory>
+    ensures fill { IfOk result (λ parts. parts.0 ≡ fill_of schema.now) }
+    ensures turns { IfOk result (λ parts. parts.1 ≡ []) }
+    ensures lines { IfOk result (λ parts. parts.2.items ≡ []) }
+    ensures room { IfOk result (λ parts. vec_len parts.2 + 1 ≤ vec_capacity parts.2) }
+{
+    let fill = schema.fill(alloc)?;
+    let turns = Turns::new(alloc)?;
+    let mut trail = Vec::new(alloc);
+    trail.reserve(1)?;
+    Ok((fill, turns, trail))
+}
 
-    /// A tablet in which nothing has happened yet, over the store that opening made.
+impl<S: RowStore, C: Clock> Tablet<S, C> {
+    ghost use Rattle.std.specs.Prelude.{◌≡◌, IfOk, IfErr, [], ◌∷◌, false};
+    ghost use Rattle.kt_schema.specs.Columns.{fill_of};
+    ghost use Rattle.kt_history.specs.History.{Past};
+    ghost use Rattle.kt_tablet.specs.Filling.{filled};
+    ghost use Rattle.kt_tablet.specs.Views.{work_of, Opens};
+
+    /// A tablet in which nothing has happened yet, over the store that opening made. No session has a plan yet. A write
+    /// that needs more cells than are given here is too large.
     pub fn of(
         alloc: Global,
         store: S,
         pool: Pool,
         clock: C,
-        plan: &Plan,
         schema: &Schema,
+        cells: u32,
         last: u64,
         mark: u64,
-    ) -> Result<Tablet<S, C>, NoMemory>
+    ) -> Result<Tablet<S, C>, (S, Pool, C)>
         requires stands { S.stands store pool }
-        requires looks { LooksAtPlaces S.stands S.store }
+        requires found { (first : Past) × Opens (filled (fill_of schema.now) (S.store store pool) ∷ []) mark last first }
         requires unpromised { pool.reserved ≡ 0 }
-        requires planned { (cells : ℕ) → HasDifferentKeys (work_of schema.now plan.now cells (fill_of schema.now)) }
         ensures lines { IfOk result (λ tablet. tablet.core.trail ≡ []) }
-        ensures work { IfOk result (λ tablet. tablet.core.work ≡ work_of schema.now plan.now (length pool.places) (fill_of schema.now)) }
+        ensures work { IfOk result (λ tablet. tablet.core.work ≡ work_of schema.now [] cells (fill_of schema.now)) }
+        ensures turns { IfOk result (λ tablet. tablet.core.turns ≡ []) }
         ensures goes { IfOk result (λ tablet. tablet.core.stopped ≡ false) }
         ensures rests { IfOk result (λ tablet. tablet.core.aloft ≡ []) }
         ensures times { IfOk result (λ tablet. (tablet.core.a ≡ mark) × (tablet.core.c ≡ last)) }
-        ensures found { IfOk result (λ tablet. (tablet.mark ≡ mark) × (tablet.core.opened ≡ last)) }
+        ensures found { IfOk result (λ tablet. (tablet.mark ≡ mark) × (tablet.core.opened ≡ last) × (tablet.opening ≡ filled (fill_of schema.now) (S.store store pool) ∷ [])) }
+        ensures clock { IfOk result (λ tablet. (tablet.clock ≡ clock) × (tablet.opened ≡ clock)) }
+        ensures target { IfOk result (λ tablet. tablet.target ≡ S.target store) }
+        ensures back { IfErr result (λ e. e.2 ≡ clock) }
     {
         let opened = Snapshot::of(&clock);
         let opening = Snapshot::of(&store);
         let opening_pool = Snapshot::of(&pool);
-        let fill = schema.fill(alloc)?;
-        let places = first_places(alloc, plan)?;
-        let mut trail = Vec::new(alloc);
-        trail.reserve(1)?;
-        let cells = pool.size();
+        let Ok((fill, turns, trail)) = first_parts(alloc, schema) else {
+            return Err((store, pool, clock));
+        };
+        let plan = Plan::of(Vec::new(alloc));
         Ok(Tablet {
             store,
             pool,
             clock,
             flight: Flight::new(alloc, last, mark),
             flights: Vec::new(alloc),
-            places,
+            turns,
             trail,
             stopped: false,
             cells,
             fill,
-            plan: Snapshot::of(plan),
+            plan: Snapshot::of(&plan),
             schema: Snapshot::of(schema),
             opened,
             opening,
@@ -166,11 +198,12 @@ impl<S: RowStore + Drop, C: Clock + Drop> Tablet<S, C> {
 }
 
 impl<S: RowStore, C: Clock> Tablet<S, C> {
+    ghost use Rattle.kt_tablet.specs.Views.{IsSound};
     ghost use Rattle.std.specs.Prelude.{◌≡◌, OnErr, IfOk, Err, true, false};
-    ghost use Rattle.kt_tablet.specs.Visits.{MayLook, HasLooked, MayMark, HasMarked, MayAnswerChore, MayEnd};
-    ghost use Rattle.std.specs.Prelude.{OnOk, IsOk, IsErr};
+    ghost use Rattle.kt_tablet.specs.Visits.{MayLook, HasLooked, MayMark, HasMarked, MayAnswerChore};
+    ghost use Rattle.std.specs.Prelude.{OnOk};
     ghost use Rattle.kt_history.specs.declared.event.Event.TheVariants.{Chore};
-    ghost use Rattle.kt_histlaws.specs.Events.{answered, ended, halted};
+    ghost use Rattle.kt_histlaws.specs.Events.{answered, halted};
 
     /// Whether the tablet has stopped.
     pub fn is_stopped(&self) -> bool
@@ -179,12 +212,21 @@ impl<S: RowStore, C: Clock> Tablet<S, C> {
         self.stopped
     }
 
+    /// What it stands for: a run from each past that opening found, in which the lines show what the clock gave.
+    pub fn standing(&self)
+        ensures { IsSound C.readings self.now }
+    {
+        let _ = &self.store;
+    }
+
     /// Draws the time of a scan of the present.
     pub fn look(&mut self, number: u32, index: u32) -> Result<u64, LookNo>
         requires { self.old.core.stopped ≡ false → MayLook self.old.core number index }
         ensures looked { IfOk result (λ t. HasLooked self.old.core self.new.core number index t) }
+        ensures beside { self.new ≡ record self.old { core = self.new.core; clock = self.new.clock } }
         ensures same { OnErr result (self.new ≡ self.old) }
         ensures stopped { self.old.core.stopped ≡ true → result ≡ Err LookNo.Stopped }
+        ensures goes { result ≡ Err LookNo.Stopped → self.old.core.stopped ≡ true }
     {
         if self.stopped {
             return Err(LookNo::Stopped);
@@ -200,10 +242,7 @@ impl<S: RowStore, C: Clock> Tablet<S, C> {
             t: time,
             m: reading,
         });
-        self.places[number as usize - 1] = Place {
-            next: index,
-            look: Some(time),
-        };
+        self.turns.set(number, index, Some(time));
         Ok(time)
     }
 
@@ -211,8 +250,10 @@ impl<S: RowStore, C: Clock> Tablet<S, C> {
     pub fn mark(&mut self, number: u32, index: u32, to: u64) -> Result<u64, LookNo>
         requires { self.old.core.stopped ≡ false → MayMark self.old.core number index to }
         ensures marked { IfOk result (λ a. HasMarked self.old.core self.new.core number index to a) }
+        ensures beside { self.new ≡ record self.old { core = self.new.core } }
         ensures same { OnErr result (self.new ≡ self.old) }
         ensures stopped { self.old.core.stopped ≡ true → result ≡ Err LookNo.Stopped }
+        ensures goes { result ≡ Err LookNo.Stopped → self.old.core.stopped ≡ true }
     {
         if self.stopped {
             return Err(LookNo::Stopped);
@@ -226,19 +267,17 @@ impl<S: RowStore, C: Clock> Tablet<S, C> {
             i: index,
             a: mark,
         });
-        self.places[number as usize - 1] = Place {
-            next: index + 1,
-            look: None,
-        };
+        self.turns.set(number, index + 1, None);
         Ok(mark)
     }
 
     /// Answers a maintenance command.
     pub fn chore_done(&mut self, number: u32, index: u32) -> Result<(), LookNo>
         requires { self.old.core.stopped ≡ false → MayAnswerChore self.old.core number index }
-        ensures answered { OnOk result (self.new.core ≡ answered self.old.core number index (Chore number index)) }
+        ensures answered { OnOk result (self.new ≡ record self.old { core = answered self.old.core number index (Chore number index) }) }
         ensures same { OnErr result (self.new ≡ self.old) }
         ensures stopped { self.old.core.stopped ≡ true → result ≡ Err LookNo.Stopped }
+        ensures goes { result ≡ Err LookNo.Stopped → self.old.core.stopped ≡ true }
     {
         if self.stopped {
             return Err(LookNo::Stopped);
@@ -250,41 +289,13 @@ impl<S: RowStore, C: Clock> Tablet<S, C> {
             s: number,
             i: index,
         });
-        self.places[number as usize - 1] = Place {
-            next: index + 1,
-            look: None,
-        };
-        Ok(())
-    }
-
-    /// Ends a write whose rows are all applied, and lets go of its keys. It takes no memory.
-    pub fn end(&mut self, number: u32, index: u32, ts: u64) -> Result<(), Stopped>
-        requires { self.old.core.stopped ≡ false → MayEnd self.old.core number index ts }
-        ensures ended { OnOk result (self.new.core ≡ ended self.old.core number index ts) }
-        ensures same { OnErr result (self.new ≡ self.old) }
-        ensures stopped { self.old.core.stopped ≡ true → IsErr result }
-        ensures goes { self.old.core.stopped ≡ false → IsOk result }
-    {
-        if self.stopped {
-            return Err(Stopped);
-        }
-        self.flight.end(number);
-        self.trail.push_reserved(Event::End {
-            s: number,
-            i: index,
-            ts,
-        });
-        self.flights.retain(|flight| flight.who != number);
-        self.places[number as usize - 1] = Place {
-            next: index + 1,
-            look: None,
-        };
+        self.turns.set(number, index + 1, None);
         Ok(())
     }
 
     /// Stops the tablet, once. It takes no memory.
     pub fn stop(&mut self)
-        ensures halted { self.old.core.stopped ≡ false → self.new.core ≡ halted self.old.core }
+        ensures halted { self.old.core.stopped ≡ false → self.new ≡ record self.old { core = halted self.old.core } }
         ensures once { self.old.core.stopped ≡ true → self.new ≡ self.old }
     {
         if self.stopped {

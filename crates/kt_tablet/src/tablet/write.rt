@@ -1,12 +1,13 @@
 //! Writes that begin: each with its keys held, its cells promised, and room for the line of its end.
-ghost use Rattle.std.specs.Prelude.{◌≡◌, ◌+◌, ◌≤◌, ◌<◌, length, map, IfOk, OnOk, vec_len, vec_capacity};
+ghost use Rattle.std.specs.Prelude.{◌≡◌, ◌+◌, ◌-◌, ◌^◌, ◌≤◌, ◌<◌, [], length, map, IfOk, OnOk, vec_len, vec_capacity};
 
 use super::{FlyingWrite, Tablet};
+use crate::need::need;
 use crate::store::RowStore;
-use crate::turns::Place;
 use kt_base::{Clock, NoMemory};
-use kt_history::{Event, OpList};
+use kt_history::{Event, OpList, Outcome};
 use kt_mvcc::{Flight, KeyList};
+use kt_records::CommitRow;
 use std::alloc::Global;
 
 /// Why a write does not begin.
@@ -14,7 +15,7 @@ use std::alloc::Global;
 pub enum BeginNo {
     /// The tablet has stopped.
     Stopped,
-    /// It needs more cells than the pool has.
+    /// It needs more cells than a write may.
     Large { need: u32 },
     /// It has a key of a flying write, and this is the least such.
     Wait { ts: u64 },
@@ -35,14 +36,15 @@ fn keys_of(alloc: Global, ops: &OpList) -> Result<KeyList, NoMemory>
     Ok(KeyList::of(keys))
 }
 
-// Makes room for one write more: the lines of its begin and its end beside those that are promised, and its keys.
+// Makes room for one write more: the lines of its begin and its end beside those that are promised, its keys, and what
+// becomes of its operations. There is none where no timestamp is left.
 fn make_room(
     alloc: Global,
     trail: &mut Vec<Event>,
     flights: &mut Vec<FlyingWrite>,
     flight: &mut Flight,
-    keys: usize,
-) -> Result<(), NoMemory>
+    ops: usize,
+) -> Result<(Vec<Outcome>, Vec<CommitRow>), NoMemory>
     ensures lines { trail.new.items ≡ trail.old.items }
     ensures line { (vec_len trail.new ≡ vec_len trail.old) × (vec_capacity trail.old ≤ vec_capacity trail.new) }
     ensures flights { flights.new.items ≡ flights.old.items }
@@ -50,10 +52,20 @@ fn make_room(
     ensures room { OnOk result (vec_len trail.new + length flights.new.items + 3 ≤ vec_capacity trail.new) }
     ensures place { OnOk result (vec_len flights.new < vec_capacity flights.new) }
     ensures holder { OnOk result (0 < flight.new.room) }
+    ensures last { OnOk result (flight.new.c < 2 ^ 64 - 1) }
+    ensures none { IfOk result (λ notes. (notes.0.items ≡ []) × (notes.1.items ≡ [])) }
+    ensures bare { IfOk result (λ notes. (vec_len notes.0 ≡ 0) × (vec_len notes.1 ≡ 0)) }
+    ensures noted { IfOk result (λ notes. (ops ≤ vec_capacity notes.0) × (ops ≤ vec_capacity notes.1)) }
 {
+    if flight.last() == u64::MAX {
+        return Err(NoMemory);
+    }
+    let outcomes = Vec::with_capacity(alloc, ops)?;
+    let rows = Vec::with_capacity(alloc, ops)?;
     trail.reserve(flights.len() + 3)?;
     flights.reserve(1)?;
-    flight.reserve(alloc, keys)
+    flight.reserve(alloc, ops)?;
+    Ok((outcomes, rows))
 }
 
 impl<S: RowStore, C: Clock> Tablet<S, C> {
@@ -73,8 +85,9 @@ impl<S: RowStore, C: Clock> Tablet<S, C> {
     ) -> Result<u64, BeginNo>
         requires { MayBeginNow self.old.core number index ops needs }
         ensures begun { IfOk result (λ ts. HasBegun self.old.core self.new.core number index ops ts) }
+        ensures beside { self.new ≡ record self.old { core = self.new.core; clock = self.new.clock; pool = self.new.pool } }
         ensures same { OnErr result (self.new ≡ self.old) }
-        ensures refused { IfErr result (IsRefused self.old ops needs) }
+        ensures refused { IfErr result (IsRefused self.old ops) }
     {
         let Ok(keys) = keys_of(alloc, &ops) else {
             return Err(BeginNo::Memory);
@@ -82,26 +95,22 @@ impl<S: RowStore, C: Clock> Tablet<S, C> {
         if let Err(ts) = self.flight.try_keys(&keys) {
             return Err(BeginNo::Wait { ts });
         }
-        if self.flight.last() == u64::MAX {
-            return Err(BeginNo::Memory);
-        }
-        if make_room(
-            alloc,
-            &mut self.trail,
-            &mut self.flights,
-            &mut self.flight,
-            keys.len(),
-        )
-        .is_err()
-        {
-            return Err(BeginNo::Memory);
-        }
         if let Err(full) = self.pool.reserve(needs) {
             return Err(BeginNo::Room {
                 need: full.need,
                 free: full.free,
             });
         }
+        let Ok((outcomes, rows)) = make_room(
+            alloc,
+            &mut self.trail,
+            &mut self.flights,
+            &mut self.flight,
+            ops.len(),
+        ) else {
+            self.pool.release(needs);
+            return Err(BeginNo::Memory);
+        };
         let reading = self.clock.now();
         let Ok(ts) = self.flight.begin(alloc, number, keys, reading) else {
             return Err(BeginNo::Memory);
@@ -119,6 +128,8 @@ impl<S: RowStore, C: Clock> Tablet<S, C> {
             ops,
             applied: 0,
             left: needs,
+            outcomes,
+            rows,
         });
         Ok(ts)
     }
@@ -127,6 +138,7 @@ impl<S: RowStore, C: Clock> Tablet<S, C> {
     fn large(&mut self, number: u32, index: u32, needs: u32) -> Result<(), NoMemory>
         requires { IsLarge self.old.core number index needs }
         ensures answered { OnOk result (self.new.core ≡ answered self.old.core number index (Large number index needs)) }
+        ensures beside { self.new ≡ record self.old { core = self.new.core } }
         ensures same { OnErr result (self.new ≡ self.old) }
     {
         self.trail.reserve(self.flights.len() + 2)?;
@@ -135,31 +147,31 @@ impl<S: RowStore, C: Clock> Tablet<S, C> {
             i: index,
             n: needs,
         });
-        self.places[number as usize - 1] = Place {
-            next: index + 1,
-            look: None,
-        };
+        self.turns.set(number, index + 1, None);
         Ok(())
     }
 
-    /// Begins a write that needs so many cells of the pool. Once it has begun it holds its keys, its cells and the line
-    /// of its end, so that it is not refused any more.
+    /// Begins a write. Once it has begun it holds its keys, its cells and the line of its end, so that it is not refused
+    /// any more. For a write whose need is no number of 32 bits there is no memory.
     pub fn begin(
         &mut self,
         alloc: Global,
         number: u32,
         index: u32,
         ops: OpList,
-        needs: u32,
     ) -> Result<u64, BeginNo>
-        requires { self.old.core.stopped ≡ false → MayBegin self.old.core number index ops needs }
+        requires { self.old.core.stopped ≡ false → MayBegin self.old.core number index ops }
         ensures begun { IfOk result (λ ts. HasBegun self.old.core self.new.core number index ops ts) }
-        ensures refused { IfErr result (IsRefused self.old ops needs) }
+        ensures beside { self.new ≡ record self.old { core = self.new.core; clock = self.new.clock; pool = self.new.pool } }
+        ensures refused { IfErr result (IsRefused self.old ops) }
         ensures left { IfErr result (Leaves self.old self.new number index) }
     {
         if self.is_stopped() {
             return Err(BeginNo::Stopped);
         }
+        let Some(needs) = need(&ops) else {
+            return Err(BeginNo::Memory);
+        };
         if needs > self.size() {
             return match self.large(number, index, needs) {
                 Ok(()) => Err(BeginNo::Large { need: needs }),
@@ -169,7 +181,7 @@ impl<S: RowStore, C: Clock> Tablet<S, C> {
         self.begin_now(alloc, number, index, ops, needs)
     }
 
-    // How many cells the pool has.
+    // The most cells that a write may need.
     fn size(&self) -> u32
         ensures { result ≡ self.now.core.work.cells }
     {

@@ -1,37 +1,74 @@
-use Rattle.std.proofs.Common.{◌<◌, ◌-◌, length, rules}
-use Rattle.std.proofs.lemmas.Fn.{filter_same}
-use Rattle.kt_tablet.specs.Views.{turn_of}
+use Rattle.std.proofs.Common.{◌<◌, ◌+◌, ◌^◌, length, refl, ◌∙◌, rules}
+use Rattle.kt_tablet.specs.Views.{aloft_of, work_of}
 use Rattle.kt_tablet.specs.Visits.{MayEnd}
-use Rattle.kt_tablet.proofs.Visits.{end_sound, has_ended, ended_flights, ready_ended, who_flies, of_old, set_turn, counted, placed}
+use Rattle.kt_tablet.proofs.Flights.{within, flight_at, removed}
+use Rattle.kt_tablet.proofs.Rows.{any_shown, placed_is, is_done}
+use Rattle.kt_tablet.proofs.Told.{told_on, told_ended}
+use Rattle.kt_tablet.proofs.Visits.{of_old, ends_as, end_sound, has_ended, ended_flights, ready_ended, who_flies, flies_so, has_turn}
 use Rattle.kt_tablet.proofs.tablet.Tablet.end.Goals as goal
+
+pub place_of-place-requires : goal.place_of-place-requires
+place_of-place-requires g c =
+    let may = of_old (λ core. MayEnd core c.args.number) _ _ c.self.view_is c.requires c.if-self.false in
+    any_shown c.args.number c.self.inside.flights.items c.deref.result.now may.flight may.flies c.deref.ensures.value
+
+pub remove-write-requires : goal.remove-write-requires
+remove-write-requires g c =
+    let may = of_old (λ core. MayEnd core c.args.number) _ _ c.self.view_is c.requires c.if-self.false in
+    let place = placed_is c.args.number c.place_of-place.result c.self.inside.flights.items c.deref.result.now may.flight may.flies c.deref.ensures.value c.place_of-place.ensures in
+    let lt : c.place_of-place.result < length c.self.inside.flights.items = within c.args.number c.self.inside.flights.items c.place_of-place.result place in
+    search rules
 
 pub end-requires : goal.end-requires
 end-requires g c =
-    let may = of_old (λ core. MayEnd core c.args.number c.args.index c.args.ts) _ _ c.self.view_is c.requires c.if-self.false in
-    who_flies c.args.number c.args.index c.args.ts c.self.inside.flights.items c.self.inside.flight.flying c.self.invariant.1.held may.flies
+    let may = of_old (λ core. MayEnd core c.args.number) _ _ c.self.view_is c.requires c.if-self.false in
+    let place = placed_is c.args.number c.place_of-place.result c.self.inside.flights.items c.deref.result.now may.flight may.flies c.deref.ensures.value c.place_of-place.ensures in
+    let ends = ends_as _ c.args.number c.remove-write.result may (flight_at c.args.number c.self.inside.flights.items c.place_of-place.result c.remove-write.result place c.remove-write.ensures.value) in
+    who_flies c.args.number c.remove-write.result.index c.remove-write.result.ts c.self.inside.flights.items c.self.inside.flight.flying c.self.invariant.1.held (flies_so c.args.number c.remove-write.result.index c.remove-write.result.ts _ (aloft_of c.remove-write.result) ends.flies refl refl)
 
-pub index_mut-requires : goal.index_mut-requires
-index_mut-requires g c =
-    let may = of_old (λ core. MayEnd core c.args.number c.args.index c.args.ts) _ _ c.self.view_is c.requires c.if-self.false in
-    let within : c.args.number - 1 < length c.self.inside.places.items = placed turn_of c.self.inside.places.items c.args.number _ may.turn in
+pub overflow_add-write : goal.overflow_add-write
+overflow_add-write g c =
+    let may = of_old (λ core. MayEnd core c.args.number) _ _ c.self.view_is c.requires c.if-self.false in
+    let place = placed_is c.args.number c.place_of-place.result c.self.inside.flights.items c.deref.result.now may.flight may.flies c.deref.ensures.value c.place_of-place.ensures in
+    let ends = ends_as _ c.args.number c.remove-write.result may (flight_at c.args.number c.self.inside.flights.items c.place_of-place.result c.remove-write.result place c.remove-write.ensures.value) in
+    let few : c.remove-write.result.index + 1 < 2 ^ 32 = ends.few in
     search rules
+
+pub set-requires : goal.set-requires
+set-requires g c =
+    let may = of_old (λ core. MayEnd core c.args.number) _ _ c.self.view_is c.requires c.if-self.false in
+    let place = placed_is c.args.number c.place_of-place.result c.self.inside.flights.items c.deref.result.now may.flight may.flies c.deref.ensures.value c.place_of-place.ensures in
+    let ends = ends_as _ c.args.number c.remove-write.result may (flight_at c.args.number c.self.inside.flights.items c.place_of-place.result c.remove-write.result place c.remove-write.ensures.value) in
+    has_turn _ c.args.number _ ends.turn
 
 pub invariant_of-self : goal.invariant_of-self
 invariant_of-self g c =
-    let may = of_old (λ core. MayEnd core c.args.number c.args.index c.args.ts) _ _ c.self.view_is c.requires c.if-self.false in (
-      end_sound g.C.Clock.readings _ c.args.number c.args.index c.args.ts _ _ _ _ _ c.self.invariant.0 c.if-self.false may
-          c.push_reserved.ensures.items c.end.ensures.mark c.end.ensures.last
-          (ended_flights c.args.number _ _ (filter_same _ _ _ (λ x b f' k. search rules) _ _ c.retain.ensures.filtered))
-          (set_turn turn_of c.self.inside.places.items c.args.number _ (counted _ c.args.number _ may.turn)),
-      ready_ended c.args.number c.args.index c.args.ts _ _ _ _ _ _ _ _ _ _ _ c.self.invariant.1 c.if-self.false may.over may.flies
-          (filter_same _ _ _ (λ x b f' k. search rules) _ _ c.retain.ensures.filtered) c.end.ensures.flying c.push_reserved.ensures.len c.push_reserved.ensures.capacity,
+    let may = of_old (λ core. MayEnd core c.args.number) _ _ c.self.view_is c.requires c.if-self.false in
+    let place = placed_is c.args.number c.place_of-place.result c.self.inside.flights.items c.deref.result.now may.flight may.flies c.deref.ensures.value c.place_of-place.ensures in
+    let ends = ends_as _ c.args.number c.remove-write.result may (flight_at c.args.number c.self.inside.flights.items c.place_of-place.result c.remove-write.result place c.remove-write.ensures.value) in
+    let filtered = c.remove-write.ensures.items ∙ removed c.args.number c.self.inside.flights.items c.place_of-place.result c.self.invariant.1.apart place in
+    let lines = c.push_reserved.ensures.items in
+    let sound = end_sound g.C.Clock.readings _ c.args.number c.remove-write.result _ _ _ _ _ c.self.invariant.0 c.if-self.false ends
+    lines c.end.ensures.mark c.end.ensures.last (ended_flights c.args.number _ _ filtered) c.set.ensures in (
+      sound,
+      ready_ended c.args.number c.remove-write.result.index c.remove-write.result.ts _ _ _ _ _ _ _ _ _ _ _ c.self.invariant.1 c.if-self.false ends.over (flies_so c.args.number c.remove-write.result.index c.remove-write.result.ts _ (aloft_of c.remove-write.result) ends.flies refl refl)
+          filtered c.end.ensures.flying c.push_reserved.ensures.len c.push_reserved.ensures.capacity,
       c.self.invariant.2,
+      told_ended (work_of c.self.inside.schema.value c.self.inside.plan.value c.self.inside.cells c.self.inside.fill) _ _ _ c.push_reserved.new.self.items (g.S.RowStore.target c.self.inside.store) _ _ _ (told_on g.C.Clock.readings _ _ _ _ _ _ _ _ _ _ _ c.self.inside.flights.items c.self.invariant.0 sound refl lines c.self.invariant.3) filtered,
     )
 
 pub returns-clause-ended : goal.returns-clause-ended
 returns-clause-ended g c =
-    let may = of_old (λ core. MayEnd core c.args.number c.args.index c.args.ts) _ _ c.self.view_is c.requires c.if-self.false in
-    has_ended _ _ c.args.number c.args.index c.args.ts _ _ _ _ _ c.self.view_is
-    c.push_reserved.ensures.items c.end.ensures.mark c.end.ensures.last
-    (ended_flights c.args.number _ _ (filter_same _ _ _ (λ x b f' k. search rules) _ _ c.retain.ensures.filtered))
-    (set_turn turn_of c.self.inside.places.items c.args.number _ (counted _ c.args.number _ may.turn))
+    let may = of_old (λ core. MayEnd core c.args.number) _ _ c.self.view_is c.requires c.if-self.false in
+    let place = placed_is c.args.number c.place_of-place.result c.self.inside.flights.items c.deref.result.now may.flight may.flies c.deref.ensures.value c.place_of-place.ensures in
+    let ends = ends_as _ c.args.number c.remove-write.result may (flight_at c.args.number c.self.inside.flights.items c.place_of-place.result c.remove-write.result place c.remove-write.ensures.value) in
+    let filtered = c.remove-write.ensures.items ∙ removed c.args.number c.self.inside.flights.items c.place_of-place.result c.self.invariant.1.apart place in
+    has_ended _ _ c.args.number c.remove-write.result _ _ _ _ _ c.self.view_is ends
+    c.push_reserved.ensures.items c.end.ensures.mark c.end.ensures.last (ended_flights c.args.number _ _ filtered) c.set.ensures
+
+pub returns-clause-told : goal.returns-clause-told
+returns-clause-told g c =
+    let may = of_old (λ core. MayEnd core c.args.number) _ _ c.self.view_is c.requires c.if-self.false in
+    let place = placed_is c.args.number c.place_of-place.result c.self.inside.flights.items c.deref.result.now may.flight may.flies c.deref.ensures.value c.place_of-place.ensures in
+    let ends = ends_as _ c.args.number c.remove-write.result may (flight_at c.args.number c.self.inside.flights.items c.place_of-place.result c.remove-write.result place c.remove-write.ensures.value) in
+    is_done _ _ c.args.number c.place_of-place.result c.self.inside.flights.items c.remove-write.result _ _ c.self.view_is refl place c.remove-write.ensures.value ends.over c.of.ensures c.of-2.ensures c.self.invariant.3

@@ -1,19 +1,22 @@
-use Rattle.std.proofs.Common.{◌≤◌, ◌+◌, ◌∷◌, [], ◌∙◌, ap, sym, subst, refl, map, rules}
-use Rattle.std.specs.Vec.{vec_len, vec_capacity}
-use Rattle.kt_history.specs.Machine.{HasDifferentKeys, first_turns}
+use Rattle.std.proofs.Common.{◌≡◌, ◌∷◌, [], ◌∙◌, ap, sym, map, refl}
+use Rattle.kt_history.specs.Machine.{first_turns}
 use Rattle.kt_tablet.specs.Filling.{filled}
 use Rattle.kt_tablet.specs.Views.{aloft_of, work_of}
-use Rattle.kt_tablet.proofs.Visits.{of_sound, turns_first, ready_first}
+use Rattle.kt_tablet.proofs.Visits.{of_sound, of_found, ready_first}
+use Rattle.kt_tablet.proofs.Told.{told_none}
+use Rattle.kt_tablet.proofs.Plans.{none_planned}
 use Rattle.kt_tablet.proofs.tablet.Tablet.of.Goals as goal
 
 pub invariant_of-result : goal.invariant_of-result
 invariant_of-result g c =
-    let room : vec_len c.reserve.new.self + 1 ≤ vec_capacity c.reserve.new.self = search rules in (
-      of_sound g.C.Clock.readings _ (c.reserve.ensures.items ∙ c.new-trail.ensures.items) (ap (map aloft_of) c.new-2.ensures.items) c.new.ensures.mark c.new.ensures.last refl
-          (turns_first c.in_ok-places.places.items c.args.plan.now c.in_ok-places.ensures ∙ ap first_turns (sym c.of.ensures))
-          (λ k. filled c.in_ok-fill.fill (g.S.RowStore.store (c.of-opening.ensures k) (c.of-opening_pool.ensures k)) ∷ [])
+    let none : c.of.result.value ≡ [] = c.of.ensures ∙ c.of-plan.ensures ∙ c.new.ensures.items in (
+      of_sound g.C.Clock.readings _ c.in-Ok.ensures.lines (ap (map aloft_of) c.new-3.ensures.items) c.new-2.ensures.mark c.new-2.ensures.last refl
+          (c.in-Ok.ensures.turns ∙ ap first_turns (sym none))
+          (λ k. filled c.in-Ok.fill (g.S.RowStore.store (c.of-opening.ensures k) (c.of-opening_pool.ensures k)) ∷ [])
           c.of-opened.ensures
-          (subst (λ p. HasDifferentKeys (work_of c.of-2.result.value p c.size-cells.result c.in_ok-fill.fill)) (sym c.of.ensures) (c.requires.planned 0)),
-      ready_first _ _ _ _ _ _ c.new-2.ensures.items c.new.ensures.rests c.requires.unpromised room,
-      record { here = c.requires.stands; looks = c.requires.looks },
+          (none_planned (work_of c.of-2.result.value c.of.result.value c.args.cells c.in-Ok.fill) none)
+          (of_found _ _ c.args.mark c.args.last c.requires.found (λ k. filled (c.in-Ok.ensures.fill k) (g.S.RowStore.store (c.of-opening.ensures k) (c.of-opening_pool.ensures k)) ∷ [])),
+      ready_first _ _ _ _ _ _ c.new-3.ensures.items c.new-2.ensures.rests c.requires.unpromised c.in-Ok.ensures.room,
+      c.requires.stands,
+      told_none (work_of c.of-2.result.value c.of.result.value c.args.cells c.in-Ok.fill) _ _ _ c.in-Ok.trail.items (g.S.RowStore.target c.args.store) _ c.new-3.ensures.items,
     )

@@ -1,0 +1,131 @@
+-- What an operation does to the one store is what the engine's event says.
+use Rattle.std.proofs.Common.{◌≡◌, ℕ, zero, suc, ◌++◌, ◌+◌, ◌*◌, ◌/◌, List, [], ◌∷◌, Option, Some, None, refl, true, false, Bool, sym, ap, ◌∙◌, subst, arith, is_some, drop}
+use Rattle.std.specs.Prelude.{slice_get}
+use Rattle.std.specs.Option.{option_map}
+use Rattle.std.specs.FinMap.Entries.{put}
+use Rattle.std.proofs.lemmas.List.Sums.{sum_by-cons}
+use Rattle.kt_history.specs.declared.change.Change.{Change}
+use Rattle.kt_history.specs.declared.change.Change.TheVariants as change
+use Rattle.kt_history.specs.declared.operation.OpKind.{OpKind}
+use Rattle.kt_history.specs.declared.operation.OpKind.TheVariants.{Insert, Upsert, Update, Delete}
+use Rattle.kt_history.specs.declared.operation.RowOp.{RowOp}
+use Rattle.kt_history.specs.declared.target.Kindly.{Kindly}
+use Rattle.kt_history.specs.declared.target.Target.{Target}
+use Rattle.kt_history.specs.Operations.{effect, outcome_of, need, op_len}
+use Rattle.kt_history.specs.Rows.{Row, key_cmp, fits}
+use Rattle.kt_history.proofs.Effects.{outcomes}
+use Rattle.kt_records.specs.Rules.{EachAfter, FollowingOp, CellsFit}
+use Rattle.kt_histlaws.specs.Histories.{Store, hist_in, push, row_of, or_else}
+use Rattle.kt_histlaws.specs.Flights.{Under, AllOps}
+use Rattle.kt_histlaws.specs.Core.{live}
+use Rattle.kt_histlaws.specs.Events.{pushed_if}
+use Rattle.kt_tablet.specs.Stores.{last_row, change_of, share}
+use Rattle.kt_tablet.specs.Filling.{filled, filled_change, IsWhole}
+use Rattle.kt_tablet.specs.Rows.{kind_of, change_by, is_there, with_change, targets_of}
+use Rattle.kt_tablet.proofs.Filling.{last_alike, last_under, find-filled, push-filled, put-filled, under-filled}
+
+none_is_some : (op : RowOp) → None ≡ Some op → ⊥
+none_is_some op e = cc
+
+some_is : (x op : RowOp) → Some x ≡ Some op → x ≡ op
+some_is x op e = cc
+
+-- the operation's kind of change fits, and names a store
+pub fits_there : (op : RowOp) (kind : Kindly) (row : Option Row) → kind_of op.kind (is_some row) ≡ Some kind → fits (change_of kind op.cells) row ≡ true
+fits_there op kind row h = by op.kind row h
+  where
+    some : {A : Type 0} (x y : A) → Some x ≡ Some y → x ≡ y
+    some x y e = cc
+
+    by : (k : OpKind) (row : Option Row) → kind_of k (is_some row) ≡ Some kind → fits (change_of kind op.cells) row ≡ true
+    by Insert None h = ap (λ k. fits (change_of k op.cells) None) (sym (some _ _ h))
+    by Insert (Some r) h = cc
+    by Upsert None h = ap (λ k. fits (change_of k op.cells) None) (sym (some _ _ h))
+    by Upsert (Some r) h = ap (λ k. fits (change_of k op.cells) (Some r)) (sym (some _ _ h))
+    by Update None h = cc
+    by Update (Some r) h = ap (λ k. fits (change_of k op.cells) (Some r)) (sym (some _ _ h))
+    by Delete None h = cc
+    by Delete (Some r) h = ap (λ k. fits (change_of k op.cells) (Some r)) (sym (some _ _ h))
+
+pub named_one : (k : OpKind) (b : Bool) (kind : Kindly) (target : Target) → kind_of k b ≡ Some kind → target ∷ [] ≡ targets_of target (outcome_of k b)
+named_one Insert false kind target h = refl
+named_one Insert true kind target h = cc
+named_one Upsert false kind target h = refl
+named_one Upsert true kind target h = refl
+named_one Update false kind target h = cc
+named_one Update true kind target h = refl
+named_one Delete false kind target h = cc
+named_one Delete true kind target h = refl
+
+pub named_none : (k : OpKind) (b : Bool) (target : Target) → kind_of k b ≡ None → [] ≡ targets_of target (outcome_of k b)
+named_none Insert false target h = cc
+named_none Insert true target h = refl
+named_none Upsert false target h = cc
+named_none Upsert true target h = cc
+named_none Update false target h = refl
+named_none Update true target h = cc
+named_none Delete false target h = refl
+named_none Delete true target h = cc
+
+-- filled, it is the change that the operation has on a row that is there as the store's is
+change_alike : (fill : Row) (op : RowOp) (row : Option Row) → IsWhole fill op.kind op.cells → option_map (filled_change fill) (change_by op (is_some row)) ≡ (effect fill op.kind op.cells row).0
+change_alike fill op row whole = by op.kind row whole
+  where
+    by : (k : OpKind) (row : Option Row) → IsWhole fill k op.cells → option_map (filled_change fill) (option_map (λ kind. change_of kind op.cells) (kind_of k (is_some row))) ≡ (effect fill k op.cells row).0
+    by Insert None whole = ap (λ cells. Some (change.Ins cells)) whole
+    by Insert (Some r) whole = refl
+    by Upsert None whole = refl
+    by Upsert (Some r) whole = refl
+    by Update None whole = refl
+    by Update (Some r) whole = refl
+    by Delete None whole = refl
+    by Delete (Some r) whole = refl
+
+change_filled : (fill : Row) (q : List ℕ) (ts : ℕ) (o : Option Change) (store : Store) → filled fill (with_change q ts o store) ∷ [] ≡ pushed_if 0 q ts (option_map (filled_change fill) o) (filled fill store ∷ [])
+change_filled fill q ts None store = refl
+change_filled fill q ts (Some c) store = ap (λ s. s ∷ []) (
+    sym (put-filled fill q (push ts c (hist_in q store)) store)
+    ∙ ap (λ h. put key_cmp q h (filled fill store)) (sym (push-filled fill ts c (hist_in q store)))
+    ∙ ap (λ h. put key_cmp q (push ts (filled_change fill c) h) (filled fill store)) (sym (find-filled fill q store)))
+
+-- below every later change, the live row is there exactly where the last one is
+pub under_store : (fill : Row) (q : List ℕ) (ts : ℕ) (store : Store) → Under ts (hist_in q (filled fill store)).steps → Under ts (hist_in q store).steps
+under_store fill q ts store under = under-filled fill ts (hist_in q store).steps (subst (λ h. Under ts h.steps) (find-filled fill q store) under)
+
+live_one : (q : List ℕ) (ts : ℕ) (store : Store) → live (store ∷ []) q ts ≡ row_of ts (hist_in q store)
+live_one q ts store = one (row_of ts (hist_in q store))
+  where
+    one : (o : Option Row) → or_else o None ≡ o
+    one None = refl
+    one (Some r) = refl
+
+pub there_live : (fill : Row) (op : RowOp) (ts : ℕ) (store : Store) → Under ts (hist_in op.key (filled fill store)).steps → is_there op store ≡ is_some (live (filled fill store ∷ []) op.key ts)
+there_live fill op ts store under = sym (
+    ap is_some (live_one op.key ts (filled fill store) ∙ last_under ts (hist_in op.key (filled fill store)).steps (hist_in op.key (filled fill store)).first under)
+    ∙ ap (λ h. is_some (last_row h)) (find-filled fill op.key store) ∙ last_alike fill (hist_in op.key store))
+
+pub store_applied : (fill : Row) (op : RowOp) (ts : ℕ) (store new : Store) → Under ts (hist_in op.key (filled fill store)).steps → IsWhole fill op.kind op.cells → new ≡ with_change op.key ts (change_by op (is_there op store)) store
+    → filled fill new ∷ [] ≡ pushed_if 0 op.key ts (effect fill op.kind op.cells (live (filled fill store ∷ []) op.key ts)).0 (filled fill store ∷ [])
+store_applied fill op ts store new under whole is =
+    ap (λ s. filled fill s ∷ []) is ∙ change_filled fill op.key ts (change_by op (is_there op store)) store
+    ∙ ap (λ o. pushed_if 0 op.key ts o (filled fill store ∷ [])) (ap (λ b. option_map (filled_change fill) (change_by op b)) (there_live fill op ts store under) ∙ change_alike fill op (live (filled fill store ∷ []) op.key ts) whole)
+
+pub outcome_live : (fill : Row) (op : RowOp) (ts : ℕ) (store : Store) → Under ts (hist_in op.key (filled fill store)).steps → outcome_of op.kind (is_there op store) ≡ (effect fill op.kind op.cells (live (filled fill store ∷ []) op.key ts)).1
+outcome_live fill op ts store under = ap (outcome_of op.kind) (there_live fill op ts store under) ∙ sym (outcomes fill op.kind op.cells (live (filled fill store ∷ []) op.key ts))
+
+-- operations at their places
+pub op_at : (P : RowOp → Type 0) (ops : List RowOp) (n : ℕ) (op : RowOp) → AllOps P ops → slice_get ops n ≡ Some op → P op
+op_at P [] n op all h = absurd (none_is_some op h)
+op_at P (x ∷ ops) zero op all h = subst P (some_is x op h) all.0
+op_at P (x ∷ ops) (suc n) op all h = op_at P ops n op all.1 h
+
+pub cells_at : (front ops : List RowOp) (n : ℕ) (op : RowOp) → EachAfter FollowingOp front ops → slice_get ops n ≡ Some op → CellsFit op.kind op.cells
+cells_at front [] n op each h = absurd (none_is_some op h)
+cells_at front (x ∷ ops) zero op each h = subst (λ o. CellsFit o.kind o.cells) (some_is x op h) each.0.cells
+cells_at front (x ∷ ops) (suc n) op each h = cells_at (front ++ x ∷ []) ops n op each.1 h
+
+-- what the rows from this one on need
+pub need_at : (ops : List RowOp) (n : ℕ) (op : RowOp) → slice_get ops n ≡ Some op → need (drop n ops) ≡ 2 * share op + need (drop (n + 1) ops)
+need_at [] n op h = absurd (none_is_some op h)
+need_at (x ∷ ops) zero op h = sum_by-cons (λ (op : RowOp). 2 * ((op_len op + 55) / 56 + 4)) x ops ∙ ap (λ o. 2 * share o + need ops) (some_is x op h)
+need_at (x ∷ ops) (suc n) op h = let e : suc n + 1 ≡ suc (n + 1) = omega arith in need_at ops n op h ∙ ap (λ m. 2 * share op + need (drop m (x ∷ ops))) (sym e)

@@ -1,0 +1,292 @@
+-- A row of a flying write is applied, and the write ends, as the goals of the events say it.
+use Rattle.std.proofs.Common.{◌≡◌, ℕ, zero, suc, ◌+◌, ◌-◌, ◌<◌, ◌≤◌, List, [], ◌∷◌, ◌++◌, Option, Some, true, false, Bool, refl, sym, ap, ◌∙◌, subst, arith, map, length, take, drop, get_or, length-drop}
+use Rattle.std.specs.Prelude.{◌==◌, slice_get, slice_set, if◌then◌else◌, vec_len, vec_capacity}
+use Rattle.std.proofs.lemmas.Bool.Decides.{nat_tests}
+use Rattle.std.proofs.lemmas.List.{map-append}
+use Rattle.kt_history.specs.declared.change.Outcome.{Outcome}
+use Rattle.kt_history.specs.declared.operation.RowOp.{RowOp}
+use Rattle.kt_history.specs.declared.target.Target.{Target}
+use Rattle.kt_history.specs.History.{Past, rows_at}
+use Rattle.kt_history.specs.Machine.{start, state_after}
+use Rattle.kt_history.specs.Operations.{effect, effect_on, outcomes_on, need}
+use Rattle.kt_history.specs.Rows.{Row}
+use Rattle.kt_mvcc.specs.declared.flier.Flier.{Flier}
+use Rattle.kt_pool.specs.Contents.{Contents, with_reserved}
+use Rattle.kt_records.specs.declared.entry.CommitRow.{CommitRow}
+use Rattle.kt_histlaws.specs.Histories.{Store, hists, hist_in, row_of, on_nth, Alone}
+use Rattle.kt_histlaws.specs.Flights.{Under, AllUnder}
+use Rattle.kt_histlaws.specs.Pending.{Aloft}
+use Rattle.kt_histlaws.specs.Core.{Core, Stands, live}
+use Rattle.kt_histlaws.specs.Events.{IsNextOp, IsOver, advance, applied, pushed_if}
+use Rattle.kt_histlaws.proofs.Applied.{applies, apply_stands, outcome_told}
+use Rattle.kt_histlaws.proofs.Applying.{stores_under}
+use Rattle.kt_tablet.specs.declared.tablet.FlyingWrite.{FlyingWrite}
+use Rattle.kt_tablet.specs.Stores.{share}
+use Rattle.kt_tablet.specs.Filling.{IsWhole}
+use Rattle.kt_records.specs.Rules.{CellsFit}
+use Rattle.std.specs.List.{list_any, position_or_len}
+use Rattle.kt_tablet.specs.Rows.{IsNoted, AreNoted, commit_row}
+use Rattle.kt_tablet.specs.Views.{View, IsSound, IsReady, IsProvided, AreTold, Opens, aloft_of, flier_of}
+use Rattle.kt_tablet.specs.Visits.{MayApply, HasApplied, IsRunOutcome, IsDone, flight_of}
+use Rattle.kt_tablet.proofs.Flights.{IsPlaceOf, placed_at, flying_one, held_at, flight_at, flight_on, next_at, within, held_set, provided_set, provided_at, fliers_set, length_set, apart_set}
+use Rattle.kt_tablet.proofs.Applying.{need_at, cells_at, op_at}
+use Rattle.kt_tablet.proofs.Visits.{same_flight}
+
+-- everything that the store has of the key of the next row lies below the write
+pub under_next : {C : Type 0} (readings : C → Option (List ℕ)) (view : View C) (j ts : ℕ) (op : RowOp) (store : Store) → IsSound readings view → view.core.stores ≡ store ∷ [] → IsNextOp j view.core.aloft ts op
+    → Under ts (hist_in op.key store).steps
+under_next readings view j ts op store sound one next =
+    let core = record view.core { first = sound.found.0 } in
+    let st = sound.stands sound.found.0 sound.found.1 in
+    let g = applies core st j ts op next in
+    (subst (λ ss. AllUnder ts (hists op.key ss)) one (stores_under view.core.stores view.core.aloft (on_nth j advance view.core.aloft) st.past view.core.a op.key ts st.stores.same g.above g.goes g.awaits)).0
+
+new_applied : (core : Core) (j ts : ℕ) (op : RowOp) (aloft : List Aloft) (stores : List Store) → aloft ≡ on_nth j advance core.aloft → stores ≡ pushed_if 0 op.key ts (effect core.work.fill op.kind op.cells (live core.stores op.key ts)).0 core.stores
+    → record core { aloft = aloft; stores = stores } ≡ applied core j 0 ts op
+new_applied core j ts op aloft stores flies kept = λ k. record core { aloft = flies k; stores = kept k }
+
+in_list : (stores : List Store) (store : Store) → stores ≡ store ∷ [] → 0 < length stores
+in_list stores store one = subst (λ ss. 0 < length ss) (sym one) (omega arith)
+
+alone_one : (stores : List Store) (store : Store) (q : List ℕ) (ts : ℕ) → stores ≡ store ∷ [] → Alone 0 (map (row_of ts) (hists q stores))
+alone_one stores store q ts one = subst (λ ss. Alone 0 (map (row_of ts) (hists q ss))) (sym one) refl
+
+pub apply_sound : {C : Type 0} (readings : C → Option (List ℕ)) (view : View C) (j ts : ℕ) (op : RowOp) (store : Store) (aloft : List Aloft) (stores : List Store) (target : Target) (pool : Contents)
+    → IsSound readings view → view.core.stores ≡ store ∷ [] → IsNextOp j view.core.aloft ts op → aloft ≡ on_nth j advance view.core.aloft
+    → stores ≡ pushed_if 0 op.key ts (effect view.core.work.fill op.kind op.cells (live view.core.stores op.key ts)).0 view.core.stores
+    → IsSound readings (record view { core = record view.core { aloft = aloft; stores = stores }; target = target; pool = pool })
+apply_sound readings view j ts op store aloft stores target pool sound one next flies kept = record {
+  found = sound.found;
+  stands = λ first told. subst Stands (sym (new_applied (record view.core { first = first }) j ts op aloft stores flies kept))
+      (apply_stands (record view.core { first = first }) (sound.stands first told) j 0 ts op next (in_list view.core.stores store one) (alone_one view.core.stores store op.key ts one));
+  clock = sound.clock;
+}
+
+-- the flying write at its place, and its next row
+pub record Applying (flights : List FlyingWrite) (s at j : ℕ) (w : FlyingWrite) (op : RowOp) : Type 0 where
+  pub place : IsPlaceOf s flights j
+  pub here : w ≡ get_or flights j w
+  pub applied : w.applied ≡ at
+  pub more : at < length w.ops
+  pub row : slice_get w.ops at ≡ Some op
+
+got : (ops : List RowOp) (n : ℕ) (op : RowOp) → n < length ops → op ≡ get_or ops n op → slice_get ops n ≡ Some op
+got [] n op lt is = absurd (omega (arith, lt))
+got (x ∷ ops) zero op lt is = ap Some (sym is)
+got (x ∷ ops) (suc n) op lt is = got ops n op (omega (arith, lt)) is
+
+pub placed_is : (s j : ℕ) (flights shown : List FlyingWrite) (flight : Aloft) → flight_of s (map aloft_of flights) ≡ Some flight → shown ≡ flights → j ≡ position_or_len (λ f. f.who == s) shown → IsPlaceOf s flights j
+placed_is s j flights shown flight flies same is = subst (IsPlaceOf s flights) (sym (is ∙ ap (position_or_len (λ f. f.who == s)) same)) (placed_at s flights (flying_one s flights flight flies))
+
+pub any_shown : (s : ℕ) (flights shown : List FlyingWrite) (flight : Aloft) → flight_of s (map aloft_of flights) ≡ Some flight → shown ≡ flights → list_any (λ f. f.who == s) shown ≡ true
+any_shown s flights shown flight flies same = ap (list_any (λ f. f.who == s)) same ∙ flying_one s flights flight flies
+
+pub flight_is : (s j : ℕ) (flights : List FlyingWrite) (w : FlyingWrite) (flight : Aloft) → flight_of s (map aloft_of flights) ≡ Some flight → IsPlaceOf s flights j → w ≡ get_or flights j w → flight ≡ aloft_of w
+flight_is s j flights w flight flies place here = same_flight flight (aloft_of w) (sym flies ∙ flight_at s flights j w place here)
+
+pub more_at : (core : Core) (s at j : ℕ) (flights : List FlyingWrite) (w : FlyingWrite) → core.aloft ≡ map aloft_of flights → MayApply core s at → IsPlaceOf s flights j → w ≡ get_or flights j w → at < length w.ops
+more_at core s at j flights w flown may place here = subst (λ f. at < length f.ops) (flight_is s j flights w may.flight (ap (flight_of s) (sym flown) ∙ may.flies) place here) may.more
+
+pub applying : (core : Core) (s at j : ℕ) (flights : List FlyingWrite) (w : FlyingWrite) (op : RowOp) (ops : List RowOp) → core.aloft ≡ map aloft_of flights → MayApply core s at → IsPlaceOf s flights j → w ≡ get_or flights j w
+    → ops ≡ w.ops → op ≡ get_or ops at op → Applying flights s at j w op
+applying core s at j flights w op ops flown may place here shown is = record {
+  place = place;
+  here = here;
+  applied = sym (ap (λ f. f.applied) (flight_is s j flights w may.flight (ap (flight_of s) (sym flown) ∙ may.flies) place here)) ∙ may.next;
+  more = more_at core s at j flights w flown may place here;
+  row = got w.ops at op (more_at core s at j flights w flown may place here) (is ∙ ap (λ os. get_or os at op) shown);
+}
+
+pub next_here : (flights : List FlyingWrite) (s at j : ℕ) (w : FlyingWrite) (op : RowOp) → Applying flights s at j w op → IsNextOp j (map aloft_of flights) w.ts op
+next_here flights s at j w op a = next_at flights j w op (within s flights j a.place) a.here (ap (slice_get w.ops) a.applied ∙ a.row)
+
+-- what is at one place is one
+pub same_place : (flights : List FlyingWrite) (j : ℕ) (v w : FlyingWrite) → j < length flights → v ≡ get_or flights j v → w ≡ get_or flights j w → v ≡ w
+same_place [] j v w lt one two = absurd (omega (arith, lt))
+same_place (x ∷ flights) zero v w lt one two = one ∙ sym two
+same_place (x ∷ flights) (suc j) v w lt one two = same_place flights j v w (omega (arith, lt)) one two
+
+-- its cells and its room are there
+pub record HasRoom (fill : Row) (pool : Contents) (w : FlyingWrite) (op : RowOp) : Type 0 where
+  pub share_left : share op ≤ w.left
+  pub left : w.left ≤ pool.reserved
+  pub more : w.applied < length w.ops
+  pub outcomes : vec_len w.outcomes < vec_capacity w.outcomes
+  pub rows : vec_len w.rows < vec_capacity w.rows
+  pub cells : CellsFit op.kind op.cells
+  pub whole : IsWhole fill op.kind op.cells
+
+pub has_room : (fill : Row) (stopped : Bool) (flights : List FlyingWrite) (flying : List Flier) (lines room : ℕ) (pool : Contents) (s at j : ℕ) (w : FlyingWrite) (op : RowOp) → IsReady fill stopped flights flying lines room pool → Applying flights s at j w op → HasRoom fill pool w op
+has_room fill stopped flights flying lines room pool s at j w op ready a =
+    let lt = within s flights j a.place in
+    let p = provided_at fill flights j w ready.provided lt a.here in
+    let more : w.applied < length w.ops = subst (λ n. n < length w.ops) (sym a.applied) a.more in
+    record {
+      share_left = let n = need_at w.ops w.applied op (ap (slice_get w.ops) a.applied ∙ a.row) in let enough = p.enough in omega (arith, n, enough);
+      left = let h = held_at flights j w lt a.here in let c = ready.cells in omega (arith, h, c);
+      more = more;
+      outcomes = let n = p.noted.0 in let c = p.room.0 in omega (arith, n, c, more);
+      rows = let n = p.noted.1 in let c = p.room.1 in omega (arith, n, c, more);
+      cells = cells_at [] w.ops at op p.each a.row;
+      whole = op_at (λ op. IsWhole fill op.kind op.cells) w.ops at op p.whole a.row;
+    }
+
+pub has_applied : {C : Type 0} (view old : View C) (s at j : ℕ) (flights : List FlyingWrite) (w : FlyingWrite) (op : RowOp) (outcome : Outcome) (aloft : List Aloft) (stores : List Store) → view ≡ old
+    → view.core.aloft ≡ map aloft_of flights → Applying flights s at j w op → aloft ≡ on_nth j advance view.core.aloft
+    → stores ≡ pushed_if 0 op.key w.ts (effect view.core.work.fill op.kind op.cells (live view.core.stores op.key w.ts)).0 view.core.stores
+    → HasApplied old.core (record view.core { aloft = aloft; stores = stores }) s at outcome
+has_applied view old s at j flights w op outcome aloft stores e flown a flies kept = subst (λ v. HasApplied v.core (record view.core { aloft = aloft; stores = stores }) s at outcome) e (record {
+  j = j;
+  flight = aloft_of w;
+  flies = ap (flight_of s) flown ∙ flight_at s flights j w a.place a.here;
+  op = op;
+  next = subst (λ fs. IsNextOp j fs w.ts op) (sym flown) (next_at flights j w op (within s flights j a.place) a.here (ap (slice_get w.ops) a.applied ∙ a.row));
+  row = a.row;
+  core = new_applied view.core j w.ts op aloft stores flies kept;
+  now = ap (flight_of s) (flies ∙ ap (on_nth j advance) flown) ∙ flight_on s flights j w a.place a.here;
+})
+
+-- its outcome is the run's
+pub run_outcome : {C : Type 0} (readings : C → Option (List ℕ)) (view old : View C) (s at j : ℕ) (flights : List FlyingWrite) (w : FlyingWrite) (op : RowOp) (outcome : Outcome) → view ≡ old → IsSound readings view
+    → view.core.aloft ≡ map aloft_of flights → Applying flights s at j w op
+    → outcome ≡ (effect view.core.work.fill op.kind op.cells (live view.core.stores op.key w.ts)).1
+    → (first : Past) → Opens old.opening old.mark old.core.opened first → IsRunOutcome (record old.core { first = first }) s at outcome
+run_outcome readings view old s at j flights w op outcome e sound flown a is =
+    subst (λ v. (first : Past) → Opens v.opening v.mark v.core.opened first → IsRunOutcome (record v.core { first = first }) s at outcome) e (λ first opens. record {
+      flight = aloft_of w;
+      flies = ap (flight_of s) flown ∙ flight_at s flights j w a.place a.here;
+      op = op;
+      row = a.row;
+      outcome_is = is ∙ outcome_told (record view.core { first = first }) (sound.stands first opens) j w.ts op
+          (subst (λ fs. IsNextOp j fs w.ts op) (sym flown) (next_at flights j w op (within s flights j a.place) a.here (ap (slice_get w.ops) a.applied ∙ a.row)));
+    })
+
+-- what is noted of one row more
+take_more : (f : RowOp → Outcome) (ops : List RowOp) (n : ℕ) (op : RowOp) → slice_get ops n ≡ Some op → take (n + 1) (map f ops) ≡ take n (map f ops) ++ f op ∷ []
+take_more f [] n op h = cc
+take_more f (x ∷ ops) zero op h = ap (λ o. f o ∷ []) (one x op h)
+  where
+    one : (x op : RowOp) → Some x ≡ Some op → x ≡ op
+    one x op e = cc
+take_more f (x ∷ ops) (suc n) op h = let e : suc n + 1 ≡ suc (n + 1) = omega arith in ap (λ m. take m (f x ∷ map f ops)) e ∙ ap (λ os. f x ∷ os) (take_more f ops n op h)
+
+noted_one : (fill : Row) (past : Past) (target : Target) (w x : FlyingWrite) (op : RowOp) (outcome : Outcome) (row : CommitRow) → IsNoted fill past target w
+    → x ≡ record w { applied = w.applied + 1; left = x.left; outcomes = x.outcomes; rows = x.rows } → slice_get w.ops w.applied ≡ Some op
+    → x.outcomes.items ≡ w.outcomes.items ++ outcome ∷ [] → x.rows.items ≡ w.rows.items ++ row ∷ [] → row ≡ commit_row target outcome
+    → outcome ≡ (effect_on fill (rows_at past (w.ts - 1)) op).1 → IsNoted fill past target x
+noted_one fill past target w x op outcome row noted is at outcomes rows written run =
+    subst (IsNoted fill past target) (sym is) (record {
+      outcomes = outcomes ∙ ap (λ os. os ++ outcome ∷ []) noted.outcomes ∙ ap (λ o. take w.applied (outcomes_on fill (rows_at past (w.ts - 1)) w.ops) ++ o ∷ []) run
+          ∙ sym (take_more (λ o. (effect_on fill (rows_at past (w.ts - 1)) o).1) w.ops w.applied op at);
+      rows = rows ∙ ap (λ rs. rs ++ row ∷ []) noted.rows ∙ ap (λ r. map (commit_row target) w.outcomes.items ++ r ∷ []) written
+          ∙ sym (map-append (commit_row target) w.outcomes.items (outcome ∷ [])) ∙ ap (map (commit_row target)) (sym outcomes);
+    })
+
+noted_set : (fill : Row) (past : Past) (target : Target) (flights : List FlyingWrite) (j : ℕ) (x : FlyingWrite) → AreNoted fill past target flights → IsNoted fill past target x → AreNoted fill past target (slice_set flights j x)
+noted_set fill past target [] j x all one = tt
+noted_set fill past target (v ∷ flights) zero x all one = (one, all.1)
+noted_set fill past target (v ∷ flights) (suc j) x all one = (all.0, noted_set fill past target flights j x all.1 one)
+
+noted_at : (fill : Row) (past : Past) (target : Target) (flights : List FlyingWrite) (j : ℕ) (w : FlyingWrite) → AreNoted fill past target flights → j < length flights → w ≡ get_or flights j w → IsNoted fill past target w
+noted_at fill past target [] j w all lt is = absurd (omega (arith, lt))
+noted_at fill past target (v ∷ flights) zero w all lt is = subst (IsNoted fill past target) (sym is) all.0
+noted_at fill past target (v ∷ flights) (suc j) w all lt is = noted_at fill past target flights j w all.1 (omega (arith, lt)) is
+
+pub told_applied : {C : Type 0} (readings : C → Option (List ℕ)) (view : View C) (s at j : ℕ) (flights : List FlyingWrite) (w x : FlyingWrite) (op : RowOp) (outcome : Outcome) (row : CommitRow) (target : Target) → IsSound readings view
+    → view.core.aloft ≡ map aloft_of flights → Applying flights s at j w op
+    → outcome ≡ (effect view.core.work.fill op.kind op.cells (live view.core.stores op.key w.ts)).1
+    → x ≡ record w { applied = w.applied + 1; left = x.left; outcomes = x.outcomes; rows = x.rows }
+    → x.outcomes.items ≡ w.outcomes.items ++ outcome ∷ [] → x.rows.items ≡ w.rows.items ++ row ∷ [] → row ≡ commit_row view.target outcome → target ≡ view.target
+    → AreTold view.core.work view.opening view.mark view.core.opened view.core.trail view.target flights
+    → AreTold view.core.work view.opening view.mark view.core.opened view.core.trail target (slice_set flights j x)
+told_applied readings view s at j flights w x op outcome row target sound flown a is more outcomes rows written same told =
+    subst (λ t. AreTold view.core.work view.opening view.mark view.core.opened view.core.trail t (slice_set flights j x)) (sym same) (λ first opens.
+    let past = (state_after view.core.work (start view.core.work first view.core.opened) view.core.trail).past in
+    let next = next_at flights j w op (within s flights j a.place) a.here (ap (slice_get w.ops) a.applied ∙ a.row) in
+    let run = is ∙ outcome_told (record view.core { first = first }) (sound.stands first opens) j w.ts op (subst (λ fs. IsNextOp j fs w.ts op) (sym flown) next) in
+    noted_set view.core.work.fill past view.target flights j x (told first opens)
+    (noted_one view.core.work.fill past view.target w x op outcome row
+    (noted_at view.core.work.fill past view.target flights j w (told first opens) (within s flights j a.place) a.here)
+    more (ap (slice_get w.ops) a.applied ∙ a.row) outcomes rows written run))
+
+-- what is promised is there still
+none_drops : (ops : List RowOp) (n : ℕ) → length ops ≤ n → drop n ops ≡ []
+none_drops [] zero le = refl
+none_drops [] (suc n) le = refl
+none_drops (x ∷ ops) zero le = absurd (omega (arith, le))
+none_drops (x ∷ ops) (suc n) le = none_drops ops n (omega (arith, le))
+
+drops_none : (ops : List RowOp) (n : ℕ) → drop n ops ≡ [] → length ops ≤ n
+drops_none ops n none = let e = length-drop n ops in let f = ap length none in omega (arith, e, f)
+
+provided_one : (fill : Row) (w x : FlyingWrite) (op : RowOp) (taken : ℕ) → IsProvided fill w → x ≡ record w { applied = w.applied + 1; left = x.left; outcomes = x.outcomes; rows = x.rows }
+    → slice_get w.ops w.applied ≡ Some op → w.applied < length w.ops → taken ≤ share op
+    → x.left ≡ (if w.applied + 1 == length w.ops then 0 else w.left - taken)
+    → (vec_len x.outcomes ≡ vec_len w.outcomes + 1) × (vec_capacity x.outcomes ≡ vec_capacity w.outcomes) → (vec_len x.rows ≡ vec_len w.rows + 1) × (vec_capacity x.rows ≡ vec_capacity w.rows)
+    → IsProvided fill x
+provided_one fill w x op taken p is at more few left outcomes rows = subst (IsProvided fill) (sym is) (record {
+  enough = by (w.applied + 1 == length w.ops) refl;
+  over = λ none. let le = drops_none w.ops (w.applied + 1) none in let all : (w.applied + 1 == length w.ops) ≡ true = grind (arith, nat_tests, le, more) in left ∙ ap (λ b. if b then 0 else w.left - taken) all;
+  count = p.count;
+  each = p.each;
+  whole = p.whole;
+  noted = (let e = outcomes.0 in let n = p.noted.0 in omega (arith, e, n), let e = rows.0 in let n = p.noted.1 in omega (arith, e, n));
+  room = (let e = outcomes.1 in let n = p.room.0 in omega (arith, e, n), let e = rows.1 in let n = p.room.1 in omega (arith, e, n));
+})
+  where
+    by : (b : Bool) → (w.applied + 1 == length w.ops) ≡ b → need (drop (w.applied + 1) w.ops) ≤ x.left
+    by true e = let all : w.applied + 1 ≡ length w.ops = grind (arith, nat_tests) in let none = ap need (none_drops w.ops (w.applied + 1) (omega (arith, all))) in omega (arith, none)
+    by false e = let l = left ∙ ap (λ b. if b then 0 else w.left - taken) e in let n = need_at w.ops w.applied op at in let enough = p.enough in omega (arith, l, n, enough, few)
+
+pub ready_applied : (fill : Row) (stopped : Bool) (flights : List FlyingWrite) (flying : List Flier) (lines room : ℕ) (pool mid after : Contents) (s j at taken : ℕ) (w x : FlyingWrite) (op : RowOp)
+    → IsReady fill stopped flights flying lines room pool → Applying flights s at j w op → w.applied < length w.ops → taken ≤ share op → mid.reserved + taken ≡ pool.reserved
+    → x ≡ record w { applied = w.applied + 1; left = x.left; outcomes = x.outcomes; rows = x.rows }
+    → x.left ≡ (if w.applied + 1 == length w.ops then 0 else w.left - taken)
+    → (vec_len x.outcomes ≡ vec_len w.outcomes + 1) × (vec_capacity x.outcomes ≡ vec_capacity w.outcomes) → (vec_len x.rows ≡ vec_len w.rows + 1) × (vec_capacity x.rows ≡ vec_capacity w.rows)
+    → after ≡ with_reserved mid (mid.reserved - (w.left - taken - x.left))
+    → IsReady fill stopped (slice_set flights j x) flying lines room after
+ready_applied fill stopped flights flying lines room pool mid after s j at taken w x op ready a more few takes is left outcomes rows released =
+    let lt = within s flights j a.place in
+    let p = provided_at fill flights j w ready.provided lt a.here in
+    let row = ap (slice_get w.ops) a.applied ∙ a.row in
+    record {
+      held = ready.held ∙ sym (fliers_set flights j w x a.here (ap flier_of is));
+      cells = let h = held_set flights j w x lt a.here in let c = ready.cells in let r = ap (λ c. c.reserved) released in let n = need_at w.ops w.applied op row in let enough = p.enough in let l = kept (w.applied + 1 == length w.ops) in omega (arith, h, c, r, n, enough, few, takes, l);
+      provided = provided_set fill flights j x ready.provided (provided_one fill w x op taken p is row more few left outcomes rows);
+      apart = apart_set flights j w x a.here (ap (λ y. y.who) is) ready.apart;
+      end = λ goes. let e = length_set flights j x in let fits = ready.end goes in omega (arith, e, fits);
+    }
+  where
+    kept : (b : Bool) → x.left ≤ w.left - taken
+    kept b = some (w.applied + 1 == length w.ops) left
+      where
+        some : (b : Bool) → x.left ≡ (if b then 0 else w.left - taken) → x.left ≤ w.left - taken
+        some true e = omega (arith, e)
+        some false e = omega (arith, e)
+
+-- what is told of a write that has ended
+all_taken : (f : RowOp → Outcome) (ops : List RowOp) (n : ℕ) → drop n ops ≡ [] → take n (map f ops) ≡ map f ops
+all_taken f [] zero none = refl
+all_taken f [] (suc n) none = refl
+all_taken f (x ∷ ops) zero none = ap (map f) (sym none)
+all_taken f (x ∷ ops) (suc n) none = ap (λ os. f x ∷ os) (all_taken f ops n none)
+
+over_at : (s : ℕ) (flights : List FlyingWrite) (j : ℕ) (w : FlyingWrite) → IsOver s (map aloft_of flights) → IsPlaceOf s flights j → w ≡ get_or flights j w → drop w.applied w.ops ≡ []
+over_at s [] j w over place is = absurd place
+over_at s (v ∷ flights) zero w over place is = ap (λ y. drop y.applied y.ops) is ∙ over.0 place
+over_at s (v ∷ flights) (suc j) w over place is = over_at s flights j w over.1 place.1 is
+
+pub is_done : {C : Type 0} (view old : View C) (s j : ℕ) (flights : List FlyingWrite) (w : FlyingWrite) (outcomes : List Outcome) (rows : List CommitRow) → view ≡ old → view.core.aloft ≡ map aloft_of flights → IsPlaceOf s flights j → w ≡ get_or flights j w
+    → IsOver s view.core.aloft → outcomes ≡ w.outcomes.items → rows ≡ w.rows.items
+    → AreTold view.core.work view.opening view.mark view.core.opened view.core.trail view.target flights
+    → (first : Past) → Opens old.opening old.mark old.core.opened first → IsDone (record old.core { first = first }) old.target s outcomes rows
+is_done view old s j flights w outcomes rows e flown place here over outcomes_are rows_are told =
+    subst (λ v. (first : Past) → Opens v.opening v.mark v.core.opened first → IsDone (record v.core { first = first }) v.target s outcomes rows) e (λ first opens.
+    let past = (state_after view.core.work (start view.core.work first view.core.opened) view.core.trail).past in
+    let noted = noted_at view.core.work.fill past view.target flights j w (told first opens) (within s flights j place) here in
+    record {
+      flight = aloft_of w;
+      flies = ap (flight_of s) flown ∙ flight_at s flights j w place here;
+      each = outcomes_are ∙ noted.outcomes ∙ all_taken (λ o. (effect_on view.core.work.fill (rows_at past (w.ts - 1)) o).1) w.ops w.applied (over_at s flights j w (subst (IsOver s) flown over) place here);
+      told = rows_are ∙ noted.rows ∙ ap (map (commit_row view.target)) (sym outcomes_are);
+    })

@@ -1,0 +1,277 @@
+-- What a scan is answered with, and what stands in its way.
+use Rattle.std.proofs.Common.{◌≡◌, ℕ, zero, suc, ◌+◌, ◌<◌, ◌≤◌, List, [], ◌∷◌, ◌++◌, Some, None, Option, refl, true, false, Bool, ◌&&◌, cond, sym, ap, ◌∙◌, subst, arith, map, length, min, max, get_or}
+use Rattle.std.specs.Prelude.{not, nat_lt, nat_le, IsSome, unwrap_or, if◌then◌else◌}
+use Rattle.std.specs.List.{filter, list_all, All}
+use Rattle.std.specs.Ordering.{is_lt, is_gt, is_eq, eq_by_cmp}
+use Rattle.std.specs.FinMap.Entries.{find, is_sorted, below_all}
+use Rattle.std.proofs.lemmas.Bool.{false≢true, and_parts}
+use Rattle.std.proofs.lemmas.Bool.Decides.{nat_tests}
+use Rattle.std.proofs.lemmas.Cmp.{tied_itself}
+use Rattle.std.proofs.lemmas.List.Elements.{filter-append}
+use Rattle.std.proofs.lemmas.List.Folds.{list_all-append}
+use Rattle.std.proofs.lemmas.List.{append-nil}
+use Rattle.kt_history.specs.declared.change.Change.{Change}
+use Rattle.kt_history.specs.declared.changes.KeyChange.{KeyChange}
+use Rattle.kt_history.specs.Rows.{Row, apply, key_cmp}
+use Rattle.kt_history.specs.Machine.{Flying, none_flies, least}
+use Rattle.kt_mvcc.specs.Waits.{lesser_of}
+use Rattle.kt_histlaws.specs.Histories.{Steps, Hist, Store, after_steps, row_of, hist_in, hists, first_some, or_else, AtMostOne}
+use Rattle.kt_histlaws.specs.Core.{Core, Stands, flown_by}
+use Rattle.kt_histlaws.proofs.Shown.{snapshot_told, at_most_one}
+use Rattle.kt_tablet.specs.declared.snap.SnapView.{SnapView}
+use Rattle.kt_tablet.specs.declared.snap.Snap.{Snap}
+use Rattle.kt_tablet.specs.Filling.{filled_change, filled_hist, filled}
+use Rattle.kt_tablet.specs.Stores.{changes_upto, IsGrown, AllBare}
+use Rattle.kt_tablet.specs.Snaps.{rises, changes_of, step_in, row_in}
+use Rattle.kt_tablet.specs.SnapLaws.{order, by_bool, same_key}
+use Rattle.kt_mvcc.specs.declared.flier.Flier.{Flier}
+use Rattle.kt_mvcc.specs.Flying.{least_of}
+use Rattle.kt_tablet.specs.declared.tablet.FlyingWrite.{FlyingWrite}
+use Rattle.kt_tablet.specs.Views.{View, IsSound, Opens, aloft_of, flier_of}
+use Rattle.kt_tablet.specs.Reads.{view_row, ShowsRun, HasDrawn, MaySnapshot, look_of, time_in, time_of, IsAncient, IsBusy, MayReadNow, HasRead}
+use Rattle.kt_tablet.proofs.Visits.{new_answered, told_still, least_alike}
+use Rattle.kt_histlaws.specs.Core.{now}
+use Rattle.kt_histlaws.specs.Events.{answered_rows}
+use Rattle.kt_histlaws.proofs.Events.{ancient_stands, busy_stands, rows_stands}
+use Rattle.kt_history.specs.History.{Past}
+use Rattle.kt_history.specs.Machine.{Turn, nth, set_nth, IfScan, MayRead, ReadsAt, IsNext, look_for, command_at}
+use Rattle.kt_history.specs.declared.scan.At.{At}
+use Rattle.kt_history.specs.declared.scan.At.TheVariants.{Looked, Given}
+use Rattle.kt_history.specs.declared.command.Command.{Command}
+use Rattle.kt_history.specs.declared.command.Command.TheVariants as command
+use Rattle.kt_history.specs.declared.event.Event.{Event}
+use Rattle.kt_history.specs.declared.event.Event.TheVariants.{Ancient, Busy, Rows}
+use Rattle.std.specs.declared.cmp.Ordering.{Ordering}
+use Rattle.std.specs.declared.cmp.Ordering.TheVariants.{Less, Equal, Greater}
+use Rattle.kt_tablet.proofs.Snaps.{none_of, all_map}
+
+-- THE CHANGES OF A STORE UP TO A TIME
+all_keyed : (p : List ℕ → Bool) (key : List ℕ) (steps : Steps) → p key ≡ true → list_all (λ (d : KeyChange). p d.key) (map (λ (c : ℕ × Change). record { key = key; ts = c.0; change = c.1 }) steps) ≡ true
+all_keyed p key [] h = refl
+all_keyed p key (c ∷ steps) h = ap (λ b. b && list_all (λ (d : KeyChange). p d.key) (map (λ (c : ℕ × Change). record { key = key; ts = c.0; change = c.1 }) steps)) h ∙ all_keyed p key steps h
+
+-- a test of keys holds of all changes, where it holds of all keys
+all_upto : (p : List ℕ → Bool) (t : ℕ) (store : Store) → list_all (λ (r : List ℕ × Hist). p r.0) store ≡ true → list_all (λ (d : KeyChange). p d.key) (changes_upto t store) ≡ true
+all_upto p t [] h = refl
+all_upto p t (r ∷ store) h = let parts = and_parts (p r.0) (list_all (λ (x : List ℕ × Hist). p x.0) store) h in
+    list_all-append (λ (d : KeyChange). p d.key) (map (λ (c : ℕ × Change). record { key = r.0; ts = c.0; change = c.1 }) (filter (λ c. nat_le c.0 t) r.1.steps)) (changes_upto t store)
+    ∙ ap (λ b. b && list_all (λ (d : KeyChange). p d.key) (changes_upto t store)) (all_keyed p r.0 (filter (λ c. nat_le c.0 t) r.1.steps) parts.0) ∙ all_upto p t store parts.1
+
+below_keys : (key : List ℕ) (store : Store) → below_all key_cmp key store ≡ true → list_all (λ (r : List ℕ × Hist). is_lt (key_cmp key r.0)) store ≡ true
+below_keys key [] h = refl
+below_keys key (r ∷ store) h = let parts = and_parts (is_lt (key_cmp key r.0)) (below_all key_cmp key store) h in
+    ap (λ b. b && list_all (λ (x : List ℕ × Hist). is_lt (key_cmp key x.0)) store) parts.0 ∙ below_keys key store parts.1
+
+not_gt_itself : (key : List ℕ) → not (is_gt (key_cmp key key)) ≡ true
+not_gt_itself key = ap (λ o. not (is_gt o)) (tied_itself order key)
+
+lt_not_gt : (a b : List ℕ) → is_lt (key_cmp a b) ≡ true → not (is_gt (key_cmp a b)) ≡ true
+lt_not_gt a b h = by_bool (is_gt (key_cmp a b)) (λ g. absurd (false≢true (both_no (key_cmp a b) h g))) (λ g. ap not g)
+  where
+    both_no : (o : Ordering) → is_lt o ≡ true → is_gt o ≡ true → false ≡ true
+    both_no Less l g = g
+    both_no Equal l g = g
+    both_no Greater l g = l
+
+lt_not_eq : (a b : List ℕ) → is_lt (key_cmp a b) ≡ true → not (eq_by_cmp key_cmp a b) ≡ true
+lt_not_eq a b h = by_bool (eq_by_cmp key_cmp a b) (λ g. absurd (false≢true (both_no (key_cmp a b) h g))) (λ g. ap not g)
+  where
+    both_no : (o : Ordering) → is_lt o ≡ true → is_eq o ≡ true → false ≡ true
+    both_no Less l g = g
+    both_no Equal l g = l
+    both_no Greater l g = l
+
+joined_rise : (key : List ℕ) (steps : Steps) (rest : List KeyChange) → list_all (λ (d : KeyChange). is_lt (key_cmp key d.key)) rest ≡ true → rises rest ≡ true → rises (map (λ (c : ℕ × Change). record { key = key; ts = c.0; change = c.1 }) steps ++ rest) ≡ true
+joined_rise key [] rest below h = h
+joined_rise key (c ∷ steps) rest below h =
+    ap (λ b. b && rises (map (λ (c : ℕ × Change). record { key = key; ts = c.0; change = c.1 }) steps ++ rest))
+    (list_all-append (λ (d : KeyChange). not (is_gt (key_cmp key d.key))) (map (λ (c : ℕ × Change). record { key = key; ts = c.0; change = c.1 }) steps) rest
+    ∙ ap (λ b. b && list_all (λ (d : KeyChange). not (is_gt (key_cmp key d.key))) rest) (all_keyed (λ k. not (is_gt (key_cmp key k))) key steps (not_gt_itself key))
+    ∙ all_map (λ (d : KeyChange). is_lt (key_cmp key d.key)) (λ (d : KeyChange). not (is_gt (key_cmp key d.key))) rest (λ d l. lt_not_gt key d.key l) below)
+    ∙ joined_rise key steps rest below h
+
+pub upto_rises : (t : ℕ) (store : Store) → is_sorted key_cmp store ≡ true → rises (changes_upto t store) ≡ true
+upto_rises t [] h = refl
+upto_rises t (r ∷ store) h = let parts = and_parts (below_all key_cmp r.0 store) (is_sorted key_cmp store) h in
+    joined_rise r.0 (filter (λ c. nat_le c.0 t) r.1.steps) (changes_upto t store) (all_upto (λ k. is_lt (key_cmp r.0 k)) t store (below_keys r.0 store parts.0)) (upto_rises t store parts.1)
+
+-- all of one row's changes are of its key, or none is
+all_of : (q key : List ℕ) (steps : Steps) → eq_by_cmp key_cmp q key ≡ true → changes_of q (map (λ (c : ℕ × Change). record { key = key; ts = c.0; change = c.1 }) steps) ≡ map (λ (c : ℕ × Change). record { key = key; ts = c.0; change = c.1 }) steps
+all_of q key [] e = refl
+all_of q key (c ∷ steps) e = ap (λ b. cond b (record { key = key; ts = c.0; change = c.1 } ∷ changes_of q (map (λ (c : ℕ × Change). record { key = key; ts = c.0; change = c.1 }) steps)) (changes_of q (map (λ (c : ℕ × Change). record { key = key; ts = c.0; change = c.1 }) steps))) e
+    ∙ ap (λ l. record { key = key; ts = c.0; change = c.1 } ∷ l) (all_of q key steps e)
+
+-- a change that is later shows nothing
+upto_shows : (fill : Row) (key : List ℕ) (t u : ℕ) (steps : Steps) (row : Option Row) → u ≤ t
+    → after_steps u (map (step_in fill) (map (λ (c : ℕ × Change). record { key = key; ts = c.0; change = c.1 }) (filter (λ c. nat_le c.0 t) steps))) row ≡ after_steps u (map (λ (c : ℕ × Change). (c.0, filled_change fill c.1)) steps) row
+upto_shows fill key t u [] row le = refl
+upto_shows fill key t u (c ∷ steps) row le = by_bool (nat_le c.0 t)
+    (λ e. ap (λ b. after_steps u (map (step_in fill) (map (λ (c : ℕ × Change). record { key = key; ts = c.0; change = c.1 }) (cond b (c ∷ filter (λ c. nat_le c.0 t) steps) (filter (λ c. nat_le c.0 t) steps)))) row) e
+    ∙ upto_shows fill key t u steps (if nat_le c.0 u then apply (filled_change fill c.1) row else row) le)
+    (λ e. ap (λ b. after_steps u (map (step_in fill) (map (λ (c : ℕ × Change). record { key = key; ts = c.0; change = c.1 }) (cond b (c ∷ filter (λ c. nat_le c.0 t) steps) (filter (λ c. nat_le c.0 t) steps)))) row) e
+    ∙ upto_shows fill key t u steps row le
+    ∙ ap (λ b. after_steps u (map (λ (c : ℕ × Change). (c.0, filled_change fill c.1)) steps) (cond b (apply (filled_change fill c.1) row) row)) (sym (later e)))
+  where
+    later : nat_le c.0 t ≡ false → nat_le c.0 u ≡ false
+    later e = grind (arith, nat_tests)
+
+-- up to the time, they tell the rows of the store
+pub upto_tells : (fill : Row) (t u : ℕ) (q : List ℕ) (store : Store) → is_sorted key_cmp store ≡ true → AllBare store → u ≤ t → row_in fill (changes_upto t store) q u ≡ row_of u (hist_in q (filled fill store))
+upto_tells fill t u q [] sorted bare le = refl
+upto_tells fill t u q (r ∷ store) sorted bare le =
+    let parts = and_parts (below_all key_cmp r.0 store) (is_sorted key_cmp store) sorted in
+    ap (λ l. after_steps u (map (step_in fill) l) None) (filter-append (λ c. eq_by_cmp key_cmp q c.key) (map (λ (c : ℕ × Change). record { key = r.0; ts = c.0; change = c.1 }) (filter (λ c. nat_le c.0 t) r.1.steps)) (changes_upto t store))
+    ∙ by_bool (eq_by_cmp key_cmp q r.0)
+    (λ e. ap (λ l. after_steps u (map (step_in fill) l) None)
+    ((λ k. all_of q r.0 (filter (λ c. nat_le c.0 t) r.1.steps) e k
+    ++ none_of q (changes_upto t store) (all_upto (λ k. not (eq_by_cmp key_cmp q k)) t store (others q r.0 store (same_key q r.0 e) (below_keys r.0 store parts.0))) k)
+    ∙ append-nil (map (λ (c : ℕ × Change). record { key = r.0; ts = c.0; change = c.1 }) (filter (λ c. nat_le c.0 t) r.1.steps)))
+    ∙ upto_shows fill r.0 t u r.1.steps None le
+    ∙ ap (λ o. after_steps u (map (λ (c : ℕ × Change). (c.0, filled_change fill c.1)) r.1.steps) o) (sym bare.0)
+    ∙ sym (ap (λ b. row_of u (unwrap_or (cond b (Some (filled_hist fill r.1)) (find key_cmp q (filled fill store))) (record { first = None; steps = [] }))) e))
+    (λ e. ap (λ l. after_steps u (map (step_in fill) (l ++ changes_of q (changes_upto t store))) None)
+    (none_of q (map (λ (c : ℕ × Change). record { key = r.0; ts = c.0; change = c.1 }) (filter (λ c. nat_le c.0 t) r.1.steps)) (all_keyed (λ k. not (eq_by_cmp key_cmp q k)) r.0 (filter (λ c. nat_le c.0 t) r.1.steps) (ap not e)))
+    ∙ upto_tells fill t u q store parts.1 bare.1 le
+    ∙ sym (ap (λ b. row_of u (unwrap_or (cond b (Some (filled_hist fill r.1)) (find key_cmp q (filled fill store))) (record { first = None; steps = [] }))) e))
+  where
+    others : (q key : List ℕ) (store : Store) → q ≡ key → list_all (λ (x : List ℕ × Hist). is_lt (key_cmp key x.0)) store ≡ true → list_all (λ (x : List ℕ × Hist). not (eq_by_cmp key_cmp q x.0)) store ≡ true
+    others q key store same below = all_map (λ (x : List ℕ × Hist). is_lt (key_cmp key x.0)) (λ (x : List ℕ × Hist). not (eq_by_cmp key_cmp q x.0)) store (λ x l. subst (λ k. not (eq_by_cmp key_cmp k x.0) ≡ true) (sym same) (lt_not_eq key x.0 l)) below
+
+-- WHAT STANDS IN THE WAY
+both : (a b : Bool) → a ≡ true → b ≡ true → (a && b) ≡ true
+both a b x y = ap (λ c. c && b) x ∙ y
+
+pub none_before : (flying : List Flying) (t : ℕ) → least flying ≡ None → none_flies t flying ≡ true
+none_before [] t none = refl
+none_before (w ∷ flying) t none = absurd (some_none none)
+  where
+    some_none : {A : Type 0} {x : A} → Some x ≡ None → ⊥
+    some_none e = cc
+
+inside : (a b : ℕ) → Some a ≡ Some b → a ≡ b
+inside a b h = cc
+
+below : (t n : ℕ) → t < n → nat_lt t n ≡ true
+below t n h = grind (arith, nat_tests)
+
+by_least : (w : Flying) (flying : List Flying) (t f : ℕ) (o : Option ℕ) → least flying ≡ o → Some (lesser_of o w.ts) ≡ Some f → t < f → ((m : ℕ) → least flying ≡ Some m → t < m → none_flies t flying ≡ true) → (nat_lt t w.ts && none_flies t flying) ≡ true
+by_least w flying t f None h e lt rest = let is = inside w.ts f e in both (nat_lt t w.ts) (none_flies t flying) (below t w.ts (omega (arith, is, lt))) (none_before flying t h)
+by_least w flying t f (Some m) h e lt rest = let is = inside (min m w.ts) f e in both (nat_lt t w.ts) (none_flies t flying) (below t w.ts (omega (arith, is, lt))) (rest m h (omega (arith, is, lt)))
+
+pub none_earlier : (flying : List Flying) (t f : ℕ) → least flying ≡ Some f → t < f → none_flies t flying ≡ true
+none_earlier [] t f e lt = refl
+none_earlier (w ∷ flying) t f e lt = by_least w flying t f (least flying) refl e lt (λ m h below. none_earlier flying t m h below)
+
+-- what the clock of writes has is the least of the run
+pub least_is : {C : Type 0} (view old : View C) (flights : List FlyingWrite) (flying : List Flier) (found : Option ℕ) → view ≡ old → view.core.aloft ≡ map aloft_of flights → flying ≡ map flier_of flights → found ≡ least_of flying → least (map flown_by old.core.aloft) ≡ found
+least_is view old flights flying found e aloft held is = ap (λ v. least (map flown_by v.core.aloft)) (sym e) ∙ ap (λ fs. least (map flown_by fs)) aloft ∙ sym (least_alike flights) ∙ ap least_of (sym held) ∙ sym is
+
+-- WHAT IS SHOWN
+pub shows_run : (core : Core) (st : Stands core) (view : SnapView) (snap : Snap) (store : Store) (fill : Row) (t : ℕ) → core.stores ≡ filled fill store ∷ [] → IsGrown store → snap.t ≡ t → snap.mark ≡ core.a → snap.views ≡ view ∷ []
+    → view.since ≡ core.a → view.changes ≡ changes_upto t store → view.fill ≡ fill → none_flies t (map flown_by core.aloft) ≡ true → ShowsRun core snap
+shows_run core st view snap store fill t stores grown time mark views since changes fills settled = record {
+  marks = subst (λ vs. All (λ v. v.since ≤ snap.mark) vs) (sym views) (λ k d lt. one_mark k d lt);
+  rows = λ u key lo hi. ap (λ vs. first_some (map (view_row key u) vs)) views ∙ ap (λ o. or_else o None) (row_is u key (omega (arith, time, hi)))
+      ∙ ap (λ ss. first_some (map (row_of u) (hists key ss))) (sym stores) ∙ snapshot_told core st t u key settled (omega (arith, mark, lo)) (omega (arith, time, hi));
+  one = λ u key lo hi. subst (λ vs. AtMostOne (map (view_row key u) vs)) (sym views) (subst (λ o. AtMostOne (o ∷ [])) (sym (row_is u key (omega (arith, time, hi))))
+      (subst (λ ss. AtMostOne (map (row_of u) (hists key ss))) stores (at_most_one core st u key (omega (arith, mark, lo)))));
+}
+  where
+    row_is : (u : ℕ) (key : List ℕ) → u ≤ t → view_row key u view ≡ row_of u (hist_in key (filled fill store))
+    row_is u key le = (λ k. row_in (fills k) (changes k) key u) ∙ upto_tells fill t u key store grown.sorted grown.bare le
+
+    one_mark : (k : ℕ) (d : SnapView) → k < length (view ∷ []) → (get_or (view ∷ []) k d).since ≤ snap.mark
+    one_mark zero d lt = omega (arith, since, mark)
+    one_mark (suc k) d lt = absurd (omega arith)
+
+pub shows_view : {C : Type 0} (readings : C → Option (List ℕ)) (view old : View C) (one : SnapView) (snap : Snap) (store : Store) (fill : Row) (t : ℕ) → view ≡ old → IsSound readings view
+    → view.core.stores ≡ filled fill store ∷ [] → IsGrown store → snap.t ≡ t → snap.mark ≡ view.core.a → snap.views ≡ one ∷ []
+    → one.since ≡ view.core.a → one.changes ≡ changes_upto t store → one.fill ≡ fill → none_flies t (map flown_by old.core.aloft) ≡ true
+    → (first : Past) → Opens old.opening old.mark old.core.opened first → ShowsRun (record old.core { first = first }) snap
+shows_view readings view old one snap store fill t e sound stores grown time mark views since changes fills settled first told =
+    subst (λ v. ShowsRun (record v.core { first = first }) snap) e
+    (shows_run (record view.core { first = first }) (sound.stands first (subst (λ v. Opens v.opening v.mark v.core.opened first) (sym e) told)) one snap store fill t stores grown time mark views since changes fills
+    (subst (λ v. none_flies t (map flown_by v.core.aloft) ≡ true) (sym e) settled))
+
+-- THE EVENTS
+-- a scan that stands in the plan
+if_scan : (o : Option Command) (at : At) (P : At → Type 0) → IfScan o (λ w. w ≡ at) → P at → IfScan o P
+if_scan (Some (command.Write w)) at P h p = h
+if_scan (Some (command.Scan scan)) at P h p = subst P (sym h) p
+if_scan (Some (command.Mark t)) at P h p = h
+if_scan (Some (command.Chore chore)) at P h p = h
+if_scan None at P h p = h
+
+the_look : (look : Option ℕ) → IsSome look → look ≡ Some (unwrap_or look 0)
+the_look None h = absurd (false≢true h)
+the_look (Some t) h = refl
+
+has_look : (turns : List Turn) (s i t : ℕ) (at : At) (look : Option ℕ) → nth turns s ≡ Some (record { next = i; look = look }) → HasDrawn at look → t ≡ time_in turns s at → ReadsAt at t × (nth turns s ≡ Some (record { next = i; look = look_for at t }))
+has_look turns s i t Looked look next drawn time = (tt, next ∙ ap (λ l. Some (record { next = i; look = l })) (the_look look drawn ∙ ap Some (sym (time ∙ ap (λ o. unwrap_or (look_of o) 0) next))))
+has_look turns s i t (Given g) look next drawn time = (time, next ∙ ap (λ l. Some (record { next = i; look = l })) drawn)
+
+may_read : (core : Core) (past : Past) (s i t : ℕ) (at : At) → MaySnapshot core s i at → t ≡ time_of core s at → MayRead core.work (now core past) s i t
+may_read core past s i t at may time =
+    let look = has_look core.turns s i t at may.look may.next may.drawn time in
+    if_scan (command_at core.work s i) at (λ w. ReadsAt w t × IsNext (now core past) s i (look_for w t)) may.scan (look.0, record { next = look.1; rests = may.rests })
+
+may_first : (core : Core) (first : Past) (s i : ℕ) (at : At) → MaySnapshot core s i at → MaySnapshot (record core { first = first }) s i at
+may_first core first s i at may = record { look = may.look; next = may.next; drawn = may.drawn; rests = may.rests; scan = may.scan; few = may.few }
+
+pub ancient_sound : {C : Type 0} (readings : C → Option (List ℕ)) (view : View C) (s i : ℕ) (at : At) (t a : ℕ) (trail : List Event) (turns : List Turn)
+    → IsSound readings view → IsAncient view.core s i at t a
+    → trail ≡ view.core.trail ++ Ancient s i t a ∷ [] → turns ≡ set_nth view.core.turns s (record { next = i + 1; look = None })
+    → IsSound readings (record view { core = record view.core { trail = trail; turns = turns } })
+ancient_sound readings view s i at t a trail turns sound is lines places = record {
+  found = sound.found;
+  stands = λ first told. let st = sound.stands first told in subst Stands (sym (new_answered (record view.core { first = first }) s i (Ancient s i t a) trail turns lines places))
+      (ancient_stands (record view.core { first = first }) s i t a st (is.goes, may_read (record view.core { first = first }) st.past s i t at (may_first view.core first s i at is.may) is.time, is.below, is.mark));
+  clock = told_still readings view.opened view.clock view.core.trail trail (Ancient s i t a) sound.clock refl lines;
+}
+
+pub busy_sound : {C : Type 0} (readings : C → Option (List ℕ)) (view : View C) (s i t f : ℕ) (trail : List Event) (turns : List Turn)
+    → IsSound readings view → IsBusy view.core s i t f
+    → trail ≡ view.core.trail ++ Busy s i t f ∷ [] → turns ≡ set_nth view.core.turns s (record { next = i + 1; look = None })
+    → IsSound readings (record view { core = record view.core { trail = trail; turns = turns } })
+busy_sound readings view s i t f trail turns sound is lines places = record {
+  found = sound.found;
+  stands = λ first told. let st = sound.stands first told in subst Stands (sym (new_answered (record view.core { first = first }) s i (Busy s i t f) trail turns lines places))
+      (busy_stands (record view.core { first = first }) s i t f st (
+        is.goes,
+        record { next = is.may.next ∙ ap (λ l. Some (record { next = i; look = l })) is.may.drawn; rests = is.may.rests },
+        is.may.scan,
+        is.since,
+        is.flies.0,
+        is.flies.1,
+      ));
+  clock = told_still readings view.opened view.clock view.core.trail trail (Busy s i t f) sound.clock refl lines;
+}
+
+new_read : (core : Core) (s i t : ℕ) (trail : List Event) (a c : ℕ) (turns : List Turn) → trail ≡ core.trail ++ Rows s i t ∷ [] → a ≡ core.a → c ≡ max core.c t → turns ≡ set_nth core.turns s (record { next = i + 1; look = None })
+    → record core { trail = trail; a = a; c = c; turns = turns } ≡ answered_rows core s i t
+new_read core s i t trail a c turns lines stays last places = λ k. record core { trail = lines k; a = stays k; c = last k; turns = places k }
+
+pub rows_sound : {C : Type 0} (readings : C → Option (List ℕ)) (view : View C) (s i : ℕ) (at : At) (t : ℕ) (trail : List Event) (a c : ℕ) (turns : List Turn)
+    → IsSound readings view → MayReadNow view.core s i at t
+    → trail ≡ view.core.trail ++ Rows s i t ∷ [] → a ≡ view.core.a → c ≡ max view.core.c t → turns ≡ set_nth view.core.turns s (record { next = i + 1; look = None })
+    → IsSound readings (record view { core = record view.core { trail = trail; a = a; c = c; turns = turns } })
+rows_sound readings view s i at t trail a c turns sound may lines stays last places = record {
+  found = sound.found;
+  stands = λ first told. let st = sound.stands first told in subst Stands (sym (new_read (record view.core { first = first }) s i t trail a c turns lines stays last places))
+      (rows_stands (record view.core { first = first }) s i t st (may.goes, may_read (record view.core { first = first }) st.past s i t at (may_first view.core first s i at may.may) may.time, may.since, may.settled));
+  clock = told_still readings view.opened view.clock view.core.trail trail (Rows s i t) sound.clock refl lines;
+}
+
+pub has_read : {C : Type 0} (view old : View C) (s i : ℕ) (at : At) (t told : ℕ) (trail : List Event) (a c : ℕ) (turns : List Turn) → view ≡ old → told ≡ t → MayReadNow old.core s i at t
+    → trail ≡ view.core.trail ++ Rows s i t ∷ [] → a ≡ view.core.a → c ≡ max view.core.c t → turns ≡ set_nth view.core.turns s (record { next = i + 1; look = None })
+    → HasRead old.core (record view.core { trail = trail; a = a; c = c; turns = turns }) s i at told
+has_read view old s i at t told trail a c turns e is may lines stays last places = subst (HasRead old.core (record view.core { trail = trail; a = a; c = c; turns = turns }) s i at) (sym is) (record {
+  time = may.time;
+  since = may.since;
+  settled = may.settled;
+  core = new_read view.core s i t trail a c turns lines stays last places ∙ ap (λ v. answered_rows v.core s i t) e;
+})
+
+-- a fact of the old value is one of the opened fields
+pub of_view : {C : Type 0} (P : View C → Type 0) (view old : View C) → view ≡ old → P old → P view
+of_view P view old e h = subst P (sym e) h

@@ -1,0 +1,8 @@
+use Rattle.kt_tablet.proofs.Examples.{found_empty}
+use Rattle.kt_tablet.proofs.tests.empty.Goals as goal
+
+pub of-requires-2-clause-stands : goal.of-requires-2-clause-stands
+of-requires-2-clause-stands c = record { stands = c.new-store.ensures.store c.in_ok-pool.pool; thawed = c.new-store.ensures.open_ }
+
+pub of-requires-2-clause-found : goal.of-requires-2-clause-found
+of-requires-2-clause-found c = found_empty _ _ (c.new-store.ensures.empty c.in_ok-pool.pool)

@@ -1,0 +1,170 @@
+//! The rows of a flying write, applied one by one, and its end.
+ghost use Rattle.std.specs.Prelude.{◌≡◌, ◌-◌, ◌+◌, ◌≤◌, ◌<◌, ◌^◌, ◌==◌, ◌++◌, ◌∷◌, [], length, true, vec_len, vec_capacity, if◌then◌else◌};
+ghost use Rattle.std.specs.List.{list_any, position, position_or_len};
+ghost use Rattle.kt_pool.specs.Contents.{with_reserved};
+ghost use Rattle.kt_records.specs.Rules.{EachAfter, FollowingCell};
+ghost use Rattle.kt_history.specs.Operations.{outcome_of};
+ghost use Rattle.kt_histlaws.specs.Histories.{hist_in};
+ghost use Rattle.kt_histlaws.specs.Flights.{Under};
+ghost use Rattle.kt_tablet.specs.Stores.{share, TakesUpTo};
+ghost use Rattle.kt_tablet.specs.Rows.{kind_of as kind_made, change_by, is_there, with_change, commit_row};
+
+use super::{FlyingWrite, Stopped, Tablet};
+use crate::store::RowStore;
+use kt_base::Clock;
+use kt_history::{Event, Kindly, OpKind, Outcome, OutcomeList, RowOp, outcome};
+use kt_pool::Pool;
+use kt_records::{CommitRow, CommitRows, TargetList};
+
+/// What became of a write that has ended: the outcomes of its rows, and the same for the log.
+#[derive(Debug, Drop)]
+pub struct WriteEnd {
+    pub index: u32,
+    pub ts: u64,
+    pub outcomes: OutcomeList,
+    pub rows: CommitRows,
+}
+
+// The kind of change that an operation makes to a row that is there, or is not.
+fn kind_of(kind: OpKind, there: bool) -> Option<Kindly>
+    ensures { result ≡ kind_made kind there }
+{
+    match (kind, there) {
+        (OpKind::Insert, false) | (OpKind::Upsert, false) => Some(Kindly::Ins),
+        (OpKind::Upsert, true) | (OpKind::Update, true) => Some(Kindly::Upd),
+        (OpKind::Delete, true) => Some(Kindly::Del),
+        _ => None,
+    }
+}
+
+// An operation reaches a store, in reserved cells.
+fn apply_op<S: RowStore>(store: &mut S, pool: &mut Pool, ts: u64, op: &RowOp) -> CommitRow
+    requires stands { S.stands store.old pool.old }
+    requires reserved { share op.now ≤ pool.old.reserved }
+    requires count { length op.now.cells < 2 ^ 16 }
+    requires cells { EachAfter FollowingCell [] op.now.cells }
+    requires above { Under ts (hist_in op.now.key (S.store store.old pool.old)).steps }
+    ensures stands { S.stands store.new pool.new }
+    ensures changed { S.store store.new pool.new ≡ with_change op.now.key ts (change_by op.now (is_there op.now (S.store store.old pool.old))) (S.store store.old pool.old) }
+    ensures row { result ≡ commit_row (S.target store.old) (outcome_of op.now.kind (is_there op.now (S.store store.old pool.old))) }
+    ensures name { S.target store.new ≡ S.target store.old }
+    ensures takes { TakesUpTo (share op.now) pool.old pool.new }
+{
+    let there = store.live(pool, op.key.as_slice());
+    let outcome = outcome(op.kind, there);
+    match kind_of(op.kind, there) {
+        Some(kind) => {
+            let target = store.apply_reserved(pool, ts, op, kind);
+            let targets = TargetList::one(target);
+            CommitRow { outcome, targets }
+        }
+        None => {
+            let targets = TargetList::none();
+            CommitRow { outcome, targets }
+        }
+    }
+}
+
+// Where a flying write of a session stands first, if there is one.
+fn find_place(flights: &[FlyingWrite], number: u32) -> Option<usize>
+    ensures { result ≡ position (λ f. f.who == number) flights.now }
+{
+    flights.iter().position(|flight| flight.who == number)
+}
+
+// Where the flying write of a session stands among the others.
+fn place_of(flights: &[FlyingWrite], number: u32) -> usize
+    requires { list_any (λ f. f.who == number) flights.now ≡ true }
+    ensures { result ≡ position_or_len (λ f. f.who == number) flights.now }
+{
+    match find_place(flights, number) {
+        Some(place) => place,
+        None => unreachable!(),
+    }
+}
+
+// Notes what became of the next row, which took so many cells. Once all rows are applied the write holds no cells any more.
+fn note(pool: &mut Pool, write: &mut FlyingWrite, row: CommitRow, taken: u32) -> Outcome
+    requires taken { taken ≤ write.old.left }
+    requires held { write.old.left - taken ≤ pool.old.reserved }
+    requires more { write.old.applied < length write.old.ops }
+    requires outcome_room { vec_len write.old.outcomes < vec_capacity write.old.outcomes }
+    requires row_room { vec_len write.old.rows < vec_capacity write.old.rows }
+    ensures outcome { result ≡ row.outcome }
+    ensures write { write.new ≡ record write.old { applied = write.old.applied + 1; left = write.new.left; outcomes = write.new.outcomes; rows = write.new.rows } }
+    ensures outcomes { write.new.outcomes.items ≡ write.old.outcomes.items ++ row.outcome ∷ [] }
+    ensures outcome_room { (vec_len write.new.outcomes ≡ vec_len write.old.outcomes + 1) × (vec_capacity write.new.outcomes ≡ vec_capacity write.old.outcomes) }
+    ensures rows { write.new.rows.items ≡ write.old.rows.items ++ row ∷ [] }
+    ensures row_room { (vec_len write.new.rows ≡ vec_len write.old.rows + 1) × (vec_capacity write.new.rows ≡ vec_capacity write.old.rows) }
+    ensures left { write.new.left ≡ (if write.old.applied + 1 == length write.old.ops then 0 else write.old.left - taken) }
+    ensures pool { pool.new ≡ with_reserved pool.old (pool.old.reserved - (write.old.left - taken - write.new.left)) }
+{
+    let count = write.ops.len();
+    let left = write.left - taken;
+    write.applied += 1;
+    write.left = if write.applied == count { 0 } else { left };
+    pool.release(left - write.left);
+    let outcome = row.outcome;
+    write.outcomes.push_reserved(outcome);
+    write.rows.push_reserved(row);
+    outcome
+}
+
+impl<S: RowStore, C: Clock> Tablet<S, C> {
+    ghost use Rattle.std.specs.Prelude.{IfOk, OnErr, IsOk, IsErr, false};
+    ghost use Rattle.kt_history.specs.History.{Past};
+    ghost use Rattle.kt_tablet.specs.Views.{Opens};
+    ghost use Rattle.kt_tablet.specs.Visits.{MayApply, HasApplied, IsRunOutcome, MayEnd, HasEnded, IsDone};
+
+    /// Applies the next row of the flying write of a session. It takes no memory.
+    pub fn apply_row(&mut self, number: u32, at: usize) -> Result<Outcome, Stopped>
+        requires { self.old.core.stopped ≡ false → MayApply self.old.core number at }
+        ensures applied { IfOk result (λ outcome. HasApplied self.old.core self.new.core number at outcome) }
+        ensures run { IfOk result (λ outcome. (first : Past) → Opens self.old.opening self.old.mark self.old.core.opened first → IsRunOutcome (record self.old.core { first = first }) number at outcome) }
+        ensures beside { self.new ≡ record self.old { core = self.new.core; pool = self.new.pool } }
+        ensures same { OnErr result (self.new ≡ self.old) }
+        ensures stopped { self.old.core.stopped ≡ true → IsErr result }
+        ensures goes { self.old.core.stopped ≡ false → IsOk result }
+    {
+        if self.stopped {
+            return Err(Stopped);
+        }
+        let place = place_of(&self.flights, number);
+        let write = &self.flights[place];
+        let before = self.pool.reserved();
+        let op = &write.ops.as_slice()[at];
+        let row = apply_op(&mut self.store, &mut self.pool, write.ts, op);
+        let taken = before - self.pool.reserved();
+        Ok(note(&mut self.pool, &mut self.flights[place], row, taken))
+    }
+
+    /// Ends the flying write of a session, whose rows are all applied, and lets go of its keys. It takes no memory.
+    pub fn end(&mut self, number: u32) -> Result<WriteEnd, Stopped>
+        requires { self.old.core.stopped ≡ false → MayEnd self.old.core number }
+        ensures ended { IfOk result (λ done. HasEnded self.old.core self.new.core number done.index done.ts) }
+        ensures told { IfOk result (λ done. (first : Past) → Opens self.old.opening self.old.mark self.old.core.opened first → IsDone (record self.old.core { first = first }) self.old.target number done.outcomes done.rows) }
+        ensures beside { self.new ≡ record self.old { core = self.new.core } }
+        ensures same { OnErr result (self.new ≡ self.old) }
+        ensures stopped { self.old.core.stopped ≡ true → IsErr result }
+        ensures goes { self.old.core.stopped ≡ false → IsOk result }
+    {
+        if self.stopped {
+            return Err(Stopped);
+        }
+        let place = place_of(&self.flights, number);
+        let write = self.flights.remove(place);
+        self.flight.end(number);
+        self.trail.push_reserved(Event::End {
+            s: number,
+            i: write.index,
+            ts: write.ts,
+        });
+        self.turns.set(number, write.index + 1, None);
+        Ok(WriteEnd {
+            index: write.index,
+            ts: write.ts,
+            outcomes: OutcomeList::of(write.outcomes),
+            rows: CommitRows::of(write.rows),
+        })
+    }
+}

@@ -1,0 +1,182 @@
+//! Scans: each is answered by a copy of what the store holds up to its time, unless something stands in its way.
+ghost use Rattle.std.specs.Prelude.{◌≡◌, ◌≤◌, ◌<◌, ℕ, map, true, false, Some, IsSome, IfSome, IfNone, IfOk, IfErr, OnOk, OnErr};
+ghost use Rattle.kt_history.specs.History.{Past};
+ghost use Rattle.kt_history.specs.Machine.{nth, none_flies};
+ghost use Rattle.kt_histlaws.specs.Core.{flown_by};
+
+use super::Tablet;
+use crate::snap::{Snap, SnapList, SnapView};
+use crate::store::RowStore;
+use kt_base::{Clock, NoMemory};
+use kt_history::{At, Event};
+use std::alloc::Global;
+
+/// Why a scan is not answered.
+#[derive(Clone, Copy, Debug, PartialEq, Eq)]
+pub enum SnapNo {
+    /// The tablet has stopped.
+    Stopped,
+    /// It reads below the mark.
+    Ancient { t: u64, a: u64 },
+    /// This write flies, the least that does, and is not later than the time that is given.
+    Busy { t: u64, f: u64 },
+    /// This write flies, the least that does, and is not later than the time that was drawn. The scan waits for it.
+    NotYet { f: u64 },
+    /// There was no memory for the copy.
+    Memory,
+}
+
+impl<S: RowStore, C: Clock> Tablet<S, C> {
+    ghost use Rattle.kt_history.specs.declared.event.Event.TheVariants.{Ancient, Busy};
+    ghost use Rattle.kt_histlaws.specs.Events.{answered};
+    ghost use Rattle.kt_tablet.specs.Views.{Opens};
+    ghost use Rattle.kt_tablet.specs.Reads.{MaySnapshot, HasRead, FliesBy, IsAncient, IsBusy, MayReadNow, IsNoRead, LeavesRead, ShowsRun, time_of};
+
+    // The ancient history mark.
+    fn ancient_mark(&self) -> u64
+        ensures { result ≡ self.now.core.a }
+    {
+        self.flight.mark()
+    }
+
+    // The least flying write, where it is not later than a time.
+    fn in_the_way(&self, t: u64) -> Option<u64>
+        ensures flies { IfSome result (FliesBy self.now.core t) }
+        ensures settled { IfNone result (none_flies t (map flown_by self.now.core.aloft) ≡ true) }
+    {
+        match self.flight.least() {
+            Some(least) => { if least <= t { Some(least) } else { None } }
+            None => None,
+        }
+    }
+
+    // The time at which the scan of a session reads.
+    fn time(&self, number: u32, at: At) -> u64
+        requires { IsSome (nth self.now.core.turns number) }
+        ensures { result ≡ time_of self.now.core number at }
+    {
+        match at {
+            At::Looked => self.turns.look(number).unwrap_or(0),
+            At::Given(t) => t,
+        }
+    }
+
+    // Tells by its line that a scan reads below the mark.
+    fn ancient(&mut self, number: u32, index: u32, at: At, t: u64, a: u64) -> Result<(), NoMemory>
+        requires { IsAncient self.old.core number index at t a }
+        ensures answered { OnOk result (self.new.core ≡ answered self.old.core number index (Ancient number index t a)) }
+        ensures same { OnErr result (self.new ≡ self.old) }
+        ensures beside { record self.new { core = self.old.core } ≡ self.old }
+    {
+        self.trail.reserve(self.flights.len() + 2)?;
+        self.trail.push_reserved(Event::Ancient {
+            s: number,
+            i: index,
+            t,
+            a,
+        });
+        self.turns.set(number, index + 1, None);
+        Ok(())
+    }
+
+    // Tells by its line that a write flies which is not later than a given time.
+    fn busy(&mut self, number: u32, index: u32, t: u64, f: u64) -> Result<(), NoMemory>
+        requires { IsBusy self.old.core number index t f }
+        ensures answered { OnOk result (self.new.core ≡ answered self.old.core number index (Busy number index t f)) }
+        ensures same { OnErr result (self.new ≡ self.old) }
+        ensures beside { record self.new { core = self.old.core } ≡ self.old }
+    {
+        self.trail.reserve(self.flights.len() + 2)?;
+        self.trail.push_reserved(Event::Busy {
+            s: number,
+            i: index,
+            t,
+            f,
+        });
+        self.turns.set(number, index + 1, None);
+        Ok(())
+    }
+
+    // A copy of what the store holds up to a time.
+    fn copy(&self, alloc: Global, t: u64) -> Result<Snap, NoMemory>
+        requires { none_flies t (map flown_by self.now.core.aloft) ≡ true }
+        ensures time { IfOk result (λ snap. (snap.t ≡ t) × (snap.mark ≡ self.now.core.a)) }
+        ensures shows { IfOk result (λ snap. (first : Past) → Opens self.now.opening self.now.mark self.now.core.opened first → ShowsRun (record self.now.core { first = first }) snap) }
+    {
+        let mark = self.flight.mark();
+        let changes = self.store.changes(alloc, &self.pool, t)?;
+        let fill = self.fill.copy()?;
+        let views = SnapList::one(alloc, SnapView::of(mark, changes, fill))?;
+        Ok(Snap { t, mark, views })
+    }
+
+    // Answers a scan at a time from the mark on, where no write flies that is not later.
+    fn read_now(
+        &mut self,
+        alloc: Global,
+        number: u32,
+        index: u32,
+        at: At,
+        t: u64,
+    ) -> Result<Snap, NoMemory>
+        requires { MayReadNow self.old.core number index at t }
+        ensures read { IfOk result (λ snap. HasRead self.old.core self.new.core number index at snap.t) }
+        ensures mark { IfOk result (λ snap. snap.mark ≡ self.old.core.a) }
+        ensures shows { IfOk result (λ snap. (first : Past) → Opens self.old.opening self.old.mark self.old.core.opened first → ShowsRun (record self.old.core { first = first }) snap) }
+        ensures same { OnErr result (self.new ≡ self.old) }
+        ensures beside { record self.new { core = self.old.core } ≡ self.old }
+    {
+        let snap = self.copy(alloc, t)?;
+        self.trail.reserve(self.flights.len() + 2)?;
+        self.trail.push_reserved(Event::Rows {
+            s: number,
+            i: index,
+            t,
+        });
+        self.flight.raise(t);
+        self.turns.set(number, index + 1, None);
+        Ok(snap)
+    }
+
+    /// Answers a scan: what the store holds up to the time that it reads, copied.
+    pub fn snapshot(
+        &mut self,
+        alloc: Global,
+        number: u32,
+        index: u32,
+        at: At,
+    ) -> Result<Snap, SnapNo>
+        requires { self.old.core.stopped ≡ false → MaySnapshot self.old.core number index at }
+        ensures read { IfOk result (λ snap. HasRead self.old.core self.new.core number index at snap.t) }
+        ensures mark { IfOk result (λ snap. snap.mark ≡ self.old.core.a) }
+        ensures shows { IfOk result (λ snap. (first : Past) → Opens self.old.opening self.old.mark self.old.core.opened first → ShowsRun (record self.old.core { first = first }) snap) }
+        ensures refused { IfErr result (IsNoRead self.old.core number at) }
+        ensures left { IfErr result (LeavesRead self.old self.new number index) }
+        ensures beside { self.new ≡ record self.old { core = self.new.core } }
+    {
+        if self.is_stopped() {
+            return Err(SnapNo::Stopped);
+        }
+        let t = self.time(number, at);
+        let a = self.ancient_mark();
+        if t < a {
+            return match self.ancient(number, index, at, t, a) {
+                Ok(()) => Err(SnapNo::Ancient { t, a }),
+                Err(_) => Err(SnapNo::Memory),
+            };
+        }
+        if let Some(f) = self.in_the_way(t) {
+            return match at {
+                At::Looked => Err(SnapNo::NotYet { f }),
+                At::Given(t) => match self.busy(number, index, t, f) {
+                    Ok(()) => Err(SnapNo::Busy { t, f }),
+                    Err(_) => Err(SnapNo::Memory),
+                },
+            };
+        }
+        match self.read_now(alloc, number, index, at, t) {
+            Ok(snap) => Ok(snap),
+            Err(_) => Err(SnapNo::Memory),
+        }
+    }
+}
