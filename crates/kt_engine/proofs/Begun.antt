@@ -1,0 +1,182 @@
+-- What the beginning of a write keeps of an engine.
+use Rattle.std.proofs.Common.{◌≡◌, ℕ, suc, ◌+◌, ◌-◌, ◌<◌, ◌≤◌, ◌^◌, List, [], ◌∷◌, ◌++◌, length, map, Some, refl, sym, false, Bool, cond, ap, ◌∙◌, subst, arith, append_assoc, length-append}
+use Rattle.std.specs.Prelude.{◌==◌}
+use Rattle.std.specs.List.{All, list_any}
+use Rattle.std.proofs.lemmas.List.{map-append, length-map}
+use Rattle.kt_disk.specs.Disk.{Files}
+use Rattle.kt_history.specs.declared.event.Event.TheVariants.{Begin, Large}
+use Rattle.kt_history.specs.declared.operation.RowOp.{RowOp}
+use Rattle.kt_history.specs.Machine.{IfWrite, command_at, next_timestamp}
+use Rattle.kt_records.specs.declared.entry.Entry.{Entry}
+use Rattle.kt_records.specs.declared.entry.Entry.TheVariants.{Replicate}
+use Rattle.kt_journal.specs.Order.{IsFramed, waiting, newest_first}
+use Rattle.kt_journal.specs.Log.{records_of, IsLog}
+use Rattle.kt_loglaws.specs.Replay.{last_of}
+use Rattle.kt_loglaws.specs.Laws.{with_ops}
+use Rattle.kt_loglaws.specs.Side.{SideView}
+use Rattle.kt_loglaws.proofs.LogOrder.{same}
+use Rattle.kt_loglaws.proofs.Fronts.{replicate_more}
+use Rattle.kt_histlaws.specs.Pending.{Aloft}
+use Rattle.kt_histlaws.specs.Core.{Core}
+use Rattle.kt_histlaws.specs.Events.{begun, answered}
+use Rattle.kt_tablet.specs.Views.{View}
+use Rattle.kt_tablet.specs.declared.tablet.write.BeginNo.{BeginNo}
+use Rattle.kt_tablet.specs.declared.tablet.write.BeginNo.TheVariants as no
+use Rattle.kt_tablet.specs.Visits.{MayBegin, HasBegun, Leaves}
+use Rattle.kt_engine.specs.Logged.{Waits, IsDurable, KeepsRun, IsShort, place_of}
+use Rattle.kt_engine.specs.Engines.{EngineView, core_from, IsEngine}
+use Rattle.kt_engine.proofs.Lists.{all_each, all_more, get_end}
+use Rattle.kt_engine.proofs.Places.{place-new, any_session, apart_more}
+use Rattle.kt_engine.proofs.Records.{newest-append, order_more, last_of-replicate, below_last, above_log, ops_of-new, waits_on, all_parts, count_parts, framed_parts}
+use Rattle.kt_engine.proofs.Runs.{past_line, past_begun, acknowledged_more}
+
+-- more room
+pub with_room : {L D C : Type 0} (tells : Bool) (seen : L → Files) (now : L → ℕ) (leaves : L → ℕ → Files → Type 0) (faults : L → ℕ) (old : EngineView L D C) (room : ℕ) → old.log.room ≤ room → IsEngine tells seen now leaves faults old → IsEngine tells seen now leaves faults (record old { log = record old.log { room = room } })
+with_room tells seen now leaves faults old room more e = record {
+  found = (e.found.0, record { opens = e.found.1.opens; recalls = e.found.1.recalls });
+  logged = record {
+    run = e.logged.run;
+    all = e.logged.all;
+    count = e.logged.count;
+    begins = e.logged.begins;
+    keeps = λ first is. e.logged.keeps first (record { opens = is.opens; recalls = is.recalls });
+    framed = e.logged.framed;
+    durable = e.logged.durable;
+    acknowledged = e.logged.acknowledged;
+  };
+  home = λ journal at. let h = e.home journal at in record { opens = h.opens; later = h.later; known = h.known; rose = h.rose; images = h.images };
+  lent = e.lent;
+  whole = e.whole;
+  ready = record { room = (let low = e.ready.room in omega arith); apart = e.ready.apart; number = e.ready.number; target = e.ready.target; above = e.ready.above; fits = e.ready.fits };
+  placed = e.placed;
+}
+
+-- a write that is too large leaves its line
+pub with_large : {L D C : Type 0} (tells : Bool) (seen : L → Files) (now : L → ℕ) (leaves : L → ℕ → Files → Type 0) (faults : L → ℕ) (old : EngineView L D C) (s i n : ℕ) (new : View C) → IsEngine tells seen now leaves faults old
+    → IsEngine tells seen now leaves faults (record old { tablet = record old.tablet { core = answered old.tablet.core s i (Large s i n); clock = new.clock; pool = new.pool } })
+with_large tells seen now leaves faults old s i n new e = record {
+  found = (e.found.0, record { opens = e.found.1.opens; recalls = e.found.1.recalls });
+  logged = record {
+    run = e.logged.run;
+    all = e.logged.all;
+    count = e.logged.count;
+    begins = e.logged.begins;
+    keeps = λ first is. let k = e.logged.keeps first (record { opens = is.opens; recalls = is.recalls }) in record {
+      log = k.log;
+      told = k.told;
+      writes = k.writes ∙ sym (past_line (core_from old first) (Large s i n));
+      last = k.last;
+      flying = k.flying;
+    };
+    framed = e.logged.framed;
+    durable = e.logged.durable;
+    acknowledged = λ t. acknowledged_more (records_of (seen old.log.known.disk)) old.tablet.core.trail (Large s i n) (e.logged.acknowledged t) tt;
+  };
+  home = λ journal at. let h = e.home journal at in record { opens = h.opens; later = h.later; known = h.known; rose = h.rose; images = h.images };
+  lent = e.lent;
+  whole = e.whole;
+  ready = record { room = e.ready.room; apart = e.ready.apart; number = e.ready.number; target = e.ready.target; above = e.ready.above; fits = e.ready.fits };
+  placed = e.placed;
+}
+
+-- the run and a REPLICATE more
+begun_run : (core : Core) (records : List Entry) (places : List (ℕ × ℕ)) (run : List Entry) (s i ts m place : ℕ) (ops : List RowOp) → core.c < ts → IsFramed (Replicate ts ops) → IfWrite (command_at core.work s i) (λ written. written ≡ ops)
+    → place ≡ suc (length (records ++ run)) → list_any (λ t. t == s) (map (λ p. p.0) places) ≡ false → KeepsRun core records places run → KeepsRun (begun core s i ts m ops) records (places ++ (s, place) ∷ []) (run ++ Replicate ts ops ∷ [])
+begun_run core records places run s i ts m place ops above framed is at rests k =
+    let log = records ++ run in
+    let more : last_of log < ts = (let low = k.last in omega arith) in
+    let joined : log ++ Replicate ts ops ∷ [] ≡ records ++ (run ++ Replicate ts ops ∷ []) = append_assoc records run (Replicate ts ops ∷ []) in
+    let up : 0 < ts = omega arith in
+    let told = replicate_more core.work.fill records core.first run ts ops k.told up in
+    let whole : IsLog (log ++ Replicate ts ops ∷ []) = order_more [] log (Replicate ts ops) k.log framed (above_log [] log ts refl more) in
+    let fly : All (Waits (log ++ Replicate ts ops ∷ []) (places ++ (s, place) ∷ [])) (core.aloft ++ record { s = s; i = i; ts = ts; ops = ops; applied = 0 } ∷ []) = all_more (Waits (log ++ Replicate ts ops ∷ []) (places ++ (s, place) ∷ [])) core.aloft (record { s = s; i = i; ts = ts; ops = ops; applied = 0 })
+    (all_each (Waits log places) (Waits (log ++ Replicate ts ops ∷ []) (places ++ (s, place) ∷ [])) core.aloft (λ w. waits_on log places w ts ops (s, place) more) k.flying)
+    (record {
+      up = up;
+      waits = ap (waiting ts) (newest-append [] log (Replicate ts ops)) ∙ ap (λ b. cond b (Some (length ops)) (waiting ts (newest_first [] log))) (same ts);
+      ops = ops_of-new ts log ops more;
+      n = length log;
+      place = ap (λ n. place_of s (places ++ (s, n) ∷ [])) at ∙ place-new s places (suc (length log)) rests ∙ refl;
+      there = get_end log (Replicate ts ops);
+    }) in
+    record {
+      log = subst (λ (l : List Entry). IsLog l) joined whole;
+      told = told.0;
+      writes = told.1 ∙ ap (λ p. with_ops core.work.fill p ts ops) k.writes ∙ sym (past_begun core s i ts m ops is);
+      last = subst (λ (l : List Entry). last_of l ≤ ts) joined (let e = last_of-replicate log ts ops in omega arith);
+      flying = subst (λ (l : List Entry). All (Waits l (places ++ (s, place) ∷ [])) (core.aloft ++ record { s = s; i = i; ts = ts; ops = ops; applied = 0 } ∷ [])) joined fly;
+    }
+
+-- a write begins, in the room that was made for it
+pub with_begun : {L D C : Type 0} (tells : Bool) (seen : L → Files) (now : L → ℕ) (leaves : L → ℕ → Files → Type 0) (faults : L → ℕ) (old : EngineView L D C) (s i ts m place : ℕ) (ops : List RowOp) (new : View C) → IsEngine tells seen now leaves faults old
+    → MayBegin old.tablet.core s i ops → IsShort ops → ts ≡ next_timestamp old.tablet.core.c m → ts < 2 ^ 64 → length old.places + 2 ≤ old.log.room
+    → place ≡ old.log.known.count + length old.log.out + length old.log.queued + 1
+    → IsEngine tells seen now leaves faults (record old { tablet = record old.tablet { core = begun old.tablet.core s i ts m ops; clock = new.clock; pool = new.pool }; log = record old.log { queued = old.log.queued ++ Replicate ts ops ∷ []; room = old.log.room - 1 }; places = old.places ++ (s, place) ∷ [] })
+with_begun tells seen now leaves faults old s i ts m place ops new e may short next fits room at =
+    let core = old.tablet.core in
+    let above : core.c < ts = omega arith in
+    let framed : IsFramed (Replicate ts ops) = record { keeps = record { ts = fits; count = may.count; ops = may.each }; short = short ts } in
+    let parts = length-append old.log.out old.log.queued in
+    let there : place ≡ suc (length (old.records ++ e.logged.run)) = (let n = e.logged.count in omega arith) in
+    let rests : list_any (λ t. t == s) (map (λ p. p.0) old.places) ≡ false = ap (list_any (λ t. t == s)) e.placed ∙ sym (any_session s core.aloft) ∙ may.at.rests in
+    let known = e.logged.keeps e.found.0 e.found.1 in
+    let low : All (λ (v : Aloft). v.ts < ts) core.aloft = all_each (Waits (old.records ++ e.logged.run) old.places) (λ v. v.ts < ts) core.aloft (λ v h. let b = below_last (old.records ++ e.logged.run) h.n v.ts v.ops h.there in let l = known.last in omega arith) known.flying in
+    record {
+      found = (e.found.0, record { opens = e.found.1.opens; recalls = e.found.1.recalls });
+      logged = record {
+        run = e.logged.run ++ Replicate ts ops ∷ [];
+        all = λ t. all_parts old.records e.logged.run (records_of (seen old.log.known.disk)) old.log.out old.log.queued (Replicate ts ops) (e.logged.all t);
+        count = count_parts old.records e.logged.run old.log.out old.log.queued (Replicate ts ops) old.log.known.count e.logged.count;
+        begins = e.logged.begins;
+        keeps = λ first is. begun_run (core_from old first) old.records old.places e.logged.run s i ts m place ops above framed may.write there rests (e.logged.keeps first (record { opens = is.opens; recalls = is.recalls }));
+        framed = framed_parts old.log.out old.log.queued (Replicate ts ops) e.logged.framed framed;
+        durable = λ t. all_more (IsDurable (records_of (seen old.log.known.disk))) core.aloft (record { s = s; i = i; ts = ts; ops = ops; applied = 0 }) (e.logged.durable t) (λ lt. absurd (omega arith));
+        acknowledged = λ t. acknowledged_more (records_of (seen old.log.known.disk)) core.trail (Begin s i ts m) (e.logged.acknowledged t) tt;
+      };
+      home = λ journal at. let h = e.home journal at in record { opens = h.opens; later = h.later; known = h.known; rose = h.rose; images = h.images };
+      lent = e.lent;
+      whole = e.whole;
+      ready = record {
+        room =
+            let a = length-append core.aloft (record { s = s; i = i; ts = ts; ops = ops; applied = 0 } ∷ []) in
+            let b : length old.places ≡ length core.aloft = sym (length-map old.places (λ p. p.0)) ∙ ap length e.placed ∙ length-map core.aloft (λ w. w.s) in
+            omega arith;
+        apart = apart_more core.aloft (record { s = s; i = i; ts = ts; ops = ops; applied = 0 }) e.ready.apart low;
+        number = e.ready.number;
+        target = e.ready.target;
+        above = e.ready.above;
+        fits = e.ready.fits;
+      };
+      placed = map-append (λ p. p.0) old.places ((s, place) ∷ []) ∙ ap (λ l. l ++ s ∷ []) e.placed ∙ sym (map-append (λ w. w.s) core.aloft (record { s = s; i = i; ts = ts; ops = ops; applied = 0 } ∷ []));
+    }
+
+-- the engine with this log and these places, where only room was made
+pub roomed : {L D C : Type 0} (tells : Bool) (seen : L → Files) (now : L → ℕ) (leaves : L → ℕ → Files → Type 0) (faults : L → ℕ) (old : EngineView L D C) (log : SideView L) (places : List (ℕ × ℕ)) → log ≡ record old.log { room = log.room } → old.log.room ≤ log.room → places ≡ old.places
+    → IsEngine tells seen now leaves faults old → IsEngine tells seen now leaves faults (record old { log = log; places = places })
+roomed {L} {D} {C} tells seen now leaves faults old log places is more same_places e =
+    subst (λ (l : SideView L). IsEngine tells seen now leaves faults (record old { log = l; places = places })) (sym is)
+    (subst (λ (ps : List (ℕ × ℕ)). IsEngine tells seen now leaves faults (record old { log = record old.log { room = log.room }; places = ps })) (sym same_places) (with_room tells seen now leaves faults old log.room more e))
+
+-- a write that does not begin
+pub left_alone : {L D C : Type 0} (tells : Bool) (seen : L → Files) (now : L → ℕ) (leaves : L → ℕ → Files → Type 0) (faults : L → ℕ) (old : EngineView L D C) (tablet : View C) (s i : ℕ) (why : BeginNo)
+    → tablet ≡ record old.tablet { core = tablet.core; clock = tablet.clock; pool = tablet.pool } → Leaves old.tablet tablet s i why → IsEngine tells seen now leaves faults old → IsEngine tells seen now leaves faults (record old { tablet = tablet })
+left_alone {L} {D} {C} tells seen now leaves faults old tablet s i no.Stopped beside h e = subst (λ (t : View C). IsEngine tells seen now leaves faults (record old { tablet = t })) (sym h) e
+left_alone {L} {D} {C} tells seen now leaves faults old tablet s i (no.Large n) beside h e =
+    subst (λ (t : View C). IsEngine tells seen now leaves faults (record old { tablet = t })) (sym (beside ∙ ap (λ (k : Core). record old.tablet { core = k; clock = tablet.clock; pool = tablet.pool }) h)) (with_large tells seen now leaves faults old s i n tablet e)
+left_alone {L} {D} {C} tells seen now leaves faults old tablet s i (no.Wait ts) beside h e = subst (λ (t : View C). IsEngine tells seen now leaves faults (record old { tablet = t })) (sym h) e
+left_alone {L} {D} {C} tells seen now leaves faults old tablet s i (no.Room n left) beside h e = subst (λ (t : View C). IsEngine tells seen now leaves faults (record old { tablet = t })) (sym h) e
+left_alone {L} {D} {C} tells seen now leaves faults old tablet s i no.Memory beside h e = subst (λ (t : View C). IsEngine tells seen now leaves faults (record old { tablet = t })) (sym h) e
+
+-- a write that has begun, with a copy of its operations in the tablet and one in the log
+pub has_begun : {L D C : Type 0} (tells : Bool) (seen : L → Files) (now : L → ℕ) (leaves : L → ℕ → Files → Type 0) (faults : L → ℕ) (old : EngineView L D C) (tablet : View C) (log : SideView L) (places : List (ℕ × ℕ)) (s i ts place : ℕ) (ops held logged : List RowOp)
+    → held ≡ ops → logged ≡ ops → tablet ≡ record old.tablet { core = tablet.core; clock = tablet.clock; pool = tablet.pool } → HasBegun old.tablet.core tablet.core s i held ts → log ≡ record old.log { queued = old.log.queued ++ Replicate ts logged ∷ []; room = old.log.room - 1 }
+    → places ≡ old.places ++ (s, place) ∷ [] → MayBegin old.tablet.core s i ops → IsShort ops → ts < 2 ^ 64 → length old.places + 2 ≤ old.log.room → place ≡ old.log.known.count + length old.log.out + length old.log.queued + 1
+    → IsEngine tells seen now leaves faults old → IsEngine tells seen now leaves faults (record old { tablet = tablet; log = log; places = places })
+has_begun {L} {D} {C} tells seen now leaves faults old tablet log places s i ts place ops held logged same_held same_logged beside begins is_log is_places may short fits room at e =
+    let is_core : tablet.core ≡ begun old.tablet.core s i ts begins.m ops = begins.core ∙ ap (λ (o : List RowOp). begun old.tablet.core s i ts begins.m o) same_held in
+    let is_tablet : tablet ≡ record old.tablet { core = begun old.tablet.core s i ts begins.m ops; clock = tablet.clock; pool = tablet.pool } = beside ∙ ap (λ (k : Core). record old.tablet { core = k; clock = tablet.clock; pool = tablet.pool }) is_core in
+    let is_log' : log ≡ record old.log { queued = old.log.queued ++ Replicate ts ops ∷ []; room = old.log.room - 1 } = is_log ∙ ap (λ (o : List RowOp). record old.log { queued = old.log.queued ++ Replicate ts o ∷ []; room = old.log.room - 1 }) same_logged in
+    subst (λ (t : View C). IsEngine tells seen now leaves faults (record old { tablet = t; log = log; places = places })) (sym is_tablet)
+    (subst (λ (l : SideView L). IsEngine tells seen now leaves faults (record old { tablet = record old.tablet { core = begun old.tablet.core s i ts begins.m ops; clock = tablet.clock; pool = tablet.pool }; log = l; places = places })) (sym is_log')
+    (subst (λ (ps : List (ℕ × ℕ)). IsEngine tells seen now leaves faults (record old { tablet = record old.tablet { core = begun old.tablet.core s i ts begins.m ops; clock = tablet.clock; pool = tablet.pool }; log = record old.log { queued = old.log.queued ++ Replicate ts ops ∷ []; room = old.log.room - 1 }; places = ps })) (sym is_places)
+    (with_begun tells seen now leaves faults old s i ts begins.m place ops tablet e may short begins.time fits room at)))

@@ -1,0 +1,179 @@
+-- The log goes out and comes home, and breaks: the engine stands on.
+use Rattle.std.proofs.Common.{◌≡◌, ◌≤◌, ◌+◌, ℕ, suc, Bool, true, false, List, [], ◌∷◌, ◌++◌, length, Some, None, refl, sym, ap, subst, ◌∙◌, arith, append_assoc, length-append}
+use Rattle.std.specs.Prelude.{IsTrue}
+use Rattle.std.specs.List.{All}
+use Rattle.std.proofs.lemmas.List.{append-nil}
+use Rattle.std.proofs.lemmas.List.Elements.{Contains-append_left}
+use Rattle.kt_base.specs.Causes.{Rose}
+use Rattle.kt_disk.specs.Disk.{Files}
+use Rattle.kt_history.specs.declared.event.Event.{Event}
+use Rattle.kt_history.specs.declared.event.Event.TheVariants as event
+use Rattle.kt_records.specs.declared.entry.Entry.{Entry}
+use Rattle.kt_records.specs.declared.entry.Entry.TheVariants.{Replicate}
+use Rattle.kt_journal.specs.Order.{IsFramed}
+use Rattle.kt_journal.specs.Log.{records_of, CanOpen, IsOldOrBoth}
+use Rattle.kt_journal.specs.Open.{JournalView}
+use Rattle.kt_loglaws.specs.Side.{SideView}
+use Rattle.kt_histlaws.specs.Pending.{Aloft}
+use Rattle.kt_histlaws.specs.Events.{halted}
+use Rattle.kt_tablet.specs.Views.{View}
+use Rattle.kt_engine.specs.Logged.{IsDurable, AcknowledgedIn}
+use Rattle.kt_engine.specs.Engines.{EngineView, IsHome, IsEngine}
+use Rattle.kt_engine.proofs.Lines.{with_line, line_logged}
+
+all_behind : {X : Type 0} (P : X → Type 0) (xs ys : List X) → All P (xs ++ ys) → All P ys
+all_behind P [] ys h = h
+all_behind P (x ∷ xs) ys h = all_behind P xs ys (λ k d lt. h (suc k) d (omega arith))
+
+-- what was acknowledged stays so when more is durable
+pub acknowledged_longer : (xs ys : List Entry) (trail : List Event) → AcknowledgedIn xs trail → AcknowledgedIn (xs ++ ys) trail
+acknowledged_longer xs ys [] h = tt
+acknowledged_longer xs ys (event.End s i ts ∷ trail) h = ((h.0.0, Contains-append_left xs ys (Replicate ts h.0.0) h.0.1), acknowledged_longer xs ys trail h.1)
+acknowledged_longer xs ys (_ ∷ trail) h = acknowledged_longer xs ys trail h
+
+-- and what is durable of the flying writes
+durable_more : (xs ys : List Entry) (aloft : List Aloft) → All (IsDurable xs) aloft → All (IsDurable (xs ++ ys)) aloft
+durable_more xs ys aloft h k d lt up = Contains-append_left xs ys _ (h k d lt up)
+
+-- it goes out with all that is queued
+pub lends : {L D C : Type 0} (tells : Bool) (seen : L → Files) (now : L → ℕ) (leaves : L → ℕ → Files → Type 0) (faults : L → ℕ) (view : EngineView L D C) (log : SideView L) (journal : JournalView L) (number : ℕ)
+    → IsEngine tells seen now leaves faults view → view.tablet.core.stopped ≡ false → view.log.home ≡ Some journal → journal ≡ view.log.known → view.log.out ≡ []
+    → log ≡ record view.log { home = None; holder = Some number; out = view.log.queued; queued = [] }
+    → IsEngine tells seen now leaves faults (record view { log = log })
+lends {L} {D} {C} tells seen now leaves faults view log journal number is goes at known out e =
+    let same : view.log.out ++ view.log.queued ≡ view.log.queued ++ [] = ap (λ (l : List Entry). l ++ view.log.queued) out ∙ sym (append-nil view.log.queued) in
+    let low : faults view.device ≤ faults view.log.known.disk = subst (λ (j : JournalView L). faults view.device ≤ faults j.disk) known (is.home journal at).later in
+    subst (λ (l : SideView L). IsEngine tells seen now leaves faults (record view { log = l })) (sym e) (record {
+      found = (is.found.0, record { opens = is.found.1.opens; recalls = is.found.1.recalls });
+      logged = record {
+        run = is.logged.run;
+        all = λ t. is.logged.all t ∙ ap (λ (l : List Entry). records_of (seen view.log.known.disk) ++ l) same;
+        count = is.logged.count ∙ ap (λ (l : List Entry). view.log.known.count + length l) same;
+        begins = is.logged.begins;
+        keeps = λ first h. is.logged.keeps first (record { opens = h.opens; recalls = h.recalls });
+        framed = subst (λ (l : List Entry). All IsFramed l) same is.logged.framed;
+        durable = is.logged.durable;
+        acknowledged = is.logged.acknowledged;
+      };
+      home = λ j h. absurd (let none : None ≡ Some j = h in cc);
+      lent = λ by h. (low, goes);
+      whole = is.whole;
+      ready = record { room = is.ready.room; apart = is.ready.apart; number = is.ready.number; target = is.ready.target; above = is.ready.above; fits = is.ready.fits };
+      placed = is.placed;
+    })
+
+-- it comes home with what was out durable
+pub comes_home : {L D C : Type 0} (tells : Bool) (seen : L → Files) (now : L → ℕ) (leaves : L → ℕ → Files → Type 0) (faults : L → ℕ) (view : EngineView L D C) (log : SideView L) (journal : JournalView L) (number : ℕ)
+    → IsEngine tells seen now leaves faults view → view.log.holder ≡ Some number → journal.count ≡ view.log.known.count + length view.log.out
+    → (IsTrue tells → records_of (seen journal.disk) ≡ records_of (seen view.log.known.disk) ++ view.log.out) → (IsTrue tells → CanOpen now leaves journal.disk) → faults view.log.known.disk ≤ faults journal.disk
+    → log ≡ record view.log { home = Some journal; known = journal; holder = None; out = [] }
+    → IsEngine tells seen now leaves faults (record view { log = log })
+comes_home {L} {D} {C} tells seen now leaves faults view log journal number is held count reads opens later e =
+    let out = is.lent number held in
+    let goes = out.1 in
+    let up : faults view.device ≤ faults journal.disk = let low = out.0 in omega arith in
+    let lengths : view.log.known.count + length (view.log.out ++ view.log.queued) ≡ journal.count + length view.log.queued = omega (arith, length-append view.log.out view.log.queued) in
+    subst (λ (l : SideView L). IsEngine tells seen now leaves faults (record view { log = l })) (sym e) (record {
+      found = (is.found.0, record { opens = is.found.1.opens; recalls = is.found.1.recalls });
+      logged = record {
+        run = is.logged.run;
+        all = λ t. is.logged.all t ∙ sym (append_assoc (records_of (seen view.log.known.disk)) view.log.out view.log.queued) ∙ ap (λ (l : List Entry). l ++ view.log.queued) (sym (reads t));
+        count = is.logged.count ∙ lengths;
+        begins = λ t. let at = is.logged.begins t in (at.0 ++ view.log.out, reads t ∙ ap (λ (l : List Entry). l ++ view.log.out) at.1 ∙ append_assoc view.records at.0 view.log.out);
+        keeps = λ first h. is.logged.keeps first (record { opens = h.opens; recalls = h.recalls });
+        framed = all_behind IsFramed view.log.out view.log.queued is.logged.framed;
+        durable = λ t. subst (λ (l : List Entry). All (IsDurable l) view.tablet.core.aloft) (sym (reads t)) (durable_more (records_of (seen view.log.known.disk)) view.log.out view.tablet.core.aloft (is.logged.durable t));
+        acknowledged = λ t. subst (λ (l : List Entry). AcknowledgedIn l view.tablet.core.trail) (sym (reads t)) (acknowledged_longer (records_of (seen view.log.known.disk)) view.log.out view.tablet.core.trail (is.logged.acknowledged t));
+      };
+      home = λ j h.
+          let here : journal ≡ j = let some : Some journal ≡ Some j = h in cc in
+          subst (λ (k : JournalView L). IsHome tells seen now leaves faults (record view { log = record view.log { home = Some journal; known = journal; holder = None; out = [] } }) k) here (record {
+            opens = opens;
+            later = up;
+            known = λ k. (refl, refl);
+            rose = λ k. absurd (let a : view.tablet.core.stopped ≡ true = k in cc);
+            images = λ k. absurd (let a : view.tablet.core.stopped ≡ true = k in cc);
+          });
+      lent = λ by h. absurd (let none : None ≡ Some by = h in cc);
+      whole = is.whole;
+      ready = record { room = is.ready.room; apart = is.ready.apart; number = is.ready.number; target = is.ready.target; above = is.ready.above; fits = is.ready.fits };
+      placed = is.placed;
+    })
+
+-- it comes home as it went out
+pub comes_back : {L D C : Type 0} (tells : Bool) (seen : L → Files) (now : L → ℕ) (leaves : L → ℕ → Files → Type 0) (faults : L → ℕ) (view : EngineView L D C) (log : SideView L) (journal : JournalView L) (number : ℕ)
+    → IsEngine tells seen now leaves faults view → view.log.holder ≡ Some number → journal ≡ view.log.known → (IsTrue tells → CanOpen now leaves journal.disk)
+    → log ≡ record view.log { home = Some journal; holder = None; out = []; queued = view.log.out ++ view.log.queued }
+    → IsEngine tells seen now leaves faults (record view { log = log })
+comes_back {L} {D} {C} tells seen now leaves faults view log journal number is held known opens e =
+    let out = is.lent number held in
+    let goes = out.1 in
+    let up : faults view.device ≤ faults journal.disk = subst (λ (j : JournalView L). faults view.device ≤ faults j.disk) (sym known) out.0 in
+    subst (λ (l : SideView L). IsEngine tells seen now leaves faults (record view { log = l })) (sym e) (record {
+      found = (is.found.0, record { opens = is.found.1.opens; recalls = is.found.1.recalls });
+      logged = record {
+        run = is.logged.run;
+        all = is.logged.all;
+        count = is.logged.count;
+        begins = is.logged.begins;
+        keeps = λ first h. is.logged.keeps first (record { opens = h.opens; recalls = h.recalls });
+        framed = is.logged.framed;
+        durable = is.logged.durable;
+        acknowledged = is.logged.acknowledged;
+      };
+      home = λ j h.
+          let here : journal ≡ j = let some : Some journal ≡ Some j = h in cc in
+          subst (λ (k : JournalView L). IsHome tells seen now leaves faults (record view { log = record view.log { home = Some journal; holder = None; out = []; queued = view.log.out ++ view.log.queued } }) k) here (record {
+            opens = opens;
+            later = up;
+            known = λ k. (known, refl);
+            rose = λ k. absurd (let a : view.tablet.core.stopped ≡ true = k in cc);
+            images = λ k. absurd (let a : view.tablet.core.stopped ≡ true = k in cc);
+          });
+      lent = λ by h. absurd (let none : None ≡ Some by = h in cc);
+      whole = is.whole;
+      ready = record { room = is.ready.room; apart = is.ready.apart; number = is.ready.number; target = is.ready.target; above = is.ready.above; fits = is.ready.fits };
+      placed = is.placed;
+    })
+
+-- it comes home after a fault, and the tablet stops
+pub breaks : {L D C : Type 0} (tells : Bool) (seen : L → Files) (now : L → ℕ) (leaves : L → ℕ → Files → Type 0) (faults : L → ℕ) (view : EngineView L D C) (tablet : View C) (log : SideView L) (journal : JournalView L) (number : ℕ)
+    → IsEngine tells seen now leaves faults view → view.log.holder ≡ Some number → faults view.log.known.disk ≤ faults journal.disk → Rose (faults view.log.known.disk) (faults journal.disk)
+    → (IsTrue tells → (image : Files) → leaves journal.disk (now journal.disk) image → IsOldOrBoth (records_of (seen view.log.known.disk)) view.log.out (image 1)) → (IsTrue tells → CanOpen now leaves journal.disk)
+    → tablet ≡ record view.tablet { core = halted view.tablet.core } → log ≡ record view.log { home = Some journal; holder = None; whole = false }
+    → IsEngine tells seen now leaves faults (record view { tablet = tablet; log = log })
+breaks {L} {D} {C} tells seen now leaves faults view tablet log journal number is held later rose images opens stops e =
+    let out = is.lent number held in
+    let low = out.0 in
+    let up : faults view.device ≤ faults journal.disk = omega arith in
+    let rose' : Rose (faults view.device) (faults journal.disk) = omega arith in
+    let end : View C = with_line view.tablet event.Stop view.tablet.core.a view.tablet.core.c view.tablet.core.turns true view.tablet.clock in
+    let side : SideView L = record view.log { home = Some journal; holder = None; whole = false } in
+    let logged = line_logged tells seen view event.Stop view.tablet.core.a view.tablet.core.c view.tablet.core.turns true view.tablet.clock is.logged tt (omega arith) in
+    let there : IsEngine tells seen now leaves faults (record view { tablet = end; log = side }) = record {
+      found = (is.found.0, record { opens = is.found.1.opens; recalls = is.found.1.recalls });
+      logged = record {
+        run = logged.run;
+        all = logged.all;
+        count = logged.count;
+        begins = logged.begins;
+        keeps = λ first h. logged.keeps first (record { opens = h.opens; recalls = h.recalls });
+        framed = logged.framed;
+        durable = logged.durable;
+        acknowledged = logged.acknowledged;
+      };
+      home = λ j h.
+          let here : journal ≡ j = let some : Some journal ≡ Some j = h in cc in
+          subst (λ (k : JournalView L). IsHome tells seen now leaves faults (record view { tablet = end; log = side }) k) here (record {
+            opens = opens;
+            later = up;
+            known = λ k. absurd (let a : true ≡ false = k in cc);
+            rose = λ k. rose';
+            images = λ k. images;
+          });
+      lent = λ by h. absurd (let none : None ≡ Some by = h in cc);
+      whole = (λ k. absurd (let a : true ≡ false = k in cc), λ k. absurd (let a : false ≡ true = k in cc));
+      ready = record { room = is.ready.room; apart = is.ready.apart; number = is.ready.number; target = is.ready.target; above = is.ready.above; fits = is.ready.fits };
+      placed = is.placed;
+    } in
+    subst (λ (l : SideView L). IsEngine tells seen now leaves faults (record view { tablet = tablet; log = l })) (sym e) (subst (λ (t : View C). IsEngine tells seen now leaves faults (record view { tablet = t; log = side })) (sym stops) there)

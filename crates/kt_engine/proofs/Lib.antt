@@ -1,0 +1,14 @@
+pub mod Lists
+pub mod Places
+pub mod Records
+pub mod Commits
+pub mod Runs
+pub mod Opened
+pub mod Begun
+pub mod Applied
+pub mod Ended
+pub mod Lines
+pub mod Plans
+pub mod Devices
+pub mod Raised
+pub mod Crashes

@@ -1,0 +1,144 @@
+-- A line that begins and ends no write: the engine stands on.
+use Rattle.std.proofs.Common.{◌≡◌, ◌≤◌, ℕ, max, Bool, List, [], ◌∷◌, ◌++◌, Result, Ok, Err, refl, sym, ap, subst, ◌∙◌, arith}
+use Rattle.std.specs.Prelude.{IfOk, IfErr, OnErr, OnOk}
+use Rattle.kt_disk.specs.Disk.{Files}
+use Rattle.kt_history.specs.declared.event.Event.{Event}
+use Rattle.kt_history.specs.declared.event.Event.TheVariants as event
+use Rattle.kt_history.specs.declared.scan.At.{At}
+use Rattle.kt_history.specs.Machine.{Workload, State, Turn, after, state_after, start}
+use Rattle.kt_records.specs.declared.entry.Entry.{Entry}
+use Rattle.kt_journal.specs.Log.{records_of}
+use Rattle.kt_histlaws.specs.Core.{Core}
+use Rattle.kt_histlaws.specs.Events.{looked, answered_rows, marked, answered}
+use Rattle.kt_tablet.specs.declared.tablet.scan.SnapNo.{SnapNo}
+use Rattle.kt_tablet.specs.declared.tablet.scan.SnapNo.TheVariants as no
+use Rattle.kt_tablet.specs.declared.tablet.LookNo.{LookNo}
+use Rattle.kt_tablet.specs.Views.{View}
+use Rattle.kt_tablet.specs.Visits.{HasLooked, HasMarked}
+use Rattle.kt_tablet.specs.Reads.{HasRead, LeavesRead}
+use Rattle.kt_engine.specs.Logged.{AcknowledgedIn}
+use Rattle.kt_engine.specs.Engines.{EngineView, IsLogged, IsEngine, core_from}
+use Rattle.kt_engine.proofs.Runs.{past_line, acknowledged_more}
+
+-- a line that neither begins nor ends a write
+abbrev pub IsQuiet : Event → Type 0
+IsQuiet (event.Begin s i ts m) = ⊥
+IsQuiet (event.End s i ts) = ⊥
+IsQuiet _ = Unit {0}
+
+past_after : (work : Workload) (st : State) (e : Event) → IsQuiet e → (after work st e).past ≡ st.past
+past_after work st (event.Begin s i ts m) h = absurd h
+past_after work st (event.End s i ts) h = absurd h
+past_after work st (event.Look s i t m) h = refl
+past_after work st (event.Rows s i t) h = refl
+past_after work st (event.Ancient s i t a) h = refl
+past_after work st (event.Busy s i t f) h = refl
+past_after work st (event.Mark s i a) h = refl
+past_after work st (event.Chore s i) h = refl
+past_after work st (event.Large s i n) h = refl
+past_after work st event.Stop h = refl
+
+-- it acknowledges no write
+acknowledged_none : (records : List Entry) (e : Event) → IsQuiet e → AcknowledgedIn records (e ∷ [])
+acknowledged_none records (event.Begin s i ts m) h = absurd h
+acknowledged_none records (event.End s i ts) h = absurd h
+acknowledged_none records (event.Look s i t m) h = tt
+acknowledged_none records (event.Rows s i t) h = tt
+acknowledged_none records (event.Ancient s i t a) h = tt
+acknowledged_none records (event.Busy s i t f) h = tt
+acknowledged_none records (event.Mark s i a) h = tt
+acknowledged_none records (event.Chore s i) h = tt
+acknowledged_none records (event.Large s i n) h = tt
+acknowledged_none records event.Stop h = tt
+
+-- the tablet after a line
+abbrev pub with_line : {C : Type 0} → View C → Event → ℕ → ℕ → List Turn → Bool → C → View C
+with_line tablet e a c turns stopped clock = record tablet { core = record tablet.core { trail = tablet.core.trail ++ e ∷ []; a = a; c = c; turns = turns; stopped = stopped }; clock = clock }
+
+-- the log keeps the run
+pub line_logged : {L D C : Type 0} (tells : Bool) (seen : L → Files) (view : EngineView L D C) (e : Event) (a c : ℕ) (turns : List Turn) (stopped : Bool) (clock : C) → IsLogged tells seen view → IsQuiet e → view.tablet.core.c ≤ c
+    → IsLogged tells seen (record view { tablet = with_line view.tablet e a c turns stopped clock })
+line_logged tells seen view e a c turns stopped clock is quiet up = record {
+  run = is.run;
+  all = is.all;
+  count = is.count;
+  begins = is.begins;
+  keeps = λ first h.
+      let keeps = is.keeps first (record { opens = h.opens; recalls = h.recalls }) in
+      let core = core_from view first in
+      let low = keeps.last in
+      record {
+        log = keeps.log;
+        told = keeps.told;
+        writes = keeps.writes ∙ sym (past_line core e ∙ past_after core.work (state_after core.work (start core.work first core.opened) core.trail) e quiet);
+        last = omega arith;
+        flying = keeps.flying;
+      };
+  framed = is.framed;
+  durable = is.durable;
+  acknowledged = λ t. acknowledged_more (records_of (seen view.log.known.disk)) view.tablet.core.trail e (is.acknowledged t) (acknowledged_none (records_of (seen view.log.known.disk)) e quiet);
+}
+
+-- and the engine stands
+line_keeps : {L D C : Type 0} (tells : Bool) (seen : L → Files) (now : L → ℕ) (leaves : L → ℕ → Files → Type 0) (faults : L → ℕ) (view : EngineView L D C) (tablet : View C) (e : Event) (a c : ℕ) (turns : List Turn) (clock : C)
+    → IsEngine tells seen now leaves faults view → IsQuiet e → view.tablet.core.c ≤ c → tablet ≡ with_line view.tablet e a c turns view.tablet.core.stopped clock
+    → IsEngine tells seen now leaves faults (record view { tablet = tablet })
+line_keeps {L} {D} {C} tells seen now leaves faults view tablet e a c turns clock is quiet up new =
+    subst (λ (t : View C). IsEngine tells seen now leaves faults (record view { tablet = t })) (sym new) (record {
+      found = (is.found.0, record { opens = is.found.1.opens; recalls = is.found.1.recalls });
+      logged = line_logged tells seen view e a c turns view.tablet.core.stopped clock is.logged quiet up;
+      home = λ journal h.
+          let home = is.home journal h in
+          record { opens = home.opens; later = home.later; known = home.known; rose = home.rose; images = home.images };
+      lent = is.lent;
+      whole = is.whole;
+      ready = record { room = is.ready.room; apart = is.ready.apart; number = is.ready.number; target = is.ready.target; above = is.ready.above; fits = is.ready.fits };
+      placed = is.placed;
+    })
+
+-- a scan of the present draws its time
+pub look_keeps : {L D C : Type 0} (tells : Bool) (seen : L → Files) (now : L → ℕ) (leaves : L → ℕ → Files → Type 0) (faults : L → ℕ) (view : EngineView L D C) (tablet : View C) (s i : ℕ) (result : Result ℕ LookNo)
+    → IsEngine tells seen now leaves faults view → IfOk result (λ t. HasLooked view.tablet.core tablet.core s i t) → tablet ≡ record view.tablet { core = tablet.core; clock = tablet.clock } → OnErr result (tablet ≡ view.tablet)
+    → IsEngine tells seen now leaves faults (record view { tablet = tablet })
+look_keeps {L} {D} {C} tells seen now leaves faults view tablet s i (Ok t) is has beside same =
+    let m = has.m in
+    let time = has.time in
+    line_keeps tells seen now leaves faults view tablet (event.Look s i t m) view.tablet.core.a t (looked view.tablet.core s i t m).turns tablet.clock is tt (omega arith)
+    (beside ∙ ap (λ (k : Core). record view.tablet { core = k; clock = tablet.clock }) has.core)
+look_keeps {L} {D} {C} tells seen now leaves faults view tablet s i (Err reason) is has beside same = subst (λ (t : View C). IsEngine tells seen now leaves faults (record view { tablet = t })) (sym same) is
+
+-- the mark rises
+pub mark_keeps : {L D C : Type 0} (tells : Bool) (seen : L → Files) (now : L → ℕ) (leaves : L → ℕ → Files → Type 0) (faults : L → ℕ) (view : EngineView L D C) (tablet : View C) (s i to : ℕ) (result : Result ℕ LookNo)
+    → IsEngine tells seen now leaves faults view → IfOk result (λ a. HasMarked view.tablet.core tablet.core s i to a) → tablet ≡ record view.tablet { core = tablet.core } → OnErr result (tablet ≡ view.tablet)
+    → IsEngine tells seen now leaves faults (record view { tablet = tablet })
+mark_keeps {L} {D} {C} tells seen now leaves faults view tablet s i to (Ok a) is has beside same =
+    line_keeps tells seen now leaves faults view tablet (event.Mark s i a) a view.tablet.core.c (marked view.tablet.core s i a).turns view.tablet.clock is tt (omega arith)
+    (beside ∙ ap (λ (k : Core). record view.tablet { core = k }) has.core)
+mark_keeps {L} {D} {C} tells seen now leaves faults view tablet s i to (Err reason) is has beside same = subst (λ (t : View C). IsEngine tells seen now leaves faults (record view { tablet = t })) (sym same) is
+
+-- a line answers a command
+pub answer_keeps : {L D C : Type 0} (tells : Bool) (seen : L → Files) (now : L → ℕ) (leaves : L → ℕ → Files → Type 0) (faults : L → ℕ) (view : EngineView L D C) (tablet : View C) (s i : ℕ) (e : Event)
+    → IsEngine tells seen now leaves faults view → IsQuiet e → tablet ≡ record view.tablet { core = answered view.tablet.core s i e }
+    → IsEngine tells seen now leaves faults (record view { tablet = tablet })
+answer_keeps tells seen now leaves faults view tablet s i e is quiet new =
+    line_keeps tells seen now leaves faults view tablet e view.tablet.core.a view.tablet.core.c (answered view.tablet.core s i e).turns view.tablet.clock is quiet (omega arith) new
+
+-- a maintenance command is answered
+pub chore_keeps : {L D C T : Type 0} (tells : Bool) (seen : L → Files) (now : L → ℕ) (leaves : L → ℕ → Files → Type 0) (faults : L → ℕ) (view : EngineView L D C) (tablet : View C) (s i : ℕ) (result : Result T LookNo)
+    → IsEngine tells seen now leaves faults view → OnOk result (tablet ≡ record view.tablet { core = answered view.tablet.core s i (event.Chore s i) }) → OnErr result (tablet ≡ view.tablet)
+    → IsEngine tells seen now leaves faults (record view { tablet = tablet })
+chore_keeps {L} {D} {C} tells seen now leaves faults view tablet s i (Ok a) is new same = answer_keeps tells seen now leaves faults view tablet s i (event.Chore s i) is tt new
+chore_keeps {L} {D} {C} tells seen now leaves faults view tablet s i (Err reason) is new same = subst (λ (t : View C). IsEngine tells seen now leaves faults (record view { tablet = t })) (sym same) is
+
+-- a scan is answered, or refused with its line
+pub snapshot_keeps : {L D C R : Type 0} (tells : Bool) (seen : L → Files) (now : L → ℕ) (leaves : L → ℕ → Files → Type 0) (faults : L → ℕ) (view : EngineView L D C) (tablet : View C) (s i : ℕ) (at : At) (time : R → ℕ) (result : Result R SnapNo)
+    → IsEngine tells seen now leaves faults view → IfOk result (λ snap. HasRead view.tablet.core tablet.core s i at (time snap)) → tablet ≡ record view.tablet { core = tablet.core } → IfErr result (LeavesRead view.tablet tablet s i)
+    → IsEngine tells seen now leaves faults (record view { tablet = tablet })
+snapshot_keeps {L} {D} {C} tells seen now leaves faults view tablet s i at time (Ok snap) is has beside left =
+    line_keeps tells seen now leaves faults view tablet (event.Rows s i (time snap)) view.tablet.core.a (max view.tablet.core.c (time snap)) (answered_rows view.tablet.core s i (time snap)).turns view.tablet.clock is tt (omega arith)
+    (beside ∙ ap (λ (k : Core). record view.tablet { core = k }) has.core)
+snapshot_keeps {L} {D} {C} tells seen now leaves faults view tablet s i at time (Err (no.Ancient t a)) is has beside left = answer_keeps tells seen now leaves faults view tablet s i (event.Ancient s i t a) is tt (beside ∙ ap (λ (k : Core). record view.tablet { core = k }) left)
+snapshot_keeps {L} {D} {C} tells seen now leaves faults view tablet s i at time (Err (no.Busy t f)) is has beside left = answer_keeps tells seen now leaves faults view tablet s i (event.Busy s i t f) is tt (beside ∙ ap (λ (k : Core). record view.tablet { core = k }) left)
+snapshot_keeps {L} {D} {C} tells seen now leaves faults view tablet s i at time (Err no.Stopped) is has beside left = subst (λ (t : View C). IsEngine tells seen now leaves faults (record view { tablet = t })) (sym left) is
+snapshot_keeps {L} {D} {C} tells seen now leaves faults view tablet s i at time (Err (no.NotYet f)) is has beside left = subst (λ (t : View C). IsEngine tells seen now leaves faults (record view { tablet = t })) (sym left) is
+snapshot_keeps {L} {D} {C} tells seen now leaves faults view tablet s i at time (Err no.Memory) is has beside left = subst (λ (t : View C). IsEngine tells seen now leaves faults (record view { tablet = t })) (sym left) is

@@ -1,0 +1,48 @@
+-- The plan of the run is taken before anything has happened: the engine stands on.
+use Rattle.std.proofs.Common.{◌≡◌, ℕ, Bool, List, [], sym, ap, subst, ◌∙◌}
+use Rattle.kt_disk.specs.Disk.{Files}
+use Rattle.kt_history.specs.declared.command.Command.{Command}
+use Rattle.kt_history.specs.declared.event.Event.{Event}
+use Rattle.kt_history.specs.History.{Past}
+use Rattle.kt_history.specs.Machine.{Workload, state_after, start, first_turns}
+use Rattle.kt_tablet.specs.Views.{View}
+use Rattle.kt_engine.specs.Engines.{EngineView, IsEngine}
+
+-- before the first line the past is the opened one
+past_at_first : (work : Workload) (first : Past) (opened : ℕ) (trail : List Event) → trail ≡ [] → (state_after work (start work first opened) trail).past ≡ first
+past_at_first work first opened trail none = ap (λ (es : List Event). (state_after work (start work first opened) es).past) none
+
+pub plan_keeps : {L D C : Type 0} (tells : Bool) (seen : L → Files) (now : L → ℕ) (leaves : L → ℕ → Files → Type 0) (faults : L → ℕ) (view : EngineView L D C) (tablet : View C) (plan : List (List Command))
+    → IsEngine tells seen now leaves faults view → view.tablet.core.trail ≡ []
+    → tablet ≡ record view.tablet { core = record view.tablet.core { work = record view.tablet.core.work { plan = plan }; turns = first_turns plan } }
+    → IsEngine tells seen now leaves faults (record view { tablet = tablet })
+plan_keeps {L} {D} {C} tells seen now leaves faults view tablet plan is fresh new =
+    let work : Workload = record view.tablet.core.work { plan = plan } in
+    subst (λ (t : View C). IsEngine tells seen now leaves faults (record view { tablet = t })) (sym new) (record {
+      found = (is.found.0, record { opens = is.found.1.opens; recalls = is.found.1.recalls });
+      logged = record {
+        run = is.logged.run;
+        all = is.logged.all;
+        count = is.logged.count;
+        begins = is.logged.begins;
+        keeps = λ first h.
+            let keeps = is.logged.keeps first (record { opens = h.opens; recalls = h.recalls }) in
+            record {
+              log = keeps.log;
+              told = keeps.told;
+              writes = keeps.writes ∙ past_at_first view.tablet.core.work first view.tablet.core.opened view.tablet.core.trail fresh ∙ sym (past_at_first work first view.tablet.core.opened view.tablet.core.trail fresh);
+              last = keeps.last;
+              flying = keeps.flying;
+            };
+        framed = is.logged.framed;
+        durable = is.logged.durable;
+        acknowledged = is.logged.acknowledged;
+      };
+      home = λ journal h.
+          let home = is.home journal h in
+          record { opens = home.opens; later = home.later; known = home.known; rose = home.rose; images = home.images };
+      lent = is.lent;
+      whole = is.whole;
+      ready = record { room = is.ready.room; apart = is.ready.apart; number = is.ready.number; target = is.ready.target; above = is.ready.above; fits = is.ready.fits };
+      placed = is.placed;
+    })

@@ -1,0 +1,6 @@
+use Rattle.kt_engine.proofs.Applied.{applied_or_not}
+use Rattle.kt_engine.proofs.engine.Engine.apply_row.Goals as goal
+
+pub invariant_of-self : goal.invariant_of-self
+invariant_of-self g c = applied_or_not _ _ _ _ _ _
+    c.apply_row.new.self c.args.number c.args.at c.apply_row.result c.apply_row.ensures.applied c.apply_row.ensures.beside c.apply_row.ensures.same c.apply_row.ensures.stopped (rw (← c.self.view_is) at c.requires.durable) c.self.invariant

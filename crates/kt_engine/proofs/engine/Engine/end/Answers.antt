@@ -1,0 +1,15 @@
+use Rattle.std.proofs.Common.{◌≡◌, false}
+use Rattle.kt_engine.proofs.Applied.{not_true}
+use Rattle.kt_engine.proofs.Ended.{has_ended, has_room}
+use Rattle.kt_engine.proofs.engine.Engine.end.Goals as goal
+
+pub push-requires : goal.push-requires
+push-requires g c = has_room _ _ _ _ _ _ c.in_ok-ts.ensures.ended.flight c.args.number c.in_ok-ts.ensures.ended.flies c.self.invariant
+
+pub invariant_of-self-2 : goal.invariant_of-self-2
+invariant_of-self-2 g c =
+    let goes : c.self.inside.tablet.core.stopped ≡ false = not_true c.self.inside.tablet.core.stopped (λ is. c.in_ok-ts.ensures.stopped is) in
+    let may = (rw (← c.self.view_is) at c.requires) goes in
+    has_ended _ _ _ _ _ _
+    c.end.new.self c.push.new.self c.forget.new.places.items c.args.number c.in_ok-ts.field-0.index c.in_ok-ts.field-0.ts c.in_ok-ts.field-0.outcomes c.in_ok-ts.field-0.rows
+    c.end.ensures.beside c.in_ok-ts.ensures.ended c.push.ensures.queued c.forget.ensures may c.in_ok-ts.ensures.told c.self.invariant

@@ -1,0 +1,101 @@
+-- What a clause sees of an engine, and what it keeps.
+use Rattle.std.specs.Prelude.{◌≡◌, ◌<◌, ◌≤◌, ◌+◌, ◌^◌, ℕ, length, Bool, IsTrue, false, true, List, [], ◌++◌, map, Some}
+use Rattle.std.specs.List.{All}
+use Rattle.kt_base.specs.Causes.{Rose}
+use Rattle.kt_disk.specs.Disk.{Files}
+use Rattle.kt_history.specs.declared.target.Target.TheVariants.{Mem}
+use Rattle.kt_history.specs.History.{Past}
+use Rattle.kt_records.specs.declared.entry.Entry.{Entry}
+use Rattle.kt_journal.specs.Order.{IsFramed}
+use Rattle.kt_journal.specs.Log.{records_of, Holds, IsLog, IsOldOrBoth, CanOpen}
+use Rattle.kt_journal.specs.Open.{JournalView}
+use Rattle.kt_loglaws.specs.Side.{SideView, all_of}
+use Rattle.kt_histlaws.specs.Core.{Core}
+use Rattle.kt_tablet.specs.Views.{View, Opens}
+use Rattle.kt_loglaws.specs.declared.side.LogNo.{LogNo as SideNo}
+use Rattle.kt_loglaws.specs.declared.side.LogNo.TheVariants as side
+use Rattle.kt_engine.specs.declared.log.LogNo.{LogNo}
+use Rattle.kt_engine.specs.declared.log.LogNo.TheVariants as no
+use Rattle.kt_engine.specs.Logged.{Recalls, KeepsRun, AreApart, IsDurable, AcknowledgedIn, HoldsFront, HoldsRun}
+
+-- the tablet, its log, the places of the REPLICATEs of flying writes, the records that opening found, and the log's device as it was
+-- handed in; and the store device
+pub record EngineView (L D C : Type 0) : Type 0 where
+  pub tablet : View C
+  pub log : SideView L
+  pub places : List (ℕ × ℕ)
+  pub records : List Entry
+  pub device : L
+  pub store : D
+
+-- opening found this past: its store shows it, and the log held it
+pub record IsContent {L D C : Type 0} (view : EngineView L D C) (first : Past) : Type 0 where
+  pub opens : Opens view.tablet.opening view.tablet.mark view.tablet.core.opened first
+  pub recalls : Recalls view.tablet.core.work.fill view.records first
+
+-- the engine's core, for a past that opening found
+abbrev pub core_from : {L D C : Type 0} → EngineView L D C → Past → Core
+core_from view first = record view.tablet.core { first = first }
+
+-- the log keeps the run: where its device tells, what is durable, out and queued are the records, and what opening found is durable
+pub record IsLogged {L D C : Type 0} (tells : Bool) (seen : L → Files) (view : EngineView L D C) : Type 0 where
+  pub run : List Entry
+  pub all : IsTrue tells → view.records ++ run ≡ all_of seen view.log
+  pub count : length (view.records ++ run) ≡ view.log.known.count + length (view.log.out ++ view.log.queued)
+  pub begins : IsTrue tells → (durable : List Entry) × (records_of (seen view.log.known.disk) ≡ view.records ++ durable)
+  pub keeps : (first : Past) → IsContent view first → KeepsRun (core_from view first) view.records view.places run
+  pub framed : All IsFramed (view.log.out ++ view.log.queued)
+  pub durable : IsTrue tells → All (IsDurable (records_of (seen view.log.known.disk))) view.tablet.core.aloft
+  pub acknowledged : IsTrue tells → AcknowledgedIn (records_of (seen view.log.known.disk)) view.tablet.core.trail
+
+-- the device at home: it can be opened, its count of faults has not fallen, and it is the known log, nothing out, unless the tablet
+-- is stopped. Then that count has risen, and each image of it has what was durable, or that and the batch
+pub record IsHome {L D C : Type 0} (tells : Bool) (seen : L → Files) (now : L → ℕ) (leaves : L → ℕ → Files → Type 0) (faults : L → ℕ) (view : EngineView L D C) (journal : JournalView L) : Type 0 where
+  pub opens : IsTrue tells → CanOpen now leaves journal.disk
+  pub later : faults view.device ≤ faults journal.disk
+  pub known : view.tablet.core.stopped ≡ false → (journal ≡ view.log.known) × (view.log.out ≡ [])
+  pub rose : view.tablet.core.stopped ≡ true → Rose (faults view.device) (faults journal.disk)
+  pub images : view.tablet.core.stopped ≡ true → IsTrue tells → (image : Files) → leaves journal.disk (now journal.disk) image → IsOldOrBoth (records_of (seen view.log.known.disk)) view.log.out (image 1)
+
+-- There is room for the COMMIT of each flying write, no two of these have one timestamp, and their rows go to a MemRowSet.
+pub record IsReady {L D C : Type 0} (view : EngineView L D C) : Type 0 where
+  pub room : length view.tablet.core.aloft ≤ view.log.room
+  pub apart : AreApart view.tablet.core.aloft
+  pub number : ℕ
+  pub target : view.tablet.target ≡ Mem number
+  pub above : 0 < number
+  pub fits : number < 2 ^ 64
+
+-- The engine stands. While a pass has the log out the tablet goes on, and the log went out with no fewer faults than were handed in.
+pub record IsEngine {L D C : Type 0} (tells : Bool) (seen : L → Files) (now : L → ℕ) (leaves : L → ℕ → Files → Type 0) (faults : L → ℕ) (view : EngineView L D C) : Type 0 where
+  pub found : (first : Past) × IsContent view first
+  pub logged : IsLogged tells seen view
+  pub home : (journal : JournalView L) → view.log.home ≡ Some journal → IsHome tells seen now leaves faults view journal
+  pub lent : (by : ℕ) → view.log.holder ≡ Some by → (faults view.device ≤ faults view.log.known.disk) × (view.tablet.core.stopped ≡ false)
+  pub whole : (view.tablet.core.stopped ≡ false → IsTrue view.log.whole) × (IsTrue view.log.whole → view.tablet.core.stopped ≡ false)
+  pub ready : IsReady view
+  pub placed : map (λ p. p.0) view.places ≡ map (λ w. w.s) view.tablet.core.aloft
+
+-- A crash now leaves the opened past with the run's writes up to a time, each acknowledged one among them.
+abbrev pub Recovers : {L D C : Type 0} → Bool → (L → ℕ) → (L → ℕ → Files → Type 0) → EngineView L D C → Type 0
+Recovers tells now leaves view = (first : Past) → IsContent view first → IsTrue tells → (journal : JournalView _) → view.log.home ≡ Some journal
+    → (image : Files) → leaves journal.disk (now journal.disk) image → HoldsFront (core_from view first) image
+
+-- And with all of them, where nothing waits for the log and nothing has stopped it.
+abbrev pub RecoversAll : {L D C : Type 0} → Bool → (L → ℕ) → (L → ℕ → Files → Type 0) → EngineView L D C → Type 0
+RecoversAll tells now leaves view = (first : Past) → IsContent view first → view.tablet.core.stopped ≡ false → view.log.queued ≡ [] → IsTrue tells → (journal : JournalView _) → view.log.home ≡ Some journal
+    → (image : Files) → leaves journal.disk (now journal.disk) image → HoldsRun (core_from view first) image
+
+-- what a pass may do with the log that it has out: append its records
+pub record IsLent {L : Type 0} (tells : Bool) (seen : L → Files) (now : L → ℕ) (leaves : L → ℕ → Files → Type 0) (journal : JournalView L) (records : List Entry) : Type 0 where
+  pub usable : IsTrue journal.usable
+  pub framed : All IsFramed records
+  pub in_order : IsTrue tells → IsLog (records_of (seen journal.disk) ++ records)
+  pub holds : IsTrue tells → Holds now leaves journal.disk (records_of (seen journal.disk))
+  pub opens : IsTrue tells → CanOpen now leaves journal.disk
+
+-- why the log is not lent, as its side says it
+abbrev pub no_of : SideNo → LogNo
+no_of (side.Out by) = no.Out by
+no_of side.Empty = no.Empty
+no_of side.Memory = no.Memory

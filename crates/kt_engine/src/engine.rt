@@ -1,0 +1,161 @@
+//! The engine, as it is opened and taken apart.
+ghost use Rattle.std.specs.Prelude.{◌≡◌, ◌<◌, ◌≤◌, ◌^◌, ℕ, IsTrue, IfOk, IfErr, OnErr, Some, None, false, true, [], ◌∷◌, ◌++◌, length};
+ghost use Rattle.kt_history.specs.History.{Past};
+ghost use Rattle.kt_history.specs.declared.target.Target.TheVariants.{Mem};
+ghost use Rattle.kt_history.specs.Machine.{HasDifferentKeys, first_turns};
+ghost use Rattle.kt_journal.specs.Open.{JournalView};
+ghost use Rattle.kt_journal.specs.Log.{records_of, Holds, IsLog, CanOpen};
+ghost use Rattle.kt_loglaws.specs.Replay.{last_of};
+ghost use Rattle.kt_loglaws.specs.Fronts.{AllTold, with_records};
+ghost use Rattle.kt_tablet.specs.Views.{IsSound, Opens};
+ghost use Rattle.kt_engine.specs.Logged.{Recalls};
+ghost use Rattle.kt_engine.specs.Engines.{EngineView, IsContent, IsEngine, IsHome, Recovers, RecoversAll};
+
+use kt_base::Clock;
+use kt_disk::Disk;
+use kt_history::{EventList, Plan};
+use kt_journal::Journal;
+use kt_loglaws::LogSide;
+use kt_memrowset::MemRowSet;
+use kt_records::RecordList;
+use kt_tablet::Tablet;
+use std::alloc::Global;
+use std::marker::Model;
+use std::snapshot::Snapshot;
+
+/// A tablet with its log. The store device is kept and not used yet.
+#[derive(Drop)]
+pub struct Engine<L: Disk, D, C: Clock> {
+    pub(crate) tablet: Tablet<MemRowSet, C>,
+    pub(crate) log: LogSide<L>,
+    pub(crate) store: D,
+    // the session and the place of the REPLICATE of each flying write
+    pub(crate) places: Vec<(u32, u64)>,
+    pub(crate) records: Snapshot<RecordList>,
+    pub(crate) device: Snapshot<L>,
+}
+
+impl<L: Disk, D, C: Clock> Model for Engine<L, D, C> {
+    ghost use Rattle.kt_engine.specs.Engines.{EngineView, IsEngine};
+
+    ghost Value = { EngineView L D C };
+
+    ghost view = { λ e. record { tablet = e.tablet; log = e.log; places = e.places.items; records = e.records.value; device = e.device.value; store = e.store } };
+
+    ghost invariant = { λ e. IsEngine L.tells L.seen L.now L.leaves L.faults (record { tablet = e.tablet; log = e.log; places = e.places.items; records = e.records.value; device = e.device.value; store = e.store }) };
+}
+
+/// What an engine is taken apart into.
+#[derive(Drop)]
+pub struct Parts<L, D, C> {
+    pub log: L,
+    pub store: D,
+    pub clock: C,
+    pub trail: EventList,
+}
+
+impl<L: Disk, D, C: Clock> Engine<L, D, C> {
+    /// A tablet in which nothing has happened yet, with the log that holds what opening found and with what is queued for it.
+    pub fn of(
+        alloc: Global,
+        tablet: Tablet<MemRowSet, C>,
+        journal: Journal<L>,
+        records: &RecordList,
+        queued: RecordList,
+        store: D,
+        device: Snapshot<L>,
+    ) -> Result<Engine<L, D, C>, (Tablet<MemRowSet, C>, Journal<L>, D)>
+        requires fresh { (tablet.core.trail ≡ []) × (tablet.core.aloft ≡ []) × (tablet.core.stopped ≡ false) }
+        requires target { (number : ℕ) × (tablet.target ≡ Mem number) × (0 < number) × (number < 2 ^ 64) }
+        requires found { (first : Past) × Opens tablet.opening tablet.mark tablet.core.opened first × Recalls tablet.core.work.fill records.now first }
+        requires log { IsLog (records.now ++ queued) }
+        requires told { (first : Past) → Opens tablet.opening tablet.mark tablet.core.opened first → Recalls tablet.core.work.fill records.now first
+            → AllTold tablet.core.work.fill records.now first queued × (with_records tablet.core.work.fill first queued ≡ first) }
+        requires last { last_of (records.now ++ queued) ≤ tablet.core.c }
+        requires usable { IsTrue journal.usable }
+        requires count { journal.count ≡ length records.now }
+        requires reads { IsTrue L.tells → records_of (L.seen journal.disk) ≡ records.now }
+        requires durable { IsTrue L.tells → Holds L.now L.leaves journal.disk (records_of (L.seen journal.disk)) }
+        requires openable { IsTrue L.tells → CanOpen L.now L.leaves journal.disk }
+        requires faults { L.faults device.value ≤ L.faults journal.disk }
+        ensures view { IfOk result (λ engine. engine ≡ record {
+          tablet = tablet;
+          log = record { home = Some journal; known = journal; holder = None; out = []; queued = queued; room = 0; whole = true };
+          places = [];
+          records = records.now;
+          device = device.value;
+          store = store;
+        }) }
+        ensures back { IfErr result (λ e. (e.0 ≡ tablet) × (e.1 ≡ journal) × (e.2 ≡ store)) }
+    {
+        match LogSide::of(alloc, journal, queued) {
+            Ok(log) => Ok(Engine {
+                tablet,
+                log,
+                store,
+                places: Vec::new(alloc),
+                records: Snapshot::of(records),
+                device,
+            }),
+            Err((journal, _)) => Err((tablet, journal, store)),
+        }
+    }
+
+    /// Takes the plan of the run. It takes no memory.
+    pub fn set_plan(&mut self, plan: &Plan)
+        requires fresh { (self.old.tablet.core.trail ≡ []) × (self.old.tablet.core.aloft ≡ []) × (self.old.tablet.core.stopped ≡ false) }
+        requires few { length plan.now ≤ 64 }
+        requires planned { HasDifferentKeys (record self.old.tablet.core.work { plan = plan.now }) }
+        ensures { self.new ≡ record self.old { tablet = record self.old.tablet { core = record self.old.tablet.core { work = record self.old.tablet.core.work { plan = plan.now }; turns = first_turns plan.now } } } }
+    {
+        self.tablet.set_plan(plan);
+    }
+
+    /// Whether the tablet has stopped.
+    pub fn is_stopped(&self) -> bool
+        ensures { result ≡ self.now.tablet.core.stopped }
+    {
+        self.tablet.is_stopped()
+    }
+
+    /// What it stands for: a run from each past that opening found, in which the lines show what the clock gave; and a
+    /// crash now leaves the run's writes up to a time, each acknowledged one among them.
+    pub fn standing(&self)
+        ensures found { (first : Past) × IsContent self.now first }
+        ensures sound { IsSound C.readings self.now.tablet }
+        ensures recovers { Recovers L.tells L.now L.leaves self.now }
+        ensures recovers_all { RecoversAll L.tells L.now L.leaves self.now }
+        ensures home { (journal : _) → self.now.log.home ≡ Some journal → IsHome L.tells L.seen L.now L.leaves L.faults self.now journal }
+        ensures at_rest { self.now.tablet.core.aloft ≡ [] → self.now.places ≡ [] }
+    {
+        self.tablet.standing();
+        // What is durable is what a crash leaves.
+        let _ = self.log.durable();
+    }
+
+    /// The devices, the clock and the history, where no pass has the log out.
+    pub fn take_apart(self) -> Parts<L, D, C>
+        requires home { self.log.holder ≡ None }
+        ensures log { (journal : JournalView L) × (self.log.home ≡ Some journal) × (result.log ≡ journal.disk) }
+        ensures store { result.store ≡ self.store }
+        ensures clock { result.clock ≡ self.tablet.clock }
+        ensures trail { result.trail ≡ self.tablet.core.trail }
+    {
+        let Engine {
+            tablet,
+            log,
+            store,
+            places: _,
+            records: _,
+            device: _,
+        } = self;
+        let (clock, trail) = tablet.take_apart();
+        let (journal, _) = log.take_apart();
+        Parts {
+            log: journal.into_disk(),
+            store,
+            clock,
+            trail,
+        }
+    }
+}

@@ -1,0 +1,15 @@
+//! The locked value of a tablet: its rows, its clock and the writes that fly, beside the log and what waits for it.
+//!
+//! For the layers above: each event adds exactly its line to the history and keeps that the engine stands for a run, and
+//! that a crash leaves the run's writes up to a time, each acknowledged one among them.
+#![tactic(auto)]
+
+pub mod engine;
+pub mod log;
+pub mod scan;
+pub mod write;
+
+pub use engine::{Engine, Parts};
+pub use kt_tablet::{BeginNo, LookNo, Snap, SnapNo, SnapView, Stopped};
+pub use log::{Broken, LogNo};
+pub use write::WriteDone;

@@ -1,0 +1,138 @@
+//! The life of a write: it begins, its rows are applied, and it ends.
+ghost use Rattle.std.specs.Prelude.{◌≡◌, ◌≤◌, ℕ, IfOk, IfErr, OnErr, IsOk, IsErr, Some, false, true, ◌∷◌, [], ◌++◌, ◌+◌, ◌<◌, ◌==◌, not, length, List, OnOk, vec_len, vec_capacity};
+ghost use Rattle.std.specs.List.{filter};
+ghost use Rattle.kt_history.specs.History.{Past};
+ghost use Rattle.kt_records.specs.declared.entry.CommitRow.{CommitRow};
+ghost use Rattle.kt_tablet.specs.Visits.{MayBegin, HasBegun, IsRefused, Leaves, MayApply, HasApplied, IsRunOutcome, MayEnd, HasEnded, IsDone};
+ghost use Rattle.kt_engine.specs.Logged.{IsShort, place_of};
+ghost use Rattle.kt_engine.specs.Engines.{IsContent, core_from};
+
+use crate::engine::Engine;
+use kt_base::{Clock, NoMemory};
+use kt_disk::Disk;
+use kt_history::{OpList, Outcome, OutcomeList, RowOp, Write};
+use kt_loglaws::LogSide;
+use kt_records::Entry;
+use kt_tablet::{BeginNo, Stopped, WriteEnd};
+use std::alloc::Global;
+
+/// A write that has ended: its timestamp, and what became of its operations.
+#[derive(Debug, Drop)]
+pub struct WriteDone {
+    pub ts: u64,
+    pub outcomes: OutcomeList,
+}
+
+// A copy of the operations of a write.
+fn copy_of(alloc: Global, ops: &OpList) -> Result<OpList, NoMemory>
+    ensures { IfOk result (λ copy. copy ≡ ops.now) }
+{
+    let mut copies = Vec::new(alloc);
+    copies.reserve(ops.len())?;
+    for op in ops.as_slice() {
+        copies.push(RowOp {
+            kind: op.kind,
+            key: op.key.copy()?,
+            cells: op.cells.copy()?,
+        })?;
+    }
+    Ok(OpList::of(copies))
+}
+
+// Makes room for the place of a write more, and for its REPLICATE and its COMMIT beside those of the flying writes.
+fn make_room<L: Disk>(log: &mut LogSide<L>, places: &mut Vec<(u32, u64)>) -> Result<(), NoMemory>
+    ensures log { log.new ≡ record log.old { room = log.new.room } }
+    ensures more { log.old.room ≤ log.new.room }
+    ensures places { (places.new.items ≡ places.old.items) × (vec_len places.new ≡ vec_len places.old) }
+    ensures room { OnOk result ((length places.old.items + 2 ≤ log.new.room) × (vec_len places.new < vec_capacity places.new)) }
+{
+    places.reserve(1)?;
+    let wanted = places.len() + 2;
+    let room = log.room();
+    if room < wanted {
+        log.reserve(wanted - room)?;
+    }
+    Ok(())
+}
+
+// Lets go of the place of the write of a session.
+fn forget(places: &mut Vec<(u32, u64)>, number: u32)
+    ensures { places.new.items ≡ filter (λ p. not (p.0 == number)) places.old.items }
+{
+    places.retain(|place| place.0 != number);
+}
+
+impl<L: Disk, D, C: Clock> Engine<L, D, C> {
+    /// Begins a write: it flies at the timestamp, and its REPLICATE is queued. It then holds its keys, its cells, and
+    /// room for its end, so that it is not refused any more.
+    pub fn begin(
+        &mut self,
+        alloc: Global,
+        number: u32,
+        index: u32,
+        write: &Write,
+    ) -> Result<u64, BeginNo>
+        requires { self.old.tablet.core.stopped ≡ false → MayBegin self.old.tablet.core number index write.now.ops × IsShort write.now.ops }
+        ensures begun { IfOk result (λ ts. HasBegun self.old.tablet.core self.new.tablet.core number index write.now.ops ts) }
+        ensures queued { IfOk result (λ ts. self.new.log ≡ record self.old.log { queued = self.old.log.queued ++ Entry.Replicate ts write.now.ops ∷ []; room = self.new.log.room }) }
+        ensures clock { self.new.tablet ≡ record self.old.tablet { core = self.new.tablet.core; clock = self.new.tablet.clock; pool = self.new.tablet.pool } }
+        ensures beside { self.new ≡ record self.old { tablet = self.new.tablet; log = self.new.log; places = self.new.places } }
+        ensures refused { IfErr result (IsRefused self.old.tablet write.now.ops) }
+        ensures left { IfErr result (Leaves self.old.tablet self.new.tablet number index) }
+        ensures waits { OnErr result ((self.new.places ≡ self.old.places) × (self.new.log ≡ record self.old.log { room = self.new.log.room })) }
+    {
+        if self.tablet.is_stopped() {
+            return Err(BeginNo::Stopped);
+        }
+        let Ok(logged) = copy_of(alloc, &write.ops) else {
+            return Err(BeginNo::Memory);
+        };
+        let Ok(ops) = copy_of(alloc, &write.ops) else {
+            return Err(BeginNo::Memory);
+        };
+        let Ok(()) = make_room(&mut self.log, &mut self.places) else {
+            return Err(BeginNo::Memory);
+        };
+        let ts = self.tablet.begin(alloc, number, index, ops)?;
+        let place = self.log.push(Entry::Replicate { ts, ops: logged });
+        self.places.push_reserved((number, place));
+        Ok(ts)
+    }
+
+    /// Applies the next row of the flying write of a session, whose REPLICATE is durable. It takes no memory.
+    pub fn apply_row(&mut self, number: u32, at: usize) -> Result<Outcome, Stopped>
+        requires next { self.old.tablet.core.stopped ≡ false → MayApply self.old.tablet.core number at }
+        requires durable { self.old.tablet.core.stopped ≡ false → (place : ℕ) × (place_of number self.old.places ≡ Some place) × (place ≤ self.old.log.known.count) }
+        ensures applied { IfOk result (λ outcome. HasApplied self.old.tablet.core self.new.tablet.core number at outcome) }
+        ensures run { IfOk result (λ outcome. (first : Past) → IsContent self.old first → IsRunOutcome (core_from self.old first) number at outcome) }
+        ensures beside { self.new ≡ record self.old { tablet = record self.old.tablet { core = self.new.tablet.core; pool = self.new.tablet.pool } } }
+        ensures same { OnErr result (self.new ≡ self.old) }
+        ensures stopped { self.old.tablet.core.stopped ≡ true → IsErr result }
+        ensures goes { self.old.tablet.core.stopped ≡ false → IsOk result }
+    {
+        self.tablet.apply_row(number, at)
+    }
+
+    /// Ends the flying write of a session, whose rows are all applied: its COMMIT is queued. It takes no memory.
+    pub fn end(&mut self, number: u32) -> Result<WriteDone, Stopped>
+        requires { self.old.tablet.core.stopped ≡ false → MayEnd self.old.tablet.core number }
+        ensures ended { IfOk result (λ done. (index : ℕ) × HasEnded self.old.tablet.core self.new.tablet.core number index done.ts) }
+        ensures told { IfOk result (λ done. (first : Past) → IsContent self.old first → (rows : List CommitRow) × IsDone (core_from self.old first) self.old.tablet.target number done.outcomes rows) }
+        ensures queued { IfOk result (λ done. (rows : List CommitRow) × (self.new.log ≡ record self.old.log { queued = self.old.log.queued ++ Entry.Commit done.ts rows ∷ []; room = self.new.log.room })) }
+        ensures clock { self.new.tablet ≡ record self.old.tablet { core = self.new.tablet.core } }
+        ensures beside { self.new ≡ record self.old { tablet = self.new.tablet; log = self.new.log; places = self.new.places } }
+        ensures same { OnErr result (self.new ≡ self.old) }
+        ensures stopped { self.old.tablet.core.stopped ≡ true → IsErr result }
+        ensures goes { self.old.tablet.core.stopped ≡ false → IsOk result }
+    {
+        let WriteEnd {
+            index: _,
+            ts,
+            outcomes,
+            rows,
+        } = self.tablet.end(number)?;
+        self.log.push(Entry::Commit { ts, rows });
+        forget(&mut self.places, number);
+        Ok(WriteDone { ts, outcomes })
+    }
+}
