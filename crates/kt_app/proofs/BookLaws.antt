@@ -13,6 +13,7 @@ use Rattle.kt_history.specs.declared.operation.RowOp.{RowOp}
 use Rattle.kt_history.specs.Rows.{Row, Rows, key_cmp}
 use Rattle.kt_history.specs.History.{Past, rows_at, with_write}
 use Rattle.kt_history.specs.Operations.{effect, effect_on, changes_on, outcomes_on}
+use Rattle.kt_history.proofs.RowLaws.{rows_at-with_write_below}
 use Rattle.kt_records.specs.declared.entry.Entry.{Entry}
 use Rattle.kt_records.specs.declared.entry.Entry.TheVariants.{Replicate, Commit}
 use Rattle.kt_records.specs.Rules.{RowFits, EachAfter}
@@ -31,9 +32,10 @@ use Rattle.kt_schema.specs.declared.column.Column.{Column}
 use Rattle.kt_schema.specs.Columns.{fill_of}
 use Rattle.kt_script.specs.Fit.{WriteFits}
 use Rattle.kt_app.proofs.Fitting.{replicate_framed}
-use Rattle.kt_boot.specs.Replay.{replay, last_of, empty, is_needed}
-use Rattle.kt_boot.specs.Laws.{Tells, nothing, and_one}
-use Rattle.kt_boot.proofs.Replays.{replicate_adds, commit_changes_nothing}
+use Rattle.kt_loglaws.specs.Replay.{replay, last_of, empty, is_needed}
+use Rattle.kt_loglaws.specs.Laws.{Tells}
+use Rattle.kt_loglaws.specs.Laws.Tells.{nothing, and_one}
+use Rattle.kt_loglaws.proofs.Replays.{replicate_adds, commit_changes_nothing}
 use Rattle.kt_history.specs.Machine.{next_timestamp}
 use Rattle.kt_app.proofs.PastLaws.{Finds, push}
 use Rattle.kt_app.specs.Book.{Keeps, AreFramed, HoldsPast, commit_row, commit_on}
@@ -152,13 +154,15 @@ module _ (fill : Row) (records queue : List Entry) (past : Past) (c : ℕ) (rows
   ended_is : begun ++ its_commit ∷ [] ≡ before ++ Replicate ts ops ∷ its_commit ∷ []
   ended_is = append_assoc before (Replicate ts ops ∷ []) (its_commit ∷ [])
 
-  tells_it : Tells fill (rows_at past (ts - 1)) ops (map commit_row (outcomes_on fill rows ops))
-  tells_it = subst (λ r. Tells fill r ops (map commit_row (outcomes_on fill rows ops))) (sym (e.shows (ts - 1) (omega (arith, lt)))) (tells_all fill rows ops)
+  tells_it : Tells fill (rows_at later_past (ts - 1)) ops (map commit_row (outcomes_on fill rows ops))
+  tells_it =
+      let same = rows_at-with_write_below past ts (changes_on fill (rows_at past (ts - 1)) ops) (ts - 1) (omega (arith, lt)) ∙ e.shows (ts - 1) (omega (arith, lt)) in
+      subst (λ r. Tells fill r ops (map commit_row (outcomes_on fill rows ops))) (sym same) (tells_all fill rows ops)
 
   ended_holds : ts < 2 ^ 64 → (replay fill (begun ++ its_commit ∷ []) empty (begun ++ its_commit ∷ []) ≡ Ok later_past) × (last_of (begun ++ its_commit ∷ []) ≡ ts)
   ended_holds fits =
-      subst (λ l. (replay fill l empty l ≡ Ok later_past) × (last_of l ≡ ts)) (sym ended_is)
-      (commit_changes_nothing fill before past ts ops (map commit_row (outcomes_on fill rows ops)) (subst IsLog ended_is (ended_log fits)) k.all tells_it)
+      let ended = commit_changes_nothing fill before ts ops [] (map commit_row (outcomes_on fill rows ops)) [] later_past (subst IsLog ended_is (ended_log fits)) (omega (arith, lt)) begun_holds.0 tells_it in
+      subst (λ l. (replay fill l empty l ≡ Ok later_past) × (last_of l ≡ ts)) (sym ended_is) (ended.0, ended.1 ∙ begun_holds.1)
 
   pub keeps_write : ts < 2 ^ 64 → (durable waiting more : List Entry) → more ≡ queue ++ Replicate ts ops ∷ [] → durable ≡ records ++ more → waiting ≡ its_commit ∷ [] → Keeps fill durable waiting later_past ts
   keeps_write fits durable waiting more more_is durable_is waiting_is =

@@ -9,7 +9,7 @@ use Rattle.kt_history.specs.Operations.{changes_on}
 use Rattle.kt_history.proofs.RowLaws.{replay_after_all}
 use Rattle.kt_records.specs.declared.entry.Entry.{Entry}
 use Rattle.kt_records.specs.declared.entry.Entry.TheVariants.{Replicate, Commit}
-use Rattle.kt_boot.specs.Replay.{replay, last_of, empty, is_fitting, replayed, commit_of}
+use Rattle.kt_loglaws.specs.Replay.{replay, last_of, empty, is_fitting, replayed, commit_of}
 use Rattle.kt_records.proofs.Taken.{allowed, ok_is}
 use Rattle.kt_boot.specs.Opening.{Found, opened, found_or_late, last_most}
 use Rattle.kt_boot.specs.declared.refusal.PlainNo.{PlainNo}

@@ -15,7 +15,7 @@ use Rattle.kt_records.specs.declared.entry.CommitRow.{CommitRow}
 use Rattle.kt_journal.specs.Order.{IsFramed}
 use Rattle.kt_journal.specs.Log.{IsLog}
 use Rattle.kt_disk.specs.Disk.{Files}
-use Rattle.kt_boot.specs.Replay.{replay, last_of, empty}
+use Rattle.kt_loglaws.specs.Replay.{replay, last_of, empty}
 use Rattle.kt_app.specs.Crash.{held_by}
 
 -- an operation that is done changes the one store in memory

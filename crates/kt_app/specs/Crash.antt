@@ -17,7 +17,7 @@ use Rattle.kt_history.specs.Replies.{past_after}
 use Rattle.kt_script.specs.Scripts.{Said, Fault, script_of, fault_of, workload}
 use Rattle.kt_script.specs.Texts.{line, words}
 use Rattle.kt_boot.specs.Opening.{Found, content, found_or_late, HasContentOf}
-use Rattle.kt_boot.specs.Replay.{replay, empty}
+use Rattle.kt_loglaws.specs.Replay.{replay, empty}
 use Rattle.kt_boot.specs.declared.refusal.PlainNo.{PlainNo}
 use Rattle.kt_boot.specs.declared.refusal.PlainNo.TheVariants as no
 use Rattle.kt_app.specs.declared.top.SourceNo.{SourceNo}

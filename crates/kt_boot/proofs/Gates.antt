@@ -5,7 +5,7 @@ use Rattle.kt_records.specs.declared.entry.Entry.TheVariants.{Replicate, Commit}
 use Rattle.kt_records.specs.Rules.{KeepsRules}
 use Rattle.kt_records.specs.Spelling.{spelling}
 use Rattle.kt_journal.specs.Order.{InOrder}
-use Rattle.kt_boot.specs.Replay.{gate_of}
+use Rattle.kt_loglaws.specs.Replay.{gate_of}
 use Rattle.kt_boot.specs.Commits.{is_commit_of}
 
 -- a gate is behind the records so far, and the rest follows

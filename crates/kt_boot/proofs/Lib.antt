@@ -1,7 +1,15 @@
-pub mod LogOrder
-pub mod Replays
 pub mod Rows
 pub mod Replayed
 pub mod Gates
 pub mod Pasts
 pub mod Present
+pub mod Taking
+pub mod NeedLaws
+pub mod Alike
+pub mod Shown
+pub mod Walks
+pub mod Rebuilds
+pub mod Openings
+pub mod Owing
+pub mod ReopenedLogs
+pub mod ToldPasts

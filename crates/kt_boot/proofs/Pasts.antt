@@ -14,7 +14,7 @@ use Rattle.kt_records.specs.declared.entry.Entry.TheVariants.{Replicate, Commit}
 use Rattle.kt_records.specs.declared.entry.CommitRow.{CommitRow}
 use Rattle.kt_records.specs.Rules.{EachAfter, FollowingOp, has_key}
 use Rattle.kt_journal.specs.Order.{last_ts, is_above, InOrder}
-use Rattle.kt_boot.specs.Replay.{is_needed, needed_ops, commit_of, replayed, is_fitting, replay, last_of, empty}
+use Rattle.kt_loglaws.specs.Replay.{is_needed, needed_ops, commit_of, replayed, is_fitting, replay, last_of, empty}
 use Rattle.kt_boot.specs.Pasts.{from_one, a_log_holds_a_past}
 use Rattle.kt_boot.proofs.Replayed.{last_before}
 
@@ -51,7 +51,7 @@ none_later : (front : List RowOp) (op : RowOp) (ops : List RowOp) → ((key : Li
 none_later front op [] among h = refl
 none_later front op (x ∷ ops) among h = neither _ _ (among x.key h.0.new_key) (none_later (front ++ x ∷ []) op ops (λ key none. among key (has_front front x key none)) h.1)
 
-different : (front : List RowOp) (ops : List RowOp) → EachAfter FollowingOp front ops → DifferentKeys ops
+pub different : (front : List RowOp) (ops : List RowOp) → EachAfter FollowingOp front ops → DifferentKeys ops
 different front [] h = tt
 different front (op ∷ ops) h = (none_later (front ++ op ∷ []) op ops (has_last front op) h.1, different (front ++ op ∷ []) ops h.1)
 
@@ -74,7 +74,7 @@ different_needed (op ∷ ops) (row ∷ rows) h =
       | false ↦ different_needed ops rows h.1
     ]
 
-different_replayed : (ops : List RowOp) (commit : Option (List CommitRow)) → DifferentKeys ops → DifferentKeys (replayed ops commit)
+pub different_replayed : (ops : List RowOp) (commit : Option (List CommitRow)) → DifferentKeys ops → DifferentKeys (replayed ops commit)
 different_replayed ops None h = h
 different_replayed ops (Some rows) h = different_needed ops rows h
 

@@ -15,7 +15,7 @@ use Rattle.kt_records.specs.declared.entry.Entry.{Entry}
 use Rattle.kt_records.specs.declared.entry.Entry.TheVariants.{Replicate, Commit}
 use Rattle.kt_records.specs.declared.entry.CommitRow.{CommitRow}
 use Rattle.kt_journal.specs.Order.{last_ts, is_above, InOrder}
-use Rattle.kt_boot.specs.Replay.{needed_ops, commit_of, replayed, all_change, is_fitting, replay, empty, last_of}
+use Rattle.kt_loglaws.specs.Replay.{needed_ops, commit_of, replayed, all_change, is_fitting, replay, empty, last_of}
 use Rattle.kt_boot.specs.Commits.{commit_at, needs}
 
 -- the first of what is left of a list
@@ -38,7 +38,7 @@ no_rows : (ops : List RowOp) → needed_ops ops [] ≡ []
 no_rows [] = refl
 no_rows (op ∷ ops) = refl
 
-needed_from : (ops : List RowOp) (rows : List CommitRow) (i : ℕ) (op : RowOp) → i < length ops → op ≡ get_or ops i op
+pub needed_from : (ops : List RowOp) (rows : List CommitRow) (i : ℕ) (op : RowOp) → i < length ops → op ≡ get_or ops i op
     → needed_ops (drop i ops) (drop i rows) ≡ cond (needs (slice_get rows i)) (op ∷ needed_ops (drop (suc i) ops) (drop (suc i) rows)) (needed_ops (drop (suc i) ops) (drop (suc i) rows))
 needed_from [] rows i op lt is = absurd (omega arith)
 needed_from (o ∷ ops) [] zero op lt is = sym (no_rows ops)
@@ -46,7 +46,7 @@ needed_from (o ∷ ops) [] (suc i) op lt is = no_rows (drop i ops) ∙ sym (no_r
 needed_from (o ∷ ops) (row ∷ rows) zero op lt is = ap (λ x. cond (needs (Some row)) (x ∷ needed_ops ops rows) (needed_ops ops rows)) (sym is)
 needed_from (o ∷ ops) (row ∷ rows) (suc i) op lt is = needed_from ops rows i op (omega arith) is
 
-changes_first : (fill : Row) (table : Rows) (op : RowOp) (ops : List RowOp) → changes_on fill table (op ∷ []) ++ changes_on fill table ops ≡ changes_on fill table (op ∷ ops)
+pub changes_first : (fill : Row) (table : Rows) (op : RowOp) (ops : List RowOp) → changes_on fill table (op ∷ []) ++ changes_on fill table ops ≡ changes_on fill table (op ∷ ops)
 changes_first fill table op ops = elim (keyed op.key (effect_on fill table op).0) as (λ o. cons_option o [] ++ changes_on fill table ops ≡ cons_option o (changes_on fill table ops)) [ None ↦ refl | Some change ↦ refl ]
 
 -- how far the needed operations are read, with these changes
@@ -58,8 +58,11 @@ module _ (fill : Row) (table : Rows) (ops : List RowOp) (rows : List CommitRow) 
   here : needed_ops (drop i ops) (drop i rows) ≡ cond (needs (slice_get rows i)) (op ∷ needed_ops (drop j ops) (drop j rows)) (needed_ops (drop j ops) (drop j rows))
   here = let e : j ≡ suc i = omega arith in rw e (needed_from ops rows i op lt is)
 
-  needed_here : needs (slice_get rows i) ≡ true → needed_ops (drop i ops) (drop i rows) ≡ op ∷ needed_ops (drop j ops) (drop j rows)
+  pub needed_here : needs (slice_get rows i) ≡ true → needed_ops (drop i ops) (drop i rows) ≡ op ∷ needed_ops (drop j ops) (drop j rows)
   needed_here e = here ∙ ap (λ b. cond b (op ∷ needed_ops (drop j ops) (drop j rows)) (needed_ops (drop j ops) (drop j rows))) e
+
+  pub needed_not : needs (slice_get rows i) ≡ false → needed_ops (drop i ops) (drop i rows) ≡ needed_ops (drop j ops) (drop j rows)
+  needed_not e = here ∙ ap (λ b. cond b (op ∷ needed_ops (drop j ops) (drop j rows)) (needed_ops (drop j ops) (drop j rows))) e
 
   pub passed : (changes : Changes) → Needs fill table ops rows i changes → needs (slice_get rows i) ≡ false → Needs fill table ops rows j changes
   passed changes h e =
@@ -96,7 +99,7 @@ pub record Along (fill : Row) (records : List Entry) (past : Past) (table : Rows
 pub at_first : (fill : Row) (records : List Entry) → InOrder [] records → Along fill records empty [] records
 at_first fill records log = record { more = refl; before = []; order = log; last = omega arith; rows = λ t le. refl }
 
-below : (last : Option ℕ) (ts : ℕ) → is_above last ts ≡ true → unwrap_or last 0 ≤ ts - 1
+pub below : (last : Option ℕ) (ts : ℕ) → is_above last ts ≡ true → unwrap_or last 0 ≤ ts - 1
 below None ts h = omega arith
 below (Some last) ts h = grind (arith, nat_tests)
 

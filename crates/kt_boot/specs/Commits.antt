@@ -1,9 +1,9 @@
 -- The rows of a COMMIT by its place among the records.
-use Rattle.std.specs.Prelude.{ℕ, ◌==◌, Bool, false, List, Option, Some, None, slice_get}
+use Rattle.std.specs.Prelude.{ℕ, ◌==◌, Bool, true, false, List, Option, Some, None, slice_get}
 use Rattle.kt_records.specs.declared.entry.Entry.{Entry}
 use Rattle.kt_records.specs.declared.entry.Entry.TheVariants.{Replicate, Commit}
 use Rattle.kt_records.specs.declared.entry.CommitRow.{CommitRow}
-use Rattle.kt_boot.specs.Replay.{is_needed}
+use Rattle.kt_loglaws.specs.Replay.{is_needed}
 
 abbrev pub rows_in : Option Entry → Option (List CommitRow)
 rows_in None = None
@@ -24,3 +24,8 @@ needs (Some row) = is_needed row
 abbrev pub is_commit_of : ℕ → Entry → Bool
 is_commit_of ts (Replicate t ops) = false
 is_commit_of ts (Commit t rows) = t == ts
+
+-- whether operation number `at` is replayed, by the rows of the COMMIT of its write
+abbrev pub is_replayed : Option (List CommitRow) → ℕ → Bool
+is_replayed None at = true
+is_replayed (Some rows) at = needs (slice_get rows at)

@@ -1,7 +1,7 @@
-pub mod Replay
 pub mod Opening
-pub mod Laws
 pub mod Commits
 pub mod Refusal
 pub mod Pasts
 pub mod Present
+pub mod Reopening
+pub mod Rebuilding

@@ -7,7 +7,7 @@ use Rattle.kt_history.specs.Rows.{Row}
 use Rattle.kt_history.specs.History.{Past}
 use Rattle.kt_boot.specs.declared.refusal.PlainNo.{PlainNo}
 use Rattle.kt_boot.specs.declared.refusal.PlainNo.TheVariants.{B3, B6}
-use Rattle.kt_boot.specs.Replay.{replay, last_of, gate_of, empty}
+use Rattle.kt_loglaws.specs.Replay.{replay, last_of, gate_of, empty}
 
 -- what a log holds: its past, and the last timestamp
 pub record Found : Type 0 where

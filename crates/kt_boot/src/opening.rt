@@ -8,7 +8,7 @@ ghost use Rattle.kt_records.specs.Spelling.{spelling};
 ghost use Rattle.kt_journal.specs.Log.{log_of, records_of, IsLog, Holds, CanOpen};
 ghost use Rattle.kt_schema.specs.Columns.{fill_of};
 ghost use Rattle.kt_history.specs.History.{rows_at};
-ghost use Rattle.kt_boot.specs.Replay.{last_of, gate_of};
+ghost use Rattle.kt_loglaws.specs.Replay.{last_of, gate_of};
 ghost use Rattle.kt_boot.specs.Opening.{Found, opened, content, HasContentOf};
 ghost use Rattle.kt_boot.specs.Commits.{is_commit_of};
 ghost use Rattle.kt_boot.specs.Refusal.{refusal_of};
@@ -23,7 +23,7 @@ use kt_schema::Schema;
 use std::alloc::Global;
 
 // Timestamps from here on are refused.
-const LAST_MOST: u64 = (1 << 63) - (1 << 21);
+pub(crate) const LAST_MOST: u64 = (1 << 63) - (1 << 21);
 
 /// A log that was opened: the past that it holds, the rows at its end, and the last timestamp.
 #[derive(Drop)]
@@ -34,7 +34,7 @@ pub struct Plain<L: Disk> {
     pub c: u64,
 }
 
-fn last_of(records: &[Entry]) -> u64
+pub(crate) fn last_of(records: &[Entry]) -> u64
     ensures { result ≡ last_of records.now }
 {
     let mut last = 0;
@@ -76,7 +76,7 @@ fn behind(gate: u64, len: u64) -> Result<u64, NoMemory>
 }
 
 // The offset of the gate of a timestamp's COMMIT.
-fn gate_of(alloc: Global, ts: u64, records: &[Entry]) -> Result<u64, NoMemory>
+pub(crate) fn gate_of(alloc: Global, ts: u64, records: &[Entry]) -> Result<u64, NoMemory>
     requires { IsLog records.now }
     ensures { IfOk result (λ gate. gate ≡ gate_of ts records.now) }
 {

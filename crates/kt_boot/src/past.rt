@@ -1,7 +1,7 @@
 //! The past that a log holds.
 ghost use Rattle.std.specs.Prelude.{◌≡◌, ◌==◌, map, length, OnOk};
 ghost use Rattle.kt_history.specs.History.{with_write};
-ghost use Rattle.kt_boot.specs.Replay.{empty};
+ghost use Rattle.kt_loglaws.specs.Replay.{empty};
 
 use kt_base::{NoMemory, Octets};
 use kt_history::Change;

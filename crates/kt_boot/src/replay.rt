@@ -6,7 +6,7 @@ ghost use Rattle.kt_history.specs.Rows.{changed};
 ghost use Rattle.kt_history.specs.History.{rows_at};
 ghost use Rattle.kt_history.specs.Operations.{effect_on, changes_on};
 ghost use Rattle.kt_journal.specs.Log.{IsLog};
-ghost use Rattle.kt_boot.specs.Replay.{is_in_memory, is_needed, needed_ops, commit_of, replayed, all_change, is_fitting, replay, last_of, empty};
+ghost use Rattle.kt_loglaws.specs.Replay.{is_in_memory, is_needed, needed_ops, commit_of, replayed, all_change, is_fitting, replay, last_of, empty};
 ghost use Rattle.kt_boot.specs.Commits.{commit_at, needs};
 
 use crate::{PastList, Table};
@@ -53,7 +53,7 @@ fn is_needed(row: &CommitRow) -> bool
         .any(|target| is_in_memory(target))
 }
 
-fn needs(rows: &[CommitRow], at: usize) -> bool
+pub(crate) fn needs(rows: &[CommitRow], at: usize) -> bool
     ensures { result ≡ needs (slice_get rows.now at) }
 {
     match rows.get(at) {
@@ -63,7 +63,10 @@ fn needs(rows: &[CommitRow], at: usize) -> bool
 }
 
 // Where the COMMIT of each timestamp stands.
-fn commit_places(alloc: Global, records: &[Entry]) -> Result<BTreeMap<u64, usize>, NoMemory>
+pub(crate) fn commit_places(
+    alloc: Global,
+    records: &[Entry],
+) -> Result<BTreeMap<u64, usize>, NoMemory>
     ensures { IfOk result (λ places. (ts : ℕ) → commit_at records.now (tree.get nat_cmp places ts) ≡ commit_of ts records.now) }
 {
     let mut places = BTreeMap::new(alloc);
@@ -77,7 +80,7 @@ fn commit_places(alloc: Global, records: &[Entry]) -> Result<BTreeMap<u64, usize
     Ok(places)
 }
 
-fn commit_at(records: &[Entry], place: Option<usize>) -> Option<&[CommitRow]>
+pub(crate) fn commit_at(records: &[Entry], place: Option<usize>) -> Option<&[CommitRow]>
     ensures { option_map (λ rows. rows.now) result ≡ commit_at records.now place }
 {
     match records.get(place?) {

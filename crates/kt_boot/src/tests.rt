@@ -1,9 +1,13 @@
 ghost use Rattle.std.specs.Prelude.{◌≡◌, [], IfOk};
+ghost use Rattle.kt_journal.specs.Log.{IsLog};
+ghost use Rattle.kt_memrowset.specs.Stores.{IsStore};
 
-use crate::{Plain, PlainNo, open_plain};
-use kt_base::{Cell, Kind, Octets};
+use crate::{Plain, PlainNo, Reopened, open_plain, reopen};
+use kt_base::{Cell, Cells, Kind, Octets};
 use kt_disk::{FileBytes, FileBytesList, MemDisk};
-use kt_history::View;
+use kt_history::{Outcome, Target, View};
+use kt_journal::open_journal;
+use kt_records::{Entry, RecordList};
 use kt_schema::{Column, ColumnList, Schema};
 use std::alloc::Global;
 use std::test::Fail;
@@ -46,6 +50,11 @@ const LATER: [u8; 17] = [
 const THIRD: [u8; 17] = [1, 0, 48, 0, 0, 0, 0, 0, 0, 1, 0, 2, 1, 0, 99, 0, 0];
 
 const FOURTH: [u8; 17] = [1, 0, 64, 0, 0, 0, 0, 0, 0, 1, 0, 2, 1, 0, 100, 0, 0];
+
+// What became of the third: done in MemRowSet 7.
+const THIRD_IN_7: [u8; 22] = [
+    2, 0, 48, 0, 0, 0, 0, 0, 0, 1, 0, 0, 1, 1, 7, 0, 0, 0, 0, 0, 0, 0,
+];
 
 fn column(alloc: Global, id: u16, name: &[u8], key: bool) -> Result<Column, Fail> {
     Ok(Column {
@@ -213,5 +222,106 @@ fn a_table_is_a_view_of_the_present(rt: HostRuntime) -> Result<(), Fail> {
         assert!(rt; view.row_at(alloc, b"c", 0)?.is_none());
     }
     assert_eq!(rt; keys.as_slice(), [Some(97), Some(98)].as_slice());
+    Ok(())
+}
+
+fn records_of(alloc: Global, disk: MemDisk) -> Result<RecordList, Fail>
+    requires { disk.calls ≡ [] }
+    ensures { IfOk result (λ records. IsLog records) }
+{
+    match open_journal(alloc, disk) {
+        Ok((_, records)) => Ok(records),
+        Err(_) => Err("not opened".into()),
+    }
+}
+
+// A log that is replayed into a pool with 8 cells beside those that it needs.
+fn reopened(alloc: Global, log: &[u8]) -> Result<Result<Reopened, PlainNo>, Fail>
+    ensures { IfOk result (λ found. IfOk found (λ r. IsStore r.mem r.pool)) }
+{
+    let schema = schema(alloc)?;
+    let records = records_of(alloc, disk_with(alloc, log)?)?;
+    Ok(reopen(alloc, records.as_slice(), &schema, 8))
+}
+
+// How many keys, cells of the pool and COMMITs to be queued it has, and the number of its MemRowSet; or why it is refused.
+fn retold(alloc: Global, log: &[u8]) -> Result<Result<(u32, u32, usize, u64), PlainNo>, Fail> {
+    match reopened(alloc, log)? {
+        Ok(r) => Ok(Ok((r.mem.rows(), r.pool.size(), r.queued.len(), r.mem.id()))),
+        Err(no) => Ok(Err(no)),
+    }
+}
+
+#[test]
+fn logs_are_replayed_into_a_pool(rt: HostRuntime) -> Result<(), Fail> {
+    let alloc = rt.alloc();
+    let edge = (1 << 63) - (1 << 21);
+    let table: [(&[&[u8]], Result<(u32, u32, usize, u64), PlainNo>); 9] = [
+        (&[], Ok((0, 8, 0, 1))),
+        (&[&INSERT], Ok((1, 18, 1, 1))),
+        (&[&INSERT, &IN_MEMORY], Ok((1, 18, 0, 1))),
+        (&[&INSERT, &IN_DELTA], Ok((0, 8, 0, 1))),
+        (&[&INSERT, &AGAIN, &PRESENT], Ok((1, 18, 1, 1))),
+        (&[&INSERT, &AGAIN, &DONE], Err(PlainNo::B3 { offset: 66 })),
+        (&[&INSERT, &UPSERT], Ok((2, 28, 2, 1))),
+        (&[&INSERT, &LATER], Err(PlainNo::B6 { last: edge })),
+        (
+            &[&INSERT, &IN_MEMORY, &THIRD, &THIRD_IN_7],
+            Ok((2, 28, 0, 7)),
+        ),
+    ];
+    for (payloads, expected) in table {
+        let log = log_of(alloc, payloads)?;
+        assert_eq!(rt; retold(alloc, log.as_slice())?, expected);
+    }
+    Ok(())
+}
+
+// The number in the one cell of a row.
+fn number_in(row: Option<Cells>) -> Option<i64> {
+    match row?.as_slice() {
+        [(_, Cell::Int(number))] => Some(*number),
+        _ => None,
+    }
+}
+
+#[test]
+fn rows_stand_at_their_times(rt: HostRuntime) -> Result<(), Fail> {
+    let alloc = rt.alloc();
+    let log = log_of(alloc, &[&INSERT, &IN_MEMORY, &AGAIN, &PRESENT, &THIRD])?;
+    let Ok(r) = reopened(alloc, log.as_slice())? else {
+        return Err("not opened".into());
+    };
+    assert_eq!(rt; number_in(r.mem.at(alloc, &r.pool, b"a", 4095)?), None);
+    assert_eq!(rt; number_in(r.mem.at(alloc, &r.pool, b"a", 4096)?), Some(5));
+    assert!(rt; r.mem.at(alloc, &r.pool, b"c", 12287)?.is_none());
+    assert!(rt; r.mem.at(alloc, &r.pool, b"c", 12288)?.is_some());
+    assert_eq!(rt; r.last, 12288);
+    assert_eq!(rt; r.pool.reserved(), 0);
+    Ok(())
+}
+
+#[test]
+fn a_write_without_a_commit_gets_one(rt: HostRuntime) -> Result<(), Fail> {
+    let alloc = rt.alloc();
+    let log = log_of(alloc, &[&INSERT, &AGAIN, &THIRD, &THIRD_IN_7])?;
+    let Ok(r) = reopened(alloc, log.as_slice())? else {
+        return Err("not opened".into());
+    };
+    let mut told = Vec::new(alloc);
+    for entry in r.queued.as_slice() {
+        if let Entry::Commit { ts, rows } = entry {
+            for row in rows.as_slice() {
+                told.push((*ts, row.outcome, row.targets.as_slice().first().copied()))?;
+            }
+        }
+    }
+    assert_eq!(rt; told.len(), 2);
+    assert_eq!(rt; told[0].0, 4096);
+    assert_eq!(rt; told[0].1, Outcome::Done);
+    assert_eq!(rt; told[0].2, Some(Target::Mem(7)));
+    assert_eq!(rt; told[1].0, 8192);
+    assert_eq!(rt; told[1].1, Outcome::Present);
+    assert_eq!(rt; told[1].2, None);
     Ok(())
 }

@@ -1,5 +1,5 @@
 use Rattle.std.proofs.Common.{◌≡◌, max, drop}
-use Rattle.kt_boot.specs.Replay.{last_of}
+use Rattle.kt_loglaws.specs.Replay.{last_of}
 use Rattle.kt_boot.proofs.opening.last_of.Given as goal
 
 abbrev pub invariant-records : goal.invariant-records

@@ -1,7 +1,7 @@
 use Rattle.std.proofs.Common.{◌≡◌, ◌≤◌, ℕ, length, drop}
 use Rattle.std.specs.Ordering.{nat_cmp}
 use Rattle.std.specs.BTreeMap as tree
-use Rattle.kt_boot.specs.Replay.{commit_of}
+use Rattle.kt_loglaws.specs.Replay.{commit_of}
 use Rattle.kt_boot.specs.Commits.{commit_at}
 use Rattle.kt_boot.proofs.replay.commit_places.Given as goal
 

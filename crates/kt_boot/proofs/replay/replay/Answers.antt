@@ -3,7 +3,7 @@ use Rattle.std.specs.Prelude.{option_map}
 use Rattle.kt_history.specs.Rows.{changed}
 use Rattle.kt_records.specs.declared.entry.Entry.{Entry}
 use Rattle.kt_records.specs.declared.entry.Entry.TheVariants.{Replicate, Commit}
-use Rattle.kt_boot.specs.Replay.{commit_of}
+use Rattle.kt_loglaws.specs.Replay.{commit_of}
 use Rattle.kt_boot.specs.Commits.{commit_at}
 use Rattle.kt_boot.proofs.Replayed.{Along, over_commit, over_write, first_left}
 use Rattle.kt_boot.proofs.replay.replay.Goals as goal

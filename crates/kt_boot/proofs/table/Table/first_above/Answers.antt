@@ -1,4 +1,4 @@
-use Rattle.std.proofs.Common.{ap, ◌∙◌, sym, Some, None, map}
+use Rattle.std.proofs.Common.{ap, ◌∙◌, sym, Some, map}
 use Rattle.kt_history.specs.Views.{key_above}
 use Rattle.kt_boot.proofs.Rows.{above_first, above_none}
 use Rattle.kt_boot.proofs.table.Table.first_above.Goals as goal

@@ -1,0 +1,168 @@
+-- The changes that a store keeps beside those of a past: the same, but for inserts, which a store keeps as they were asked for.
+use Rattle.std.proofs.Common.{◌≡◌, ℕ, zero, suc, ◌-◌, ◌<◌, [], ◌∷◌, ◌++◌, Some, None, Option, refl, false, cond, sym, ap, ◌∙◌, subst, arith, map}
+use Rattle.std.specs.Prelude.{is_some, ◌==◌}
+use Rattle.std.proofs.lemmas.Bool.Decides.{nat_tests}
+use Rattle.kt_history.specs.declared.change.Change.{Change}
+use Rattle.kt_history.specs.declared.change.Change.TheVariants.{Ins, Upd, Del}
+use Rattle.kt_history.specs.declared.operation.OpKind.{OpKind}
+use Rattle.kt_history.specs.declared.operation.OpKind.TheVariants.{Insert, Upsert, Update, Delete}
+use Rattle.kt_history.specs.declared.target.Kindly.{Kindly}
+use Rattle.kt_history.specs.declared.target.Kindly.TheVariants as kindly
+use Rattle.kt_history.specs.Rows.{Row, apply, with_cells}
+use Rattle.kt_history.specs.Operations.{effect}
+use Rattle.kt_histlaws.specs.Histories.{Steps, Hist, row_of, step_at, first_some}
+use Rattle.kt_histlaws.specs.Flights.{Under}
+use Rattle.kt_histlaws.specs.Fitting.{AreSound, IfFits}
+use Rattle.kt_histlaws.proofs.Fitting.{sound_push}
+use Rattle.kt_memrowset.specs.Links.{change_of}
+use Rattle.kt_tablet.specs.Filling.{filled_change, IsWhole}
+use Rattle.kt_tablet.specs.Stores.{apply_all}
+use Rattle.kt_boot.specs.Reopening.{row_told}
+use Rattle.kt_boot.specs.Rebuilding.{kindly_of, told}
+
+-- a store's change and the past's. Where W holds, an insert is the past's once it is filled
+abbrev pub IsAlike : Type 0 → Row → Change → Change → Type 0
+IsAlike W fill (Ins cells) (Ins row) = W → with_cells cells fill ≡ row
+IsAlike W fill (Upd cells) (Upd others) = cells ≡ others
+IsAlike W fill Del Del = Unit {0}
+IsAlike W fill _ _ = ⊥
+
+abbrev pub AreAlike : Type 0 → Row → Steps → Steps → Type 0
+AreAlike W fill [] [] = Unit {0}
+AreAlike W fill (x ∷ xs) (y ∷ ys) = (x.0 ≡ y.0) × IsAlike W fill x.1 y.1 × AreAlike W fill xs ys
+AreAlike W fill _ _ = ⊥
+
+module _ (W : Type 0) (fill : Row) where
+  apply_alike : (c d : Change) (a b : Option Row) → IsAlike W fill c d → is_some a ≡ is_some b → is_some (apply c a) ≡ is_some (apply d b)
+  apply_alike (Ins x) (Ins y) None None h e = refl
+  apply_alike (Ins x) (Ins y) None (Some r) h e = cc
+  apply_alike (Ins x) (Ins y) (Some r) None h e = cc
+  apply_alike (Ins x) (Ins y) (Some r) (Some s) h e = refl
+  apply_alike (Ins x) (Upd y) a b h e = absurd h
+  apply_alike (Ins x) Del a b h e = absurd h
+  apply_alike (Upd x) (Ins y) a b h e = absurd h
+  apply_alike (Upd x) (Upd y) None None h e = refl
+  apply_alike (Upd x) (Upd y) None (Some r) h e = e
+  apply_alike (Upd x) (Upd y) (Some r) None h e = e
+  apply_alike (Upd x) (Upd y) (Some r) (Some s) h e = refl
+  apply_alike (Upd x) Del a b h e = absurd h
+  apply_alike Del (Ins y) a b h e = absurd h
+  apply_alike Del (Upd y) a b h e = absurd h
+  apply_alike Del Del a b h e = refl
+
+  -- a row is there after the ones where it is after the others
+  pub last_alike : (xs ys : Steps) (a b : Option Row) → AreAlike W fill xs ys → is_some a ≡ is_some b → is_some (apply_all xs a) ≡ is_some (apply_all ys b)
+  last_alike [] [] a b h e = e
+  last_alike [] (y ∷ ys) a b h e = absurd h
+  last_alike (x ∷ xs) [] a b h e = absurd h
+  last_alike (x ∷ xs) (y ∷ ys) a b h e = last_alike xs ys (apply x.1 a) (apply y.1 b) h.2 (apply_alike x.1 y.1 a b h.1 e)
+
+  pub under_alike : (ts : ℕ) (xs ys : Steps) → AreAlike W fill xs ys → Under ts ys → Under ts xs
+  under_alike ts [] [] h under = tt
+  under_alike ts [] (y ∷ ys) h under = absurd h
+  under_alike ts (x ∷ xs) [] h under = absurd h
+  under_alike ts (x ∷ xs) (y ∷ ys) h under = (let e = h.0 in let lt = under.0 in omega arith, under_alike ts xs ys h.2 under.1)
+
+  pub alike_push : (ts : ℕ) (c d : Change) (xs ys : Steps) → AreAlike W fill xs ys → IsAlike W fill c d → AreAlike W fill (xs ++ (ts, c) ∷ []) (ys ++ (ts, d) ∷ [])
+  alike_push ts c d [] [] h e = (refl, e, tt)
+  alike_push ts c d [] (y ∷ ys) h e = absurd h
+  alike_push ts c d (x ∷ xs) [] h e = absurd h
+  alike_push ts c d (x ∷ xs) (y ∷ ys) h e = (h.0, h.1, alike_push ts c d xs ys h.2 e)
+
+  change_filled : W → (c d : Change) → IsAlike W fill c d → filled_change fill c ≡ d
+  change_filled w (Ins x) (Ins y) h = ap (λ r. Ins r) (h w)
+  change_filled w (Ins x) (Upd y) h = absurd h
+  change_filled w (Ins x) Del h = absurd h
+  change_filled w (Upd x) (Ins y) h = absurd h
+  change_filled w (Upd x) (Upd y) h = ap (λ r. Upd r) h
+  change_filled w (Upd x) Del h = absurd h
+  change_filled w Del (Ins y) h = absurd h
+  change_filled w Del (Upd y) h = absurd h
+  change_filled w Del Del h = refl
+
+  -- filled, the store's changes are the past's
+  pub filled_alike : W → (xs ys : Steps) → AreAlike W fill xs ys → map (λ (c : ℕ × Change). (c.0, filled_change fill c.1)) xs ≡ ys
+  filled_alike w [] [] h = refl
+  filled_alike w [] (y ∷ ys) h = absurd h
+  filled_alike w (x ∷ xs) [] h = absurd h
+  filled_alike w (x ∷ xs) (y ∷ ys) h = λ i. (h.0 i, change_filled w x.1 y.1 h.1 i) ∷ filled_alike w xs ys h.2 i
+
+-- the change that an operation makes, beside the store's
+pub record Effect (W : Type 0) (fill : Row) (kind : OpKind) (cells : Row) (row : Option Row) (k : Kindly) : Type 0 where
+  pub change : Change
+  pub is : (effect fill kind cells row).0 ≡ Some change
+  pub alike : IsAlike W fill (change_of k cells) change
+
+as_ins : (W : Type 0) (fill : Row) (kind : OpKind) (cells : Row) (row : Option Row) (k : Kindly) → kindly.Ins ≡ k → Effect W fill kind cells row kindly.Ins → Effect W fill kind cells row k
+as_ins W fill kind cells row k e h = subst (Effect W fill kind cells row) e h
+
+as_upd : (W : Type 0) (fill : Row) (kind : OpKind) (cells : Row) (row : Option Row) (k : Kindly) → kindly.Upd ≡ k → Effect W fill kind cells row kindly.Upd → Effect W fill kind cells row k
+as_upd W fill kind cells row k e h = subst (Effect W fill kind cells row) e h
+
+as_del : (W : Type 0) (fill : Row) (kind : OpKind) (cells : Row) (row : Option Row) (k : Kindly) → kindly.Del ≡ k → Effect W fill kind cells row kindly.Del → Effect W fill kind cells row k
+as_del W fill kind cells row k e h = subst (Effect W fill kind cells row) e h
+
+pub effect_alike : (W : Type 0) (fill : Row) (kind : OpKind) (cells : Row) (row : Option Row) (k : Kindly) → (W → IsWhole fill kind cells) → kindly_of kind (is_some row) ≡ Some k → Effect W fill kind cells row k
+effect_alike W fill Insert cells None k whole h = as_ins W fill Insert cells None k (let e : kindly.Ins ≡ k = cc in e) (record { change = Ins cells; is = refl; alike = whole })
+effect_alike W fill Insert cells (Some r) k whole h = cc
+effect_alike W fill Upsert cells None k whole h = as_ins W fill Upsert cells None k (let e : kindly.Ins ≡ k = cc in e) (record { change = Ins (with_cells cells fill); is = refl; alike = λ w. refl })
+effect_alike W fill Upsert cells (Some r) k whole h = as_upd W fill Upsert cells (Some r) k (let e : kindly.Upd ≡ k = cc in e) (record { change = Upd cells; is = refl; alike = refl })
+effect_alike W fill Update cells None k whole h = cc
+effect_alike W fill Update cells (Some r) k whole h = as_upd W fill Update cells (Some r) k (let e : kindly.Upd ≡ k = cc in e) (record { change = Upd cells; is = refl; alike = refl })
+effect_alike W fill Delete cells None k whole h = cc
+effect_alike W fill Delete cells (Some r) k whole h = as_del W fill Delete cells (Some r) k (let e : kindly.Del ≡ k = cc in e) (record { change = Del; is = refl; alike = tt })
+
+pub effect_none : (fill : Row) (kind : OpKind) (cells : Row) (row : Option Row) → kindly_of kind (is_some row) ≡ None → (effect fill kind cells row).0 ≡ None
+effect_none fill Insert cells None h = cc
+effect_none fill Insert cells (Some r) h = refl
+effect_none fill Upsert cells None h = cc
+effect_none fill Upsert cells (Some r) h = cc
+effect_none fill Update cells None h = refl
+effect_none fill Update cells (Some r) h = cc
+effect_none fill Delete cells None h = refl
+effect_none fill Delete cells (Some r) h = cc
+
+pub effect_some : (fill : Row) (kind : OpKind) (cells : Row) (row : Option Row) → is_some (kindly_of kind (is_some row)) ≡ is_some (effect fill kind cells row).0
+effect_some fill Insert cells None = refl
+effect_some fill Insert cells (Some r) = refl
+effect_some fill Upsert cells None = refl
+effect_some fill Upsert cells (Some r) = refl
+effect_some fill Update cells None = refl
+effect_some fill Update cells (Some r) = refl
+effect_some fill Delete cells None = refl
+effect_some fill Delete cells (Some r) = refl
+
+pub effect_told : (number : ℕ) (fill : Row) (kind : OpKind) (cells : Row) (row : Option Row) → told number kind (is_some row) ≡ row_told number (effect fill kind cells row)
+effect_told number fill Insert cells None = refl
+effect_told number fill Insert cells (Some r) = refl
+effect_told number fill Upsert cells None = refl
+effect_told number fill Upsert cells (Some r) = refl
+effect_told number fill Update cells None = refl
+effect_told number fill Update cells (Some r) = refl
+effect_told number fill Delete cells None = refl
+effect_told number fill Delete cells (Some r) = refl
+
+-- a history from nothing
+abbrev pub hist : Steps → Hist
+hist steps = record { first = None; steps = steps }
+
+first_alone : (row : Option Row) → first_some (row ∷ []) ≡ row
+first_alone None = refl
+first_alone (Some r) = refl
+
+one_at_zero : (c : Change) → AreSound 0 (hist ((0, c) ∷ []) ∷ [])
+one_at_zero c = record { fit = λ t lt. (no_step t lt, tt); rise = (tt, tt) }
+  where
+    no_step : (t : ℕ) → 0 < t → IfFits (step_at t ((0, c) ∷ [])) (row_of (t - 1) (hist ((0, c) ∷ [])))
+    no_step zero lt = absurd (omega arith)
+    no_step (suc t) lt = let other : (0 == suc t) ≡ false = grind (arith, nat_tests) in subst (λ b. IfFits (cond b (Some c) None) (row_of (suc t - 1) (hist ((0, c) ∷ [])))) (sym other) tt
+
+none_below : (steps : Steps) → Under 0 steps → steps ≡ []
+none_below [] under = refl
+none_below (c ∷ steps) under = absurd (let lt = under.0 in omega arith)
+
+-- one change more, of an operation on the row that is there
+pub sound_step : (ts : ℕ) (fill : Row) (kind : OpKind) (cells : Row) (c : Change) (steps : Steps) → AreSound 0 (hist steps ∷ []) → Under ts steps → (effect fill kind cells (row_of ts (hist steps))).0 ≡ Some c
+    → AreSound 0 (hist (steps ++ (ts, c) ∷ []) ∷ [])
+sound_step zero fill kind cells c steps sound under e = subst (λ (s : Steps). AreSound 0 (hist (s ++ (0, c) ∷ []) ∷ [])) (sym (none_below steps under)) (one_at_zero c)
+sound_step (suc t) fill kind cells c steps sound under e = sound_push 0 (suc t) 0 fill cells kind c (hist steps ∷ []) sound (under, tt) (omega arith) refl (ap (λ (r : Option Row). (effect fill kind cells r).0) (first_alone (row_of (suc t) (hist steps))) ∙ e)

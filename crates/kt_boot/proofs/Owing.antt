@@ -1,0 +1,247 @@
+-- What a log owes may stand behind it, and tells of its past.
+use Rattle.std.proofs.Common.{◌≡◌, ℕ, zero, suc, ◌-◌, ◌*◌, ◌^◌, ◌<◌, ◌≤◌, List, [], ◌∷◌, ◌++◌, length, Some, None, Option, Bool, refl, true, false, ◌&&◌, ◌||◌, cond, sym, ap, ◌∙◌, subst, arith, append_assoc, length-append}
+use Rattle.std.specs.Prelude.{◌==◌, nat_lt, is_some}
+use Rattle.std.specs.List.{flat_map, list_any}
+use Rattle.std.proofs.lemmas.List.{append-nil, length-map}
+use Rattle.std.proofs.lemmas.List.Concat.{flat_map-cons}
+use Rattle.std.proofs.lemmas.Bool.Decides.{nat_tests}
+use Rattle.kt_history.specs.declared.operation.OpKind.{OpKind}
+use Rattle.kt_history.specs.declared.operation.OpKind.TheVariants.{Insert, Upsert, Update, Delete}
+use Rattle.kt_history.specs.declared.operation.RowOp.{RowOp}
+use Rattle.kt_history.specs.Rows.{Row, Rows, key_cmp}
+use Rattle.kt_history.specs.History.{Past, rows_at}
+use Rattle.kt_history.specs.Operations.{effect, effect_on}
+use Rattle.std.specs.FinMap.Entries.{find}
+use Rattle.kt_records.specs.declared.entry.Entry.{Entry}
+use Rattle.kt_records.specs.declared.entry.Entry.TheVariants.{Replicate, Commit}
+use Rattle.kt_records.specs.declared.entry.CommitRow.{CommitRow}
+use Rattle.kt_records.specs.Rules.{RowFits, EachAfter, may_hold}
+use Rattle.kt_records.specs.Spelling as spelled
+use Rattle.kt_journal.specs.Order.{last_ts, is_above, is_count, waiting, follows, newest_first, IsFramed, InOrder}
+use Rattle.kt_journal.specs.Log.{IsLog}
+use Rattle.kt_journal.proofs.Framed.{order_push}
+use Rattle.kt_loglaws.specs.Replay.{commit_of, is_in_memory, is_needed}
+use Rattle.kt_loglaws.specs.Laws.{Tells}
+use Rattle.kt_loglaws.specs.Laws.Tells.{nothing, and_one}
+use Rattle.kt_loglaws.specs.Fronts.{ops_of, with_records, AllTold}
+use Rattle.kt_loglaws.proofs.LogOrder.{AllAbove, above_behind, Lacks, lacks_before, same, differs, differs_down}
+use Rattle.kt_boot.specs.Pasts.{from_one}
+use Rattle.kt_boot.specs.Reopening.{stores_of, row_told, rows_told, rows_before, unless_told, owed}
+
+-- ---- a COMMIT is framed
+
+row_fits : (number : ℕ) (fill : Row) (k : OpKind) (cells : Row) (row : Option Row) → number < 2 ^ 64 → RowFits (row_told number (effect fill k cells row))
+row_fits number fill Insert cells None lt = record { count = refl; targets = (lt, tt) }
+row_fits number fill Insert cells (Some row) lt = record { count = refl; targets = tt }
+row_fits number fill Upsert cells None lt = record { count = refl; targets = (lt, tt) }
+row_fits number fill Upsert cells (Some row) lt = record { count = refl; targets = (lt, tt) }
+row_fits number fill Update cells None lt = record { count = refl; targets = tt }
+row_fits number fill Update cells (Some row) lt = record { count = refl; targets = (lt, tt) }
+row_fits number fill Delete cells None lt = record { count = refl; targets = tt }
+row_fits number fill Delete cells (Some row) lt = record { count = refl; targets = (lt, tt) }
+
+rows_fit : (fill : Row) (number : ℕ) (rows : Rows) (front : List CommitRow) (ops : List RowOp) → number < 2 ^ 64 → EachAfter (λ front row. RowFits row) front (rows_told fill number rows ops)
+rows_fit fill number rows front [] lt = tt
+rows_fit fill number rows front (op ∷ ops) lt = (row_fits number fill op.kind op.cells (find key_cmp op.key rows) lt, rows_fit fill number rows (front ++ row_told number (effect_on fill rows op) ∷ []) ops lt)
+
+row_short : (number : ℕ) (fill : Row) (k : OpKind) (cells : Row) (row : Option Row) → length (spelled.commit_row (row_told number (effect fill k cells row))) ≤ 11
+row_short number fill Insert cells None = omega arith
+row_short number fill Insert cells (Some row) = omega arith
+row_short number fill Upsert cells None = omega arith
+row_short number fill Upsert cells (Some row) = omega arith
+row_short number fill Update cells None = omega arith
+row_short number fill Update cells (Some row) = omega arith
+row_short number fill Delete cells None = omega arith
+row_short number fill Delete cells (Some row) = omega arith
+
+rows_short : (fill : Row) (number : ℕ) (rows : Rows) (ops : List RowOp) → length (flat_map spelled.commit_row (rows_told fill number rows ops)) ≤ 11 * length ops
+rows_short fill number rows [] = omega arith
+rows_short fill number rows (op ∷ ops) =
+    let one = row_short number fill op.kind op.cells (find key_cmp op.key rows) in
+    omega (arith, ap length (flat_map-cons spelled.commit_row (row_told number (effect_on fill rows op)) (rows_told fill number rows ops)), length-append (spelled.commit_row (row_told number (effect_on fill rows op))) (flat_map spelled.commit_row (rows_told fill number rows ops)), one, rows_short fill number rows ops)
+
+few_ops : (n : ℕ) → may_hold n ≡ true → n ≤ 64
+few_ops n h = grind (arith, nat_tests)
+
+as_many : (fill : Row) (number : ℕ) (rows : Rows) (ops : List RowOp) → length (rows_told fill number rows ops) ≡ length ops
+as_many fill number rows ops = length-map ops (λ op. row_told number (effect_on fill rows op))
+
+told_framed : (fill : Row) (number ts : ℕ) (rows : Rows) (ops : List RowOp) → number < 2 ^ 64 → IsFramed (Replicate ts ops) → IsFramed (Commit ts (rows_told fill number rows ops))
+told_framed fill number ts rows ops lt framed =
+    let few = few_ops (length ops) framed.keeps.count in
+    let many = as_many fill number rows ops in
+    record {
+      keeps = record { ts = framed.keeps.ts; count = omega (arith, many, few); rows = rows_fit fill number rows [] ops lt };
+      short = omega (arith, rows_short fill number rows ops, few);
+    }
+
+-- ---- it waits for its COMMIT
+
+-- no record is of this timestamp
+abbrev Quiet : ℕ → List Entry → Type 0
+Quiet ts [] = Unit {0}
+Quiet ts (Replicate t ops ∷ records) = ((t == ts) ≡ false) × Quiet ts records
+Quiet ts (Commit t rows ∷ records) = ((t == ts) ≡ false) × Quiet ts records
+
+waits_on : (ts : ℕ) (before ys : List Entry) → Quiet ts ys → waiting ts (newest_first before ys) ≡ waiting ts before
+waits_on ts before [] quiet = refl
+waits_on ts before (Replicate t ops ∷ ys) quiet = waits_on ts (Replicate t ops ∷ before) ys quiet.1 ∙ ap (λ b. cond b (Some (length ops)) (waiting ts before)) quiet.0
+waits_on ts before (Commit t rows ∷ ys) quiet = waits_on ts (Commit t rows ∷ before) ys quiet.1 ∙ ap (λ b. cond b None (waiting ts before)) quiet.0
+
+quiet-append : (ts : ℕ) (xs ys : List Entry) → Quiet ts xs → Quiet ts ys → Quiet ts (xs ++ ys)
+quiet-append ts [] ys a b = b
+quiet-append ts (Replicate t ops ∷ xs) ys a b = (a.0, quiet-append ts xs ys a.1 b)
+quiet-append ts (Commit t rows ∷ xs) ys a b = (a.0, quiet-append ts xs ys a.1 b)
+
+some_none : (b : Bool) (rows : List CommitRow) (o : Option (List CommitRow)) → cond b (Some rows) o ≡ None → (b ≡ false) × (o ≡ None)
+some_none true rows o h = cc
+some_none false rows o h = (refl, h)
+
+quiet_behind : (ts : ℕ) (ys : List Entry) → AllAbove ts ys → commit_of ts ys ≡ None → Quiet ts ys
+quiet_behind ts [] up none = tt
+quiet_behind ts (Replicate t ops ∷ ys) up none = (differs_down ts t up.0, quiet_behind ts ys up.1 none)
+quiet_behind ts (Commit t rows ∷ ys) up none = let parts = some_none (t == ts) rows (commit_of ts ys) none in (parts.0, quiet_behind ts ys up parts.1)
+
+none_behind : (ts : ℕ) (xs ys : List Entry) → commit_of ts (xs ++ ys) ≡ None → commit_of ts ys ≡ None
+none_behind ts [] ys h = h
+none_behind ts (Replicate t ops ∷ xs) ys h = none_behind ts xs ys h
+none_behind ts (Commit t rows ∷ xs) ys h = none_behind ts xs ys (some_none (t == ts) rows (commit_of ts (xs ++ ys)) h).1
+
+newest-append : (before xs ys : List Entry) → newest_first before (xs ++ ys) ≡ newest_first (newest_first before xs) ys
+newest-append before [] ys = refl
+newest-append before (x ∷ xs) ys = newest-append (x ∷ before) xs ys
+
+-- COMMITs of writes below
+abbrev CommitsUnder : ℕ → List Entry → Type 0
+CommitsUnder n [] = Unit {0}
+CommitsUnder n (Replicate t ops ∷ cs) = ⊥
+CommitsUnder n (Commit t rows ∷ cs) = (t < n) × CommitsUnder n cs
+
+quiet_under : (ts : ℕ) (cs : List Entry) → CommitsUnder ts cs → Quiet ts cs
+quiet_under ts [] h = tt
+quiet_under ts (Replicate t ops ∷ cs) h = absurd h
+quiet_under ts (Commit t rows ∷ cs) h = (differs t ts h.0, quiet_under ts cs h.1)
+
+under_later : (n m : ℕ) (cs : List Entry) → n < m → CommitsUnder n cs → CommitsUnder m cs
+under_later n m [] lt h = tt
+under_later n m (Replicate t ops ∷ cs) lt h = absurd h
+under_later n m (Commit t rows ∷ cs) lt h = (let low = h.0 in omega arith, under_later n m cs lt h.1)
+
+under_push : (ts m : ℕ) (rows : List CommitRow) (cs : List Entry) → ts < m → CommitsUnder m cs → CommitsUnder m (cs ++ Commit ts rows ∷ [])
+under_push ts m rows [] lt h = (lt, tt)
+under_push ts m rows (Replicate t ops ∷ cs) lt h = absurd h
+under_push ts m rows (Commit t r ∷ cs) lt h = (h.0, under_push ts m rows cs lt h.1)
+
+from_test : (a b : ℕ) → nat_lt a b ≡ true → a < b
+from_test a b h = grind (arith, nat_tests)
+
+behind_order : (before xs ys : List Entry) → InOrder before (xs ++ ys) → InOrder (newest_first before xs) ys
+behind_order before [] ys order = order
+behind_order before (x ∷ xs) ys order = behind_order (x ∷ before) xs ys order.2
+
+one_more : (xs : List Entry) (x : Entry) (ys : List Entry) → (xs ++ x ∷ []) ++ ys ≡ xs ++ x ∷ ys
+one_more xs x ys = append_assoc xs (x ∷ []) ys
+
+newest_last : (xs : List Entry) (x : Entry) → newest_first [] (xs ++ x ∷ []) ≡ x ∷ newest_first [] xs
+newest_last xs x = newest-append [] xs (x ∷ [])
+
+module _ (fill : Row) (number : ℕ) (fits : number < 2 ^ 64) (all : List Entry) (log : IsLog all) (past : Past) where
+  -- each REPLICATE without a COMMIT waits for it, whatever stands behind the log of other writes
+  waits : (front : List Entry) (ts : ℕ) (ops : List RowOp) (rest cs : List Entry) → all ≡ front ++ Replicate ts ops ∷ rest → CommitsUnder ts cs → commit_of ts all ≡ None → waiting ts (newest_first [] (all ++ cs)) ≡ Some (length ops)
+  waits front ts ops rest cs is under none =
+      let split : all ++ cs ≡ front ++ Replicate ts ops ∷ (rest ++ cs) = ap (λ l. l ++ cs) is ∙ append_assoc front (Replicate ts ops ∷ rest) cs in
+      let above : AllAbove ts rest = above_behind [] front ts ops rest (subst IsLog is log) in
+      let none_rest : commit_of ts rest ≡ None = none_behind ts (front ++ Replicate ts ops ∷ []) rest (ap (commit_of ts) (one_more front (Replicate ts ops) rest ∙ sym is) ∙ none) in
+      let quiet = quiet-append ts rest cs (quiet_behind ts rest above none_rest) (quiet_under ts cs under) in
+      ap (λ l. waiting ts (newest_first [] l)) split ∙ ap (waiting ts) (newest-append [] front (Replicate ts ops ∷ (rest ++ cs)))
+      ∙ waits_on ts (Replicate ts ops ∷ newest_first [] front) (rest ++ cs) quiet ∙ ap (λ b. cond b (Some (length ops)) (waiting ts (newest_first [] front))) (same ts)
+
+  order_at : (front : List Entry) (ts : ℕ) (ops : List RowOp) (rest : List Entry) → all ≡ front ++ Replicate ts ops ∷ rest → InOrder (newest_first [] front) (Replicate ts ops ∷ rest)
+  order_at front ts ops rest is = behind_order [] front (Replicate ts ops ∷ rest) (subst IsLog is log)
+
+  -- the log goes on with what is owed
+  pub owed_log : (rest front cs : List Entry) → all ≡ front ++ rest → ((n : ℕ) → is_above (last_ts (newest_first [] front)) n ≡ true → CommitsUnder n cs) → IsLog (all ++ cs) → IsLog (all ++ (cs ++ owed fill number all past rest))
+  owed_log [] front cs is under is_log = subst (λ l. IsLog (all ++ l)) (sym (append-nil cs)) is_log
+  owed_log (Commit t rows ∷ rest) front cs is under is_log =
+      owed_log rest (front ++ Commit t rows ∷ []) cs (is ∙ sym (one_more front (Commit t rows) rest)) (λ n up. under n (ap (λ l. is_above (last_ts l) n) (sym (newest_last front (Commit t rows))) ∙ up)) is_log
+  owed_log (Replicate ts ops ∷ rest) front cs is under is_log =
+      let order = order_at front ts ops rest is in
+      let next : all ≡ (front ++ Replicate ts ops ∷ []) ++ rest = is ∙ sym (one_more front (Replicate ts ops) rest) in
+      let low = under ts order.1 in
+      let newer : (n : ℕ) → is_above (last_ts (newest_first [] (front ++ Replicate ts ops ∷ []))) n ≡ true → ts < n = λ n up. from_test ts n (ap (λ l. is_above (last_ts l) n) (sym (newest_last front (Replicate ts ops))) ∙ up) in
+      elim (commit_of ts all) as (λ o. commit_of ts all ≡ o → IsLog (all ++ (cs ++ unless_told o (Commit ts (rows_told fill number (rows_before ts past) ops)) (owed fill number all past rest)))) [
+        | Some rows ↦ λ e. owed_log rest (front ++ Replicate ts ops ∷ []) cs next (λ n up. under_later ts n cs (newer n up) low) is_log
+        | None ↦ λ e.
+            let commit = Commit ts (rows_told fill number (rows_before ts past) ops) in
+            let counts : follows (newest_first [] (all ++ cs)) commit ≡ true = (λ i. is_count (waits front ts ops rest cs is low e i) (as_many fill number (rows_before ts past) ops i)) ∙ same (length ops) in
+            let longer : IsLog (all ++ (cs ++ commit ∷ [])) = subst IsLog (append_assoc all cs (commit ∷ [])) (order_push [] (all ++ cs) commit is_log (told_framed fill number ts (rows_before ts past) ops fits order.0) counts) in
+            subst (λ l. IsLog (all ++ l)) (one_more cs commit (owed fill number all past rest))
+            (owed_log rest (front ++ Replicate ts ops ∷ []) (cs ++ commit ∷ []) next (λ n up. under_push ts n (rows_told fill number (rows_before ts past) ops) cs (newer n up) (under_later ts n cs (newer n up) low)) longer)
+      ] refl
+
+-- ---- it tells what became of its write
+
+needed_is : (number : ℕ) (fill : Row) (k : OpKind) (cells : Row) (row : Option Row) → 0 < number → is_needed (row_told number (effect fill k cells row)) ≡ is_some (effect fill k cells row).0
+needed_is number fill k cells row up = elim (effect fill k cells row).0 as (λ o. list_any is_in_memory (stores_of number o) ≡ is_some o) [
+  | None ↦ refl
+  | Some change ↦ let above : nat_lt 0 number ≡ true = is_lt 0 number up in or_false (nat_lt 0 number) ∙ above
+]
+  where
+    is_lt : (a b : ℕ) → a < b → nat_lt a b ≡ true
+    is_lt a b h = grind (arith, nat_tests)
+
+    or_false : (b : Bool) → (b || false) ≡ b
+    or_false true = refl
+    or_false false = refl
+
+tells_rows : (fill : Row) (number : ℕ) (rows : Rows) (ops : List RowOp) → 0 < number → Tells fill rows ops (rows_told fill number rows ops)
+tells_rows fill number rows [] up = nothing
+tells_rows fill number rows (op ∷ ops) up = and_one (needed_is number fill op.kind op.cells (find key_cmp op.key rows) up) (tells_rows fill number rows ops up)
+
+tells_before : (fill : Row) (number ts : ℕ) (past : Past) (ops : List RowOp) → 0 < number → 0 < ts → Tells fill (rows_at past (ts - 1)) ops (rows_told fill number (rows_before ts past) ops)
+tells_before fill number zero past ops up lt = absurd (omega arith)
+tells_before fill number (suc t) past ops up lt = let e : suc t - 1 ≡ t = omega arith in subst (λ n. Tells fill (rows_at past n) ops (rows_told fill number (rows_at past t) ops)) (sym e) (tells_rows fill number (rows_at past t) ops up)
+
+ops_found : (ts : ℕ) (front : List Entry) (ops : List RowOp) (rest : List Entry) → Lacks ts front → ops_of ts (front ++ Replicate ts ops ∷ rest) ≡ Some ops
+ops_found ts [] ops rest lacks = ap (λ b. cond b (Some ops) (ops_of ts rest)) (same ts)
+ops_found ts (Replicate t o ∷ front) ops rest lacks = ap (λ b. cond b (Some o) (ops_of ts (front ++ Replicate ts ops ∷ rest))) lacks.0 ∙ ops_found ts front ops rest lacks.1
+ops_found ts (Commit t rows ∷ front) ops rest lacks = ops_found ts front ops rest lacks
+
+left_true : (a b : Bool) → (a && b) ≡ true → a ≡ true
+left_true true b h = refl
+left_true false b h = h
+
+right_true : (a b : Bool) → (a && b) ≡ true → b ≡ true
+right_true true b h = h
+right_true false b h = cc
+
+module _ (fill : Row) (number : ℕ) (counted : 0 < number) (all : List Entry) (log : IsLog all) (past : Past) where
+  pub owed_told : (rest front cs : List Entry) → all ≡ front ++ rest → from_one rest ≡ true → AllTold fill (all ++ cs) past (owed fill number all past rest)
+  owed_told [] front cs is up = tt
+  owed_told (Commit t rows ∷ rest) front cs is up = owed_told rest (front ++ Commit t rows ∷ []) cs (is ∙ sym (one_more front (Commit t rows) rest)) up
+  owed_told (Replicate ts ops ∷ rest) front cs is up =
+      let next : all ≡ (front ++ Replicate ts ops ∷ []) ++ rest = is ∙ sym (one_more front (Replicate ts ops) rest) in
+      let above = from_test 0 ts (left_true _ _ up) in
+      let split : all ++ cs ≡ front ++ Replicate ts ops ∷ (rest ++ cs) = ap (λ l. l ++ cs) is ∙ append_assoc front (Replicate ts ops ∷ rest) cs in
+      elim (commit_of ts all) as (λ o. AllTold fill (all ++ cs) past (unless_told o (Commit ts (rows_told fill number (rows_before ts past) ops)) (owed fill number all past rest))) [
+        | Some rows ↦ owed_told rest (front ++ Replicate ts ops ∷ []) cs next (right_true _ _ up)
+        | None ↦
+            let commit = Commit ts (rows_told fill number (rows_before ts past) ops) in (
+              record {
+                up = above;
+                ops = ops;
+                stands = ap (ops_of ts) split ∙ ops_found ts front ops (rest ++ cs) (lacks_before [] front ts ops rest (subst IsLog is log));
+                tells = tells_before fill number ts past ops counted above;
+              },
+              subst (λ l. AllTold fill l past (owed fill number all past rest)) (sym (append_assoc all cs (commit ∷ []))) (owed_told rest (front ++ Replicate ts ops ∷ []) (cs ++ commit ∷ []) next (right_true _ _ up)),
+            )
+      ]
+
+-- and changes nothing
+pub owed_same : (fill : Row) (number : ℕ) (all : List Entry) (past final : Past) (rest : List Entry) → with_records fill past (owed fill number all final rest) ≡ past
+owed_same fill number all past final [] = refl
+owed_same fill number all past final (Commit t rows ∷ rest) = owed_same fill number all past final rest
+owed_same fill number all past final (Replicate ts ops ∷ rest) = elim (commit_of ts all) as (λ o. with_records fill past (unless_told o (Commit ts (rows_told fill number (rows_before ts final) ops)) (owed fill number all final rest)) ≡ past) [
+  | None ↦ owed_same fill number all past final rest
+  | Some rows ↦ owed_same fill number all past final rest
+]

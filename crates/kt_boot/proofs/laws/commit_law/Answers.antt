@@ -1,5 +1,0 @@
-use Rattle.kt_boot.proofs.Replays.{commit_changes_nothing}
-use Rattle.kt_boot.proofs.laws.commit_law.Goals as goal
-
-pub returns : goal.returns
-returns c = commit_changes_nothing

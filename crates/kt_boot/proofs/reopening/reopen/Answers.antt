@@ -1,0 +1,32 @@
+use Rattle.std.proofs.Common.{[], sym, ap, ◌∙◌, arith, Ok, Err}
+use Rattle.kt_histlaws.specs.Histories.{Store}
+use Rattle.kt_schema.specs.Columns.{fill_of}
+use Rattle.kt_memrowset.specs.Stores.{store_of, number_of}
+use Rattle.kt_loglaws.specs.Replay.{gate_of}
+use Rattle.kt_boot.specs.Rebuilding.{owed_by}
+use Rattle.kt_boot.proofs.ReopenedLogs.{reopened, reopened_log, reopened_late, at_least_one, still, still_shows}
+use Rattle.kt_boot.proofs.reopening.reopen.Goals as goal
+
+pub returns-in-Ok-clause-found : goal.returns-in-Ok-clause-found
+returns-in-Ok-clause-found c =
+    let records = c.args.records.now in
+    let number = number_of c.rebuild.new.mem in
+    let same = still_shows c.rebuild.new.mem c.rebuild.new.pool c.release.new.self _ c.release.ensures c.in-Ok.ensures.stands.0 in
+    reopened (fill_of c.args.schema.now) records c.requires (let le = c.if-last-ge-LAST_MOST.false in let e = c.last_of-last.ensures in omega arith) (store_of c.rebuild.new.mem c.release.new.self) c.last_of-last.result number c.in-Ok.queued c.last_of-last.ensures
+    (at_least_one records number (c.in-Ok.ensures.number ∙ c.new-mem.ensures.number ∙ c.mem_number.ensures))
+    (c.in-Ok.ensures.store ∙ ap (λ (s : Store). Ok s) (sym same)) (c.in-Ok.ensures.owed ∙ ap (λ n. owed_by n records [] records) (sym c.in-Ok.ensures.number))
+
+pub returns-in-Ok-clause-stands : goal.returns-in-Ok-clause-stands
+returns-in-Ok-clause-stands c = (still c.rebuild.new.mem c.rebuild.new.pool c.release.new.self _ c.release.ensures c.in-Ok.ensures.stands.0, c.in-Ok.ensures.stands.1)
+
+pub returns-in-Ok-clause-log : goal.returns-in-Ok-clause-log
+returns-in-Ok-clause-log c =
+    let records = c.args.records.now in
+    let number = number_of c.new-mem.result in
+    reopened_log (fill_of c.args.schema.now) records c.requires (let le = c.if-last-ge-LAST_MOST.false in let e = c.last_of-last.ensures in omega arith) (store_of c.rebuild.new.mem c.rebuild.new.pool) number c.in-Ok.queued
+    (let e = c.new-mem.ensures.number in omega arith) c.in-Ok.ensures.store c.in-Ok.ensures.owed
+
+pub returns-in-Err-Late-clause-refused : goal.returns-in-Err-Late-clause-refused
+returns-in-Err-Late-clause-refused c other =
+    reopened_late (fill_of c.args.schema.now) c.args.records.now c.requires (let le = c.if-last-ge-LAST_MOST.false in let e = c.last_of-last.ensures in omega arith) c.in-Err-Late.ts c.in_ok-gate_of-in-Err-Late.field-0
+    (c.in-Err-Late.ensures.late c.in-Err-Late.ts (ap (λ no. Err no) c.in-Err-Late.field-0-is)) (c.in_ok-gate_of-in-Err-Late.ensures ∙ ap (λ t. gate_of t c.args.records.now) c.in-Err-Late.ts-is)
