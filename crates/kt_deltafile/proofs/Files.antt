@@ -12,7 +12,7 @@ use Rattle.kt_history.specs.declared.changes.Delta.{Delta}
 use Rattle.kt_records.specs.declared.refusal.CodecNo.{CodecNo}
 use Rattle.kt_records.specs.Spelling.{listed_cell, cell_list}
 use Rattle.kt_records.specs.Rules.{FollowingCell}
-use Rattle.kt_records.specs.Reading.{◌>>=◌, number_at, listed_cell_at, many_at}
+use Rattle.kt_records.specs.Reading.{◌>>=◌, number_at, listed_cell_at, many_at, cells_at}
 use Rattle.kt_records.proofs.Taken.{IsBytes, IsBytes-rest, bind_ok, allowed, ok_is, Took, took_as, joined, wide16, wide32, wide64, number_takes, number_again}
 use Rattle.kt_records.proofs.Items.{all_take, all_again}
 use Rattle.kt_records.proofs.Cells.{listed_cell_takes, listed_cell_again}
@@ -22,7 +22,7 @@ use Rattle.kt_deltafile.specs.File.{FileView}
 use Rattle.kt_deltafile.specs.Order.{may_come, may_follow}
 use Rattle.kt_deltafile.specs.Rules.{may_insert, CellsFit, ChangeFits, Follows, FileFits}
 use Rattle.kt_deltafile.specs.Spelling.{way_byte, change_bytes, record_bytes, ktd1, spelling}
-use Rattle.kt_deltafile.specs.Reading.{cells_at, change_at, record_at, way_at, body_at, whole_at, with_offset, file_of, Answers}
+use Rattle.kt_deltafile.specs.Reading.{change_at, record_at, way_at, body_at, whole_at, with_offset, file_of, Answers}
 
 -- ---- cells
 

@@ -1,26 +1,19 @@
 -- Reading a delta file from left to right. A fault is told by how many bytes stand from its place to the end:
 -- none where bytes are missing, and all from its first byte on where a field is wrong.
 use Rattle.std.specs.Prelude.{◌≡◌, ℕ, zero, suc, ◌-◌, List, [], ◌∷◌, length, Result, Ok, Err, ◌==◌, if◌then◌else◌}
-use Rattle.std.specs.Int.{w16, w32, w64}
-use Rattle.kt_base.specs.declared.cell.Cell.{Cell}
+use Rattle.std.specs.Int.{w32, w64}
 use Rattle.kt_history.specs.declared.change.Change.{Change}
 use Rattle.kt_history.specs.declared.change.Change.TheVariants.{Ins, Upd, Del}
 use Rattle.kt_history.specs.declared.changes.Delta.{Delta}
 use Rattle.kt_records.specs.declared.refusal.CodecNo.{CodecNo}
 use Rattle.kt_records.specs.declared.refusal.CodecNo.TheVariants as no
-use Rattle.kt_records.specs.Reading.{◌>>=◌, number_at, listed_cell_at, many_at}
+use Rattle.kt_records.specs.Reading.{◌>>=◌, number_at, cells_at, many_at}
 use Rattle.kt_deltafile.specs.declared.file.Way.{Way}
 use Rattle.kt_deltafile.specs.declared.file.Way.TheVariants.{Redo, Undo}
 use Rattle.kt_deltafile.specs.File.{FileView}
 use Rattle.kt_deltafile.specs.Order.{may_come, may_follow}
 use Rattle.kt_deltafile.specs.Rules.{may_insert}
 use Rattle.kt_deltafile.specs.Spelling.{ktd1}
-
--- cells by rising id behind their count
-unfoldable pub cells_at : List ℕ → Result (List (ℕ × Cell) × List ℕ) ℕ
-cells_at bytes = do
-  n ← number_at w16 bytes
-  many_at listed_cell_at n.0 [] n.1
 
 -- a change that a record of this way may be
 unfoldable pub change_at : Way → List ℕ → Result (Change × List ℕ) ℕ

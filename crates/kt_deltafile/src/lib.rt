@@ -8,7 +8,6 @@
 #![tactic(auto)]
 
 mod cells;
-mod fields;
 mod file;
 pub mod laws;
 mod reading;

@@ -8,11 +8,11 @@ ghost use Rattle.kt_deltafile.specs.Rules.{may_insert, FileFits};
 ghost use Rattle.kt_deltafile.specs.Spelling.{spelling};
 ghost use Rattle.kt_deltafile.specs.Reading.{change_at, record_at, way_at, body_at, whole_at, file_of, Answers};
 
-use crate::cells::cells_of;
-use crate::fields::{u32_of, u64_of};
 use crate::file::{DeltaFile, Way};
 use kt_history::{Change, Delta, DeltaList};
 use kt_records::CodecNo;
+use kt_records::cell_lists::cells_of;
+use kt_records::fields::{u32_of, u64_of};
 use kt_records::refusal::Stop;
 use std::alloc::Global;
 

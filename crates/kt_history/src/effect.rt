@@ -36,8 +36,8 @@ fn place_of_cell(cells: &[(u16, Cell)], id: u16) -> Result<usize, usize>
     Err(cells.len())
 }
 
-// Sets the cell of a column, in its place.
-fn put_cell(cells: &mut Vec<(u16, Cell)>, id: u16, cell: Cell) -> Result<(), NoMemory>
+/// Sets the cell of a column, in its place among cells by rising id. It can fail only for want of memory, and the cells are as before then.
+pub fn put_cell(cells: &mut Vec<(u16, Cell)>, id: u16, cell: Cell) -> Result<(), NoMemory>
     ensures { OnOk result (cells.new.items ≡ put nat_cmp id cell cells.old.items) }
 {
     match place_of_cell(cells, id) {
@@ -52,11 +52,11 @@ fn put_cell(cells: &mut Vec<(u16, Cell)>, id: u16, cell: Cell) -> Result<(), NoM
     }
 }
 
-// The row with these cells, in place of its own where it has them.
-fn with_cells(row: &Cells, cells: &[(u16, Cell)]) -> Result<Cells, NoMemory>
-    ensures { IfOk result (λ new. new ≡ with_cells cells.now row.now) }
+/// The row with these cells, in place of its own where it has them.
+pub fn with_cells(row: Cells, cells: &[(u16, Cell)]) -> Result<Cells, NoMemory>
+    ensures { IfOk result (λ new. new ≡ with_cells cells.now row) }
 {
-    let mut new = row.copy()?.into_vec();
+    let mut new = row.into_vec();
     let mut at = cells.len();
     'cells: while at > 0 {
         at -= 1;
@@ -72,7 +72,7 @@ pub fn apply(change: &Change, row: &mut Option<Cells>) -> Result<(), NoMemory>
 {
     let next = match (change, &*row) {
         (Change::Ins(cells), None) => Some(cells.copy()?),
-        (Change::Upd(cells), Some(old)) => Some(with_cells(old, cells.as_slice())?),
+        (Change::Upd(cells), Some(old)) => Some(with_cells(old.copy()?, cells.as_slice())?),
         (Change::Del, _) => None,
         _ => return Ok(()),
     };

@@ -19,7 +19,7 @@ pub mod view;
 pub use change::{Change, Outcome};
 pub use changes::{ChangeList, Delta, DeltaList, KeyChange};
 pub use command::{Command, Plan, Session};
-pub use effect::{apply, outcome, undo_of};
+pub use effect::{apply, outcome, put_cell, undo_of, with_cells};
 pub use event::{Event, EventList};
 pub use operation::{OpKind, OpList, RowOp, Write};
 pub use reply::{OutcomeList, Reply, RowList};

@@ -15,14 +15,14 @@ use Rattle.std.proofs.lemmas.List.Concat.{flat_map-cons}
 use Rattle.std.proofs.lemmas.List.Sums.{sum_by-cons}
 use Rattle.kt_records.specs.Spelling.{cell, listed_cell, cell_list}
 use Rattle.kt_records.specs.Rules.{FollowingCell}
-use Rattle.kt_records.specs.Reading.{listed_cell_at}
+use Rattle.kt_records.specs.Reading.{listed_cell_at, cells_at}
 use Rattle.kt_records.proofs.Taken.{wide16, number_again}
 use Rattle.kt_records.proofs.Cells.{listed_cell_again}
 use Rattle.kt_records.proofs.Items.{all_again}
 use Rattle.kt_pool.specs.Contents.{Contents, bytes_at, overwritten}
 use Rattle.kt_tree.proofs.Places.{bytes_some}
 use Rattle.kt_memrowset.specs.declared.link.Head.{Head}
-use Rattle.kt_memrowset.specs.Links.{kind_byte, kind_of, Link, head_of, cells_at, cells_read, link_at, body, spelling, CellsFit, HeadFits, IsLink}
+use Rattle.kt_memrowset.specs.Links.{kind_byte, kind_of, Link, head_of, cells_read, link_at, body, spelling, CellsFit, HeadFits, IsLink}
 
 kind_again : (k : Kindly) → kind_of (kind_byte k) ≡ k
 kind_again Ins = refl

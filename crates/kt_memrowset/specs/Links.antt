@@ -1,6 +1,5 @@
 -- Changes in places of a pool, and the chains that they make.
 use Rattle.std.specs.Prelude.{◌≡◌, ℕ, zero, suc, ◌+◌, ◌^◌, ◌<◌, ◌≤◌, ◌==◌, cond, List, [], ◌∷◌, ◌++◌, map, length, drop, slice_index, Some, Result, Ok, Err}
-use Rattle.std.specs.Int.{w16}
 use Rattle.byteorder.specs.Endian.{little_number, little_bytes}
 use Rattle.kt_history.specs.declared.change.Change.{Change}
 use Rattle.kt_history.specs.declared.change.Change.TheVariants as change
@@ -10,7 +9,7 @@ use Rattle.kt_history.specs.Rows.{Row}
 use Rattle.kt_histlaws.specs.Histories.{Steps}
 use Rattle.kt_records.specs.Spelling.{cell_list}
 use Rattle.kt_records.specs.Rules.{EachAfter, FollowingCell}
-use Rattle.kt_records.specs.Reading.{◌>>=◌, number_at, listed_cell_at, many_at}
+use Rattle.kt_records.specs.Reading.{cells_at}
 use Rattle.kt_pool.specs.Contents.{Contents, at_cell, bytes_at}
 use Rattle.kt_memrowset.specs.declared.link.Head.{Head}
 
@@ -51,12 +50,6 @@ head_of bytes = record {
   ts = little_number 8 (drop 12 bytes);
   kind = kind_of (slice_index bytes 20);
 }
-
--- cells by rising id behind their count
-unfoldable pub cells_at : List ℕ → Result (Row × List ℕ) ℕ
-cells_at bytes = do
-  n ← number_at w16 bytes
-  many_at listed_cell_at n.0 [] n.1
 
 abbrev pub cells_read : Result (Row × List ℕ) ℕ → Row
 cells_read (Ok x) = x.0

@@ -9,7 +9,6 @@
 pub mod chain;
 pub mod laws;
 pub mod link;
-pub mod read;
 pub mod store;
 #[cfg(test)]
 mod tests;

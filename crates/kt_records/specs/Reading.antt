@@ -79,6 +79,12 @@ many_at item (suc n) front bytes = do
   x ← item front bytes
   many_at item n (front ++ x.0 ∷ []) x.1
 
+-- cells by rising id behind their count
+unfoldable pub cells_at : List ℕ → Result (List (ℕ × Cell) × List ℕ) ℕ
+cells_at bytes = do
+  n ← number_at w16 bytes
+  many_at listed_cell_at n.0 [] n.1
+
 -- the cells of an operation of this kind
 unfoldable pub cell_list_at : OpKind → List ℕ → Result (List (ℕ × Cell) × List ℕ) ℕ
 cell_list_at kind bytes = do

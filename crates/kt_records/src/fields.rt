@@ -1,4 +1,7 @@
 //! Fields of fixed length, cells and keys, read from the front of some bytes.
+//!
+//! Each function gives the field and the bytes after it, or `Stop::Left` with how many bytes stand from the fault to the
+//! end: none where bytes are missing, and all from the field's first byte on where the field is wrong.
 ghost use Rattle.std.specs.Prelude.{◌≡◌, ◌==◌};
 ghost use Rattle.std.specs.Int.{w16, w32, w64};
 ghost use Rattle.kt_records.specs.Rules.{has_key};
@@ -9,6 +12,7 @@ use kt_base::{Cell, Octets};
 use kt_history::{OpKind, Outcome, RowOp, Target};
 use std::alloc::Global;
 
+/// A number of 16 bits, its least byte first.
 pub fn u16_of(bytes: &[u8]) -> Result<(u16, &[u8]), Stop>
     ensures { Gives (λ x. (x.0, x.1.now)) result (number_at w16 bytes.now) }
 {
@@ -19,6 +23,7 @@ pub fn u16_of(bytes: &[u8]) -> Result<(u16, &[u8]), Stop>
     Ok((u16::from_le_bytes([front[0], front[1]]), rest))
 }
 
+/// A number of 32 bits, its least byte first.
 pub fn u32_of(bytes: &[u8]) -> Result<(u32, &[u8]), Stop>
     ensures { Gives (λ x. (x.0, x.1.now)) result (number_at w32 bytes.now) }
 {
@@ -30,6 +35,7 @@ pub fn u32_of(bytes: &[u8]) -> Result<(u32, &[u8]), Stop>
     Ok((number, rest))
 }
 
+/// A number of 64 bits, its least byte first.
 pub fn u64_of(bytes: &[u8]) -> Result<(u64, &[u8]), Stop>
     ensures { Gives (λ x. (x.0, x.1.now)) result (number_at w64 bytes.now) }
 {
@@ -68,6 +74,7 @@ fn flag_of(bytes: &[u8]) -> Result<(bool, &[u8]), Stop>
     }
 }
 
+/// A cell: the byte of its kind, and its value.
 #[tactic(auto, unfolding(crate::specs::Reading::cell_at))]
 pub fn cell_of(alloc: Global, bytes: &[u8]) -> Result<(Cell, &[u8]), Stop>
     ensures { Gives (λ x. (x.0, x.1.now)) result (cell_at bytes.now) }
@@ -91,6 +98,7 @@ pub fn cell_of(alloc: Global, bytes: &[u8]) -> Result<(Cell, &[u8]), Stop>
     }
 }
 
+/// The byte of an operation's kind.
 #[tactic(auto, unfolding(crate::specs::Reading::kind_at))]
 pub fn kind_of(bytes: &[u8]) -> Result<(OpKind, &[u8]), Stop>
     ensures { Gives (λ x. (x.0, x.1.now)) result (kind_at bytes.now) }
@@ -111,6 +119,7 @@ fn is_taken(ops: &[RowOp], key: &[u8]) -> bool
     ops.iter().any(|op| op.key.as_slice().cmp(&key).is_eq())
 }
 
+/// A key behind its length, which none of the operations in front has.
 #[tactic(auto, unfolding(crate::specs::Reading::new_key_at))]
 pub fn new_key_of<'a>(
     alloc: Global,
@@ -131,6 +140,7 @@ pub fn new_key_of<'a>(
     Ok((Octets::from_slice(alloc, key)?, after))
 }
 
+/// The byte of an outcome.
 #[tactic(auto, unfolding(crate::specs::Reading::outcome_at))]
 pub fn outcome_of(bytes: &[u8]) -> Result<(Outcome, &[u8]), Stop>
     ensures { Gives (λ x. (x.0, x.1.now)) result (outcome_at bytes.now) }
@@ -144,6 +154,7 @@ pub fn outcome_of(bytes: &[u8]) -> Result<(Outcome, &[u8]), Stop>
     }
 }
 
+/// A store that a change went to.
 #[tactic(auto, unfolding(crate::specs::Reading::target_at))]
 pub fn target_of(bytes: &[u8]) -> Result<(Target, &[u8]), Stop>
     ensures { Gives (λ x. (x.0, x.1.now)) result (target_at bytes.now) }

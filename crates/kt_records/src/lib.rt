@@ -5,8 +5,9 @@
 //! where its bytes are that spelling, or the place of the first fault. It stands on kt_base and kt_history.
 #![tactic(auto)]
 
+pub mod cell_lists;
 pub mod entry;
-mod fields;
+pub mod fields;
 pub mod laws;
 mod lists;
 mod reading;

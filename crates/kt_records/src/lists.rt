@@ -1,52 +1,15 @@
 //! Lists behind their counts, read from the front of some bytes.
 ghost use Rattle.std.specs.Prelude.{◌≡◌, ◌<◌, ◌^◌, ◌+◌, [], length};
-ghost use Rattle.kt_records.specs.Rules.{next_id, may_list, may_change, may_hold};
-ghost use Rattle.kt_records.specs.Reading.{Gives, listed_cell_at, cell_list_at, operation_at, target_at, target_list_at, commit_row_at, many_at};
+ghost use Rattle.kt_records.specs.Rules.{may_list, may_change, may_hold};
+ghost use Rattle.kt_records.specs.Reading.{Gives, cell_list_at, operation_at, target_at, target_list_at, commit_row_at, many_at};
 
+use crate::cell_lists::counted_cells_of;
 use crate::entry::{CommitRow, TargetList};
-use crate::fields::{cell_of, kind_of, new_key_of, outcome_of, target_of, u16_of};
+use crate::fields::{kind_of, new_key_of, outcome_of, target_of, u16_of};
 use crate::refusal::Stop;
-use kt_base::{Cell, Cells};
+use kt_base::Cells;
 use kt_history::{OpKind, Outcome, RowOp};
 use std::alloc::Global;
-
-fn least_id(cells: &[(u16, Cell)]) -> u32
-    ensures { result ≡ next_id cells.now }
-{
-    match cells {
-        [] => 0,
-        [.., (id, _)] => u32::from(*id) + 1,
-    }
-}
-
-#[tactic(auto, unfolding(crate::specs::Reading::listed_cell_at))]
-fn listed_cell_of<'a>(
-    alloc: Global,
-    front: &[(u16, Cell)],
-    bytes: &'a [u8],
-) -> Result<((u16, Cell), &'a [u8]), Stop>
-    ensures { Gives (λ x. ((x.0.0, x.0.1), x.1.now)) result (listed_cell_at front.now bytes.now) }
-{
-    let (id, rest) = u16_of(bytes)?;
-    if u32::from(id) < least_id(front) {
-        return Err(Stop::Left(bytes.len()));
-    }
-    let (cell, rest) = cell_of(alloc, rest)?;
-    Ok(((id, cell), rest))
-}
-
-fn cells_of(alloc: Global, count: u16, bytes: &[u8]) -> Result<(Vec<(u16, Cell)>, &[u8]), Stop>
-    ensures { Gives (λ x. (x.0.items, x.1.now)) result (many_at listed_cell_at count [] bytes.now) }
-{
-    let mut cells = Vec::new(alloc);
-    let mut rest = bytes;
-    'cells: for _ in 0..count {
-        let (cell, after) = listed_cell_of(alloc, &cells, rest)?;
-        cells.push(cell)?;
-        rest = after;
-    }
-    Ok((cells, rest))
-}
 
 fn lists(kind: OpKind, count: u16) -> bool
     ensures { result ≡ may_list kind count }
@@ -65,7 +28,7 @@ fn cell_list_of(alloc: Global, kind: OpKind, bytes: &[u8]) -> Result<(Cells, &[u
     if !lists(kind, count) {
         return Err(Stop::Left(bytes.len()));
     }
-    let (cells, rest) = cells_of(alloc, count, rest)?;
+    let (cells, rest) = counted_cells_of(alloc, count, rest)?;
     Ok((Cells::of(cells), rest))
 }
 

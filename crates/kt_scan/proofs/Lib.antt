@@ -1,5 +1,4 @@
 pub mod KeyOrder
-pub mod KeyReads
 pub mod KeyTexts
 pub mod KeyWidths
 pub mod RowLines

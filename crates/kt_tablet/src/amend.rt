@@ -7,50 +7,7 @@ ghost use Rattle.kt_history.specs.Rows.{with_cells, apply};
 ghost use Rattle.kt_tablet.specs.Filling.{filled_change};
 
 use kt_base::{Cell, Cells, NoMemory};
-use kt_history::Change;
-use std::cmp::Ordering;
-
-fn place_of_cell(cells: &[(u16, Cell)], id: u16) -> Result<usize, usize>
-    ensures { result ≡ place_of nat_cmp id cells.now }
-{
-    for (at, cell) in cells.iter().enumerate() {
-        match id.cmp(&cell.0) {
-            Ordering::Less => return Err(at),
-            Ordering::Equal => return Ok(at),
-            Ordering::Greater => {}
-        }
-    }
-    Err(cells.len())
-}
-
-// Sets the cell of a column, in its place.
-fn put_cell(cells: &mut Vec<(u16, Cell)>, id: u16, cell: Cell) -> Result<(), NoMemory>
-    ensures { OnOk result (cells.new.items ≡ put nat_cmp id cell cells.old.items) }
-{
-    match place_of_cell(cells, id) {
-        Ok(at) => {
-            cells[at].1 = cell;
-            Ok(())
-        }
-        Err(at) => {
-            cells.insert(at, (id, cell))?;
-            Ok(())
-        }
-    }
-}
-
-// The row with these cells, in place of its own where it has them.
-fn with_cells(row: Cells, cells: &[(u16, Cell)]) -> Result<Cells, NoMemory>
-    ensures { IfOk result (λ new. new ≡ with_cells cells.now row) }
-{
-    let mut new = row.into_vec();
-    let mut at = cells.len();
-    'cells: while at > 0 {
-        at -= 1;
-        put_cell(&mut new, cells[at].0, cells[at].1.copy()?)?;
-    }
-    Ok(Cells::of(new))
-}
+use kt_history::{Change, with_cells};
 
 /// The row after a change of a store, which says of an insert only what it names. The rest of that is of the fill.
 pub fn amend(row: Option<Cells>, fill: &Cells, change: &Change) -> Result<Option<Cells>, NoMemory>

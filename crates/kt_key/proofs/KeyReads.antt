@@ -16,7 +16,7 @@ use Rattle.kt_key.proofs.Numbers.{raised-lt}
 use Rattle.kt_key.proofs.Orders.{KeyCell, a_number, a_text}
 use Rattle.kt_key.proofs.Kept.{first_cell as key_cell_of}
 use Rattle.kt_key.proofs.Steps.{is_key_more}
-use Rattle.kt_scan.specs.Encoded.{keys_are_read}
+use Rattle.kt_key.specs.Reading.{Spells}
 
 -- ---- texts
 
@@ -89,5 +89,6 @@ cells_again (k ∷ next ∷ kinds) (c ∷ cells) h =
     ∙ ap (λ bytes. c ∷ key_cells (next ∷ kinds) bytes) a.1
     ∙ ap (λ xs. c ∷ xs) (cells_again (next ∷ kinds) cells (is_key_more k (next ∷ kinds) c cells h).1)
 
-pub keys-are-read : keys_are_read
-keys-are-read kinds cells bytes spells = ap (key_cells kinds) (sym spells.spelled) ∙ cells_again kinds cells spells.key
+-- what key cells are spelled as, they are read from
+pub keys_again : (kinds : List Kind) (cells : List Cell) (bytes : List ℕ) → Spells kinds cells bytes → key_cells kinds bytes ≡ cells
+keys_again kinds cells bytes spells = ap (key_cells kinds) (sym spells.spelled) ∙ cells_again kinds cells spells.key

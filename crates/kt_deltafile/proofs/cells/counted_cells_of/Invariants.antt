@@ -1,6 +1,0 @@
-use Rattle.std.proofs.Common.{◌≡◌, ◌-◌, []}
-use Rattle.kt_records.specs.Reading.{many_at, listed_cell_at}
-use Rattle.kt_deltafile.proofs.cells.counted_cells_of.Given as goal
-
-abbrev pub invariant-cells : goal.invariant-cells
-invariant-cells l = many_at listed_cell_at (l.count - l.counter) l.cells.items l.rest ≡ many_at listed_cell_at l.count [] l.bytes
