@@ -10,7 +10,7 @@ is_built() {
 if ! is_built; then
     echo 'kt: proving and building the program, which takes a few minutes the first time' >&2
     log=$(mktemp) || exit 70
-    if ! (cd "$top" && rt run kt_main -- memory run) <"$top/crates/kt_main/stdin" >"$log" 2>&1; then
+    if ! (cd "$top/crates/kt_main" && rt run -- memory run) <"$top/crates/kt_main/stdin" >"$log" 2>&1; then
         cat "$log" >&2
         rm -f "$log"
         exit 70

@@ -1,4 +1,4 @@
--- Commands that keep to the rules of a table whose columns are counted: their records have a frame.
+-- Writes that keep to the rules of a table whose columns are counted.
 use Rattle.std.proofs.Common.{◌≡◌, ℕ, suc, ◌+◌, ◌*◌, ◌^◌, ◌<◌, ◌≤◌, List, [], ◌∷◌, ◌++◌, refl, true, false, Bool, ◌&&◌, ◌||◌, cond, sym, ap, ◌∙◌, subst, arith, length, map, length-append}
 use Rattle.std.specs.Prelude.{not, nat_lt, ◌==◌, FitsSigned, ℤ, pos, negsuc}
 use Rattle.std.specs.List.{list_any, filter, sum_by, flat_map, AllByRecursion}
@@ -24,12 +24,11 @@ use Rattle.kt_history.specs.declared.operation.OpKind.{OpKind}
 use Rattle.kt_history.specs.declared.operation.OpKind.TheVariants as op
 use Rattle.kt_history.specs.declared.operation.RowOp.{RowOp}
 use Rattle.kt_history.specs.Rows.{key_cmp}
+use Rattle.kt_engine.specs.Logged.{IsShort}
 use Rattle.kt_history.specs.Operations.{cell_len, op_len, DifferentKeys}
-use Rattle.kt_records.specs.declared.entry.Entry.TheVariants.{Replicate}
 use Rattle.kt_records.specs.Rules.{EachAfter, CellFits, FollowingCell, next_id, FollowingOp, may_list, may_hold, has_key}
 use Rattle.kt_records.specs.Spelling.{operation}
 use Rattle.kt_records.proofs.Lengths.{length-operation}
-use Rattle.kt_journal.specs.Order.{IsFramed}
 use Rattle.kt_script.specs.Columns.{counts_from}
 use Rattle.kt_script.specs.Writes.{twice}
 use Rattle.kt_script.specs.Fit.{fits_column, is_part, cells_fit, OpFits, WriteFits}
@@ -199,7 +198,7 @@ none_cells (x ∷ cells) h = absurd (let zero_len : suc (length cells) ≡ 0 = g
 is_some_part : (others : List Column) (k : OpKind) (cells : List (ℕ × Cell)) → cells_fit others k cells ≡ true → is_part others cells ≡ true
 is_some_part others op.Insert cells h = left _ _ h
 is_some_part others op.Upsert cells h = left _ _ h
-is_some_part others op.Update cells h = h
+is_some_part others op.Update cells h = left _ _ h
 is_some_part others op.Delete cells h = let none = none_cells cells h in rw none refl
 
 may : (others : List Column) (k : OpKind) (cells : List (ℕ × Cell)) → cells_fit others k cells ≡ true → may_list k (length cells) ≡ true
@@ -239,9 +238,12 @@ module _ (columns : List Column) (counted : IsCounted columns) where
   held : (n : ℕ) → 1 ≤ n → n ≤ 64 → may_hold n ≡ true
   held n low high = grind (arith, nat_tests)
 
-  -- its REPLICATE has a frame
-  pub replicate_framed : (ops : List RowOp) (ts : ℕ) → WriteFits columns ops → ts < 2 ^ 64 → IsFramed (Replicate ts ops)
-  replicate_framed ops ts fits low = record {
-    keeps = record { ts = low; count = held (length ops) fits.some fits.few; ops = ops_follow [] ops (all_new ops) (differ ops fits.apart) fits.each };
-    short = omega (arith, ops_short ops fits.each, fits.few);
-  }
+  -- what a write has to keep, for a record of it
+  pub rules : (ops : List RowOp) → WriteFits columns ops → EachAfter FollowingOp [] ops
+  rules ops fits = ops_follow [] ops (all_new ops) (differ ops fits.apart) fits.each
+
+  pub count : (ops : List RowOp) → WriteFits columns ops → may_hold (length ops) ≡ true
+  count ops fits = held (length ops) fits.some fits.few
+
+  pub is_short : (ops : List RowOp) → WriteFits columns ops → IsShort ops
+  is_short ops fits ts = omega (arith, ops_short ops fits.each, fits.few)

@@ -1,24 +1,10 @@
--- What a scan of the present shows, and the kinds of its columns.
-use Rattle.std.proofs.Common.{◌≡◌, ℕ, ◌^◌, ◌<◌, List, [], ◌∷◌, ◌++◌, Some, None, refl, ap, arith, length, map, cond, true, false}
+-- The kinds of the columns that a scan shows.
+use Rattle.std.proofs.Common.{◌≡◌, ℕ, List, [], ◌∷◌, ◌++◌, Some, None, refl, ap, map, cond, true, false}
 use Rattle.std.specs.Prelude.{unwrap_or}
 use Rattle.std.specs.Ordering.{nat_cmp, eq_by_cmp}
 use Rattle.std.specs.FinMap.Entries.{find}
-use Rattle.std.proofs.lemmas.List.Elements.{All-from_recursion}
 use Rattle.kt_base.specs.declared.cell.Kind.{Kind}
-use Rattle.kt_base.specs.declared.cell.Cell.{Cell}
-use Rattle.kt_history.specs.declared.command.Command.TheVariants as command
-use Rattle.kt_history.specs.declared.scan.Scan.{Scan}
-use Rattle.kt_history.specs.Rows.{Rows}
-use Rattle.kt_history.specs.Replies.{shown}
 use Rattle.kt_schema.specs.declared.column.Column.{Column}
-use Rattle.kt_script.specs.Laws.{Fits64, ReplyFits}
-use Rattle.kt_app.specs.Session.{on_table, turn_shown}
-
--- a reply whose count fits
-pub scan_fits : (columns : List Column) (scan : Scan) (rows : Rows) (listed : List (List Cell)) → listed ≡ shown (on_table columns).keys scan rows → length listed < 2 ^ 64 → (t s : ℕ) → t ≡ s → t < 2 ^ 64 → ReplyFits (turn_shown (on_table columns) (command.Scan scan) rows s)
-scan_fits columns scan rows listed same few t s is fits =
-    let count : Fits64 (length (shown (on_table columns).keys scan rows)) = omega (arith, ap length same, few) in
-    All-from_recursion Fits64 (s ∷ length (shown (on_table columns).keys scan rows) ∷ []) (omega (arith, is, fits), (count, tt))
 
 same_kinds : (columns : List Column) → map (λ c. c.kind) columns ≡ map (λ (k : ℕ × Kind). k.1) (map (λ c. (c.id, c.kind)) columns)
 same_kinds [] = refl

@@ -1,11 +1,9 @@
 -- A run over a log, what a crash leaves of it, and the texts of the statuses.
-use Rattle.std.specs.Prelude.{◌≡◌, ℕ, ◌≤◌, Bool, true, false, IsTrue, max, List, [], ◌∷◌, Option, Some, IfSome, Result, Ok, Err, codes}
+use Rattle.std.specs.Prelude.{◌≡◌, ℕ, ◌≤◌, Bool, true, false, IsTrue, max, List, [], ◌∷◌, Option, Some, IfSome, Result, Ok, codes}
 use Rattle.std.specs.List.{sum_by}
 use Rattle.std.specs.Fmt.{decimal}
 use Rattle.kt_base.specs.Causes.{Grows}
 use Rattle.kt_disk.specs.Disk.{Files}
-use Rattle.kt_records.specs.declared.entry.Entry.{Entry}
-use Rattle.kt_journal.specs.Log.{log_of}
 use Rattle.kt_history.specs.declared.command.Command.{Command}
 use Rattle.kt_history.specs.declared.command.Command.TheVariants as command
 use Rattle.kt_history.specs.declared.event.Event.{Event}
@@ -16,24 +14,15 @@ use Rattle.kt_history.specs.Machine.{Workload}
 use Rattle.kt_history.specs.Replies.{past_after}
 use Rattle.kt_script.specs.Scripts.{Said, Fault, script_of, fault_of, workload}
 use Rattle.kt_script.specs.Texts.{line, words}
-use Rattle.kt_boot.specs.Opening.{Found, content, found_or_late, HasContentOf}
-use Rattle.kt_loglaws.specs.Replay.{replay, empty}
-use Rattle.kt_boot.specs.declared.refusal.PlainNo.{PlainNo}
-use Rattle.kt_boot.specs.declared.refusal.PlainNo.TheVariants as no
+use Rattle.kt_boot.specs.Opening.{Found, content, held_by, HasContentOf}
+use Rattle.kt_boot.specs.declared.opening.Why.{Why}
+use Rattle.kt_boot.specs.declared.opening.Why.TheVariants as no
 use Rattle.kt_app.specs.declared.top.SourceNo.{SourceNo}
 use Rattle.kt_app.specs.declared.top.SourceNo.TheVariants as why
 use Rattle.kt_app.specs.Headline.{IsOutput, upto, AcknowledgedBy}
 
--- what the records of a log hold, also where their last timestamp is too great for another run
-abbrev pub held_in : Row → Result (List Entry) ℕ → Result Found PlainNo
-held_in fill (Err offset) = Err (no.B3 offset)
-held_in fill (Ok records) = found_or_late records (replay fill records empty records)
-
-abbrev pub held_by : Row → Files → Result Found PlainNo
-held_by fill files = held_in fill (log_of files)
-
 -- An image holds the opening past with the first writes of the run, every acknowledged one among them.
-pub record HoldsPrefix (work : Workload) (past : Past) (c : ℕ) (events : List Event) (held : Result Found PlainNo) : Type 0 where
+pub record HoldsPrefix (work : Workload) (past : Past) (c : ℕ) (events : List Event) (held : Result Found Why) : Type 0 where
   pub t : ℕ
   pub after_opening : c ≤ t
   pub acknowledged : AcknowledgedBy t events
@@ -41,12 +30,12 @@ pub record HoldsPrefix (work : Workload) (past : Past) (c : ℕ) (events : List 
   pub holds : held ≡ Ok (record { past = upto t (past_after work past c events); last = last })
 
 -- It holds the opening past with all writes of the run.
-pub record HoldsAll (work : Workload) (past : Past) (c : ℕ) (events : List Event) (held : Result Found PlainNo) : Type 0 where
+pub record HoldsAll (work : Workload) (past : Past) (c : ℕ) (events : List Event) (held : Result Found Why) : Type 0 where
   pub last : ℕ
   pub holds : held ≡ Ok (record { past = past_after work past c events; last = last })
 
 -- what an image holds after a run that was stopped, or ran to its end
-abbrev pub HoldsOf : Bool → Workload → Past → ℕ → List Event → Result Found PlainNo → Type 0
+abbrev pub HoldsOf : Bool → Workload → Past → ℕ → List Event → Result Found Why → Type 0
 HoldsOf true = HoldsPrefix
 HoldsOf false = HoldsAll
 
@@ -104,14 +93,14 @@ abbrev pub fault_text : Fault → List ℕ
 fault_text fault = line (words (codes "script" ∷ codes "line" ∷ decimal fault.number ∷ codes "reason" ∷ decimal fault.reason ∷ []))
 
 -- the text of a refusal
-abbrev pub refusal_text : PlainNo → List ℕ
+abbrev pub refusal_text : Why → List ℕ
 refusal_text (no.B3 offset) = line (words (codes "refused" ∷ codes "B3" ∷ decimal offset ∷ []))
 refusal_text (no.B6 last) = line (words (codes "refused" ∷ codes "B6" ∷ decimal last ∷ []))
 refusal_text no.Fault = line (codes "stopped opening")
 refusal_text no.Memory = []
 
 -- the log's content is the reason
-abbrev pub IsRefusal : PlainNo → Type 0
+abbrev pub IsRefusal : Why → Type 0
 IsRefusal (no.B3 offset) = Unit {0}
 IsRefusal (no.B6 last) = Unit {0}
 IsRefusal no.Fault = ⊥

@@ -1,4 +1,3 @@
-pub mod Book
 pub mod Crash
 pub mod Headline
 pub mod Outside

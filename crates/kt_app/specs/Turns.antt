@@ -1,107 +1,147 @@
--- What a turn does to all that has happened so far.
-use Rattle.std.specs.Prelude.{◌≡◌, ◌⊎◌, ℕ, suc, ◌+◌, ◌^◌, ◌≤◌, Bool, IsTrue, List, [], ◌∷◌, ◌++◌, length, drop, Option, Some, slice_get}
-use Rattle.kt_base.specs.Causes.{Grows}
+-- Sessions in turns: where an engine stands between two commands, and what the replies so far tell.
+use Rattle.std.specs.Prelude.{◌≡◌, ◌<◌, ◌^◌, ℕ, ◌+◌, Bool, false, true, List, [], ◌∷◌, ◌++◌, length, map, min, nat_lt, slice_get, Option, Some, None, if◌then◌else◌}
+use Rattle.kt_records.specs.declared.entry.Entry.{Entry}
+use Rattle.kt_history.specs.declared.command.Command.{Command}
+use Rattle.kt_history.specs.declared.event.Event.{Event}
+use Rattle.kt_history.specs.declared.event.Event.TheVariants.{Stop}
+use Rattle.kt_history.specs.declared.operation.RowOp.{RowOp}
+use Rattle.kt_history.specs.declared.reply.Reply.{Reply}
+use Rattle.kt_script.specs.declared.output.LastLine.{LastLine}
+use Rattle.kt_script.specs.declared.output.LastLine.TheVariants.{Numbers, Stopped}
+use Rattle.kt_history.specs.History.{Past}
+use Rattle.kt_history.specs.Machine.{Workload, Turn, nth, set_nth, command_at, start}
+use Rattle.kt_history.specs.Replies.{told, is_of}
 use Rattle.kt_schema.specs.declared.column.Column.{Column}
 use Rattle.kt_schema.specs.Columns.{fill_of}
-use Rattle.kt_history.specs.declared.command.Command.{Command}
-use Rattle.kt_history.specs.declared.command.Command.TheVariants as command
-use Rattle.kt_history.specs.declared.event.Event.TheVariants as event
-use Rattle.kt_history.specs.declared.operation.RowOp.{RowOp}
-use Rattle.kt_history.specs.declared.reply.Reply.TheVariants as reply
-use Rattle.kt_history.specs.Rows.{Rows, changed}
-use Rattle.kt_history.specs.History.{Past}
-use Rattle.kt_history.specs.Operations.{changes_on, outcomes_on}
-use Rattle.kt_history.specs.Machine.{next_timestamp}
-use Rattle.kt_disk.specs.Disk.{Files}
-use Rattle.kt_records.specs.declared.entry.Entry.{Entry}
-use Rattle.kt_journal.specs.Log.{records_of}
-use Rattle.std.specs.List.{AllByRecursion}
-use Rattle.kt_script.specs.Laws.{Fits64, ReplyFits}
-use Rattle.kt_app.specs.declared.session.Progress.{Progress}
-use Rattle.kt_app.specs.Book.{Keeps, HoldsPast}
-use Rattle.kt_app.specs.Session.{on_table, turn_lines, turn_rows, turn_shown, turn_past, lines_from, replies_from, last_from, past_from, EndsAt}
+use Rattle.kt_histlaws.specs.Histories.{Store, or_else}
+use Rattle.kt_histlaws.specs.Core.{Core}
+use Rattle.kt_tablet.specs.Views.{work_of}
+use Rattle.kt_engine.specs.Engines.{EngineView, IsContent, core_from}
 
--- the command is answered, with the clock's reading m
-pub record TakesTurn (columns : List Column) (command : Command) (i m : ℕ) (old new : Progress) : Type 0 where
-  pub table : new.table ≡ turn_rows (on_table columns) command old.table
-  pub last : new.last ≡ next_timestamp old.last m
-  pub events : new.events.items ≡ old.events.items ++ turn_lines command old.last i m
-  pub replies : new.replies.items ≡ old.replies.items ++ turn_shown (on_table columns) command old.table (next_timestamp old.last m) ∷ []
-  pub fits : ReplyFits (turn_shown (on_table columns) command old.table (next_timestamp old.last m))
+-- what a run of its commands leaves as it is
+pub record Root (L D C : Type 0) : Type 0 where
+  pub work : Workload
+  pub opened : ℕ
+  pub opening : List Store
+  pub mark : ℕ
+  pub records : List Entry
+  pub began : C
+  pub device : L
+  pub store : D
 
--- the write has its `begin` line and nothing more
-pub record BeginsTurn (i m : ℕ) (old new : Progress) : Type 0 where
-  pub table : new.table ≡ old.table
-  pub last : new.last ≡ next_timestamp old.last m
-  pub events : new.events.items ≡ old.events.items ++ event.Begin 1 i (next_timestamp old.last m) m ∷ []
-  pub replies : new.replies.items ≡ old.replies.items
+abbrev pub root_of : {L D C : Type 0} → EngineView L D C → Root L D C
+root_of view = record {
+  work = view.tablet.core.work;
+  opened = view.tablet.core.opened;
+  opening = view.tablet.opening;
+  mark = view.tablet.mark;
+  records = view.records;
+  began = view.tablet.opened;
+  device = view.device;
+  store = view.store;
+}
 
--- After these readings of the clock: what is left goes on from here to all of it.
-pub record Begun (columns : List Column) (commands : List Command) (c : ℕ) (rows : Rows) (readings : List ℕ) (p : Progress) : Type 0 where
-  pub few : length readings ≤ length commands
-  pub small : AllByRecursion Fits64 readings
-  pub high : p.last ≤ 2 ^ 63 + length readings
-  pub last : p.last ≡ last_from c readings
-  pub events : (more : List ℕ) → p.events.items ++ lines_from (drop (length readings) commands) p.last (suc (length readings)) more ≡ lines_from commands c 1 (readings ++ more)
-  pub replies : (more : List ℕ) → p.replies.items ++ replies_from (on_table columns) (drop (length readings) commands) p.table p.last more ≡ replies_from (on_table columns) commands rows c (readings ++ more)
-  pub fits : AllByRecursion ReplyFits p.replies.items
+-- the workload is of a table of these columns
+abbrev pub IsOn : List Column → Workload → Type 0
+IsOn columns work = work ≡ work_of columns work.plan work.cells (fill_of columns)
 
--- the write at the last timestamp is applied and answered
-pub record EndsTurn (columns : List Column) (ops : List RowOp) (i : ℕ) (old new : Progress) : Type 0 where
-  pub table : new.table ≡ changed (changes_on (fill_of columns) old.table ops) old.table
-  pub last : new.last ≡ old.last
-  pub events : new.events.items ≡ old.events.items ++ event.End 1 i old.last ∷ []
-  pub replies : new.replies.items ≡ old.replies.items ++ record { kinds = []; reply = reply.At old.last (outcomes_on (fill_of columns) old.table ops) } ∷ []
+-- the reply that these lines tell for a command, behind what opening found
+abbrev pub told_in : Core → List Event → ℕ → ℕ → Option Reply
+told_in core lines s i = told core.work (start core.work core.first core.opened) lines s i
 
-abbrev pub IsWrite : Command → Type 0
-IsWrite (command.Write w) = Unit {0}
-IsWrite (command.Scan scan) = ⊥
-IsWrite (command.Mark t) = ⊥
-IsWrite (command.Chore chore) = ⊥
+-- the lines answer no command more than those of the engine
+abbrev pub AnswersNone : Core → List Event → Type 0
+AnswersNone core lines = (j k : ℕ) → told_in core lines j k ≡ told_in core core.trail j k
 
--- the log holds what the turn leaves, where it held what was before
-abbrev pub Books : {L : Type 0} → List Column → Bool → (L → Files) → L → L → List Entry → List Entry → Command → Progress → Progress → Type 0
-Books columns tells seen old new waits waiting x p q = IsTrue tells → (past : Past) → EndsAt past p.last p.table → Keeps (fill_of columns) (records_of (seen old)) waits past p.last
-    → Keeps (fill_of columns) (records_of (seen new)) waiting (turn_past (on_table columns) x past q.last) q.last
+-- the lines answer command i of session s with this reply where it had none, and no other more
+abbrev pub Answers : Core → List Event → ℕ → ℕ → Reply → Type 0
+Answers core lines s i reply = (j k : ℕ) → told_in core lines j k ≡ or_else (told_in core core.trail j k) (if is_of j k s i then Some reply else None)
 
--- a crash now leaves what was before, or what the turn leaves
-abbrev pub LeavesEither : {L : Type 0} → List Column → Bool → (L → Files) → (L → ℕ) → (L → ℕ → Files → Type 0) → L → L → List Entry → Command → Progress → Progress → Type 0
-LeavesEither columns tells seen now leaves old new waits x p q = IsTrue tells → (past : Past) → EndsAt past p.last p.table → Keeps (fill_of columns) (records_of (seen old)) waits past p.last
-    → (image : Files) → leaves new (now new) image → HoldsPast (fill_of columns) past image ⊎ HoldsPast (fill_of columns) (turn_past (on_table columns) x past q.last) image
+-- nothing flies, nothing has stopped it, and its log is at home
+pub record Rests {L D C : Type 0} (view : EngineView L D C) : Type 0 where
+  pub calm : view.tablet.core.aloft ≡ []
+  pub goes : view.tablet.core.stopped ≡ false
+  pub home : view.log.holder ≡ None
 
--- The first n commands were answered, each at a reading that the clock gave, and the log holds what they leave.
-pub record Answers {C L : Type 0} (columns : List Column) (told : C → Option (List ℕ)) (clock ticked : C) (tells : Bool) (seen : L → Files) (old new : L) (waits waiting : List Entry) (commands : List Command) (n : ℕ) (p q : Progress) : Type 0 where
-  pub readings : List ℕ
-  pub given : Grows (told clock) (told ticked) readings
-  pub count : length readings ≡ n
-  pub begun : Begun columns commands p.last p.table readings q
-  pub ends : (past : Past) → EndsAt past p.last p.table → EndsAt (past_from (on_table columns) commands past p.last readings) q.last q.table
-  pub kept : IsTrue tells → (past : Past) → EndsAt past p.last p.table → Keeps (fill_of columns) (records_of (seen old)) waits past p.last
-      → Keeps (fill_of columns) (records_of (seen new)) waiting (past_from (on_table columns) commands past p.last readings) q.last
+-- An engine in which nothing has happened yet.
+pub record IsFresh {L D C : Type 0} (view : EngineView L D C) : Type 0 where
+  pub lines : view.tablet.core.trail ≡ []
+  pub rests : Rests view
+  pub clock : view.tablet.clock ≡ view.tablet.opened
 
--- A device failed in the append of a write, after the commands before it were answered.
-pub record Breaks {C L : Type 0} (columns : List Column) (told : C → Option (List ℕ)) (clock ticked : C) (tells : Bool) (seen : L → Files) (now : L → ℕ) (leaves : L → ℕ → Files → Type 0) (old new : L) (waits : List Entry) (commands : List Command) (p q : Progress) : Type 0 where
-  pub done : List ℕ
-  pub m : ℕ
-  pub given : Grows (told clock) (told ticked) (done ++ m ∷ [])
-  pub fits : Fits64 m
-  pub x : Command
-  pub write : IsWrite x
-  pub at : slice_get commands (length done) ≡ Some x
-  pub middle : Progress
-  pub begun : Begun columns commands p.last p.table done middle
-  pub ends : (past : Past) → EndsAt past p.last p.table → EndsAt (past_from (on_table columns) commands past p.last done) middle.last middle.table
-  pub turn : BeginsTurn (suc (length done)) m middle q
-  pub images : IsTrue tells → (past : Past) → EndsAt past p.last p.table → Keeps (fill_of columns) (records_of (seen old)) waits past p.last
-      → (image : Files) → leaves new (now new) image
-      → HoldsPast (fill_of columns) (past_from (on_table columns) commands past p.last done) image ⊎ HoldsPast (fill_of columns) (turn_past (on_table columns) x (past_from (on_table columns) commands past p.last done) q.last) image
+-- this command is the next of session s, by its number i
+pub record IsNextCommand {L D C : Type 0} (view : EngineView L D C) (s i : ℕ) (command : Command) : Type 0 where
+  pub rests : Rests view
+  pub next : nth view.tablet.core.turns s ≡ Some (record { next = i; look = None })
+  pub command_is : command_at view.tablet.core.work s i ≡ Some command
+  pub few : i + 1 < 2 ^ 32
 
--- All commands were answered, and a crash now leaves what they leave.
-pub record Closes {C L : Type 0} (columns : List Column) (told : C → Option (List ℕ)) (clock ticked : C) (tells : Bool) (seen : L → Files) (now : L → ℕ) (leaves : L → ℕ → Files → Type 0) (old new : L) (waits : List Entry) (commands : List Command) (p q : Progress) : Type 0 where
-  pub readings : List ℕ
-  pub given : Grows (told clock) (told ticked) readings
-  pub count : length readings ≡ length commands
-  pub begun : Begun columns commands p.last p.table readings q
-  pub ends : (past : Past) → EndsAt past p.last p.table → EndsAt (past_from (on_table columns) commands past p.last readings) q.last q.table
-  pub images : IsTrue tells → (past : Past) → EndsAt past p.last p.table → Keeps (fill_of columns) (records_of (seen old)) waits past p.last
-      → (image : Files) → leaves new (now new) image → HoldsPast (fill_of columns) (past_from (on_table columns) commands past p.last readings) image
+-- the command was answered, and the session goes on to the next
+pub record IsAnswered {L D C : Type 0} (old new : EngineView L D C) (s i : ℕ) (reply : Reply) : Type 0 where
+  pub rests : Rests new
+  pub turns : new.tablet.core.turns ≡ set_nth old.tablet.core.turns s (record { next = i + 1; look = None })
+  pub told : (first : Past) → IsContent old first → Answers (core_from old first) new.tablet.core.trail s i reply
+
+-- a fault of the log's device has stopped the run, which ends with that line, and no command more was answered
+pub record IsStopped {L D C : Type 0} (old new : EngineView L D C) : Type 0 where
+  pub stopped : new.tablet.core.stopped ≡ true
+  pub last : (before : List Event) × (new.tablet.core.trail ≡ before ++ Stop ∷ [])
+  pub told : (first : Past) → IsContent old first → AnswersNone (core_from old first) new.tablet.core.trail
+
+-- the one write that flies, of which so many rows are applied
+pub record Flies {L D C : Type 0} (view : EngineView L D C) (s i ts : ℕ) (ops : List RowOp) (applied : ℕ) : Type 0 where
+  pub alone : view.tablet.core.aloft ≡ record { s = s; i = i; ts = ts; ops = ops; applied = applied } ∷ []
+  pub turn : nth view.tablet.core.turns s ≡ Some (record { next = i; look = None })
+  pub goes : view.tablet.core.stopped ≡ false
+  pub home : view.log.holder ≡ None
+
+-- ---- all sessions
+
+abbrev pub reply_in : Option (List Reply) → ℕ → Option Reply
+reply_in None i = None
+reply_in (Some replies) i = nth replies i
+
+-- the reply to command i of session s, among the replies that each session has
+abbrev pub given : List (List Reply) → ℕ → ℕ → Option Reply
+given replies s i = reply_in (nth replies s) i
+
+-- where a session stands that has these replies
+abbrev pub turn_after : List Reply → Turn
+turn_after replies = record { next = length replies + 1; look = None }
+
+-- the lines tell these replies and no other
+abbrev pub Tells : {L D C : Type 0} → EngineView L D C → List (List Reply) → Type 0
+Tells view replies = (first : Past) → IsContent view first → (j k : ℕ) → told_in (core_from view first) view.tablet.core.trail j k ≡ given replies j k
+
+-- Between two commands each session stands behind its replies, and these are what the lines tell.
+pub record IsBetween {L D C : Type 0} (view : EngineView L D C) (replies : List (List Reply)) : Type 0 where
+  pub rests : Rests view
+  pub turns : view.tablet.core.turns ≡ map turn_after replies
+  pub tells : Tells view replies
+
+-- A fault has stopped the run, and these are the replies until then.
+pub record IsHalted {L D C : Type 0} (view : EngineView L D C) (replies : List (List Reply)) : Type 0 where
+  pub stopped : view.tablet.core.stopped ≡ true
+  pub last : (before : List Event) × (view.tablet.core.trail ≡ before ++ Stop ∷ [])
+  pub tells : Tells view replies
+
+-- in the turn after so many, the first k sessions have been asked again
+abbrev pub asked : ℕ → ℕ → ℕ → ℕ
+asked turn k s = if nat_lt s k then turn + 1 else turn
+
+-- each session has replies to as many of its commands as it was asked, as far as it has commands
+abbrev pub AreAsked : ℕ → ℕ → List (List Command) → List (List Reply) → Type 0
+AreAsked turn k plan replies = (s : ℕ) (commands : List Command) → slice_get plan s ≡ Some commands
+    → (given : List Reply) × (slice_get replies s ≡ Some given) × (length given ≡ min (asked turn k s) (length commands))
+
+-- the last line of a run, by whether it was stopped, its mark and its last timestamp
+abbrev pub end_of_run : Bool → ℕ → ℕ → LastLine
+end_of_run stopped a c = if stopped then Stopped else Numbers a c 0
+
+-- The run has ended, and these are its replies: a fault has stopped it, or each command was answered and nothing waits for the log.
+pub record HasPlayed {L D C : Type 0} (view : EngineView L D C) (plan : List (List Command)) (stopped : Bool) (replies : List (List Reply)) : Type 0 where
+  pub ended : view.tablet.core.stopped ≡ stopped
+  pub tells : Tells view replies
+  pub last : stopped ≡ true → (before : List Event) × (view.tablet.core.trail ≡ before ++ Stop ∷ [])
+  pub all : stopped ≡ false → (s : ℕ) (commands : List Command) → slice_get plan s ≡ Some commands → (given : List Reply) × (slice_get replies s ≡ Some given) × (length given ≡ length commands)
+  pub empty : stopped ≡ false → view.log.queued ≡ []

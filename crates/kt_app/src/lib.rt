@@ -2,17 +2,21 @@
 //!
 //! Its contract is what a user relies on: the printed history is a run of the tablet machine from what the log held,
 //! each reply is that run's, and whatever a crash leaves of the log holds every acknowledged write. It stands on kt_boot,
-//! kt_scan and kt_script.
+//! kt_engine, kt_scan and kt_script.
 #![tactic(auto)]
 
+mod cells;
 pub mod laws;
-mod log;
+pub mod log;
+pub mod replies;
 mod rows;
 pub mod run;
 pub mod session;
 pub mod streams;
 #[cfg(test)]
 mod tests;
+pub mod text;
 pub mod top;
+pub mod turns;
 
 pub use top::tablet_main;

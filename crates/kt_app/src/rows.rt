@@ -1,17 +1,17 @@
-//! What a scan of the present shows, and the kinds of its columns.
-
-ghost use Rattle.std.specs.Prelude.{◌≡◌, ◌<◌, ◌^◌, ◌++◌, length, map, unwrap_or, IfOk, OnOk};
+//! What a scan shows, and the kinds of its columns.
+ghost use Rattle.std.specs.Prelude.{◌≡◌, ◌≤◌, ◌++◌, map, unwrap_or, IfOk, OnOk, All};
 ghost use Rattle.std.specs.Ordering.{nat_cmp};
 ghost use Rattle.std.specs.FinMap.Entries.{find};
 ghost use Rattle.kt_schema.specs.Columns.{key_columns, other_columns};
 ghost use Rattle.kt_history.specs.Replies.{shown, kinds_of};
+ghost use Rattle.kt_history.specs.Rows.{Rows};
 ghost use Rattle.kt_scan.specs.Encoded.{keys_of};
+ghost use Rattle.kt_scan.specs.Live.{AreRowsOf, row_in};
 ghost use Rattle.kt_app.specs.Session.{on_table};
 
 use kt_base::{Kind, NoMemory};
-use kt_boot::Table;
-use kt_history::{RowList, Scan};
-use kt_scan::laws::table_law;
+use kt_history::{RowList, Scan, View};
+use kt_scan::laws::live_law;
 use kt_scan::run;
 use kt_schema::{Column, Schema};
 use kt_script::KindList;
@@ -77,27 +77,20 @@ pub fn kinds_shown(alloc: Global, schema: &Schema, scan: &Scan) -> Result<KindLi
     }
 }
 
-// As many rows as there are fit the memory.
-fn counted(rows: RowList) -> RowList
-    ensures same { result ≡ rows }
-    ensures few { length result < 2 ^ 64 }
-{
-    let _count = rows.as_slice().len();
-    rows
-}
-
-/// What a scan shows of the rows of the present.
-pub fn rows_shown(
+/// What a scan shows of the rows that these views have at t, told from a mark on.
+pub fn rows_shown<V: View>(
     alloc: Global,
     schema: &Schema,
-    table: &Table,
+    views: &[V],
     scan: &Scan,
+    mark: u64,
     t: u64,
 ) -> Result<RowList, NoMemory>
-    ensures rows { IfOk result (λ rows. rows ≡ shown (keys_of schema.now) scan.now table.now) }
-    ensures few { IfOk result (λ rows. length rows < 2 ^ 64) }
+    requires since { mark ≤ t }
+    requires told { All (λ v. V.mark v ≤ mark) views.now }
+    ensures rows { IfOk result (λ listed. (rows : Rows) → AreRowsOf (λ key. row_in V.row_of views.now key t) rows → listed ≡ shown (keys_of schema.now) scan.now rows) }
 {
-    table_law(table, t);
-    let rows = run(alloc, table.views(), t, scan, schema, 0)?;
-    Ok(counted(rows))
+    let rows = run(alloc, views, t, scan, schema, mark)?;
+    live_law(views, t);
+    Ok(rows)
 }

@@ -1,212 +1,110 @@
-//! A run over an open log, to its output text.
-
-ghost use Rattle.std.specs.Prelude.{◌≡◌, ◌⊎◌, ◌≤◌, ◌<◌, ◌+◌, ◌^◌, [], ◌∷◌, ◌++◌, length, IsTrue, true, false, Ok, Err, IfOk, OnOk, List, ℕ};
+//! A run of a plan on an engine that was opened, to its output text.
+ghost use Rattle.std.specs.Prelude.{◌≡◌, ◌<◌, ◌≤◌, ◌^◌, [], IfSome, IfOk, IsTrue, None, Some, false, true, List, ℕ, length, slice_get};
 ghost use Rattle.kt_base.specs.Causes.{Rose};
-ghost use Rattle.kt_journal.specs.Log.{records_of, CanOpen, Holds, IsLog};
-ghost use Rattle.kt_records.specs.declared.entry.Entry.{Entry};
+ghost use Rattle.kt_journal.specs.Log.{CanOpen};
+ghost use Rattle.kt_history.specs.declared.command.Command.{Command};
+ghost use Rattle.kt_history.specs.declared.reply.Reply.{Reply};
 ghost use Rattle.kt_history.specs.History.{Past};
-ghost use Rattle.kt_schema.specs.Columns.{fill_of};
+ghost use Rattle.kt_history.specs.Machine.{first_turns};
 ghost use Rattle.kt_script.specs.Fit.{PlanFits};
-ghost use Rattle.kt_script.specs.Texts.{output_text};
-ghost use Rattle.kt_script.specs.declared.output.LastLine.TheVariants.{Numbers, Stopped};
-ghost use Rattle.kt_boot.specs.Opening.{opened};
-ghost use Rattle.kt_app.specs.Book.{Keeps, AreFramed};
-ghost use Rattle.kt_app.specs.Session.{AllFit, IsCounted, EndsAt, stopped_replies};
-ghost use Rattle.kt_app.specs.Turns.{Breaks, Closes};
-ghost use Rattle.kt_app.specs.Crash.{Ran, work_of};
+ghost use Rattle.kt_script.specs.Scripts.{workload};
+ghost use Rattle.kt_engine.specs.Engines.{IsContent};
+ghost use Rattle.kt_app.specs.Crash.{Ran};
+ghost use Rattle.kt_app.specs.Session.{IsCounted};
+ghost use Rattle.kt_app.specs.Turns.{root_of, IsOn, IsFresh, Rests, HasPlayed};
 
-use crate::log::{Book, append_queue};
-use crate::session::{Progress, stop, take_all};
-use kt_base::{Clock, NoMemory, Octets};
+use crate::log::Halt;
+use crate::replies::SessionReplies;
+use crate::text::{Output, output_of};
+use crate::turns::{no_replies, take_all};
+use kt_base::{Clock, NoMemory};
 use kt_disk::{Disk, Gate};
-use kt_history::{Command, Event, EventList, Plan};
-use kt_journal::AppendNo;
+use kt_engine::{Engine, Parts};
+use kt_history::Plan;
 use kt_schema::Schema;
-use kt_script::{LastLine, ReplyList, ReplyLists, print_output};
 use std::alloc::Global;
 
-/// The output text of a run, and whether a device fault stopped it.
+/// The replies of a run, and whether a device fault stopped it.
 #[derive(Drop)]
-pub struct Output {
+pub struct Played {
     pub stopped: bool,
-    pub text: Octets,
+    pub replies: Vec<SessionReplies>,
 }
 
-fn text_with(
-    alloc: Global,
-    sessions: &ReplyLists,
-    events: &EventList,
-    last: &LastLine,
-) -> Result<Octets, NoMemory>
-    ensures { IfOk result (λ text. text ≡ output_text sessions.now events.now last.now) }
-{
-    let mut out = Octets::new(alloc);
-    print_output(alloc, sessions, events, last, &mut out)?;
-    Ok(out)
-}
-
-// The output of a session that ran alone.
-fn text_of(alloc: Global, done: Progress, last: &LastLine) -> Result<Octets, NoMemory>
-    ensures { IfOk result (λ text. text ≡ output_text (done.replies.items ∷ []) done.events.items last.now) }
-{
-    let Progress {
-        table: _,
-        last: _,
-        events,
-        replies,
-    } = done;
-    let sessions = ReplyLists::of(vec![in alloc; ReplyList::of(replies)]?);
-    text_with(alloc, &sessions, &EventList::of(events), last)
-}
-
-// The last line where nothing has stopped the run.
-fn numbers(last: u64) -> LastLine
-    ensures { result ≡ Numbers 0 last 0 }
-{
-    LastLine::Numbers {
-        a: 0,
-        c: last,
-        rowsets: 0,
-    }
-}
-
-// Answers the commands, and makes what is queued durable.
-fn run_commands<L: Disk, C: Clock, G: Gate>(
-    alloc: Global,
-    schema: &Schema,
-    commands: &[Command],
-    clock: &mut C,
-    gate: &G,
-    book: &mut Book<L>,
-    progress: &mut Progress,
-) -> Result<(), AppendNo>
-    requires counted { IsCounted schema.now }
-    requires fits { AllFit schema.now commands.now }
-    requires few { length commands.now < 2 ^ 27 }
-    requires fresh { (progress.old.events.items ≡ []) × (progress.old.replies.items ≡ []) × (progress.old.last ≤ 2 ^ 63) }
-    requires usable { IsTrue book.old.journal.usable }
-    requires openable { IsTrue L.tells → CanOpen L.now L.leaves book.old.journal.disk }
-    requires framed { AreFramed book.old.queue.items }
-    requires kept { IsTrue L.tells → (past : Past) × EndsAt past progress.old.last progress.old.table × Keeps (fill_of schema.now) (records_of (L.seen book.old.journal.disk)) book.old.queue.items past progress.old.last }
-    ensures run { OnOk result (Closes schema.now C.readings clock.old clock.new L.tells L.seen L.now L.leaves book.old.journal.disk book.new.journal.disk book.old.queue.items commands.now progress.old progress.new) }
-    ensures broken { result ≡ Err AppendNo.Fault
-        → Breaks schema.now C.readings clock.old clock.new L.tells L.seen L.now L.leaves book.old.journal.disk book.new.journal.disk book.old.queue.items commands.now progress.old progress.new
-        ⊎ Closes schema.now C.readings clock.old clock.new L.tells L.seen L.now L.leaves book.old.journal.disk book.new.journal.disk book.old.queue.items commands.now progress.old progress.new }
-    ensures openable { IsTrue L.tells → CanOpen L.now L.leaves book.new.journal.disk }
-    ensures fault { result ≡ Err AppendNo.Fault → Rose (L.faults book.old.journal.disk) (L.faults book.new.journal.disk) }
-    ensures faults { L.faults book.old.journal.disk ≤ L.faults book.new.journal.disk }
-{
-    take_all(alloc, schema, commands, clock, gate, book, progress)?;
-    append_queue(alloc, book)
-}
-
-// The output of a session that a device fault stopped.
-fn stopped_text(
-    alloc: Global,
-    schema: &Schema,
-    commands: &[Command],
-    mut done: Progress,
-) -> Result<Octets, NoMemory>
-    requires fits { AllFit schema.now commands.now }
-    requires few { length done.replies.items ≤ length commands.now }
-    ensures { IfOk result (λ text. text ≡ output_text (stopped_replies schema.now commands.now done.replies.items ∷ []) (done.events.items ++ Event.Stop ∷ []) Stopped) }
-{
-    let left = &commands[done.replies.len()..];
-    stop(alloc, schema, left, &mut done.events, &mut done.replies)?;
-    text_of(alloc, done, &LastLine::Stopped)
-}
-
-fn run_session<L: Disk, C: Clock, G: Gate>(
-    alloc: Global,
-    schema: &Schema,
-    commands: &[Command],
-    clock: &mut C,
-    gate: &G,
-    book: &mut Book<L>,
-    mut progress: Progress,
-) -> Result<Output, NoMemory>
-    requires counted { IsCounted schema.now }
-    requires fits { AllFit schema.now commands.now }
-    requires few { length commands.now < 2 ^ 27 }
-    requires fresh { (progress.events.items ≡ []) × (progress.replies.items ≡ []) × (progress.last ≤ 2 ^ 63) }
-    requires usable { IsTrue book.old.journal.usable }
-    requires openable { IsTrue L.tells → CanOpen L.now L.leaves book.old.journal.disk }
-    requires queue { book.old.queue.items ≡ [] }
-    requires kept { IsTrue L.tells → (past : Past) × EndsAt past progress.last progress.table × Keeps (fill_of schema.now) (records_of (L.seen book.old.journal.disk)) [] past progress.last }
-    ensures run { IfOk result (λ out. (past : Past) → EndsAt past progress.last progress.table
-        → (IsTrue L.tells → Keeps (fill_of schema.now) (records_of (L.seen book.old.journal.disk)) [] past progress.last)
-        → Ran C.readings clock.old clock.new L.tells L.now L.leaves book.new.journal.disk (work_of (record { columns = schema.now; plan = commands.now ∷ [] })) past progress.last out.stopped out.text) }
-    ensures openable { IsTrue L.tells → CanOpen L.now L.leaves book.new.journal.disk }
-    ensures fault { IfOk result (λ out. IsTrue out.stopped → Rose (L.faults book.old.journal.disk) (L.faults book.new.journal.disk)) }
-    ensures faults { L.faults book.old.journal.disk ≤ L.faults book.new.journal.disk }
-{
-    match run_commands(alloc, schema, commands, clock, gate, book, &mut progress) {
-        Ok(()) => {
-            let last = numbers(progress.last);
-            let text = text_of(alloc, progress, &last)?;
-            Ok(Output {
-                stopped: false,
-                text,
-            })
-        }
-        Err(AppendNo::Fault) => {
-            let text = stopped_text(alloc, schema, commands, progress)?;
-            Ok(Output {
-                stopped: true,
-                text,
-            })
-        }
-        Err(AppendNo::Memory) => Err(NoMemory),
-    }
-}
-
-// The output of a script without a session.
-fn nothing_text(alloc: Global, last: u64) -> Result<Octets, NoMemory>
-    ensures { IfOk result (λ text. text ≡ output_text [] [] (Numbers 0 last 0)) }
-{
-    let sessions = ReplyLists::of(Vec::new(alloc));
-    let events = EventList::of(Vec::new(alloc));
-    text_with(alloc, &sessions, &events, &numbers(last))
-}
-
-/// Runs a plan over an open log, and gives its output text.
-pub fn run_plan<L: Disk, C: Clock, G: Gate>(
+// Takes the commands of a plan that the engine has.
+fn play<L: Disk, D, C: Clock, G: Gate>(
     alloc: Global,
     schema: &Schema,
     plan: &Plan,
-    clock: &mut C,
+    engine: &mut Engine<L, D, C>,
     gate: &G,
-    book: &mut Book<L>,
-    progress: Progress,
-) -> Result<Output, NoMemory>
+) -> Result<Played, NoMemory>
     requires counted { IsCounted schema.now }
     requires fits { PlanFits schema.now plan.now }
-    requires fresh { (progress.events.items ≡ []) × (progress.replies.items ≡ []) × (progress.last ≤ 2 ^ 63) }
-    requires usable { IsTrue book.old.journal.usable }
-    requires openable { IsTrue L.tells → CanOpen L.now L.leaves book.old.journal.disk }
-    requires queue { book.old.queue.items ≡ [] }
-    requires kept { IsTrue L.tells → (past : Past) × EndsAt past progress.last progress.table × Keeps (fill_of schema.now) (records_of (L.seen book.old.journal.disk)) [] past progress.last }
-    requires durable { IsTrue L.tells → Holds L.now L.leaves book.old.journal.disk (records_of (L.seen book.old.journal.disk)) }
-    ensures run { IfOk result (λ out. (past : Past) → EndsAt past progress.last progress.table
-        → (IsTrue L.tells → Keeps (fill_of schema.now) (records_of (L.seen book.old.journal.disk)) [] past progress.last)
-        → Ran C.readings clock.old clock.new L.tells L.now L.leaves book.new.journal.disk (work_of (record { columns = schema.now; plan = plan.now })) past progress.last out.stopped out.text) }
-    ensures openable { IsTrue L.tells → CanOpen L.now L.leaves book.new.journal.disk }
-    ensures fault { IfOk result (λ out. IsTrue out.stopped → Rose (L.faults book.old.journal.disk) (L.faults book.new.journal.disk)) }
-    ensures faults { L.faults book.old.journal.disk ≤ L.faults book.new.journal.disk }
+    requires on { IsOn schema.now engine.old.tablet.core.work × (engine.old.tablet.core.work.plan ≡ plan.now) }
+    requires fresh { (engine.old.tablet.core.trail ≡ []) × (engine.old.tablet.core.turns ≡ first_turns plan.now) }
+    requires rests { Rests engine.old }
+    ensures root { root_of engine.new ≡ root_of engine.old }
+    ensures home { engine.new.log.holder ≡ None }
+    ensures played { IfOk result (λ played. HasPlayed engine.new plan.now played.stopped played.replies.items) }
 {
-    match plan.as_slice().first() {
-        None => Ok(Output {
+    let mut replies = no_replies(alloc, plan.as_slice())?;
+    match take_all(alloc, schema, plan.as_slice(), engine, gate, &mut replies) {
+        Ok(()) => Ok(Played {
             stopped: false,
-            text: nothing_text(alloc, progress.last)?,
+            replies,
         }),
-        Some(session) => run_session(
-            alloc,
-            schema,
-            session.as_slice(),
-            clock,
-            gate,
-            book,
-            progress,
-        ),
+        Err(Halt::Stopped) => Ok(Played {
+            stopped: true,
+            replies,
+        }),
+        Err(Halt::Memory) => Err(NoMemory),
+    }
+}
+
+/// Runs a plan on an engine that was opened, and gives its output text, unless memory is wanting, and what the engine is
+/// taken apart into.
+pub fn run_plan<L: Disk, D, C: Clock, G: Gate>(
+    alloc: Global,
+    schema: &Schema,
+    plan: &Plan,
+    mut engine: Engine<L, D, C>,
+    gate: &G,
+) -> (Option<Output>, Parts<L, D, C>)
+    requires counted { IsCounted schema.now }
+    requires fits { PlanFits schema.now plan.now }
+    requires fresh { IsFresh engine }
+    requires work { IsOn schema.now engine.tablet.core.work }
+
+    // What was printed is the output text of a run of the plan from what opening found, in which the clock gave what it gave
+    // in this call, and a crash now leaves what the run made of that.
+    ensures run { IfSome result.0 (λ out. (first : Past) → IsContent engine first
+        → Ran C.readings engine.tablet.clock result.1.clock L.tells L.now L.leaves result.1.log (workload engine.tablet.core.work.cells (record { columns = schema.now; plan = plan.now })) first engine.tablet.core.opened out.stopped out.text) }
+    ensures store { result.1.store ≡ engine.store }
+    ensures openable { IsTrue L.tells → CanOpen L.now L.leaves result.1.log }
+    ensures faults { L.faults engine.device ≤ L.faults result.1.log }
+    ensures fault { IfSome result.0 (λ out. IsTrue out.stopped → Rose (L.faults engine.device) (L.faults result.1.log)) }
+{
+    engine.set_plan(plan);
+    let played = play(alloc, schema, plan, &mut engine, gate);
+    engine.standing();
+    let (a, c) = engine.times();
+    let parts = engine.take_apart();
+    match played {
+        Ok(Played { stopped, replies }) => {
+            let trail = &parts.trail;
+            let output = output_of(
+                alloc,
+                schema,
+                plan.as_slice(),
+                replies,
+                stopped,
+                a,
+                c,
+                trail,
+            );
+            (output.ok(), parts)
+        }
+        Err(NoMemory) => (None, parts),
     }
 }

@@ -1,279 +1,247 @@
-//! The commands of a session, one after another.
-
-ghost use Rattle.std.specs.Prelude.{◌≡◌, ◌≢◌, ◌≤◌, ◌<◌, ◌+◌, ◌^◌, ◌-◌, [], ◌∷◌, ◌++◌, length, map, IsTrue, Err, IfOk, OnOk, IsErrOf, List, ℕ};
-ghost use Rattle.kt_base.specs.Causes.{Rose, Grows};
-ghost use Rattle.kt_disk.specs.Disk.{Files};
-ghost use Rattle.kt_journal.specs.Log.{records_of, CanOpen};
+//! The commands of sessions, each to its end.
+ghost use Rattle.std.specs.Prelude.{◌≡◌, ◌≤◌, ◌<◌, ◌^◌, ◌+◌, ℕ, [], ◌∷◌, length, map, IfOk, OnOk, OnErr, Ok, Err, Some, None, false, Option};
 ghost use Rattle.kt_schema.specs.Columns.{fill_of};
-ghost use Rattle.kt_history.specs.Machine.{next_timestamp};
+ghost use Rattle.kt_history.specs.declared.operation.RowOp.{RowOp};
 ghost use Rattle.kt_history.specs.History.{Past};
-ghost use Rattle.kt_history.specs.Rows.{changed};
-ghost use Rattle.kt_history.specs.Operations.{DifferentKeys, outcomes_on, changes_on};
-ghost use Rattle.kt_script.specs.Laws.{Fits64};
+ghost use Rattle.kt_history.specs.Machine.{nth, set_nth, command_at};
 ghost use Rattle.kt_script.specs.Fit.{WriteFits, CommandFits};
-ghost use Rattle.kt_app.specs.Book.{Keeps, AreFramed, commit_on};
-ghost use Rattle.kt_app.specs.Session.{on_table, AllFit, IsCounted, EndsAt, not_answered};
-ghost use Rattle.kt_app.specs.Turns.{TakesTurn, BeginsTurn, EndsTurn, IsWrite, Books, LeavesEither, Answers, Breaks};
+ghost use Rattle.kt_histlaws.specs.Pending.{Aloft};
+ghost use Rattle.kt_tablet.specs.Reads.{HasDrawn};
+ghost use Rattle.kt_tablet.specs.Visits.{MayBegin};
+ghost use Rattle.kt_engine.specs.Logged.{place_of, IsShort};
+ghost use Rattle.kt_engine.specs.Engines.{IsContent, core_from};
+ghost use Rattle.kt_app.specs.Session.{IsCounted};
+ghost use Rattle.kt_app.specs.Turns.{root_of, IsOn, AnswersNone, Rests, IsNextCommand, IsAnswered, IsStopped, Flies};
 
-use crate::log::{Book, append_queue, commit, replicate};
-use crate::rows::{kinds_shown, rows_shown};
-use kt_base::limits::READING_MOST;
-use kt_base::{Cells, Clock, NoMemory};
-use kt_boot::Table;
+use crate::log::{Halt, make_durable};
+use crate::rows::rows_shown;
+use kt_base::Clock;
 use kt_disk::{Disk, Gate, Point};
-use kt_history::{Command, Event, Outcome, OutcomeList, Reply, RowOp, Scan, Write};
-use kt_journal::AppendNo;
-use kt_records::Entry;
+use kt_engine::write::WriteDone;
+use kt_engine::{BeginNo, Engine, LookNo, SnapNo, Stopped};
+use kt_history::{At, Command, Reply, RowOp, Scan, Write};
 use kt_schema::Schema;
-use kt_script::{KindList, ShownReply};
 use std::alloc::Global;
 
-/// What has happened so far: the rows, the last timestamp, the lines of the history and the replies.
-#[derive(Drop)]
-pub struct Progress {
-    pub table: Table,
-    pub last: u64,
-    pub events: Vec<Event>,
-    pub replies: Vec<ShownReply>,
-}
-
-fn timestamp_after(last: u64, reading: u64) -> u64
-    requires { last + 1 < 2 ^ 64 }
-    ensures { result ≡ next_timestamp last reading }
+// Applies all rows of the one write that flies, whose REPLICATE is durable.
+fn apply_rows<L: Disk, D, C: Clock>(engine: &mut Engine<L, D, C>, number: u32, ops: &[RowOp])
+    requires alone { (i ts : ℕ) × (engine.old.tablet.core.aloft ≡ record { s = number; i = i; ts = ts; ops = ops.now; applied = 0 } ∷ []) }
+    requires goes { engine.old.tablet.core.stopped ≡ false }
+    requires durable { (place : ℕ) × (place_of number engine.old.places ≡ Some place) × (place ≤ engine.old.log.known.count) }
+    ensures rows { engine.new.tablet.core.aloft ≡ map (λ (w : Aloft). record w { applied = length ops.now }) engine.old.tablet.core.aloft }
+    ensures beside { engine.new ≡ record engine.old { tablet = record engine.old.tablet { core = record engine.old.tablet.core { aloft = engine.new.tablet.core.aloft; stores = engine.new.tablet.core.stores }; pool = engine.new.tablet.pool } } }
 {
-    let micros = if reading < READING_MOST {
-        reading
-    } else {
-        READING_MOST
-    };
-    let drawn = micros * 4096;
-    if last + 1 < drawn { drawn } else { last + 1 }
-}
-
-// Does the operations of a write one after another, and tells what became of each.
-fn apply_ops(
-    alloc: Global,
-    table: &mut Table,
-    ops: &[RowOp],
-    fill: &Cells,
-) -> Result<Vec<Outcome>, NoMemory>
-    requires { DifferentKeys ops.now }
-    ensures outcomes { IfOk result (λ outcomes. outcomes.items ≡ outcomes_on fill.now table.old ops.now) }
-    ensures rows { OnOk result (table.new ≡ changed (changes_on fill.now table.old ops.now) table.old) }
-{
-    let mut outcomes = Vec::with_capacity(alloc, ops.len())?;
-    for op in ops {
-        outcomes.push(table.take(alloc, op, fill)?)?;
+    for at in 0..ops.len() {
+        let _ = engine.apply_row(number, at);
     }
-    Ok(outcomes)
 }
 
-// The `begin` line of a write, and its REPLICATE.
-fn begin_write(
-    alloc: Global,
+// Ends the one write that flies, and answers it. All records are durable, and so is its REPLICATE.
+fn end_write<L: Disk, D, C: Clock>(
+    engine: &mut Engine<L, D, C>,
+    number: u32,
+    index: u32,
     write: &Write,
-    i: u32,
-    m: u64,
-    queue: &mut Vec<Entry>,
-    progress: &mut Progress,
-) -> Result<(), NoMemory>
-    requires room { progress.old.last + 1 < 2 ^ 64 }
-    ensures turn { OnOk result (BeginsTurn i m progress.old progress.new) }
-    ensures queue { OnOk result (queue.new.items ≡ queue.old.items ++ Entry.Replicate (next_timestamp progress.old.last m) write.now.ops ∷ []) }
+) -> Reply
+    requires flies { (ts : ℕ) × Flies engine.old number index ts write.now.ops 0 }
+    requires write { command_at engine.old.tablet.core.work number index ≡ Some (Command.Write write.now) }
+    requires few { index + 1 < 2 ^ 32 }
+    requires durable { (engine.old.log.out ≡ []) × (engine.old.log.queued ≡ []) }
+    ensures root { root_of engine.new ≡ root_of engine.old }
+    ensures home { engine.new.log.holder ≡ None }
+    ensures answered { IsAnswered engine.old engine.new number index result }
 {
-    let ts = timestamp_after(progress.last, m);
-    queue.push(replicate(alloc, write, ts)?)?;
-    progress.events.push(Event::Begin { s: 1, i, ts, m })?;
-    progress.last = ts;
-    Ok(())
+    engine.standing();
+    apply_rows(engine, number, write.ops.as_slice());
+    match engine.end(number) {
+        Ok(WriteDone { ts, outcomes }) => Reply::At { ts, outcomes },
+        Err(Stopped) => unreachable!(),
+    }
 }
 
-// Applies a write whose REPLICATE is durable, queues its COMMIT and answers it.
-fn end_write(
+// The write flies, or it is too large for the pool.
+fn begin_write<L: Disk, D, C: Clock>(
     alloc: Global,
-    schema: &Schema,
+    engine: &mut Engine<L, D, C>,
+    number: u32,
+    index: u32,
     write: &Write,
-    i: u32,
-    queue: &mut Vec<Entry>,
-    progress: &mut Progress,
-) -> Result<(), NoMemory>
-    requires { DifferentKeys write.now.ops }
-    ensures turn { OnOk result (EndsTurn schema.now write.now.ops i progress.old progress.new) }
-    ensures queue { OnOk result (queue.new.items ≡ queue.old.items ++ commit_on (fill_of schema.now) progress.old.table progress.old.last write.now.ops ∷ []) }
+) -> Result<Option<u32>, Halt>
+    requires next { IsNextCommand engine.old number index (Command.Write write.now) }
+    requires may { MayBegin engine.old.tablet.core number index write.now.ops × IsShort write.now.ops }
+    ensures root { root_of engine.new ≡ root_of engine.old }
+    ensures home { engine.new.log.holder ≡ None }
+    ensures flies { result ≡ Ok None → (ts : ℕ) × Flies engine.new number index ts write.now.ops 0 }
+    ensures queued { result ≡ Ok None → 0 < length engine.new.log.queued }
+    ensures turns { result ≡ Ok None → engine.new.tablet.core.turns ≡ engine.old.tablet.core.turns }
+    ensures quiet { result ≡ Ok None → (first : Past) → IsContent engine.old first → AnswersNone (core_from engine.old first) engine.new.tablet.core.trail }
+    ensures large { (n : ℕ) → result ≡ Ok (Some n) → IsAnswered engine.old engine.new number index (Reply.Large n) }
+    ensures goes_on { OnErr result (result ≡ Err Halt.Memory) }
 {
-    let ts = progress.last;
-    let fill = schema.fill(alloc)?;
-    let outcomes = apply_ops(alloc, &mut progress.table, write.ops.as_slice(), &fill)?;
-    queue.push(commit(alloc, ts, &outcomes)?)?;
-    progress.events.push(Event::End { s: 1, i, ts })?;
-    let outcomes = OutcomeList::of(outcomes);
-    progress.replies.push(ShownReply {
-        kinds: KindList::of(Vec::new(alloc)),
-        reply: Reply::At { ts, outcomes },
-    })?;
-    Ok(())
+    match engine.begin(alloc, number, index, write) {
+        Ok(_) => Ok(None),
+        Err(BeginNo::Large { need }) => Ok(Some(need)),
+        Err(BeginNo::Room { need: _, free: _ } | BeginNo::Memory) => Err(Halt::Memory),
+        Err(BeginNo::Stopped) => unreachable!(),
+        Err(BeginNo::Wait { ts: _ }) => unreachable!(),
+    }
 }
 
 // A write: its REPLICATE is durable before it is applied.
-fn take_write<L: Disk, G: Gate>(
+fn take_write<L: Disk, D, C: Clock, G: Gate>(
     alloc: Global,
-    schema: &Schema,
+    engine: &mut Engine<L, D, C>,
+    number: u32,
+    index: u32,
     write: &Write,
-    i: u32,
-    m: u64,
     gate: &G,
-    book: &mut Book<L>,
-    progress: &mut Progress,
-) -> Result<(), AppendNo>
-    requires counted { IsCounted schema.now }
-    requires fits { WriteFits schema.now write.now.ops }
-    requires room { progress.old.last + 1 < 2 ^ 64 }
-    requires reading { Fits64 m }
-    requires usable { IsTrue book.old.journal.usable }
-    requires openable { IsTrue L.tells → CanOpen L.now L.leaves book.old.journal.disk }
-    requires framed { AreFramed book.old.queue.items }
-    requires kept { IsTrue L.tells → (past : Past) × EndsAt past progress.old.last progress.old.table × Keeps (fill_of schema.now) (records_of (L.seen book.old.journal.disk)) book.old.queue.items past progress.old.last }
-    ensures turn { OnOk result (TakesTurn schema.now (Command.Write write.now) i m progress.old progress.new) }
-    ensures booked { OnOk result (Books schema.now L.tells L.seen book.old.journal.disk book.new.journal.disk book.old.queue.items book.new.queue.items (Command.Write write.now) progress.old progress.new) }
-    ensures usable { OnOk result (IsTrue book.new.journal.usable × AreFramed book.new.queue.items) }
-    ensures broken { result ≡ Err AppendNo.Fault → BeginsTurn i m progress.old progress.new
-        × LeavesEither schema.now L.tells L.seen L.now L.leaves book.old.journal.disk book.new.journal.disk book.old.queue.items (Command.Write write.now) progress.old progress.new }
-    ensures openable { IsTrue L.tells → CanOpen L.now L.leaves book.new.journal.disk }
-    ensures fault { result ≡ Err AppendNo.Fault → Rose (L.faults book.old.journal.disk) (L.faults book.new.journal.disk) }
-    ensures faults { L.faults book.old.journal.disk ≤ L.faults book.new.journal.disk }
+) -> Result<Reply, Halt>
+    requires next { IsNextCommand engine.old number index (Command.Write write.now) }
+    requires may { MayBegin engine.old.tablet.core number index write.now.ops × IsShort write.now.ops }
+    ensures root { root_of engine.new ≡ root_of engine.old }
+    ensures home { engine.new.log.holder ≡ None }
+    ensures answered { IfOk result (λ reply. IsAnswered engine.old engine.new number index reply) }
+    ensures stopped { result ≡ Err Halt.Stopped → IsStopped engine.old engine.new }
 {
-    begin_write(alloc, write, i, m, &mut book.queue, progress)?;
+    if let Some(n) = begin_write(alloc, engine, number, index, write)? {
+        return Ok(Reply::Large { n });
+    }
     gate.at(Point::Begun {
-        session: 1,
-        index: i,
+        session: number,
+        index,
     });
-    append_queue(alloc, book)?;
-    end_write(alloc, schema, write, i, &mut book.queue, progress)?;
-    Ok(())
+    make_durable(alloc, engine, number)?;
+    Ok(end_write(engine, number, index, write))
 }
 
-fn take_scan(
+// Answers a scan whose time is drawn or given.
+fn read_rows<L: Disk, D, C: Clock>(
     alloc: Global,
     schema: &Schema,
+    engine: &mut Engine<L, D, C>,
+    number: u32,
+    index: u32,
     scan: &Scan,
-    i: u32,
-    m: u64,
-    progress: &mut Progress,
-) -> Result<(), NoMemory>
-    requires room { progress.old.last + 1 < 2 ^ 64 }
-    ensures turn { OnOk result (TakesTurn schema.now (Command.Scan scan.now) i m progress.old progress.new) }
+) -> Result<Reply, Halt>
+    requires on { IsOn schema.now engine.old.tablet.core.work }
+    requires rests { Rests engine.old }
+    requires next { (look : Option ℕ) × (nth engine.old.tablet.core.turns number ≡ Some (record { next = index; look = look })) × HasDrawn scan.now.at look }
+    requires scan { command_at engine.old.tablet.core.work number index ≡ Some (Command.Scan scan.now) }
+    requires few { index + 1 < 2 ^ 32 }
+    ensures root { root_of engine.new ≡ root_of engine.old }
+    ensures home { engine.new.log.holder ≡ None }
+    ensures answered { IfOk result (λ reply. IsAnswered engine.old engine.new number index reply) }
+    ensures goes_on { OnErr result (result ≡ Err Halt.Memory) }
 {
-    let t = timestamp_after(progress.last, m);
-    let rows = rows_shown(alloc, schema, &progress.table, scan, t)?;
-    let kinds = kinds_shown(alloc, schema, scan)?;
-    progress.events.push(Event::Look { s: 1, i, t, m })?;
-    progress.events.push(Event::Rows { s: 1, i, t })?;
-    let reply = Reply::Rows { t, rows };
-    progress.replies.push(ShownReply { kinds, reply })?;
-    progress.last = t;
-    Ok(())
+    engine.standing();
+    match engine.snapshot(alloc, number, index, scan.at) {
+        Ok(snap) => {
+            let rows = rows_shown(
+                alloc,
+                schema,
+                snap.views.as_slice(),
+                scan,
+                snap.mark,
+                snap.t,
+            )?;
+            Ok(Reply::Rows { t: snap.t, rows })
+        }
+        Err(SnapNo::Ancient { t, a }) => Ok(Reply::Ancient { t, a }),
+        Err(SnapNo::Memory) => Err(Halt::Memory),
+        Err(SnapNo::Stopped) => unreachable!(),
+        Err(SnapNo::Busy { t: _, f: _ }) => unreachable!(),
+        Err(SnapNo::NotYet { f: _ }) => unreachable!(),
+    }
 }
 
-/// Answers the i-th command, at the clock's reading m.
-fn take_turn<L: Disk, G: Gate>(
+// A scan of the present draws its time, and one at a given time has it.
+fn draw_time<L: Disk, D, C: Clock>(
+    engine: &mut Engine<L, D, C>,
+    number: u32,
+    index: u32,
+    scan: &Scan,
+) -> Result<(), Halt>
+    requires next { IsNextCommand engine.old number index (Command.Scan scan.now) }
+    ensures root { root_of engine.new ≡ root_of engine.old }
+    ensures home { engine.new.log.holder ≡ None }
+    ensures rests { OnOk result (Rests engine.new) }
+    ensures drawn { OnOk result ((look : Option ℕ) × (engine.new.tablet.core.turns ≡ set_nth engine.old.tablet.core.turns number (record { next = index; look = look })) × HasDrawn scan.now.at look) }
+    ensures quiet { OnOk result ((first : Past) → IsContent engine.old first → AnswersNone (core_from engine.old first) engine.new.tablet.core.trail) }
+    ensures goes_on { OnErr result (result ≡ Err Halt.Memory) }
+{
+    match scan.at {
+        At::Looked => match engine.look(number, index) {
+            Ok(_) => Ok(()),
+            Err(LookNo::Memory) => Err(Halt::Memory),
+            Err(LookNo::Stopped) => unreachable!(),
+        },
+        At::Given(_) => Ok(()),
+    }
+}
+
+// A scan, of the present or at a given time.
+fn take_scan<L: Disk, D, C: Clock>(
     alloc: Global,
     schema: &Schema,
+    engine: &mut Engine<L, D, C>,
+    number: u32,
+    index: u32,
+    scan: &Scan,
+) -> Result<Reply, Halt>
+    requires on { IsOn schema.now engine.old.tablet.core.work }
+    requires next { IsNextCommand engine.old number index (Command.Scan scan.now) }
+    ensures root { root_of engine.new ≡ root_of engine.old }
+    ensures home { engine.new.log.holder ≡ None }
+    ensures answered { IfOk result (λ reply. IsAnswered engine.old engine.new number index reply) }
+    ensures goes_on { OnErr result (result ≡ Err Halt.Memory) }
+{
+    draw_time(engine, number, index, scan)?;
+    read_rows(alloc, schema, engine, number, index, scan)
+}
+
+// Raises the mark.
+fn take_mark<L: Disk, D, C: Clock>(
+    engine: &mut Engine<L, D, C>,
+    number: u32,
+    index: u32,
+    to: u64,
+) -> Result<Reply, Halt>
+    requires next { IsNextCommand engine.old number index (Command.Mark to) }
+    ensures root { root_of engine.new ≡ root_of engine.old }
+    ensures home { engine.new.log.holder ≡ None }
+    ensures answered { IfOk result (λ reply. IsAnswered engine.old engine.new number index reply) }
+    ensures goes_on { OnErr result (result ≡ Err Halt.Memory) }
+{
+    match engine.mark(number, index, to) {
+        Ok(a) => Ok(Reply::Ahm { a }),
+        Err(LookNo::Memory) => Err(Halt::Memory),
+        Err(LookNo::Stopped) => unreachable!(),
+    }
+}
+
+/// Takes the next command of a session to its end.
+pub fn take_command<L: Disk, D, C: Clock, G: Gate>(
+    alloc: Global,
+    schema: &Schema,
+    engine: &mut Engine<L, D, C>,
+    number: u32,
+    index: u32,
     command: &Command,
-    i: u32,
-    m: u64,
     gate: &G,
-    book: &mut Book<L>,
-    progress: &mut Progress,
-) -> Result<(), AppendNo>
+) -> Result<Reply, Halt>
     requires counted { IsCounted schema.now }
     requires fits { CommandFits schema.now command.now }
-    requires room { progress.old.last + 1 < 2 ^ 64 }
-    requires reading { Fits64 m }
-    requires usable { IsTrue book.old.journal.usable }
-    requires openable { IsTrue L.tells → CanOpen L.now L.leaves book.old.journal.disk }
-    requires framed { AreFramed book.old.queue.items }
-    requires kept { IsTrue L.tells → (past : Past) × EndsAt past progress.old.last progress.old.table × Keeps (fill_of schema.now) (records_of (L.seen book.old.journal.disk)) book.old.queue.items past progress.old.last }
-    ensures turn { OnOk result (TakesTurn schema.now command.now i m progress.old progress.new) }
-    ensures booked { OnOk result (Books schema.now L.tells L.seen book.old.journal.disk book.new.journal.disk book.old.queue.items book.new.queue.items command.now progress.old progress.new) }
-    ensures usable { OnOk result (IsTrue book.new.journal.usable × AreFramed book.new.queue.items) }
-    ensures broken { result ≡ Err AppendNo.Fault → IsWrite command.now × BeginsTurn i m progress.old progress.new
-        × LeavesEither schema.now L.tells L.seen L.now L.leaves book.old.journal.disk book.new.journal.disk book.old.queue.items command.now progress.old progress.new }
-    ensures openable { IsTrue L.tells → CanOpen L.now L.leaves book.new.journal.disk }
-    ensures fault { result ≡ Err AppendNo.Fault → Rose (L.faults book.old.journal.disk) (L.faults book.new.journal.disk) }
-    ensures faults { L.faults book.old.journal.disk ≤ L.faults book.new.journal.disk }
+    requires on { IsOn schema.now engine.old.tablet.core.work }
+    requires next { IsNextCommand engine.old number index command.now }
+    ensures root { root_of engine.new ≡ root_of engine.old }
+    ensures home { engine.new.log.holder ≡ None }
+    ensures answered { IfOk result (λ reply. IsAnswered engine.old engine.new number index reply) }
+    ensures stopped { result ≡ Err Halt.Stopped → IsStopped engine.old engine.new }
 {
     match command {
-        Command::Write(write) => take_write(alloc, schema, write, i, m, gate, book, progress),
-        Command::Scan(scan) => Ok(take_scan(alloc, schema, scan, i, m, progress)?),
-        Command::Mark(_) | Command::Chore(_) => Ok(()),
+        Command::Write(write) => take_write(alloc, engine, number, index, write, gate),
+        Command::Scan(scan) => take_scan(alloc, schema, engine, number, index, scan),
+        Command::Mark(to) => take_mark(engine, number, index, *to),
+        Command::Chore(_) => unreachable!(),
     }
-}
-
-/// Answers the commands in order, each at a reading of the clock, until a device fails.
-pub fn take_all<L: Disk, C: Clock, G: Gate>(
-    alloc: Global,
-    schema: &Schema,
-    commands: &[Command],
-    clock: &mut C,
-    gate: &G,
-    book: &mut Book<L>,
-    progress: &mut Progress,
-) -> Result<(), AppendNo>
-    requires counted { IsCounted schema.now }
-    requires fits { AllFit schema.now commands.now }
-    requires few { length commands.now < 2 ^ 27 }
-    requires fresh { (progress.old.events.items ≡ []) × (progress.old.replies.items ≡ []) × (progress.old.last ≤ 2 ^ 63) }
-    requires usable { IsTrue book.old.journal.usable }
-    requires openable { IsTrue L.tells → CanOpen L.now L.leaves book.old.journal.disk }
-    requires framed { AreFramed book.old.queue.items }
-    requires kept { IsTrue L.tells → (past : Past) × EndsAt past progress.old.last progress.old.table × Keeps (fill_of schema.now) (records_of (L.seen book.old.journal.disk)) book.old.queue.items past progress.old.last }
-    ensures run { OnOk result (Answers schema.now C.readings clock.old clock.new L.tells L.seen book.old.journal.disk book.new.journal.disk book.old.queue.items book.new.queue.items commands.now (length commands.now) progress.old progress.new) }
-    ensures usable { OnOk result (IsTrue book.new.journal.usable × AreFramed book.new.queue.items) }
-    ensures broken { result ≡ Err AppendNo.Fault → Breaks schema.now C.readings clock.old clock.new L.tells L.seen L.now L.leaves book.old.journal.disk book.new.journal.disk book.old.queue.items commands.now progress.old progress.new }
-    ensures openable { IsTrue L.tells → CanOpen L.now L.leaves book.new.journal.disk }
-    ensures fault { result ≡ Err AppendNo.Fault → Rose (L.faults book.old.journal.disk) (L.faults book.new.journal.disk) }
-    ensures faults { L.faults book.old.journal.disk ≤ L.faults book.new.journal.disk }
-{
-    for (at, command) in commands.iter().enumerate() {
-        let index = at as u32 + 1;
-        gate.at(Point::Before { session: 1, index });
-        let m = clock.now();
-        take_turn(alloc, schema, command, index, m, gate, book, progress)?;
-        gate.at(Point::After { session: 1, index });
-    }
-    Ok(())
-}
-
-// What is printed for a command that was not answered.
-fn unanswered(alloc: Global, schema: &Schema, command: &Command) -> Result<ShownReply, NoMemory>
-    requires { CommandFits schema.now command.now }
-    ensures { IfOk result (λ shown. shown ≡ not_answered (on_table schema.now) command.now) }
-{
-    let kinds = match command {
-        Command::Scan(scan) => kinds_shown(alloc, schema, scan)?,
-        _ => KindList::of(Vec::new(alloc)),
-    };
-    Ok(ShownReply {
-        kinds,
-        reply: Reply::Stopped,
-    })
-}
-
-/// Ends a session that a device fault stopped: the `stop` line, and for the commands left that they were stopped.
-pub fn stop(
-    alloc: Global,
-    schema: &Schema,
-    left: &[Command],
-    events: &mut Vec<Event>,
-    replies: &mut Vec<ShownReply>,
-) -> Result<(), NoMemory>
-    requires { AllFit schema.now left.now }
-    ensures events { OnOk result (events.new.items ≡ events.old.items ++ Event.Stop ∷ []) }
-    ensures replies { OnOk result (replies.new.items ≡ replies.old.items ++ map (not_answered (on_table schema.now)) left.now) }
-{
-    events.push(Event::Stop)?;
-    for command in left {
-        replies.push(unanswered(alloc, schema, command)?)?;
-    }
-    Ok(())
 }

@@ -10,6 +10,7 @@ use kt_disk::{
 use std::alloc::Global;
 use std::test::Fail;
 
+mod sessions;
 mod tables;
 
 const HEAD: &[u8] = b"table\ncolumn id int64 key\ncolumn v string\n";

@@ -12,18 +12,20 @@ ghost use Rattle.kt_script.specs.Fit.{PlanFits};
 ghost use Rattle.kt_script.specs.Scripts.{Said, Fault, script_of};
 ghost use Rattle.kt_boot.specs.Opening.{Found, content, opened};
 ghost use Rattle.kt_app.specs.Headline.{IsNoScript, AreRun};
-ghost use Rattle.kt_app.specs.Crash.{work_of, Ran, RunsPlan, RunsScript, IsSaid, IsFaultOf, IsRefused, fault_text, refusal_text, IsRefusal, LeavesAsBefore};
-ghost use Rattle.kt_app.specs.Book.{Keeps};
-ghost use Rattle.kt_app.specs.Session.{IsCounted, EndsAt};
+ghost use Rattle.kt_app.specs.Crash.{work_of, pool_of, Ran, RunsPlan, RunsScript, IsSaid, IsFaultOf, IsRefused, fault_text, refusal_text, IsRefusal, LeavesAsBefore};
+ghost use Rattle.kt_engine.specs.Engines.{IsContent};
+ghost use Rattle.kt_app.specs.Session.{IsCounted};
+ghost use Rattle.kt_app.specs.Turns.{IsFresh, IsOn};
 ghost use Rattle.kt_app.specs.Outside.{Reads, WritesFront, Gains};
 
-use crate::log::Book;
-use crate::run::{Output, run_plan};
-use crate::session::Progress;
+use crate::cells::cells_of;
+use crate::run::run_plan;
 use crate::streams::{ReadNo, read_all, write_all};
+use crate::text::Output;
 use kt_base::{Clock, NoMemory, Octets, Sink, Source};
-use kt_boot::{Plain, PlainNo, open_plain};
+use kt_boot::{Closed, Why, open_tablet};
 use kt_disk::{Disk, Gate};
+use kt_engine::{Engine, Parts};
 use kt_history::Plan;
 use kt_schema::Schema;
 use kt_script::number::print_number;
@@ -144,18 +146,18 @@ fn refuse_with<K: Sink>(alloc: Global, sink: &mut K, word: &[u8], number: u64) -
 }
 
 // Writes why a log was not opened.
-fn refuse<K: Sink>(alloc: Global, sink: &mut K, no: PlainNo) -> u8
+fn refuse<K: Sink>(alloc: Global, sink: &mut K, no: Why) -> u8
     ensures refused { result ≡ 3 → IsRefusal no × Appends (K.written sink.old) (K.written sink.new) (refusal_text no) }
-    ensures fault { result ≡ 4 → (no ≡ PlainNo.Fault) × Appends (K.written sink.old) (K.written sink.new) STOPPED_OPENING.now }
-    ensures cut { result ≡ 6 → Rose (K.faults sink.old) (K.faults sink.new) × WritesFront (K.written sink.old) (K.written sink.new) (refusal_text no) × (no ≢ PlainNo.Memory) }
+    ensures fault { result ≡ 4 → (no ≡ Why.Fault) × Appends (K.written sink.old) (K.written sink.new) STOPPED_OPENING.now }
+    ensures cut { result ≡ 6 → Rose (K.faults sink.old) (K.faults sink.new) × WritesFront (K.written sink.old) (K.written sink.new) (refusal_text no) × (no ≢ Why.Memory) }
     ensures memory { result ≡ 7 → Appends (K.written sink.old) (K.written sink.new) [] }
     ensures statuses { (result ≡ 3) ⊎ (result ≡ 4) ⊎ (result ≡ 6) ⊎ (result ≡ 7) }
 {
     match no {
-        PlainNo::B3 { offset } => refuse_with(alloc, sink, b"refused B3 ", offset),
-        PlainNo::B6 { last } => refuse_with(alloc, sink, b"refused B6 ", last),
-        PlainNo::Fault => finish(sink, STOPPED_OPENING, 4),
-        PlainNo::Memory => 7,
+        Why::B3 { offset } => refuse_with(alloc, sink, b"refused B3 ", offset),
+        Why::B6 { last } => refuse_with(alloc, sink, b"refused B6 ", last),
+        Why::Fault => finish(sink, STOPPED_OPENING, 4),
+        Why::Memory => 7,
     }
 }
 
@@ -170,123 +172,86 @@ fn write_output<K: Sink>(sink: &mut K, output: &Output) -> u8
     finish(sink, output.text.as_slice(), status)
 }
 
-// Runs a plan over an open log, and writes its output.
-fn run_and_write<K: Sink, L: Disk, C: Clock, G: Gate>(
+// Runs a plan on an engine that was opened, and writes its output.
+fn run_and_write<K: Sink, L: Disk, D, C: Clock, G: Gate>(
     alloc: Global,
     schema: &Schema,
     plan: &Plan,
+    engine: Engine<L, D, C>,
     sink: &mut K,
-    clock: &mut C,
     gate: &G,
-    book: &mut Book<L>,
-    progress: Progress,
-) -> u8
+) -> (u8, Parts<L, D, C>)
     requires counted { IsCounted schema.now }
     requires fits { PlanFits schema.now plan.now }
-    requires fresh { (progress.events.items ≡ []) × (progress.replies.items ≡ []) × (progress.last ≤ 2 ^ 63) }
-    requires usable { IsTrue book.old.journal.usable }
-    requires openable { IsTrue L.tells → CanOpen L.now L.leaves book.old.journal.disk }
-    requires queue { book.old.queue.items ≡ [] }
-    requires ends { (past : Past) × EndsAt past progress.last progress.table × (IsTrue L.tells → Keeps (fill_of schema.now) (records_of (L.seen book.old.journal.disk)) [] past progress.last) }
-    requires durable { IsTrue L.tells → Holds L.now L.leaves book.old.journal.disk (records_of (L.seen book.old.journal.disk)) }
-    ensures printed { result ≡ 0 → (past : Past) → EndsAt past progress.last progress.table → (IsTrue L.tells → Keeps (fill_of schema.now) (records_of (L.seen book.old.journal.disk)) [] past progress.last)
-        → (text : List ℕ) × Ran C.readings clock.old clock.new L.tells L.now L.leaves book.new.journal.disk (work_of (record { columns = schema.now; plan = plan.now })) past progress.last false text × Appends (K.written sink.old) (K.written sink.new) text }
-    ensures stopped { result ≡ 4 → (past : Past) → EndsAt past progress.last progress.table → (IsTrue L.tells → Keeps (fill_of schema.now) (records_of (L.seen book.old.journal.disk)) [] past progress.last)
-        → (text : List ℕ) × Ran C.readings clock.old clock.new L.tells L.now L.leaves book.new.journal.disk (work_of (record { columns = schema.now; plan = plan.now })) past progress.last true text × Appends (K.written sink.old) (K.written sink.new) text }
-    ensures fault { result ≡ 4 → Rose (L.faults book.old.journal.disk) (L.faults book.new.journal.disk) }
-    ensures cut { result ≡ 6 → (past : Past) → EndsAt past progress.last progress.table → (IsTrue L.tells → Keeps (fill_of schema.now) (records_of (L.seen book.old.journal.disk)) [] past progress.last)
-        → (text : List ℕ) × (stopped : Bool) × Ran C.readings clock.old clock.new L.tells L.now L.leaves book.new.journal.disk (work_of (record { columns = schema.now; plan = plan.now })) past progress.last stopped text × WritesFront (K.written sink.old) (K.written sink.new) text }
-    ensures sink_fault { result ≡ 6 → Rose (K.faults sink.old) (K.faults sink.new) }
-    ensures memory { result ≡ 7 → Appends (K.written sink.old) (K.written sink.new) [] }
-    ensures statuses { (result ≡ 0) ⊎ (result ≡ 4) ⊎ (result ≡ 6) ⊎ (result ≡ 7) }
-    ensures openable { IsTrue L.tells → CanOpen L.now L.leaves book.new.journal.disk }
-    ensures faults { L.faults book.old.journal.disk ≤ L.faults book.new.journal.disk }
-{
-    match run_plan(alloc, schema, plan, clock, gate, book, progress) {
-        Ok(output) => write_output(sink, &output),
-        Err(NoMemory) => 7,
-    }
-}
-
-// Runs a plan over a log that was opened, and writes its output.
-fn run_plain<K: Sink, L: Disk, C: Clock, G: Gate>(
-    alloc: Global,
-    schema: &Schema,
-    plan: &Plan,
-    plain: Plain<L>,
-    sink: &mut K,
-    clock: &mut C,
-    gate: &G,
-) -> (u8, L)
-    requires counted { IsCounted schema.now }
-    requires fits { PlanFits schema.now plan.now }
-    requires sound { (records : List Entry) × IsLog records × (opened (fill_of schema.now) (Ok records) ≡ Ok (record { past = plain.past; last = plain.c })) × (IsTrue L.tells → records_of (L.seen plain.journal.disk) ≡ records) }
-    requires table { plain.table ≡ rows_at plain.past plain.c }
-    requires usable { IsTrue plain.journal.usable }
-    requires openable { IsTrue L.tells → CanOpen L.now L.leaves plain.journal.disk }
-    requires durable { IsTrue L.tells → Holds L.now L.leaves plain.journal.disk (records_of (L.seen plain.journal.disk)) }
-    ensures printed { result.0 ≡ 0 → (text : List ℕ) × Ran C.readings clock.old clock.new L.tells L.now L.leaves result.1 (work_of (record { columns = schema.now; plan = plan.now })) plain.past plain.c false text × Appends (K.written sink.old) (K.written sink.new) text }
-    ensures stopped { result.0 ≡ 4 → (text : List ℕ) × Ran C.readings clock.old clock.new L.tells L.now L.leaves result.1 (work_of (record { columns = schema.now; plan = plan.now })) plain.past plain.c true text × Appends (K.written sink.old) (K.written sink.new) text }
-    ensures fault { result.0 ≡ 4 → Rose (L.faults plain.journal.disk) (L.faults result.1) }
-    ensures cut { result.0 ≡ 6 → (text : List ℕ) × (stopped : Bool) × Ran C.readings clock.old clock.new L.tells L.now L.leaves result.1 (work_of (record { columns = schema.now; plan = plan.now })) plain.past plain.c stopped text × WritesFront (K.written sink.old) (K.written sink.new) text }
+    requires fresh { IsFresh engine }
+    requires work { IsOn schema.now engine.tablet.core.work × (engine.tablet.core.work.cells ≡ pool_of plan.now) }
+    ensures printed { result.0 ≡ 0 → (first : Past) → IsContent engine first
+        → (text : List ℕ) × Ran C.readings engine.tablet.clock result.1.clock L.tells L.now L.leaves result.1.log (work_of (record { columns = schema.now; plan = plan.now })) first engine.tablet.core.opened false text × Appends (K.written sink.old) (K.written sink.new) text }
+    ensures stopped { result.0 ≡ 4 → (first : Past) → IsContent engine first
+        → (text : List ℕ) × Ran C.readings engine.tablet.clock result.1.clock L.tells L.now L.leaves result.1.log (work_of (record { columns = schema.now; plan = plan.now })) first engine.tablet.core.opened true text × Appends (K.written sink.old) (K.written sink.new) text }
+    ensures fault { result.0 ≡ 4 → Rose (L.faults engine.device) (L.faults result.1.log) }
+    ensures cut { result.0 ≡ 6 → (first : Past) → IsContent engine first
+        → (text : List ℕ) × (stopped : Bool) × Ran C.readings engine.tablet.clock result.1.clock L.tells L.now L.leaves result.1.log (work_of (record { columns = schema.now; plan = plan.now })) first engine.tablet.core.opened stopped text × WritesFront (K.written sink.old) (K.written sink.new) text }
     ensures sink_fault { result.0 ≡ 6 → Rose (K.faults sink.old) (K.faults sink.new) }
     ensures memory { result.0 ≡ 7 → Appends (K.written sink.old) (K.written sink.new) [] }
     ensures statuses { (result.0 ≡ 0) ⊎ (result.0 ≡ 4) ⊎ (result.0 ≡ 6) ⊎ (result.0 ≡ 7) }
-    ensures openable { IsTrue L.tells → CanOpen L.now L.leaves result.1 }
-    ensures faults { L.faults plain.journal.disk ≤ L.faults result.1 }
+    ensures store { result.1.store ≡ engine.store }
+    ensures openable { IsTrue L.tells → CanOpen L.now L.leaves result.1.log }
 {
-    let Plain {
-        journal,
-        past: _,
-        table,
-        c,
-    } = plain;
-    let progress = Progress {
-        table,
-        last: c,
-        events: Vec::new(alloc),
-        replies: Vec::new(alloc),
-    };
-    let mut book = Book {
-        journal,
-        queue: Vec::new(alloc),
-    };
-    let status = run_and_write(alloc, schema, plan, sink, clock, gate, &mut book, progress);
-    let Book { journal, queue: _ } = book;
-    (status, journal.into_disk())
+    let (output, parts) = run_plan(alloc, schema, plan, engine, gate);
+    match output {
+        Some(output) => (write_output(sink, &output), parts),
+        None => (7, parts),
+    }
 }
 
 // Opens the log, and runs a plan over it.
-fn open_and_run<K: Sink, L: Disk, C: Clock, G: Gate>(
+fn open_and_run<K: Sink, L: Disk, D, C: Clock, G: Gate>(
     alloc: Global,
     schema: &Schema,
     plan: &Plan,
     log: L,
+    store: D,
+    clock: C,
     sink: &mut K,
-    clock: &mut C,
     gate: &G,
-) -> (u8, L)
+) -> Ended<L, D, C>
     requires counted { IsCounted schema.now }
     requires fits { PlanFits schema.now plan.now }
     requires openable { IsTrue L.tells → CanOpen L.now L.leaves log }
-    ensures printed { result.0 ≡ 0 → (text : List ℕ) × RunsPlan C.readings clock.old clock.new L.tells L.seen L.now L.leaves log result.1 (work_of (record { columns = schema.now; plan = plan.now })) false text × Appends (K.written sink.old) (K.written sink.new) text }
-    ensures refused { result.0 ≡ 3 → (no : PlainNo) × IsRefusal no × (IsTrue L.tells → content (fill_of schema.now) (L.seen log) ≡ Err no) × Appends (K.written sink.old) (K.written sink.new) (refusal_text no) }
-    ensures refuses { (no : PlainNo) → IsTrue L.tells → content (fill_of schema.now) (L.seen log) ≡ Err no → (3 ≤ result.0) }
-    ensures stopped { result.0 ≡ 4 → Rose (L.faults log) (L.faults result.1)
-        × (Appends (K.written sink.old) (K.written sink.new) STOPPED_OPENING.now × (clock.new ≡ clock.old) × LeavesAsBefore (fill_of schema.now) L.tells L.now L.leaves log result.1
-        ⊎ ((text : List ℕ) × RunsPlan C.readings clock.old clock.new L.tells L.seen L.now L.leaves log result.1 (work_of (record { columns = schema.now; plan = plan.now })) true text × Appends (K.written sink.old) (K.written sink.new) text)) }
-    ensures untouched { result.0 ≡ 3 → (clock.new ≡ clock.old) × LeavesAsBefore (fill_of schema.now) L.tells L.now L.leaves log result.1 }
-    ensures sink_fault { result.0 ≡ 6 → Rose (K.faults sink.old) (K.faults sink.new) }
-    ensures cut { result.0 ≡ 6 → (text : List ℕ) × WritesFront (K.written sink.old) (K.written sink.new) text
-        × (((no : PlainNo) × (no ≢ PlainNo.Memory) × (text ≡ refusal_text no))
-        ⊎ ((stopped : Bool) × RunsPlan C.readings clock.old clock.new L.tells L.seen L.now L.leaves log result.1 (work_of (record { columns = schema.now; plan = plan.now })) stopped text)) }
-    ensures memory { result.0 ≡ 7 → Appends (K.written sink.old) (K.written sink.new) [] }
-    ensures statuses { (result.0 ≡ 0) ⊎ (result.0 ≡ 3) ⊎ (result.0 ≡ 4) ⊎ (result.0 ≡ 6) ⊎ (result.0 ≡ 7) }
-    ensures openable { IsTrue L.tells → CanOpen L.now L.leaves result.1 }
+    ensures printed { result.status ≡ 0 → (text : List ℕ) × RunsPlan C.readings clock result.clock L.tells L.seen L.now L.leaves log result.log (work_of (record { columns = schema.now; plan = plan.now })) false text × Appends (K.written sink.old) (K.written sink.new) text }
+    ensures refused { result.status ≡ 3 → (no : Why) × IsRefusal no × (IsTrue L.tells → content (fill_of schema.now) (L.seen log) ≡ Err no) × Appends (K.written sink.old) (K.written sink.new) (refusal_text no) }
+    ensures refuses { (no : Why) → IsTrue L.tells → content (fill_of schema.now) (L.seen log) ≡ Err no → (3 ≤ result.status) }
+    ensures stopped { result.status ≡ 4 → Rose (L.faults log) (L.faults result.log)
+        × (Appends (K.written sink.old) (K.written sink.new) STOPPED_OPENING.now × (result.clock ≡ clock) × LeavesAsBefore (fill_of schema.now) L.tells L.now L.leaves log result.log
+        ⊎ ((text : List ℕ) × RunsPlan C.readings clock result.clock L.tells L.seen L.now L.leaves log result.log (work_of (record { columns = schema.now; plan = plan.now })) true text × Appends (K.written sink.old) (K.written sink.new) text)) }
+    ensures untouched { result.status ≡ 3 → (result.clock ≡ clock) × LeavesAsBefore (fill_of schema.now) L.tells L.now L.leaves log result.log }
+    ensures sink_fault { result.status ≡ 6 → Rose (K.faults sink.old) (K.faults sink.new) }
+    ensures cut { result.status ≡ 6 → (text : List ℕ) × WritesFront (K.written sink.old) (K.written sink.new) text
+        × (((no : Why) × (no ≢ Why.Memory) × (text ≡ refusal_text no))
+        ⊎ ((stopped : Bool) × RunsPlan C.readings clock result.clock L.tells L.seen L.now L.leaves log result.log (work_of (record { columns = schema.now; plan = plan.now })) stopped text)) }
+    ensures memory { result.status ≡ 7 → Appends (K.written sink.old) (K.written sink.new) [] }
+    ensures statuses { (result.status ≡ 0) ⊎ (result.status ≡ 3) ⊎ (result.status ≡ 4) ⊎ (result.status ≡ 6) ⊎ (result.status ≡ 7) }
+    ensures store { result.store ≡ store }
+    ensures openable { IsTrue L.tells → CanOpen L.now L.leaves result.log }
 {
-    match open_plain(alloc, log, schema) {
-        Ok(plain) => run_plain(alloc, schema, plan, plain, sink, clock, gate),
-        Err((log, no)) => (refuse(alloc, sink, no), log),
+    let Ok(cells) = cells_of(plan) else {
+        return end_with(7, log, store, clock);
+    };
+    match open_tablet(alloc, log, store, clock, schema, cells) {
+        Ok(engine) => {
+            let (status, parts) = run_and_write(alloc, schema, plan, engine, sink, gate);
+            end_with(status, parts.log, parts.store, parts.clock)
+        }
+        Err(closed) => {
+            let Closed {
+                why,
+                log,
+                store,
+                clock,
+            } = closed;
+            end_with(refuse(alloc, sink, why), log, store, clock)
+        }
     }
 }
 
@@ -299,7 +264,7 @@ pub fn tablet_main<S: Source, K: Sink, L: Disk, D: Disk, C: Clock, G: Gate>(
     sink: &mut K,
     log: L,
     store: D,
-    mut clock: C,
+    clock: C,
     gate: &G,
 ) -> Ended<L, D, C>
     // Each image that a crash may leave of the log has it, or next to nothing.
@@ -327,9 +292,9 @@ pub fn tablet_main<S: Source, K: Sink, L: Disk, D: Disk, C: Clock, G: Gate>(
     ensures no_script { (script : List ℕ) → AreRun (map (λ w. w.now) words.now) → S.left source.old ≡ Some script → IsNoScript script → (result.status ≡ 2) ⊎ (5 ≤ result.status) }
 
     // Status 3 comes exactly where the log's content is refused, unless source, sink, log or memory fail, and tells why.
-    ensures refused { result.status ≡ 3 → (said : Said) × IsSaid (S.left source.old) said × (no : PlainNo) × IsRefusal no
+    ensures refused { result.status ≡ 3 → (said : Said) × IsSaid (S.left source.old) said × (no : Why) × IsRefusal no
         × (IsTrue L.tells → content (fill_of said.columns) (L.seen log) ≡ Err no) × Appends (K.written sink.old) (K.written sink.new) (refusal_text no) }
-    ensures refuses { (script : List ℕ) (said : Said) (no : PlainNo) → AreRun (map (λ w. w.now) words.now) → S.left source.old ≡ Some script → script_of script ≡ Some said
+    ensures refuses { (script : List ℕ) (said : Said) (no : Why) → AreRun (map (λ w. w.now) words.now) → S.left source.old ≡ Some script → script_of script ≡ Some said
         → IsTrue L.tells → content (fill_of said.columns) (L.seen log) ≡ Err no → (3 ≤ result.status) }
 
     // Words in the form, a script, a log that is not refused, and no count that rises: the run is whole, or memory ran out.
@@ -343,7 +308,7 @@ pub fn tablet_main<S: Source, K: Sink, L: Disk, D: Disk, C: Clock, G: Gate>(
     // There a front of one of the texts was written.
     ensures cut { result.status ≡ 6 → (text : List ℕ) × WritesFront (K.written sink.old) (K.written sink.new) text
         × (((text ≡ USAGE.now) ⊎ ((fault : Fault) × IsFaultOf (S.left source.old) fault × (text ≡ fault_text fault))) × (result.log ≡ log) × (result.clock ≡ clock)
-        ⊎ (((no : PlainNo) × (no ≢ PlainNo.Memory) × (text ≡ refusal_text no))
+        ⊎ (((no : Why) × (no ≢ Why.Memory) × (text ≡ refusal_text no))
         ⊎ IfSome (S.left source.old) (λ script. (stopped : Bool) × RunsScript C.readings clock result.clock L.tells L.seen L.now L.leaves log result.log stopped script text))) }
     ensures memory { result.status ≡ 7 → Appends (K.written sink.old) (K.written sink.new) [] }
 
@@ -362,8 +327,7 @@ pub fn tablet_main<S: Source, K: Sink, L: Disk, D: Disk, C: Clock, G: Gate>(
     }
     match take_script(alloc, source) {
         Ok(Script { schema, plan }) => {
-            let (status, log) = open_and_run(alloc, &schema, &plan, log, sink, &mut clock, gate);
-            end_with(status, log, store, clock)
+            open_and_run(alloc, &schema, &plan, log, store, clock, sink, gate)
         }
         Err(SourceNo::Line { number, reason }) => {
             let status = refuse_script(alloc, sink, number, reason);

@@ -15,25 +15,25 @@ use Rattle.kt_histlaws.specs.Flights.{Under}
 use Rattle.kt_histlaws.specs.Fitting.{AreSound, IfFits}
 use Rattle.kt_histlaws.proofs.Fitting.{sound_push}
 use Rattle.kt_memrowset.specs.Links.{change_of}
-use Rattle.kt_tablet.specs.Filling.{filled_change, IsWhole}
+use Rattle.kt_tablet.specs.Filling.{filled_change}
 use Rattle.kt_tablet.specs.Stores.{apply_all}
 use Rattle.kt_boot.specs.Reopening.{row_told}
 use Rattle.kt_boot.specs.Rebuilding.{kindly_of, told}
 
--- a store's change and the past's. Where W holds, an insert is the past's once it is filled
-abbrev pub IsAlike : Type 0 → Row → Change → Change → Type 0
-IsAlike W fill (Ins cells) (Ins row) = W → with_cells cells fill ≡ row
-IsAlike W fill (Upd cells) (Upd others) = cells ≡ others
-IsAlike W fill Del Del = Unit {0}
-IsAlike W fill _ _ = ⊥
+-- a store's change and the past's, which it is once an insert is filled
+abbrev pub IsAlike : Row → Change → Change → Type 0
+IsAlike fill (Ins cells) (Ins row) = with_cells cells fill ≡ row
+IsAlike fill (Upd cells) (Upd others) = cells ≡ others
+IsAlike fill Del Del = Unit {0}
+IsAlike fill _ _ = ⊥
 
-abbrev pub AreAlike : Type 0 → Row → Steps → Steps → Type 0
-AreAlike W fill [] [] = Unit {0}
-AreAlike W fill (x ∷ xs) (y ∷ ys) = (x.0 ≡ y.0) × IsAlike W fill x.1 y.1 × AreAlike W fill xs ys
-AreAlike W fill _ _ = ⊥
+abbrev pub AreAlike : Row → Steps → Steps → Type 0
+AreAlike fill [] [] = Unit {0}
+AreAlike fill (x ∷ xs) (y ∷ ys) = (x.0 ≡ y.0) × IsAlike fill x.1 y.1 × AreAlike fill xs ys
+AreAlike fill _ _ = ⊥
 
-module _ (W : Type 0) (fill : Row) where
-  apply_alike : (c d : Change) (a b : Option Row) → IsAlike W fill c d → is_some a ≡ is_some b → is_some (apply c a) ≡ is_some (apply d b)
+module _ (fill : Row) where
+  apply_alike : (c d : Change) (a b : Option Row) → IsAlike fill c d → is_some a ≡ is_some b → is_some (apply c a) ≡ is_some (apply d b)
   apply_alike (Ins x) (Ins y) None None h e = refl
   apply_alike (Ins x) (Ins y) None (Some r) h e = cc
   apply_alike (Ins x) (Ins y) (Some r) None h e = cc
@@ -51,66 +51,66 @@ module _ (W : Type 0) (fill : Row) where
   apply_alike Del Del a b h e = refl
 
   -- a row is there after the ones where it is after the others
-  pub last_alike : (xs ys : Steps) (a b : Option Row) → AreAlike W fill xs ys → is_some a ≡ is_some b → is_some (apply_all xs a) ≡ is_some (apply_all ys b)
+  pub last_alike : (xs ys : Steps) (a b : Option Row) → AreAlike fill xs ys → is_some a ≡ is_some b → is_some (apply_all xs a) ≡ is_some (apply_all ys b)
   last_alike [] [] a b h e = e
   last_alike [] (y ∷ ys) a b h e = absurd h
   last_alike (x ∷ xs) [] a b h e = absurd h
   last_alike (x ∷ xs) (y ∷ ys) a b h e = last_alike xs ys (apply x.1 a) (apply y.1 b) h.2 (apply_alike x.1 y.1 a b h.1 e)
 
-  pub under_alike : (ts : ℕ) (xs ys : Steps) → AreAlike W fill xs ys → Under ts ys → Under ts xs
+  pub under_alike : (ts : ℕ) (xs ys : Steps) → AreAlike fill xs ys → Under ts ys → Under ts xs
   under_alike ts [] [] h under = tt
   under_alike ts [] (y ∷ ys) h under = absurd h
   under_alike ts (x ∷ xs) [] h under = absurd h
   under_alike ts (x ∷ xs) (y ∷ ys) h under = (let e = h.0 in let lt = under.0 in omega arith, under_alike ts xs ys h.2 under.1)
 
-  pub alike_push : (ts : ℕ) (c d : Change) (xs ys : Steps) → AreAlike W fill xs ys → IsAlike W fill c d → AreAlike W fill (xs ++ (ts, c) ∷ []) (ys ++ (ts, d) ∷ [])
+  pub alike_push : (ts : ℕ) (c d : Change) (xs ys : Steps) → AreAlike fill xs ys → IsAlike fill c d → AreAlike fill (xs ++ (ts, c) ∷ []) (ys ++ (ts, d) ∷ [])
   alike_push ts c d [] [] h e = (refl, e, tt)
   alike_push ts c d [] (y ∷ ys) h e = absurd h
   alike_push ts c d (x ∷ xs) [] h e = absurd h
   alike_push ts c d (x ∷ xs) (y ∷ ys) h e = (h.0, h.1, alike_push ts c d xs ys h.2 e)
 
-  change_filled : W → (c d : Change) → IsAlike W fill c d → filled_change fill c ≡ d
-  change_filled w (Ins x) (Ins y) h = ap (λ r. Ins r) (h w)
-  change_filled w (Ins x) (Upd y) h = absurd h
-  change_filled w (Ins x) Del h = absurd h
-  change_filled w (Upd x) (Ins y) h = absurd h
-  change_filled w (Upd x) (Upd y) h = ap (λ r. Upd r) h
-  change_filled w (Upd x) Del h = absurd h
-  change_filled w Del (Ins y) h = absurd h
-  change_filled w Del (Upd y) h = absurd h
-  change_filled w Del Del h = refl
+  change_filled : (c d : Change) → IsAlike fill c d → filled_change fill c ≡ d
+  change_filled (Ins x) (Ins y) h = ap (λ r. Ins r) h
+  change_filled (Ins x) (Upd y) h = absurd h
+  change_filled (Ins x) Del h = absurd h
+  change_filled (Upd x) (Ins y) h = absurd h
+  change_filled (Upd x) (Upd y) h = ap (λ r. Upd r) h
+  change_filled (Upd x) Del h = absurd h
+  change_filled Del (Ins y) h = absurd h
+  change_filled Del (Upd y) h = absurd h
+  change_filled Del Del h = refl
 
   -- filled, the store's changes are the past's
-  pub filled_alike : W → (xs ys : Steps) → AreAlike W fill xs ys → map (λ (c : ℕ × Change). (c.0, filled_change fill c.1)) xs ≡ ys
-  filled_alike w [] [] h = refl
-  filled_alike w [] (y ∷ ys) h = absurd h
-  filled_alike w (x ∷ xs) [] h = absurd h
-  filled_alike w (x ∷ xs) (y ∷ ys) h = λ i. (h.0 i, change_filled w x.1 y.1 h.1 i) ∷ filled_alike w xs ys h.2 i
+  pub filled_alike : (xs ys : Steps) → AreAlike fill xs ys → map (λ (c : ℕ × Change). (c.0, filled_change fill c.1)) xs ≡ ys
+  filled_alike [] [] h = refl
+  filled_alike [] (y ∷ ys) h = absurd h
+  filled_alike (x ∷ xs) [] h = absurd h
+  filled_alike (x ∷ xs) (y ∷ ys) h = λ i. (h.0 i, change_filled x.1 y.1 h.1 i) ∷ filled_alike xs ys h.2 i
 
 -- the change that an operation makes, beside the store's
-pub record Effect (W : Type 0) (fill : Row) (kind : OpKind) (cells : Row) (row : Option Row) (k : Kindly) : Type 0 where
+pub record Effect (fill : Row) (kind : OpKind) (cells : Row) (row : Option Row) (k : Kindly) : Type 0 where
   pub change : Change
   pub is : (effect fill kind cells row).0 ≡ Some change
-  pub alike : IsAlike W fill (change_of k cells) change
+  pub alike : IsAlike fill (change_of k cells) change
 
-as_ins : (W : Type 0) (fill : Row) (kind : OpKind) (cells : Row) (row : Option Row) (k : Kindly) → kindly.Ins ≡ k → Effect W fill kind cells row kindly.Ins → Effect W fill kind cells row k
-as_ins W fill kind cells row k e h = subst (Effect W fill kind cells row) e h
+as_ins : (fill : Row) (kind : OpKind) (cells : Row) (row : Option Row) (k : Kindly) → kindly.Ins ≡ k → Effect fill kind cells row kindly.Ins → Effect fill kind cells row k
+as_ins fill kind cells row k e h = subst (Effect fill kind cells row) e h
 
-as_upd : (W : Type 0) (fill : Row) (kind : OpKind) (cells : Row) (row : Option Row) (k : Kindly) → kindly.Upd ≡ k → Effect W fill kind cells row kindly.Upd → Effect W fill kind cells row k
-as_upd W fill kind cells row k e h = subst (Effect W fill kind cells row) e h
+as_upd : (fill : Row) (kind : OpKind) (cells : Row) (row : Option Row) (k : Kindly) → kindly.Upd ≡ k → Effect fill kind cells row kindly.Upd → Effect fill kind cells row k
+as_upd fill kind cells row k e h = subst (Effect fill kind cells row) e h
 
-as_del : (W : Type 0) (fill : Row) (kind : OpKind) (cells : Row) (row : Option Row) (k : Kindly) → kindly.Del ≡ k → Effect W fill kind cells row kindly.Del → Effect W fill kind cells row k
-as_del W fill kind cells row k e h = subst (Effect W fill kind cells row) e h
+as_del : (fill : Row) (kind : OpKind) (cells : Row) (row : Option Row) (k : Kindly) → kindly.Del ≡ k → Effect fill kind cells row kindly.Del → Effect fill kind cells row k
+as_del fill kind cells row k e h = subst (Effect fill kind cells row) e h
 
-pub effect_alike : (W : Type 0) (fill : Row) (kind : OpKind) (cells : Row) (row : Option Row) (k : Kindly) → (W → IsWhole fill kind cells) → kindly_of kind (is_some row) ≡ Some k → Effect W fill kind cells row k
-effect_alike W fill Insert cells None k whole h = as_ins W fill Insert cells None k (let e : kindly.Ins ≡ k = cc in e) (record { change = Ins cells; is = refl; alike = whole })
-effect_alike W fill Insert cells (Some r) k whole h = cc
-effect_alike W fill Upsert cells None k whole h = as_ins W fill Upsert cells None k (let e : kindly.Ins ≡ k = cc in e) (record { change = Ins (with_cells cells fill); is = refl; alike = λ w. refl })
-effect_alike W fill Upsert cells (Some r) k whole h = as_upd W fill Upsert cells (Some r) k (let e : kindly.Upd ≡ k = cc in e) (record { change = Upd cells; is = refl; alike = refl })
-effect_alike W fill Update cells None k whole h = cc
-effect_alike W fill Update cells (Some r) k whole h = as_upd W fill Update cells (Some r) k (let e : kindly.Upd ≡ k = cc in e) (record { change = Upd cells; is = refl; alike = refl })
-effect_alike W fill Delete cells None k whole h = cc
-effect_alike W fill Delete cells (Some r) k whole h = as_del W fill Delete cells (Some r) k (let e : kindly.Del ≡ k = cc in e) (record { change = Del; is = refl; alike = tt })
+pub effect_alike : (fill : Row) (kind : OpKind) (cells : Row) (row : Option Row) (k : Kindly) → kindly_of kind (is_some row) ≡ Some k → Effect fill kind cells row k
+effect_alike fill Insert cells None k h = as_ins fill Insert cells None k (let e : kindly.Ins ≡ k = cc in e) (record { change = Ins (with_cells cells fill); is = refl; alike = refl })
+effect_alike fill Insert cells (Some r) k h = cc
+effect_alike fill Upsert cells None k h = as_ins fill Upsert cells None k (let e : kindly.Ins ≡ k = cc in e) (record { change = Ins (with_cells cells fill); is = refl; alike = refl })
+effect_alike fill Upsert cells (Some r) k h = as_upd fill Upsert cells (Some r) k (let e : kindly.Upd ≡ k = cc in e) (record { change = Upd cells; is = refl; alike = refl })
+effect_alike fill Update cells None k h = cc
+effect_alike fill Update cells (Some r) k h = as_upd fill Update cells (Some r) k (let e : kindly.Upd ≡ k = cc in e) (record { change = Upd cells; is = refl; alike = refl })
+effect_alike fill Delete cells None k h = cc
+effect_alike fill Delete cells (Some r) k h = as_del fill Delete cells (Some r) k (let e : kindly.Del ≡ k = cc in e) (record { change = Del; is = refl; alike = tt })
 
 pub effect_none : (fill : Row) (kind : OpKind) (cells : Row) (row : Option Row) → kindly_of kind (is_some row) ≡ None → (effect fill kind cells row).0 ≡ None
 effect_none fill Insert cells None h = cc

@@ -1,8 +1,6 @@
-pub mod Rows
 pub mod Replayed
 pub mod Gates
-pub mod Pasts
-pub mod Present
+pub mod Keys
 pub mod Taking
 pub mod NeedLaws
 pub mod Alike
@@ -12,4 +10,4 @@ pub mod Rebuilds
 pub mod Openings
 pub mod Owing
 pub mod ReopenedLogs
-pub mod ToldPasts
+pub mod Tablets

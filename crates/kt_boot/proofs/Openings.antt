@@ -7,7 +7,7 @@ use Rattle.std.proofs.lemmas.Bool.{cases_lt}
 use Rattle.std.proofs.lemmas.Bool.Decides.{nat_tests}
 use Rattle.kt_history.specs.declared.change.Change.{Change}
 use Rattle.kt_history.specs.Rows.{Row, Rows, apply, changed, key_cmp}
-use Rattle.kt_history.specs.History.{Past, PastWrite, IsUpTo, Rise, replay, row_after, raise}
+use Rattle.kt_history.specs.History.{Past, PastWrite, IsUpTo, Rise, replay, row_after, rows_at, raise}
 use Rattle.kt_history.proofs.KeyLaws.{find-changed}
 use Rattle.kt_histlaws.specs.Histories.{Steps, Hist, Store, hist_in, row_of, after_steps, step_of, step_at, or_else, AtMostOne, ShowsKey, joined, timeline, past_hist}
 use Rattle.kt_histlaws.specs.Fitting.{AreSound}
@@ -86,6 +86,22 @@ shows_writes q (w ∷ writes) starts = elim (cases_lt 0 w.ts) [
       (λ t lt. first_step t w.ts (find key_cmp q w.changes) (timeline q writes) low lt ∙ (λ i. step_at t (sym rest i)))
 ]
 
+replay_told : (t : ℕ) (writes : List PastWrite) → Starts writes → replay t (filter (λ (w : PastWrite). nat_lt 0 w.ts) writes) (replay 0 writes []) ≡ replay t writes []
+replay_told t [] starts = refl
+replay_told t (w ∷ writes) starts = elim (cases_lt 0 w.ts) [
+  | inl up ↦
+      let rise : Rise 0 (w ∷ writes) = (up, starts.0, starts.1, starts.2) in
+      (λ i. replay t (all_told 0 (w ∷ writes) rise i) (none_yet 0 (w ∷ writes) [] rise i))
+  | inr low ↦
+      let rest : filter (λ (w : PastWrite). nat_lt 0 w.ts) (w ∷ writes) ≡ writes = rw (not_above w.ts low) (all_told w.ts writes starts.2) in
+      let begins : replay 0 (w ∷ writes) [] ≡ changed w.changes [] = rw (from_there w.ts 0 low) (none_yet w.ts writes (changed w.changes []) starts.2) in
+      (λ i. replay t (rest i) (begins i)) ∙ sym (ap (λ b. replay t writes (cond b (changed w.changes []) [])) (from_there w.ts t low))
+]
+
+-- told from 0 on, it has the same rows
+pub rows_told : (past : Past) (t : ℕ) → past.base ≡ [] → Starts past.writes → rows_at (raise past 0) t ≡ rows_at past t
+rows_told past t bare starts = (λ i. replay t (filter (λ (w : PastWrite). nat_lt 0 w.ts) past.writes) (replay 0 past.writes (bare i))) ∙ replay_told t past.writes starts ∙ (λ i. replay t past.writes (sym bare i))
+
 rise_told : (writes : List PastWrite) → Starts writes → Rise 0 (filter (λ (w : PastWrite). nat_lt 0 w.ts) writes)
 rise_told [] starts = tt
 rise_told (w ∷ writes) starts = elim (cases_lt 0 w.ts) [
@@ -113,9 +129,9 @@ from_T : (b : Bool) → T b → b ≡ true
 from_T true h = refl
 from_T false h = absurd h
 
-module _ (W : Type 0) (fill : Row) (last : ℕ) (store : Store) (past : Past) (ends : Ends W fill last store past) (w : W) where
+module _ (fill : Row) (last : ℕ) (store : Store) (past : Past) (ends : Ends fill last store past) where
   filled_is : (q : List ℕ) → hist_in q (filled fill store) ≡ hist (timeline q past.writes)
-  filled_is q = find-filled fill q store ∙ (λ i. record { first = ends.at.first q i; steps = filled_alike W fill w (hist_in q store).steps (timeline q past.writes) (ends.at.alike q) i })
+  filled_is q = find-filled fill q store ∙ (λ i. record { first = ends.at.first q i; steps = filled_alike fill (hist_in q store).steps (timeline q past.writes) (ends.at.alike q) i })
 
   told_is : (q : List ℕ) → from_zero q past.writes ≡ past_hist q (raise past 0)
   told_is q = λ i. record { first = find key_cmp q (replay 0 past.writes (sym ends.bare.0 i)); steps = timeline q (filter (λ (w : PastWrite). nat_lt 0 w.ts) past.writes) }
@@ -137,14 +153,14 @@ module _ (W : Type 0) (fill : Row) (last : ℕ) (store : Store) (past : Past) (e
   }
 
 -- both replays end alike
-pub found_past : (W : Type 0) (fill : Row) (last : ℕ) (r : Result Store ℕ) (p : Result Past ℕ) (store : Store) → Meets W fill last r p → r ≡ Ok store → (past : Past) × (p ≡ Ok past) × Ends W fill last store past
-found_past W fill last (Ok s) (Ok past) store m e = let same : s ≡ store = cc in (past, refl, subst (λ st. Ends W fill last st past) same m)
-found_past W fill last (Ok s) (Err t) store m e = absurd m
-found_past W fill last (Err ts) (Ok past) store m e = absurd m
-found_past W fill last (Err ts) (Err t) store m e = cc
+pub found_past : (fill : Row) (last : ℕ) (r : Result Store ℕ) (p : Result Past ℕ) (store : Store) → Meets fill last r p → r ≡ Ok store → (past : Past) × (p ≡ Ok past) × Ends fill last store past
+found_past fill last (Ok s) (Ok past) store m e = let same : s ≡ store = cc in (past, refl, subst (λ st. Ends fill last st past) same m)
+found_past fill last (Ok s) (Err t) store m e = absurd m
+found_past fill last (Err ts) (Ok past) store m e = absurd m
+found_past fill last (Err ts) (Err t) store m e = cc
 
-pub found_late : (W : Type 0) (fill : Row) (last ts : ℕ) (r : Result Store ℕ) (p : Result Past ℕ) → Meets W fill last r p → r ≡ Err ts → p ≡ Err ts
-found_late W fill last ts (Ok s) (Ok past) m e = cc
-found_late W fill last ts (Ok s) (Err t) m e = absurd m
-found_late W fill last ts (Err n) (Ok past) m e = absurd m
-found_late W fill last ts (Err n) (Err t) m e = let same : n ≡ ts = cc in ap (λ k. Err k) (sym m ∙ same)
+pub found_late : (fill : Row) (last ts : ℕ) (r : Result Store ℕ) (p : Result Past ℕ) → Meets fill last r p → r ≡ Err ts → p ≡ Err ts
+found_late fill last ts (Ok s) (Ok past) m e = cc
+found_late fill last ts (Ok s) (Err t) m e = absurd m
+found_late fill last ts (Err n) (Ok past) m e = absurd m
+found_late fill last ts (Err n) (Err t) m e = let same : n ≡ ts = cc in ap (λ k. Err k) (sym m ∙ same)

@@ -1,5 +1,5 @@
 -- What a log owes may stand behind it, and tells of its past.
-use Rattle.std.proofs.Common.{◌≡◌, ℕ, zero, suc, ◌-◌, ◌*◌, ◌^◌, ◌<◌, ◌≤◌, List, [], ◌∷◌, ◌++◌, length, Some, None, Option, Bool, refl, true, false, ◌&&◌, ◌||◌, cond, sym, ap, ◌∙◌, subst, arith, append_assoc, length-append}
+use Rattle.std.proofs.Common.{◌≡◌, ℕ, zero, suc, max, ◌-◌, ◌*◌, ◌^◌, ◌<◌, ◌≤◌, List, [], ◌∷◌, ◌++◌, length, Some, None, Option, Bool, refl, true, false, ◌&&◌, ◌||◌, cond, sym, ap, ◌∙◌, subst, arith, append_assoc, length-append}
 use Rattle.std.specs.Prelude.{◌==◌, nat_lt, is_some}
 use Rattle.std.specs.List.{flat_map, list_any}
 use Rattle.std.proofs.lemmas.List.{append-nil, length-map}
@@ -20,12 +20,11 @@ use Rattle.kt_records.specs.Spelling as spelled
 use Rattle.kt_journal.specs.Order.{last_ts, is_above, is_count, waiting, follows, newest_first, IsFramed, InOrder}
 use Rattle.kt_journal.specs.Log.{IsLog}
 use Rattle.kt_journal.proofs.Framed.{order_push}
-use Rattle.kt_loglaws.specs.Replay.{commit_of, is_in_memory, is_needed}
+use Rattle.kt_loglaws.specs.Replay.{commit_of, is_in_memory, is_needed, last_of}
 use Rattle.kt_loglaws.specs.Laws.{Tells}
 use Rattle.kt_loglaws.specs.Laws.Tells.{nothing, and_one}
 use Rattle.kt_loglaws.specs.Fronts.{ops_of, with_records, AllTold}
 use Rattle.kt_loglaws.proofs.LogOrder.{AllAbove, above_behind, Lacks, lacks_before, same, differs, differs_down}
-use Rattle.kt_boot.specs.Pasts.{from_one}
 use Rattle.kt_boot.specs.Reopening.{stores_of, row_told, rows_told, rows_before, unless_told, owed}
 
 -- ---- a COMMIT is framed
@@ -169,14 +168,17 @@ module _ (fill : Row) (number : ℕ) (fits : number < 2 ^ 64) (all : List Entry)
       let next : all ≡ (front ++ Replicate ts ops ∷ []) ++ rest = is ∙ sym (one_more front (Replicate ts ops) rest) in
       let low = under ts order.1 in
       let newer : (n : ℕ) → is_above (last_ts (newest_first [] (front ++ Replicate ts ops ∷ []))) n ≡ true → ts < n = λ n up. from_test ts n (ap (λ l. is_above (last_ts l) n) (sym (newest_last front (Replicate ts ops))) ∙ up) in
-      elim (commit_of ts all) as (λ o. commit_of ts all ≡ o → IsLog (all ++ (cs ++ unless_told o (Commit ts (rows_told fill number (rows_before ts past) ops)) (owed fill number all past rest)))) [
+      elim (commit_of ts all) as (λ o. commit_of ts all ≡ o → IsLog (all ++ (cs ++ unless_told ts o (Commit ts (rows_told fill number (rows_before ts past) ops)) (owed fill number all past rest)))) [
         | Some rows ↦ λ e. owed_log rest (front ++ Replicate ts ops ∷ []) cs next (λ n up. under_later ts n cs (newer n up) low) is_log
         | None ↦ λ e.
             let commit = Commit ts (rows_told fill number (rows_before ts past) ops) in
             let counts : follows (newest_first [] (all ++ cs)) commit ≡ true = (λ i. is_count (waits front ts ops rest cs is low e i) (as_many fill number (rows_before ts past) ops i)) ∙ same (length ops) in
             let longer : IsLog (all ++ (cs ++ commit ∷ [])) = subst IsLog (append_assoc all cs (commit ∷ [])) (order_push [] (all ++ cs) commit is_log (told_framed fill number ts (rows_before ts past) ops fits order.0) counts) in
-            subst (λ l. IsLog (all ++ l)) (one_more cs commit (owed fill number all past rest))
-            (owed_log rest (front ++ Replicate ts ops ∷ []) (cs ++ commit ∷ []) next (λ n up. under_push ts n (rows_told fill number (rows_before ts past) ops) cs (newer n up) (under_later ts n cs (newer n up) low)) longer)
+            elim (nat_lt 0 ts) as (λ b. IsLog (all ++ (cs ++ cond b (commit ∷ owed fill number all past rest) (owed fill number all past rest)))) [
+              | true ↦ subst (λ l. IsLog (all ++ l)) (one_more cs commit (owed fill number all past rest))
+                  (owed_log rest (front ++ Replicate ts ops ∷ []) (cs ++ commit ∷ []) next (λ n up. under_push ts n (rows_told fill number (rows_before ts past) ops) cs (newer n up) (under_later ts n cs (newer n up) low)) longer)
+              | false ↦ owed_log rest (front ++ Replicate ts ops ∷ []) cs next (λ n up. under_later ts n cs (newer n up) low) is_log
+            ]
       ] refl
 
 -- ---- it tells what became of its write
@@ -207,41 +209,60 @@ ops_found ts [] ops rest lacks = ap (λ b. cond b (Some ops) (ops_of ts rest)) (
 ops_found ts (Replicate t o ∷ front) ops rest lacks = ap (λ b. cond b (Some o) (ops_of ts (front ++ Replicate ts ops ∷ rest))) lacks.0 ∙ ops_found ts front ops rest lacks.1
 ops_found ts (Commit t rows ∷ front) ops rest lacks = ops_found ts front ops rest lacks
 
-left_true : (a b : Bool) → (a && b) ≡ true → a ≡ true
-left_true true b h = refl
-left_true false b h = h
-
-right_true : (a b : Bool) → (a && b) ≡ true → b ≡ true
-right_true true b h = h
-right_true false b h = cc
-
-module _ (fill : Row) (number : ℕ) (counted : 0 < number) (all : List Entry) (log : IsLog all) (past : Past) where
-  pub owed_told : (rest front cs : List Entry) → all ≡ front ++ rest → from_one rest ≡ true → AllTold fill (all ++ cs) past (owed fill number all past rest)
-  owed_told [] front cs is up = tt
-  owed_told (Commit t rows ∷ rest) front cs is up = owed_told rest (front ++ Commit t rows ∷ []) cs (is ∙ sym (one_more front (Commit t rows) rest)) up
-  owed_told (Replicate ts ops ∷ rest) front cs is up =
+module _ (fill : Row) (number : ℕ) (counted : 0 < number) (all : List Entry) (log : IsLog all) (past seen : Past) (alike : (t : ℕ) → rows_at seen t ≡ rows_at past t) where
+  -- over each past with the same rows
+  pub owed_told : (rest front cs : List Entry) → all ≡ front ++ rest → AllTold fill (all ++ cs) seen (owed fill number all past rest)
+  owed_told [] front cs is = tt
+  owed_told (Commit t rows ∷ rest) front cs is = owed_told rest (front ++ Commit t rows ∷ []) cs (is ∙ sym (one_more front (Commit t rows) rest))
+  owed_told (Replicate ts ops ∷ rest) front cs is =
+      let commit = Commit ts (rows_told fill number (rows_before ts past) ops) in
       let next : all ≡ (front ++ Replicate ts ops ∷ []) ++ rest = is ∙ sym (one_more front (Replicate ts ops) rest) in
-      let above = from_test 0 ts (left_true _ _ up) in
       let split : all ++ cs ≡ front ++ Replicate ts ops ∷ (rest ++ cs) = ap (λ l. l ++ cs) is ∙ append_assoc front (Replicate ts ops ∷ rest) cs in
-      elim (commit_of ts all) as (λ o. AllTold fill (all ++ cs) past (unless_told o (Commit ts (rows_told fill number (rows_before ts past) ops)) (owed fill number all past rest))) [
-        | Some rows ↦ owed_told rest (front ++ Replicate ts ops ∷ []) cs next (right_true _ _ up)
-        | None ↦
-            let commit = Commit ts (rows_told fill number (rows_before ts past) ops) in (
-              record {
-                up = above;
-                ops = ops;
-                stands = ap (ops_of ts) split ∙ ops_found ts front ops (rest ++ cs) (lacks_before [] front ts ops rest (subst IsLog is log));
-                tells = tells_before fill number ts past ops counted above;
-              },
-              subst (λ l. AllTold fill l past (owed fill number all past rest)) (sym (append_assoc all cs (commit ∷ []))) (owed_told rest (front ++ Replicate ts ops ∷ []) (cs ++ commit ∷ []) next (right_true _ _ up)),
-            )
+      elim (commit_of ts all) as (λ o. AllTold fill (all ++ cs) seen (unless_told ts o commit (owed fill number all past rest))) [
+        | Some rows ↦ owed_told rest (front ++ Replicate ts ops ∷ []) cs next
+        | None ↦ elim (nat_lt 0 ts) as (λ b. nat_lt 0 ts ≡ b → AllTold fill (all ++ cs) seen (cond b (commit ∷ owed fill number all past rest) (owed fill number all past rest))) [
+          | true ↦ λ up. (
+            record {
+              up = from_test 0 ts up;
+              ops = ops;
+              stands = ap (ops_of ts) split ∙ ops_found ts front ops (rest ++ cs) (lacks_before [] front ts ops rest (subst IsLog is log));
+              tells = subst (λ (r : Rows). Tells fill r ops (rows_told fill number (rows_before ts past) ops)) (sym (alike (ts - 1))) (tells_before fill number ts past ops counted (from_test 0 ts up));
+            },
+            subst (λ l. AllTold fill l seen (owed fill number all past rest)) (sym (append_assoc all cs (commit ∷ []))) (owed_told rest (front ++ Replicate ts ops ∷ []) (cs ++ commit ∷ []) next),
+          )
+          | false ↦ λ low. owed_told rest (front ++ Replicate ts ops ∷ []) cs next
+        ] refl
       ]
 
 -- and changes nothing
 pub owed_same : (fill : Row) (number : ℕ) (all : List Entry) (past final : Past) (rest : List Entry) → with_records fill past (owed fill number all final rest) ≡ past
 owed_same fill number all past final [] = refl
 owed_same fill number all past final (Commit t rows ∷ rest) = owed_same fill number all past final rest
-owed_same fill number all past final (Replicate ts ops ∷ rest) = elim (commit_of ts all) as (λ o. with_records fill past (unless_told o (Commit ts (rows_told fill number (rows_before ts final) ops)) (owed fill number all final rest)) ≡ past) [
-  | None ↦ owed_same fill number all past final rest
-  | Some rows ↦ owed_same fill number all past final rest
-]
+owed_same fill number all past final (Replicate ts ops ∷ rest) =
+    let more = owed_same fill number all past final rest in
+    let commit = Commit ts (rows_told fill number (rows_before ts final) ops) in
+    elim (commit_of ts all) as (λ o. with_records fill past (unless_told ts o commit (owed fill number all final rest)) ≡ past) [
+      | None ↦ elim (nat_lt 0 ts) as (λ b. with_records fill past (cond b (commit ∷ owed fill number all final rest) (owed fill number all final rest)) ≡ past) [ true ↦ more | false ↦ more ]
+      | Some rows ↦ more
+    ]
+
+-- ---- it is COMMITs, which leave the last timestamp
+
+owed_none : (fill : Row) (number : ℕ) (all : List Entry) (past : Past) (rest : List Entry) → last_of (owed fill number all past rest) ≡ 0
+owed_none fill number all past [] = refl
+owed_none fill number all past (Commit t rows ∷ rest) = owed_none fill number all past rest
+owed_none fill number all past (Replicate ts ops ∷ rest) =
+    let more = owed_none fill number all past rest in
+    let commit = Commit ts (rows_told fill number (rows_before ts past) ops) in
+    elim (commit_of ts all) as (λ o. last_of (unless_told ts o commit (owed fill number all past rest)) ≡ 0) [
+      | None ↦ elim (nat_lt 0 ts) as (λ b. last_of (cond b (commit ∷ owed fill number all past rest) (owed fill number all past rest)) ≡ 0) [ true ↦ more | false ↦ more ]
+      | Some rows ↦ more
+    ]
+
+last_behind : (front run : List Entry) → last_of run ≡ 0 → last_of (front ++ run) ≡ last_of front
+last_behind [] run none = none
+last_behind (Replicate t ops ∷ front) run none = ap (max t) (last_behind front run none)
+last_behind (Commit t rows ∷ front) run none = last_behind front run none
+
+pub owed_last : (fill : Row) (number : ℕ) (past : Past) (records : List Entry) → last_of (records ++ owed fill number records past records) ≡ last_of records
+owed_last fill number past records = last_behind records (owed fill number records past records) (owed_none fill number records past records)

@@ -21,7 +21,7 @@ use Rattle.kt_memrowset.specs.declared.store.MemRowSet.{MemRowSet}
 use Rattle.kt_loglaws.specs.Replay.{commit_of, is_needed, needed_ops, replayed}
 use Rattle.kt_boot.specs.Reopening.{needs_of, unless_told}
 use Rattle.kt_boot.specs.Rebuilding.{kind_in, taken, taken_as, all_taken, all_told, fits_store, rebuilt, owed_by, MayTake, MayTakeAll, TakesAll}
-use Rattle.kt_boot.proofs.Pasts.{different, different_replayed}
+use Rattle.kt_boot.proofs.Keys.{different, different_replayed}
 use Rattle.kt_boot.proofs.Taking.{hist_in-put}
 
 -- every change of every key lies below
@@ -113,9 +113,12 @@ over_commit all s t old new queued ts rows rest a = record {
 from_test : (a b : ℕ) → nat_lt a b ≡ true → a < b
 from_test a b h = grind (arith, nat_tests)
 
-told_more : (commit : Option (List CommitRow)) (r : Entry) (queued rest : List Entry) → (queued ++ unless_told commit r []) ++ rest ≡ queued ++ unless_told commit r rest
-told_more None r queued rest = append_assoc queued (r ∷ []) rest
-told_more (Some rows) r queued rest = ap (λ q. q ++ rest) (append-nil queued)
+told_more : (ts : ℕ) (commit : Option (List CommitRow)) (r : Entry) (queued rest : List Entry) → (queued ++ unless_told ts commit r []) ++ rest ≡ queued ++ unless_told ts commit r rest
+told_more ts None r queued rest = elim (nat_lt 0 ts) as (λ b. (queued ++ cond b (r ∷ []) []) ++ rest ≡ queued ++ cond b (r ∷ rest) rest) [
+  | true ↦ append_assoc queued (r ∷ []) rest
+  | false ↦ ap (λ q. q ++ rest) (append-nil queued)
+]
+told_more ts (Some rows) r queued rest = ap (λ q. q ++ rest) (append-nil queued)
 
 module _ (all : List Entry) (s t : MemRowSet) (old mid : Contents) (queued : List Entry) (ts : ℕ) (ops : List RowOp) (rest : List Entry) (a : Along all s t old mid queued (Replicate ts ops ∷ rest)) (commit : Option (List CommitRow)) (its : commit ≡ commit_of ts all) where
   -- the operations of the write may be taken
@@ -135,7 +138,7 @@ module _ (all : List Entry) (s t : MemRowSet) (old mid : Contents) (queued : Lis
   rebuilt_here = sym a.store ∙ ap (λ o. cond (fits_store ts ops o (store_of t mid)) (rebuilt all (all_taken ts (replayed ops o) (store_of t mid)) rest) (Err ts)) (sym its)
 
   pub over_write : (u : MemRowSet) (new : Contents) (more : List Entry) → fits_store ts ops commit (store_of t mid) ≡ true → TakesAll t u mid new ts (replayed ops commit)
-      → more ≡ queued ++ unless_told commit (Commit ts (all_told (number_of t) ts ops (store_of t mid))) [] → Along all s u old new more rest
+      → more ≡ queued ++ unless_told ts commit (Commit ts (all_told (number_of t) ts ops (store_of t mid))) [] → Along all s u old new more rest
   over_write u new more fits takes adds = record {
     before = Replicate ts ops ∷ a.before;
     order = a.order.2;
@@ -148,9 +151,9 @@ module _ (all : List Entry) (s t : MemRowSet) (old mid : Contents) (queued : Lis
     room = takes.room (needs_of all rest) needs_all;
     owed =
         ap (λ q. q ++ owed_by (number_of s) all (store_of u new) rest) adds
-        ∙ told_more commit (Commit ts (all_told (number_of t) ts ops (store_of t mid))) queued (owed_by (number_of s) all (store_of u new) rest)
-        ∙ (λ i. queued ++ unless_told (its i) (Commit ts (all_told (a.number i) ts ops (store_of t mid))) (owed_by (number_of s) all (takes.store i) rest))
-        ∙ ap (λ o. queued ++ unless_told (commit_of ts all) (Commit ts (all_told (number_of s) ts ops (store_of t mid))) (owed_by (number_of s) all (all_taken ts (replayed ops o) (store_of t mid)) rest)) its
+        ∙ told_more ts commit (Commit ts (all_told (number_of t) ts ops (store_of t mid))) queued (owed_by (number_of s) all (store_of u new) rest)
+        ∙ (λ i. queued ++ unless_told ts (its i) (Commit ts (all_told (a.number i) ts ops (store_of t mid))) (owed_by (number_of s) all (takes.store i) rest))
+        ∙ ap (λ o. queued ++ unless_told ts (commit_of ts all) (Commit ts (all_told (number_of s) ts ops (store_of t mid))) (owed_by (number_of s) all (all_taken ts (replayed ops o) (store_of t mid)) rest)) its
         ∙ a.owed;
   }
 

@@ -16,13 +16,13 @@ use Rattle.kt_memrowset.proofs.Frames.{is_still, store_still}
 use Rattle.kt_memrowset.specs.declared.store.MemRowSet.{MemRowSet}
 use Rattle.kt_loglaws.specs.Replay.{replay, empty, last_of, gate_of}
 use Rattle.kt_loglaws.specs.Fronts.{with_records, AllTold}
-use Rattle.kt_boot.specs.declared.refusal.PlainNo.TheVariants.{B3}
+use Rattle.kt_boot.specs.declared.opening.Why.TheVariants.{B3}
 use Rattle.kt_boot.specs.Opening.{opened, found_or_late, last_most}
-use Rattle.kt_boot.specs.Reopening.{AreWhole, mem_number, owed, IsReopened}
+use Rattle.kt_boot.specs.Reopening.{mem_number, owed, IsReopened}
 use Rattle.kt_boot.specs.Rebuilding.{rebuilt, owed_by}
 use Rattle.kt_boot.proofs.Walks.{Meets, Ends, meets, owed_alike, walk_first}
-use Rattle.kt_boot.proofs.Openings.{found_past, found_late, opens}
-use Rattle.kt_boot.proofs.Owing.{owed_log, owed_told, owed_same}
+use Rattle.kt_boot.proofs.Openings.{found_past, found_late, opens, rows_told}
+use Rattle.kt_boot.proofs.Owing.{owed_log, owed_told, owed_same, owed_last}
 
 not_most : (last : ℕ) → last < last_most → nat_le last_most last ≡ false
 not_most last h = grind (arith, nat_tests)
@@ -30,30 +30,35 @@ not_most last h = grind (arith, nat_tests)
 opened_is : (fill : Row) (records : List Entry) → last_of records < last_most → opened fill (Ok records) ≡ found_or_late records (replay fill records empty records)
 opened_is fill records low = rw (not_most (last_of records) low) refl
 
-both_meet : (fill : Row) (records : List Entry) → IsLog records → Meets (AreWhole fill records) fill (last_of records) (rebuilt records [] records) (replay fill records empty records)
+both_meet : (fill : Row) (records : List Entry) → IsLog records → Meets fill (last_of records) (rebuilt records [] records) (replay fill records empty records)
 both_meet fill records log =
     let e : max 0 (last_of records) ≡ last_of records = omega arith in
-    subst (λ n. Meets (AreWhole fill records) fill n (rebuilt records [] records) (replay fill records empty records)) e (meets (AreWhole fill records) fill records records [] [] empty [] log (λ w. w) (walk_first (AreWhole fill records) fill))
+    subst (λ n. Meets fill n (rebuilt records [] records) (replay fill records empty records)) e (meets fill records records [] [] empty [] log (walk_first fill))
 
 module _ (fill : Row) (records : List Entry) (log : IsLog records) (low : last_of records < last_most) where
-  pub past_found : (store : Store) → rebuilt records [] records ≡ Ok store → (past : Past) × (replay fill records empty records ≡ Ok past) × Ends (AreWhole fill records) fill (last_of records) store past
-  past_found store is = found_past (AreWhole fill records) fill (last_of records) (rebuilt records [] records) (replay fill records empty records) store (both_meet fill records log) is
+  pub past_found : (store : Store) → rebuilt records [] records ≡ Ok store → (past : Past) × (replay fill records empty records ≡ Ok past) × Ends fill (last_of records) store past
+  past_found store is = found_past fill (last_of records) (rebuilt records [] records) (replay fill records empty records) store (both_meet fill records log) is
 
   owes_it : (number : ℕ) (past : Past) → replay fill records empty records ≡ Ok past → owed_by number records [] records ≡ owed fill number records past records
-  owes_it number past is = owed_alike (AreWhole fill records) fill records number records [] [] empty past [] log (λ w. w) (walk_first (AreWhole fill records) fill) is
+  owes_it number past is = owed_alike fill records number records [] [] empty past [] log (walk_first fill) is
 
   pub reopened : (store : Store) (last number : ℕ) (queued : List Entry) → last ≡ last_of records → 0 < number → rebuilt records [] records ≡ Ok store → queued ≡ owed_by number records [] records → (past : Past) × IsReopened fill records store last number queued past
   reopened store last number queued last_is counted is queues =
       let found = past_found store is in
-      let past = found.0 in
-      let owes : queued ≡ owed fill number records past records = queues ∙ owes_it number past found.1 in (
+      let whole = found.0 in
+      let past = raise whole 0 in
+      let owes : queued ≡ owed fill number records whole records = queues ∙ owes_it number whole found.1 in (
         past,
         record {
+          whole = whole;
+          holds = found.1;
+          raised = refl;
           found = opened_is fill records low ∙ ap (found_or_late records) found.1 ∙ ap (λ n. Ok (record { past = past; last = n })) (sym last_is);
-          opens = λ w. subst (λ n. Opens (filled fill store ∷ []) 0 n (raise past 0)) (sym last_is) (opens (AreWhole fill records) fill (last_of records) store past found.2 w);
+          opens = subst (λ n. Opens (filled fill store ∷ []) 0 n past) (sym last_is) (opens fill (last_of records) store whole found.2);
           owes = owes;
-          told = λ up. subst (AllTold fill records past) (sym owes) (subst (λ l. AllTold fill l past (owed fill number records past records)) (append-nil records) (owed_told fill number counted records log past records [] [] refl up));
-          same = ap (with_records fill past) owes ∙ owed_same fill number records past past records;
+          told = subst (AllTold fill records past) (sym owes) (subst (λ l. AllTold fill l past (owed fill number records whole records)) (append-nil records) (owed_told fill number counted records log whole past (λ t. rows_told whole t found.2.bare.0 found.2.starts) records [] [] refl));
+          same = ap (with_records fill past) owes ∙ owed_same fill number records past whole records;
+          ends = ap (λ q. last_of (records ++ q)) owes ∙ owed_last fill number whole records ∙ sym last_is;
         },
       )
 
@@ -65,7 +70,7 @@ module _ (fill : Row) (records : List Entry) (log : IsLog records) (low : last_o
 
   pub reopened_late : (ts gate : ℕ) → rebuilt records [] records ≡ Err ts → gate ≡ gate_of ts records → opened fill (Ok records) ≡ Err (B3 gate)
   reopened_late ts gate is gate_is =
-      opened_is fill records low ∙ ap (found_or_late records) (found_late (AreWhole fill records) fill (last_of records) ts (rebuilt records [] records) (replay fill records empty records) (both_meet fill records log) is) ∙ ap (λ g. Err (B3 g)) (sym gate_is)
+      opened_is fill records low ∙ ap (found_or_late records) (found_late fill (last_of records) ts (rebuilt records [] records) (replay fill records empty records) (both_meet fill records log) is) ∙ ap (λ g. Err (B3 g)) (sym gate_is)
 
 pub at_least_one : (records : List Entry) (number : ℕ) → number ≡ mem_number records → 0 < number
 at_least_one records number e = omega arith

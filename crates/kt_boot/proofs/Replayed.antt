@@ -49,11 +49,6 @@ needed_from (o ∷ ops) (row ∷ rows) (suc i) op lt is = needed_from ops rows i
 pub changes_first : (fill : Row) (table : Rows) (op : RowOp) (ops : List RowOp) → changes_on fill table (op ∷ []) ++ changes_on fill table ops ≡ changes_on fill table (op ∷ ops)
 changes_first fill table op ops = elim (keyed op.key (effect_on fill table op).0) as (λ o. cons_option o [] ++ changes_on fill table ops ≡ cons_option o (changes_on fill table ops)) [ None ↦ refl | Some change ↦ refl ]
 
--- how far the needed operations are read, with these changes
-pub record Needs (fill : Row) (table : Rows) (ops : List RowOp) (rows : List CommitRow) (i : ℕ) (changes : Changes) : Type 0 where
-  pub made : changes ++ changes_on fill table (needed_ops (drop i ops) (drop i rows)) ≡ changes_on fill table (needed_ops ops rows)
-  pub fits : all_change fill table (needed_ops (drop i ops) (drop i rows)) ≡ all_change fill table (needed_ops ops rows)
-
 module _ (fill : Row) (table : Rows) (ops : List RowOp) (rows : List CommitRow) (i j : ℕ) (op : RowOp) (lt : i < length ops) (is : op ≡ get_or ops i op) (next : j ≡ i + 1) where
   here : needed_ops (drop i ops) (drop i rows) ≡ cond (needs (slice_get rows i)) (op ∷ needed_ops (drop j ops) (drop j rows)) (needed_ops (drop j ops) (drop j rows))
   here = let e : j ≡ suc i = omega arith in rw e (needed_from ops rows i op lt is)
@@ -64,66 +59,10 @@ module _ (fill : Row) (table : Rows) (ops : List RowOp) (rows : List CommitRow) 
   pub needed_not : needs (slice_get rows i) ≡ false → needed_ops (drop i ops) (drop i rows) ≡ needed_ops (drop j ops) (drop j rows)
   needed_not e = here ∙ ap (λ b. cond b (op ∷ needed_ops (drop j ops) (drop j rows)) (needed_ops (drop j ops) (drop j rows))) e
 
-  pub passed : (changes : Changes) → Needs fill table ops rows i changes → needs (slice_get rows i) ≡ false → Needs fill table ops rows j changes
-  passed changes h e =
-      let same : needed_ops (drop i ops) (drop i rows) ≡ needed_ops (drop j ops) (drop j rows) = here ∙ ap (λ b. cond b (op ∷ needed_ops (drop j ops) (drop j rows)) (needed_ops (drop j ops) (drop j rows))) e in
-      record {
-        made = ap (λ left. changes ++ changes_on fill table left) (sym same) ∙ h.made;
-        fits = ap (all_change fill table) (sym same) ∙ h.fits;
-      }
-
-  pub taken : (changes new : Changes) → Needs fill table ops rows i changes → needs (slice_get rows i) ≡ true → is_some (effect_on fill table op).0 ≡ true → new ≡ changes ++ changes_on fill table (op ∷ []) → Needs fill table ops rows j new
-  taken changes new h e some push =
-      let left = needed_ops (drop j ops) (drop j rows) in
-      record {
-        made = ap (λ (l : Changes). l ++ changes_on fill table left) push ∙ append_assoc changes (changes_on fill table (op ∷ [])) (changes_on fill table left) ∙ ap (λ (l : Changes). changes ++ l) (changes_first fill table op left)
-            ∙ ap (λ left. changes ++ changes_on fill table left) (sym (needed_here e)) ∙ h.made;
-        fits = sym (ap (λ b. b && all_change fill table left) some) ∙ ap (all_change fill table) (sym (needed_here e)) ∙ h.fits;
-      }
-
-  pub unfit : (changes : Changes) → Needs fill table ops rows i changes → needs (slice_get rows i) ≡ true → is_some (effect_on fill table op).0 ≡ false → all_change fill table (needed_ops ops rows) ≡ false
-  unfit changes h e none = sym h.fits ∙ ap (all_change fill table) (needed_here e) ∙ ap (λ b. b && all_change fill table (needed_ops (drop j ops) (drop j rows))) none
-
 -- the timestamp of the newest write, or 0
 abbrev pub last_before : List Entry → ℕ
 last_before before = unwrap_or (last_ts before) 0
 
--- how far the records are replayed: the rest goes on from this past and table
-pub record Along (fill : Row) (records : List Entry) (past : Past) (table : Rows) (rest : List Entry) : Type 0 where
-  pub more : replay fill records past rest ≡ replay fill records empty records
-  pub before : List Entry
-  pub order : InOrder before rest
-  pub last : max (last_before before) (last_of rest) ≡ last_of records
-  pub rows : (t : ℕ) → last_before before ≤ t → table ≡ rows_at past t
-
-pub at_first : (fill : Row) (records : List Entry) → InOrder [] records → Along fill records empty [] records
-at_first fill records log = record { more = refl; before = []; order = log; last = omega arith; rows = λ t le. refl }
-
 pub below : (last : Option ℕ) (ts : ℕ) → is_above last ts ≡ true → unwrap_or last 0 ≤ ts - 1
 below None ts h = omega arith
 below (Some last) ts h = grind (arith, nat_tests)
-
-pub over_commit : (fill : Row) (records : List Entry) (past : Past) (table : Rows) (t : ℕ) (rows : List CommitRow) (rest : List Entry) → Along fill records past table (Commit t rows ∷ rest) → Along fill records past table rest
-over_commit fill records past table t rows rest a = record { more = a.more; before = Commit t rows ∷ a.before; order = a.order.2; last = a.last; rows = a.rows }
-
-module _ (fill : Row) (records : List Entry) (past : Past) (table : Rows) (ts : ℕ) (ops : List RowOp) (rest : List Entry) (a : Along fill records past table (Replicate ts ops ∷ rest)) (commit : Option (List CommitRow)) (its : commit ≡ commit_of ts records) where
-  low : last_before a.before ≤ ts - 1
-  low = below (last_ts a.before) ts a.order.1
-
-  one_step : replay fill records empty records ≡ cond (is_fitting fill table ops commit) (replay fill records (with_write past ts (changes_on fill table (replayed ops commit))) rest) (Err ts)
-  one_step = sym a.more ∙ rw (a.rows (ts - 1) low, its) refl
-
-  pub over_write : (changes : Changes) (past' : Past) (table' : Rows) → is_fitting fill table ops commit ≡ true → changes ≡ changes_on fill table (replayed ops commit) → past' ≡ with_write past ts changes → table' ≡ changed changes table → Along fill records past' table' rest
-  over_write changes past' table' fits made adds moves = record {
-    more = rw (adds, made) (sym (one_step ∙ ap (λ b. cond b (replay fill records (with_write past ts (changes_on fill table (replayed ops commit))) rest) (Err ts)) fits));
-    before = Replicate ts ops ∷ a.before;
-    order = a.order.2;
-    last = let down = low in let was = a.last in omega arith;
-    rows = λ t le. let down = low in moves ∙ ap (changed changes) (a.rows t (omega arith)) ∙ sym (rows_at-with_write_from past ts changes t le) ∙ ap (λ p. rows_at p t) (sym adds);
-  }
-
-  pub late_write : is_fitting fill table ops commit ≡ false → replay fill records empty records ≡ Err ts
-  late_write unfits = one_step ∙ ap (λ b. cond b (replay fill records (with_write past ts (changes_on fill table (replayed ops commit))) rest) (Err ts)) unfits
-
-pub at_end : (fill : Row) (records : List Entry) (past : Past) (table : Rows) → Along fill records past table [] → (replay fill records empty records ≡ Ok past) × (table ≡ rows_at past (last_of records))
-at_end fill records past table a = (sym a.more, a.rows (last_of records) (let was = a.last in omega arith))

@@ -17,7 +17,6 @@ use Rattle.kt_histlaws.specs.Fitting.{AreSound}
 use Rattle.kt_histlaws.proofs.Pending.{same_key, itself}
 use Rattle.kt_memrowset.specs.Stores.{change_by}
 use Rattle.kt_tablet.specs.Stores.{apply_all}
-use Rattle.kt_tablet.specs.Filling.{IsWhole}
 use Rattle.kt_tablet.proofs.Filling.{last_under}
 use Rattle.kt_boot.specs.Reopening.{row_told}
 use Rattle.kt_boot.specs.Rebuilding.{is_there, kind_in, taken_as, taken, told, kindly_of}
@@ -25,16 +24,16 @@ use Rattle.kt_boot.proofs.Taking.{hist_in-put}
 use Rattle.kt_boot.proofs.Alike.{AreAlike, IsAlike, last_alike, alike_push, effect_alike, effect_none, effect_some, effect_told, hist, sound_step}
 
 -- the store has these changes of each key, which make these rows
-pub record At (W : Type 0) (fill : Row) (store : Store) (line : List ℕ → Steps) (row : List ℕ → Option Row) : Type 0 where
+pub record At (fill : Row) (store : Store) (line : List ℕ → Steps) (row : List ℕ → Option Row) : Type 0 where
   pub first : (q : List ℕ) → (hist_in q store).first ≡ None
-  pub alike : (q : List ℕ) → AreAlike W fill (hist_in q store).steps (line q)
+  pub alike : (q : List ℕ) → AreAlike fill (hist_in q store).steps (line q)
   pub rows : (q : List ℕ) → apply_all (line q) None ≡ row q
   pub sound : (q : List ℕ) → AreSound 0 (hist (line q) ∷ [])
 
-pub at_along : (W : Type 0) (fill : Row) (store : Store) (line more : List ℕ → Steps) (row next : List ℕ → Option Row) → ((q : List ℕ) → line q ≡ more q) → ((q : List ℕ) → row q ≡ next q) → At W fill store line row → At W fill store more next
-at_along W fill store line more row next same_line same_row at = record {
+pub at_along : (fill : Row) (store : Store) (line more : List ℕ → Steps) (row next : List ℕ → Option Row) → ((q : List ℕ) → line q ≡ more q) → ((q : List ℕ) → row q ≡ next q) → At fill store line row → At fill store more next
+at_along fill store line more row next same_line same_row at = record {
   first = at.first;
-  alike = λ q. subst (AreAlike W fill (hist_in q store).steps) (same_line q) (at.alike q);
+  alike = λ q. subst (AreAlike fill (hist_in q store).steps) (same_line q) (at.alike q);
   rows = λ q. ap (λ steps. apply_all steps None) (sym (same_line q)) ∙ at.rows q ∙ same_row q;
   sound = λ q. subst (λ steps. AreSound 0 (hist steps ∷ [])) (same_line q) (at.sound q);
 }
@@ -56,15 +55,15 @@ or_none None = refl
 or_none (Some x) = refl
 
 -- whether a key is there in a store
-pub there : (W : Type 0) (fill : Row) (store : Store) (line : List ℕ → Steps) (row : List ℕ → Option Row) (q : List ℕ) → At W fill store line row → is_there q store ≡ is_some (row q)
-there W fill store line row q at = ap (λ f. is_some (apply_all (hist_in q store).steps f)) (at.first q) ∙ last_alike W fill (hist_in q store).steps (line q) None None (at.alike q) refl ∙ ap is_some (at.rows q)
+pub there : (fill : Row) (store : Store) (line : List ℕ → Steps) (row : List ℕ → Option Row) (q : List ℕ) → At fill store line row → is_there q store ≡ is_some (row q)
+there fill store line row q at = ap (λ f. is_some (apply_all (hist_in q store).steps f)) (at.first q) ∙ last_alike fill (hist_in q store).steps (line q) None None (at.alike q) refl ∙ ap is_some (at.rows q)
 
 apply_all-push : (ts : ℕ) (c : Change) (steps : Steps) (row : Option Row) → apply_all (steps ++ (ts, c) ∷ []) row ≡ apply c (apply_all steps row)
 apply_all-push ts c [] row = refl
 apply_all-push ts c (x ∷ steps) row = apply_all-push ts c steps (apply x.1 row)
 
-module _ (W : Type 0) (fill : Row) (table : Rows) (writes : List PastWrite) (ts : ℕ) (store : Store) (changes : Changes) (op : RowOp)
-    (at : At W fill store (line_with writes ts changes) (row_with table changes)) (fresh : find key_cmp op.key changes ≡ None) (under : Under ts (timeline op.key writes)) where
+module _ (fill : Row) (table : Rows) (writes : List PastWrite) (ts : ℕ) (store : Store) (changes : Changes) (op : RowOp)
+    (at : At fill store (line_with writes ts changes) (row_with table changes)) (fresh : find key_cmp op.key changes ≡ None) (under : Under ts (timeline op.key writes)) where
   line_here : line_with writes ts changes op.key ≡ timeline op.key writes
   line_here = ap (λ o. timeline op.key writes ++ joined ts o []) fresh ∙ append-nil (timeline op.key writes)
 
@@ -72,12 +71,12 @@ module _ (W : Type 0) (fill : Row) (table : Rows) (writes : List PastWrite) (ts 
   row_here = ap (λ o. row_after o (find key_cmp op.key table)) fresh
 
   pub present : is_there op.key store ≡ is_some (find key_cmp op.key table)
-  present = there W fill store (line_with writes ts changes) (row_with table changes) op.key at ∙ ap is_some row_here
+  present = there fill store (line_with writes ts changes) (row_with table changes) op.key at ∙ ap is_some row_here
 
   rows_here : apply_all (timeline op.key writes) None ≡ find key_cmp op.key table
   rows_here = ap (λ steps. apply_all steps None) (sym line_here) ∙ at.rows op.key ∙ row_here
 
-  module _ (kind : Kindly) (c : Change) (is : (effect fill op.kind op.cells (find key_cmp op.key table)).0 ≡ Some c) (alike : IsAlike W fill (change_by kind op) c) where
+  module _ (kind : Kindly) (c : Change) (is : (effect fill op.kind op.cells (find key_cmp op.key table)).0 ≡ Some c) (alike : IsAlike fill (change_by kind op) c) where
     abbrev more : Changes
     more = changes ++ (op.key, c) ∷ []
 
@@ -95,13 +94,13 @@ module _ (W : Type 0) (fill : Row) (table : Rows) (writes : List PastWrite) (ts 
 
     -- what holds of one key
     abbrev Key : List ℕ → Hist → Type 0
-    Key q h = (h.first ≡ None) × AreAlike W fill h.steps (line_with writes ts more q) × (apply_all (line_with writes ts more q) None ≡ row_with table more q) × AreSound 0 (hist (line_with writes ts more q) ∷ [])
+    Key q h = (h.first ≡ None) × AreAlike fill h.steps (line_with writes ts more q) × (apply_all (line_with writes ts more q) None ≡ row_with table more q) × AreSound 0 (hist (line_with writes ts more q) ∷ [])
 
     key_here : Key op.key (push ts (change_by kind op) (hist_in op.key store))
     key_here = (
       at.first op.key,
-      subst (AreAlike W fill ((hist_in op.key store).steps ++ (ts, change_by kind op) ∷ [])) (sym line_more)
-          (alike_push W fill ts (change_by kind op) c (hist_in op.key store).steps (timeline op.key writes) (subst (AreAlike W fill (hist_in op.key store).steps) line_here (at.alike op.key)) alike),
+      subst (AreAlike fill ((hist_in op.key store).steps ++ (ts, change_by kind op) ∷ [])) (sym line_more)
+          (alike_push fill ts (change_by kind op) c (hist_in op.key store).steps (timeline op.key writes) (subst (AreAlike fill (hist_in op.key store).steps) line_here (at.alike op.key)) alike),
       ap (λ steps. apply_all steps None) line_more ∙ apply_all-push ts c (timeline op.key writes) None ∙ ap (apply c) rows_here ∙ ap (λ o. row_after o (find key_cmp op.key table)) (sym find_here),
       subst (λ steps. AreSound 0 (hist steps ∷ [])) (sym line_more)
           (sound_step ts fill op.kind op.cells c (timeline op.key writes) (subst (λ steps. AreSound 0 (hist steps ∷ [])) line_here (at.sound op.key)) under
@@ -113,7 +112,7 @@ module _ (W : Type 0) (fill : Row) (table : Rows) (writes : List PastWrite) (ts 
         let same = find_other q other in
         let line : line_with writes ts changes q ≡ line_with writes ts more q = ap (λ o. timeline q writes ++ joined ts o []) (sym same) in (
           at.first q,
-          subst (AreAlike W fill (hist_in q store).steps) line (at.alike q),
+          subst (AreAlike fill (hist_in q store).steps) line (at.alike q),
           ap (λ steps. apply_all steps None) (sym line) ∙ at.rows q ∙ ap (λ o. row_after o (find key_cmp q table)) (sym same),
           subst (λ steps. AreSound 0 (hist steps ∷ [])) line (at.sound q),
         )
@@ -125,25 +124,25 @@ module _ (W : Type 0) (fill : Row) (table : Rows) (writes : List PastWrite) (ts 
           | false ↦ λ e. key_other q e
         ] refl)
 
-    pub at_some : At W fill grown (line_with writes ts more) (row_with table more)
+    pub at_some : At fill grown (line_with writes ts more) (row_with table more)
     at_some = record { first = λ q. (key q).0; alike = λ q. (key q).1; rows = λ q. (key q).2; sound = λ q. (key q).3 }
 
   abbrev next : Changes
   next = changes ++ changes_on fill table (op ∷ [])
 
   -- the operation is taken, with the change that it makes
-  pub at_next : (W → IsWhole fill op.kind op.cells) → At W fill (taken ts op store) (line_with writes ts next) (row_with table next)
-  at_next whole =
+  pub at_next : At fill (taken ts op store) (line_with writes ts next) (row_with table next)
+  at_next =
       let kinds : kind_in op store ≡ kindly_of op.kind (is_some (find key_cmp op.key table)) = ap (kindly_of op.kind) present in
-      elim (kind_in op store) as (λ o. kind_in op store ≡ o → At W fill (taken_as ts op store o) (line_with writes ts next) (row_with table next)) [
+      elim (kind_in op store) as (λ o. kind_in op store ≡ o → At fill (taken_as ts op store o) (line_with writes ts next) (row_with table next)) [
         | None ↦ λ e.
             let none = effect_none fill op.kind op.cells (find key_cmp op.key table) (sym kinds ∙ e) in
             let same : changes ≡ next = sym (append-nil changes) ∙ ap (λ o. changes ++ cons_option (keyed op.key o) []) (sym none) in
-            subst (λ cs. At W fill store (line_with writes ts cs) (row_with table cs)) same at
+            subst (λ cs. At fill store (line_with writes ts cs) (row_with table cs)) same at
         | Some kind ↦ λ e.
-            let some = effect_alike W fill op.kind op.cells (find key_cmp op.key table) kind whole (sym kinds ∙ e) in
+            let some = effect_alike fill op.kind op.cells (find key_cmp op.key table) kind (sym kinds ∙ e) in
             let same : changes ++ (op.key, some.change) ∷ [] ≡ next = ap (λ o. changes ++ cons_option (keyed op.key o) []) (sym some.is) in
-            subst (λ cs. At W fill (taken_as ts op store (Some kind)) (line_with writes ts cs) (row_with table cs)) same (at_some kind some.change some.is some.alike)
+            subst (λ cs. At fill (taken_as ts op store (Some kind)) (line_with writes ts cs) (row_with table cs)) same (at_some kind some.change some.is some.alike)
       ] refl
 
   pub fits_first : is_some (kind_in op store) ≡ is_some (effect_on fill table op).0

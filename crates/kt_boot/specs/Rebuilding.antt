@@ -89,7 +89,7 @@ rebuilt all store (Replicate ts ops ∷ records) = if fits_store ts ops (commit_
 abbrev pub owed_by : ℕ → List Entry → Store → List Entry → List Entry
 owed_by number all store [] = []
 owed_by number all store (Commit ts rows ∷ records) = owed_by number all store records
-owed_by number all store (Replicate ts ops ∷ records) = unless_told (commit_of ts all) (Commit ts (all_told number ts ops store)) (owed_by number all (all_taken ts (replayed ops (commit_of ts all)) store) records)
+owed_by number all store (Replicate ts ops ∷ records) = unless_told ts (commit_of ts all) (Commit ts (all_told number ts ops store)) (owed_by number all (all_taken ts (replayed ops (commit_of ts all)) store) records)
 
 -- every change of the key of an operation lies below, and its cells have a spelling
 pub record MayTake (ts : ℕ) (store : Store) (op : RowOp) : Type 0 where

@@ -1,26 +1,21 @@
-//! Opening a tablet on its log: the records that a crash has left, made into a table again.
+//! Opening a tablet on its log: the records that a crash has left, made into rows again.
 //!
-//! For the layers above: `open_plain` gives the past that the log holds and the rows at its end, or the place of its
-//! first fault, and leaves nothing else behind on the device at any moment. `reopen` makes the same records into a
-//! MemRowSet that shows that past, and tells the COMMITs that the log still owes. It stands on kt_journal, kt_loglaws,
-//! kt_memrowset and kt_schema.
+//! For the layers above: `open_tablet` makes an engine of a log's device, which goes on from the past that the log holds,
+//! or tells why the log is refused. `reopen` makes the records of a log into a MemRowSet that shows that past, and tells
+//! the COMMITs that the log still owes, or gives the place of its first fault. It stands on kt_journal, kt_loglaws,
+//! kt_memrowset, kt_tablet, kt_engine and kt_schema.
 #![tactic(auto)]
 
-pub mod laws;
 mod needs;
 mod opening;
-mod past;
 mod rebuild;
-mod refusal;
 mod reopening;
 mod replay;
-mod table;
+mod tablet;
 
-pub use opening::{Plain, open_plain};
-pub use past::{PastList, PastWrite};
-pub use refusal::PlainNo;
+pub use opening::Why;
 pub use reopening::{Reopened, reopen};
-pub use table::{Table, TableRows};
+pub use tablet::{Closed, open_tablet};
 
 #[cfg(test)]
 mod tests;

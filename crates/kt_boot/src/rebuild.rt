@@ -153,7 +153,7 @@ fn queue(queued: &mut Vec<Entry>, entry: Entry) -> Result<(), NoMemory>
     Ok(())
 }
 
-// Takes the replayed operations of a write, and queues its COMMIT where it has none.
+// Takes the replayed operations of a write, and queues its COMMIT where it has none and is above 0.
 fn take_write(
     alloc: Global,
     mem: &mut MemRowSet,
@@ -169,7 +169,7 @@ fn take_write(
     requires room { need (replayed ops.now (option_map (λ rows. rows.now) commit)) ≤ pool.old.reserved }
     ensures fits { OnOk result (fits_store ts ops.now (option_map (λ rows. rows.now) commit.entry) (store_of mem.old pool.old) ≡ true) }
     ensures takes { OnOk result (TakesAll mem.old mem.new pool.old pool.new ts (replayed ops.now (option_map (λ rows. rows.now) commit.entry))) }
-    ensures queued { OnOk result (queued.new.items ≡ queued.old.items ++ unless_told (option_map (λ rows. rows.now) commit.entry) (Commit ts (all_told (number_of mem.old) ts ops.now (store_of mem.old pool.old))) []) }
+    ensures queued { OnOk result (queued.new.items ≡ queued.old.items ++ unless_told ts (option_map (λ rows. rows.now) commit.entry) (Commit ts (all_told (number_of mem.old) ts ops.now (store_of mem.old pool.old))) []) }
     ensures late { (t : ℕ) → result ≡ Err (ReplayNo.Late t) → (t ≡ ts) × (fits_store ts ops.now (option_map (λ rows. rows.now) commit.entry) (store_of mem.old pool.old) ≡ false) }
 {
     match commit {
@@ -180,7 +180,9 @@ fn take_write(
         }
         None => {
             let rows = take_all(alloc, mem, pool, ts, ops)?;
-            queue(queued, Entry::Commit { ts, rows })?;
+            if ts > 0 {
+                queue(queued, Entry::Commit { ts, rows })?;
+            }
         }
     }
     Ok(())

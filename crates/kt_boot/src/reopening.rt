@@ -1,5 +1,5 @@
 //! A log replayed into the cells of a pool.
-ghost use Rattle.std.specs.Prelude.{◌≡◌, ◌≢◌, ◌+◌, length, Ok, Err, IfOk, IfErr, false, ◌++◌};
+ghost use Rattle.std.specs.Prelude.{◌≡◌, ◌≢◌, ◌+◌, ◌<◌, ◌^◌, length, Ok, Err, IfOk, IfErr, false, ◌++◌};
 ghost use Rattle.kt_history.specs.History.{Past};
 ghost use Rattle.kt_journal.specs.Log.{IsLog};
 ghost use Rattle.kt_schema.specs.Columns.{fill_of};
@@ -7,9 +7,8 @@ ghost use Rattle.kt_memrowset.specs.Stores.{IsStore, store_of, number_of, is_fro
 ghost use Rattle.kt_boot.specs.Opening.{opened};
 ghost use Rattle.kt_boot.specs.Reopening.{mem_number, needs_of, IsReopened};
 
-use crate::PlainNo;
 use crate::needs::needs_of;
-use crate::opening::{LAST_MOST, gate_of, last_of};
+use crate::opening::{LAST_MOST, Why, gate_of, last_of};
 use crate::rebuild::{mem_number, rebuild};
 use crate::replay::{ReplayNo, commit_places};
 use kt_base::NoMemory;
@@ -54,13 +53,14 @@ pub fn reopen(
     records: &[Entry],
     schema: &Schema,
     cells: u32,
-) -> Result<Reopened, PlainNo>
+) -> Result<Reopened, Why>
     requires { IsLog records.now }
 
-    // The store opens the past that the log holds, and a COMMIT is queued for each write without one.
+    // The store opens the past that the log holds, and a COMMIT is queued for each write above 0 without one.
     ensures found { IfOk result (λ r. (past : Past) × IsReopened (fill_of schema.now) records.now (store_of r.mem r.pool) r.last (number_of r.mem) r.queued past) }
     ensures stands { IfOk result (λ r. IsStore r.mem r.pool × (is_frozen r.mem ≡ false)) }
     ensures number { IfOk result (λ r. number_of r.mem ≡ mem_number records.now) }
+    ensures fits { IfOk result (λ r. number_of r.mem < 2 ^ 64) }
     ensures unpromised { IfOk result (λ r. r.pool.reserved ≡ 0) }
     ensures size { IfOk result (λ r. length r.pool.places ≡ cells + needs_of records.now records.now) }
 
@@ -68,12 +68,12 @@ pub fn reopen(
     ensures log { IfOk result (λ r. IsLog (records.now ++ r.queued)) }
 
     // It is refused for the reason for which its content is, unless memory fails.
-    ensures refused { IfErr result (λ no. no ≢ PlainNo.Memory → opened (fill_of schema.now) (Ok records.now) ≡ Err no) }
-    ensures no_fault { IfErr result (λ no. no ≢ PlainNo.Fault) }
+    ensures refused { IfErr result (λ no. no ≢ Why.Memory → opened (fill_of schema.now) (Ok records.now) ≡ Err no) }
+    ensures no_fault { IfErr result (λ no. no ≢ Why.Fault) }
 {
     let last = last_of(records);
     if last >= LAST_MOST {
-        return Err(PlainNo::B6 { last });
+        return Err(Why::B6 { last });
     }
     let places = commit_places(alloc, records)?;
     let needs = needs_of(records, &places)?;
@@ -89,9 +89,9 @@ pub fn reopen(
                 queued,
             })
         }
-        Err(ReplayNo::Late { ts }) => Err(PlainNo::B3 {
+        Err(ReplayNo::Late { ts }) => Err(Why::B3 {
             offset: gate_of(alloc, ts, records)?,
         }),
-        Err(ReplayNo::Memory) => Err(PlainNo::Memory),
+        Err(ReplayNo::Memory) => Err(Why::Memory),
     }
 }

@@ -2,9 +2,10 @@ ghost use Rattle.std.specs.Prelude.{◌≡◌, [], IfOk};
 ghost use Rattle.kt_journal.specs.Log.{IsLog};
 ghost use Rattle.kt_memrowset.specs.Stores.{IsStore};
 
-use crate::{Plain, PlainNo, Reopened, open_plain, reopen};
-use kt_base::{Cell, Cells, Kind, Octets};
+use crate::{Reopened, Why, open_tablet, reopen};
+use kt_base::{Cell, Cells, Kind, MemClock, Octets, ReadingList};
 use kt_disk::{FileBytes, FileBytesList, MemDisk};
+use kt_engine::{Engine, LogNo};
 use kt_history::{Outcome, Target, View};
 use kt_journal::open_journal;
 use kt_records::{Entry, RecordList};
@@ -19,6 +20,11 @@ const INSERT: [u8; 28] = [
 
 const AGAIN: [u8; 28] = [
     1, 0, 32, 0, 0, 0, 0, 0, 0, 1, 0, 1, 1, 0, 97, 1, 0, 2, 0, 2, 5, 0, 0, 0, 0, 0, 0, 0,
+];
+
+// The same row, inserted at 0.
+const AT_THE_MARK: [u8; 28] = [
+    1, 0, 0, 0, 0, 0, 0, 0, 0, 1, 0, 1, 1, 0, 97, 1, 0, 2, 0, 2, 5, 0, 0, 0, 0, 0, 0, 0,
 ];
 
 // What became of the first: done in MemRowSet 1, and done in the first delta store of rowset 1.
@@ -94,137 +100,6 @@ fn disk_with(alloc: Global, bytes: &[u8]) -> Result<MemDisk, Fail>
     Ok(MemDisk::of(alloc, &files)?)
 }
 
-fn opened(alloc: Global, disk: MemDisk) -> Result<Result<Plain<MemDisk>, PlainNo>, Fail>
-    requires { disk.calls ≡ [] }
-{
-    let schema = schema(alloc)?;
-    match open_plain(alloc, disk, &schema) {
-        Ok(plain) => Ok(Ok(plain)),
-        Err((_, no)) => Ok(Err(no)),
-    }
-}
-
-// How many writes and rows a log has and its last timestamp, or why it is refused.
-fn told(alloc: Global, log: &[u8]) -> Result<Result<(usize, usize, u64), PlainNo>, Fail> {
-    match opened(alloc, disk_with(alloc, log)?)? {
-        Ok(plain) => Ok(Ok((plain.past.len(), plain.table.len(), plain.c))),
-        Err(no) => Ok(Err(no)),
-    }
-}
-
-#[test]
-fn logs_open_or_are_refused(rt: HostRuntime) -> Result<(), Fail> {
-    let alloc = rt.alloc();
-    let edge = (1 << 63) - (1 << 21);
-    let table: [(&[&[u8]], Result<(usize, usize, u64), PlainNo>); 9] = [
-        (&[], Ok((0, 0, 0))),
-        (&[&INSERT], Ok((1, 1, 4096))),
-        (&[&INSERT, &IN_MEMORY], Ok((1, 1, 4096))),
-        (&[&INSERT, &IN_DELTA], Ok((0, 0, 4096))),
-        (&[&INSERT, &AGAIN, &PRESENT], Ok((1, 1, 8192))),
-        (&[&INSERT, &AGAIN, &DONE], Err(PlainNo::B3 { offset: 66 })),
-        (&[&INSERT, &UPSERT], Ok((2, 2, edge - 1))),
-        (&[&INSERT, &LATER], Err(PlainNo::B6 { last: edge })),
-        (
-            &[&INSERT, &AGAIN, &DONE, &LATER],
-            Err(PlainNo::B6 { last: edge }),
-        ),
-    ];
-    for (payloads, expected) in table {
-        let log = log_of(alloc, payloads)?;
-        assert_eq!(rt; told(alloc, log.as_slice())?, expected);
-    }
-    Ok(())
-}
-
-#[test]
-fn a_log_cut_anywhere_opens_or_is_at_fault(rt: HostRuntime) -> Result<(), Fail> {
-    let alloc = rt.alloc();
-    let payloads: [&[u8]; 7] = [
-        &INSERT, &IN_MEMORY, &AGAIN, &PRESENT, &THIRD, &FOURTH, &UPSERT,
-    ];
-    let log = log_of(alloc, &payloads)?;
-    let log = log.as_slice();
-    let gates = [0, 33, 60, 93, 111, 133, 155, 177];
-    let writes = [0, 1, 1, 1, 1, 2, 3, 4];
-    for len in 0..log.len() + 1 {
-        let behind = gates.iter().filter(|gate| **gate <= len).count();
-        let at = behind.saturating_sub(1);
-        let (Some(gate), Some(count)) = (gates.get(at), writes.get(at)) else {
-            return Err("a gate more".into());
-        };
-        let found = told(alloc, &log[..len])?;
-        if len.saturating_sub(*gate) > 1 && *gate < 177 {
-            assert_eq!(rt;
-                found,
-                Err(PlainNo::B3 {
-                    offset: *gate as u64
-                })
-            );
-        } else {
-            assert_eq!(rt; found.map(|plain| plain.0), Ok(*count));
-        }
-    }
-    for (gate, count) in gates.iter().zip(&writes) {
-        let mut shut = log.to_vec(alloc)?;
-        if let Some(byte) = shut.get_mut(*gate) {
-            *byte = 0;
-        }
-        assert_eq!(rt; told(alloc, &shut)?.map(|plain| plain.0), Ok(*count));
-    }
-    Ok(())
-}
-
-#[test]
-fn an_upsert_without_a_cell_takes_the_default(rt: HostRuntime) -> Result<(), Fail> {
-    let alloc = rt.alloc();
-    let log = log_of(alloc, &[&INSERT, &UPSERT])?;
-    let Ok(plain) = opened(alloc, disk_with(alloc, log.as_slice())?)? else {
-        return Err("not opened".into());
-    };
-    let mut seen = Vec::new(alloc);
-    for (key, cells) in plain.table.iter() {
-        seen.push((key.first().copied(), format!(in alloc; "{cells:?}")?))?;
-    }
-    assert_eq!(rt; seen.len(), 2);
-    assert_eq!(rt; seen[0].0, Some(97));
-    assert_eq!(rt; seen[1].0, Some(98));
-    assert!(rt; seen[0].1.contains("Int(5)"));
-    assert!(rt; seen[1].1.contains("Int(7)"));
-    assert_eq!(rt; plain.past.as_slice().len(), 2);
-    assert_eq!(rt; plain.journal.count(), 2);
-    Ok(())
-}
-
-#[test]
-fn a_table_is_a_view_of_the_present(rt: HostRuntime) -> Result<(), Fail> {
-    let alloc = rt.alloc();
-    let log = log_of(alloc, &[&INSERT, &UPSERT])?;
-    let Ok(plain) = opened(alloc, disk_with(alloc, log.as_slice())?)? else {
-        return Err("not opened".into());
-    };
-    let mut keys = Vec::new(alloc);
-    for view in plain.table.views() {
-        let first = view.key_after(alloc, None)?;
-        keys.push(
-            first
-                .as_ref()
-                .and_then(|key| key.as_slice().first().copied()),
-        )?;
-        let second = view.key_after(alloc, Some(b"a"))?;
-        keys.push(
-            second
-                .as_ref()
-                .and_then(|key| key.as_slice().first().copied()),
-        )?;
-        assert!(rt; view.key_after(alloc, Some(b"b"))?.is_none());
-        assert!(rt; view.row_at(alloc, b"a", 0)?.is_some());
-        assert!(rt; view.row_at(alloc, b"c", 0)?.is_none());
-    }
-    assert_eq!(rt; keys.as_slice(), [Some(97), Some(98)].as_slice());
-    Ok(())
-}
-
 fn records_of(alloc: Global, disk: MemDisk) -> Result<RecordList, Fail>
     requires { disk.calls ≡ [] }
     ensures { IfOk result (λ records. IsLog records) }
@@ -236,7 +111,7 @@ fn records_of(alloc: Global, disk: MemDisk) -> Result<RecordList, Fail>
 }
 
 // A log that is replayed into a pool with 8 cells beside those that it needs.
-fn reopened(alloc: Global, log: &[u8]) -> Result<Result<Reopened, PlainNo>, Fail>
+fn reopened(alloc: Global, log: &[u8]) -> Result<Result<Reopened, Why>, Fail>
     ensures { IfOk result (λ found. IfOk found (λ r. IsStore r.mem r.pool)) }
 {
     let schema = schema(alloc)?;
@@ -245,7 +120,7 @@ fn reopened(alloc: Global, log: &[u8]) -> Result<Result<Reopened, PlainNo>, Fail
 }
 
 // How many keys, cells of the pool and COMMITs to be queued it has, and the number of its MemRowSet; or why it is refused.
-fn retold(alloc: Global, log: &[u8]) -> Result<Result<(u32, u32, usize, u64), PlainNo>, Fail> {
+fn retold(alloc: Global, log: &[u8]) -> Result<Result<(u32, u32, usize, u64), Why>, Fail> {
     match reopened(alloc, log)? {
         Ok(r) => Ok(Ok((r.mem.rows(), r.pool.size(), r.queued.len(), r.mem.id()))),
         Err(no) => Ok(Err(no)),
@@ -256,15 +131,20 @@ fn retold(alloc: Global, log: &[u8]) -> Result<Result<(u32, u32, usize, u64), Pl
 fn logs_are_replayed_into_a_pool(rt: HostRuntime) -> Result<(), Fail> {
     let alloc = rt.alloc();
     let edge = (1 << 63) - (1 << 21);
-    let table: [(&[&[u8]], Result<(u32, u32, usize, u64), PlainNo>); 9] = [
+    let table: [(&[&[u8]], Result<(u32, u32, usize, u64), Why>); 11] = [
         (&[], Ok((0, 8, 0, 1))),
         (&[&INSERT], Ok((1, 18, 1, 1))),
         (&[&INSERT, &IN_MEMORY], Ok((1, 18, 0, 1))),
         (&[&INSERT, &IN_DELTA], Ok((0, 8, 0, 1))),
         (&[&INSERT, &AGAIN, &PRESENT], Ok((1, 18, 1, 1))),
-        (&[&INSERT, &AGAIN, &DONE], Err(PlainNo::B3 { offset: 66 })),
+        (&[&INSERT, &AGAIN, &DONE], Err(Why::B3 { offset: 66 })),
         (&[&INSERT, &UPSERT], Ok((2, 28, 2, 1))),
-        (&[&INSERT, &LATER], Err(PlainNo::B6 { last: edge })),
+        (&[&INSERT, &LATER], Err(Why::B6 { last: edge })),
+        (
+            &[&INSERT, &AGAIN, &DONE, &LATER],
+            Err(Why::B6 { last: edge }),
+        ),
+        (&[&AT_THE_MARK], Ok((1, 18, 0, 1))),
         (
             &[&INSERT, &IN_MEMORY, &THIRD, &THIRD_IN_7],
             Ok((2, 28, 0, 7)),
@@ -323,5 +203,163 @@ fn a_write_without_a_commit_gets_one(rt: HostRuntime) -> Result<(), Fail> {
     assert_eq!(rt; told[1].0, 8192);
     assert_eq!(rt; told[1].1, Outcome::Present);
     assert_eq!(rt; told[1].2, None);
+    Ok(())
+}
+
+// The tablet that this log opens to, with 8 cells to write into.
+fn tablet_on(
+    alloc: Global,
+    disk: MemDisk,
+) -> Result<Result<Engine<MemDisk, (), MemClock>, Why>, Fail>
+    requires { disk.calls ≡ [] }
+{
+    let schema = schema(alloc)?;
+    let clock = MemClock::of(ReadingList::of(Vec::new(alloc)));
+    match open_tablet(alloc, disk, (), clock, &schema, 8) {
+        Ok(engine) => Ok(Ok(engine)),
+        Err(closed) => Ok(Err(closed.why)),
+    }
+}
+
+// The last timestamp of an engine, how many records are durable, and how many COMMITs wait for its log.
+fn state_of(
+    alloc: Global,
+    engine: &mut Engine<MemDisk, (), MemClock>,
+) -> Result<(u64, u64, usize), Fail> {
+    let (_, last) = engine.times();
+    let durable = engine.durable();
+    match engine.log_out(alloc, 1) {
+        Ok(batch) => Ok((last, durable, batch.records.len())),
+        Err(LogNo::Empty) => Ok((last, durable, 0)),
+        Err(_) => Err("not lent".into()),
+    }
+}
+
+// The same of the tablet that this disk opens to, or why it is refused.
+fn told_of(alloc: Global, disk: MemDisk) -> Result<Result<(u64, u64, usize), Why>, Fail>
+    requires { disk.calls ≡ [] }
+{
+    match tablet_on(alloc, disk)? {
+        Ok(mut engine) => Ok(Ok(state_of(alloc, &mut engine)?)),
+        Err(why) => Ok(Err(why)),
+    }
+}
+
+// And of the tablet that this log opens to.
+fn told(alloc: Global, log: &[u8]) -> Result<Result<(u64, u64, usize), Why>, Fail> {
+    told_of(alloc, disk_with(alloc, log)?)
+}
+
+#[test]
+fn logs_open_or_are_refused(rt: HostRuntime) -> Result<(), Fail> {
+    let alloc = rt.alloc();
+    let edge = (1 << 63) - (1 << 21);
+    let table: [(&[&[u8]], Result<(u64, u64, usize), Why>); 9] = [
+        (&[], Ok((0, 0, 0))),
+        (&[&INSERT], Ok((4096, 1, 1))),
+        (&[&INSERT, &IN_MEMORY], Ok((4096, 2, 0))),
+        (&[&INSERT, &IN_DELTA], Ok((4096, 2, 0))),
+        (&[&INSERT, &AGAIN, &PRESENT], Ok((8192, 3, 1))),
+        (&[&INSERT, &AGAIN, &DONE], Err(Why::B3 { offset: 66 })),
+        (&[&INSERT, &UPSERT], Ok((edge - 1, 2, 2))),
+        (&[&INSERT, &LATER], Err(Why::B6 { last: edge })),
+        (&[&AT_THE_MARK], Ok((0, 1, 0))),
+    ];
+    for (payloads, expected) in table {
+        let log = log_of(alloc, payloads)?;
+        assert_eq!(rt; told(alloc, log.as_slice())?, expected);
+    }
+    Ok(())
+}
+
+// A log of four writes, two with a COMMIT; the offsets of its gates, and what it opens to where it ends at each.
+const WRITES: [&[u8]; 7] = [
+    &INSERT, &IN_MEMORY, &AGAIN, &PRESENT, &THIRD, &FOURTH, &UPSERT,
+];
+
+const GATES: [(usize, (u64, u64, usize)); 8] = [
+    (0, (0, 0, 0)),
+    (33, (4096, 1, 1)),
+    (60, (4096, 2, 0)),
+    (93, (8192, 3, 1)),
+    (111, (8192, 4, 0)),
+    (133, (12288, 5, 1)),
+    (155, (16384, 6, 2)),
+    (177, ((1 << 63) - (1 << 21) - 1, 7, 3)),
+];
+
+// What the log of the four writes opens to where it is cut to this length.
+fn cut_to(len: usize) -> Result<(u64, u64, usize), Why> {
+    let mut found = Ok((0, 0, 0));
+    for (gate, state) in GATES {
+        if gate <= len {
+            found = if len - gate > 1 && gate < 177 {
+                Err(Why::B3 {
+                    offset: gate as u64,
+                })
+            } else {
+                Ok(state)
+            };
+        }
+    }
+    found
+}
+
+#[test]
+fn a_log_cut_anywhere_opens_or_is_at_fault(rt: HostRuntime) -> Result<(), Fail> {
+    let alloc = rt.alloc();
+    let log = log_of(alloc, &WRITES)?;
+    let log = log.as_slice();
+    for len in 0..log.len() + 1 {
+        assert_eq!(rt; told(alloc, &log[..len])?, cut_to(len));
+    }
+    Ok(())
+}
+
+#[test]
+fn a_log_ends_at_a_shut_gate(rt: HostRuntime) -> Result<(), Fail> {
+    let alloc = rt.alloc();
+    let log = log_of(alloc, &WRITES)?;
+    for (gate, state) in GATES {
+        let mut shut = log.as_slice().to_vec(alloc)?;
+        if let Some(byte) = shut.get_mut(gate) {
+            *byte = 0;
+        }
+        assert_eq!(rt; told(alloc, &shut)?, Ok(state));
+    }
+    Ok(())
+}
+
+// Appends what waits for the log of an engine, and gives an image that a crash then leaves.
+fn appended(alloc: Global, engine: &mut Engine<MemDisk, (), MemClock>) -> Result<MemDisk, Fail>
+    ensures { IfOk result (λ disk. disk.calls ≡ []) }
+{
+    let Ok(mut batch) = engine.log_out(alloc, 1) else {
+        return Err("not lent".into());
+    };
+    if batch.journal.append_batch(alloc, &batch.records).is_err() {
+        return Err("not appended".into());
+    }
+    let disk = batch.journal.into_disk();
+    Ok(disk.crash(alloc, disk.moment(), &[])?)
+}
+
+// The same for the tablet that this log opens to.
+fn paid(alloc: Global, log: &[u8]) -> Result<MemDisk, Fail>
+    ensures { IfOk result (λ disk. disk.calls ≡ []) }
+{
+    match tablet_on(alloc, disk_with(alloc, log)?)? {
+        Ok(mut engine) => appended(alloc, &mut engine),
+        Err(_) => Err("not opened".into()),
+    }
+}
+
+#[test]
+fn what_is_owed_is_owed_once(rt: HostRuntime) -> Result<(), Fail> {
+    let alloc = rt.alloc();
+    let log = log_of(alloc, &WRITES)?;
+    let last = (1 << 63) - (1 << 21) - 1;
+    let disk = paid(alloc, log.as_slice())?;
+    assert_eq!(rt; told_of(alloc, disk)?, Ok((last, 10, 0)));
     Ok(())
 }

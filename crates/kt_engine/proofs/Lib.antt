@@ -12,3 +12,5 @@ pub mod Plans
 pub mod Devices
 pub mod Raised
 pub mod Crashes
+pub mod Examples
+pub mod Placed

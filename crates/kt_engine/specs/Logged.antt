@@ -40,6 +40,18 @@ pub record Waits (records : List Entry) (places : List (ℕ × ℕ)) (w : Aloft)
   pub place : place_of w.s places ≡ Some (suc n)
   pub there : slice_get records n ≡ Some (Replicate w.ts w.ops)
 
+-- the REPLICATE of a flying write is placed among so many records
+pub record IsPlaced (many : ℕ) (places : List (ℕ × ℕ)) (w : Aloft) : Type 0 where
+  pub place : ℕ
+  pub at : place_of w.s places ≡ Some place
+  pub among : place ≤ many
+
+-- it is at its place among these records, counted from 1
+pub record IsThere (records : List Entry) (places : List (ℕ × ℕ)) (w : Aloft) : Type 0 where
+  pub n : ℕ
+  pub place : place_of w.s places ≡ Some (suc n)
+  pub there : slice_get records n ≡ Some (Replicate w.ts w.ops)
+
 -- no two flying writes have one timestamp
 abbrev pub AreApart : List Aloft → Type 0
 AreApart [] = Unit {0}

@@ -1,5 +1,5 @@
 //! The engine, as it is opened and taken apart.
-ghost use Rattle.std.specs.Prelude.{◌≡◌, ◌<◌, ◌≤◌, ◌^◌, ℕ, IsTrue, IfOk, IfErr, OnErr, Some, None, false, true, [], ◌∷◌, ◌++◌, length};
+ghost use Rattle.std.specs.Prelude.{map, ◌≡◌, ◌<◌, ◌≤◌, ◌^◌, ℕ, IsTrue, IfOk, IfErr, OnErr, Some, None, false, true, [], ◌∷◌, ◌++◌, ◌+◌, length};
 ghost use Rattle.kt_history.specs.History.{Past};
 ghost use Rattle.kt_history.specs.declared.target.Target.TheVariants.{Mem};
 ghost use Rattle.kt_history.specs.Machine.{HasDifferentKeys, first_turns};
@@ -8,7 +8,9 @@ ghost use Rattle.kt_journal.specs.Log.{records_of, Holds, IsLog, CanOpen};
 ghost use Rattle.kt_loglaws.specs.Replay.{last_of};
 ghost use Rattle.kt_loglaws.specs.Fronts.{AllTold, with_records};
 ghost use Rattle.kt_tablet.specs.Views.{IsSound, Opens};
-ghost use Rattle.kt_engine.specs.Logged.{Recalls};
+ghost use Rattle.std.specs.List.{All};
+ghost use Rattle.kt_loglaws.specs.Side.{all_of};
+ghost use Rattle.kt_engine.specs.Logged.{Recalls, IsPlaced, IsThere};
 ghost use Rattle.kt_engine.specs.Engines.{EngineView, IsContent, IsEngine, IsHome, Recovers, RecoversAll};
 
 use kt_base::Clock;
@@ -118,15 +120,27 @@ impl<L: Disk, D, C: Clock> Engine<L, D, C> {
         self.tablet.is_stopped()
     }
 
+    /// The ancient history mark and the last timestamp.
+    pub fn times(&self) -> (u64, u64)
+        ensures mark { result.0 ≡ self.now.tablet.core.a }
+        ensures last { result.1 ≡ self.now.tablet.core.c }
+    {
+        self.tablet.times()
+    }
+
     /// What it stands for: a run from each past that opening found, in which the lines show what the clock gave; and a
-    /// crash now leaves the run's writes up to a time, each acknowledged one among them.
+    /// crash now leaves the run's writes up to a time, each acknowledged one among them. The REPLICATE of each flying
+    /// write is at its place among the records that are durable, out or queued.
     pub fn standing(&self)
         ensures found { (first : Past) × IsContent self.now first }
         ensures sound { IsSound C.readings self.now.tablet }
         ensures recovers { Recovers L.tells L.now L.leaves self.now }
         ensures recovers_all { RecoversAll L.tells L.now L.leaves self.now }
         ensures home { (journal : _) → self.now.log.home ≡ Some journal → IsHome L.tells L.seen L.now L.leaves L.faults self.now journal }
+        ensures placed { map (λ p. p.0) self.now.places ≡ map (λ w. w.s) self.now.tablet.core.aloft }
         ensures at_rest { self.now.tablet.core.aloft ≡ [] → self.now.places ≡ [] }
+        ensures among { All (IsPlaced (self.now.log.known.count + length (self.now.log.out ++ self.now.log.queued)) self.now.places) self.now.tablet.core.aloft }
+        ensures there { IsTrue L.tells → All (IsThere (all_of L.seen self.now.log) self.now.places) self.now.tablet.core.aloft }
     {
         self.tablet.standing();
         // What is durable is what a crash leaves.

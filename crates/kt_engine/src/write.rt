@@ -1,8 +1,9 @@
 //! The life of a write: it begins, its rows are applied, and it ends.
-ghost use Rattle.std.specs.Prelude.{◌≡◌, ◌≤◌, ℕ, IfOk, IfErr, OnErr, IsOk, IsErr, Some, false, true, ◌∷◌, [], ◌++◌, ◌+◌, ◌<◌, ◌==◌, not, length, List, OnOk, vec_len, vec_capacity};
+ghost use Rattle.std.specs.Prelude.{◌≡◌, ◌≤◌, ℕ, IfOk, IfErr, OnErr, IsOk, IsErr, Some, false, true, ◌∷◌, [], ◌++◌, ◌+◌, ◌<◌, ◌==◌, not, length, map, List, OnOk, vec_len, vec_capacity};
 ghost use Rattle.std.specs.List.{filter};
 ghost use Rattle.kt_history.specs.History.{Past};
 ghost use Rattle.kt_records.specs.declared.entry.CommitRow.{CommitRow};
+ghost use Rattle.kt_tablet.specs.Rows.{commit_row};
 ghost use Rattle.kt_tablet.specs.Visits.{MayBegin, HasBegun, IsRefused, Leaves, MayApply, HasApplied, IsRunOutcome, MayEnd, HasEnded, IsDone};
 ghost use Rattle.kt_engine.specs.Logged.{IsShort, place_of};
 ghost use Rattle.kt_engine.specs.Engines.{IsContent, core_from};
@@ -79,6 +80,7 @@ impl<L: Disk, D, C: Clock> Engine<L, D, C> {
         ensures beside { self.new ≡ record self.old { tablet = self.new.tablet; log = self.new.log; places = self.new.places } }
         ensures refused { IfErr result (IsRefused self.old.tablet write.now.ops) }
         ensures left { IfErr result (Leaves self.old.tablet self.new.tablet number index) }
+        ensures untouched { IfErr result (λ _. self.new.tablet ≡ record self.old.tablet { core = self.new.tablet.core }) }
         ensures waits { OnErr result ((self.new.places ≡ self.old.places) × (self.new.log ≡ record self.old.log { room = self.new.log.room })) }
     {
         if self.tablet.is_stopped() {
@@ -113,12 +115,13 @@ impl<L: Disk, D, C: Clock> Engine<L, D, C> {
         self.tablet.apply_row(number, at)
     }
 
-    /// Ends the flying write of a session, whose rows are all applied: its COMMIT is queued. It takes no memory.
+    /// Ends the flying write of a session, whose rows are all applied: its COMMIT is queued, which holds the outcome of
+    /// each row, in order, and the store that a row that is done changed. It takes no memory.
     pub fn end(&mut self, number: u32) -> Result<WriteDone, Stopped>
         requires { self.old.tablet.core.stopped ≡ false → MayEnd self.old.tablet.core number }
         ensures ended { IfOk result (λ done. (index : ℕ) × HasEnded self.old.tablet.core self.new.tablet.core number index done.ts) }
         ensures told { IfOk result (λ done. (first : Past) → IsContent self.old first → (rows : List CommitRow) × IsDone (core_from self.old first) self.old.tablet.target number done.outcomes rows) }
-        ensures queued { IfOk result (λ done. (rows : List CommitRow) × (self.new.log ≡ record self.old.log { queued = self.old.log.queued ++ Entry.Commit done.ts rows ∷ []; room = self.new.log.room })) }
+        ensures queued { IfOk result (λ done. self.new.log ≡ record self.old.log { queued = self.old.log.queued ++ Entry.Commit done.ts (map (commit_row self.old.tablet.target) done.outcomes) ∷ []; room = self.new.log.room }) }
         ensures clock { self.new.tablet ≡ record self.old.tablet { core = self.new.tablet.core } }
         ensures beside { self.new ≡ record self.old { tablet = self.new.tablet; log = self.new.log; places = self.new.places } }
         ensures same { OnErr result (self.new ≡ self.old) }

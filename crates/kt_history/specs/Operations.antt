@@ -14,9 +14,10 @@ use Rattle.kt_history.specs.declared.operation.OpKind.TheVariants.{Insert, Upser
 use Rattle.kt_history.specs.declared.operation.RowOp.{RowOp}
 use Rattle.kt_history.specs.Rows.{Row, Rows, Changes, with_cells, key_cmp}
 
--- the change and the outcome of an operation on a row, or on none. fill has each column that is no key with its default, or null
+-- the change and the outcome of an operation on a row, or on none. fill has each column that is no key with its default, or null,
+-- which an insert has where it names no cell of its own
 abbrev pub effect : Row → OpKind → Row → Option Row → Option Change × Outcome
-effect fill Insert cells None = (Some (Ins cells), Done)
+effect fill Insert cells None = (Some (Ins (with_cells cells fill)), Done)
 effect fill Insert cells (Some row) = (None, Present)
 effect fill Upsert cells None = (Some (Ins (with_cells cells fill)), Done)
 effect fill Upsert cells (Some row) = (Some (Upd cells), Done)

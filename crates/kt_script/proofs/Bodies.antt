@@ -2,22 +2,20 @@
 use Rattle.std.proofs.Common.{◌≡◌, ℕ, suc, ◌+◌, ◌<◌, ◌≤◌, Bool, true, false, not, List, [], ◌∷◌, ◌++◌, length, Option, Some, None, Result, Ok, Err, min, refl, sym, ap, subst, ◌∙◌, arith, length-append}
 use Rattle.std.specs.Prelude.{if◌then◌else◌, ◌||◌, map, nat_lt, nat_le, codes}
 use Rattle.kt_base.specs.Literals.{same}
-use Rattle.std.specs.List.{list_any, sum_by, AllByRecursion}
+use Rattle.std.specs.List.{list_any, AllByRecursion}
 use Rattle.std.proofs.lemmas.Bool.Decides.{nat_tests}
 use Rattle.std.proofs.lemmas.List.Sums.{sum_by-cons, sum_by-append}
 use Rattle.kt_schema.specs.declared.column.Column.{Column}
 use Rattle.kt_history.specs.declared.command.Command.{Command}
-use Rattle.kt_history.specs.declared.command.Command.TheVariants as command
-use Rattle.kt_history.specs.declared.command.Plan.{Plan}
 use Rattle.kt_script.specs.declared.columns.LineNo.{LineNo}
 use Rattle.kt_script.specs.declared.columns.LineNo.TheVariants as line
-use Rattle.kt_script.specs.declared.refusal.ScriptNo.{ScriptNo}
 use Rattle.kt_script.specs.declared.refusal.ScriptNo.TheVariants as why
 use Rattle.kt_script.specs.Pieces.{cut, words_of}
 use Rattle.kt_script.specs.Reasons.{sound, reason_if}
-use Rattle.kt_script.specs.Columns.{begins_column, column_no, columns_with, keys_no, counts_from}
+use Rattle.kt_script.specs.Columns.{begins_column, column_no, columns_with, counts_from}
 use Rattle.kt_script.specs.Writes.{op_key, ops_of, twice, write_no, write_of}
-use Rattle.kt_script.specs.Scripts.{Above, start, head, body, Word, session, scan, write, other, line_no, after, Fault, fault_if, fault_from, above_end, end_no, rest_no, at, located, first_piece, first_word, word_of, word_of_op, session_no, command_no, command_of, in_session_no, worded_no, worded_plan, body_no, body_plan, push_last, commands_in, is_begun, most_sessions, most_commands, Said, said, ReadsBody, ReadsWorded}
+use Rattle.kt_script.specs.Scripts.{head, body, Word, session, scan, mark, write, other, fault_if, fault_from, above_end, at, located, first_piece, first_word, word_of, word_of_op, session_no, command_no, command_of, in_session_no, worded_no, worded_plan, body_no, body_plan, push_last, commands_in, is_begun, most_sessions, most_commands, said, ReadsBody, ReadsWorded}
+use Rattle.kt_script.specs.Times.{most_time, time_no, time_or_zero, mark_in, mark_no, mark_of}
 use Rattle.kt_script.specs.Fit.{CommandFits, WriteFits, PlanFits, IsBodyRead}
 use Rattle.kt_script.proofs.Faults.{fault_step, end_step, told, untold}
 use Rattle.kt_script.proofs.ScanFit.{scan_fits}
@@ -110,6 +108,12 @@ pushed columns c (commands ∷ more ∷ plan) fit each some =
     assoc : (a b : ℕ) → a + (b + 1) ≡ a + b + 1
     assoc a b = omega arith
 
+-- a command more in the last of some sessions
+pub push_is : (c : Command) (ended : List (List Command)) (last : List Command) → push_last c (ended ++ last ∷ []) ≡ ended ++ (last ++ c ∷ []) ∷ []
+push_is c [] last = refl
+push_is c (x ∷ []) last = refl
+push_is c (x ∷ y ∷ ended) last = ap (λ plan. x ∷ plan) (push_is c (y ∷ ended) last)
+
 command_pushed : (columns : List Column) (plan : List (List Command)) (c : Command) → PlanFits columns plan → CommandFits columns c → is_begun plan ≡ true → 21 ≤ reason_if (nat_le most_commands (commands_in plan)) 20 → PlanFits columns (push_last c plan)
 command_pushed columns plan c fits fit some free =
     let p = pushed columns c plan fit fits.each some in
@@ -124,6 +128,18 @@ reason_low false r h = omega arith
 write_low : (columns : List Column) (words : List (List ℕ)) → write_no columns words ≤ 21
 write_low columns words = let last = reason_low (twice (map (op_key columns) (ops_of words))) 19 (omega arith) in omega (arith, last)
 
+-- a mark that no reason refuses is not too late
+mark_fits : (words : List (List ℕ)) → sound ≤ mark_no words → mark_of words ≤ most_time
+mark_fits words h = by (mark_in words) h
+  where
+    low : (t : ℕ) (b : Bool) → nat_lt most_time t ≡ b → sound ≤ reason_if b 20 → t ≤ most_time
+    low t true e g = absurd (omega arith)
+    low t false e g = grind (arith, nat_tests)
+
+    by : (o : Option ℕ) → sound ≤ time_no o → time_or_zero o ≤ most_time
+    by None g = absurd (omega arith)
+    by (Some t) g = low t (nat_lt most_time t) refl g
+
 -- a line that no reason refuses keeps the plan fitting
 pub body_fits : (columns : List Column) (plan : List (List Command)) (words : List (List ℕ)) → counts_from 1 columns ≡ true → ((ws : List (List ℕ)) → write_no columns ws ≡ sound → WriteFits columns (write_of columns ws)) → PlanFits columns plan
     → body_no columns plan words ≡ sound → PlanFits columns (body_plan columns plan words)
@@ -133,7 +149,7 @@ body_fits columns plan words counts writes fits h = by (first_word words) words 
     begin [] g = absurd (omega (arith, g))
     begin (w ∷ []) g =
         let none : nat_le most_sessions (length plan) ≡ false = off _ 20 (omega arith) (omega (arith, g)) in
-        let below : length plan < 1 = grind (arith, nat_tests) in
+        let below : length plan < 64 = grind (arith, nat_tests) in
         let more = session_more plan in
         record { sessions = omega (arith, more.0, below); commands = omega (arith, more.1, fits.commands); each = each_push (AllByRecursion (CommandFits columns)) plan [] fits.each tt }
     begin (w ∷ v ∷ ws) g = absurd (omega (arith, g))
@@ -146,9 +162,14 @@ body_fits columns plan words counts writes fits h = by (first_word words) words 
     by_scan [] g = in_session (command_of columns scan []) 12 (λ k. absurd (omega (arith, k))) (is_begun plan) refl g
     by_scan (w ∷ ws) g = in_session (command_of columns scan (w ∷ ws)) (command_no columns scan (w ∷ ws)) (scan_fits columns ws counts) (is_begun plan) refl g
 
+    by_mark : (ws : List (List ℕ)) → in_session_no columns plan mark ws ≡ sound → PlanFits columns (push_last (command_of columns mark ws) plan)
+    by_mark [] g = in_session (command_of columns mark []) 12 (λ k. absurd (omega (arith, k))) (is_begun plan) refl g
+    by_mark (w ∷ ws) g = in_session (command_of columns mark (w ∷ ws)) (command_no columns mark (w ∷ ws)) (mark_fits ws) (is_begun plan) refl g
+
     by : (w : Word) (ws : List (List ℕ)) → worded_no columns plan w ws ≡ sound → PlanFits columns (worded_plan columns plan w ws)
     by session ws g = begin ws g
     by scan ws g = by_scan ws g
+    by mark ws g = by_mark ws g
     by write ws g = in_session (command_of columns write ws) (write_no columns ws) (λ k. writes ws (omega (arith, k, write_low columns ws))) (is_begun plan) refl g
     by other ws g = absurd (omega (arith, g))
 
@@ -169,10 +190,18 @@ pub body_worded : {A : Type 0} (columns : List Column) (old new : List (List Com
 body_worded {A} columns old new result words word more w is of reads =
     subst (λ ws. ReadsBody {A = A} columns old ws new result) (sym is) (subst (λ x. ReadsWorded {A = A} columns old x (word ∷ more) new result) (sym of) reads)
 
+-- the words that are neither of these
+abbrev op_word : List ℕ → Word
+op_word word = word_of_op (same word (codes "insert") || (same word (codes "upsert") || (same word (codes "update") || same word (codes "delete"))))
+
 pub is_session : (word : List ℕ) → same word (codes "session") ≡ true → word_of word ≡ session
-is_session word t = ap (λ b. if b then session else (if same word (codes "scan") then scan else word_of_op (same word (codes "insert") || (same word (codes "upsert") || (same word (codes "update") || same word (codes "delete")))))) t
+is_session word t = ap (λ b. if b then session else (if same word (codes "scan") then scan else (if same word (codes "mark") then mark else op_word word))) t
 
 pub is_scan : (word : List ℕ) → same word (codes "session") ≡ false → same word (codes "scan") ≡ true → word_of word ≡ scan
 is_scan word s t =
-    ap (λ b. if b then session else (if same word (codes "scan") then scan else word_of_op (same word (codes "insert") || (same word (codes "upsert") || (same word (codes "update") || same word (codes "delete")))))) s
-    ∙ ap (λ b. if b then scan else word_of_op (same word (codes "insert") || (same word (codes "upsert") || (same word (codes "update") || same word (codes "delete"))))) t
+    ap (λ b. if b then session else (if same word (codes "scan") then scan else (if same word (codes "mark") then mark else op_word word))) s ∙ ap (λ b. if b then scan else (if same word (codes "mark") then mark else op_word word)) t
+
+pub is_mark : (word : List ℕ) → same word (codes "session") ≡ false → same word (codes "scan") ≡ false → same word (codes "mark") ≡ true → word_of word ≡ mark
+is_mark word s c t =
+    ap (λ b. if b then session else (if same word (codes "scan") then scan else (if same word (codes "mark") then mark else op_word word))) s
+    ∙ (ap (λ b. if b then scan else (if same word (codes "mark") then mark else op_word word)) c ∙ ap (λ b. if b then mark else op_word word) t)

@@ -1,6 +1,6 @@
 -- The first fault of a text, line by line.
-use Rattle.std.proofs.Common.{◌≡◌, ℕ, ◌+◌, ◌<◌, List, [], ◌∷◌, ◌++◌, refl, sym, ap, subst, ◌∙◌, arith, length, Bool, true, false, Option, Some, None, Bor, Result, Ok, Err, append_assoc, length-append}
-use Rattle.std.specs.Prelude.{◌≢◌, IfSome, IfNone, min, not, All, nat_lt, if◌then◌else◌, codes}
+use Rattle.std.proofs.Common.{◌≡◌, ℕ, ◌+◌, ◌<◌, List, [], ◌∷◌, ◌++◌, refl, sym, ap, ◌∙◌, arith, length, true, false, Option, Some, None, Bor, Result, Ok, Err, length-append}
+use Rattle.std.specs.Prelude.{◌≢◌, IfSome, IfNone, not, All, nat_lt, if◌then◌else◌, codes}
 use Rattle.std.specs.List.{list_any}
 use Rattle.std.proofs.lemmas.Bool.Decides.{nat_tests}
 use Rattle.std.proofs.lemmas.List.Elements.{recursion_from_All}
@@ -13,8 +13,8 @@ use Rattle.kt_script.specs.declared.refusal.ScriptNo.{ScriptNo}
 use Rattle.kt_script.specs.declared.refusal.ScriptNo.TheVariants as why
 use Rattle.kt_script.specs.Pieces.{cut, words_of}
 use Rattle.kt_script.specs.Reasons.{sound}
-use Rattle.kt_script.specs.Columns.{begins_column, column_no, columns_with, keys_no, ReadsColumn}
-use Rattle.kt_script.specs.Scripts.{Above, start, head, body, line_no, after, Fault, fault_if, fault_from, above_end, at, located, first_piece, body_no, body_plan, IsColumns, IsHead, IsReadFrom, IsLineCut, IsNoKey}
+use Rattle.kt_script.specs.Columns.{begins_column, column_no, columns_with, ReadsColumn}
+use Rattle.kt_script.specs.Scripts.{Above, start, head, body, line_no, after, Fault, fault_if, fault_from, above_end, at, located, first_piece, body_no, body_plan, IsColumns, IsHead, IsLineCut, IsNoKey}
 use Rattle.kt_script.proofs.Cuts.{cut_front, cut_end, some_piece}
 
 pub line_cut : (text front rest : List ℕ) → text ≡ front ++ 10 ∷ rest → All (λ b. b ≢ 10) front → (cut 10 text ≡ front ∷ cut 10 rest) × (length rest < length text)

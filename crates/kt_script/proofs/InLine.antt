@@ -19,7 +19,7 @@ use Rattle.kt_script.specs.declared.output.LastLine.TheVariants as last
 use Rattle.kt_base.specs.Literals.{hex, string_byte, bytes_literal, literal}
 use Rattle.kt_script.specs.Texts.{spaced, words, literals, row_text, outcome_word, reply_word, reply_numbers, outcome_words, reply_words, event_word, event_numbers, event_words, last_words}
 use Rattle.kt_script.specs.Laws.{Fits64, LastFits}
-use Rattle.kt_script.proofs.Numbers.{IsInk, decimal_ink, signed_ink, no_byte}
+use Rattle.kt_base.proofs.Decimals.{IsInk, decimal_ink, signed_ink, no_byte}
 use Rattle.kt_script.proofs.Cuts.{Without}
 
 pub join : {X : Type 0} (P : X → Type 0) (xs ys : List X) → AllByRecursion P xs → AllByRecursion P ys → AllByRecursion P (xs ++ ys)

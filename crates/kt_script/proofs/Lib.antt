@@ -1,5 +1,4 @@
 pub mod Words
-pub mod Numbers
 pub mod Cuts
 pub mod InLine
 pub mod Readback
@@ -8,7 +7,6 @@ pub mod ScriptTests
 pub mod Pieces
 pub mod Faults
 pub mod Tables
-pub mod KeyReads
 pub mod Printing
 pub mod PrintedWords
 pub mod PrintedCells
@@ -16,9 +14,11 @@ pub mod PrintedTables
 pub mod PrintedNames
 pub mod PrintedOps
 pub mod PrintedWrites
+pub mod PrintedPreds
 pub mod PrintedScans
 pub mod PrintedColumns
 pub mod PrintedLines
+pub mod PrintedPlans
 pub mod PrintedScripts
 pub mod OpWords
 pub mod NamedWords
@@ -26,10 +26,14 @@ pub mod Preds
 pub mod Selections
 pub mod ScanFit
 pub mod Bodies
+pub mod Spelling
 pub mod PrintTests
+pub mod PartFits
 pub mod WriteFits
 pub mod Moves
 pub mod ToldLines
+pub mod TimeWords
+pub mod TimeTests
 pub mod ToldTexts
 pub mod EachWord
 pub mod Rereads

@@ -7,7 +7,7 @@ use Rattle.std.proofs.lemmas.List.Elements.{filter_map-append}
 use Rattle.kt_base.specs.Literals.{same}
 use Rattle.kt_schema.specs.Names.{is_name}
 use Rattle.kt_schema.specs.declared.column.Column.{Column}
-use Rattle.kt_history.specs.declared.scan.At.TheVariants.{Looked}
+use Rattle.kt_history.specs.declared.scan.At.{At}
 use Rattle.kt_history.specs.declared.scan.Pred.{Pred}
 use Rattle.kt_history.specs.declared.scan.Scan.{Scan}
 use Rattle.kt_script.specs.declared.columns.LineNo.{LineNo}
@@ -155,13 +155,13 @@ more_read {columns} {all} {rest} {old} {now} {new} {preds} {more} t word ws r e 
     onto (Some ps) = ap Some (sym (append_assoc r.done (t.0 ∷ []) ps))
 
 -- a scan of a selection and tests is the one that the line says
-pub scan_made : (columns : List Column) (names : Option (List (List ℕ))) (said : Option (List PredLine)) (ids : Option (List ℕ)) (preds : List Pred) (old new : ℕ) (result : Result Scan LineNo) → ReadsPreds columns old new said (Some preds)
-    → old ≡ select_no columns names → old ≤ sound → (old ≡ sound → ids ≡ option_map (ids_of columns) names) → IsMade ids preds new result → ReadsLine columns (with_preds names said) result
-scan_made columns names None ids preds old new result reads is low kept made = absurd reads
-scan_made columns names (Some lines) ids preds old new (Ok scan) reads is low kept made = (
+pub scan_made : (columns : List Column) (at : At) (names : Option (List (List ℕ))) (said : Option (List PredLine)) (ids : Option (List ℕ)) (preds : List Pred) (old new : ℕ) (result : Result Scan LineNo) → ReadsPreds columns old new said (Some preds)
+    → old ≡ select_no columns names → old ≤ sound → (old ≡ sound → ids ≡ option_map (ids_of columns) names) → IsMade at ids preds new result → ReadsLine columns at (with_preds names said) result
+scan_made columns at names None ids preds old new result reads is low kept made = absurd reads
+scan_made columns at names (Some lines) ids preds old new (Ok scan) reads is low kept made = (
   omega (arith, reads.1, made.0, is),
   let chosen : ids ≡ option_map (ids_of columns) names = kept (omega (arith, reads.1, made.0, low)) in
-      made.1 ∙ (ap (λ xs. record { at = Looked; columns = xs; preds = preds }) chosen ∙ ap (λ ps. record { at = Looked; columns = option_map (ids_of columns) names; preds = ps }) reads.0),
+      made.1 ∙ (ap (λ xs. record { at = at; columns = xs; preds = preds }) chosen ∙ ap (λ ps. record { at = at; columns = option_map (ids_of columns) names; preds = ps }) reads.0),
 )
-scan_made columns names (Some lines) ids preds old new (Err (line.Reason r)) reads is low kept made = (omega (arith, reads.1, made.0, is), made.1)
-scan_made columns names (Some lines) ids preds old new (Err line.Memory) reads is low kept made = absurd made
+scan_made columns at names (Some lines) ids preds old new (Err (line.Reason r)) reads is low kept made = (omega (arith, reads.1, made.0, is), made.1)
+scan_made columns at names (Some lines) ids preds old new (Err line.Memory) reads is low kept made = absurd made

@@ -1,7 +1,8 @@
 -- No printed line has a newline.
-use Rattle.std.proofs.Common.{◌≡◌, ℕ, ◌<◌, List, [], ◌∷◌, ◌++◌, refl, sym, subst, arith, map, Bool, true, false, Option, Some, None}
+use Rattle.std.proofs.Common.{ℕ, ◌<◌, ◌≤◌, List, [], ◌∷◌, ◌++◌, refl, subst, arith, map, Bool, true, false, Option, Some, None}
 use mathlib.Core.List.{append-nil}
 use Rattle.std.specs.Prelude.{◌≢◌, ◌==◌, if◌then◌else◌, codes}
+use Rattle.std.specs.Fmt.{decimal}
 use Rattle.std.specs.List.{flat_map, AllByRecursion}
 use Rattle.kt_base.specs.declared.cell.Kind.{Kind}
 use Rattle.kt_base.specs.declared.cell.Kind.TheVariants as kind
@@ -13,17 +14,20 @@ use Rattle.kt_schema.specs.declared.column.Column.{Column}
 use Rattle.kt_history.specs.declared.operation.OpKind.{OpKind}
 use Rattle.kt_history.specs.declared.operation.OpKind.TheVariants as op
 use Rattle.kt_history.specs.declared.operation.RowOp.{RowOp}
-use Rattle.kt_history.specs.declared.scan.At.TheVariants.{Looked}
+use Rattle.kt_history.specs.declared.scan.At.{At}
+use Rattle.kt_history.specs.declared.scan.At.TheVariants.{Looked, Given}
 use Rattle.kt_history.specs.declared.scan.Test.{Test}
 use Rattle.kt_history.specs.declared.scan.Test.TheVariants as test
 use Rattle.kt_history.specs.declared.scan.Pred.{Pred}
 use Rattle.kt_history.specs.declared.scan.Scan.{Scan}
 use Rattle.kt_script.specs.Texts.{words, literals}
-use Rattle.kt_script.specs.Fit.{column_of}
+use Rattle.kt_script.specs.Times.{most_time}
+use Rattle.kt_script.specs.Fit.{column_of, AtFits}
 use Rattle.kt_script.specs.Print.{ColumnFits, joined, kind_word, word_if, default_words, column_words, op_word, cell_word, cell_words, is_named, op_text, write_text, name_of, test_text, test_under, pred_text, at_text, select_text, where_text, scan_text}
 use Rattle.kt_script.proofs.Cuts.{Without}
 use Rattle.kt_script.proofs.InLine.{join, row_in_line, words_in_line}
 use Rattle.kt_script.proofs.PrintedWords.{High, all_high, name_is, name_high}
+use Rattle.kt_script.proofs.TimeWords.{time_high}
 
 -- not a newline
 abbrev InLine : ℕ → Type 0
@@ -158,9 +162,18 @@ where_in_line columns (p ∷ preds) fit =
     both_in_line (codes " where ") (joined (codes " and ") (map (pred_text columns) (p ∷ preds))) (word_in_line (codes " ") (codes "where") (codes " ") space_in_line (all_high (codes "where") refl) space_in_line)
     (joined_in_line (codes " and ") (pred_text columns) (p ∷ preds) (word_in_line (codes " ") (codes "and") (codes " ") space_in_line (all_high (codes "and") refl) space_in_line) (λ q. pred_in_line columns q fit))
 
-pub scan_in_line : (columns : List Column) (scan : Scan) → AllByRecursion ColumnFits columns → scan.at ≡ Looked → Without 10 (scan_text columns scan)
-scan_in_line columns scan fit now =
-    let tail : List ℕ = select_text columns scan.columns ++ where_text columns scan.preds in
-    subst (λ a. Without 10 (codes "scan " ++ at_text a ++ select_text columns scan.columns ++ where_text columns scan.preds)) (sym now)
-    (both_in_line (codes "scan ") (codes "now" ++ tail) (word_in_line [] (codes "scan") (codes " ") tt (all_high (codes "scan") refl) space_in_line)
-    (both_in_line (codes "now") tail (high_in_line (codes "now") (all_high (codes "now") refl)) (both_in_line (select_text columns scan.columns) (where_text columns scan.preds) (select_in_line columns scan.columns fit) (where_in_line columns scan.preds fit))))
+time_in_line : (t : ℕ) → t ≤ most_time → Without 10 (decimal t)
+time_in_line t h = high_in_line (decimal t) (time_high t h)
+
+at_in_line : (at : At) → AtFits at → Without 10 (at_text at)
+at_in_line Looked h = high_in_line (codes "now") (all_high (codes "now") refl)
+at_in_line (Given t) h = word_in_line [] (codes "at") (codes " " ++ decimal t) tt (all_high (codes "at") refl) (both_in_line (codes " ") (decimal t) space_in_line (time_in_line t h))
+
+pub scan_in_line : (columns : List Column) (scan : Scan) → AllByRecursion ColumnFits columns → AtFits scan.at → Without 10 (scan_text columns scan)
+scan_in_line columns scan fit time =
+    let begins : Without 10 (codes "scan " ++ at_text scan.at) = both_in_line (codes "scan ") (at_text scan.at) (word_in_line [] (codes "scan") (codes " ") tt (all_high (codes "scan") refl) space_in_line) (at_in_line scan.at time) in
+    both_in_line (codes "scan " ++ at_text scan.at ++ select_text columns scan.columns) (where_text columns scan.preds)
+    (both_in_line (codes "scan " ++ at_text scan.at) (select_text columns scan.columns) begins (select_in_line columns scan.columns fit)) (where_in_line columns scan.preds fit)
+
+pub mark_in_line : (t : ℕ) → t ≤ most_time → Without 10 (codes "mark " ++ decimal t)
+mark_in_line t h = word_in_line [] (codes "mark") (codes " " ++ decimal t) tt (all_high (codes "mark") refl) (both_in_line (codes " ") (decimal t) space_in_line (time_in_line t h))

@@ -28,9 +28,9 @@ use Rattle.kt_script.specs.Texts.{literals}
 use Rattle.kt_script.specs.Writes.{name_in, named_no, all_named_no, must_be_named, left_out_no, all_named, is_empty, none_left_no, under, cells_no, cells_of, key_len, key_of, long_no, key_no, changes_no, kind_no, op_kind, op_cells, kind_or_delete, op_no, op_of, op_key}
 use Rattle.kt_script.specs.Writes.{key_cells as cells_in_key}
 use Rattle.kt_script.specs.Fit.{is_part, is_given, fits_column, cells_fit, OpFits}
-use Rattle.kt_script.specs.Print.{ColumnFits, cell_word, cell_words, op_word, op_words, key_words, is_named, has_cells, OpSaid}
-use Rattle.kt_script.proofs.Numbers.{same_text}
-use Rattle.kt_script.proofs.KeyReads.{keys_again}
+use Rattle.kt_script.specs.Print.{ColumnFits, cell_word, cell_words, op_word, op_words, key_words, is_named, OpBytes}
+use Rattle.kt_base.proofs.Decimals.{same_text}
+use Rattle.kt_key.proofs.KeyReads.{keys_again}
 use Rattle.kt_script.proofs.InLine.{join}
 use Rattle.kt_script.proofs.PrintedWords.{IsWord, name_is, high}
 use Rattle.kt_script.proofs.PrintedCells.{CellOk, cell_ok, CellsOk, kinds_of, min_sound, front_no, front_of, front_drop, front_words, all_no, all_of, key_ok}
@@ -296,7 +296,7 @@ op_word_unbroken op.Delete = refl
 part_of : (columns : List Column) (k : OpKind) (cells : List (ℕ × Cell)) → cells_fit columns k cells ≡ true → is_part columns cells ≡ true
 part_of columns op.Insert cells h = (both_true (is_part columns cells) (length cells == length columns) h).0
 part_of columns op.Upsert cells h = (both_true (is_part columns cells) (list_all (is_given cells) columns) h).0
-part_of columns op.Update cells h = h
+part_of columns op.Update cells h = (both_true (is_part columns cells) (not (length cells == 0)) h).0
 part_of columns op.Delete cells h = ap (is_part columns) (no_cells cells h) ∙ no_part columns
 
 -- what is known of an operation's words
@@ -352,13 +352,13 @@ insert_read columns key cells t p size =
           ∙ (ap (under others) (drop-append_seam p.key_row (values cells)) ∙ full.below));
     }
 
-behind_read : (columns : List Column) (k : OpKind) (key : List ℕ) (cells : List (ℕ × Cell)) → Tabled columns → (p : Parts columns k key cells) → cells_fit (other_columns columns) k cells ≡ true → has_cells k cells ≡ true
+behind_read : (columns : List Column) (k : OpKind) (key : List ℕ) (cells : List (ℕ × Cell)) → Tabled columns → (p : Parts columns k key cells) → cells_fit (other_columns columns) k cells ≡ true
     → BehindRead columns k key cells (Behind columns k key cells p)
-behind_read columns op.Insert key cells t p fit some = insert_read columns key cells t p (size_of (length cells) (length (other_columns columns)) (both_true (is_part (other_columns columns) cells) (length cells == length (other_columns columns)) fit).1)
+behind_read columns op.Insert key cells t p fit = insert_read columns key cells t p (size_of (length cells) (length (other_columns columns)) (both_true (is_part (other_columns columns) cells) (length cells == length (other_columns columns)) fit).1)
   where
     size_of : (m n : ℕ) → (m == n) ≡ true → m ≡ n
     size_of m n h = eqb-true m n h
-behind_read columns op.Upsert key cells t p fit some =
+behind_read columns op.Upsert key cells t p fit =
     let others : List Column = other_columns columns in
     let ws : List (List ℕ) = Behind columns op.Upsert key cells p in
     let changes = changes_read columns op.Upsert key cells refl t p in
@@ -368,15 +368,16 @@ behind_read columns op.Upsert key cells t p fit some =
           (ap (left_out_no others) changes.2 ∙ ap (λ b. reason_if b 15) (none_left_out cells (map name_in (cell_words true others cells)) others (named_found others cells t.others_fit t.others_rising p.part) given));
       cells_are = changes.1;
     }
-behind_read columns op.Update key cells t p fit some =
+behind_read columns op.Update key cells t p fit =
     let others : List Column = other_columns columns in
     let ws : List (List ℕ) = Behind columns op.Update key cells p in
     let changes = changes_read columns op.Update key cells refl t p in
+    let some = (both_true (is_part others cells) (not (length cells == 0)) fit).1 in
     record {
       no = min_sound (changes_no columns ws) (reason_if (is_empty (drop (key_len columns) ws)) 12) changes.0 (ap (λ xs. reason_if (is_empty xs) 12) changes.2 ∙ ap (λ b. reason_if b 12) (some_named others cells some p.part));
       cells_are = changes.1;
     }
-behind_read columns op.Delete key cells t p fit some =
+behind_read columns op.Delete key cells t p fit =
     let ws : List (List ℕ) = Behind columns op.Delete key cells p in
     let none : cells ≡ [] = no_cells cells fit in
     let rest : drop (key_len columns) ws ≡ [] = p.front.rest ∙ (ap (cell_words true (other_columns columns)) none ∙ no_words true (other_columns columns)) in
@@ -388,7 +389,7 @@ word_kind op.Upsert = refl
 word_kind op.Update = refl
 word_kind op.Delete = refl
 
-pub op_read : (columns : List Column) (o : RowOp) → Tabled columns → OpFits columns o → OpSaid columns o → OpRead columns o
+pub op_read : (columns : List Column) (o : RowOp) → Tabled columns → OpFits columns o → OpBytes columns o → OpRead columns o
 op_read columns o t fit said =
     let others : List Column = other_columns columns in
     let kinds = key_kinds columns in
@@ -410,7 +411,7 @@ op_read columns o t fit said =
     } in
     let ws : List (List ℕ) = literals kinds fit.key_cells ++ tail in
     let same_words : key_words columns o.key ++ tail ≡ ws = ap (λ xs. literals kinds xs ++ tail) cells_again in
-    let behind = behind_read columns o.kind o.key o.cells t p fit.cells said.some in
+    let behind = behind_read columns o.kind o.key o.cells t p fit.cells in
     let P : List (List ℕ) → Type 0 = λ xs. AllByRecursion IsWord xs in
     let Q : List (List ℕ) → Type 0 = λ xs. AllByRecursion Unbroken xs in
     record {

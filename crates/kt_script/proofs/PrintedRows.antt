@@ -1,5 +1,5 @@
 -- The rows of a printed output are row lines.
-use Rattle.std.proofs.Common.{◌≡◌, ℕ, suc, Bool, true, ◌&&◌, List, [], ◌∷◌, length, map, Option, Some, None, refl, sym, ap, ◌∙◌, subst}
+use Rattle.std.proofs.Common.{◌≡◌, ℕ, suc, true, ◌&&◌, List, [], ◌∷◌, length, map, Option, Some, None, refl, ap, ◌∙◌, subst}
 use Rattle.std.specs.Prelude.{is_some, Ok}
 use Rattle.std.specs.List.{list_all, AllByRecursion}
 use Rattle.std.proofs.lemmas.List.Elements.{All-from_recursion}
@@ -11,9 +11,9 @@ use Rattle.kt_base.proofs.Literals.{all_read}
 use Rattle.kt_history.specs.declared.reply.Reply.{Reply}
 use Rattle.kt_history.specs.declared.reply.Reply.TheVariants as reply
 use Rattle.kt_script.specs.declared.lists.ShownReply.{ShownReply}
-use Rattle.kt_script.specs.Texts.{words, literals, row_text}
+use Rattle.kt_script.specs.Texts.{literals, row_text}
 use Rattle.kt_script.specs.Laws.{Fits64, seen_of, seen}
-use Rattle.kt_script.specs.Outputs.{rows_in, is_row, IsRowLine, LineHolds, CellHolds, CellsHold, RowHolds, rows_told, ReplyHolds, printed_hold}
+use Rattle.kt_script.specs.Outputs.{rows_in, IsRowLine, LineHolds, CellHolds, CellsHold, RowHolds, rows_told, ReplyHolds, printed_hold}
 use Rattle.kt_script.proofs.InLine.{row_in_line}
 use Rattle.kt_script.proofs.PrintedWords.{IsWord, literal_word, words_alone}
 use Rattle.kt_script.proofs.Outputs.{seen_numbers, output_seen}

@@ -18,7 +18,7 @@ use Rattle.kt_script.specs.Columns.{counts_from}
 use Rattle.kt_script.specs.Writes.{column_named}
 use Rattle.kt_script.specs.Fit.{column_of}
 use Rattle.kt_script.specs.Print.{ColumnFits, ColumnsFit}
-use Rattle.kt_script.proofs.Numbers.{same_text}
+use Rattle.kt_base.proofs.Decimals.{same_text}
 use Rattle.kt_script.proofs.Tables.{table_schema}
 
 pub same_self : (xs : List ℕ) → same xs xs ≡ true

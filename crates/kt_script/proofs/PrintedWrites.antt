@@ -12,7 +12,7 @@ use Rattle.kt_script.specs.Pieces.{words_of}
 use Rattle.kt_script.specs.Reasons.{reason_if}
 use Rattle.kt_script.specs.Writes.{op_no, op_of, op_key, ops_of, ops_no, twice, write_no, write_of}
 use Rattle.kt_script.specs.Fit.{OpFits, WriteFits}
-use Rattle.kt_script.specs.Print.{op_word, key_words, cell_words, is_named, op_words, op_text, write_text, OpSaid}
+use Rattle.kt_script.specs.Print.{op_word, key_words, cell_words, is_named, op_words, op_text, write_text, OpBytes}
 use Rattle.kt_script.proofs.PrintedWords.{words_then, words_alone}
 use Rattle.kt_script.proofs.PrintedCells.{min_sound}
 use Rattle.kt_script.proofs.PrintedTables.{Tabled}
@@ -86,12 +86,12 @@ broken_rest : (columns : List Column) (o : RowOp) (ops : List RowOp) → (rest :
 broken_rest columns o [] = (tail_words columns o, refl)
 broken_rest columns o (p ∷ ops) = (tail_words columns o ++ (59 ∷ []) ∷ broken (map (op_words columns) (p ∷ ops)), refl)
 
-pub write_read : (columns : List Column) (ops : List RowOp) → Tabled columns → WriteFits columns ops → AllByRecursion (OpSaid columns) ops → WriteRead columns ops
+pub write_read : (columns : List Column) (ops : List RowOp) → Tabled columns → WriteFits columns ops → AllByRecursion (OpBytes columns) ops → WriteRead columns ops
 write_read columns [] t fit said = let some = fit.some in absurd (omega arith)
 write_read columns (o ∷ ops) t fit said =
     let all : List RowOp = o ∷ ops in
     let few = fit.few in
-    let each : AllByRecursion (OpRead columns) all = zip_all (OpFits columns) (OpSaid columns) (OpRead columns) all (λ x f s. op_read columns x t f s) fit.each said in
+    let each : AllByRecursion (OpRead columns) all = zip_all (OpFits columns) (OpBytes columns) (OpRead columns) all (λ x f s. op_read columns x t f s) fit.each said in
     let ws : List (List ℕ) = words_of (write_text columns all) in
     let line = write_words columns o ops each in
     let parts : ops_of ws ≡ map (op_words columns) all = ap ops_of line ∙ ops_again (op_words columns o) (map (op_words columns) ops) (all_unbroken columns all each) in

@@ -17,7 +17,7 @@ ops_keyed columns (o ∷ ops) fit = (record { cells = fit.0.key_cells; spelled =
 command_keyed : (columns : List Column) (c : Command) → CommandFits columns c → HasKeys columns c
 command_keyed columns (command.Write w) fit = All-from_recursion (λ (o : RowOp). IsKey columns o.key) w.ops (ops_keyed columns w.ops fit.each)
 command_keyed columns (command.Scan scan) fit = tt
-command_keyed columns (command.Mark t) fit = absurd fit
+command_keyed columns (command.Mark t) fit = tt
 command_keyed columns (command.Chore chore) fit = absurd fit
 
 commands_keyed : (columns : List Column) (commands : List Command) → AllByRecursion (CommandFits columns) commands → AllByRecursion (HasKeys columns) commands

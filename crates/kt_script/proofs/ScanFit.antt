@@ -1,12 +1,13 @@
 -- A scan that no reason refuses names columns of the table alone.
-use Rattle.std.proofs.Common.{◌≡◌, ℕ, ◌+◌, ◌<◌, ◌≤◌, Bool, true, false, not, ◌&&◌, ◌||◌, List, [], ◌∷◌, ◌++◌, length, Option, Some, None, Result, Ok, Err, min, refl, sym, ap, subst, ◌∙◌, arith}
-use Rattle.std.specs.Prelude.{is_some, if◌then◌else◌, ◌==◌}
+use Rattle.std.proofs.Common.{◌≡◌, ℕ, suc, ◌+◌, ◌<◌, ◌≤◌, Bool, true, false, not, ◌&&◌, ◌||◌, List, [], ◌∷◌, ◌++◌, length, Option, Some, None, Result, Ok, Err, min, refl, sym, ap, subst, ◌∙◌, arith}
+use Rattle.std.specs.Prelude.{is_some, if◌then◌else◌, ◌==◌, nat_lt, codes}
 use Rattle.std.specs.List.{list_any, list_all, cons_option}
 use Rattle.std.specs.Option.{option_map}
-use Rattle.std.proofs.lemmas.Bool.{eqb-true, eq-eqb, false≢true}
+use Rattle.std.proofs.lemmas.Bool.{eqb-true, eq-eqb}
 use Rattle.std.proofs.lemmas.Bool.Decides.{nat_tests}
 use Rattle.std.proofs.lemmas.List.Folds.{list_any-append}
 use Rattle.kt_base.specs.Literals.{same, cell_in}
+use Rattle.kt_base.proofs.Values.{both}
 use Rattle.kt_base.specs.declared.cell.Cell.{Cell}
 use Rattle.kt_base.specs.declared.literal.LiteralNo.{LiteralNo}
 use Rattle.kt_base.specs.declared.literal.LiteralNo.TheVariants as no
@@ -14,14 +15,19 @@ use Rattle.kt_key.specs.Fit.{has_kind}
 use Rattle.kt_schema.specs.Rows.{is_null, is_long}
 use Rattle.kt_schema.specs.Names.{is_name}
 use Rattle.kt_schema.specs.declared.column.Column.{Column}
+use Rattle.kt_history.specs.declared.scan.At.{At}
+use Rattle.kt_history.specs.declared.scan.At.TheVariants.{Looked, Given}
+use Rattle.kt_script.specs.Pieces.{cut}
 use Rattle.kt_script.specs.Reasons.{sound, reason_if, cell_reason, cell_value}
 use Rattle.kt_script.specs.Columns.{counts_from}
 use Rattle.kt_script.specs.Writes.{column_named}
 use Rattle.kt_script.specs.declared.asked.Sign.TheVariants.{Equal, Below, AtMost, Above, AtLeast}
-use Rattle.kt_script.specs.Scans.{Asked, compared, null, not_null, PredLine, ScanLine, scan_line, line_no, scan_no, name_no, names_no, preds_no, select_no, asked_no, compared_reason, id_of, ids_of, test_of, pred_of, preds_of, scan_said, scan_of}
-use Rattle.kt_script.specs.Fit.{compares, column_of, are_selected, selection_fits, test_fits, tests_column, pred_fits, ScanFits}
-use Rattle.kt_script.proofs.Numbers.{differ, same_text}
-use Rattle.kt_script.proofs.WriteFits.{cell_fits}
+use Rattle.kt_script.specs.Scans.{Asked, compared, null, not_null, PredLine, ScanLine, with_preds, tests_in, where_line, select_line, Timed, timed, line_no, timed_no, scan_no, name_no, names_no, preds_no, select_no, asked_no, compared_reason, id_of, ids_of, test_of, pred_of, preds_of, scan_said, timed_scan, scan_of}
+use Rattle.kt_script.specs.Times.{most_time, at_no}
+use Rattle.kt_script.specs.Fit.{compares, column_of, are_selected, selection_fits, test_fits, tests_column, pred_fits, AtFits, ScanFits}
+use Rattle.kt_base.proofs.Decimals.{differ, same_text}
+use Rattle.kt_script.proofs.Cuts.{some_piece}
+use Rattle.kt_script.proofs.PartFits.{cell_fits}
 
 -- a column has the name by which it is found
 name_is : (columns : List Column) (name : List ℕ) (c : Column) → column_named columns name ≡ Some c → c.name ≡ name
@@ -120,9 +126,21 @@ selected columns seen (name ∷ names) counts h =
     ∙ (ap (λ o. is_some o && (not (list_any (λ n. n == c.0.id) (ids_of columns names)) && are_selected columns (ids_of columns names))) (id_is 1 columns name c.0 counts c.1).0
     ∙ (ap (λ b. not b && are_selected columns (ids_of columns names)) later ∙ more))
 
-selection : (columns : List Column) (names : Option (List (List ℕ))) → counts_from 1 columns ≡ true → 14 ≤ select_no columns names → selection_fits columns (option_map (ids_of columns) names) ≡ true
-selection columns None counts h = refl
-selection columns (Some names) counts h = selected columns [] names counts h
+-- a selection that has a name
+abbrev Names : Option (List (List ℕ)) → Type 0
+Names None = Unit {0}
+Names (Some names) = 1 ≤ length names
+
+selection : (columns : List Column) (names : Option (List (List ℕ))) → counts_from 1 columns ≡ true → Names names → 14 ≤ select_no columns names → selection_fits columns (option_map (ids_of columns) names) ≡ true
+selection columns None counts some h = refl
+selection columns (Some []) counts some h = absurd (omega arith)
+selection columns (Some (name ∷ names)) counts some h =
+    let c = found columns name (omega (arith, h)) in
+    let size : length (ids_of columns (name ∷ names)) ≡ suc (length (ids_of columns names)) = ap length (ids_step columns name names c.0 c.1) in
+    both _ _ (more (length (ids_of columns (name ∷ names))) (omega (arith, size))) (selected columns [] (name ∷ names) counts h)
+  where
+    more : (n : ℕ) → 1 ≤ n → not (n == 0) ≡ true
+    more n g = grind (arith, nat_tests)
 
 -- a literal that may be compared with is a cell of the column's kind
 compared_fits : (c : Column) (word : List ℕ) → 18 ≤ compared_reason (cell_in c.kind word) → compares c (cell_value c.kind word) ≡ true
@@ -165,9 +183,39 @@ tests_fit columns (p ∷ preds) counts h = by (column_named columns p.name) refl
     by None e g more = absurd (not_there p.asked g)
     by (Some c) e g more = ap (λ o. tests_column o (test_of c p.asked) && list_all (pred_fits columns) (preds_of columns preds)) (id_is 1 columns p.name c counts e).0 ∙ (ap (λ b. b && list_all (pred_fits columns) (preds_of columns preds)) (test_of_fits c p.asked g) ∙ more)
 
-pub scan_fits : (columns : List Column) (words : List (List ℕ)) → counts_from 1 columns ≡ true → sound ≤ scan_no columns words → ScanFits columns (scan_of columns words)
-scan_fits columns words counts h = by (scan_line words) h
+-- a time that is not too late
+at_fits : (at : At) → sound ≤ at_no at → AtFits at
+at_fits Looked h = tt
+at_fits (Given t) h = low (nat_lt most_time t) refl h
   where
-    by : (o : Option ScanLine) → sound ≤ line_no columns o → ScanFits columns (scan_said columns o)
+    low : (b : Bool) → nat_lt most_time t ≡ b → sound ≤ reason_if b 20 → t ≤ most_time
+    low true e g = absurd (omega arith)
+    low false e g = grind (arith, nat_tests)
+
+-- the names of a line are those that are selected
+names_where : (names : Option (List (List ℕ))) (words : List (List ℕ)) (l : ScanLine) → Names names → where_line names words ≡ Some l → Names l.names
+names_where names words l some e = by (tests_in words) e
+  where
+    by : (o : Option (List PredLine)) → with_preds names o ≡ Some l → Names l.names
+    by None g = absurd cc
+    by (Some preds) g = let is : record { names = names; preds = preds } ≡ l = cc in subst (λ (x : ScanLine). Names x.names) is some
+
+names_some : (words : List (List ℕ)) (l : ScanLine) → select_line words ≡ Some l → Names l.names
+names_some [] l e = names_where None [] l tt e
+names_some (word ∷ []) l e = absurd cc
+names_some (word ∷ names ∷ words) l e = by (same word (codes "select")) e
+  where
+    by : (b : Bool) → (if b then where_line (Some (cut 44 names)) words else where_line None (word ∷ names ∷ words)) ≡ Some l → Names l.names
+    by true g = let cuts = some_piece 44 names in names_where (Some (cut 44 names)) words l (omega (arith, ap length cuts.2)) g
+    by false g = names_where None (word ∷ names ∷ words) l tt g
+
+pub scan_fits : (columns : List Column) (words : List (List ℕ)) → counts_from 1 columns ≡ true → sound ≤ scan_no columns words → ScanFits columns (scan_of columns words)
+scan_fits columns words counts h = by (timed words) h
+  where
+    lined : (at : At) (o : Option ScanLine) → ((l : ScanLine) → o ≡ Some l → Names l.names) → sound ≤ min (at_no at) (line_no columns o) → ScanFits columns (scan_said columns at o)
+    lined at None some g = absurd (omega (arith, g))
+    lined at (Some l) some g = record { time = at_fits at (omega (arith, g)); columns_there = selection columns l.names counts (some l refl) (omega (arith, g)); preds = tests_fit columns l.preds counts (omega (arith, g)) }
+
+    by : (o : Option Timed) → sound ≤ timed_no columns o → ScanFits columns (timed_scan columns o)
     by None g = absurd (omega (arith, g))
-    by (Some l) g = record { now = refl; columns_there = selection columns l.names counts (omega (arith, g)); preds = tests_fit columns l.preds counts (omega (arith, g)) }
+    by (Some said) g = lined said.0 (select_line said.1) (names_some said.1) g

@@ -1,7 +1,7 @@
 -- Scripts worked out: the line that is refused, and the least reason that holds in it.
-use Rattle.std.proofs.Common.{◌≡◌, ℕ, List, [], ◌∷◌, refl}
-use Rattle.std.specs.Prelude.{Some, None, codes, Option}
-use Rattle.kt_script.specs.Scripts.{fault_of, Fault, at}
+use Rattle.std.proofs.Common.{◌≡◌, refl}
+use Rattle.std.specs.Prelude.{None, codes}
+use Rattle.kt_script.specs.Scripts.{fault_of, at}
 
 reason_2_1 : fault_of (codes "table") ≡ at 1 2
 reason_2_1 = refl
@@ -168,9 +168,6 @@ reason_11_3 = refl
 reason_11_4 : fault_of (codes "table\ncolumn id int64 key\ncolumn v string\nsession\nflush\n") ≡ at 5 11
 reason_11_4 = refl
 
-reason_11_5 : fault_of (codes "table\ncolumn id int64 key\ncolumn v string\nsession\nmark 1\n") ≡ at 5 11
-reason_11_5 = refl
-
 reason_11_6 : fault_of (codes "table\ncolumn id int64 key\ncolumn v string\nsession\ncompact\n") ≡ at 5 11
 reason_11_6 = refl
 
@@ -242,9 +239,6 @@ reason_12_17 = refl
 
 reason_12_18 : fault_of (codes "table\ncolumn id int64 key\ncolumn v string\nsession\nscan\n") ≡ at 5 12
 reason_12_18 = refl
-
-reason_12_19 : fault_of (codes "table\ncolumn id int64 key\ncolumn v string\nsession\nscan at 1\n") ≡ at 5 12
-reason_12_19 = refl
 
 reason_12_20 : fault_of (codes "table\ncolumn id int64 key\ncolumn v string\nsession\nscan now select v,\n") ≡ at 5 12
 reason_12_20 = refl
@@ -350,21 +344,6 @@ reason_19_4 = refl
 
 reason_19_5 : fault_of (codes "table\ncolumn host string key\ncolumn tick int64 key\ncolumn cpu int32 nullable\ncolumn up bool default true\nsession\ndelete \"a\" 1 ; delete \"b\" 1 ; delete \"a\" 1\n") ≡ at 7 19
 reason_19_5 = refl
-
-reason_20_1 : fault_of (codes "table\ncolumn id int64 key\ncolumn v string\nsession\nsession\n") ≡ at 5 20
-reason_20_1 = refl
-
-reason_20_2 : fault_of (codes "table\ncolumn id int64 key\ncolumn v string\nsession\nscan now\nsession\n") ≡ at 6 20
-reason_20_2 = refl
-
-reason_20_3 : fault_of (codes "table\ncolumn id int64 key\ncolumn v string\nsession\ndelete 1\nscan now\nsession\ninsert\n") ≡ at 7 20
-reason_20_3 = refl
-
-reason_20_4 : fault_of (codes "table\ncolumn id int64 key\ncolumn v string\nsession\nsession\nsession\n") ≡ at 5 20
-reason_20_4 = refl
-
-reason_20_5 : fault_of (codes "table\ncolumn id int64 key\ncolumn v string\nsession\ninsert 1 \"a\"\nsession\ninsert 1 \"b\"\n") ≡ at 6 20
-reason_20_5 = refl
 
 script_1 : fault_of (codes "table\ncolumn id int64 key\ncolumn v string\n") ≡ None
 script_1 = refl

@@ -1,7 +1,7 @@
 -- Columns whose lines are taken make a schema, once one of them is a key.
-use Rattle.std.proofs.Common.{◌≡◌, ℕ, suc, ◌+◌, ◌<◌, ◌≤◌, Bool, true, false, not, min, ◌&&◌, ◌||◌, List, [], ◌∷◌, ◌++◌, length, take, get_or, Option, Some, None, inl, inr, refl, sym, ap, subst, ◌∙◌, arith, length-append}
+use Rattle.std.proofs.Common.{◌≡◌, ℕ, suc, ◌+◌, ◌<◌, ◌≤◌, Bool, true, false, not, min, ◌&&◌, ◌||◌, List, [], ◌∷◌, ◌++◌, length, take, Option, Some, None, inl, inr, refl, sym, ap, subst, ◌∙◌, arith, length-append}
 use Rattle.std.specs.Prelude.{◌⊎◌, if◌then◌else◌, nat_lt, nat_le, codes}
-use Rattle.std.specs.List.{list_any, slice_get}
+use Rattle.std.specs.List.{list_any}
 use Rattle.std.specs.Option.{option_map_or}
 use Rattle.std.specs.Ordering.{nat_cmp, is_eq}
 use Rattle.std.specs.Cmp.Lexicographic.{slice_cmp}
@@ -20,7 +20,7 @@ use Rattle.kt_schema.specs.Columns.{is_late, is_weak, is_again, same_name, colum
 use Rattle.kt_schema.proofs.Places.{first-none}
 use Rattle.kt_script.specs.Pieces.{words_of}
 use Rattle.kt_script.specs.Reasons.{sound, reason_if}
-use Rattle.kt_script.specs.Columns.{ColumnLine, counts_from, IsTable, kind_of, with_default, as_key, marked, of_kind, column_line, default_no, default_value, place_no, said_no, column_no, with_column, columns_with}
+use Rattle.kt_script.specs.Columns.{ColumnLine, counts_from, IsTable, kind_of, with_default, as_key, marked, of_kind, column_line, default_no, default_value, said_no, column_no, with_column, columns_with}
 
 below_or_last : (k n : ℕ) → k < suc n → (k < n) ⊎ (k ≡ n)
 below_or_last k n h = grind arith

@@ -24,7 +24,7 @@ use Rattle.kt_script.specs.Pieces.{cut}
 use Rattle.kt_script.specs.Laws.{Fits64, LastFits}
 use Rattle.kt_script.specs.Outputs.{line_word, line_numbers, line_outcomes, line_words, number_in, onto, numbers_in, if_word, outcome_in, outcomes_in, is_short, first, first_from, at_in, first_of_words, first_in, event_at, event_from, event_of_words, event_in, counted, unless_more, last_numbers, last_of_words, last_in, rows_in, Fits32, IsRowLine, LineHolds, EventHolds, short_of_reply, short_of_event}
 use Rattle.kt_script.specs.Reread.{with_rows}
-use Rattle.kt_script.proofs.Numbers.{same_text}
+use Rattle.kt_base.proofs.Decimals.{same_text}
 use Rattle.kt_script.proofs.Cuts.{some_piece}
 
 -- ---- words

@@ -1,4 +1,4 @@
--- What a script that is taken keeps of the rules of its table.
+-- What a script that is taken keeps of the rules of its table, and of the grammar.
 use Rattle.std.specs.Prelude.{◌≡◌, ℕ, ◌≤◌, Bool, true, false, not, ◌&&◌, ◌||◌, List, [], ◌∷◌, length, map, Option, Some, None, Result, Ok, Err, is_some, if◌then◌else◌, ◌==◌}
 use Rattle.std.specs.List.{list_all, list_any, AllByRecursion}
 use Rattle.std.specs.Ordering.{nat_cmp}
@@ -15,12 +15,14 @@ use Rattle.kt_history.specs.declared.command.Command.TheVariants as command
 use Rattle.kt_history.specs.declared.operation.OpKind.{OpKind}
 use Rattle.kt_history.specs.declared.operation.OpKind.TheVariants as op
 use Rattle.kt_history.specs.declared.operation.RowOp.{RowOp}
-use Rattle.kt_history.specs.declared.scan.At.TheVariants.{Looked}
+use Rattle.kt_history.specs.declared.scan.At.{At}
+use Rattle.kt_history.specs.declared.scan.At.TheVariants.{Looked, Given}
 use Rattle.kt_history.specs.declared.scan.Pred.{Pred}
 use Rattle.kt_history.specs.declared.scan.Scan.{Scan}
 use Rattle.kt_history.specs.declared.scan.Test.{Test}
 use Rattle.kt_history.specs.declared.scan.Test.TheVariants as test
 use Rattle.kt_script.specs.Writes.{twice}
+use Rattle.kt_script.specs.Times.{most_time}
 use Rattle.kt_script.specs.declared.refusal.ScriptNo.{ScriptNo}
 use Rattle.kt_script.specs.declared.refusal.ScriptNo.TheVariants as why
 use Rattle.kt_script.specs.Pieces.{cut}
@@ -44,7 +46,7 @@ is_given cells c = (c.nullable || is_some c.default) || is_some (find nat_cmp c.
 abbrev pub cells_fit : List Column → OpKind → List (ℕ × Cell) → Bool
 cells_fit others op.Insert cells = is_part others cells && (length cells == length others)
 cells_fit others op.Upsert cells = is_part others cells && list_all (is_given cells) others
-cells_fit others op.Update cells = is_part others cells
+cells_fit others op.Update cells = is_part others cells && not (length cells == 0)
 cells_fit others op.Delete cells = length cells == 0
 
 -- An operation on a key of the table, with cells that its columns take.
@@ -71,9 +73,10 @@ abbrev pub are_selected : List Column → List ℕ → Bool
 are_selected columns [] = true
 are_selected columns (id ∷ ids) = is_some (column_of columns id) && (not (list_any (λ n. n == id) ids) && are_selected columns ids)
 
+-- a selection names a column
 abbrev pub selection_fits : List Column → Option (List ℕ) → Bool
 selection_fits columns None = true
-selection_fits columns (Some ids) = are_selected columns ids
+selection_fits columns (Some ids) = not (length ids == 0) && are_selected columns ids
 
 -- a cell of the column's kind, which is not too long
 abbrev pub compares : Column → Cell → Bool
@@ -96,16 +99,21 @@ tests_column (Some c) t = test_fits c t
 abbrev pub pred_fits : List Column → Pred → Bool
 pred_fits columns p = tests_column (column_of columns p.column) p.test
 
--- A scan of the present that names columns of the table alone.
+-- a time that may be named
+abbrev pub AtFits : At → Type 0
+AtFits Looked = Unit {0}
+AtFits (Given t) = t ≤ most_time
+
+-- A scan at a time that may be named, of columns of the table alone.
 pub record ScanFits (columns : List Column) (scan : Scan) : Type 0 where
-  pub now : scan.at ≡ Looked
+  pub time : AtFits scan.at
   pub columns_there : selection_fits columns scan.columns ≡ true
   pub preds : list_all (pred_fits columns) scan.preds ≡ true
 
 abbrev pub CommandFits : List Column → Command → Type 0
 CommandFits columns (command.Write w) = WriteFits columns w.ops
 CommandFits columns (command.Scan s) = ScanFits columns s
-CommandFits columns (command.Mark a) = ⊥
+CommandFits columns (command.Mark a) = a ≤ most_time
 CommandFits columns (command.Chore c) = ⊥
 
 -- The commands of each session fit, and are not too many.

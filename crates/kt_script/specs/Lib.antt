@@ -4,10 +4,12 @@ pub mod Pieces
 pub mod Reasons
 pub mod Columns
 pub mod Writes
+pub mod Times
 pub mod Scans
 pub mod Sessions
 pub mod Scripts
 pub mod Fit
+pub mod Spelled
 pub mod Print
 pub mod Outputs
 pub mod Reread

@@ -1,5 +1,5 @@
 -- Cutting a text into lines, and a line into words.
-use Rattle.std.specs.Prelude.{◌≡◌, ℕ, Bool, true, false, Option, Some, None, List, [], ◌∷◌, if◌then◌else◌, ◌==◌}
+use Rattle.std.specs.Prelude.{◌≡◌, ℕ, Bool, false, Option, Some, None, List, [], ◌∷◌, if◌then◌else◌, ◌==◌}
 use Rattle.std.proofs.Common.{Bor}
 use Rattle.std.specs.List.{onto_first}
 use Rattle.kt_script.specs.declared.word.Side.{Side}

@@ -198,14 +198,8 @@ pub record ColumnsFit (columns : List Column) : Type 0 where
   pub key : list_any (λ c. c.key) columns ≡ true
   pub each : AllByRecursion ColumnFits columns
 
--- an update has a cell
-abbrev pub has_cells : OpKind → List (ℕ × Cell) → Bool
-has_cells op.Update cells = not (length cells == 0)
-has_cells _ cells = true
-
--- An operation as a script says it: the bytes of each cell are bytes.
-pub record OpSaid (columns : List Column) (o : RowOp) : Type 0 where
-  pub some : has_cells o.kind o.cells ≡ true
+-- the bytes of each cell of an operation are bytes
+pub record OpBytes (columns : List Column) (o : RowOp) : Type 0 where
   pub key_bytes : AllByRecursion CellBytes (key_cells (key_kinds columns) o.key)
   pub bytes : AllByRecursion (λ (x : ℕ × Cell). CellBytes x.1) o.cells
 
@@ -218,23 +212,13 @@ TestBytes (test.Ge x) = CellBytes x
 TestBytes test.IsNull = Unit {0}
 TestBytes test.NotNull = Unit {0}
 
--- a selection names a column
-abbrev pub selects : Option (List ℕ) → Bool
-selects None = true
-selects (Some ids) = not (length ids == 0)
-
--- A scan as a script says it.
-pub record ScanSaid (scan : Scan) : Type 0 where
-  pub some : selects scan.columns ≡ true
-  pub bytes : AllByRecursion (λ (p : Pred). TestBytes p.test) scan.preds
-
--- a command as a script says it
-abbrev pub CommandSaid : List Column → Command → Type 0
-CommandSaid columns (command.Write w) = AllByRecursion (OpSaid columns) w.ops
-CommandSaid columns (command.Scan scan) = ScanSaid scan
-CommandSaid columns (command.Mark t) = ⊥
-CommandSaid columns (command.Chore c) = ⊥
+-- the bytes of each cell of a command are bytes
+abbrev pub CommandBytes : List Column → Command → Type 0
+CommandBytes columns (command.Write w) = AllByRecursion (OpBytes columns) w.ops
+CommandBytes columns (command.Scan scan) = AllByRecursion (λ (p : Pred). TestBytes p.test) scan.preds
+CommandBytes columns (command.Mark t) = Unit {0}
+CommandBytes columns (command.Chore c) = Unit {0}
 
 -- the text of a script is read as that script
 abbrev pub prints_are_read : Type 0
-prints_are_read = (s : Said) → ColumnsFit s.columns → PlanFits s.columns s.plan → AllByRecursion (AllByRecursion (CommandSaid s.columns)) s.plan → length (script_text s) ≤ most_bytes → script_of (script_text s) ≡ Some s
+prints_are_read = (s : Said) → ColumnsFit s.columns → PlanFits s.columns s.plan → AllByRecursion (AllByRecursion (CommandBytes s.columns)) s.plan → length (script_text s) ≤ most_bytes → script_of (script_text s) ≡ Some s

@@ -1,8 +1,8 @@
--- Scan lines: what a line says, and why it is refused. Only the present is scanned so far.
-use Rattle.std.specs.Prelude.{◌≡◌, ◌<◌, ℕ, zero, suc, min, Bool, true, false, not, is_some, ◌&&◌, List, [], ◌∷◌, ◌++◌, length, map, Option, Some, None, if◌then◌else◌, ◌==◌, Result, Ok, Err, codes}
+-- Scan lines: what a line says, and why it is refused.
+use Rattle.std.specs.Prelude.{◌≡◌, ◌<◌, ℕ, zero, suc, min, not, is_some, List, [], ◌∷◌, ◌++◌, length, Option, Some, None, if◌then◌else◌, ◌==◌, Result, Ok, Err, codes}
 use Rattle.std.proofs.Common.{Bor}
 use Rattle.std.specs.List.{list_any, filter_map}
-use Rattle.std.specs.Option.{option_map, option_or}
+use Rattle.std.specs.Option.{option_map}
 use Rattle.kt_base.specs.declared.cell.Kind.TheVariants as kind
 use Rattle.kt_base.specs.declared.cell.Cell.{Cell}
 use Rattle.kt_base.specs.declared.literal.LiteralNo.{LiteralNo}
@@ -10,7 +10,8 @@ use Rattle.kt_base.specs.declared.literal.LiteralNo.TheVariants as no
 use Rattle.kt_base.specs.Literals.{same, cell_in}
 use Rattle.kt_schema.specs.Names.{is_name}
 use Rattle.kt_schema.specs.declared.column.Column.{Column}
-use Rattle.kt_history.specs.declared.scan.At.TheVariants.{Looked}
+use Rattle.kt_history.specs.declared.scan.At.{At}
+use Rattle.kt_history.specs.declared.scan.At.TheVariants.{Looked, Given}
 use Rattle.kt_history.specs.declared.scan.Test.{Test}
 use Rattle.kt_history.specs.declared.scan.Test.TheVariants as test
 use Rattle.kt_history.specs.declared.scan.Pred.{Pred}
@@ -23,8 +24,9 @@ use Rattle.kt_script.specs.declared.asked.Question.{Question}
 use Rattle.kt_script.specs.declared.asked.Question.TheVariants as question
 use Rattle.kt_script.specs.declared.test_words.TakenTest.{TakenTest}
 use Rattle.kt_script.specs.Pieces.{cut, words_in}
-use Rattle.kt_script.specs.Reasons.{sound, reason_if, form_no, cell_value}
+use Rattle.kt_script.specs.Reasons.{sound, reason_if, cell_value}
 use Rattle.kt_script.specs.Writes.{name_in, behind_name, column_named}
+use Rattle.kt_script.specs.Times.{time_in, at_no}
 
 -- What is said of a column: a comparison with the text of a literal, or whether it is null.
 pub data Asked : Type 0 where
@@ -89,7 +91,7 @@ abbrev pub preds_in : ℕ → List (List ℕ) → Option (List PredLine)
 preds_in zero words = None
 preds_in (suc n) words = preds_after (preds_in n) (pred_at words)
 
--- What a scan line says: the names that it selects, if it does, and its tests.
+-- What a scan line says behind its time: the names that it selects, if it does, and its tests.
 pub record ScanLine : Type 0 where
   pub names : Option (List (List ℕ))
   pub preds : List PredLine
@@ -106,16 +108,25 @@ tests_in (word ∷ words) = if same word (codes "where") then preds_in (length w
 abbrev pub where_line : Option (List (List ℕ)) → List (List ℕ) → Option ScanLine
 where_line names words = with_preds names (tests_in words)
 
--- behind "scan now": nothing more, or "select" and names, and then "where" and tests
+-- behind the time: nothing more, or "select" and names, and then "where" and tests
 abbrev pub select_line : List (List ℕ) → Option ScanLine
 select_line [] = where_line None []
 select_line (word ∷ []) = None
 select_line (word ∷ names ∷ words) = if same word (codes "select") then where_line (Some (cut 44 names)) words else where_line None (word ∷ names ∷ words)
 
--- behind "scan"
-abbrev pub scan_line : List (List ℕ) → Option ScanLine
-scan_line [] = None
-scan_line (word ∷ words) = if same word (codes "now") then select_line words else None
+-- when a scan reads, and the words behind that
+abbrev pub Timed : Type 0
+Timed = At × List (List ℕ)
+
+-- behind "scan at"
+abbrev pub given : List (List ℕ) → Option Timed
+given [] = None
+given (word ∷ words) = option_map (λ t. (Given t, words)) (time_in word)
+
+-- behind "scan": the present, or a time
+abbrev pub timed : List (List ℕ) → Option Timed
+timed [] = None
+timed (word ∷ words) = if same word (codes "now") then Some (Looked, words) else (if same word (codes "at") then given words else None)
 
 -- a name of the schema
 abbrev pub name_no : List Column → List ℕ → ℕ
@@ -157,13 +168,18 @@ abbrev pub select_no : List Column → Option (List (List ℕ)) → ℕ
 select_no columns None = sound
 select_no columns (Some names) = names_no columns [] names
 
--- why a scan is refused
+-- why the words behind a scan's time are refused
 abbrev pub line_no : List Column → Option ScanLine → ℕ
 line_no columns None = 12
 line_no columns (Some line) = min (select_no columns line.names) (preds_no columns line.preds)
 
+abbrev pub timed_no : List Column → Option Timed → ℕ
+timed_no columns None = 12
+timed_no columns (Some said) = min (at_no said.0) (line_no columns (select_line said.1))
+
+-- why a scan is refused
 abbrev pub scan_no : List Column → List (List ℕ) → ℕ
-scan_no columns words = line_no columns (scan_line words)
+scan_no columns words = timed_no columns (timed words)
 
 -- the id of a column, if it is there
 abbrev pub id_of : Option Column → Option ℕ
@@ -189,13 +205,17 @@ pred_of (Some c) asked = Some (record { column = c.id; test = test_of c asked })
 abbrev pub preds_of : List Column → List PredLine → List Pred
 preds_of columns preds = filter_map (λ (p : PredLine). pred_of (column_named columns p.name) p.asked) preds
 
-abbrev pub scan_said : List Column → Option ScanLine → Scan
-scan_said columns None = record { at = Looked; columns = None; preds = [] }
-scan_said columns (Some line) = record { at = Looked; columns = option_map (ids_of columns) line.names; preds = preds_of columns line.preds }
+abbrev pub scan_said : List Column → At → Option ScanLine → Scan
+scan_said columns at None = record { at = at; columns = None; preds = [] }
+scan_said columns at (Some line) = record { at = at; columns = option_map (ids_of columns) line.names; preds = preds_of columns line.preds }
+
+abbrev pub timed_scan : List Column → Option Timed → Scan
+timed_scan columns None = scan_said columns Looked None
+timed_scan columns (Some said) = scan_said columns said.0 (select_line said.1)
 
 -- the scan that a line says
 abbrev pub scan_of : List Column → List (List ℕ) → Scan
-scan_of columns words = scan_said columns (scan_line words)
+scan_of columns words = timed_scan columns (timed words)
 
 -- the names behind a comma, of what is left of them
 abbrev pub names_in : Option (Bor (List ℕ)) → List (List ℕ)
@@ -219,18 +239,24 @@ ReadsPreds columns old new None (Some preds) = ⊥
 ReadsPreds columns old new (Some lines) None = ⊥
 ReadsPreds columns old new (Some lines) (Some preds) = (preds ≡ preds_of columns lines) × (new ≡ min old (preds_no columns lines))
 
--- the scan of a selection and tests, unless a reason holds
-abbrev pub IsMade : Option (List ℕ) → List Pred → ℕ → Result Scan LineNo → Type 0
-IsMade columns preds reason (Ok scan) = (reason ≡ sound) × (scan ≡ record { at = Looked; columns = columns; preds = preds })
-IsMade columns preds reason (Err (line.Reason r)) = (reason ≡ r) × (r < sound)
-IsMade columns preds reason (Err line.Memory) = ⊥
+-- the scan of a time, a selection and tests, unless a reason holds
+abbrev pub IsMade : At → Option (List ℕ) → List Pred → ℕ → Result Scan LineNo → Type 0
+IsMade at columns preds reason (Ok scan) = (reason ≡ sound) × (scan ≡ record { at = at; columns = columns; preds = preds })
+IsMade at columns preds reason (Err (line.Reason r)) = (reason ≡ r) × (r < sound)
+IsMade at columns preds reason (Err line.Memory) = ⊥
 
--- the scan of a line as it is said, or its reason
-abbrev pub ReadsLine : List Column → Option ScanLine → Result Scan LineNo → Type 0
-ReadsLine columns said (Ok scan) = (line_no columns said ≡ sound) × (scan ≡ scan_said columns said)
-ReadsLine columns said (Err (line.Reason r)) = (line_no columns said ≡ r) × (r < sound)
-ReadsLine columns said (Err line.Memory) = Unit {0}
+-- the scan at a time, as it is said behind that, or its reason
+abbrev pub ReadsLine : List Column → At → Option ScanLine → Result Scan LineNo → Type 0
+ReadsLine columns at said (Ok scan) = (line_no columns said ≡ sound) × (scan ≡ scan_said columns at said)
+ReadsLine columns at said (Err (line.Reason r)) = (line_no columns said ≡ r) × (r < sound)
+ReadsLine columns at said (Err line.Memory) = Unit {0}
+
+-- the scan of a time and the words behind it, or its reason
+abbrev pub ReadsTimed : List Column → Option Timed → Result Scan LineNo → Type 0
+ReadsTimed columns said (Ok scan) = (timed_no columns said ≡ sound) × (scan ≡ timed_scan columns said)
+ReadsTimed columns said (Err (line.Reason r)) = (timed_no columns said ≡ r) × (r < sound)
+ReadsTimed columns said (Err line.Memory) = Unit {0}
 
 -- the scan of a line, or its reason
 abbrev pub ReadsScan : List Column → List (List ℕ) → Result Scan LineNo → Type 0
-ReadsScan columns words result = ReadsLine columns (scan_line words) result
+ReadsScan columns words result = ReadsTimed columns (timed words) result

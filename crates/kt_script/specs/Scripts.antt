@@ -1,6 +1,5 @@
 -- Scripts: the first line that is refused, and what a script says where none is.
--- A script has at most one session so far.
-use Rattle.std.specs.Prelude.{◌≡◌, ◌<◌, ◌≤◌, Result, Ok, Err, ℕ, ◌+◌, min, Bool, true, false, not, ◌||◌, List, [], ◌∷◌, ◌++◌, length, map, Option, Some, None, if◌then◌else◌, ◌==◌, nat_lt, nat_le, codes}
+use Rattle.std.specs.Prelude.{◌≡◌, ◌<◌, ◌≤◌, Result, Ok, Err, ℕ, ◌+◌, min, Bool, true, false, not, ◌||◌, List, [], ◌∷◌, ◌++◌, length, map, Option, Some, None, if◌then◌else◌, nat_lt, nat_le, codes}
 use Rattle.std.proofs.Common.{Bor}
 use Rattle.std.specs.List.{sum_by, list_any}
 use Rattle.kt_base.specs.Literals.{same}
@@ -18,14 +17,15 @@ use Rattle.kt_script.specs.declared.refusal.ScriptNo.TheVariants as why
 use Rattle.kt_script.specs.Pieces.{cut, words_of}
 use Rattle.kt_script.specs.Reasons.{sound, reason_if}
 use Rattle.kt_script.specs.Columns.{begins_column, column_no, columns_with, keys_no, IsTable}
-use Rattle.kt_script.specs.Writes.{op_kind, write_no, write_of}
+use Rattle.kt_script.specs.Writes.{write_no, write_of}
+use Rattle.kt_script.specs.Times.{mark_no, mark_of}
 use Rattle.kt_script.specs.Scans.{scan_no, scan_of}
 
 abbrev pub most_bytes : ℕ
 most_bytes = 67108864
 
 abbrev pub most_sessions : ℕ
-most_sessions = 1
+most_sessions = 64
 
 abbrev pub most_commands : ℕ
 most_commands = 262144
@@ -34,6 +34,7 @@ most_commands = 262144
 pub data Word : Type 0 where
   session : Word
   scan : Word
+  mark : Word
   write : Word
   other : Word
 
@@ -42,8 +43,8 @@ word_of_op true = write
 word_of_op false = other
 
 abbrev pub word_of : List ℕ → Word
-word_of word = if same word (codes "session") then session else (if same word (codes "scan") then scan
-    else word_of_op (same word (codes "insert") || (same word (codes "upsert") || (same word (codes "update") || same word (codes "delete")))))
+word_of word = if same word (codes "session") then session else (if same word (codes "scan") then scan else (if same word (codes "mark") then mark
+    else word_of_op (same word (codes "insert") || (same word (codes "upsert") || (same word (codes "update") || same word (codes "delete"))))))
 
 -- why a command of these words is refused
 abbrev pub command_no : List Column → Word → List (List ℕ) → ℕ
@@ -51,11 +52,15 @@ command_no columns session words = 12
 command_no columns other words = 11
 command_no columns scan [] = 12
 command_no columns scan (word ∷ words) = scan_no columns words
+command_no columns mark [] = 12
+command_no columns mark (word ∷ words) = mark_no words
 command_no columns write words = write_no columns words
 
 abbrev pub command_of : List Column → Word → List (List ℕ) → Command
 command_of columns scan [] = command.Scan (scan_of columns [])
 command_of columns scan (word ∷ words) = command.Scan (scan_of columns words)
+command_of columns mark [] = command.Mark 0
+command_of columns mark (word ∷ words) = command.Mark (mark_of words)
 command_of columns w words = command.Write (record { ops = write_of columns words })
 
 -- how many commands there are, and whether a session is begun
@@ -77,6 +82,7 @@ in_session_no columns plan w words = if is_begun plan then min (command_no colum
 abbrev pub worded_no : List Column → List (List Command) → Word → List (List ℕ) → ℕ
 worded_no columns plan session words = session_no plan words
 worded_no columns plan scan words = in_session_no columns plan scan words
+worded_no columns plan mark words = in_session_no columns plan mark words
 worded_no columns plan write words = in_session_no columns plan write words
 worded_no columns plan other words = 11
 
@@ -96,6 +102,7 @@ push_last c (commands ∷ more ∷ plan) = commands ∷ push_last c (more ∷ pl
 abbrev pub worded_plan : List Column → List (List Command) → Word → List (List ℕ) → List (List Command)
 worded_plan columns plan session words = plan ++ [] ∷ []
 worded_plan columns plan scan words = push_last (command_of columns scan words) plan
+worded_plan columns plan mark words = push_last (command_of columns mark words) plan
 worded_plan columns plan write words = push_last (command_of columns write words) plan
 worded_plan columns plan other words = plan
 

@@ -1,6 +1,7 @@
 //! Laws of the definitions.
 
 ghost use Rattle.kt_script.specs.Laws.{texts_give_back};
+ghost use Rattle.kt_script.specs.Spelled.{scripts_fit};
 ghost use Rattle.kt_script.specs.Outputs.{outputs_are_one, printed_texts, outputs_give_back, printed_hold};
 
 /// Outputs of one text have the same replies, as far as a text shows them, the same history and the same last
@@ -16,4 +17,9 @@ pub fn outputs_law()
     ensures printed { printed_texts }
     ensures again { outputs_give_back }
     ensures held { printed_hold }
+{}
+
+/// What a text says keeps the rules of its table and of the grammar, so that `print_script` takes it.
+pub fn scripts_law()
+    ensures { scripts_fit }
 {}

@@ -40,6 +40,11 @@ pub mod split;
 pub mod test_words;
 #[cfg(test)]
 mod tests;
+#[cfg(test)]
+mod time_tests;
+pub mod times;
+#[cfg(test)]
+mod turn_tests;
 pub mod word;
 #[cfg(test)]
 mod write_tests;

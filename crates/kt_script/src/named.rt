@@ -5,7 +5,6 @@ ghost use Rattle.std.specs.List.{list_any};
 ghost use Rattle.std.specs.Ordering.{nat_cmp};
 ghost use Rattle.std.specs.FinMap.Entries.{put};
 ghost use Rattle.kt_base.specs.Literals.{same};
-ghost use Rattle.kt_history.specs.Places.{place_of};
 ghost use Rattle.kt_script.specs.Reasons.{reason_if};
 ghost use Rattle.kt_script.specs.Writes.{name_in, behind_name, column_named, named_no, all_named_no, with_named, all_named, must_be_named, op_in, later_in, names_now, again_no, IsGiven};
 
@@ -15,9 +14,9 @@ use crate::names::find_column;
 use crate::operations::next_op_word;
 use crate::test_words::cut_sign;
 use kt_base::{Cell, NoMemory};
+use kt_history::put_cell;
 use kt_schema::{Column, is_name};
 use std::alloc::Global;
-use std::cmp::Ordering;
 
 /// Named cells by rising column id, their names in the order of the line, and what is left of the line behind them.
 #[derive(Debug, Drop)]
@@ -25,35 +24,6 @@ pub struct TakenNames<'a> {
     pub names: Vec<&'a [u8]>,
     pub cells: Vec<(u16, Cell)>,
     pub rest: Option<&'a [u8]>,
-}
-
-fn place_of_cell(cells: &[(u16, Cell)], id: u16) -> Result<usize, usize>
-    ensures { result ≡ place_of nat_cmp id cells.now }
-{
-    for (at, cell) in cells.iter().enumerate() {
-        match id.cmp(&cell.0) {
-            Ordering::Less => return Err(at),
-            Ordering::Equal => return Ok(at),
-            Ordering::Greater => {}
-        }
-    }
-    Err(cells.len())
-}
-
-// Sets the cell of a column, in its place.
-fn put_cell(cells: &mut Vec<(u16, Cell)>, id: u16, cell: Cell) -> Result<(), NoMemory>
-    ensures { OnOk result (cells.new.items ≡ put nat_cmp id cell cells.old.items) }
-{
-    match place_of_cell(cells, id) {
-        Ok(at) => {
-            cells[at].1 = cell;
-            Ok(())
-        }
-        Err(at) => {
-            cells.insert(at, (id, cell))?;
-            Ok(())
-        }
-    }
 }
 
 fn has_name(names: &[&[u8]], name: &[u8]) -> bool

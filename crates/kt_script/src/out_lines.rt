@@ -6,6 +6,7 @@ ghost use Rattle.kt_base.specs.Literals.{same, value_in};
 ghost use Rattle.kt_script.specs.Pieces.{cut};
 ghost use Rattle.kt_script.specs.Outputs.{pieces_in, session_line, number_in, numbers_in, outcome_in, outcomes_in, first_from, at_in, first_in, event_at, event_from, event_in, counted, last_numbers, last_in, is_row, IsFormed};
 
+use crate::number::read_number;
 use crate::output::LastLine;
 use crate::replies::{LineList, ReplyLine};
 use crate::split::{after, cut_at};
@@ -44,23 +45,6 @@ fn next_piece(rest: Option<&[u8]>) -> Option<(&[u8], Option<&[u8]>)>
     }
 }
 
-fn number_of(word: &[u8]) -> Option<u64>
-    ensures { result ≡ number_in word.now }
-{
-    let Ok(text) = std::str::from_utf8(word) else {
-        return None;
-    };
-    let Ok(number) = text.parse::<u64>() else {
-        return None;
-    };
-    let mut buffer = Buffer::new();
-    if buffer.format(number).as_bytes() == word {
-        Some(number)
-    } else {
-        None
-    }
-}
-
 // Whether all words that are left are numbers, which are put in place of those in the buffer.
 fn read_numbers(rest: Option<&[u8]>, numbers: &mut Vec<u64>) -> Result<bool, NoMemory>
     ensures { IfOk result (λ read. numbers_in (pieces_in rest.entry) ≡ (if read then Some numbers.new.items else None)) }
@@ -68,7 +52,7 @@ fn read_numbers(rest: Option<&[u8]>, numbers: &mut Vec<u64>) -> Result<bool, NoM
     numbers.clear();
     let mut left = rest;
     'words: while let Some((word, behind)) = next_piece(left) {
-        let Some(number) = number_of(word) else {
+        let Some(number) = read_number(word) else {
             return Ok(false);
         };
         numbers.push(number)?;
@@ -173,7 +157,7 @@ fn at_of(alloc: Global, rest: Option<&[u8]>) -> Result<Option<FirstLine>, NoMemo
     let Some((word, behind)) = next_piece(rest) else {
         return Ok(None);
     };
-    let Some(ts) = number_of(word) else {
+    let Some(ts) = read_number(word) else {
         return Ok(None);
     };
     match read_outcomes(alloc, behind)? {
@@ -305,7 +289,7 @@ fn counted<'a>(rest: Option<&'a [u8]>, name: &[u8]) -> Option<(u64, Option<&'a [
     if word != name {
         return None;
     }
-    let number = number_of(digits)?;
+    let number = read_number(digits)?;
     Some((number, more))
 }
 

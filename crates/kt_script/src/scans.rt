@@ -7,7 +7,7 @@ ghost use Rattle.kt_base.specs.Literals.{cell_in};
 ghost use Rattle.kt_script.specs.Pieces.{cut, words_in};
 ghost use Rattle.kt_script.specs.Reasons.{sound};
 ghost use Rattle.kt_script.specs.Writes.{column_named, names_now, again_no};
-ghost use Rattle.kt_script.specs.Scans.{asked_view, asked_no, literal_reason, pred_of, preds_in, tests_in, where_line, select_line, scan_line, name_no, names_no, id_of, ids_of, IsMade, ReadsPreds, ReadsLine, ReadsScan};
+ghost use Rattle.kt_script.specs.Scans.{asked_view, asked_no, literal_reason, pred_of, preds_in, tests_in, where_line, select_line, given, name_no, names_no, id_of, ids_of, IsMade, ReadsPreds, ReadsLine, ReadsTimed, ReadsScan};
 
 use crate::asked::{Question, read_test};
 use crate::columns::{LineNo, SOUND};
@@ -15,6 +15,7 @@ use crate::least::Least;
 use crate::named::again_no;
 use crate::names::{cut_name, find_column};
 use crate::test_words::next_test;
+use crate::times::{Time, read_time};
 use crate::word::next_word;
 use kt_base::literal::{LiteralNo, read_literal};
 use kt_base::{Kind, NoMemory};
@@ -165,78 +166,109 @@ fn read_names(
     Ok(ColumnIds::of(ids))
 }
 
-// The scan of a selection and tests, unless a reason holds.
-fn make_scan(columns: Option<ColumnIds>, preds: PredList, no: &Least) -> Result<Scan, LineNo>
-    ensures { IsMade columns preds no.now result }
+// The scan of a time, a selection and tests, unless a reason holds.
+fn make_scan(
+    at: At,
+    columns: Option<ColumnIds>,
+    preds: PredList,
+    no: &Least,
+) -> Result<Scan, LineNo>
+    ensures { IsMade at columns preds no.now result }
 {
     let reason = no.reason();
     if reason < SOUND {
         return Err(LineNo::Reason(reason));
     }
-    Ok(Scan {
-        at: At::Looked,
-        columns,
-        preds,
-    })
+    Ok(Scan { at, columns, preds })
 }
 
 // Behind `select`.
 fn read_selected(
     alloc: Global,
     columns: &[Column],
+    at: At,
     names: &[u8],
     rest: Option<&[u8]>,
 ) -> Result<Scan, LineNo>
-    ensures { ReadsLine columns.now (where_line (Some (cut 44 names.now)) (words_in rest.entry)) result }
+    ensures { ReadsLine columns.now at (where_line (Some (cut 44 names.now)) (words_in rest.entry)) result }
 {
     let mut no = Least::none();
     let Ok(ids) = read_names(alloc, columns, names, &mut no) else {
         return Err(LineNo::Memory);
     };
     match read_tests(alloc, columns, rest, &mut no) {
-        Ok(Some(preds)) => make_scan(Some(ids), preds, &no),
+        Ok(Some(preds)) => make_scan(at, Some(ids), preds, &no),
         Ok(None) => Err(LineNo::Reason(12)),
         Err(NoMemory) => Err(LineNo::Memory),
     }
 }
 
 // Every column is shown.
-fn read_whole(alloc: Global, columns: &[Column], rest: Option<&[u8]>) -> Result<Scan, LineNo>
-    ensures { ReadsLine columns.now (where_line None (words_in rest.entry)) result }
+fn read_whole(
+    alloc: Global,
+    columns: &[Column],
+    at: At,
+    rest: Option<&[u8]>,
+) -> Result<Scan, LineNo>
+    ensures { ReadsLine columns.now at (where_line None (words_in rest.entry)) result }
 {
     let mut no = Least::none();
     match read_tests(alloc, columns, rest, &mut no) {
-        Ok(Some(preds)) => make_scan(None, preds, &no),
+        Ok(Some(preds)) => make_scan(at, None, preds, &no),
         Ok(None) => Err(LineNo::Reason(12)),
         Err(NoMemory) => Err(LineNo::Memory),
     }
 }
 
-// Behind `scan now`.
-fn read_select(alloc: Global, columns: &[Column], rest: Option<&[u8]>) -> Result<Scan, LineNo>
-    ensures { ReadsLine columns.now (select_line (words_in rest.entry)) result }
+// Behind the time of a scan.
+fn read_select(
+    alloc: Global,
+    columns: &[Column],
+    at: At,
+    rest: Option<&[u8]>,
+) -> Result<Scan, LineNo>
+    ensures { ReadsLine columns.now at (select_line (words_in rest.entry)) result }
 {
     let Some((word, behind)) = next_word(rest) else {
-        return read_whole(alloc, columns, None);
+        return read_whole(alloc, columns, at, None);
     };
     if word != b"select".as_slice() {
-        return read_whole(alloc, columns, rest);
+        return read_whole(alloc, columns, at, rest);
     }
     let Some((names, behind)) = next_word(behind) else {
         return Err(LineNo::Reason(12));
     };
-    read_selected(alloc, columns, names, behind)
+    read_selected(alloc, columns, at, names, behind)
+}
+
+// Behind `scan at`. A time that is too late is told where no lesser reason holds.
+fn read_given(alloc: Global, columns: &[Column], rest: Option<&[u8]>) -> Result<Scan, LineNo>
+    ensures { ReadsTimed columns.now (given (words_in rest.entry)) result }
+{
+    let Some((word, behind)) = next_word(rest) else {
+        return Err(LineNo::Reason(12));
+    };
+    match read_time(word) {
+        Time::Named(t) => read_select(alloc, columns, At::Given(t), behind),
+        Time::TooLate => match read_select(alloc, columns, At::Looked, behind) {
+            Ok(_) => Err(LineNo::Reason(20)),
+            Err(no) => Err(no),
+        },
+        Time::NoTime => Err(LineNo::Reason(12)),
+    }
 }
 
 /// The scan of a line, from behind its word `scan` on, or the least reason for which it is refused.
 pub fn read_scan(alloc: Global, schema: &Schema, line: Option<&[u8]>) -> Result<Scan, LineNo>
     ensures { ReadsScan schema.now (words_in line.entry) result }
 {
-    let Some((now, rest)) = next_word(line) else {
+    let Some((word, rest)) = next_word(line) else {
         return Err(LineNo::Reason(12));
     };
-    if now == b"now".as_slice() {
-        read_select(alloc, schema.columns(), rest)
+    if word == b"now".as_slice() {
+        read_select(alloc, schema.columns(), At::Looked, rest)
+    } else if word == b"at".as_slice() {
+        read_given(alloc, schema.columns(), rest)
     } else {
         Err(LineNo::Reason(12))
     }

@@ -6,7 +6,7 @@ ghost use Rattle.kt_base.specs.Literals.{same};
 ghost use Rattle.kt_schema.specs.declared.column.Column.{Column};
 ghost use Rattle.kt_script.specs.Pieces.{cut, words_of, words_in};
 ghost use Rattle.kt_script.specs.Columns.{begins_column, IsTable};
-ghost use Rattle.kt_script.specs.Scripts.{Word, session, scan, write, is_begun, most_bytes, first_piece, script_of, ReadsWorded, ReadsBody, IsPushed, IsFirstFault};
+ghost use Rattle.kt_script.specs.Scripts.{Word, session, scan, mark, write, is_begun, most_bytes, first_piece, script_of, ReadsWorded, ReadsBody, IsPushed, IsFirstFault};
 ghost use Rattle.kt_script.specs.Fit.{PlanFits, IsBodyRead};
 
 use crate::columns::LineNo;
@@ -14,9 +14,10 @@ use crate::head::{Table, cut_line, located, read_table};
 use crate::refusal::ScriptNo;
 use crate::scans::read_scan;
 use crate::sessions::Sessions;
+use crate::times::read_mark;
 use crate::word::{cut_word, next_word};
 use crate::writes::read_write;
-use kt_base::limits::{COMMANDS, SCRIPT_BYTES};
+use kt_base::limits::{COMMANDS, SCRIPT_BYTES, SESSIONS};
 use kt_history::{Command, Plan};
 use kt_schema::Schema;
 use std::alloc::Global;
@@ -28,25 +29,27 @@ pub struct Script {
     pub plan: Plan,
 }
 
-// A session begins. So far a script has one.
+// A session begins.
 fn begin_session(alloc: Global, sessions: &mut Sessions, rest: Option<&[u8]>) -> Result<(), LineNo>
     ensures { (columns : List Column) (word : List ℕ) → ReadsWorded columns sessions.old session (word ∷ words_in rest.entry) sessions.new result }
 {
     if next_word(rest).is_some() {
         return Err(LineNo::Reason(12));
     }
-    if sessions.is_begun() {
+    if sessions.len() >= SESSIONS {
         return Err(LineNo::Reason(20));
     }
-    sessions.begin(alloc);
-    Ok(())
+    match sessions.begin(alloc) {
+        Ok(()) => Ok(()),
+        Err(_) => Err(LineNo::Memory),
+    }
 }
 
 fn push_command(sessions: &mut Sessions, command: Command) -> Result<(), LineNo>
     requires { is_begun sessions.old ≡ true }
     ensures { IsPushed sessions.old command sessions.new result }
 {
-    if sessions.len() >= COMMANDS {
+    if sessions.commands() >= COMMANDS {
         return Err(LineNo::Reason(20));
     }
     match sessions.push(command) {
@@ -68,6 +71,18 @@ fn read_scan_line(
     }
     match read_scan(alloc, schema, rest) {
         Ok(scan) => push_command(sessions, Command::Scan(scan)),
+        Err(no) => Err(no),
+    }
+}
+
+fn read_mark_line(sessions: &mut Sessions, rest: Option<&[u8]>) -> Result<(), LineNo>
+    ensures { (columns : List Column) (word : List ℕ) → ReadsWorded columns sessions.old mark (word ∷ words_in rest.entry) sessions.new result }
+{
+    if !sessions.is_begun() {
+        return Err(LineNo::Reason(11));
+    }
+    match read_mark(rest) {
+        Ok(t) => push_command(sessions, Command::Mark(t)),
         Err(no) => Err(no),
     }
 }
@@ -112,6 +127,8 @@ fn read_line(
         begin_session(alloc, sessions, rest)
     } else if word == b"scan".as_slice() {
         read_scan_line(alloc, schema, sessions, rest)
+    } else if word == b"mark".as_slice() {
+        read_mark_line(sessions, rest)
     } else if is_write(word) {
         read_write_line(alloc, schema, sessions, line)
     } else {
@@ -127,7 +144,7 @@ fn read_body(alloc: Global, schema: &Schema, text: &[u8]) -> Result<Plan, Script
     requires first { begins_column (first_piece (cut 10 text.now)) ≡ false }
     ensures { IsBodyRead schema.now (length schema.now + 2) text.now result }
 {
-    let mut sessions = Sessions::none();
+    let mut sessions = Sessions::none(alloc);
     let mut number = schema.columns().len() as u64 + 2;
     let mut rest = text;
     'lines: while let Some((line, behind)) = cut_line(rest) {
@@ -138,7 +155,7 @@ fn read_body(alloc: Global, schema: &Schema, text: &[u8]) -> Result<Plan, Script
         rest = behind;
     }
     if rest.is_empty() {
-        Ok(sessions.into_plan(alloc)?)
+        Ok(sessions.into_plan()?)
     } else {
         Err(ScriptNo::Line { number, reason: 2 })
     }

@@ -8,12 +8,12 @@ use kt_history::{At, Command, OpKind, Pred, RowOp, Test};
 use std::alloc::Global;
 use std::test::Fail;
 
-const COLUMNS: &[u8] = b"table\ncolumn id int64 key\ncolumn v string\n";
+pub const COLUMNS: &[u8] = b"table\ncolumn id int64 key\ncolumn v string\n";
 
-const SESSION: &[u8] = b"table\ncolumn id int64 key\ncolumn v string\nsession\n";
+pub const SESSION: &[u8] = b"table\ncolumn id int64 key\ncolumn v string\nsession\n";
 
-// The line and the reason of a text, or zeros where it is a script.
-fn fault(alloc: Global, text: &[u8]) -> (u64, u8) {
+/// The line and the reason of a text, or zeros where it is a script.
+pub fn fault(alloc: Global, text: &[u8]) -> (u64, u8) {
     match read_script(alloc, text) {
         Ok(_) => (0, 0),
         Err(ScriptNo::Line { number, reason }) => (number, reason),
@@ -21,8 +21,8 @@ fn fault(alloc: Global, text: &[u8]) -> (u64, u8) {
     }
 }
 
-// The same of lines below others.
-fn fault_below(alloc: Global, head: &[u8], lines: &[u8]) -> Result<(u64, u8), NoMemory> {
+/// The same of lines below others.
+pub fn fault_below(alloc: Global, head: &[u8], lines: &[u8]) -> Result<(u64, u8), NoMemory> {
     let mut text = Octets::from_slice(alloc, head)?;
     text.extend(lines)?;
     Ok(fault(alloc, text.as_slice()))
@@ -154,19 +154,9 @@ fn tables_and_later_lines_are_refused(rt: HostRuntime) -> Result<(), Fail> {
             19,
         ),
         (
-            b"table\ncolumn id int64 key\ncolumn v string\nsession\nscan now\nsession\n".as_slice(),
-            6,
-            20,
-        ),
-        (
             b"table\ncolumn id int64 key\ncolumn v string\nsession\ndelete 1\nscan now\nsession\ninsert\n".as_slice(),
-            7,
-            20,
-        ),
-        (
-            b"table\ncolumn id int64 key\ncolumn v string\nsession\ninsert 1 \"a\"\nsession\ninsert 1 \"b\"\n".as_slice(),
-            6,
-            20,
+            8,
+            12,
         ),
     ];
     for (text, number, reason) in texts {
@@ -211,7 +201,6 @@ fn lines_of_no_command_are_refused(rt: HostRuntime) -> Result<(), Fail> {
         (b"scan now".as_slice(), 2),
         (b"insert 1 \"a".as_slice(), 2),
         (b"flush\n".as_slice(), 11),
-        (b"mark 1\n".as_slice(), 11),
         (b"compact\n".as_slice(), 11),
         (b"column w int8\n".as_slice(), 11),
         (b"table\n".as_slice(), 11),
@@ -236,7 +225,6 @@ fn lines_of_no_command_are_refused(rt: HostRuntime) -> Result<(), Fail> {
         (b"delete 1 2\n".as_slice(), 12),
         (b"session 1\n".as_slice(), 12),
         (b"scan\n".as_slice(), 12),
-        (b"scan at 1\n".as_slice(), 12),
         (b"scan now select v,\n".as_slice(), 12),
         (b"scan now where\n".as_slice(), 12),
         (b"scan now where v=\"a\" or v=\"b\"\n".as_slice(), 12),
@@ -260,7 +248,6 @@ fn lines_of_no_command_are_refused(rt: HostRuntime) -> Result<(), Fail> {
         (b"scan  now\n".as_slice(), 12),
         (b"scan now \n".as_slice(), 12),
         (b"scan now select v,,id\n".as_slice(), 12),
-        (b"scan at 1\ninsert 1\n".as_slice(), 12),
     ];
     for (line, reason) in lines {
         assert_eq!(rt; fault_below(alloc, SESSION, line)?, (5, reason));
@@ -313,9 +300,6 @@ fn commands_are_refused(rt: HostRuntime) -> Result<(), Fail> {
             19,
         ),
         (b"delete -1 ; delete 1 ; delete -1\n".as_slice(), 19),
-        (b"session\n".as_slice(), 20),
-        (b"session\nsession\n".as_slice(), 20),
-        (b"session\nload\n".as_slice(), 20),
     ];
     for (line, reason) in lines {
         assert_eq!(rt; fault_below(alloc, SESSION, line)?, (5, reason));
@@ -323,8 +307,8 @@ fn commands_are_refused(rt: HostRuntime) -> Result<(), Fail> {
     Ok(())
 }
 
-// So many copies of a text.
-fn push_copies(text: &mut Octets, copy: &[u8], count: usize) -> Result<(), NoMemory> {
+/// So many copies of a text.
+pub fn push_copies(text: &mut Octets, copy: &[u8], count: usize) -> Result<(), NoMemory> {
     for _ in 0..count {
         text.extend(copy)?;
     }

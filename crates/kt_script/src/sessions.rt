@@ -1,78 +1,109 @@
 //! The commands of a script as they are read.
 
-ghost use Rattle.std.specs.Prelude.{◌≡◌, ◌∷◌, [], IfOk, OnOk, true};
-ghost use Rattle.kt_script.specs.Scripts.{is_begun, commands_in, push_last};
+ghost use Rattle.std.specs.Prelude.{◌≡◌, ◌<◌, ◌++◌, ◌∷◌, [], length, IfOk, OnOk, true};
+ghost use Rattle.kt_script.specs.Scripts.{most_commands, is_begun, commands_in, push_last};
 
 use kt_base::NoMemory;
 use kt_history::{Command, Plan, Session};
 use std::alloc::Global;
 use std::marker::Model;
 
-/// No session, or the one that has begun. Contracts see the commands of each session.
+/// The sessions that have ended, and the commands of the last one, if one has begun. Contracts see the commands of each
+/// session.
 #[derive(Debug, Drop)]
 pub struct Sessions {
-    commands: Option<Vec<Command>>,
+    ended: Vec<Session>,
+    last: Option<Vec<Command>>,
+    // How many commands the ended sessions have.
+    count: usize,
 }
 
 impl Model for Sessions {
     ghost use Rattle.std.specs.Prelude.{List};
     ghost use Rattle.std.specs.Option.{option_map};
     ghost use Rattle.kt_history.specs.declared.command.Command.{Command};
-    ghost use Rattle.kt_script.specs.Sessions.{begun};
+    ghost use Rattle.kt_script.specs.Sessions.{plan_of, Kept};
 
     ghost Value = { List (List Command) };
 
-    ghost view = { λ s. begun (option_map (λ v. v.items) s.commands) };
+    ghost view = { λ s. plan_of s.ended.items (option_map (λ v. v.items) s.last) };
+
+    ghost invariant = { λ s. Kept s.ended.items (option_map (λ v. v.items) s.last) s.count };
 }
 
 impl Sessions {
-    pub fn none() -> Sessions
+    pub fn none(alloc: Global) -> Sessions
         ensures { result ≡ [] }
     {
-        Sessions { commands: None }
+        Sessions {
+            ended: Vec::new(alloc),
+            last: None,
+            count: 0,
+        }
     }
 
     pub fn is_begun(&self) -> bool
         ensures { result ≡ is_begun self.now }
     {
-        self.commands.is_some()
+        self.last.is_some()
     }
 
-    /// How many commands there are.
+    /// How many sessions there are.
     pub fn len(&self) -> usize
-        ensures { result ≡ commands_in self.now }
+        ensures { result ≡ length self.now }
     {
-        match &self.commands {
-            Some(commands) => commands.len(),
+        match &self.last {
+            Some(_) => self.ended.len() + 1,
             None => 0,
         }
     }
 
-    /// The first session, without a command.
-    pub fn begin(&mut self, alloc: Global)
-        requires { self.old ≡ [] }
-        ensures { self.new ≡ [] ∷ [] }
+    /// How many commands there are.
+    pub fn commands(&self) -> usize
+        ensures { result ≡ commands_in self.now }
     {
-        self.commands = Some(Vec::new(alloc));
+        match &self.last {
+            Some(last) => self.count + last.len(),
+            None => 0,
+        }
     }
 
-    /// One command more in the session.
-    pub fn push(&mut self, command: Command) -> Result<(), NoMemory>
-        requires { is_begun self.old ≡ true }
-        ensures { OnOk result (self.new ≡ push_last command self.old) }
+    /// One session more, without a command.
+    pub fn begin(&mut self, alloc: Global) -> Result<(), NoMemory>
+        ensures { OnOk result (self.new ≡ self.old ++ [] ∷ []) }
     {
-        if let Some(commands) = &mut self.commands {
-            commands.push(command)?;
+        if let Some(last) = self.last.replace(Vec::new(alloc)) {
+            let count = self.count + last.len();
+            self.ended.push(Session::of(last))?;
+            self.count = count;
         }
         Ok(())
     }
 
-    pub fn into_plan(self, alloc: Global) -> Result<Plan, NoMemory>
+    /// One command more in the last session.
+    pub fn push(&mut self, command: Command) -> Result<(), NoMemory>
+        requires begun { is_begun self.old ≡ true }
+        requires room { commands_in self.old < most_commands }
+        ensures { OnOk result (self.new ≡ push_last command self.old) }
+    {
+        let Some(last) = &mut self.last else {
+            return Ok(());
+        };
+        last.push(command)?;
+        Ok(())
+    }
+
+    pub fn into_plan(self) -> Result<Plan, NoMemory>
         ensures { IfOk result (λ plan. plan ≡ self) }
     {
-        match self.commands {
-            Some(commands) => Ok(Plan::of(vec![in alloc; Session::of(commands)]?)),
-            None => Ok(Plan::of(Vec::new(alloc))),
+        let Sessions {
+            mut ended,
+            last,
+            ..
+        } = self;
+        if let Some(last) = last {
+            ended.push(Session::of(last))?;
         }
+        Ok(Plan::of(ended))
     }
 }

@@ -5,7 +5,6 @@ use Rattle.std.specs.Option.{option_map}
 use Rattle.std.specs.FinMap.Entries.{put}
 use Rattle.std.proofs.lemmas.List.Sums.{sum_by-cons}
 use Rattle.kt_history.specs.declared.change.Change.{Change}
-use Rattle.kt_history.specs.declared.change.Change.TheVariants as change
 use Rattle.kt_history.specs.declared.operation.OpKind.{OpKind}
 use Rattle.kt_history.specs.declared.operation.OpKind.TheVariants.{Insert, Upsert, Update, Delete}
 use Rattle.kt_history.specs.declared.operation.RowOp.{RowOp}
@@ -20,7 +19,7 @@ use Rattle.kt_histlaws.specs.Flights.{Under, AllOps}
 use Rattle.kt_histlaws.specs.Core.{live}
 use Rattle.kt_histlaws.specs.Events.{pushed_if}
 use Rattle.kt_tablet.specs.Stores.{last_row, change_of, share}
-use Rattle.kt_tablet.specs.Filling.{filled, filled_change, IsWhole}
+use Rattle.kt_tablet.specs.Filling.{filled, filled_change}
 use Rattle.kt_tablet.specs.Rows.{kind_of, change_by, is_there, with_change, targets_of}
 use Rattle.kt_tablet.proofs.Filling.{last_alike, last_under, find-filled, push-filled, put-filled, under-filled}
 
@@ -68,18 +67,18 @@ named_none Delete false target h = refl
 named_none Delete true target h = cc
 
 -- filled, it is the change that the operation has on a row that is there as the store's is
-change_alike : (fill : Row) (op : RowOp) (row : Option Row) → IsWhole fill op.kind op.cells → option_map (filled_change fill) (change_by op (is_some row)) ≡ (effect fill op.kind op.cells row).0
-change_alike fill op row whole = by op.kind row whole
+change_alike : (fill : Row) (op : RowOp) (row : Option Row) → option_map (filled_change fill) (change_by op (is_some row)) ≡ (effect fill op.kind op.cells row).0
+change_alike fill op row = by op.kind row
   where
-    by : (k : OpKind) (row : Option Row) → IsWhole fill k op.cells → option_map (filled_change fill) (option_map (λ kind. change_of kind op.cells) (kind_of k (is_some row))) ≡ (effect fill k op.cells row).0
-    by Insert None whole = ap (λ cells. Some (change.Ins cells)) whole
-    by Insert (Some r) whole = refl
-    by Upsert None whole = refl
-    by Upsert (Some r) whole = refl
-    by Update None whole = refl
-    by Update (Some r) whole = refl
-    by Delete None whole = refl
-    by Delete (Some r) whole = refl
+    by : (k : OpKind) (row : Option Row) → option_map (filled_change fill) (option_map (λ kind. change_of kind op.cells) (kind_of k (is_some row))) ≡ (effect fill k op.cells row).0
+    by Insert None = refl
+    by Insert (Some r) = refl
+    by Upsert None = refl
+    by Upsert (Some r) = refl
+    by Update None = refl
+    by Update (Some r) = refl
+    by Delete None = refl
+    by Delete (Some r) = refl
 
 change_filled : (fill : Row) (q : List ℕ) (ts : ℕ) (o : Option Change) (store : Store) → filled fill (with_change q ts o store) ∷ [] ≡ pushed_if 0 q ts (option_map (filled_change fill) o) (filled fill store ∷ [])
 change_filled fill q ts None store = refl
@@ -104,11 +103,11 @@ there_live fill op ts store under = sym (
     ap is_some (live_one op.key ts (filled fill store) ∙ last_under ts (hist_in op.key (filled fill store)).steps (hist_in op.key (filled fill store)).first under)
     ∙ ap (λ h. is_some (last_row h)) (find-filled fill op.key store) ∙ last_alike fill (hist_in op.key store))
 
-pub store_applied : (fill : Row) (op : RowOp) (ts : ℕ) (store new : Store) → Under ts (hist_in op.key (filled fill store)).steps → IsWhole fill op.kind op.cells → new ≡ with_change op.key ts (change_by op (is_there op store)) store
+pub store_applied : (fill : Row) (op : RowOp) (ts : ℕ) (store new : Store) → Under ts (hist_in op.key (filled fill store)).steps → new ≡ with_change op.key ts (change_by op (is_there op store)) store
     → filled fill new ∷ [] ≡ pushed_if 0 op.key ts (effect fill op.kind op.cells (live (filled fill store ∷ []) op.key ts)).0 (filled fill store ∷ [])
-store_applied fill op ts store new under whole is =
+store_applied fill op ts store new under is =
     ap (λ s. filled fill s ∷ []) is ∙ change_filled fill op.key ts (change_by op (is_there op store)) store
-    ∙ ap (λ o. pushed_if 0 op.key ts o (filled fill store ∷ [])) (ap (λ b. option_map (filled_change fill) (change_by op b)) (there_live fill op ts store under) ∙ change_alike fill op (live (filled fill store ∷ []) op.key ts) whole)
+    ∙ ap (λ o. pushed_if 0 op.key ts o (filled fill store ∷ [])) (ap (λ b. option_map (filled_change fill) (change_by op b)) (there_live fill op ts store under) ∙ change_alike fill op (live (filled fill store ∷ []) op.key ts))
 
 pub outcome_live : (fill : Row) (op : RowOp) (ts : ℕ) (store : Store) → Under ts (hist_in op.key (filled fill store)).steps → outcome_of op.kind (is_there op store) ≡ (effect fill op.kind op.cells (live (filled fill store ∷ []) op.key ts)).1
 outcome_live fill op ts store under = ap (outcome_of op.kind) (there_live fill op ts store under) ∙ sym (outcomes fill op.kind op.cells (live (filled fill store ∷ []) op.key ts))

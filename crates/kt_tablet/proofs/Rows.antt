@@ -22,14 +22,13 @@ use Rattle.kt_histlaws.proofs.Applied.{applies, apply_stands, outcome_told}
 use Rattle.kt_histlaws.proofs.Applying.{stores_under}
 use Rattle.kt_tablet.specs.declared.tablet.FlyingWrite.{FlyingWrite}
 use Rattle.kt_tablet.specs.Stores.{share}
-use Rattle.kt_tablet.specs.Filling.{IsWhole}
 use Rattle.kt_records.specs.Rules.{CellsFit}
 use Rattle.std.specs.List.{list_any, position_or_len}
 use Rattle.kt_tablet.specs.Rows.{IsNoted, AreNoted, commit_row}
 use Rattle.kt_tablet.specs.Views.{View, IsSound, IsReady, IsProvided, AreTold, Opens, aloft_of, flier_of}
 use Rattle.kt_tablet.specs.Visits.{MayApply, HasApplied, IsRunOutcome, IsDone, flight_of}
 use Rattle.kt_tablet.proofs.Flights.{IsPlaceOf, placed_at, flying_one, held_at, flight_at, flight_on, next_at, within, held_set, provided_set, provided_at, fliers_set, length_set, apart_set}
-use Rattle.kt_tablet.proofs.Applying.{need_at, cells_at, op_at}
+use Rattle.kt_tablet.proofs.Applying.{need_at, cells_at}
 use Rattle.kt_tablet.proofs.Visits.{same_flight}
 
 -- everything that the store has of the key of the next row lies below the write
@@ -114,7 +113,6 @@ pub record HasRoom (fill : Row) (pool : Contents) (w : FlyingWrite) (op : RowOp)
   pub outcomes : vec_len w.outcomes < vec_capacity w.outcomes
   pub rows : vec_len w.rows < vec_capacity w.rows
   pub cells : CellsFit op.kind op.cells
-  pub whole : IsWhole fill op.kind op.cells
 
 pub has_room : (fill : Row) (stopped : Bool) (flights : List FlyingWrite) (flying : List Flier) (lines room : ℕ) (pool : Contents) (s at j : ℕ) (w : FlyingWrite) (op : RowOp) → IsReady fill stopped flights flying lines room pool → Applying flights s at j w op → HasRoom fill pool w op
 has_room fill stopped flights flying lines room pool s at j w op ready a =
@@ -128,7 +126,6 @@ has_room fill stopped flights flying lines room pool s at j w op ready a =
       outcomes = let n = p.noted.0 in let c = p.room.0 in omega (arith, n, c, more);
       rows = let n = p.noted.1 in let c = p.room.1 in omega (arith, n, c, more);
       cells = cells_at [] w.ops at op p.each a.row;
-      whole = op_at (λ op. IsWhole fill op.kind op.cells) w.ops at op p.whole a.row;
     }
 
 pub has_applied : {C : Type 0} (view old : View C) (s at j : ℕ) (flights : List FlyingWrite) (w : FlyingWrite) (op : RowOp) (outcome : Outcome) (aloft : List Aloft) (stores : List Store) → view ≡ old
@@ -229,7 +226,6 @@ provided_one fill w x op taken p is at more few left outcomes rows = subst (IsPr
   over = λ none. let le = drops_none w.ops (w.applied + 1) none in let all : (w.applied + 1 == length w.ops) ≡ true = grind (arith, nat_tests, le, more) in left ∙ ap (λ b. if b then 0 else w.left - taken) all;
   count = p.count;
   each = p.each;
-  whole = p.whole;
   noted = (let e = outcomes.0 in let n = p.noted.0 in omega (arith, e, n), let e = rows.0 in let n = p.noted.1 in omega (arith, e, n));
   room = (let e = outcomes.1 in let n = p.room.0 in omega (arith, e, n), let e = rows.1 in let n = p.room.1 in omega (arith, e, n));
 })

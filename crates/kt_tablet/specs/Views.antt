@@ -16,11 +16,9 @@ use Rattle.kt_records.specs.Rules.{may_hold, EachAfter, FollowingOp}
 use Rattle.kt_histlaws.specs.Histories.{Store, Shows, hists}
 use Rattle.kt_histlaws.specs.Pending.{Aloft}
 use Rattle.kt_histlaws.specs.Fitting.{AreSound}
-use Rattle.kt_histlaws.specs.Flights.{AllOps}
 use Rattle.kt_histlaws.specs.Core.{Core, Stands}
 use Rattle.kt_tablet.specs.declared.tablet.FlyingWrite.{FlyingWrite}
 use Rattle.kt_history.specs.declared.event.Event.{Event}
-use Rattle.kt_tablet.specs.Filling.{IsWhole}
 use Rattle.kt_tablet.specs.Rows.{AreNoted, OneOfEach}
 
 -- what a clause sees of a tablet: the engine, whose first past is left open; its clock, now and at opening; the stores and the
@@ -69,13 +67,12 @@ abbrev pub held_cells : List FlyingWrite → ℕ
 held_cells [] = 0
 held_cells (w ∷ flights) = w.left + held_cells flights
 
--- a flying write holds the cells that its rows not yet applied need, and none once all are; its operations are as they are recorded, each insert is whole, and what becomes of them has room
+-- a flying write holds the cells that its rows not yet applied need, and none once all are; its operations are as they are recorded, and what becomes of them has room
 pub record IsProvided (fill : Row) (w : FlyingWrite) : Type 0 where
   pub enough : need (drop w.applied w.ops) ≤ w.left
   pub over : drop w.applied w.ops ≡ [] → w.left ≡ 0
   pub count : may_hold (length w.ops) ≡ true
   pub each : EachAfter FollowingOp [] w.ops
-  pub whole : AllOps (λ op. IsWhole fill op.kind op.cells) w.ops
   pub noted : (vec_len w.outcomes ≡ w.applied) × (vec_len w.rows ≡ w.applied)
   pub room : (length w.ops ≤ vec_capacity w.outcomes) × (length w.ops ≤ vec_capacity w.rows)
 

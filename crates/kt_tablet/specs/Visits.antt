@@ -9,12 +9,10 @@ use Rattle.kt_history.specs.Operations.{need, share_key, effect_on, outcomes_on}
 use Rattle.kt_pool.specs.Contents.{free}
 use Rattle.kt_records.specs.declared.entry.CommitRow.{CommitRow}
 use Rattle.kt_records.specs.Rules.{may_hold, EachAfter, FollowingOp}
-use Rattle.kt_histlaws.specs.Flights.{AllOps}
 use Rattle.kt_tablet.specs.declared.tablet.write.BeginNo.{BeginNo}
 use Rattle.kt_tablet.specs.declared.tablet.write.BeginNo.TheVariants as no
 use Rattle.kt_tablet.specs.Rows.{commit_row}
 use Rattle.kt_histlaws.specs.Pending.{Aloft}
-use Rattle.kt_tablet.specs.Filling.{IsWhole}
 use Rattle.kt_tablet.specs.Views.{View}
 use Rattle.kt_history.specs.declared.scan.At.TheVariants.{Looked}
 use Rattle.kt_history.specs.Machine.{nth, command_at, IfScan, IfMark, IfWrite, IsChore, next_timestamp, least}
@@ -114,7 +112,6 @@ pub record MayBegin (core : Core) (s i : ℕ) (ops : List RowOp) : Type 0 where
   pub write : IfWrite (command_at core.work s i) (λ written. written ≡ ops)
   pub count : may_hold (length ops) ≡ true
   pub each : EachAfter FollowingOp [] ops
-  pub whole : AllOps (λ op. IsWhole core.work.fill op.kind op.cells) ops
   pub few : i + 1 < 2 ^ 32
 
 -- and it needs so many cells of the pool, which are not too many

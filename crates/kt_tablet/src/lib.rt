@@ -7,7 +7,7 @@
 
 mod amend;
 mod memrowset;
-mod need;
+pub mod need;
 pub mod snap;
 pub mod store;
 pub mod tablet;

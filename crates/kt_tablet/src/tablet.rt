@@ -166,7 +166,9 @@ impl<S: RowStore, C: Clock> Tablet<S, C> {
         ensures found { IfOk result (λ tablet. (tablet.mark ≡ mark) × (tablet.core.opened ≡ last) × (tablet.opening ≡ filled (fill_of schema.now) (S.store store pool) ∷ [])) }
         ensures clock { IfOk result (λ tablet. (tablet.clock ≡ clock) × (tablet.opened ≡ clock)) }
         ensures target { IfOk result (λ tablet. tablet.target ≡ S.target store) }
-        ensures back { IfErr result (λ e. e.2 ≡ clock) }
+        ensures pool { IfOk result (λ tablet. tablet.pool ≡ pool) }
+        ensures stores { IfOk result (λ tablet. tablet.core.stores ≡ tablet.opening) }
+        ensures back { IfErr result (λ e. (e.0 ≡ store) × (e.1 ≡ pool) × (e.2 ≡ clock)) }
     {
         let opened = Snapshot::of(&clock);
         let opening = Snapshot::of(&store);
@@ -210,6 +212,14 @@ impl<S: RowStore, C: Clock> Tablet<S, C> {
         ensures { result ≡ self.now.core.stopped }
     {
         self.stopped
+    }
+
+    /// The ancient history mark and the last timestamp.
+    pub fn times(&self) -> (u64, u64)
+        ensures mark { result.0 ≡ self.now.core.a }
+        ensures last { result.1 ≡ self.now.core.c }
+    {
+        (self.flight.mark(), self.flight.last())
     }
 
     /// What it stands for: a run from each past that opening found, in which the lines show what the clock gave.

@@ -165,6 +165,7 @@ impl<S: RowStore, C: Clock> Tablet<S, C> {
         ensures beside { self.new ≡ record self.old { core = self.new.core; clock = self.new.clock; pool = self.new.pool } }
         ensures refused { IfErr result (IsRefused self.old ops) }
         ensures left { IfErr result (Leaves self.old self.new number index) }
+        ensures untouched { IfErr result (λ _. self.new ≡ record self.old { core = self.new.core }) }
     {
         if self.is_stopped() {
             return Err(BeginNo::Stopped);

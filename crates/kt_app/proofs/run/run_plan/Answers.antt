@@ -1,24 +1,56 @@
-use Rattle.std.proofs.Common.{List, Some, None, arith, sym, subst, ap, ◌≡◌, length, slice_get}
-use Rattle.kt_history.specs.declared.command.Command.{Command}
-use Rattle.kt_app.proofs.RunLaws.{first_session, no_session_at, ran_nothing}
+use Rattle.std.proofs.Common.{◌≡◌, ◌∙◌, sym, ap, subst, Option, Result, Ok, Err}
+use Rattle.std.specs.Prelude.{IfOk, IfSome}
+use Rattle.std.specs.Result.{result_ok}
+use Rattle.kt_app.specs.Turns.{root_of}
+use Rattle.kt_app.proofs.Planned.{planned}
+use Rattle.kt_app.proofs.RunLaws.{ran_as}
+use Rattle.kt_app.proofs.Runs.{ran_of, opens_again, no_fault_less, fault_more}
 use Rattle.kt_app.proofs.run.run_plan.Goals as goal
 
-pub run_session-requires-clause-fits : goal.run_session-requires-clause-fits
-run_session-requires-clause-fits g c =
-    let first = first_session c.args.schema.now c.args.plan.now c.in-Some.session.now c.requires.fits (subst (λ (l : List (List Command)). slice_get l 0 ≡ Some c.in-Some.session.now) c.as_slice.ensures (sym c.in-Some.ensures.value)) in
-    rw c.as_slice-in-Some.ensures first.0
+-- what is said of a value that is there
+some_of : {A E : Type 0} (r : Result A E) (o : Option A) (P : A → Type 0) → o ≡ result_ok r → IfOk r P → IfSome o P
+some_of (Ok x) o P e h = subst (λ q. IfSome q P) (sym e) h
+some_of (Err x) o P e h = subst (λ q. IfSome q P) (sym e) tt
 
-pub run_session-requires-clause-few : goal.run_session-requires-clause-few
-run_session-requires-clause-few g c =
-    let first = first_session c.args.schema.now c.args.plan.now c.in-Some.session.now c.requires.fits (subst (λ (l : List (List Command)). slice_get l 0 ≡ Some c.in-Some.session.now) c.as_slice.ensures (sym c.in-Some.ensures.value)) in
-    omega (arith, first.1, ap length c.as_slice-in-Some.ensures)
+of_one : {A E : Type 0} (r : Result A E) (P S : A → Type 0) → ((x : A) → P x → S x) → IfOk r P → IfOk r S
+of_one (Ok x) P S f p = f x p
+of_one (Err x) P S f p = tt
 
-pub returns-in_ok-nothing_text-in-None-clause-run : goal.returns-in_ok-nothing_text-in-None-clause-run
-returns-in_ok-nothing_text-in-None-clause-run g c = λ past ends keeps.
-    ran_nothing g.C.Clock.readings _ g.L.Disk.tells g.L.Disk.seen g.L.Disk.now g.L.Disk.leaves _ c.args.schema.now c.args.plan.now past c.args.progress.last c.args.progress.table _
-    (no_session_at c.args.plan.now (subst (λ (l : List (List Command)). slice_get l 0 ≡ None) c.as_slice.ensures (sym c.in-None.ensures.value))) c.requires.fresh.2 ends keeps c.requires.durable c.in_ok-nothing_text-in-None.ensures
+of_three : {A E : Type 0} (r : Result A E) (P Q R S : A → Type 0) → ((x : A) → P x → Q x → R x → S x) → IfOk r P → IfOk r Q → IfOk r R → IfOk r S
+of_three (Ok x) P Q R S f p q s = f x p q s
+of_three (Err x) P Q R S f p q s = tt
 
-pub returns-in-Some-clause-run : goal.returns-in-Some-clause-run
-returns-in-Some-clause-run g c =
-    let first = first_session c.args.schema.now c.args.plan.now c.in-Some.session.now c.requires.fits (subst (λ (l : List (List Command)). slice_get l 0 ≡ Some c.in-Some.session.now) c.as_slice.ensures (sym c.in-Some.ensures.value)) in
-    rw (first.2, ← c.as_slice-in-Some.ensures) c.run_session.ensures.run
+pub set_plan-requires-clause-planned : goal.set_plan-requires-clause-planned
+set_plan-requires-clause-planned g c = planned c.args.schema.now (record c.args.engine.tablet.core.work { plan = c.args.plan.now }) c.requires.fits.each
+
+pub returns-in-Ok-clause-run : goal.returns-in-Ok-clause-run
+returns-in-Ok-clause-run g c =
+    some_of c.output_of-output.result c.ok.result _ c.ok.ensures.value
+    (of_three c.output_of-output.result _ _ _ _
+    (λ out stopped text fits first content.
+    ran_as (sym stopped)
+    (ran_of g.C.Clock.readings g.L.Disk.tells g.L.Disk.now g.L.Disk.leaves c.args.engine c.play-played.new.engine c.args.schema.now c.args.plan.now c.in-Ok.field-0.stopped c.in-Ok.field-0.replies.items first
+    c.requires.fresh c.requires.work (c.play-played.ensures.root ∙ ap root_of c.set_plan.ensures) content c.standing.ensures.sound c.in-Ok.ensures.played
+    c.take_apart-parts.result.clock c.take_apart-parts.result.log _ _ _ _ out.text c.take_apart-parts.ensures.clock c.standing.ensures.recovers c.standing.ensures.recovers_all c.take_apart-parts.ensures.log
+    c.times-a.ensures.mark c.times-a.ensures.last c.take_apart-parts.ensures.trail c.as_slice.ensures fits text))
+    c.output_of-output.ensures.stopped c.output_of-output.ensures.text c.output_of-output.ensures.fits)
+
+pub returns-in-Ok-clause-openable : goal.returns-in-Ok-clause-openable
+returns-in-Ok-clause-openable g c = opens_again c.args.engine c.play-played.new.engine c.args.plan.now c.take_apart-parts.result.log (c.play-played.ensures.root ∙ ap root_of c.set_plan.ensures) c.standing.ensures.home c.take_apart-parts.ensures.log
+
+pub returns-in-Ok-clause-faults : goal.returns-in-Ok-clause-faults
+returns-in-Ok-clause-faults g c = no_fault_less c.args.engine c.play-played.new.engine c.args.plan.now c.take_apart-parts.result.log (c.play-played.ensures.root ∙ ap root_of c.set_plan.ensures) c.standing.ensures.home c.take_apart-parts.ensures.log
+
+pub returns-in-Ok-clause-fault : goal.returns-in-Ok-clause-fault
+returns-in-Ok-clause-fault g c =
+    some_of c.output_of-output.result c.ok.result _ c.ok.ensures.value
+    (of_one c.output_of-output.result _ _
+    (λ out stopped told. fault_more c.args.engine c.play-played.new.engine c.args.plan.now c.take_apart-parts.result.log (c.play-played.ensures.root ∙ ap root_of c.set_plan.ensures) c.standing.ensures.home c.take_apart-parts.ensures.log
+    (c.in-Ok.ensures.played.ended ∙ sym stopped ∙ told))
+    c.output_of-output.ensures.stopped)
+
+pub returns-in-Err-clause-openable : goal.returns-in-Err-clause-openable
+returns-in-Err-clause-openable g c = opens_again c.args.engine c.play-played.new.engine c.args.plan.now c.take_apart-parts.result.log (c.play-played.ensures.root ∙ ap root_of c.set_plan.ensures) c.standing.ensures.home c.take_apart-parts.ensures.log
+
+pub returns-in-Err-clause-faults : goal.returns-in-Err-clause-faults
+returns-in-Err-clause-faults g c = no_fault_less c.args.engine c.play-played.new.engine c.args.plan.now c.take_apart-parts.result.log (c.play-played.ensures.root ∙ ap root_of c.set_plan.ensures) c.standing.ensures.home c.take_apart-parts.ensures.log

@@ -19,6 +19,9 @@ returns-in-Ok-clause-found c =
 pub returns-in-Ok-clause-stands : goal.returns-in-Ok-clause-stands
 returns-in-Ok-clause-stands c = (still c.rebuild.new.mem c.rebuild.new.pool c.release.new.self _ c.release.ensures c.in-Ok.ensures.stands.0, c.in-Ok.ensures.stands.1)
 
+pub returns-in-Ok-clause-fits : goal.returns-in-Ok-clause-fits
+returns-in-Ok-clause-fits c = let a = c.in-Ok.ensures.number in let b = c.new-mem.ensures.number in omega arith
+
 pub returns-in-Ok-clause-log : goal.returns-in-Ok-clause-log
 returns-in-Ok-clause-log c =
     let records = c.args.records.now in

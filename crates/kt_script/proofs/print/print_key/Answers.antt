@@ -4,7 +4,7 @@ use Rattle.kt_key.proofs.Escapes.{on_ok}
 use Rattle.kt_key.specs.Reading.{Spells}
 use Rattle.kt_schema.specs.Columns.{key_kinds}
 use Rattle.kt_script.specs.Texts.{spaced, literals}
-use Rattle.kt_script.proofs.KeyReads.{keys_again}
+use Rattle.kt_key.proofs.KeyReads.{keys_again}
 use Rattle.kt_script.proofs.print.print_key.Goals as goal
 
 pub returns : goal.returns

@@ -1,4 +1,4 @@
-use Rattle.kt_script.proofs.Numbers.{not_front, differ}
+use Rattle.kt_base.proofs.Decimals.{not_front, differ}
 use Rattle.kt_script.proofs.split.after.Goals as goal
 
 pub returns-else-eq-clause-none : goal.returns-else-eq-clause-none

@@ -1,6 +1,10 @@
-use Rattle.std.proofs.Common.{subst}
+use Rattle.std.proofs.Common.{subst, ◌+◌, ◌++◌, length}
+use Rattle.std.specs.List.{All}
+use Rattle.kt_loglaws.specs.Side.{all_of}
+use Rattle.kt_engine.specs.Logged.{IsPlaced, IsThere}
 use Rattle.kt_engine.specs.Engines.{EngineView, IsEngine, Recovers, RecoversAll}
 use Rattle.kt_engine.proofs.Crashes.{recovers, recovers_all}
+use Rattle.kt_engine.proofs.Placed.{placed_among, placed_there}
 use Rattle.kt_engine.proofs.engine.Engine.standing.Goals as goal
 
 pub returns-clause-recovers : goal.returns-clause-recovers
@@ -15,3 +19,13 @@ returns-clause-recovers_all g c =
 
 pub returns-clause-home : goal.returns-clause-home
 returns-clause-home g c = (subst (λ (v : EngineView _ _ _). IsEngine g.L.Disk.tells g.L.Disk.seen g.L.Disk.now g.L.Disk.leaves g.L.Disk.faults v) c.self.view_is c.self.invariant).home
+
+pub returns-clause-among : goal.returns-clause-among
+returns-clause-among g c =
+    subst (λ (v : EngineView _ _ _). All (IsPlaced (v.log.known.count + length (v.log.out ++ v.log.queued)) v.places) v.tablet.core.aloft) c.self.view_is
+    (placed_among g.L.Disk.tells g.L.Disk.seen g.L.Disk.now g.L.Disk.leaves g.L.Disk.faults _ c.self.invariant)
+
+pub returns-clause-there : goal.returns-clause-there
+returns-clause-there g c told =
+    subst (λ (v : EngineView _ _ _). All (IsThere (all_of g.L.Disk.seen v.log) v.places) v.tablet.core.aloft) c.self.view_is
+    (placed_there g.L.Disk.tells g.L.Disk.seen g.L.Disk.now g.L.Disk.leaves g.L.Disk.faults _ c.self.invariant told)

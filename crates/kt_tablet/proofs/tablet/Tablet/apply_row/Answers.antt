@@ -145,7 +145,7 @@ invariant_of-self g c =
     let under = under_next g.C.Clock.readings _ c.place_of-place.result c.index_mut.result.now.ts c.index-as_slice-at.result _ c.self.invariant.0 refl (next_here c.self.inside.flights.items c.args.number c.args.at c.place_of-place.result c.index_mut.result.now c.index-as_slice-at.result a) in
     let alike = promised_alike g.S.RowStore.stands g.S.RowStore.store c.apply_op-row.new.store c.apply_op-row.new.pool c.note.new.pool _ g.met.S.RowStore.looks c.apply_op-row.ensures.stands c.note.ensures.pool in
     let changed = alike ∙ c.apply_op-row.ensures.changed ∙ ap (λ w. with_change c.index-as_slice-at.result.key w.ts (change_by c.index-as_slice-at.result (is_there c.index-as_slice-at.result (g.S.RowStore.store c.self.inside.store c.self.inside.pool))) (g.S.RowStore.store c.self.inside.store c.self.inside.pool)) same in
-    let stores = store_applied c.self.inside.fill c.index-as_slice-at.result c.index_mut.result.now.ts (g.S.RowStore.store c.self.inside.store c.self.inside.pool) _ under room.whole changed in
+    let stores = store_applied c.self.inside.fill c.index-as_slice-at.result c.index_mut.result.now.ts (g.S.RowStore.store c.self.inside.store c.self.inside.pool) _ under changed in
     let flies = aloft_set c.self.inside.flights.items c.place_of-place.result c.index_mut.result.now c.note.new.write a.here (ap aloft_of c.note.ensures.write) in
     let outcome = ap (λ r. r.outcome) c.apply_op-row.ensures.row ∙ outcome_live c.self.inside.fill c.index-as_slice-at.result c.index_mut.result.now.ts (g.S.RowStore.store c.self.inside.store c.self.inside.pool) under in
     let before = c.reserved-before.ensures.reserved in
@@ -173,7 +173,7 @@ returns-clause-applied g c =
     let under = under_next g.C.Clock.readings _ c.place_of-place.result c.index_mut.result.now.ts c.index-as_slice-at.result _ c.self.invariant.0 refl (next_here c.self.inside.flights.items c.args.number c.args.at c.place_of-place.result c.index_mut.result.now c.index-as_slice-at.result a) in
     let alike = promised_alike g.S.RowStore.stands g.S.RowStore.store c.apply_op-row.new.store c.apply_op-row.new.pool c.note.new.pool _ g.met.S.RowStore.looks c.apply_op-row.ensures.stands c.note.ensures.pool in
     let changed = alike ∙ c.apply_op-row.ensures.changed ∙ ap (λ w. with_change c.index-as_slice-at.result.key w.ts (change_by c.index-as_slice-at.result (is_there c.index-as_slice-at.result (g.S.RowStore.store c.self.inside.store c.self.inside.pool))) (g.S.RowStore.store c.self.inside.store c.self.inside.pool)) same in
-    let stores = store_applied c.self.inside.fill c.index-as_slice-at.result c.index_mut.result.now.ts (g.S.RowStore.store c.self.inside.store c.self.inside.pool) _ under room.whole changed in
+    let stores = store_applied c.self.inside.fill c.index-as_slice-at.result c.index_mut.result.now.ts (g.S.RowStore.store c.self.inside.store c.self.inside.pool) _ under changed in
     let flies = aloft_set c.self.inside.flights.items c.place_of-place.result c.index_mut.result.now c.note.new.write a.here (ap aloft_of c.note.ensures.write) in
     has_applied _ _ c.args.number c.args.at c.place_of-place.result c.self.inside.flights.items c.index_mut.result.now c.index-as_slice-at.result c.note.result _ _ c.self.view_is refl a flies stores
 

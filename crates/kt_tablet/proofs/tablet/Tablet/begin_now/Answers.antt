@@ -45,7 +45,6 @@ invariant_of-self-2 g c =
             over = λ none. may.cells ∙ nothing_needs c.args.ops none;
             count = may.may.count;
             each = may.may.each;
-            whole = may.may.whole;
             noted = c.in-Ok-make_room.ensures.bare;
             room = (let e = c.len.ensures in let le = c.in-Ok-make_room.ensures.noted.0 in omega (arith, e, le), let e = c.len.ensures in let le = c.in-Ok-make_room.ensures.noted.1 in omega (arith, e, le));
           })

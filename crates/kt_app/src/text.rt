@@ -1,0 +1,191 @@
+//! The output text of a run.
+ghost use Rattle.std.specs.Prelude.{◌≡◌, ◌∷◌, [], IfOk, All, Some, Bool, ℕ};
+ghost use Rattle.kt_script.specs.Texts.{output_text, reply_numbers};
+ghost use Rattle.kt_script.specs.Laws.{Fits64, EventFits, ReplyFits, OutputFits};
+ghost use Rattle.kt_app.specs.Headline.{kinds_shown as kinds_printed, shown_from, all_shown};
+ghost use Rattle.kt_app.specs.Session.{on_table};
+ghost use Rattle.kt_app.specs.Turns.{given, reply_in, end_of_run};
+
+use crate::replies::SessionReplies;
+use crate::rows::kinds_shown;
+use kt_base::{NoMemory, Octets};
+use kt_history::{Command, Event, EventList, Reply, Session};
+use kt_schema::Schema;
+use kt_script::{KindList, LastLine, ReplyList, ReplyLists, ShownReply, print_output};
+use std::alloc::Global;
+
+/// The output text of a run, and whether a device fault stopped it.
+#[derive(Drop)]
+pub struct Output {
+    pub stopped: bool,
+    pub text: Octets,
+}
+
+// The numbers of a reply are numbers of the program.
+fn reply_fits(reply: &Reply)
+    ensures { All Fits64 (reply_numbers reply.now) }
+{
+    match reply {
+        Reply::At { ts, outcomes: _ } => {
+            let _ts = *ts;
+        }
+        Reply::Rows { t, rows } => {
+            let _numbers = (*t, rows.as_slice().len());
+        }
+        Reply::Ancient { t, a } => {
+            let _numbers = (*t, *a);
+        }
+        Reply::Busy { t, f } => {
+            let _numbers = (*t, *f);
+        }
+        Reply::Ahm { a } => {
+            let _a = *a;
+        }
+        Reply::Large { n } => {
+            let _n = *n;
+        }
+        Reply::Done | Reply::Stopped => {}
+    }
+}
+
+// And those of a line.
+fn event_fits(event: Event)
+    ensures { EventFits event }
+{
+    match event {
+        Event::Begin { s, i, ts, m } => {
+            let _numbers = (s, i, ts, m);
+        }
+        Event::End { s, i, ts } => {
+            let _numbers = (s, i, ts);
+        }
+        Event::Look { s, i, t, m } => {
+            let _numbers = (s, i, t, m);
+        }
+        Event::Rows { s, i, t } => {
+            let _numbers = (s, i, t);
+        }
+        Event::Ancient { s, i, t, a } => {
+            let _numbers = (s, i, t, a);
+        }
+        Event::Busy { s, i, t, f } => {
+            let _numbers = (s, i, t, f);
+        }
+        Event::Mark { s, i, a } => {
+            let _numbers = (s, i, a);
+        }
+        Event::Chore { s, i } => {
+            let _numbers = (s, i);
+        }
+        Event::Large { s, i, n } => {
+            let _numbers = (s, i, n);
+        }
+        Event::Stop => {}
+    }
+}
+
+fn events_fit(events: &[Event])
+    ensures { All EventFits events.now }
+{
+    for event in events {
+        event_fits(*event);
+    }
+}
+
+// The kinds of the columns that the rows of a reply have.
+fn kinds_of(alloc: Global, schema: &Schema, command: &Command) -> Result<KindList, NoMemory>
+    ensures { IfOk result (λ kinds. kinds ≡ kinds_printed (on_table schema.now) command.now) }
+{
+    match command {
+        Command::Scan(scan) => kinds_shown(alloc, schema, scan),
+        Command::Write(_) | Command::Mark(_) | Command::Chore(_) => {
+            Ok(KindList::of(Vec::new(alloc)))
+        }
+    }
+}
+
+// What is printed for each command of a session: its reply, and stopped where it has none.
+fn shown_session(
+    alloc: Global,
+    schema: &Schema,
+    commands: &[Command],
+    replies: SessionReplies,
+) -> Result<ReplyList, NoMemory>
+    ensures shown { IfOk result (λ list. list ≡ shown_from (on_table schema.now) (reply_in (Some replies)) 1 commands.now) }
+    ensures fit { IfOk result (λ list. All ReplyFits list) }
+{
+    let mut rest = replies.into_vec().into_iter();
+    let mut shown = Vec::with_capacity(alloc, commands.len())?;
+    for command in commands {
+        let reply = rest.next().unwrap_or(Reply::Stopped);
+        reply_fits(&reply);
+        let kinds = kinds_of(alloc, schema, command)?;
+        shown.push(ShownReply { kinds, reply })?;
+    }
+    Ok(ReplyList::of(shown))
+}
+
+// The same for each session.
+fn shown_all(
+    alloc: Global,
+    schema: &Schema,
+    plan: &[Session],
+    replies: Vec<SessionReplies>,
+) -> Result<ReplyLists, NoMemory>
+    ensures shown { IfOk result (λ lists. lists ≡ all_shown (on_table schema.now) (given replies.items) 1 plan.now) }
+    ensures fit { IfOk result (λ lists. All (All ReplyFits) lists) }
+{
+    let mut rest = replies.into_iter();
+    let mut shown = Vec::with_capacity(alloc, plan.len())?;
+    for session in plan {
+        let replies = rest.next().unwrap_or(SessionReplies::none(alloc));
+        shown.push(shown_session(alloc, schema, session.as_slice(), replies)?)?;
+    }
+    Ok(ReplyLists::of(shown))
+}
+
+// The last line of a run with this mark and this last timestamp.
+fn last_line(stopped: bool, a: u64, c: u64) -> LastLine
+    ensures { result ≡ end_of_run stopped a c }
+{
+    if stopped {
+        LastLine::Stopped
+    } else {
+        LastLine::Numbers { a, c, rowsets: 0 }
+    }
+}
+
+fn text_of(
+    alloc: Global,
+    sessions: &ReplyLists,
+    trail: &EventList,
+    last: &LastLine,
+) -> Result<Octets, NoMemory>
+    ensures { IfOk result (λ text. text ≡ output_text sessions.now trail.now last.now) }
+{
+    let mut out = Octets::new(alloc);
+    print_output(alloc, sessions, trail, last, &mut out)?;
+    Ok(out)
+}
+
+/// The output of a run with these replies and this history.
+pub fn output_of(
+    alloc: Global,
+    schema: &Schema,
+    plan: &[Session],
+    replies: Vec<SessionReplies>,
+    stopped: bool,
+    a: u64,
+    c: u64,
+    trail: &EventList,
+) -> Result<Output, NoMemory>
+    ensures stopped { IfOk result (λ out. out.stopped ≡ stopped) }
+    ensures text { IfOk result (λ out. out.text ≡ output_text (all_shown (on_table schema.now) (given replies.items) 1 plan.now) trail.now (end_of_run stopped a c)) }
+    ensures fits { IfOk result (λ out. OutputFits (all_shown (on_table schema.now) (given replies.items) 1 plan.now) trail.now (end_of_run stopped a c)) }
+{
+    let sessions = shown_all(alloc, schema, plan, replies)?;
+    let _count = sessions.as_slice().len();
+    events_fit(trail.as_slice());
+    let text = text_of(alloc, &sessions, trail, &last_line(stopped, a, c))?;
+    Ok(Output { stopped, text })
+}

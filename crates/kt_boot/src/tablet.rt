@@ -1,0 +1,127 @@
+//! Opening a tablet.
+ghost use Rattle.std.specs.Prelude.{◌≡◌, ◌≢◌, ◌≤◌, ◌<◌, ◌+◌, ◌^◌, ℕ, length, IsTrue, true, false, Ok, Err, IfOk, IfErr, None, [], List};
+ghost use Rattle.kt_base.specs.Causes.{Rose};
+ghost use Rattle.kt_disk.specs.Disk.{LeavesOnly};
+ghost use Rattle.kt_journal.specs.Log.{CanOpen};
+ghost use Rattle.kt_schema.specs.Columns.{fill_of};
+ghost use Rattle.kt_history.specs.History.{Past};
+ghost use Rattle.kt_loglaws.specs.Laws.{LogHolds};
+ghost use Rattle.kt_tablet.specs.Views.{work_of};
+ghost use Rattle.kt_engine.specs.Engines.{IsContent};
+ghost use Rattle.kt_boot.specs.Opening.{content, HasContentOf};
+ghost use Rattle.kt_boot.specs.Refusal.{refusal_of};
+ghost use Rattle.kt_boot.specs.Reopening.{mem_number, needs_of, owed};
+
+use crate::opening::Why;
+use crate::reopening::{Reopened, reopen};
+use kt_base::Clock;
+use kt_disk::Disk;
+use kt_engine::Engine;
+use kt_journal::{JournalNo, open_journal};
+use kt_schema::Schema;
+use kt_tablet::Tablet;
+use std::alloc::Global;
+use std::snapshot::Snapshot;
+
+/// A tablet that was not opened: why, and its devices and its clock.
+#[derive(Drop)]
+pub struct Closed<L, D, C> {
+    pub why: Why,
+    pub log: L,
+    pub store: D,
+    pub clock: C,
+}
+
+fn refusal_of(no: JournalNo) -> Why
+    ensures { result ≡ refusal_of no }
+{
+    match no {
+        JournalNo::Place { offset } => Why::B3 { offset },
+        JournalNo::Fault => Why::Fault,
+        JournalNo::Memory => Why::Memory,
+    }
+}
+
+/// Opens a tablet. Its pool has so many cells beside those that the rows of the log need.
+pub fn open_tablet<L: Disk, D, C: Clock>(
+    alloc: Global,
+    log: L,
+    store: D,
+    clock: C,
+    schema: &Schema,
+    cells: u32,
+) -> Result<Engine<L, D, C>, Closed<L, D, C>>
+    requires openable { IsTrue L.tells → CanOpen L.now L.leaves log }
+
+    // What the log holds is what the engine goes on from.
+    ensures found { IfOk result (λ engine. (past : Past) × IsContent engine past × (IsTrue L.tells → content (fill_of schema.now) (L.seen log) ≡ Ok (record { past = past; last = engine.tablet.core.opened }))) }
+    ensures low { IfOk result (λ engine. engine.tablet.core.opened < 2 ^ 63) }
+
+    // Nothing has happened yet.
+    ensures fresh { IfOk result (λ engine. (engine.tablet.core.trail ≡ []) × (engine.tablet.core.aloft ≡ []) × (engine.tablet.core.stopped ≡ false)) }
+    ensures times { IfOk result (λ engine. (engine.tablet.core.a ≡ 0) × (engine.tablet.mark ≡ 0) × (engine.tablet.core.c ≡ engine.tablet.core.opened)) }
+    ensures work { IfOk result (λ engine. engine.tablet.core.work ≡ work_of schema.now [] cells (fill_of schema.now)) }
+    ensures clock { IfOk result (λ engine. (engine.tablet.clock ≡ clock) × (engine.tablet.opened ≡ clock)) }
+    ensures devices { IfOk result (λ engine. (engine.log.holder ≡ None) × (engine.device ≡ log) × (engine.store ≡ store)) }
+
+    // A COMMIT waits for the log for each write above 0 without one, and the pool has the cells.
+    ensures owes { IfOk result (λ engine. (whole : Past) × LogHolds (fill_of schema.now) engine.records whole × (engine.log.queued ≡ owed (fill_of schema.now) (mem_number engine.records) engine.records whole engine.records)) }
+    ensures room { IfOk result (λ engine. (length engine.tablet.pool.places ≡ cells + needs_of engine.records engine.records) × (engine.tablet.pool.reserved ≡ 0)) }
+
+    // It is refused exactly where its content is, and for that reason, unless the device or memory fail.
+    ensures refused { IfErr result (λ e. e.why ≢ Why.Fault → e.why ≢ Why.Memory → IsTrue L.tells → content (fill_of schema.now) (L.seen log) ≡ Err e.why) }
+    ensures fault { IfErr result (λ e. e.why ≡ Why.Fault → Rose (L.faults log) (L.faults e.log)) }
+    ensures faults { IfErr result (λ e. L.faults log ≤ L.faults e.log) }
+    ensures back { IfErr result (λ e. (e.store ≡ store) × (e.clock ≡ clock)) }
+
+    // The device may be opened again, and a crash at any moment of the call leaves the content of an image from before it.
+    ensures openable { IfErr result (λ e. IsTrue L.tells → CanOpen L.now L.leaves e.log) }
+    ensures any_moment_ok { IfOk result (λ engine. IsTrue L.tells → LeavesOnly L.now L.leaves (HasContentOf L.now L.leaves (fill_of schema.now) log) log engine.log.known.disk) }
+    ensures any_moment { IfErr result (λ e. IsTrue L.tells → LeavesOnly L.now L.leaves (HasContentOf L.now L.leaves (fill_of schema.now) log) log e.log) }
+{
+    let device = Snapshot::of(&log);
+    let (journal, records) = match open_journal(alloc, log) {
+        Ok(opened) => opened,
+        Err((log, no)) => return Err(Closed {
+            why: refusal_of(no),
+            log,
+            store,
+            clock,
+        }),
+    };
+    let Reopened {
+        mem,
+        pool,
+        last,
+        queued,
+    } = match reopen(alloc, records.as_slice(), schema, cells) {
+        Ok(reopened) => reopened,
+        Err(why) => return Err(Closed {
+            why,
+            log: journal.into_disk(),
+            store,
+            clock,
+        }),
+    };
+    let tablet = match Tablet::of(alloc, mem, pool, clock, schema, cells, last, 0) {
+        Ok(tablet) => tablet,
+        Err((_, _, clock)) => return Err(Closed {
+            why: Why::Memory,
+            log: journal.into_disk(),
+            store,
+            clock,
+        }),
+    };
+    match Engine::of(alloc, tablet, journal, &records, queued, store, device) {
+        Ok(engine) => Ok(engine),
+        Err((tablet, journal, store)) => {
+            let (clock, _) = tablet.take_apart();
+            Err(Closed {
+                why: Why::Memory,
+                log: journal.into_disk(),
+                store,
+                clock,
+            })
+        }
+    }
+}

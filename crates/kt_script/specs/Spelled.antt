@@ -1,0 +1,16 @@
+-- What every text that is a script says.
+use Rattle.std.specs.Prelude.{◌≡◌, ℕ, true, List, Some}
+use Rattle.std.specs.List.{list_any}
+use Rattle.kt_script.specs.Columns.{IsTable}
+use Rattle.kt_script.specs.Scripts.{Said, script_of}
+use Rattle.kt_script.specs.Fit.{PlanFits}
+
+-- A table that has a key, and a plan that keeps its rules and those of the grammar.
+pub record SaidFits (s : Said) : Type 0 where
+  pub table : IsTable s.columns
+  pub key : list_any (λ c. c.key) s.columns ≡ true
+  pub plan : PlanFits s.columns s.plan
+
+-- what a text says keeps the rules
+abbrev pub scripts_fit : Type 0
+scripts_fit = (text : List ℕ) (s : Said) → script_of text ≡ Some s → SaidFits s
