@@ -1,0 +1,5 @@
+pub mod Frames
+pub mod Moving
+pub mod Opened
+pub mod Planned
+pub mod Ready

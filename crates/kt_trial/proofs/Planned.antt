@@ -1,0 +1,144 @@
+-- Writes that are made one operation after another may be asked for.
+use Rattle.std.proofs.Common.{◌≡◌, ℕ, ℤ, zero, suc, ◌+◌, ◌-◌, ◌*◌, ◌^◌, ◌<◌, ◌≤◌, List, [], ◌∷◌, ◌++◌, Option, Some, None, refl, true, false, Bool, ◌||◌, sym, ap, ◌∙◌, subst, arith, length, map, length-append, append_assoc}
+use Rattle.std.specs.Prelude.{FitsSigned, pos, slice_get}
+use Rattle.std.specs.List.{All, list_any, flat_map}
+use Rattle.std.specs.Ordering.{eq_by_cmp}
+use Rattle.std.proofs.lemmas.Bool.Decides.{nat_tests}
+use Rattle.std.proofs.lemmas.List.{append-nil}
+use Rattle.std.proofs.lemmas.List.Concat.{flat_map-append}
+use Rattle.kt_base.specs.declared.cell.Cell.TheVariants as cell
+use Rattle.kt_history.specs.declared.command.Command.{Command}
+use Rattle.kt_history.specs.declared.command.Command.TheVariants as command
+use Rattle.kt_history.specs.declared.operation.OpKind.{OpKind}
+use Rattle.kt_history.specs.declared.operation.OpKind.TheVariants.{Insert, Upsert, Update, Delete}
+use Rattle.kt_history.specs.declared.operation.RowOp.{RowOp}
+use Rattle.kt_history.specs.Machine.{Workload, HasDifferentKeys, nth, command_of, ops_of}
+use Rattle.kt_history.specs.Operations.{op_len, DifferentKeys}
+use Rattle.kt_history.specs.Rows.{Row, key_cmp}
+use Rattle.kt_records.proofs.Lengths.{length-operation}
+use Rattle.kt_records.specs.Rules.{EachAfter, FollowingOp, CellsFit, may_hold, has_key}
+use Rattle.kt_records.specs.Spelling.{operation}
+use Rattle.kt_tablet.specs.SnapLaws.{by_bool, same_key}
+use Rattle.kt_engine.specs.Logged.{IsShort}
+use Rattle.kt_engine.proofs.Lists.{all_head, all_tail}
+use Rattle.kt_trial.specs.Plans.{ArePlain, IsPlain, AreBelow, WriteFits, CommandFits, PlanFits}
+
+-- no cell
+pub none_plain : (kind : OpKind) → ArePlain kind []
+none_plain Insert = record { fits = record { listed = refl; count = omega arith; cells = tt }; short = omega arith }
+none_plain Upsert = record { fits = record { listed = refl; count = omega arith; cells = tt }; short = omega arith }
+none_plain Update = record { fits = record { listed = refl; count = omega arith; cells = tt }; short = omega arith }
+none_plain Delete = record { fits = record { listed = refl; count = omega arith; cells = tt }; short = omega arith }
+
+-- one number
+one_plain : (kind : OpKind) (column value : ℕ) → (kind ≡ Delete → ⊥) → column < 2 ^ 16 → value < 2 ^ 32 → CellsFit kind ((column, cell.Int (pos value)) ∷ [])
+one_plain Insert column value other few low = record { listed = refl; count = omega arith; cells = (record { rising = omega arith; id = few; cell = omega (arith, low) }, tt) }
+one_plain Upsert column value other few low = record { listed = refl; count = omega arith; cells = (record { rising = omega arith; id = few; cell = omega (arith, low) }, tt) }
+one_plain Update column value other few low = record { listed = refl; count = omega arith; cells = (record { rising = omega arith; id = few; cell = omega (arith, low) }, tt) }
+one_plain Delete column value other few low = absurd (other refl)
+
+pub plain : (kind : OpKind) (cells : Row) (column value : ℕ) → cells ≡ (column, cell.Int (pos value)) ∷ [] → (kind ≡ Delete → ⊥) → column < 2 ^ 16 → value < 2 ^ 32 → ArePlain kind cells
+plain kind cells column value is other few low = subst (λ (l : Row). ArePlain kind l) (sym is) (record { fits = one_plain kind column value other few low; short = omega arith })
+
+-- ---- one operation more
+
+or_false : (a b : Bool) → (a || b) ≡ false → (a ≡ false) × (b ≡ false)
+or_false true b h = absurd (let e : true ≡ false = h in cc)
+or_false false b h = (refl, h)
+
+any_more : {A : Type 0} (p : A → Bool) (xs : List A) (x : A) → list_any p xs ≡ false → p x ≡ false → list_any p (xs ++ x ∷ []) ≡ false
+any_more p [] x none not_one = ap (λ b. b || false) not_one
+any_more p (y ∷ xs) x none not_one = let parts = or_false (p y) (list_any p xs) none in ap (λ b. b || list_any p (xs ++ x ∷ [])) parts.0 ∙ any_more p xs x parts.1 not_one
+
+each_more : (front ops : List RowOp) (op : RowOp) → EachAfter FollowingOp front ops → FollowingOp (front ++ ops) op → EachAfter FollowingOp front (ops ++ op ∷ [])
+each_more front [] op each next = (subst (λ (l : List RowOp). FollowingOp l op) (append-nil front) next, tt)
+each_more front (o ∷ ops) op each next = (each.0, each_more (front ++ o ∷ []) ops op each.1 (rw append_assoc next))
+
+apart_more : (ops : List RowOp) (op : RowOp) → DifferentKeys ops → has_key ops op.key ≡ false → DifferentKeys (ops ++ op ∷ [])
+apart_more [] op apart new = (refl, tt)
+apart_more (o ∷ ops) op apart new = let parts = or_false (eq_by_cmp key_cmp o.key op.key) (has_key ops op.key) new in
+    (any_more (λ (other : RowOp). eq_by_cmp key_cmp o.key other.key) ops op apart.0 parts.0, apart_more ops op apart.1 parts.1)
+
+head_is : (a b : ℕ) → a ∷ [] ≡ b ∷ [] → a ≡ b
+head_is a b e = cc
+
+other_key : (a b : ℕ) → a < b → eq_by_cmp key_cmp (a ∷ []) (b ∷ []) ≡ false
+other_key a b lt = by_bool (eq_by_cmp key_cmp (a ∷ []) (b ∷ [])) (λ e. let is = head_is a b (same_key (a ∷ []) (b ∷ []) e) in absurd (omega (arith, lt, is))) (λ e. e)
+
+new_key : (ops : List RowOp) (op : RowOp) (n key : ℕ) → AreBelow ops n → IsPlain op key → n ≤ key → has_key ops op.key ≡ false
+new_key ops op n key below is le = ap (has_key ops) is.key_is ∙ below.below key le
+
+follows : (ops : List RowOp) (op : RowOp) (n key : ℕ) → AreBelow ops n → IsPlain op key → n ≤ key → FollowingOp ops op
+follows ops op n key below is le = let one : length op.key ≡ 1 = ap length is.key_is in record { new_key = new_key ops op n key below is le; key = omega (arith, one); cells = is.cells.fits }
+
+op_short : (op : RowOp) (key : ℕ) → IsPlain op key → length (operation op) ≤ 32
+op_short op key is = let one : length op.key ≡ 1 = ap length is.key_is in let short = is.cells.short in omega (arith, length-operation op, one, short)
+
+short_more : (ops : List RowOp) (op : RowOp) → length (flat_map operation ops) ≤ 32 * length ops → length (operation op) ≤ 32 → length (flat_map operation (ops ++ op ∷ [])) ≤ 32 * length (ops ++ op ∷ [])
+short_more [] op low short = omega (arith, short, ap length (append-nil (operation op)))
+short_more (o ∷ ops) op low short = omega (arith, ap length (flat_map-append operation (o ∷ ops) (op ∷ [])), length-append (flat_map operation (o ∷ ops)) (flat_map operation (op ∷ [])), ap length (append-nil (operation op)), length-append (o ∷ ops) (op ∷ []), low, short)
+
+pub below_none : AreBelow [] 0
+below_none = record { each = tt; apart = tt; below = λ q le. refl; short = omega arith }
+
+pub below_more : (ops new : List RowOp) (op : RowOp) (n key m : ℕ) → new ≡ ops ++ op ∷ [] → AreBelow ops n → IsPlain op key → n ≤ key → key < m → AreBelow new m
+below_more ops new op n key m made below is le lt = subst (λ (l : List RowOp). AreBelow l m) (sym made) (record {
+  each = each_more [] ops op below.each (follows ops op n key below is le);
+  apart = apart_more ops op below.apart (new_key ops op n key below is le);
+  below = λ q high. any_more (λ (o : RowOp). eq_by_cmp key_cmp o.key (q ∷ [])) ops op (below.below q (omega (arith, le, lt, high))) (ap (λ (k : List ℕ). eq_by_cmp key_cmp k (q ∷ [])) is.key_is ∙ other_key key q (omega (arith, lt, high)));
+  short = short_more ops op below.short (op_short op key is);
+})
+
+held : (n : ℕ) → 1 ≤ n → n ≤ 64 → may_hold n ≡ true
+held n low high = grind (arith, nat_tests)
+
+few_short : (ops : List RowOp) → length (flat_map operation ops) ≤ 32 * length ops → length ops ≤ 4 → IsShort ops
+few_short ops short few ts = omega (arith, short, few)
+
+pub write_fits : (ops : List RowOp) (key : ℕ) → AreBelow ops key → 1 ≤ length ops → length ops ≤ 4 → WriteFits ops
+write_fits ops key below some few = record {
+  count = held (length ops) some (omega (arith, few));
+  each = below.each;
+  apart = below.apart;
+  short = few_short ops below.short few;
+}
+
+-- ---- the commands of a plan
+
+at_place : {A : Type 0} (P : A → Type 0) (xs : List A) (k : ℕ) (x : A) → All P xs → slice_get xs k ≡ Some x → P x
+at_place P [] k x all is = absurd (let e : None ≡ Some x = is in cc)
+at_place P (y ∷ xs) zero x all is = let same : y ≡ x = cc in subst P same (all_head P y xs all)
+at_place P (y ∷ xs) (suc k) x all is = at_place P xs k x (all_tail P y xs all) is
+
+at_nth : {A : Type 0} (P : A → Type 0) (xs : List A) (s : ℕ) (x : A) → All P xs → nth xs s ≡ Some x → P x
+at_nth P xs zero x all is = absurd (let e : None ≡ Some x = is in cc)
+at_nth P xs (suc k) x all is = at_place P xs k x all is
+
+pub fits_in : (commands : List Command) (i : ℕ) (x : Command) → All CommandFits commands → nth commands i ≡ Some x → CommandFits x
+fits_in commands i x all is = at_nth CommandFits commands i x all is
+
+pub session_fits : (plan : List (List Command)) (s : ℕ) (commands : List Command) → PlanFits plan → nth plan s ≡ Some commands → All CommandFits commands
+session_fits plan s commands all is = at_nth (All CommandFits) plan s commands all is
+
+apart_in : (c : Command) → CommandFits c → DifferentKeys (ops_of (Some c))
+apart_in (command.Write w) fits = fits.apart
+apart_in (command.Scan scan) fits = tt
+apart_in (command.Mark t) fits = tt
+apart_in (command.Chore chore) fits = tt
+
+apart_at : (commands : List Command) (i : ℕ) (o : Option Command) → All CommandFits commands → nth commands i ≡ o → DifferentKeys (ops_of o)
+apart_at commands i None all is = tt
+apart_at commands i (Some c) all is = apart_in c (fits_in commands i c all is)
+
+apart_of : (plan : List (List Command)) (s i : ℕ) (o : Option (List Command)) → PlanFits plan → nth plan s ≡ o → DifferentKeys (ops_of (command_of o i))
+apart_of plan s i None all is = tt
+apart_of plan s i (Some commands) all is = apart_at commands i (nth commands i) (session_fits plan s commands all is) refl
+
+-- no write of the plan has a key twice
+pub planned : (work : Workload) → PlanFits work.plan → HasDifferentKeys work
+planned work all s i = apart_of work.plan s i (nth work.plan s) all refl
+
+-- what is found by its number
+pub nth_read : {A : Type 0} (xs : List A) (n : ℕ) (x : A) → 0 < n → slice_get xs (n - 1) ≡ Some x → nth xs n ≡ Some x
+nth_read xs zero x some is = absurd (omega (arith, some))
+nth_read xs (suc k) x some is = let e : suc k - 1 ≡ k = omega arith in subst (λ n. slice_get xs n ≡ Some x) e is

@@ -1,0 +1,12 @@
+use Rattle.std.proofs.Common.{ap, ◌∙◌}
+use Rattle.kt_history.specs.declared.target.Target.TheVariants.{Mem}
+use Rattle.kt_tablet.proofs.Examples.{found_empty}
+use Rattle.kt_trial.proofs.Opened.{is_new}
+use Rattle.kt_trial.proofs.Planned.{planned}
+use Rattle.kt_trial.proofs.opening.tablet.Goals as goal
+
+pub of-requires-2-clause-found : goal.of-requires-2-clause-found
+of-requires-2-clause-found c = found_empty _ _ (c.new-store.ensures.empty c.in-Ok.pool)
+
+pub set_plan-requires-clause-planned : goal.set_plan-requires-clause-planned
+set_plan-requires-clause-planned c = planned (record c.in-Ok-of.tablet.core.work { plan = c.args.plan.now }) c.requires.fits

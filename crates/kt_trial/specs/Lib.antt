@@ -1,0 +1,4 @@
+pub mod Plans
+pub mod Seats
+pub mod Openings
+pub mod Five

@@ -1,0 +1,118 @@
+//! An engine in which nothing has happened yet, over an empty log in memory.
+ghost use Rattle.std.specs.Prelude.{◌≡◌, ◌≤◌, [], IfOk, length};
+ghost use Rattle.kt_trial.specs.Plans.{PlanFits};
+ghost use Rattle.kt_trial.specs.Openings.{IsAtStart, IsNew};
+
+use crate::miss::Miss;
+use crate::operation::DEFAULT;
+use kt_base::{Cell, Kind, MemClock, NoMemory, Octets, ReadingList};
+use kt_disk::MemDisk;
+use kt_engine::Engine;
+use kt_history::Plan;
+use kt_journal::open_journal;
+use kt_memrowset::MemRowSet;
+use kt_pool::Pool;
+use kt_records::RecordList;
+use kt_schema::{Column, ColumnList, Schema};
+use kt_tablet::Tablet;
+use std::alloc::Global;
+use std::snapshot::Snapshot;
+
+/// An engine over a log in memory, with a clock that is told.
+pub type Tried = Engine<MemDisk, (), MemClock>;
+
+/// A column that is nullable unless it is of the key.
+pub fn column(
+    alloc: Global,
+    id: u16,
+    name: &[u8],
+    kind: Kind,
+    key: bool,
+    default: Option<Cell>,
+) -> Result<Column, NoMemory> {
+    Ok(Column {
+        id,
+        name: Octets::from_slice(alloc, name)?,
+        kind,
+        key,
+        nullable: !key,
+        default,
+    })
+}
+
+/// A table of one key column and two others, of which the second has a default.
+pub fn schema(alloc: Global) -> Result<Schema, Miss> {
+    let default = Some(Cell::Int(DEFAULT));
+    let mut columns = Vec::new(alloc);
+    let key = column(alloc, 0, b"k", Kind::String, true, None)?;
+    let x = column(alloc, 1, b"x", Kind::Int64, false, None)?;
+    let y = column(alloc, 2, b"y", Kind::Int64, false, default)?;
+    let Ok(()) = columns.push(key) else {
+        return Err(Miss::Memory);
+    };
+    let Ok(()) = columns.push(x) else {
+        return Err(Miss::Memory);
+    };
+    let Ok(()) = columns.push(y) else {
+        return Err(Miss::Memory);
+    };
+    match Schema::new(alloc, ColumnList::of(columns)) {
+        Ok(schema) => Ok(schema),
+        Err(_) => Err(Miss::Opening),
+    }
+}
+
+// A tablet with no row that has this plan, in which a write may need so many cells.
+fn tablet(
+    alloc: Global,
+    schema: &Schema,
+    cells: u32,
+    plan: &Plan,
+    readings: Vec<u64>,
+) -> Result<Tablet<MemRowSet, MemClock>, Miss>
+    requires fits { PlanFits plan.now }
+    requires few { length plan.now ≤ 64 }
+    ensures { IfOk result (λ tablet. IsNew tablet plan.now) }
+{
+    let Ok(pool) = Pool::new(alloc, 1024) else {
+        return Err(Miss::Memory);
+    };
+    let clock = MemClock::of(ReadingList::of(readings));
+    let store = MemRowSet::new(7);
+    let Ok(mut tablet) = Tablet::of(alloc, store, pool, clock, schema, cells, 0, 0) else {
+        return Err(Miss::Memory);
+    };
+    tablet.set_plan(plan);
+    Ok(tablet)
+}
+
+fn no_records(alloc: Global) -> RecordList
+    ensures { result ≡ [] }
+{
+    RecordList::of(Vec::new(alloc))
+}
+
+/// An engine with this plan over a table with these columns. A write may need so many cells, and the clock gives these readings.
+pub fn engine(
+    alloc: Global,
+    schema: &Schema,
+    cells: u32,
+    plan: &Plan,
+    readings: Vec<u64>,
+) -> Result<Tried, Miss>
+    requires fits { PlanFits plan.now }
+    requires few { length plan.now ≤ 64 }
+    ensures { IfOk result (λ engine. IsAtStart engine.tablet.core plan.now) }
+{
+    let tablet = tablet(alloc, schema, cells, plan, readings)?;
+    let disk = MemDisk::new(alloc);
+    let device = Snapshot::of(&disk);
+    let Ok((journal, records)) = open_journal(alloc, disk) else {
+        return Err(Miss::Opening);
+    };
+    let none = no_records(alloc);
+    match Engine::of(alloc, tablet, journal, &records, none, (), device) {
+        Ok(engine) => Ok(engine),
+        Err(_) => Err(Miss::Memory),
+    }
+}

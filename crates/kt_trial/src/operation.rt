@@ -1,0 +1,107 @@
+//! What the plain machine knows of an operation.
+use kt_base::{Cell, NoMemory};
+use kt_history::{OpKind, OpList, Outcome, RowOp};
+use std::alloc::Global;
+
+/// How many keys there are: the bytes below this number.
+pub const KEYS: u8 = 12;
+
+/// What the second column has where an insert does not name it.
+pub const DEFAULT: i64 = 7;
+
+/// The cells of a row.
+#[derive(Clone, Copy, Debug, PartialEq, Eq)]
+pub struct Line {
+    pub x: Option<i64>,
+    pub y: Option<i64>,
+}
+
+/// An operation on one key, with the number and the value of its cell, if it has one.
+#[derive(Clone, Copy, Debug, Drop)]
+pub struct Op {
+    pub kind: OpKind,
+    pub key: u8,
+    pub cell: Option<(u16, i64)>,
+}
+
+fn op_of(op: &RowOp) -> Op {
+    let key = match op.key.as_slice() {
+        [key] => *key,
+        _ => KEYS,
+    };
+    let cell = match op.cells.as_slice() {
+        [(column, Cell::Int(value))] => Some((*column, *value)),
+        _ => None,
+    };
+    Op {
+        kind: op.kind,
+        key,
+        cell,
+    }
+}
+
+/// The operations of a write.
+pub fn ops_of(alloc: Global, ops: &OpList) -> Result<Vec<Op>, NoMemory> {
+    let mut all = Vec::new(alloc);
+    for op in ops.as_slice() {
+        all.push(op_of(op))?;
+    }
+    Ok(all)
+}
+
+/// How many cells a write needs: twice four for each operation, and twice one more for each 56 bytes of it that are begun.
+pub fn need(ops: &[Op]) -> u32 {
+    let mut cells = 0u32;
+    for op in ops {
+        let bytes = if op.cell.is_some() { 17 } else { 6 };
+        cells = cells.saturating_add(2 * ((bytes + 55) / 56 + 4));
+    }
+    cells
+}
+
+fn with(cell: Option<(u16, i64)>, line: Line) -> Line {
+    match cell {
+        Some((1, value)) => Line {
+            x: Some(value),
+            y: line.y,
+        },
+        Some((_, value)) => Line {
+            x: line.x,
+            y: Some(value),
+        },
+        None => line,
+    }
+}
+
+/// The row after an operation, and what became of that.
+pub fn after(op: &Op, line: Option<Line>) -> (Option<Line>, Outcome) {
+    match line {
+        None => match op.kind {
+            OpKind::Insert | OpKind::Upsert => {
+                let fresh = Line {
+                    x: None,
+                    y: Some(DEFAULT),
+                };
+                (Some(with(op.cell, fresh)), Outcome::Done)
+            }
+            OpKind::Update | OpKind::Delete => (None, Outcome::Absent),
+        },
+        Some(line) => match op.kind {
+            OpKind::Insert => (Some(line), Outcome::Present),
+            OpKind::Upsert | OpKind::Update => (Some(with(op.cell, line)), Outcome::Done),
+            OpKind::Delete => (None, Outcome::Done),
+        },
+    }
+}
+
+/// Whether two writes share a key.
+pub fn share_key(ops: &[Op], others: &[Op]) -> bool {
+    for op in ops {
+        for other in others {
+            if op.key == other.key {
+                return true;
+            }
+        }
+    }
+    false
+}

@@ -1,0 +1,139 @@
+//! Plans that are made from a seed.
+ghost use Rattle.std.specs.Prelude.{◌≡◌, ◌≤◌, ◌∷◌, [], ℕ, pos, IfOk, length};
+ghost use Rattle.std.specs.List.{All};
+ghost use Rattle.kt_base.specs.declared.cell.Cell.TheVariants.{Int};
+ghost use Rattle.kt_trial.specs.Plans.{ArePlain, IsPlain, AreBelow, WriteFits, CommandFits, PlanFits};
+
+use crate::dice::Dice;
+use kt_base::{Cell, Cells, NoMemory, Octets};
+use kt_history::{At, Command, OpKind, OpList, Plan, PredList, RowOp, Scan, Session, Write};
+use std::alloc::Global;
+
+/// How many sessions a plan has.
+pub const SESSIONS: u32 = 8;
+
+// One cell of this column.
+fn one_cell(alloc: Global, column: u16, value: u32) -> Result<Cells, NoMemory>
+    ensures { IfOk result (λ cells. cells ≡ (column, Int (pos value)) ∷ []) }
+{
+    let mut cells = Vec::new(alloc);
+    cells.push((column, Cell::Int(i64::from(value))))?;
+    Ok(Cells::of(cells))
+}
+
+// One cell, of one of the two columns, or none for a delete.
+fn cells_for(alloc: Global, dice: &mut Dice, kind: OpKind) -> Result<Cells, NoMemory>
+    ensures { IfOk result (λ cells. ArePlain kind cells) }
+{
+    if kind == OpKind::Delete {
+        return Ok(Cells::of(Vec::new(alloc)));
+    }
+    let column = 1 + dice.below(2) as u16;
+    let value = dice.below(1000);
+    one_cell(alloc, column, value)
+}
+
+fn kind_from(dice: &mut Dice) -> OpKind {
+    match dice.below(5) {
+        0 => OpKind::Insert,
+        1 => OpKind::Update,
+        2 => OpKind::Delete,
+        _ => OpKind::Upsert,
+    }
+}
+
+// An operation on this key.
+fn operation(alloc: Global, dice: &mut Dice, key: u8) -> Result<RowOp, NoMemory>
+    ensures { IfOk result (λ op. IsPlain op key) }
+{
+    let kind = kind_from(dice);
+    Ok(RowOp {
+        kind,
+        key: Octets::from_slice(alloc, &[key])?,
+        cells: cells_for(alloc, dice, kind)?,
+    })
+}
+
+// So many operations, by rising keys.
+fn operations(alloc: Global, dice: &mut Dice, count: u8) -> Result<OpList, NoMemory>
+    requires { count ≤ 4 }
+    ensures below { IfOk result (λ ops. (key : ℕ) × AreBelow ops key) }
+    ensures count { IfOk result (λ ops. length ops ≡ count) }
+{
+    let first = dice.below(5) as u8;
+    let mut ops = Vec::new(alloc);
+    for i in 0..count {
+        let key = first + 2 * i + dice.below(2) as u8;
+        ops.push(operation(alloc, dice, key)?)?;
+    }
+    Ok(OpList::of(ops))
+}
+
+// Mostly one to three operations, and now and then four, which are too many for the pool.
+fn count_from(dice: &mut Dice) -> u8
+    ensures { (1 ≤ result) × (result ≤ 4) }
+{
+    match dice.below(10) {
+        0 => 4,
+        1 | 2 => 3,
+        3..=6 => 2,
+        _ => 1,
+    }
+}
+
+fn write(alloc: Global, dice: &mut Dice) -> Result<Write, NoMemory>
+    ensures { IfOk result (λ write. WriteFits write.ops) }
+{
+    let count = count_from(dice);
+    let ops = operations(alloc, dice, count)?;
+    Ok(Write { ops })
+}
+
+// A time that may be near the timestamps of a run.
+fn time(dice: &mut Dice) -> u64 {
+    u64::from(dice.below(3)) * 4096 + u64::from(dice.below(24))
+}
+
+fn scan(alloc: Global, at: At) -> Command
+    ensures { CommandFits result }
+{
+    Command::Scan(Scan {
+        at,
+        columns: None,
+        preds: PredList::of(Vec::new(alloc)),
+    })
+}
+
+fn command(alloc: Global, dice: &mut Dice) -> Result<Command, NoMemory>
+    ensures { IfOk result (λ command. CommandFits command) }
+{
+    match dice.below(8) {
+        0 => Ok(Command::Mark(time(dice))),
+        1 | 2 => Ok(scan(alloc, At::Looked)),
+        3 => Ok(scan(alloc, At::Given(time(dice)))),
+        _ => Ok(Command::Write(write(alloc, dice)?)),
+    }
+}
+
+// Three to six commands.
+fn session(alloc: Global, dice: &mut Dice) -> Result<Session, NoMemory>
+    ensures { IfOk result (λ session. All CommandFits session) }
+{
+    let mut commands = Vec::new(alloc);
+    for _ in 0..3 + dice.below(4) {
+        commands.push(command(alloc, dice)?)?;
+    }
+    Ok(Session::of(commands))
+}
+
+/// A plan of eight sessions.
+pub fn plan(alloc: Global, dice: &mut Dice) -> Result<Plan, NoMemory>
+    ensures fits { IfOk result (λ plan. PlanFits plan) }
+    ensures count { IfOk result (λ plan. length plan ≡ 8) }
+{
+    let mut sessions = Vec::new(alloc);
+    for _i in 0..SESSIONS {
+        sessions.push(session(alloc, dice)?)?;
+    }
+    Ok(Plan::of(sessions))
+}
