@@ -1,25 +1,25 @@
 -- The places of a store's changes, given back.
-use Rattle.std.proofs.Common.{◌≡◌, ◌≢◌, ℕ, ◌<◌, ◌≤◌, inl, inr, List, [], ◌∷◌, length, map, Some, None, Option, cond, Bool, true, false, refl, sym, ap, subst, ◌∙◌, arith}
-use Rattle.std.specs.List.{find}
+use Rattle.std.proofs.Common.{◌≡◌, ◌≢◌, ℕ, ◌+◌, ◌<◌, ◌≤◌, inl, inr, List, [], ◌∷◌, length, map, Some, None, Option, cond, Bool, true, false, refl, sym, ap, subst, ◌∙◌, arith}
+use Rattle.std.specs.List.{find, sum_by}
 use Rattle.std.specs.Option.{option_map}
 use Rattle.std.proofs.lemmas.Bool.{cases_lt, cases_eq}
-use Rattle.kt_pool.specs.Contents.{Contents, Stands, at_cell, bytes_at, with_place}
+use Rattle.kt_pool.specs.Contents.{Contents, Stands, at_cell, bytes_at, with_place, used, cells_of, cells_for}
 use Rattle.kt_pool.proofs.Callers.{at_same, at_other, size_same, reserved_after}
 use Rattle.kt_pool.proofs.Standing.{stands_there}
 use Rattle.kt_tree.specs.Entries.{Entry, is_past, is_after, next}
 use Rattle.kt_tree.specs.Trees as trees
 use Rattle.kt_tree.specs.declared.tree.Pair.{Pair}
 use Rattle.kt_tree.specs.declared.tree.Tree.{Tree}
-use Rattle.kt_tree.proofs.Callers.{still_tree, still_owns, owns_still}
-use Rattle.kt_tree.proofs.Places.{stands_inside, bytes_some, one_same, one_other}
+use Rattle.kt_tree.proofs.Callers.{still_tree, still_entries, still_owns, owns_still}
+use Rattle.kt_tree.proofs.Places.{stands_inside, bytes_some, some_bytes, used_after, one_same, one_other}
 use Rattle.kt_memrowset.specs.declared.store.MemRowSet.{MemRowSet}
 use Rattle.kt_memrowset.specs.Links.{nothing, times}
-use Rattle.kt_memrowset.specs.Stores.{row_at, store_of, in_rows, before_at, Trails, trail_at, trail, IsTrailAt, Releases, Releasing, Owns, IsStore, key_past}
-use Rattle.kt_memrowset.proofs.Trails.{leads_same, trail_kept, trail_is}
+use Rattle.kt_memrowset.specs.Stores.{row_at, store_of, in_rows, before_at, Trails, trail_at, trail, IsTrailAt, cells_at, Releases, Releasing, cells_had, Owns, IsStore, key_past}
+use Rattle.kt_memrowset.proofs.Trails.{leads_same, trail_kept, cells_kept, trail_is}
 use Rattle.kt_memrowset.proofs.Frames.{RowsStand}
 
 pub release_starts : (old : Contents) (cells : List ℕ) (cell : ℕ) → IsTrailAt old cell cells → Releasing old old cells cell
-release_starts old cells cell s = record { rest = cells; stand = s; size = refl; reserved = refl; part = λ k. omega arith; gone = λ k low none. absurd (omega arith); frame = λ k none. refl }
+release_starts old cells cell s = record { rest = cells; stand = s; size = refl; reserved = refl; fewer = refl; part = λ k. omega arith; gone = λ k low none. absurd (omega arith); frame = λ k none. refl }
 
 long_at : (pool : Contents) (cell : ℕ) (rest : List ℕ) → cell ≢ nothing → Trails pool cell rest → 23 ≤ length (bytes_at pool cell)
 long_at pool cell [] ne h = absurd (ne h)
@@ -32,30 +32,46 @@ pub release_stands : (old now : Contents) (cells : List ℕ) (cell : ℕ) → ce
 release_stands old now cells cell ne r = let l = release_long old now cells cell ne r in stands_there now cell 0 (omega arith)
 
 module _ (old now new : Contents) (cells : List ℕ) (cell before : ℕ) (ne : cell ≢ nothing) (is : before ≡ before_at now cell) (g : new ≡ with_place now cell None now.reserved) where
+  rest_same : (c : ℕ) (rest : List ℕ) → IsTrailAt now cell (c ∷ rest) → (k : ℕ) → 0 < times rest k → at_cell new k ≡ at_cell now k
+  rest_same c rest s k low = at_other now new cell None now.reserved g k (λ e. let a = one_same c k (sym s.trails.0 ∙ sym e) in let o = s.once k in absurd (omega arith))
+
   rest_stands : (c : ℕ) (rest : List ℕ) → IsTrailAt now cell (c ∷ rest) → IsTrailAt new before rest
   rest_stands c rest s = record {
-    trails = subst (λ b. Trails new b rest) (ap (before_at now) (sym s.trails.0) ∙ sym is) (trail_kept now new (before_at now c) rest s.trails.3 (λ k low. leads_same now new k (at_other now new cell None now.reserved g k
-        (λ e. let a = one_same c k (sym s.trails.0 ∙ sym e) in let o = s.once k in absurd (omega arith)))));
+    trails = subst (λ b. Trails new b rest) (ap (before_at now) (sym s.trails.0) ∙ sym is) (trail_kept now new (before_at now c) rest s.trails.3 (λ k low. leads_same now new k (rest_same c rest s k low)));
     once = λ k. let o = s.once k in omega arith;
   }
 
-  step_of : (rest : List ℕ) → IsTrailAt now cell rest → Releasing old now cells cell → ((k : ℕ) → times rest k ≤ times cells k) → ((k : ℕ) → 0 < times cells k → times rest k ≡ 0 → at_cell now k ≡ None) → Releasing old new cells before
-  step_of [] s r part gone = absurd (ne s.trails)
-  step_of (c ∷ rest) s r part gone = record {
+  here_there : (c : ℕ) (rest : List ℕ) → IsTrailAt now cell (c ∷ rest) → Stands now cell
+  here_there c rest s = let l = long_at now cell (c ∷ rest) ne s.trails in stands_there now cell 0 (omega arith)
+
+  -- the cells of this place are given back
+  rest_fewer : (c : ℕ) (rest : List ℕ) → IsTrailAt now cell (c ∷ rest) → used new + cells_at now (c ∷ rest) ≡ used now + cells_at new rest
+  rest_fewer c rest s =
+      let there = here_there c rest s in
+      let after = used_after now new cell None now.reserved g (stands_inside now cell there) in
+      let here : cells_of (at_cell now cell) ≡ cells_for (length (bytes_at now cell)) = ap cells_of (some_bytes now cell there) in
+      let first = ap (λ c. cells_for (length (bytes_at now c))) s.trails.0 in
+      let kept = cells_kept now new rest (λ k low. leads_same now new k (rest_same c rest s k low)) in
+      omega arith
+
+  step_of : (rest : List ℕ) → IsTrailAt now cell rest → Releasing old now cells cell → used now + cells_at old cells ≡ used old + cells_at now rest → ((k : ℕ) → times rest k ≤ times cells k) → ((k : ℕ) → 0 < times cells k → times rest k ≡ 0 → at_cell now k ≡ None) → Releasing old new cells before
+  step_of [] s r fewer part gone = absurd (ne s.trails)
+  step_of (c ∷ rest) s r fewer part gone = record {
     rest = rest;
     stand = rest_stands c rest s;
     size = size_same now new cell None now.reserved g ∙ r.size;
     reserved = reserved_after now new cell None now.reserved g ∙ r.reserved;
+    fewer = let f = rest_fewer c rest s in omega arith;
     part = λ k. let p = part k in omega arith;
     gone = λ k low none. elim (cases_eq k cell) [
-      | inl same ↦ ap (at_cell new) same ∙ at_same now new cell None now.reserved g (stands_inside now cell (let l = long_at now cell (c ∷ rest) ne s.trails in stands_there now cell 0 (omega arith)))
+      | inl same ↦ ap (at_cell new) same ∙ at_same now new cell None now.reserved g (stands_inside now cell (here_there c rest s))
       | inr other ↦ at_other now new cell None now.reserved g k other ∙ gone k low (let z = one_other c k (λ e. other (sym e ∙ sym s.trails.0)) in omega arith)
     ];
     frame = λ k none. at_other now new cell None now.reserved g k (λ e. let p = part k in let a = one_same c k (sym s.trails.0 ∙ sym e) in absurd (omega arith)) ∙ r.frame k none;
   }
 
   pub release_step : Releasing old now cells cell → Releasing old new cells before
-  release_step r = step_of r.rest r.stand r r.part r.gone
+  release_step r = step_of r.rest r.stand r r.fewer r.part r.gone
 
   fewer_of : (rest : List ℕ) → IsTrailAt now cell rest → length (trail_at new (length new.places) before) < length (trail_at now (length now.places) cell)
   fewer_of [] s = absurd (ne s.trails)
@@ -75,7 +91,13 @@ none_left pool cell (c ∷ rest) e h = let i = h.1 in let f = h.0 in absurd (ome
 pub release_ends : (old now : Contents) (cells : List ℕ) (cell : ℕ) → cell ≡ nothing → Releasing old now cells cell → Releases old now cells
 release_ends old now cells cell e r =
     let empty = none_left now cell r.rest e r.stand.trails in
-    record { size = r.size; reserved = r.reserved; gone = λ k low. r.gone k low (ap (λ rest. times rest k) empty); frame = r.frame }
+    record {
+      size = r.size;
+      reserved = r.reserved;
+      fewer = let f = r.fewer in let z = ap (cells_at now) empty in omega arith;
+      gone = λ k low. r.gone k low (ap (λ rest. times rest k) empty);
+      frame = r.frame;
+    }
 
 -- ---- a store that is emptied
 
@@ -107,6 +129,12 @@ module _ (s : MemRowSet) (old p1 p2 : Contents) (st : IsStore s old) (r : Releas
 
   pub tree_stays : trees.IsTree s.tree p1
   tree_stays = still_tree s.tree old p1 st.tree tree_same
+
+  pub emptied_fewer : used p2 + sum_by (λ (e : Entry). trees.need e.key) (trees.entries s.tree p1) ≡ used p1 → used p2 + cells_had s old ≡ used old
+  emptied_fewer fewer =
+      let same = ap (λ es. sum_by (λ (e : Entry). trees.need e.key) es) (still_entries s.tree old p1 st.tree tree_same) in
+      let changes = r.fewer in
+      omega arith
 
   module _ (gone : (k : ℕ) → trees.Owns s.tree p1 k → at_cell p2 k ≡ None) (frame : (k : ℕ) → ¬ trees.Owns s.tree p1 k → at_cell p2 k ≡ at_cell p1 k) where
     pub emptied_gone : (k : ℕ) → Owns s old k → at_cell p2 k ≡ None

@@ -4,11 +4,11 @@ use Rattle.std.specs.Prelude.{◌==◌}
 use Rattle.std.proofs.lemmas.Bool.{cases_eq}
 use Rattle.std.proofs.lemmas.Bool.Decides.{nat_tests}
 use Rattle.byteorder.specs.Endian.{little_number}
-use Rattle.kt_pool.specs.Contents.{Contents, Stands, at_cell}
+use Rattle.kt_pool.specs.Contents.{Contents, Stands, at_cell, cells_for}
 use Rattle.kt_pool.proofs.Standing.{stands_there}
 use Rattle.kt_tree.proofs.Places.{stands_inside, bytes_same, one_other}
 use Rattle.kt_memrowset.specs.Links.{nothing, times}
-use Rattle.kt_memrowset.specs.Stores.{before_at, Trails, trail_at}
+use Rattle.kt_memrowset.specs.Stores.{before_at, Trails, trail_at, cells_at}
 use Rattle.kt_memrowset.specs.Writes.{LeadsOn}
 use Rattle.kt_memrowset.proofs.Counting.{times_first, few}
 
@@ -26,6 +26,15 @@ trail_kept old new cell (c ∷ cells) h same =
       omega arith,
       subst (λ b. Trails new b cells) (sym here.before) (trail_kept old new (before_at old c) cells h.3 (λ k low. same k (omega arith))),
     )
+
+-- places that keep their lengths take as many cells
+pub cells_kept : (old new : Contents) (cells : List ℕ) → ((k : ℕ) → 0 < times cells k → LeadsOn old new k) → cells_at new cells ≡ cells_at old cells
+cells_kept old new [] same = refl
+cells_kept old new (c ∷ cells) same =
+    let f = times_first c cells in
+    let here = ap cells_for (same c (omega arith)).long in
+    let more = cells_kept old new cells (λ k low. same k (omega arith)) in
+    omega arith
 
 pub trail_stands : (pool : Contents) (cell : ℕ) (cells : List ℕ) (k : ℕ) → Trails pool cell cells → 0 < times cells k → Stands pool k
 trail_stands pool cell [] k h low = absurd (omega arith)

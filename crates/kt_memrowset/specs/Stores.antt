@@ -15,7 +15,7 @@ use Rattle.std.specs.FinMap.Entries.{find, put}
 use Rattle.kt_history.specs.Operations.{op_len, cell_len}
 use Rattle.kt_histlaws.specs.Histories.{Hist, Store, Steps, row_of, after_steps, push, hist_in}
 use Rattle.kt_histlaws.specs.Flights.{UpTo}
-use Rattle.kt_pool.specs.Contents.{Contents, at_cell, bytes_at, cells_for}
+use Rattle.kt_pool.specs.Contents.{Contents, at_cell, bytes_at, cells_for, used}
 use Rattle.kt_tree.specs.Entries.{Entry, is_past}
 use Rattle.kt_tree.specs.Takes.{Takes}
 use Rattle.kt_tree.specs.Trees as trees
@@ -88,10 +88,16 @@ pub record IsTrailAt (pool : Contents) (cell : ℕ) (cells : List ℕ) : Type 0 
   pub trails : Trails pool cell cells
   pub once : (k : ℕ) → times cells k ≤ 1
 
--- these places are gone, and no other has changed
+-- the cells of the pool that these places take
+abbrev pub cells_at : Contents → List ℕ → ℕ
+cells_at pool [] = 0
+cells_at pool (c ∷ cells) = cells_for (length (bytes_at pool c)) + cells_at pool cells
+
+-- these places are gone, with the cells that they took, and no other has changed
 pub record Releases (old new : Contents) (cells : List ℕ) : Type 0 where
   pub size : length new.places ≡ length old.places
   pub reserved : new.reserved ≡ old.reserved
+  pub fewer : used new + cells_at old cells ≡ used old
   pub gone : (k : ℕ) → 0 < times cells k → at_cell new k ≡ None
   pub frame : (k : ℕ) → times cells k ≡ 0 → at_cell new k ≡ at_cell old k
 
@@ -101,6 +107,7 @@ pub record Releasing (old now : Contents) (cells : List ℕ) (cell : ℕ) : Type
   pub stand : IsTrailAt now cell rest
   pub size : length now.places ≡ length old.places
   pub reserved : now.reserved ≡ old.reserved
+  pub fewer : used now + cells_at old cells ≡ used old + cells_at now rest
   pub part : (k : ℕ) → times rest k ≤ times cells k
   pub gone : (k : ℕ) → 0 < times cells k → times rest k ≡ 0 → at_cell now k ≡ None
   pub frame : (k : ℕ) → times cells k ≡ 0 → at_cell now k ≡ at_cell old k
@@ -112,6 +119,10 @@ key_past after store = option_map (λ row. row.0) (find_first (λ row. is_past a
 -- the cells of all changes of the store, from the newest
 abbrev pub trail : MemRowSet → Contents → List ℕ
 trail s pool = trail_at pool (length pool.places) s.newest
+
+-- the cells of the pool that a store has: those of its nodes and keys, and those of its changes
+abbrev pub cells_had : MemRowSet → Contents → ℕ
+cells_had s pool = sum_by (λ (e : Entry). trees.need e.key) (trees.entries s.tree pool) + cells_at pool (trail s pool)
 
 -- this cell begins a place of the store: that of a node, a key or a change
 abbrev pub Owns : MemRowSet → Contents → ℕ → Type 0

@@ -1,7 +1,7 @@
 //! The store.
 ghost use Rattle.std.specs.Prelude.{◌≡◌, ◌↔◌, ◌+◌, ◌≤◌, ℕ, [], length, is_some, None, IfOk, true, false};
 ghost use Rattle.std.specs.Option.{option_copied};
-ghost use Rattle.kt_pool.specs.Contents.{Contents, at_cell};
+ghost use Rattle.kt_pool.specs.Contents.{Contents, at_cell, used};
 ghost use Rattle.kt_histlaws.specs.Histories.{hist_in, row_of};
 ghost use Rattle.kt_histlaws.specs.Flights.{UpTo, Under};
 ghost use Rattle.kt_history.specs.Rows.{fits};
@@ -26,7 +26,7 @@ pub struct MemRowSet {
 }
 
 impl MemRowSet {
-    ghost use Rattle.kt_memrowset.specs.Stores.{IsStore, store_of, Owns, number_of, is_frozen, share, change_by, Joins, key_past, changes_upto};
+    ghost use Rattle.kt_memrowset.specs.Stores.{IsStore, store_of, Owns, cells_had, number_of, is_frozen, share, change_by, Joins, key_past, changes_upto};
 
     /// A store with no row. It takes no cell.
     pub fn new(id: u64) -> MemRowSet
@@ -177,6 +177,7 @@ impl MemRowSet {
         ensures frame { (k : ℕ) → ¬ Owns self.old pool.old k → at_cell pool.new k ≡ at_cell pool.old k }
         ensures size { length pool.new.places ≡ length pool.old.places }
         ensures reserved { pool.new.reserved ≡ pool.old.reserved }
+        ensures fewer { used pool.new + cells_had self.old pool.old ≡ used pool.old }
         ensures number { number_of self.new ≡ number_of self.old }
     {
         release(pool, self.newest);

@@ -1,5 +1,5 @@
 use Rattle.std.proofs.Common.{refl}
-use Rattle.kt_memrowset.proofs.Releasing.{bare_owns, bare_store, tree_stays, emptied_gone, emptied_frame}
+use Rattle.kt_memrowset.proofs.Releasing.{bare_owns, bare_store, tree_stays, emptied_fewer, emptied_gone, emptied_frame}
 use Rattle.kt_memrowset.proofs.store.MemRowSet.empty_into.Goals as goal
 
 pub release-requires : goal.release-requires
@@ -19,3 +19,6 @@ returns-clause-gone c = emptied_gone c.args.self.now c.args.pool.now c.release.n
 
 pub returns-clause-frame : goal.returns-clause-frame
 returns-clause-frame c = emptied_frame c.args.self.now c.args.pool.now c.release.new.pool c.empty_into.new.pool c.requires c.release.ensures c.empty_into.ensures.gone c.empty_into.ensures.frame
+
+pub returns-clause-fewer : goal.returns-clause-fewer
+returns-clause-fewer c = emptied_fewer c.args.self.now c.args.pool.now c.release.new.pool c.empty_into.new.pool c.requires c.release.ensures c.empty_into.ensures.used
