@@ -1,6 +1,8 @@
 -- An operation's change joins a store.
-use Rattle.std.proofs.Common.{◌≡◌, ◌≢◌, ℕ, ◌+◌, ◌<◌, ◌≤◌, inl, inr, ◌⊎◌, true, false, cond, List, [], ◌∷◌, ◌++◌, map, Some, None, Option, refl, sym, ap, subst, ◌∙◌, arith}
+use Rattle.std.proofs.Common.{◌≡◌, ◌≢◌, ℕ, ◌+◌, ◌<◌, ◌≤◌, inl, inr, ◌⊎◌, true, false, cond, List, [], ◌∷◌, ◌++◌, length, map, Some, None, Option, refl, sym, ap, subst, ◌∙◌, arith}
 use Rattle.std.specs.Prelude.{is_some}
+use Rattle.std.specs.List.{sum_by}
+use Rattle.std.proofs.lemmas.List.Sums.{sum_by-append, sum_by-cons}
 use Rattle.std.specs.Option.{option_map}
 use Rattle.std.specs.FinMap.Entries.{find as find_key, put as put_key}
 use Rattle.std.proofs.lemmas.Bool.{cases_lt, cases_eq, false≢true}
@@ -8,7 +10,7 @@ use Rattle.kt_history.specs.Rows.{key_cmp, fits}
 use Rattle.kt_history.specs.declared.operation.RowOp.{RowOp}
 use Rattle.kt_histlaws.specs.Histories.{Hist, push, hist_in, row_of}
 use Rattle.kt_histlaws.specs.Flights.{Under}
-use Rattle.kt_pool.specs.Contents.{Contents, Stands, at_cell}
+use Rattle.kt_pool.specs.Contents.{Contents, Stands, at_cell, bytes_at, cells_for}
 use Rattle.kt_pool.specs.declared.place.Place.{Place}
 use Rattle.kt_tree.specs.Entries.{Entry, value_of, put}
 use Rattle.kt_tree.specs.Takes.{Takes}
@@ -18,13 +20,14 @@ use Rattle.kt_tree.proofs.Callers.{owned, still_tree, still_entries, still_owns,
 use Rattle.kt_tree.proofs.Places.{stands_some, one_same, one_other}
 use Rattle.kt_memrowset.specs.declared.store.MemRowSet.{MemRowSet}
 use Rattle.kt_memrowset.specs.Links.{nothing, change_of, Link, IsLink, spelling, chain, cells_of, times, step_of, steps_of}
-use Rattle.kt_memrowset.specs.Stores.{hist_of, row_at, store_of, in_rows, trail, Owns, IsStore, link_need, share, cells_taken, change_by, Joins}
+use Rattle.kt_memrowset.specs.Stores.{hist_of, row_at, store_of, in_rows, trail, cells_at, cells_had, Owns, IsStore, link_need, share, cells_taken, change_by, Joins}
 use Rattle.kt_memrowset.specs.Writes.{IsFresh, Extends}
+use Rattle.kt_memrowset.proofs.Links.{link_bytes, length-spelling, length-cells}
 use Rattle.kt_memrowset.proofs.Chains.{link_kept}
-use Rattle.kt_memrowset.proofs.Trails.{leads_same, trail_stands}
+use Rattle.kt_memrowset.proofs.Trails.{leads_same, cells_kept, trail_stands}
 use Rattle.kt_memrowset.proofs.Rows.{in_row_found, hist_found, hist_there, hist_lacking}
 use Rattle.kt_memrowset.proofs.Splits.{at_key, Found, Lacking, found, lacking, put_found, put_lacking}
-use Rattle.kt_memrowset.proofs.Frames.{in_rows-append, is_still, store_still, owns_back, owns_on}
+use Rattle.kt_memrowset.proofs.Frames.{in_rows-append, is_still, store_still, had_still, owns_back, owns_on}
 use Rattle.kt_memrowset.proofs.Joining.{told_by, Grows, trail_grown, rows_grown, store_grown}
 
 zero_or : (n : ℕ) → (0 < n → ⊥) → n ≡ 0
@@ -38,6 +41,18 @@ insert_takes p1 p2 k key es r e none is t =
 
 pub share_covers : (op : RowOp) → trees.need op.key + link_need op.cells ≤ share op
 share_covers op = omega arith
+
+-- the cells of the nodes and keys
+abbrev nodes_had : List Entry → ℕ
+nodes_had es = sum_by (λ (e : Entry). trees.need e.key) es
+
+-- a change takes what it needs
+link_takes : (pool : Contents) (l : Link) → IsLink pool l → cells_for (length (bytes_at pool l.cell)) ≡ link_need l.cells
+link_takes pool l here =
+    let bytes = ap length (link_bytes pool l here) in
+    let long = length-spelling l.head l.cells in
+    let sums = length-cells l.cells in
+    ap cells_for (omega arith)
 
 -- the change is placed, and the store has not taken it yet
 module _ (s : MemRowSet) (p0 p1 : Contents) (fresh : Link) (op : RowOp) (st : IsStore s p0) (vacant : at_cell p0 fresh.cell ≡ None) (others : (k : ℕ) → k ≢ fresh.cell → at_cell p1 k ≡ at_cell p0 k) (here : IsLink p1 fresh) (before : fresh.head.before ≡ s.newest) (same_cells : fresh.cells ≡ op.cells) (takes : Takes p0 p1 (link_need op.cells)) where
@@ -72,7 +87,8 @@ module _ (s : MemRowSet) (p0 p1 : Contents) (fresh : Link) (op : RowOp) (st : Is
       (tree_frame : (k : ℕ) → ¬ trees.Owns t.tree p2 k → times (trail s p1) k ≡ 0 → at_cell p2 k ≡ at_cell p1 k)
       (puts : put_key key_cmp op.key (hist_of links) (store_of s p1) ≡ map (row_at p1) xs ++ (op.key, hist_of links) ∷ map (row_at p1) ys)
       (hist : hist_of links ≡ push fresh.head.ts (change_by fresh.head.kind op) (hist_in op.key (store_of s p1)))
-      (all_takes : Takes p0 p2 (cells_taken op (store_of s p0))) (number : t.id ≡ s.id) (frozen : t.frozen ≡ s.frozen) where
+      (all_takes : Takes p0 p2 (cells_taken op (store_of s p0))) (number : t.id ≡ s.id) (frozen : t.frozen ≡ s.frozen)
+      (more : ℕ) (nodes : nodes_had (trees.entries t.tree p2) ≡ nodes_had (trees.entries s.tree p1) + more) (taken : cells_taken op (store_of s p0) ≡ link_need op.cells + more) where
     trail2 : (k : ℕ) → times (trail t p2) k ≡ times (fresh.cell ∷ trail s p1) k
     trail2 k = ap (λ c. times c k) (trail_grown s t p1 p2 fresh op.key xs mid ys first links store1 g)
 
@@ -97,6 +113,15 @@ module _ (s : MemRowSet) (p0 p1 : Contents) (fresh : Link) (op : RowOp) (st : Is
         let z : times (trail t p2) k ≡ 0 = zero_or (times (trail t p2) k) (λ low. none (inr low)) in
         tree_frame k (λ own. none (inl own)) (omega arith) ∙ others k (λ same. let o = one_same fresh.cell k (sym same) in absurd (omega arith))
 
+    had : cells_had t p2 ≡ cells_had s p0 + cells_taken op (store_of s p0)
+    had =
+        let changes = ap (cells_at p2) (trail_grown s t p1 p2 fresh op.key xs mid ys first links store1 g) in
+        let first = link_takes p2 fresh g.here in
+        let named = ap link_need same_cells in
+        let kept = cells_kept p1 p2 (trail s p1) g.leads in
+        let was = had_still s p0 p1 st same1 in
+        omega arith
+
     pub joins : Joins s t p0 p2 op fresh.head.ts fresh.head.kind
     joins = record {
       stands = store_grown s t p1 p2 fresh op.key xs mid ys first links store1 g;
@@ -104,6 +129,7 @@ module _ (s : MemRowSet) (p0 p1 : Contents) (fresh : Link) (op : RowOp) (st : Is
           rows_grown s t p1 p2 fresh op.key xs mid ys first links store1 g ∙ sym puts ∙ ap (λ h. put_key key_cmp op.key h (store_of s p1)) hist
           ∙ ap (λ store. put_key key_cmp op.key (push fresh.head.ts (change_by fresh.head.kind op) (hist_in op.key store)) store) rows1;
       takes = all_takes;
+      had = had;
       keeps = keeps;
       grows = grows;
       frame = frame;
@@ -188,7 +214,7 @@ module _ (s : MemRowSet) (p0 p1 : Contents) (fresh : Link) (op : RowOp) (st : Is
               reserved = let a = x.reserved in let b = takes.reserved in omega arith;
               used = let a = x.used in let b = takes.used in omega arith;
             })
-            refl refl
+            refl refl 0 (let same = ap nodes_had (still_entries s.tree p1 p2 store1.tree tree_same) in omega arith) n
 
     -- the key is new
     module _ (f : value_of op.key (trees.entries s.tree p1) ≡ None) (tree2 : Tree) (p2 : Contents) (is_tree : trees.IsTree tree2 p2) (puts : trees.entries tree2 p2 ≡ put op.key fresh.cell (trees.entries s.tree p1))
@@ -237,6 +263,16 @@ module _ (s : MemRowSet) (p0 p1 : Contents) (fresh : Link) (op : RowOp) (st : Is
       lacks : is_some (find_key key_cmp op.key (store_of s p0)) ≡ false
       lacks = ap (λ store. is_some (find_key key_cmp op.key store)) (sym rows1) ∙ ap is_some (hist_found p1 op.key (trees.entries s.tree p1) ∙ ap (option_map (λ v. hist_of (chain p1 v))) f)
 
+      nodes2 : nodes_had (trees.entries tree2 p2) ≡ nodes_had (trees.entries s.tree p1) + trees.need op.key
+      nodes2 =
+          let f : Entry → ℕ = λ e. trees.need e.key in
+          let was = ap nodes_had lk.is in
+          let is = ap nodes_had (puts ∙ lk.put_is) in
+          let split_was = sum_by-append f lk.before lk.after in
+          let split_is = sum_by-append f lk.before (at_key op.key fresh.cell ∷ lk.after) in
+          let one = sum_by-cons f (at_key op.key fresh.cell) lk.after in
+          omega arith
+
       pub joins_new : Joins s (record { id = s.id; frozen = s.frozen; tree = tree2; newest = fresh.cell }) p0 p2 op fresh.head.ts fresh.head.kind
       joins_new =
           let n : cells_taken op (store_of s p0) ≡ link_need op.cells + trees.need op.key = ap (λ b. link_need op.cells + cond b 0 (trees.need op.key)) lacks in
@@ -249,4 +285,4 @@ module _ (s : MemRowSet) (p0 p1 : Contents) (fresh : Link) (op : RowOp) (st : Is
             reserved = let a = tree_takes.reserved in let b = takes.reserved in omega arith;
             used = let a = tree_takes.used in let b = takes.used in omega arith;
           })
-          refl refl
+          refl refl (trees.need op.key) nodes2 n

@@ -1,14 +1,15 @@
 -- Rows and stores where their places have not changed.
 use Rattle.std.proofs.Common.{◌≡◌, ℕ, ◌+◌, ◌<◌, ◌≤◌, inl, inr, List, [], ◌∷◌, ◌++◌, map, refl, sym, ap, subst, ◌∙◌, arith}
+use Rattle.std.specs.List.{sum_by}
 use Rattle.kt_pool.specs.Contents.{Contents, at_cell}
 use Rattle.kt_tree.specs.Entries.{Entry}
 use Rattle.kt_tree.specs.Trees as trees
 use Rattle.kt_tree.proofs.Callers.{still_tree, still_entries, still_owns, owns_still}
 use Rattle.kt_memrowset.specs.declared.store.MemRowSet.{MemRowSet}
 use Rattle.kt_memrowset.specs.Links.{chain, cells_of, times}
-use Rattle.kt_memrowset.specs.Stores.{hist_of, row_at, store_of, RowStands, EachValue, in_rows, Trails, trail, Owns, IsStore}
+use Rattle.kt_memrowset.specs.Stores.{hist_of, row_at, store_of, RowStands, EachValue, in_rows, Trails, trail, cells_at, cells_had, Owns, IsStore}
 use Rattle.kt_memrowset.proofs.Chains.{chain_kept, chain_is}
-use Rattle.kt_memrowset.proofs.Trails.{leads_same, trail_kept, trail_is}
+use Rattle.kt_memrowset.proofs.Trails.{leads_same, trail_kept, cells_kept, trail_is}
 
 -- each row stands at both
 abbrev pub RowsStand : Contents → List Entry → Type 0
@@ -67,6 +68,13 @@ module _ (s : MemRowSet) (old new : Contents) (st : IsStore s old) (same : (k : 
 
   pub trail_still : trail s new ≡ trail s old
   trail_still = trail_is new s.newest (trail s old) trail_stays st.once
+
+  pub had_still : cells_had s new ≡ cells_had s old
+  had_still =
+      let nodes = ap (λ es. sum_by (λ (e : Entry). trees.need e.key) es) entries_still in
+      let changes = ap (cells_at new) trail_still in
+      let kept = cells_kept old new (trail s old) (λ k low. leads_same old new k (same k (inr low))) in
+      omega arith
 
   pub store_still : store_of s new ≡ store_of s old
   store_still = ap (map (row_at new)) entries_still ∙ rows_same.rows

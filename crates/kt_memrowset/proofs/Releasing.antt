@@ -108,6 +108,12 @@ module _ (s : MemRowSet) (pool : Contents) (tree : trees.IsTree s.tree pool) (em
   pub bare_owns : (k : ℕ) → ¬ Owns s pool k
   bare_owns k o = elim o [ inl t ↦ bare k t | inr low ↦ let f = ap (λ c. times c k) (bare_trail s pool e) in absurd (omega arith) ]
 
+  pub bare_had : cells_had s pool ≡ 0
+  bare_had =
+      let nodes = ap (λ es. sum_by (λ (e : Entry). trees.need e.key) es) empty in
+      let changes = ap (cells_at pool) (bare_trail s pool e) in
+      omega arith
+
   pub bare_rows : store_of s pool ≡ []
   bare_rows = ap (map (row_at pool)) empty
 

@@ -4,13 +4,14 @@ use Rattle.kt_history.specs.declared.operation.RowOp.{RowOp}
 use Rattle.kt_pool.specs.Contents.{Contents, at_cell}
 use Rattle.kt_tree.specs.Trees.{need}
 use Rattle.kt_memrowset.specs.declared.store.MemRowSet.{MemRowSet}
-use Rattle.kt_memrowset.specs.Stores.{IsStore, store_of, Owns, link_need, share}
+use Rattle.kt_memrowset.specs.Stores.{IsStore, store_of, Owns, cells_had, link_need, share}
 
--- the store stands at both, with the same rows in the same places
+-- the store stands at both, with the same rows in the same places and as many cells
 pub record StaysSo (s : MemRowSet) (old new : Contents) : Type 0 where
   pub stands : IsStore s new
   pub same : store_of s new ≡ store_of s old
   pub owns : (k : ℕ) → Owns s new k ↔ Owns s old k
+  pub had : cells_had s new ≡ cells_had s old
 
 -- a store stands as it was where no place of its own has changed
 abbrev pub stores_stay : Type 0

@@ -168,6 +168,7 @@ pub record Joins (s t : MemRowSet) (old new : Contents) (op : RowOp) (ts : ℕ) 
   pub stands : IsStore t new
   pub joined : store_of t new ≡ put key_cmp op.key (push ts (change_by kind op) (hist_in op.key (store_of s old))) (store_of s old)
   pub takes : Takes old new (cells_taken op (store_of s old))
+  pub had : cells_had t new ≡ cells_had s old + cells_taken op (store_of s old)
   -- the new places were vacant, and every other place keeps its bytes
   pub keeps : (k : ℕ) → Owns s old k → Owns t new k
   pub grows : (k : ℕ) → Owns t new k → Owns s old k ⊎ (at_cell old k ≡ None)

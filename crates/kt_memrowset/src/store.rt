@@ -33,6 +33,7 @@ impl MemRowSet {
         ensures store { (pool : Contents) → IsStore result pool }
         ensures empty { (pool : Contents) → store_of result pool ≡ [] }
         ensures bare { (pool : Contents) (k : ℕ) → ¬ Owns result pool k }
+        ensures none { (pool : Contents) → cells_had result pool ≡ 0 }
         ensures number { number_of result ≡ id }
         ensures open_ { is_frozen result ≡ false }
     {
@@ -65,6 +66,7 @@ impl MemRowSet {
         ensures store { (pool : Contents) → IsStore self.old pool → IsStore self.new pool }
         ensures same { (pool : Contents) → store_of self.new pool ≡ store_of self.old pool }
         ensures owns { (pool : Contents) (k : ℕ) → Owns self.new pool k ↔ Owns self.old pool k }
+        ensures had { (pool : Contents) → cells_had self.new pool ≡ cells_had self.old pool }
     {
         self.frozen = true;
     }
@@ -173,6 +175,7 @@ impl MemRowSet {
         ensures store { IsStore self.new pool.new }
         ensures empty { store_of self.new pool.new ≡ [] }
         ensures bare { (k : ℕ) → ¬ Owns self.new pool.new k }
+        ensures none { cells_had self.new pool.new ≡ 0 }
         ensures gone { (k : ℕ) → Owns self.old pool.old k → at_cell pool.new k ≡ None }
         ensures frame { (k : ℕ) → ¬ Owns self.old pool.old k → at_cell pool.new k ≡ at_cell pool.old k }
         ensures size { length pool.new.places ≡ length pool.old.places }

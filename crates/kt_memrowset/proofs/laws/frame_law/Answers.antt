@@ -1,4 +1,4 @@
-use Rattle.kt_memrowset.proofs.Frames.{is_still, store_still, owns_back, owns_on}
+use Rattle.kt_memrowset.proofs.Frames.{is_still, store_still, had_still, owns_back, owns_on}
 use Rattle.kt_memrowset.proofs.laws.frame_law.Goals as goal
 
 pub returns : goal.returns
@@ -6,4 +6,5 @@ returns c = λ s old new st same. record {
   stands = is_still s old new st same;
   same = store_still s old new st same;
   owns = λ k. (owns_back s old new st same k, owns_on s old new st same k);
+  had = had_still s old new st same;
 }

@@ -1,5 +1,5 @@
 use Rattle.std.proofs.Common.{refl}
-use Rattle.kt_memrowset.proofs.Releasing.{bare_owns, bare_store, tree_stays, emptied_fewer, emptied_gone, emptied_frame}
+use Rattle.kt_memrowset.proofs.Releasing.{bare_owns, bare_had, bare_store, tree_stays, emptied_fewer, emptied_gone, emptied_frame}
 use Rattle.kt_memrowset.proofs.store.MemRowSet.empty_into.Goals as goal
 
 pub release-requires : goal.release-requires
@@ -13,6 +13,9 @@ returns-clause-store c = bare_store (record { id = c.args.self.now.id; frozen = 
 
 pub returns-clause-bare : goal.returns-clause-bare
 returns-clause-bare c = bare_owns (record { id = c.args.self.now.id; frozen = c.args.self.now.frozen; tree = c.empty_into.new.self; newest = 0xffff_ffff }) c.empty_into.new.pool c.empty_into.ensures.tree c.empty_into.ensures.empty c.empty_into.ensures.bare refl
+
+pub returns-clause-none : goal.returns-clause-none
+returns-clause-none c = bare_had (record { id = c.args.self.now.id; frozen = c.args.self.now.frozen; tree = c.empty_into.new.self; newest = 0xffff_ffff }) c.empty_into.new.pool c.empty_into.ensures.tree c.empty_into.ensures.empty c.empty_into.ensures.bare refl
 
 pub returns-clause-gone : goal.returns-clause-gone
 returns-clause-gone c = emptied_gone c.args.self.now c.args.pool.now c.release.new.pool c.empty_into.new.pool c.requires c.release.ensures c.empty_into.ensures.gone c.empty_into.ensures.frame
