@@ -182,6 +182,7 @@ impl MemRowSet {
         ensures reserved { pool.new.reserved ≡ pool.old.reserved }
         ensures fewer { used pool.new + cells_had self.old pool.old ≡ used pool.old }
         ensures number { number_of self.new ≡ number_of self.old }
+        ensures frozen { is_frozen self.new ≡ is_frozen self.old }
     {
         release(pool, self.newest);
         self.newest = NOTHING;
