@@ -1,4 +1,4 @@
-use Rattle.std.proofs.Common.{◌≡◌, true, arith}
+use Rattle.std.proofs.Common.{◌≡◌, true}
 use Rattle.kt_memrowset.specs.Stores.{store_of}
 use Rattle.kt_memrowset.proofs.Testing.{told, later_on}
 use Rattle.kt_memrowset.proofs.tests.write.Goals as goal
