@@ -1,21 +1,19 @@
 -- One record more of a log that is replayed.
-use Rattle.std.proofs.Common.{◌≡◌, ℕ, ◌+◌, ◌-◌, ◌<◌, ◌≤◌, max, suc, zero, List, [], ◌∷◌, ◌++◌, length, drop, get_or, Option, Some, None, Ok, Err, true, false, ◌&&◌, cond, refl, sym, ap, ◌∙◌, arith, append_assoc}
-use Rattle.std.specs.Prelude.{unwrap_or, is_some, ◌==◌, slice_get}
+use Rattle.std.proofs.Common.{◌≡◌, ℕ, ◌+◌, ◌-◌, ◌<◌, ◌≤◌, suc, zero, List, [], ◌∷◌, ◌++◌, length, drop, get_or, Option, Some, None, true, false, cond, refl, sym, ap, ◌∙◌, arith}
+use Rattle.std.specs.Prelude.{unwrap_or, ◌==◌, slice_get}
 use Rattle.std.specs.List.{cons_option}
 use Rattle.std.specs.Ordering.{is_eq, nat_cmp}
 use Rattle.std.proofs.lemmas.Bool.Decides.{nat_tests}
 use Rattle.std.proofs.lemmas.List.{drop_more}
 use Rattle.std.proofs.lemmas.Option.{slice_get_read}
 use Rattle.kt_history.specs.declared.operation.RowOp.{RowOp}
-use Rattle.kt_history.specs.Rows.{Row, Rows, Changes, changed}
-use Rattle.kt_history.specs.History.{Past, rows_at, with_write}
+use Rattle.kt_history.specs.Rows.{Row, Rows}
 use Rattle.kt_history.specs.Operations.{effect_on, changes_on, keyed}
-use Rattle.kt_history.proofs.RowLaws.{rows_at-with_write_from}
 use Rattle.kt_records.specs.declared.entry.Entry.{Entry}
-use Rattle.kt_records.specs.declared.entry.Entry.TheVariants.{Replicate, Commit}
+use Rattle.kt_records.specs.declared.entry.Entry.TheVariants.{Commit}
 use Rattle.kt_records.specs.declared.entry.CommitRow.{CommitRow}
-use Rattle.kt_journal.specs.Order.{last_ts, is_above, InOrder}
-use Rattle.kt_loglaws.specs.Replay.{needed_ops, commit_of, replayed, all_change, is_fitting, replay, empty, last_of}
+use Rattle.kt_journal.specs.Order.{last_ts, is_above}
+use Rattle.kt_loglaws.specs.Replay.{needed_ops, commit_of}
 use Rattle.kt_boot.specs.Commits.{commit_at, needs}
 
 -- the first of what is left of a list

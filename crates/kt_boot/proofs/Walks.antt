@@ -21,7 +21,7 @@ use Rattle.kt_records.specs.declared.entry.Entry.{Entry}
 use Rattle.kt_records.specs.declared.entry.Entry.TheVariants.{Replicate, Commit}
 use Rattle.kt_records.specs.declared.entry.CommitRow.{CommitRow}
 use Rattle.kt_journal.specs.Order.{last_ts, is_above, InOrder}
-use Rattle.kt_loglaws.specs.Replay.{commit_of, needed_ops, replayed, is_needed, all_change, is_fitting, replay, last_of}
+use Rattle.kt_loglaws.specs.Replay.{commit_of, needed_ops, replayed, all_change, is_fitting, replay, last_of}
 use Rattle.kt_loglaws.proofs.LogOrder.{above_behind}
 use Rattle.kt_loglaws.proofs.Replays.{rows_stay}
 use Rattle.kt_boot.specs.Reopening.{rows_before, rows_told, owed, unless_told}

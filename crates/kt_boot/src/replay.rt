@@ -1,16 +1,12 @@
 //! The COMMITs of a log, by timestamp.
-ghost use Rattle.std.specs.Prelude.{◌≡◌, ◌++◌, ◌∷◌, [], ℕ, slice_get, true, false, is_some, Ok, Err, IfOk, OnOk, MatchOption, Option, Some, option_map};
+ghost use Rattle.std.specs.Prelude.{◌≡◌, ℕ, slice_get, IfOk, option_map};
 ghost use Rattle.std.specs.Ordering.{nat_cmp};
 ghost use Rattle.std.specs.BTreeMap as tree;
-ghost use Rattle.kt_history.specs.Rows.{changed};
-ghost use Rattle.kt_history.specs.History.{rows_at};
-ghost use Rattle.kt_history.specs.Operations.{effect_on, changes_on};
-ghost use Rattle.kt_journal.specs.Log.{IsLog};
-ghost use Rattle.kt_loglaws.specs.Replay.{is_in_memory, is_needed, needed_ops, commit_of, replayed, all_change, is_fitting, replay, last_of, empty};
+ghost use Rattle.kt_loglaws.specs.Replay.{is_in_memory, is_needed, commit_of};
 ghost use Rattle.kt_boot.specs.Commits.{commit_at, needs};
 
-use kt_base::{Cells, NoMemory, Octets};
-use kt_history::{Change, RowOp, Target};
+use kt_base::NoMemory;
+use kt_history::Target;
 use kt_records::{CommitRow, Entry};
 use std::alloc::Global;
 use std::collections::BTreeMap;
