@@ -10,4 +10,5 @@ pub mod Rebuilds
 pub mod Openings
 pub mod Owing
 pub mod ReopenedLogs
+pub mod Rooms
 pub mod Tablets

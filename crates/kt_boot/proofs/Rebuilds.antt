@@ -15,14 +15,14 @@ use Rattle.kt_records.specs.declared.entry.Entry.TheVariants.{Replicate, Commit}
 use Rattle.kt_records.specs.declared.entry.CommitRow.{CommitRow}
 use Rattle.kt_records.specs.Rules.{EachAfter, FollowingOp}
 use Rattle.kt_journal.specs.Order.{last_ts, is_above, InOrder}
-use Rattle.kt_pool.specs.Contents.{Contents}
-use Rattle.kt_memrowset.specs.Stores.{IsStore, store_of, number_of, is_frozen, change_by}
+use Rattle.kt_pool.specs.Contents.{Contents, used, at_cell}
+use Rattle.kt_memrowset.specs.Stores.{IsStore, store_of, Owns, number_of, is_frozen, change_by}
 use Rattle.kt_memrowset.specs.declared.store.MemRowSet.{MemRowSet}
 use Rattle.kt_loglaws.specs.Replay.{commit_of, is_needed, needed_ops, replayed}
 use Rattle.kt_boot.specs.Reopening.{needs_of, unless_told}
 use Rattle.kt_boot.specs.Rebuilding.{kind_in, taken, taken_as, all_taken, all_told, fits_store, rebuilt, owed_by, MayTake, MayTakeAll, TakesAll}
 use Rattle.kt_boot.proofs.Keys.{different, different_replayed}
-use Rattle.kt_boot.proofs.Taking.{hist_in-put}
+use Rattle.kt_boot.proofs.Taking.{hist_in-put, bare_before_all}
 
 -- every change of every key lies below
 abbrev pub AllUnder : ℕ → Store → Type 0
@@ -81,6 +81,9 @@ pub record Along (all : List Entry) (s t : MemRowSet) (old new : Contents) (queu
   pub under : (ts : ℕ) → is_above (last_ts before) ts ≡ true → AllUnder ts (store_of t new)
   pub room : needs_of all rest ≤ new.reserved
   pub owed : queued ++ owed_by (number_of s) all (store_of t new) rest ≡ owed_by (number_of s) all [] all
+  pub even : used new + new.reserved ≡ used old + old.reserved
+  pub vacant : store_of t new ≡ [] → used new ≡ used old
+  pub frame : (k : ℕ) → ¬ Owns t new k → at_cell new k ≡ at_cell old k
 
 pub along_first : (all : List Entry) (s : MemRowSet) (old : Contents) (queued : List Entry) → InOrder [] all → IsStore s old → is_frozen s ≡ false → store_of s old ≡ [] → needs_of all all ≤ old.reserved → queued ≡ [] → Along all s s old old queued all
 along_first all s old queued order st thawed bare room none = record {
@@ -94,6 +97,9 @@ along_first all s old queued order st thawed bare room none = record {
   under = λ ts up q. subst (λ (store : Store). Under ts (hist_in q store).steps) (sym bare) tt;
   room = room;
   owed = (λ i. none i ++ owed_by (number_of s) all (bare i) all);
+  even = refl;
+  vacant = λ e. refl;
+  frame = λ k o. refl;
 }
 
 pub over_commit : (all : List Entry) (s t : MemRowSet) (old new : Contents) (queued : List Entry) (ts : ℕ) (rows : List CommitRow) (rest : List Entry) → Along all s t old new queued (Commit ts rows ∷ rest) → Along all s t old new queued rest
@@ -108,6 +114,9 @@ over_commit all s t old new queued ts rows rest a = record {
   under = a.under;
   room = a.room;
   owed = a.owed;
+  even = a.even;
+  vacant = a.vacant;
+  frame = a.frame;
 }
 
 from_test : (a b : ℕ) → nat_lt a b ≡ true → a < b
@@ -155,6 +164,9 @@ module _ (all : List Entry) (s t : MemRowSet) (old mid : Contents) (queued : Lis
         ∙ (λ i. queued ++ unless_told ts (its i) (Commit ts (all_told (a.number i) ts ops (store_of t mid))) (owed_by (number_of s) all (takes.store i) rest))
         ∙ ap (λ o. queued ++ unless_told ts (commit_of ts all) (Commit ts (all_told (number_of s) ts ops (store_of t mid))) (owed_by (number_of s) all (all_taken ts (replayed ops o) (store_of t mid)) rest)) its
         ∙ a.owed;
+    even = takes.even ∙ a.even;
+    vacant = λ e. takes.vacant e ∙ a.vacant (bare_before_all ts (replayed ops commit) (store_of t mid) (sym takes.store ∙ e));
+    frame = λ k o. takes.frame k o ∙ a.frame k (λ own. o (takes.keeps k own));
   }
 
   pub late_write : fits_store ts ops commit (store_of t mid) ≡ false → rebuilt all [] all ≡ Err ts

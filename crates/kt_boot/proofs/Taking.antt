@@ -4,7 +4,8 @@ use Rattle.std.specs.Prelude.{is_some, unwrap_or}
 use Rattle.std.specs.List.{list_any}
 use Rattle.std.proofs.lemmas.List.Sums.{sum_by-cons}
 use Rattle.std.specs.Ordering.{eq_by_cmp}
-use Rattle.std.specs.FinMap.Entries.{find, put, find-put}
+use Rattle.std.specs.declared.cmp.Ordering.TheVariants.{Less, Equal, Greater}
+use Rattle.std.specs.FinMap.Entries.{by_order, find, put, find-put}
 use Rattle.std.proofs.lemmas.Cmp.{nat_list_cmp_total, eq_by_cmp_equiv}
 use Rattle.kt_history.specs.declared.operation.OpKind.{OpKind}
 use Rattle.kt_history.specs.declared.operation.OpKind.TheVariants.{Insert, Upsert, Update, Delete}
@@ -17,10 +18,10 @@ use Rattle.kt_histlaws.specs.Histories.{Hist, Steps, Store, hist_in, never, push
 use Rattle.kt_histlaws.specs.Flights.{Under, UpTo, AllOps}
 use Rattle.kt_tablet.specs.Stores.{last_row}
 use Rattle.kt_tablet.proofs.Filling.{last_under}
-use Rattle.kt_pool.specs.Contents.{Contents}
+use Rattle.kt_pool.specs.Contents.{Contents, used, at_cell}
 use Rattle.kt_tree.specs.Trees.{need as tree_need}
 use Rattle.kt_memrowset.specs.Links.{change_of}
-use Rattle.kt_memrowset.specs.Stores.{IsStore, store_of, number_of, is_frozen, share, cells_taken, link_need, change_by, Joins}
+use Rattle.kt_memrowset.specs.Stores.{IsStore, store_of, Owns, number_of, is_frozen, share, cells_taken, link_need, change_by, Joins}
 use Rattle.kt_memrowset.proofs.Applying.{share_covers}
 use Rattle.kt_memrowset.specs.declared.store.MemRowSet.{MemRowSet}
 use Rattle.kt_boot.specs.Rebuilding.{kindly_of, is_there, kind_in, taken_as, taken, all_taken, all_fit, MayTake, MayTakeAll, TakesAll}
@@ -29,6 +30,27 @@ use Rattle.kt_boot.specs.Rebuilding.{kindly_of, is_there, kind_in, taken_as, tak
 pub hist_in-put : (q k : List ℕ) (h : Hist) (store : Store) → hist_in q (put key_cmp k h store) ≡ cond (eq_by_cmp key_cmp q k) h (hist_in q store)
 hist_in-put q k h store = ap (λ o. unwrap_or o never) (find-put key_cmp nat_list_cmp_total q k h store)
     ∙ elim (eq_by_cmp key_cmp q k) as (λ b. unwrap_or (cond b (Some h) (find key_cmp q store)) never ≡ cond b h (hist_in q store)) [ true ↦ refl | false ↦ refl ]
+
+-- a store into which something was put has a row
+not_bare : (k : List ℕ) (h : Hist) (store : Store) → ¬ (put key_cmp k h store ≡ [])
+not_bare k h [] = λ e. cc
+not_bare k h (r ∷ store) = elim (key_cmp k r.0) as (λ o. ¬ (by_order o ((k, h) ∷ r ∷ store) ((r.0, h) ∷ store) (r ∷ put key_cmp k h store) ≡ [])) [
+  | Less ↦ λ e. cc
+  | Equal ↦ λ e. cc
+  | Greater ↦ λ e. cc
+]
+
+-- a store that has no row after an operation had none before
+bare_before : (ts : ℕ) (op : RowOp) (store : Store) → taken ts op store ≡ [] → store ≡ []
+bare_before ts op store = elim (kind_in op store) as (λ o. taken_as ts op store o ≡ [] → store ≡ []) [
+  | None ↦ λ e. e
+  | Some kind ↦ λ e. absurd (not_bare op.key (push ts (change_by kind op) (hist_in op.key store)) store e)
+]
+
+-- and so after several
+pub bare_before_all : (ts : ℕ) (ops : List RowOp) (store : Store) → all_taken ts ops store ≡ [] → store ≡ []
+bare_before_all ts [] store e = e
+bare_before_all ts (op ∷ ops) store e = bare_before ts op store (bare_before_all ts ops (taken ts op store) e)
 
 -- an operation on another key changes nothing of this one
 pub taken_other : (q : List ℕ) (ts : ℕ) (op : RowOp) (store : Store) → eq_by_cmp key_cmp q op.key ≡ false → hist_in q (taken ts op store) ≡ hist_in q store
@@ -104,17 +126,25 @@ module _ (s : MemRowSet) (old : Contents) (ts : ℕ) (op : RowOp) where
     frozen = refl;
     size = refl;
     room = λ n h. omega arith;
+    even = refl;
+    vacant = λ e. refl;
+    keeps = λ k o. o;
+    frame = λ k o. refl;
   }
 
   -- and one that does has joined
-  pub takes_one : (t : MemRowSet) (new : Contents) (kind : Kindly) → kind_in op (store_of s old) ≡ Some kind → Joins s t old new op ts kind → TakesAll s t old new ts (op ∷ [])
-  takes_one t new kind is joins = record {
+  pub takes_one : (t : MemRowSet) (new : Contents) (kind : Kindly) → kind_in op (store_of s old) ≡ Some kind → need (op ∷ []) ≤ old.reserved → Joins s t old new op ts kind → TakesAll s t old new ts (op ∷ [])
+  takes_one t new kind is enough joins = record {
     stands = joins.stands;
     store = joins.joined ∙ ap (taken_as ts op (store_of s old)) (sym is);
     number = joins.number;
     frozen = joins.frozen;
     size = joins.takes.size;
     room = λ n h. let few = taken_covered op (store_of s old) in let left = share_left op n old.reserved h in let went = joins.takes.reserved in omega arith;
+    even = let few = taken_covered op (store_of s old) in let left = share_left op 0 old.reserved (omega arith) in let went = joins.takes.reserved in let came = joins.takes.used in omega arith;
+    vacant = λ e. absurd (not_bare op.key (push ts (change_by kind op) (hist_in op.key (store_of s old))) (store_of s old) (sym joins.joined ∙ e));
+    keeps = joins.keeps;
+    frame = joins.frame;
   }
 
 -- of these operations the rest is still to be taken
@@ -127,12 +157,16 @@ pub record Taking (s t : MemRowSet) (old new : Contents) (ts : ℕ) (ops rest : 
   pub size : length new.places ≡ length old.places
   pub enough : need rest ≤ new.reserved
   pub room : (n : ℕ) → need ops + n ≤ old.reserved → need rest + n ≤ new.reserved
+  pub even : used new + new.reserved ≡ used old + old.reserved
+  pub vacant : store_of t new ≡ [] → used new ≡ used old
+  pub keeps : (k : ℕ) → Owns s old k → Owns t new k
+  pub frame : (k : ℕ) → ¬ Owns t new k → at_cell new k ≡ at_cell old k
 
 pub taking_first : (s : MemRowSet) (old : Contents) (ts : ℕ) (ops : List RowOp) → IsStore s old → MayTakeAll ts (store_of s old) ops → need ops ≤ old.reserved → Taking s s old old ts ops ops
-taking_first s old ts ops st may enough = record { stands = st; store = refl; may = may; number = refl; frozen = refl; size = refl; enough = enough; room = λ n h. h }
+taking_first s old ts ops st may enough = record { stands = st; store = refl; may = may; number = refl; frozen = refl; size = refl; enough = enough; room = λ n h. h; even = refl; vacant = λ e. refl; keeps = λ k o. o; frame = λ k o. refl }
 
 pub taken_last : (s t : MemRowSet) (old new : Contents) (ts : ℕ) (ops : List RowOp) → Taking s t old new ts ops [] → TakesAll s t old new ts ops
-taken_last s t old new ts ops g = record { stands = g.stands; store = g.store; number = g.number; frozen = g.frozen; size = g.size; room = λ n h. let left = g.room n h in omega arith }
+taken_last s t old new ts ops g = record { stands = g.stands; store = g.store; number = g.number; frozen = g.frozen; size = g.size; room = λ n h. let left = g.room n h in omega arith; even = g.even; vacant = g.vacant; keeps = g.keeps; frame = g.frame }
 
 pub taking_next : (s t u : MemRowSet) (old mid new : Contents) (ts : ℕ) (ops : List RowOp) (op : RowOp) (rest : List RowOp) → Taking s t old mid ts ops (op ∷ rest) → TakesAll t u mid new ts (op ∷ []) → Taking s u old new ts ops rest
 taking_next s t u old mid new ts ops op rest g one = record {
@@ -144,6 +178,10 @@ taking_next s t u old mid new ts ops op rest g one = record {
   size = one.size ∙ g.size;
   enough = one.room (need rest) (let all = g.enough in let e = need-first op rest in omega arith);
   room = λ n h. one.room (need rest + n) (let all = g.room n h in let e = need-first op rest in omega arith);
+  even = one.even ∙ g.even;
+  vacant = λ e. one.vacant e ∙ g.vacant (bare_before ts op (store_of t mid) (sym one.store ∙ e));
+  keeps = λ k o. one.keeps k (g.keeps k o);
+  frame = λ k o. one.frame k o ∙ g.frame k (λ own. o (one.keeps k own));
 }
 
 -- the first of what is left

@@ -17,9 +17,9 @@ use Rattle.kt_records.specs.declared.entry.Entry.TheVariants.{Replicate, Commit}
 use Rattle.kt_records.specs.declared.entry.CommitRow.{CommitRow}
 use Rattle.kt_loglaws.specs.Replay.{commit_of, replayed, needed_ops}
 use Rattle.kt_memrowset.specs.Links.{CellsFit}
-use Rattle.kt_memrowset.specs.Stores.{IsStore, store_of, number_of, is_frozen, change_by}
+use Rattle.kt_memrowset.specs.Stores.{IsStore, store_of, Owns, number_of, is_frozen, change_by}
 use Rattle.kt_memrowset.specs.declared.store.MemRowSet.{MemRowSet}
-use Rattle.kt_pool.specs.Contents.{Contents}
+use Rattle.kt_pool.specs.Contents.{Contents, used, at_cell}
 use Rattle.kt_tablet.specs.Stores.{last_row}
 use Rattle.kt_boot.specs.Reopening.{unless_told}
 
@@ -101,7 +101,8 @@ pub record MayTakeAll (ts : ℕ) (store : Store) (ops : List RowOp) : Type 0 whe
   pub each : AllOps (MayTake ts store) ops
   pub keys : DifferentKeys ops
 
--- the operations have joined the store in its pool, each in reserved cells that it needs
+-- the operations have joined the store in its pool, each in reserved cells that it needs. Each cell that they took had
+-- been reserved, a store that still has no row has taken none, and the new places are the store's own
 pub record TakesAll (s t : MemRowSet) (old new : Contents) (ts : ℕ) (ops : List RowOp) : Type 0 where
   pub stands : IsStore t new
   pub store : store_of t new ≡ all_taken ts ops (store_of s old)
@@ -109,3 +110,7 @@ pub record TakesAll (s t : MemRowSet) (old new : Contents) (ts : ℕ) (ops : Lis
   pub frozen : is_frozen t ≡ is_frozen s
   pub size : length new.places ≡ length old.places
   pub room : (n : ℕ) → need ops + n ≤ old.reserved → n ≤ new.reserved
+  pub even : used new + new.reserved ≡ used old + old.reserved
+  pub vacant : store_of t new ≡ [] → used new ≡ used old
+  pub keeps : (k : ℕ) → Owns s old k → Owns t new k
+  pub frame : (k : ℕ) → ¬ Owns t new k → at_cell new k ≡ at_cell old k

@@ -1,5 +1,5 @@
 //! The writes of a log, taken into a MemRowSet one by one.
-ghost use Rattle.std.specs.Prelude.{◌≡◌, ◌≤◌, ◌++◌, ◌∷◌, [], ℕ, length, Ok, Err, IfOk, OnOk, IsTrue, true, false};
+ghost use Rattle.std.specs.Prelude.{◌≡◌, ◌≤◌, ◌+◌, ◌++◌, ◌∷◌, [], ℕ, length, Ok, Err, IfOk, OnOk, IsTrue, true, false};
 ghost use Rattle.std.specs.Ordering.{nat_cmp};
 ghost use Rattle.std.specs.BTreeMap as tree;
 ghost use Rattle.std.specs.Option.{option_map};
@@ -7,7 +7,8 @@ ghost use Rattle.kt_history.specs.Operations.{need};
 ghost use Rattle.kt_records.specs.declared.entry.Entry.TheVariants.{Commit};
 ghost use Rattle.kt_journal.specs.Log.{IsLog};
 ghost use Rattle.kt_loglaws.specs.Replay.{commit_of, needed_ops, replayed};
-ghost use Rattle.kt_memrowset.specs.Stores.{IsStore, store_of, number_of, is_frozen};
+ghost use Rattle.kt_pool.specs.Contents.{at_cell, used};
+ghost use Rattle.kt_memrowset.specs.Stores.{IsStore, store_of, Owns, number_of, is_frozen};
 ghost use Rattle.kt_boot.specs.Commits.{commit_at};
 ghost use Rattle.kt_boot.specs.Reopening.{greatest, greatest_of, mem_number, needs_of, unless_told};
 ghost use Rattle.kt_boot.specs.Rebuilding.{kindly_of, is_there, all_fit, all_told, told, fits_store, rebuilt, owed_by, MayTake, MayTakeAll, TakesAll};
@@ -206,6 +207,9 @@ pub fn rebuild(
     ensures stands { OnOk result (IsStore mem.new pool.new × (is_frozen mem.new ≡ false)) }
     ensures number { OnOk result (number_of mem.new ≡ number_of mem.old) }
     ensures size { OnOk result (length pool.new.places ≡ length pool.old.places) }
+    ensures even { OnOk result (used pool.new + pool.new.reserved ≡ used pool.old + pool.old.reserved) }
+    ensures vacant { OnOk result (store_of mem.new pool.new ≡ [] → used pool.new ≡ used pool.old) }
+    ensures frame { OnOk result ((k : ℕ) → ¬ Owns mem.new pool.new k → at_cell pool.new k ≡ at_cell pool.old k) }
     ensures owed { IfOk result (λ queued. queued ≡ owed_by (number_of mem.old) records.now [] records.now) }
     ensures late { (ts : ℕ) → result ≡ Err (ReplayNo.Late ts) → rebuilt records.now [] records.now ≡ Err ts }
 {

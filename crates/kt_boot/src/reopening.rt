@@ -1,9 +1,10 @@
 //! A log replayed into the cells of a pool.
-ghost use Rattle.std.specs.Prelude.{◌≡◌, ◌≢◌, ◌+◌, ◌<◌, ◌^◌, length, Ok, Err, IfOk, IfErr, false, ◌++◌};
+ghost use Rattle.std.specs.Prelude.{◌≡◌, ◌≢◌, ◌+◌, ◌<◌, ◌≤◌, ◌^◌, ℕ, [], length, replicate, Ok, Err, IfOk, IfErr, false, ◌++◌};
 ghost use Rattle.kt_history.specs.History.{Past};
 ghost use Rattle.kt_journal.specs.Log.{IsLog};
 ghost use Rattle.kt_schema.specs.Columns.{fill_of};
-ghost use Rattle.kt_memrowset.specs.Stores.{IsStore, store_of, number_of, is_frozen};
+ghost use Rattle.kt_pool.specs.Contents.{at_cell, used, free};
+ghost use Rattle.kt_memrowset.specs.Stores.{IsStore, store_of, Owns, number_of, is_frozen};
 ghost use Rattle.kt_boot.specs.Opening.{opened};
 ghost use Rattle.kt_boot.specs.Reopening.{mem_number, needs_of, IsReopened};
 
@@ -31,6 +32,7 @@ pub struct Reopened {
 fn pool_of(alloc: Global, cells: u32, needs: u64) -> Result<Pool, NoMemory>
     ensures size { IfOk result (λ pool. length pool.places ≡ cells + needs) }
     ensures room { IfOk result (λ pool. pool.reserved ≡ needs) }
+    ensures bare { IfOk result (λ pool. pool.places ≡ replicate (cells + needs) None) }
 {
     let Ok(needs) = u32::try_from(needs) else {
         return Err(NoMemory);
@@ -63,6 +65,11 @@ pub fn reopen(
     ensures fits { IfOk result (λ r. number_of r.mem < 2 ^ 64) }
     ensures unpromised { IfOk result (λ r. r.pool.reserved ≡ 0) }
     ensures size { IfOk result (λ r. length r.pool.places ≡ cells + needs_of records.now records.now) }
+
+    // So many cells are free, where the store has no row all are, and each place in the pool is the store's own.
+    ensures room { IfOk result (λ r. cells ≤ free r.pool) }
+    ensures vacant { IfOk result (λ r. store_of r.mem r.pool ≡ [] → used r.pool ≡ 0) }
+    ensures owned { IfOk result (λ r. (k : ℕ) → ¬ Owns r.mem r.pool k → at_cell r.pool k ≡ None) }
 
     // The log goes on with what is queued.
     ensures log { IfOk result (λ r. IsLog (records.now ++ r.queued)) }

@@ -6,6 +6,7 @@ ghost use Rattle.kt_journal.specs.Log.{CanOpen};
 ghost use Rattle.kt_schema.specs.Columns.{fill_of};
 ghost use Rattle.kt_history.specs.History.{Past};
 ghost use Rattle.kt_loglaws.specs.Laws.{LogHolds};
+ghost use Rattle.kt_pool.specs.Contents.{free};
 ghost use Rattle.kt_tablet.specs.Views.{work_of};
 ghost use Rattle.kt_engine.specs.Engines.{IsContent};
 ghost use Rattle.kt_boot.specs.Opening.{content, HasContentOf};
@@ -64,9 +65,9 @@ pub fn open_tablet<L: Disk, D, C: Clock>(
     ensures clock { IfOk result (λ engine. (engine.tablet.clock ≡ clock) × (engine.tablet.opened ≡ clock)) }
     ensures devices { IfOk result (λ engine. (engine.log.holder ≡ None) × (engine.device ≡ log) × (engine.store ≡ store)) }
 
-    // A COMMIT waits for the log for each write above 0 without one, and the pool has the cells.
+    // A COMMIT waits for the log for each write above 0 without one. So many cells are free beside those of the rows.
     ensures owes { IfOk result (λ engine. (whole : Past) × LogHolds (fill_of schema.now) engine.records whole × (engine.log.queued ≡ owed (fill_of schema.now) (mem_number engine.records) engine.records whole engine.records)) }
-    ensures room { IfOk result (λ engine. (length engine.tablet.pool.places ≡ cells + needs_of engine.records engine.records) × (engine.tablet.pool.reserved ≡ 0)) }
+    ensures room { IfOk result (λ engine. (length engine.tablet.pool.places ≡ cells + needs_of engine.records engine.records) × (engine.tablet.pool.reserved ≡ 0) × (cells ≤ free engine.tablet.pool)) }
 
     // It is refused exactly where its content is, and for that reason, unless the device or memory fail.
     ensures refused { IfErr result (λ e. e.why ≢ Why.Fault → e.why ≢ Why.Memory → IsTrue L.tells → content (fill_of schema.now) (L.seen log) ≡ Err e.why) }

@@ -18,7 +18,7 @@ returns-in-Some-clause-takes c =
     let store = store_of c.args.mem.now c.args.pool.now in
     let present = present_is c.args.ts c.args.op.now store c.as_slice.result.now c.live-present.result c.as_slice.ensures c.requires.may c.live-present.ensures in
     takes_one c.args.mem.now c.args.pool.now c.args.ts c.args.op.now c.apply_reserved-target.new.self c.apply_reserved-target.new.pool c.in-Some.change
-    (kind_is c.args.op.now store c.live-present.result (Some c.in-Some.change) present c.in-Some.ensures) c.apply_reserved-target.ensures.joins
+    (kind_is c.args.op.now store c.live-present.result (Some c.in-Some.change) present c.in-Some.ensures) c.requires.room c.apply_reserved-target.ensures.joins
 
 pub returns-in_default-clause-present : goal.returns-in_default-clause-present
 returns-in_default-clause-present c =

@@ -3,8 +3,10 @@ use Rattle.kt_histlaws.specs.Histories.{Store}
 use Rattle.kt_schema.specs.Columns.{fill_of}
 use Rattle.kt_memrowset.specs.Stores.{store_of, number_of}
 use Rattle.kt_loglaws.specs.Replay.{gate_of}
+use Rattle.kt_boot.specs.Reopening.{needs_of}
 use Rattle.kt_boot.specs.Rebuilding.{owed_by}
 use Rattle.kt_boot.proofs.ReopenedLogs.{reopened, reopened_log, reopened_late, at_least_one, still, still_shows}
+use Rattle.kt_boot.proofs.Rooms.{none_used, no_place, still_free, still_vacant, still_owned}
 use Rattle.kt_boot.proofs.reopening.reopen.Goals as goal
 
 pub returns-in-Ok-clause-found : goal.returns-in-Ok-clause-found
@@ -21,6 +23,19 @@ returns-in-Ok-clause-stands c = (still c.rebuild.new.mem c.rebuild.new.pool c.re
 
 pub returns-in-Ok-clause-fits : goal.returns-in-Ok-clause-fits
 returns-in-Ok-clause-fits c = let a = c.in-Ok.ensures.number in let b = c.new-mem.ensures.number in omega arith
+
+pub returns-in-Ok-clause-room : goal.returns-in-Ok-clause-room
+returns-in-Ok-clause-room c =
+    still_free c.in_ok-pool.pool c.rebuild.new.pool c.release.new.self _ (none_used _ c.in_ok-pool.pool c.in_ok-pool.ensures.bare) c.release.ensures c.args.cells (needs_of c.args.records.now c.args.records.now)
+    (let size = c.in_ok-pool.ensures.size in let e = c.in_ok-needs.ensures in omega arith) (let room = c.in_ok-pool.ensures.room in let e = c.in_ok-needs.ensures in omega arith) c.in-Ok.ensures.size c.in-Ok.ensures.even
+
+pub returns-in-Ok-clause-vacant : goal.returns-in-Ok-clause-vacant
+returns-in-Ok-clause-vacant c =
+    still_vacant c.in_ok-pool.pool c.rebuild.new.pool c.release.new.self _ (none_used _ c.in_ok-pool.pool c.in_ok-pool.ensures.bare) c.release.ensures c.rebuild.new.mem c.in-Ok.ensures.stands.0 c.in-Ok.ensures.vacant
+
+pub returns-in-Ok-clause-owned : goal.returns-in-Ok-clause-owned
+returns-in-Ok-clause-owned c =
+    still_owned c.in_ok-pool.pool c.rebuild.new.pool c.release.new.self _ (none_used _ c.in_ok-pool.pool c.in_ok-pool.ensures.bare) c.release.ensures c.rebuild.new.mem c.in-Ok.ensures.stands.0 (no_place _ c.in_ok-pool.pool c.in_ok-pool.ensures.bare) c.in-Ok.ensures.frame
 
 pub returns-in-Ok-clause-log : goal.returns-in-Ok-clause-log
 returns-in-Ok-clause-log c =
