@@ -1,5 +1,5 @@
 //! Opening a tablet.
-ghost use Rattle.std.specs.Prelude.{◌≡◌, ◌≢◌, ◌≤◌, ◌<◌, ◌+◌, ◌^◌, ℕ, length, IsTrue, true, false, Ok, Err, IfOk, IfErr, None, [], List};
+ghost use Rattle.std.specs.Prelude.{◌≡◌, ◌≢◌, ◌≤◌, ◌<◌, ◌+◌, ◌^◌, length, IsTrue, false, Ok, Err, IfOk, IfErr, None, []};
 ghost use Rattle.kt_base.specs.Causes.{Rose};
 ghost use Rattle.kt_disk.specs.Disk.{LeavesOnly};
 ghost use Rattle.kt_journal.specs.Log.{CanOpen};
@@ -18,7 +18,7 @@ use crate::reopening::{Reopened, reopen};
 use kt_base::Clock;
 use kt_disk::Disk;
 use kt_engine::Engine;
-use kt_journal::{JournalNo, open_journal};
+use kt_journal::{Journal, JournalNo, open_journal};
 use kt_schema::Schema;
 use kt_tablet::Tablet;
 use std::alloc::Global;
@@ -40,6 +40,20 @@ fn refusal_of(no: JournalNo) -> Why
         JournalNo::Place { offset } => Why::B3 { offset },
         JournalNo::Fault => Why::Fault,
         JournalNo::Memory => Why::Memory,
+    }
+}
+
+// What is handed back where a journal was opened and the tablet was not.
+fn given_up<L: Disk, D, C>(why: Why, journal: Journal<L>, store: D, clock: C) -> Closed<L, D, C>
+    ensures why { result.why ≡ why }
+    ensures log { result.log ≡ journal.disk }
+    ensures back { (result.store ≡ store) × (result.clock ≡ clock) }
+{
+    Closed {
+        why,
+        log: journal.into_disk(),
+        store,
+        clock,
     }
 }
 
@@ -97,32 +111,17 @@ pub fn open_tablet<L: Disk, D, C: Clock>(
         queued,
     } = match reopen(alloc, records.as_slice(), schema, cells) {
         Ok(reopened) => reopened,
-        Err(why) => return Err(Closed {
-            why,
-            log: journal.into_disk(),
-            store,
-            clock,
-        }),
+        Err(why) => return Err(given_up(why, journal, store, clock)),
     };
     let tablet = match Tablet::of(alloc, mem, pool, clock, schema, cells, last, 0) {
         Ok(tablet) => tablet,
-        Err((_, _, clock)) => return Err(Closed {
-            why: Why::Memory,
-            log: journal.into_disk(),
-            store,
-            clock,
-        }),
+        Err((_, _, clock)) => return Err(given_up(Why::Memory, journal, store, clock)),
     };
     match Engine::of(alloc, tablet, journal, &records, queued, store, device) {
         Ok(engine) => Ok(engine),
         Err((tablet, journal, store)) => {
             let (clock, _) = tablet.take_apart();
-            Err(Closed {
-                why: Why::Memory,
-                log: journal.into_disk(),
-                store,
-                clock,
-            })
+            Err(given_up(Why::Memory, journal, store, clock))
         }
     }
 }

@@ -8,7 +8,7 @@ of-requires-2-clause-durable g c = λ told image left. c.in-Ok.ensures.durable t
 
 pub returns-clause-openable : goal.returns-clause-openable
 returns-clause-openable g c = λ told.
-    subst (CanOpen g.L.Disk.now g.L.Disk.leaves) (sym (c.into_disk-in-Err-of-2.ensures ∙ ap (λ j. j.disk) c.in-Err-of-2.ensures.back.1)) (c.in-Ok.ensures.openable told)
+    subst (CanOpen g.L.Disk.now g.L.Disk.leaves) (sym (c.given_up-in-Err-of-2.ensures.log ∙ ap (λ j. j.disk) c.in-Err-of-2.ensures.back.1)) (c.in-Ok.ensures.openable told)
 
 pub returns-in-Ok-of-2-clause-owes : goal.returns-in-Ok-of-2-clause-owes
 returns-in-Ok-of-2-clause-owes g c =
