@@ -7,7 +7,7 @@ ghost use Rattle.kt_journal.specs.Open.{JournalView};
 ghost use Rattle.kt_journal.specs.Log.{records_of, Holds, IsLog, CanOpen};
 ghost use Rattle.kt_loglaws.specs.Replay.{last_of};
 ghost use Rattle.kt_loglaws.specs.Fronts.{AllTold, with_records};
-ghost use Rattle.kt_tablet.specs.Views.{IsSound, Opens};
+ghost use Rattle.kt_tablet.specs.Views.{IsSound, IsExact, Opens};
 ghost use Rattle.std.specs.List.{All};
 ghost use Rattle.kt_loglaws.specs.Side.{all_of};
 ghost use Rattle.kt_engine.specs.Logged.{Recalls, IsPlaced, IsThere};
@@ -129,11 +129,12 @@ impl<L: Disk, D, C: Clock> Engine<L, D, C> {
     }
 
     /// What it stands for: a run from each past that opening found, in which the lines show what the clock gave; and a
-    /// crash now leaves the run's writes up to a time, each acknowledged one among them. The REPLICATE of each flying
-    /// write is at its place among the records that are durable, out or queued.
+    /// crash now leaves the run's writes up to a time, each acknowledged one among them. What the pool has promised is what
+    /// flying writes still need, and the REPLICATE of each is at its place among the records that are durable, out or queued.
     pub fn standing(&self)
         ensures found { (first : Past) × IsContent self.now first }
         ensures sound { IsSound C.readings self.now.tablet }
+        ensures exact { IsExact self.now.tablet.core.aloft self.now.tablet.core.stores self.now.tablet.pool }
         ensures recovers { Recovers L.tells L.now L.leaves self.now }
         ensures recovers_all { RecoversAll L.tells L.now L.leaves self.now }
         ensures home { (journal : _) → self.now.log.home ≡ Some journal → IsHome L.tells L.seen L.now L.leaves L.faults self.now journal }

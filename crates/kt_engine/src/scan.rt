@@ -40,6 +40,7 @@ impl<L: Disk, D, C: Clock> Engine<L, D, C> {
         ensures mark { IfOk result (λ snap. snap.mark ≡ self.old.tablet.core.a) }
         ensures shows { IfOk result (λ snap. (first : Past) → IsContent self.old first → ShowsRun (core_from self.old first) snap) }
         ensures beside { self.new ≡ record self.old { tablet = record self.old.tablet { core = self.new.tablet.core } } }
+        ensures stopped { self.old.tablet.core.stopped ≡ true → result ≡ Err SnapNo.Stopped }
         ensures refused { IfErr result (IsNoRead self.old.tablet.core number at) }
         ensures left { IfErr result (LeavesRead self.old.tablet self.new.tablet number index) }
     {

@@ -1,10 +1,13 @@
 //! The life of a write: it begins, its rows are applied, and it ends.
-ghost use Rattle.std.specs.Prelude.{◌≡◌, ◌≤◌, ℕ, IfOk, IfErr, OnErr, IsOk, IsErr, Some, false, true, ◌∷◌, [], ◌++◌, ◌+◌, ◌<◌, ◌==◌, not, length, map, List, OnOk, vec_len, vec_capacity};
+ghost use Rattle.std.specs.Prelude.{◌≡◌, ◌≤◌, ℕ, IfOk, IfErr, OnErr, IsOk, IsErr, Err, Some, false, true, ◌∷◌, [], ◌++◌, ◌+◌, ◌<◌, ◌==◌, not, length, map, List, OnOk, vec_len, vec_capacity};
 ghost use Rattle.std.specs.List.{filter};
 ghost use Rattle.kt_history.specs.History.{Past};
 ghost use Rattle.kt_records.specs.declared.entry.CommitRow.{CommitRow};
+ghost use Rattle.kt_pool.specs.Contents.{with_reserved};
+ghost use Rattle.kt_history.specs.Operations.{need};
 ghost use Rattle.kt_tablet.specs.Rows.{commit_row};
-ghost use Rattle.kt_tablet.specs.Visits.{MayBegin, HasBegun, IsRefused, Leaves, MayApply, HasApplied, IsRunOutcome, MayEnd, HasEnded, IsDone};
+ghost use Rattle.kt_tablet.specs.Views.{unpromised};
+ghost use Rattle.kt_tablet.specs.Visits.{MayBegin, HasBegun, IsUnhindered, IsRefused, Leaves, MayApply, HasApplied, IsRunOutcome, MayEnd, HasEnded, IsDone};
 ghost use Rattle.kt_engine.specs.Logged.{IsShort, place_of};
 ghost use Rattle.kt_engine.specs.Engines.{IsContent, core_from};
 
@@ -75,9 +78,12 @@ impl<L: Disk, D, C: Clock> Engine<L, D, C> {
     ) -> Result<u64, BeginNo>
         requires { self.old.tablet.core.stopped ≡ false → MayBegin self.old.tablet.core number index write.now.ops × IsShort write.now.ops }
         ensures begun { IfOk result (λ ts. HasBegun self.old.tablet.core self.new.tablet.core number index write.now.ops ts) }
+        ensures free { OnOk result (IsUnhindered self.old.tablet write.now.ops) }
+        ensures promised { OnOk result (self.new.tablet.pool ≡ with_reserved self.old.tablet.pool (self.old.tablet.pool.reserved + need write.now.ops)) }
         ensures queued { IfOk result (λ ts. self.new.log ≡ record self.old.log { queued = self.old.log.queued ++ Entry.Replicate ts write.now.ops ∷ []; room = self.new.log.room }) }
         ensures clock { self.new.tablet ≡ record self.old.tablet { core = self.new.tablet.core; clock = self.new.tablet.clock; pool = self.new.tablet.pool } }
         ensures beside { self.new ≡ record self.old { tablet = self.new.tablet; log = self.new.log; places = self.new.places } }
+        ensures stopped { self.old.tablet.core.stopped ≡ true → result ≡ Err BeginNo.Stopped }
         ensures refused { IfErr result (IsRefused self.old.tablet write.now.ops) }
         ensures left { IfErr result (Leaves self.old.tablet self.new.tablet number index) }
         ensures untouched { IfErr result (λ _. self.new.tablet ≡ record self.old.tablet { core = self.new.tablet.core }) }
@@ -101,12 +107,14 @@ impl<L: Disk, D, C: Clock> Engine<L, D, C> {
         Ok(ts)
     }
 
-    /// Applies the next row of the flying write of a session, whose REPLICATE is durable. It takes no memory.
+    /// Applies the next row of the flying write of a session, whose REPLICATE is durable. It takes no memory, and no cell
+    /// of the pool that was not promised.
     pub fn apply_row(&mut self, number: u32, at: usize) -> Result<Outcome, Stopped>
         requires next { self.old.tablet.core.stopped ≡ false → MayApply self.old.tablet.core number at }
         requires durable { self.old.tablet.core.stopped ≡ false → (place : ℕ) × (place_of number self.old.places ≡ Some place) × (place ≤ self.old.log.known.count) }
         ensures applied { IfOk result (λ outcome. HasApplied self.old.tablet.core self.new.tablet.core number at outcome) }
         ensures run { IfOk result (λ outcome. (first : Past) → IsContent self.old first → IsRunOutcome (core_from self.old first) number at outcome) }
+        ensures room { unpromised self.old.tablet.pool ≤ unpromised self.new.tablet.pool }
         ensures beside { self.new ≡ record self.old { tablet = record self.old.tablet { core = self.new.tablet.core; pool = self.new.tablet.pool } } }
         ensures same { OnErr result (self.new ≡ self.old) }
         ensures stopped { self.old.tablet.core.stopped ≡ true → IsErr result }

@@ -1,5 +1,5 @@
 -- A write begins, as the goals of begin_now say it.
-use Rattle.std.proofs.Common.{◌≡◌, ℕ, ◌+◌, ◌≤◌, List, [], ◌∷◌, ◌++◌, Some, None, Option, refl, true, false, Bool, ◌||◌, cond, sym, ap, ◌∙◌, subst, arith, map, length, min}
+use Rattle.std.proofs.Common.{◌≡◌, ℕ, ◌+◌, ◌≤◌, List, [], ◌∷◌, ◌++◌, Some, None, Option, refl, true, false, Bool, ◌||◌, cond, sym, ap, ◌∙◌, subst, arith, map, length, min, drop}
 use Rattle.std.specs.Prelude.{◌==◌}
 use Rattle.std.specs.List.{filter, list_any}
 use Rattle.std.specs.Ordering.{eq_by_cmp}
@@ -23,7 +23,7 @@ use Rattle.kt_histlaws.specs.Core.{Core, Stands, flown_by}
 use Rattle.kt_histlaws.specs.Events.{begun}
 use Rattle.kt_histlaws.proofs.Events.{begin_stands}
 use Rattle.kt_tablet.specs.declared.tablet.FlyingWrite.{FlyingWrite}
-use Rattle.kt_tablet.specs.Views.{View, IsSound, IsReady, IsProvided, AreProvided, held_cells, aloft_of, flier_of}
+use Rattle.kt_tablet.specs.Views.{View, IsSound, IsReady, IsProvided, AreProvided, owed, aloft_of, flier_of}
 use Rattle.kt_tablet.specs.Visits.{MayBeginNow, HasBegun}
 use Rattle.kt_tablet.proofs.Visits.{told_line}
 use Rattle.kt_tablet.proofs.Flights.{apart-append, rests_here}
@@ -124,9 +124,9 @@ has_begun view old s i ts m ops trail a c aloft stores e kept time lines stays l
     subst (λ v. HasBegun v.core (record view.core { trail = trail; a = a; c = c; aloft = aloft; stores = stores }) s i ops ts) e (record { m = m; time = time; core = new_begun view.core s i ts m ops trail a c aloft stores kept lines stays last fly })
 
 -- what is promised to the write
-held-append : (flights : List FlyingWrite) (w : FlyingWrite) → held_cells (flights ++ w ∷ []) ≡ held_cells flights + w.left
-held-append [] w = omega arith
-held-append (v ∷ flights) w = let e = held-append flights w in omega (arith, e)
+owed-append : (flights : List FlyingWrite) (w : FlyingWrite) → owed (map aloft_of (flights ++ w ∷ [])) ≡ owed (map aloft_of flights) + need (drop w.applied w.ops)
+owed-append [] w = omega arith
+owed-append (v ∷ flights) w = let e = owed-append flights w in omega (arith, e)
 
 provided-append : (fill : Row) (flights : List FlyingWrite) (w : FlyingWrite) → AreProvided fill flights → IsProvided fill w → AreProvided fill (flights ++ w ∷ [])
 provided-append fill [] w all one = (one, tt)
@@ -136,18 +136,15 @@ length-more : (flights : List FlyingWrite) (w : FlyingWrite) → length (flights
 length-more [] w = omega arith
 length-more (v ∷ flights) w = let e = length-more flights w in omega (arith, e)
 
-pub nothing_needs : (ops : List RowOp) → ops ≡ [] → need ops ≡ 0
-nothing_needs ops e = ap need e
-
-pub ready_begun : (fill : Row) (stopped : Bool) (w : FlyingWrite) (flights new mid : List FlyingWrite) (flying more_flying : List Flier) (lines room more most : ℕ) (pool after : Contents)
+pub ready_begun : (fill : Row) (stopped : Bool) (w : FlyingWrite) (flights new mid : List FlyingWrite) (flying more_flying : List Flier) (lines room more most needs : ℕ) (pool after : Contents)
     → IsReady fill stopped flights flying lines room pool → IsProvided fill w → list_any (λ v. v.s == w.who) (map flown_by (map aloft_of flights)) ≡ false
     → new ≡ mid ++ w ∷ [] → mid ≡ flights
-    → more_flying ≡ flying ++ flier_of w ∷ [] → after ≡ with_reserved pool (pool.reserved + w.left)
+    → more_flying ≡ flying ++ flier_of w ∷ [] → needs ≡ need (drop w.applied w.ops) → after ≡ with_reserved pool (pool.reserved + needs)
     → more + length flights + 2 ≤ most → IsReady fill stopped new more_flying more most after
-ready_begun fill stopped w flights new mid flying more_flying lines room more most pool after ready provided rests pushed same held promised fits =
+ready_begun fill stopped w flights new mid flying more_flying lines room more most needs pool after ready provided rests pushed same held needs_are promised fits =
     subst (λ fs. IsReady fill stopped fs more_flying more most after) (sym (pushed ∙ ap (λ l. l ++ w ∷ []) same)) (record {
       held = held ∙ ap (λ l. l ++ flier_of w ∷ []) ready.held ∙ sym (map-append flier_of flights (w ∷ []));
-      cells = held-append flights w ∙ ap (λ n. n + w.left) ready.cells ∙ ap (λ p. p.reserved) (sym promised);
+      cells = let more = owed-append flights w in let before = ready.cells in let now = ap (λ p. p.reserved) promised in omega (arith, more, before, now, needs_are);
       provided = provided-append fill flights w ready.provided provided;
       apart = apart-append flights w ready.apart (rests_here w.who flights ∙ rests);
       end = λ goes. let one = length-more flights w in omega (arith, one, fits);

@@ -1,9 +1,10 @@
 -- Where the flying write of a session stands among the others, and what is so of it there.
-use Rattle.std.proofs.Common.{◌≡◌, ℕ, zero, suc, ◌+◌, ◌<◌, ◌≤◌, List, [], ◌∷◌, ◌++◌, Some, None, true, false, Bool, ◌||◌, cond, refl, sym, ap, ◌∙◌, subst, arith, map, length, get_or}
+use Rattle.std.proofs.Common.{◌≡◌, ℕ, zero, suc, ◌+◌, ◌<◌, ◌≤◌, List, [], ◌∷◌, ◌++◌, Some, None, true, false, Bool, ◌||◌, cond, refl, sym, ap, ◌∙◌, subst, arith, map, length, drop, get_or}
 use Rattle.std.specs.Prelude.{◌==◌, not, nat_lt, slice_get, slice_set}
 use Rattle.std.specs.List.{filter, list_any, position, position_or_len, remove}
 use Rattle.std.proofs.lemmas.Bool.Decides.{nat_tests}
 use Rattle.kt_history.specs.declared.operation.RowOp.{RowOp}
+use Rattle.kt_history.specs.Operations.{need}
 use Rattle.kt_history.specs.Rows.{Row}
 use Rattle.kt_histlaws.specs.Histories.{on_nth}
 use Rattle.kt_histlaws.specs.Pending.{Aloft}
@@ -11,7 +12,7 @@ use Rattle.kt_histlaws.specs.Core.{flown_by}
 use Rattle.kt_histlaws.specs.Events.{IsNextOp, advance}
 use Rattle.kt_tablet.specs.declared.tablet.FlyingWrite.{FlyingWrite}
 use Rattle.kt_tablet.specs.Rows.{OneOfEach}
-use Rattle.kt_tablet.specs.Views.{aloft_of, flier_of, held_cells, IsProvided, AreProvided}
+use Rattle.kt_tablet.specs.Views.{aloft_of, flier_of, owed, IsProvided, AreProvided}
 use Rattle.kt_tablet.specs.Visits.{flight_of}
 
 -- the first flying write of session s is at place j
@@ -67,15 +68,19 @@ fliers_set [] j w x is e = refl
 fliers_set (v ∷ flights) zero w x is e = ap (λ y. y ∷ map flier_of flights) (e ∙ ap flier_of is)
 fliers_set (v ∷ flights) (suc j) w x is e = ap (λ y. flier_of v ∷ y) (fliers_set flights j w x is e)
 
-pub held_set : (flights : List FlyingWrite) (j : ℕ) (w x : FlyingWrite) → j < length flights → w ≡ get_or flights j w → held_cells (slice_set flights j x) + w.left ≡ held_cells flights + x.left
-held_set [] j w x lt is = absurd (omega (arith, lt))
-held_set (v ∷ flights) zero w x lt is = let e = ap (λ y. y.left) is in omega (arith, e)
-held_set (v ∷ flights) (suc j) w x lt is = let e = held_set flights j w x (omega (arith, lt)) is in omega (arith, e)
+-- what the rows of a flying write still to be applied need is owed
+abbrev pub owed_of : FlyingWrite → ℕ
+owed_of w = need (drop w.applied w.ops)
 
-pub held_at : (flights : List FlyingWrite) (j : ℕ) (w : FlyingWrite) → j < length flights → w ≡ get_or flights j w → w.left ≤ held_cells flights
-held_at [] j w lt is = absurd (omega (arith, lt))
-held_at (v ∷ flights) zero w lt is = let e = ap (λ y. y.left) is in omega (arith, e)
-held_at (v ∷ flights) (suc j) w lt is = let e = held_at flights j w (omega (arith, lt)) is in omega (arith, e)
+pub owed_set : (flights : List FlyingWrite) (j : ℕ) (w x : FlyingWrite) → j < length flights → w ≡ get_or flights j w → owed (map aloft_of (slice_set flights j x)) + owed_of w ≡ owed (map aloft_of flights) + owed_of x
+owed_set [] j w x lt is = absurd (omega (arith, lt))
+owed_set (v ∷ flights) zero w x lt is = let e = ap owed_of is in omega (arith, e)
+owed_set (v ∷ flights) (suc j) w x lt is = let e = owed_set flights j w x (omega (arith, lt)) is in omega (arith, e)
+
+pub owed_at : (flights : List FlyingWrite) (j : ℕ) (w : FlyingWrite) → j < length flights → w ≡ get_or flights j w → owed_of w ≤ owed (map aloft_of flights)
+owed_at [] j w lt is = absurd (omega (arith, lt))
+owed_at (v ∷ flights) zero w lt is = let e = ap owed_of is in omega (arith, e)
+owed_at (v ∷ flights) (suc j) w lt is = let e = owed_at flights j w (omega (arith, lt)) is in omega (arith, e)
 
 pub provided_at : (fill : Row) (flights : List FlyingWrite) (j : ℕ) (w : FlyingWrite) → AreProvided fill flights → j < length flights → w ≡ get_or flights j w → IsProvided fill w
 provided_at fill [] j w all lt is = absurd (omega (arith, lt))

@@ -1,5 +1,6 @@
 pub mod Visits
 pub mod Begins
+pub mod Exact
 pub mod Filling
 pub mod MemRows
 pub mod Told

@@ -1,17 +1,16 @@
 -- A row of a flying write is applied, and the write ends, as the goals of the events say it.
-use Rattle.std.proofs.Common.{◌≡◌, ℕ, zero, suc, ◌+◌, ◌-◌, ◌<◌, ◌≤◌, List, [], ◌∷◌, ◌++◌, Option, Some, true, false, Bool, refl, sym, ap, ◌∙◌, subst, arith, map, length, take, drop, get_or, length-drop}
-use Rattle.std.specs.Prelude.{◌==◌, slice_get, slice_set, if◌then◌else◌, vec_len, vec_capacity}
-use Rattle.std.proofs.lemmas.Bool.Decides.{nat_tests}
+use Rattle.std.proofs.Common.{◌≡◌, ℕ, zero, suc, ◌+◌, ◌-◌, ◌*◌, ◌<◌, ◌≤◌, List, [], ◌∷◌, ◌++◌, Option, Some, true, Bool, refl, sym, ap, ◌∙◌, subst, arith, map, length, take, drop, get_or}
+use Rattle.std.specs.Prelude.{◌==◌, slice_get, slice_set, vec_len, vec_capacity}
 use Rattle.std.proofs.lemmas.List.{map-append}
 use Rattle.kt_history.specs.declared.change.Outcome.{Outcome}
 use Rattle.kt_history.specs.declared.operation.RowOp.{RowOp}
 use Rattle.kt_history.specs.declared.target.Target.{Target}
 use Rattle.kt_history.specs.History.{Past, rows_at}
 use Rattle.kt_history.specs.Machine.{start, state_after}
-use Rattle.kt_history.specs.Operations.{effect, effect_on, outcomes_on, need}
+use Rattle.kt_history.specs.Operations.{effect, effect_on, outcomes_on}
 use Rattle.kt_history.specs.Rows.{Row}
 use Rattle.kt_mvcc.specs.declared.flier.Flier.{Flier}
-use Rattle.kt_pool.specs.Contents.{Contents, with_reserved}
+use Rattle.kt_pool.specs.Contents.{Contents}
 use Rattle.kt_records.specs.declared.entry.CommitRow.{CommitRow}
 use Rattle.kt_histlaws.specs.Histories.{Store, hists, hist_in, row_of, on_nth, Alone}
 use Rattle.kt_histlaws.specs.Flights.{Under, AllUnder}
@@ -27,7 +26,7 @@ use Rattle.std.specs.List.{list_any, position_or_len}
 use Rattle.kt_tablet.specs.Rows.{IsNoted, AreNoted, commit_row}
 use Rattle.kt_tablet.specs.Views.{View, IsSound, IsReady, IsProvided, AreTold, Opens, aloft_of, flier_of}
 use Rattle.kt_tablet.specs.Visits.{MayApply, HasApplied, IsRunOutcome, IsDone, flight_of}
-use Rattle.kt_tablet.proofs.Flights.{IsPlaceOf, placed_at, flying_one, held_at, flight_at, flight_on, next_at, within, held_set, provided_set, provided_at, fliers_set, length_set, apart_set}
+use Rattle.kt_tablet.proofs.Flights.{IsPlaceOf, placed_at, flying_one, owed_of, owed_at, flight_at, flight_on, next_at, within, owed_set, provided_set, provided_at, fliers_set, length_set, apart_set}
 use Rattle.kt_tablet.proofs.Applying.{need_at, cells_at}
 use Rattle.kt_tablet.proofs.Visits.{same_flight}
 
@@ -107,8 +106,7 @@ same_place (x ∷ flights) (suc j) v w lt one two = same_place flights j v w (om
 
 -- its cells and its room are there
 pub record HasRoom (fill : Row) (pool : Contents) (w : FlyingWrite) (op : RowOp) : Type 0 where
-  pub share_left : share op ≤ w.left
-  pub left : w.left ≤ pool.reserved
+  pub needs : 2 * share op ≤ pool.reserved
   pub more : w.applied < length w.ops
   pub outcomes : vec_len w.outcomes < vec_capacity w.outcomes
   pub rows : vec_len w.rows < vec_capacity w.rows
@@ -120,8 +118,7 @@ has_room fill stopped flights flying lines room pool s at j w op ready a =
     let p = provided_at fill flights j w ready.provided lt a.here in
     let more : w.applied < length w.ops = subst (λ n. n < length w.ops) (sym a.applied) a.more in
     record {
-      share_left = let n = need_at w.ops w.applied op (ap (slice_get w.ops) a.applied ∙ a.row) in let enough = p.enough in omega (arith, n, enough);
-      left = let h = held_at flights j w lt a.here in let c = ready.cells in omega (arith, h, c);
+      needs = let n = need_at w.ops w.applied op (ap (slice_get w.ops) a.applied ∙ a.row) in let h = owed_at flights j w lt a.here in let c = ready.cells in omega (arith, n, h, c);
       more = more;
       outcomes = let n = p.noted.0 in let c = p.room.0 in omega (arith, n, c, more);
       rows = let n = p.noted.1 in let c = p.room.1 in omega (arith, n, c, more);
@@ -168,7 +165,7 @@ take_more f (x ∷ ops) zero op h = ap (λ o. f o ∷ []) (one x op h)
 take_more f (x ∷ ops) (suc n) op h = let e : suc n + 1 ≡ suc (n + 1) = omega arith in ap (λ m. take m (f x ∷ map f ops)) e ∙ ap (λ os. f x ∷ os) (take_more f ops n op h)
 
 noted_one : (fill : Row) (past : Past) (target : Target) (w x : FlyingWrite) (op : RowOp) (outcome : Outcome) (row : CommitRow) → IsNoted fill past target w
-    → x ≡ record w { applied = w.applied + 1; left = x.left; outcomes = x.outcomes; rows = x.rows } → slice_get w.ops w.applied ≡ Some op
+    → x ≡ record w { applied = w.applied + 1; outcomes = x.outcomes; rows = x.rows } → slice_get w.ops w.applied ≡ Some op
     → x.outcomes.items ≡ w.outcomes.items ++ outcome ∷ [] → x.rows.items ≡ w.rows.items ++ row ∷ [] → row ≡ commit_row target outcome
     → outcome ≡ (effect_on fill (rows_at past (w.ts - 1)) op).1 → IsNoted fill past target x
 noted_one fill past target w x op outcome row noted is at outcomes rows written run =
@@ -192,7 +189,7 @@ noted_at fill past target (v ∷ flights) (suc j) w all lt is = noted_at fill pa
 pub told_applied : {C : Type 0} (readings : C → Option (List ℕ)) (view : View C) (s at j : ℕ) (flights : List FlyingWrite) (w x : FlyingWrite) (op : RowOp) (outcome : Outcome) (row : CommitRow) (target : Target) → IsSound readings view
     → view.core.aloft ≡ map aloft_of flights → Applying flights s at j w op
     → outcome ≡ (effect view.core.work.fill op.kind op.cells (live view.core.stores op.key w.ts)).1
-    → x ≡ record w { applied = w.applied + 1; left = x.left; outcomes = x.outcomes; rows = x.rows }
+    → x ≡ record w { applied = w.applied + 1; outcomes = x.outcomes; rows = x.rows }
     → x.outcomes.items ≡ w.outcomes.items ++ outcome ∷ [] → x.rows.items ≡ w.rows.items ++ row ∷ [] → row ≡ commit_row view.target outcome → target ≡ view.target
     → AreTold view.core.work view.opening view.mark view.core.opened view.core.trail view.target flights
     → AreTold view.core.work view.opening view.mark view.core.opened view.core.trail target (slice_set flights j x)
@@ -207,58 +204,32 @@ told_applied readings view s at j flights w x op outcome row target sound flown 
     more (ap (slice_get w.ops) a.applied ∙ a.row) outcomes rows written run))
 
 -- what is promised is there still
-none_drops : (ops : List RowOp) (n : ℕ) → length ops ≤ n → drop n ops ≡ []
-none_drops [] zero le = refl
-none_drops [] (suc n) le = refl
-none_drops (x ∷ ops) zero le = absurd (omega (arith, le))
-none_drops (x ∷ ops) (suc n) le = none_drops ops n (omega (arith, le))
-
-drops_none : (ops : List RowOp) (n : ℕ) → drop n ops ≡ [] → length ops ≤ n
-drops_none ops n none = let e = length-drop n ops in let f = ap length none in omega (arith, e, f)
-
-provided_one : (fill : Row) (w x : FlyingWrite) (op : RowOp) (taken : ℕ) → IsProvided fill w → x ≡ record w { applied = w.applied + 1; left = x.left; outcomes = x.outcomes; rows = x.rows }
-    → slice_get w.ops w.applied ≡ Some op → w.applied < length w.ops → taken ≤ share op
-    → x.left ≡ (if w.applied + 1 == length w.ops then 0 else w.left - taken)
+provided_one : (fill : Row) (w x : FlyingWrite) → IsProvided fill w → x ≡ record w { applied = w.applied + 1; outcomes = x.outcomes; rows = x.rows }
     → (vec_len x.outcomes ≡ vec_len w.outcomes + 1) × (vec_capacity x.outcomes ≡ vec_capacity w.outcomes) → (vec_len x.rows ≡ vec_len w.rows + 1) × (vec_capacity x.rows ≡ vec_capacity w.rows)
     → IsProvided fill x
-provided_one fill w x op taken p is at more few left outcomes rows = subst (IsProvided fill) (sym is) (record {
-  enough = by (w.applied + 1 == length w.ops) refl;
-  over = λ none. let le = drops_none w.ops (w.applied + 1) none in let all : (w.applied + 1 == length w.ops) ≡ true = grind (arith, nat_tests, le, more) in left ∙ ap (λ b. if b then 0 else w.left - taken) all;
+provided_one fill w x p is outcomes rows = subst (IsProvided fill) (sym is) (record {
   count = p.count;
   each = p.each;
   noted = (let e = outcomes.0 in let n = p.noted.0 in omega (arith, e, n), let e = rows.0 in let n = p.noted.1 in omega (arith, e, n));
   room = (let e = outcomes.1 in let n = p.room.0 in omega (arith, e, n), let e = rows.1 in let n = p.room.1 in omega (arith, e, n));
 })
-  where
-    by : (b : Bool) → (w.applied + 1 == length w.ops) ≡ b → need (drop (w.applied + 1) w.ops) ≤ x.left
-    by true e = let all : w.applied + 1 ≡ length w.ops = grind (arith, nat_tests) in let none = ap need (none_drops w.ops (w.applied + 1) (omega (arith, all))) in omega (arith, none)
-    by false e = let l = left ∙ ap (λ b. if b then 0 else w.left - taken) e in let n = need_at w.ops w.applied op at in let enough = p.enough in omega (arith, l, n, enough, few)
 
-pub ready_applied : (fill : Row) (stopped : Bool) (flights : List FlyingWrite) (flying : List Flier) (lines room : ℕ) (pool mid after : Contents) (s j at taken : ℕ) (w x : FlyingWrite) (op : RowOp)
-    → IsReady fill stopped flights flying lines room pool → Applying flights s at j w op → w.applied < length w.ops → taken ≤ share op → mid.reserved + taken ≡ pool.reserved
-    → x ≡ record w { applied = w.applied + 1; left = x.left; outcomes = x.outcomes; rows = x.rows }
-    → x.left ≡ (if w.applied + 1 == length w.ops then 0 else w.left - taken)
+pub ready_applied : (fill : Row) (stopped : Bool) (flights : List FlyingWrite) (flying : List Flier) (lines room : ℕ) (pool after : Contents) (s j at : ℕ) (w x : FlyingWrite) (op : RowOp)
+    → IsReady fill stopped flights flying lines room pool → Applying flights s at j w op
+    → x ≡ record w { applied = w.applied + 1; outcomes = x.outcomes; rows = x.rows }
     → (vec_len x.outcomes ≡ vec_len w.outcomes + 1) × (vec_capacity x.outcomes ≡ vec_capacity w.outcomes) → (vec_len x.rows ≡ vec_len w.rows + 1) × (vec_capacity x.rows ≡ vec_capacity w.rows)
-    → after ≡ with_reserved mid (mid.reserved - (w.left - taken - x.left))
+    → after.reserved + 2 * share op ≡ pool.reserved
     → IsReady fill stopped (slice_set flights j x) flying lines room after
-ready_applied fill stopped flights flying lines room pool mid after s j at taken w x op ready a more few takes is left outcomes rows released =
+ready_applied fill stopped flights flying lines room pool after s j at w x op ready a is outcomes rows promised =
     let lt = within s flights j a.place in
     let p = provided_at fill flights j w ready.provided lt a.here in
-    let row = ap (slice_get w.ops) a.applied ∙ a.row in
     record {
       held = ready.held ∙ sym (fliers_set flights j w x a.here (ap flier_of is));
-      cells = let h = held_set flights j w x lt a.here in let c = ready.cells in let r = ap (λ c. c.reserved) released in let n = need_at w.ops w.applied op row in let enough = p.enough in let l = kept (w.applied + 1 == length w.ops) in omega (arith, h, c, r, n, enough, few, takes, l);
-      provided = provided_set fill flights j x ready.provided (provided_one fill w x op taken p is row more few left outcomes rows);
+      cells = let h = owed_set flights j w x lt a.here in let c = ready.cells in let n = need_at w.ops w.applied op (ap (slice_get w.ops) a.applied ∙ a.row) in let now = ap owed_of is in omega (arith, h, c, n, now, promised);
+      provided = provided_set fill flights j x ready.provided (provided_one fill w x p is outcomes rows);
       apart = apart_set flights j w x a.here (ap (λ y. y.who) is) ready.apart;
       end = λ goes. let e = length_set flights j x in let fits = ready.end goes in omega (arith, e, fits);
     }
-  where
-    kept : (b : Bool) → x.left ≤ w.left - taken
-    kept b = some (w.applied + 1 == length w.ops) left
-      where
-        some : (b : Bool) → x.left ≡ (if b then 0 else w.left - taken) → x.left ≤ w.left - taken
-        some true e = omega (arith, e)
-        some false e = omega (arith, e)
 
 -- what is told of a write that has ended
 all_taken : (f : RowOp → Outcome) (ops : List RowOp) (n : ℕ) → drop n ops ≡ [] → take n (map f ops) ≡ map f ops

@@ -1,11 +1,12 @@
 -- What an event leaves is sound, as its goals say it.
-use Rattle.std.proofs.Common.{◌≡◌, ℕ, suc, ◌+◌, ◌<◌, ◌≤◌, ◌^◌, List, [], ◌∷◌, ◌++◌, Some, None, Option, refl, true, false, Bool, sym, ap, ◌∙◌, subst, arith, map, length}
+use Rattle.std.proofs.Common.{◌≡◌, ℕ, suc, ◌+◌, ◌<◌, ◌≤◌, ◌^◌, List, [], ◌∷◌, ◌++◌, Some, None, Option, refl, true, false, Bool, sym, ap, ◌∙◌, subst, arith, map, length, drop}
 use Rattle.std.specs.Prelude.{IsSome, is_some, max, min, ◌==◌, ◌&&◌, ◌||◌, not, cond}
 use Rattle.std.specs.List.{filter, list_any}
 use Rattle.std.proofs.lemmas.List.{append-nil}
 use Rattle.kt_base.specs.Causes.{Grows}
 use Rattle.kt_base.proofs.Grows.{grows_more, grows_none}
 use Rattle.kt_history.specs.declared.command.Command.{Command}
+use Rattle.kt_history.specs.Operations.{need}
 use Rattle.kt_history.specs.declared.command.Command.TheVariants as command
 use Rattle.kt_history.specs.declared.event.Event.{Event}
 use Rattle.kt_history.specs.declared.event.Event.TheVariants.{Begin, End, Look, Rows, Ancient, Busy, Mark, Chore, Large, Stop}
@@ -22,7 +23,7 @@ use Rattle.kt_histlaws.specs.Pending.{Aloft}
 use Rattle.kt_histlaws.proofs.Events.{look_stands, mark_stands, open_stands, chore_stands, large_stands, stop_stands, end_stands}
 use Rattle.kt_tablet.specs.declared.tablet.FlyingWrite.{FlyingWrite}
 use Rattle.kt_history.specs.History.{Past}
-use Rattle.kt_tablet.specs.Views.{View, IsSound, Opens, IsReady, aloft_of, flier_of, held_cells, AreProvided}
+use Rattle.kt_tablet.specs.Views.{View, IsSound, Opens, IsReady, aloft_of, flier_of, owed, AreProvided}
 use Rattle.kt_tablet.specs.Visits.{MayLook, HasLooked, MayMark, HasMarked, MayAnswerChore, MayEnd, HasEnded, IsLarge, flight_of}
 use Rattle.kt_tablet.proofs.Flights.{apart-filter}
 use Rattle.std.proofs.lemmas.Bool.Decides.{nat_tests}
@@ -148,7 +149,7 @@ pub of_found : (opening stores : List Store) (mark last : ℕ) → (first : Past
 of_found opening stores mark last found same = subst (λ ss. (first : Past) × Opens ss mark last first) (sym same) found
 
 pub ready_first : (fill : Row) (flights : List FlyingWrite) (flying : List Flier) (lines room : ℕ) (pool : Contents) → flights ≡ [] → flying ≡ [] → pool.reserved ≡ 0 → lines + 1 ≤ room → IsReady fill false flights flying lines room pool
-ready_first fill flights flying lines room pool none rests unpromised fits = subst (λ fs. IsReady fill false fs flying lines room pool) (sym none) (record { held = rests; cells = sym unpromised; provided = tt; apart = tt; end = λ goes. omega (arith, fits) })
+ready_first fill flights flying lines room pool none rests unpromised fits = subst (λ fs. IsReady fill false fs flying lines room pool) (sym none) (record { held = rests; cells = unpromised; provided = tt; apart = tt; end = λ goes. omega (arith, fits) })
 
 -- CHORE
 pub new_answered : (core : Core) (s i : ℕ) (e : Event) (trail : List Event) (turns : List Turn) → trail ≡ core.trail ++ e ∷ [] → turns ≡ set_nth core.turns s (record { next = i + 1; look = None })
@@ -265,12 +266,12 @@ has_ended view old s w trail a c aloft turns e ends lines stays last flies place
     subst (λ v. HasEnded v.core (record view.core { trail = trail; a = a; c = c; aloft = aloft; turns = turns }) s w.index w.ts) e
     (record { flight = aloft_of w; flies = ends.flies; index = refl; time = refl; core = new_ended view.core s w.index w.ts trail a c aloft turns lines stays last flies places })
 
--- a write that is over holds no cells, and its line is its own
-cells_left : (s : ℕ) (fill : Row) (flights : List FlyingWrite) → AreProvided fill flights → IsOver s (map aloft_of flights) → held_cells (filter (λ f. not (f.who == s)) flights) ≡ held_cells flights
-cells_left s fill [] provided over = refl
-cells_left s fill (w ∷ flights) provided over = elim (w.who == s) as (λ b. w.who == s ≡ b → held_cells (cond (not b) (w ∷ filter (λ f. not (f.who == s)) flights) (filter (λ f. not (f.who == s)) flights)) ≡ w.left + held_cells flights) [
-  | true ↦ λ is. let k = cells_left s fill flights provided.1 over.1 in let z = provided.0.over (over.0 is) in omega (arith, k, z)
-  | false ↦ λ is. ap (λ n. w.left + n) (cells_left s fill flights provided.1 over.1)
+-- nothing is owed for a write that is over, and its line is its own
+owed_over : (s : ℕ) (flights : List FlyingWrite) → IsOver s (map aloft_of flights) → owed (map aloft_of (filter (λ f. not (f.who == s)) flights)) ≡ owed (map aloft_of flights)
+owed_over s [] over = refl
+owed_over s (w ∷ flights) over = elim (w.who == s) as (λ b. w.who == s ≡ b → owed (map aloft_of (cond (not b) (w ∷ filter (λ f. not (f.who == s)) flights) (filter (λ f. not (f.who == s)) flights))) ≡ need (drop w.applied w.ops) + owed (map aloft_of flights)) [
+  | true ↦ λ is. let k = owed_over s flights over.1 in let z = ap need (over.0 is) in omega (arith, k, z)
+  | false ↦ λ is. ap (λ n. need (drop w.applied w.ops) + n) (owed_over s flights over.1)
 ] refl
 
 still_provided : (p : FlyingWrite → Bool) (fill : Row) (flights : List FlyingWrite) → AreProvided fill flights → AreProvided fill (filter p flights)
@@ -314,7 +315,7 @@ pub ready_ended : (s i ts : ℕ) (fill : Row) (stopped : Bool) (flights kept : L
 ready_ended s i ts fill stopped flights kept flying new lines room more most pool ready goes over flies filtered ends one same =
     subst (λ ks. IsReady fill stopped ks new more most pool) (sym filtered) (record {
       held = ends ∙ ap (filter (λ f. not (f.who == s))) ready.held ∙ sym (filter_flier (λ n. not (n == s)) flights);
-      cells = cells_left s fill flights ready.provided over ∙ ready.cells;
+      cells = ready.cells ∙ sym (owed_over s flights over);
       provided = still_provided (λ f. not (f.who == s)) fill flights ready.provided;
       apart = apart-filter (λ f. not (f.who == s)) flights ready.apart;
       end = λ g. let fits = ready.end goes in let fewer = one_fewer s i ts flights flies in omega (arith, one, same, fits, fewer);

@@ -1,5 +1,5 @@
 -- What a tablet's fields mean, and what it keeps.
-use Rattle.std.specs.Prelude.{◌≡◌, ◌≤◌, ℕ, ◌+◌, Bool, true, false, List, [], ◌∷◌, map, length, Option, drop, vec_len, vec_capacity}
+use Rattle.std.specs.Prelude.{◌≡◌, ◌≤◌, ℕ, ◌+◌, ◌-◌, Bool, true, false, List, [], ◌∷◌, map, length, Option, drop, vec_len, vec_capacity}
 use Rattle.kt_base.specs.declared.cell.Kind.{Kind}
 use Rattle.kt_base.specs.Causes.{Grows}
 use Rattle.kt_history.specs.declared.command.Command.{Command}
@@ -8,7 +8,7 @@ use Rattle.kt_history.specs.declared.target.Target.{Target}
 use Rattle.kt_history.specs.Rows.{Row}
 use Rattle.kt_history.specs.History.{Past, IsPastUpTo}
 use Rattle.kt_history.specs.Machine.{Workload, readings_of, start, state_after}
-use Rattle.kt_pool.specs.Contents.{Contents}
+use Rattle.kt_pool.specs.Contents.{Contents, free, used}
 use Rattle.kt_schema.specs.declared.column.Column.{Column}
 use Rattle.kt_schema.specs.Columns.{key_columns, other_columns}
 use Rattle.kt_mvcc.specs.declared.flier.Flier.{Flier}
@@ -62,15 +62,27 @@ pub record IsSound {C : Type 0} (readings : C → Option (List ℕ)) (view : Vie
   pub stands : (first : Past) → Opens view.opening view.mark view.core.opened first → Stands (record view.core { first = first })
   pub clock : Grows (readings view.opened) (readings view.clock) (readings_of view.core.trail)
 
--- the cells of the pool that flying writes hold
-abbrev pub held_cells : List FlyingWrite → ℕ
-held_cells [] = 0
-held_cells (w ∷ flights) = w.left + held_cells flights
+-- the cells that are free and not promised
+abbrev pub unpromised : Contents → ℕ
+unpromised pool = free pool - pool.reserved
 
--- a flying write holds the cells that its rows not yet applied need, and none once all are; its operations are as they are recorded, and what becomes of them has room
+-- the cells that the rows of flying writes still to be applied need
+abbrev pub owed : List Aloft → ℕ
+owed [] = 0
+owed (w ∷ aloft) = need (drop w.applied w.ops) + owed aloft
+
+-- no store has a row
+abbrev pub AreVacant : List Store → Type 0
+AreVacant [] = Unit {0}
+AreVacant (store ∷ stores) = (store ≡ []) × AreVacant stores
+
+-- The pool is exact: what it has promised is what flying writes still need, and where no store has a row no cell is used.
+pub record IsExact (aloft : List Aloft) (stores : List Store) (pool : Contents) : Type 0 where
+  pub promised : pool.reserved ≡ owed aloft
+  pub vacant : AreVacant stores → used pool ≡ 0
+
+-- a flying write's operations are as they are recorded, and what becomes of them has room
 pub record IsProvided (fill : Row) (w : FlyingWrite) : Type 0 where
-  pub enough : need (drop w.applied w.ops) ≤ w.left
-  pub over : drop w.applied w.ops ≡ [] → w.left ≡ 0
   pub count : may_hold (length w.ops) ≡ true
   pub each : EachAfter FollowingOp [] w.ops
   pub noted : (vec_len w.outcomes ≡ w.applied) × (vec_len w.rows ≡ w.applied)
@@ -84,7 +96,7 @@ AreProvided fill (w ∷ flights) = IsProvided fill w × AreProvided fill flights
 -- stop. No session has two that fly
 pub record IsReady (fill : Row) (stopped : Bool) (flights : List FlyingWrite) (flying : List Flier) (lines room : ℕ) (pool : Contents) : Type 0 where
   pub held : flying ≡ map flier_of flights
-  pub cells : held_cells flights ≡ pool.reserved
+  pub cells : pool.reserved ≡ owed (map aloft_of flights)
   pub provided : AreProvided fill flights
   pub apart : OneOfEach flights
   pub end : stopped ≡ false → lines + length flights + 1 ≤ room

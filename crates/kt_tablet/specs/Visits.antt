@@ -6,14 +6,13 @@ use Rattle.kt_history.specs.declared.change.Outcome.{Outcome}
 use Rattle.kt_history.specs.declared.target.Target.{Target}
 use Rattle.kt_history.specs.History.{rows_at}
 use Rattle.kt_history.specs.Operations.{need, share_key, effect_on, outcomes_on}
-use Rattle.kt_pool.specs.Contents.{free}
 use Rattle.kt_records.specs.declared.entry.CommitRow.{CommitRow}
 use Rattle.kt_records.specs.Rules.{may_hold, EachAfter, FollowingOp}
 use Rattle.kt_tablet.specs.declared.tablet.write.BeginNo.{BeginNo}
 use Rattle.kt_tablet.specs.declared.tablet.write.BeginNo.TheVariants as no
 use Rattle.kt_tablet.specs.Rows.{commit_row}
 use Rattle.kt_histlaws.specs.Pending.{Aloft}
-use Rattle.kt_tablet.specs.Views.{View}
+use Rattle.kt_tablet.specs.Views.{View, unpromised}
 use Rattle.kt_history.specs.declared.scan.At.TheVariants.{Looked}
 use Rattle.kt_history.specs.Machine.{nth, command_at, IfScan, IfMark, IfWrite, IsChore, next_timestamp, least}
 use Rattle.kt_histlaws.specs.Core.{Core, flown_by, run_past}
@@ -127,13 +126,33 @@ pub record HasBegun (old new : Core) (s i : ℕ) (ops : List RowOp) (ts : ℕ) :
   pub time : ts ≡ next_timestamp old.c m
   pub core : new ≡ begun old s i ts m ops
 
--- what stands in a write's way: it needs more cells than a write may, it has a key of a flying write, of which this is the least, or
--- fewer cells are free and not promised. Want of memory alone has no cause
+-- the least flying write that has a key of these operations
+abbrev pub holder_of : Core → List RowOp → Option ℕ
+holder_of core ops = least (filter (λ w. share_key ops w.ops) (map flown_by core.aloft))
+
+-- nothing stands in a write's way: it needs no more cells than a write may, no flying write has a key of it, and the cells that it needs
+-- are free and not promised
+pub record IsUnhindered {C : Type 0} (view : View C) (ops : List RowOp) : Type 0 where
+  pub goes : view.core.stopped ≡ false
+  pub fits : need ops ≤ view.core.work.cells
+  pub apart : holder_of view.core ops ≡ None
+  pub room : need ops ≤ unpromised view.pool
+
+-- its keys are free and it is not too large, but it needs more cells than are free and not promised
+pub record HasNoRoom {C : Type 0} (view : View C) (ops : List RowOp) (n left : ℕ) : Type 0 where
+  pub fits : need ops ≤ view.core.work.cells
+  pub apart : holder_of view.core ops ≡ None
+  pub needs : n ≡ need ops
+  pub left_is : left ≡ unpromised view.pool
+  pub short : left < n
+
+-- the first that stands in a write's way: it needs more cells than a write may, it has a key of a flying write, of which this is the
+-- least, or it needs more cells than are free and not promised. Want of memory alone has no cause
 abbrev pub IsRefused : {C : Type 0} → View C → List RowOp → BeginNo → Type 0
 IsRefused view ops no.Stopped = view.core.stopped ≡ true
 IsRefused view ops (no.Large n) = (n ≡ need ops) × (view.core.work.cells < n)
-IsRefused view ops (no.Wait ts) = least (filter (λ w. share_key ops w.ops) (map flown_by view.core.aloft)) ≡ Some ts
-IsRefused view ops (no.Room n left) = (n ≡ need ops) × (left ≡ free view.pool - view.pool.reserved) × (left < n)
+IsRefused view ops (no.Wait ts) = (need ops ≤ view.core.work.cells) × (holder_of view.core ops ≡ Some ts)
+IsRefused view ops (no.Room n left) = HasNoRoom view ops n left
 IsRefused view ops no.Memory = Unit {0}
 
 -- this write needs more cells than a write may

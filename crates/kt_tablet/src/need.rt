@@ -1,6 +1,7 @@
 //! How many cells of the pool a write needs.
-ghost use Rattle.std.specs.Prelude.{◌≡◌, ◌≤◌, ◌+◌, ◌*◌, ◌/◌, ◌^◌, min, IfSome, IfNone};
+ghost use Rattle.std.specs.Prelude.{◌≡◌, ◌≤◌, ◌<◌, ◌+◌, ◌*◌, ◌/◌, ◌^◌, min, IfSome, IfNone};
 ghost use Rattle.kt_history.specs.Operations.{cell_len, op_len, need};
+ghost use Rattle.kt_tablet.specs.Stores.{share};
 
 use kt_base::Cell;
 use kt_history::{OpList, RowOp};
@@ -38,6 +39,14 @@ fn op_need(op: &RowOp) -> u64
     ensures small { result ≤ 2 ^ 40 }
 {
     2 * ((op_len(op) + 55) / 56 + 4)
+}
+
+/// How many cells of the pool an operation needs: two shares.
+pub(crate) fn cells_of(op: &RowOp) -> u32
+    requires { 2 * share op.now < 2 ^ 32 }
+    ensures { result ≡ 2 * share op.now }
+{
+    op_need(op) as u32
 }
 
 /// How many cells of the pool a write needs, if they are a number of 32 bits.

@@ -27,8 +27,6 @@ pub struct FlyingWrite {
     pub ts: u64,
     pub ops: OpList,
     pub applied: usize,
-    /// The reserved cells of the pool that it still holds.
-    pub left: u32,
     /// What became of the rows applied so far.
     pub outcomes: Vec<Outcome>,
     /// The same for the log, with the stores that were changed.
@@ -59,9 +57,10 @@ pub struct Tablet<S: RowStore, C: Clock> {
 }
 
 impl<S: RowStore, C: Clock> Model for Tablet<S, C> {
-    ghost use Rattle.std.specs.Prelude.{map, ◌∷◌, [], vec_capacity, vec_len};
+    ghost use Rattle.std.specs.Prelude.{map, ◌≡◌, ◌∷◌, [], vec_capacity, vec_len};
     ghost use Rattle.kt_tablet.specs.Filling.{filled};
-    ghost use Rattle.kt_tablet.specs.Views.{View, IsSound, IsReady, AreTold, aloft_of, work_of, empty};
+    ghost use Rattle.kt_pool.specs.Contents.{used};
+    ghost use Rattle.kt_tablet.specs.Views.{View, IsSound, IsReady, AreTold, AreVacant, aloft_of, work_of, empty};
 
     ghost Value = { View C };
 
@@ -105,7 +104,7 @@ impl<S: RowStore, C: Clock> Model for Tablet<S, C> {
       mark = e.mark;
       target = S.target e.store;
       pool = e.pool;
-    }) × IsReady e.fill e.stopped e.flights.items e.flight.flying (vec_len e.trail) (vec_capacity e.trail) e.pool × S.stands e.store e.pool × AreTold (work_of e.schema.value e.plan.value e.cells e.fill) (filled e.fill (S.store e.opening.value e.opening_pool.value) ∷ []) e.mark e.last e.trail.items (S.target e.store) e.flights.items };
+    }) × IsReady e.fill e.stopped e.flights.items e.flight.flying (vec_len e.trail) (vec_capacity e.trail) e.pool × S.stands e.store e.pool × AreTold (work_of e.schema.value e.plan.value e.cells e.fill) (filled e.fill (S.store e.opening.value e.opening_pool.value) ∷ []) e.mark e.last e.trail.items (S.target e.store) e.flights.items × (AreVacant (filled e.fill (S.store e.store e.pool) ∷ []) → used e.pool ≡ 0) };
 }
 
 /// Why a scan of the present draws no time, or the mark does not rise.
@@ -140,6 +139,7 @@ impl<S: RowStore, C: Clock> Tablet<S, C> {
     ghost use Rattle.kt_schema.specs.Columns.{fill_of};
     ghost use Rattle.kt_history.specs.History.{Past};
     ghost use Rattle.kt_tablet.specs.Filling.{filled};
+    ghost use Rattle.kt_pool.specs.Contents.{used};
     ghost use Rattle.kt_tablet.specs.Views.{work_of, Opens};
 
     /// A tablet in which nothing has happened yet, over the store that opening made. No session has a plan yet. A write
@@ -157,6 +157,7 @@ impl<S: RowStore, C: Clock> Tablet<S, C> {
         requires stands { S.stands store pool }
         requires found { (first : Past) × Opens (filled (fill_of schema.now) (S.store store pool) ∷ []) mark last first }
         requires unpromised { pool.reserved ≡ 0 }
+        requires vacant { S.store store pool ≡ [] → used pool ≡ 0 }
         ensures lines { IfOk result (λ tablet. tablet.core.trail ≡ []) }
         ensures work { IfOk result (λ tablet. tablet.core.work ≡ work_of schema.now [] cells (fill_of schema.now)) }
         ensures turns { IfOk result (λ tablet. tablet.core.turns ≡ []) }
@@ -200,7 +201,7 @@ impl<S: RowStore, C: Clock> Tablet<S, C> {
 }
 
 impl<S: RowStore, C: Clock> Tablet<S, C> {
-    ghost use Rattle.kt_tablet.specs.Views.{IsSound};
+    ghost use Rattle.kt_tablet.specs.Views.{IsSound, IsExact};
     ghost use Rattle.std.specs.Prelude.{◌≡◌, OnErr, IfOk, Err, true, false};
     ghost use Rattle.kt_tablet.specs.Visits.{MayLook, HasLooked, MayMark, HasMarked, MayAnswerChore};
     ghost use Rattle.std.specs.Prelude.{OnOk};
@@ -222,9 +223,11 @@ impl<S: RowStore, C: Clock> Tablet<S, C> {
         (self.flight.mark(), self.flight.last())
     }
 
-    /// What it stands for: a run from each past that opening found, in which the lines show what the clock gave.
+    /// What it stands for: a run from each past that opening found, in which the lines show what the clock gave. What its
+    /// pool has promised is what flying writes still need.
     pub fn standing(&self)
-        ensures { IsSound C.readings self.now }
+        ensures sound { IsSound C.readings self.now }
+        ensures exact { IsExact self.now.core.aloft self.now.core.stores self.now.pool }
     {
         let _ = &self.store;
     }

@@ -1,15 +1,17 @@
 //! The rows of a flying write, applied one by one, and its end.
-ghost use Rattle.std.specs.Prelude.{◌≡◌, ◌-◌, ◌+◌, ◌≤◌, ◌<◌, ◌^◌, ◌==◌, ◌++◌, ◌∷◌, [], length, true, vec_len, vec_capacity, if◌then◌else◌};
+ghost use Rattle.std.specs.Prelude.{◌≡◌, ◌+◌, ◌*◌, ◌≤◌, ◌<◌, ◌^◌, ◌==◌, ◌++◌, ◌∷◌, [], length, true, vec_len, vec_capacity};
 ghost use Rattle.std.specs.List.{list_any, position, position_or_len};
-ghost use Rattle.kt_pool.specs.Contents.{with_reserved};
+ghost use Rattle.kt_pool.specs.Contents.{used};
 ghost use Rattle.kt_records.specs.Rules.{EachAfter, FollowingCell};
 ghost use Rattle.kt_history.specs.Operations.{outcome_of};
 ghost use Rattle.kt_histlaws.specs.Histories.{hist_in};
 ghost use Rattle.kt_histlaws.specs.Flights.{Under};
 ghost use Rattle.kt_tablet.specs.Stores.{share, TakesUpTo};
 ghost use Rattle.kt_tablet.specs.Rows.{kind_of as kind_made, change_by, is_there, with_change, commit_row};
+ghost use Rattle.kt_tablet.specs.Views.{unpromised};
 
 use super::{FlyingWrite, Stopped, Tablet};
+use crate::need::cells_of;
 use crate::store::RowStore;
 use kt_base::Clock;
 use kt_history::{Event, Kindly, OpKind, Outcome, OutcomeList, RowOp, outcome};
@@ -37,8 +39,8 @@ fn kind_of(kind: OpKind, there: bool) -> Option<Kindly>
     }
 }
 
-// An operation reaches a store, in reserved cells.
-fn apply_op<S: RowStore>(store: &mut S, pool: &mut Pool, ts: u64, op: &RowOp) -> CommitRow
+// Makes the change of an operation, if it makes one, in reserved cells.
+fn change_store<S: RowStore>(store: &mut S, pool: &mut Pool, ts: u64, op: &RowOp) -> CommitRow
     requires stands { S.stands store.old pool.old }
     requires reserved { share op.now ≤ pool.old.reserved }
     requires count { length op.now.cells < 2 ^ 16 }
@@ -49,6 +51,7 @@ fn apply_op<S: RowStore>(store: &mut S, pool: &mut Pool, ts: u64, op: &RowOp) ->
     ensures row { result ≡ commit_row (S.target store.old) (outcome_of op.now.kind (is_there op.now (S.store store.old pool.old))) }
     ensures name { S.target store.new ≡ S.target store.old }
     ensures takes { TakesUpTo (share op.now) pool.old pool.new }
+    ensures vacant { S.store store.new pool.new ≡ [] → used pool.new ≡ used pool.old }
 {
     let there = store.live(pool, op.key.as_slice());
     let outcome = outcome(op.kind, there);
@@ -63,6 +66,29 @@ fn apply_op<S: RowStore>(store: &mut S, pool: &mut Pool, ts: u64, op: &RowOp) ->
             CommitRow { outcome, targets }
         }
     }
+}
+
+// An operation reaches a store in cells that are promised, and of those that it needs none stays promised.
+fn apply_op<S: RowStore>(store: &mut S, pool: &mut Pool, ts: u64, op: &RowOp) -> CommitRow
+    requires stands { S.stands store.old pool.old }
+    requires reserved { 2 * share op.now ≤ pool.old.reserved }
+    requires count { length op.now.cells < 2 ^ 16 }
+    requires cells { EachAfter FollowingCell [] op.now.cells }
+    requires above { Under ts (hist_in op.now.key (S.store store.old pool.old)).steps }
+    ensures stands { S.stands store.new pool.new }
+    ensures changed { S.store store.new pool.new ≡ with_change op.now.key ts (change_by op.now (is_there op.now (S.store store.old pool.old))) (S.store store.old pool.old) }
+    ensures row { result ≡ commit_row (S.target store.old) (outcome_of op.now.kind (is_there op.now (S.store store.old pool.old))) }
+    ensures name { S.target store.new ≡ S.target store.old }
+    ensures promised { pool.new.reserved + 2 * share op.now ≡ pool.old.reserved }
+    ensures room { unpromised pool.old ≤ unpromised pool.new }
+    ensures vacant { S.store store.new pool.new ≡ [] → used pool.new ≡ used pool.old }
+{
+    let before = pool.reserved();
+    let needs = cells_of(op);
+    let row = change_store(store, pool, ts, op);
+    let taken = before - pool.reserved();
+    pool.release(needs - taken);
+    row
 }
 
 // Where a flying write of a session stands first, if there is one.
@@ -83,27 +109,20 @@ fn place_of(flights: &[FlyingWrite], number: u32) -> usize
     }
 }
 
-// Notes what became of the next row, which took so many cells. Once all rows are applied the write holds no cells any more.
-fn note(pool: &mut Pool, write: &mut FlyingWrite, row: CommitRow, taken: u32) -> Outcome
-    requires taken { taken ≤ write.old.left }
-    requires held { write.old.left - taken ≤ pool.old.reserved }
+// Notes what became of the next row.
+fn note(write: &mut FlyingWrite, row: CommitRow) -> Outcome
     requires more { write.old.applied < length write.old.ops }
     requires outcome_room { vec_len write.old.outcomes < vec_capacity write.old.outcomes }
     requires row_room { vec_len write.old.rows < vec_capacity write.old.rows }
     ensures outcome { result ≡ row.outcome }
-    ensures write { write.new ≡ record write.old { applied = write.old.applied + 1; left = write.new.left; outcomes = write.new.outcomes; rows = write.new.rows } }
+    ensures write { write.new ≡ record write.old { applied = write.old.applied + 1; outcomes = write.new.outcomes; rows = write.new.rows } }
     ensures outcomes { write.new.outcomes.items ≡ write.old.outcomes.items ++ row.outcome ∷ [] }
     ensures outcome_room { (vec_len write.new.outcomes ≡ vec_len write.old.outcomes + 1) × (vec_capacity write.new.outcomes ≡ vec_capacity write.old.outcomes) }
     ensures rows { write.new.rows.items ≡ write.old.rows.items ++ row ∷ [] }
     ensures row_room { (vec_len write.new.rows ≡ vec_len write.old.rows + 1) × (vec_capacity write.new.rows ≡ vec_capacity write.old.rows) }
-    ensures left { write.new.left ≡ (if write.old.applied + 1 == length write.old.ops then 0 else write.old.left - taken) }
-    ensures pool { pool.new ≡ with_reserved pool.old (pool.old.reserved - (write.old.left - taken - write.new.left)) }
 {
-    let count = write.ops.len();
-    let left = write.left - taken;
+    prove!(write.applied < write.ops.len());
     write.applied += 1;
-    write.left = if write.applied == count { 0 } else { left };
-    pool.release(left - write.left);
     let outcome = row.outcome;
     write.outcomes.push_reserved(outcome);
     write.rows.push_reserved(row);
@@ -116,11 +135,12 @@ impl<S: RowStore, C: Clock> Tablet<S, C> {
     ghost use Rattle.kt_tablet.specs.Views.{Opens};
     ghost use Rattle.kt_tablet.specs.Visits.{MayApply, HasApplied, IsRunOutcome, MayEnd, HasEnded, IsDone};
 
-    /// Applies the next row of the flying write of a session. It takes no memory.
+    /// Applies the next row of the flying write of a session. It takes no memory, and no cell that was not promised.
     pub fn apply_row(&mut self, number: u32, at: usize) -> Result<Outcome, Stopped>
         requires { self.old.core.stopped ≡ false → MayApply self.old.core number at }
         ensures applied { IfOk result (λ outcome. HasApplied self.old.core self.new.core number at outcome) }
         ensures run { IfOk result (λ outcome. (first : Past) → Opens self.old.opening self.old.mark self.old.core.opened first → IsRunOutcome (record self.old.core { first = first }) number at outcome) }
+        ensures room { unpromised self.old.pool ≤ unpromised self.new.pool }
         ensures beside { self.new ≡ record self.old { core = self.new.core; pool = self.new.pool } }
         ensures same { OnErr result (self.new ≡ self.old) }
         ensures stopped { self.old.core.stopped ≡ true → IsErr result }
@@ -131,11 +151,9 @@ impl<S: RowStore, C: Clock> Tablet<S, C> {
         }
         let place = place_of(&self.flights, number);
         let write = &self.flights[place];
-        let before = self.pool.reserved();
         let op = &write.ops.as_slice()[at];
         let row = apply_op(&mut self.store, &mut self.pool, write.ts, op);
-        let taken = before - self.pool.reserved();
-        Ok(note(&mut self.pool, &mut self.flights[place], row, taken))
+        Ok(note(&mut self.flights[place], row))
     }
 
     /// Ends the flying write of a session, whose rows are all applied, and lets go of its keys. It takes no memory.

@@ -1,5 +1,5 @@
 //! Scans: each is answered by a copy of what the store holds up to its time, unless something stands in its way.
-ghost use Rattle.std.specs.Prelude.{◌≡◌, ◌≤◌, ◌<◌, ℕ, map, true, false, Some, IsSome, IfSome, IfNone, IfOk, IfErr, OnOk, OnErr};
+ghost use Rattle.std.specs.Prelude.{◌≡◌, ◌≤◌, ◌<◌, ℕ, map, true, false, Some, IsSome, IfSome, IfNone, IfOk, IfErr, OnOk, OnErr, Err};
 ghost use Rattle.kt_history.specs.History.{Past};
 ghost use Rattle.kt_history.specs.Machine.{nth, none_flies};
 ghost use Rattle.kt_histlaws.specs.Core.{flown_by};
@@ -150,6 +150,7 @@ impl<S: RowStore, C: Clock> Tablet<S, C> {
         ensures read { IfOk result (λ snap. HasRead self.old.core self.new.core number index at snap.t) }
         ensures mark { IfOk result (λ snap. snap.mark ≡ self.old.core.a) }
         ensures shows { IfOk result (λ snap. (first : Past) → Opens self.old.opening self.old.mark self.old.core.opened first → ShowsRun (record self.old.core { first = first }) snap) }
+        ensures stopped { self.old.core.stopped ≡ true → result ≡ Err SnapNo.Stopped }
         ensures refused { IfErr result (IsNoRead self.old.core number at) }
         ensures left { IfErr result (LeavesRead self.old self.new number index) }
         ensures beside { self.new ≡ record self.old { core = self.new.core } }

@@ -69,10 +69,12 @@ fn make_room(
 }
 
 impl<S: RowStore, C: Clock> Tablet<S, C> {
-    ghost use Rattle.std.specs.Prelude.{OnErr, IfErr, false};
+    ghost use Rattle.std.specs.Prelude.{OnErr, IfErr, Err, false, true};
+    ghost use Rattle.kt_pool.specs.Contents.{with_reserved};
+    ghost use Rattle.kt_history.specs.Operations.{need};
     ghost use Rattle.kt_history.specs.declared.event.Event.TheVariants.{Large};
     ghost use Rattle.kt_histlaws.specs.Events.{answered};
-    ghost use Rattle.kt_tablet.specs.Visits.{MayBegin, MayBeginNow, IsLarge, HasBegun, IsRefused, Leaves};
+    ghost use Rattle.kt_tablet.specs.Visits.{MayBegin, MayBeginNow, IsLarge, HasBegun, IsUnhindered, IsRefused, Leaves};
 
     // Begins a write that is not too large.
     fn begin_now(
@@ -85,6 +87,8 @@ impl<S: RowStore, C: Clock> Tablet<S, C> {
     ) -> Result<u64, BeginNo>
         requires { MayBeginNow self.old.core number index ops needs }
         ensures begun { IfOk result (λ ts. HasBegun self.old.core self.new.core number index ops ts) }
+        ensures free { OnOk result (IsUnhindered self.old ops) }
+        ensures promised { OnOk result (self.new.pool ≡ with_reserved self.old.pool (self.old.pool.reserved + need ops)) }
         ensures beside { self.new ≡ record self.old { core = self.new.core; clock = self.new.clock; pool = self.new.pool } }
         ensures same { OnErr result (self.new ≡ self.old) }
         ensures refused { IfErr result (IsRefused self.old ops) }
@@ -127,7 +131,6 @@ impl<S: RowStore, C: Clock> Tablet<S, C> {
             ts,
             ops,
             applied: 0,
-            left: needs,
             outcomes,
             rows,
         });
@@ -152,7 +155,8 @@ impl<S: RowStore, C: Clock> Tablet<S, C> {
     }
 
     /// Begins a write. Once it has begun it holds its keys, its cells and the line of its end, so that it is not refused
-    /// any more. For a write whose need is no number of 32 bits there is no memory.
+    /// any more: the pool has promised exactly the cells that it needs. For a write whose need is no number of 32 bits
+    /// there is no memory.
     pub fn begin(
         &mut self,
         alloc: Global,
@@ -162,7 +166,10 @@ impl<S: RowStore, C: Clock> Tablet<S, C> {
     ) -> Result<u64, BeginNo>
         requires { self.old.core.stopped ≡ false → MayBegin self.old.core number index ops }
         ensures begun { IfOk result (λ ts. HasBegun self.old.core self.new.core number index ops ts) }
+        ensures free { OnOk result (IsUnhindered self.old ops) }
+        ensures promised { OnOk result (self.new.pool ≡ with_reserved self.old.pool (self.old.pool.reserved + need ops)) }
         ensures beside { self.new ≡ record self.old { core = self.new.core; clock = self.new.clock; pool = self.new.pool } }
+        ensures stopped { self.old.core.stopped ≡ true → result ≡ Err BeginNo.Stopped }
         ensures refused { IfErr result (IsRefused self.old ops) }
         ensures left { IfErr result (Leaves self.old self.new number index) }
         ensures untouched { IfErr result (λ _. self.new ≡ record self.old { core = self.new.core }) }

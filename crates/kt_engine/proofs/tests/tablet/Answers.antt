@@ -1,5 +1,6 @@
 use Rattle.std.proofs.Common.{ap, ◌∙◌}
 use Rattle.kt_history.specs.declared.target.Target.TheVariants.{Mem}
+use Rattle.kt_tablet.proofs.Exact.{none_used}
 use Rattle.kt_tablet.proofs.Examples.{found_empty}
 use Rattle.kt_engine.proofs.Examples.{planned_four, is_new}
 use Rattle.kt_engine.proofs.tests.tablet.Goals as goal
@@ -15,3 +16,6 @@ set_plan-requires-clause-planned c = planned_four (record c.in-Ok.tablet.core.wo
 
 pub returns : goal.returns
 returns c = is_new c.in-Ok.tablet c.set_plan.new.self _ _ c.in_ok-plan.plan c.in-Ok.ensures.lines c.in-Ok.ensures.rests c.in-Ok.ensures.goes c.in-Ok.ensures.found (c.new-store.ensures.empty c.in_ok-pool.pool) (c.in-Ok.ensures.target ∙ ap Mem c.new-store.ensures.number) c.in_ok-plan.ensures c.set_plan.ensures
+
+pub of-requires-2-clause-vacant : goal.of-requires-2-clause-vacant
+of-requires-2-clause-vacant c = λ _. none_used c.in_ok-pool.pool 1024 c.in_ok-pool.ensures.places

@@ -1,3 +1,4 @@
+use Rattle.kt_tablet.proofs.Exact.{none_used}
 use Rattle.kt_tablet.proofs.Examples.{found_empty}
 use Rattle.kt_tablet.proofs.tests.empty.Goals as goal
 
@@ -6,3 +7,6 @@ of-requires-2-clause-stands c = record { stands = c.new-store.ensures.store c.in
 
 pub of-requires-2-clause-found : goal.of-requires-2-clause-found
 of-requires-2-clause-found c = found_empty _ _ (c.new-store.ensures.empty c.in_ok-pool.pool)
+
+pub of-requires-2-clause-vacant : goal.of-requires-2-clause-vacant
+of-requires-2-clause-vacant c = λ _. none_used c.in_ok-pool.pool 100 c.in_ok-pool.ensures.places

@@ -10,7 +10,7 @@ use Rattle.kt_engine.proofs.engine.Engine.standing.Goals as goal
 pub returns-clause-recovers : goal.returns-clause-recovers
 returns-clause-recovers g c =
     subst (λ (v : EngineView _ _ _). Recovers g.L.Disk.tells g.L.Disk.now g.L.Disk.leaves v) c.self.view_is
-    (recovers g.L.Disk.tells g.L.Disk.seen g.L.Disk.now g.L.Disk.leaves g.L.Disk.faults _ c.self.invariant c.standing.ensures.stands c.durable.ensures.held)
+    (recovers g.L.Disk.tells g.L.Disk.seen g.L.Disk.now g.L.Disk.leaves g.L.Disk.faults _ c.self.invariant c.standing.ensures.sound.stands c.durable.ensures.held)
 
 pub returns-clause-recovers_all : goal.returns-clause-recovers_all
 returns-clause-recovers_all g c =

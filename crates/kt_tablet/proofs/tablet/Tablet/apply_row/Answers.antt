@@ -1,9 +1,9 @@
-use Rattle.std.proofs.Common.{◌<◌, ◌-◌, length, refl, sym, ap, ◌∙◌, subst, arith, rules}
+use Rattle.std.proofs.Common.{◌<◌, ◌-◌, length, refl, sym, ap, ◌∙◌, subst, rules}
 use Rattle.kt_tablet.specs.Rows.{with_change, change_by, is_there, commit_row}
 use Rattle.kt_tablet.specs.Views.{aloft_of}
 use Rattle.kt_tablet.specs.Visits.{MayApply}
 use Rattle.kt_tablet.proofs.Applying.{under_store, store_applied, outcome_live}
-use Rattle.kt_tablet.proofs.Begins.{promised_alike, promised_placed}
+use Rattle.kt_tablet.proofs.Exact.{vacant_applied}
 use Rattle.kt_tablet.proofs.Flights.{within, aloft_set}
 use Rattle.kt_tablet.proofs.Rows.{Applying, applying, placed_is, any_shown, more_at, same_place, has_room, next_here, under_next, apply_sound, ready_applied, told_applied, has_applied, run_outcome}
 use Rattle.kt_tablet.proofs.Visits.{of_old}
@@ -43,7 +43,7 @@ apply_op-row-requires-clause-reserved g c =
     let place = placed_is c.args.number c.place_of-place.result c.self.inside.flights.items c.deref.result.now may.flight may.flies c.deref.ensures.value c.place_of-place.ensures in
     let v = applying _ c.args.number c.args.at c.place_of-place.result c.self.inside.flights.items c.index-write.result.now c.index-as_slice-at.result c.as_slice.result.now refl may place c.index-write.ensures c.as_slice.ensures c.index-as_slice-at.is in
     let room = has_room _ _ _ _ _ _ _ _ _ _ _ _ c.self.invariant.1 v in
-    let one = room.share_left in let two = room.left in omega (arith, one, two)
+    room.needs
 
 pub apply_op-row-requires-clause-count : goal.apply_op-row-requires-clause-count
 apply_op-row-requires-clause-count g c =
@@ -75,34 +75,6 @@ index_mut-requires g c =
     let place = placed_is c.args.number c.place_of-place.result c.self.inside.flights.items c.deref.result.now may.flight may.flies c.deref.ensures.value c.place_of-place.ensures in
     let lt : c.place_of-place.result < length c.self.inside.flights.items = within c.args.number c.self.inside.flights.items c.place_of-place.result place in
     search rules
-
-pub note-requires-clause-taken : goal.note-requires-clause-taken
-note-requires-clause-taken g c =
-    let may = of_old (λ core. MayApply core c.args.number c.args.at) _ _ c.self.view_is c.requires c.if-self.false in
-    let place = placed_is c.args.number c.place_of-place.result c.self.inside.flights.items c.deref.result.now may.flight may.flies c.deref.ensures.value c.place_of-place.ensures in
-    let v = applying _ c.args.number c.args.at c.place_of-place.result c.self.inside.flights.items c.index-write.result.now c.index-as_slice-at.result c.as_slice.result.now refl may place c.index-write.ensures c.as_slice.ensures c.index-as_slice-at.is in
-    let same = same_place c.self.inside.flights.items c.place_of-place.result c.index-write.result.now c.index_mut.result.now (within c.args.number c.self.inside.flights.items c.place_of-place.result place) c.index-write.ensures c.index_mut.ensures.value in
-    let a = subst (λ w. Applying c.self.inside.flights.items c.args.number c.args.at c.place_of-place.result w c.index-as_slice-at.result) same v in
-    let room = has_room _ _ _ _ _ _ _ _ _ _ _ _ c.self.invariant.1 a in
-    let before = c.reserved-before.ensures.reserved in
-    let now = c.reserved.ensures.reserved in
-    let taken = c.apply_op-row.ensures.takes.reserved in
-    let few = c.apply_op-row.ensures.takes.few in
-    let left = room.share_left in omega (arith, before, now, taken, few, left)
-
-pub note-requires-clause-held : goal.note-requires-clause-held
-note-requires-clause-held g c =
-    let may = of_old (λ core. MayApply core c.args.number c.args.at) _ _ c.self.view_is c.requires c.if-self.false in
-    let place = placed_is c.args.number c.place_of-place.result c.self.inside.flights.items c.deref.result.now may.flight may.flies c.deref.ensures.value c.place_of-place.ensures in
-    let v = applying _ c.args.number c.args.at c.place_of-place.result c.self.inside.flights.items c.index-write.result.now c.index-as_slice-at.result c.as_slice.result.now refl may place c.index-write.ensures c.as_slice.ensures c.index-as_slice-at.is in
-    let same = same_place c.self.inside.flights.items c.place_of-place.result c.index-write.result.now c.index_mut.result.now (within c.args.number c.self.inside.flights.items c.place_of-place.result place) c.index-write.ensures c.index_mut.ensures.value in
-    let a = subst (λ w. Applying c.self.inside.flights.items c.args.number c.args.at c.place_of-place.result w c.index-as_slice-at.result) same v in
-    let room = has_room _ _ _ _ _ _ _ _ _ _ _ _ c.self.invariant.1 a in
-    let before = c.reserved-before.ensures.reserved in
-    let now = c.reserved.ensures.reserved in
-    let taken = c.apply_op-row.ensures.takes.reserved in
-    let few = c.apply_op-row.ensures.takes.few in
-    let left = room.left in omega (arith, before, now, taken, few, left)
 
 pub note-requires-clause-more : goal.note-requires-clause-more
 note-requires-clause-more g c =
@@ -141,25 +113,19 @@ invariant_of-self g c =
     let v = applying _ c.args.number c.args.at c.place_of-place.result c.self.inside.flights.items c.index-write.result.now c.index-as_slice-at.result c.as_slice.result.now refl may place c.index-write.ensures c.as_slice.ensures c.index-as_slice-at.is in
     let same = same_place c.self.inside.flights.items c.place_of-place.result c.index-write.result.now c.index_mut.result.now (within c.args.number c.self.inside.flights.items c.place_of-place.result place) c.index-write.ensures c.index_mut.ensures.value in
     let a = subst (λ w. Applying c.self.inside.flights.items c.args.number c.args.at c.place_of-place.result w c.index-as_slice-at.result) same v in
-    let room = has_room _ _ _ _ _ _ _ _ _ _ _ _ c.self.invariant.1 a in
     let under = under_next g.C.Clock.readings _ c.place_of-place.result c.index_mut.result.now.ts c.index-as_slice-at.result _ c.self.invariant.0 refl (next_here c.self.inside.flights.items c.args.number c.args.at c.place_of-place.result c.index_mut.result.now c.index-as_slice-at.result a) in
-    let alike = promised_alike g.S.RowStore.stands g.S.RowStore.store c.apply_op-row.new.store c.apply_op-row.new.pool c.note.new.pool _ g.met.S.RowStore.looks c.apply_op-row.ensures.stands c.note.ensures.pool in
-    let changed = alike ∙ c.apply_op-row.ensures.changed ∙ ap (λ w. with_change c.index-as_slice-at.result.key w.ts (change_by c.index-as_slice-at.result (is_there c.index-as_slice-at.result (g.S.RowStore.store c.self.inside.store c.self.inside.pool))) (g.S.RowStore.store c.self.inside.store c.self.inside.pool)) same in
+    let changed = c.apply_op-row.ensures.changed ∙ ap (λ w. with_change c.index-as_slice-at.result.key w.ts (change_by c.index-as_slice-at.result (is_there c.index-as_slice-at.result (g.S.RowStore.store c.self.inside.store c.self.inside.pool))) (g.S.RowStore.store c.self.inside.store c.self.inside.pool)) same in
     let stores = store_applied c.self.inside.fill c.index-as_slice-at.result c.index_mut.result.now.ts (g.S.RowStore.store c.self.inside.store c.self.inside.pool) _ under changed in
     let flies = aloft_set c.self.inside.flights.items c.place_of-place.result c.index_mut.result.now c.note.new.write a.here (ap aloft_of c.note.ensures.write) in
     let outcome = ap (λ r. r.outcome) c.apply_op-row.ensures.row ∙ outcome_live c.self.inside.fill c.index-as_slice-at.result c.index_mut.result.now.ts (g.S.RowStore.store c.self.inside.store c.self.inside.pool) under in
-    let before = c.reserved-before.ensures.reserved in
-    let now = c.reserved.ensures.reserved in
-    let taken = c.apply_op-row.ensures.takes.reserved in
-    let few = c.apply_op-row.ensures.takes.few in
     let written = c.apply_op-row.ensures.row ∙ ap (commit_row (g.S.RowStore.target c.self.inside.store)) (sym (ap (λ r. r.outcome) c.apply_op-row.ensures.row)) in (
       apply_sound g.C.Clock.readings _ c.place_of-place.result c.index_mut.result.now.ts c.index-as_slice-at.result _ _ _ _ _ c.self.invariant.0 refl (next_here c.self.inside.flights.items c.args.number c.args.at c.place_of-place.result c.index_mut.result.now c.index-as_slice-at.result a) flies stores,
-      ready_applied _ _ _ _ _ _ _ c.apply_op-row.new.pool _ c.args.number c.place_of-place.result c.args.at (c.reserved-before.result - c.reserved.result) c.index_mut.result.now c.note.new.write c.index-as_slice-at.result
-          c.self.invariant.1 a room.more (omega (arith, before, now, taken, few)) (omega (arith, before, now, taken, few))
-          c.note.ensures.write c.note.ensures.left c.note.ensures.outcome_room c.note.ensures.row_room c.note.ensures.pool,
-      promised_placed g.S.RowStore.stands g.S.RowStore.store c.apply_op-row.new.store c.apply_op-row.new.pool c.note.new.pool _ g.met.S.RowStore.looks c.apply_op-row.ensures.stands c.note.ensures.pool,
+      ready_applied _ _ _ _ _ _ _ _ c.args.number c.place_of-place.result c.args.at c.index_mut.result.now c.note.new.write c.index-as_slice-at.result
+          c.self.invariant.1 a c.note.ensures.write c.note.ensures.outcome_room c.note.ensures.row_room c.apply_op-row.ensures.promised,
+      c.apply_op-row.ensures.stands,
       told_applied g.C.Clock.readings _ c.args.number c.args.at c.place_of-place.result c.self.inside.flights.items c.index_mut.result.now c.note.new.write c.index-as_slice-at.result c.apply_op-row.result.outcome c.apply_op-row.result _ c.self.invariant.0 refl a
           outcome c.note.ensures.write c.note.ensures.outcomes c.note.ensures.rows written c.apply_op-row.ensures.name c.self.invariant.3,
+      vacant_applied c.self.inside.fill c.index-as_slice-at.result.key c.index_mut.result.now.ts _ (g.S.RowStore.store c.self.inside.store c.self.inside.pool) _ c.self.inside.pool c.apply_op-row.new.pool changed c.apply_op-row.ensures.vacant c.self.invariant.4,
     )
 
 pub returns-clause-applied : goal.returns-clause-applied
@@ -169,10 +135,8 @@ returns-clause-applied g c =
     let v = applying _ c.args.number c.args.at c.place_of-place.result c.self.inside.flights.items c.index-write.result.now c.index-as_slice-at.result c.as_slice.result.now refl may place c.index-write.ensures c.as_slice.ensures c.index-as_slice-at.is in
     let same = same_place c.self.inside.flights.items c.place_of-place.result c.index-write.result.now c.index_mut.result.now (within c.args.number c.self.inside.flights.items c.place_of-place.result place) c.index-write.ensures c.index_mut.ensures.value in
     let a = subst (λ w. Applying c.self.inside.flights.items c.args.number c.args.at c.place_of-place.result w c.index-as_slice-at.result) same v in
-    let room = has_room _ _ _ _ _ _ _ _ _ _ _ _ c.self.invariant.1 a in
     let under = under_next g.C.Clock.readings _ c.place_of-place.result c.index_mut.result.now.ts c.index-as_slice-at.result _ c.self.invariant.0 refl (next_here c.self.inside.flights.items c.args.number c.args.at c.place_of-place.result c.index_mut.result.now c.index-as_slice-at.result a) in
-    let alike = promised_alike g.S.RowStore.stands g.S.RowStore.store c.apply_op-row.new.store c.apply_op-row.new.pool c.note.new.pool _ g.met.S.RowStore.looks c.apply_op-row.ensures.stands c.note.ensures.pool in
-    let changed = alike ∙ c.apply_op-row.ensures.changed ∙ ap (λ w. with_change c.index-as_slice-at.result.key w.ts (change_by c.index-as_slice-at.result (is_there c.index-as_slice-at.result (g.S.RowStore.store c.self.inside.store c.self.inside.pool))) (g.S.RowStore.store c.self.inside.store c.self.inside.pool)) same in
+    let changed = c.apply_op-row.ensures.changed ∙ ap (λ w. with_change c.index-as_slice-at.result.key w.ts (change_by c.index-as_slice-at.result (is_there c.index-as_slice-at.result (g.S.RowStore.store c.self.inside.store c.self.inside.pool))) (g.S.RowStore.store c.self.inside.store c.self.inside.pool)) same in
     let stores = store_applied c.self.inside.fill c.index-as_slice-at.result c.index_mut.result.now.ts (g.S.RowStore.store c.self.inside.store c.self.inside.pool) _ under changed in
     let flies = aloft_set c.self.inside.flights.items c.place_of-place.result c.index_mut.result.now c.note.new.write a.here (ap aloft_of c.note.ensures.write) in
     has_applied _ _ c.args.number c.args.at c.place_of-place.result c.self.inside.flights.items c.index_mut.result.now c.index-as_slice-at.result c.note.result _ _ c.self.view_is refl a flies stores

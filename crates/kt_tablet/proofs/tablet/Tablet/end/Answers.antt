@@ -55,6 +55,7 @@ invariant_of-self g c =
           filtered c.end.ensures.flying c.push_reserved.ensures.len c.push_reserved.ensures.capacity,
       c.self.invariant.2,
       told_ended (work_of c.self.inside.schema.value c.self.inside.plan.value c.self.inside.cells c.self.inside.fill) _ _ _ c.push_reserved.new.self.items (g.S.RowStore.target c.self.inside.store) _ _ _ (told_on g.C.Clock.readings _ _ _ _ _ _ _ _ _ _ _ c.self.inside.flights.items c.self.invariant.0 sound refl lines c.self.invariant.3) filtered,
+      c.self.invariant.4,
     )
 
 pub returns-clause-ended : goal.returns-clause-ended

@@ -25,6 +25,7 @@ invariant_of-self-2 g c =
       ready_line _ _ _ _ _ _ _ _ _ _ c.self.invariant.1 (ap (λ f. f.flying) c.raise_mark-mark.ensures.after) room,
       c.self.invariant.2,
       told_on g.C.Clock.readings _ _ _ _ _ _ _ _ _ _ _ _ c.self.invariant.0 sound refl lines c.self.invariant.3,
+      c.self.invariant.4,
     )
 
 pub returns-clause-marked : goal.returns-clause-marked

@@ -4,6 +4,7 @@ use Rattle.kt_tablet.specs.Filling.{filled}
 use Rattle.kt_tablet.specs.Views.{aloft_of, work_of}
 use Rattle.kt_tablet.proofs.Visits.{of_sound, of_found, ready_first}
 use Rattle.kt_tablet.proofs.Told.{told_none}
+use Rattle.kt_tablet.proofs.Exact.{filled_none}
 use Rattle.kt_tablet.proofs.Plans.{none_planned}
 use Rattle.kt_tablet.proofs.tablet.Tablet.of.Goals as goal
 
@@ -19,4 +20,5 @@ invariant_of-result g c =
       ready_first _ _ _ _ _ _ c.new-3.ensures.items c.new-2.ensures.rests c.requires.unpromised c.in-Ok.ensures.room,
       c.requires.stands,
       told_none (work_of c.of-2.result.value c.of.result.value c.args.cells c.in-Ok.fill) _ _ _ c.in-Ok.trail.items (g.S.RowStore.target c.args.store) _ c.new-3.ensures.items,
+      λ none. c.requires.vacant (filled_none c.in-Ok.fill (g.S.RowStore.store c.args.store c.args.pool) none.0),
     )

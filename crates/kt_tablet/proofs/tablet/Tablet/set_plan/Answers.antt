@@ -10,6 +10,7 @@ invariant_of-self g c = (
   c.self.invariant.1,
   c.self.invariant.2,
   told_none (work_of c.self.inside.schema.value c.of.result.value c.self.inside.cells c.self.inside.fill) _ _ _ c.self.inside.trail.items (g.S.RowStore.target c.self.inside.store) c.self.inside.flights.items (no_flights c.self.inside.flights.items (ap (λ v. v.core.aloft) c.self.view_is ∙ c.requires.fresh.1)),
+  c.self.invariant.4,
 )
 
 pub returns : goal.returns

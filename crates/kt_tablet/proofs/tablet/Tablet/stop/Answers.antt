@@ -11,4 +11,5 @@ invariant_of-self g c =
       ready_stopped _ _ _ _ _ _ _ _ _ c.self.invariant.1,
       c.self.invariant.2,
       told_on g.C.Clock.readings _ _ _ _ _ _ _ _ _ _ _ _ c.self.invariant.0 sound refl lines c.self.invariant.3,
+      c.self.invariant.4,
     )
