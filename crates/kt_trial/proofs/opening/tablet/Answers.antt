@@ -1,5 +1,6 @@
 use Rattle.std.proofs.Common.{ap, ◌∙◌}
 use Rattle.kt_history.specs.declared.target.Target.TheVariants.{Mem}
+use Rattle.kt_tablet.proofs.Exact.{none_used}
 use Rattle.kt_tablet.proofs.Examples.{found_empty}
 use Rattle.kt_trial.proofs.Opened.{is_new}
 use Rattle.kt_trial.proofs.Planned.{planned}
@@ -10,3 +11,6 @@ of-requires-2-clause-found c = found_empty _ _ (c.new-store.ensures.empty c.in-O
 
 pub set_plan-requires-clause-planned : goal.set_plan-requires-clause-planned
 set_plan-requires-clause-planned c = planned (record c.in-Ok-of.tablet.core.work { plan = c.args.plan.now }) c.requires.fits
+
+pub of-requires-2-clause-vacant : goal.of-requires-2-clause-vacant
+of-requires-2-clause-vacant c = λ _. none_used c.in-Ok.pool 1024 c.in-Ok.ensures.places
