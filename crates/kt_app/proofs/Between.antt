@@ -1,20 +1,25 @@
 -- Between two commands.
-use Rattle.std.proofs.Common.{◌≡◌, ℕ, zero, suc, ◌+◌, ◌<◌, ◌≤◌, ◌^◌, min, List, [], ◌∷◌, ◌++◌, Option, Some, None, Bool, true, false, cond, refl, sym, ap, ◌∙◌, arith, length, map, get_or, add-one, length-append}
+use Rattle.std.proofs.Common.{◌≡◌, ℕ, zero, suc, ◌+◌, ◌<◌, ◌≤◌, ◌^◌, min, List, [], ◌∷◌, ◌++◌, Option, Some, None, Bool, true, false, cond, refl, sym, ap, ◌∙◌, subst, arith, length, map, get_or, add-one, length-append}
 use Rattle.std.specs.Prelude.{slice_get, slice_set, nat_lt, ◌==◌, ◌&&◌}
 use Rattle.std.proofs.lemmas.Bool.Decides.{nat_tests}
 use Rattle.std.proofs.lemmas.List.{map-set}
 use Rattle.kt_history.specs.declared.command.Command.{Command}
 use Rattle.kt_history.specs.declared.reply.Reply.{Reply}
+use Rattle.kt_history.specs.declared.reply.Reply.TheVariants as reply
 use Rattle.kt_history.specs.History.{Past}
 use Rattle.kt_history.specs.Machine.{nth, set_nth, Turn, command_of, first_turns}
 use Rattle.kt_history.specs.Replies.{is_of}
 use Rattle.kt_histlaws.specs.Histories.{or_else}
 use Rattle.kt_engine.specs.Engines.{EngineView, IsContent, core_from}
-use Rattle.kt_app.specs.Turns.{root_of, told_in, Rests, IsNextCommand, IsAnswered, IsStopped, IsBetween, IsHalted, given, reply_in, turn_after, asked, AreAsked}
+use Rattle.kt_app.specs.Turns.{Root, root_of, told_in, Rests, IsNextCommand, IsAnswered, IsStopped, IsBetween, IsHalted, given, reply_in, turn_after, asked, AreAsked, needs_left}
+use Rattle.kt_app.specs.Crash.{need_of}
+use Rattle.kt_tablet.specs.Views.{unpromised}
 use Rattle.kt_app.proofs.Lines.{content_along, told_along}
+use Rattle.std.specs.List.{sum_by}
 use Rattle.std.proofs.lemmas.List.Sums.{sum_by-cons}
 use Rattle.kt_script.specs.Scripts.{commands_in}
 use Rattle.kt_app.proofs.Places.{get_set}
+use Rattle.kt_app.proofs.Rooms.{needs_first, needs_more}
 use Rattle.std.proofs.lemmas.Option.{slice_get_within}
 
 pub get_at : {A : Type 0} (xs : List A) (k : ℕ) (x : A) → k < length xs → x ≡ get_or xs k x → slice_get xs k ≡ Some x
@@ -53,6 +58,23 @@ next_command view replies plan at done rs commands command b plan_is has count h
       ∙ nth_at commands done ∙ is;
   few = few;
 }
+
+-- the plan stays, and the pool has room for what is still to come
+pub room_after : {L D C : Type 0} (old new : EngineView L D C) (replies : List (List Reply)) (plan : List (List Command)) (at : ℕ) (rs : List Reply) (r : Reply) (commands : List Command) (command : Command) → root_of new ≡ root_of old → IsBetween old replies
+    → old.tablet.core.work.plan ≡ plan → slice_get plan at ≡ Some commands → slice_get replies at ≡ Some rs → slice_get commands (length rs) ≡ Some command → unpromised old.tablet.pool ≤ unpromised new.tablet.pool + need_of command
+    → needs_left new.tablet.core.work.plan (slice_set replies at (rs ++ r ∷ [])) ≤ unpromised new.tablet.pool
+room_after {L} {D} {C} old new replies plan at rs r commands command root b its have has is spent =
+    let same = ap (λ (x : Root L D C). needs_left x.work.plan (slice_set replies at (rs ++ r ∷ []))) root ∙ ap (λ p. needs_left p (slice_set replies at (rs ++ r ∷ []))) its in
+    let more = ap (λ p. needs_left p replies) its ∙ needs_more plan replies at rs r commands command have has is in
+    let before = b.room in
+    omega (arith, same, more, before, spent)
+
+pub room_for : {L D C : Type 0} (view : EngineView L D C) (replies : List (List Reply)) (plan : List (List Command)) (at done : ℕ) (rs : List Reply) (commands : List Command) (command : Command) → IsBetween view replies
+    → view.tablet.core.work.plan ≡ plan → slice_get plan at ≡ Some commands → slice_get replies at ≡ Some rs → done ≡ length rs → slice_get commands done ≡ Some command → need_of command ≤ unpromised view.tablet.pool
+room_for view replies plan at done rs commands command b its have has count is =
+    let more = ap (λ p. needs_left p replies) its ∙ needs_more plan replies at rs reply.Done commands command have has (ap (slice_get commands) (sym count) ∙ is) in
+    let before = b.room in
+    omega (arith, more, before)
 
 -- ---- one reply more
 
@@ -102,9 +124,10 @@ content_back old new first e content = content_along new old first (sym e) conte
 
 -- a command that was answered leaves the engine between two commands
 pub between_more : {L D C : Type 0} (old new : EngineView L D C) (replies : List (List Reply)) (at done : ℕ) (rs : List Reply) (r : Reply) → root_of new ≡ root_of old → IsBetween old replies → slice_get replies at ≡ Some rs → done ≡ length rs
-    → IsAnswered old new (at + 1) (done + 1) r → IsBetween new (slice_set replies at (rs ++ r ∷ []))
-between_more old new replies at done rs r root b has count a = record {
+    → IsAnswered old new (at + 1) (done + 1) r → needs_left new.tablet.core.work.plan (slice_set replies at (rs ++ r ∷ [])) ≤ unpromised new.tablet.pool → IsBetween new (slice_set replies at (rs ++ r ∷ []))
+between_more old new replies at done rs r root b has count a room = record {
   rests = a.rests;
+  room = room;
   turns =
       a.turns ∙ set_nth_at old.tablet.core.turns at (record { next = (done + 1) + 1; look = None }) ∙ ap (λ turns. slice_set turns at (record { next = (done + 1) + 1; look = None })) b.turns
       ∙ ap (λ n. slice_set (map turn_after replies) at (record { next = n + 1; look = None })) (ap (λ n. n + 1) count ∙ sym (length-append rs (r ∷ [])))
@@ -139,6 +162,7 @@ between_beside {L} {D} {C} old new replies beside home b =
         home = home;
       };
       turns = ap (λ (v : EngineView L D C). v.tablet.core.turns) beside ∙ b.turns;
+      room = subst (λ (v : EngineView L D C). needs_left v.tablet.core.work.plan replies ≤ unpromised v.tablet.pool) (sym beside) b.room;
       tells = λ first content j k.
           ap (λ (v : EngineView L D C). told_in (core_from v first) v.tablet.core.trail j k) beside ∙ b.tells first (content_back old new first root content) j k;
     }
@@ -258,9 +282,11 @@ given_none plan (suc j) k = none_in plan j
     none_in (commands ∷ plan) zero = no_reply k
     none_in (commands ∷ plan) (suc j) = none_in plan j
 
-pub first_between : {L D C : Type 0} (view : EngineView L D C) (plan : List (List Command)) (replies : List (List Reply)) → Rests view → view.tablet.core.trail ≡ [] → view.tablet.core.turns ≡ first_turns plan → replies ≡ map (λ (commands : List Command). []) plan → IsBetween view replies
-first_between view plan replies rests trail turns none = record {
+pub first_between : {L D C : Type 0} (view : EngineView L D C) (plan : List (List Command)) (replies : List (List Reply)) → Rests view → view.tablet.core.trail ≡ [] → view.tablet.core.turns ≡ first_turns plan → replies ≡ map (λ (commands : List Command). []) plan
+    → view.tablet.core.work.plan ≡ plan → sum_by (λ (commands : List Command). sum_by need_of commands) plan ≤ unpromised view.tablet.pool → IsBetween view replies
+first_between view plan replies rests trail turns none its room = record {
   rests = rests;
+  room = let all = (λ k. needs_left (its k) (none k)) ∙ needs_first plan in omega (arith, all, room);
   turns = turns ∙ first_turns_are plan ∙ ap (map turn_after) (sym none);
   tells = λ first content j k. ap (λ lines. told_in (core_from view first) lines j k) trail ∙ sym (ap (λ rs. given rs j k) none ∙ given_none plan j k);
 }

@@ -21,6 +21,7 @@ use Rattle.kt_histlaws.specs.Pending.{Aloft}
 use Rattle.kt_histlaws.specs.Core.{Core, run_past}
 use Rattle.kt_histlaws.specs.Events.{answered, marked, ended, advance, IsNextOp, IsOver}
 use Rattle.kt_tablet.specs.Visits.{HasBegun, HasMarked, HasEnded, IsDone, HasApplied, MayApply, MayEnd, flight_of}
+use Rattle.kt_tablet.specs.Views.{unpromised}
 use Rattle.kt_engine.specs.Logged.{place_of, IsPlaced}
 use Rattle.kt_engine.specs.Engines.{EngineView, IsContent, core_from}
 use Rattle.kt_app.specs.Turns.{root_of, told_in, AnswersNone, Rests, IsAnswered, Flies}
@@ -77,12 +78,13 @@ one_some x y e = cc
 pub it_is : (aloft : List Aloft) (s i ts : ℕ) (ops : List RowOp) (n : ℕ) (flight : Aloft) → aloft ≡ flown s i ts ops n ∷ [] → flight_of s aloft ≡ Some flight → flight ≡ flown s i ts ops n
 it_is aloft s i ts ops n flight e h = one_some flight (flown s i ts ops n) (sym h ∙ found_in aloft s i ts ops n e)
 
--- So many rows of it are applied, and nothing else has changed but the stores and the pool.
+-- So many rows of it are applied, and nothing else has changed but the stores and the pool, which has promised no cell more.
 pub record Applying {L D C : Type 0} (old new : EngineView L D C) (s : ℕ) (ops : List RowOp) (n : ℕ) : Type 0 where
   pub i : ℕ
   pub ts : ℕ
   pub before : old.tablet.core.aloft ≡ flown s i ts ops 0 ∷ []
   pub here : new.tablet.core.aloft ≡ flown s i ts ops n ∷ []
+  pub room : unpromised old.tablet.pool ≤ unpromised new.tablet.pool
   pub beside : new ≡ record old { tablet = record old.tablet { core = record old.tablet.core { aloft = new.tablet.core.aloft; stores = new.tablet.core.stores }; pool = new.tablet.pool } }
 
 pub applying_may : {L D C : Type 0} (old new : EngineView L D C) (s : ℕ) (ops : List RowOp) (n : ℕ) → Applying old new s ops n → n < length ops → MayApply new.tablet.core s n
@@ -93,9 +95,9 @@ only_next zero ts op w h = refl
 only_next (suc j) ts op w h = absurd h
 
 -- one row more
-pub applying_more : {L D C : Type 0} (old mid new : EngineView L D C) (s : ℕ) (ops : List RowOp) (n : ℕ) (outcome : Outcome) → Applying old mid s ops n → HasApplied mid.tablet.core new.tablet.core s n outcome
+pub applying_more : {L D C : Type 0} (old mid new : EngineView L D C) (s : ℕ) (ops : List RowOp) (n : ℕ) (outcome : Outcome) → Applying old mid s ops n → HasApplied mid.tablet.core new.tablet.core s n outcome → unpromised mid.tablet.pool ≤ unpromised new.tablet.pool
     → new ≡ record mid { tablet = record mid.tablet { core = new.tablet.core; pool = new.tablet.pool } } → Applying old new s ops (n + 1)
-applying_more {L} {D} {C} old mid new s ops n outcome a h beside =
+applying_more {L} {D} {C} old mid new s ops n outcome a h room beside =
     let w = flown s a.i a.ts ops n in
     let next : IsNextOp h.j (w ∷ []) h.flight.ts h.op = subst (λ l. IsNextOp h.j l h.flight.ts h.op) a.here h.next in
     let is : new.tablet.core ≡ record mid.tablet.core { aloft = new.tablet.core.aloft; stores = new.tablet.core.stores } =
@@ -104,6 +106,7 @@ applying_more {L} {D} {C} old mid new s ops n outcome a h beside =
       i = a.i;
       ts = a.ts;
       before = a.before;
+      room = let before = a.room in omega (arith, before, room);
       here = ap (λ (c : Core). c.aloft) h.core ∙ ap (on_nth h.j advance) a.here ∙ only_next h.j h.flight.ts h.op w next;
       beside =
           beside

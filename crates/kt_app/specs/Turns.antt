@@ -1,5 +1,6 @@
 -- Sessions in turns: where an engine stands between two commands, and what the replies so far tell.
-use Rattle.std.specs.Prelude.{◌≡◌, ◌<◌, ◌^◌, ℕ, ◌+◌, Bool, false, true, List, [], ◌∷◌, ◌++◌, length, map, min, nat_lt, slice_get, Option, Some, None, if◌then◌else◌}
+use Rattle.std.specs.Prelude.{◌≡◌, ◌<◌, ◌≤◌, ◌^◌, ℕ, ◌+◌, Bool, false, true, List, [], ◌∷◌, ◌++◌, length, map, min, nat_lt, drop, slice_get, Option, Some, None, if◌then◌else◌}
+use Rattle.std.specs.List.{sum_by}
 use Rattle.kt_records.specs.declared.entry.Entry.{Entry}
 use Rattle.kt_history.specs.declared.command.Command.{Command}
 use Rattle.kt_history.specs.declared.event.Event.{Event}
@@ -15,8 +16,9 @@ use Rattle.kt_schema.specs.declared.column.Column.{Column}
 use Rattle.kt_schema.specs.Columns.{fill_of}
 use Rattle.kt_histlaws.specs.Histories.{Store, or_else}
 use Rattle.kt_histlaws.specs.Core.{Core}
-use Rattle.kt_tablet.specs.Views.{work_of}
+use Rattle.kt_tablet.specs.Views.{work_of, unpromised}
 use Rattle.kt_engine.specs.Engines.{EngineView, IsContent, core_from}
+use Rattle.kt_app.specs.Crash.{need_of}
 
 -- what a run of its commands leaves as it is
 pub record Root (L D C : Type 0) : Type 0 where
@@ -109,15 +111,23 @@ given replies s i = reply_in (nth replies s) i
 abbrev pub turn_after : List Reply → Turn
 turn_after replies = record { next = length replies + 1; look = None }
 
+-- the cells that the commands of all sessions need that have no reply yet
+abbrev pub needs_left : List (List Command) → List (List Reply) → ℕ
+needs_left [] replies = 0
+needs_left (commands ∷ plan) [] = sum_by need_of commands + needs_left plan []
+needs_left (commands ∷ plan) (given ∷ replies) = sum_by need_of (drop (length given) commands) + needs_left plan replies
+
 -- the lines tell these replies and no other
 abbrev pub Tells : {L D C : Type 0} → EngineView L D C → List (List Reply) → Type 0
 Tells view replies = (first : Past) → IsContent view first → (j k : ℕ) → told_in (core_from view first) view.tablet.core.trail j k ≡ given replies j k
 
--- Between two commands each session stands behind its replies, and these are what the lines tell.
+-- Between two commands each session stands behind its replies, these are what the lines tell, and the pool has room for all
+-- commands to come.
 pub record IsBetween {L D C : Type 0} (view : EngineView L D C) (replies : List (List Reply)) : Type 0 where
   pub rests : Rests view
   pub turns : view.tablet.core.turns ≡ map turn_after replies
   pub tells : Tells view replies
+  pub room : needs_left view.tablet.core.work.plan replies ≤ unpromised view.tablet.pool
 
 -- A fault has stopped the run, and these are the replies until then.
 pub record IsHalted {L D C : Type 0} (view : EngineView L D C) (replies : List (List Reply)) : Type 0 where

@@ -1,5 +1,6 @@
 //! A run of a plan on an engine that was opened, to its output text.
 ghost use Rattle.std.specs.Prelude.{◌≡◌, ◌<◌, ◌≤◌, ◌^◌, [], IfSome, IfOk, IsTrue, None, Some, false, true, List, ℕ, length, slice_get};
+ghost use Rattle.std.specs.List.{sum_by};
 ghost use Rattle.kt_base.specs.Causes.{Rose};
 ghost use Rattle.kt_journal.specs.Log.{CanOpen};
 ghost use Rattle.kt_history.specs.declared.command.Command.{Command};
@@ -9,7 +10,8 @@ ghost use Rattle.kt_history.specs.Machine.{first_turns};
 ghost use Rattle.kt_script.specs.Fit.{PlanFits};
 ghost use Rattle.kt_script.specs.Scripts.{workload};
 ghost use Rattle.kt_engine.specs.Engines.{IsContent};
-ghost use Rattle.kt_app.specs.Crash.{Ran};
+ghost use Rattle.kt_tablet.specs.Views.{unpromised};
+ghost use Rattle.kt_app.specs.Crash.{Ran, need_of};
 ghost use Rattle.kt_app.specs.Session.{IsCounted};
 ghost use Rattle.kt_app.specs.Turns.{root_of, IsOn, IsFresh, Rests, HasPlayed};
 
@@ -44,6 +46,7 @@ fn play<L: Disk, D, C: Clock, G: Gate>(
     requires on { IsOn schema.now engine.old.tablet.core.work × (engine.old.tablet.core.work.plan ≡ plan.now) }
     requires fresh { (engine.old.tablet.core.trail ≡ []) × (engine.old.tablet.core.turns ≡ first_turns plan.now) }
     requires rests { Rests engine.old }
+    requires room { sum_by (λ (commands : List Command). sum_by need_of commands) plan.now ≤ unpromised engine.old.tablet.pool }
     ensures root { root_of engine.new ≡ root_of engine.old }
     ensures home { engine.new.log.holder ≡ None }
     ensures played { IfOk result (λ played. HasPlayed engine.new plan.now played.stopped played.replies.items) }
@@ -62,7 +65,7 @@ fn play<L: Disk, D, C: Clock, G: Gate>(
     }
 }
 
-/// Runs a plan on an engine that was opened, and gives its output text, unless memory is wanting, and what the engine is
+/// Runs a plan on an engine that was opened, whose pool has room for it, and gives its output text, unless memory is wanting, and what the engine is
 /// taken apart into.
 pub fn run_plan<L: Disk, D, C: Clock, G: Gate>(
     alloc: Global,
@@ -75,6 +78,7 @@ pub fn run_plan<L: Disk, D, C: Clock, G: Gate>(
     requires fits { PlanFits schema.now plan.now }
     requires fresh { IsFresh engine }
     requires work { IsOn schema.now engine.tablet.core.work }
+    requires room { sum_by (λ (commands : List Command). sum_by need_of commands) plan.now ≤ unpromised engine.tablet.pool }
 
     // What was printed is the output text of a run of the plan from what opening found, in which the clock gave what it gave
     // in this call, and a crash now leaves what the run made of that.

@@ -7,9 +7,12 @@ ghost use Rattle.kt_history.specs.Machine.{nth, set_nth, command_at};
 ghost use Rattle.kt_script.specs.Fit.{WriteFits, CommandFits};
 ghost use Rattle.kt_histlaws.specs.Pending.{Aloft};
 ghost use Rattle.kt_tablet.specs.Reads.{HasDrawn};
+ghost use Rattle.kt_history.specs.Operations.{need};
+ghost use Rattle.kt_tablet.specs.Views.{unpromised};
 ghost use Rattle.kt_tablet.specs.Visits.{MayBegin};
 ghost use Rattle.kt_engine.specs.Logged.{place_of, IsShort};
 ghost use Rattle.kt_engine.specs.Engines.{IsContent, core_from};
+ghost use Rattle.kt_app.specs.Crash.{need_of};
 ghost use Rattle.kt_app.specs.Session.{IsCounted};
 ghost use Rattle.kt_app.specs.Turns.{root_of, IsOn, AnswersNone, Rests, IsNextCommand, IsAnswered, IsStopped, Flies};
 
@@ -28,6 +31,7 @@ fn apply_rows<L: Disk, D, C: Clock>(engine: &mut Engine<L, D, C>, number: u32, o
     requires alone { (i ts : ℕ) × (engine.old.tablet.core.aloft ≡ record { s = number; i = i; ts = ts; ops = ops.now; applied = 0 } ∷ []) }
     requires goes { engine.old.tablet.core.stopped ≡ false }
     requires durable { (place : ℕ) × (place_of number engine.old.places ≡ Some place) × (place ≤ engine.old.log.known.count) }
+    ensures room { unpromised engine.old.tablet.pool ≤ unpromised engine.new.tablet.pool }
     ensures rows { engine.new.tablet.core.aloft ≡ map (λ (w : Aloft). record w { applied = length ops.now }) engine.old.tablet.core.aloft }
     ensures beside { engine.new ≡ record engine.old { tablet = record engine.old.tablet { core = record engine.old.tablet.core { aloft = engine.new.tablet.core.aloft; stores = engine.new.tablet.core.stores }; pool = engine.new.tablet.pool } } }
 {
@@ -48,6 +52,7 @@ fn end_write<L: Disk, D, C: Clock>(
     requires few { index + 1 < 2 ^ 32 }
     requires durable { (engine.old.log.out ≡ []) × (engine.old.log.queued ≡ []) }
     ensures root { root_of engine.new ≡ root_of engine.old }
+    ensures room { unpromised engine.old.tablet.pool ≤ unpromised engine.new.tablet.pool }
     ensures home { engine.new.log.holder ≡ None }
     ensures answered { IsAnswered engine.old engine.new number index result }
 {
@@ -59,7 +64,7 @@ fn end_write<L: Disk, D, C: Clock>(
     }
 }
 
-// The write flies, or it is too large for the pool.
+// The write flies in cells that are promised to it, or it is too large for the pool.
 fn begin_write<L: Disk, D, C: Clock>(
     alloc: Global,
     engine: &mut Engine<L, D, C>,
@@ -69,7 +74,9 @@ fn begin_write<L: Disk, D, C: Clock>(
 ) -> Result<Option<u32>, Halt>
     requires next { IsNextCommand engine.old number index (Command.Write write.now) }
     requires may { MayBegin engine.old.tablet.core number index write.now.ops × IsShort write.now.ops }
+    requires room { need write.now.ops ≤ unpromised engine.old.tablet.pool }
     ensures root { root_of engine.new ≡ root_of engine.old }
+    ensures room { OnOk result (unpromised engine.old.tablet.pool ≤ unpromised engine.new.tablet.pool + need write.now.ops) }
     ensures home { engine.new.log.holder ≡ None }
     ensures flies { result ≡ Ok None → (ts : ℕ) × Flies engine.new number index ts write.now.ops 0 }
     ensures queued { result ≡ Ok None → 0 < length engine.new.log.queued }
@@ -81,9 +88,10 @@ fn begin_write<L: Disk, D, C: Clock>(
     match engine.begin(alloc, number, index, write) {
         Ok(_) => Ok(None),
         Err(BeginNo::Large { need }) => Ok(Some(need)),
-        Err(BeginNo::Room { need: _, free: _ } | BeginNo::Memory) => Err(Halt::Memory),
+        Err(BeginNo::Memory) => Err(Halt::Memory),
         Err(BeginNo::Stopped) => unreachable!(),
         Err(BeginNo::Wait { ts: _ }) => unreachable!(),
+        Err(BeginNo::Room { need: _, free: _ }) => unreachable!(),
     }
 }
 
@@ -98,7 +106,9 @@ fn take_write<L: Disk, D, C: Clock, G: Gate>(
 ) -> Result<Reply, Halt>
     requires next { IsNextCommand engine.old number index (Command.Write write.now) }
     requires may { MayBegin engine.old.tablet.core number index write.now.ops × IsShort write.now.ops }
+    requires room { need write.now.ops ≤ unpromised engine.old.tablet.pool }
     ensures root { root_of engine.new ≡ root_of engine.old }
+    ensures room { OnOk result (unpromised engine.old.tablet.pool ≤ unpromised engine.new.tablet.pool + need write.now.ops) }
     ensures home { engine.new.log.holder ≡ None }
     ensures answered { IfOk result (λ reply. IsAnswered engine.old engine.new number index reply) }
     ensures stopped { result ≡ Err Halt.Stopped → IsStopped engine.old engine.new }
@@ -129,6 +139,7 @@ fn read_rows<L: Disk, D, C: Clock>(
     requires scan { command_at engine.old.tablet.core.work number index ≡ Some (Command.Scan scan.now) }
     requires few { index + 1 < 2 ^ 32 }
     ensures root { root_of engine.new ≡ root_of engine.old }
+    ensures room { OnOk result (unpromised engine.old.tablet.pool ≤ unpromised engine.new.tablet.pool) }
     ensures home { engine.new.log.holder ≡ None }
     ensures answered { IfOk result (λ reply. IsAnswered engine.old engine.new number index reply) }
     ensures goes_on { OnErr result (result ≡ Err Halt.Memory) }
@@ -163,6 +174,7 @@ fn draw_time<L: Disk, D, C: Clock>(
 ) -> Result<(), Halt>
     requires next { IsNextCommand engine.old number index (Command.Scan scan.now) }
     ensures root { root_of engine.new ≡ root_of engine.old }
+    ensures room { OnOk result (unpromised engine.old.tablet.pool ≤ unpromised engine.new.tablet.pool) }
     ensures home { engine.new.log.holder ≡ None }
     ensures rests { OnOk result (Rests engine.new) }
     ensures drawn { OnOk result ((look : Option ℕ) × (engine.new.tablet.core.turns ≡ set_nth engine.old.tablet.core.turns number (record { next = index; look = look })) × HasDrawn scan.now.at look) }
@@ -191,6 +203,7 @@ fn take_scan<L: Disk, D, C: Clock>(
     requires on { IsOn schema.now engine.old.tablet.core.work }
     requires next { IsNextCommand engine.old number index (Command.Scan scan.now) }
     ensures root { root_of engine.new ≡ root_of engine.old }
+    ensures room { OnOk result (unpromised engine.old.tablet.pool ≤ unpromised engine.new.tablet.pool) }
     ensures home { engine.new.log.holder ≡ None }
     ensures answered { IfOk result (λ reply. IsAnswered engine.old engine.new number index reply) }
     ensures goes_on { OnErr result (result ≡ Err Halt.Memory) }
@@ -208,6 +221,7 @@ fn take_mark<L: Disk, D, C: Clock>(
 ) -> Result<Reply, Halt>
     requires next { IsNextCommand engine.old number index (Command.Mark to) }
     ensures root { root_of engine.new ≡ root_of engine.old }
+    ensures room { OnOk result (unpromised engine.old.tablet.pool ≤ unpromised engine.new.tablet.pool) }
     ensures home { engine.new.log.holder ≡ None }
     ensures answered { IfOk result (λ reply. IsAnswered engine.old engine.new number index reply) }
     ensures goes_on { OnErr result (result ≡ Err Halt.Memory) }
@@ -233,7 +247,9 @@ pub fn take_command<L: Disk, D, C: Clock, G: Gate>(
     requires fits { CommandFits schema.now command.now }
     requires on { IsOn schema.now engine.old.tablet.core.work }
     requires next { IsNextCommand engine.old number index command.now }
+    requires room { need_of command.now ≤ unpromised engine.old.tablet.pool }
     ensures root { root_of engine.new ≡ root_of engine.old }
+    ensures room { OnOk result (unpromised engine.old.tablet.pool ≤ unpromised engine.new.tablet.pool + need_of command.now) }
     ensures home { engine.new.log.holder ≡ None }
     ensures answered { IfOk result (λ reply. IsAnswered engine.old engine.new number index reply) }
     ensures stopped { result ≡ Err Halt.Stopped → IsStopped engine.old engine.new }

@@ -13,6 +13,7 @@ ghost use Rattle.kt_script.specs.Scripts.{Said, Fault, script_of};
 ghost use Rattle.kt_boot.specs.Opening.{Found, content, opened};
 ghost use Rattle.kt_app.specs.Headline.{IsNoScript, AreRun};
 ghost use Rattle.kt_app.specs.Crash.{work_of, pool_of, Ran, RunsPlan, RunsScript, IsSaid, IsFaultOf, IsRefused, fault_text, refusal_text, IsRefusal, LeavesAsBefore};
+ghost use Rattle.kt_tablet.specs.Views.{unpromised};
 ghost use Rattle.kt_engine.specs.Engines.{IsContent};
 ghost use Rattle.kt_app.specs.Session.{IsCounted};
 ghost use Rattle.kt_app.specs.Turns.{IsFresh, IsOn};
@@ -185,6 +186,7 @@ fn run_and_write<K: Sink, L: Disk, D, C: Clock, G: Gate>(
     requires fits { PlanFits schema.now plan.now }
     requires fresh { IsFresh engine }
     requires work { IsOn schema.now engine.tablet.core.work × (engine.tablet.core.work.cells ≡ pool_of plan.now) }
+    requires room { pool_of plan.now ≤ unpromised engine.tablet.pool }
     ensures printed { result.0 ≡ 0 → (first : Past) → IsContent engine first
         → (text : List ℕ) × Ran C.readings engine.tablet.clock result.1.clock L.tells L.now L.leaves result.1.log (work_of (record { columns = schema.now; plan = plan.now })) first engine.tablet.core.opened false text × Appends (K.written sink.old) (K.written sink.new) text }
     ensures stopped { result.0 ≡ 4 → (first : Past) → IsContent engine first

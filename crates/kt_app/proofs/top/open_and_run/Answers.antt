@@ -1,4 +1,4 @@
-use Rattle.std.proofs.Common.{[], ap, sym, subst, inr, true, ◌∙◌}
+use Rattle.std.proofs.Common.{[], arith, ap, sym, subst, inr, true, ◌∙◌}
 use Rattle.kt_base.specs.Causes.{Rose}
 use Rattle.kt_history.specs.Machine.{Workload}
 use Rattle.kt_app.specs.Crash.{work_of}
@@ -11,6 +11,14 @@ run_and_write-status-requires-clause-work g c =
       is_on c.args.schema.now _ [] c.in-Ok.cells work,
       ap (λ (w : Workload). w.cells) work ∙ c.in-Ok.ensures,
     )
+
+pub run_and_write-status-requires-clause-room : goal.run_and_write-status-requires-clause-room
+run_and_write-status-requires-clause-room g c =
+    let room = c.in-Ok-open_tablet.ensures.room in
+    let free = room.2 in
+    let none = room.1 in
+    let cells = c.in-Ok.ensures in
+    omega (arith, free, none, cells)
 
 pub returns-in-Err-clause-openable : goal.returns-in-Err-clause-openable
 returns-in-Err-clause-openable g c = let is = c.end_with-in-Err.ensures in rw is.1 c.in-Err.ensures.openable
