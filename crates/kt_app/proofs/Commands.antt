@@ -1,5 +1,5 @@
 -- What each event of a command leaves.
-use Rattle.std.proofs.Common.{◌≡◌, ℕ, zero, suc, ◌+◌, ◌-◌, ◌<◌, ◌≤◌, ◌^◌, List, [], ◌∷◌, ◌++◌, Some, None, true, false, cond, refl, sym, ap, ◌∙◌, subst, length, map, Result, Ok, Err, arith}
+use Rattle.std.proofs.Common.{◌≡◌, ℕ, zero, suc, ◌+◌, ◌-◌, ◌<◌, ◌≤◌, ◌^◌, List, [], ◌∷◌, ◌++◌, Some, None, false, cond, refl, sym, ap, ◌∙◌, subst, length, map, Result, Ok, Err, arith}
 use Rattle.std.specs.Prelude.{IfOk, IsOk, not, ◌==◌}
 use Rattle.std.specs.List.{All, filter}
 use Rattle.std.proofs.Math.Seq.{drop-length}

@@ -1,6 +1,6 @@
 -- Literals worked out.
-use Rattle.std.proofs.Common.{◌≡◌, ℤ, List, [], ◌∷◌, refl}
-use Rattle.std.specs.Prelude.{pos, negsuc, Ok, Err, codes}
+use Rattle.std.proofs.Common.{◌≡◌, [], ◌∷◌, refl}
+use Rattle.std.specs.Prelude.{negsuc, Ok, Err, codes}
 use Rattle.kt_base.specs.declared.cell.Kind.TheVariants as kind
 use Rattle.kt_base.specs.declared.cell.Cell.TheVariants as cell
 use Rattle.kt_base.specs.declared.literal.LiteralNo.TheVariants as no

@@ -1,6 +1,6 @@
 -- A cell's spelling is read as the cell, and what is read is a spelling.
-use Rattle.std.proofs.Common.{◌≡◌, inl, inr, ℕ, suc, ◌^◌, ◌<◌, ◌≤◌, ℤ, List, [], ◌∷◌, ◌++◌, refl, sym, ap, subst, ◌∙◌, arith, length, Bool, true, false, Option, Some, None, Result, Ok, Err}
-use Rattle.std.specs.Prelude.{◌⊎◌, ◌||◌, ◌&&◌, ◌==◌, nat_lt, nat_le, if◌then◌else◌, not, codes}
+use Rattle.std.proofs.Common.{◌≡◌, inl, inr, ℕ, ℤ, List, [], ◌∷◌, refl, sym, ap, subst, ◌∙◌, arith, length, Bool, true, false, Option, Some, None, Ok, Err}
+use Rattle.std.specs.Prelude.{◌&&◌, ◌==◌, nat_lt, nat_le, codes}
 use Rattle.std.specs.Option.{option_map, option_or}
 use Rattle.std.specs.Fmt.{signed_decimal}
 use Rattle.std.proofs.lemmas.Bool.Decides.{nat_tests}
@@ -8,9 +8,8 @@ use Rattle.kt_base.specs.declared.cell.Kind.{Kind}
 use Rattle.kt_base.specs.declared.cell.Kind.TheVariants as kind
 use Rattle.kt_base.specs.declared.cell.Cell.{Cell}
 use Rattle.kt_base.specs.declared.cell.Cell.TheVariants as cell
-use Rattle.kt_base.specs.declared.literal.LiteralNo.{LiteralNo}
 use Rattle.kt_base.specs.declared.literal.LiteralNo.TheVariants as no
-use Rattle.kt_base.specs.Literals.{Value, nothing, truth, number, text, raw, literal, literals_are_read, literals_are_spelled, SpellsCell, CellBytes, same, number_in, string_in, binary_in, value_in, cell_or, cell_under, short_bytes, cell_bytes, number_fits, fits, string_literal, binary_literal, pairs, unquoted, among}
+use Rattle.kt_base.specs.Literals.{Value, nothing, truth, number, text, raw, literals_are_read, literals_are_spelled, SpellsCell, same, number_in, string_in, binary_in, value_in, cell_or, cell_under, short_bytes, cell_bytes, number_fits, fits, string_literal, binary_literal, pairs, unquoted, among}
 use Rattle.kt_base.proofs.Decimals.{same_text}
 use Rattle.kt_base.proofs.Values.{number_again, number_text, fits_mag, mag_signed, both_true}
 use Rattle.kt_base.proofs.Spelled.{chosen, pick, skip, string_again, pairs_again, between, pairs_spelled}

@@ -1,10 +1,9 @@
 -- What is read between quotes is spelled so, and what is spelled so is read.
-use Rattle.std.proofs.Common.{◌≡◌, inl, inr, ℕ, suc, ◌+◌, ◌-◌, ◌*◌, ◌/◌, ◌%◌, ◌<◌, ◌≤◌, List, [], ◌∷◌, ◌++◌, refl, sym, ap, subst, ◌∙◌, arith, length, Bool, true, false, append_assoc, Option, Some, None}
-use Rattle.std.specs.Prelude.{◌⊎◌, ◌||◌, ◌&&◌, ◌==◌, nat_lt, nat_le, if◌then◌else◌, not}
-use Rattle.std.specs.List.{flat_map, AllByRecursion}
-use Rattle.std.specs.Option.{option_map}
+use Rattle.std.proofs.Common.{◌≡◌, inl, inr, ℕ, ◌+◌, ◌-◌, ◌*◌, ◌/◌, ◌%◌, ◌<◌, ◌≤◌, List, [], ◌∷◌, ◌++◌, refl, sym, ap, subst, ◌∙◌, arith, length, Bool, true, false, append_assoc, Option, Some, None}
+use Rattle.std.specs.Prelude.{◌⊎◌, ◌||◌, ◌&&◌, ◌==◌, nat_lt, nat_le, if◌then◌else◌}
+use Rattle.std.specs.List.{flat_map}
 use Rattle.std.proofs.lemmas.Bool.Decides.{nat_tests}
-use Rattle.kt_base.specs.Literals.{hex, hex_digit, hex_value, is_hex, is_digit, is_escaped, string_byte, string_literal, binary_literal, with_byte, unquoted, among, slashed, high, low, pairs, string_in, binary_in, AreBytes, Place}
+use Rattle.kt_base.specs.Literals.{hex, hex_digit, hex_value, is_hex, is_digit, is_escaped, string_byte, with_byte, unquoted, among, slashed, high, low, pairs, AreBytes, Place}
 use Rattle.kt_base.proofs.Values.{both, both_true}
 
 -- what stands in a choice

@@ -1,11 +1,9 @@
 -- Reading between the quotes of a literal.
-use Rattle.std.proofs.Common.{◌≡◌, ℕ, suc, ◌+◌, ◌*◌, ◌/◌, ◌%◌, ◌<◌, List, [], ◌∷◌, ◌++◌, refl, sym, ap, subst, ◌∙◌, arith, length, Bool, true, false, cond, append_assoc, Option, Some, None, take}
-use Rattle.std.specs.Prelude.{◌||◌, ◌&&◌, ◌==◌, nat_lt, nat_le, if◌then◌else◌, not}
-use Rattle.std.specs.List.{flat_map, before_first, prefix_len, AllByRecursion}
+use Rattle.std.proofs.Common.{◌≡◌, ℕ, suc, ◌+◌, ◌<◌, List, [], ◌∷◌, ◌++◌, refl, sym, ap, subst, ◌∙◌, arith, length, Bool, true, false, cond, append_assoc, Option, Some, None, take}
+use Rattle.std.specs.Prelude.{◌||◌, ◌==◌, nat_lt, if◌then◌else◌, not}
+use Rattle.std.specs.List.{before_first, prefix_len, AllByRecursion}
 use Rattle.std.specs.Option.{option_map}
-use Rattle.std.proofs.lemmas.Bool.Decides.{nat_tests}
-use Rattle.std.proofs.lemmas.Bool.{eqb-true}
-use Rattle.kt_base.specs.Literals.{hex, hex_digit, hex_value, is_hex, is_digit, is_escaped, string_byte, string_literal, with_byte, unquoted, among, slashed, high, low, pairs, AreBytes}
+use Rattle.kt_base.specs.Literals.{hex_value, is_hex, is_escaped, with_byte, unquoted, among, high, low}
 
 pub short_high : (xs : List ℕ) → length xs < 2 → unquoted high xs ≡ None
 short_high [] h = refl

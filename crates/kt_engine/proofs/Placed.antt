@@ -1,9 +1,8 @@
 -- The places of flying writes among the records of an engine.
-use Rattle.std.proofs.Common.{◌≡◌, ◌≤◌, ◌<◌, ◌+◌, ◌++◌, ◌∷◌, [], ℕ, suc, zero, List, length, Some, None, sym, subst, arith, Bool, IsTrue}
+use Rattle.std.proofs.Common.{◌≡◌, ◌≤◌, ◌+◌, ◌++◌, ◌∷◌, [], ℕ, suc, zero, List, length, Some, None, subst, arith, Bool, IsTrue}
 use Rattle.std.specs.Prelude.{slice_get}
 use Rattle.std.specs.List.{All}
 use Rattle.kt_disk.specs.Disk.{Files}
-use Rattle.kt_records.specs.declared.entry.Entry.{Entry}
 use Rattle.kt_loglaws.specs.Side.{all_of}
 use Rattle.kt_engine.specs.Logged.{Waits, IsPlaced, IsThere}
 use Rattle.kt_engine.specs.Engines.{EngineView, IsEngine}

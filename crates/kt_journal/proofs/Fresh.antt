@@ -1,7 +1,7 @@
 -- A disk in memory before its first call.
 use Rattle.std.proofs.Common.{◌≡◌, ◌⊎◌, ℕ, ◌≤◌, List, [], length, take, Option, None, Some, Ok, ap, inl, inr, refl, subst, arith}
 use Rattle.std.specs.Prelude.{IsSome, reverse}
-use Rattle.kt_disk.specs.Disk.{Files, bytes_of, held}
+use Rattle.kt_disk.specs.Disk.{Files, bytes_of}
 use Rattle.kt_disk.specs.declared.event.Event.{Event}
 use Rattle.kt_disk.specs.Memory.{MemView, listed, IsLeft, mem_now, mem_seen, mem_leaves}
 use Rattle.kt_journal.specs.Frames.{frames_at}

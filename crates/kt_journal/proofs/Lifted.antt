@@ -1,6 +1,6 @@
 -- What holds of the frames of a log holds of its records.
-use Rattle.std.proofs.Common.{◌≡◌, ◌⊎◌, ℕ, ◌≤◌, List, [], ◌∷◌, ◌++◌, length, map, Bool, IsTrue, Option, Result, Ok, Err, inl, inr, refl, sym, ap, ◌∙◌, subst, arith}
-use Rattle.std.specs.Prelude.{IsSome, IfOk, OnOk}
+use Rattle.std.proofs.Common.{◌≡◌, ℕ, List, [], ◌++◌, map, Bool, IsTrue, Option, Result, Ok, Err, inl, inr, sym, ap, ◌∙◌, subst, arith}
+use Rattle.std.specs.Prelude.{IfOk, OnOk}
 use Rattle.std.specs.Global.{Vec}
 use Rattle.std.proofs.lemmas.List.{map-append}
 use Rattle.kt_disk.specs.Disk.{Files, held, bytes_of, LeavesOnly}
@@ -9,7 +9,7 @@ use Rattle.kt_records.specs.declared.entry.Entry.{Entry}
 use Rattle.kt_records.specs.Spelling.{spelling}
 use Rattle.kt_journal.specs.declared.refusal.AppendNo.{AppendNo}
 use Rattle.kt_journal.specs.declared.refusal.JournalNo.{JournalNo}
-use Rattle.kt_journal.specs.Frames.{sound, frames_in, frames_of, payloads_of, Settled, IsEither, IsFrom}
+use Rattle.kt_journal.specs.Frames.{sound, frames_in, payloads_of, Settled, IsEither, IsFrom}
 use Rattle.kt_journal.specs.Log.{log_in, log_of, records_of, found_in, IsLog, Holds, IsOldOrBoth, IsOf, CanOpen}
 use Rattle.kt_journal.specs.Open.{Stands}
 use Rattle.kt_journal.proofs.Crash.{rest_read}

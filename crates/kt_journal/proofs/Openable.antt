@@ -1,11 +1,11 @@
 -- A log that may be opened stays one.
-use Rattle.std.proofs.Common.{◌≡◌, ◌⊎◌, ℕ, ◌+◌, ◌<◌, ◌≤◌, List, [], ◌∷◌, ◌++◌, length, Option, None, inl, inr, refl, sym, ◌∙◌, ap, subst, arith, length-append}
+use Rattle.std.proofs.Common.{◌≡◌, ◌⊎◌, ℕ, ◌≤◌, List, [], ◌∷◌, length, Option, None, inl, inr, refl, ap, subst, arith, length-append}
 use Rattle.std.specs.Prelude.{IsSome}
 use Rattle.std.specs.List.{flat_map}
 use Rattle.std.proofs.lemmas.Bool.{cases_lt}
-use Rattle.kt_disk.specs.Disk.{Files, bytes_of, held, Torn, On, Same, Turns}
+use Rattle.kt_disk.specs.Disk.{Files, held, Torn, On, Same, Turns}
 use Rattle.kt_disk.proofs.Moments.{same_left}
-use Rattle.kt_journal.specs.Frames.{body, frame, IsShort}
+use Rattle.kt_journal.specs.Frames.{frame, IsShort}
 use Rattle.kt_journal.specs.Log.{CanOpen}
 
 no_frames : (records : List (List ℕ)) → length (flat_map frame records) ≤ 1 → length (flat_map frame records) ≡ 0

@@ -1,9 +1,9 @@
 -- What a log stands for once its bytes are read.
-use Rattle.std.proofs.Common.{◌≡◌, ◌≢◌, ◌⊎◌, ℕ, ◌-◌, ◌+◌, ◌<◌, ◌≤◌, eqb, false, true, List, [], ◌∷◌, ◌++◌, length, take, drop, Bool, Option, None, Some, inl, inr, refl, sym, ◌∙◌, ap, subst, arith, length-append, IsTrue}
+use Rattle.std.proofs.Common.{◌≡◌, ◌≢◌, ◌⊎◌, ℕ, ◌-◌, ◌+◌, ◌≤◌, false, true, List, [], ◌∷◌, ◌++◌, length, drop, Option, None, inl, inr, refl, sym, ◌∙◌, ap, subst, arith}
 use Rattle.std.specs.List.{flat_map}
 use Rattle.std.proofs.lemmas.Bool.{eq-eqb, false≢true}
 use Rattle.std.proofs.lemmas.List.{length-drop, nil_from_length}
-use Rattle.kt_disk.specs.Disk.{Files, bytes_of, held, Same, Turns, LeavesOnly, Stable}
+use Rattle.kt_disk.specs.Disk.{Files, bytes_of, held, Same, Turns, LeavesOnly}
 use Rattle.kt_disk.proofs.Moments.{started, goes_on_same, same_left, joined, weaker}
 use Rattle.kt_journal.specs.Frames.{frame, AllFit, is_open, Frames, sound, frames_in, frames_of, payloads_of, EndsAt, AtRest, Settled, IsShort, IsSteady, IsFrom}
 use Rattle.kt_journal.proofs.Frames.{log_read}

@@ -1,9 +1,9 @@
 -- What a crash leaves after each of the four calls of an append, and what stands after them.
-use Rattle.std.proofs.Common.{◌≡◌, ◌⊎◌, ℕ, ◌+◌, ◌<◌, ◌≤◌, inl, inr, List, [], ◌∷◌, ◌++◌, length, Option, Some, None, refl, sym, ◌∙◌, ap, subst, arith}
+use Rattle.std.proofs.Common.{◌≡◌, ℕ, ◌+◌, ◌≤◌, inl, List, [], ◌∷◌, ◌++◌, length, Option, Some, None, refl, sym, ◌∙◌, ap, subst, arith}
 use Rattle.std.specs.Prelude.{IsSome}
 use Rattle.kt_disk.specs.Disk.{Files, held, bytes_of, put, Torn, On, Same, Turns, LeavesOnly, Stable}
 use Rattle.kt_disk.proofs.Moments.{started, goes_on_same, goes_on_at}
-use Rattle.kt_journal.specs.Frames.{Frames, sound, frames_in, payloads_of, HoldsFrames, AtRest, Settled, IsBatch, IsEither}
+use Rattle.kt_journal.specs.Frames.{Frames, frames_in, payloads_of, HoldsFrames, AtRest, Settled, IsBatch, IsEither}
 use Rattle.kt_journal.proofs.Crash.{rest_read, torn_behind, staged, written_behind, torn_gate, written_gate, length-staged, length-rest}
 
 -- a file with a byte is there

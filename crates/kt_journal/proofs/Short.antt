@@ -1,11 +1,11 @@
 -- A log whose frames are followed by one byte at most.
-use Rattle.std.proofs.Common.{◌≡◌, ◌≢◌, ◌⊎◌, ℕ, ◌-◌, ◌+◌, ◌<◌, ◌≤◌, false, List, [], ◌∷◌, ◌++◌, length, take, drop, Option, Some, refl, sym, ◌∙◌, ap, subst, arith, length-append, append_assoc}
+use Rattle.std.proofs.Common.{◌≡◌, ◌≢◌, ℕ, ◌-◌, ◌+◌, ◌≤◌, false, List, [], ◌∷◌, ◌++◌, length, take, drop, Option, Some, refl, sym, ◌∙◌, ap, arith, length-append}
 use Rattle.std.specs.List.{flat_map}
 use Rattle.std.proofs.lemmas.List.{take_at, drop_all, length-drop, append-nil}
 use Rattle.kt_disk.specs.Disk.{Files, bytes_of, held, put, Torn, On, Same, Turns, LeavesOnly, Stable}
 use Rattle.kt_disk.proofs.Steps.{torn_from}
 use Rattle.kt_disk.proofs.Moments.{started, goes_on, goes_on_same}
-use Rattle.kt_journal.specs.Frames.{frame, AllFit, is_open, sound, frames_in, frames_of, payloads_of, AtRest, Settled, IsShort}
+use Rattle.kt_journal.specs.Frames.{frame, AllFit, is_open, sound, frames_in, frames_of, payloads_of, Settled, IsShort}
 use Rattle.kt_journal.proofs.Frames.{log_read}
 use Rattle.kt_journal.proofs.Publish.{settles}
 

@@ -1,5 +1,5 @@
 -- What stands behind an open gate.
-use Rattle.std.specs.Prelude.{◌≡◌, ◌⊎◌, ℕ, true, List, ◌++◌, length, Option, Some, None}
+use Rattle.std.specs.Prelude.{◌≡◌, ◌⊎◌, ℕ, true, List, ◌++◌, length, Some, None}
 use Rattle.kt_records.specs.declared.entry.Entry.{Entry}
 use Rattle.kt_records.specs.Spelling.{spelling}
 use Rattle.kt_records.specs.Reading.{record_of}

@@ -1,5 +1,5 @@
 -- A session moves from seat to seat, and the others stay.
-use Rattle.std.proofs.Common.{◌≡◌, ◌<◌, ◌≤◌, ◌^◌, ℕ, zero, suc, ◌+◌, List, [], ◌∷◌, length, map, Some, None, Option, refl, sym, true, false, Bool, cond, ap, ◌∙◌, subst, arith, drop, add-one}
+use Rattle.std.proofs.Common.{◌≡◌, ◌<◌, ◌≤◌, ◌^◌, ℕ, zero, suc, ◌+◌, List, [], ◌∷◌, length, map, Some, None, Option, refl, sym, true, false, ap, ◌∙◌, subst, arith, drop, add-one}
 use Rattle.std.specs.Prelude.{◌==◌, slice_get, slice_set, Result, Ok, Err, IfOk}
 use Rattle.kt_history.specs.declared.command.Command.{Command}
 use Rattle.kt_history.specs.declared.command.Command.TheVariants as command
@@ -10,7 +10,7 @@ use Rattle.kt_history.specs.declared.scan.At.TheVariants.{Looked, Given}
 use Rattle.kt_history.specs.declared.scan.Scan.{Scan}
 use Rattle.kt_history.specs.declared.operation.RowOp.{RowOp}
 use Rattle.kt_history.specs.declared.change.Outcome.{Outcome}
-use Rattle.kt_history.specs.Machine.{Turn, Workload, nth, set_nth, command_at, ops_of, first_turns, IfWrite, IfScan, IfMark}
+use Rattle.kt_history.specs.Machine.{Workload, nth, set_nth, command_at, ops_of, first_turns, IfWrite, IfScan, IfMark}
 use Rattle.kt_histlaws.specs.Core.{Core}
 use Rattle.kt_histlaws.specs.Events.{advance, answered, answered_rows, looked, marked}
 use Rattle.kt_histlaws.specs.Pending.{Aloft}

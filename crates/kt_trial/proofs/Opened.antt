@@ -1,5 +1,5 @@
 -- A tablet over a store with no row, at the start of a plan.
-use Rattle.std.proofs.Common.{◌≡◌, ℕ, List, [], ◌∷◌, refl, sym, ap, subst, arith}
+use Rattle.std.proofs.Common.{◌≡◌, ℕ, List, [], ◌∷◌, refl, sym, subst, arith}
 use Rattle.std.specs.Prelude.{false}
 use Rattle.kt_history.specs.declared.command.Command.{Command}
 use Rattle.kt_history.specs.declared.target.Target.TheVariants.{Mem}

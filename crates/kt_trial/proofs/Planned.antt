@@ -1,6 +1,6 @@
 -- Writes that are made one operation after another may be asked for.
-use Rattle.std.proofs.Common.{◌≡◌, ℕ, ℤ, zero, suc, ◌+◌, ◌-◌, ◌*◌, ◌^◌, ◌<◌, ◌≤◌, List, [], ◌∷◌, ◌++◌, Option, Some, None, refl, true, false, Bool, ◌||◌, sym, ap, ◌∙◌, subst, arith, length, map, length-append, append_assoc}
-use Rattle.std.specs.Prelude.{FitsSigned, pos, slice_get}
+use Rattle.std.proofs.Common.{◌≡◌, ℕ, zero, suc, ◌+◌, ◌-◌, ◌*◌, ◌^◌, ◌<◌, ◌≤◌, List, [], ◌∷◌, ◌++◌, Option, Some, None, refl, true, false, Bool, ◌||◌, sym, ap, ◌∙◌, subst, arith, length, length-append, append_assoc}
+use Rattle.std.specs.Prelude.{pos, slice_get}
 use Rattle.std.specs.List.{All, list_any, flat_map}
 use Rattle.std.specs.Ordering.{eq_by_cmp}
 use Rattle.std.proofs.lemmas.Bool.Decides.{nat_tests}
@@ -13,7 +13,7 @@ use Rattle.kt_history.specs.declared.operation.OpKind.{OpKind}
 use Rattle.kt_history.specs.declared.operation.OpKind.TheVariants.{Insert, Upsert, Update, Delete}
 use Rattle.kt_history.specs.declared.operation.RowOp.{RowOp}
 use Rattle.kt_history.specs.Machine.{Workload, HasDifferentKeys, nth, command_of, ops_of}
-use Rattle.kt_history.specs.Operations.{op_len, DifferentKeys}
+use Rattle.kt_history.specs.Operations.{DifferentKeys}
 use Rattle.kt_history.specs.Rows.{Row, key_cmp}
 use Rattle.kt_records.proofs.Lengths.{length-operation}
 use Rattle.kt_records.specs.Rules.{EachAfter, FollowingOp, CellsFit, may_hold, has_key}

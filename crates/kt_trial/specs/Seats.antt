@@ -1,5 +1,5 @@
 -- Where each session sits, and what the engine has of it.
-use Rattle.std.specs.Prelude.{◌≡◌, ◌==◌, ℕ, true, false, List, [], ◌∷◌, map, Option, Some, None}
+use Rattle.std.specs.Prelude.{◌≡◌, ◌==◌, ℕ, false, List, [], ◌∷◌, map, Option, Some, None}
 use Rattle.std.specs.List.{filter}
 use Rattle.kt_history.specs.declared.scan.At.{At}
 use Rattle.kt_history.specs.declared.scan.At.TheVariants.{Looked, Given}

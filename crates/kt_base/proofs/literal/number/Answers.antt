@@ -1,8 +1,6 @@
-use Rattle.std.proofs.Common.{ap, ◌∙◌, sym}
+use Rattle.std.proofs.Common.{◌∙◌, sym}
 use Rattle.std.specs.Int.{w64}
-use Rattle.std.specs.Option.{option_map}
 use Rattle.std.proofs.lemmas.Int.{to_z-of_z}
-use Rattle.kt_base.specs.Literals.{cell_or, number as number_value}
 use Rattle.kt_base.proofs.Values.{no_kind, read_number, read_unfit}
 use Rattle.kt_base.proofs.literal.number.Goals as goal
 

@@ -1,8 +1,5 @@
-use Rattle.std.proofs.Common.{ap, ◌∙◌}
-use Rattle.kt_history.specs.declared.target.Target.TheVariants.{Mem}
 use Rattle.kt_tablet.proofs.Exact.{none_used}
 use Rattle.kt_tablet.proofs.Examples.{found_empty}
-use Rattle.kt_trial.proofs.Opened.{is_new}
 use Rattle.kt_trial.proofs.Planned.{planned}
 use Rattle.kt_trial.proofs.opening.tablet.Goals as goal
 
