@@ -14,7 +14,7 @@ use Rattle.kt_history.specs.declared.command.Command.TheVariants as command
 use Rattle.kt_script.specs.Pieces.{words_of}
 use Rattle.kt_script.specs.Reasons.{reason_if}
 use Rattle.kt_script.specs.Times.{most_time, time_no, time_or_zero}
-use Rattle.kt_script.specs.Scripts.{most_sessions, most_commands, Word, word_of, first_word, command_no, command_of, commands_in, is_begun, session_no, in_session_no, worded_no, worded_plan, body_no, body_plan, push_last, Above, start, head, body, line_no, end_no, after, Fault, fault_if, fault_from, above_end, said}
+use Rattle.kt_script.specs.Scripts.{most_sessions, most_commands, Word, word_of, first_word, command_no, commands_in, is_begun, session_no, in_session_no, worded_no, worded_plan, push_last, Above, head, body, line_no, end_no, after, fault_if, fault_from, above_end, said}
 use Rattle.kt_script.specs.Scripts as word
 use Rattle.kt_script.specs.Fit.{CommandFits, PlanFits}
 use Rattle.kt_script.specs.Print.{op_word, command_text, CommandBytes}

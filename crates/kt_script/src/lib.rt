@@ -13,9 +13,15 @@ pub mod asked;
 pub mod columns;
 pub mod head;
 #[cfg(test)]
+mod head_fault_tests;
+#[cfg(test)]
 mod head_tests;
 pub mod laws;
 pub mod least;
+#[cfg(test)]
+mod limit_tests;
+#[cfg(test)]
+mod line_fault_tests;
 pub mod lists;
 pub mod named;
 pub mod names;

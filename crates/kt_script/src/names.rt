@@ -3,11 +3,10 @@
 ghost use Rattle.std.specs.Prelude.{◌≡◌, ◌∷◌};
 ghost use Rattle.kt_script.specs.Pieces.{cut};
 ghost use Rattle.kt_script.specs.Writes.{IsFound};
-ghost use Rattle.kt_script.specs.Scans.{names_in, name_no};
+ghost use Rattle.kt_script.specs.Scans.{names_in};
 
-use crate::columns::SOUND;
 use crate::split::cut_at;
-use kt_schema::{Column, is_name};
+use kt_schema::Column;
 
 /// The first column of this name.
 pub fn find_column<'a>(columns: &'a [Column], name: &[u8]) -> Option<&'a Column>
@@ -30,18 +29,5 @@ pub fn cut_name(text: &[u8]) -> (&[u8], Option<&[u8]>)
     match cut_at(text, b',') {
         Some((name, behind)) => (name, Some(behind)),
         None => (text, None),
-    }
-}
-
-/// Why a name is not selected: it is none, or no column has it.
-pub fn name_no(columns: &[Column], name: &[u8]) -> u8
-    ensures { result ≡ name_no columns.now name.now }
-{
-    if !is_name(name) {
-        12
-    } else if find_column(columns, name).is_none() {
-        13
-    } else {
-        SOUND
     }
 }

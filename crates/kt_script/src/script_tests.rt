@@ -1,12 +1,13 @@
-//! Whole scripts: lines that are refused, with their number and the least reason that holds in them, and scripts at each
-//! limit and one past it.
-use crate::number::print_number;
+//! Whole scripts that are taken, and what tests of refused texts share.
 use crate::refusal::ScriptNo;
 use crate::script::read_script;
 use kt_base::{Cell, NoMemory, Octets};
 use kt_history::{At, Command, OpKind, Pred, RowOp, Test};
 use std::alloc::Global;
 use std::test::Fail;
+
+/// A text that is refused, the line of its first fault and the least reason that holds there, or zeros.
+pub type Faulty = (&'static [u8], u64, u8);
 
 pub const COLUMNS: &[u8] = b"table\ncolumn id int64 key\ncolumn v string\n";
 
@@ -28,283 +29,18 @@ pub fn fault_below(alloc: Global, head: &[u8], lines: &[u8]) -> Result<(u64, u8)
     Ok(fault(alloc, text.as_slice()))
 }
 
-#[test]
-fn the_first_lines_are_refused(rt: HostRuntime) -> Result<(), Fail> {
-    let alloc = rt.alloc();
-    let texts = [
-        (b"table".as_slice(), 1, 2),
-        (b"table\ncolumn id int64 ke".as_slice(), 2, 2),
-        (
-            b"table\ncolumn id int64 key\ncolumn v string\nsession\nscan now\nscan now".as_slice(),
-            6,
-            2,
-        ),
-        (b"".as_slice(), 1, 3),
-        (b"\n".as_slice(), 1, 3),
-        (b"Table\n".as_slice(), 1, 3),
-        (b"table \n".as_slice(), 1, 3),
-        (b" table\n".as_slice(), 1, 3),
-        (b"column id int64 key\n".as_slice(), 1, 3),
-        (b"table\ncolumn id\n".as_slice(), 2, 4),
-        (b"table\ncolumn 1d int64 key\n".as_slice(), 2, 4),
-        (b"table\ncolumn id int65 key\n".as_slice(), 2, 4),
-        (b"table\ncolumn id int64 key key\n".as_slice(), 2, 4),
-        (b"table\ncolumn id int64 key nullable\n".as_slice(), 2, 4),
-        (b"table\ncolumn id int64 key default 1\n".as_slice(), 2, 4),
-        (
-            b"table\ncolumn id int64 nullable nullable\n".as_slice(),
-            2,
-            4,
-        ),
-        (b"table\ncolumn id int64 default\n".as_slice(), 2, 4),
-        (b"table\ncolumn id int64 default -0\n".as_slice(), 2, 4),
-        (
-            b"table\ncolumn id int64 default 1 nullable\n".as_slice(),
-            2,
-            4,
-        ),
-        (b"table\ncolumn id int64 \n".as_slice(), 2, 4),
-        (
-            b"table\ncolumn aaaaaaaaaaaaaaaaaaaaaaaaaaaaaaaaaaaaaaaaaaaaaaaaaaaaaaaaaaaaaaaaa int64 key\n".as_slice(),
-            2,
-            4,
-        ),
-        (
-            b"table\ncolumn id int64 key\ncolumn v string\ncolumn v int8 key default 1\n".as_slice(),
-            4,
-            4,
-        ),
-    ];
-    for (text, number, reason) in texts {
-        assert_eq!(rt; fault(alloc, text), (number, reason));
+/// The place of the first text of a table that, below other lines, is told otherwise than its row says.
+pub fn told_otherwise(
+    alloc: Global,
+    head: &[u8],
+    rows: &[Faulty],
+) -> Result<Option<usize>, NoMemory> {
+    for (at, (text, number, reason)) in rows.iter().enumerate() {
+        if fault_below(alloc, head, text)? != (*number, *reason) {
+            return Ok(Some(at));
+        }
     }
-    Ok(())
-}
-
-#[test]
-fn tables_and_later_lines_are_refused(rt: HostRuntime) -> Result<(), Fail> {
-    let alloc = rt.alloc();
-    let texts = [
-        (b"table\n".as_slice(), 2, 5),
-        (b"table\nsession\n".as_slice(), 2, 5),
-        (b"table\nscan now\n".as_slice(), 2, 5),
-        (b"table\ncolumn v string\n".as_slice(), 3, 5),
-        (b"table\ncolumn v string\nsession\n".as_slice(), 3, 5),
-        (b"table\ncolumns\n".as_slice(), 2, 5),
-        (
-            b"table\ncolumn v string\ncolumn id int64 key\n".as_slice(),
-            3,
-            6,
-        ),
-        (
-            b"table\ncolumn v int8 nullable default 1\ncolumn id int8 key\n".as_slice(),
-            3,
-            6,
-        ),
-        (b"table\ncolumn b bool key\n".as_slice(), 2, 7),
-        (
-            b"table\ncolumn a int8 key\ncolumn b bool key\n".as_slice(),
-            3,
-            7,
-        ),
-        (
-            b"table\ncolumn a int8 key\ncolumn a bool key\n".as_slice(),
-            3,
-            7,
-        ),
-        (b"table\ncolumn _ bool key\n".as_slice(), 2, 7),
-        (
-            b"table\ncolumn a string key\ncolumn b string key\ncolumn c bool key\n".as_slice(),
-            4,
-            7,
-        ),
-        (
-            b"table\ncolumn a int8 key\ncolumn a int8 key\n".as_slice(),
-            3,
-            8,
-        ),
-        (
-            b"table\ncolumn id int64 key\ncolumn v string\ncolumn w int8\ncolumn w int8\n".as_slice(),
-            5,
-            8,
-        ),
-        (
-            b"table\ncolumn id int64 key\ncolumn v string\nsession\nscan now\nscan now\nload\n".as_slice(),
-            7,
-            11,
-        ),
-        (
-            b"table\ncolumn host string key\ncolumn tick int64 key\ncolumn cpu int32 nullable\ncolumn up bool default true\nsession\ninsert \"a\" 1 2147483648 true\n".as_slice(),
-            7,
-            14,
-        ),
-        (
-            b"table\ncolumn id int64 key\ncolumn v string\nsession\ninsert 1 \"a\"\ninsert 1 2\ninsert 1\n".as_slice(),
-            6,
-            14,
-        ),
-        (
-            b"table\ncolumn host string key\ncolumn tick int64 key\ncolumn cpu int32 nullable\ncolumn up bool default true\nsession\nupsert \"a\" 1 up=null\n".as_slice(),
-            7,
-            15,
-        ),
-        (
-            b"table\ncolumn host string key\ncolumn tick int64 key\ncolumn cpu int32 nullable\ncolumn up bool default true\nsession\ndelete \"a\" 1 ; delete \"b\" 1 ; delete \"a\" 1\n".as_slice(),
-            7,
-            19,
-        ),
-        (
-            b"table\ncolumn id int64 key\ncolumn v string\nsession\ndelete 1\nscan now\nsession\ninsert\n".as_slice(),
-            8,
-            12,
-        ),
-    ];
-    for (text, number, reason) in texts {
-        assert_eq!(rt; fault(alloc, text), (number, reason));
-    }
-    Ok(())
-}
-
-#[test]
-fn lines_below_the_columns_are_refused(rt: HostRuntime) -> Result<(), Fail> {
-    let alloc = rt.alloc();
-    let lines = [
-        (b"x".as_slice(), 2),
-        (b"column k int8 key\n".as_slice(), 6),
-        (b"column k bool key\n".as_slice(), 6),
-        (b"column v int8 key\n".as_slice(), 6),
-        (b"column v string\n".as_slice(), 8),
-        (b"column id int8\n".as_slice(), 8),
-        (b"column v int8 default 128\n".as_slice(), 8),
-        (b"column w int8 default null\n".as_slice(), 10),
-        (b"column w int8 nullable default null\n".as_slice(), 10),
-        (b"column w int8 default 128\n".as_slice(), 10),
-        (b"column w int8 default \"a\"\n".as_slice(), 10),
-        (b"column w bool default 1\n".as_slice(), 10),
-        (b"column w string default x\"00\"\n".as_slice(), 10),
-        (b"column w binary default \"a\"\n".as_slice(), 10),
-        (b"insert 1 \"a\"\n".as_slice(), 11),
-        (b"\n".as_slice(), 11),
-        (b"load\n".as_slice(), 11),
-        (b"scan soon\n".as_slice(), 11),
-    ];
-    for (line, reason) in lines {
-        assert_eq!(rt; fault_below(alloc, COLUMNS, line)?, (4, reason));
-    }
-    Ok(())
-}
-
-#[test]
-fn lines_of_no_command_are_refused(rt: HostRuntime) -> Result<(), Fail> {
-    let alloc = rt.alloc();
-    let lines = [
-        (b"scan now".as_slice(), 2),
-        (b"insert 1 \"a".as_slice(), 2),
-        (b"flush\n".as_slice(), 11),
-        (b"compact\n".as_slice(), 11),
-        (b"column w int8\n".as_slice(), 11),
-        (b"table\n".as_slice(), 11),
-        (b" scan now\n".as_slice(), 11),
-        (b"Insert 1 \"a\"\n".as_slice(), 11),
-        (b"load\ninsert 1".as_slice(), 11),
-        (b"insert\n".as_slice(), 12),
-        (b"insert 1\n".as_slice(), 12),
-        (b"insert 1 \"a\" \"b\"\n".as_slice(), 12),
-        (b"insert 1  \"a\"\n".as_slice(), 12),
-        (b"insert 01 \"a\"\n".as_slice(), 12),
-        (b"insert 1 a\n".as_slice(), 12),
-        (b"insert 1 \"a\n".as_slice(), 12),
-        (b"insert 1 \"a\" ;\n".as_slice(), 12),
-        (b"insert 1 \"a\" ; ; delete 1\n".as_slice(), 12),
-        (b"insert 1 \"a\" ; scan now\n".as_slice(), 12),
-        (b"update 1\n".as_slice(), 12),
-        (b"update 1 v\n".as_slice(), 12),
-        (b"update 1 v<\"a\"\n".as_slice(), 12),
-        (b"update 1 v=\"a\" \n".as_slice(), 12),
-        (b"delete\n".as_slice(), 12),
-        (b"delete 1 2\n".as_slice(), 12),
-        (b"session 1\n".as_slice(), 12),
-        (b"scan\n".as_slice(), 12),
-        (b"scan now select v,\n".as_slice(), 12),
-        (b"scan now where\n".as_slice(), 12),
-        (b"scan now where v=\"a\" or v=\"b\"\n".as_slice(), 12),
-        (b"scan now where v is nothing\n".as_slice(), 12),
-        (b"scan now where v==\"a\"\n".as_slice(), 12),
-        (b"scan now where v=\"a\" select v\n".as_slice(), 12),
-        (b"scan now where v<=null\n".as_slice(), 12),
-        (b"insert 1 2 3\n".as_slice(), 12),
-        (b"insert \"a\" null 3\n".as_slice(), 12),
-        (b"insert 1 \"a\\x41\"\n".as_slice(), 12),
-        (b"insert -0 \"a\"\n".as_slice(), 12),
-        (b"insert +1 \"a\"\n".as_slice(), 12),
-        (b"insert 1 \"\x01\"\n".as_slice(), 12),
-        (b"scan now select w where v\n".as_slice(), 12),
-        (b"scan now where v=\"a\" and\n".as_slice(), 12),
-        (b"scan now where v=null\n".as_slice(), 12),
-        (b"scan now where v=\"a\" v=\"b\"\n".as_slice(), 12),
-        (b"scan now where w=1a\n".as_slice(), 12),
-        (b"scan now select \n".as_slice(), 12),
-        (b"scan now where v is not\n".as_slice(), 12),
-        (b"scan  now\n".as_slice(), 12),
-        (b"scan now \n".as_slice(), 12),
-        (b"scan now select v,,id\n".as_slice(), 12),
-    ];
-    for (line, reason) in lines {
-        assert_eq!(rt; fault_below(alloc, SESSION, line)?, (5, reason));
-    }
-    Ok(())
-}
-
-#[test]
-fn commands_are_refused(rt: HostRuntime) -> Result<(), Fail> {
-    let alloc = rt.alloc();
-    let lines = [
-        (b"update 1 w=\"a\"\n".as_slice(), 13),
-        (b"update 1 id=2\n".as_slice(), 13),
-        (b"upsert 1 v=\"a\" v=\"b\"\n".as_slice(), 13),
-        (b"upsert 1 v=1 v=2\n".as_slice(), 13),
-        (b"scan now select w\n".as_slice(), 13),
-        (b"scan now select v,id,v\n".as_slice(), 13),
-        (b"scan now where w is null\n".as_slice(), 13),
-        (b"scan now where V=\"a\"\n".as_slice(), 13),
-        (b"delete \"x\" ; update 1 w=1\n".as_slice(), 13),
-        (b"update 1 w=1 ; delete 1 ; delete 1\n".as_slice(), 13),
-        (b"upsert 1 v=null v=2\n".as_slice(), 13),
-        (b"scan now select v where w=1\n".as_slice(), 13),
-        (b"scan now select w where v=1\n".as_slice(), 13),
-        (
-            b"scan now where id=1 and id=2 and w is null and id=\"a\"\n".as_slice(),
-            13,
-        ),
-        (b"insert 1 2\n".as_slice(), 14),
-        (b"insert \"a\" \"b\"\n".as_slice(), 14),
-        (b"insert 9223372036854775808 \"a\"\n".as_slice(), 14),
-        (b"delete true\n".as_slice(), 14),
-        (b"update 1 v=x\"61\"\n".as_slice(), 14),
-        (b"scan now where id>\"a\"\n".as_slice(), 14),
-        (b"scan now where id>99999999999999999999\n".as_slice(), 14),
-        (b"insert null 2\n".as_slice(), 14),
-        (b"delete 1 ; delete 1 ; insert 2 3\n".as_slice(), 14),
-        (b"scan now select v where v=1\n".as_slice(), 14),
-        (b"insert null \"a\"\n".as_slice(), 15),
-        (b"insert 1 null\n".as_slice(), 15),
-        (b"delete null\n".as_slice(), 15),
-        (b"upsert 1 v=null\n".as_slice(), 15),
-        (b"upsert 1\n".as_slice(), 15),
-        (b"delete 1 ; delete 1 ; insert 2 null\n".as_slice(), 15),
-        (b"insert null \"a\"\ninsert 1\n".as_slice(), 15),
-        (b"delete 1 ; delete 1\n".as_slice(), 19),
-        (b"insert 1 \"a\" ; delete 1\n".as_slice(), 19),
-        (
-            b"insert 1 \"a\" ; insert 2 \"b\" ; insert 1 \"c\"\n".as_slice(),
-            19,
-        ),
-        (b"delete -1 ; delete 1 ; delete -1\n".as_slice(), 19),
-    ];
-    for (line, reason) in lines {
-        assert_eq!(rt; fault_below(alloc, SESSION, line)?, (5, reason));
-    }
-    Ok(())
+    Ok(None)
 }
 
 /// So many copies of a text.
@@ -315,20 +51,48 @@ pub fn push_copies(text: &mut Octets, copy: &[u8], count: usize) -> Result<(), N
     Ok(())
 }
 
+const SCRIPTS: &[Faulty] = &[
+    (b"table\ncolumn id int64 key\n", 0, 0),
+    (
+        b"table\ncolumn id int64 key\ncolumn v string\nsession\n",
+        0,
+        0,
+    ),
+    (
+        b"table\ncolumn and int64 key\ncolumn where string nullable\nsession\nscan now select where where and is null and and is not null and where=\"x\"\nupsert 1 where=null\n",
+        0,
+        0,
+    ),
+    (
+        b"table\ncolumn host string key\ncolumn tick int64 key\ncolumn cpu int32 nullable\ncolumn up bool default true\nsession\ninsert \"db1\" 100 57 true ; insert \"db2\" 100 null false\nupsert \"db1\" 100 cpu=58 ; upsert \"web\" 90 cpu=1\nscan now select host,cpu where cpu>0\n",
+        0,
+        0,
+    ),
+    (
+        b"table\ncolumn s string key\ncolumn n int8 key\nsession\ninsert \"a\\x00\" -128 ; insert \"a\" 127\nscan now\n",
+        0,
+        0,
+    ),
+    (
+        b"table\ncolumn id int64 key\ncolumn v string\nsession\nscan now where id<3 and id>=1 and v<\"\\\"\" and v is null\n",
+        0,
+        0,
+    ),
+    (
+        b"table\ncolumn id int64 key\nsession\nmark 4611686018427387904\nscan at 4611686018427387904\n",
+        0,
+        0,
+    ),
+    (
+        b"table\ncolumn id int8 key\ncolumn nnnnnnnnnnnnnnnnnnnnnnnnnnnnnnnnnnnnnnnnnnnnnnnnnnnnnnnnnnnnnnnn int8\nsession\nupdate 1 nnnnnnnnnnnnnnnnnnnnnnnnnnnnnnnnnnnnnnnnnnnnnnnnnnnnnnnnnnnnnnnn=2\nscan now select nnnnnnnnnnnnnnnnnnnnnnnnnnnnnnnnnnnnnnnnnnnnnnnnnnnnnnnnnnnnnnnn\n",
+        0,
+        0,
+    ),
+];
+
 #[test]
 fn scripts_are_read(rt: HostRuntime) -> Result<(), Fail> {
-    let alloc = rt.alloc();
-    let texts = [
-        b"table\ncolumn id int64 key\n".as_slice(),
-        b"table\ncolumn id int64 key\ncolumn v string\nsession\n".as_slice(),
-        b"table\ncolumn and int64 key\ncolumn where string nullable\nsession\nscan now select where where and is null and and is not null and where=\"x\"\nupsert 1 where=null\n".as_slice(),
-        b"table\ncolumn host string key\ncolumn tick int64 key\ncolumn cpu int32 nullable\ncolumn up bool default true\nsession\ninsert \"db1\" 100 57 true ; insert \"db2\" 100 null false\nupsert \"db1\" 100 cpu=58 ; upsert \"web\" 90 cpu=1\nscan now select host,cpu where cpu>0\n".as_slice(),
-        b"table\ncolumn s string key\ncolumn n int8 key\nsession\ninsert \"a\\x00\" -128 ; insert \"a\" 127\nscan now\n".as_slice(),
-        b"table\ncolumn id int64 key\ncolumn v string\nsession\nscan now where id<3 and id>=1 and v<\"\\\"\" and v is null\n".as_slice(),
-    ];
-    for text in texts {
-        assert_eq!(rt; fault(alloc, text), (0, 0));
-    }
+    assert_eq!(rt; told_otherwise(rt.alloc(), b"", SCRIPTS)?, None);
     Ok(())
 }
 
@@ -388,112 +152,5 @@ fn a_script_says_its_table_and_commands(rt: HostRuntime) -> Result<(), Fail> {
         .iter()
         .all(|session| are_commands(session.as_slice()));
     assert!(rt; said);
-    Ok(())
-}
-
-// A table of so many columns, and a session.
-fn wide(alloc: Global, count: u16) -> Result<Octets, NoMemory> {
-    let mut text = Octets::from_slice(alloc, b"table\ncolumn id int64 key\n")?;
-    for n in 1..count {
-        text.extend(b"column c")?;
-        print_number(u64::from(n), &mut text)?;
-        text.extend(b" int8 nullable\n")?;
-    }
-    text.extend(b"session\n")?;
-    Ok(text)
-}
-
-#[test]
-fn three_hundred_columns_are_taken(rt: HostRuntime) -> Result<(), Fail> {
-    let alloc = rt.alloc();
-    assert_eq!(rt; fault(alloc, wide(alloc, 300)?.as_slice()), (0, 0));
-    assert_eq!(rt; fault(alloc, wide(alloc, 301)?.as_slice()), (302, 9));
-    assert_eq!(rt; fault(alloc, wide(alloc, 302)?.as_slice()), (302, 9));
-    Ok(())
-}
-
-// The insert of a value of so many bytes.
-fn long_value(alloc: Global, len: usize) -> Result<(u64, u8), NoMemory> {
-    let mut line = Octets::from_slice(alloc, b"insert 1 \"")?;
-    push_copies(&mut line, b"v", len)?;
-    line.extend(b"\"\n")?;
-    fault_below(alloc, SESSION, line.as_slice())
-}
-
-// The delete of a key of so many bytes.
-fn long_key(alloc: Global, len: usize) -> Result<(u64, u8), NoMemory> {
-    let mut line = Octets::from_slice(alloc, b"delete \"")?;
-    push_copies(&mut line, b"k", len)?;
-    line.extend(b"\"\n")?;
-    fault_below(
-        alloc,
-        b"table\ncolumn s string key\nsession\n",
-        line.as_slice(),
-    )
-}
-
-#[test]
-fn long_cells_and_keys_are_refused(rt: HostRuntime) -> Result<(), Fail> {
-    let alloc = rt.alloc();
-    assert_eq!(rt; long_value(alloc, 65_536)?, (0, 0));
-    assert_eq!(rt; long_value(alloc, 65_537)?, (5, 16));
-    assert_eq!(rt; long_value(alloc, 100_000)?, (5, 16));
-    assert_eq!(rt; long_key(alloc, 16_384)?, (0, 0));
-    assert_eq!(rt; long_key(alloc, 16_385)?, (4, 17));
-    assert_eq!(rt; long_key(alloc, 65_536)?, (4, 17));
-    assert_eq!(rt; long_key(alloc, 65_537)?, (4, 16));
-    Ok(())
-}
-
-// A write of so many operations, each on its own key.
-fn many_ops(alloc: Global, count: u64) -> Result<(u64, u8), NoMemory> {
-    let mut line = Octets::from_slice(alloc, b"delete 0")?;
-    for n in 1..count {
-        line.extend(b" ; delete ")?;
-        print_number(n, &mut line)?;
-    }
-    line.extend(b"\n")?;
-    fault_below(alloc, SESSION, line.as_slice())
-}
-
-#[test]
-fn sixty_four_operations_are_taken(rt: HostRuntime) -> Result<(), Fail> {
-    let alloc = rt.alloc();
-    assert_eq!(rt; many_ops(alloc, 64)?, (0, 0));
-    assert_eq!(rt; many_ops(alloc, 65)?, (5, 18));
-    assert_eq!(rt; many_ops(alloc, 1_000)?, (5, 18));
-    Ok(())
-}
-
-#[test]
-fn so_many_commands_are_taken(rt: HostRuntime) -> Result<(), Fail> {
-    let alloc = rt.alloc();
-    let mut text = Octets::from_slice(alloc, SESSION)?;
-    push_copies(&mut text, b"scan now\n", 262_144)?;
-    assert_eq!(rt; fault(alloc, text.as_slice()), (0, 0));
-    assert_eq!(rt;
-        fault_below(alloc, text.as_slice(), b"scan soon\n")?,
-        (262_149, 12)
-    );
-    text.extend(b"delete 1\n")?;
-    assert_eq!(rt; fault(alloc, text.as_slice()), (262_149, 20));
-    Ok(())
-}
-
-#[test]
-fn so_many_bytes_are_taken(rt: HostRuntime) -> Result<(), Fail> {
-    let alloc = rt.alloc();
-    let mut line = Octets::from_slice(alloc, b"insert 1 \"")?;
-    push_copies(&mut line, b"v", 65_514)?;
-    line.extend(b"\"\n")?;
-    let mut text = Octets::from_slice(alloc, SESSION)?;
-    push_copies(&mut text, line.as_slice(), 1_024)?;
-    text.extend(b"insert 1 \"")?;
-    push_copies(&mut text, b"v", 10_178)?;
-    text.extend(b"\"\n")?;
-    assert_eq!(rt; text.len(), 67_108_864);
-    assert_eq!(rt; fault(alloc, text.as_slice()), (0, 0));
-    text.extend(b"\n")?;
-    assert_eq!(rt; fault(alloc, text.as_slice()), (0, 1));
     Ok(())
 }
