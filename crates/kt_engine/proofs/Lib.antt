@@ -14,3 +14,4 @@ pub mod Raised
 pub mod Crashes
 pub mod Examples
 pub mod Placed
+pub mod Visiting

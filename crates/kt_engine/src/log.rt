@@ -6,6 +6,7 @@ ghost use Rattle.kt_journal.specs.Log.{records_of, Holds, IsOldOrBoth, CanOpen};
 ghost use Rattle.kt_histlaws.specs.Events.{halted};
 ghost use Rattle.kt_engine.specs.Logged.{place_of};
 ghost use Rattle.kt_engine.specs.Engines.{IsLent};
+ghost use Rattle.kt_engine.specs.Visits.{IsVisit};
 
 use crate::engine::Engine;
 use kt_base::Clock;
@@ -90,6 +91,7 @@ impl<L: Disk, D, C: Clock> Engine<L, D, C> {
 
     /// Lends the log and all that is queued to a pass.
     pub fn log_out(&mut self, alloc: Global, number: u32) -> Result<Batch<L>, LogNo>
+        ensures visit { IsVisit number self.old self.new }
         ensures lent { IfOk result (λ batch. (self.old.log.home ≡ Some batch.journal) × (batch.records ≡ self.old.log.queued)
             × (self.new ≡ record self.old { log = record self.old.log { home = None; holder = Some number; out = self.old.log.queued; queued = [] } })) }
         ensures known { IfOk result (λ batch. (batch.journal ≡ self.old.log.known) × (self.old.log.out ≡ [])) }
@@ -116,7 +118,8 @@ impl<L: Disk, D, C: Clock> Engine<L, D, C> {
         requires durable { IsTrue L.tells → Holds L.now L.leaves batch.journal.disk (records_of (L.seen batch.journal.disk)) }
         requires opens { IsTrue L.tells → CanOpen L.now L.leaves batch.journal.disk }
         requires faults { L.faults self.old.log.known.disk ≤ L.faults batch.journal.disk }
-        ensures { self.new ≡ record self.old { log = record self.old.log { home = Some batch.journal; known = batch.journal; holder = None; out = [] } } }
+        ensures visit { IsVisit number self.old self.new }
+        ensures home { self.new ≡ record self.old { log = record self.old.log { home = Some batch.journal; known = batch.journal; holder = None; out = [] } } }
     {
         self.log.log_home(number, batch);
     }
@@ -127,7 +130,8 @@ impl<L: Disk, D, C: Clock> Engine<L, D, C> {
         requires journal { batch.journal ≡ self.old.log.known }
         requires records { batch.records ≡ self.old.log.out }
         requires opens { IsTrue L.tells → CanOpen L.now L.leaves batch.journal.disk }
-        ensures { self.new ≡ record self.old { log = record self.old.log { home = Some batch.journal; holder = None; out = []; queued = self.old.log.out ++ self.old.log.queued } } }
+        ensures visit { IsVisit number self.old self.new }
+        ensures home { self.new ≡ record self.old { log = record self.old.log { home = Some batch.journal; holder = None; out = []; queued = self.old.log.out ++ self.old.log.queued } } }
     {
         self.log.log_back(number, batch);
     }
@@ -140,6 +144,7 @@ impl<L: Disk, D, C: Clock> Engine<L, D, C> {
         requires rose { (batch : _) → device ≡ Broken.Log batch → Rose (L.faults self.old.log.known.disk) (L.faults batch.journal.disk) }
         requires images { (batch : _) → device ≡ Broken.Log batch → IsTrue L.tells → (image : Files) → L.leaves batch.journal.disk (L.now batch.journal.disk) image → IsOldOrBoth (records_of (L.seen self.old.log.known.disk)) self.old.log.out (image 1) }
         requires opens { (batch : _) → device ≡ Broken.Log batch → IsTrue L.tells → CanOpen L.now L.leaves batch.journal.disk }
+        ensures visit { IsVisit number self.old self.new }
         ensures core { self.new.tablet ≡ record self.old.tablet { core = halted self.old.tablet.core } }
         ensures home { (batch : _) → device ≡ Broken.Log batch → self.new ≡ record self.old { tablet = self.new.tablet; log = record self.old.log { home = Some batch.journal; holder = None; whole = false } } }
     {

@@ -6,6 +6,7 @@ ghost use Rattle.kt_histlaws.specs.Events.{answered};
 ghost use Rattle.kt_tablet.specs.Visits.{MayLook, HasLooked, MayMark, HasMarked, MayAnswerChore};
 ghost use Rattle.kt_tablet.specs.Reads.{MaySnapshot, HasRead, ShowsRun, IsNoRead, LeavesRead};
 ghost use Rattle.kt_engine.specs.Engines.{IsContent, core_from};
+ghost use Rattle.kt_engine.specs.Visits.{IsVisit};
 
 use crate::engine::Engine;
 use kt_base::Clock;
@@ -18,6 +19,7 @@ impl<L: Disk, D, C: Clock> Engine<L, D, C> {
     /// Draws the time of a scan of the present.
     pub fn look(&mut self, number: u32, index: u32) -> Result<u64, LookNo>
         requires { self.old.tablet.core.stopped ≡ false → MayLook self.old.tablet.core number index }
+        ensures visit { IsVisit number self.old self.new }
         ensures looked { IfOk result (λ t. HasLooked self.old.tablet.core self.new.tablet.core number index t) }
         ensures beside { self.new ≡ record self.old { tablet = record self.old.tablet { core = self.new.tablet.core; clock = self.new.tablet.clock } } }
         ensures same { OnErr result (self.new ≡ self.old) }
@@ -36,6 +38,7 @@ impl<L: Disk, D, C: Clock> Engine<L, D, C> {
         at: At,
     ) -> Result<Snap, SnapNo>
         requires { self.old.tablet.core.stopped ≡ false → MaySnapshot self.old.tablet.core number index at }
+        ensures visit { IsVisit number self.old self.new }
         ensures read { IfOk result (λ snap. HasRead self.old.tablet.core self.new.tablet.core number index at snap.t) }
         ensures mark { IfOk result (λ snap. snap.mark ≡ self.old.tablet.core.a) }
         ensures shows { IfOk result (λ snap. (first : Past) → IsContent self.old first → ShowsRun (core_from self.old first) snap) }
@@ -50,6 +53,7 @@ impl<L: Disk, D, C: Clock> Engine<L, D, C> {
     /// Raises the ancient history mark towards a time, and no further than no write flies.
     pub fn mark(&mut self, number: u32, index: u32, to: u64) -> Result<u64, LookNo>
         requires { self.old.tablet.core.stopped ≡ false → MayMark self.old.tablet.core number index to }
+        ensures visit { IsVisit number self.old self.new }
         ensures marked { IfOk result (λ a. HasMarked self.old.tablet.core self.new.tablet.core number index to a) }
         ensures beside { self.new ≡ record self.old { tablet = record self.old.tablet { core = self.new.tablet.core } } }
         ensures same { OnErr result (self.new ≡ self.old) }
@@ -62,6 +66,7 @@ impl<L: Disk, D, C: Clock> Engine<L, D, C> {
     /// Answers a maintenance command.
     pub fn chore_done(&mut self, number: u32, index: u32) -> Result<(), LookNo>
         requires { self.old.tablet.core.stopped ≡ false → MayAnswerChore self.old.tablet.core number index }
+        ensures visit { IsVisit number self.old self.new }
         ensures answered { OnOk result (self.new ≡ record self.old { tablet = record self.old.tablet { core = answered self.old.tablet.core number index (Chore number index) } }) }
         ensures same { OnErr result (self.new ≡ self.old) }
         ensures stopped { self.old.tablet.core.stopped ≡ true → result ≡ Err LookNo.Stopped }

@@ -10,6 +10,7 @@ ghost use Rattle.kt_tablet.specs.Views.{unpromised};
 ghost use Rattle.kt_tablet.specs.Visits.{MayBegin, HasBegun, IsUnhindered, IsRefused, Leaves, MayApply, HasApplied, IsRunOutcome, MayEnd, HasEnded, IsDone};
 ghost use Rattle.kt_engine.specs.Logged.{IsShort, place_of};
 ghost use Rattle.kt_engine.specs.Engines.{IsContent, core_from};
+ghost use Rattle.kt_engine.specs.Visits.{IsVisit};
 
 use crate::engine::Engine;
 use kt_base::{Clock, NoMemory};
@@ -77,6 +78,7 @@ impl<L: Disk, D, C: Clock> Engine<L, D, C> {
         write: &Write,
     ) -> Result<u64, BeginNo>
         requires { self.old.tablet.core.stopped ≡ false → MayBegin self.old.tablet.core number index write.now.ops × IsShort write.now.ops }
+        ensures visit { IsVisit number self.old self.new }
         ensures begun { IfOk result (λ ts. HasBegun self.old.tablet.core self.new.tablet.core number index write.now.ops ts) }
         ensures free { OnOk result (IsUnhindered self.old.tablet write.now.ops) }
         ensures promised { OnOk result (self.new.tablet.pool ≡ with_reserved self.old.tablet.pool (self.old.tablet.pool.reserved + need write.now.ops)) }
@@ -112,6 +114,7 @@ impl<L: Disk, D, C: Clock> Engine<L, D, C> {
     pub fn apply_row(&mut self, number: u32, at: usize) -> Result<Outcome, Stopped>
         requires next { self.old.tablet.core.stopped ≡ false → MayApply self.old.tablet.core number at }
         requires durable { self.old.tablet.core.stopped ≡ false → (place : ℕ) × (place_of number self.old.places ≡ Some place) × (place ≤ self.old.log.known.count) }
+        ensures visit { IsVisit number self.old self.new }
         ensures applied { IfOk result (λ outcome. HasApplied self.old.tablet.core self.new.tablet.core number at outcome) }
         ensures run { IfOk result (λ outcome. (first : Past) → IsContent self.old first → IsRunOutcome (core_from self.old first) number at outcome) }
         ensures room { unpromised self.old.tablet.pool ≤ unpromised self.new.tablet.pool }
@@ -127,6 +130,7 @@ impl<L: Disk, D, C: Clock> Engine<L, D, C> {
     /// each row, in order, and the store that a row that is done changed. It takes no memory.
     pub fn end(&mut self, number: u32) -> Result<WriteDone, Stopped>
         requires { self.old.tablet.core.stopped ≡ false → MayEnd self.old.tablet.core number }
+        ensures visit { IsVisit number self.old self.new }
         ensures ended { IfOk result (λ done. (index : ℕ) × HasEnded self.old.tablet.core self.new.tablet.core number index done.ts) }
         ensures told { IfOk result (λ done. (first : Past) → IsContent self.old first → (rows : List CommitRow) × IsDone (core_from self.old first) self.old.tablet.target number done.outcomes rows) }
         ensures queued { IfOk result (λ done. self.new.log ≡ record self.old.log { queued = self.old.log.queued ++ Entry.Commit done.ts (map (commit_row self.old.tablet.target) done.outcomes) ∷ []; room = self.new.log.room }) }

@@ -7,6 +7,7 @@ use Rattle.kt_history.specs.declared.operation.RowOp.{RowOp}
 use Rattle.kt_history.specs.Operations.{need}
 use Rattle.kt_history.specs.Rows.{Row}
 use Rattle.kt_histlaws.specs.Histories.{on_nth}
+use Rattle.kt_histlaws.specs.Parts.{IsOfAnother}
 use Rattle.kt_histlaws.specs.Pending.{Aloft}
 use Rattle.kt_histlaws.specs.Core.{flown_by}
 use Rattle.kt_histlaws.specs.Events.{IsNextOp, advance}
@@ -179,3 +180,9 @@ place_found s m flights any found = some_place m _ (found ∙ found_place s flig
 
 pub place_there : (s : ℕ) (flights : List FlyingWrite) → list_any (λ f. f.who == s) flights ≡ true → None ≡ position (λ f. f.who == s) flights → ⊥
 place_there s flights any none = none_place _ (none ∙ found_place s flights any)
+
+-- it is none of another session
+pub of_another : (s : ℕ) (flights : List FlyingWrite) (j : ℕ) → IsPlaceOf s flights j → (k : ℕ) → (k ≡ s → ⊥) → IsOfAnother j (map aloft_of flights) k
+of_another s [] j h k ne = tt
+of_another s (w ∷ flights) zero h k ne = λ e. ne (sym e ∙ same_who w.who s h)
+of_another s (w ∷ flights) (suc j) h k ne = of_another s flights j h.1 k ne

@@ -14,6 +14,7 @@ use Rattle.kt_pool.specs.Contents.{Contents}
 use Rattle.kt_records.specs.declared.entry.CommitRow.{CommitRow}
 use Rattle.kt_histlaws.specs.Histories.{Store, hists, hist_in, row_of, on_nth, Alone}
 use Rattle.kt_histlaws.specs.Flights.{Under, AllUnder}
+use Rattle.kt_histlaws.specs.Parts.{IsOfAnother}
 use Rattle.kt_histlaws.specs.Pending.{Aloft}
 use Rattle.kt_histlaws.specs.Core.{Core, Stands, live}
 use Rattle.kt_histlaws.specs.Events.{IsNextOp, IsOver, advance, applied, pushed_if}
@@ -26,7 +27,7 @@ use Rattle.std.specs.List.{list_any, position_or_len}
 use Rattle.kt_tablet.specs.Rows.{IsNoted, AreNoted, commit_row}
 use Rattle.kt_tablet.specs.Views.{View, IsSound, IsReady, IsProvided, AreTold, Opens, aloft_of, flier_of}
 use Rattle.kt_tablet.specs.Visits.{MayApply, HasApplied, IsRunOutcome, IsDone, flight_of}
-use Rattle.kt_tablet.proofs.Flights.{IsPlaceOf, placed_at, flying_one, owed_of, owed_at, flight_at, flight_on, next_at, within, owed_set, provided_set, provided_at, fliers_set, length_set, apart_set}
+use Rattle.kt_tablet.proofs.Flights.{IsPlaceOf, of_another, placed_at, flying_one, owed_of, owed_at, flight_at, flight_on, next_at, within, owed_set, provided_set, provided_at, fliers_set, length_set, apart_set}
 use Rattle.kt_tablet.proofs.Applying.{need_at, cells_at}
 use Rattle.kt_tablet.proofs.Visits.{same_flight}
 
@@ -138,6 +139,7 @@ has_applied view old s at j flights w op outcome aloft stores e flown a flies ke
   row = a.row;
   core = new_applied view.core j w.ts op aloft stores flies kept;
   now = ap (flight_of s) (flies ∙ ap (on_nth j advance) flown) ∙ flight_on s flights j w a.place a.here;
+  own = λ k ne. subst (λ fs. IsOfAnother j fs k) (sym flown) (of_another s flights j a.place k ne);
 })
 
 -- its outcome is the run's

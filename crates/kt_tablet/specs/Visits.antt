@@ -1,5 +1,5 @@
 -- When an event may come, and what it did.
-use Rattle.std.specs.Prelude.{◌-◌, ◌≡◌, ◌<◌, ◌≤◌, ℕ, ◌^◌, ◌+◌, ◌==◌, true, false, List, [], length, map, slice_get, Option, Some, None}
+use Rattle.std.specs.Prelude.{◌-◌, ◌≡◌, ◌≢◌, ◌<◌, ◌≤◌, ℕ, ◌^◌, ◌+◌, ◌==◌, true, false, List, [], length, map, slice_get, Option, Some, None}
 use Rattle.std.specs.List.{list_any, filter, find}
 use Rattle.kt_history.specs.declared.operation.RowOp.{RowOp}
 use Rattle.kt_history.specs.declared.change.Outcome.{Outcome}
@@ -11,6 +11,7 @@ use Rattle.kt_records.specs.Rules.{may_hold, EachAfter, FollowingOp}
 use Rattle.kt_tablet.specs.declared.tablet.write.BeginNo.{BeginNo}
 use Rattle.kt_tablet.specs.declared.tablet.write.BeginNo.TheVariants as no
 use Rattle.kt_tablet.specs.Rows.{commit_row}
+use Rattle.kt_histlaws.specs.Parts.{IsOfAnother}
 use Rattle.kt_histlaws.specs.Pending.{Aloft}
 use Rattle.kt_tablet.specs.Views.{View, unpromised}
 use Rattle.kt_history.specs.declared.scan.At.TheVariants.{Looked}
@@ -73,6 +74,7 @@ pub record HasApplied (old new : Core) (s at : ℕ) (outcome : Outcome) : Type 0
   pub row : slice_get flight.ops at ≡ Some op
   pub core : new ≡ applied old j 0 flight.ts op
   pub now : flight_of s new.aloft ≡ Some (advance flight)
+  pub own : (k : ℕ) → k ≢ s → IsOfAnother j old.aloft k
 
 -- the outcome is the run's: what the operation does to the rows just before the write
 pub record IsRunOutcome (core : Core) (s at : ℕ) (outcome : Outcome) : Type 0 where

@@ -1,5 +1,6 @@
-use Rattle.std.proofs.Common.{◌≡◌, ◌<◌, ◌≤◌, ◌+◌, ◌^◌, length, sym, ◌∙◌, subst, rules, false, List, ℕ}
+use Rattle.std.proofs.Common.{◌≡◌, ◌<◌, ◌≤◌, ◌+◌, ◌^◌, length, sym, ap, ◌∙◌, ◌++◌, ◌∷◌, [], subst, rules, false, List, ℕ}
 use Rattle.kt_engine.proofs.Begun.{roomed, left_alone, has_begun}
+use Rattle.kt_engine.proofs.Visiting.{visit_of, begun_visit}
 use Rattle.kt_engine.proofs.engine.Engine.begin.Goals as goal
 
 pub invariant_of-self : goal.invariant_of-self
@@ -20,3 +21,10 @@ invariant_of-self-2 g c =
     has_begun _ _ _ _ _ _
     c.begin.new.self c.push-place.new.self c.push_reserved.new.self.items c.args.number c.args.index c.in_ok-ts.ts c.push-place.result c.args.write.now.ops c.in-Ok-copy_of.ops c.in-Ok.logged c.in-Ok-copy_of.ensures c.in-Ok.ensures
     c.begin.ensures.beside c.in_ok-ts.ensures.begun c.push-place.ensures.queued c.push_reserved.ensures.items may.0 may.1 fits room c.push-place.ensures.place before
+
+pub returns-clause-visit : goal.returns-clause-visit
+returns-clause-visit g c = visit_of _ _ _ _ c.self.view_is
+    (begun_visit c.args.number c.args.index c.in_ok-ts.ts c.push-place.result _ _ c.begin.new.self c.push-place.new.self c.push_reserved.new.self.items c.in_ok-ts.ensures.begun
+    (ap (λ l. l.holder) c.push-place.ensures.queued ∙ ap (λ l. l.holder) c.make_room.ensures.log)
+    (ap (λ l. l.out) c.push-place.ensures.queued ∙ ap (λ l. l.out) c.make_room.ensures.log)
+    (c.push_reserved.ensures.items ∙ ap (λ ps. ps ++ (c.args.number, c.push-place.result) ∷ []) c.make_room.ensures.places.0))

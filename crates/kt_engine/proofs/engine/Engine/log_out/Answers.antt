@@ -7,6 +7,7 @@ use Rattle.kt_engine.specs.declared.log.LogNo.{LogNo}
 use Rattle.kt_engine.specs.declared.log.LogNo.TheVariants as no
 use Rattle.kt_engine.specs.Engines.{no_of}
 use Rattle.kt_engine.proofs.Devices.{lends}
+use Rattle.kt_engine.proofs.Visiting.{visit_of, not_lent, out_visit}
 use Rattle.kt_engine.proofs.engine.Engine.log_out.Goals as goal
 
 by_of : (why : SideNo) (by : ℕ) → no_of why ≡ no.Out by → why ≡ side.Out by
@@ -37,3 +38,9 @@ pub returns-clause-out : goal.returns-clause-out
 returns-clause-out g c =
     let old = sym c.self.view_is in
     λ by. (λ h. absurd (cc), λ h. let k = rw old at h in let back = (c.in_ok-log_out.ensures.out by).1 k.1 in absurd (cc))
+
+pub returns-clause-visit : goal.returns-clause-visit
+returns-clause-visit g c = visit_of _ _ _ _ c.self.view_is
+    (out_visit c.args.number _ c.log_out.new.self
+    (not_lent c.self.inside.log.holder (λ by h. let back = (c.in_ok-log_out.ensures.out by).1 h in cc))
+    (ap (λ l. l.holder) c.in_ok-log_out.ensures.lent.2))

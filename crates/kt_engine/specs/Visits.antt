@@ -1,0 +1,42 @@
+-- A visit of a pass to an engine: what the lock asks of the value that is put back.
+use Rattle.std.specs.Prelude.{◌==◌, ℕ, List, Option, Some, None, if◌then◌else◌}
+use Rattle.kt_history.specs.declared.event.Event.{Event}
+use Rattle.kt_history.specs.declared.event.Event.TheVariants as event
+use Rattle.kt_records.specs.declared.entry.Entry.{Entry}
+use Rattle.kt_seatlock.specs.Trails.{Adds, KeepsParts}
+use Rattle.kt_histlaws.specs.Parts.{SessionPart, part}
+use Rattle.kt_engine.specs.Logged.{place_of}
+use Rattle.kt_engine.specs.Engines.{EngineView}
+
+-- the session of a line, if it has one
+abbrev pub session_of : Event → Option ℕ
+session_of (event.Begin s i ts m) = Some s
+session_of (event.End s i ts) = Some s
+session_of (event.Look s i t m) = Some s
+session_of (event.Rows s i t) = Some s
+session_of (event.Ancient s i t a) = Some s
+session_of (event.Busy s i t f) = Some s
+session_of (event.Mark s i a) = Some s
+session_of (event.Chore s i) = Some s
+session_of (event.Large s i n) = Some s
+session_of event.Stop = None
+
+-- the records that a pass has out, if it has the log
+abbrev pub out_of : Option ℕ → List Entry → ℕ → Option (List Entry)
+out_of None out n = None
+out_of (Some by) out n = if by == n then Some out else None
+
+-- What an engine has of one pass: its flying write and where its session stands, the place of that write's REPLICATE, and the records
+-- that it has out.
+pub record PassPart : Type 0 where
+  pub session : SessionPart
+  pub place : Option ℕ
+  pub out : Option (List Entry)
+
+abbrev pub part_of : {L D C : Type 0} → EngineView L D C → ℕ → PassPart
+part_of view n = record { session = part view.tablet.core n; place = place_of n view.places; out = out_of view.log.holder view.log.out n }
+
+-- It adds one line at most, of its own session or of none, and changes no other pass's part.
+pub record IsVisit {L D C : Type 0} (n : ℕ) (old new : EngineView L D C) : Type 0 where
+  pub line : Adds session_of n old.tablet.core.trail new.tablet.core.trail
+  pub parts : KeepsParts part_of n old new
