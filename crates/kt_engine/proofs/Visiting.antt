@@ -26,7 +26,7 @@ use Rattle.kt_tablet.specs.declared.tablet.LookNo.{LookNo}
 use Rattle.kt_tablet.specs.declared.tablet.Stopped.{Stopped}
 use Rattle.kt_engine.specs.Logged.{place_of}
 use Rattle.kt_engine.specs.Engines.{EngineView}
-use Rattle.kt_engine.specs.Visits.{session_of, out_of, part_of, IsVisit}
+use Rattle.kt_engine.specs.Visits.{session_of, out_of, IsVisit}
 
 -- one line more, of the session or of none
 own_line : (n : ℕ) (before after : List Event) (e : Event) → after ≡ before ++ e ∷ [] → session_of e ≡ Some n → Adds session_of n before after
