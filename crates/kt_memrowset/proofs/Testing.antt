@@ -8,6 +8,9 @@ use Rattle.kt_history.specs.declared.change.Change.{Change}
 use Rattle.kt_history.specs.Rows.{key_cmp}
 use Rattle.kt_histlaws.specs.Histories.{Steps, Store, Hist, push, hist_in, never, row_of}
 use Rattle.kt_histlaws.specs.Flights.{UpTo, Under}
+use Rattle.kt_pool.specs.Contents.{Contents}
+use Rattle.kt_memrowset.specs.declared.store.MemRowSet.{MemRowSet}
+use Rattle.kt_memrowset.specs.Stores.{IsStore, store_of, is_frozen}
 
 up_to : (ts : ℕ) (steps : Steps) → Under ts steps → UpTo ts steps
 up_to ts [] u = _
@@ -44,3 +47,9 @@ same_under ts s t e under = let P : Store → Type 0 = λ x. (q : List ℕ) → 
 
 pub none_under : (ts : ℕ) (s : Store) → s ≡ [] → (q : List ℕ) → Under ts (hist_in q s).steps
 none_under ts s e = same_under ts [] s e (λ q. _)
+
+-- a store between two of the changes of a test: it stands, has no change above a time, and takes inserts
+pub record IsWritten (s : MemRowSet) (pool : Contents) (last : ℕ) : Type 0 where
+  pub store : IsStore s pool
+  pub later : (u : ℕ) → last < u → (q : List ℕ) → Under u (hist_in q (store_of s pool)).steps
+  pub thawed : is_frozen s ≡ false

@@ -1,8 +1,7 @@
 //! The changes of one row, in a chain.
-ghost use Rattle.std.specs.Prelude.{◌≡◌, [], ◌∷◌, ℕ, List, ◌++◌, None, length, IfOk, OnOk};
-ghost use Rattle.std.specs.Prelude.{if◌then◌else◌, ◌==◌};
+ghost use Rattle.std.specs.Prelude.{◌≡◌, [], ◌∷◌, List, ◌++◌, None, length, IfOk, OnOk};
+ghost use Rattle.std.specs.Prelude.{◌==◌};
 ghost use Rattle.kt_histlaws.specs.Histories.{after_steps};
-ghost use Rattle.kt_history.specs.Rows.{Row};
 ghost use Rattle.kt_memrowset.specs.Links.{Link, IsLink, IsChainAt, link_at, chain, newest, change_of, steps_of};
 ghost use Rattle.kt_memrowset.specs.Stores.{RowStands, stays, trail_at, IsTrailAt, Releases, row_changes};
 ghost use Rattle.kt_pool.specs.Contents.{Stands, bytes_at};

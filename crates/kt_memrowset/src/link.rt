@@ -1,6 +1,6 @@
 //! Changes in places of the pool.
-ghost use Rattle.std.specs.Prelude.{◌≡◌, ◌≤◌, ℕ, length};
-ghost use Rattle.kt_pool.specs.Contents.{Contents, bytes_at};
+ghost use Rattle.std.specs.Prelude.{◌≡◌, ◌≤◌, length};
+ghost use Rattle.kt_pool.specs.Contents.{bytes_at};
 ghost use Rattle.kt_memrowset.specs.Links.{kind_of, head_of};
 
 use byteorder::{ByteOrder, LittleEndian};

@@ -1,4 +1,4 @@
-ghost use Rattle.std.specs.Prelude.{◌≡◌, ◌≤◌, ◌<◌, ◌+◌, ℕ, List, Option, length, is_some, IfOk, OnOk, true, false};
+ghost use Rattle.std.specs.Prelude.{◌≡◌, [], ◌≤◌, ◌<◌, ◌+◌, ℕ, List, Option, length, is_some, IfOk, OnOk, true, false};
 ghost use Rattle.kt_history.specs.Rows.{Row, fits};
 ghost use Rattle.kt_history.specs.declared.operation.RowOp.{RowOp as RowOpSpec};
 ghost use Rattle.kt_histlaws.specs.Histories.{hist_in};
@@ -92,6 +92,32 @@ fn write(
     Ok(())
 }
 
+/// One change of a test: its time, what it does, and the key and the text of its row.
+type Step<'a> = (u64, Kindly, &'a [u8], &'a [u8]);
+
+/// Makes changes whose times rise.
+fn write_all(
+    rt: &impl Abort,
+    alloc: Global,
+    store: &mut MemRowSet,
+    pool: &mut Pool,
+    steps: &[Step],
+) -> Result<(), NoMemory>
+    requires store { IsStore store.old pool.old }
+    requires empty { store_of store.old pool.old ≡ [] }
+    requires thawed { is_frozen store.old ≡ false }
+    ensures store { OnOk result (IsStore store.new pool.new) }
+{
+    let mut last = 0;
+    for &(ts, change, key, text) in steps {
+        assert!(rt; last < ts);
+        assert!(rt; key.len() + text.len() <= 600);
+        write(rt, alloc, store, pool, ts, change, key, text)?;
+        last = ts;
+    }
+    Ok(())
+}
+
 /// Whether the row has this text in its one column.
 fn is_text(row: Option<Cells>, text: &[u8]) -> bool {
     match row {
@@ -138,36 +164,12 @@ fn inserted_deleted_and_inserted_again(rt: HostRuntime) -> Result<(), Fail> {
     let mut pool = Pool::new(alloc, 100)?;
     pool.reserve(40)?;
     let mut store = MemRowSet::new(7);
-    write(
-        &rt,
-        alloc,
-        &mut store,
-        &mut pool,
-        4096,
-        Kindly::Ins,
-        b"k",
-        b"a",
-    )?;
-    write(
-        &rt,
-        alloc,
-        &mut store,
-        &mut pool,
-        8192,
-        Kindly::Del,
-        b"k",
-        b"",
-    )?;
-    write(
-        &rt,
-        alloc,
-        &mut store,
-        &mut pool,
-        12288,
-        Kindly::Ins,
-        b"k",
-        b"b",
-    )?;
+    let steps: [Step; 3] = [
+        (4096, Kindly::Ins, b"k", b"a"),
+        (8192, Kindly::Del, b"k", b""),
+        (12288, Kindly::Ins, b"k", b"b"),
+    ];
+    write_all(&rt, alloc, &mut store, &mut pool, &steps)?;
     assert_eq!(rt; store.rows(), 1);
     is_read(&rt, alloc, &store, &pool)?;
     store.empty_into(&mut pool);
@@ -219,56 +221,14 @@ fn rows_out_of_order_are_read_by_rising_key(rt: HostRuntime) -> Result<(), Fail>
     let mut pool = Pool::new(alloc, 100)?;
     pool.reserve(100)?;
     let mut store = MemRowSet::new(7);
-    write(
-        &rt,
-        alloc,
-        &mut store,
-        &mut pool,
-        4096,
-        Kindly::Ins,
-        b"m",
-        b"1",
-    )?;
-    write(
-        &rt,
-        alloc,
-        &mut store,
-        &mut pool,
-        8192,
-        Kindly::Ins,
-        b"a",
-        b"2",
-    )?;
-    write(
-        &rt,
-        alloc,
-        &mut store,
-        &mut pool,
-        12288,
-        Kindly::Ins,
-        b"zz",
-        b"3",
-    )?;
-    write(
-        &rt,
-        alloc,
-        &mut store,
-        &mut pool,
-        16384,
-        Kindly::Ins,
-        b"z",
-        b"4",
-    )?;
-    write(
-        &rt,
-        alloc,
-        &mut store,
-        &mut pool,
-        20480,
-        Kindly::Del,
-        b"m",
-        b"",
-    )?;
+    let steps: [Step; 5] = [
+        (4096, Kindly::Ins, b"m", b"1"),
+        (8192, Kindly::Ins, b"a", b"2"),
+        (12288, Kindly::Ins, b"zz", b"3"),
+        (16384, Kindly::Ins, b"z", b"4"),
+        (20480, Kindly::Del, b"m", b""),
+    ];
+    write_all(&rt, alloc, &mut store, &mut pool, &steps)?;
     are_keys(&rt, alloc, &store, &pool)?;
     are_changes(&rt, alloc, &store, &pool)?;
     Ok(())
@@ -280,36 +240,12 @@ fn long_rows_lie_in_many_cells(rt: HostRuntime) -> Result<(), Fail> {
     let mut pool = Pool::new(alloc, 100)?;
     pool.reserve(100)?;
     let mut store = MemRowSet::new(7);
-    write(
-        &rt,
-        alloc,
-        &mut store,
-        &mut pool,
-        4096,
-        Kindly::Ins,
-        &[7; 130],
-        &[1; 400],
-    )?;
-    write(
-        &rt,
-        alloc,
-        &mut store,
-        &mut pool,
-        8192,
-        Kindly::Ins,
-        &[7; 129],
-        &[3; 57],
-    )?;
-    write(
-        &rt,
-        alloc,
-        &mut store,
-        &mut pool,
-        12288,
-        Kindly::Upd,
-        &[7; 130],
-        &[2; 300],
-    )?;
+    let steps: [Step; 3] = [
+        (4096, Kindly::Ins, &[7; 130], &[1; 400]),
+        (8192, Kindly::Ins, &[7; 129], &[3; 57]),
+        (12288, Kindly::Upd, &[7; 130], &[2; 300]),
+    ];
+    write_all(&rt, alloc, &mut store, &mut pool, &steps)?;
     assert!(rt; is_text(store.at(alloc, &pool, &[7; 130], 8192)?, &[1; 400]));
     assert!(rt; is_text(store.at(alloc, &pool, &[7; 130], 12288)?, &[2; 300]));
     assert!(rt; is_text(store.at(alloc, &pool, &[7; 129], 12288)?, &[3; 57]));

@@ -1,6 +1,6 @@
 //! Changes written into places of the pool.
 ghost use Rattle.std.specs.Prelude.{◌≡◌, ◌≢◌, ◌+◌, ◌^◌, ◌≤◌, ◌<◌, ◌++◌, ◌∷◌, ℕ, List, [], length, Some, None};
-ghost use Rattle.std.specs.List.{flat_map, sum_by};
+ghost use Rattle.std.specs.List.{flat_map};
 ghost use Rattle.std.specs.Int.{w16, to_le_bytes};
 ghost use Rattle.byteorder.specs.Endian.{little_bytes};
 ghost use Rattle.kt_base.specs.declared.cell.Cell.{Cell as CellSpec};
@@ -9,7 +9,7 @@ ghost use Rattle.kt_records.specs.Spelling.{listed_cell};
 ghost use Rattle.kt_records.specs.Rules.{CellFits};
 ghost use Rattle.kt_pool.specs.Contents.{Stands, at_cell, bytes_at, with_place, overwritten};
 ghost use Rattle.kt_tree.specs.Takes.{Takes};
-ghost use Rattle.kt_memrowset.specs.Links.{nothing, kind_byte as number_of_kind, spelling, CellsFit, HeadFits, Link, IsLink, IsChainAt, link_at, chain, newest};
+ghost use Rattle.kt_memrowset.specs.Links.{kind_byte as number_of_kind, spelling, CellsFit, HeadFits, IsLink, IsChainAt, link_at, chain};
 ghost use Rattle.kt_memrowset.specs.Stores.{link_len, link_need, RowStands};
 ghost use Rattle.kt_memrowset.specs.Writes.{Keeps, Puts, IsFresh, Extends};
 

@@ -1,16 +1,7 @@
-use Rattle.std.proofs.Common.{lit<}
-use Rattle.kt_memrowset.specs.Stores.{store_of}
-use Rattle.kt_memrowset.proofs.Testing.{none_under}
 use Rattle.kt_memrowset.proofs.tests.inserted_deleted_and_inserted_again.Goals as goal
 
-pub write-requires-clause-store : goal.write-requires-clause-store
-write-requires-clause-store g c = c.new-store.ensures.store c.reserve.new.self
+pub write_all-requires-clause-store : goal.write_all-requires-clause-store
+write_all-requires-clause-store g c = c.new-store.ensures.store c.reserve.new.self
 
-pub write-requires-clause-later : goal.write-requires-clause-later
-write-requires-clause-later g c = none_under 4096 (store_of c.new-store.result c.reserve.new.self) (c.new-store.ensures.empty c.reserve.new.self)
-
-pub write-requires-2-clause-later : goal.write-requires-2-clause-later
-write-requires-2-clause-later g c = c.in_ok-write.ensures.later 8192 (lit< tt)
-
-pub write-requires-3-clause-later : goal.write-requires-3-clause-later
-write-requires-3-clause-later g c = c.in_ok-write-2.ensures.later 12288 (lit< tt)
+pub write_all-requires-clause-empty : goal.write_all-requires-clause-empty
+write_all-requires-clause-empty g c = c.new-store.ensures.empty c.reserve.new.self
