@@ -1,9 +1,9 @@
 -- What a crash leaves of the run.
 use Rattle.std.proofs.Common.{◌≡◌, ℕ, ◌-◌, ◌<◌, ◌≤◌, zero, suc, max, List, [], ◌∷◌, ◌++◌, length, Ok, refl, sym, true, false, Bool, ◌&&◌, ap, ◌∙◌, arith, subst, get_or, inl, inr, append_assoc}
-use Rattle.std.specs.Prelude.{IsTrue, nat_le}
+use Rattle.std.specs.Prelude.{IsTrue, nat_le, take, drop}
 use Rattle.std.specs.List.{filter}
 use Rattle.std.proofs.lemmas.Bool.{cases_lt}
-use Rattle.std.proofs.lemmas.List.{append-nil, append_cancel_left}
+use Rattle.std.proofs.lemmas.List.{append-nil, append_cancel_left, take-append-drop}
 use Rattle.std.proofs.Math.Seq.{take-append_seam}
 use Rattle.std.proofs.lemmas.List.Elements.{filter-append}
 use Rattle.kt_disk.specs.Disk.{Files}
@@ -27,7 +27,7 @@ use Rattle.kt_loglaws.proofs.Fronts.{goes_on, fronts_hold}
 use Rattle.kt_histlaws.specs.Core.{Core, run_past, Stands}
 use Rattle.kt_tablet.specs.Views.{Opens}
 use Rattle.kt_engine.specs.Logged.{Recalls, KeepsRun, AcknowledgedIn, AcknowledgedBy, HoldsFront, HoldsRun}
-use Rattle.kt_engine.specs.Engines.{EngineView, IsContent, IsEngine, Recovers, RecoversAll, core_from}
+use Rattle.kt_engine.specs.Engines.{EngineView, IsContent, IsEngine, Recovers, RecoversEach, RecoversAll, core_from}
 use Rattle.kt_engine.proofs.Devices.{acknowledged_longer}
 use Rattle.kt_engine.proofs.Raised.{only_first, records_raised, told_raised, told_up, upto_less, upto_more, upto_raised, not_le}
 
@@ -176,24 +176,31 @@ engine_front tells seen now leaves faults view first durable rest image sound co
     front_holds (core_from view first) view.records durable rest view.places image
     (subst (λ (r : List Entry). KeepsRun (core_from view first) view.records view.places r) run (is.logged.keeps first content)) content.recalls content.opens.ends (sound first content.opens).run.is_run acknowledged reads
 
+-- An image with what is durable and some records more has the run's writes up to a time, each acknowledged one among them.
+pub recovers_each : {L D C : Type 0} (tells : Bool) (seen : L → Files) (now : L → ℕ) (leaves : L → ℕ → Files → Type 0) (faults : L → ℕ) (view : EngineView L D C)
+    → IsEngine tells seen now leaves faults view → ((first : Past) → Opens view.tablet.opening view.tablet.mark view.tablet.core.opened first → Stands (record view.tablet.core { first = first }))
+    → RecoversEach tells seen view
+recovers_each {L} {D} {C} tells seen now leaves faults view is sound first content t n image reads =
+    let known = records_of (seen view.log.known.disk) in
+    let rest = view.log.out ++ view.log.queued in
+    let begins = is.logged.begins t in
+    let durable = begins.0 in
+    let moved : view.records ++ is.logged.run ≡ view.records ++ (durable ++ rest) = is.logged.all t ∙ ap (λ (l : List Entry). l ++ rest) begins.1 ∙ append_assoc view.records durable rest in
+    let run : is.logged.run ≡ durable ++ rest = append_cancel_left view.records is.logged.run (durable ++ rest) moved in
+    let cut : durable ++ rest ≡ (durable ++ take n rest) ++ drop n rest = ap (λ (l : List Entry). durable ++ l) (sym (take-append-drop n rest)) ∙ sym (append_assoc durable (take n rest) (drop n rest)) in
+    let longer : known ++ take n rest ≡ view.records ++ (durable ++ take n rest) = ap (λ (l : List Entry). l ++ take n rest) begins.1 ∙ append_assoc view.records durable (take n rest) in
+    engine_front tells seen now leaves faults view first (durable ++ take n rest) (drop n rest) image sound content is (run ∙ cut)
+    (subst (λ (l : List Entry). AcknowledgedIn l view.tablet.core.trail) longer (acknowledged_longer known (take n rest) view.tablet.core.trail (is.logged.acknowledged t))) (reads ∙ ap Ok longer)
+
 -- A crash leaves the run's writes up to a time, each acknowledged one among them.
 pub recovers : {L D C : Type 0} (tells : Bool) (seen : L → Files) (now : L → ℕ) (leaves : L → ℕ → Files → Type 0) (faults : L → ℕ) (view : EngineView L D C)
     → IsEngine tells seen now leaves faults view → ((first : Past) → Opens view.tablet.opening view.tablet.mark view.tablet.core.opened first → Stands (record view.tablet.core { first = first }))
     → (IsTrue tells → Holds now leaves view.log.known.disk (records_of (seen view.log.known.disk))) → Recovers tells now leaves view
 recovers {L} {D} {C} tells seen now leaves faults view is sound held first content t journal at image left =
     let known = records_of (seen view.log.known.disk) in
-    let out = view.log.out in
-    let queued = view.log.queued in
-    let begins = is.logged.begins t in
-    let durable = begins.0 in
-    let moved : view.records ++ is.logged.run ≡ view.records ++ (durable ++ (out ++ queued)) = is.logged.all t ∙ ap (λ (l : List Entry). l ++ (out ++ queued)) begins.1 ∙ append_assoc view.records durable (out ++ queued) in
-    let run : is.logged.run ≡ durable ++ (out ++ queued) = append_cancel_left view.records is.logged.run (durable ++ (out ++ queued)) moved in
-    let acknowledged : AcknowledgedIn (view.records ++ durable) view.tablet.core.trail = subst (λ (l : List Entry). AcknowledgedIn l view.tablet.core.trail) begins.1 (is.logged.acknowledged t) in
-    let old = λ (reads : log_of image ≡ Ok known). engine_front tells seen now leaves faults view first durable (out ++ queued) image sound content is run acknowledged (reads ∙ ap Ok begins.1) in
-    let both = λ (reads : log_of image ≡ Ok (known ++ out)).
-    let longer : known ++ out ≡ view.records ++ (durable ++ out) = ap (λ (l : List Entry). l ++ out) begins.1 ∙ append_assoc view.records durable out in
-    engine_front tells seen now leaves faults view first (durable ++ out) queued image sound content is (run ∙ sym (append_assoc durable out queued))
-    (subst (λ (l : List Entry). AcknowledgedIn l view.tablet.core.trail) longer (acknowledged_longer known out view.tablet.core.trail (is.logged.acknowledged t))) (reads ∙ ap Ok longer) in
+    let each = recovers_each tells seen now leaves faults view is sound first content t in
+    let old = λ (reads : log_of image ≡ Ok known). each 0 image (reads ∙ ap Ok (sym (append-nil known))) in
+    let both = λ (reads : log_of image ≡ Ok (known ++ view.log.out)). each (length view.log.out) image (reads ∙ ap (λ (l : List Entry). Ok (known ++ l)) (sym (take-append_seam view.log.out view.log.queued))) in
     let home = is.home journal at in
     elim view.tablet.core.stopped as (λ b. view.tablet.core.stopped ≡ b → HoldsFront (core_from view first) image) [
       | false ↦ λ goes. old (held t image (subst (λ (j : JournalView L). leaves j.disk (now j.disk) image) (home.known goes).0 left))

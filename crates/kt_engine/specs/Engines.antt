@@ -1,5 +1,5 @@
 -- What a clause sees of an engine, and what it keeps.
-use Rattle.std.specs.Prelude.{◌≡◌, ◌<◌, ◌≤◌, ◌+◌, ◌^◌, ℕ, length, Bool, IsTrue, false, true, List, [], ◌++◌, map, Some}
+use Rattle.std.specs.Prelude.{◌≡◌, ◌<◌, ◌≤◌, ◌+◌, ◌^◌, ℕ, length, Bool, IsTrue, false, true, List, [], ◌++◌, map, take, Some, Ok}
 use Rattle.std.specs.List.{All}
 use Rattle.kt_base.specs.Causes.{Rose}
 use Rattle.kt_disk.specs.Disk.{Files}
@@ -7,7 +7,7 @@ use Rattle.kt_history.specs.declared.target.Target.TheVariants.{Mem}
 use Rattle.kt_history.specs.History.{Past}
 use Rattle.kt_records.specs.declared.entry.Entry.{Entry}
 use Rattle.kt_journal.specs.Order.{IsFramed}
-use Rattle.kt_journal.specs.Log.{records_of, Holds, IsLog, IsOldOrBoth, CanOpen}
+use Rattle.kt_journal.specs.Log.{log_of, records_of, Holds, IsLog, IsOldOrBoth, CanOpen}
 use Rattle.kt_journal.specs.Open.{JournalView}
 use Rattle.kt_loglaws.specs.Side.{SideView, all_of}
 use Rattle.kt_histlaws.specs.Core.{Core}
@@ -80,6 +80,12 @@ pub record IsEngine {L D C : Type 0} (tells : Bool) (seen : L → Files) (now : 
 abbrev pub Recovers : {L D C : Type 0} → Bool → (L → ℕ) → (L → ℕ → Files → Type 0) → EngineView L D C → Type 0
 Recovers tells now leaves view = (first : Past) → IsContent view first → IsTrue tells → (journal : JournalView _) → view.log.home ≡ Some journal
     → (image : Files) → leaves journal.disk (now journal.disk) image → HoldsFront (core_from view first) image
+
+-- So does an image that has what is durable and, in their order, some of the records that are out and queued: what a crash leaves while a
+-- pass has the log out.
+abbrev pub RecoversEach : {L D C : Type 0} → Bool → (L → Files) → EngineView L D C → Type 0
+RecoversEach tells seen view = (first : Past) → IsContent view first → IsTrue tells → (n : ℕ) (image : Files)
+    → log_of image ≡ Ok (records_of (seen view.log.known.disk) ++ take n (view.log.out ++ view.log.queued)) → HoldsFront (core_from view first) image
 
 -- And with all of them, where nothing waits for the log and nothing has stopped it.
 abbrev pub RecoversAll : {L D C : Type 0} → Bool → (L → ℕ) → (L → ℕ → Files → Type 0) → EngineView L D C → Type 0

@@ -1,5 +1,5 @@
 //! The engine, as it is opened and taken apart.
-ghost use Rattle.std.specs.Prelude.{map, ◌≡◌, ◌<◌, ◌≤◌, ◌^◌, ℕ, IsTrue, IfOk, IfErr, OnErr, Some, None, false, true, [], ◌∷◌, ◌++◌, ◌+◌, length};
+ghost use Rattle.std.specs.Prelude.{map, ◌≡◌, ◌<◌, ◌≤◌, ◌^◌, ℕ, IsTrue, IfOk, IfErr, Some, None, false, true, [], ◌++◌, ◌+◌, length};
 ghost use Rattle.kt_history.specs.History.{Past};
 ghost use Rattle.kt_history.specs.declared.target.Target.TheVariants.{Mem};
 ghost use Rattle.kt_history.specs.Machine.{HasDifferentKeys, first_turns};
@@ -11,7 +11,7 @@ ghost use Rattle.kt_tablet.specs.Views.{IsSound, IsExact, Opens};
 ghost use Rattle.std.specs.List.{All};
 ghost use Rattle.kt_loglaws.specs.Side.{all_of};
 ghost use Rattle.kt_engine.specs.Logged.{Recalls, IsPlaced, IsThere};
-ghost use Rattle.kt_engine.specs.Engines.{EngineView, IsContent, IsEngine, IsHome, Recovers, RecoversAll};
+ghost use Rattle.kt_engine.specs.Engines.{EngineView, IsContent, IsEngine, IsLogged, IsHome, Recovers, RecoversEach, RecoversAll};
 
 use kt_base::Clock;
 use kt_disk::Disk;
@@ -128,15 +128,19 @@ impl<L: Disk, D, C: Clock> Engine<L, D, C> {
         self.tablet.times()
     }
 
-    /// What it stands for: a run from each past that opening found, in which the lines show what the clock gave; and a
-    /// crash now leaves the run's writes up to a time, each acknowledged one among them. What the pool has promised is what
-    /// flying writes still need, and the REPLICATE of each is at its place among the records that are durable, out or queued.
+    /// What it stands for: a run from each past that opening found, in which the lines show what the clock gave; the log
+    /// keeps that run, and a crash now leaves its writes up to a time, each acknowledged one among them, also while a pass has
+    /// the log out. What the pool has promised is what flying writes still need, and the REPLICATE of each is at its place
+    /// among the records that are durable, out or queued. The log is at home where no pass has it out.
     pub fn standing(&self)
         ensures found { (first : Past) × IsContent self.now first }
         ensures sound { IsSound C.readings self.now.tablet }
         ensures exact { IsExact self.now.tablet.core.aloft self.now.tablet.core.stores self.now.tablet.pool }
+        ensures logged { IsLogged L.tells L.seen self.now }
         ensures recovers { Recovers L.tells L.now L.leaves self.now }
+        ensures recovers_each { RecoversEach L.tells L.seen self.now }
         ensures recovers_all { RecoversAll L.tells L.now L.leaves self.now }
+        ensures at_home { self.now.log.holder ≡ None → (journal : JournalView L) × (self.now.log.home ≡ Some journal) }
         ensures home { (journal : _) → self.now.log.home ≡ Some journal → IsHome L.tells L.seen L.now L.leaves L.faults self.now journal }
         ensures placed { map (λ p. p.0) self.now.places ≡ map (λ w. w.s) self.now.tablet.core.aloft }
         ensures at_rest { self.now.tablet.core.aloft ≡ [] → self.now.places ≡ [] }
@@ -144,8 +148,9 @@ impl<L: Disk, D, C: Clock> Engine<L, D, C> {
         ensures there { IsTrue L.tells → All (IsThere (all_of L.seen self.now.log) self.now.places) self.now.tablet.core.aloft }
     {
         self.tablet.standing();
-        // What is durable is what a crash leaves.
+        // What is durable is what a crash leaves, and the log is at home where no pass has it.
         let _ = self.log.durable();
+        let _ = self.log.by();
     }
 
     /// The devices, the clock and the history, where no pass has the log out.

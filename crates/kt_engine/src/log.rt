@@ -1,5 +1,5 @@
 //! The log's device, lent for an append and taken home.
-ghost use Rattle.std.specs.Prelude.{◌≡◌, ◌≤◌, ◌+◌, ◌++◌, ◌↔◌, ℕ, IsTrue, IfOk, OnErr, Err, Some, None, false, true, [], length, OnOk};
+ghost use Rattle.std.specs.Prelude.{◌≡◌, ◌≤◌, ◌+◌, ◌++◌, ◌↔◌, ℕ, IsTrue, IfOk, OnErr, Err, Some, None, false, true, [], length};
 ghost use Rattle.kt_base.specs.Causes.{Rose};
 ghost use Rattle.kt_disk.specs.Disk.{Files};
 ghost use Rattle.kt_journal.specs.Log.{records_of, Holds, IsOldOrBoth, CanOpen};

@@ -1,6 +1,7 @@
 //! The log of an engine, at home or lent, and the records that wait for it.
-ghost use Rattle.std.specs.Prelude.{◌≡◌, ◌+◌, ◌-◌, ◌++◌, ◌^◌, ◌<◌, [], ◌∷◌, IsTrue, true, false, length, OnOk, OnErr, IfOk, IfErr, IfSome, Err, ◌↔◌, ℕ, ◌≤◌, vec_len, vec_capacity};
+ghost use Rattle.std.specs.Prelude.{◌≡◌, ◌+◌, ◌-◌, ◌++◌, ◌^◌, ◌<◌, [], ◌∷◌, IsTrue, true, false, length, OnOk, OnErr, IfOk, IfErr, IfSome, Err, Some, None, ◌↔◌, ℕ, ◌≤◌, vec_len, vec_capacity};
 ghost use Rattle.kt_journal.specs.Log.{records_of, Holds};
+ghost use Rattle.kt_journal.specs.Open.{JournalView};
 ghost use Rattle.kt_loglaws.specs.Side.{all_of};
 
 use kt_base::NoMemory;
@@ -145,9 +146,10 @@ impl<L: Disk> LogSide<L> {
         self.durable
     }
 
-    /// The pass that has the log out.
+    /// The pass that has the log out. Where there is none the log is at home.
     pub fn by(&self) -> Option<u32>
-        ensures { result ≡ self.now.holder }
+        ensures holder { result ≡ self.now.holder }
+        ensures home { self.now.holder ≡ None → (journal : JournalView L) × (self.now.home ≡ Some journal) }
     {
         if self.journal.is_none() {
             Some(self.by)

@@ -1,9 +1,10 @@
-use Rattle.std.proofs.Common.{subst, ◌+◌, ◌++◌, length}
+use Rattle.std.proofs.Common.{◌≡◌, Some, None, subst, ◌+◌, ◌++◌, length}
 use Rattle.std.specs.List.{All}
+use Rattle.kt_journal.specs.Open.{JournalView}
 use Rattle.kt_loglaws.specs.Side.{all_of}
 use Rattle.kt_engine.specs.Logged.{IsPlaced, IsThere}
-use Rattle.kt_engine.specs.Engines.{EngineView, IsEngine, Recovers, RecoversAll}
-use Rattle.kt_engine.proofs.Crashes.{recovers, recovers_all}
+use Rattle.kt_engine.specs.Engines.{EngineView, IsEngine, Recovers, RecoversEach, RecoversAll}
+use Rattle.kt_engine.proofs.Crashes.{recovers, recovers_each, recovers_all}
 use Rattle.kt_engine.proofs.Placed.{placed_among, placed_there}
 use Rattle.kt_engine.proofs.engine.Engine.standing.Goals as goal
 
@@ -11,6 +12,11 @@ pub returns-clause-recovers : goal.returns-clause-recovers
 returns-clause-recovers g c =
     subst (λ (v : EngineView _ _ _). Recovers g.L.Disk.tells g.L.Disk.now g.L.Disk.leaves v) c.self.view_is
     (recovers g.L.Disk.tells g.L.Disk.seen g.L.Disk.now g.L.Disk.leaves g.L.Disk.faults _ c.self.invariant c.standing.ensures.sound.stands c.durable.ensures.held)
+
+pub returns-clause-recovers_each : goal.returns-clause-recovers_each
+returns-clause-recovers_each g c =
+    subst (λ (v : EngineView _ _ _). RecoversEach g.L.Disk.tells g.L.Disk.seen v) c.self.view_is
+    (recovers_each g.L.Disk.tells g.L.Disk.seen g.L.Disk.now g.L.Disk.leaves g.L.Disk.faults _ c.self.invariant c.standing.ensures.sound.stands)
 
 pub returns-clause-recovers_all : goal.returns-clause-recovers_all
 returns-clause-recovers_all g c =
@@ -29,3 +35,10 @@ pub returns-clause-there : goal.returns-clause-there
 returns-clause-there g c told =
     subst (λ (v : EngineView _ _ _). All (IsThere (all_of g.L.Disk.seen v.log) v.places) v.tablet.core.aloft) c.self.view_is
     (placed_there g.L.Disk.tells g.L.Disk.seen g.L.Disk.now g.L.Disk.leaves g.L.Disk.faults _ c.self.invariant told)
+
+pub returns-clause-logged : goal.returns-clause-logged
+returns-clause-logged g c = (subst (λ (v : EngineView _ _ _). IsEngine g.L.Disk.tells g.L.Disk.seen g.L.Disk.now g.L.Disk.leaves g.L.Disk.faults v) c.self.view_is c.self.invariant).logged
+
+pub returns-clause-at_home : goal.returns-clause-at_home
+returns-clause-at_home g c =
+    subst (λ (v : EngineView _ _ _). v.log.holder ≡ None → (journal : JournalView _) × (v.log.home ≡ Some journal)) c.self.view_is c.by.ensures.home
