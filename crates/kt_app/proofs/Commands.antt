@@ -130,11 +130,6 @@ durable_place view s i ts ops applied f among out queued =
     let low = first.among in
     (first.place, first.at, omega arith)
 
--- something is queued behind what was
-pub some_queued : {A : Type 0} (before now : List A) (x : A) → now ≡ before ++ x ∷ [] → 0 < length now
-some_queued [] now x is = subst (λ l. 0 < length l) (sym is) (omega arith)
-some_queued (y ∷ before) now x is = subst (λ l. 0 < length l) (sym is) (omega arith)
-
 pub all_applied : {L D C : Type 0} (view : EngineView L D C) (s i ts : ℕ) (ops : List RowOp) → Flies view s i ts ops (length ops) → i + 1 < 2 ^ 32 → MayEnd view.tablet.core s
 all_applied view s i ts ops f few = record {
   flight = flown s i ts ops (length ops);

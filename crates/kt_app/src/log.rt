@@ -1,5 +1,5 @@
 //! The log of a run, made durable by its one pass.
-ghost use Rattle.std.specs.Prelude.{◌≡◌, ◌<◌, [], length, Err, Some, None, OnOk, false};
+ghost use Rattle.std.specs.Prelude.{◌≡◌, [], Err, Some, None, OnOk, false};
 ghost use Rattle.kt_engine.specs.Engines.{IsLent};
 ghost use Rattle.kt_app.specs.Turns.{root_of, IsStopped};
 
@@ -86,9 +86,10 @@ pub fn make_durable<L: Disk, D, C: Clock>(
     ensures home { engine.new.log.holder ≡ None }
     ensures beside { OnOk result (engine.new ≡ record engine.old { log = engine.new.log }) }
     ensures empty { OnOk result (engine.new.log.queued ≡ []) }
-    ensures durable { OnOk result (0 < length engine.old.log.queued → engine.new.log.out ≡ []) }
+    ensures durable { OnOk result (engine.new.log.out ≡ []) }
     ensures stopped { result ≡ Err Halt.Stopped → IsStopped engine.old engine.new }
 {
+    engine.standing();
     match engine.log_out(alloc, number) {
         Ok(batch) => append_out(alloc, engine, number, batch),
         Err(LogNo::Empty) => Ok(()),

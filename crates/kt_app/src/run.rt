@@ -1,10 +1,9 @@
 //! A run of a plan on an engine that was opened, to its output text.
-ghost use Rattle.std.specs.Prelude.{◌≡◌, ◌<◌, ◌≤◌, ◌^◌, [], IfSome, IfOk, IsTrue, None, Some, false, true, List, ℕ, length, slice_get};
+ghost use Rattle.std.specs.Prelude.{◌≡◌, ◌<◌, ◌≤◌, [], IfSome, IfOk, IsTrue, None, false, true, List};
 ghost use Rattle.std.specs.List.{sum_by};
 ghost use Rattle.kt_base.specs.Causes.{Rose};
 ghost use Rattle.kt_journal.specs.Log.{CanOpen};
 ghost use Rattle.kt_history.specs.declared.command.Command.{Command};
-ghost use Rattle.kt_history.specs.declared.reply.Reply.{Reply};
 ghost use Rattle.kt_history.specs.History.{Past};
 ghost use Rattle.kt_history.specs.Machine.{first_turns};
 ghost use Rattle.kt_script.specs.Fit.{PlanFits};

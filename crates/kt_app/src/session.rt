@@ -1,10 +1,9 @@
 //! The commands of sessions, each to its end.
 ghost use Rattle.std.specs.Prelude.{◌≡◌, ◌≤◌, ◌<◌, ◌^◌, ◌+◌, ℕ, [], ◌∷◌, length, map, IfOk, OnOk, OnErr, Ok, Err, Some, None, false, Option};
-ghost use Rattle.kt_schema.specs.Columns.{fill_of};
 ghost use Rattle.kt_history.specs.declared.operation.RowOp.{RowOp};
 ghost use Rattle.kt_history.specs.History.{Past};
 ghost use Rattle.kt_history.specs.Machine.{nth, set_nth, command_at};
-ghost use Rattle.kt_script.specs.Fit.{WriteFits, CommandFits};
+ghost use Rattle.kt_script.specs.Fit.{CommandFits};
 ghost use Rattle.kt_histlaws.specs.Pending.{Aloft};
 ghost use Rattle.kt_tablet.specs.Reads.{HasDrawn};
 ghost use Rattle.kt_history.specs.Operations.{need};
@@ -79,7 +78,6 @@ fn begin_write<L: Disk, D, C: Clock>(
     ensures room { OnOk result (unpromised engine.old.tablet.pool ≤ unpromised engine.new.tablet.pool + need write.now.ops) }
     ensures home { engine.new.log.holder ≡ None }
     ensures flies { result ≡ Ok None → (ts : ℕ) × Flies engine.new number index ts write.now.ops 0 }
-    ensures queued { result ≡ Ok None → 0 < length engine.new.log.queued }
     ensures turns { result ≡ Ok None → engine.new.tablet.core.turns ≡ engine.old.tablet.core.turns }
     ensures quiet { result ≡ Ok None → (first : Past) → IsContent engine.old first → AnswersNone (core_from engine.old first) engine.new.tablet.core.trail }
     ensures large { (n : ℕ) → result ≡ Ok (Some n) → IsAnswered engine.old engine.new number index (Reply.Large n) }

@@ -1,5 +1,5 @@
 //! The output text of a run.
-ghost use Rattle.std.specs.Prelude.{◌≡◌, ◌∷◌, [], IfOk, All, Some, Bool, ℕ};
+ghost use Rattle.std.specs.Prelude.{◌≡◌, IfOk, All, Some};
 ghost use Rattle.kt_script.specs.Texts.{output_text, reply_numbers};
 ghost use Rattle.kt_script.specs.Laws.{Fits64, EventFits, ReplyFits, OutputFits};
 ghost use Rattle.kt_app.specs.Headline.{kinds_shown as kinds_printed, shown_from, all_shown};

@@ -1,13 +1,12 @@
 //! The top call: it reads a script, opens the log, runs the commands and prints what came of them.
 
-ghost use Rattle.std.specs.Prelude.{◌≡◌, ◌≢◌, ◌⊎◌, ◌↔◌, IsTrue, ◌^◌, ◌≤◌, ◌<◌, ◌++◌, ◌∷◌, [], length, Bool, true, false, Ok, Err, IfOk, IfErr, IfSome, Some, OnOk, OnErr, IsErrOf, codes, map, List, ℕ, Option};
+ghost use Rattle.std.specs.Prelude.{◌≡◌, ◌≢◌, ◌⊎◌, ◌↔◌, IsTrue, ◌≤◌, ◌<◌, ◌++◌, ◌∷◌, [], Bool, true, false, Ok, Err, IfOk, IfErr, IfSome, Some, IsErrOf, codes, map, List, ℕ};
 ghost use Rattle.std.specs.Fmt.{decimal};
 ghost use Rattle.std.specs.Io.KnownBytes.{Appends};
-ghost use Rattle.kt_base.specs.Causes.{Rose, HasCause, Grows};
-ghost use Rattle.kt_records.specs.declared.entry.Entry.{Entry};
-ghost use Rattle.kt_journal.specs.Log.{log_of, records_of, IsLog, Holds, CanOpen};
+ghost use Rattle.kt_base.specs.Causes.{Rose};
+ghost use Rattle.kt_journal.specs.Log.{CanOpen};
 ghost use Rattle.kt_schema.specs.Columns.{fill_of};
-ghost use Rattle.kt_history.specs.History.{Past, rows_at};
+ghost use Rattle.kt_history.specs.History.{Past};
 ghost use Rattle.kt_script.specs.Fit.{PlanFits};
 ghost use Rattle.kt_script.specs.Scripts.{Said, Fault, script_of};
 ghost use Rattle.kt_boot.specs.Opening.{Found, content, opened};
@@ -17,7 +16,7 @@ ghost use Rattle.kt_tablet.specs.Views.{unpromised};
 ghost use Rattle.kt_engine.specs.Engines.{IsContent};
 ghost use Rattle.kt_app.specs.Session.{IsCounted};
 ghost use Rattle.kt_app.specs.Turns.{IsFresh, IsOn};
-ghost use Rattle.kt_app.specs.Outside.{Reads, WritesFront, Gains};
+ghost use Rattle.kt_app.specs.Outside.{Reads, WritesFront};
 
 use crate::cells::cells_of;
 use crate::run::run_plan;

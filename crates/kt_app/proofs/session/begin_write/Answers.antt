@@ -1,14 +1,11 @@
 use Rattle.std.proofs.Common.{◌≡◌, ap, ◌∙◌, subst}
 use Rattle.kt_history.specs.declared.reply.Reply.TheVariants as reply
 use Rattle.kt_app.specs.Turns.{IsAnswered}
-use Rattle.kt_app.proofs.Commands.{begun_quiet, large_answered, some_queued}
+use Rattle.kt_app.proofs.Commands.{begun_quiet, large_answered}
 use Rattle.kt_app.proofs.session.begin_write.Goals as goal
 
 pub returns-in-Ok-clause-quiet : goal.returns-in-Ok-clause-quiet
 returns-in-Ok-clause-quiet g c = λ _ first content. begun_quiet c.args.engine.now c.begin.new.self c.args.number c.args.index c.in-Ok.field-0 c.args.write.now.ops c.in-Ok.ensures.begun first
-
-pub returns-in-Ok-clause-queued : goal.returns-in-Ok-clause-queued
-returns-in-Ok-clause-queued g c = λ _. some_queued _ _ _ (ap (λ l. l.queued) c.in-Ok.ensures.queued)
 
 pub returns-in-Err-Large-clause-large : goal.returns-in-Err-Large-clause-large
 returns-in-Err-Large-clause-large g c = λ n e.
