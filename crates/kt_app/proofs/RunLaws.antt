@@ -10,7 +10,7 @@ use Rattle.kt_history.specs.Machine.{Workload}
 use Rattle.kt_script.specs.Scripts.{Said, workload}
 use Rattle.kt_tablet.specs.Views.{work_of}
 use Rattle.kt_boot.specs.Opening.{content}
-use Rattle.kt_app.specs.Crash.{Ran, RunsPlan}
+use Rattle.kt_app.specs.Crash.{Ran, RunsPlan, Kept}
 use Rattle.kt_app.specs.Turns.{IsOn}
 
 pub ran_as : {C L : Type 0} {told : C → Option (List ℕ)} {clock ticked : C} {tells : Bool} {now : L → ℕ} {leaves : L → ℕ → Files → Type 0} {disk : L} {work : Workload} {past : Past} {c : ℕ} {b d : Bool} {text : List ℕ}
@@ -39,3 +39,11 @@ runs_over told began clock gave ticked tells seen now leaves log left logged wor
       (subst (λ x. Ran told clock x tells now leaves left work past c b text) gave_is
       (subst (λ x. Ran told x gave tells now leaves left work past c b text) began_is ran));
 }
+
+-- what is kept of a run from what opening found is so of one with this clock over this log
+pub kept_over : {C L : Type 0} (told : C → Option (List ℕ)) (began clock gave ticked : C) (tells : Bool) (now : L → ℕ) (leaves : L → ℕ → Files → Type 0) (left logged : L) (work : Workload) (past : Past) (c : ℕ)
+    → began ≡ clock → gave ≡ ticked → left ≡ logged → Kept told began gave tells now leaves left work past c → Kept told clock ticked tells now leaves logged work past c
+kept_over told began clock gave ticked tells now leaves left logged work past c began_is gave_is left_is kept =
+    subst (λ x. Kept told clock ticked tells now leaves x work past c) left_is
+    (subst (λ x. Kept told clock x tells now leaves left work past c) gave_is
+    (subst (λ x. Kept told x gave tells now leaves left work past c) began_is kept))

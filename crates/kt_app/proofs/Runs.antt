@@ -30,8 +30,9 @@ use Rattle.kt_boot.specs.Opening.{held_in, held_by, found_or_late}
 use Rattle.kt_tablet.specs.Views.{IsSound, Opens, work_of}
 use Rattle.kt_engine.specs.Logged as logged
 use Rattle.kt_engine.specs.Engines.{EngineView, IsContent, IsHome, core_from, Recovers, RecoversAll}
-use Rattle.kt_app.specs.Headline.{IsOutput, IsAnswered, AreAnswered, AcknowledgedBy, shown_from, all_shown, replies_in, end_line, end_of, upto}
-use Rattle.kt_app.specs.Crash.{Ran, HoldsOf}
+use Rattle.kt_loglaws.specs.Fronts.{upto}
+use Rattle.kt_app.specs.Headline.{IsOutput, IsAnswered, AreAnswered, shown_from, all_shown, replies_in, end_line, end_of}
+use Rattle.kt_app.specs.Crash.{Ran, Kept, HoldsOf, HoldsPrefix}
 use Rattle.kt_app.specs.Session.{on_table}
 use Rattle.kt_app.specs.Turns.{Root, root_of, IsOn, IsFresh, HasPlayed, given, reply_in, end_of_run}
 
@@ -94,18 +95,29 @@ held_now : (fill : Row) (image : Files) (records : List Entry) (past : Past) →
 held_now fill image records past reads (whole, holds, is) =
     ap (held_in fill) reads ∙ ap (found_or_late records) holds ∙ ap (λ p. Ok (record { past = p; last = last_of records })) (sym is)
 
-acknowledged_as : (t : ℕ) (events : List Event) → logged.AcknowledgedBy t events → AcknowledgedBy t events
-acknowledged_as t [] h = tt
-acknowledged_as t (event.Begin s i ts m ∷ events) h = acknowledged_as t events h
-acknowledged_as t (event.End s i ts ∷ events) h = (h.0, acknowledged_as t events h.1)
-acknowledged_as t (event.Look s i u m ∷ events) h = acknowledged_as t events h
-acknowledged_as t (event.Rows s i u ∷ events) h = acknowledged_as t events h
-acknowledged_as t (event.Ancient s i u a ∷ events) h = acknowledged_as t events h
-acknowledged_as t (event.Busy s i u f ∷ events) h = acknowledged_as t events h
-acknowledged_as t (event.Mark s i a ∷ events) h = acknowledged_as t events h
-acknowledged_as t (event.Chore s i ∷ events) h = acknowledged_as t events h
-acknowledged_as t (event.Large s i n ∷ events) h = acknowledged_as t events h
-acknowledged_as t (event.Stop ∷ events) h = acknowledged_as t events h
+-- What an engine keeps of its run, whatever was printed of it.
+module _ {L D C : Type 0} (readings : C → Option (List ℕ)) (tells : Bool) (now : L → ℕ) (leaves : L → ℕ → Files → Type 0) (view : EngineView L D C) (first : Past) (content : IsContent view first) (sound : IsSound readings view.tablet) where
+  abbrev its_work : Workload
+  its_work = view.tablet.core.work
+
+  abbrev its_lines : List Event
+  its_lines = view.tablet.core.trail
+
+  prefix : Recovers tells now leaves view → (journal : JournalView L) → view.log.home ≡ Some journal → IsTrue tells → (image : Files) → leaves journal.disk (now journal.disk) image
+      → HoldsPrefix its_work first view.tablet.core.opened its_lines (held_by its_work.fill image)
+  prefix front journal home told image left =
+      let h = front first content told journal home image left in
+      record { t = h.t; after_opening = h.after_opening; acknowledged = h.acknowledged; last = last_of h.records; holds = held_now its_work.fill image h.records (upto h.t (run_past (core_from view first))) h.reads h.holds }
+
+  pub kept_here : (clock ticked : C) (disk : L) → view.tablet.opened ≡ clock → ticked ≡ view.tablet.clock → Recovers tells now leaves view
+      → (journal : JournalView L) × (view.log.home ≡ Some journal) × (disk ≡ journal.disk)
+      → Kept readings clock ticked tells now leaves disk its_work first view.tablet.core.opened
+  kept_here clock ticked disk began ticked_is front (journal, home, disk_is) = record {
+    events = its_lines;
+    run = (sound.stands first content.opens).run.is_run;
+    given = subst (λ x. Grows (readings clock) (readings x) (readings_of its_lines)) (sym ticked_is) (subst (λ x. Grows (readings x) (readings view.tablet.clock) (readings_of its_lines)) began sound.clock);
+    crash = λ told image left. prefix front journal home told image (subst (λ d. leaves d (now d) image) disk_is left);
+  }
 
 module _ {L D C : Type 0} (readings : C → Option (List ℕ)) (tells : Bool) (now : L → ℕ) (leaves : L → ℕ → Files → Type 0) (view : EngineView L D C) (columns : List Column) (plan : List (List Command)) (stopped : Bool) (replies : List (List Reply)) (first : Past)
     (on : IsOn columns view.tablet.core.work) (plan_is : view.tablet.core.work.plan ≡ plan) (content : IsContent view first) (sound : IsSound readings view.tablet) (played : HasPlayed view plan stopped replies) where
@@ -164,9 +176,7 @@ module _ {L D C : Type 0} (readings : C → Option (List ℕ)) (tells : Bool) (n
 
   crash : (b : Bool) → stopped ≡ b → Recovers tells now leaves view → RecoversAll tells now leaves view → (journal : JournalView L) → view.log.home ≡ Some journal → IsTrue tells → (image : Files) → leaves journal.disk (now journal.disk) image
       → HoldsOf b work first c events (held_by work.fill image)
-  crash true is front whole journal home told image left =
-      let h = front first content told journal home image left in
-      record { t = h.t; after_opening = h.after_opening; acknowledged = acknowledged_as h.t events h.acknowledged; last = last_of h.records; holds = held_now work.fill image h.records (upto h.t (run_past core)) h.reads h.holds }
+  crash true is front whole journal home told image left = prefix readings tells now leaves view first content sound front journal home told image left
   crash false is front whole journal home told image left =
       let h = whole first content (played.ended ∙ is) (played.empty is) told journal home image left in
       record { last = last_of h.records; holds = held_now work.fill image h.records (run_past core) h.reads h.holds }
@@ -187,9 +197,9 @@ module _ {L D C : Type 0} (readings : C → Option (List ℕ)) (tells : Bool) (n
 abbrev pub with_plan : {L D C : Type 0} → EngineView L D C → List (List Command) → EngineView L D C
 with_plan old plan = record old { tablet = record old.tablet { core = record old.tablet.core { work = record old.tablet.core.work { plan = plan } } } }
 
--- A run of a plan on an engine in which nothing had happened, and what was printed of it.
-module _ {L D C : Type 0} (readings : C → Option (List ℕ)) (tells : Bool) (now : L → ℕ) (leaves : L → ℕ → Files → Type 0) (old view : EngineView L D C) (columns : List Column) (plan : List (List Command)) (stopped : Bool) (replies : List (List Reply)) (first : Past)
-    (fresh : IsFresh old) (on : IsOn columns old.tablet.core.work) (root : root_of view ≡ root_of (with_plan old plan)) (content : IsContent old first) (sound : IsSound readings view.tablet) (played : HasPlayed view plan stopped replies) where
+-- An engine in which nothing had happened, with a plan, and what it became.
+module _ {L D C : Type 0} (old view : EngineView L D C) (columns : List Column) (plan : List (List Command)) (first : Past)
+    (fresh : IsFresh old) (on : IsOn columns old.tablet.core.work) (root : root_of view ≡ root_of (with_plan old plan)) (content : IsContent old first) where
   abbrev cells : ℕ
   cells = old.tablet.core.work.cells
 
@@ -208,22 +218,44 @@ module _ {L D C : Type 0} (readings : C → Option (List ℕ)) (tells : Bool) (n
     recalls = let P : Root L D C → Type 0 = λ r. logged.Recalls r.work.fill r.records first in subst P (sym root) content.recalls;
   }
 
+  clock_is : view.tablet.opened ≡ old.tablet.clock
+  clock_is = ap (λ (r : Root L D C). r.began) root ∙ sym fresh.clock
+
+  plan_is : view.tablet.core.work.plan ≡ plan
+  plan_is = ap (λ (r : Root L D C). r.work.plan) root
+
+  work_is : view.tablet.core.work ≡ workload cells said
+  work_is = ap (λ (r : Root L D C). r.work) root ∙ on_plan
+
+  opened_is : view.tablet.core.opened ≡ old.tablet.core.opened
+  opened_is = ap (λ (r : Root L D C). r.opened) root
+
+-- A run of a plan on it, and what a crash leaves.
+pub kept_of : {L D C : Type 0} (readings : C → Option (List ℕ)) (tells : Bool) (now : L → ℕ) (leaves : L → ℕ → Files → Type 0) (old view : EngineView L D C) (columns : List Column) (plan : List (List Command)) (first : Past)
+    → IsFresh old → IsOn columns old.tablet.core.work → root_of view ≡ root_of (with_plan old plan) → IsContent old first → IsSound readings view.tablet
+    → (ticked : C) (disk : L) → ticked ≡ view.tablet.clock → Recovers tells now leaves view → (journal : JournalView L) × (view.log.home ≡ Some journal) × (disk ≡ journal.disk)
+    → Kept readings old.tablet.clock ticked tells now leaves disk (workload old.tablet.core.work.cells (record { columns = columns; plan = plan })) first old.tablet.core.opened
+kept_of readings tells now leaves old view columns plan first fresh on root content sound ticked disk ticked_is front home =
+    let kept = kept_here readings tells now leaves view first (content_view old view columns plan first fresh on root content) sound old.tablet.clock ticked disk (clock_is old view columns plan first fresh on root content) ticked_is front home in
+    subst (λ (w : Workload). Kept readings old.tablet.clock ticked tells now leaves disk w first old.tablet.core.opened) (work_is old view columns plan first fresh on root content)
+    (subst (λ (n : ℕ). Kept readings old.tablet.clock ticked tells now leaves disk view.tablet.core.work first n) (opened_is old view columns plan first fresh on root content) kept)
+
+-- What was printed of it.
+module _ {L D C : Type 0} (readings : C → Option (List ℕ)) (tells : Bool) (now : L → ℕ) (leaves : L → ℕ → Files → Type 0) (old view : EngineView L D C) (columns : List Column) (plan : List (List Command)) (stopped : Bool) (replies : List (List Reply)) (first : Past)
+    (fresh : IsFresh old) (on : IsOn columns old.tablet.core.work) (root : root_of view ≡ root_of (with_plan old plan)) (content : IsContent old first) (sound : IsSound readings view.tablet) (played : HasPlayed view plan stopped replies) where
   pub ran_of : (ticked : C) (disk : L) (a l : ℕ) (lines : List Event) (shown : List (List Command)) (text : List ℕ) → ticked ≡ view.tablet.clock → Recovers tells now leaves view → RecoversAll tells now leaves view
       → (journal : JournalView L) × (view.log.home ≡ Some journal) × (disk ≡ journal.disk)
       → a ≡ view.tablet.core.a → l ≡ view.tablet.core.c → lines ≡ view.tablet.core.trail → shown ≡ plan
       → OutputFits (all_shown (on_table columns) (given replies) 1 shown) lines (end_of_run stopped a l) → text ≡ output_text (all_shown (on_table columns) (given replies) 1 shown) lines (end_of_run stopped a l)
-      → Ran readings old.tablet.clock ticked tells now leaves disk (workload cells said) first old.tablet.core.opened stopped text
+      → Ran readings old.tablet.clock ticked tells now leaves disk (workload old.tablet.core.work.cells (record { columns = columns; plan = plan })) first old.tablet.core.opened stopped text
   ran_of ticked disk a l lines shown text ticked_is front whole home a_is l_is lines_are shown_is fits text_is =
-      let clock_is : view.tablet.opened ≡ old.tablet.clock = ap (λ (r : Root L D C). r.began) root ∙ sym fresh.clock in
-      let plan_is : view.tablet.core.work.plan ≡ plan = ap (λ (r : Root L D C). r.work.plan) root in
-      let work_is : view.tablet.core.work ≡ workload cells said = ap (λ (r : Root L D C). r.work) root ∙ on_plan in
-      let opened_is : view.tablet.core.opened ≡ old.tablet.core.opened = ap (λ (r : Root L D C). r.opened) root in
       let here : (p : List (List Command)) (events : List Event) → Type 0 = λ p events. OutputFits (all_shown (on_table columns) (given replies) 1 p) events (end_of_run stopped a l) in
-      let ran = ran_here readings tells now leaves view columns plan stopped replies first on_view plan_is content_view sound played old.tablet.clock ticked disk a l text clock_is ticked_is front whole home a_is l_is
+      let ran = ran_here readings tells now leaves view columns plan stopped replies first (on_view old view columns plan first fresh on root content) (plan_is old view columns plan first fresh on root content) (content_view old view columns plan first fresh on root content) sound played
+      old.tablet.clock ticked disk a l text (clock_is old view columns plan first fresh on root content) ticked_is front whole home a_is l_is
       (subst (λ p. here p view.tablet.core.trail) shown_is (subst (λ events. here shown events) lines_are fits))
       (text_is ∙ (λ t. output_text (all_shown (on_table columns) (given replies) 1 (shown_is t)) (lines_are t) (end_of_run stopped a l))) in
-      subst (λ (w : Workload). Ran readings old.tablet.clock ticked tells now leaves disk w first old.tablet.core.opened stopped text) work_is
-      (subst (λ (n : ℕ). Ran readings old.tablet.clock ticked tells now leaves disk view.tablet.core.work first n stopped text) opened_is ran)
+      subst (λ (w : Workload). Ran readings old.tablet.clock ticked tells now leaves disk w first old.tablet.core.opened stopped text) (work_is old view columns plan first fresh on root content)
+      (subst (λ (n : ℕ). Ran readings old.tablet.clock ticked tells now leaves disk view.tablet.core.work first n stopped text) (opened_is old view columns plan first fresh on root content) ran)
 
 -- The log's device, as a run of a plan gives it back.
 module _ {L D C : Type 0} {tells : Bool} {seen : L → Files} {now : L → ℕ} {leaves : L → ℕ → Files → Type 0} {faults : L → ℕ} (old view : EngineView L D C) (plan : List (List Command)) (disk : L) (root : root_of view ≡ root_of (with_plan old plan))

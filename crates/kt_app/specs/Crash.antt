@@ -1,5 +1,5 @@
 -- A run over a log, what a crash leaves of it, and the texts of the statuses.
-use Rattle.std.specs.Prelude.{◌≡◌, ℕ, ◌≤◌, Bool, true, false, IsTrue, max, List, [], ◌∷◌, Option, Some, IfSome, Result, Ok, codes}
+use Rattle.std.specs.Prelude.{◌≡◌, ◌⊎◌, ℕ, ◌≤◌, Bool, true, false, IsTrue, max, List, [], ◌∷◌, Option, Some, IfSome, Result, Ok, codes}
 use Rattle.std.specs.List.{sum_by}
 use Rattle.std.specs.Fmt.{decimal}
 use Rattle.kt_base.specs.Causes.{Grows}
@@ -10,8 +10,9 @@ use Rattle.kt_history.specs.declared.event.Event.{Event}
 use Rattle.kt_history.specs.Rows.{Row}
 use Rattle.kt_history.specs.History.{Past}
 use Rattle.kt_history.specs.Operations.{need}
-use Rattle.kt_history.specs.Machine.{Workload}
+use Rattle.kt_history.specs.Machine.{Workload, IsRun, readings_of}
 use Rattle.kt_history.specs.Replies.{past_after}
+use Rattle.kt_schema.specs.Columns.{fill_of}
 use Rattle.kt_script.specs.Scripts.{Said, Fault, script_of, fault_of, workload}
 use Rattle.kt_script.specs.Texts.{line, words}
 use Rattle.kt_boot.specs.Opening.{Found, content, held_by, HasContentOf}
@@ -19,7 +20,9 @@ use Rattle.kt_boot.specs.declared.opening.Why.{Why}
 use Rattle.kt_boot.specs.declared.opening.Why.TheVariants as no
 use Rattle.kt_app.specs.declared.top.SourceNo.{SourceNo}
 use Rattle.kt_app.specs.declared.top.SourceNo.TheVariants as why
-use Rattle.kt_app.specs.Headline.{IsOutput, upto, AcknowledgedBy}
+use Rattle.kt_loglaws.specs.Fronts.{upto}
+use Rattle.kt_engine.specs.Logged.{AcknowledgedBy}
+use Rattle.kt_app.specs.Headline.{IsOutput}
 
 -- An image holds the opening past with the first writes of the run, every acknowledged one among them.
 pub record HoldsPrefix (work : Workload) (past : Past) (c : ℕ) (events : List Event) (held : Result Found Why) : Type 0 where
@@ -62,6 +65,14 @@ pub record Ran {C L : Type 0} (told : C → Option (List ℕ)) (clock ticked : C
   pub events : List Event
   pub output : IsOutput work past c stopped text readings events
   pub crash : IsTrue tells → (image : Files) → leaves disk (now disk) image → HoldsOf stopped work past c events (held_by work.fill image)
+
+-- What was run of the workload from a past is a run, in which the clock gave what it gave since then, and a crash now leaves
+-- the first of its writes, whatever was printed.
+pub record Kept {C L : Type 0} (told : C → Option (List ℕ)) (clock ticked : C) (tells : Bool) (now : L → ℕ) (leaves : L → ℕ → Files → Type 0) (disk : L) (work : Workload) (past : Past) (c : ℕ) : Type 0 where
+  pub events : List Event
+  pub run : IsRun work past c events
+  pub given : Grows (told clock) (told ticked) (readings_of events)
+  pub crash : IsTrue tells → (image : Files) → leaves disk (now disk) image → HoldsPrefix work past c events (held_by work.fill image)
 
 -- The same over what a log held.
 pub record RunsPlan {C L : Type 0} (told : C → Option (List ℕ)) (clock ticked : C) (tells : Bool) (seen : L → Files) (now : L → ℕ) (leaves : L → ℕ → Files → Type 0) (log logged : L) (work : Workload) (stopped : Bool) (text : List ℕ) : Type 0 where
@@ -109,3 +120,9 @@ IsRefusal no.Memory = ⊥
 -- a crash now leaves the content of an image that a crash then might have left
 abbrev pub LeavesAsBefore : {L : Type 0} → Row → Bool → (L → ℕ) → (L → ℕ → Files → Type 0) → L → L → Type 0
 LeavesAsBefore fill tells now leaves old new = IsTrue tells → (image : Files) → leaves new (now new) image → HasContentOf now leaves fill old image
+
+-- A crash now leaves what one before the call might have left, or the first writes of a run of the script over what the log held.
+abbrev pub LeavesFirst : {C L : Type 0} → (C → Option (List ℕ)) → C → C → Bool → (L → Files) → (L → ℕ) → (L → ℕ → Files → Type 0) → L → L → Said → Type 0
+LeavesFirst told clock ticked tells seen now leaves log logged said =
+    LeavesAsBefore (fill_of said.columns) tells now leaves log logged
+    ⊎ ((past : Past) × (c : ℕ) × (IsTrue tells → content (fill_of said.columns) (seen log) ≡ Ok (record { past = past; last = c })) × Kept told clock ticked tells now leaves logged (work_of said) past c)

@@ -1,6 +1,6 @@
 -- What the program prints: the output text of a run of the script.
-use Rattle.std.specs.Prelude.{◌≡◌, ℕ, ◌+◌, ◌≤◌, nat_le, Bool, true, false, if◌then◌else◌, List, [], ◌∷◌, ◌++◌, Option, Some, unwrap_or, codes}
-use Rattle.std.specs.List.{AllByRecursion, filter}
+use Rattle.std.specs.Prelude.{◌≡◌, ℕ, ◌+◌, Bool, true, false, if◌then◌else◌, List, [], ◌∷◌, ◌++◌, Option, Some, unwrap_or, codes}
+use Rattle.std.specs.List.{AllByRecursion}
 use Rattle.kt_base.specs.declared.cell.Kind.{Kind}
 use Rattle.kt_history.specs.declared.command.Command.{Command}
 use Rattle.kt_history.specs.declared.command.Command.TheVariants as command
@@ -70,16 +70,6 @@ pub record IsOutput (work : Workload) (past : Past) (c : ℕ) (stopped : Bool) (
   pub stop : stopped ≡ true → (before : List Event) × (events ≡ before ++ event.Stop ∷ [])
   pub answered : stopped ≡ false → AreAnswered (replies_in work past c events)
   pub printed : text ≡ output_text (replies_in work past c events) events (end_line (end_of work past c events))
-
--- the past with its writes up to a timestamp
-abbrev pub upto : ℕ → Past → Past
-upto t past = record past { writes = filter (λ w. nat_le w.ts t) past.writes }
-
--- each acknowledged write, which has an `end` line, is at or below t
-abbrev pub AcknowledgedBy : ℕ → List Event → Type 0
-AcknowledgedBy t [] = Unit {0}
-AcknowledgedBy t (event.End s i ts ∷ events) = (ts ≤ t) × AcknowledgedBy t events
-AcknowledgedBy t (_ ∷ events) = AcknowledgedBy t events
 
 -- no script is spelled so
 abbrev pub IsNoScript : List ℕ → Type 0

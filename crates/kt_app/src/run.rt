@@ -10,7 +10,7 @@ ghost use Rattle.kt_script.specs.Fit.{PlanFits};
 ghost use Rattle.kt_script.specs.Scripts.{workload};
 ghost use Rattle.kt_engine.specs.Engines.{IsContent};
 ghost use Rattle.kt_tablet.specs.Views.{unpromised};
-ghost use Rattle.kt_app.specs.Crash.{Ran, need_of};
+ghost use Rattle.kt_app.specs.Crash.{Ran, Kept, need_of};
 ghost use Rattle.kt_app.specs.Session.{IsCounted};
 ghost use Rattle.kt_app.specs.Turns.{root_of, IsOn, IsFresh, Rests, HasPlayed};
 
@@ -83,6 +83,10 @@ pub fn run_plan<L: Disk, D, C: Clock, G: Gate>(
     // in this call, and a crash now leaves what the run made of that.
     ensures run { IfSome result.0 (λ out. (first : Past) → IsContent engine first
         → Ran C.readings engine.tablet.clock result.1.clock L.tells L.now L.leaves result.1.log (workload engine.tablet.core.work.cells (record { columns = schema.now; plan = plan.now })) first engine.tablet.core.opened out.stopped out.text) }
+
+    // Whatever became of its text, a crash now leaves the first of its writes.
+    ensures kept { (first : Past) → IsContent engine first
+        → Kept C.readings engine.tablet.clock result.1.clock L.tells L.now L.leaves result.1.log (workload engine.tablet.core.work.cells (record { columns = schema.now; plan = plan.now })) first engine.tablet.core.opened }
     ensures store { result.1.store ≡ engine.store }
     ensures openable { IsTrue L.tells → CanOpen L.now L.leaves result.1.log }
     ensures faults { L.faults engine.device ≤ L.faults result.1.log }

@@ -11,7 +11,7 @@ ghost use Rattle.kt_script.specs.Fit.{PlanFits};
 ghost use Rattle.kt_script.specs.Scripts.{Said, Fault, script_of};
 ghost use Rattle.kt_boot.specs.Opening.{Found, content, opened};
 ghost use Rattle.kt_app.specs.Headline.{IsNoScript, AreRun};
-ghost use Rattle.kt_app.specs.Crash.{work_of, pool_of, Ran, RunsPlan, RunsScript, IsSaid, IsFaultOf, IsRefused, fault_text, refusal_text, IsRefusal, LeavesAsBefore};
+ghost use Rattle.kt_app.specs.Crash.{work_of, pool_of, Ran, RunsPlan, RunsScript, IsSaid, IsFaultOf, IsRefused, fault_text, refusal_text, IsRefusal, LeavesAsBefore, Kept, LeavesFirst};
 ghost use Rattle.kt_tablet.specs.Views.{unpromised};
 ghost use Rattle.kt_engine.specs.Engines.{IsContent};
 ghost use Rattle.kt_app.specs.Session.{IsCounted};
@@ -196,6 +196,8 @@ fn run_and_write<K: Sink, L: Disk, D, C: Clock, G: Gate>(
     ensures sink_fault { result.0 ≡ 6 → Rose (K.faults sink.old) (K.faults sink.new) }
     ensures memory { result.0 ≡ 7 → Appends (K.written sink.old) (K.written sink.new) [] }
     ensures statuses { (result.0 ≡ 0) ⊎ (result.0 ≡ 4) ⊎ (result.0 ≡ 6) ⊎ (result.0 ≡ 7) }
+    ensures kept { (first : Past) → IsContent engine first
+        → Kept C.readings engine.tablet.clock result.1.clock L.tells L.now L.leaves result.1.log (work_of (record { columns = schema.now; plan = plan.now })) first engine.tablet.core.opened }
     ensures store { result.1.store ≡ engine.store }
     ensures openable { IsTrue L.tells → CanOpen L.now L.leaves result.1.log }
 {
@@ -233,6 +235,7 @@ fn open_and_run<K: Sink, L: Disk, D, C: Clock, G: Gate>(
         ⊎ ((stopped : Bool) × RunsPlan C.readings clock result.clock L.tells L.seen L.now L.leaves log result.log (work_of (record { columns = schema.now; plan = plan.now })) stopped text)) }
     ensures memory { result.status ≡ 7 → Appends (K.written sink.old) (K.written sink.new) [] }
     ensures statuses { (result.status ≡ 0) ⊎ (result.status ≡ 3) ⊎ (result.status ≡ 4) ⊎ (result.status ≡ 6) ⊎ (result.status ≡ 7) }
+    ensures crash { LeavesFirst C.readings clock result.clock L.tells L.seen L.now L.leaves log result.log (record { columns = schema.now; plan = plan.now }) }
     ensures store { result.store ≡ store }
     ensures openable { IsTrue L.tells → CanOpen L.now L.leaves result.log }
 {
@@ -318,6 +321,11 @@ pub fn tablet_main<S: Source, K: Sink, L: Disk, D: Disk, C: Clock, G: Gate>(
     ensures unused { (result.status ≡ 1) ⊎ (result.status ≡ 2) ⊎ (result.status ≡ 5) → (result.log ≡ log) × (result.clock ≡ clock) }
     ensures untouched { result.status ≡ 3 → (result.clock ≡ clock) × ((said : Said) × IsSaid (S.left source.old) said × LeavesAsBefore (fill_of said.columns) L.tells L.now L.leaves log result.log) }
     ensures store { result.store ≡ store }
+
+    // Whatever the status, a crash now leaves what one before the call might have left, or what the log held with the first
+    // writes of a run of the script, each one with an `end` line among them.
+    ensures crash { (result.log ≡ log) ⊎ ((said : Said) × IsSaid (S.left source.old) said
+        × LeavesFirst C.readings clock result.clock L.tells L.seen L.now L.leaves log result.log said) }
 
     // The log may be opened again, whatever the status.
     ensures openable { IsTrue L.tells → CanOpen L.now L.leaves result.log }

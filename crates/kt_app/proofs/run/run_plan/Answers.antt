@@ -4,7 +4,7 @@ use Rattle.std.specs.Result.{result_ok}
 use Rattle.kt_app.specs.Turns.{root_of}
 use Rattle.kt_app.proofs.Planned.{planned}
 use Rattle.kt_app.proofs.RunLaws.{ran_as}
-use Rattle.kt_app.proofs.Runs.{ran_of, opens_again, no_fault_less, fault_more}
+use Rattle.kt_app.proofs.Runs.{kept_of, ran_of, opens_again, no_fault_less, fault_more}
 use Rattle.kt_app.proofs.run.run_plan.Goals as goal
 
 -- what is said of a value that is there
@@ -35,6 +35,12 @@ returns-in-Ok-clause-run g c =
     c.times-a.ensures.mark c.times-a.ensures.last c.take_apart-parts.ensures.trail c.as_slice.ensures fits text))
     c.output_of-output.ensures.stopped c.output_of-output.ensures.text c.output_of-output.ensures.fits)
 
+pub returns-in-Ok-clause-kept : goal.returns-in-Ok-clause-kept
+returns-in-Ok-clause-kept g c first content =
+    kept_of g.C.Clock.readings g.L.Disk.tells g.L.Disk.now g.L.Disk.leaves c.args.engine c.play-played.new.engine c.args.schema.now c.args.plan.now first
+    c.requires.fresh c.requires.work (c.play-played.ensures.root ∙ ap root_of c.set_plan.ensures) content c.standing.ensures.sound
+    c.take_apart-parts.result.clock c.take_apart-parts.result.log c.take_apart-parts.ensures.clock c.standing.ensures.recovers c.take_apart-parts.ensures.log
+
 pub returns-in-Ok-clause-openable : goal.returns-in-Ok-clause-openable
 returns-in-Ok-clause-openable g c = opens_again c.args.engine c.play-played.new.engine c.args.plan.now c.take_apart-parts.result.log (c.play-played.ensures.root ∙ ap root_of c.set_plan.ensures) c.standing.ensures.home c.take_apart-parts.ensures.log
 
@@ -48,6 +54,12 @@ returns-in-Ok-clause-fault g c =
     (λ out stopped told. fault_more c.args.engine c.play-played.new.engine c.args.plan.now c.take_apart-parts.result.log (c.play-played.ensures.root ∙ ap root_of c.set_plan.ensures) c.standing.ensures.home c.take_apart-parts.ensures.log
     (c.in-Ok.ensures.played.ended ∙ sym stopped ∙ told))
     c.output_of-output.ensures.stopped)
+
+pub returns-in-Err-clause-kept : goal.returns-in-Err-clause-kept
+returns-in-Err-clause-kept g c first content =
+    kept_of g.C.Clock.readings g.L.Disk.tells g.L.Disk.now g.L.Disk.leaves c.args.engine c.play-played.new.engine c.args.schema.now c.args.plan.now first
+    c.requires.fresh c.requires.work (c.play-played.ensures.root ∙ ap root_of c.set_plan.ensures) content c.standing.ensures.sound
+    c.take_apart-parts.result.clock c.take_apart-parts.result.log c.take_apart-parts.ensures.clock c.standing.ensures.recovers c.take_apart-parts.ensures.log
 
 pub returns-in-Err-clause-openable : goal.returns-in-Err-clause-openable
 returns-in-Err-clause-openable g c = opens_again c.args.engine c.play-played.new.engine c.args.plan.now c.take_apart-parts.result.log (c.play-played.ensures.root ∙ ap root_of c.set_plan.ensures) c.standing.ensures.home c.take_apart-parts.ensures.log

@@ -2,7 +2,7 @@ use Rattle.std.proofs.Common.{[], arith, ap, sym, subst, inr, true, ◌∙◌}
 use Rattle.kt_base.specs.Causes.{Rose}
 use Rattle.kt_history.specs.Machine.{Workload}
 use Rattle.kt_app.specs.Crash.{work_of}
-use Rattle.kt_app.proofs.RunLaws.{is_on, runs_over}
+use Rattle.kt_app.proofs.RunLaws.{is_on, runs_over, kept_over}
 use Rattle.kt_app.proofs.top.open_and_run.Goals as goal
 
 pub run_and_write-status-requires-clause-work : goal.run_and_write-status-requires-clause-work
@@ -41,4 +41,16 @@ returns-in-Ok-open_tablet-clause-stopped g c = λ e.
             opened.found.2 opened.clock.0 (sym is.3) (sym is.1) run.1,
         run.2,
       ),
+    )
+
+pub returns-in-Ok-open_tablet-clause-crash : goal.returns-in-Ok-open_tablet-clause-crash
+returns-in-Ok-open_tablet-clause-crash g c =
+    let is = c.end_with-in-Ok-open_tablet.ensures in
+    let opened = c.in-Ok-open_tablet.ensures in
+    inr (
+      opened.found.0,
+      c.in-Ok-open_tablet.engine.tablet.core.opened,
+      opened.found.2,
+      kept_over g.C.Clock.readings _ c.args.clock _ _ g.L.Disk.tells g.L.Disk.now g.L.Disk.leaves _ _ (work_of (record { columns = c.args.schema.now; plan = c.args.plan.now })) opened.found.0 _
+          opened.clock.0 (sym is.3) (sym is.1) (c.run_and_write-status.ensures.kept opened.found.0 opened.found.1),
     )
