@@ -25,7 +25,7 @@ pub enum Encoding {
 
 impl Form {
     /// How wide the values are.
-    pub(crate) fn width(self) -> Width
+    pub fn width(self) -> Width
         ensures { result ≡ forms.width self }
     {
         match self {
@@ -41,7 +41,8 @@ impl Form {
         }
     }
 
-    pub(crate) fn is_nullable(self) -> bool
+    /// Whether a cell may be null.
+    pub fn is_nullable(self) -> bool
         ensures { result ≡ forms.is_nullable self }
     {
         match self {
@@ -51,7 +52,7 @@ impl Form {
     }
 
     /// The most bytes that a string, a binary or a key has.
-    pub(crate) fn limit(self) -> usize
+    pub fn limit(self) -> usize
         ensures { result ≡ forms.limit self }
     {
         match self {
