@@ -1,6 +1,5 @@
 //! A clock in memory.
-ghost use Rattle.std.specs.Prelude.{◌≡◌, ◌∷◌, [], ℕ};
-ghost use Rattle.kt_base.specs.Causes.{Grows};
+ghost use Rattle.std.specs.Prelude.{◌≡◌, []};
 ghost use Rattle.kt_base.specs.Readings.{reading};
 
 use crate::{Clock, ReadingList};

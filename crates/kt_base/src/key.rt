@@ -1,6 +1,6 @@
 //! The spelling of a number in an encoded key.
 
-ghost use Rattle.std.specs.Prelude.{◌≡◌, ◌≤◌, ◌<◌, ◌+◌, ◌^◌, ◌-◌, ◌-ℤ◌, ◌+ℤ◌, pos, length, IfOk, take};
+ghost use Rattle.std.specs.Prelude.{◌≡◌, ◌≤◌, ◌<◌, ◌+◌, ◌^◌, ◌-◌, ◌-ℤ◌, pos, length, IfOk};
 ghost use Rattle.std.specs.Int.{w64, to_be_bytes, from_be_bytes};
 ghost use Rattle.kt_base.specs.Keys.{number_key, number_of_key, raised};
 

@@ -15,8 +15,6 @@ pub mod memory;
 pub mod octets;
 pub mod outside;
 pub mod refusal;
-#[cfg(test)]
-mod tests;
 
 pub use cell::{Cell, Cells, Kind, Row};
 pub use chore::Chore;

@@ -1,6 +1,6 @@
 //! Literals: the one spelling of a cell, and reading it again.
 
-ghost use Rattle.std.specs.Prelude.{◌≡◌, ◌≢◌, ◌<◌, ◌++◌, ◌∷◌, [], ℕ, ℤ, List, OnOk, OnErr, IfOk, IfSome, IfNone, All, not, is_some, false, true, ◌&&◌, IsTrue, codes, drop, ◌+◌, ◌*◌, FitsSigned};
+ghost use Rattle.std.specs.Prelude.{◌≡◌, ◌≢◌, ◌<◌, ◌++◌, [], ℤ, List, OnOk, OnErr, IfOk, IfSome, IfNone, All, is_some, false, true, ◌&&◌, IsTrue, drop, ◌+◌, ◌*◌, FitsSigned};
 ghost use Rattle.std.specs.Int.{w64};
 ghost use Rattle.std.specs.List.{before_first, position, list_all};
 ghost use Rattle.std.specs.Fmt.{signed_decimal};

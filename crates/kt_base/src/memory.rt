@@ -1,5 +1,5 @@
 //! A source and a sink in memory, which fail at the calls that they are told to.
-ghost use Rattle.std.specs.Prelude.{◌≡◌, ◌+◌, ◌≤◌, ◌++◌, [], ℕ, length, take, drop, min, IfOk, Some};
+ghost use Rattle.std.specs.Prelude.{◌≡◌, ◌+◌, ◌≤◌, [], length, take, drop, min, Some};
 ghost use Rattle.kt_base.specs.Causes.{Rose, HasCause};
 
 use crate::{CallList, Failed, NoMemory, Octets, Sink, Source};

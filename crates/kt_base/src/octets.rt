@@ -1,5 +1,5 @@
 //! Byte strings.
-ghost use Rattle.std.specs.Prelude.{◌≡◌, ◌+◌, ◌≤◌, ◌++◌, ◌∷◌, [], ◌==◌, length, IfOk, OnOk, OnErr, ℕ, IsOk, take, drop, vec_capacity, vec_len};
+ghost use Rattle.std.specs.Prelude.{◌≡◌, ◌+◌, ◌≤◌, ◌++◌, ◌∷◌, [], ◌==◌, length, IfOk, OnOk, OnErr, ℕ, take, drop};
 
 use crate::NoMemory;
 use std::alloc::Global;

@@ -1,7 +1,7 @@
 //! The outside world: where the script comes from, where the text goes, and the clock.
 //!
 //! What is told is optional: a real stream or clock tells nothing.
-ghost use Rattle.std.specs.Prelude.{◌≡◌, ◌≤◌, ◌<◌, ◌∷◌, [], List, ℕ, Option, length, IfOk};
+ghost use Rattle.std.specs.Prelude.{◌≤◌, ◌<◌, ◌∷◌, [], List, ℕ, Option, length, IfOk};
 ghost use Rattle.std.specs.Io.{ReadsAtMost};
 ghost use Rattle.std.specs.Io.KnownBytes.{ReadConsumes, WriteAppends};
 ghost use Rattle.kt_base.specs.Causes.{HasCause, Grows};

@@ -1,5 +1,4 @@
 //! The two refusals that any call may meet.
-ghost use Rattle.std.specs.Prelude.{◌≡◌};
 
 use std::alloc::{AllocError, AllocFailed};
 

@@ -1,8 +1,7 @@
 //! A base set: keys, columns, filter and index as one value.
-ghost use Rattle.std.specs.Prelude.{◌≡◌, ◌≢◌, ◌<◌, ◌≤◌, ◌^◌, ◌+◌, ◌*◌, ◌-◌, [], ℕ, List, All, length, IfOk, IfSome, IfNone, slice_index_or};
+ghost use Rattle.std.specs.Prelude.{◌≡◌, ◌≢◌, ◌<◌, ◌≤◌, ◌^◌, ◌+◌, ◌*◌, ◌-◌, [], ℕ, All, length, IfOk, IfSome, IfNone, slice_index_or};
 ghost use Rattle.kt_lookup.specs.Index.{IsBelow, Rises};
 ghost use Rattle.kt_lookup.specs.Tables.{Tables};
-ghost use Rattle.kt_column.specs.Columns.{ColumnValue};
 ghost use Rattle.kt_baseset.specs.Rows.{AreKeys, AllFit, IdsRise, IsBase, keys_in};
 ghost use Rattle.kt_baseset.specs.Tables as tables;
 ghost use Rattle.kt_baseset.specs.Tables.{BaseValue, bytes_of, key_at, cells_in, keys_of, HasCells};

@@ -1,5 +1,5 @@
 //! The columns of a base file that are not the key's: made of rows, and read.
-ghost use Rattle.std.specs.Prelude.{◌≡◌, ◌<◌, ◌≤◌, ◌^◌, ◌++◌, ℕ, List, All, length, IfOk, IfErr, MatchResult};
+ghost use Rattle.std.specs.Prelude.{◌≡◌, ◌<◌, ◌^◌, ◌++◌, ℕ, List, All, length, IfOk, IfErr, MatchResult};
 ghost use Rattle.kt_base.specs.declared.cell.Cell.{Cell};
 ghost use Rattle.kt_records.specs.declared.refusal.Stop.TheVariants as stops;
 ghost use Rattle.kt_column.specs.Blocks.{IsCell};

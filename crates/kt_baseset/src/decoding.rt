@@ -1,5 +1,5 @@
 //! From the bytes of a base file to its base set.
-ghost use Rattle.std.specs.Prelude.{◌≡◌, ◌++◌, ℕ, List, length, IfOk, IfErr, MatchResult};
+ghost use Rattle.std.specs.Prelude.{◌≡◌, List, IfOk, IfErr, MatchResult};
 ghost use Rattle.kt_records.specs.declared.refusal.Stop.TheVariants as stops;
 ghost use Rattle.kt_baseset.specs.declared.errors.CodecNo.TheVariants as answers;
 ghost use Rattle.kt_baseset.specs.declared.schema.ColumnShape.{ColumnShape};

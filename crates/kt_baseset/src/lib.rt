@@ -28,6 +28,3 @@ pub use decoding::decode;
 pub use errors::CodecNo;
 pub use rows::{KeyedRow, KeyedRows};
 pub use schema::{ColumnShape, Schema1};
-
-#[cfg(test)]
-mod tests;

@@ -16,6 +16,3 @@ mod tablet;
 pub use opening::Why;
 pub use reopening::{Reopened, reopen};
 pub use tablet::{Closed, open_tablet};
-
-#[cfg(test)]
-mod tests;

@@ -1,13 +1,12 @@
 //! A block of up to 8,192 cells.
 
-ghost use Rattle.std.specs.Prelude.{◌≡◌, ◌==◌, ◌<◌, ◌≤◌, ◌+◌, ◌++◌, ◌∷◌, [], ℕ, List, Bool, false, length, map, get_or, IfOk, OnOk, ◌^◌};
+ghost use Rattle.std.specs.Prelude.{◌≡◌, ◌==◌, ◌<◌, ◌≤◌, ◌+◌, ◌++◌, ◌∷◌, [], ℕ, List, Bool, false, length, get_or, IfOk, OnOk, ◌^◌};
 ghost use Rattle.std.specs.List.{concat};
 ghost use Rattle.std.specs.Ordering.{nat_cmp};
 ghost use Rattle.std.specs.Cmp.Lexicographic.{slice_cmp};
 ghost use Rattle.kt_base.specs.declared.cell.Cell.TheVariants as cells;
 ghost use Rattle.kt_plain.specs.declared.items.Items.TheVariants.{Numbers, Texts};
 ghost use Rattle.kt_plain.specs.Items.{count};
-ghost use Rattle.kt_plain.specs.Widths.{IsNumeric};
 ghost use Rattle.kt_column.specs.Forms.{width, is_nullable};
 ghost use Rattle.kt_column.specs.Blocks as spec;
 ghost use Rattle.kt_column.specs.Blocks.{AreCells, cell_len, numbers_in, texts_in, nulls_in, values_in, number_cell, value_cells, weave, AreNullsOf, Held, IsBlock, SpellsBlock};

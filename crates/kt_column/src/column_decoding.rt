@@ -1,6 +1,6 @@
 //! From the bytes of a column to its cells.
 
-ghost use Rattle.std.specs.Prelude.{◌≡◌, ◌<◌, ◌≤◌, ◌+◌, ◌^◌, ◌++◌, ℕ, List, length, IfOk, IfErr, MatchResult};
+ghost use Rattle.std.specs.Prelude.{◌≡◌, ◌<◌, ◌+◌, ◌++◌, ℕ, List, length, IfOk, IfErr, MatchResult};
 ghost use Rattle.kt_base.specs.declared.cell.Cell.{Cell};
 ghost use Rattle.kt_column.specs.Columns as spec;
 ghost use Rattle.kt_column.specs.Columns.{IsColumnFound, IsColumnRefusal, SpellsColumn};

@@ -1,12 +1,12 @@
 //! From the bytes of a block to its cells.
 
-ghost use Rattle.std.specs.Prelude.{◌≡◌, ◌<◌, ◌≤◌, ◌+◌, ◌^◌, ◌++◌, ℕ, List, length, drop, take, IfOk, IfErr, MatchResult};
+ghost use Rattle.std.specs.Prelude.{◌≡◌, ◌<◌, ◌≤◌, ◌+◌, ◌^◌, ◌++◌, ℕ, List, length, drop, IfOk, IfErr, MatchResult};
 ghost use Rattle.kt_column.specs.declared.errors.Stop.TheVariants as stops;
 ghost use Rattle.kt_column.specs.Blocks.{SpellsBlock};
 ghost use Rattle.kt_base.specs.declared.cell.Cell.{Cell};
 ghost use Rattle.kt_plain.specs.declared.items.Items.{Items};
-ghost use Rattle.kt_column.specs.Forms.{width, is_nullable, MayUse};
-ghost use Rattle.kt_column.specs.Reading.{Reads, IsStop, IsOrMemory};
+ghost use Rattle.kt_column.specs.Forms.{is_nullable, MayUse};
+ghost use Rattle.kt_column.specs.Reading.{Reads, IsOrMemory};
 ghost use Rattle.kt_column.specs.Nulls.{byte_len};
 ghost use Rattle.kt_column.specs.Faults as spec;
 ghost use Rattle.kt_column.specs.Faults.{AreNullsFor, FrontNulls, IsBody, IsBodyStop, IsBlockStop, IsContentStop, IsFound, IsRefusal, IsShiftable, IsValuesStop, ReadsContent, shifted};

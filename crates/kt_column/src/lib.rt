@@ -36,8 +36,3 @@ pub use decoding::{Found, decode_block};
 pub use errors::CodecNo;
 pub use form::{Encoding, Form};
 pub use laws::{one_column, one_column_spelling, one_spelling};
-
-#[cfg(test)]
-mod column_tests;
-#[cfg(test)]
-mod tests;

@@ -1,12 +1,11 @@
 //! The parts of a block's bytes in front of its values.
 
-ghost use Rattle.std.specs.Prelude.{◌≡◌, ◌≢◌, ◌<◌, ◌≤◌, ◌+◌, ◌^◌, ◌++◌, ◌∷◌, [], ℕ, List, Bool, length, IfOk, IfErr, MatchOption, MatchResult};
-ghost use Rattle.std.specs.Int.{w32, to_le_bytes};
+ghost use Rattle.std.specs.Prelude.{◌≡◌, ◌≢◌, ◌<◌, ◌≤◌, ◌+◌, ◌++◌, ℕ, List, Bool, length, IfOk, IfErr, MatchOption};
 ghost use Rattle.kt_column.specs.declared.form.Encoding.{Encoding};
 ghost use Rattle.kt_column.specs.Forms.{is_nullable, code, MayUse};
-ghost use Rattle.kt_column.specs.Nulls.{byte_len, null_bytes};
+ghost use Rattle.kt_column.specs.Nulls.{null_bytes};
 ghost use Rattle.kt_column.specs.Reading.{IsOrMemory};
-ghost use Rattle.kt_column.specs.Faults.{IsHead, IsHeadStop, FrontNulls, IsFrontStop, AreNullsFor, value_count};
+ghost use Rattle.kt_column.specs.Faults.{IsHead, IsHeadStop, FrontNulls, IsFrontStop, AreNullsFor};
 
 use crate::errors::Stop;
 use crate::form::{Encoding, Form};

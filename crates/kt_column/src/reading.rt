@@ -1,12 +1,11 @@
 //! From the bytes of a block's values to the values.
 
-ghost use Rattle.std.specs.Prelude.{◌≡◌, ◌<◌, ◌≤◌, ◌+◌, ◌^◌, ◌⊎◌, ℕ, List, length, All, IfOk, IfErr};
+ghost use Rattle.std.specs.Prelude.{◌≡◌, ◌<◌, ◌≤◌, length, All, IfOk, IfErr};
 ghost use Rattle.std.specs.Bool.{OnTrue, OnFalse};
 ghost use Rattle.kt_plain.specs.declared.items.Items.{Items};
 ghost use Rattle.kt_plain.specs.Widths.{IsNumeric};
 ghost use Rattle.kt_column.specs.declared.errors.Stop.TheVariants as stops;
 ghost use Rattle.kt_column.specs.Forms.{width, MayUse};
-ghost use Rattle.kt_column.specs.Values.{AreShort, IsEncoded};
 ghost use Rattle.kt_column.specs.Reading.{Reads, IsLong, IsStop, IsOrMemory};
 
 use crate::errors::Stop;

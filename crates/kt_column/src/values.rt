@@ -1,6 +1,6 @@
 //! The values of a block in their shortest encoding.
 
-ghost use Rattle.std.specs.Prelude.{◌≡◌, ◌<◌, ◌≤◌, ◌+◌, ◌-◌, ◌^◌, ◌++◌, ◌∷◌, [], ℕ, List, length, sum_by, IfOk, MatchOption};
+ghost use Rattle.std.specs.Prelude.{◌≡◌, ◌<◌, ◌-◌, ◌^◌, ℕ, List, length, sum_by, IfOk, MatchOption};
 ghost use Rattle.kt_column.specs.Forms.{width};
 ghost use Rattle.kt_column.specs.Values.{AreValues, IsEncoded, IsShortest, MayStand, run_width};
 ghost use Rattle.kt_plain.specs.Widths as plain_widths;

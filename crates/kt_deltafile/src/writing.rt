@@ -1,5 +1,5 @@
 //! Spelling a delta file.
-ghost use Rattle.std.specs.Prelude.{◌≡◌, ◌<◌, ◌^◌, ◌++◌, [], length, IfOk, OnOk};
+ghost use Rattle.std.specs.Prelude.{◌≡◌, ◌<◌, ◌^◌, ◌++◌, [], IfOk, OnOk};
 ghost use Rattle.std.specs.List.{flat_map};
 ghost use Rattle.kt_records.specs.Rules.{EachAfter};
 ghost use Rattle.kt_deltafile.specs.Rules.{ChangeFits, Follows, IsFile};

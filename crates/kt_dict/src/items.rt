@@ -1,6 +1,6 @@
 //! The cells of a block: byte lists in one buffer.
 
-ghost use Rattle.std.specs.Prelude.{◌≡◌, ◌+◌, ◌<◌, ◌≤◌, ◌==◌, [], ◌∷◌, ◌++◌, length, take, get_or, vec_len, OnOk, OnErr};
+ghost use Rattle.std.specs.Prelude.{◌≡◌, ◌+◌, ◌<◌, ◌≤◌, ◌==◌, [], ◌∷◌, ◌++◌, length, get_or, OnOk, OnErr};
 ghost use Rattle.std.specs.List.{between};
 ghost use Rattle.kt_dict.specs.Pieces as spec;
 

@@ -21,6 +21,3 @@ pub use laws::one_value;
 pub use octets::Octets;
 pub use reading::decode;
 pub use writing::{encode, encoded_len};
-
-#[cfg(test)]
-mod tests;

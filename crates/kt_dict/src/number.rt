@@ -1,6 +1,6 @@
 //! The numbers of two and of four bytes, the low byte first.
 
-ghost use Rattle.std.specs.Prelude.{◌≡◌, ◌^◌, ◌<◌, IfOk};
+ghost use Rattle.std.specs.Prelude.{◌<◌};
 ghost use Rattle.kt_dict.specs.Reading.{Gives, number_at, short_at};
 
 use crate::error::Stop;

@@ -1,6 +1,6 @@
 //! The dictionary as it is built.
 
-ghost use Rattle.std.specs.Prelude.{◌≡◌, map, length, not, OnOk, IfOk};
+ghost use Rattle.std.specs.Prelude.{◌≡◌, map, not, OnOk, IfOk};
 ghost use Rattle.kt_dict.specs.Spelling.{place, has, with_entry};
 
 use crate::error::NoMemory;

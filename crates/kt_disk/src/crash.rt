@@ -2,7 +2,7 @@
 ghost use Rattle.std.specs.Prelude.{◌≡◌, ◌≢◌, ◌==◌, ◌++◌, ℕ, None, IsSome, is_some, map, length, reverse, if◌then◌else◌, IfOk, OnOk};
 ghost use Rattle.kt_disk.specs.Disk.{bytes_of, put, Torn};
 ghost use Rattle.kt_disk.specs.Memory.{listed, after, IsLeft};
-ghost use Rattle.kt_disk.specs.Left.{Goes, GoesIf, Made};
+ghost use Rattle.kt_disk.specs.Left.{Goes, GoesIf};
 
 use crate::memory::overwritten;
 use crate::{Change, Event, FileBytes};

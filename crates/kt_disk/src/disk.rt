@@ -1,5 +1,5 @@
 //! The contract of a disk.
-ghost use Rattle.std.specs.Prelude.{◌≡◌, ◌≢◌, ◌+◌, ◌≤◌, Bool, IsTrue, ℕ, List, length, take, drop, Some, None, Err, IfOk, OnOk};
+ghost use Rattle.std.specs.Prelude.{◌≡◌, ◌≢◌, ◌+◌, ◌≤◌, Bool, IsTrue, ℕ, length, take, drop, Some, None, Err, IfOk, OnOk};
 ghost use Rattle.kt_disk.specs.Disk.{Files, held, put, shortened, Torn, Cut, Gone, On, Same, Turns, AreFiles};
 ghost use Rattle.kt_base.specs.Causes.{Rose, HasCause};
 

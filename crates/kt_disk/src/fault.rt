@@ -1,6 +1,5 @@
 //! A disk that fails the calls that are listed.
-ghost use Rattle.std.specs.Prelude.{◌≡◌, ◌+◌, ◌-◌, ◌^◌, ◌≤◌, min, is_err, MatchResult};
-ghost use Rattle.kt_base.specs.Causes.{Rose, HasCause};
+ghost use Rattle.std.specs.Prelude.{◌≡◌, ◌+◌, ◌-◌, ◌^◌, min, is_err, MatchResult};
 ghost use Rattle.kt_disk.specs.Fault.{inner_of, plan_of, untouched, is_listed_call, is_listed_change, fails_look, fails_change, after_look, after_change};
 
 use crate::{Disk, DiskNo, Fail, FailList, FileList};

@@ -18,6 +18,3 @@ pub use fault::FaultDisk;
 pub use gate::{Gate, HeldDisk, PassGate, Point};
 pub use lists::{Fail, FailList, FileBytes, FileBytesList, FileList};
 pub use memory::MemDisk;
-
-#[cfg(test)]
-mod tests;

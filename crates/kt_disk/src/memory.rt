@@ -1,5 +1,5 @@
 //! A disk in memory, which keeps its calls.
-ghost use Rattle.std.specs.Prelude.{◌≡◌, ◌+◌, ◌≤◌, ◌==◌, ◌++◌, [], ◌∷◌, ℕ, List, true, length, take, drop, IsErr, Option, Some, None, if◌then◌else◌, IfOk, OnOk, OnErr};
+ghost use Rattle.std.specs.Prelude.{◌≡◌, ◌+◌, ◌≤◌, ◌==◌, ◌++◌, [], ◌∷◌, ℕ, true, length, IsErr, Some, None, if◌then◌else◌, IfOk, OnOk, OnErr};
 ghost use Rattle.std.specs.Ordering.{nat_cmp};
 ghost use Rattle.std.specs.BTreeMap as tree;
 ghost use Rattle.kt_disk.specs.Disk.{bytes_of, put, shortened};

@@ -12,6 +12,6 @@ pub mod Plans
 pub mod Devices
 pub mod Raised
 pub mod Crashes
-pub mod Examples
+pub mod Empty
 pub mod Placed
 pub mod Visiting

@@ -1,4 +1,3 @@
 pub mod Logged
 pub mod Engines
 pub mod Visits
-pub mod Examples

@@ -13,6 +13,3 @@ pub use engine::{Engine, Parts};
 pub use kt_tablet::{BeginNo, LookNo, Snap, SnapNo, SnapView, Stopped};
 pub use log::{Broken, LogNo};
 pub use write::WriteDone;
-
-#[cfg(test)]
-mod tests;

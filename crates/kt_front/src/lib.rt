@@ -27,6 +27,3 @@ pub use reading::decode;
 pub use starts::{Starts, compare_at};
 pub use walking::compare;
 pub use writing::{cell_len, encode};
-
-#[cfg(test)]
-mod tests;

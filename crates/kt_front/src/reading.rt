@@ -1,6 +1,6 @@
 //! From a block to its list.
 
-ghost use Rattle.std.specs.Prelude.{◌≡◌, ◌≤◌, ◌++◌, [], List, ℕ, length, take, IfOk};
+ghost use Rattle.std.specs.Prelude.{◌≤◌, ◌++◌, [], List, ℕ, length, take, IfOk};
 ghost use Rattle.kt_front.specs.Reading.{Gives, Spells, IsAnswer, IsItems, shared_at, rest_at, cell_at, items_at, block_at};
 
 use crate::error::{CodecNo, Stop, Width};

@@ -1,6 +1,6 @@
 //! Where the stretches of a block begin, so that an item is found by reading its stretch alone.
 
-ghost use Rattle.std.specs.Prelude.{◌≡◌, ◌<◌, ◌≤◌, ◌+◌, ◌*◌, ◌-◌, ◌%◌, ℕ, List, [], length, get_or, IfOk, OnErr, take};
+ghost use Rattle.std.specs.Prelude.{◌≡◌, ◌<◌, ◌-◌, ◌%◌, ℕ, List, [], length, get_or, IfOk};
 ghost use Rattle.kt_front.specs.Reading.{Spells};
 ghost use Rattle.kt_front.specs.Walking as spec;
 ghost use Rattle.kt_front.specs.Walking.{IsBlock, order};

@@ -1,7 +1,7 @@
 //! Ordering an item against a key on the encoded bytes.
 
-ghost use Rattle.std.specs.Prelude.{◌≡◌, ◌≤◌, ◌<◌, ◌*◌, ◌+◌, ℕ, List, [], length, drop, get_or, IfOk, IfErr};
-ghost use Rattle.kt_front.specs.Spelling.{shared, spelling};
+ghost use Rattle.std.specs.Prelude.{◌≡◌, ◌≤◌, ◌<◌, ◌+◌, ℕ, List, [], length, drop, get_or, IfOk, IfErr};
+ghost use Rattle.kt_front.specs.Spelling.{shared};
 ghost use Rattle.kt_front.specs.Reading.{Gives};
 ghost use Rattle.kt_front.specs.Walking as spec;
 ghost use Rattle.kt_front.specs.Walking.{fields_at, IsBlock, order};

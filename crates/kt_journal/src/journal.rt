@@ -1,5 +1,5 @@
 //! An open log.
-ghost use Rattle.std.specs.Prelude.{◌≡◌, ◌+◌, ◌++◌, ◌^◌, ◌<◌, ◌≤◌, [], IsTrue, true, length, List, ℕ, Ok, Err, IsOk, OnOk, IfOk, IfErr};
+ghost use Rattle.std.specs.Prelude.{◌≡◌, ◌+◌, ◌++◌, ◌<◌, ◌≤◌, [], IsTrue, true, length, List, Ok, Err, IsOk, OnOk, IfOk, IfErr};
 ghost use Rattle.std.specs.List.{All};
 ghost use Rattle.kt_base.specs.Causes.{Rose};
 ghost use Rattle.kt_disk.specs.Disk.{LeavesOnly};

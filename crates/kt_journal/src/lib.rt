@@ -15,6 +15,3 @@ mod spell;
 
 pub use journal::{Journal, open_journal};
 pub use refusal::{AppendNo, JournalNo};
-
-#[cfg(test)]
-mod tests;

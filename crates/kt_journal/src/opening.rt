@@ -1,8 +1,8 @@
 //! Opening a log.
-ghost use Rattle.std.specs.Prelude.{◌≡◌, ◌+◌, ◌++◌, ◌^◌, ◌<◌, ◌≤◌, [], ◌∷◌, ℕ, List, map, IsTrue, None, Some, Ok, Err, length, OnOk, IfOk};
+ghost use Rattle.std.specs.Prelude.{◌≡◌, ◌+◌, ◌^◌, ◌<◌, ◌≤◌, List, map, IsTrue, None, Ok, Err, length, OnOk, IfOk};
 ghost use Rattle.std.specs.List.{flat_map};
 ghost use Rattle.kt_base.specs.Causes.{Rose, HasCause};
-ghost use Rattle.kt_disk.specs.Disk.{Files, held, Same, Turns, LeavesOnly, Stable};
+ghost use Rattle.kt_disk.specs.Disk.{Files, held, Same, Turns, LeavesOnly};
 ghost use Rattle.kt_records.specs.Spelling.{spelling};
 ghost use Rattle.kt_journal.specs.Frames.{frame, AllFit, sound, frames_of, payloads_of, Settled, IsShort, IsSteady, IsFrom, EndsAt};
 ghost use Rattle.kt_journal.specs.Log.{log_of, records_of, IsLog, Holds, IsOf, CanOpen};

@@ -1,7 +1,6 @@
 //! The bytes of a batch.
-ghost use Rattle.std.specs.Prelude.{◌≡◌, ◌+◌, ◌/◌, ◌%◌, ◌≤◌, ◌++◌, ◌^◌, ◌<◌, [], ◌∷◌, map, length, slice_set, IfOk, OnOk};
+ghost use Rattle.std.specs.Prelude.{◌≡◌, ◌+◌, ◌/◌, ◌%◌, ◌≤◌, ◌++◌, ◌<◌, [], ◌∷◌, map, length, slice_set, IfOk, OnOk};
 ghost use Rattle.std.specs.List.{flat_map, All};
-ghost use Rattle.std.specs.Int.{w32, to_le_bytes};
 ghost use Rattle.kt_records.specs.Spelling.{spelling};
 ghost use Rattle.kt_journal.specs.Frames.{frame};
 ghost use Rattle.kt_journal.specs.Order.{IsFramed};

@@ -1,5 +1,5 @@
 //! The length of an encoded key.
-ghost use Rattle.std.specs.Prelude.{◌≡◌, ◌-◌, ◌^◌, ◌+◌, min, length, IsTrue, count_by, ◌==◌};
+ghost use Rattle.std.specs.Prelude.{◌≡◌, ◌-◌, ◌^◌, min, length, IsTrue, count_by, ◌==◌};
 ghost use Rattle.std.specs.Int.{byte_len};
 ghost use Rattle.kt_base.specs.Keys.{escaped, width_of};
 ghost use Rattle.kt_key.specs.Fit.{is_key};

@@ -14,6 +14,3 @@ pub use fit::has_kind;
 pub use length::key_len;
 pub use read::decode_key;
 pub use spell::{encode_key, encode_key_into};
-
-#[cfg(test)]
-mod tests;

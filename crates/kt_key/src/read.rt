@@ -1,6 +1,6 @@
 //! Reading encoded keys.
 ghost use Rattle.std.specs.Prelude.{◌≡◌, ◌*◌, ◌^◌, ◌<◌, ◌≤◌, length, take, IsTrue, IfOk, MatchOption, slice_index, pos, ◌-ℤ◌};
-ghost use Rattle.std.specs.Int.{byte_len, to_be_bytes, w8, w16, w32, w64};
+ghost use Rattle.std.specs.Int.{to_be_bytes, w8, w16, w32, w64};
 ghost use Rattle.kt_base.specs.Keys.{raised, is_text};
 ghost use Rattle.kt_key.specs.Fit.{in_range, is_number};
 ghost use Rattle.kt_key.specs.Reading.{IsRead};

@@ -8,6 +8,3 @@ pub mod laws;
 mod side;
 
 pub use side::{Batch, LogNo, LogSide};
-
-#[cfg(test)]
-mod tests;

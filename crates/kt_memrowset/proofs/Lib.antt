@@ -11,4 +11,3 @@ pub mod Joining
 pub mod Applying
 pub mod Releasing
 pub mod Listing
-pub mod Testing

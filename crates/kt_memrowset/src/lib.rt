@@ -10,8 +10,6 @@ pub mod chain;
 pub mod laws;
 pub mod link;
 pub mod store;
-#[cfg(test)]
-mod tests;
 pub mod write;
 
 pub use store::MemRowSet;

@@ -1,9 +1,9 @@
 //! The clock and the flying writes of a tablet.
-ghost use Rattle.std.specs.Prelude.{◌≡◌, ◌+◌, ◌-◌, ◌^◌, ◌<◌, ◌≤◌, ◌++◌, ◌∷◌, [], ℕ, min, max, not, false, true, IfOk, IfErr, OnOk, OnErr, Option, Some, None, ◌==◌};
+ghost use Rattle.std.specs.Prelude.{◌≡◌, ◌+◌, ◌-◌, ◌^◌, ◌<◌, ◌≤◌, ◌++◌, ◌∷◌, [], min, max, not, false, true, IfOk, IfErr, OnOk, OnErr, Option, Some, None, ◌==◌};
 ghost use Rattle.std.specs.List.{filter};
 ghost use Rattle.std.specs.Result.{result_err};
 ghost use Rattle.kt_history.specs.Machine.{next_timestamp, clean_below};
-ghost use Rattle.kt_mvcc.specs.Flying.{least_of, holds_one, holder, flies};
+ghost use Rattle.kt_mvcc.specs.Flying.{least_of, holder, flies};
 ghost use Rattle.kt_mvcc.specs.Held.{Tells, KeepsOthers};
 ghost use Rattle.kt_mvcc.specs.Waits.{IsRefused, lesser_of};
 

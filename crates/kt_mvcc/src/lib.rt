@@ -10,6 +10,3 @@ mod held;
 
 pub use flier::{Flier, KeyList};
 pub use flight::{Flight, MvccNo};
-
-#[cfg(test)]
-mod tests;

@@ -26,6 +26,3 @@ pub use numbers::Numbers;
 pub use octets::Octets;
 pub use texts::Texts;
 pub use widths::Width;
-
-#[cfg(test)]
-mod tests;

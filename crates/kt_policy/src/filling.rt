@@ -1,5 +1,5 @@
 //! The sums of widths, each row found from the row before it.
-ghost use Rattle.std.specs.Prelude.{◌≡◌, ◌<◌, ◌≤◌, ◌↔◌, ℕ, ◌^◌, length, slice_index, IfOk, IsTrue, []};
+ghost use Rattle.std.specs.Prelude.{◌≡◌, ◌<◌, ◌↔◌, ◌^◌, length, IfOk, IsTrue, []};
 ghost use Rattle.std.specs.List.{All};
 ghost use Rattle.kt_policy.specs.Gain.{IsCandidate, AreCandidates};
 ghost use Rattle.kt_policy.specs.Sums.{IsRow, IsPart, IsTable, in_order};

@@ -1,13 +1,13 @@
 //! Cells in chains. A chain begins at a cell, and each cell names the next. The bytes of a place lie along its chain.
-ghost use Rattle.std.specs.Prelude.{◌≡◌, ◌≢◌, ℕ, ◌+◌, ◌-◌, ◌*◌, ◌/◌, ◌%◌, ◌<◌, ◌≤◌, length, drop, get_or, ◌++◌, if◌then◌else◌, OnErr};
+ghost use Rattle.std.specs.Prelude.{◌≡◌, ◌≢◌, ℕ, ◌+◌, ◌-◌, ◌*◌, ◌/◌, ◌%◌, ◌<◌, ◌≤◌, length, get_or, ◌++◌, if◌then◌else◌, OnErr};
 ghost use Rattle.std.specs.Result.{is_ok};
 ghost use Rattle.std.specs.Ordering.{nat_cmp};
 ghost use Rattle.std.specs.Cmp.Lexicographic.{slice_cmp};
 ghost use Rattle.std.specs.Vec.{vec_capacity, vec_len};
 ghost use Rattle.kt_pool.specs.Contents.{cells_for};
-ghost use Rattle.kt_pool.specs.Cells.{KeepsChains, IsChain, IsFull, walk, next_at, len_at, load_at, byte_at, content, written, nothing, Fills, Frees};
+ghost use Rattle.kt_pool.specs.Cells.{KeepsChains, IsChain, IsFull, walk, len_at, load_at, byte_at, content, written, nothing, Fills, Frees};
 ghost use Rattle.kt_pool.specs.Clearing.{Clears};
-ghost use Rattle.std.specs.Prelude.{◌^◌, min, slice_range, replicate};
+ghost use Rattle.std.specs.Prelude.{min, slice_range, replicate};
 
 use std::alloc::AllocError;
 use std::cmp::Ordering;

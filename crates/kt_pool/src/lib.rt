@@ -12,5 +12,3 @@ mod cells;
 pub mod error;
 pub mod place;
 pub mod pool;
-#[cfg(test)]
-mod tests;

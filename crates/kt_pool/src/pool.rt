@@ -1,4 +1,4 @@
-ghost use Rattle.std.specs.Prelude.{◌≡◌, ◌≢◌, ℕ, ◌+◌, ◌-◌, ◌*◌, ◌/◌, ◌<◌, ◌≤◌, ◌↔◌, length, IsOk, IfOk, OnOk, OnErr, MatchResult, slice_index, set, Some, None};
+ghost use Rattle.std.specs.Prelude.{◌≡◌, ◌+◌, ◌-◌, ◌*◌, ◌/◌, ◌<◌, ◌≤◌, ◌↔◌, length, IsOk, IfOk, OnOk, OnErr, MatchResult, slice_index, set, Some, None};
 ghost use Rattle.std.specs.Prelude.{replicate, ◌++◌, if◌then◌else◌, min, slice_range};
 ghost use Rattle.std.specs.Result.{is_ok};
 ghost use Rattle.std.specs.Ordering.{nat_cmp};

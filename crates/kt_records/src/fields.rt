@@ -2,7 +2,7 @@
 //!
 //! Each function gives the field and the bytes after it, or `Stop::Left` with how many bytes stand from the fault to the
 //! end: none where bytes are missing, and all from the field's first byte on where the field is wrong.
-ghost use Rattle.std.specs.Prelude.{◌≡◌, ◌==◌};
+ghost use Rattle.std.specs.Prelude.{◌≡◌};
 ghost use Rattle.std.specs.Int.{w16, w32, w64};
 ghost use Rattle.kt_records.specs.Rules.{has_key};
 ghost use Rattle.kt_records.specs.Reading.{Gives, number_at, bytes_at, flag_at, cell_at, kind_at, new_key_at, outcome_at, target_at};

@@ -19,6 +19,3 @@ pub use entry::{CommitRow, CommitRows, Entry, RecordList, TargetList};
 pub use reading::read_record;
 pub use refusal::CodecNo;
 pub use writing::spell;
-
-#[cfg(test)]
-mod tests;

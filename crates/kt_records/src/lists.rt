@@ -1,6 +1,6 @@
 //! Lists behind their counts, read from the front of some bytes.
-ghost use Rattle.std.specs.Prelude.{◌≡◌, ◌<◌, ◌^◌, ◌+◌, [], length};
-ghost use Rattle.kt_records.specs.Rules.{may_list, may_change, may_hold};
+ghost use Rattle.std.specs.Prelude.{◌≡◌, ◌<◌, []};
+ghost use Rattle.kt_records.specs.Rules.{may_list, may_change};
 ghost use Rattle.kt_records.specs.Reading.{Gives, cell_list_at, operation_at, target_at, target_list_at, commit_row_at, many_at};
 
 use crate::cell_lists::counted_cells_of;

@@ -1,5 +1,5 @@
 //! Bytes that are added behind others, and may be taken back.
-ghost use Rattle.std.specs.Prelude.{◌≡◌, ◌++◌, ◌∷◌, [], OnOk, OnErr};
+ghost use Rattle.std.specs.Prelude.{◌≡◌, ◌++◌, ◌∷◌, [], OnOk};
 
 use kt_base::{NoMemory, Octets};
 use std::marker::Model;

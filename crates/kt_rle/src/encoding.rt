@@ -1,7 +1,7 @@
 //! Items as bytes.
 
 ghost use Rattle.std.specs.Prelude.{◌≡◌, ◌≢◌, ◌≤◌, ◌<◌, ◌++◌, ℕ, pos, length, slice_index_or, IfOk, IfErr, OnOk};
-ghost use Rattle.kt_rle.specs.Widths.{number, IsInWidth};
+ghost use Rattle.kt_rle.specs.Widths.{IsInWidth};
 ghost use Rattle.kt_rle.specs.Runs.{run_bytes};
 ghost use Rattle.kt_rle.specs.Spelling.{Fits, Spells, Takes};
 

@@ -23,6 +23,3 @@ pub use items::{Item, Items, get};
 pub use laws::{one_spelling, one_value};
 pub use octets::Octets;
 pub use widths::Width;
-
-#[cfg(test)]
-mod tests;

@@ -1,5 +1,5 @@
 //! The searches over ranges that stand by their least keys.
-ghost use Rattle.std.specs.Prelude.{◌≡◌, ◌<◌, ◌≤◌, ◌+◌, ◌++◌, ◌∷◌, [], ℕ, length, get_or, take, true, false, reverse, vec_len, List};
+ghost use Rattle.std.specs.Prelude.{◌≡◌, ◌<◌, ◌≤◌, ◌+◌, [], ℕ, length, get_or, true, false, reverse};
 ghost use Rattle.std.specs.Vec.{vec_capacity};
 ghost use Rattle.kt_rowtree.specs.Ranges.{is_upto, holders_of, AreHolders, IsByLeast, EndsLast, AreSkips};
 

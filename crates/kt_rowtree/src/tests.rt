@@ -1,5 +1,4 @@
-ghost use Rattle.std.specs.Prelude.{◌≡◌, ◌≤◌, length, IfOk, vec_len, true};
-ghost use Rattle.std.specs.Vec.{vec_capacity};
+ghost use Rattle.std.specs.Prelude.{◌≡◌, length, IfOk, true};
 ghost use Rattle.kt_rowtree.specs.Ranges.{is_upto, IsOrderly};
 
 use crate::lists::{IdList, NoMemory, Octets, Range, RangeList};

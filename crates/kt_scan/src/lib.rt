@@ -12,6 +12,3 @@ mod scanning;
 mod tested;
 
 pub use scanning::run;
-
-#[cfg(test)]
-mod tests;

@@ -1,5 +1,5 @@
 //! A scan over several views.
-ghost use Rattle.std.specs.Prelude.{◌≡◌, ◌≤◌, ℕ, IfOk};
+ghost use Rattle.std.specs.Prelude.{◌≡◌, ◌≤◌, IfOk};
 ghost use Rattle.std.specs.List.{All};
 ghost use Rattle.kt_history.specs.Replies.{shown};
 ghost use Rattle.kt_scan.specs.Encoded.{keys_of};

@@ -1,5 +1,5 @@
 //! Columns, and why some make no schema.
-ghost use Rattle.std.specs.Prelude.{◌≡◌, length, ◌==◌};
+ghost use Rattle.std.specs.Prelude.{◌≡◌};
 
 use kt_base::{Cell, Kind, Octets};
 use std::marker::Model;

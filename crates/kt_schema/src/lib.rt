@@ -14,6 +14,3 @@ pub use column::{Column, ColumnList, SchemaNo};
 pub use name::is_name;
 pub use row::RowNo;
 pub use schema::Schema;
-
-#[cfg(test)]
-mod tests;

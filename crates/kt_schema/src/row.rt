@@ -1,5 +1,5 @@
 //! The check of a row.
-ghost use Rattle.std.specs.Prelude.{◌≡◌, ◌&&◌, ◌||◌, not, Some, None};
+ghost use Rattle.std.specs.Prelude.{◌≡◌, ◌&&◌, not, Some, None};
 ghost use Rattle.std.specs.Result.{result_err};
 ghost use Rattle.kt_key.specs.Fit.{has_kind};
 ghost use Rattle.kt_schema.specs.Columns.{columns_no, key_kinds};

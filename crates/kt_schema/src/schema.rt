@@ -1,5 +1,5 @@
 //! A schema: columns that have passed the checks.
-ghost use Rattle.std.specs.Prelude.{◌≡◌, ◌≤◌, ◌&&◌, length, take, drop, map, filter, not, Option, Some, None, IfOk, OnOk, IfErr, unwrap_or};
+ghost use Rattle.std.specs.Prelude.{◌≡◌, ◌≤◌, ◌&&◌, length, take, drop, not, Option, Some, None, IfOk, OnOk, IfErr, unwrap_or};
 ghost use Rattle.std.specs.List.{list_any};
 ghost use Rattle.kt_schema.specs.Columns.{is_weak, same_name, late_column, weak_column, again_column, columns_no, told_no, key_columns, other_columns, key_kinds, fill_of};
 

@@ -1,13 +1,12 @@
 //! Column lines.
 
-ghost use Rattle.std.specs.Prelude.{◌≡◌, ◌≤◌, ◌<◌, ◌++◌, ◌∷◌, [], not, length, IfOk};
+ghost use Rattle.std.specs.Prelude.{◌≡◌, ◌<◌, not};
 ghost use Rattle.std.specs.List.{list_any};
 ghost use Rattle.std.specs.Option.{option_map};
 ghost use Rattle.std.specs.Ordering.{nat_cmp, is_eq};
 ghost use Rattle.std.specs.Cmp.Lexicographic.{slice_cmp};
 ghost use Rattle.kt_script.specs.Pieces.{words_of, words_in, text_now};
-ghost use Rattle.kt_script.specs.Reasons.{sound};
-ghost use Rattle.kt_script.specs.Columns.{kind_of, with_default, as_key, marked, column_line, line_view, place_no, column_no, columns_with, ReadsDefault, ReadsColumn};
+ghost use Rattle.kt_script.specs.Columns.{kind_of, with_default, as_key, marked, column_line, line_view, place_no, ReadsDefault, ReadsColumn};
 
 use crate::word::next_word;
 use kt_base::limits::COLUMNS;

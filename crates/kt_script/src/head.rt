@@ -1,9 +1,8 @@
 //! The first lines of a script: the word `table`, and the columns.
 
-ghost use Rattle.std.specs.Prelude.{◌≡◌, ◌≤◌, ◌∷◌, ◌+◌, ◌++◌, [], OnOk, IfOk, true, None};
+ghost use Rattle.std.specs.Prelude.{◌≡◌, ◌∷◌, ◌+◌, ◌++◌, [], OnOk, IfOk, true, None};
 ghost use Rattle.std.specs.List.{list_any};
 ghost use Rattle.kt_schema.specs.Columns.{told_no};
-ghost use Rattle.kt_script.specs.Pieces.{cut};
 ghost use Rattle.kt_script.specs.Columns.{begins_column, IsTable};
 ghost use Rattle.kt_script.specs.Scripts.{IsHead, IsColumns, IsLineCut, IsTableRead, IsNoKey, located};
 

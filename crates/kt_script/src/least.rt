@@ -1,7 +1,7 @@
 //! The least reason that was found in a line so far.
 
 ghost use Rattle.std.specs.Prelude.{◌≡◌, ◌≤◌, min, IfOk, OnOk};
-ghost use Rattle.kt_script.specs.Reasons.{sound, cell_reason, cell_no, cell_value, form_reason, form_no};
+ghost use Rattle.kt_script.specs.Reasons.{sound, cell_reason, cell_no, cell_value, form_no};
 
 use crate::columns::SOUND;
 use kt_base::literal::{LiteralNo, read_literal};

@@ -12,16 +12,8 @@
 pub mod asked;
 pub mod columns;
 pub mod head;
-#[cfg(test)]
-mod head_fault_tests;
-#[cfg(test)]
-mod head_tests;
 pub mod laws;
 pub mod least;
-#[cfg(test)]
-mod limit_tests;
-#[cfg(test)]
-mod line_fault_tests;
 pub mod lists;
 pub mod named;
 pub mod names;
@@ -30,30 +22,16 @@ pub mod operations;
 pub mod out_lines;
 pub mod output;
 pub mod print;
-#[cfg(test)]
-mod print_tests;
 pub mod refusal;
 pub mod replies;
 pub mod reread;
-#[cfg(test)]
-mod reread_tests;
 pub mod scans;
 pub mod script;
-#[cfg(test)]
-mod script_tests;
 pub mod sessions;
 pub mod split;
 pub mod test_words;
-#[cfg(test)]
-mod tests;
-#[cfg(test)]
-mod time_tests;
 pub mod times;
-#[cfg(test)]
-mod turn_tests;
 pub mod word;
-#[cfg(test)]
-mod write_tests;
 pub mod writes;
 
 pub use head::{Table, read_table};

@@ -1,9 +1,7 @@
 //! NAME=LIT: the named cells of an upsert or an update.
 
-ghost use Rattle.std.specs.Prelude.{◌≡◌, ◌<◌, ◌++◌, ◌∷◌, [], not, ◌&&◌, min, map, drop, is_some, IfOk, OnOk};
+ghost use Rattle.std.specs.Prelude.{◌≡◌, ◌<◌, ◌++◌, ◌∷◌, [], not, ◌&&◌, min, map, drop, IfOk, OnOk};
 ghost use Rattle.std.specs.List.{list_any};
-ghost use Rattle.std.specs.Ordering.{nat_cmp};
-ghost use Rattle.std.specs.FinMap.Entries.{put};
 ghost use Rattle.kt_base.specs.Literals.{same};
 ghost use Rattle.kt_script.specs.Reasons.{reason_if};
 ghost use Rattle.kt_script.specs.Writes.{name_in, behind_name, column_named, named_no, all_named_no, with_named, all_named, must_be_named, op_in, later_in, names_now, again_no, IsGiven};

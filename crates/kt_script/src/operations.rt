@@ -1,6 +1,6 @@
 //! The words of one operation, and the cells and the key that its first words spell.
 
-ghost use Rattle.std.specs.Prelude.{◌≡◌, ◌<◌, ◌++◌, ◌∷◌, [], min, length, drop, map, ◌&&◌, nat_lt, true, IfOk, OnOk, IfSome, IfNone, None};
+ghost use Rattle.std.specs.Prelude.{◌≡◌, ◌<◌, [], min, length, drop, ◌&&◌, nat_lt, true, IfOk, OnOk, IfSome, IfNone, None};
 ghost use Rattle.kt_key.specs.Fit.{is_key};
 ghost use Rattle.kt_key.specs.Spelling.{spelling};
 ghost use Rattle.kt_schema.specs.Columns.{columns_no, key_columns, key_kinds};

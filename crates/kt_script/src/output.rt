@@ -1,6 +1,6 @@
 //! The output of a run: the replies of each session, the history and the last line.
 
-ghost use Rattle.std.specs.Prelude.{◌≡◌, ◌≤◌, ◌+◌, ◌<◌, ◌^◌, ◌++◌, ◌∷◌, [], OnOk, OnErr, length, map, codes};
+ghost use Rattle.std.specs.Prelude.{◌≡◌, ◌≤◌, ◌+◌, ◌<◌, ◌++◌, ◌∷◌, [], OnOk, OnErr, length, map, codes};
 ghost use Rattle.std.specs.List.{flat_map};
 ghost use Rattle.std.specs.Fmt.{decimal};
 ghost use Rattle.kt_script.specs.Texts.{line, words, literals, row_text, outcome_word, reply_words, reply_text, session_text, sessions_text, event_line, last_text, output_text};

@@ -4,7 +4,7 @@ ghost use Rattle.std.specs.Prelude.{◌≡◌, ◌++◌, ◌∷◌, OnOk, IfOk, 
 ghost use Rattle.std.specs.Fmt.{decimal};
 ghost use Rattle.std.specs.List.{flat_map};
 ghost use Rattle.std.specs.Option.{option_copied};
-ghost use Rattle.kt_script.specs.Texts.{line, spaced, literals};
+ghost use Rattle.kt_script.specs.Texts.{spaced, literals};
 ghost use Rattle.kt_base.specs.Literals.{literal};
 ghost use Rattle.kt_script.specs.Fit.{column_of, PlanFits};
 ghost use Rattle.kt_script.specs.Print.{joined, kind_word, default_words, mark_words, column_text, op_word, key_words, cell_word, cell_words, is_named, op_text, write_text, name_of, test_text, pred_text, at_text, select_text, where_text, scan_text, chore_word, command_text, session_lines, script_text, IsKey, HasKeys, prints_are_read};

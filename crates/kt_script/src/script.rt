@@ -6,7 +6,7 @@ ghost use Rattle.kt_base.specs.Literals.{same};
 ghost use Rattle.kt_schema.specs.declared.column.Column.{Column};
 ghost use Rattle.kt_script.specs.Pieces.{cut, words_of, words_in};
 ghost use Rattle.kt_script.specs.Columns.{begins_column, IsTable};
-ghost use Rattle.kt_script.specs.Scripts.{Word, session, scan, mark, write, is_begun, most_bytes, first_piece, script_of, ReadsWorded, ReadsBody, IsPushed, IsFirstFault};
+ghost use Rattle.kt_script.specs.Scripts.{session, scan, mark, write, is_begun, most_bytes, first_piece, script_of, ReadsWorded, ReadsBody, IsPushed, IsFirstFault};
 ghost use Rattle.kt_script.specs.Fit.{PlanFits, IsBodyRead};
 
 use crate::columns::LineNo;

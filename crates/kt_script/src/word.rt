@@ -1,6 +1,6 @@
 //! Cutting a text into lines, and a line into words.
 
-ghost use Rattle.std.specs.Prelude.{◌≡◌, ◌∷◌, [], IfSome, IfNone, length, ◌<◌};
+ghost use Rattle.std.specs.Prelude.{◌≡◌, [], IfSome, IfNone, ◌<◌};
 ghost use Rattle.kt_script.specs.Pieces.{side_after, ends_word, words_of, words_in, IsCut};
 
 /// Where a byte of a line stands.

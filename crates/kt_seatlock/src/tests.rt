@@ -1,5 +1,5 @@
 //! Threads that write one journal, one that rests until another's visit, and the life of a lock.
-ghost use Rattle.std.specs.Prelude.{◌≡◌, ◌+◌, ◌<◌, ◌≤◌, [], IfOk, length, ℕ};
+ghost use Rattle.std.specs.Prelude.{◌≡◌, ◌+◌, ◌<◌, ◌≤◌, [], IfOk, length};
 ghost use Rattle.kt_seatlock.specs.Passes.{joined, given, passes_of, IsOutside, IsSamePass, MayEnter, IsBack};
 
 use crate::lock::{NoMemory, SeatLock};

@@ -1,9 +1,9 @@
 //! Reading the columns of a superblock.
-ghost use Rattle.std.specs.Prelude.{◌≡◌, [], not, length, ◌==◌};
+ghost use Rattle.std.specs.Prelude.{◌≡◌, [], ◌==◌};
 ghost use Rattle.std.specs.List.{list_all};
 ghost use Rattle.std.specs.Int.{w8, w16};
 ghost use Rattle.kt_super.specs.Reading.{Gives, checked_at};
-ghost use Rattle.kt_super.specs.Columns.{has_id, has_name, is_free_id, is_bool, may_stand, is_kind, kind_of, is_key, is_nullable, has_default, are_flags, is_tag, is_bit, is_count, text_at, cell_by, cell_at, default_at, name_at, column_at, columns_at, counted_columns_at};
+ghost use Rattle.kt_super.specs.Columns.{has_id, has_name, is_free_id, may_stand, is_kind, kind_of, are_flags, is_tag, is_bit, is_count, text_at, cell_by, cell_at, default_at, name_at, column_at, columns_at, counted_columns_at};
 
 use crate::BodyNo;
 use crate::fields::{fault_at, front_of, u8_at, u16_at, u32_at, u64_at};

@@ -1,5 +1,5 @@
 //! Reading the disk rowsets of a superblock.
-ghost use Rattle.std.specs.Prelude.{◌≡◌, ◌++◌, ◌∷◌, [], ◌+◌, ◌<◌, IfOk};
+ghost use Rattle.std.specs.Prelude.{◌≡◌, ◌++◌, [], ◌+◌, ◌<◌, IfOk};
 ghost use Rattle.std.specs.Int.{w64};
 ghost use Rattle.kt_super.specs.Reading.{Gives, checked_at};
 ghost use Rattle.kt_super.specs.Rowsets.{is_small, has, numbers_of, is_free, is_rowset, taken_by, file_at, files_at, counted_files_at, rowset_at, rowsets_at, counted_rowsets_at};

@@ -1,7 +1,7 @@
 //! Reading a slot.
 ghost use Rattle.std.specs.Prelude.{◌≡◌, ◌+◌, ◌<◌, ◌^◌, length, IfOk, IfSome};
 ghost use Rattle.kt_super.specs.Body.{IsMeta};
-ghost use Rattle.kt_super.specs.Slots.{is_open, settled, of_length, opened_at, slot_at};
+ghost use Rattle.kt_super.specs.Slots.{is_open, of_length, opened_at, slot_at};
 ghost use Rattle.kt_super.specs.Told.{Tells};
 
 use crate::body::body_of;

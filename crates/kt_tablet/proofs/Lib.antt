@@ -11,4 +11,4 @@ pub mod Plans
 pub mod Places
 pub mod Snaps
 pub mod Scans
-pub mod Examples
+pub mod Empty

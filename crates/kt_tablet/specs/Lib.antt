@@ -8,4 +8,3 @@ pub mod Snaps
 pub mod SnapLaws
 pub mod Reads
 pub mod StoreLaws
-pub mod Examples

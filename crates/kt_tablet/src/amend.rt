@@ -1,8 +1,5 @@
 //! Changes that are done to a row in its place.
-ghost use Rattle.std.specs.Prelude.{◌≡◌, IfOk, OnOk};
-ghost use Rattle.std.specs.Ordering.{nat_cmp};
-ghost use Rattle.std.specs.FinMap.Entries.{put};
-ghost use Rattle.kt_history.specs.Places.{place_of};
+ghost use Rattle.std.specs.Prelude.{◌≡◌, IfOk};
 ghost use Rattle.kt_history.specs.Rows.{with_cells, apply};
 ghost use Rattle.kt_tablet.specs.Filling.{filled_change};
 

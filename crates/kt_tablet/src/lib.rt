@@ -11,8 +11,6 @@ pub mod need;
 pub mod snap;
 pub mod store;
 pub mod tablet;
-#[cfg(test)]
-mod tests;
 mod turns;
 
 pub use snap::{Snap, SnapList, SnapView};

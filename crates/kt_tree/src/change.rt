@@ -1,6 +1,5 @@
 //! Trees that are cut and joined.
-ghost use Rattle.std.specs.Prelude.{◌≡◌, ◌<◌, ◌+◌, ℕ, length, Some, None, MatchOption};
-ghost use Rattle.kt_pool.specs.Contents.{bytes_at, at_cell};
+ghost use Rattle.std.specs.Prelude.{◌≡◌, ◌<◌, ◌+◌, ℕ, Some, None, MatchOption};
 ghost use Rattle.kt_tree.specs.Entries.{IsRising, value_of, put};
 ghost use Rattle.kt_tree.specs.Shapes.{Shape, IsTreeAt, HasTree, flat, count};
 ghost use Rattle.kt_tree.specs.Changes.{IsAbsent, Lacks, Splits, Becomes, alone, StandsBy, Clears};

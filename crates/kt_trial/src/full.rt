@@ -1,5 +1,5 @@
 //! An engine of 1,024 cells in which a write flies that needs all of them, and what others are told beside it.
-ghost use Rattle.std.specs.Prelude.{◌≡◌, ◌≤◌, ◌+◌, ◌∷◌, [], Some, IfOk, OnOk, length};
+ghost use Rattle.std.specs.Prelude.{◌≡◌, ◌≤◌, ◌+◌, Some, IfOk, OnOk, length};
 ghost use Rattle.std.specs.List.{All};
 ghost use Rattle.kt_history.specs.declared.command.Command.TheVariants.{Write as AWrite, Scan as AScan};
 ghost use Rattle.kt_history.specs.declared.scan.At.TheVariants.{Given};

@@ -1,5 +1,5 @@
 //! A whole interleaving.
-ghost use Rattle.std.specs.Prelude.{◌≡◌, ◌≤◌, ◌<◌, ◌+◌, ◌^◌, ℕ, Some, IfSome, IfOk, OnOk, length, slice_get};
+ghost use Rattle.std.specs.Prelude.{◌≡◌, ◌<◌, ◌+◌, ◌^◌, Some, IfSome, IfOk, OnOk, length, slice_get};
 ghost use Rattle.kt_history.specs.declared.command.Command.TheVariants.{Write as AWrite, Scan as AScan, Mark as AMark};
 ghost use Rattle.kt_history.specs.Machine.{nth, command_at, command_of};
 ghost use Rattle.kt_trial.specs.Plans.{WriteFits, CommandFits, PlanFits};

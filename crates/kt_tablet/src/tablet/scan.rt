@@ -1,5 +1,5 @@
 //! Scans: each is answered by a copy of what the store holds up to its time, unless something stands in its way.
-ghost use Rattle.std.specs.Prelude.{◌≡◌, ◌≤◌, ◌<◌, ℕ, map, true, false, Some, IsSome, IfSome, IfNone, IfOk, IfErr, OnOk, OnErr, Err};
+ghost use Rattle.std.specs.Prelude.{◌≡◌, ◌<◌, map, true, false, Some, IsSome, IfSome, IfNone, IfOk, IfErr, OnOk, OnErr, Err};
 ghost use Rattle.kt_history.specs.History.{Past};
 ghost use Rattle.kt_history.specs.Machine.{nth, none_flies};
 ghost use Rattle.kt_histlaws.specs.Core.{flown_by};

@@ -1,5 +1,5 @@
-ghost use Rattle.std.specs.Prelude.{◌≡◌, ◌≤◌, ◌<◌, ◌+◌, ℕ, length};
-ghost use Rattle.kt_tree.specs.Trees.{IsTree, need};
+ghost use Rattle.std.specs.Prelude.{◌≤◌, ◌<◌, length};
+ghost use Rattle.kt_tree.specs.Trees.{IsTree};
 
 use super::Tree;
 use crate::node::{NOTHING, node_in, order};

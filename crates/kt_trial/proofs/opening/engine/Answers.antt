@@ -4,7 +4,7 @@ use Rattle.kt_records.specs.declared.entry.Entry.{Entry}
 use Rattle.kt_journal.specs.Log.{Holds, log_of}
 use Rattle.kt_journal.proofs.Fresh.{fresh_opens, fresh_log}
 use Rattle.kt_loglaws.specs.Replay.{empty}
-use Rattle.kt_engine.proofs.Examples.{recalls_none, told_none, log_none, last_none}
+use Rattle.kt_engine.proofs.Empty.{recalls_none, told_none, log_none, last_none}
 use Rattle.kt_trial.proofs.opening.engine.Goals as goal
 
 pub open_journal-requires : goal.open_journal-requires

@@ -1,5 +1,5 @@
 use Rattle.kt_tablet.proofs.Exact.{none_used}
-use Rattle.kt_tablet.proofs.Examples.{found_empty}
+use Rattle.kt_tablet.proofs.Empty.{found_empty}
 use Rattle.kt_trial.proofs.Planned.{planned}
 use Rattle.kt_trial.proofs.opening.tablet.Goals as goal
 

@@ -1,0 +1,33 @@
+use Rattle.std.proofs.Common.{◌≡◌, List, [], Ok, ap, sym, subst, refl, lit<, ◌∙◌}
+use Rattle.kt_disk.specs.Memory.{MemView, mem_now, mem_leaves, mem_seen}
+use Rattle.kt_records.specs.declared.entry.Entry.{Entry}
+use Rattle.kt_journal.specs.Log.{Holds, log_of}
+use Rattle.kt_journal.proofs.Fresh.{fresh_opens, fresh_log}
+use Rattle.kt_loglaws.specs.Replay.{empty}
+use Rattle.kt_engine.proofs.Empty.{recalls_none, told_none, log_none, last_none}
+use Rattle.kt_cases.proofs.engine.engine.Goals as goal
+
+pub open_journal-requires : goal.open_journal-requires
+open_journal-requires c = record { openable = λ told. fresh_opens c.new-disk.result (ap (λ (d : MemView). d.calls) c.new-disk.ensures) }
+
+-- an empty disk has no record
+no_record : (disk : MemView) (found : List Entry) → disk ≡ record { start = []; calls = []; faults = 0 } → log_of (mem_seen disk) ≡ Ok found → found ≡ []
+no_record disk found is reads = let same = sym (fresh_log disk is) ∙ reads in cc
+
+pub of-requires-clause-target : goal.of-requires-clause-target
+of-requires-clause-target c = (7, c.in_ok-tablet.ensures.target, lit< tt, lit< tt)
+
+pub of-requires-clause-found : goal.of-requires-clause-found
+of-requires-clause-found c = (empty, c.in_ok-tablet.ensures.opens, recalls_none _ _ (no_record c.new-disk.result c.in-Ok.records c.new-disk.ensures (c.in-Ok.ensures.records refl)))
+
+pub of-requires-clause-log : goal.of-requires-clause-log
+of-requires-clause-log c = log_none c.in-Ok.records c.no_records-none.result c.no_records-none.ensures c.in-Ok.ensures.sound
+
+pub of-requires-clause-told : goal.of-requires-clause-told
+of-requires-clause-told c = λ first opens recalls. told_none _ _ c.no_records-none.result first c.no_records-none.ensures
+
+pub of-requires-clause-last : goal.of-requires-clause-last
+of-requires-clause-last c = last_none c.in-Ok.records c.no_records-none.result _ (no_record c.new-disk.result c.in-Ok.records c.new-disk.ensures (c.in-Ok.ensures.records refl)) c.no_records-none.ensures
+
+pub of-requires-clause-durable : goal.of-requires-clause-durable
+of-requires-clause-durable c = λ told. subst (λ (l : List Entry). Holds mem_now mem_leaves c.in-Ok.journal.disk l) (sym (c.in-Ok.ensures.reads told)) (c.in-Ok.ensures.durable told)

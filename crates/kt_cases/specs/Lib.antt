@@ -1,0 +1,2 @@
+pub mod TwoRows
+pub mod FourSessions

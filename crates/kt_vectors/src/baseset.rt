@@ -1,0 +1,188 @@
+ghost use Rattle.std.specs.Prelude.{◌≡◌, IfOk};
+
+use kt_base::{Cell, Cells, Kind, NoMemory, Octets};
+use kt_baseset::{BaseSet, CodecNo, ColumnShape, KeyedRow, KeyedRows, build, decode};
+use std::alloc::Global;
+use std::test::Fail;
+
+/// The keys a and b, and one column, of 5 and null.
+const TWO: [u8; 54] = [
+    0x4b, 0x54, 0x42, 0x31, 2, 0, 0, 0, 4, 0x12, 0, 0, 0, 0, 0, 0, 0, 1, 0, 0, 0, 0x61, 0, 0, 0, 0,
+    1, 0, 0, 0, 0x62, 1, 0, 2, 0, 2, 1, 1, 2, 0, 0, 0, 2, 5, 3, 0, 0, 0, 0x54, 0xa1, 0x2a, 1, 0,
+    0x61,
+];
+
+/// The filter of the keys of one even byte each, below 96.
+const FILTER: [u8; 60] = [
+    0xa6, 0x80, 0x26, 0x87, 0x1c, 0x7b, 0, 0xbf, 0x6d, 0x12, 0x0c, 0xf9, 0x77, 0xa4, 0xd1, 0x52,
+    0xc4, 0x59, 0xfa, 0x94, 0x41, 0x38, 0x27, 0x4d, 0xf1, 0x44, 0xc9, 0x90, 6, 0x5d, 0x52, 0x2e,
+    0x81, 0x84, 0x2b, 0x84, 0x1a, 0xa0, 0x94, 0x18, 0x70, 0x0e, 0x31, 0x64, 0x49, 0xda, 4, 0x61,
+    0x9c, 0x56, 0xf3, 0x11, 0x2e, 0x63, 0x92, 0x69, 8, 0xc9, 0xac, 0x30,
+];
+
+/// The file of these keys, without a column.
+fn wide(alloc: Global) -> Result<Octets, NoMemory> {
+    let mut bytes = Octets::from_slice(alloc, b"KTB1")?;
+    bytes.extend(&[48, 0, 0, 0, 4, 0xb0, 1, 0, 0])?;
+    for i in 0..48u8 {
+        bytes.extend(&[0, 0, 0, 0, 1, 0, 0, 0, 2 * i])?;
+    }
+    bytes.extend(&[0, 0, 60, 0, 0, 0])?;
+    bytes.extend(&FILTER)?;
+    bytes.extend(&[1, 0, 0, 1, 0, 32, 1, 0, 64])?;
+    Ok(bytes)
+}
+
+/// The base set that the bytes spell.
+fn read(alloc: Global, bytes: &[u8]) -> Result<BaseSet, Fail> {
+    Ok(decode(alloc, bytes).ok().ok_or("not read")?)
+}
+
+/// The rows of a base set.
+fn copied(alloc: Global, set: &BaseSet) -> Result<KeyedRows, NoMemory>
+    ensures { IfOk result (λ rows. rows ≡ set.now.rows) }
+{
+    let mut rows = Vec::new(alloc);
+    'rows: for i in 0..set.rows() {
+        let key = set.key(alloc, i)?;
+        let cells = set.row(alloc, i)?;
+        rows.push(KeyedRow { key, cells })?;
+    }
+    Ok(KeyedRows::of(rows))
+}
+
+/// The bytes of a base set that is built of another's rows.
+fn rebuilt(alloc: Global, set: &BaseSet) -> Result<Octets, NoMemory> {
+    let rows = copied(alloc, set)?;
+    let schema = set.schema(alloc)?;
+    let _count = set.rows();
+    build(alloc, &rows, &schema)?.spell(alloc)
+}
+
+/// The place of the fault.
+fn fault(alloc: Global, bytes: &[u8]) -> Option<u64> {
+    match decode(alloc, bytes) {
+        Err(CodecNo::Place { offset }) => Some(offset),
+        _ => None,
+    }
+}
+
+#[test]
+fn two_rows_are_read_and_spelled(rt: HostRuntime) -> Result<(), Fail> {
+    let alloc = rt.alloc();
+    let set = read(alloc, &TWO)?;
+    let bytes = rebuilt(alloc, &set)?;
+    assert_eq!(rt; bytes.as_slice(), TWO.as_slice());
+    Ok(())
+}
+
+/// Whether the row is the number under the column 2, or null there.
+fn is_row(row: &Cells, number: Option<i64>) -> bool {
+    match row.as_slice() {
+        [(id, Cell::Int(held))] => {
+            let (id, held) = (*id, *held);
+            id == 2 && number == Some(held)
+        }
+        [(id, Cell::Null)] => {
+            let id = *id;
+            id == 2 && number.is_none()
+        }
+        _ => false,
+    }
+}
+
+#[test]
+fn a_row_is_put_together(rt: HostRuntime) -> Result<(), Fail> {
+    let alloc = rt.alloc();
+    let set = read(alloc, &TWO)?;
+    assert!(rt; set.rows() == 2);
+    let key = set.key(alloc, 1)?;
+    assert_eq!(rt; key.as_slice(), b"b".as_slice());
+    let first = set.row(alloc, 0)?;
+    assert!(rt; is_row(&first, Some(5)));
+    let second = set.row(alloc, 1)?;
+    assert!(rt; is_row(&second, None));
+    Ok(())
+}
+
+#[test]
+fn a_column_is_told(rt: HostRuntime) -> Result<(), Fail> {
+    let alloc = rt.alloc();
+    let schema = read(alloc, &TWO)?.schema(alloc)?;
+    let (id, kind, nullable) = (2, Kind::Int8, true);
+    let shape = ColumnShape { id, kind, nullable };
+    assert_eq!(rt; schema.as_slice(), [shape].as_slice());
+    Ok(())
+}
+
+#[test]
+fn keys_are_found_where_they_stand(rt: HostRuntime) -> Result<(), Fail> {
+    let alloc = rt.alloc();
+    let bytes = wide(alloc)?;
+    let set = read(alloc, bytes.as_slice())?;
+    for i in 0..48u8 {
+        assert_eq!(rt; set.ordinal(&[2 * i]), Some(u32::from(i)));
+        assert_eq!(rt; set.ordinal(&[2 * i + 1]), None);
+        assert_eq!(rt; set.ordinal(&[2 * i, 0]), None);
+    }
+    assert_eq!(rt; set.ordinal(b""), None);
+    Ok(())
+}
+
+#[test]
+fn an_index_of_three_entries_is_spelled(rt: HostRuntime) -> Result<(), Fail> {
+    let alloc = rt.alloc();
+    let bytes = wide(alloc)?;
+    let set = read(alloc, bytes.as_slice())?;
+    let again = rebuilt(alloc, &set)?;
+    assert_eq!(rt; again.as_slice(), bytes.as_slice());
+    Ok(())
+}
+
+#[test]
+fn a_cut_file_is_at_fault_at_its_end(rt: HostRuntime) {
+    for len in 0..54 {
+        assert_eq!(rt; fault(rt.alloc(), &TWO[..len]), Some(len as u64));
+    }
+}
+
+#[test]
+fn bytes_behind_the_index_are_at_fault_at_the_first(rt: HostRuntime) -> Result<(), Fail> {
+    let mut bytes = TWO.to_vec(rt.alloc())?;
+    bytes.push(0)?;
+    assert_eq!(rt; fault(rt.alloc(), &bytes), Some(54));
+    Ok(())
+}
+
+/// The place of the fault of the file with one byte changed.
+fn fault_with(alloc: Global, place: usize, byte: u8) -> Option<u64> {
+    let mut bytes = TWO;
+    if place < 54 {
+        bytes[place] = byte;
+    }
+    fault(alloc, &bytes)
+}
+
+#[test]
+fn faults_in_the_keys_are_found(rt: HostRuntime) {
+    // The letters, the number of rows, the keys' encoding, and keys that fall.
+    for (place, byte, at) in [(3, 0x32, 0), (4, 0, 4), (8, 1, 8), (30, 0x60, 8)] {
+        assert_eq!(rt; fault_with(rt.alloc(), place, byte), Some(at));
+    }
+}
+
+#[test]
+fn faults_in_the_columns_are_found(rt: HostRuntime) {
+    // A kind, whether the column may be null, and a second column where the filter stands.
+    for (place, byte, at) in [(35, 8, 35), (36, 2, 36), (31, 2, 46)] {
+        assert_eq!(rt; fault_with(rt.alloc(), place, byte), Some(at));
+    }
+}
+
+#[test]
+fn a_filter_and_an_index_of_other_keys_are_found(rt: HostRuntime) {
+    // The filter's length and bytes, and the length and the byte of the index's key.
+    for (place, byte, at) in [(44, 4, 44), (48, 0x55, 48), (51, 2, 51), (53, 0x62, 53)] {
+        assert_eq!(rt; fault_with(rt.alloc(), place, byte), Some(at));
+    }
+}

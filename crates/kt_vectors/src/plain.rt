@@ -1,0 +1,70 @@
+use kt_plain::{CodecNo, Items, Numbers, Texts, Width, decode, encode};
+use std::test::*;
+
+#[test]
+fn int32(rt: HostRuntime) -> Result<(), Fail> {
+    let cells = Items::Numbers(Numbers::from_vec(vec![in rt.alloc(); 1i64, -1]?));
+    let octets = encode(rt.alloc(), &cells, Width::Four)
+        .ok()
+        .ok_or("out of memory")?;
+    let bytes: [u8; 8] = [1, 0, 0, 0, 255, 255, 255, 255];
+    assert_eq!(rt; octets.as_slice(), bytes.as_slice());
+    let read = decode(rt.alloc(), &bytes, 2, Width::Four)
+        .ok()
+        .ok_or("the bytes are two numbers")?;
+    match read {
+        Items::Numbers(numbers) => assert_eq!(rt; numbers.as_slice(), [1, -1].as_slice()),
+        Items::Texts(_) => assert!(rt; false),
+    }
+    Ok(())
+}
+
+#[test]
+fn strings(rt: HostRuntime) -> Result<(), Fail> {
+    let bytes: [u8; 11] = [1, 0, 0, 0, 3, 0, 0, 0, 97, 98, 99];
+    let read = decode(rt.alloc(), &bytes, 2, Width::Bytes)
+        .ok()
+        .ok_or("the bytes are two byte lists")?;
+    match &read {
+        Items::Numbers(_) => assert!(rt; false),
+        Items::Texts(texts) => {
+            assert_eq!(rt; texts.len(), 2);
+            assert_eq!(rt; texts.byte_len(), 3);
+        }
+    }
+    Ok(())
+}
+
+#[test]
+fn strings_are_written(rt: HostRuntime) -> Result<(), Fail> {
+    let mut texts = Texts::new(rt.alloc());
+    texts.push(b"a").ok().ok_or("out of memory")?;
+    let cells = Items::Texts(texts);
+    let octets = encode(rt.alloc(), &cells, Width::Bytes)
+        .ok()
+        .ok_or("out of memory")?;
+    let bytes: [u8; 5] = [1, 0, 0, 0, 97];
+    assert_eq!(rt; octets.as_slice(), bytes.as_slice());
+    Ok(())
+}
+
+fn refused_at(rt: &HostRuntime, bytes: &[u8], n: u32, width: Width, place: u64) -> bool {
+    match decode(rt.alloc(), bytes, n, width) {
+        Err(CodecNo::Place { offset }) => offset == place,
+        _ => false,
+    }
+}
+
+#[test]
+fn refusals(rt: HostRuntime) {
+    // A bool is 0 or 1.
+    assert!(rt; refused_at(&rt, &[0, 1, 2], 3, Width::Bit, 2));
+    // Bytes are missing, and bytes follow.
+    assert!(rt; refused_at(&rt, &[1, 0, 0], 2, Width::Two, 3));
+    assert!(rt; refused_at(&rt, &[1, 0, 0, 0, 7], 2, Width::Two, 4));
+    // The second end is below the first.
+    assert!(rt; refused_at(&rt, &[0, 1, 0, 0, 0, 0, 0, 0], 2, Width::Bytes, 4));
+    // The last end says one byte more, and one less.
+    assert!(rt; refused_at(&rt, &[2, 0, 0, 0, 97], 1, Width::Bytes, 5));
+    assert!(rt; refused_at(&rt, &[0, 0, 0, 0, 97], 1, Width::Bytes, 4));
+}

@@ -1,0 +1,82 @@
+use kt_base::{Cell, Cells, Octets};
+use kt_history::{OpKind, OpList, Outcome, RowOp, Target};
+use kt_records::{CodecNo, CommitRow, CommitRows, Entry, TargetList, read_record, spell};
+use std::test::Fail;
+
+const REPLICATE: [u8; 32] = [
+    1, 0, 16, 0, 0, 0, 0, 0, 0, 1, 0, 1, 8, 0, 128, 0, 0, 0, 0, 0, 0, 1, 1, 0, 2, 0, 3, 1, 0, 0, 0,
+    97,
+];
+
+const COMMIT: [u8; 22] = [
+    2, 0, 16, 0, 0, 0, 0, 0, 0, 1, 0, 0, 1, 1, 1, 0, 0, 0, 0, 0, 0, 0,
+];
+
+#[test]
+fn a_replicate_is_spelled_and_read(rt: HostRuntime) -> Result<(), Fail> {
+    let alloc = rt.alloc();
+    let key = Octets::from_slice(alloc, &REPLICATE[14..22])?;
+    let cells = Cells::of(vec![in alloc; (2, Cell::Bytes(Octets::from_slice(alloc, b"a")?))]?);
+    let kind = OpKind::Insert;
+    let ops = OpList::of(vec![in alloc; RowOp { kind, key, cells }]?);
+    let entry = Entry::Replicate { ts: 4096, ops };
+    let mut out = Octets::new(alloc);
+    spell(alloc, &entry, &mut out)?;
+    assert_eq!(rt; out.as_slice(), REPLICATE.as_slice());
+    let found = read_record(alloc, &REPLICATE).ok().ok_or("not read")?;
+    let mut again = Octets::new(alloc);
+    spell(alloc, &found, &mut again)?;
+    assert_eq!(rt; again.as_slice(), REPLICATE.as_slice());
+    Ok(())
+}
+
+#[test]
+fn a_commit_is_spelled_and_read(rt: HostRuntime) -> Result<(), Fail> {
+    let alloc = rt.alloc();
+    let targets = TargetList::one(Target::Mem(1));
+    let outcome = Outcome::Done;
+    let rows = CommitRows::of(vec![in alloc; CommitRow { outcome, targets }]?);
+    let entry = Entry::Commit { ts: 4096, rows };
+    let mut out = Octets::new(alloc);
+    spell(alloc, &entry, &mut out)?;
+    assert_eq!(rt; out.as_slice(), COMMIT.as_slice());
+    let found = read_record(alloc, &COMMIT).ok().ok_or("not read")?;
+    let mut again = Octets::new(alloc);
+    spell(alloc, &found, &mut again)?;
+    assert_eq!(rt; again.as_slice(), COMMIT.as_slice());
+    Ok(())
+}
+
+fn fault_at(alloc: std::alloc::Global, place: usize, byte: u8) -> Option<u64> {
+    let mut bytes = REPLICATE;
+    if place < 32 {
+        bytes[place] = byte;
+    }
+    match read_record(alloc, &bytes) {
+        Err(CodecNo::Place { offset }) => Some(offset),
+        _ => None,
+    }
+}
+
+#[test]
+fn faults_are_found_at_their_places(rt: HostRuntime) {
+    let alloc = rt.alloc();
+    assert_eq!(rt; fault_at(alloc, 0, 3), Some(0));
+    assert_eq!(rt; fault_at(alloc, 9, 0), Some(9));
+    assert_eq!(rt; fault_at(alloc, 9, 65), Some(9));
+    assert_eq!(rt; fault_at(alloc, 10, 1), Some(9));
+    assert_eq!(rt; fault_at(alloc, 11, 5), Some(11));
+    assert_eq!(rt; fault_at(alloc, 11, 4), Some(22));
+    assert_eq!(rt; fault_at(alloc, 12, 200), Some(32));
+    assert_eq!(rt; fault_at(alloc, 26, 4), Some(26));
+    assert_eq!(rt; fault_at(alloc, 27, 0), Some(31));
+}
+
+#[test]
+fn a_cut_record_is_at_fault_at_its_end(rt: HostRuntime) {
+    for len in 0..32 {
+        let read = read_record(rt.alloc(), &REPLICATE[..len]);
+        let offset = len as u64;
+        assert!(rt; matches!(read, Err(CodecNo::Place { offset: at }) if at == offset));
+    }
+}

@@ -1,0 +1,43 @@
+use kt_rle::{CodecNo, Items, Width, decode, encode};
+use std::test::*;
+
+const BYTES: [u8; 10] = [2, 0, 0, 0, 5, 1, 0, 0, 0, 7];
+
+#[test]
+fn int8_written(rt: HostRuntime) -> Result<(), Fail> {
+    let cells = Items::from_vec(vec![in rt.alloc(); 5i64, 5, 7]?);
+    let octets = encode(rt.alloc(), &cells, Width::One)
+        .ok()
+        .ok_or("out of memory")?;
+    assert_eq!(rt; octets.as_slice(), BYTES.as_slice());
+    Ok(())
+}
+
+#[test]
+fn int8_read(rt: HostRuntime) -> Result<(), Fail> {
+    let read = decode(rt.alloc(), &BYTES, 3, Width::One)
+        .ok()
+        .ok_or("the bytes are three numbers")?;
+    assert_eq!(rt; read.as_slice(), [5, 5, 7].as_slice());
+    Ok(())
+}
+
+fn refused_at(rt: &HostRuntime, bytes: &[u8], n: u32, width: Width, place: u64) -> bool {
+    match decode(rt.alloc(), bytes, n, width) {
+        Err(CodecNo::Place { offset }) => offset == place,
+        _ => false,
+    }
+}
+
+#[test]
+fn refusals(rt: HostRuntime) {
+    // Neighbours are equal.
+    assert!(rt; refused_at(&rt, &[1, 0, 0, 0, 5, 1, 0, 0, 0, 5], 2, Width::One, 5));
+    // A length is 0, or more than is left, or too little and bytes are missing.
+    assert!(rt; refused_at(&rt, &[0, 0, 0, 0, 5], 1, Width::One, 0));
+    assert!(rt; refused_at(&rt, &[2, 0, 0, 0, 5], 1, Width::One, 0));
+    assert!(rt; refused_at(&rt, &[1, 0, 0, 0, 5], 2, Width::One, 5));
+    // A bool is 0 or 1, and nothing follows the last run.
+    assert!(rt; refused_at(&rt, &[1, 0, 0, 0, 2], 1, Width::Bit, 4));
+    assert!(rt; refused_at(&rt, &[1, 0, 0, 0, 1, 9], 1, Width::Bit, 5));
+}
