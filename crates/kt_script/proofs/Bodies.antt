@@ -125,7 +125,7 @@ reason_low : (b : Bool) (r : ℕ) → r ≤ 21 → reason_if b r ≤ 21
 reason_low true r h = h
 reason_low false r h = omega arith
 
-write_low : (columns : List Column) (words : List (List ℕ)) → write_no columns words ≤ 21
+pub write_low : (columns : List Column) (words : List (List ℕ)) → write_no columns words ≤ 21
 write_low columns words = let last = reason_low (twice (map (op_key columns) (ops_of words))) 19 (omega arith) in omega (arith, last)
 
 -- a mark that no reason refuses is not too late

@@ -146,7 +146,7 @@ under_memory kind.Int64 (raw bytes) h = cc
 under_memory kind.String (raw bytes) h = cc
 under_memory kind.Binary (raw bytes) h = short_memory bytes h
 
-or_memory : (k : Kind) (v : Option Value) → cell_or k v ≡ Err no.Memory → ⊥
+pub or_memory : (k : Kind) (v : Option Value) → cell_or k v ≡ Err no.Memory → ⊥
 or_memory k None h = cc
 or_memory k (Some v) h = under_memory k v h
 

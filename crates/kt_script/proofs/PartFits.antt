@@ -111,7 +111,7 @@ abbrev pub Has : List Column → Column → Type 0
 Has [] c = ⊥
 Has (d ∷ columns) c = (d ≡ c) ⊎ Has columns c
 
-has_above : (n : ℕ) (columns : List Column) (c : Column) → Rises n columns → Has columns c → n ≤ c.id
+pub has_above : (n : ℕ) (columns : List Column) (c : Column) → Rises n columns → Has columns c → n ≤ c.id
 has_above n [] c r h = absurd h
 has_above n (d ∷ columns) c r (inl e) = let id = ap (λ (x : Column). x.id) e in omega (arith, r.0, id)
 has_above n (d ∷ columns) c r (inr h) = let more = has_above (suc d.id) columns c r.1 h in omega (arith, r.0, more)

@@ -48,7 +48,7 @@ all_kept P p (c ∷ cs) h = elim (p c) as (λ t. AllByRecursion P (cond t (c ∷
   | false ↦ all_kept P p cs h.1
 ]
 
-apart_kept : (p : Column → Bool) (cs : List Column) → Apart cs → Apart (filter p cs)
+pub apart_kept : (p : Column → Bool) (cs : List Column) → Apart cs → Apart (filter p cs)
 apart_kept p [] h = tt
 apart_kept p (c ∷ cs) h = elim (p c) as (λ t. Apart (cond t (c ∷ filter p cs) (filter p cs))) [
   | true ↦ (all_kept (Other c) p cs h.0, apart_kept p cs h.1)
@@ -86,7 +86,7 @@ none_after : (c : Column) (cs : List Column) → ((k : ℕ) → k < length cs �
 none_after c [] h = tt
 none_after c (d ∷ cs) h = (flipped d.name c.name (h 0 (omega arith)), none_after c cs (λ k lt. h (suc k) (omega arith)))
 
-apart_of : (cs : List Column) → ((k : ℕ) → k < length cs → is_again cs k ≡ false) → Apart cs
+pub apart_of : (cs : List Column) → ((k : ℕ) → k < length cs → is_again cs k ≡ false) → Apart cs
 apart_of [] h = tt
 apart_of (c ∷ cs) h =
     let parts : (k : ℕ) → k < length cs → (passes_at (λ d. same_name d c) cs k ≡ false) × (is_again cs k ≡ false) = λ k lt. or_parts (λ d. same_name d c) (λ d. list_any (λ e. same_name d e) (take k cs)) (slice_get cs k) (h (suc k) (omega arith)) in

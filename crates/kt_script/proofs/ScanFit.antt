@@ -30,7 +30,7 @@ use Rattle.kt_script.proofs.Cuts.{some_piece}
 use Rattle.kt_script.proofs.PartFits.{cell_fits}
 
 -- a column has the name by which it is found
-name_is : (columns : List Column) (name : List ℕ) (c : Column) → column_named columns name ≡ Some c → c.name ≡ name
+pub name_is : (columns : List Column) (name : List ℕ) (c : Column) → column_named columns name ≡ Some c → c.name ≡ name
 name_is [] name c e = absurd cc
 name_is (x ∷ columns) name c e = by (same x.name name) refl e (name_is columns name c)
   where
@@ -86,7 +86,7 @@ fresh true h = absurd (omega arith)
 fresh false h = refl
 
 -- a name that no reason refuses has a column
-found : (columns : List Column) (name : List ℕ) → 14 ≤ name_no columns name → (c : Column) × (column_named columns name ≡ Some c)
+pub found : (columns : List Column) (name : List ℕ) → 14 ≤ name_no columns name → (c : Column) × (column_named columns name ≡ Some c)
 found columns name h = by (is_name name) (column_named columns name) refl h
   where
     by : (b : Bool) (o : Option Column) → column_named columns name ≡ o → 14 ≤ (if b then reason_if (not (is_some o)) 13 else 12) → (c : Column) × (column_named columns name ≡ Some c)
@@ -94,7 +94,7 @@ found columns name h = by (is_name name) (column_named columns name) refl h
     by true (Some c) e g = (c, e)
     by false o e g = absurd (omega arith)
 
-ids_step : (columns : List Column) (name : List ℕ) (names : List (List ℕ)) (c : Column) → column_named columns name ≡ Some c → ids_of columns (name ∷ names) ≡ c.id ∷ ids_of columns names
+pub ids_step : (columns : List Column) (name : List ℕ) (names : List (List ℕ)) (c : Column) → column_named columns name ≡ Some c → ids_of columns (name ∷ names) ≡ c.id ∷ ids_of columns names
 ids_step columns name names c e = ap (λ o. cons_option (id_of o) (ids_of columns names)) e
 
 -- a column's id is not among those of later names
@@ -170,7 +170,7 @@ test_of_fits c (compared AtLeast literal) h = compared_fits c literal h
 test_of_fits c null h = refl
 test_of_fits c not_null h = refl
 
-not_there : (asked : Asked) → 18 ≤ asked_no None asked → ⊥
+pub not_there : (asked : Asked) → 18 ≤ asked_no None asked → ⊥
 not_there (compared sign literal) h = omega (arith, h)
 not_there null h = omega (arith, h)
 not_there not_null h = omega (arith, h)

@@ -17,7 +17,7 @@ use Rattle.kt_script.proofs.Bodies.{body_fits}
 use Rattle.kt_script.proofs.WriteFits.{write_fits}
 
 -- what stands above a line keeps the rules
-abbrev FitsAbove : Above → Type 0
+abbrev pub FitsAbove : Above → Type 0
 FitsAbove start = Unit {0}
 FitsAbove (head columns) = IsTable columns
 FitsAbove (body columns plan) = IsTable columns × (list_any (λ c. c.key) columns ≡ true) × PlanFits columns plan
@@ -25,13 +25,13 @@ FitsAbove (body columns plan) = IsTable columns × (list_any (λ c. c.key) colum
 no_plan : (columns : List Column) → PlanFits columns []
 no_plan columns = record { sessions = omega arith; commands = omega arith; each = tt }
 
-reason_low : (b : Bool) (r : ℕ) → r ≤ 21 → reason_if b r ≤ 21
+pub reason_low : (b : Bool) (r : ℕ) → r ≤ 21 → reason_if b r ≤ 21
 reason_low true r h = h
 reason_low false r h = omega arith
 
 -- ---- no reason is above the last
 
-body_low : (columns : List Column) (plan : List (List Command)) (words : List (List ℕ)) → body_no columns plan words ≤ 21
+pub body_low : (columns : List Column) (plan : List (List Command)) (words : List (List ℕ)) → body_no columns plan words ≤ 21
 body_low columns plan words = by (first_word words)
   where
     begins : (ws : List (List ℕ)) → session_no plan ws ≤ 21
@@ -50,7 +50,7 @@ body_low columns plan words = by (first_word words)
     by write = in_session (is_begun plan) (command_no columns write words)
     by other = omega arith
 
-column_low : (columns : List Column) (line : List ℕ) → column_no columns line ≤ 21
+pub column_low : (columns : List Column) (line : List ℕ) → column_no columns line ≤ 21
 column_low columns line = by (column_line (words_of line))
   where
     by : (o : Option ColumnLine) → said_no columns o ≤ 21
@@ -74,7 +74,7 @@ column_kept columns line table h = by (column_line (words_of line)) refl
     by None e = let no : column_no columns line ≡ 4 = ap (said_no columns) e in absurd (omega (arith, taken, no))
     by (Some c) e = table_more columns _ table (column_fits columns line _ taken (ap (with_column columns) e))
 
-after_kept : (above : Above) (line : List ℕ) → FitsAbove above → 21 ≤ line_no above line → FitsAbove (after above line)
+pub after_kept : (above : Above) (line : List ℕ) → FitsAbove above → 21 ≤ line_no above line → FitsAbove (after above line)
 after_kept start line fits h = table_none
 after_kept (head columns) line fits h = by (begins_column line) (list_any (λ c. c.key) columns) refl h
   where
@@ -85,7 +85,7 @@ after_kept (head columns) line fits h = by (begins_column line) (list_any (λ c.
     by false false key g = absurd (omega arith)
 after_kept (body columns plan) line fits h = (fits.0, fits.1, body_kept columns plan (words_of line) fits.0 fits.1 fits.2 h)
 
-no_fault : (n reason : ℕ) (later : Option Fault) → fault_if n reason later ≡ None → (21 ≤ reason) × (later ≡ None)
+pub no_fault : (n reason : ℕ) (later : Option Fault) → fault_if n reason later ≡ None → (21 ≤ reason) × (later ≡ None)
 no_fault n reason later e = by (nat_lt reason sound) refl e
   where
     high : nat_lt reason 21 ≡ false → 21 ≤ reason

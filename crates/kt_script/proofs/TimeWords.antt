@@ -21,7 +21,7 @@ no_sign : (d : ℕ) → is_digit d ≡ true → (d == 45) ≡ false
 no_sign d h = let low = (both_true (nat_le 48 d) (nat_le d 57) h).0 in grind (arith, nat_tests)
 
 -- a number that is written without a sign
-unsigned : (word : List ℕ) → is_count word ≡ true → number_in word ≡ Some (pos (count_on 0 word))
+pub unsigned : (word : List ℕ) → is_count word ≡ true → number_in word ≡ Some (pos (count_on 0 word))
 unsigned [] h = absurd cc
 unsigned (d ∷ ds) h =
     let digits = both_true (list_all is_digit (d ∷ ds)) (not (d == 48) || (length ds == 0)) h in

@@ -13,3 +13,4 @@ pub mod Spelled
 pub mod Print
 pub mod Outputs
 pub mod Reread
+pub mod Ordered

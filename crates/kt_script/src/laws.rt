@@ -2,6 +2,7 @@
 
 ghost use Rattle.kt_script.specs.Laws.{texts_give_back};
 ghost use Rattle.kt_script.specs.Spelled.{scripts_fit};
+ghost use Rattle.kt_script.specs.Ordered.{texts_are_printed, texts_are_one, texts_are_read_again};
 ghost use Rattle.kt_script.specs.Outputs.{outputs_are_one, printed_texts, outputs_give_back, printed_hold};
 
 /// Outputs of one text have the same replies, as far as a text shows them, the same history and the same last
@@ -22,4 +23,12 @@ pub fn outputs_law()
 /// What a text says keeps the rules of its table and of the grammar, so that `print_script` takes it.
 pub fn scripts_law()
     ensures { scripts_fit }
+{}
+
+/// The text of what a text says is that text with the names of each operation in schema order. So texts of one script
+/// differ in the order of these names alone, and each of them, if it is of bytes, says what its printed text says.
+pub fn order_law()
+    ensures printed { texts_are_printed }
+    ensures one { texts_are_one }
+    ensures again { texts_are_read_again }
 {}
