@@ -13,8 +13,6 @@ mod rows;
 pub mod run;
 pub mod session;
 pub mod streams;
-#[cfg(test)]
-mod tests;
 pub mod text;
 pub mod top;
 pub mod turns;

@@ -1,7 +1,7 @@
 use Rattle.std.proofs.Common.{ap}
 use Rattle.kt_disk.specs.Memory.{MemView}
 use Rattle.kt_journal.proofs.Fresh.{fresh_opens}
-use Rattle.kt_app.proofs.tests.run_fresh.Goals as goal
+use Rattle.kt_runs.proofs.runs.run_fresh.Goals as goal
 
 pub run-requires : goal.run-requires
 run-requires c = λ told. fresh_opens c.new.result (ap (λ (d : MemView). d.calls) c.new.ensures)

@@ -2,7 +2,7 @@
 ghost use Rattle.std.specs.Prelude.{◌≡◌, [], IsTrue, IfOk};
 ghost use Rattle.kt_journal.specs.Log.{CanOpen};
 
-use crate::tablet_main;
+use kt_app::tablet_main;
 use kt_base::{CallList, MemClock, MemSink, MemSource, Octets, ReadingList};
 use kt_disk::{
     Disk, Fail as DiskFail, FailList, FaultDisk, FileBytes, FileBytesList, MemDisk, PassGate,

@@ -1,0 +1,5 @@
+//! Whole runs of the top call over streams and disks in memory, with the texts that they print. Tests alone.
+#![tactic(auto)]
+
+#[cfg(test)]
+mod runs;
