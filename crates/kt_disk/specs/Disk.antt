@@ -2,7 +2,8 @@
 use Rattle.std.specs.Ordering.{nat_cmp}
 use Rattle.std.specs.List.{Contains}
 use Rattle.std.specs.List.Sorted.{IsStrictlySortedBy}
-use Rattle.std.specs.Prelude.{◌↔◌, ◌≡◌, ◌≢◌, ◌⊎◌, ◌+◌, ◌<◌, ◌≤◌, ℕ, min, max, List, [], ◌++◌, length, take, drop, Option, Some, None, IsSome}
+use Rattle.std.specs.List.{All}
+use Rattle.std.specs.Prelude.{◌↔◌, ◌≡◌, ◌≢◌, ◌⊎◌, ◌+◌, ◌<◌, ◌≤◌, ℕ, min, max, List, [], ◌∷◌, ◌++◌, length, take, drop, Option, Some, None, IsSome}
 
 -- the bytes of each file by its number, and none where there is no such file
 abbrev pub Files : Type 0
@@ -15,6 +16,10 @@ bytes_of (Some bytes) = bytes
 -- the bytes of a file, of which a missing one has none
 abbrev pub held : Files → ℕ → List ℕ
 held files file = bytes_of (files file)
+
+-- each file is of bytes
+abbrev pub HoldBytes : Files → Type 0
+HoldBytes files = (n : ℕ) → All (λ b. b < 256) (held files n)
 
 -- These are the numbers of the files, rising.
 pub record AreFiles (found : List ℕ) (files : Files) : Type 0 where
@@ -75,3 +80,14 @@ pub record LeavesOnly {D : Type 0} (now : D → ℕ) (leaves : D → ℕ → Fil
 -- nothing of the file is pending: a crash now leaves what a read gives
 abbrev pub Stable : {D : Type 0} → (D → Files) → (D → ℕ) → (D → ℕ → Files → Type 0) → ℕ → D → Type 0
 Stable seen now leaves file disk = (c : Files) → leaves disk (now disk) c → c file ≡ seen disk file
+
+-- the number is none of these
+abbrev pub IsNoneOf : List ℕ → ℕ → Type 0
+IsNoneOf [] n = Unit {0}
+IsNoneOf (file ∷ files) n = (n ≢ file) × IsNoneOf files n
+
+-- all files but these are as an image of the disk has them
+pub record ButFiles {D : Type 0} (now : D → ℕ) (leaves : D → ℕ → Files → Type 0) (disk : D) (files : List ℕ) (c : Files) : Type 0 where
+  pub image : Files
+  pub was_left : leaves disk (now disk) image
+  pub others : (n : ℕ) → IsNoneOf files n → c n ≡ image n

@@ -1,5 +1,5 @@
 -- What a disk in memory holds, and what a crash may leave of it, by the calls that it keeps.
-use Rattle.std.specs.Prelude.{◌≡◌, ◌==◌, ℕ, Bool, true, false, List, [], ◌∷◌, length, take, reverse, Option, Some, None, if◌then◌else◌}
+use Rattle.std.specs.Prelude.{◌≡◌, ◌==◌, ℕ, Bool, true, false, min, List, [], ◌∷◌, length, take, map, reverse, Option, Some, None, if◌then◌else◌}
 use Rattle.kt_disk.specs.Disk.{Files, bytes_of, put, shortened, Torn, Cut, Gone}
 use Rattle.kt_disk.specs.declared.lists.FileBytes.{FileBytes}
 use Rattle.kt_disk.specs.declared.event.Event.{Event}
@@ -48,11 +48,27 @@ abbrev pub IsLeft : ℕ → Option (List ℕ) → List Event → Option (List �
 IsLeft n start [] c = c ≡ start
 IsLeft n start (e ∷ earlier) c = (d : Option (List ℕ)) × IsLeft n start earlier d × MovesIf (e.file == n) e.change (contents n start earlier) d c
 
+-- a number as a byte: one above 255, which no disk that is made holds, counts as 255
+abbrev pub as_byte : ℕ → ℕ
+as_byte n = min n 255
+
+abbrev pub as_bytes : Option (List ℕ) → Option (List ℕ)
+as_bytes None = None
+as_bytes (Some numbers) = Some (map as_byte numbers)
+
+-- the numbers that a file holds by the record
+abbrev pub stored : MemView → Files
+stored disk n = contents n (listed disk.start n) (reverse disk.calls)
+
 abbrev pub mem_seen : MemView → Files
-mem_seen disk n = contents n (listed disk.start n) (reverse disk.calls)
+mem_seen disk n = as_bytes (stored disk n)
 
 abbrev pub mem_now : MemView → ℕ
 mem_now disk = length disk.calls
 
+-- a crash after these calls may leave the bytes of the file so
+abbrev pub IsImage : ℕ → Option (List ℕ) → List Event → Option (List ℕ) → Type 0
+IsImage n start calls c = (d : Option (List ℕ)) × IsLeft n start calls d × (c ≡ as_bytes d)
+
 abbrev pub mem_leaves : MemView → ℕ → Files → Type 0
-mem_leaves disk m c = (n : ℕ) → IsLeft n (listed disk.start n) (reverse (take m disk.calls)) (c n)
+mem_leaves disk m c = (n : ℕ) → IsImage n (listed disk.start n) (reverse (take m disk.calls)) (c n)

@@ -1,10 +1,12 @@
--- A disk in memory, as it reads, is one of its images.
+-- A disk in memory, as it reads, is one of its images, and each of these is of bytes.
 use Rattle.std.specs.Prelude.{◌-◌}
-use Rattle.std.proofs.Common.{◌≡◌, ℕ, ◌+◌, min, Bool, true, false, cond, eqb, List, [], ◌∷◌, ◌++◌, length, take, drop, reverse, Option, Some, None, inl, inr, refl, sym, ◌∙◌, ap, subst, arith, length-append}
+use Rattle.std.proofs.Common.{◌≡◌, ℕ, ◌+◌, ◌<◌, min, Bool, true, false, cond, eqb, List, [], ◌∷◌, ◌++◌, length, get_or, take, drop, reverse, Option, Some, None, inl, inr, refl, sym, ◌∙◌, ap, subst, arith, length-append}
+use Rattle.std.specs.List.{All}
 use Rattle.std.proofs.lemmas.Bool.{cases_lt}
+use Rattle.std.proofs.lemmas.List.Elements.{All-nil, All-map}
 use Rattle.std.proofs.lemmas.List.{take_all, drop_all, take_min, length-take, length-drop, take_at, drop_at, append_assoc}
-use Rattle.kt_disk.specs.Disk.{bytes_of, put, shortened, Torn, Cut}
-use Rattle.kt_disk.specs.Memory.{MemView, listed, after, Moves, MovesIf, contents, IsLeft, mem_seen, mem_now, mem_leaves}
+use Rattle.kt_disk.specs.Disk.{Files, HoldBytes, bytes_of, put, shortened, Torn, Cut}
+use Rattle.kt_disk.specs.Memory.{MemView, listed, after, Moves, MovesIf, contents, IsLeft, as_byte, as_bytes, stored, IsImage, mem_seen, mem_now, mem_leaves}
 use Rattle.kt_disk.specs.declared.event.Event.{Event}
 use Rattle.kt_disk.specs.declared.event.Change.{Change}
 use Rattle.kt_disk.specs.declared.event.Change.TheVariants as change
@@ -58,5 +60,15 @@ is_left n start (e ∷ earlier) = (contents n start earlier, is_left n start ear
 
 pub reads_as_image : (disk : MemView) → mem_leaves disk (mem_now disk) (mem_seen disk)
 reads_as_image disk n =
-    subst (λ (l : List Event). IsLeft n (listed disk.start n) (reverse l) (mem_seen disk n)) (sym (take_all (length disk.calls) disk.calls (omega arith)))
-    (is_left n (listed disk.start n) (reverse disk.calls))
+    subst (λ (l : List Event). IsImage n (listed disk.start n) (reverse l) (mem_seen disk n)) (sym (take_all (length disk.calls) disk.calls (omega arith)))
+    (stored disk n, is_left n (listed disk.start n) (reverse disk.calls), refl)
+
+below_256 : (x : ℕ) → as_byte x < 256
+below_256 x = omega arith
+
+hold_bytes : (d : Option (List ℕ)) → All (λ b. b < 256) (bytes_of (as_bytes d))
+hold_bytes None = All-nil (λ b. b < 256)
+hold_bytes (Some numbers) = All-map (λ b. b < 256) as_byte numbers (λ k d lt. below_256 (get_or numbers k d))
+
+pub images_hold_bytes : (disk : MemView) (m : ℕ) (c : Files) → mem_leaves disk m c → HoldBytes c
+images_hold_bytes disk m c left n = subst (λ (x : Option (List ℕ)). All (λ b. b < 256) (bytes_of x)) (sym (left n).2) (hold_bytes (left n).0)

@@ -1,240 +1,205 @@
 //! What a crash leaves of each file.
-ghost use Rattle.std.specs.Prelude.{◌≡◌, ◌≢◌, ◌==◌, ◌++◌, ℕ, None, IsSome, is_some, map, length, reverse, if◌then◌else◌, IfOk, OnOk};
-ghost use Rattle.kt_disk.specs.Disk.{bytes_of, put, Torn};
-ghost use Rattle.kt_disk.specs.Memory.{listed, after, IsLeft};
-ghost use Rattle.kt_disk.specs.Left.{Goes, GoesIf};
+//!
+//! A pass over the calls from the end finds those of whose file a sync follows: a crash leaves all of them. Another pass
+//! makes the files, each call wholly where a sync follows, and else as a crash may leave it.
+ghost use Rattle.std.specs.Prelude.{◌≡◌, ◌≤◌, ◌==◌, ℕ, true, false, Some, length, reverse, if◌then◌else◌, IfOk, OnOk};
+ghost use Rattle.std.specs.Ordering.{nat_cmp};
+ghost use Rattle.std.specs.BTreeMap as tree;
+ghost use Rattle.kt_disk.specs.Disk.{bytes_of, put, shortened};
+ghost use Rattle.kt_disk.specs.Memory.{listed, IsLeft};
+ghost use Rattle.kt_disk.specs.Left.{followed, LeavesIf};
 
-use crate::memory::overwritten;
+use crate::memory::by_number;
 use crate::{Change, Event, FileBytes};
 use kt_base::{NoMemory, Octets};
 use std::alloc::Global;
+use std::collections::BTreeMap;
 
-fn copied(alloc: Global, file: &Option<Octets>) -> Result<Option<Octets>, NoMemory>
-    ensures { IfOk result (λ copy. copy ≡ file.now) }
+// Of each call, whether a sync of its file follows, the last call first.
+fn synced_after(alloc: Global, calls: &[Event]) -> Result<Vec<bool>, NoMemory>
+    ensures { IfOk result (λ synced. synced.items ≡ reverse (followed calls.now)) }
 {
-    match file {
-        Some(octets) => Ok(Some(Octets::from_slice(alloc, octets.as_slice())?)),
-        None => Ok(None),
-    }
-}
-
-fn found(alloc: Global, files: &[FileBytes], file: u64) -> Result<Option<Octets>, NoMemory>
-    ensures { IfOk result (λ copy. copy ≡ listed files.now file) }
-{
-    let mut rest = files;
-    'files: while let [first, others @ ..] = rest {
-        if first.file == file {
-            return Ok(Some(Octets::from_slice(alloc, first.bytes.as_slice())?));
+    let mut files = BTreeMap::new(alloc);
+    let mut synced = Vec::new(alloc);
+    let mut i = calls.len();
+    'calls: while i > 0 {
+        i -= 1;
+        let event = &calls[i];
+        synced.push(files.contains_key(&event.file))?;
+        if matches!(event.change, Change::Sync) {
+            files.insert(event.file, ())?;
         }
-        rest = others;
     }
-    Ok(None)
+    Ok(synced)
 }
 
-// The file with these bytes at this offset, or at its end where that is before.
+// Writes bytes at this offset, or at the file's end where that is before.
 #[tactic(auto, using(crate::proofs::Picks::put_min))]
-fn with_bytes(
+fn write_in(
     alloc: Global,
-    file: &Option<Octets>,
+    files: &mut BTreeMap<u64, Octets>,
+    file: u64,
     at: u64,
     bytes: &[u8],
-) -> Result<Octets, NoMemory>
-    ensures { IfOk result (λ next. next ≡ put (bytes_of file.now) at bytes.now) }
+) -> Result<(), NoMemory>
+    ensures { OnOk result ((n : ℕ) → tree.get nat_cmp files.new n ≡ (if file == n then Some (put (bytes_of (tree.get nat_cmp files.old file)) at bytes.now) else tree.get nat_cmp files.old n)) }
 {
-    match file {
-        Some(octets) => {
-            let old = octets.as_slice();
-            overwritten(alloc, old, old.len().min(at as usize), bytes)
-        }
-        None => overwritten(alloc, &[], 0, bytes),
-    }
+    let Some(octets) = files.get_mut(&file) else {
+        files.insert(file, Octets::from_slice(alloc, bytes)?)?;
+        return Ok(());
+    };
+    let at = octets.len().min(at as usize);
+    octets.write_at(at, bytes)
 }
 
-fn shortened(alloc: Global, file: &Option<Octets>, to: u64) -> Result<Option<Octets>, NoMemory>
-    ensures { IfOk result (λ next. next ≡ after (Change.Cut to) file.now) }
-{
-    match file {
-        Some(octets) => {
-            let old = octets.as_slice();
-            let len = old.len().min(to as usize);
-            Ok(Some(Octets::from_slice(alloc, &old[..len])?))
-        }
-        None => Ok(None),
-    }
-}
-
-// The file after a call on it.
-fn advanced(
+// Shortens a file that is there.
+fn cut_in(
     alloc: Global,
-    file: &Option<Octets>,
-    change: &Change,
-) -> Result<Option<Octets>, NoMemory>
-    ensures { IfOk result (λ next. next ≡ after change.now file.now) }
+    files: &mut BTreeMap<u64, Octets>,
+    file: u64,
+    to: u64,
+) -> Result<(), NoMemory>
+    ensures { OnOk result ((n : ℕ) → tree.get nat_cmp files.new n ≡ (if file == n then shortened to (tree.get nat_cmp files.old file) else tree.get nat_cmp files.old n)) }
 {
-    match change {
-        Change::Write(at, bytes) => Ok(Some(with_bytes(alloc, file, *at, bytes.as_slice())?)),
-        Change::Cut(to) => shortened(alloc, file, *to),
-        Change::Sync | Change::Look => copied(alloc, file),
-        Change::Remove => Ok(None),
+    let Some(octets) = files.get(&file) else {
+        return Ok(());
+    };
+    let old = octets.as_slice();
+    let len = old.len().min(to as usize);
+    let next = Octets::from_slice(alloc, &old[..len])?;
+    files.insert(file, next)?;
+    Ok(())
+}
+
+// Does a call, of whose file a sync follows.
+fn make(alloc: Global, files: &mut BTreeMap<u64, Octets>, event: &Event) -> Result<(), NoMemory>
+    ensures { OnOk result ((n : ℕ) → LeavesIf (event.now.file == n) true event.now.change (tree.get nat_cmp files.old n) (tree.get nat_cmp files.new n)) }
+{
+    match &event.change {
+        Change::Write(at, bytes) => write_in(alloc, files, event.file, *at, bytes.as_slice()),
+        Change::Cut(to) => cut_in(alloc, files, event.file, *to),
+        Change::Remove => {
+            let _ = files.remove(&event.file);
+            Ok(())
+        }
+        Change::Sync | Change::Look => Ok(()),
     }
 }
 
-// The file after a write of which a crash leaves nothing, all, the first half, or a range of ones.
-#[tactic(auto, using(crate::proofs::Picks::torn_none, crate::proofs::Picks::torn_part))]
-fn torn(
+// Writes no more bytes than a write had.
+#[tactic(auto, using(crate::proofs::Picks::torn_part))]
+fn write_part(
     alloc: Global,
-    file: &Option<Octets>,
+    files: &mut BTreeMap<u64, Octets>,
+    file: u64,
+    at: u64,
+    part: &[u8],
+    bytes: &[u8],
+) -> Result<(), NoMemory>
+    requires { length part.now ≤ length bytes.now }
+    ensures { OnOk result ((n : ℕ) → LeavesIf (file == n) false (Change.Write at bytes.now) (tree.get nat_cmp files.old n) (tree.get nat_cmp files.new n)) }
+{
+    write_in(alloc, files, file, at, part)
+}
+
+// Leaves nothing of a write, all, its first half, or its range filled with ones.
+#[tactic(auto, using(crate::proofs::Picks::torn_none))]
+fn tear(
+    alloc: Global,
+    files: &mut BTreeMap<u64, Octets>,
+    file: u64,
     at: u64,
     bytes: &[u8],
     way: u8,
-) -> Result<Option<Octets>, NoMemory>
-    ensures { IfOk result (λ next. Torn at (length bytes.now) file.now next) }
+) -> Result<(), NoMemory>
+    ensures { OnOk result ((n : ℕ) → LeavesIf (file == n) false (Change.Write at bytes.now) (tree.get nat_cmp files.old n) (tree.get nat_cmp files.new n)) }
 {
     match way {
-        1 => Ok(Some(with_bytes(alloc, file, at, bytes)?)),
-        2 => {
-            let half = &bytes[..bytes.len() / 2];
-            Ok(Some(with_bytes(alloc, file, at, half)?))
-        }
+        1 => write_part(alloc, files, file, at, bytes, bytes),
+        2 => write_part(alloc, files, file, at, &bytes[..bytes.len() / 2], bytes),
         3 => {
             let ones = vec![in alloc; 1u8; bytes.len()]?;
-            Ok(Some(with_bytes(alloc, file, at, ones.as_slice())?))
+            write_part(alloc, files, file, at, ones.as_slice(), bytes)
         }
-        _ => copied(alloc, file),
+        _ => Ok(()),
     }
 }
 
-// What a crash may leave of the file after a call on it.
+// Leaves of a call, of whose file no sync follows, what a crash may leave: of a cut nothing, and of a removal all.
 #[tactic(auto, using(crate::proofs::Picks::cut_none))]
-fn moved(
+fn leave(
     alloc: Global,
-    image: &Option<Octets>,
-    seen: &Option<Octets>,
-    change: &Change,
-    way: u8,
-) -> Result<Option<Octets>, NoMemory>
-    ensures { IfOk result (λ next. Goes change.now seen.now image.now next) }
-{
-    match change {
-        Change::Write(at, bytes) => torn(alloc, image, *at, bytes.as_slice(), way),
-        Change::Cut(_) | Change::Look => copied(alloc, image),
-        Change::Sync => copied(alloc, seen),
-        Change::Remove => Ok(None),
-    }
-}
-
-// The file as it reads and as a crash may leave it, one call on.
-fn step(
-    alloc: Global,
-    seen: Option<Octets>,
-    image: Option<Octets>,
+    files: &mut BTreeMap<u64, Octets>,
     event: &Event,
-    file: u64,
     way: u8,
-) -> Result<(Option<Octets>, Option<Octets>), NoMemory>
-    ensures seen { IfOk result (λ next. next.0 ≡ (if event.now.file == file then after event.now.change seen else seen)) }
-    ensures image { IfOk result (λ next. GoesIf (event.now.file == file) event.now.change seen image next.1) }
+) -> Result<(), NoMemory>
+    ensures { OnOk result ((n : ℕ) → LeavesIf (event.now.file == n) false event.now.change (tree.get nat_cmp files.old n) (tree.get nat_cmp files.new n)) }
 {
-    if event.file != file {
-        return Ok((seen, image));
+    match &event.change {
+        Change::Write(at, bytes) => tear(alloc, files, event.file, *at, bytes.as_slice(), way),
+        Change::Remove => {
+            let _ = files.remove(&event.file);
+            Ok(())
+        }
+        Change::Cut(_) | Change::Sync | Change::Look => Ok(()),
     }
-    let left = moved(alloc, &image, &seen, &event.change, way)?;
-    let read = advanced(alloc, &seen, &event.change)?;
-    Ok((read, left))
 }
 
-// Whether a later call makes the file stable.
-fn is_stable(later: &[Event], file: u64) -> bool {
-    later.iter().any(|event| event.file == file && matches!(event.change, Change::Sync))
+fn leave_or_make(
+    alloc: Global,
+    files: &mut BTreeMap<u64, Octets>,
+    event: &Event,
+    is_synced: bool,
+    way: u8,
+) -> Result<(), NoMemory>
+    ensures { OnOk result ((n : ℕ) → LeavesIf (event.now.file == n) is_synced event.now.change (tree.get nat_cmp files.old n) (tree.get nat_cmp files.new n)) }
+{
+    if is_synced {
+        make(alloc, files, event)
+    } else {
+        leave(alloc, files, event, way)
+    }
 }
 
-// What is picked for this call: the writes that are not yet stable take turns.
-fn way_of(calls: &[Event], at: usize, pick: &[u8]) -> u8 {
+// What is picked for the write of this number among those that are not yet stable, counted from 0.
+fn way_of(pick: &[u8], number: u64) -> u8 {
     if pick.is_empty() {
         return 0;
     }
-    let mut count = 0u64;
-    for i in 0..at.min(calls.len()) {
-        if matches!(calls[i].change, Change::Write(_, _))
-            && !is_stable(&calls[i + 1..], calls[i].file)
-        {
-            count = count.saturating_add(1);
-        }
-    }
-    pick[(count % pick.len() as u64) as usize]
+    pick[(number % pick.len() as u64) as usize]
 }
 
-/// What a crash after these calls may leave of a file.
-pub fn left_of(
+// The files as a crash after these calls may leave them.
+fn left_by(
     alloc: Global,
     start: &[FileBytes],
     calls: &[Event],
-    file: u64,
     pick: &[u8],
-) -> Result<Option<Octets>, NoMemory>
-    ensures { IfOk result (λ image. IsLeft file (listed start.now file) (reverse calls.now) image) }
+) -> Result<BTreeMap<u64, Octets>, NoMemory>
+    ensures { IfOk result (λ files. (n : ℕ) → IsLeft n (listed start.now n) (reverse calls.now) (tree.get nat_cmp files n)) }
 {
-    let mut seen = found(alloc, start, file)?;
-    let mut image = found(alloc, start, file)?;
-    for i in 0..calls.len() {
-        let way = way_of(calls, i, pick);
-        let (read, left) = step(alloc, seen, image, &calls[i], file, way)?;
-        seen = read;
-        image = left;
-    }
-    Ok(image)
-}
-
-fn is_listed(files: &[FileBytes], file: u64) -> bool
-    ensures { result ≡ is_some (listed files.now file) }
-{
-    let mut rest = files;
-    'files: while let [first, others @ ..] = rest {
-        if first.file == file {
-            return true;
-        }
-        rest = others;
-    }
-    false
-}
-
-// Lists a file as a crash after these calls may leave it, where it is not listed yet.
-fn add(
-    alloc: Global,
-    images: &mut Vec<FileBytes>,
-    start: &[FileBytes],
-    calls: &[Event],
-    file: u64,
-    pick: &[u8],
-) -> Result<(), NoMemory>
-    ensures kept { OnOk result (IsSome (listed images.old.items file) → images.new.items ≡ images.old.items) }
-    ensures added { OnOk result (listed images.old.items file ≡ None → IsLeft file (listed start.now file) (reverse calls.now) (listed images.new.items file)) }
-    ensures others { OnOk result ((n : ℕ) → n ≢ file → listed images.new.items n ≡ listed images.old.items n) }
-{
-    if is_listed(images.as_slice(), file) {
-        return Ok(());
-    }
-    match left_of(alloc, start, calls, file, pick)? {
-        Some(bytes) => {
-            images.push(FileBytes { file, bytes })?;
-            Ok(())
-        }
-        None => Ok(()),
-    }
-}
-
-// The numbers of the files at first, and those of the calls.
-fn numbers_of(alloc: Global, start: &[FileBytes], calls: &[Event]) -> Result<Vec<u64>, NoMemory>
-    ensures { IfOk result (λ numbers. numbers.items ≡ map (λ f. f.file) start.now ++ map (λ e. e.file) calls.now) }
-{
-    let mut numbers = Vec::new(alloc);
-    for held in start {
-        numbers.push(held.file)?;
-    }
+    let mut files = by_number(alloc, start)?;
+    let mut synced = synced_after(alloc, calls)?;
+    let mut torn = 0u64;
     for event in calls {
-        numbers.push(event.file)?;
+        let is_synced = synced.pop().unwrap_or(false);
+        let way = way_of(pick, torn);
+        leave_or_make(alloc, &mut files, event, is_synced, way)?;
+        if !is_synced && matches!(event.change, Change::Write(_, _)) {
+            torn = torn.saturating_add(1);
+        }
     }
-    Ok(numbers)
+    Ok(files)
+}
+
+fn list_of(alloc: Global, files: BTreeMap<u64, Octets>) -> Result<Vec<FileBytes>, NoMemory>
+    ensures { IfOk result (λ list. (n : ℕ) → listed list.items n ≡ tree.get nat_cmp files n) }
+{
+    let mut list = Vec::new(alloc);
+    for (file, bytes) in files {
+        list.push(FileBytes { file, bytes })?;
+    }
+    Ok(list)
 }
 
 /// The files as a crash after these calls may leave them.
@@ -246,10 +211,6 @@ pub fn images_of(
 ) -> Result<Vec<FileBytes>, NoMemory>
     ensures { IfOk result (λ images. (n : ℕ) → IsLeft n (listed start.now n) (reverse calls.now) (listed images.items n)) }
 {
-    let numbers = numbers_of(alloc, start, calls)?;
-    let mut images = Vec::new(alloc);
-    for file in &numbers {
-        add(alloc, &mut images, start, calls, *file, pick)?;
-    }
-    Ok(images)
+    let files = left_by(alloc, start, calls, pick)?;
+    list_of(alloc, files)
 }

@@ -1,6 +1,6 @@
 //! The contract of a disk.
 ghost use Rattle.std.specs.Prelude.{◌≡◌, ◌≢◌, ◌+◌, ◌≤◌, Bool, IsTrue, ℕ, length, take, drop, Some, None, Err, IfOk, OnOk};
-ghost use Rattle.kt_disk.specs.Disk.{Files, held, put, shortened, Torn, Cut, Gone, On, Same, Turns, AreFiles};
+ghost use Rattle.kt_disk.specs.Disk.{Files, held, put, shortened, Torn, Cut, Gone, On, Same, Turns, AreFiles, HoldBytes};
 ghost use Rattle.kt_base.specs.Causes.{Rose, HasCause};
 
 use crate::FileList;
@@ -107,4 +107,7 @@ pub trait Disk {
 
     /// A disk as it reads is one of its images.
     ghost reads_as_image: { (disk : Self) → IsTrue tells → leaves disk (now disk) (seen disk) };
+
+    /// What a crash leaves is bytes, and so is what a read gives.
+    ghost images_hold_bytes: { (disk : Self) (m : ℕ) (c : Files) → IsTrue tells → leaves disk m c → HoldBytes c };
 }

@@ -1,6 +1,8 @@
 //! A disk that fails the calls that are listed.
-ghost use Rattle.std.specs.Prelude.{◌≡◌, ◌+◌, ◌-◌, ◌^◌, min, is_err, MatchResult};
-ghost use Rattle.kt_disk.specs.Fault.{inner_of, plan_of, untouched, is_listed_call, is_listed_change, fails_look, fails_change, after_look, after_change};
+ghost use Rattle.std.specs.Prelude.{◌≡◌, ◌≢◌, ◌+◌, ◌≤◌, ℕ, IsTrue, length, take, drop, Some, None, Err, is_err, IfOk, OnOk, MatchResult};
+ghost use Rattle.kt_base.specs.Causes.{Rose, HasCause};
+ghost use Rattle.kt_disk.specs.Disk.{Files, held, put, shortened, Torn, Cut, Gone, On, Same, Turns, AreFiles};
+ghost use Rattle.kt_disk.specs.Fault.{inner_of, plan_of, through, all_faults, untouched, is_listed_call, is_listed_change, fails_look, fails_change, after_look, after_change, FailsIf, FailsFilesIf};
 
 use crate::{Disk, DiskNo, Fail, FailList, FileList};
 use kt_base::Failed;
@@ -112,47 +114,103 @@ impl Plan {
 impl<D: Disk> Disk for FaultDisk<D> {
     ghost tells = { D.tells };
 
-    ghost seen = { λ f. D.seen f.inner };
+    ghost seen = { through D.seen };
 
-    ghost now = { λ f. D.now f.inner };
+    ghost now = { through D.now };
 
-    ghost leaves = { λ f. D.leaves f.inner };
+    ghost leaves = { through D.leaves };
 
-    ghost faults = { λ f. min (D.faults f.inner + f.plan.value.faults) (2 ^ 64 - 1) };
+    ghost faults = { all_faults D.faults };
 
     ghost reads_as_image = { λ f. D.reads_as_image f.inner };
 
-    fn files(&mut self, alloc: Global) -> Result<FileList, DiskNo> {
+    ghost images_hold_bytes = { λ f. D.images_hold_bytes f.inner };
+
+    fn files(&mut self, alloc: Global) -> Result<FileList, DiskNo>
+        ensures files { IfOk result (λ found. IsTrue D.tells → AreFiles found (through D.seen self.old)) }
+        ensures seen { IsTrue D.tells → through D.seen self.new ≡ through D.seen self.old }
+        ensures images { IsTrue D.tells → Turns (through D.now) (through D.leaves) Same self.old self.new }
+        ensures failed { result ≡ Err DiskNo.Failed → Rose (all_faults D.faults self.old) (all_faults D.faults self.new) }
+        ensures faults { all_faults D.faults self.old ≤ all_faults D.faults self.new }
+        ensures listed { FailsFilesIf D.faults (fails_look (plan_of self.old)) self.old self.new result }
+        ensures counted { plan_of self.new ≡ after_look (plan_of self.old) }
+    {
         self.plan.look()?;
         self.inner.files(alloc)
     }
 
-    fn len(&mut self, file: u64) -> Result<u64, Failed> {
+    fn len(&mut self, file: u64) -> Result<u64, Failed>
+        ensures len { IfOk result (λ n. IsTrue D.tells → n ≡ length (held (through D.seen self.old) file)) }
+        ensures seen { IsTrue D.tells → through D.seen self.new ≡ through D.seen self.old }
+        ensures images { IsTrue D.tells → Turns (through D.now) (through D.leaves) Same self.old self.new }
+        ensures cause { HasCause (all_faults D.faults self.old) (all_faults D.faults self.new) result }
+        ensures listed { FailsIf D.faults (fails_look (plan_of self.old)) self.old self.new result }
+        ensures counted { plan_of self.new ≡ after_look (plan_of self.old) }
+    {
         self.plan.look()?;
         self.inner.len(file)
     }
 
-    fn read(&mut self, file: u64, at: u64, into: &mut [u8]) -> Result<(), Failed> {
+    fn read(&mut self, file: u64, at: u64, into: &mut [u8]) -> Result<(), Failed>
+        requires { IsTrue D.tells → at + length into.old ≤ length (held (through D.seen self.old) file) }
+        ensures read { OnOk result (IsTrue D.tells → into.new ≡ take (length into.old) (drop at (held (through D.seen self.old) file))) }
+        ensures seen { IsTrue D.tells → through D.seen self.new ≡ through D.seen self.old }
+        ensures images { IsTrue D.tells → Turns (through D.now) (through D.leaves) Same self.old self.new }
+        ensures cause { HasCause (all_faults D.faults self.old) (all_faults D.faults self.new) result }
+        ensures listed { FailsIf D.faults (fails_look (plan_of self.old)) self.old self.new result }
+        ensures counted { plan_of self.new ≡ after_look (plan_of self.old) }
+    {
         self.plan.look()?;
         self.inner.read(file, at, into)
     }
 
-    fn write_at(&mut self, file: u64, at: u64, bytes: &[u8]) -> Result<(), Failed> {
+    fn write_at(&mut self, file: u64, at: u64, bytes: &[u8]) -> Result<(), Failed>
+        requires { IsTrue D.tells → at ≤ length (held (through D.seen self.old) file) }
+        ensures written { OnOk result (IsTrue D.tells → through D.seen self.new file ≡ Some (put (held (through D.seen self.old) file) at bytes.now)) }
+        ensures others { IsTrue D.tells → (n : ℕ) → n ≢ file → through D.seen self.new n ≡ through D.seen self.old n }
+        ensures images { IsTrue D.tells → Turns (through D.now) (through D.leaves) (On file (Torn at (length bytes.now))) self.old self.new }
+        ensures cause { HasCause (all_faults D.faults self.old) (all_faults D.faults self.new) result }
+        ensures listed { FailsIf D.faults (fails_change (plan_of self.old)) self.old self.new result }
+        ensures counted { plan_of self.new ≡ after_change (plan_of self.old) }
+    {
         self.plan.change()?;
         self.inner.write_at(file, at, bytes)
     }
 
-    fn cut(&mut self, file: u64, to: u64) -> Result<(), Failed> {
+    fn cut(&mut self, file: u64, to: u64) -> Result<(), Failed>
+        requires { IsTrue D.tells → to ≤ length (held (through D.seen self.old) file) }
+        ensures cut { OnOk result (IsTrue D.tells → through D.seen self.new file ≡ shortened to (through D.seen self.old file)) }
+        ensures others { IsTrue D.tells → (n : ℕ) → n ≢ file → through D.seen self.new n ≡ through D.seen self.old n }
+        ensures images { IsTrue D.tells → Turns (through D.now) (through D.leaves) (On file (Cut to)) self.old self.new }
+        ensures cause { HasCause (all_faults D.faults self.old) (all_faults D.faults self.new) result }
+        ensures listed { FailsIf D.faults (fails_change (plan_of self.old)) self.old self.new result }
+        ensures counted { plan_of self.new ≡ after_change (plan_of self.old) }
+    {
         self.plan.change()?;
         self.inner.cut(file, to)
     }
 
-    fn sync(&mut self, file: u64) -> Result<(), Failed> {
+    fn sync(&mut self, file: u64) -> Result<(), Failed>
+        ensures stable { OnOk result (IsTrue D.tells → (c : Files) → through D.leaves self.new (through D.now self.new) c → c file ≡ through D.seen self.new file) }
+        ensures seen { OnOk result (IsTrue D.tells → through D.seen self.new ≡ through D.seen self.old) }
+        ensures others { IsTrue D.tells → (n : ℕ) → n ≢ file → through D.seen self.new n ≡ through D.seen self.old n }
+        ensures images { IsTrue D.tells → Turns (through D.now) (through D.leaves) Same self.old self.new }
+        ensures cause { HasCause (all_faults D.faults self.old) (all_faults D.faults self.new) result }
+        ensures listed { FailsIf D.faults (fails_change (plan_of self.old)) self.old self.new result }
+        ensures counted { plan_of self.new ≡ after_change (plan_of self.old) }
+    {
         self.plan.change()?;
         self.inner.sync(file)
     }
 
-    fn remove(&mut self, file: u64) -> Result<(), Failed> {
+    fn remove(&mut self, file: u64) -> Result<(), Failed>
+        ensures removed { OnOk result (IsTrue D.tells → through D.seen self.new file ≡ None) }
+        ensures others { IsTrue D.tells → (n : ℕ) → n ≢ file → through D.seen self.new n ≡ through D.seen self.old n }
+        ensures images { IsTrue D.tells → Turns (through D.now) (through D.leaves) (On file Gone) self.old self.new }
+        ensures cause { HasCause (all_faults D.faults self.old) (all_faults D.faults self.new) result }
+        ensures listed { FailsIf D.faults (fails_change (plan_of self.old)) self.old self.new result }
+        ensures counted { plan_of self.new ≡ after_change (plan_of self.old) }
+    {
         self.plan.change()?;
         self.inner.remove(file)
     }

@@ -4,17 +4,20 @@
 //! disk's own clock which images a crash then may leave. It stands on `kt_base`.
 #![tactic(auto)]
 
+mod behind;
 mod crash;
 mod disk;
 mod event;
 mod fault;
 mod gate;
+mod held;
 mod lists;
 mod memory;
 
+pub use behind::HeldDisk;
 pub use disk::{Disk, DiskNo};
 pub use event::{Change, Event};
 pub use fault::FaultDisk;
-pub use gate::{Gate, HeldDisk, PassGate, Point};
+pub use gate::{Gate, PassGate, Point};
 pub use lists::{Fail, FailList, FileBytes, FileBytesList, FileList};
 pub use memory::MemDisk;

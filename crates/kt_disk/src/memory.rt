@@ -5,7 +5,7 @@ ghost use Rattle.std.specs.BTreeMap as tree;
 ghost use Rattle.kt_disk.specs.Disk.{bytes_of, put, shortened};
 ghost use Rattle.kt_base.specs.Causes.{HasCause};
 ghost use Rattle.kt_disk.specs.Memory.{MemView, listed, mem_seen, mem_now, mem_leaves};
-ghost use Rattle.kt_disk.specs.MemoryLaw.{reads_as_image};
+ghost use Rattle.kt_disk.specs.MemoryLaw.{reads_as_image, images_hold_bytes};
 
 use crate::crash::images_of;
 use crate::{Change, Disk, DiskNo, Event, FileBytes, FileBytesList, FileList};
@@ -126,19 +126,6 @@ fn store(
     Ok(())
 }
 
-// The bytes with others written over them.
-pub fn overwritten(alloc: Global, old: &[u8], at: usize, bytes: &[u8]) -> Result<Octets, NoMemory>
-    requires { at ≤ length old.now }
-    ensures { IfOk result (λ next. next ≡ put old.now at bytes.now) }
-{
-    let mut next = Octets::from_slice(alloc, &old[..at])?;
-    next.extend(bytes)?;
-    if bytes.len() < old.len() - at {
-        next.extend(&old[at + bytes.len()..])?;
-    }
-    Ok(next)
-}
-
 // A call without memory is a fault.
 fn fault(faults: &mut u64) -> Result<(), Failed>
     ensures err { IsErr result }
@@ -243,6 +230,8 @@ impl Disk for MemDisk {
 
     ghost reads_as_image = { λ d told. reads_as_image d };
 
+    ghost images_hold_bytes = { λ d m c told left. images_hold_bytes d m c left };
+
     fn files(&mut self, alloc: Global) -> Result<FileList, DiskNo> {
         look(&mut self.calls, &mut self.faults, 0)?;
         Ok(FileList::of(numbers(alloc, &self.files)?))
@@ -282,7 +271,8 @@ impl Disk for MemDisk {
             file,
             change: Change::Sync,
         };
-        note(&mut self.calls, &mut self.faults, event)
+        note(&mut self.calls, &mut self.faults, event)?;
+        Ok(())
     }
 
     fn remove(&mut self, file: u64) -> Result<(), Failed> {
@@ -311,7 +301,7 @@ fn copies(alloc: Global, files: &[FileBytes]) -> Result<Vec<FileBytes>, NoMemory
 }
 
 // The files by number. Of two with one number the first counts.
-fn by_number(alloc: Global, files: &[FileBytes]) -> Result<BTreeMap<u64, Octets>, NoMemory>
+pub fn by_number(alloc: Global, files: &[FileBytes]) -> Result<BTreeMap<u64, Octets>, NoMemory>
     ensures { IfOk result (λ map. (n : ℕ) → tree.get nat_cmp map n ≡ listed files.now n) }
 {
     let mut map = BTreeMap::new(alloc);
