@@ -5,7 +5,7 @@ use Rattle.std.proofs.lemmas.List.Elements.{filter-append}
 use Rattle.std.proofs.lemmas.Bool.{cases_lt, cases_eq, lt-ltb, le-ltb, ltb-false}
 use Rattle.kt_history.specs.declared.change.Change.{Change}
 use Rattle.kt_history.specs.declared.operation.OpKind.{OpKind}
-use Rattle.kt_history.specs.declared.operation.OpKind.TheVariants.{Insert, Upsert, Update, Delete}
+use Rattle.kt_history.specs.declared.operation.OpKind.TheVariants.{Insert, Upsert, Update, Delete, InsertIgnore, UpdateIgnore, DeleteIgnore}
 use Rattle.kt_history.specs.Rows.{Row, fits}
 use Rattle.kt_history.specs.Operations.{effect}
 use Rattle.kt_histlaws.specs.Histories.{Steps, Hist, row_of, step_of, push, on_nth, or_else, first_some, Alone, nth_option}
@@ -27,6 +27,12 @@ effect_fits fill cells Update None c e = cc
 effect_fits fill cells Update (Some row) c e = subst (λ x. fits x (Some row) ≡ true) (the_change _ c e) refl
 effect_fits fill cells Delete None c e = cc
 effect_fits fill cells Delete (Some row) c e = subst (λ x. fits x (Some row) ≡ true) (the_change _ c e) refl
+effect_fits fill cells InsertIgnore None c e = subst (λ x. fits x None ≡ true) (the_change _ c e) refl
+effect_fits fill cells InsertIgnore (Some row) c e = cc
+effect_fits fill cells UpdateIgnore None c e = cc
+effect_fits fill cells UpdateIgnore (Some row) c e = subst (λ x. fits x (Some row) ≡ true) (the_change _ c e) refl
+effect_fits fill cells DeleteIgnore None c e = cc
+effect_fits fill cells DeleteIgnore (Some row) c e = subst (λ x. fits x (Some row) ≡ true) (the_change _ c e) refl
 
 -- where one alone may be some, it is the first
 pub alone_first : {A : Type 0} (i : ℕ) (xs : List (Option A)) → Alone i xs → nth_option i xs ≡ first_some xs

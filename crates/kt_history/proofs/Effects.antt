@@ -7,7 +7,7 @@ use Rattle.std.specs.Ordering.{nat_cmp, is_eq}
 use Rattle.std.specs.FinMap.Entries.{find}
 use Rattle.kt_base.specs.declared.cell.Cell.{Cell}
 use Rattle.kt_history.specs.Rows.{Row, cells_under}
-use Rattle.kt_history.specs.declared.operation.OpKind.TheVariants.{Insert, Upsert, Update, Delete}
+use Rattle.kt_history.specs.declared.operation.OpKind.TheVariants.{Insert, Upsert, Update, Delete, InsertIgnore, UpdateIgnore, DeleteIgnore}
 use Rattle.kt_history.specs.Operations.{outcome_is_of_effect}
 
 pub outcomes : outcome_is_of_effect
@@ -19,6 +19,12 @@ outcomes fill Update cells None = refl
 outcomes fill Update cells (Some row) = refl
 outcomes fill Delete cells None = refl
 outcomes fill Delete cells (Some row) = refl
+outcomes fill InsertIgnore cells None = refl
+outcomes fill InsertIgnore cells (Some row) = refl
+outcomes fill UpdateIgnore cells None = refl
+outcomes fill UpdateIgnore cells (Some row) = refl
+outcomes fill DeleteIgnore cells None = refl
+outcomes fill DeleteIgnore cells (Some row) = refl
 
 -- whether a column is among the cells
 pub found_by_any : (id : ℕ) (cells : Row) → list_any (λ c. is_eq (nat_cmp id c.0)) cells ≡ is_some (find nat_cmp id cells)

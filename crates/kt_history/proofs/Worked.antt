@@ -6,8 +6,8 @@ use Rattle.kt_base.specs.declared.cell.Cell.{Cell}
 use Rattle.kt_base.specs.declared.cell.Cell.TheVariants as cell
 use Rattle.kt_base.specs.Keys.{number_key}
 use Rattle.std.specs.Int.{w64}
-use Rattle.kt_history.specs.declared.change.Outcome.TheVariants.{Done, Present, Absent}
-use Rattle.kt_history.specs.declared.operation.OpKind.TheVariants.{Insert, Update, Delete}
+use Rattle.kt_history.specs.declared.change.Outcome.TheVariants.{Done, Present, Absent, Ignored}
+use Rattle.kt_history.specs.declared.operation.OpKind.TheVariants.{Insert, Update, Delete, InsertIgnore, UpdateIgnore, DeleteIgnore}
 use Rattle.kt_history.specs.declared.operation.OpKind.{OpKind}
 use Rattle.kt_history.specs.declared.operation.RowOp.{RowOp}
 use Rattle.kt_history.specs.declared.scan.At.TheVariants.{Looked, Given}
@@ -137,3 +137,22 @@ reply26 = refl
 -- but not at once
 at_once : IsRun work26 empty 0 (Begin 2 1 4096 1 ∷ Begin 1 1 8192 2 ∷ End 2 1 4096 ∷ End 1 1 8192 ∷ []) → ⊥
 at_once r = let e = r.1.0.2.apart in cc
+
+-- what changes nothing is ignored, and the rest of the write is done
+abbrev work_ignoring : Workload
+work_ignoring = over ((insert_of 1 97 ∷ command.Write (record { ops = op_with 1 ((2, cell.Bytes (98 ∷ [])) ∷ []) InsertIgnore ∷ op_with 2 ((2, cell.Bytes (99 ∷ [])) ∷ []) InsertIgnore ∷ [] }) ∷ command.Write (record { ops = op_with 9 ((2, cell.Bytes (120 ∷ [])) ∷ []) UpdateIgnore ∷ op_with 2 [] DeleteIgnore ∷ [] }) ∷ scan_now ∷ []) ∷ [])
+
+abbrev lines_ignoring : List Event
+lines_ignoring = Begin 1 1 4096 1 ∷ End 1 1 4096 ∷ Begin 1 2 8192 2 ∷ End 1 2 8192 ∷ Begin 1 3 12288 3 ∷ End 1 3 12288 ∷ Look 1 4 16384 4 ∷ Rows 1 4 16384 ∷ []
+
+runs_ignoring : IsRun work_ignoring empty 0 lines_ignoring
+runs_ignoring = search rules
+
+present_is_ignored : answer work_ignoring (past_after work_ignoring empty 0 lines_ignoring) lines_ignoring 1 2 ≡ Some (reply.At 8192 (Ignored ∷ Done ∷ []))
+present_is_ignored = refl
+
+absent_is_ignored : answer work_ignoring (past_after work_ignoring empty 0 lines_ignoring) lines_ignoring 1 3 ≡ Some (reply.At 12288 (Ignored ∷ Done ∷ []))
+absent_is_ignored = refl
+
+first_row_stays : answer work_ignoring (past_after work_ignoring empty 0 lines_ignoring) lines_ignoring 1 4 ≡ Some (reply.Rows 16384 ((cell.Int (pos 1) ∷ cell.Bytes (97 ∷ []) ∷ []) ∷ []))
+first_row_stays = refl

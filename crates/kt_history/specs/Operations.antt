@@ -8,9 +8,9 @@ use Rattle.kt_base.specs.declared.cell.Cell.TheVariants as cell
 use Rattle.kt_history.specs.declared.change.Change.{Change}
 use Rattle.kt_history.specs.declared.change.Change.TheVariants.{Ins, Upd, Del}
 use Rattle.kt_history.specs.declared.change.Outcome.{Outcome}
-use Rattle.kt_history.specs.declared.change.Outcome.TheVariants.{Done, Present, Absent}
+use Rattle.kt_history.specs.declared.change.Outcome.TheVariants.{Done, Present, Absent, Ignored}
 use Rattle.kt_history.specs.declared.operation.OpKind.{OpKind}
-use Rattle.kt_history.specs.declared.operation.OpKind.TheVariants.{Insert, Upsert, Update, Delete}
+use Rattle.kt_history.specs.declared.operation.OpKind.TheVariants.{Insert, Upsert, Update, Delete, InsertIgnore, UpdateIgnore, DeleteIgnore}
 use Rattle.kt_history.specs.declared.operation.RowOp.{RowOp}
 use Rattle.kt_history.specs.Rows.{Row, Rows, Changes, with_cells, key_cmp}
 
@@ -25,6 +25,12 @@ effect fill Update cells None = (None, Absent)
 effect fill Update cells (Some row) = (Some (Upd cells), Done)
 effect fill Delete cells None = (None, Absent)
 effect fill Delete cells (Some row) = (Some Del, Done)
+effect fill InsertIgnore cells None = (Some (Ins (with_cells cells fill)), Done)
+effect fill InsertIgnore cells (Some row) = (None, Ignored)
+effect fill UpdateIgnore cells None = (None, Ignored)
+effect fill UpdateIgnore cells (Some row) = (Some (Upd cells), Done)
+effect fill DeleteIgnore cells None = (None, Ignored)
+effect fill DeleteIgnore cells (Some row) = (Some Del, Done)
 
 -- the outcome alone, by whether the key is present
 abbrev pub outcome_of : OpKind → Bool → Outcome
@@ -35,6 +41,12 @@ outcome_of Update false = Absent
 outcome_of Update true = Done
 outcome_of Delete false = Absent
 outcome_of Delete true = Done
+outcome_of InsertIgnore false = Done
+outcome_of InsertIgnore true = Ignored
+outcome_of UpdateIgnore false = Ignored
+outcome_of UpdateIgnore true = Done
+outcome_of DeleteIgnore false = Ignored
+outcome_of DeleteIgnore true = Done
 
 -- it is the outcome of the effect
 abbrev pub outcome_is_of_effect : Type 0

@@ -15,4 +15,5 @@ pub enum Outcome {
     Done,
     Present,
     Absent,
+    Ignored,
 }

@@ -19,6 +19,8 @@ pub fn outcome(kind: OpKind, present: bool) -> Outcome
     match (kind, present) {
         (OpKind::Insert, true) => Outcome::Present,
         (OpKind::Update, false) | (OpKind::Delete, false) => Outcome::Absent,
+        (OpKind::InsertIgnore, true) => Outcome::Ignored,
+        (OpKind::UpdateIgnore, false) | (OpKind::DeleteIgnore, false) => Outcome::Ignored,
         _ => Outcome::Done,
     }
 }

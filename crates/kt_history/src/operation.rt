@@ -4,17 +4,20 @@ ghost use Rattle.std.specs.Prelude.{◌≡◌, ◌==◌, length};
 use kt_base::{Cells, Octets};
 use std::marker::Model;
 
-/// What an operation asks for.
+/// What an operation asks for. One that ignores does as its plain kind does, and where that would change nothing it is ignored.
 #[derive(Clone, Copy, Debug, PartialEq, Eq)]
 pub enum OpKind {
     Insert,
     Upsert,
     Update,
     Delete,
+    InsertIgnore,
+    UpdateIgnore,
+    DeleteIgnore,
 }
 
 /// An operation on one key, which is spelled as it is kept. An insert lists every column that is no key,
-/// upsert and update list the named ones, and a delete lists none.
+/// upsert and update list the named ones, and a delete lists none; one that ignores lists what its plain kind does.
 #[derive(Debug, Drop)]
 pub struct RowOp {
     pub kind: OpKind,

@@ -3,7 +3,7 @@ use Rattle.std.proofs.Common.{◌≡◌, ℕ, zero, suc, ◌^◌, ◌<◌, true,
 use Rattle.std.specs.List.{flat_map}
 use Rattle.std.specs.Int.{w64, to_le_bytes}
 use Rattle.kt_history.specs.declared.change.Outcome.{Outcome}
-use Rattle.kt_history.specs.declared.change.Outcome.TheVariants.{Done, Present, Absent}
+use Rattle.kt_history.specs.declared.change.Outcome.TheVariants.{Done, Present, Absent, Ignored}
 use Rattle.kt_history.specs.declared.target.Target.{Target}
 use Rattle.kt_history.specs.declared.target.Target.TheVariants as stores
 use Rattle.kt_records.specs.declared.entry.CommitRow.{CommitRow}
@@ -50,13 +50,15 @@ outcome_takes [] x fits e = absurd cc
 outcome_takes (zero ∷ rest) x fits e = took_as outcome_byte (λ o. Unit {0}) (0 ∷ rest) (Done, rest) x e (record { parts = refl; rest_fits = IsBytes-rest 0 rest fits; fits = tt })
 outcome_takes (suc zero ∷ rest) x fits e = took_as outcome_byte (λ o. Unit {0}) (1 ∷ rest) (Present, rest) x e (record { parts = refl; rest_fits = IsBytes-rest 1 rest fits; fits = tt })
 outcome_takes (suc (suc zero) ∷ rest) x fits e = took_as outcome_byte (λ o. Unit {0}) (2 ∷ rest) (Absent, rest) x e (record { parts = refl; rest_fits = IsBytes-rest 2 rest fits; fits = tt })
-outcome_takes (suc (suc (suc b)) ∷ rest) x fits e = absurd cc
+outcome_takes (suc (suc (suc zero)) ∷ rest) x fits e = took_as outcome_byte (λ o. Unit {0}) (3 ∷ rest) (Ignored, rest) x e (record { parts = refl; rest_fits = IsBytes-rest 3 rest fits; fits = tt })
+outcome_takes (suc (suc (suc (suc b))) ∷ rest) x fits e = absurd cc
 
 outcome_again : (o : Outcome) (rest : List ℕ) → outcome_at (outcome o ∷ rest) ≡ Ok (o, rest)
 unfolding outcome_at
 outcome_again Done rest = refl
 outcome_again Present rest = refl
 outcome_again Absent rest = refl
+outcome_again Ignored rest = refl
 
 -- stores behind their count
 abbrev counted_targets : List Target → List ℕ
@@ -109,3 +111,4 @@ pub few_targets : (o : Outcome) (n : ℕ) → may_change o n ≡ true → n < 2 
 few_targets Done n h = grind arith
 few_targets Present n h = grind arith
 few_targets Absent n h = grind arith
+few_targets Ignored n h = grind arith

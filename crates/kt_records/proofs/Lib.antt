@@ -5,3 +5,4 @@ pub mod Operations
 pub mod Commits
 pub mod Records
 pub mod Lengths
+pub mod Numbers

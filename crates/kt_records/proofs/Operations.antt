@@ -4,7 +4,7 @@ use Rattle.std.specs.Int.{w16, to_le_bytes}
 use Rattle.std.proofs.lemmas.Bool.{ltb-false, le-ltb}
 use Rattle.std.proofs.lemmas.List.{take_at, drop_at, take-append-drop, length-append, length-take}
 use Rattle.kt_history.specs.declared.operation.OpKind.{OpKind}
-use Rattle.kt_history.specs.declared.operation.OpKind.TheVariants.{Insert, Upsert, Update, Delete}
+use Rattle.kt_history.specs.declared.operation.OpKind.TheVariants.{Insert, Upsert, Update, Delete, InsertIgnore, UpdateIgnore, DeleteIgnore}
 use Rattle.kt_history.specs.declared.operation.RowOp.{RowOp}
 use Rattle.kt_records.specs.Spelling.{kind, cell_list, operation}
 use Rattle.kt_records.specs.Rules.{has_key, FollowingOp}
@@ -23,7 +23,10 @@ kind_takes (suc zero ∷ rest) x fits e = took_as kind_byte (λ k. Unit {0}) (1 
 kind_takes (suc (suc zero) ∷ rest) x fits e = took_as kind_byte (λ k. Unit {0}) (2 ∷ rest) (Upsert, rest) x e (record { parts = refl; rest_fits = IsBytes-rest 2 rest fits; fits = tt })
 kind_takes (suc (suc (suc zero)) ∷ rest) x fits e = took_as kind_byte (λ k. Unit {0}) (3 ∷ rest) (Update, rest) x e (record { parts = refl; rest_fits = IsBytes-rest 3 rest fits; fits = tt })
 kind_takes (suc (suc (suc (suc zero))) ∷ rest) x fits e = took_as kind_byte (λ k. Unit {0}) (4 ∷ rest) (Delete, rest) x e (record { parts = refl; rest_fits = IsBytes-rest 4 rest fits; fits = tt })
-kind_takes (suc (suc (suc (suc (suc b)))) ∷ rest) x fits e = absurd cc
+kind_takes (suc (suc (suc (suc (suc zero)))) ∷ rest) x fits e = took_as kind_byte (λ k. Unit {0}) (5 ∷ rest) (InsertIgnore, rest) x e (record { parts = refl; rest_fits = IsBytes-rest 5 rest fits; fits = tt })
+kind_takes (suc (suc (suc (suc (suc (suc zero))))) ∷ rest) x fits e = took_as kind_byte (λ k. Unit {0}) (6 ∷ rest) (UpdateIgnore, rest) x e (record { parts = refl; rest_fits = IsBytes-rest 6 rest fits; fits = tt })
+kind_takes (suc (suc (suc (suc (suc (suc (suc zero)))))) ∷ rest) x fits e = took_as kind_byte (λ k. Unit {0}) (7 ∷ rest) (DeleteIgnore, rest) x e (record { parts = refl; rest_fits = IsBytes-rest 7 rest fits; fits = tt })
+kind_takes (suc (suc (suc (suc (suc (suc (suc (suc b))))))) ∷ rest) x fits e = absurd cc
 
 kind_again : (k : OpKind) (rest : List ℕ) → kind_at (kind k ∷ rest) ≡ Ok (k, rest)
 unfolding kind_at
@@ -31,6 +34,9 @@ kind_again Insert rest = refl
 kind_again Upsert rest = refl
 kind_again Update rest = refl
 kind_again Delete rest = refl
+kind_again InsertIgnore rest = refl
+kind_again UpdateIgnore rest = refl
+kind_again DeleteIgnore rest = refl
 
 -- a key behind its length
 abbrev counted_key : List ℕ → List ℕ

@@ -5,9 +5,9 @@ use Rattle.std.specs.Int.{Width, w16, w32, w64, byte_len, from_le_bytes, cast_si
 use Rattle.kt_base.specs.declared.cell.Cell.{Cell}
 use Rattle.kt_base.specs.declared.cell.Cell.TheVariants as cells
 use Rattle.kt_history.specs.declared.change.Outcome.{Outcome}
-use Rattle.kt_history.specs.declared.change.Outcome.TheVariants.{Done, Present, Absent}
+use Rattle.kt_history.specs.declared.change.Outcome.TheVariants.{Done, Present, Absent, Ignored}
 use Rattle.kt_history.specs.declared.operation.OpKind.{OpKind}
-use Rattle.kt_history.specs.declared.operation.OpKind.TheVariants.{Insert, Upsert, Update, Delete}
+use Rattle.kt_history.specs.declared.operation.OpKind.TheVariants.{Insert, Upsert, Update, Delete, InsertIgnore, UpdateIgnore, DeleteIgnore}
 use Rattle.kt_history.specs.declared.operation.RowOp.{RowOp}
 use Rattle.kt_history.specs.declared.target.Target.{Target}
 use Rattle.kt_history.specs.declared.target.Target.TheVariants as stores
@@ -98,7 +98,10 @@ kind_at (suc zero ∷ rest) = Ok (Insert, rest)
 kind_at (suc (suc zero) ∷ rest) = Ok (Upsert, rest)
 kind_at (suc (suc (suc zero)) ∷ rest) = Ok (Update, rest)
 kind_at (suc (suc (suc (suc zero))) ∷ rest) = Ok (Delete, rest)
-kind_at (suc (suc (suc (suc (suc b)))) ∷ rest) = Err (suc (length rest))
+kind_at (suc (suc (suc (suc (suc zero)))) ∷ rest) = Ok (InsertIgnore, rest)
+kind_at (suc (suc (suc (suc (suc (suc zero))))) ∷ rest) = Ok (UpdateIgnore, rest)
+kind_at (suc (suc (suc (suc (suc (suc (suc zero)))))) ∷ rest) = Ok (DeleteIgnore, rest)
+kind_at (suc (suc (suc (suc (suc (suc (suc (suc b))))))) ∷ rest) = Err (suc (length rest))
 
 -- a key that none of these operations has
 unfoldable pub new_key_at : List RowOp → List ℕ → Result (List ℕ × List ℕ) ℕ
@@ -130,7 +133,8 @@ outcome_at [] = Err 0
 outcome_at (zero ∷ rest) = Ok (Done, rest)
 outcome_at (suc zero ∷ rest) = Ok (Present, rest)
 outcome_at (suc (suc zero) ∷ rest) = Ok (Absent, rest)
-outcome_at (suc (suc (suc b)) ∷ rest) = Err (suc (length rest))
+outcome_at (suc (suc (suc zero)) ∷ rest) = Ok (Ignored, rest)
+outcome_at (suc (suc (suc (suc b))) ∷ rest) = Err (suc (length rest))
 
 -- the stores that an operation of this outcome changed, behind their count
 unfoldable pub target_list_at : Outcome → List ℕ → Result (List Target × List ℕ) ℕ

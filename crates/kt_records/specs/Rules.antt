@@ -6,9 +6,9 @@ use Rattle.std.specs.Ordering.{eq_by_cmp}
 use Rattle.kt_base.specs.declared.cell.Cell.{Cell}
 use Rattle.kt_base.specs.declared.cell.Cell.TheVariants as cells
 use Rattle.kt_history.specs.declared.change.Outcome.{Outcome}
-use Rattle.kt_history.specs.declared.change.Outcome.TheVariants.{Done, Present, Absent}
+use Rattle.kt_history.specs.declared.change.Outcome.TheVariants.{Done, Present, Absent, Ignored}
 use Rattle.kt_history.specs.declared.operation.OpKind.{OpKind}
-use Rattle.kt_history.specs.declared.operation.OpKind.TheVariants.{Insert, Upsert, Update, Delete}
+use Rattle.kt_history.specs.declared.operation.OpKind.TheVariants.{Insert, Upsert, Update, Delete, InsertIgnore, UpdateIgnore, DeleteIgnore}
 use Rattle.kt_history.specs.declared.operation.RowOp.{RowOp}
 use Rattle.kt_history.specs.declared.target.Target.{Target}
 use Rattle.kt_history.specs.declared.target.Target.TheVariants as stores
@@ -47,6 +47,9 @@ may_list Insert n = true
 may_list Upsert n = true
 may_list Update n = true
 may_list Delete n = n == 0
+may_list InsertIgnore n = true
+may_list UpdateIgnore n = true
+may_list DeleteIgnore n = n == 0
 
 -- the cells that an operation of this kind lists
 pub record CellsFit (kind : OpKind) (held : List (ℕ × Cell)) : Type 0 where
@@ -73,6 +76,7 @@ abbrev pub may_change : Outcome → ℕ → Bool
 may_change Done n = (n == 1) || (n == 2)
 may_change Present n = n == 0
 may_change Absent n = n == 0
+may_change Ignored n = n == 0
 
 pub record RowFits (row : CommitRow) : Type 0 where
   pub count : may_change row.outcome (length row.targets) ≡ true

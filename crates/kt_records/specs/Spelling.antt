@@ -5,9 +5,9 @@ use Rattle.std.specs.Int.{w16, w32, w64, to_le_bytes, cast_unsigned}
 use Rattle.kt_base.specs.declared.cell.Cell.{Cell}
 use Rattle.kt_base.specs.declared.cell.Cell.TheVariants as cells
 use Rattle.kt_history.specs.declared.change.Outcome.{Outcome}
-use Rattle.kt_history.specs.declared.change.Outcome.TheVariants.{Done, Present, Absent}
+use Rattle.kt_history.specs.declared.change.Outcome.TheVariants.{Done, Present, Absent, Ignored}
 use Rattle.kt_history.specs.declared.operation.OpKind.{OpKind}
-use Rattle.kt_history.specs.declared.operation.OpKind.TheVariants.{Insert, Upsert, Update, Delete}
+use Rattle.kt_history.specs.declared.operation.OpKind.TheVariants.{Insert, Upsert, Update, Delete, InsertIgnore, UpdateIgnore, DeleteIgnore}
 use Rattle.kt_history.specs.declared.operation.RowOp.{RowOp}
 use Rattle.kt_history.specs.declared.target.Target.{Target}
 use Rattle.kt_history.specs.declared.target.Target.TheVariants as stores
@@ -39,6 +39,9 @@ kind Insert = 1
 kind Upsert = 2
 kind Update = 3
 kind Delete = 4
+kind InsertIgnore = 5
+kind UpdateIgnore = 6
+kind DeleteIgnore = 7
 
 -- an operation: its kind, its key behind the key's length, and its cells
 abbrev pub operation : RowOp → List ℕ
@@ -48,6 +51,7 @@ abbrev pub outcome : Outcome → ℕ
 outcome Done = 0
 outcome Present = 1
 outcome Absent = 2
+outcome Ignored = 3
 
 -- a store that was changed
 abbrev pub target : Target → List ℕ

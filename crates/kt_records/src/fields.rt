@@ -109,6 +109,9 @@ pub fn kind_of(bytes: &[u8]) -> Result<(OpKind, &[u8]), Stop>
         [2, rest @ ..] => Ok((OpKind::Upsert, rest)),
         [3, rest @ ..] => Ok((OpKind::Update, rest)),
         [4, rest @ ..] => Ok((OpKind::Delete, rest)),
+        [5, rest @ ..] => Ok((OpKind::InsertIgnore, rest)),
+        [6, rest @ ..] => Ok((OpKind::UpdateIgnore, rest)),
+        [7, rest @ ..] => Ok((OpKind::DeleteIgnore, rest)),
         [_, ..] => Err(Stop::Left(bytes.len())),
     }
 }
@@ -150,6 +153,7 @@ pub fn outcome_of(bytes: &[u8]) -> Result<(Outcome, &[u8]), Stop>
         [0, rest @ ..] => Ok((Outcome::Done, rest)),
         [1, rest @ ..] => Ok((Outcome::Present, rest)),
         [2, rest @ ..] => Ok((Outcome::Absent, rest)),
+        [3, rest @ ..] => Ok((Outcome::Ignored, rest)),
         [_, ..] => Err(Stop::Left(bytes.len())),
     }
 }

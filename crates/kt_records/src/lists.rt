@@ -15,7 +15,7 @@ fn lists(kind: OpKind, count: u16) -> bool
     ensures { result ≡ may_list kind count }
 {
     match kind {
-        OpKind::Delete => count == 0,
+        OpKind::Delete | OpKind::DeleteIgnore => count == 0,
         _ => true,
     }
 }

@@ -60,6 +60,9 @@ fn number_of_kind(kind: OpKind) -> u8
         OpKind::Upsert => 2,
         OpKind::Update => 3,
         OpKind::Delete => 4,
+        OpKind::InsertIgnore => 5,
+        OpKind::UpdateIgnore => 6,
+        OpKind::DeleteIgnore => 7,
     }
 }
 
@@ -111,6 +114,7 @@ fn number_of_outcome(outcome: Outcome) -> u8
         Outcome::Done => 0,
         Outcome::Present => 1,
         Outcome::Absent => 2,
+        Outcome::Ignored => 3,
     }
 }
 
