@@ -11,3 +11,4 @@ pub mod Lifted
 pub mod Batch
 pub mod Matched
 pub mod Fresh
+pub mod Near

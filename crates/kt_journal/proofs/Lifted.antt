@@ -31,9 +31,9 @@ module _ {D : Type 0} (seen : D → Files) (now : D → ℕ) (leaves : D → ℕ
   stands_read disk place records stands = sound_log (held (seen disk) 1) records (rest_read _ _ _ stands.settled.rest ∙ ap sound stands.spelled) stands.sound
 
   pub stands_holds : (disk : D) (place : ℕ) (records : List Entry) → Stands seen now leaves disk place records → Holds now leaves disk records
-  stands_holds disk place records stands c left = sound_log (held c 1) records (settled_holds seen now leaves disk place stands.settled c left ∙ ap sound stands.spelled) stands.sound
+  stands_holds disk place records stands c left = sound_log (held c 1) records (settled_holds seen now leaves 1 disk place stands.settled c left ∙ ap sound stands.spelled) stands.sound
 
-  pub stands_of : (disk : D) (place : ℕ) (records : List Entry) → Settled seen now leaves disk place → payloads_of (seen disk) ≡ map spelling records → IsLog records
+  pub stands_of : (disk : D) (place : ℕ) (records : List Entry) → Settled seen now leaves 1 disk place → payloads_of 1 (seen disk) ≡ map spelling records → IsLog records
       → Stands seen now leaves disk place (records_of (seen disk)) × (records_of (seen disk) ≡ records)
   stands_of disk place records settled spelled ordered =
       let stands : Stands seen now leaves disk place records = record { settled = settled; spelled = spelled; sound = ordered } in
@@ -42,19 +42,19 @@ module _ {D : Type 0} (seen : D → Files) (now : D → ℕ) (leaves : D → ℕ
 
   -- after an append
   pub stands_more : (old new : D) (place next : ℕ) (more : List Entry) → Stands seen now leaves old place (records_of (seen old)) → IsLog (records_of (seen old) ++ more)
-      → Settled seen now leaves new next → payloads_of (seen new) ≡ payloads_of (seen old) ++ map spelling more
+      → Settled seen now leaves 1 new next → payloads_of 1 (seen new) ≡ payloads_of 1 (seen old) ++ map spelling more
       → Stands seen now leaves new next (records_of (seen new)) × (records_of (seen new) ≡ records_of (seen old) ++ more)
   stands_more old new place next more stands ordered settled adds =
       stands_of new next (records_of (seen old) ++ more) settled (adds ∙ ap (λ (ps : List (List ℕ)). ps ++ map spelling more) stands.spelled ∙ sym (map-append spelling (records_of (seen old)) more)) ordered
 
   pub leaves_lift : (old new : D) (place : ℕ) (more : List Entry) → Stands seen now leaves old place (records_of (seen old)) → IsLog (records_of (seen old) ++ more)
-      → LeavesOnly now leaves (λ c. IsEither (payloads_of (seen old)) (map spelling more) (c 1)) old new → LeavesOnly now leaves (λ c. IsOldOrBoth (records_of (seen old)) more (c 1)) old new
+      → LeavesOnly now leaves (λ c. IsEither (payloads_of 1 (seen old)) (map spelling more) (c 1)) old new → LeavesOnly now leaves (λ c. IsOldOrBoth (records_of (seen old)) more (c 1)) old new
   leaves_lift old new place more stands ordered run =
-      weaker now leaves (λ c. IsEither (payloads_of (seen old)) (map spelling more) (c 1)) (λ c. IsOldOrBoth (records_of (seen old)) more (c 1)) old new
+      weaker now leaves (λ c. IsEither (payloads_of 1 (seen old)) (map spelling more) (c 1)) (λ c. IsOldOrBoth (records_of (seen old)) more (c 1)) old new
       (λ c has. either_lifts (records_of (seen old)) more (c 1) ordered (subst (λ (ps : List (List ℕ)). IsEither ps (map spelling more) (c 1)) stands.spelled has)) run
 
-  pub from_lifts : (old new : D) → LeavesOnly now leaves (IsFrom now leaves old) old new → LeavesOnly now leaves (IsOf now leaves old) old new
-  from_lifts old new run = weaker now leaves (IsFrom now leaves old) (IsOf now leaves old) old new (λ c has. (has.0, has.1, same_log (held c 1) (held has.0 1) has.2)) run
+  pub from_lifts : (old new : D) → LeavesOnly now leaves (IsFrom now leaves 1 old) old new → LeavesOnly now leaves (IsOf now leaves old) old new
+  from_lifts old new run = weaker now leaves (IsFrom now leaves 1 old) (IsOf now leaves old) old new (λ c has. (has.image, has.was_left, same_log (held c 1) (held has.image 1) has.frames)) run
 
   -- a log whose file is there in each image may be opened
   pub openable_after : (old new : D) (records more : List Entry) → LeavesOnly now leaves (λ c. IsOldOrBoth records more (c 1)) old new → CanOpen now leaves new
@@ -62,7 +62,7 @@ module _ {D : Type 0} (seen : D → Files) (now : D → ℕ) (leaves : D → ℕ
 
   -- what an append answers
   pub appended_stands : (r : Result ℕ AppendNo) (tells : Bool) (old new : D) (place : ℕ) (more : List Entry) → (IsTrue tells → Stands seen now leaves old place (records_of (seen old))) → (IsTrue tells → IsLog (records_of (seen old) ++ more))
-      → IfOk r (λ next. IsTrue tells → Settled seen now leaves new next × (payloads_of (seen new) ≡ payloads_of (seen old) ++ map spelling more))
+      → IfOk r (λ next. IsTrue tells → Settled seen now leaves 1 new next × (payloads_of 1 (seen new) ≡ payloads_of 1 (seen old) ++ map spelling more))
       → IfOk r (λ next. IsTrue tells → Stands seen now leaves new next (records_of (seen new)) × (records_of (seen new) ≡ records_of (seen old) ++ more))
   appended_stands (Ok next) tells old new place more stands ordered adds = λ told. stands_more old new place next more (stands told) (ordered told) (adds told).0 (adds told).1
   appended_stands (Err why) tells old new place more stands ordered adds = tt
@@ -77,7 +77,7 @@ module _ {D : Type 0} (seen : D → Files) (now : D → ℕ) (leaves : D → ℕ
   opened_reads (Err why) tells bytes ordered reads = tt
 
   pub opened_stands : (r : Result (ℕ × Vec Entry) JournalNo) (tells : Bool) (new : D) → IfOk r (λ o. IsLog o.1.items)
-      → IfOk r (λ o. IsTrue tells → Settled seen now leaves new o.0 × (payloads_of (seen new) ≡ map spelling o.1.items))
+      → IfOk r (λ o. IsTrue tells → Settled seen now leaves 1 new o.0 × (payloads_of 1 (seen new) ≡ map spelling o.1.items))
       → IfOk r (λ o. IsTrue tells → Stands seen now leaves new o.0 (records_of (seen new)) × (records_of (seen new) ≡ o.1.items))
   opened_stands (Ok o) tells new ordered settled = λ told. stands_of new o.0 o.1.items (settled told).0 (settled told).1 ordered
   opened_stands (Err why) tells new ordered settled = tt

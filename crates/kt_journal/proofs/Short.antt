@@ -27,30 +27,30 @@ torn_short records at x y at_is short torn =
       short = omega (arith, length-drop at (bytes_of y), torn.no_longer, short.short);
     }
 
-module _ {D : Type 0} (seen : D → Files) (now : D → ℕ) (leaves : D → ℕ → Files → Type 0) (old : D) (records : List (List ℕ)) (end : ℕ)
-    (end_is : end ≡ length (flat_map frame records)) (fit : AllFit records) (images : (c : Files) → leaves old (now old) c → IsShort records (c 1)) where
+module _ {D : Type 0} (seen : D → Files) (now : D → ℕ) (leaves : D → ℕ → Files → Type 0) (file : ℕ) (old : D) (records : List (List ℕ)) (end : ℕ)
+    (end_is : end ≡ length (flat_map frame records)) (fit : AllFit records) (images : (c : Files) → leaves old (now old) c → IsShort records (c file)) where
   abbrev Leaves : D → Type 0
-  Leaves disk = LeavesOnly now leaves (λ c. frames_of c ≡ sound records) old disk
+  Leaves disk = LeavesOnly now leaves (λ c. frames_of file c ≡ sound records) old disk
 
-  pub shut_behind : (d1 : D) → Turns now leaves (On 1 (Torn end 1)) old d1 → Leaves d1
+  pub shut_behind : (d1 : D) → Turns now leaves (On file (Torn end 1)) old d1 → Leaves d1
   shut_behind d1 turn =
-      goes_on seen now leaves (λ c. frames_of c ≡ sound records) old old d1 (On 1 (Torn end 1))
-      (started seen now leaves (λ c. frames_of c ≡ sound records) old (λ c left. short_read records (c 1) fit (images c left))) turn
-      (λ d c left has on. short_read records (c 1) fit (torn_short records end (d 1) (c 1) end_is (images d left) on.here))
+      goes_on seen now leaves (λ c. frames_of file c ≡ sound records) old old d1 (On file (Torn end 1))
+      (started seen now leaves (λ c. frames_of file c ≡ sound records) old (λ c left. short_read records (c file) fit (images c left))) turn
+      (λ d c left has on. short_read records (c file) fit (torn_short records end (d file) (c file) end_is (images d left) on.here))
 
   pub shut_kept : (d1 d2 : D) → Leaves d1 → Turns now leaves Same d1 d2 → Leaves d2
-  shut_kept d1 d2 so_far turn = goes_on_same seen now leaves (λ c. frames_of c ≡ sound records) old d1 d2 so_far turn
+  shut_kept d1 d2 so_far turn = goes_on_same seen now leaves (λ c. frames_of file c ≡ sound records) old d1 d2 so_far turn
 
-  pub shut_done : (d1 d2 : D) → IsShort records (seen old 1) → seen d1 1 ≡ Some (put (held (seen old) 1) end (0 ∷ [])) → seen d2 ≡ seen d1 → Stable seen now leaves 1 d2
-      → Settled seen now leaves d2 end × (payloads_of (seen d2) ≡ records)
+  pub shut_done : (d1 d2 : D) → IsShort records (seen old file) → seen d1 file ≡ Some (put (held (seen old) file) end (0 ∷ [])) → seen d2 ≡ seen d1 → Stable seen now leaves file d2
+      → Settled seen now leaves file d2 end × (payloads_of file (seen d2) ≡ records)
   shut_done d1 d2 short written same stable =
       let frames = flat_map frame records in
-      let front : take end (held (seen old) 1) ≡ frames = ap (λ (l : List ℕ). take end l) short.whole ∙ take_at frames short.behind end (sym end_is) in
-      let back : drop (end + 1) (held (seen old) 1) ≡ [] = drop_all (end + 1) (held (seen old) 1) (omega (arith, ap length short.whole, length-append frames short.behind, short.short)) in
-      let reads : held (seen d2) 1 ≡ frames ++ 0 ∷ [] =
-      ap (λ (files : Files). held files 1) same ∙ ap bytes_of written ∙ ap (λ (l : List ℕ). (l ++ 0 ∷ []) ++ drop (end + 1) (held (seen old) 1)) front
+      let front : take end (held (seen old) file) ≡ frames = ap (λ (l : List ℕ). take end l) short.whole ∙ take_at frames short.behind end (sym end_is) in
+      let back : drop (end + 1) (held (seen old) file) ≡ [] = drop_all (end + 1) (held (seen old) file) (omega (arith, ap length short.whole, length-append frames short.behind, short.short)) in
+      let reads : held (seen d2) file ≡ frames ++ 0 ∷ [] =
+      ap (λ (files : Files). held files file) same ∙ ap bytes_of written ∙ ap (λ (l : List ℕ). (l ++ 0 ∷ []) ++ drop (end + 1) (held (seen old) file)) front
       ∙ ap (λ (l : List ℕ). (frames ++ 0 ∷ []) ++ l) back ∙ append-nil (frames ++ 0 ∷ []) in
-      settles seen now leaves d2 records end (record { gate = 0; behind = []; whole = reads; shut = shut_zero 0 refl; place_is = end_is; fit = fit }) stable
+      settles seen now leaves file d2 records end (record { gate = 0; behind = []; whole = reads; shut = shut_zero 0 refl; place_is = end_is; fit = fit }) stable
     where
       shut_zero : (g : ℕ) → g ≡ 0 → g ≢ 1
       shut_zero g zero_is one_is = omega arith

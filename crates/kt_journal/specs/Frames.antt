@@ -2,7 +2,7 @@
 use Rattle.std.specs.Prelude.{◌≡◌, ◌≢◌, ◌⊎◌, ◌+◌, ◌^◌, ◌<◌, ◌≤◌, ◌==◌, ℕ, zero, suc, Bool, false, List, [], ◌∷◌, ◌++◌, length, take, drop, Option, Some, None, IsSome, nat_lt, if◌then◌else◌}
 use Rattle.std.specs.List.{flat_map, All}
 use Rattle.std.specs.Int.{w32, to_le_bytes, from_le_bytes}
-use Rattle.kt_disk.specs.Disk.{Files, held, bytes_of, Stable}
+use Rattle.kt_disk.specs.Disk.{Files, held, bytes_of, Stable, IsNoneOf}
 
 -- what stands behind a frame's gate: the length and the payload
 abbrev pub body : List ℕ → List ℕ
@@ -56,12 +56,12 @@ frames_at (suc most) offset bytes = if is_open bytes then then_more (frames_at m
 abbrev pub frames_in : List ℕ → Frames
 frames_in bytes = frames_at (length bytes) 0 bytes
 
--- the log is file 1
-abbrev pub frames_of : Files → Frames
-frames_of files = frames_in (held files 1)
+-- those of a file
+abbrev pub frames_of : ℕ → Files → Frames
+frames_of file files = frames_in (held files file)
 
-abbrev pub payloads_of : Files → List (List ℕ)
-payloads_of files = (frames_of files).payloads
+abbrev pub payloads_of : ℕ → Files → List (List ℕ)
+payloads_of file files = (frames_of file files).payloads
 
 -- The file is frames of these payloads and then a gate that is not 01, at this place.
 pub record AtRest (bytes : List ℕ) (payloads : List (List ℕ)) (place : ℕ) : Type 0 where
@@ -72,19 +72,19 @@ pub record AtRest (bytes : List ℕ) (payloads : List (List ℕ)) (place : ℕ) 
   pub place_is : place ≡ length (flat_map frame payloads)
   pub fit : AllFit payloads
 
--- The log is at rest, and nothing of it is pending.
-pub record Settled {D : Type 0} (seen : D → Files) (now : D → ℕ) (leaves : D → ℕ → Files → Type 0) (disk : D) (place : ℕ) : Type 0 where
-  pub rest : AtRest (held (seen disk) 1) (payloads_of (seen disk)) place
-  pub stable : Stable seen now leaves 1 disk
+-- The log in this file is at rest, and nothing of it is pending.
+pub record Settled {D : Type 0} (seen : D → Files) (now : D → ℕ) (leaves : D → ℕ → Files → Type 0) (file : ℕ) (disk : D) (place : ℕ) : Type 0 where
+  pub rest : AtRest (held (seen disk) file) (payloads_of file (seen disk)) place
+  pub stable : Stable seen now leaves file disk
 
 -- behind a closed gate these bytes are whole frames, the first one's gate aside, and a closed gate
 pub record IsBatch (bytes : List ℕ) (payloads : List (List ℕ)) : Type 0 where
   pub spelled : 1 ∷ bytes ≡ flat_map frame payloads ++ 0 ∷ []
   pub fit : AllFit payloads
 
--- a crash at the disk's last moment leaves frames of these payloads
-abbrev pub HoldsFrames : {D : Type 0} → (D → ℕ) → (D → ℕ → Files → Type 0) → D → List (List ℕ) → Type 0
-HoldsFrames now leaves disk payloads = (c : Files) → leaves disk (now disk) c → frames_of c ≡ sound payloads
+-- a crash at the disk's last moment leaves frames of these payloads in the file
+abbrev pub HoldsFrames : {D : Type 0} → (D → ℕ) → (D → ℕ → Files → Type 0) → ℕ → D → List (List ℕ) → Type 0
+HoldsFrames now leaves file disk payloads = (c : Files) → leaves disk (now disk) c → frames_of file c ≡ sound payloads
 
 -- the file is there, and its frames are the old ones, or the old and the new
 abbrev pub IsEither : List (List ℕ) → List (List ℕ) → Option (List ℕ) → Type 0
@@ -104,10 +104,13 @@ pub record IsShort (payloads : List (List ℕ)) (file : Option (List ℕ)) : Typ
   pub whole : bytes_of file ≡ flat_map frame payloads ++ behind
   pub short : length behind ≤ 1
 
--- a crash now leaves what is read, or no more than one byte where nothing is
-pub record IsSteady {D : Type 0} (seen : D → Files) (now : D → ℕ) (leaves : D → ℕ → Files → Type 0) (disk : D) : Type 0 where
-  pub each : (c : Files) → leaves disk (now disk) c → (c 1 ≡ seen disk 1) ⊎ ((seen disk 1 ≡ None) × (length (held c 1) ≤ 1))
+-- a crash now leaves what is read of the file, or no more than one byte where nothing is
+pub record IsSteady {D : Type 0} (seen : D → Files) (now : D → ℕ) (leaves : D → ℕ → Files → Type 0) (file : ℕ) (disk : D) : Type 0 where
+  pub each : (c : Files) → leaves disk (now disk) c → (c file ≡ seen disk file) ⊎ ((seen disk file ≡ None) × (length (held c file) ≤ 1))
 
--- the frames of this image are those that a crash at the last moment of that disk might have left
-abbrev pub IsFrom : {D : Type 0} → (D → ℕ) → (D → ℕ → Files → Type 0) → D → Files → Type 0
-IsFrom now leaves disk c = (d : Files) × leaves disk (now disk) d × (frames_of c ≡ frames_of d)
+-- This image has the frames of one that a crash at the last moment of that disk might have left, and all other files of that one.
+pub record IsFrom {D : Type 0} (now : D → ℕ) (leaves : D → ℕ → Files → Type 0) (file : ℕ) (disk : D) (c : Files) : Type 0 where
+  pub image : Files
+  pub was_left : leaves disk (now disk) image
+  pub frames : frames_of file c ≡ frames_of file image
+  pub others : (n : ℕ) → IsNoneOf (file ∷ []) n → c n ≡ image n

@@ -62,6 +62,9 @@ IsOldOrBoth old new file = IsSome file × ((log_in (bytes_of file) ≡ Ok old) �
 abbrev pub IsOf : {D : Type 0} → (D → ℕ) → (D → ℕ → Files → Type 0) → D → Files → Type 0
 IsOf now leaves disk c = (d : Files) × leaves disk (now disk) d × (log_of c ≡ log_of d)
 
--- A log may be opened: its file is there in each image, or has one byte at most in each.
-pub record CanOpen {D : Type 0} (now : D → ℕ) (leaves : D → ℕ → Files → Type 0) (disk : D) : Type 0 where
-  pub either : ((c : Files) → leaves disk (now disk) c → IsSome (c 1)) ⊎ ((c : Files) → leaves disk (now disk) c → length (held c 1) ≤ 1)
+-- The log in this file may be opened: the file is there in each image, or has one byte at most in each.
+pub record CanOpenFile {D : Type 0} (now : D → ℕ) (leaves : D → ℕ → Files → Type 0) (file : ℕ) (disk : D) : Type 0 where
+  pub either : ((c : Files) → leaves disk (now disk) c → IsSome (c file)) ⊎ ((c : Files) → leaves disk (now disk) c → length (held c file) ≤ 1)
+
+abbrev pub CanOpen : {D : Type 0} → (D → ℕ) → (D → ℕ → Files → Type 0) → D → Type 0
+CanOpen now leaves disk = CanOpenFile now leaves 1 disk

@@ -14,8 +14,8 @@ pub record JournalView (L : Type 0) : Type 0 where
 
 -- These records stand on the device, durable, up to this place.
 pub record Stands {L : Type 0} (seen : L → Files) (now : L → ℕ) (leaves : L → ℕ → Files → Type 0) (disk : L) (place : ℕ) (records : List Entry) : Type 0 where
-  pub settled : Settled seen now leaves disk place
-  pub spelled : payloads_of (seen disk) ≡ map spelling records
+  pub settled : Settled seen now leaves 1 disk place
+  pub spelled : payloads_of 1 (seen disk) ≡ map spelling records
   pub sound : IsLog records
 
 -- An open log ends at this place of its device.

@@ -1,14 +1,15 @@
 //! The four calls of an append.
-ghost use Rattle.std.specs.Prelude.{◌≡◌, ◌+◌, ◌++◌, ◌^◌, ◌<◌, ◌≤◌, [], IsTrue, List, ℕ, map, length, Ok, Err, OnOk, IfOk, IfSome};
+ghost use Rattle.std.specs.Prelude.{◌≡◌, ◌≢◌, ◌+◌, ◌++◌, ◌^◌, ◌<◌, ◌≤◌, [], ◌∷◌, IsTrue, List, ℕ, map, length, Ok, Err, OnOk, IfOk, IfSome};
 ghost use Rattle.std.specs.List.{All};
 ghost use Rattle.kt_base.specs.Causes.{Rose, HasCause};
-ghost use Rattle.kt_disk.specs.Disk.{LeavesOnly};
+ghost use Rattle.kt_disk.specs.Disk.{LeavesOnly, ButFiles};
 ghost use Rattle.kt_records.specs.Spelling.{spelling};
 ghost use Rattle.kt_journal.specs.Frames.{payloads_of, Settled, IsBatch, IsEither};
 ghost use Rattle.kt_journal.specs.Order.{IsFramed};
 ghost use Rattle.kt_journal.specs.Log.{records_of, IsLog, Holds, IsOldOrBoth, CanOpen};
 ghost use Rattle.kt_journal.specs.Open.{Stands};
 
+use crate::LOG;
 use crate::refusal::AppendNo;
 use crate::spell::spelled;
 use kt_base::Failed;
@@ -17,19 +18,21 @@ use kt_records::Entry;
 use std::alloc::Global;
 
 // Writes a batch behind the closed gate at `end`, and then opens that gate.
-fn publish<L: Disk>(disk: &mut L, end: u64, batch: &[u8]) -> Result<(), Failed>
+fn publish<L: Disk>(disk: &mut L, file: u64, end: u64, batch: &[u8]) -> Result<(), Failed>
     requires room { end + 1 < 2 ^ 64 }
-    requires settled { IsTrue L.tells → Settled L.seen L.now L.leaves disk.old end }
+    requires settled { IsTrue L.tells → Settled L.seen L.now L.leaves file disk.old end }
     ensures stable { OnOk result (IsTrue L.tells → (new : List (List ℕ)) → IsBatch batch.now new
-        → Settled L.seen L.now L.leaves disk.new (end + length batch.now) × (payloads_of (L.seen disk.new) ≡ payloads_of (L.seen disk.old) ++ new)) }
+        → Settled L.seen L.now L.leaves file disk.new (end + length batch.now) × (payloads_of file (L.seen disk.new) ≡ payloads_of file (L.seen disk.old) ++ new)) }
+    ensures others { IsTrue L.tells → (n : ℕ) → n ≢ file → L.seen disk.new n ≡ L.seen disk.old n }
     ensures any_moment { IsTrue L.tells → (new : List (List ℕ)) → IsBatch batch.now new
-        → LeavesOnly L.now L.leaves (λ c. IsEither (payloads_of (L.seen disk.old)) new (c 1)) disk.old disk.new }
+        → LeavesOnly L.now L.leaves (λ c. IsEither (payloads_of file (L.seen disk.old)) new (c file)) disk.old disk.new }
+    ensures elsewhere { IsTrue L.tells → LeavesOnly L.now L.leaves (ButFiles L.now L.leaves disk.old (file ∷ [])) disk.old disk.new }
     ensures cause { HasCause (L.faults disk.old) (L.faults disk.new) result }
 {
-    disk.write_at(1, end + 1, batch)?;
-    disk.sync(1)?;
-    disk.write_at(1, end, &[1])?;
-    disk.sync(1)?;
+    disk.write_at(file, end + 1, batch)?;
+    disk.sync(file)?;
+    disk.write_at(file, end, &[1])?;
+    disk.sync(file)?;
     Ok(())
 }
 
@@ -45,16 +48,19 @@ fn place_after(place: u64, len: usize) -> Option<u64>
 fn append_frames<L: Disk>(
     alloc: Global,
     disk: &mut L,
+    file: u64,
     end: u64,
     records: &[Entry],
 ) -> Result<u64, AppendNo>
     requires room { end + 1 < 2 ^ 64 }
-    requires settled { IsTrue L.tells → Settled L.seen L.now L.leaves disk.old end }
+    requires settled { IsTrue L.tells → Settled L.seen L.now L.leaves file disk.old end }
     requires framed { All IsFramed records.now }
     ensures end { IfOk result (λ next. (end + length records.now ≤ next) × (next + 1 < 2 ^ 64)) }
-    ensures settled { IfOk result (λ next. IsTrue L.tells → Settled L.seen L.now L.leaves disk.new next
-        × (payloads_of (L.seen disk.new) ≡ payloads_of (L.seen disk.old) ++ map spelling records.now)) }
-    ensures any_moment { IsTrue L.tells → LeavesOnly L.now L.leaves (λ c. IsEither (payloads_of (L.seen disk.old)) (map spelling records.now) (c 1)) disk.old disk.new }
+    ensures settled { IfOk result (λ next. IsTrue L.tells → Settled L.seen L.now L.leaves file disk.new next
+        × (payloads_of file (L.seen disk.new) ≡ payloads_of file (L.seen disk.old) ++ map spelling records.now)) }
+    ensures others { IsTrue L.tells → (n : ℕ) → n ≢ file → L.seen disk.new n ≡ L.seen disk.old n }
+    ensures any_moment { IsTrue L.tells → LeavesOnly L.now L.leaves (λ c. IsEither (payloads_of file (L.seen disk.old)) (map spelling records.now) (c file)) disk.old disk.new }
+    ensures elsewhere { IsTrue L.tells → LeavesOnly L.now L.leaves (ButFiles L.now L.leaves disk.old (file ∷ [])) disk.old disk.new }
     ensures empty { records.now ≡ [] → (result ≡ Ok end) × (disk.new ≡ disk.old) }
     ensures memory { result ≡ Err AppendNo.Memory → disk.new ≡ disk.old }
     ensures fault { result ≡ Err AppendNo.Fault → Rose (L.faults disk.old) (L.faults disk.new) }
@@ -68,7 +74,7 @@ fn append_frames<L: Disk>(
     let Some(next) = place_after(end, batch.len()) else {
         return Err(AppendNo::Memory);
     };
-    match publish(disk, end, batch) {
+    match publish(disk, file, end, batch) {
         Ok(()) => Ok(next),
         Err(Failed) => Err(AppendNo::Fault),
     }
@@ -89,12 +95,14 @@ pub fn append<L: Disk>(
     ensures stands { IfOk result (λ next. IsTrue L.tells → Stands L.seen L.now L.leaves disk.new next (records_of (L.seen disk.new))
         × (records_of (L.seen disk.new) ≡ records_of (L.seen disk.old) ++ records.now)) }
     ensures holds { OnOk result (IsTrue L.tells → Holds L.now L.leaves disk.new (records_of (L.seen disk.new))) }
+    ensures others { IsTrue L.tells → (n : ℕ) → n ≢ 1 → L.seen disk.new n ≡ L.seen disk.old n }
     ensures any_moment { IsTrue L.tells → LeavesOnly L.now L.leaves (λ c. IsOldOrBoth (records_of (L.seen disk.old)) records.now (c 1)) disk.old disk.new }
+    ensures elsewhere { IsTrue L.tells → LeavesOnly L.now L.leaves (ButFiles L.now L.leaves disk.old (1 ∷ [])) disk.old disk.new }
     ensures openable { IsTrue L.tells → CanOpen L.now L.leaves disk.new }
     ensures empty { records.now ≡ [] → (result ≡ Ok end) × (disk.new ≡ disk.old) }
     ensures memory { result ≡ Err AppendNo.Memory → disk.new ≡ disk.old }
     ensures fault { result ≡ Err AppendNo.Fault → Rose (L.faults disk.old) (L.faults disk.new) }
     ensures faults { L.faults disk.old ≤ L.faults disk.new }
 {
-    append_frames(alloc, disk, end, records)
+    append_frames(alloc, disk, LOG, end, records)
 }

@@ -1,8 +1,9 @@
 //! An open log.
-ghost use Rattle.std.specs.Prelude.{◌≡◌, ◌+◌, ◌++◌, ◌<◌, ◌≤◌, [], IsTrue, true, length, List, Ok, Err, IsOk, OnOk, IfOk, IfErr};
+ghost use Rattle.std.specs.Prelude.{◌≡◌, ◌≢◌, ◌+◌, ◌++◌, ◌<◌, ◌≤◌, ℕ, [], ◌∷◌, IsTrue, true, length, List, Ok, Err, IsOk, OnOk, IfOk, IfErr};
 ghost use Rattle.std.specs.List.{All};
 ghost use Rattle.kt_base.specs.Causes.{Rose};
-ghost use Rattle.kt_disk.specs.Disk.{LeavesOnly};
+ghost use Rattle.kt_disk.specs.Disk.{LeavesOnly, ButFiles};
+ghost use Rattle.kt_journal.specs.Frames.{IsFrom};
 ghost use Rattle.kt_journal.specs.Order.{IsFramed};
 ghost use Rattle.kt_journal.specs.Log.{log_of, records_of, IsLog, Holds, IsOldOrBoth, IsOf, CanOpen};
 
@@ -48,6 +49,10 @@ impl<L: Disk> Journal<L> {
 
         // A crash at any moment of the call leaves the old records, or the old and the new.
         ensures any_moment { IsTrue L.tells → LeavesOnly L.now L.leaves (λ c. IsOldOrBoth (records_of (L.seen self.old.disk)) records.now (c 1)) self.old.disk self.new.disk }
+
+        // All other files read as before, and a crash at any moment of the call leaves them as one before it might have.
+        ensures others { IsTrue L.tells → (n : ℕ) → n ≢ 1 → L.seen self.new.disk n ≡ L.seen self.old.disk n }
+        ensures elsewhere { IsTrue L.tells → LeavesOnly L.now L.leaves (ButFiles L.now L.leaves self.old.disk (1 ∷ [])) self.old.disk self.new.disk }
 
         // The device may be opened again, whatever the answer.
         ensures openable { IsTrue L.tells → CanOpen L.now L.leaves self.new.disk }
@@ -109,7 +114,15 @@ pub fn open_journal<L: Disk>(
     ensures openable { IfOk result (λ opened. IsTrue L.tells → CanOpen L.now L.leaves opened.0.disk) }
     ensures openable_err { IfErr result (λ e. IsTrue L.tells → CanOpen L.now L.leaves e.0) }
 
-    // A crash at any moment of the call leaves the records of an image from before it.
+    // All other files read as before.
+    ensures others { IfOk result (λ opened. IsTrue L.tells → (n : ℕ) → n ≢ 1 → L.seen opened.0.disk n ≡ L.seen disk n) }
+    ensures others_err { IfErr result (λ e. IsTrue L.tells → (n : ℕ) → n ≢ 1 → L.seen e.0 n ≡ L.seen disk n) }
+
+    // A crash at any moment of the call leaves the frames of the log, and all other files, of one image from before it.
+    ensures frames { IfOk result (λ opened. IsTrue L.tells → LeavesOnly L.now L.leaves (IsFrom L.now L.leaves 1 disk) disk opened.0.disk) }
+    ensures frames_err { IfErr result (λ e. IsTrue L.tells → LeavesOnly L.now L.leaves (IsFrom L.now L.leaves 1 disk) disk e.0) }
+
+    // So it leaves the records of an image from before it.
     ensures any_moment { IfOk result (λ opened. IsTrue L.tells → LeavesOnly L.now L.leaves (IsOf L.now L.leaves disk) disk opened.0.disk) }
     ensures any_moment_err { IfErr result (λ e. IsTrue L.tells → LeavesOnly L.now L.leaves (IsOf L.now L.leaves disk) disk e.0) }
 

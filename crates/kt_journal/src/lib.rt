@@ -13,5 +13,8 @@ mod reading;
 mod refusal;
 mod spell;
 
+// The log is file 1.
+const LOG: u64 = 1;
+
 pub use journal::{Journal, open_journal};
 pub use refusal::{AppendNo, JournalNo};

@@ -26,7 +26,7 @@ module _ {D : Type 0} (seen : D → Files) (now : D → ℕ) (leaves : D → ℕ
       → ((x : Option (List ℕ)) → step (seen mid slot) x → Is (slot_at slot (bytes_of x))) → LeavesOnly now leaves P old new
   moved mid new step so_far turn still gives = goes_on seen now leaves P old mid new (On slot step) so_far turn (λ d c left has on. record {
     here = gives (c slot) (subst (λ (x : Option (List ℕ)). step x (c slot)) (still d left) on.here);
-    others = record { image = has.others.image; was_left = has.others.was_left; others = λ n apart. on.others n apart ∙ has.others.others n apart };
+    others = record { image = has.others.image; was_left = has.others.was_left; others = λ n apart. on.others n apart.0 ∙ has.others.others n apart };
   })
 
   -- a call that moves nothing
@@ -39,5 +39,5 @@ module _ {D : Type 0} (seen : D → Files) (now : D → ℕ) (leaves : D → ℕ
     | inl here ↦ subst (λ (k : ℕ). c k ≡ seen new k) (sym here) (one c left)
     | inr apart ↦
         let from = (run.each (now new) c run.later (omega arith) left).others in
-        from.others n apart ∙ stable n is_one from.image from.was_left ∙ sym (others n apart)
+        from.others n (apart, tt) ∙ stable n is_one from.image from.was_left ∙ sym (others n apart)
   ]

@@ -48,7 +48,7 @@ module _ {D : Type 0} (seen : D → Files) (now : D → ℕ) (leaves : D → ℕ
   pub superblock_kept : (old : D) (number : ℕ) (stable : AreStable seen now leaves old) → IsNext (super_of (seen old)) number → (d : D) → Run old (slot_for number) (slot_is number) stable d
       → LeavesOnly now leaves (IsWith now leaves old (slot_for number) (λ s. s ≡ super_of (seen old))) old d
   superblock_kept old number stable next d run = weaker now leaves _ _ old d (λ c tells. record {
-    superblock = kept (seen old) c number next (slot_for number) (slot_is number) refl (λ n is apart. tells.others.others n apart ∙ stable n is tells.others.image tells.others.was_left) tells.here;
+    superblock = kept (seen old) c number next (slot_for number) (slot_is number) refl (λ n is apart. tells.others.others n (apart, tt) ∙ stable n is tells.others.image tells.others.was_left) tells.here;
     others = tells.others;
   }) run
 
@@ -82,7 +82,7 @@ module _ {D : Type 0} (seen : D → Files) (now : D → ℕ) (leaves : D → ℕ
     -- an image has the old superblock or this one
     gate_supers : (d : D) → GateRun d → LeavesOnly now leaves (IsWith now leaves old prepared.slot (λ s. (s ≡ super_of (seen old)) ⊎ (s ≡ Ok (Some m)))) old d
     gate_supers d run = weaker now leaves _ _ old d (λ c tells.
-        let others : (n : ℕ) → IsSlot n → n ≢ prepared.slot → c n ≡ seen old n = λ n is apart. tells.others.others n apart ∙ stable n is tells.others.image tells.others.was_left in
+        let others : (n : ℕ) → IsSlot n → n ≢ prepared.slot → c n ≡ seen old n = λ n is apart. tells.others.others n (apart, tt) ∙ stable n is tells.others.image tells.others.was_left in
         record {
           superblock = elim tells.here [
             | inl none ↦ inl (kept (seen old) c m.number ready.next prepared.slot is_slot (sym ready.slot) others (inr none))

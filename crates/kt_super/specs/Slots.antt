@@ -1,7 +1,7 @@
 -- The two slots of a disk, and the superblock of an image.
-use Rattle.std.specs.Prelude.{◌≡◌, ◌≢◌, ◌⊎◌, ℕ, ◌+◌, ◌-◌, Bool, false, not, ◌&&◌, ◌==◌, List, [], ◌∷◌, ◌++◌, length, take, drop, Option, Some, None, Result, Ok, Err, nat_lt, nat_le, if◌then◌else◌}
+use Rattle.std.specs.Prelude.{◌≡◌, ◌⊎◌, ℕ, ◌+◌, ◌-◌, Bool, false, not, ◌&&◌, ◌==◌, List, [], ◌∷◌, ◌++◌, length, take, drop, Option, Some, None, Result, Ok, Err, nat_lt, nat_le, if◌then◌else◌}
 use Rattle.std.specs.Int.{w32, from_le_bytes, to_le_bytes}
-use Rattle.kt_disk.specs.Disk.{Files, held, Stable}
+use Rattle.kt_disk.specs.Disk.{Files, held, Stable, ButFiles}
 use Rattle.kt_super.specs.declared.refusal.Fault.{Fault}
 use Rattle.kt_super.specs.declared.refusal.Fault.TheVariants.{Short, At}
 use Rattle.kt_super.specs.declared.refusal.Place.{Place}
@@ -78,16 +78,10 @@ pub record IsNext (found : Result (Option Meta) Place) (number : ℕ) : Type 0 w
   pub found_is : found ≡ Ok open_one
   pub number_is : number ≡ next_number open_one
 
--- all files but a slot are as an image of the disk has them
-pub record ButSlot {D : Type 0} (now : D → ℕ) (leaves : D → ℕ → Files → Type 0) (disk : D) (slot : ℕ) (c : Files) : Type 0 where
-  pub image : Files
-  pub was_left : leaves disk (now disk) image
-  pub others : (n : ℕ) → n ≢ slot → c n ≡ image n
-
 -- an image with this superblock, which differs from one of the disk in a slot alone
 pub record IsWith {D : Type 0} (now : D → ℕ) (leaves : D → ℕ → Files → Type 0) (disk : D) (slot : ℕ) (Is : Result (Option Meta) Place → Type 0) (c : Files) : Type 0 where
   pub superblock : Is (super_of c)
-  pub others : ButSlot now leaves disk slot c
+  pub others : ButFiles now leaves disk (slot ∷ []) c
 
 -- The slot is closed, and behind its gate stands this superblock, which is the next one.
 pub record IsReady (files : Files) (prepared : Prepared) (m : Meta) : Type 0 where
@@ -105,7 +99,7 @@ is_shut (gate ∷ bytes) = not (gate == 1)
 -- an image in which a slot tells this, and all other files are as an image of the disk has them
 pub record Tells {D : Type 0} (now : D → ℕ) (leaves : D → ℕ → Files → Type 0) (disk : D) (slot : ℕ) (Is : Result (Option Meta) ℕ → Type 0) (c : Files) : Type 0 where
   pub here : Is (slot_at slot (held c slot))
-  pub others : ButSlot now leaves disk slot c
+  pub others : ButFiles now leaves disk (slot ∷ []) c
 
 abbrev pub IsOldOrNone : Result (Option Meta) ℕ → Result (Option Meta) ℕ → Type 0
 IsOldOrNone old told = (told ≡ old) ⊎ (told ≡ Ok None)
