@@ -9,13 +9,14 @@ use Rattle.kt_base.proofs.Decimals.{same_text}
 use Rattle.kt_schema.specs.Columns.{key_columns, other_columns}
 use Rattle.kt_schema.specs.declared.column.Column.{Column}
 use Rattle.kt_history.specs.declared.operation.OpKind.{OpKind}
-use Rattle.kt_history.specs.declared.operation.OpKind.TheVariants as op
+use Rattle.kt_script.specs.declared.forms.OpForm.{OpForm}
+use Rattle.kt_script.specs.declared.forms.OpForm.TheVariants as form
 use Rattle.kt_script.specs.Reasons.{sound}
 use Rattle.kt_script.specs.Columns.{IsTable}
 use Rattle.kt_script.specs.Texts.{words}
-use Rattle.kt_script.specs.Writes.{name_in, cells_no, cells_of, key_len, key_of, under, all_named_no, all_named, none_left_no, insert_no, kind_no, op_kind, op_no, op_of, op_cells, kind_or_delete, ops_of, ops_no, write_no, write_of}
-use Rattle.kt_script.specs.Print.{joined, op_word, key_words, cell_words, is_named, op_words, op_text, write_text}
-use Rattle.kt_script.specs.Ordered.{in_order, ordered_words, ordered_op, ordered_write}
+use Rattle.kt_script.specs.Writes.{name_in, cells_no, cells_of, key_len, key_of, under, all_named_no, all_named, none_left_no, insert_no, behind_no, cells_said, op_form, op_word, op_kinds, kind_in, kind_no, op_kind, op_no, op_of, op_cells, kind_or_delete, ops_of, ops_no, write_no, write_of}
+use Rattle.kt_script.specs.Print.{joined, key_words, cell_words, form_names, is_named, op_words, op_text, write_text}
+use Rattle.kt_script.specs.Ordered.{in_order, ordered_behind, ordered_words, ordered_op, ordered_write}
 use Rattle.kt_script.proofs.OpWords.{cells_no-append, cells_of-behind}
 use Rattle.kt_script.proofs.AgainKeys.{cells_again, groups, key_again}
 
@@ -57,7 +58,7 @@ changes_again columns ws table named h g =
     ap (λ xs. xs ++ cell_words true others (all_named others [] rest)) (key_again columns ws table h) ∙ ap (λ xs. take (key_len columns) ws ++ xs) (named rest (omega (arith, low, g)))
 
 insert_again : (columns : List Column) (ws : List (List ℕ)) → IsTable columns → 20 < insert_no columns ws
-    → key_words columns (key_of columns ws) ++ cell_words false (other_columns columns) (op_cells columns (Some op.Insert) ws) ≡ ws
+    → key_words columns (key_of columns ws) ++ cell_words false (other_columns columns) (cells_said columns form.Literals ws) ≡ ws
 insert_again columns ws table h =
     let keys = key_columns columns in
     let others = other_columns columns in
@@ -72,15 +73,19 @@ insert_again columns ws table h =
     ap (λ xs. xs ++ cell_words false others (under others (drop (length keys) (cells_of columns ws)))) (key_again columns ws table (omega (arith, h, no, parts)))
     ∙ (ap (λ xs. take (length keys) ws ++ xs) cells ∙ two_parts keys others ws (omega (arith, h, no)) (omega (arith, h, left)))
 
+behind_again : (columns : List Column) (f : OpForm) (ws : List (List ℕ)) → IsTable columns → NamesAgain columns → 20 < behind_no columns f ws
+    → key_words columns (key_of columns ws) ++ cell_words (form_names f) (other_columns columns) (cells_said columns f ws) ≡ ordered_behind columns f ws
+behind_again columns form.Literals ws table named h = insert_again columns ws table h
+behind_again columns form.RowNames ws table named h = changes_again columns ws table named (omega (arith, h)) (omega (arith, h))
+behind_again columns form.Names ws table named h = changes_again columns ws table named (omega (arith, h)) (omega (arith, h))
+behind_again columns form.Key ws table named h =
+    ap (λ xs. xs ++ cell_words true (other_columns columns) []) (key_again columns ws table (omega (arith, h)))
+    ∙ (ap (λ xs. take (key_len columns) ws ++ xs) (nothing_named (other_columns columns)) ∙ whole (key_len columns) ws (omega (arith, h)))
+
 kind_again : (columns : List Column) (o : Option OpKind) (ws : List (List ℕ)) → IsTable columns → NamesAgain columns → 20 < kind_no columns o ws
     → key_words columns (key_of columns ws) ++ cell_words (is_named (kind_or_delete o)) (other_columns columns) (op_cells columns o ws) ≡ ordered_words columns o ws
 kind_again columns None ws table named h = absurd (omega arith)
-kind_again columns (Some op.Insert) ws table named h = insert_again columns ws table h
-kind_again columns (Some op.Upsert) ws table named h = changes_again columns ws table named (omega (arith, h)) (omega (arith, h))
-kind_again columns (Some op.Update) ws table named h = changes_again columns ws table named (omega (arith, h)) (omega (arith, h))
-kind_again columns (Some op.Delete) ws table named h =
-    ap (λ xs. xs ++ cell_words true (other_columns columns) []) (key_again columns ws table (omega (arith, h)))
-    ∙ (ap (λ xs. take (key_len columns) ws ++ xs) (nothing_named (other_columns columns)) ∙ whole (key_len columns) ws (omega (arith, h)))
+kind_again columns (Some kind) ws table named h = behind_again columns (op_form kind) ws table named h
 
 -- ---- operations
 
@@ -88,17 +93,18 @@ some_kind : (columns : List Column) (o : Option OpKind) (ws : List (List ℕ)) �
 some_kind columns None ws h = absurd (omega arith)
 some_kind columns (Some k) ws h = refl
 
-word_again : (word : List ℕ) → is_some (op_kind word) ≡ true → op_word (kind_or_delete (op_kind word)) ≡ word
-word_again word h = by (same word (codes "insert")) (same word (codes "upsert")) (same word (codes "update")) (same word (codes "delete")) refl refl refl refl h
+-- the kind that is found has the word
+word_in : (word : List ℕ) (kinds : List OpKind) → is_some (kind_in word kinds) ≡ true → op_word (kind_or_delete (kind_in word kinds)) ≡ word
+word_in word [] h = absurd (false≢true h)
+word_in word (kind ∷ kinds) h = by (same word (op_word kind)) refl h (λ s. word_in word kinds s)
   where
-    by : (a b c d : Bool) → same word (codes "insert") ≡ a → same word (codes "upsert") ≡ b → same word (codes "update") ≡ c → same word (codes "delete") ≡ d
-        → is_some (if a then Some op.Insert else (if b then Some op.Upsert else (if c then Some op.Update else (if d then Some op.Delete else None)))) ≡ true
-        → op_word (kind_or_delete (if a then Some op.Insert else (if b then Some op.Upsert else (if c then Some op.Update else (if d then Some op.Delete else None))))) ≡ word
-    by true b c d e f g i s = sym (same_text word (codes "insert") e)
-    by false true c d e f g i s = sym (same_text word (codes "upsert") f)
-    by false false true d e f g i s = sym (same_text word (codes "update") g)
-    by false false false true e f g i s = sym (same_text word (codes "delete") i)
-    by false false false false e f g i s = absurd (false≢true s)
+    by : (t : Bool) → same word (op_word kind) ≡ t → is_some (if t then Some kind else kind_in word kinds) ≡ true → (is_some (kind_in word kinds) ≡ true → op_word (kind_or_delete (kind_in word kinds)) ≡ word)
+        → op_word (kind_or_delete (if t then Some kind else kind_in word kinds)) ≡ word
+    by true e s later = sym (same_text word (op_word kind) e)
+    by false e s later = later s
+
+word_again : (word : List ℕ) → is_some (op_kind word) ≡ true → op_word (kind_or_delete (op_kind word)) ≡ word
+word_again word h = word_in word op_kinds h
 
 op_again : (columns : List Column) (ws : List (List ℕ)) → IsTable columns → NamesAgain columns → 20 < op_no columns ws → op_words columns (op_of columns ws) ≡ ordered_op columns ws
 op_again columns [] table named h = absurd (omega arith)

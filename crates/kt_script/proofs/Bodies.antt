@@ -1,6 +1,6 @@
 -- The lines below the columns, one after another.
 use Rattle.std.proofs.Common.{◌≡◌, ℕ, suc, ◌+◌, ◌<◌, ◌≤◌, Bool, true, false, not, List, [], ◌∷◌, ◌++◌, length, Option, Some, None, Result, Ok, Err, min, refl, sym, ap, subst, ◌∙◌, arith, length-append}
-use Rattle.std.specs.Prelude.{if◌then◌else◌, ◌||◌, map, nat_lt, nat_le, codes}
+use Rattle.std.specs.Prelude.{if◌then◌else◌, is_some, map, nat_lt, nat_le, codes}
 use Rattle.kt_base.specs.Literals.{same}
 use Rattle.std.specs.List.{list_any, AllByRecursion}
 use Rattle.std.proofs.lemmas.Bool.Decides.{nat_tests}
@@ -13,7 +13,7 @@ use Rattle.kt_script.specs.declared.refusal.ScriptNo.TheVariants as why
 use Rattle.kt_script.specs.Pieces.{cut, words_of}
 use Rattle.kt_script.specs.Reasons.{sound, reason_if}
 use Rattle.kt_script.specs.Columns.{begins_column, column_no, columns_with, counts_from}
-use Rattle.kt_script.specs.Writes.{op_key, ops_of, twice, write_no, write_of}
+use Rattle.kt_script.specs.Writes.{op_kind, op_key, ops_of, twice, write_no, write_of}
 use Rattle.kt_script.specs.Scripts.{head, body, Word, session, scan, mark, write, other, fault_if, fault_from, above_end, at, located, first_piece, first_word, word_of, word_of_op, session_no, command_no, command_of, in_session_no, worded_no, worded_plan, body_no, body_plan, push_last, commands_in, is_begun, most_sessions, most_commands, said, ReadsBody, ReadsWorded}
 use Rattle.kt_script.specs.Times.{most_time, time_no, time_or_zero, mark_in, mark_no, mark_of}
 use Rattle.kt_script.specs.Fit.{CommandFits, WriteFits, PlanFits, IsBodyRead}
@@ -192,7 +192,7 @@ body_worded {A} columns old new result words word more w is of reads =
 
 -- the words that are neither of these
 abbrev op_word : List ℕ → Word
-op_word word = word_of_op (same word (codes "insert") || (same word (codes "upsert") || (same word (codes "update") || same word (codes "delete"))))
+op_word word = word_of_op (is_some (op_kind word))
 
 pub is_session : (word : List ℕ) → same word (codes "session") ≡ true → word_of word ≡ session
 is_session word t = ap (λ b. if b then session else (if same word (codes "scan") then scan else (if same word (codes "mark") then mark else op_word word))) t

@@ -9,7 +9,7 @@ use Rattle.kt_base.specs.declared.cell.Kind.TheVariants as kind
 use Rattle.kt_base.specs.declared.cell.Cell.{Cell}
 use Rattle.kt_base.specs.declared.cell.Cell.TheVariants as cell
 use Rattle.kt_history.specs.declared.change.Outcome.{Outcome}
-use Rattle.kt_history.specs.declared.change.Outcome.TheVariants.{Done, Present, Absent}
+use Rattle.kt_history.specs.declared.change.Outcome.TheVariants.{Done, Present, Absent, Ignored}
 use Rattle.kt_history.specs.declared.event.Event.{Event}
 use Rattle.kt_history.specs.declared.event.Event.TheVariants as event
 use Rattle.kt_history.specs.declared.reply.Reply.{Reply}
@@ -53,6 +53,7 @@ outcome_ink : (o : Outcome) → Ink (outcome_word o)
 outcome_ink Done = ink (codes "ok") refl
 outcome_ink Present = ink (codes "present") refl
 outcome_ink Absent = ink (codes "absent") refl
+outcome_ink Ignored = ink (codes "ignored") refl
 
 outcomes_ink : (os : List Outcome) → AllByRecursion Ink (map outcome_word os)
 outcomes_ink [] = tt

@@ -13,10 +13,11 @@ use Rattle.kt_key.proofs.KeyReads.{keys_again}
 use Rattle.kt_schema.specs.Columns.{key_columns, other_columns, key_kinds}
 use Rattle.kt_schema.specs.declared.column.Column.{Column}
 use Rattle.kt_history.specs.declared.operation.OpKind.{OpKind}
-use Rattle.kt_history.specs.declared.operation.OpKind.TheVariants as op
+use Rattle.kt_script.specs.declared.forms.OpForm.{OpForm}
+use Rattle.kt_script.specs.declared.forms.OpForm.TheVariants as form
 use Rattle.kt_script.specs.Reasons.{cell_value}
 use Rattle.kt_script.specs.Columns.{IsTable}
-use Rattle.kt_script.specs.Writes.{cells_no, cells_of, key_len, key_of, under, name_in, behind_name, column_named, with_named, all_named, kind_no, op_kind, op_no, op_of, op_cells, ops_of, ops_no, write_no, write_of}
+use Rattle.kt_script.specs.Writes.{cells_no, cells_of, key_len, key_of, under, name_in, behind_name, column_named, with_named, all_named, behind_no, cells_said, op_form, kind_no, op_kind, op_no, op_of, op_cells, ops_of, ops_no, write_no, write_of}
 use Rattle.kt_script.specs.Writes.{key_cells as cells_in_key}
 use Rattle.kt_script.specs.Print.{OpBytes}
 use Rattle.kt_script.proofs.OpWords.{cells_no-append}
@@ -72,25 +73,31 @@ named_bytes others cells (w ∷ ws) all bytes = named_bytes others (with_named (
     by None = all
     by (Some c) = put_bytes c.id (cell_value c.kind (drop 1 (behind_name w))) cells (value_bytes c.kind (drop 1 (behind_name w)) literal) all
 
+said_bytes : (columns : List Column) (f : OpForm) (ws : List (List ℕ)) → WordsBytes ws → EntriesBytes (cells_said columns f ws)
+said_bytes columns form.Literals ws bytes = under_bytes (other_columns columns) (drop (key_len columns) (cells_of columns ws)) (each_dropped CellBytes (key_len columns) (cells_of columns ws) (cells_bytes columns ws bytes))
+said_bytes columns form.RowNames ws bytes = named_bytes (other_columns columns) [] (drop (key_len columns) ws) tt (each_dropped AreBytes (key_len columns) ws bytes)
+said_bytes columns form.Names ws bytes = named_bytes (other_columns columns) [] (drop (key_len columns) ws) tt (each_dropped AreBytes (key_len columns) ws bytes)
+said_bytes columns form.Key ws bytes = tt
+
 op_cells_bytes : (columns : List Column) (o : Option OpKind) (ws : List (List ℕ)) → WordsBytes ws → EntriesBytes (op_cells columns o ws)
 op_cells_bytes columns None ws bytes = tt
-op_cells_bytes columns (Some op.Insert) ws bytes = under_bytes (other_columns columns) (drop (key_len columns) (cells_of columns ws)) (each_dropped CellBytes (key_len columns) (cells_of columns ws) (cells_bytes columns ws bytes))
-op_cells_bytes columns (Some op.Upsert) ws bytes = named_bytes (other_columns columns) [] (drop (key_len columns) ws) tt (each_dropped AreBytes (key_len columns) ws bytes)
-op_cells_bytes columns (Some op.Update) ws bytes = named_bytes (other_columns columns) [] (drop (key_len columns) ws) tt (each_dropped AreBytes (key_len columns) ws bytes)
-op_cells_bytes columns (Some op.Delete) ws bytes = tt
+op_cells_bytes columns (Some kind) ws bytes = said_bytes columns (op_form kind) ws bytes
 
 -- ---- keys
 
 -- the words of a key that is taken are
-key_taken : (columns : List Column) (o : Option OpKind) (ws : List (List ℕ)) → IsTable columns → 20 < kind_no columns o ws → 20 < cells_no (key_columns columns) ws
-key_taken columns None ws table h = absurd (omega arith)
-key_taken columns (Some op.Insert) ws table h =
+behind_taken : (columns : List Column) (f : OpForm) (ws : List (List ℕ)) → IsTable columns → 20 < behind_no columns f ws → 20 < cells_no (key_columns columns) ws
+behind_taken columns form.Literals ws table h =
     let no : cells_no (key_columns columns ++ other_columns columns) ws ≡ cells_no columns ws = ap (λ cs. cells_no cs ws) (groups columns table) in
     let parts = cells_no-append (key_columns columns) (other_columns columns) ws in
     omega (arith, h, no, parts)
-key_taken columns (Some op.Upsert) ws table h = omega (arith, h)
-key_taken columns (Some op.Update) ws table h = omega (arith, h)
-key_taken columns (Some op.Delete) ws table h = omega (arith, h)
+behind_taken columns form.RowNames ws table h = omega (arith, h)
+behind_taken columns form.Names ws table h = omega (arith, h)
+behind_taken columns form.Key ws table h = omega (arith, h)
+
+key_taken : (columns : List Column) (o : Option OpKind) (ws : List (List ℕ)) → IsTable columns → 20 < kind_no columns o ws → 20 < cells_no (key_columns columns) ws
+key_taken columns None ws table h = absurd (omega arith)
+key_taken columns (Some kind) ws table h = behind_taken columns (op_form kind) ws table h
 
 key_bytes : (columns : List Column) (ws : List (List ℕ)) → IsTable columns → WordsBytes ws → 20 < cells_no (key_columns columns) ws → AllByRecursion CellBytes (key_cells (key_kinds columns) (key_of columns ws))
 key_bytes columns ws table bytes h =

@@ -21,5 +21,8 @@ each_operation_by_itself = refl
 other_lines_stay : ordered_line columns (codes "scan now select n,v where n>1 and v=\"a\"") ≡ codes "scan now select n,v where n>1 and v=\"a\""
 other_lines_stay = refl
 
+names_of_an_ignoring_update_are_turned : ordered_line columns (codes "update-ignore 1 n=2 v=\"a\" ; insert-ignore 2 \"b\" 3") ≡ codes "update-ignore 1 v=\"a\" n=2 ; insert-ignore 2 \"b\" 3"
+names_of_an_ignoring_update_are_turned = refl
+
 line_by_line : ordered columns (codes "session\nupsert 1 n=2 v=\"a\"\nscan now\n") ≡ codes "session\nupsert 1 v=\"a\" n=2\nscan now\n"
 line_by_line = refl

@@ -1,7 +1,7 @@
 -- What a text says is printed as that text with the names of each operation in schema order.
 use Rattle.std.proofs.Common.{◌≡◌, ℕ, suc, ◌+◌, ◌≤◌, Bool, true, false, not, List, [], ◌∷◌, ◌++◌, length, Option, Some, None, min, refl, sym, ap, subst, ◌∙◌, arith, append_assoc}
 use mathlib.Core.List.{append-nil}
-use Rattle.std.specs.Prelude.{if◌then◌else◌, ◌&&◌, ◌||◌, nat_lt, nat_le, codes}
+use Rattle.std.specs.Prelude.{if◌then◌else◌, ◌&&◌, is_some, nat_lt, nat_le, codes}
 use Rattle.std.specs.List.{flat_map, list_any}
 use Rattle.std.proofs.lemmas.Bool.Decides.{nat_tests}
 use Rattle.std.proofs.lemmas.Grind.{flat_map-append}
@@ -17,7 +17,7 @@ use Rattle.kt_script.specs.Pieces.{cut, words_of}
 use Rattle.kt_script.specs.Reasons.{sound, reason_if}
 use Rattle.kt_script.specs.Texts.{line, words}
 use Rattle.kt_script.specs.Columns.{column_line, kind_of, of_kind, begins_column, said_no, column_no, columns_with, IsTable}
-use Rattle.kt_script.specs.Writes.{write_no, write_of}
+use Rattle.kt_script.specs.Writes.{op_kind, write_no, write_of}
 use Rattle.kt_script.specs.Times.{most_time, time_no, at_no, mark_in, mark_no, mark_of}
 use Rattle.kt_script.specs.Scans.{Timed, timed, timed_no, scan_no, scan_of}
 use Rattle.kt_script.specs.Scripts.{Above, start, head, body, Word, session, scan, mark, write, other, word_of, word_of_op, session_no, command_of, in_session_no, worded_no, worded_plan, body_no, body_plan, first_word, push_last, is_begun, commands_in, most_commands, most_bytes, line_no, rest_no, after, Fault, fault_from, above_end, fault_of, Said, said, said_unless}
@@ -109,7 +109,7 @@ word_is_session w h = by (same w (codes "session")) refl
     by false t =
         let a = same w (codes "scan") in
         let b = same w (codes "mark") in
-        let c = same w (codes "insert") || (same w (codes "upsert") || (same w (codes "update") || same w (codes "delete"))) in
+        let c = is_some (op_kind w) in
         absurd (later a b c (ap (λ t. if t then session else (if a then scan else (if b then mark else word_of_op c))) (sym t) ∙ h))
 
 word_is_scan : (w : List ℕ) → word_of w ≡ scan → w ≡ codes "scan"
@@ -121,10 +121,10 @@ word_is_scan w h = by (same w (codes "session")) (same w (codes "scan")) refl h
     later false false g = absurd cc
 
     by : (a b : Bool) → same w (codes "scan") ≡ b → (if a then session else (if b then scan else (if same w (codes "mark") then mark
-        else word_of_op (same w (codes "insert") || (same w (codes "upsert") || (same w (codes "update") || same w (codes "delete"))))))) ≡ scan → w ≡ codes "scan"
+        else word_of_op (is_some (op_kind w))))) ≡ scan → w ≡ codes "scan"
     by true b t g = absurd cc
     by false true t g = same_text w (codes "scan") t
-    by false false t g = absurd (later (same w (codes "mark")) (same w (codes "insert") || (same w (codes "upsert") || (same w (codes "update") || same w (codes "delete")))) g)
+    by false false t g = absurd (later (same w (codes "mark")) (is_some (op_kind w)) g)
 
 word_is_mark : (w : List ℕ) → word_of w ≡ mark → w ≡ codes "mark"
 word_is_mark w h = by (same w (codes "session")) (same w (codes "scan")) (same w (codes "mark")) refl h
@@ -134,11 +134,11 @@ word_is_mark w h = by (same w (codes "session")) (same w (codes "scan")) (same w
     later false g = absurd cc
 
     by : (a b c : Bool) → same w (codes "mark") ≡ c → (if a then session else (if b then scan else (if c then mark
-        else word_of_op (same w (codes "insert") || (same w (codes "upsert") || (same w (codes "update") || same w (codes "delete"))))))) ≡ mark → w ≡ codes "mark"
+        else word_of_op (is_some (op_kind w))))) ≡ mark → w ≡ codes "mark"
     by true b c t g = absurd cc
     by false true c t g = absurd cc
     by false false true t g = same_text w (codes "mark") t
-    by false false false t g = absurd (later (same w (codes "insert") || (same w (codes "upsert") || (same w (codes "update") || same w (codes "delete")))) g)
+    by false false false t g = absurd (later (is_some (op_kind w)) g)
 
 -- a session line is its word
 session_alone : (plan : List (List Command)) (text : List ℕ) (ws : List (List ℕ)) → words_of text ≡ ws → first_word ws ≡ session → session_no plan ws ≡ sound → text ≡ codes "session"

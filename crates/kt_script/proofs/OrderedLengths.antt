@@ -11,15 +11,16 @@ use Rattle.kt_schema.specs.declared.column.Column.{Column}
 use Rattle.kt_schema.specs.Columns.{other_columns}
 use Rattle.kt_history.specs.declared.command.Command.{Command}
 use Rattle.kt_history.specs.declared.operation.OpKind.{OpKind}
-use Rattle.kt_history.specs.declared.operation.OpKind.TheVariants as op
+use Rattle.kt_script.specs.declared.forms.OpForm.{OpForm}
+use Rattle.kt_script.specs.declared.forms.OpForm.TheVariants as form
 use Rattle.kt_script.specs.Pieces.{cut, words_of}
 use Rattle.kt_script.specs.Reasons.{reason_if}
 use Rattle.kt_script.specs.Texts.{line, spaced, words}
 use Rattle.kt_script.specs.Columns.{begins_column, column_no}
-use Rattle.kt_script.specs.Writes.{name_in, key_len, op_kind, ops_no, write_no, ops_of, first_op, later_ops}
+use Rattle.kt_script.specs.Writes.{name_in, key_len, op_kind, op_form, ops_no, write_no, ops_of, first_op, later_ops}
 use Rattle.kt_script.specs.Scripts.{Above, start, head, body, Word, session, scan, mark, write, other, worded_no, body_no, first_word, is_begun, commands_in, most_commands, most_bytes, line_no, after, Fault, fault_from, above_end, fault_of, Said, said, said_unless, script_of}
 use Rattle.kt_script.specs.Print.{joined}
-use Rattle.kt_script.specs.Ordered.{in_order, ordered_words, ordered_op, ordered_as, ordered_line, ordered_write, whole_lines, ordered}
+use Rattle.kt_script.specs.Ordered.{in_order, ordered_behind, ordered_words, ordered_op, ordered_as, ordered_line, ordered_write, whole_lines, ordered}
 use Rattle.kt_script.proofs.Cuts.{some_piece}
 use Rattle.kt_script.proofs.OpWords.{ops_split}
 use Rattle.kt_script.proofs.PrintedTables.{Other, Apart, apart_kept, apart_of}
@@ -98,12 +99,15 @@ module _ (columns : List Column) (apart : Apart (other_columns columns)) where
       let later = in_order_no_longer (other_columns columns) (drop n ws) apart in
       omega (arith, both, whole, later)
 
+  form_no_longer : (f : OpForm) (ws : List (List ℕ)) → size (ordered_behind columns f ws) ≤ size ws
+  form_no_longer form.Literals ws = omega arith
+  form_no_longer form.RowNames ws = changed ws
+  form_no_longer form.Names ws = changed ws
+  form_no_longer form.Key ws = omega arith
+
   behind_no_longer : (o : Option OpKind) (ws : List (List ℕ)) → size (ordered_words columns o ws) ≤ size ws
   behind_no_longer None ws = omega arith
-  behind_no_longer (Some op.Insert) ws = omega arith
-  behind_no_longer (Some op.Upsert) ws = changed ws
-  behind_no_longer (Some op.Update) ws = changed ws
-  behind_no_longer (Some op.Delete) ws = omega arith
+  behind_no_longer (Some kind) ws = form_no_longer (op_form kind) ws
 
   op_no_longer : (ws : List (List ℕ)) → length (words (ordered_op columns ws)) ≤ length (words ws)
   op_no_longer [] = omega arith

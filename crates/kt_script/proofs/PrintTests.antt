@@ -77,6 +77,11 @@ an_update : command_text columns (command.Write (record { ops = record { kind = 
 unfolding digits
 an_update = refl
 
+ignoring : command_text columns (command.Write (record { ops = record { kind = op.InsertIgnore; key = db1; cells = (3, cell.Null) ∷ (4, cell.Bool false) ∷ [] } ∷ record { kind = op.UpdateIgnore; key = web; cells = (3, cell.Null) ∷ [] } ∷ record { kind = op.DeleteIgnore; key = db2; cells = [] } ∷ [] }))
+    ≡ codes "insert-ignore \"db1\" 100 null false ; update-ignore \"web\" 90 cpu=null ; delete-ignore \"db2\" 100"
+unfolding digits
+ignoring = refl
+
 a_mark : command_text columns (command.Mark 4096) ≡ codes "mark 4096"
 unfolding digits
 a_mark = refl

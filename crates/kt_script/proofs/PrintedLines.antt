@@ -23,7 +23,8 @@ use Rattle.kt_history.specs.declared.scan.Scan.{Scan}
 use Rattle.kt_script.specs.Texts.{words, literals}
 use Rattle.kt_script.specs.Times.{most_time}
 use Rattle.kt_script.specs.Fit.{column_of, AtFits}
-use Rattle.kt_script.specs.Print.{ColumnFits, joined, kind_word, word_if, default_words, column_words, op_word, cell_word, cell_words, is_named, op_text, write_text, name_of, test_text, test_under, pred_text, at_text, select_text, where_text, scan_text}
+use Rattle.kt_script.specs.Writes.{op_word}
+use Rattle.kt_script.specs.Print.{ColumnFits, joined, kind_word, word_if, default_words, column_words, cell_word, cell_words, is_named, op_text, write_text, name_of, test_text, test_under, pred_text, at_text, select_text, where_text, scan_text}
 use Rattle.kt_script.proofs.Cuts.{Without}
 use Rattle.kt_script.proofs.InLine.{join, row_in_line, words_in_line}
 use Rattle.kt_script.proofs.PrintedWords.{High, all_high, name_is, name_high}
@@ -84,6 +85,9 @@ op_in_line op.Insert = high_in_line (codes "insert") (all_high (codes "insert") 
 op_in_line op.Upsert = high_in_line (codes "upsert") (all_high (codes "upsert") refl)
 op_in_line op.Update = high_in_line (codes "update") (all_high (codes "update") refl)
 op_in_line op.Delete = high_in_line (codes "delete") (all_high (codes "delete") refl)
+op_in_line op.InsertIgnore = high_in_line (codes "insert-ignore") (all_high (codes "insert-ignore") refl)
+op_in_line op.UpdateIgnore = high_in_line (codes "update-ignore") (all_high (codes "update-ignore") refl)
+op_in_line op.DeleteIgnore = high_in_line (codes "delete-ignore") (all_high (codes "delete-ignore") refl)
 
 cell_in_line : (named : Bool) (c : Column) (x : Cell) → ColumnFits c → Without 10 (cell_word named c x)
 cell_in_line true c x fit = both_in_line c.name (61 ∷ literal c.kind x) (name_in_line c fit) ((λ e. omega arith), literal_in_line c.kind x)

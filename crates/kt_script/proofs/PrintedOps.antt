@@ -22,13 +22,15 @@ use Rattle.kt_schema.specs.Columns.{key_columns, other_columns, key_kinds}
 use Rattle.kt_schema.specs.declared.column.Column.{Column}
 use Rattle.kt_history.specs.declared.operation.OpKind.{OpKind}
 use Rattle.kt_history.specs.declared.operation.OpKind.TheVariants as op
+use Rattle.kt_script.specs.declared.forms.OpForm.{OpForm}
+use Rattle.kt_script.specs.declared.forms.OpForm.TheVariants as form
 use Rattle.kt_history.specs.declared.operation.RowOp.{RowOp}
 use Rattle.kt_script.specs.Reasons.{reason_if, cell_no}
 use Rattle.kt_script.specs.Texts.{literals}
-use Rattle.kt_script.specs.Writes.{name_in, named_no, all_named_no, must_be_named, left_out_no, all_named, is_empty, none_left_no, under, cells_no, cells_of, key_len, key_of, long_no, key_no, changes_no, kind_no, op_kind, op_cells, kind_or_delete, op_no, op_of, op_key}
+use Rattle.kt_script.specs.Writes.{name_in, named_no, all_named_no, must_be_named, left_out_no, all_named, is_empty, none_left_no, under, cells_no, cells_of, key_len, key_of, long_no, key_no, changes_no, behind_no, cells_said, op_form, op_word, kind_no, op_kind, op_cells, kind_or_delete, op_no, op_of, op_key}
 use Rattle.kt_script.specs.Writes.{key_cells as cells_in_key}
 use Rattle.kt_script.specs.Fit.{is_part, is_given, fits_column, cells_fit, OpFits}
-use Rattle.kt_script.specs.Print.{ColumnFits, cell_word, cell_words, op_word, op_words, key_words, is_named, OpBytes}
+use Rattle.kt_script.specs.Print.{ColumnFits, cell_word, cell_words, op_words, key_words, form_names, is_named, OpBytes}
 use Rattle.kt_base.proofs.Decimals.{same_text}
 use Rattle.kt_key.proofs.KeyReads.{keys_again}
 use Rattle.kt_script.proofs.InLine.{join}
@@ -285,43 +287,49 @@ op_word_word op.Insert = high (codes "insert") refl
 op_word_word op.Upsert = high (codes "upsert") refl
 op_word_word op.Update = high (codes "update") refl
 op_word_word op.Delete = high (codes "delete") refl
+op_word_word op.InsertIgnore = high (codes "insert-ignore") refl
+op_word_word op.UpdateIgnore = high (codes "update-ignore") refl
+op_word_word op.DeleteIgnore = high (codes "delete-ignore") refl
 
 op_word_unbroken : (k : OpKind) → Unbroken (op_word k)
 op_word_unbroken op.Insert = refl
 op_word_unbroken op.Upsert = refl
 op_word_unbroken op.Update = refl
 op_word_unbroken op.Delete = refl
+op_word_unbroken op.InsertIgnore = refl
+op_word_unbroken op.UpdateIgnore = refl
+op_word_unbroken op.DeleteIgnore = refl
 
 -- the cells of an operation are some of the columns' cells
-part_of : (columns : List Column) (k : OpKind) (cells : List (ℕ × Cell)) → cells_fit columns k cells ≡ true → is_part columns cells ≡ true
-part_of columns op.Insert cells h = (both_true (is_part columns cells) (length cells == length columns) h).0
-part_of columns op.Upsert cells h = (both_true (is_part columns cells) (list_all (is_given cells) columns) h).0
-part_of columns op.Update cells h = (both_true (is_part columns cells) (not (length cells == 0)) h).0
-part_of columns op.Delete cells h = ap (is_part columns) (no_cells cells h) ∙ no_part columns
+part_of : (columns : List Column) (f : OpForm) (cells : List (ℕ × Cell)) → cells_fit columns f cells ≡ true → is_part columns cells ≡ true
+part_of columns form.Literals cells h = (both_true (is_part columns cells) (length cells == length columns) h).0
+part_of columns form.RowNames cells h = (both_true (is_part columns cells) (list_all (is_given cells) columns) h).0
+part_of columns form.Names cells h = (both_true (is_part columns cells) (not (length cells == 0)) h).0
+part_of columns form.Key cells h = ap (is_part columns) (no_cells cells h) ∙ no_part columns
 
 -- what is known of an operation's words
-record Parts (columns : List Column) (k : OpKind) (key : List ℕ) (cells : List (ℕ × Cell)) : Type 0 where
+record Parts (columns : List Column) (f : OpForm) (key : List ℕ) (cells : List (ℕ × Cell)) : Type 0 where
   key_row : List Cell
   key_ok : CellsOk (key_columns columns) key_row
-  front : KeyRead columns key (literals (key_kinds columns) key_row ++ cell_words (is_named k) (other_columns columns) cells) (cell_words (is_named k) (other_columns columns) cells)
+  front : KeyRead columns key (literals (key_kinds columns) key_row ++ cell_words (form_names f) (other_columns columns) cells) (cell_words (form_names f) (other_columns columns) cells)
   known : AllByRecursion (Known (other_columns columns)) (other_columns columns)
   part : is_part (other_columns columns) cells ≡ true
   bytes : AllByRecursion Bytes cells
 
 -- the words behind the first
-abbrev Behind : (columns : List Column) (k : OpKind) (key : List ℕ) (cells : List (ℕ × Cell)) → Parts columns k key cells → List (List ℕ)
-Behind columns k key cells p = literals (key_kinds columns) p.key_row ++ cell_words (is_named k) (other_columns columns) cells
+abbrev Behind : (columns : List Column) (f : OpForm) (key : List ℕ) (cells : List (ℕ × Cell)) → Parts columns f key cells → List (List ℕ)
+Behind columns f key cells p = literals (key_kinds columns) p.key_row ++ cell_words (form_names f) (other_columns columns) cells
 
-record BehindRead (columns : List Column) (k : OpKind) (key : List ℕ) (cells : List (ℕ × Cell)) (ws : List (List ℕ)) : Type 0 where
-  no : kind_no columns (Some k) ws ≡ 21
-  cells_are : op_cells columns (Some k) ws ≡ cells
+record BehindRead (columns : List Column) (f : OpForm) (key : List ℕ) (cells : List (ℕ × Cell)) (ws : List (List ℕ)) : Type 0 where
+  no : behind_no columns f ws ≡ 21
+  cells_are : cells_said columns f ws ≡ cells
 
-changes_read : (columns : List Column) (k : OpKind) (key : List ℕ) (cells : List (ℕ × Cell)) → is_named k ≡ true → Tabled columns → (p : Parts columns k key cells)
-    → (changes_no columns (Behind columns k key cells p) ≡ 21) × (all_named (other_columns columns) [] (drop (key_len columns) (Behind columns k key cells p)) ≡ cells)
-    × (drop (key_len columns) (Behind columns k key cells p) ≡ cell_words true (other_columns columns) cells)
-changes_read columns k key cells named t p =
+changes_read : (columns : List Column) (f : OpForm) (key : List ℕ) (cells : List (ℕ × Cell)) → form_names f ≡ true → Tabled columns → (p : Parts columns f key cells)
+    → (changes_no columns (Behind columns f key cells p) ≡ 21) × (all_named (other_columns columns) [] (drop (key_len columns) (Behind columns f key cells p)) ≡ cells)
+    × (drop (key_len columns) (Behind columns f key cells p) ≡ cell_words true (other_columns columns) cells)
+changes_read columns f key cells named t p =
     let others : List Column = other_columns columns in
-    let ws : List (List ℕ) = Behind columns k key cells p in
+    let ws : List (List ℕ) = Behind columns f key cells p in
     let rest : drop (key_len columns) ws ≡ cell_words true others cells = p.front.rest ∙ ap (λ b. cell_words b others cells) named in (
       min_sound (key_no columns ws) (all_named_no others [] (drop (key_len columns) ws)) p.front.no
           (ap (λ xs. all_named_no others [] xs) rest ∙ named_sound others others cells [] p.known t.others_apart p.part p.bytes (all_unseen others)),
@@ -329,13 +337,13 @@ changes_read columns k key cells named t p =
       rest,
     )
 
-insert_read : (columns : List Column) (key : List ℕ) (cells : List (ℕ × Cell)) → Tabled columns → (p : Parts columns op.Insert key cells) → length cells ≡ length (other_columns columns)
-    → BehindRead columns op.Insert key cells (Behind columns op.Insert key cells p)
+insert_read : (columns : List Column) (key : List ℕ) (cells : List (ℕ × Cell)) → Tabled columns → (p : Parts columns form.Literals key cells) → length cells ≡ length (other_columns columns)
+    → BehindRead columns form.Literals key cells (Behind columns form.Literals key cells p)
 insert_read columns key cells t p size =
     let others : List Column = other_columns columns in
     let keys : List Column = key_columns columns in
     let full = full_part others cells p.part size p.bytes in
-    let ws : List (List ℕ) = Behind columns op.Insert key cells p in
+    let ws : List (List ℕ) = Behind columns form.Literals key cells p in
     let xs : List (List ℕ) = literals (kinds_of others) (values cells) ++ [] in
     let whole : List (List ℕ) = literals (key_kinds columns) p.key_row ++ xs in
     let same_words : ws ≡ whole = ap (λ vs. literals (key_kinds columns) p.key_row ++ vs) (full.words ∙ sym (append-nil (literals (kinds_of others) (values cells)))) in
@@ -352,33 +360,33 @@ insert_read columns key cells t p size =
           ∙ (ap (under others) (drop-append_seam p.key_row (values cells)) ∙ full.below));
     }
 
-behind_read : (columns : List Column) (k : OpKind) (key : List ℕ) (cells : List (ℕ × Cell)) → Tabled columns → (p : Parts columns k key cells) → cells_fit (other_columns columns) k cells ≡ true
-    → BehindRead columns k key cells (Behind columns k key cells p)
-behind_read columns op.Insert key cells t p fit = insert_read columns key cells t p (size_of (length cells) (length (other_columns columns)) (both_true (is_part (other_columns columns) cells) (length cells == length (other_columns columns)) fit).1)
+behind_read : (columns : List Column) (f : OpForm) (key : List ℕ) (cells : List (ℕ × Cell)) → Tabled columns → (p : Parts columns f key cells) → cells_fit (other_columns columns) f cells ≡ true
+    → BehindRead columns f key cells (Behind columns f key cells p)
+behind_read columns form.Literals key cells t p fit = insert_read columns key cells t p (size_of (length cells) (length (other_columns columns)) (both_true (is_part (other_columns columns) cells) (length cells == length (other_columns columns)) fit).1)
   where
     size_of : (m n : ℕ) → (m == n) ≡ true → m ≡ n
     size_of m n h = eqb-true m n h
-behind_read columns op.Upsert key cells t p fit =
+behind_read columns form.RowNames key cells t p fit =
     let others : List Column = other_columns columns in
-    let ws : List (List ℕ) = Behind columns op.Upsert key cells p in
-    let changes = changes_read columns op.Upsert key cells refl t p in
+    let ws : List (List ℕ) = Behind columns form.RowNames key cells p in
+    let changes = changes_read columns form.RowNames key cells refl t p in
     let given = (both_true (is_part others cells) (list_all (is_given cells) others) fit).1 in
     record {
       no = min_sound (changes_no columns ws) (left_out_no others (drop (key_len columns) ws)) changes.0
           (ap (left_out_no others) changes.2 ∙ ap (λ b. reason_if b 15) (none_left_out cells (map name_in (cell_words true others cells)) others (named_found others cells t.others_fit t.others_rising p.part) given));
       cells_are = changes.1;
     }
-behind_read columns op.Update key cells t p fit =
+behind_read columns form.Names key cells t p fit =
     let others : List Column = other_columns columns in
-    let ws : List (List ℕ) = Behind columns op.Update key cells p in
-    let changes = changes_read columns op.Update key cells refl t p in
+    let ws : List (List ℕ) = Behind columns form.Names key cells p in
+    let changes = changes_read columns form.Names key cells refl t p in
     let some = (both_true (is_part others cells) (not (length cells == 0)) fit).1 in
     record {
       no = min_sound (changes_no columns ws) (reason_if (is_empty (drop (key_len columns) ws)) 12) changes.0 (ap (λ xs. reason_if (is_empty xs) 12) changes.2 ∙ ap (λ b. reason_if b 12) (some_named others cells some p.part));
       cells_are = changes.1;
     }
-behind_read columns op.Delete key cells t p fit =
-    let ws : List (List ℕ) = Behind columns op.Delete key cells p in
+behind_read columns form.Key key cells t p fit =
+    let ws : List (List ℕ) = Behind columns form.Key key cells p in
     let none : cells ≡ [] = no_cells cells fit in
     let rest : drop (key_len columns) ws ≡ [] = p.front.rest ∙ (ap (cell_words true (other_columns columns)) none ∙ no_words true (other_columns columns)) in
     record { no = min_sound (key_no columns ws) (none_left_no (drop (key_len columns) ws)) p.front.no (ap none_left_no rest); cells_are = sym none }
@@ -388,6 +396,9 @@ word_kind op.Insert = refl
 word_kind op.Upsert = refl
 word_kind op.Update = refl
 word_kind op.Delete = refl
+word_kind op.InsertIgnore = refl
+word_kind op.UpdateIgnore = refl
+word_kind op.DeleteIgnore = refl
 
 pub op_read : (columns : List Column) (o : RowOp) → Tabled columns → OpFits columns o → OpBytes columns o → OpRead columns o
 op_read columns o t fit said =
@@ -399,9 +410,9 @@ op_read columns o t fit said =
     let key_bytes : AllByRecursion CellBytes fit.key_cells = subst (AllByRecursion CellBytes) cells_again said.key_bytes in
     let ok : CellsOk (key_columns columns) fit.key_cells = key_ok (key_columns columns) fit.key_cells fit.key.key (omega (arith, size, short)) key_bytes in
     let known : AllByRecursion (Known others) others = zip_all (IsNamed others) ColumnFits (Known others) others (λ c n f. record { named = n; fit = f }) t.others_named t.others_fit in
-    let part = part_of others o.kind o.cells fit.cells in
+    let part = part_of others (op_form o.kind) o.cells fit.cells in
     let tail : List (List ℕ) = cell_words (is_named o.kind) others o.cells in
-    let p : Parts columns o.kind o.key o.cells = record {
+    let p : Parts columns (op_form o.kind) o.key o.cells = record {
       key_row = fit.key_cells;
       key_ok = ok;
       front = key_read columns o.key fit.key_cells tail fit.key short ok;
@@ -411,7 +422,7 @@ op_read columns o t fit said =
     } in
     let ws : List (List ℕ) = literals kinds fit.key_cells ++ tail in
     let same_words : key_words columns o.key ++ tail ≡ ws = ap (λ xs. literals kinds xs ++ tail) cells_again in
-    let behind = behind_read columns o.kind o.key o.cells t p fit.cells in
+    let behind = behind_read columns (op_form o.kind) o.key o.cells t p fit.cells in
     let P : List (List ℕ) → Type 0 = λ xs. AllByRecursion IsWord xs in
     let Q : List (List ℕ) → Type 0 = λ xs. AllByRecursion Unbroken xs in
     record {

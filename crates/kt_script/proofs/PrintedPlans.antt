@@ -17,7 +17,8 @@ use Rattle.kt_script.specs.Times.{most_time, time_no, time_or_zero}
 use Rattle.kt_script.specs.Scripts.{most_sessions, most_commands, Word, word_of, first_word, command_no, commands_in, is_begun, session_no, in_session_no, worded_no, worded_plan, push_last, Above, head, body, line_no, end_no, after, fault_if, fault_from, above_end, said}
 use Rattle.kt_script.specs.Scripts as word
 use Rattle.kt_script.specs.Fit.{CommandFits, PlanFits}
-use Rattle.kt_script.specs.Print.{op_word, command_text, CommandBytes}
+use Rattle.kt_script.specs.Writes.{op_word}
+use Rattle.kt_script.specs.Print.{command_text, CommandBytes}
 use Rattle.kt_script.proofs.Bodies.{push_is}
 use Rattle.kt_script.proofs.PrintedWords.{high_word, high, word_then, word_alone}
 use Rattle.kt_script.proofs.PrintedCells.{min_sound}
@@ -60,6 +61,9 @@ word_is op.Insert = refl
 word_is op.Upsert = refl
 word_is op.Update = refl
 word_is op.Delete = refl
+word_is op.InsertIgnore = refl
+word_is op.UpdateIgnore = refl
+word_is op.DeleteIgnore = refl
 
 below_limit : (n : ℕ) → n < 262144 → nat_le 262144 n ≡ false
 below_limit n h = grind (arith, nat_tests)

@@ -10,9 +10,9 @@ use Rattle.kt_history.specs.declared.operation.OpKind.{OpKind}
 use Rattle.kt_history.specs.declared.operation.RowOp.{RowOp}
 use Rattle.kt_script.specs.Pieces.{words_of}
 use Rattle.kt_script.specs.Reasons.{reason_if}
-use Rattle.kt_script.specs.Writes.{op_no, op_of, op_key, ops_of, ops_no, twice, write_no, write_of}
+use Rattle.kt_script.specs.Writes.{op_word, op_no, op_of, op_key, ops_of, ops_no, twice, write_no, write_of}
 use Rattle.kt_script.specs.Fit.{OpFits, WriteFits}
-use Rattle.kt_script.specs.Print.{op_word, key_words, cell_words, is_named, op_words, op_text, write_text, OpBytes}
+use Rattle.kt_script.specs.Print.{key_words, cell_words, is_named, op_words, op_text, write_text, OpBytes}
 use Rattle.kt_script.proofs.PrintedWords.{words_then, words_alone}
 use Rattle.kt_script.proofs.PrintedCells.{min_sound}
 use Rattle.kt_script.proofs.PrintedTables.{Tabled}

@@ -7,7 +7,7 @@ use Rattle.std.specs.Fmt.{decimal}
 use Rattle.std.specs.Str.Parse.{digits_value}
 use Rattle.std.proofs.lemmas.Fmt.{decimal_is_IsNumeral}
 use Rattle.kt_history.specs.declared.change.Outcome.{Outcome}
-use Rattle.kt_history.specs.declared.change.Outcome.TheVariants.{Done, Present, Absent}
+use Rattle.kt_history.specs.declared.change.Outcome.TheVariants.{Done, Present, Absent, Ignored}
 use Rattle.kt_history.specs.declared.event.Event.{Event}
 use Rattle.kt_history.specs.declared.event.Event.TheVariants as event
 use Rattle.kt_script.specs.declared.replies.ReplyLine.{ReplyLine}
@@ -33,12 +33,13 @@ numbers_back [] p = refl
 numbers_back (n ∷ ns) p = ap (λ m. m ∷ map number (map decimal ns)) (number_back n p.0) ∙ ap (λ ms. n ∷ ms) (numbers_back ns p.1)
 
 abbrev outcome_of : List ℕ → Outcome
-outcome_of w = if is w (codes "ok") then Done else (if is w (codes "present") then Present else Absent)
+outcome_of w = if is w (codes "ok") then Done else (if is w (codes "present") then Present else (if is w (codes "absent") then Absent else Ignored))
 
 outcome_back : (o : Outcome) → outcome_of (outcome_word o) ≡ o
 outcome_back Done = refl
 outcome_back Present = refl
 outcome_back Absent = refl
+outcome_back Ignored = refl
 
 outcomes_back : (os : List Outcome) → map outcome_of (map outcome_word os) ≡ os
 outcomes_back [] = refl

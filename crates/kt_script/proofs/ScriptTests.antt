@@ -371,3 +371,12 @@ script_8 = refl
 
 script_9 : fault_of (codes "table\ncolumn id int64 key\ncolumn v string\nsession\ndelete 1 ; delete 2 ; insert 3 \"\\\\\"\n") ≡ None
 script_9 = refl
+
+script_10 : fault_of (codes "table\ncolumn id int64 key\ncolumn v string\nsession\ninsert-ignore 1 \"b\" ; update-ignore 9 v=\"x\" ; delete-ignore 2\n") ≡ None
+script_10 = refl
+
+ignoring_has_the_reasons_of_its_plain_kind : fault_of (codes "table\ncolumn id int64 key\ncolumn v string\nsession\ninsert-ignore 1 ; delete-ignore 2 3\n") ≡ at 5 12
+ignoring_has_the_reasons_of_its_plain_kind = refl
+
+no_upsert_ignores : fault_of (codes "table\ncolumn id int64 key\ncolumn v string\nsession\nupsert-ignore 1 v=\"x\"\n") ≡ at 5 11
+no_upsert_ignores = refl

@@ -11,7 +11,7 @@ use Rattle.std.proofs.lemmas.List.{append-nil}
 use Rattle.std.specs.Cmp.Lexicographic.{nat_list_eq_equiv}
 use Rattle.kt_base.specs.Literals.{same}
 use Rattle.kt_history.specs.declared.change.Outcome.{Outcome}
-use Rattle.kt_history.specs.declared.change.Outcome.TheVariants.{Done, Present, Absent}
+use Rattle.kt_history.specs.declared.change.Outcome.TheVariants.{Done, Present, Absent, Ignored}
 use Rattle.kt_history.specs.declared.event.Event.{Event}
 use Rattle.kt_history.specs.declared.event.Event.TheVariants as event
 use Rattle.kt_script.specs.declared.output.LastLine.{LastLine}
@@ -106,12 +106,14 @@ outcome_is : (w : List ℕ) (o : Outcome) → outcome_in w ≡ Some o → w ≡ 
 outcome_is w o e =
     word_case (λ x. w ≡ outcome_word x) w (codes "ok") Done _ o e (λ h. h)
     (λ f. word_case (λ x. w ≡ outcome_word x) w (codes "present") Present _ o f (λ h. h)
-    (λ g. word_case (λ x. w ≡ outcome_word x) w (codes "absent") Absent None o g (λ h. h) (λ h. absurd cc)))
+    (λ g. word_case (λ x. w ≡ outcome_word x) w (codes "absent") Absent _ o g (λ h. h)
+    (λ k. word_case (λ x. w ≡ outcome_word x) w (codes "ignored") Ignored None o k (λ h. h) (λ h. absurd cc))))
 
 outcome_told : (o : Outcome) → outcome_in (outcome_word o) ≡ Some o
 outcome_told Done = refl
 outcome_told Present = refl
 outcome_told Absent = refl
+outcome_told Ignored = refl
 
 pub outcomes_are : (ws : List (List ℕ)) (os : List Outcome) → outcomes_in ws ≡ Some os → ws ≡ map outcome_word os
 outcomes_are [] os e = let e' : [] ≡ os = cc in ap (map outcome_word) e'

@@ -22,11 +22,12 @@ use Rattle.kt_schema.specs.declared.column.Column.{Column}
 use Rattle.kt_schema.specs.First.{passes_at}
 use Rattle.kt_schema.specs.Columns.{is_again, same_name, columns_no, other_columns, key_kinds}
 use Rattle.kt_history.specs.declared.operation.OpKind.{OpKind}
-use Rattle.kt_history.specs.declared.operation.OpKind.TheVariants as op
+use Rattle.kt_script.specs.declared.forms.OpForm.{OpForm}
+use Rattle.kt_script.specs.declared.forms.OpForm.TheVariants as form
 use Rattle.kt_script.specs.Reasons.{sound, reason_if, cell_value}
 use Rattle.kt_script.specs.Columns.{IsTable, counts_from}
-use Rattle.kt_script.specs.Writes.{key_no, key_len, key_of, key_cells, name_in, behind_name, column_named, with_named, all_named, must_be_named, is_empty, kind_no, op_kind, op_no, op_of, op_cells, op_key, kind_or_delete, ops_of, ops_no, twice, write_no, write_of}
-use Rattle.kt_script.specs.Fit.{is_part, is_given, OpFits, WriteFits}
+use Rattle.kt_script.specs.Writes.{key_no, key_len, key_of, key_cells, name_in, behind_name, column_named, with_named, all_named, must_be_named, is_empty, behind_no, cells_said, op_form, kind_no, op_kind, op_no, op_of, op_cells, op_key, kind_or_delete, ops_of, ops_no, twice, write_no, write_of}
+use Rattle.kt_script.specs.Fit.{is_part, is_given, cells_fit, OpFits, WriteFits}
 use Rattle.kt_script.proofs.OpWords.{key_fits, insert_step, insert_cells, ops_split, keys_same}
 use Rattle.kt_script.proofs.Tables.{table_schema}
 use Rattle.kt_script.proofs.PartFits.{same_id, inserted, Rises, others_rise, Has, part_named, some_given}
@@ -166,37 +167,47 @@ key_spelled columns words none h =
     short true n e g = below n (not_held (nat_lt 16384 n) 17 (omega arith) g)
     short false n e g = absurd (false≢true e)
 
-kind_fits : (columns : List Column) → columns_no columns ≡ None → Rises 1 (other_columns columns) → NamesApart (other_columns columns) → (o : Option OpKind) (words : List (List ℕ)) → 20 < kind_no columns o words
-    → OpFits columns (record { kind = kind_or_delete o; key = key_of columns words; cells = op_cells columns o words })
-kind_fits columns none rise apart None words h = absurd (omega arith)
-kind_fits columns none rise apart (Some op.Insert) words h =
+-- an operation of a form that is taken fits, whatever its kind
+record FormFits (columns : List Column) (f : OpForm) (words : List (List ℕ)) : Type 0 where
+  key : Spells (key_kinds columns) (key_cells columns words) (key_of columns words)
+  short : length (key_of columns words) ≤ 16384
+  cells : cells_fit (other_columns columns) f (cells_said columns f words) ≡ true
+
+form_fits : (columns : List Column) → columns_no columns ≡ None → Rises 1 (other_columns columns) → NamesApart (other_columns columns) → (f : OpForm) (words : List (List ℕ)) → 20 < behind_no columns f words → FormFits columns f words
+form_fits columns none rise apart form.Literals words h =
     let others = other_columns columns in
     let rest = drop (key_len columns) words in
     let step = insert_step columns words none in
     let key = key_spelled columns words none (omega (arith, h, step)) in
     let cells = inserted others rest (omega (arith, h, step)) in
     record {
-      key_cells = key_cells columns words;
       key = key.0;
       short = key.1;
       cells = ap (λ xs. is_part others xs && (length xs == length others)) (insert_cells columns words none) ∙ both _ _ cells.0 (ap (λ n. n == length others) cells.1 ∙ same_id (length others));
     }
-kind_fits columns none rise apart (Some op.Upsert) words h =
+form_fits columns none rise apart form.RowNames words h =
     let others = other_columns columns in
     let rest = drop (key_len columns) words in
     let key = key_spelled columns words none (omega (arith, h)) in
     let named = part_named 1 others rest [] [] rise (omega (arith, h)) refl in
     let given = given_all others others rest (λ c g. g) apart (not_held (list_any (must_be_named (map name_in rest)) others) 15 (omega arith) (omega (arith, h))) in
-    record { key_cells = key_cells columns words; key = key.0; short = key.1; cells = both _ _ named given }
-kind_fits columns none rise apart (Some op.Update) words h =
+    record { key = key.0; short = key.1; cells = both _ _ named given }
+form_fits columns none rise apart form.Names words h =
     let others = other_columns columns in
     let rest = drop (key_len columns) words in
     let key = key_spelled columns words none (omega (arith, h)) in
     let named = part_named 1 others rest [] [] rise (omega (arith, h)) refl in
-    record { key_cells = key_cells columns words; key = key.0; short = key.1; cells = both _ _ named (some_given others rest (omega (arith, h)) (not_held (is_empty rest) 12 (omega arith) (omega (arith, h)))) }
-kind_fits columns none rise apart (Some op.Delete) words h =
+    record { key = key.0; short = key.1; cells = both _ _ named (some_given others rest (omega (arith, h)) (not_held (is_empty rest) 12 (omega arith) (omega (arith, h)))) }
+form_fits columns none rise apart form.Key words h =
     let key = key_spelled columns words none (omega (arith, h)) in
-    record { key_cells = key_cells columns words; key = key.0; short = key.1; cells = refl }
+    record { key = key.0; short = key.1; cells = refl }
+
+kind_fits : (columns : List Column) → columns_no columns ≡ None → Rises 1 (other_columns columns) → NamesApart (other_columns columns) → (o : Option OpKind) (words : List (List ℕ)) → 20 < kind_no columns o words
+    → OpFits columns (record { kind = kind_or_delete o; key = key_of columns words; cells = op_cells columns o words })
+kind_fits columns none rise apart None words h = absurd (omega arith)
+kind_fits columns none rise apart (Some kind) words h =
+    let fit = form_fits columns none rise apart (op_form kind) words h in
+    record { key_cells = key_cells columns words; key = fit.key; short = fit.short; cells = fit.cells }
 
 op_fits : (columns : List Column) → columns_no columns ≡ None → Rises 1 (other_columns columns) → NamesApart (other_columns columns) → (words : List (List ℕ)) → 20 < op_no columns words → OpFits columns (op_of columns words)
 op_fits columns none rise apart [] h = absurd (omega arith)

@@ -12,8 +12,6 @@ use Rattle.kt_schema.specs.Rows.{is_null, is_long}
 use Rattle.kt_history.specs.declared.command.Command.{Command}
 use Rattle.kt_history.specs.declared.command.Plan.{Plan}
 use Rattle.kt_history.specs.declared.command.Command.TheVariants as command
-use Rattle.kt_history.specs.declared.operation.OpKind.{OpKind}
-use Rattle.kt_history.specs.declared.operation.OpKind.TheVariants as op
 use Rattle.kt_history.specs.declared.operation.RowOp.{RowOp}
 use Rattle.kt_history.specs.declared.scan.At.{At}
 use Rattle.kt_history.specs.declared.scan.At.TheVariants.{Looked, Given}
@@ -21,7 +19,9 @@ use Rattle.kt_history.specs.declared.scan.Pred.{Pred}
 use Rattle.kt_history.specs.declared.scan.Scan.{Scan}
 use Rattle.kt_history.specs.declared.scan.Test.{Test}
 use Rattle.kt_history.specs.declared.scan.Test.TheVariants as test
-use Rattle.kt_script.specs.Writes.{twice}
+use Rattle.kt_script.specs.declared.forms.OpForm.{OpForm}
+use Rattle.kt_script.specs.declared.forms.OpForm.TheVariants as form
+use Rattle.kt_script.specs.Writes.{twice, op_form}
 use Rattle.kt_script.specs.Times.{most_time}
 use Rattle.kt_script.specs.declared.refusal.ScriptNo.{ScriptNo}
 use Rattle.kt_script.specs.declared.refusal.ScriptNo.TheVariants as why
@@ -42,19 +42,19 @@ is_part (c ∷ columns) (x ∷ cells) = if c.id == x.0 then fits_column c x.1 &&
 abbrev pub is_given : List (ℕ × Cell) → Column → Bool
 is_given cells c = (c.nullable || is_some c.default) || is_some (find nat_cmp c.id cells)
 
--- the cells of an operation, under the columns that are no key
-abbrev pub cells_fit : List Column → OpKind → List (ℕ × Cell) → Bool
-cells_fit others op.Insert cells = is_part others cells && (length cells == length others)
-cells_fit others op.Upsert cells = is_part others cells && list_all (is_given cells) others
-cells_fit others op.Update cells = is_part others cells && not (length cells == 0)
-cells_fit others op.Delete cells = length cells == 0
+-- the cells of an operation of this form, under the columns that are no key
+abbrev pub cells_fit : List Column → OpForm → List (ℕ × Cell) → Bool
+cells_fit others form.Literals cells = is_part others cells && (length cells == length others)
+cells_fit others form.RowNames cells = is_part others cells && list_all (is_given cells) others
+cells_fit others form.Names cells = is_part others cells && not (length cells == 0)
+cells_fit others form.Key cells = length cells == 0
 
 -- An operation on a key of the table, with cells that its columns take.
 pub record OpFits (columns : List Column) (o : RowOp) : Type 0 where
   pub key_cells : List Cell
   pub key : Spells (key_kinds columns) key_cells o.key
   pub short : length o.key ≤ 16384
-  pub cells : cells_fit (other_columns columns) o.kind o.cells ≡ true
+  pub cells : cells_fit (other_columns columns) (op_form o.kind) o.cells ≡ true
 
 -- From 1 to 64 operations, on different keys.
 pub record WriteFits (columns : List Column) (ops : List RowOp) : Type 0 where

@@ -1,14 +1,15 @@
 -- A text with the names of each operation in schema order.
-use Rattle.std.specs.Prelude.{◌≡◌, ℕ, List, [], ◌∷◌, ◌++◌, map, take, drop, Option, Some, codes}
+use Rattle.std.specs.Prelude.{◌≡◌, ℕ, List, [], ◌∷◌, ◌++◌, map, take, drop, Option, Some, None, codes}
 use Rattle.std.specs.List.{flat_map, filter}
 use Rattle.kt_base.specs.Literals.{same, AreBytes}
 use Rattle.kt_schema.specs.Columns.{other_columns}
 use Rattle.kt_schema.specs.declared.column.Column.{Column}
 use Rattle.kt_history.specs.declared.operation.OpKind.{OpKind}
-use Rattle.kt_history.specs.declared.operation.OpKind.TheVariants.{Upsert, Update}
+use Rattle.kt_script.specs.declared.forms.OpForm.{OpForm}
+use Rattle.kt_script.specs.declared.forms.OpForm.TheVariants as form
 use Rattle.kt_script.specs.Pieces.{cut, words_of}
 use Rattle.kt_script.specs.Texts.{line, words}
-use Rattle.kt_script.specs.Writes.{name_in, key_len, op_kind, ops_of}
+use Rattle.kt_script.specs.Writes.{name_in, key_len, op_kind, op_form, ops_of}
 use Rattle.kt_script.specs.Scripts.{Word, write, Said, script_of, first_word}
 use Rattle.kt_script.specs.Print.{joined, script_text}
 
@@ -16,11 +17,16 @@ use Rattle.kt_script.specs.Print.{joined, script_text}
 abbrev pub in_order : List Column → List (List ℕ) → List (List ℕ)
 in_order others named = flat_map (λ (c : Column). filter (λ word. same c.name (name_in word)) named) others
 
--- the words behind an operation's first: an upsert and an update name cells behind the key
+-- the words behind an operation's first, by their form: an upsert and an update name cells behind the key
+abbrev pub ordered_behind : List Column → OpForm → List (List ℕ) → List (List ℕ)
+ordered_behind columns form.Literals ws = ws
+ordered_behind columns form.RowNames ws = take (key_len columns) ws ++ in_order (other_columns columns) (drop (key_len columns) ws)
+ordered_behind columns form.Names ws = take (key_len columns) ws ++ in_order (other_columns columns) (drop (key_len columns) ws)
+ordered_behind columns form.Key ws = ws
+
 abbrev pub ordered_words : List Column → Option OpKind → List (List ℕ) → List (List ℕ)
-ordered_words columns (Some Upsert) ws = take (key_len columns) ws ++ in_order (other_columns columns) (drop (key_len columns) ws)
-ordered_words columns (Some Update) ws = take (key_len columns) ws ++ in_order (other_columns columns) (drop (key_len columns) ws)
-ordered_words columns kind ws = ws
+ordered_words columns None ws = ws
+ordered_words columns (Some kind) ws = ordered_behind columns (op_form kind) ws
 
 abbrev pub ordered_op : List Column → List (List ℕ) → List (List ℕ)
 ordered_op columns [] = []

@@ -12,7 +12,7 @@ use Rattle.kt_base.specs.declared.literal.LiteralNo.{LiteralNo}
 use Rattle.kt_base.specs.declared.literal.LiteralNo.TheVariants as literal_no
 use Rattle.kt_base.specs.Literals.{same, value_in, fits, CellBytes}
 use Rattle.kt_history.specs.declared.change.Outcome.{Outcome}
-use Rattle.kt_history.specs.declared.change.Outcome.TheVariants.{Done, Present, Absent}
+use Rattle.kt_history.specs.declared.change.Outcome.TheVariants.{Done, Present, Absent, Ignored}
 use Rattle.kt_history.specs.declared.event.Event.{Event}
 use Rattle.kt_history.specs.declared.event.Event.TheVariants as event
 use Rattle.kt_history.specs.declared.reply.Reply.{Reply}
@@ -121,7 +121,7 @@ abbrev pub if_word : {A : Type 0} → List ℕ → List ℕ → A → Option A �
 if_word word name a later = if same word name then Some a else later
 
 abbrev pub outcome_in : List ℕ → Option Outcome
-outcome_in word = if_word word (codes "ok") Done (if_word word (codes "present") Present (if_word word (codes "absent") Absent None))
+outcome_in word = if_word word (codes "ok") Done (if_word word (codes "present") Present (if_word word (codes "absent") Absent (if_word word (codes "ignored") Ignored None)))
 
 abbrev pub outcomes_in : List (List ℕ) → Option (List Outcome)
 outcomes_in words = each_in outcome_in words

@@ -14,7 +14,6 @@ use Rattle.kt_schema.specs.Names.{is_name}
 use Rattle.kt_schema.specs.Columns.{key_kinds, other_columns}
 use Rattle.kt_schema.specs.declared.column.Column.{Column}
 use Rattle.kt_history.specs.declared.operation.OpKind.{OpKind}
-use Rattle.kt_history.specs.declared.operation.OpKind.TheVariants as op
 use Rattle.kt_history.specs.declared.operation.RowOp.{RowOp}
 use Rattle.kt_history.specs.declared.scan.At.{At}
 use Rattle.kt_history.specs.declared.scan.At.TheVariants.{Looked, Given}
@@ -24,6 +23,9 @@ use Rattle.kt_history.specs.declared.scan.Pred.{Pred}
 use Rattle.kt_history.specs.declared.scan.Scan.{Scan}
 use Rattle.kt_history.specs.declared.command.Command.{Command}
 use Rattle.kt_history.specs.declared.command.Command.TheVariants as command
+use Rattle.kt_script.specs.declared.forms.OpForm.{OpForm}
+use Rattle.kt_script.specs.declared.forms.OpForm.TheVariants as form
+use Rattle.kt_script.specs.Writes.{op_word, op_form}
 use Rattle.kt_script.specs.Texts.{line, words, literals}
 use Rattle.kt_script.specs.Columns.{IsTable}
 use Rattle.kt_script.specs.Scripts.{Said, most_bytes, script_of}
@@ -65,12 +67,6 @@ column_text c = line (words (column_words c))
 
 -- ---- writes
 
-abbrev pub op_word : OpKind → List ℕ
-op_word op.Insert = codes "insert"
-op_word op.Upsert = codes "upsert"
-op_word op.Update = codes "update"
-op_word op.Delete = codes "delete"
-
 -- the literals of an encoded key
 abbrev pub key_words : List Column → List ℕ → List (List ℕ)
 key_words columns key = literals (key_kinds columns) (key_cells (key_kinds columns) key)
@@ -87,9 +83,14 @@ cell_words named (c ∷ columns) [] = []
 cell_words named (c ∷ columns) (cell ∷ cells) = if c.id == cell.0 then cell_word named c cell.1 ∷ cell_words named columns cells else cell_words named columns (cell ∷ cells)
 
 -- an insert has each cell, the others name theirs
+abbrev pub form_names : OpForm → Bool
+form_names form.Literals = false
+form_names form.RowNames = true
+form_names form.Names = true
+form_names form.Key = true
+
 abbrev pub is_named : OpKind → Bool
-is_named op.Insert = false
-is_named _ = true
+is_named kind = form_names (op_form kind)
 
 abbrev pub op_words : List Column → RowOp → List (List ℕ)
 op_words columns o = op_word o.kind ∷ (key_words columns o.key ++ cell_words (is_named o.kind) (other_columns columns) o.cells)

@@ -1,5 +1,5 @@
 -- Scripts: the first line that is refused, and what a script says where none is.
-use Rattle.std.specs.Prelude.{◌≡◌, ◌<◌, ◌≤◌, Result, Ok, Err, ℕ, ◌+◌, min, Bool, true, false, not, ◌||◌, List, [], ◌∷◌, ◌++◌, length, map, Option, Some, None, if◌then◌else◌, nat_lt, nat_le, codes}
+use Rattle.std.specs.Prelude.{◌≡◌, ◌<◌, ◌≤◌, Result, Ok, Err, ℕ, ◌+◌, min, Bool, true, false, not, List, [], ◌∷◌, ◌++◌, length, map, Option, Some, None, is_some, if◌then◌else◌, nat_lt, nat_le, codes}
 use Rattle.std.proofs.Common.{Bor}
 use Rattle.std.specs.List.{sum_by, list_any}
 use Rattle.kt_base.specs.Literals.{same}
@@ -17,7 +17,7 @@ use Rattle.kt_script.specs.declared.refusal.ScriptNo.TheVariants as why
 use Rattle.kt_script.specs.Pieces.{cut, words_of}
 use Rattle.kt_script.specs.Reasons.{sound, reason_if}
 use Rattle.kt_script.specs.Columns.{begins_column, column_no, columns_with, keys_no, IsTable}
-use Rattle.kt_script.specs.Writes.{write_no, write_of}
+use Rattle.kt_script.specs.Writes.{op_kind, write_no, write_of}
 use Rattle.kt_script.specs.Times.{mark_no, mark_of}
 use Rattle.kt_script.specs.Scans.{scan_no, scan_of}
 
@@ -44,7 +44,7 @@ word_of_op false = other
 
 abbrev pub word_of : List ℕ → Word
 word_of word = if same word (codes "session") then session else (if same word (codes "scan") then scan else (if same word (codes "mark") then mark
-    else word_of_op (same word (codes "insert") || (same word (codes "upsert") || (same word (codes "update") || same word (codes "delete"))))))
+    else word_of_op (is_some (op_kind word))))
 
 -- why a command of these words is refused
 abbrev pub command_no : List Column → Word → List (List ℕ) → ℕ

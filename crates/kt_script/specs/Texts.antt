@@ -6,7 +6,7 @@ use Rattle.kt_base.specs.declared.cell.Kind.{Kind}
 use Rattle.kt_base.specs.declared.cell.Cell.{Cell}
 use Rattle.kt_base.specs.Literals.{literal}
 use Rattle.kt_history.specs.declared.change.Outcome.{Outcome}
-use Rattle.kt_history.specs.declared.change.Outcome.TheVariants.{Done, Present, Absent}
+use Rattle.kt_history.specs.declared.change.Outcome.TheVariants.{Done, Present, Absent, Ignored}
 use Rattle.kt_history.specs.declared.event.Event.{Event}
 use Rattle.kt_history.specs.declared.event.Event.TheVariants as event
 use Rattle.kt_history.specs.declared.reply.Reply.{Reply}
@@ -41,6 +41,7 @@ abbrev pub outcome_word : Outcome → List ℕ
 outcome_word Done = codes "ok"
 outcome_word Present = codes "present"
 outcome_word Absent = codes "absent"
+outcome_word Ignored = codes "ignored"
 
 -- a reply's word
 abbrev pub reply_word : Reply → List ℕ

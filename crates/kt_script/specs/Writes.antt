@@ -15,6 +15,8 @@ use Rattle.kt_history.specs.declared.operation.OpKind.{OpKind}
 use Rattle.kt_history.specs.declared.operation.OpKind.TheVariants as op
 use Rattle.kt_history.specs.declared.operation.RowOp.{RowOp}
 use Rattle.kt_history.specs.declared.operation.Write.{Write}
+use Rattle.kt_script.specs.declared.forms.OpForm.{OpForm}
+use Rattle.kt_script.specs.declared.forms.OpForm.TheVariants as form
 use Rattle.kt_script.specs.declared.columns.LineNo.{LineNo}
 use Rattle.kt_script.specs.declared.columns.LineNo.TheVariants as line
 use Rattle.kt_script.specs.Pieces.{words_in}
@@ -99,7 +101,7 @@ must_be_named names c = (not c.nullable && not (is_some c.default)) && not (list
 abbrev pub left_out_no : List Column → List (List ℕ) → ℕ
 left_out_no others words = reason_if (list_any (must_be_named (map name_in words)) others) 15
 
--- why an operation's words behind its first are refused
+-- why an operation's words behind its first are refused, by their form
 abbrev pub insert_no : List Column → List (List ℕ) → ℕ
 insert_no columns words = min (cells_no columns words) (min (none_left_no (drop (length columns) words)) (long_no columns words))
 
@@ -115,16 +117,47 @@ upsert_no columns words = min (changes_no columns words) (left_out_no (other_col
 abbrev pub update_no : List Column → List (List ℕ) → ℕ
 update_no columns words = min (changes_no columns words) (reason_if (is_empty (drop (key_len columns) words)) 12)
 
+abbrev pub behind_no : List Column → OpForm → List (List ℕ) → ℕ
+behind_no columns form.Literals words = insert_no columns words
+behind_no columns form.RowNames words = upsert_no columns words
+behind_no columns form.Names words = update_no columns words
+behind_no columns form.Key words = delete_no columns words
+
+-- the form of each kind of operation: one that ignores has that of its plain kind
+abbrev pub op_form : OpKind → OpForm
+op_form op.Insert = form.Literals
+op_form op.Upsert = form.RowNames
+op_form op.Update = form.Names
+op_form op.Delete = form.Key
+op_form op.InsertIgnore = form.Literals
+op_form op.UpdateIgnore = form.Names
+op_form op.DeleteIgnore = form.Key
+
+-- the first word of each kind of operation
+abbrev pub op_word : OpKind → List ℕ
+op_word op.Insert = codes "insert"
+op_word op.Upsert = codes "upsert"
+op_word op.Update = codes "update"
+op_word op.Delete = codes "delete"
+op_word op.InsertIgnore = codes "insert-ignore"
+op_word op.UpdateIgnore = codes "update-ignore"
+op_word op.DeleteIgnore = codes "delete-ignore"
+
+abbrev pub op_kinds : List OpKind
+op_kinds = op.Insert ∷ op.Upsert ∷ op.Update ∷ op.Delete ∷ op.InsertIgnore ∷ op.UpdateIgnore ∷ op.DeleteIgnore ∷ []
+
+-- the first of these kinds that has this word
+abbrev pub kind_in : List ℕ → List OpKind → Option OpKind
+kind_in word [] = None
+kind_in word (kind ∷ kinds) = if same word (op_word kind) then Some kind else kind_in word kinds
+
 -- the kind of an operation by its first word
 abbrev pub op_kind : List ℕ → Option OpKind
-op_kind word = if same word (codes "insert") then Some op.Insert else (if same word (codes "upsert") then Some op.Upsert else (if same word (codes "update") then Some op.Update else (if same word (codes "delete") then Some op.Delete else None)))
+op_kind word = kind_in word op_kinds
 
 abbrev pub kind_no : List Column → Option OpKind → List (List ℕ) → ℕ
 kind_no columns None words = 12
-kind_no columns (Some op.Insert) words = insert_no columns words
-kind_no columns (Some op.Upsert) words = upsert_no columns words
-kind_no columns (Some op.Update) words = update_no columns words
-kind_no columns (Some op.Delete) words = delete_no columns words
+kind_no columns (Some kind) words = behind_no columns (op_form kind) words
 
 -- why an operation is refused
 abbrev pub op_no : List Column → List (List ℕ) → ℕ
@@ -170,12 +203,16 @@ abbrev pub all_named : List Column → List (ℕ × Cell) → List (List ℕ) �
 all_named others cells [] = cells
 all_named others cells (word ∷ words) = all_named others (with_named (column_named others (name_in word)) (drop 1 (behind_name word)) cells) words
 
+-- the cells that the words behind an operation's first say
+abbrev pub cells_said : List Column → OpForm → List (List ℕ) → List (ℕ × Cell)
+cells_said columns form.Literals words = under (other_columns columns) (drop (key_len columns) (cells_of columns words))
+cells_said columns form.RowNames words = all_named (other_columns columns) [] (drop (key_len columns) words)
+cells_said columns form.Names words = all_named (other_columns columns) [] (drop (key_len columns) words)
+cells_said columns form.Key words = []
+
 abbrev pub op_cells : List Column → Option OpKind → List (List ℕ) → List (ℕ × Cell)
-op_cells columns (Some op.Insert) words = under (other_columns columns) (drop (key_len columns) (cells_of columns words))
-op_cells columns (Some op.Upsert) words = all_named (other_columns columns) [] (drop (key_len columns) words)
-op_cells columns (Some op.Update) words = all_named (other_columns columns) [] (drop (key_len columns) words)
-op_cells columns (Some op.Delete) words = []
 op_cells columns None words = []
+op_cells columns (Some kind) words = cells_said columns (op_form kind) words
 
 abbrev pub kind_or_delete : Option OpKind → OpKind
 kind_or_delete None = op.Delete
@@ -233,9 +270,9 @@ abbrev pub IsGiven : List ℕ → List ℕ → Option (Bor (List ℕ)) → Type 
 IsGiven name behind None = (others : List Column) → given_no others name behind ≡ 12
 IsGiven name behind (Some literal) = (literal.now ≡ drop 1 behind) × ((others : List Column) → given_no others name behind ≡ under_no (column_named others name) literal.now)
 
--- an operation of a kind with these words behind its first
-abbrev pub op_said : List Column → OpKind → List (List ℕ) → RowOp
-op_said columns kind words = record { kind = kind; key = key_of columns words; cells = op_cells columns (Some kind) words }
+-- an operation of a kind with these words of a form behind its first
+abbrev pub op_said : List Column → OpKind → OpForm → List (List ℕ) → RowOp
+op_said columns kind form words = record { kind = kind; key = key_of columns words; cells = cells_said columns form words }
 
 -- too many operations, with so many before them
 abbrev pub many_no : ℕ → List (List (List ℕ)) → ℕ

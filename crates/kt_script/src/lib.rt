@@ -12,6 +12,7 @@
 
 pub mod asked;
 pub mod columns;
+pub mod forms;
 pub mod head;
 pub mod laws;
 pub mod least;

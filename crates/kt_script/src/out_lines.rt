@@ -70,6 +70,8 @@ fn outcome_of(word: &[u8]) -> Option<Outcome>
         Some(Outcome::Present)
     } else if word == b"absent".as_slice() {
         Some(Outcome::Absent)
+    } else if word == b"ignored".as_slice() {
+        Some(Outcome::Ignored)
     } else {
         None
     }

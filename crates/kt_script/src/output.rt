@@ -135,6 +135,7 @@ fn print_outcome(outcome: Outcome, out: &mut Octets) -> Result<(), NoMemory>
         Outcome::Done => out.extend(b" ok"),
         Outcome::Present => out.extend(b" present"),
         Outcome::Absent => out.extend(b" absent"),
+        Outcome::Ignored => out.extend(b" ignored"),
     }
 }
 

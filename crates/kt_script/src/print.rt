@@ -6,9 +6,11 @@ ghost use Rattle.std.specs.List.{flat_map};
 ghost use Rattle.std.specs.Option.{option_copied};
 ghost use Rattle.kt_script.specs.Texts.{spaced, literals};
 ghost use Rattle.kt_base.specs.Literals.{literal};
+ghost use Rattle.kt_script.specs.Writes.{op_word};
 ghost use Rattle.kt_script.specs.Fit.{column_of, PlanFits};
-ghost use Rattle.kt_script.specs.Print.{joined, kind_word, default_words, mark_words, column_text, op_word, key_words, cell_word, cell_words, is_named, op_text, write_text, name_of, test_text, pred_text, at_text, select_text, where_text, scan_text, chore_word, command_text, session_lines, script_text, IsKey, HasKeys, prints_are_read};
+ghost use Rattle.kt_script.specs.Print.{joined, kind_word, default_words, mark_words, column_text, key_words, cell_word, cell_words, is_named, op_text, write_text, name_of, test_text, pred_text, at_text, select_text, where_text, scan_text, chore_word, command_text, session_lines, script_text, IsKey, HasKeys, prints_are_read};
 
+use crate::forms::{OpForm, op_form};
 use crate::number::print_number;
 use crate::script::Script;
 use kt_base::literal::append_literal;
@@ -142,13 +144,16 @@ fn print_op_word(kind: OpKind, out: &mut Octets) -> Result<(), NoMemory>
         OpKind::Upsert => out.extend(b"upsert"),
         OpKind::Update => out.extend(b"update"),
         OpKind::Delete => out.extend(b"delete"),
+        OpKind::InsertIgnore => out.extend(b"insert-ignore"),
+        OpKind::UpdateIgnore => out.extend(b"update-ignore"),
+        OpKind::DeleteIgnore => out.extend(b"delete-ignore"),
     }
 }
 
 fn is_named(kind: OpKind) -> bool
     ensures { result ≡ is_named kind }
 {
-    kind != OpKind::Insert
+    op_form(kind) != OpForm::Literals
 }
 
 fn print_op(alloc: Global, schema: &Schema, op: &RowOp, out: &mut Octets) -> Result<(), NoMemory>

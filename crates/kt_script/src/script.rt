@@ -1,15 +1,16 @@
 //! Whole scripts.
 
-ghost use Rattle.std.specs.Prelude.{◌≡◌, ◌≤◌, ◌+◌, ◌∷◌, ◌||◌, length, ℕ, List, Some, IfOk, IfErr, true, false, codes};
+ghost use Rattle.std.specs.Prelude.{◌≡◌, ◌≤◌, ◌+◌, ◌∷◌, length, ℕ, List, Some, is_some, IfOk, IfErr, true, false};
 ghost use Rattle.std.specs.List.{list_any};
-ghost use Rattle.kt_base.specs.Literals.{same};
 ghost use Rattle.kt_schema.specs.declared.column.Column.{Column};
 ghost use Rattle.kt_script.specs.Pieces.{cut, words_of, words_in};
 ghost use Rattle.kt_script.specs.Columns.{begins_column, IsTable};
+ghost use Rattle.kt_script.specs.Writes.{op_kind};
 ghost use Rattle.kt_script.specs.Scripts.{session, scan, mark, write, is_begun, most_bytes, first_piece, script_of, ReadsWorded, ReadsBody, IsPushed, IsFirstFault};
 ghost use Rattle.kt_script.specs.Fit.{PlanFits, IsBodyRead};
 
 use crate::columns::LineNo;
+use crate::forms::op_kind;
 use crate::head::{Table, cut_line, located, read_table};
 use crate::refusal::ScriptNo;
 use crate::scans::read_scan;
@@ -105,12 +106,9 @@ fn read_write_line(
 }
 
 fn is_write(word: &[u8]) -> bool
-    ensures { result ≡ (same word.now (codes "insert") || (same word.now (codes "upsert") || (same word.now (codes "update") || same word.now (codes "delete")))) }
+    ensures { result ≡ is_some (op_kind word.now) }
 {
-    word == b"insert".as_slice()
-        || word == b"upsert".as_slice()
-        || word == b"update".as_slice()
-        || word == b"delete".as_slice()
+    op_kind(word).is_some()
 }
 
 // A line below the columns.

@@ -3,13 +3,14 @@
 ghost use Rattle.std.specs.Prelude.{◌≡◌, ◌<◌, ◌≤◌, ◌+◌, ◌++◌, ◌∷◌, [], min, map, length, nat_lt, IfOk, OnOk};
 ghost use Rattle.std.specs.List.{list_any};
 ghost use Rattle.kt_base.specs.Literals.{same};
-ghost use Rattle.kt_history.specs.declared.operation.OpKind.TheVariants as op;
 ghost use Rattle.kt_history.specs.declared.operation.RowOp.{RowOp};
+ghost use Rattle.kt_script.specs.declared.forms.OpForm.TheVariants as form;
 ghost use Rattle.kt_script.specs.Pieces.{words_in};
 ghost use Rattle.kt_script.specs.Reasons.{reason_if};
-ghost use Rattle.kt_script.specs.Writes.{insert_no, upsert_no, update_no, delete_no, op_kind, op_no, op_of, op_said, ops_of, ops_no, many_no, twice, op_in, later_in, ops_in, ReadsWrite};
+ghost use Rattle.kt_script.specs.Writes.{insert_no, upsert_no, update_no, delete_no, behind_no, op_form, op_no, op_of, op_said, ops_of, ops_no, many_no, twice, op_in, later_in, ops_in, ReadsWrite};
 
 use crate::columns::{LineNo, SOUND};
+use crate::forms::{OpForm, op_form, op_kind};
 use crate::least::Least;
 use crate::named::{TakenNames, left_out_no, take_names};
 use crate::operations::{
@@ -28,29 +29,14 @@ struct TakenOp<'a> {
     rest: Option<Option<&'a [u8]>>,
 }
 
-fn op_kind(word: &[u8]) -> Option<OpKind>
-    ensures { result ≡ op_kind word.now }
-{
-    if word == b"insert".as_slice() {
-        Some(OpKind::Insert)
-    } else if word == b"upsert".as_slice() {
-        Some(OpKind::Upsert)
-    } else if word == b"update".as_slice() {
-        Some(OpKind::Update)
-    } else if word == b"delete".as_slice() {
-        Some(OpKind::Delete)
-    } else {
-        None
-    }
-}
-
 fn read_insert<'a>(
     alloc: Global,
     schema: &Schema,
+    kind: OpKind,
     rest: Option<&'a [u8]>,
     no: &mut Least,
 ) -> Result<TakenOp<'a>, NoMemory>
-    ensures op { IfOk result (λ taken. 17 < no.new → taken.op ≡ op_said schema.now op.Insert (op_in rest.entry)) }
+    ensures op { IfOk result (λ taken. 17 < no.new → taken.op ≡ op_said schema.now kind form.Literals (op_in rest.entry)) }
     ensures later { IfOk result (λ taken. ops_in taken.rest ≡ later_in rest.entry) }
     ensures least { OnOk result (no.new ≡ min no.old (insert_no schema.now (op_in rest.entry))) }
 {
@@ -58,7 +44,7 @@ fn read_insert<'a>(
     let TakenOthers { cells, rest } = take_others(alloc, schema.other_columns(), rest, no)?;
     no.note(left_no(rest));
     let op = RowOp {
-        kind: OpKind::Insert,
+        kind,
         key,
         cells: Cells::of(cells),
     };
@@ -71,10 +57,11 @@ fn read_insert<'a>(
 fn read_upsert<'a>(
     alloc: Global,
     schema: &Schema,
+    kind: OpKind,
     rest: Option<&'a [u8]>,
     no: &mut Least,
 ) -> Result<TakenOp<'a>, NoMemory>
-    ensures op { IfOk result (λ taken. 17 < no.new → taken.op ≡ op_said schema.now op.Upsert (op_in rest.entry)) }
+    ensures op { IfOk result (λ taken. 17 < no.new → taken.op ≡ op_said schema.now kind form.RowNames (op_in rest.entry)) }
     ensures later { IfOk result (λ taken. ops_in taken.rest ≡ later_in rest.entry) }
     ensures least { OnOk result (no.new ≡ min no.old (upsert_no schema.now (op_in rest.entry))) }
 {
@@ -85,7 +72,7 @@ fn read_upsert<'a>(
         no.note(left_out_no(others, &names));
     }
     let op = RowOp {
-        kind: OpKind::Upsert,
+        kind,
         key,
         cells: Cells::of(cells),
     };
@@ -98,10 +85,11 @@ fn read_upsert<'a>(
 fn read_update<'a>(
     alloc: Global,
     schema: &Schema,
+    kind: OpKind,
     rest: Option<&'a [u8]>,
     no: &mut Least,
 ) -> Result<TakenOp<'a>, NoMemory>
-    ensures op { IfOk result (λ taken. 17 < no.new → taken.op ≡ op_said schema.now op.Update (op_in rest.entry)) }
+    ensures op { IfOk result (λ taken. 17 < no.new → taken.op ≡ op_said schema.now kind form.Names (op_in rest.entry)) }
     ensures later { IfOk result (λ taken. ops_in taken.rest ≡ later_in rest.entry) }
     ensures least { OnOk result (no.new ≡ min no.old (update_no schema.now (op_in rest.entry))) }
 {
@@ -113,7 +101,7 @@ fn read_update<'a>(
     });
     let TakenNames { cells, rest, .. } = take_names(alloc, schema.other_columns(), rest, no)?;
     let op = RowOp {
-        kind: OpKind::Update,
+        kind,
         key,
         cells: Cells::of(cells),
     };
@@ -126,17 +114,18 @@ fn read_update<'a>(
 fn read_delete<'a>(
     alloc: Global,
     schema: &Schema,
+    kind: OpKind,
     rest: Option<&'a [u8]>,
     no: &mut Least,
 ) -> Result<TakenOp<'a>, NoMemory>
-    ensures op { IfOk result (λ taken. 17 < no.new → taken.op ≡ op_said schema.now op.Delete (op_in rest.entry)) }
+    ensures op { IfOk result (λ taken. 17 < no.new → taken.op ≡ op_said schema.now kind form.Key (op_in rest.entry)) }
     ensures later { IfOk result (λ taken. ops_in taken.rest ≡ later_in rest.entry) }
     ensures least { OnOk result (no.new ≡ min no.old (delete_no schema.now (op_in rest.entry))) }
 {
     let TakenKey { key, rest } = take_key(alloc, schema, rest, no)?;
     no.note(left_no(rest));
     let op = RowOp {
-        kind: OpKind::Delete,
+        kind,
         key,
         cells: Cells::of(Vec::new(alloc)),
     };
@@ -144,6 +133,26 @@ fn read_delete<'a>(
         op,
         rest: behind_op(rest),
     })
+}
+
+// The words of an operation behind its first.
+fn read_behind<'a>(
+    alloc: Global,
+    schema: &Schema,
+    kind: OpKind,
+    rest: Option<&'a [u8]>,
+    no: &mut Least,
+) -> Result<TakenOp<'a>, NoMemory>
+    ensures op { IfOk result (λ taken. 17 < no.new → taken.op ≡ op_said schema.now kind (op_form kind) (op_in rest.entry)) }
+    ensures later { IfOk result (λ taken. ops_in taken.rest ≡ later_in rest.entry) }
+    ensures least { OnOk result (no.new ≡ min no.old (behind_no schema.now (op_form kind) (op_in rest.entry))) }
+{
+    match op_form(kind) {
+        OpForm::Literals => read_insert(alloc, schema, kind, rest, no),
+        OpForm::RowNames => read_upsert(alloc, schema, kind, rest, no),
+        OpForm::Names => read_update(alloc, schema, kind, rest, no),
+        OpForm::Key => read_delete(alloc, schema, kind, rest, no),
+    }
 }
 
 // What stands for an operation of no known kind.
@@ -176,10 +185,7 @@ fn read_op<'a>(
         return Ok(no_op(alloc, rest));
     };
     match op_kind(word) {
-        Some(OpKind::Insert) => read_insert(alloc, schema, behind, no),
-        Some(OpKind::Upsert) => read_upsert(alloc, schema, behind, no),
-        Some(OpKind::Update) => read_update(alloc, schema, behind, no),
-        Some(OpKind::Delete) => read_delete(alloc, schema, behind, no),
+        Some(kind) => read_behind(alloc, schema, kind, behind, no),
         None => {
             no.note(12);
             Ok(no_op(alloc, behind))

@@ -1,6 +1,5 @@
 use Rattle.std.proofs.Common.{◌∙◌, ap, sym, arith, drop}
 use Rattle.kt_schema.specs.Columns.{other_columns}
-use Rattle.kt_history.specs.declared.operation.OpKind.TheVariants.{Insert}
 use Rattle.kt_script.specs.Writes.{cells_of, under, key_len, key_of, op_in}
 use Rattle.kt_script.proofs.OpWords.{insert_least, insert_cells, same_op}
 use Rattle.kt_script.proofs.writes.read_insert.Goals as goal
@@ -13,7 +12,7 @@ returns-clause-op c = λ h.
     let key = c.in_ok-key.ensures.key (omega (arith, h, c.in_ok-cells.ensures.least)) in
     let cells = c.of.ensures ∙ (c.in_ok-cells.ensures.cells ∙ (ap (λ cs. under cs (cells_of cs (op_in c.in_ok-key.field-0.rest))) c.other_columns.ensures
     ∙ (ap (λ ws. under others (cells_of others ws)) c.in_ok-key.ensures.behind ∙ sym (insert_cells columns words c.in_ok-key.ensures.fit)))) in
-    same_op Insert c.in_ok-key.field-0.key (key_of columns words) c.of.result (under others (drop (key_len columns) (cells_of columns words))) key cells
+    same_op c.args.kind c.in_ok-key.field-0.key (key_of columns words) c.of.result (under others (drop (key_len columns) (cells_of columns words))) key cells
 
 pub returns-clause-least : goal.returns-clause-least
 returns-clause-least c =
