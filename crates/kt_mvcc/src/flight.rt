@@ -1,10 +1,10 @@
 //! The clock and the flying writes of a tablet.
 ghost use Rattle.std.specs.Prelude.{◌≡◌, ◌+◌, ◌-◌, ◌^◌, ◌<◌, ◌≤◌, ◌++◌, ◌∷◌, [], min, max, not, false, true, IfOk, IfErr, OnOk, OnErr, Option, Some, None, ◌==◌};
-ghost use Rattle.std.specs.List.{filter};
+ghost use Rattle.std.specs.List.{All, filter};
 ghost use Rattle.std.specs.Result.{result_err};
 ghost use Rattle.kt_history.specs.Machine.{next_timestamp, clean_below};
 ghost use Rattle.kt_mvcc.specs.Flying.{least_of, holder, flies};
-ghost use Rattle.kt_mvcc.specs.Held.{Tells, KeepsOthers};
+ghost use Rattle.kt_mvcc.specs.Held.{Tells, KeepsOthers, Lacks, Stood, HasLeft};
 ghost use Rattle.kt_mvcc.specs.Waits.{IsRefused, lesser_of};
 
 use crate::flier::{Flier, KeyList, share_key};
@@ -97,14 +97,26 @@ fn holder(held: &Held, flying: &[Flier], keys: &KeyList) -> Option<u64>
     find_holder(flying, keys)
 }
 
+// Lets go of the keys of a flying write, where it is that of the writer that ends.
+fn release_one(held: &mut Held, flier: &Flier, who: u32)
+    ensures keeps { KeepsOthers who held.old held.new }
+    ensures stood { Stood held.old held.new }
+    ensures others { Lacks who held.old held.new }
+    ensures left { HasLeft held.new who flier.now }
+{
+    if flier.who == who {
+        held.release(who, flier.keys.as_slice());
+    }
+}
+
 // Lets go of the keys of a writer that ends.
 fn release(held: &mut Held, flying: &[Flier], who: u32)
-    ensures { KeepsOthers who held.old held.new }
+    ensures keeps { KeepsOthers who held.old held.new }
+    ensures stood { Stood held.old held.new }
+    ensures left { All (HasLeft held.new who) flying.now }
 {
     for flier in flying {
-        if flier.who == who {
-            held.release(who, flier.keys.as_slice());
-        }
+        release_one(held, flier, who);
     }
 }
 

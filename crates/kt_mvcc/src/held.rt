@@ -1,8 +1,8 @@
 //! Which flying write holds a key, found by a hash of the key.
-ghost use Rattle.std.specs.Prelude.{◌≡◌, ◌≢◌, ◌≤◌, [], true, Some, OnOk, nat_eq};
+ghost use Rattle.std.specs.Prelude.{◌≡◌, ◌≢◌, ◌≤◌, [], ℕ, true, Some, OnOk, nat_eq};
 ghost use Rattle.std.specs.List.{All};
 ghost use Rattle.std.specs.HashMap.{get, spare, IsEmpty};
-ghost use Rattle.kt_mvcc.specs.Held.{hash_of, Keeps, KeepsOthers, Lacks, Tells, IsFree};
+ghost use Rattle.kt_mvcc.specs.Held.{hash_of, Keeps, KeepsOthers, Lacks, Stood, StoodElsewhere, Tells, IsFree};
 
 use crate::flier::Flier;
 use kt_base::{NoMemory, Octets};
@@ -40,6 +40,7 @@ impl Held {
     /// Makes room for more keys.
     pub fn reserve(&mut self, keys: usize) -> Result<(), NoMemory>
         ensures keeps { Keeps self.old self.new }
+        ensures stood { Stood self.old self.new }
         ensures room { OnOk result (keys ≤ spare self.new.writers) }
         ensures whole { self.new.whole ≡ self.old.whole }
     {
@@ -61,6 +62,7 @@ impl Held {
     fn put(&mut self, hash: u64, who: u32)
         ensures keeps { self.new.whole ≡ true → Keeps self.old self.new }
         ensures put { self.new.whole ≡ true → get nat_eq self.new.writers hash ≡ Some who }
+        ensures stood { (other writer : ℕ) → other ≢ hash → get nat_eq self.new.writers other ≡ Some writer → get nat_eq self.old.writers other ≡ Some writer }
     {
         match self.writers.insert(hash, who) {
             Ok(None) => {}
@@ -73,6 +75,7 @@ impl Held {
     pub fn hold(&mut self, who: u32, keys: &[Octets])
         ensures keeps { self.new.whole ≡ true → Keeps self.old self.new }
         ensures held { self.new.whole ≡ true → All (λ key. get nat_eq self.new.writers (hash_of key) ≡ Some who) keys.now }
+        ensures stood { StoodElsewhere keys.now self.old self.new }
     {
         for key in keys {
             self.put(hash_of(key.as_slice()), who);
@@ -81,6 +84,7 @@ impl Held {
 
     fn take(&mut self, hash: u64, who: u32)
         ensures keeps { KeepsOthers who self.old self.new }
+        ensures stood { Stood self.old self.new }
         ensures gone { get nat_eq self.new.writers hash ≢ Some who }
         ensures others { Lacks who self.old self.new }
     {
@@ -92,6 +96,7 @@ impl Held {
     /// Lets go of these keys of a writer.
     pub fn release(&mut self, who: u32, keys: &[Octets])
         ensures keeps { KeepsOthers who self.old self.new }
+        ensures stood { Stood self.old self.new }
         ensures gone { All (λ key. get nat_eq self.new.writers (hash_of key) ≢ Some who) keys.now }
         ensures others { Lacks who self.old self.new }
     {

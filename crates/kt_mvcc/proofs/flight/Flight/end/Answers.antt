@@ -1,13 +1,16 @@
-use Rattle.std.proofs.Common.{◌≡◌, ◌==◌, not, rules}
+use Rattle.std.proofs.Common.{◌≡◌, ◌==◌, not, rules, arith}
 use Rattle.std.specs.List.{filter}
 use Rattle.std.proofs.lemmas.Fn.{filter_same}
-use Rattle.kt_mvcc.proofs.Index.{tells_fewer}
+use Rattle.kt_mvcc.proofs.Index.{tells_fewer, tells_none}
 use Rattle.kt_mvcc.proofs.flight.Flight.end.Goals as goal
+
+pub invariant_of-self : goal.invariant_of-self
+invariant_of-self c = tells_none c.clear.new.self c.retain.new.self.items c.clear.ensures.empty (grind (arith, c.is_empty.ensures))
 
 pub invariant_of-self-else-is_empty : goal.invariant_of-self-else-is_empty
 invariant_of-self-else-is_empty c =
     let kept : c.retain.new.self.items ≡ filter (λ f. not (f.who == c.args.who)) c.self.inside.flying.items = filter_same _ _ _ (λ x b f' k. search rules) _ _ c.retain.ensures.filtered in
-    rw kept (tells_fewer c.self.inside.held c.release.new.held c.args.who c.self.inside.flying.items c.release.ensures c.self.invariant)
+    rw kept (tells_fewer c.self.inside.held c.release.new.held c.args.who c.self.inside.flying.items c.release.ensures.keeps c.release.ensures.stood (rw c.deref.ensures.value at c.release.ensures.left) c.self.invariant)
 
 pub returns-then-is_empty-clause-flying : goal.returns-then-is_empty-clause-flying
 returns-then-is_empty-clause-flying c = rw (← c.self.view_is) (filter_same _ _ _ (λ x b f' k. search rules) _ _ c.retain.ensures.filtered)
