@@ -6,7 +6,7 @@ use Rattle.std.specs.FinMap.Entries.{put}
 use Rattle.std.proofs.lemmas.List.Sums.{sum_by-cons}
 use Rattle.kt_history.specs.declared.change.Change.{Change}
 use Rattle.kt_history.specs.declared.operation.OpKind.{OpKind}
-use Rattle.kt_history.specs.declared.operation.OpKind.TheVariants.{Insert, Upsert, Update, Delete}
+use Rattle.kt_history.specs.declared.operation.OpKind.TheVariants.{Insert, Upsert, Update, Delete, InsertIgnore, UpdateIgnore, DeleteIgnore}
 use Rattle.kt_history.specs.declared.operation.RowOp.{RowOp}
 use Rattle.kt_history.specs.declared.target.Kindly.{Kindly}
 use Rattle.kt_history.specs.declared.target.Target.{Target}
@@ -45,6 +45,12 @@ fits_there op kind row h = by op.kind row h
     by Update (Some r) h = ap (λ k. fits (change_of k op.cells) (Some r)) (sym (some _ _ h))
     by Delete None h = cc
     by Delete (Some r) h = ap (λ k. fits (change_of k op.cells) (Some r)) (sym (some _ _ h))
+    by InsertIgnore None h = ap (λ k. fits (change_of k op.cells) None) (sym (some _ _ h))
+    by InsertIgnore (Some r) h = cc
+    by UpdateIgnore None h = cc
+    by UpdateIgnore (Some r) h = ap (λ k. fits (change_of k op.cells) (Some r)) (sym (some _ _ h))
+    by DeleteIgnore None h = cc
+    by DeleteIgnore (Some r) h = ap (λ k. fits (change_of k op.cells) (Some r)) (sym (some _ _ h))
 
 pub named_one : (k : OpKind) (b : Bool) (kind : Kindly) (target : Target) → kind_of k b ≡ Some kind → target ∷ [] ≡ targets_of target (outcome_of k b)
 named_one Insert false kind target h = refl
@@ -55,6 +61,12 @@ named_one Update false kind target h = cc
 named_one Update true kind target h = refl
 named_one Delete false kind target h = cc
 named_one Delete true kind target h = refl
+named_one InsertIgnore false kind target h = refl
+named_one InsertIgnore true kind target h = cc
+named_one UpdateIgnore false kind target h = cc
+named_one UpdateIgnore true kind target h = refl
+named_one DeleteIgnore false kind target h = cc
+named_one DeleteIgnore true kind target h = refl
 
 pub named_none : (k : OpKind) (b : Bool) (target : Target) → kind_of k b ≡ None → [] ≡ targets_of target (outcome_of k b)
 named_none Insert false target h = cc
@@ -65,6 +77,12 @@ named_none Update false target h = refl
 named_none Update true target h = cc
 named_none Delete false target h = refl
 named_none Delete true target h = cc
+named_none InsertIgnore false target h = cc
+named_none InsertIgnore true target h = refl
+named_none UpdateIgnore false target h = refl
+named_none UpdateIgnore true target h = cc
+named_none DeleteIgnore false target h = refl
+named_none DeleteIgnore true target h = cc
 
 -- filled, it is the change that the operation has on a row that is there as the store's is
 change_alike : (fill : Row) (op : RowOp) (row : Option Row) → option_map (filled_change fill) (change_by op (is_some row)) ≡ (effect fill op.kind op.cells row).0
@@ -79,6 +97,12 @@ change_alike fill op row = by op.kind row
     by Update (Some r) = refl
     by Delete None = refl
     by Delete (Some r) = refl
+    by InsertIgnore None = refl
+    by InsertIgnore (Some r) = refl
+    by UpdateIgnore None = refl
+    by UpdateIgnore (Some r) = refl
+    by DeleteIgnore None = refl
+    by DeleteIgnore (Some r) = refl
 
 change_filled : (fill : Row) (q : List ℕ) (ts : ℕ) (o : Option Change) (store : Store) → filled fill (with_change q ts o store) ∷ [] ≡ pushed_if 0 q ts (option_map (filled_change fill) o) (filled fill store ∷ [])
 change_filled fill q ts None store = refl

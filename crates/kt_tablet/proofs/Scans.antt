@@ -7,7 +7,7 @@ use Rattle.std.specs.FinMap.Entries.{find, is_sorted, below_all}
 use Rattle.std.proofs.lemmas.Bool.{false≢true, and_parts}
 use Rattle.std.proofs.lemmas.Bool.Decides.{nat_tests}
 use Rattle.std.proofs.lemmas.Cmp.{tied_itself}
-use Rattle.std.proofs.lemmas.List.Elements.{filter-append}
+use Rattle.std.proofs.lemmas.List.Elements.{filter-append, All-nil, All-cons}
 use Rattle.std.proofs.lemmas.List.Folds.{list_all-append}
 use Rattle.std.proofs.lemmas.List.{append-nil}
 use Rattle.kt_history.specs.declared.change.Change.{Change}
@@ -28,7 +28,7 @@ use Rattle.kt_mvcc.specs.declared.flier.Flier.{Flier}
 use Rattle.kt_mvcc.specs.Flying.{least_of}
 use Rattle.kt_tablet.specs.declared.tablet.FlyingWrite.{FlyingWrite}
 use Rattle.kt_tablet.specs.Views.{View, IsSound, Opens, aloft_of, flier_of}
-use Rattle.kt_tablet.specs.Reads.{view_row, ShowsRun, HasDrawn, MaySnapshot, look_of, time_in, time_of, IsAncient, IsBusy, MayReadNow, HasRead}
+use Rattle.kt_tablet.specs.Reads.{view_row, ShowsRun, none_later, IsCopied, HasDrawn, MaySnapshot, look_of, time_in, time_of, IsAncient, IsBusy, MayReadNow, HasRead}
 use Rattle.kt_tablet.proofs.Visits.{new_answered, told_still, least_alike}
 use Rattle.kt_histlaws.specs.Core.{now}
 use Rattle.kt_histlaws.specs.Events.{answered_rows}
@@ -167,9 +167,9 @@ pub least_is : {C : Type 0} (view old : View C) (flights : List FlyingWrite) (fl
 least_is view old flights flying found e aloft held is = ap (λ v. least (map flown_by v.core.aloft)) (sym e) ∙ ap (λ fs. least (map flown_by fs)) aloft ∙ sym (least_alike flights) ∙ ap least_of (sym held) ∙ sym is
 
 -- WHAT IS SHOWN
-pub shows_run : (core : Core) (st : Stands core) (view : SnapView) (snap : Snap) (store : Store) (fill : Row) (t : ℕ) → core.stores ≡ filled fill store ∷ [] → IsGrown store → snap.t ≡ t → snap.mark ≡ core.a → snap.views ≡ view ∷ []
-    → view.since ≡ core.a → view.changes ≡ changes_upto t store → view.fill ≡ fill → none_flies t (map flown_by core.aloft) ≡ true → ShowsRun core snap
-shows_run core st view snap store fill t stores grown time mark views since changes fills settled = record {
+pub shows_run : (core : Core) (st : Stands core) (view : SnapView) (snap : Snap) (store : Store) (fill : Row) (t most : ℕ) → t ≤ most → core.stores ≡ filled fill store ∷ [] → IsGrown store → snap.t ≡ t → snap.mark ≡ core.a → snap.views ≡ view ∷ []
+    → view.since ≡ core.a → view.changes ≡ changes_upto most store → view.fill ≡ fill → none_flies t (map flown_by core.aloft) ≡ true → ShowsRun core snap
+shows_run core st view snap store fill t most wide stores grown time mark views since changes fills settled = record {
   marks = subst (λ vs. All (λ v. v.since ≤ snap.mark) vs) (sym views) (λ k d lt. one_mark k d lt);
   rows = λ u key lo hi. ap (λ vs. first_some (map (view_row key u) vs)) views ∙ ap (λ o. or_else o None) (row_is u key (omega (arith, time, hi)))
       ∙ ap (λ ss. first_some (map (row_of u) (hists key ss))) (sym stores) ∙ snapshot_told core st t u key settled (omega (arith, mark, lo)) (omega (arith, time, hi));
@@ -178,20 +178,39 @@ shows_run core st view snap store fill t stores grown time mark views since chan
 }
   where
     row_is : (u : ℕ) (key : List ℕ) → u ≤ t → view_row key u view ≡ row_of u (hist_in key (filled fill store))
-    row_is u key le = (λ k. row_in (fills k) (changes k) key u) ∙ upto_tells fill t u key store grown.sorted grown.bare le
+    row_is u key le = (λ k. row_in (fills k) (changes k) key u) ∙ upto_tells fill most u key store grown.sorted grown.bare (omega (arith, wide, le))
 
     one_mark : (k : ℕ) (d : SnapView) → k < length (view ∷ []) → (get_or (view ∷ []) k d).since ≤ snap.mark
     one_mark zero d lt = omega (arith, since, mark)
     one_mark (suc k) d lt = absurd (omega arith)
 
-pub shows_view : {C : Type 0} (readings : C → Option (List ℕ)) (view old : View C) (one : SnapView) (snap : Snap) (store : Store) (fill : Row) (t : ℕ) → view ≡ old → IsSound readings view
+pub shows_view : {C : Type 0} (readings : C → Option (List ℕ)) (view old : View C) (one : SnapView) (snap : Snap) (store : Store) (fill : Row) (t most : ℕ) → t ≤ most → view ≡ old → IsSound readings view
     → view.core.stores ≡ filled fill store ∷ [] → IsGrown store → snap.t ≡ t → snap.mark ≡ view.core.a → snap.views ≡ one ∷ []
-    → one.since ≡ view.core.a → one.changes ≡ changes_upto t store → one.fill ≡ fill → none_flies t (map flown_by old.core.aloft) ≡ true
+    → one.since ≡ view.core.a → one.changes ≡ changes_upto most store → one.fill ≡ fill → none_flies t (map flown_by old.core.aloft) ≡ true
     → (first : Past) → Opens old.opening old.mark old.core.opened first → ShowsRun (record old.core { first = first }) snap
-shows_view readings view old one snap store fill t e sound stores grown time mark views since changes fills settled first told =
+shows_view readings view old one snap store fill t most wide e sound stores grown time mark views since changes fills settled first told =
     subst (λ v. ShowsRun (record v.core { first = first }) snap) e
-    (shows_run (record view.core { first = first }) (sound.stands first (subst (λ v. Opens v.opening v.mark v.core.opened first) (sym e) told)) one snap store fill t stores grown time mark views since changes fills
+    (shows_run (record view.core { first = first }) (sound.stands first (subst (λ v. Opens v.opening v.mark v.core.opened first) (sym e) told)) one snap store fill t most wide stores grown time mark views since changes fills
     (subst (λ v. none_flies t (map flown_by v.core.aloft) ≡ true) (sym e) settled))
+
+-- a change that is copied up to a time is not later
+stamped : (key : List ℕ) (t : ℕ) (steps : Steps) → none_later t (map (λ (c : ℕ × Change). record { key = key; ts = c.0; change = c.1 }) (filter (λ c. nat_le c.0 t) steps)) ≡ true
+stamped key t [] = refl
+stamped key t (c ∷ steps) = by_bool (nat_le c.0 t)
+    (λ e. ap (λ b. none_later t (map (λ (c : ℕ × Change). record { key = key; ts = c.0; change = c.1 }) (cond b (c ∷ filter (λ c. nat_le c.0 t) steps) (filter (λ c. nat_le c.0 t) steps)))) e
+    ∙ ap (λ b. b && none_later t (map (λ (c : ℕ × Change). record { key = key; ts = c.0; change = c.1 }) (filter (λ c. nat_le c.0 t) steps))) e ∙ stamped key t steps)
+    (λ e. ap (λ b. none_later t (map (λ (c : ℕ × Change). record { key = key; ts = c.0; change = c.1 }) (cond b (c ∷ filter (λ c. nat_le c.0 t) steps) (filter (λ c. nat_le c.0 t) steps)))) e ∙ stamped key t steps)
+
+upto_stamped : (t : ℕ) (store : Store) → none_later t (changes_upto t store) ≡ true
+upto_stamped t [] = refl
+upto_stamped t (r ∷ store) = list_all-append (λ (d : KeyChange). nat_le d.ts t) (map (λ (c : ℕ × Change). record { key = r.0; ts = c.0; change = c.1 }) (filter (λ c. nat_le c.0 t) r.1.steps)) (changes_upto t store)
+    ∙ ap (λ b. b && none_later t (changes_upto t store)) (stamped r.0 t r.1.steps) ∙ upto_stamped t store
+
+pub copied : (one : SnapView) (snap : Snap) (store : Store) → snap.views ≡ one ∷ [] → one.changes ≡ changes_upto snap.t store → one.since ≡ snap.mark → IsCopied snap
+copied one snap store views changes since = record {
+  upto = subst (All (λ v. none_later snap.t v.changes ≡ true)) (sym views) (All-cons (λ (v : SnapView). none_later snap.t v.changes ≡ true) one [] (ap (none_later snap.t) changes ∙ upto_stamped snap.t store) (All-nil (λ (v : SnapView). none_later snap.t v.changes ≡ true)));
+  since = subst (All (λ v. v.since ≡ snap.mark)) (sym views) (All-cons (λ (v : SnapView). v.since ≡ snap.mark) one [] since (All-nil (λ (v : SnapView). v.since ≡ snap.mark)));
+}
 
 -- THE EVENTS
 -- a scan that stands in the plan

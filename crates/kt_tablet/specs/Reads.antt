@@ -1,10 +1,11 @@
 -- When a scan may be answered, what stands in its way, and what it shows.
-use Rattle.std.specs.Prelude.{◌≡◌, ◌<◌, ◌≤◌, ℕ, ◌+◌, ◌^◌, ◌==◌, true, false, List, map, Option, Some, None, IsSome, unwrap_or}
-use Rattle.std.specs.List.{list_any, All}
+use Rattle.std.specs.Prelude.{◌≡◌, ◌<◌, ◌≤◌, ℕ, ◌+◌, ◌^◌, ◌==◌, nat_le, Bool, true, false, List, map, Option, Some, None, IsSome, unwrap_or}
+use Rattle.std.specs.List.{list_any, list_all, All}
 use Rattle.std.specs.FinMap.Entries.{find}
 use Rattle.kt_history.specs.declared.scan.At.{At}
 use Rattle.kt_history.specs.declared.scan.At.TheVariants.{Looked, Given}
 use Rattle.kt_history.specs.declared.event.Event.TheVariants as event
+use Rattle.kt_history.specs.declared.changes.KeyChange.{KeyChange}
 use Rattle.kt_history.specs.Rows.{Row, key_cmp}
 use Rattle.kt_history.specs.History.{rows_at}
 use Rattle.kt_history.specs.Machine.{Turn, nth, command_at, IfScan, none_flies, least}
@@ -105,3 +106,12 @@ pub record ShowsRun (core : Core) (snap : Snap) : Type 0 where
   pub marks : All (λ v. v.since ≤ snap.mark) snap.views
   pub rows : (u : ℕ) (key : List ℕ) → snap.mark ≤ u → u ≤ snap.t → first_some (map (view_row key u) snap.views) ≡ find key_cmp key (rows_at (run_past core) u)
   pub one : (u : ℕ) (key : List ℕ) → snap.mark ≤ u → u ≤ snap.t → AtMostOne (map (view_row key u) snap.views)
+
+-- no change is later than a time
+abbrev pub none_later : ℕ → List KeyChange → Bool
+none_later t changes = list_all (λ c. nat_le c.ts t) changes
+
+-- its views hold no change later than the scan's time, and tell rows from the mark on, and not from before it
+pub record IsCopied (snap : Snap) : Type 0 where
+  pub upto : All (λ v. none_later snap.t v.changes ≡ true) snap.views
+  pub since : All (λ v. v.since ≡ snap.mark) snap.views

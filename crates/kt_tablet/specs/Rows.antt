@@ -5,9 +5,9 @@ use Rattle.std.specs.Option.{option_map}
 use Rattle.std.specs.FinMap.Entries.{put}
 use Rattle.kt_history.specs.declared.change.Change.{Change}
 use Rattle.kt_history.specs.declared.change.Outcome.{Outcome}
-use Rattle.kt_history.specs.declared.change.Outcome.TheVariants.{Done, Present, Absent}
+use Rattle.kt_history.specs.declared.change.Outcome.TheVariants.{Done, Present, Absent, Ignored}
 use Rattle.kt_history.specs.declared.operation.OpKind.{OpKind}
-use Rattle.kt_history.specs.declared.operation.OpKind.TheVariants.{Insert, Upsert, Update, Delete}
+use Rattle.kt_history.specs.declared.operation.OpKind.TheVariants.{Insert, Upsert, Update, Delete, InsertIgnore, UpdateIgnore, DeleteIgnore}
 use Rattle.kt_history.specs.declared.operation.RowOp.{RowOp}
 use Rattle.kt_history.specs.declared.target.Kindly.{Kindly}
 use Rattle.kt_history.specs.declared.target.Kindly.TheVariants.{Ins, Upd, Del}
@@ -30,6 +30,12 @@ kind_of Update false = None
 kind_of Update true = Some Upd
 kind_of Delete false = None
 kind_of Delete true = Some Del
+kind_of InsertIgnore false = Some Ins
+kind_of InsertIgnore true = None
+kind_of UpdateIgnore false = None
+kind_of UpdateIgnore true = Some Upd
+kind_of DeleteIgnore false = None
+kind_of DeleteIgnore true = Some Del
 
 abbrev pub change_by : RowOp → Bool → Option Change
 change_by op there = option_map (λ kind. change_of kind op.cells) (kind_of op.kind there)
@@ -48,6 +54,7 @@ abbrev pub targets_of : Target → Outcome → List Target
 targets_of target Done = target ∷ []
 targets_of target Present = []
 targets_of target Absent = []
+targets_of target Ignored = []
 
 abbrev pub commit_row : Target → Outcome → CommitRow
 commit_row target o = record { outcome = o; targets = targets_of target o }

@@ -32,9 +32,9 @@ fn kind_of(kind: OpKind, there: bool) -> Option<Kindly>
     ensures { result ≡ kind_made kind there }
 {
     match (kind, there) {
-        (OpKind::Insert, false) | (OpKind::Upsert, false) => Some(Kindly::Ins),
-        (OpKind::Upsert, true) | (OpKind::Update, true) => Some(Kindly::Upd),
-        (OpKind::Delete, true) => Some(Kindly::Del),
+        (OpKind::Insert | OpKind::Upsert | OpKind::InsertIgnore, false) => Some(Kindly::Ins),
+        (OpKind::Upsert | OpKind::Update | OpKind::UpdateIgnore, true) => Some(Kindly::Upd),
+        (OpKind::Delete | OpKind::DeleteIgnore, true) => Some(Kindly::Del),
         _ => None,
     }
 }

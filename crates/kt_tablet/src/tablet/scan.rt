@@ -30,7 +30,7 @@ impl<S: RowStore, C: Clock> Tablet<S, C> {
     ghost use Rattle.kt_history.specs.declared.event.Event.TheVariants.{Ancient, Busy};
     ghost use Rattle.kt_histlaws.specs.Events.{answered};
     ghost use Rattle.kt_tablet.specs.Views.{Opens};
-    ghost use Rattle.kt_tablet.specs.Reads.{MaySnapshot, HasRead, FliesBy, IsAncient, IsBusy, MayReadNow, IsNoRead, LeavesRead, ShowsRun, time_of};
+    ghost use Rattle.kt_tablet.specs.Reads.{MaySnapshot, HasRead, FliesBy, IsAncient, IsBusy, MayReadNow, IsNoRead, LeavesRead, ShowsRun, IsCopied, time_of};
 
     // The ancient history mark.
     fn ancient_mark(&self) -> u64
@@ -101,6 +101,7 @@ impl<S: RowStore, C: Clock> Tablet<S, C> {
     fn copy(&self, alloc: Global, t: u64) -> Result<Snap, NoMemory>
         requires { none_flies t (map flown_by self.now.core.aloft) ≡ true }
         ensures time { IfOk result (λ snap. (snap.t ≡ t) × (snap.mark ≡ self.now.core.a)) }
+        ensures copied { IfOk result IsCopied }
         ensures shows { IfOk result (λ snap. (first : Past) → Opens self.now.opening self.now.mark self.now.core.opened first → ShowsRun (record self.now.core { first = first }) snap) }
     {
         let mark = self.flight.mark();
@@ -122,6 +123,7 @@ impl<S: RowStore, C: Clock> Tablet<S, C> {
         requires { MayReadNow self.old.core number index at t }
         ensures read { IfOk result (λ snap. HasRead self.old.core self.new.core number index at snap.t) }
         ensures mark { IfOk result (λ snap. snap.mark ≡ self.old.core.a) }
+        ensures copied { IfOk result IsCopied }
         ensures shows { IfOk result (λ snap. (first : Past) → Opens self.old.opening self.old.mark self.old.core.opened first → ShowsRun (record self.old.core { first = first }) snap) }
         ensures same { OnErr result (self.new ≡ self.old) }
         ensures beside { record self.new { core = self.old.core } ≡ self.old }
@@ -149,6 +151,7 @@ impl<S: RowStore, C: Clock> Tablet<S, C> {
         requires { self.old.core.stopped ≡ false → MaySnapshot self.old.core number index at }
         ensures read { IfOk result (λ snap. HasRead self.old.core self.new.core number index at snap.t) }
         ensures mark { IfOk result (λ snap. snap.mark ≡ self.old.core.a) }
+        ensures copied { IfOk result IsCopied }
         ensures shows { IfOk result (λ snap. (first : Past) → Opens self.old.opening self.old.mark self.old.core.opened first → ShowsRun (record self.old.core { first = first }) snap) }
         ensures stopped { self.old.core.stopped ≡ true → result ≡ Err SnapNo.Stopped }
         ensures refused { IfErr result (IsNoRead self.old.core number at) }

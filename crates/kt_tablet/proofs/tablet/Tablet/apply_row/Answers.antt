@@ -1,4 +1,4 @@
-use Rattle.std.proofs.Common.{◌<◌, ◌-◌, length, refl, sym, ap, ◌∙◌, subst, rules}
+use Rattle.std.proofs.Common.{◌<◌, length, refl, sym, ap, ◌∙◌, subst, rules}
 use Rattle.kt_tablet.specs.Rows.{with_change, change_by, is_there, commit_row}
 use Rattle.kt_tablet.specs.Views.{aloft_of}
 use Rattle.kt_tablet.specs.Visits.{MayApply}
