@@ -63,6 +63,7 @@ with_applied tells seen now leaves faults old s j place f op new e flies next at
           last = k.last;
           flying = advanced_all (Waits log old.places) j core.aloft (λ w h. record { up = h.up; waits = h.waits; ops = h.ops; n = h.n; place = h.place; there = h.there }) k.flying;
         };
+        names = e.logged.names;
         framed = e.logged.framed;
         durable = λ t.
             let n = counted log (records_of (seen old.log.known.disk)) (old.log.out ++ old.log.queued) old.log.known.count (e.logged.all t) e.logged.count in
@@ -70,7 +71,8 @@ with_applied tells seen now leaves faults old s j place f op new e flies next at
             durable_on (records_of (seen old.log.known.disk)) log old.places j core.aloft f.ts op f.ops next wf.ops (get_among (records_of (seen old.log.known.disk)) (old.log.out ++ old.log.queued) wf.n (Replicate f.ts f.ops) there (omega arith)) known.flying (e.logged.durable t);
         acknowledged = e.logged.acknowledged;
       };
-      home = λ journal is. let h = e.home journal is in record { opens = h.opens; later = h.later; known = h.known; rose = h.rose; images = h.images };
+      home = λ journal is. let h = e.home journal is in record { opens = h.opens; others = h.others; later = h.later; known = h.known; rose = h.rose; images = h.images };
+      others = e.others;
       lent = e.lent;
       whole = e.whole;
       ready = record { room = subst (λ (n : ℕ). n ≤ old.log.room) (sym (advanced_length j core.aloft)) e.ready.room; apart = advanced_apart j core.aloft e.ready.apart; number = e.ready.number; target = e.ready.target; above = e.ready.above; fits = e.ready.fits };

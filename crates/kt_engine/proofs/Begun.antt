@@ -23,7 +23,7 @@ use Rattle.kt_tablet.specs.Views.{View}
 use Rattle.kt_tablet.specs.declared.tablet.write.BeginNo.{BeginNo}
 use Rattle.kt_tablet.specs.declared.tablet.write.BeginNo.TheVariants as no
 use Rattle.kt_tablet.specs.Visits.{MayBegin, HasBegun, Leaves}
-use Rattle.kt_engine.specs.Logged.{Waits, IsDurable, KeepsRun, IsShort, place_of}
+use Rattle.kt_engine.specs.Logged.{Waits, IsDurable, KeepsRun, NamesOnly, IsShort, place_of}
 use Rattle.kt_engine.specs.Engines.{EngineView, core_from, IsEngine}
 use Rattle.kt_engine.proofs.Lists.{all_each, all_more, get_end}
 use Rattle.kt_engine.proofs.Places.{place-new, any_session, apart_more}
@@ -40,11 +40,13 @@ with_room tells seen now leaves faults old room more e = record {
     count = e.logged.count;
     begins = e.logged.begins;
     keeps = λ first is. e.logged.keeps first (record { opens = is.opens; recalls = is.recalls });
+    names = e.logged.names;
     framed = e.logged.framed;
     durable = e.logged.durable;
     acknowledged = e.logged.acknowledged;
   };
-  home = λ journal at. let h = e.home journal at in record { opens = h.opens; later = h.later; known = h.known; rose = h.rose; images = h.images };
+  home = λ journal at. let h = e.home journal at in record { opens = h.opens; others = h.others; later = h.later; known = h.known; rose = h.rose; images = h.images };
+  others = e.others;
   lent = e.lent;
   whole = e.whole;
   ready = record { room = (let low = e.ready.room in omega arith); apart = e.ready.apart; number = e.ready.number; target = e.ready.target; above = e.ready.above; fits = e.ready.fits };
@@ -68,11 +70,13 @@ with_large tells seen now leaves faults old s i n new e = record {
       last = k.last;
       flying = k.flying;
     };
+    names = e.logged.names;
     framed = e.logged.framed;
     durable = e.logged.durable;
     acknowledged = λ t. acknowledged_more (records_of (seen old.log.known.disk)) old.tablet.core.trail (Large s i n) (e.logged.acknowledged t) tt;
   };
-  home = λ journal at. let h = e.home journal at in record { opens = h.opens; later = h.later; known = h.known; rose = h.rose; images = h.images };
+  home = λ journal at. let h = e.home journal at in record { opens = h.opens; others = h.others; later = h.later; known = h.known; rose = h.rose; images = h.images };
+  others = e.others;
   lent = e.lent;
   whole = e.whole;
   ready = record { room = e.ready.room; apart = e.ready.apart; number = e.ready.number; target = e.ready.target; above = e.ready.above; fits = e.ready.fits };
@@ -129,11 +133,13 @@ with_begun tells seen now leaves faults old s i ts m place ops new e may short n
         count = count_parts old.records e.logged.run old.log.out old.log.queued (Replicate ts ops) old.log.known.count e.logged.count;
         begins = e.logged.begins;
         keeps = λ first is. begun_run (core_from old first) old.records old.places e.logged.run s i ts m place ops above framed may.write there rests (e.logged.keeps first (record { opens = is.opens; recalls = is.recalls }));
+        names = all_more (NamesOnly old.tablet.target) e.logged.run (Replicate ts ops) e.logged.names tt;
         framed = framed_parts old.log.out old.log.queued (Replicate ts ops) e.logged.framed framed;
         durable = λ t. all_more (IsDurable (records_of (seen old.log.known.disk))) core.aloft (record { s = s; i = i; ts = ts; ops = ops; applied = 0 }) (e.logged.durable t) (λ lt. absurd (omega arith));
         acknowledged = λ t. acknowledged_more (records_of (seen old.log.known.disk)) core.trail (Begin s i ts m) (e.logged.acknowledged t) tt;
       };
-      home = λ journal at. let h = e.home journal at in record { opens = h.opens; later = h.later; known = h.known; rose = h.rose; images = h.images };
+      home = λ journal at. let h = e.home journal at in record { opens = h.opens; others = h.others; later = h.later; known = h.known; rose = h.rose; images = h.images };
+      others = e.others;
       lent = e.lent;
       whole = e.whole;
       ready = record {

@@ -1,17 +1,18 @@
 -- The COMMIT of a write whose rows are all applied.
 use Rattle.std.proofs.Common.{◌≡◌, ℕ, ◌*◌, ◌<◌, ◌≤◌, ◌^◌, List, [], ◌∷◌, ◌++◌, length, map, Some, None, Option, refl, true, false, ap, arith, ◌||◌, length-append}
 use Rattle.std.specs.Prelude.{is_some}
-use Rattle.std.specs.List.{flat_map}
+use Rattle.std.specs.List.{All, flat_map}
 use Rattle.std.specs.Int.{w16, w64, to_le_bytes}
 use Rattle.std.specs.FinMap.Entries.{find}
 use Rattle.std.proofs.lemmas.Bool.Decides.{nat_tests}
 use Rattle.std.proofs.lemmas.List.{length-map}
 use Rattle.std.proofs.lemmas.List.Concat.{flat_map-cons}
 use Rattle.kt_history.specs.declared.change.Outcome.{Outcome}
-use Rattle.kt_history.specs.declared.change.Outcome.TheVariants.{Done, Present, Absent}
+use Rattle.kt_history.specs.declared.change.Outcome.TheVariants.{Done, Present, Absent, Ignored}
 use Rattle.kt_history.specs.declared.operation.OpKind.{OpKind}
-use Rattle.kt_history.specs.declared.operation.OpKind.TheVariants.{Insert, Upsert, Update, Delete}
+use Rattle.kt_history.specs.declared.operation.OpKind.TheVariants.{Insert, Upsert, Update, Delete, InsertIgnore, UpdateIgnore, DeleteIgnore}
 use Rattle.kt_history.specs.declared.operation.RowOp.{RowOp}
+use Rattle.kt_history.specs.declared.target.Target.{Target}
 use Rattle.kt_history.specs.declared.target.Target.TheVariants.{Mem}
 use Rattle.kt_history.specs.Rows.{Row, Rows, key_cmp}
 use Rattle.kt_history.specs.Operations.{effect, outcomes_on}
@@ -24,6 +25,8 @@ use Rattle.kt_loglaws.specs.Replay.{is_needed}
 use Rattle.kt_loglaws.specs.Laws.{Tells}
 use Rattle.kt_loglaws.specs.Laws.Tells.{nothing, and_one}
 use Rattle.kt_tablet.specs.Rows.{commit_row}
+use Rattle.kt_engine.specs.Logged.{NamesOnly}
+use Rattle.kt_engine.proofs.Lists.{all_none, all_one, all_cons}
 use Rattle.kt_engine.proofs.Records.{lt_test}
 
 -- a row that went to a MemRowSet is needed
@@ -40,6 +43,12 @@ one_tells number up fill Update cells None = refl
 one_tells number up fill Update cells (Some row) = done_is_needed number up
 one_tells number up fill Delete cells None = refl
 one_tells number up fill Delete cells (Some row) = done_is_needed number up
+one_tells number up fill InsertIgnore cells None = done_is_needed number up
+one_tells number up fill InsertIgnore cells (Some row) = refl
+one_tells number up fill UpdateIgnore cells None = refl
+one_tells number up fill UpdateIgnore cells (Some row) = done_is_needed number up
+one_tells number up fill DeleteIgnore cells None = refl
+one_tells number up fill DeleteIgnore cells (Some row) = done_is_needed number up
 
 pub rows_tell : (number : ℕ) → 0 < number → (fill : Row) (rows : Rows) (ops : List RowOp) → Tells fill rows ops (map (commit_row (Mem number)) (outcomes_on fill rows ops))
 rows_tell number up fill rows [] = nothing
@@ -49,6 +58,7 @@ row_fits : (number : ℕ) → number < 2 ^ 64 → (o : Outcome) → RowFits (com
 row_fits number low Done = record { count = refl; targets = (low, tt) }
 row_fits number low Present = record { count = refl; targets = tt }
 row_fits number low Absent = record { count = refl; targets = tt }
+row_fits number low Ignored = record { count = refl; targets = tt }
 
 rows_fit : (number : ℕ) → number < 2 ^ 64 → (front : List CommitRow) (os : List Outcome) → EachAfter (λ before row. RowFits row) front (map (commit_row (Mem number)) os)
 rows_fit number low front [] = tt
@@ -58,6 +68,7 @@ row_length : (number : ℕ) (o : Outcome) → length (row_bytes (commit_row (Mem
 row_length number Done = omega arith
 row_length number Present = omega arith
 row_length number Absent = omega arith
+row_length number Ignored = omega arith
 
 rows_length : (number : ℕ) (os : List Outcome) → length (flat_map row_bytes (map (commit_row (Mem number)) os)) ≤ 11 * length os
 rows_length number [] = omega arith
@@ -82,3 +93,14 @@ commit_framed number low ts fits os few = record {
       let c = rows_length number os in
       omega arith;
 }
+
+-- the COMMIT of these outcomes names the store alone
+pub commit_names : (target : Target) (ts : ℕ) (outcomes : List Outcome) → NamesOnly target (Commit ts (map (commit_row target) outcomes))
+commit_names target ts [] = all_none (λ (row : CommitRow). All (λ named. named ≡ target) row.targets)
+commit_names target ts (o ∷ outcomes) = all_cons (λ (row : CommitRow). All (λ named. named ≡ target) row.targets) (commit_row target o) (map (commit_row target) outcomes) (own o) (commit_names target ts outcomes)
+  where
+    own : (o : Outcome) → All (λ named. named ≡ target) (commit_row target o).targets
+    own Done = all_one (λ named. named ≡ target) target refl
+    own Present = all_none (λ named. named ≡ target)
+    own Absent = all_none (λ named. named ≡ target)
+    own Ignored = all_none (λ named. named ≡ target)

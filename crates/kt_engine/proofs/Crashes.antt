@@ -1,7 +1,7 @@
 -- What a crash leaves of the run.
 use Rattle.std.proofs.Common.{◌≡◌, ℕ, ◌-◌, ◌<◌, ◌≤◌, zero, suc, max, List, [], ◌∷◌, ◌++◌, length, Ok, refl, sym, true, false, Bool, ◌&&◌, ap, ◌∙◌, arith, subst, get_or, inl, inr, append_assoc}
 use Rattle.std.specs.Prelude.{IsTrue, nat_le, take, drop}
-use Rattle.std.specs.List.{filter}
+use Rattle.std.specs.List.{All, filter}
 use Rattle.std.proofs.lemmas.Bool.{cases_lt}
 use Rattle.std.proofs.lemmas.List.{append-nil, append_cancel_left, take-append-drop}
 use Rattle.std.proofs.Math.Seq.{take-append_seam}
@@ -15,6 +15,7 @@ use Rattle.kt_history.specs.History.{Past, PastWrite, IsUpTo, IsPastUpTo, rows_a
 use Rattle.kt_history.specs.Operations.{changes_on}
 use Rattle.kt_history.specs.Machine.{Workload, State, Allowed, ops_of, command_at, after, state_after, start, IsRun, IsRunFrom}
 use Rattle.kt_history.proofs.Runs.{begins_above, c_rises}
+use Rattle.kt_history.specs.declared.target.Target.{Target}
 use Rattle.kt_records.specs.declared.entry.Entry.{Entry}
 use Rattle.kt_records.specs.declared.entry.Entry.TheVariants.{Replicate, Commit}
 use Rattle.kt_journal.specs.Order.{InOrder}
@@ -26,9 +27,10 @@ use Rattle.kt_loglaws.specs.Fronts.{with_records, AllTold, upto}
 use Rattle.kt_loglaws.proofs.Fronts.{goes_on, fronts_hold}
 use Rattle.kt_histlaws.specs.Core.{Core, run_past, Stands}
 use Rattle.kt_tablet.specs.Views.{Opens}
-use Rattle.kt_engine.specs.Logged.{Recalls, KeepsRun, AcknowledgedIn, AcknowledgedBy, HoldsFront, HoldsRun}
+use Rattle.kt_engine.specs.Logged.{Recalls, KeepsRun, AcknowledgedIn, AcknowledgedBy, NamesOnly, HoldsFront, HoldsRun}
 use Rattle.kt_engine.specs.Engines.{EngineView, IsContent, IsEngine, Recovers, RecoversEach, RecoversAll, core_from}
 use Rattle.kt_engine.proofs.Devices.{acknowledged_longer}
+use Rattle.kt_engine.proofs.Lists.{all_front}
 use Rattle.kt_engine.proofs.Raised.{only_first, records_raised, told_raised, told_up, upto_less, upto_more, upto_raised, not_le}
 
 at_most_last : (ts : ℕ) (ops : List RowOp) (xs : List Entry) (k : ℕ) → k < length xs → get_or xs k (Replicate ts ops) ≡ Replicate ts ops → ts ≤ last_of xs
@@ -126,10 +128,10 @@ whole_past core records run places keeps recalls =
     sym keeps.writes ∙ ap (λ (p : Past). with_records core.work.fill p run) recalls.2 ∙ records_raised core.work.fill recalls.0 run only up
 
 -- a front of the records, as a crash may leave it
-front_holds : (core : Core) (records durable rest : List Entry) (places : List (ℕ × ℕ)) (image : Files)
+front_holds : (core : Core) (records durable rest : List Entry) (target : Target) (places : List (ℕ × ℕ)) (image : Files)
     → KeepsRun core records places (durable ++ rest) → Recalls core.work.fill records core.first → IsPastUpTo core.opened core.first → IsRun core.work core.first core.opened core.trail
-    → AcknowledgedIn (records ++ durable) core.trail → log_of image ≡ Ok (records ++ durable) → HoldsFront core image
-front_holds core records durable rest places image keeps recalls ends is_run acknowledged reads =
+    → AcknowledgedIn (records ++ durable) core.trail → All (NamesOnly target) (durable ++ rest) → log_of image ≡ Ok (records ++ durable) → HoldsFront core records target image
+front_holds core records durable rest target places image keeps recalls ends is_run acknowledged names reads =
     let fill = core.work.fill in
     let whole = recalls.0 in
     let run = durable ++ rest in
@@ -152,18 +154,25 @@ front_holds core records durable rest places image keeps recalls ends is_run ack
     record {
       records = records ++ durable;
       reads = reads;
+      run = durable;
+      front = refl;
+      names = all_front (NamesOnly target) durable rest names;
       t = t;
       after_opening = omega arith;
       acknowledged = acknowledged_by (records ++ durable) t core.trail (omega arith) acknowledged;
       holds = (upto c (with_records fill whole run), holds, sym same ∙ ap (upto c) all ∙ sym (upto_raised c (with_records fill whole run)));
       last = omega arith;
+      within = omega (arith, last_of-front (records ++ durable) rest, ap last_of (append_assoc records durable rest), keeps.last);
     }
 
 -- all of the records
-all_holds : (core : Core) (records run : List Entry) (places : List (ℕ × ℕ)) (image : Files) → KeepsRun core records places run → Recalls core.work.fill records core.first → log_of image ≡ Ok (records ++ run) → HoldsRun core image
-all_holds core records run places image keeps recalls reads = record {
+all_holds : (core : Core) (records run : List Entry) (target : Target) (places : List (ℕ × ℕ)) (image : Files) → KeepsRun core records places run → Recalls core.work.fill records core.first → All (NamesOnly target) run → log_of image ≡ Ok (records ++ run) → HoldsRun core records target image
+all_holds core records run target places image keeps recalls names reads = record {
   records = records ++ run;
   reads = reads;
+  run = run;
+  front = refl;
+  names = names;
   holds = (with_records core.work.fill recalls.0 run, goes_on core.work.fill records run recalls.0 keeps.log recalls.1 (whole_told core records run places keeps recalls), whole_past core records run places keeps recalls);
   last = keeps.last;
 }
@@ -171,10 +180,10 @@ all_holds core records run places image keeps recalls reads = record {
 -- a front of the engine's records holds its run up to a time
 engine_front : {L D C : Type 0} (tells : Bool) (seen : L → Files) (now : L → ℕ) (leaves : L → ℕ → Files → Type 0) (faults : L → ℕ) (view : EngineView L D C) (first : Past) (durable rest : List Entry) (image : Files)
     → ((first : Past) → Opens view.tablet.opening view.tablet.mark view.tablet.core.opened first → Stands (record view.tablet.core { first = first })) → IsContent view first
-    → (is : IsEngine tells seen now leaves faults view) → is.logged.run ≡ durable ++ rest → AcknowledgedIn (view.records ++ durable) view.tablet.core.trail → log_of image ≡ Ok (view.records ++ durable) → HoldsFront (core_from view first) image
+    → (is : IsEngine tells seen now leaves faults view) → is.logged.run ≡ durable ++ rest → AcknowledgedIn (view.records ++ durable) view.tablet.core.trail → log_of image ≡ Ok (view.records ++ durable) → HoldsFront (core_from view first) view.records view.tablet.target image
 engine_front tells seen now leaves faults view first durable rest image sound content is run acknowledged reads =
-    front_holds (core_from view first) view.records durable rest view.places image
-    (subst (λ (r : List Entry). KeepsRun (core_from view first) view.records view.places r) run (is.logged.keeps first content)) content.recalls content.opens.ends (sound first content.opens).run.is_run acknowledged reads
+    front_holds (core_from view first) view.records durable rest view.tablet.target view.places image
+    (subst (λ (r : List Entry). KeepsRun (core_from view first) view.records view.places r) run (is.logged.keeps first content)) content.recalls content.opens.ends (sound first content.opens).run.is_run acknowledged (subst (All (NamesOnly view.tablet.target)) run is.logged.names) reads
 
 -- An image with what is durable and some records more has the run's writes up to a time, each acknowledged one among them.
 pub recovers_each : {L D C : Type 0} (tells : Bool) (seen : L → Files) (now : L → ℕ) (leaves : L → ℕ → Files → Type 0) (faults : L → ℕ) (view : EngineView L D C)
@@ -202,7 +211,7 @@ recovers {L} {D} {C} tells seen now leaves faults view is sound held first conte
     let old = λ (reads : log_of image ≡ Ok known). each 0 image (reads ∙ ap Ok (sym (append-nil known))) in
     let both = λ (reads : log_of image ≡ Ok (known ++ view.log.out)). each (length view.log.out) image (reads ∙ ap (λ (l : List Entry). Ok (known ++ l)) (sym (take-append_seam view.log.out view.log.queued))) in
     let home = is.home journal at in
-    elim view.tablet.core.stopped as (λ b. view.tablet.core.stopped ≡ b → HoldsFront (core_from view first) image) [
+    elim view.tablet.core.stopped as (λ b. view.tablet.core.stopped ≡ b → HoldsFront (core_from view first) view.records view.tablet.target image) [
       | false ↦ λ goes. old (held t image (subst (λ (j : JournalView L). leaves j.disk (now j.disk) image) (home.known goes).0 left))
       | true ↦ λ stopped. elim (home.images stopped t image left).1 [ inl reads ↦ old reads | inr reads ↦ both reads ]
     ] refl
@@ -216,5 +225,5 @@ recovers_all {L} {D} {C} tells seen now leaves faults view is held first content
     let none : view.log.out ++ view.log.queued ≡ [] = ap (λ (l : List Entry). l ++ view.log.queued) known.1 ∙ empty in
     let all : records_of (seen view.log.known.disk) ≡ view.records ++ is.logged.run =
     sym (append-nil (records_of (seen view.log.known.disk))) ∙ ap (λ (l : List Entry). records_of (seen view.log.known.disk) ++ l) (sym none) ∙ sym (is.logged.all t) in
-    all_holds (core_from view first) view.records is.logged.run view.places image (is.logged.keeps first content) content.recalls
+    all_holds (core_from view first) view.records is.logged.run view.tablet.target view.places image (is.logged.keeps first content) content.recalls is.logged.names
     (held t image (subst (λ (j : JournalView L). leaves j.disk (now j.disk) image) known.0 left) ∙ ap Ok all)

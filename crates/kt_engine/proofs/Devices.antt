@@ -18,7 +18,7 @@ use Rattle.kt_histlaws.specs.Pending.{Aloft}
 use Rattle.kt_histlaws.specs.Events.{halted}
 use Rattle.kt_tablet.specs.Views.{View}
 use Rattle.kt_engine.specs.Logged.{IsDurable, AcknowledgedIn}
-use Rattle.kt_engine.specs.Engines.{EngineView, IsHome, IsEngine}
+use Rattle.kt_engine.specs.Engines.{EngineView, IsHome, IsEngine, KeepsOthers}
 use Rattle.kt_engine.proofs.Lines.{with_line, line_logged}
 
 all_behind : {X : Type 0} (P : X → Type 0) (xs ys : List X) → All P (xs ++ ys) → All P ys
@@ -34,6 +34,13 @@ acknowledged_longer xs ys (_ ∷ trail) h = acknowledged_longer xs ys trail h
 -- and what is durable of the flying writes
 durable_more : (xs ys : List Entry) (aloft : List Aloft) → All (IsDurable xs) aloft → All (IsDurable (xs ++ ys)) aloft
 durable_more xs ys aloft h k d lt up = Contains-append_left xs ys _ (h k d lt up)
+
+-- what one call keeps of the other files, and the next, both keep
+keeps_on : {L : Type 0} (now : L → ℕ) (leaves : L → ℕ → Files → Type 0) (old between new : L) → KeepsOthers now leaves old between → KeepsOthers now leaves between new → KeepsOthers now leaves old new
+keeps_on now leaves old between new first then image left =
+    let middle = then image left in
+    let begins = first middle.image middle.was_left in
+    record { image = begins.image; was_left = begins.was_left; others = λ n none. middle.others n none ∙ begins.others n none }
 
 -- it goes out with all that is queued
 pub lends : {L D C : Type 0} (tells : Bool) (seen : L → Files) (now : L → ℕ) (leaves : L → ℕ → Files → Type 0) (faults : L → ℕ) (view : EngineView L D C) (log : SideView L) (journal : JournalView L) (number : ℕ)
@@ -51,11 +58,13 @@ lends {L} {D} {C} tells seen now leaves faults view log journal number is goes a
         count = is.logged.count ∙ ap (λ (l : List Entry). view.log.known.count + length l) same;
         begins = is.logged.begins;
         keeps = λ first h. is.logged.keeps first (record { opens = h.opens; recalls = h.recalls });
+        names = is.logged.names;
         framed = subst (λ (l : List Entry). All IsFramed l) same is.logged.framed;
         durable = is.logged.durable;
         acknowledged = is.logged.acknowledged;
       };
       home = λ j h. absurd (let none : None ≡ Some j = h in cc);
+      others = is.others;
       lent = λ by h. (low, goes);
       whole = is.whole;
       ready = record { room = is.ready.room; apart = is.ready.apart; number = is.ready.number; target = is.ready.target; above = is.ready.above; fits = is.ready.fits };
@@ -65,13 +74,14 @@ lends {L} {D} {C} tells seen now leaves faults view log journal number is goes a
 -- it comes home with what was out durable
 pub comes_home : {L D C : Type 0} (tells : Bool) (seen : L → Files) (now : L → ℕ) (leaves : L → ℕ → Files → Type 0) (faults : L → ℕ) (view : EngineView L D C) (log : SideView L) (journal : JournalView L) (number : ℕ)
     → IsEngine tells seen now leaves faults view → view.log.holder ≡ Some number → journal.count ≡ view.log.known.count + length view.log.out
-    → (IsTrue tells → records_of (seen journal.disk) ≡ records_of (seen view.log.known.disk) ++ view.log.out) → (IsTrue tells → CanOpen now leaves journal.disk) → faults view.log.known.disk ≤ faults journal.disk
+    → (IsTrue tells → records_of (seen journal.disk) ≡ records_of (seen view.log.known.disk) ++ view.log.out) → (IsTrue tells → CanOpen now leaves journal.disk) → (IsTrue tells → KeepsOthers now leaves view.log.known.disk journal.disk) → faults view.log.known.disk ≤ faults journal.disk
     → log ≡ record view.log { home = Some journal; known = journal; holder = None; out = [] }
     → IsEngine tells seen now leaves faults (record view { log = log })
-comes_home {L} {D} {C} tells seen now leaves faults view log journal number is held count reads opens later e =
+comes_home {L} {D} {C} tells seen now leaves faults view log journal number is held count reads opens others later e =
     let out = is.lent number held in
     let goes = out.1 in
     let up : faults view.device ≤ faults journal.disk = let low = out.0 in omega arith in
+    let kept : IsTrue tells → KeepsOthers now leaves view.device journal.disk = λ t. keeps_on now leaves view.device view.log.known.disk journal.disk (is.others t) (others t) in
     let lengths : view.log.known.count + length (view.log.out ++ view.log.queued) ≡ journal.count + length view.log.queued = omega (arith, length-append view.log.out view.log.queued) in
     subst (λ (l : SideView L). IsEngine tells seen now leaves faults (record view { log = l })) (sym e) (record {
       found = (is.found.0, record { opens = is.found.1.opens; recalls = is.found.1.recalls });
@@ -81,6 +91,7 @@ comes_home {L} {D} {C} tells seen now leaves faults view log journal number is h
         count = is.logged.count ∙ lengths;
         begins = λ t. let at = is.logged.begins t in (at.0 ++ view.log.out, reads t ∙ ap (λ (l : List Entry). l ++ view.log.out) at.1 ∙ append_assoc view.records at.0 view.log.out);
         keeps = λ first h. is.logged.keeps first (record { opens = h.opens; recalls = h.recalls });
+        names = is.logged.names;
         framed = all_behind IsFramed view.log.out view.log.queued is.logged.framed;
         durable = λ t. subst (λ (l : List Entry). All (IsDurable l) view.tablet.core.aloft) (sym (reads t)) (durable_more (records_of (seen view.log.known.disk)) view.log.out view.tablet.core.aloft (is.logged.durable t));
         acknowledged = λ t. subst (λ (l : List Entry). AcknowledgedIn l view.tablet.core.trail) (sym (reads t)) (acknowledged_longer (records_of (seen view.log.known.disk)) view.log.out view.tablet.core.trail (is.logged.acknowledged t));
@@ -89,11 +100,13 @@ comes_home {L} {D} {C} tells seen now leaves faults view log journal number is h
           let here : journal ≡ j = let some : Some journal ≡ Some j = h in cc in
           subst (λ (k : JournalView L). IsHome tells seen now leaves faults (record view { log = record view.log { home = Some journal; known = journal; holder = None; out = [] } }) k) here (record {
             opens = opens;
+            others = kept;
             later = up;
             known = λ k. (refl, refl);
             rose = λ k. absurd (let a : view.tablet.core.stopped ≡ true = k in cc);
             images = λ k. absurd (let a : view.tablet.core.stopped ≡ true = k in cc);
           });
+      others = kept;
       lent = λ by h. absurd (let none : None ≡ Some by = h in cc);
       whole = is.whole;
       ready = record { room = is.ready.room; apart = is.ready.apart; number = is.ready.number; target = is.ready.target; above = is.ready.above; fits = is.ready.fits };
@@ -117,6 +130,7 @@ comes_back {L} {D} {C} tells seen now leaves faults view log journal number is h
         count = is.logged.count;
         begins = is.logged.begins;
         keeps = λ first h. is.logged.keeps first (record { opens = h.opens; recalls = h.recalls });
+        names = is.logged.names;
         framed = is.logged.framed;
         durable = is.logged.durable;
         acknowledged = is.logged.acknowledged;
@@ -125,11 +139,13 @@ comes_back {L} {D} {C} tells seen now leaves faults view log journal number is h
           let here : journal ≡ j = let some : Some journal ≡ Some j = h in cc in
           subst (λ (k : JournalView L). IsHome tells seen now leaves faults (record view { log = record view.log { home = Some journal; holder = None; out = []; queued = view.log.out ++ view.log.queued } }) k) here (record {
             opens = opens;
+            others = λ t. subst (λ (j : JournalView L). KeepsOthers now leaves view.device j.disk) (sym known) (is.others t);
             later = up;
             known = λ k. (known, refl);
             rose = λ k. absurd (let a : view.tablet.core.stopped ≡ true = k in cc);
             images = λ k. absurd (let a : view.tablet.core.stopped ≡ true = k in cc);
           });
+      others = is.others;
       lent = λ by h. absurd (let none : None ≡ Some by = h in cc);
       whole = is.whole;
       ready = record { room = is.ready.room; apart = is.ready.apart; number = is.ready.number; target = is.ready.target; above = is.ready.above; fits = is.ready.fits };
@@ -139,10 +155,10 @@ comes_back {L} {D} {C} tells seen now leaves faults view log journal number is h
 -- it comes home after a fault, and the tablet stops
 pub breaks : {L D C : Type 0} (tells : Bool) (seen : L → Files) (now : L → ℕ) (leaves : L → ℕ → Files → Type 0) (faults : L → ℕ) (view : EngineView L D C) (tablet : View C) (log : SideView L) (journal : JournalView L) (number : ℕ)
     → IsEngine tells seen now leaves faults view → view.log.holder ≡ Some number → faults view.log.known.disk ≤ faults journal.disk → Rose (faults view.log.known.disk) (faults journal.disk)
-    → (IsTrue tells → (image : Files) → leaves journal.disk (now journal.disk) image → IsOldOrBoth (records_of (seen view.log.known.disk)) view.log.out (image 1)) → (IsTrue tells → CanOpen now leaves journal.disk)
+    → (IsTrue tells → (image : Files) → leaves journal.disk (now journal.disk) image → IsOldOrBoth (records_of (seen view.log.known.disk)) view.log.out (image 1)) → (IsTrue tells → CanOpen now leaves journal.disk) → (IsTrue tells → KeepsOthers now leaves view.log.known.disk journal.disk)
     → tablet ≡ record view.tablet { core = halted view.tablet.core } → log ≡ record view.log { home = Some journal; holder = None; whole = false }
     → IsEngine tells seen now leaves faults (record view { tablet = tablet; log = log })
-breaks {L} {D} {C} tells seen now leaves faults view tablet log journal number is held later rose images opens stops e =
+breaks {L} {D} {C} tells seen now leaves faults view tablet log journal number is held later rose images opens others stops e =
     let out = is.lent number held in
     let low = out.0 in
     let up : faults view.device ≤ faults journal.disk = omega arith in
@@ -158,6 +174,7 @@ breaks {L} {D} {C} tells seen now leaves faults view tablet log journal number i
         count = logged.count;
         begins = logged.begins;
         keeps = λ first h. logged.keeps first (record { opens = h.opens; recalls = h.recalls });
+        names = logged.names;
         framed = logged.framed;
         durable = logged.durable;
         acknowledged = logged.acknowledged;
@@ -166,11 +183,13 @@ breaks {L} {D} {C} tells seen now leaves faults view tablet log journal number i
           let here : journal ≡ j = let some : Some journal ≡ Some j = h in cc in
           subst (λ (k : JournalView L). IsHome tells seen now leaves faults (record view { tablet = end; log = side }) k) here (record {
             opens = opens;
+            others = λ t. keeps_on now leaves view.device view.log.known.disk journal.disk (is.others t) (others t);
             later = up;
             known = λ k. absurd (let a : true ≡ false = k in cc);
             rose = λ k. rose';
             images = λ k. images;
           });
+      others = is.others;
       lent = λ by h. absurd (let none : None ≡ Some by = h in cc);
       whole = (λ k. absurd (let a : true ≡ false = k in cc), λ k. absurd (let a : false ≡ true = k in cc));
       ready = record { room = is.ready.room; apart = is.ready.apart; number = is.ready.number; target = is.ready.target; above = is.ready.above; fits = is.ready.fits };

@@ -27,12 +27,12 @@ use Rattle.kt_histlaws.specs.Events.{ended, IsOver}
 use Rattle.kt_tablet.specs.Views.{View, Opens}
 use Rattle.kt_tablet.specs.Visits.{MayEnd, HasEnded, IsDone}
 use Rattle.kt_tablet.specs.Rows.{commit_row}
-use Rattle.kt_engine.specs.Logged.{Waits, IsDurable, KeepsRun}
+use Rattle.kt_engine.specs.Logged.{Waits, IsDurable, KeepsRun, NamesOnly}
 use Rattle.kt_engine.specs.Engines.{EngineView, IsContent, core_from, IsEngine}
-use Rattle.kt_engine.proofs.Lists.{all_passing, all_found, fewer, map-filter}
+use Rattle.kt_engine.proofs.Lists.{all_more, all_passing, all_found, fewer, map-filter}
 use Rattle.kt_engine.proofs.Places.{place-kept, others_apart, turned, apart_fewer, over_found, is_other}
 use Rattle.kt_engine.proofs.Records.{order_more, framed_at, last_of-commit, waits_behind, all_parts, count_parts, framed_parts}
-use Rattle.kt_engine.proofs.Commits.{rows_tell, held_few, commit_framed}
+use Rattle.kt_engine.proofs.Commits.{rows_tell, held_few, commit_framed, commit_names}
 use Rattle.kt_engine.proofs.Runs.{past_line, acknowledged_more}
 
 -- what the rows of a COMMIT are, of the write that flies
@@ -114,12 +114,15 @@ with_ended tells seen now leaves faults old s i f rows e flies over told =
         count = count_parts old.records e.logged.run old.log.out old.log.queued (Commit f.ts rows) old.log.known.count e.logged.count;
         begins = e.logged.begins;
         keeps = λ first is. let before : IsContent old first = record { opens = is.opens; recalls = is.recalls } in ended_run (core_from old first) old.records old.places e.logged.run e.ready.number s i f rows e.ready.above e.ready.fits flies (content first before) apart (e.logged.keeps first before);
+        names = all_more (NamesOnly old.tablet.target) e.logged.run (Commit f.ts rows) e.logged.names (subst (λ (t : Target). NamesOnly t (Commit f.ts rows)) (sym e.ready.target)
+            (subst (λ (rs : List CommitRow). NamesOnly (Mem e.ready.number) (Commit f.ts rs)) (sym (content e.found.0 e.found.1)) (commit_names (Mem e.ready.number) f.ts (outcomes_on core.work.fill (rows_at (run_past (core_from old e.found.0)) (f.ts - 1)) f.ops))));
         framed = framed_parts old.log.out old.log.queued (Commit f.ts rows) e.logged.framed commit;
         durable = λ t. all_passing (IsDurable (records_of (seen old.log.known.disk))) (IsDurable (records_of (seen old.log.known.disk))) (λ w. not (w.s == s)) core.aloft (λ w passes h. h) (e.logged.durable t);
         acknowledged = λ t. acknowledged_more (records_of (seen old.log.known.disk)) core.trail (End s i f.ts) (e.logged.acknowledged t)
             ((f.ops, all_found (IsDurable (records_of (seen old.log.known.disk))) (λ w. w.s == s) core.aloft f flies (e.logged.durable t) (some_applied f some (over_found s core.aloft f flies over))), tt);
       };
-      home = λ journal at. let h = e.home journal at in record { opens = h.opens; later = h.later; known = h.known; rose = h.rose; images = h.images };
+      home = λ journal at. let h = e.home journal at in record { opens = h.opens; others = h.others; later = h.later; known = h.known; rose = h.rose; images = h.images };
+      others = e.others;
       lent = e.lent;
       whole = e.whole;
       ready = record {

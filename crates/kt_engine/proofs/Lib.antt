@@ -13,5 +13,6 @@ pub mod Devices
 pub mod Raised
 pub mod Crashes
 pub mod Empty
+pub mod Others
 pub mod Placed
 pub mod Visiting

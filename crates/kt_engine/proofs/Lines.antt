@@ -74,6 +74,7 @@ line_logged tells seen view e a c turns stopped clock is quiet up = record {
         last = omega arith;
         flying = keeps.flying;
       };
+  names = is.names;
   framed = is.framed;
   durable = is.durable;
   acknowledged = λ t. acknowledged_more (records_of (seen view.log.known.disk)) view.tablet.core.trail e (is.acknowledged t) (acknowledged_none (records_of (seen view.log.known.disk)) e quiet);
@@ -89,7 +90,8 @@ line_keeps {L} {D} {C} tells seen now leaves faults view tablet e a c turns cloc
       logged = line_logged tells seen view e a c turns view.tablet.core.stopped clock is.logged quiet up;
       home = λ journal h.
           let home = is.home journal h in
-          record { opens = home.opens; later = home.later; known = home.known; rose = home.rose; images = home.images };
+          record { opens = home.opens; others = home.others; later = home.later; known = home.known; rose = home.rose; images = home.images };
+      others = is.others;
       lent = is.lent;
       whole = is.whole;
       ready = record { room = is.ready.room; apart = is.ready.apart; number = is.ready.number; target = is.ready.target; above = is.ready.above; fits = is.ready.fits };

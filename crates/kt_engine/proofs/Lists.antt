@@ -23,6 +23,11 @@ all_one P x p = all_cons P x [] p (all_none P)
 pub all_more : {A : Type 0} (P : A → Type 0) (xs : List A) (x : A) → All P xs → P x → All P (xs ++ x ∷ [])
 all_more P xs x h p = All-append P xs (x ∷ []) h (all_one P x p)
 
+-- what holds of each of two lists in turn holds of each of the first
+pub all_front : {A : Type 0} (P : A → Type 0) (xs ys : List A) → All P (xs ++ ys) → All P xs
+all_front P [] ys h = all_none P
+all_front P (x ∷ xs) ys h = all_cons P x xs (all_head P x (xs ++ ys) h) (all_front P xs ys (all_tail P x (xs ++ ys) h))
+
 pub all_each : {A : Type 0} (P Q : A → Type 0) (xs : List A) → ((x : A) → P x → Q x) → All P xs → All Q xs
 all_each P Q xs f h k d lt = f (get_or xs k d) (h k d lt)
 

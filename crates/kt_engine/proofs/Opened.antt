@@ -17,8 +17,8 @@ use Rattle.kt_loglaws.specs.Fronts.{AllTold, with_records}
 use Rattle.kt_loglaws.specs.Side.{SideView}
 use Rattle.kt_histlaws.specs.Pending.{Aloft}
 use Rattle.kt_tablet.specs.Views.{View, Opens}
-use Rattle.kt_engine.specs.Logged.{Recalls, Waits, AreApart, AcknowledgedIn, IsDurable}
-use Rattle.kt_engine.specs.Engines.{EngineView, IsHome, IsEngine}
+use Rattle.kt_engine.specs.Logged.{Recalls, Waits, AreApart, AcknowledgedIn, IsDurable, NamesOnly}
+use Rattle.kt_engine.specs.Engines.{EngineView, KeepsOthers, IsHome, IsEngine}
 use Rattle.kt_engine.proofs.Lists.{all_none}
 use Rattle.kt_engine.proofs.Records.{order_rest, framed_all}
 
@@ -39,11 +39,11 @@ pub is_opened : {L D C : Type 0} (tells : Bool) (seen : L → Files) (now : L �
     → (first : Past) → Opens tablet.opening tablet.mark tablet.core.opened first → Recalls tablet.core.work.fill records first
     → IsLog (records ++ queued)
     → ((past : Past) → Opens tablet.opening tablet.mark tablet.core.opened past → Recalls tablet.core.work.fill records past → AllTold tablet.core.work.fill records past queued × (with_records tablet.core.work.fill past queued ≡ past))
-    → last_of (records ++ queued) ≤ tablet.core.c → journal.count ≡ length records
+    → last_of (records ++ queued) ≤ tablet.core.c → All (NamesOnly tablet.target) queued → journal.count ≡ length records
     → (IsTrue tells → records_of (seen journal.disk) ≡ records)
-    → (IsTrue tells → CanOpen now leaves journal.disk) → faults device ≤ faults journal.disk
+    → (IsTrue tells → CanOpen now leaves journal.disk) → (IsTrue tells → KeepsOthers now leaves device journal.disk) → faults device ≤ faults journal.disk
     → IsEngine tells seen now leaves faults (opened_view tablet journal records queued store device)
-is_opened tells seen now leaves faults tablet journal records queued store device trail aloft stopped number target above fits first opens recalls log told last count reads openable later = record {
+is_opened tells seen now leaves faults tablet journal records queued store device trail aloft stopped number target above fits first opens recalls log told last names count reads openable others later = record {
   found = (first, record { opens = opens; recalls = recalls });
   logged = record {
     run = queued;
@@ -57,11 +57,13 @@ is_opened tells seen now leaves faults tablet journal records queued store devic
       last = last;
       flying = subst (λ (ws : List Aloft). All (Waits (records ++ queued) []) ws) (sym aloft) (all_none (Waits (records ++ queued) []));
     };
+    names = names;
     framed = framed_all (newest_first [] records) queued (order_rest [] records queued log);
     durable = λ t. subst (λ (ws : List Aloft). All (IsDurable (records_of (seen journal.disk))) ws) (sym aloft) (all_none (IsDurable (records_of (seen journal.disk))));
     acknowledged = λ t. subst (λ (es : List Event). AcknowledgedIn (records_of (seen journal.disk)) es) (sym trail) tt;
   };
-  home = λ other at. let is : journal ≡ other = cc in subst (λ (j : JournalView _). IsHome tells seen now leaves faults (opened_view tablet journal records queued store device) j) is (record { opens = openable; later = later; known = λ k. (refl, refl); rose = λ stops. absurd (goes stops); images = λ stops. absurd (goes stops) });
+  home = λ other at. let is : journal ≡ other = cc in subst (λ (j : JournalView _). IsHome tells seen now leaves faults (opened_view tablet journal records queued store device) j) is (record { opens = openable; others = others; later = later; known = λ k. (refl, refl); rose = λ stops. absurd (goes stops); images = λ stops. absurd (goes stops) });
+  others = others;
   lent = λ by out. absurd (let no : None ≡ Some by = out in cc);
   whole = ((λ goes_on. refl), (λ whole. stopped));
   ready = record {

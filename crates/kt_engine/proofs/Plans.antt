@@ -34,13 +34,15 @@ plan_keeps {L} {D} {C} tells seen now leaves faults view tablet plan is fresh ne
               last = keeps.last;
               flying = keeps.flying;
             };
+        names = is.logged.names;
         framed = is.logged.framed;
         durable = is.logged.durable;
         acknowledged = is.logged.acknowledged;
       };
       home = λ journal h.
           let home = is.home journal h in
-          record { opens = home.opens; later = home.later; known = home.known; rose = home.rose; images = home.images };
+          record { opens = home.opens; others = home.others; later = home.later; known = home.known; rose = home.rose; images = home.images };
+      others = is.others;
       lent = is.lent;
       whole = is.whole;
       ready = record { room = is.ready.room; apart = is.ready.apart; number = is.ready.number; target = is.ready.target; above = is.ready.above; fits = is.ready.fits };

@@ -1,8 +1,8 @@
 -- What a clause sees of an engine, and what it keeps.
-use Rattle.std.specs.Prelude.{◌≡◌, ◌<◌, ◌≤◌, ◌+◌, ◌^◌, ℕ, length, Bool, IsTrue, false, true, List, [], ◌++◌, map, take, Some, Ok}
+use Rattle.std.specs.Prelude.{◌≡◌, ◌<◌, ◌≤◌, ◌+◌, ◌^◌, ℕ, length, Bool, IsTrue, false, true, List, [], ◌∷◌, ◌++◌, map, take, Some, Ok}
 use Rattle.std.specs.List.{All}
 use Rattle.kt_base.specs.Causes.{Rose}
-use Rattle.kt_disk.specs.Disk.{Files}
+use Rattle.kt_disk.specs.Disk.{Files, ButFiles}
 use Rattle.kt_history.specs.declared.target.Target.TheVariants.{Mem}
 use Rattle.kt_history.specs.History.{Past}
 use Rattle.kt_records.specs.declared.entry.Entry.{Entry}
@@ -16,7 +16,7 @@ use Rattle.kt_loglaws.specs.declared.side.LogNo.{LogNo as SideNo}
 use Rattle.kt_loglaws.specs.declared.side.LogNo.TheVariants as side
 use Rattle.kt_engine.specs.declared.log.LogNo.{LogNo}
 use Rattle.kt_engine.specs.declared.log.LogNo.TheVariants as no
-use Rattle.kt_engine.specs.Logged.{Recalls, KeepsRun, AreApart, IsDurable, AcknowledgedIn, HoldsFront, HoldsRun}
+use Rattle.kt_engine.specs.Logged.{Recalls, KeepsRun, AreApart, IsDurable, AcknowledgedIn, NamesOnly, HoldsFront, HoldsRun}
 
 -- the tablet, its log, the places of the REPLICATEs of flying writes, the records that opening found, and the log's device as it was
 -- handed in; and the store device
@@ -37,21 +37,28 @@ pub record IsContent {L D C : Type 0} (view : EngineView L D C) (first : Past) :
 abbrev pub core_from : {L D C : Type 0} → EngineView L D C → Past → Core
 core_from view first = record view.tablet.core { first = first }
 
--- the log keeps the run: where its device tells, what is durable, out and queued are the records, and what opening found is durable
+-- the log keeps the run: where its device tells, what is durable, out and queued are the records, and what opening found is durable. The
+-- run's COMMITs name the engine's store alone
 pub record IsLogged {L D C : Type 0} (tells : Bool) (seen : L → Files) (view : EngineView L D C) : Type 0 where
   pub run : List Entry
   pub all : IsTrue tells → view.records ++ run ≡ all_of seen view.log
   pub count : length (view.records ++ run) ≡ view.log.known.count + length (view.log.out ++ view.log.queued)
   pub begins : IsTrue tells → (durable : List Entry) × (records_of (seen view.log.known.disk) ≡ view.records ++ durable)
   pub keeps : (first : Past) → IsContent view first → KeepsRun (core_from view first) view.records view.places run
+  pub names : All (NamesOnly view.tablet.target) run
   pub framed : All IsFramed (view.log.out ++ view.log.queued)
   pub durable : IsTrue tells → All (IsDurable (records_of (seen view.log.known.disk))) view.tablet.core.aloft
   pub acknowledged : IsTrue tells → AcknowledgedIn (records_of (seen view.log.known.disk)) view.tablet.core.trail
 
--- the device at home: it can be opened, its count of faults has not fallen, and it is the known log, nothing out, unless the tablet
--- is stopped. Then that count has risen, and each image of it has what was durable, or that and the batch
+-- each image that a crash now may leave of the new disk has all files but the log's as one of the old disk has them
+abbrev pub KeepsOthers : {L : Type 0} → (L → ℕ) → (L → ℕ → Files → Type 0) → L → L → Type 0
+KeepsOthers now leaves old new = (image : Files) → leaves new (now new) image → ButFiles now leaves old (1 ∷ []) image
+
+-- the device at home: it can be opened, all files but the log's are as they were handed in, its count of faults has not fallen, and it
+-- is the known log, nothing out, unless the tablet is stopped. Then that count has risen, and each image of it has what was durable, or that and the batch
 pub record IsHome {L D C : Type 0} (tells : Bool) (seen : L → Files) (now : L → ℕ) (leaves : L → ℕ → Files → Type 0) (faults : L → ℕ) (view : EngineView L D C) (journal : JournalView L) : Type 0 where
   pub opens : IsTrue tells → CanOpen now leaves journal.disk
+  pub others : IsTrue tells → KeepsOthers now leaves view.device journal.disk
   pub later : faults view.device ≤ faults journal.disk
   pub known : view.tablet.core.stopped ≡ false → (journal ≡ view.log.known) × (view.log.out ≡ [])
   pub rose : view.tablet.core.stopped ≡ true → Rose (faults view.device) (faults journal.disk)
@@ -71,6 +78,7 @@ pub record IsEngine {L D C : Type 0} (tells : Bool) (seen : L → Files) (now : 
   pub found : (first : Past) × IsContent view first
   pub logged : IsLogged tells seen view
   pub home : (journal : JournalView L) → view.log.home ≡ Some journal → IsHome tells seen now leaves faults view journal
+  pub others : IsTrue tells → KeepsOthers now leaves view.device view.log.known.disk
   pub lent : (by : ℕ) → view.log.holder ≡ Some by → (faults view.device ≤ faults view.log.known.disk) × (view.tablet.core.stopped ≡ false)
   pub whole : (view.tablet.core.stopped ≡ false → IsTrue view.log.whole) × (IsTrue view.log.whole → view.tablet.core.stopped ≡ false)
   pub ready : IsReady view
@@ -79,18 +87,18 @@ pub record IsEngine {L D C : Type 0} (tells : Bool) (seen : L → Files) (now : 
 -- A crash now leaves the opened past with the run's writes up to a time, each acknowledged one among them.
 abbrev pub Recovers : {L D C : Type 0} → Bool → (L → ℕ) → (L → ℕ → Files → Type 0) → EngineView L D C → Type 0
 Recovers tells now leaves view = (first : Past) → IsContent view first → IsTrue tells → (journal : JournalView _) → view.log.home ≡ Some journal
-    → (image : Files) → leaves journal.disk (now journal.disk) image → HoldsFront (core_from view first) image
+    → (image : Files) → leaves journal.disk (now journal.disk) image → HoldsFront (core_from view first) view.records view.tablet.target image
 
 -- So does an image that has what is durable and, in their order, some of the records that are out and queued: what a crash leaves while a
 -- pass has the log out.
 abbrev pub RecoversEach : {L D C : Type 0} → Bool → (L → Files) → EngineView L D C → Type 0
 RecoversEach tells seen view = (first : Past) → IsContent view first → IsTrue tells → (n : ℕ) (image : Files)
-    → log_of image ≡ Ok (records_of (seen view.log.known.disk) ++ take n (view.log.out ++ view.log.queued)) → HoldsFront (core_from view first) image
+    → log_of image ≡ Ok (records_of (seen view.log.known.disk) ++ take n (view.log.out ++ view.log.queued)) → HoldsFront (core_from view first) view.records view.tablet.target image
 
 -- And with all of them, where nothing waits for the log and nothing has stopped it.
 abbrev pub RecoversAll : {L D C : Type 0} → Bool → (L → ℕ) → (L → ℕ → Files → Type 0) → EngineView L D C → Type 0
 RecoversAll tells now leaves view = (first : Past) → IsContent view first → view.tablet.core.stopped ≡ false → view.log.queued ≡ [] → IsTrue tells → (journal : JournalView _) → view.log.home ≡ Some journal
-    → (image : Files) → leaves journal.disk (now journal.disk) image → HoldsRun (core_from view first) image
+    → (image : Files) → leaves journal.disk (now journal.disk) image → HoldsRun (core_from view first) view.records view.tablet.target image
 
 -- what a pass may do with the log that it has out: append its records
 pub record IsLent {L : Type 0} (tells : Bool) (seen : L → Files) (now : L → ℕ) (leaves : L → ℕ → Files → Type 0) (journal : JournalView L) (records : List Entry) : Type 0 where

@@ -5,10 +5,11 @@ use Rattle.kt_disk.specs.Disk.{Files}
 use Rattle.kt_history.specs.declared.event.Event.{Event}
 use Rattle.kt_history.specs.declared.event.Event.TheVariants as event
 use Rattle.kt_history.specs.declared.operation.RowOp.{RowOp}
+use Rattle.kt_history.specs.declared.target.Target.{Target}
 use Rattle.kt_history.specs.Rows.{Row}
 use Rattle.kt_history.specs.History.{Past, raise}
 use Rattle.kt_records.specs.declared.entry.Entry.{Entry}
-use Rattle.kt_records.specs.declared.entry.Entry.TheVariants.{Replicate}
+use Rattle.kt_records.specs.declared.entry.Entry.TheVariants.{Replicate, Commit}
 use Rattle.kt_records.specs.Spelling.{spelling}
 use Rattle.kt_journal.specs.Order.{waiting, newest_first}
 use Rattle.kt_journal.specs.Log.{log_of, IsLog}
@@ -73,6 +74,11 @@ AcknowledgedIn records (_ ∷ events) = AcknowledgedIn records events
 abbrev pub IsDurable : List Entry → Aloft → Type 0
 IsDurable records w = 0 < w.applied → Contains records (Replicate w.ts w.ops)
 
+-- a COMMIT names no store but this one
+abbrev pub NamesOnly : Target → Entry → Type 0
+NamesOnly target (Replicate ts ops) = Unit {0}
+NamesOnly target (Commit ts rows) = All (λ row. All (λ named. named ≡ target) row.targets) rows
+
 -- The records of an engine: those that opening found, and behind them those of the run. They are a log that holds the run's
 -- past, each COMMIT tells what became of its write, and each write that flies waits for its own.
 pub record KeepsRun (core : Core) (records : List Entry) (places : List (ℕ × ℕ)) (run : List Entry) : Type 0 where
@@ -82,19 +88,27 @@ pub record KeepsRun (core : Core) (records : List Entry) (places : List (ℕ × 
   pub last : last_of (records ++ run) ≤ core.c
   pub flying : All (Waits (records ++ run) places) core.aloft
 
--- A crash left this image: it holds the opened past with the run's writes up to some time, each acknowledged one among them.
-pub record HoldsFront (core : Core) (image : Files) : Type 0 where
+-- A crash left this image: the records that opening found and some of the run, whose COMMITs name the engine's store alone. It holds the
+-- opened past with the run's writes up to some time, each acknowledged one among them, and nothing later than the run's last timestamp.
+pub record HoldsFront (core : Core) (found : List Entry) (target : Target) (image : Files) : Type 0 where
   pub records : List Entry
   pub reads : log_of image ≡ Ok records
+  pub run : List Entry
+  pub front : records ≡ found ++ run
+  pub names : All (NamesOnly target) run
   pub t : ℕ
   pub after_opening : core.opened ≤ t
   pub acknowledged : AcknowledgedBy t core.trail
   pub holds : Recalls core.work.fill records (upto t (run_past core))
   pub last : last_of records ≤ t
+  pub within : last_of records ≤ core.c
 
 -- It holds the opened past with all writes of the run.
-pub record HoldsRun (core : Core) (image : Files) : Type 0 where
+pub record HoldsRun (core : Core) (found : List Entry) (target : Target) (image : Files) : Type 0 where
   pub records : List Entry
   pub reads : log_of image ≡ Ok records
+  pub run : List Entry
+  pub front : records ≡ found ++ run
+  pub names : All (NamesOnly target) run
   pub holds : Recalls core.work.fill records (run_past core)
   pub last : last_of records ≤ core.c

@@ -10,8 +10,8 @@ ghost use Rattle.kt_loglaws.specs.Fronts.{AllTold, with_records};
 ghost use Rattle.kt_tablet.specs.Views.{IsSound, IsExact, Opens};
 ghost use Rattle.std.specs.List.{All};
 ghost use Rattle.kt_loglaws.specs.Side.{all_of};
-ghost use Rattle.kt_engine.specs.Logged.{Recalls, IsPlaced, IsThere};
-ghost use Rattle.kt_engine.specs.Engines.{EngineView, IsContent, IsEngine, IsLogged, IsHome, Recovers, RecoversEach, RecoversAll};
+ghost use Rattle.kt_engine.specs.Logged.{Recalls, IsPlaced, IsThere, NamesOnly};
+ghost use Rattle.kt_engine.specs.Engines.{EngineView, IsContent, IsEngine, IsLogged, IsHome, KeepsOthers, Recovers, RecoversEach, RecoversAll};
 
 use kt_base::Clock;
 use kt_disk::Disk;
@@ -74,11 +74,13 @@ impl<L: Disk, D, C: Clock> Engine<L, D, C> {
         requires told { (first : Past) → Opens tablet.opening tablet.mark tablet.core.opened first → Recalls tablet.core.work.fill records.now first
             → AllTold tablet.core.work.fill records.now first queued × (with_records tablet.core.work.fill first queued ≡ first) }
         requires last { last_of (records.now ++ queued) ≤ tablet.core.c }
+        requires names { All (NamesOnly tablet.target) queued }
         requires usable { IsTrue journal.usable }
         requires count { journal.count ≡ length records.now }
         requires reads { IsTrue L.tells → records_of (L.seen journal.disk) ≡ records.now }
         requires durable { IsTrue L.tells → Holds L.now L.leaves journal.disk (records_of (L.seen journal.disk)) }
         requires openable { IsTrue L.tells → CanOpen L.now L.leaves journal.disk }
+        requires others { IsTrue L.tells → KeepsOthers L.now L.leaves device.value journal.disk }
         requires faults { L.faults device.value ≤ L.faults journal.disk }
         ensures view { IfOk result (λ engine. engine ≡ record {
           tablet = tablet;

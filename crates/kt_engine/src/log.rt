@@ -5,7 +5,7 @@ ghost use Rattle.kt_disk.specs.Disk.{Files};
 ghost use Rattle.kt_journal.specs.Log.{records_of, Holds, IsOldOrBoth, CanOpen};
 ghost use Rattle.kt_histlaws.specs.Events.{halted};
 ghost use Rattle.kt_engine.specs.Logged.{place_of};
-ghost use Rattle.kt_engine.specs.Engines.{IsLent};
+ghost use Rattle.kt_engine.specs.Engines.{IsLent, KeepsOthers};
 ghost use Rattle.kt_engine.specs.Visits.{IsVisit};
 
 use crate::engine::Engine;
@@ -117,6 +117,7 @@ impl<L: Disk, D, C: Clock> Engine<L, D, C> {
         requires reads { IsTrue L.tells → records_of (L.seen batch.journal.disk) ≡ records_of (L.seen self.old.log.known.disk) ++ self.old.log.out }
         requires durable { IsTrue L.tells → Holds L.now L.leaves batch.journal.disk (records_of (L.seen batch.journal.disk)) }
         requires opens { IsTrue L.tells → CanOpen L.now L.leaves batch.journal.disk }
+        requires others { IsTrue L.tells → KeepsOthers L.now L.leaves self.old.log.known.disk batch.journal.disk }
         requires faults { L.faults self.old.log.known.disk ≤ L.faults batch.journal.disk }
         ensures visit { IsVisit number self.old self.new }
         ensures home { self.new ≡ record self.old { log = record self.old.log { home = Some batch.journal; known = batch.journal; holder = None; out = [] } } }
@@ -144,6 +145,7 @@ impl<L: Disk, D, C: Clock> Engine<L, D, C> {
         requires rose { (batch : _) → device ≡ Broken.Log batch → Rose (L.faults self.old.log.known.disk) (L.faults batch.journal.disk) }
         requires images { (batch : _) → device ≡ Broken.Log batch → IsTrue L.tells → (image : Files) → L.leaves batch.journal.disk (L.now batch.journal.disk) image → IsOldOrBoth (records_of (L.seen self.old.log.known.disk)) self.old.log.out (image 1) }
         requires opens { (batch : _) → device ≡ Broken.Log batch → IsTrue L.tells → CanOpen L.now L.leaves batch.journal.disk }
+        requires others { (batch : _) → device ≡ Broken.Log batch → IsTrue L.tells → KeepsOthers L.now L.leaves self.old.log.known.disk batch.journal.disk }
         ensures visit { IsVisit number self.old self.new }
         ensures core { self.new.tablet ≡ record self.old.tablet { core = halted self.old.tablet.core } }
         ensures home { (batch : _) → device ≡ Broken.Log batch → self.new ≡ record self.old { tablet = self.new.tablet; log = record self.old.log { home = Some batch.journal; holder = None; whole = false } } }

@@ -1,5 +1,5 @@
 //! The life of a write: it begins, its rows are applied, and it ends.
-ghost use Rattle.std.specs.Prelude.{◌≡◌, ◌≤◌, ℕ, IfOk, IfErr, OnErr, IsOk, IsErr, Err, Some, false, true, ◌∷◌, [], ◌++◌, ◌+◌, ◌<◌, ◌==◌, not, length, map, List, OnOk, vec_len, vec_capacity};
+ghost use Rattle.std.specs.Prelude.{◌≡◌, ◌≤◌, ℕ, IfOk, IfErr, OnErr, IsOk, IsErr, Err, Some, false, true, ◌∷◌, [], ◌++◌, ◌+◌, ◌<◌, ◌==◌, not, length, map, max, List, OnOk, vec_len, vec_capacity};
 ghost use Rattle.std.specs.List.{filter};
 ghost use Rattle.kt_history.specs.History.{Past};
 ghost use Rattle.kt_records.specs.declared.entry.CommitRow.{CommitRow};
@@ -49,6 +49,7 @@ fn make_room<L: Disk>(log: &mut LogSide<L>, places: &mut Vec<(u32, u64)>) -> Res
     ensures log { log.new ≡ record log.old { room = log.new.room } }
     ensures more { log.old.room ≤ log.new.room }
     ensures places { (places.new.items ≡ places.old.items) × (vec_len places.new ≡ vec_len places.old) }
+    ensures bound { log.new.room ≤ max log.old.room (length places.old.items + 2) }
     ensures room { OnOk result ((length places.old.items + 2 ≤ log.new.room) × (vec_len places.new < vec_capacity places.new)) }
 {
     places.reserve(1)?;
@@ -85,6 +86,7 @@ impl<L: Disk, D, C: Clock> Engine<L, D, C> {
         ensures queued { IfOk result (λ ts. self.new.log ≡ record self.old.log { queued = self.old.log.queued ++ Entry.Replicate ts write.now.ops ∷ []; room = self.new.log.room }) }
         ensures clock { self.new.tablet ≡ record self.old.tablet { core = self.new.tablet.core; clock = self.new.tablet.clock; pool = self.new.tablet.pool } }
         ensures beside { self.new ≡ record self.old { tablet = self.new.tablet; log = self.new.log; places = self.new.places } }
+        ensures bound { self.new.log.room ≤ max self.old.log.room (length self.old.places + 2) }
         ensures stopped { self.old.tablet.core.stopped ≡ true → result ≡ Err BeginNo.Stopped }
         ensures refused { IfErr result (IsRefused self.old.tablet write.now.ops) }
         ensures left { IfErr result (Leaves self.old.tablet self.new.tablet number index) }
