@@ -5,7 +5,7 @@ use Rattle.std.proofs.lemmas.Bool.Decides.{nat_tests}
 use Rattle.kt_history.specs.declared.change.Change.{Change}
 use Rattle.kt_history.specs.declared.change.Change.TheVariants.{Ins, Upd, Del}
 use Rattle.kt_history.specs.declared.operation.OpKind.{OpKind}
-use Rattle.kt_history.specs.declared.operation.OpKind.TheVariants.{Insert, Upsert, Update, Delete}
+use Rattle.kt_history.specs.declared.operation.OpKind.TheVariants.{Insert, Upsert, Update, Delete, InsertIgnore, UpdateIgnore, DeleteIgnore}
 use Rattle.kt_history.specs.declared.target.Kindly.{Kindly}
 use Rattle.kt_history.specs.declared.target.Kindly.TheVariants as kindly
 use Rattle.kt_history.specs.Rows.{Row, apply, with_cells}
@@ -111,6 +111,12 @@ effect_alike fill Update cells None k h = cc
 effect_alike fill Update cells (Some r) k h = as_upd fill Update cells (Some r) k (let e : kindly.Upd ≡ k = cc in e) (record { change = Upd cells; is = refl; alike = refl })
 effect_alike fill Delete cells None k h = cc
 effect_alike fill Delete cells (Some r) k h = as_del fill Delete cells (Some r) k (let e : kindly.Del ≡ k = cc in e) (record { change = Del; is = refl; alike = tt })
+effect_alike fill InsertIgnore cells None k h = as_ins fill InsertIgnore cells None k (let e : kindly.Ins ≡ k = cc in e) (record { change = Ins (with_cells cells fill); is = refl; alike = refl })
+effect_alike fill InsertIgnore cells (Some r) k h = cc
+effect_alike fill UpdateIgnore cells None k h = cc
+effect_alike fill UpdateIgnore cells (Some r) k h = as_upd fill UpdateIgnore cells (Some r) k (let e : kindly.Upd ≡ k = cc in e) (record { change = Upd cells; is = refl; alike = refl })
+effect_alike fill DeleteIgnore cells None k h = cc
+effect_alike fill DeleteIgnore cells (Some r) k h = as_del fill DeleteIgnore cells (Some r) k (let e : kindly.Del ≡ k = cc in e) (record { change = Del; is = refl; alike = tt })
 
 pub effect_none : (fill : Row) (kind : OpKind) (cells : Row) (row : Option Row) → kindly_of kind (is_some row) ≡ None → (effect fill kind cells row).0 ≡ None
 effect_none fill Insert cells None h = cc
@@ -121,6 +127,12 @@ effect_none fill Update cells None h = refl
 effect_none fill Update cells (Some r) h = cc
 effect_none fill Delete cells None h = refl
 effect_none fill Delete cells (Some r) h = cc
+effect_none fill InsertIgnore cells None h = cc
+effect_none fill InsertIgnore cells (Some r) h = refl
+effect_none fill UpdateIgnore cells None h = refl
+effect_none fill UpdateIgnore cells (Some r) h = cc
+effect_none fill DeleteIgnore cells None h = refl
+effect_none fill DeleteIgnore cells (Some r) h = cc
 
 pub effect_some : (fill : Row) (kind : OpKind) (cells : Row) (row : Option Row) → is_some (kindly_of kind (is_some row)) ≡ is_some (effect fill kind cells row).0
 effect_some fill Insert cells None = refl
@@ -131,6 +143,12 @@ effect_some fill Update cells None = refl
 effect_some fill Update cells (Some r) = refl
 effect_some fill Delete cells None = refl
 effect_some fill Delete cells (Some r) = refl
+effect_some fill InsertIgnore cells None = refl
+effect_some fill InsertIgnore cells (Some r) = refl
+effect_some fill UpdateIgnore cells None = refl
+effect_some fill UpdateIgnore cells (Some r) = refl
+effect_some fill DeleteIgnore cells None = refl
+effect_some fill DeleteIgnore cells (Some r) = refl
 
 pub effect_told : (number : ℕ) (fill : Row) (kind : OpKind) (cells : Row) (row : Option Row) → told number kind (is_some row) ≡ row_told number (effect fill kind cells row)
 effect_told number fill Insert cells None = refl
@@ -141,6 +159,12 @@ effect_told number fill Update cells None = refl
 effect_told number fill Update cells (Some r) = refl
 effect_told number fill Delete cells None = refl
 effect_told number fill Delete cells (Some r) = refl
+effect_told number fill InsertIgnore cells None = refl
+effect_told number fill InsertIgnore cells (Some r) = refl
+effect_told number fill UpdateIgnore cells None = refl
+effect_told number fill UpdateIgnore cells (Some r) = refl
+effect_told number fill DeleteIgnore cells None = refl
+effect_told number fill DeleteIgnore cells (Some r) = refl
 
 -- a history from nothing
 abbrev pub hist : Steps → Hist

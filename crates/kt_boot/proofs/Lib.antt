@@ -11,4 +11,6 @@ pub mod Openings
 pub mod Owing
 pub mod ReopenedLogs
 pub mod Rooms
+pub mod Numbers
+pub mod Contents
 pub mod Tablets

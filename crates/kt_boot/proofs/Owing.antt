@@ -6,7 +6,7 @@ use Rattle.std.proofs.lemmas.List.{append-nil, length-map}
 use Rattle.std.proofs.lemmas.List.Concat.{flat_map-cons}
 use Rattle.std.proofs.lemmas.Bool.Decides.{nat_tests}
 use Rattle.kt_history.specs.declared.operation.OpKind.{OpKind}
-use Rattle.kt_history.specs.declared.operation.OpKind.TheVariants.{Insert, Upsert, Update, Delete}
+use Rattle.kt_history.specs.declared.operation.OpKind.TheVariants.{Insert, Upsert, Update, Delete, InsertIgnore, UpdateIgnore, DeleteIgnore}
 use Rattle.kt_history.specs.declared.operation.RowOp.{RowOp}
 use Rattle.kt_history.specs.Rows.{Row, Rows, key_cmp}
 use Rattle.kt_history.specs.History.{Past, rows_at}
@@ -38,6 +38,12 @@ row_fits number fill Update cells None lt = record { count = refl; targets = tt 
 row_fits number fill Update cells (Some row) lt = record { count = refl; targets = (lt, tt) }
 row_fits number fill Delete cells None lt = record { count = refl; targets = tt }
 row_fits number fill Delete cells (Some row) lt = record { count = refl; targets = (lt, tt) }
+row_fits number fill InsertIgnore cells None lt = record { count = refl; targets = (lt, tt) }
+row_fits number fill InsertIgnore cells (Some row) lt = record { count = refl; targets = tt }
+row_fits number fill UpdateIgnore cells None lt = record { count = refl; targets = tt }
+row_fits number fill UpdateIgnore cells (Some row) lt = record { count = refl; targets = (lt, tt) }
+row_fits number fill DeleteIgnore cells None lt = record { count = refl; targets = tt }
+row_fits number fill DeleteIgnore cells (Some row) lt = record { count = refl; targets = (lt, tt) }
 
 rows_fit : (fill : Row) (number : ℕ) (rows : Rows) (front : List CommitRow) (ops : List RowOp) → number < 2 ^ 64 → EachAfter (λ front row. RowFits row) front (rows_told fill number rows ops)
 rows_fit fill number rows front [] lt = tt
@@ -52,6 +58,12 @@ row_short number fill Update cells None = omega arith
 row_short number fill Update cells (Some row) = omega arith
 row_short number fill Delete cells None = omega arith
 row_short number fill Delete cells (Some row) = omega arith
+row_short number fill InsertIgnore cells None = omega arith
+row_short number fill InsertIgnore cells (Some row) = omega arith
+row_short number fill UpdateIgnore cells None = omega arith
+row_short number fill UpdateIgnore cells (Some row) = omega arith
+row_short number fill DeleteIgnore cells None = omega arith
+row_short number fill DeleteIgnore cells (Some row) = omega arith
 
 rows_short : (fill : Row) (number : ℕ) (rows : Rows) (ops : List RowOp) → length (flat_map spelled.commit_row (rows_told fill number rows ops)) ≤ 11 * length ops
 rows_short fill number rows [] = omega arith

@@ -17,7 +17,7 @@ use Rattle.kt_memrowset.specs.declared.store.MemRowSet.{MemRowSet}
 use Rattle.kt_loglaws.specs.Replay.{replay, empty, last_of, gate_of}
 use Rattle.kt_loglaws.specs.Fronts.{with_records, AllTold}
 use Rattle.kt_boot.specs.declared.opening.Why.TheVariants.{B3}
-use Rattle.kt_boot.specs.Opening.{opened, found_or_late, last_most}
+use Rattle.kt_boot.specs.Opening.{opening_in, found_or_late, last_most}
 use Rattle.kt_boot.specs.Reopening.{mem_number, owed, IsReopened}
 use Rattle.kt_boot.specs.Rebuilding.{rebuilt, owed_by}
 use Rattle.kt_boot.proofs.Walks.{Meets, Ends, meets, owed_alike, walk_first}
@@ -27,7 +27,7 @@ use Rattle.kt_boot.proofs.Owing.{owed_log, owed_told, owed_same, owed_last}
 not_most : (last : ℕ) → last < last_most → nat_le last_most last ≡ false
 not_most last h = grind (arith, nat_tests)
 
-opened_is : (fill : Row) (records : List Entry) → last_of records < last_most → opened fill (Ok records) ≡ found_or_late records (replay fill records empty records)
+opened_is : (fill : Row) (records : List Entry) → last_of records < last_most → opening_in fill (Ok records) ≡ found_or_late records (replay fill records empty records)
 opened_is fill records low = rw (not_most (last_of records) low) refl
 
 both_meet : (fill : Row) (records : List Entry) → IsLog records → Meets fill (last_of records) (rebuilt records [] records) (replay fill records empty records)
@@ -68,7 +68,7 @@ module _ (fill : Row) (records : List Entry) (log : IsLog records) (low : last_o
       subst (λ q. IsLog (records ++ q)) (sym (queues ∙ owes_it number found.0 found.1))
       (owed_log fill number fits records log found.0 records [] [] refl (λ n up. tt) (subst IsLog (sym (append-nil records)) log))
 
-  pub reopened_late : (ts gate : ℕ) → rebuilt records [] records ≡ Err ts → gate ≡ gate_of ts records → opened fill (Ok records) ≡ Err (B3 gate)
+  pub reopened_late : (ts gate : ℕ) → rebuilt records [] records ≡ Err ts → gate ≡ gate_of ts records → opening_in fill (Ok records) ≡ Err (B3 gate)
   reopened_late ts gate is gate_is =
       opened_is fill records low ∙ ap (found_or_late records) (found_late fill (last_of records) ts (rebuilt records [] records) (replay fill records empty records) (both_meet fill records log) is) ∙ ap (λ g. Err (B3 g)) (sym gate_is)
 

@@ -8,7 +8,7 @@ use Rattle.std.specs.declared.cmp.Ordering.TheVariants.{Less, Equal, Greater}
 use Rattle.std.specs.FinMap.Entries.{by_order, find, put, find-put}
 use Rattle.std.proofs.lemmas.Cmp.{nat_list_cmp_total, eq_by_cmp_equiv}
 use Rattle.kt_history.specs.declared.operation.OpKind.{OpKind}
-use Rattle.kt_history.specs.declared.operation.OpKind.TheVariants.{Insert, Upsert, Update, Delete}
+use Rattle.kt_history.specs.declared.operation.OpKind.TheVariants.{Insert, Upsert, Update, Delete, InsertIgnore, UpdateIgnore, DeleteIgnore}
 use Rattle.kt_history.specs.declared.operation.RowOp.{RowOp}
 use Rattle.kt_history.specs.declared.target.Kindly.{Kindly}
 use Rattle.kt_history.specs.declared.target.Kindly.TheVariants.{Ins, Upd, Del}
@@ -104,6 +104,12 @@ fit_kind Update cells k None h = cc
 fit_kind Update cells k (Some row) h = let e : Upd ≡ k = cc in subst (λ k. fits (change_of k cells) (Some row) ≡ true) e refl
 fit_kind Delete cells k None h = cc
 fit_kind Delete cells k (Some row) h = let e : Del ≡ k = cc in subst (λ k. fits (change_of k cells) (Some row) ≡ true) e refl
+fit_kind InsertIgnore cells k None h = let e : Ins ≡ k = cc in subst (λ k. fits (change_of k cells) None ≡ true) e refl
+fit_kind InsertIgnore cells k (Some row) h = cc
+fit_kind UpdateIgnore cells k None h = cc
+fit_kind UpdateIgnore cells k (Some row) h = let e : Upd ≡ k = cc in subst (λ k. fits (change_of k cells) (Some row) ≡ true) e refl
+fit_kind DeleteIgnore cells k None h = cc
+fit_kind DeleteIgnore cells k (Some row) h = let e : Del ≡ k = cc in subst (λ k. fits (change_of k cells) (Some row) ≡ true) e refl
 
 -- a change of the operation's kind fits the row that is there
 pub kind_fits : (ts : ℕ) (op : RowOp) (store : Store) (kind : Kindly) → MayTake ts store op → kind_in op store ≡ Some kind → fits (change_by kind op) (row_of ts (hist_in op.key store)) ≡ true

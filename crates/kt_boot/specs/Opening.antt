@@ -23,22 +23,28 @@ abbrev pub found_or_late : List Entry → Result Past ℕ → Result Found Why
 found_or_late records (Ok past) = Ok (record { past = raise past 0; last = last_of records })
 found_or_late records (Err ts) = Err (B3 (gate_of ts records))
 
--- what the records of a log hold, also where their last timestamp is too great for another run
-abbrev pub held_in : Row → Result (List Entry) ℕ → Result Found Why
-held_in fill (Err offset) = Err (B3 offset)
-held_in fill (Ok records) = found_or_late records (replay fill records empty records)
+-- what the records of a log hold, whatever their last timestamp
+abbrev pub content_in : Row → Result (List Entry) ℕ → Result Found Why
+content_in fill (Err offset) = Err (B3 offset)
+content_in fill (Ok records) = found_or_late records (replay fill records empty records)
 
-abbrev pub held_by : Row → Files → Result Found Why
-held_by fill files = held_in fill (log_of files)
+-- the content of an image of a log device, for a table with this fill
+abbrev pub content_of : Row → Files → Result Found Why
+content_of fill files = content_in fill (log_of files)
 
-abbrev pub opened : Row → Result (List Entry) ℕ → Result Found Why
-opened fill (Err offset) = Err (B3 offset)
-opened fill (Ok records) = if nat_le last_most (last_of records) then Err (B6 (last_of records)) else found_or_late records (replay fill records empty records)
+-- the answer of opening to the records of a log: what they hold, or why it is refused, also where their last timestamp is too great
+-- for another run
+abbrev pub opening_in : Row → Result (List Entry) ℕ → Result Found Why
+opening_in fill (Err offset) = Err (B3 offset)
+opening_in fill (Ok records) = if nat_le last_most (last_of records) then Err (B6 (last_of records)) else found_or_late records (replay fill records empty records)
 
--- what the files of a log device hold for a table with this fill
-abbrev pub content : Row → Files → Result Found Why
-content fill files = opened fill (log_of files)
+-- the answer of opening to an image of a log device
+abbrev pub opening_of : Row → Files → Result Found Why
+opening_of fill files = opening_in fill (log_of files)
 
--- the same content is held by a file that a crash at the last moment of that disk might have left
-abbrev pub HasContentOf : {D : Type 0} → (D → ℕ) → (D → ℕ → Files → Type 0) → Row → D → Files → Type 0
-HasContentOf now leaves fill disk c = (d : Files) × leaves disk (now disk) d × (content fill c ≡ content fill d)
+-- An image that a crash at the last moment of that disk might have left has the same content, and opening gives it the same answer.
+pub record HasContentOf {D : Type 0} (now : D → ℕ) (leaves : D → ℕ → Files → Type 0) (fill : Row) (disk : D) (c : Files) : Type 0 where
+  pub image : Files
+  pub was_left : leaves disk (now disk) image
+  pub content : content_of fill c ≡ content_of fill image
+  pub opening : opening_of fill c ≡ opening_of fill image

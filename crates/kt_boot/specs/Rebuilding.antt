@@ -2,7 +2,7 @@
 use Rattle.std.specs.Prelude.{◌≡◌, ◌≤◌, ℕ, ◌+◌, length, Bool, true, false, is_some, List, [], ◌∷◌, Option, Some, None, Result, Ok, Err, if◌then◌else◌}
 use Rattle.std.specs.FinMap.Entries.{put}
 use Rattle.kt_history.specs.declared.operation.OpKind.{OpKind}
-use Rattle.kt_history.specs.declared.operation.OpKind.TheVariants.{Insert, Upsert, Update, Delete}
+use Rattle.kt_history.specs.declared.operation.OpKind.TheVariants.{Insert, Upsert, Update, Delete, InsertIgnore, UpdateIgnore, DeleteIgnore}
 use Rattle.kt_history.specs.declared.operation.RowOp.{RowOp}
 use Rattle.kt_history.specs.declared.target.Kindly.{Kindly}
 use Rattle.kt_history.specs.declared.target.Kindly.TheVariants.{Ins, Upd, Del}
@@ -33,6 +33,12 @@ kindly_of Update false = None
 kindly_of Update true = Some Upd
 kindly_of Delete false = None
 kindly_of Delete true = Some Del
+kindly_of InsertIgnore false = Some Ins
+kindly_of InsertIgnore true = None
+kindly_of UpdateIgnore false = None
+kindly_of UpdateIgnore true = Some Upd
+kindly_of DeleteIgnore false = None
+kindly_of DeleteIgnore true = Some Del
 
 -- whether the row of a key is there
 abbrev pub is_there : List ℕ → Store → Bool

@@ -17,7 +17,7 @@ use Rattle.kt_loglaws.specs.Laws.{LogHolds}
 use Rattle.kt_loglaws.specs.Fronts.{with_records, AllTold}
 use Rattle.kt_tablet.specs.Filling.{filled}
 use Rattle.kt_tablet.specs.Views.{Opens}
-use Rattle.kt_boot.specs.Opening.{opened}
+use Rattle.kt_boot.specs.Opening.{opening_in}
 
 -- the greatest number of a MemRowSet among these stores, or 0
 abbrev pub greatest : List Target → ℕ
@@ -79,7 +79,7 @@ pub record IsReopened (fill : Row) (records : List Entry) (store : Store) (last 
   pub whole : Past
   pub holds : LogHolds fill records whole
   pub raised : past ≡ raise whole 0
-  pub found : opened fill (Ok records) ≡ Ok (record { past = past; last = last })
+  pub found : opening_in fill (Ok records) ≡ Ok (record { past = past; last = last })
   pub opens : Opens (filled fill store ∷ []) 0 last past
   pub owes : queued ≡ owed fill number records whole records
   pub told : AllTold fill records past queued

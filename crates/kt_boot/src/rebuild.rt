@@ -62,9 +62,9 @@ fn kindly(kind: OpKind, present: bool) -> Option<Kindly>
     ensures { result ≡ kindly_of kind present }
 {
     match (kind, present) {
-        (OpKind::Insert, false) | (OpKind::Upsert, false) => Some(Kindly::Ins),
-        (OpKind::Upsert, true) | (OpKind::Update, true) => Some(Kindly::Upd),
-        (OpKind::Delete, true) => Some(Kindly::Del),
+        (OpKind::Insert | OpKind::Upsert | OpKind::InsertIgnore, false) => Some(Kindly::Ins),
+        (OpKind::Upsert | OpKind::Update | OpKind::UpdateIgnore, true) => Some(Kindly::Upd),
+        (OpKind::Delete | OpKind::DeleteIgnore, true) => Some(Kindly::Del),
         _ => None,
     }
 }

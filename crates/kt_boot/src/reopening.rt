@@ -5,7 +5,7 @@ ghost use Rattle.kt_journal.specs.Log.{IsLog};
 ghost use Rattle.kt_schema.specs.Columns.{fill_of};
 ghost use Rattle.kt_pool.specs.Contents.{at_cell, used, free};
 ghost use Rattle.kt_memrowset.specs.Stores.{IsStore, store_of, Owns, number_of, is_frozen};
-ghost use Rattle.kt_boot.specs.Opening.{opened};
+ghost use Rattle.kt_boot.specs.Opening.{opening_in};
 ghost use Rattle.kt_boot.specs.Reopening.{mem_number, needs_of, IsReopened};
 
 use crate::needs::needs_of;
@@ -75,7 +75,7 @@ pub fn reopen(
     ensures log { IfOk result (λ r. IsLog (records.now ++ r.queued)) }
 
     // It is refused for the reason for which its content is, unless memory fails.
-    ensures refused { IfErr result (λ no. no ≢ Why.Memory → opened (fill_of schema.now) (Ok records.now) ≡ Err no) }
+    ensures refused { IfErr result (λ no. no ≢ Why.Memory → opening_in (fill_of schema.now) (Ok records.now) ≡ Err no) }
     ensures no_fault { IfErr result (λ no. no ≢ Why.Fault) }
 {
     let last = last_of(records);

@@ -1,15 +1,19 @@
 //! Opening a tablet.
-ghost use Rattle.std.specs.Prelude.{◌≡◌, ◌≢◌, ◌≤◌, ◌<◌, ◌+◌, ◌^◌, length, IsTrue, false, Ok, Err, IfOk, IfErr, None, []};
+ghost use Rattle.std.specs.Prelude.{◌≡◌, ◌≢◌, ◌≤◌, ◌<◌, ◌+◌, ◌^◌, ℕ, length, IsTrue, false, Ok, Err, IfOk, IfErr, None, []};
+ghost use Rattle.std.specs.List.{Contains};
 ghost use Rattle.kt_base.specs.Causes.{Rose};
 ghost use Rattle.kt_disk.specs.Disk.{LeavesOnly};
-ghost use Rattle.kt_journal.specs.Log.{CanOpen};
+ghost use Rattle.kt_records.specs.Numbers.{all_numbers};
+ghost use Rattle.kt_journal.specs.Frames.{IsFrom};
+ghost use Rattle.kt_journal.specs.Log.{log_of, CanOpen};
 ghost use Rattle.kt_schema.specs.Columns.{fill_of};
 ghost use Rattle.kt_history.specs.History.{Past};
+ghost use Rattle.kt_history.specs.declared.target.Target.TheVariants.{Mem};
 ghost use Rattle.kt_loglaws.specs.Laws.{LogHolds};
 ghost use Rattle.kt_pool.specs.Contents.{free};
 ghost use Rattle.kt_tablet.specs.Views.{work_of};
 ghost use Rattle.kt_engine.specs.Engines.{IsContent};
-ghost use Rattle.kt_boot.specs.Opening.{content, HasContentOf};
+ghost use Rattle.kt_boot.specs.Opening.{opening_of, HasContentOf};
 ghost use Rattle.kt_boot.specs.Refusal.{refusal_of};
 ghost use Rattle.kt_boot.specs.Reopening.{mem_number, needs_of, owed};
 
@@ -69,7 +73,7 @@ pub fn open_tablet<L: Disk, D, C: Clock>(
     requires openable { IsTrue L.tells → CanOpen L.now L.leaves log }
 
     // What the log holds is what the engine goes on from.
-    ensures found { IfOk result (λ engine. (past : Past) × IsContent engine past × (IsTrue L.tells → content (fill_of schema.now) (L.seen log) ≡ Ok (record { past = past; last = engine.tablet.core.opened }))) }
+    ensures found { IfOk result (λ engine. (past : Past) × IsContent engine past × (IsTrue L.tells → opening_of (fill_of schema.now) (L.seen log) ≡ Ok (record { past = past; last = engine.tablet.core.opened }))) }
     ensures low { IfOk result (λ engine. engine.tablet.core.opened < 2 ^ 63) }
 
     // Nothing has happened yet.
@@ -79,18 +83,33 @@ pub fn open_tablet<L: Disk, D, C: Clock>(
     ensures clock { IfOk result (λ engine. (engine.tablet.clock ≡ clock) × (engine.tablet.opened ≡ clock)) }
     ensures devices { IfOk result (λ engine. (engine.log.holder ≡ None) × (engine.device ≡ log) × (engine.store ≡ store)) }
 
+    // Its records are those of the log. Its MemRowSet has the greatest number of one that a COMMIT of them names, and at least 1, so
+    // whatever bounds the numbers that they name bounds it.
+    ensures records { IfOk result (λ engine. IsTrue L.tells → log_of (L.seen log) ≡ Ok engine.records) }
+    ensures target { IfOk result (λ engine. engine.tablet.target ≡ Mem (mem_number engine.records)) }
+    ensures number { IfOk result (λ engine. (bound : ℕ) → 1 ≤ bound → ((n : ℕ) → Contains (all_numbers engine.records) n → n ≤ bound) → mem_number engine.records ≤ bound) }
+
     // A COMMIT waits for the log for each write above 0 without one. So many cells are free beside those of the rows.
     ensures owes { IfOk result (λ engine. (whole : Past) × LogHolds (fill_of schema.now) engine.records whole × (engine.log.queued ≡ owed (fill_of schema.now) (mem_number engine.records) engine.records whole engine.records)) }
     ensures room { IfOk result (λ engine. (length engine.tablet.pool.places ≡ cells + needs_of engine.records engine.records) × (engine.tablet.pool.reserved ≡ 0) × (cells ≤ free engine.tablet.pool)) }
 
     // It is refused exactly where its content is, and for that reason, unless the device or memory fail.
-    ensures refused { IfErr result (λ e. e.why ≢ Why.Fault → e.why ≢ Why.Memory → IsTrue L.tells → content (fill_of schema.now) (L.seen log) ≡ Err e.why) }
+    ensures refused { IfErr result (λ e. e.why ≢ Why.Fault → e.why ≢ Why.Memory → IsTrue L.tells → opening_of (fill_of schema.now) (L.seen log) ≡ Err e.why) }
     ensures fault { IfErr result (λ e. e.why ≡ Why.Fault → Rose (L.faults log) (L.faults e.log)) }
     ensures faults { IfErr result (λ e. L.faults log ≤ L.faults e.log) }
     ensures back { IfErr result (λ e. (e.store ≡ store) × (e.clock ≡ clock)) }
 
-    // The device may be opened again, and a crash at any moment of the call leaves the content of an image from before it.
+    // The device may be opened again.
     ensures openable { IfErr result (λ e. IsTrue L.tells → CanOpen L.now L.leaves e.log) }
+
+    // Whatever the answer, all files but the log's read as before, and a crash at any moment of the call leaves the frames of the log,
+    // and all other files, of one image from before it.
+    ensures others_ok { IfOk result (λ engine. IsTrue L.tells → (n : ℕ) → n ≢ 1 → L.seen engine.log.known.disk n ≡ L.seen log n) }
+    ensures others { IfErr result (λ e. IsTrue L.tells → (n : ℕ) → n ≢ 1 → L.seen e.log n ≡ L.seen log n) }
+    ensures frames_ok { IfOk result (λ engine. IsTrue L.tells → LeavesOnly L.now L.leaves (IsFrom L.now L.leaves 1 log) log engine.log.known.disk) }
+    ensures frames { IfErr result (λ e. IsTrue L.tells → LeavesOnly L.now L.leaves (IsFrom L.now L.leaves 1 log) log e.log) }
+
+    // So it leaves the content of that image, to which opening gives the same answer.
     ensures any_moment_ok { IfOk result (λ engine. IsTrue L.tells → LeavesOnly L.now L.leaves (HasContentOf L.now L.leaves (fill_of schema.now) log) log engine.log.known.disk) }
     ensures any_moment { IfErr result (λ e. IsTrue L.tells → LeavesOnly L.now L.leaves (HasContentOf L.now L.leaves (fill_of schema.now) log) log e.log) }
 {
