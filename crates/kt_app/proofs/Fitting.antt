@@ -30,7 +30,9 @@ use Rattle.kt_records.specs.Rules.{EachAfter, CellFits, FollowingCell, next_id, 
 use Rattle.kt_records.specs.Spelling.{operation}
 use Rattle.kt_records.proofs.Lengths.{length-operation}
 use Rattle.kt_script.specs.Columns.{counts_from}
-use Rattle.kt_script.specs.Writes.{twice}
+use Rattle.kt_script.specs.declared.forms.OpForm.{OpForm}
+use Rattle.kt_script.specs.declared.forms.OpForm.TheVariants as form
+use Rattle.kt_script.specs.Writes.{twice, op_form}
 use Rattle.kt_script.specs.Fit.{fits_column, is_part, cells_fit, OpFits, WriteFits}
 use Rattle.kt_app.specs.Session.{IsCounted}
 
@@ -194,18 +196,21 @@ none_cells : (cells : List (ℕ × Cell)) → (length cells == 0) ≡ true → c
 none_cells [] h = refl
 none_cells (x ∷ cells) h = absurd (let zero_len : suc (length cells) ≡ 0 = grind (arith, nat_tests) in omega (arith, zero_len))
 
--- the cells of each kind of operation are some of the columns'
-is_some_part : (others : List Column) (k : OpKind) (cells : List (ℕ × Cell)) → cells_fit others k cells ≡ true → is_part others cells ≡ true
-is_some_part others op.Insert cells h = left _ _ h
-is_some_part others op.Upsert cells h = left _ _ h
-is_some_part others op.Update cells h = left _ _ h
-is_some_part others op.Delete cells h = let none = none_cells cells h in rw none refl
+-- the cells of each form of operation are some of the columns'
+is_some_part : (others : List Column) (f : OpForm) (cells : List (ℕ × Cell)) → cells_fit others f cells ≡ true → is_part others cells ≡ true
+is_some_part others form.Literals cells h = left _ _ h
+is_some_part others form.RowNames cells h = left _ _ h
+is_some_part others form.Names cells h = left _ _ h
+is_some_part others form.Key cells h = let none = none_cells cells h in rw none refl
 
-may : (others : List Column) (k : OpKind) (cells : List (ℕ × Cell)) → cells_fit others k cells ≡ true → may_list k (length cells) ≡ true
+may : (others : List Column) (k : OpKind) (cells : List (ℕ × Cell)) → cells_fit others (op_form k) cells ≡ true → may_list k (length cells) ≡ true
 may others op.Insert cells h = refl
 may others op.Upsert cells h = refl
 may others op.Update cells h = refl
 may others op.Delete cells h = h
+may others op.InsertIgnore cells h = refl
+may others op.UpdateIgnore cells h = refl
+may others op.DeleteIgnore cells h = h
 
 module _ (columns : List Column) (counted : IsCounted columns) where
   others_rise : Rises 1 301 (other_columns columns)
@@ -215,7 +220,7 @@ module _ (columns : List Column) (counted : IsCounted columns) where
   others_few = omega (arith, some_few (λ c. not c.key) columns, counted.few)
 
   part : (o : RowOp) → OpFits columns o → Part 301 (other_columns columns) [] o.cells
-  part o fits = part_of 301 1 (other_columns columns) [] o.cells (omega arith) others_rise (omega arith) (is_some_part (other_columns columns) o.kind o.cells fits.cells)
+  part o fits = part_of 301 1 (other_columns columns) [] o.cells (omega arith) others_rise (omega arith) (is_some_part (other_columns columns) (op_form o.kind) o.cells fits.cells)
 
   op_short : (o : RowOp) → OpFits columns o → op_len o ≤ 19679289
   op_short o fits = omega (arith, fits.short, (part o fits).short, others_few)

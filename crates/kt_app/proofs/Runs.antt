@@ -26,13 +26,13 @@ use Rattle.kt_journal.specs.Log.{log_of, CanOpen}
 use Rattle.kt_journal.specs.Open.{JournalView}
 use Rattle.kt_loglaws.specs.Replay.{last_of}
 use Rattle.kt_histlaws.specs.Core.{Core, Stands, run_past}
-use Rattle.kt_boot.specs.Opening.{held_in, held_by, found_or_late}
+use Rattle.kt_boot.specs.Opening.{content_in, content_of, found_or_late}
 use Rattle.kt_tablet.specs.Views.{IsSound, Opens, work_of}
 use Rattle.kt_engine.specs.Logged as logged
-use Rattle.kt_engine.specs.Engines.{EngineView, IsContent, IsHome, core_from, Recovers, RecoversAll}
+use Rattle.kt_engine.specs.Engines.{EngineView, IsContent, KeepsOthers, IsHome, core_from, Recovers, RecoversAll}
 use Rattle.kt_loglaws.specs.Fronts.{upto}
 use Rattle.kt_app.specs.Headline.{IsOutput, IsAnswered, AreAnswered, shown_from, all_shown, replies_in, end_line, end_of}
-use Rattle.kt_app.specs.Crash.{Ran, Kept, HoldsOf, HoldsPrefix}
+use Rattle.kt_app.specs.Crash.{Image, CrashLeaves, NamesMore, Ran, Kept, HoldsPrefix, HoldsAll}
 use Rattle.kt_app.specs.Session.{on_table}
 use Rattle.kt_app.specs.Turns.{Root, root_of, IsOn, IsFresh, HasPlayed, given, reply_in, end_of_run}
 
@@ -91,9 +91,9 @@ has_one (x ∷ xs) (suc k) less = has_one xs k (omega arith)
 
 -- ---- an image
 
-held_now : (fill : Row) (image : Files) (records : List Entry) (past : Past) → log_of image ≡ Ok records → logged.Recalls fill records past → held_by fill image ≡ Ok (record { past = past; last = last_of records })
+held_now : (fill : Row) (image : Files) (records : List Entry) (past : Past) → log_of image ≡ Ok records → logged.Recalls fill records past → content_of fill image ≡ Ok (record { past = past; last = last_of records })
 held_now fill image records past reads (whole, holds, is) =
-    ap (held_in fill) reads ∙ ap (found_or_late records) holds ∙ ap (λ p. Ok (record { past = p; last = last_of records })) (sym is)
+    ap (content_in fill) reads ∙ ap (found_or_late records) holds ∙ ap (λ p. Ok (record { past = p; last = last_of records })) (sym is)
 
 -- What an engine keeps of its run, whatever was printed of it.
 module _ {L D C : Type 0} (readings : C → Option (List ℕ)) (tells : Bool) (now : L → ℕ) (leaves : L → ℕ → Files → Type 0) (view : EngineView L D C) (first : Past) (content : IsContent view first) (sound : IsSound readings view.tablet) where
@@ -104,19 +104,18 @@ module _ {L D C : Type 0} (readings : C → Option (List ℕ)) (tells : Bool) (n
   its_lines = view.tablet.core.trail
 
   prefix : Recovers tells now leaves view → (journal : JournalView L) → view.log.home ≡ Some journal → IsTrue tells → (image : Files) → leaves journal.disk (now journal.disk) image
-      → HoldsPrefix its_work first view.tablet.core.opened its_lines (held_by its_work.fill image)
+      → HoldsPrefix its_work first view.tablet.core.opened its_lines (content_of its_work.fill image)
   prefix front journal home told image left =
       let h = front first content told journal home image left in
-      record { t = h.t; after_opening = h.after_opening; acknowledged = h.acknowledged; last = last_of h.records; holds = held_now its_work.fill image h.records (upto h.t (run_past (core_from view first))) h.reads h.holds }
+      record { t = h.t; after_opening = h.after_opening; acknowledged = h.acknowledged; last = last_of h.records; not_later = h.last; within = omega (arith, ap (λ (st : State). st.c) (sound.stands first content.opens).run.state, h.within); holds = held_now its_work.fill image h.records (upto h.t (run_past (core_from view first))) h.reads h.holds }
 
   pub kept_here : (clock ticked : C) (disk : L) → view.tablet.opened ≡ clock → ticked ≡ view.tablet.clock → Recovers tells now leaves view
       → (journal : JournalView L) × (view.log.home ≡ Some journal) × (disk ≡ journal.disk)
-      → Kept readings clock ticked tells now leaves disk its_work first view.tablet.core.opened
+      → Kept (Grows (readings clock) (readings ticked)) (CrashLeaves tells now leaves disk) its_work first view.tablet.core.opened its_lines
   kept_here clock ticked disk began ticked_is front (journal, home, disk_is) = record {
-    events = its_lines;
     run = (sound.stands first content.opens).run.is_run;
-    given = subst (λ x. Grows (readings clock) (readings x) (readings_of its_lines)) (sym ticked_is) (subst (λ x. Grows (readings x) (readings view.tablet.clock) (readings_of its_lines)) began sound.clock);
-    crash = λ told image left. prefix front journal home told image (subst (λ d. leaves d (now d) image) disk_is left);
+    clock = subst (λ x. Grows (readings clock) (readings x) (readings_of its_lines)) (sym ticked_is) (subst (λ x. Grows (readings x) (readings view.tablet.clock) (readings_of its_lines)) began sound.clock);
+    crash = λ image left. prefix front journal home left.0 image (subst (λ d. leaves d (now d) image) disk_is left.1);
   }
 
 module _ {L D C : Type 0} (readings : C → Option (List ℕ)) (tells : Bool) (now : L → ℕ) (leaves : L → ℕ → Files → Type 0) (view : EngineView L D C) (columns : List Column) (plan : List (List Command)) (stopped : Bool) (replies : List (List Reply)) (first : Past)
@@ -174,23 +173,20 @@ module _ {L D C : Type 0} (readings : C → Option (List ℕ)) (tells : Bool) (n
     printed = text_is ∙ (λ t. output_text (sym replies_are t) events (sym (end_is a l a_is l_is) t));
   }
 
-  crash : (b : Bool) → stopped ≡ b → Recovers tells now leaves view → RecoversAll tells now leaves view → (journal : JournalView L) → view.log.home ≡ Some journal → IsTrue tells → (image : Files) → leaves journal.disk (now journal.disk) image
-      → HoldsOf b work first c events (held_by work.fill image)
-  crash true is front whole journal home told image left = prefix readings tells now leaves view first content sound front journal home told image left
-  crash false is front whole journal home told image left =
-      let h = whole first content (played.ended ∙ is) (played.empty is) told journal home image left in
-      record { last = last_of h.records; holds = held_now work.fill image h.records (run_past core) h.reads h.holds }
+  all_kept : stopped ≡ false → RecoversAll tells now leaves view → (journal : JournalView L) → view.log.home ≡ Some journal → IsTrue tells → (image : Files) → leaves journal.disk (now journal.disk) image
+      → HoldsAll work first c events (content_of work.fill image)
+  all_kept going whole journal home told image left =
+      let h = whole first content (played.ended ∙ going) (played.empty going) told journal home image left in
+      record { last = last_of h.records; within = omega (arith, ap (λ (st : State). st.c) stands.run.state, h.last); holds = held_now work.fill image h.records (run_past core) h.reads h.holds }
 
   pub ran_here : (clock ticked : C) (disk : L) (a l : ℕ) (text : List ℕ) → view.tablet.opened ≡ clock → ticked ≡ view.tablet.clock → Recovers tells now leaves view → RecoversAll tells now leaves view
       → (journal : JournalView L) × (view.log.home ≡ Some journal) × (disk ≡ journal.disk)
       → a ≡ view.tablet.core.a → l ≡ view.tablet.core.c → OutputFits printed events (end_of_run stopped a l) → text ≡ output_text printed events (end_of_run stopped a l)
-      → Ran readings clock ticked tells now leaves disk work first c stopped text
+      → Ran (Grows (readings clock) (readings ticked)) (CrashLeaves tells now leaves disk) work first c events stopped text
   ran_here clock ticked disk a l text began ticked_is front whole (journal, home, disk_is) a_is l_is fits text_is = record {
-    readings = readings_of events;
-    given = subst (λ x. Grows (readings clock) (readings x) (readings_of events)) (sym ticked_is) (subst (λ x. Grows (readings x) (readings view.tablet.clock) (readings_of events)) began sound.clock);
-    events = events;
+    kept = kept_here readings tells now leaves view first content sound clock ticked disk began ticked_is front (journal, home, disk_is);
     output = output a l text a_is l_is fits text_is;
-    crash = λ told image left. crash stopped refl front whole journal home told image (subst (λ d. leaves d (now d) image) disk_is left);
+    whole = λ going image left. all_kept going whole journal home left.0 image (subst (λ d. leaves d (now d) image) disk_is left.1);
   }
 
 -- the engine with another plan
@@ -233,12 +229,15 @@ module _ {L D C : Type 0} (old view : EngineView L D C) (columns : List Column) 
 -- A run of a plan on it, and what a crash leaves.
 pub kept_of : {L D C : Type 0} (readings : C → Option (List ℕ)) (tells : Bool) (now : L → ℕ) (leaves : L → ℕ → Files → Type 0) (old view : EngineView L D C) (columns : List Column) (plan : List (List Command)) (first : Past)
     → IsFresh old → IsOn columns old.tablet.core.work → root_of view ≡ root_of (with_plan old plan) → IsContent old first → IsSound readings view.tablet
-    → (ticked : C) (disk : L) → ticked ≡ view.tablet.clock → Recovers tells now leaves view → (journal : JournalView L) × (view.log.home ≡ Some journal) × (disk ≡ journal.disk)
-    → Kept readings old.tablet.clock ticked tells now leaves disk (workload old.tablet.core.work.cells (record { columns = columns; plan = plan })) first old.tablet.core.opened
-kept_of readings tells now leaves old view columns plan first fresh on root content sound ticked disk ticked_is front home =
+    → (ticked : C) (disk : L) (lines : List Event) → ticked ≡ view.tablet.clock → lines ≡ view.tablet.core.trail → Recovers tells now leaves view → (journal : JournalView L) × (view.log.home ≡ Some journal) × (disk ≡ journal.disk)
+    → Kept (Grows (readings old.tablet.clock) (readings ticked)) (CrashLeaves tells now leaves disk) (workload old.tablet.core.work.cells (record { columns = columns; plan = plan })) first old.tablet.core.opened lines
+kept_of readings tells now leaves old view columns plan first fresh on root content sound ticked disk lines ticked_is lines_are front home =
+    let gave = Grows (readings old.tablet.clock) (readings ticked) in
+    let after = CrashLeaves tells now leaves disk in
     let kept = kept_here readings tells now leaves view first (content_view old view columns plan first fresh on root content) sound old.tablet.clock ticked disk (clock_is old view columns plan first fresh on root content) ticked_is front home in
-    subst (λ (w : Workload). Kept readings old.tablet.clock ticked tells now leaves disk w first old.tablet.core.opened) (work_is old view columns plan first fresh on root content)
-    (subst (λ (n : ℕ). Kept readings old.tablet.clock ticked tells now leaves disk view.tablet.core.work first n) (opened_is old view columns plan first fresh on root content) kept)
+    subst (λ (w : Workload). Kept gave after w first old.tablet.core.opened lines) (work_is old view columns plan first fresh on root content)
+    (subst (λ (n : ℕ). Kept gave after view.tablet.core.work first n lines) (opened_is old view columns plan first fresh on root content)
+    (subst (Kept gave after view.tablet.core.work first view.tablet.core.opened) (sym lines_are) kept))
 
 -- What was printed of it.
 module _ {L D C : Type 0} (readings : C → Option (List ℕ)) (tells : Bool) (now : L → ℕ) (leaves : L → ℕ → Files → Type 0) (old view : EngineView L D C) (columns : List Column) (plan : List (List Command)) (stopped : Bool) (replies : List (List Reply)) (first : Past)
@@ -247,15 +246,18 @@ module _ {L D C : Type 0} (readings : C → Option (List ℕ)) (tells : Bool) (n
       → (journal : JournalView L) × (view.log.home ≡ Some journal) × (disk ≡ journal.disk)
       → a ≡ view.tablet.core.a → l ≡ view.tablet.core.c → lines ≡ view.tablet.core.trail → shown ≡ plan
       → OutputFits (all_shown (on_table columns) (given replies) 1 shown) lines (end_of_run stopped a l) → text ≡ output_text (all_shown (on_table columns) (given replies) 1 shown) lines (end_of_run stopped a l)
-      → Ran readings old.tablet.clock ticked tells now leaves disk (workload old.tablet.core.work.cells (record { columns = columns; plan = plan })) first old.tablet.core.opened stopped text
+      → Ran (Grows (readings old.tablet.clock) (readings ticked)) (CrashLeaves tells now leaves disk) (workload old.tablet.core.work.cells (record { columns = columns; plan = plan })) first old.tablet.core.opened lines stopped text
   ran_of ticked disk a l lines shown text ticked_is front whole home a_is l_is lines_are shown_is fits text_is =
       let here : (p : List (List Command)) (events : List Event) → Type 0 = λ p events. OutputFits (all_shown (on_table columns) (given replies) 1 p) events (end_of_run stopped a l) in
       let ran = ran_here readings tells now leaves view columns plan stopped replies first (on_view old view columns plan first fresh on root content) (plan_is old view columns plan first fresh on root content) (content_view old view columns plan first fresh on root content) sound played
       old.tablet.clock ticked disk a l text (clock_is old view columns plan first fresh on root content) ticked_is front whole home a_is l_is
       (subst (λ p. here p view.tablet.core.trail) shown_is (subst (λ events. here shown events) lines_are fits))
       (text_is ∙ (λ t. output_text (all_shown (on_table columns) (given replies) 1 (shown_is t)) (lines_are t) (end_of_run stopped a l))) in
-      subst (λ (w : Workload). Ran readings old.tablet.clock ticked tells now leaves disk w first old.tablet.core.opened stopped text) (work_is old view columns plan first fresh on root content)
-      (subst (λ (n : ℕ). Ran readings old.tablet.clock ticked tells now leaves disk view.tablet.core.work first n stopped text) (opened_is old view columns plan first fresh on root content) ran)
+      let gave = Grows (readings old.tablet.clock) (readings ticked) in
+      let after = CrashLeaves tells now leaves disk in
+      subst (λ (w : Workload). Ran gave after w first old.tablet.core.opened lines stopped text) (work_is old view columns plan first fresh on root content)
+      (subst (λ (n : ℕ). Ran gave after view.tablet.core.work first n lines stopped text) (opened_is old view columns plan first fresh on root content)
+      (subst (λ (es : List Event). Ran gave after view.tablet.core.work first view.tablet.core.opened es stopped text) (sym lines_are) ran))
 
 -- The log's device, as a run of a plan gives it back.
 module _ {L D C : Type 0} {tells : Bool} {seen : L → Files} {now : L → ℕ} {leaves : L → ℕ → Files → Type 0} {faults : L → ℕ} (old view : EngineView L D C) (plan : List (List Command)) (disk : L) (root : root_of view ≡ root_of (with_plan old plan))
@@ -265,6 +267,15 @@ module _ {L D C : Type 0} {tells : Bool} {seen : L → Files} {now : L → ℕ} 
 
   pub opens_again : IsTrue tells → CanOpen now leaves disk
   opens_again told = subst (CanOpen now leaves) (sym home.2) ((at_home home.0 home.1).opens told)
+
+  pub keeps_others : IsTrue tells → KeepsOthers now leaves old.device disk
+  keeps_others told = subst (KeepsOthers now leaves old.device) (sym home.2) (subst (λ d. KeepsOthers now leaves d home.0.disk) device_is ((at_home home.0 home.1).others told))
+
+  pub names_more : Recovers tells now leaves view → (first : Past) → IsContent view first → (image : Image) → CrashLeaves tells now leaves disk image → NamesMore old.records old.tablet.target image
+  names_more front first content image left =
+      let h = front first content left.0 home.0 home.1 image (subst (λ d. leaves d (now d) image) home.2 left.1) in
+      let more : NamesMore view.records view.tablet.target image = record { run = h.run; reads = h.reads ∙ ap Ok h.front; names = h.names } in
+      subst (λ (r : Root L D C). NamesMore r.records r.target image) root more
 
   pub no_fault_less : faults old.device ≤ faults disk
   no_fault_less = subst (λ d. faults old.device ≤ faults d) (sym home.2) (subst (λ d. faults d ≤ faults home.0.disk) device_is (at_home home.0 home.1).later)

@@ -53,9 +53,9 @@ pub runs_script : (left : Option (List ℕ)) (s : Said) (P : List ℕ → Said �
 runs_script None s P Q is run = tt
 runs_script (Some script) s P Q is run = (run.0, (s, is, run.1), run.2)
 
-pub stops_script : (left : Option (List ℕ)) (s : Said) (P : Bool → Said → Type 0) → IsSaid left s → (stopped : Bool) × P stopped s → IfSome left (λ script. (stopped : Bool) × ((said : Said) × (script_of script ≡ Some said) × P stopped said))
-stops_script None s P is run = tt
-stops_script (Some script) s P is run = (run.0, (s, is, run.1))
+pub stops_script : (left : Option (List ℕ)) (s : Said) (P : Bool → Said → Type 0) (Q : Bool → Type 0) → IsSaid left s → (stopped : Bool) × P stopped s × Q stopped → IfSome left (λ script. (stopped : Bool) × ((said : Said) × (script_of script ≡ Some said) × P stopped said) × Q stopped)
+stops_script None s P Q is run = tt
+stops_script (Some script) s P Q is run = (run.0, (s, is, run.1), run.2)
 
 pub either : {A B X : Type 0} → (A → X) → (B → X) → A ⊎ B → X
 either f g (inl a) = f a

@@ -1,9 +1,12 @@
 -- A run over a log, what a crash leaves of it, and the texts of the statuses.
-use Rattle.std.specs.Prelude.{◌≡◌, ◌⊎◌, ℕ, ◌≤◌, Bool, true, false, IsTrue, max, List, [], ◌∷◌, Option, Some, IfSome, Result, Ok, codes}
-use Rattle.std.specs.List.{sum_by}
+use Rattle.std.specs.Prelude.{◌≡◌, ◌≢◌, ◌⊎◌, ◌++◌, ℕ, ◌≤◌, Bool, false, IsTrue, max, List, [], ◌∷◌, Option, Some, IfSome, Result, Ok, Err, codes}
+use Rattle.std.specs.List.{All, sum_by}
 use Rattle.std.specs.Fmt.{decimal}
-use Rattle.kt_base.specs.Causes.{Grows}
 use Rattle.kt_disk.specs.Disk.{Files}
+use Rattle.kt_records.specs.declared.entry.Entry.{Entry}
+use Rattle.kt_journal.specs.Frames.{frames_of}
+use Rattle.kt_journal.specs.Log.{log_of}
+use Rattle.kt_history.specs.declared.target.Target.{Target}
 use Rattle.kt_history.specs.declared.command.Command.{Command}
 use Rattle.kt_history.specs.declared.command.Command.TheVariants as command
 use Rattle.kt_history.specs.declared.event.Event.{Event}
@@ -15,32 +18,43 @@ use Rattle.kt_history.specs.Replies.{past_after}
 use Rattle.kt_schema.specs.Columns.{fill_of}
 use Rattle.kt_script.specs.Scripts.{Said, Fault, script_of, fault_of, workload}
 use Rattle.kt_script.specs.Texts.{line, words}
-use Rattle.kt_boot.specs.Opening.{Found, content, held_by, HasContentOf}
+use Rattle.kt_boot.specs.Opening.{Found, content_of, opening_of}
 use Rattle.kt_boot.specs.declared.opening.Why.{Why}
 use Rattle.kt_boot.specs.declared.opening.Why.TheVariants as no
 use Rattle.kt_app.specs.declared.top.SourceNo.{SourceNo}
 use Rattle.kt_app.specs.declared.top.SourceNo.TheVariants as why
 use Rattle.kt_loglaws.specs.Fronts.{upto}
-use Rattle.kt_engine.specs.Logged.{AcknowledgedBy}
-use Rattle.kt_app.specs.Headline.{IsOutput}
+use Rattle.kt_engine.specs.Logged.{AcknowledgedBy, NamesOnly}
+use Rattle.kt_app.specs.Headline.{IsOutput, end_of}
 
--- An image holds the opening past with the first writes of the run, every acknowledged one among them.
+-- What a crash leaves of the devices: the files of the log.
+abbrev pub Image : Type 0
+Image = Files
+
+-- the images that a crash now may leave of a device, where it tells them
+abbrev pub CrashLeaves : {L : Type 0} → Bool → (L → ℕ) → (L → ℕ → Files → Type 0) → L → Image → Type 0
+CrashLeaves tells now leaves disk image = IsTrue tells × leaves disk (now disk) image
+
+-- the files that a read of a device gives, where it tells them
+abbrev pub IsRead : {L : Type 0} → Bool → (L → Files) → L → Image → Type 0
+IsRead tells seen disk image = IsTrue tells × (image ≡ seen disk)
+
+-- An image holds the opening past with the run's writes up to a time, every acknowledged one among them, and no record later than that
+-- time or than the run's last timestamp.
 pub record HoldsPrefix (work : Workload) (past : Past) (c : ℕ) (events : List Event) (held : Result Found Why) : Type 0 where
   pub t : ℕ
   pub after_opening : c ≤ t
   pub acknowledged : AcknowledgedBy t events
   pub last : ℕ
+  pub not_later : last ≤ t
+  pub within : last ≤ (end_of work past c events).c
   pub holds : held ≡ Ok (record { past = upto t (past_after work past c events); last = last })
 
 -- It holds the opening past with all writes of the run.
 pub record HoldsAll (work : Workload) (past : Past) (c : ℕ) (events : List Event) (held : Result Found Why) : Type 0 where
   pub last : ℕ
+  pub within : last ≤ (end_of work past c events).c
   pub holds : held ≡ Ok (record { past = past_after work past c events; last = last })
-
--- what an image holds after a run that was stopped, or ran to its end
-abbrev pub HoldsOf : Bool → Workload → Past → ℕ → List Event → Result Found Why → Type 0
-HoldsOf true = HoldsPrefix
-HoldsOf false = HoldsAll
 
 -- how many cells of the pool a command needs
 abbrev pub need_of : Command → ℕ
@@ -57,33 +71,38 @@ pool_of plan = max 1024 (sum_by (λ (commands : List Command). sum_by need_of co
 abbrev pub work_of : Said → Workload
 work_of said = workload (pool_of said.plan) said
 
--- The text is the output text of a run of the plan from a past, in which the clock gave what it gave since then, and a
--- crash now leaves what the run made of the past.
-pub record Ran {C L : Type 0} (told : C → Option (List ℕ)) (clock ticked : C) (tells : Bool) (now : L → ℕ) (leaves : L → ℕ → Files → Type 0) (disk : L) (work : Workload) (past : Past) (c : ℕ) (stopped : Bool) (text : List ℕ) : Type 0 where
-  pub readings : List ℕ
-  pub given : Grows (told clock) (told ticked) readings
-  pub events : List Event
-  pub output : IsOutput work past c stopped text readings events
-  pub crash : IsTrue tells → (image : Files) → leaves disk (now disk) image → HoldsOf stopped work past c events (held_by work.fill image)
-
--- What was run of the workload from a past is a run, in which the clock gave what it gave since then, and a crash now leaves
--- the first of its writes, whatever was printed.
-pub record Kept {C L : Type 0} (told : C → Option (List ℕ)) (clock ticked : C) (tells : Bool) (now : L → ℕ) (leaves : L → ℕ → Files → Type 0) (disk : L) (work : Workload) (past : Past) (c : ℕ) : Type 0 where
-  pub events : List Event
+-- These lines are a run of the workload from a past, in which the clock gave what was read, and each image after it holds the first of
+-- its writes, whatever was printed.
+pub record Kept (gave : List ℕ → Type 0) (after : Image → Type 0) (work : Workload) (past : Past) (c : ℕ) (events : List Event) : Type 0 where
   pub run : IsRun work past c events
-  pub given : Grows (told clock) (told ticked) (readings_of events)
-  pub crash : IsTrue tells → (image : Files) → leaves disk (now disk) image → HoldsPrefix work past c events (held_by work.fill image)
+  pub clock : gave (readings_of events)
+  pub crash : (image : Image) → after image → HoldsPrefix work past c events (content_of work.fill image)
 
--- The same over what a log held.
-pub record RunsPlan {C L : Type 0} (told : C → Option (List ℕ)) (clock ticked : C) (tells : Bool) (seen : L → Files) (now : L → ℕ) (leaves : L → ℕ → Files → Type 0) (log logged : L) (work : Workload) (stopped : Bool) (text : List ℕ) : Type 0 where
+-- The text is the output text of that run, and where it was not stopped each image after it holds all its writes.
+pub record Ran (gave : List ℕ → Type 0) (after : Image → Type 0) (work : Workload) (past : Past) (c : ℕ) (events : List Event) (stopped : Bool) (text : List ℕ) : Type 0 where
+  pub kept : Kept gave after work past c events
+  pub output : IsOutput work past c stopped text (readings_of events) events
+  pub whole : stopped ≡ false → (image : Image) → after image → HoldsAll work past c events (content_of work.fill image)
+
+-- what was read at opening holds this
+abbrev pub Holds : Row → (Image → Type 0) → Past → ℕ → Type 0
+Holds fill found past c = (image : Image) → found image → opening_of fill image ≡ Ok (record { past = past; last = c })
+
+-- what was read at opening is refused for this reason
+abbrev pub Refuses : Row → (Image → Type 0) → Why → Type 0
+Refuses fill found reason = (image : Image) → found image → opening_of fill image ≡ Err reason
+
+-- The same over what the log held.
+pub record RunsPlan (gave : List ℕ → Type 0) (found after : Image → Type 0) (work : Workload) (stopped : Bool) (text : List ℕ) : Type 0 where
   pub past : Past
   pub c : ℕ
-  pub opening : IsTrue tells → content work.fill (seen log) ≡ Ok (record { past = past; last = c })
-  pub ran : Ran told clock ticked tells now leaves logged work past c stopped text
+  pub opening : Holds work.fill found past c
+  pub events : List Event
+  pub ran : Ran gave after work past c events stopped text
 
 -- and of the script
-abbrev pub RunsScript : {C L : Type 0} → (C → Option (List ℕ)) → C → C → Bool → (L → Files) → (L → ℕ) → (L → ℕ → Files → Type 0) → L → L → Bool → List ℕ → List ℕ → Type 0
-RunsScript told clock ticked tells seen now leaves log logged stopped script text = (said : Said) × (script_of script ≡ Some said) × RunsPlan told clock ticked tells seen now leaves log logged (work_of said) stopped text
+abbrev pub RunsScript : (List ℕ → Type 0) → (Image → Type 0) → (Image → Type 0) → Bool → List ℕ → List ℕ → Type 0
+RunsScript gave found after stopped script text = (said : Said) × (script_of script ≡ Some said) × RunsPlan gave found after (work_of said) stopped text
 
 -- the source's bytes, where it tells them, say this
 abbrev pub IsSaid : Option (List ℕ) → Said → Type 0
@@ -117,12 +136,22 @@ IsRefusal (no.B6 last) = Unit {0}
 IsRefusal no.Fault = ⊥
 IsRefusal no.Memory = ⊥
 
--- a crash now leaves the content of an image that a crash then might have left
-abbrev pub LeavesAsBefore : {L : Type 0} → Row → Bool → (L → ℕ) → (L → ℕ → Files → Type 0) → L → L → Type 0
-LeavesAsBefore fill tells now leaves old new = IsTrue tells → (image : Files) → leaves new (now new) image → HasContentOf now leaves fill old image
+-- each image after has the frames of the log, and all other files, of one before
+abbrev pub LeavesAsBefore : (Image → Type 0) → (Image → Type 0) → Type 0
+LeavesAsBefore before after = (image : Image) → after image → (old : Image) × before old × (frames_of 1 image ≡ frames_of 1 old) × ((n : ℕ) → n ≢ 1 → image n ≡ old n)
 
--- A crash now leaves what one before the call might have left, or the first writes of a run of the script over what the log held.
-abbrev pub LeavesFirst : {C L : Type 0} → (C → Option (List ℕ)) → C → C → Bool → (L → Files) → (L → ℕ) → (L → ℕ → Files → Type 0) → L → L → Said → Type 0
-LeavesFirst told clock ticked tells seen now leaves log logged said =
-    LeavesAsBefore (fill_of said.columns) tells now leaves log logged
-    ⊎ ((past : Past) × (c : ℕ) × (IsTrue tells → content (fill_of said.columns) (seen log) ≡ Ok (record { past = past; last = c })) × Kept told clock ticked tells now leaves logged (work_of said) past c)
+-- each image after has all files but the log's of one before
+abbrev pub KeepsFiles : (Image → Type 0) → (Image → Type 0) → Type 0
+KeepsFiles before after = (image : Image) → after image → (old : Image) × before old × ((n : ℕ) → n ≢ 1 → image n ≡ old n)
+
+-- an image has the records that opening found, and behind them some whose COMMITs name this store alone
+pub record NamesMore (found : List Entry) (target : Target) (image : Image) : Type 0 where
+  pub run : List Entry
+  pub reads : log_of image ≡ Ok (found ++ run)
+  pub names : All (NamesOnly target) run
+
+-- Each image after is as one before, or has the first writes of a run of the script over what the log held.
+abbrev pub LeavesFirst : (List ℕ → Type 0) → (Image → Type 0) → (Image → Type 0) → (Image → Type 0) → Said → Type 0
+LeavesFirst gave found before after said =
+    LeavesAsBefore before after
+    ⊎ ((past : Past) × (c : ℕ) × Holds (fill_of said.columns) found past c × (events : List Event) × Kept gave after (work_of said) past c events)

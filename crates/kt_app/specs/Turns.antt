@@ -7,6 +7,7 @@ use Rattle.kt_history.specs.declared.event.Event.{Event}
 use Rattle.kt_history.specs.declared.event.Event.TheVariants.{Stop}
 use Rattle.kt_history.specs.declared.operation.RowOp.{RowOp}
 use Rattle.kt_history.specs.declared.reply.Reply.{Reply}
+use Rattle.kt_history.specs.declared.target.Target.{Target}
 use Rattle.kt_script.specs.declared.output.LastLine.{LastLine}
 use Rattle.kt_script.specs.declared.output.LastLine.TheVariants.{Numbers, Stopped}
 use Rattle.kt_history.specs.History.{Past}
@@ -27,6 +28,7 @@ pub record Root (L D C : Type 0) : Type 0 where
   pub opening : List Store
   pub mark : ℕ
   pub records : List Entry
+  pub target : Target
   pub began : C
   pub device : L
   pub store : D
@@ -38,6 +40,7 @@ root_of view = record {
   opening = view.tablet.opening;
   mark = view.tablet.mark;
   records = view.records;
+  target = view.tablet.target;
   began = view.tablet.opened;
   device = view.device;
   store = view.store;

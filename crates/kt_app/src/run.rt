@@ -1,16 +1,16 @@
 //! A run of a plan on an engine that was opened, to its output text.
 ghost use Rattle.std.specs.Prelude.{◌≡◌, ◌<◌, ◌≤◌, [], IfSome, IfOk, IsTrue, None, false, true, List};
 ghost use Rattle.std.specs.List.{sum_by};
-ghost use Rattle.kt_base.specs.Causes.{Rose};
+ghost use Rattle.kt_base.specs.Causes.{Grows, Rose};
 ghost use Rattle.kt_journal.specs.Log.{CanOpen};
 ghost use Rattle.kt_history.specs.declared.command.Command.{Command};
 ghost use Rattle.kt_history.specs.History.{Past};
 ghost use Rattle.kt_history.specs.Machine.{first_turns};
 ghost use Rattle.kt_script.specs.Fit.{PlanFits};
 ghost use Rattle.kt_script.specs.Scripts.{workload};
-ghost use Rattle.kt_engine.specs.Engines.{IsContent};
+ghost use Rattle.kt_engine.specs.Engines.{IsContent, KeepsOthers};
 ghost use Rattle.kt_tablet.specs.Views.{unpromised};
-ghost use Rattle.kt_app.specs.Crash.{Ran, Kept, need_of};
+ghost use Rattle.kt_app.specs.Crash.{Image, CrashLeaves, NamesMore, Ran, Kept, need_of};
 ghost use Rattle.kt_app.specs.Session.{IsCounted};
 ghost use Rattle.kt_app.specs.Turns.{root_of, IsOn, IsFresh, Rests, HasPlayed};
 
@@ -82,11 +82,16 @@ pub fn run_plan<L: Disk, D, C: Clock, G: Gate>(
     // What was printed is the output text of a run of the plan from what opening found, in which the clock gave what it gave
     // in this call, and a crash now leaves what the run made of that.
     ensures run { IfSome result.0 (λ out. (first : Past) → IsContent engine first
-        → Ran C.readings engine.tablet.clock result.1.clock L.tells L.now L.leaves result.1.log (workload engine.tablet.core.work.cells (record { columns = schema.now; plan = plan.now })) first engine.tablet.core.opened out.stopped out.text) }
+        → Ran (Grows (C.readings engine.tablet.clock) (C.readings result.1.clock)) (CrashLeaves L.tells L.now L.leaves result.1.log) (workload engine.tablet.core.work.cells (record { columns = schema.now; plan = plan.now })) first engine.tablet.core.opened result.1.trail out.stopped out.text) }
 
-    // Whatever became of its text, a crash now leaves the first of its writes.
+    // Whatever became of its text, the lines that are handed back are a run, and a crash now leaves the first of its writes.
     ensures kept { (first : Past) → IsContent engine first
-        → Kept C.readings engine.tablet.clock result.1.clock L.tells L.now L.leaves result.1.log (workload engine.tablet.core.work.cells (record { columns = schema.now; plan = plan.now })) first engine.tablet.core.opened }
+        → Kept (Grows (C.readings engine.tablet.clock) (C.readings result.1.clock)) (CrashLeaves L.tells L.now L.leaves result.1.log) (workload engine.tablet.core.work.cells (record { columns = schema.now; plan = plan.now })) first engine.tablet.core.opened result.1.trail }
+
+    // It leaves all files but the log's as they were handed in, and behind the records that opening found those whose COMMITs
+    // name the engine's store alone.
+    ensures others { IsTrue L.tells → KeepsOthers L.now L.leaves engine.device result.1.log }
+    ensures named { (image : Image) → CrashLeaves L.tells L.now L.leaves result.1.log image → NamesMore engine.records engine.tablet.target image }
     ensures store { result.1.store ≡ engine.store }
     ensures openable { IsTrue L.tells → CanOpen L.now L.leaves result.1.log }
     ensures faults { L.faults engine.device ≤ L.faults result.1.log }

@@ -3,17 +3,18 @@
 ghost use Rattle.std.specs.Prelude.{◌≡◌, ◌≢◌, ◌⊎◌, ◌↔◌, IsTrue, ◌≤◌, ◌<◌, ◌++◌, ◌∷◌, [], Bool, true, false, Ok, Err, IfOk, IfErr, IfSome, Some, IsErrOf, codes, map, List, ℕ};
 ghost use Rattle.std.specs.Fmt.{decimal};
 ghost use Rattle.std.specs.Io.KnownBytes.{Appends};
-ghost use Rattle.kt_base.specs.Causes.{Rose};
+ghost use Rattle.kt_base.specs.Causes.{Grows, Rose};
 ghost use Rattle.kt_journal.specs.Log.{CanOpen};
 ghost use Rattle.kt_schema.specs.Columns.{fill_of};
 ghost use Rattle.kt_history.specs.History.{Past};
 ghost use Rattle.kt_script.specs.Fit.{PlanFits};
 ghost use Rattle.kt_script.specs.Scripts.{Said, Fault, script_of};
-ghost use Rattle.kt_boot.specs.Opening.{Found, content, opened};
+ghost use Rattle.kt_boot.specs.Opening.{Found, opening_of};
 ghost use Rattle.kt_app.specs.Headline.{IsNoScript, AreRun};
-ghost use Rattle.kt_app.specs.Crash.{work_of, pool_of, Ran, RunsPlan, RunsScript, IsSaid, IsFaultOf, IsRefused, fault_text, refusal_text, IsRefusal, LeavesAsBefore, Kept, LeavesFirst};
+ghost use Rattle.kt_app.specs.Crash.{Image, CrashLeaves, IsRead, KeepsFiles, NamesMore, work_of, pool_of, Ran, Refuses, RunsPlan, RunsScript, IsSaid, IsFaultOf, IsRefused, fault_text, refusal_text, IsRefusal, LeavesAsBefore, Kept, LeavesFirst};
 ghost use Rattle.kt_tablet.specs.Views.{unpromised};
-ghost use Rattle.kt_engine.specs.Engines.{IsContent};
+ghost use Rattle.kt_engine.specs.Engines.{IsContent, KeepsOthers};
+ghost use Rattle.kt_journal.specs.Numbers.{AreNear};
 ghost use Rattle.kt_app.specs.Session.{IsCounted};
 ghost use Rattle.kt_app.specs.Turns.{IsFresh, IsOn};
 ghost use Rattle.kt_app.specs.Outside.{Reads, WritesFront};
@@ -149,7 +150,7 @@ fn refuse_with<K: Sink>(alloc: Global, sink: &mut K, word: &[u8], number: u64) -
 fn refuse<K: Sink>(alloc: Global, sink: &mut K, no: Why) -> u8
     ensures refused { result ≡ 3 → IsRefusal no × Appends (K.written sink.old) (K.written sink.new) (refusal_text no) }
     ensures fault { result ≡ 4 → (no ≡ Why.Fault) × Appends (K.written sink.old) (K.written sink.new) STOPPED_OPENING.now }
-    ensures cut { result ≡ 6 → Rose (K.faults sink.old) (K.faults sink.new) × WritesFront (K.written sink.old) (K.written sink.new) (refusal_text no) × (no ≢ Why.Memory) }
+    ensures cut { result ≡ 6 → Rose (K.faults sink.old) (K.faults sink.new) × WritesFront (K.written sink.old) (K.written sink.new) (refusal_text no) × (IsRefusal no ⊎ (no ≡ Why.Fault)) }
     ensures memory { result ≡ 7 → Appends (K.written sink.old) (K.written sink.new) [] }
     ensures statuses { (result ≡ 3) ⊎ (result ≡ 4) ⊎ (result ≡ 6) ⊎ (result ≡ 7) }
 {
@@ -187,17 +188,20 @@ fn run_and_write<K: Sink, L: Disk, D, C: Clock, G: Gate>(
     requires work { IsOn schema.now engine.tablet.core.work × (engine.tablet.core.work.cells ≡ pool_of plan.now) }
     requires room { pool_of plan.now ≤ unpromised engine.tablet.pool }
     ensures printed { result.0 ≡ 0 → (first : Past) → IsContent engine first
-        → (text : List ℕ) × Ran C.readings engine.tablet.clock result.1.clock L.tells L.now L.leaves result.1.log (work_of (record { columns = schema.now; plan = plan.now })) first engine.tablet.core.opened false text × Appends (K.written sink.old) (K.written sink.new) text }
+        → (text : List ℕ) × Ran (Grows (C.readings engine.tablet.clock) (C.readings result.1.clock)) (CrashLeaves L.tells L.now L.leaves result.1.log) (work_of (record { columns = schema.now; plan = plan.now })) first engine.tablet.core.opened result.1.trail false text × Appends (K.written sink.old) (K.written sink.new) text }
     ensures stopped { result.0 ≡ 4 → (first : Past) → IsContent engine first
-        → (text : List ℕ) × Ran C.readings engine.tablet.clock result.1.clock L.tells L.now L.leaves result.1.log (work_of (record { columns = schema.now; plan = plan.now })) first engine.tablet.core.opened true text × Appends (K.written sink.old) (K.written sink.new) text }
+        → (text : List ℕ) × Ran (Grows (C.readings engine.tablet.clock) (C.readings result.1.clock)) (CrashLeaves L.tells L.now L.leaves result.1.log) (work_of (record { columns = schema.now; plan = plan.now })) first engine.tablet.core.opened result.1.trail true text × Appends (K.written sink.old) (K.written sink.new) text }
     ensures fault { result.0 ≡ 4 → Rose (L.faults engine.device) (L.faults result.1.log) }
     ensures cut { result.0 ≡ 6 → (first : Past) → IsContent engine first
-        → (text : List ℕ) × (stopped : Bool) × Ran C.readings engine.tablet.clock result.1.clock L.tells L.now L.leaves result.1.log (work_of (record { columns = schema.now; plan = plan.now })) first engine.tablet.core.opened stopped text × WritesFront (K.written sink.old) (K.written sink.new) text }
+        → (text : List ℕ) × (stopped : Bool) × Ran (Grows (C.readings engine.tablet.clock) (C.readings result.1.clock)) (CrashLeaves L.tells L.now L.leaves result.1.log) (work_of (record { columns = schema.now; plan = plan.now })) first engine.tablet.core.opened result.1.trail stopped text
+        × (stopped ≡ true → Rose (L.faults engine.device) (L.faults result.1.log)) × WritesFront (K.written sink.old) (K.written sink.new) text }
     ensures sink_fault { result.0 ≡ 6 → Rose (K.faults sink.old) (K.faults sink.new) }
     ensures memory { result.0 ≡ 7 → Appends (K.written sink.old) (K.written sink.new) [] }
     ensures statuses { (result.0 ≡ 0) ⊎ (result.0 ≡ 4) ⊎ (result.0 ≡ 6) ⊎ (result.0 ≡ 7) }
     ensures kept { (first : Past) → IsContent engine first
-        → Kept C.readings engine.tablet.clock result.1.clock L.tells L.now L.leaves result.1.log (work_of (record { columns = schema.now; plan = plan.now })) first engine.tablet.core.opened }
+        → Kept (Grows (C.readings engine.tablet.clock) (C.readings result.1.clock)) (CrashLeaves L.tells L.now L.leaves result.1.log) (work_of (record { columns = schema.now; plan = plan.now })) first engine.tablet.core.opened result.1.trail }
+    ensures others { IsTrue L.tells → KeepsOthers L.now L.leaves engine.device result.1.log }
+    ensures named { (image : Image) → CrashLeaves L.tells L.now L.leaves result.1.log image → NamesMore engine.records engine.tablet.target image }
     ensures store { result.1.store ≡ engine.store }
     ensures openable { IsTrue L.tells → CanOpen L.now L.leaves result.1.log }
 {
@@ -222,20 +226,23 @@ fn open_and_run<K: Sink, L: Disk, D, C: Clock, G: Gate>(
     requires counted { IsCounted schema.now }
     requires fits { PlanFits schema.now plan.now }
     requires openable { IsTrue L.tells → CanOpen L.now L.leaves log }
-    ensures printed { result.status ≡ 0 → (text : List ℕ) × RunsPlan C.readings clock result.clock L.tells L.seen L.now L.leaves log result.log (work_of (record { columns = schema.now; plan = plan.now })) false text × Appends (K.written sink.old) (K.written sink.new) text }
-    ensures refused { result.status ≡ 3 → (no : Why) × IsRefusal no × (IsTrue L.tells → content (fill_of schema.now) (L.seen log) ≡ Err no) × Appends (K.written sink.old) (K.written sink.new) (refusal_text no) }
-    ensures refuses { (no : Why) → IsTrue L.tells → content (fill_of schema.now) (L.seen log) ≡ Err no → (3 ≤ result.status) }
+    ensures printed { result.status ≡ 0 → (text : List ℕ) × RunsPlan (Grows (C.readings clock) (C.readings result.clock)) (IsRead L.tells L.seen log) (CrashLeaves L.tells L.now L.leaves result.log) (work_of (record { columns = schema.now; plan = plan.now })) false text × Appends (K.written sink.old) (K.written sink.new) text }
+    ensures refused { result.status ≡ 3 → (no : Why) × IsRefusal no × Refuses (fill_of schema.now) (IsRead L.tells L.seen log) no × Appends (K.written sink.old) (K.written sink.new) (refusal_text no) }
+    ensures refuses { (no : Why) → IsTrue L.tells → opening_of (fill_of schema.now) (L.seen log) ≡ Err no → (3 ≤ result.status) }
     ensures stopped { result.status ≡ 4 → Rose (L.faults log) (L.faults result.log)
-        × (Appends (K.written sink.old) (K.written sink.new) STOPPED_OPENING.now × (result.clock ≡ clock) × LeavesAsBefore (fill_of schema.now) L.tells L.now L.leaves log result.log
-        ⊎ ((text : List ℕ) × RunsPlan C.readings clock result.clock L.tells L.seen L.now L.leaves log result.log (work_of (record { columns = schema.now; plan = plan.now })) true text × Appends (K.written sink.old) (K.written sink.new) text)) }
-    ensures untouched { result.status ≡ 3 → (result.clock ≡ clock) × LeavesAsBefore (fill_of schema.now) L.tells L.now L.leaves log result.log }
+        × (Appends (K.written sink.old) (K.written sink.new) STOPPED_OPENING.now × (result.clock ≡ clock) × LeavesAsBefore (CrashLeaves L.tells L.now L.leaves log) (CrashLeaves L.tells L.now L.leaves result.log)
+        ⊎ ((text : List ℕ) × RunsPlan (Grows (C.readings clock) (C.readings result.clock)) (IsRead L.tells L.seen log) (CrashLeaves L.tells L.now L.leaves result.log) (work_of (record { columns = schema.now; plan = plan.now })) true text × Appends (K.written sink.old) (K.written sink.new) text)) }
+    ensures untouched { result.status ≡ 3 → (result.clock ≡ clock) × LeavesAsBefore (CrashLeaves L.tells L.now L.leaves log) (CrashLeaves L.tells L.now L.leaves result.log) }
     ensures sink_fault { result.status ≡ 6 → Rose (K.faults sink.old) (K.faults sink.new) }
     ensures cut { result.status ≡ 6 → (text : List ℕ) × WritesFront (K.written sink.old) (K.written sink.new) text
-        × (((no : Why) × (no ≢ Why.Memory) × (text ≡ refusal_text no))
-        ⊎ ((stopped : Bool) × RunsPlan C.readings clock result.clock L.tells L.seen L.now L.leaves log result.log (work_of (record { columns = schema.now; plan = plan.now })) stopped text)) }
+        × ((((no : Why) × IsRefusal no × Refuses (fill_of schema.now) (IsRead L.tells L.seen log) no × (text ≡ refusal_text no)) ⊎ ((text ≡ STOPPED_OPENING.now) × Rose (L.faults log) (L.faults result.log)))
+        × (result.clock ≡ clock) × LeavesAsBefore (CrashLeaves L.tells L.now L.leaves log) (CrashLeaves L.tells L.now L.leaves result.log)
+        ⊎ ((stopped : Bool) × RunsPlan (Grows (C.readings clock) (C.readings result.clock)) (IsRead L.tells L.seen log) (CrashLeaves L.tells L.now L.leaves result.log) (work_of (record { columns = schema.now; plan = plan.now })) stopped text × (stopped ≡ true → Rose (L.faults log) (L.faults result.log)))) }
     ensures memory { result.status ≡ 7 → Appends (K.written sink.old) (K.written sink.new) [] }
     ensures statuses { (result.status ≡ 0) ⊎ (result.status ≡ 3) ⊎ (result.status ≡ 4) ⊎ (result.status ≡ 6) ⊎ (result.status ≡ 7) }
-    ensures crash { LeavesFirst C.readings clock result.clock L.tells L.seen L.now L.leaves log result.log (record { columns = schema.now; plan = plan.now }) }
+    ensures crash { LeavesFirst (Grows (C.readings clock) (C.readings result.clock)) (IsRead L.tells L.seen log) (CrashLeaves L.tells L.now L.leaves log) (CrashLeaves L.tells L.now L.leaves result.log) (record { columns = schema.now; plan = plan.now }) }
+    ensures others { KeepsFiles (CrashLeaves L.tells L.now L.leaves log) (CrashLeaves L.tells L.now L.leaves result.log) }
+    ensures near { AreNear (CrashLeaves L.tells L.now L.leaves log) (CrashLeaves L.tells L.now L.leaves result.log) }
     ensures store { result.store ≡ store }
     ensures openable { IsTrue L.tells → CanOpen L.now L.leaves result.log }
 {
@@ -278,14 +285,14 @@ pub fn tablet_main<S: Source, K: Sink, L: Disk, D: Disk, C: Clock, G: Gate>(
     // the log held: each printed reply is that run's, the readings in its history are those that the clock gave in this
     // call, and whatever a crash now leaves of the log holds all its writes.
     ensures printed { result.status ≡ 0 → IfSome (S.left source.old) (λ script. (text : List ℕ)
-        × RunsScript C.readings clock result.clock L.tells L.seen L.now L.leaves log result.log false script text × Appends (K.written sink.old) (K.written sink.new) text) }
+        × RunsScript (Grows (C.readings clock) (C.readings result.clock)) (IsRead L.tells L.seen log) (CrashLeaves L.tells L.now L.leaves result.log) false script text × Appends (K.written sink.old) (K.written sink.new) text) }
 
     // Status 4 comes only where the log has failed in this call. Either it was not opened, or the same holds of a run that
     // ends with `stop`, and whatever a crash leaves has the first of its writes, with every one that has an `end` line.
     ensures stopped { result.status ≡ 4 → Rose (L.faults log) (L.faults result.log)
-        × (Appends (K.written sink.old) (K.written sink.new) STOPPED_OPENING.now × (result.clock ≡ clock) × ((said : Said) × IsSaid (S.left source.old) said × LeavesAsBefore (fill_of said.columns) L.tells L.now L.leaves log result.log)
+        × (Appends (K.written sink.old) (K.written sink.new) STOPPED_OPENING.now × (result.clock ≡ clock) × ((said : Said) × IsSaid (S.left source.old) said × LeavesAsBefore (CrashLeaves L.tells L.now L.leaves log) (CrashLeaves L.tells L.now L.leaves result.log))
         ⊎ IfSome (S.left source.old) (λ script. (text : List ℕ)
-        × RunsScript C.readings clock result.clock L.tells L.seen L.now L.leaves log result.log true script text × Appends (K.written sink.old) (K.written sink.new) text)) }
+        × RunsScript (Grows (C.readings clock) (C.readings result.clock)) (IsRead L.tells L.seen log) (CrashLeaves L.tells L.now L.leaves result.log) true script text × Appends (K.written sink.old) (K.written sink.new) text)) }
 
     // Status 1 comes exactly where the words are not in the form, unless the sink fails.
     ensures usage { result.status ≡ 1 → ¬ AreRun (map (λ w. w.now) words.now) × Appends (K.written sink.old) (K.written sink.new) USAGE.now }
@@ -297,35 +304,42 @@ pub fn tablet_main<S: Source, K: Sink, L: Disk, D: Disk, C: Clock, G: Gate>(
 
     // Status 3 comes exactly where the log's content is refused, unless source, sink, log or memory fail, and tells why.
     ensures refused { result.status ≡ 3 → (said : Said) × IsSaid (S.left source.old) said × (no : Why) × IsRefusal no
-        × (IsTrue L.tells → content (fill_of said.columns) (L.seen log) ≡ Err no) × Appends (K.written sink.old) (K.written sink.new) (refusal_text no) }
+        × Refuses (fill_of said.columns) (IsRead L.tells L.seen log) no × Appends (K.written sink.old) (K.written sink.new) (refusal_text no) }
     ensures refuses { (script : List ℕ) (said : Said) (no : Why) → AreRun (map (λ w. w.now) words.now) → S.left source.old ≡ Some script → script_of script ≡ Some said
-        → IsTrue L.tells → content (fill_of said.columns) (L.seen log) ≡ Err no → (3 ≤ result.status) }
+        → IsTrue L.tells → opening_of (fill_of said.columns) (L.seen log) ≡ Err no → (3 ≤ result.status) }
 
     // Words in the form, a script, a log that is not refused, and no count that rises: the run is whole, or memory ran out.
     ensures complete { (script : List ℕ) (said : Said) (found : Found) → AreRun (map (λ w. w.now) words.now) → S.left source.old ≡ Some script → script_of script ≡ Some said
-        → IsTrue L.tells → content (fill_of said.columns) (L.seen log) ≡ Ok found
+        → IsTrue L.tells → opening_of (fill_of said.columns) (L.seen log) ≡ Ok found
         → ¬ Rose (S.faults source.old) (S.faults source.new) → ¬ Rose (K.faults sink.old) (K.faults sink.new) → ¬ Rose (L.faults log) (L.faults result.log)
         → (result.status ≡ 0) ⊎ (result.status ≡ 7) }
     ensures source_fault { result.status ≡ 5 → Rose (S.faults source.old) (S.faults source.new) × Appends (K.written sink.old) (K.written sink.new) [] }
     ensures sink_fault { result.status ≡ 6 → Rose (K.faults sink.old) (K.faults sink.new) }
 
-    // There a front of one of the texts was written.
+    // There a front of one of the texts was written, and what the status of that text says of the words, the script and the log holds.
     ensures cut { result.status ≡ 6 → (text : List ℕ) × WritesFront (K.written sink.old) (K.written sink.new) text
-        × (((text ≡ USAGE.now) ⊎ ((fault : Fault) × IsFaultOf (S.left source.old) fault × (text ≡ fault_text fault))) × (result.log ≡ log) × (result.clock ≡ clock)
-        ⊎ (((no : Why) × (no ≢ Why.Memory) × (text ≡ refusal_text no))
-        ⊎ IfSome (S.left source.old) (λ script. (stopped : Bool) × RunsScript C.readings clock result.clock L.tells L.seen L.now L.leaves log result.log stopped script text))) }
+        × (((text ≡ USAGE.now) × ¬ AreRun (map (λ w. w.now) words.now) ⊎ ((fault : Fault) × AreRun (map (λ w. w.now) words.now) × IsFaultOf (S.left source.old) fault × (text ≡ fault_text fault))) × (result.log ≡ log) × (result.clock ≡ clock)
+        ⊎ (((said : Said) × AreRun (map (λ w. w.now) words.now) × IsSaid (S.left source.old) said
+        × (((no : Why) × IsRefusal no × Refuses (fill_of said.columns) (IsRead L.tells L.seen log) no × (text ≡ refusal_text no)) ⊎ ((text ≡ STOPPED_OPENING.now) × Rose (L.faults log) (L.faults result.log)))
+        × (result.clock ≡ clock) × LeavesAsBefore (CrashLeaves L.tells L.now L.leaves log) (CrashLeaves L.tells L.now L.leaves result.log))
+        ⊎ AreRun (map (λ w. w.now) words.now) × IfSome (S.left source.old) (λ script. (stopped : Bool) × RunsScript (Grows (C.readings clock) (C.readings result.clock)) (IsRead L.tells L.seen log) (CrashLeaves L.tells L.now L.leaves result.log) stopped script text × (stopped ≡ true → Rose (L.faults log) (L.faults result.log))))) }
     ensures memory { result.status ≡ 7 → Appends (K.written sink.old) (K.written sink.new) [] }
 
-    // The log and the clock are used only for a script that was read, the clock only over a log that was opened, and the
+    // The log and the clock are used only for words in the form and a script that was read, the clock only over a log that was opened, and the
     // store not at all. A log that is refused holds what it held.
     ensures unused { (result.status ≡ 1) ⊎ (result.status ≡ 2) ⊎ (result.status ≡ 5) → (result.log ≡ log) × (result.clock ≡ clock) }
-    ensures untouched { result.status ≡ 3 → (result.clock ≡ clock) × ((said : Said) × IsSaid (S.left source.old) said × LeavesAsBefore (fill_of said.columns) L.tells L.now L.leaves log result.log) }
+    ensures unformed { ¬ AreRun (map (λ w. w.now) words.now) → (result.log ≡ log) × (result.clock ≡ clock) }
+    ensures untouched { result.status ≡ 3 → (result.clock ≡ clock) × ((said : Said) × IsSaid (S.left source.old) said × LeavesAsBefore (CrashLeaves L.tells L.now L.leaves log) (CrashLeaves L.tells L.now L.leaves result.log)) }
     ensures store { result.store ≡ store }
 
     // Whatever the status, a crash now leaves what one before the call might have left, or what the log held with the first
     // writes of a run of the script, each one with an `end` line among them.
     ensures crash { (result.log ≡ log) ⊎ ((said : Said) × IsSaid (S.left source.old) said
-        × LeavesFirst C.readings clock result.clock L.tells L.seen L.now L.leaves log result.log said) }
+        × LeavesFirst (Grows (C.readings clock) (C.readings result.clock)) (IsRead L.tells L.seen log) (CrashLeaves L.tells L.now L.leaves log) (CrashLeaves L.tells L.now L.leaves result.log) said) }
+
+    // It leaves all files but the log's as one before the call might have, and no number far above those that one before might have left.
+    ensures others { KeepsFiles (CrashLeaves L.tells L.now L.leaves log) (CrashLeaves L.tells L.now L.leaves result.log) }
+    ensures near { AreNear (CrashLeaves L.tells L.now L.leaves log) (CrashLeaves L.tells L.now L.leaves result.log) }
 
     // The log may be opened again, whatever the status.
     ensures openable { IsTrue L.tells → CanOpen L.now L.leaves result.log }

@@ -1,5 +1,9 @@
-use Rattle.std.proofs.Common.{refl, ap, ◌∙◌}
+use Rattle.std.proofs.Common.{refl, ap, ◌∙◌, subst, arith}
+use Rattle.std.specs.Prelude.{IsTrue}
+use Rattle.kt_disk.specs.Disk.{Files}
+use Rattle.kt_journal.specs.Log.{records_of, IsOldOrBoth, CanOpen}
 use Rattle.kt_app.specs.Turns.{root_of}
+use Rattle.kt_app.proofs.Failed.{of_batch}
 use Rattle.kt_app.proofs.Lines.{halts}
 use Rattle.kt_app.proofs.log.append_out.Goals as goal
 
@@ -13,3 +17,15 @@ returns-in-Err-Fault-clause-home g c = ap (λ v. v.log.holder) (c.stop.ensures.h
 
 pub returns-in-Err-Fault-clause-stopped : goal.returns-in-Err-Fault-clause-stopped
 returns-in-Err-Fault-clause-stopped g c = λ _. halts c.args.engine.now _ c.stop.ensures.core
+
+pub stop-requires-clause-images : goal.stop-requires-clause-images
+stop-requires-clause-images g c = λ batch is told.
+    of_batch (λ b. (image : Files) → g.L.Disk.leaves b.journal.disk (g.L.Disk.now b.journal.disk) image → IsOldOrBoth (records_of (g.L.Disk.seen c.args.engine.now.log.known.disk)) c.args.engine.now.log.out (image 1)) _ batch is
+    (λ image left.
+    let run = c.append_batch.ensures.any_moment told in
+    let here = run.each (g.L.Disk.now c.append_batch.new.self.disk) image run.later (omega arith) left in
+    subst (λ j. IsOldOrBoth (records_of (g.L.Disk.seen j.disk)) c.args.engine.now.log.out (image 1)) c.requires.journal.0
+    (subst (λ rs. IsOldOrBoth (records_of (g.L.Disk.seen c.args.batch.journal.disk)) rs (image 1)) c.requires.journal.1 here))
+
+pub stop-requires-clause-opens : goal.stop-requires-clause-opens
+stop-requires-clause-opens g c = λ batch is. of_batch (λ b. IsTrue g.L.Disk.tells → CanOpen g.L.Disk.now g.L.Disk.leaves b.journal.disk) _ batch is c.append_batch.ensures.openable

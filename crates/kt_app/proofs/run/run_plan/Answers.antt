@@ -4,7 +4,7 @@ use Rattle.std.specs.Result.{result_ok}
 use Rattle.kt_app.specs.Turns.{root_of}
 use Rattle.kt_app.proofs.Planned.{planned}
 use Rattle.kt_app.proofs.RunLaws.{ran_as}
-use Rattle.kt_app.proofs.Runs.{kept_of, ran_of, opens_again, no_fault_less, fault_more}
+use Rattle.kt_app.proofs.Runs.{kept_of, ran_of, keeps_others, names_more, opens_again, no_fault_less, fault_more}
 use Rattle.kt_app.proofs.run.run_plan.Goals as goal
 
 -- what is said of a value that is there
@@ -39,7 +39,7 @@ pub returns-in-Ok-clause-kept : goal.returns-in-Ok-clause-kept
 returns-in-Ok-clause-kept g c first content =
     kept_of g.C.Clock.readings g.L.Disk.tells g.L.Disk.now g.L.Disk.leaves c.args.engine c.play-played.new.engine c.args.schema.now c.args.plan.now first
     c.requires.fresh c.requires.work (c.play-played.ensures.root ∙ ap root_of c.set_plan.ensures) content c.standing.ensures.sound
-    c.take_apart-parts.result.clock c.take_apart-parts.result.log c.take_apart-parts.ensures.clock c.standing.ensures.recovers c.take_apart-parts.ensures.log
+    c.take_apart-parts.result.clock c.take_apart-parts.result.log c.take_apart-parts.result.trail c.take_apart-parts.ensures.clock c.take_apart-parts.ensures.trail c.standing.ensures.recovers c.take_apart-parts.ensures.log
 
 pub returns-in-Ok-clause-openable : goal.returns-in-Ok-clause-openable
 returns-in-Ok-clause-openable g c = opens_again c.args.engine c.play-played.new.engine c.args.plan.now c.take_apart-parts.result.log (c.play-played.ensures.root ∙ ap root_of c.set_plan.ensures) c.standing.ensures.home c.take_apart-parts.ensures.log
@@ -59,10 +59,26 @@ pub returns-in-Err-clause-kept : goal.returns-in-Err-clause-kept
 returns-in-Err-clause-kept g c first content =
     kept_of g.C.Clock.readings g.L.Disk.tells g.L.Disk.now g.L.Disk.leaves c.args.engine c.play-played.new.engine c.args.schema.now c.args.plan.now first
     c.requires.fresh c.requires.work (c.play-played.ensures.root ∙ ap root_of c.set_plan.ensures) content c.standing.ensures.sound
-    c.take_apart-parts.result.clock c.take_apart-parts.result.log c.take_apart-parts.ensures.clock c.standing.ensures.recovers c.take_apart-parts.ensures.log
+    c.take_apart-parts.result.clock c.take_apart-parts.result.log c.take_apart-parts.result.trail c.take_apart-parts.ensures.clock c.take_apart-parts.ensures.trail c.standing.ensures.recovers c.take_apart-parts.ensures.log
 
 pub returns-in-Err-clause-openable : goal.returns-in-Err-clause-openable
 returns-in-Err-clause-openable g c = opens_again c.args.engine c.play-played.new.engine c.args.plan.now c.take_apart-parts.result.log (c.play-played.ensures.root ∙ ap root_of c.set_plan.ensures) c.standing.ensures.home c.take_apart-parts.ensures.log
 
 pub returns-in-Err-clause-faults : goal.returns-in-Err-clause-faults
 returns-in-Err-clause-faults g c = no_fault_less c.args.engine c.play-played.new.engine c.args.plan.now c.take_apart-parts.result.log (c.play-played.ensures.root ∙ ap root_of c.set_plan.ensures) c.standing.ensures.home c.take_apart-parts.ensures.log
+
+pub returns-in-Ok-clause-others : goal.returns-in-Ok-clause-others
+returns-in-Ok-clause-others g c = keeps_others c.args.engine c.play-played.new.engine c.args.plan.now c.take_apart-parts.result.log (c.play-played.ensures.root ∙ ap root_of c.set_plan.ensures) c.standing.ensures.home c.take_apart-parts.ensures.log
+
+pub returns-in-Ok-clause-named : goal.returns-in-Ok-clause-named
+returns-in-Ok-clause-named g c =
+    names_more c.args.engine c.play-played.new.engine c.args.plan.now c.take_apart-parts.result.log (c.play-played.ensures.root ∙ ap root_of c.set_plan.ensures) c.standing.ensures.home c.take_apart-parts.ensures.log
+    c.standing.ensures.recovers c.standing.ensures.found.0 c.standing.ensures.found.1
+
+pub returns-in-Err-clause-others : goal.returns-in-Err-clause-others
+returns-in-Err-clause-others g c = keeps_others c.args.engine c.play-played.new.engine c.args.plan.now c.take_apart-parts.result.log (c.play-played.ensures.root ∙ ap root_of c.set_plan.ensures) c.standing.ensures.home c.take_apart-parts.ensures.log
+
+pub returns-in-Err-clause-named : goal.returns-in-Err-clause-named
+returns-in-Err-clause-named g c =
+    names_more c.args.engine c.play-played.new.engine c.args.plan.now c.take_apart-parts.result.log (c.play-played.ensures.root ∙ ap root_of c.set_plan.ensures) c.standing.ensures.home c.take_apart-parts.ensures.log
+    c.standing.ensures.recovers c.standing.ensures.found.0 c.standing.ensures.found.1

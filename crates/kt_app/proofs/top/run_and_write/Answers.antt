@@ -18,4 +18,4 @@ pub returns-in-Some-clause-cut : goal.returns-in-Some-clause-cut
 returns-in-Some-clause-cut g c = λ e first content.
     let run = rw c.in-Some.is at c.run_plan-output.ensures.run in
     let w = c.write_output.ensures.cut e in
-    (c.in-Some.output.text, c.in-Some.output.stopped, ran_with (record { columns = c.args.schema.now; plan = c.args.plan.now }) c.args.engine.tablet.core.work.cells _ c.requires.work.1 refl (run first content), w.1)
+    (c.in-Some.output.text, c.in-Some.output.stopped, ran_with (record { columns = c.args.schema.now; plan = c.args.plan.now }) c.args.engine.tablet.core.work.cells _ c.requires.work.1 refl (run first content), rw c.in-Some.is at c.run_plan-output.ensures.fault, w.1)
