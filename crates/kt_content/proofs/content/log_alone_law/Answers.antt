@@ -1,0 +1,5 @@
+use Rattle.kt_content.proofs.BareLog.{log_alone}
+use Rattle.kt_content.proofs.content.log_alone_law.Goals as goal
+
+pub returns : goal.returns
+returns c = log_alone

@@ -1,0 +1,31 @@
+-- A log without a superblock has the content that it has under the superblock of a fresh tablet.
+use Rattle.std.specs.Prelude.{◌<◌, ℕ, List, [], ◌∷◌}
+use Rattle.kt_history.specs.Rows.{Row}
+use Rattle.kt_history.specs.History.{Past}
+use Rattle.kt_records.specs.declared.entry.Entry.{Entry}
+use Rattle.kt_records.specs.declared.entry.Entry.TheVariants.{Replicate, Commit}
+use Rattle.kt_journal.specs.Log.{IsLog}
+use Rattle.kt_loglaws.specs.Replay.{last_of}
+use Rattle.kt_loglaws.specs.Laws.{LogHolds}
+use Rattle.kt_content.specs.Places.{fresh}
+use Rattle.kt_content.specs.KeyOps.{seen}
+use Rattle.kt_content.specs.Content.{OnlyLastUntold, IsContent, SameFrom}
+use Rattle.kt_histlaws.specs.Histories.{past_hist}
+
+-- each write lies above 0
+abbrev pub AboveZero : List Entry → Type 0
+AboveZero [] = Unit {0}
+AboveZero (Replicate ts ops ∷ records) = (0 < ts) × AboveZero records
+AboveZero (Commit ts rows ∷ records) = AboveZero records
+
+-- what the replay of a log alone makes of an empty table is its content under the superblock of a fresh tablet
+abbrev pub the_bare_log_is_the_empty_superblock : Type 0
+the_bare_log_is_the_empty_superblock = (fill : Row) (records : List Entry) (past : Past) → IsLog records → AboveZero records
+    → ((q : List ℕ) → OnlyLastUntold (seen q records records))
+    → LogHolds fill records past → IsContent fill fresh records (last_of records) past
+
+-- and a log with a content under it is replayed alone, to a past of which each key has the same history
+abbrev pub the_empty_superblock_is_the_bare_log : Type 0
+the_empty_superblock_is_the_bare_log = (fill : Row) (records : List Entry) (c : ℕ) (past : Past) → IsLog records → AboveZero records
+    → IsContent fill fresh records c past
+    → (found : Past) × LogHolds fill records found × ((q : List ℕ) → SameFrom 0 (past_hist q found) (past_hist q past))

@@ -1,0 +1,84 @@
+-- What a superblock and the records of a log hold together.
+use Rattle.std.specs.Prelude.{◌≡◌, ◌==◌, ℕ, max, true, false, is_some, List, [], ◌∷◌, Result, Ok, ◌≤◌, length, ◌<◌, Option, Some, None}
+use Rattle.kt_history.specs.Rows.{Row}
+use Rattle.kt_history.specs.History.{Past, IsPastUpTo}
+use Rattle.kt_records.specs.declared.entry.Entry.{Entry}
+use Rattle.kt_histlaws.specs.Histories.{Hist, past_hist, ShowsKey, row_of, step_of}
+use Rattle.kt_histlaws.specs.Fitting.{AreSound}
+use Rattle.kt_loglaws.specs.Replay.{last_of, empty}
+use Rattle.kt_content.specs.Files.{DiskRowset}
+use Rattle.kt_content.specs.Places.{Super, Held, fresh, held_in, at_first, OneLive, standing, Place, Standing, places_of, live_in, needed_in, AboveRedos}
+use Rattle.kt_content.specs.KeyOps.{KeyOp, seen, played, to_live}
+use Rattle.kt_history.specs.declared.operation.RowOp.{RowOp}
+use Rattle.kt_history.specs.declared.target.Target.{Target}
+
+-- what the stores of an opening have of a key, or the timestamp of the first operation on it that does not fit
+abbrev pub content_at : Row → Super → List Entry → List ℕ → Result Held ℕ
+content_at fill super records q = played fill super (at_first q super) (seen q records records)
+
+-- two histories are the same from a mark on
+pub record SameFrom (m : ℕ) (g h : Hist) : Type 0 where
+  pub rows : (t : ℕ) → m ≤ t → row_of t g ≡ row_of t h
+  pub steps : (t : ℕ) → m < t → step_of t g ≡ step_of t h
+
+-- these stores have this history of the key from a on, each change in one of them and in order
+pub record Shown (a : ℕ) (held : Held) (whole : Hist) : Type 0 where
+  pub shows : ShowsKey a (held_in held) whole
+  pub sound : AreSound a (held_in held)
+
+-- of an operation without a COMMIT one store at most has the key live just before it, so that the order of the stores decides nothing
+abbrev pub UntoldLiveOnce : Held → List KeyOp → Type 0
+UntoldLiveOnce held [] = Unit {0}
+UntoldLiveOnce held (x ∷ xs) = (is_some x.told ≡ false → OneLive (standing x.ts held)) × UntoldLiveOnce held xs
+
+-- the stores that an operation changes: those that its COMMIT's names still need, or else the one to which it goes
+abbrev pub changed_in : Row → Super → Standing → RowOp → Option (List Target) → List Place
+changed_in fill super rows op None = places_of (to_live fill op (live_in rows))
+changed_in fill super rows op (Some targets) = needed_in super targets
+
+-- each change of a DeltaMemStore lies above the row's records in the REDO files of the rowset
+abbrev pub AboveFiles : Row → List ℕ → Super → Held → List KeyOp → Type 0
+AboveFiles fill q super held [] = Unit {0}
+AboveFiles fill q super held (x ∷ xs) = AboveRedos q super x.ts (changed_in fill super (standing x.ts held) x.op x.told) × AboveFiles fill q super held xs
+
+-- the content of a key is this history
+pub record HoldsKey (fill : Row) (super : Super) (records : List Entry) (q : List ℕ) (whole : Hist) : Type 0 where
+  pub held : Held
+  pub is : content_at fill super records q ≡ Ok held
+  pub shown : Shown super.a held whole
+  pub once : UntoldLiveOnce held (seen q records records)
+  pub above : AboveFiles fill q super held (seen q records records)
+
+-- no two rowsets have one number
+abbrev pub LacksNumber : ℕ → List DiskRowset → Type 0
+LacksNumber r [] = Unit {0}
+LacksNumber r (d ∷ rowsets) = ((r == d.rowset) ≡ false) × LacksNumber r rowsets
+
+abbrev pub NumbersDiffer : List DiskRowset → Type 0
+NumbersDiffer [] = Unit {0}
+NumbersDiffer (d ∷ rowsets) = LacksNumber d.rowset rowsets × NumbersDiffer rowsets
+
+-- an operation without a COMMIT is the last of its key, as in each log that this engine writes
+abbrev pub OnlyLastUntold : List KeyOp → Type 0
+OnlyLastUntold [] = Unit {0}
+OnlyLastUntold (x ∷ []) = Unit {0}
+OnlyLastUntold (x ∷ y ∷ xs) = (is_some x.told ≡ true) × OnlyLastUntold (y ∷ xs)
+
+-- each has its COMMIT
+abbrev pub AreTold : List KeyOp → Type 0
+AreTold [] = Unit {0}
+AreTold (x ∷ xs) = (is_some x.told ≡ true) × AreTold xs
+
+-- A superblock and records hold this past, of which c is the last timestamp. A log with fewer records than the superblock needs has no content.
+pub record IsContent (fill : Row) (super : Super) (records : List Entry) (c : ℕ) (past : Past) : Type 0 where
+  pub enough : super.need ≤ length records
+  pub numbers : NumbersDiffer super.rowsets
+  pub mark : past.mark ≡ super.a
+  pub last : c ≡ max super.c (last_of records)
+  pub ends : IsPastUpTo c past
+  pub turns : (q : List ℕ) → OnlyLastUntold (seen q records records)
+  pub keys : (q : List ℕ) → HoldsKey fill super records q (past_hist q past)
+
+-- a fresh tablet holds the empty past
+abbrev pub a_fresh_tablet_is_empty : Type 0
+a_fresh_tablet_is_empty = (fill : Row) → IsContent fill fresh [] 0 empty

@@ -1,0 +1,29 @@
+//! Laws of content: what the stores of an opening make of a log, key by key.
+ghost use Rattle.kt_content.specs.Content.{a_fresh_tablet_is_empty};
+ghost use Rattle.kt_content.specs.BareLog.{the_bare_log_is_the_empty_superblock, the_empty_superblock_is_the_bare_log};
+ghost use Rattle.kt_content.specs.Agreement.{moves_that_agree_are_played, what_is_played_agrees};
+
+/// A fresh tablet holds the empty past.
+pub fn fresh_law()
+    ensures { a_fresh_tablet_is_empty }
+{}
+
+/// What the replay of a log alone makes of an empty table is its content under the superblock of a fresh tablet.
+pub fn bare_log_law()
+    ensures { the_bare_log_is_the_empty_superblock }
+{}
+
+/// And a log with a content under it is replayed alone, to a past of which each key has the same history.
+pub fn log_alone_law()
+    ensures { the_empty_superblock_is_the_bare_log }
+{}
+
+/// Moves that agree with the stores which they make are what the log makes of them.
+pub fn agree_law()
+    ensures { moves_that_agree_are_played }
+{}
+
+/// And what the log makes of them is made by moves that agree with it.
+pub fn played_law()
+    ensures { what_is_played_agrees }
+{}
