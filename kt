@@ -1,20 +1,75 @@
 #!/bin/bash
-# Builds the proved program where it is not built yet, and runs it with these words and this standard input.
+# Runs the program with these words and this standard input, and ends with its status. `./kt --help` says more.
 top=$(cd "$(dirname "$0")" && pwd) || exit 70
 program=$top/crates/kt_main/out/kt_main
 
-is_built() {
-    [ -x "$program" ] && [ -z "$(find "$top"/crates/*/src "$top"/crates.txt -newer "$program" -print -quit)" ]
+show_help() {
+    cat <<'HELP'
+The storage engine of one Kudu tablet: runs a script of writes and scans.
+
+  ./kt memory run < SCRIPT           in memory: nothing outlives the run
+  ./kt dirs LOG DATA run < SCRIPT    in two folders that exist: what was written is there at the next run
+  ./kt build                         proves the program and builds it
+  ./kt --help                        this text
+
+For a first look: ./kt memory run < examples/first.kt
+Until the program is built, and after each change of it, an unproved and slow build of it runs, in about a minute.
+
+Status  0 each command was answered     4 a folder is not there, in use, or failed
+        1 other words than these        5 the script could not be read
+        2 the text is no script         6 the output could not be written
+        3 the log is refused            7 memory ran out
+       70 the program could be neither built nor tried: standard error says why
+
+docs/SCRIPT.md is the manual of scripts and outputs. README.md says what is proved.
+HELP
 }
 
-if ! is_built; then
-    echo 'kt: proving and building the program, which takes a few minutes the first time' >&2
-    log=$(mktemp) || exit 70
-    if ! (cd "$top/crates/kt_main" && rt run -- memory run) <"$top/crates/kt_main/stdin" >"$log" 2>&1; then
-        cat "$log" >&2
-        rm -f "$log"
+# Whether the proved program stands, and nothing that it was made of changed since.
+is_built() {
+    [ -x "$program" ] &&
+        [ -z "$(find "$top"/crates/*/{src,specs,proofs} "$top/crates.txt" -newer "$program" -print -quit)" ]
+}
+
+build() {
+    local log begun
+    is_built && return
+    log=$(mktemp) && begun=$(date +%s.%N) && cd "$top/crates/kt_main" || exit 70
+    echo "kt: proving and building, some 40 minutes on four processors where nothing is proved yet; $log tells how far it is" >&2
+    if ! rt run -- memory run <stdin >"$log" 2>&1; then
+        tail -n 30 "$log" >&2
         exit 70
     fi
+    touch -d "@$begun" "$program"
     rm -f "$log"
-fi
-exec "$program" "$@"
+}
+
+# Runs an unproved build. What the toolchain says of it is shown only where it did not run.
+try_unproved() {
+    local status words=("$@")
+    echo 'kt: not built yet (./kt build): this is an unproved and slow build, which takes about a minute' >&2
+    if [ "$1" = dirs ] && [ $# -ge 3 ]; then
+        words=(dirs "$(realpath -m -- "$2" 2>/dev/null)" "$(realpath -m -- "$3" 2>/dev/null)" "${@:4}")
+    fi
+    room=$(mktemp -d) && cd "$top/crates/kt_main" || exit 70
+    trap 'rm -rf "$room"' EXIT
+    cat >"$room/script" 2>/dev/null || exit 5
+    rt try -- "${words[@]}" <"$room/script" 2>"$room/log"
+    status=$?
+    if ! grep -q '^run=ended status=' "$room/log"; then
+        cat "$room/log" >&2
+        status=70
+    fi
+    exit $status
+}
+
+# A file that may not grow any further is then a device that fails, and no signal ends the program.
+trap '' XFSZ
+case ${1---help} in
+    --help | -h) show_help ;;
+    build) build ;;
+    *)
+        is_built && exec "$program" "$@"
+        try_unproved "$@"
+        ;;
+esac

@@ -17,14 +17,49 @@ struct Opened {
     file: File,
 }
 
+/// A folder that this program alone uses, as long as this is kept.
+#[derive(Drop)]
+pub struct Taken {
+    path: String,
+    // The folder, opened three times: each standard descriptor that was closed is then this folder, and no file of the
+    // disk. A folder is neither read nor written as a stream.
+    folders: [File; 3],
+    // The file `lock` in it, which is locked.
+    lock: File,
+}
+
+impl Taken {
+    /// Takes a folder. An error where it is not there, or taken already.
+    pub fn of<R: Files<File = File>>(rt: &R, alloc: Global, path: &str) -> io::Result<Taken> {
+        let folders = [
+            File::open(rt, path)?,
+            File::open(rt, path)?,
+            File::open(rt, path)?,
+        ];
+        let name = format!(in alloc; "{path}/lock")?;
+        let lock = File::options()
+            .read(true)
+            .write(true)
+            .create(true)
+            .open(rt, name.as_str())?;
+        lock.try_lock()?;
+        Ok(Taken {
+            path: String::from_str(alloc, path)?,
+            folders,
+            lock,
+        })
+    }
+}
+
 /// A folder in which file n has the name `f` and n in decimal. The file of the last call stays open.
 #[derive(Drop)]
 struct Folder<'a, R: Files> {
     rt: &'a R,
     alloc: Global,
-    path: String,
+    // Nothing where the folder could not be taken: each call then fails.
+    taken: Option<Taken>,
     last: Option<Opened>,
-    // Whether a file was made or removed since the folder was last synced.
+    // Whether the folder must be synced: a file was made or removed since it was, or it never was since it was taken.
     is_moved: bool,
 }
 
@@ -37,9 +72,25 @@ fn number_of(name: &str) -> Option<u64> {
     digits.parse::<u64>().ok()
 }
 
+// Notes the number that a name tells, if it tells one.
+fn push_number(files: &mut Vec<u64>, name: &str) -> io::Result<()> {
+    if let Some(number) = number_of(name) {
+        files.push(number)?;
+    }
+    Ok(())
+}
+
 impl<'a, R: Files<File = File> + Alloc + Clone + Drop> Folder<'a, R> {
+    fn taken(&self) -> io::Result<&Taken> {
+        match &self.taken {
+            Some(taken) => Ok(taken),
+            None => Err(io::Error::from(ErrorKind::NotFound)),
+        }
+    }
+
     fn name_of(&self, number: u64) -> io::Result<String> {
-        Ok(format!(in self.alloc; "{}/f{number}", self.path)?)
+        let path = self.taken()?.path.as_str();
+        Ok(format!(in self.alloc; "{path}/f{number}")?)
     }
 
     // Opens a file that is there.
@@ -88,9 +139,12 @@ impl<'a, R: Files<File = File> + Alloc + Clone + Drop> Folder<'a, R> {
 
     fn files(&self) -> io::Result<Vec<u64>> {
         let mut files = Vec::new(self.alloc);
-        for entry in read_dir(self.rt, self.path.as_str())? {
-            if let Some(number) = number_of(entry?.file_name()) {
-                files.push(number)?;
+        for entry in read_dir(self.rt, self.taken()?.path.as_str())? {
+            match entry {
+                Ok(entry) => push_number(&mut files, entry.file_name())?,
+                // A name that is no text is none of a file of this disk.
+                Err(e) if e.kind() == ErrorKind::InvalidFilename => {}
+                Err(e) => return Err(e),
             }
         }
         files.sort_unstable();
@@ -137,7 +191,7 @@ impl<'a, R: Files<File = File> + Alloc + Clone + Drop> Folder<'a, R> {
             opened.file.sync_all()?;
         }
         if self.is_moved {
-            File::open(self.rt, self.path.as_str())?.sync_all()?;
+            self.taken()?.folders[0].sync_all()?;
             self.is_moved = false;
         }
         Ok(())
@@ -154,7 +208,7 @@ impl<'a, R: Files<File = File> + Alloc + Clone + Drop> Folder<'a, R> {
     }
 }
 
-/// A disk in a folder that exists. It tells nothing of what its files hold.
+/// A disk in a folder. It tells nothing of what its files hold.
 #[derive(Drop)]
 pub struct DirDisk<'a, R: Files> {
     folder: Folder<'a, R>,
@@ -162,13 +216,14 @@ pub struct DirDisk<'a, R: Files> {
 }
 
 impl<'a, R: Files<File = File> + Alloc + Clone + Drop> DirDisk<'a, R> {
-    pub fn new(alloc: Global, rt: &'a R, path: String) -> DirDisk<'a, R> {
+    /// A disk in a folder that was taken. Without one each call fails.
+    pub fn new(alloc: Global, rt: &'a R, taken: Option<Taken>) -> DirDisk<'a, R> {
         let folder = Folder {
             rt,
             alloc,
-            path,
+            taken,
             last: None,
-            is_moved: false,
+            is_moved: true,
         };
         DirDisk { folder, faults: 0 }
     }
@@ -201,6 +256,8 @@ impl<'a, R: Files<File = File> + Alloc + Clone + Drop> Disk for DirDisk<'a, R> {
     ghost faults = { λ d. d.faults };
 
     ghost reads_as_image = { λ d told. tt };
+
+    ghost images_hold_bytes = { λ d m c told left. Prim.cc };
 
     fn files(&mut self, _alloc: Global) -> Result<FileList, DiskNo> {
         let answer = self.folder.files();

@@ -2,7 +2,8 @@
 //!
 //! The first words say where the tablet lives; the others go to the top call. With `memory` nothing outlives the
 //! program, and the clock counts 1, 2, 3 and so on, so that each run of a script prints the same. With `dirs LOG DATA`
-//! the devices are two folders that exist, and the clock is the machine's.
+//! the devices are two folders that exist, and the clock is the machine's. The status of the top call is the program's;
+//! where the words cannot be read for want of memory it is 7. Nothing is written to standard error.
 #![tactic(auto)]
 
 mod dir;
@@ -13,11 +14,13 @@ mod tests;
 ghost use Rattle.std.specs.Prelude.{IsTrue};
 ghost use Rattle.kt_journal.specs.Log.{CanOpen};
 
-use dir::DirDisk;
+use dir::{DirDisk, Taken};
 use edges::{MachineClock, Stdin, Stdout, Ticks};
 use kt_app::tablet_main;
 use kt_base::Clock;
 use kt_disk::{Disk, MemDisk, PassGate};
+use std::alloc::AllocError;
+use std::io::ErrorKind;
 use std::process::ExitCode;
 use std::{env, io};
 
@@ -57,27 +60,48 @@ fn run_in_memory(rt: &HostRuntime, words: &[&str]) -> u8 {
     )
 }
 
-fn run_in_folders(rt: &HostRuntime, log: &str, data: &str, words: &[&str]) -> io::Result<u8> {
+// Takes both folders. An error where one of them is not there, or taken already.
+fn take_both(rt: &HostRuntime, log: &str, data: &str) -> io::Result<(Taken, Taken)> {
     let alloc = rt.alloc();
-    let log = DirDisk::new(alloc, rt, String::from_str(alloc, log)?);
-    let store = DirDisk::new(alloc, rt, String::from_str(alloc, data)?);
-    Ok(run(rt, words, log, store, MachineClock::new(rt)))
+    Ok((Taken::of(rt, alloc, log)?, Taken::of(rt, alloc, data)?))
 }
 
-fn main(rt: HostRuntime) -> io::Result<ExitCode> {
+fn run_in_folders(rt: &HostRuntime, log: &str, data: &str, words: &[&str]) -> u8 {
     let alloc = rt.alloc();
-    let mut held = Vec::new(alloc);
-    for word in env::args(&rt)?.skip(1) {
-        held.push(word)?;
-    }
-    let mut words = Vec::new(alloc);
-    for word in held.iter() {
-        words.push(word.as_str())?;
-    }
-    let status = match words.as_slice() {
-        ["memory", rest @ ..] => run_in_memory(&rt, rest),
-        ["dirs", log, data, rest @ ..] => run_in_folders(&rt, log, data, rest)?,
-        _ => run_in_memory(&rt, &[]),
+    let (log, store) = match take_both(rt, log, data) {
+        Ok((log, store)) => (Some(log), Some(store)),
+        Err(e) if e.kind() == ErrorKind::OutOfMemory => return 7,
+        Err(_) => (None, None),
     };
-    Ok(ExitCode::from(status))
+    run(
+        rt,
+        words,
+        DirDisk::new(alloc, rt, log),
+        DirDisk::new(alloc, rt, store),
+        MachineClock::new(rt),
+    )
+}
+
+// The words behind the program's name, and none where one is no text.
+fn words_of(rt: &HostRuntime) -> Result<Vec<String>, AllocError> {
+    let alloc = rt.alloc();
+    match env::args(rt) {
+        Ok(args) => args.skip(1).collect(alloc),
+        Err(e) if e.kind() == ErrorKind::OutOfMemory => Err(AllocError),
+        Err(_) => Ok(Vec::new(alloc)),
+    }
+}
+
+fn run_with_words(rt: &HostRuntime) -> Result<u8, AllocError> {
+    let held = words_of(rt)?;
+    let words: Vec<&str> = held.iter().map(|word| word.as_str()).collect(rt.alloc())?;
+    Ok(match words.as_slice() {
+        ["memory", rest @ ..] => run_in_memory(rt, rest),
+        ["dirs", log, data, rest @ ..] => run_in_folders(rt, log, data, rest),
+        _ => run_in_memory(rt, &[]),
+    })
+}
+
+fn main(rt: HostRuntime) -> ExitCode {
+    ExitCode::from(run_with_words(&rt).unwrap_or(7))
 }

@@ -1,0 +1,7 @@
+use Rattle.std.proofs.Common.{ap}
+use Rattle.kt_disk.specs.Memory.{MemView}
+use Rattle.kt_journal.proofs.Fresh.{fresh_opens}
+use Rattle.kt_main.proofs.run_in_memory.Goals as goal
+
+pub run-requires : goal.run-requires
+run-requires c = record { openable = λ told. fresh_opens c.new.result (ap (λ (d : MemView). d.calls) c.new.ensures) }
