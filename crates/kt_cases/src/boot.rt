@@ -62,6 +62,19 @@ const THIRD_IN_7: [u8; 22] = [
     2, 0, 48, 0, 0, 0, 0, 0, 0, 1, 0, 0, 1, 1, 7, 0, 0, 0, 0, 0, 0, 0,
 ];
 
+// An insert of key a, an update of key y and a delete of key z at 8192, each of which is ignored where it would change nothing.
+const IGNORING: [u8; 51] = [
+    1, 0, 32, 0, 0, 0, 0, 0, 0, 3, 0, 5, 1, 0, 97, 1, 0, 2, 0, 2, 6, 0, 0, 0, 0, 0, 0, 0, 6, 1, 0,
+    121, 1, 0, 2, 0, 2, 6, 0, 0, 0, 0, 0, 0, 0, 7, 1, 0, 122, 0, 0,
+];
+
+// What became of them where a is there, y and z are not, and what cannot be: the insert was done.
+const IGNORED: [u8; 17] = [2, 0, 32, 0, 0, 0, 0, 0, 0, 3, 0, 3, 0, 3, 0, 3, 0];
+
+const NOT_IGNORED: [u8; 26] = [
+    2, 0, 32, 0, 0, 0, 0, 0, 0, 3, 0, 0, 1, 1, 1, 0, 0, 0, 0, 0, 0, 0, 3, 0, 3, 0,
+];
+
 fn column(alloc: Global, id: u16, name: &[u8], key: bool) -> Result<Column, Fail> {
     Ok(Column {
         id,
@@ -203,6 +216,36 @@ fn a_write_without_a_commit_gets_one(rt: HostRuntime) -> Result<(), Fail> {
     assert_eq!(rt; told[1].0, 8192);
     assert_eq!(rt; told[1].1, Outcome::Present);
     assert_eq!(rt; told[1].2, None);
+    Ok(())
+}
+
+#[test]
+fn operations_that_ignore_are_told_so(rt: HostRuntime) -> Result<(), Fail> {
+    let alloc = rt.alloc();
+    let log = log_of(alloc, &[&INSERT, &IN_MEMORY, &IGNORING])?;
+    let Ok(r) = reopened(alloc, log.as_slice())? else {
+        return Err("not opened".into());
+    };
+    assert_eq!(rt; r.queued.len(), 1);
+    match r.queued.as_slice() {
+        [Entry::Commit { ts: 8192, rows }] => {
+            assert_eq!(rt; rows.as_slice().len(), 3);
+            for row in rows.as_slice() {
+                assert_eq!(rt; row.outcome, Outcome::Ignored);
+                assert!(rt; row.targets.is_empty());
+            }
+        }
+        _ => return Err("another COMMIT".into()),
+    }
+    assert_eq!(rt; number_in(r.mem.at(alloc, &r.pool, b"a", 8192)?), Some(5));
+    assert_eq!(rt; r.mem.rows(), 1);
+    let log = log_of(alloc, &[&INSERT, &IN_MEMORY, &IGNORING, &IGNORED])?;
+    assert_eq!(rt; retold(alloc, log.as_slice())?, Ok((1, 18, 0, 1)));
+    let log = log_of(alloc, &[&INSERT, &IN_MEMORY, &IGNORING, &NOT_IGNORED])?;
+    assert_eq!(rt;
+        retold(alloc, log.as_slice())?,
+        Err(Why::B3 { offset: 116 })
+    );
     Ok(())
 }
 

@@ -73,6 +73,33 @@ fn an_earlier_moment_has_its_own_images(rt: HostRuntime) -> Result<(), TestFail>
 }
 
 #[test]
+fn a_crash_after_four_thousand_calls_has_its_image(rt: HostRuntime) -> Result<(), TestFail> {
+    let alloc = rt.alloc();
+    let mut disk = MemDisk::new(alloc);
+    for file in 0..1000u64 {
+        let done = disk.write_at(file, 0, b"abcd").is_ok()
+            && disk.sync(file).is_ok()
+            && disk.write_at(file, 0, b"ef").is_ok()
+            && disk.len(file).is_ok();
+        assert!(rt; done);
+    }
+    let Ok(mut image) = disk.crash(alloc, disk.moment(), &[1, 0, 3, 2]) else {
+        return Err("no memory".into());
+    };
+    let table: [(u64, &[u8]); 5] = [
+        (0, b"efcd"),
+        (1, b"abcd"),
+        (2, &[1, 1, b'c', b'd']),
+        (3, b"ebcd"),
+        (999, b"ebcd"),
+    ];
+    for (file, left) in table {
+        assert_eq!(rt; bytes(alloc, &mut image, file)?.as_slice(), left);
+    }
+    Ok(())
+}
+
+#[test]
 fn listed_calls_fail_and_are_not_done(rt: HostRuntime) -> Result<(), TestFail> {
     let alloc = rt.alloc();
     let fails = FailList::of(vec![in alloc; Fail::Any(2), Fail::Change(2), Fail::Change(4)]?);
@@ -145,6 +172,8 @@ impl Disk for SilentDisk {
     ghost faults = { λ d. d.faults };
 
     ghost reads_as_image = { λ d told. tt };
+
+    ghost images_hold_bytes = { λ d m c told left. Prim.cc };
 
     fn files(&mut self, _alloc: Global) -> Result<FileList, DiskNo> {
         self.fail()?;

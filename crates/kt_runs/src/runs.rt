@@ -10,6 +10,8 @@ use kt_disk::{
 use std::alloc::Global;
 use std::test::Fail;
 
+mod ignoring;
+mod points;
 mod sessions;
 mod tables;
 

@@ -5,6 +5,15 @@ use kt_script::{KindList, LastLine, ReplyList, ReplyLists, ShownReply, print_out
 use std::alloc::Global;
 use std::test::Fail;
 
+// A write of two operations.
+fn written_twice(alloc: Global, ts: u64, a: Outcome, b: Outcome) -> Result<ShownReply, NoMemory> {
+    let outcomes = OutcomeList::of(vec![in alloc; a, b]?);
+    Ok(ShownReply {
+        kinds: KindList::of(Vec::new(alloc)),
+        reply: Reply::At { ts, outcomes },
+    })
+}
+
 fn written(alloc: Global, ts: u64, outcome: Outcome) -> Result<ShownReply, NoMemory> {
     let outcomes = OutcomeList::of(vec![in alloc; outcome]?);
     Ok(ShownReply {
@@ -91,6 +100,22 @@ fn two_inserts_of_one_key_are_printed(rt: HostRuntime) -> Result<(), Fail> {
     print_output(alloc, &sessions, &events, &LastLine::Stopped, &mut out)?;
     let wanted =
         b"session 1\nat 4096 ok\nat 8192 present\nhistory\nbegin 1 2 20481 3\nstop\ntablet stopped\n";
+    assert_eq!(rt; out.as_slice(), wanted.as_slice());
+    Ok(())
+}
+
+#[test]
+fn each_outcome_is_printed(rt: HostRuntime) -> Result<(), Fail> {
+    let alloc = rt.alloc();
+    let first = written_twice(alloc, 4096, Outcome::Ignored, Outcome::Done)?;
+    let second = written_twice(alloc, 8192, Outcome::Present, Outcome::Absent)?;
+    let session = ReplyList::of(vec![in alloc; first, second]?);
+    let sessions = ReplyLists::of(vec![in alloc; session]?);
+    let events = EventList::of(Vec::new(alloc));
+    let mut out = Octets::new(alloc);
+    print_output(alloc, &sessions, &events, &LastLine::Stopped, &mut out)?;
+    let wanted =
+        b"session 1\nat 4096 ignored ok\nat 8192 present absent\nhistory\ntablet stopped\n";
     assert_eq!(rt; out.as_slice(), wanted.as_slice());
     Ok(())
 }

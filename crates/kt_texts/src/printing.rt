@@ -23,6 +23,7 @@ fn scripts_are_printed_and_read_again(rt: HostRuntime) -> Result<(), Fail> {
         b"table\ncolumn id int64 key\ncolumn v string\nsession\nscan now\ninsert 20 \"b\"\ninsert -7 \"minus\"\ninsert 3 \"\"\nscan now\n".as_slice(),
         b"table\ncolumn id int64 key\ncolumn v string\nsession\ninsert 1 \"a\"\ninsert 1 \"a\"\n".as_slice(),
         b"table\ncolumn host string key\ncolumn tick int64 key\ncolumn cpu int32 nullable\ncolumn up bool default true\nsession\ninsert \"db1\" 100 57 true ; insert \"db2\" 100 null false\nupsert \"db1\" 100 cpu=58\nupsert \"web\" 90 cpu=1\ndelete \"db2\" 100\nscan now select host,cpu where cpu>0\n".as_slice(),
+        b"table\ncolumn id int64 key\ncolumn v string\nsession\ninsert-ignore 1 \"b\" ; insert-ignore 2 \"c\"\nupdate-ignore 9 v=\"x\" ; delete-ignore 2\n".as_slice(),
         b"table\ncolumn k binary key\ncolumn note string nullable default \"a b\"\ncolumn n int8\nsession\nupdate x\"00ff\" note=\"\\x00\\\"=;\" n=-128\nscan now where note is not null and n<=7 and k>=x\"\" and note is null\n".as_slice(),
     ];
     for text in texts {

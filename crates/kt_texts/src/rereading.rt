@@ -68,12 +68,13 @@ fn an_insert_and_a_scan_are_read(rt: HostRuntime) -> Result<(), Fail> {
 #[test]
 fn worked_outputs_are_read(rt: HostRuntime) -> Result<(), Fail> {
     let alloc = rt.alloc();
-    let whole: [&[u8]; 5] = [
+    let whole: [&[u8]; 6] = [
         b"session 1\nrows 4096 0\nat 8192 ok\nat 12288 ok\nat 16384 ok\nrows 20480 3\n-7 \"minus\"\n3 \"\"\n20 \"b\"\nhistory\nlook 1 1 4096 1\nrows 1 1 4096\nbegin 1 2 8192 2\nend 1 2 8192\nbegin 1 3 12288 3\nend 1 3 12288\nbegin 1 4 16384 4\nend 1 4 16384\nlook 1 5 20480 5\nrows 1 5 20480\ntablet ahm 0 last 20480 rowsets 0\n",
         b"session 1\nat 4096 ok\nat 8192 present\nhistory\nbegin 1 1 4096 1\nend 1 1 4096\nbegin 1 2 8192 2\nend 1 2 8192\ntablet ahm 0 last 8192 rowsets 0\n",
         b"session 1\nat 4096 ok\nstopped\nstopped\nhistory\nbegin 1 1 4096 1\nend 1 1 4096\nbegin 1 2 8192 2\nstop\ntablet stopped\n",
         b"session 1\nat 4096 ok\nrows 4096 1\n1 \"a\"\nsession 2\nat 8192 ok\nahm 8192\nancient 8191 8192\nhistory\nbegin 1 1 4096 1\nend 1 1 4096\nbegin 2 1 8192 2\nend 2 1 8192\nrows 1 2 4096\nmark 2 2 8192\nancient 2 3 8191 8192\ntablet ahm 8192 last 8192 rowsets 0\n",
         b"history\ntablet ahm 0 last 0 rowsets 0\n",
+        b"session 1\nat 4096 ok ignored absent\nhistory\nbegin 1 1 4096 1\nend 1 1 4096\ntablet ahm 0 last 4096 rowsets 0\n",
     ];
     for text in whole {
         assert_eq!(rt; place(alloc, text)?, None);

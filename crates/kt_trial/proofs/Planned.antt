@@ -10,13 +10,13 @@ use Rattle.kt_base.specs.declared.cell.Cell.TheVariants as cell
 use Rattle.kt_history.specs.declared.command.Command.{Command}
 use Rattle.kt_history.specs.declared.command.Command.TheVariants as command
 use Rattle.kt_history.specs.declared.operation.OpKind.{OpKind}
-use Rattle.kt_history.specs.declared.operation.OpKind.TheVariants.{Insert, Upsert, Update, Delete}
+use Rattle.kt_history.specs.declared.operation.OpKind.TheVariants.{Insert, Upsert, Update, Delete, InsertIgnore, UpdateIgnore, DeleteIgnore}
 use Rattle.kt_history.specs.declared.operation.RowOp.{RowOp}
 use Rattle.kt_history.specs.Machine.{Workload, HasDifferentKeys, nth, command_of, ops_of}
 use Rattle.kt_history.specs.Operations.{DifferentKeys}
 use Rattle.kt_history.specs.Rows.{Row, key_cmp}
 use Rattle.kt_records.proofs.Lengths.{length-operation}
-use Rattle.kt_records.specs.Rules.{EachAfter, FollowingOp, CellsFit, may_hold, has_key}
+use Rattle.kt_records.specs.Rules.{EachAfter, FollowingOp, CellsFit, may_list, may_hold, has_key}
 use Rattle.kt_records.specs.Spelling.{operation}
 use Rattle.kt_tablet.specs.SnapLaws.{by_bool, same_key}
 use Rattle.kt_engine.specs.Logged.{IsShort}
@@ -29,16 +29,16 @@ none_plain Insert = record { fits = record { listed = refl; count = omega arith;
 none_plain Upsert = record { fits = record { listed = refl; count = omega arith; cells = tt }; short = omega arith }
 none_plain Update = record { fits = record { listed = refl; count = omega arith; cells = tt }; short = omega arith }
 none_plain Delete = record { fits = record { listed = refl; count = omega arith; cells = tt }; short = omega arith }
+none_plain InsertIgnore = record { fits = record { listed = refl; count = omega arith; cells = tt }; short = omega arith }
+none_plain UpdateIgnore = record { fits = record { listed = refl; count = omega arith; cells = tt }; short = omega arith }
+none_plain DeleteIgnore = record { fits = record { listed = refl; count = omega arith; cells = tt }; short = omega arith }
 
 -- one number
-one_plain : (kind : OpKind) (column value : ℕ) → (kind ≡ Delete → ⊥) → column < 2 ^ 16 → value < 2 ^ 32 → CellsFit kind ((column, cell.Int (pos value)) ∷ [])
-one_plain Insert column value other few low = record { listed = refl; count = omega arith; cells = (record { rising = omega arith; id = few; cell = omega (arith, low) }, tt) }
-one_plain Upsert column value other few low = record { listed = refl; count = omega arith; cells = (record { rising = omega arith; id = few; cell = omega (arith, low) }, tt) }
-one_plain Update column value other few low = record { listed = refl; count = omega arith; cells = (record { rising = omega arith; id = few; cell = omega (arith, low) }, tt) }
-one_plain Delete column value other few low = absurd (other refl)
+one_plain : (kind : OpKind) (column value : ℕ) → may_list kind 1 ≡ true → column < 2 ^ 16 → value < 2 ^ 32 → CellsFit kind ((column, cell.Int (pos value)) ∷ [])
+one_plain kind column value may few low = record { listed = may; count = omega arith; cells = (record { rising = omega arith; id = few; cell = omega (arith, low) }, tt) }
 
-pub plain : (kind : OpKind) (cells : Row) (column value : ℕ) → cells ≡ (column, cell.Int (pos value)) ∷ [] → (kind ≡ Delete → ⊥) → column < 2 ^ 16 → value < 2 ^ 32 → ArePlain kind cells
-plain kind cells column value is other few low = subst (λ (l : Row). ArePlain kind l) (sym is) (record { fits = one_plain kind column value other few low; short = omega arith })
+pub plain : (kind : OpKind) (cells : Row) (column value : ℕ) → cells ≡ (column, cell.Int (pos value)) ∷ [] → may_list kind 1 ≡ true → column < 2 ^ 16 → value < 2 ^ 32 → ArePlain kind cells
+plain kind cells column value is may few low = subst (λ (l : Row). ArePlain kind l) (sym is) (record { fits = one_plain kind column value may few low; short = omega arith })
 
 -- ---- one operation more
 

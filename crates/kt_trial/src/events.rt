@@ -118,7 +118,7 @@ pub fn end(
         return Err(Miss::End);
     };
     done_agrees(alloc, machine, number, &done)?;
-    machine.ends(number);
+    machine.ends(number, done.outcomes.as_slice());
     Ok(Seat::Ready { next: next + 1 })
 }
 

@@ -182,9 +182,14 @@ impl Machine {
         Ok(Some((write.ts, outcomes)))
     }
 
-    /// The flying write of a session ends.
-    pub fn ends(&mut self, session: u32) {
+    /// The flying write of a session ends with these outcomes.
+    pub fn ends(&mut self, session: u32, outcomes: &[Outcome]) {
         count(&mut self.tally.ended);
+        for outcome in outcomes {
+            if *outcome == Outcome::Ignored {
+                count(&mut self.tally.ignored);
+            }
+        }
         for write in &mut self.writes {
             if write.session == session {
                 write.flies = false;

@@ -77,7 +77,7 @@ fn with(cell: Option<(u16, i64)>, line: Line) -> Line {
 pub fn after(op: &Op, line: Option<Line>) -> (Option<Line>, Outcome) {
     match line {
         None => match op.kind {
-            OpKind::Insert | OpKind::Upsert => {
+            OpKind::Insert | OpKind::Upsert | OpKind::InsertIgnore => {
                 let fresh = Line {
                     x: None,
                     y: Some(DEFAULT),
@@ -85,11 +85,15 @@ pub fn after(op: &Op, line: Option<Line>) -> (Option<Line>, Outcome) {
                 (Some(with(op.cell, fresh)), Outcome::Done)
             }
             OpKind::Update | OpKind::Delete => (None, Outcome::Absent),
+            OpKind::UpdateIgnore | OpKind::DeleteIgnore => (None, Outcome::Ignored),
         },
         Some(line) => match op.kind {
             OpKind::Insert => (Some(line), Outcome::Present),
-            OpKind::Upsert | OpKind::Update => (Some(with(op.cell, line)), Outcome::Done),
-            OpKind::Delete => (None, Outcome::Done),
+            OpKind::InsertIgnore => (Some(line), Outcome::Ignored),
+            OpKind::Upsert | OpKind::Update | OpKind::UpdateIgnore => {
+                (Some(with(op.cell, line)), Outcome::Done)
+            }
+            OpKind::Delete | OpKind::DeleteIgnore => (None, Outcome::Done),
         },
     }
 }

@@ -2,6 +2,7 @@
 ghost use Rattle.std.specs.Prelude.{◌≡◌, ◌≤◌, ◌∷◌, [], ℕ, pos, IfOk, length};
 ghost use Rattle.std.specs.List.{All};
 ghost use Rattle.kt_base.specs.declared.cell.Cell.TheVariants.{Int};
+ghost use Rattle.kt_records.specs.Rules.{may_list};
 ghost use Rattle.kt_trial.specs.Plans.{ArePlain, IsPlain, AreBelow, WriteFits, CommandFits, PlanFits};
 
 use crate::dice::Dice;
@@ -21,11 +22,21 @@ fn one_cell(alloc: Global, column: u16, value: u32) -> Result<Cells, NoMemory>
     Ok(Cells::of(cells))
 }
 
+// Whether an operation of this kind lists a cell.
+fn has_cell(kind: OpKind) -> bool
+    ensures { result ≡ may_list kind 1 }
+{
+    match kind {
+        OpKind::Delete | OpKind::DeleteIgnore => false,
+        _ => true,
+    }
+}
+
 // One cell, of one of the two columns, or none for a delete.
 fn cells_for(alloc: Global, dice: &mut Dice, kind: OpKind) -> Result<Cells, NoMemory>
     ensures { IfOk result (λ cells. ArePlain kind cells) }
 {
-    if kind == OpKind::Delete {
+    if !has_cell(kind) {
         return Ok(Cells::of(Vec::new(alloc)));
     }
     let column = 1 + dice.below(2) as u16;
@@ -34,10 +45,13 @@ fn cells_for(alloc: Global, dice: &mut Dice, kind: OpKind) -> Result<Cells, NoMe
 }
 
 fn kind_from(dice: &mut Dice) -> OpKind {
-    match dice.below(5) {
+    match dice.below(8) {
         0 => OpKind::Insert,
         1 => OpKind::Update,
         2 => OpKind::Delete,
+        3 => OpKind::InsertIgnore,
+        4 => OpKind::UpdateIgnore,
+        5 => OpKind::DeleteIgnore,
         _ => OpKind::Upsert,
     }
 }

@@ -23,6 +23,7 @@ fn each_answer_is_that_of_the_plain_machine(rt: HostRuntime) -> Result<(), Fail>
     // Each kind of answer was given, and often.
     assert!(rt; tally.begun > 10_000, "{tally:?}");
     assert!(rt; tally.ended > 10_000, "{tally:?}");
+    assert!(rt; tally.ignored > 1_000, "{tally:?}");
     assert!(rt; tally.waits > 10_000, "{tally:?}");
     assert!(rt; tally.large > 1_000, "{tally:?}");
     assert!(rt; tally.rows > 5_000, "{tally:?}");

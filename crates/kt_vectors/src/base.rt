@@ -27,7 +27,10 @@ fn a_sink_keeps_what_was_put(rt: HostRuntime) -> Result<(), Fail> {
     sink.reserve(8)?;
     assert!(rt; sink.put(b"lost").is_err());
     assert_eq!(rt; sink.put(b"kept").ok(), Some(4));
-    assert_eq!(rt; sink.bytes(), b"kept".as_slice());
+    assert!(rt; sink.put(b"too long").is_err());
+    assert_eq!(rt; sink.put(b"room").ok(), Some(4));
+    assert!(rt; sink.put(b"!").is_err());
+    assert_eq!(rt; sink.bytes(), b"keptroom".as_slice());
     Ok(())
 }
 

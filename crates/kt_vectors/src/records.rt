@@ -65,8 +65,9 @@ fn faults_are_found_at_their_places(rt: HostRuntime) {
     assert_eq!(rt; fault_at(alloc, 9, 0), Some(9));
     assert_eq!(rt; fault_at(alloc, 9, 65), Some(9));
     assert_eq!(rt; fault_at(alloc, 10, 1), Some(9));
-    assert_eq!(rt; fault_at(alloc, 11, 5), Some(11));
+    assert_eq!(rt; fault_at(alloc, 11, 8), Some(11));
     assert_eq!(rt; fault_at(alloc, 11, 4), Some(22));
+    assert_eq!(rt; fault_at(alloc, 11, 7), Some(22));
     assert_eq!(rt; fault_at(alloc, 12, 200), Some(32));
     assert_eq!(rt; fault_at(alloc, 26, 4), Some(26));
     assert_eq!(rt; fault_at(alloc, 27, 0), Some(31));
@@ -79,4 +80,62 @@ fn a_cut_record_is_at_fault_at_its_end(rt: HostRuntime) {
         let offset = len as u64;
         assert!(rt; matches!(read, Err(CodecNo::Place { offset: at }) if at == offset));
     }
+}
+
+// The record is read, and spelled again as it was.
+fn is_spelled_again(alloc: std::alloc::Global, bytes: &[u8]) -> Result<bool, Fail> {
+    let found = read_record(alloc, bytes).ok().ok_or("not read")?;
+    let mut again = Octets::new(alloc);
+    spell(alloc, &found, &mut again)?;
+    Ok(again.as_slice() == bytes)
+}
+
+#[test]
+fn operations_that_ignore_have_the_numbers_5_to_7(rt: HostRuntime) -> Result<(), Fail> {
+    let alloc = rt.alloc();
+    let kinds = [
+        (5, OpKind::InsertIgnore),
+        (6, OpKind::UpdateIgnore),
+        (7, OpKind::DeleteIgnore),
+    ];
+    for (number, kind) in kinds {
+        let bytes = [1, 0, 16, 0, 0, 0, 0, 0, 0, 1, 0, number, 1, 0, 97, 0, 0];
+        match read_record(alloc, &bytes) {
+            Ok(Entry::Replicate { ts: 4096, ops }) => {
+                assert_eq!(rt; ops.as_slice()[0].kind, kind);
+            }
+            _ => return Err("not read".into()),
+        }
+        assert!(rt; is_spelled_again(alloc, &bytes)?);
+    }
+    Ok(())
+}
+
+#[test]
+fn an_ignored_operation_has_no_target(rt: HostRuntime) -> Result<(), Fail> {
+    let alloc = rt.alloc();
+    let ignored = [2, 0, 16, 0, 0, 0, 0, 0, 0, 1, 0, 3, 0];
+    match read_record(alloc, &ignored) {
+        Ok(Entry::Commit { ts: 4096, rows }) => {
+            assert_eq!(rt; rows.as_slice()[0].outcome, Outcome::Ignored);
+        }
+        _ => return Err("not read".into()),
+    }
+    assert!(rt; is_spelled_again(alloc, &ignored)?);
+    let mut done = COMMIT;
+    done[11] = 3;
+    assert!(rt;
+        matches!(
+            read_record(alloc, &done),
+            Err(CodecNo::Place { offset: 12 })
+        )
+    );
+    done[11] = 4;
+    assert!(rt;
+        matches!(
+            read_record(alloc, &done),
+            Err(CodecNo::Place { offset: 11 })
+        )
+    );
+    Ok(())
 }

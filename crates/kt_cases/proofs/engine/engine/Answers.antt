@@ -1,9 +1,14 @@
 use Rattle.std.proofs.Common.{◌≡◌, List, [], Ok, ap, sym, subst, refl, lit<, ◌∙◌}
+use Rattle.std.specs.List.{All}
+use Rattle.std.proofs.lemmas.List.Elements.{All-nil}
 use Rattle.kt_disk.specs.Memory.{MemView, mem_now, mem_leaves, mem_seen}
 use Rattle.kt_records.specs.declared.entry.Entry.{Entry}
 use Rattle.kt_journal.specs.Log.{Holds, log_of}
 use Rattle.kt_journal.proofs.Fresh.{fresh_opens, fresh_log}
 use Rattle.kt_loglaws.specs.Replay.{empty}
+use Rattle.kt_engine.specs.Logged.{NamesOnly}
+use Rattle.kt_engine.specs.Engines.{KeepsOthers}
+use Rattle.kt_engine.proofs.Others.{opened_others}
 use Rattle.kt_engine.proofs.Empty.{recalls_none, told_none, log_none, last_none}
 use Rattle.kt_cases.proofs.engine.engine.Goals as goal
 
@@ -31,3 +36,9 @@ of-requires-clause-last c = last_none c.in-Ok.records c.no_records-none.result _
 
 pub of-requires-clause-durable : goal.of-requires-clause-durable
 of-requires-clause-durable c = λ told. subst (λ (l : List Entry). Holds mem_now mem_leaves c.in-Ok.journal.disk l) (sym (c.in-Ok.ensures.reads told)) (c.in-Ok.ensures.durable told)
+
+pub of-requires-clause-names : goal.of-requires-clause-names
+of-requires-clause-names c = subst (All (NamesOnly c.in_ok-tablet.tablet.target)) (sym c.no_records-none.ensures) (All-nil (NamesOnly c.in_ok-tablet.tablet.target))
+
+pub of-requires-clause-others : goal.of-requires-clause-others
+of-requires-clause-others c = λ told. subst (λ (d : MemView). KeepsOthers mem_now mem_leaves d c.in-Ok.journal.disk) (sym c.of-device.ensures) (opened_others mem_now mem_leaves c.new-disk.result c.in-Ok.journal.disk (c.in-Ok.ensures.frames told))
