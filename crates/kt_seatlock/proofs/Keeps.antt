@@ -496,33 +496,41 @@ module _ {T E P : Type 0} (trail : T → List E) (part : T → ℕ → P) (owner
         fresh = r.fresh;
       }
 
+  -- no entry bears a number from g on
+  abbrev HasNoneFrom : ℕ → List E → Type 0
+  HasNoneFrom g entries = (k : ℕ) → g ≤ k → Each (λ e. owner e ≢ Some k) entries
+
+  -- the part of each number from g on is the one that the value o told
+  abbrev HasFirstFrom : ℕ → Option T → T → Type 0
+  HasFirstFrom g o y = (k : ℕ) → g ≤ k → Some (part y k) ≡ told part o k
+
   abbrev Found : List (Option T) → V → Type 0
-  Found xs v = (x : T) × (get_elem? xs 0 ≡ some (Some x)) × Follows owner v.number v.seen (trail x) × (v.part ≡ Some (part x v.number)) × AreKept trail part owner x v.joined
+  Found xs v = (x : T) × (get_elem? xs 0 ≡ some (Some x)) × Follows owner v.number v.seen (trail x) × (v.part ≡ Some (part x v.number)) × AreKept trail part owner x v.joined × HasNoneFrom v.given (trail x) × HasFirstFrom v.given v.filled x
 
   found : (xs : List (Option T)) (s : St) (id : ℕ) (v : V) (g r : ℕ) (o : ℕ → ℕ) → v.stage ≡ Outside → get_elem? s.views id ≡ some v → length v.joined + 1 ≡ v.given → total weight s.views ≡ g
-      → ((k : ℕ) (y : Option T) → get_elem? s.homes k ≡ some (some y) → get_elem? xs k ≡ some y) → (ph : Phase T) → AtTurn trail part owner ph (get_or s.words 0 0) (get_or s.words 1 0) s.homes s.views → IsFull ph → S ph g r o id v → Found xs v
-  found xs s id v g r o is at all whole homes vacant turn full st = absurd full
-  found xs s id v g r o is at all whole homes filling turn full st = absurd full
-  found xs s id v g r o is at all whole homes (free x) turn full st =
-      (x, homes 0 (Some x) turn.1, st.saw, st.has, each_map (Q (free x) g o id v.number) (λ (q : Joined E P). (q.part ≡ Some (part x q.number)) × Follows owner q.number q.seen (trail x)) (λ q h. (h.3, h.4)) v.joined st.took)
-  found xs s id v g r o is at all whole homes (held j x) turn full st = let d : V = turn.1.0 in let inn : d.stage ≡ Inside x = turn.1.2 in let one : lives v.stage ≡ 1 = ap lives is in
+      → ((k : ℕ) (y : Option T) → get_elem? s.homes k ≡ some (some y) → get_elem? xs k ≡ some y) → (ph : Phase T) → AtTurn trail part owner ph (get_or s.words 0 0) (get_or s.words 1 0) s.homes s.views → HasNoneFrom g (trail_at trail ph) → IsFull ph → S ph g r o id v → Found xs v
+  found xs s id v g r o is at all whole homes vacant turn fresh full st = absurd full
+  found xs s id v g r o is at all whole homes filling turn fresh full st = absurd full
+  found xs s id v g r o is at all whole homes (free x) turn fresh full st =
+      (x, homes 0 (Some x) turn.1, st.saw, st.has, each_map (Q (free x) g o id v.number) (λ (q : Joined E P). (q.part ≡ Some (part x q.number)) × Follows owner q.number q.seen (trail x)) (λ q h. (h.3, h.4)) v.joined st.took, λ k le. fresh k (let gave = (st.gives (λ e. omega arith)).0 in omega arith), λ k le. let gave = st.gives (λ e. omega arith) in gave.2 k (let all_given = gave.0 in omega arith))
+  found xs s id v g r o is at all whole homes (held j x) turn fresh full st = let d : V = turn.1.0 in let inn : d.stage ≡ Inside x = turn.1.2 in let one : lives v.stage ≡ 1 = ap lives is in
       let gave = (st.gives (λ e. omega arith)).0 in let one_d : lives d.stage ≡ 1 = ap lives inn in
       let none_left : weight d ≡ 0 = others_none weight s.views id j v d at (omega arith) (not_inside s.views id j v d x at is turn.1.1 inn) turn.1.1 in absurd (omega arith)
 
   -- what the last pass finds
   pub closes : (ws : List ℕ) (xs : List (Option T)) (id : ℕ) (v : V) → v.stage ≡ Outside → length v.joined + 1 ≡ v.given → Final (Seen Rule id v) ws xs → Found xs v
   closes ws xs id v is all f = let s : St = f.0 in let r : Rule s = f.1.0 in let known = r.seats id v f.1.1 in
-      found xs s id v r.given r.giver r.seat_of is f.1.1 all r.whole f.4 r.phase r.turn (subst (InStage r.phase id) is known.1) (known.0 (live_outside v.stage is))
+      found xs s id v r.given r.giver r.seat_of is f.1.1 all r.whole f.4 r.phase r.turn r.fresh (subst (InStage r.phase id) is known.1) (known.0 (live_outside v.stage is))
 
   pub unmakes : (ws : List ℕ) (xs : List (Option T)) (id : ℕ) (v : V) → v.stage ≡ Vacant → Final (Seen Rule id v) ws xs → get_elem? xs 0 ≡ some None
   unmakes ws xs id v is f = let s : St = f.0 in let r : Rule s = f.1.0 in let ph : r.phase ≡ vacant = subst (InStage r.phase id) is (r.seats id v f.1.1).1 in
       let turn = subst (λ z. AtTurn trail part owner z (get_or s.words 0 0) (get_or s.words 1 0) s.homes s.views) ph r.turn in f.4 0 None turn.1
 
   abbrev Told : V → T → Type 0
-  Told v y = Follows owner v.number v.seen (trail y) × (v.part ≡ Some (part y v.number)) × AreKept trail part owner y v.joined
+  Told v y = Follows owner v.number v.seen (trail y) × (v.part ≡ Some (part y v.number)) × AreKept trail part owner y v.joined × HasNoneFrom v.given (trail y) × HasFirstFrom v.given v.filled y
 
   pub found_value : (xs : List (Option T)) (v : V) (o : Option T) (y : T) → Found xs v → get_elem? xs 0 ≡ some o → o ≡ Some y → Told v y
-  found_value xs v o y f at is = let e : Some f.0 ≡ Some y = some-injective (Some f.0) (Some y) (sym f.1 ∙ (at ∙ ap some is)) in let same : f.0 ≡ y = cc in subst (Told v) same (f.2, f.3, f.4)
+  found_value xs v o y f at is = let e : Some f.0 ≡ Some y = some-injective (Some f.0) (Some y) (sym f.1 ∙ (at ∙ ap some is)) in let same : f.0 ≡ y = cc in subst (Told v) same (f.2, f.3, f.4, f.5, f.6)
 
   pub found_some : (xs : List (Option T)) (v : V) (o : Option T) → Found xs v → get_elem? xs 0 ≡ some o → o ≢ None
   found_some xs v o f at is = let e : Some f.0 ≡ None = some-injective (Some f.0) None (sym f.1 ∙ (at ∙ ap some is)) in absurd (cc)

@@ -1,6 +1,7 @@
 //! The life of a lock: made vacant, filled once, and closed by its last pass.
-ghost use Rattle.std.specs.Prelude.{◌≡◌, ◌≤◌, [], Some, IfOk};
-ghost use Rattle.kt_seatlock.specs.Trails.{own, Follows};
+ghost use Rattle.std.specs.Prelude.{◌≡◌, ◌≢◌, ◌≤◌, ℕ, [], Some, IfOk};
+ghost use Rattle.kt_seatlock.specs.Trails.{Each, own, Follows};
+ghost use Rattle.kt_seatlock.specs.Views.{told};
 ghost use Rattle.kt_seatlock.specs.Rule.{AreKept, HasJustTheirs};
 ghost use Rattle.kt_seatlock.specs.Passes.{number, seen, part, joined, given, filled, passes_of, IsVacant, IsOutside, IsPassOf, IsSamePass, IsLastPass};
 
@@ -51,7 +52,8 @@ impl<T: Shared> SeatLock<T> {
         pass.last = turn.wrapping_add(1);
     }
 
-    /// Ends the lock. Its value has all that was seen, and the part of each pass.
+    /// Ends the lock. Its value has all that was seen, and the part of each pass. No entry bears a number that was not given,
+    /// and the part of such a number is as the value had it that filled the lock.
     pub fn close(self, pass: Pass<T>) -> T
         requires own { IsPassOf self pass }
         requires outside { IsOutside pass }
@@ -61,6 +63,8 @@ impl<T: Shared> SeatLock<T> {
         ensures joined { AreKept T.trail T.part T.owner result (joined pass) }
         ensures visits { own T.owner (number pass) (T.trail result) ≡ own T.owner (number pass) (seen pass) }
         ensures visits_of_joined { HasJustTheirs T.owner (T.trail result) (joined pass) }
+        ensures fresh { (k : ℕ) → given pass ≤ k → Each (λ e. T.owner e ≢ Some k) (T.trail result) }
+        ensures untouched { (k : ℕ) → given pass ≤ k → Some (T.part result k) ≡ told T.part (filled pass) k }
     {
         let SeatLock { table, passes: _ } = self;
         let Pass {
