@@ -9,6 +9,7 @@ pub mod Applied
 pub mod Ended
 pub mod Lines
 pub mod Plans
+pub mod Running
 pub mod Devices
 pub mod Raised
 pub mod Crashes

@@ -4,6 +4,10 @@ use Rattle.kt_history.specs.declared.event.Event.{Event}
 use Rattle.kt_history.specs.declared.event.Event.TheVariants as event
 use Rattle.kt_records.specs.declared.entry.Entry.{Entry}
 use Rattle.kt_seatlock.specs.Trails.{Adds, KeepsParts}
+use Rattle.kt_history.specs.declared.target.Target.{Target}
+use Rattle.kt_history.specs.Machine.{Workload}
+use Rattle.kt_journal.specs.Open.{JournalView}
+use Rattle.kt_histlaws.specs.Histories.{Store}
 use Rattle.kt_histlaws.specs.Parts.{SessionPart, part}
 use Rattle.kt_engine.specs.Logged.{place_of}
 use Rattle.kt_engine.specs.Engines.{EngineView}
@@ -36,7 +40,46 @@ pub record PassPart : Type 0 where
 abbrev pub part_of : {L D C : Type 0} → EngineView L D C → ℕ → PassPart
 part_of view n = record { session = part view.tablet.core n; place = place_of n view.places; out = out_of view.log.holder view.log.out n }
 
+-- What is alike in every part and never changes while passes visit: what is to be run, and what opening found.
+pub record Root (L D C : Type 0) : Type 0 where
+  pub work : Workload
+  pub opened : ℕ
+  pub opening : List Store
+  pub mark : ℕ
+  pub records : List Entry
+  pub target : Target
+  pub began : C
+  pub device : L
+  pub store : D
+
+abbrev pub root_of : {L D C : Type 0} → EngineView L D C → Root L D C
+root_of view = record {
+  work = view.tablet.core.work;
+  opened = view.tablet.core.opened;
+  opening = view.tablet.opening;
+  mark = view.tablet.mark;
+  records = view.records;
+  target = view.tablet.target;
+  began = view.tablet.opened;
+  device = view.device;
+  store = view.store;
+}
+
+-- the log as it went out, if this pass has it
+abbrev pub lent_of : {J : Type 0} → Option ℕ → J → ℕ → Option J
+lent_of None known n = None
+lent_of (Some by) known n = if by == n then Some known else None
+
+-- What the lock knows of one pass: what the engine has of it, the log as it went out to it, and what is alike in every part.
+pub record PartView (L D C : Type 0) : Type 0 where
+  pub pass : PassPart
+  pub lent : Option (JournalView L)
+  pub root : Root L D C
+
+abbrev pub part_in : {L D C : Type 0} → EngineView L D C → ℕ → PartView L D C
+part_in view n = record { pass = part_of view n; lent = lent_of view.log.holder view.log.known n; root = root_of view }
+
 -- It adds one line at most, of its own session or of none, and changes no other pass's part.
 pub record IsVisit {L D C : Type 0} (n : ℕ) (old new : EngineView L D C) : Type 0 where
   pub line : Adds session_of n old.tablet.core.trail new.tablet.core.trail
-  pub parts : KeepsParts part_of n old new
+  pub parts : KeepsParts part_in n old new

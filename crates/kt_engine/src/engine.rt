@@ -33,6 +33,8 @@ pub struct Engine<L: Disk, D, C: Clock> {
     pub(crate) store: D,
     // the session and the place of the REPLICATE of each flying write
     pub(crate) places: Vec<(u32, u64)>,
+    // how many sessions run
+    pub(crate) running: usize,
     pub(crate) records: Snapshot<RecordList>,
     pub(crate) device: Snapshot<L>,
 }
@@ -42,9 +44,9 @@ impl<L: Disk, D, C: Clock> Model for Engine<L, D, C> {
 
     ghost Value = { EngineView L D C };
 
-    ghost view = { λ e. record { tablet = e.tablet; log = e.log; places = e.places.items; records = e.records.value; device = e.device.value; store = e.store } };
+    ghost view = { λ e. record { tablet = e.tablet; log = e.log; places = e.places.items; records = e.records.value; device = e.device.value; store = e.store; running = e.running } };
 
-    ghost invariant = { λ e. IsEngine L.tells L.seen L.now L.leaves L.faults (record { tablet = e.tablet; log = e.log; places = e.places.items; records = e.records.value; device = e.device.value; store = e.store }) };
+    ghost invariant = { λ e. IsEngine L.tells L.seen L.now L.leaves L.faults (record { tablet = e.tablet; log = e.log; places = e.places.items; records = e.records.value; device = e.device.value; store = e.store; running = e.running }) };
 }
 
 /// What an engine is taken apart into.
@@ -89,6 +91,7 @@ impl<L: Disk, D, C: Clock> Engine<L, D, C> {
           records = records.now;
           device = device.value;
           store = store;
+          running = 0;
         }) }
         ensures back { IfErr result (λ e. (e.0 ≡ tablet) × (e.1 ≡ journal) × (e.2 ≡ store)) }
     {
@@ -98,6 +101,7 @@ impl<L: Disk, D, C: Clock> Engine<L, D, C> {
                 log,
                 store,
                 places: Vec::new(alloc),
+                running: 0,
                 records: Snapshot::of(records),
                 device,
             }),
@@ -105,14 +109,15 @@ impl<L: Disk, D, C: Clock> Engine<L, D, C> {
         }
     }
 
-    /// Takes the plan of the run. It takes no memory.
+    /// Takes the plan of the run: as many sessions run as it has. It takes no memory.
     pub fn set_plan(&mut self, plan: &Plan)
         requires fresh { (self.old.tablet.core.trail ≡ []) × (self.old.tablet.core.aloft ≡ []) × (self.old.tablet.core.stopped ≡ false) }
         requires few { length plan.now ≤ 64 }
         requires planned { HasDifferentKeys (record self.old.tablet.core.work { plan = plan.now }) }
-        ensures { self.new ≡ record self.old { tablet = record self.old.tablet { core = record self.old.tablet.core { work = record self.old.tablet.core.work { plan = plan.now }; turns = first_turns plan.now } } } }
+        ensures { self.new ≡ record self.old { tablet = record self.old.tablet { core = record self.old.tablet.core { work = record self.old.tablet.core.work { plan = plan.now }; turns = first_turns plan.now } }; running = length plan.now } }
     {
         self.tablet.set_plan(plan);
+        self.running = plan.len();
     }
 
     /// Whether the tablet has stopped.
@@ -144,6 +149,7 @@ impl<L: Disk, D, C: Clock> Engine<L, D, C> {
         ensures recovers_all { RecoversAll L.tells L.now L.leaves self.now }
         ensures at_home { self.now.log.holder ≡ None → (journal : JournalView L) × (self.now.log.home ≡ Some journal) }
         ensures home { (journal : _) → self.now.log.home ≡ Some journal → IsHome L.tells L.seen L.now L.leaves L.faults self.now journal }
+        ensures lent { (by : ℕ) → self.now.log.holder ≡ Some by → (L.faults self.now.device ≤ L.faults self.now.log.known.disk) × (self.now.tablet.core.stopped ≡ false) }
         ensures placed { map (λ p. p.0) self.now.places ≡ map (λ w. w.s) self.now.tablet.core.aloft }
         ensures at_rest { self.now.tablet.core.aloft ≡ [] → self.now.places ≡ [] }
         ensures among { All (IsPlaced (self.now.log.known.count + length (self.now.log.out ++ self.now.log.queued)) self.now.places) self.now.tablet.core.aloft }
@@ -168,6 +174,7 @@ impl<L: Disk, D, C: Clock> Engine<L, D, C> {
             log,
             store,
             places: _,
+            running: _,
             records: _,
             device: _,
         } = self;

@@ -7,9 +7,12 @@
 pub mod engine;
 pub mod log;
 pub mod scan;
+pub mod session;
+pub mod shared;
 pub mod write;
 
 pub use engine::{Engine, Parts};
 pub use kt_tablet::{BeginNo, LookNo, Snap, SnapNo, SnapView, Stopped};
 pub use log::{Broken, LogNo};
+pub use shared::Part;
 pub use write::WriteDone;

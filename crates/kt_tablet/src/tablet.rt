@@ -204,7 +204,7 @@ impl<S: RowStore, C: Clock> Tablet<S, C> {
     ghost use Rattle.kt_tablet.specs.Views.{IsSound, IsExact};
     ghost use Rattle.std.specs.Prelude.{◌≡◌, OnErr, IfOk, Err, true, false};
     ghost use Rattle.kt_tablet.specs.Visits.{MayLook, HasLooked, MayMark, HasMarked, MayAnswerChore};
-    ghost use Rattle.std.specs.Prelude.{OnOk};
+    ghost use Rattle.std.specs.Prelude.{OnOk, length};
     ghost use Rattle.kt_history.specs.declared.event.Event.TheVariants.{Chore};
     ghost use Rattle.kt_histlaws.specs.Events.{answered, halted};
 
@@ -221,6 +221,13 @@ impl<S: RowStore, C: Clock> Tablet<S, C> {
         ensures last { result.1 ≡ self.now.core.c }
     {
         (self.flight.mark(), self.flight.last())
+    }
+
+    /// How many lines its history has.
+    pub fn lines(&self) -> u64
+        ensures { result ≡ length self.now.core.trail }
+    {
+        self.trail.len() as u64
     }
 
     /// What it stands for: a run from each past that opening found, in which the lines show what the clock gave. What its

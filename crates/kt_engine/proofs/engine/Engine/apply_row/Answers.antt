@@ -7,4 +7,4 @@ invariant_of-self g c = applied_or_not _ _ _ _ _ _
     c.apply_row.new.self c.args.number c.args.at c.apply_row.result c.apply_row.ensures.applied c.apply_row.ensures.beside c.apply_row.ensures.same c.apply_row.ensures.stopped (rw (← c.self.view_is) at c.requires.durable) c.self.invariant
 
 pub returns-clause-visit : goal.returns-clause-visit
-returns-clause-visit g c = visit_of _ _ _ _ c.self.view_is (apply_visit c.args.number c.args.at _ c.apply_row.new.self c.apply_row.result c.apply_row.ensures.applied c.apply_row.ensures.same)
+returns-clause-visit g c = visit_of _ _ _ _ c.self.view_is (apply_visit c.args.number c.args.at _ c.apply_row.new.self c.apply_row.result c.apply_row.ensures.applied c.apply_row.ensures.beside c.apply_row.ensures.same)

@@ -1,6 +1,6 @@
 use Rattle.std.proofs.Common.{◌≡◌, ◌<◌, ◌≤◌, ◌+◌, ◌^◌, length, sym, ap, ◌∙◌, ◌++◌, ◌∷◌, [], subst, rules, false, List, ℕ}
 use Rattle.kt_engine.proofs.Begun.{roomed, left_alone, has_begun}
-use Rattle.kt_engine.proofs.Visiting.{visit_of, begun_visit}
+use Rattle.kt_engine.proofs.Visiting.{visit_of, lending, begun_visit}
 use Rattle.kt_engine.proofs.engine.Engine.begin.Goals as goal
 
 pub invariant_of-self : goal.invariant_of-self
@@ -24,7 +24,6 @@ invariant_of-self-2 g c =
 
 pub returns-clause-visit : goal.returns-clause-visit
 returns-clause-visit g c = visit_of _ _ _ _ c.self.view_is
-    (begun_visit c.args.number c.args.index c.in_ok-ts.ts c.push-place.result _ _ c.begin.new.self c.push-place.new.self c.push_reserved.new.self.items c.in_ok-ts.ensures.begun
-    (ap (λ l. l.holder) c.push-place.ensures.queued ∙ ap (λ l. l.holder) c.make_room.ensures.log)
-    (ap (λ l. l.out) c.push-place.ensures.queued ∙ ap (λ l. l.out) c.make_room.ensures.log)
+    (begun_visit c.args.number c.args.index c.in_ok-ts.ts c.push-place.result _ _ c.begin.new.self c.push-place.new.self c.push_reserved.new.self.items c.in_ok-ts.ensures.begun c.begin.ensures.beside
+    (ap lending c.push-place.ensures.queued ∙ ap lending c.make_room.ensures.log)
     (c.push_reserved.ensures.items ∙ ap (λ ps. ps ++ (c.args.number, c.push-place.result) ∷ []) c.make_room.ensures.places.0))

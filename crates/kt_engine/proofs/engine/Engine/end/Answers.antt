@@ -1,7 +1,7 @@
 use Rattle.std.proofs.Common.{◌≡◌, ap, false}
 use Rattle.kt_engine.proofs.Applied.{not_true}
 use Rattle.kt_engine.proofs.Ended.{has_ended, has_room}
-use Rattle.kt_engine.proofs.Visiting.{visit_of, ended_visit}
+use Rattle.kt_engine.proofs.Visiting.{visit_of, lending, ended_visit}
 use Rattle.kt_engine.proofs.engine.Engine.end.Goals as goal
 
 pub push-requires : goal.push-requires
@@ -17,5 +17,5 @@ invariant_of-self-2 g c =
 
 pub returns-clause-visit : goal.returns-clause-visit
 returns-clause-visit g c = visit_of _ _ _ _ c.self.view_is
-    (ended_visit c.args.number c.in_ok-ts.field-0.index c.in_ok-ts.field-0.ts _ c.end.new.self c.push.new.self c.forget.new.places.items c.in_ok-ts.ensures.ended
-    (ap (λ l. l.holder) c.push.ensures.queued) (ap (λ l. l.out) c.push.ensures.queued) c.forget.ensures)
+    (ended_visit c.args.number c.in_ok-ts.field-0.index c.in_ok-ts.field-0.ts _ c.end.new.self c.push.new.self c.forget.new.places.items c.in_ok-ts.ensures.ended c.end.ensures.beside
+    (ap lending c.push.ensures.queued) c.forget.ensures)

@@ -14,7 +14,7 @@ of-requires g c = record { usable = c.requires.usable; durable = c.requires.dura
 
 pub returns-in-Ok : goal.returns-in-Ok
 returns-in-Ok g c = record {
-  view = λ k. record { tablet = c.args.tablet; log = c.in-Ok.ensures.side k; places = c.new.ensures.items k; records = c.of-in-Ok.ensures k; device = c.args.device.value; store = c.args.store };
+  view = λ k. record { tablet = c.args.tablet; log = c.in-Ok.ensures.side k; places = c.new.ensures.items k; records = c.of-in-Ok.ensures k; device = c.args.device.value; store = c.args.store; running = 0 };
   back = tt;
 }
 

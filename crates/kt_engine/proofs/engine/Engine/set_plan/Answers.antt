@@ -1,8 +1,10 @@
 use Rattle.std.proofs.Common.{sym}
 use Rattle.kt_engine.proofs.Plans.{plan_keeps}
+use Rattle.kt_engine.proofs.Running.{running_keeps}
 use Rattle.kt_engine.proofs.engine.Engine.set_plan.Goals as goal
 
 pub invariant_of-self : goal.invariant_of-self
 invariant_of-self g c =
     let old = sym c.self.view_is in
-    plan_keeps g.L.Disk.tells g.L.Disk.seen g.L.Disk.now g.L.Disk.leaves g.L.Disk.faults _ c.set_plan.new.self c.args.plan.now c.self.invariant (rw old at c.requires.fresh.0) c.set_plan.ensures
+    running_keeps g.L.Disk.tells g.L.Disk.seen g.L.Disk.now g.L.Disk.leaves g.L.Disk.faults _ _
+    (plan_keeps g.L.Disk.tells g.L.Disk.seen g.L.Disk.now g.L.Disk.leaves g.L.Disk.faults _ c.set_plan.new.self c.args.plan.now c.self.invariant (rw old at c.requires.fresh.0) c.set_plan.ensures)
