@@ -1,11 +1,11 @@
 -- A row of a flying write is applied.
-use Rattle.std.proofs.Common.{◌≡◌, ◌≤◌, ◌<◌, ◌-◌, ℕ, suc, List, [], ◌∷◌, Some, None, Option, refl, sym, ap, ◌∙◌, subst, arith, cond, true, false, map, ◌⊎◌, inl, inr}
+use Rattle.std.proofs.Common.{◌≡◌, ◌≤◌, ◌<◌, ◌-◌, ℕ, suc, List, [], ◌∷◌, Some, None, refl, sym, ap, ◌∙◌, subst, arith, cond, true, false, map, ◌⊎◌, inl, inr}
 use Rattle.std.specs.Prelude.{is_some}
 use Rattle.kt_history.specs.declared.change.Change.{Change}
 use Rattle.kt_history.specs.declared.operation.RowOp.{RowOp}
 use Rattle.kt_history.specs.Rows.{Row}
 use Rattle.kt_history.specs.Operations.{effect}
-use Rattle.kt_histlaws.specs.Histories.{Hist, row_of, step_of, first_some, or_else, AtMostOne, Alone, nth_option}
+use Rattle.kt_histlaws.specs.Histories.{Hist, row_of, step_of, first_some, AtMostOne, Alone, nth_option}
 use Rattle.kt_histlaws.specs.Flights.{Under, AllUnder}
 use Rattle.kt_histlaws.proofs.OneKey.{alone_of_one, alone_of_none, length_map, none_left, none_right}
 use Rattle.kt_histlaws.proofs.Applying.{all_under, none_under, rows-settled}
@@ -15,9 +15,10 @@ use Rattle.kt_content.specs.Content.{Shown}
 use Rattle.kt_content.specs.MoreOps.{PlacesDiffer, BeginsInMemory}
 use Rattle.kt_content.specs.InMemory.{Name, Stores, same_name, stands_for, is_at, group, hist_at, HasPlace, Mirrors, hist_of_name, joined_name, index_in}
 use Rattle.kt_content.specs.Applying.{an_applied_change_mirrors, an_operation_without_a_change_mirrors}
-use Rattle.kt_content.proofs.MoreOps.{place_itself, place_in, row_in, live_is, before_is, row_is}
+use Rattle.kt_content.proofs.MoreOps.{none_in, place_itself, place_in, row_in, live_is, before_is, row_is}
 use Rattle.kt_content.proofs.Names.{none_there}
 use Rattle.kt_content.proofs.InMemory.{is_name, row_there_is, live_places, index_long, both_mirror}
+use Rattle.kt_content.proofs.Options.{or_none}
 
 live_has : (ts : ℕ) (p : Place) (row : Row) (held : Held) → live_in (standing ts held) ≡ Some (p, row) → HasPlace p held
 live_has ts p row [] h = absurd (cc)
@@ -47,21 +48,16 @@ nth_in t super p n h (x ∷ stores) is at = elim (same_name n x.0) as (λ b. sam
           ]
     ] refl is
 
-none_in : (o : Option (Place × Row)) → row_in o ≡ None → o ≡ None
-none_in None h = refl
-none_in (Some at) h = absurd (cc)
-
-or_none : {A : Type 0} (x : Option A) → or_else x None ≡ x
-or_none None = refl
-or_none (Some x) = refl
-
 module _ (fill : Row) (a ts : ℕ) (super : Super) (stores : Stores) (held : Held) (whole : Hist) (op : RowOp)
     (d : PlacesDiffer held) (b : BeginsInMemory held) (m : Mirrors a super stores held) (s : Shown a held whole) (un : Under ts whole.steps) (lt : a < ts) where
   live : row_in (live_in (standing ts held)) ≡ row_before ts whole
   live = row_is fill a ts held whole op d b s un lt
 
+  pub no_moves : (effect fill op.kind op.cells (row_before ts whole)).0 ≡ None → to_live fill op (live_in (standing ts held)) ≡ []
+  no_moves none = live_is fill op (live_in (standing ts held)) ∙ ap (λ r. to_place (place_in (live_in (standing ts held))) (effect fill op.kind op.cells r).0) live ∙ ap (to_place (place_in (live_in (standing ts held)))) none
+
   pub no_change : (effect fill op.kind op.cells (row_before ts whole)).0 ≡ None → Mirrors a super stores (moved ts (to_live fill op (live_in (standing ts held))) held)
-  no_change none = subst (λ (ms : Moves). Mirrors a super stores (moved ts ms held)) (sym (live_is fill op (live_in (standing ts held)) ∙ ap (λ r. to_place (place_in (live_in (standing ts held))) (effect fill op.kind op.cells r).0) live ∙ ap (to_place (place_in (live_in (standing ts held)))) none)) m
+  no_change none = subst (λ (ms : Moves). Mirrors a super stores (moved ts ms held)) (sym (no_moves none)) m
 
   module _ (n : Name) (h : Hist) (p : Place) (c : Change) (is : hist_of_name n stores ≡ Some h) (at : stands_for super n ≡ Some p) (one : AtMostOne (map (row_of (ts - 1)) (group super p stores)))
       (made : (effect fill op.kind op.cells (row_before ts whole)).0 ≡ Some c) where
@@ -100,7 +96,7 @@ module _ (fill : Row) (a ts : ℕ) (super : Super) (stores : Stores) (held : Hel
     alone_from o t le = subst (Alone i) (rows-settled ts (ts - 1) t hs group_under (omega arith) (omega arith)) (alone_before o)
 
     -- the move of the operation is the change, to that place
-    moves : ((is_some (row_before ts h) ≡ true) ⊎ ((row_before ts whole ≡ None) × (p ≡ memory))) → (to_live fill op (live_in (standing ts held)) ≡ (p, c) ∷ []) × HasPlace p held
+    pub moves : ((is_some (row_before ts h) ≡ true) ⊎ ((row_before ts whole ≡ None) × (p ≡ memory))) → (to_live fill op (live_in (standing ts held)) ≡ (p, c) ∷ []) × HasPlace p held
     moves (inl there) =
         let found = live_places a ts super stores held whole n h p d m s lt is at there in
         let row : Some found.0 ≡ row_before ts whole = sym (ap row_in found.1) ∙ live in

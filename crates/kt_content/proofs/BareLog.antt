@@ -1,5 +1,5 @@
 -- The replay of a log alone, as each key sees it: its content under the superblock of a fresh tablet.
-use Rattle.std.proofs.Common.{◌≡◌, ◌<◌, ◌-◌, ◌⊎◌, inl, inr, ℕ, max, List, [], ◌∷◌, ◌++◌, Some, None, Option, Ok, Err, Result, Bool, true, false, cond, ◌||◌, ◌&&◌, refl, sym, ap, ◌∙◌, subst, arith}
+use Rattle.std.proofs.Common.{◌≡◌, ◌<◌, ◌-◌, ◌⊎◌, inl, inr, ℕ, max, List, [], ◌∷◌, ◌++◌, Some, None, Option, Ok, Err, Result, Bool, true, false, cond, ◌||◌, refl, sym, ap, ◌∙◌, subst, arith}
 use Rattle.std.specs.Prelude.{is_some, nat_lt}
 use Rattle.std.specs.List.{list_any, list_all}
 use Rattle.std.specs.Ordering.{eq_by_cmp}
@@ -16,7 +16,7 @@ use Rattle.kt_records.specs.declared.entry.Entry.{Entry}
 use Rattle.kt_records.specs.declared.entry.Entry.TheVariants.{Replicate, Commit}
 use Rattle.kt_records.specs.declared.entry.CommitRow.{CommitRow}
 use Rattle.kt_journal.specs.Order.{InOrder, last_ts, is_above}
-use Rattle.kt_histlaws.specs.Histories.{Hist, past_hist, timeline, row_of, step_of, or_else}
+use Rattle.kt_histlaws.specs.Histories.{Hist, past_hist, timeline, row_of, step_of}
 use Rattle.kt_histlaws.specs.Pending.{has_key}
 use Rattle.kt_histlaws.specs.Flights.{AllOps}
 use Rattle.kt_histlaws.proofs.Applying.{row-past}
@@ -32,9 +32,10 @@ use Rattle.kt_content.specs.BareLog.{AboveZero, the_bare_log_is_the_empty_superb
 use Rattle.kt_content.proofs.MoreOps.{operation_more, before_is}
 use Rattle.kt_content.proofs.Records.{KeyOf, key_of, up_to_under, none_grown, op_grown, each_grown, ends_grown, ends_later, mark_stays}
 use Rattle.kt_content.proofs.Writes.{writes_have_rows}
-use Rattle.kt_content.proofs.Flushing.{one_alone}
 use Rattle.kt_content.proofs.Fresh.{fresh_empty, nothing_shown}
 use Rattle.kt_content.proofs.AboveFiles.{all_above}
+use Rattle.kt_content.proofs.Options.{one_alone, or_none, two_oks, is_there}
+use Rattle.std.proofs.lemmas.Bool.{and_parts, and_from, or_parts, or_from}
 
 -- a key that is in the one MemRowSet alone
 abbrev pub alone_in : Hist → Held
@@ -84,20 +85,9 @@ lacks_needed : (q : List ℕ) (ops : List RowOp) (rows : List CommitRow) → has
 lacks_needed q [] rows l = refl
 lacks_needed q (op ∷ ops) [] l = refl
 lacks_needed q (op ∷ ops) (row ∷ rows) l = elim (is_needed row) as (λ b. has_key q (cond b (op ∷ needed_ops ops rows) (needed_ops ops rows)) ≡ false) [
-  | true ↦ neither (not_first _ _ l) (lacks_needed q ops rows (not_rest _ _ l))
-  | false ↦ lacks_needed q ops rows (not_rest _ _ l)
+  | true ↦ or_from _ _ (or_parts _ _ l).0 (lacks_needed q ops rows (or_parts _ _ l).1)
+  | false ↦ lacks_needed q ops rows (or_parts (eq_by_cmp key_cmp q op.key) _ l).1
 ]
-  where
-    not_first : (a b : Bool) → (a || b) ≡ false → a ≡ false
-    not_first true b h = h
-    not_first false b h = refl
-
-    not_rest : (a b : Bool) → (a || b) ≡ false → b ≡ false
-    not_rest true b h = cc
-    not_rest false b h = h
-
-    neither : {a b : Bool} → a ≡ false → b ≡ false → (a || b) ≡ false
-    neither e f = rw (e, f) refl
 
 needed_differ : (ops : List RowOp) (rows : List CommitRow) → DifferentKeys ops → DifferentKeys (needed_ops ops rows)
 needed_differ [] rows d = tt
@@ -147,22 +137,7 @@ part q ts (op ∷ ops) (row ∷ rows) d = elim (eq_by_cmp key_cmp q op.key) as (
 
 each_is : (f : RowOp → Bool) (ops : List RowOp) → list_all f ops ≡ true → AllOps (λ op. f op ≡ true) ops
 each_is f [] h = tt
-each_is f (op ∷ ops) h = (first (f op) (list_all f ops) h, each_is f ops (rest (f op) (list_all f ops) h))
-  where
-    first : (a b : Bool) → (a && b) ≡ true → a ≡ true
-    first true b h = refl
-    first false b h = h
-
-    rest : (a b : Bool) → (a && b) ≡ true → b ≡ true
-    rest true b h = h
-    rest false b h = cc
-
-its_change : (o : Option Change) → is_some o ≡ true → (c : Change) × (o ≡ Some c)
-its_change None h = absurd (cc)
-its_change (Some c) h = (c, refl)
-
-two_oks : (x : Result Held ℕ) (g h : Held) → x ≡ Ok g → x ≡ Ok h → g ≡ h
-two_oks x g h e f = cc
+each_is f (op ∷ ops) h = ((and_parts (f op) (list_all f ops) h).0, each_is f ops (and_parts (f op) (list_all f ops) h).1)
 
 -- one write, as a key sees it
 module _ (fill : Row) (past : Past) (low ts : ℕ) (ops : List RowOp) (ends : IsPastUpTo low past) (lt : low < ts) (q : List ℕ) (shown : Shown 0 (alone_in (past_hist q past)) (past_hist q past)) where
@@ -198,7 +173,7 @@ module _ (fill : Row) (past : Past) (low ts : ℕ) (ops : List RowOp) (ends : Is
   told_goes rows xs d fit (Part.needed op targets key is need every) =
       let changes : is_some (effect_on fill (rows_at past (ts - 1)) op).0 ≡ true =
       every (λ o. is_some (effect_on fill (rows_at past (ts - 1)) o).0 ≡ true) (each_is (λ o. is_some (effect_on fill (rows_at past (ts - 1)) o).0) (needed_ops ops rows) fit) in
-      let c = its_change (effect_on fill (rows_at past (ts - 1)) op).0 changes in
+      let c = is_there (effect_on fill (rows_at past (ts - 1)) op).0 changes in
       let row : row_before ts (past_hist q past) ≡ find key_cmp op.key (rows_at past (ts - 1)) = row_then ∙ ap (λ (k : List ℕ). find key_cmp k (rows_at past (ts - 1))) (sym key) in
       with_goes (op_on q ts ops (Some rows)) xs (with_ops fill past ts (needed_ops ops rows)) op (grown_op (needed_ops ops rows) op d key every)
       (ap (λ l. played fill fresh (alone_in (past_hist q past)) (l ++ xs)) is
@@ -271,8 +246,8 @@ above_none fill q held [] = tt
 above_none fill q held (x ∷ xs) = (all_above q fresh x.ts (λ r. tt) (changed_in fill fresh (standing x.ts held) x.op x.told), above_none fill q held xs)
 
 pub bare_log : the_bare_log_is_the_empty_superblock
-bare_log fill records past log up turns is =
-    let none = fresh_empty fill in
+bare_log rules fill records past log up turns takes is =
+    let none = fresh_empty rules fill in
     let whole = replays fill records empty past 0 records (writes_have_rows records log) (log_rises 0 [] records (inl refl) log up) none.ends nothing_shown is in
     record {
       enough = omega arith;
@@ -281,6 +256,8 @@ bare_log fill records past log up turns is =
       last = omega arith;
       ends = subst (λ n. IsPastUpTo n past) (omega arith) whole.ends;
       turns = turns;
+      passes = takes;
+      files = tt;
       keys = λ q. record { held = alone_in (past_hist q past); is = (whole.keys q).0; shown = (whole.keys q).1; once = once_alone (past_hist q past) (seen q records records); above = above_none fill q (alone_in (past_hist q past)) (seen q records records) };
     }
 
@@ -326,14 +303,10 @@ module _ (fill : Row) (past : Past) (low ts : ℕ) (ends : IsPastUpTo low past) 
           changes_row op row.targets h.0 need
           (ap (λ b. played fill fresh (alone_in (past_hist op.key past)) (cond b (told ts op row.targets ∷ []) (op_on op.key ts ops (Some rows)) ++ more op.key)) (sym (itself op.key)) ∙ h.1)
 
-      both : (a b : Bool) → a ≡ true → b ≡ true → (a && b) ≡ true
-      both true b g h = h
-      both false b g h = cc
-
       one : (b : Bool) → is_needed row ≡ b → list_all (λ op. is_some (effect_on fill (rows_at past (ts - 1)) op).0) (needed_ops ops rows) ≡ true
           → list_all (λ op. is_some (effect_on fill (rows_at past (ts - 1)) op).0) (cond (is_needed row) (op ∷ needed_ops ops rows) (needed_ops ops rows)) ≡ true
       one true need rest = subst (λ b. list_all (λ op. is_some (effect_on fill (rows_at past (ts - 1)) op).0) (cond b (op ∷ needed_ops ops rows) (needed_ops ops rows)) ≡ true) (sym need)
-          (both _ _ (here need) rest)
+          (and_from _ _ (here need) rest)
       one false need rest = subst (λ b. list_all (λ op. is_some (effect_on fill (rows_at past (ts - 1)) op).0) (cond b (op ∷ needed_ops ops rows) (needed_ops ops rows)) ≡ true) (sym need) rest
 
   pub write_fits : (ops : List RowOp) (o : Option (List CommitRow)) → DifferentKeys ops
@@ -357,8 +330,8 @@ replay_ends fill all past low (Replicate ts ops ∷ records) w r ends shown f =
     (rest.0, ap (λ b. cond b (replay fill all next records) (Err ts)) fit ∙ rest.1)
 
 pub log_alone : the_empty_superblock_is_the_bare_log
-log_alone fill records c past log up is =
-    let none = fresh_empty fill in
+log_alone rules fill records c past log up is =
+    let none = fresh_empty rules fill in
     let writes = writes_have_rows records log in
     let rises = log_rises 0 [] records (inl refl) log up in
     let end = replay_ends fill records empty 0 records writes rises none.ends nothing_shown (λ q. ((is.keys q).held, (is.keys q).is)) in
@@ -371,7 +344,3 @@ log_alone fill records c past log up is =
           let shows : Shown 0 (alone_in (past_hist q end.0)) (past_hist q past) = subst (λ (l : Held). Shown 0 l (past_hist q past)) same key.shown in
           record { rows = λ t le. sym (or_none (row_of t (past_hist q end.0))) ∙ shows.shows.rows t le; steps = λ t lt. sym (or_none (step_of t (past_hist q end.0))) ∙ shows.shows.steps t lt }),
     )
-  where
-    or_none : {A : Type 0} (x : Option A) → or_else x None ≡ x
-    or_none None = refl
-    or_none (Some x) = refl

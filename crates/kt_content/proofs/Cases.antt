@@ -1,10 +1,11 @@
 -- The premises of the laws on jobs are met by worked cases.
-use Rattle.std.proofs.Common.{◌≡◌, ◌≤◌, ℕ, zero, suc, List, [], ◌∷◌, Some, None, Option, Ok, refl, arith, Bool, true, false, inl, inr}
-use Rattle.std.proofs.lemmas.Bool.{le-leb}
+use Rattle.std.proofs.Common.{◌≡◌, ◌≤◌, ℕ, zero, suc, List, [], ◌∷◌, None, Ok, refl, arith, Bool, true, false, inl, inr}
+use Rattle.std.specs.Prelude.{◌==◌}
+use Rattle.std.proofs.lemmas.Bool.{le-leb, ne_eqb}
 use Rattle.std.proofs.lemmas.Bool.Decides.{nat_tests}
 use Rattle.kt_history.specs.declared.change.Change.TheVariants.{Ins, Upd, Del}
-use Rattle.kt_history.specs.declared.operation.OpKind.TheVariants.{Insert, Delete}
-use Rattle.kt_histlaws.specs.Histories.{Hist, row_of, step_of, push, never, or_else}
+use Rattle.kt_history.specs.declared.operation.OpKind.TheVariants.{Insert, Update, Delete}
+use Rattle.kt_histlaws.specs.Histories.{Hist, row_of, step_of, push, never}
 use Rattle.kt_histlaws.specs.Fitting.{AreSound}
 use Rattle.kt_histlaws.specs.Jobs.{AreAlike, push_all}
 use Rattle.kt_histlaws.proofs.Fitting.{sound_push}
@@ -17,14 +18,20 @@ use Rattle.kt_content.specs.KeyOps.{KeyOp, seen, played}
 use Rattle.kt_content.specs.Content.{Shown}
 use Rattle.kt_content.specs.InMemory.{mem_rows, rowset, Stores, group, hist_at, HasPlace, Mirrors}
 use Rattle.kt_content.specs.StoreChanges.{steps_to}
-use Rattle.kt_content.specs.Lending.{Duplicates, OverTo}
-use Rattle.kt_content.specs.Lending.Fate.{covered as is_covered, doubled as is_doubled, stays}
-use Rattle.kt_content.proofs.Lending.{goes_over, duplicates, alike_to_never, one_alone}
+use Rattle.kt_content.specs.Lending.{Duplicates, GoesOver, OverTo}
+use Rattle.kt_content.specs.MissedChanges.{PutIn}
+use Rattle.kt_content.specs.MissedChanges.PutIn.{changes as put_changes}
+use Rattle.kt_content.specs.DeltaJobs.{IsDeltaJob}
+use Rattle.kt_content.specs.Lending.Fate.{apart, covered as is_covered, doubled as is_doubled, stays}
+use Rattle.kt_content.proofs.Lending.{goes_over, duplicates, alike_itself, alike_to_never}
+use Rattle.kt_content.proofs.MissedChanges.{swap_duplicates}
+use Rattle.kt_content.proofs.DeltaJobs.{delta_over}
 use Rattle.kt_content.specs.Agreement.{Agree}
 use Rattle.kt_content.specs.Publishing.{AllCarried, AllCarry, CarriedOver}
 use Rattle.kt_content.specs.Publishing.Carries.{left_alone, covered, doubled}
 use Rattle.kt_content.proofs.Publishing.{carries_over, two_phases}
-use Rattle.kt_content.proofs.Worked.{k, a, b, insert, delete, commit, rowset_flushed, super_flushed, held_updated, log_of, output, output_with_missed, published, in_the_output, log_anew, flushed, compacted, held_anew}
+use Rattle.kt_content.proofs.Worked.{k, a, b, c, deltas_log, redo, inserted, with_files, insert, delete, commit, rowset_flushed, super_flushed, held_updated, log_of, output, output_with_missed, published, in_the_output, log_anew, flushed, compacted, held_anew}
+use Rattle.kt_content.proofs.Options.{or_none, one_alone}
 
 -- a compaction leaves the MemRowSet alone
 abbrev keep : Place → Bool
@@ -122,10 +129,6 @@ alike_whole =
     let two = both_alike 0 8192 0 0 Del (push 4096 (Ins a) never ∷ never ∷ []) (push 4096 (Ins a) never ∷ []) one (omega arith) (omega arith) (omega arith) (λ t le. refl) (λ t le. refl) refl in
     both_alike 0 12288 1 0 (Ins b) (frozen ∷ never ∷ []) (frozen ∷ []) two (omega arith) (omega arith) (omega arith) (λ t le. (gone_from t le, refl)) (λ t le. refl) refl
 
-or_none : {A : Type 0} (x : Option A) → or_else x None ≡ x
-or_none None = refl
-or_none (Some x) = refl
-
 shown_flush : Shown 0 ((memory, all_three) ∷ []) all_three
 shown_flush = record {
   shows = record { rows = λ t le. or_none (row_of t all_three); steps = λ t up. or_none (step_of t all_three); one_row = λ t le. one_alone (row_of t all_three); one_step = λ t up. one_alone (step_of t all_three) };
@@ -178,3 +181,78 @@ flush_is_lent = goes_over [] keep_none fresh by_flush 0 0 0 in_memory k line_flu
     keeps_none : (p : Place) → keep_none p ≡ true → ⊥
     keeps_none memory e = cc
     keeps_none (disk r) e = cc
+
+-- A compaction that missed an update: put into its output, it makes both sides alike, and the job duplicates from then on.
+abbrev as_of_the_bound : Hist
+as_of_the_bound = record { first = None; steps = (4096, Ins a) ∷ [] }
+
+abbrev with_missed : Hist
+with_missed = record { first = None; steps = (4096, Ins a) ∷ (8192, Upd b) ∷ [] }
+
+abbrev after_the_swap : Stores
+after_the_swap = (mem_rows 2, never) ∷ (rowset 1, with_missed) ∷ (rowset 2, with_missed) ∷ []
+
+bound_is_sound : AreSound 0 (as_of_the_bound ∷ [])
+bound_is_sound = sound_push 0 4096 0 [] a Insert (Ins a) (never ∷ []) (record { fit = λ t up. (tt, tt); rise = (tt, tt) }) (tt, tt) (omega arith) refl refl
+
+missed_is_put_in : PutIn 4096 (as_of_the_bound ∷ []) (as_of_the_bound ∷ []) (with_missed ∷ []) (with_missed ∷ [])
+missed_is_put_in =
+    put_changes ((8192, Upd b) ∷ []) 0 0 (omega arith, tt) (omega arith) (omega arith) (λ t lt. refl) (λ t lt. refl)
+    (λ t lt. let other : (4096 == t) ≡ false = ne_eqb 4096 t (λ e. omega arith) in rw other refl) ((omega arith, tt), tt) (refl, refl, tt) refl refl
+
+swap_outs : (p : Place) → keep p ≡ false → HasPlace p (at_first k (published output_with_missed)) → group (published output_with_missed) p after_the_swap
+    ≡ push_all (steps_to p missed_line ([] ∷ [] ∷ [])) (hist_at p (at_first k (published output_with_missed))) ∷ []
+swap_outs memory e h = absurd (cc)
+swap_outs (disk zero) e (inl s) = absurd (cc)
+swap_outs (disk zero) e (inr (inl s)) = absurd (cc)
+swap_outs (disk zero) e (inr (inr h)) = absurd h
+swap_outs (disk (suc zero)) e (inl s) = absurd (cc)
+swap_outs (disk (suc zero)) e (inr (inl s)) = absurd (cc)
+swap_outs (disk (suc zero)) e (inr (inr h)) = absurd h
+swap_outs (disk (suc (suc zero))) e h = refl
+swap_outs (disk (suc (suc (suc r)))) e (inl s) = absurd (cc)
+swap_outs (disk (suc (suc (suc r)))) e (inr (inl s)) = absurd (let f : suc (suc (suc r)) ≡ 2 = grind (arith, nat_tests) in omega (arith, f))
+swap_outs (disk (suc (suc (suc r)))) e (inr (inr h)) = absurd h
+
+swap_is_a_job : Duplicates [] keep super_flushed (published output_with_missed) 0 after_the_swap k missed_line ([] ∷ ((disk 1, Upd b) ∷ []) ∷ [])
+swap_is_a_job = swap_duplicates [] keep super_flushed (published output_with_missed) 0 4096 after_the_swap k missed_line ([] ∷ ((disk 1, Upd b) ∷ []) ∷ []) ([] ∷ [] ∷ []) (as_of_the_bound ∷ []) (as_of_the_bound ∷ [])
+    (apart (Mem 1 ∷ []) refl tt refl refl, (is_covered (Delta 1 1 ∷ []) refl (refl, tt) refl refl, tt)) swap_outs (omega arith) (alike_itself 0 as_of_the_bound) bound_is_sound missed_is_put_in
+
+-- A delta flush of the first update, while a second one goes to the next DeltaMemStore: the rowset's one store goes over
+abbrev deltas_line : List KeyOp
+deltas_line = seen k deltas_log deltas_log
+
+abbrev before_flush : Super
+before_flush = with_files 0 a ((inserted ∷ []) ∷ []) []
+
+abbrev after_flush : Super
+after_flush = with_files 1 a ((inserted ∷ []) ∷ []) ((redo 8192 b ∷ []) ∷ [])
+
+abbrev both_updates : Hist
+both_updates = record { first = None; steps = (4096, Ins a) ∷ (8192, Upd b) ∷ (12288, Upd c) ∷ [] }
+
+both_are_sound : AreSound 0 (both_updates ∷ [])
+both_are_sound =
+    let two = sound_push 0 8192 0 [] b Update (Upd b) (as_of_the_bound ∷ []) bound_is_sound ((omega arith, tt), tt) (omega arith) refl refl in
+    sound_push 0 12288 0 [] c Update (Upd c) (with_missed ∷ []) two ((omega arith, (omega arith, tt)), tt) (omega arith) refl refl
+
+flush_of_deltas : IsDeltaJob [] keep before_flush after_flush 0 ((mem_rows 2, never) ∷ (rowset 1, both_updates) ∷ []) k deltas_line ([] ∷ ((disk 1, Upd b) ∷ []) ∷ ((disk 1, Upd c) ∷ []) ∷ []) (disk 1)
+flush_of_deltas = record {
+  moves = [] ∷ [] ∷ ((disk 1, Upd c) ∷ []) ∷ [];
+  fates = (
+    apart (Mem 1 ∷ []) refl tt refl refl,
+    (is_covered (Delta 1 1 ∷ []) refl (refl, tt) refl refl, (stays (Delta 1 2 ∷ []) (disk 1) (Upd c) refl (refl, tt) refl refl refl refl, tt)),
+  );
+  read = with_missed;
+  live = both_updates;
+  old_place = refl;
+  new_place = refl;
+  old_store = refl;
+  new_store = refl;
+  since = refl;
+  written = inl refl;
+  sound = both_are_sound;
+}
+
+flush_of_deltas_goes_over : GoesOver [] keep before_flush after_flush 0 ((mem_rows 2, never) ∷ (rowset 1, both_updates) ∷ []) k deltas_line ([] ∷ ((disk 1, Upd b) ∷ []) ∷ ((disk 1, Upd c) ∷ []) ∷ [])
+flush_of_deltas_goes_over = delta_over [] keep before_flush after_flush 0 ((mem_rows 2, never) ∷ (rowset 1, both_updates) ∷ []) k deltas_line ([] ∷ ((disk 1, Upd b) ∷ []) ∷ ((disk 1, Upd c) ∷ []) ∷ []) (disk 1) ((refl, tt), (tt, tt)) flush_of_deltas

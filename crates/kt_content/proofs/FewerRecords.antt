@@ -19,6 +19,7 @@ use Rattle.kt_content.specs.MoreOps.{PlacesDiffer, BeginsInMemory, with_change, 
 use Rattle.kt_content.specs.FewerRecords.{an_operation_less_is_shown}
 use Rattle.kt_content.proofs.Agreement.{standing-moved}
 use Rattle.kt_content.proofs.MoreOps.{played-append, then_played, place_in, row_in, live_is, live_first, all_before, before_is, index_of, joined_is, nth_long, live_at, stay-played}
+use Rattle.kt_content.proofs.Options.{at_most_of_none}
 
 -- the last change of a history taken off again
 
@@ -76,11 +77,6 @@ module _ (a ts : ℕ) (c : Change) (lt : a < ts) where
   fits_less t i [] un f = tt
   fits_less t zero (h ∷ hs) un f = (fit_less t h un.0 f.0, f.1)
   fits_less t (suc i) (h ∷ hs) un f = (f.0, fits_less t i hs un.1 f.1)
-
-at_most_of_none : {A : Type 0} (xs : List (Option A)) → first_some xs ≡ None → AtMostOne xs
-at_most_of_none [] h = tt
-at_most_of_none (None ∷ xs) h = at_most_of_none xs h
-at_most_of_none (Some x ∷ xs) h = cc
 
 module _ (a ts i : ℕ) (c : Change) (hs : List Hist) (whole : Hist) (lt : a < ts) (un : Under ts whole.steps) (long : i < length hs)
     (s : ShowsKey a (on_nth i (push ts c) hs) (push ts c whole)) (sound : AreSound a (on_nth i (push ts c) hs)) where

@@ -1,5 +1,5 @@
 -- The row that a flush writes.
-use Rattle.std.proofs.Common.{◌≡◌, ◌≤◌, ◌<◌, ℕ, [], ◌∷◌, ◌++◌, Some, None, Option, refl, sym, ap, ◌∙◌, subst, arith, cond, true, false, Bool, ◌&&◌, T, append_assoc}
+use Rattle.std.proofs.Common.{◌≡◌, ◌≤◌, ◌<◌, ℕ, [], ◌∷◌, ◌++◌, Some, None, Option, refl, sym, ap, ◌∙◌, arith, cond, true, false, Bool, ◌&&◌, T, append_assoc}
 use Rattle.std.specs.Prelude.{nat_lt, nat_le, is_some, ◌==◌}
 use Rattle.std.specs.List.{list_all}
 use Rattle.std.specs.Ordering.{nat_cmp, eq_by_cmp, is_eq}
@@ -17,10 +17,11 @@ use Rattle.kt_history.specs.declared.change.Change.{Change}
 use Rattle.kt_history.specs.declared.change.Change.TheVariants.{Ins, Upd, Del}
 use Rattle.kt_history.specs.Rows.{Row, IsRow, apply, undo, fits, has_columns, with_cells, cells_under}
 use Rattle.kt_history.proofs.Undo.{leads_back}
-use Rattle.kt_histlaws.specs.Histories.{Steps, after_steps, row_of, step_at, or_else, AtMostOne}
+use Rattle.kt_histlaws.specs.Histories.{Steps, after_steps, row_of, step_at, or_else}
 use Rattle.kt_histlaws.specs.Disks.{before_all, led_over}
 use Rattle.kt_histlaws.specs.Fitting.{steps_above}
 use Rattle.kt_content.specs.Flushing.{after_all, undone, cut, EachAbove, InOrderAt, AllUndone, IsChange, a_change_that_fits_is_undone, a_written_row_keeps_its_changes, a_deleted_row_keeps_its_changes, a_cut_history_is_alike, a_dropped_row_is_alike}
+use Rattle.kt_content.proofs.Options.{one_alone, as_T}
 
 -- changes above j, each with its undo record
 module _ (j : ℕ) where
@@ -104,10 +105,6 @@ deleted_keeps j ts h base order all is lt =
 pub one_option : {A : Type 0} (x y : Option A) → x ≡ y → or_else x None ≡ or_else y None
 one_option x y e = ap (λ o. or_else o None) e
 
-pub one_alone : {A : Type 0} (x : Option A) → AtMostOne (x ∷ [])
-one_alone None = tt
-one_alone (Some x) = refl
-
 pub cut_alike : a_cut_history_is_alike
 cut_alike j h order = record {
   rows = λ t le. one_option (row_of t h) (row_of t (cut j h)) (sym (cut_rows j t h.steps h.first le order));
@@ -154,9 +151,6 @@ found_too q (c ∷ cells) row all found =
       | true ↦ λ same _. ap is_some (sym (find_tied nat_cmp nat_cmp_total q c.0 (is_equal _ same) row)) ∙ first_of _ _ all
       | false ↦ λ _ rest. found_too q cells row (rest_of _ _ all) rest
     ] refl found
-
-as_T : (b : Bool) → b ≡ true → T b
-as_T b h = subst T (sym h) tt
 
 pick : (u b : Option Cell) → (is_some u ≡ true → is_some b ≡ true) → cond (is_some (cond (is_some u) b None)) (or_else u b) None ≡ u
 pick None b h = refl

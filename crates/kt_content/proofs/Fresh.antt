@@ -13,12 +13,14 @@ nothing_shown q = record {
 }
 
 pub fresh_empty : a_fresh_tablet_is_empty
-fresh_empty fill = record {
+fresh_empty rules fill = record {
   enough = omega arith;
   numbers = tt;
   mark = refl;
   last = refl;
   ends = record { is = record { rows = refl; writes = tt }; mark = omega arith; writes = refl };
   turns = λ q. tt;
+  passes = tt;
+  files = tt;
   keys = λ q. record { held = (memory, never) ∷ []; is = refl; shown = nothing_shown q; once = tt; above = tt };
 }

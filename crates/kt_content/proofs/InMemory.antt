@@ -14,6 +14,7 @@ use Rattle.kt_content.specs.MoreOps.{LacksPlace, PlacesDiffer}
 use Rattle.kt_content.specs.Publishing.{kept, gone}
 use Rattle.kt_content.specs.InMemory.{Name, mem_rows, rowset, same_name, Stores, stands_for, is_at, group, hist_at, HasPlace, groups, joined_name, hist_of_name, live_stores_stand_for_live_places, index_in, both_sides_mirror, an_unnamed_store_mirrors, inputs_in_memory_are_those_of_the_content, alike_to_one_are_alike, another_superblock_mirrors}
 use Rattle.kt_content.proofs.MoreOps.{is_same, place_itself, all_before, before_is}
+use Rattle.kt_content.proofs.Options.{or_none, is_there, at_most_rest}
 
 pub is_name : (n m : Name) → same_name n m ≡ true → n ≡ m
 is_name (mem_rows n) (mem_rows m) h = let e : n ≡ m = grind (arith, nat_tests) in ap mem_rows e
@@ -81,20 +82,12 @@ live_unique ts p row (h ∷ held) one is = elim (row_before ts h.1) as (λ o. At
   ] refl
 ] one is
 
-some_row : (o : Option Row) → is_some o ≡ true → (row : Row) × (o ≡ Some row)
-some_row None h = absurd (cc)
-some_row (Some row) h = (row, refl)
-
-or_none : {A : Type 0} (x : Option A) → or_else x None ≡ x
-or_none None = refl
-or_none (Some x) = refl
-
 pub live_places : live_stores_stand_for_live_places
 live_places a ts super stores held whole n h p d m s lt is at live =
     let lives : is_some (row_of (ts - 1) h) ≡ true = ap is_some (sym (before_is ts h (omega arith))) ∙ live in
     let grouped = in_group (ts - 1) super p n h stores is at lives in
     let placed : first_some (map (row_of (ts - 1)) (group super p stores)) ≡ row_of (ts - 1) (hist_at p held) = (m p).rows (ts - 1) (omega arith) ∙ or_none (row_of (ts - 1) (hist_at p held)) in
-    let row = some_row (row_of (ts - 1) (hist_at p held)) (ap is_some (sym placed) ∙ grouped) in (
+    let row = is_there (row_of (ts - 1) (hist_at p held)) (ap is_some (sym placed) ∙ grouped) in (
       row.0,
       live_unique ts p row.0 held (subst AtMostOne (sym (all_before ts (held_in held) (omega arith))) (s.shows.one_row (ts - 1) (omega arith)))
           (row_there_is ts p held ∙ before_is ts (hist_at p held) (omega arith) ∙ row.1),
@@ -197,11 +190,6 @@ module _ {A : Type 0} (f : Hist → Option A) (super : Super) (stores : Stores) 
   groups_same (h ∷ held) d = ap first_some (map-append f (group super h.0 stores) (groups super stores held)) ∙ first-append (map f (group super h.0 stores)) (map f (groups super stores held))
       ∙ ap (λ o. or_else o (first_some (map f (groups super stores held)))) (same h.0 ∙ ap (λ k. or_else (f k) None) d.0 ∙ or_none (f h.1)) ∙ ap (or_else (f h.1)) (groups_same held d.1)
 
-at_most_of_none : {A : Type 0} (xs : List (Option A)) → first_some xs ≡ None → AtMostOne xs
-at_most_of_none [] h = tt
-at_most_of_none (None ∷ xs) h = at_most_of_none xs h
-at_most_of_none (Some x ∷ xs) h = cc
-
 none_among : {A : Type 0} (f : Hist → Option A) (keep : Place → Bool) (held : Held) → first_some (map f (held_in held)) ≡ None → first_some (map f (held_in (gone keep held))) ≡ None
 none_among f keep [] h = refl
 none_among f keep (x ∷ held) h =
@@ -214,10 +202,6 @@ none_among f keep (x ∷ held) h =
 at_most_more : {A : Type 0} (x : Option A) (xs ys : List (Option A)) → AtMostOne (x ∷ xs) → (first_some xs ≡ None → first_some ys ≡ None) → (AtMostOne xs → AtMostOne ys) → AtMostOne (x ∷ ys)
 at_most_more None xs ys one none some = some one
 at_most_more (Some y) xs ys one none some = none one
-
-at_most_rest : {A : Type 0} (x : Option A) (xs : List (Option A)) → AtMostOne (x ∷ xs) → AtMostOne xs
-at_most_rest None xs one = one
-at_most_rest (Some y) xs one = at_most_of_none xs one
 
 one_among : {A : Type 0} (f : Hist → Option A) (keep : Place → Bool) (held : Held) → AtMostOne (map f (held_in held)) → AtMostOne (map f (held_in (gone keep held)))
 one_among f keep [] one = tt

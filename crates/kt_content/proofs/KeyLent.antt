@@ -1,5 +1,5 @@
 -- A key may be lent, and so may a job.
-use Rattle.std.proofs.Common.{◌≡◌, ◌≤◌, ◌<◌, ℕ, max, ◌-◌, List, [], ◌∷◌, ◌++◌, Some, None, Option, Ok, Result, refl, sym, ap, ◌∙◌, subst, arith, true, Bool, map, inl, inr}
+use Rattle.std.proofs.Common.{◌≡◌, ◌≤◌, ◌<◌, ℕ, max, ◌-◌, List, [], ◌∷◌, ◌++◌, Some, None, Ok, Result, refl, sym, ap, ◌∙◌, subst, arith, true, Bool, map, inl, inr}
 use Rattle.std.specs.Prelude.{is_some}
 use Rattle.kt_history.specs.declared.operation.RowOp.{RowOp}
 use Rattle.kt_history.specs.declared.target.Target.{Target}
@@ -27,21 +27,23 @@ use Rattle.kt_histlaws.specs.Histories.{past_hist}
 use Rattle.kt_records.specs.declared.entry.Entry.{Entry}
 use Rattle.kt_journal.specs.Log.{IsLog}
 use Rattle.kt_loglaws.specs.Replay.{last_of}
-use Rattle.kt_loglaws.specs.Fronts.{ops_of, with_records}
+use Rattle.kt_loglaws.specs.Fronts.{with_records}
 use Rattle.kt_content.specs.Recovering.{AllTrue}
-use Rattle.kt_content.proofs.MoreOps.{live_first, all_before, before_is, operation_more, true_names, stay-played, played-append, then_played}
+use Rattle.kt_content.proofs.MoreOps.{none_in, live_first, all_before, before_is, operation_more, true_names, stay-played, played-append, then_played}
 use Rattle.kt_content.proofs.Seen.{seen_rise, first_differ}
 use Rattle.kt_content.proofs.Replacing.{each_key_held, raised_is_one}
-use Rattle.kt_content.proofs.RunEvents.{told_is_true}
+use Rattle.kt_content.proofs.RunEvents.{last_above, told_is_true}
 use Rattle.kt_content.proofs.LentParts.{was as was_all, follows, same_is_recovered}
 use Rattle.kt_content.proofs.Publishing.{shows_later}
 use Rattle.kt_content.proofs.InMemory.{row_there_is}
 use Rattle.kt_content.proofs.LastUntold.{front_told}
 use Rattle.kt_content.proofs.LiveOnce.{once_more, shown_once, all_told_once}
 use Rattle.kt_content.proofs.Effects.{none_joins}
-use Rattle.kt_content.proofs.Lending.{dheld, goes_over, next, over}
-use Rattle.kt_content.proofs.NamesTell.{leaves_tell, needed_tells, none_live}
+use Rattle.kt_content.proofs.Lending.{dheld, goes_over, next}
+use Rattle.kt_content.proofs.NamesTell.{leaves_tell, needed_tells}
 use Rattle.kt_content.proofs.AboveFiles.{more_above, later_above, above_untold}
+use Rattle.kt_content.specs.Rules.{Rules}
+use Rattle.kt_content.proofs.Options.{two_oks}
 
 -- a key may be lent
 
@@ -56,9 +58,6 @@ fates_told fill keep old new j outs (x ∷ xs) (m ∷ ms) (n ∷ ns) f = (one f.
     one (covered targets told g e now) = ap is_some told
     one (doubled targets p c row told g e k lt made now) = ap is_some told
     one (stays targets p c told g e k made now) = ap is_some told
-
-two_oks : (x : Result Held ℕ) (a b : Held) → x ≡ Ok a → x ≡ Ok b → a ≡ b
-two_oks x a b e f = cc
 
 agree_at : (fill : Row) (super : Super) (final : Held) (xs : List KeyOp) (x : KeyOp) (ys : List KeyOp) (ms : List Moves) → Agree fill super final (xs ++ x ∷ ys) ms → (m : Moves) × (decided fill super (standing x.ts final) x.op x.told ≡ Some m)
 agree_at fill super final [] x ys [] a = absurd a
@@ -80,7 +79,7 @@ stays_true fill keep old new a b stores q front behind ts op targets held shows 
     let rows : first_some (map (row_before ts) (held_in o.next)) ≡ row_before ts shows = ap first_some (all_before ts (held_in o.next) (omega arith)) ∙ o.shown.shows.rows (ts - 1) (omega arith) ∙ sym (before_is ts shows (omega arith)) in
     let agree = plays_agree fill new 0 (at_first q new) o.next (front ++ told_of ts op targets ∷ behind) rise o.is in
     let fit = agree_at fill new o.next front (told_of ts op targets) behind agree.0 agree.2 in
-    needed_tells fill new o.next ts op targets p.0 fit.0 fit.1 p.1 one (at_place p.0 p.1 fit.0 fit.1 (λ e none. none_live (live_in (standing ts o.next)) (live_first ts o.next ∙ rows ∙ p.2 e ((o.mirrors memory).rows (ts - 1) (omega arith) ∙ ap (λ r. first_some (r ∷ []))
+    needed_tells fill new o.next ts op targets p.0 fit.0 fit.1 p.1 one (at_place p.0 p.1 fit.0 fit.1 (λ e none. none_in (live_in (standing ts o.next)) (live_first ts o.next ∙ rows ∙ p.2 e ((o.mirrors memory).rows (ts - 1) (omega arith) ∙ ap (λ r. first_some (r ∷ []))
     (sym (before_is ts (hist_at memory o.next) (omega arith)) ∙ sym (row_there_is ts memory o.next) ∙ none)))))
   where
     at_place : (p : Place) → needed_in new targets ≡ p ∷ [] → (m : Moves) → decided fill new (standing ts o.next) op (Some targets) ≡ Some m → (p ≡ memory → row_there memory (standing ts o.next) ≡ None → live_in (standing ts o.next) ≡ None)
@@ -94,7 +93,7 @@ stays_true fill keep old new a b stores q front behind ts op targets held shows 
 pub fate_on : a_fate_goes_on
 fate_on keep old new stores shows ts r targets e = inr (disk r, e, λ f. absurd (cc))
 
-renamed : (low : ℕ) (xs : List KeyOp) (ts : ℕ) (op : RowOp) (targets : List Target) → OpsRise low (xs ++ untold ts op ∷ []) → OpsRise low (xs ++ told_of ts op targets ∷ [])
+pub renamed : (low : ℕ) (xs : List KeyOp) (ts : ℕ) (op : RowOp) (targets : List Target) → OpsRise low (xs ++ untold ts op ∷ []) → OpsRise low (xs ++ told_of ts op targets ∷ [])
 renamed low [] ts op targets r = r
 renamed low (x ∷ xs) ts op targets r = (r.0, renamed _ xs ts op targets r.1)
 
@@ -104,10 +103,6 @@ rise_front low (x ∷ xs) ys r = (r.0, rise_front _ xs ys r.1)
 
 last_moved_of : (fill : Row) (super : Super) (ts : ℕ) (op : RowOp) (r : Result Held ℕ) (next final : Held) → r ≡ Ok next → then_played fill super (untold ts op ∷ []) r ≡ Ok final → final ≡ moved ts (to_live fill op (live_in (standing ts next))) next
 last_moved_of fill super ts op r next final e f = let g : then_played fill super (untold ts op ∷ []) (Ok next) ≡ Ok final = subst (λ (x : Result Held ℕ). then_played fill super (untold ts op ∷ []) x ≡ Ok final) e f in cc
-
-last_above : (low : ℕ) (ys : List KeyOp) (z : KeyOp) → OpsRise low (ys ++ z ∷ []) → low ≤ z.ts
-last_above low [] z r = r.0
-last_above low (y ∷ ys) z r = let up = last_above _ ys z r.1 in let down = r.0 in omega arith
 
 rise_before : (low : ℕ) (xs : List KeyOp) (x : KeyOp) (ys : List KeyOp) (z : KeyOp) → OpsRise low ((xs ++ x ∷ ys) ++ z ∷ []) → x.ts ≤ z.ts
 rise_before low [] x ys z r = let up = last_above _ ys z r.1 in omega arith
@@ -243,9 +238,9 @@ module _ (fill : Row) (keep : Place → Bool) (old new : Super) (stores : Stores
 pub key_lent : a_key_may_be_lent
 key_lent fill keep old new stores records q whole log nold nnew rest others k = lent fill keep old new stores records q whole log nold nnew rest others k
 
-module _ (fill : Row) (keep : Place → Bool) (old new : Super) (stores : List ℕ → Stores) (records : List Entry) (past : Past) (log : IsLog records) (c : ℕ) (content : IsContent fill old records c (raise past old.a))
-    (m : MayBeLent fill keep old new stores records past) where
-  rows_tell : (ts : ℕ) (ops : List RowOp) (rows : List CommitRow) → RowsRestNot fill keep old new stores records past m ts ops rows → RowsTell fill old records ts ops rows → RowsTell fill new records ts ops rows
+module _ (rules : Rules) (fill : Row) (keep : Place → Bool) (old new : Super) (stores : List ℕ → Stores) (records : List Entry) (past : Past) (log : IsLog records) (c : ℕ) (content : IsContent rules fill old records c (raise past old.a))
+    (m : MayBeLent rules fill keep old new stores records past) where
+  pub rows_tell : (ts : ℕ) (ops : List RowOp) (rows : List CommitRow) → RowsRestNot rules fill keep old new stores records past m ts ops rows → RowsTell fill old records ts ops rows → RowsTell fill new records ts ops rows
   rows_tell ts [] [] r t = tt
   rows_tell ts [] (row ∷ rows) r t = absurd r
   rows_tell ts (op ∷ ops) [] r t = absurd r
@@ -254,26 +249,23 @@ module _ (fill : Row) (keep : Place → Bool) (old new : Super) (stores : List �
     rows_tell ts ops rows r.1 t.1,
   )
 
-  pub run_is_true : (low high : ℕ) (front run : List Entry) → NotEarly fill keep old new stores records past m high front run → AllTrue fill old records low front run → AllTrue fill new records high front run
+  pub run_is_true : (low high : ℕ) (front run : List Entry) → NotEarly rules fill keep old new stores records past m high front run → AllTrue fill old records low front run → AllTrue fill new records high front run
   run_is_true low high front [] n t = tt
   run_is_true low high front (Replicate ts ops ∷ run) n t = (n.0, t.1, t.2, run_is_true ts ts (front ++ Replicate ts ops ∷ []) run n.1 t.3)
   run_is_true low high front (Commit ts rows ∷ run) n t =
-      let same : t.0.ops ≡ n.0.0 = one_list (ops_of ts front) t.0.ops n.0.0 t.0.stands n.0.1 in
+      let same : t.0.ops ≡ n.0.0 = (let f : Some t.0.ops ≡ Some n.0.0 = sym t.0.stands ∙ n.0.1 in cc) in
       (record { ops = n.0.0; stands = n.0.1; tells = rows_tell ts n.0.0 rows n.0.2 (subst (λ (o : List RowOp). RowsTell fill old records ts o rows) same t.0.tells) }, run_is_true low high (front ++ Commit ts rows ∷ []) run n.1 t.1)
-    where
-      one_list : (o : Option (List RowOp)) (x y : List RowOp) → o ≡ Some x → o ≡ Some y → x ≡ y
-      one_list o x y e f = cc
 
 pub job_lent : a_job_may_be_lent
-job_lent fill keep old new durable run low high j past stores log r m l n =
+job_lent rules fill keep old new durable run low high j past stores log r m l n =
     let all = durable ++ run in
     let whole = raise (with_records fill past run) old.a in
-    let content = was_all fill old new durable run low high j past log r l in
+    let content = was_all rules fill old new durable run low high j past log r l in
     let key : (q : List ℕ) → KeyLent fill keep new ((m.keys q).b) (stores q) all q (past_hist q whole) ((m.keys q).known) ((m.keys q).held) ((m.keys q).shows) =
     λ q. key_lent fill keep old new (stores q) all q (past_hist q whole) log content.numbers m.numbers (m.rest q) (m.others q) (m.keys q) in
-    let told = told_is_true fill old durable run (max old.c (last_of durable)) low (raise past old.a) log r.content (raised_is_one past low old.a r.ends r.marked r.low_enough) r.told in (
-      same_is_recovered fill old new durable run low high j past log r l
-          (λ is. each_key_held fill old new all (max old.c (last_of all)) (max new.c (last_of all)) j whole is (follows fill old new durable run low high j past log r l) m.numbers (λ q. (key q).holds))
-          (run_is_true fill keep old new stores all (with_records fill past run) log (max old.c (last_of all)) content m low high durable run n told),
+    let told = told_is_true rules fill old durable run (max old.c (last_of durable)) low (raise past old.a) log r.content (raised_is_one past low old.a r.ends r.marked r.low_enough) r.told in (
+      same_is_recovered rules fill old new durable run low high j past log r l
+          (λ is. each_key_held rules fill old new all (max old.c (last_of all)) (max new.c (last_of all)) j whole is (follows rules fill old new durable run low high j past log r l) m.numbers m.files (λ q. (key q).holds))
+          (run_is_true rules fill keep old new stores all (with_records fill past run) log (max old.c (last_of all)) content m low high durable run n told),
       key,
     )

@@ -1,5 +1,5 @@
 -- A key goes over to the superblock that a job publishes.
-use Rattle.std.proofs.Common.{◌≡◌, ◌≤◌, ℕ, ◌-◌, List, [], ◌∷◌, ◌++◌, Some, None, Option, refl, sym, ap, ◌∙◌, subst, arith, cond, true, false, Bool, ◌⊎◌, inl, inr}
+use Rattle.std.proofs.Common.{◌≡◌, ◌≤◌, ℕ, List, [], ◌∷◌, ◌++◌, Some, None, Option, refl, sym, ap, ◌∙◌, subst, arith, cond, true, false, Bool, ◌⊎◌, inl, inr}
 use Rattle.std.specs.Prelude.{not, ◌==◌, nat_lt}
 use Rattle.std.specs.List.{list_any}
 use Rattle.std.proofs.lemmas.Bool.Decides.{nat_tests}
@@ -9,7 +9,7 @@ use Rattle.kt_history.specs.declared.target.Target.{Target}
 use Rattle.kt_history.specs.declared.target.Target.TheVariants.{Mem, Delta}
 use Rattle.kt_history.specs.Rows.{Row}
 use Rattle.kt_history.specs.Operations.{effect}
-use Rattle.kt_histlaws.specs.Histories.{Hist, row_of, step_of, never, AtMostOne}
+use Rattle.kt_histlaws.specs.Histories.{Hist, row_of, step_of, never}
 use Rattle.kt_histlaws.specs.Fitting.{AreSound}
 use Rattle.kt_histlaws.proofs.Fitting.{sound_raised}
 use Rattle.kt_histlaws.specs.Jobs.{AreAlike, push_all}
@@ -23,14 +23,15 @@ use Rattle.kt_content.specs.Publishing.{kept, gone, AllCarry}
 use Rattle.kt_content.specs.InMemory.{Name, mem_rows, rowset, Stores, if_there, stands_for, is_at, group, groups, hist_at, HasPlace, Mirrors}
 use Rattle.kt_content.specs.TwoPhases.{Way, AllWays, HasOutputs}
 use Rattle.kt_content.specs.TwoPhases.Way.{left, covered as is_covered, doubled as is_doubled, stays as is_staying}
-use Rattle.kt_content.specs.Lending.{Fate, AllFates, with_changes, GoesOver, Duplicates, a_job_that_duplicates_goes_over, OverTo, a_key_goes_over}
+use Rattle.kt_content.specs.Lending.{Fate, AllFates, with_changes, GoesOver, a_job_that_duplicates_goes_over, OverTo, a_key_goes_over}
 use Rattle.kt_content.specs.Lending.Fate.{apart, covered, doubled, stays}
 use Rattle.kt_content.proofs.Agreement.{plays_agree}
-use Rattle.kt_content.proofs.MoreOps.{is_same, place_itself, differ-moved}
+use Rattle.kt_content.proofs.MoreOps.{lacks-joined, is_same, place_itself, differ-moved}
 use Rattle.kt_content.proofs.Publishing.{two_phases, outputs_show}
 use Rattle.kt_content.proofs.InMemory.{Finds, finds_all, finds_gone, row_there_is, inputs_alike, alike_through, another_mirrors}
 use Rattle.kt_content.proofs.StoreChanges.{files_and_changes, rest_ends}
 use Rattle.kt_content.proofs.TwoPhases.{same_kept, carry_all}
+use Rattle.kt_content.proofs.Options.{one_alone}
 
 -- what is needed has its place
 
@@ -148,10 +149,6 @@ differ-all [] ms held d = d
 differ-all (x ∷ xs) [] held d = d
 differ-all (x ∷ xs) (m ∷ ms) held d = differ-all xs ms (moved x.ts m held) (differ-moved x.ts m held d)
 
-lacks-joined : (p r : Place) (ts : ℕ) (c : Change) (held : Held) → LacksPlace p held → LacksPlace p (joined_in r ts c held)
-lacks-joined p r ts c [] l = tt
-lacks-joined p r ts c (h ∷ held) l = elim (same_place r h.0) as (λ b. LacksPlace p (cond b ((h.0, push_all ((ts, c) ∷ []) h.1) ∷ held) (h ∷ joined_in r ts c held))) [ true ↦ l | false ↦ (l.0, lacks-joined p r ts c held l.1) ]
-
 lacks-moved : (p : Place) (ts : ℕ) (ms : Moves) (held : Held) → LacksPlace p held → LacksPlace p (moved ts ms held)
 lacks-moved p ts [] held l = l
 lacks-moved p ts (m ∷ ms) held l = lacks-moved p ts ms (joined_in m.0 ts m.1 held) (lacks-joined p m.0 ts m.1 held l)
@@ -210,10 +207,6 @@ gone_has keep p (x ∷ held) h = elim (keep x.0) as (λ b. HasPlace p (cond (not
 pub alike_later : (a b : ℕ) (xs ys : List Hist) → a ≤ b → AreAlike a xs ys → AreAlike b xs ys
 alike_later a b xs ys le s = record { rows = λ t from. s.rows t (omega arith); steps = λ t up. s.steps t (omega arith); one_row = λ t from. s.one_row t (omega arith); one_step = λ t up. s.one_step t (omega arith) }
 
-pub one_alone : {A : Type 0} (x : Option A) → AtMostOne (x ∷ [])
-one_alone None = tt
-one_alone (Some x) = refl
-
 pub alike_itself : (b : ℕ) (h : Hist) → AreAlike b (h ∷ []) (h ∷ [])
 alike_itself b h = record { rows = λ t le. refl; steps = λ t lt. refl; one_row = λ t le. one_alone (row_of t h); one_step = λ t lt. one_alone (step_of t h) }
 
@@ -267,27 +260,29 @@ goes_over fill keep old new a b j stores q xs held whole rise dold dnew rest is 
     let was = plays_agree fill old 0 (at_first q old) held xs rise is in
     over fill keep old new j stores q xs held whole rise dold dnew rest a b s m others le low was.0 was.1 was.2 (given was.0 was.2)
 
+-- what the stores in memory that stand for the job's places have is what the new superblock has there, where it is so of each
+pub outs_are : (keep : Place → Bool) (new : Super) (stores : Stores) (q : List ℕ) (xs : List KeyOp) (moves : List Moves) → PlacesDiffer (at_first q new)
+    → ((p : Place) → keep p ≡ false → HasPlace p (at_first q new) → group new p stores ≡ with_changes q new xs moves p ∷ [])
+    → groups new stores (gone keep (at_first q new)) ≡ held_in (gone keep (all_moved xs moves (at_first q new)))
+outs_are keep new stores q xs moves dnew outs =
+    sym (groups-all keep new stores xs moves (at_first q new))
+    ∙ exact new stores made_next (gone keep made_next) (finds_gone keep made_next made_next (finds_all made_next (differ-all xs moves (at_first q new) dnew)))
+    (λ p has. (let there = has_before p (gone_has keep p made_next has) in outs p (gone_is keep p made_next has) there ∙ ap (λ h. h ∷ []) (sym (files_and_changes p xs moves (at_first q new) there))))
+  where
+    made_next : Held
+    made_next = all_moved xs moves (at_first q new)
+
+    has_before : (p : Place) → HasPlace p made_next → HasPlace p (at_first q new)
+    has_before p has = elim (has_or_lacks p (at_first q new)) [ inl y ↦ y | inr l ↦ absurd (not_both p made_next has (lacks-all p xs moves (at_first q new) l)) ]
+
 -- a job that duplicates
-module _ (fill : Row) (keep : Place → Bool) (old new : Super) (j : ℕ) (stores : Stores) (q : List ℕ) (xs : List KeyOp) (ms : List Moves) (dnew : PlacesDiffer (at_first q new)) (g : Duplicates fill keep old new j stores q xs ms) where
-  abbrev made_next : Held
-  made_next = all_moved xs g.moves (at_first q new)
-
-  outs_are : groups new stores (gone keep (at_first q new)) ≡ held_in (gone keep made_next)
-  outs_are = sym (groups-all keep new stores xs g.moves (at_first q new))
-      ∙ exact new stores made_next (gone keep made_next) (finds_gone keep made_next made_next (finds_all made_next (differ-all xs g.moves (at_first q new) dnew)))
-      (λ p has. (let there = has_before p (gone_has keep p made_next has) in g.outs p (gone_is keep p made_next has) there ∙ ap (λ h. h ∷ []) (sym (files_and_changes p xs g.moves (at_first q new) there))))
-    where
-      has_before : (p : Place) → HasPlace p made_next → HasPlace p (at_first q new)
-      has_before p has = elim (has_or_lacks p (at_first q new)) [ inl y ↦ y | inr l ↦ absurd (not_both p made_next has (lacks-all p xs g.moves (at_first q new) l)) ]
-
-  pub goes : GoesOver fill keep old new j stores q xs ms
-  goes = record {
-    moves = g.moves;
-    fates = g.fates;
-    outs = λ p k has. subst (λ (l : List Hist). AreAlike j l (with_changes q new xs g.moves p ∷ [])) (sym (g.outs p k has)) (alike_itself j (with_changes q new xs g.moves p));
-    alike = subst (λ (l : List Hist). AreAlike j (groups old stores (gone keep (at_first q old))) l) outs_are g.alike;
-    sound = subst (λ (l : List Hist). AreSound j l) outs_are g.sound;
-  }
-
 pub duplicates : a_job_that_duplicates_goes_over
-duplicates fill keep old new j stores q xs ms dnew g = goes fill keep old new j stores q xs ms dnew g
+duplicates fill keep old new j stores q xs ms dnew g =
+    let same = outs_are keep new stores q xs g.moves dnew g.outs in
+    record {
+      moves = g.moves;
+      fates = g.fates;
+      outs = λ p k has. subst (λ (l : List Hist). AreAlike j l (with_changes q new xs g.moves p ∷ [])) (sym (g.outs p k has)) (alike_itself j (with_changes q new xs g.moves p));
+      alike = subst (λ (l : List Hist). AreAlike j (groups old stores (gone keep (at_first q old))) l) same g.alike;
+      sound = subst (λ (l : List Hist). AreSound j l) same g.sound;
+    }

@@ -1,9 +1,8 @@
 -- A superblock that is lent for publishing.
-use Rattle.std.proofs.Common.{◌≡◌, ◌≤◌, ◌-◌, ℕ, max, List, [], ◌∷◌, ◌++◌, take, length, refl, sym, ap, ◌∙◌, subst, arith, cond, true, false, length-append}
+use Rattle.std.proofs.Common.{◌≡◌, ◌≤◌, ◌-◌, ℕ, max, List, [], ◌∷◌, ◌++◌, refl, sym, ap, ◌∙◌, subst, arith, cond, true, false, length-append}
 use Rattle.std.specs.Prelude.{nat_lt}
 use Rattle.std.specs.List.{filter}
 use Rattle.std.proofs.lemmas.Bool.{le-ltb, ltb-false}
-use Rattle.std.proofs.lemmas.List.{append-nil}
 use Rattle.kt_history.specs.Rows.{Row, Rows}
 use Rattle.kt_history.specs.History.{Past, PastWrite, IsPast, IsPastUpTo, raise, rows_at}
 use Rattle.kt_history.specs.Operations.{changes_on}
@@ -20,7 +19,8 @@ use Rattle.kt_content.specs.Content.{IsContent}
 use Rattle.kt_content.specs.Replacing.{Follows}
 use Rattle.kt_content.specs.Recovering.{AllTrue, IsRecovered, Lends, low_after, a_lent_superblock_is_recovered, a_superblock_published_at_once_is_recovered, a_superblock_that_holds_the_same_is_recovered}
 use Rattle.kt_content.proofs.Replacing.{mark_kept, ops_raised, raised_is_one, publishes_once, publishes_twice}
-use Rattle.kt_content.proofs.Recovering.{recovered, each_front, take_all, runs_up}
+use Rattle.kt_content.proofs.Recovering.{recovered, all_hold, runs_up}
+use Rattle.kt_content.specs.Rules.{Rules}
 
 -- from one mark to a later one, and on to the last
 kept_twice : (a b : ℕ) (ws : List PastWrite) → a ≤ b → filter (λ (w : PastWrite). nat_lt b w.ts) (filter (λ (w : PastWrite). nat_lt a w.ts) ws) ≡ filter (λ (w : PastWrite). nat_lt b w.ts) ws
@@ -46,7 +46,7 @@ true_raised fill super all low log past mark (Replicate ts ops ∷ run) told end
     ∙ true_raised fill super all ts (log ++ Replicate ts ops ∷ []) (with_ops fill past ts ops) mark run told.3 next (omega (arith, mark_kept past ts changes)) (omega (arith, told.0))
 true_raised fill super all low log past mark (Commit ts rows ∷ run) told ends le up = true_raised fill super all low (log ++ Commit ts rows ∷ []) past mark run told.1 ends le up
 
-module _ (fill : Row) (old new : Super) (durable run : List Entry) (low high j : ℕ) (past : Past) (log : IsLog (durable ++ run)) (r : IsRecovered fill old durable run low past)
+module _ (rules : Rules) (fill : Row) (old new : Super) (durable run : List Entry) (low high j : ℕ) (past : Past) (log : IsLog (durable ++ run)) (r : IsRecovered rules fill old durable run low past)
     (l : Lends old new durable high j past) where
   abbrev all : List Entry
   all = durable ++ run
@@ -55,9 +55,8 @@ module _ (fill : Row) (old new : Super) (durable run : List Entry) (low high j :
   whole = with_records fill past run
 
   -- with the old superblock
-  pub was : IsContent fill old all (max old.c (last_of all)) (raise whole old.a)
-  was = subst (λ (k : List Entry). IsContent fill old (durable ++ k) (max old.c (last_of (durable ++ k))) (raise (with_records fill past k) old.a)) (ap (λ k. take (length run) k) (sym (append-nil run)) ∙ take_all run [])
-      (each_front fill old durable run low past (length run) log r)
+  pub was : IsContent rules fill old all (max old.c (last_of all)) (raise whole old.a)
+  was = all_hold rules fill old durable run low past log r
 
   pub follows : Follows old new all (max old.c (last_of all)) (max new.c (last_of all)) j
   follows = record { enough = omega (arith, l.enough, length-append durable run); mark = l.mark; job = l.job; last = refl; up = let c = l.last in omega arith; marked = let m = l.marked in let u = l.up in omega arith }
@@ -69,25 +68,25 @@ module _ (fill : Row) (old new : Super) (durable run : List Entry) (low high j :
   later = let m = r.marked in let n = l.mark in omega arith
 
   -- with the new one
-  pub lent : IsContent fill new all (max new.c (last_of all)) (raise (raise whole old.a) new.a) → AllTrue fill new all high durable run → IsRecovered fill new durable run high past
+  pub lent : IsContent rules fill new all (max new.c (last_of all)) (raise (raise whole old.a) new.a) → AllTrue fill new all high durable run → IsRecovered rules fill new durable run high past
   lent is t =
       let same : raise (raise whole old.a) new.a ≡ with_records fill (raise past new.a) run = raise_twice whole old.a new.a ends.is l.mark ∙ sym (true_raised fill new all high durable past new.a run t l.ends later l.marked) in
-      let back = recovered fill new durable run (max new.c (last_of all)) high (raise past new.a) log (subst (λ (p : Past). IsContent fill new all (max new.c (last_of all)) p) same is)
+      let back = recovered rules fill new durable run (max new.c (last_of all)) high (raise past new.a) log (subst (λ (p : Past). IsContent rules fill new all (max new.c (last_of all)) p) same is)
       (raised_is_one past high new.a l.ends later l.marked) refl (let u = l.up in omega arith) t r.content.turns l.enough in
-      record { content = back.0; told = back.1; ends = l.ends; marked = later; low_enough = l.marked }
+      record { content = back.0; told = back.1; ends = l.ends; marked = later; low_enough = l.marked; passes = r.passes }
 
 pub lent_is_recovered : a_lent_superblock_is_recovered
-lent_is_recovered fill keep old new durable run low high j past log r replaces l t =
-    lent fill old new durable run low high j past log r l
-    (publishes_twice fill keep old new (durable ++ run) (max old.c (last_of (durable ++ run))) (max new.c (last_of (durable ++ run))) j (raise (with_records fill past run) old.a)
-    (was fill old new durable run low high j past log r l) replaces (follows fill old new durable run low high j past log r l) log) t
+lent_is_recovered rules fill keep old new durable run low high j past log r replaces l t =
+    lent rules fill old new durable run low high j past log r l
+    (publishes_twice rules fill keep old new (durable ++ run) (max old.c (last_of (durable ++ run))) (max new.c (last_of (durable ++ run))) j (raise (with_records fill past run) old.a)
+    (was rules fill old new durable run low high j past log r l) replaces (follows rules fill old new durable run low high j past log r l) log) t
 
 pub at_once_is_recovered : a_superblock_published_at_once_is_recovered
-at_once_is_recovered fill keep old new durable run low high j past log r replaces l t =
-    lent fill old new durable run low high j past log r l
-    (publishes_once fill keep old new (durable ++ run) (max old.c (last_of (durable ++ run))) (max new.c (last_of (durable ++ run))) j (raise (with_records fill past run) old.a)
-    (was fill old new durable run low high j past log r l) replaces (follows fill old new durable run low high j past log r l)) t
+at_once_is_recovered rules fill keep old new durable run low high j past log r replaces l t =
+    lent rules fill old new durable run low high j past log r l
+    (publishes_once rules fill keep old new (durable ++ run) (max old.c (last_of (durable ++ run))) (max new.c (last_of (durable ++ run))) j (raise (with_records fill past run) old.a)
+    (was rules fill old new durable run low high j past log r l) replaces (follows rules fill old new durable run low high j past log r l)) t
 
 pub same_is_recovered : a_superblock_that_holds_the_same_is_recovered
-same_is_recovered fill old new durable run low high j past log r l next t =
-    lent fill old new durable run low high j past log r l (next (was fill old new durable run low high j past log r l)) t
+same_is_recovered rules fill old new durable run low high j past log r l next t =
+    lent rules fill old new durable run low high j past log r l (next (was rules fill old new durable run low high j past log r l)) t

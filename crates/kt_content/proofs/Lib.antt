@@ -1,9 +1,12 @@
+pub mod Options
 pub mod Worked
 pub mod Cases
+pub mod EventCases
 pub mod Agreement
 pub mod MoreOps
 pub mod Publishing
 pub mod Seen
+pub mod Rules
 pub mod Records
 pub mod Replacing
 pub mod Effects
@@ -31,4 +34,14 @@ pub mod LastUntold
 pub mod LiveOnce
 pub mod AboveFiles
 pub mod JobEvents
+pub mod MissedChanges
+pub mod DeltaJobs
+pub mod KnownCommits
 pub mod RunEvents
+pub mod FreshNumbers
+pub mod Stages
+pub mod Keeping
+pub mod Ends
+pub mod StoresCome
+pub mod Opened
+pub mod KeepingLent

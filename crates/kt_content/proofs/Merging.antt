@@ -10,7 +10,8 @@ use Rattle.kt_histlaws.proofs.OneKey.{step_at-append}
 use Rattle.kt_content.specs.Files.{put_rising, rising}
 use Rattle.kt_content.specs.Flushing.{EachAbove}
 use Rattle.kt_content.specs.Merging.{all_above, joined_history, a_joined_history_is_alike}
-use Rattle.kt_content.proofs.Flushing.{cut_rows, cut_steps, one_alone}
+use Rattle.kt_content.proofs.Flushing.{cut_rows, cut_steps}
+use Rattle.kt_content.proofs.Options.{or_none, one_alone, at_most_rest}
 
 -- what is put by its timestamp is found there
 step-put : (t : ℕ) (c : ℕ × Change) (steps : Steps) → step_at t (put_rising c steps) ≡ cond (c.0 == t) (Some c.1) (step_at t steps)
@@ -114,15 +115,6 @@ once_append j (x ∷ xs) ys o p e g =
       ]),
     )
 
-at_most_rest : {A : Type 0} (x : Option A) (xs : List (Option A)) → AtMostOne (x ∷ xs) → AtMostOne xs
-at_most_rest None xs one = one
-at_most_rest (Some y) xs one = of_none xs one
-  where
-    of_none : {A : Type 0} (xs : List (Option A)) → first_some xs ≡ None → AtMostOne xs
-    of_none [] h = tt
-    of_none (None ∷ xs) h = of_none xs h
-    of_none (Some x ∷ xs) h = cc
-
 at_most_some : {A : Type 0} (x : Option A) (xs : List (Option A)) (a : A) → AtMostOne (x ∷ xs) → x ≡ Some a → first_some xs ≡ None
 at_most_some None xs a one e = cc
 at_most_some (Some y) xs a one e = one
@@ -150,7 +142,3 @@ joined_alike j hs whole s rise whole_rises order =
       one_row = λ t le. one_alone (row_of t (joined_history j hs));
       one_step = λ t up. one_alone (step_at t (rising (all_above j hs)));
     }
-  where
-    or_none : {A : Type 0} (x : Option A) → or_else x None ≡ x
-    or_none None = refl
-    or_none (Some x) = refl

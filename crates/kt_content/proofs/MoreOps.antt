@@ -45,7 +45,7 @@ is_same (disk r) memory h = cc
 is_same (disk r) (disk s) h = let e : r ≡ s = grind (arith, nat_tests) in ap disk e
 
 -- the stores stay where they are
-lacks-joined : (q p : Place) (ts : ℕ) (c : Change) (held : Held) → LacksPlace q held → LacksPlace q (joined_in p ts c held)
+pub lacks-joined : (q p : Place) (ts : ℕ) (c : Change) (held : Held) → LacksPlace q held → LacksPlace q (joined_in p ts c held)
 lacks-joined q p ts c [] l = tt
 lacks-joined q p ts c (h ∷ held) l = elim (same_place p h.0) as (λ b. LacksPlace q (cond b ((h.0, push ts c h.1) ∷ held) (h ∷ joined_in p ts c held))) [
   | true ↦ l
@@ -99,6 +99,10 @@ abbrev pub place_in : Option (Place × Row) → Place
 place_in None = memory
 place_in (Some at) = at.0
 
+pub none_in : (o : Option (Place × Row)) → row_in o ≡ None → o ≡ None
+none_in None h = refl
+none_in (Some at) h = absurd (cc)
+
 pub live_is : (fill : Row) (op : RowOp) (o : Option (Place × Row)) → to_live fill op o ≡ to_place (place_in o) (effect fill op.kind op.cells (row_in o)).0
 live_is fill op None = refl
 live_is fill op (Some at) = refl
@@ -119,7 +123,7 @@ all_before ts [] up = refl
 all_before ts (h ∷ hs) up = ap (λ r. r ∷ map (row_before ts) hs) (before_is ts h up) ∙ ap (λ rs. row_of (ts - 1) h ∷ rs) (all_before ts hs up)
 
 -- a store with this place is among these
-place_lacking : (ts : ℕ) (p : Place) (row : Row) (held : Held) → LacksPlace p held → live_in (standing ts held) ≡ Some (p, row) → ⊥
+pub place_lacking : (ts : ℕ) (p : Place) (row : Row) (held : Held) → LacksPlace p held → live_in (standing ts held) ≡ Some (p, row) → ⊥
 place_lacking ts p row [] l h = cc
 place_lacking ts p row (h ∷ held) l is = elim (row_before ts h.1) as (λ o. or_live h.0 o (live_in (standing ts held)) ≡ Some (p, row) → ⊥) [
   | None ↦ λ e. place_lacking ts p row held l.1 e

@@ -7,7 +7,7 @@ use Rattle.kt_history.specs.Operations.{effect}
 use Rattle.kt_content.specs.Places.{Place, memory, Held, Standing, same_place, row_before, standing, row_there, live_in, or_live, needed_in, places_of}
 use Rattle.kt_content.specs.KeyOps.{to_each, to_place, may_join, with_move}
 use Rattle.kt_content.specs.MoreOps.{LacksPlace, PlacesDiffer, names_of_the_live_store_tell}
-use Rattle.kt_content.proofs.MoreOps.{is_same, place_itself, place_in, row_in, live_is}
+use Rattle.kt_content.proofs.MoreOps.{place_lacking, is_same, place_itself, place_in, row_in, live_is}
 use Rattle.kt_content.proofs.Effects.{there_may_join, memory_may_join}
 
 -- where the key is live nowhere, no store has it
@@ -16,13 +16,6 @@ none_there ts p [] h = refl
 none_there ts p (h ∷ held) is = elim (row_before ts h.1) as (λ o. or_live h.0 o (live_in (standing ts held)) ≡ None → cond (same_place p h.0) o (row_there p (standing ts held)) ≡ None) [
   | None ↦ λ e. elim (same_place p h.0) as (λ b. cond b None (row_there p (standing ts held)) ≡ None) [ true ↦ refl | false ↦ none_there ts p held e ]
   | Some row ↦ λ e. absurd (cc)
-] is
-
-place_lacking : (ts : ℕ) (p : Place) (row : Row) (held : Held) → LacksPlace p held → live_in (standing ts held) ≡ Some (p, row) → ⊥
-place_lacking ts p row [] l h = cc
-place_lacking ts p row (h ∷ held) l is = elim (row_before ts h.1) as (λ o. or_live h.0 o (live_in (standing ts held)) ≡ Some (p, row) → ⊥) [
-  | None ↦ λ e. place_lacking ts p row held l.1 e
-  | Some r ↦ λ e. let same : h.0 ≡ p = ap place_in e in let t : same_place p h.0 ≡ true = ap (same_place p) same ∙ place_itself p in let f : true ≡ false = sym t ∙ l.0 in cc
 ] is
 
 -- and else the store that has it live has this row

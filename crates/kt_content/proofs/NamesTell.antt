@@ -10,7 +10,7 @@ use Rattle.kt_content.specs.KeyOps.{may_join, with_move, to_each, to_live, to_pl
 use Rattle.kt_content.specs.MoreOps.{PlacesDiffer}
 use Rattle.kt_content.specs.Publishing.{kept, AllKept}
 use Rattle.kt_content.specs.Lending.{a_needed_store_tells, names_that_a_job_leaves_tell}
-use Rattle.kt_content.proofs.MoreOps.{place_in, row_in, live_is, live_first}
+use Rattle.kt_content.proofs.MoreOps.{none_in, place_in, row_in, live_is, live_first}
 use Rattle.kt_content.proofs.Names.{live_there}
 use Rattle.kt_content.proofs.Publishing.{same_row, same_moves, AreTo}
 use Rattle.kt_content.proofs.InMemory.{live_unique}
@@ -36,10 +36,6 @@ needed_tells fill super next ts op targets p ms fit e one nowhere =
     let made : with_move p (may_join p (effect fill op.kind op.cells (row_there p rows)).0) (Some []) ≡ Some ms = sym (ap (to_each fill op rows) e) ∙ fit in
     ap (to_each fill op rows) e ∙ placed p (may_join p (effect fill op.kind op.cells (row_there p rows)).0) ms made ∙ ap Some (sym (goes_there fill next ts op p (row_there p rows) one nowhere refl))
 
-pub none_live : (o : Option (Place × Row)) → row_in o ≡ None → o ≡ None
-none_live None h = refl
-none_live (Some at) h = absurd (cc)
-
 all_kept_moves : (fill : Row) (keep : Place → Bool) (op : RowOp) (rows : Standing) (places : List Place) (ms : Moves) → AllKept keep places → to_each fill op rows places ≡ Some ms → AreTo keep true ms
 all_kept_moves fill keep op rows [] ms k e = let same : [] ≡ ms = cc in subst (AreTo keep true) same tt
 all_kept_moves fill keep op rows (p ∷ places) ms k e = with_kept (may_join p (effect fill op.kind op.cells (row_there p rows)).0) (to_each fill op rows places) (λ rest f. all_kept_moves fill keep op rows places rest k.1 f) e
@@ -54,7 +50,7 @@ module _ (fill : Row) (keep : Place → Bool) (held next : Held) (ts : ℕ) (op 
   -- a store that the job leaves has it live in both
   stays_live : (o : Option (Place × Row)) → live_in (standing ts held) ≡ o → (c : Option Change) → (effect fill op.kind op.cells (row_in o)).0 ≡ c → AreTo keep true (to_place (place_in o) c)
       → to_live fill op (live_in (standing ts next)) ≡ to_live fill op (live_in (standing ts held))
-  stays_live None e c made to = ap (to_live fill op) (none_live (live_in (standing ts next)) (rows ∙ ap row_in e) ∙ sym e)
+  stays_live None e c made to = ap (to_live fill op) (none_in (live_in (standing ts next)) (rows ∙ ap row_in e) ∙ sym e)
   stays_live (Some at) e None made to =
       live_is fill op (live_in (standing ts next)) ∙ ap (λ r. to_place (place_in (live_in (standing ts next))) (effect fill op.kind op.cells r).0) (rows ∙ ap row_in e) ∙ ap (to_place (place_in (live_in (standing ts next)))) made
       ∙ sym (ap (to_live fill op) e ∙ ap (to_place at.0) made)

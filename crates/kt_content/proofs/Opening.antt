@@ -19,6 +19,7 @@ use Rattle.kt_content.specs.Places.{Super, Place, same_place, Moves, standing, j
 use Rattle.kt_content.specs.KeyOps.{KeyOp, decided, op_on, seen, played, if_fits}
 use Rattle.kt_content.specs.Opening.{Placed, held_of, joined_store, moved_stores, if_it_fits, names_at, rows_behind, write_opened, then_opened, opened, HasRows, opened_stores_are_the_content, an_opening_that_stops_has_no_content}
 use Rattle.kt_content.proofs.MoreOps.{played-append, then_played}
+use Rattle.std.proofs.lemmas.Bool.{or_parts}
 
 hist_in-put : (q k : List ℕ) (h : Hist) (store : Store) → hist_in q (put key_cmp k h store) ≡ cond (eq_by_cmp key_cmp q k) h (hist_in q store)
 hist_in-put q k h store = ap (λ o. unwrap_or o never) (find-put key_cmp nat_list_cmp_total q k h store)
@@ -56,21 +57,13 @@ made fill super ts op ops rows stores final h = elim (decided fill super (standi
       | Some m ↦ λ e h. (m, e, h)
     ] refl h
 
-not_first : (a b : Bool) → (a || b) ≡ false → a ≡ false
-not_first true b h = h
-not_first false b h = refl
-
-not_rest : (a b : Bool) → (a || b) ≡ false → b ≡ false
-not_rest true b h = cc
-not_rest false b h = h
-
 -- a write on other keys
 write_other : (fill : Row) (super : Super) (ts : ℕ) (k : List ℕ) (ops : List RowOp) (rows : Option (List CommitRow)) (stores final : Placed) → list_any (λ (o : RowOp). eq_by_cmp key_cmp k o.key) ops ≡ false
     → write_opened fill super ts ops rows stores ≡ Ok final → held_of k final ≡ held_of k stores
 write_other fill super ts k [] rows stores final other h = let e : stores ≡ final = cc in ap (held_of k) (sym e)
 write_other fill super ts k (op ∷ ops) rows stores final other h =
     let m = made fill super ts op ops rows stores final h in
-    write_other fill super ts k ops (rows_behind rows) (moved_stores ts op.key m.0 stores) final (not_rest _ _ other) m.2 ∙ other_moved ts op.key k m.0 stores (not_first _ _ other)
+    write_other fill super ts k ops (rows_behind rows) (moved_stores ts op.key m.0 stores) final (or_parts (eq_by_cmp key_cmp k op.key) _ other).1 m.2 ∙ other_moved ts op.key k m.0 stores (or_parts _ _ other).0
 
 -- the first operation, on this key or on another
 abbrev pub first_or : List ℕ → ℕ → RowOp → Option (List Target) → List KeyOp → List KeyOp

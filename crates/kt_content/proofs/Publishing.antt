@@ -19,6 +19,7 @@ use Rattle.kt_content.specs.Publishing.{kept, gone, AllKept, AllGone, IsCarried,
 use Rattle.kt_content.specs.Publishing.Carries.{left_alone, covered, doubled, flies}
 use Rattle.kt_content.proofs.Agreement.{agree_plays}
 use Rattle.kt_content.proofs.MoreOps.{is_same}
+use Rattle.kt_content.proofs.Options.{at_most_of_none}
 
 -- a change of a store that the job leaves, and of one that it does not
 
@@ -145,11 +146,6 @@ carries_over fill keep old new held final outputs (x ∷ xs) carried e h =
 
 abbrev rows_by : {A : Type 0} → (Hist → Option A) → Held → List (Option A)
 rows_by f held = map f (held_in held)
-
-at_most_of_none : {A : Type 0} (xs : List (Option A)) → first_some xs ≡ None → AtMostOne xs
-at_most_of_none [] h = tt
-at_most_of_none (None ∷ xs) h = at_most_of_none xs h
-at_most_of_none (Some x ∷ xs) h = cc
 
 none_of_all : {A : Type 0} (x : Option A) (xs ys : List (Option A)) → first_some (xs ++ x ∷ ys) ≡ None → (x ≡ None) × (first_some (xs ++ ys) ≡ None)
 none_of_all x [] ys h = (none_left x (first_some ys) h, none_right x (first_some ys) h)

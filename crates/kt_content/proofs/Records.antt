@@ -1,10 +1,10 @@
 -- The content under one superblock, with a record more.
-use Rattle.std.proofs.Common.{◌≡◌, ◌≤◌, ◌<◌, ◌-◌, ℕ, max, List, [], ◌∷◌, ◌++◌, take, drop, Some, None, Option, Ok, refl, sym, ap, ◌∙◌, subst, arith, cond, true, false, Bool, ◌&&◌, append_assoc, length, length-append}
+use Rattle.std.proofs.Common.{◌≡◌, ◌≤◌, ◌<◌, ◌-◌, ℕ, max, List, [], ◌∷◌, ◌++◌, take, drop, Some, None, Option, Ok, refl, sym, ap, ◌∙◌, subst, arith, cond, true, false, append_assoc, length, length-append}
 use Rattle.std.specs.Prelude.{◌==◌}
 use Rattle.std.specs.Ordering.{eq_by_cmp}
 use Rattle.std.specs.FinMap.Entries.{find}
 use Rattle.std.proofs.lemmas.List.{append-nil, take-append-drop}
-use Rattle.std.proofs.lemmas.Bool.{leb-true, le-leb}
+use Rattle.std.proofs.lemmas.Bool.{leb-true, le-leb, and_parts, and_from}
 use Rattle.std.proofs.lemmas.Bool.Decides.{nat_tests}
 use Rattle.kt_history.specs.declared.change.Change.{Change}
 use Rattle.kt_history.specs.declared.operation.RowOp.{RowOp}
@@ -38,6 +38,8 @@ use Rattle.kt_content.proofs.LastUntold.{last_more, last_told}
 use Rattle.kt_content.proofs.LiveOnce.{once_more, once_told, shown_once}
 use Rattle.kt_content.proofs.Seen.{first_differ, seen-alike, seen-apart, seen-append, seen_rise}
 use Rattle.kt_content.proofs.AboveFiles.{told_above, more_above, later_above, above_told}
+use Rattle.kt_content.specs.Rules.{Rules, RecordsPass}
+use Rattle.kt_content.proofs.Rules.{pass_join, pass_front, pass_behind}
 
 -- a REPLICATE more
 
@@ -95,16 +97,21 @@ mark_stays fill past ts ops = elim (changes_on fill (rows_at past (ts - 1)) ops)
   | c ∷ cs ↦ refl
 ]
 
-module _ (fill : Row) (super : Super) (records : List Entry) (c : ℕ) (past : Past) (ts : ℕ) (ops : List RowOp) (low : ℕ) (log : IsLog (records ++ Replicate ts ops ∷ [])) (is : IsContent fill super records c past) (ends : IsPastUpTo low past) (lt : low < ts) (keys : DifferentKeys ops) where
+-- what a key sees with it
+pub sees_more : (q : List ℕ) (records : List Entry) (ts : ℕ) (ops : List RowOp) → IsLog (records ++ Replicate ts ops ∷ [])
+    → seen q (records ++ Replicate ts ops ∷ []) (records ++ Replicate ts ops ∷ []) ≡ seen q records records ++ op_on q ts ops None
+sees_more q records ts ops log =
+    let all = records ++ Replicate ts ops ∷ [] in
+    let none_yet : commit_of ts all ≡ None = commit_of-append ts records (Replicate ts ops ∷ []) refl ∙ no_commit_yet [] records ts ops [] refl log in
+    seen-append q all records (Replicate ts ops ∷ []) ∙ ap (λ l. l ++ (op_on q ts ops (commit_of ts all) ++ [])) (seen-alike q all records records (λ t. commit_of-append t records (Replicate ts ops ∷ []) refl))
+    ∙ ap (λ l. seen q records records ++ l) (append-nil (op_on q ts ops (commit_of ts all)) ∙ ap (op_on q ts ops) none_yet)
+
+module _ (rules : Rules) (fill : Row) (super : Super) (records : List Entry) (c : ℕ) (past : Past) (ts : ℕ) (ops : List RowOp) (low : ℕ) (log : IsLog (records ++ Replicate ts ops ∷ [])) (is : IsContent rules fill super records c past) (ends : IsPastUpTo low past) (lt : low < ts) (keys : DifferentKeys ops) where
   abbrev all : List Entry
   all = records ++ Replicate ts ops ∷ []
 
-  none_yet : commit_of ts all ≡ None
-  none_yet = commit_of-append ts records (Replicate ts ops ∷ []) refl ∙ no_commit_yet [] records ts ops [] refl log
-
-  pub sees : (q : List ℕ) → seen q all all ≡ seen q records records ++ op_on q ts ops None
-  sees q = seen-append q all records (Replicate ts ops ∷ []) ∙ ap (λ l. l ++ (op_on q ts ops (commit_of ts all) ++ [])) (seen-alike q all records records (λ t. commit_of-append t records (Replicate ts ops ∷ []) refl))
-      ∙ ap (λ l. seen q records records ++ l) (append-nil (op_on q ts ops (commit_of ts all)) ∙ ap (op_on q ts ops) none_yet)
+  sees : (q : List ℕ) → seen q all all ≡ seen q records records ++ op_on q ts ops None
+  sees q = sees_more q records ts ops log
 
   key_more : KeysAreTold ops records → (q : List ℕ) → KeyOf q ts ops → HoldsKey fill super all q (past_hist q (with_ops fill past ts ops))
   key_more each q (KeyOf.not_there lacks none) =
@@ -144,33 +151,23 @@ turns_key fill super records ts ops q (KeyOf.there op key one every) last each =
 
 up_to_later : (c d : ℕ) (ws : List PastWrite) → IsUpTo c ws → c ≤ d → IsUpTo d ws
 up_to_later c d [] h le = refl
-up_to_later c d (w ∷ ws) h le = let low : w.ts ≤ c = leb-true w.ts c (left_true _ _ h) in both_true _ _ (le-leb w.ts d (omega arith)) (up_to_later c d ws (right_true _ _ h) le)
-  where
-    left_true : (a b : Bool) → (a && b) ≡ true → a ≡ true
-    left_true true b h = refl
-    left_true false b h = h
-
-    right_true : (a b : Bool) → (a && b) ≡ true → b ≡ true
-    right_true true b h = h
-    right_true false b h = cc
-
-    both_true : (a b : Bool) → a ≡ true → b ≡ true → (a && b) ≡ true
-    both_true true b h k = k
-    both_true false b h k = h
+up_to_later c d (w ∷ ws) h le = let low : w.ts ≤ c = leb-true w.ts c (and_parts _ _ h).0 in and_from _ _ (le-leb w.ts d (omega arith)) (up_to_later c d ws (and_parts _ _ h).1 le)
 
 pub ends_later : (c d : ℕ) (past : Past) → c ≤ d → IsPastUpTo c past → IsPastUpTo d past
 ends_later c d past le e = record { is = e.is; mark = let m = e.mark in omega arith; writes = up_to_later c d past.writes e.writes le }
 
 pub replicate_more : a_replicate_adds_its_write
-replicate_more fill super records c low past ts ops log is ends lt keys each = (
+replicate_more rules fill super records c low past ts ops log is ends lt keys each takes = (
   record {
     enough = omega (arith, is.enough, length-append records (Replicate ts ops ∷ []));
     numbers = is.numbers;
     mark = mark_stays fill past ts ops ∙ is.mark;
     last = let e : last_of (records ++ Replicate ts ops ∷ []) ≡ ts = last_of-ends [] records ts ops [] refl log in omega arith;
     ends = ends_later ts (max super.c ts) (with_ops fill past ts ops) (omega arith) (ends_grown fill past low ts ops ends lt keys);
-    turns = λ q. subst OnlyLastUntold (sym (sees fill super records c past ts ops low log is ends lt keys q)) (turns_key fill super records ts ops q (key_of q ts ops) (is.turns q) each);
-    keys = λ q. key_more fill super records c past ts ops low log is ends lt keys each q (key_of q ts ops);
+    turns = λ q. subst OnlyLastUntold (sym (sees rules fill super records c past ts ops low log is ends lt keys q)) (turns_key fill super records ts ops q (key_of q ts ops) (is.turns q) each);
+    passes = pass_join rules fill records (Replicate ts ops ∷ []) is.passes (takes, tt);
+    files = is.files;
+    keys = λ q. key_more rules fill super records c past ts ops low log is ends lt keys each q (key_of q ts ops);
   },
   ends_grown fill past low ts ops ends lt keys,
 )
@@ -212,7 +209,7 @@ row_of_key fill super records q ts (op ∷ ops) (row ∷ rows) h = elim (eq_by_c
 other_commit : (t ts : ℕ) (rows : List CommitRow) (ys : List Entry) → (t == ts) ≡ false → commit_of t (Commit ts rows ∷ ys) ≡ commit_of t ys
 other_commit t ts rows ys h = let e : (ts == t) ≡ false = grind (arith, nat_tests) in rw e refl
 
-own_commit : (ts : ℕ) (rows : List CommitRow) (ys : List Entry) → commit_of ts (Commit ts rows ∷ ys) ≡ Some rows
+pub own_commit : (ts : ℕ) (rows : List CommitRow) (ys : List Entry) → commit_of ts (Commit ts rows ∷ ys) ≡ Some rows
 own_commit ts rows ys = rw (same ts) refl
 
 module _ (fill : Row) (super : Super) (xs : List Entry) (ts : ℕ) (ops : List RowOp) (ys : List Entry) (rows : List CommitRow)
@@ -296,14 +293,16 @@ module _ (fill : Row) (super : Super) (xs : List Entry) (ts : ℕ) (ops : List R
   longer : length short ≤ length long
   longer = omega (arith, length-append xs (Replicate ts ops ∷ ys), length-append xs (Replicate ts ops ∷ (ys ++ Commit ts rows ∷ [])), length-append ys (Commit ts rows ∷ []))
 
-  pub all_same : (c : ℕ) (past : Past) → RowsTell fill super short ts ops rows → IsContent fill super short c past → IsContent fill super long c past
-  all_same c past tells is = record {
+  pub all_same : (rules : Rules) (c : ℕ) (past : Past) → RowsTell fill super short ts ops rows → IsContent rules fill super short c past → IsContent rules fill super long c past
+  all_same rules c past tells is = record {
     enough = omega (arith, is.enough, longer);
     numbers = is.numbers;
     mark = is.mark;
     last = is.last ∙ ap (max super.c) (sym (last_of-alike xs (Replicate ts ops ∷ (ys ++ Commit ts rows ∷ [])) (Replicate ts ops ∷ ys) (ap (λ n. max ts n) (last_of-alike ys (Commit ts rows ∷ []) [] refl ∙ ap last_of (append-nil ys)))));
     ends = is.ends;
     turns = λ q. turns_same q short (row_of_key fill super short q ts ops rows tells) (is.turns q);
+    passes = let parts = pass_behind rules fill xs (Replicate ts ops ∷ ys) is.passes in pass_join rules fill xs (Replicate ts ops ∷ (ys ++ Commit ts rows ∷ [])) (pass_front rules fill xs (Replicate ts ops ∷ ys) is.passes) (parts.0, pass_join rules fill ys (Commit ts rows ∷ []) parts.1 tt);
+    files = is.files;
     keys = λ q. let was = is.keys q in record { held = was.held; is = key_same q was.held (row_of_key fill super short q ts ops rows tells) was.is; shown = was.shown; once = once_same q was.held (row_of_key fill super short q ts ops rows tells) was.once; above = above_same q was.held (row_of_key fill super short q ts ops rows tells) was.is was.above };
   }
 
@@ -329,39 +328,33 @@ turns_commit fill super records all ts ops rows q log stands tells last =
 
 pub turns_replicate : (fill : Row) (super : Super) (records : List Entry) (ts : ℕ) (ops : List RowOp) (q : List ℕ) → IsLog (records ++ Replicate ts ops ∷ []) → OnlyLastUntold (seen q records records) → KeysAreTold ops records
     → OnlyLastUntold (seen q (records ++ Replicate ts ops ∷ []) (records ++ Replicate ts ops ∷ []))
-turns_replicate fill super records ts ops q log last each =
-    let all = records ++ Replicate ts ops ∷ [] in
-    let none_yet : commit_of ts all ≡ None = commit_of-append ts records (Replicate ts ops ∷ []) refl ∙ no_commit_yet [] records ts ops [] refl log in
-    let sees : seen q all all ≡ seen q records records ++ op_on q ts ops None =
-    seen-append q all records (Replicate ts ops ∷ []) ∙ ap (λ l. l ++ (op_on q ts ops (commit_of ts all) ++ [])) (seen-alike q all records records (λ t. commit_of-append t records (Replicate ts ops ∷ []) refl))
-    ∙ ap (λ l. seen q records records ++ l) (append-nil (op_on q ts ops (commit_of ts all)) ∙ ap (op_on q ts ops) none_yet) in
-    subst OnlyLastUntold (sym sees) (turns_key fill super records ts ops q (key_of q ts ops) last each)
+turns_replicate fill super records ts ops q log last each = subst OnlyLastUntold (sym (sees_more q records ts ops log)) (turns_key fill super records ts ops q (key_of q ts ops) last each)
 
 pub commit_more : a_commit_changes_nothing
-commit_more fill super records c past ts rows log is told =
+commit_more rules fill super records c past ts rows log is told =
     let at = stands_at ts told.ops records told.stands in
     let place : records ++ Commit ts rows ∷ [] ≡ at.0 ++ Replicate ts told.ops ∷ (at.1 ++ Commit ts rows ∷ []) = ap (λ (l : List Entry). l ++ Commit ts rows ∷ []) at.2 ∙ append_assoc at.0 (Replicate ts told.ops ∷ at.1) (Commit ts rows ∷ []) in
-    subst (λ (l : List Entry). IsContent fill super l c past) (sym place)
-    (all_same fill super at.0 ts told.ops at.1 rows (subst (λ (l : List Entry). IsLog l) place log) c past (subst (λ (l : List Entry). RowsTell fill super l ts told.ops rows) at.2 told.tells)
-    (subst (λ (l : List Entry). IsContent fill super l c past) at.2 is))
+    subst (λ (l : List Entry). IsContent rules fill super l c past) (sym place)
+    (all_same fill super at.0 ts told.ops at.1 rows (subst (λ (l : List Entry). IsLog l) place log) rules c past (subst (λ (l : List Entry). RowsTell fill super l ts told.ops rows) at.2 told.tells)
+    (subst (λ (l : List Entry). IsContent rules fill super l c past) at.2 is))
 
 -- records that are told
 
-last_is : (fill : Row) (super : Super) (records : List Entry) (c : ℕ) (past : Past) → IsContent fill super records c past → IsContent fill super records (max super.c (last_of records)) past
-last_is fill super records c past is = subst (λ n. IsContent fill super records n past) is.last is
+last_is : (rules : Rules) (fill : Row) (super : Super) (records : List Entry) (c : ℕ) (past : Past) → IsContent rules fill super records c past → IsContent rules fill super records (max super.c (last_of records)) past
+last_is rules fill super records c past is = subst (λ n. IsContent rules fill super records n past) is.last is
 
 pub goes_on : a_run_goes_on
-goes_on fill super base [] c low past log is ends told = subst (λ (l : List Entry). IsContent fill super l (max super.c (last_of l)) past) (sym (append-nil base)) (last_is fill super base c past is)
-goes_on fill super base (Replicate ts ops ∷ run) c low past log is ends told =
+goes_on rules fill super base [] c low past log is ends told takes = subst (λ (l : List Entry). IsContent rules fill super l (max super.c (last_of l)) past) (sym (append-nil base)) (last_is rules fill super base c past is)
+goes_on rules fill super base (Replicate ts ops ∷ run) c low past log is ends told takes =
     let joined : (base ++ Replicate ts ops ∷ []) ++ run ≡ base ++ Replicate ts ops ∷ run = append_assoc base (Replicate ts ops ∷ []) run in
     let log' : IsLog ((base ++ Replicate ts ops ∷ []) ++ run) = subst (λ (l : List Entry). IsLog l) (sym joined) log in
-    let next = replicate_more fill super base c low past ts ops (order_front [] (base ++ Replicate ts ops ∷ []) run log') is ends told.0 told.1 told.2 in
-    subst (λ (l : List Entry). IsContent fill super l (max super.c (last_of l)) (with_records fill (with_ops fill past ts ops) run)) joined (goes_on fill super (base ++ Replicate ts ops ∷ []) run (max super.c ts) ts (with_ops fill past ts ops) log' next.0 next.1 told.3)
-goes_on fill super base (Commit ts rows ∷ run) c low past log is ends told =
+    let next = replicate_more rules fill super base c low past ts ops (order_front [] (base ++ Replicate ts ops ∷ []) run log') is ends told.0 told.1 told.2 takes.0 in
+    subst (λ (l : List Entry). IsContent rules fill super l (max super.c (last_of l)) (with_records fill (with_ops fill past ts ops) run)) joined (goes_on rules fill super (base ++ Replicate ts ops ∷ []) run (max super.c ts) ts (with_ops fill past ts ops) log' next.0 next.1 told.3 takes.1)
+goes_on rules fill super base (Commit ts rows ∷ run) c low past log is ends told takes =
     let joined : (base ++ Commit ts rows ∷ []) ++ run ≡ base ++ Commit ts rows ∷ run = append_assoc base (Commit ts rows ∷ []) run in
     let log' : IsLog ((base ++ Commit ts rows ∷ []) ++ run) = subst (λ (l : List Entry). IsLog l) (sym joined) log in
-    let next = commit_more fill super base c past ts rows (order_front [] (base ++ Commit ts rows ∷ []) run log') is told.0 in
-    subst (λ (l : List Entry). IsContent fill super l (max super.c (last_of l)) (with_records fill past run)) joined (goes_on fill super (base ++ Commit ts rows ∷ []) run c low past log' next ends told.1)
+    let next = commit_more rules fill super base c past ts rows (order_front [] (base ++ Commit ts rows ∷ []) run log') is told.0 in
+    subst (λ (l : List Entry). IsContent rules fill super l (max super.c (last_of l)) (with_records fill past run)) joined (goes_on rules fill super (base ++ Commit ts rows ∷ []) run c low past log' next ends told.1 takes)
 
 pub told_front : (fill : Row) (super : Super) (low : ℕ) (log xs ys : List Entry) → AllTold fill super low log (xs ++ ys) → AllTold fill super low log xs
 told_front fill super low log [] ys told = tt
@@ -369,8 +362,9 @@ told_front fill super low log (Replicate ts ops ∷ xs) ys told = (told.0, told.
 told_front fill super low log (Commit ts rows ∷ xs) ys told = (told.0, told_front fill super low (log ++ Commit ts rows ∷ []) xs ys told.1)
 
 pub fronts_hold : each_front_holds_its_writes
-fronts_hold fill super base run c low past n log is ends told =
+fronts_hold rules fill super base run c low past n log is ends told takes =
     let whole : take n run ++ drop n run ≡ run = take-append-drop n run in
-    goes_on fill super base (take n run) c low past
+    goes_on rules fill super base (take n run) c low past
     (order_front [] (base ++ take n run) (drop n run) (subst (λ (l : List Entry). IsLog l) (ap (λ l. base ++ l) (sym whole) ∙ sym (append_assoc base (take n run) (drop n run))) log))
     is ends (told_front fill super low base (take n run) (drop n run) (subst (λ (l : List Entry). AllTold fill super low base l) (sym whole) told))
+    (pass_front rules fill (take n run) (drop n run) (subst (λ (l : List Entry). RecordsPass rules fill l) (sym whole) takes))

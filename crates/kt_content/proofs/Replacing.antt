@@ -1,9 +1,9 @@
 -- One superblock in place of another, over whole contents.
-use Rattle.std.proofs.Common.{◌≡◌, ◌≢◌, ◌≤◌, ◌<◌, ◌-◌, ℕ, List, [], ◌∷◌, ◌++◌, Some, None, Option, refl, sym, ap, ◌∙◌, subst, arith, cond, true, false, Bool, ◌&&◌, T}
-use Rattle.std.specs.Prelude.{nat_lt, ◌==◌, is_some}
+use Rattle.std.proofs.Common.{◌≡◌, ◌≢◌, ◌≤◌, ◌<◌, ◌-◌, ℕ, List, [], ◌∷◌, ◌++◌, Some, None, Option, refl, sym, ap, ◌∙◌, subst, arith, cond, true, false, Bool, T}
+use Rattle.std.specs.Prelude.{nat_le, nat_lt, ◌==◌, is_some}
 use Rattle.std.specs.List.{filter}
 use Rattle.std.specs.FinMap.Entries.{find}
-use Rattle.std.proofs.lemmas.Bool.{lt-ltb, ltb-false, ne_eqb}
+use Rattle.std.proofs.lemmas.Bool.{lt-ltb, ltb-false, ne_eqb, and_parts, and_from}
 use Rattle.std.proofs.lemmas.List.Elements.{filter-append}
 use Rattle.std.proofs.lemmas.Bool.Decides.{nat_tests}
 use Rattle.kt_history.specs.declared.change.Change.{Change}
@@ -24,7 +24,7 @@ use Rattle.kt_loglaws.specs.Laws.{with_ops}
 use Rattle.kt_loglaws.specs.Fronts.{with_records}
 use Rattle.kt_content.specs.Places.{Super, Held, held_in, at_first, Place}
 use Rattle.kt_content.specs.KeyOps.{seen, KeyOp}
-use Rattle.kt_content.specs.Content.{HoldsKey, IsContent, NumbersDiffer, AreTold}
+use Rattle.kt_content.specs.Content.{HoldsKey, SameFrom, IsContent, NumbersDiffer, AreTold}
 use Rattle.kt_content.specs.Agreement.{all_moved}
 use Rattle.kt_content.specs.Publishing.{gone, IsCarried, AllCarried}
 use Rattle.kt_content.specs.Replacing.{a_raised_past_is_shown, a_raised_past_is_one, records_and_marks_change_places, Follows, a_job_in_one_step_publishes_the_same, a_job_in_two_phases_publishes_the_same, each_key_held_is_a_content, a_flying_operation_is_held_too}
@@ -36,6 +36,8 @@ use Rattle.kt_content.proofs.Seen.{seen_rise}
 use Rattle.kt_content.proofs.Records.{ends_later}
 use Rattle.kt_history.specs.declared.target.Target.{Target}
 use Rattle.kt_content.proofs.LiveOnce.{all_told_once}
+use Rattle.kt_content.specs.Rules.{Rules, RowsetsPass}
+use Rattle.kt_content.proofs.Options.{as_T}
 
 -- a past told from a later mark on
 
@@ -53,9 +55,6 @@ steps_kept mark t q (w ∷ ws) lt = elim (nat_lt mark w.ts) as (λ b. nat_lt mar
   | true ↦ λ e. step-same t w.ts (find key_cmp q w.changes) (timeline q (filter (λ (w : PastWrite). nat_lt mark w.ts) ws)) (timeline q ws) (steps_kept mark t q ws lt)
   | false ↦ λ e. let low = ltb-false mark w.ts e in steps_kept mark t q ws lt ∙ sym (step-other t w.ts (find key_cmp q w.changes) (timeline q ws) (λ s. omega arith))
 ] refl
-
-as_T : (b : Bool) → b ≡ true → T b
-as_T b h = subst T (sym h) tt
 
 from_T : (b : Bool) → T b → b ≡ true
 from_T true h = refl
@@ -78,29 +77,24 @@ is_past_raised past mark is le = record { rows = from_T _ (sorted-replay mark pa
 up_to_kept : (c mark : ℕ) (ws : List PastWrite) → IsUpTo c ws → IsUpTo c (filter (λ (w : PastWrite). nat_lt mark w.ts) ws)
 up_to_kept c mark [] h = refl
 up_to_kept c mark (w ∷ ws) h = elim (nat_lt mark w.ts) as (λ b. IsUpTo c (cond b (w ∷ filter (λ (w : PastWrite). nat_lt mark w.ts) ws) (filter (λ (w : PastWrite). nat_lt mark w.ts) ws))) [
-  | true ↦ both_true _ _ (left_true _ _ h) (up_to_kept c mark ws (right_true _ _ h))
-  | false ↦ up_to_kept c mark ws (right_true _ _ h)
+  | true ↦ and_from _ _ (and_parts _ _ h).0 (up_to_kept c mark ws (and_parts _ _ h).1)
+  | false ↦ up_to_kept c mark ws (and_parts (nat_le w.ts c) _ h).1
 ]
-  where
-    left_true : (a b : Bool) → (a && b) ≡ true → a ≡ true
-    left_true true b h = refl
-    left_true false b h = h
-
-    right_true : (a b : Bool) → (a && b) ≡ true → b ≡ true
-    right_true true b h = h
-    right_true false b h = cc
-
-    both_true : (a b : Bool) → a ≡ true → b ≡ true → (a && b) ≡ true
-    both_true true b h k = k
-    both_true false b h k = h
 
 pub raised_is_one : a_raised_past_is_one
 raised_is_one past c mark e le low = record { is = is_past_raised past mark e.is le; mark = low; writes = up_to_kept c mark past.writes e.writes }
 
+-- and from there on it is the same
+pub raised_same : (past : Past) (mark : ℕ) (q : List ℕ) → IsPast past → past.mark ≤ mark → SameFrom mark (past_hist q past) (past_hist q (raise past mark))
+raised_same past mark q is le = record {
+  rows = λ t low. row-past t q past is ∙ sym (ap (find key_cmp q) (rows_at-raise past mark t is low)) ∙ sym (row-past t q (raise past mark) (is_past_raised past mark is le));
+  steps = λ t up. sym (steps_kept mark t q past.writes up);
+}
+
 pub raised_is_shown : a_raised_past_is_shown
 raised_is_shown past mark q hs is le s = record {
-  rows = λ t low. s.rows t low ∙ row-past t q past is ∙ sym (ap (find key_cmp q) (rows_at-raise past mark t is low)) ∙ sym (row-past t q (raise past mark) (is_past_raised past mark is le));
-  steps = λ t up. s.steps t up ∙ sym (steps_kept mark t q past.writes up);
+  rows = λ t low. s.rows t low ∙ (raised_same past mark q is le).rows t low;
+  steps = λ t up. s.steps t up ∙ (raised_same past mark q is le).steps t up;
   one_row = s.one_row;
   one_step = s.one_step;
 }
@@ -132,18 +126,20 @@ records_raised fill super low log past mark (Commit ts rows ∷ run) told ends l
 
 -- publishing
 
-module _ (fill : Row) (old new : Super) (records : List Entry) (c d j : ℕ) (past : Past) (is : IsContent fill old records c past) (f : Follows old new records c d j) where
+module _ (rules : Rules) (fill : Row) (old new : Super) (records : List Entry) (c d j : ℕ) (past : Past) (is : IsContent rules fill old records c past) (f : Follows old new records c d j) where
   later : past.mark ≤ new.a
   later = let m = is.mark in let n = f.mark in omega arith
 
-  pub published : NumbersDiffer new.rowsets → ((q : List ℕ) → HoldsKey fill new records q (past_hist q past)) → IsContent fill new records d (raise past new.a)
-  published numbers keys = record {
+  pub published : NumbersDiffer new.rowsets → RowsetsPass rules new.rowsets → ((q : List ℕ) → HoldsKey fill new records q (past_hist q past)) → IsContent rules fill new records d (raise past new.a)
+  published numbers files keys = record {
     enough = f.enough;
     numbers = numbers;
     mark = refl;
     last = f.last;
     ends = raised_is_one past d new.a (ends_later c d past f.up is.ends) later f.marked;
     turns = is.turns;
+    passes = is.passes;
+    files = files;
     keys = λ q. let k = keys q in record { held = k.held; is = k.is; shown = record { shows = raised_is_shown past new.a q _ is.ends.is later k.shown.shows; sound = k.shown.sound }; once = k.once; above = k.above };
   }
 
@@ -156,7 +152,7 @@ carried_told keep old new (x ∷ xs) c = (one x.told c.0, carried_told keep old 
     one (Some targets) c = refl
 
 pub publishes_once : a_job_in_one_step_publishes_the_same
-publishes_once fill keep old new records c d j past is r f = published fill old new records c d j past is f r.numbers (λ q.
+publishes_once rules fill keep old new records c d j past is r f = published rules fill old new records c d j past is f r.numbers r.files (λ q.
     let was = is.keys q in
     let now = carries_over fill keep old new (at_first q old) was.held (at_first q new) (seen q records records) (r.carried q) (r.rest q) was.is in
     record {
@@ -170,7 +166,7 @@ publishes_once fill keep old new records c d j past is r f = published fill old 
     })
 
 pub publishes_twice : a_job_in_two_phases_publishes_the_same
-publishes_twice fill keep old new records c d j past is r f log = published fill old new records c d j past is f r.numbers (λ q.
+publishes_twice rules fill keep old new records c d j past is r f log = published rules fill old new records c d j past is f r.numbers r.files (λ q.
     let was = is.keys q in
     let k = r.keys q was.held was.is in
     let rise = seen_rise q records [] records log in
@@ -184,7 +180,7 @@ publishes_twice fill keep old new records c d j past is r f log = published fill
     })
 
 pub each_key_held : each_key_held_is_a_content
-each_key_held fill old new records c d j past is f numbers keys = published fill old new records c d j past is f numbers keys
+each_key_held rules fill old new records c d j past is f numbers files keys = published rules fill old new records c d j past is f numbers files keys
 
 pub flying_held : a_flying_operation_is_held_too
 flying_held fill old new ts was now later whole xs op dw bw dn bn h s un lt up others =

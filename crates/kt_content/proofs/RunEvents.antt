@@ -1,5 +1,5 @@
 -- What an engine keeps of its log, its flying writes and its numbers.
-use Rattle.std.proofs.Common.{◌≡◌, ◌≤◌, ◌<◌, ℕ, suc, max, List, [], ◌∷◌, ◌++◌, Some, None, Option, Ok, Result, refl, sym, ap, ◌∙◌, subst, arith, cond, false, Bool, inl, inr, append_assoc}
+use Rattle.std.proofs.Common.{◌≡◌, ◌≤◌, ◌<◌, ℕ, suc, max, List, [], ◌∷◌, ◌++◌, Some, None, Option, refl, sym, ap, ◌∙◌, subst, arith, cond, false, Bool, inl, inr, append_assoc}
 use Rattle.std.specs.Prelude.{not, ◌==◌}
 use Rattle.std.specs.List.{filter}
 use Rattle.std.proofs.lemmas.List.{append-nil}
@@ -29,6 +29,9 @@ use Rattle.kt_content.specs.RunEvents.{a_write_that_begins_is_not_done, a_row_th
 use Rattle.kt_content.proofs.Records.{KeyOf, key_of, replicate_more, commit_more, commit_key, order_front, stands_at}
 use Rattle.kt_content.proofs.Seen.{seen_rise}
 use Rattle.kt_content.proofs.Recovering.{ones_alike, later, sees_all, regroup, behind_above}
+use Rattle.kt_content.specs.Rules.{Rules, no_rules}
+use Rattle.kt_content.proofs.Rules.{ops_pass_none, without_rules}
+use Rattle.kt_content.proofs.Options.{two_oks}
 
 -- what is done
 
@@ -36,7 +39,7 @@ abbrev AllLt : ℕ → List KeyOp → Type 0
 AllLt ts [] = Unit {0}
 AllLt ts (x ∷ xs) = (x.ts < ts) × AllLt ts xs
 
-last_above : (low : ℕ) (xs : List KeyOp) (y : KeyOp) → OpsRise low (xs ++ y ∷ []) → low ≤ y.ts
+pub last_above : (low : ℕ) (xs : List KeyOp) (y : KeyOp) → OpsRise low (xs ++ y ∷ []) → low ≤ y.ts
 last_above low [] y r = r.0
 last_above low (x ∷ xs) y r = let up = last_above (suc x.ts) xs y r.1 in let down = r.0 in omega arith
 
@@ -88,41 +91,38 @@ applied_done aloft later q records front ts op sees rise same was now =
 
 -- names
 
-two_oks : (x : Result Held ℕ) (a b : Held) → x ≡ Ok a → x ≡ Ok b → a ≡ b
-two_oks x a b e f = cc
-
-tell_after : (fill : Row) (super : Super) (records : List Entry) (c : ℕ) (past : Past) (t : ℕ) (ops : List RowOp) (log : IsLog (records ++ Replicate t ops ∷ [])) → IsContent fill super records c past
+tell_after : (rules : Rules) (fill : Row) (super : Super) (records : List Entry) (c : ℕ) (past : Past) (t : ℕ) (ops : List RowOp) (log : IsLog (records ++ Replicate t ops ∷ [])) → IsContent rules fill super records c past
     → (ts : ℕ) (os : List RowOp) (rows : List CommitRow) → ts ≤ t → RowsTell fill super records ts os rows → RowsTell fill super (records ++ Replicate t ops ∷ []) ts os rows
-tell_after fill super records c past t ops log is ts [] [] le h = tt
-tell_after fill super records c past t ops log is ts [] (row ∷ rows) le h = absurd h
-tell_after fill super records c past t ops log is ts (o ∷ os) [] le h = absurd h
-tell_after fill super records c past t ops log is ts (o ∷ os) (row ∷ rows) le h = (
+tell_after rules fill super records c past t ops log is ts [] [] le h = tt
+tell_after rules fill super records c past t ops log is ts [] (row ∷ rows) le h = absurd h
+tell_after rules fill super records c past t ops log is ts (o ∷ os) [] le h = absurd h
+tell_after rules fill super records c past t ops log is ts (o ∷ os) (row ∷ rows) le h = (
   λ held e. (let was = is.keys o.key in
       let next = later fill super records t ops log o.key ts was.held le (key_of o.key t ops) was.is in
       let same : next.0 ≡ held = two_oks (content_at fill super (records ++ Replicate t ops ∷ []) o.key) next.0 held next.1 e in
       ones_alike fill super was.held held ts o row.targets (sym next.2 ∙ ap (standing ts) same) (h.0 was.held was.is)),
-  tell_after fill super records c past t ops log is ts os rows le h.1,
+  tell_after rules fill super records c past t ops log is ts os rows le h.1,
 )
 
-tell_behind : (fill : Row) (super : Super) (records : List Entry) (c : ℕ) (past : Past) (t : ℕ) (r : List CommitRow) (log : IsLog (records ++ Commit t r ∷ [])) → IsContent fill super records c past → IsTold fill super records t r
+tell_behind : (rules : Rules) (fill : Row) (super : Super) (records : List Entry) (c : ℕ) (past : Past) (t : ℕ) (r : List CommitRow) (log : IsLog (records ++ Commit t r ∷ [])) → IsContent rules fill super records c past → IsTold fill super records t r
     → (ts : ℕ) (os : List RowOp) (rows : List CommitRow) → RowsTell fill super records ts os rows → RowsTell fill super (records ++ Commit t r ∷ []) ts os rows
-tell_behind fill super records c past t r log is told ts [] [] h = tt
-tell_behind fill super records c past t r log is told ts [] (row ∷ rows) h = absurd h
-tell_behind fill super records c past t r log is told ts (o ∷ os) [] h = absurd h
-tell_behind fill super records c past t r log is told ts (o ∷ os) (row ∷ rows) h = (
+tell_behind rules fill super records c past t r log is told ts [] [] h = tt
+tell_behind rules fill super records c past t r log is told ts [] (row ∷ rows) h = absurd h
+tell_behind rules fill super records c past t r log is told ts (o ∷ os) [] h = absurd h
+tell_behind rules fill super records c past t r log is told ts (o ∷ os) (row ∷ rows) h = (
   λ held e. (let was = is.keys o.key in
       let same : was.held ≡ held = two_oks (content_at fill super (records ++ Commit t r ∷ []) o.key) was.held held (commit_key fill super records t r o.key was.held log told was.is) e in
       subst (λ (k : Held). TellsOne fill super k ts o row.targets) same (h.0 was.held was.is)),
-  tell_behind fill super records c past t r log is told ts os rows h.1,
+  tell_behind rules fill super records c past t r log is told ts os rows h.1,
 )
 
 pub names_begin : names_stay_true_at_a_begin
-names_begin fill super records c past ts ops [] log is below known = tt
-names_begin fill super records c past ts ops (n ∷ named) log is below known = (tell_after fill super records c past ts ops log is n.ts n.ops n.rows below.0 known.0, names_begin fill super records c past ts ops named log is below.1 known.1)
+names_begin rules fill super records c past ts ops [] log is below known = tt
+names_begin rules fill super records c past ts ops (n ∷ named) log is below known = (tell_after rules fill super records c past ts ops log is n.ts n.ops n.rows below.0 known.0, names_begin rules fill super records c past ts ops named log is below.1 known.1)
 
 pub names_end : names_stay_true_at_an_end
-names_end fill super records c past ts rows [] log is told known = tt
-names_end fill super records c past ts rows (n ∷ named) log is told known = (tell_behind fill super records c past ts rows log is told n.ts n.ops n.rows known.0, names_end fill super records c past ts rows named log is told known.1)
+names_end rules fill super records c past ts rows [] log is told known = tt
+names_end rules fill super records c past ts rows (n ∷ named) log is told known = (tell_behind rules fill super records c past ts rows log is told n.ts n.ops n.rows known.0, names_end rules fill super records c past ts rows named log is told known.1)
 
 pub name_more : a_name_more_is_true
 name_more fill super records ts [] [] op row h tells = (tells, tt)
@@ -135,34 +135,34 @@ names_told fill super records n named known stands = record { ops = n.ops; stand
 
 -- what is told, in the content of all records
 
-tell_on : (fill : Row) (super : Super) (base run : List Entry) (c low : ℕ) (past : Past) (ts : ℕ) (os : List RowOp) (rows : List CommitRow) → IsLog (base ++ run) → IsContent fill super base c past → IsPastUpTo low past → AllTold fill super low base run → AllAbove ts run
+tell_on : (fill : Row) (super : Super) (base run : List Entry) (c low : ℕ) (past : Past) (ts : ℕ) (os : List RowOp) (rows : List CommitRow) → IsLog (base ++ run) → IsContent no_rules fill super base c past → IsPastUpTo low past → AllTold fill super low base run → AllAbove ts run
     → RowsTell fill super base ts os rows → RowsTell fill super (base ++ run) ts os rows
 tell_on fill super base [] c low past ts os rows log is ends told above h = subst (λ (l : List Entry). RowsTell fill super l ts os rows) (sym (append-nil base)) h
 tell_on fill super base (Replicate t ops ∷ run) c low past ts os rows log is ends told above h =
     let log' : IsLog ((base ++ Replicate t ops ∷ []) ++ run) = subst (λ (l : List Entry). IsLog l) (regroup base (Replicate t ops) run) log in
     let front = order_front [] (base ++ Replicate t ops ∷ []) run log' in
-    let next = replicate_more fill super base c low past t ops front is ends told.0 told.1 told.2 in
+    let next = replicate_more no_rules fill super base c low past t ops front is ends told.0 told.1 told.2 (ops_pass_none fill ops) in
     subst (λ (l : List Entry). RowsTell fill super l ts os rows) (sym (regroup base (Replicate t ops) run))
     (tell_on fill super (base ++ Replicate t ops ∷ []) run (max super.c t) t (with_ops fill past t ops) ts os rows log' next.0 next.1 told.3 above.1
-    (tell_after fill super base c past t ops front is ts os rows (let up = above.0 in omega arith) h))
+    (tell_after no_rules fill super base c past t ops front is ts os rows (let up = above.0 in omega arith) h))
 tell_on fill super base (Commit t r ∷ run) c low past ts os rows log is ends told above h =
     let log' : IsLog ((base ++ Commit t r ∷ []) ++ run) = subst (λ (l : List Entry). IsLog l) (regroup base (Commit t r) run) log in
     let front = order_front [] (base ++ Commit t r ∷ []) run log' in
     subst (λ (l : List Entry). RowsTell fill super l ts os rows) (sym (regroup base (Commit t r) run))
-    (tell_on fill super (base ++ Commit t r ∷ []) run c low past ts os rows log' (commit_more fill super base c past t r front is told.0) ends told.1 above (tell_behind fill super base c past t r front is told.0 ts os rows h))
+    (tell_on fill super (base ++ Commit t r ∷ []) run c low past ts os rows log' (commit_more no_rules fill super base c past t r front is told.0) ends told.1 above (tell_behind no_rules fill super base c past t r front is told.0 ts os rows h))
 
-pub told_is_true : what_is_told_is_true
-told_is_true fill super base [] c low past log is ends told = tt
-told_is_true fill super base (Replicate t ops ∷ run) c low past log is ends told =
+told_no_rules : (fill : Row) (super : Super) (base run : List Entry) (c low : ℕ) (past : Past) → IsLog (base ++ run) → IsContent no_rules fill super base c past → IsPastUpTo low past → AllTold fill super low base run → AllTrue fill super (base ++ run) low base run
+told_no_rules fill super base [] c low past log is ends told = tt
+told_no_rules fill super base (Replicate t ops ∷ run) c low past log is ends told =
     let log' : IsLog ((base ++ Replicate t ops ∷ []) ++ run) = subst (λ (l : List Entry). IsLog l) (regroup base (Replicate t ops) run) log in
-    let next = replicate_more fill super base c low past t ops (order_front [] (base ++ Replicate t ops ∷ []) run log') is ends told.0 told.1 told.2 in (
+    let next = replicate_more no_rules fill super base c low past t ops (order_front [] (base ++ Replicate t ops ∷ []) run log') is ends told.0 told.1 told.2 (ops_pass_none fill ops) in (
       told.0,
       told.1,
       told.2,
       subst (λ (l : List Entry). AllTrue fill super l t (base ++ Replicate t ops ∷ []) run) (sym (regroup base (Replicate t ops) run))
-          (told_is_true fill super (base ++ Replicate t ops ∷ []) run (max super.c t) t (with_ops fill past t ops) log' next.0 next.1 told.3),
+          (told_no_rules fill super (base ++ Replicate t ops ∷ []) run (max super.c t) t (with_ops fill past t ops) log' next.0 next.1 told.3),
     )
-told_is_true fill super base (Commit t r ∷ run) c low past log is ends told =
+told_no_rules fill super base (Commit t r ∷ run) c low past log is ends told =
     let log' : IsLog ((base ++ Commit t r ∷ []) ++ run) = subst (λ (l : List Entry). IsLog l) (regroup base (Commit t r) run) log in
     let front = order_front [] (base ++ Commit t r ∷ []) run log' in
     let at = stands_at t told.0.ops base told.0.stands in
@@ -171,8 +171,12 @@ told_is_true fill super base (Commit t r ∷ run) c low past log is ends told =
     (subst (λ (l : List Entry). IsLog l) (ap (λ (l : List Entry). l ++ Commit t r ∷ run) at.2 ∙ append_assoc at.0 (Replicate t told.0.ops ∷ at.1) (Commit t r ∷ run)) log)) in (
       record { ops = told.0.ops; stands = told.0.stands; tells = tell_on fill super base (Commit t r ∷ run) c low past t told.0.ops r log is ends told above told.0.tells },
       subst (λ (l : List Entry). AllTrue fill super l low (base ++ Commit t r ∷ []) run) (sym (regroup base (Commit t r) run))
-          (told_is_true fill super (base ++ Commit t r ∷ []) run c low past log' (commit_more fill super base c past t r front is told.0) ends told.1),
+          (told_no_rules fill super (base ++ Commit t r ∷ []) run c low past log' (commit_more no_rules fill super base c past t r front is told.0) ends told.1),
     )
+
+-- which the rules of the table have no part in
+pub told_is_true : what_is_told_is_true
+told_is_true rules fill super base run c low past log is ends told = told_no_rules fill super base run c low past log (without_rules rules fill super base c past is) ends told
 
 -- numbers
 
@@ -185,7 +189,7 @@ delta_above rowsets [] r n d h last e = absurd h
 delta_above rowsets (x ∷ deltas) r n d (inl same) last e = subst (λ (y : ℕ × ℕ). last < y.1) (sym same) (d.0 last (ap (λ (y : ℕ × ℕ). last_dms_of y.0 rowsets) (sym same) ∙ e))
 delta_above rowsets (x ∷ deltas) r n d (inr rest) last e = delta_above rowsets deltas r n d.1 rest last e
 
-none_named : (numbers : Numbers) (rowsets : List DiskRowset) (r : ℕ) → RowsetsBelow numbers rowsets → numbers.next ≤ r → last_dms_of r rowsets ≡ None
+pub none_named : (numbers : Numbers) (rowsets : List DiskRowset) (r : ℕ) → RowsetsBelow numbers rowsets → numbers.next ≤ r → last_dms_of r rowsets ≡ None
 none_named numbers [] r b le = refl
 none_named numbers (d ∷ rowsets) r b le = let ne : (d.rowset == r) ≡ false = grind (arith, nat_tests, b.0) in rw ne (none_named numbers rowsets r b.1 le)
 

@@ -1,6 +1,6 @@
 -- A store as its files and its changes.
-use Rattle.std.proofs.Common.{◌≡◌, ◌<◌, ◌-◌, ℕ, List, [], ◌∷◌, ◌++◌, Some, None, Option, refl, sym, ap, ◌∙◌, subst, arith, cond, true, false, Bool, append_assoc, inl, inr}
-use Rattle.std.specs.Prelude.{is_some, nat_lt}
+use Rattle.std.proofs.Common.{◌≡◌, ◌<◌, ◌-◌, ℕ, List, [], ◌∷◌, ◌++◌, Some, None, refl, sym, ap, ◌∙◌, subst, arith, cond, true, false, Bool, append_assoc, inl, inr}
+use Rattle.std.specs.Prelude.{nat_lt}
 use Rattle.std.proofs.lemmas.Bool.{lt-ltb, ltb-false, ne_eqb, eq-eqb}
 use Rattle.std.proofs.lemmas.List.{append-nil}
 use Rattle.kt_history.specs.declared.change.Change.{Change}
@@ -16,10 +16,11 @@ use Rattle.kt_content.specs.Agreement.{all_moved}
 use Rattle.kt_content.specs.InMemory.{hist_at, HasPlace}
 use Rattle.kt_content.specs.StoreChanges.{moves_to, steps_to, a_store_is_its_files_and_its_changes, a_duplicated_change_fits, the_live_store_has_the_change, kept_moves, other_stores_end_the_same, HasMove, a_move_stands}
 use Rattle.kt_content.specs.Publishing.{kept}
-use Rattle.kt_content.proofs.MoreOps.{is_same, place_itself, row_in, live_first, all_before, before_is}
+use Rattle.kt_content.proofs.MoreOps.{none_in, is_same, place_itself, row_in, live_first, all_before, before_is}
 use Rattle.kt_content.proofs.Effects.{there_may_join, there_is_one, same_change}
 use Rattle.kt_content.proofs.Publishing.{kept-joined, kept-joined_still}
 use Rattle.kt_content.proofs.InMemory.{place_same, place_other, row_there_is, live_unique}
+use Rattle.kt_content.proofs.Options.{is_there}
 
 has-joined : (p q : Place) (ts : ℕ) (c : Change) (held : Held) → HasPlace p held → HasPlace p (joined_in q ts c held)
 has-joined p q ts c [] h = h
@@ -62,26 +63,18 @@ fits_at t p (x ∷ held) has f = elim (same_place p x.0) as (λ b. same_place p 
   | false ↦ λ e. fits_at t p held (elim has [ inl y ↦ absurd (let g : true ≡ false = sym y ∙ e in cc) | inr y ↦ y ]) f.1
 ] refl
 
-some_row : (o : Option Row) → is_some o ≡ true → (row : Row) × (o ≡ Some row)
-some_row None h = absurd (cc)
-some_row (Some row) h = (row, refl)
-
 -- the row of a store before a change of it, where the change is no insert
 row_of_change : (fill : Row) (j ts : ℕ) (p : Place) (op : RowOp) (c : Change) (row : Row) (next : Held) → AreSound j (held_in next) → j < ts → HasPlace p next → step_of ts (hist_at p next) ≡ Some c
     → (effect fill op.kind op.cells (Some row)).0 ≡ Some c → (found : Row) × (row_there p (standing ts next) ≡ Some found)
 row_of_change fill j ts p op c row next s lt has is made =
     let fit : fits c (row_of (ts - 1) (hist_at p next)) ≡ true = subst (λ o. IfFits o (row_of (ts - 1) (hist_at p next))) is (fits_at ts p next has (s.fit ts lt)) in
-    let found = some_row (row_of (ts - 1) (hist_at p next)) (there_is_one fill op.kind op.cells row c (row_of (ts - 1) (hist_at p next)) made fit) in
+    let found = is_there (row_of (ts - 1) (hist_at p next)) (there_is_one fill op.kind op.cells row c (row_of (ts - 1) (hist_at p next)) made fit) in
     (found.0, row_there_is ts p next ∙ before_is ts (hist_at p next) (omega arith) ∙ found.1)
 
 pub duplicated_fits : a_duplicated_change_fits
 duplicated_fits fill j ts p op c row next s lt has is made =
     let found = row_of_change fill j ts p op c row next s lt has is made in
     ap (λ r. may_join p (effect fill op.kind op.cells r).0) found.1 ∙ there_may_join fill op.kind op.cells found.0 p ∙ same_change fill op.kind op.cells found.0 row ∙ made
-
-none_in : (o : Option (Place × Row)) → row_in o ≡ None → o ≡ None
-none_in None h = refl
-none_in (Some at) h = absurd (cc)
 
 pub live_has_change : the_live_store_has_the_change
 live_has_change fill b ts p op c next whole s lt d has is made nowhere =

@@ -35,7 +35,7 @@ same_rest keep old new q s =
       | false ↦ files
     ]
 
-last_kept : (keep : Place → Bool) (r : ℕ) (rowsets : List DiskRowset) → keep (disk r) ≡ true → last_dms_of r rowsets ≡ last_dms_of r (kept_rowsets keep rowsets)
+pub last_kept : (keep : Place → Bool) (r : ℕ) (rowsets : List DiskRowset) → keep (disk r) ≡ true → last_dms_of r rowsets ≡ last_dms_of r (kept_rowsets keep rowsets)
 last_kept keep r [] k = refl
 last_kept keep r (d ∷ rowsets) k = elim (d.rowset == r) as (λ b. (d.rowset == r) ≡ b → cond b (Some d.last_dms) (last_dms_of r rowsets) ≡ last_dms_of r (cond (keep (disk d.rowset)) (d ∷ kept_rowsets keep rowsets) (kept_rowsets keep rowsets))) [
   | true ↦ λ e. let same : d.rowset ≡ r = grind (arith, nat_tests) in let here : keep (disk d.rowset) ≡ true = ap (λ n. keep (disk n)) same ∙ k in rw (here, e) refl

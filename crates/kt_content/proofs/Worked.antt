@@ -1,5 +1,8 @@
 -- Worked cases: one key, the superblocks and logs of short scripts.
-use Rattle.std.proofs.Common.{◌≡◌, ℕ, List, [], ◌∷◌, Some, None, Option, Ok, Err, refl, map, true, false, Result, sym, subst, arith, ◌<◌}
+use Rattle.std.proofs.Common.{◌≡◌, ℕ, List, [], ◌∷◌, Some, None, Option, Ok, Err, refl, map, true, false, sym, subst, arith, ◌<◌, Bool, length}
+use Rattle.std.specs.Prelude.{◌==◌, nat_le}
+use Rattle.std.specs.List.{list_all}
+use Rattle.kt_base.specs.declared.cell.Cell.{Cell}
 use Rattle.kt_base.specs.declared.cell.Cell.TheVariants.{Bytes}
 use Rattle.kt_history.specs.declared.change.Change.TheVariants.{Ins, Upd, Del}
 use Rattle.kt_history.specs.declared.change.Outcome.TheVariants.{Done}
@@ -16,6 +19,8 @@ use Rattle.kt_content.specs.Files.{DiskRowset}
 use Rattle.kt_content.specs.Places.{Super, memory, disk, Held, fresh, held_in, OneLive, standing}
 use Rattle.kt_history.specs.History.{Past}
 use Rattle.kt_content.specs.Content.{content_at, IsContent}
+use Rattle.kt_content.specs.Rules.{Rules, no_rules}
+use Rattle.kt_content.proofs.Options.{two_oks}
 
 abbrev pub k : List ℕ
 k = 1 ∷ []
@@ -26,7 +31,7 @@ a = (2, Bytes (97 ∷ [])) ∷ []
 abbrev pub b : Row
 b = (2, Bytes (98 ∷ [])) ∷ []
 
-abbrev c : Row
+abbrev pub c : Row
 c = (2, Bytes (99 ∷ [])) ∷ []
 
 abbrev pub insert : Row → List RowOp
@@ -212,16 +217,16 @@ shows_a_deleted_row : shown 16384 odd_held ≡ Some a
 shows_a_deleted_row = refl
 
 -- insert, flush, update, flush-deltas, update, flush-deltas, minor, major: the superblock after each job, over the whole log
-abbrev deltas_log : List Entry
+abbrev pub deltas_log : List Entry
 deltas_log = Replicate 4096 (insert a) ∷ commit 4096 (Mem 1 ∷ []) ∷ Replicate 8192 (update b) ∷ commit 8192 (Delta 1 1 ∷ []) ∷ Replicate 12288 (update c) ∷ commit 12288 (Delta 1 2 ∷ []) ∷ []
 
-abbrev redo : ℕ → Row → Kept
+abbrev pub redo : ℕ → Row → Kept
 redo ts row = record { ordinal = 0; ts = ts; change = Upd row }
 
-abbrev inserted : Kept
+abbrev pub inserted : Kept
 inserted = record { ordinal = 0; ts = 4096; change = Del }
 
-abbrev with_files : ℕ → Row → List (List Kept) → List (List Kept) → Super
+abbrev pub with_files : ℕ → Row → List (List Kept) → List (List Kept) → Super
 with_files dms base undos redos = record { a = 0; c = 12288; need = 6; last_mem = 1; rowsets = record { rowset = 1; last_dms = dms; base = (k, base) ∷ []; undos = undos; redos = redos } ∷ [] }
 
 abbrev all_changes : Held
@@ -273,7 +278,7 @@ faulty_after : content_at [] (faulty_super [] 16384) faulty_log k ≡ Err 9000
 faulty_after = refl
 
 -- and so it has none before: the insert has no COMMIT, and is not the last of its key
-faulty_has_none : (c : ℕ) (past : Past) → IsContent [] (faulty_super ((record { ordinal = 0; ts = 12288; change = Del } ∷ []) ∷ []) 0) faulty_log c past → ⊥
+faulty_has_none : (c : ℕ) (past : Past) → IsContent no_rules [] (faulty_super ((record { ordinal = 0; ts = 12288; change = Del } ∷ []) ∷ []) 0) faulty_log c past → ⊥
 faulty_has_none c past is = let h : false ≡ true = (is.turns k).0 in cc
 
 -- An operation without COMMIT at or below the mark, before which two rowsets have the key live: rowset 2 deletes it later. To which of them it goes
@@ -300,24 +305,57 @@ two_live_second : (content_at [] (two_live (second_live ∷ first_live ∷ [])) 
 two_live_second = (refl, refl)
 
 -- so it has no content in either order
-two_live_has_none : (last : ℕ) (past : Past) → IsContent [] (two_live (first_live ∷ second_live ∷ [])) (Replicate 8192 (update b) ∷ []) last past → ⊥
+two_live_has_none : (last : ℕ) (past : Past) → IsContent no_rules [] (two_live (first_live ∷ second_live ∷ [])) (Replicate 8192 (update b) ∷ []) last past → ⊥
 two_live_has_none last past is =
     let key = is.keys k in
     let same : with_first ≡ key.held = two_oks (content_at [] (two_live (first_live ∷ second_live ∷ [])) (Replicate 8192 (update b) ∷ []) k) with_first key.held refl key.is in
     let live : OneLive (standing 8192 with_first) = subst (λ (h : Held). OneLive (standing 8192 h)) (sym same) (key.once.0 refl) in
     let f : Some c ≡ None = live in
     cc
-  where
-    two_oks : (x : Result Held ℕ) (g h : Held) → x ≡ Ok g → x ≡ Ok h → g ≡ h
-    two_oks x g h e f = cc
 
 -- and a log that lacks a record which its superblock needs has none
-too_short_has_none : (last : ℕ) (past : Past) → IsContent [] super_flushed (Replicate 4096 (insert a) ∷ []) last past → ⊥
+too_short_has_none : (last : ℕ) (past : Past) → IsContent no_rules [] super_flushed (Replicate 4096 (insert a) ∷ []) last past → ⊥
 too_short_has_none last past is = omega (arith, is.enough)
 
 -- nor has one whose DeltaMemStore has a change below a REDO record of its row, though its mark is above both
 abbrev below_redo : Super
 below_redo = record { a = 12288; c = 12288; need = 0; last_mem = 1; rowsets = record { rowset = 1; last_dms = 0; base = (k, a) ∷ []; undos = []; redos = (redo 12288 c ∷ []) ∷ [] } ∷ [] }
 
-below_redo_has_none : (last : ℕ) (past : Past) → IsContent [] below_redo (Replicate 8192 (update b) ∷ commit 8192 (Delta 1 1 ∷ []) ∷ []) last past → ⊥
+below_redo_has_none : (last : ℕ) (past : Past) → IsContent no_rules [] below_redo (Replicate 8192 (update b) ∷ commit 8192 (Delta 1 1 ∷ []) ∷ []) last past → ⊥
 below_redo_has_none last past is = let above : 12288 < 8192 = (is.keys k).above.0.0.0 in omega arith
+
+-- Rules that take keys of one byte and cells of at most one byte. An update with a longer cell has no content, though its COMMIT names a store that
+-- is durable; nor has a rowset with such a cell in its base row, though the row is deleted, or in an UNDO record below the mark, nor one with a longer key.
+abbrev is_short : Cell → Bool
+is_short (Bytes bytes) = nat_le (length bytes) 1
+is_short _ = true
+
+abbrev are_short : Row → Bool
+are_short row = list_all (λ (x : ℕ × Cell). is_short x.1) row
+
+abbrev short : Rules
+short = record { key = λ q. length q == 1; row = are_short; cells = are_short }
+
+abbrev long : Row
+long = (2, Bytes (97 ∷ 98 ∷ [])) ∷ []
+
+long_cell_has_none : (last : ℕ) (past : Past) → IsContent short [] super_flushed (Replicate 8192 (update long) ∷ commit 8192 (Mem 1 ∷ []) ∷ []) last past → ⊥
+long_cell_has_none last past is = let h : false ≡ true = is.passes.0.0.1 (Some []) in cc
+
+abbrev with_rowset : List ℕ → Row → Row → Super
+with_rowset key base before = record {
+  a = 12288;
+  c = 12288;
+  need = 0;
+  last_mem = 1;
+  rowsets = record { rowset = 1; last_dms = 1; base = (key, base) ∷ []; undos = (record { ordinal = 0; ts = 8192; change = Upd before } ∷ []) ∷ []; redos = (record { ordinal = 0; ts = 10000; change = Del } ∷ []) ∷ [] } ∷ [];
+}
+
+long_base_has_none : (last : ℕ) (past : Past) → IsContent short [] (with_rowset k long a) [] last past → ⊥
+long_base_has_none last past is = let h : false ≡ true = is.files.0.base.1 in cc
+
+long_undo_has_none : (last : ℕ) (past : Past) → IsContent short [] (with_rowset k a long) [] last past → ⊥
+long_undo_has_none last past is = let h : false ≡ true = is.files.0.undos.0.0 in cc
+
+long_key_has_none : (last : ℕ) (past : Past) → IsContent short [] (with_rowset (1 ∷ 2 ∷ []) a a) [] last past → ⊥
+long_key_has_none last past is = let h : false ≡ true = is.files.0.base.0 in cc

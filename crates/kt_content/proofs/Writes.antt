@@ -1,5 +1,5 @@
 -- The writes of a log are on different keys, and their COMMITs have a row for each operation.
-use Rattle.std.proofs.Common.{◌≡◌, ℕ, List, [], ◌∷◌, ◌++◌, length, Some, None, Option, Bool, true, false, ◌||◌, cond, refl, sym, ap, ◌∙◌, subst, arith, append_assoc}
+use Rattle.std.proofs.Common.{◌≡◌, ℕ, List, [], ◌∷◌, ◌++◌, length, Some, None, Option, true, false, cond, refl, sym, ap, ◌∙◌, subst, arith, append_assoc}
 use Rattle.std.specs.Prelude.{◌==◌}
 use Rattle.std.specs.List.{list_any}
 use Rattle.std.specs.Ordering.{eq_by_cmp}
@@ -16,31 +16,20 @@ use Rattle.kt_journal.specs.Log.{IsLog}
 use Rattle.kt_loglaws.specs.Replay.{commit_of}
 use Rattle.kt_loglaws.proofs.LogOrder.{same, equal, differs_down, AllAbove, above_behind, no_commit_yet, commit_of-after}
 use Rattle.kt_content.specs.Opening.{HasRows, AreWrites, the_writes_of_a_log_have_rows}
-
-neither : (a b : Bool) → a ≡ false → b ≡ false → (a || b) ≡ false
-neither true b h k = h
-neither false b h k = k
-
-not_first : (a b : Bool) → (a || b) ≡ false → a ≡ false
-not_first true b h = h
-not_first false b h = refl
-
-not_rest : (a b : Bool) → (a || b) ≡ false → b ≡ false
-not_rest true b h = cc
-not_rest false b h = h
+use Rattle.std.proofs.lemmas.Bool.{or_parts, or_from}
 
 -- a key that is none of more operations is none of the first
 has_front : (front : List RowOp) (op : RowOp) (key : List ℕ) → has_key (front ++ op ∷ []) key ≡ false → has_key front key ≡ false
 has_front [] op key h = refl
-has_front (o ∷ front) op key h = neither _ _ (not_first _ _ h) (has_front front op key (not_rest _ _ h))
+has_front (o ∷ front) op key h = or_from _ _ (or_parts _ _ h).0 (has_front front op key (or_parts _ _ h).1)
 
 has_last : (front : List RowOp) (op : RowOp) (key : List ℕ) → has_key (front ++ op ∷ []) key ≡ false → eq_by_cmp key_cmp op.key key ≡ false
-has_last [] op key h = not_first _ _ h
-has_last (o ∷ front) op key h = has_last front op key (not_rest _ _ h)
+has_last [] op key h = (or_parts _ _ h).0
+has_last (o ∷ front) op key h = has_last front op key (or_parts _ _ h).1
 
 none_later : (front : List RowOp) (op : RowOp) (ops : List RowOp) → ((key : List ℕ) → has_key front key ≡ false → eq_by_cmp key_cmp op.key key ≡ false) → EachAfter FollowingOp front ops → list_any (λ (other : RowOp). eq_by_cmp key_cmp op.key other.key) ops ≡ false
 none_later front op [] among h = refl
-none_later front op (x ∷ ops) among h = neither _ _ (among x.key h.0.new_key) (none_later (front ++ x ∷ []) op ops (λ key none. among key (has_front front x key none)) h.1)
+none_later front op (x ∷ ops) among h = or_from _ _ (among x.key h.0.new_key) (none_later (front ++ x ∷ []) op ops (λ key none. among key (has_front front x key none)) h.1)
 
 different : (front : List RowOp) (ops : List RowOp) → EachAfter FollowingOp front ops → DifferentKeys ops
 different front [] h = tt

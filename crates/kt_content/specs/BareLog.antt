@@ -11,6 +11,7 @@ use Rattle.kt_content.specs.Places.{fresh}
 use Rattle.kt_content.specs.KeyOps.{seen}
 use Rattle.kt_content.specs.Content.{OnlyLastUntold, IsContent, SameFrom}
 use Rattle.kt_histlaws.specs.Histories.{past_hist}
+use Rattle.kt_content.specs.Rules.{Rules, RecordsPass}
 
 -- each write lies above 0
 abbrev pub AboveZero : List Entry → Type 0
@@ -20,12 +21,12 @@ AboveZero (Commit ts rows ∷ records) = AboveZero records
 
 -- what the replay of a log alone makes of an empty table is its content under the superblock of a fresh tablet
 abbrev pub the_bare_log_is_the_empty_superblock : Type 0
-the_bare_log_is_the_empty_superblock = (fill : Row) (records : List Entry) (past : Past) → IsLog records → AboveZero records
-    → ((q : List ℕ) → OnlyLastUntold (seen q records records))
-    → LogHolds fill records past → IsContent fill fresh records (last_of records) past
+the_bare_log_is_the_empty_superblock = (rules : Rules) (fill : Row) (records : List Entry) (past : Past) → IsLog records → AboveZero records
+    → ((q : List ℕ) → OnlyLastUntold (seen q records records)) → RecordsPass rules fill records
+    → LogHolds fill records past → IsContent rules fill fresh records (last_of records) past
 
 -- and a log with a content under it is replayed alone, to a past of which each key has the same history
 abbrev pub the_empty_superblock_is_the_bare_log : Type 0
-the_empty_superblock_is_the_bare_log = (fill : Row) (records : List Entry) (c : ℕ) (past : Past) → IsLog records → AboveZero records
-    → IsContent fill fresh records c past
+the_empty_superblock_is_the_bare_log = (rules : Rules) (fill : Row) (records : List Entry) (c : ℕ) (past : Past) → IsLog records → AboveZero records
+    → IsContent rules fill fresh records c past
     → (found : Past) × LogHolds fill records found × ((q : List ℕ) → SameFrom 0 (past_hist q found) (past_hist q past))

@@ -11,6 +11,7 @@ use Rattle.kt_content.specs.Places.{Super, Held, fresh, held_in, at_first, OneLi
 use Rattle.kt_content.specs.KeyOps.{KeyOp, seen, played, to_live}
 use Rattle.kt_history.specs.declared.operation.RowOp.{RowOp}
 use Rattle.kt_history.specs.declared.target.Target.{Target}
+use Rattle.kt_content.specs.Rules.{Rules, AreRules, RecordsPass, RowsetsPass, HistPasses}
 
 -- what the stores of an opening have of a key, or the timestamp of the first operation on it that does not fit
 abbrev pub content_at : Row → Super → List Entry → List ℕ → Result Held ℕ
@@ -69,16 +70,29 @@ abbrev pub AreTold : List KeyOp → Type 0
 AreTold [] = Unit {0}
 AreTold (x ∷ xs) = (is_some x.told ≡ true) × AreTold xs
 
--- A superblock and records hold this past, of which c is the last timestamp. A log with fewer records than the superblock needs has no content.
-pub record IsContent (fill : Row) (super : Super) (records : List Entry) (c : ℕ) (past : Past) : Type 0 where
+-- A superblock and records hold this past, of which c is the last timestamp. A log with fewer records than the superblock needs has no content, and
+-- nor has one with an operation, or a superblock with a row or record, that the rules of the table do not take.
+pub record IsContent (rules : Rules) (fill : Row) (super : Super) (records : List Entry) (c : ℕ) (past : Past) : Type 0 where
   pub enough : super.need ≤ length records
   pub numbers : NumbersDiffer super.rowsets
   pub mark : past.mark ≡ super.a
   pub last : c ≡ max super.c (last_of records)
   pub ends : IsPastUpTo c past
   pub turns : (q : List ℕ) → OnlyLastUntold (seen q records records)
+  pub passes : RecordsPass rules fill records
+  pub files : RowsetsPass rules super.rowsets
   pub keys : (q : List ℕ) → HoldsKey fill super records q (past_hist q past)
 
 -- a fresh tablet holds the empty past
 abbrev pub a_fresh_tablet_is_empty : Type 0
-a_fresh_tablet_is_empty = (fill : Row) → IsContent fill fresh [] 0 empty
+a_fresh_tablet_is_empty = (rules : Rules) (fill : Row) → IsContent rules fill fresh [] 0 empty
+
+-- what each store has of a key passes
+abbrev pub EachPasses : Rules → List ℕ → Held → Type 0
+EachPasses rules q [] = Unit {0}
+EachPasses rules q (h ∷ held) = HistPasses rules q h.1 × EachPasses rules q held
+
+-- so it does in each content
+abbrev pub what_stores_have_passes : Type 0
+what_stores_have_passes = (rules : Rules) (fill : Row) (super : Super) (records : List Entry) (c : ℕ) (past : Past) (q : List ℕ) (held : Held) → AreRules rules
+    → IsContent rules fill super records c past → content_at fill super records q ≡ Ok held → EachPasses rules q held

@@ -17,6 +17,7 @@ use Rattle.kt_content.specs.KeyOps.{KeyOp, seen, played}
 use Rattle.kt_content.specs.Content.{Shown, OnlyLastUntold, IsContent}
 use Rattle.kt_content.specs.MoreOps.{PlacesDiffer, BeginsInMemory, untold, with_op}
 use Rattle.kt_content.specs.Records.{IsTold}
+use Rattle.kt_content.specs.Rules.{Rules}
 
 -- stores that show a history with an operation above all that is there have shown the history without it
 abbrev pub an_operation_less_is_shown : Type 0
@@ -27,14 +28,14 @@ an_operation_less_is_shown = (fill : Row) (super : Super) (a ts : ℕ) (held nex
 
 -- without the REPLICATE of the last write, the content is without that write
 abbrev pub a_replicate_less_takes_its_write : Type 0
-a_replicate_less_takes_its_write = (fill : Row) (super : Super) (records : List Entry) (c low : ℕ) (past : Past) (ts : ℕ) (ops : List RowOp)
-    → IsLog (records ++ Replicate ts ops ∷ []) → IsContent fill super (records ++ Replicate ts ops ∷ []) c (with_ops fill past ts ops) → IsPastUpTo low past
+a_replicate_less_takes_its_write = (rules : Rules) (fill : Row) (super : Super) (records : List Entry) (c low : ℕ) (past : Past) (ts : ℕ) (ops : List RowOp)
+    → IsLog (records ++ Replicate ts ops ∷ []) → IsContent rules fill super (records ++ Replicate ts ops ∷ []) c (with_ops fill past ts ops) → IsPastUpTo low past
     → low < ts → low ≤ max super.c (last_of records) → past.mark ≡ super.a → DifferentKeys ops → super.need ≤ length records
-    → IsContent fill super records (max super.c (last_of records)) past
+    → IsContent rules fill super records (max super.c (last_of records)) past
 
 -- without a COMMIT that tells what became of its write, the content is the same, where the write is then the last on each of its keys
 abbrev pub a_commit_less_changes_nothing : Type 0
-a_commit_less_changes_nothing = (fill : Row) (super : Super) (records : List Entry) (c : ℕ) (past : Past) (ts : ℕ) (rows : List CommitRow)
-    → IsLog (records ++ Commit ts rows ∷ []) → IsContent fill super (records ++ Commit ts rows ∷ []) c past
+a_commit_less_changes_nothing = (rules : Rules) (fill : Row) (super : Super) (records : List Entry) (c : ℕ) (past : Past) (ts : ℕ) (rows : List CommitRow)
+    → IsLog (records ++ Commit ts rows ∷ []) → IsContent rules fill super (records ++ Commit ts rows ∷ []) c past
     → IsTold fill super (records ++ Commit ts rows ∷ []) ts rows
-    → ((q : List ℕ) → OnlyLastUntold (seen q records records)) → super.need ≤ length records → IsContent fill super records c past
+    → ((q : List ℕ) → OnlyLastUntold (seen q records records)) → super.need ≤ length records → IsContent rules fill super records c past

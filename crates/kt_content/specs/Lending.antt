@@ -26,6 +26,7 @@ use Rattle.kt_content.specs.InMemory.{Stores, group, groups, hist_at, HasPlace, 
 use Rattle.kt_content.specs.StoreChanges.{steps_to}
 use Rattle.kt_content.specs.Recovering.{IsRecovered, Lends}
 use Rattle.kt_content.specs.Successors.{Succeeds}
+use Rattle.kt_content.specs.Rules.{Rules, RowsetsPass}
 
 -- What the names of an operation tell of the job: the moves that it makes under the old superblock and under the new one. The places that the
 -- job does not leave have these histories under the new one.
@@ -186,8 +187,9 @@ a_key_may_be_lent = (fill : Row) (keep : Place → Bool) (old new : Super) (stor
     → (k : KeyOver fill keep old new stores records q whole) → KeyLent fill keep new k.b stores records q whole k.known k.held k.shows
 
 -- A job past its missed changes: of each key its own, and the superblock that it would publish names the other stores as before
-pub record MayBeLent (fill : Row) (keep : Place → Bool) (old new : Super) (stores : List ℕ → Stores) (records : List Entry) (past : Past) : Type 0 where
+pub record MayBeLent (rules : Rules) (fill : Row) (keep : Place → Bool) (old new : Super) (stores : List ℕ → Stores) (records : List Entry) (past : Past) : Type 0 where
   pub numbers : NumbersDiffer new.rowsets
+  pub files : RowsetsPass rules new.rowsets
   pub rest : (q : List ℕ) → kept keep (at_first q new) ≡ kept keep (at_first q old)
   pub others : (q : List ℕ) (p : Place) → keep p ≡ true → group new p (stores q) ≡ group old p (stores q)
   pub keys : (q : List ℕ) → KeyOver fill keep old new (stores q) records q (past_hist q (raise past old.a))
@@ -201,7 +203,7 @@ pub record RestsNot (keep : Place → Bool) (old new : Super) (a b : ℕ) (store
   pub later : b < ts
   pub on : GoesOn keep old new stores shows ts targets
 
-module _ (fill : Row) (keep : Place → Bool) (old new : Super) (stores : List ℕ → Stores) (records : List Entry) (past : Past) (m : MayBeLent fill keep old new stores records past) where
+module _ (rules : Rules) (fill : Row) (keep : Place → Bool) (old new : Super) (stores : List ℕ → Stores) (records : List Entry) (past : Past) (m : MayBeLent rules fill keep old new stores records past) where
   abbrev pub RowsRestNot : ℕ → List RowOp → List CommitRow → Type 0
   RowsRestNot ts [] [] = Unit {0}
   RowsRestNot ts [] (row ∷ rows) = ⊥
@@ -218,9 +220,9 @@ module _ (fill : Row) (keep : Place → Bool) (old new : Super) (stores : List �
 
 -- Where Early does not hold, the superblock of a job may be lent: each front is recovered under it, and the stores in memory mirror it
 abbrev pub a_job_may_be_lent : Type 0
-a_job_may_be_lent = (fill : Row) (keep : Place → Bool) (old new : Super) (durable run : List Entry) (low high j : ℕ) (past : Past) (stores : List ℕ → Stores)
-    → IsLog (durable ++ run) → IsRecovered fill old durable run low past
-    → (m : MayBeLent fill keep old new stores (durable ++ run) (with_records fill past run)) → Lends old new durable high j past
-    → NotEarly fill keep old new stores (durable ++ run) (with_records fill past run) m high durable run
-    → IsRecovered fill new durable run high past
+a_job_may_be_lent = (rules : Rules) (fill : Row) (keep : Place → Bool) (old new : Super) (durable run : List Entry) (low high j : ℕ) (past : Past) (stores : List ℕ → Stores)
+    → IsLog (durable ++ run) → IsRecovered rules fill old durable run low past
+    → (m : MayBeLent rules fill keep old new stores (durable ++ run) (with_records fill past run)) → Lends old new durable high j past
+    → NotEarly rules fill keep old new stores (durable ++ run) (with_records fill past run) m high durable run
+    → IsRecovered rules fill new durable run high past
     × ((q : List ℕ) → KeyLent fill keep new ((m.keys q).b) (stores q) (durable ++ run) q (past_hist q (raise (with_records fill past run) old.a)) ((m.keys q).known) ((m.keys q).held) ((m.keys q).shows))

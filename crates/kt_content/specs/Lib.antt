@@ -1,4 +1,5 @@
 pub mod Files
+pub mod Rules
 pub mod Places
 pub mod KeyOps
 pub mod Content
@@ -21,4 +22,9 @@ pub mod Successors
 pub mod Recovering
 pub mod Lending
 pub mod JobEvents
+pub mod MissedChanges
+pub mod DeltaJobs
+pub mod KnownCommits
 pub mod RunEvents
+pub mod Recoverable
+pub mod Keeping

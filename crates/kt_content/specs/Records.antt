@@ -17,6 +17,7 @@ use Rattle.kt_histlaws.specs.Flights.{AllOps}
 use Rattle.kt_content.specs.KeyOps.{seen}
 use Rattle.kt_content.specs.Content.{content_at, AreTold, IsContent}
 use Rattle.kt_history.specs.declared.target.Target.{Target}
+use Rattle.kt_content.specs.Rules.{Rules, OpsPass, RecordsPass}
 
 -- names tell what became of an operation in the content of its key, where one store at most had it live
 abbrev pub TellsIn : Row → Super → List Entry → ℕ → RowOp → List Target → Type 0
@@ -49,25 +50,25 @@ AllTold fill super low log (Commit ts rows ∷ records) = IsTold fill super log 
 
 -- a REPLICATE more adds its write to the content
 abbrev pub a_replicate_adds_its_write : Type 0
-a_replicate_adds_its_write = (fill : Row) (super : Super) (records : List Entry) (c low : ℕ) (past : Past) (ts : ℕ) (ops : List RowOp)
-    → IsLog (records ++ Replicate ts ops ∷ []) → IsContent fill super records c past → IsPastUpTo low past → low < ts → DifferentKeys ops
-    → KeysAreTold ops records
-    → IsContent fill super (records ++ Replicate ts ops ∷ []) (max super.c ts) (with_ops fill past ts ops) × IsPastUpTo ts (with_ops fill past ts ops)
+a_replicate_adds_its_write = (rules : Rules) (fill : Row) (super : Super) (records : List Entry) (c low : ℕ) (past : Past) (ts : ℕ) (ops : List RowOp)
+    → IsLog (records ++ Replicate ts ops ∷ []) → IsContent rules fill super records c past → IsPastUpTo low past → low < ts → DifferentKeys ops
+    → KeysAreTold ops records → OpsPass rules fill ops
+    → IsContent rules fill super (records ++ Replicate ts ops ∷ []) (max super.c ts) (with_ops fill past ts ops) × IsPastUpTo ts (with_ops fill past ts ops)
 
 -- a COMMIT more that tells what became of its write changes nothing of the content
 abbrev pub a_commit_changes_nothing : Type 0
-a_commit_changes_nothing = (fill : Row) (super : Super) (records : List Entry) (c : ℕ) (past : Past) (ts : ℕ) (rows : List CommitRow)
-    → IsLog (records ++ Commit ts rows ∷ []) → IsContent fill super records c past → IsTold fill super records ts rows
-    → IsContent fill super (records ++ Commit ts rows ∷ []) c past
+a_commit_changes_nothing = (rules : Rules) (fill : Row) (super : Super) (records : List Entry) (c : ℕ) (past : Past) (ts : ℕ) (rows : List CommitRow)
+    → IsLog (records ++ Commit ts rows ∷ []) → IsContent rules fill super records c past → IsTold fill super records ts rows
+    → IsContent rules fill super (records ++ Commit ts rows ∷ []) c past
 
 -- records that are told go on from a content
 abbrev pub a_run_goes_on : Type 0
-a_run_goes_on = (fill : Row) (super : Super) (base run : List Entry) (c low : ℕ) (past : Past)
-    → IsLog (base ++ run) → IsContent fill super base c past → IsPastUpTo low past → AllTold fill super low base run
-    → IsContent fill super (base ++ run) (max super.c (last_of (base ++ run))) (with_records fill past run)
+a_run_goes_on = (rules : Rules) (fill : Row) (super : Super) (base run : List Entry) (c low : ℕ) (past : Past)
+    → IsLog (base ++ run) → IsContent rules fill super base c past → IsPastUpTo low past → AllTold fill super low base run → RecordsPass rules fill run
+    → IsContent rules fill super (base ++ run) (max super.c (last_of (base ++ run))) (with_records fill past run)
 
 -- and so does each front of them
 abbrev pub each_front_holds_its_writes : Type 0
-each_front_holds_its_writes = (fill : Row) (super : Super) (base run : List Entry) (c low : ℕ) (past : Past) (n : ℕ)
-    → IsLog (base ++ run) → IsContent fill super base c past → IsPastUpTo low past → AllTold fill super low base run
-    → IsContent fill super (base ++ take n run) (max super.c (last_of (base ++ take n run))) (with_records fill past (take n run))
+each_front_holds_its_writes = (rules : Rules) (fill : Row) (super : Super) (base run : List Entry) (c low : ℕ) (past : Past) (n : ℕ)
+    → IsLog (base ++ run) → IsContent rules fill super base c past → IsPastUpTo low past → AllTold fill super low base run → RecordsPass rules fill run
+    → IsContent rules fill super (base ++ take n run) (max super.c (last_of (base ++ take n run))) (with_records fill past (take n run))

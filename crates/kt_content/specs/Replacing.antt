@@ -18,6 +18,7 @@ use Rattle.kt_content.specs.Records.{AllTold}
 use Rattle.kt_content.specs.MoreOps.{PlacesDiffer, BeginsInMemory, untold, with_op}
 use Rattle.kt_histlaws.specs.Flights.{Under}
 use Rattle.kt_history.specs.declared.operation.RowOp.{RowOp}
+use Rattle.kt_content.specs.Rules.{Rules, RowsetsPass}
 
 -- what stores show of a past from a later mark on, they show of that past as it is told from there on
 abbrev pub a_raised_past_is_shown : Type 0
@@ -35,8 +36,9 @@ records_and_marks_change_places = (fill : Row) (super : Super) (low : ℕ) (log 
 
 -- A job in one step, over whole contents: its superblock leaves the other stores as they are, each operation carries over, and of each
 -- key the files of the outputs are alike to the inputs from the job's mark on.
-pub record ReplacesAtOnce (fill : Row) (keep : Place → Bool) (old new : Super) (records : List Entry) (j : ℕ) : Type 0 where
+pub record ReplacesAtOnce (rules : Rules) (fill : Row) (keep : Place → Bool) (old new : Super) (records : List Entry) (j : ℕ) : Type 0 where
   pub numbers : NumbersDiffer new.rowsets
+  pub files : RowsetsPass rules new.rowsets
   pub rest : (q : List ℕ) → kept keep (at_first q new) ≡ kept keep (at_first q old)
   pub carried : (q : List ℕ) → AllCarried keep old new (seen q records records)
   pub alike : (q : List ℕ) (held : Held) → content_at fill old records q ≡ Ok held
@@ -55,8 +57,9 @@ pub record ReplacesKey (fill : Row) (keep : Place → Bool) (old new : Super) (r
   pub once : UntoldLiveOnce (all_moved (seen q records records) moves (at_first q new)) (seen q records records)
   pub above : AboveFiles fill q new (all_moved (seen q records records) moves (at_first q new)) (seen q records records)
 
-pub record Replaces (fill : Row) (keep : Place → Bool) (old new : Super) (records : List Entry) (j : ℕ) : Type 0 where
+pub record Replaces (rules : Rules) (fill : Row) (keep : Place → Bool) (old new : Super) (records : List Entry) (j : ℕ) : Type 0 where
   pub numbers : NumbersDiffer new.rowsets
+  pub files : RowsetsPass rules new.rowsets
   pub keys : (q : List ℕ) (held : Held) → content_at fill old records q ≡ Ok held → ReplacesKey fill keep old new records j q held
 
 -- the marks of a superblock that replaces another, and that it needs no more records than there are
@@ -70,30 +73,20 @@ pub record Follows (old new : Super) (records : List Entry) (c d j : ℕ) : Type
 
 -- with the new superblock the same records hold the same past, told from its mark on
 abbrev pub a_job_in_one_step_publishes_the_same : Type 0
-a_job_in_one_step_publishes_the_same = (fill : Row) (keep : Place → Bool) (old new : Super) (records : List Entry) (c d j : ℕ) (past : Past)
-    → IsContent fill old records c past → ReplacesAtOnce fill keep old new records j → Follows old new records c d j
-    → IsContent fill new records d (raise past new.a)
+a_job_in_one_step_publishes_the_same = (rules : Rules) (fill : Row) (keep : Place → Bool) (old new : Super) (records : List Entry) (c d j : ℕ) (past : Past)
+    → IsContent rules fill old records c past → ReplacesAtOnce rules fill keep old new records j → Follows old new records c d j
+    → IsContent rules fill new records d (raise past new.a)
 
 abbrev pub a_job_in_two_phases_publishes_the_same : Type 0
-a_job_in_two_phases_publishes_the_same = (fill : Row) (keep : Place → Bool) (old new : Super) (records : List Entry) (c d j : ℕ) (past : Past)
-    → IsContent fill old records c past → Replaces fill keep old new records j → Follows old new records c d j → IsLog records
-    → IsContent fill new records d (raise past new.a)
-
--- Under one superblock each front of a run from some base on holds the past with the writes of the front, told from the superblock's mark on.
-pub record Recovers (fill : Row) (super : Super) (base run : List Entry) (past : Past) : Type 0 where
-  pub c : ℕ
-  pub low : ℕ
-  pub content : IsContent fill super base c (raise past super.a)
-  pub told : AllTold fill super low base run
-  pub ends : IsPastUpTo low past
-  pub marks : past.mark ≤ super.a
-  pub below : super.a ≤ low
+a_job_in_two_phases_publishes_the_same = (rules : Rules) (fill : Row) (keep : Place → Bool) (old new : Super) (records : List Entry) (c d j : ℕ) (past : Past)
+    → IsContent rules fill old records c past → Replaces rules fill keep old new records j → Follows old new records c d j → IsLog records
+    → IsContent rules fill new records d (raise past new.a)
 
 -- a superblock that holds of each key what the past has holds the past, told from its mark on
 abbrev pub each_key_held_is_a_content : Type 0
-each_key_held_is_a_content = (fill : Row) (old new : Super) (records : List Entry) (c d j : ℕ) (past : Past) → IsContent fill old records c past
+each_key_held_is_a_content = (rules : Rules) (fill : Row) (old new : Super) (records : List Entry) (c d j : ℕ) (past : Past) → IsContent rules fill old records c past
     → Follows old new records c d j
-    → NumbersDiffer new.rowsets → ((q : List ℕ) → HoldsKey fill new records q (past_hist q past)) → IsContent fill new records d (raise past new.a)
+    → NumbersDiffer new.rowsets → RowsetsPass rules new.rowsets → ((q : List ℕ) → HoldsKey fill new records q (past_hist q past)) → IsContent rules fill new records d (raise past new.a)
 
 -- Where the last operation of a key flies, above both marks, it is enough that the new superblock holds the others as the old one does.
 abbrev pub a_flying_operation_is_held_too : Type 0

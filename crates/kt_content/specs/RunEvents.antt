@@ -21,6 +21,7 @@ use Rattle.kt_content.specs.MoreOps.{untold}
 use Rattle.kt_content.specs.Records.{RowsTell, IsTold, AllTold, TellsIn}
 use Rattle.kt_content.specs.Recovering.{AllTrue}
 use Rattle.kt_content.specs.InMemory.{Name, mem_rows, rowset, stands_for}
+use Rattle.kt_content.specs.Rules.{Rules}
 
 -- what a key sees of the log, without what a flying write has still to apply
 abbrev pub seen_done : List Aloft → List ℕ → List Entry → List KeyOp
@@ -58,14 +59,14 @@ AllBelow ts (n ∷ named) = (n.ts ≤ ts) × AllBelow ts named
 
 -- a later write leaves it true
 abbrev pub names_stay_true_at_a_begin : Type 0
-names_stay_true_at_a_begin = (fill : Row) (super : Super) (records : List Entry) (c : ℕ) (past : Past) (ts : ℕ) (ops : List RowOp) (named : List Named)
-    → IsLog (records ++ Replicate ts ops ∷ []) → IsContent fill super records c past → AllBelow ts named → NamesAreTrue fill super records named
+names_stay_true_at_a_begin = (rules : Rules) (fill : Row) (super : Super) (records : List Entry) (c : ℕ) (past : Past) (ts : ℕ) (ops : List RowOp) (named : List Named)
+    → IsLog (records ++ Replicate ts ops ∷ []) → IsContent rules fill super records c past → AllBelow ts named → NamesAreTrue fill super records named
     → NamesAreTrue fill super (records ++ Replicate ts ops ∷ []) named
 
 -- and so does a COMMIT
 abbrev pub names_stay_true_at_an_end : Type 0
-names_stay_true_at_an_end = (fill : Row) (super : Super) (records : List Entry) (c : ℕ) (past : Past) (ts : ℕ) (rows : List CommitRow) (named : List Named)
-    → IsLog (records ++ Commit ts rows ∷ []) → IsContent fill super records c past → IsTold fill super records ts rows → NamesAreTrue fill super records named
+names_stay_true_at_an_end = (rules : Rules) (fill : Row) (super : Super) (records : List Entry) (c : ℕ) (past : Past) (ts : ℕ) (rows : List CommitRow) (named : List Named)
+    → IsLog (records ++ Commit ts rows ∷ []) → IsContent rules fill super records c past → IsTold fill super records ts rows → NamesAreTrue fill super records named
     → NamesAreTrue fill super (records ++ Commit ts rows ∷ []) named
 
 -- one row more is applied
@@ -82,7 +83,7 @@ true_names_are_told = (fill : Row) (super : Super) (records : List Entry) (n : N
 
 -- what is told of a run is true in the content of all records
 abbrev pub what_is_told_is_true : Type 0
-what_is_told_is_true = (fill : Row) (super : Super) (base run : List Entry) (c low : ℕ) (past : Past) → IsLog (base ++ run) → IsContent fill super base c past
+what_is_told_is_true = (rules : Rules) (fill : Row) (super : Super) (base run : List Entry) (c low : ℕ) (past : Past) → IsLog (base ++ run) → IsContent rules fill super base c past
     → IsPastUpTo low past → AllTold fill super low base run
     → AllTrue fill super (base ++ run) low base run
 

@@ -1,5 +1,6 @@
 //! Laws of content: what the stores of an opening make of a log, key by key.
-ghost use Rattle.kt_content.specs.Content.{a_fresh_tablet_is_empty};
+ghost use Rattle.kt_content.specs.Content.{a_fresh_tablet_is_empty, what_stores_have_passes};
+ghost use Rattle.kt_content.specs.Rules.{rows_of_a_history_pass};
 ghost use Rattle.kt_content.specs.BareLog.{the_bare_log_is_the_empty_superblock, the_empty_superblock_is_the_bare_log};
 ghost use Rattle.kt_content.specs.Agreement.{moves_that_agree_are_played, what_is_played_agrees};
 
@@ -26,4 +27,14 @@ pub fn agree_law()
 /// And what the log makes of them is made by moves that agree with it.
 pub fn played_law()
     ensures { what_is_played_agrees }
+{}
+
+/// What each store of a content has of a key the rules of the table take.
+pub fn passes_law()
+    ensures { what_stores_have_passes }
+{}
+
+/// And so they take its row at each time, also without some of its changes.
+pub fn rows_pass_law()
+    ensures { rows_of_a_history_pass }
 {}

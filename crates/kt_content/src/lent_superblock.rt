@@ -1,5 +1,6 @@
 //! Laws of a superblock that is lent for publishing.
 ghost use Rattle.kt_content.specs.Lending.{a_key_goes_over, a_needed_store_tells, names_that_a_job_leaves_tell, a_name_stays_true, a_key_may_be_lent, a_job_may_be_lent, a_job_that_duplicates_goes_over, a_fate_goes_on, a_job_keeps_changes_above_the_files};
+ghost use Rattle.kt_content.specs.KnownCommits.{a_commit_is_known, a_run_that_goes_on_is_not_early};
 
 /// A key goes over to the superblock that a job publishes.
 pub fn over_law()
@@ -44,4 +45,14 @@ pub fn fate_on_law()
 /// A job keeps each change of a DeltaMemStore above the REDO files.
 pub fn job_above_law()
     ensures { a_job_keeps_changes_above_the_files }
+{}
+
+/// A COMMIT among the records is known of each of its keys.
+pub fn known_law()
+    ensures { a_commit_is_known }
+{}
+
+/// So where the names of each COMMIT of a run go on, the outputs rest on none of them.
+pub fn not_early_law()
+    ensures { a_run_that_goes_on_is_not_early }
 {}
