@@ -1,0 +1,80 @@
+-- An engine may go to another thread where its devices and its clock may, and threads may then share it in its lock.
+use denote.RattleType.{RattleType}
+use denote.Param.Send.{IsSend, IsSync, view_send, recorded_send, recorded_sync, struct_send, struct_sync, plain_send, sendable}
+use denote.Struct.Declared.{shape}
+use denote.Struct.Struct.{Struct}
+use denote.Struct.Tuple.{TupleAt, type_at}
+use mathlib.Core.List.{[], ◌∷◌}
+use mir.Syntax.{Sym}
+use Rattle.std.proofs.Crossing.{crosses, Vec-send}
+use Rattle.kt_base.specs.declared.outside.Clock as Clock
+use Rattle.kt_base.proofs.cell.Cells.TheSendSync as cells
+use Rattle.kt_mvcc.proofs.flight.Flight.TheSendSync as flight
+use Rattle.kt_records.proofs.entry.Entry.TheSendSync as entry
+use Rattle.kt_journal.proofs.journal.Journal.TheSendSync as journal
+use Rattle.kt_tablet.specs.declared.store.RowStore as RowStore
+use Rattle.kt_disk.specs.declared.disk.Disk as Disk
+use Rattle.kt_tablet.specs.contracts.tablet.Tablet as Tablet
+use Rattle.kt_tablet.specs.contracts.tablet.Tablet.TheInside as Inside
+use Rattle.kt_tablet.proofs.tablet.FlyingWrite.TheSendSync as flying
+use Rattle.kt_loglaws.specs.contracts.side.LogSide as LogSide
+use Rattle.kt_loglaws.specs.contracts.side.LogSide.TheInside as Side
+use Rattle.kt_engine.specs.contracts.engine.Engine as Engine
+use Rattle.kt_engine.specs.contracts.engine.Engine.TheInside as Within
+use Rattle.kt_memrowset.proofs.store.MemRowSet.TheSendSync as rows
+use Rattle.kt_seatlock.proofs.lock.SeatLock.TheSendSync as lock
+use Rattle.kt_history.specs.contracts.event.Event as Event
+use Rattle.kt_engine.specs.contracts.shared.Part as Part
+use Rattle.kt_serve.specs.contracts.tablet.SharedTablet as SharedTablet
+use Rattle.kt_tablet.specs.contracts.memrowset.MemRowSetRowStore.TheImpl.{ghosts}
+
+module _ (S C : RattleType) (g : RowStore.Ghosts S.Denot) (h : Clock.Ghosts C.Denot) where
+  pub tablet_send : IsSend S → IsSend C → IsSend (Tablet.the_row S C g h)
+  tablet_send s c = view_send (Inside.the_row S C g h) _ _ _ _ (recorded_send (Inside.the_field S C g h).row _ _ (Inside.the_type S C g h).to_one (struct_send (shape (Inside.the_type S C g h)) (
+    s,
+    (
+      search (sendable, crosses) depth 20,
+      (
+        c,
+        (
+          flight.the_send,
+          (
+            Vec-send _ flying.the_send,
+            (
+              search (sendable, crosses) depth 20,
+              (
+                search (sendable, crosses) depth 20,
+                (
+                  plain_send _ _ _ _ _,
+                  (
+                    plain_send _ _ _ _ _,
+                    (
+                      cells.the_send,
+                      (search (sendable, crosses), (search (sendable, crosses), (search (sendable, crosses), (search (sendable, crosses), (search (sendable, crosses), (plain_send _ _ _ _ _, (plain_send _ _ _ _ _, tt))))))),
+                    ),
+                  ),
+                ),
+              ),
+            ),
+          ),
+        ),
+      ),
+    ),
+  )))
+
+module _ (L : RattleType) (g : Disk.Ghosts L.Denot) where
+  pub side_send : IsSend L → IsSend (LogSide.the_row L g)
+  side_send l = view_send (Side.the_row L g) _ _ _ _ (recorded_send (Side.the_field L g).row _ _ (Side.the_type L g).to_one (struct_send (shape (Side.the_type L g))
+      (search (sendable, crosses, journal.the_send, l) depth 20, (plain_send _ _ _ _ _, (plain_send _ _ _ _ _, (plain_send _ _ _ _ _, (plain_send _ _ _ _ _, (Vec-send _ entry.the_send, (Vec-send _ entry.the_send, (plain_send _ _ _ _ _, (search (sendable, crosses), (search (sendable, crosses), tt))))))))))))
+
+module _ (L D C : RattleType) (g : Disk.Ghosts L.Denot) (h : Clock.Ghosts C.Denot) where
+  pub engine_send : IsSend L → IsSend D → IsSend C → IsSend (Engine.the_row L D C g h)
+  engine_send l d c = view_send (Within.the_row L D C g h) _ _ _ _ (recorded_send (Within.the_field L D C g h).row _ _ (Within.the_type L D C g h).to_one (struct_send (shape (Within.the_type L D C g h))
+      (tablet_send _ C ghosts h rows.the_send c, (side_send L g l, (d, (search (sendable, crosses) depth 20, (plain_send _ _ _ _ _, (search (sendable, crosses), (search (sendable, crosses), tt)))))))))
+
+  pub shared_sync : IsSend L → IsSend D → IsSend C → IsSync (SharedTablet.the_row L D C g h)
+  shared_sync l d c = recorded_sync (SharedTablet.the_field L D C g h).row _ _ (SharedTablet.the_type L D C g h).to_one (struct_sync (shape (SharedTablet.the_type L D C g h)) (lock.the_field_sync (Engine.the_row L D C g h) Event.the_row (Part.the_row L D C g h) _ (engine_send l d c), tt))
+
+-- a closure of six captures may be shared where each of them may
+pub captured_sync : (ν : Sym) (R S T U V W : RattleType) → IsSync R → IsSync S → IsSync T → IsSync U → IsSync V → IsSync W → IsSync (TupleAt ν (R ∷ S ∷ T ∷ U ∷ V ∷ W ∷ []))
+captured_sync ν R S T U V W r s t u v w = let all = type_at ν (R ∷ S ∷ T ∷ U ∷ V ∷ W ∷ []) in recorded_sync (Struct (shape all)) _ _ all.to_one (struct_sync (shape all) (r, (s, (t, (u, (v, (w, tt)))))))

@@ -1,0 +1,60 @@
+use Rattle.std.proofs.Common.{rules, ◌≡◌, Option, None, Some, Ok, Err, Result, ◌+◌, ap, ◌∙◌, subst, below_more, arith, length}
+use Rattle.kt_seatlock.specs.Passes.{number, part, seen}
+use Rattle.kt_serve.specs.Points.{CameTo}
+use Rattle.kt_serve.proofs.Begins.{some_is}
+use Rattle.kt_serve.proofs.Commands.{command_after}
+use Rattle.kt_serve.specs.declared.log.Halt.{Halt}
+use Rattle.kt_serve.specs.declared.log.Halt.TheVariants.{Memory}
+use Rattle.kt_serve.specs.Scans.{IsOn}
+use Rattle.kt_serve.proofs.Scans.{but_before}
+use Rattle.kt_serve.proofs.Tells.{at_command, on_root, tells_after, tells_before, tells_of, nth_at}
+use Rattle.kt_serve.proofs.session.run_session.Goals as goal
+
+abbrev halt_of : {A : Type 0} → Result A Halt → Option Halt
+halt_of (Ok a) = None
+halt_of (Err halt) = Some halt
+
+ok_not : {A : Type 0} (a : A) (halt : Halt) → Ok a ≡ Err halt → ⊥
+ok_not a halt e = cc
+
+pub take_next-requires-clause-on : goal.take_next-requires-clause-on
+take_next-requires-clause-on g c = on_root (λ root. IsOn c.args.schema.now root.work) c.requires.next.part _ _ c.requires.next.is c.loop-at.invariant.1 c.requires.on
+
+pub take_next-requires-clause-command : goal.take_next-requires-clause-command
+take_next-requires-clause-command g c = command_after _ _ (c.loop-at.at + 1) c.index-commands-at.result c.requires.next.part _ _ c.requires.next.is c.loop-at.invariant.0.0.1 c.loop-at.invariant.1
+    (at_command _ _ (c.loop-at.at + 1) c.args.commands.now c.index-commands-at.result c.requires.plan (nth_at c.args.commands.now c.loop-at.at c.index-commands-at.result c.loop-at-test.true c.index-commands-at.is))
+
+pub take_next-requires-clause-runs : goal.take_next-requires-clause-runs
+take_next-requires-clause-runs g c = c.requires.runs (c.loop-at.at + 1) c.index-commands-at.result (nth_at c.args.commands.now c.loop-at.at c.index-commands-at.result c.loop-at-test.true c.index-commands-at.is)
+
+pub take_next-requires-clause-tells : goal.take_next-requires-clause-tells
+take_next-requires-clause-tells g c = tells_after (number c.args.pass.now) (number c.loop-at.pass) c.loop-at.replies.items (seen c.loop-at.pass) c.requires.next.part _ _ c.requires.next.is c.loop-at.invariant.0.0.1 c.loop-at.invariant.1 c.loop-at.invariant.4
+
+pub returns-in-Err-clause-root : goal.returns-in-Err-clause-root
+returns-in-Err-clause-root g c = λ root h. c.take_next.ensures.root root (c.loop-at.invariant.1 root h)
+
+pub returns-in-Err-clause-tells : goal.returns-in-Err-clause-tells
+returns-in-Err-clause-tells g c = λ ne. tells_of (number c.args.pass.now) c.take_next.new.replies.items _ (seen c.take_next.new.pass) (part c.args.pass.now) c.of.ensures
+    (tells_before (number c.args.pass.now) (number c.loop-at.pass) c.take_next.new.replies.items (seen c.take_next.new.pass) (part c.args.pass.now) (part c.loop-at.pass) c.loop-at.invariant.0.0.1 c.loop-at.invariant.1 (c.in-Err.ensures.tells (λ e. ne (ap halt_of e))))
+
+pub returns-in-Err-clause-lost : goal.returns-in-Err-clause-lost
+returns-in-Err-clause-lost g c = λ e. but_before (number c.args.pass.now) (number c.loop-at.pass) c.take_next.new.replies.items _ (seen c.take_next.new.pass) (part c.args.pass.now) (part c.loop-at.pass) c.loop-at.invariant.0.0.1 c.of.ensures c.loop-at.invariant.1 (c.in-Err.ensures.lost (ap (λ h. Err h) (some_is c.in-Err.halt Memory e)))
+
+pub returns-in-Err-clause-points : goal.returns-in-Err-clause-points
+returns-in-Err-clause-points g c = λ k h. c.loop-at.invariant.5 k (omega (arith, h, ap length c.of.ensures, ap length c.in-Err.ensures.same, c.loop-at.invariant.3))
+
+pub loop-at-preserved : goal.loop-at-preserved
+loop-at-preserved g c = (
+  search rules,
+  λ root h. c.take_next.ensures.root root (c.loop-at.invariant.1 root h),
+  c.in-Ok.ensures.next,
+  c.in-Ok.ensures.more ∙ ap (λ n. n + 1) c.loop-at.invariant.3,
+  tells_before (number c.args.pass.now) (number c.loop-at.pass) c.take_next.new.replies.items (seen c.take_next.new.pass) (part c.args.pass.now) (part c.loop-at.pass) c.loop-at.invariant.0.0.1 c.loop-at.invariant.1 (c.in-Ok.ensures.tells (ok_not _ Memory)),
+  below_more _ _ c.loop-at.invariant.5 (subst (λ n. CameTo g.G.Gate.came c.args.gate.now n (c.loop-at.at + 1)) c.loop-at.invariant.0.0.1 c.in-Ok.ensures.points),
+)
+
+pub returns-clause-tells : goal.returns-clause-tells
+returns-clause-tells g c = λ _. tells_of (number c.args.pass.now) c.loop-at.replies.items _ (seen c.loop-at.pass) (part c.args.pass.now) c.of-2.ensures c.loop-at.invariant.4
+
+pub returns-clause-points : goal.returns-clause-points
+returns-clause-points g c = λ k h. c.loop-at.invariant.5 k (omega (arith, h, ap length c.of-2.ensures, c.loop-at.invariant.3))

@@ -1,0 +1,15 @@
+use Rattle.std.proofs.Common.{rules}
+use Rattle.kt_seatlock.specs.Passes.{number, part, seen}
+use Rattle.kt_serve.proofs.Tells.{then_tells, pushed_tells, answered_of}
+use Rattle.kt_serve.proofs.Scans.{lacks_tells}
+use Rattle.kt_serve.proofs.session.take_next.Goals as goal
+
+pub returns-else-is_stopped-clause-tells : goal.returns-else-is_stopped-clause-tells
+returns-else-is_stopped-clause-tells g c = λ _. pushed_tells (number c.args.pass.now) c.args.replies.now.items c.reserve.new.self.items c.push_reserved.new.self.items c.in-Ok.reply (seen c.take.new.pass) (part c.args.pass.now) c.reserve.ensures.items c.push_reserved.ensures.items
+    (then_tells (number c.args.pass.now) c.args.index c.args.replies.now.items c.in-Ok.reply (seen c.args.pass.now) (seen c.take.new.pass) (part c.args.pass.now) (part c.take.new.pass) (c.is_stopped.ensures.other (search rules)) c.requires.index c.requires.tells c.in-Ok.ensures.reply)
+
+pub returns-else-is_stopped-clause-next : goal.returns-else-is_stopped-clause-next
+returns-else-is_stopped-clause-next g c = (answered_of (part c.args.pass.now) (part c.take.new.pass) (seen c.args.pass.now) (seen c.take.new.pass) (number c.args.pass.now) c.args.index c.in-Ok.reply (c.is_stopped.ensures.other (search rules)) c.in-Ok.ensures.reply).0
+
+pub returns-in-Err-clause-lost : goal.returns-in-Err-clause-lost
+returns-in-Err-clause-lost g c = λ _. lacks_tells (number c.args.pass.now) c.args.index c.args.replies.now.items c.reserve.new.self.items (seen c.args.pass.now) (seen c.take.new.pass) (part c.args.pass.now) (part c.take.new.pass) c.reserve.ensures.items c.requires.index c.requires.tells c.in-Err.ensures.memory

@@ -1,0 +1,10 @@
+use Rattle.std.proofs.lemmas.Result.{on_err_weaker}
+use Rattle.kt_seatlock.specs.Passes.{number, part, seen}
+use Rattle.kt_serve.proofs.Scans.{going_lacks}
+use Rattle.kt_serve.proofs.tablet.SharedTablet.take.Goals as goal
+
+pub returns-in-Write-clause-memory : goal.returns-in-Write-clause-memory
+returns-in-Write-clause-memory g c = on_err_weaker c.write.result (going_lacks (number c.args.pass.now) c.args.index (part c.args.pass.now) (part c.write.new.pass) (seen c.args.pass.now) (seen c.write.new.pass)) c.write.ensures.memory
+
+pub returns-in-Mark-clause-memory : goal.returns-in-Mark-clause-memory
+returns-in-Mark-clause-memory g c = on_err_weaker c.mark.result (going_lacks (number c.args.pass.now) c.args.index (part c.args.pass.now) (part c.mark.new.pass) (seen c.args.pass.now) (seen c.mark.new.pass)) c.mark.ensures.memory

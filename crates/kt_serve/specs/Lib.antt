@@ -1,0 +1,7 @@
+pub mod Sessions
+pub mod Scans
+pub mod Places
+pub mod Runs
+pub mod Points
+pub mod Answered
+pub mod Closing

@@ -1,0 +1,217 @@
+//! The sessions of a plan at once, each in a thread.
+ghost use Rattle.std.specs.Prelude.{◌≡◌, ◌<◌, ◌≤◌, ℕ, [], IfOk, IfErr, Some, None, length, vec_capacity, slice_get};
+ghost use Rattle.kt_history.specs.Machine.{nth, first_turns};
+ghost use Rattle.kt_seatlock.specs.Passes.{number, seen, part, given, passes_of, IsVacant, IsPassOf, MayEnter, IsBack};
+ghost use Rattle.kt_engine.specs.Visits.{root_of};
+ghost use Rattle.kt_serve.specs.Points.{CameTo};
+ghost use Rattle.kt_serve.specs.Scans.{IsOn};
+ghost use Rattle.kt_serve.specs.Sessions.{OnRoot, IsFresh, MayRun};
+ghost use Rattle.kt_serve.specs.Closing.{EndsAs};
+ghost use Rattle.kt_serve.specs.Runs.{HasRunTo, PlaceHasRun, PlanRuns, AllEnded};
+
+use crate::close::{End, finish};
+use crate::log::Halt;
+use crate::places::{Place, join_all, split_all};
+use crate::session::{SessionEnd, run_session};
+use crate::tablet::SharedTablet;
+use kt_base::Clock;
+use kt_disk::{Disk, Gate};
+use kt_engine::Engine;
+use kt_history::{Command, Session};
+use kt_schema::Schema;
+use kt_seatlock::{Pass, SeatLock, Shared};
+use std::alloc::{AllocError, Global};
+use std::sync::Wait;
+use std::thread;
+use std::thread::Threads;
+
+// Runs a session to its end.
+fn run_one<L: Disk, D, C: Clock, R: Wait, G: Gate>(
+    rt: &R,
+    alloc: Global,
+    schema: &Schema,
+    tablet: &SharedTablet<L, D, C>,
+    commands: &[Command],
+    gate: &G,
+    place: &mut Place<Engine<L, D, C>>,
+)
+    requires enters { MayEnter tablet.now.lock place.old.pass }
+    requires on { OnRoot (part place.old.pass) (λ root. IsOn schema.now root.work) }
+    requires runs { MayRun (part place.old.pass) (seen place.old.pass) (number place.old.pass) commands.now }
+    ensures pass { IsBack place.old.pass place.new.pass }
+    ensures run { HasRunTo (CameTo G.came gate.now) (part place.old.pass) (part place.new.pass) (number place.old.pass) commands.now (seen place.new.pass) place.new.end }
+{
+    place.end = run_session(rt, alloc, schema, tablet, commands, &mut place.pass, gate);
+}
+
+// Runs a session to its end, and leaves the run.
+fn run_and_leave<L: Disk, D, C: Clock, R: Wait, G: Gate>(
+    rt: &R,
+    alloc: Global,
+    schema: &Schema,
+    tablet: &SharedTablet<L, D, C>,
+    commands: &[Command],
+    gate: &G,
+    place: &mut Place<Engine<L, D, C>>,
+)
+    requires enters { MayEnter tablet.now.lock place.old.pass }
+    requires on { OnRoot (part place.old.pass) (λ root. IsOn schema.now root.work) }
+    requires runs { MayRun (part place.old.pass) (seen place.old.pass) (number place.old.pass) commands.now }
+    ensures pass { IsBack place.old.pass place.new.pass }
+    ensures run { HasRunTo (CameTo G.came gate.now) (part place.old.pass) (part place.new.pass) (number place.old.pass) commands.now (seen place.new.pass) place.new.end }
+{
+    run_one(rt, alloc, schema, tablet, commands, gate, place);
+    tablet.leave_run(rt, &mut place.pass);
+}
+
+// Runs the session of this place to its end.
+fn run_place<L: Disk, D, C: Clock, R: Wait, G: Gate>(
+    rt: &R,
+    alloc: Global,
+    schema: &Schema,
+    tablet: &SharedTablet<L, D, C>,
+    plan: &[Session],
+    gate: &G,
+    at: usize,
+    place: &mut Place<Engine<L, D, C>>,
+)
+    requires within { at < length plan.now }
+    requires enters { MayEnter tablet.now.lock place.old.pass }
+    requires on { OnRoot (part place.old.pass) (λ root. IsOn schema.now root.work) }
+    requires runs { (commands : _) → slice_get plan.now at ≡ Some commands → MayRun (part place.old.pass) (seen place.old.pass) (number place.old.pass) commands }
+    ensures { PlaceHasRun (CameTo G.came gate.now) plan.now at place.old place.new }
+{
+    run_and_leave(rt, alloc, schema, tablet, plan[at].as_slice(), gate, place);
+}
+
+// Runs all sessions at once, each in a thread of its own where one can be made.
+fn run_all<L: Disk + Send, D: Send, C: Clock + Send, R: Threads + Wait + Sync, G: Gate + Sync>(
+    rt: &R,
+    alloc: Global,
+    schema: &Schema,
+    tablet: &SharedTablet<L, D, C>,
+    plan: &[Session],
+    gate: &G,
+    places: &mut [Place<Engine<L, D, C>>],
+)
+    requires count { length places.old ≡ length plan.now }
+    requires enters { (j : ℕ) (p : _) → slice_get places.old j ≡ Some p → MayEnter tablet.now.lock p.pass }
+    requires on { (j : ℕ) (p : _) → slice_get places.old j ≡ Some p → OnRoot (part p.pass) (λ root. IsOn schema.now root.work) }
+    requires runs { (j : ℕ) (p : _) → slice_get places.old j ≡ Some p → (commands : _) → slice_get plan.now j ≡ Some commands → MayRun (part p.pass) (seen p.pass) (number p.pass) commands }
+    ensures { (j : ℕ) (p : _) → slice_get places.old j ≡ Some p → (q : _) × (slice_get places.new j ≡ Some q) × PlaceHasRun (CameTo G.came gate.now) plan.now j p q }
+{
+    let threads = places.len();
+    if threads > 0 {
+        thread::for_each_mut(
+            rt,
+            places,
+            threads,
+            &|at, place| run_place(rt, alloc, schema, tablet, plan, gate, at, place),
+        );
+    }
+}
+
+// Room for a place and an end of each session.
+fn rooms<T: Shared>(
+    alloc: Global,
+    count: usize,
+) -> Result<(Vec<Place<T>>, Vec<SessionEnd>), AllocError>
+    ensures places { IfOk result (λ r. (r.0.items ≡ []) × (count ≤ vec_capacity r.0)) }
+    ensures ends { IfOk result (λ r. (r.1.items ≡ []) × (count ≤ vec_capacity r.1)) }
+{
+    Ok((
+        Vec::with_capacity(alloc, count)?,
+        Vec::with_capacity(alloc, count)?,
+    ))
+}
+
+// Runs all sessions over the engine in this lock, and gives what each ended with, and the engine.
+fn run_locked<L: Disk + Send, D: Send, C: Clock + Send, R: Threads + Wait + Sync, G: Gate + Sync>(
+    rt: &R,
+    alloc: Global,
+    schema: &Schema,
+    lock: SeatLock<Engine<L, D, C>>,
+    mut pass: Pass<Engine<L, D, C>>,
+    engine: Engine<L, D, C>,
+    plan: &[Session],
+    gate: &G,
+) -> Result<(Vec<SessionEnd>, Engine<L, D, C>), Engine<L, D, C>>
+    requires own { IsPassOf lock pass × IsVacant pass × (given pass ≡ 1) × (number pass ≡ 0) }
+    requires passes { length plan.now < passes_of lock }
+    requires fresh { IsFresh engine }
+    requires on { IsOn schema.now engine.tablet.core.work }
+    requires plan { (engine.tablet.core.work.plan ≡ plan.now) × (engine.tablet.core.turns ≡ first_turns plan.now) }
+    requires runs { PlanRuns plan.now }
+    ensures root { IfOk result (λ r. root_of r.1 ≡ root_of engine) }
+    ensures home { IfOk result (λ r. r.1.log.holder ≡ None) }
+    ensures ended { IfOk result (λ r. AllEnded (CameTo G.came gate.now) (root_of engine) plan.now r.1.tablet.core.trail r.0.items) }
+    ensures back { IfErr result (λ e. e ≡ engine) }
+{
+    let Ok((mut places, ends)) = rooms(alloc, plan.len()) else {
+        lock.unmake(pass);
+        return Err(engine);
+    };
+    lock.fill(&mut pass, engine);
+    split_all(alloc, &lock, &mut pass, plan.len(), &mut places);
+    let tablet = SharedTablet::of(lock);
+    run_all(rt, alloc, schema, &tablet, plan, gate, &mut places);
+    let SharedTablet { lock } = tablet;
+    let ends = join_all(&lock, &mut pass, places, ends);
+    let engine = lock.close(pass);
+    engine.standing();
+    Ok((ends, engine))
+}
+
+/// What a run of all sessions leaves.
+#[derive(Drop)]
+pub struct Ran<L: Disk, D, C: Clock> {
+    /// What each session ended with, in the order of their numbers.
+    pub ends: Vec<SessionEnd>,
+    pub end: End,
+    pub engine: Engine<L, D, C>,
+}
+
+// The number of the pass that fills the lock and ends it.
+const LAST: u32 = 0;
+
+/// Runs the sessions of a plan at once over an engine in which nothing has happened yet, each by a pass of its own in a
+/// thread of its own where one can be made, and makes durable what then still waits for the log. For every schedule, each
+/// session has the replies that the engine's lines tell it, and no other. Where there was no memory for the passes, nothing
+/// was run, and the engine comes back.
+pub fn run_sessions<
+    L: Disk + Send,
+    D: Send,
+    C: Clock + Send,
+    R: Threads + Wait + Sync,
+    G: Gate + Sync,
+>(
+    rt: &R,
+    alloc: Global,
+    schema: &Schema,
+    lock: SeatLock<Engine<L, D, C>>,
+    pass: Pass<Engine<L, D, C>>,
+    engine: Engine<L, D, C>,
+    plan: &[Session],
+    gate: &G,
+) -> Result<Ran<L, D, C>, Engine<L, D, C>>
+    requires own { IsPassOf lock pass × IsVacant pass × (given pass ≡ 1) × (number pass ≡ 0) }
+    requires passes { length plan.now < passes_of lock }
+    requires fresh { IsFresh engine }
+    requires on { IsOn schema.now engine.tablet.core.work }
+    requires plan { (engine.tablet.core.work.plan ≡ plan.now) × (engine.tablet.core.turns ≡ first_turns plan.now) }
+    requires runs { PlanRuns plan.now }
+    ensures root { IfOk result (λ ran. root_of ran.engine ≡ root_of engine) }
+    ensures home { IfOk result (λ ran. ran.engine.log.holder ≡ None) }
+    ensures ended { IfOk result (λ ran. AllEnded (CameTo G.came gate.now) (root_of engine) plan.now ran.engine.tablet.core.trail ran.ends.items) }
+    ensures ends { IfOk result (λ ran. EndsAs ran.engine ran.end) }
+    ensures halted { IfOk result (λ ran. (s : ℕ) (end : _) → nth ran.ends.items s ≡ Some end → end.halt ≡ Some Halt.Stopped → ran.end ≡ End.Stopped) }
+    ensures back { IfErr result (λ e. e ≡ engine) }
+{
+    match run_locked(rt, alloc, schema, lock, pass, engine, plan, gate) {
+        Ok((ends, mut engine)) => {
+            let end = finish(alloc, &mut engine, LAST);
+            Ok(Ran { ends, end, engine })
+        }
+        Err(engine) => Err(engine),
+    }
+}

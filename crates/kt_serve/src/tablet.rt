@@ -1,0 +1,145 @@
+//! A tablet that sessions share.
+ghost use Rattle.std.specs.Prelude.{◌≡◌, ◌≢◌, ◌<◌, ◌+◌, ◌^◌, ℕ, List, Ok, OnErr, IfOk, true};
+ghost use Rattle.kt_history.specs.declared.change.Outcome.{Outcome};
+ghost use Rattle.kt_history.specs.declared.command.Command.{Command};
+ghost use Rattle.kt_seatlock.specs.Passes.{number, seen, part, MayEnter, IsBack};
+ghost use Rattle.kt_serve.specs.Answered.{IsAnswered};
+ghost use Rattle.kt_serve.specs.Scans.{IsOn, LacksReply};
+ghost use Rattle.kt_serve.specs.Sessions.{IsFree, IsCommand, IsWrite, IsStill, IsGoing, SameRoot, OnRoot, HasNoLog, AfterCommand, CanRun, has_stop};
+
+use crate::log::Halt;
+use crate::rows::{apply_rows, end_write};
+use crate::visits::{begin_write, mark_once};
+use kt_base::{Clock, NoMemory};
+use kt_disk::{Disk, Gate, Point};
+use kt_engine::Engine;
+use kt_history::{Command, Reply, Write};
+use kt_schema::Schema;
+use kt_seatlock::{Pass, SeatLock};
+use std::alloc::Global;
+use std::sync::Wait;
+
+/// A tablet in a seat lock.
+#[derive(Drop)]
+pub struct SharedTablet<L: Disk, D, C: Clock> {
+    pub lock: SeatLock<Engine<L, D, C>>,
+}
+
+impl<L: Disk, D, C: Clock> SharedTablet<L, D, C> {
+    /// The tablet of a filled lock.
+    pub fn of(lock: SeatLock<Engine<L, D, C>>) -> SharedTablet<L, D, C>
+        ensures { result.lock ≡ lock }
+    {
+        SharedTablet { lock }
+    }
+
+    /// Its lock.
+    pub fn lock(&self) -> &SeatLock<Engine<L, D, C>>
+        ensures { result.now ≡ self.now.lock }
+    {
+        &self.lock
+    }
+
+    /// A write. Its reply is the answer to the command in what the pass has then seen. The gate is called once it flies,
+    /// before its REPLICATE is durable.
+    pub fn write<R: Wait, G: Gate>(
+        &self,
+        rt: &R,
+        alloc: Global,
+        pass: &mut Pass<Engine<L, D, C>>,
+        index: u32,
+        write: &Write,
+        gate: &G,
+    ) -> Result<Reply, NoMemory>
+        requires enters { MayEnter self.now.lock pass.old }
+        requires next { IsFree (part pass.old) index }
+        requires command { IsCommand (part pass.old) (number pass.old) index (Command.Write write.now) }
+        requires write { IsWrite index write.now.ops }
+        ensures pass { IsBack pass.old pass.new }
+        ensures home { HasNoLog (part pass.new) }
+        ensures root { SameRoot (part pass.old) (part pass.new) }
+        ensures reply { IfOk result (λ reply. AfterCommand (part pass.old) (part pass.new) (seen pass.old) (seen pass.new) (number pass.old) index reply) }
+        ensures answer { IfOk result (λ reply. reply ≢ Reply.Stopped → OnRoot (part pass.old) (λ root. IsAnswered root (number pass.old) index reply (seen pass.new))) }
+        ensures begun { (ts : ℕ) (outcomes : List Outcome) → result ≡ Ok (Reply.At ts outcomes) → G.came gate.now (Point.Begun (number pass.old) index) }
+        ensures memory { OnErr result (IsGoing (number pass.old) (part pass.old) (part pass.new) (seen pass.old) (seen pass.new)) }
+    {
+        let session = pass.number();
+        match begin_write(rt, alloc, &self.lock, pass, index, write)? {
+            Some(reply) => return Ok(reply),
+            None => {}
+        }
+        gate.at(Point::Begun { session, index });
+        match apply_rows(rt, alloc, &self.lock, pass, write.ops.as_slice()) {
+            Ok(()) => Ok(end_write(rt, &self.lock, pass)),
+            Err(Halt::Stopped) => Ok(Reply::Stopped),
+            Err(Halt::Memory) => Err(NoMemory),
+        }
+    }
+
+    /// A mark. The same holds of its reply.
+    pub fn mark<R: Wait>(
+        &self,
+        rt: &R,
+        pass: &mut Pass<Engine<L, D, C>>,
+        index: u32,
+        to: u64,
+    ) -> Result<Reply, NoMemory>
+        requires enters { MayEnter self.now.lock pass.old }
+        requires next { IsFree (part pass.old) index }
+        requires command { IsCommand (part pass.old) (number pass.old) index (Command.Mark to) }
+        requires few { index + 1 < 2 ^ 32 }
+        ensures pass { IsBack pass.old pass.new }
+        ensures home { HasNoLog (part pass.new) }
+        ensures root { SameRoot (part pass.old) (part pass.new) }
+        ensures reply { IfOk result (λ reply. AfterCommand (part pass.old) (part pass.new) (seen pass.old) (seen pass.new) (number pass.old) index reply) }
+        ensures answer { IfOk result (λ reply. reply ≢ Reply.Stopped → OnRoot (part pass.old) (λ root. IsAnswered root (number pass.old) index reply (seen pass.new))) }
+        ensures memory { OnErr result (IsGoing (number pass.old) (part pass.old) (part pass.new) (seen pass.old) (seen pass.new)) }
+    {
+        mark_once(rt, &self.lock, pass, index, to)
+    }
+
+    /// The last visit of a session, whatever ended it: one session fewer runs.
+    pub fn leave_run<R: Wait>(&self, rt: &R, pass: &mut Pass<Engine<L, D, C>>)
+        requires enters { MayEnter self.now.lock pass.old }
+        ensures pass { IsBack pass.old pass.new }
+        ensures still { IsStill (number pass.old) (part pass.old) (part pass.new) (seen pass.old) (seen pass.new) }
+        ensures log { HasNoLog (part pass.old) → HasNoLog (part pass.new) }
+        ensures stop { has_stop (seen pass.old) ≡ true → has_stop (seen pass.new) ≡ true }
+    {
+        let by = pass.number();
+        let mut engine = self.lock.enter(rt, pass);
+        engine.session_over(by);
+        self.lock.leave(pass, engine);
+    }
+
+    /// The next command of a session: a write, a scan or a mark.
+    pub fn take<R: Wait, G: Gate>(
+        &self,
+        rt: &R,
+        alloc: Global,
+        schema: &Schema,
+        pass: &mut Pass<Engine<L, D, C>>,
+        index: u32,
+        command: &Command,
+        gate: &G,
+    ) -> Result<Reply, NoMemory>
+        requires enters { MayEnter self.now.lock pass.old }
+        requires on { OnRoot (part pass.old) (λ root. IsOn schema.now root.work) }
+        requires next { IsFree (part pass.old) index }
+        requires command { IsCommand (part pass.old) (number pass.old) index command.now }
+        requires runs { CanRun index command.now }
+        ensures pass { IsBack pass.old pass.new }
+        ensures home { HasNoLog (part pass.new) }
+        ensures root { SameRoot (part pass.old) (part pass.new) }
+        ensures reply { IfOk result (λ reply. AfterCommand (part pass.old) (part pass.new) (seen pass.old) (seen pass.new) (number pass.old) index reply) }
+        ensures answer { IfOk result (λ reply. reply ≢ Reply.Stopped → OnRoot (part pass.old) (λ root. IsAnswered root (number pass.old) index reply (seen pass.new))) }
+        ensures memory { OnErr result (LacksReply (number pass.old) index (part pass.old) (part pass.new) (seen pass.old) (seen pass.new)) }
+    {
+        match command {
+            Command::Write(write) => self.write(rt, alloc, pass, index, write, gate),
+            Command::Mark(to) => self.mark(rt, pass, index, *to),
+            Command::Scan(scan) => self.scan(rt, alloc, schema, pass, index, scan),
+            Command::Chore(_) => unreachable!(),
+        }
+    }
+}
