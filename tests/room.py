@@ -3,6 +3,8 @@ import os
 import re
 import subprocess
 
+from machine import Disagrees, check
+
 
 class Wrong(Exception):
     """Something came out otherwise than the case says."""
@@ -109,4 +111,12 @@ def try_case(room, text):
 
 def try_example(room, script, output):
     room.ended = room.run(["memory", "run"], script)
-    room.step(["ends", "0"], output.decode("latin-1"))
+    if output is not None:
+        room.step(["ends", "0"], output.decode("latin-1"))
+        return
+    if room.ended[0]:
+        raise Wrong(f"the status is {room.ended[0]}; it wrote\n{room.ended[1]}")
+    try:
+        check(script.decode("latin-1"), room.ended[1])
+    except Disagrees as no:
+        raise Wrong(f"{no}; it wrote\n{room.ended[1]}") from None

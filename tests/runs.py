@@ -7,7 +7,9 @@ import signal
 import subprocess
 import time
 
+from machine import Disagrees
 from room import Wrong
+from stress import tries
 
 TOP = os.path.dirname(os.path.dirname(os.path.realpath(__file__)))
 
@@ -157,6 +159,15 @@ def a_device_that_fails_stops_the_run(room):
     wants(found == list(range(1, len(found) + 1)), f"the log has {found}")
 
 
+def sessions_share_keys(room):
+    """Sixteen sessions write and read the same keys, and a plain machine takes each line and each reply."""
+    for seed in range(4):
+        try:
+            tries(room.program, room.folder, seed, 16, 10)
+        except Disagrees as no:
+            raise Wrong(str(no)) from None
+
+
 def timestamp_at(date):
     """What the line of docs/SCRIPT.md gives for a date."""
     with open(f"{TOP}/docs/SCRIPT.md", encoding="utf-8") as it:
@@ -203,6 +214,7 @@ ALL = [
     a_signal_interrupts_a_stream,
     rows_outlive_a_kill,
     a_device_that_fails_stops_the_run,
+    sessions_share_keys,
     the_clock_counts_from_2020,
     memory_is_refused_at_the_words,
     kt_passes_on_what_it_is_given,

@@ -17,7 +17,7 @@ use Rattle.kt_boot.specs.Opening.{opening_of}
 use Rattle.kt_boot.specs.declared.opening.Why.{Why}
 use Rattle.kt_boot.specs.declared.opening.Why.TheVariants as no
 use Rattle.kt_app.specs.Crash.{Image, CrashLeaves, IsRefusal, IsRead, Holds, Refuses, LeavesAsBefore, Ran, RunsPlan, Kept}
-use Rattle.kt_app.specs.Turns.{IsOn}
+use Rattle.kt_serve.specs.Scans.{IsOn}
 
 pub ran_as : {gave : List ℕ → Type 0} {after : Image → Type 0} {work : Workload} {past : Past} {c : ℕ} {events : List Event} {b d : Bool} {text : List ℕ} → b ≡ d → Ran gave after work past c events b text → Ran gave after work past c events d text
 ran_as {gave = gave} {after = after} {work = work} {past = past} {c = c} {events = events} {text = text} e r = subst (λ (x : Bool). Ran gave after work past c events x text) e r

@@ -34,7 +34,9 @@ use Rattle.kt_loglaws.specs.Fronts.{upto}
 use Rattle.kt_app.specs.Headline.{IsOutput, IsAnswered, AreAnswered, shown_from, all_shown, replies_in, end_line, end_of}
 use Rattle.kt_app.specs.Crash.{Image, CrashLeaves, NamesMore, Ran, Kept, HoldsPrefix, HoldsAll}
 use Rattle.kt_app.specs.Session.{on_table}
-use Rattle.kt_app.specs.Turns.{Root, root_of, IsOn, IsFresh, HasPlayed, given, reply_in, end_of_run}
+use Rattle.kt_engine.specs.Visits.{Root, root_of}
+use Rattle.kt_serve.specs.Scans.{IsOn}
+use Rattle.kt_app.specs.Played.{IsFresh, HasPlayed, given, reply_in, end_of_run}
 
 -- ---- each reply that a line gives is an answer
 

@@ -11,7 +11,7 @@ use Rattle.kt_history.specs.declared.reply.Reply.TheVariants as reply
 use Rattle.kt_history.specs.Machine.{Workload, nth}
 use Rattle.kt_script.specs.declared.lists.ShownReply.{ShownReply}
 use Rattle.kt_app.specs.Headline.{kinds_shown, shown_from, all_shown}
-use Rattle.kt_app.specs.Turns.{reply_in, given}
+use Rattle.kt_app.specs.Played.{reply_in, given}
 
 -- the first of some replies, and stopped where there is none; and those behind it
 abbrev pub first_reply : List Reply → Reply

@@ -2,4 +2,4 @@ pub mod Crash
 pub mod Headline
 pub mod Outside
 pub mod Session
-pub mod Turns
+pub mod Played

@@ -2,19 +2,15 @@
 //!
 //! Its contract is what a user relies on: the printed history is a run of the tablet machine from what the log held,
 //! each reply is that run's, and whatever a crash leaves of the log holds every acknowledged write. It stands on kt_boot,
-//! kt_engine, kt_scan and kt_script.
+//! kt_serve, kt_engine and kt_script.
 #![tactic(auto)]
 
 mod cells;
+mod kinds;
 pub mod laws;
-pub mod log;
-pub mod replies;
-mod rows;
 pub mod run;
-pub mod session;
 pub mod streams;
 pub mod text;
 pub mod top;
-pub mod turns;
 
 pub use top::tablet_main;

@@ -1,29 +1,31 @@
 //! A run of a plan on an engine that was opened, to its output text.
-ghost use Rattle.std.specs.Prelude.{◌≡◌, ◌<◌, ◌≤◌, [], IfSome, IfOk, IsTrue, None, false, true, List};
-ghost use Rattle.std.specs.List.{sum_by};
+ghost use Rattle.std.specs.Prelude.{◌≡◌, ◌≢◌, ◌<◌, ◌≤◌, [], IfSome, IfOk, OnOk, IsTrue, None, false, true, map, length, All};
 ghost use Rattle.kt_base.specs.Causes.{Grows, Rose};
 ghost use Rattle.kt_journal.specs.Log.{CanOpen};
-ghost use Rattle.kt_history.specs.declared.command.Command.{Command};
 ghost use Rattle.kt_history.specs.History.{Past};
 ghost use Rattle.kt_history.specs.Machine.{first_turns};
 ghost use Rattle.kt_script.specs.Fit.{PlanFits};
 ghost use Rattle.kt_script.specs.Scripts.{workload};
 ghost use Rattle.kt_engine.specs.Engines.{IsContent, KeepsOthers};
-ghost use Rattle.kt_tablet.specs.Views.{unpromised};
-ghost use Rattle.kt_app.specs.Crash.{Image, CrashLeaves, NamesMore, Ran, Kept, need_of};
+ghost use Rattle.kt_engine.specs.Visits.{root_of};
+ghost use Rattle.kt_serve.specs.declared.session.SessionEnd.{SessionEnd};
+ghost use Rattle.kt_seatlock.specs.Passes.{number, given, passes_of, IsVacant, IsPassOf};
+ghost use Rattle.kt_serve.specs.Scans.{IsOn};
+ghost use Rattle.kt_app.specs.Crash.{Image, CrashLeaves, NamesMore, Ran, Kept};
 ghost use Rattle.kt_app.specs.Session.{IsCounted};
-ghost use Rattle.kt_app.specs.Turns.{root_of, IsOn, IsFresh, Rests, HasPlayed};
+ghost use Rattle.kt_app.specs.Played.{IsFresh, IsWhole, HasPlayed};
 
-use crate::log::Halt;
-use crate::replies::SessionReplies;
 use crate::text::{Output, output_of};
-use crate::turns::{no_replies, take_all};
 use kt_base::{Clock, NoMemory};
 use kt_disk::{Disk, Gate};
 use kt_engine::{Engine, Parts};
 use kt_history::Plan;
 use kt_schema::Schema;
+use kt_seatlock::{Pass, SeatLock};
+use kt_serve::{End, Halt, Ran as Ended, SessionEnd, SessionReplies, run_sessions};
 use std::alloc::Global;
+use std::sync::Wait;
+use std::thread::Threads;
 
 /// The replies of a run, and whether a device fault stopped it.
 #[derive(Drop)]
@@ -32,52 +34,103 @@ pub struct Played {
     pub replies: Vec<SessionReplies>,
 }
 
-// Takes the commands of a plan that the engine has.
-fn play<L: Disk, D, C: Clock, G: Gate>(
-    alloc: Global,
-    schema: &Schema,
-    plan: &Plan,
-    engine: &mut Engine<L, D, C>,
-    gate: &G,
-) -> Result<Played, NoMemory>
-    requires counted { IsCounted schema.now }
-    requires fits { PlanFits schema.now plan.now }
-    requires on { IsOn schema.now engine.old.tablet.core.work × (engine.old.tablet.core.work.plan ≡ plan.now) }
-    requires fresh { (engine.old.tablet.core.trail ≡ []) × (engine.old.tablet.core.turns ≡ first_turns plan.now) }
-    requires rests { Rests engine.old }
-    requires room { sum_by (λ (commands : List Command). sum_by need_of commands) plan.now ≤ unpromised engine.old.tablet.pool }
-    ensures root { root_of engine.new ≡ root_of engine.old }
-    ensures home { engine.new.log.holder ≡ None }
-    ensures played { IfOk result (λ played. HasPlayed engine.new plan.now played.stopped played.replies.items) }
+// Whether want of memory has halted a session.
+fn is_lost(end: &SessionEnd) -> bool
+    ensures { result ≡ false → IsWhole end.now }
 {
-    let mut replies = no_replies(alloc, plan.as_slice())?;
-    match take_all(alloc, schema, plan.as_slice(), engine, gate, &mut replies) {
-        Ok(()) => Ok(Played {
-            stopped: false,
-            replies,
-        }),
-        Err(Halt::Stopped) => Ok(Played {
-            stopped: true,
-            replies,
-        }),
-        Err(Halt::Memory) => Err(NoMemory),
+    match end.halt {
+        Some(Halt::Memory) => true,
+        Some(Halt::Stopped) => false,
+        None => false,
     }
 }
 
-/// Runs a plan on an engine that was opened, whose pool has room for it, and gives its output text, unless memory is wanting, and what the engine is
-/// taken apart into.
-pub fn run_plan<L: Disk, D, C: Clock, G: Gate>(
+// Whether it has halted none of them.
+fn are_whole(ends: &[SessionEnd]) -> bool
+    ensures { result ≡ true → All IsWhole ends.now }
+{
+    for end in ends {
+        if is_lost(end) {
+            return false;
+        }
+    }
+    true
+}
+
+// The replies of all sessions.
+fn replies_of(alloc: Global, ends: Vec<SessionEnd>) -> Result<Vec<SessionReplies>, NoMemory>
+    ensures { IfOk result (λ replies. replies.items ≡ map (λ (e : SessionEnd). e.replies) ends.items) }
+{
+    let mut replies = Vec::with_capacity(alloc, ends.len())?;
+    for end in ends {
+        replies.push(end.replies)?;
+    }
+    Ok(replies)
+}
+
+// The replies of all sessions, unless memory was wanting for one of them.
+fn gather(alloc: Global, ends: Vec<SessionEnd>, stopped: bool) -> Result<Played, NoMemory>
+    ensures stopped { IfOk result (λ played. played.stopped ≡ stopped) }
+    ensures replies { IfOk result (λ played. played.replies.items ≡ map (λ (e : SessionEnd). e.replies) ends.items) }
+    ensures whole { OnOk result (All IsWhole ends.items) }
+{
+    if !are_whole(&ends) {
+        return Err(NoMemory);
+    }
+    let replies = replies_of(alloc, ends)?;
+    Ok(Played { stopped, replies })
+}
+
+// Runs the sessions of a plan that the engine has, each in a thread.
+fn play<L: Disk + Send, D: Send, C: Clock + Send, G: Gate + Sync, R: Threads + Wait + Sync>(
+    rt: &R,
     alloc: Global,
     schema: &Schema,
     plan: &Plan,
+    lock: SeatLock<Engine<L, D, C>>,
+    pass: Pass<Engine<L, D, C>>,
+    engine: Engine<L, D, C>,
+    gate: &G,
+) -> (Result<Played, NoMemory>, Engine<L, D, C>)
+    requires counted { IsCounted schema.now }
+    requires fits { PlanFits schema.now plan.now }
+    requires own { IsPassOf lock pass × IsVacant pass × (given pass ≡ 1) × (number pass ≡ 0) }
+    requires passes { length plan.now < passes_of lock }
+    requires on { IsOn schema.now engine.tablet.core.work × (engine.tablet.core.work.plan ≡ plan.now) }
+    requires fresh { (engine.tablet.core.trail ≡ []) × (engine.tablet.core.aloft ≡ []) × (engine.log.holder ≡ None) }
+    requires turns { engine.tablet.core.turns ≡ first_turns plan.now }
+    ensures root { root_of result.1 ≡ root_of engine }
+    ensures home { result.1.log.holder ≡ None }
+    ensures played { IfOk result.0 (λ played. HasPlayed result.1 plan.now played.stopped played.replies.items) }
+{
+    match run_sessions(rt, alloc, schema, lock, pass, engine, plan.as_slice(), gate) {
+        Ok(Ended { ends, end, engine }) => match end {
+            End::Done => (gather(alloc, ends, false), engine),
+            End::Stopped => (gather(alloc, ends, true), engine),
+            End::Memory => (Err(NoMemory), engine),
+        },
+        Err(engine) => (Err(NoMemory), engine),
+    }
+}
+
+/// Runs a plan on an engine that was opened, and gives its output text, unless memory is wanting, and what the engine is taken
+/// apart into. The lock is made before there is an engine, so that no want of memory loses one.
+pub fn run_plan<L: Disk + Send, D: Send, C: Clock + Send, G: Gate + Sync, R: Threads + Wait + Sync>(
+    rt: &R,
+    alloc: Global,
+    schema: &Schema,
+    plan: &Plan,
+    lock: SeatLock<Engine<L, D, C>>,
+    pass: Pass<Engine<L, D, C>>,
     mut engine: Engine<L, D, C>,
     gate: &G,
 ) -> (Option<Output>, Parts<L, D, C>)
     requires counted { IsCounted schema.now }
     requires fits { PlanFits schema.now plan.now }
+    requires own { IsPassOf lock pass × IsVacant pass × (given pass ≡ 1) × (number pass ≡ 0) }
+    requires passes { length plan.now < passes_of lock }
     requires fresh { IsFresh engine }
     requires work { IsOn schema.now engine.tablet.core.work }
-    requires room { sum_by (λ (commands : List Command). sum_by need_of commands) plan.now ≤ unpromised engine.tablet.pool }
 
     // What was printed is the output text of a run of the plan from what opening found, in which the clock gave what it gave
     // in this call, and a crash now leaves what the run made of that.
@@ -98,7 +151,7 @@ pub fn run_plan<L: Disk, D, C: Clock, G: Gate>(
     ensures fault { IfSome result.0 (λ out. IsTrue out.stopped → Rose (L.faults engine.device) (L.faults result.1.log)) }
 {
     engine.set_plan(plan);
-    let played = play(alloc, schema, plan, &mut engine, gate);
+    let (played, engine) = play(rt, alloc, schema, plan, lock, pass, engine, gate);
     engine.standing();
     let (a, c) = engine.times();
     let parts = engine.take_apart();

@@ -4,14 +4,14 @@ ghost use Rattle.kt_script.specs.Texts.{output_text, reply_numbers};
 ghost use Rattle.kt_script.specs.Laws.{Fits64, EventFits, ReplyFits, OutputFits};
 ghost use Rattle.kt_app.specs.Headline.{kinds_shown as kinds_printed, shown_from, all_shown};
 ghost use Rattle.kt_app.specs.Session.{on_table};
-ghost use Rattle.kt_app.specs.Turns.{given, reply_in, end_of_run};
+ghost use Rattle.kt_app.specs.Played.{given, reply_in, end_of_run};
 
-use crate::replies::SessionReplies;
-use crate::rows::kinds_shown;
+use crate::kinds::kinds_shown;
 use kt_base::{NoMemory, Octets};
 use kt_history::{Command, Event, EventList, Reply, Session};
 use kt_schema::Schema;
 use kt_script::{KindList, LastLine, ReplyList, ReplyLists, ShownReply, print_output};
+use kt_serve::SessionReplies;
 use std::alloc::Global;
 
 /// The output text of a run, and whether a device fault stopped it.

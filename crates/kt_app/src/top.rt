@@ -1,6 +1,6 @@
 //! The top call: it reads a script, opens the log, runs the commands and prints what came of them.
 
-ghost use Rattle.std.specs.Prelude.{◌≡◌, ◌≢◌, ◌⊎◌, ◌↔◌, IsTrue, ◌≤◌, ◌<◌, ◌++◌, ◌∷◌, [], Bool, true, false, Ok, Err, IfOk, IfErr, IfSome, Some, IsErrOf, codes, map, List, ℕ};
+ghost use Rattle.std.specs.Prelude.{◌≡◌, ◌≢◌, ◌⊎◌, ◌↔◌, IsTrue, ◌≤◌, ◌<◌, ◌++◌, ◌∷◌, [], Bool, true, false, Ok, Err, IfOk, IfErr, IfSome, Some, IsErrOf, codes, map, length, List, ℕ};
 ghost use Rattle.std.specs.Fmt.{decimal};
 ghost use Rattle.std.specs.Io.KnownBytes.{Appends};
 ghost use Rattle.kt_base.specs.Causes.{Grows, Rose};
@@ -12,11 +12,12 @@ ghost use Rattle.kt_script.specs.Scripts.{Said, Fault, script_of};
 ghost use Rattle.kt_boot.specs.Opening.{Found, opening_of};
 ghost use Rattle.kt_app.specs.Headline.{IsNoScript, AreRun};
 ghost use Rattle.kt_app.specs.Crash.{Image, CrashLeaves, IsRead, KeepsFiles, NamesMore, work_of, pool_of, Ran, Refuses, RunsPlan, RunsScript, IsSaid, IsFaultOf, IsRefused, fault_text, refusal_text, IsRefusal, LeavesAsBefore, Kept, LeavesFirst};
-ghost use Rattle.kt_tablet.specs.Views.{unpromised};
 ghost use Rattle.kt_engine.specs.Engines.{IsContent, KeepsOthers};
 ghost use Rattle.kt_journal.specs.Numbers.{AreNear};
 ghost use Rattle.kt_app.specs.Session.{IsCounted};
-ghost use Rattle.kt_app.specs.Turns.{IsFresh, IsOn};
+ghost use Rattle.kt_seatlock.specs.Passes.{number, given, passes_of, IsVacant, IsPassOf};
+ghost use Rattle.kt_serve.specs.Scans.{IsOn};
+ghost use Rattle.kt_app.specs.Played.{IsFresh};
 ghost use Rattle.kt_app.specs.Outside.{Reads, WritesFront};
 
 use crate::cells::cells_of;
@@ -31,7 +32,10 @@ use kt_history::Plan;
 use kt_schema::Schema;
 use kt_script::number::print_number;
 use kt_script::{Script, ScriptNo, read_script};
+use kt_seatlock::{Pass, SeatLock};
 use std::alloc::Global;
+use std::sync::Wait;
+use std::thread::Threads;
 
 /// What a call of the program ends with: its status, and its devices and its clock.
 #[derive(Drop)]
@@ -174,19 +178,30 @@ fn write_output<K: Sink>(sink: &mut K, output: &Output) -> u8
 }
 
 // Runs a plan on an engine that was opened, and writes its output.
-fn run_and_write<K: Sink, L: Disk, D, C: Clock, G: Gate>(
+fn run_and_write<
+    K: Sink,
+    L: Disk + Send,
+    D: Send,
+    C: Clock + Send,
+    G: Gate + Sync,
+    R: Threads + Wait + Sync,
+>(
+    rt: &R,
     alloc: Global,
     schema: &Schema,
     plan: &Plan,
+    lock: SeatLock<Engine<L, D, C>>,
+    pass: Pass<Engine<L, D, C>>,
     engine: Engine<L, D, C>,
     sink: &mut K,
     gate: &G,
 ) -> (u8, Parts<L, D, C>)
     requires counted { IsCounted schema.now }
     requires fits { PlanFits schema.now plan.now }
+    requires own { IsPassOf lock pass × IsVacant pass × (given pass ≡ 1) × (number pass ≡ 0) }
+    requires passes { length plan.now < passes_of lock }
     requires fresh { IsFresh engine }
     requires work { IsOn schema.now engine.tablet.core.work × (engine.tablet.core.work.cells ≡ pool_of plan.now) }
-    requires room { pool_of plan.now ≤ unpromised engine.tablet.pool }
     ensures printed { result.0 ≡ 0 → (first : Past) → IsContent engine first
         → (text : List ℕ) × Ran (Grows (C.readings engine.tablet.clock) (C.readings result.1.clock)) (CrashLeaves L.tells L.now L.leaves result.1.log) (work_of (record { columns = schema.now; plan = plan.now })) first engine.tablet.core.opened result.1.trail false text × Appends (K.written sink.old) (K.written sink.new) text }
     ensures stopped { result.0 ≡ 4 → (first : Past) → IsContent engine first
@@ -205,15 +220,42 @@ fn run_and_write<K: Sink, L: Disk, D, C: Clock, G: Gate>(
     ensures store { result.1.store ≡ engine.store }
     ensures openable { IsTrue L.tells → CanOpen L.now L.leaves result.1.log }
 {
-    let (output, parts) = run_plan(alloc, schema, plan, engine, gate);
+    let (output, parts) = run_plan(rt, alloc, schema, plan, lock, pass, engine, gate);
     match output {
         Some(output) => (write_output(sink, &output), parts),
         None => (7, parts),
     }
 }
 
+// The cells that a plan needs, and a lock with room for its sessions, which is made before there is a tablet to put in: so
+// want of memory for it loses no device.
+fn make_ready<L: Disk, D, C: Clock>(
+    alloc: Global,
+    plan: &Plan,
+) -> Result<(u32, SeatLock<Engine<L, D, C>>, Pass<Engine<L, D, C>>), NoMemory>
+    requires few { length plan.now ≤ 64 }
+    ensures cells { IfOk result (λ r. r.0 ≡ pool_of plan.now) }
+    ensures own { IfOk result (λ r. IsPassOf r.1 r.2 × IsVacant r.2 × (given r.2 ≡ 1) × (number r.2 ≡ 0)) }
+    ensures passes { IfOk result (λ r. length plan.now < passes_of r.1) }
+{
+    let cells = cells_of(plan)?;
+    let passes = plan.as_slice().len() as u32 + 1;
+    match SeatLock::vacant(alloc, passes) {
+        Ok((lock, pass)) => Ok((cells, lock, pass)),
+        Err(_) => Err(NoMemory),
+    }
+}
+
 // Opens the log, and runs a plan over it.
-fn open_and_run<K: Sink, L: Disk, D, C: Clock, G: Gate>(
+fn open_and_run<
+    K: Sink,
+    L: Disk + Send,
+    D: Send,
+    C: Clock + Send,
+    G: Gate + Sync,
+    R: Threads + Wait + Sync,
+>(
+    rt: &R,
     alloc: Global,
     schema: &Schema,
     plan: &Plan,
@@ -246,15 +288,18 @@ fn open_and_run<K: Sink, L: Disk, D, C: Clock, G: Gate>(
     ensures store { result.store ≡ store }
     ensures openable { IsTrue L.tells → CanOpen L.now L.leaves result.log }
 {
-    let Ok(cells) = cells_of(plan) else {
+    let Ok((cells, lock, pass)) = make_ready::<L, D, C>(alloc, plan) else {
         return end_with(7, log, store, clock);
     };
     match open_tablet(alloc, log, store, clock, schema, cells) {
         Ok(engine) => {
-            let (status, parts) = run_and_write(alloc, schema, plan, engine, sink, gate);
+            let (status, parts) = run_and_write(
+                rt, alloc, schema, plan, lock, pass, engine, sink, gate,
+            );
             end_with(status, parts.log, parts.store, parts.clock)
         }
         Err(closed) => {
+            lock.unmake(pass);
             let Closed {
                 why,
                 log,
@@ -268,7 +313,16 @@ fn open_and_run<K: Sink, L: Disk, D, C: Clock, G: Gate>(
 
 /// The whole program: the words of its command line, what it reads and writes, its log, its store and its clock. It
 /// answers the status, and hands the devices and the clock back. The store is not used yet.
-pub fn tablet_main<S: Source, K: Sink, L: Disk, D: Disk, C: Clock, G: Gate>(
+pub fn tablet_main<
+    S: Source,
+    K: Sink,
+    L: Disk + Send,
+    D: Disk + Send,
+    C: Clock + Send,
+    G: Gate + Sync,
+    R: Threads + Wait + Sync,
+>(
+    rt: &R,
     alloc: Global,
     words: &[&str],
     source: &mut S,
@@ -350,7 +404,7 @@ pub fn tablet_main<S: Source, K: Sink, L: Disk, D: Disk, C: Clock, G: Gate>(
     }
     match take_script(alloc, source) {
         Ok(Script { schema, plan }) => {
-            open_and_run(alloc, &schema, &plan, log, store, clock, sink, gate)
+            open_and_run(rt, alloc, &schema, &plan, log, store, clock, sink, gate)
         }
         Err(SourceNo::Line { number, reason }) => {
             let status = refuse_script(alloc, sink, number, reason);

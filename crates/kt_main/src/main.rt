@@ -22,21 +22,23 @@ use kt_disk::{Disk, MemDisk, PassGate};
 use std::alloc::AllocError;
 use std::io::ErrorKind;
 use std::process::ExitCode;
+use std::sync::Wait;
+use std::thread::Threads;
 use std::{env, io};
 
-// Runs the top call between the standard streams, and gives the status.
-fn run<L: Disk + Drop, D: Disk + Drop, C: Clock + Drop>(
-    rt: &HostRuntime,
-    words: &[&str],
-    log: L,
-    store: D,
-    clock: C,
-) -> u8
+// Runs the top call between the standard streams, its sessions by these threads, and gives the status.
+fn run<
+    R: Threads + Wait + Sync,
+    L: Disk + Send + Drop,
+    D: Disk + Send + Drop,
+    C: Clock + Send + Drop,
+>(rt: &HostRuntime, threads: &R, words: &[&str], log: L, store: D, clock: C) -> u8
     requires openable { IsTrue L.tells → CanOpen L.now L.leaves log }
 {
     let mut source = Stdin::new(rt.reader());
     let mut sink = Stdout::new(io::writer(rt));
     let ended = tablet_main(
+        threads,
         rt.alloc(),
         words,
         &mut source,
@@ -49,10 +51,11 @@ fn run<L: Disk + Drop, D: Disk + Drop, C: Clock + Drop>(
     ended.status
 }
 
-fn run_in_memory(rt: &HostRuntime, words: &[&str]) -> u8 {
+fn run_in_memory<R: Threads + Wait + Sync>(rt: &HostRuntime, threads: &R, words: &[&str]) -> u8 {
     let alloc = rt.alloc();
     run(
         rt,
+        threads,
         words,
         MemDisk::new(alloc),
         MemDisk::new(alloc),
@@ -66,7 +69,13 @@ fn take_both(rt: &HostRuntime, log: &str, data: &str) -> io::Result<(Taken, Take
     Ok((Taken::of(rt, alloc, log)?, Taken::of(rt, alloc, data)?))
 }
 
-fn run_in_folders(rt: &HostRuntime, log: &str, data: &str, words: &[&str]) -> u8 {
+fn run_in_folders<R: Threads + Wait + Sync>(
+    rt: &HostRuntime,
+    threads: &R,
+    log: &str,
+    data: &str,
+    words: &[&str],
+) -> u8 {
     let alloc = rt.alloc();
     let (log, store) = match take_both(rt, log, data) {
         Ok((log, store)) => (Some(log), Some(store)),
@@ -75,6 +84,7 @@ fn run_in_folders(rt: &HostRuntime, log: &str, data: &str, words: &[&str]) -> u8
     };
     run(
         rt,
+        threads,
         words,
         DirDisk::new(alloc, rt, log),
         DirDisk::new(alloc, rt, store),
@@ -92,16 +102,19 @@ fn words_of(rt: &HostRuntime) -> Result<Vec<String>, AllocError> {
     }
 }
 
-fn run_with_words(rt: &HostRuntime) -> Result<u8, AllocError> {
+fn run_with_words<R: Threads + Wait + Sync>(
+    rt: &HostRuntime,
+    threads: &R,
+) -> Result<u8, AllocError> {
     let held = words_of(rt)?;
     let words: Vec<&str> = held.iter().map(|word| word.as_str()).collect(rt.alloc())?;
     Ok(match words.as_slice() {
-        ["memory", rest @ ..] => run_in_memory(rt, rest),
-        ["dirs", log, data, rest @ ..] => run_in_folders(rt, log, data, rest),
-        _ => run_in_memory(rt, &[]),
+        ["memory", rest @ ..] => run_in_memory(rt, threads, rest),
+        ["dirs", log, data, rest @ ..] => run_in_folders(rt, threads, log, data, rest),
+        _ => run_in_memory(rt, threads, &[]),
     })
 }
 
 fn main(rt: HostRuntime) -> ExitCode {
-    ExitCode::from(run_with_words(&rt).unwrap_or(7))
+    ExitCode::from(run_with_words(&rt, &rt).unwrap_or(7))
 }

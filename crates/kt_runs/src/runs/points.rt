@@ -1,17 +1,17 @@
 //! The points that a run comes to.
 
-use super::{clock, no_calls, room, script};
-use kt_app::tablet_main;
-use kt_base::MemSource;
+use super::{clock, run_gated, script};
 use kt_disk::{Gate, MemDisk, Point};
 use std::alloc::Global;
-use std::cell::Cell;
+use std::sync::Wait;
+use std::sync::atomic::{AtomicU64, Ordering};
 use std::test::Fail;
+use std::thread::Threads;
 
 // Notes each point as a digit: 1 before a command, 2 once its write has begun, 3 once its reply is known.
 #[derive(Drop)]
 struct Notes {
-    digits: Cell<u64>,
+    digits: AtomicU64,
 }
 
 impl Gate for Notes {
@@ -24,39 +24,36 @@ impl Gate for Notes {
             Point::After { session: 1, .. } => 3,
             _ => 9,
         };
-        let digits = self.digits.get();
-        self.digits
-            .set(digits.saturating_mul(10).saturating_add(digit));
+        let digits = self.digits.load(Ordering::SeqCst);
+        self.digits.store(
+            digits.saturating_mul(10).saturating_add(digit),
+            Ordering::SeqCst,
+        );
     }
 }
 
 // The digits of a run of these lines.
-fn noted(alloc: Global, lines: &[u8]) -> Result<u64, Fail> {
+fn noted<R: Threads + Wait + Sync>(rt: &R, alloc: Global, lines: &[u8]) -> Result<u64, Fail> {
     let gate = Notes {
-        digits: Cell::new(0),
+        digits: AtomicU64::new(0),
     };
-    let mut source = MemSource::of(script(alloc, lines)?, no_calls(alloc));
-    let mut sink = room(alloc, no_calls(alloc))?;
-    let (log, store) = (MemDisk::new(alloc), MemDisk::new(alloc));
     let clock = clock(alloc, 1, 2)?;
-    let _ended = tablet_main(
+    let _ended = run_gated(
+        rt,
         alloc,
-        &["run"],
-        &mut source,
-        &mut sink,
-        log,
-        store,
+        script(alloc, lines)?,
+        MemDisk::new(alloc),
         clock,
         &gate,
-    );
-    Ok(gate.digits.get())
+    )?;
+    Ok(gate.digits.load(Ordering::SeqCst))
 }
 
 #[test]
 fn each_command_comes_to_its_points_in_order(rt: HostRuntime) -> Result<(), Fail> {
     let alloc = rt.alloc();
     let lines = b"session\ninsert 1 \"a\"\nscan now\nmark 1\nscan at 0\n";
-    assert_eq!(rt; noted(alloc, lines)?, 123_131_313);
-    assert_eq!(rt; noted(alloc, b"session\n")?, 0);
+    assert_eq!(rt; noted(&rt, alloc, lines)?, 123_131_313);
+    assert_eq!(rt; noted(&rt, alloc, b"session\n")?, 0);
     Ok(())
 }

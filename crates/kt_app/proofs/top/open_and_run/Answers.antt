@@ -1,4 +1,4 @@
-use Rattle.std.proofs.Common.{[], arith, ap, sym, refl, subst, inl, inr, true, false, ◌∙◌}
+use Rattle.std.proofs.Common.{[], ap, sym, refl, subst, inl, inr, true, false, ◌∙◌}
 use Rattle.std.specs.Prelude.{IsTrue}
 use Rattle.kt_base.specs.Causes.{Rose}
 use Rattle.kt_history.specs.Machine.{Workload}
@@ -11,19 +11,11 @@ use Rattle.kt_app.proofs.RunLaws.{is_on, was_read, was_refused, refusal_not, as_
 use Rattle.kt_app.proofs.top.open_and_run.Goals as goal
 
 pub run_and_write-status-requires-clause-work : goal.run_and_write-status-requires-clause-work
-run_and_write-status-requires-clause-work g c =
+run_and_write-status-requires-clause-work g c = λ κs outlives.
     let work = c.in-Ok-open_tablet.ensures.work in (
       is_on c.args.schema.now _ [] c.in-Ok.cells work,
-      ap (λ (w : Workload). w.cells) work ∙ c.in-Ok.ensures,
+      ap (λ (w : Workload). w.cells) work ∙ c.in-Ok.ensures.cells,
     )
-
-pub run_and_write-status-requires-clause-room : goal.run_and_write-status-requires-clause-room
-run_and_write-status-requires-clause-room g c =
-    let room = c.in-Ok-open_tablet.ensures.room in
-    let free = room.2 in
-    let none = room.1 in
-    let cells = c.in-Ok.ensures in
-    omega (arith, free, none, cells)
 
 pub returns-in-Err-clause-openable : goal.returns-in-Err-clause-openable
 returns-in-Err-clause-openable g c = let is = c.end_with-in-Err.ensures in rw is.1 c.in-Err.ensures.openable
@@ -139,7 +131,7 @@ returns-in-Ok-open_tablet-clause-near g c =
     let run = c.run_and_write-status.ensures in
     subst (λ x. AreNear (CrashLeaves g.L.Disk.tells g.L.Disk.now g.L.Disk.leaves c.args.log) (CrashLeaves g.L.Disk.tells g.L.Disk.now g.L.Disk.leaves x)) (sym is.1)
     (ran_near (CrashLeaves g.L.Disk.tells g.L.Disk.now g.L.Disk.leaves c.args.log) (CrashLeaves g.L.Disk.tells g.L.Disk.now g.L.Disk.leaves c.run_and_write-status.result.1.log) c.in-Ok-open_tablet.engine.records c.in-Ok-open_tablet.engine.tablet.target _
-    opened.target (λ image left. (g.L.Disk.seen c.args.log, (left.0, g.met.L.Disk.reads_as_image c.args.log left.0), opened.records left.0)) opened.number run.named
+    opened.target (λ image left. (g.L.Disk.seen c.args.log, (left.0, (g.met.L.Disk g.world.𝓛 g.world.𝓜 g.world.𝓡 ((λ s x. x), (λ x. x), (λ x. x), λ x. x)).reads_as_image c.args.log left.0), opened.records left.0)) opened.number run.named
     (keeps_files g.L.Disk.tells g.L.Disk.now g.L.Disk.leaves c.args.log _ (subst (λ d. IsTrue g.L.Disk.tells → KeepsOthers g.L.Disk.now g.L.Disk.leaves d c.run_and_write-status.result.1.log) opened.devices.1 run.others)))
 
 pub returns-in-Err-clause-others : goal.returns-in-Err-clause-others

@@ -46,3 +46,6 @@ returns-in-Err-Failed-clause-near g c = still_near g.L.Disk.tells g.L.Disk.now g
 
 pub returns-in-Err-Memory-clause-near : goal.returns-in-Err-Memory-clause-near
 returns-in-Err-Memory-clause-near g c = still_near g.L.Disk.tells g.L.Disk.now g.L.Disk.leaves c.args.log _ c.end_with-in-Err-Memory.ensures.1
+
+pub returns-then-not-are_run-clause-openable : goal.returns-then-not-are_run-clause-openable
+returns-then-not-are_run-clause-openable g c = let is = c.end_with.ensures in rw is.1 c.requires.openable

@@ -1,0 +1,42 @@
+-- Each command of a plan that fits its table can be run.
+use Rattle.std.proofs.Common.{◌≡◌, ℕ, zero, suc, ◌+◌, ◌<◌, ◌≤◌, ◌^◌, List, [], ◌∷◌, Some, ap, arith, length}
+use Rattle.std.specs.Prelude.{slice_get}
+use Rattle.std.specs.List.{AllByRecursion}
+use Rattle.std.proofs.lemmas.List.Sums.{sum_by-cons}
+use Rattle.kt_schema.specs.declared.column.Column.{Column}
+use Rattle.kt_history.specs.declared.command.Command.{Command}
+use Rattle.kt_history.specs.declared.command.Command.TheVariants as command
+use Rattle.kt_history.specs.Machine.{nth}
+use Rattle.kt_script.specs.Scripts.{commands_in}
+use Rattle.kt_script.specs.Fit.{CommandFits, PlanFits}
+use Rattle.kt_serve.specs.Sessions.{CanRun}
+use Rattle.kt_serve.specs.Runs.{PlanRuns}
+use Rattle.kt_app.specs.Session.{IsCounted}
+use Rattle.kt_app.proofs.Fitting.{rules, count, is_short}
+use Rattle.kt_app.proofs.Planned.{get_fits, nth_fits}
+
+nth_within : {A : Type 0} (xs : List A) (k : ℕ) (x : A) → nth xs k ≡ Some x → k ≤ length xs
+nth_within xs zero x h = omega arith
+nth_within [] (suc k) x h = absurd cc
+nth_within (y ∷ xs) (suc zero) x h = omega arith
+nth_within (y ∷ xs) (suc (suc k)) x h = let le = nth_within xs (suc k) x h in omega (arith, le)
+
+few_commands : (plan : List (List Command)) (j : ℕ) (commands : List Command) → slice_get plan j ≡ Some commands → length commands ≤ commands_in plan
+few_commands [] j commands h = absurd cc
+few_commands (x ∷ plan) zero commands h = let is : x ≡ commands = cc in omega (arith, ap length is, sum_by-cons (λ (c : List Command). length c) x plan)
+few_commands (x ∷ plan) (suc j) commands h = omega (arith, few_commands plan j commands h, sum_by-cons (λ (c : List Command). length c) x plan)
+
+module _ (columns : List Column) (counted : IsCounted columns) where
+  can_run : (i : ℕ) (c : Command) → i + 1 < 2 ^ 32 → CommandFits columns c → CanRun i c
+  can_run i (command.Write w) few fits = record { count = count columns counted w.ops fits; each = rules columns counted w.ops fits; short = is_short columns counted w.ops fits; few = few }
+  can_run i (command.Scan scan) few fits = few
+  can_run i (command.Mark t) few fits = few
+  can_run i (command.Chore chore) few fits = absurd fits
+
+  pub plan_runs : (plan : List (List Command)) → PlanFits columns plan → PlanRuns plan
+  plan_runs plan fits = record {
+    runs = λ j commands is k c has.
+        can_run k c (omega (arith, nth_within commands k c has, few_commands plan j commands is, fits.commands))
+        (nth_fits (CommandFits columns) commands k c (get_fits (AllByRecursion (CommandFits columns)) plan j commands fits.each is) has);
+    few = λ j commands is. omega (arith, few_commands plan j commands is, fits.commands);
+  }

@@ -1,0 +1,55 @@
+-- A run of all sessions that has ended: its lines, and the replies that these tell.
+use Rattle.std.specs.Prelude.{◌≡◌, ◌≢◌, ℕ, Bool, false, true, List, [], ◌∷◌, ◌++◌, length, slice_get, Option, Some, None, if◌then◌else◌}
+use Rattle.kt_history.specs.declared.command.Command.{Command}
+use Rattle.kt_history.specs.declared.event.Event.{Event}
+use Rattle.kt_history.specs.declared.event.Event.TheVariants.{Stop}
+use Rattle.kt_history.specs.declared.reply.Reply.{Reply}
+use Rattle.kt_history.specs.History.{Past}
+use Rattle.kt_history.specs.Machine.{nth, start}
+use Rattle.kt_history.specs.Replies.{told}
+use Rattle.kt_script.specs.declared.output.LastLine.{LastLine}
+use Rattle.kt_script.specs.declared.output.LastLine.TheVariants.{Numbers, Stopped}
+use Rattle.kt_histlaws.specs.Core.{Core}
+use Rattle.kt_engine.specs.Engines.{EngineView, IsContent, core_from}
+use Rattle.kt_serve.specs.declared.log.Halt.TheVariants as halt
+use Rattle.kt_serve.specs.declared.session.SessionEnd.{SessionEnd}
+
+-- the reply that these lines tell for a command, behind what opening found
+abbrev pub told_in : Core → List Event → ℕ → ℕ → Option Reply
+told_in core lines s i = told core.work (start core.work core.first core.opened) lines s i
+
+-- An engine in which nothing has happened yet, its log at home.
+pub record IsFresh {L D C : Type 0} (view : EngineView L D C) : Type 0 where
+  pub lines : view.tablet.core.trail ≡ []
+  pub calm : view.tablet.core.aloft ≡ []
+  pub goes : view.tablet.core.stopped ≡ false
+  pub home : view.log.holder ≡ None
+  pub clock : view.tablet.clock ≡ view.tablet.opened
+
+abbrev pub reply_in : Option (List Reply) → ℕ → Option Reply
+reply_in None i = None
+reply_in (Some replies) i = nth replies i
+
+-- the reply to command i of session s, among the replies that each session has
+abbrev pub given : List (List Reply) → ℕ → ℕ → Option Reply
+given replies s i = reply_in (nth replies s) i
+
+-- the lines tell these replies and no other
+abbrev pub Tells : {L D C : Type 0} → EngineView L D C → List (List Reply) → Type 0
+Tells view replies = (first : Past) → IsContent view first → (j k : ℕ) → told_in (core_from view first) view.tablet.core.trail j k ≡ given replies j k
+
+-- want of memory has not halted the session
+abbrev pub IsWhole : SessionEnd → Type 0
+IsWhole end = end.halt ≢ Some halt.Memory
+
+-- the last line of a run, by whether it was stopped, its mark and its last timestamp
+abbrev pub end_of_run : Bool → ℕ → ℕ → LastLine
+end_of_run stopped a c = if stopped then Stopped else Numbers a c 0
+
+-- The run has ended, and these are its replies: a fault has stopped it, or each command was answered and nothing waits for the log.
+pub record HasPlayed {L D C : Type 0} (view : EngineView L D C) (plan : List (List Command)) (stopped : Bool) (replies : List (List Reply)) : Type 0 where
+  pub ended : view.tablet.core.stopped ≡ stopped
+  pub tells : Tells view replies
+  pub last : stopped ≡ true → (before : List Event) × (view.tablet.core.trail ≡ before ++ Stop ∷ [])
+  pub all : stopped ≡ false → (s : ℕ) (commands : List Command) → slice_get plan s ≡ Some commands → (given : List Reply) × (slice_get replies s ≡ Some given) × (length given ≡ length commands)
+  pub empty : stopped ≡ false → view.log.queued ≡ []
