@@ -9,7 +9,7 @@ use Rattle.kt_base.specs.declared.cell.Kind.TheVariants as kind
 use Rattle.kt_base.specs.declared.cell.Cell.{Cell}
 use Rattle.kt_base.specs.declared.cell.Cell.TheVariants as cell
 use Rattle.kt_base.specs.declared.literal.LiteralNo.TheVariants as no
-use Rattle.kt_base.specs.Literals.{Value, nothing, truth, number, text, raw, literals_are_read, literals_are_spelled, SpellsCell, same, number_in, string_in, binary_in, value_in, cell_or, cell_under, short_bytes, cell_bytes, number_fits, fits, string_literal, binary_literal, pairs, unquoted, among}
+use Rattle.kt_base.specs.Literals.{Value, nothing, truth, number, text, raw, literals_are_read, literals_are_spelled, SpellsCell, AreBytes, same, number_in, string_in, binary_in, value_in, cell_or, cell_under, short_bytes, cell_bytes, number_fits, fits, string_literal, binary_literal, pairs, unquoted, among}
 use Rattle.kt_base.proofs.Decimals.{same_text}
 use Rattle.kt_base.proofs.Values.{number_again, number_text, fits_mag, mag_signed, both_true}
 use Rattle.kt_base.proofs.Spelled.{chosen, pick, skip, string_again, pairs_again, between, pairs_spelled}
@@ -42,7 +42,7 @@ of_number k n bytes fit is =
     ap (cell_or k) (value_number bytes n (ap number_in is ∙ read)) ∙ pick (number_fits k n) (Ok (cell.Int n)) (Err no.Kind) fit
 
 pub all_read : literals_are_read
-all_read k cell.Null bytes b spelled = absurd (unfit k spelled.fit)
+all_read k cell.Null bytes spelled = absurd (unfit k spelled.fit)
   where
     unfit : (k : Kind) → fits k cell.Null ≡ true → ⊥
     unfit kind.Bool e = cc
@@ -52,33 +52,36 @@ all_read k cell.Null bytes b spelled = absurd (unfit k spelled.fit)
     unfit kind.Int64 e = cc
     unfit kind.String e = cc
     unfit kind.Binary e = cc
-all_read k (cell.Int n) bytes b spelled = of_number k n bytes spelled.fit spelled.spelled
-all_read kind.Bool (cell.Bool true) bytes b spelled = ap (λ x. cell_or kind.Bool (value_in x)) spelled.spelled
-all_read kind.Bool (cell.Bool false) bytes b spelled = ap (λ x. cell_or kind.Bool (value_in x)) spelled.spelled
-all_read kind.String (cell.Bytes v) bytes b spelled =
-    ap (λ x. cell_or kind.String (value_in x)) spelled.spelled ∙ (ap (λ o. cell_or kind.String (option_or (option_map text o) (option_map raw (binary_in (string_literal v))))) (string_again v b) ∙ short_is v spelled.fit)
-all_read kind.Binary (cell.Bytes v) bytes b spelled =
-    ap (λ x. cell_or kind.Binary (value_in x)) spelled.spelled ∙ (ap (λ o. cell_or kind.Binary (option_map raw o)) (pairs_again v b) ∙ short_is v spelled.fit)
-all_read kind.Int8 (cell.Bool t) bytes b spelled = let f = spelled.fit in absurd cc
-all_read kind.Int16 (cell.Bool t) bytes b spelled = let f = spelled.fit in absurd cc
-all_read kind.Int32 (cell.Bool t) bytes b spelled = let f = spelled.fit in absurd cc
-all_read kind.Int64 (cell.Bool t) bytes b spelled = let f = spelled.fit in absurd cc
-all_read kind.String (cell.Bool t) bytes b spelled = let f = spelled.fit in absurd cc
-all_read kind.Binary (cell.Bool t) bytes b spelled = let f = spelled.fit in absurd cc
-all_read kind.Bool (cell.Bytes v) bytes b spelled = let f = spelled.fit in absurd cc
-all_read kind.Int8 (cell.Bytes v) bytes b spelled = let f = spelled.fit in absurd cc
-all_read kind.Int16 (cell.Bytes v) bytes b spelled = let f = spelled.fit in absurd cc
-all_read kind.Int32 (cell.Bytes v) bytes b spelled = let f = spelled.fit in absurd cc
-all_read kind.Int64 (cell.Bytes v) bytes b spelled = let f = spelled.fit in absurd cc
+all_read k (cell.Int n) bytes spelled = of_number k n bytes spelled.fit spelled.spelled
+all_read kind.Bool (cell.Bool true) bytes spelled = ap (λ x. cell_or kind.Bool (value_in x)) spelled.spelled
+all_read kind.Bool (cell.Bool false) bytes spelled = ap (λ x. cell_or kind.Bool (value_in x)) spelled.spelled
+all_read kind.String (cell.Bytes v) bytes spelled =
+    ap (λ x. cell_or kind.String (value_in x)) spelled.spelled ∙ (ap (λ o. cell_or kind.String (option_or (option_map text o) (option_map raw (binary_in (string_literal v))))) (string_again v spelled.of_bytes) ∙ short_is v spelled.fit)
+all_read kind.Binary (cell.Bytes v) bytes spelled =
+    ap (λ x. cell_or kind.Binary (value_in x)) spelled.spelled ∙ (ap (λ o. cell_or kind.Binary (option_map raw o)) (pairs_again v spelled.of_bytes) ∙ short_is v spelled.fit)
+all_read kind.Int8 (cell.Bool t) bytes spelled = let f = spelled.fit in absurd cc
+all_read kind.Int16 (cell.Bool t) bytes spelled = let f = spelled.fit in absurd cc
+all_read kind.Int32 (cell.Bool t) bytes spelled = let f = spelled.fit in absurd cc
+all_read kind.Int64 (cell.Bool t) bytes spelled = let f = spelled.fit in absurd cc
+all_read kind.String (cell.Bool t) bytes spelled = let f = spelled.fit in absurd cc
+all_read kind.Binary (cell.Bool t) bytes spelled = let f = spelled.fit in absurd cc
+all_read kind.Bool (cell.Bytes v) bytes spelled = let f = spelled.fit in absurd cc
+all_read kind.Int8 (cell.Bytes v) bytes spelled = let f = spelled.fit in absurd cc
+all_read kind.Int16 (cell.Bytes v) bytes spelled = let f = spelled.fit in absurd cc
+all_read kind.Int32 (cell.Bytes v) bytes spelled = let f = spelled.fit in absurd cc
+all_read kind.Int64 (cell.Bytes v) bytes spelled = let f = spelled.fit in absurd cc
 
-string_is : (bytes v : List ℕ) → string_in bytes ≡ Some v → bytes ≡ string_literal v
+string_is : (bytes v : List ℕ) → string_in bytes ≡ Some v → (bytes ≡ string_literal v) × AreBytes v
 string_is [] v e = absurd cc
 string_is (b ∷ bytes) v e = elim (chosen (b == 34) (unquoted among bytes) None (Some v) e) [
-  | inl x ↦ let quote : b ≡ 34 = let g = x.0 in grind (arith, nat_tests) in ap (λ y. y ∷ bytes) quote ∙ ap (λ y. 34 ∷ y) (between among bytes v tt x.1)
+  | inl x ↦
+      let quote : b ≡ 34 = let g = x.0 in grind (arith, nat_tests) in
+      let inside = between among bytes v tt x.1 in
+      (ap (λ y. y ∷ bytes) quote ∙ ap (λ y. 34 ∷ y) inside.0, inside.1)
   | inr x ↦ absurd cc
 ]
 
-binary_is : (bytes v : List ℕ) → binary_in bytes ≡ Some v → bytes ≡ binary_literal v
+binary_is : (bytes v : List ℕ) → binary_in bytes ≡ Some v → (bytes ≡ binary_literal v) × AreBytes v
 binary_is [] v e = absurd cc
 binary_is (x ∷ []) v e = absurd cc
 binary_is (x ∷ b ∷ bytes) v e = elim (chosen ((x == 120) && (b == 34)) (pairs bytes) None (Some v) e) [
@@ -86,7 +89,8 @@ binary_is (x ∷ b ∷ bytes) v e = elim (chosen ((x == 120) && (b == 34)) (pair
       let two = both_true (x == 120) (b == 34) t.0 in
       let letter : x ≡ 120 = let g = two.0 in grind (arith, nat_tests) in
       let quote : b ≡ 34 = let g = two.1 in grind (arith, nat_tests) in
-      ap (λ y. y ∷ b ∷ bytes) letter ∙ (ap (λ y. 120 ∷ y ∷ bytes) quote ∙ ap (λ y. 120 ∷ 34 ∷ y) (pairs_spelled bytes v t.1))
+      let inside = pairs_spelled bytes v t.1 in
+      (ap (λ y. y ∷ b ∷ bytes) letter ∙ (ap (λ y. 120 ∷ y ∷ bytes) quote ∙ ap (λ y. 120 ∷ 34 ∷ y) inside.0), inside.1)
   | inr t ↦ absurd cc
 ]
 
@@ -96,8 +100,8 @@ IsValue bytes nothing = bytes ≡ codes "null"
 IsValue bytes (truth true) = bytes ≡ codes "true"
 IsValue bytes (truth false) = bytes ≡ codes "false"
 IsValue bytes (number n) = number_in bytes ≡ Some n
-IsValue bytes (text v) = bytes ≡ string_literal v
-IsValue bytes (raw v) = bytes ≡ binary_literal v
+IsValue bytes (text v) = (bytes ≡ string_literal v) × AreBytes v
+IsValue bytes (raw v) = (bytes ≡ binary_literal v) × AreBytes v
 
 value_is : (bytes : List ℕ) (v : Value) → value_in bytes ≡ Some v → IsValue bytes v
 value_is bytes v e = elim (chosen (same bytes (codes "null")) (Some nothing) _ (Some v) e) [
@@ -125,16 +129,16 @@ value_is bytes v e = elim (chosen (same bytes (codes "null")) (Some nothing) _ (
 
 cell_is : (k : Kind) (c : Cell) (bytes : List ℕ) (v : Value) → IsValue bytes v → cell_under k v ≡ Ok c → SpellsCell k c bytes
 cell_is k c bytes nothing is e = absurd cc
-cell_is kind.Bool c bytes (truth true) is e = let same_c : cell.Bool true ≡ c = cc in subst (λ x. SpellsCell kind.Bool x bytes) same_c (record { fit = refl; spelled = is })
-cell_is kind.Bool c bytes (truth false) is e = let same_c : cell.Bool false ≡ c = cc in subst (λ x. SpellsCell kind.Bool x bytes) same_c (record { fit = refl; spelled = is })
+cell_is kind.Bool c bytes (truth true) is e = let same_c : cell.Bool true ≡ c = cc in subst (λ x. SpellsCell kind.Bool x bytes) same_c (record { fit = refl; of_bytes = tt; spelled = is })
+cell_is kind.Bool c bytes (truth false) is e = let same_c : cell.Bool false ≡ c = cc in subst (λ x. SpellsCell kind.Bool x bytes) same_c (record { fit = refl; of_bytes = tt; spelled = is })
 cell_is k c bytes (number n) is e = elim (chosen (number_fits k n) (Ok (cell.Int n)) (Err no.Kind) (Ok c) e) [
   | inl x ↦
       let same_c : cell.Int n ≡ c = cc in
-      subst (λ y. SpellsCell k y bytes) same_c (record { fit = x.0; spelled = number_text bytes n is (fits_mag k n x.0) })
+      subst (λ y. SpellsCell k y bytes) same_c (record { fit = x.0; of_bytes = tt; spelled = number_text bytes n is (fits_mag k n x.0) })
   | inr x ↦ absurd cc
 ]
-cell_is kind.String c bytes (text v) is e = let two = is_short v c e in subst (λ x. SpellsCell kind.String x bytes) (sym two.1) (record { fit = two.0; spelled = is })
-cell_is kind.Binary c bytes (raw v) is e = let two = is_short v c e in subst (λ x. SpellsCell kind.Binary x bytes) (sym two.1) (record { fit = two.0; spelled = is })
+cell_is kind.String c bytes (text v) is e = let two = is_short v c e in subst (λ x. SpellsCell kind.String x bytes) (sym two.1) (record { fit = two.0; of_bytes = is.1; spelled = is.0 })
+cell_is kind.Binary c bytes (raw v) is e = let two = is_short v c e in subst (λ x. SpellsCell kind.Binary x bytes) (sym two.1) (record { fit = two.0; of_bytes = is.1; spelled = is.0 })
 cell_is kind.Int8 c bytes (truth t) is e = absurd cc
 cell_is kind.Int16 c bytes (truth t) is e = absurd cc
 cell_is kind.Int32 c bytes (truth t) is e = absurd cc

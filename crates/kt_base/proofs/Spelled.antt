@@ -71,7 +71,8 @@ byte_again b rest h = quoted ((b == 34) || (b == 92)) refl
     plain e f =
         let quote : (b == 34) ≡ false = left (b == 34) (b == 92) e in
         let slash : (b == 92) ≡ false = right (b == 34) (b == 92) e in
-        let escape : is_escaped b ≡ false = ap (λ t. t || (nat_lt b 32 || (b == 127))) e ∙ f in
+        let byte : nat_le 256 b ≡ false = grind (arith, nat_tests) in
+        let escape : is_escaped b ≡ false = ap (λ t. t || ((nat_lt b 32 || (b == 127)) || nat_le 256 b)) e ∙ (ap (λ t. t || nat_le 256 b) f ∙ byte) in
         skip (b == 34) _ _ quote ∙ (skip (b == 92) _ _ slash ∙ skip (is_escaped b) None (with_byte b (unquoted among rest)) escape)
       where
         left : (x y : Bool) → (x || y) ≡ false → x ≡ false
@@ -149,10 +150,21 @@ false_parts : (x y : Bool) → (x || y) ≡ false → (x ≡ false) × (y ≡ fa
 false_parts true y g = absurd cc
 false_parts false y g = (refl, g)
 
-plain_byte : (b : ℕ) → is_escaped b ≡ false → string_byte b ≡ b ∷ []
+-- a byte that stands for itself
+plain_byte : (b : ℕ) → is_escaped b ≡ false → (string_byte b ≡ b ∷ []) × (b < 256)
 plain_byte b h =
-    let two = false_parts ((b == 34) || (b == 92)) (nat_lt b 32 || (b == 127)) h in
-    skip ((b == 34) || (b == 92)) (92 ∷ b ∷ []) (if nat_lt b 32 || (b == 127) then 92 ∷ 120 ∷ hex b else b ∷ []) two.0 ∙ skip (nat_lt b 32 || (b == 127)) (92 ∷ 120 ∷ hex b) (b ∷ []) two.1
+    let two = false_parts ((b == 34) || (b == 92)) ((nat_lt b 32 || (b == 127)) || nat_le 256 b) h in
+    let more = false_parts (nat_lt b 32 || (b == 127)) (nat_le 256 b) two.1 in
+    let small = more.1 in
+    (skip ((b == 34) || (b == 92)) (92 ∷ b ∷ []) (if nat_lt b 32 || (b == 127) then 92 ∷ 120 ∷ hex b else b ∷ []) two.0 ∙ skip (nat_lt b 32 || (b == 127)) (92 ∷ 120 ∷ hex b) (b ∷ []) more.0, grind (arith, nat_tests))
+
+quoted_byte : (b : ℕ) → ((b == 34) || (b == 92)) ≡ true → b < 256
+quoted_byte b h = by (b == 34) (b == 92) refl refl h
+  where
+    by : (s t : Bool) → (b == 34) ≡ s → (b == 92) ≡ t → (s || t) ≡ true → b < 256
+    by true t e f g = grind (arith, nat_tests)
+    by false true e f g = grind (arith, nat_tests)
+    by false false e f g = absurd cc
 
 control_byte : (digit b : ℕ) → digit < 16 → is_hex b ≡ true → (nat_lt (16 * digit + hex_value b) 32 || ((16 * digit + hex_value b) == 127)) ≡ true → string_byte (16 * digit + hex_value b) ≡ 92 ∷ 120 ∷ hex_digit digit ∷ b ∷ []
 control_byte digit b h x small =
@@ -172,12 +184,16 @@ control_byte digit b h x small =
         by false true e f = let is : n ≡ 92 = grind (arith, nat_tests) in let g : (nat_lt 92 32 || (92 == 127)) ≡ true = subst (λ k. (nat_lt k 32 || (k == 127)) ≡ true) is h in absurd cc
         by false false e f = refl
 
-byte_front : (b : ℕ) (front rest bytes all : List ℕ) → string_byte b ≡ front → rest ≡ flat_map string_byte bytes ++ 34 ∷ [] → all ≡ b ∷ bytes → front ++ rest ≡ flat_map string_byte all ++ 34 ∷ []
-byte_front b front rest bytes all is so whole =
-    ap (λ x. x ++ rest) (sym is) ∙ (ap (λ x. string_byte b ++ x) so ∙ (sym (append_assoc (string_byte b) (flat_map string_byte bytes) (34 ∷ [])) ∙ ap (λ x. flat_map string_byte x ++ 34 ∷ []) (sym whole)))
+-- a text spells these bytes, up to the quote behind them
+abbrev Quoted : List ℕ → List ℕ → Type 0
+Quoted text bytes = (text ≡ flat_map string_byte bytes ++ 34 ∷ []) × AreBytes bytes
+
+byte_front : (b : ℕ) (front rest bytes all : List ℕ) → b < 256 → string_byte b ≡ front → Quoted rest bytes → all ≡ b ∷ bytes → Quoted (front ++ rest) all
+byte_front b front rest bytes all small is so whole =
+    (ap (λ x. x ++ rest) (sym is) ∙ (ap (λ x. string_byte b ++ x) so.0 ∙ (sym (append_assoc (string_byte b) (flat_map string_byte bytes) (34 ∷ [])) ∙ ap (λ x. flat_map string_byte x ++ 34 ∷ []) (sym whole))), subst AreBytes (sym whole) (small, so.1))
 
 -- what is read at a place was spelled so
-pub between : (p : Place) (t v : List ℕ) → IsPlace p → unquoted p t ≡ Some v → front_of p ++ t ≡ flat_map string_byte v ++ 34 ∷ []
+pub between : (p : Place) (t v : List ℕ) → IsPlace p → unquoted p t ≡ Some v → Quoted (front_of p ++ t) v
 between p [] v h e = absurd cc
 between among (b ∷ t) v h e = elim (chosen (b == 34) (if length t == 0 then Some [] else None) _ (Some v) e) [
   | inl q ↦ elim (chosen (length t == 0) (Some []) None (Some v) q.1) [
@@ -185,14 +201,14 @@ between among (b ∷ t) v h e = elim (chosen (b == 34) (if length t == 0 then So
         let quote : b ≡ 34 = let g = q.0 in grind (arith, nat_tests) in
         let none : v ≡ [] = cc in
         let zero_len : length t ≡ 0 = let g = n.0 in grind (arith, nat_tests) in
-        ap (λ x. b ∷ x) (empty t zero_len) ∙ (ap (λ x. x ∷ []) quote ∙ ap (λ x. flat_map string_byte x ++ 34 ∷ []) (sym none))
+        (ap (λ x. b ∷ x) (empty t zero_len) ∙ (ap (λ x. x ∷ []) quote ∙ ap (λ x. flat_map string_byte x ++ 34 ∷ []) (sym none)), subst AreBytes (sym none) tt)
     | inr n ↦ absurd cc
   ]
   | inr q ↦ elim (chosen (b == 92) (unquoted slashed t) _ (Some v) q.1) [
-    | inl s ↦ let slash : b ≡ 92 = let g = s.0 in grind (arith, nat_tests) in ap (λ x. x ∷ t) slash ∙ between slashed t v tt s.1
+    | inl s ↦ let slash : b ≡ 92 = let g = s.0 in grind (arith, nat_tests) in subst (λ x. Quoted (x ∷ t) v) (sym slash) (between slashed t v tt s.1)
     | inr s ↦ elim (chosen (is_escaped b) None (with_byte b (unquoted among t)) (Some v) s.1) [
       | inl x ↦ absurd cc
-      | inr x ↦ let parts = with_some b (unquoted among t) v x.1 in byte_front b (b ∷ []) t parts.0 v (plain_byte b x.0) (between among t parts.0 tt parts.1) parts.2
+      | inr x ↦ let parts = with_some b (unquoted among t) v x.1 in let plain = plain_byte b x.0 in byte_front b (b ∷ []) t parts.0 v plain.1 plain.0 (between among t parts.0 tt parts.1) parts.2
     ]
   ]
 ]
@@ -201,32 +217,33 @@ between among (b ∷ t) v h e = elim (chosen (b == 34) (if length t == 0 then So
     empty [] z = refl
     empty (x ∷ xs) z = absurd (omega arith)
 between slashed (b ∷ t) v h e = elim (chosen ((b == 34) || (b == 92)) (with_byte b (unquoted among t)) _ (Some v) e) [
-  | inl q ↦ let parts = with_some b (unquoted among t) v q.1 in byte_front b (92 ∷ b ∷ []) t parts.0 v (pick ((b == 34) || (b == 92)) (92 ∷ b ∷ []) _ q.0) (between among t parts.0 tt parts.1) parts.2
+  | inl q ↦ let parts = with_some b (unquoted among t) v q.1 in byte_front b (92 ∷ b ∷ []) t parts.0 v (quoted_byte b q.0) (pick ((b == 34) || (b == 92)) (92 ∷ b ∷ []) _ q.0) (between among t parts.0 tt parts.1) parts.2
   | inr q ↦ elim (chosen (b == 120) (unquoted high t) None (Some v) q.1) [
-    | inl s ↦ let letter : b ≡ 120 = let g = s.0 in grind (arith, nat_tests) in ap (λ x. 92 ∷ x ∷ t) letter ∙ between high t v tt s.1
+    | inl s ↦ let letter : b ≡ 120 = let g = s.0 in grind (arith, nat_tests) in subst (λ x. Quoted (92 ∷ x ∷ t) v) (sym letter) (between high t v tt s.1)
     | inr s ↦ absurd cc
   ]
 ]
 between high (b ∷ t) v h e = elim (chosen (is_hex b) (unquoted (low (hex_value b)) t) None (Some v) e) [
-  | inl q ↦ let is = digit_is b q.0 in ap (λ x. 92 ∷ 120 ∷ x ∷ t) (sym is.1) ∙ between (low (hex_value b)) t v is.0 q.1
+  | inl q ↦ let is = digit_is b q.0 in subst (λ x. Quoted (92 ∷ 120 ∷ x ∷ t) v) is.1 (between (low (hex_value b)) t v is.0 q.1)
   | inr q ↦ absurd cc
 ]
 between (low digit) (b ∷ t) v h e = elim (chosen (is_hex b && (nat_lt (16 * digit + hex_value b) 32 || ((16 * digit + hex_value b) == 127))) (with_byte (16 * digit + hex_value b) (unquoted among t)) None (Some v) e) [
   | inl q ↦
       let two = both_true (is_hex b) (nat_lt (16 * digit + hex_value b) 32 || ((16 * digit + hex_value b) == 127)) q.0 in
       let parts = with_some (16 * digit + hex_value b) (unquoted among t) v q.1 in
-      byte_front (16 * digit + hex_value b) (92 ∷ 120 ∷ hex_digit digit ∷ b ∷ []) t parts.0 v (control_byte digit b h two.0 two.1) (between among t parts.0 tt parts.1) parts.2
+      let small = (digit_is b two.0).0 in
+      byte_front (16 * digit + hex_value b) (92 ∷ 120 ∷ hex_digit digit ∷ b ∷ []) t parts.0 v (omega (arith, h, small)) (control_byte digit b h two.0 two.1) (between among t parts.0 tt parts.1) parts.2
   | inr q ↦ absurd cc
 ]
 
 -- pairs of digits that are read were spelled so
-pub pairs_spelled : (t v : List ℕ) → pairs t ≡ Some v → t ≡ flat_map hex v ++ 34 ∷ []
+pub pairs_spelled : (t v : List ℕ) → pairs t ≡ Some v → (t ≡ flat_map hex v ++ 34 ∷ []) × AreBytes v
 pairs_spelled [] v e = absurd cc
 pairs_spelled (b ∷ []) v e = elim (chosen (b == 34) (Some []) None (Some v) e) [
   | inl q ↦
       let quote : b ≡ 34 = let g = q.0 in grind (arith, nat_tests) in
       let none : v ≡ [] = cc in
-      ap (λ x. x ∷ []) quote ∙ ap (λ x. flat_map hex x ++ 34 ∷ []) (sym none)
+      (ap (λ x. x ∷ []) quote ∙ ap (λ x. flat_map hex x ++ 34 ∷ []) (sym none), subst AreBytes (sym none) tt)
   | inr q ↦ absurd cc
 ]
 pairs_spelled (a ∷ b ∷ t) v e = elim (chosen (is_hex a && is_hex b) (with_byte (16 * hex_value a + hex_value b) (pairs t)) None (Some v) e) [
@@ -239,6 +256,7 @@ pairs_spelled (a ∷ b ∷ t) v e = elim (chosen (is_hex a && is_hex b) (with_by
       let top : n / 16 ≡ hex_value a = omega (arith, second.0) in
       let bottom : n % 16 ≡ hex_value b = omega (arith, second.0) in
       let front : hex n ≡ a ∷ b ∷ [] = ap (λ k. hex_digit k ∷ hex_digit (n % 16) ∷ []) top ∙ (ap (λ k. k ∷ hex_digit (n % 16) ∷ []) first.1 ∙ ap (λ k. a ∷ k ∷ []) (ap hex_digit bottom ∙ second.1)) in
-      ap (λ x. x ++ t) (sym front) ∙ (ap (λ x. hex n ++ x) (pairs_spelled t parts.0 parts.1) ∙ (sym (append_assoc (hex n) (flat_map hex parts.0) (34 ∷ [])) ∙ ap (λ x. flat_map hex x ++ 34 ∷ []) (sym parts.2)))
+      let rest = pairs_spelled t parts.0 parts.1 in
+      (ap (λ x. x ++ t) (sym front) ∙ (ap (λ x. hex n ++ x) rest.0 ∙ (sym (append_assoc (hex n) (flat_map hex parts.0) (34 ∷ [])) ∙ ap (λ x. flat_map hex x ++ 34 ∷ []) (sym parts.2))), subst AreBytes (sym parts.2) (omega (arith, first.0, second.0), rest.1))
   | inr q ↦ absurd cc
 ]

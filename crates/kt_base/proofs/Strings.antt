@@ -1,6 +1,6 @@
 -- Bytes that stand for themselves in a string literal.
 use Rattle.std.proofs.Common.{◌≡◌, ℕ, suc, ◌+◌, List, [], ◌∷◌, ◌++◌, refl, sym, ap, subst, ◌∙◌, arith, length, Bool, true, false, cond, append_assoc}
-use Rattle.std.specs.Prelude.{◌||◌, ◌==◌, nat_lt, if◌then◌else◌, not}
+use Rattle.std.specs.Prelude.{◌||◌, ◌==◌, nat_lt, nat_le, if◌then◌else◌, not}
 use Rattle.std.specs.List.{flat_map, before_first, prefix_len, position, position_or_len}
 use Rattle.std.specs.Option.{unwrap_or}
 use Rattle.std.proofs.lemmas.List.Sums.{prefix_len-le-length}
@@ -18,12 +18,12 @@ front_is p xs = by_test (nat_lt (position_or_len p xs) (length xs)) refl
     by_test false e = let h = prefix_len-le-length (λ x. not (p x)) xs in grind (arith, nat_tests)
 
 -- without a test that holds, a byte stands for itself
-stands : (a b c d : Bool) (x y z : List ℕ) → ((a || b) || (c || d)) ≡ false → (if a || b then x else (if c || d then y else z)) ≡ z
-stands true b c d x y z h = cc
-stands false true c d x y z h = cc
-stands false false true d x y z h = cc
-stands false false false true x y z h = cc
-stands false false false false x y z h = refl
+stands : (a b c d e : Bool) (x y z : List ℕ) → ((a || b) || ((c || d) || e)) ≡ false → (if a || b then x else (if c || d then y else z)) ≡ z
+stands true b c d e x y z h = cc
+stands false true c d e x y z h = cc
+stands false false true d e x y z h = cc
+stands false false false true e x y z h = cc
+stands false false false false e x y z h = refl
 
 -- the bytes before the first one that is escaped are spelled by themselves
 pub plain_front : (bytes : List ℕ) → flat_map string_byte (before_first is_escaped bytes) ≡ before_first is_escaped bytes
@@ -35,7 +35,7 @@ plain_front (b ∷ bytes) = by_test (plain_front bytes) (is_escaped b) refl
     by_test later false e =
         let n : ℕ = prefix_len (λ x. not (is_escaped x)) bytes in
         let one : 1 + n ≡ suc n = omega arith in
-        let itself : string_byte b ≡ b ∷ [] = stands (b == 34) (b == 92) (nat_lt b 32) (b == 127) (92 ∷ b ∷ []) (92 ∷ 120 ∷ hex b) (b ∷ []) e in
+        let itself : string_byte b ≡ b ∷ [] = stands (b == 34) (b == 92) (nat_lt b 32) (b == 127) (nat_le 256 b) (92 ∷ b ∷ []) (92 ∷ 120 ∷ hex b) (b ∷ []) e in
         let front : flat_map string_byte (b ∷ take n bytes) ≡ b ∷ take n bytes = ap (λ x. x ++ flat_map string_byte (take n bytes)) itself ∙ ap (λ x. b ∷ x) later in
         subst (λ k. flat_map string_byte (take k (b ∷ bytes)) ≡ take k (b ∷ bytes)) (sym one) front
 

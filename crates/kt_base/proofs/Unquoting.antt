@@ -1,6 +1,6 @@
 -- Reading between the quotes of a literal.
 use Rattle.std.proofs.Common.{◌≡◌, ℕ, suc, ◌+◌, ◌<◌, List, [], ◌∷◌, ◌++◌, refl, sym, ap, subst, ◌∙◌, arith, length, Bool, true, false, cond, append_assoc, Option, Some, None, take}
-use Rattle.std.specs.Prelude.{◌||◌, ◌==◌, nat_lt, if◌then◌else◌, not}
+use Rattle.std.specs.Prelude.{◌||◌, ◌==◌, nat_lt, nat_le, if◌then◌else◌, not}
 use Rattle.std.specs.List.{before_first, prefix_len, AllByRecursion}
 use Rattle.std.specs.Option.{option_map}
 use Rattle.kt_base.specs.Literals.{hex_value, is_hex, is_escaped, with_byte, unquoted, among, high, low}
@@ -44,7 +44,7 @@ behind_none (Some t) = refl
 pub plain_read : (front s : List ℕ) → Plain front → unquoted among (front ++ s) ≡ option_map (λ t. front ++ t) (unquoted among s)
 plain_read [] s p = behind_none (unquoted among s)
 plain_read (b ∷ front) s p =
-    stands (b == 34) (b == 92) (nat_lt b 32 || (b == 127)) _ _ _ _ p.0 ∙ (ap (with_byte b) (plain_read front s p.1) ∙ behind_byte b front (unquoted among s))
+    stands (b == 34) (b == 92) ((nat_lt b 32 || (b == 127)) || nat_le 256 b) _ _ _ _ p.0 ∙ (ap (with_byte b) (plain_read front s p.1) ∙ behind_byte b front (unquoted among s))
 
 -- what is read so far, and the rest
 abbrev pub after_bytes : List ℕ → Option (List ℕ) → Option (List ℕ)

@@ -21,9 +21,9 @@ hex_digit n = if nat_lt n 10 then 48 + n else 87 + n
 abbrev pub hex : ℕ → List ℕ
 hex b = hex_digit (b / 16) ∷ hex_digit (b % 16) ∷ []
 
--- a byte that does not stand for itself in a string literal
+-- what does not stand for itself in a string literal: a byte that is escaped, or a number that is no byte
 abbrev pub is_escaped : ℕ → Bool
-is_escaped b = ((b == 34) || (b == 92)) || (nat_lt b 32 || (b == 127))
+is_escaped b = ((b == 34) || (b == 92)) || ((nat_lt b 32 || (b == 127)) || nat_le 256 b)
 
 -- a byte in a string literal
 abbrev pub string_byte : ℕ → List ℕ
@@ -193,11 +193,6 @@ pub record IsLineEnd (bytes : List ℕ) (from end : ℕ) : Type 0 where
   pub newline : slice_get bytes end ≡ Some 10
   pub inside : All (λ b. b ≢ 10) (slice_range bytes from end)
 
--- a cell of the kind has the spelling
-pub record SpellsCell (kind : Kind) (c : Cell) (bytes : List ℕ) : Type 0 where
-  pub fit : fits kind c ≡ true
-  pub spelled : bytes ≡ literal kind c
-
 -- a text of bytes
 abbrev pub AreBytes : List ℕ → Type 0
 AreBytes bytes = AllByRecursion (λ b. b < 256) bytes
@@ -207,9 +202,15 @@ abbrev pub CellBytes : Cell → Type 0
 CellBytes (cell.Bytes bytes) = AreBytes bytes
 CellBytes c = Unit {0}
 
+-- a cell of the kind, and of bytes, has the spelling
+pub record SpellsCell (kind : Kind) (c : Cell) (bytes : List ℕ) : Type 0 where
+  pub fit : fits kind c ≡ true
+  pub of_bytes : CellBytes c
+  pub spelled : bytes ≡ literal kind c
+
 -- a text is read as the cell that it spells, and as no other
 abbrev pub literals_are_read : Type 0
-literals_are_read = (kind : Kind) (c : Cell) (bytes : List ℕ) → CellBytes c → SpellsCell kind c bytes → cell_in kind bytes ≡ Ok c
+literals_are_read = (kind : Kind) (c : Cell) (bytes : List ℕ) → SpellsCell kind c bytes → cell_in kind bytes ≡ Ok c
 
 -- what is read is spelled so
 abbrev pub literals_are_spelled : Type 0

@@ -1,5 +1,5 @@
 //! The words that every layer speaks: cells and byte strings, the two refusals that any call may meet,
-//! the limits, and the outside world as traits. It stands on nothing.
+//! the limits, and the outside world as traits. It stands on kt_bytes.
 //!
 //! For the layers above: a call on the outside answers `Failed` only where the outside's count of faults rose.
 #![tactic(auto)]
@@ -12,15 +12,14 @@ pub mod limits;
 pub mod lists;
 pub mod literal;
 pub mod memory;
-pub mod octets;
 pub mod outside;
 pub mod refusal;
 
 pub use cell::{Cell, Cells, Kind, Row};
 pub use chore::Chore;
 pub use clock::MemClock;
+pub use kt_bytes::{NoMemory, Octets};
 pub use lists::{CallList, ReadingList};
 pub use memory::{MemSink, MemSource};
-pub use octets::Octets;
 pub use outside::{Clock, Sink, Source};
-pub use refusal::{Failed, NoMemory};
+pub use refusal::Failed;

@@ -9,11 +9,13 @@ use Rattle.kt_base.specs.declared.cell.Cell.{Cell}
 use Rattle.kt_history.specs.declared.change.Change.{Change}
 use Rattle.kt_history.specs.declared.change.Change.TheVariants.{Ins, Upd, Del}
 use Rattle.kt_history.specs.declared.changes.Delta.{Delta}
-use Rattle.kt_records.specs.declared.refusal.CodecNo.{CodecNo}
+use Rattle.kt_bytes.specs.declared.fault.CodecNo.{CodecNo}
 use Rattle.kt_records.specs.Spelling.{listed_cell, cell_list}
 use Rattle.kt_records.specs.Rules.{FollowingCell}
-use Rattle.kt_records.specs.Reading.{◌>>=◌, number_at, listed_cell_at, many_at, cells_at}
-use Rattle.kt_records.proofs.Taken.{IsBytes, IsBytes-rest, bind_ok, allowed, ok_is, Took, took_as, joined, wide16, wide32, wide64, number_takes, number_again}
+use Rattle.kt_bytes.specs.Reading.{◌>>=◌, number_at, many_at, with_offset, Answers}
+use Rattle.kt_records.specs.Reading.{listed_cell_at, cells_at}
+use Rattle.kt_bytes.proofs.Numbers.{IsBytes, IsBytes-rest, bind_ok, allowed, ok_is, wide16, wide32, wide64, number_again}
+use Rattle.kt_bytes.proofs.Taken.{Took, took_as, joined, number_took}
 use Rattle.kt_records.proofs.Items.{all_take, all_again}
 use Rattle.kt_records.proofs.Cells.{listed_cell_takes, listed_cell_again}
 use Rattle.kt_deltafile.specs.declared.file.Way.{Way}
@@ -22,7 +24,7 @@ use Rattle.kt_deltafile.specs.File.{FileView}
 use Rattle.kt_deltafile.specs.Order.{may_come, may_follow}
 use Rattle.kt_deltafile.specs.Rules.{may_insert, CellsFit, ChangeFits, Follows, FileFits}
 use Rattle.kt_deltafile.specs.Spelling.{way_byte, change_bytes, record_bytes, ktd1, spelling}
-use Rattle.kt_deltafile.specs.Reading.{change_at, record_at, way_at, body_at, whole_at, with_offset, file_of, Answers}
+use Rattle.kt_deltafile.specs.Reading.{change_at, record_at, way_at, body_at, whole_at, file_of}
 
 -- ---- cells
 
@@ -30,7 +32,7 @@ cells_take : (bytes : List ℕ) (x : List (ℕ × Cell) × List ℕ) → IsBytes
 unfolding cells_at
 cells_take bytes x fits e =
     let a = bind_ok (number_at w16 bytes) (λ n. many_at listed_cell_at n.0 [] n.1) x e in
-    let t = number_takes w16 (2 ^ 16) wide16 bytes a.0 fits a.1 in
+    let t = number_took w16 (2 ^ 16) wide16 bytes a.0 fits a.1 in
     let u = all_take listed_cell_at listed_cell FollowingCell listed_cell_takes a.0.0 a.0.1 x t.rest_fits a.2 in
     let count : length x.0 ≡ a.0.0 = u.fits.0 in
     record {
@@ -82,8 +84,8 @@ record_takes way rows front bytes x fits e =
     let b = bind_ok (number_at w64 a.0.1) (timed a.0) x g.1 in
     let h = allowed (may_follow way front a.0.0 b.0.0) (length a.0.1) (change_at way b.0.1 >>= last a.0.0 b.0.0) x b.2 in
     let d = bind_ok (change_at way b.0.1) (last a.0.0 b.0.0) x h.1 in
-    let t = number_takes w32 (2 ^ 32) wide32 bytes a.0 fits a.1 in
-    let u = number_takes w64 (2 ^ 64) wide64 a.0.1 b.0 t.rest_fits b.1 in
+    let t = number_took w32 (2 ^ 32) wide32 bytes a.0 fits a.1 in
+    let u = number_took w64 (2 ^ 64) wide64 a.0.1 b.0 t.rest_fits b.1 in
     let v = change_takes way b.0.1 d.0 u.rest_fits d.1 in
     took_as record_bytes (Follows way rows front) bytes (record { ordinal = a.0.0; ts = b.0.0; change = d.0.0 }, d.0.1) x d.2 (record {
       parts = joined bytes (to_le_bytes w32 a.0.0 ++ to_le_bytes w64 b.0.0) b.0.1 (change_bytes d.0.0) d.0.1 (joined bytes (to_le_bytes w32 a.0.0) a.0.1 (to_le_bytes w64 b.0.0) b.0.1 t.parts u.parts) v.parts;
@@ -136,7 +138,7 @@ body_takes rows bytes x fits e =
     let n = b.0 in
     let d = bind_ok (many_at (record_at way rows) n.0 [] n.1) (ends way) x b.2 in
     let t = way_takes bytes a.0 fits a.1 in
-    let u = number_takes w32 (2 ^ 32) wide32 a.0.1 n t.rest_fits b.1 in
+    let u = number_took w32 (2 ^ 32) wide32 a.0.1 n t.rest_fits b.1 in
     let v = all_take (record_at way rows) record_bytes (Follows way rows) (record_takes way rows) n.0 n.1 d.0 u.rest_fits d.1 in
     let count : length d.0.0 ≡ n.0 = v.fits.0 in
     let counted_is : a.0.1 ≡ to_le_bytes w32 (length d.0.0) ++ n.1 = rw count u.parts in
@@ -161,7 +163,7 @@ whole_takes rows bytes f fits e =
     let g = allowed (eqb a.0.0 ktd1) (length bytes) (body_at rows a.0.1 >>= ends) f a.2 in
     let b = bind_ok (body_at rows a.0.1) ends f g.1 in
     let h = allowed (eqb (length b.0.1) 0) (length b.0.1) (Ok b.0.0) f b.2 in
-    let t = number_takes w32 (2 ^ 32) wide32 bytes a.0 fits a.1 in
+    let t = number_took w32 (2 ^ 32) wide32 bytes a.0 fits a.1 in
     let u = body_takes rows a.0.1 b.0 t.rest_fits b.1 in
     let nothing : b.0.1 ≡ [] = nil_from_length b.0.1 (eqb-true _ _ h.0) in
     let word : a.0.0 ≡ ktd1 = eqb-true _ _ g.0 in

@@ -5,9 +5,8 @@ use Rattle.std.specs.Int.{w32, w64}
 use Rattle.kt_history.specs.declared.change.Change.{Change}
 use Rattle.kt_history.specs.declared.change.Change.TheVariants.{Ins, Upd, Del}
 use Rattle.kt_history.specs.declared.changes.Delta.{Delta}
-use Rattle.kt_records.specs.declared.refusal.CodecNo.{CodecNo}
-use Rattle.kt_records.specs.declared.refusal.CodecNo.TheVariants as no
-use Rattle.kt_records.specs.Reading.{◌>>=◌, number_at, cells_at, many_at}
+use Rattle.kt_bytes.specs.Reading.{◌>>=◌, number_at, many_at, with_offset}
+use Rattle.kt_records.specs.Reading.{cells_at}
 use Rattle.kt_deltafile.specs.declared.file.Way.{Way}
 use Rattle.kt_deltafile.specs.declared.file.Way.TheVariants.{Redo, Undo}
 use Rattle.kt_deltafile.specs.File.{FileView}
@@ -61,17 +60,6 @@ whole_at rows bytes = do
     file ← body_at rows word.1
     if length file.1 == 0 then Ok file.0 else Err (length file.1)) else Err (length bytes)
 
--- the offset of a fault among so many bytes
-abbrev pub with_offset : ℕ → Result FileView ℕ → Result FileView ℕ
-with_offset total (Ok file) = Ok file
-with_offset total (Err left) = Err (total - left)
-
 -- the file over so many rows that all of the bytes spell, or the offset of the first fault
 abbrev pub file_of : ℕ → List ℕ → Result FileView ℕ
 file_of rows bytes = with_offset (length bytes) (whole_at rows bytes)
-
--- this was answered, unless memory ran out
-abbrev pub Answers : Result FileView CodecNo → Result FileView ℕ → Type 0
-Answers (Ok file) read = read ≡ Ok file
-Answers (Err (no.Place offset)) read = read ≡ Err offset
-Answers (Err no.Memory) read = Unit {0}

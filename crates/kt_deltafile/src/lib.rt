@@ -14,6 +14,6 @@ mod reading;
 mod writing;
 
 pub use file::{DeltaFile, Way};
-pub use kt_records::CodecNo;
+pub use kt_bytes::CodecNo;
 pub use reading::decode;
 pub use writing::spell;

@@ -1,19 +1,18 @@
 //! Reading a delta file.
 ghost use Rattle.std.specs.Prelude.{◌≡◌, IfOk, Ok, [], List};
 ghost use Rattle.kt_history.specs.declared.changes.Delta.{Delta};
-ghost use Rattle.kt_records.specs.Reading.{Gives, many_at};
+ghost use Rattle.kt_bytes.specs.Reading.{Gives, many_at, Answers};
 ghost use Rattle.kt_deltafile.specs.declared.file.Way.{Way};
 ghost use Rattle.kt_deltafile.specs.Order.{last_ordinal, in_order, may_come, may_follow};
 ghost use Rattle.kt_deltafile.specs.Rules.{may_insert, FileFits};
 ghost use Rattle.kt_deltafile.specs.Spelling.{spelling};
-ghost use Rattle.kt_deltafile.specs.Reading.{change_at, record_at, way_at, body_at, whole_at, file_of, Answers};
+ghost use Rattle.kt_deltafile.specs.Reading.{change_at, record_at, way_at, body_at, whole_at, file_of};
 
 use crate::file::{DeltaFile, Way};
+use kt_bytes::fields::{u32_at, u64_at};
+use kt_bytes::{CodecNo, Stop};
 use kt_history::{Change, Delta, DeltaList};
-use kt_records::CodecNo;
 use kt_records::cell_lists::cells_of;
-use kt_records::fields::{u32_of, u64_of};
-use kt_records::refusal::Stop;
 use std::alloc::Global;
 
 /// The letters KTD1, as a number.
@@ -94,11 +93,11 @@ fn record_of<'a>(
 ) -> Result<(Delta, &'a [u8]), Stop>
     ensures { Gives (λ x. (x.0, x.1.now)) result (record_at way rows front.now bytes.now) }
 {
-    let (ordinal, after) = u32_of(bytes)?;
+    let (ordinal, after) = u32_at(bytes)?;
     if !comes(rows, front, ordinal) {
         return Err(Stop::Left(bytes.len()));
     }
-    let (ts, rest) = u64_of(after)?;
+    let (ts, rest) = u64_at(after)?;
     if !follows(way, front, ordinal, ts) {
         return Err(Stop::Left(after.len()));
     }
@@ -154,7 +153,7 @@ fn body_of(alloc: Global, rows: u32, bytes: &[u8]) -> Result<Body<'_>, Stop>
     ensures { Gives (λ x. (record { way = x.way; list = x.records.items }, x.rest.now)) result (body_at rows bytes.now) }
 {
     let (way, rest) = way_of(bytes)?;
-    let (count, rest) = u32_of(rest)?;
+    let (count, rest) = u32_at(rest)?;
     let (records, rest) = records_of(alloc, way, rows, count, rest)?;
     Ok(Body { way, records, rest })
 }
@@ -164,7 +163,7 @@ fn body_of(alloc: Global, rows: u32, bytes: &[u8]) -> Result<Body<'_>, Stop>
 fn whole_of(alloc: Global, rows: u32, bytes: &[u8]) -> Result<(Way, DeltaList), Stop>
     ensures { Gives (λ x. record { way = x.0; list = x.1 }) result (whole_at rows bytes.now) }
 {
-    let (word, rest) = u32_of(bytes)?;
+    let (word, rest) = u32_at(bytes)?;
     if word != KTD1 {
         return Err(Stop::Left(bytes.len()));
     }

@@ -16,7 +16,7 @@ use Rattle.std.proofs.lemmas.List.Sums.{sum_by-cons}
 use Rattle.kt_records.specs.Spelling.{cell, listed_cell, cell_list}
 use Rattle.kt_records.specs.Rules.{FollowingCell}
 use Rattle.kt_records.specs.Reading.{listed_cell_at, cells_at}
-use Rattle.kt_records.proofs.Taken.{wide16, number_again}
+use Rattle.kt_bytes.proofs.Numbers.{wide16, number_again}
 use Rattle.kt_records.proofs.Cells.{listed_cell_again}
 use Rattle.kt_records.proofs.Items.{all_again}
 use Rattle.kt_pool.specs.Contents.{Contents, bytes_at, overwritten}

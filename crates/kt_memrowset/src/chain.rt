@@ -8,10 +8,10 @@ ghost use Rattle.kt_pool.specs.Contents.{Stands, bytes_at};
 
 use crate::link::{NOTHING, head_in};
 use kt_base::{Cells, NoMemory, Octets};
+use kt_bytes::Stop;
 use kt_history::{Change, KeyChange, Kindly, apply};
 use kt_pool::{Place, Pool};
 use kt_records::cell_lists::cells_of;
-use kt_records::refusal::Stop;
 use std::alloc::Global;
 
 /// Whether there is a row after a change of this kind.

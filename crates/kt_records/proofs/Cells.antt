@@ -11,39 +11,11 @@ use Rattle.kt_base.specs.declared.cell.Cell.TheVariants as cells
 use Rattle.kt_history.specs.declared.operation.OpKind.{OpKind}
 use Rattle.kt_records.specs.Spelling.{flag, cell, listed_cell, cell_list}
 use Rattle.kt_records.specs.Rules.{CellFits, next_id, FollowingCell, may_list, CellsFit}
-use Rattle.kt_records.specs.Reading.{◌>>=◌, number_at, bytes_at, flag_at, cell_at, listed_cell_at, cell_list_at, many_at}
-use Rattle.kt_records.proofs.Taken.{IsBytes, IsBytes-rest, IsBytes-drop, bind_ok, passed, allowed, Took, took_as, joined, wide16, wide32, wide64, number_takes, number_again}
+use Rattle.kt_bytes.specs.Reading.{◌>>=◌, number_at, counted_at, many_at}
+use Rattle.kt_records.specs.Reading.{flag_at, cell_at, listed_cell_at, cell_list_at}
+use Rattle.kt_bytes.proofs.Numbers.{IsBytes, IsBytes-rest, IsBytes-drop, bind_ok, passed, allowed, wide16, wide32, wide64, number_again}
+use Rattle.kt_bytes.proofs.Taken.{Took, took_as, joined, number_took, counted, counted_took, counted_again}
 use Rattle.kt_records.proofs.Items.{all_take, all_again}
-
--- bytes behind their count
-abbrev pub counted_bytes : List ℕ → List ℕ
-counted_bytes text = to_le_bytes w32 (length text) ++ text
-
-abbrev pub IsShort : List ℕ → Type 0
-IsShort text = length text < 2 ^ 32
-
-pub bytes_take : (bytes : List ℕ) (x : List ℕ × List ℕ) → IsBytes bytes → bytes_at bytes ≡ Ok x → Took counted_bytes IsShort bytes x
-unfolding bytes_at
-bytes_take bytes x fits e =
-    let b = bind_ok (number_at w32 bytes) (λ n. cond (ltb (length n.1) n.0) (Err 0) (Ok (take n.0 n.1, drop n.0 n.1))) x e in
-    let n = b.0 in
-    let t = number_takes w32 (2 ^ 32) wide32 bytes n fits b.1 in
-    let g = passed (ltb (length n.1) n.0) 0 (Ok (take n.0 n.1, drop n.0 n.1)) x b.2 in
-    let long : n.0 ≤ length n.1 = ltb-false _ _ g.0 in
-    let len : length (take n.0 n.1) ≡ n.0 = omega (arith, length-take n.0 n.1) in
-    let both : bytes ≡ (to_le_bytes w32 n.0 ++ take n.0 n.1) ++ drop n.0 n.1 = joined bytes (to_le_bytes w32 n.0) n.1 (take n.0 n.1) (drop n.0 n.1) t.parts (sym (take-append-drop n.0 n.1)) in
-    took_as counted_bytes IsShort bytes (take n.0 n.1, drop n.0 n.1) x g.1 (record {
-      parts = subst (λ (k : ℕ). bytes ≡ (to_le_bytes w32 k ++ take n.0 n.1) ++ drop n.0 n.1) (sym len) both;
-      rest_fits = IsBytes-drop n.0 n.1 t.rest_fits;
-      fits = omega (arith, t.fits);
-    })
-
-pub bytes_again : (text rest : List ℕ) → length text < 2 ^ 32 → bytes_at (counted_bytes text ++ rest) ≡ Ok (text, rest)
-unfolding bytes_at
-bytes_again text rest lt =
-    let long : ltb (length (text ++ rest)) (length text) ≡ false = le-ltb _ _ (omega (arith, length-append text rest)) in
-    let regrouped : counted_bytes text ++ rest ≡ to_le_bytes w32 (length text) ++ (text ++ rest) = append_assoc (to_le_bytes w32 (length text)) text rest in
-    ap bytes_at regrouped ∙ rw (number_again w32 (2 ^ 32) wide32 (length text) (text ++ rest) lt, long, take_at text rest (length text) refl, drop_at text rest (length text) refl) refl
 
 abbrev flag_byte : Bool → List ℕ
 flag_byte b = flag b ∷ []
@@ -70,7 +42,7 @@ cell_takes (suc zero ∷ rest) x fits e =
     took_as cell CellFits (1 ∷ rest) (cells.Bool a.0.0, a.0.1) x a.2 (record { parts = ap (λ (r : List ℕ). 1 ∷ r) t.parts; rest_fits = t.rest_fits; fits = tt })
 cell_takes (suc (suc zero) ∷ rest) x fits e =
     let a = bind_ok (number_at w64 rest) (λ n. Ok (cells.Int (cast_signed w64 n.0), n.1)) x e in
-    let t = number_takes w64 (2 ^ 64) wide64 rest a.0 (IsBytes-rest 2 rest fits) a.1 in
+    let t = number_took w64 (2 ^ 64) wide64 rest a.0 (IsBytes-rest 2 rest fits) a.1 in
     let back : cast_unsigned w64 (cast_signed w64 a.0.0) ≡ a.0.0 = of_z-to_z {w = w64} (Fits-of_lt {w = w64} t.fits) in
     took_as cell CellFits (2 ∷ rest) (cells.Int (cast_signed w64 a.0.0), a.0.1) x a.2 (record {
       parts = ap (λ (r : List ℕ). 2 ∷ r) (t.parts ∙ ap (λ (n : ℕ). to_le_bytes w64 n ++ a.0.1) (sym back));
@@ -78,8 +50,8 @@ cell_takes (suc (suc zero) ∷ rest) x fits e =
       fits = sfits_to_z {w = w64} (Fits-of_lt {w = w64} t.fits);
     })
 cell_takes (suc (suc (suc zero)) ∷ rest) x fits e =
-    let a = bind_ok (bytes_at rest) (λ text. Ok (cells.Bytes text.0, text.1)) x e in
-    let t = bytes_take rest a.0 (IsBytes-rest 3 rest fits) a.1 in
+    let a = bind_ok (counted_at w32 rest) (λ text. Ok (cells.Bytes text.0, text.1)) x e in
+    let t = counted_took w32 (2 ^ 32) wide32 rest a.0 (IsBytes-rest 3 rest fits) a.1 in
     took_as cell CellFits (3 ∷ rest) (cells.Bytes a.0.0, a.0.1) x a.2 (record { parts = ap (λ (r : List ℕ). 3 ∷ r) t.parts; rest_fits = t.rest_fits; fits = t.fits })
 cell_takes (suc (suc (suc (suc b))) ∷ rest) x fits e = absurd cc
 
@@ -90,7 +62,7 @@ cell_again (cells.Bool b) rest fits = ap (λ (r : Result (Bool × List ℕ) ℕ)
 cell_again (cells.Int n) rest fits =
     ap (λ (r : Result (ℕ × List ℕ) ℕ). r >>= λ n. Ok (cells.Int (cast_signed w64 n.0), n.1)) (number_again w64 (2 ^ 64) wide64 (cast_unsigned w64 n) rest (Fits-lt-pow {w = w64} (Fits-of_z {w = w64} fits)))
     ∙ ap (λ (z : ℤ). Ok (cells.Int z, rest)) (to_z-of_z {w = w64} fits)
-cell_again (cells.Bytes text) rest fits = ap (λ (r : Result (List ℕ × List ℕ) ℕ). r >>= λ text. Ok (cells.Bytes text.0, text.1)) (bytes_again text rest fits)
+cell_again (cells.Bytes text) rest fits = ap (λ (r : Result (List ℕ × List ℕ) ℕ). r >>= λ text. Ok (cells.Bytes text.0, text.1)) (counted_again w32 (2 ^ 32) wide32 text rest fits)
 
 pub listed_cell_takes : (front : List (ℕ × Cell)) (bytes : List ℕ) (x : (ℕ × Cell) × List ℕ) → IsBytes bytes → listed_cell_at front bytes ≡ Ok x → Took listed_cell (FollowingCell front) bytes x
 unfolding listed_cell_at
@@ -98,7 +70,7 @@ listed_cell_takes front bytes x fits e =
     let a = bind_ok (number_at w16 bytes) (λ id. cond (ltb id.0 (next_id front)) (Err (length bytes)) (cell_at id.1 >>= λ c. Ok ((id.0, c.0), c.1))) x e in
     let g = passed (ltb a.0.0 (next_id front)) (length bytes) (cell_at a.0.1 >>= λ c. Ok ((a.0.0, c.0), c.1)) x a.2 in
     let b = bind_ok (cell_at a.0.1) (λ c. Ok ((a.0.0, c.0), c.1)) x g.1 in
-    let t = number_takes w16 (2 ^ 16) wide16 bytes a.0 fits a.1 in
+    let t = number_took w16 (2 ^ 16) wide16 bytes a.0 fits a.1 in
     let u = cell_takes a.0.1 b.0 t.rest_fits b.1 in
     took_as listed_cell (FollowingCell front) bytes ((a.0.0, b.0.0), b.0.1) x b.2 (record {
       parts = joined bytes (to_le_bytes w16 a.0.0) a.0.1 (cell b.0.0) b.0.1 t.parts u.parts;
@@ -118,7 +90,7 @@ unfolding cell_list_at
 cell_list_takes kind bytes x fits e =
     let a = bind_ok (number_at w16 bytes) (λ n. cond (may_list kind n.0) (many_at listed_cell_at n.0 [] n.1) (Err (length bytes))) x e in
     let g = allowed (may_list kind a.0.0) (length bytes) (many_at listed_cell_at a.0.0 [] a.0.1) x a.2 in
-    let t = number_takes w16 (2 ^ 16) wide16 bytes a.0 fits a.1 in
+    let t = number_took w16 (2 ^ 16) wide16 bytes a.0 fits a.1 in
     let u = all_take listed_cell_at listed_cell FollowingCell listed_cell_takes a.0.0 a.0.1 x t.rest_fits g.1 in
     let count : length x.0 ≡ a.0.0 = u.fits.0 in
     record {

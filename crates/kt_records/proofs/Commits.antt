@@ -9,8 +9,10 @@ use Rattle.kt_history.specs.declared.target.Target.TheVariants as stores
 use Rattle.kt_records.specs.declared.entry.CommitRow.{CommitRow}
 use Rattle.kt_records.specs.Spelling.{outcome, target, commit_row}
 use Rattle.kt_records.specs.Rules.{EachAfter, TargetFits, may_change, RowFits}
-use Rattle.kt_records.specs.Reading.{◌>>=◌, number_at, many_at, target_at, outcome_at, target_list_at, commit_row_at}
-use Rattle.kt_records.proofs.Taken.{IsBytes, IsBytes-rest, bind_ok, allowed, Took, took_as, joined, wide64, number_takes, number_again}
+use Rattle.kt_bytes.specs.Reading.{◌>>=◌, number_at, many_at}
+use Rattle.kt_records.specs.Reading.{target_at, outcome_at, target_list_at, commit_row_at}
+use Rattle.kt_bytes.proofs.Numbers.{IsBytes, IsBytes-rest, bind_ok, allowed, wide64, number_again}
+use Rattle.kt_bytes.proofs.Taken.{Took, took_as, joined, number_took}
 use Rattle.kt_records.proofs.Items.{all_take, all_again}
 
 target_takes : (front : List Target) (bytes : List ℕ) (x : Target × List ℕ) → IsBytes bytes → target_at bytes ≡ Ok x → Took target TargetFits bytes x
@@ -19,13 +21,13 @@ target_takes front [] x fits e = absurd cc
 target_takes front (zero ∷ rest) x fits e = absurd cc
 target_takes front (suc zero ∷ rest) x fits e =
     let a = bind_ok (number_at w64 rest) (λ n. Ok (stores.Mem n.0, n.1)) x e in
-    let t = number_takes w64 (2 ^ 64) wide64 rest a.0 (IsBytes-rest 1 rest fits) a.1 in
+    let t = number_took w64 (2 ^ 64) wide64 rest a.0 (IsBytes-rest 1 rest fits) a.1 in
     took_as target TargetFits (1 ∷ rest) (stores.Mem a.0.0, a.0.1) x a.2 (record { parts = ap (λ (r : List ℕ). 1 ∷ r) t.parts; rest_fits = t.rest_fits; fits = t.fits })
 target_takes front (suc (suc zero) ∷ rest) x fits e =
     let a = bind_ok (number_at w64 rest) (λ rowset. number_at w64 rowset.1 >>= λ dms. Ok (stores.Delta rowset.0 dms.0, dms.1)) x e in
     let b = bind_ok (number_at w64 a.0.1) (λ dms. Ok (stores.Delta a.0.0 dms.0, dms.1)) x a.2 in
-    let t = number_takes w64 (2 ^ 64) wide64 rest a.0 (IsBytes-rest 2 rest fits) a.1 in
-    let u = number_takes w64 (2 ^ 64) wide64 a.0.1 b.0 t.rest_fits b.1 in
+    let t = number_took w64 (2 ^ 64) wide64 rest a.0 (IsBytes-rest 2 rest fits) a.1 in
+    let u = number_took w64 (2 ^ 64) wide64 a.0.1 b.0 t.rest_fits b.1 in
     took_as target TargetFits (2 ∷ rest) (stores.Delta a.0.0 b.0.0, b.0.1) x b.2 (record {
       parts = ap (λ (r : List ℕ). 2 ∷ r) (joined rest (to_le_bytes w64 a.0.0) a.0.1 (to_le_bytes w64 b.0.0) b.0.1 t.parts u.parts);
       rest_fits = u.rest_fits;

@@ -3,11 +3,12 @@ use Rattle.std.proofs.Common.{◌≡◌, ℕ, zero, suc, ◌-◌, ◌+◌, ◌<�
 use Rattle.std.specs.List.{flat_map}
 use Rattle.std.proofs.lemmas.List.{append-nil}
 use Rattle.std.proofs.lemmas.List.Concat.{flat_map-cons}
-use Rattle.kt_records.specs.declared.refusal.Stop.{Stop}
-use Rattle.kt_records.specs.declared.refusal.Stop.TheVariants as stop
+use Rattle.kt_bytes.specs.declared.fault.Stop.{Stop}
+use Rattle.kt_bytes.specs.declared.fault.Stop.TheVariants as stop
 use Rattle.kt_records.specs.Rules.{EachAfter}
-use Rattle.kt_records.specs.Reading.{Fails, many_at}
-use Rattle.kt_records.proofs.Taken.{IsBytes, bind_ok, ok_is, Took, joined}
+use Rattle.kt_bytes.specs.Reading.{Fails, many_at}
+use Rattle.kt_bytes.proofs.Numbers.{IsBytes, bind_ok, ok_is}
+use Rattle.kt_bytes.proofs.Taken.{Took, joined}
 
 -- ---- a loop that reads them
 

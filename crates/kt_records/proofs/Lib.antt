@@ -1,4 +1,3 @@
-pub mod Taken
 pub mod Items
 pub mod Cells
 pub mod Operations

@@ -8,8 +8,10 @@ use Rattle.kt_history.specs.declared.operation.OpKind.TheVariants.{Insert, Upser
 use Rattle.kt_history.specs.declared.operation.RowOp.{RowOp}
 use Rattle.kt_records.specs.Spelling.{kind, cell_list, operation}
 use Rattle.kt_records.specs.Rules.{has_key, FollowingOp}
-use Rattle.kt_records.specs.Reading.{◌>>=◌, number_at, kind_at, new_key_at, cell_list_at, operation_at}
-use Rattle.kt_records.proofs.Taken.{IsBytes, IsBytes-rest, IsBytes-drop, bind_ok, passed, Took, took_as, joined, wide16, number_takes, number_again}
+use Rattle.kt_bytes.specs.Reading.{◌>>=◌, number_at, bytes_at}
+use Rattle.kt_records.specs.Reading.{kind_at, new_key_at, cell_list_at, operation_at}
+use Rattle.kt_bytes.proofs.Numbers.{IsBytes, IsBytes-rest, bind_ok, then_is, passed, wide16, number_again, bytes_again}
+use Rattle.kt_bytes.proofs.Taken.{Took, took_as, joined, counted, counted_took}
 use Rattle.kt_records.proofs.Cells.{cell_list_takes, cell_list_again}
 
 abbrev kind_byte : OpKind → List ℕ
@@ -38,39 +40,26 @@ kind_again InsertIgnore rest = refl
 kind_again UpdateIgnore rest = refl
 kind_again DeleteIgnore rest = refl
 
--- a key behind its length
-abbrev counted_key : List ℕ → List ℕ
-counted_key key = to_le_bytes w16 (length key) ++ key
-
 -- a key that none of these operations has
 record NewKey (front : List RowOp) (key : List ℕ) : Type 0 where
   new : has_key front key ≡ false
   short : length key < 2 ^ 16
 
-key_takes : (front : List RowOp) (bytes : List ℕ) (x : List ℕ × List ℕ) → IsBytes bytes → new_key_at front bytes ≡ Ok x → Took counted_key (NewKey front) bytes x
+key_takes : (front : List RowOp) (bytes : List ℕ) (x : List ℕ × List ℕ) → IsBytes bytes → new_key_at front bytes ≡ Ok x → Took (counted w16) (NewKey front) bytes x
 unfolding new_key_at
 key_takes front bytes x fits e =
-    let b = bind_ok (number_at w16 bytes) (λ n. cond (ltb (length n.1) n.0) (Err 0) (cond (has_key front (take n.0 n.1)) (Err (length n.1)) (Ok (take n.0 n.1, drop n.0 n.1)))) x e in
-    let n = b.0 in
-    let t = number_takes w16 (2 ^ 16) wide16 bytes n fits b.1 in
-    let g = passed (ltb (length n.1) n.0) 0 (cond (has_key front (take n.0 n.1)) (Err (length n.1)) (Ok (take n.0 n.1, drop n.0 n.1))) x b.2 in
-    let h = passed (has_key front (take n.0 n.1)) (length n.1) (Ok (take n.0 n.1, drop n.0 n.1)) x g.1 in
-    let long : n.0 ≤ length n.1 = ltb-false _ _ g.0 in
-    let len : length (take n.0 n.1) ≡ n.0 = omega (arith, length-take n.0 n.1) in
-    let both : bytes ≡ (to_le_bytes w16 n.0 ++ take n.0 n.1) ++ drop n.0 n.1 = joined bytes (to_le_bytes w16 n.0) n.1 (take n.0 n.1) (drop n.0 n.1) t.parts (sym (take-append-drop n.0 n.1)) in
-    took_as counted_key (NewKey front) bytes (take n.0 n.1, drop n.0 n.1) x h.1 (record {
-      parts = subst (λ (k : ℕ). bytes ≡ (to_le_bytes w16 k ++ take n.0 n.1) ++ drop n.0 n.1) (sym len) both;
-      rest_fits = IsBytes-drop n.0 n.1 t.rest_fits;
-      fits = record { new = h.0; short = omega (arith, t.fits) };
-    })
+    let a = bind_ok (number_at w16 bytes) (λ n. bytes_at n.0 n.1 >>= λ key. cond (has_key front key.0) (Err (length n.1)) (Ok key)) x e in
+    let b = bind_ok (bytes_at a.0.0 a.0.1) (λ key. cond (has_key front key.0) (Err (length a.0.1)) (Ok key)) x a.2 in
+    let g = passed (has_key front b.0.0) (length a.0.1) (Ok b.0) x b.2 in
+    let t = counted_took w16 (2 ^ 16) wide16 bytes b.0 fits (then_is (number_at w16 bytes) (λ n. bytes_at n.0 n.1) a.0 a.1 ∙ b.1) in
+    took_as (counted w16) (NewKey front) bytes b.0 x g.1 (record { parts = t.parts; rest_fits = t.rest_fits; fits = record { new = g.0; short = t.fits } })
 
-key_again : (front : List RowOp) (key rest : List ℕ) → NewKey front key → new_key_at front (counted_key key ++ rest) ≡ Ok (key, rest)
+key_again : (front : List RowOp) (key rest : List ℕ) → NewKey front key → new_key_at front (counted w16 key ++ rest) ≡ Ok (key, rest)
 unfolding new_key_at
 key_again front key rest fits =
-    let long : ltb (length (key ++ rest)) (length key) ≡ false = le-ltb _ _ (omega (arith, length-append key rest)) in
-    let regrouped : counted_key key ++ rest ≡ to_le_bytes w16 (length key) ++ (key ++ rest) = append_assoc (to_le_bytes w16 (length key)) key rest in
+    let regrouped : counted w16 key ++ rest ≡ to_le_bytes w16 (length key) ++ (key ++ rest) = append_assoc (to_le_bytes w16 (length key)) key rest in
     let new : has_key front key ≡ false = fits.new in
-    ap (new_key_at front) regrouped ∙ rw (number_again w16 (2 ^ 16) wide16 (length key) (key ++ rest) fits.short, long, take_at key rest (length key) refl, drop_at key rest (length key) refl, new) refl
+    ap (new_key_at front) regrouped ∙ rw (number_again w16 (2 ^ 16) wide16 (length key) (key ++ rest) fits.short, bytes_again key rest, new) refl
 
 pub operation_takes : (front : List RowOp) (bytes : List ℕ) (x : RowOp × List ℕ) → IsBytes bytes → operation_at front bytes ≡ Ok x → Took operation (FollowingOp front) bytes x
 unfolding operation_at
@@ -83,7 +72,7 @@ operation_takes front bytes x fits e =
     let v = cell_list_takes a.0.0 b.0.1 c.0 u.rest_fits c.1 in
     let op : RowOp = record { kind = a.0.0; key = b.0.0; cells = c.0.0 } in
     took_as operation (FollowingOp front) bytes (op, c.0.1) x c.2 (record {
-      parts = joined bytes (kind_byte a.0.0) a.0.1 (counted_key b.0.0 ++ cell_list c.0.0) c.0.1 t.parts (joined a.0.1 (counted_key b.0.0) b.0.1 (cell_list c.0.0) c.0.1 u.parts v.parts);
+      parts = joined bytes (kind_byte a.0.0) a.0.1 (counted w16 b.0.0 ++ cell_list c.0.0) c.0.1 t.parts (joined a.0.1 (counted w16 b.0.0) b.0.1 (cell_list c.0.0) c.0.1 u.parts v.parts);
       rest_fits = v.rest_fits;
       fits = record { new_key = u.fits.new; key = u.fits.short; cells = v.fits };
     })
@@ -92,5 +81,5 @@ pub operation_again : (front : List RowOp) (op : RowOp) (rest : List ℕ) → Fo
 unfolding operation_at
 operation_again front op rest fits =
     let new : NewKey front op.key = record { new = fits.new_key; short = fits.key } in
-    let regrouped : operation op ++ rest ≡ kind op.kind ∷ (counted_key op.key ++ (cell_list op.cells ++ rest)) = ap (λ (r : List ℕ). kind op.kind ∷ r) (append_assoc (counted_key op.key) (cell_list op.cells) rest) in
-    ap (operation_at front) regrouped ∙ rw (kind_again op.kind (counted_key op.key ++ (cell_list op.cells ++ rest)), key_again front op.key (cell_list op.cells ++ rest) new, cell_list_again op.kind op.cells rest fits.cells) refl
+    let regrouped : operation op ++ rest ≡ kind op.kind ∷ (counted w16 op.key ++ (cell_list op.cells ++ rest)) = ap (λ (r : List ℕ). kind op.kind ∷ r) (append_assoc (counted w16 op.key) (cell_list op.cells) rest) in
+    ap (operation_at front) regrouped ∙ rw (kind_again op.kind (counted w16 op.key ++ (cell_list op.cells ++ rest)), key_again front op.key (cell_list op.cells ++ rest) new, cell_list_again op.kind op.cells rest fits.cells) refl

@@ -9,11 +9,13 @@ use Rattle.kt_history.specs.declared.operation.RowOp.{RowOp}
 use Rattle.kt_records.specs.declared.entry.CommitRow.{CommitRow}
 use Rattle.kt_records.specs.declared.entry.Entry.{Entry}
 use Rattle.kt_records.specs.declared.entry.Entry.TheVariants.{Replicate, Commit}
-use Rattle.kt_records.specs.declared.refusal.CodecNo.{CodecNo}
+use Rattle.kt_bytes.specs.declared.fault.CodecNo.{CodecNo}
 use Rattle.kt_records.specs.Spelling.{operation, commit_row, spelling}
 use Rattle.kt_records.specs.Rules.{FollowingOp, RowFits, may_hold, KeepsRules}
-use Rattle.kt_records.specs.Reading.{◌>>=◌, Answers, number_at, many_at, operation_at, commit_row_at, replicate_at, commit_at, entry_at, whole_at, with_offset, record_of}
-use Rattle.kt_records.proofs.Taken.{IsBytes, IsBytes-rest, bind_ok, allowed, ok_is, Took, took_as, joined, wide16, wide64, number_takes, number_again}
+use Rattle.kt_bytes.specs.Reading.{◌>>=◌, Answers, number_at, many_at, with_offset}
+use Rattle.kt_records.specs.Reading.{operation_at, commit_row_at, replicate_at, commit_at, entry_at, whole_at, record_of}
+use Rattle.kt_bytes.proofs.Numbers.{IsBytes, IsBytes-rest, bind_ok, allowed, ok_is, wide16, wide64, number_again}
+use Rattle.kt_bytes.proofs.Taken.{Took, took_as, joined, number_took}
 use Rattle.kt_records.proofs.Items.{all_take, all_again}
 use Rattle.kt_records.proofs.Operations.{operation_takes, operation_again}
 use Rattle.kt_records.proofs.Commits.{commit_row_takes, commit_row_again}
@@ -30,8 +32,8 @@ replicate_takes bytes x fits e =
     let n = b.0 in
     let g = allowed (may_hold n.0) (length ts.1) (many_at operation_at n.0 [] n.1 >>= λ ops. Ok (Replicate ts.0 ops.0, ops.1)) x b.2 in
     let c = bind_ok (many_at operation_at n.0 [] n.1) (λ ops. Ok (Replicate ts.0 ops.0, ops.1)) x g.1 in
-    let t = number_takes w64 (2 ^ 64) wide64 bytes ts (IsBytes-rest 1 bytes fits) a.1 in
-    let u = number_takes w16 (2 ^ 16) wide16 ts.1 n t.rest_fits b.1 in
+    let t = number_took w64 (2 ^ 64) wide64 bytes ts (IsBytes-rest 1 bytes fits) a.1 in
+    let u = number_took w16 (2 ^ 16) wide16 ts.1 n t.rest_fits b.1 in
     let v = all_take operation_at operation FollowingOp operation_takes n.0 n.1 c.0 u.rest_fits c.1 in
     let count : length c.0.0 ≡ n.0 = v.fits.0 in
     let counted : ts.1 ≡ to_le_bytes w16 (length c.0.0) ++ n.1 = rw count u.parts in
@@ -58,8 +60,8 @@ commit_takes bytes x fits e =
     let b = bind_ok (number_at w16 ts.1) (λ n. many_at (λ front. commit_row_at) n.0 [] n.1 >>= λ rows. Ok (Commit ts.0 rows.0, rows.1)) x a.2 in
     let n = b.0 in
     let c = bind_ok (many_at (λ front. commit_row_at) n.0 [] n.1) (λ rows. Ok (Commit ts.0 rows.0, rows.1)) x b.2 in
-    let t = number_takes w64 (2 ^ 64) wide64 bytes ts (IsBytes-rest 2 bytes fits) a.1 in
-    let u = number_takes w16 (2 ^ 16) wide16 ts.1 n t.rest_fits b.1 in
+    let t = number_took w64 (2 ^ 64) wide64 bytes ts (IsBytes-rest 2 bytes fits) a.1 in
+    let u = number_took w16 (2 ^ 16) wide16 ts.1 n t.rest_fits b.1 in
     let v = all_take (λ front. commit_row_at) commit_row (λ front row. RowFits row) commit_row_takes n.0 n.1 c.0 u.rest_fits c.1 in
     let count : length c.0.0 ≡ n.0 = v.fits.0 in
     let counted : ts.1 ≡ to_le_bytes w16 (length c.0.0) ++ n.1 = rw count u.parts in

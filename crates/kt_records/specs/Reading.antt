@@ -14,35 +14,8 @@ use Rattle.kt_history.specs.declared.target.Target.TheVariants as stores
 use Rattle.kt_records.specs.declared.entry.CommitRow.{CommitRow}
 use Rattle.kt_records.specs.declared.entry.Entry.{Entry}
 use Rattle.kt_records.specs.declared.entry.Entry.TheVariants.{Replicate, Commit}
-use Rattle.kt_records.specs.declared.refusal.CodecNo.{CodecNo}
-use Rattle.kt_records.specs.declared.refusal.CodecNo.TheVariants as no
-use Rattle.kt_records.specs.declared.refusal.Stop.{Stop}
-use Rattle.kt_records.specs.declared.refusal.Stop.TheVariants as stop
+use Rattle.kt_bytes.specs.Reading.{◌>>=◌, number_at, bytes_at, counted_at, many_at, with_offset}
 use Rattle.kt_records.specs.Rules.{next_id, may_list, has_key, may_change, may_hold}
-
-infixl 10 ◌>>=◌
-abbrev pub ◌>>=◌ : {A B : Type 0} → Result A ℕ → (A → Result B ℕ) → Result B ℕ
-(Ok x) >>= f = f x
-(Err left) >>= f = Err left
-
--- what a function returned, seen by view, is what reading gives, unless memory ran out
-abbrev pub Fails : {Y : Type 0} → Stop → Result Y ℕ → Type 0
-Fails stop.Memory read = Unit {0}
-Fails (stop.Left left) read = read ≡ Err left
-
-abbrev pub Gives : {X Y : Type 0} → (X → Y) → Result X Stop → Result Y ℕ → Type 0
-Gives view (Ok x) read = read ≡ Ok (view x)
-Gives view (Err e) read = Fails e read
-
--- A field is a value and the bytes after it.
-abbrev pub number_at : Width → List ℕ → Result (ℕ × List ℕ) ℕ
-number_at w bytes = if nat_lt (length bytes) (byte_len w) then Err 0 else Ok (from_le_bytes w (take (byte_len w) bytes), drop (byte_len w) bytes)
-
--- so many bytes behind their count
-unfoldable pub bytes_at : List ℕ → Result (List ℕ × List ℕ) ℕ
-bytes_at bytes = do
-  n ← number_at w32 bytes
-  if nat_lt (length n.1) n.0 then Err 0 else Ok (take n.0 n.1, drop n.0 n.1)
 
 unfoldable pub flag_at : List ℕ → Result (Bool × List ℕ) ℕ
 flag_at [] = Err 0
@@ -60,7 +33,7 @@ cell_at (suc (suc zero) ∷ rest) = do
   n ← number_at w64 rest
   Ok (cells.Int (cast_signed w64 n.0), n.1)
 cell_at (suc (suc (suc zero)) ∷ rest) = do
-  text ← bytes_at rest
+  text ← counted_at w32 rest
   Ok (cells.Bytes text.0, text.1)
 cell_at (suc (suc (suc (suc b))) ∷ rest) = Err (suc (length rest))
 
@@ -71,13 +44,6 @@ listed_cell_at front bytes = do
   if nat_lt id.0 (next_id front) then Err (length bytes) else do
     c ← cell_at id.1
     Ok ((id.0, c.0), c.1)
-
--- so many items, each read behind those before it
-unfoldable pub many_at : {X : Type 0} → (List X → List ℕ → Result (X × List ℕ) ℕ) → ℕ → List X → List ℕ → Result (List X × List ℕ) ℕ
-many_at item zero front bytes = Ok (front, bytes)
-many_at item (suc n) front bytes = do
-  x ← item front bytes
-  many_at item n (front ++ x.0 ∷ []) x.1
 
 -- cells by rising id behind their count
 unfoldable pub cells_at : List ℕ → Result (List (ℕ × Cell) × List ℕ) ℕ
@@ -107,7 +73,8 @@ kind_at (suc (suc (suc (suc (suc (suc (suc (suc b))))))) ∷ rest) = Err (suc (l
 unfoldable pub new_key_at : List RowOp → List ℕ → Result (List ℕ × List ℕ) ℕ
 new_key_at front bytes = do
   n ← number_at w16 bytes
-  if nat_lt (length n.1) n.0 then Err 0 else (if has_key front (take n.0 n.1) then Err (length n.1) else Ok (take n.0 n.1, drop n.0 n.1))
+  key ← bytes_at n.0 n.1
+  if has_key front key.0 then Err (length n.1) else Ok key
 
 unfoldable pub operation_at : List RowOp → List ℕ → Result (RowOp × List ℕ) ℕ
 operation_at front bytes = do
@@ -175,17 +142,6 @@ whole_at bytes = do
   entry ← entry_at bytes
   if length entry.1 == 0 then Ok entry.0 else Err (length entry.1)
 
--- the offset of a fault among so many bytes
-abbrev pub with_offset : ℕ → Result Entry ℕ → Result Entry ℕ
-with_offset total (Ok entry) = Ok entry
-with_offset total (Err left) = Err (total - left)
-
 -- the record that all of the bytes spell, or the offset of the first fault
 abbrev pub record_of : List ℕ → Result Entry ℕ
 record_of bytes = with_offset (length bytes) (whole_at bytes)
-
--- this was answered, unless memory ran out
-abbrev pub Answers : Result Entry CodecNo → Result Entry ℕ → Type 0
-Answers (Ok entry) read = read ≡ Ok entry
-Answers (Err (no.Place offset)) read = read ≡ Err offset
-Answers (Err no.Memory) read = Unit {0}

@@ -1,11 +1,13 @@
 //! Lists of cells, read from the front of some bytes.
 ghost use Rattle.std.specs.Prelude.{◌≡◌, []};
 ghost use Rattle.kt_records.specs.Rules.{next_id};
-ghost use Rattle.kt_records.specs.Reading.{Gives, listed_cell_at, cells_at, many_at};
+ghost use Rattle.kt_bytes.specs.Reading.{Gives, many_at};
+ghost use Rattle.kt_records.specs.Reading.{listed_cell_at, cells_at};
 
-use crate::fields::{cell_of, u16_of};
-use crate::refusal::Stop;
+use crate::fields::cell_of;
 use kt_base::{Cell, Cells};
+use kt_bytes::Stop;
+use kt_bytes::fields::u16_at;
 use std::alloc::Global;
 
 fn least_id(cells: &[(u16, Cell)]) -> u32
@@ -25,7 +27,7 @@ fn listed_cell_of<'a>(
 ) -> Result<((u16, Cell), &'a [u8]), Stop>
     ensures { Gives (λ x. ((x.0.0, x.0.1), x.1.now)) result (listed_cell_at front.now bytes.now) }
 {
-    let (id, rest) = u16_of(bytes)?;
+    let (id, rest) = u16_at(bytes)?;
     if u32::from(id) < least_id(front) {
         return Err(Stop::Left(bytes.len()));
     }
@@ -56,7 +58,7 @@ pub fn counted_cells_of(
 pub fn cells_of(alloc: Global, bytes: &[u8]) -> Result<(Cells, &[u8]), Stop>
     ensures { Gives (λ x. (x.0, x.1.now)) result (cells_at bytes.now) }
 {
-    let (count, rest) = u16_of(bytes)?;
+    let (count, rest) = u16_at(bytes)?;
     let (cells, rest) = counted_cells_of(alloc, count, rest)?;
     Ok((Cells::of(cells), rest))
 }

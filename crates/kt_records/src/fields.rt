@@ -3,67 +3,28 @@
 //! Each function gives the field and the bytes after it, or `Stop::Left` with how many bytes stand from the fault to the
 //! end: none where bytes are missing, and all from the field's first byte on where the field is wrong.
 ghost use Rattle.std.specs.Prelude.{◌≡◌};
-ghost use Rattle.std.specs.Int.{w16, w32, w64};
+ghost use Rattle.std.specs.Int.{w32};
 ghost use Rattle.kt_records.specs.Rules.{has_key};
-ghost use Rattle.kt_records.specs.Reading.{Gives, number_at, bytes_at, flag_at, cell_at, kind_at, new_key_at, outcome_at, target_at};
+ghost use Rattle.kt_bytes.specs.Reading.{Gives, counted_at};
+ghost use Rattle.kt_records.specs.Reading.{flag_at, cell_at, kind_at, new_key_at, outcome_at, target_at};
 
-use crate::refusal::Stop;
 use kt_base::{Cell, Octets};
+use kt_bytes::Stop;
+use kt_bytes::fields::{front_of, u16_at, u32_at, u64_at};
 use kt_history::{OpKind, Outcome, RowOp, Target};
 use std::alloc::Global;
 
-/// A number of 16 bits, its least byte first.
-pub fn u16_of(bytes: &[u8]) -> Result<(u16, &[u8]), Stop>
-    ensures { Gives (λ x. (x.0, x.1.now)) result (number_at w16 bytes.now) }
+fn text_of(alloc: Global, bytes: &[u8]) -> Result<(Octets, &[u8]), Stop>
+    ensures { Gives (λ x. (x.0, x.1.now)) result (counted_at w32 bytes.now) }
 {
-    if bytes.len() < 2 {
-        return Err(Stop::Left(0));
-    }
-    let (front, rest) = bytes.split_at(2);
-    Ok((u16::from_le_bytes([front[0], front[1]]), rest))
-}
-
-/// A number of 32 bits, its least byte first.
-pub fn u32_of(bytes: &[u8]) -> Result<(u32, &[u8]), Stop>
-    ensures { Gives (λ x. (x.0, x.1.now)) result (number_at w32 bytes.now) }
-{
-    if bytes.len() < 4 {
-        return Err(Stop::Left(0));
-    }
-    let (front, rest) = bytes.split_at(4);
-    let number = u32::from_le_bytes([front[0], front[1], front[2], front[3]]);
-    Ok((number, rest))
-}
-
-/// A number of 64 bits, its least byte first.
-pub fn u64_of(bytes: &[u8]) -> Result<(u64, &[u8]), Stop>
-    ensures { Gives (λ x. (x.0, x.1.now)) result (number_at w64 bytes.now) }
-{
-    if bytes.len() < 8 {
-        return Err(Stop::Left(0));
-    }
-    let (front, rest) = bytes.split_at(8);
-    let number = u64::from_le_bytes([
-        front[0], front[1], front[2], front[3], front[4], front[5], front[6], front[7],
-    ]);
-    Ok((number, rest))
-}
-
-#[tactic(auto, unfolding(crate::specs::Reading::bytes_at))]
-fn bytes_of(alloc: Global, bytes: &[u8]) -> Result<(Octets, &[u8]), Stop>
-    ensures { Gives (λ x. (x.0, x.1.now)) result (bytes_at bytes.now) }
-{
-    let (len, rest) = u32_of(bytes)?;
-    let len = len as usize;
-    if rest.len() < len {
-        return Err(Stop::Left(0));
-    }
-    let (text, rest) = rest.split_at(len);
+    let (len, rest) = u32_at(bytes)?;
+    let (text, rest) = front_of(rest, len as usize)?;
     Ok((Octets::from_slice(alloc, text)?, rest))
 }
 
+/// A byte that says no or yes.
 #[tactic(auto, unfolding(crate::specs::Reading::flag_at))]
-fn flag_of(bytes: &[u8]) -> Result<(bool, &[u8]), Stop>
+pub fn flag_of(bytes: &[u8]) -> Result<(bool, &[u8]), Stop>
     ensures { Gives (λ x. (x.0, x.1.now)) result (flag_at bytes.now) }
 {
     match bytes {
@@ -87,11 +48,11 @@ pub fn cell_of(alloc: Global, bytes: &[u8]) -> Result<(Cell, &[u8]), Stop>
             Ok((Cell::Bool(flag), rest))
         }
         [2, rest @ ..] => {
-            let (number, rest) = u64_of(rest)?;
+            let (number, rest) = u64_at(rest)?;
             Ok((Cell::Int(number.cast_signed()), rest))
         }
         [3, rest @ ..] => {
-            let (text, rest) = bytes_of(alloc, rest)?;
+            let (text, rest) = text_of(alloc, rest)?;
             Ok((Cell::Bytes(text), rest))
         }
         [_, ..] => Err(Stop::Left(bytes.len())),
@@ -131,12 +92,8 @@ pub fn new_key_of<'a>(
 ) -> Result<(Octets, &'a [u8]), Stop>
     ensures { Gives (λ x. (x.0, x.1.now)) result (new_key_at front.now bytes.now) }
 {
-    let (len, rest) = u16_of(bytes)?;
-    let len = len as usize;
-    if rest.len() < len {
-        return Err(Stop::Left(0));
-    }
-    let (key, after) = rest.split_at(len);
+    let (len, rest) = u16_at(bytes)?;
+    let (key, after) = front_of(rest, len as usize)?;
     if is_taken(front, key) {
         return Err(Stop::Left(rest.len()));
     }
@@ -166,12 +123,12 @@ pub fn target_of(bytes: &[u8]) -> Result<(Target, &[u8]), Stop>
     match bytes {
         [] => Err(Stop::Left(0)),
         [1, rest @ ..] => {
-            let (number, rest) = u64_of(rest)?;
+            let (number, rest) = u64_at(rest)?;
             Ok((Target::Mem(number), rest))
         }
         [2, rest @ ..] => {
-            let (rowset, rest) = u64_of(rest)?;
-            let (dms, rest) = u64_of(rest)?;
+            let (rowset, rest) = u64_at(rest)?;
+            let (dms, rest) = u64_at(rest)?;
             Ok((Target::Delta { rowset, dms }, rest))
         }
         [_, ..] => Err(Stop::Left(bytes.len())),

@@ -2,7 +2,7 @@
 //! which says what became of each operation and which stores it changed.
 //!
 //! For the layers above: `spell` appends the one spelling of a record, and `read_record` answers a record exactly
-//! where its bytes are that spelling, or the place of the first fault. It stands on kt_base and kt_history.
+//! where its bytes are that spelling, or the place of the first fault. It stands on kt_bytes, kt_base and kt_history.
 #![tactic(auto)]
 
 pub mod cell_lists;
@@ -11,11 +11,10 @@ pub mod fields;
 pub mod laws;
 mod lists;
 mod reading;
-pub mod refusal;
 mod tail;
 mod writing;
 
 pub use entry::{CommitRow, CommitRows, Entry, RecordList, TargetList};
+pub use kt_bytes::CodecNo;
 pub use reading::read_record;
-pub use refusal::CodecNo;
 pub use writing::spell;

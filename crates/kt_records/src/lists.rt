@@ -1,13 +1,15 @@
 //! Lists behind their counts, read from the front of some bytes.
 ghost use Rattle.std.specs.Prelude.{◌≡◌, ◌<◌, []};
 ghost use Rattle.kt_records.specs.Rules.{may_list, may_change};
-ghost use Rattle.kt_records.specs.Reading.{Gives, cell_list_at, operation_at, target_at, target_list_at, commit_row_at, many_at};
+ghost use Rattle.kt_bytes.specs.Reading.{Gives, many_at};
+ghost use Rattle.kt_records.specs.Reading.{cell_list_at, operation_at, target_at, target_list_at, commit_row_at};
 
 use crate::cell_lists::counted_cells_of;
 use crate::entry::{CommitRow, TargetList};
-use crate::fields::{kind_of, new_key_of, outcome_of, target_of, u16_of};
-use crate::refusal::Stop;
+use crate::fields::{kind_of, new_key_of, outcome_of, target_of};
 use kt_base::Cells;
+use kt_bytes::Stop;
+use kt_bytes::fields::u16_at;
 use kt_history::{OpKind, Outcome, RowOp};
 use std::alloc::Global;
 
@@ -24,7 +26,7 @@ fn lists(kind: OpKind, count: u16) -> bool
 fn cell_list_of(alloc: Global, kind: OpKind, bytes: &[u8]) -> Result<(Cells, &[u8]), Stop>
     ensures { Gives (λ x. (x.0, x.1.now)) result (cell_list_at kind bytes.now) }
 {
-    let (count, rest) = u16_of(bytes)?;
+    let (count, rest) = u16_at(bytes)?;
     if !lists(kind, count) {
         return Err(Stop::Left(bytes.len()));
     }
@@ -69,7 +71,7 @@ fn changes(outcome: Outcome, count: u8) -> bool
     }
 }
 
-#[tactic(auto, unfolding(crate::specs::Reading::many_at))]
+#[tactic(auto, unfolding(kt_bytes::specs::Reading::many_at))]
 fn targets_of(count: u8, bytes: &[u8]) -> Result<(TargetList, &[u8]), Stop>
     requires { count < 3 }
     ensures { Gives (λ x. (x.0, x.1.now)) result (many_at (λ front. target_at) count [] bytes.now) }

@@ -3,12 +3,13 @@ ghost use Rattle.std.specs.Prelude.{◌≡◌, IfOk, Ok};
 ghost use Rattle.kt_records.specs.declared.entry.Entry.{Entry};
 ghost use Rattle.kt_records.specs.Spelling.{spelling};
 ghost use Rattle.kt_records.specs.Rules.{KeepsRules, may_hold};
-ghost use Rattle.kt_records.specs.Reading.{Gives, Answers, replicate_at, commit_at, entry_at, whole_at, record_of};
+ghost use Rattle.kt_bytes.specs.Reading.{Gives, Answers};
+ghost use Rattle.kt_records.specs.Reading.{replicate_at, commit_at, entry_at, whole_at, record_of};
 
 use crate::entry::{CommitRows, Entry};
-use crate::fields::{u16_of, u64_of};
 use crate::lists::{commit_rows_of, operations_of};
-use crate::refusal::{CodecNo, Stop};
+use kt_bytes::fields::{u16_at, u64_at};
+use kt_bytes::{CodecNo, Stop};
 use kt_history::OpList;
 use std::alloc::Global;
 
@@ -22,8 +23,8 @@ fn holds(count: u16) -> bool
 fn replicate_of(alloc: Global, bytes: &[u8]) -> Result<(Entry, &[u8]), Stop>
     ensures { Gives (λ x. (x.0, x.1.now)) result (replicate_at bytes.now) }
 {
-    let (ts, after) = u64_of(bytes)?;
-    let (count, rest) = u16_of(after)?;
+    let (ts, after) = u64_at(bytes)?;
+    let (count, rest) = u16_at(after)?;
     if !holds(count) {
         return Err(Stop::Left(after.len()));
     }
@@ -36,8 +37,8 @@ fn replicate_of(alloc: Global, bytes: &[u8]) -> Result<(Entry, &[u8]), Stop>
 fn commit_of(alloc: Global, bytes: &[u8]) -> Result<(Entry, &[u8]), Stop>
     ensures { Gives (λ x. (x.0, x.1.now)) result (commit_at bytes.now) }
 {
-    let (ts, rest) = u64_of(bytes)?;
-    let (count, rest) = u16_of(rest)?;
+    let (ts, rest) = u64_at(bytes)?;
+    let (count, rest) = u16_at(rest)?;
     let (rows, rest) = commit_rows_of(alloc, count, rest)?;
     let rows = CommitRows::of(rows);
     Ok((Entry::Commit { ts, rows }, rest))
@@ -71,11 +72,7 @@ fn record_from(alloc: Global, bytes: &[u8]) -> Result<Entry, CodecNo>
 {
     match whole_of(alloc, bytes) {
         Ok(entry) => Ok(entry),
-        Err(Stop::Memory) => Err(CodecNo::Memory),
-        Err(Stop::Left(left)) => {
-            let offset = bytes.len().saturating_sub(left) as u64;
-            Err(CodecNo::Place { offset })
-        }
+        Err(stop) => Err(stop.among(bytes.len())),
     }
 }
 

@@ -1,5 +1,5 @@
 use Rattle.std.proofs.Common.{◌≡◌, ◌-◌, []}
-use Rattle.kt_records.specs.Reading.{many_at}
+use Rattle.kt_bytes.specs.Reading.{many_at}
 use Rattle.kt_deltafile.specs.Reading.{record_at}
 use Rattle.kt_deltafile.proofs.reading.records_of.Given as goal
 

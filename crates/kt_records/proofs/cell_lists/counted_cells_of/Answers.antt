@@ -1,6 +1,7 @@
 use Rattle.std.proofs.Common.{[]}
 use Rattle.std.proofs.lemmas.Result.{err_from_is_err_and}
-use Rattle.kt_records.specs.Reading.{many_at, listed_cell_at}
+use Rattle.kt_bytes.specs.Reading.{many_at}
+use Rattle.kt_records.specs.Reading.{listed_cell_at}
 use Rattle.kt_records.proofs.Items.{goes_on, ends, is_done}
 use Rattle.kt_records.proofs.cell_lists.counted_cells_of.Goals as goal
 

@@ -1,5 +1,6 @@
 use Rattle.std.proofs.Common.{◌≡◌, ◌-◌, []}
-use Rattle.kt_records.specs.Reading.{many_at, listed_cell_at}
+use Rattle.kt_bytes.specs.Reading.{many_at}
+use Rattle.kt_records.specs.Reading.{listed_cell_at}
 use Rattle.kt_records.proofs.cell_lists.counted_cells_of.Given as goal
 
 abbrev pub invariant-cells : goal.invariant-cells

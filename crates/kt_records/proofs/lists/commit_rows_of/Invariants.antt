@@ -1,5 +1,6 @@
 use Rattle.std.proofs.Common.{◌≡◌, ◌-◌, []}
-use Rattle.kt_records.specs.Reading.{many_at, commit_row_at}
+use Rattle.kt_bytes.specs.Reading.{many_at}
+use Rattle.kt_records.specs.Reading.{commit_row_at}
 use Rattle.kt_records.proofs.lists.commit_rows_of.Given as goal
 
 abbrev pub invariant-rows : goal.invariant-rows

@@ -1,5 +1,6 @@
 use Rattle.std.proofs.Common.{ap, subst, ◌∙◌, arith}
-use Rattle.kt_records.specs.Reading.{Answers, record_of}
+use Rattle.kt_bytes.specs.Reading.{Answers}
+use Rattle.kt_records.specs.Reading.{record_of}
 use Rattle.kt_records.proofs.Records.{is_found, record_again}
 use Rattle.kt_records.proofs.reading.read_record.Goals as goal
 

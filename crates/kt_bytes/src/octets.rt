@@ -112,6 +112,13 @@ impl Octets {
         Ok(())
     }
 
+    /// Keeps the first bytes, and the room.
+    pub fn truncate(&mut self, len: usize)
+        ensures { self.new ≡ take len self.old }
+    {
+        self.bytes.truncate(len);
+    }
+
     /// Takes all bytes out and keeps the room.
     pub fn clear(&mut self)
         ensures { self.new ≡ [] }
