@@ -29,7 +29,7 @@ use Rattle.kt_content.proofs.Records.{order_front, RowOf, row_of_key, sees_short
 use Rattle.kt_content.proofs.Recovering.{commit_recovered, all_hold}
 use Rattle.kt_content.proofs.RunEvents.{names_end}
 use Rattle.kt_content.proofs.FreshNumbers.{fresh_with_records}
-use Rattle.kt_content.proofs.Stages.{not_told, named-without, without_true, without_below, found_true, stage_stays}
+use Rattle.kt_content.proofs.Stages.{not_told, named-without, without_true, without_below, found_true, stage_stays, key_stands_as}
 use Rattle.kt_content.proofs.Keeping.{with_records-append, low_after-append}
 
 -- the names of a key's row are those that its COMMIT has
@@ -144,18 +144,8 @@ module _ (fill : Row) (super : Super) (live : Resident) (xs : List Entry) (ts : 
           rests (long_is ∙ sym knows) (subst AreTold (sym long_is) (all_told_more front t o targets told_before)) e
 
   end_key : (q : List ℕ) (whole : Hist) → RowsTell fill super short ts ops rows → KeyStands fill super live short q whole → KeyStands fill super (ended ts live) long q whole
-  end_key q whole tells k = record {
-    mark = k.mark;
-    low = k.low;
-    known = k.known;
-    held = k.held;
-    shows = k.shows;
-    is = k.is;
-    shown = k.shown;
-    mirrors = k.mirrors;
-    up = k.up;
-    stage = stage_ends q k.mark k.held k.shows whole k.known (row_of_key fill super short q ts ops rows tells) k.stage;
-  }
+  end_key q whole tells k =
+      key_stands_as fill super live (ended ts live) short long q whole whole k k.mirrors k.up (stage_ends q k.mark k.held k.shows whole k.known (row_of_key fill super short q ts ops rows tells) k.stage)
 
 pub end_keeps : an_end_keeps_a_superblock
 end_keeps rules fill super durable run past live ts flying log s flies stands below =

@@ -45,7 +45,7 @@ use Rattle.kt_content.proofs.Replacing.{raised_is_one, ops_raised}
 use Rattle.kt_content.proofs.RunEvents.{names_begin}
 use Rattle.kt_content.proofs.Applying.{moves, no_moves, applied_mirrors, unchanged_mirrors}
 use Rattle.kt_content.proofs.FreshNumbers.{fresh_with_records}
-use Rattle.kt_content.proofs.Stages.{same_before, same_with_op, before_op, up_to_with_op, up_to_more, last_same, not_told, names-row_other, names-row_same, row_true, row_below, below_more, stage_stays}
+use Rattle.kt_content.proofs.Stages.{same_before, same_with_op, before_op, up_to_with_op, up_to_more, last_same, not_told, names-row_other, names-row_same, row_true, row_below, below_more, stage_stays, key_stands_as}
 use Rattle.kt_content.proofs.Options.{two_oks}
 
 -- runs that go on
@@ -87,36 +87,17 @@ begun_same live ts q = let same : (ts == ts) ≡ true = grind (arith, nat_tests)
 
 begin_apart : (fill : Row) (super : Super) (live : Resident) (records all : List Entry) (q : List ℕ) (whole later : Hist) (ts : ℕ) → live.last < ts → seen q all all ≡ seen q records records → later ≡ whole
     → KeyStands fill super live records q whole → KeyStands fill super (begun ts live) all q later
-begin_apart fill super live records all q whole later ts lt sees same k = record {
-  mark = k.mark;
-  low = k.low;
-  known = k.known;
-  held = k.held;
-  shows = k.shows;
-  is = k.is;
-  shown = k.shown;
-  mirrors = k.mirrors;
-  up = up_to_more live.last ts k.shows.steps (omega arith) k.up;
-  stage = subst (λ (l : List KeyOp). Stage fill super k.mark (begun ts live) q k.held k.shows later l k.known) (sym sees)
-      (subst (λ (w : Hist). Stage fill super k.mark (begun ts live) q k.held k.shows w (seen q records records) k.known) (sym same)
-      (stage_stays fill super k.mark live (begun ts live) q k.held k.shows whole (seen q records records) k.known (omega arith) (λ front t op is le. begun_other live ts q t lt le) k.stage));
-}
+begin_apart fill super live records all q whole later ts lt sees same k =
+    key_stands_as fill super live (begun ts live) records all q whole later k k.mirrors (up_to_more live.last ts k.shows.steps (omega arith) k.up)
+    (subst (λ (l : List KeyOp). Stage fill super k.mark (begun ts live) q k.held k.shows later l k.known) (sym sees)
+    (subst (λ (w : Hist). Stage fill super k.mark (begun ts live) q k.held k.shows w (seen q records records) k.known) (sym same)
+    (stage_stays fill super k.mark live (begun ts live) q k.held k.shows whole (seen q records records) k.known (omega arith) (λ front t op is le. begun_other live ts q t lt le) k.stage)))
 
 begin_on : (fill : Row) (super : Super) (live : Resident) (records all : List Entry) (q : List ℕ) (whole later : Hist) (ts : ℕ) (op : RowOp) → live.last < ts → super.a ≤ live.last
     → seen q all all ≡ seen q records records ++ untold ts op ∷ [] → AreTold (seen q records records) → later ≡ with_op fill ts op whole
     → KeyStands fill super live records q whole → KeyStands fill super (begun ts live) all q later
-begin_on fill super live records all q whole later ts op lt up sees each same k = record {
-  mark = k.mark;
-  low = k.low;
-  known = k.known;
-  held = k.held;
-  shows = k.shows;
-  is = k.is;
-  shown = k.shown;
-  mirrors = k.mirrors;
-  up = up_to_more live.last ts k.shows.steps (omega arith) k.up;
-  stage = next k.stage;
-}
+begin_on fill super live records all q whole later ts op lt up sees each same k =
+    key_stands_as fill super live (begun ts live) records all q whole later k k.mirrors (up_to_more live.last ts k.shows.steps (omega arith) k.up) (next k.stage)
   where
     next : Stage fill super k.mark live q k.held k.shows whole (seen q records records) k.known → Stage fill super k.mark (begun ts live) q k.held k.shows later (seen q all all) k.known
     next (rests is told e) =
@@ -184,18 +165,11 @@ look_keeps rules fill super durable run past live ts s le = record {
   recovered = s.recovered;
   up = let a = s.up in omega arith;
   below = below_more live.last ts live.named le s.below;
-  keys = λ q. let k = s.keys q in record {
-    mark = k.mark;
-    low = k.low;
-    known = k.known;
-    held = k.held;
-    shows = k.shows;
-    is = k.is;
-    shown = k.shown;
-    mirrors = k.mirrors;
-    up = up_to_more live.last ts k.shows.steps le k.up;
-    stage = stage_stays fill super k.mark live (looked ts live) q k.held k.shows (past_hist q (raise (with_records fill past run) super.a)) (seen q (durable ++ run) (durable ++ run)) k.known le (λ front t op is at. refl) k.stage;
-  };
+  keys = λ q.
+      let k = s.keys q in
+      let whole = past_hist q (raise (with_records fill past run) super.a) in
+      key_stands_as fill super live (looked ts live) (durable ++ run) (durable ++ run) q whole whole k k.mirrors (up_to_more live.last ts k.shows.steps le k.up)
+      (stage_stays fill super k.mark live (looked ts live) q k.held k.shows whole (seen q (durable ++ run) (durable ++ run)) k.known le (λ front t op is at. refl) k.stage);
   names = s.names;
   numbers = s.numbers;
 }
@@ -287,19 +261,10 @@ module _ (rules : Rules) (fill : Row) (super : Super) (durable run : List Entry)
       key q here true e = subst (λ (k : List ℕ). KeyStands fill super later (durable ++ run) k (history k)) (sym (same_key q op.key e)) here.key
       key q here false e =
           let k = s.keys q in
-          record {
-            mark = k.mark;
-            low = k.low;
-            known = k.known;
-            held = k.held;
-            shows = k.shows;
-            is = k.is;
-            shown = k.shown;
-            mirrors = subst (λ (st : Stores). Mirrors k.mark super st k.held) (sym (others q e)) k.mirrors;
-            up = k.up;
-            stage = stage_stays fill super k.mark live later q k.held k.shows (history q) (seen q (durable ++ run) (durable ++ run)) k.known (omega arith)
-                (λ front t o is le. names-row_other fill super (durable ++ run) live.named ts op row q t s.names e) k.stage;
-          }
+          key_stands_as fill super live later (durable ++ run) (durable ++ run) q (history q) (history q) k
+          (subst (λ (st : Stores). Mirrors k.mark super st k.held) (sym (others q e)) k.mirrors) k.up
+          (stage_stays fill super k.mark live later q k.held k.shows (history q) (seen q (durable ++ run) (durable ++ run)) k.known (omega arith)
+          (λ front t o is le. names-row_other fill super (durable ++ run) live.named ts op row q t s.names e) k.stage)
 
 pub row_applied_keeps : an_applied_row_keeps_a_superblock
 row_applied_keeps rules fill super durable run past live ts op row stores log s n t =

@@ -18,33 +18,13 @@ use Rattle.kt_histlaws.specs.Jobs.{AreAlike, push_all}
 use Rattle.kt_histlaws.proofs.OneKey.{first-on_nth, map-on_nth, row-push_from}
 use Rattle.kt_histlaws.proofs.Applying.{rows-settled}
 use Rattle.kt_histlaws.proofs.Fitting.{sound_push}
-use Rattle.kt_histlaws.proofs.Jobs.{swap_alike, filled_push}
+use Rattle.kt_histlaws.proofs.Jobs.{swap_alike, filled_push, alone-on_nth, length-on_nth, joined_pushes, no_pushes}
 use Rattle.kt_content.specs.Files.{records_for, records_in, put_rising, rising, falling, row_with}
 use Rattle.kt_content.specs.InMemory.{same_name, joined_name}
 use Rattle.kt_content.specs.MissedChanges.{is_insert, FitInTurn, missed_changes_are_put_in, a_swap_makes_a_job_that_duplicates, AreFilled, a_change_leaves_what_is_missed, a_file_has_the_missed_changes}
 use Rattle.kt_content.specs.MissedChanges.PutIn.{nothing, changes}
 
 -- changes put in one after the other
-
-length-on_nth : {A : Type 0} (i : ℕ) (f : A → A) (xs : List A) → length (on_nth i f xs) ≡ length xs
-length-on_nth i f [] = refl
-length-on_nth zero f (x ∷ xs) = refl
-length-on_nth (suc i) f (x ∷ xs) = ap suc (length-on_nth i f xs)
-
-alone-on_nth : {A : Type 0} (i : ℕ) (f : Option A → Option A) (xs : List (Option A)) → Alone i xs → Alone i (on_nth i f xs)
-alone-on_nth i f [] h = absurd h
-alone-on_nth zero f (x ∷ xs) h = h
-alone-on_nth (suc i) f (x ∷ xs) h = (h.0, alone-on_nth i f xs h.1)
-
-pushes_join : (i ts : ℕ) (c : Change) (steps : Steps) (hs : List Hist) → on_nth i (push_all steps) (on_nth i (push ts c) hs) ≡ on_nth i (push_all ((ts, c) ∷ steps)) hs
-pushes_join i ts c steps [] = refl
-pushes_join zero ts c steps (h ∷ hs) = ap (λ s. record h { steps = s } ∷ hs) (append_assoc h.steps ((ts, c) ∷ []) steps)
-pushes_join (suc i) ts c steps (h ∷ hs) = ap (λ r. h ∷ r) (pushes_join i ts c steps hs)
-
-pushes_none : (i : ℕ) (hs : List Hist) → hs ≡ on_nth i (push_all []) hs
-pushes_none i [] = refl
-pushes_none zero (h ∷ hs) = ap (λ s. record h { steps = s } ∷ hs) (sym (append-nil h.steps))
-pushes_none (suc i) (h ∷ hs) = ap (λ r. h ∷ r) (pushes_none i hs)
 
 under_more : (low high : ℕ) (steps : Steps) → low ≤ high → Under low steps → Under high steps
 under_more low high [] le u = tt
@@ -84,7 +64,7 @@ is_made Del (Some old) no_insert there = refl
 
 missed_sound : (j bound k : ℕ) (missed : Steps) (outs : List Hist) → AreSound j outs → j ≤ bound → Rises bound missed → k < length outs → ((t : ℕ) → bound < t → Alone k (map (row_of t) outs))
     → AllUnder (suc bound) outs → FitInTurn missed (first_some (map (row_of bound) outs)) → AreSound j (on_nth k (push_all missed) outs)
-missed_sound j bound k [] outs s le r long alone under fit = subst (λ (l : List Hist). AreSound j l) (pushes_none k outs) s
+missed_sound j bound k [] outs s le r long alone under fit = subst (λ (l : List Hist). AreSound j l) (no_pushes k outs) s
 missed_sound j bound k (m ∷ missed) outs s le r long alone under fit =
     let later : List Hist = on_nth k (push m.0 m.1) outs in
     let here : first_some (map (row_of m.0) outs) ≡ first_some (map (row_of bound) outs) = ap first_some (rows-settled (suc bound) m.0 bound outs under (omega (arith, r.0)) (omega arith)) in
@@ -95,7 +75,7 @@ missed_sound j bound k (m ∷ missed) outs s le r long alone under fit =
     let row : first_some (map (row_of m.0) later) ≡ apply m.1 (first_some (map (row_of bound) outs)) =
     ap first_some (map-on_nth k (push m.0 m.1) (row_of m.0) (apply m.1) (λ h. row-push_from m.0 m.0 m.1 h (omega arith)) outs)
     ∙ first-on_nth k (apply m.1) (map (row_of m.0) outs) (alone m.0 (omega (arith, r.0))) ∙ ap (apply m.1) here in
-    subst (λ (l : List Hist). AreSound j l) (pushes_join k m.0 m.1 missed outs)
+    subst (λ (l : List Hist). AreSound j l) (joined_pushes k m.0 m.1 missed outs)
     (missed_sound j m.0 k missed later next (omega (arith, r.0)) r.1 (subst (λ n. k < n) (sym (length-on_nth k (push m.0 m.1) outs)) long)
     (λ t lt. subst (Alone k) (sym (map-on_nth k (push m.0 m.1) (row_of t) (apply m.1) (λ h. row-push_from t m.0 m.1 h (omega arith)) outs)) (alone-on_nth k (apply m.1) (map (row_of t) outs) (alone t (omega (arith, r.0)))))
     (all_under_pushed k m.0 m.1 outs up) (subst (FitInTurn missed) (sym row) fit.2))

@@ -15,12 +15,13 @@ use Rattle.kt_histlaws.specs.Flights.{UpTo}
 use Rattle.kt_histlaws.proofs.OneKey.{row-push_below, row-push_from, step-push_other, step-push_at}
 use Rattle.kt_histlaws.proofs.Pending.{itself}
 use Rattle.kt_content.specs.Places.{Super, Held, row_before}
-use Rattle.kt_content.specs.KeyOps.{KeyOp}
+use Rattle.kt_content.specs.KeyOps.{KeyOp, seen}
+use Rattle.kt_content.specs.InMemory.{Mirrors}
 use Rattle.kt_content.specs.Content.{AreTold, SameFrom}
 use Rattle.kt_content.specs.MoreOps.{untold, told, with_change, with_op}
 use Rattle.kt_content.specs.Records.{RowsTell, TellsIn}
 use Rattle.kt_content.specs.RunEvents.{Named, NamesAreTrue, AllBelow}
-use Rattle.kt_content.specs.Recoverable.{Resident, named_at, row_names, names_in, names_of, Stage}
+use Rattle.kt_content.specs.Recoverable.{Resident, named_at, row_names, names_in, names_of, Stage, KeyStands}
 use Rattle.kt_content.specs.Recoverable.Stage.{rests, waits, applied}
 use Rattle.kt_content.specs.Keeping.{row_more, with_row, without}
 use Rattle.kt_content.proofs.MoreOps.{before_is}
@@ -214,3 +215,9 @@ stage_stays fill super mark live later q held shows whole logged known le same (
 stage_stays fill super mark live later q held shows whole logged known le same (waits ts op is told lt up at none under e) = waits ts op is told lt up (omega arith) (same known ts op is at ∙ none) under e
 stage_stays fill super mark live later q held shows whole logged known le same (applied front ts op targets is knows told lt up at some tells e) =
     applied front ts op targets is knows told lt up (omega arith) (same front ts op is at ∙ some) tells e
+
+-- one key stands for another memory and other records as well as before: what was found of it stays
+pub key_stands_as : (fill : Row) (super : Super) (was now : Resident) (records all : List Entry) (q : List ℕ) (whole later : Hist) (k : KeyStands fill super was records q whole)
+    → Mirrors k.mark super (now.stores q) k.held → UpTo now.last k.shows.steps → Stage fill super k.mark now q k.held k.shows later (seen q all all) k.known → KeyStands fill super now all q later
+key_stands_as fill super was now records all q whole later k mirrors up stage =
+    record { mark = k.mark; low = k.low; known = k.known; held = k.held; shows = k.shows; is = k.is; shown = k.shown; mirrors = mirrors; up = up; stage = stage }

@@ -9,7 +9,7 @@ use Rattle.kt_content.specs.InMemory.{Name, Stores, stands_for, is_at, group, Mi
 use Rattle.kt_content.specs.Recoverable.Stage.{rests}
 use Rattle.kt_content.specs.Keeping.{fresh_tablet, a_fresh_tablet_stands, with_stores, ShowTheSame, alike_stores_keep_a_superblock, other_stores_keep_a_superblock, a_store_that_stands_for_none_is_in_no_group, Comes, a_freeze_keeps_a_superblock}
 use Rattle.kt_content.proofs.InMemory.{group_other}
-use Rattle.kt_content.proofs.Stages.{stage_stays}
+use Rattle.kt_content.proofs.Stages.{stage_stays, key_stands_as}
 use Rattle.kt_content.proofs.Fresh.{fresh_empty, nothing_shown}
 use Rattle.kt_content.proofs.Lending.{alike_to_never}
 
@@ -57,18 +57,11 @@ alike_keep rules fill super durable run past live stores names numbers s same fr
   recovered = s.recovered;
   up = s.up;
   below = s.below;
-  keys = λ q. let k = s.keys q in record {
-    mark = k.mark;
-    low = k.low;
-    known = k.known;
-    held = k.held;
-    shows = k.shows;
-    is = k.is;
-    shown = k.shown;
-    mirrors = shows_mirrors super (live.stores q) (stores q) k.mark k.held (same q) k.mirrors;
-    up = k.up;
-    stage = stage_stays fill super k.mark live (with_stores stores names numbers live) q k.held k.shows (past_hist q (raise (with_records fill past run) super.a)) (seen q (durable ++ run) (durable ++ run)) k.known (omega arith) (λ front t op is le. refl) k.stage;
-  };
+  keys = λ q.
+      let k = s.keys q in
+      let whole = past_hist q (raise (with_records fill past run) super.a) in
+      key_stands_as fill super live (with_stores stores names numbers live) (durable ++ run) (durable ++ run) q whole whole k (shows_mirrors super (live.stores q) (stores q) k.mark k.held (same q) k.mirrors) k.up
+      (stage_stays fill super k.mark live (with_stores stores names numbers live) q k.held k.shows whole (seen q (durable ++ run) (durable ++ run)) k.known (omega arith) (λ front t op is le. refl) k.stage);
   names = s.names;
   numbers = fresh;
 }

@@ -87,22 +87,22 @@ filled_push missed out full ts c f = record {
 }
 
 -- the swap: what went to the inputs alone since the bound, put into the outputs, makes them show the same
-alone-on_nth : {A : Type 0} (i : ℕ) (f : Option A → Option A) (xs : List (Option A)) → Alone i xs → Alone i (on_nth i f xs)
+pub alone-on_nth : {A : Type 0} (i : ℕ) (f : Option A → Option A) (xs : List (Option A)) → Alone i xs → Alone i (on_nth i f xs)
 alone-on_nth i f [] h = absurd h
 alone-on_nth zero f (x ∷ xs) h = h
 alone-on_nth (suc i) f (x ∷ xs) h = (h.0, alone-on_nth i f xs h.1)
 
-length-on_nth : {A : Type 0} (i : ℕ) (f : A → A) (xs : List A) → length (on_nth i f xs) ≡ length xs
+pub length-on_nth : {A : Type 0} (i : ℕ) (f : A → A) (xs : List A) → length (on_nth i f xs) ≡ length xs
 length-on_nth i f [] = refl
 length-on_nth zero f (x ∷ xs) = refl
 length-on_nth (suc i) f (x ∷ xs) = ap suc (length-on_nth i f xs)
 
-joined_pushes : (i ts : ℕ) (c : Change) (steps : Steps) (hs : List Hist) → on_nth i (push_all steps) (on_nth i (push ts c) hs) ≡ on_nth i (push_all ((ts, c) ∷ steps)) hs
+pub joined_pushes : (i ts : ℕ) (c : Change) (steps : Steps) (hs : List Hist) → on_nth i (push_all steps) (on_nth i (push ts c) hs) ≡ on_nth i (push_all ((ts, c) ∷ steps)) hs
 joined_pushes i ts c steps [] = refl
 joined_pushes zero ts c steps (h ∷ hs) = ap (λ s. record h { steps = s } ∷ hs) (append_assoc h.steps ((ts, c) ∷ []) steps)
 joined_pushes (suc i) ts c steps (h ∷ hs) = ap (λ r. h ∷ r) (joined_pushes i ts c steps hs)
 
-no_pushes : (i : ℕ) (hs : List Hist) → hs ≡ on_nth i (push_all []) hs
+pub no_pushes : (i : ℕ) (hs : List Hist) → hs ≡ on_nth i (push_all []) hs
 no_pushes i [] = refl
 no_pushes zero (h ∷ hs) = ap (λ s. record h { steps = s } ∷ hs) (sym (append-nil h.steps))
 no_pushes (suc i) (h ∷ hs) = ap (λ r. h ∷ r) (no_pushes i hs)
