@@ -4,10 +4,11 @@ use Rattle.std.specs.Int.{w16, to_le_bytes}
 use Rattle.std.proofs.lemmas.List.{append-nil, take-append-drop, length-append, length-map, drop_at, get_or_at}
 use Rattle.std.proofs.lemmas.List.Elements.{All-nil, All-push}
 use Rattle.kt_base.specs.declared.cell.Cell.{Cell}
-use Rattle.kt_records.specs.declared.refusal.Stop.{Stop}
-use Rattle.kt_records.specs.declared.refusal.Stop.TheVariants as stops
-use Rattle.kt_records.specs.Reading.{number_at, Fails}
-use Rattle.kt_records.proofs.Taken.{IsBytes, ok_is, wide16, number_takes, number_again}
+use Rattle.kt_bytes.specs.declared.fault.Stop.{Stop}
+use Rattle.kt_bytes.specs.declared.fault.Stop.TheVariants as stops
+use Rattle.kt_bytes.specs.Reading.{number_at, Fails}
+use Rattle.kt_bytes.proofs.Numbers.{IsBytes, ok_is, wide16, number_again}
+use Rattle.kt_bytes.proofs.Taken.{number_took}
 use Rattle.kt_column.specs.declared.form.Form.{Form}
 use Rattle.kt_column.specs.Columns.{ColumnValue, SpellsColumn, IsColumnFound}
 use Rattle.kt_baseset.specs.declared.schema.ColumnShape.{ColumnShape}
@@ -246,7 +247,7 @@ columns_stop (stops.Left left) rows bytes n behind read why = in_each n behind r
 
 pub columns_found : (rows : ℕ) (bytes : List ℕ) (n : ℕ) (behind : List ℕ) (cs : List HeldColumn) (rest : List ℕ) → IsBytes bytes → number_at w16 bytes ≡ Ok (n, behind) → ReadsEach rows n behind cs rest → ReadsColumns rows bytes cs rest
 columns_found rows bytes n behind cs rest fits read r =
-    let t = number_takes w16 (2 ^ 16) wide16 bytes (n, behind) fits read in
+    let t = number_took w16 (2 ^ 16) wide16 bytes (n, behind) fits read in
     let count : List ℕ = to_le_bytes w16 (length cs) in
     let whole : bytes ≡ count ++ behind = t.parts ∙ ap (λ (m : ℕ). to_le_bytes w16 m ++ behind) (sym r.count) in
     record {

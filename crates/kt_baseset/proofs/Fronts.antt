@@ -3,10 +3,10 @@ use Rattle.std.proofs.Common.{◌≡◌, ℕ, List, ◌++◌, length, take, drop
 use Rattle.std.specs.Int.{w32, to_le_bytes}
 use Rattle.std.proofs.lemmas.List.{take-append-drop, length-map, drop_at}
 use Rattle.kt_base.specs.declared.cell.Cell.{Cell}
-use Rattle.kt_records.specs.declared.refusal.Stop.{Stop}
-use Rattle.kt_records.specs.declared.refusal.Stop.TheVariants as stops
-use Rattle.kt_records.specs.Reading.{Fails}
-use Rattle.kt_records.proofs.Taken.{IsBytes, ok_is}
+use Rattle.kt_bytes.specs.declared.fault.Stop.{Stop}
+use Rattle.kt_bytes.specs.declared.fault.Stop.TheVariants as stops
+use Rattle.kt_bytes.specs.Reading.{Fails}
+use Rattle.kt_bytes.proofs.Numbers.{IsBytes, ok_is}
 use Rattle.kt_column.specs.declared.form.Form.TheVariants.{Keys}
 use Rattle.kt_column.specs.Columns.{ColumnValue, SpellsColumn, IsColumnFound}
 use Rattle.kt_lookup.specs.Index.{Rises}

@@ -4,7 +4,7 @@ use Rattle.std.specs.Int.{w16, w32, to_le_bytes}
 use Rattle.std.specs.List.{All}
 use Rattle.std.proofs.lemmas.List.{length-map}
 use Rattle.std.proofs.lemmas.List.Elements.{All-head, All-tail}
-use Rattle.kt_records.specs.Reading.{number_at}
+use Rattle.kt_bytes.specs.Reading.{number_at}
 use Rattle.kt_base.specs.declared.cell.Cell.{Cell}
 use Rattle.kt_base.specs.declared.cell.Cell.TheVariants as cells
 use Rattle.kt_column.specs.declared.form.Form.{Form}

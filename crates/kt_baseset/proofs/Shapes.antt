@@ -4,8 +4,10 @@ use Rattle.std.specs.Int.{w16, w32, to_le_bytes}
 use Rattle.std.proofs.lemmas.Bool.{eqb-true, leb-true, le-leb, ltb-false, le-ltb}
 use Rattle.kt_base.specs.declared.cell.Kind.{Kind}
 use Rattle.kt_base.specs.declared.cell.Kind.TheVariants as kinds
-use Rattle.kt_records.specs.Reading.{◌>>=◌, number_at, flag_at}
-use Rattle.kt_records.proofs.Taken.{IsBytes, IsBytes-rest, bind_ok, passed, allowed, ok_is, Took, took_as, joined, wide16, wide32, number_takes, number_again}
+use Rattle.kt_bytes.specs.Reading.{◌>>=◌, number_at}
+use Rattle.kt_records.specs.Reading.{flag_at}
+use Rattle.kt_bytes.proofs.Numbers.{IsBytes, IsBytes-rest, bind_ok, passed, allowed, ok_is, wide16, wide32, number_again}
+use Rattle.kt_bytes.proofs.Taken.{Took, took_as, joined, number_took}
 use Rattle.kt_baseset.specs.declared.schema.ColumnShape.{ColumnShape}
 use Rattle.kt_baseset.specs.Spelling.{ktb1, kind_number, flag_number, shape_bytes}
 use Rattle.kt_baseset.specs.Reading.{may_have, rows_at, kind_at, shape_at}
@@ -30,8 +32,8 @@ rows_take bytes n rest fits e =
     let g = allowed (eqb a.0.0 ktb1) (length bytes) (number_at w32 a.0.1 >>= counted a.0) (n, rest) a.2 in
     let b = bind_ok (number_at w32 a.0.1) (counted a.0) (n, rest) g.1 in
     let h = allowed (may_have b.0.0) (length a.0.1) (Ok (b.0.0, b.0.1)) (n, rest) b.2 in
-    let t = number_takes w32 (2 ^ 32) wide32 bytes a.0 fits a.1 in
-    let u = number_takes w32 (2 ^ 32) wide32 a.0.1 b.0 t.rest_fits b.1 in
+    let t = number_took w32 (2 ^ 32) wide32 bytes a.0 fits a.1 in
+    let u = number_took w32 (2 ^ 32) wide32 a.0.1 b.0 t.rest_fits b.1 in
     let word : a.0.0 ≡ ktb1 = eqb-true _ _ g.0 in
     let m = both_true (leb 1 b.0.0) (leb b.0.0 3435973836) h.0 in
     let is : IsFront bytes b.0.0 b.0.1 = record {
@@ -110,7 +112,7 @@ shape_takes least bytes x fits e =
     let g = passed (ltb a.0.0 least) (length bytes) (kind_at a.0.1 >>= flagged a.0.0) x a.2 in
     let b = bind_ok (kind_at a.0.1) (flagged a.0.0) x g.1 in
     let d = bind_ok (flag_at b.0.1) (ends a.0.0 b.0.0) x b.2 in
-    let t = number_takes w16 (2 ^ 16) wide16 bytes a.0 fits a.1 in
+    let t = number_took w16 (2 ^ 16) wide16 bytes a.0 fits a.1 in
     let u = kind_takes a.0.1 b.0 t.rest_fits b.1 in
     let v = flag_takes b.0.1 d.0 u.rest_fits d.1 in
     took_as shape_bytes (IsAbove least) bytes (record { id = a.0.0; kind = b.0.0; nullable = d.0.0 }, d.0.1) x d.2 (record {

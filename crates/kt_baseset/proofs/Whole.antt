@@ -11,8 +11,8 @@ use Rattle.kt_lookup.specs.Tail.{used_of}
 use Rattle.kt_lookup.specs.Filter.{filter_of}
 use Rattle.kt_lookup.specs.Index.{index_of}
 use Rattle.kt_lookup.specs.declared.tails.Differs.{Differs}
-use Rattle.kt_records.specs.declared.refusal.Stop.{Stop}
-use Rattle.kt_records.specs.declared.refusal.Stop.TheVariants as stops
+use Rattle.kt_bytes.specs.declared.fault.Stop.{Stop}
+use Rattle.kt_bytes.specs.declared.fault.Stop.TheVariants as stops
 use Rattle.kt_baseset.specs.declared.schema.ColumnShape.{ColumnShape}
 use Rattle.kt_baseset.specs.declared.rows.KeyedRow.{KeyedRow}
 use Rattle.kt_baseset.specs.declared.held.HeldColumn.{HeldColumn}

@@ -1,7 +1,7 @@
 //! The columns of a base file that are not the key's: made of rows, and read.
 ghost use Rattle.std.specs.Prelude.{◌≡◌, ◌<◌, ◌^◌, ◌++◌, ℕ, List, All, length, IfOk, IfErr, MatchResult};
 ghost use Rattle.kt_base.specs.declared.cell.Cell.{Cell};
-ghost use Rattle.kt_records.specs.declared.refusal.Stop.TheVariants as stops;
+ghost use Rattle.kt_bytes.specs.declared.fault.Stop.TheVariants as stops;
 ghost use Rattle.kt_column.specs.Blocks.{IsCell};
 ghost use Rattle.kt_column.specs.Columns.{IsColumnFound, SpellsColumn};
 ghost use Rattle.kt_baseset.specs.declared.held.HeldColumn.{HeldColumn};
@@ -10,13 +10,14 @@ ghost use Rattle.kt_baseset.specs.Tables as tables;
 ghost use Rattle.kt_baseset.specs.Tables.{HasPlace};
 ghost use Rattle.kt_baseset.specs.Reading.{IsRefusedAt, IsOneFault, IsEachFault, IsColumnsFault, ReadsOne, ReadsEach, ReadsColumns, Stops};
 
-use crate::fields::{after, shape_of, u16_of};
+use crate::fields::{after, shape_of};
 use crate::held::HeldColumn;
 use crate::rows::KeyedRow;
 use crate::schema::ColumnShape;
 use kt_base::NoMemory;
+use kt_bytes::Stop;
+use kt_bytes::fields::u16_at;
 use kt_column::{Cells1, CodecNo, ColumnData, build, decode};
-use kt_records::refusal::Stop;
 use std::alloc::Global;
 
 /// The cells at a place of each row.
@@ -141,7 +142,7 @@ pub fn read_columns(
     ensures only { (columns : List HeldColumn) (rest : List ℕ) → ReadsColumns rows bytes.now columns rest → MatchResult result (λ x. (x.0.items ≡ columns) × (x.1.now ≡ rest)) (λ e. e ≡ stops.Memory) }
     ensures stop { IfErr result (Stops (IsColumnsFault rows bytes.now)) }
 {
-    let (n, behind) = match u16_of(bytes) {
+    let (n, behind) = match u16_at(bytes) {
         Ok(read) => read,
         Err(stop) => return Err(stop),
     };

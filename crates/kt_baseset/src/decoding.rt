@@ -1,6 +1,6 @@
 //! From the bytes of a base file to its base set.
 ghost use Rattle.std.specs.Prelude.{◌≡◌, List, IfOk, IfErr, MatchResult};
-ghost use Rattle.kt_records.specs.declared.refusal.Stop.TheVariants as stops;
+ghost use Rattle.kt_bytes.specs.declared.fault.Stop.TheVariants as stops;
 ghost use Rattle.kt_baseset.specs.declared.errors.CodecNo.TheVariants as answers;
 ghost use Rattle.kt_baseset.specs.declared.schema.ColumnShape.{ColumnShape};
 ghost use Rattle.kt_baseset.specs.declared.rows.KeyedRow.{KeyedRow};
@@ -13,8 +13,8 @@ use crate::baseset::{BaseSet, lookup_of};
 use crate::columns::read_columns;
 use crate::errors::CodecNo;
 use crate::keys::front_of;
+use kt_bytes::Stop;
 use kt_lookup::{KeyList, Lookup};
-use kt_records::refusal::Stop;
 use std::alloc::Global;
 
 /// The filter and the index of the keys, which are all that the bytes are.

@@ -1,13 +1,14 @@
 //! Fields of fixed length, read from the front of some bytes.
 ghost use Rattle.std.specs.Prelude.{◌≡◌, ◌≤◌, drop, length};
-ghost use Rattle.std.specs.Int.{w16, w32};
-ghost use Rattle.kt_records.specs.Reading.{Gives, number_at, flag_at};
+ghost use Rattle.kt_bytes.specs.Reading.{Gives};
 ghost use Rattle.kt_baseset.specs.Spelling.{kind_number};
 ghost use Rattle.kt_baseset.specs.Reading.{rows_at, kind_at, shape_at};
 
 use crate::schema::ColumnShape;
 use kt_base::Kind;
-use kt_records::refusal::Stop;
+use kt_bytes::Stop;
+use kt_bytes::fields::{u16_at, u32_at};
+use kt_records::fields::flag_of;
 
 /// The letters KTB1, as a number.
 const KTB1: u32 = 0x3142544b;
@@ -15,37 +16,16 @@ const KTB1: u32 = 0x3142544b;
 /// The most rows: the length of their filter is still a u32.
 const ROWS: u32 = 3_435_973_836;
 
-pub fn u16_of(bytes: &[u8]) -> Result<(u16, &[u8]), Stop>
-    ensures { Gives (λ x. (x.0, x.1.now)) result (number_at w16 bytes.now) }
-{
-    if bytes.len() < 2 {
-        return Err(Stop::Left(0));
-    }
-    let (front, rest) = bytes.split_at(2);
-    Ok((u16::from_le_bytes([front[0], front[1]]), rest))
-}
-
-fn u32_of(bytes: &[u8]) -> Result<(u32, &[u8]), Stop>
-    ensures { Gives (λ x. (x.0, x.1.now)) result (number_at w32 bytes.now) }
-{
-    if bytes.len() < 4 {
-        return Err(Stop::Left(0));
-    }
-    let (front, rest) = bytes.split_at(4);
-    let number = u32::from_le_bytes([front[0], front[1], front[2], front[3]]);
-    Ok((number, rest))
-}
-
 /// The letters, and how many rows there are.
 #[tactic(auto, unfolding(crate::specs::Reading::rows_at))]
 pub fn rows_of(bytes: &[u8]) -> Result<(u32, &[u8]), Stop>
     ensures { Gives (λ x. (x.0, x.1.now)) result (rows_at bytes.now) }
 {
-    let (word, behind) = u32_of(bytes)?;
+    let (word, behind) = u32_at(bytes)?;
     if word != KTB1 {
         return Err(Stop::Left(bytes.len()));
     }
-    let (rows, rest) = u32_of(behind)?;
+    let (rows, rest) = u32_at(behind)?;
     if 1 <= rows && rows <= ROWS {
         Ok((rows, rest))
     } else {
@@ -70,24 +50,12 @@ fn kind_of(bytes: &[u8]) -> Result<(Kind, &[u8]), Stop>
     }
 }
 
-#[tactic(auto, unfolding(kt_records::specs::Reading::flag_at))]
-fn flag_of(bytes: &[u8]) -> Result<(bool, &[u8]), Stop>
-    ensures { Gives (λ x. (x.0, x.1.now)) result (flag_at bytes.now) }
-{
-    match bytes {
-        [] => Err(Stop::Left(0)),
-        [0, rest @ ..] => Ok((false, rest)),
-        [1, rest @ ..] => Ok((true, rest)),
-        [_, ..] => Err(Stop::Left(bytes.len())),
-    }
-}
-
 /// What a column is. Its id is not below the least one.
 #[tactic(auto, unfolding(crate::specs::Reading::shape_at))]
 pub fn shape_of(least: u32, bytes: &[u8]) -> Result<(ColumnShape, &[u8]), Stop>
     ensures { Gives (λ x. (x.0, x.1.now)) result (shape_at least bytes.now) }
 {
-    let (id, rest) = u16_of(bytes)?;
+    let (id, rest) = u16_at(bytes)?;
     if u32::from(id) < least {
         return Err(Stop::Left(bytes.len()));
     }

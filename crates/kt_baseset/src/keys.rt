@@ -2,7 +2,7 @@
 ghost use Rattle.std.specs.Prelude.{◌≡◌, ◌<◌, ◌+◌, ◌++◌, ◌∷◌, [], ℕ, List, length, IfOk, IfErr, OnOk, MatchResult};
 ghost use Rattle.std.specs.Bool.{OnTrue, OnFalse};
 ghost use Rattle.kt_base.specs.declared.cell.Cell.{Cell};
-ghost use Rattle.kt_records.specs.declared.refusal.Stop.TheVariants as stops;
+ghost use Rattle.kt_bytes.specs.declared.fault.Stop.TheVariants as stops;
 ghost use Rattle.kt_column.specs.declared.form.Form.TheVariants as forms;
 ghost use Rattle.kt_column.specs.Columns.{IsColumnFound, SpellsColumn};
 ghost use Rattle.kt_lookup.specs.Index.{Rises};
@@ -13,9 +13,9 @@ ghost use Rattle.kt_baseset.specs.Reading.{IsRefusedAt, IsKeysFault, ReadsKeys, 
 use crate::fields::{after, rows_of};
 use crate::rows::KeyedRow;
 use kt_base::{Cell, NoMemory};
+use kt_bytes::Stop;
 use kt_column::{Cells1, CodecNo, ColumnData, build_keys, decode_keys};
 use kt_lookup::KeyList;
-use kt_records::refusal::Stop;
 use std::alloc::Global;
 
 /// The keys as cells.

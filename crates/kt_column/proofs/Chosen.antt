@@ -5,7 +5,7 @@ use Rattle.kt_plain.specs.declared.widths.Width.{Width}
 use Rattle.kt_plain.specs.declared.items.Items.{Items}
 use Rattle.kt_plain.specs.declared.items.Items.TheVariants.{Numbers, Texts}
 use Rattle.kt_plain.specs.Spelling as plain
-use Rattle.kt_rle.proofs.Encoded.{spelled_once}
+use Rattle.kt_rle.proofs.Once.{spelled_once}
 use Rattle.kt_front.specs.Spelling as prefix
 use Rattle.kt_front.proofs.Cells.{fits_together}
 use Rattle.kt_column.specs.declared.form.Form.TheVariants.{Cells, Keys}
@@ -115,7 +115,7 @@ still_none form items e before here = λ other others le there.
 -- some encoding may stand
 pub some_stands : (form : Form) (items : Items) → AreValues form items → IsNoneUpTo form items 4 → ⊥
 some_stands (Cells kind nullable) items h none = none Plain (plain.spelling (width (Cells kind nullable)) items) (lit≤ tt) (tt, refl)
-some_stands Keys (Numbers zs) h none = elim h.fits.0 [ ]
+some_stands Keys (Numbers zs) h none = elim h.fits [ ]
 some_stands Keys (Texts ts) h none = none Prefix (prefix.spelling ts) (lit≤ tt) (refl, (fits_together ts (small_texts Keys ts h), refl))
 
 -- one encoding is the shortest

@@ -8,7 +8,8 @@ use Rattle.kt_base.specs.declared.cell.Cell.{Cell}
 use Rattle.kt_base.specs.declared.cell.Cell.TheVariants.{Null, Int, Bool as Bit_, Bytes}
 use Rattle.kt_plain.specs.declared.widths.Width.{Width}
 use Rattle.kt_plain.specs.declared.widths.Width.TheVariants as widths
-use Rattle.kt_plain.specs.Widths.{IsInWidth, IsNumeric}
+use Rattle.kt_plain.specs.declared.widths.NumberWidth.TheVariants as number_widths
+use Rattle.kt_column.specs.Forms.{IsInWidth, IsNumeric}
 use Rattle.kt_plain.specs.Items.{count}
 use Rattle.kt_plain.specs.Spelling as plain
 use Rattle.kt_plain.specs.declared.items.Items.{Items}
@@ -23,13 +24,14 @@ use Rattle.kt_column.specs.Blocks.{IsCellOf, IsCell, AreNullsOf, Held, BlockValu
 use Rattle.kt_column.specs.Faults.{AreNullsFor, FrontNulls, value_count, ReadsContent}
 use Rattle.kt_column.proofs.Weaving.{Each, made_of, cells_len, woven_len, counted, values_stand, len_of_values}
 use Rattle.kt_column.proofs.NullBits.{length-bit_bytes}
+use Rattle.kt_column.proofs.Widths.{fits_numbers, fits_texts}
 
 is_cell_number : (w : Width) (most : ℕ) (z : ℤ) → IsNumeric w → IsInWidth w z → IsCellOf w false most (number_cell w z)
-is_cell_number widths.Bit most z n h = refl
-is_cell_number widths.One most z n h = (λ e. cc, h)
-is_cell_number widths.Two most z n h = (λ e. cc, h)
-is_cell_number widths.Four most z n h = (λ e. cc, h)
-is_cell_number widths.Eight most z n h = (λ e. cc, h)
+is_cell_number (widths.Numbers number_widths.Bit) most z n h = refl
+is_cell_number (widths.Numbers number_widths.One) most z n h = (λ e. cc, h)
+is_cell_number (widths.Numbers number_widths.Two) most z n h = (λ e. cc, h)
+is_cell_number (widths.Numbers number_widths.Four) most z n h = (λ e. cc, h)
+is_cell_number (widths.Numbers number_widths.Eight) most z n h = (λ e. cc, h)
 is_cell_number widths.Bytes most z n h = elim n [ ]
 
 each_numbers : (w : Width) (most : ℕ) (zs : List ℤ) → IsNumeric w → AllByRecursion (IsInWidth w) zs → Each w false most (map (number_cell w) zs)
@@ -41,8 +43,8 @@ each_texts w most [] e h = tt
 each_texts w most (t ∷ ts) e h = ((e, h.0), each_texts w most ts e h.1)
 
 each_values : (w : Width) (most : ℕ) (items : Items) → plain.Fits w items → AreShort most items → Each w false most (value_cells w items)
-each_values w most (Numbers zs) f s = each_numbers w most zs f.0 (recursion_from_All (IsInWidth w) zs f.2)
-each_values w most (Texts ts) f s = each_texts w most ts f.0 (recursion_from_All (λ t. length t ≤ most) ts s)
+each_values w most (Numbers zs) f s = let g = fits_numbers w zs f in each_numbers w most zs g.0 (recursion_from_All (IsInWidth w) zs g.2)
+each_values w most (Texts ts) f s = each_texts w most ts (fits_texts w ts f).0 (recursion_from_All (λ t. length t ≤ most) ts s)
 
 may_be_null : (w : Width) (most : ℕ) (c : Cell) → IsCellOf w false most c → IsCellOf w true most c
 may_be_null w most Null h = refl
@@ -57,16 +59,16 @@ each_woven w most (true ∷ nulls) cs h = (refl, each_woven w most nulls cs h)
 each_woven w most (false ∷ nulls) [] h = tt
 each_woven w most (false ∷ nulls) (c ∷ cs) h = (may_be_null w most c h.0, each_woven w most nulls cs h.1)
 
-bit_again : (z : ℤ) → IsInWidth widths.Bit z → bit (is_one z) ≡ z
+bit_again : (z : ℤ) → IsInWidth (widths.Numbers number_widths.Bit) z → bit (is_one z) ≡ z
 bit_again z (inl h) = rw h refl
 bit_again z (inr h) = rw h refl
 
 one_number : (w : Width) (z : ℤ) (cs : List Cell) → IsNumeric w → IsInWidth w z → numbers_in (number_cell w z ∷ cs) ≡ z ∷ numbers_in cs
-one_number widths.Bit z cs n h = ap (λ x. x ∷ numbers_in cs) (bit_again z h)
-one_number widths.One z cs n h = refl
-one_number widths.Two z cs n h = refl
-one_number widths.Four z cs n h = refl
-one_number widths.Eight z cs n h = refl
+one_number (widths.Numbers number_widths.Bit) z cs n h = ap (λ x. x ∷ numbers_in cs) (bit_again z h)
+one_number (widths.Numbers number_widths.One) z cs n h = refl
+one_number (widths.Numbers number_widths.Two) z cs n h = refl
+one_number (widths.Numbers number_widths.Four) z cs n h = refl
+one_number (widths.Numbers number_widths.Eight) z cs n h = refl
 one_number widths.Bytes z cs n h = elim n [ ]
 
 numbers_again : (w : Width) (zs : List ℤ) → IsNumeric w → AllByRecursion (IsInWidth w) zs → numbers_in (map (number_cell w) zs) ≡ zs
@@ -78,11 +80,11 @@ texts_again [] = refl
 texts_again (t ∷ ts) = ap (λ r. t ∷ r) (texts_again ts)
 
 values_numbers : (w : Width) (cs : List Cell) → IsNumeric w → values_of w cs ≡ Numbers (numbers_in cs)
-values_numbers widths.Bit cs n = refl
-values_numbers widths.One cs n = refl
-values_numbers widths.Two cs n = refl
-values_numbers widths.Four cs n = refl
-values_numbers widths.Eight cs n = refl
+values_numbers (widths.Numbers number_widths.Bit) cs n = refl
+values_numbers (widths.Numbers number_widths.One) cs n = refl
+values_numbers (widths.Numbers number_widths.Two) cs n = refl
+values_numbers (widths.Numbers number_widths.Four) cs n = refl
+values_numbers (widths.Numbers number_widths.Eight) cs n = refl
 values_numbers widths.Bytes cs n = elim n [ ]
 
 numbers_woven : (nulls : List Bool) (cs : List Cell) → numbers_in (weave nulls cs) ≡ numbers_in cs
@@ -105,9 +107,10 @@ texts_woven (false ∷ nulls) (Bytes t ∷ cs) = ap (λ r. t ∷ r) (texts_woven
 
 values_again : (w : Width) (nulls : List Bool) (items : Items) → plain.Fits w items → items ≡ values_of w (weave nulls (value_cells w items))
 values_again w nulls (Numbers zs) f =
-    sym (values_numbers w (weave nulls (map (number_cell w) zs)) f.0 ∙ ap Numbers (numbers_woven nulls (map (number_cell w) zs) ∙ numbers_again w zs f.0 (recursion_from_All (IsInWidth w) zs f.2)))
+    let g = fits_numbers w zs f in
+    sym (values_numbers w (weave nulls (map (number_cell w) zs)) g.0 ∙ ap Numbers (numbers_woven nulls (map (number_cell w) zs) ∙ numbers_again w zs g.0 (recursion_from_All (IsInWidth w) zs g.2)))
 values_again w nulls (Texts ts) f =
-    sym (ap (λ v. values_of v (weave nulls (map Bytes ts))) f.0 ∙ ap Texts (texts_woven nulls (map Bytes ts) ∙ texts_again ts))
+    sym (ap (λ v. values_of v (weave nulls (map Bytes ts))) (fits_texts w ts f).0 ∙ ap Texts (texts_woven nulls (map Bytes ts) ∙ texts_again ts))
 
 not_null : (w : Width) (most : ℕ) (c : Cell) → IsCellOf w false most c → is_null c ≡ false
 not_null w most Null h = sym (absurd (true≢false (sym h)))

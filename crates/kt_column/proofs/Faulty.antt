@@ -1,11 +1,16 @@
 -- A fault stands within the bytes.
-use Rattle.std.proofs.Common.{◌≡◌, ◌≤◌, ◌<◌, ◌+◌, ◌*◌, ◌^◌, ◌⊎◌, inl, inr, ℕ, List, length, drop, arith, refl, sym, subst}
+use Rattle.std.proofs.Common.{◌≡◌, ◌≤◌, ◌<◌, ◌+◌, ◌-◌, ◌^◌, inl, inr, ℕ, List, length, drop, arith, refl, sym, subst}
 use Rattle.std.proofs.lemmas.List.{length-drop}
 use Rattle.kt_plain.specs.declared.widths.Width.{Width}
-use Rattle.kt_plain.specs.Fault as plain
-use Rattle.kt_rle.specs.declared.widths.Width.{Width as RunWidth}
-use Rattle.kt_rle.specs.Fault as run_length
-use Rattle.kt_rle.specs.Runs.{run_len}
+use Rattle.kt_plain.specs.Spelling as plain
+use Rattle.kt_plain.specs.declared.widths.NumberWidth.{NumberWidth as RunWidth}
+use Rattle.kt_rle.specs.Spelling as run_length
+use Rattle.kt_dict.specs.Spelling as dictionary
+use Rattle.kt_front.specs.Spelling as prefix
+use Rattle.kt_front.specs.Reading.{is_rest}
+use Rattle.std.specs.Prelude.{◌&&◌, nat_lt}
+use Rattle.std.specs.List.{concat}
+use Rattle.kt_bytes.specs.Places.{IsFault, IsPlace}
 use Rattle.kt_column.specs.declared.errors.Stop.{Stop}
 use Rattle.kt_column.specs.declared.errors.Stop.TheVariants.{Memory, Fault, Whole}
 use Rattle.kt_column.specs.declared.form.Form.{Form}
@@ -14,7 +19,7 @@ use Rattle.kt_column.specs.declared.form.Encoding.TheVariants.{Plain, RunLength,
 use Rattle.kt_column.specs.Forms.{width}
 use Rattle.kt_column.specs.Values.{run_width}
 use Rattle.kt_column.specs.Reading.{IsFaultOf, IsStop}
-use Rattle.std.proofs.Common.{Bool, true, false, suc, take, ◌∷◌, ◌++◌, ap, ◌∙◌, length-append, length-take}
+use Rattle.std.proofs.Common.{Bool, true, false, cond, suc, take, ◌∷◌, ◌++◌, ap, ◌∙◌, length-append, length-take}
 use Rattle.std.proofs.Math.Seq.{take-append-add}
 use Rattle.std.specs.Int.{w32, to_le_bytes}
 use Rattle.kt_base.specs.declared.cell.Cell.{Cell}
@@ -23,27 +28,35 @@ use Rattle.kt_column.specs.Nulls.{byte_len, null_bytes}
 use Rattle.kt_column.specs.Blocks.{nulls_in}
 use Rattle.kt_column.specs.Faults.{IsShiftable, IsFrontStop, IsContentStop, IsHead, IsHeadFault, IsBody, IsBodyStop, IsFound, IsBodyFault, IsBlockStop, shifted, value_count}
 
-plain_within : (w : Width) (n : ℕ) (bytes : List ℕ) (at place : ℕ) → at ≤ length bytes → plain.IsReported w n bytes at place → place ≤ length bytes
-plain_within w n bytes at place le (inl h) = omega (arith, h.1)
-plain_within w n bytes at place le (inr h) = omega (arith, h.1)
+-- a first fault stands within the bytes
+place_within : (S : List (List ℕ) → Type 0) (bytes : List ℕ) (place : ℕ) → IsFault S bytes place → place ≤ length bytes
+place_within S bytes place f = of S bytes f.front f.rest place f.parts f.at
+  where
+    of : (S : List (List ℕ) → Type 0) (bytes : List ℕ) (front : List (List ℕ)) (rest : List ℕ) (place : ℕ) → bytes ≡ concat front ++ rest → IsPlace S front rest place → place ≤ length bytes
+    of S bytes front rest place parts (inl p) = let len = ap length parts in omega (arith, len, p.3, length-append (concat front) rest)
+    of S bytes front rest place parts (inr p) = let len = ap length parts in omega (arith, len, p.1, length-append (concat front) rest)
 
-run_reported : (w : RunWidth) (n : ℕ) (bytes : List ℕ) (at place : ℕ) → at ≤ length bytes →
-    run_length.Follows w n bytes at place ⊎ (run_length.LacksLength w n bytes at place ⊎ (run_length.WrongLength w n bytes at place ⊎ (run_length.LacksNumber w n bytes at place ⊎ (run_length.WrongNumber w n bytes at place ⊎ run_length.WrongRun w n bytes at place)))) → place ≤ length bytes
-run_reported w n bytes at place le (inl h) = omega (arith, h.2)
-run_reported w n bytes at place le (inr (inl h)) = omega (arith, h.2)
-run_reported w n bytes at place le (inr (inr (inl h))) = omega (arith, h.2)
-run_reported w n bytes at place le (inr (inr (inr (inl h)))) = omega (arith, h.3)
-run_reported w n bytes at place le (inr (inr (inr (inr (inl h))))) = omega (arith, h.0, h.3)
-run_reported w n bytes at place le (inr (inr (inr (inr (inr h))))) = omega (arith, h.4)
+-- what is told at a place or a little before it
+not_later : (b : Bool) (field place len : ℕ) → place ≡ cond b (field - 8) field → field ≤ len → place ≤ len
+not_later true field place len told le = omega (arith, told)
+not_later false field place len told le = omega (arith, told)
 
-run_within : (w : RunWidth) (n : ℕ) (bytes : List ℕ) (place : ℕ) → run_length.IsFault w n bytes place → place ≤ length bytes
-run_within w n bytes place f = run_reported w n bytes (run_len w * f.runs) place f.within f.reported
+-- a fault is told within the bytes
+told_within : (w : RunWidth) (n : ℕ) (bytes : List ℕ) (place : ℕ) → run_length.IsTold w n bytes place → place ≤ length bytes
+told_within w n bytes place f =
+    elim f.told [
+      | inl t ↦
+          let k = t.0 in
+          let four : length (to_le_bytes w32 k.run.len) ≡ 4 = refl in
+          omega (arith, t.1, four, k.begins, ap length k.parts, length-append (concat k.front) (to_le_bytes w32 k.run.len ++ k.rest), length-append (to_le_bytes w32 k.run.len) k.rest)
+      | inr t ↦ omega (arith, t.1, place_within (run_length.Spelled w n) bytes f.at f.fault)
+    ]
 
 pub fault_within : (w : Width) (e : Encoding) (n : ℕ) (bytes : List ℕ) (at : ℕ) → IsFaultOf w e n bytes at → at ≤ length bytes
-fault_within w Plain n bytes at f = plain_within w n bytes f.at at f.within f.reported
-fault_within w RunLength n bytes at f = run_within (run_width w) n bytes at f
-fault_within w Dictionary n bytes at f = omega (arith, f.2)
-fault_within w Prefix n bytes at f = omega (arith, f.2)
+fault_within w Plain n bytes at f = place_within (plain.Spelled w n) bytes at f
+fault_within w RunLength n bytes at f = told_within (run_width w) n bytes at f
+fault_within w Dictionary n bytes at f = place_within (dictionary.Spelled n) bytes at f
+fault_within w Prefix n bytes at f = not_later (is_rest f.fault.front && nat_lt f.field (length bytes)) f.field at (length bytes) f.told (place_within (prefix.Spelled n) bytes f.field f.fault)
 
 pub shiftable : (form : Form) (e : Encoding) (n skip : ℕ) (bytes : List ℕ) (stop : Stop) → skip + length bytes < 2 ^ 64 → IsStop form e n bytes stop → IsShiftable skip stop
 shiftable form e n skip bytes Memory room why = tt

@@ -10,8 +10,8 @@ use Rattle.kt_plain.specs.Items.{count}
 use Rattle.kt_plain.specs.Spelling as plain
 use Rattle.kt_plain.proofs.Decoded.{spells_one}
 use Rattle.kt_rle.specs.Spelling as run_length
-use Rattle.kt_rle.proofs.Encoded as runs
-use Rattle.kt_dict.proofs.Blocks as dictionary
+use Rattle.kt_rle.proofs.Decoded as runs
+use Rattle.kt_dict.proofs.Faults as dictionary
 use Rattle.kt_front.proofs.Blocks as prefix
 use Rattle.kt_column.specs.declared.form.Form.{Form}
 use Rattle.kt_column.specs.declared.form.Encoding.{Encoding}

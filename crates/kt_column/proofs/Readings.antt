@@ -6,40 +6,39 @@ use Rattle.std.proofs.lemmas.List.Sums.{sum_by-le}
 use Rattle.kt_plain.specs.declared.widths.Width.{Width}
 use Rattle.kt_plain.specs.declared.widths.Width.TheVariants as widths
 use Rattle.kt_plain.specs.declared.items.Items.TheVariants.{Numbers, Texts}
-use Rattle.kt_plain.specs.Widths as plain
-use Rattle.kt_rle.specs.declared.widths.Width.{Width as RunWidth}
-use Rattle.kt_rle.specs.Widths as run_length
-use Rattle.kt_rle.specs.Runs.{Run, expand, AreRuns}
+use Rattle.kt_plain.specs.declared.widths.NumberWidth.{NumberWidth as RunWidth}
+use Rattle.kt_plain.specs.Widths as run_length
+use Rattle.kt_rle.specs.declared.runs.Run.{Run}
+use Rattle.kt_rle.specs.Runs.{expand, AreRuns}
 use Rattle.kt_rle.specs.Spelling as runs
 use Rattle.kt_dict.specs.Reading as dictionary
 use Rattle.kt_front.specs.Reading as prefix
 use Rattle.kt_column.specs.declared.form.Form.{Form}
 use Rattle.kt_column.specs.declared.form.Form.TheVariants.{Cells, Keys}
 use Rattle.kt_column.specs.declared.form.Encoding.TheVariants.{RunLength, Dictionary, Prefix}
-use Rattle.kt_column.specs.Forms.{width, limit}
+use Rattle.kt_column.specs.Forms.{width, limit, IsNumeric, IsInWidth}
 use Rattle.kt_column.specs.Values.{run_width, AreValues}
 use Rattle.kt_column.specs.declared.errors.Stop.{Stop}
 use Rattle.kt_column.specs.declared.errors.Stop.TheVariants.{Memory, Fault, Whole}
 use Rattle.kt_column.specs.Reading.{Reads, IsLong, IsStop}
-use Rattle.kt_column.proofs.Widths.{sum_of_concat}
+use Rattle.kt_column.proofs.Widths.{sum_of_concat, numbers_fit_in, texts_fit_in}
 
-in_plain_width : (w : Width) (z : ℤ) → plain.IsNumeric w → run_length.IsInWidth (run_width w) z → plain.IsInWidth w z
-in_plain_width widths.Bit z n h = h
-in_plain_width widths.One z n h = h
-in_plain_width widths.Two z n h = h
-in_plain_width widths.Four z n h = h
-in_plain_width widths.Eight z n h = h
+in_plain_width : (w : Width) (z : ℤ) → IsNumeric w → run_length.IsInWidth (run_width w) z → IsInWidth w z
+in_plain_width (widths.Numbers w) z n h = h
 in_plain_width widths.Bytes z n h = elim n [ ]
 
 all_expanded : (w : RunWidth) (rs : List Run) → AreRuns w rs → All (run_length.IsInWidth w) (flat_map expand rs)
 all_expanded w [] are = All-nil (run_length.IsInWidth w)
 all_expanded w (r ∷ rs) are = All-append (run_length.IsInWidth w) (expand r) (flat_map expand rs) (All-replicate (run_length.IsInWidth w) r.len r.value are.1) (all_expanded w rs are.3)
 
-pub runs_read : (form : Form) (n : ℕ) (bytes : List ℕ) (zs : List ℤ) → plain.IsNumeric (width form) → n ≤ 8192 → runs.Spells (run_width (width form)) n zs bytes → Reads form RunLength n bytes (Numbers zs)
+pub runs_fit : (w : RunWidth) (n : ℕ) (bytes : List ℕ) (zs : List ℤ) → runs.Spells w n zs bytes → All (run_length.IsInWidth w) zs
+runs_fit w n bytes zs s = subst (λ xs. All (run_length.IsInWidth w) xs) (sym s.expanded) (all_expanded w s.runs s.are)
+
+pub runs_read : (form : Form) (n : ℕ) (bytes : List ℕ) (zs : List ℤ) → IsNumeric (width form) → n ≤ 8192 → runs.Spells (run_width (width form)) n zs bytes → Reads form RunLength n bytes (Numbers zs)
 runs_read form n bytes zs numeric few s =
-    let all : All (run_length.IsInWidth (run_width (width form))) zs = subst (λ xs. All (run_length.IsInWidth (run_width (width form))) xs) (sym s.expanded) (all_expanded (run_width (width form)) s.runs s.are) in
+    let all : All (run_length.IsInWidth (run_width (width form))) zs = runs_fit (run_width (width form)) n bytes zs s in
     record {
-      values = record { fits = (numeric, omega (arith, s.counted), λ k d lt. in_plain_width (width form) _ numeric (all k d lt)); few = omega (arith, s.counted); short = tt };
+      values = record { fits = numbers_fit_in (width form) zs numeric (omega (arith, s.counted)) (λ k d lt. in_plain_width (width form) _ numeric (all k d lt)); few = omega (arith, s.counted); short = tt };
       counted = s.counted;
       encoded = subst (λ k. runs.Spells (run_width (width form)) k zs bytes) (sym s.counted) s;
     }
@@ -56,7 +55,7 @@ small_together form ts few short =
     omega (arith, together, sum_of_concat ts)
 
 pub are_values : (form : Form) (ts : List (List ℕ)) → width form ≡ widths.Bytes → length ts ≤ 8192 → All (λ t. length t ≤ limit form) ts → AreValues form (Texts ts)
-are_values form ts bytes few short = record { fits = (bytes, omega (arith, few), small_together form ts few short); few = few; short = short }
+are_values form ts bytes few short = record { fits = texts_fit_in (width form) ts bytes (omega (arith, few)) (small_together form ts few short); few = few; short = short }
 
 pub dictionary_read : (form : Form) (n : ℕ) (bytes : List ℕ) (ts : List (List ℕ)) → width form ≡ widths.Bytes → n ≤ 8192 → dictionary.Spells bytes n ts → All (λ t. length t ≤ limit form) ts → Reads form Dictionary n bytes (Texts ts)
 dictionary_read form n bytes ts w few s short = record { values = are_values form ts w (omega (arith, s.count)) short; counted = s.count; encoded = (s.fits, s.parts) }

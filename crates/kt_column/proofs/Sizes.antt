@@ -1,17 +1,9 @@
 -- How many bytes the values take in an encoding.
-use Rattle.std.proofs.Common.{◌≡◌, ◌<◌, ◌*◌, ◌+◌, ◌-◌, ◌^◌, ℕ, ℤ, List, [], length, get_or, take, arith, ◌∙◌, ap, sym, subst, refl}
-use Rattle.std.specs.List.{concat, flat_map, sum_by}
-use Rattle.std.specs.Int.{w32, to_le_bytes}
+use Rattle.std.proofs.Common.{◌≡◌, ◌<◌, ◌+◌, ◌-◌, ◌^◌, ℕ, List, [], length, get_or, take, arith, ◌∙◌, ap, sym, subst, refl}
+use Rattle.std.specs.List.{sum_by}
 use Rattle.std.proofs.lemmas.List.{length-append}
 use Rattle.std.proofs.lemmas.List.Sums.{get_or-le-sum_by}
-use Rattle.kt_plain.specs.declared.widths.Width.{Width}
-use Rattle.kt_plain.specs.declared.items.Items.TheVariants.{Numbers, Texts}
-use Rattle.kt_plain.specs.Cuts.{ends_of}
-use Rattle.kt_plain.specs.Widths.{field_len, IsNumeric}
-use Rattle.kt_plain.specs.Spelling as plain
-use Rattle.kt_plain.proofs.Fields.{exact, length-spelled}
-use Rattle.kt_plain.proofs.Ends.{length-le32}
-use Rattle.kt_plain.proofs.Pieces.{length-ends_of}
+use Rattle.kt_plain.specs.declared.items.Items.TheVariants.{Texts}
 use Rattle.kt_front.specs.Spelling as prefix
 use Rattle.kt_front.proofs.Cells.{spelling_more, fits_together}
 use Rattle.kt_front.proofs.Fields.{len_of_cell}
@@ -22,13 +14,6 @@ use Rattle.kt_column.specs.declared.form.Encoding.TheVariants.{Prefix}
 use Rattle.kt_column.specs.Forms.{MayUse}
 use Rattle.kt_column.specs.Values.{AreValues, Takes}
 use Rattle.kt_column.proofs.Widths.{small_texts}
-
-pub len_of_numbers : (w : Width) (zs : List ℤ) → IsNumeric w → length (plain.spelling w (Numbers zs)) ≡ length zs * field_len w
-len_of_numbers w zs numeric = length-spelled w (exact w numeric) zs
-
-pub len_of_texts : (w : Width) (ts : List (List ℕ)) → length (plain.spelling w (Texts ts)) ≡ 4 * length ts + length (concat ts)
-len_of_texts w ts =
-    omega (arith, length-append (flat_map (to_le_bytes w32) (ends_of 0 ts)) (concat ts), length-le32 (ends_of 0 ts), length-ends_of 0 ts)
 
 -- a cell more
 pub prefix_more : (ts : List (List ℕ)) (i : ℕ) (before : List ℕ) → i < length ts → (0 < i → before ≡ get_or ts (i - 1) [])

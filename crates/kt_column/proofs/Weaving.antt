@@ -7,7 +7,10 @@ use Rattle.kt_base.specs.declared.cell.Cell.{Cell}
 use Rattle.kt_base.specs.declared.cell.Cell.TheVariants.{Null, Int, Bool as Bit_, Bytes}
 use Rattle.kt_plain.specs.declared.widths.Width.{Width}
 use Rattle.kt_plain.specs.declared.widths.Width.TheVariants as widths
-use Rattle.kt_plain.specs.Widths.{IsInWidth, IsNumeric}
+use Rattle.kt_plain.specs.declared.widths.NumberWidth.TheVariants as number_widths
+use Rattle.kt_column.specs.Forms.{IsInWidth, IsNumeric}
+use Rattle.kt_plain.specs.declared.widths.NumberWidth.{NumberWidth}
+use Rattle.kt_plain.specs.Widths.{IsInWidth as in_width}
 use Rattle.kt_plain.specs.Items.{count}
 use Rattle.kt_plain.specs.declared.items.Items.{Items}
 use Rattle.kt_plain.specs.declared.items.Items.TheVariants.{Numbers, Texts}
@@ -17,6 +20,7 @@ use Rattle.kt_column.specs.Values.{AreValues}
 use Rattle.kt_column.specs.Nulls.{count_present}
 use Rattle.kt_column.specs.Blocks.{IsCellOf, IsCell, AreCells, is_null, cell_len, AreNullsOf, Held, IsBlock, SpellsBlock, nulls_in, bit, numbers_in, texts_in, values_of, values_in, is_one, number_cell, value_cells, weave}
 use Rattle.kt_column.proofs.Readings.{are_values}
+use Rattle.kt_column.proofs.Widths.{numbers_fit_in}
 use Rattle.kt_column.proofs.Lists.{concat_more}
 use Rattle.std.specs.List.{concat}
 use Rattle.std.proofs.Common.{append_assoc, drop, lit≤}
@@ -33,19 +37,19 @@ there (c ∷ cs) = c ∷ there cs
 abbrev pub Each : Width → Bool → ℕ → List Cell → Type 0
 Each w nullable most cs = AllByRecursion (IsCellOf w nullable most) cs
 
-number_int : (w : Width) (z : ℤ) → w ≢ widths.Bit → number_cell w z ≡ Int z
-number_int widths.Bit z h = absurd (h refl)
-number_int widths.One z h = refl
-number_int widths.Two z h = refl
-number_int widths.Four z h = refl
-number_int widths.Eight z h = refl
+number_int : (w : Width) (z : ℤ) → w ≢ (widths.Numbers number_widths.Bit) → number_cell w z ≡ Int z
+number_int (widths.Numbers number_widths.Bit) z h = absurd (h refl)
+number_int (widths.Numbers number_widths.One) z h = refl
+number_int (widths.Numbers number_widths.Two) z h = refl
+number_int (widths.Numbers number_widths.Four) z h = refl
+number_int (widths.Numbers number_widths.Eight) z h = refl
 number_int widths.Bytes z h = refl
 
 one_of_bit : (b : Bool) → is_one (bit b) ≡ b
 one_of_bit true = refl
 one_of_bit false = refl
 
-number_bit : (w : Width) (b : Bool) → w ≡ widths.Bit → number_cell w (bit b) ≡ Bit_ b
+number_bit : (w : Width) (b : Bool) → w ≡ (widths.Numbers number_widths.Bit) → number_cell w (bit b) ≡ Bit_ b
 number_bit w b h = ap (λ v. number_cell v (bit b)) h ∙ ap Bit_ (one_of_bit b)
 
 no_bytes : (w : Width) → IsNumeric w → w ≡ widths.Bytes → ⊥
@@ -62,16 +66,16 @@ texts_there : (w : Width) (nullable : Bool) (most : ℕ) (cs : List Cell) → w 
 texts_there w nullable most [] e h = refl
 texts_there w nullable most (Null ∷ cs) e h = texts_there w nullable most cs e h.1
 texts_there w nullable most (Int z ∷ cs) e h = let none : IsInWidth widths.Bytes z = subst (λ v. IsInWidth v z) e h.0.1 in elim none [ ]
-texts_there w nullable most (Bit_ b ∷ cs) e h = absurd (let bad : widths.Bit ≡ widths.Bytes = sym h.0 ∙ e in cc)
+texts_there w nullable most (Bit_ b ∷ cs) e h = absurd (let bad : (widths.Numbers number_widths.Bit) ≡ widths.Bytes = sym h.0 ∙ e in cc)
 texts_there w nullable most (Bytes t ∷ cs) e h = ap (λ r. Bytes t ∷ r) (texts_there w nullable most cs e h.1)
 
 -- the values are the cells that are not null
 pub values_there : (w : Width) (nullable : Bool) (most : ℕ) (cs : List Cell) → Each w nullable most cs → value_cells w (values_of w cs) ≡ there cs
-values_there widths.Bit nullable most cs h = numbers_there widths.Bit nullable most cs tt h
-values_there widths.One nullable most cs h = numbers_there widths.One nullable most cs tt h
-values_there widths.Two nullable most cs h = numbers_there widths.Two nullable most cs tt h
-values_there widths.Four nullable most cs h = numbers_there widths.Four nullable most cs tt h
-values_there widths.Eight nullable most cs h = numbers_there widths.Eight nullable most cs tt h
+values_there (widths.Numbers number_widths.Bit) nullable most cs h = numbers_there (widths.Numbers number_widths.Bit) nullable most cs tt h
+values_there (widths.Numbers number_widths.One) nullable most cs h = numbers_there (widths.Numbers number_widths.One) nullable most cs tt h
+values_there (widths.Numbers number_widths.Two) nullable most cs h = numbers_there (widths.Numbers number_widths.Two) nullable most cs tt h
+values_there (widths.Numbers number_widths.Four) nullable most cs h = numbers_there (widths.Numbers number_widths.Four) nullable most cs tt h
+values_there (widths.Numbers number_widths.Eight) nullable most cs h = numbers_there (widths.Numbers number_widths.Eight) nullable most cs tt h
 values_there widths.Bytes nullable most cs h = texts_there widths.Bytes nullable most cs refl h
 
 woven_there : (cs : List Cell) → weave (map is_null cs) (there cs) ≡ cs
@@ -240,7 +244,7 @@ texts_few (Int z ∷ cs) = (let rest = texts_few cs in omega (arith, rest))
 texts_few (Bit_ b ∷ cs) = (let rest = texts_few cs in omega (arith, rest))
 texts_few (Bytes t ∷ cs) = (let rest = texts_few cs in omega (arith, rest))
 
-bit_within : (b : Bool) → IsInWidth widths.Bit (bit b)
+bit_within : (b : Bool) → IsInWidth (widths.Numbers number_widths.Bit) (bit b)
 bit_within true = inr refl
 bit_within false = inl refl
 
@@ -262,14 +266,21 @@ numbers_fit : (form : Form) (w : Width) (nullable : Bool) (most : ℕ) (cs : Lis
 numbers_fit form w nullable most cs e n few h =
     let all : All (IsInWidth w) (numbers_in cs) = All-from_recursion (IsInWidth w) (numbers_in cs) (numbers_within w nullable most cs h) in
     let len : length (numbers_in cs) ≤ 8192 = (let less = numbers_few cs in omega (arith, less)) in
-    record { fits = (subst IsNumeric (sym e) n, omega (arith, len), subst (λ v. All (IsInWidth v) (numbers_in cs)) (sym e) all); few = len; short = tt }
+    record { fits = numbers_fit_in (width form) (numbers_in cs) (subst IsNumeric (sym e) n) (omega (arith, len)) (subst (λ v. All (IsInWidth v) (numbers_in cs)) (sym e) all); few = len; short = tt }
+
+-- the numbers among cells are of the column's width
+pub numbers_in_width : (form : Form) (w : NumberWidth) (cs : List Cell) → width form ≡ widths.Numbers w → AreCells form cs → All (in_width w) (numbers_in cs)
+numbers_in_width form w cs e h =
+    let each : Each (width form) (is_nullable form) (limit form) cs = recursion_from_All (IsCell form) cs h.each in
+    let all : All (IsInWidth (width form)) (numbers_in cs) = All-from_recursion (IsInWidth (width form)) (numbers_in cs) (numbers_within (width form) (is_nullable form) (limit form) cs each) in
+    subst (λ v. All (IsInWidth v) (numbers_in cs)) e all
 
 values_fit : (form : Form) (w : Width) (nullable : Bool) (cs : List Cell) → width form ≡ w → length cs ≤ 8192 → Each w nullable (limit form) cs → AreValues form (values_of w cs)
-values_fit form widths.Bit nullable cs e few h = numbers_fit form widths.Bit nullable (limit form) cs e tt few h
-values_fit form widths.One nullable cs e few h = numbers_fit form widths.One nullable (limit form) cs e tt few h
-values_fit form widths.Two nullable cs e few h = numbers_fit form widths.Two nullable (limit form) cs e tt few h
-values_fit form widths.Four nullable cs e few h = numbers_fit form widths.Four nullable (limit form) cs e tt few h
-values_fit form widths.Eight nullable cs e few h = numbers_fit form widths.Eight nullable (limit form) cs e tt few h
+values_fit form (widths.Numbers number_widths.Bit) nullable cs e few h = numbers_fit form (widths.Numbers number_widths.Bit) nullable (limit form) cs e tt few h
+values_fit form (widths.Numbers number_widths.One) nullable cs e few h = numbers_fit form (widths.Numbers number_widths.One) nullable (limit form) cs e tt few h
+values_fit form (widths.Numbers number_widths.Two) nullable cs e few h = numbers_fit form (widths.Numbers number_widths.Two) nullable (limit form) cs e tt few h
+values_fit form (widths.Numbers number_widths.Four) nullable cs e few h = numbers_fit form (widths.Numbers number_widths.Four) nullable (limit form) cs e tt few h
+values_fit form (widths.Numbers number_widths.Eight) nullable cs e few h = numbers_fit form (widths.Numbers number_widths.Eight) nullable (limit form) cs e tt few h
 values_fit form widths.Bytes nullable cs e few h =
     are_values form (texts_in cs) e (let less = texts_few cs in omega (arith, less)) (All-from_recursion (λ t. length t ≤ limit form) (texts_in cs) (texts_within widths.Bytes nullable (limit form) cs h))
 

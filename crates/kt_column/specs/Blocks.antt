@@ -5,7 +5,8 @@ use Rattle.kt_base.specs.declared.cell.Cell.{Cell}
 use Rattle.kt_base.specs.declared.cell.Cell.TheVariants as cells
 use Rattle.kt_plain.specs.declared.widths.Width.{Width}
 use Rattle.kt_plain.specs.declared.widths.Width.TheVariants as widths
-use Rattle.kt_plain.specs.Widths.{IsInWidth}
+use Rattle.kt_plain.specs.declared.widths.NumberWidth.TheVariants as number_widths
+use Rattle.kt_column.specs.Forms.{IsInWidth}
 use Rattle.kt_plain.specs.declared.items.Items.{Items}
 use Rattle.kt_plain.specs.declared.items.Items.TheVariants.{Numbers, Texts}
 use Rattle.kt_column.specs.declared.form.Form.{Form}
@@ -17,8 +18,8 @@ use Rattle.kt_column.specs.Nulls.{null_bytes, count_present}
 -- a cell of a width, which may be null, and of no more bytes
 abbrev pub IsCellOf : Width → Bool → ℕ → Cell → Type 0
 IsCellOf w nullable most cells.Null = nullable ≡ true
-IsCellOf w nullable most (cells.Int z) = (w ≢ widths.Bit) × IsInWidth w z
-IsCellOf w nullable most (cells.Bool b) = w ≡ widths.Bit
+IsCellOf w nullable most (cells.Int z) = (w ≢ (widths.Numbers number_widths.Bit)) × IsInWidth w z
+IsCellOf w nullable most (cells.Bool b) = w ≡ (widths.Numbers number_widths.Bit)
 IsCellOf w nullable most (cells.Bytes bytes) = (w ≡ widths.Bytes) × (length bytes ≤ most)
 
 -- a cell that the column may hold
@@ -73,7 +74,7 @@ is_one (pos n) = n == 1
 is_one (negsuc n) = false
 
 abbrev pub number_cell : Width → ℤ → Cell
-number_cell widths.Bit z = cells.Bool (is_one z)
+number_cell (widths.Numbers number_widths.Bit) z = cells.Bool (is_one z)
 number_cell _ z = cells.Int z
 
 abbrev pub value_cells : Width → Items → List Cell

@@ -1,22 +1,33 @@
 -- What a column holds, and how its values may be written.
-use Rattle.std.specs.Prelude.{◌≡◌, ℕ, Bool, false}
+use Rattle.std.specs.Prelude.{◌≡◌, ℕ, ℤ, Bool, false}
 use Rattle.kt_base.specs.declared.cell.Kind.{Kind}
 use Rattle.kt_base.specs.declared.cell.Kind.TheVariants as kinds
 use Rattle.kt_plain.specs.declared.widths.Width.{Width}
 use Rattle.kt_plain.specs.declared.widths.Width.TheVariants as widths
-use Rattle.kt_plain.specs.Widths.{IsNumeric}
+use Rattle.kt_plain.specs.declared.widths.NumberWidth.TheVariants as number_widths
+use Rattle.kt_plain.specs.Widths as numbers
 use Rattle.kt_column.specs.declared.form.Form.{Form}
 use Rattle.kt_column.specs.declared.form.Form.TheVariants.{Cells, Keys}
 use Rattle.kt_column.specs.declared.form.Encoding.{Encoding}
 use Rattle.kt_column.specs.declared.form.Encoding.TheVariants.{Plain, RunLength, Dictionary, Prefix}
 
+-- a width of numbers, and not of byte lists
+abbrev pub IsNumeric : Width → Type 0
+IsNumeric (widths.Numbers w) = Unit {0}
+IsNumeric widths.Bytes = ⊥
+
+-- the number is one of the width's
+abbrev pub IsInWidth : Width → ℤ → Type 0
+IsInWidth (widths.Numbers w) z = numbers.IsInWidth w z
+IsInWidth widths.Bytes z = ⊥
+
 -- how wide the values of a kind are
 abbrev pub width_of : Kind → Width
-width_of kinds.Bool = widths.Bit
-width_of kinds.Int8 = widths.One
-width_of kinds.Int16 = widths.Two
-width_of kinds.Int32 = widths.Four
-width_of kinds.Int64 = widths.Eight
+width_of kinds.Bool = (widths.Numbers number_widths.Bit)
+width_of kinds.Int8 = (widths.Numbers number_widths.One)
+width_of kinds.Int16 = (widths.Numbers number_widths.Two)
+width_of kinds.Int32 = (widths.Numbers number_widths.Four)
+width_of kinds.Int64 = (widths.Numbers number_widths.Eight)
 width_of kinds.String = widths.Bytes
 width_of kinds.Binary = widths.Bytes
 

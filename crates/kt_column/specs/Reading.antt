@@ -1,11 +1,12 @@
 -- Reading the values of a block.
-use Rattle.std.specs.Prelude.{◌≡◌, ◌≤◌, ◌+◌, ℕ, List, length, All, Result, Err, MatchResult}
+use Rattle.std.specs.Prelude.{◌≡◌, ◌≤◌, ℕ, List, length, All, Result, MatchResult}
 use Rattle.kt_plain.specs.declared.widths.Width.{Width}
 use Rattle.kt_plain.specs.declared.items.Items.{Items}
 use Rattle.kt_plain.specs.Items.{count}
-use Rattle.kt_plain.specs.Fault as plain
-use Rattle.kt_rle.specs.Fault as run_length
-use Rattle.kt_dict.specs.Reading as dictionary
+use Rattle.kt_bytes.specs.Places.{IsFault}
+use Rattle.kt_plain.specs.Spelling as plain
+use Rattle.kt_rle.specs.Spelling as run_length
+use Rattle.kt_dict.specs.Spelling as dictionary
 use Rattle.kt_front.specs.Reading as prefix
 use Rattle.kt_column.specs.declared.errors.Stop.{Stop}
 use Rattle.kt_column.specs.declared.errors.Stop.TheVariants.{Memory, Fault, Whole}
@@ -23,10 +24,10 @@ pub record Reads (form : Form) (encoding : Encoding) (n : ℕ) (bytes : List ℕ
 
 -- the first fault of bytes that are no n values in an encoding, as its codec places it
 abbrev pub IsFaultOf : Width → Encoding → ℕ → List ℕ → ℕ → Type 0
-IsFaultOf w Plain n bytes at = plain.IsFault w n bytes at
-IsFaultOf w RunLength n bytes at = run_length.IsFault (run_width w) n bytes at
-IsFaultOf w Dictionary n bytes at = (left : ℕ) × (dictionary.block_at n bytes ≡ Err left) × (at + left ≡ length bytes)
-IsFaultOf w Prefix n bytes at = (left : ℕ) × (prefix.block_at n bytes ≡ Err left) × (at + left ≡ length bytes)
+IsFaultOf w Plain n bytes at = IsFault (plain.Spelled w n) bytes at
+IsFaultOf w RunLength n bytes at = run_length.IsTold (run_width w) n bytes at
+IsFaultOf w Dictionary n bytes at = IsFault (dictionary.Spelled n) bytes at
+IsFaultOf w Prefix n bytes at = prefix.IsFault n bytes at
 
 -- the bytes are n values in an encoding, and one of them is too long
 pub record HasLong (form : Form) (encoding : Encoding) (n : ℕ) (bytes : List ℕ) : Type 0 where

@@ -2,12 +2,13 @@
 use Rattle.std.specs.Prelude.{◌≡◌, ◌≤◌, ◌<◌, ◌⊎◌, ℕ, List, length, All, Option, Some, None, MatchOption}
 use Rattle.kt_plain.specs.declared.widths.Width.{Width}
 use Rattle.kt_plain.specs.declared.widths.Width.TheVariants as widths
+use Rattle.kt_plain.specs.declared.widths.NumberWidth.TheVariants as number_widths
 use Rattle.kt_plain.specs.declared.items.Items.{Items}
 use Rattle.kt_plain.specs.declared.items.Items.TheVariants.{Numbers, Texts}
 use Rattle.kt_plain.specs.Items.{count}
 use Rattle.kt_plain.specs.Spelling as plain
-use Rattle.kt_rle.specs.declared.widths.Width.{Width as RunWidth}
-use Rattle.kt_rle.specs.declared.widths.Width.TheVariants as run_widths
+use Rattle.kt_plain.specs.declared.widths.NumberWidth.{NumberWidth}
+use Rattle.kt_plain.specs.declared.widths.NumberWidth.TheVariants as number_widths
 use Rattle.kt_rle.specs.Spelling as run_length
 use Rattle.kt_dict.specs.Spelling as dictionary
 use Rattle.kt_front.specs.Spelling as prefix
@@ -17,13 +18,10 @@ use Rattle.kt_column.specs.declared.form.Encoding.TheVariants.{Plain, RunLength,
 use Rattle.kt_column.specs.declared.lengths.Measured.{Measured}
 use Rattle.kt_column.specs.Forms.{width, limit, code, MayUse}
 
--- the width of numbers, as the run-length encoding names it
-abbrev pub run_width : Width → RunWidth
-run_width widths.Bit = run_widths.Bit
-run_width widths.One = run_widths.One
-run_width widths.Two = run_widths.Two
-run_width widths.Four = run_widths.Four
-run_width _ = run_widths.Eight
+-- the width of numbers, as the run-length encoding has it
+abbrev pub run_width : Width → NumberWidth
+run_width (widths.Numbers w) = w
+run_width widths.Bytes = number_widths.Eight
 
 -- no byte list is longer
 abbrev pub AreShort : ℕ → Items → Type 0

@@ -18,7 +18,7 @@ use crate::lengths::shortest_encoding;
 use crate::nulls::Nulls;
 use crate::values::shortest;
 use kt_base::{Cell, NoMemory, Octets};
-use kt_plain::{Item, Items, Numbers, Texts, Width, get};
+use kt_plain::{Item, Items, NumberWidth, Numbers, Texts, Width, get};
 use std::alloc::{AllocError, Global};
 use std::cmp::Ordering;
 use std::marker::Model;
@@ -83,7 +83,7 @@ fn number_as(width: Width, number: i64) -> Cell
     ensures { result ≡ number_cell width number }
 {
     match width {
-        Width::Bit => Cell::Bool(number == 1),
+        Width::Numbers(NumberWidth::Bit) => Cell::Bool(number == 1),
         _ => Cell::Int(number),
     }
 }
@@ -94,10 +94,7 @@ fn push_text(texts: &mut Texts, cell: &Cell) -> Result<(), NoMemory>
     ensures { OnOk result (texts.new ≡ texts.old ++ texts_in (cell.now ∷ [])) }
 {
     match cell {
-        Cell::Bytes(bytes) => match texts.push(bytes.as_slice()) {
-            Ok(()) => Ok(()),
-            Err(_) => Err(NoMemory),
-        },
+        Cell::Bytes(bytes) => texts.push(bytes.as_slice()),
         _ => Ok(()),
     }
 }
@@ -121,7 +118,10 @@ fn values_of(alloc: Global, form: Form, cells: &[Cell]) -> Result<Items, NoMemor
 {
     match form.width() {
         Width::Bytes => Ok(Items::Texts(texts_of(alloc, form, cells)?)),
-        _ => Ok(Items::Numbers(Numbers::from_vec(numbers_of(alloc, cells)?))),
+        Width::Numbers(width) => {
+            let numbers = numbers_of(alloc, cells)?;
+            Ok(Items::Numbers(Numbers::of(alloc, &numbers, width)?))
+        }
     }
 }
 
@@ -147,7 +147,7 @@ fn cell_count(form: Form, nulls: &Nulls, items: &Items) -> u32
         return nulls.len() as u32;
     }
     match items {
-        Items::Numbers(numbers) => numbers.as_slice().len() as u32,
+        Items::Numbers(numbers) => numbers.len() as u32,
         Items::Texts(texts) => texts.len() as u32,
     }
 }

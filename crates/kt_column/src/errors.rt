@@ -63,14 +63,3 @@ impl<T: Drop> From<AllocFailed<T>> for Stop {
         Stop::Memory
     }
 }
-
-impl From<kt_plain::NoMemory> for Stop {
-    ghost use Rattle.std.specs.Prelude.{◌≡◌};
-    ghost use Rattle.kt_column.specs.declared.errors.Stop.TheVariants.{Memory};
-
-    ghost from_gives = { λ _ e. e ≡ Memory };
-
-    fn from(_e: kt_plain::NoMemory) -> Stop {
-        Stop::Memory
-    }
-}

@@ -5,7 +5,7 @@ ghost use Rattle.std.specs.Bool.{OnTrue, OnFalse};
 ghost use Rattle.kt_column.specs.Forms as forms;
 
 use kt_base::Kind;
-use kt_plain::Width;
+use kt_plain::{NumberWidth, Width};
 
 /// What a column holds: cells of one kind, or encoded keys.
 #[derive(Clone, Copy, Debug, PartialEq, Eq)]
@@ -30,11 +30,11 @@ impl Form {
     {
         match self {
             Form::Cells { kind, .. } => match kind {
-                Kind::Bool => Width::Bit,
-                Kind::Int8 => Width::One,
-                Kind::Int16 => Width::Two,
-                Kind::Int32 => Width::Four,
-                Kind::Int64 => Width::Eight,
+                Kind::Bool => Width::Numbers(NumberWidth::Bit),
+                Kind::Int8 => Width::Numbers(NumberWidth::One),
+                Kind::Int16 => Width::Numbers(NumberWidth::Two),
+                Kind::Int32 => Width::Numbers(NumberWidth::Four),
+                Kind::Int64 => Width::Numbers(NumberWidth::Eight),
                 Kind::String | Kind::Binary => Width::Bytes,
             },
             Form::Keys => Width::Bytes,

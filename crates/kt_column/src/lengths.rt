@@ -3,14 +3,13 @@
 ghost use Rattle.std.specs.Prelude.{◌≡◌, ◌<◌, ◌≤◌, ◌-◌, ◌^◌, ℕ, List, length, sum_by, IfOk, MatchOption};
 ghost use Rattle.kt_column.specs.Forms.{width, code};
 ghost use Rattle.kt_column.specs.Values.{AreValues, IsShortest, IsBestUpTo, IsShorter, MayStand, Takes};
-ghost use Rattle.kt_plain.specs.Spelling as plain;
 ghost use Rattle.kt_dict.specs.Spelling as dictionary;
 ghost use Rattle.kt_front.specs.Spelling as prefix;
 
 use crate::form::{Encoding, Form};
-use crate::values::{for_dictionary, run_width};
+use crate::values::run_width;
 use kt_base::NoMemory;
-use kt_plain::{Items, Texts, Width};
+use kt_plain::{Items, Texts};
 use std::alloc::Global;
 
 /// An encoding, and how many bytes the values take in it.
@@ -20,27 +19,13 @@ pub struct Measured {
     pub len: usize,
 }
 
-fn plain_len(width: Width, items: &Items) -> usize
-    requires fits { plain.Fits width items.now }
-    ensures { result ≡ length (plain.spelling width items.now) }
-{
-    match items {
-        Items::Numbers(numbers) => numbers.as_slice().len() * width.field_len(),
-        Items::Texts(texts) => 4 * texts.len() + texts.byte_len(),
-    }
-}
-
 /// How many bytes the values take in a dictionary, or none where there are too many different ones.
 fn dictionary_len(alloc: Global, texts: &Texts) -> Result<Option<usize>, NoMemory>
     requires few { length texts.now < 2 ^ 32 }
     requires small { sum_by length texts.now < 2 ^ 32 }
     ensures { IfOk result (λ len. MatchOption len (¬ dictionary.Fits texts.now) (λ n. dictionary.Fits texts.now × (n ≡ length (dictionary.spelling texts.now)))) }
 {
-    let items = for_dictionary(alloc, texts)?;
-    match kt_dict::encoded_len(alloc, &items) {
-        Ok(len) => Ok(len),
-        Err(_) => Err(NoMemory),
-    }
+    kt_dict::encoded_len(alloc, texts)
 }
 
 fn prefix_len(texts: &Texts) -> usize
@@ -73,10 +58,10 @@ fn encoded_len(
         return Ok(None);
     }
     match (encoding, items) {
-        (Encoding::Plain, _) => Ok(Some(plain_len(form.width(), items))),
+        (Encoding::Plain, _) => Ok(Some(kt_plain::encoded_len(items, form.width()))),
         (Encoding::RunLength, Items::Numbers(numbers)) => {
             let width = run_width(form.width());
-            Ok(Some(kt_rle::encoded_len(numbers.as_slice(), width)))
+            Ok(Some(kt_rle::encoded_len(numbers, width)))
         }
         (Encoding::Dictionary, Items::Texts(texts)) => dictionary_len(alloc, texts),
         (Encoding::Prefix, Items::Texts(texts)) => Ok(Some(prefix_len(texts))),

@@ -3,14 +3,15 @@
 ghost use Rattle.std.specs.Prelude.{◌≡◌, ◌<◌, ◌≤◌, length, All, IfOk, IfErr};
 ghost use Rattle.std.specs.Bool.{OnTrue, OnFalse};
 ghost use Rattle.kt_plain.specs.declared.items.Items.{Items};
-ghost use Rattle.kt_plain.specs.Widths.{IsNumeric};
+ghost use Rattle.kt_plain.specs.Widths as numbers;
 ghost use Rattle.kt_column.specs.declared.errors.Stop.TheVariants as stops;
-ghost use Rattle.kt_column.specs.Forms.{width, MayUse};
+ghost use Rattle.kt_column.specs.Forms.{width, IsNumeric, MayUse};
 ghost use Rattle.kt_column.specs.Reading.{Reads, IsLong, IsStop, IsOrMemory};
 
 use crate::errors::Stop;
 use crate::form::{Encoding, Form};
 use crate::values::run_width;
+use kt_base::NoMemory;
 use kt_plain::{Items, Numbers, Texts, Width};
 use std::alloc::Global;
 
@@ -58,12 +59,14 @@ fn from_prefixes(alloc: Global, items: &kt_front::Items, most: usize) -> Result<
     ensures long { IfErr result (IsLong most items.now) }
 {
     let mut texts = Texts::new(alloc);
+    let mut text = kt_front::Octets::new(alloc);
     'texts: for i in 0..items.len() {
-        let item = items.item(i);
+        let item = items.item(i as u32);
         if item.len() > most {
             return Err(Stop::Whole);
         }
-        texts.push(item)?;
+        item.copy_into(&mut text)?;
+        texts.push(text.as_slice())?;
     }
     Ok(texts)
 }
@@ -90,6 +93,20 @@ fn read_plain(alloc: Global, form: Form, n: u32, bytes: &[u8]) -> Result<Items, 
     }
 }
 
+/// The items of a run-length block as plain numbers.
+fn from_runs(alloc: Global, runs: &kt_rle::Items, width: kt_rle::Width) -> Result<Numbers, NoMemory>
+    requires few { length runs.now ≤ 8192 }
+    requires fit { All (numbers.IsInWidth width) runs.now }
+    ensures { IfOk result (λ numbers. numbers ≡ runs.now) }
+{
+    let n = runs.len() as u32;
+    let mut numbers = Vec::with_capacity(alloc, n as usize)?;
+    'items: for i in 0..n {
+        numbers.push(kt_rle::get(runs, i))?;
+    }
+    Numbers::of(alloc, &numbers, width)
+}
+
 /// The values that the bytes are, as runs.
 fn read_runs(alloc: Global, form: Form, n: u32, bytes: &[u8]) -> Result<Items, Stop>
     requires few { n ≤ 8192 }
@@ -98,8 +115,9 @@ fn read_runs(alloc: Global, form: Form, n: u32, bytes: &[u8]) -> Result<Items, S
     ensures only { (items : Items) → Reads form Encoding.RunLength n bytes.now items → IsOrMemory result items }
     ensures stop { IfErr result (IsStop form Encoding.RunLength n bytes.now) }
 {
-    match kt_rle::decode(alloc, bytes, n, run_width(form.width())) {
-        Ok(numbers) => Ok(Items::Numbers(Numbers::from_vec(numbers.into_vec()))),
+    let width = run_width(form.width());
+    match kt_rle::decode(alloc, bytes, n, width) {
+        Ok(runs) => Ok(Items::Numbers(from_runs(alloc, &runs, width)?)),
         Err(kt_rle::CodecNo::Place { offset }) => Err(Stop::Fault {
             at: offset as usize,
         }),

@@ -3,7 +3,6 @@
 ghost use Rattle.std.specs.Prelude.{◌≡◌, ◌<◌, ◌-◌, ◌^◌, ℕ, List, length, sum_by, IfOk, MatchOption};
 ghost use Rattle.kt_column.specs.Forms.{width};
 ghost use Rattle.kt_column.specs.Values.{AreValues, IsEncoded, IsShortest, MayStand, run_width};
-ghost use Rattle.kt_plain.specs.Widths as plain_widths;
 ghost use Rattle.kt_rle.specs.Spelling as run_length;
 ghost use Rattle.kt_dict.specs.Spelling as dictionary;
 ghost use Rattle.kt_front.specs.Spelling as prefix;
@@ -11,7 +10,7 @@ ghost use Rattle.kt_front.specs.Spelling as prefix;
 use crate::form::{Encoding, Form};
 use crate::lengths::shortest_encoding;
 use kt_base::NoMemory;
-use kt_plain::{Items, Numbers, Texts, Width};
+use kt_plain::{Items, NumberWidth, Numbers, Texts, Width};
 use std::alloc::Global;
 
 /// The bytes of a block's values, and their encoding.
@@ -21,16 +20,13 @@ pub struct Chosen {
     pub bytes: Vec<u8>,
 }
 
-/// The width of numbers, as the run-length encoding names it.
-pub(crate) fn run_width(width: Width) -> kt_rle::Width
+/// The width of numbers, as the run-length encoding has it.
+pub(crate) fn run_width(width: Width) -> NumberWidth
     ensures { result ≡ run_width width }
 {
     match width {
-        Width::Bit => kt_rle::Width::Bit,
-        Width::One => kt_rle::Width::One,
-        Width::Two => kt_rle::Width::Two,
-        Width::Four => kt_rle::Width::Four,
-        Width::Eight | Width::Bytes => kt_rle::Width::Eight,
+        Width::Numbers(width) => width,
+        Width::Bytes => NumberWidth::Eight,
     }
 }
 
@@ -48,35 +44,11 @@ fn run_lengths(alloc: Global, width: Width, numbers: &Numbers) -> Result<Vec<u8>
     requires { run_length.Fits (run_width width) numbers.now }
     ensures { IfOk result (λ bytes. run_length.Spells (run_width width) (length numbers.now) numbers.now bytes.items) }
 {
-    let copy = kt_rle::Items::from_vec(Vec::from_slice(alloc, numbers.as_slice())?);
-    match kt_rle::encode(alloc, &copy, run_width(width)) {
+    let runs = kt_rle::Items::of(alloc, numbers)?;
+    match kt_rle::encode(alloc, &runs, run_width(width)) {
         Ok(octets) => Ok(octets.into_vec()),
         Err(_) => Err(NoMemory),
     }
-}
-
-pub(crate) fn for_dictionary(alloc: Global, texts: &Texts) -> Result<kt_dict::Items, NoMemory>
-    ensures { IfOk result (λ items. items ≡ texts.now) }
-{
-    let mut items = kt_dict::Items::new(alloc);
-    'texts: for i in 0..texts.len() {
-        if items.push(texts.get(i)).is_err() {
-            return Err(NoMemory);
-        }
-    }
-    Ok(items)
-}
-
-fn for_prefix(alloc: Global, texts: &Texts) -> Result<kt_front::Items, NoMemory>
-    ensures { IfOk result (λ items. items ≡ texts.now) }
-{
-    let mut items = kt_front::Items::new(alloc);
-    'texts: for i in 0..texts.len() {
-        if items.push(texts.get(i)).is_err() {
-            return Err(NoMemory);
-        }
-    }
-    Ok(items)
 }
 
 /// The values in a dictionary, or none where there are too many different ones.
@@ -85,8 +57,7 @@ fn dictionary(alloc: Global, texts: &Texts) -> Result<Option<Vec<u8>>, NoMemory>
     requires small { sum_by length texts.now < 2 ^ 32 }
     ensures { IfOk result (λ bytes. MatchOption bytes (¬ dictionary.Fits texts.now) (λ b. dictionary.Fits texts.now × (b.items ≡ dictionary.spelling texts.now))) }
 {
-    let items = for_dictionary(alloc, texts)?;
-    match kt_dict::encode(alloc, &items, kt_dict::Width::Bytes) {
+    match kt_dict::encode(alloc, texts, kt_dict::Width::Bytes) {
         Ok(octets) => Ok(Some(octets.into_vec())),
         Err(kt_dict::CodecNo::TooMany { .. }) => Ok(None),
         Err(_) => Err(NoMemory),
@@ -97,8 +68,7 @@ fn prefixes(alloc: Global, texts: &Texts) -> Result<Vec<u8>, NoMemory>
     requires { sum_by length texts.now < 2 ^ 32 }
     ensures { IfOk result (λ bytes. prefix.Fits texts.now × (bytes.items ≡ prefix.spelling texts.now)) }
 {
-    let items = for_prefix(alloc, texts)?;
-    match kt_front::encode(alloc, &items, kt_front::Width::Bytes) {
+    match kt_front::encode(alloc, texts, kt_front::Width::Bytes) {
         Ok(octets) => Ok(octets.into_vec()),
         Err(_) => Err(NoMemory),
     }

@@ -1,139 +1,116 @@
 -- A field that is read is the field that was written, and what was written is read again.
-use Rattle.std.proofs.Common.{◌≡◌, ℕ, ◌+◌, ◌^◌, ◌<◌, ◌≤◌, Bool, true, false, cond, ltb, List, ◌++◌, length, get_or, take, drop, Result, Ok, Err, refl, sym, ap, subst, ◌∙◌, append_assoc, arith, inl, inr}
+use Rattle.std.proofs.Common.{◌≡◌, ℕ, ◌+◌, ◌^◌, ◌<◌, Bool, true, List, [], ◌∷◌, ◌++◌, length, map, Ok, refl, sym, ap, subst, ◌∙◌, append_assoc, arith, length-append}
 use Rattle.std.specs.Int.{w16, w32, from_le_bytes}
-use Rattle.std.proofs.lemmas.Bool.{cases_lt, ltb-false, le-ltb}
-use Rattle.std.proofs.lemmas.List.{take_at, drop_at, take-append-drop, length-append, length-take, get_or-drop, get_or-take, get_or_past}
-use Rattle.std.proofs.lemmas.Nat.{le_bytes_2, from_le_bytes-to_le_bytes_2, le_bytes_4, from_le_bytes-to_le_bytes_4}
-use Rattle.kt_dict.specs.Spelling.{short, number, entry}
-use Rattle.kt_dict.specs.Reading.{◌>>=◌, short_at, number_at, entry_at}
-
-abbrev pub IsBytes : List ℕ → Type 0
-IsBytes bytes = (i : ℕ) → get_or bytes i 0 < 256
-
-IsBytes-drop : (n : ℕ) (bytes : List ℕ) → IsBytes bytes → IsBytes (drop n bytes)
-IsBytes-drop n bytes h i = rw get_or-drop (h (n + i))
-
-IsBytes-take : (n : ℕ) (bytes : List ℕ) → IsBytes bytes → IsBytes (take n bytes)
-IsBytes-take n bytes h i =
-    elim (cases_lt i n) [
-      | inl lt ↦ rw (get_or-take n bytes i 0 lt) (h i)
-      | inr le ↦ rw (get_or_past (take n bytes) i 0 (omega (arith, length-take n bytes))) (omega arith)
-    ]
-
--- the value of a step that did not fail
-pub bind_ok : {A B : Type 0} (r : Result A ℕ) (f : A → Result B ℕ) (y : B) → (r >>= f) ≡ Ok y → (x : A) × (r ≡ Ok x) × (f x ≡ Ok y)
-bind_ok (Ok x) f y e = (x, refl, e)
-bind_ok (Err d) f y e = absurd cc
-
--- a test that did not fail
-pub guard_ok : {A : Type 0} (b : Bool) (d : ℕ) (r : Result A ℕ) (y : A) → cond b (Err d) r ≡ Ok y → (b ≡ false) × (r ≡ Ok y)
-guard_ok true d r y e = absurd cc
-guard_ok false d r y e = (refl, e)
-
-pub pass_ok : {A : Type 0} (b : Bool) (d : ℕ) (x y : A) → cond b (Ok x) (Err d) ≡ Ok y → (b ≡ true) × (x ≡ y)
-pass_ok true d x y e = (refl, cc)
-pass_ok false d x y e = absurd cc
-
-abbrev done : {A : Type 0} → A → Result A ℕ
-done x = Ok x
-
-pub ok_is : {A : Type 0} (x y : A) → done x ≡ done y → x ≡ y
-ok_is x y e = cc
-
--- what a reader took from the front
-pub record Takes (bytes text rest : List ℕ) : Type 0 where
-  pub parts : bytes ≡ text ++ rest
-  pub rest_fits : IsBytes rest
-
-pub Takes-then : (a x b y c : List ℕ) → Takes a x b → Takes b y c → Takes a (x ++ y) c
-Takes-then a x b y c p q = record { parts = p.parts ∙ ap (λ (t : List ℕ). x ++ t) q.parts ∙ sym (append_assoc x y c); rest_fits = q.rest_fits }
-
--- ---- numbers
-
-pub length-number : (n : ℕ) → length (number n) ≡ 4
-unfolding number
-length-number n = refl
-
-number-read : (bytes : List ℕ) (n : ℕ) → length bytes ≡ 4 → IsBytes bytes → n ≡ from_le_bytes w32 bytes → number n ≡ bytes
-unfolding number
-number-read bytes n len fits e = le_bytes_4 bytes n len fits e
-
-read-number : (n : ℕ) → n < 2 ^ 32 → from_le_bytes w32 (number n) ≡ n
-unfolding number
-read-number n lt = from_le_bytes-to_le_bytes_4 n lt
-
-below : (bytes : List ℕ) → IsBytes bytes → from_le_bytes w32 bytes < 2 ^ 32
-below bytes f = omega (arith, f 0, f 1, f 2, f 3)
-
-pub number_takes : (bytes : List ℕ) (n : ℕ) (rest : List ℕ) → IsBytes bytes → number_at bytes ≡ Ok (n, rest) → Takes bytes (number n) rest × (n < 2 ^ 32)
-unfolding number_at
-number_takes bytes n rest fits e =
-    let g = guard_ok (ltb (length bytes) 4) 0 (Ok (from_le_bytes w32 (take 4 bytes), drop 4 bytes)) (n, rest) e in
-    let long : 4 ≤ length bytes = ltb-false _ _ g.0 in
-    let both = ok_is (from_le_bytes w32 (take 4 bytes), drop 4 bytes) (n, rest) g.1 in
-    let n-is : from_le_bytes w32 (take 4 bytes) ≡ n = ap (λ (p : ℕ × List ℕ). p.0) both in
-    let rest-is : drop 4 bytes ≡ rest = ap (λ (p : ℕ × List ℕ). p.1) both in
-    let f = IsBytes-take 4 bytes fits in
-    let front : number n ≡ take 4 bytes = number-read (take 4 bytes) n (omega (arith, length-take 4 bytes)) f (sym n-is) in
-    let parts : bytes ≡ number n ++ rest = sym (take-append-drop 4 bytes) ∙ (ap (λ (t : List ℕ). t ++ drop 4 bytes) (sym front) ∙ ap (λ (t : List ℕ). number n ++ t) rest-is) in
-    (record { parts = parts; rest_fits = subst IsBytes rest-is (IsBytes-drop 4 bytes fits) }, subst (λ k. k < 2 ^ 32) n-is (below (take 4 bytes) f))
-
-pub number_again : (n : ℕ) (rest : List ℕ) → n < 2 ^ 32 → number_at (number n ++ rest) ≡ Ok (n, rest)
-unfolding number_at
-number_again n rest lt =
-    let len = length-number n in
-    let long : ltb (length (number n ++ rest)) 4 ≡ false = le-ltb _ _ (omega (arith, length-append (number n) rest)) in
-    rw (long, take_at (number n) rest 4 len, drop_at (number n) rest 4 len, read-number n lt) refl
+use Rattle.std.specs.List.{concat, flat_map}
+use Rattle.std.proofs.lemmas.List.{get_or_append_left, get_or_past}
+use Rattle.std.proofs.lemmas.Bool.{cases_lt}
+use Rattle.std.proofs.Common.{inl, inr}
+use Rattle.kt_bytes.specs.Reading.{◌>>=◌, number_at, checked_at, bytes_at}
+use Rattle.kt_bytes.proofs.Numbers.{IsBytes, Takes, Takes-then, wide16, wide32, number_again, checked_takes, checked_again, bytes_takes, bytes_again, bind_ok, then_is}
+use Rattle.kt_dict.specs.Spelling.{short, number, entry, code, block, dictionary, spelling}
+use Rattle.kt_dict.specs.Writing.{text}
+use Rattle.kt_dict.specs.Walk.{is_length, text_at}
 
 pub length-short : (n : ℕ) → length (short n) ≡ 2
 unfolding short
 length-short n = refl
 
-short-read : (bytes : List ℕ) (n : ℕ) → length bytes ≡ 2 → IsBytes bytes → n ≡ from_le_bytes w16 bytes → short n ≡ bytes
+pub length-number : (n : ℕ) → length (number n) ≡ 4
+unfolding number
+length-number n = refl
+
+pub short_takes : (passes : ℕ → Bool) (bytes : List ℕ) (x : ℕ × List ℕ) → IsBytes bytes → checked_at w16 passes bytes ≡ Ok x → Takes bytes (short x.0) x.1 × (passes x.0 ≡ true) × (x.0 < 2 ^ 16)
 unfolding short
-short-read bytes n len fits e = le_bytes_2 bytes n len fits e
+short_takes passes bytes x fits e = checked_takes w16 (2 ^ 16) wide16 passes bytes x fits e
 
-read-short : (n : ℕ) → n < 2 ^ 16 → from_le_bytes w16 (short n) ≡ n
+pub short_again : (n : ℕ) (rest : List ℕ) → n < 2 ^ 16 → number_at w16 (short n ++ rest) ≡ Ok (n, rest)
 unfolding short
-read-short n lt = from_le_bytes-to_le_bytes_2 n lt
+short_again n rest lt = number_again w16 (2 ^ 16) wide16 n rest lt
 
-pub short_takes : (bytes : List ℕ) (n : ℕ) (rest : List ℕ) → IsBytes bytes → short_at bytes ≡ Ok (n, rest) → Takes bytes (short n) rest
-unfolding short_at
-short_takes bytes n rest fits e =
-    let g = guard_ok (ltb (length bytes) 2) 0 (Ok (from_le_bytes w16 (take 2 bytes), drop 2 bytes)) (n, rest) e in
-    let long : 2 ≤ length bytes = ltb-false _ _ g.0 in
-    let both = ok_is (from_le_bytes w16 (take 2 bytes), drop 2 bytes) (n, rest) g.1 in
-    let n-is : from_le_bytes w16 (take 2 bytes) ≡ n = ap (λ (p : ℕ × List ℕ). p.0) both in
-    let rest-is : drop 2 bytes ≡ rest = ap (λ (p : ℕ × List ℕ). p.1) both in
-    let front : short n ≡ take 2 bytes = short-read (take 2 bytes) n (omega (arith, length-take 2 bytes)) (IsBytes-take 2 bytes fits) (sym n-is) in
-    record { parts = sym (take-append-drop 2 bytes) ∙ (ap (λ (t : List ℕ). t ++ drop 2 bytes) (sym front) ∙ ap (λ (t : List ℕ). short n ++ t) rest-is); rest_fits = subst IsBytes rest-is (IsBytes-drop 2 bytes fits) }
+pub short_passes : (passes : ℕ → Bool) (n : ℕ) (rest : List ℕ) → n < 2 ^ 16 → passes n ≡ true → checked_at w16 passes (short n ++ rest) ≡ Ok (n, rest)
+unfolding short
+short_passes passes n rest lt passed = checked_again w16 (2 ^ 16) wide16 passes n rest lt passed
 
-pub short_again : (n : ℕ) (rest : List ℕ) → n < 2 ^ 16 → short_at (short n ++ rest) ≡ Ok (n, rest)
-unfolding short_at
-short_again n rest lt =
-    let len = length-short n in
-    let long : ltb (length (short n ++ rest)) 2 ≡ false = le-ltb _ _ (omega (arith, length-append (short n) rest)) in
-    rw (long, take_at (short n) rest 2 len, drop_at (short n) rest 2 len, read-short n lt) refl
+pub number_is : (passes : ℕ → Bool) (bytes : List ℕ) (x : ℕ × List ℕ) → IsBytes bytes → checked_at w32 passes bytes ≡ Ok x → Takes bytes (number x.0) x.1 × (passes x.0 ≡ true) × (x.0 < 2 ^ 32)
+unfolding number
+number_is passes bytes x fits e = checked_takes w32 (2 ^ 32) wide32 passes bytes x fits e
+
+pub number_reads : (n : ℕ) (rest : List ℕ) → n < 2 ^ 32 → number_at w32 (number n ++ rest) ≡ Ok (n, rest)
+unfolding number
+number_reads n rest lt = number_again w32 (2 ^ 32) wide32 n rest lt
+
+pub number_passes : (passes : ℕ → Bool) (n : ℕ) (rest : List ℕ) → n < 2 ^ 32 → passes n ≡ true → checked_at w32 passes (number n ++ rest) ≡ Ok (n, rest)
+unfolding number
+number_passes passes n rest lt passed = checked_again w32 (2 ^ 32) wide32 passes n rest lt passed
+
+-- two numbers that are spelled alike are one
+pub short_one : (m n : ℕ) → m < 2 ^ 16 → n < 2 ^ 16 → short m ≡ short n → m ≡ n
+unfolding short
+short_one m n lt less e = sym (wide16.again m lt) ∙ ap (from_le_bytes w16) e ∙ wide16.again n less
+
+pub number_one : (m n : ℕ) → m < 2 ^ 32 → n < 2 ^ 32 → number m ≡ number n → m ≡ n
+unfolding number
+number_one m n lt less e = sym (wide32.again m lt) ∙ ap (from_le_bytes w32) e ∙ wide32.again n less
 
 -- ---- entries
 
-pub entry_takes : (bytes : List ℕ) (x : List ℕ × List ℕ) → IsBytes bytes → entry_at bytes ≡ Ok x → Takes bytes (entry x.0) x.1 × (length x.0 < 2 ^ 32)
-unfolding entry_at entry
-entry_takes bytes x fits e =
-    let b = bind_ok (number_at bytes) (λ n. cond (ltb (length n.1) n.0) (Err 0) (Ok (take n.0 n.1, drop n.0 n.1))) x e in
-    let n = b.0 in
-    let t = number_takes bytes n.0 n.1 fits b.1 in
-    let g = guard_ok (ltb (length n.1) n.0) 0 (Ok (take n.0 n.1, drop n.0 n.1)) x b.2 in
-    let long : n.0 ≤ length n.1 = ltb-false _ _ g.0 in
-    let len : length (take n.0 n.1) ≡ n.0 = omega (arith, length-take n.0 n.1) in
-    let second : Takes n.1 (take n.0 n.1) (drop n.0 n.1) = record { parts = sym (take-append-drop n.0 n.1); rest_fits = IsBytes-drop n.0 n.1 t.0.rest_fits } in
-    let both = Takes-then bytes (number n.0) n.1 (take n.0 n.1) (drop n.0 n.1) t.0 second in
-    let whole : Takes bytes (number (length (take n.0 n.1)) ++ take n.0 n.1) (drop n.0 n.1) = subst (λ (k : ℕ). Takes bytes (number k ++ take n.0 n.1) (drop n.0 n.1)) (sym len) both in
-    subst (λ (p : List ℕ × List ℕ). Takes bytes (number (length p.0) ++ p.0) p.1 × (length p.0 < 2 ^ 32)) (ok_is (take n.0 n.1, drop n.0 n.1) x g.1) (whole, omega (arith, t.1))
+pub bytes_front : (xs rest : List ℕ) → IsBytes (xs ++ rest) → IsBytes xs
+bytes_front xs rest h i =
+    elim (cases_lt i (length xs)) [
+      | inl lt ↦ rw (sym (get_or_append_left xs rest 0 i lt)) (h i)
+      | inr le ↦ rw (get_or_past xs i 0 le) (omega arith)
+    ]
 
-pub entry_again : (text rest : List ℕ) → length text < 2 ^ 32 → entry_at (entry text ++ rest) ≡ Ok (text, rest)
-unfolding entry_at entry
-entry_again text rest lt =
-    let split : (number (length text) ++ text) ++ rest ≡ number (length text) ++ (text ++ rest) = append_assoc (number (length text)) text rest in
-    let long : ltb (length (text ++ rest)) (length text) ≡ false = le-ltb _ _ (omega (arith, length-append text rest)) in
-    ap entry_at split ∙ rw (number_again (length text) (text ++ rest) lt, long, take_at text rest (length text) refl, drop_at text rest (length text) refl) refl
+pub record Taken (known : List (List ℕ)) (bytes : List ℕ) (x : List ℕ × List ℕ) : Type 0 where
+  pub takes : Takes bytes (text x.0) x.1
+  pub short : length x.0 < 2 ^ 32
+  pub bytes_fit : IsBytes x.0
+  pub open_length : is_length known (length x.0) ≡ true
+
+pub text_takes : (known : List (List ℕ)) (bytes : List ℕ) (x : List ℕ × List ℕ) → IsBytes bytes → text_at known bytes ≡ Ok x → Taken known bytes x
+unfolding text_at text
+text_takes known bytes x fits e =
+    let b = bind_ok (checked_at w32 (is_length known) bytes) (λ len. bytes_at len.0 len.1) x e in
+    let t = number_is (is_length known) bytes b.0 fits b.1 in
+    let s = bytes_takes b.0.0 b.0.1 x t.0.rest_fits b.2 in
+    let len : b.0.0 ≡ length x.0 = sym s.1 in
+    record {
+      takes = subst (λ (k : ℕ). Takes bytes (number k ++ x.0) x.1) len (Takes-then bytes (number b.0.0) b.0.1 x.0 x.1 t.0 s.0);
+      short = omega (arith, t.2, s.1);
+      bytes_fit = bytes_front x.0 x.1 (subst IsBytes s.0.parts t.0.rest_fits);
+      open_length = subst (λ (k : ℕ). is_length known k ≡ true) len t.1;
+    }
+
+pub text_again : (known : List (List ℕ)) (x rest : List ℕ) → length x < 2 ^ 32 → is_length known (length x) ≡ true → text_at known (text x ++ rest) ≡ Ok (x, rest)
+unfolding text_at text
+text_again known x rest lt stands =
+    let split : (number (length x) ++ x) ++ rest ≡ number (length x) ++ (x ++ rest) = append_assoc (number (length x)) x rest in
+    ap (λ (b : List ℕ). checked_at w32 (is_length known) b >>= λ len. bytes_at len.0 len.1) split
+    ∙ (then_is (checked_at w32 (is_length known) (number (length x) ++ (x ++ rest))) (λ len. bytes_at len.0 len.1) (length x, x ++ rest) (number_passes (is_length known) (length x) (x ++ rest) lt stands)
+    ∙ bytes_again x rest)
+
+pub length-text : (bytes : List ℕ) → length (text bytes) ≡ 4 + length bytes
+unfolding text
+length-text bytes = omega (arith, length-append (number (length bytes)) bytes, length-number (length bytes))
+
+-- ---- the fields, one after the other
+
+pub concat_entries : (ds tail : List (List ℕ)) → concat (flat_map entry ds ++ tail) ≡ flat_map text ds ++ concat tail
+unfolding text
+concat_entries [] tail = refl
+concat_entries (d ∷ ds) tail =
+    ap (λ (t : List ℕ). number (length d) ++ (d ++ t)) (concat_entries ds tail)
+    ∙ (sym (append_assoc (number (length d)) d (flat_map text ds ++ concat tail)) ∙ sym (append_assoc (number (length d) ++ d) (flat_map text ds) (concat tail)))
+
+pub concat_codes : (ds items : List (List ℕ)) → concat (map (code ds) items) ≡ flat_map (code ds) items
+concat_codes ds [] = refl
+concat_codes ds (x ∷ items) = ap (λ (t : List ℕ). code ds x ++ t) (concat_codes ds items)
+
+pub concat_block : (ds items : List (List ℕ)) → concat (block ds items) ≡ (short (length ds) ++ flat_map text ds) ++ flat_map (code ds) items
+concat_block ds items =
+    ap (λ (t : List ℕ). short (length ds) ++ t) (concat_entries ds (map (code ds) items) ∙ ap (λ (t : List ℕ). flat_map text ds ++ t) (concat_codes ds items))
+    ∙ sym (append_assoc (short (length ds)) (flat_map text ds) (flat_map (code ds) items))
+
+pub spelling_is : (items : List (List ℕ)) → spelling items ≡ (short (length (dictionary items)) ++ flat_map text (dictionary items)) ++ flat_map (code (dictionary items)) items
+unfolding spelling
+spelling_is items = concat_block (dictionary items) items

@@ -1,6 +1,9 @@
-pub mod Pieces
 pub mod Words
-pub mod Loop
 pub mod Fields
-pub mod Blocks
+pub mod Fresh
 pub mod Short
+pub mod Places
+pub mod Blocks
+pub mod Faults
+pub mod Loop
+pub mod Sums

@@ -5,10 +5,13 @@ use Rattle.std.specs.Borrow.{Bor}
 use Rattle.std.proofs.lemmas.List.{length-map, length-append}
 use Rattle.std.proofs.lemmas.List.Elements.{All-from_recursion}
 use Rattle.std.proofs.lemmas.List.Sums.{get_or-le-sum_by}
-use Rattle.kt_dict.specs.Spelling.{has, with_entry, entries_after, dictionary, place, number, short, entry, code, spelling}
+use Rattle.kt_dict.specs.Spelling.{has, with_entry, entries_after, dictionary, place, short, code, spelling}
+use Rattle.kt_dict.specs.Writing.{text}
 use Rattle.kt_dict.proofs.Words.{nows, after_grows}
-use Rattle.kt_dict.proofs.Fields.{length-number, length-short}
-use Rattle.kt_dict.proofs.Blocks.{IsShort}
+use Rattle.kt_dict.proofs.Fields.{length-short, length-text, spelling_is}
+
+abbrev IsShort : List ℕ → Type 0
+IsShort x = length x < 2 ^ 32
 
 short_push : (ds : List (List ℕ)) (x : List ℕ) → AllByRecursion IsShort ds → IsShort x → AllByRecursion IsShort (ds ++ x ∷ [])
 short_push [] x all lt = (lt, tt)
@@ -38,36 +41,30 @@ keys_count items ks is =
     (n, omega (arith, ap length g.1, g.2))
 
 -- the parts that were written are the spelling
-pub spelled_by : (items known : List (List ℕ)) (n : ℕ) → known ≡ dictionary items → n ≡ length (dictionary items) → (short n ++ flat_map entry known) ++ flat_map (code known) items ≡ spelling items
-unfolding spelling
-spelled_by items known n is count = ap (λ k. (short k ++ flat_map entry known) ++ flat_map (code known) items) count ∙ ap (λ ds. (short (length (dictionary items)) ++ flat_map entry ds) ++ flat_map (code ds) items) is
+pub spelled_by : (items known : List (List ℕ)) (n : ℕ) → known ≡ dictionary items → n ≡ length (dictionary items) → (short n ++ flat_map text known) ++ flat_map (code known) items ≡ spelling items
+spelled_by items known n is count = ap (λ k. (short k ++ flat_map text known) ++ flat_map (code known) items) count ∙ (ap (λ ds. (short (length (dictionary items)) ++ flat_map text ds) ++ flat_map (code ds) items) is ∙ sym (spelling_is items))
 
 -- ---- how long a spelling is
-
-pub length-entry : (bytes : List ℕ) → length (entry bytes) ≡ 4 + length bytes
-unfolding entry
-length-entry bytes = omega (arith, length-append (number (length bytes)) bytes, length-number (length bytes))
 
 length-codes : (known items : List (List ℕ)) → length (flat_map (code known) items) ≡ 2 * length items
 length-codes known [] = refl
 length-codes known (x ∷ items) = omega (arith, length-append (code known x) (flat_map (code known) items), length-short (place known x), length-codes known items)
 
-pub length-spelling : (items known : List (List ℕ)) → known ≡ dictionary items → length (spelling items) ≡ 2 + length (flat_map entry known) + 2 * length items
-unfolding spelling
+pub length-spelling : (items known : List (List ℕ)) → known ≡ dictionary items → length (spelling items) ≡ 2 + length (flat_map text known) + 2 * length items
 length-spelling items known is =
     let ds : List (List ℕ) = dictionary items in
-    let front = length-append (short (length ds)) (flat_map entry ds) in
-    let whole = length-append (short (length ds) ++ flat_map entry ds) (flat_map (code ds) items) in
-    let same : length (flat_map entry known) ≡ length (flat_map entry ds) = ap (λ es. length (flat_map entry es)) is in
-    omega (arith, front, whole, same, length-short (length ds), length-codes ds items)
+    let front = length-append (short (length ds)) (flat_map text ds) in
+    let whole = length-append (short (length ds) ++ flat_map text ds) (flat_map (code ds) items) in
+    let same : length (flat_map text known) ≡ length (flat_map text ds) = ap (λ es. length (flat_map text es)) is in
+    omega (arith, ap length (spelling_is items), front, whole, same, length-short (length ds), length-codes ds items)
 
 -- one entry more
-pub entries_more : (ks : List (Bor (List ℕ))) (i : ℕ) (d : Bor (List ℕ)) → i < length ks → length (flat_map entry (nows (take (i + 1) ks))) ≡ length (flat_map entry (nows (take i ks))) + (4 + length (get_or ks i d).now)
+pub entries_more : (ks : List (Bor (List ℕ))) (i : ℕ) (d : Bor (List ℕ)) → i < length ks → length (flat_map text (nows (take (i + 1) ks))) ≡ length (flat_map text (nows (take i ks))) + (4 + length (get_or ks i d).now)
 entries_more [] i d lt = absurd (omega arith)
-entries_more (x ∷ ks) zero d lt = omega (arith, length-append (entry x.now) [], length-entry x.now)
+entries_more (x ∷ ks) zero d lt = omega (arith, length-append (text x.now) [], length-text x.now)
 entries_more (x ∷ ks) (suc i) d lt =
     let n : suc i + 1 ≡ suc (i + 1) = omega arith in
-    rw n (omega (arith, entries_more ks i d (omega arith), length-append (entry x.now) (flat_map entry (nows (take (i + 1) ks))), length-append (entry x.now) (flat_map entry (nows (take i ks)))))
+    rw n (omega (arith, entries_more ks i d (omega arith), length-append (text x.now) (flat_map text (nows (take (i + 1) ks))), length-append (text x.now) (flat_map text (nows (take i ks)))))
 
 -- ---- too many items, as soon as there are
 

@@ -13,7 +13,7 @@ use Rattle.std.specs.Prelude.{nat_lt, position}
 use Rattle.std.specs.List.{position_or_len}
 use Rattle.kt_dict.specs.Spelling.{same, has, place, with_entry, entries_after}
 
-same_is : (xs ys : List ℕ) → same xs ys ≡ true → xs ≡ ys
+pub same_is : (xs ys : List ℕ) → same xs ys ≡ true → xs ≡ ys
 same_is [] [] e = refl
 same_is [] (y ∷ ys) e = absurd cc
 same_is (x ∷ xs) [] e = absurd cc
@@ -23,7 +23,7 @@ same_is (x ∷ xs) (y ∷ ys) e =
       | false ↦ λ h t. absurd cc
     ]) refl e
 
-same_self : (xs : List ℕ) → same xs xs ≡ true
+pub same_self : (xs : List ℕ) → same xs xs ≡ true
 same_self [] = refl
 same_self (x ∷ xs) =
     let here : nat_eq x x ≡ true = grind (arith, nat_tests) in

@@ -1,4 +1,5 @@
-pub mod Pieces
 pub mod Spelling
+pub mod Items
 pub mod Reading
+pub mod Walk
 pub mod Writing

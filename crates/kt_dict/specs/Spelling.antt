@@ -1,10 +1,10 @@
--- The one spelling of a list of byte lists: its dictionary, and where each item stands in it.
-use Rattle.std.specs.Prelude.{ℕ, suc, ◌<◌, ◌≤◌, ◌^◌, List, [], ◌∷◌, ◌++◌, length, nat_eq, Bool, if◌then◌else◌}
-use Rattle.std.specs.List.{AllByRecursion, flat_map, list_any}
+-- The one spelling of a list of byte strings: its dictionary, and where each item stands in it.
+use Rattle.std.specs.Prelude.{◌≡◌, ℕ, suc, ◌<◌, ◌≤◌, ◌^◌, List, [], ◌∷◌, ◌++◌, length, map, get_or, nat_eq, Bool, if◌then◌else◌}
+use Rattle.std.specs.List.{AllByRecursion, concat, flat_map, list_any}
 use Rattle.std.specs.Cmp.Lexicographic.{pointwise}
 use Rattle.std.specs.Int.{w16, w32, to_le_bytes}
 
--- two byte lists are the same
+-- two byte strings are the same
 abbrev pub same : List ℕ → List ℕ → Bool
 same xs ys = pointwise nat_eq xs ys
 
@@ -37,22 +37,37 @@ short n = to_le_bytes w16 n
 unfoldable pub number : ℕ → List ℕ
 number n = to_le_bytes w32 n
 
--- an entry: its length, and its bytes
-unfoldable pub entry : List ℕ → List ℕ
-entry bytes = number (length bytes) ++ bytes
+-- the fields of an entry: its length, and its bytes
+abbrev pub entry : List ℕ → List (List ℕ)
+entry bytes = number (length bytes) ∷ bytes ∷ []
 
 -- the code of an item: its place among the entries
 abbrev pub code : List (List ℕ) → List ℕ → List ℕ
 code entries item = short (place entries item)
 
--- how many entries there are, the entries, and the code of each item
-abbrev pub block : List (List ℕ) → List (List ℕ) → List ℕ
-block known items = short (length known) ++ flat_map entry known ++ flat_map (code known) items
+-- the fields of a block: how many entries there are, the entries, and the code of each item
+abbrev pub block : List (List ℕ) → List (List ℕ) → List (List ℕ)
+block entries items = short (length entries) ∷ (flat_map entry entries ++ map (code entries) items)
+
+abbrev pub fields : List (List ℕ) → List (List ℕ)
+fields items = block (dictionary items) items
 
 unfoldable pub spelling : List (List ℕ) → List ℕ
-spelling items = block (dictionary items) items
+spelling items = concat (fields items)
 
 -- what has a spelling: at most 4,096 different items, and the length of each has room in its field
 pub record Fits (items : List (List ℕ)) : Type 0 where
   pub few : length (dictionary items) ≤ 4096
   pub each : AllByRecursion (λ x. length x < 2 ^ 32) (dictionary items)
+
+-- the numbers are bytes
+abbrev pub AreBytes : List ℕ → Type 0
+AreBytes item = (i : ℕ) → get_or item i 0 < 256
+
+-- the fields are those of a list of n byte strings
+pub record Spelled (n : ℕ) (all : List (List ℕ)) : Type 0 where
+  pub items : List (List ℕ)
+  pub count : length items ≡ n
+  pub fits : Fits items
+  pub bytes : AllByRecursion AreBytes (dictionary items)
+  pub is : all ≡ fields items

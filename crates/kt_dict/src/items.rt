@@ -1,64 +1,45 @@
-//! The cells of a block: byte lists in one buffer.
+//! The cells of a block as it stands on disk: its entries, each once, and a code for each cell.
 
-ghost use Rattle.std.specs.Prelude.{◌≡◌, ◌+◌, ◌<◌, ◌≤◌, ◌==◌, [], ◌∷◌, ◌++◌, length, get_or, OnOk, OnErr};
-ghost use Rattle.std.specs.List.{between};
-ghost use Rattle.kt_dict.specs.Pieces as spec;
+ghost use Rattle.std.specs.Prelude.{◌≡◌, ◌<◌, ◌==◌, [], length, get_or, sum_by};
+ghost use Rattle.kt_dict.specs.Items.{IsHeld, items_of};
 
-use crate::error::NoMemory;
-use std::alloc::Global;
+use kt_bytes::Texts;
 use std::marker::Model;
 
 /// An item of a list, where it lies.
 pub type Item<'a> = &'a [u8];
 
-/// Where item `i` begins: where the one before it ends.
-fn start_at(ends: &[usize], i: usize) -> usize
-    requires { i ≤ length ends.now }
-    ensures { result ≡ spec.start_at 0 ends.now i }
-{
-    if i == 0 { 0 } else { ends[i - 1] }
-}
-
-fn part(bytes: &[u8], start: usize, end: usize) -> &[u8]
-    requires in_order { start ≤ end }
-    requires inside { end ≤ length bytes.now }
-    ensures { result.now ≡ between start end bytes.now }
-{
-    &bytes[start..end]
-}
-
-/// A list of byte lists: the bytes of all of them, and where each one ends.
+/// The list of a block that was read. Contracts see the items, each the entry of its code.
 #[derive(Debug, Drop)]
 pub struct Items {
-    bytes: Vec<u8>,
-    ends: Vec<usize>,
+    entries: Texts,
+    codes: Vec<u16>,
 }
 
 impl Model for Items {
-    ghost use Rattle.std.specs.Prelude.{List, ℕ, length};
-    ghost use Rattle.kt_dict.specs.Pieces.{pieces, IsCut};
+    ghost use Rattle.std.specs.Prelude.{List, ℕ};
+    ghost use Rattle.kt_dict.specs.Items.{IsHeld, items_of};
 
     ghost Value = { List (List ℕ) };
 
-    ghost view = { λ s. pieces 0 s.ends.items s.bytes.items };
+    ghost view = { λ s. items_of s.entries s.codes.items };
 
-    ghost invariant = { λ s. IsCut 0 s.ends.items (length s.bytes.items) };
+    ghost invariant = { λ s. IsHeld s.entries s.codes.items };
 }
 
 impl Items {
-    pub fn new(alloc: Global) -> Items
-        ensures { result ≡ [] }
+    /// The list of these entries and codes, which takes no memory.
+    pub(crate) fn of(entries: Texts, codes: Vec<u16>) -> Items
+        requires { IsHeld entries codes.items }
+        ensures { result ≡ items_of entries codes.items }
     {
-        Items {
-            bytes: Vec::new(alloc),
-            ends: Vec::new(alloc),
-        }
+        Items { entries, codes }
     }
 
     pub fn len(&self) -> usize
         ensures { result ≡ length self.now }
     {
-        self.ends.len()
+        self.codes.len()
     }
 
     pub fn is_empty(&self) -> bool
@@ -67,25 +48,23 @@ impl Items {
         self.len() == 0
     }
 
-    /// The item at this place.
+    /// The item at this place, where its entry lies.
     pub fn item(&self, i: usize) -> Item<'_>
         requires { i < length self.now }
         ensures { result.now ≡ get_or self.now i [] }
     {
-        let start = start_at(&self.ends, i);
-        let end = self.ends[i];
-        part(&self.bytes, start, end)
+        self.entries.get(self.codes[i] as usize)
     }
 
-    pub fn push(&mut self, item: &[u8]) -> Result<(), NoMemory>
-        ensures ok { OnOk result (self.new ≡ self.old ++ item.now ∷ []) }
-        ensures err { OnErr result (self.new ≡ self.old) }
+    /// How many bytes all items have together.
+    pub fn byte_len(&self) -> usize
+        ensures { result ≡ sum_by length self.now }
     {
-        self.ends.reserve(1)?;
-        self.bytes.extend_from_slice(item)?;
-        let end = self.bytes.len();
-        self.ends.push(end)?;
-        Ok(())
+        let mut sum = 0;
+        for code in &self.codes {
+            sum += self.entries.get(*code as usize).len();
+        }
+        sum
     }
 }
 

@@ -1,39 +1,45 @@
 //! From a block to its list.
 
-ghost use Rattle.std.specs.Prelude.{◌≡◌, ◌≤◌, ◌<◌, ◌^◌, [], List, ℕ, map, length, get_or, IfOk, IsTrue};
-ghost use Rattle.kt_dict.specs.Reading.{Gives, Spells, IsAnswer, IsItems, is_code, count_at, entry_at, entries_at, code_at, used_with, codes_at, block_at};
+ghost use Rattle.std.specs.Prelude.{◌≡◌, ◌≤◌, ◌<◌, ◌^◌, [], List, ℕ, map, IfOk, IfErr, IsTrue};
+ghost use Rattle.kt_bytes.specs.Reading.{Gives};
+ghost use Rattle.kt_dict.specs.Reading.{Spells, IsCause, IsItems};
+ghost use Rattle.kt_dict.specs.Walk.{is_code, count_at, text_at, entries_at, code_at, used_with, codes_at, block_at};
 
-use crate::error::{CodecNo, Stop, Width};
+use crate::error::{CodecNo, Width};
 use crate::items::Items;
-use crate::number::{u16_at, u32_at};
-use crate::table::use_item;
+use crate::table::{can_stand, texts_of, use_item};
 use indexmap::IndexSet;
+use kt_bytes::fields::{front_of, u16_at, u32_at};
+use kt_bytes::{Stop, Texts};
 use std::alloc::Global;
 
 /// The most entries that a dictionary has.
 pub const MOST: usize = 4096;
 
-#[tactic(auto, unfolding(crate::specs::Reading::count_at))]
+#[tactic(auto, unfolding(crate::specs::Walk::count_at))]
 fn count_of(n: u32, bytes: &[u8]) -> Result<(usize, &[u8]), Stop>
     ensures { Gives (λ x. (x.0, x.1.now)) result (count_at n bytes.now) }
 {
     let (count, rest) = u16_at(bytes)?;
+    let count = count as usize;
     let cells = n as usize;
     if count <= MOST && count <= cells && (0 < count || cells == 0) {
         return Ok((count, rest));
     }
-    Err(Stop::Fault { left: bytes.len() })
+    Err(Stop::Left(bytes.len()))
 }
 
-#[tactic(auto, unfolding(crate::specs::Reading::entry_at))]
-fn entry_of(bytes: &[u8]) -> Result<(&[u8], &[u8]), Stop>
-    ensures { Gives (λ x. (x.0.now, x.1.now)) result (entry_at bytes.now) }
+/// The bytes of an entry behind these.
+#[tactic(auto, unfolding(crate::specs::Walk::text_at))]
+fn text_of<'a>(entries: &IndexSet<&[u8]>, bytes: &'a [u8]) -> Result<(&'a [u8], &'a [u8]), Stop>
+    ensures { Gives (λ x. (x.0.now, x.1.now)) result (text_at (map (λ k. k.now) entries.now.keys) bytes.now) }
 {
     let (len, rest) = u32_at(bytes)?;
-    if rest.len() < len {
-        return Err(Stop::Fault { left: 0 });
+    let len = len as usize;
+    if !can_stand(entries, len) {
+        return Err(Stop::Left(bytes.len()));
     }
-    Ok(rest.split_at(len))
+    front_of(rest, len)
 }
 
 /// The entries, and the bytes behind them.
@@ -49,24 +55,24 @@ fn entries_of(alloc: Global, count: usize, bytes: &[u8]) -> Result<Known<'_>, St
     let mut entries = IndexSet::new(alloc);
     let mut rest = bytes;
     for _ in 0..count {
-        let (entry, after) = entry_of(rest)?;
-        if !use_item(&mut entries, entry)? {
-            return Err(Stop::Fault { left: rest.len() });
+        let (text, after) = text_of(&entries, rest)?;
+        if !use_item(&mut entries, text)? {
+            return Err(Stop::Left(text.len() + after.len()));
         }
         rest = after;
     }
     Ok(Known { entries, rest })
 }
 
-#[tactic(auto, unfolding(crate::specs::Reading::code_at))]
-fn code_of(after: usize, count: usize, used: usize, bytes: &[u8]) -> Result<(usize, &[u8]), Stop>
+#[tactic(auto, unfolding(crate::specs::Walk::code_at))]
+fn code_of(after: usize, count: usize, used: usize, bytes: &[u8]) -> Result<(u16, &[u8]), Stop>
     requires { used ≤ count }
     ensures read { Gives (λ x. (x.0, x.1.now)) result (code_at after count used bytes.now) }
     ensures within { IfOk result (λ x. x.0 < count) }
 {
     let (code, rest) = u16_at(bytes)?;
-    if !stands(after, count, used, code) {
-        return Err(Stop::Fault { left: bytes.len() });
+    if !stands(after, count, used, code as usize) {
+        return Err(Stop::Left(bytes.len()));
     }
     Ok((code, rest))
 }
@@ -92,56 +98,41 @@ fn next_used(used: usize, code: usize) -> usize
     if code < used { used } else { used + 1 }
 }
 
-fn entry<'a>(known: &[&'a [u8]], code: usize) -> &'a [u8]
-    requires { code < length known.now }
-    ensures { result.now ≡ get_or (map (λ k. k.now) known.now) code [] }
+fn codes_of(alloc: Global, n: u32, count: usize, bytes: &[u8]) -> Result<(Vec<u16>, &[u8]), Stop>
+    requires { count < 2 ^ 63 }
+    ensures { Gives (λ x. (x.0.items, x.1.now)) result (codes_at n count 0 [] bytes.now) }
 {
-    known[code]
-}
-
-fn codes_of<'a>(
-    alloc: Global,
-    n: u32,
-    known: &[&[u8]],
-    bytes: &'a [u8],
-) -> Result<(Items, &'a [u8]), Stop>
-    ensures { Gives (λ x. (x.0, x.1.now)) result (codes_at n (map (λ k. k.now) known.now) 0 [] bytes.now) }
-{
-    let mut items = Items::new(alloc);
+    let mut codes = Vec::new(alloc);
     let mut rest = bytes;
     let mut used = 0;
     for i in 0..n {
-        let (code, after) = code_of((n - i - 1) as usize, known.len(), used, rest)?;
-        items.push(entry(known, code))?;
-        used = next_used(used, code);
+        let (code, after) = code_of((n - i - 1) as usize, count, used, rest)?;
+        codes.push(code)?;
+        used = next_used(used, code as usize);
         rest = after;
     }
-    Ok((items, rest))
+    Ok((codes, rest))
 }
 
-#[tactic(auto, unfolding(crate::specs::Reading::block_at))]
-fn block_of(alloc: Global, n: u32, bytes: &[u8]) -> Result<Items, Stop>
-    ensures { Gives (λ x. x) result (block_at n bytes.now) }
+/// The entries and codes of a block.
+#[derive(Drop)]
+struct Parts {
+    entries: Texts,
+    codes: Vec<u16>,
+}
+
+#[tactic(auto, unfolding(crate::specs::Walk::block_at))]
+fn block_of(alloc: Global, n: u32, bytes: &[u8]) -> Result<Parts, Stop>
+    ensures { Gives (λ x. (x.entries, x.codes.items)) result (block_at n bytes.now) }
 {
     let (count, rest) = count_of(n, bytes)?;
     let known = entries_of(alloc, count, rest)?;
-    let (items, rest) = codes_of(alloc, n, known.entries.as_slice(), known.rest)?;
+    let (codes, rest) = codes_of(alloc, n, known.entries.len(), known.rest)?;
     if !rest.is_empty() {
-        return Err(Stop::Fault { left: rest.len() });
+        return Err(Stop::Left(rest.len()));
     }
-    Ok(items)
-}
-
-fn answer(alloc: Global, bytes: &[u8], n: u32) -> Result<Items, CodecNo>
-    ensures { IsAnswer bytes.now n result }
-{
-    match block_of(alloc, n, bytes) {
-        Ok(items) => Ok(items),
-        Err(Stop::Memory) => Err(CodecNo::Memory),
-        Err(Stop::Fault { left }) => Err(CodecNo::Place {
-            offset: (bytes.len() - left) as u64,
-        }),
-    }
+    let entries = texts_of(alloc, known.entries.as_slice())?;
+    Ok(Parts { entries, codes })
 }
 
 /// The `n` items that the bytes spell, all of the bytes.
@@ -151,8 +142,14 @@ pub fn decode(alloc: Global, bytes: &[u8], n: u32, width: Width) -> Result<Items
     // What is spelled so is read, unless memory runs out.
     ensures only { (items : List (List ℕ)) → Spells bytes.now n items → IsItems result items }
     // Where the first fault is.
-    ensures place { IsAnswer bytes.now n result }
+    ensures place { IfErr result (IsCause bytes.now n) }
 {
     let Width::Bytes = width;
-    answer(alloc, bytes, n)
+    match block_of(alloc, n, bytes) {
+        Ok(parts) => Ok(Items::of(parts.entries, parts.codes)),
+        Err(Stop::Memory) => Err(CodecNo::Memory),
+        Err(Stop::Left(left)) => Err(CodecNo::Place {
+            offset: bytes.len().saturating_sub(left) as u64,
+        }),
+    }
 }

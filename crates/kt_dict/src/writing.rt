@@ -2,32 +2,31 @@
 
 ghost use Rattle.std.specs.Prelude.{◌≡◌, ◌<◌, ◌≤◌, ◌^◌, ◌++◌, length, map, sum_by, OnOk, IfOk, IfErr, MatchOption};
 ghost use Rattle.std.specs.List.{All, flat_map};
-ghost use Rattle.kt_dict.specs.Spelling.{code, dictionary, entry, short, spelling, Fits};
-ghost use Rattle.kt_dict.specs.Writing.{IsRefusal};
+ghost use Rattle.kt_dict.specs.Spelling.{code, dictionary, short, spelling, Fits};
+ghost use Rattle.kt_dict.specs.Writing.{text, IsRefusal};
 
-use crate::error::{CodecNo, NoMemory, Width};
-use crate::items::Items;
-use crate::octets::Octets;
+use crate::error::{CodecNo, Width};
 use crate::reading::MOST;
 use crate::table::{place_of, use_item};
 use indexmap::IndexSet;
+use kt_bytes::{NoMemory, Octets, Texts};
 use std::alloc::{AllocError, Global};
 
 /// The different items, in the order of their first use.
-fn table_of(alloc: Global, cells: &Items) -> Result<IndexSet<&[u8]>, NoMemory>
+fn table_of(alloc: Global, cells: &Texts) -> Result<IndexSet<&[u8]>, NoMemory>
     ensures { IfOk result (λ table. map (λ k. k.now) table.keys ≡ dictionary cells.now) }
 {
     let mut table = IndexSet::new(alloc);
     for i in 0..cells.len() {
-        use_item(&mut table, cells.item(i))?;
+        use_item(&mut table, cells.get(i))?;
     }
     Ok(table)
 }
 
-#[tactic(auto, unfolding(crate::specs::Spelling::entry, crate::specs::Spelling::number))]
+#[tactic(auto, unfolding(crate::specs::Writing::text, crate::specs::Spelling::number))]
 fn put_entry(out: &mut Vec<u8>, bytes: &[u8]) -> Result<(), AllocError>
     requires { length bytes.now < 2 ^ 32 }
-    ensures { OnOk result (out.new.items ≡ out.old.items ++ entry bytes.now) }
+    ensures { OnOk result (out.new.items ≡ out.old.items ++ text bytes.now) }
 {
     out.extend_from_slice(&(bytes.len() as u32).to_le_bytes())?;
     out.extend_from_slice(bytes)?;
@@ -45,7 +44,7 @@ fn put_short(out: &mut Vec<u8>, n: usize) -> Result<(), AllocError>
 
 fn put_entries(out: &mut Vec<u8>, entries: &[&[u8]]) -> Result<(), AllocError>
     requires { All (λ x. length x.now < 2 ^ 32) entries.now }
-    ensures { OnOk result (out.new.items ≡ out.old.items ++ flat_map entry (map (λ k. k.now) entries.now)) }
+    ensures { OnOk result (out.new.items ≡ out.old.items ++ flat_map text (map (λ k. k.now) entries.now)) }
 {
     for bytes in entries {
         put_entry(out, bytes)?;
@@ -53,12 +52,12 @@ fn put_entries(out: &mut Vec<u8>, entries: &[&[u8]]) -> Result<(), AllocError>
     Ok(())
 }
 
-fn put_codes(out: &mut Vec<u8>, table: &IndexSet<&[u8]>, cells: &Items) -> Result<(), AllocError>
+fn put_codes(out: &mut Vec<u8>, table: &IndexSet<&[u8]>, cells: &Texts) -> Result<(), AllocError>
     requires { length (map (λ k. k.now) table.now.keys) ≤ 4096 }
     ensures { OnOk result (out.new.items ≡ out.old.items ++ flat_map (code (map (λ k. k.now) table.now.keys)) cells.now) }
 {
     for i in 0..cells.len() {
-        put_short(out, place_of(table, cells.item(i)))?;
+        put_short(out, place_of(table, cells.get(i)))?;
     }
     Ok(())
 }
@@ -67,7 +66,7 @@ fn put_codes(out: &mut Vec<u8>, table: &IndexSet<&[u8]>, cells: &Items) -> Resul
 fn entries_len(entries: &[&[u8]]) -> usize
     requires few { length entries.now ≤ 4096 }
     requires small { All (λ x. length x.now < 2 ^ 32) entries.now }
-    ensures value { result ≡ length (flat_map entry (map (λ k. k.now) entries.now)) }
+    ensures value { result ≡ length (flat_map text (map (λ k. k.now) entries.now)) }
     ensures most { result < 2 ^ 45 }
 {
     let mut len = 0;
@@ -78,12 +77,12 @@ fn entries_len(entries: &[&[u8]]) -> usize
 }
 
 /// The different items, or none where there are too many.
-fn small_table(alloc: Global, cells: &Items) -> Result<Option<IndexSet<&[u8]>>, NoMemory>
+fn small_table(alloc: Global, cells: &Texts) -> Result<Option<IndexSet<&[u8]>>, NoMemory>
     ensures { IfOk result (λ found. MatchOption found (4096 < length (dictionary cells.now)) (λ table. (map (λ k. k.now) table.keys ≡ dictionary cells.now) × (length (dictionary cells.now) ≤ 4096))) }
 {
     let mut table = IndexSet::new(alloc);
     for i in 0..cells.len() {
-        use_item(&mut table, cells.item(i))?;
+        use_item(&mut table, cells.get(i))?;
         if table.len() > MOST {
             return Ok(None);
         }
@@ -92,7 +91,7 @@ fn small_table(alloc: Global, cells: &Items) -> Result<Option<IndexSet<&[u8]>>, 
 }
 
 /// How many bytes the spelling of the list takes, or none where there are too many different items.
-pub fn encoded_len(alloc: Global, cells: &Items) -> Result<Option<usize>, NoMemory>
+pub fn encoded_len(alloc: Global, cells: &Texts) -> Result<Option<usize>, NoMemory>
     requires few { length cells.now < 2 ^ 32 }
     requires small { sum_by length cells.now < 2 ^ 32 }
     ensures { IfOk result (λ len. MatchOption len (¬ Fits cells.now) (λ n. Fits cells.now × (n ≡ length (spelling cells.now)))) }
@@ -104,7 +103,7 @@ pub fn encoded_len(alloc: Global, cells: &Items) -> Result<Option<usize>, NoMemo
 }
 
 /// The one spelling of the list.
-pub fn encode(alloc: Global, cells: &Items, width: Width) -> Result<Octets, CodecNo>
+pub fn encode(alloc: Global, cells: &Texts, width: Width) -> Result<Octets, CodecNo>
     requires few { length cells.now < 2 ^ 32 }
     requires small { sum_by length cells.now < 2 ^ 32 }
     ensures ok { IfOk result (λ bytes. (bytes ≡ spelling cells.now) × Fits cells.now) }
@@ -123,5 +122,5 @@ pub fn encode(alloc: Global, cells: &Items, width: Width) -> Result<Octets, Code
     put_short(&mut out, count)?;
     put_entries(&mut out, table.as_slice())?;
     put_codes(&mut out, &table, cells)?;
-    Ok(Octets::from_vec(out))
+    Ok(Octets::of(out))
 }

@@ -5,11 +5,11 @@ use Rattle.std.specs.List.{sum_by}
 use Rattle.std.proofs.lemmas.List.{append-nil, take_more, length-take-le, get_or-take, get_or_push, length_push}
 use Rattle.std.proofs.lemmas.List.Sums.{get_or-le-sum_by}
 use Rattle.kt_front.specs.Spelling.{base, cell, cells, spelling, AllFit, Fits}
-use Rattle.kt_front.specs.Items.{last}
+use Rattle.kt_bytes.specs.Cuts.{last}
 use Rattle.kt_front.proofs.Shared.{shared-le}
 
 -- the item before what follows
-pub last_or : List ℕ → List (List ℕ) → List ℕ
+unfoldable pub last_or : List ℕ → List (List ℕ) → List ℕ
 last_or b [] = b
 last_or b (x ∷ xs) = last_or x xs
 

@@ -1,7 +1,8 @@
-pub mod Pieces
 pub mod Shared
-pub mod Cells
-pub mod Loop
 pub mod Fields
-pub mod Blocks
+pub mod Cells
 pub mod Walk
+pub mod Blocks
+pub mod Places
+pub mod Faults
+pub mod Loop

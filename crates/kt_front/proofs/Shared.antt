@@ -6,7 +6,7 @@ use Rattle.std.proofs.lemmas.List.{length-drop}
 use Rattle.std.proofs.lemmas.Bool.Decides.{nat_tests}
 use Rattle.std.proofs.lemmas.Bool.{eqb-true}
 use Rattle.kt_front.specs.Spelling.{shared}
-use Rattle.kt_front.specs.Reading.{begin_alike}
+use Rattle.kt_front.specs.Walk.{begin_alike}
 
 pub shared-le : (xs ys : List ℕ) → (shared xs ys ≤ length xs) × (shared xs ys ≤ length ys)
 shared-le xs ys = common_prefix_len-le nat_eq xs ys

@@ -9,12 +9,10 @@ use Rattle.std.proofs.lemmas.Bool.{eqb-true, le-ltb, cases_lt}
 use Rattle.std.proofs.lemmas.Bool.Decides.{nat_tests}
 use Rattle.std.proofs.lemmas.List.{length-drop, length-append, take_at, drop_at, take-append-drop, take-take, length-take, take_rest, get_or-drop, drop-drop}
 use Rattle.kt_front.specs.Spelling.{base, number, cell, cells, spelling, CellFits, AllFit, Fits, shared}
-use Rattle.kt_front.specs.declared.error.Stop.{Stop}
-use Rattle.kt_front.specs.declared.error.Stop.TheVariants as stops
-use Rattle.kt_front.specs.Reading.{Stops}
 use Rattle.kt_front.specs.Walking.{order, Fields, fields_at, behind, before_at, IsBlock, Meets, AreStarts}
 use Rattle.kt_front.proofs.Shared.{shared-le, shared_front}
-use Rattle.kt_front.proofs.Fields.{number_again, ok_is}
+use Rattle.kt_bytes.proofs.Numbers.{ok_is}
+use Rattle.kt_front.proofs.Fields.{number_again}
 use Rattle.kt_front.proofs.Cells.{take-base}
 
 pub fields_again : (with item rest : List ℕ) → CellFits with item → fields_at (cell with item ++ rest) ≡ Ok (record { shared = shared with item; rest = drop (shared with item) item; after = rest })
@@ -159,9 +157,8 @@ pub before_next : (j : ℕ) (items : List (List ℕ)) → before_at (j + 1) [] i
 before_next j items = let one : j + 1 ≡ suc j = omega arith in rw one refl
 
 -- a cell that is there is read
-pub no_fault : (bytes : List ℕ) (e : Stop) (x : Fields) → Stops e (fields_at bytes) → e ≡ stops.Fault 0 → fields_at bytes ≡ Ok x → ⊥
-no_fault bytes e x stopped is read =
-    let err : fields_at bytes ≡ Err 0 = subst (λ (d : Stop). Stops d (fields_at bytes)) is stopped in cc
+pub no_cell : (bytes : List ℕ) (x : Fields) → fields_at bytes ≡ Err 0 → fields_at bytes ≡ Ok x → ⊥
+no_cell bytes x failed read = let never : Err 0 ≡ Ok x = sym failed ∙ read in cc
 
 -- the fields of a cell that is read are those of the item
 pub fields_are : (bytes : List ℕ) (x y : Fields) → fields_at bytes ≡ Ok x → fields_at bytes ≡ Ok y → x ≡ y
@@ -217,7 +214,7 @@ block_behind items n bytes fits whole le is =
       parts = is ∙ (behind-cells n 0 [] items le ∙ cells_cycle (0 + n) 0 (before_at n [] items) [] (drop n items) place bare);
     }
 
-cells_split : (j i : ℕ) (b : List ℕ) (xs : List (List ℕ)) → j ≤ length xs → cells i b xs ≡ cells i b (take j xs) ++ behind j i b xs
+pub cells_split : (j i : ℕ) (b : List ℕ) (xs : List (List ℕ)) → j ≤ length xs → cells i b xs ≡ cells i b (take j xs) ++ behind j i b xs
 cells_split zero i b xs le = refl
 cells_split (suc j) i b [] le = absurd (omega arith)
 cells_split (suc j) i b (x ∷ xs) le =

@@ -1,5 +1,5 @@
-pub mod Pieces
-pub mod Items
 pub mod Spelling
 pub mod Reading
+pub mod Walk
 pub mod Walking
+pub mod Items

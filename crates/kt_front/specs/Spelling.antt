@@ -1,6 +1,6 @@
 -- The one spelling of a list of byte lists.
-use Rattle.std.specs.Prelude.{ℕ, suc, ◌-◌, ◌%◌, ◌<◌, ◌^◌, List, [], ◌∷◌, ◌++◌, length, drop, nat_eq, ◌==◌, if◌then◌else◌}
-use Rattle.std.specs.List.{common_prefix_len}
+use Rattle.std.specs.Prelude.{◌≡◌, ℕ, suc, ◌-◌, ◌%◌, ◌<◌, ◌^◌, List, [], ◌∷◌, ◌++◌, length, drop, get_or, nat_eq, ◌==◌, if◌then◌else◌}
+use Rattle.std.specs.List.{AllByRecursion, common_prefix_len}
 use Rattle.std.specs.Int.{w32, to_le_bytes}
 
 -- how many bytes two byte lists begin with alike
@@ -28,6 +28,17 @@ cells i before (item ∷ items) = cell (base i before) item ++ cells (suc i) ite
 unfoldable pub spelling : List (List ℕ) → List ℕ
 spelling items = cells 0 [] items
 
+-- the fields of a cell
+abbrev pub cell_fields : List ℕ → List ℕ → List (List ℕ)
+cell_fields with item = number (shared with item) ∷ number (length item - shared with item) ∷ drop (shared with item) item ∷ []
+
+abbrev pub fields_from : ℕ → List ℕ → List (List ℕ) → List (List ℕ)
+fields_from i before [] = []
+fields_from i before (item ∷ items) = cell_fields (base i before) item ++ fields_from (suc i) item items
+
+abbrev pub fields : List (List ℕ) → List (List ℕ)
+fields items = fields_from 0 [] items
+
 -- both numbers of a cell have room in their fields
 pub record CellFits (with item : List ℕ) : Type 0 where
   pub shared_part : shared with item < 2 ^ 32
@@ -40,3 +51,15 @@ AllFit i before (item ∷ items) = CellFits (base i before) item × AllFit (suc 
 -- what has a spelling
 unfoldable pub Fits : List (List ℕ) → Type 0
 Fits items = AllFit 0 [] items
+
+-- the numbers are bytes
+abbrev pub AreBytes : List ℕ → Type 0
+AreBytes item = (i : ℕ) → get_or item i 0 < 256
+
+-- the fields are those of a list of n byte strings
+pub record Spelled (n : ℕ) (all : List (List ℕ)) : Type 0 where
+  pub items : List (List ℕ)
+  pub count : length items ≡ n
+  pub fits : Fits items
+  pub bytes : AllByRecursion AreBytes items
+  pub is : all ≡ fields items

@@ -4,7 +4,8 @@ use Rattle.std.specs.declared.cmp.Ordering.{Ordering}
 use Rattle.std.specs.Ordering.{nat_cmp}
 use Rattle.std.specs.Cmp.Lexicographic.{slice_cmp}
 use Rattle.kt_front.specs.Spelling.{cells, shared, spelling, Fits}
-use Rattle.kt_front.specs.Reading.{◌>>=◌, number_at}
+use Rattle.std.specs.Int.{w32}
+use Rattle.kt_bytes.specs.Reading.{◌>>=◌, number_at}
 
 -- byte lists are ordered byte by byte, and a front comes before what it is the front of
 abbrev pub order : List ℕ → List ℕ → Ordering
@@ -18,8 +19,8 @@ pub record Fields : Type 0 where
 
 unfoldable pub fields_at : List ℕ → Result Fields ℕ
 fields_at bytes = do
-  n ← number_at bytes
-  m ← number_at n.1
+  n ← number_at w32 bytes
+  m ← number_at w32 n.1
   if nat_lt (length m.1) m.0 then Err 0 else Ok (record { shared = n.0; rest = take m.0 m.1; after = drop m.0 m.1 })
 
 -- the cells behind the first j, where the first has this number and stands behind this item

@@ -1,86 +1,72 @@
-//! The cells of a block: byte lists in one buffer.
+//! The cells of a block as it stands on disk, and one of them as it stands in its stretch.
 
-ghost use Rattle.std.specs.Prelude.{◌≡◌, ◌+◌, ◌<◌, ◌≤◌, ◌==◌, [], ◌∷◌, ◌++◌, length, take, get_or, vec_len, OnOk, OnErr};
-ghost use Rattle.std.specs.List.{between};
-ghost use Rattle.kt_front.specs.Pieces as spec;
+ghost use Rattle.std.specs.Prelude.{◌≡◌, ◌<◌, ◌^◌, ◌==◌, [], length, get_or, sum_by, OnOk, IfOk};
+ghost use Rattle.kt_front.specs.Items.{IsHeld, StandsIn, items_in, item_in};
+ghost use Rattle.kt_front.specs.Walking.{order};
 
-use crate::error::NoMemory;
-use std::alloc::{AllocError, Global};
+use crate::prefix::STRETCH;
+use crate::starts::Starts;
+use crate::walking::{behind, copy_in, next_cell, order_in};
+use kt_bytes::{NoMemory, Octets};
+use std::alloc::Global;
+use std::cmp::Ordering;
 use std::marker::Model;
 
-/// An item of a list, where it lies.
-pub type Item<'a> = &'a [u8];
-
-/// Where item `i` begins: where the one before it ends.
-fn start_at(ends: &[usize], i: usize) -> usize
-    requires { i ≤ length ends.now }
-    ensures { result ≡ spec.start_at 0 ends.now i }
-{
-    if i == 0 { 0 } else { ends[i - 1] }
-}
-
-fn part(bytes: &[u8], start: usize, end: usize) -> &[u8]
-    requires in_order { start ≤ end }
-    requires inside { end ≤ length bytes.now }
-    ensures { result.now ≡ between start end bytes.now }
-{
-    &bytes[start..end]
-}
-
-/// Adds what stands at `start` for so many bytes, and then the rest.
-fn append_behind(
-    bytes: &mut Vec<u8>,
-    start: usize,
-    shared: usize,
-    rest: &[u8],
-) -> Result<(), AllocError>
-    requires { start + shared ≤ vec_len bytes.old }
-    ensures ok { OnOk result (bytes.new.items ≡ bytes.old.items ++ (between start (start + shared) bytes.old.items ++ rest.now)) }
-    ensures err { OnErr result (bytes.new.items ≡ bytes.old.items) }
-{
-    let was = bytes.len();
-    bytes.extend_from_within(start..start + shared)?;
-    if let Err(e) = bytes.extend_from_slice(rest) {
-        bytes.truncate(was);
-        return Err(e);
-    }
-    Ok(())
-}
-
-/// A list of byte lists: the bytes of all of them, and where each one ends.
+/// The list of a block that was read. Contracts see the items.
 #[derive(Debug, Drop)]
 pub struct Items {
-    bytes: Vec<u8>,
-    ends: Vec<usize>,
+    bytes: Octets,
+    starts: Starts,
+    count: u32,
 }
 
 impl Model for Items {
-    ghost use Rattle.std.specs.Prelude.{List, ℕ, length};
-    ghost use Rattle.kt_front.specs.Pieces.{pieces, IsCut};
+    ghost use Rattle.std.specs.Prelude.{List, ℕ};
+    ghost use Rattle.kt_front.specs.Items.{IsHeld, items_in};
 
     ghost Value = { List (List ℕ) };
 
-    ghost view = { λ s. pieces 0 s.ends.items s.bytes.items };
+    ghost view = { λ s. items_in s.count s.bytes };
 
-    ghost invariant = { λ s. IsCut 0 s.ends.items (length s.bytes.items) };
+    ghost invariant = { λ s. IsHeld s.count s.bytes s.starts };
+}
+
+/// An item where it stands: the block from its stretch on, and its place in the stretch. Contracts
+/// see its bytes.
+#[derive(Debug, Drop)]
+pub struct Item<'a> {
+    stretch: &'a [u8],
+    place: u32,
+}
+
+impl<'a> Model for Item<'a> {
+    ghost use Rattle.std.specs.Prelude.{List, ℕ};
+    ghost use Rattle.kt_front.specs.Items.{StandsIn, item_in};
+
+    ghost Value = { List ℕ };
+
+    ghost view = { λ s. item_in s.place s.stretch.now };
+
+    ghost invariant = { λ s. StandsIn s.place s.stretch.now };
 }
 
 impl Items {
-    ghost use Rattle.kt_front.specs.Items.{last};
-
-    pub fn new(alloc: Global) -> Items
-        ensures { result ≡ [] }
+    /// The list of a block, which takes no memory.
+    pub(crate) fn of(bytes: Octets, starts: Starts, count: u32) -> Items
+        requires { IsHeld count bytes starts }
+        ensures { result ≡ items_in count bytes }
     {
         Items {
-            bytes: Vec::new(alloc),
-            ends: Vec::new(alloc),
+            bytes,
+            starts,
+            count,
         }
     }
 
     pub fn len(&self) -> usize
         ensures { result ≡ length self.now }
     {
-        self.ends.len()
+        self.count as usize
     }
 
     pub fn is_empty(&self) -> bool
@@ -90,53 +76,63 @@ impl Items {
     }
 
     /// The item at this place.
-    pub fn item(&self, i: usize) -> Item<'_>
+    pub fn item(&self, i: u32) -> Item<'_>
         requires { i < length self.now }
-        ensures { result.now ≡ get_or self.now i [] }
+        ensures { result ≡ get_or self.now i [] }
     {
-        let start = start_at(&self.ends, i);
-        let end = self.ends[i];
-        part(&self.bytes, start, end)
-    }
-
-    /// The last item, or nothing where there is none.
-    pub fn last(&self) -> Item<'_>
-        ensures { result.now ≡ last self.now }
-    {
-        let n = self.len();
-        if n == 0 { &[] } else { self.item(n - 1) }
-    }
-
-    pub fn push(&mut self, item: &[u8]) -> Result<(), NoMemory>
-        ensures ok { OnOk result (self.new ≡ self.old ++ item.now ∷ []) }
-        ensures err { OnErr result (self.new ≡ self.old) }
-    {
-        self.ends.reserve(1)?;
-        self.bytes.extend_from_slice(item)?;
-        let end = self.bytes.len();
-        self.ends.push(end)?;
-        Ok(())
-    }
-
-    /// Adds an item that begins as the last one does, for so many bytes.
-    pub fn push_behind(&mut self, shared: usize, rest: &[u8]) -> Result<(), NoMemory>
-        requires { shared ≤ length (last self.old) }
-        ensures ok { OnOk result (self.new ≡ self.old ++ (take shared (last self.old) ++ rest.now) ∷ []) }
-        ensures err { OnErr result (self.new ≡ self.old) }
-    {
-        self.ends.reserve(1)?;
-        let start = start_at(&self.ends, self.ends.len().saturating_sub(1));
-        append_behind(&mut self.bytes, start, shared, rest)?;
-        let end = self.bytes.len();
-        self.ends.push(end)?;
-        Ok(())
+        Item {
+            stretch: self.starts.stretch_of(self.bytes.as_slice(), i),
+            place: i % STRETCH,
+        }
     }
 }
 
-/// Item `i` of a block, with no copy.
+impl Item<'_> {
+    /// How many bytes the item has.
+    pub fn len(&self) -> usize
+        ensures { result ≡ length self.now }
+    {
+        match next_cell(behind(self.stretch, self.place)) {
+            Some(cell) => cell.shared + cell.rest.len(),
+            None => unreachable!(),
+        }
+    }
+
+    pub fn is_empty(&self) -> bool
+        ensures { result ≡ (length self.now == 0) }
+    {
+        self.len() == 0
+    }
+
+    /// Puts the item's bytes in place of those that are there.
+    pub fn copy_into(&self, out: &mut Octets) -> Result<(), NoMemory>
+        ensures { OnOk result (out.new ≡ self.now) }
+    {
+        copy_in(self.stretch, self.place, out)?;
+        Ok(())
+    }
+
+    /// A copy of the item's bytes.
+    pub fn to_octets(&self, alloc: Global) -> Result<Octets, NoMemory>
+        ensures { IfOk result (λ octets. octets ≡ self.now) }
+    {
+        let mut out = Octets::new(alloc);
+        self.copy_into(&mut out)?;
+        Ok(out)
+    }
+
+    /// The order of the item's bytes and the key.
+    pub fn compare(&self, key: &[u8]) -> Ordering
+        ensures { result ≡ order self.now key.now }
+    {
+        order_in(self.stretch, self.place, key)
+    }
+}
+
+/// Item `i` of a block, which takes no memory.
 pub fn get(block: &Items, i: u32) -> Item<'_>
     requires { i < length block.now }
-    ensures { result.now ≡ get_or block.now i [] }
+    ensures { result ≡ get_or block.now i [] }
 {
-    block.item(i as usize)
+    block.item(i)
 }

@@ -2,27 +2,26 @@
 //! with the cell before and the bytes that follow those. Every sixteenth cell shares nothing, so the
 //! sixteen cells from there on, a stretch, are read on their own.
 //!
-//! `encode` writes the one spelling of a list of byte lists, and `decode` answers that list exactly
-//! where the bytes spell it, and otherwise the first place at which they don't. `compare` orders an
-//! item against a key on the encoded bytes, with no copy of the item; with `Starts`, made once, it
-//! reads no more than the item's stretch. The crate stands on no other.
+//! `encode` writes the one spelling of a list of byte strings, and `decode` answers that list exactly
+//! where the bytes spell it, and otherwise the first place at which they don't. A list that was read
+//! is held as it stands on disk, with where its stretches begin, and `get` hands out an item where it
+//! stands: its length, its order against a key and a copy of it come from its stretch alone.
+//! `compare` and `compare_at` order an item of a block's bytes against a key.
 #![tactic(auto)]
 
 mod error;
 mod items;
 mod laws;
-mod number;
-mod octets;
 mod prefix;
 mod reading;
 mod starts;
 mod walking;
 mod writing;
 
-pub use error::{CodecNo, NoMemory, Width};
+pub use error::{CodecNo, Width};
 pub use items::{Item, Items, get};
-pub use laws::one_value;
-pub use octets::Octets;
+pub use kt_bytes::{NoMemory, Octets, Texts};
+pub use laws::{fields_spell, one_place, one_value};
 pub use reading::decode;
 pub use starts::{Starts, compare_at};
 pub use walking::compare;

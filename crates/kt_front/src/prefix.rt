@@ -2,7 +2,7 @@
 
 ghost use Rattle.std.specs.Prelude.{◌≡◌, ◌≤◌, length};
 ghost use Rattle.kt_front.specs.Spelling.{base, shared};
-ghost use Rattle.kt_front.specs.Reading as reading;
+ghost use Rattle.kt_front.specs.Walk as walk;
 
 /// Every so many cells one shares nothing: there a stretch begins.
 pub const STRETCH: u32 = 16;
@@ -34,7 +34,7 @@ pub fn common_prefix(a: &[u8], b: &[u8]) -> usize
 }
 
 pub fn begin_alike(a: &[u8], b: &[u8]) -> bool
-    ensures { result ≡ reading.begin_alike a.now b.now }
+    ensures { result ≡ walk.begin_alike a.now b.now }
 {
     match (a, b) {
         ([x, ..], [y, ..]) => x == y,

@@ -1,55 +1,34 @@
 //! From a block to its list.
 
-ghost use Rattle.std.specs.Prelude.{◌≤◌, ◌++◌, [], List, ℕ, length, take, IfOk};
-ghost use Rattle.kt_front.specs.Reading.{Gives, Spells, IsAnswer, IsItems, shared_at, rest_at, cell_at, items_at, block_at};
+ghost use Rattle.std.specs.Prelude.{◌≤◌, ◌++◌, [], List, ℕ, length, take, IfOk, IfErr};
+ghost use Rattle.kt_bytes.specs.Reading.{Gives};
+ghost use Rattle.kt_front.specs.Reading.{Spells, IsCause, IsItems};
+ghost use Rattle.kt_front.specs.Walk.{behind_of, cell_at, ended_of, items_at};
 
-use crate::error::{CodecNo, Stop, Width};
+use crate::error::{CodecNo, Width};
 use crate::items::Items;
-use crate::number::u32_at;
 use crate::prefix::{base_of, begin_alike};
+use crate::starts::Starts;
+use crate::walking::Cell;
+use kt_bytes::fields::{front_of, u32_at};
+use kt_bytes::{Octets, Stop};
 use std::alloc::Global;
 
-#[tactic(auto, unfolding(crate::specs::Reading::shared_at))]
-fn shared_of<'a>(with: &[u8], bytes: &'a [u8]) -> Result<(usize, &'a [u8]), Stop>
-    ensures { Gives (λ x. (x.0, x.1.now)) result (shared_at with.now bytes.now) }
-{
-    let (shared, rest) = u32_at(bytes)?;
-    if with.len() < shared {
-        return Err(Stop::Fault { left: bytes.len() });
-    }
-    Ok((shared, rest))
-}
-
-#[tactic(auto, unfolding(crate::specs::Reading::rest_at))]
-fn rest_of<'a>(unshared: &[u8], field: usize, bytes: &'a [u8]) -> Result<(&'a [u8], &'a [u8]), Stop>
-    ensures { Gives (λ x. (x.0.now, x.1.now)) result (rest_at unshared.now field bytes.now) }
-{
-    let (len, after) = u32_at(bytes)?;
-    let there = len.min(after.len());
-    if begin_alike(unshared, &after[..there]) {
-        return Err(Stop::Fault { left: field });
-    }
-    if after.len() < len {
-        return Err(Stop::Fault { left: 0 });
-    }
-    Ok(after.split_at(len))
-}
-
-/// A cell as it stands: how many bytes it shares, and the rest of its item.
-#[derive(Clone, Copy)]
-struct Cell<'a> {
-    shared: usize,
-    rest: &'a [u8],
-    after: &'a [u8],
-}
-
-#[tactic(auto, unfolding(crate::specs::Reading::cell_at, crate::specs::Reading::shared_at))]
+#[tactic(auto, unfolding(crate::specs::Walk::cell_at))]
 fn cell_of<'a>(with: &[u8], bytes: &'a [u8]) -> Result<Cell<'a>, Stop>
     ensures read { Gives (λ x. (take x.shared with.now ++ x.rest.now, x.after.now)) result (cell_at with.now bytes.now) }
     ensures there { IfOk result (λ x. x.shared ≤ length with.now) }
 {
-    let (shared, rest) = shared_of(with, bytes)?;
-    let (rest, after) = rest_of(&with[shared..], bytes.len(), rest)?;
+    let (shared, behind) = u32_at(bytes)?;
+    let shared = shared as usize;
+    if shared > with.len() {
+        return Err(Stop::Left(bytes.len()));
+    }
+    let (len, behind) = u32_at(behind)?;
+    let (rest, after) = front_of(behind, len as usize)?;
+    if begin_alike(&with[shared..], rest) {
+        return Err(Stop::Left(bytes.len()));
+    }
     Ok(Cell {
         shared,
         rest,
@@ -57,40 +36,30 @@ fn cell_of<'a>(with: &[u8], bytes: &'a [u8]) -> Result<Cell<'a>, Stop>
     })
 }
 
-fn items_of(alloc: Global, n: u32, bytes: &[u8]) -> Result<(Items, &[u8]), Stop>
-    ensures { Gives (λ x. (x.0, x.1.now)) result (items_at n 0 [] bytes.now) }
+/// The bytes behind `n` items. No more than one item is written out at a time.
+fn behind_items(alloc: Global, n: u32, bytes: &[u8]) -> Result<&[u8], Stop>
+    ensures { Gives (λ rest. rest.now) result (behind_of (items_at n 0 [] bytes.now)) }
 {
-    let mut items = Items::new(alloc);
+    let mut item = Octets::new(alloc);
     let mut rest = bytes;
     for i in 0..n {
-        let cell = cell_of(base_of(i as usize, items.last()), rest)?;
-        items.push_behind(cell.shared, cell.rest)?;
+        let cell = cell_of(base_of(i as usize, item.as_slice()), rest)?;
+        item.truncate(cell.shared);
+        item.extend(cell.rest)?;
         rest = cell.after;
     }
-    Ok((items, rest))
+    Ok(rest)
 }
 
-#[tactic(auto, unfolding(crate::specs::Reading::block_at))]
-fn block_of(alloc: Global, n: u32, bytes: &[u8]) -> Result<Items, Stop>
-    ensures { Gives (λ x. x) result (block_at n bytes.now) }
+/// All of the bytes are `n` items.
+fn check(alloc: Global, n: u32, bytes: &[u8]) -> Result<(), Stop>
+    ensures { Gives (λ _. 0) result (ended_of (behind_of (items_at n 0 [] bytes.now))) }
 {
-    let (items, rest) = items_of(alloc, n, bytes)?;
+    let rest = behind_items(alloc, n, bytes)?;
     if !rest.is_empty() {
-        return Err(Stop::Fault { left: rest.len() });
+        return Err(Stop::Left(rest.len()));
     }
-    Ok(items)
-}
-
-fn answer(alloc: Global, bytes: &[u8], n: u32) -> Result<Items, CodecNo>
-    ensures { IsAnswer bytes.now n result }
-{
-    match block_of(alloc, n, bytes) {
-        Ok(items) => Ok(items),
-        Err(Stop::Memory) => Err(CodecNo::Memory),
-        Err(Stop::Fault { left }) => Err(CodecNo::Place {
-            offset: (bytes.len() - left) as u64,
-        }),
-    }
+    Ok(())
 }
 
 /// The `n` items that the bytes spell, all of the bytes.
@@ -100,8 +69,18 @@ pub fn decode(alloc: Global, bytes: &[u8], n: u32, width: Width) -> Result<Items
     // What is spelled so is read, unless memory runs out.
     ensures only { (items : List (List ℕ)) → Spells bytes.now n items → IsItems result items }
     // Where the first fault is.
-    ensures place { IsAnswer bytes.now n result }
+    ensures place { IfErr result (IsCause bytes.now n) }
 {
     let Width::Bytes = width;
-    answer(alloc, bytes, n)
+    match check(alloc, n, bytes) {
+        Ok(()) => {
+            let starts = Starts::of(alloc, bytes, n)?;
+            let held = Octets::from_slice(alloc, bytes)?;
+            Ok(Items::of(held, starts, n))
+        }
+        Err(Stop::Memory) => Err(CodecNo::Memory),
+        Err(Stop::Left(left)) => Err(CodecNo::Place {
+            offset: bytes.len().saturating_sub(left) as u64,
+        }),
+    }
 }

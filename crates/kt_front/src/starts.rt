@@ -5,9 +5,9 @@ ghost use Rattle.kt_front.specs.Reading.{Spells};
 ghost use Rattle.kt_front.specs.Walking as spec;
 ghost use Rattle.kt_front.specs.Walking.{IsBlock, order};
 
-use crate::error::NoMemory;
 use crate::prefix::STRETCH;
 use crate::walking::{behind, order_in};
+use kt_bytes::NoMemory;
 use std::alloc::Global;
 use std::cmp::Ordering;
 use std::marker::Model;
@@ -50,7 +50,7 @@ impl Starts {
     }
 
     /// The block from the stretch of item `i` on.
-    fn stretch_of<'a>(&self, bytes: &'a [u8], i: u32) -> &'a [u8]
+    pub(crate) fn stretch_of<'a>(&self, bytes: &'a [u8], i: u32) -> &'a [u8]
         ensures { (items : List (List ℕ)) → IsBlock bytes.now items → AreStarts self.now items → i < length items → result.now ≡ spec.behind (i - i % 16) 0 [] items }
     {
         let start = self.start(i / STRETCH);

@@ -1,14 +1,14 @@
 //! Ordering an item against a key on the encoded bytes.
 
-ghost use Rattle.std.specs.Prelude.{◌≡◌, ◌≤◌, ◌<◌, ◌+◌, ℕ, List, [], length, drop, get_or, IfOk, IfErr};
+ghost use Rattle.std.specs.Prelude.{◌≡◌, ◌≤◌, ◌<◌, ◌+◌, ◌^◌, ℕ, List, [], Ok, Err, length, drop, get_or, IfSome, MatchOption, OnOk};
+ghost use Rattle.std.specs.Int.{w32};
+ghost use Rattle.kt_bytes.specs.Reading.{number_at};
 ghost use Rattle.kt_front.specs.Spelling.{shared};
-ghost use Rattle.kt_front.specs.Reading.{Gives};
 ghost use Rattle.kt_front.specs.Walking as spec;
 ghost use Rattle.kt_front.specs.Walking.{fields_at, IsBlock, order};
 
-use crate::error::Stop;
-use crate::number::u32_at;
 use crate::prefix::{STRETCH, common_prefix};
+use kt_bytes::{NoMemory, Octets};
 use std::cmp::Ordering;
 
 /// A cell as it stands: how many bytes it shares, the rest of its item, and the bytes behind it.
@@ -19,20 +19,34 @@ pub struct Cell<'a> {
     pub after: &'a [u8],
 }
 
+/// The number at the front, and the bytes behind it.
+fn number_of(bytes: &[u8]) -> Option<(usize, &[u8])>
+    ensures read { MatchOption result (number_at w32 bytes.now ≡ Err 0) (λ x. number_at w32 bytes.now ≡ Ok (x.0, x.1.now)) }
+    ensures within { IfSome result (λ x. length x.1.now ≤ length bytes.now) }
+    ensures small { IfSome result (λ x. x.0 < 2 ^ 32) }
+{
+    if bytes.len() < 4 {
+        return None;
+    }
+    let (front, rest) = bytes.split_at(4);
+    let number = u32::from_le_bytes([front[0], front[1], front[2], front[3]]);
+    Some((number as usize, rest))
+}
+
 /// The cell at the front, as far as its lengths tell.
 #[tactic(auto, unfolding(crate::specs::Walking::fields_at))]
-pub fn next_cell(bytes: &[u8]) -> Result<Cell<'_>, Stop>
-    ensures read { Gives (λ c. record { shared = c.shared; rest = c.rest.now; after = c.after.now }) result (fields_at bytes.now) }
-    ensures within { IfOk result (λ c. length c.after.now ≤ length bytes.now) }
-    ensures missing { IfErr result (λ e. e ≡ Stop.Fault 0) }
+pub fn next_cell(bytes: &[u8]) -> Option<Cell<'_>>
+    ensures read { MatchOption result (fields_at bytes.now ≡ Err 0) (λ c. fields_at bytes.now ≡ Ok (record { shared = c.shared; rest = c.rest.now; after = c.after.now })) }
+    ensures within { IfSome result (λ c. length c.after.now ≤ length bytes.now) }
+    ensures small { IfSome result (λ c. c.shared < 2 ^ 32) }
 {
-    let (shared, rest) = u32_at(bytes)?;
-    let (len, rest) = u32_at(rest)?;
+    let (shared, rest) = number_of(bytes)?;
+    let (len, rest) = number_of(rest)?;
     if rest.len() < len {
-        return Err(Stop::Fault { left: 0 });
+        return None;
     }
     let (rest, after) = rest.split_at(len);
-    Ok(Cell {
+    Some(Cell {
         shared,
         rest,
         after,
@@ -46,7 +60,7 @@ pub fn behind(bytes: &[u8], n: u32) -> &[u8]
 {
     let mut rest = bytes;
     for _ in 0..n {
-        let Ok(cell) = next_cell(rest) else {
+        let Some(cell) = next_cell(rest) else {
             return rest;
         };
         rest = cell.after;
@@ -102,13 +116,30 @@ pub fn order_in(bytes: &[u8], k: u32, key: &[u8]) -> Ordering
     let mut rest = bytes;
     let mut meeting = meet(&[], key);
     for _ in 0..k as usize + 1 {
-        let Ok(cell) = next_cell(rest) else {
+        let Some(cell) = next_cell(rest) else {
             return meeting.way;
         };
         meeting = meeting.next(cell, key);
         rest = cell.after;
     }
     meeting.way
+}
+
+/// Puts the bytes of item `k` in place of those that are there, in a block that begins with a stretch.
+pub fn copy_in(bytes: &[u8], k: u32, out: &mut Octets) -> Result<(), NoMemory>
+    ensures { OnOk result ((items : List (List ℕ)) → IsBlock bytes.now items → k < length items → out.new ≡ get_or items k []) }
+{
+    out.clear();
+    let mut rest = bytes;
+    for _ in 0..k as usize + 1 {
+        let Some(cell) = next_cell(rest) else {
+            return Ok(());
+        };
+        out.truncate(cell.shared);
+        out.extend(cell.rest)?;
+        rest = cell.after;
+    }
+    Ok(())
 }
 
 /// The order of item `i` and the key. It goes over the lengths of the cells before the item's

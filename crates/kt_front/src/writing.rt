@@ -4,9 +4,8 @@ ghost use Rattle.std.specs.Prelude.{◌≡◌, ◌<◌, ◌^◌, ◌++◌, lengt
 ghost use Rattle.kt_front.specs.Spelling.{base, cell, spelling, Fits};
 
 use crate::error::{CodecNo, Width};
-use crate::items::Items;
-use crate::octets::Octets;
 use crate::prefix::{base_of, common_prefix};
+use kt_bytes::{Octets, Texts};
 use std::alloc::{AllocError, Global};
 
 #[tactic(auto, unfolding(crate::specs::Spelling::cell, crate::specs::Spelling::number))]
@@ -31,7 +30,7 @@ pub fn cell_len(i: usize, before: &[u8], item: &[u8]) -> usize
 }
 
 /// The one spelling of the list.
-pub fn encode(alloc: Global, cells: &Items, width: Width) -> Result<Octets, CodecNo>
+pub fn encode(alloc: Global, cells: &Texts, width: Width) -> Result<Octets, CodecNo>
     requires { sum_by length cells.now < 2 ^ 32 }
     ensures ok { IfOk result (λ bytes. (bytes ≡ spelling cells.now) × Fits cells.now) }
     ensures err { IfErr result (λ e. e ≡ CodecNo.Memory) }
@@ -40,9 +39,9 @@ pub fn encode(alloc: Global, cells: &Items, width: Width) -> Result<Octets, Code
     let mut out = Vec::new(alloc);
     let mut before: &[u8] = &[];
     for i in 0..cells.len() {
-        let item = cells.item(i);
+        let item = cells.get(i);
         put_cell(&mut out, base_of(i, before), item)?;
         before = item;
     }
-    Ok(Octets::from_vec(out))
+    Ok(Octets::of(out))
 }

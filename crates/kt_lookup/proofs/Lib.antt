@@ -1,4 +1,3 @@
-pub mod Pieces
 pub mod BitSets
 pub mod OneFilter
 pub mod Halves

@@ -1,4 +1,3 @@
-pub mod Cuts
 pub mod Hash
 pub mod Filter
 pub mod Index

@@ -6,7 +6,7 @@ ghost use Rattle.kt_lookup.specs.Filter.{HasBit, HasAll, SetBy, filter_of as fil
 
 use crate::bits::{are_bytes, has_bit, set_bit};
 use crate::hashing::{fnv, nth_bit};
-use crate::keys::KeyList;
+use kt_bytes::Texts;
 use std::alloc::{AllocError, Global};
 
 /// Sets the six bits of a hash.
@@ -37,7 +37,7 @@ pub(crate) fn has_hash(filter: &[u8], hash: u64) -> bool
 }
 
 /// Sets the bits of each key.
-fn add_keys(filter: &mut [u8], keys: &KeyList)
+fn add_keys(filter: &mut [u8], keys: &Texts)
     requires some { 0 < length filter.old }
     requires few { length filter.old < 2 ^ 60 }
     ensures { (k : ℕ) → HasBit filter.new k ↔ (HasBit filter.old k ⊎ SetBy (8 * length filter.old) keys.now (length keys.now) k) }
@@ -48,7 +48,7 @@ fn add_keys(filter: &mut [u8], keys: &KeyList)
 }
 
 /// The filter of the keys.
-pub(crate) fn filter_of(alloc: Global, keys: &KeyList) -> Result<Vec<u8>, AllocError>
+pub(crate) fn filter_of(alloc: Global, keys: &Texts) -> Result<Vec<u8>, AllocError>
     requires some { 0 < length keys.now }
     requires few { length keys.now ≤ 3435973836 }
     ensures { IfOk result (λ filter. filter.items ≡ filter_of_keys keys.now) }

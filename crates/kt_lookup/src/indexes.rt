@@ -3,18 +3,17 @@
 ghost use Rattle.std.specs.Prelude.{◌≡◌, ◌+◌, ◌-◌, ◌*◌, ◌^◌, ◌<◌, ◌≤◌, ◌↔◌, [], ℕ, length, IsTrue, IfOk, slice_index_or};
 ghost use Rattle.kt_lookup.specs.Index.{IsBelow, Rises, index_of as index_of_keys};
 
-use crate::errors::NoMemory;
-use crate::keys::KeyList;
 use crate::steps::Steps;
+use kt_bytes::{NoMemory, Texts};
 use std::alloc::Global;
 use std::sync::ledger::Ledger;
 
 /// The keys at the ordinals divisible by 16.
-pub(crate) fn index_of(alloc: Global, keys: &KeyList) -> Result<KeyList, NoMemory>
+pub(crate) fn index_of(alloc: Global, keys: &Texts) -> Result<Texts, NoMemory>
     requires { length keys.now ≤ 3435973836 }
     ensures { IfOk result (λ index. index ≡ index_of_keys keys.now) }
 {
-    let mut index = KeyList::new(alloc);
+    let mut index = Texts::new(alloc);
     for j in 0..keys.len().div_ceil(16) {
         index.push(keys.get(16 * j))?;
     }
@@ -31,7 +30,7 @@ fn is_below<L: Ledger>(key: &[u8], other: &[u8], steps: &mut Steps<L>) -> bool
 }
 
 /// The place of the first entry at or after a key.
-pub(crate) fn search<L: Ledger>(index: &KeyList, key: &[u8], steps: &mut Steps<L>) -> usize
+pub(crate) fn search<L: Ledger>(index: &Texts, key: &[u8], steps: &mut Steps<L>) -> usize
     requires { Rises index.now }
     ensures within { result ≤ length index.now }
     ensures before { (j : ℕ) → j < result → IsBelow (slice_index_or index.now j []) key.now }

@@ -3,25 +3,21 @@
 //!
 //! For the layers above: `build` makes both from the keys. The filter has exactly the bits that the keys set and
 //! no other bytes have them, and a search of the index takes no more comparisons than its length has binary
-//! digits. `spell` and `check` write and read the bytes that a base file has of both. It stands on no crate but std.
+//! digits. `spell` and `check` write and read the bytes that a base file has of both. It stands on
+//! `kt_bytes` alone.
 #![tactic(auto)]
 
 mod bits;
-mod errors;
 mod filters;
 mod hashing;
 mod indexes;
-mod keys;
 pub mod laws;
 mod lookups;
-mod octets;
 mod steps;
 mod tails;
 
-pub use errors::NoMemory;
-pub use keys::KeyList;
+pub use kt_bytes::{NoMemory, Octets, Texts as KeyList};
 pub use lookups::{Lookup, build};
-pub use octets::Octets;
 pub use steps::Steps;
 pub use tails::Differs;
 

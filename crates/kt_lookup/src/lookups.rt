@@ -6,14 +6,12 @@ ghost use Rattle.kt_lookup.specs.Filter.{HasAll, filter_of as filter_of_keys};
 ghost use Rattle.kt_lookup.specs.Tail.{spelling, used_of};
 ghost use Rattle.kt_lookup.specs.Index.{IsBelow, Rises, index_of as index_of_keys};
 
-use crate::errors::NoMemory;
 use crate::filters::{filter_of, has_hash};
 use crate::hashing::fnv;
 use crate::indexes::{index_of, search};
-use crate::keys::KeyList;
-use crate::octets::Octets;
 use crate::steps::Steps;
 use crate::tails::{self, Differs};
+use kt_bytes::{NoMemory, Octets, Texts};
 use std::alloc::Global;
 use std::marker::Model;
 use std::sync::ledger::Ledger;
@@ -22,7 +20,7 @@ use std::sync::ledger::Ledger;
 #[derive(Debug, Drop)]
 pub struct Lookup {
     filter: Vec<u8>,
-    index: KeyList,
+    index: Texts,
 }
 
 impl Model for Lookup {
@@ -36,7 +34,7 @@ impl Model for Lookup {
 }
 
 /// The filter and the index of keys that rise.
-pub fn build(alloc: Global, keys: &KeyList) -> Result<Lookup, NoMemory>
+pub fn build(alloc: Global, keys: &Texts) -> Result<Lookup, NoMemory>
     requires some { 0 < length keys.now }
     requires few { length keys.now ≤ 3435973836 }
     requires rises { Rises keys.now }
@@ -58,7 +56,7 @@ impl Lookup {
     }
 
     /// The index's entries: the keys at the ordinals divisible by 16.
-    pub fn index(&self) -> &KeyList
+    pub fn index(&self) -> &Texts
         ensures { result.now ≡ self.now.index }
     {
         &self.index

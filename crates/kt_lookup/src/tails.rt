@@ -4,9 +4,7 @@ ghost use Rattle.std.specs.Prelude.{◌≡◌, ◌≤◌, ◌++◌, [], length, 
 ghost use Rattle.std.specs.List.{flat_map};
 ghost use Rattle.kt_lookup.specs.Tail.{key_fields, fields, joined, spelling, field_at, fields_at, used_of};
 
-use crate::errors::NoMemory;
-use crate::keys::KeyList;
-use crate::octets::Octets;
+use kt_bytes::{NoMemory, Octets, Texts};
 use std::alloc::Global;
 
 /// Bytes that are not the ones wanted: the offset of the first field that is another or is cut off.
@@ -23,7 +21,7 @@ fn put_key(out: &mut Octets, key: &[u8]) -> Result<(), NoMemory>
     out.extend(key)
 }
 
-fn put_keys(out: &mut Octets, index: &KeyList) -> Result<(), NoMemory>
+fn put_keys(out: &mut Octets, index: &Texts) -> Result<(), NoMemory>
     requires { (j : ℕ) → j < length index.now → length (slice_index_or index.now j []) ≤ 65535 }
     ensures { OnOk result (out.new ≡ out.old ++ joined (flat_map key_fields index.now)) }
 {
@@ -34,7 +32,7 @@ fn put_keys(out: &mut Octets, index: &KeyList) -> Result<(), NoMemory>
 }
 
 /// The filter and the index, spelled.
-pub(crate) fn spell(alloc: Global, filter: &[u8], index: &KeyList) -> Result<Octets, NoMemory>
+pub(crate) fn spell(alloc: Global, filter: &[u8], index: &Texts) -> Result<Octets, NoMemory>
     requires filter { length filter.now ≤ 4294967295 }
     requires index { (j : ℕ) → j < length index.now → length (slice_index_or index.now j []) ≤ 65535 }
     ensures { IfOk result (λ bytes. bytes ≡ spelling filter.now index.now) }
@@ -73,7 +71,7 @@ fn behind_key<'a>(key: &[u8], bytes: &'a [u8]) -> Result<&'a [u8], usize>
     }
 }
 
-fn behind_keys<'a>(index: &KeyList, bytes: &'a [u8]) -> Result<&'a [u8], usize>
+fn behind_keys<'a>(index: &Texts, bytes: &'a [u8]) -> Result<&'a [u8], usize>
     requires { (j : ℕ) → j < length index.now → length (slice_index_or index.now j []) ≤ 65535 }
     ensures { MatchResult result (λ rest. fields_at (flat_map key_fields index.now) bytes.now ≡ Ok rest.now) (λ left. fields_at (flat_map key_fields index.now) bytes.now ≡ Err left) }
 {
@@ -88,7 +86,7 @@ fn behind_keys<'a>(index: &KeyList, bytes: &'a [u8]) -> Result<&'a [u8], usize>
 }
 
 #[tactic(auto, unfolding(crate::specs::Tail::fields_at))]
-fn behind<'a>(filter: &[u8], index: &KeyList, bytes: &'a [u8]) -> Result<&'a [u8], usize>
+fn behind<'a>(filter: &[u8], index: &Texts, bytes: &'a [u8]) -> Result<&'a [u8], usize>
     requires filter { length filter.now ≤ 4294967295 }
     requires index { (j : ℕ) → j < length index.now → length (slice_index_or index.now j []) ≤ 65535 }
     ensures { MatchResult result (λ rest. fields_at (fields filter.now index.now) bytes.now ≡ Ok rest.now) (λ left. fields_at (fields filter.now index.now) bytes.now ≡ Err left) }
@@ -104,7 +102,7 @@ fn behind<'a>(filter: &[u8], index: &KeyList, bytes: &'a [u8]) -> Result<&'a [u8
 }
 
 /// How many bytes at the front spell the filter and the index.
-pub(crate) fn check(filter: &[u8], index: &KeyList, bytes: &[u8]) -> Result<usize, Differs>
+pub(crate) fn check(filter: &[u8], index: &Texts, bytes: &[u8]) -> Result<usize, Differs>
     requires filter { length filter.now ≤ 4294967295 }
     requires index { (j : ℕ) → j < length index.now → length (slice_index_or index.now j []) ≤ 65535 }
     ensures { MatchResult result (λ used. used_of filter.now index.now bytes.now ≡ Ok used) (λ e. used_of filter.now index.now bytes.now ≡ Err e.offset) }

@@ -1,75 +1,101 @@
 -- What a decoder reads is what was spelled.
-use Rattle.std.proofs.Common.{◌≡◌, ℕ, ◌+◌, ◌*◌, ◌^◌, ◌<◌, List, length, take, drop, ℤ, refl, sym, ap, ◌∙◌, subst, arith}
+use Rattle.std.proofs.Common.{◌≡◌, ℕ, ◌+◌, ◌*◌, ◌^◌, ◌<◌, List, [], ◌∷◌, ◌++◌, length, drop, map, ℤ, refl, sym, ap, ◌∙◌, subst, arith}
 use Rattle.std.specs.List.{concat, flat_map}
-use Rattle.std.proofs.lemmas.List.{length-drop}
-use Rattle.byteorder.specs.Endian.{little_number, IsRead, IsReadBy}
+use Rattle.std.specs.Int.{w32, to_le_bytes}
+use Rattle.std.proofs.lemmas.List.{append-nil, drop_at, length-append}
+use Rattle.std.proofs.lemmas.List.Folds.{concat-append}
+use Rattle.kt_bytes.specs.Cuts.{pieces, IsCut, ends_of}
+use Rattle.kt_bytes.specs.Places.{Delimited}
+use Rattle.kt_bytes.proofs.Cuts.{IsCut-ends_of, length-ends_of, pieces-ends_of}
+use Rattle.kt_bytes.proofs.Fronts.{concat-map, refused}
+use Rattle.kt_plain.specs.declared.widths.NumberWidth.{NumberWidth}
 use Rattle.kt_plain.specs.declared.widths.Width.{Width}
-use Rattle.kt_plain.specs.declared.widths.Width.TheVariants.{Bit, One, Two, Four, Eight, Bytes}
+use Rattle.kt_plain.specs.declared.widths.Width.TheVariants as widths
 use Rattle.kt_plain.specs.declared.items.Items.{Items}
 use Rattle.kt_plain.specs.declared.items.Items.TheVariants.{Numbers, Texts}
-use Rattle.kt_plain.specs.Cuts.{pieces, IsCut, ends_of, AreSpelled}
-use Rattle.kt_plain.specs.Widths.{field_len, number, value, IsNumeric}
-use Rattle.kt_plain.specs.Spelling.{Spells, SpellsOne}
-use Rattle.kt_plain.proofs.Pieces.{IsCut-ends_of}
-use Rattle.kt_plain.proofs.Fields.{exact, values, read-values, again}
-use Rattle.kt_plain.proofs.Ends.{ends_in, ends_in-take, read-ends_in}
-use Rattle.kt_plain.proofs.TextsFault.{are_spelled, ends_spelled, spelled_texts_len, texts_are}
+use Rattle.kt_plain.specs.Widths.{number, AreNumbers}
+use Rattle.kt_plain.specs.Spelling.{fields, Spells, SpellsOne, Spelled, IsJoined}
+use Rattle.kt_plain.specs.Reading.{AreTexts, ends_in, IsAtFault}
+use Rattle.kt_plain.proofs.Fields.{numbers_are}
+use Rattle.kt_plain.proofs.Ends.{ends_in-spelled, length-le32}
+use Rattle.kt_plain.proofs.NumbersFault.{numbers_delimited, numbers_whole}
+use Rattle.kt_plain.proofs.TextsFault.{end_bytes, texts_delimited, texts_whole}
 
-pub numeric_but : (w : Width) → (w ≡ Bytes → ⊥) → IsNumeric w
-numeric_but Bit not = tt
-numeric_but One not = tt
-numeric_but Two not = tt
-numeric_but Four not = tt
-numeric_but Eight not = tt
-numeric_but Bytes not = not refl
-
--- numbers that are spelled are those in the fields
-numbers_are : (w : Width) → IsNumeric w → (n : ℕ) (zs : List ℤ) (bytes : List ℕ) → Spells w n (Numbers zs) bytes → zs ≡ values w n bytes
-numbers_are w numeric n zs bytes s =
-    sym (ap (values w n) s.spelled ∙ ap (λ (k : ℕ). values w k (flat_map (number w) zs)) (sym s.counted) ∙ again w (exact w numeric) zs s.fits.2)
-
--- items that are spelled in a width of numbers are the numbers that were read
-pub decoded_numbers : (w : Width) → IsNumeric w → (n : ℕ) (items : Items) (bytes : List ℕ) (read : List ℤ) → Spells w n items bytes
-    → length read ≡ n → IsReadBy (value w) (field_len w) bytes read → items ≡ Numbers read
-decoded_numbers w numeric n (Numbers zs) bytes read s len is =
-    ap Numbers (numbers_are w numeric n zs bytes s ∙ sym (read-values w n bytes read len is))
-decoded_numbers w numeric n (Texts ts) bytes read s len is = absurd (subst IsNumeric s.fits.0 numeric)
+-- items that are spelled in a width of numbers are numbers
+pub as_numbers : (w : NumberWidth) (n : ℕ) (items : Items) (bytes : List ℕ) → Spells (widths.Numbers w) n items bytes → (zs : List ℤ) × (items ≡ Numbers zs) × AreNumbers w zs bytes
+as_numbers w n (Numbers zs) bytes s = (zs, refl, record { fit = s.fits.1; spelled = s.spelled })
+as_numbers w n (Texts ts) bytes s = absurd s.fits
 
 -- items that are spelled as byte lists are byte lists
-pub decoded_texts : (n : ℕ) (items : Items) (bytes : List ℕ) → Spells Bytes n items bytes → (texts : List (List ℕ)) × (items ≡ Texts texts) × AreSpelled texts n bytes
-decoded_texts n (Numbers zs) bytes s = absurd s.fits.0
-decoded_texts n (Texts ts) bytes s = (ts, refl, are_spelled n ts bytes s)
+pub as_texts : (n : ℕ) (items : Items) (bytes : List ℕ) → Spells widths.Bytes n items bytes → (ts : List (List ℕ)) × (items ≡ Texts ts) × AreTexts n ts bytes
+as_texts n (Numbers zs) bytes s = absurd s.fits
+as_texts n (Texts ts) bytes s = (ts, refl, record { counted = s.counted; few = subst (λ (k : ℕ). k < 2 ^ 32) s.counted s.fits.0; fits = s.fits.1; spelled = s.spelled })
 
--- ends and bytes that were read are cut as the byte lists that are spelled
-pub read_cut : (n : ℕ) (bytes ends body : List ℕ) → length ends ≡ n → IsRead little_number 4 (take (4 * n) bytes) ends → body ≡ drop (4 * n) bytes
-    → (texts : List (List ℕ)) → AreSpelled texts n bytes → IsCut 0 ends (length body) × (length body < 2 ^ 32)
-read_cut n bytes ends body len is rest texts s =
-    let total = spelled_texts_len n texts bytes s in
-    let same : ends ≡ ends_of 0 texts = read-ends_in n (take (4 * n) bytes) ends len is ∙ ends_in-take n bytes (omega arith) ∙ ends_spelled n texts bytes s in
-    let body_len : length body ≡ 0 + length (concat texts) = ap (λ (xs : List ℕ). length xs) rest ∙ omega (arith, length-drop (4 * n) bytes) in
-    let small = s.fits in
-    (rw (same, body_len) (IsCut-ends_of 0 texts), omega arith)
+-- ---- byte lists
 
-pub read_pieces : (n : ℕ) (bytes ends body : List ℕ) → length ends ≡ n → IsRead little_number 4 (take (4 * n) bytes) ends → body ≡ drop (4 * n) bytes
-    → (texts : List (List ℕ)) → AreSpelled texts n bytes → pieces 0 ends body ≡ texts
-read_pieces n bytes ends body len is rest texts s =
-    let total = spelled_texts_len n texts bytes s in
-    let same : ends ≡ ends_in n bytes = read-ends_in n (take (4 * n) bytes) ends len is ∙ ends_in-take n bytes (omega arith) in
-    rw (same, rest) (sym (texts_are n texts bytes s))
+-- how many bytes they have
+pub texts_len : (n : ℕ) (ts : List (List ℕ)) (bytes : List ℕ) → AreTexts n ts bytes → 4 * n + length (concat ts) ≡ length bytes
+texts_len n ts bytes a =
+    let all = ap (λ (xs : List ℕ). length xs) a.spelled in
+    let count : length (ends_of 0 ts) ≡ n = length-ends_of 0 ts ∙ a.counted in
+    omega (arith, all, count, length-append (flat_map (to_le_bytes w32) (ends_of 0 ts)) (concat ts), length-le32 (ends_of 0 ts))
 
-numbers_one : (w : Width) → IsNumeric w → (n : ℕ) (bytes : List ℕ) (a b : Items) → Spells w n a bytes → Spells w n b bytes → a ≡ b
-numbers_one w numeric n bytes (Numbers xs) (Numbers ys) s t = ap Numbers (numbers_are w numeric n xs bytes s ∙ sym (numbers_are w numeric n ys bytes t))
-numbers_one w numeric n bytes (Numbers xs) (Texts ts) s t = absurd (subst IsNumeric t.fits.0 numeric)
-numbers_one w numeric n bytes (Texts ts) b s t = absurd (subst IsNumeric s.fits.0 numeric)
+-- their ends and their bytes
+pub texts_ends : (n : ℕ) (ts : List (List ℕ)) (bytes : List ℕ) → AreTexts n ts bytes → ends_in n bytes ≡ ends_of 0 ts
+texts_ends n ts bytes a =
+    let count : length (ends_of 0 ts) ≡ n = length-ends_of 0 ts ∙ a.counted in
+    let total : 0 + length (concat ts) < 2 ^ 32 = let small = a.fits in omega arith in
+    ap (ends_in n) a.spelled ∙ ap (λ (k : ℕ). ends_in k (flat_map (to_le_bytes w32) (ends_of 0 ts) ++ concat ts)) (sym count)
+    ∙ ends_in-spelled 0 (ends_of 0 ts) (0 + length (concat ts)) (concat ts) (IsCut-ends_of 0 ts) total
+
+pub texts_body : (n : ℕ) (ts : List (List ℕ)) (bytes : List ℕ) → AreTexts n ts bytes → drop (4 * n) bytes ≡ concat ts
+texts_body n ts bytes a =
+    let ends : List ℕ = flat_map (to_le_bytes w32) (ends_of 0 ts) in
+    let len : length ends ≡ 4 * n = length-le32 (ends_of 0 ts) ∙ ap (λ (k : ℕ). 4 * k) (length-ends_of 0 ts ∙ a.counted) in
+    ap (λ (xs : List ℕ). drop (4 * n) xs) a.spelled ∙ drop_at ends (concat ts) (4 * n) len
+
+-- ends and bytes that were read are cut as they are
+pub read_cut : (n : ℕ) (ts : List (List ℕ)) (bytes es body : List ℕ) → AreTexts n ts bytes → es ≡ ends_in n bytes → body ≡ drop (4 * n) bytes → IsCut 0 es (length body)
+read_cut n ts bytes es body a is rest =
+    let same : es ≡ ends_of 0 ts = is ∙ texts_ends n ts bytes a in
+    let len : length body ≡ 0 + length (concat ts) = ap (λ (xs : List ℕ). length xs) (rest ∙ texts_body n ts bytes a) ∙ omega arith in
+    rw (same, len) (IsCut-ends_of 0 ts)
+
+pub read_pieces : (n : ℕ) (ts : List (List ℕ)) (bytes es body : List ℕ) → AreTexts n ts bytes → es ≡ ends_in n bytes → body ≡ drop (4 * n) bytes → pieces 0 es body ≡ ts
+read_pieces n ts bytes es body a is rest = rw (is ∙ texts_ends n ts bytes a, rest ∙ texts_body n ts bytes a) (pieces-ends_of 0 [] ts refl)
+
+-- ---- laws
 
 -- bytes spell one list of items at most
 pub spells_one : SpellsOne
-spells_one Bytes n bytes (Numbers zs) b s t = absurd s.fits.0
-spells_one Bytes n bytes (Texts ts) b s t =
-    let other = decoded_texts n b bytes t in
-    ap Texts (texts_are n ts bytes (are_spelled n ts bytes s) ∙ sym (texts_are n other.0 bytes other.2)) ∙ sym other.1
-spells_one Bit n bytes a b s t = numbers_one Bit tt n bytes a b s t
-spells_one One n bytes a b s t = numbers_one One tt n bytes a b s t
-spells_one Two n bytes a b s t = numbers_one Two tt n bytes a b s t
-spells_one Four n bytes a b s t = numbers_one Four tt n bytes a b s t
-spells_one Eight n bytes a b s t = numbers_one Eight tt n bytes a b s t
+spells_one (widths.Numbers w) n bytes a b s t =
+    let x = as_numbers w n a bytes s in
+    let y = as_numbers w n b bytes t in
+    x.1 ∙ ap Numbers (sym (numbers_are w x.0 bytes x.2) ∙ numbers_are w y.0 bytes y.2) ∙ sym y.1
+spells_one widths.Bytes n bytes a b s t =
+    let x = as_texts n a bytes s in
+    let y = as_texts n b bytes t in
+    let of : (ts : List (List ℕ)) → AreTexts n ts bytes → pieces 0 (ends_in n bytes) (drop (4 * n) bytes) ≡ ts = λ ts are. read_pieces n ts bytes (ends_in n bytes) (drop (4 * n) bytes) are refl refl in
+    x.1 ∙ ap Texts (sym (of x.0 x.2) ∙ of y.0 y.2) ∙ sym y.1
+
+-- a spelling is its fields joined
+pub joined : IsJoined
+joined (widths.Numbers w) (Numbers zs) fits = sym (concat-map (number w) zs)
+joined (widths.Numbers w) (Texts ts) fits = absurd fits
+joined widths.Bytes (Numbers zs) fits = absurd fits
+joined widths.Bytes (Texts ts) fits =
+    sym (concat-append (map end_bytes (ends_of 0 ts)) (concat ts ∷ []) ∙ ap (λ (xs : List ℕ). xs ++ (concat ts ++ [])) (concat-map end_bytes (ends_of 0 ts))
+    ∙ ap (λ (xs : List ℕ). flat_map end_bytes (ends_of 0 ts) ++ xs) (append-nil (concat ts)))
+
+pub spelled_delimited : (width : Width) (n : ℕ) → Delimited (Spelled width n)
+spelled_delimited (widths.Numbers w) n = numbers_delimited w n
+spelled_delimited widths.Bytes n = texts_delimited n
+
+-- bytes with a fault spell no items
+pub none_spelled : (width : Width) (n : ℕ) (bytes : List ℕ) (place : ℕ) → IsAtFault width n bytes place → (items : Items) → Spells width n items bytes → ⊥
+none_spelled (widths.Numbers w) n bytes place f items s =
+    refused (Spelled (widths.Numbers w) n) bytes place (numbers_delimited w n) (numbers_whole w n) f (fields (widths.Numbers w) items)
+    (record { items = items; fits = s.fits; counted = s.counted; spelled = refl }) (s.spelled ∙ joined (widths.Numbers w) items s.fits)
+none_spelled widths.Bytes n bytes place f items s =
+    refused (Spelled widths.Bytes n) bytes place (texts_delimited n) (texts_whole n) f (fields widths.Bytes items)
+    (record { items = items; fits = s.fits; counted = s.counted; spelled = refl }) (s.spelled ∙ joined widths.Bytes items s.fits)

@@ -1,21 +1,18 @@
 -- The end positions of byte lists, in four bytes each.
-use Rattle.std.proofs.Common.{◌≡◌, ℕ, zero, suc, ◌+◌, ◌*◌, ◌^◌, ◌<◌, ◌≤◌, List, [], ◌∷◌, ◌++◌, length, take, drop, get_or, replicate, refl, sym, ap, ◌∙◌, arith}
+use Rattle.std.proofs.Common.{◌≡◌, ℕ, zero, suc, ◌+◌, ◌*◌, ◌^◌, ◌<◌, ◌≤◌, List, [], ◌∷◌, ◌++◌, length, take, drop, map, replicate, refl, sym, ap, ◌∙◌, arith}
+use Rattle.std.specs.Prelude.{All}
 use Rattle.std.specs.List.{flat_map}
+use Rattle.std.proofs.lemmas.List.Elements.{All-nil, All-cons}
 use Rattle.std.specs.Int.{w32, to_le_bytes, from_le_bytes}
 use Rattle.std.proofs.Math.Seq.{take-add}
 use Rattle.std.proofs.lemmas.Nat.{le_bytes_4}
-use Rattle.std.proofs.lemmas.List.{drop-append-le, drop-drop, ext_get_or, length-drop, length-take, take-append-drop}
-use Rattle.byteorder.specs.Endian.{little_number, IsRead}
-use Rattle.byteorder.specs.Numbers.{little_number-reads_back, little_from-append, little_from-take}
-use Rattle.kt_plain.specs.Cuts.{IsCut}
-use Rattle.kt_plain.specs.Fault.{AreBytes}
-use Rattle.kt_plain.proofs.Bytes.{below-take, below-drop}
-use Rattle.kt_plain.proofs.Pieces.{at-le}
-
--- the numbers in n fields of four bytes
-abbrev pub ends_in : ℕ → List ℕ → List ℕ
-ends_in zero bytes = []
-ends_in (suc n) bytes = little_number 4 bytes ∷ ends_in n (drop 4 bytes)
+use Rattle.std.proofs.lemmas.List.{drop-drop, length-drop, length-take}
+use Rattle.byteorder.specs.Endian.{little_number}
+use Rattle.byteorder.specs.Numbers.{little_number-reads_back, little_from-take}
+use Rattle.kt_bytes.specs.Cuts.{IsCut}
+use Rattle.kt_bytes.proofs.Cuts.{cut_from}
+use Rattle.kt_bytes.proofs.Numbers.{IsBytes, IsBytes-take, IsBytes-drop}
+use Rattle.kt_plain.specs.Reading.{ends_in}
 
 pub length-ends_in : (n : ℕ) (bytes : List ℕ) → length (ends_in n bytes) ≡ n
 length-ends_in zero bytes = refl
@@ -33,45 +30,23 @@ ends_in-add (suc a) b bytes =
 pub ends_in-more : (i : ℕ) (bytes : List ℕ) → ends_in (i + 1) bytes ≡ ends_in i bytes ++ little_number 4 (drop (4 * i) bytes) ∷ []
 ends_in-more i bytes = ends_in-add i 1 bytes
 
-pub get_or-ends_in : (n : ℕ) (bytes : List ℕ) (k : ℕ) → k < n → get_or (ends_in n bytes) k 0 ≡ little_number 4 (drop (4 * k) bytes)
-get_or-ends_in zero bytes k lt = absurd (omega arith)
-get_or-ends_in (suc n) bytes zero lt = refl
-get_or-ends_in (suc n) bytes (suc k) lt =
-    let next : 4 + 4 * k ≡ 4 * suc k = omega arith in
-    get_or-ends_in n (drop 4 bytes) k (omega arith) ∙ ap (little_number 4) (drop-drop (4 * k) 4 bytes ∙ ap (λ (at : ℕ). drop at bytes) next)
-
--- what was read field by field
-pub read-ends_in : (n : ℕ) (bytes read : List ℕ) → length read ≡ n → IsRead little_number 4 bytes read → read ≡ ends_in n bytes
-read-ends_in n bytes read len is =
-    ext_get_or 0 read (ends_in n bytes) (len ∙ sym (length-ends_in n bytes)) (λ i lt. is i lt ∙ sym (get_or-ends_in n bytes i (omega arith)))
-
--- what follows the fields does not matter
-pub ends_in-front : (n : ℕ) (xs ys : List ℕ) → 4 * n ≤ length xs → ends_in n (xs ++ ys) ≡ ends_in n xs
-ends_in-front zero xs ys le = refl
-ends_in-front (suc n) xs ys le =
-    let long : 4 ≤ length xs = omega arith in
-    let first : little_number 4 (xs ++ ys) ≡ little_number 4 xs = little_from-append 4 xs ys long in
-    let rest : ends_in n (drop 4 (xs ++ ys)) ≡ ends_in n (drop 4 xs) =
-    rw (drop-append-le 4 xs ys long) (ends_in-front n (drop 4 xs) ys (omega (arith, length-drop 4 xs))) in
-    ap (λ (e : ℕ). e ∷ ends_in n (drop 4 (xs ++ ys))) first ∙ ap (λ (es : List ℕ). little_number 4 xs ∷ es) rest
-
 -- ends that were spelled are read again
 pub ends_in-spelled : (at : ℕ) (es : List ℕ) (len : ℕ) (rest : List ℕ) → IsCut at es len → len < 2 ^ 32 → ends_in (length es) (flat_map (to_le_bytes w32) es ++ rest) ≡ es
 ends_in-spelled at [] len rest cut lt = refl
 ends_in-spelled at (e ∷ es) len rest cut lt =
     let more : List ℕ = flat_map (to_le_bytes w32) es ++ rest in
-    let below : e < 2 ^ 32 = omega (arith, at-le e es len cut.1) in
+    let below : e < 2 ^ 32 = omega (arith, cut_from e es len cut.1) in
     let first : little_number 4 (to_le_bytes w32 e ++ more) ≡ e = little_number-reads_back 4 e more below in
     ap (λ (x : ℕ). x ∷ ends_in (length es) more) first ∙ ap (λ (xs : List ℕ). e ∷ xs) (ends_in-spelled e es len rest cut.1 lt)
 
 -- the fields are the bytes of their numbers
-pub spelled-ends_in : (n : ℕ) (bytes : List ℕ) → 4 * n ≤ length bytes → AreBytes bytes → flat_map (to_le_bytes w32) (ends_in n bytes) ≡ take (4 * n) bytes
+pub spelled-ends_in : (n : ℕ) (bytes : List ℕ) → 4 * n ≤ length bytes → IsBytes bytes → flat_map (to_le_bytes w32) (ends_in n bytes) ≡ take (4 * n) bytes
 spelled-ends_in zero bytes le fits = refl
 spelled-ends_in (suc n) bytes le fits =
     let m : ℕ = little_number 4 bytes in
     let same : m ≡ from_le_bytes w32 (take 4 bytes) = omega (arith, little_from-take 0 4 4 bytes (omega arith)) in
-    let first : to_le_bytes w32 m ≡ take 4 bytes = le_bytes_4 (take 4 bytes) m (omega (arith, length-take 4 bytes)) (below-take 256 4 bytes (omega arith) fits) same in
-    let rest : flat_map (to_le_bytes w32) (ends_in n (drop 4 bytes)) ≡ take (4 * n) (drop 4 bytes) = spelled-ends_in n (drop 4 bytes) (omega (arith, length-drop 4 bytes)) (below-drop 256 4 bytes fits) in
+    let first : to_le_bytes w32 m ≡ take 4 bytes = le_bytes_4 (take 4 bytes) m (omega (arith, length-take 4 bytes)) (IsBytes-take 4 bytes fits) same in
+    let rest : flat_map (to_le_bytes w32) (ends_in n (drop 4 bytes)) ≡ take (4 * n) (drop 4 bytes) = spelled-ends_in n (drop 4 bytes) (omega (arith, length-drop 4 bytes)) (IsBytes-drop 4 bytes fits) in
     let next : 4 + 4 * n ≡ 4 * suc n = omega arith in
     ap (λ (xs : List ℕ). xs ++ flat_map (to_le_bytes w32) (ends_in n (drop 4 bytes))) first ∙ ap (λ (xs : List ℕ). take 4 bytes ++ xs) rest ∙ sym (take-add 4 (4 * n) bytes) ∙ ap (λ (k : ℕ). take k bytes) next
 
@@ -102,6 +77,28 @@ pub IsCut-more : (at : ℕ) (es : List ℕ) (last next : ℕ) → IsCut at es la
 IsCut-more at [] last next cut le = (omega (arith, cut), refl)
 IsCut-more at (e ∷ es) last next cut le = (cut.0, IsCut-more e es last next cut.1 le)
 
-pub ends_in-take : (n : ℕ) (bytes : List ℕ) → 4 * n ≤ length bytes → ends_in n (take (4 * n) bytes) ≡ ends_in n bytes
-ends_in-take n bytes room =
-    sym (ap (ends_in n) (sym (take-append-drop (4 * n) bytes)) ∙ ends_in-front n (take (4 * n) bytes) (drop (4 * n) bytes) (omega (arith, length-take (4 * n) bytes)))
+-- ---- the same ends from the same fields
+
+-- an end's field has its end
+pub end_field : (e f : ℕ) → e < 2 ^ 32 → f < 2 ^ 32 → to_le_bytes w32 e ≡ to_le_bytes w32 f → e ≡ f
+end_field e f el fl same =
+    sym (little_number-reads_back 4 e [] el) ∙ ap (λ (xs : List ℕ). little_number 4 (xs ++ [])) same ∙ little_number-reads_back 4 f [] fl
+
+-- ends below 2^32 from one place on are those of their fields
+pub same_ends : (at bt : ℕ) (es fs : List ℕ) (a b : ℕ) (more : List ℕ) → IsCut at es a → IsCut bt (fs ++ more) b → a < 2 ^ 32 → b < 2 ^ 32 → map (to_le_bytes w32) fs ≡ map (to_le_bytes w32) es → fs ≡ es
+same_ends at bt [] [] a b more cut other al bl same = refl
+same_ends at bt [] (f ∷ fs) a b more cut other al bl same = absurd cc
+same_ends at bt (e ∷ es) [] a b more cut other al bl same = absurd cc
+same_ends at bt (e ∷ es) (f ∷ fs) a b more cut other al bl same =
+    let first : to_le_bytes w32 f ≡ to_le_bytes w32 e = head_of (to_le_bytes w32 f) (to_le_bytes w32 e) (map (to_le_bytes w32) fs) (map (to_le_bytes w32) es) same in
+    let others : map (to_le_bytes w32) fs ≡ map (to_le_bytes w32) es = ap (λ (xs : List (List ℕ)). drop 1 xs) same in
+    let one : f ≡ e = end_field f e (omega (arith, cut_from f (fs ++ more) b other.1)) (omega (arith, cut_from e es a cut.1)) first in
+    ap (λ (x : ℕ). x ∷ fs) one ∙ ap (λ (xs : List ℕ). e ∷ xs) (same_ends e f es fs a b more cut.1 other.1 al bl others)
+  where
+    head_of : (x y : List ℕ) (xs ys : List (List ℕ)) → x ∷ xs ≡ y ∷ ys → x ≡ y
+    head_of x y xs ys e = cc
+
+-- ends that rise to a total are below what it is below
+pub all_below : (at : ℕ) (es : List ℕ) (total m : ℕ) → IsCut at es total → total < m → All (λ e. e < m) es
+all_below at [] total m cut lt = All-nil (λ (e : ℕ). e < m)
+all_below at (e ∷ es) total m cut lt = All-cons (λ (e : ℕ). e < m) e es (omega (arith, cut_from e es total cut.1)) (all_below e es total m cut.1 lt)

@@ -1,9 +1,8 @@
 -- The loops that write or read one field after another.
-use Rattle.std.proofs.Common.{◌≡◌, ℕ, ◌+◌, ◌-◌, ◌*◌, ◌<◌, ◌≤◌, List, [], ◌∷◌, ◌++◌, length, take, drop, set, get_or, refl, sym, ◌∙◌, arith, inl, inr}
+use Rattle.std.proofs.Common.{◌≡◌, ℕ, ◌+◌, ◌-◌, ◌*◌, ◌<◌, ◌≤◌, List, [], ◌∷◌, ◌++◌, length, take, drop, set, get_or, refl, sym, ◌∙◌, arith}
 use Rattle.std.specs.List.{flat_map}
-use Rattle.std.proofs.lemmas.Bool.{cases_lt}
 use borrow.Rule.Slice.PartMut.{post_of}
-use Rattle.std.proofs.lemmas.List.{append_assoc, append-nil, drop_all, drop-drop, take_rest, get_or-set_other, get_or-set_same, length-append, length-take-le, take_at, take_more, take_more_set}
+use Rattle.std.proofs.lemmas.List.{append_assoc, append-nil, drop_all, drop-drop, take_rest, length-append, length-take-le, take_at, take_more, take_more_set}
 use Rattle.std.proofs.lemmas.List.Concat.{flat_map-append}
 
 -- one field more is written
@@ -32,15 +31,3 @@ pub behind_written : (at n : ℕ) (out : List ℕ) → at + n ≤ length out
     → drop n (take (length out - at) (drop at out)) ++ post_of at (length out - at) out ≡ drop (at + n) out
 behind_written at n out fits =
     rw (take_rest out at, drop-drop (length out - at) at out, drop_all (at + (length out - at)) out (omega arith), append-nil) (drop-drop n at out)
-
--- one number more is read
-pub read_more : {X : Type 0} (value : List ℕ → X) (n : ℕ) (src : List ℕ) (dst : List X) (d : X) (i : ℕ) (x : X) → i < length dst
-    → x ≡ value (drop (n * i) src)
-    → ((k : ℕ) → k < i → get_or dst k d ≡ value (drop (n * k) src))
-    → (k : ℕ) → k < i + 1 → get_or (set dst i x) k d ≡ value (drop (n * k) src)
-read_more value n src dst d i x fits is before k lt = elim (cases_lt k i) [
-  | inl below ↦ get_or-set_other dst i k x d (omega arith) ∙ before k below
-  | inr at ↦
-      let e : i ≡ k = omega arith in
-      rw (← e) (get_or-set_same dst i x d fits ∙ is)
-]

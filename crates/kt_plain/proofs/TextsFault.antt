@@ -1,194 +1,358 @@
 -- The first fault of bytes that are not the ends and the bytes of n byte lists.
-use Rattle.std.proofs.Common.{◌≡◌, ℕ, ◌+◌, ◌-◌, ◌*◌, ◌%◌, ◌^◌, ◌<◌, ◌≤◌, List, [], ◌∷◌, ◌++◌, length, take, drop, replicate, refl, sym, ap, ◌∙◌, subst, arith, inl, inr}
-use Rattle.std.specs.List.{flat_map, concat}
+use Rattle.std.proofs.Common.{◌≡◌, ◌⊎◌, ℕ, ◌+◌, ◌-◌, ◌*◌, ◌^◌, ◌<◌, ◌≤◌, List, [], ◌∷◌, ◌++◌, length, take, drop, map, replicate, refl, sym, ap, ◌∙◌, subst, arith, inl, inr}
+use Rattle.std.specs.List.{concat}
 use Rattle.std.specs.Int.{w32, to_le_bytes}
-use Rattle.std.proofs.lemmas.List.{append_assoc, append-nil, drop_at, length-append, length-drop, length-replicate, length-take, take-append-drop, take_all}
-use Rattle.std.proofs.lemmas.List.Concat.{flat_map-append}
+use Rattle.std.proofs.lemmas.List.{append_assoc, append-nil, length-append, length-drop, length-map, length-replicate, length-take, map-append, take-append-drop}
 use Rattle.byteorder.specs.Endian.{little_number}
+use Rattle.byteorder.specs.Numbers.{little_number-reads_back}
+use Rattle.kt_bytes.specs.Cuts.{pieces, IsCut, ends_of}
+use Rattle.kt_bytes.specs.Places.{Begins, GoesOn, Delimited}
+use Rattle.kt_bytes.proofs.Cuts.{cut_from, concat-all, ends_of-pieces, length-pieces, length-ends_of, IsCut-ends_of}
+use Rattle.kt_bytes.proofs.Numbers.{IsBytes}
+use Rattle.kt_bytes.proofs.Fronts.{concat-map, concat-push, map_split, IsWhole}
 use Rattle.kt_plain.specs.declared.widths.Width.TheVariants.{Bytes}
 use Rattle.kt_plain.specs.declared.items.Items.{Items}
 use Rattle.kt_plain.specs.declared.items.Items.TheVariants.{Numbers, Texts}
-use Rattle.kt_plain.specs.Cuts.{pieces, IsCut, ends_of, AreSpelled}
-use Rattle.kt_plain.specs.Spelling.{Spells}
-use Rattle.kt_plain.specs.Fault.{AreBytes, CanGoOn, field_at, IsFault}
-use Rattle.kt_plain.proofs.Bytes.{below-append, below-take, below-zeros, bytes-le32}
-use Rattle.kt_plain.proofs.Pieces.{concat-all, ends_of-pieces, length-pieces, length-ends_of, IsCut-ends_of, pieces-ends_of}
-use Rattle.kt_plain.proofs.Ends.{ends_in, length-ends_in, ends_in-add, ends_in-more, ends_in-front, ends_in-spelled, spelled-ends_in, length-le32, IsCut-same, next-le, one_len}
-use Rattle.kt_plain.proofs.NumbersFault.{goes_on, not_spelled, field_before, field_behind}
+use Rattle.kt_plain.specs.Items.{count}
+use Rattle.kt_plain.specs.Spelling.{Fits, fields, Spelled}
+use Rattle.kt_plain.specs.Reading.{ends_in, IsSpelling, IsAtFault}
+use Rattle.kt_plain.proofs.Ends.{length-ends_in, ends_in-more, spelled-ends_in, IsCut-same, next-le, one_len, IsCut-more, same_ends}
 
--- rising ends and as many bytes as the last says are the spelling of the pieces
-pub spelled_texts : (n : ℕ) (es body : List ℕ) → IsCut 0 es (length body) → length es ≡ n → n < 2 ^ 32 → length body < 2 ^ 32
-    → Spells Bytes n (Texts (pieces 0 es body)) (flat_map (to_le_bytes w32) es ++ body)
-spelled_texts n es body cut len few small =
+-- the field of an end
+abbrev pub end_bytes : ℕ → List ℕ
+end_bytes e = to_le_bytes w32 e
+
+-- ---- what the fields of byte lists are
+
+-- rising ends and as many bytes as the last says are the fields of the pieces
+pub spelled_fields : (n : ℕ) (es body : List ℕ) → IsCut 0 es (length body) → length es ≡ n → n < 2 ^ 32 → length body < 2 ^ 32 → Spelled Bytes n (map end_bytes es ++ body ∷ [])
+spelled_fields n es body cut len few small =
     let counted : length (pieces 0 es body) ≡ n = length-pieces 0 es body ∙ len in
     let joined : concat (pieces 0 es body) ≡ body = concat-all es body cut in
     record {
-      fits = (refl, subst (λ (k : ℕ). k < 2 ^ 32) (sym counted) few, rw joined small);
+      items = Texts (pieces 0 es body);
+      fits = (subst (λ (k : ℕ). k < 2 ^ 32) (sym counted) few, rw joined small);
       counted = counted;
       spelled = rw (ends_of-pieces 0 es body cut, joined) refl;
     }
 
--- the ends in the first fields, and as many bytes behind them
-pub spelled_whole : (n : ℕ) (bytes : List ℕ) (last : ℕ) → n < 2 ^ 32 → last < 2 ^ 32 → AreBytes bytes → IsCut 0 (ends_in n bytes) last → 4 * n + last ≡ length bytes
-    → Spells Bytes n (Texts (pieces 0 (ends_in n bytes) (drop (4 * n) bytes))) bytes
-spelled_whole n bytes last few small fits cut len =
-    let body : List ℕ = drop (4 * n) bytes in
-    let body_len : last ≡ length body = omega (arith, length-drop (4 * n) bytes) in
-    let spelled : flat_map (to_le_bytes w32) (ends_in n bytes) ++ body ≡ bytes = rw (spelled-ends_in n bytes (omega arith) fits) (take-append-drop (4 * n) bytes) in
-    subst (λ (xs : List ℕ). Spells Bytes n (Texts (pieces 0 (ends_in n bytes) body)) xs) spelled
-    (spelled_texts n (ends_in n bytes) body (subst (λ (k : ℕ). IsCut 0 (ends_in n bytes) k) body_len cut) (length-ends_in n bytes) few (omega arith))
+-- byte lists whose fields these are
+pub record OfTexts (n : ℕ) (fs : List (List ℕ)) : Type 0 where
+  pub texts : List (List ℕ)
+  pub counted : length (ends_of 0 texts) ≡ n
+  pub fits : length (concat texts) < 2 ^ 32
+  pub is : fs ≡ map end_bytes (ends_of 0 texts) ++ concat texts ∷ []
 
--- what spells byte lists says their ends and how many bytes there are
-pub record Determined (n : ℕ) (bytes : List ℕ) : Type 0 where
+pub of_texts : (n : ℕ) (fs : List (List ℕ)) → Spelled Bytes n fs → OfTexts n fs
+of_texts n fs s = of n fs s.items s.fits s.counted s.spelled
+  where
+    of : (n : ℕ) (fs : List (List ℕ)) (items : Items) → Fits Bytes items → count items ≡ n → fs ≡ fields Bytes items → OfTexts n fs
+    of n fs (Numbers zs) fits counted e = absurd fits
+    of n fs (Texts ts) fits counted e = record { texts = ts; counted = length-ends_of 0 ts ∙ counted; fits = fits.1; is = e }
+
+-- the list in front of a longer one begins it
+record Longer {X : Type 0} (a b c d : List X) : Type 0 where
+  middle : List X
+  is_long : a ≡ c ++ middle
+  is_rest : d ≡ middle ++ b
+
+longer : {X : Type 0} (a b c d : List X) → a ++ b ≡ c ++ d → length c ≤ length a → Longer a b c d
+longer a b [] d e le = record { middle = a; is_long = refl; is_rest = sym e }
+longer [] b (y ∷ c) d e le = absurd (omega arith)
+longer (x ∷ a) b (y ∷ c) d e le =
+    let l = longer a b c d (ap (λ (xs : List _). drop 1 xs) e) (omega arith) in
+    record { middle = l.middle; is_long = first x y a b c d l.middle e l.is_long; is_rest = l.is_rest }
+  where
+    first : {X : Type 0} (x y : X) (a b c d m : List X) → x ∷ (a ++ b) ≡ y ∷ (c ++ d) → a ≡ c ++ m → x ∷ a ≡ y ∷ (c ++ m)
+    first x y a b c d m e f = cc
+
+-- a field behind others: an end, which is not below the last one, or all bytes, which are as many as the last end says
+pub record AnEnd (n : ℕ) (front : List (List ℕ)) (field : List ℕ) : Type 0 where
+  pub before : length front < n
+  pub ends : List ℕ
+  pub end : ℕ
+  pub more : List ℕ
   pub total : ℕ
-  pub len : 4 * n + total ≡ length bytes
-  pub cut : IsCut 0 (ends_in n bytes) total
+  pub cut : IsCut 0 (ends ++ end ∷ more) total
+  pub small : total < 2 ^ 32
+  pub is_front : map end_bytes ends ≡ front
+  pub is : field ≡ end_bytes end
 
-pub ends_spelled : (n : ℕ) (texts : List (List ℕ)) (bytes : List ℕ) → AreSpelled texts n bytes → ends_in n bytes ≡ ends_of 0 texts
-ends_spelled n texts bytes s =
-    let count : length (ends_of 0 texts) ≡ n = length-ends_of 0 texts ∙ s.counted in
-    let total : 0 + length (concat texts) < 2 ^ 32 = let small = s.fits in omega arith in
-    ap (ends_in n) s.spelled ∙ ap (λ (k : ℕ). ends_in k (flat_map (to_le_bytes w32) (ends_of 0 texts) ++ concat texts)) (sym count)
-    ∙ ends_in-spelled 0 (ends_of 0 texts) (0 + length (concat texts)) (concat texts) (IsCut-ends_of 0 texts) total
+pub record AllBytes (n : ℕ) (front : List (List ℕ)) (field : List ℕ) : Type 0 where
+  pub before : length front ≡ n
+  pub ends : List ℕ
+  pub cut : IsCut 0 ends (length field)
+  pub small : length field < 2 ^ 32
+  pub is_front : map end_bytes ends ≡ front
 
-pub spelled_texts_len : (n : ℕ) (texts : List (List ℕ)) (bytes : List ℕ) → AreSpelled texts n bytes → 4 * n + length (concat texts) ≡ length bytes
-spelled_texts_len n texts bytes s =
-    let all = ap (λ (xs : List ℕ). length xs) s.spelled in
-    let count : length (ends_of 0 texts) ≡ n = length-ends_of 0 texts ∙ s.counted in
-    omega (arith, all, count, length-append (flat_map (to_le_bytes w32) (ends_of 0 texts)) (concat texts), length-le32 (ends_of 0 texts))
+pub goes_on_as : (n : ℕ) (front : List (List ℕ)) (field : List ℕ) → GoesOn (Spelled Bytes n) front field → AnEnd n front field ⊎ AllBytes n front field
+goes_on_as n front field (more, s) =
+    let t = of_texts n ((front ++ field ∷ []) ++ more) s in
+    let ends : List ℕ = ends_of 0 t.texts in
+    let whole : map end_bytes ends ++ concat t.texts ∷ [] ≡ front ++ field ∷ more = sym t.is ∙ append_assoc front (field ∷ []) more in
+    let len : length (map end_bytes ends) ≡ n = length-map ends end_bytes ∙ t.counted in
+    let total = ap (λ (xs : List (List ℕ)). length xs) whole in
+    let le : length front ≤ length (map end_bytes ends) = omega (arith, total, length-append (map end_bytes ends) (concat t.texts ∷ []), length-append front (field ∷ more)) in
+    let l = longer (map end_bytes ends) (concat t.texts ∷ []) front (field ∷ more) whole le in
+    split n front field more t.texts l.middle (IsCut-ends_of 0 t.texts) t.fits len l.is_long l.is_rest
+  where
+    head_of : (x y : List ℕ) (xs ys : List (List ℕ)) → x ∷ xs ≡ y ∷ ys → x ≡ y
+    head_of x y xs ys e = cc
 
-pub are_spelled : (n : ℕ) (texts : List (List ℕ)) (bytes : List ℕ) → Spells Bytes n (Texts texts) bytes → AreSpelled texts n bytes
-are_spelled n texts bytes s = record { counted = s.counted; fits = s.fits.2; spelled = s.spelled }
+    split : (n : ℕ) (front : List (List ℕ)) (field : List ℕ) (more texts middle : List (List ℕ)) → IsCut 0 (ends_of 0 texts) (0 + length (concat texts)) → length (concat texts) < 2 ^ 32
+        → length (map end_bytes (ends_of 0 texts)) ≡ n → map end_bytes (ends_of 0 texts) ≡ front ++ middle → field ∷ more ≡ middle ++ concat texts ∷ []
+        → AnEnd n front field ⊎ AllBytes n front field
+    split n front field more texts [] cut small len e f =
+        let is_front : map end_bytes (ends_of 0 texts) ≡ front = e ∙ append-nil front in
+        let is : field ≡ concat texts = head_of field (concat texts) more [] f in
+        inr (record {
+          before = ap (λ (xs : List (List ℕ)). length xs) (sym is_front) ∙ len;
+          ends = ends_of 0 texts;
+          cut = rw is (subst (λ (k : ℕ). IsCut 0 (ends_of 0 texts) k) (omega arith) cut);
+          small = rw is small;
+          is_front = is_front;
+        })
+    split n front field more texts (y ∷ middle) cut small len e f =
+        let is : field ≡ y = head_of field y more (middle ++ concat texts ∷ []) f in
+        let m = map_split end_bytes (ends_of 0 texts) front y middle e in
+        let count = ap (λ (xs : List (List ℕ)). length xs) e in
+        inl (record {
+          before = omega (arith, len, count, length-append front (y ∷ middle));
+          ends = m.before;
+          end = m.at;
+          more = m.after;
+          total = 0 + length (concat texts);
+          cut = subst (λ (es : List ℕ). IsCut 0 es (0 + length (concat texts))) m.whole cut;
+          small = omega arith;
+          is_front = m.is_front;
+          is = is ∙ sym m.is_field;
+        })
 
-pub determined : (n : ℕ) (items : Items) (bytes : List ℕ) → Spells Bytes n items bytes → Determined n bytes
-determined n (Numbers zs) bytes s = absurd s.fits.0
-determined n (Texts texts) bytes s =
-    let t = are_spelled n texts bytes s in
-    let zero_sum : 0 + length (concat texts) ≡ length (concat texts) = omega arith in
-    record {
-      total = length (concat texts);
-      len = spelled_texts_len n texts bytes t;
-      cut = subst (λ (k : ℕ). IsCut 0 (ends_in n bytes) k) zero_sum (rw (ends_spelled n texts bytes t) (IsCut-ends_of 0 texts));
-    }
+pub texts_delimited : (n : ℕ) → Delimited (Spelled Bytes n)
+texts_delimited n front a b x y = same n front a b (goes_on_as n front a x) (goes_on_as n front b y)
+  where
+    same : (n : ℕ) (front : List (List ℕ)) (a b : List ℕ) → AnEnd n front a ⊎ AllBytes n front a → AnEnd n front b ⊎ AllBytes n front b → length a ≡ length b
+    same n front a b (inl p) (inl q) = ap (λ (xs : List ℕ). length xs) p.is ∙ sym (ap (λ (xs : List ℕ). length xs) q.is)
+    same n front a b (inl p) (inr q) = let lt = p.before in let eq = q.before in absurd (omega arith)
+    same n front a b (inr p) (inl q) = let eq = p.before in let lt = q.before in absurd (omega arith)
+    same n front a b (inr p) (inr q) =
+        let ends : q.ends ≡ p.ends = same_ends 0 0 p.ends q.ends (length a) (length b) [] p.cut (subst (λ (es : List ℕ). IsCut 0 es (length b)) (sym (append-nil q.ends)) q.cut) p.small q.small (q.is_front ∙ sym p.is_front) in
+        one_len 0 p.ends (length a) (length b) p.cut (subst (λ (es : List ℕ). IsCut 0 es (length b)) ends q.cut)
 
--- the byte lists are cut out of the bytes
-pub texts_are : (n : ℕ) (texts : List (List ℕ)) (bytes : List ℕ) → AreSpelled texts n bytes → texts ≡ pieces 0 (ends_in n bytes) (drop (4 * n) bytes)
-texts_are n texts bytes s =
-    let ends : List ℕ = flat_map (to_le_bytes w32) (ends_of 0 texts) in
-    let count : length (ends_of 0 texts) ≡ n = length-ends_of 0 texts ∙ s.counted in
-    let len : length ends ≡ 4 * n = length-le32 (ends_of 0 texts) ∙ ap (λ (k : ℕ). 4 * k) count in
-    let body : drop (4 * n) bytes ≡ concat texts = ap (λ (xs : List ℕ). drop (4 * n) xs) s.spelled ∙ drop_at ends (concat texts) (4 * n) len in
-    sym (rw (ends_spelled n texts bytes s, body) (pieces-ends_of 0 [] texts refl))
+pub count_fields : (n : ℕ) (fs : List (List ℕ)) → Spelled Bytes n fs → length fs ≡ n + 1
+count_fields n fs s =
+    let t = of_texts n fs s in
+    ap (λ (xs : List (List ℕ)). length xs) t.is ∙ omega (arith, length-append (map end_bytes (ends_of 0 t.texts)) (concat t.texts ∷ []), length-map (ends_of 0 t.texts) end_bytes, t.counted)
+
+pub at_most : (n : ℕ) (front : List (List ℕ)) (field : List ℕ) → GoesOn (Spelled Bytes n) front field → length front ≤ n
+at_most n front field on = of n front field (goes_on_as n front field on)
+  where
+    of : (n : ℕ) (front : List (List ℕ)) (field : List ℕ) → AnEnd n front field ⊎ AllBytes n front field → length front ≤ n
+    of n front field (inl p) = let lt = p.before in omega arith
+    of n front field (inr p) = let eq = p.before in omega arith
+
+pub texts_whole : (n : ℕ) → IsWhole (Spelled Bytes n)
+texts_whole n front field s on = omega (arith, count_fields n front s, at_most n front field on)
+
+-- ---- the ends in the first fields
 
 -- some ends that rise begin a spelling
-pub ends_go_on : (n i : ℕ) (bytes : List ℕ) (last : ℕ) → n < 2 ^ 32 → last < 2 ^ 32 → i ≤ n → 4 * i ≤ length bytes → AreBytes bytes → IsCut 0 (ends_in i bytes) last
-    → CanGoOn Bytes n (take (4 * i) bytes)
-ends_go_on n i bytes last few small le room fits cut =
-    let es : List ℕ = ends_in i bytes in
-    let more : List ℕ = replicate (n - i) last in
+pub ends_begin : (n : ℕ) (es : List ℕ) (last : ℕ) → IsCut 0 es last → length es ≤ n → n < 2 ^ 32 → last < 2 ^ 32 → Begins (Spelled Bytes n) (map end_bytes es)
+ends_begin n es last cut le few small =
+    let more : List ℕ = replicate (n - length es) last in
     let body : List ℕ = replicate last 0 in
-    let tail : List ℕ = flat_map (to_le_bytes w32) more ++ body in
     let body_len : length body ≡ last = length-replicate {A = ℕ} last 0 in
-    let count : length (es ++ more) ≡ n = omega (arith, length-append es more, length-ends_in i bytes, length-replicate {A = ℕ} (n - i) last) in
-    let whole_cut : IsCut 0 (es ++ more) (length body) = rw body_len (IsCut-same 0 es last (n - i) cut) in
-    let spelled : flat_map (to_le_bytes w32) (es ++ more) ++ body ≡ take (4 * i) bytes ++ tail =
-    rw (flat_map-append (to_le_bytes w32) es more, spelled-ends_in i bytes room fits) (append_assoc (take (4 * i) bytes) (flat_map (to_le_bytes w32) more) body) in
-    goes_on Bytes n (Texts (pieces 0 (es ++ more) body)) (take (4 * i) bytes) tail
-    (below-append 256 (flat_map (to_le_bytes w32) more) body (bytes-le32 more) (below-zeros 256 last (omega arith)))
-    (subst (λ (xs : List ℕ). Spells Bytes n (Texts (pieces 0 (es ++ more) body)) xs) spelled (spelled_texts n (es ++ more) body whole_cut count few (rw body_len small)))
+    let count : length (es ++ more) ≡ n = omega (arith, length-append es more, length-replicate {A = ℕ} (n - length es) last) in
+    let s = spelled_fields n (es ++ more) body (rw body_len (IsCut-same 0 es last (n - length es) cut)) count few (rw body_len small) in
+    let shape : map end_bytes (es ++ more) ++ body ∷ [] ≡ map end_bytes es ++ (map end_bytes more ++ body ∷ []) =
+    ap (λ (xs : List (List ℕ)). xs ++ body ∷ []) (map-append end_bytes es more) ∙ append_assoc (map end_bytes es) (map end_bytes more) (body ∷ []) in
+    (map end_bytes more ++ body ∷ [], subst (Spelled Bytes n) shape s)
 
-at_end : (i : ℕ) → 4 * i % 4 ≡ 0
-at_end i = omega arith
+-- the fields of the ends, and what is behind them
+pub record Front (i : ℕ) (bytes : List ℕ) : Type 0 where
+  pub joined : concat (map end_bytes (ends_in i bytes)) ≡ take (4 * i) bytes
+  pub len : length (concat (map end_bytes (ends_in i bytes))) ≡ 4 * i
+  pub parts : bytes ≡ concat (map end_bytes (ends_in i bytes)) ++ drop (4 * i) bytes
 
--- ---- the four faults
+pub front_of : (i : ℕ) (bytes : List ℕ) → 4 * i ≤ length bytes → IsBytes bytes → Front i bytes
+front_of i bytes room fits =
+    let joined : concat (map end_bytes (ends_in i bytes)) ≡ take (4 * i) bytes = concat-map end_bytes (ends_in i bytes) ∙ spelled-ends_in i bytes room fits in
+    record {
+      joined = joined;
+      len = ap (λ (xs : List ℕ). length xs) joined ∙ omega (arith, length-take (4 * i) bytes);
+      parts = sym (take-append-drop (4 * i) bytes) ∙ ap (λ (xs : List ℕ). xs ++ drop (4 * i) bytes) (sym joined);
+    }
+
+-- so far the ends in the first fields rise
+pub record HasEnds (n i : ℕ) (bytes : List ℕ) (last : ℕ) : Type 0 where
+  pub few : n < 2 ^ 32
+  pub small : last < 2 ^ 32
+  pub within : i ≤ n
+  pub room : 4 * i ≤ length bytes
+  pub fits : IsBytes bytes
+  pub cut : IsCut 0 (ends_in i bytes) last
+
+begins : (n i : ℕ) (bytes : List ℕ) (last : ℕ) → HasEnds n i bytes last → Begins (Spelled Bytes n) (map end_bytes (ends_in i bytes))
+begins n i bytes last h = ends_begin n (ends_in i bytes) last h.cut (let le = h.within in omega (arith, length-ends_in i bytes)) h.few h.small
+
+count_front : (i : ℕ) (bytes : List ℕ) → length (map end_bytes (ends_in i bytes)) ≡ i
+count_front i bytes = length-map (ends_in i bytes) end_bytes ∙ length-ends_in i bytes
+
+-- what may follow them: an end not below the last, or as many bytes as it says
+follows_end : (n i : ℕ) (bytes : List ℕ) (last : ℕ) → HasEnds n i bytes last → i < n → (field : List ℕ) → GoesOn (Spelled Bytes n) (map end_bytes (ends_in i bytes)) field
+    → (end : ℕ) × (field ≡ end_bytes end) × (last ≤ end) × (end < 2 ^ 32)
+follows_end n i bytes last h lt field on = of n i bytes last h lt field (goes_on_as n (map end_bytes (ends_in i bytes)) field on)
+  where
+    end_below : (at : ℕ) (es : List ℕ) (end : ℕ) (more : List ℕ) (total : ℕ) → IsCut at (es ++ end ∷ more) total → end ≤ total
+    end_below at [] end more total cut = cut_from end more total cut.1
+    end_below at (e ∷ es) end more total cut = end_below e es end more total cut.1
+
+    of : (n i : ℕ) (bytes : List ℕ) (last : ℕ) → HasEnds n i bytes last → i < n → (field : List ℕ)
+        → AnEnd n (map end_bytes (ends_in i bytes)) field ⊎ AllBytes n (map end_bytes (ends_in i bytes)) field → (end : ℕ) × (field ≡ end_bytes end) × (last ≤ end) × (end < 2 ^ 32)
+    of n i bytes last h lt field (inl p) =
+        let ends : p.ends ≡ ends_in i bytes = same_ends 0 0 (ends_in i bytes) p.ends last p.total (p.end ∷ p.more) h.cut p.cut h.small p.small p.is_front in
+        let cut : IsCut 0 (ends_in i bytes ++ p.end ∷ p.more) p.total = subst (λ (es : List ℕ). IsCut 0 (es ++ p.end ∷ p.more) p.total) ends p.cut in
+        let small = p.small in
+        (p.end, p.is, next-le 0 (ends_in i bytes) last p.end p.more p.total h.cut cut, omega (arith, end_below 0 (ends_in i bytes) p.end p.more p.total cut))
+    of n i bytes last h lt field (inr p) = let eq = p.before in absurd (omega (arith, count_front i bytes))
+
+follows_all : (n : ℕ) (bytes : List ℕ) (last : ℕ) → HasEnds n n bytes last → (field : List ℕ) → GoesOn (Spelled Bytes n) (map end_bytes (ends_in n bytes)) field → length field ≡ last
+follows_all n bytes last h field on = of n bytes last h field (goes_on_as n (map end_bytes (ends_in n bytes)) field on)
+  where
+    of : (n : ℕ) (bytes : List ℕ) (last : ℕ) → HasEnds n n bytes last → (field : List ℕ)
+        → AnEnd n (map end_bytes (ends_in n bytes)) field ⊎ AllBytes n (map end_bytes (ends_in n bytes)) field → length field ≡ last
+    of n bytes last h field (inl p) = let lt = p.before in absurd (omega (arith, count_front n bytes))
+    of n bytes last h field (inr p) =
+        let ends : p.ends ≡ ends_in n bytes = same_ends 0 0 (ends_in n bytes) p.ends last (length field) [] h.cut (subst (λ (es : List ℕ). IsCut 0 es (length field)) (sym (append-nil p.ends)) p.cut) h.small p.small p.is_front in
+        one_len 0 (ends_in n bytes) (length field) last (subst (λ (es : List ℕ). IsCut 0 es (length field)) ends p.cut) h.cut
+
+-- ends that are not all are no spelling
+not_all : (n i : ℕ) (bytes : List ℕ) → i ≤ n → Spelled Bytes n (map end_bytes (ends_in i bytes)) → ⊥
+not_all n i bytes le s = omega (arith, count_fields n (map end_bytes (ends_in i bytes)) s, count_front i bytes)
+
+-- ---- the whole, and the four faults
+
+-- the ends in the first fields, and as many bytes behind them
+pub spelled_whole : (n : ℕ) (bytes : List ℕ) (last : ℕ) → HasEnds n n bytes last → 4 * n + last ≡ length bytes → IsSpelling Bytes n bytes
+spelled_whole n bytes last h len =
+    let es : List ℕ = ends_in n bytes in
+    let body : List ℕ = drop (4 * n) bytes in
+    let body_len : length body ≡ last = omega (arith, length-drop (4 * n) bytes) in
+    let cut : IsCut 0 es (length body) = rw body_len h.cut in
+    let counted : length (pieces 0 es body) ≡ n = length-pieces 0 es body ∙ length-ends_in n bytes in
+    let joined : concat (pieces 0 es body) ≡ body = concat-all es body cut in (
+      Texts (pieces 0 es body),
+      record {
+        fits = (subst (λ (k : ℕ). k < 2 ^ 32) (sym counted) h.few, rw (joined, body_len) h.small);
+        counted = counted;
+        spelled = sym (rw (ends_of-pieces 0 es body cut, joined, spelled-ends_in n bytes h.room h.fits) (take-append-drop (4 * n) bytes));
+      },
+    )
 
 -- an end is missing
-pub fault_no_end : (n i : ℕ) (bytes : List ℕ) (last : ℕ) → n < 2 ^ 32 → last < 2 ^ 32 → i < n → 4 * i ≤ length bytes → length bytes < 4 * i + 4 → AreBytes bytes → IsCut 0 (ends_in i bytes) last
-    → IsFault Bytes n bytes (length bytes)
-fault_no_end n i bytes last few small lt room short fits cut = record {
-  refused = λ items s. let d = determined n items bytes s in let len = d.len in omega arith;
-  at = 4 * i;
-  within = room;
-  begins_field = λ before. at_end i;
-  before = ends_go_on n i bytes last few small (omega arith) room fits cut;
-  reported = inl (subst (λ (k : ℕ). length bytes < 4 * i + k) (sym (field_before Bytes n (4 * i) (omega arith))) short, refl);
-}
+pub fault_no_end : (n i : ℕ) (bytes : List ℕ) (last : ℕ) → HasEnds n i bytes last → i < n → length bytes < 4 * i + 4 → IsAtFault Bytes n bytes (length bytes)
+fault_no_end n i bytes last h lt short =
+    let f = front_of i bytes h.room h.fits in
+    let es : List ℕ = ends_in i bytes in
+    let room = h.room in
+    let rest_len : length (drop (4 * i) bytes) ≡ length bytes - 4 * i = length-drop (4 * i) bytes in
+    let on : GoesOn (Spelled Bytes n) (map end_bytes es) (end_bytes last) =
+    subst (Begins (Spelled Bytes n)) (map-append end_bytes es (last ∷ []))
+    (ends_begin n (es ++ last ∷ []) last (IsCut-more 0 es last last h.cut (omega arith)) (omega (arith, length-append es (last ∷ []), length-ends_in i bytes)) h.few h.small) in
+    record {
+      front = map end_bytes es;
+      rest = drop (4 * i) bytes;
+      parts = f.parts;
+      begins = begins n i bytes last h;
+      ends = λ field goes (more, e).
+          let end = follows_end n i bytes last h lt field goes in
+          let a = ap (λ (xs : List ℕ). length xs) (e ∙ ap (λ (xs : List ℕ). xs ++ more) end.1) in
+          omega (arith, a, rest_len);
+      more = λ s. absurd (not_all n i bytes (omega arith) s);
+      at = inl (end_bytes last, on, omega (arith, rest_len), omega (arith, f.len, rest_len));
+    }
 
 -- an end is below the one before it
-pub fault_end_falls : (n i : ℕ) (bytes : List ℕ) (last : ℕ) → n < 2 ^ 32 → last < 2 ^ 32 → i < n → 4 * i + 4 ≤ length bytes → AreBytes bytes → IsCut 0 (ends_in i bytes) last
-    → little_number 4 (drop (4 * i) bytes) < last → IsFault Bytes n bytes (4 * i)
-fault_end_falls n i bytes last few small lt room fits cut falls =
-    let end : ℕ = little_number 4 (drop (4 * i) bytes) in
-    let front : List ℕ = take (4 * i + 4) bytes in
-    let front_len : length front ≡ 4 * i + 4 = omega (arith, length-take (4 * i + 4) bytes) in
-    let one : field_at Bytes n (4 * i) ≡ 4 = field_before Bytes n (4 * i) (omega arith) in
-    let split : n ≡ (i + 1) + (n - (i + 1)) = omega arith in
-    let stuck : ¬ CanGoOn Bytes n front = λ (items, rest, rest_fits, s).
-    let d = determined n items (front ++ rest) s in
-    let behind : List ℕ = ends_in (n - (i + 1)) (drop (4 * (i + 1)) (front ++ rest)) in
-    let same : ends_in (i + 1) (front ++ rest) ≡ ends_in (i + 1) bytes =
-    ends_in-front (i + 1) front rest (omega arith) ∙ sym (ap (ends_in (i + 1)) (sym (take-append-drop (4 * i + 4) bytes)) ∙ ends_in-front (i + 1) front (drop (4 * i + 4) bytes) (omega arith)) in
-    let shape : ends_in n (front ++ rest) ≡ ends_in i bytes ++ (end ∷ behind) =
-    ap (λ (k : ℕ). ends_in k (front ++ rest)) split ∙ ends_in-add (i + 1) (n - (i + 1)) (front ++ rest)
-    ∙ ap (λ (xs : List ℕ). xs ++ behind) (same ∙ ends_in-more i bytes) ∙ append_assoc (ends_in i bytes) (end ∷ []) behind in
-    let le = next-le 0 (ends_in i bytes) last end behind d.total cut (subst (λ (xs : List ℕ). IsCut 0 xs d.total) shape d.cut) in
-    omega (arith, le) in
+pub fault_end_falls : (n i : ℕ) (bytes : List ℕ) (last : ℕ) → HasEnds n i bytes last → i < n → 4 * i + 4 ≤ length bytes → little_number 4 (drop (4 * i) bytes) < last → IsAtFault Bytes n bytes (4 * i)
+fault_end_falls n i bytes last h lt long falls =
+    let f = front_of i bytes h.room h.fits in
+    let es : List ℕ = ends_in i bytes in
+    let rest_len : length (drop (4 * i) bytes) ≡ length bytes - 4 * i = length-drop (4 * i) bytes in
     record {
-      refused = not_spelled Bytes n (4 * i + 4) bytes fits stuck;
-      at = 4 * i;
-      within = omega arith;
-      begins_field = λ before. at_end i;
-      before = ends_go_on n i bytes last few small (omega arith) (omega arith) fits cut;
-      reported = inr (subst (λ (k : ℕ). 4 * i + k ≤ length bytes) (sym one) room, refl, subst (λ (k : ℕ). ¬ CanGoOn Bytes n (take (4 * i + k) bytes)) (sym one) stuck);
+      front = map end_bytes es;
+      rest = drop (4 * i) bytes;
+      parts = f.parts;
+      begins = begins n i bytes last h;
+      ends = λ field goes (more, e).
+          let end = follows_end n i bytes last h lt field goes in
+          let same : little_number 4 (drop (4 * i) bytes) ≡ end.0 = ap (little_number 4) (e ∙ ap (λ (xs : List ℕ). xs ++ more) end.1) ∙ little_number-reads_back 4 end.0 more end.3 in
+          omega (arith, same, end.2);
+      more = λ s. omega (arith, rest_len);
+      at = inr (
+        (λ field goes.
+            let end = follows_end n i bytes last h lt field goes in
+            let a = ap (λ (xs : List ℕ). length xs) end.1 in
+            omega (arith, a, rest_len)),
+        sym f.len,
+      );
     }
 
 -- bytes of the lists are missing
-pub fault_no_bytes : (n : ℕ) (bytes : List ℕ) (last : ℕ) → n < 2 ^ 32 → last < 2 ^ 32 → 4 * n ≤ length bytes → length bytes < 4 * n + last → AreBytes bytes → IsCut 0 (ends_in n bytes) last
-    → IsFault Bytes n bytes (length bytes)
-fault_no_bytes n bytes last few small room short fits cut =
-    let missing : ℕ = 4 * n + last - length bytes in
-    let zeros : List ℕ = replicate missing 0 in
-    let whole : List ℕ = bytes ++ zeros in
-    let whole_len : 4 * n + last ≡ length whole = omega (arith, length-append bytes zeros, length-replicate {A = ℕ} missing 0) in
-    let whole_fits : AreBytes whole = below-append 256 bytes zeros fits (below-zeros 256 missing (omega arith)) in
-    let same : ends_in n whole ≡ ends_in n bytes = ends_in-front n bytes zeros room in
-    let s = spelled_whole n whole last few small whole_fits (subst (λ (es : List ℕ). IsCut 0 es last) (sym same) cut) whole_len in
-    let one : field_at Bytes n (length bytes) ≡ 1 = field_behind Bytes n (length bytes) (omega arith) in
+pub fault_no_bytes : (n : ℕ) (bytes : List ℕ) (last : ℕ) → HasEnds n n bytes last → length bytes < 4 * n + last → IsAtFault Bytes n bytes (length bytes)
+fault_no_bytes n bytes last h short =
+    let f = front_of n bytes h.room h.fits in
+    let es : List ℕ = ends_in n bytes in
+    let room = h.room in
+    let body : List ℕ = replicate last 0 in
+    let body_len : length body ≡ last = length-replicate {A = ℕ} last 0 in
+    let rest_len : length (drop (4 * n) bytes) ≡ length bytes - 4 * n = length-drop (4 * n) bytes in
+    let on : GoesOn (Spelled Bytes n) (map end_bytes es) body =
+    ([], subst (Spelled Bytes n) (sym (append-nil (map end_bytes es ++ body ∷ []))) (spelled_fields n es body (rw body_len h.cut) (length-ends_in n bytes) h.few (rw body_len h.small))) in
     record {
-      refused = λ items s. let d = determined n items bytes s in let len = d.len in let total = one_len 0 (ends_in n bytes) d.total last d.cut cut in omega arith;
-      at = length bytes;
-      within = omega arith;
-      begins_field = λ before. absurd (omega arith);
-      before = subst (λ (xs : List ℕ). CanGoOn Bytes n xs) (sym (take_all (length bytes) bytes (omega arith)))
-          (goes_on Bytes n (Texts (pieces 0 (ends_in n whole) (drop (4 * n) whole))) bytes zeros (below-zeros 256 missing (omega arith)) s);
-      reported = inl (subst (λ (k : ℕ). length bytes < length bytes + k) (sym one) (omega arith), refl);
+      front = map end_bytes es;
+      rest = drop (4 * n) bytes;
+      parts = f.parts;
+      begins = begins n n bytes last h;
+      ends = λ field goes (more, e).
+          let len = follows_all n bytes last h field goes in
+          let a = ap (λ (xs : List ℕ). length xs) e ∙ length-append field more in
+          omega (arith, a, len, rest_len);
+      more = λ s. absurd (not_all n n bytes (omega arith) s);
+      at = inl (body, on, omega (arith, body_len, rest_len), omega (arith, f.len, rest_len));
     }
 
 -- bytes follow
-pub fault_more_bytes : (n : ℕ) (bytes : List ℕ) (last : ℕ) → n < 2 ^ 32 → last < 2 ^ 32 → 4 * n + last < length bytes → AreBytes bytes → IsCut 0 (ends_in n bytes) last
-    → IsFault Bytes n bytes (4 * n + last)
-fault_more_bytes n bytes last few small long fits cut =
-    let at : ℕ = 4 * n + last in
-    let front : List ℕ = take at bytes in
-    let front_len : length front ≡ at = omega (arith, length-take at bytes) in
-    let cut_at : (k : ℕ) → 4 * n ≤ k → k ≤ length bytes → (rest : List ℕ) → ends_in n (take k bytes ++ rest) ≡ ends_in n bytes = λ k le within rest.
-    let room : 4 * n ≤ length (take k bytes) = omega (arith, length-take k bytes) in
-    ends_in-front n (take k bytes) rest room ∙ sym (ap (ends_in n) (sym (take-append-drop k bytes)) ∙ ends_in-front n (take k bytes) (drop k bytes) room) in
-    let front_cut : IsCut 0 (ends_in n front) last = subst (λ (es : List ℕ). IsCut 0 es last) (sym (ap (ends_in n) (sym (append-nil front)) ∙ cut_at at (omega arith) (omega arith) [])) cut in
-    let s = spelled_whole n front last few small (below-take 256 at bytes (omega arith) fits) front_cut (sym front_len) in
-    let one : field_at Bytes n at ≡ 1 = field_behind Bytes n at (omega arith) in
-    let longer : length (take (at + 1) bytes) ≡ at + 1 = omega (arith, length-take (at + 1) bytes) in
-    let stuck : ¬ CanGoOn Bytes n (take (at + 1) bytes) = λ (items, rest, rest_fits, s).
-    let d = determined n items (take (at + 1) bytes ++ rest) s in
-    let len = d.len in
-    let same = cut_at (at + 1) (omega arith) (omega arith) rest in
-    let total = one_len 0 (ends_in n bytes) d.total last (subst (λ (es : List ℕ). IsCut 0 es d.total) same d.cut) cut in
-    omega (arith, len, total, length-append (take (at + 1) bytes) rest) in
+pub fault_more_bytes : (n : ℕ) (bytes : List ℕ) (last : ℕ) → HasEnds n n bytes last → 4 * n + last < length bytes → IsAtFault Bytes n bytes (4 * n + last)
+fault_more_bytes n bytes last h long =
+    let f = front_of n bytes h.room h.fits in
+    let es : List ℕ = ends_in n bytes in
+    let rest : List ℕ = drop (4 * n) bytes in
+    let rest_len : length rest ≡ length bytes - 4 * n = length-drop (4 * n) bytes in
+    let body : List ℕ = take last rest in
+    let body_len : length body ≡ last = omega (arith, length-take last rest) in
+    let front : List (List ℕ) = map end_bytes es ++ body ∷ [] in
+    let s : Spelled Bytes n front = spelled_fields n es body (rw body_len h.cut) (length-ends_in n bytes) h.few (rw body_len h.small) in
+    let front_len : length front ≡ n + 1 = count_fields n front s in
+    let joined : concat front ≡ concat (map end_bytes es) ++ body = concat-push (map end_bytes es) body in
+    let none : (field : List ℕ) → ¬ GoesOn (Spelled Bytes n) front field = λ field goes. omega (arith, front_len, at_most n front field goes) in
     record {
-      refused = not_spelled Bytes n (at + 1) bytes fits stuck;
-      at = at;
-      within = omega arith;
-      begins_field = λ before. absurd (omega arith);
-      before = goes_on Bytes n (Texts (pieces 0 (ends_in n front) (drop (4 * n) front))) front [] (λ i. omega arith) (subst (λ (xs : List ℕ). Spells Bytes n (Texts (pieces 0 (ends_in n front) (drop (4 * n) front))) xs) (sym (append-nil front)) s);
-      reported = inr (subst (λ (k : ℕ). at + k ≤ length bytes) (sym one) (omega arith), refl, subst (λ (k : ℕ). ¬ CanGoOn Bytes n (take (at + k) bytes)) (sym one) stuck);
+      front = front;
+      rest = drop last rest;
+      parts = f.parts ∙ ap (λ (xs : List ℕ). concat (map end_bytes es) ++ xs) (sym (take-append-drop last rest)) ∙ sym (append_assoc (concat (map end_bytes es)) body (drop last rest))
+          ∙ ap (λ (xs : List ℕ). xs ++ drop last rest) (sym joined);
+      begins = ([], subst (Spelled Bytes n) (sym (append-nil front)) s);
+      ends = λ field goes stands. none field goes;
+      more = λ whole. omega (arith, length-drop last rest, rest_len);
+      at = inr ((λ field goes. absurd (none field goes)), sym (ap (λ (xs : List ℕ). length xs) joined ∙ omega (arith, length-append (concat (map end_bytes es)) body, f.len, body_len)));
     }
+
+-- one end more
+pub has_more : (n i : ℕ) (bytes : List ℕ) (last end : ℕ) → HasEnds n i bytes last → i < n → 4 * i + 4 ≤ length bytes → end < 2 ^ 32 → end ≡ little_number 4 (drop (4 * i) bytes) → last ≤ end → HasEnds n (i + 1) bytes end
+has_more n i bytes last end h lt long small is le = record {
+  few = h.few;
+  small = small;
+  within = omega arith;
+  room = omega arith;
+  fits = h.fits;
+  cut = rw (ends_in-more i bytes, ← is) (IsCut-more 0 (ends_in i bytes) last end h.cut le);
+}

@@ -1,5 +1,4 @@
-pub mod Cuts
 pub mod Widths
 pub mod Items
 pub mod Spelling
-pub mod Fault
+pub mod Reading

@@ -1,32 +1,28 @@
 //! The first fault of bytes that spell no items.
 
 ghost use Rattle.std.specs.Prelude.{◌≡◌, ◌<◌, ◌^◌, ℕ, length, slice_index, All, MatchOption};
-ghost use Rattle.kt_plain.specs.Widths.{field_len, IsNumeric};
-ghost use Rattle.kt_plain.specs.Spelling.{Spells};
-ghost use Rattle.kt_plain.specs.Fault.{IsFault, IsFirstAbove};
+ghost use Rattle.kt_plain.specs.Reading.{IsSpelling, IsAtFault, IsFirstAbove};
 
-use crate::items::Items;
-use crate::widths::Width;
+use crate::widths::{NumberWidth, Width};
 use byteorder::{ByteOrder, LittleEndian};
 
 /// The place of the first fault, or none where the bytes spell n items.
 pub(crate) fn fault(bytes: &[u8], n: u32, width: Width) -> Option<usize>
-    ensures { MatchOption result ((items : Items) × Spells width n items bytes.now) (IsFault width n bytes.now) }
+    ensures { MatchOption result (IsSpelling width n bytes.now) (IsAtFault width n bytes.now) }
 {
     let n = n as usize;
     match width {
-        Width::Bit => fault_of_bits(bytes, n),
+        Width::Numbers(NumberWidth::Bit) => fault_of_bits(bytes, n),
+        Width::Numbers(width) => fault_of_len(bytes, n, width),
         Width::Bytes => fault_of_texts(bytes, n),
-        _ => fault_of_len(bytes, n, width),
     }
 }
 
 /// Of numbers the length alone can be wrong.
-fn fault_of_len(bytes: &[u8], n: usize, width: Width) -> Option<usize>
+fn fault_of_len(bytes: &[u8], n: usize, width: NumberWidth) -> Option<usize>
     requires count { n < 2 ^ 32 }
-    requires numeric { IsNumeric width }
-    requires bits { width ≡ Width.Bit → (i : ℕ) → i < n → slice_index bytes.now i < 2 }
-    ensures { MatchOption result ((items : Items) × Spells width n items bytes.now) (IsFault width n bytes.now) }
+    requires bits { width ≡ NumberWidth.Bit → (i : ℕ) → i < n → slice_index bytes.now i < 2 }
+    ensures { MatchOption result (IsSpelling (Width.Numbers width) n bytes.now) (IsAtFault (Width.Numbers width) n bytes.now) }
 {
     let whole = n * width.field_len();
     if bytes.len() < whole {
@@ -40,11 +36,11 @@ fn fault_of_len(bytes: &[u8], n: usize, width: Width) -> Option<usize>
 
 fn fault_of_bits(bytes: &[u8], n: usize) -> Option<usize>
     requires { n < 2 ^ 32 }
-    ensures { MatchOption result ((items : Items) × Spells Width.Bit n items bytes.now) (IsFault Width.Bit n bytes.now) }
+    ensures { MatchOption result (IsSpelling (Width.Numbers NumberWidth.Bit) n bytes.now) (IsAtFault (Width.Numbers NumberWidth.Bit) n bytes.now) }
 {
     match first_no_bit(&bytes[..n.min(bytes.len())]) {
         Some(at) => Some(at),
-        None => fault_of_len(bytes, n, Width::Bit),
+        None => fault_of_len(bytes, n, NumberWidth::Bit),
     }
 }
 
@@ -58,7 +54,7 @@ fn first_no_bit(bytes: &[u8]) -> Option<usize>
 /// Of byte lists the ends rise, and as many bytes follow as the last end says.
 fn fault_of_texts(bytes: &[u8], n: usize) -> Option<usize>
     requires { n < 2 ^ 32 }
-    ensures { MatchOption result ((items : Items) × Spells Width.Bytes n items bytes.now) (IsFault Width.Bytes n bytes.now) }
+    ensures { MatchOption result (IsSpelling Width.Bytes n bytes.now) (IsAtFault Width.Bytes n bytes.now) }
 {
     let mut last = 0;
     for i in 0..n {

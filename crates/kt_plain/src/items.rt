@@ -4,7 +4,7 @@ ghost use Rattle.std.specs.Prelude.{◌<◌};
 ghost use Rattle.kt_plain.specs.Items.{count, IsItemAt};
 
 use crate::numbers::Numbers;
-use crate::texts::Texts;
+use kt_bytes::Texts;
 
 /// The items of a block: numbers, or byte lists.
 #[derive(Debug, Drop)]
@@ -26,7 +26,7 @@ pub fn get(block: &Items, i: u32) -> Item<'_>
     ensures { IsItemAt block.now i result }
 {
     match block {
-        Items::Numbers(numbers) => Item::Number(numbers.as_slice()[i as usize]),
+        Items::Numbers(numbers) => Item::Number(numbers.get(i as usize)),
         Items::Texts(texts) => Item::Bytes(texts.get(i as usize)),
     }
 }

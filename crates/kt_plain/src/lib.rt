@@ -3,26 +3,22 @@
 //! bytes.
 //!
 //! Its one contract: `encode` gives the one spelling of the items, and `decode` gives the items that
-//! the bytes spell, or the place of the first fault. It stands on no crate but std and `byteorder`.
+//! the bytes spell, or the place of the first fault. Items are held as a block has them: the bytes of
+//! the numbers, and the bytes and ends of the byte lists. It stands on `kt_bytes` and `byteorder`.
 #![tactic(auto)]
 
 mod decoding;
 mod encoding;
-mod errors;
 mod faults;
 mod items;
 mod laws;
 mod numbers;
-mod octets;
-mod texts;
 mod widths;
 
 pub use decoding::decode;
-pub use encoding::encode;
-pub use errors::{CodecNo, NoMemory};
+pub use encoding::{encode, encoded_len};
 pub use items::{Item, Items, get};
-pub use laws::one_value;
-pub use numbers::Numbers;
-pub use octets::Octets;
-pub use texts::Texts;
-pub use widths::Width;
+pub use kt_bytes::{CodecNo, NoMemory, Octets, Texts};
+pub use laws::{delimited, one_value};
+pub use numbers::{Numbers, value_at};
+pub use widths::{NumberWidth, Width};

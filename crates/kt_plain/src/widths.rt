@@ -3,29 +3,36 @@
 ghost use Rattle.std.specs.Prelude.{◌≡◌};
 ghost use Rattle.kt_plain.specs.Widths.{field_len};
 
-/// What the items are: bits of one byte each, numbers of so many bytes, or byte lists.
+/// How wide a number is: a bit of one byte, or so many bytes.
 #[derive(Clone, Copy, Debug, PartialEq, Eq)]
-pub enum Width {
+pub enum NumberWidth {
     /// Bools: the numbers 0 and 1, a byte each.
     Bit,
     One,
     Two,
     Four,
     Eight,
+}
+
+/// What the items of a block are.
+#[derive(Clone, Copy, Debug, PartialEq, Eq)]
+pub enum Width {
+    /// Numbers of one width.
+    Numbers(NumberWidth),
     /// Byte lists, with an end position of four bytes each.
     Bytes,
 }
 
-impl Width {
-    /// How many bytes a number takes, or the end position of a byte list.
+impl NumberWidth {
+    /// How many bytes a number takes.
     pub fn field_len(self) -> usize
         ensures { result ≡ field_len self }
     {
         match self {
-            Width::Bit | Width::One => 1,
-            Width::Two => 2,
-            Width::Four | Width::Bytes => 4,
-            Width::Eight => 8,
+            NumberWidth::Bit | NumberWidth::One => 1,
+            NumberWidth::Two => 2,
+            NumberWidth::Four => 4,
+            NumberWidth::Eight => 8,
         }
     }
 }

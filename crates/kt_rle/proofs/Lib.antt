@@ -1,5 +1,6 @@
-pub mod Bytes
-pub mod Fields
 pub mod RunLists
+pub mod Held
 pub mod FirstFault
-pub mod Encoded
+pub mod Told
+pub mod Decoded
+pub mod Once

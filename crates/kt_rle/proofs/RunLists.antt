@@ -1,18 +1,43 @@
 -- Lists of runs, their numbers and their bytes.
-use Rattle.std.proofs.Common.{◌≡◌, ◌≢◌, ℕ, zero, suc, ◌+◌, ◌*◌, ◌^◌, ◌<◌, ◌≤◌, List, [], ◌∷◌, ◌++◌, length, take, drop, replicate, ℤ, pos, negsuc, Option, Some, None, refl, sym, ap, ◌∙◌, arith}
+use Rattle.std.proofs.Common.{◌≡◌, ◌≢◌, ℕ, zero, suc, ◌+◌, ◌*◌, ◌^◌, ◌<◌, ◌≤◌, List, [], ◌∷◌, ◌++◌, length, take, drop, replicate, ℤ, pos, negsuc, Option, Some, None, refl, sym, ap, ◌∙◌, arith, inr}
 use Rattle.std.specs.List.{flat_map}
-use Rattle.std.specs.Int.{w32, to_le_bytes, from_le_bytes}
+use Rattle.std.specs.Int.{w8, w16, w32, w64, to_le_bytes, from_le_bytes}
 use Rattle.std.proofs.Math.Seq.{take-add}
 use Rattle.std.proofs.lemmas.Nat.{le_bytes_4}
-use Rattle.std.proofs.lemmas.List.{append_assoc, drop_at, drop-append-le, drop-drop, length-append, length-drop, length-replicate, length-take}
+use Rattle.std.proofs.lemmas.List.{append_assoc, drop_at, drop-drop, length-append, length-drop, length-replicate, length-take}
+use borrow.Author.Gap.{read_sfits}
 use Rattle.byteorder.specs.Endian.{little_number}
-use Rattle.byteorder.specs.Numbers.{little_number-reads_back, little_from-append, little_from-take}
-use Rattle.kt_rle.specs.declared.widths.Width.{Width}
-use Rattle.kt_rle.specs.Widths.{field_len, number, value, IsInWidth}
-use Rattle.kt_rle.specs.Runs.{Run, expand, run_bytes, run_len, AreRuns, runs_in}
-use Rattle.kt_rle.specs.Fault.{AreBytes}
-use Rattle.kt_rle.proofs.Bytes.{below-append, below-take, below-drop, bytes-le32}
-use Rattle.kt_rle.proofs.Fields.{exact, zero_in_width, one_in_width}
+use Rattle.byteorder.specs.Numbers.{little_number-reads_back, little_from-take}
+use Rattle.kt_bytes.proofs.Numbers.{IsBytes, IsBytes-take, IsBytes-drop}
+use Rattle.kt_plain.specs.declared.widths.NumberWidth.{NumberWidth as Width}
+use Rattle.kt_plain.specs.declared.widths.NumberWidth.TheVariants.{Bit, One, Two, Four, Eight}
+use Rattle.kt_plain.specs.Widths.{field_len, number, value, IsInWidth}
+use Rattle.kt_plain.proofs.Fields.{exact, zero_in_width}
+use Rattle.kt_rle.specs.declared.runs.Run.{Run}
+use Rattle.kt_rle.specs.Runs.{expand, run_bytes, run_len, Differ, AreRuns, run_at, runs_in}
+use Rattle.kt_rle.specs.Reading.{IsNumber}
+
+-- what was read is a number of the width exactly where it is one as a bit
+pub in_width : (w : Width) (bytes : List ℕ) → IsNumber w (value w bytes) → IsInWidth w (value w bytes)
+in_width Bit bytes is = is
+in_width One bytes is = (exact One).fits bytes tt
+in_width Two bytes is = (exact Two).fits bytes tt
+in_width Four bytes is = (exact Four).fits bytes tt
+in_width Eight bytes is = (exact Eight).fits bytes tt
+
+pub is_number : (w : Width) (z : ℤ) → IsInWidth w z → IsNumber w z
+is_number Bit z fits = fits
+is_number One z fits = tt
+is_number Two z fits = tt
+is_number Four z fits = tt
+is_number Eight z fits = tt
+
+one_in_width : (w : Width) → IsInWidth w (pos 1)
+one_in_width Bit = inr refl
+one_in_width One = read_sfits w8 1
+one_in_width Two = read_sfits w16 1
+one_in_width Four = read_sfits w32 1
+one_in_width Eight = read_sfits w64 1
 
 -- how many numbers runs have
 abbrev pub total : List Run → ℕ
@@ -39,18 +64,7 @@ length-spelled w (r ∷ rs) =
     let next : run_len w * suc (length rs) ≡ run_len w + run_len w * length rs = omega arith in
     omega (arith, one, rest, joined, next)
 
-pub bytes-runs : (w : Width) (rs : List Run) → AreRuns w rs → AreBytes (flat_map (run_bytes w) rs)
-bytes-runs w [] are = λ i. omega arith
-bytes-runs w (r ∷ rs) are =
-    below-append 256 (run_bytes w r) (flat_map (run_bytes w) rs)
-    (below-append 256 (to_le_bytes w32 r.len) (number w r.value) (bytes-le32 r.len) ((exact w).bytes r.value are.1))
-    (bytes-runs w rs are.3)
-
 -- ---- runs read from their bytes
-
--- the run whose bytes stand at the front
-abbrev pub run_at : Width → List ℕ → Run
-run_at w bytes = record { len = little_number 4 bytes; value = value w (drop 4 bytes) }
 
 pub length-runs_in : (w : Width) (k : ℕ) (bytes : List ℕ) → length (runs_in w k bytes) ≡ k
 length-runs_in w zero bytes = refl
@@ -72,24 +86,6 @@ runs_in-add w (suc a) b bytes =
 pub runs_in-more : (w : Width) (i : ℕ) (bytes : List ℕ) → runs_in w (i + 1) bytes ≡ runs_in w i bytes ++ run_at w (drop (run_len w * i) bytes) ∷ []
 runs_in-more w i bytes = runs_in-add w i 1 bytes
 
--- what follows a run's bytes does not matter
-pub run_at-front : (w : Width) (xs ys : List ℕ) → run_len w ≤ length xs → run_at w (xs ++ ys) ≡ run_at w xs
-run_at-front w xs ys le =
-    let long : 4 ≤ length xs = omega arith in
-    let len : little_number 4 (xs ++ ys) ≡ little_number 4 xs = little_from-append 4 xs ys long in
-    let number_ : value w (drop 4 (xs ++ ys)) ≡ value w (drop 4 xs) =
-    ap (value w) (drop-append-le 4 xs ys long) ∙ (exact w).front (drop 4 xs) ys (omega (arith, length-drop 4 xs)) in
-    ap (λ (n : ℕ). record { len = n; value = value w (drop 4 (xs ++ ys)) }) len ∙ ap (λ (z : ℤ). record { len = little_number 4 xs; value = z }) number_
-
-pub runs_in-front : (w : Width) (k : ℕ) (xs ys : List ℕ) → run_len w * k ≤ length xs → runs_in w k (xs ++ ys) ≡ runs_in w k xs
-runs_in-front w zero xs ys le = refl
-runs_in-front w (suc k) xs ys le =
-    let next : run_len w * suc k ≡ run_len w + run_len w * k = omega arith in
-    let long : run_len w ≤ length xs = omega (arith, next) in
-    let rest : runs_in w k (drop (run_len w) (xs ++ ys)) ≡ runs_in w k (drop (run_len w) xs) =
-    ap (runs_in w k) (drop-append-le (run_len w) xs ys long) ∙ runs_in-front w k (drop (run_len w) xs) ys (omega (arith, next, length-drop (run_len w) xs)) in
-    ap (λ (r : Run). r ∷ runs_in w k (drop (run_len w) (xs ++ ys))) (run_at-front w xs ys long) ∙ ap (λ (rs : List Run). run_at w xs ∷ rs) rest
-
 -- runs are read again from their bytes
 pub run_at-spelled : (w : Width) (r : Run) (rest : List ℕ) → r.len < 2 ^ 32 → IsInWidth w r.value → run_at w (run_bytes w r ++ rest) ≡ r
 run_at-spelled w r rest lt fits =
@@ -108,13 +104,13 @@ runs_in-spelled w (r ∷ rs) are lt =
     ap (λ (x : Run). x ∷ runs_in w (length rs) (drop (run_len w) (run_bytes w r ++ rest))) first ∙ ap (λ (xs : List Run). r ∷ xs) others
 
 -- a length's bytes
-pub len_bytes : (bytes : List ℕ) → 4 ≤ length bytes → AreBytes bytes → to_le_bytes w32 (little_number 4 bytes) ≡ take 4 bytes
+pub len_bytes : (bytes : List ℕ) → 4 ≤ length bytes → IsBytes bytes → to_le_bytes w32 (little_number 4 bytes) ≡ take 4 bytes
 len_bytes bytes le fits =
     let same : little_number 4 bytes ≡ from_le_bytes w32 (take 4 bytes) = omega (arith, little_from-take 0 4 4 bytes (omega arith)) in
-    le_bytes_4 (take 4 bytes) (little_number 4 bytes) (omega (arith, length-take 4 bytes)) (below-take 256 4 bytes (omega arith) fits) same
+    le_bytes_4 (take 4 bytes) (little_number 4 bytes) (omega (arith, length-take 4 bytes)) (IsBytes-take 4 bytes fits) same
 
 -- fields are the bytes of the runs in them
-pub spelled-runs_in : (w : Width) (k : ℕ) (bytes : List ℕ) → run_len w * k ≤ length bytes → AreBytes bytes → flat_map (run_bytes w) (runs_in w k bytes) ≡ take (run_len w * k) bytes
+pub spelled-runs_in : (w : Width) (k : ℕ) (bytes : List ℕ) → run_len w * k ≤ length bytes → IsBytes bytes → flat_map (run_bytes w) (runs_in w k bytes) ≡ take (run_len w * k) bytes
 spelled-runs_in w zero bytes le fits =
     let none : run_len w * 0 ≡ 0 = omega arith in
     ap (λ (k : ℕ). take k bytes) (sym none)
@@ -122,11 +118,11 @@ spelled-runs_in w (suc k) bytes le fits =
     let next : run_len w * suc k ≡ run_len w + run_len w * k = omega arith in
     let long : run_len w ≤ length bytes = omega (arith, next) in
     let len : to_le_bytes w32 (little_number 4 bytes) ≡ take 4 bytes = len_bytes bytes (omega arith) fits in
-    let number_ : number w (value w (drop 4 bytes)) ≡ take (field_len w) (drop 4 bytes) = (exact w).back (drop 4 bytes) (omega (arith, length-drop 4 bytes)) (below-drop 256 4 bytes fits) in
+    let number_ : number w (value w (drop 4 bytes)) ≡ take (field_len w) (drop 4 bytes) = (exact w).back (drop 4 bytes) (omega (arith, length-drop 4 bytes)) (IsBytes-drop 4 bytes fits) in
     let first : run_bytes w (run_at w bytes) ≡ take (run_len w) bytes =
     ap (λ (xs : List ℕ). xs ++ number w (value w (drop 4 bytes))) len ∙ ap (λ (xs : List ℕ). take 4 bytes ++ xs) number_ ∙ sym (take-add 4 (field_len w) bytes) in
     let rest : flat_map (run_bytes w) (runs_in w k (drop (run_len w) bytes)) ≡ take (run_len w * k) (drop (run_len w) bytes) =
-    spelled-runs_in w k (drop (run_len w) bytes) (omega (arith, next, length-drop (run_len w) bytes)) (below-drop 256 (run_len w) bytes fits) in
+    spelled-runs_in w k (drop (run_len w) bytes) (omega (arith, next, length-drop (run_len w) bytes)) (IsBytes-drop (run_len w) bytes fits) in
     ap (λ (xs : List ℕ). xs ++ flat_map (run_bytes w) (runs_in w k (drop (run_len w) bytes))) first ∙ ap (λ (xs : List ℕ). take (run_len w) bytes ++ xs) rest
     ∙ sym (take-add (run_len w) (run_len w * k) bytes) ∙ ap (λ (n : ℕ). take n bytes) (sym next)
 
@@ -203,3 +199,27 @@ pub next-fits : (w : Width) (rs : List Run) → IsInWidth w (next_number rs)
 next-fits w [] = zero_in_width w
 next-fits w (r ∷ []) = flipped-fits w r.value
 next-fits w (r ∷ s ∷ rs) = next-fits w (s ∷ rs)
+
+-- the first of runs are runs
+pub AreRuns-front : (w : Width) (rs ss : List Run) → AreRuns w (rs ++ ss) → AreRuns w rs
+AreRuns-front w [] ss are = tt
+AreRuns-front w (r ∷ []) ss are = (are.0, are.1, tt, tt)
+AreRuns-front w (r ∷ s ∷ rs) ss are = (are.0, are.1, are.2, AreRuns-front w (s ∷ rs) ss are.3)
+
+pub differ : (w : Width) (rs : List Run) → AreRuns w rs → Differ rs
+differ w [] are = tt
+differ w (r ∷ rs) are = (are.2, differ w rs are.3)
+
+-- runs of the same bytes are the same
+pub one_runs : (w : Width) (rs ss : List Run) → AreRuns w rs → AreRuns w ss → total rs < 2 ^ 32 → total ss < 2 ^ 32 → flat_map (run_bytes w) rs ≡ flat_map (run_bytes w) ss → rs ≡ ss
+one_runs w rs ss are bre rt st e =
+    let len : run_len w * length rs ≡ run_len w * length ss = sym (length-spelled w rs) ∙ ap (λ (xs : List ℕ). length xs) e ∙ length-spelled w ss in
+    let count : length rs ≡ length ss = one_count w (length rs) (length ss) len in
+    sym (runs_in-spelled w rs are rt) ∙ ap (λ (k : ℕ). runs_in w k (flat_map (run_bytes w) rs)) count ∙ ap (runs_in w (length ss)) e ∙ runs_in-spelled w ss bre st
+  where
+    one_count : (w : Width) (a b : ℕ) → run_len w * a ≡ run_len w * b → a ≡ b
+    one_count Bit a b e = omega arith
+    one_count One a b e = omega arith
+    one_count Two a b e = omega arith
+    one_count Four a b e = omega arith
+    one_count Eight a b e = omega arith

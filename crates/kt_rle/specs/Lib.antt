@@ -1,4 +1,4 @@
-pub mod Widths
 pub mod Runs
+pub mod Held
 pub mod Spelling
-pub mod Fault
+pub mod Reading

@@ -2,13 +2,9 @@
 use Rattle.std.specs.Prelude.{◌≢◌, ◌<◌, ◌+◌, ℕ, zero, suc, ℤ, List, [], ◌∷◌, ◌++◌, drop, replicate}
 use Rattle.std.specs.Int.{w32, to_le_bytes}
 use Rattle.byteorder.specs.Endian.{little_number}
-use Rattle.kt_rle.specs.declared.widths.Width.{Width}
-use Rattle.kt_rle.specs.Widths.{field_len, number, value, IsInWidth}
-
--- a number, and how often it stands there
-pub record Run : Type 0 where
-  pub len : ℕ
-  pub value : ℤ
+use Rattle.kt_plain.specs.declared.widths.NumberWidth.{NumberWidth as Width}
+use Rattle.kt_plain.specs.Widths.{field_len, number, value, IsInWidth}
+use Rattle.kt_rle.specs.declared.runs.Run.{Run}
 
 -- the numbers of a run
 abbrev pub expand : Run → List ℤ
@@ -27,12 +23,21 @@ abbrev pub DiffersFirst : ℤ → List Run → Type 0
 DiffersFirst z [] = Unit {0}
 DiffersFirst z (r ∷ rs) = z ≢ r.value
 
+-- neighbours have different numbers
+abbrev pub Differ : List Run → Type 0
+Differ [] = Unit {0}
+Differ (r ∷ rs) = DiffersFirst r.value rs × Differ rs
+
 -- lengths are at least 1, the numbers are of the width, and neighbours differ
 abbrev pub AreRuns : Width → List Run → Type 0
 AreRuns w [] = Unit {0}
 AreRuns w (r ∷ rs) = (0 < r.len) × IsInWidth w r.value × DiffersFirst r.value rs × AreRuns w rs
 
--- the lengths and numbers in the first fields
+-- the run whose bytes stand at the front
+abbrev pub run_at : Width → List ℕ → Run
+run_at w bytes = record { len = little_number 4 bytes; value = value w (drop 4 bytes) }
+
+-- the runs in the first fields
 abbrev pub runs_in : Width → ℕ → List ℕ → List Run
 runs_in w zero bytes = []
-runs_in w (suc k) bytes = (record { len = little_number 4 bytes; value = value w (drop 4 bytes) }) ∷ runs_in w k (drop (run_len w) bytes)
+runs_in w (suc k) bytes = run_at w bytes ∷ runs_in w k (drop (run_len w) bytes)

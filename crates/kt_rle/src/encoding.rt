@@ -1,14 +1,16 @@
-//! Items as bytes.
+//! Items as bytes, and how many bytes they take.
 
-ghost use Rattle.std.specs.Prelude.{◌≡◌, ◌≢◌, ◌≤◌, ◌<◌, ◌++◌, ℕ, pos, length, slice_index_or, IfOk, IfErr, OnOk};
-ghost use Rattle.kt_rle.specs.Widths.{IsInWidth};
-ghost use Rattle.kt_rle.specs.Runs.{run_bytes};
+ghost use Rattle.std.specs.Prelude.{◌≡◌, ◌<◌, ◌^◌, ◌++◌, ◌*◌, length, IfOk, IfErr, OnOk};
+ghost use Rattle.std.specs.List.{flat_map};
+ghost use Rattle.kt_plain.specs.Widths.{number, IsInWidth};
+ghost use Rattle.kt_rle.specs.Runs.{run_bytes, AreRuns};
+ghost use Rattle.kt_rle.specs.Held.{runs_of, end_of, Rise};
 ghost use Rattle.kt_rle.specs.Spelling.{Fits, Spells, Takes};
 
-use crate::errors::CodecNo;
-use crate::items::Items;
-use crate::octets::Octets;
-use crate::widths::Width;
+use crate::items::{Items, run_end};
+use crate::runs::Held;
+use kt_bytes::{CodecNo, Octets};
+use kt_plain::{NumberWidth as Width, Numbers};
 use std::alloc::{AllocError, Global};
 
 /// The one spelling of the items in the width.
@@ -17,55 +19,56 @@ pub fn encode(alloc: Global, cells: &Items, width: Width) -> Result<Octets, Code
     ensures ok { IfOk result (λ octets. Spells width (length cells.now) cells.now octets) }
     ensures memory { IfErr result (λ e. e ≡ CodecNo.Memory) }
 {
-    let bytes = spelled(alloc, cells.as_slice(), width)?;
-    Ok(Octets::from_vec(bytes))
+    let bytes = spelled(alloc, cells.runs(), width)?;
+    Ok(Octets::of(bytes))
 }
 
-/// How many bytes the spelling of the numbers takes, from the count of their runs.
-pub fn encoded_len(values: &[i64], width: Width) -> usize
-    requires { Fits width values.now }
-    ensures { Takes width values.now result }
+/// How many bytes the spelling of the items takes, from the count of their runs.
+pub fn spelled_len(cells: &Items, width: Width) -> usize
+    requires { Fits width cells.now }
+    ensures { Takes width cells.now result }
+{
+    cells.runs().len() * (4 + width.field_len())
+}
+
+/// How many bytes the spelling of plain numbers takes, from the count of their runs.
+pub fn encoded_len(numbers: &Numbers, width: Width) -> usize
+    requires { Fits width numbers.now }
+    ensures { Takes width numbers.now result }
 {
     let mut runs = 0;
-    let mut rest = values;
-    while !rest.is_empty() {
-        let len = run_len(rest);
+    let mut at = 0;
+    while at < numbers.len() {
+        at = run_end(numbers, at);
         runs += 1;
-        rest = &rest[len..];
     }
     runs * (4 + width.field_len())
 }
 
-/// The runs of the numbers, from the front.
-fn spelled(alloc: Global, values: &[i64], width: Width) -> Result<Vec<u8>, AllocError>
-    requires { Fits width values.now }
-    ensures { IfOk result (λ bytes. Spells width (length values.now) values.now bytes.items) }
+/// How many bytes the items take as plain numbers.
+pub fn plain_len(cells: &Items, width: Width) -> usize
+    requires { Fits width cells.now }
+    ensures { result ≡ length (flat_map (number width) cells.now) }
 {
-    let mut bytes = Vec::new(alloc);
-    let mut rest = values;
-    while !rest.is_empty() {
-        let len = run_len(rest);
-        put_run(&mut bytes, len as u32, rest[0], width)?;
-        rest = &rest[len..];
-    }
-    Ok(bytes)
+    cells.len() * width.field_len()
 }
 
-/// How many numbers at the front are the first one.
-fn run_len(values: &[i64]) -> usize
-    requires { 0 < length values.now }
-    ensures some { 0 < result }
-    ensures within { result ≤ length values.now }
-    ensures same { (k : ℕ) → k < result → slice_index_or values.now k (pos 0) ≡ slice_index_or values.now 0 (pos 0) }
-    ensures stop { result < length values.now → slice_index_or values.now result (pos 0) ≢ slice_index_or values.now 0 (pos 0) }
+/// The runs one after another.
+fn spelled(alloc: Global, runs: &[Held], width: Width) -> Result<Vec<u8>, AllocError>
+    requires rise { Rise 0 runs.now }
+    requires are { AreRuns width (runs_of 0 runs.now) }
+    requires few { end_of 0 runs.now < 2 ^ 32 }
+    ensures { IfOk result (λ bytes. bytes.items ≡ flat_map (run_bytes width) (runs_of 0 runs.now)) }
 {
-    let first = values[0];
-    for i in 1..values.len() {
-        if values[i] != first {
-            return i;
-        }
+    let mut bytes = Vec::with_capacity(alloc, runs.len() * (4 + width.field_len()))?;
+    let mut at = 0;
+    'runs: for i in 0..runs.len() {
+        let end = runs[i].end;
+        let len = (end - at) as u32;
+        put_run(&mut bytes, len, runs[i].value, width)?;
+        at = end;
     }
-    values.len()
+    Ok(bytes)
 }
 
 /// Writes a run at the end.

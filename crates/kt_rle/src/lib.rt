@@ -3,23 +3,23 @@
 //! the lengths sum to the number of items.
 //!
 //! Its one contract: `encode` gives the one spelling of the items, and `decode` gives the items that
-//! the bytes spell, or the place of the first fault. It stands on no crate but std and `byteorder`.
+//! the bytes spell, or the place of the first fault. Items are held as runs, however many numbers
+//! these stand for. It stands on `kt_bytes`, `kt_plain`, whose numbers it writes, and `byteorder`.
 #![tactic(auto)]
 
 mod decoding;
 mod encoding;
-mod errors;
-mod faults;
 mod items;
 mod laws;
-mod octets;
 mod reading;
-mod widths;
+mod runs;
 
 pub use decoding::decode;
-pub use encoding::{encode, encoded_len};
-pub use errors::{CodecNo, NoMemory};
+pub use encoding::{encode, encoded_len, plain_len, spelled_len};
 pub use items::{Item, Items, get};
-pub use laws::{one_spelling, one_value};
-pub use octets::Octets;
-pub use widths::Width;
+pub use kt_bytes::{CodecNo, NoMemory, Octets};
+pub use kt_plain::NumberWidth as Width;
+pub use laws::{delimited, one_place, one_spelling, one_value};
+
+#[cfg(test)]
+mod tests;

@@ -1,10 +1,11 @@
 //! Which rowsets may hold a key. Each rowset covers a range of keys; the tree is built once from these ranges, and then
 //! tells the rowsets whose range holds a key, and the deepest stack: those that hold the key that lies in the most
 //! ranges. Its one contract for the layer above: the tree is a list of the ranges it was built from, in some order, and
-//! what it tells is exact. It stands on nothing.
+//! what it tells is exact. It stands on `kt_bytes` alone.
 #![tactic(auto)]
 
-pub use lists::{IdList, NoMemory, Octets, Range, RangeList};
+pub use kt_bytes::{NoMemory, Octets};
+pub use lists::{IdList, Range, RangeList};
 pub use tree::RowTree;
 
 pub mod lists;

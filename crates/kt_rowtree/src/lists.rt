@@ -1,75 +1,9 @@
-ghost use Rattle.std.specs.Prelude.{◌≡◌, ◌≤◌, ℕ, List, length, IfOk};
+ghost use Rattle.std.specs.Prelude.{◌≡◌, ◌≤◌, length, IfOk};
 ghost use Rattle.std.specs.Vec.{vec_capacity};
-ghost use Rattle.std.specs.Ordering.{nat_cmp};
-ghost use Rattle.std.specs.Cmp.Lexicographic.{slice_cmp};
 
 use crate::search::gather;
-use std::alloc::{AllocError, AllocFailed, Global};
-use std::cmp::Ordering;
+use kt_bytes::{NoMemory, Octets};
 use std::marker::Model;
-
-/// There was no memory.
-#[derive(Clone, Copy, Debug, PartialEq, Eq)]
-pub struct NoMemory;
-
-impl From<AllocError> for NoMemory {
-    fn from(_error: AllocError) -> NoMemory {
-        NoMemory
-    }
-}
-
-impl<T: Drop> From<AllocFailed<T>> for NoMemory {
-    fn from(_error: AllocFailed<T>) -> NoMemory {
-        NoMemory
-    }
-}
-
-/// A byte string.
-#[derive(Debug, Drop)]
-pub struct Octets {
-    bytes: Vec<u8>,
-}
-
-impl Model for Octets {
-    ghost Value = { List ℕ };
-
-    ghost view = { λ o. o.bytes.items };
-}
-
-impl Octets {
-    pub fn from_vec(bytes: Vec<u8>) -> Octets
-        ensures { result ≡ bytes.items }
-    {
-        Octets { bytes }
-    }
-
-    pub fn into_vec(self) -> Vec<u8>
-        ensures { result.items ≡ self }
-    {
-        let Octets { bytes } = self;
-        bytes
-    }
-
-    pub fn as_slice(&self) -> &[u8]
-        ensures { result.now ≡ self.now }
-    {
-        self.bytes.as_slice()
-    }
-
-    /// The order of these bytes and a key.
-    pub fn order(&self, key: &[u8]) -> Ordering
-        ensures { result ≡ slice_cmp nat_cmp self.now key.now }
-    {
-        self.bytes.as_slice().cmp(key)
-    }
-
-    pub fn copy(&self, alloc: Global) -> Result<Octets, NoMemory>
-        ensures { IfOk result (λ copy. copy ≡ self.now) }
-    {
-        let bytes = Vec::from_slice(alloc, self.bytes.as_slice())?;
-        Ok(Octets { bytes })
-    }
-}
 
 /// The keys that a rowset covers: from `least` to `greatest`, both included.
 #[derive(Debug, Drop)]
@@ -80,11 +14,11 @@ pub struct Range {
 }
 
 impl Range {
-    pub fn copy(&self, alloc: Global) -> Result<Range, NoMemory>
+    pub fn copy(&self) -> Result<Range, NoMemory>
         ensures { IfOk result (λ copy. copy ≡ self.now) }
     {
-        let least = self.least.copy(alloc)?;
-        let greatest = self.greatest.copy(alloc)?;
+        let least = self.least.copy()?;
+        let greatest = self.greatest.copy()?;
         Ok(Range {
             rowset: self.rowset,
             least,

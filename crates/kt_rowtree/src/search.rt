@@ -9,21 +9,21 @@ use crate::lists::Range;
 fn begins_by(range: &Range, key: &[u8]) -> bool
     ensures { result ≡ is_upto range.now.least key.now }
 {
-    range.least.order(key).is_le()
+    range.least.as_slice().cmp(key).is_le()
 }
 
 /// Whether the range ends at the key or before it.
 fn ends_by(range: &Range, key: &[u8]) -> bool
     ensures { result ≡ is_upto range.now.greatest key.now }
 {
-    range.greatest.order(key).is_le()
+    range.greatest.as_slice().cmp(key).is_le()
 }
 
 /// Whether the range ends at the key or after it.
 fn ends_from(range: &Range, key: &[u8]) -> bool
     ensures { result ≡ is_upto key.now range.now.greatest }
 {
-    range.greatest.order(key).is_ge()
+    range.greatest.as_slice().cmp(key).is_ge()
 }
 
 /// How many ranges begin at the key or before it.

@@ -1,8 +1,9 @@
 ghost use Rattle.std.specs.Prelude.{◌≡◌, length, IfOk, true};
 ghost use Rattle.kt_rowtree.specs.Ranges.{is_upto, IsOrderly};
 
-use crate::lists::{IdList, NoMemory, Octets, Range, RangeList};
+use crate::lists::{IdList, Range, RangeList};
 use crate::tree::RowTree;
+use kt_bytes::{NoMemory, Octets};
 use std::alloc::Global;
 use std::process::Abort;
 use std::test::Fail;
@@ -12,9 +13,9 @@ use std::test::Fail;
 fn between(alloc: Global, rowset: u64, a: &[u8], b: &[u8]) -> Result<Range, NoMemory>
     ensures { IfOk result (λ r. is_upto r.least r.greatest ≡ true) }
 {
-    let a = Octets::from_vec(Vec::from_slice(alloc, a)?);
-    let b = Octets::from_vec(Vec::from_slice(alloc, b)?);
-    if a.order(b.as_slice()).is_le() {
+    let a = Octets::from_slice(alloc, a)?;
+    let b = Octets::from_slice(alloc, b)?;
+    if a.as_slice().cmp(b.as_slice()).is_le() {
         Ok(Range {
             rowset,
             least: a,
@@ -46,7 +47,7 @@ fn overlapping(alloc: Global, count: u32) -> Result<Vec<Range>, NoMemory>
 fn counted(ranges: &[Range], key: &[u8]) -> usize {
     ranges
         .iter()
-        .filter(|r| r.least.order(key).is_le() && r.greatest.order(key).is_ge())
+        .filter(|r| r.least.as_slice().cmp(key).is_le() && r.greatest.as_slice().cmp(key).is_ge())
         .count()
 }
 

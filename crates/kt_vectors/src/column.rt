@@ -1,11 +1,11 @@
 ghost use Rattle.std.specs.Prelude.{◌<◌, ◌≢◌, All};
 ghost use Rattle.std.specs.Bool.{OnTrue};
-ghost use Rattle.kt_plain.specs.Widths.{IsInWidth};
+ghost use Rattle.kt_column.specs.Forms.{IsInWidth};
 ghost use Rattle.kt_column.specs.Blocks.{IsCell};
 
 use kt_base::{Cell, Kind, Octets};
 use kt_column::{Cells1, CodecNo, ColumnData, Form, build, build_keys, decode, decode_keys};
-use kt_plain::Width;
+use kt_plain::{NumberWidth, Width};
 use std::alloc::{AllocError, Global};
 use std::cmp::Ordering;
 use std::process::Abort;
@@ -13,14 +13,14 @@ use std::test::Fail;
 
 /// Whether the number is one of the width's.
 fn has_width(width: Width, number: i64) -> bool
-    ensures { OnTrue result ((width ≢ Width.Bit) × IsInWidth width number) }
+    ensures { OnTrue result ((width ≢ Width.Numbers NumberWidth.Bit) × IsInWidth width number) }
 {
     match width {
-        Width::One => i8::try_from(number).is_ok(),
-        Width::Two => i16::try_from(number).is_ok(),
-        Width::Four => i32::try_from(number).is_ok(),
-        Width::Eight => true,
-        Width::Bit | Width::Bytes => false,
+        Width::Numbers(NumberWidth::One) => i8::try_from(number).is_ok(),
+        Width::Numbers(NumberWidth::Two) => i16::try_from(number).is_ok(),
+        Width::Numbers(NumberWidth::Four) => i32::try_from(number).is_ok(),
+        Width::Numbers(NumberWidth::Eight) => true,
+        Width::Numbers(NumberWidth::Bit) | Width::Bytes => false,
     }
 }
 
@@ -31,7 +31,7 @@ fn admits(form: Form, cell: &Cell) -> bool
     let width = form.width();
     match cell {
         Cell::Null => form.is_nullable(),
-        Cell::Bool(_) => matches!(width, Width::Bit),
+        Cell::Bool(_) => matches!(width, Width::Numbers(NumberWidth::Bit)),
         Cell::Bytes(bytes) => {
             matches!(width, Width::Bytes) && bytes.as_slice().len() <= form.limit()
         }

@@ -1,6 +1,6 @@
 ghost use Rattle.std.specs.Prelude.{◌≡◌, ◌*◌, length, sum_by, IfOk};
 
-use kt_dict::{CodecNo, Items, NoMemory, Width, decode, encode, get};
+use kt_dict::{CodecNo, NoMemory, Texts, Width, decode, encode, get};
 use std::alloc::Global;
 use std::test::Fail;
 
@@ -19,7 +19,7 @@ fn three_items(rt: HostRuntime) -> Result<(), Fail> {
 
 #[test]
 fn three_items_are_written(rt: HostRuntime) -> Result<(), Fail> {
-    let mut items = Items::new(rt.alloc());
+    let mut items = Texts::new(rt.alloc());
     items.push(b"a")?;
     items.push(b"b")?;
     items.push(b"a")?;
@@ -42,12 +42,55 @@ fn second_entry_is_never_used(rt: HostRuntime) {
     );
 }
 
+#[test]
+fn repeated_entry_at_its_bytes(rt: HostRuntime) {
+    let bytes = [2, 0, 1, 0, 0, 0, 97, 1, 0, 0, 0, 97, 0, 0, 1, 0];
+    assert!(rt;
+        matches!(
+            decode(rt.alloc(), &bytes, 2, Width::Bytes),
+            Err(CodecNo::Place { offset: 11 })
+        )
+    );
+}
+
+#[test]
+fn second_empty_entry_at_its_length(rt: HostRuntime) {
+    let bytes = [2, 0, 0, 0, 0, 0, 0, 0, 0, 0, 0, 0, 1, 0];
+    assert!(rt;
+        matches!(
+            decode(rt.alloc(), &bytes, 2, Width::Bytes),
+            Err(CodecNo::Place { offset: 6 })
+        )
+    );
+}
+
+/// 82 KB that spell half a gigabyte are held as they stand.
+#[test]
+fn long_entry_for_each_cell(rt: HostRuntime) -> Result<(), Fail> {
+    let mut bytes = Vec::new(rt.alloc());
+    bytes.extend_from_slice(&[1, 0, 0, 0, 1, 0])?;
+    for _ in 0..65_536u32 {
+        bytes.push(97)?;
+    }
+    for _ in 0..8192u32 {
+        bytes.extend_from_slice(&[0, 0])?;
+    }
+    let items = match decode(rt.alloc(), &bytes, 8192, Width::Bytes) {
+        Ok(items) => items,
+        Err(_) => return Err("the block is refused".into()),
+    };
+    assert_eq!(rt; items.len(), 8192);
+    assert_eq!(rt; get(&items, 8191).len(), 65_536);
+    assert_eq!(rt; items.byte_len(), 536_870_912);
+    Ok(())
+}
+
 /// So many different items of two bytes.
-fn numbered(alloc: Global, count: u16) -> Result<Items, NoMemory>
+fn numbered(alloc: Global, count: u16) -> Result<Texts, NoMemory>
     ensures count { IfOk result (λ items. length items ≡ count) }
     ensures bytes { IfOk result (λ items. sum_by length items ≡ 2 * count) }
 {
-    let mut items = Items::new(alloc);
+    let mut items = Texts::new(alloc);
     for i in 0..count {
         items.push(&i.to_le_bytes())?;
     }

@@ -1,4 +1,4 @@
-use kt_front::{CodecNo, Items, Starts, Width, compare, compare_at, decode, encode, get};
+use kt_front::{CodecNo, Starts, Texts, Width, compare, compare_at, decode, encode, get};
 use std::cmp::Ordering;
 use std::test::Fail;
 
@@ -6,7 +6,7 @@ const BLOCK: [u8; 19] = [0, 0, 0, 0, 2, 0, 0, 0, 97, 98, 2, 0, 0, 0, 1, 0, 0, 0,
 
 #[test]
 fn two_items(rt: HostRuntime) -> Result<(), Fail> {
-    let mut items = Items::new(rt.alloc());
+    let mut items = Texts::new(rt.alloc());
     items.push(b"ab")?;
     items.push(b"abc")?;
     assert!(rt; items.len() == 2);
@@ -25,7 +25,11 @@ fn read_again(rt: HostRuntime) -> Result<(), Fail> {
         Err(_) => return Err("the block is refused".into()),
     };
     assert_eq!(rt; items.len(), 2);
-    assert_eq!(rt; get(&items, 1), b"abc".as_slice());
+    let item = get(&items, 1);
+    assert_eq!(rt; item.len(), 3);
+    assert_eq!(rt; item.compare(b"abd"), Ordering::Less);
+    let copy = item.to_octets(rt.alloc())?;
+    assert_eq!(rt; copy.as_slice(), b"abc".as_slice());
     let starts = Starts::of(rt.alloc(), &BLOCK, 2)?;
     assert_eq!(rt; compare_at(&BLOCK, &starts, 1, b"abd"), Ordering::Less);
     assert_eq!(rt; compare(&BLOCK, 1, b"abc"), Ordering::Equal);

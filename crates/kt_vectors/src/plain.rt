@@ -1,20 +1,23 @@
-use kt_plain::{CodecNo, Items, Numbers, Texts, Width, decode, encode};
+use kt_plain::{CodecNo, Items, NumberWidth, Numbers, Texts, Width, decode, encode};
 use std::test::*;
 
 #[test]
 fn int32(rt: HostRuntime) -> Result<(), Fail> {
-    let cells = Items::Numbers(Numbers::from_vec(vec![in rt.alloc(); 1i64, -1]?));
-    let octets = encode(rt.alloc(), &cells, Width::Four)
+    let cells = Items::Numbers(Numbers::of(rt.alloc(), &[1, -1], NumberWidth::Four)?);
+    let octets = encode(rt.alloc(), &cells, Width::Numbers(NumberWidth::Four))
         .ok()
         .ok_or("out of memory")?;
     let bytes: [u8; 8] = [1, 0, 0, 0, 255, 255, 255, 255];
     assert_eq!(rt; octets.as_slice(), bytes.as_slice());
-    let read = decode(rt.alloc(), &bytes, 2, Width::Four)
+    let read = decode(rt.alloc(), &bytes, 2, Width::Numbers(NumberWidth::Four))
         .ok()
         .ok_or("the bytes are two numbers")?;
-    match read {
-        Items::Numbers(numbers) => assert_eq!(rt; numbers.as_slice(), [1, -1].as_slice()),
-        Items::Texts(_) => assert!(rt; false),
+    match &read {
+        Items::Numbers(numbers) if numbers.len() == 2 => {
+            assert_eq!(rt; numbers.get(0), 1);
+            assert_eq!(rt; numbers.get(1), -1);
+        }
+        _ => assert!(rt; false),
     }
     Ok(())
 }
@@ -58,10 +61,18 @@ fn refused_at(rt: &HostRuntime, bytes: &[u8], n: u32, width: Width, place: u64) 
 #[test]
 fn refusals(rt: HostRuntime) {
     // A bool is 0 or 1.
-    assert!(rt; refused_at(&rt, &[0, 1, 2], 3, Width::Bit, 2));
+    assert!(rt; refused_at(&rt, &[0, 1, 2], 3, Width::Numbers(NumberWidth::Bit), 2));
     // Bytes are missing, and bytes follow.
-    assert!(rt; refused_at(&rt, &[1, 0, 0], 2, Width::Two, 3));
-    assert!(rt; refused_at(&rt, &[1, 0, 0, 0, 7], 2, Width::Two, 4));
+    assert!(rt; refused_at(&rt, &[1, 0, 0], 2, Width::Numbers(NumberWidth::Two), 3));
+    assert!(rt;
+        refused_at(
+            &rt,
+            &[1, 0, 0, 0, 7],
+            2,
+            Width::Numbers(NumberWidth::Two),
+            4
+        )
+    );
     // The second end is below the first.
     assert!(rt; refused_at(&rt, &[0, 1, 0, 0, 0, 0, 0, 0], 2, Width::Bytes, 4));
     // The last end says one byte more, and one less.

@@ -1,11 +1,13 @@
-use kt_rle::{CodecNo, Items, Width, decode, encode};
+use kt_plain::Numbers;
+use kt_rle::{CodecNo, Items, Width, decode, encode, get};
 use std::test::*;
 
 const BYTES: [u8; 10] = [2, 0, 0, 0, 5, 1, 0, 0, 0, 7];
 
 #[test]
 fn int8_written(rt: HostRuntime) -> Result<(), Fail> {
-    let cells = Items::from_vec(vec![in rt.alloc(); 5i64, 5, 7]?);
+    let numbers = Numbers::of(rt.alloc(), &[5, 5, 7], Width::One)?;
+    let cells = Items::of(rt.alloc(), &numbers)?;
     let octets = encode(rt.alloc(), &cells, Width::One)
         .ok()
         .ok_or("out of memory")?;
@@ -18,7 +20,10 @@ fn int8_read(rt: HostRuntime) -> Result<(), Fail> {
     let read = decode(rt.alloc(), &BYTES, 3, Width::One)
         .ok()
         .ok_or("the bytes are three numbers")?;
-    assert_eq!(rt; read.as_slice(), [5, 5, 7].as_slice());
+    assert_eq!(rt; read.len(), 3);
+    assert_eq!(rt; get(&read, 0), 5);
+    assert_eq!(rt; get(&read, 1), 5);
+    assert_eq!(rt; get(&read, 2), 7);
     Ok(())
 }
 

@@ -1,7 +1,7 @@
 use Rattle.std.proofs.Common.{◌≡◌, ◌<◌, ◌-◌, length, min, sym, ap, ◌∙◌, subst, arith, length-append}
-use Rattle.std.proofs.lemmas.List.{take_rest}
+use Rattle.std.proofs.lemmas.List.{take_rest, length-drop}
 use Rattle.kt_column.specs.Columns.{ColumnValue, IsColumnRefusal}
-use Rattle.kt_column.proofs.Progress.{at_start, one_more, all_found, all_only, no_block, no_only}
+use Rattle.kt_column.proofs.Progress.{at_start, one_more, all_found, all_only, no_block, no_only, refusal_shifts}
 use Rattle.kt_column.proofs.column_decoding.read_column.Goals as goal
 
 pub parts-init : goal.parts-init
@@ -48,3 +48,8 @@ returns-clause-found c =
 
 pub returns-clause-only : goal.returns-clause-only
 returns-clause-only c = all_only c.args.form c.args.rows c.parts.used c.args.bytes.now c.parts.column c.parts.invariant (λ lt. absurd (omega (arith, lt, c.parts-test.false, c.len.ensures)))
+
+pub behind-requires : goal.behind-requires
+behind-requires c =
+    let part = ap length (take_rest c.args.bytes.now c.parts.used) in
+    refusal_shifts c.args.form c.min-n.result c.parts.used _ c.in-Err.no (omega (arith, part, length-drop c.parts.used c.args.bytes.now, c.parts.invariant.found.within)) c.in-Err.ensures.place

@@ -1,4 +1,4 @@
-use Rattle.kt_dict.proofs.Blocks.{one_list}
+use Rattle.kt_dict.proofs.Faults.{one_list}
 use Rattle.kt_dict.proofs.laws.one_value.Goals as goal
 
 pub returns : goal.returns

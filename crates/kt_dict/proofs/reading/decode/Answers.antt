@@ -1,9 +1,35 @@
-use Rattle.std.proofs.Common.{arith}
-use Rattle.kt_dict.proofs.Blocks.{is_found, is_only}
+use Rattle.std.proofs.Common.{◌≡◌, ◌-◌, ◌∙◌, length, subst, arith, Err}
+use Rattle.kt_bytes.specs.Places.{IsFault}
+use Rattle.kt_bytes.proofs.Numbers.{IsBytes}
+use Rattle.kt_dict.specs.Spelling.{Spelled}
+use Rattle.kt_dict.specs.Walk.{block_at}
+use Rattle.kt_dict.proofs.Blocks.{block_takes, held}
+use Rattle.kt_dict.proofs.Faults.{block_fault, no_fault, read_items}
 use Rattle.kt_dict.proofs.reading.decode.Goals as goal
 
-pub returns-clause-found : goal.returns-clause-found
-returns-clause-found c = is_found c.args.bytes.now c.args.n c.answer.result (λ i. omega (arith, c.type_inv.bytes i)) c.answer.ensures
+pub of-requires : goal.of-requires
+of-requires c =
+    let fits : IsBytes c.args.bytes.now = λ i. omega (arith, c.type_inv.bytes i) in
+    held c.args.n c.args.bytes.now c.in-Ok.parts.entries c.in-Ok.parts.codes.items (omega arith) (block_takes c.args.n c.args.bytes.now (c.in-Ok.parts.entries, c.in-Ok.parts.codes.items) fits c.in-Ok.ensures)
 
-pub returns-clause-only : goal.returns-clause-only
-returns-clause-only c = λ items spelled. is_only c.args.bytes.now c.args.n c.answer.result items spelled c.answer.ensures
+pub returns-in-Ok-clause-found : goal.returns-in-Ok-clause-found
+returns-in-Ok-clause-found c =
+    let fits : IsBytes c.args.bytes.now = λ i. omega (arith, c.type_inv.bytes i) in
+    rw c.of.ensures (block_takes c.args.n c.args.bytes.now (c.in-Ok.parts.entries, c.in-Ok.parts.codes.items) fits c.in-Ok.ensures).spells
+
+pub returns-in-Ok-clause-only : goal.returns-in-Ok-clause-only
+returns-in-Ok-clause-only c = λ items s.
+    let fits : IsBytes c.args.bytes.now = λ i. omega (arith, c.type_inv.bytes i) in
+    c.of.ensures ∙ read_items c.args.bytes.now c.args.n items (c.in-Ok.parts.entries, c.in-Ok.parts.codes.items) fits s c.in-Ok.ensures
+
+pub returns-in-Err-Left-clause-only : goal.returns-in-Err-Left-clause-only
+returns-in-Err-Left-clause-only c = λ items s.
+    let fits : IsBytes c.args.bytes.now = λ i. omega (arith, c.type_inv.bytes i) in
+    no_fault c.args.bytes.now c.args.n items c.in-Err-Left.left fits s (rw c.in-Err-Left.field-0-is at c.in-Err-Left.ensures)
+
+pub returns-in-Err-Left-clause-place : goal.returns-in-Err-Left-clause-place
+returns-in-Err-Left-clause-place c =
+    let fits : IsBytes c.args.bytes.now = λ i. omega (arith, c.type_inv.bytes i) in
+    let read : block_at c.args.n c.args.bytes.now ≡ Err c.in-Err-Left.left = rw c.in-Err-Left.field-0-is at c.in-Err-Left.ensures in
+    let at : length c.args.bytes.now - c.in-Err-Left.left ≡ c.saturating_sub.result = omega arith in
+    subst (IsFault (Spelled c.args.n) c.args.bytes.now) at (block_fault c.args.n c.args.bytes.now c.in-Err-Left.left fits read)

@@ -1,5 +1,5 @@
 use Rattle.std.proofs.Common.{◌≡◌, ◌-◌, [], map}
-use Rattle.kt_dict.specs.Reading.{entries_at}
+use Rattle.kt_dict.specs.Walk.{entries_at}
 use Rattle.kt_dict.proofs.reading.entries_of.Given as goal
 
 abbrev pub invariant-loop : goal.invariant-loop

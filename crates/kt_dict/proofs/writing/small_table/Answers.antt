@@ -9,7 +9,7 @@ use Rattle.kt_dict.proofs.writing.small_table.Goals as goal
 pub returns-then-len-gt-MOST : goal.returns-then-len-gt-MOST
 returns-then-len-gt-MOST c =
     let keys = c.use_item.new.entries.keys in
-    let item : c.item.result.now ≡ get_or c.args.cells.now c.loop-i.i [] = c.item.ensures in
+    let item : c.get.result.now ≡ get_or c.args.cells.now c.loop-i.i [] = c.get.ensures in
     let is : nows keys ≡ with_entry (nows c.loop-i.table.keys) (get_or c.args.cells.now c.loop-i.i []) = c.in_ok-use_item.ensures.entries ∙ ap (with_entry (nows c.loop-i.table.keys)) item in
     let many : 4096 < length (nows keys) = omega (arith, c.if-len-gt-MOST.true, c.len.ensures.len, length-map keys (λ (k : Bor (List ℕ)). k.now)) in
     too_many c.args.cells.now (nows c.loop-i.table.keys) (nows keys) c.loop-i.i (omega arith) c.loop-i.invariant.so_far is many

@@ -12,11 +12,11 @@ loop-i-preserved c =
     let at : (c.loop-i.i + 1) - 1 ≡ c.loop-i.i = omega arith in
     let next = spelling_more c.args.cells.now c.loop-i.i c.loop-i.before.now (omega arith) c.loop-i.invariant.before in
     record {
-      so_far = c.in_ok-put_cell.ensures ∙ (rw (c.loop-i.invariant.so_far, c.item-item.ensures, c.base_of.ensures) (sym next));
-      before = λ some. c.item-item.ensures ∙ ap (λ k. get_or c.args.cells.now k []) (sym at);
+      so_far = c.in_ok-put_cell.ensures ∙ (rw (c.loop-i.invariant.so_far, c.get-item.ensures, c.base_of.ensures) (sym next));
+      before = λ some. c.get-item.ensures ∙ ap (λ k. get_or c.args.cells.now k []) (sym at);
     }
 
 pub returns-clause-ok : goal.returns-clause-ok
 returns-clause-ok c =
     let all : take c.loop-i.i c.args.cells.now ≡ c.args.cells.now = take_all c.loop-i.i c.args.cells.now (omega arith) in
-    (c.from_vec.ensures ∙ (c.loop-i.invariant.so_far ∙ ap spelling all), fits_together c.args.cells.now c.requires)
+    (c.of.ensures ∙ (c.loop-i.invariant.so_far ∙ ap spelling all), fits_together c.args.cells.now c.requires)

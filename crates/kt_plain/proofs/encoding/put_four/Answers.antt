@@ -2,7 +2,7 @@ use Rattle.std.proofs.Common.{◌++◌, List, ℕ, take, ap}
 use Rattle.std.specs.Prelude.{FitsSigned}
 use Rattle.std.specs.Int.{w32}
 use Rattle.std.proofs.lemmas.Int.{to_z-of_z}
-use Rattle.kt_plain.specs.declared.widths.Width.TheVariants.{Four}
+use Rattle.kt_plain.specs.declared.widths.NumberWidth.TheVariants.{Four}
 use Rattle.kt_plain.specs.Widths.{number}
 use Rattle.kt_plain.proofs.Steps.{behind_written}
 use Rattle.kt_plain.proofs.encoding.put_four.Goals as goal

@@ -2,7 +2,7 @@ use Rattle.std.proofs.Common.{◌++◌, List, ℕ, take, ap}
 use Rattle.std.specs.Prelude.{FitsSigned}
 use Rattle.std.specs.Int.{w16}
 use Rattle.std.proofs.lemmas.Int.{to_z-of_z}
-use Rattle.kt_plain.specs.declared.widths.Width.TheVariants.{Two}
+use Rattle.kt_plain.specs.declared.widths.NumberWidth.TheVariants.{Two}
 use Rattle.kt_plain.specs.Widths.{number}
 use Rattle.kt_plain.proofs.Steps.{behind_written}
 use Rattle.kt_plain.proofs.encoding.put_two.Goals as goal

@@ -1,6 +1,6 @@
 use Rattle.std.proofs.Common.{◌≡◌, take}
 use Rattle.std.specs.List.{flat_map}
-use Rattle.kt_plain.specs.declared.widths.Width.TheVariants.{Bit}
+use Rattle.kt_plain.specs.declared.widths.NumberWidth.TheVariants.{Bit}
 use Rattle.kt_plain.specs.Widths.{number}
 use Rattle.kt_plain.proofs.encoding.write_bits.Given as goal
 

@@ -3,7 +3,7 @@ use Rattle.std.specs.Prelude.{pos, ℤ, FitsSigned}
 use Rattle.std.specs.Int.{w32, w64}
 use Rattle.std.proofs.lemmas.Int.{to_z-of_z}
 use Rattle.std.proofs.lemmas.List.{take_all}
-use Rattle.kt_plain.specs.declared.widths.Width.TheVariants.{Four}
+use Rattle.kt_plain.specs.declared.widths.NumberWidth.TheVariants.{Four}
 use Rattle.kt_plain.specs.Widths.{number}
 use Rattle.kt_plain.proofs.Steps.{written_more}
 use Rattle.kt_plain.proofs.encoding.write_four.Goals as goal

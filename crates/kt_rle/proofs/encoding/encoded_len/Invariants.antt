@@ -1,14 +1,10 @@
-use Rattle.std.proofs.Common.{◌≤◌, ◌+◌, length, All}
-use Rattle.kt_rle.specs.Widths.{IsInWidth}
-use Rattle.kt_rle.proofs.Encoded.{Counts}
+use Rattle.std.proofs.Common.{◌≡◌, ◌-◌, List, length}
+use Rattle.kt_rle.specs.declared.runs.Held.{Held}
+use Rattle.kt_rle.proofs.Held.{StandFor}
 use Rattle.kt_rle.proofs.encoding.encoded_len.Given as goal
 
-abbrev pub invariant-loop-rest : goal.invariant-loop-rest
-invariant-loop-rest l = record {
-  fits : All (IsInWidth l.width) l.rest;
-  few : l.runs + length l.rest ≤ length l.values;
-  counts : Counts l.width l.values l.rest l.runs;
-}
+abbrev pub invariant-loop-at : goal.invariant-loop-at
+invariant-loop-at l = (hs : List Held) × StandFor l.numbers l.at hs × (length hs ≡ l.runs)
 
-abbrev pub decreases-loop-rest : goal.decreases-loop-rest
-decreases-loop-rest l = length l.rest
+abbrev pub decreases-loop-at : goal.decreases-loop-at
+decreases-loop-at l = length l.numbers - l.at

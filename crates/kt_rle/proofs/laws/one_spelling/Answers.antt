@@ -1,4 +1,4 @@
-use Rattle.kt_rle.proofs.Encoded.{spelled_once}
+use Rattle.kt_rle.proofs.Once.{spelled_once}
 use Rattle.kt_rle.proofs.laws.one_spelling.Goals as goal
 
 pub returns : goal.returns

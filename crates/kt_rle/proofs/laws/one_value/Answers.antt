@@ -1,4 +1,4 @@
-use Rattle.kt_rle.proofs.Encoded.{spells_one}
+use Rattle.kt_rle.proofs.Decoded.{spells_one}
 use Rattle.kt_rle.proofs.laws.one_value.Goals as goal
 
 pub returns : goal.returns

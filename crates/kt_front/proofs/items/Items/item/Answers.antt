@@ -1,31 +1,22 @@
-use Rattle.std.proofs.Common.{◌≡◌, length, get_or, ◌∙◌, arith, ap}
-use Rattle.std.proofs.lemmas.List.{get_or_read}
-use Rattle.kt_front.specs.Pieces.{start_at}
-use Rattle.kt_front.proofs.Pieces.{count_is, item_is, cut_start, cut_end}
+use Rattle.std.proofs.Common.{◌∙◌, ◌<◌, List, ℕ, [], get_or, length, ap, arith}
+use Rattle.kt_front.specs.Items.{items_in}
+use Rattle.kt_front.specs.Walking.{IsBlock}
+use Rattle.kt_front.proofs.Blocks.{stretch_stands, stretch_item}
 use Rattle.kt_front.proofs.items.Items.item.Goals as goal
 
-pub start_at-start-requires : goal.start_at-start-requires
-start_at-start-requires c = omega (arith, count_is c.self.inside.ends.items c.self.inside.bytes.items c.args.self.now c.self.view_is)
-
-pub index-end-requires : goal.index-end-requires
-index-end-requires c = omega (arith, count_is c.self.inside.ends.items c.self.inside.bytes.items c.args.self.now c.self.view_is)
-
-pub part-requires-clause-in_order : goal.part-requires-clause-in_order
-part-requires-clause-in_order c =
-    let n = count_is c.self.inside.ends.items c.self.inside.bytes.items c.args.self.now c.self.view_is in
-    let stop : c.index-end.result.now ≡ get_or c.self.inside.ends.items c.args.i 0 = get_or_read c.self.inside.ends.items c.args.i c.index-end.result.now (omega arith) c.index-end.ensures 0 in
-    let start : c.start_at-start.result ≡ start_at 0 c.self.inside.ends.items c.args.i = c.start_at-start.ensures ∙ ap (λ xs. start_at 0 xs c.args.i) c.deref.ensures.value in
-    omega (arith, cut_start 0 c.self.inside.ends.items (length c.self.inside.bytes.items) c.args.i c.self.invariant (omega arith))
-
-pub part-requires-clause-inside : goal.part-requires-clause-inside
-part-requires-clause-inside c =
-    let n = count_is c.self.inside.ends.items c.self.inside.bytes.items c.args.self.now c.self.view_is in
-    let stop : c.index-end.result.now ≡ get_or c.self.inside.ends.items c.args.i 0 = get_or_read c.self.inside.ends.items c.args.i c.index-end.result.now (omega arith) c.index-end.ensures 0 in
-    omega (arith, cut_end 0 c.self.inside.ends.items (length c.self.inside.bytes.items) c.args.i c.self.invariant (omega arith))
+pub invariant_of-result : goal.invariant_of-result
+invariant_of-result c =
+    let items : List (List ℕ) = items_in c.self.inside.count c.self.inside.bytes in
+    let s = c.self.invariant.spells in
+    let lt : c.args.i < length items = omega (arith, ap length c.self.view_is, c.requires) in
+    let block : IsBlock c.as_slice.result.now items = record { fits = s.fits; parts = c.as_slice.ensures ∙ s.parts } in
+    stretch_stands items c.args.i c.stretch_of.result.now s.fits lt (c.stretch_of.ensures items block c.self.invariant.starts_are lt)
 
 pub returns : goal.returns
 returns c =
-    let n = count_is c.self.inside.ends.items c.self.inside.bytes.items c.args.self.now c.self.view_is in
-    let stop : c.index-end.result.now ≡ get_or c.self.inside.ends.items c.args.i 0 = get_or_read c.self.inside.ends.items c.args.i c.index-end.result.now (omega arith) c.index-end.ensures 0 in
-    let start : c.start_at-start.result ≡ start_at 0 c.self.inside.ends.items c.args.i = c.start_at-start.ensures ∙ ap (λ xs. start_at 0 xs c.args.i) c.deref.ensures.value in
-    rw (c.part.ensures, stop, start, c.deref-2.ensures.value) (item_is c.self.inside.ends.items c.self.inside.bytes.items c.args.self.now c.args.i c.self.view_is c.requires)
+    let items : List (List ℕ) = items_in c.self.inside.count c.self.inside.bytes in
+    let s = c.self.invariant.spells in
+    let lt : c.args.i < length items = omega (arith, ap length c.self.view_is, c.requires) in
+    let block : IsBlock c.as_slice.result.now items = record { fits = s.fits; parts = c.as_slice.ensures ∙ s.parts } in
+    stretch_item items c.args.i c.stretch_of.result.now s.fits lt (c.stretch_of.ensures items block c.self.invariant.starts_are lt)
+    ∙ ap (λ (xs : List (List ℕ)). get_or xs c.args.i []) c.self.view_is

@@ -1,7 +1,0 @@
-use Rattle.std.proofs.Common.{◌≡◌, ◌*◌, ◌<◌, ℕ, ℤ, drop, get_or}
-use Rattle.kt_plain.specs.declared.widths.Width.TheVariants.{One}
-use Rattle.kt_plain.specs.Widths.{value}
-use Rattle.kt_plain.proofs.decoding.read_one.Given as goal
-
-abbrev pub invariant-items : goal.invariant-items
-invariant-items l = (d : ℤ) (k : ℕ) → k < l.i → get_or l.out k d ≡ value One (drop (1 * k) l.bytes)

@@ -1,0 +1,8 @@
+use Rattle.kt_plain.proofs.Decoded.{joined, spelled_delimited}
+use Rattle.kt_plain.proofs.laws.delimited.Goals as goal
+
+pub returns-clause-joined : goal.returns-clause-joined
+returns-clause-joined c = joined
+
+pub returns-clause-delimited : goal.returns-clause-delimited
+returns-clause-delimited c = spelled_delimited
