@@ -1,21 +1,19 @@
 -- The body that was written is read again, and what a slot tells fits it.
-use Rattle.std.proofs.Common.{◌≡◌, ℕ, ◌+◌, ◌^◌, ◌<◌, Bool, true, false, ◌&&◌, cond, eqb, ltb, leb, List, [], ◌∷◌, ◌++◌, length, take, drop, Some, None, Result, Ok, Err, refl, sym, ap, subst, ◌∙◌, append_assoc, arith, length-append}
+use Rattle.std.proofs.Common.{◌≡◌, ℕ, zero, suc, ◌+◌, ◌^◌, ◌<◌, Bool, true, false, ◌&&◌, cond, eqb, ltb, leb, List, [], ◌∷◌, ◌++◌, length, take, drop, Some, None, Result, Ok, Err, refl, sym, ap, subst, ◌∙◌, append_assoc, arith, length-append}
 use Rattle.std.specs.List.{flat_map}
 use Rattle.std.specs.Int.{w16, w32, w64, to_le_bytes, from_le_bytes}
 use Rattle.std.proofs.lemmas.Bool.{eqb-true, le-ltb, le-leb}
 use Rattle.std.proofs.lemmas.List.{append-nil, take_at, drop_at}
 use Rattle.kt_schema.specs.declared.column.Column.{Column}
-use Rattle.kt_super.specs.declared.refusal.Fault.{Fault}
-use Rattle.kt_super.specs.declared.refusal.Fault.TheVariants.{Short, At}
 use Rattle.kt_super.specs.declared.meta.Meta.{Meta}
 use Rattle.kt_super.specs.declared.meta.MetaRowset.{MetaRowset}
 use Rattle.kt_super.specs.declared.body.Head.{Head}
-use Rattle.kt_super.specs.Reading.{◌>>=◌, number_at, checked_at}
+use Rattle.kt_bytes.specs.Reading.{◌>>=◌, number_at, checked_at}
 use Rattle.kt_super.specs.Columns.{is_count, AreColumns, spelled_columns, counted_columns_at}
 use Rattle.kt_super.specs.Rowsets.{is_small, spelled_rowset, spelled_rowsets, counted_rowsets_at}
 use Rattle.kt_super.specs.Body.{slot_for, is_number, is_next_file, makes_schema, IsMeta, head_of, meta_of, spelled_head, spelled_body, is_format, format, head_at, schema_at, body_at}
 use Rattle.kt_super.specs.Slots.{is_open, misfit, settled, of_length, opened_at, slot_at, spelled_slot}
-use Rattle.kt_super.proofs.Numbers.{then_is, with_ok, done, ok_is, wide16, wide32, wide64, number_again, checked_again, checked_passes}
+use Rattle.kt_bytes.proofs.Numbers.{then_is, with_ok, done, ok_is, wide16, wide32, wide64, number_again, checked_again, checked_passes}
 use Rattle.kt_super.proofs.RowsetLaws.{both, small, counted_rowsets_again}
 use Rattle.kt_super.proofs.ColumnLaws.{counted_columns_again}
 
@@ -45,8 +43,8 @@ schema_again : (next : ℕ) (columns : List Column) (rest : List ℕ) → next <
 unfolding schema_at
 schema_again next columns rest fits count are makes =
     let bytes : List ℕ = spelled_columns columns ++ rest in
-    then_is (counted_columns_at next bytes) (λ c. cond (makes_schema c.0) (Ok c) (Err (At (length bytes)))) (columns, rest) (counted_columns_again next columns rest fits count are)
-    ∙ ap (λ (b : Bool). cond b (Ok (columns, rest)) (Err (At (length bytes)))) makes
+    then_is (counted_columns_at next bytes) (λ c. cond (makes_schema c.0) (Ok c) (Err (length bytes))) (columns, rest) (counted_columns_again next columns rest fits count are)
+    ∙ ap (λ (b : Bool). cond b (Ok (columns, rest)) (Err (length bytes))) makes
 
 rowsets_fit : (m : Meta) → length (spelled_body m) < 2 ^ 32 → length (flat_map spelled_rowset m.rowsets) < 2 ^ 32
 rowsets_fit m few = omega (arith, few, length-append (spelled_head (head_of m)) (spelled_columns m.schema ++ spelled_rowsets m.rowsets), length-append (spelled_columns m.schema) (spelled_rowsets m.rowsets), length-append (to_le_bytes w32 (length m.rowsets)) (flat_map spelled_rowset m.rowsets))
@@ -94,7 +92,7 @@ body_fits slot bytes x e =
 pub number_slot : (slot n : ℕ) → is_number slot n ≡ true → slot_for n ≡ slot
 number_slot slot n e = eqb-true (slot_for n) slot (both (leb 1 n && is_small n) (eqb (slot_for n) slot) e).1
 
-settled_some : (there : Bool) (end size slot : ℕ) (bytes : List ℕ) (m : Meta) (read : Result (Meta × List ℕ) Fault) → body_at slot bytes ≡ read → settled there end size read ≡ Ok (Some m) → slot_for m.number ≡ slot
+settled_some : (there : Bool) (end size slot : ℕ) (bytes : List ℕ) (m : Meta) (read : Result (Meta × List ℕ) ℕ) → body_at slot bytes ≡ read → settled there end size read ≡ Ok (Some m) → slot_for m.number ≡ slot
 settled_some there end size slot bytes m (Ok x) is e = pick (there && eqb (length x.1) 0) e
   where
     pick : (b : Bool) → cond b (Ok (Some x.0)) (Err (misfit there end)) ≡ Ok (Some m) → slot_for m.number ≡ slot
@@ -102,8 +100,8 @@ settled_some there end size slot bytes m (Ok x) is e = pick (there && eqb (lengt
         let same : x.0 ≡ m = cc in
         subst (λ (k : Meta). slot_for k.number ≡ slot) same (number_slot slot x.0.number (body_fits slot bytes x is))
     pick false f = absurd cc
-settled_some there end size slot bytes m (Err Short) is e = absurd cc
-settled_some there end size slot bytes m (Err (At left)) is e = absurd cc
+settled_some there end size slot bytes m (Err zero) is e = absurd cc
+settled_some there end size slot bytes m (Err (suc left)) is e = absurd cc
 
 opened_fits : (slot : ℕ) (bytes : List ℕ) (m : Meta) → opened_at slot bytes ≡ Ok (Some m) → slot_for m.number ≡ slot
 opened_fits slot bytes m e = pick (ltb (length bytes) 5) e

@@ -3,14 +3,13 @@ use Rattle.std.proofs.Common.{◌≡◌, ℕ, ◌^◌, ◌<◌, true, cond, List
 use Rattle.std.specs.Int.{w16, w64, to_le_bytes}
 use Rattle.std.proofs.lemmas.Bool.{eqb-true}
 use Rattle.kt_schema.specs.declared.column.Column.{Column}
-use Rattle.kt_super.specs.declared.refusal.Fault.TheVariants.{At}
 use Rattle.kt_super.specs.declared.meta.Meta.{Meta}
 use Rattle.kt_super.specs.declared.body.Head.{Head}
-use Rattle.kt_super.specs.Reading.{◌>>=◌, number_at, checked_at}
+use Rattle.kt_bytes.specs.Reading.{◌>>=◌, number_at, checked_at}
 use Rattle.kt_super.specs.Columns.{is_count, AreColumns, spelled_columns, counted_columns_at}
 use Rattle.kt_super.specs.Rowsets.{is_small, spelled_rowsets, counted_rowsets_at}
 use Rattle.kt_super.specs.Body.{slot_for, is_number, is_next_file, makes_schema, IsMeta, meta_of, spelled_head, spelled_body, is_format, format, head_at, schema_at, body_at}
-use Rattle.kt_super.proofs.Numbers.{bind_ok, with_ok, pass_ok, carried, wide16, wide64, IsBytes, Takes, takes_then, number_takes, checked_takes}
+use Rattle.kt_bytes.proofs.Numbers.{bind_ok, with_ok, pass_ok, carried, wide16, wide64, IsBytes, Takes, Takes-then, number_takes, checked_takes}
 use Rattle.kt_super.proofs.RowsetTakes.{counted_rowsets_takes}
 use Rattle.kt_super.proofs.ColumnTakes.{counted_columns_takes}
 use Rattle.kt_super.proofs.BodyLaws.{number_slot}
@@ -46,14 +45,14 @@ head_takes slot bytes x fits e =
     let t7 = checked_takes w64 (2 ^ 64) wide64 is_next_file next_rowset.1 next_file t6.0.rest_fits e7 in
     with_ok (number_at w16 next_file.1) (λ next_column. Ok (record { number = number.0; a = a.0; c = c.0; need = need.0; last_mem = last_mem.0; next_rowset = next_rowset.0; next_file = next_file.0; next_column = next_column.0 }, next_column.1)) x k7 (λ next_column e8 k8.
     let t8 = number_takes w16 (2 ^ 16) wide16 next_file.1 next_column t7.0.rest_fits e8 in
-    let w7 = takes_then next_rowset.1 (to_le_bytes w64 next_file.0) next_file.1 (to_le_bytes w16 next_column.0) next_column.1 t7.0 t8.0 in
-    let w6 = takes_then last_mem.1 (to_le_bytes w64 next_rowset.0) next_rowset.1 (to_le_bytes w64 next_file.0 ++ (to_le_bytes w16 next_column.0)) next_column.1 t6.0 w7 in
-    let w5 = takes_then need.1 (to_le_bytes w64 last_mem.0) last_mem.1 (to_le_bytes w64 next_rowset.0 ++ (to_le_bytes w64 next_file.0 ++ (to_le_bytes w16 next_column.0))) next_column.1 t5.0 w6 in
-    let w4 = takes_then c.1 (to_le_bytes w64 need.0) need.1 (to_le_bytes w64 last_mem.0 ++ (to_le_bytes w64 next_rowset.0 ++ (to_le_bytes w64 next_file.0 ++ (to_le_bytes w16 next_column.0)))) next_column.1 t4.0 w5 in
-    let w3 = takes_then a.1 (to_le_bytes w64 c.0) c.1 (to_le_bytes w64 need.0 ++ (to_le_bytes w64 last_mem.0 ++ (to_le_bytes w64 next_rowset.0 ++ (to_le_bytes w64 next_file.0 ++ (to_le_bytes w16 next_column.0))))) next_column.1 t3.0 w4 in
-    let w2 = takes_then number.1 (to_le_bytes w64 a.0) a.1 (to_le_bytes w64 c.0 ++ (to_le_bytes w64 need.0 ++ (to_le_bytes w64 last_mem.0 ++ (to_le_bytes w64 next_rowset.0 ++ (to_le_bytes w64 next_file.0 ++ (to_le_bytes w16 next_column.0)))))) next_column.1 t2.0 w3 in
-    let w1 = takes_then start.1 (to_le_bytes w64 number.0) number.1 (to_le_bytes w64 a.0 ++ (to_le_bytes w64 c.0 ++ (to_le_bytes w64 need.0 ++ (to_le_bytes w64 last_mem.0 ++ (to_le_bytes w64 next_rowset.0 ++ (to_le_bytes w64 next_file.0 ++ (to_le_bytes w16 next_column.0))))))) next_column.1 t1.0 w2 in
-    let w0 = takes_then bytes (to_le_bytes w16 start.0) start.1 (to_le_bytes w64 number.0 ++ (to_le_bytes w64 a.0 ++ (to_le_bytes w64 c.0 ++ (to_le_bytes w64 need.0 ++ (to_le_bytes w64 last_mem.0 ++ (to_le_bytes w64 next_rowset.0 ++ (to_le_bytes w64 next_file.0 ++ (to_le_bytes w16 next_column.0)))))))) next_column.1 t0.0 w1 in
+    let w7 = Takes-then next_rowset.1 (to_le_bytes w64 next_file.0) next_file.1 (to_le_bytes w16 next_column.0) next_column.1 t7.0 t8.0 in
+    let w6 = Takes-then last_mem.1 (to_le_bytes w64 next_rowset.0) next_rowset.1 (to_le_bytes w64 next_file.0 ++ (to_le_bytes w16 next_column.0)) next_column.1 t6.0 w7 in
+    let w5 = Takes-then need.1 (to_le_bytes w64 last_mem.0) last_mem.1 (to_le_bytes w64 next_rowset.0 ++ (to_le_bytes w64 next_file.0 ++ (to_le_bytes w16 next_column.0))) next_column.1 t5.0 w6 in
+    let w4 = Takes-then c.1 (to_le_bytes w64 need.0) need.1 (to_le_bytes w64 last_mem.0 ++ (to_le_bytes w64 next_rowset.0 ++ (to_le_bytes w64 next_file.0 ++ (to_le_bytes w16 next_column.0)))) next_column.1 t4.0 w5 in
+    let w3 = Takes-then a.1 (to_le_bytes w64 c.0) c.1 (to_le_bytes w64 need.0 ++ (to_le_bytes w64 last_mem.0 ++ (to_le_bytes w64 next_rowset.0 ++ (to_le_bytes w64 next_file.0 ++ (to_le_bytes w16 next_column.0))))) next_column.1 t3.0 w4 in
+    let w2 = Takes-then number.1 (to_le_bytes w64 a.0) a.1 (to_le_bytes w64 c.0 ++ (to_le_bytes w64 need.0 ++ (to_le_bytes w64 last_mem.0 ++ (to_le_bytes w64 next_rowset.0 ++ (to_le_bytes w64 next_file.0 ++ (to_le_bytes w16 next_column.0)))))) next_column.1 t2.0 w3 in
+    let w1 = Takes-then start.1 (to_le_bytes w64 number.0) number.1 (to_le_bytes w64 a.0 ++ (to_le_bytes w64 c.0 ++ (to_le_bytes w64 need.0 ++ (to_le_bytes w64 last_mem.0 ++ (to_le_bytes w64 next_rowset.0 ++ (to_le_bytes w64 next_file.0 ++ (to_le_bytes w16 next_column.0))))))) next_column.1 t1.0 w2 in
+    let w0 = Takes-then bytes (to_le_bytes w16 start.0) start.1 (to_le_bytes w64 number.0 ++ (to_le_bytes w64 a.0 ++ (to_le_bytes w64 c.0 ++ (to_le_bytes w64 need.0 ++ (to_le_bytes w64 last_mem.0 ++ (to_le_bytes w64 next_rowset.0 ++ (to_le_bytes w64 next_file.0 ++ (to_le_bytes w16 next_column.0)))))))) next_column.1 t0.0 w1 in
     let made : Head × List ℕ = (record { number = number.0; a = a.0; c = c.0; need = need.0; last_mem = last_mem.0; next_rowset = next_rowset.0; next_file = next_file.0; next_column = next_column.0 }, next_column.1) in
     let start_is : start.0 ≡ format = eqb-true start.0 format t0.1 in
     carried (λ (y : Head × List ℕ). Takes bytes (spelled_head y.0) y.1 × IsHead slot y.0) made x k8 (
@@ -65,8 +64,8 @@ schema_takes : (next : ℕ) (bytes : List ℕ) (x : List Column × List ℕ) →
     → Takes bytes (spelled_columns x.0) x.1 × (is_count (length x.0) ≡ true) × AreColumns next [] x.0 × (makes_schema x.0 ≡ true)
 unfolding schema_at
 schema_takes next bytes x fits e =
-    let b = bind_ok (counted_columns_at next bytes) (λ c. cond (makes_schema c.0) (Ok c) (Err (At (length bytes)))) x e in
-    let g = pass_ok (makes_schema b.0.0) (At (length bytes)) b.0 x b.2 in
+    let b = bind_ok (counted_columns_at next bytes) (λ c. cond (makes_schema c.0) (Ok c) (Err (length bytes))) x e in
+    let g = pass_ok (makes_schema b.0.0) (length bytes) b.0 x b.2 in
     let t = counted_columns_takes next bytes b.0 fits b.1 in
     subst (λ (y : List Column × List ℕ). Takes bytes (spelled_columns y.0) y.1 × (is_count (length y.0) ≡ true) × AreColumns next [] y.0 × (makes_schema y.0 ≡ true)) g.1 (t.0, t.1, t.2, g.0)
 
@@ -79,8 +78,8 @@ body_takes slot bytes x fits e =
     let t1 = schema_takes head.0.next_column head.1 schema t0.0.rest_fits e1 in
     with_ok (counted_rowsets_at head.0.next_rowset head.0.next_file schema.1) (λ rowsets. Ok (meta_of head.0 schema.0 rowsets.0, rowsets.1)) x k1 (λ rowsets e2 k2.
     let t2 = counted_rowsets_takes head.0.next_rowset head.0.next_file schema.1 rowsets t1.0.rest_fits e2 in
-    let w1 = takes_then head.1 (spelled_columns schema.0) schema.1 (spelled_rowsets rowsets.0) rowsets.1 t1.0 t2.0 in
-    let w0 = takes_then bytes (spelled_head head.0) head.1 (spelled_columns schema.0 ++ (spelled_rowsets rowsets.0)) rowsets.1 t0.0 w1 in
+    let w1 = Takes-then head.1 (spelled_columns schema.0) schema.1 (spelled_rowsets rowsets.0) rowsets.1 t1.0 t2.0 in
+    let w0 = Takes-then bytes (spelled_head head.0) head.1 (spelled_columns schema.0 ++ (spelled_rowsets rowsets.0)) rowsets.1 t0.0 w1 in
     let made : Meta × List ℕ = (meta_of head.0 schema.0 rowsets.0, rowsets.1) in
     let h = t0.1 in
     let here : slot_for head.0.number ≡ slot = number_slot slot head.0.number h.number in

@@ -12,11 +12,9 @@ use Rattle.kt_base.specs.declared.cell.Kind.TheVariants as kind
 use Rattle.kt_base.specs.declared.cell.Cell.{Cell}
 use Rattle.kt_base.specs.declared.cell.Cell.TheVariants as cell
 use Rattle.kt_schema.specs.declared.column.Column.{Column}
-use Rattle.kt_super.specs.declared.refusal.Fault.{Fault}
-use Rattle.kt_super.specs.declared.refusal.Fault.TheVariants.{At}
-use Rattle.kt_super.specs.Reading.{◌>>=◌, number_at, checked_at, bytes_at}
+use Rattle.kt_bytes.specs.Reading.{◌>>=◌, number_at, checked_at, bytes_at}
 use Rattle.kt_super.specs.Columns.{has_id, has_name, is_free_id, may_stand, FitsCell, IsColumn, AreColumns, kind_number, bit, flags_of, spelled_cell, spelled_default, spelled_name, spelled_column, spelled_columns, is_kind, kind_of, is_key, is_nullable, has_default, are_flags, is_tag, is_bit, is_count, text_at, cell_by, cell_at, default_at, name_at, column_at, columns_at, counted_columns_at}
-use Rattle.kt_super.proofs.Numbers.{then_is, wide8, wide16, wide32, wide64, number_again, checked_again, bytes_again}
+use Rattle.kt_bytes.proofs.Numbers.{then_is, wide8, wide16, wide32, wide64, number_again, checked_again, bytes_again}
 use Rattle.kt_super.proofs.RowsetLaws.{both}
 
 -- ---- cells
@@ -34,7 +32,7 @@ text_again text rest lt =
     ∙ then_is (number_at w32 (to_le_bytes w32 (length text) ++ (text ++ rest))) (λ n. bytes_at n.0 n.1) (length text, text ++ rest) (number_again w32 (2 ^ 32) wide32 (length text) (text ++ rest) lt)
     ∙ bytes_again text rest
 
-abbrev bool_of : ℕ × List ℕ → Result (Cell × List ℕ) Fault
+abbrev bool_of : ℕ × List ℕ → Result (Cell × List ℕ) ℕ
 bool_of x = Ok (cell.Bool (eqb x.0 1), x.1)
 
 bit_again : (b : Bool) (rest : List ℕ) → (checked_at w8 is_bit (to_le_bytes w8 (bit b) ++ rest) >>= bool_of) ≡ Ok (cell.Bool b, rest)
@@ -96,10 +94,10 @@ default_again flags (Some c) rest has fits =
 name_again : (earlier : List Column) (name rest : List ℕ) → length name < 2 ^ 8 → has_name earlier name ≡ false → name_at earlier (spelled_name name ++ rest) ≡ Ok (name, rest)
 unfolding name_at
 name_again earlier name rest lt new =
-    ap (λ (l : List ℕ). number_at w8 l >>= λ n. bytes_at n.0 n.1 >>= λ x. cond (has_name earlier x.0) (Err (At (length n.1))) (Ok x)) (append_assoc (to_le_bytes w8 (length name)) name rest)
-    ∙ then_is (number_at w8 (to_le_bytes w8 (length name) ++ (name ++ rest))) (λ n. bytes_at n.0 n.1 >>= λ x. cond (has_name earlier x.0) (Err (At (length n.1))) (Ok x)) (length name, name ++ rest) (number_again w8 (2 ^ 8) wide8 (length name) (name ++ rest) lt)
-    ∙ then_is (bytes_at (length name) (name ++ rest)) (λ x. cond (has_name earlier x.0) (Err (At (length (name ++ rest)))) (Ok x)) (name, rest) (bytes_again name rest)
-    ∙ ap (λ (b : Bool). cond b (Err (At (length (name ++ rest)))) (Ok (name, rest))) new
+    ap (λ (l : List ℕ). number_at w8 l >>= λ n. bytes_at n.0 n.1 >>= λ x. cond (has_name earlier x.0) (Err (length n.1)) (Ok x)) (append_assoc (to_le_bytes w8 (length name)) name rest)
+    ∙ then_is (number_at w8 (to_le_bytes w8 (length name) ++ (name ++ rest))) (λ n. bytes_at n.0 n.1 >>= λ x. cond (has_name earlier x.0) (Err (length n.1)) (Ok x)) (length name, name ++ rest) (number_again w8 (2 ^ 8) wide8 (length name) (name ++ rest) lt)
+    ∙ then_is (bytes_at (length name) (name ++ rest)) (λ x. cond (has_name earlier x.0) (Err (length (name ++ rest))) (Ok x)) (name, rest) (bytes_again name rest)
+    ∙ ap (λ (b : Bool). cond b (Err (length (name ++ rest))) (Ok (name, rest))) new
 
 free_id : (next : ℕ) (earlier : List Column) (id : ℕ) → next < 2 ^ 16 → is_free_id next earlier id ≡ true → id < 2 ^ 16
 free_id next earlier id fits e = omega (arith, fits, ltb-true id next (both (ltb id next) (not (has_id earlier id)) e).0)

@@ -10,11 +10,9 @@ use Rattle.std.proofs.lemmas.List.Concat.{flat_map-cons}
 use Rattle.kt_base.specs.declared.cell.Cell.{Cell}
 use Rattle.kt_base.specs.declared.cell.Cell.TheVariants as cell
 use Rattle.kt_schema.specs.declared.column.Column.{Column}
-use Rattle.kt_super.specs.declared.refusal.Fault.{Fault}
-use Rattle.kt_super.specs.declared.refusal.Fault.TheVariants.{At}
-use Rattle.kt_super.specs.Reading.{◌>>=◌, number_at, checked_at, bytes_at}
+use Rattle.kt_bytes.specs.Reading.{◌>>=◌, number_at, checked_at, bytes_at}
 use Rattle.kt_super.specs.Columns.{has_name, is_free_id, may_stand, FitsCell, IsColumn, AreColumns, kind_number, bit, flags_of, spelled_cell, spelled_default, spelled_name, spelled_column, spelled_columns, is_kind, kind_of, is_key, is_nullable, has_default, are_flags, is_tag, is_bit, is_count, text_at, cell_by, cell_at, default_at, name_at, column_at, columns_at, counted_columns_at}
-use Rattle.kt_super.proofs.Numbers.{bind_ok, with_ok, guard_ok, carried, wide8, wide16, wide32, wide64, IsBytes, Takes, takes_then, number_takes, checked_takes, bytes_takes}
+use Rattle.kt_bytes.proofs.Numbers.{bind_ok, with_ok, guard_ok, carried, wide8, wide16, wide32, wide64, IsBytes, Takes, Takes-then, number_takes, checked_takes, bytes_takes}
 use Rattle.kt_super.proofs.RowsetLaws.{both}
 
 picked : {A : Type 0} (b : Bool) (x y z : A) → cond b x y ≡ z → ((b ≡ true) × (x ≡ z)) ⊎ ((b ≡ false) × (y ≡ z))
@@ -29,7 +27,7 @@ text_takes bytes x fits e =
     let b = bind_ok (number_at w32 bytes) (λ n. bytes_at n.0 n.1) x e in
     let t = number_takes w32 (2 ^ 32) wide32 bytes b.0 fits b.1 in
     let u = bytes_takes b.0.0 b.0.1 x t.0.rest_fits b.2 in
-    let w = takes_then bytes (to_le_bytes w32 b.0.0) b.0.1 x.0 x.1 t.0 u.0 in
+    let w = Takes-then bytes (to_le_bytes w32 b.0.0) b.0.1 x.0 x.1 t.0 u.0 in
     (record { parts = w.parts ∙ ap (λ (k : ℕ). (to_le_bytes w32 k ++ x.0) ++ x.1) (sym u.1); rest_fits = w.rest_fits }, omega (arith, t.1, u.1))
 
 bit_back : (n : ℕ) → is_bit n ≡ true → bit (eqb n 1) ≡ n
@@ -44,16 +42,16 @@ pub record Tagged (tag : ℕ) (bytes : List ℕ) (x : Cell × List ℕ) : Type 0
   pub text : to_le_bytes w8 tag ++ more ≡ spelled_cell x.0
   pub fits : FitsCell x.0
 
-abbrev done_cell : Cell × List ℕ → Result (Cell × List ℕ) Fault
+abbrev done_cell : Cell × List ℕ → Result (Cell × List ℕ) ℕ
 done_cell x = Ok x
 
-abbrev bool_of : ℕ × List ℕ → Result (Cell × List ℕ) Fault
+abbrev bool_of : ℕ × List ℕ → Result (Cell × List ℕ) ℕ
 bool_of x = Ok (cell.Bool (eqb x.0 1), x.1)
 
-abbrev int_of : ℕ × List ℕ → Result (Cell × List ℕ) Fault
+abbrev int_of : ℕ × List ℕ → Result (Cell × List ℕ) ℕ
 int_of x = Ok (cell.Int (cast_signed w64 x.0), x.1)
 
-abbrev bytes_of : List ℕ × List ℕ → Result (Cell × List ℕ) Fault
+abbrev bytes_of : List ℕ × List ℕ → Result (Cell × List ℕ) ℕ
 bytes_of x = Ok (cell.Bytes x.0, x.1)
 
 module _ (bytes : List ℕ) (x : Cell × List ℕ) (fits : IsBytes bytes) where
@@ -96,7 +94,7 @@ cell_takes bytes x fits e =
     let b = bind_ok (checked_at w8 is_tag bytes) (λ t. cell_by t.0 t.1) x e in
     let t = checked_takes w8 (2 ^ 8) wide8 is_tag bytes b.0 fits b.1 in
     let c = by_tag b.0.1 x t.0.rest_fits b.0.0 t.1 b.2 in
-    let w = takes_then bytes (to_le_bytes w8 b.0.0) b.0.1 c.more x.1 t.0 c.takes in
+    let w = Takes-then bytes (to_le_bytes w8 b.0.0) b.0.1 c.more x.1 t.0 c.takes in
     (record { parts = w.parts ∙ ap (λ (l : List ℕ). l ++ x.1) c.text; rest_fits = w.rest_fits }, c.fits)
 
 -- ---- the fields of a column
@@ -114,12 +112,12 @@ default_takes flags bytes x fits e = elim (picked (has_default flags) (cell_at b
 name_takes : (earlier : List Column) (bytes : List ℕ) (x : List ℕ × List ℕ) → IsBytes bytes → name_at earlier bytes ≡ Ok x → Takes bytes (spelled_name x.0) x.1 × (has_name earlier x.0 ≡ false) × (length x.0 < 2 ^ 8)
 unfolding name_at
 name_takes earlier bytes x fits e =
-    let b = bind_ok (number_at w8 bytes) (λ n. bytes_at n.0 n.1 >>= λ t. cond (has_name earlier t.0) (Err (At (length n.1))) (Ok t)) x e in
-    let c = bind_ok (bytes_at b.0.0 b.0.1) (λ t. cond (has_name earlier t.0) (Err (At (length b.0.1))) (Ok t)) x b.2 in
-    let g = guard_ok (has_name earlier c.0.0) (At (length b.0.1)) c.0 x c.2 in
+    let b = bind_ok (number_at w8 bytes) (λ n. bytes_at n.0 n.1 >>= λ t. cond (has_name earlier t.0) (Err (length n.1)) (Ok t)) x e in
+    let c = bind_ok (bytes_at b.0.0 b.0.1) (λ t. cond (has_name earlier t.0) (Err (length b.0.1)) (Ok t)) x b.2 in
+    let g = guard_ok (has_name earlier c.0.0) (length b.0.1) c.0 x c.2 in
     let t = number_takes w8 (2 ^ 8) wide8 bytes b.0 fits b.1 in
     let u = bytes_takes b.0.0 b.0.1 c.0 t.0.rest_fits c.1 in
-    let w = takes_then bytes (to_le_bytes w8 b.0.0) b.0.1 c.0.0 c.0.1 t.0 u.0 in
+    let w = Takes-then bytes (to_le_bytes w8 b.0.0) b.0.1 c.0.0 c.0.1 t.0 u.0 in
     subst (λ (y : List ℕ × List ℕ). Takes bytes (spelled_name y.0) y.1 × (has_name earlier y.0 ≡ false) × (length y.0 < 2 ^ 8)) g.1
     (record { parts = w.parts ∙ ap (λ (k : ℕ). (to_le_bytes w8 k ++ c.0.0) ++ c.0.1) (sym u.1); rest_fits = w.rest_fits }, g.0, omega (arith, t.1, u.1))
 
@@ -171,10 +169,10 @@ column_takes next earlier bytes x fits e =
     let t3 = checked_takes w8 (2 ^ 8) wide8 (are_flags earlier (kind_of k.0)) k.1 f t2.0.rest_fits e3 in
     with_ok (default_at f.0 f.1) (λ d. Ok (made id.0 name.0 k.0 f.0 d.0, d.1)) x k3 (λ d e4 k4.
     let t4 = default_takes f.0 f.1 d t3.0.rest_fits e4 in
-    let w3 = takes_then k.1 (to_le_bytes w8 f.0) f.1 (spelled_default d.0) d.1 t3.0 t4.0 in
-    let w2 = takes_then name.1 (to_le_bytes w8 k.0) k.1 (to_le_bytes w8 f.0 ++ (spelled_default d.0)) d.1 t2.0 w3 in
-    let w1 = takes_then id.1 (spelled_name name.0) name.1 (to_le_bytes w8 k.0 ++ (to_le_bytes w8 f.0 ++ (spelled_default d.0))) d.1 t1.0 w2 in
-    let w0 = takes_then bytes (to_le_bytes w16 id.0) id.1 (spelled_name name.0 ++ (to_le_bytes w8 k.0 ++ (to_le_bytes w8 f.0 ++ (spelled_default d.0)))) d.1 t0.0 w1 in
+    let w3 = Takes-then k.1 (to_le_bytes w8 f.0) f.1 (spelled_default d.0) d.1 t3.0 t4.0 in
+    let w2 = Takes-then name.1 (to_le_bytes w8 k.0) k.1 (to_le_bytes w8 f.0 ++ (spelled_default d.0)) d.1 t2.0 w3 in
+    let w1 = Takes-then id.1 (spelled_name name.0) name.1 (to_le_bytes w8 k.0 ++ (to_le_bytes w8 f.0 ++ (spelled_default d.0))) d.1 t1.0 w2 in
+    let w0 = Takes-then bytes (to_le_bytes w16 id.0) id.1 (spelled_name name.0 ++ (to_le_bytes w8 k.0 ++ (to_le_bytes w8 f.0 ++ (spelled_default d.0)))) d.1 t0.0 w1 in
     let made_x : Column × List ℕ = (made id.0 name.0 k.0 f.0 d.0, d.1) in
     let flags = both (ltb f.0 8) (may_stand earlier (kind_of k.0) (is_key f.0) (is_nullable f.0)) t3.1 in
     let text = same_text id.0 name.0 k.0 f.0 d.0 t2.1 flags.0 t4.1 in
@@ -201,7 +199,7 @@ columns_take (suc n) next before bytes x fits e =
       columns = b.0.0 ∷ r.columns;
       columns_are = r.columns_are ∙ append_assoc before (b.0.0 ∷ []) r.columns;
       count = ap (λ (k : ℕ). suc k) r.count;
-      takes = let w = takes_then bytes (spelled_column b.0.0) b.0.1 (flat_map spelled_column r.columns) x.1 t.0 r.takes in
+      takes = let w = Takes-then bytes (spelled_column b.0.0) b.0.1 (flat_map spelled_column r.columns) x.1 t.0 r.takes in
           record { parts = w.parts ∙ ap (λ (l : List ℕ). l ++ x.1) (sym (flat_map-cons spelled_column b.0.0 r.columns)); rest_fits = w.rest_fits };
       rules = (t.1, r.rules);
     }
@@ -213,7 +211,7 @@ counted_columns_takes next bytes x fits e =
     let b = bind_ok (checked_at w16 is_count bytes) (λ n. columns_at n.0 next [] n.1) x e in
     let t = checked_takes w16 (2 ^ 16) wide16 is_count bytes b.0 fits b.1 in
     let r = columns_take b.0.0 next [] b.0.1 x t.0.rest_fits b.2 in
-    let w = takes_then bytes (to_le_bytes w16 b.0.0) b.0.1 (flat_map spelled_column r.columns) x.1 t.0 r.takes in
+    let w = Takes-then bytes (to_le_bytes w16 b.0.0) b.0.1 (flat_map spelled_column r.columns) x.1 t.0 r.takes in
     let len : length x.0 ≡ b.0.0 = ap length r.columns_are ∙ r.count in
     let text : to_le_bytes w16 b.0.0 ++ flat_map spelled_column r.columns ≡ spelled_columns x.0 =
     ap (λ (k : ℕ). to_le_bytes w16 k ++ flat_map spelled_column r.columns) (sym len) ∙ ap (λ (l : List Column). to_le_bytes w16 (length x.0) ++ flat_map spelled_column l) (sym r.columns_are) in

@@ -1,5 +1,4 @@
 pub mod Loops
-pub mod Numbers
 pub mod RowsetLaws
 pub mod ColumnLaws
 pub mod BodyLaws
@@ -7,6 +6,8 @@ pub mod RowsetTakes
 pub mod ColumnTakes
 pub mod BodyTakes
 pub mod SlotTakes
+pub mod SlotParts
+pub mod TakenNumbers
 pub mod Closing
 pub mod Moves
 pub mod Supers

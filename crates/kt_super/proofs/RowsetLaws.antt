@@ -7,9 +7,9 @@ use Rattle.std.proofs.lemmas.List.{append-nil}
 use Rattle.std.proofs.lemmas.List.Concat.{flat_map-cons}
 use Rattle.kt_super.specs.declared.meta.FileRef.{FileRef}
 use Rattle.kt_super.specs.declared.meta.MetaRowset.{MetaRowset}
-use Rattle.kt_super.specs.Reading.{◌>>=◌, number_at, checked_at}
+use Rattle.kt_bytes.specs.Reading.{◌>>=◌, number_at, checked_at}
 use Rattle.kt_super.specs.Rowsets.{is_small, has, numbers_of, is_free, is_rowset, IsFile, AreFiles, IsRowset, AreRowsets, taken_by, spelled_file, spelled_files, spelled_rowset, spelled_rowsets, file_at, files_at, counted_files_at, rowset_at, rowsets_at, counted_rowsets_at}
-use Rattle.kt_super.proofs.Numbers.{then_is, wide32, wide64, number_again, checked_again}
+use Rattle.kt_bytes.proofs.Numbers.{then_is, wide32, wide64, number_again, checked_again}
 
 pub both : (a b : Bool) → a && b ≡ true → (a ≡ true) × (b ≡ true)
 both true b e = (refl, e)

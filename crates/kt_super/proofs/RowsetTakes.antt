@@ -6,9 +6,9 @@ use Rattle.std.proofs.lemmas.List.{append-nil}
 use Rattle.std.proofs.lemmas.List.Concat.{flat_map-cons}
 use Rattle.kt_super.specs.declared.meta.FileRef.{FileRef}
 use Rattle.kt_super.specs.declared.meta.MetaRowset.{MetaRowset}
-use Rattle.kt_super.specs.Reading.{◌>>=◌, number_at, checked_at}
+use Rattle.kt_bytes.specs.Reading.{◌>>=◌, number_at, checked_at}
 use Rattle.kt_super.specs.Rowsets.{is_small, numbers_of, is_free, is_rowset, IsFile, AreFiles, IsRowset, AreRowsets, taken_by, spelled_file, spelled_files, spelled_rowset, spelled_rowsets, file_at, files_at, counted_files_at, rowset_at, rowsets_at, counted_rowsets_at}
-use Rattle.kt_super.proofs.Numbers.{bind_ok, with_ok, carried, wide32, wide64, IsBytes, Takes, takes_then, number_takes, checked_takes}
+use Rattle.kt_bytes.proofs.Numbers.{bind_ok, with_ok, carried, wide32, wide64, IsBytes, Takes, Takes-then, number_takes, checked_takes}
 
 pub file_takes : (next : ℕ) (taken bytes : List ℕ) (x : FileRef × List ℕ) → IsBytes bytes → file_at next taken bytes ≡ Ok x → Takes bytes (spelled_file x.0) x.1 × IsFile next taken x.0
 unfolding file_at
@@ -17,7 +17,7 @@ file_takes next taken bytes x fits e =
     let t0 = checked_takes w64 (2 ^ 64) wide64 (is_free next taken) bytes file fits e0 in
     with_ok (checked_at w64 is_small file.1) (λ len. Ok (record { file = file.0; len = len.0 }, len.1)) x k0 (λ len e1 k1.
     let t1 = checked_takes w64 (2 ^ 64) wide64 is_small file.1 len t0.0.rest_fits e1 in
-    let w0 = takes_then bytes (to_le_bytes w64 file.0) file.1 (to_le_bytes w64 len.0) len.1 t0.0 t1.0 in
+    let w0 = Takes-then bytes (to_le_bytes w64 file.0) file.1 (to_le_bytes w64 len.0) len.1 t0.0 t1.0 in
     let made : FileRef × List ℕ = (record { file = file.0; len = len.0 }, len.1) in
     carried (λ (y : FileRef × List ℕ). Takes bytes (spelled_file y.0) y.1 × IsFile next taken y.0) made x k1 (w0, (t0.1, t1.1))))
 
@@ -42,7 +42,7 @@ files_take (suc n) next taken before bytes x fits e =
       files = b.0.0 ∷ r.files;
       files_are = r.files_are ∙ append_assoc before (b.0.0 ∷ []) r.files;
       count = ap (λ (k : ℕ). suc k) r.count;
-      takes = let both = takes_then bytes (spelled_file b.0.0) b.0.1 (flat_map spelled_file r.files) x.1 t.0 r.takes in
+      takes = let both = Takes-then bytes (spelled_file b.0.0) b.0.1 (flat_map spelled_file r.files) x.1 t.0 r.takes in
           record { parts = both.parts ∙ ap (λ (l : List ℕ). l ++ x.1) (sym (flat_map-cons spelled_file b.0.0 r.files)); rest_fits = both.rest_fits };
       rules = (t.1, r.rules);
     }
@@ -53,7 +53,7 @@ counted_files_takes next taken bytes x fits e =
     let b = bind_ok (number_at w32 bytes) (λ n. files_at n.0 next taken [] n.1) x e in
     let t = number_takes w32 (2 ^ 32) wide32 bytes b.0 fits b.1 in
     let r = files_take b.0.0 next taken [] b.0.1 x t.0.rest_fits b.2 in
-    let both = takes_then bytes (to_le_bytes w32 b.0.0) b.0.1 (flat_map spelled_file r.files) x.1 t.0 r.takes in
+    let both = Takes-then bytes (to_le_bytes w32 b.0.0) b.0.1 (flat_map spelled_file r.files) x.1 t.0 r.takes in
     let len : length x.0 ≡ b.0.0 = ap length r.files_are ∙ r.count in
     let text : to_le_bytes w32 b.0.0 ++ flat_map spelled_file r.files ≡ spelled_files x.0 =
     ap (λ (k : ℕ). to_le_bytes w32 k ++ flat_map spelled_file r.files) (sym len) ∙ ap (λ (l : List FileRef). to_le_bytes w32 (length x.0) ++ flat_map spelled_file l) (sym r.files_are) in
@@ -73,10 +73,10 @@ rowset_takes next_rowset next_file least taken bytes x fits e =
     let t3 = counted_files_takes next_file (taken ++ base.0.file ∷ []) base.1 undo t2.0.rest_fits e3 in
     with_ok (counted_files_at next_file (taken ++ base.0.file ∷ [] ++ numbers_of undo.0) undo.1) (λ redo. Ok (record { rowset = rowset.0; last_dms = last_dms.0; base = base.0; undo = undo.0; redo = redo.0 }, redo.1)) x k3 (λ redo e4 k4.
     let t4 = counted_files_takes next_file (taken ++ base.0.file ∷ [] ++ numbers_of undo.0) undo.1 redo t3.0.rest_fits e4 in
-    let w3 = takes_then base.1 (spelled_files undo.0) undo.1 (spelled_files redo.0) redo.1 t3.0 t4.0 in
-    let w2 = takes_then last_dms.1 (spelled_file base.0) base.1 (spelled_files undo.0 ++ (spelled_files redo.0)) redo.1 t2.0 w3 in
-    let w1 = takes_then rowset.1 (to_le_bytes w64 last_dms.0) last_dms.1 (spelled_file base.0 ++ (spelled_files undo.0 ++ (spelled_files redo.0))) redo.1 t1.0 w2 in
-    let w0 = takes_then bytes (to_le_bytes w64 rowset.0) rowset.1 (to_le_bytes w64 last_dms.0 ++ (spelled_file base.0 ++ (spelled_files undo.0 ++ (spelled_files redo.0)))) redo.1 t0.0 w1 in
+    let w3 = Takes-then base.1 (spelled_files undo.0) undo.1 (spelled_files redo.0) redo.1 t3.0 t4.0 in
+    let w2 = Takes-then last_dms.1 (spelled_file base.0) base.1 (spelled_files undo.0 ++ (spelled_files redo.0)) redo.1 t2.0 w3 in
+    let w1 = Takes-then rowset.1 (to_le_bytes w64 last_dms.0) last_dms.1 (spelled_file base.0 ++ (spelled_files undo.0 ++ (spelled_files redo.0))) redo.1 t1.0 w2 in
+    let w0 = Takes-then bytes (to_le_bytes w64 rowset.0) rowset.1 (to_le_bytes w64 last_dms.0 ++ (spelled_file base.0 ++ (spelled_files undo.0 ++ (spelled_files redo.0)))) redo.1 t0.0 w1 in
     let made : MetaRowset × List ℕ = (record { rowset = rowset.0; last_dms = last_dms.0; base = base.0; undo = undo.0; redo = redo.0 }, redo.1) in
     carried (λ (y : MetaRowset × List ℕ). Takes bytes (spelled_rowset y.0) y.1 × IsRowset next_rowset next_file least taken y.0) made x k4
     (w0, record { rowset = t0.1; last_dms = t1.1; base = t2.1; undo = t3.1; redo = t4.1 }))))))
@@ -102,7 +102,7 @@ rowsets_take (suc n) next_rowset next_file least taken before bytes x fits e =
       rowsets = b.0.0 ∷ r.rowsets;
       rowsets_are = r.rowsets_are ∙ append_assoc before (b.0.0 ∷ []) r.rowsets;
       count = ap (λ (k : ℕ). suc k) r.count;
-      takes = let both = takes_then bytes (spelled_rowset b.0.0) b.0.1 (flat_map spelled_rowset r.rowsets) x.1 t.0 r.takes in
+      takes = let both = Takes-then bytes (spelled_rowset b.0.0) b.0.1 (flat_map spelled_rowset r.rowsets) x.1 t.0 r.takes in
           record { parts = both.parts ∙ ap (λ (l : List ℕ). l ++ x.1) (sym (flat_map-cons spelled_rowset b.0.0 r.rowsets)); rest_fits = both.rest_fits };
       rules = (t.1, r.rules);
     }
@@ -114,7 +114,7 @@ counted_rowsets_takes next_rowset next_file bytes x fits e =
     let b = bind_ok (number_at w32 bytes) (λ n. rowsets_at n.0 next_rowset next_file 0 [] [] n.1) x e in
     let t = number_takes w32 (2 ^ 32) wide32 bytes b.0 fits b.1 in
     let r = rowsets_take b.0.0 next_rowset next_file 0 [] [] b.0.1 x t.0.rest_fits b.2 in
-    let both = takes_then bytes (to_le_bytes w32 b.0.0) b.0.1 (flat_map spelled_rowset r.rowsets) x.1 t.0 r.takes in
+    let both = Takes-then bytes (to_le_bytes w32 b.0.0) b.0.1 (flat_map spelled_rowset r.rowsets) x.1 t.0 r.takes in
     let len : length x.0 ≡ b.0.0 = ap length r.rowsets_are ∙ r.count in
     let text : to_le_bytes w32 b.0.0 ++ flat_map spelled_rowset r.rowsets ≡ spelled_rowsets x.0 =
     ap (λ (k : ℕ). to_le_bytes w32 k ++ flat_map spelled_rowset r.rowsets) (sym len) ∙ ap (λ (l : List MetaRowset). to_le_bytes w32 (length x.0) ++ flat_map spelled_rowset l) (sym r.rowsets_are) in

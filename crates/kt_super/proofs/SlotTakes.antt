@@ -1,15 +1,13 @@
 -- A slot that tells a superblock is spelled as it is.
-use Rattle.std.proofs.Common.{◌≡◌, ℕ, suc, ◌+◌, ◌<◌, ◌≤◌, Bool, true, false, ◌&&◌, cond, eqb, ltb, leb, List, [], ◌∷◌, ◌++◌, length, take, drop, Some, None, Result, Ok, Err, refl, sym, ap, ◌∙◌, append_assoc, arith, inl, inr}
+use Rattle.std.proofs.Common.{◌≡◌, ℕ, zero, suc, suc, ◌+◌, ◌<◌, ◌≤◌, Bool, true, false, ◌&&◌, cond, eqb, ltb, leb, List, [], ◌∷◌, ◌++◌, length, take, drop, Some, None, Result, Ok, Err, refl, sym, ap, ◌∙◌, append_assoc, arith, inl, inr}
 use Rattle.std.specs.List.{All}
 use Rattle.std.specs.Int.{w32, to_le_bytes, from_le_bytes}
 use Rattle.std.proofs.lemmas.Bool.{cases_lt, eqb-true, ltb-false, leb-true}
 use Rattle.std.proofs.lemmas.List.{append-nil, take-append-drop, length-take, get_or_past}
-use Rattle.kt_super.specs.declared.refusal.Fault.{Fault}
-use Rattle.kt_super.specs.declared.refusal.Fault.TheVariants.{Short, At}
 use Rattle.kt_super.specs.declared.meta.Meta.{Meta}
 use Rattle.kt_super.specs.Body.{spelled_body, body_at}
 use Rattle.kt_super.specs.Slots.{misfit, settled, of_length, opened_at, slot_at, spelled_slot}
-use Rattle.kt_super.proofs.Numbers.{IsBytes, is_bytes_drop, is_bytes_take, wide32}
+use Rattle.kt_bytes.proofs.Numbers.{IsBytes, IsBytes-drop, IsBytes-take, wide32}
 use Rattle.kt_super.proofs.RowsetLaws.{both}
 use Rattle.kt_super.proofs.BodyTakes.{body_takes}
 
@@ -20,12 +18,12 @@ none_left : (rest : List ℕ) → length rest ≡ 0 → rest ≡ []
 none_left [] e = refl
 none_left (b ∷ rest) e = absurd (omega (arith, e))
 
-abbrev read_as : Meta → List ℕ → Result (Meta × List ℕ) Fault
+abbrev read_as : Meta → List ℕ → Result (Meta × List ℕ) ℕ
 read_as m rest = Ok (m, rest)
 
-settled_ok : (there : Bool) (end size : ℕ) (m : Meta) (r : Result (Meta × List ℕ) Fault) → settled there end size r ≡ Ok (Some m) → (there ≡ true) × (r ≡ Ok (m, []))
-settled_ok there end size m (Err Short) e = absurd cc
-settled_ok there end size m (Err (At left)) e = absurd cc
+settled_ok : (there : Bool) (end size : ℕ) (m : Meta) (r : Result (Meta × List ℕ) ℕ) → settled there end size r ≡ Ok (Some m) → (there ≡ true) × (r ≡ Ok (m, []))
+settled_ok there end size m (Err zero) e = absurd cc
+settled_ok there end size m (Err (suc left)) e = absurd cc
 settled_ok there end size m (Ok (k, rest)) e = pick (there && eqb (length rest) 0) refl e
   where
     pick : (b : Bool) → (there && eqb (length rest) 0) ≡ b → cond b (Ok (Some k)) (Err (misfit there end)) ≡ Ok (Some m) → (there ≡ true) × (read_as k rest ≡ read_as m [])
@@ -39,7 +37,7 @@ settled_ok there end size m (Ok (k, rest)) e = pick (there && eqb (length rest) 
 length_takes : (slot len : ℕ) (rest : List ℕ) (m : Meta) → IsBytes rest → of_length slot len rest ≡ Ok (Some m) → (len ≡ length (spelled_body m)) × (rest ≡ spelled_body m ++ drop len rest)
 length_takes slot len rest m fits e =
     let s = settled_ok (leb len (length rest)) (5 + length rest) (length (take len rest)) m (body_at slot (take len rest)) e in
-    let t = body_takes slot (take len rest) (m, []) (is_bytes_take len rest fits) s.1 in
+    let t = body_takes slot (take len rest) (m, []) (IsBytes-take len rest fits) s.1 in
     let there : len ≤ length rest = leb-true len (length rest) s.0 in
     let front : take len rest ≡ spelled_body m = t.0.parts ∙ append-nil (spelled_body m) in
     (omega (arith, length-take len rest, ap length front), sym (take-append-drop len rest) ∙ ap (λ (l : List ℕ). l ++ drop len rest) front)
@@ -50,8 +48,8 @@ tail_takes slot tail m fits long e =
     let rest : List ℕ = drop 4 tail in
     let more : List ℕ = drop len rest in
     let body : List ℕ = spelled_body m in
-    let t = length_takes slot len rest m (is_bytes_drop 4 tail fits) e in
-    let front : to_le_bytes w32 len ≡ take 4 tail = wide32.back (take 4 tail) (omega (arith, length-take 4 tail)) (is_bytes_take 4 tail fits) in (
+    let t = length_takes slot len rest m (IsBytes-drop 4 tail fits) e in
+    let front : to_le_bytes w32 len ≡ take 4 tail = wide32.back (take 4 tail) (omega (arith, length-take 4 tail)) (IsBytes-take 4 tail fits) in (
       more,
       sym (take-append-drop 4 tail) ∙ ap (λ (l : List ℕ). l ++ rest) (sym front ∙ ap (λ (n : ℕ). to_le_bytes w32 n) t.0)
           ∙ ap (λ (l : List ℕ). to_le_bytes w32 (length body) ++ l) t.1 ∙ sym (append_assoc (to_le_bytes w32 (length body)) body more),

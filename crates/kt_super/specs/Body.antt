@@ -3,12 +3,10 @@ use Rattle.std.specs.Prelude.{◌≡◌, ℕ, ◌%◌, ◌^◌, ◌<◌, Bool, t
 use Rattle.std.specs.Int.{w16, w64, to_le_bytes}
 use Rattle.kt_schema.specs.declared.column.Column.{Column}
 use Rattle.kt_schema.specs.Columns.{columns_no}
-use Rattle.kt_super.specs.declared.refusal.Fault.{Fault}
-use Rattle.kt_super.specs.declared.refusal.Fault.TheVariants.{At}
 use Rattle.kt_super.specs.declared.meta.Meta.{Meta}
 use Rattle.kt_super.specs.declared.meta.MetaRowset.{MetaRowset}
 use Rattle.kt_super.specs.declared.body.Head.{Head}
-use Rattle.kt_super.specs.Reading.{◌>>=◌, number_at, checked_at}
+use Rattle.kt_bytes.specs.Reading.{◌>>=◌, number_at, checked_at}
 use Rattle.kt_super.specs.Columns.{AreColumns, is_count, spelled_columns, counted_columns_at}
 use Rattle.kt_super.specs.Rowsets.{is_small, AreRowsets, spelled_rowsets, counted_rowsets_at}
 
@@ -63,7 +61,7 @@ spelled_body m = spelled_head (head_of m) ++ (spelled_columns m.schema ++ spelle
 abbrev pub is_format : ℕ → Bool
 is_format n = n == format
 
-unfoldable pub head_at : ℕ → List ℕ → Result (Head × List ℕ) Fault
+unfoldable pub head_at : ℕ → List ℕ → Result (Head × List ℕ) ℕ
 head_at slot bytes = do
   start ← checked_at w16 is_format bytes
   number ← checked_at w64 (is_number slot) start.1
@@ -76,15 +74,15 @@ head_at slot bytes = do
   next_column ← number_at w16 next_file.1
   Ok (record { number = number.0; a = a.0; c = c.0; need = need.0; last_mem = last_mem.0; next_rowset = next_rowset.0; next_file = next_file.0; next_column = next_column.0 }, next_column.1)
 
-unfoldable pub schema_at : ℕ → List ℕ → Result (List Column × List ℕ) Fault
+unfoldable pub schema_at : ℕ → List ℕ → Result (List Column × List ℕ) ℕ
 schema_at next bytes = do
   columns ← counted_columns_at next bytes
-  if makes_schema columns.0 then Ok columns else Err (At (length bytes))
+  if makes_schema columns.0 then Ok columns else Err (length bytes)
 
 abbrev pub meta_of : Head → List Column → List MetaRowset → Meta
 meta_of h columns rowsets = record { number = h.number; a = h.a; c = h.c; need = h.need; last_mem = h.last_mem; next_rowset = h.next_rowset; next_file = h.next_file; next_column = h.next_column; schema = columns; rowsets = rowsets }
 
-unfoldable pub body_at : ℕ → List ℕ → Result (Meta × List ℕ) Fault
+unfoldable pub body_at : ℕ → List ℕ → Result (Meta × List ℕ) ℕ
 body_at slot bytes = do
   head ← head_at slot bytes
   schema ← schema_at head.0.next_column head.1

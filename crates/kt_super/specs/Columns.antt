@@ -9,9 +9,7 @@ use Rattle.kt_base.specs.declared.cell.Kind.TheVariants as kind
 use Rattle.kt_base.specs.declared.cell.Cell.{Cell}
 use Rattle.kt_base.specs.declared.cell.Cell.TheVariants as cell
 use Rattle.kt_schema.specs.declared.column.Column.{Column}
-use Rattle.kt_super.specs.declared.refusal.Fault.{Fault}
-use Rattle.kt_super.specs.declared.refusal.Fault.TheVariants.{At}
-use Rattle.kt_super.specs.Reading.{◌>>=◌, number_at, checked_at, bytes_at}
+use Rattle.kt_bytes.specs.Reading.{◌>>=◌, number_at, checked_at, bytes_at}
 
 -- ---- rules
 
@@ -115,33 +113,33 @@ is_tag n = nat_lt n 4
 abbrev pub is_bit : ℕ → Bool
 is_bit n = nat_lt n 2
 
-unfoldable pub text_at : List ℕ → Result (List ℕ × List ℕ) Fault
+unfoldable pub text_at : List ℕ → Result (List ℕ × List ℕ) ℕ
 text_at bytes = do
   n ← number_at w32 bytes
   bytes_at n.0 n.1
 
-unfoldable pub cell_by : ℕ → List ℕ → Result (Cell × List ℕ) Fault
+unfoldable pub cell_by : ℕ → List ℕ → Result (Cell × List ℕ) ℕ
 cell_by tag bytes =
     if tag == 0 then Ok (cell.Null, bytes)
     else if tag == 1 then (checked_at w8 is_bit bytes >>= λ b. Ok (cell.Bool (b.0 == 1), b.1))
     else if tag == 2 then (number_at w64 bytes >>= λ z. Ok (cell.Int (cast_signed w64 z.0), z.1))
     else (text_at bytes >>= λ t. Ok (cell.Bytes t.0, t.1))
 
-unfoldable pub cell_at : List ℕ → Result (Cell × List ℕ) Fault
+unfoldable pub cell_at : List ℕ → Result (Cell × List ℕ) ℕ
 cell_at bytes = do
   tag ← checked_at w8 is_tag bytes
   cell_by tag.0 tag.1
 
-unfoldable pub default_at : ℕ → List ℕ → Result (Option Cell × List ℕ) Fault
+unfoldable pub default_at : ℕ → List ℕ → Result (Option Cell × List ℕ) ℕ
 default_at flags bytes = if has_default flags then (cell_at bytes >>= λ c. Ok (Some c.0, c.1)) else Ok (None, bytes)
 
-unfoldable pub name_at : List Column → List ℕ → Result (List ℕ × List ℕ) Fault
+unfoldable pub name_at : List Column → List ℕ → Result (List ℕ × List ℕ) ℕ
 name_at earlier bytes = do
   n ← number_at w8 bytes
   name ← bytes_at n.0 n.1
-  if has_name earlier name.0 then Err (At (length n.1)) else Ok name
+  if has_name earlier name.0 then Err (length n.1) else Ok name
 
-unfoldable pub column_at : ℕ → List Column → List ℕ → Result (Column × List ℕ) Fault
+unfoldable pub column_at : ℕ → List Column → List ℕ → Result (Column × List ℕ) ℕ
 column_at next earlier bytes = do
   id ← checked_at w16 (is_free_id next earlier) bytes
   name ← name_at earlier id.1
@@ -151,7 +149,7 @@ column_at next earlier bytes = do
   Ok (record { id = id.0; name = name.0; kind = kind_of kind.0; key = is_key flags.0; nullable = is_nullable flags.0; default = default.0 }, default.1)
 
 -- so many more columns behind those that were read
-unfoldable pub columns_at : ℕ → ℕ → List Column → List ℕ → Result (List Column × List ℕ) Fault
+unfoldable pub columns_at : ℕ → ℕ → List Column → List ℕ → Result (List Column × List ℕ) ℕ
 columns_at zero next columns bytes = Ok (columns, bytes)
 columns_at (suc n) next columns bytes = do
   c ← column_at next columns bytes
@@ -160,7 +158,7 @@ columns_at (suc n) next columns bytes = do
 abbrev pub is_count : ℕ → Bool
 is_count n = nat_le 1 n && nat_le n 300
 
-unfoldable pub counted_columns_at : ℕ → List ℕ → Result (List Column × List ℕ) Fault
+unfoldable pub counted_columns_at : ℕ → List ℕ → Result (List Column × List ℕ) ℕ
 counted_columns_at next bytes = do
   n ← checked_at w16 is_count bytes
   columns_at n.0 next [] n.1

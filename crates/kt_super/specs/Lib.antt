@@ -1,4 +1,3 @@
-pub mod Reading
 pub mod Columns
 pub mod Rowsets
 pub mod Body

@@ -2,10 +2,9 @@
 use Rattle.std.specs.Prelude.{◌≡◌, ℕ, zero, suc, ◌+◌, ◌^◌, Bool, true, not, ◌&&◌, ◌==◌, List, [], ◌∷◌, ◌++◌, length, map, Result, Ok, nat_lt, nat_le}
 use Rattle.std.specs.List.{flat_map, list_any}
 use Rattle.std.specs.Int.{w32, w64, to_le_bytes}
-use Rattle.kt_super.specs.declared.refusal.Fault.{Fault}
 use Rattle.kt_super.specs.declared.meta.FileRef.{FileRef}
 use Rattle.kt_super.specs.declared.meta.MetaRowset.{MetaRowset}
-use Rattle.kt_super.specs.Reading.{◌>>=◌, number_at, checked_at}
+use Rattle.kt_bytes.specs.Reading.{◌>>=◌, number_at, checked_at}
 
 -- numbers and lengths lie below this
 abbrev pub is_small : ℕ → Bool
@@ -13,6 +12,10 @@ is_small n = nat_lt n (2 ^ 62)
 
 abbrev pub has : List ℕ → ℕ → Bool
 has numbers n = list_any (λ k. k == n) numbers
+
+-- the same numbers stand in both
+abbrev pub HaveTheSame : List ℕ → List ℕ → Type 0
+HaveTheSame some others = (n : ℕ) → has some n ≡ has others n
 
 abbrev pub numbers_of : List FileRef → List ℕ
 numbers_of files = map (λ f. f.file) files
@@ -67,25 +70,25 @@ spelled_rowsets rowsets = to_le_bytes w32 (length rowsets) ++ flat_map spelled_r
 
 -- ---- reading
 
-unfoldable pub file_at : ℕ → List ℕ → List ℕ → Result (FileRef × List ℕ) Fault
+unfoldable pub file_at : ℕ → List ℕ → List ℕ → Result (FileRef × List ℕ) ℕ
 file_at next taken bytes = do
   file ← checked_at w64 (is_free next taken) bytes
   len ← checked_at w64 is_small file.1
   Ok (record { file = file.0; len = len.0 }, len.1)
 
 -- so many more files behind those that were read
-unfoldable pub files_at : ℕ → ℕ → List ℕ → List FileRef → List ℕ → Result (List FileRef × List ℕ) Fault
+unfoldable pub files_at : ℕ → ℕ → List ℕ → List FileRef → List ℕ → Result (List FileRef × List ℕ) ℕ
 files_at zero next taken files bytes = Ok (files, bytes)
 files_at (suc n) next taken files bytes = do
   f ← file_at next taken bytes
   files_at n next (taken ++ f.0.file ∷ []) (files ++ f.0 ∷ []) f.1
 
-unfoldable pub counted_files_at : ℕ → List ℕ → List ℕ → Result (List FileRef × List ℕ) Fault
+unfoldable pub counted_files_at : ℕ → List ℕ → List ℕ → Result (List FileRef × List ℕ) ℕ
 counted_files_at next taken bytes = do
   n ← number_at w32 bytes
   files_at n.0 next taken [] n.1
 
-unfoldable pub rowset_at : ℕ → ℕ → ℕ → List ℕ → List ℕ → Result (MetaRowset × List ℕ) Fault
+unfoldable pub rowset_at : ℕ → ℕ → ℕ → List ℕ → List ℕ → Result (MetaRowset × List ℕ) ℕ
 rowset_at next_rowset next_file least taken bytes = do
   rowset ← checked_at w64 (is_rowset least next_rowset) bytes
   last_dms ← checked_at w64 is_small rowset.1
@@ -95,13 +98,13 @@ rowset_at next_rowset next_file least taken bytes = do
   Ok (record { rowset = rowset.0; last_dms = last_dms.0; base = base.0; undo = undo.0; redo = redo.0 }, redo.1)
 
 -- so many more rowsets behind those that were read
-unfoldable pub rowsets_at : ℕ → ℕ → ℕ → ℕ → List ℕ → List MetaRowset → List ℕ → Result (List MetaRowset × List ℕ) Fault
+unfoldable pub rowsets_at : ℕ → ℕ → ℕ → ℕ → List ℕ → List MetaRowset → List ℕ → Result (List MetaRowset × List ℕ) ℕ
 rowsets_at zero next_rowset next_file least taken rowsets bytes = Ok (rowsets, bytes)
 rowsets_at (suc n) next_rowset next_file least taken rowsets bytes = do
   r ← rowset_at next_rowset next_file least taken bytes
   rowsets_at n next_rowset next_file (r.0.rowset + 1) (taken_by taken r.0) (rowsets ++ r.0 ∷ []) r.1
 
-unfoldable pub counted_rowsets_at : ℕ → ℕ → List ℕ → Result (List MetaRowset × List ℕ) Fault
+unfoldable pub counted_rowsets_at : ℕ → ℕ → List ℕ → Result (List MetaRowset × List ℕ) ℕ
 counted_rowsets_at next_rowset next_file bytes = do
   n ← number_at w32 bytes
   rowsets_at n.0 next_rowset next_file 0 [] [] n.1

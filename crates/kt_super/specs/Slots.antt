@@ -1,10 +1,10 @@
 -- The two slots of a disk, and the superblock of an image.
-use Rattle.std.specs.Prelude.{◌≡◌, ◌⊎◌, ℕ, ◌+◌, ◌-◌, Bool, false, not, ◌&&◌, ◌==◌, List, [], ◌∷◌, ◌++◌, length, take, drop, Option, Some, None, Result, Ok, Err, nat_lt, nat_le, if◌then◌else◌}
+use Rattle.std.specs.Prelude.{◌≡◌, ◌⊎◌, ℕ, zero, suc, ◌+◌, ◌-◌, ◌<◌, Bool, true, false, not, ◌&&◌, ◌==◌, List, [], ◌∷◌, ◌++◌, length, take, drop, Option, Some, None, Result, Ok, Err, nat_lt, nat_le, if◌then◌else◌}
 use Rattle.std.specs.Int.{w32, from_le_bytes, to_le_bytes}
 use Rattle.kt_disk.specs.Disk.{Files, held, Stable, ButFiles}
-use Rattle.kt_super.specs.declared.refusal.Fault.{Fault}
-use Rattle.kt_super.specs.declared.refusal.Fault.TheVariants.{Short, At}
 use Rattle.kt_super.specs.declared.refusal.Place.{Place}
+use Rattle.kt_super.specs.declared.slot.Head.{Head}
+use Rattle.kt_super.specs.declared.slot.Head.TheVariants.{Closed, Short, Body}
 use Rattle.kt_super.specs.declared.meta.Meta.{Meta}
 use Rattle.kt_super.specs.declared.meta.Prepared.{Prepared}
 use Rattle.kt_super.specs.Body.{slot_for, spelled_body, body_at}
@@ -22,10 +22,10 @@ abbrev pub misfit : Bool → ℕ → ℕ
 misfit there end = if there then 1 else end
 
 -- what a body of this size behind the gate and the length tells: the superblock, or the place of its fault
-abbrev pub settled : Bool → ℕ → ℕ → Result (Meta × List ℕ) Fault → Result (Option Meta) ℕ
+abbrev pub settled : Bool → ℕ → ℕ → Result (Meta × List ℕ) ℕ → Result (Option Meta) ℕ
 settled there end size (Ok (m, rest)) = if there && (length rest == 0) then Ok (Some m) else Err (misfit there end)
-settled there end size (Err Short) = Err (misfit there end)
-settled there end size (Err (At left)) = Err (5 + (size - left))
+settled there end size (Err zero) = Err (misfit there end)
+settled there end size (Err (suc left)) = Err (5 + (size - suc left))
 
 -- what stands behind the gate and the length
 abbrev pub of_length : ℕ → ℕ → List ℕ → Result (Option Meta) ℕ
@@ -37,6 +37,12 @@ opened_at slot bytes = if nat_lt (length bytes) 5 then Err (length bytes) else o
 -- the superblock that a slot tells, none where it is closed, or the place of its first fault
 abbrev pub slot_at : ℕ → List ℕ → Result (Option Meta) ℕ
 slot_at slot bytes = if is_open bytes then opened_at slot bytes else Ok None
+
+-- how a slot begins, told from its first five bytes
+abbrev pub IsHead : List ℕ → Head → Type 0
+IsHead front Closed = is_open front ≡ false
+IsHead front Short = (is_open front ≡ true) × (length front < 5)
+IsHead front (Body len) = (is_open front ≡ true) × (length front ≡ 5) × (len ≡ from_le_bytes w32 (take 4 (drop 1 front)))
 
 -- what stands behind the gate of a slot
 abbrev pub spelled_slot : Meta → List ℕ

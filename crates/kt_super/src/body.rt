@@ -1,13 +1,14 @@
 //! Reading the body of a superblock.
 ghost use Rattle.std.specs.Prelude.{◌≡◌};
 ghost use Rattle.std.specs.Int.{w16, w64};
-ghost use Rattle.kt_super.specs.Reading.{Gives, checked_at};
+ghost use Rattle.kt_bytes.specs.Reading.{Gives, checked_at};
 ghost use Rattle.kt_super.specs.Body.{slot_for, is_number, is_next_file, is_format, head_at, schema_at, body_at};
 
+use crate::Meta;
 use crate::columns::counted_columns_of;
-use crate::fields::{fault_at, u16_at, u64_at};
 use crate::rowsets::{SMALL, counted_rowsets_of, small_at};
-use crate::{BodyNo, Meta};
+use kt_bytes::Stop;
+use kt_bytes::fields::{fault_at, u16_at, u64_at};
 use kt_schema::{ColumnList, Schema, SchemaNo};
 use std::alloc::Global;
 
@@ -31,7 +32,7 @@ pub fn slot_for(number: u64) -> u64
     if number % 2 == 1 { 1 } else { 2 }
 }
 
-fn format_at(bytes: &[u8]) -> Result<(u16, &[u8]), BodyNo>
+fn format_at(bytes: &[u8]) -> Result<(u16, &[u8]), Stop>
     ensures { Gives (λ x. (x.0, x.1.now)) result (checked_at w16 is_format bytes.now) }
 {
     let (format, rest) = u16_at(bytes)?;
@@ -42,7 +43,7 @@ fn format_at(bytes: &[u8]) -> Result<(u16, &[u8]), BodyNo>
     }
 }
 
-fn meta_number_at(slot: u64, bytes: &[u8]) -> Result<(u64, &[u8]), BodyNo>
+fn meta_number_at(slot: u64, bytes: &[u8]) -> Result<(u64, &[u8]), Stop>
     ensures { Gives (λ x. (x.0, x.1.now)) result (checked_at w64 (is_number slot) bytes.now) }
 {
     let (number, rest) = u64_at(bytes)?;
@@ -53,7 +54,7 @@ fn meta_number_at(slot: u64, bytes: &[u8]) -> Result<(u64, &[u8]), BodyNo>
     }
 }
 
-fn next_file_at(bytes: &[u8]) -> Result<(u64, &[u8]), BodyNo>
+fn next_file_at(bytes: &[u8]) -> Result<(u64, &[u8]), Stop>
     ensures { Gives (λ x. (x.0, x.1.now)) result (checked_at w64 is_next_file bytes.now) }
 {
     let (number, rest) = u64_at(bytes)?;
@@ -65,7 +66,7 @@ fn next_file_at(bytes: &[u8]) -> Result<(u64, &[u8]), BodyNo>
 }
 
 #[tactic(auto, unfolding(crate::specs::Body::head_at))]
-fn head_of(slot: u64, bytes: &[u8]) -> Result<(Head, &[u8]), BodyNo>
+fn head_of(slot: u64, bytes: &[u8]) -> Result<(Head, &[u8]), Stop>
     ensures { Gives (λ x. (x.0, x.1.now)) result (head_at slot bytes.now) }
 {
     let (_, rest) = format_at(bytes)?;
@@ -91,20 +92,20 @@ fn head_of(slot: u64, bytes: &[u8]) -> Result<(Head, &[u8]), BodyNo>
 }
 
 #[tactic(auto, unfolding(crate::specs::Body::schema_at))]
-fn schema_of(alloc: Global, next: u16, bytes: &[u8]) -> Result<(Schema, &[u8]), BodyNo>
+fn schema_of(alloc: Global, next: u16, bytes: &[u8]) -> Result<(Schema, &[u8]), Stop>
     ensures { Gives (λ x. (x.0, x.1.now)) result (schema_at next bytes.now) }
 {
     let (columns, rest) = counted_columns_of(alloc, next, bytes)?;
     match Schema::new(alloc, ColumnList::of(columns)) {
         Ok(schema) => Ok((schema, rest)),
-        Err(SchemaNo::Memory) => Err(BodyNo::Memory),
+        Err(SchemaNo::Memory) => Err(Stop::Memory),
         Err(_) => fault_at(bytes),
     }
 }
 
 /// The superblock that a body spells, and the bytes behind it.
 #[tactic(auto, unfolding(crate::specs::Body::body_at))]
-pub fn body_of(alloc: Global, slot: u64, bytes: &[u8]) -> Result<(Meta, &[u8]), BodyNo>
+pub fn body_of(alloc: Global, slot: u64, bytes: &[u8]) -> Result<(Meta, &[u8]), Stop>
     ensures { Gives (λ x. (x.0, x.1.now)) result (body_at slot bytes.now) }
 {
     let (head, rest) = head_of(slot, bytes)?;

@@ -2,13 +2,13 @@
 ghost use Rattle.std.specs.Prelude.{◌≡◌, [], ◌==◌};
 ghost use Rattle.std.specs.List.{list_all};
 ghost use Rattle.std.specs.Int.{w8, w16};
-ghost use Rattle.kt_super.specs.Reading.{Gives, checked_at};
+ghost use Rattle.kt_bytes.specs.Reading.{Gives, checked_at};
 ghost use Rattle.kt_super.specs.Columns.{has_id, has_name, is_free_id, may_stand, is_kind, kind_of, are_flags, is_tag, is_bit, is_count, text_at, cell_by, cell_at, default_at, name_at, column_at, columns_at, counted_columns_at};
 
-use crate::BodyNo;
-use crate::fields::{fault_at, front_of, u8_at, u16_at, u32_at, u64_at};
 use kt_base::limits::COLUMNS;
 use kt_base::{Cell, Kind, Octets};
+use kt_bytes::Stop;
+use kt_bytes::fields::{fault_at, front_of, u8_at, u16_at, u32_at, u64_at};
 use kt_schema::Column;
 use std::alloc::Global;
 
@@ -42,7 +42,7 @@ fn may_stand(earlier: &[Column], kind: Kind, key: bool, nullable: bool) -> bool
     }
 }
 
-fn id_at<'a>(next: u16, earlier: &[Column], bytes: &'a [u8]) -> Result<(u16, &'a [u8]), BodyNo>
+fn id_at<'a>(next: u16, earlier: &[Column], bytes: &'a [u8]) -> Result<(u16, &'a [u8]), Stop>
     ensures { Gives (λ x. (x.0, x.1.now)) result (checked_at w16 (is_free_id next earlier.now) bytes.now) }
 {
     let (id, rest) = u16_at(bytes)?;
@@ -58,7 +58,7 @@ fn name_of<'a>(
     alloc: Global,
     earlier: &[Column],
     bytes: &'a [u8],
-) -> Result<(Octets, &'a [u8]), BodyNo>
+) -> Result<(Octets, &'a [u8]), Stop>
     ensures { Gives (λ x. (x.0, x.1.now)) result (name_at earlier.now bytes.now) }
 {
     let (len, from) = u8_at(bytes)?;
@@ -69,7 +69,7 @@ fn name_of<'a>(
     Ok((Octets::from_slice(alloc, name)?, rest))
 }
 
-fn kind_number_at(bytes: &[u8]) -> Result<(u8, &[u8]), BodyNo>
+fn kind_number_at(bytes: &[u8]) -> Result<(u8, &[u8]), Stop>
     ensures { Gives (λ x. (x.0, x.1.now)) result (checked_at w8 is_kind bytes.now) }
 {
     let (number, rest) = u8_at(bytes)?;
@@ -94,7 +94,7 @@ fn kind_of(number: u8) -> Kind
     }
 }
 
-fn flags_at<'a>(earlier: &[Column], kind: Kind, bytes: &'a [u8]) -> Result<(u8, &'a [u8]), BodyNo>
+fn flags_at<'a>(earlier: &[Column], kind: Kind, bytes: &'a [u8]) -> Result<(u8, &'a [u8]), Stop>
     ensures { Gives (λ x. (x.0, x.1.now)) result (checked_at w8 (are_flags earlier.now kind) bytes.now) }
 {
     let (flags, rest) = u8_at(bytes)?;
@@ -105,7 +105,7 @@ fn flags_at<'a>(earlier: &[Column], kind: Kind, bytes: &'a [u8]) -> Result<(u8, 
     }
 }
 
-fn tag_at(bytes: &[u8]) -> Result<(u8, &[u8]), BodyNo>
+fn tag_at(bytes: &[u8]) -> Result<(u8, &[u8]), Stop>
     ensures { Gives (λ x. (x.0, x.1.now)) result (checked_at w8 is_tag bytes.now) }
 {
     let (tag, rest) = u8_at(bytes)?;
@@ -116,7 +116,7 @@ fn tag_at(bytes: &[u8]) -> Result<(u8, &[u8]), BodyNo>
     }
 }
 
-fn bit_at(bytes: &[u8]) -> Result<(u8, &[u8]), BodyNo>
+fn bit_at(bytes: &[u8]) -> Result<(u8, &[u8]), Stop>
     ensures { Gives (λ x. (x.0, x.1.now)) result (checked_at w8 is_bit bytes.now) }
 {
     let (bit, rest) = u8_at(bytes)?;
@@ -128,7 +128,7 @@ fn bit_at(bytes: &[u8]) -> Result<(u8, &[u8]), BodyNo>
 }
 
 #[tactic(auto, unfolding(crate::specs::Columns::text_at))]
-fn text_of(alloc: Global, bytes: &[u8]) -> Result<(Octets, &[u8]), BodyNo>
+fn text_of(alloc: Global, bytes: &[u8]) -> Result<(Octets, &[u8]), Stop>
     ensures { Gives (λ x. (x.0, x.1.now)) result (text_at bytes.now) }
 {
     let (len, rest) = u32_at(bytes)?;
@@ -137,7 +137,7 @@ fn text_of(alloc: Global, bytes: &[u8]) -> Result<(Octets, &[u8]), BodyNo>
 }
 
 #[tactic(auto, unfolding(crate::specs::Columns::cell_by))]
-fn cell_by(alloc: Global, tag: u8, bytes: &[u8]) -> Result<(Cell, &[u8]), BodyNo>
+fn cell_by(alloc: Global, tag: u8, bytes: &[u8]) -> Result<(Cell, &[u8]), Stop>
     ensures { Gives (λ x. (x.0, x.1.now)) result (cell_by tag bytes.now) }
 {
     match tag {
@@ -158,7 +158,7 @@ fn cell_by(alloc: Global, tag: u8, bytes: &[u8]) -> Result<(Cell, &[u8]), BodyNo
 }
 
 #[tactic(auto, unfolding(crate::specs::Columns::cell_at))]
-fn cell_of(alloc: Global, bytes: &[u8]) -> Result<(Cell, &[u8]), BodyNo>
+fn cell_of(alloc: Global, bytes: &[u8]) -> Result<(Cell, &[u8]), Stop>
     ensures { Gives (λ x. (x.0, x.1.now)) result (cell_at bytes.now) }
 {
     let (tag, rest) = tag_at(bytes)?;
@@ -166,7 +166,7 @@ fn cell_of(alloc: Global, bytes: &[u8]) -> Result<(Cell, &[u8]), BodyNo>
 }
 
 #[tactic(auto, unfolding(crate::specs::Columns::default_at))]
-fn default_of(alloc: Global, flags: u8, bytes: &[u8]) -> Result<(Option<Cell>, &[u8]), BodyNo>
+fn default_of(alloc: Global, flags: u8, bytes: &[u8]) -> Result<(Option<Cell>, &[u8]), Stop>
     ensures { Gives (λ x. (x.0, x.1.now)) result (default_at flags bytes.now) }
 {
     if flags / 4 == 1 {
@@ -182,7 +182,7 @@ fn column_of<'a>(
     next: u16,
     earlier: &[Column],
     bytes: &'a [u8],
-) -> Result<(Column, &'a [u8]), BodyNo>
+) -> Result<(Column, &'a [u8]), Stop>
     ensures { Gives (λ x. (x.0, x.1.now)) result (column_at next earlier.now bytes.now) }
 {
     let (id, rest) = id_at(next, earlier, bytes)?;
@@ -207,7 +207,7 @@ fn columns_of(
     count: u16,
     next: u16,
     bytes: &[u8],
-) -> Result<(Vec<Column>, &[u8]), BodyNo>
+) -> Result<(Vec<Column>, &[u8]), Stop>
     ensures { Gives (λ x. (x.0.items, x.1.now)) result (columns_at count next [] bytes.now) }
 {
     let mut columns = Vec::new(alloc);
@@ -220,7 +220,7 @@ fn columns_of(
     Ok((columns, rest))
 }
 
-fn count_at(bytes: &[u8]) -> Result<(u16, &[u8]), BodyNo>
+fn count_at(bytes: &[u8]) -> Result<(u16, &[u8]), Stop>
     ensures { Gives (λ x. (x.0, x.1.now)) result (checked_at w16 is_count bytes.now) }
 {
     let (count, rest) = u16_at(bytes)?;
@@ -237,7 +237,7 @@ pub fn counted_columns_of(
     alloc: Global,
     next: u16,
     bytes: &[u8],
-) -> Result<(Vec<Column>, &[u8]), BodyNo>
+) -> Result<(Vec<Column>, &[u8]), Stop>
     ensures { Gives (λ x. (x.0.items, x.1.now)) result (counted_columns_at next bytes.now) }
 {
     let (count, rest) = count_at(bytes)?;

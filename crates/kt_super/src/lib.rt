@@ -2,12 +2,11 @@
 //!
 //! For the layers above: `load` tells the superblock of the disk and makes both slots stable. A crash at any moment of
 //! `prepare` leaves the old superblock, at any moment of `open_gate` the old one or the new, and each leaves all files
-//! but the slot as they were. It stands on `kt_disk` and `kt_schema`.
+//! but the slot as they were. It stands on kt_bytes, kt_disk and kt_schema.
 #![tactic(auto)]
 
 mod body;
 mod columns;
-mod fields;
 mod gate;
 pub mod laws;
 mod loading;
@@ -17,12 +16,13 @@ pub mod refusal;
 mod rowsets;
 mod slot;
 mod spell;
+mod taken;
 
 pub use gate::open_gate;
 pub use loading::load;
 pub use meta::{FileRef, FileRefs, Meta, MetaRowset, MetaRowsets, Prepared};
 pub use preparing::prepare;
-pub use refusal::{BodyNo, Fault, Place, PrepareNo, SuperNo};
+pub use refusal::{Place, PrepareNo, SuperNo};
 
 #[cfg(test)]
 mod tests;

@@ -1,12 +1,12 @@
 //! Reading the superblock of a disk.
-ghost use Rattle.std.specs.Prelude.{◌≡◌, ◌≢◌, ◌≤◌, ℕ, IsTrue, Ok, Err, IfOk, OnOk, IfSome};
+ghost use Rattle.std.specs.Prelude.{◌≡◌, ◌≢◌, ◌≤◌, ◌<◌, ◌+◌, ◌^◌, ℕ, length, take, drop, IsTrue, Ok, Err, IfOk, OnOk, IfSome};
 ghost use Rattle.kt_super.specs.Body.{IsMeta};
 ghost use Rattle.kt_base.specs.Causes.{Rose, HasCause};
 ghost use Rattle.kt_disk.specs.Disk.{held, Same, Turns};
-ghost use Rattle.kt_super.specs.Slots.{newer, super_of, slot_at, AreStable};
+ghost use Rattle.kt_super.specs.Slots.{newer, super_of, slot_at, of_length, IsHead, AreStable};
 ghost use Rattle.kt_super.specs.Told.{TellsOf};
 
-use crate::slot::{SlotNo, slot_of};
+use crate::slot::{Head, SlotNo, body_told, head_of};
 use crate::{Meta, SuperNo};
 use kt_base::Failed;
 use kt_disk::Disk;
@@ -25,19 +25,47 @@ fn steady<D: Disk>(disk: &mut D) -> Result<(), Failed>
     Ok(())
 }
 
-// All bytes of a slot.
-fn slot_bytes<D: Disk>(alloc: Global, disk: &mut D, slot: u64) -> Result<Vec<u8>, SuperNo>
-    ensures bytes { IfOk result (λ bytes. IsTrue D.tells → bytes.items ≡ held (D.seen disk.old) slot) }
+// What the body of a slot tells, of which only as many bytes are read as it should have.
+fn slot_body<D: Disk>(
+    alloc: Global,
+    disk: &mut D,
+    slot: u64,
+    len: u32,
+    left: u64,
+) -> Result<Option<Meta>, SuperNo>
+    requires left { IsTrue D.tells → left ≡ length (drop 5 (held (D.seen disk.old) slot)) }
+    requires room { left + 5 < 2 ^ 64 }
+    requires behind { IsTrue D.tells → 5 ≤ length (held (D.seen disk.old) slot) }
+    ensures rules { IfOk result (λ found. IfSome found IsMeta) }
+    ensures told { IsTrue D.tells → TellsOf slot result (of_length slot len (drop 5 (held (D.seen disk.old) slot))) }
     ensures seen { IsTrue D.tells → D.seen disk.new ≡ D.seen disk.old }
     ensures images { IsTrue D.tells → Turns D.now D.leaves Same disk.old disk.new }
-    ensures place { (at offset : _) → result ≡ Err (SuperNo.Place at offset) → ⊥ }
     ensures fault { result ≡ Err SuperNo.Fault → Rose (D.faults disk.old) (D.faults disk.new) }
     ensures faults { D.faults disk.old ≤ D.faults disk.new }
 {
-    let len = disk.len(slot)?;
-    let mut bytes = vec![in alloc; 0; len as usize]?;
-    disk.read(slot, 0, bytes.as_mut_slice())?;
-    Ok(bytes)
+    let len = u64::from(len);
+    let mut body = vec![in alloc; 0; len.min(left) as usize]?;
+    disk.read(slot, 5, body.as_mut_slice())?;
+    match body_told(alloc, slot, len, left, body.as_slice()) {
+        Ok(found) => Ok(found),
+        Err(SlotNo::Memory) => Err(SuperNo::Memory),
+        Err(SlotNo::At(offset)) => Err(SuperNo::Place { slot, offset }),
+    }
+}
+
+// The first bytes of a slot of so many bytes, and what they say.
+fn slot_head<D: Disk>(disk: &mut D, slot: u64, len: u64) -> Result<Head, Failed>
+    requires { IsTrue D.tells → len ≡ length (held (D.seen disk.old) slot) }
+    ensures head { IfOk result (λ head. IsTrue D.tells → IsHead (take 5 (held (D.seen disk.old) slot)) head) }
+    ensures behind { (size : ℕ) → result ≡ Ok (Head.Body size) → 5 ≤ len }
+    ensures seen { IsTrue D.tells → D.seen disk.new ≡ D.seen disk.old }
+    ensures images { IsTrue D.tells → Turns D.now D.leaves Same disk.old disk.new }
+    ensures cause { HasCause (D.faults disk.old) (D.faults disk.new) result }
+{
+    let mut bytes = [0; 5];
+    let front = &mut bytes[..len.min(5) as usize];
+    disk.read(slot, 0, front)?;
+    Ok(head_of(front))
 }
 
 // What a slot tells.
@@ -49,11 +77,11 @@ fn slot_told<D: Disk>(alloc: Global, disk: &mut D, slot: u64) -> Result<Option<M
     ensures fault { result ≡ Err SuperNo.Fault → Rose (D.faults disk.old) (D.faults disk.new) }
     ensures faults { D.faults disk.old ≤ D.faults disk.new }
 {
-    let bytes = slot_bytes(alloc, disk, slot)?;
-    match slot_of(alloc, slot, bytes.as_slice()) {
-        Ok(found) => Ok(found),
-        Err(SlotNo::Memory) => Err(SuperNo::Memory),
-        Err(SlotNo::At(offset)) => Err(SuperNo::Place { slot, offset }),
+    let len = disk.len(slot)?;
+    match slot_head(disk, slot, len)? {
+        Head::Closed => Ok(None),
+        Head::Short => Err(SuperNo::Place { slot, offset: len }),
+        Head::Body(size) => slot_body(alloc, disk, slot, size, len - 5),
     }
 }
 

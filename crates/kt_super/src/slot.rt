@@ -1,18 +1,30 @@
-//! Reading a slot.
-ghost use Rattle.std.specs.Prelude.{◌≡◌, ◌+◌, ◌<◌, ◌^◌, length, IfOk, IfSome};
-ghost use Rattle.kt_super.specs.Body.{IsMeta};
-ghost use Rattle.kt_super.specs.Slots.{is_open, of_length, opened_at, slot_at};
+//! What the bytes of a slot tell.
+ghost use Rattle.std.specs.Prelude.{◌≡◌, ◌+◌, ◌≤◌, ◌<◌, ◌^◌, length, min, nat_le, IfOk, IfSome};
+ghost use Rattle.kt_super.specs.Body.{IsMeta, body_at};
+ghost use Rattle.kt_super.specs.Slots.{is_open, settled, IsHead};
 ghost use Rattle.kt_super.specs.Told.{Tells};
 
+use crate::Meta;
 use crate::body::body_of;
-use crate::{BodyNo, Fault, Meta};
+use kt_bytes::Stop;
 use std::alloc::Global;
 
 /// Why a slot tells no superblock.
 #[derive(Clone, Copy, Debug, PartialEq, Eq)]
 pub enum SlotNo {
     Memory,
-    At(usize),
+    At(u64),
+}
+
+/// How a slot begins.
+#[derive(Clone, Copy, Debug, PartialEq, Eq)]
+pub enum Head {
+    /// Its gate is closed.
+    Closed,
+    /// Its gate is open, and bytes of the length are missing.
+    Short,
+    /// Its gate is open, and its body has so many bytes.
+    Body(u32),
 }
 
 fn is_open(bytes: &[u8]) -> bool
@@ -21,14 +33,36 @@ fn is_open(bytes: &[u8]) -> bool
     matches!(bytes, [1, _, ..])
 }
 
-fn of_length(alloc: Global, slot: u64, len: usize, rest: &[u8]) -> Result<Option<Meta>, SlotNo>
-    requires { length rest.now + 5 < 2 ^ 64 }
-    ensures told { Tells result (of_length slot len rest.now) }
+/// How a slot begins whose first bytes these are, five or all.
+pub fn head_of(front: &[u8]) -> Head
+    requires { length front.now ≤ 5 }
+    ensures { IsHead front.now result }
+{
+    if !is_open(front) {
+        return Head::Closed;
+    }
+    if front.len() < 5 {
+        return Head::Short;
+    }
+    Head::Body(u32::from_le_bytes([front[1], front[2], front[3], front[4]]))
+}
+
+/// What a body tells that should have `len` bytes, where `left` bytes stand behind the length. The first of these are
+/// `body`, as many as it should have or all.
+pub fn body_told(
+    alloc: Global,
+    slot: u64,
+    len: u64,
+    left: u64,
+    body: &[u8],
+) -> Result<Option<Meta>, SlotNo>
+    requires there { length body.now ≡ min len left }
+    requires room { left + 5 < 2 ^ 64 }
+    ensures told { Tells result (settled (nat_le len left) (5 + left) (length body.now) (body_at slot body.now)) }
     ensures rules { IfOk result (λ found. IfSome found IsMeta) }
 {
-    let there = len <= rest.len();
-    let body = &rest[..len.min(rest.len())];
-    let misfit = if there { 1 } else { 5 + rest.len() };
+    let there = len <= left;
+    let misfit = if there { 1 } else { 5 + left };
     match body_of(alloc, slot, body) {
         Ok((meta, behind)) => {
             if there && behind.is_empty() {
@@ -37,32 +71,8 @@ fn of_length(alloc: Global, slot: u64, len: usize, rest: &[u8]) -> Result<Option
                 Err(SlotNo::At(misfit))
             }
         }
-        Err(BodyNo::Memory) => Err(SlotNo::Memory),
-        Err(BodyNo::Fault(Fault::Short)) => Err(SlotNo::At(misfit)),
-        Err(BodyNo::Fault(Fault::At(left))) => Err(SlotNo::At(5 + body.len().saturating_sub(left))),
-    }
-}
-
-fn opened(alloc: Global, slot: u64, bytes: &[u8]) -> Result<Option<Meta>, SlotNo>
-    ensures told { Tells result (opened_at slot bytes.now) }
-    ensures rules { IfOk result (λ found. IfSome found IsMeta) }
-{
-    if bytes.len() < 5 {
-        return Err(SlotNo::At(bytes.len()));
-    }
-    let (head, rest) = bytes.split_at(5);
-    let len = u32::from_le_bytes([head[1], head[2], head[3], head[4]]);
-    of_length(alloc, slot, len as usize, rest)
-}
-
-/// The superblock that a slot of these bytes tells, and none where it is closed.
-pub fn slot_of(alloc: Global, slot: u64, bytes: &[u8]) -> Result<Option<Meta>, SlotNo>
-    ensures told { Tells result (slot_at slot bytes.now) }
-    ensures rules { IfOk result (λ found. IfSome found IsMeta) }
-{
-    if is_open(bytes) {
-        opened(alloc, slot, bytes)
-    } else {
-        Ok(None)
+        Err(Stop::Memory) => Err(SlotNo::Memory),
+        Err(Stop::Left(0)) => Err(SlotNo::At(misfit)),
+        Err(Stop::Left(left)) => Err(SlotNo::At(5 + body.len().saturating_sub(left) as u64)),
     }
 }

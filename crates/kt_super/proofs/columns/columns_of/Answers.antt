@@ -1,7 +1,7 @@
 use Rattle.std.proofs.Common.{◌≡◌, ◌+◌, ◌-◌, [], List, sym, subst, Ok}
 use Rattle.std.proofs.lemmas.Result.{err_from_is_err_and}
 use Rattle.kt_schema.specs.declared.column.Column.{Column}
-use Rattle.kt_super.specs.Reading.{Fails}
+use Rattle.kt_bytes.specs.Reading.{Fails}
 use Rattle.kt_super.specs.Columns.{column_at, columns_at}
 use Rattle.kt_super.proofs.Loops.{columns_go, columns_end, columns_done}
 use Rattle.kt_super.proofs.columns.columns_of.Goals as goal

@@ -4,6 +4,6 @@ use Rattle.kt_super.proofs.rowsets.files_of.Given as goal
 
 abbrev pub invariant-loop : goal.invariant-loop
 invariant-loop l = record {
-  reads : files_at (l.count - l.counter) l.next l.taken.items l.files.items l.rest ≡ files_at l.count l.next l.fn.taken.items [] l.bytes;
-  taken : l.taken.items ≡ l.fn.taken.items ++ numbers_of l.files.items;
+  reads : files_at (l.count - l.counter) l.next l.taken l.files.items l.rest ≡ files_at l.count l.next l.fn.taken [] l.bytes;
+  taken : l.taken ≡ l.fn.taken ++ numbers_of l.files.items;
 }
