@@ -163,6 +163,19 @@ roomed {L} {D} {C} tells seen now leaves faults old log places is more same_plac
     subst (λ (l : SideView L). IsEngine tells seen now leaves faults (record old { log = l; places = places })) (sym is)
     (subst (λ (ps : List (ℕ × ℕ)). IsEngine tells seen now leaves faults (record old { log = record old.log { room = log.room }; places = ps })) (sym same_places) (with_room tells seen now leaves faults old log.room more e))
 
+-- and this tablet, which is as it was
+pub roomed_on : {L D C : Type 0} (tells : Bool) (seen : L → Files) (now : L → ℕ) (leaves : L → ℕ → Files → Type 0) (faults : L → ℕ) (old : EngineView L D C) (tablet : View C) (log : SideView L) (places : List (ℕ × ℕ)) → tablet ≡ old.tablet → log ≡ record old.log { room = log.room } → old.log.room ≤ log.room → places ≡ old.places
+    → IsEngine tells seen now leaves faults old → IsEngine tells seen now leaves faults (record old { tablet = tablet; log = log; places = places })
+roomed_on {L} {D} {C} tells seen now leaves faults old tablet log places same is more same_places e =
+    subst (λ (t : View C). IsEngine tells seen now leaves faults (record old { tablet = t; log = log; places = places })) (sym same) (roomed tells seen now leaves faults old log places is more same_places e)
+
+-- where the core alone has changed
+pub core_alone : {C : Type 0} (old tablet : View C) → tablet ≡ record old { core = tablet.core } → tablet ≡ record old { core = tablet.core; clock = tablet.clock; pool = tablet.pool }
+core_alone old tablet e = e ∙ (λ k. record old { core = tablet.core; clock = (sym e k).clock; pool = (sym e k).pool })
+
+pub may_on : {C : Type 0} (old tablet : View C) (s i : ℕ) (ops : List RowOp) → tablet ≡ old → MayBegin old.core s i ops → MayBegin tablet.core s i ops
+may_on {C} old tablet s i ops same may = subst (λ (t : View C). MayBegin t.core s i ops) (sym same) may
+
 -- a write that does not begin
 pub left_alone : {L D C : Type 0} (tells : Bool) (seen : L → Files) (now : L → ℕ) (leaves : L → ℕ → Files → Type 0) (faults : L → ℕ) (old : EngineView L D C) (tablet : View C) (s i : ℕ) (why : BeginNo)
     → tablet ≡ record old.tablet { core = tablet.core; clock = tablet.clock; pool = tablet.pool } → Leaves old.tablet tablet s i why → IsEngine tells seen now leaves faults old → IsEngine tells seen now leaves faults (record old { tablet = tablet })

@@ -9,11 +9,11 @@ pub mod Applied
 pub mod Ended
 pub mod Lines
 pub mod Plans
-pub mod Running
 pub mod Devices
 pub mod Raised
 pub mod Crashes
 pub mod Empty
 pub mod Others
 pub mod Placed
+pub mod Sessions
 pub mod Visiting

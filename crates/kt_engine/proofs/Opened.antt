@@ -31,7 +31,7 @@ opened_view tablet journal records queued store device = record {
   records = records;
   device = device;
   store = store;
-  running = 0;
+  running = [];
 }
 
 pub is_opened : {L D C : Type 0} (tells : Bool) (seen : L → Files) (now : L → ℕ) (leaves : L → ℕ → Files → Type 0) (faults : L → ℕ) (tablet : View C) (journal : JournalView L) (records queued : List Entry) (store : D) (device : L)
@@ -84,8 +84,8 @@ is_opened tells seen now leaves faults tablet journal records queued store devic
 -- the engine that was made of it
 pub as_opened : {L D C : Type 0} (tells : Bool) (seen : L → Files) (now : L → ℕ) (leaves : L → ℕ → Files → Type 0) (faults : L → ℕ) (tablet : View C) (journal : JournalView L) (records queued : List Entry) (store : D) (device : L) (log : SideView L) (places : List (ℕ × ℕ)) (found : List Entry)
     → log ≡ record { home = Some journal; known = journal; holder = None; out = []; queued = queued; room = 0; whole = true } → places ≡ [] → found ≡ records
-    → IsEngine tells seen now leaves faults (opened_view tablet journal records queued store device) → IsEngine tells seen now leaves faults (record { tablet = tablet; log = log; places = places; records = found; device = device; store = store; running = 0 })
+    → IsEngine tells seen now leaves faults (opened_view tablet journal records queued store device) → IsEngine tells seen now leaves faults (record { tablet = tablet; log = log; places = places; records = found; device = device; store = store; running = [] })
 as_opened {L} {D} {C} tells seen now leaves faults tablet journal records queued store device log places found is_log is_places is_found e =
-    subst (λ (l : SideView L). IsEngine tells seen now leaves faults (record { tablet = tablet; log = l; places = places; records = found; device = device; store = store; running = 0 })) (sym is_log)
-    (subst (λ (ps : List (ℕ × ℕ)). IsEngine tells seen now leaves faults (record { tablet = tablet; log = record { home = Some journal; known = journal; holder = None; out = []; queued = queued; room = 0; whole = true }; places = ps; records = found; device = device; store = store; running = 0 })) (sym is_places)
-    (subst (λ (es : List Entry). IsEngine tells seen now leaves faults (record { tablet = tablet; log = record { home = Some journal; known = journal; holder = None; out = []; queued = queued; room = 0; whole = true }; places = []; records = es; device = device; store = store; running = 0 })) (sym is_found) e))
+    subst (λ (l : SideView L). IsEngine tells seen now leaves faults (record { tablet = tablet; log = l; places = places; records = found; device = device; store = store; running = [] })) (sym is_log)
+    (subst (λ (ps : List (ℕ × ℕ)). IsEngine tells seen now leaves faults (record { tablet = tablet; log = record { home = Some journal; known = journal; holder = None; out = []; queued = queued; room = 0; whole = true }; places = ps; records = found; device = device; store = store; running = [] })) (sym is_places)
+    (subst (λ (es : List Entry). IsEngine tells seen now leaves faults (record { tablet = tablet; log = record { home = Some journal; known = journal; holder = None; out = []; queued = queued; room = 0; whole = true }; places = []; records = es; device = device; store = store; running = [] })) (sym is_found) e))

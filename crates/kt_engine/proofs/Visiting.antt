@@ -20,6 +20,8 @@ use Rattle.kt_tablet.specs.declared.tablet.Stopped.{Stopped}
 use Rattle.kt_journal.specs.Open.{JournalView}
 use Rattle.kt_engine.specs.Logged.{place_of}
 use Rattle.kt_engine.specs.Engines.{EngineView}
+use Rattle.kt_engine.specs.Sessions.{runs}
+use Rattle.kt_engine.proofs.Sessions.{runs_fewer}
 use Rattle.kt_engine.specs.Visits.{session_of, out_of, lent_of, Root, root_of, IsVisit}
 
 -- one line more, of the session or of none
@@ -50,7 +52,7 @@ core_visit : {L D C : Type 0} (n : ℕ) (v : EngineView L D C) (tablet : View C)
 core_visit n v tablet line parts root = record {
   line = line;
   parts = λ k ne i. record {
-    pass = record { session = parts k ne i; place = place_of k v.places; out = out_of v.log.holder v.log.out k };
+    pass = record { session = parts k ne i; place = place_of k v.places; out = out_of v.log.holder v.log.out k; runs = runs k v.running };
     lent = lent_of v.log.holder v.log.known k;
     root = root i;
   };
@@ -84,7 +86,7 @@ beside_visit : {L D C : Type 0} (n : ℕ) (v : EngineView L D C) (tablet : View 
 beside_visit n v tablet log places a lent others = record {
   line = a.line;
   parts = λ k ne i. let p = a.parts k ne i in record {
-    pass = record { session = p.pass.session; place = others k ne i; out = out_of (lent i).0 (lent i).1 k };
+    pass = record { session = p.pass.session; place = others k ne i; out = out_of (lent i).0 (lent i).1 k; runs = p.pass.runs };
     lent = lent_of (lent i).0 (lent i).2 k;
     root = p.root;
   };
@@ -110,6 +112,12 @@ begun_visit s i ts place ops v tablet log places h beside lent more =
     (line_visit s v tablet (event.Begin s i ts h.m) (begun v.tablet.core s i ts h.m ops) h.core refl refl (λ k ne. begin_keeps_parts v.tablet.core s i ts h.m ops k (turned s k ne)) (ap (tablet_root v) beside) refl) lent
     (λ k ne. ap (place_of k) more ∙ place_more v.places s k place ne)
 
+-- over a tablet that was asked before, and is as it was
+pub begun_visit_on : {L D C : Type 0} (s i ts place : ℕ) (ops : List RowOp) (v : EngineView L D C) (mid tablet : View C) (log : SideView L) (places : List (ℕ × ℕ)) → mid ≡ v.tablet → HasBegun mid.core tablet.core s i ops ts
+    → tablet ≡ record mid { core = tablet.core; clock = tablet.clock; pool = tablet.pool } → lending log ≡ lending v.log → places ≡ v.places ++ (s, place) ∷ [] → IsVisit s v (record v { tablet = tablet; log = log; places = places })
+begun_visit_on {L} {D} {C} s i ts place ops v mid tablet log places same h beside =
+    begun_visit s i ts place ops v tablet log places (subst (λ (m : View C). HasBegun m.core tablet.core s i ops ts) same h) (subst (λ (m : View C). tablet ≡ record m { core = tablet.core; clock = tablet.clock; pool = tablet.pool }) same beside)
+
 -- a write that ends
 pub ended_visit : {L D C : Type 0} (s i ts : ℕ) (v : EngineView L D C) (tablet : View C) (log : SideView L) (places : List (ℕ × ℕ)) → HasEnded v.tablet.core tablet.core s i ts
     → tablet ≡ record v.tablet { core = tablet.core } → lending log ≡ lending v.log → places ≡ filter (λ p. not (p.0 == s)) v.places → IsVisit s v (record v { tablet = tablet; log = log; places = places })
@@ -117,6 +125,19 @@ ended_visit s i ts v tablet log places h beside lent fewer =
     beside_visit s v tablet log places
     (line_visit s v tablet (event.End s i ts) (ended v.tablet.core s i ts) h.core refl refl (λ k ne. end_keeps_parts v.tablet.core s i ts k (turned s k ne)) (ap (tablet_root v) beside) refl) lent
     (λ k ne. ap (place_of k) fewer ∙ place_fewer v.places s k ne)
+
+-- ---- the sessions that run
+
+-- a session that is over
+pub over_visit : {L D C : Type 0} (n : ℕ) (v : EngineView L D C) (running : List ℕ) → running ≡ filter (λ k. not (k == n)) v.running → IsVisit n v (record v { running = running })
+over_visit n v running fewer = record {
+  line = inl refl;
+  parts = λ k ne i. record {
+    pass = record { session = part v.tablet.core k; place = place_of k v.places; out = out_of v.log.holder v.log.out k; runs = (ap (runs k) fewer ∙ runs_fewer v.running n k ne) i };
+    lent = lent_of v.log.holder v.log.known k;
+    root = root_of v;
+  };
+}
 
 -- ---- the log lent and taken home
 
@@ -137,5 +158,5 @@ out_visit n v log home lent = record {
   parts = λ k ne.
       let out = ap (λ h. out_of h log.out k) lent ∙ none_out n k log.out ne ∙ sym (ap (λ h. out_of h v.log.out k) home) in
       let known = ap (λ h. lent_of h log.known k) lent ∙ none_lent n k log.known ne ∙ sym (ap (λ h. lent_of h v.log.known k) home) in
-      λ i. record { pass = record { session = part v.tablet.core k; place = place_of k v.places; out = out i }; lent = known i; root = root_of v };
+      λ i. record { pass = record { session = part v.tablet.core k; place = place_of k v.places; out = out i; runs = runs k v.running }; lent = known i; root = root_of v };
 }

@@ -19,7 +19,7 @@ use Rattle.kt_engine.specs.declared.log.LogNo.TheVariants as no
 use Rattle.kt_engine.specs.Logged.{Recalls, KeepsRun, AreApart, IsDurable, AcknowledgedIn, NamesOnly, HoldsFront, HoldsRun}
 
 -- the tablet, its log, the places of the REPLICATEs of flying writes, the records that opening found, and the log's device as it was
--- handed in; the store device; and how many sessions run
+-- handed in; the store device; and the numbers of the sessions that run
 pub record EngineView (L D C : Type 0) : Type 0 where
   pub tablet : View C
   pub log : SideView L
@@ -27,7 +27,7 @@ pub record EngineView (L D C : Type 0) : Type 0 where
   pub records : List Entry
   pub device : L
   pub store : D
-  pub running : ℕ
+  pub running : List ℕ
 
 -- opening found this past: its store shows it, and the log held it
 pub record IsContent {L D C : Type 0} (view : EngineView L D C) (first : Past) : Type 0 where

@@ -1,5 +1,5 @@
 -- A visit of a pass to an engine: what the lock asks of the value that is put back.
-use Rattle.std.specs.Prelude.{◌==◌, ℕ, List, Option, Some, None, if◌then◌else◌}
+use Rattle.std.specs.Prelude.{◌==◌, ℕ, Bool, List, Option, Some, None, if◌then◌else◌}
 use Rattle.kt_history.specs.declared.event.Event.{Event}
 use Rattle.kt_history.specs.declared.event.Event.TheVariants as event
 use Rattle.kt_records.specs.declared.entry.Entry.{Entry}
@@ -11,6 +11,7 @@ use Rattle.kt_histlaws.specs.Histories.{Store}
 use Rattle.kt_histlaws.specs.Parts.{SessionPart, part}
 use Rattle.kt_engine.specs.Logged.{place_of}
 use Rattle.kt_engine.specs.Engines.{EngineView}
+use Rattle.kt_engine.specs.Sessions.{runs}
 
 -- the session of a line, if it has one
 abbrev pub session_of : Event → Option ℕ
@@ -30,15 +31,16 @@ abbrev pub out_of : Option ℕ → List Entry → ℕ → Option (List Entry)
 out_of None out n = None
 out_of (Some by) out n = if by == n then Some out else None
 
--- What an engine has of one pass: its flying write and where its session stands, the place of that write's REPLICATE, and the records
--- that it has out.
+-- What an engine has of one pass: its flying write and where its session stands, the place of that write's REPLICATE, the records
+-- that it has out, and whether its session runs.
 pub record PassPart : Type 0 where
   pub session : SessionPart
   pub place : Option ℕ
   pub out : Option (List Entry)
+  pub runs : Bool
 
 abbrev pub part_of : {L D C : Type 0} → EngineView L D C → ℕ → PassPart
-part_of view n = record { session = part view.tablet.core n; place = place_of n view.places; out = out_of view.log.holder view.log.out n }
+part_of view n = record { session = part view.tablet.core n; place = place_of n view.places; out = out_of view.log.holder view.log.out n; runs = runs n view.running }
 
 -- What is alike in every part and never changes while passes visit: what is to be run, and what opening found.
 pub record Root (L D C : Type 0) : Type 0 where

@@ -10,9 +10,11 @@ ghost use Rattle.kt_loglaws.specs.Fronts.{AllTold, with_records};
 ghost use Rattle.kt_tablet.specs.Views.{IsSound, IsExact, Opens};
 ghost use Rattle.std.specs.List.{All};
 ghost use Rattle.kt_loglaws.specs.Side.{all_of};
+ghost use Rattle.kt_engine.specs.Sessions.{numbers_of};
 ghost use Rattle.kt_engine.specs.Logged.{Recalls, IsPlaced, IsThere, NamesOnly};
 ghost use Rattle.kt_engine.specs.Engines.{EngineView, IsContent, IsEngine, IsLogged, IsHome, KeepsOthers, Recovers, RecoversEach, RecoversAll};
 
+use crate::running::Running;
 use kt_base::Clock;
 use kt_disk::Disk;
 use kt_history::{EventList, Plan};
@@ -33,8 +35,7 @@ pub struct Engine<L: Disk, D, C: Clock> {
     pub(crate) store: D,
     // the session and the place of the REPLICATE of each flying write
     pub(crate) places: Vec<(u32, u64)>,
-    // how many sessions run
-    pub(crate) running: usize,
+    pub(crate) running: Running,
     pub(crate) records: Snapshot<RecordList>,
     pub(crate) device: Snapshot<L>,
 }
@@ -91,17 +92,20 @@ impl<L: Disk, D, C: Clock> Engine<L, D, C> {
           records = records.now;
           device = device.value;
           store = store;
-          running = 0;
+          running = [];
         }) }
         ensures back { IfErr result (λ e. (e.0 ≡ tablet) × (e.1 ≡ journal) × (e.2 ≡ store)) }
     {
+        let Ok(running) = Running::new(alloc) else {
+            return Err((tablet, journal, store));
+        };
         match LogSide::of(alloc, journal, queued) {
             Ok(log) => Ok(Engine {
                 tablet,
                 log,
                 store,
                 places: Vec::new(alloc),
-                running: 0,
+                running,
                 records: Snapshot::of(records),
                 device,
             }),
@@ -109,15 +113,15 @@ impl<L: Disk, D, C: Clock> Engine<L, D, C> {
         }
     }
 
-    /// Takes the plan of the run: as many sessions run as it has. It takes no memory.
+    /// Takes the plan of the run: all of its sessions run. It takes no memory.
     pub fn set_plan(&mut self, plan: &Plan)
         requires fresh { (self.old.tablet.core.trail ≡ []) × (self.old.tablet.core.aloft ≡ []) × (self.old.tablet.core.stopped ≡ false) }
         requires few { length plan.now ≤ 64 }
         requires planned { HasDifferentKeys (record self.old.tablet.core.work { plan = plan.now }) }
-        ensures { self.new ≡ record self.old { tablet = record self.old.tablet { core = record self.old.tablet.core { work = record self.old.tablet.core.work { plan = plan.now }; turns = first_turns plan.now } }; running = length plan.now } }
+        ensures { self.new ≡ record self.old { tablet = record self.old.tablet { core = record self.old.tablet.core { work = record self.old.tablet.core.work { plan = plan.now }; turns = first_turns plan.now } }; running = numbers_of plan.now } }
     {
         self.tablet.set_plan(plan);
-        self.running = plan.len();
+        self.running.begin(plan);
     }
 
     /// Whether the tablet has stopped.

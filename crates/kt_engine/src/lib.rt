@@ -6,6 +6,7 @@
 
 pub mod engine;
 pub mod log;
+mod running;
 pub mod scan;
 pub mod session;
 pub mod shared;
@@ -15,4 +16,4 @@ pub use engine::{Engine, Parts};
 pub use kt_tablet::{BeginNo, LookNo, Snap, SnapNo, SnapView, Stopped};
 pub use log::{Broken, LogNo};
 pub use shared::Part;
-pub use write::WriteDone;
+pub use write::{Draft, WriteDone};

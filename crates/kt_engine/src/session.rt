@@ -1,5 +1,6 @@
 //! Sessions of the run that are over.
-ghost use Rattle.std.specs.Prelude.{◌≡◌, ◌-◌, ◌↔◌, IsTrue};
+ghost use Rattle.std.specs.Prelude.{◌≡◌, ◌↔◌, ◌==◌, [], not, IsTrue};
+ghost use Rattle.std.specs.List.{filter};
 ghost use Rattle.kt_engine.specs.Visits.{IsVisit};
 
 use crate::engine::Engine;
@@ -7,18 +8,18 @@ use kt_base::Clock;
 use kt_disk::Disk;
 
 impl<L: Disk, D, C: Clock> Engine<L, D, C> {
-    /// A session is over: one fewer runs, and at none it stays none.
+    /// A session is over: it does not run any more. Where it ran, one fewer runs.
     pub fn session_over(&mut self, number: u32)
         ensures visit { IsVisit number self.old self.new }
-        ensures running { self.new ≡ record self.old { running = self.old.running - 1 } }
+        ensures running { self.new ≡ record self.old { running = filter (λ k. not (k == number)) self.old.running } }
     {
-        self.running = self.running.saturating_sub(1);
+        self.running.leave(number);
     }
 
     /// Whether no session runs.
     pub fn over(&self) -> bool
-        ensures { IsTrue result ↔ self.now.running ≡ 0 }
+        ensures { IsTrue result ↔ self.now.running ≡ [] }
     {
-        self.running == 0
+        self.running.is_empty()
     }
 }

@@ -1,5 +1,5 @@
 //! The life of a write: it begins, its rows are applied, and it ends.
-ghost use Rattle.std.specs.Prelude.{◌≡◌, ◌≤◌, ℕ, IfOk, IfErr, OnErr, IsOk, IsErr, Err, Some, false, true, ◌∷◌, [], ◌++◌, ◌+◌, ◌<◌, ◌==◌, not, length, map, max, List, OnOk, vec_len, vec_capacity};
+ghost use Rattle.std.specs.Prelude.{◌≡◌, ◌⊎◌, ◌≤◌, ℕ, IfOk, IfErr, OnErr, IsOk, IsErr, Err, Some, false, true, ◌∷◌, [], ◌++◌, ◌+◌, ◌<◌, ◌==◌, not, length, map, max, List, OnOk, vec_len, vec_capacity};
 ghost use Rattle.std.specs.List.{filter};
 ghost use Rattle.kt_history.specs.History.{Past};
 ghost use Rattle.kt_records.specs.declared.entry.CommitRow.{CommitRow};
@@ -7,7 +7,7 @@ ghost use Rattle.kt_pool.specs.Contents.{with_reserved};
 ghost use Rattle.kt_history.specs.Operations.{need};
 ghost use Rattle.kt_tablet.specs.Rows.{commit_row};
 ghost use Rattle.kt_tablet.specs.Views.{unpromised};
-ghost use Rattle.kt_tablet.specs.Visits.{MayBegin, HasBegun, IsUnhindered, IsRefused, Leaves, MayApply, HasApplied, IsRunOutcome, MayEnd, HasEnded, IsDone};
+ghost use Rattle.kt_tablet.specs.Visits.{MayBegin, HasBegun, IsUnhindered, IsRefused, Leaves, MayApply, HasApplied, IsRunOutcome, MayEnd, HasEnded, IsDone, HeldBy};
 ghost use Rattle.kt_engine.specs.Logged.{IsShort, place_of};
 ghost use Rattle.kt_engine.specs.Engines.{IsContent, core_from};
 ghost use Rattle.kt_engine.specs.Visits.{IsVisit};
@@ -17,15 +17,29 @@ use kt_base::{Clock, NoMemory};
 use kt_disk::Disk;
 use kt_history::{OpList, Outcome, OutcomeList, RowOp, Write};
 use kt_loglaws::LogSide;
+use kt_mvcc::KeyList;
 use kt_records::Entry;
-use kt_tablet::{BeginNo, Stopped, WriteEnd};
+use kt_tablet::{BeginNo, NewWrite, Stopped, WriteEnd};
 use std::alloc::Global;
+use std::mem;
 
-/// A write that has ended: its timestamp, and what became of its operations.
+/// A write that has ended: its timestamp, and what became of its operations. What it held comes back beside that, so that
+/// its memory is freed once the engine is put back.
 #[derive(Debug, Drop)]
 pub struct WriteDone {
     pub ts: u64,
     pub outcomes: OutcomeList,
+    pub ops: OpList,
+    pub keys: KeyList,
+}
+
+/// A write made ready before a visit, so that the visit copies nothing: what the tablet takes, and the operations once
+/// more for the log.
+#[derive(Debug, Drop)]
+pub struct Draft {
+    pub write: NewWrite,
+    pub logged: OpList,
+    pub ghost alike: { logged ≡ write.ops },
 }
 
 // A copy of the operations of a write.
@@ -68,9 +82,63 @@ fn forget(places: &mut Vec<(u32, u64)>, number: u32)
     places.retain(|place| place.0 != number);
 }
 
+impl Draft {
+    /// Two copies of the operations of a write, and what else can be made before it begins.
+    pub fn of(alloc: Global, write: &Write) -> Result<Draft, NoMemory>
+        ensures { IfOk result (λ draft. draft.write.ops ≡ write.now.ops) }
+    {
+        let logged = copy_of(alloc, &write.ops)?;
+        let write = NewWrite::of(alloc, copy_of(alloc, &write.ops)?)?;
+        Ok(Draft { write, logged })
+    }
+}
+
 impl<L: Disk, D, C: Clock> Engine<L, D, C> {
-    /// Begins a write: it flies at the timestamp, and its REPLICATE is queued. It then holds its keys, its cells, and
-    /// room for its end, so that it is not refused any more.
+    /// Begins a write that was made ready: it flies at the timestamp, and its REPLICATE is queued. It then holds its keys,
+    /// its cells, and room for its end, so that it is not refused any more. Nothing is copied. What was made ready is
+    /// taken where the write begins, and stays for another visit where it does not. Memory is wanting only once nothing
+    /// else stands in its way, or for the line of a write that is too large.
+    pub fn begin_draft(
+        &mut self,
+        alloc: Global,
+        number: u32,
+        index: u32,
+        draft: &mut Draft,
+    ) -> Result<u64, BeginNo>
+        requires { self.old.tablet.core.stopped ≡ false → MayBegin self.old.tablet.core number index draft.old.write.ops × IsShort draft.old.write.ops }
+        ensures visit { IsVisit number self.old self.new }
+        ensures begun { IfOk result (λ ts. HasBegun self.old.tablet.core self.new.tablet.core number index draft.old.write.ops ts) }
+        ensures free { OnOk result (IsUnhindered self.old.tablet draft.old.write.ops) }
+        ensures promised { OnOk result (self.new.tablet.pool ≡ with_reserved self.old.tablet.pool (self.old.tablet.pool.reserved + need draft.old.write.ops)) }
+        ensures queued { IfOk result (λ ts. self.new.log ≡ record self.old.log { queued = self.old.log.queued ++ Entry.Replicate ts draft.old.write.ops ∷ []; room = self.new.log.room }) }
+        ensures clock { self.new.tablet ≡ record self.old.tablet { core = self.new.tablet.core; clock = self.new.tablet.clock; pool = self.new.tablet.pool } }
+        ensures beside { self.new ≡ record self.old { tablet = self.new.tablet; log = self.new.log; places = self.new.places } }
+        ensures bound { self.new.log.room ≤ max self.old.log.room (length self.old.places + 2) }
+        ensures stopped { self.old.tablet.core.stopped ≡ true → result ≡ Err BeginNo.Stopped }
+        ensures refused { IfErr result (IsRefused self.old.tablet draft.old.write.ops) }
+        ensures left { IfErr result (Leaves self.old.tablet self.new.tablet number index) }
+        ensures untouched { IfErr result (λ _. self.new.tablet ≡ record self.old.tablet { core = self.new.tablet.core }) }
+        ensures waits { OnErr result ((self.new.places ≡ self.old.places) × (self.new.log ≡ record self.old.log { room = self.new.log.room })) }
+        ensures kept { OnErr result (draft.new.write.ops ≡ draft.old.write.ops) }
+        ensures memory { result ≡ Err BeginNo.Memory → (self.old.tablet.core.work.cells < need draft.old.write.ops) ⊎ IsUnhindered self.old.tablet draft.old.write.ops }
+    {
+        self.tablet.ask(number, index, &draft.write)?;
+        let Ok(()) = make_room(&mut self.log, &mut self.places) else {
+            return Err(BeginNo::Memory);
+        };
+        let Ok(ts) = self
+            .tablet
+            .begin_free(alloc, number, index, &mut draft.write)
+        else {
+            return Err(BeginNo::Memory);
+        };
+        let logged = mem::replace(&mut draft.logged, OpList::of(Vec::new(alloc)));
+        let place = self.log.push(Entry::Replicate { ts, ops: logged });
+        self.places.push_reserved((number, place));
+        Ok(ts)
+    }
+
+    /// Begins a write, and copies its operations for that.
     pub fn begin(
         &mut self,
         alloc: Global,
@@ -96,19 +164,10 @@ impl<L: Disk, D, C: Clock> Engine<L, D, C> {
         if self.tablet.is_stopped() {
             return Err(BeginNo::Stopped);
         }
-        let Ok(logged) = copy_of(alloc, &write.ops) else {
+        let Ok(mut draft) = Draft::of(alloc, write) else {
             return Err(BeginNo::Memory);
         };
-        let Ok(ops) = copy_of(alloc, &write.ops) else {
-            return Err(BeginNo::Memory);
-        };
-        let Ok(()) = make_room(&mut self.log, &mut self.places) else {
-            return Err(BeginNo::Memory);
-        };
-        let ts = self.tablet.begin(alloc, number, index, ops)?;
-        let place = self.log.push(Entry::Replicate { ts, ops: logged });
-        self.places.push_reserved((number, place));
-        Ok(ts)
+        self.begin_draft(alloc, number, index, &mut draft)
     }
 
     /// Applies the next row of the flying write of a session, whose REPLICATE is durable. It takes no memory, and no cell
@@ -135,6 +194,7 @@ impl<L: Disk, D, C: Clock> Engine<L, D, C> {
         ensures visit { IsVisit number self.old self.new }
         ensures ended { IfOk result (λ done. (index : ℕ) × HasEnded self.old.tablet.core self.new.tablet.core number index done.ts) }
         ensures told { IfOk result (λ done. (first : Past) → IsContent self.old first → (rows : List CommitRow) × IsDone (core_from self.old first) self.old.tablet.target number done.outcomes rows) }
+        ensures held { IfOk result (λ done. HeldBy self.old.tablet.core number done.ops done.keys) }
         ensures queued { IfOk result (λ done. self.new.log ≡ record self.old.log { queued = self.old.log.queued ++ Entry.Commit done.ts (map (commit_row self.old.tablet.target) done.outcomes) ∷ []; room = self.new.log.room }) }
         ensures clock { self.new.tablet ≡ record self.old.tablet { core = self.new.tablet.core } }
         ensures beside { self.new ≡ record self.old { tablet = self.new.tablet; log = self.new.log; places = self.new.places } }
@@ -147,9 +207,16 @@ impl<L: Disk, D, C: Clock> Engine<L, D, C> {
             ts,
             outcomes,
             rows,
+            ops,
+            keys,
         } = self.tablet.end(number)?;
         self.log.push(Entry::Commit { ts, rows });
         forget(&mut self.places, number);
-        Ok(WriteDone { ts, outcomes })
+        Ok(WriteDone {
+            ts,
+            outcomes,
+            ops,
+            keys,
+        })
     }
 }

@@ -1,10 +1,11 @@
 //! The clock and the flying writes of a tablet.
 ghost use Rattle.std.specs.Prelude.{◌≡◌, ◌+◌, ◌-◌, ◌^◌, ◌<◌, ◌≤◌, ◌++◌, ◌∷◌, [], min, max, not, false, true, IfOk, IfErr, OnOk, OnErr, Option, Some, None, ◌==◌};
-ghost use Rattle.std.specs.List.{All, filter};
+ghost use Rattle.std.specs.List.{All, filter, find, position};
 ghost use Rattle.std.specs.Result.{result_err};
 ghost use Rattle.kt_history.specs.Machine.{next_timestamp, clean_below};
 ghost use Rattle.kt_mvcc.specs.Flying.{least_of, holder, flies};
 ghost use Rattle.kt_mvcc.specs.Held.{Tells, KeepsOthers, Lacks, Stood, HasLeft};
+ghost use Rattle.kt_mvcc.specs.declared.flier.Flier.{Flier};
 ghost use Rattle.kt_mvcc.specs.Waits.{IsRefused, lesser_of};
 
 use crate::flier::{Flier, KeyList, share_key};
@@ -120,6 +121,25 @@ fn release(held: &mut Held, flying: &[Flier], who: u32)
     }
 }
 
+// Where a flying write of a writer stands first, if there is one.
+fn find_place(flying: &[Flier], who: u32) -> Option<usize>
+    ensures { result ≡ position (λ f. f.who == who) flying.now }
+{
+    flying.iter().position(|flier| flier.who == who)
+}
+
+// Takes the first flying write of a writer out.
+fn take_first(flying: &mut Vec<Flier>, who: u32) -> Flier
+    requires { flies who flying.old.items ≡ true }
+    ensures first { find (λ f. f.who == who) flying.old.items ≡ Some result }
+    ensures others { filter (λ f. not (f.who == who)) flying.new.items ≡ filter (λ f. not (f.who == who)) flying.old.items }
+{
+    match find_place(flying, who) {
+        Some(place) => flying.remove(place),
+        None => unreachable!(),
+    }
+}
+
 impl Flight {
     /// A clock under which nothing flies.
     pub fn new(alloc: Global, c: u64, a: u64) -> Flight
@@ -222,11 +242,24 @@ impl Flight {
         ensures mark { self.new.a ≡ self.old.a }
         ensures flying { self.new.flying ≡ filter (λ f. not (f.who == who)) self.old.flying }
     {
+        let _ = self.take(who);
+    }
+
+    /// Ends a write, and gives back the keys that it held, so that the caller chooses when their memory is freed.
+    pub fn take(&mut self, who: u32) -> KeyList
+        requires { flies who self.old.flying ≡ true }
+        ensures last { self.new.c ≡ self.old.c }
+        ensures mark { self.new.a ≡ self.old.a }
+        ensures flying { self.new.flying ≡ filter (λ f. not (f.who == who)) self.old.flying }
+        ensures keys { (f : Flier) → find (λ f. f.who == who) self.old.flying ≡ Some f → result ≡ f.keys }
+    {
         release(&mut self.held, &self.flying, who);
+        let flier = take_first(&mut self.flying, who);
         self.flying.retain(|flier| flier.who != who);
         if self.flying.is_empty() {
             self.held.clear();
         }
+        flier.keys
     }
 
     /// The least flying timestamp.

@@ -1,6 +1,6 @@
 -- The visit that ends a write.
 use Rattle.std.proofs.Common.{◌≡◌, ◌<◌, ◌^◌, ℕ, ◌+◌, ◌-◌, List, [], Option, Some, None, true, false, Bool, refl, sym, ap, ◌∙◌, subst, length, Result, Ok, Err}
-use Rattle.std.specs.Prelude.{◌==◌, IsOk}
+use Rattle.std.specs.Prelude.{◌==◌, not, IsOk}
 use Rattle.std.specs.List.{filter}
 use Rattle.std.proofs.Math.Seq.{drop-length}
 use Rattle.kt_history.specs.declared.command.Command.TheVariants as command
@@ -20,8 +20,10 @@ use Rattle.kt_histlaws.specs.Pending.{Aloft}
 use Rattle.kt_tablet.specs.Visits.{MayEnd, HasEnded, IsDone, flight_of}
 use Rattle.kt_seatlock.specs.Trails.{Follows}
 use Rattle.kt_engine.specs.Engines.{EngineView, IsContent, core_from}
+use Rattle.kt_engine.specs.Sessions.{runs}
+use Rattle.kt_engine.proofs.Sessions.{runs_none}
 use Rattle.kt_engine.specs.Visits.{PartView, part_in, session_of, out_of, root_of, IsVisit}
-use Rattle.kt_serve.specs.Sessions.{IsAloft, HasNoLog, IsCommand, IsFree, OnRoot, AnswersOne, IsQuiet, has_stop}
+use Rattle.kt_serve.specs.Sessions.{IsAloft, HasNoLog, HasLeft, IsCommand, IsFree, OnRoot, AnswersOne, IsQuiet, has_stop}
 use Rattle.kt_serve.proofs.Lines.{is_mine}
 use Rattle.kt_serve.proofs.Flights.{found_flight, none_left, is_over}
 use Rattle.kt_serve.proofs.Begins.{has_root, line_answers, some_is, stop_seen}
@@ -80,6 +82,10 @@ module _ {L D C : Type 0} where
   -- the log is where it was
   pub log_stays : (told told' : Option (PartView L D C)) (x y : EngineView L D C) (n n' : ℕ) → told ≡ Some (part_in x n) → told' ≡ Some (part_in y n') → n' ≡ n → HasNoLog told → y.log.holder ≡ x.log.holder → y.log.out ≡ x.log.out → HasNoLog told'
   log_stays told told' x y n n' was is same h holds out = record { part = part_in y n'; is = is; home = (λ t. out_of (holds t) (out t) (same t)) ∙ own_home told x n was h }
+
+  -- the session of the pass does not run any more
+  pub has_left : (told : Option (PartView L D C)) (x y : EngineView L D C) (by n : ℕ) → told ≡ Some (part_in y n) → n ≡ by → y.running ≡ filter (λ k. not (k == by)) x.running → HasLeft told
+  has_left told x y by n is me fewer = record { part = part_in y n; is = is; over = (λ t. runs (me t) (fewer t)) ∙ runs_none x.running by }
 
   pub after_stop : (told told' : Option (PartView L D C)) (seen seen' : List Event) (x y : EngineView L D C) (m n n' : ℕ) (readings : C → Option (List ℕ)) → told ≡ Some (part_in x n) → told' ≡ Some (part_in y n') → n' ≡ n → Follows session_of n seen x.tablet.core.trail → seen' ≡ y.tablet.core.trail
       → (first : Past) × IsContent x first → IsSound readings x.tablet → IsVisit m x y → y ≡ x → x.tablet.core.stopped ≡ true → (has_stop seen' ≡ true) × OnRoot told (λ root. IsQuiet root n seen seen')

@@ -17,3 +17,4 @@ pub mod Lists
 pub mod Joining
 pub mod Open
 pub mod Closing
+mod Points

@@ -16,7 +16,7 @@ use Rattle.kt_tablet.specs.Views.{IsSound}
 use Rattle.kt_seatlock.specs.Trails.{Follows}
 use Rattle.kt_engine.specs.Engines.{EngineView}
 use Rattle.kt_engine.specs.Visits.{Root, root_of, PartView, part_in, session_of}
-use Rattle.kt_base.specs.declared.refusal.NoMemory.{NoMemory}
+use Rattle.kt_bytes.specs.declared.memory.NoMemory.{NoMemory}
 use Rattle.kt_histlaws.specs.Histories.{or_else}
 use Rattle.kt_serve.specs.Sessions.{Found, told_by, OnRoot, IsGoing, AfterCommand}
 use Rattle.kt_serve.specs.Answered.{IsOpen, IsAnswered}

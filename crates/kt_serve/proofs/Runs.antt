@@ -75,7 +75,7 @@ module _ {L D C : Type 0} where
   }
 
   -- what lines of others leave as it is
-  ended_on : (Came : ℕ → ℕ → Type 0) (root : Root L D C) (s : ℕ) (commands : List Command) (seen trail : List Event) (end : SessionEnd) → HasEnded Came root s commands seen end
+  ended_on : (Came : ℕ → ℕ → Reply → Type 0) (root : Root L D C) (s : ℕ) (commands : List Command) (seen trail : List Event) (end : SessionEnd) → HasEnded Came root s commands seen end
       → IsQuiet root s seen trail → (has_stop seen ≡ true → has_stop trail ≡ true) → HasEnded Came root s commands trail end
   ended_on Came root s commands seen trail end h quiet stops = record {
     tells = λ ne. tells_quiet root s end.replies seen trail (h.tells ne) quiet;
@@ -86,7 +86,7 @@ module _ {L D C : Type 0} where
   }
 
   -- the last visit of a session leaves what it ended with
-  pub left_run : (Came : ℕ → ℕ → Type 0) (a b c : Option (PartView L D C)) (s t : ℕ) (commands : List Command) (xs ys : List Event) (end : SessionEnd) → t ≡ s → HasRunTo Came a b s commands xs end → IsStill t b c xs ys
+  pub left_run : (Came : ℕ → ℕ → Reply → Type 0) (a b c : Option (PartView L D C)) (s t : ℕ) (commands : List Command) (xs ys : List Event) (end : SessionEnd) → t ≡ s → HasRunTo Came a b s commands xs end → IsStill t b c xs ys
       → (HasNoLog b → HasNoLog c) → (has_stop xs ≡ true → has_stop ys ≡ true) → HasRunTo Came a c s commands ys end
   left_run Came a b c s t commands xs ys end same run still log stops = record {
     home = log run.home;
@@ -94,11 +94,11 @@ module _ {L D C : Type 0} where
     ended = λ root h. ended_on Came root s commands xs ys end (run.ended root h) (subst (λ k. IsQuiet root k xs ys) same (still.quiet root (run.root root h))) stops;
   }
 
-  ended_follows : (Came : ℕ → ℕ → Type 0) (root : Root L D C) (s : ℕ) (commands : List Command) (seen trail : List Event) (end : SessionEnd) → HasEnded Came root s commands seen end → Follows session_of s seen trail → HasEnded Came root s commands trail end
+  ended_follows : (Came : ℕ → ℕ → Reply → Type 0) (root : Root L D C) (s : ℕ) (commands : List Command) (seen trail : List Event) (end : SessionEnd) → HasEnded Came root s commands seen end → Follows session_of s seen trail → HasEnded Came root s commands trail end
   ended_follows Came root s commands seen trail end h f = ended_on Came root s commands seen trail end h (follows_quiet root s seen trail f) (λ e. ap has_stop f.1 ∙ stays_stopped seen f.0 e)
 
   -- what a session has ended with over its engine
-  ended_in : (Came : ℕ → ℕ → Type 0) (p q : Option (PartView L D C)) (x : EngineView L D C) (s t n : ℕ) (commands : List Command) (seen trail : List Event) (end : SessionEnd) → p ≡ Some (part_in x n) → s ≡ n → t ≡ s
+  ended_in : (Came : ℕ → ℕ → Reply → Type 0) (p q : Option (PartView L D C)) (x : EngineView L D C) (s t n : ℕ) (commands : List Command) (seen trail : List Event) (end : SessionEnd) → p ≡ Some (part_in x n) → s ≡ n → t ≡ s
       → HasRunTo Came p q s commands seen end → Follows session_of t seen trail → HasEnded Came (root_of x) n commands trail end
   ended_in Came p q x s t n commands seen trail end is me same run follows =
       let own : HasEnded Came (root_of x) s commands seen end = run.ended (root_of x) (has_root p x n is) in
@@ -126,7 +126,7 @@ module _ {L D C : Type 0} where
 
 module _ {L D C : Type 0} {g : Ghosts (EngineView L D C) Event (PartView L D C)} where
   -- each session of the plan ended as it did in its place, and the trail goes on from what its pass had seen by lines of others
-  pub each_ended : (Came : ℕ → ℕ → Type 0) (x : EngineView L D C) (trail : List Event) (plan : List (List Command)) (old new : List (Place (EngineView L D C) Event (PartView L D C) g)) (ends : List SessionEnd) → length old ≡ length plan → ends ≡ map (λ p. p.end) new
+  pub each_ended : (Came : ℕ → ℕ → Reply → Type 0) (x : EngineView L D C) (trail : List Event) (plan : List (List Command)) (old new : List (Place (EngineView L D C) Event (PartView L D C) g)) (ends : List SessionEnd) → length old ≡ length plan → ends ≡ map (λ p. p.end) new
       → ((j : ℕ) (p : Place (EngineView L D C) Event (PartView L D C) g) → slice_get old j ≡ Some p → (part p.pass ≡ Some (part_in x (suc j))) × (number p.pass ≡ suc j))
       → ((j : ℕ) (p : Place (EngineView L D C) Event (PartView L D C) g) → slice_get old j ≡ Some p → (q : Place (EngineView L D C) Event (PartView L D C) g) × (slice_get new j ≡ Some q) × PlaceHasRun Came plan j p q)
       → ((j : ℕ) (q : Place (EngineView L D C) Event (PartView L D C) g) → slice_get new j ≡ Some q → Follows session_of (number q.pass) (seen q.pass) trail)
@@ -144,7 +144,7 @@ module _ {L D C : Type 0} {g : Ghosts (EngineView L D C) Event (PartView L D C)}
       )
 
   -- a pass that has run may be taken in, as it might have been before
-  pub back_each : (Came : ℕ → ℕ → Type 0) (lock : SeatLock (EngineView L D C) Event (PartView L D C)) (plan : List (List Command)) (old new : List (Place (EngineView L D C) Event (PartView L D C) g)) → length new ≡ length old
+  pub back_each : (Came : ℕ → ℕ → Reply → Type 0) (lock : SeatLock (EngineView L D C) Event (PartView L D C)) (plan : List (List Command)) (old new : List (Place (EngineView L D C) Event (PartView L D C) g)) → length new ≡ length old
       → ((j : ℕ) (p : Place (EngineView L D C) Event (PartView L D C) g) → slice_get old j ≡ Some p → MayEnter lock p.pass × (joined p.pass ≡ []) × (given p.pass ≡ 0))
       → ((j : ℕ) (p : Place (EngineView L D C) Event (PartView L D C) g) → slice_get old j ≡ Some p → (q : Place (EngineView L D C) Event (PartView L D C) g) × (slice_get new j ≡ Some q) × PlaceHasRun Came plan j p q)
       → (j : ℕ) (q : Place (EngineView L D C) Event (PartView L D C) g) → slice_get new j ≡ Some q → MayEnter lock q.pass × (joined q.pass ≡ []) × (given q.pass ≡ 0)
@@ -172,7 +172,7 @@ module _ {L D C : Type 0} where
 
 module _ {L D C : Type 0} {g : Ghosts (EngineView L D C) Event (PartView L D C)} where
   -- no session's pass has the log at its end, and none that was not given ever had it
-  pub home_again : (Came : ℕ → ℕ → Type 0) (x y : EngineView L D C) (plan : List (List Command)) (old new : List (Place (EngineView L D C) Event (PartView L D C) g)) → length old ≡ length plan → x.log.holder ≡ None
+  pub home_again : (Came : ℕ → ℕ → Reply → Type 0) (x y : EngineView L D C) (plan : List (List Command)) (old new : List (Place (EngineView L D C) Event (PartView L D C) g)) → length old ≡ length plan → x.log.holder ≡ None
       → ((j : ℕ) (p : Place (EngineView L D C) Event (PartView L D C) g) → slice_get old j ≡ Some p → number p.pass ≡ suc j)
       → ((j : ℕ) (p : Place (EngineView L D C) Event (PartView L D C) g) → slice_get old j ≡ Some p → (q : Place (EngineView L D C) Event (PartView L D C) g) × (slice_get new j ≡ Some q) × PlaceHasRun Came plan j p q)
       → ((j : ℕ) (q : Place (EngineView L D C) Event (PartView L D C) g) → slice_get new j ≡ Some q → part q.pass ≡ Some (part_in y (number q.pass)))
@@ -217,7 +217,7 @@ module _ {L D C : Type 0} where
   ends_stopped x how.Memory ends h = let none = ends.1 in absurd (cc)
 
   -- what all sessions ended with is what the lines tell after it too
-  pub all_after : (Came : ℕ → ℕ → Type 0) (root : Root L D C) (plan : List (List Command)) (x y : EngineView L D C) (ends : List SessionEnd) → AllEnded Came root plan x.tablet.core.trail ends → MayHalt x y → AllEnded Came root plan y.tablet.core.trail ends
+  pub all_after : (Came : ℕ → ℕ → Reply → Type 0) (root : Root L D C) (plan : List (List Command)) (x y : EngineView L D C) (ends : List SessionEnd) → AllEnded Came root plan x.tablet.core.trail ends → MayHalt x y → AllEnded Came root plan y.tablet.core.trail ends
   all_after Came root plan x y ends all may = record {
     count = all.count;
     each = λ s commands e. let has = all.each s commands e in (has.0, has.1, ended_on Came root s commands x.tablet.core.trail y.tablet.core.trail has.0 has.2 (halt_quiet root s x y may) (halt_stops x y may));
@@ -225,7 +225,7 @@ module _ {L D C : Type 0} where
   }
 
   -- a session that a failed device halted is in a run that ended so
-  pub halts_end : (Came : ℕ → ℕ → Type 0) (root : Root L D C) (plan : List (List Command)) (x : EngineView L D C) (ends : List SessionEnd) (e : End) → AllEnded Came root plan x.tablet.core.trail ends → EndsAs x e
+  pub halts_end : (Came : ℕ → ℕ → Reply → Type 0) (root : Root L D C) (plan : List (List Command)) (x : EngineView L D C) (ends : List SessionEnd) (e : End) → AllEnded Came root plan x.tablet.core.trail ends → EndsAs x e
       → (s : ℕ) (end : SessionEnd) → nth ends s ≡ Some end → end.halt ≡ Some halt.Stopped → e ≡ how.Stopped
   halts_end Came root plan x ends e all closes zero end at h = absurd (cc)
   halts_end Came root plan x ends e all closes (suc j) end at h =
@@ -235,7 +235,7 @@ module _ {L D C : Type 0} where
       ends_stopped x e closes (has.2.stopped (ap (λ (q : SessionEnd). q.halt) is ∙ h))
 
   -- where no session met want of memory, the lines tell each session the replies that it has, and no other
-  pub all_told : (Came : ℕ → ℕ → Type 0) (root : Root L D C) (plan : List (List Command)) (lines : List Event) (ends : List SessionEnd) → AllEnded Came root plan lines ends
+  pub all_told : (Came : ℕ → ℕ → Reply → Type 0) (root : Root L D C) (plan : List (List Command)) (lines : List Event) (ends : List SessionEnd) → AllEnded Came root plan lines ends
       → ((s : ℕ) (end : SessionEnd) → nth ends s ≡ Some end → end.halt ≡ Some halt.Memory → ⊥)
       → (first : Past) → Found root first → (s k : ℕ) → told_by root first lines s k ≡ reply_of_end (nth ends s) k
   all_told Came root plan lines ends all kept first found s k =

@@ -21,6 +21,7 @@ use Rattle.kt_loglaws.specs.contracts.side.LogSide as LogSide
 use Rattle.kt_loglaws.specs.contracts.side.LogSide.TheInside as Side
 use Rattle.kt_engine.specs.contracts.engine.Engine as Engine
 use Rattle.kt_engine.specs.contracts.engine.Engine.TheInside as Within
+use Rattle.kt_engine.proofs.running.Running.TheSendSync as running
 use Rattle.kt_memrowset.proofs.store.MemRowSet.TheSendSync as rows
 use Rattle.kt_seatlock.proofs.lock.SeatLock.TheSendSync as lock
 use Rattle.kt_history.specs.contracts.event.Event as Event
@@ -70,7 +71,7 @@ module _ (L : RattleType) (g : Disk.Ghosts L.Denot) where
 module _ (L D C : RattleType) (g : Disk.Ghosts L.Denot) (h : Clock.Ghosts C.Denot) where
   pub engine_send : IsSend L → IsSend D → IsSend C → IsSend (Engine.the_row L D C g h)
   engine_send l d c = view_send (Within.the_row L D C g h) _ _ _ _ (recorded_send (Within.the_field L D C g h).row _ _ (Within.the_type L D C g h).to_one (struct_send (shape (Within.the_type L D C g h))
-      (tablet_send _ C ghosts h rows.the_send c, (side_send L g l, (d, (search (sendable, crosses) depth 20, (plain_send _ _ _ _ _, (search (sendable, crosses), (search (sendable, crosses), tt)))))))))
+      (tablet_send _ C ghosts h rows.the_send c, (side_send L g l, (d, (search (sendable, crosses) depth 20, (running.the_send, (search (sendable, crosses), (search (sendable, crosses), tt)))))))))
 
   pub shared_sync : IsSend L → IsSend D → IsSend C → IsSync (SharedTablet.the_row L D C g h)
   shared_sync l d c = recorded_sync (SharedTablet.the_field L D C g h).row _ _ (SharedTablet.the_type L D C g h).to_one (struct_sync (shape (SharedTablet.the_type L D C g h)) (lock.the_field_sync (Engine.the_row L D C g h) Event.the_row (Part.the_row L D C g h) _ (engine_send l d c), tt))

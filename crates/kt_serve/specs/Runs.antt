@@ -11,28 +11,29 @@ use Rattle.kt_engine.specs.Visits.{Root, PartView}
 use Rattle.kt_serve.specs.declared.places.Place.{Place}
 use Rattle.kt_serve.specs.declared.log.Halt.TheVariants as halt
 use Rattle.kt_serve.specs.declared.session.SessionEnd.{SessionEnd}
-use Rattle.kt_serve.specs.Sessions.{TellsOwn, SameRoot, OnRoot, HasNoLog, CanRun, has_stop}
+use Rattle.kt_serve.specs.Sessions.{TellsOwn, SameRoot, OnRoot, HasNoLog, HasLeft, CanRun, has_stop}
 use Rattle.kt_serve.specs.Scans.{TellsBut}
 
 -- A session of these commands has ended so: the lines tell it its replies and no other, but maybe one to the command that met want
 -- of memory. It has a reply to each command unless something halted it; where a failed device did, the lines have a `stop` line. For
 -- each reply the run came to the command's points.
-pub record HasEnded {L D C : Type 0} (Came : ℕ → ℕ → Type 0) (root : Root L D C) (s : ℕ) (commands : List Command) (lines : List Event) (end : SessionEnd) : Type 0 where
+pub record HasEnded {L D C : Type 0} (Came : ℕ → ℕ → Reply → Type 0) (root : Root L D C) (s : ℕ) (commands : List Command) (lines : List Event) (end : SessionEnd) : Type 0 where
   pub tells : end.halt ≢ Some halt.Memory → TellsOwn root s end.replies lines
   pub lost : end.halt ≡ Some halt.Memory → TellsBut root s end.replies lines
   pub all : end.halt ≡ None → length end.replies ≡ length commands
   pub stopped : end.halt ≡ Some halt.Stopped → has_stop lines ≡ true
-  pub points : (k : ℕ) → k < length end.replies → Came s (k + 1)
+  pub points : (k : ℕ) (reply : Reply) → nth end.replies k ≡ Some reply → Came s k reply
 
 -- and its pass does not have the log, and tells what it told of the root
-pub record HasRunTo {L D C : Type 0} (Came : ℕ → ℕ → Type 0) (old new : Option (PartView L D C)) (s : ℕ) (commands : List Command) (lines : List Event) (end : SessionEnd) : Type 0 where
+pub record HasRunTo {L D C : Type 0} (Came : ℕ → ℕ → Reply → Type 0) (old new : Option (PartView L D C)) (s : ℕ) (commands : List Command) (lines : List Event) (end : SessionEnd) : Type 0 where
   pub home : HasNoLog new
   pub root : SameRoot old new
   pub ended : OnRoot old (λ root. HasEnded Came root s commands lines end)
 
--- the session of this place has run to its end, and its pass is outside again
-pub record PlaceHasRun {L D C : Type 0} {g : Ghosts (EngineView L D C) Event (PartView L D C)} (Came : ℕ → ℕ → Type 0) (plan : List (List Command)) (at : ℕ) (old new : Place (EngineView L D C) Event (PartView L D C) g) : Type 0 where
+-- the session of this place has run to its end and does not run any more, and its pass is outside again
+pub record PlaceHasRun {L D C : Type 0} {g : Ghosts (EngineView L D C) Event (PartView L D C)} (Came : ℕ → ℕ → Reply → Type 0) (plan : List (List Command)) (at : ℕ) (old new : Place (EngineView L D C) Event (PartView L D C) g) : Type 0 where
   pub back : IsBack old.pass new.pass
+  pub left : HasLeft (part new.pass)
   pub run : (commands : List Command) → slice_get plan at ≡ Some commands → HasRunTo Came (part old.pass) (part new.pass) (number old.pass) commands (seen new.pass) new.end
 
 -- each command of each session can be run
@@ -41,7 +42,7 @@ pub record PlanRuns (plan : List (List Command)) : Type 0 where
   pub few : (j : ℕ) (commands : List Command) → slice_get plan j ≡ Some commands → length commands < 2 ^ 31
 
 -- each session of the plan has ended so, in the order of their numbers, and the lines tell no other session a reply
-pub record AllEnded {L D C : Type 0} (Came : ℕ → ℕ → Type 0) (root : Root L D C) (plan : List (List Command)) (lines : List Event) (ends : List SessionEnd) : Type 0 where
+pub record AllEnded {L D C : Type 0} (Came : ℕ → ℕ → Reply → Type 0) (root : Root L D C) (plan : List (List Command)) (lines : List Event) (ends : List SessionEnd) : Type 0 where
   pub count : length ends ≡ length plan
   pub each : (s : ℕ) (commands : List Command) → nth plan s ≡ Some commands → (end : SessionEnd) × (nth ends s ≡ Some end) × HasEnded Came root s commands lines end
   pub others : (s : ℕ) → nth plan s ≡ None → TellsOwn root s [] lines

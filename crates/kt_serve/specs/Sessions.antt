@@ -20,7 +20,7 @@ use Rattle.kt_histlaws.specs.Pending.{Aloft}
 use Rattle.kt_histlaws.specs.Events.{advance}
 use Rattle.kt_serve.specs.declared.rows.RowTurn.{RowTurn}
 use Rattle.kt_serve.specs.declared.rows.RowTurn.TheVariants as row
-use Rattle.kt_base.specs.declared.refusal.NoMemory.{NoMemory}
+use Rattle.kt_bytes.specs.declared.memory.NoMemory.{NoMemory}
 use Rattle.kt_engine.specs.Engines.{EngineView}
 use Rattle.kt_tablet.specs.Views.{Opens}
 use Rattle.kt_tablet.specs.declared.tablet.write.BeginNo.{BeginNo}
@@ -91,6 +91,12 @@ pub record HasNoLog {L D C : Type 0} (told : Option (PartView L D C)) : Type 0 w
   pub part : PartView L D C
   pub is : told ≡ Some part
   pub home : part.pass.out ≡ None
+
+-- The session of the pass does not run any more.
+pub record HasLeft {L D C : Type 0} (told : Option (PartView L D C)) : Type 0 where
+  pub part : PartView L D C
+  pub is : told ≡ Some part
+  pub over : part.pass.runs ≡ false
 
 -- The pass has the log, as it went out with these records.
 pub record HasLog {L D C : Type 0} (told : Option (PartView L D C)) (journal : JournalView L) (records : List Entry) : Type 0 where

@@ -8,8 +8,7 @@ ghost use Rattle.kt_serve.specs.Sessions.{IsAloft, HasNoLog, IsWritten, IsGoing,
 use crate::log::{Halt, make_durable};
 use kt_base::Clock;
 use kt_disk::Disk;
-use kt_engine::write::WriteDone;
-use kt_engine::{Engine, Stopped};
+use kt_engine::{Engine, Stopped, WriteDone};
 use kt_history::{Reply, RowOp};
 use kt_seatlock::{Pass, SeatLock};
 use std::alloc::Global;
@@ -136,7 +135,7 @@ pub fn end_write<L: Disk, D, C: Clock, R: Wait>(
     let ended = engine.end(by);
     lock.leave(pass, engine);
     match ended {
-        Ok(WriteDone { ts, outcomes }) => Reply::At { ts, outcomes },
+        Ok(WriteDone { ts, outcomes, .. }) => Reply::At { ts, outcomes },
         Err(Stopped) => Reply::Stopped,
     }
 }

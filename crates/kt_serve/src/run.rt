@@ -5,7 +5,7 @@ ghost use Rattle.kt_seatlock.specs.Passes.{number, seen, part, given, passes_of,
 ghost use Rattle.kt_engine.specs.Visits.{root_of};
 ghost use Rattle.kt_serve.specs.Points.{CameTo};
 ghost use Rattle.kt_serve.specs.Scans.{IsOn};
-ghost use Rattle.kt_serve.specs.Sessions.{OnRoot, IsFresh, MayRun};
+ghost use Rattle.kt_serve.specs.Sessions.{OnRoot, HasLeft, IsFresh, MayRun};
 ghost use Rattle.kt_serve.specs.Closing.{EndsAs};
 ghost use Rattle.kt_serve.specs.Runs.{HasRunTo, PlaceHasRun, PlanRuns, AllEnded};
 
@@ -58,6 +58,7 @@ fn run_and_leave<L: Disk, D, C: Clock, R: Wait, G: Gate>(
     requires on { OnRoot (part place.old.pass) (λ root. IsOn schema.now root.work) }
     requires runs { MayRun (part place.old.pass) (seen place.old.pass) (number place.old.pass) commands.now }
     ensures pass { IsBack place.old.pass place.new.pass }
+    ensures left { HasLeft (part place.new.pass) }
     ensures run { HasRunTo (CameTo G.came gate.now) (part place.old.pass) (part place.new.pass) (number place.old.pass) commands.now (seen place.new.pass) place.new.end }
 {
     run_one(rt, alloc, schema, tablet, commands, gate, place);

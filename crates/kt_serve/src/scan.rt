@@ -1,5 +1,6 @@
 //! A scan: the visits that draw its time and read a snapshot, and its rows, which are made from that outside the lock.
-ghost use Rattle.std.specs.Prelude.{◌≡◌, ◌≢◌, ◌<◌, ◌+◌, ◌^◌, IfOk, OnOk, OnErr, Err, true};
+ghost use Rattle.std.specs.Prelude.{◌≡◌, ◌≢◌, ◌<◌, ◌+◌, ◌^◌, ℕ, List, IfOk, OnOk, OnErr, Ok, Err, true};
+ghost use Rattle.kt_history.specs.declared.change.Outcome.{Outcome};
 ghost use Rattle.kt_history.specs.declared.command.Command.{Command};
 ghost use Rattle.kt_history.specs.declared.scan.At.TheVariants.{Looked};
 ghost use Rattle.kt_seatlock.specs.Passes.{number, seen, part, MayEnter, IsBack};
@@ -111,6 +112,7 @@ fn read_once<L: Disk, D, C: Clock, R: Wait>(
     ensures home { HasNoLog (part pass.new) }
     ensures root { SameRoot (part pass.old) (part pass.new) }
     ensures open { OnRoot (part pass.old) (λ root. IsOpen root (number pass.old) index (seen pass.old)) }
+    ensures unwritten { (ts : ℕ) (outcomes : List Outcome) → result ≢ ScanTurn.Told (Reply.At ts outcomes) }
     ensures read { AfterRead (part pass.old) (part pass.new) (seen pass.old) (seen pass.new) (number pass.old) index at result }
 {
     let by = pass.number();
@@ -141,6 +143,7 @@ fn read_rows<L: Disk, D, C: Clock, R: Wait>(
     ensures root { SameRoot (part pass.old) (part pass.new) }
     ensures open { OnOk result (OnRoot (part pass.old) (λ root. IsOpen root (number pass.old) index (seen pass.old))) }
     ensures reply { IfOk result (λ reply. AfterCommand (part pass.old) (part pass.new) (seen pass.old) (seen pass.new) (number pass.old) index reply) }
+    ensures unwritten { (ts : ℕ) (outcomes : List Outcome) → result ≢ Ok (Reply.At ts outcomes) }
     ensures memory { OnErr result (LacksReply (number pass.old) index (part pass.old) (part pass.new) (seen pass.old) (seen pass.new)) }
 {
     for _ in rt.forever() {
@@ -186,6 +189,7 @@ impl<L: Disk, D, C: Clock> SharedTablet<L, D, C> {
         ensures root { SameRoot (part pass.old) (part pass.new) }
         ensures reply { IfOk result (λ reply. AfterCommand (part pass.old) (part pass.new) (seen pass.old) (seen pass.new) (number pass.old) index reply) }
         ensures answer { IfOk result (λ reply. reply ≢ Reply.Stopped → OnRoot (part pass.old) (λ root. IsAnswered root (number pass.old) index reply (seen pass.new))) }
+        ensures unwritten { (ts : ℕ) (outcomes : List Outcome) → result ≢ Ok (Reply.At ts outcomes) }
         ensures memory { OnErr result (LacksReply (number pass.old) index (part pass.old) (part pass.new) (seen pass.old) (seen pass.new)) }
     {
         match draw_time(rt, &self.lock, pass, index, scan.at) {

@@ -1,6 +1,7 @@
 //! The commands of one session, in order, by one pass.
-ghost use Rattle.std.specs.Prelude.{◌≡◌, ◌≢◌, ◌<◌, ◌≤◌, ◌+◌, ◌^◌, ℕ, [], OnOk, OnErr, Ok, Err, Some, None, true, false, length};
+ghost use Rattle.std.specs.Prelude.{◌≡◌, ◌≢◌, ◌<◌, ◌≤◌, ◌+◌, ◌++◌, ◌∷◌, ◌^◌, ℕ, [], OnOk, OnErr, Ok, Err, Some, None, true, false, length};
 ghost use Rattle.kt_history.specs.declared.command.Command.{Command};
+ghost use Rattle.kt_history.specs.declared.reply.Reply.{Reply};
 ghost use Rattle.kt_history.specs.Machine.{nth};
 ghost use Rattle.kt_seatlock.specs.Passes.{number, seen, part, MayEnter, IsBack};
 ghost use Rattle.kt_engine.specs.Visits.{Root};
@@ -65,7 +66,7 @@ fn take_next<L: Disk, D, C: Clock, R: Wait, G: Gate>(
     ensures more { OnOk result (length replies.new.items ≡ length replies.old.items + 1) }
     ensures same { OnErr result (replies.new.items ≡ replies.old.items) }
     ensures stopped { result ≡ Err Halt.Stopped → has_stop (seen pass.new) ≡ true }
-    ensures points { OnOk result (CameTo G.came gate.now (number pass.old) index) }
+    ensures points { OnOk result ((reply : Reply) × (replies.new.items ≡ replies.old.items ++ reply ∷ []) × CameTo G.came gate.now (number pass.old) index reply) }
 {
     if replies.reserve(1).is_err() {
         return Err(Halt::Memory);
@@ -110,7 +111,7 @@ pub fn run_session<L: Disk, D, C: Clock, R: Wait, G: Gate>(
     ensures lost { result.halt ≡ Some Halt.Memory → OnRoot (part pass.old) (λ root. TellsBut root (number pass.old) result.replies (seen pass.new)) }
     ensures all { result.halt ≡ None → length result.replies ≡ length commands.now }
     ensures stopped { result.halt ≡ Some Halt.Stopped → has_stop (seen pass.new) ≡ true }
-    ensures points { (k : ℕ) → k < length result.replies → CameTo G.came gate.now (number pass.old) (k + 1) }
+    ensures points { (k : ℕ) (reply : Reply) → nth result.replies k ≡ Some reply → CameTo G.came gate.now (number pass.old) k reply }
 {
     let mut replies = Vec::new(alloc);
     for at in 0..commands.len() {

@@ -5,7 +5,7 @@ ghost use Rattle.kt_history.specs.declared.command.Command.{Command};
 ghost use Rattle.kt_seatlock.specs.Passes.{number, seen, part, MayEnter, IsBack};
 ghost use Rattle.kt_serve.specs.Answered.{IsAnswered};
 ghost use Rattle.kt_serve.specs.Scans.{IsOn, LacksReply};
-ghost use Rattle.kt_serve.specs.Sessions.{IsFree, IsCommand, IsWrite, IsStill, IsGoing, SameRoot, OnRoot, HasNoLog, AfterCommand, CanRun, has_stop};
+ghost use Rattle.kt_serve.specs.Sessions.{IsFree, IsCommand, IsWrite, IsStill, IsGoing, SameRoot, OnRoot, HasNoLog, HasLeft, AfterCommand, CanRun, has_stop};
 
 use crate::log::Halt;
 use crate::rows::{apply_rows, end_write};
@@ -93,16 +93,18 @@ impl<L: Disk, D, C: Clock> SharedTablet<L, D, C> {
         ensures root { SameRoot (part pass.old) (part pass.new) }
         ensures reply { IfOk result (λ reply. AfterCommand (part pass.old) (part pass.new) (seen pass.old) (seen pass.new) (number pass.old) index reply) }
         ensures answer { IfOk result (λ reply. reply ≢ Reply.Stopped → OnRoot (part pass.old) (λ root. IsAnswered root (number pass.old) index reply (seen pass.new))) }
+        ensures unwritten { (ts : ℕ) (outcomes : List Outcome) → result ≢ Ok (Reply.At ts outcomes) }
         ensures memory { OnErr result (IsGoing (number pass.old) (part pass.old) (part pass.new) (seen pass.old) (seen pass.new)) }
     {
         mark_once(rt, &self.lock, pass, index, to)
     }
 
-    /// The last visit of a session, whatever ended it: one session fewer runs.
+    /// The last visit of a session, whatever ended it: the session does not run any more.
     pub fn leave_run<R: Wait>(&self, rt: &R, pass: &mut Pass<Engine<L, D, C>>)
         requires enters { MayEnter self.now.lock pass.old }
         ensures pass { IsBack pass.old pass.new }
         ensures still { IsStill (number pass.old) (part pass.old) (part pass.new) (seen pass.old) (seen pass.new) }
+        ensures left { HasLeft (part pass.new) }
         ensures log { HasNoLog (part pass.old) → HasNoLog (part pass.new) }
         ensures stop { has_stop (seen pass.old) ≡ true → has_stop (seen pass.new) ≡ true }
     {
@@ -133,6 +135,7 @@ impl<L: Disk, D, C: Clock> SharedTablet<L, D, C> {
         ensures root { SameRoot (part pass.old) (part pass.new) }
         ensures reply { IfOk result (λ reply. AfterCommand (part pass.old) (part pass.new) (seen pass.old) (seen pass.new) (number pass.old) index reply) }
         ensures answer { IfOk result (λ reply. reply ≢ Reply.Stopped → OnRoot (part pass.old) (λ root. IsAnswered root (number pass.old) index reply (seen pass.new))) }
+        ensures begun { (ts : ℕ) (outcomes : List Outcome) → result ≡ Ok (Reply.At ts outcomes) → G.came gate.now (Point.Begun (number pass.old) index) }
         ensures memory { OnErr result (LacksReply (number pass.old) index (part pass.old) (part pass.new) (seen pass.old) (seen pass.new)) }
     {
         match command {

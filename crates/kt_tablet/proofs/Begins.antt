@@ -123,6 +123,13 @@ pub has_begun : {C : Type 0} (view old : View C) (s i ts m : ℕ) (ops : List Ro
 has_begun view old s i ts m ops trail a c aloft stores e kept time lines stays last fly =
     subst (λ v. HasBegun v.core (record view.core { trail = trail; a = a; c = c; aloft = aloft; stores = stores }) s i ops ts) e (record { m = m; time = time; core = new_begun view.core s i ts m ops trail a c aloft stores kept lines stays last fly })
 
+-- whichever list of these operations is named
+pub begins_as : (core : Core) (s i : ℕ) (ops others : List RowOp) → others ≡ ops → MayBeginNow core s i ops (need ops) → MayBeginNow core s i others (need others)
+begins_as core s i ops others same h = subst (λ os. MayBeginNow core s i os (need os)) (sym same) h
+
+pub begun_as : (old new : Core) (s i ts : ℕ) (ops others : List RowOp) → others ≡ ops → HasBegun old new s i others ts → HasBegun old new s i ops ts
+begun_as old new s i ts ops others same h = subst (λ os. HasBegun old new s i os ts) same h
+
 -- what is promised to the write
 owed-append : (flights : List FlyingWrite) (w : FlyingWrite) → owed (map aloft_of (flights ++ w ∷ [])) ≡ owed (map aloft_of flights) + need (drop w.applied w.ops)
 owed-append [] w = omega arith

@@ -1,7 +1,7 @@
 -- Where the flying write of a session stands among the others, and what is so of it there.
 use Rattle.std.proofs.Common.{◌≡◌, ℕ, zero, suc, ◌+◌, ◌<◌, ◌≤◌, List, [], ◌∷◌, ◌++◌, Some, None, true, false, Bool, ◌||◌, cond, refl, sym, ap, ◌∙◌, subst, arith, map, length, drop, get_or}
 use Rattle.std.specs.Prelude.{◌==◌, not, nat_lt, slice_get, slice_set}
-use Rattle.std.specs.List.{filter, list_any, position, position_or_len, remove}
+use Rattle.std.specs.List.{filter, find, list_any, position, position_or_len, remove}
 use Rattle.std.proofs.lemmas.Bool.Decides.{nat_tests}
 use Rattle.kt_history.specs.declared.operation.RowOp.{RowOp}
 use Rattle.kt_history.specs.Operations.{need}
@@ -47,6 +47,15 @@ pub flight_at : (s : ℕ) (flights : List FlyingWrite) (j : ℕ) (w : FlyingWrit
 flight_at s [] j w h is = absurd h
 flight_at s (v ∷ flights) zero w h is = ap (λ b. cond b (Some (aloft_of v)) (flight_of s (map aloft_of flights))) h ∙ ap (λ x. Some (aloft_of x)) (sym is)
 flight_at s (v ∷ flights) (suc j) w h is = ap (λ b. cond b (Some (aloft_of v)) (flight_of s (map aloft_of flights))) h.0 ∙ flight_at s flights j w h.1 is
+
+-- so has the clock of writes
+pub flier_at : (s : ℕ) (flights : List FlyingWrite) (j : ℕ) (w : FlyingWrite) → IsPlaceOf s flights j → w ≡ get_or flights j w → find (λ f. f.who == s) (map flier_of flights) ≡ Some (flier_of w)
+flier_at s [] j w h is = absurd h
+flier_at s (v ∷ flights) zero w h is = ap (λ b. cond b (Some (flier_of v)) (find (λ f. f.who == s) (map flier_of flights))) h ∙ ap (λ x. Some (flier_of x)) (sym is)
+flier_at s (v ∷ flights) (suc j) w h is = ap (λ b. cond b (Some (flier_of v)) (find (λ f. f.who == s) (map flier_of flights))) h.0 ∙ flier_at s flights j w h.1 is
+
+pub same_aloft : (v w : Aloft) → Some v ≡ Some w → v ≡ w
+same_aloft v w e = cc
 
 pub flight_on : (s : ℕ) (flights : List FlyingWrite) (j : ℕ) (w : FlyingWrite) → IsPlaceOf s flights j → w ≡ get_or flights j w → flight_of s (on_nth j advance (map aloft_of flights)) ≡ Some (advance (aloft_of w))
 flight_on s [] j w h is = absurd h

@@ -100,6 +100,10 @@ pub record HasEnded (old new : Core) (s i ts : ℕ) : Type 0 where
   pub time : ts ≡ flight.ts
   pub core : new ≡ ended old s i ts
 
+-- what a flying write of the session holds: its operations, and their keys
+abbrev pub HeldBy : Core → ℕ → List RowOp → List (List ℕ) → Type 0
+HeldBy core s ops keys = (flight : Aloft) → flight_of s core.aloft ≡ Some flight → (ops ≡ flight.ops) × (keys ≡ map (λ op. op.key) flight.ops)
+
 -- what is told of it: the outcomes that the run says, and for the log each with the store that was changed
 pub record IsDone (core : Core) (target : Target) (s : ℕ) (outcomes : List Outcome) (rows : List CommitRow) : Type 0 where
   pub flight : Aloft

@@ -8,11 +8,13 @@
 mod amend;
 mod memrowset;
 pub mod need;
+pub mod new_write;
 pub mod snap;
 pub mod store;
 pub mod tablet;
 mod turns;
 
+pub use new_write::NewWrite;
 pub use snap::{Snap, SnapList, SnapView};
 pub use store::RowStore;
 pub use tablet::rows::WriteEnd;

@@ -49,15 +49,22 @@ pub(crate) fn cells_of(op: &RowOp) -> u32
     op_need(op) as u32
 }
 
-/// How many cells of the pool a write needs, if they are a number of 32 bits.
+/// How many cells of the pool a write needs, and no more than 2^32.
 #[tactic(auto, using(std::proofs::lemmas::List::Sums::sum_by_more))]
-pub fn need(ops: &OpList) -> Option<u32>
-    ensures needs { IfSome result (λ n. n ≡ need ops.now) }
-    ensures past { IfNone result (2 ^ 32 ≤ need ops.now) }
+pub fn cells_needed(ops: &OpList) -> u64
+    ensures { result ≡ min (need ops.now) (2 ^ 32) }
 {
     let mut cells: u64 = 0;
     for op in ops.as_slice() {
         cells = (cells + op_need(op)).min(1 << 32);
     }
-    u32::try_from(cells).ok()
+    cells
+}
+
+/// How many cells of the pool a write needs, if they are a number of 32 bits.
+pub fn need(ops: &OpList) -> Option<u32>
+    ensures needs { IfSome result (λ n. n ≡ need ops.now) }
+    ensures past { IfNone result (2 ^ 32 ≤ need ops.now) }
+{
+    u32::try_from(cells_needed(ops)).ok()
 }

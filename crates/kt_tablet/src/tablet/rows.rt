@@ -14,17 +14,21 @@ use super::{FlyingWrite, Stopped, Tablet};
 use crate::need::cells_of;
 use crate::store::RowStore;
 use kt_base::Clock;
-use kt_history::{Event, Kindly, OpKind, Outcome, OutcomeList, RowOp, outcome};
+use kt_history::{Event, Kindly, OpKind, OpList, Outcome, OutcomeList, RowOp, outcome};
+use kt_mvcc::KeyList;
 use kt_pool::Pool;
 use kt_records::{CommitRow, CommitRows, TargetList};
 
-/// What became of a write that has ended: the outcomes of its rows, and the same for the log.
+/// What became of a write that has ended: the outcomes of its rows, and the same for the log. What it held comes back
+/// beside that, so that the caller chooses when its memory is freed.
 #[derive(Debug, Drop)]
 pub struct WriteEnd {
     pub index: u32,
     pub ts: u64,
     pub outcomes: OutcomeList,
     pub rows: CommitRows,
+    pub ops: OpList,
+    pub keys: KeyList,
 }
 
 // The kind of change that an operation makes to a row that is there, or is not.
@@ -133,7 +137,7 @@ impl<S: RowStore, C: Clock> Tablet<S, C> {
     ghost use Rattle.std.specs.Prelude.{IfOk, OnErr, IsOk, IsErr, false};
     ghost use Rattle.kt_history.specs.History.{Past};
     ghost use Rattle.kt_tablet.specs.Views.{Opens};
-    ghost use Rattle.kt_tablet.specs.Visits.{MayApply, HasApplied, IsRunOutcome, MayEnd, HasEnded, IsDone};
+    ghost use Rattle.kt_tablet.specs.Visits.{MayApply, HasApplied, IsRunOutcome, MayEnd, HasEnded, IsDone, HeldBy};
 
     /// Applies the next row of the flying write of a session. It takes no memory, and no cell that was not promised.
     pub fn apply_row(&mut self, number: u32, at: usize) -> Result<Outcome, Stopped>
@@ -161,6 +165,7 @@ impl<S: RowStore, C: Clock> Tablet<S, C> {
         requires { self.old.core.stopped ≡ false → MayEnd self.old.core number }
         ensures ended { IfOk result (λ done. HasEnded self.old.core self.new.core number done.index done.ts) }
         ensures told { IfOk result (λ done. (first : Past) → Opens self.old.opening self.old.mark self.old.core.opened first → IsDone (record self.old.core { first = first }) self.old.target number done.outcomes done.rows) }
+        ensures held { IfOk result (λ done. HeldBy self.old.core number done.ops done.keys) }
         ensures beside { self.new ≡ record self.old { core = self.new.core } }
         ensures same { OnErr result (self.new ≡ self.old) }
         ensures stopped { self.old.core.stopped ≡ true → IsErr result }
@@ -171,7 +176,7 @@ impl<S: RowStore, C: Clock> Tablet<S, C> {
         }
         let place = place_of(&self.flights, number);
         let write = self.flights.remove(place);
-        self.flight.end(number);
+        let keys = self.flight.take(number);
         self.trail.push_reserved(Event::End {
             s: number,
             i: write.index,
@@ -183,6 +188,8 @@ impl<S: RowStore, C: Clock> Tablet<S, C> {
             ts: write.ts,
             outcomes: OutcomeList::of(write.outcomes),
             rows: CommitRows::of(write.rows),
+            ops: write.ops,
+            keys,
         })
     }
 }

@@ -1,14 +1,14 @@
 //! Writes that begin: each with its keys held, its cells promised, and room for the line of its end.
-ghost use Rattle.std.specs.Prelude.{◌≡◌, ◌+◌, ◌-◌, ◌^◌, ◌≤◌, ◌<◌, [], length, map, IfOk, OnOk, vec_len, vec_capacity};
+ghost use Rattle.std.specs.Prelude.{◌≡◌, ◌≢◌, ◌+◌, ◌-◌, ◌^◌, ◌≤◌, ◌<◌, [], length, IfOk, OnOk, vec_len, vec_capacity};
 
 use super::{FlyingWrite, Tablet};
-use crate::need::need;
+use crate::new_write::NewWrite;
 use crate::store::RowStore;
 use kt_base::{Clock, NoMemory};
-use kt_history::{Event, OpList, Outcome};
-use kt_mvcc::{Flight, KeyList};
-use kt_records::CommitRow;
+use kt_history::{Event, OpList};
+use kt_mvcc::{Flight, MvccNo};
 use std::alloc::Global;
+use std::mem;
 
 /// Why a write does not begin.
 #[derive(Clone, Copy, Debug, PartialEq, Eq)]
@@ -25,26 +25,15 @@ pub enum BeginNo {
     Memory,
 }
 
-// The keys of a write, copied.
-fn keys_of(alloc: Global, ops: &OpList) -> Result<KeyList, NoMemory>
-    ensures { IfOk result (λ keys. keys ≡ map (λ op. op.key) ops.now) }
-{
-    let mut keys = Vec::new(alloc);
-    for op in ops.as_slice() {
-        keys.push(op.key.copy()?)?;
-    }
-    Ok(KeyList::of(keys))
-}
-
-// Makes room for one write more: the lines of its begin and its end beside those that are promised, its keys, and what
-// becomes of its operations. There is none where no timestamp is left.
+// Makes room for one write more: the lines of its begin and its end beside those that are promised, and its keys. There
+// is none where no timestamp is left.
 fn make_room(
     alloc: Global,
     trail: &mut Vec<Event>,
     flights: &mut Vec<FlyingWrite>,
     flight: &mut Flight,
     ops: usize,
-) -> Result<(Vec<Outcome>, Vec<CommitRow>), NoMemory>
+) -> Result<(), NoMemory>
     ensures lines { trail.new.items ≡ trail.old.items }
     ensures line { (vec_len trail.new ≡ vec_len trail.old) × (vec_capacity trail.old ≤ vec_capacity trail.new) }
     ensures flights { flights.new.items ≡ flights.old.items }
@@ -53,19 +42,14 @@ fn make_room(
     ensures place { OnOk result (vec_len flights.new < vec_capacity flights.new) }
     ensures holder { OnOk result (0 < flight.new.room) }
     ensures last { OnOk result (flight.new.c < 2 ^ 64 - 1) }
-    ensures none { IfOk result (λ notes. (notes.0.items ≡ []) × (notes.1.items ≡ [])) }
-    ensures bare { IfOk result (λ notes. (vec_len notes.0 ≡ 0) × (vec_len notes.1 ≡ 0)) }
-    ensures noted { IfOk result (λ notes. (ops ≤ vec_capacity notes.0) × (ops ≤ vec_capacity notes.1)) }
 {
     if flight.last() == u64::MAX {
         return Err(NoMemory);
     }
-    let outcomes = Vec::with_capacity(alloc, ops)?;
-    let rows = Vec::with_capacity(alloc, ops)?;
     trail.reserve(flights.len() + 3)?;
     flights.reserve(1)?;
     flight.reserve(alloc, ops)?;
-    Ok((outcomes, rows))
+    Ok(())
 }
 
 impl<S: RowStore, C: Clock> Tablet<S, C> {
@@ -74,50 +58,117 @@ impl<S: RowStore, C: Clock> Tablet<S, C> {
     ghost use Rattle.kt_history.specs.Operations.{need};
     ghost use Rattle.kt_history.specs.declared.event.Event.TheVariants.{Large};
     ghost use Rattle.kt_histlaws.specs.Events.{answered};
-    ghost use Rattle.kt_tablet.specs.Visits.{MayBegin, MayBeginNow, IsLarge, HasBegun, IsUnhindered, IsRefused, Leaves};
+    ghost use Rattle.kt_tablet.specs.Visits.{MayBegin, IsLarge, HasBegun, IsUnhindered, IsRefused, Leaves};
 
-    // Begins a write that is not too large.
-    fn begin_now(
+    // Tells by its line that a write is too large.
+    fn large(&mut self, number: u32, index: u32, needs: u32) -> Result<(), NoMemory>
+        requires { IsLarge self.old.core number index needs }
+        ensures answered { OnOk result (self.new.core ≡ answered self.old.core number index (Large number index needs)) }
+        ensures beside { self.new ≡ record self.old { core = self.new.core } }
+        ensures same { OnErr result (self.new ≡ self.old) }
+    {
+        self.trail.reserve(self.flights.len() + 2)?;
+        self.trail.push_reserved(Event::Large {
+            s: number,
+            i: index,
+            n: needs,
+        });
+        self.turns.set(number, index + 1, None);
+        Ok(())
+    }
+
+    // What stands in the way of a write that is not too large: a flying write that holds a key of it, or want of cells.
+    fn refusal(&self, write: &NewWrite, needs: u32) -> Result<(), BeginNo>
+        requires goes { self.now.core.stopped ≡ false }
+        requires fits { (needs ≡ need write.now.ops) × (needs ≤ self.now.core.work.cells) }
+        ensures free { OnOk result (IsUnhindered self.now write.now.ops) }
+        ensures refused { IfErr result (IsRefused self.now write.now.ops) }
+        ensures changes { IfErr result (λ no. Leaves self.now self.now 0 0 no) }
+        ensures memory { result ≢ Err BeginNo.Memory }
+    {
+        if let Err(ts) = self.flight.try_keys(&write.keys) {
+            return Err(BeginNo::Wait { ts });
+        }
+        let free = self.pool.free() - self.pool.reserved();
+        if needs > free {
+            return Err(BeginNo::Room { need: needs, free });
+        }
+        Ok(())
+    }
+
+    /// Asks whether a write may begin. One that needs more cells than a write may leaves its line, for which alone there
+    /// may be no memory; so it is where its need is no number of 32 bits.
+    pub fn ask(&mut self, number: u32, index: u32, write: &NewWrite) -> Result<(), BeginNo>
+        requires { self.old.core.stopped ≡ false → MayBegin self.old.core number index write.now.ops }
+        ensures free { OnOk result (IsUnhindered self.old write.now.ops) }
+        ensures same { OnOk result (self.new ≡ self.old) }
+        ensures beside { self.new ≡ record self.old { core = self.new.core } }
+        ensures stopped { self.old.core.stopped ≡ true → result ≡ Err BeginNo.Stopped }
+        ensures refused { IfErr result (IsRefused self.old write.now.ops) }
+        ensures left { IfErr result (Leaves self.old self.new number index) }
+        ensures memory { result ≡ Err BeginNo.Memory → self.old.core.work.cells < need write.now.ops }
+    {
+        if self.is_stopped() {
+            return Err(BeginNo::Stopped);
+        }
+        let most = self.size();
+        let Ok(needs) = u32::try_from(write.cells) else {
+            return Err(BeginNo::Memory);
+        };
+        if needs > most {
+            return match self.large(number, index, needs) {
+                Ok(()) => Err(BeginNo::Large { need: needs }),
+                Err(_) => Err(BeginNo::Memory),
+            };
+        }
+        self.refusal(write, needs)
+    }
+
+    /// Begins a write in whose way nothing stands, and takes what was made ready for it. Once it has begun it holds its
+    /// keys, its cells and the line of its end, so that it is not refused any more: the pool has promised exactly the
+    /// cells that it needs. Where there is no room for a line or a place more, the write stays as it was.
+    pub fn begin_free(
         &mut self,
         alloc: Global,
         number: u32,
         index: u32,
-        ops: OpList,
-        needs: u32,
-    ) -> Result<u64, BeginNo>
-        requires { MayBeginNow self.old.core number index ops needs }
-        ensures begun { IfOk result (λ ts. HasBegun self.old.core self.new.core number index ops ts) }
-        ensures free { OnOk result (IsUnhindered self.old ops) }
-        ensures promised { OnOk result (self.new.pool ≡ with_reserved self.old.pool (self.old.pool.reserved + need ops)) }
+        write: &mut NewWrite,
+    ) -> Result<u64, NoMemory>
+        requires may { MayBegin self.old.core number index write.old.ops }
+        requires free { IsUnhindered self.old write.old.ops }
+        ensures begun { IfOk result (λ ts. HasBegun self.old.core self.new.core number index write.old.ops ts) }
+        ensures promised { OnOk result (self.new.pool ≡ with_reserved self.old.pool (self.old.pool.reserved + need write.old.ops)) }
         ensures beside { self.new ≡ record self.old { core = self.new.core; clock = self.new.clock; pool = self.new.pool } }
+        ensures taken { OnOk result (write.new.ops ≡ []) }
         ensures same { OnErr result (self.new ≡ self.old) }
-        ensures refused { IfErr result (IsRefused self.old ops) }
+        ensures kept { OnErr result (write.new.ops ≡ write.old.ops) }
     {
-        let Ok(keys) = keys_of(alloc, &ops) else {
-            return Err(BeginNo::Memory);
+        let Ok(needs) = u32::try_from(write.cells) else {
+            return Err(NoMemory);
         };
-        if let Err(ts) = self.flight.try_keys(&keys) {
-            return Err(BeginNo::Wait { ts });
-        }
-        if let Err(full) = self.pool.reserve(needs) {
-            return Err(BeginNo::Room {
-                need: full.need,
-                free: full.free,
-            });
-        }
-        let Ok((outcomes, rows)) = make_room(
+        make_room(
             alloc,
             &mut self.trail,
             &mut self.flights,
             &mut self.flight,
-            ops.len(),
-        ) else {
-            self.pool.release(needs);
-            return Err(BeginNo::Memory);
-        };
+            write.ops.len(),
+        )?;
+        match self.pool.reserve(needs) {
+            Ok(()) => {}
+            Err(_) => unreachable!(),
+        }
         let reading = self.clock.now();
-        let Ok(ts) = self.flight.begin(alloc, number, keys, reading) else {
-            return Err(BeginNo::Memory);
+        let NewWrite {
+            ops,
+            keys,
+            outcomes,
+            rows,
+            cells: _,
+        } = mem::replace(write, NewWrite::none(alloc));
+        let ts = match self.flight.begin(alloc, number, keys, reading) {
+            Ok(ts) => ts,
+            Err(MvccNo::Wait { ts: _ }) => unreachable!(),
+            Err(MvccNo::Memory) => unreachable!(),
         };
         self.trail.push_reserved(Event::Begin {
             s: number,
@@ -137,26 +188,7 @@ impl<S: RowStore, C: Clock> Tablet<S, C> {
         Ok(ts)
     }
 
-    // Tells by its line that a write is too large.
-    fn large(&mut self, number: u32, index: u32, needs: u32) -> Result<(), NoMemory>
-        requires { IsLarge self.old.core number index needs }
-        ensures answered { OnOk result (self.new.core ≡ answered self.old.core number index (Large number index needs)) }
-        ensures beside { self.new ≡ record self.old { core = self.new.core } }
-        ensures same { OnErr result (self.new ≡ self.old) }
-    {
-        self.trail.reserve(self.flights.len() + 2)?;
-        self.trail.push_reserved(Event::Large {
-            s: number,
-            i: index,
-            n: needs,
-        });
-        self.turns.set(number, index + 1, None);
-        Ok(())
-    }
-
-    /// Begins a write. Once it has begun it holds its keys, its cells and the line of its end, so that it is not refused
-    /// any more: the pool has promised exactly the cells that it needs. For a write whose need is no number of 32 bits
-    /// there is no memory.
+    /// Begins a write, unless something stands in its way.
     pub fn begin(
         &mut self,
         alloc: Global,
@@ -177,16 +209,14 @@ impl<S: RowStore, C: Clock> Tablet<S, C> {
         if self.is_stopped() {
             return Err(BeginNo::Stopped);
         }
-        let Some(needs) = need(&ops) else {
+        let Ok(mut write) = NewWrite::of(alloc, ops) else {
             return Err(BeginNo::Memory);
         };
-        if needs > self.size() {
-            return match self.large(number, index, needs) {
-                Ok(()) => Err(BeginNo::Large { need: needs }),
-                Err(_) => Err(BeginNo::Memory),
-            };
+        self.ask(number, index, &write)?;
+        match self.begin_free(alloc, number, index, &mut write) {
+            Ok(ts) => Ok(ts),
+            Err(_) => Err(BeginNo::Memory),
         }
-        self.begin_now(alloc, number, index, ops, needs)
     }
 
     // The most cells that a write may need.

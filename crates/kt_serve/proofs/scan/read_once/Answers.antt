@@ -3,6 +3,7 @@ use Rattle.kt_seatlock.specs.Passes.{number, part, seen}
 use Rattle.kt_serve.specs.Scans.{AfterRead}
 use Rattle.kt_serve.proofs.Begins.{same_root}
 use Rattle.kt_serve.proofs.Open.{is_open}
+use Rattle.kt_serve.proofs.Points.{never_written}
 use Rattle.kt_serve.proofs.Scans.{look_turn, may_snapshot, look_stays, after_read}
 use Rattle.kt_serve.proofs.scan.read_once.Goals as goal
 
@@ -23,3 +24,6 @@ returns-clause-read g c = subst (λ r. AfterRead (part c.args.pass.now) (part c.
 
 pub returns-clause-open : goal.returns-clause-open
 returns-clause-open g c = is_open _ c.enter-engine.result _ c.args.index c.requires.next.look _ g.C.Clock.readings c.enter-engine.ensures.part.0 (look_turn _ c.args.index c.args.at c.enter-engine.result _ c.requires.next c.enter-engine.ensures.part.0) c.enter-engine.ensures.trail c.standing.ensures.sound
+
+pub returns-clause-unwritten : goal.returns-clause-unwritten
+returns-clause-unwritten g c = λ ts outcomes e. never_written c.snapshot-read.result ts outcomes (sym c.turn_of.ensures ∙ e)

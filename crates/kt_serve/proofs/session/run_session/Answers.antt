@@ -1,8 +1,10 @@
-use Rattle.std.proofs.Common.{rules, ◌≡◌, Option, None, Some, Ok, Err, Result, ◌+◌, ap, ◌∙◌, subst, below_more, arith, length}
+use Rattle.std.proofs.Common.{rules, ◌≡◌, Option, None, Some, Ok, Err, Result, ◌+◌, ap, sym, ◌∙◌, subst}
+use Rattle.kt_history.specs.Machine.{nth}
 use Rattle.kt_seatlock.specs.Passes.{number, part, seen}
 use Rattle.kt_serve.specs.Points.{CameTo}
 use Rattle.kt_serve.proofs.Begins.{some_is}
 use Rattle.kt_serve.proofs.Commands.{command_after}
+use Rattle.kt_serve.proofs.Points.{each_more}
 use Rattle.kt_serve.specs.declared.log.Halt.{Halt}
 use Rattle.kt_serve.specs.declared.log.Halt.TheVariants.{Memory}
 use Rattle.kt_serve.specs.Scans.{IsOn}
@@ -41,7 +43,7 @@ pub returns-in-Err-clause-lost : goal.returns-in-Err-clause-lost
 returns-in-Err-clause-lost g c = λ e. but_before (number c.args.pass.now) (number c.loop-at.pass) c.take_next.new.replies.items _ (seen c.take_next.new.pass) (part c.args.pass.now) (part c.loop-at.pass) c.loop-at.invariant.0.0.1 c.of.ensures c.loop-at.invariant.1 (c.in-Err.ensures.lost (ap (λ h. Err h) (some_is c.in-Err.halt Memory e)))
 
 pub returns-in-Err-clause-points : goal.returns-in-Err-clause-points
-returns-in-Err-clause-points g c = λ k h. c.loop-at.invariant.5 k (omega (arith, h, ap length c.of.ensures, ap length c.in-Err.ensures.same, c.loop-at.invariant.3))
+returns-in-Err-clause-points g c = λ k reply at. c.loop-at.invariant.5 k reply (ap (λ l. nth l k) (sym c.in-Err.ensures.same ∙ sym c.of.ensures) ∙ at)
 
 pub loop-at-preserved : goal.loop-at-preserved
 loop-at-preserved g c = (
@@ -50,11 +52,12 @@ loop-at-preserved g c = (
   c.in-Ok.ensures.next,
   c.in-Ok.ensures.more ∙ ap (λ n. n + 1) c.loop-at.invariant.3,
   tells_before (number c.args.pass.now) (number c.loop-at.pass) c.take_next.new.replies.items (seen c.take_next.new.pass) (part c.args.pass.now) (part c.loop-at.pass) c.loop-at.invariant.0.0.1 c.loop-at.invariant.1 (c.in-Ok.ensures.tells (ok_not _ Memory)),
-  below_more _ _ c.loop-at.invariant.5 (subst (λ n. CameTo g.G.Gate.came c.args.gate.now n (c.loop-at.at + 1)) c.loop-at.invariant.0.0.1 c.in-Ok.ensures.points),
+  each_more (λ k reply. CameTo g.G.Gate.came c.args.gate.now (number c.args.pass.now) k reply) c.loop-at.replies.items c.take_next.new.replies.items c.in-Ok.ensures.points.0 (c.loop-at.at + 1) (ap (λ n. n + 1) (sym c.loop-at.invariant.3)) c.in-Ok.ensures.points.1 c.loop-at.invariant.5
+      (subst (λ n. CameTo g.G.Gate.came c.args.gate.now n (c.loop-at.at + 1) c.in-Ok.ensures.points.0) c.loop-at.invariant.0.0.1 c.in-Ok.ensures.points.2),
 )
 
 pub returns-clause-tells : goal.returns-clause-tells
 returns-clause-tells g c = λ _. tells_of (number c.args.pass.now) c.loop-at.replies.items _ (seen c.loop-at.pass) (part c.args.pass.now) c.of-2.ensures c.loop-at.invariant.4
 
 pub returns-clause-points : goal.returns-clause-points
-returns-clause-points g c = λ k h. c.loop-at.invariant.5 k (omega (arith, h, ap length c.of-2.ensures, c.loop-at.invariant.3))
+returns-clause-points g c = λ k reply at. c.loop-at.invariant.5 k reply (ap (λ l. nth l k) (sym c.of-2.ensures) ∙ at)

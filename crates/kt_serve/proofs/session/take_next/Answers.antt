@@ -1,6 +1,8 @@
-use Rattle.std.proofs.Common.{rules}
+use Rattle.std.proofs.Common.{◌++◌, ◌∷◌, [], Ok, ap, subst, ◌∙◌, rules}
+use Rattle.kt_disk.specs.declared.gate.Point.TheVariants as point
 use Rattle.kt_seatlock.specs.Passes.{number, part, seen}
 use Rattle.kt_serve.proofs.Tells.{then_tells, pushed_tells, answered_of}
+use Rattle.kt_serve.proofs.Points.{if_written}
 use Rattle.kt_serve.proofs.Scans.{lacks_tells}
 use Rattle.kt_serve.proofs.session.take_next.Goals as goal
 
@@ -13,3 +15,14 @@ returns-else-is_stopped-clause-next g c = (answered_of (part c.args.pass.now) (p
 
 pub returns-in-Err-clause-lost : goal.returns-in-Err-clause-lost
 returns-in-Err-clause-lost g c = λ _. lacks_tells (number c.args.pass.now) c.args.index c.args.replies.now.items c.reserve.new.self.items (seen c.args.pass.now) (seen c.take.new.pass) (part c.args.pass.now) (part c.take.new.pass) c.reserve.ensures.items c.requires.index c.requires.tells c.in-Err.ensures.memory
+
+pub returns-else-is_stopped-clause-points : goal.returns-else-is_stopped-clause-points
+returns-else-is_stopped-clause-points g c = (
+  c.in-Ok.reply,
+  c.push_reserved.ensures.items ∙ ap (λ l. l ++ c.in-Ok.reply ∷ []) c.reserve.ensures.items,
+  record {
+    before = subst (λ s. g.G.Gate.came c.args.gate.now (point.Before s c.args.index)) c.number-session.ensures c.at.ensures;
+    begun = if_written c.in-Ok.reply _ (λ ts outcomes is. c.in-Ok.ensures.begun ts outcomes (ap Ok is));
+    after = subst (λ s. g.G.Gate.came c.args.gate.now (point.After s c.args.index)) c.number-session.ensures c.at-in-Ok.ensures;
+  },
+)

@@ -1,17 +1,21 @@
-use Rattle.std.proofs.Common.{rules, ap}
+use Rattle.std.proofs.Common.{rules, ap, sym, ◌∙◌, subst}
 use Rattle.kt_history.specs.declared.command.Command.TheVariants as command
 use Rattle.kt_history.specs.declared.reply.Reply.TheVariants as reply
 use Rattle.kt_seatlock.specs.Passes.{number, part, seen}
+use Rattle.kt_serve.specs.Sessions.{IsCommand, IsWrite}
 use Rattle.kt_serve.proofs.Commands.{command_after, free_log, free_rests, going_rests, going_on, aloft_of, going_answers}
 use Rattle.kt_serve.proofs.Open.{open_before}
 use Rattle.kt_serve.proofs.visits.begin_write.Goals as goal
 
 pub begin_once-requires-clause-command : goal.begin_once-requires-clause-command
-begin_once-requires-clause-command g c = command_after _ _ c.args.index (command.Write c.args.write.now) c.requires.next.part _ _ c.requires.next.is c.loop.invariant.0.0.1 c.loop.invariant.2.root c.requires.command
+begin_once-requires-clause-command g c = subst (λ ops. IsCommand (part c.loop.pass) (number c.loop.pass) c.args.index (command.Write (record { ops = ops }))) (sym c.loop.invariant.3) (command_after _ _ c.args.index (command.Write c.args.write.now) c.requires.next.part _ _ c.requires.next.is c.loop.invariant.0.0.1 c.loop.invariant.2.root c.requires.command)
 
-pub returns-in-Ok-clause-begun : goal.returns-in-Ok-clause-begun
-returns-in-Ok-clause-begun g c = let b = c.in-Ok.ensures.begun in
-    ((c.in-Ok.field-0, aloft_of _ _ c.args.index c.in-Ok.field-0 0 c.args.write.now.ops _ c.loop.invariant.0.0.1 b.0), going_on _ _ _ _ _ _ _ _ c.loop.invariant.0.0.1 c.loop.invariant.2 c.begin_once.ensures.root b.2)
+pub begin_once-requires-clause-write : goal.begin_once-requires-clause-write
+begin_once-requires-clause-write g c = subst (IsWrite c.args.index) (sym c.loop.invariant.3) c.requires.write
+
+pub returns-in-Ok-begin_once-clause-begun : goal.returns-in-Ok-begin_once-clause-begun
+returns-in-Ok-begin_once-clause-begun g c = let b = rw c.loop.invariant.3 at c.in-Ok-begin_once.ensures.begun in
+    ((c.in-Ok-begin_once.field-0, aloft_of _ _ c.args.index c.in-Ok-begin_once.field-0 0 c.args.write.now.ops _ c.loop.invariant.0.0.1 b.0), going_on _ _ _ _ _ _ _ _ c.loop.invariant.0.0.1 c.loop.invariant.2 c.begin_once.ensures.root b.2)
 
 pub returns-in-Err-Stopped-clause-home : goal.returns-in-Err-Stopped-clause-home
 returns-in-Err-Stopped-clause-home g c = let b = rw c.in-Err-Stopped.field-0-is at c.in-Err-Stopped.ensures.begun in free_log _ _ b.0
@@ -32,6 +36,7 @@ loop-preserved-in-Err-Wait g c = let b = rw c.in-Err-Wait.field-0-is at c.in-Err
   search rules,
   free_rests _ _ _ (ap (λ m. m.0.part) c.rest.ensures.2) b.0,
   going_rests _ _ _ _ _ _ _ (ap (λ m. m.0.part) c.rest.ensures.2) (ap (λ m. m.0.seen) c.rest.ensures.2) (going_on _ _ _ _ _ _ _ _ c.loop.invariant.0.0.1 c.loop.invariant.2 c.begin_once.ensures.root b.1),
+  c.in-Err-Wait.ensures.kept ∙ c.loop.invariant.3,
 )
 
 pub loop-preserved : goal.loop-preserved
@@ -39,6 +44,7 @@ loop-preserved g c = let b = rw c.in-Err-Room.field-0-is at c.in-Err-Room.ensure
   search rules,
   free_rests _ _ _ (ap (λ m. m.0.part) c.rest-in-Err-Room.ensures.2) b.0,
   going_rests _ _ _ _ _ _ _ (ap (λ m. m.0.part) c.rest-in-Err-Room.ensures.2) (ap (λ m. m.0.seen) c.rest-in-Err-Room.ensures.2) (going_on _ _ _ _ _ _ _ _ c.loop.invariant.0.0.1 c.loop.invariant.2 c.begin_once.ensures.root b.1),
+  c.in-Err-Room.ensures.kept ∙ c.loop.invariant.3,
 )
 
 pub returns-in-Err-Memory-clause-home : goal.returns-in-Err-Memory-clause-home
@@ -47,8 +53,8 @@ returns-in-Err-Memory-clause-home g c = let b = rw c.in-Err-Memory.field-0-is at
 pub returns-in-Err-Memory-clause-begun : goal.returns-in-Err-Memory-clause-begun
 returns-in-Err-Memory-clause-begun g c = let b = rw c.in-Err-Memory.field-0-is at c.in-Err-Memory.ensures.begun in going_on _ _ _ _ _ _ _ _ c.loop.invariant.0.0.1 c.loop.invariant.2 c.begin_once.ensures.root b.1
 
-pub returns-in-Ok-clause-open : goal.returns-in-Ok-clause-open
-returns-in-Ok-clause-open g c = open_before (number c.args.pass.now) (number c.loop.pass) c.args.index (part c.args.pass.now) (part c.loop.pass) (seen c.args.pass.now) (seen c.loop.pass) c.loop.invariant.0.0.1 c.loop.invariant.2 c.begin_once.ensures.open
+pub returns-in-Ok-begin_once-clause-open : goal.returns-in-Ok-begin_once-clause-open
+returns-in-Ok-begin_once-clause-open g c = open_before (number c.args.pass.now) (number c.loop.pass) c.args.index (part c.args.pass.now) (part c.loop.pass) (seen c.args.pass.now) (seen c.loop.pass) c.loop.invariant.0.0.1 c.loop.invariant.2 c.begin_once.ensures.open
 
 pub returns-in-Err-Stopped-clause-open : goal.returns-in-Err-Stopped-clause-open
 returns-in-Err-Stopped-clause-open g c = open_before (number c.args.pass.now) (number c.loop.pass) c.args.index (part c.args.pass.now) (part c.loop.pass) (seen c.args.pass.now) (seen c.loop.pass) c.loop.invariant.0.0.1 c.loop.invariant.2 c.begin_once.ensures.open

@@ -1,4 +1,5 @@
-use Rattle.std.proofs.Common.{◌≡◌, ap, false}
+use Rattle.std.proofs.Common.{◌≡◌, ap, subst, false}
+use Rattle.kt_tablet.specs.Visits.{HeldBy}
 use Rattle.kt_engine.proofs.Applied.{not_true}
 use Rattle.kt_engine.proofs.Ended.{has_ended, has_room}
 use Rattle.kt_engine.proofs.Visiting.{visit_of, lending, ended_visit}
@@ -19,3 +20,6 @@ pub returns-clause-visit : goal.returns-clause-visit
 returns-clause-visit g c = visit_of _ _ _ _ c.self.view_is
     (ended_visit c.args.number c.in_ok-ts.field-0.index c.in_ok-ts.field-0.ts _ c.end.new.self c.push.new.self c.forget.new.places.items c.in_ok-ts.ensures.ended c.end.ensures.beside
     (ap lending c.push.ensures.queued) c.forget.ensures)
+
+pub returns-clause-held : goal.returns-clause-held
+returns-clause-held g c = subst (λ v. HeldBy v.tablet.core c.args.number c.in_ok-ts.field-0.ops c.in_ok-ts.field-0.keys) c.self.view_is c.in_ok-ts.ensures.held

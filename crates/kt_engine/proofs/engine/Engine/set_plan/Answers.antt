@@ -1,6 +1,6 @@
 use Rattle.std.proofs.Common.{sym}
 use Rattle.kt_engine.proofs.Plans.{plan_keeps}
-use Rattle.kt_engine.proofs.Running.{running_keeps}
+use Rattle.kt_engine.proofs.Sessions.{running_keeps}
 use Rattle.kt_engine.proofs.engine.Engine.set_plan.Goals as goal
 
 pub invariant_of-self : goal.invariant_of-self

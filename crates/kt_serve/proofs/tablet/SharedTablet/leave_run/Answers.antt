@@ -1,6 +1,7 @@
-use Rattle.std.proofs.Common.{ap, ◌∙◌}
+use Rattle.std.proofs.Common.{◌≡◌, ap, sym, ◌∙◌}
+use Rattle.kt_seatlock.specs.Passes.{number}
 use Rattle.kt_serve.proofs.Stills.{still_tablet, stop_later}
-use Rattle.kt_serve.proofs.Ends.{log_stays}
+use Rattle.kt_serve.proofs.Ends.{log_stays, has_left}
 use Rattle.kt_serve.proofs.tablet.SharedTablet.leave_run.Goals as goal
 
 pub returns-clause-still : goal.returns-clause-still
@@ -11,3 +12,8 @@ returns-clause-log g c = λ h. log_stays _ _ c.enter-engine.result c.session_ove
 
 pub returns-clause-stop : goal.returns-clause-stop
 returns-clause-stop g c = λ h. stop_later _ _ _ _ c.enter-engine.ensures.trail (c.leave.ensures.told.0 ∙ ap (λ v. v.tablet.core.trail) c.session_over.ensures.running) h
+
+pub returns-clause-left : goal.returns-clause-left
+returns-clause-left g c =
+    let same : number c.leave.new.pass ≡ c.number-by.result = c.leave.ensures.pass.0.1 ∙ c.enter-engine.ensures.pass.0.1 ∙ sym c.number-by.ensures in
+    has_left _ c.enter-engine.result c.session_over.new.self c.number-by.result _ c.leave.ensures.told.1 same (ap (λ v. v.running) c.session_over.ensures.running)

@@ -1,7 +1,9 @@
-use Rattle.std.proofs.Common.{◌<◌, ◌+◌, ◌^◌, length, refl, ◌∙◌, rules}
-use Rattle.kt_tablet.specs.Views.{aloft_of, work_of}
-use Rattle.kt_tablet.specs.Visits.{MayEnd}
-use Rattle.kt_tablet.proofs.Flights.{within, flight_at, removed}
+use Rattle.std.proofs.Common.{◌≡◌, ◌<◌, ◌+◌, ◌^◌, length, map, refl, sym, ap, ◌∙◌, rules}
+use Rattle.std.specs.Prelude.{◌==◌}
+use Rattle.std.specs.List.{find}
+use Rattle.kt_tablet.specs.Views.{aloft_of, flier_of, work_of}
+use Rattle.kt_tablet.specs.Visits.{MayEnd, flight_of}
+use Rattle.kt_tablet.proofs.Flights.{within, flight_at, flier_at, same_aloft, removed}
 use Rattle.kt_tablet.proofs.Rows.{any_shown, placed_is, is_done}
 use Rattle.kt_tablet.proofs.Told.{told_on, told_ended}
 use Rattle.kt_tablet.proofs.Visits.{of_old, ends_as, end_sound, has_ended, ended_flights, ready_ended, who_flies, flies_so, has_turn}
@@ -19,8 +21,8 @@ remove-write-requires g c =
     let lt : c.place_of-place.result < length c.self.inside.flights.items = within c.args.number c.self.inside.flights.items c.place_of-place.result place in
     search rules
 
-pub end-requires : goal.end-requires
-end-requires g c =
+pub take-keys-requires : goal.take-keys-requires
+take-keys-requires g c =
     let may = of_old (λ core. MayEnd core c.args.number) _ _ c.self.view_is c.requires c.if-self.false in
     let place = placed_is c.args.number c.place_of-place.result c.self.inside.flights.items c.deref.result.now may.flight may.flies c.deref.ensures.value c.place_of-place.ensures in
     let ends = ends_as _ c.args.number c.remove-write.result may (flight_at c.args.number c.self.inside.flights.items c.place_of-place.result c.remove-write.result place c.remove-write.ensures.value) in
@@ -49,10 +51,10 @@ invariant_of-self g c =
     let filtered = c.remove-write.ensures.items ∙ removed c.args.number c.self.inside.flights.items c.place_of-place.result c.self.invariant.1.apart place in
     let lines = c.push_reserved.ensures.items in
     let sound = end_sound g.C.Clock.readings _ c.args.number c.remove-write.result _ _ _ _ _ c.self.invariant.0 c.if-self.false ends
-    lines c.end.ensures.mark c.end.ensures.last (ended_flights c.args.number _ _ filtered) c.set.ensures in (
+    lines c.take-keys.ensures.mark c.take-keys.ensures.last (ended_flights c.args.number _ _ filtered) c.set.ensures in (
       sound,
       ready_ended c.args.number c.remove-write.result.index c.remove-write.result.ts _ _ _ _ _ _ _ _ _ _ _ c.self.invariant.1 c.if-self.false ends.over (flies_so c.args.number c.remove-write.result.index c.remove-write.result.ts _ (aloft_of c.remove-write.result) ends.flies refl refl)
-          filtered c.end.ensures.flying c.push_reserved.ensures.len c.push_reserved.ensures.capacity,
+          filtered c.take-keys.ensures.flying c.push_reserved.ensures.len c.push_reserved.ensures.capacity,
       c.self.invariant.2,
       told_ended (work_of c.self.inside.schema.value c.self.inside.plan.value c.self.inside.cells c.self.inside.fill) _ _ _ c.push_reserved.new.self.items (g.S.RowStore.target c.self.inside.store) _ _ _ (told_on g.C.Clock.readings _ _ _ _ _ _ _ _ _ _ _ c.self.inside.flights.items c.self.invariant.0 sound refl lines c.self.invariant.3) filtered,
       c.self.invariant.4,
@@ -65,7 +67,7 @@ returns-clause-ended g c =
     let ends = ends_as _ c.args.number c.remove-write.result may (flight_at c.args.number c.self.inside.flights.items c.place_of-place.result c.remove-write.result place c.remove-write.ensures.value) in
     let filtered = c.remove-write.ensures.items ∙ removed c.args.number c.self.inside.flights.items c.place_of-place.result c.self.invariant.1.apart place in
     has_ended _ _ c.args.number c.remove-write.result _ _ _ _ _ c.self.view_is ends
-    c.push_reserved.ensures.items c.end.ensures.mark c.end.ensures.last (ended_flights c.args.number _ _ filtered) c.set.ensures
+    c.push_reserved.ensures.items c.take-keys.ensures.mark c.take-keys.ensures.last (ended_flights c.args.number _ _ filtered) c.set.ensures
 
 pub returns-clause-told : goal.returns-clause-told
 returns-clause-told g c =
@@ -73,3 +75,13 @@ returns-clause-told g c =
     let place = placed_is c.args.number c.place_of-place.result c.self.inside.flights.items c.deref.result.now may.flight may.flies c.deref.ensures.value c.place_of-place.ensures in
     let ends = ends_as _ c.args.number c.remove-write.result may (flight_at c.args.number c.self.inside.flights.items c.place_of-place.result c.remove-write.result place c.remove-write.ensures.value) in
     is_done _ _ c.args.number c.place_of-place.result c.self.inside.flights.items c.remove-write.result _ _ c.self.view_is refl place c.remove-write.ensures.value ends.over c.of.ensures c.of-2.ensures c.self.invariant.3
+
+pub returns-clause-held : goal.returns-clause-held
+returns-clause-held g c = λ flight found.
+    let may = of_old (λ core. MayEnd core c.args.number) _ _ c.self.view_is c.requires c.if-self.false in
+    let place = placed_is c.args.number c.place_of-place.result c.self.inside.flights.items c.deref.result.now may.flight may.flies c.deref.ensures.value c.place_of-place.ensures in
+    let here = flight_at c.args.number c.self.inside.flights.items c.place_of-place.result c.remove-write.result place c.remove-write.ensures.value in
+    let is : aloft_of c.remove-write.result ≡ flight = same_aloft _ _ (sym here ∙ ap (λ v. flight_of c.args.number v.core.aloft) c.self.view_is ∙ found) in
+    let keys = c.take-keys.ensures.keys (flier_of c.remove-write.result)
+    (ap (find (λ f. f.who == c.args.number)) c.self.invariant.1.held ∙ flier_at c.args.number c.self.inside.flights.items c.place_of-place.result c.remove-write.result place c.remove-write.ensures.value) in
+    (ap (λ w. w.ops) is, keys ∙ ap (λ w. map (λ op. op.key) w.ops) is)

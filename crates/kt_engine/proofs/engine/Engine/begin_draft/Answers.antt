@@ -1,0 +1,33 @@
+use Rattle.std.proofs.Common.{◌≡◌, ◌<◌, ◌≤◌, ◌+◌, ◌^◌, length, sym, ap, ◌∙◌, ◌++◌, ◌∷◌, [], refl, subst, rules, false, List, ℕ}
+use Rattle.kt_engine.proofs.Begun.{roomed_on, core_alone, may_on, left_alone, has_begun}
+use Rattle.kt_engine.proofs.Visiting.{visit_of, lending, begun_visit_on}
+use Rattle.kt_engine.proofs.engine.Engine.begin_draft.Goals as goal
+
+pub invariant_of-self : goal.invariant_of-self
+invariant_of-self g c =
+    let beside = core_alone c.self.inside.tablet c.ask.new.self c.ask.ensures.beside in
+    left_alone _ _ _ _ _ _ c.ask.new.self c.args.number c.args.index c.in_err-ask.field-0.0 beside c.in_err-ask.ensures.left c.self.invariant
+
+pub invariant_of-self-in_default : goal.invariant_of-self-in_default
+invariant_of-self-in_default g c = roomed_on _ _ _ _ _ _ c.ask.new.self c.make_room.new.log c.make_room.new.places.items c.in_ok-ask.ensures.same c.make_room.ensures.log c.make_room.ensures.more c.make_room.ensures.places.0 c.self.invariant
+
+pub invariant_of-self-in_default-begin_free : goal.invariant_of-self-in_default-begin_free
+invariant_of-self-in_default-begin_free g c =
+    roomed_on _ _ _ _ _ _ c.begin_free.new.self c.make_room.new.log c.make_room.new.places.items (c.in_default-begin_free.ensures.same ∙ c.in_ok-ask.ensures.same) c.make_room.ensures.log c.make_room.ensures.more c.make_room.ensures.places.0 c.self.invariant
+
+pub invariant_of-self-2 : goal.invariant_of-self-2
+invariant_of-self-2 g c =
+    let before = roomed_on _ _ _ _ _ _ c.ask.new.self c.make_room.new.log c.make_room.new.places.items c.in_ok-ask.ensures.same c.make_room.ensures.log c.make_room.ensures.more c.make_room.ensures.places.0 c.self.invariant in
+    let goes : c.self.inside.tablet.core.stopped ≡ false = c.in_ok-ask.ensures.free.goes in
+    let may = (rw (← c.self.view_is) at c.requires) goes in
+    let fits : c.in-Ok-begin_free.ts < 2 ^ 64 = search rules in
+    let room = subst (λ (ps : List (ℕ × ℕ)). length ps + 2 ≤ c.make_room.new.log.room) (sym c.make_room.ensures.places.0) c.in-Ok.ensures.room.0 in
+    has_begun _ _ _ _ _ _
+    c.begin_free.new.self c.push-place.new.self c.push_reserved.new.self.items c.args.number c.args.index c.in-Ok-begin_free.ts c.push-place.result c.args.draft.now.write.ops c.args.draft.now.write.ops c.replace-logged.result refl (c.replace-logged.ensures.value ∙ c.args.draft.now.alike)
+    c.begin_free.ensures.beside c.in-Ok-begin_free.ensures.begun c.push-place.ensures.queued c.push_reserved.ensures.items (may_on c.self.inside.tablet c.ask.new.self c.args.number c.args.index c.args.draft.now.write.ops c.in_ok-ask.ensures.same may.0) may.1 fits room c.push-place.ensures.place before
+
+pub returns-clause-visit : goal.returns-clause-visit
+returns-clause-visit g c = visit_of _ _ _ _ c.self.view_is
+    (begun_visit_on c.args.number c.args.index c.in-Ok-begin_free.ts c.push-place.result c.args.draft.now.write.ops _ c.ask.new.self c.begin_free.new.self c.push-place.new.self c.push_reserved.new.self.items c.in_ok-ask.ensures.same c.in-Ok-begin_free.ensures.begun c.begin_free.ensures.beside
+    (ap lending c.push-place.ensures.queued ∙ ap lending c.make_room.ensures.log)
+    (c.push_reserved.ensures.items ∙ ap (λ ps. ps ++ (c.args.number, c.push-place.result) ∷ []) c.make_room.ensures.places.0))
