@@ -45,7 +45,7 @@ none_here (suc k) = refl
 
 -- ---- the run
 
-module _ {L D C : Type 0} (came : ℕ → ℕ → Type 0) (view : EngineView L D C) (plan : List (List Command)) (ends : List SessionEnd) (ended : AllEnded came (root_of view) plan view.tablet.core.trail ends) (whole : All IsWhole ends) where
+module _ {L D C : Type 0} (came : ℕ → ℕ → Reply → Type 0) (view : EngineView L D C) (plan : List (List Command)) (ends : List SessionEnd) (ended : AllEnded came (root_of view) plan view.tablet.core.trail ends) (whole : All IsWhole ends) where
   abbrev replies : List (List Reply)
   replies = map (λ (e : SessionEnd). e.replies) ends
 
@@ -90,7 +90,7 @@ module _ {L D C : Type 0} (came : ℕ → ℕ → Type 0) (view : EngineView L D
   }
 
 -- what was run of an engine is said of the root that it has kept
-pub ended_of : {L D C : Type 0} (came : ℕ → ℕ → Type 0) (old new : EngineView L D C) (plan : List (List Command)) (ends : List SessionEnd) → root_of new ≡ root_of old
+pub ended_of : {L D C : Type 0} (came : ℕ → ℕ → Reply → Type 0) (old new : EngineView L D C) (plan : List (List Command)) (ends : List SessionEnd) → root_of new ≡ root_of old
     → AllEnded came (root_of old) plan new.tablet.core.trail ends → AllEnded came (root_of new) plan new.tablet.core.trail ends
 ended_of came old new plan ends e = subst (λ root. AllEnded came root plan new.tablet.core.trail ends) (sym e)
 

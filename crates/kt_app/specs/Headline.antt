@@ -60,8 +60,9 @@ IsAnswered reply.Stopped = ⊥
 abbrev pub AreAnswered : List (List ShownReply) → Type 0
 AreAnswered replies = AllByRecursion (AllByRecursion (λ (r : ShownReply). IsAnswered r.reply)) replies
 
--- The text is the output text of this run of the workload from a past, in which every number fits in 64 bits and the
--- clock gave these readings. Its history ends with `stop` where it was stopped, and else every command was answered.
+-- The text is the output text of this run of the workload from a past, in which every number fits in its 64 or 32 bits
+-- and the clock gave these readings. Its history ends with `stop` where it was stopped, and else every command was
+-- answered.
 pub record IsOutput (work : Workload) (past : Past) (c : ℕ) (stopped : Bool) (text readings : List ℕ) (events : List Event) : Type 0 where
   pub run : IsRun work past c events
   pub clock : readings_of events ≡ readings

@@ -1,7 +1,8 @@
 //! The output text of a run.
-ghost use Rattle.std.specs.Prelude.{◌≡◌, IfOk, All, Some};
-ghost use Rattle.kt_script.specs.Texts.{output_text, reply_numbers};
-ghost use Rattle.kt_script.specs.Laws.{Fits64, EventFits, ReplyFits, OutputFits};
+ghost use Rattle.std.specs.Prelude.{◌≡◌, List, IfOk, All, Some};
+ghost use Rattle.kt_base.specs.declared.cell.Kind.{Kind};
+ghost use Rattle.kt_script.specs.Texts.{output_text, reply_numbers, seen_of};
+ghost use Rattle.kt_script.specs.Laws.{Fits64, Fits32, short_of_reply, EventFits, ReplyFits, OutputFits};
 ghost use Rattle.kt_app.specs.Headline.{kinds_shown as kinds_printed, shown_from, all_shown};
 ghost use Rattle.kt_app.specs.Session.{on_table};
 ghost use Rattle.kt_app.specs.Played.{given, reply_in, end_of_run};
@@ -23,7 +24,8 @@ pub struct Output {
 
 // The numbers of a reply are numbers of the program.
 fn reply_fits(reply: &Reply)
-    ensures { All Fits64 (reply_numbers reply.now) }
+    ensures numbers { All Fits64 (reply_numbers reply.now) }
+    ensures short { (kinds : List Kind) → All Fits32 (short_of_reply (seen_of kinds reply.now)) }
 {
     match reply {
         Reply::At { ts, outcomes: _ } => {

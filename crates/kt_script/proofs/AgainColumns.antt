@@ -1,5 +1,5 @@
 -- A column line that is taken is the text of its column, and the words of a line make the line.
-use Rattle.std.proofs.Common.{◌≡◌, ℕ, ◌+◌, ◌<◌, Bool, true, false, min, ◌&&◌, List, [], ◌∷◌, ◌++◌, length, Option, Some, None, Result, Ok, Err, refl, sym, ap, subst, ◌∙◌, arith}
+use Rattle.std.proofs.Common.{◌≡◌, ◌≤◌, ℕ, ◌+◌, ◌<◌, Bool, true, false, min, ◌&&◌, List, [], ◌∷◌, ◌++◌, length, Option, Some, None, Result, Ok, Err, refl, sym, ap, subst, ◌∙◌, arith}
 use Rattle.std.specs.Prelude.{if◌then◌else◌, codes}
 use Rattle.std.specs.List.{flat_map, onto_first}
 use Rattle.std.proofs.lemmas.Bool.{false≢true, eqb-true}
@@ -152,13 +152,13 @@ default_again k (Some text) h = ap (λ t. codes "default" ∷ t ∷ []) (by (cel
     by (Err no.Long) e g = absurd (omega arith)
     by (Err no.Memory) e g = absurd (no_memory k text e)
 
-pub column_again : (columns : List Column) (l : List ℕ) → column_no columns l ≡ sound → (c : Column) × (columns_with columns l ≡ columns ++ c ∷ []) × (l ≡ words (column_words c))
+pub column_again : (columns : List Column) (l : List ℕ) → sound ≤ column_no columns l → (c : Column) × (columns_with columns l ≡ columns ++ c ∷ []) × (l ≡ words (column_words c))
 column_again columns l h = by (column_line (words_of l)) refl h
   where
-    by : (o : Option ColumnLine) → column_line (words_of l) ≡ o → said_no columns o ≡ sound → (c : Column) × (with_column columns o ≡ columns ++ c ∷ []) × (l ≡ words (column_words c))
-    by None e g = let four : ◌≡◌ {A = ℕ} 4 21 = g in absurd (omega arith)
+    by : (o : Option ColumnLine) → column_line (words_of l) ≡ o → sound ≤ said_no columns o → (c : Column) × (with_column columns o ≡ columns ++ c ∷ []) × (l ≡ words (column_words c))
+    by None e g = absurd (omega (arith, g))
     by (Some s) e g =
-        let whole : min (default_no s.kind s.default) (place_no columns s) ≡ 21 = g in
+        let whole : sound ≤ min (default_no s.kind s.default) (place_no columns s) = g in
         let kept : 17 < default_no s.kind s.default = omega (arith, whole) in (
           record { id = length columns + 1; name = s.name; kind = s.kind; key = s.key; nullable = s.nullable; default = default_value s.kind s.default },
           refl,

@@ -1,5 +1,5 @@
 -- Words NAME=LIT that are taken are printed from their cells as these words, those of the first column first.
-use Rattle.std.proofs.Common.{◌≡◌, ℕ, suc, ◌<◌, Bool, true, false, not, cond, ◌&&◌, ◌||◌, List, [], ◌∷◌, ◌++◌, drop, Option, Some, None, inl, inr, refl, sym, ap, subst, ◌∙◌, arith}
+use Rattle.std.proofs.Common.{◌≡◌, ℕ, suc, ◌<◌, ◌≤◌, Bool, true, false, not, cond, ◌&&◌, ◌||◌, List, [], ◌∷◌, ◌++◌, drop, Option, Some, None, inl, inr, refl, sym, ap, ◌∙◌, arith}
 use mathlib.Core.List.{append-nil}
 use Rattle.std.specs.Prelude.{if◌then◌else◌, ◌==◌}
 use Rattle.std.specs.List.{list_any, flat_map, filter, AllByRecursion}
@@ -22,22 +22,22 @@ use Rattle.kt_script.specs.Columns.{IsTable}
 use Rattle.kt_script.specs.Writes.{name_in, behind_name, column_named, under_no, given_no, named_no, all_named_no, with_named, all_named}
 use Rattle.kt_script.specs.Fit.{fits_column, is_part}
 use Rattle.kt_script.specs.Print.{cell_word, cell_words}
-use Rattle.kt_script.specs.Ordered.{in_order}
-use Rattle.kt_script.proofs.PartFits.{Rises, others_rise, Has, has_above, found_has, part_named}
+use Rattle.kt_script.specs.Alike.{of_name}
+use Rattle.kt_script.proofs.PartFits.{Rises, others_rise, Has, each, has_above, found_has, part_named}
 use Rattle.kt_script.proofs.ScanFit.{name_is}
 use Rattle.kt_script.proofs.AgainLiterals.{literal_again, name_behind}
 use Rattle.kt_script.proofs.PrintedTables.{same_self, IsNamed, all_named_in, apart_kept, apart_of}
 
 -- ---- NAME=LIT
 
-abbrev cell_behind : Column → List ℕ → Cell
+abbrev pub cell_behind : Column → List ℕ → Cell
 cell_behind c behind = cell_value c.kind (drop 1 behind)
 
 -- the column of a word, and its text
-record Says (others : List Column) (word : List ℕ) : Type 0 where
-  column : Column
-  found : column_named others (name_in word) ≡ Some column
-  is : word ≡ name_in word ++ 61 ∷ literal column.kind (cell_behind column (behind_name word))
+pub record Says (others : List Column) (word : List ℕ) : Type 0 where
+  pub column : Column
+  pub found : column_named others (name_in word) ≡ Some column
+  pub is : word ≡ name_in word ++ 61 ∷ literal column.kind (cell_behind column (behind_name word))
 
 given : (others : List Column) (name behind : List ℕ) → 17 < given_no others name behind → (c : Column) × (column_named others name ≡ Some c) × (behind ≡ 61 ∷ literal c.kind (cell_behind c behind))
 given others name [] h = absurd (omega arith)
@@ -51,25 +51,19 @@ given others name (b ∷ word) h = by (is_name name && (b == 61)) refl h
     by true t g = of (eqb-true b 61 (both_true (is_name name) (b == 61) t).1) (column_named others name) refl g
     by false t g = absurd (omega arith)
 
-says : (others : List Column) (word : List ℕ) → 17 < named_no others word → Says others word
+pub says : (others : List Column) (word : List ℕ) → 17 < named_no others word → Says others word
 says others word h =
     let g = given others (name_in word) (behind_name word) h in
     record { column = g.0; found = g.1; is = name_behind word ∙ ap (λ rest. name_in word ++ rest) g.2 }
 
 -- ---- columns by rising id
 
-one_id : (n : ℕ) (columns : List Column) (c d : Column) → Rises n columns → Has columns c → Has columns d → c.id ≡ d.id → c ≡ d
+pub one_id : (n : ℕ) (columns : List Column) (c d : Column) → Rises n columns → Has columns c → Has columns d → c.id ≡ d.id → c ≡ d
 one_id n [] c d r h g e = absurd h
 one_id n (x ∷ columns) c d r (inl h) (inl g) e = sym h ∙ g
 one_id n (x ∷ columns) c d r (inl h) (inr g) e = let id = ap (λ (y : Column). y.id) h in let above = has_above (suc x.id) columns d r.1 g in absurd (omega arith)
 one_id n (x ∷ columns) c d r (inr h) (inl g) e = let id = ap (λ (y : Column). y.id) g in let above = has_above (suc x.id) columns c r.1 h in absurd (omega arith)
 one_id n (x ∷ columns) c d r (inr h) (inr g) e = one_id (suc x.id) columns c d r.1 h g e
-
--- what holds of each holds of one
-each : (P : Column → Type 0) (columns : List Column) (c : Column) → AllByRecursion P columns → Has columns c → P c
-each P [] c all h = absurd h
-each P (d ∷ columns) c all (inl e) = subst P e all.0
-each P (d ∷ columns) c all (inr h) = each P columns c all.1 h
 
 alike : (f g : Column → List (List ℕ)) (columns : List Column) → ((c : Column) → Has columns c → f c ≡ g c) → flat_map f columns ≡ flat_map g columns
 alike f g [] h = refl
@@ -80,7 +74,7 @@ alike f g (c ∷ columns) h = ap (λ x. x ++ flat_map f columns) (h c (inl refl)
 tied : (q k : ℕ) → q ≡ k → eq_by_cmp nat_cmp q k ≡ true
 tied q k e = ap is_eq (nat_cmp-by q k Equal (λ lt. absurd (omega arith)) (λ is. refl) (λ gt. absurd (omega arith)))
 
-untied : (q k : ℕ) → (q ≡ k → ⊥) → eq_by_cmp nat_cmp q k ≡ false
+pub untied : (q k : ℕ) → (q ≡ k → ⊥) → eq_by_cmp nat_cmp q k ≡ false
 untied q k other = elim (cases_lt q k) [
   | inl lt ↦ ap is_eq (nat_cmp-by q k Less (λ l. refl) (λ e. absurd (other e)) (λ g. absurd (omega arith)))
   | inr past ↦ ap is_eq (nat_cmp-by q k Greater (λ l. absurd (omega arith)) (λ e. absurd (other e)) (λ g. refl))
@@ -95,10 +89,10 @@ word_of c (Some x) = cell_word true c x ∷ []
 abbrev word_in : List (ℕ × Cell) → Column → List (List ℕ)
 word_in cells c = word_of c (find nat_cmp c.id cells)
 
-find_later : (x : ℕ × Cell) (cells : List (ℕ × Cell)) (q : ℕ) → x.0 < q → find nat_cmp q (x ∷ cells) ≡ find nat_cmp q cells
+pub find_later : (x : ℕ × Cell) (cells : List (ℕ × Cell)) (q : ℕ) → x.0 < q → find nat_cmp q (x ∷ cells) ≡ find nat_cmp q cells
 find_later x cells q lt = ap (λ t. cond t (Some x.1) (find nat_cmp q cells)) (untied q x.0 (λ e. omega arith))
 
-none_below : (n k : ℕ) (columns : List Column) (cells : List (ℕ × Cell)) → Rises n columns → is_part columns cells ≡ true → k < n → find nat_cmp k cells ≡ None
+pub none_below : (n k : ℕ) (columns : List Column) (cells : List (ℕ × Cell)) → Rises n columns → is_part columns cells ≡ true → k < n → find nat_cmp k cells ≡ None
 none_below n k [] [] r p lt = refl
 none_below n k [] (x ∷ cells) r p lt = absurd (false≢true p)
 none_below n k (c ∷ columns) [] r p lt = refl
@@ -146,7 +140,7 @@ either_false true b h = absurd (false≢true (sym h))
 either_false false b h = (refl, h)
 
 -- the cells with that of one word more
-abbrev with_word : List Column → List (ℕ × Cell) → List ℕ → List (ℕ × Cell)
+abbrev pub with_word : List Column → List (ℕ × Cell) → List ℕ → List (ℕ × Cell)
 with_word others cells word = with_named (column_named others (name_in word)) (drop 1 (behind_name word)) cells
 
 module _ (n : ℕ) (others : List Column) (rises : Rises n others) (named : AllByRecursion (IsNamed others) others) (d : Column) (has : Has others d) where
@@ -205,7 +199,11 @@ module _ (n : ℕ) (others : List Column) (rises : Rises n others) (named : AllB
           ∙ ap (λ o. word_of d o ++ w ∷ filter (λ word. same d.name (name_in word)) ws) (sym (fresh (ap (λ x. list_any (λ m. same m x) seen) (same_text d.name (name_in w) e) ∙ once)))
       by taken once false e = ap (λ o. word_of d o ++ filter (λ word. same d.name (name_in word)) ws) (other_word w cells taken e)
 
-pub named_again : (columns : List Column) → IsTable columns → (ws : List (List ℕ)) → all_named_no (other_columns columns) [] ws ≡ sound
+-- the words NAME=LIT, those of the first column first
+abbrev pub in_order : List Column → List (List ℕ) → List (List ℕ)
+in_order others ws = flat_map (λ (c : Column). of_name c.name ws) others
+
+pub named_again : (columns : List Column) → IsTable columns → (ws : List (List ℕ)) → sound ≤ all_named_no (other_columns columns) [] ws
     → cell_words true (other_columns columns) (all_named (other_columns columns) [] ws) ≡ in_order (other_columns columns) ws
 named_again columns table ws h =
     let others : List Column = other_columns columns in

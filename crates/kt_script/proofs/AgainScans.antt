@@ -57,11 +57,11 @@ time_is word t e h = by (is_count word) refl e
         number_text word (pos (count_on 0 word)) (unsigned word counts) (omega (arith, is, low)) ∙ ap decimal is
     by false counts g = absurd cc
 
-pub mark_again : (ws : List (List ℕ)) → mark_no ws ≡ sound → codes "mark " ++ decimal (mark_of ws) ≡ words (codes "mark" ∷ ws)
+pub mark_again : (ws : List (List ℕ)) → sound ≤ mark_no ws → codes "mark " ++ decimal (mark_of ws) ≡ words (codes "mark" ∷ ws)
 mark_again [] h = absurd (omega (arith, h))
 mark_again (word ∷ []) h = by (time_in word) refl h
   where
-    by : (o : Option ℕ) → time_in word ≡ o → time_no o ≡ sound → codes "mark " ++ decimal (time_or_zero o) ≡ words (codes "mark" ∷ word ∷ [])
+    by : (o : Option ℕ) → time_in word ≡ o → sound ≤ time_no o → codes "mark " ++ decimal (time_or_zero o) ≡ words (codes "mark" ∷ word ∷ [])
     by None e g = absurd (omega arith)
     by (Some t) e g = ap (λ x. codes "mark " ++ x) (sym (time_is word t e (omega (arith, g))) ∙ sym (append-nil word))
 mark_again (word ∷ more ∷ later) h = absurd (omega (arith, h))
@@ -348,7 +348,7 @@ line_said columns (word ∷ names ∷ ws) l counts e h = by (same word (codes "s
     by true w g = ap (λ x. (32 ∷ x) ++ flat_map spaced (names ∷ ws)) (same_text word (codes "select") w) ∙ some_selected columns names ws l counts g h
     by false w g = none_selected columns (word ∷ names ∷ ws) l counts g h
 
-pub scan_again : (columns : List Column) (ws : List (List ℕ)) → IsTable columns → scan_no columns ws ≡ sound → scan_text columns (scan_of columns ws) ≡ words (codes "scan" ∷ ws)
+pub scan_again : (columns : List Column) (ws : List (List ℕ)) → IsTable columns → sound ≤ scan_no columns ws → scan_text columns (scan_of columns ws) ≡ words (codes "scan" ∷ ws)
 scan_again columns ws table h = by (timed ws) refl (omega (arith, h))
   where
     behind : (at : At) (rest : List (List ℕ)) (o : Option ScanLine) → select_line rest ≡ o → flat_map spaced ws ≡ (32 ∷ at_text at) ++ flat_map spaced rest → sound ≤ line_no columns o → scan_text columns (scan_said columns at o) ≡ words (codes "scan" ∷ ws)

@@ -1,6 +1,6 @@
 -- The lines below the columns, one after another.
 use Rattle.std.proofs.Common.{◌≡◌, ℕ, suc, ◌+◌, ◌<◌, ◌≤◌, Bool, true, false, not, List, [], ◌∷◌, ◌++◌, length, Option, Some, None, Result, Ok, Err, min, refl, sym, ap, subst, ◌∙◌, arith, length-append}
-use Rattle.std.specs.Prelude.{if◌then◌else◌, is_some, map, nat_lt, nat_le, codes}
+use Rattle.std.specs.Prelude.{if◌then◌else◌, is_some, nat_lt, nat_le, codes}
 use Rattle.kt_base.specs.Literals.{same}
 use Rattle.std.specs.List.{list_any, AllByRecursion}
 use Rattle.std.proofs.lemmas.Bool.Decides.{nat_tests}
@@ -13,7 +13,7 @@ use Rattle.kt_script.specs.declared.refusal.ScriptNo.TheVariants as why
 use Rattle.kt_script.specs.Pieces.{cut, words_of}
 use Rattle.kt_script.specs.Reasons.{sound, reason_if}
 use Rattle.kt_script.specs.Columns.{begins_column, column_no, columns_with, counts_from}
-use Rattle.kt_script.specs.Writes.{op_kind, op_key, ops_of, twice, write_no, write_of}
+use Rattle.kt_script.specs.Writes.{op_kind, write_no, write_of}
 use Rattle.kt_script.specs.Scripts.{head, body, Word, session, scan, mark, write, other, fault_if, fault_from, above_end, at, located, first_piece, first_word, word_of, word_of_op, session_no, command_no, command_of, in_session_no, worded_no, worded_plan, body_no, body_plan, push_last, commands_in, is_begun, most_sessions, most_commands, said, ReadsBody, ReadsWorded}
 use Rattle.kt_script.specs.Times.{most_time, time_no, time_or_zero, mark_in, mark_no, mark_of}
 use Rattle.kt_script.specs.Fit.{CommandFits, WriteFits, PlanFits, IsBodyRead}
@@ -70,7 +70,7 @@ body_cut_off {columns} {n} {number} {text} {rest} {plan} r is some = r.fault ∙
     by [] g = absurd (g refl)
     by (x ∷ xs) g = refl
 
-off : (b : Bool) (r : ℕ) → r < 21 → 21 ≤ reason_if b r → b ≡ false
+off : (b : Bool) (r : ℕ) → r < sound → sound ≤ reason_if b r → b ≡ false
 off true r h g = absurd (omega arith)
 off false r h g = refl
 
@@ -114,19 +114,12 @@ push_is c [] last = refl
 push_is c (x ∷ []) last = refl
 push_is c (x ∷ y ∷ ended) last = ap (λ plan. x ∷ plan) (push_is c (y ∷ ended) last)
 
-command_pushed : (columns : List Column) (plan : List (List Command)) (c : Command) → PlanFits columns plan → CommandFits columns c → is_begun plan ≡ true → 21 ≤ reason_if (nat_le most_commands (commands_in plan)) 20 → PlanFits columns (push_last c plan)
+command_pushed : (columns : List Column) (plan : List (List Command)) (c : Command) → PlanFits columns plan → CommandFits columns c → is_begun plan ≡ true → sound ≤ reason_if (nat_le most_commands (commands_in plan)) 20 → PlanFits columns (push_last c plan)
 command_pushed columns plan c fits fit some free =
     let p = pushed columns c plan fit fits.each some in
     let room : nat_le most_commands (commands_in plan) ≡ false = off _ 20 (omega arith) free in
     let below : commands_in plan < 262144 = grind (arith, nat_tests) in
     record { sessions = omega (arith, p.0, fits.sessions); commands = omega (arith, p.1, below); each = p.2 }
-
-reason_low : (b : Bool) (r : ℕ) → r ≤ 21 → reason_if b r ≤ 21
-reason_low true r h = h
-reason_low false r h = omega arith
-
-pub write_low : (columns : List Column) (words : List (List ℕ)) → write_no columns words ≤ 21
-write_low columns words = let last = reason_low (twice (map (op_key columns) (ops_of words))) 19 (omega arith) in omega (arith, last)
 
 -- a mark that no reason refuses is not too late
 mark_fits : (words : List (List ℕ)) → sound ≤ mark_no words → mark_of words ≤ most_time
@@ -141,11 +134,11 @@ mark_fits words h = by (mark_in words) h
     by (Some t) g = low t (nat_lt most_time t) refl g
 
 -- a line that no reason refuses keeps the plan fitting
-pub body_fits : (columns : List Column) (plan : List (List Command)) (words : List (List ℕ)) → counts_from 1 columns ≡ true → ((ws : List (List ℕ)) → write_no columns ws ≡ sound → WriteFits columns (write_of columns ws)) → PlanFits columns plan
-    → body_no columns plan words ≡ sound → PlanFits columns (body_plan columns plan words)
+pub body_fits : (columns : List Column) (plan : List (List Command)) (words : List (List ℕ)) → counts_from 1 columns ≡ true → ((ws : List (List ℕ)) → sound ≤ write_no columns ws → WriteFits columns (write_of columns ws)) → PlanFits columns plan
+    → sound ≤ body_no columns plan words → PlanFits columns (body_plan columns plan words)
 body_fits columns plan words counts writes fits h = by (first_word words) words h
   where
-    begin : (ws : List (List ℕ)) → session_no plan ws ≡ sound → PlanFits columns (plan ++ [] ∷ [])
+    begin : (ws : List (List ℕ)) → sound ≤ session_no plan ws → PlanFits columns (plan ++ [] ∷ [])
     begin [] g = absurd (omega (arith, g))
     begin (w ∷ []) g =
         let none : nat_le most_sessions (length plan) ≡ false = off _ 20 (omega arith) (omega (arith, g)) in
@@ -154,33 +147,33 @@ body_fits columns plan words counts writes fits h = by (first_word words) words 
         record { sessions = omega (arith, more.0, below); commands = omega (arith, more.1, fits.commands); each = each_push (AllByRecursion (CommandFits columns)) plan [] fits.each tt }
     begin (w ∷ v ∷ ws) g = absurd (omega (arith, g))
 
-    in_session : (c : Command) (reason : ℕ) → (sound ≤ reason → CommandFits columns c) → (b : Bool) → is_begun plan ≡ b → (if b then min reason (reason_if (nat_le most_commands (commands_in plan)) 20) else 11) ≡ sound → PlanFits columns (push_last c plan)
+    in_session : (c : Command) (reason : ℕ) → (sound ≤ reason → CommandFits columns c) → (b : Bool) → is_begun plan ≡ b → sound ≤ (if b then min reason (reason_if (nat_le most_commands (commands_in plan)) 20) else 11) → PlanFits columns (push_last c plan)
     in_session c reason fit true some g = command_pushed columns plan c fits (fit (omega (arith, g))) some (omega (arith, g))
     in_session c reason fit false some g = absurd (omega (arith, g))
 
-    by_scan : (ws : List (List ℕ)) → in_session_no columns plan scan ws ≡ sound → PlanFits columns (push_last (command_of columns scan ws) plan)
+    by_scan : (ws : List (List ℕ)) → sound ≤ in_session_no columns plan scan ws → PlanFits columns (push_last (command_of columns scan ws) plan)
     by_scan [] g = in_session (command_of columns scan []) 12 (λ k. absurd (omega (arith, k))) (is_begun plan) refl g
     by_scan (w ∷ ws) g = in_session (command_of columns scan (w ∷ ws)) (command_no columns scan (w ∷ ws)) (scan_fits columns ws counts) (is_begun plan) refl g
 
-    by_mark : (ws : List (List ℕ)) → in_session_no columns plan mark ws ≡ sound → PlanFits columns (push_last (command_of columns mark ws) plan)
+    by_mark : (ws : List (List ℕ)) → sound ≤ in_session_no columns plan mark ws → PlanFits columns (push_last (command_of columns mark ws) plan)
     by_mark [] g = in_session (command_of columns mark []) 12 (λ k. absurd (omega (arith, k))) (is_begun plan) refl g
     by_mark (w ∷ ws) g = in_session (command_of columns mark (w ∷ ws)) (command_no columns mark (w ∷ ws)) (mark_fits ws) (is_begun plan) refl g
 
-    by : (w : Word) (ws : List (List ℕ)) → worded_no columns plan w ws ≡ sound → PlanFits columns (worded_plan columns plan w ws)
+    by : (w : Word) (ws : List (List ℕ)) → sound ≤ worded_no columns plan w ws → PlanFits columns (worded_plan columns plan w ws)
     by session ws g = begin ws g
     by scan ws g = by_scan ws g
     by mark ws g = by_mark ws g
-    by write ws g = in_session (command_of columns write ws) (write_no columns ws) (λ k. writes ws (omega (arith, k, write_low columns ws))) (is_begun plan) refl g
+    by write ws g = in_session (command_of columns write ws) (write_no columns ws) (writes ws) (is_begun plan) refl g
     by other ws g = absurd (omega (arith, g))
 
 -- a line that is read
 pub body_read : {A : Type 0} {columns : List Column} {n number : ℕ} {text rest : List ℕ} {old new : List (List Command)} (front behind : List ℕ) (done : A) → counts_from 1 columns ≡ true
-    → ((ws : List (List ℕ)) → write_no columns ws ≡ sound → WriteFits columns (write_of columns ws)) → BodyRead columns n text rest number old → cut 10 rest ≡ front ∷ cut 10 behind → length behind < length rest
+    → ((ws : List (List ℕ)) → sound ≤ write_no columns ws → WriteFits columns (write_of columns ws)) → BodyRead columns n text rest number old → cut 10 rest ≡ front ∷ cut 10 behind → length behind < length rest
     → ReadsBody {A = A} columns old (words_of front) new (Ok done) → BodyRead columns n text behind (number + 1) new
 body_read {columns = columns} {number = number} {rest = rest} {old = old} {new = new} front behind done counts writes r is less reads = record {
   fault = r.fault ∙ (fault_step (body columns old) number rest front behind is ∙ (untold number (body_no columns old (words_of front)) _ reads.0 ∙ ap (λ p. fault_from (body columns p) (number + 1) (cut 10 behind)) (sym reads.1)));
   end = r.end ∙ (ap said (end_step (body columns old) rest front behind is) ∙ ap (λ p. said (above_end (body columns p) (cut 10 behind))) (sym reads.1));
-  fits = subst (PlanFits columns) (sym reads.1) (body_fits columns old (words_of front) counts writes r.fits reads.0);
+  fits = subst (PlanFits columns) (sym reads.1) (body_fits columns old (words_of front) counts writes r.fits (omega (arith, reads.0)));
   size = omega (arith, r.size, less);
 }
 

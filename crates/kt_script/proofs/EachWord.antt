@@ -5,7 +5,7 @@ use Rattle.std.proofs.lemmas.List.{append-nil}
 use Rattle.std.specs.Prelude.{codes, is_some, Result, Ok, Err, IfOk}
 use Rattle.kt_base.specs.declared.cell.Kind.TheVariants as kind
 use Rattle.kt_base.specs.declared.cell.Cell.{Cell}
-use Rattle.kt_base.specs.declared.refusal.NoMemory.{NoMemory}
+use Rattle.kt_bytes.specs.declared.memory.NoMemory.{NoMemory}
 use Rattle.kt_base.specs.declared.literal.LiteralNo.{LiteralNo}
 use Rattle.kt_base.specs.declared.literal.LiteralNo.TheVariants as no
 use Rattle.kt_base.specs.Literals.{Value, nothing, truth, number, text, raw, Reads, cell_or, cell_under}

@@ -12,12 +12,12 @@ use Rattle.kt_history.specs.declared.change.Outcome.{Outcome}
 use Rattle.kt_history.specs.declared.change.Outcome.TheVariants.{Done, Present, Absent, Ignored}
 use Rattle.kt_history.specs.declared.event.Event.{Event}
 use Rattle.kt_history.specs.declared.event.Event.TheVariants as event
-use Rattle.kt_history.specs.declared.reply.Reply.{Reply}
-use Rattle.kt_history.specs.declared.reply.Reply.TheVariants as reply
+use Rattle.kt_script.specs.declared.replies.ReplyLine.{ReplyLine}
+use Rattle.kt_script.specs.declared.replies.ReplyLine.TheVariants as reply
 use Rattle.kt_script.specs.declared.output.LastLine.{LastLine}
 use Rattle.kt_script.specs.declared.output.LastLine.TheVariants as last
 use Rattle.kt_base.specs.Literals.{hex, string_byte, bytes_literal, literal}
-use Rattle.kt_script.specs.Texts.{spaced, words, literals, row_text, outcome_word, reply_word, reply_numbers, outcome_words, reply_words, event_word, event_numbers, event_words, last_words}
+use Rattle.kt_script.specs.Texts.{spaced, words, literals, row_text, outcome_word, line_word, line_numbers, line_outcomes, line_words, event_word, event_numbers, event_words, last_words}
 use Rattle.kt_script.specs.Laws.{Fits64, LastFits}
 use Rattle.kt_base.proofs.Decimals.{IsInk, decimal_ink, signed_ink, no_byte}
 use Rattle.kt_script.proofs.Cuts.{Without}
@@ -59,28 +59,28 @@ outcomes_ink : (os : List Outcome) → AllByRecursion Ink (map outcome_word os)
 outcomes_ink [] = tt
 outcomes_ink (o ∷ os) = (outcome_ink o, outcomes_ink os)
 
-reply_word_ink : (r : Reply) → Ink (reply_word r)
-reply_word_ink (reply.At ts os) = ink (codes "at") refl
-reply_word_ink (reply.Rows t rows) = ink (codes "rows") refl
-reply_word_ink (reply.Ancient t a) = ink (codes "ancient") refl
-reply_word_ink (reply.Busy t f) = ink (codes "busy") refl
-reply_word_ink (reply.Ahm a) = ink (codes "ahm") refl
-reply_word_ink reply.Done = ink (codes "done") refl
-reply_word_ink (reply.Large n) = ink (codes "large") refl
-reply_word_ink reply.Stopped = ink (codes "stopped") refl
+line_word_ink : (r : ReplyLine) → Ink (line_word r)
+line_word_ink (reply.At ts os) = ink (codes "at") refl
+line_word_ink (reply.Rows t lines) = ink (codes "rows") refl
+line_word_ink (reply.Ancient t a) = ink (codes "ancient") refl
+line_word_ink (reply.Busy t f) = ink (codes "busy") refl
+line_word_ink (reply.Ahm a) = ink (codes "ahm") refl
+line_word_ink reply.Done = ink (codes "done") refl
+line_word_ink (reply.Large n) = ink (codes "large") refl
+line_word_ink reply.Stopped = ink (codes "stopped") refl
 
-reply_outcomes_ink : (r : Reply) → AllByRecursion Ink (outcome_words r)
-reply_outcomes_ink (reply.At ts os) = outcomes_ink os
-reply_outcomes_ink (reply.Rows t rows) = tt
-reply_outcomes_ink (reply.Ancient t a) = tt
-reply_outcomes_ink (reply.Busy t f) = tt
-reply_outcomes_ink (reply.Ahm a) = tt
-reply_outcomes_ink reply.Done = tt
-reply_outcomes_ink (reply.Large n) = tt
-reply_outcomes_ink reply.Stopped = tt
+line_outcomes_ink : (r : ReplyLine) → AllByRecursion Ink (line_outcomes r)
+line_outcomes_ink (reply.At ts os) = outcomes_ink os
+line_outcomes_ink (reply.Rows t lines) = tt
+line_outcomes_ink (reply.Ancient t a) = tt
+line_outcomes_ink (reply.Busy t f) = tt
+line_outcomes_ink (reply.Ahm a) = tt
+line_outcomes_ink reply.Done = tt
+line_outcomes_ink (reply.Large n) = tt
+line_outcomes_ink reply.Stopped = tt
 
-pub reply_ink : (r : Reply) → AllByRecursion Fits64 (reply_numbers r) → AllByRecursion Ink (reply_words r)
-reply_ink r p = (reply_word_ink r, join Ink (map decimal (reply_numbers r)) (outcome_words r) (numbers_ink (reply_numbers r) p) (reply_outcomes_ink r))
+pub line_ink : (r : ReplyLine) → AllByRecursion Fits64 (line_numbers r) → AllByRecursion Ink (line_words r)
+line_ink r p = (line_word_ink r, join Ink (map decimal (line_numbers r)) (line_outcomes r) (numbers_ink (line_numbers r) p) (line_outcomes_ink r))
 
 event_word_ink : (e : Event) → Ink (event_word e)
 event_word_ink (event.Begin s i ts m) = ink (codes "begin") refl

@@ -1,7 +1,6 @@
 pub mod Words
 pub mod Cuts
 pub mod InLine
-pub mod Readback
 pub mod Outputs
 pub mod ScriptTests
 pub mod Pieces
@@ -37,7 +36,6 @@ pub mod TimeTests
 pub mod ToldTexts
 pub mod EachWord
 pub mod Rereads
-pub mod LineInk
 pub mod OutputTests
 pub mod PrintedRows
 pub mod AgainLiterals
@@ -45,13 +43,8 @@ pub mod AgainNames
 pub mod AgainColumns
 pub mod AgainScans
 pub mod AgainKeys
+pub mod Renamed
 pub mod AgainWrites
-pub mod Ordered
+pub mod TextsAgain
 pub mod OrderTests
-pub mod OrderedLengths
-pub mod Bytes
-pub mod ColumnsSaid
-pub mod OpsSaid
-pub mod ScansSaid
-pub mod CommandsSaid
-pub mod ReadAgain
+pub mod FormLaws

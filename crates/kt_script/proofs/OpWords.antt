@@ -1,9 +1,8 @@
 -- What the words of operations say, a word at a time.
-use Rattle.std.proofs.Common.{◌≡◌, ℕ, zero, suc, ◌+◌, ◌<◌, ◌≤◌, min, Bool, true, false, not, ◌&&◌, ◌||◌, cond, List, [], ◌∷◌, ◌++◌, length, drop, map, Option, Some, None, Result, Ok, Err, inl, inr, refl, sym, ap, ◌∙◌, arith, append_assoc}
+use Rattle.std.proofs.Common.{◌≡◌, ℕ, suc, ◌+◌, ◌<◌, ◌≤◌, min, Bool, true, false, not, ◌&&◌, ◌||◌, cond, List, [], ◌∷◌, ◌++◌, length, drop, map, Option, Some, None, Result, Ok, Err, inl, inr, refl, sym, ap, ◌∙◌, arith, append_assoc}
 use Rattle.std.specs.Prelude.{◌⊎◌, ℤ, pos, negsuc, if◌then◌else◌, nat_lt, codes}
 use Rattle.std.specs.List.{list_any, list_all, onto_first}
 use Rattle.std.proofs.lemmas.Bool.Decides.{nat_tests}
-use Rattle.std.proofs.lemmas.List.{take-append-drop}
 use Rattle.kt_base.specs.declared.cell.Kind.{Kind}
 use Rattle.kt_base.specs.declared.cell.Kind.TheVariants as kind
 use Rattle.kt_base.specs.declared.cell.Cell.{Cell}
@@ -18,12 +17,12 @@ use Rattle.kt_key.specs.Fit.{is_bool, in_range, has_kind, is_key}
 use Rattle.kt_schema.specs.declared.column.Column.{Column}
 use Rattle.kt_schema.specs.First.{passes_at}
 use Rattle.kt_schema.specs.Columns.{is_weak, columns_no, key_columns, other_columns, key_kinds}
-use Rattle.kt_schema.proofs.Columns.{schema_holds, keys_first}
-use Rattle.kt_script.specs.Reasons.{reason_if, cell_no, cell_reason, cell_value, cell_or_null}
+use Rattle.kt_schema.proofs.Columns.{schema_holds}
+use Rattle.kt_script.specs.Reasons.{sound, reason_if, cell_no, cell_reason, cell_value, cell_or_null}
 use Rattle.kt_history.specs.declared.operation.OpKind.{OpKind}
 use Rattle.kt_history.specs.declared.operation.RowOp.{RowOp}
 use Rattle.kt_script.proofs.Selections.{any_map}
-use Rattle.kt_script.specs.Writes.{name_in, left_out_no, must_be_named, all_named_no, upsert_no, twice, op_no, op_of, op_key, ops_no, many_no, write_no, cells_no, cells_of, under, key_no, key_len, key_of, key_cells, long_no, none_left_no, insert_no, ops_of, first_op, later_ops}
+use Rattle.kt_script.specs.Writes.{name_in, left_out_no, must_be_named, all_named_no, upsert_no, twice, op_no, op_of, op_key, ops_no, many_no, write_no, cells_no, cells_of, key_no, key_len, key_of, key_cells, none_left_no, insert_no, ops_of, first_op, later_ops}
 
 -- the first operation and those behind it
 pub ops_split : (words : List (List ℕ)) → ops_of words ≡ first_op words ∷ later_ops words
@@ -34,45 +33,6 @@ ops_split (w ∷ words) = by (same w (codes ";")) (ops_split words)
         → (if t then [] ∷ ops_of words else onto_first w (ops_of words)) ≡ (if t then [] else w ∷ first_op words) ∷ (if t then ops_of words else later_ops words)
     by true e = refl
     by false e = ap (onto_first w) e
-
-pub cells_no-bound : (columns : List Column) (words : List (List ℕ)) → cells_no columns words ≤ 21
-cells_no-bound [] words = omega arith
-cells_no-bound (c ∷ columns) [] = omega arith
-cells_no-bound (c ∷ columns) (w ∷ words) = let more = cells_no-bound columns words in omega (arith, more)
-
-no_words : (columns : List Column) → (cells_no columns [] ≡ 12) ⊎ (cells_no columns [] ≡ 21)
-no_words [] = inr refl
-no_words (c ∷ columns) = inl refl
-
-no_cells : (columns : List Column) → cells_of columns [] ≡ []
-no_cells [] = refl
-no_cells (c ∷ columns) = refl
-
--- cells under two groups of columns
-pub cells_no-append : (keys others : List Column) (words : List (List ℕ)) → cells_no (keys ++ others) words ≡ min (cells_no keys words) (cells_no others (drop (length keys) words))
-cells_no-append [] others words = let most = cells_no-bound others words in omega (arith, most)
-cells_no-append (k ∷ keys) others [] = elim (no_words others) [ inl e ↦ omega (arith, e) | inr e ↦ omega (arith, e) ]
-cells_no-append (k ∷ keys) others (w ∷ words) = let more = cells_no-append keys others words in omega (arith, more)
-
-pub cells_of-behind : (keys others : List Column) (words : List (List ℕ)) → drop (length keys) (cells_of (keys ++ others) words) ≡ cells_of others (drop (length keys) words)
-cells_of-behind [] others words = refl
-cells_of-behind (k ∷ keys) others [] = sym (no_cells others)
-cells_of-behind (k ∷ keys) others (w ∷ words) = cells_of-behind keys others words
-
-drop_all : (keys others : List Column) (words : List (List ℕ)) → drop (length others) (drop (length keys) words) ≡ drop (length (keys ++ others)) words
-drop_all [] others words = refl
-drop_all (k ∷ keys) others [] = none (length others)
-  where
-    none : (n : ℕ) → ◌≡◌ {A = List (List ℕ)} (drop n []) []
-    none zero = refl
-    none (suc n) = refl
-drop_all (k ∷ keys) others (w ∷ words) = drop_all keys others words
-
-pub both_groups : (columns : List Column) → columns_no columns ≡ None → key_columns columns ++ other_columns columns ≡ columns
-both_groups columns none =
-    let first = keys_first columns (schema_holds columns none).late in
-    let n = length (key_kinds columns) in
-    rw (first.0, first.1) (take-append-drop n columns)
 
 -- a cell that is read has the kind of its column
 same_range : (half : ℕ) (n : ℤ) → within half n ≡ true → in_range half n ≡ true
@@ -208,37 +168,15 @@ keys_fit (c ∷ keys) (w ∷ words) strong h =
 pub key_fits : (columns : List Column) (words : List (List ℕ)) → columns_no columns ≡ None → 17 < cells_no (key_columns columns) words → is_key (key_kinds columns) (key_cells columns words) ≡ true
 key_fits columns words none h = keys_fit (key_columns columns) words (strong_keys columns (schema_holds columns none).weak) h
 
--- what an insert says of its key and of the other columns
-pub insert_step : (columns : List Column) (words : List (List ℕ)) → columns_no columns ≡ None
-    → insert_no columns words ≡ min (key_no columns words) (min (cells_no (other_columns columns) (drop (key_len columns) words)) (none_left_no (drop (length (other_columns columns)) (drop (key_len columns) words))))
-insert_step columns words none =
-    let keys = key_columns columns in
-    let others = other_columns columns in
-    let groups = both_groups columns none in
-    let cells : cells_no columns words ≡ min (cells_no keys words) (cells_no others (drop (length keys) words)) = ap (λ cs. cells_no cs words) (sym groups) ∙ cells_no-append keys others words in
-    let left : none_left_no (drop (length columns) words) ≡ none_left_no (drop (length others) (drop (length keys) words)) = ap (λ cs. none_left_no (drop (length cs) words)) (sym groups) ∙ ap none_left_no (sym (drop_all keys others words)) in
-    shuffled (cells_no columns words) (cells_no keys words) (cells_no others (drop (length keys) words)) (none_left_no (drop (length columns) words)) (none_left_no (drop (length others) (drop (length keys) words))) (long_no columns words) cells left
-  where
-    shuffled : (a k o b l m : ℕ) → a ≡ min k o → b ≡ l → min a (min b m) ≡ min (min k m) (min o l)
-    shuffled a k o b l m e f = omega arith
-
-pub insert_cells : (columns : List Column) (words : List (List ℕ)) → columns_no columns ≡ None
-    → under (other_columns columns) (drop (key_len columns) (cells_of columns words)) ≡ under (other_columns columns) (cells_of (other_columns columns) (drop (key_len columns) words))
-insert_cells columns words none =
-    ap (λ cs. under (other_columns columns) (drop (key_len columns) (cells_of cs words))) (sym (both_groups columns none)) ∙ ap (under (other_columns columns)) (cells_of-behind (key_columns columns) (other_columns columns) words)
-
 -- what an insert's readers note, one after the other
-pub insert_least : (columns others : List Column) (words first second : List (List ℕ)) (old a b l m : ℕ) → columns_no columns ≡ None → others ≡ other_columns columns
+pub insert_least : (columns others : List Column) (words first second : List (List ℕ)) (old a b l m : ℕ) → others ≡ other_columns columns
     → first ≡ drop (key_len columns) words → second ≡ drop (length others) first → a ≡ min old (key_no columns words) → b ≡ min a (cells_no others first) → l ≡ none_left_no second → m ≡ min b l
     → m ≡ min old (insert_no columns words)
-insert_least columns others words first second old a b l m none group behind_key behind_cells la lb ll lm =
+insert_least columns others words first second old a b l m group behind_key behind_cells la lb ll lm =
     let rest = drop (key_len columns) words in
     let cells : cells_no others first ≡ cells_no (other_columns columns) rest = ap (λ cs. cells_no cs first) group ∙ ap (cells_no (other_columns columns)) behind_key in
     let left : none_left_no second ≡ none_left_no (drop (length (other_columns columns)) rest) = ap none_left_no (behind_cells ∙ (ap (λ cs. drop (length cs) first) group ∙ ap (drop (length (other_columns columns))) behind_key)) in
-    chain (key_no columns words) (cells_no others first) (cells_no (other_columns columns) rest) (none_left_no (drop (length (other_columns columns)) rest)) (insert_no columns words) la lb (ll ∙ left) lm cells (insert_step columns words none)
-  where
-    chain : (k x z y i : ℕ) → a ≡ min old k → b ≡ min a x → l ≡ y → m ≡ min b l → x ≡ z → i ≡ min k (min z y) → m ≡ min old i
-    chain k x z y i p q r s t u = omega arith
+    omega (arith, la, lb, ll, lm, cells, left)
 
 pub same_op : (k : OpKind) (key other : List ℕ) (cells more : List (ℕ × Cell)) → key ≡ other → cells ≡ more → ◌≡◌ {A = RowOp} (record { kind = k; key = key; cells = cells }) (record { kind = k; key = other; cells = more })
 same_op k key other cells more e f = ap (λ (x : List ℕ). record { kind = k; key = x; cells = cells }) e ∙ ap (λ (x : List (ℕ × Cell)). record { kind = k; key = other; cells = x }) f
@@ -251,15 +189,15 @@ late_left_out others words = by (list_any (must_be_named (map name_in words)) ot
     by true = omega arith
     by false = omega arith
 
-limit : (most n reason : ℕ) → ((most < n) × (reason_if (nat_lt most n) reason ≡ reason)) ⊎ ((n ≤ most) × (reason_if (nat_lt most n) reason ≡ 21))
+limit : (most n reason : ℕ) → ((most < n) × (reason_if (nat_lt most n) reason ≡ reason)) ⊎ ((n ≤ most) × (reason_if (nat_lt most n) reason ≡ sound))
 limit most n reason = by (nat_lt most n) refl
   where
-    by : (t : Bool) → nat_lt most n ≡ t → ((most < n) × (reason_if t reason ≡ reason)) ⊎ ((n ≤ most) × (reason_if t reason ≡ 21))
+    by : (t : Bool) → nat_lt most n ≡ t → ((most < n) × (reason_if t reason ≡ reason)) ⊎ ((n ≤ most) × (reason_if t reason ≡ sound))
     by true e = inl (grind (arith, nat_tests), refl)
     by false e = inr (grind (arith, nat_tests), refl)
 
 counted : (kept new more n a b q o r x y : ℕ) → kept ≤ 64 → new ≡ min 64 (kept + 1) → a ≡ min n q → b ≡ min a r
-    → ((63 < kept) × (r ≡ 18)) ⊎ ((kept ≤ 63) × (r ≡ 21)) → ((64 < new + more) × (x ≡ 18)) ⊎ ((new + more ≤ 64) × (x ≡ 21)) → ((64 < kept + suc more) × (y ≡ 18)) ⊎ ((kept + suc more ≤ 64) × (y ≡ 21))
+    → ((63 < kept) × (r ≡ 18)) ⊎ ((kept ≤ 63) × (r ≡ sound)) → ((64 < new + more) × (x ≡ 18)) ⊎ ((new + more ≤ 64) × (x ≡ sound)) → ((64 < kept + suc more) × (y ≡ 18)) ⊎ ((kept + suc more ≤ 64) × (y ≡ sound))
     → min b (min o x) ≡ min n (min (min q o) y)
 counted kept new more n a b q o r x y few room la lb (inl f) (inl g) (inl h) = omega arith
 counted kept new more n a b q o r x y few room la lb (inl f) (inl g) (inr h) = omega arith
@@ -286,10 +224,10 @@ ops_more columns words left rest kept new all o begins is first next so =
     ap (λ xs. new ++ map (op_of columns) xs) is ∙ (ap (λ xs. xs ++ map (op_of columns) (later_ops words)) next ∙ (append_assoc kept (o ∷ []) (map (op_of columns) (later_ops words))
     ∙ (ap (λ x. kept ++ (x ∷ map (op_of columns) (later_ops words))) first ∙ (ap (λ ops. kept ++ map (op_of columns) ops) (sym (begins ∙ ops_split words)) ∙ so))))
 
-pub ops_end : (columns : List Column) (n kept : ℕ) → kept ≤ 64 → min n (min (ops_no columns []) (many_no kept [])) ≡ min n 21
+pub ops_end : (columns : List Column) (n kept : ℕ) → kept ≤ 64 → min n (min (ops_no columns []) (many_no kept [])) ≡ min n sound
 ops_end columns n kept few = by (limit 64 (kept + 0) 18)
   where
-    by : ((64 < kept + 0) × (many_no kept [] ≡ 18)) ⊎ ((kept + 0 ≤ 64) × (many_no kept [] ≡ 21)) → min n (min 21 (many_no kept [])) ≡ min n 21
+    by : ((64 < kept + 0) × (many_no kept [] ≡ 18)) ⊎ ((kept + 0 ≤ 64) × (many_no kept [] ≡ sound)) → min n (min sound (many_no kept [])) ≡ min n sound
     by (inl p) = absurd (omega arith)
     by (inr p) = omega (arith, p.1)
 
@@ -298,12 +236,12 @@ keys_same columns [] = refl
 keys_same columns ([] ∷ ops) = ap (λ xs. [] ∷ xs) (keys_same columns ops)
 keys_same columns ((w ∷ words) ∷ ops) = ap (λ xs. key_of columns words ∷ xs) (keys_same columns ops)
 
-either_no : (t : Bool) (reason : ℕ) → (reason_if t reason ≡ reason) ⊎ (reason_if t reason ≡ 21)
+either_no : (t : Bool) (reason : ℕ) → (reason_if t reason ≡ reason) ⊎ (reason_if t reason ≡ sound)
 either_no true reason = inl refl
 either_no false reason = inr refl
 
 -- the reason of a write, after its operations
-pub write_least : (columns : List Column) (words : List (List ℕ)) (ops : List RowOp) (n m : ℕ) → n ≡ min 21 (min (ops_no columns (ops_of words)) (many_no 0 (ops_of words)))
+pub write_least : (columns : List Column) (words : List (List ℕ)) (ops : List RowOp) (n m : ℕ) → n ≡ min sound (min (ops_no columns (ops_of words)) (many_no 0 (ops_of words)))
     → (18 < n → ops ≡ map (op_of columns) (ops_of words))
     → ((18 < n) × (m ≡ min n (reason_if (twice (map (λ (o : RowOp). o.key) ops)) 19))) ⊎ ((n ≤ 18) × (m ≡ n)) → write_no columns words ≡ m
 write_least columns words ops n m least kept last =
@@ -312,9 +250,9 @@ write_least columns words ops n m least kept last =
     let many : many_no 0 whole ≡ reason_if (nat_lt 64 (length whole)) 18 = ap (λ k. reason_if (nat_lt 64 k) 18) zero_more in
     let alike : 18 < n → reason_if (twice (map (λ (o : RowOp). o.key) ops)) 19 ≡ reason_if (twice (map (op_key columns) whole)) 19 =
     λ h. ap (λ keys. reason_if (twice keys) 19) (ap (map (λ (o : RowOp). o.key)) (kept h) ∙ keys_same columns whole) in
-    by (ops_no columns whole) (reason_if (nat_lt 64 (length whole)) 18) (reason_if (twice (map (op_key columns) whole)) 19) (least ∙ ap (λ k. min 21 (min (ops_no columns whole) k)) many) alike (either_no (twice (map (op_key columns) whole)) 19) last
+    by (ops_no columns whole) (reason_if (nat_lt 64 (length whole)) 18) (reason_if (twice (map (op_key columns) whole)) 19) (least ∙ ap (λ k. min sound (min (ops_no columns whole) k)) many) alike (either_no (twice (map (op_key columns) whole)) 19) last
   where
-    by : (o k t : ℕ) → n ≡ min 21 (min o k) → (18 < n → reason_if (twice (map (λ (p : RowOp). p.key) ops)) 19 ≡ t) → (t ≡ 19) ⊎ (t ≡ 21)
+    by : (o k t : ℕ) → n ≡ min sound (min o k) → (18 < n → reason_if (twice (map (λ (p : RowOp). p.key) ops)) 19 ≡ t) → (t ≡ 19) ⊎ (t ≡ sound)
         → ((18 < n) × (m ≡ min n (reason_if (twice (map (λ (p : RowOp). p.key) ops)) 19))) ⊎ ((n ≤ 18) × (m ≡ n)) → min o (min k t) ≡ m
     by o k t e alike (inl u) (inl h) = let f = alike h.0 in omega (arith, f, h.1)
     by o k t e alike (inr u) (inl h) = let f = alike h.0 in omega (arith, f, h.1)

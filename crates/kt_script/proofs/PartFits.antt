@@ -3,6 +3,7 @@ use Rattle.std.proofs.Common.{◌≡◌, ℕ, suc, ◌+◌, ◌<◌, ◌≤◌, 
 use Rattle.std.specs.Prelude.{◌⊎◌, if◌then◌else◌, ◌==◌, nat_lt, nat_le}
 use Rattle.kt_schema.specs.Names.{is_name}
 use Rattle.std.specs.Ordering.{nat_cmp}
+use Rattle.std.specs.List.{AllByRecursion}
 use Rattle.std.specs.declared.cmp.Ordering.{Ordering}
 use Rattle.std.specs.declared.cmp.Ordering.TheVariants.{Less, Equal, Greater}
 use Rattle.std.specs.Cmp.{nat_cmp_is}
@@ -110,6 +111,12 @@ others_rise n (c ∷ columns) h =
 abbrev pub Has : List Column → Column → Type 0
 Has [] c = ⊥
 Has (d ∷ columns) c = (d ≡ c) ⊎ Has columns c
+
+-- what holds of each holds of one
+pub each : (P : Column → Type 0) (columns : List Column) (c : Column) → AllByRecursion P columns → Has columns c → P c
+each P [] c all h = absurd h
+each P (d ∷ columns) c all (inl e) = subst P e all.0
+each P (d ∷ columns) c all (inr h) = each P columns c all.1 h
 
 pub has_above : (n : ℕ) (columns : List Column) (c : Column) → Rises n columns → Has columns c → n ≤ c.id
 has_above n [] c r h = absurd h

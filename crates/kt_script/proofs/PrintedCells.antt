@@ -1,7 +1,7 @@
 -- Printed cells are read as these cells.
-use Rattle.std.proofs.Common.{◌≡◌, ℕ, ◌+◌, ◌≤◌, ℤ, pos, negsuc, List, [], ◌∷◌, ◌++◌, refl, sym, ap, ◌∙◌, arith, length, map, drop, Bool, true, false, not, min, Ok, Err, length-append}
+use Rattle.std.proofs.Common.{◌≡◌, ℕ, ◌+◌, ◌≤◌, ℤ, pos, negsuc, List, [], ◌∷◌, ◌++◌, refl, sym, ap, subst, ◌∙◌, arith, length, map, drop, Bool, true, false, not, min, Ok, Err, length-append}
 use mathlib.Core.List.{append-nil}
-use Rattle.std.specs.Prelude.{◌&&◌, ◌||◌, nat_lt, nat_le}
+use Rattle.std.specs.Prelude.{◌&&◌, ◌||◌, nat_lt, nat_le, codes}
 use Rattle.std.specs.List.{AllByRecursion}
 use Rattle.std.proofs.lemmas.Bool.Decides.{nat_tests}
 use Rattle.kt_base.specs.declared.cell.Kind.{Kind}
@@ -10,7 +10,8 @@ use Rattle.kt_base.specs.declared.cell.Cell.{Cell}
 use Rattle.kt_base.specs.declared.cell.Cell.TheVariants as cell
 use Rattle.kt_base.specs.declared.literal.LiteralNo.TheVariants as no
 use Rattle.kt_base.specs.Keys.{half_of, width_of}
-use Rattle.kt_base.specs.Literals.{literal, fits, within, cell_in, CellBytes}
+use Rattle.kt_base.specs.Literals.{same, literal, fits, within, cell_in, CellBytes}
+use Rattle.kt_base.proofs.Decimals.{same_text}
 use Rattle.kt_base.proofs.Values.{both_true}
 use Rattle.kt_base.proofs.Literals.{all_read}
 use Rattle.kt_key.specs.Fit.{has_kind, in_range, is_key}
@@ -18,13 +19,16 @@ use Rattle.kt_key.specs.Spelling.{spelling, inner_spelling, last_spelling}
 use Rattle.kt_key.proofs.Steps.{length-escaped, is_key_more}
 use Rattle.kt_schema.specs.Rows.{is_long}
 use Rattle.kt_schema.specs.declared.column.Column.{Column}
-use Rattle.kt_script.specs.Reasons.{cell_reason, cell_or_null, cell_no, cell_value}
+use Rattle.kt_script.specs.Reasons.{sound, cell_reason, cell_or_null, cell_no, cell_value}
 use Rattle.kt_script.specs.Texts.{literals}
 use Rattle.kt_script.specs.Writes.{cells_no, cells_of}
 use Rattle.kt_script.specs.Fit.{fits_column, compares}
-use Rattle.kt_script.proofs.PrintedWords.{IsWord, Ranged, literal_word}
+use Rattle.kt_script.proofs.Cuts.{Without}
+use Rattle.kt_script.proofs.InLine.{row_in_line}
+use Rattle.kt_script.proofs.PrintedWords.{Ranged, literal_word}
+use Rattle.kt_script.proofs.FormLaws.{Plain}
 
-pub min_sound : (a b : ℕ) → a ≡ 21 → b ≡ 21 → min a b ≡ 21
+pub min_sound : (a b : ℕ) → a ≡ sound → b ≡ sound → min a b ≡ sound
 min_sound a b p q = omega arith
 
 same_range : (half : ℕ) (n : ℤ) → in_range half n ≡ within half n
@@ -62,35 +66,47 @@ kind_fits kind.Int64 (cell.Bytes b) h g = absurd cc
 kind_fits kind.String (cell.Bytes b) h g = short_enough (length b) g
 kind_fits kind.Binary (cell.Bytes b) h g = short_enough (length b) g
 
-ranged : (k : Kind) (x : Cell) → fits k x ≡ true → Ranged k x
+pub ranged : (k : Kind) (x : Cell) → fits k x ≡ true → Ranged k x
 ranged k cell.Null h = tt
 ranged k (cell.Int n) h = h
 ranged k (cell.Bool b) h = tt
 ranged k (cell.Bytes b) h = tt
 
+literal_plain : (k : Kind) (x : Cell) → Ranged k x → same (literal k x) (codes ";") ≡ false → Plain (literal k x)
+literal_plain k x h apart = record { word = literal_word k x h; line = subst (Without 10) (append-nil (literal k x)) (row_in_line (k ∷ []) (x ∷ [])); apart = apart }
+
+-- what is read as a cell is no word between operations
+no_sign : (k : Kind) (x : Cell) → cell_in k (literal k x) ≡ Ok x → same (literal k x) (codes ";") ≡ false
+no_sign k x read = by (same (literal k x) (codes ";")) refl
+  where
+    by : (t : Bool) → same (literal k x) (codes ";") ≡ t → t ≡ false
+    by true e = let sign : cell_in k (codes ";") ≡ Ok x = ap (cell_in k) (sym (same_text (literal k x) (codes ";") e)) ∙ read in absurd cc
+    by false e = refl
+
 -- the literal of a cell of a kind is a word, and is read as the cell
 pub record ReadsAgain (k : Kind) (x : Cell) : Type 0 where
   pub read : cell_in k (literal k x) ≡ Ok x
-  pub word : IsWord (literal k x)
+  pub plain : Plain (literal k x)
 
 pub reads_again : (k : Kind) (x : Cell) → has_kind k x ≡ true → not (is_long x) ≡ true → CellBytes x → ReadsAgain k x
 reads_again k x h g bytes =
     let fit = kind_fits k x h g in
-    record { read = all_read k x (literal k x) bytes (record { fit = fit; spelled = refl }); word = literal_word k x (ranged k x fit) }
+    let read = all_read k x (literal k x) (record { fit = fit; of_bytes = bytes; spelled = refl }) in
+    record { read = read; plain = literal_plain k x (ranged k x fit) (no_sign k x read) }
 
 pub compared_again : (c : Column) (x : Cell) → compares c x ≡ true → CellBytes x → ReadsAgain c.kind x
 compared_again c x h bytes = let both = both_true (has_kind c.kind x) (not (is_long x)) h in reads_again c.kind x both.0 both.1 bytes
 
 -- the literal of a cell that a column takes
 pub record CellOk (c : Column) (x : Cell) : Type 0 where
-  pub sound : cell_no c (literal c.kind x) ≡ 21
+  pub taken : cell_no c (literal c.kind x) ≡ sound
   pub value : cell_value c.kind (literal c.kind x) ≡ x
-  pub word : IsWord (literal c.kind x)
+  pub plain : Plain (literal c.kind x)
 
 some_cell : (c : Column) (x : Cell) → has_kind c.kind x ≡ true → not (is_long x) ≡ true → CellBytes x → CellOk c x
 some_cell c x h g bytes =
     let again = reads_again c.kind x h g bytes in
-    record { sound = ap (cell_reason c.nullable) again.read; value = ap cell_or_null again.read; word = again.word }
+    record { taken = ap (cell_reason c.nullable) again.read; value = ap cell_or_null again.read; plain = again.plain }
 
 no_null : (a : Bool) → (a || false) ≡ true → a ≡ true
 no_null true h = refl
@@ -102,7 +118,7 @@ other_cell c x h bytes = let both = both_true (has_kind c.kind x || false) (not 
 pub cell_ok : (c : Column) (x : Cell) → fits_column c x ≡ true → CellBytes x → CellOk c x
 cell_ok c cell.Null h bytes =
     let nullable : c.nullable ≡ true = (both_true c.nullable true h).0 in
-    record { sound = ap (λ n. cell_reason n (Err no.Null)) nullable; value = refl; word = literal_word c.kind cell.Null tt }
+    record { taken = ap (λ n. cell_reason n (Err no.Null)) nullable; value = refl; plain = literal_plain c.kind cell.Null tt refl }
 cell_ok c (cell.Int n) h bytes = other_cell c (cell.Int n) h bytes
 cell_ok c (cell.Bool b) h bytes = other_cell c (cell.Bool b) h bytes
 cell_ok c (cell.Bytes b) h bytes = other_cell c (cell.Bytes b) h bytes
@@ -119,35 +135,29 @@ CellsOk (c ∷ cs) (x ∷ xs) = CellOk c x × CellsOk cs xs
 abbrev pub kinds_of : List Column → List Kind
 kinds_of cs = map (λ (c : Column). c.kind) cs
 
-pub front_no : (cs : List Column) (xs : List Cell) (ds : List Column) (more : List (List ℕ)) → CellsOk cs xs → cells_no ds more ≡ 21 → cells_no (cs ++ ds) (literals (kinds_of cs) xs ++ more) ≡ 21
-front_no [] [] ds more ok p = p
-front_no [] (x ∷ xs) ds more ok p = absurd ok
-front_no (c ∷ cs) [] ds more ok p = absurd ok
-front_no (c ∷ cs) (x ∷ xs) ds more ok p = min_sound (cell_no c (literal c.kind x)) (cells_no (cs ++ ds) (literals (kinds_of cs) xs ++ more)) ok.0.sound (front_no cs xs ds more ok.1 p)
-
-pub front_of : (cs : List Column) (xs : List Cell) (ds : List Column) (more : List (List ℕ)) → CellsOk cs xs → cells_of (cs ++ ds) (literals (kinds_of cs) xs ++ more) ≡ xs ++ cells_of ds more
-front_of [] [] ds more ok = refl
-front_of [] (x ∷ xs) ds more ok = absurd ok
-front_of (c ∷ cs) [] ds more ok = absurd ok
-front_of (c ∷ cs) (x ∷ xs) ds more ok = ap (λ v. v ∷ cells_of (cs ++ ds) (literals (kinds_of cs) xs ++ more)) ok.0.value ∙ ap (λ vs. x ∷ vs) (front_of cs xs ds more ok.1)
-
 pub front_drop : (cs : List Column) (xs : List Cell) (more : List (List ℕ)) → CellsOk cs xs → drop (length cs) (literals (kinds_of cs) xs ++ more) ≡ more
 front_drop [] [] more ok = refl
 front_drop [] (x ∷ xs) more ok = absurd ok
 front_drop (c ∷ cs) [] more ok = absurd ok
 front_drop (c ∷ cs) (x ∷ xs) more ok = front_drop cs xs more ok.1
 
-pub front_words : (cs : List Column) (xs : List Cell) → CellsOk cs xs → AllByRecursion IsWord (literals (kinds_of cs) xs)
-front_words [] [] ok = tt
-front_words [] (x ∷ xs) ok = absurd ok
-front_words (c ∷ cs) [] ok = absurd ok
-front_words (c ∷ cs) (x ∷ xs) ok = (ok.0.word, front_words cs xs ok.1)
+pub front_plain : (cs : List Column) (xs : List Cell) → CellsOk cs xs → AllByRecursion Plain (literals (kinds_of cs) xs)
+front_plain [] [] ok = tt
+front_plain [] (x ∷ xs) ok = absurd ok
+front_plain (c ∷ cs) [] ok = absurd ok
+front_plain (c ∷ cs) (x ∷ xs) ok = (ok.0.plain, front_plain cs xs ok.1)
 
-pub all_no : (cs : List Column) (xs : List Cell) (more : List (List ℕ)) → CellsOk cs xs → cells_no cs (literals (kinds_of cs) xs ++ more) ≡ 21
-all_no cs xs more ok = ap (λ ds. cells_no ds (literals (kinds_of cs) xs ++ more)) (sym (append-nil cs)) ∙ front_no cs xs [] more ok refl
+pub all_no : (cs : List Column) (xs : List Cell) (more : List (List ℕ)) → CellsOk cs xs → cells_no cs (literals (kinds_of cs) xs ++ more) ≡ sound
+all_no [] [] more ok = refl
+all_no [] (x ∷ xs) more ok = absurd ok
+all_no (c ∷ cs) [] more ok = absurd ok
+all_no (c ∷ cs) (x ∷ xs) more ok = min_sound (cell_no c (literal c.kind x)) (cells_no cs (literals (kinds_of cs) xs ++ more)) ok.0.taken (all_no cs xs more ok.1)
 
 pub all_of : (cs : List Column) (xs : List Cell) (more : List (List ℕ)) → CellsOk cs xs → cells_of cs (literals (kinds_of cs) xs ++ more) ≡ xs
-all_of cs xs more ok = ap (λ ds. cells_of ds (literals (kinds_of cs) xs ++ more)) (sym (append-nil cs)) ∙ (front_of cs xs [] more ok ∙ append-nil xs)
+all_of [] [] more ok = refl
+all_of [] (x ∷ xs) more ok = absurd ok
+all_of (c ∷ cs) [] more ok = absurd ok
+all_of (c ∷ cs) (x ∷ xs) more ok = ap (λ v. v ∷ cells_of cs (literals (kinds_of cs) xs ++ more)) ok.0.value ∙ ap (λ vs. x ∷ vs) (all_of cs xs more ok.1)
 
 -- ---- keys
 

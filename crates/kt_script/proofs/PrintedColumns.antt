@@ -17,7 +17,7 @@ use Rattle.kt_schema.specs.Columns.{is_late, is_weak, is_again, same_name}
 use Rattle.kt_schema.specs.declared.column.Column.{Column}
 use Rattle.kt_schema.proofs.Places.{passes_at-here}
 use Rattle.kt_script.specs.Pieces.{words_of}
-use Rattle.kt_script.specs.Reasons.{reason_if, cell_or_null}
+use Rattle.kt_script.specs.Reasons.{sound, reason_if, cell_or_null}
 use Rattle.kt_script.specs.Columns.{ColumnLine, IsTable, kind_of, marked, of_kind, column_line, begins_column, default_reason, default_no, place_no, said_no, column_no, default_value, with_column, columns_with}
 use Rattle.kt_script.specs.Texts.{words}
 use Rattle.kt_script.specs.Fit.{compares}
@@ -55,14 +55,14 @@ default_text k (Some x) = Some (literal k x)
 
 record DefaultRead (k : Kind) (d : Option Cell) : Type 0 where
   words : AllByRecursion IsWord (default_words k d)
-  no : default_no k (default_text k d) ≡ 21
+  no : default_no k (default_text k d) ≡ sound
   is : default_value k (default_text k d) ≡ d
 
 default_read : (c : Column) (d : Option Cell) → default_fits c d ≡ true → DefaultBytes d → DefaultRead c.kind d
 default_read c None fit bytes = record { words = tt; no = refl; is = refl }
 default_read c (Some x) fit bytes =
     let again = compared_again c x (both_true (not c.key) (compares c x) fit).1 bytes in
-    record { words = (high (codes "default") refl, (again.word, tt)); no = ap default_reason again.read; is = ap (λ r. Some (cell_or_null r)) again.read }
+    record { words = (high (codes "default") refl, (again.plain.word, tt)); no = ap default_reason again.read; is = ap (λ r. Some (cell_or_null r)) again.read }
 
 -- ---- what stands behind the kind
 
@@ -119,7 +119,7 @@ fresh columns front c rest e table =
 -- the line of a column, which is read as it
 pub record ColumnRead (front : List Column) (c : Column) : Type 0 where
   pub begins : begins_column (words (column_words c)) ≡ true
-  pub no : column_no front (words (column_words c)) ≡ 21
+  pub no : column_no front (words (column_words c)) ≡ sound
   pub is : columns_with front (words (column_words c)) ≡ front ++ c ∷ []
 
 key_bare : (k n b : Bool) → (k && (n || b)) ≡ false → (k && n) ≡ false
@@ -154,7 +154,7 @@ column_read front c f fit id =
     let b : Bool = c.key && is_bool c.kind in
     let n : Bool = list_any (λ x. is_eq (slice_cmp nat_cmp c.name x.name)) front in
     let m : Bool = nat_le 300 (length front) in
-    let place : place_no front cl ≡ 21 =
+    let place : place_no front cl ≡ sound =
     min_sound (reason_if a 6) (min (reason_if b 7) (min (reason_if n 8) (reason_if m 9))) (ap (λ t. reason_if t 6) f.late)
     (min_sound (reason_if b 7) (min (reason_if n 8) (reason_if m 9)) (ap (λ t. reason_if t 7) (key_counts c.key c.nullable (is_bool c.kind) f.weak))
     (min_sound (reason_if n 8) (reason_if m 9) (ap (λ t. reason_if t 8) f.again) (ap (λ t. reason_if t 9) (under_limit (length front) f.few)))) in

@@ -7,26 +7,21 @@ use Rattle.std.specs.List.{flat_map, AllByRecursion}
 use Rattle.kt_base.specs.declared.cell.Kind.{Kind}
 use Rattle.kt_base.specs.declared.cell.Kind.TheVariants as kind
 use Rattle.kt_base.specs.declared.cell.Cell.{Cell}
-use Rattle.kt_base.specs.Keys.{key_cells}
 use Rattle.kt_base.specs.Literals.{literal}
-use Rattle.kt_schema.specs.Columns.{other_columns, key_kinds}
 use Rattle.kt_schema.specs.declared.column.Column.{Column}
-use Rattle.kt_history.specs.declared.operation.OpKind.{OpKind}
-use Rattle.kt_history.specs.declared.operation.OpKind.TheVariants as op
-use Rattle.kt_history.specs.declared.operation.RowOp.{RowOp}
 use Rattle.kt_history.specs.declared.scan.At.{At}
 use Rattle.kt_history.specs.declared.scan.At.TheVariants.{Looked, Given}
 use Rattle.kt_history.specs.declared.scan.Test.{Test}
 use Rattle.kt_history.specs.declared.scan.Test.TheVariants as test
 use Rattle.kt_history.specs.declared.scan.Pred.{Pred}
 use Rattle.kt_history.specs.declared.scan.Scan.{Scan}
-use Rattle.kt_script.specs.Texts.{words, literals}
+use Rattle.kt_script.specs.Texts.{words}
 use Rattle.kt_script.specs.Times.{most_time}
 use Rattle.kt_script.specs.Fit.{column_of, AtFits}
-use Rattle.kt_script.specs.Writes.{op_word}
-use Rattle.kt_script.specs.Print.{ColumnFits, joined, kind_word, word_if, default_words, column_words, cell_word, cell_words, is_named, op_text, write_text, name_of, test_text, test_under, pred_text, at_text, select_text, where_text, scan_text}
+use Rattle.kt_script.specs.Print.{ColumnFits, joined, kind_word, word_if, default_words, column_words, name_of, test_text, test_under, pred_text, at_text, select_text, where_text, scan_text}
 use Rattle.kt_script.proofs.Cuts.{Without}
 use Rattle.kt_script.proofs.InLine.{join, row_in_line, words_in_line}
+use Rattle.kt_script.proofs.FormLaws.{high_line}
 use Rattle.kt_script.proofs.PrintedWords.{High, all_high, name_is, name_high}
 use Rattle.kt_script.proofs.TimeWords.{time_high}
 
@@ -37,20 +32,11 @@ InLine c = c ≢ 10
 both_in_line : (a b : List ℕ) → Without 10 a → Without 10 b → Without 10 (a ++ b)
 both_in_line a b p q = join InLine a b p q
 
-pub high_in_line : (w : List ℕ) → AllByRecursion High w → Without 10 w
-high_in_line [] p = tt
-high_in_line (b ∷ w) p = let low = p.0 in ((λ e. omega arith), high_in_line w p.1)
-
 pub name_in_line : (c : Column) → ColumnFits c → Without 10 c.name
-name_in_line c fit = high_in_line c.name (name_high c.name (name_is c.name fit.name))
+name_in_line c fit = high_line c.name (name_high c.name (name_is c.name fit.name))
 
 literal_in_line : (k : Kind) (x : Cell) → Without 10 (literal k x)
 literal_in_line k x = subst (Without 10) (append-nil (literal k x)) (row_in_line (k ∷ []) (x ∷ []))
-
-literals_in_line : (kinds : List Kind) (cells : List Cell) → AllByRecursion (Without 10) (literals kinds cells)
-literals_in_line kinds [] = tt
-literals_in_line [] (x ∷ cells) = tt
-literals_in_line (k ∷ kinds) (x ∷ cells) = (literal_in_line k x, literals_in_line kinds cells)
 
 space_in_line : Without 10 (codes " ")
 space_in_line = ((λ e. omega arith), tt)
@@ -58,56 +44,25 @@ space_in_line = ((λ e. omega arith), tt)
 -- ---- columns
 
 kind_in_line : (k : Kind) → Without 10 (kind_word k)
-kind_in_line kind.Bool = high_in_line (codes "bool") (all_high (codes "bool") refl)
-kind_in_line kind.Int8 = high_in_line (codes "int8") (all_high (codes "int8") refl)
-kind_in_line kind.Int16 = high_in_line (codes "int16") (all_high (codes "int16") refl)
-kind_in_line kind.Int32 = high_in_line (codes "int32") (all_high (codes "int32") refl)
-kind_in_line kind.Int64 = high_in_line (codes "int64") (all_high (codes "int64") refl)
-kind_in_line kind.String = high_in_line (codes "string") (all_high (codes "string") refl)
-kind_in_line kind.Binary = high_in_line (codes "binary") (all_high (codes "binary") refl)
+kind_in_line kind.Bool = high_line (codes "bool") (all_high (codes "bool") refl)
+kind_in_line kind.Int8 = high_line (codes "int8") (all_high (codes "int8") refl)
+kind_in_line kind.Int16 = high_line (codes "int16") (all_high (codes "int16") refl)
+kind_in_line kind.Int32 = high_line (codes "int32") (all_high (codes "int32") refl)
+kind_in_line kind.Int64 = high_line (codes "int64") (all_high (codes "int64") refl)
+kind_in_line kind.String = high_line (codes "string") (all_high (codes "string") refl)
+kind_in_line kind.Binary = high_line (codes "binary") (all_high (codes "binary") refl)
 
 default_in_line : (k : Kind) (d : Option Cell) → AllByRecursion (Without 10) (default_words k d)
 default_in_line k None = tt
-default_in_line k (Some x) = (high_in_line (codes "default") (all_high (codes "default") refl), (literal_in_line k x, tt))
+default_in_line k (Some x) = (high_line (codes "default") (all_high (codes "default") refl), (literal_in_line k x, tt))
 
 marks_in_line : (k : Kind) (key nullable : Bool) (d : Option Cell) → AllByRecursion (Without 10) (if key then codes "key" ∷ [] else word_if nullable (codes "nullable") ++ default_words k d)
-marks_in_line k true nullable d = (high_in_line (codes "key") (all_high (codes "key") refl), tt)
-marks_in_line k false true d = (high_in_line (codes "nullable") (all_high (codes "nullable") refl), default_in_line k d)
+marks_in_line k true nullable d = (high_line (codes "key") (all_high (codes "key") refl), tt)
+marks_in_line k false true d = (high_line (codes "nullable") (all_high (codes "nullable") refl), default_in_line k d)
 marks_in_line k false false d = default_in_line k d
 
 pub column_in_line : (c : Column) → ColumnFits c → Without 10 (words (column_words c))
-column_in_line c fit = words_in_line (column_words c) (high_in_line (codes "column") (all_high (codes "column") refl), (name_in_line c fit, (kind_in_line c.kind, marks_in_line c.kind c.key c.nullable c.default)))
-
--- ---- writes
-
-op_in_line : (k : OpKind) → Without 10 (op_word k)
-op_in_line op.Insert = high_in_line (codes "insert") (all_high (codes "insert") refl)
-op_in_line op.Upsert = high_in_line (codes "upsert") (all_high (codes "upsert") refl)
-op_in_line op.Update = high_in_line (codes "update") (all_high (codes "update") refl)
-op_in_line op.Delete = high_in_line (codes "delete") (all_high (codes "delete") refl)
-op_in_line op.InsertIgnore = high_in_line (codes "insert-ignore") (all_high (codes "insert-ignore") refl)
-op_in_line op.UpdateIgnore = high_in_line (codes "update-ignore") (all_high (codes "update-ignore") refl)
-op_in_line op.DeleteIgnore = high_in_line (codes "delete-ignore") (all_high (codes "delete-ignore") refl)
-
-cell_in_line : (named : Bool) (c : Column) (x : Cell) → ColumnFits c → Without 10 (cell_word named c x)
-cell_in_line true c x fit = both_in_line c.name (61 ∷ literal c.kind x) (name_in_line c fit) ((λ e. omega arith), literal_in_line c.kind x)
-cell_in_line false c x fit = literal_in_line c.kind x
-
-cells_in_line : (named : Bool) (columns : List Column) (cells : List (ℕ × Cell)) → AllByRecursion ColumnFits columns → AllByRecursion (Without 10) (cell_words named columns cells)
-cells_in_line named [] cells fit = tt
-cells_in_line named (c ∷ columns) [] fit = tt
-cells_in_line named (c ∷ columns) (x ∷ cells) fit = by (cells_in_line named columns cells fit.1) (cells_in_line named columns (x ∷ cells) fit.1) (c.id == x.0)
-  where
-    by : AllByRecursion (Without 10) (cell_words named columns cells) → AllByRecursion (Without 10) (cell_words named columns (x ∷ cells)) → (t : Bool)
-        → AllByRecursion (Without 10) (if t then cell_word named c x.1 ∷ cell_words named columns cells else cell_words named columns (x ∷ cells))
-    by here later true = (cell_in_line named c x.1 fit.0, here)
-    by here later false = later
-
-op_text_in_line : (columns : List Column) (o : RowOp) → AllByRecursion ColumnFits (other_columns columns) → Without 10 (op_text columns o)
-op_text_in_line columns o fit =
-    let keys : List (List ℕ) = literals (key_kinds columns) (key_cells (key_kinds columns) o.key) in
-    let tail : List (List ℕ) = cell_words (is_named o.kind) (other_columns columns) o.cells in
-    words_in_line (op_word o.kind ∷ (keys ++ tail)) (op_in_line o.kind, join (Without 10) keys tail (literals_in_line (key_kinds columns) (key_cells (key_kinds columns) o.key)) (cells_in_line (is_named o.kind) (other_columns columns) o.cells fit))
+column_in_line c fit = words_in_line (column_words c) (high_line (codes "column") (all_high (codes "column") refl), (name_in_line c fit, (kind_in_line c.kind, marks_in_line c.kind c.key c.nullable c.default)))
 
 -- texts with a separator
 more_in_line : {X : Type 0} (separator : List ℕ) (f : X → List ℕ) (xs : List X) → Without 10 separator → ((x : X) → Without 10 (f x)) → Without 10 (flat_map (λ t. separator ++ t) (map f xs))
@@ -117,9 +72,6 @@ more_in_line separator f (x ∷ xs) s p = both_in_line (separator ++ f x) (flat_
 joined_in_line : {X : Type 0} (separator : List ℕ) (f : X → List ℕ) (xs : List X) → Without 10 separator → ((x : X) → Without 10 (f x)) → Without 10 (joined separator (map f xs))
 joined_in_line separator f [] s p = tt
 joined_in_line separator f (x ∷ xs) s p = both_in_line (f x) (flat_map (λ t. separator ++ t) (map f xs)) (p x) (more_in_line separator f xs s p)
-
-pub write_in_line : (columns : List Column) (ops : List RowOp) → AllByRecursion ColumnFits (other_columns columns) → Without 10 (write_text columns ops)
-write_in_line columns ops fit = joined_in_line (codes " ; ") (op_text columns) ops ((λ e. omega arith), ((λ e. omega arith), ((λ e. omega arith), tt))) (λ o. op_text_in_line columns o fit)
 
 -- ---- scans
 
@@ -143,15 +95,15 @@ test_in_line k (test.Lt x) = compared_in_line 60 k x (omega arith)
 test_in_line k (test.Le x) = ((λ e. omega arith), compared_in_line 61 k x (omega arith))
 test_in_line k (test.Gt x) = compared_in_line 62 k x (omega arith)
 test_in_line k (test.Ge x) = ((λ e. omega arith), compared_in_line 61 k x (omega arith))
-test_in_line k test.IsNull = both_in_line (codes " ") (codes "is null") space_in_line (both_in_line (codes "is") (codes " null") (high_in_line (codes "is") (all_high (codes "is") refl)) (both_in_line (codes " ") (codes "null") space_in_line (high_in_line (codes "null") (all_high (codes "null") refl))))
-test_in_line k test.NotNull = both_in_line (codes " ") (codes "is not null") space_in_line (both_in_line (codes "is") (codes " not null") (high_in_line (codes "is") (all_high (codes "is") refl))
-    (both_in_line (codes " ") (codes "not null") space_in_line (both_in_line (codes "not") (codes " null") (high_in_line (codes "not") (all_high (codes "not") refl)) (both_in_line (codes " ") (codes "null") space_in_line (high_in_line (codes "null") (all_high (codes "null") refl))))))
+test_in_line k test.IsNull = both_in_line (codes " ") (codes "is null") space_in_line (both_in_line (codes "is") (codes " null") (high_line (codes "is") (all_high (codes "is") refl)) (both_in_line (codes " ") (codes "null") space_in_line (high_line (codes "null") (all_high (codes "null") refl))))
+test_in_line k test.NotNull = both_in_line (codes " ") (codes "is not null") space_in_line (both_in_line (codes "is") (codes " not null") (high_line (codes "is") (all_high (codes "is") refl))
+    (both_in_line (codes " ") (codes "not null") space_in_line (both_in_line (codes "not") (codes " null") (high_line (codes "not") (all_high (codes "not") refl)) (both_in_line (codes " ") (codes "null") space_in_line (high_line (codes "null") (all_high (codes "null") refl))))))
 
 pred_in_line : (columns : List Column) (p : Pred) → AllByRecursion ColumnFits columns → Without 10 (pred_text columns p)
 pred_in_line columns p fit = under_column (λ o. Without 10 (test_under o p.test)) tt (λ c f. both_in_line c.name (test_text c.kind p.test) (name_in_line c f) (test_in_line c.kind p.test)) columns p.column fit
 
 word_in_line : (before word after : List ℕ) → Without 10 before → AllByRecursion High word → Without 10 after → Without 10 (before ++ (word ++ after))
-word_in_line before word after p h q = both_in_line before (word ++ after) p (both_in_line word after (high_in_line word h) q)
+word_in_line before word after p h q = both_in_line before (word ++ after) p (both_in_line word after (high_line word h) q)
 
 select_in_line : (columns : List Column) (sel : Option (List ℕ)) → AllByRecursion ColumnFits columns → Without 10 (select_text columns sel)
 select_in_line columns None fit = tt
@@ -167,10 +119,10 @@ where_in_line columns (p ∷ preds) fit =
     (joined_in_line (codes " and ") (pred_text columns) (p ∷ preds) (word_in_line (codes " ") (codes "and") (codes " ") space_in_line (all_high (codes "and") refl) space_in_line) (λ q. pred_in_line columns q fit))
 
 time_in_line : (t : ℕ) → t ≤ most_time → Without 10 (decimal t)
-time_in_line t h = high_in_line (decimal t) (time_high t h)
+time_in_line t h = high_line (decimal t) (time_high t h)
 
 at_in_line : (at : At) → AtFits at → Without 10 (at_text at)
-at_in_line Looked h = high_in_line (codes "now") (all_high (codes "now") refl)
+at_in_line Looked h = high_line (codes "now") (all_high (codes "now") refl)
 at_in_line (Given t) h = word_in_line [] (codes "at") (codes " " ++ decimal t) tt (all_high (codes "at") refl) (both_in_line (codes " ") (decimal t) space_in_line (time_in_line t h))
 
 pub scan_in_line : (columns : List Column) (scan : Scan) → AllByRecursion ColumnFits columns → AtFits scan.at → Without 10 (scan_text columns scan)

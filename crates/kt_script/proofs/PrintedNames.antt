@@ -1,7 +1,7 @@
 -- Cells that are printed with the names of their columns are read as these cells.
 use Rattle.std.proofs.Common.{◌≡◌, ℕ, ◌+◌, ◌<◌, List, [], ◌∷◌, ◌++◌, refl, sym, ap, ◌∙◌, cond, arith, length, take, drop, Bool, true, false, not, min, append_assoc}
 use mathlib.Core.List.{append-nil}
-use Rattle.std.specs.Prelude.{◌||◌, ◌&&◌, ◌==◌, if◌then◌else◌}
+use Rattle.std.specs.Prelude.{◌≢◌, ◌||◌, ◌&&◌, ◌==◌, if◌then◌else◌}
 use Rattle.std.specs.List.{list_any, position_or_len, AllByRecursion}
 use Rattle.std.specs.declared.cmp.Ordering.TheVariants.{Greater}
 use Rattle.std.specs.Ordering.{nat_cmp}
@@ -14,11 +14,13 @@ use Rattle.kt_base.specs.Literals.{same, literal, CellBytes}
 use Rattle.kt_base.proofs.Values.{both_true}
 use Rattle.kt_key.proofs.Numbers.{nat_cmp-by}
 use Rattle.kt_schema.specs.declared.column.Column.{Column}
-use Rattle.kt_script.specs.Reasons.{reason_if, cell_value}
+use Rattle.kt_script.specs.Reasons.{sound, reason_if, cell_value}
 use Rattle.kt_script.specs.Writes.{is_sign, name_in, behind_name, column_named, under_no, given_no, named_no, all_named_no, with_named, all_named}
 use Rattle.kt_script.specs.Fit.{is_part, fits_column}
 use Rattle.kt_script.specs.Print.{ColumnFits, cell_word, cell_words}
-use Rattle.kt_script.proofs.PrintedWords.{IsWord, NameByte, Named, name_is, name_bytes_of, name_high, high_word, high, passes_both}
+use Rattle.kt_script.proofs.InLine.{join}
+use Rattle.kt_script.proofs.FormLaws.{Plain, high_line}
+use Rattle.kt_script.proofs.PrintedWords.{NameByte, Named, name_apart, name_is, name_bytes_of, name_high, high_word, high, passes_both}
 use Rattle.kt_script.proofs.PrintedCells.{CellOk, cell_ok, min_sound}
 use Rattle.kt_script.proofs.PrintedTables.{IsNamed, Other, Apart, Above, Rising}
 use Rattle.kt_script.specs.declared.word.Side.TheVariants.{Outside}
@@ -64,7 +66,7 @@ pub record Known (columns : List Column) (c : Column) : Type 0 where
   pub fit : ColumnFits c
 
 pub record NamedOk (others : List Column) (c : Column) (x : Cell) : Type 0 where
-  pub sound : named_no others (cell_word true c x) ≡ 21
+  pub taken : named_no others (cell_word true c x) ≡ sound
   pub name : name_in (cell_word true c x) ≡ c.name
   pub put : (cells : List (ℕ × Cell)) → with_named (column_named others (name_in (cell_word true c x))) (drop 1 (behind_name (cell_word true c x))) cells ≡ put nat_cmp c.id x cells
 
@@ -76,8 +78,8 @@ named_ok others c x known ok =
     let name : name_in w ≡ c.name = name_before c.name 61 lit n refl in
     let behind : behind_name w ≡ 61 ∷ lit = behind_sign c.name 61 lit n refl in
     record {
-      sound = ap (λ m. given_no others m (behind_name w)) name ∙ (ap (λ b. given_no others c.name b) behind
-          ∙ (ap (λ t. if t && true then under_no (column_named others c.name) lit else 12) known.fit.name ∙ (ap (λ o. under_no o lit) known.named ∙ ok.sound)));
+      taken = ap (λ m. given_no others m (behind_name w)) name ∙ (ap (λ b. given_no others c.name b) behind
+          ∙ (ap (λ t. if t && true then under_no (column_named others c.name) lit else 12) known.fit.name ∙ (ap (λ o. under_no o lit) known.named ∙ ok.taken)));
       name = name;
       put = λ cells. ap (λ m. with_named (column_named others m) (drop 1 (behind_name w)) cells) name ∙ (ap (λ o. with_named o (drop 1 (behind_name w)) cells) known.named
           ∙ (ap (λ b. put nat_cmp c.id (cell_value c.kind (drop 1 b)) cells) behind ∙ ap (λ v. put nat_cmp c.id v cells) ok.value));
@@ -85,24 +87,30 @@ named_ok others c x known ok =
 
 -- ---- the words
 
-cell_word_word : (named : Bool) (c : Column) (x : Cell) → ColumnFits c → CellOk c x → IsWord (cell_word named c x)
-cell_word_word false c x fit ok = ok.word
-cell_word_word true c x fit ok =
-    passes_both Outside Outside Outside c.name (61 ∷ literal c.kind x) (high_word c.name (name_high c.name (name_is c.name fit.name))) (passes_both Outside Outside Outside (61 ∷ []) (literal c.kind x) (high (61 ∷ []) refl) ok.word)
+cell_word_plain : (named : Bool) (c : Column) (x : Cell) → ColumnFits c → CellOk c x → Plain (cell_word named c x)
+cell_word_plain false c x fit ok = ok.plain
+cell_word_plain true c x fit ok =
+    let name = name_is c.name fit.name in
+    let behind : List ℕ = 61 ∷ literal c.kind x in
+    record {
+      word = passes_both Outside Outside Outside c.name behind (high_word c.name (name_high c.name name)) (passes_both Outside Outside Outside (61 ∷ []) (literal c.kind x) (high (61 ∷ []) refl) ok.plain.word);
+      line = join (λ b. b ≢ 10) c.name behind (high_line c.name (name_high c.name name)) ((λ e. omega arith), ok.plain.line);
+      apart = name_apart c.name behind name;
+    }
 
 abbrev pub Bytes : ℕ × Cell → Type 0
 Bytes x = CellBytes x.1
 
-pub cell_words_words : (named : Bool) (columns : List Column) (cells : List (ℕ × Cell)) → AllByRecursion ColumnFits columns → is_part columns cells ≡ true → AllByRecursion Bytes cells → AllByRecursion IsWord (cell_words named columns cells)
-cell_words_words named [] cells fit part bytes = tt
-cell_words_words named (c ∷ columns) [] fit part bytes = tt
-cell_words_words named (c ∷ columns) (x ∷ cells) fit part bytes =
-    by (λ p. cell_words_words named columns cells fit.1 p bytes.1) (λ p. cell_words_words named columns (x ∷ cells) fit.1 p bytes) (c.id == x.0) part
+pub cell_words_plain : (named : Bool) (columns : List Column) (cells : List (ℕ × Cell)) → AllByRecursion ColumnFits columns → is_part columns cells ≡ true → AllByRecursion Bytes cells → AllByRecursion Plain (cell_words named columns cells)
+cell_words_plain named [] cells fit part bytes = tt
+cell_words_plain named (c ∷ columns) [] fit part bytes = tt
+cell_words_plain named (c ∷ columns) (x ∷ cells) fit part bytes =
+    by (λ p. cell_words_plain named columns cells fit.1 p bytes.1) (λ p. cell_words_plain named columns (x ∷ cells) fit.1 p bytes) (c.id == x.0) part
   where
-    by : (is_part columns cells ≡ true → AllByRecursion IsWord (cell_words named columns cells)) → (is_part columns (x ∷ cells) ≡ true → AllByRecursion IsWord (cell_words named columns (x ∷ cells)))
+    by : (is_part columns cells ≡ true → AllByRecursion Plain (cell_words named columns cells)) → (is_part columns (x ∷ cells) ≡ true → AllByRecursion Plain (cell_words named columns (x ∷ cells)))
         → (t : Bool) → (if t then fits_column c x.1 && is_part columns cells else is_part columns (x ∷ cells)) ≡ true
-        → AllByRecursion IsWord (if t then cell_word named c x.1 ∷ cell_words named columns cells else cell_words named columns (x ∷ cells))
-    by here later true p = let both = both_true (fits_column c x.1) (is_part columns cells) p in (cell_word_word named c x.1 fit.0 (cell_ok c x.1 both.0 bytes.0), here both.1)
+        → AllByRecursion Plain (if t then cell_word named c x.1 ∷ cell_words named columns cells else cell_words named columns (x ∷ cells))
+    by here later true p = let both = both_true (fits_column c x.1) (is_part columns cells) p in (cell_word_plain named c x.1 fit.0 (cell_ok c x.1 both.0 bytes.0), here both.1)
     by here later false p = later p
 
 -- ---- none is refused
@@ -115,23 +123,23 @@ unseen_more : (seen : List (List ℕ)) (c d : Column) → Other c d → Unseen s
 unseen_more seen c d other un = list_any-append (λ n. same n d.name) seen (c.name ∷ []) ∙ (ap (λ t. t || (same c.name d.name || false)) un ∙ ap (λ t. t || false) other)
 
 pub named_sound : (others columns : List Column) (cells : List (ℕ × Cell)) (seen : List (List ℕ)) → AllByRecursion (Known others) columns → Apart columns → is_part columns cells ≡ true → AllByRecursion Bytes cells
-    → AllByRecursion (Unseen seen) columns → all_named_no others seen (cell_words true columns cells) ≡ 21
+    → AllByRecursion (Unseen seen) columns → all_named_no others seen (cell_words true columns cells) ≡ sound
 named_sound others [] cells seen known apart part bytes un = refl
 named_sound others (c ∷ columns) [] seen known apart part bytes un = refl
 named_sound others (c ∷ columns) (x ∷ cells) seen known apart part bytes un =
     by (λ p. named_sound others columns cells (seen ++ c.name ∷ []) known.1 apart.1 p bytes.1 (zip_all (Other c) (Unseen seen) (Unseen (seen ++ c.name ∷ [])) columns (unseen_more seen c) apart.0 un.1))
     (λ p. named_sound others columns (x ∷ cells) seen known.1 apart.1 p bytes un.1) (c.id == x.0) part
   where
-    by : (is_part columns cells ≡ true → all_named_no others (seen ++ c.name ∷ []) (cell_words true columns cells) ≡ 21)
-        → (is_part columns (x ∷ cells) ≡ true → all_named_no others seen (cell_words true columns (x ∷ cells)) ≡ 21)
+    by : (is_part columns cells ≡ true → all_named_no others (seen ++ c.name ∷ []) (cell_words true columns cells) ≡ sound)
+        → (is_part columns (x ∷ cells) ≡ true → all_named_no others seen (cell_words true columns (x ∷ cells)) ≡ sound)
         → (t : Bool) → (if t then fits_column c x.1 && is_part columns cells else is_part columns (x ∷ cells)) ≡ true
-        → all_named_no others seen (if t then cell_word true c x.1 ∷ cell_words true columns cells else cell_words true columns (x ∷ cells)) ≡ 21
+        → all_named_no others seen (if t then cell_word true c x.1 ∷ cell_words true columns cells else cell_words true columns (x ∷ cells)) ≡ sound
     by here later true p =
         let both = both_true (fits_column c x.1) (is_part columns cells) p in
         let ok = named_ok others c x.1 known.0 (cell_ok c x.1 both.0 bytes.0) in
         let w : List ℕ = cell_word true c x.1 in
         let rest : List (List ℕ) = cell_words true columns cells in
-        min_sound (named_no others w) (min (reason_if (list_any (λ n. same n (name_in w)) seen) 13) (all_named_no others (seen ++ name_in w ∷ []) rest)) ok.sound
+        min_sound (named_no others w) (min (reason_if (list_any (λ n. same n (name_in w)) seen) 13) (all_named_no others (seen ++ name_in w ∷ []) rest)) ok.taken
         (min_sound (reason_if (list_any (λ n. same n (name_in w)) seen) 13) (all_named_no others (seen ++ name_in w ∷ []) rest)
         (ap (λ m. reason_if (list_any (λ n. same n m) seen) 13) ok.name ∙ ap (λ t. reason_if t 13) un.0)
         (ap (λ m. all_named_no others (seen ++ m ∷ []) rest) ok.name ∙ here both.1))

@@ -1,13 +1,10 @@
 -- A printed operation is read as that operation.
-use Rattle.std.proofs.Common.{◌≡◌, ℕ, suc, ◌<◌, ◌≤◌, List, [], ◌∷◌, ◌++◌, refl, sym, ap, subst, ◌∙◌, cond, arith, length, map, drop, Bool, true, false, not, min, Some}
+use Rattle.std.proofs.Common.{◌≡◌, ℕ, suc, ◌≤◌, List, [], ◌∷◌, ◌++◌, refl, sym, ap, subst, ◌∙◌, arith, length, map, drop, Bool, true, false, not, Some}
 use mathlib.Core.List.{append-nil}
 use Rattle.std.specs.Prelude.{◌||◌, ◌&&◌, ◌==◌, is_some, nat_lt, if◌then◌else◌, codes}
 use Rattle.std.specs.List.{list_any, list_all, AllByRecursion}
-use Rattle.std.specs.declared.cmp.Ordering.{Ordering}
-use Rattle.std.specs.declared.cmp.Ordering.TheVariants.{Less, Greater}
-use Rattle.std.specs.Ordering.{nat_cmp, is_eq}
+use Rattle.std.specs.Ordering.{nat_cmp}
 use Rattle.std.specs.FinMap.Entries.{find}
-use Rattle.std.proofs.Math.Seq.{drop-append_seam}
 use Rattle.std.proofs.lemmas.Bool.{eqb-true}
 use Rattle.std.proofs.lemmas.Bool.Decides.{nat_tests}
 use Rattle.kt_base.specs.declared.cell.Cell.{Cell}
@@ -17,7 +14,6 @@ use Rattle.kt_base.proofs.Values.{both_true}
 use Rattle.kt_key.specs.Fit.{is_key}
 use Rattle.kt_key.specs.Spelling.{spelling}
 use Rattle.kt_key.specs.Reading.{Spells}
-use Rattle.kt_key.proofs.Numbers.{nat_cmp-by}
 use Rattle.kt_schema.specs.Columns.{key_columns, other_columns, key_kinds}
 use Rattle.kt_schema.specs.declared.column.Column.{Column}
 use Rattle.kt_history.specs.declared.operation.OpKind.{OpKind}
@@ -25,51 +21,30 @@ use Rattle.kt_history.specs.declared.operation.OpKind.TheVariants as op
 use Rattle.kt_script.specs.declared.forms.OpForm.{OpForm}
 use Rattle.kt_script.specs.declared.forms.OpForm.TheVariants as form
 use Rattle.kt_history.specs.declared.operation.RowOp.{RowOp}
-use Rattle.kt_script.specs.Reasons.{reason_if, cell_no}
+use Rattle.kt_script.specs.Reasons.{sound, reason_if}
 use Rattle.kt_script.specs.Texts.{literals}
-use Rattle.kt_script.specs.Writes.{name_in, named_no, all_named_no, must_be_named, left_out_no, all_named, is_empty, none_left_no, under, cells_no, cells_of, key_len, key_of, long_no, key_no, changes_no, behind_no, cells_said, op_form, op_word, kind_no, op_kind, op_cells, kind_or_delete, op_no, op_of, op_key}
+use Rattle.kt_script.specs.Writes.{name_in, all_named_no, must_be_named, left_out_no, all_named, is_empty, none_left_no, under, cells_no, cells_of, values_no, key_len, key_of, long_no, key_no, changes_no, behind_no, cells_said, op_form, op_word, kind_no, op_kind, op_cells, kind_or_delete, op_no, op_of, op_key}
 use Rattle.kt_script.specs.Writes.{key_cells as cells_in_key}
 use Rattle.kt_script.specs.Fit.{is_part, is_given, fits_column, cells_fit, OpFits}
 use Rattle.kt_script.specs.Print.{ColumnFits, cell_word, cell_words, op_words, key_words, form_names, is_named, OpBytes}
-use Rattle.kt_base.proofs.Decimals.{same_text}
 use Rattle.kt_key.proofs.KeyReads.{keys_again}
 use Rattle.kt_script.proofs.InLine.{join}
-use Rattle.kt_script.proofs.PrintedWords.{IsWord, name_is, high}
-use Rattle.kt_script.proofs.PrintedCells.{CellOk, cell_ok, CellsOk, kinds_of, min_sound, front_no, front_of, front_drop, front_words, all_no, all_of, key_ok}
+use Rattle.kt_script.proofs.FormLaws.{Plain, plain}
+use Rattle.kt_script.proofs.PrintedWords.{name_is}
+use Rattle.kt_script.proofs.PrintedCells.{cell_ok, CellsOk, kinds_of, min_sound, front_drop, front_plain, all_no, all_of, key_ok}
+use Rattle.kt_script.proofs.PartFits.{Rises}
+use Rattle.kt_script.proofs.AgainNames.{find_later, none_below}
 use Rattle.kt_script.proofs.PrintedTables.{IsNamed, Above, Rising, Tabled, same_self}
-use Rattle.kt_script.proofs.PrintedNames.{Known, named_ok, Bytes, Unseen, Before, zip_all, name_before, named_sound, named_cells, cell_words_words}
+use Rattle.kt_script.proofs.PrintedNames.{Known, Bytes, Unseen, Before, zip_all, name_before, named_sound, named_cells, cell_words_plain}
 
 true_false : ◌≡◌ {A = Bool} true false → ⊥
 true_false e = cc
 
 -- ---- an upsert leaves no column out that must be named
 
-cmp_below : (a b : ℕ) → a < b → nat_cmp a b ≡ Less
-cmp_below a b h = nat_cmp-by a b Less (λ lt. refl) (λ e. absurd (omega arith)) (λ lt. absurd (omega arith))
-
-cmp_above : (a b : ℕ) → b < a → nat_cmp a b ≡ Greater
-cmp_above a b h = nat_cmp-by a b Greater (λ lt. absurd (omega arith)) (λ e. absurd (omega arith)) (λ lt. refl)
-
-abbrev Later : ℕ → ℕ × Cell → Type 0
-Later k x = k < x.0
-
-part_above : (c : Column) (columns : List Column) (cells : List (ℕ × Cell)) → AllByRecursion (Above c) columns → is_part columns cells ≡ true → AllByRecursion (Later c.id) cells
-part_above c [] [] above part = tt
-part_above c [] (x ∷ cells) above part = absurd cc
-part_above c (d ∷ columns) [] above part = tt
-part_above c (d ∷ columns) (x ∷ cells) above part = by (λ p. part_above c columns cells above.1 p) (λ p. part_above c columns (x ∷ cells) above.1 p) (d.id == x.0) refl part
-  where
-    by : (is_part columns cells ≡ true → AllByRecursion (Later c.id) cells) → (is_part columns (x ∷ cells) ≡ true → AllByRecursion (Later c.id) (x ∷ cells))
-        → (t : Bool) → (d.id == x.0) ≡ t → (if t then fits_column d x.1 && is_part columns cells else is_part columns (x ∷ cells)) ≡ true → AllByRecursion (Later c.id) (x ∷ cells)
-    by here later true is p = let id : d.id ≡ x.0 = eqb-true d.id x.0 is in let low = above.0 in (omega arith, here (both_true (fits_column d x.1) (is_part columns cells) p).1)
-    by here later false is p = later p
-
-find_none : (k : ℕ) (cells : List (ℕ × Cell)) → AllByRecursion (Later k) cells → is_some (find nat_cmp k cells) ≡ false
-find_none k [] p = refl
-find_none k (x ∷ cells) p = ap (λ (o : Ordering). is_some (cond (is_eq o) (Some x.1) (find nat_cmp k cells))) (cmp_below k x.0 p.0) ∙ find_none k cells p.1
-
-find_later : (k : ℕ) (x : ℕ × Cell) (cells : List (ℕ × Cell)) → x.0 < k → find nat_cmp k (x ∷ cells) ≡ find nat_cmp k cells
-find_later k x cells h = ap (λ (o : Ordering). cond (is_eq o) (Some x.1) (find nat_cmp k cells)) (cmp_above k x.0 h)
+rises_of : (c : Column) (columns : List Column) → Rising (c ∷ columns) → Rises (suc c.id) columns
+rises_of c [] h = tt
+rises_of c (d ∷ columns) h = let above = h.0.0 in (omega (arith, above), rises_of d columns h.1)
 
 -- a column with a cell is named
 abbrev FoundIn : List (ℕ × Cell) → List (List ℕ) → Column → Type 0
@@ -99,9 +74,9 @@ named_found (c ∷ columns) (x ∷ cells) fit rising part = by (λ p. named_foun
         let name : name_in w ≡ c.name = name_before c.name 61 (literal c.kind x.1) (name_is c.name fit.0.name) refl in
         let rest = here (both_true (fits_column c x.1) (is_part columns cells) p).1 in (
           (λ h. ap (λ n. same n c.name || list_any (λ m. same m c.name) names) name ∙ ap (λ t. t || list_any (λ m. same m c.name) names) (same_self c.name)),
-          zip_all (Above c) (FoundIn cells names) (FoundIn (x ∷ cells) (name_in w ∷ names)) columns (λ d above old h. or_right (same (name_in w) d.name) (list_any (λ m. same m d.name) names) (old (sym (ap is_some (find_later d.id x cells (omega (arith, above, id)))) ∙ h))) rising.0 rest,
+          zip_all (Above c) (FoundIn cells names) (FoundIn (x ∷ cells) (name_in w ∷ names)) columns (λ d above old h. or_right (same (name_in w) d.name) (list_any (λ m. same m d.name) names) (old (sym (ap is_some (find_later x cells d.id (omega (arith, above, id)))) ∙ h))) rising.0 rest,
         )
-    by here later false is p = ((λ h. absurd (true_false (sym h ∙ find_none c.id (x ∷ cells) (part_above c columns (x ∷ cells) rising.0 p)))), later p)
+    by here later false is p = ((λ h. absurd (true_false (sym h ∙ ap is_some (none_below (suc c.id) c.id columns (x ∷ cells) (rises_of c columns rising) p (omega arith))))), later p)
 
 may_stay : (n s f l : Bool) → ((n || s) || f) ≡ true → (f ≡ true → l ≡ true) → ((not n && not s) && not l) ≡ false
 may_stay true s f l h g = refl
@@ -168,8 +143,8 @@ full_part (c ∷ columns) (x ∷ cells) part size bytes = by (λ p. full_part co
 -- ---- keys
 
 record KeyRead (columns : List Column) (key : List ℕ) (ws more : List (List ℕ)) : Type 0 where
-  no : key_no columns ws ≡ 21
-  long : long_no columns ws ≡ 21
+  no : key_no columns ws ≡ sound
+  long : long_no columns ws ≡ sound
   spells : key_of columns ws ≡ key
   rest : drop (key_len columns) ws ≡ more
 
@@ -187,7 +162,7 @@ key_read columns key cells more spells short ok =
     let cells_are : cells_of (key_columns columns) ws ≡ cells = all_of (key_columns columns) cells more ok in
     let key_is : key_of columns ws ≡ key = ap (λ xs. spelling (key_kinds columns) xs) cells_are ∙ spells.spelled in
     let under_limit : nat_lt 16384 (length (key_of columns ws)) ≡ false = ap (λ k. nat_lt 16384 (length k)) key_is ∙ not_over (length key) short in
-    let long_is : long_no columns ws ≡ 21 =
+    let long_is : long_no columns ws ≡ sound =
     ap (λ t. reason_if (is_key (key_kinds columns) (cells_in_key columns ws) && t) 17) under_limit ∙ ap (λ t. reason_if t 17) (and_false (is_key (key_kinds columns) (cells_in_key columns ws))) in
     record {
       no = min_sound (cells_no (key_columns columns) ws) (long_no columns ws) (all_no (key_columns columns) cells more ok) long_is;
@@ -201,49 +176,12 @@ key_read columns key cells more spells short ok =
 abbrev pub Unbroken : List ℕ → Type 0
 Unbroken w = same w (codes ";") ≡ false
 
--- a word that is not refused is no semicolon, where a semicolon is
-not_semicolon : (f : List ℕ → ℕ) (w : List ℕ) → f w ≡ 21 → f (codes ";") ≡ 12 → Unbroken w
-not_semicolon f w sound refused = by (same w (codes ";")) refl
-  where
-    differ : ◌≡◌ {A = ℕ} 12 21 → ⊥
-    differ e = omega arith
-
-    by : (t : Bool) → same w (codes ";") ≡ t → t ≡ false
-    by true e = absurd (differ (sym refused ∙ (sym (ap f (same_text w (codes ";") e)) ∙ sound)))
-    by false e = refl
-
-cell_unbroken : (c : Column) (x : Cell) → CellOk c x → Unbroken (literal c.kind x)
-cell_unbroken c x ok = not_semicolon (cell_no c) (literal c.kind x) ok.sound refl
-
-front_unbroken : (cs : List Column) (xs : List Cell) → CellsOk cs xs → AllByRecursion Unbroken (literals (kinds_of cs) xs)
-front_unbroken [] [] ok = tt
-front_unbroken [] (x ∷ xs) ok = absurd ok
-front_unbroken (c ∷ cs) [] ok = absurd ok
-front_unbroken (c ∷ cs) (x ∷ xs) ok = (cell_unbroken c x ok.0, front_unbroken cs xs ok.1)
-
-word_unbroken : (named : Bool) (others : List Column) (c : Column) (x : Cell) → Known others c → CellOk c x → Unbroken (cell_word named c x)
-word_unbroken true others c x known ok = not_semicolon (named_no others) (cell_word true c x) (named_ok others c x known ok).sound refl
-word_unbroken false others c x known ok = cell_unbroken c x ok
-
-cell_words_unbroken : (named : Bool) (others columns : List Column) (cells : List (ℕ × Cell)) → AllByRecursion (Known others) columns → is_part columns cells ≡ true → AllByRecursion Bytes cells → AllByRecursion Unbroken (cell_words named columns cells)
-cell_words_unbroken named others [] cells known part bytes = tt
-cell_words_unbroken named others (c ∷ columns) [] known part bytes = tt
-cell_words_unbroken named others (c ∷ columns) (x ∷ cells) known part bytes =
-    by (λ p. cell_words_unbroken named others columns cells known.1 p bytes.1) (λ p. cell_words_unbroken named others columns (x ∷ cells) known.1 p bytes) (c.id == x.0) part
-  where
-    by : (is_part columns cells ≡ true → AllByRecursion Unbroken (cell_words named columns cells)) → (is_part columns (x ∷ cells) ≡ true → AllByRecursion Unbroken (cell_words named columns (x ∷ cells)))
-        → (t : Bool) → (if t then fits_column c x.1 && is_part columns cells else is_part columns (x ∷ cells)) ≡ true
-        → AllByRecursion Unbroken (if t then cell_word named c x.1 ∷ cell_words named columns cells else cell_words named columns (x ∷ cells))
-    by here later true p = let both = both_true (fits_column c x.1) (is_part columns cells) p in (word_unbroken named others c x.1 known.0 (cell_ok c x.1 both.0 bytes.0), here both.1)
-    by here later false p = later p
-
 -- ---- operations
 
 -- the words of an operation, which are read as it
 pub record OpRead (columns : List Column) (o : RowOp) : Type 0 where
-  pub words : AllByRecursion IsWord (op_words columns o)
-  pub unbroken : AllByRecursion Unbroken (op_words columns o)
-  pub no : op_no columns (op_words columns o) ≡ 21
+  pub words : AllByRecursion Plain (op_words columns o)
+  pub no : op_no columns (op_words columns o) ≡ sound
   pub is : op_of columns (op_words columns o) ≡ o
   pub key : op_key columns (op_words columns o) ≡ o.key
 
@@ -270,35 +208,14 @@ no_part : (columns : List Column) → is_part columns [] ≡ true
 no_part [] = refl
 no_part (c ∷ columns) = refl
 
-as_many : (cs : List Column) (xs : List Cell) → CellsOk cs xs → length xs ≡ length cs
-as_many [] [] ok = refl
-as_many [] (x ∷ xs) ok = absurd ok
-as_many (c ∷ cs) [] ok = absurd ok
-as_many (c ∷ cs) (x ∷ xs) ok = ap suc (as_many cs xs ok.1)
-
-front_drop_both : (cs : List Column) (xs : List Cell) (ds : List Column) (more : List (List ℕ)) → CellsOk cs xs → drop (length (cs ++ ds)) (literals (kinds_of cs) xs ++ more) ≡ drop (length ds) more
-front_drop_both [] [] ds more ok = refl
-front_drop_both [] (x ∷ xs) ds more ok = absurd ok
-front_drop_both (c ∷ cs) [] ds more ok = absurd ok
-front_drop_both (c ∷ cs) (x ∷ xs) ds more ok = front_drop_both cs xs ds more ok.1
-
-op_word_word : (k : OpKind) → IsWord (op_word k)
-op_word_word op.Insert = high (codes "insert") refl
-op_word_word op.Upsert = high (codes "upsert") refl
-op_word_word op.Update = high (codes "update") refl
-op_word_word op.Delete = high (codes "delete") refl
-op_word_word op.InsertIgnore = high (codes "insert-ignore") refl
-op_word_word op.UpdateIgnore = high (codes "update-ignore") refl
-op_word_word op.DeleteIgnore = high (codes "delete-ignore") refl
-
-op_word_unbroken : (k : OpKind) → Unbroken (op_word k)
-op_word_unbroken op.Insert = refl
-op_word_unbroken op.Upsert = refl
-op_word_unbroken op.Update = refl
-op_word_unbroken op.Delete = refl
-op_word_unbroken op.InsertIgnore = refl
-op_word_unbroken op.UpdateIgnore = refl
-op_word_unbroken op.DeleteIgnore = refl
+pub op_plain : (k : OpKind) → Plain (op_word k)
+op_plain op.Insert = plain (codes "insert") refl refl
+op_plain op.Upsert = plain (codes "upsert") refl refl
+op_plain op.Update = plain (codes "update") refl refl
+op_plain op.Delete = plain (codes "delete") refl refl
+op_plain op.InsertIgnore = plain (codes "insert-ignore") refl refl
+op_plain op.UpdateIgnore = plain (codes "update-ignore") refl refl
+op_plain op.DeleteIgnore = plain (codes "delete-ignore") refl refl
 
 -- the cells of an operation are some of the columns' cells
 part_of : (columns : List Column) (f : OpForm) (cells : List (ℕ × Cell)) → cells_fit columns f cells ≡ true → is_part columns cells ≡ true
@@ -321,11 +238,11 @@ abbrev Behind : (columns : List Column) (f : OpForm) (key : List ℕ) (cells : L
 Behind columns f key cells p = literals (key_kinds columns) p.key_row ++ cell_words (form_names f) (other_columns columns) cells
 
 record BehindRead (columns : List Column) (f : OpForm) (key : List ℕ) (cells : List (ℕ × Cell)) (ws : List (List ℕ)) : Type 0 where
-  no : behind_no columns f ws ≡ 21
+  no : behind_no columns f ws ≡ sound
   cells_are : cells_said columns f ws ≡ cells
 
 changes_read : (columns : List Column) (f : OpForm) (key : List ℕ) (cells : List (ℕ × Cell)) → form_names f ≡ true → Tabled columns → (p : Parts columns f key cells)
-    → (changes_no columns (Behind columns f key cells p) ≡ 21) × (all_named (other_columns columns) [] (drop (key_len columns) (Behind columns f key cells p)) ≡ cells)
+    → (changes_no columns (Behind columns f key cells p) ≡ sound) × (all_named (other_columns columns) [] (drop (key_len columns) (Behind columns f key cells p)) ≡ cells)
     × (drop (key_len columns) (Behind columns f key cells p) ≡ cell_words true (other_columns columns) cells)
 changes_read columns f key cells named t p =
     let others : List Column = other_columns columns in
@@ -337,32 +254,23 @@ changes_read columns f key cells named t p =
       rest,
     )
 
-insert_read : (columns : List Column) (key : List ℕ) (cells : List (ℕ × Cell)) → Tabled columns → (p : Parts columns form.Literals key cells) → length cells ≡ length (other_columns columns)
+insert_read : (columns : List Column) (key : List ℕ) (cells : List (ℕ × Cell)) → (p : Parts columns form.Literals key cells) → length cells ≡ length (other_columns columns)
     → BehindRead columns form.Literals key cells (Behind columns form.Literals key cells p)
-insert_read columns key cells t p size =
+insert_read columns key cells p size =
     let others : List Column = other_columns columns in
-    let keys : List Column = key_columns columns in
     let full = full_part others cells p.part size p.bytes in
     let ws : List (List ℕ) = Behind columns form.Literals key cells p in
     let xs : List (List ℕ) = literals (kinds_of others) (values cells) ++ [] in
-    let whole : List (List ℕ) = literals (key_kinds columns) p.key_row ++ xs in
-    let same_words : ws ≡ whole = ap (λ vs. literals (key_kinds columns) p.key_row ++ vs) (full.words ∙ sym (append-nil (literals (kinds_of others) (values cells)))) in
-    let sound_cells : cells_no columns ws ≡ 21 =
-    ap (cells_no columns) same_words ∙ (ap (λ cs. cells_no cs whole) t.split ∙ front_no keys p.key_row others xs p.key_ok (all_no others (values cells) [] full.ok)) in
-    let cells_are : cells_of columns ws ≡ p.key_row ++ values cells =
-    ap (cells_of columns) same_words ∙ (ap (λ cs. cells_of cs whole) t.split ∙ (front_of keys p.key_row others xs p.key_ok ∙ ap (λ vs. p.key_row ++ vs) (all_of others (values cells) [] full.ok))) in
-    let none_left : drop (length columns) ws ≡ [] =
-    ap (drop (length columns)) same_words ∙ (ap (λ cs. drop (length cs) whole) t.split ∙ (front_drop_both keys p.key_row others xs p.key_ok ∙ front_drop others (values cells) [] full.ok)) in
+    let rest : drop (key_len columns) ws ≡ xs = p.front.rest ∙ (full.words ∙ sym (append-nil (literals (kinds_of others) (values cells)))) in
     record {
-      no = min_sound (cells_no columns ws) (min (none_left_no (drop (length columns) ws)) (long_no columns ws)) sound_cells
-          (min_sound (none_left_no (drop (length columns) ws)) (long_no columns ws) (ap none_left_no none_left) p.front.long);
-      cells_are = ap (λ vs. under others (drop (key_len columns) vs)) cells_are ∙ (ap (λ n. under others (drop n (p.key_row ++ values cells))) (sym (as_many keys p.key_row p.key_ok))
-          ∙ (ap (under others) (drop-append_seam p.key_row (values cells)) ∙ full.below));
+      no = min_sound (key_no columns ws) (values_no others (drop (key_len columns) ws)) p.front.no
+          (ap (values_no others) rest ∙ min_sound (cells_no others xs) (none_left_no (drop (length others) xs)) (all_no others (values cells) [] full.ok) (ap none_left_no (front_drop others (values cells) [] full.ok)));
+      cells_are = ap (λ vs. under others (cells_of others vs)) rest ∙ (ap (under others) (all_of others (values cells) [] full.ok) ∙ full.below);
     }
 
 behind_read : (columns : List Column) (f : OpForm) (key : List ℕ) (cells : List (ℕ × Cell)) → Tabled columns → (p : Parts columns f key cells) → cells_fit (other_columns columns) f cells ≡ true
     → BehindRead columns f key cells (Behind columns f key cells p)
-behind_read columns form.Literals key cells t p fit = insert_read columns key cells t p (size_of (length cells) (length (other_columns columns)) (both_true (is_part (other_columns columns) cells) (length cells == length (other_columns columns)) fit).1)
+behind_read columns form.Literals key cells t p fit = insert_read columns key cells p (size_of (length cells) (length (other_columns columns)) (both_true (is_part (other_columns columns) cells) (length cells == length (other_columns columns)) fit).1)
   where
     size_of : (m n : ℕ) → (m == n) ≡ true → m ≡ n
     size_of m n h = eqb-true m n h
@@ -423,11 +331,8 @@ op_read columns o t fit said =
     let ws : List (List ℕ) = literals kinds fit.key_cells ++ tail in
     let same_words : key_words columns o.key ++ tail ≡ ws = ap (λ xs. literals kinds xs ++ tail) cells_again in
     let behind = behind_read columns (op_form o.kind) o.key o.cells t p fit.cells in
-    let P : List (List ℕ) → Type 0 = λ xs. AllByRecursion IsWord xs in
-    let Q : List (List ℕ) → Type 0 = λ xs. AllByRecursion Unbroken xs in
     record {
-      words = (op_word_word o.kind, subst P (sym same_words) (join IsWord (literals kinds fit.key_cells) tail (front_words (key_columns columns) fit.key_cells ok) (cell_words_words (is_named o.kind) others o.cells t.others_fit part said.bytes)));
-      unbroken = (op_word_unbroken o.kind, subst Q (sym same_words) (join Unbroken (literals kinds fit.key_cells) tail (front_unbroken (key_columns columns) fit.key_cells ok) (cell_words_unbroken (is_named o.kind) others others o.cells known part said.bytes)));
+      words = (op_plain o.kind, subst (AllByRecursion Plain) (sym same_words) (join Plain (literals kinds fit.key_cells) tail (front_plain (key_columns columns) fit.key_cells ok) (cell_words_plain (is_named o.kind) others o.cells t.others_fit part said.bytes)));
       no = ap (λ xs. kind_no columns (op_kind (op_word o.kind)) xs) same_words ∙ (ap (λ k. kind_no columns k ws) (word_kind o.kind) ∙ behind.no);
       is = ap (λ xs. op_of columns (op_word o.kind ∷ xs)) same_words ∙ (ap (λ k. record { kind = kind_or_delete k; key = key_of columns ws; cells = op_cells columns k ws }) (word_kind o.kind)
           ∙ (ap (λ key. record { kind = o.kind; key = key; cells = op_cells columns (Some o.kind) ws }) p.front.spells ∙ ap (λ cells. record { kind = o.kind; key = o.key; cells = cells }) behind.cells_are));

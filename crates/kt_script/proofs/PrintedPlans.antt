@@ -12,7 +12,7 @@ use Rattle.kt_history.specs.declared.operation.OpKind.TheVariants as op
 use Rattle.kt_history.specs.declared.command.Command.{Command}
 use Rattle.kt_history.specs.declared.command.Command.TheVariants as command
 use Rattle.kt_script.specs.Pieces.{words_of}
-use Rattle.kt_script.specs.Reasons.{reason_if}
+use Rattle.kt_script.specs.Reasons.{sound, reason_if}
 use Rattle.kt_script.specs.Times.{most_time, time_no, time_or_zero}
 use Rattle.kt_script.specs.Scripts.{most_sessions, most_commands, Word, word_of, first_word, command_no, commands_in, is_begun, session_no, in_session_no, worded_no, worded_plan, push_last, Above, head, body, line_no, end_no, after, fault_if, fault_from, above_end, said}
 use Rattle.kt_script.specs.Scripts as word
@@ -32,7 +32,7 @@ use Rattle.kt_script.proofs.TimeWords.{time_again, time_high, not_late}
 -- no line is refused from one place on to another
 abbrev pub Good : Above → List (List ℕ) → Above → Type 0
 Good above [] end = above ≡ end
-Good above (l ∷ lines) end = (line_no above l ≡ 21) × Good (after above l) lines end
+Good above (l ∷ lines) end = (line_no above l ≡ sound) × Good (after above l) lines end
 
 pub good_both : (a b e : Above) (xs ys : List (List ℕ)) → Good a xs b → Good b ys e → Good a (xs ++ ys) e
 good_both a b e [] ys p q = subst (λ z. Good z ys e) (sym p) q
@@ -46,7 +46,7 @@ end_after : (above : Above) (l : List ℕ) (lines : List (List ℕ)) → above_e
 end_after above l [] = refl
 end_after above l (m ∷ lines) = refl
 
-pub no_fault : (above end : Above) (n : ℕ) (lines : List (List ℕ)) → Good above lines end → end_no end ≡ 21 → fault_from above n (lines ++ [] ∷ []) ≡ None
+pub no_fault : (above end : Above) (n : ℕ) (lines : List (List ℕ)) → Good above lines end → end_no end ≡ sound → fault_from above n (lines ++ [] ∷ []) ≡ None
 no_fault above end n [] p h = ap (λ k. fault_if n k None) (ap end_no p ∙ h)
 no_fault above end n (l ∷ lines) p h = fault_after above n l lines ∙ (ap (λ k. fault_if n k (fault_from (after above l) (n + 1) (lines ++ [] ∷ []))) p.0 ∙ no_fault (after above l) end (n + 1) lines p.1 h)
 
@@ -78,7 +78,7 @@ count_is ended last =
     let one : commands_in (last ∷ []) ≡ length last = omega arith in
     omega (arith, count, one)
 
-not_full : (ended : List (List Command)) (last : List Command) → commands_in ended + length last < 262144 → reason_if (nat_le most_commands (commands_in (with_last ended last))) 20 ≡ 21
+not_full : (ended : List (List Command)) (last : List Command) → commands_in ended + length last < 262144 → reason_if (nat_le most_commands (commands_in (with_last ended last))) 20 ≡ sound
 not_full ended last h = ap (λ n. reason_if (nat_le 262144 n) 20) (count_is ended last) ∙ ap (λ t. reason_if t 20) (below_limit (commands_in ended + length last) h)
 
 begun : (ended : List (List Command)) (last : List Command) → is_begun (with_last ended last) ≡ true
@@ -88,10 +88,10 @@ begun ended last = let size : length (ended ++ last ∷ []) ≡ length ended + l
     positive n h = grind (arith, nat_tests)
 
 -- a command of a session is not refused
-in_session : (columns : List Column) (ended : List (List Command)) (last : List Command) (w : Word) (ws : List (List ℕ)) → commands_in ended + length last < 262144 → command_no columns w ws ≡ 21 → in_session_no columns (with_last ended last) w ws ≡ 21
-in_session columns ended last w ws room sound =
+in_session : (columns : List Column) (ended : List (List Command)) (last : List Command) (w : Word) (ws : List (List ℕ)) → commands_in ended + length last < 262144 → command_no columns w ws ≡ sound → in_session_no columns (with_last ended last) w ws ≡ sound
+in_session columns ended last w ws room taken =
     ap (λ b. if b then min (command_no columns w ws) (reason_if (nat_le most_commands (commands_in (with_last ended last))) 20) else 11) (begun ended last)
-    ∙ min_sound (command_no columns w ws) (reason_if (nat_le most_commands (commands_in (with_last ended last))) 20) sound (not_full ended last room)
+    ∙ min_sound (command_no columns w ws) (reason_if (nat_le most_commands (commands_in (with_last ended last))) 20) taken (not_full ended last room)
 
 mark_words : (t : ℕ) → t ≤ most_time → words_of (codes "mark " ++ decimal t) ≡ codes "mark" ∷ decimal t ∷ []
 mark_words t h = word_then (codes "mark") (decimal t) (high (codes "mark") refl) ∙ ap (λ vs. codes "mark" ∷ vs) (word_alone (decimal t) (high_word (decimal t) (time_high t h)))
@@ -99,7 +99,7 @@ mark_words t h = word_then (codes "mark") (decimal t) (high (codes "mark") refl)
 -- a command behind those of its session
 abbrev CommandGood : List Column → List (List Command) → List Command → Command → Type 0
 CommandGood columns ended last c =
-    (line_no (body columns (with_last ended last)) (command_text columns c) ≡ 21) × (after (body columns (with_last ended last)) (command_text columns c) ≡ body columns (with_last ended (last ++ c ∷ [])))
+    (line_no (body columns (with_last ended last)) (command_text columns c) ≡ sound) × (after (body columns (with_last ended last)) (command_text columns c) ≡ body columns (with_last ended (last ++ c ∷ [])))
 
 command_good : (columns : List Column) (ended : List (List Command)) (last : List Command) (c : Command) → Tabled columns → CommandFits columns c → CommandBytes columns c → commands_in ended + length last < 262144 → CommandGood columns ended last c
 command_good columns ended last (command.Write w) t fit said room =
@@ -144,7 +144,7 @@ abbrev pub plan_lines : List Column → List (List Command) → List (List ℕ)
 plan_lines columns [] = []
 plan_lines columns (commands ∷ plan) = codes "session" ∷ (map (command_text columns) commands ++ plan_lines columns plan)
 
-session_good : (ended : List (List Command)) → length ended < 64 → session_no ended (codes "session" ∷ []) ≡ 21
+session_good : (ended : List (List Command)) → length ended < 64 → session_no ended (codes "session" ∷ []) ≡ sound
 session_good ended h = ap (λ b. reason_if b 20) (below (length ended) h)
   where
     below : (n : ℕ) → n < 64 → nat_le most_sessions n ≡ false
@@ -166,7 +166,7 @@ sessions_good columns ended (commands ∷ plan) t fit said few room =
 pub record PlanGood (columns : List Column) (plan : List (List Command)) : Type 0 where
   pub end : Above
   pub good : Good (head columns) (plan_lines columns plan) end
-  pub ends : end_no end ≡ 21
+  pub ends : end_no end ≡ sound
   pub says : said end ≡ record { columns = columns; plan = plan }
 
 pub plan_good : (columns : List Column) (plan : List (List Command)) → Tabled columns → list_any (λ c. c.key) columns ≡ true → PlanFits columns plan → AllByRecursion (AllByRecursion (CommandBytes columns)) plan → PlanGood columns plan
@@ -176,4 +176,4 @@ plan_good columns (commands ∷ plan) t key fit all =
     let most = fit.commands in
     let none : commands_in [] ≡ 0 = refl in
     let from_none = sessions_good columns [] (commands ∷ plan) t fit.each all (omega (arith, few)) (omega (arith, most, none)) in
-    record { end = body columns (commands ∷ plan); good = (ap (λ b. if b then 21 else 5) key, from_none.1); ends = refl; says = refl }
+    record { end = body columns (commands ∷ plan); good = (ap (λ b. if b then sound else 5) key, from_none.1); ends = refl; says = refl }

@@ -19,7 +19,7 @@ use Rattle.kt_history.specs.declared.scan.Pred.{Pred}
 use Rattle.kt_script.specs.declared.asked.Sign.{Sign}
 use Rattle.kt_script.specs.declared.asked.Sign.TheVariants.{Equal, Below, AtMost, Above, AtLeast}
 use Rattle.kt_script.specs.Pieces.{words_of}
-use Rattle.kt_script.specs.Reasons.{cell_or_null}
+use Rattle.kt_script.specs.Reasons.{sound, cell_or_null}
 use Rattle.kt_script.specs.Writes.{is_sign, name_in, behind_name, column_named}
 use Rattle.kt_script.specs.Scans.{Asked, compared, null, not_null, PredLine, or_equal, signed, asked_by, pred_at, preds_after, preds_in, with_preds, where_line, compared_reason, asked_no, preds_no, test_of, pred_of, preds_of}
 use Rattle.kt_script.specs.Fit.{column_of, test_fits, tests_column, pred_fits}
@@ -68,7 +68,7 @@ asked_under c test.NotNull = not_null
 pub record TestRead (columns : List Column) (c : Column) (t : Test) : Type 0 where
   pub cut : (rest : List ℕ) (ws : List (List ℕ)) → Tails rest ws → words_of ((c.name ++ test_text c.kind t) ++ rest) ≡ words_under c t ++ ws
   pub read : (ws : List (List ℕ)) → pred_at (words_under c t ++ ws) ≡ Some (record { name = c.name; asked = asked_under c t }, ws)
-  pub no : asked_no (column_named columns c.name) (asked_under c t) ≡ 21
+  pub no : asked_no (column_named columns c.name) (asked_under c t) ≡ sound
   pub is : pred_of (column_named columns c.name) (asked_under c t) ≡ Some (record { column = c.id; test = t })
 
 -- no literal begins with an equals sign
@@ -151,19 +151,19 @@ not_null_read columns c known =
 test_read : (columns : List Column) (c : Column) (t : Test) → Known columns c → test_fits c t ≡ true → TestBytes t → TestRead columns c t
 test_read columns c (test.Eq x) known fit bytes =
     let again = compared_again c x fit bytes in
-    compared_read columns c x (test.Eq x) 61 (literal c.kind x) Equal known again refl (sign_word c (61 ∷ []) (literal c.kind x) known.fit (omega arith, tt) again.word) refl refl refl refl (ap test.Eq (value_again c x again))
+    compared_read columns c x (test.Eq x) 61 (literal c.kind x) Equal known again refl (sign_word c (61 ∷ []) (literal c.kind x) known.fit (omega arith, tt) again.plain.word) refl refl refl refl (ap test.Eq (value_again c x again))
 test_read columns c (test.Lt x) known fit bytes =
     let again = compared_again c x fit bytes in
-    compared_read columns c x (test.Lt x) 60 (literal c.kind x) Below known again refl (sign_word c (60 ∷ []) (literal c.kind x) known.fit (omega arith, tt) again.word) refl refl refl (ap Some (strict_sign c.kind x Below AtMost (literal c.kind x) again.read)) (ap test.Lt (value_again c x again))
+    compared_read columns c x (test.Lt x) 60 (literal c.kind x) Below known again refl (sign_word c (60 ∷ []) (literal c.kind x) known.fit (omega arith, tt) again.plain.word) refl refl refl (ap Some (strict_sign c.kind x Below AtMost (literal c.kind x) again.read)) (ap test.Lt (value_again c x again))
 test_read columns c (test.Le x) known fit bytes =
     let again = compared_again c x fit bytes in
-    compared_read columns c x (test.Le x) 60 (61 ∷ literal c.kind x) AtMost known again refl (sign_word c (60 ∷ 61 ∷ []) (literal c.kind x) known.fit (omega arith, (omega arith, tt)) again.word) refl refl refl refl (ap test.Le (value_again c x again))
+    compared_read columns c x (test.Le x) 60 (61 ∷ literal c.kind x) AtMost known again refl (sign_word c (60 ∷ 61 ∷ []) (literal c.kind x) known.fit (omega arith, (omega arith, tt)) again.plain.word) refl refl refl refl (ap test.Le (value_again c x again))
 test_read columns c (test.Gt x) known fit bytes =
     let again = compared_again c x fit bytes in
-    compared_read columns c x (test.Gt x) 62 (literal c.kind x) Above known again refl (sign_word c (62 ∷ []) (literal c.kind x) known.fit (omega arith, tt) again.word) refl refl refl (ap Some (strict_sign c.kind x Above AtLeast (literal c.kind x) again.read)) (ap test.Gt (value_again c x again))
+    compared_read columns c x (test.Gt x) 62 (literal c.kind x) Above known again refl (sign_word c (62 ∷ []) (literal c.kind x) known.fit (omega arith, tt) again.plain.word) refl refl refl (ap Some (strict_sign c.kind x Above AtLeast (literal c.kind x) again.read)) (ap test.Gt (value_again c x again))
 test_read columns c (test.Ge x) known fit bytes =
     let again = compared_again c x fit bytes in
-    compared_read columns c x (test.Ge x) 62 (61 ∷ literal c.kind x) AtLeast known again refl (sign_word c (62 ∷ 61 ∷ []) (literal c.kind x) known.fit (omega arith, (omega arith, tt)) again.word) refl refl refl refl (ap test.Ge (value_again c x again))
+    compared_read columns c x (test.Ge x) 62 (61 ∷ literal c.kind x) AtLeast known again refl (sign_word c (62 ∷ 61 ∷ []) (literal c.kind x) known.fit (omega arith, (omega arith, tt)) again.plain.word) refl refl refl refl (ap test.Ge (value_again c x again))
 test_read columns c test.IsNull known fit bytes = null_read columns c known
 test_read columns c test.NotNull known fit bytes = not_null_read columns c known
 
@@ -229,7 +229,7 @@ preds_many columns p (q ∷ preds) all =
     let later = preds_many columns q preds all.1 in
     omega (arith, size, some, later)
 
-pub preds_sound : (columns : List Column) (preds : List Pred) (all : AllByRecursion (PredRead columns) preds) → preds_no columns (pred_lines columns preds all) ≡ 21
+pub preds_sound : (columns : List Column) (preds : List Pred) (all : AllByRecursion (PredRead columns) preds) → preds_no columns (pred_lines columns preds all) ≡ sound
 preds_sound columns [] all = refl
 preds_sound columns (p ∷ preds) all = min_sound (asked_no (column_named columns all.0.c.name) (asked_under all.0.c p.test)) (preds_no columns (pred_lines columns preds all.1)) all.0.test_is.no (preds_sound columns preds all.1)
 

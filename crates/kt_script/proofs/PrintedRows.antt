@@ -1,8 +1,9 @@
 -- The rows of a printed output are row lines.
-use Rattle.std.proofs.Common.{◌≡◌, ℕ, suc, true, ◌&&◌, List, [], ◌∷◌, length, map, Option, Some, None, refl, ap, ◌∙◌, subst}
-use Rattle.std.specs.Prelude.{is_some, Ok}
+use Rattle.std.proofs.Common.{◌≡◌, ℕ, true, ◌&&◌, List, [], ◌∷◌, map, Option, Some, None, refl, sym, ap, ◌∙◌, subst}
+use Rattle.std.specs.Prelude.{All, is_some, Ok}
 use Rattle.std.specs.List.{list_all, AllByRecursion}
-use Rattle.std.proofs.lemmas.List.Elements.{All-from_recursion}
+use Rattle.std.proofs.lemmas.List.{length-map}
+use Rattle.std.proofs.lemmas.List.Elements.{All-from_recursion, recursion_from_All}
 use Rattle.kt_base.specs.declared.cell.Kind.{Kind}
 use Rattle.kt_base.specs.declared.cell.Cell.{Cell}
 use Rattle.kt_base.specs.declared.cell.Cell.TheVariants as cell
@@ -11,12 +12,12 @@ use Rattle.kt_base.proofs.Literals.{all_read}
 use Rattle.kt_history.specs.declared.reply.Reply.{Reply}
 use Rattle.kt_history.specs.declared.reply.Reply.TheVariants as reply
 use Rattle.kt_script.specs.declared.lists.ShownReply.{ShownReply}
-use Rattle.kt_script.specs.Texts.{literals, row_text}
-use Rattle.kt_script.specs.Laws.{Fits64, seen_of, seen}
-use Rattle.kt_script.specs.Outputs.{rows_in, IsRowLine, LineHolds, CellHolds, CellsHold, RowHolds, rows_told, ReplyHolds, printed_hold}
+use Rattle.kt_script.specs.Texts.{literals, row_text, rows_in, seen_of, seen}
+use Rattle.kt_script.specs.Laws.{Fits64, ReplyFits, EventFits}
+use Rattle.kt_script.specs.Outputs.{IsRowLine, LineHolds, CellHolds, CellsHold, RowHolds, rows_told, RowsHold, printed_hold}
 use Rattle.kt_script.proofs.InLine.{row_in_line}
 use Rattle.kt_script.proofs.PrintedWords.{IsWord, literal_word, words_alone}
-use Rattle.kt_script.proofs.Outputs.{seen_numbers, output_seen}
+use Rattle.kt_script.proofs.Outputs.{numbers_fit, events_hold}
 
 -- a literal, and a word of its own
 record Said (w : List ℕ) : Type 0 where
@@ -32,9 +33,9 @@ value_some k w c e = by (value_in w) e
 
 literal_said : (k : Kind) (c : Cell) → CellHolds k c → Said (literal k c)
 literal_said k cell.Null h = record { says = refl; word = literal_word k cell.Null tt }
-literal_said k (cell.Int n) h = record { says = value_some k (literal k (cell.Int n)) (cell.Int n) (all_read k (cell.Int n) (literal k (cell.Int n)) h.1 (record { fit = h.0; spelled = refl })); word = literal_word k (cell.Int n) h.0 }
-literal_said k (cell.Bool b) h = record { says = value_some k (literal k (cell.Bool b)) (cell.Bool b) (all_read k (cell.Bool b) (literal k (cell.Bool b)) h.1 (record { fit = h.0; spelled = refl })); word = literal_word k (cell.Bool b) tt }
-literal_said k (cell.Bytes b) h = record { says = value_some k (literal k (cell.Bytes b)) (cell.Bytes b) (all_read k (cell.Bytes b) (literal k (cell.Bytes b)) h.1 (record { fit = h.0; spelled = refl })); word = literal_word k (cell.Bytes b) tt }
+literal_said k (cell.Int n) h = record { says = value_some k (literal k (cell.Int n)) (cell.Int n) (all_read k (cell.Int n) (literal k (cell.Int n)) (record { fit = h.0; of_bytes = h.1; spelled = refl })); word = literal_word k (cell.Int n) h.0 }
+literal_said k (cell.Bool b) h = record { says = value_some k (literal k (cell.Bool b)) (cell.Bool b) (all_read k (cell.Bool b) (literal k (cell.Bool b)) (record { fit = h.0; of_bytes = h.1; spelled = refl })); word = literal_word k (cell.Bool b) tt }
+literal_said k (cell.Bytes b) h = record { says = value_some k (literal k (cell.Bytes b)) (cell.Bytes b) (all_read k (cell.Bytes b) (literal k (cell.Bytes b)) (record { fit = h.0; of_bytes = h.1; spelled = refl })); word = literal_word k (cell.Bytes b) tt }
 
 literals_said : (kinds : List Kind) (cells : List Cell) → CellsHold kinds cells → AllByRecursion Said (literals kinds cells)
 literals_said kinds [] h = tt
@@ -73,23 +74,24 @@ texts_held kinds reply.Done h = tt
 texts_held kinds (reply.Large n) h = tt
 texts_held kinds reply.Stopped h = tt
 
-reply_held : (r : ShownReply) → ReplyHolds r → LineHolds (seen r)
-reply_held r h = record { numbers = subst (AllByRecursion Fits64) (seen_numbers r.kinds r.reply) h.numbers; short = h.short; rows = texts_held r.kinds r.reply h.rows }
+reply_held : (r : ShownReply) → ReplyFits r → RowsHold r → LineHolds (seen r)
+reply_held r fits rows = let n = numbers_fit r fits in record { numbers = n.0; short = n.1; rows = texts_held r.kinds r.reply rows }
 
-replies_held : (rs : List ShownReply) → AllByRecursion ReplyHolds rs → AllByRecursion LineHolds (map seen rs)
-replies_held [] h = tt
-replies_held (r ∷ rs) h = (reply_held r h.0, replies_held rs h.1)
+replies_held : (rs : List ShownReply) → AllByRecursion ReplyFits rs → AllByRecursion RowsHold rs → AllByRecursion LineHolds (map seen rs)
+replies_held [] fits rows = tt
+replies_held (r ∷ rs) fits rows = (reply_held r fits.0 rows.0, replies_held rs fits.1 rows.1)
 
-sessions_held : (xs : List (List ShownReply)) → AllByRecursion (AllByRecursion ReplyHolds) xs → AllByRecursion (AllByRecursion LineHolds) (map (map seen) xs)
-sessions_held [] h = tt
-sessions_held (rs ∷ xs) h = (replies_held rs h.0, sessions_held xs h.1)
-
-as_long : (xs : List (List ShownReply)) → length xs ≡ length (map (map seen) xs)
-as_long [] = refl
-as_long (rs ∷ xs) = ap suc (as_long xs)
+sessions_held : (xs : List (List ShownReply)) → AllByRecursion (All ReplyFits) xs → AllByRecursion (AllByRecursion RowsHold) xs → AllByRecursion (AllByRecursion LineHolds) (map (map seen) xs)
+sessions_held [] fits rows = tt
+sessions_held (rs ∷ xs) fits rows = (replies_held rs (recursion_from_All ReplyFits rs fits.0) rows.0, sessions_held xs fits.1 rows.1)
 
 pub printed_held : printed_hold
 printed_held xs es end h = record {
-  holds = record { count = subst Fits64 (as_long xs) h.count; replies = sessions_held xs h.each; events = h.events_hold; last = h.last };
-  text_is = output_seen xs es end;
+  holds = record {
+    count = subst Fits64 (sym (length-map xs (map seen))) h.fits.count;
+    replies = sessions_held xs (recursion_from_All (All ReplyFits) xs h.fits.replies_fit) h.rows;
+    events = events_hold es (recursion_from_All EventFits es h.fits.events_fit);
+    last = h.fits.end_fits;
+  };
+  text_is = refl;
 }

@@ -15,7 +15,7 @@ use Rattle.kt_history.specs.declared.scan.At.TheVariants.{Looked, Given}
 use Rattle.kt_history.specs.declared.scan.Pred.{Pred}
 use Rattle.kt_history.specs.declared.scan.Scan.{Scan}
 use Rattle.kt_script.specs.Pieces.{cut, words_of}
-use Rattle.kt_script.specs.Reasons.{reason_if}
+use Rattle.kt_script.specs.Reasons.{sound, reason_if}
 use Rattle.kt_script.specs.Writes.{column_named}
 use Rattle.kt_script.specs.Scans.{ScanLine, where_line, select_line, timed, name_no, names_no, preds_no, select_no, scan_no, id_of, ids_of, preds_of, scan_of, scan_said, timed_scan, timed_no, line_no}
 use Rattle.kt_script.specs.Times.{at_no}
@@ -92,7 +92,7 @@ names_differ columns id other s o apart = by (same (selected_name columns id) (s
 abbrev Unused : List Column → List (List ℕ) → ℕ → Type 0
 Unused columns seen id = list_any (λ n. same n (selected_name columns id)) seen ≡ false
 
-name_sound : (columns : List Column) (id : ℕ) → Selected columns id → name_no columns (selected_name columns id) ≡ 21
+name_sound : (columns : List Column) (id : ℕ) → Selected columns id → name_no columns (selected_name columns id) ≡ sound
 name_sound columns id s =
     ap (name_no columns) s.name_is ∙ (ap (λ t. if t then reason_if (not (is_some (column_named columns s.c.name))) 13 else 12) s.known.fit.name ∙ ap (λ (o : Option Column). reason_if (not (is_some o)) 13) s.known.named)
 
@@ -103,7 +103,7 @@ unused_more columns seen id other differ un =
 abbrev Differs : List Column → ℕ → ℕ → Type 0
 Differs columns id other = same (selected_name columns id) (selected_name columns other) ≡ false
 
-names_sound : (columns : List Column) (seen : List (List ℕ)) (ids : List ℕ) → AllByRecursion (Selected columns) ids → ApartIds ids → AllByRecursion (Unused columns seen) ids → names_no columns seen (map (selected_name columns) ids) ≡ 21
+names_sound : (columns : List Column) (seen : List (List ℕ)) (ids : List ℕ) → AllByRecursion (Selected columns) ids → ApartIds ids → AllByRecursion (Unused columns seen) ids → names_no columns seen (map (selected_name columns) ids) ≡ sound
 names_sound columns seen [] all apart un = refl
 names_sound columns seen (id ∷ ids) all apart un =
     let name : List ℕ = selected_name columns id in
@@ -155,7 +155,7 @@ names_selected columns sel = option_map (map (selected_name columns)) sel
 record SelectRead (columns : List Column) (sel : Option (List ℕ)) : Type 0 where
   tails : (text : List ℕ) (ws : List (List ℕ)) → Tails text ws → Tails (select_text columns sel ++ text) (select_words columns sel ++ ws)
   line : (preds : List Pred) (all : AllByRecursion (PredRead columns) preds) → select_line (select_words columns sel ++ where_words columns preds all) ≡ where_line (names_selected columns sel) (where_words columns preds all)
-  no : select_no columns (names_selected columns sel) ≡ 21
+  no : select_no columns (names_selected columns sel) ≡ sound
   is : option_map (ids_of columns) (names_selected columns sel) ≡ sel
 
 no_selection : (ws : List (List ℕ)) → 1 ≤ length ws → select_line (codes "where" ∷ ws) ≡ where_line None (codes "where" ∷ ws)
@@ -191,7 +191,7 @@ at_words (Given t) = codes "at" ∷ decimal t ∷ []
 record AtRead (at : At) : Type 0 where
   tails : (text : List ℕ) (ws : List (List ℕ)) → Tails text ws → words_of (at_text at ++ text) ≡ at_words at ++ ws
   read : (ws : List (List ℕ)) → timed (at_words at ++ ws) ≡ Some (at, ws)
-  no : at_no at ≡ 21
+  no : at_no at ≡ sound
 
 at_read : (at : At) → AtFits at → AtRead at
 at_read Looked fit = record { tails = λ text ws p. p (codes "now") (high (codes "now") refl); read = λ ws. refl; no = refl }
@@ -205,7 +205,7 @@ at_read (Given t) fit = record {
 pub record ScanRead (columns : List Column) (scan : Scan) : Type 0 where
   pub rest : List (List ℕ)
   pub starts : words_of (scan_text columns scan) ≡ codes "scan" ∷ rest
-  pub no : scan_no columns rest ≡ 21
+  pub no : scan_no columns rest ≡ sound
   pub is : scan_of columns rest ≡ scan
 
 pub scan_read : (columns : List Column) (scan : Scan) → Tabled columns → ScanFits columns scan → AllByRecursion (λ (p : Pred). TestBytes p.test) scan.preds → ScanRead columns scan
@@ -219,12 +219,12 @@ scan_read columns scan t fit bytes =
     let sl : ScanLine = record { names = names_selected columns scan.columns; preds = pred_lines columns scan.preds preds } in
     let line : select_line ws ≡ Some sl = select.line scan.preds preds ∙ where_again columns (names_selected columns scan.columns) scan.preds preds in
     let read : timed (at_words scan.at ++ ws) ≡ Some (scan.at, ws) = time.read ws in
-    let sound : line_no columns (select_line ws) ≡ 21 = ap (line_no columns) line ∙ min_sound (select_no columns sl.names) (preds_no columns sl.preds) select.no (preds_sound columns scan.preds preds) in
+    let taken : line_no columns (select_line ws) ≡ sound = ap (line_no columns) line ∙ min_sound (select_no columns sl.names) (preds_no columns sl.preds) select.no (preds_sound columns scan.preds preds) in
     record {
       rest = at_words scan.at ++ ws;
       starts = ap words_of (append_assoc (codes "scan " ++ at_text scan.at) (select_text columns scan.columns) (where_text columns scan.preds) ∙ append_assoc (codes "scan ") (at_text scan.at) text)
           ∙ (word_then (codes "scan") (at_text scan.at ++ text) (high (codes "scan") refl) ∙ ap (λ vs. codes "scan" ∷ vs) (time.tails text ws tails));
-      no = ap (timed_no columns) read ∙ min_sound (at_no scan.at) (line_no columns (select_line ws)) time.no sound;
+      no = ap (timed_no columns) read ∙ min_sound (at_no scan.at) (line_no columns (select_line ws)) time.no taken;
       is = ap (timed_scan columns) read ∙ (ap (scan_said columns scan.at) line ∙ (ap (λ cs. record { at = scan.at; columns = cs; preds = preds_of columns sl.preds }) select.is
           ∙ ap (λ ps. record { at = scan.at; columns = scan.columns; preds = ps }) (preds_are columns scan.preds preds)));
     }

@@ -1,25 +1,22 @@
 -- The columns of a table: each is found by its name and by its id, and the key columns stand first.
-use Rattle.std.proofs.Common.{◌≡◌, ℕ, suc, ◌+◌, ◌<◌, List, [], ◌∷◌, ◌++◌, refl, sym, ap, subst, ◌∙◌, cond, arith, length, take, drop, Bool, true, false, not, Option, Some, None}
+use Rattle.std.proofs.Common.{◌≡◌, ℕ, suc, ◌+◌, ◌<◌, List, [], ◌∷◌, refl, sym, ap, subst, ◌∙◌, cond, arith, length, take, Bool, true, false, not, Option, Some, None}
 use Rattle.std.specs.Prelude.{◌||◌, ◌==◌, if◌then◌else◌}
 use Rattle.std.specs.List.{filter, list_any, slice_get, AllByRecursion}
 use Rattle.std.specs.Option.{option_map_or}
 use Rattle.std.specs.Ordering.{nat_cmp, is_eq}
 use Rattle.std.specs.Cmp.Lexicographic.{slice_cmp, nat_list_eq_equiv}
 use Rattle.std.proofs.lemmas.Bool.{eqb-true}
-use Rattle.std.proofs.lemmas.List.{take-append-drop}
 use Rattle.kt_base.specs.Literals.{same}
 use Rattle.kt_base.proofs.Values.{both_true}
 use Rattle.kt_key.proofs.Kept.{bytes_cmp-self}
 use Rattle.kt_schema.specs.declared.column.Column.{Column}
 use Rattle.kt_schema.specs.First.{passes_at}
-use Rattle.kt_schema.specs.Columns.{is_again, same_name, key_columns, other_columns, key_kinds}
-use Rattle.kt_schema.proofs.Columns.{schema_holds, keys_first}
+use Rattle.kt_schema.specs.Columns.{is_again, same_name, other_columns}
 use Rattle.kt_script.specs.Columns.{counts_from}
 use Rattle.kt_script.specs.Writes.{column_named}
 use Rattle.kt_script.specs.Fit.{column_of}
 use Rattle.kt_script.specs.Print.{ColumnFits, ColumnsFit}
 use Rattle.kt_base.proofs.Decimals.{same_text}
-use Rattle.kt_script.proofs.Tables.{table_schema}
 
 pub same_self : (xs : List ℕ) → same xs xs ≡ true
 same_self xs = nat_list_eq_equiv.refl xs
@@ -141,7 +138,6 @@ rising_of n (c ∷ cs) h = let id = h.0 in (above_from c (n + 1) cs (omega arith
 -- ---- the whole table
 
 pub record Tabled (columns : List Column) : Type 0 where
-  pub split : columns ≡ key_columns columns ++ other_columns columns
   pub named : AllByRecursion (IsNamed columns) columns
   pub fit : AllByRecursion ColumnFits columns
   pub others_named : AllByRecursion (IsNamed (other_columns columns)) (other_columns columns)
@@ -153,10 +149,7 @@ pub tabled : (columns : List Column) → ColumnsFit columns → Tabled columns
 tabled columns h =
     let apart = apart_of columns h.table.again in
     let others = apart_kept (λ c. not c.key) columns apart in
-    let first = keys_first columns (schema_holds columns (table_schema columns h.table h.key)).late in
-    let n : ℕ = length (key_kinds columns) in
     record {
-      split = sym (take-append-drop n columns) ∙ (ap (λ xs. xs ++ drop n columns) (sym first.0) ∙ ap (λ xs. key_columns columns ++ xs) (sym first.1));
       named = all_named_in columns apart;
       fit = h.each;
       others_named = all_named_in (other_columns columns) others;

@@ -211,6 +211,14 @@ name_bytes_of name (named b bytes letter all) = all
 pub name_high : (name : List ℕ) → Named name → AllByRecursion High name
 name_high name (named b bytes letter all) = names_high (b ∷ bytes) all
 
+-- a name is no sign
+pub name_apart : (name rest : List ℕ) → Named name → same (name ++ rest) (codes ";") ≡ false
+name_apart name rest (named b bytes letter all) = by (b == 59) refl
+  where
+    by : (t : Bool) → (b == 59) ≡ t → (t && same (bytes ++ rest) []) ≡ false
+    by true e = let sign : is_letter 59 ≡ true = subst (λ n. is_letter n ≡ true) (eqb-true b 59 e) letter in absurd cc
+    by false e = refl
+
 -- ---- lines of words
 
 pub word_then : (w t : List ℕ) → IsWord w → words_of (w ++ 32 ∷ t) ≡ w ∷ words_of t

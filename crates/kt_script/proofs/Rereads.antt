@@ -11,10 +11,11 @@ use Rattle.kt_script.specs.declared.replies.ReplyLine.{ReplyLine}
 use Rattle.kt_script.specs.declared.out_lines.FirstLine.{FirstLine}
 use Rattle.kt_script.specs.declared.reread.CodecNo.{CodecNo}
 use Rattle.kt_script.specs.declared.reread.CodecNo.TheVariants as no
-use Rattle.kt_script.specs.Texts.{line, words, event_line, last_text}
+use Rattle.kt_script.specs.Texts.{line, words, lines_text, line_words, session_line, told_session, told_sessions, event_line, last_text}
 use Rattle.kt_script.specs.Pieces.{cut}
-use Rattle.kt_script.specs.Outputs.{Stage, sessions, history, ended, stands, after, may_reply, rows_due, lines_text, line_words, session_line, told_session, told_sessions, first_in, event_in, last_in, is_row, place_of, IsPlace, IsNoOutput}
+use Rattle.kt_script.specs.Outputs.{Stage, sessions, history, ended, stands, after, may_reply, rows_due, first_in, event_in, last_in, is_row, place_of, IsPlace, IsNoOutput}
 use Rattle.kt_script.specs.Reread.{place, StandsAt, Moves, NoReply, AreRowsRead, AreRepliesRead, AreSessionsRead, IsEndingRead}
+use Rattle.kt_script.proofs.Words.{told_more}
 use Rattle.kt_script.proofs.InLine.{join}
 use Rattle.kt_script.proofs.Moves.{then, line_more, line_refused}
 use Rattle.kt_script.proofs.ToldLines.{IsFirstOf, event_is, last_is}
@@ -82,12 +83,6 @@ module _ (text : List ℕ) where
       by (suc n) = ap is_some (ap first_in (sym same_line) ∙ none)
 
   -- ---- sessions
-
-  told_more : (k : ℕ) (xs : List (List ReplyLine)) (rs : List ReplyLine) → told_sessions k (xs ++ rs ∷ []) ≡ told_sessions k xs ++ told_session (k + length xs) rs
-  told_more k [] rs = append-nil (told_session k rs) ∙ ap (λ m. told_session m rs) (omega arith)
-  told_more k (x ∷ xs) rs =
-      let e : suc k + length xs ≡ k + suc (length xs) = omega arith in
-      ap (λ ys. told_session k x ++ ys) (told_more (suc k) xs rs ∙ ap (λ m. told_sessions (suc k) xs ++ told_session m rs) e) ∙ sym (append_assoc (told_session k x) (told_sessions (suc k) xs) (told_session (k + suc (length xs)) rs))
 
   module _ (n at : ℕ) (xs : List (List ReplyLine)) (count : length xs ≡ n) (moves : Moves text (sessions 0 0) 0 (sessions n 0) at (told_sessions 1 xs)) (none : NoReply text n at) (l : List ℕ) (here : StandsAt text at l) where
     no_first : may_reply n (first_in l) ≡ false

@@ -110,7 +110,7 @@ table_schema columns t key =
     let few : nat_lt 300 (length columns) ≡ false = grind (arith, nat_tests) in
     rw (key, late, weak, again, few) refl
 
-off : (t : Bool) (r : ℕ) → r < 21 → 21 ≤ reason_if t r → t ≡ false
+off : (t : Bool) (r : ℕ) → r < sound → sound ≤ reason_if t r → t ≡ false
 off true r h g = absurd (omega arith)
 off false r h g = refl
 
@@ -161,18 +161,18 @@ same_last [] c d e = cc
 same_last (x ∷ xs) c d e = let tails : xs ++ c ∷ [] ≡ xs ++ d ∷ [] = cc in same_last xs c d tails
 
 -- a line that is taken gives a column that fits
-pub column_fits : (columns : List Column) (text : List ℕ) (c : Column) → column_no columns text ≡ sound → columns_with columns text ≡ columns ++ c ∷ [] → Fits columns c
+pub column_fits : (columns : List Column) (text : List ℕ) (c : Column) → sound ≤ column_no columns text → columns_with columns text ≡ columns ++ c ∷ [] → Fits columns c
 column_fits columns text c taken is = by (column_line (words_of text)) refl taken is
   where
-    by : (o : Option ColumnLine) → column_line (words_of text) ≡ o → said_no columns o ≡ sound → with_column columns o ≡ columns ++ c ∷ [] → Fits columns c
-    by None g e w = let four : 4 ≡ 21 = e in absurd (omega arith)
+    by : (o : Option ColumnLine) → column_line (words_of text) ≡ o → sound ≤ said_no columns o → with_column columns o ≡ columns ++ c ∷ [] → Fits columns c
+    by None g e w = absurd (omega (arith, e))
     by (Some l) g e w =
         let made : Column = record { id = length columns + 1; name = l.name; kind = l.kind; key = l.key; nullable = l.nullable; default = default_value l.kind l.default } in
         let a = l.key && list_any (λ d. not d.key) columns in
         let b = l.key && is_bool l.kind in
         let n = list_any (λ d. is_eq (slice_cmp nat_cmp l.name d.name)) columns in
         let m = nat_le 300 (length columns) in
-        let whole : min (default_no l.kind l.default) (min (reason_if a 6) (min (reason_if b 7) (min (reason_if n 8) (reason_if m 9)))) ≡ 21 = e in
+        let whole : sound ≤ min (default_no l.kind l.default) (min (reason_if a 6) (min (reason_if b 7) (min (reason_if n 8) (reason_if m 9)))) = e in
         let late : a ≡ false = off a 6 (omega arith) (omega (arith, whole)) in
         let bool : b ≡ false = off b 7 (omega arith) (omega (arith, whole)) in
         let again : n ≡ false = off n 8 (omega arith) (omega (arith, whole)) in

@@ -9,7 +9,7 @@ use Rattle.kt_base.specs.declared.cell.Kind.TheVariants as kind
 use Rattle.kt_base.specs.Literals.{same, is_digit, is_count, count_on, below_zero, number_in}
 use Rattle.kt_base.proofs.Spelled.{chosen}
 use Rattle.kt_base.proofs.Values.{both_true, number_again, number_text, mag_signed}
-use Rattle.kt_script.specs.Reasons.{reason_if}
+use Rattle.kt_script.specs.Reasons.{sound, reason_if}
 use Rattle.kt_script.specs.Outputs.{number_in as told_number}
 use Rattle.kt_script.specs.declared.times.Time.TheVariants.{Named, TooLate}
 use Rattle.kt_script.specs.Times.{most_time, time_in, late_no, IsTime}
@@ -62,7 +62,7 @@ time_high t h = decimal_high kind.Int64 (pos t) (small t h)
     small : (n : ℕ) → n ≤ most_time → nat_lt n (2 ^ 63) ≡ true
     small n g = grind (arith, nat_tests)
 
-pub not_late : (t : ℕ) → t ≤ most_time → late_no t ≡ 21
+pub not_late : (t : ℕ) → t ≤ most_time → late_no t ≡ sound
 not_late t h = ap (λ b. reason_if b 20) (below t h)
   where
     below : (n : ℕ) → n ≤ most_time → nat_lt most_time n ≡ false

@@ -19,10 +19,10 @@ use Rattle.kt_script.specs.declared.output.LastLine.TheVariants as last
 use Rattle.kt_script.specs.declared.replies.ReplyLine.{ReplyLine}
 use Rattle.kt_script.specs.declared.replies.ReplyLine.TheVariants as reply
 use Rattle.kt_script.specs.declared.out_lines.FirstLine.{FirstLine}
-use Rattle.kt_script.specs.Texts.{words, outcome_word, event_word, event_numbers, event_words, last_words}
+use Rattle.kt_script.specs.Texts.{words, outcome_word, line_word, line_numbers, line_outcomes, line_words, rows_in, event_word, event_numbers, event_words, last_words}
 use Rattle.kt_script.specs.Pieces.{cut}
-use Rattle.kt_script.specs.Laws.{Fits64, LastFits}
-use Rattle.kt_script.specs.Outputs.{line_word, line_numbers, line_outcomes, line_words, number_in, onto, numbers_in, if_word, outcome_in, outcomes_in, is_short, first, first_from, at_in, first_of_words, first_in, event_at, event_from, event_of_words, event_in, counted, unless_more, last_numbers, last_of_words, last_in, rows_in, Fits32, IsRowLine, LineHolds, EventHolds, short_of_reply, short_of_event}
+use Rattle.kt_script.specs.Laws.{Fits64, Fits32, LastFits, short_of_reply, short_of_event}
+use Rattle.kt_script.specs.Outputs.{number_in, onto, numbers_in, if_word, outcome_in, outcomes_in, is_short, first, first_from, at_in, first_of_words, first_in, event_at, event_from, event_of_words, event_in, counted, unless_more, last_numbers, last_of_words, last_in, IsRowLine, LineHolds, EventHolds}
 use Rattle.kt_script.specs.Reread.{with_rows}
 use Rattle.kt_base.proofs.Decimals.{same_text}
 use Rattle.kt_script.proofs.Cuts.{some_piece}
@@ -279,25 +279,25 @@ first_is text f h = by (cut 32 text) (sym (words_cut text)) h
 abbrev pub first_line : ReplyLine → FirstLine
 first_line r = record { reply = with_rows r []; due = length (rows_in r) }
 
-numbered_told : (r : ReplyLine) → LineHolds r → line_outcomes r ≡ [] → same (line_word r) (codes "at") ≡ false → first_from (line_word r) (line_numbers r) ≡ Some (first_line r) → first_of_words (line_words r) ≡ Some (first_line r)
-numbered_told r holds none other from =
+numbered_told : (r : ReplyLine) → AllByRecursion Fits64 (line_numbers r) → line_outcomes r ≡ [] → same (line_word r) (codes "at") ≡ false → first_from (line_word r) (line_numbers r) ≡ Some (first_line r) → first_of_words (line_words r) ≡ Some (first_line r)
+numbered_told r fits none other from =
     let ws : List (List ℕ) = map decimal (line_numbers r) ++ line_outcomes r in
     let numbers : ws ≡ map decimal (line_numbers r) = ap (λ xs. map decimal (line_numbers r) ++ xs) none ∙ append-nil (map decimal (line_numbers r)) in
     ap (λ t. cond t (at_in ws) (option_and_then (first_from (line_word r)) (numbers_in ws))) other
     ∙ ap (λ xs. option_and_then (first_from (line_word r)) (numbers_in xs)) numbers
-    ∙ ap (option_and_then (first_from (line_word r))) (numbers_told (line_numbers r) holds.numbers) ∙ from
+    ∙ ap (option_and_then (first_from (line_word r))) (numbers_told (line_numbers r) fits) ∙ from
 
-pub first_told : (r : ReplyLine) → LineHolds r → first_of_words (line_words r) ≡ Some (first_line r)
-first_told (reply.At ts os) holds =
-    ap (option_and_then (λ n. option_map (λ outcomes. first (reply.At n outcomes)) (outcomes_in (map outcome_word os)))) (number_told ts holds.numbers.0)
+pub first_told : (r : ReplyLine) → AllByRecursion Fits64 (line_numbers r) → AllByRecursion Fits32 (short_of_reply r) → first_of_words (line_words r) ≡ Some (first_line r)
+first_told (reply.At ts os) fits short =
+    ap (option_and_then (λ n. option_map (λ outcomes. first (reply.At n outcomes)) (outcomes_in (map outcome_word os)))) (number_told ts fits.0)
     ∙ ap (option_map (λ outcomes. first (reply.At ts outcomes))) (outcomes_told os)
-first_told (reply.Rows t lines) holds = numbered_told (reply.Rows t lines) holds refl refl refl
-first_told (reply.Ancient t a) holds = numbered_told (reply.Ancient t a) holds refl refl refl
-first_told (reply.Busy t f) holds = numbered_told (reply.Busy t f) holds refl refl refl
-first_told (reply.Ahm a) holds = numbered_told (reply.Ahm a) holds refl refl refl
-first_told reply.Done holds = numbered_told reply.Done holds refl refl refl
-first_told (reply.Large n) holds = numbered_told (reply.Large n) holds refl refl (ap (λ t. cond t (Some (first (reply.Large n))) None) (short-test n holds.short.0))
-first_told reply.Stopped holds = numbered_told reply.Stopped holds refl refl refl
+first_told (reply.Rows t lines) fits short = numbered_told (reply.Rows t lines) fits refl refl refl
+first_told (reply.Ancient t a) fits short = numbered_told (reply.Ancient t a) fits refl refl refl
+first_told (reply.Busy t f) fits short = numbered_told (reply.Busy t f) fits refl refl refl
+first_told (reply.Ahm a) fits short = numbered_told (reply.Ahm a) fits refl refl refl
+first_told reply.Done fits short = numbered_told reply.Done fits refl refl refl
+first_told (reply.Large n) fits short = numbered_told (reply.Large n) fits refl refl (ap (λ t. cond t (Some (first (reply.Large n))) None) (short-test n short.0))
+first_told reply.Stopped fits short = numbered_told reply.Stopped fits refl refl refl
 
 -- ---- the last line
 

@@ -13,13 +13,12 @@ use Rattle.kt_script.specs.declared.output.LastLine.TheVariants as last
 use Rattle.kt_script.specs.declared.replies.ReplyLine.{ReplyLine}
 use Rattle.kt_script.specs.declared.out_lines.FirstLine.{FirstLine}
 use Rattle.kt_script.specs.declared.reread.Output.{Output}
-use Rattle.kt_script.specs.Texts.{line, words, event_words, event_line, last_words, last_text}
+use Rattle.kt_script.specs.Texts.{line, words, line_numbers, line_words, rows_in, lines_text, session_line, told_sessions, event_words, event_line, last_words, last_text}
 use Rattle.kt_script.specs.Pieces.{cut}
-use Rattle.kt_script.specs.Laws.{Fits64, LastFits}
-use Rattle.kt_script.specs.Outputs.{Stage, sessions, history, ended, stands, after, place_from, place_of, may_reply, rows_due, line_words, rows_in, lines_text, session_line, told_sessions, text_of, number_in, onto, numbers_in, event_from, first_from, first_of_words, first_in, event_in, event_of_words, counted, unless_more, last_in, last_of_words, is_short, IsRowLine, LineHolds, EventHolds, OutputHolds}
+use Rattle.kt_script.specs.Laws.{Fits64, Fits32, LastFits, short_of_reply}
+use Rattle.kt_script.specs.Outputs.{Stage, sessions, history, ended, stands, after, place_from, place_of, may_reply, rows_due, text_of, number_in, onto, numbers_in, event_from, first_from, first_of_words, first_in, event_in, event_of_words, counted, unless_more, last_in, last_of_words, is_short, IsRowLine, LineHolds, EventHolds, OutputHolds}
 use Rattle.kt_script.proofs.Cuts.{Without, cut_front, cut_words}
-use Rattle.kt_script.proofs.InLine.{event_ink, last_ink, session_ink, without, ink_in_line, Ink}
-use Rattle.kt_script.proofs.LineInk.{line_ink}
+use Rattle.kt_script.proofs.InLine.{line_ink, event_ink, last_ink, session_ink, without, ink_in_line, Ink}
 use Rattle.kt_script.proofs.Moves.{place_line}
 use Rattle.kt_script.proofs.ToldLines.{number_told, numbers_told, event_told, first_line, first_told, same-self}
 
@@ -45,13 +44,15 @@ rows_end n (row ∷ rows) text all ends =
 pub cut_again : (w : List ℕ) (ws : List (List ℕ)) → AllByRecursion Ink (w ∷ ws) → cut 32 (words (w ∷ ws)) ≡ w ∷ ws
 cut_again w ws ink = let p = without 32 (omega arith) (w ∷ ws) ink in cut_words w ws p.0 p.1
 
+pub first_back : (r : ReplyLine) → AllByRecursion Fits64 (line_numbers r) → AllByRecursion Fits32 (short_of_reply r) → first_in (words (line_words r)) ≡ Some (first_line r)
+first_back r fits short = ap first_of_words (cut_again _ _ (line_ink r fits)) ∙ first_told r fits short
+
 reply_end : (n : ℕ) (r : ReplyLine) (text : List ℕ) → LineHolds r → Ends (sessions (suc n) 0) text → Ends (sessions (suc n) 0) (lines_text r ++ text)
 reply_end n r text holds ends =
     let l : List ℕ = words (line_words r) in
-    let ink : AllByRecursion Ink (line_words r) = line_ink r holds.numbers in
-    let is : first_in l ≡ Some (first_line r) = ap first_of_words (cut_again _ _ ink) ∙ first_told r holds in
+    let is : first_in l ≡ Some (first_line r) = first_back r holds.numbers holds.short in
     subst (Ends (sessions (suc n) 0)) (sym (append_assoc (line l) (flat_map line (rows_in r)) text))
-    (a_line (sessions (suc n) 0) (sessions (suc n) (length (rows_in r))) l (flat_map line (rows_in r) ++ text) (ink_in_line (line_words r) ink)
+    (a_line (sessions (suc n) 0) (sessions (suc n) (length (rows_in r))) l (flat_map line (rows_in r) ++ text) (ink_in_line (line_words r) (line_ink r holds.numbers))
     (ap (λ o. may_reply (suc n) o || (same l (session_line (suc (suc n))) || same l (codes "history"))) is)
     (ap (λ o. cond (may_reply (suc n) o) (sessions (suc n) (rows_due o)) (cond (same l (session_line (suc (suc n)))) (sessions (suc (suc n)) 0) history)) is)
     (rows_end (suc n) (rows_in r) text holds.rows ends))
@@ -84,15 +85,12 @@ session_end n text fits ends =
     (ap (λ b. cond b (sessions n (rows_due (first_in l))) (cond (same l l) (sessions (suc n) 0) history)) none ∙ ap (λ b. cond b (sessions (suc n) 0) history) (same-self l))
     ends
 
+pub history_word : Without 10 (codes "history")
+history_word = ink_in_line (codes "history" ∷ []) ((omega arith, (omega arith, (omega arith, (omega arith, (omega arith, (omega arith, (omega arith, tt))))))), tt)
+
 history_end : (n : ℕ) (text : List ℕ) → Ends history text → Ends (sessions n 0) (line (codes "history") ++ text)
-history_end zero text ends = a_line (sessions 0 0) history (codes "history") text (ink_in_line (codes "history" ∷ []) (word, tt)) refl refl ends
-  where
-    word : Ink (codes "history")
-    word = (omega arith, (omega arith, (omega arith, (omega arith, (omega arith, (omega arith, (omega arith, tt)))))))
-history_end (suc n) text ends = a_line (sessions (suc n) 0) history (codes "history") text (ink_in_line (codes "history" ∷ []) (word, tt)) refl refl ends
-  where
-    word : Ink (codes "history")
-    word = (omega arith, (omega arith, (omega arith, (omega arith, (omega arith, (omega arith, (omega arith, tt)))))))
+history_end zero text ends = a_line (sessions 0 0) history (codes "history") text history_word refl refl ends
+history_end (suc n) text ends = a_line (sessions (suc n) 0) history (codes "history") text history_word refl refl ends
 
 sessions_end : (n : ℕ) (xs : List (List ReplyLine)) (text : List ℕ) → n + length xs < 2 ^ 64 → AllByRecursion (AllByRecursion LineHolds) xs → Ends history text → Ends (sessions n 0) (told_sessions (suc n) xs ++ (line (codes "history") ++ text))
 sessions_end n [] text count all ends = history_end n text ends
@@ -105,12 +103,14 @@ sessions_end n (rs ∷ xs) text count all ends =
 
 -- ---- the history and the last line
 
+pub event_back : (e : Event) → EventHolds e → event_in (words (event_words e)) ≡ Some e
+event_back e holds = ap event_of_words (cut_again _ _ (event_ink e holds.numbers)) ∙ event_told e holds
+
 event_end : (e : Event) (text : List ℕ) → EventHolds e → Ends history text → Ends history (event_line e ++ text)
 event_end e text holds ends =
     let l : List ℕ = words (event_words e) in
-    let ink : AllByRecursion Ink (event_words e) = event_ink e holds.numbers in
-    let is : event_in l ≡ Some e = ap event_of_words (cut_again _ _ ink) ∙ event_told e holds in
-    a_line history history l text (ink_in_line (event_words e) ink) (ap (λ o. is_some o || is_some (last_in l)) is) (ap (λ o. cond (is_some o) history ended) is) ends
+    let is : event_in l ≡ Some e = event_back e holds in
+    a_line history history l text (ink_in_line (event_words e) (event_ink e holds.numbers)) (ap (λ o. is_some o || is_some (last_in l)) is) (ap (λ o. cond (is_some o) history ended) is) ends
 
 events_end : (es : List Event) (text : List ℕ) → AllByRecursion EventHolds es → Ends history text → Ends history (flat_map event_line es ++ text)
 events_end [] text all ends = ends
@@ -129,7 +129,7 @@ last_cut : (end : LastLine) → LastFits end → cut 32 (words (last_words end))
 last_cut (last.Numbers a c rowsets) fits = cut_again _ _ (last_ink (last.Numbers a c rowsets) fits)
 last_cut last.Stopped fits = refl
 
-last_told : (end : LastLine) → LastFits end → last_in (words (last_words end)) ≡ Some end
+pub last_told : (end : LastLine) → LastFits end → last_in (words (last_words end)) ≡ Some end
 last_told (last.Numbers a c rowsets) fits =
     ap last_of_words (last_cut (last.Numbers a c rowsets) fits)
     ∙ ap (λ o. option_and_then (λ (x : ℕ × List (List ℕ)). option_and_then (λ (y : ℕ × List (List ℕ)). option_and_then (λ (n : ℕ × List (List ℕ)). unless_more (last.Numbers x.0 y.0 n.0) n.1) (counted (codes "rowsets") y.1)) (counted (codes "last") x.1)) (option_map (λ n. (n, codes "last" ∷ decimal c ∷ codes "rowsets" ∷ decimal rowsets ∷ [])) o)) (number_told a fits.0)
@@ -137,13 +137,16 @@ last_told (last.Numbers a c rowsets) fits =
     ∙ ap (λ o. option_and_then (λ (n : ℕ × List (List ℕ)). unless_more (last.Numbers a c n.0) n.1) (option_map (λ n. (n, [])) o)) (number_told rowsets fits.2)
 last_told last.Stopped fits = refl
 
-last_clean : (end : LastLine) → LastFits end → Without 10 (words (last_words end))
+pub last_clean : (end : LastLine) → LastFits end → Without 10 (words (last_words end))
 last_clean end fits = ink_in_line (last_words end) (last_ink end fits)
+
+pub none_last : (end : LastLine) → LastFits end → event_in (words (last_words end)) ≡ None
+none_last end fits = ap event_of_words (last_cut end fits) ∙ no_event end
 
 last_end : (end : LastLine) → LastFits end → Ends history (last_text end)
 last_end end fits =
     let l : List ℕ = words (last_words end) in
-    let none : event_in l ≡ None = ap event_of_words (last_cut end fits) ∙ no_event end in
+    let none : event_in l ≡ None = none_last end fits in
     subst (Ends history) (append-nil (line l))
     (a_line history ended l [] (last_clean end fits) (ap (λ o. is_some o || is_some (last_in l)) none ∙ ap is_some (last_told end fits)) (ap (λ o. cond (is_some o) history ended) none) (λ at. refl))
 

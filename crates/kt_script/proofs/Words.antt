@@ -1,12 +1,13 @@
 -- Words with spaces between them, one more at the end.
-use Rattle.std.proofs.Common.{◌≡◌, ℕ, zero, suc, ◌+◌, ◌<◌, ◌≤◌, List, [], ◌∷◌, ◌++◌, refl, sym, ap, ◌∙◌, arith, length, take, get_or, map, append_assoc, add-one, add-zero}
-use Rattle.std.proofs.lemmas.List.{take_more}
+use Rattle.std.proofs.Common.{◌≡◌, ℕ, zero, suc, ◌+◌, ◌<◌, ◌≤◌, List, [], ◌∷◌, ◌++◌, refl, sym, ap, ◌∙◌, arith, length, take, get_or, map, append_assoc, add-one}
+use Rattle.std.proofs.lemmas.List.{take_more, length-map, length-take}
 use Rattle.std.proofs.lemmas.Grind.{flat_map-append}
 use mathlib.Core.List.{map-append, append-nil}
 use Rattle.kt_base.specs.declared.cell.Kind.{Kind}
 use Rattle.kt_base.specs.declared.cell.Cell.{Cell}
 use Rattle.kt_base.specs.Literals.{literal}
-use Rattle.kt_script.specs.Texts.{spaced, words, literals, session_text, sessions_text}
+use Rattle.kt_script.specs.declared.replies.ReplyLine.{ReplyLine}
+use Rattle.kt_script.specs.Texts.{spaced, words, literals, told_session, told_sessions, seen}
 use Rattle.kt_script.specs.declared.lists.ShownReply.{ShownReply}
 
 pub words_push : (w : List ℕ) (ws : List (List ℕ)) (v : List ℕ) → words ((w ∷ ws) ++ v ∷ []) ≡ words (w ∷ ws) ++ (32 ∷ v)
@@ -62,19 +63,17 @@ literals_cut (k ∷ kinds) [] = refl
 literals_cut (k ∷ kinds) (c ∷ cells) = ap (λ rest. literal k c ∷ rest) (literals_cut kinds cells)
 
 -- one more session
-pub sessions_more : (s : ℕ) (xs : List (List ShownReply)) (i : ℕ) (d : List ShownReply) → i < length xs → sessions_text s (take (i + 1) xs) ≡ sessions_text s (take i xs) ++ session_text (s + i) (get_or xs i d)
-sessions_more s xs i d h = ap (λ n. sessions_text s (take n xs)) (add-one i) ∙ later s xs i h
-  where
-    later : (t : ℕ) (ys : List (List ShownReply)) (k : ℕ) → k < length ys → sessions_text t (take (suc k) ys) ≡ sessions_text t (take k ys) ++ session_text (t + k) (get_or ys k d)
-    later t [] k g = absurd (omega arith)
-    later t (y ∷ ys) zero g = append-nil (session_text t y) ∙ ap (λ n. session_text n y) (sym (add-zero t))
-    later t (y ∷ ys) (suc k) g =
-        let same : (t + 1) + k ≡ t + suc k = omega arith in
-        ap (λ x. session_text t y ++ x) (later (t + 1) ys k (omega arith) ∙ ap (λ n. sessions_text (t + 1) (take k ys) ++ session_text n (get_or ys k d)) same) ∙ sym (append_assoc (session_text t y) (sessions_text (t + 1) (take k ys)) (session_text (t + suc k) (get_or ys k d)))
+pub told_more : (k : ℕ) (xs : List (List ReplyLine)) (rs : List ReplyLine) → told_sessions k (xs ++ rs ∷ []) ≡ told_sessions k xs ++ told_session (k + length xs) rs
+told_more k [] rs = append-nil (told_session k rs) ∙ ap (λ m. told_session m rs) (omega arith)
+told_more k (x ∷ xs) rs =
+    let e : suc k + length xs ≡ k + suc (length xs) = omega arith in
+    ap (λ ys. told_session k x ++ ys) (told_more (suc k) xs rs ∙ ap (λ m. told_sessions (suc k) xs ++ told_session m rs) e) ∙ sym (append_assoc (told_session k x) (told_sessions (suc k) xs) (told_session (k + suc (length xs)) rs))
 
-pub sessions_step : (xs : List (List ShownReply)) (i : ℕ) (item : List ShownReply) (first out new : List ℕ) → i < length xs → item ≡ get_or xs i item → out ≡ first ++ sessions_text 1 (take i xs)
-    → new ≡ out ++ session_text (i + 1) item → new ≡ first ++ sessions_text 1 (take (i + 1) xs)
+pub sessions_step : (xs : List (List ShownReply)) (i : ℕ) (item : List ShownReply) (first out new : List ℕ) → i < length xs → item ≡ get_or xs i item → out ≡ first ++ told_sessions 1 (map (map seen) (take i xs))
+    → new ≡ out ++ told_session (i + 1) (map seen item) → new ≡ first ++ told_sessions 1 (map (map seen) (take (i + 1) xs))
 sessions_step xs i item first out new h is so printed =
-    let number : i + 1 ≡ 1 + i = omega arith in
-    let here : session_text (i + 1) item ≡ session_text (1 + i) (get_or xs i item) = ap (λ n. session_text n item) number ∙ ap (session_text (1 + i)) is in
-    printed ∙ (ap (λ x. x ++ session_text (i + 1) item) so ∙ (append_assoc first (sessions_text 1 (take i xs)) (session_text (i + 1) item) ∙ (ap (λ x. first ++ (sessions_text 1 (take i xs) ++ x)) here ∙ ap (λ x. first ++ x) (sym (sessions_more 1 xs i item h)))))
+    let front : List (List ReplyLine) = map (map seen) (take i xs) in
+    let number : 1 + length front ≡ i + 1 = omega (arith, length-map (take i xs) (map seen), length-take i xs, h) in
+    let longer : map (map seen) (take (i + 1) xs) ≡ front ++ map seen item ∷ [] = ap (map (map seen)) (take_more xs i item h ∙ ap (λ x. take i xs ++ x ∷ []) (sym is)) ∙ map-append (map seen) (take i xs) (item ∷ []) in
+    printed ∙ ap (λ x. x ++ told_session (i + 1) (map seen item)) so ∙ append_assoc first (told_sessions 1 front) (told_session (i + 1) (map seen item))
+    ∙ ap (λ x. first ++ x) (ap (λ n. told_sessions 1 front ++ told_session n (map seen item)) (sym number) ∙ sym (told_more 1 front (map seen item)) ∙ ap (told_sessions 1) (sym longer))

@@ -1,12 +1,10 @@
 -- A write line that is taken keeps the rules of its table.
-use Rattle.std.proofs.Common.{◌≡◌, ℕ, suc, ◌<◌, ◌≤◌, Bool, true, false, not, ◌&&◌, ◌||◌, cond, List, [], ◌∷◌, length, take, drop, map, Option, Some, None, inl, inr, refl, sym, ap, ◌∙◌, arith}
-use Rattle.std.specs.Prelude.{if◌then◌else◌, ◌==◌, is_some, nat_lt}
-use Rattle.std.specs.List.{list_any, list_all, AllByRecursion, slice_get}
-use Rattle.std.specs.Option.{option_map_or}
+use Rattle.std.proofs.Common.{◌≡◌, ℕ, ◌≤◌, Bool, true, false, not, ◌&&◌, ◌||◌, cond, List, [], ◌∷◌, length, drop, map, Option, Some, None, inl, inr, refl, sym, ap, ◌∙◌, arith}
+use Rattle.std.specs.Prelude.{◌==◌, is_some, nat_lt}
+use Rattle.std.specs.List.{list_any, list_all, AllByRecursion}
 use Rattle.std.specs.Ordering.{nat_cmp, eq_by_cmp, is_eq}
 use Rattle.std.specs.declared.cmp.Ordering.TheVariants.{Equal}
 use Rattle.std.specs.Cmp.{nat_cmp_is, nat_cmp_total}
-use Rattle.std.specs.Cmp.Lexicographic.{slice_cmp}
 use Rattle.std.specs.FinMap.Entries.{put, find, find-put}
 use Rattle.std.proofs.lemmas.Bool.{false≢true}
 use Rattle.std.proofs.lemmas.List.{length-map}
@@ -17,20 +15,19 @@ use Rattle.kt_base.proofs.Values.{both}
 use Rattle.kt_base.proofs.Decimals.{same_text}
 use Rattle.kt_key.specs.Fit.{is_key}
 use Rattle.kt_key.specs.Reading.{Spells}
-use Rattle.kt_key.proofs.Kept.{bytes_cmp-self}
 use Rattle.kt_schema.specs.declared.column.Column.{Column}
-use Rattle.kt_schema.specs.First.{passes_at}
-use Rattle.kt_schema.specs.Columns.{is_again, same_name, columns_no, other_columns, key_kinds}
+use Rattle.kt_schema.specs.Columns.{columns_no, other_columns, key_kinds}
 use Rattle.kt_history.specs.declared.operation.OpKind.{OpKind}
 use Rattle.kt_script.specs.declared.forms.OpForm.{OpForm}
 use Rattle.kt_script.specs.declared.forms.OpForm.TheVariants as form
 use Rattle.kt_script.specs.Reasons.{sound, reason_if, cell_value}
 use Rattle.kt_script.specs.Columns.{IsTable, counts_from}
 use Rattle.kt_script.specs.Writes.{key_no, key_len, key_of, key_cells, name_in, behind_name, column_named, with_named, all_named, must_be_named, is_empty, behind_no, cells_said, op_form, kind_no, op_kind, op_no, op_of, op_cells, op_key, kind_or_delete, ops_of, ops_no, twice, write_no, write_of}
-use Rattle.kt_script.specs.Fit.{is_part, is_given, cells_fit, OpFits, WriteFits}
-use Rattle.kt_script.proofs.OpWords.{key_fits, insert_step, insert_cells, ops_split, keys_same}
+use Rattle.kt_script.specs.Fit.{is_given, cells_fit, OpFits, WriteFits}
+use Rattle.kt_script.proofs.OpWords.{key_fits, ops_split, keys_same}
 use Rattle.kt_script.proofs.Tables.{table_schema}
-use Rattle.kt_script.proofs.PartFits.{same_id, inserted, Rises, others_rise, Has, part_named, some_given}
+use Rattle.kt_script.proofs.PartFits.{same_id, inserted, Rises, others_rise, Has, each, part_named, some_given}
+use Rattle.kt_script.proofs.PrintedTables.{IsNamed, all_named_in, apart_kept, apart_of}
 
 -- a cell that is there stays there
 keep_one : (q : ℕ) (o : Option Column) (literal : List ℕ) (cells : List (ℕ × Cell)) → is_some (find nat_cmp q cells) ≡ true → is_some (find nat_cmp q (with_named o literal cells)) ≡ true
@@ -46,36 +43,8 @@ keep_all q others [] cells h = h
 keep_all q others (w ∷ words) cells h =
     keep_all q others words (with_named (column_named others (name_in w)) (drop 1 (behind_name w)) cells) (keep_one q (column_named others (name_in w)) (drop 1 (behind_name w)) cells h)
 
--- no two columns have one name
-abbrev NamesApart : List Column → Type 0
-NamesApart [] = Unit {0}
-NamesApart (c ∷ columns) = (list_any (λ (d : Column). same c.name d.name) columns ≡ false) × NamesApart columns
-
-same_self : (xs : List ℕ) → same xs xs ≡ true
-same_self [] = refl
-same_self (x ∷ xs) = both _ _ (same_id x) (same_self xs)
-
-any_has : (p : Column → Bool) (columns : List Column) (c : Column) → Has columns c → p c ≡ true → list_any p columns ≡ true
-any_has p [] c h e = absurd h
-any_has p (d ∷ columns) c (inl g) e = ap (λ b. b || list_any p columns) (ap p g ∙ e)
-any_has p (d ∷ columns) c (inr h) e = ap (λ b. p d || b) (any_has p columns c h e) ∙ last (p d)
-  where
-    last : (b : Bool) → (b || true) ≡ true
-    last true = refl
-    last false = refl
-
-named_own : (columns : List Column) (c : Column) (name : List ℕ) → NamesApart columns → Has columns c → c.name ≡ name → column_named columns name ≡ Some c
-named_own [] c name apart h e = absurd h
-named_own (d ∷ columns) c name apart (inl g) e =
-    ap (λ b. if b then Some d else column_named columns name) (ap (λ xs. same xs name) (ap (λ (y : Column). y.name) g ∙ e) ∙ same_self name) ∙ ap Some g
-named_own (d ∷ columns) c name apart (inr h) e = by (same d.name name) refl (named_own columns c name apart.1 h e)
-  where
-    by : (t : Bool) → same d.name name ≡ t → column_named columns name ≡ Some c → (if t then Some d else column_named columns name) ≡ Some c
-    by true s more = absurd (false≢true (sym apart.0 ∙ any_has (λ (y : Column). same d.name y.name) columns c h (ap (λ xs. same xs c.name) (same_text d.name name s ∙ sym e) ∙ same_self c.name)))
-    by false s more = more
-
 -- a column that is named has a cell
-given_found : (others : List Column) (c : Column) (words : List (List ℕ)) (cells : List (ℕ × Cell)) → NamesApart others → Has others c → list_any (λ n. same n c.name) (map name_in words) ≡ true
+given_found : (others : List Column) (c : Column) (words : List (List ℕ)) (cells : List (ℕ × Cell)) → AllByRecursion (IsNamed others) others → Has others c → list_any (λ n. same n c.name) (map name_in words) ≡ true
     → is_some (find nat_cmp c.id (all_named others cells words)) ≡ true
 given_found others c [] cells apart h any = absurd (false≢true any)
 given_found others c (w ∷ words) cells apart h any = by (same (name_in w) c.name) refl any (given_found others c words (with_named (column_named others (name_in w)) literal cells) apart h)
@@ -91,7 +60,7 @@ given_found others c (w ∷ words) cells apart h any = by (same (name_in w) c.na
         → is_some (find nat_cmp c.id (all_named others (with_named (column_named others (name_in w)) literal cells) words)) ≡ true
     by true s g more =
         keep_all c.id others words (with_named (column_named others (name_in w)) literal cells)
-        (ap (λ o. is_some (find nat_cmp c.id (with_named o literal cells))) (named_own others c (name_in w) apart h (sym (same_text (name_in w) c.name s))) ∙ put_there (cell_value c.kind literal))
+        (ap (λ o. is_some (find nat_cmp c.id (with_named o literal cells))) (ap (column_named others) (same_text (name_in w) c.name s) ∙ each (IsNamed others) others c apart h) ∙ put_there (cell_value c.kind literal))
     by false s g more = more g
 
 either_false : (a b : Bool) → (a || b) ≡ false → (a ≡ false) × (b ≡ false)
@@ -99,7 +68,7 @@ either_false true b h = absurd (false≢true (sym h))
 either_false false b h = (refl, h)
 
 -- an upsert gives a cell to each column that has to have one
-given_all : (all columns : List Column) (words : List (List ℕ)) → ((c : Column) → Has columns c → Has all c) → NamesApart all → list_any (must_be_named (map name_in words)) columns ≡ false
+given_all : (all columns : List Column) (words : List (List ℕ)) → ((c : Column) → Has columns c → Has all c) → AllByRecursion (IsNamed all) all → list_any (must_be_named (map name_in words)) columns ≡ false
     → list_all (is_given (all_named all [] words)) columns ≡ true
 given_all all [] words inside apart h = refl
 given_all all (c ∷ columns) words inside apart h =
@@ -113,48 +82,12 @@ given_all all (c ∷ columns) words inside apart h =
     one false false true f g there = there refl
     one false false false f g there = absurd (false≢true (sym g))
 
--- names that are apart, from the columns of a table
-none_same : (c : Column) (columns : List Column) → ((k : ℕ) → k < length columns → passes_at (λ x. same_name x c) columns k ≡ false) → list_any (λ (d : Column). same c.name d.name) columns ≡ false
-none_same c [] h = refl
-none_same c (d ∷ columns) h = by (same c.name d.name) refl (none_same c columns (λ k lt. h (suc k) (omega (arith, lt))))
-  where
-    by : (t : Bool) → same c.name d.name ≡ t → list_any (λ (e : Column). same c.name e.name) columns ≡ false → (t || list_any (λ (e : Column). same c.name e.name) columns) ≡ false
-    by true s more = absurd (false≢true (sym (h 0 (omega arith)) ∙ ap is_eq (ap (λ xs. slice_cmp nat_cmp d.name xs) (same_text c.name d.name s) ∙ bytes_cmp-self d.name)))
-    by false s more = more
-
-parted : (p q : Column → Bool) (o : Option Column) → option_map_or (λ x. p x || q x) o false ≡ false → (option_map_or p o false ≡ false) × (option_map_or q o false ≡ false)
-parted p q None h = (refl, refl)
-parted p q (Some x) h = either_false _ _ h
-
-names_apart : (columns : List Column) → ((k : ℕ) → k < length columns → is_again columns k ≡ false) → NamesApart columns
-names_apart [] again = tt
-names_apart (c ∷ columns) again = (
-  none_same c columns (λ k lt. (parted (λ x. same_name x c) (λ x. list_any (λ d. same_name x d) (take k columns)) (slice_get columns k) (again (suc k) (omega (arith, lt)))).0),
-  names_apart columns (λ k lt. (parted (λ x. same_name x c) (λ x. list_any (λ d. same_name x d) (take k columns)) (slice_get columns k) (again (suc k) (omega (arith, lt)))).1),
-)
-
-any_less : (p : Column → Bool) (columns : List Column) → list_any p columns ≡ false → list_any p (other_columns columns) ≡ false
-any_less p [] h = refl
-any_less p (c ∷ columns) h = by c.key (either_false (p c) (list_any p columns) h) (any_less p columns)
-  where
-    by : (b : Bool) → (p c ≡ false) × (list_any p columns ≡ false) → (list_any p columns ≡ false → list_any p (other_columns columns) ≡ false) → list_any p (cond (not b) (c ∷ other_columns columns) (other_columns columns)) ≡ false
-    by true parts more = more parts.1
-    by false parts more = ap (λ b. b || list_any p (other_columns columns)) parts.0 ∙ more parts.1
-
-others_apart : (columns : List Column) → NamesApart columns → NamesApart (other_columns columns)
-others_apart [] apart = tt
-others_apart (c ∷ columns) apart = by c.key (others_apart columns apart.1)
-  where
-    by : (b : Bool) → NamesApart (other_columns columns) → NamesApart (cond (not b) (c ∷ other_columns columns) (other_columns columns))
-    by true more = more
-    by false more = (any_less (λ (d : Column). same c.name d.name) columns apart.0, more)
-
 -- no reason up to 20 holds
-not_held : (t : Bool) (reason : ℕ) → reason ≤ 20 → 20 < reason_if t reason → t ≡ false
+not_held : (t : Bool) (reason : ℕ) → reason ≤ 20 → sound ≤ reason_if t reason → t ≡ false
 not_held true reason h g = absurd (omega arith)
 not_held false reason h g = refl
 
-key_spelled : (columns : List Column) (words : List (List ℕ)) → columns_no columns ≡ None → 20 < key_no columns words
+key_spelled : (columns : List Column) (words : List (List ℕ)) → columns_no columns ≡ None → sound ≤ key_no columns words
     → Spells (key_kinds columns) (key_cells columns words) (key_of columns words) × (length (key_of columns words) ≤ 16384)
 key_spelled columns words none h =
     let key = key_fits columns words none (omega (arith, h)) in
@@ -163,7 +96,7 @@ key_spelled columns words none h =
     below : (n : ℕ) → nat_lt 16384 n ≡ false → n ≤ 16384
     below n g = grind (arith, nat_tests)
 
-    short : (t : Bool) (n : ℕ) → t ≡ true → 20 < reason_if (t && nat_lt 16384 n) 17 → n ≤ 16384
+    short : (t : Bool) (n : ℕ) → t ≡ true → sound ≤ reason_if (t && nat_lt 16384 n) 17 → n ≤ 16384
     short true n e g = below n (not_held (nat_lt 16384 n) 17 (omega arith) g)
     short false n e g = absurd (false≢true e)
 
@@ -173,17 +106,16 @@ record FormFits (columns : List Column) (f : OpForm) (words : List (List ℕ)) :
   short : length (key_of columns words) ≤ 16384
   cells : cells_fit (other_columns columns) f (cells_said columns f words) ≡ true
 
-form_fits : (columns : List Column) → columns_no columns ≡ None → Rises 1 (other_columns columns) → NamesApart (other_columns columns) → (f : OpForm) (words : List (List ℕ)) → 20 < behind_no columns f words → FormFits columns f words
+form_fits : (columns : List Column) → columns_no columns ≡ None → Rises 1 (other_columns columns) → AllByRecursion (IsNamed (other_columns columns)) (other_columns columns) → (f : OpForm) (words : List (List ℕ)) → sound ≤ behind_no columns f words → FormFits columns f words
 form_fits columns none rise apart form.Literals words h =
     let others = other_columns columns in
     let rest = drop (key_len columns) words in
-    let step = insert_step columns words none in
-    let key = key_spelled columns words none (omega (arith, h, step)) in
-    let cells = inserted others rest (omega (arith, h, step)) in
+    let key = key_spelled columns words none (omega (arith, h)) in
+    let cells = inserted others rest (omega (arith, h)) in
     record {
       key = key.0;
       short = key.1;
-      cells = ap (λ xs. is_part others xs && (length xs == length others)) (insert_cells columns words none) ∙ both _ _ cells.0 (ap (λ n. n == length others) cells.1 ∙ same_id (length others));
+      cells = both _ _ cells.0 (ap (λ n. n == length others) cells.1 ∙ same_id (length others));
     }
 form_fits columns none rise apart form.RowNames words h =
     let others = other_columns columns in
@@ -202,35 +134,35 @@ form_fits columns none rise apart form.Key words h =
     let key = key_spelled columns words none (omega (arith, h)) in
     record { key = key.0; short = key.1; cells = refl }
 
-kind_fits : (columns : List Column) → columns_no columns ≡ None → Rises 1 (other_columns columns) → NamesApart (other_columns columns) → (o : Option OpKind) (words : List (List ℕ)) → 20 < kind_no columns o words
+kind_fits : (columns : List Column) → columns_no columns ≡ None → Rises 1 (other_columns columns) → AllByRecursion (IsNamed (other_columns columns)) (other_columns columns) → (o : Option OpKind) (words : List (List ℕ)) → sound ≤ kind_no columns o words
     → OpFits columns (record { kind = kind_or_delete o; key = key_of columns words; cells = op_cells columns o words })
 kind_fits columns none rise apart None words h = absurd (omega arith)
 kind_fits columns none rise apart (Some kind) words h =
     let fit = form_fits columns none rise apart (op_form kind) words h in
     record { key_cells = key_cells columns words; key = fit.key; short = fit.short; cells = fit.cells }
 
-op_fits : (columns : List Column) → columns_no columns ≡ None → Rises 1 (other_columns columns) → NamesApart (other_columns columns) → (words : List (List ℕ)) → 20 < op_no columns words → OpFits columns (op_of columns words)
+op_fits : (columns : List Column) → columns_no columns ≡ None → Rises 1 (other_columns columns) → AllByRecursion (IsNamed (other_columns columns)) (other_columns columns) → (words : List (List ℕ)) → sound ≤ op_no columns words → OpFits columns (op_of columns words)
 op_fits columns none rise apart [] h = absurd (omega arith)
 op_fits columns none rise apart (w ∷ words) h = kind_fits columns none rise apart (op_kind w) words h
 
-all_fit : (columns : List Column) → columns_no columns ≡ None → Rises 1 (other_columns columns) → NamesApart (other_columns columns) → (ops : List (List (List ℕ))) → 20 < ops_no columns ops
+all_fit : (columns : List Column) → columns_no columns ≡ None → Rises 1 (other_columns columns) → AllByRecursion (IsNamed (other_columns columns)) (other_columns columns) → (ops : List (List (List ℕ))) → sound ≤ ops_no columns ops
     → AllByRecursion (OpFits columns) (map (op_of columns) ops)
 all_fit columns none rise apart [] h = tt
 all_fit columns none rise apart (words ∷ ops) h = (op_fits columns none rise apart words (omega (arith, h)), all_fit columns none rise apart ops (omega (arith, h)))
 
 -- a write line that is taken fits the columns of its table
-pub write_fits : (columns : List Column) (words : List (List ℕ)) → IsTable columns → counts_from 1 columns ≡ true → list_any (λ c. c.key) columns ≡ true → write_no columns words ≡ sound → WriteFits columns (write_of columns words)
+pub write_fits : (columns : List Column) (words : List (List ℕ)) → IsTable columns → counts_from 1 columns ≡ true → list_any (λ c. c.key) columns ≡ true → sound ≤ write_no columns words → WriteFits columns (write_of columns words)
 write_fits columns words table counts key taken =
     let none = table_schema columns table key in
     let ops = ops_of words in
-    let ops_sound : 20 < ops_no columns ops = omega (arith, taken) in
+    let ops_sound : sound ≤ ops_no columns ops = omega (arith, taken) in
     let few = not_held (nat_lt 64 (length ops)) 18 (omega arith) (omega (arith, taken)) in
     let apart = not_held (twice (map (op_key columns) ops)) 19 (omega arith) (omega (arith, taken)) in
     record {
       some = rw (length-map ops (op_of columns)) (omega (arith, ap length (ops_split words)));
       few = rw (length-map ops (op_of columns)) (below (length ops) few);
       apart = ap twice (keys_same columns ops) ∙ apart;
-      each = all_fit columns none (others_rise 1 columns counts) (others_apart columns (names_apart columns table.again)) ops ops_sound;
+      each = all_fit columns none (others_rise 1 columns counts) (all_named_in (other_columns columns) (apart_kept (λ c. not c.key) columns (apart_of columns table.again))) ops ops_sound;
     }
   where
     below : (n : ℕ) → nat_lt 64 n ≡ false → n ≤ 64

@@ -1,39 +1,43 @@
 -- What the texts give back.
-use Rattle.std.specs.Prelude.{◌≡◌, ℕ, ◌^◌, ◌<◌, List, length, map, All}
-use Rattle.kt_base.specs.declared.cell.Kind.{Kind}
+use Rattle.std.specs.Prelude.{◌≡◌, ℕ, ◌^◌, ◌<◌, List, [], ◌∷◌, length, map, All}
 use Rattle.kt_history.specs.declared.event.Event.{Event}
-use Rattle.kt_history.specs.declared.reply.Reply.{Reply}
-use Rattle.kt_history.specs.declared.reply.Reply.TheVariants as reply
+use Rattle.kt_history.specs.declared.event.Event.TheVariants as event
 use Rattle.kt_script.specs.declared.replies.ReplyLine.{ReplyLine}
-use Rattle.kt_script.specs.declared.replies.ReplyLine.TheVariants as lined
+use Rattle.kt_script.specs.declared.replies.ReplyLine.TheVariants as reply
 use Rattle.kt_script.specs.declared.output.LastLine.{LastLine}
 use Rattle.kt_script.specs.declared.output.LastLine.TheVariants as last
 use Rattle.kt_script.specs.declared.lists.ShownReply.{ShownReply}
-use Rattle.kt_script.specs.Texts.{row_text, reply_numbers, event_numbers, output_text}
-
--- a reply as its text shows it: the texts of rows stand for the rows
-abbrev pub seen_of : List Kind → Reply → ReplyLine
-seen_of kinds (reply.At ts outcomes) = lined.At ts outcomes
-seen_of kinds (reply.Rows t rows) = lined.Rows t (map (row_text kinds) rows)
-seen_of kinds (reply.Ancient t a) = lined.Ancient t a
-seen_of kinds (reply.Busy t f) = lined.Busy t f
-seen_of kinds (reply.Ahm a) = lined.Ahm a
-seen_of kinds reply.Done = lined.Done
-seen_of kinds (reply.Large n) = lined.Large n
-seen_of kinds reply.Stopped = lined.Stopped
-
-abbrev pub seen : ShownReply → ReplyLine
-seen told = seen_of told.kinds told.reply
+use Rattle.kt_script.specs.Texts.{reply_numbers, event_numbers, output_text, seen}
 
 -- a number that the program can hold
 abbrev pub Fits64 : ℕ → Type 0
 Fits64 n = n < 2 ^ 64
 
+abbrev pub Fits32 : ℕ → Type 0
+Fits32 n = n < 2 ^ 32
+
+-- the numbers of 32 bits
+abbrev pub short_of_reply : ReplyLine → List ℕ
+short_of_reply (reply.Large n) = n ∷ []
+short_of_reply _ = []
+
+abbrev pub short_of_event : Event → List ℕ
+short_of_event (event.Begin s i ts m) = s ∷ i ∷ []
+short_of_event (event.End s i ts) = s ∷ i ∷ []
+short_of_event (event.Look s i t m) = s ∷ i ∷ []
+short_of_event (event.Rows s i t) = s ∷ i ∷ []
+short_of_event (event.Ancient s i t a) = s ∷ i ∷ []
+short_of_event (event.Busy s i t f) = s ∷ i ∷ []
+short_of_event (event.Mark s i a) = s ∷ i ∷ []
+short_of_event (event.Chore s i) = s ∷ i ∷ []
+short_of_event (event.Large s i n) = s ∷ i ∷ n ∷ []
+short_of_event event.Stop = []
+
 abbrev pub ReplyFits : ShownReply → Type 0
-ReplyFits shown = All Fits64 (reply_numbers shown.reply)
+ReplyFits shown = All Fits64 (reply_numbers shown.reply) × All Fits32 (short_of_reply (seen shown))
 
 abbrev pub EventFits : Event → Type 0
-EventFits e = All Fits64 (event_numbers e)
+EventFits e = All Fits64 (event_numbers e) × All Fits32 (short_of_event e)
 
 abbrev pub LastFits : LastLine → Type 0
 LastFits (last.Numbers a c rowsets) = Fits64 a × Fits64 c × Fits64 rowsets

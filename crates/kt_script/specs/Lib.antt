@@ -2,6 +2,7 @@ pub mod Texts
 pub mod Laws
 pub mod Pieces
 pub mod Reasons
+pub mod Form
 pub mod Columns
 pub mod Writes
 pub mod Times
@@ -13,4 +14,4 @@ pub mod Spelled
 pub mod Print
 pub mod Outputs
 pub mod Reread
-pub mod Ordered
+pub mod Alike

@@ -1,8 +1,8 @@
 -- Output texts with each row as its line: what has a text, and the first line that cannot stand where it does.
-use Rattle.std.specs.Prelude.{◌≡◌, ◌≢◌, ◌<◌, ◌^◌, ℕ, ◌+◌, zero, suc, Bool, true, false, ◌||◌, List, [], ◌∷◌, ◌++◌, length, map, All, Option, Some, None, Result, Ok, Err, is_some, nat_lt, if◌then◌else◌, codes}
+use Rattle.std.specs.Prelude.{◌≡◌, ◌≢◌, ◌^◌, ℕ, ◌+◌, zero, suc, Bool, true, false, ◌||◌, List, [], ◌∷◌, length, map, All, Option, Some, None, Result, Ok, Err, is_some, nat_lt, if◌then◌else◌, codes}
 use Rattle.std.proofs.Common.{Bor}
 use Rattle.std.specs.Fmt.{decimal}
-use Rattle.std.specs.List.{flat_map, list_all, AllByRecursion}
+use Rattle.std.specs.List.{list_all, AllByRecursion}
 use Rattle.std.specs.Option.{option_map, option_and_then}
 use Rattle.std.specs.Str.Parse.{digits_value}
 use Rattle.kt_base.specs.declared.cell.Kind.{Kind}
@@ -26,71 +26,11 @@ use Rattle.kt_script.specs.declared.reread.Output.{Output}
 use Rattle.kt_script.specs.declared.reread.CodecNo.{CodecNo}
 use Rattle.kt_script.specs.declared.reread.CodecNo.TheVariants as no
 use Rattle.kt_script.specs.declared.out_lines.FirstLine.{FirstLine}
-use Rattle.kt_script.specs.Texts.{line, words, outcome_word, reply_numbers, event_numbers, event_line, last_text, output_text}
+use Rattle.kt_script.specs.Texts.{line_numbers, rows_in, session_line, told_text, event_numbers, output_text, seen}
 use Rattle.kt_script.specs.Pieces.{cut, words_of}
-use Rattle.kt_script.specs.Laws.{Fits64, LastFits, OutputFits, seen}
+use Rattle.kt_script.specs.Laws.{Fits64, Fits32, short_of_reply, short_of_event, LastFits, OutputFits}
 
--- ---- the text of an output
-
--- the word of a reply
-abbrev pub line_word : ReplyLine → List ℕ
-line_word (reply.At ts outcomes) = codes "at"
-line_word (reply.Rows t lines) = codes "rows"
-line_word (reply.Ancient t a) = codes "ancient"
-line_word (reply.Busy t f) = codes "busy"
-line_word (reply.Ahm a) = codes "ahm"
-line_word reply.Done = codes "done"
-line_word (reply.Large n) = codes "large"
-line_word reply.Stopped = codes "stopped"
-
--- the numbers after it
-abbrev pub line_numbers : ReplyLine → List ℕ
-line_numbers (reply.At ts outcomes) = ts ∷ []
-line_numbers (reply.Rows t lines) = t ∷ length lines ∷ []
-line_numbers (reply.Ancient t a) = t ∷ a ∷ []
-line_numbers (reply.Busy t f) = t ∷ f ∷ []
-line_numbers (reply.Ahm a) = a ∷ []
-line_numbers reply.Done = []
-line_numbers (reply.Large n) = n ∷ []
-line_numbers reply.Stopped = []
-
--- the outcomes after these
-abbrev pub line_outcomes : ReplyLine → List (List ℕ)
-line_outcomes (reply.At ts outcomes) = map outcome_word outcomes
-line_outcomes _ = []
-
--- the words of a reply's first line
-abbrev pub line_words : ReplyLine → List (List ℕ)
-line_words r = line_word r ∷ (map decimal (line_numbers r) ++ line_outcomes r)
-
--- the lines of its rows
-abbrev pub rows_in : ReplyLine → List (List ℕ)
-rows_in (reply.Rows t lines) = lines
-rows_in _ = []
-
--- every line of a reply
-abbrev pub lines_in : ReplyLine → List (List ℕ)
-lines_in r = words (line_words r) ∷ rows_in r
-
-abbrev pub lines_text : ReplyLine → List ℕ
-lines_text r = flat_map line (lines_in r)
-
--- the first line of a session
-abbrev pub session_line : ℕ → List ℕ
-session_line number = words (codes "session" ∷ decimal number ∷ [])
-
-abbrev pub told_session : ℕ → List ReplyLine → List ℕ
-told_session number replies = line (session_line number) ++ flat_map lines_text replies
-
--- the sessions, numbered from this one on
-abbrev pub told_sessions : ℕ → List (List ReplyLine) → List ℕ
-told_sessions number [] = []
-told_sessions number (replies ∷ sessions) = told_session number replies ++ told_sessions (suc number) sessions
-
--- the whole text
-abbrev pub told_text : List (List ReplyLine) → List Event → LastLine → List ℕ
-told_text replies events end = told_sessions 1 replies ++ line (codes "history") ++ flat_map event_line events ++ last_text end
-
+-- the text of an output
 abbrev pub text_of : Output → List ℕ
 text_of out = told_text out.replies out.events out.last
 
@@ -251,28 +191,8 @@ place_of text = place_from (sessions 0 0) 0 (cut 10 text)
 
 -- ---- outputs that a program can hold
 
-abbrev pub Fits32 : ℕ → Type 0
-Fits32 n = n < 2 ^ 32
-
 abbrev pub IsRowLine : List ℕ → Type 0
 IsRowLine text = All (λ b. b ≢ 10) text × (is_row text ≡ true)
-
--- the numbers of 32 bits
-abbrev pub short_of_reply : ReplyLine → List ℕ
-short_of_reply (reply.Large n) = n ∷ []
-short_of_reply _ = []
-
-abbrev pub short_of_event : Event → List ℕ
-short_of_event (event.Begin s i ts m) = s ∷ i ∷ []
-short_of_event (event.End s i ts) = s ∷ i ∷ []
-short_of_event (event.Look s i t m) = s ∷ i ∷ []
-short_of_event (event.Rows s i t) = s ∷ i ∷ []
-short_of_event (event.Ancient s i t a) = s ∷ i ∷ []
-short_of_event (event.Busy s i t f) = s ∷ i ∷ []
-short_of_event (event.Mark s i a) = s ∷ i ∷ []
-short_of_event (event.Chore s i) = s ∷ i ∷ []
-short_of_event (event.Large s i n) = s ∷ i ∷ n ∷ []
-short_of_event event.Stop = []
 
 pub record LineHolds (r : ReplyLine) : Type 0 where
   pub numbers : AllByRecursion Fits64 (line_numbers r)
@@ -338,17 +258,13 @@ abbrev pub rows_told : Reply → List (List Cell)
 rows_told (told.Rows t rows) = rows
 rows_told _ = []
 
-pub record ReplyHolds (shown : ShownReply) : Type 0 where
-  pub numbers : AllByRecursion Fits64 (reply_numbers shown.reply)
-  pub short : AllByRecursion Fits32 (short_of_reply (seen shown))
-  pub rows : AllByRecursion (RowHolds shown.kinds) (rows_told shown.reply)
+abbrev pub RowsHold : ShownReply → Type 0
+RowsHold shown = AllByRecursion (RowHolds shown.kinds) (rows_told shown.reply)
 
 -- what is printed, and can be read again
 pub record PrintedHolds (replies : List (List ShownReply)) (events : List Event) (end : LastLine) : Type 0 where
-  pub count : Fits64 (length replies)
-  pub each : AllByRecursion (AllByRecursion ReplyHolds) replies
-  pub events_hold : AllByRecursion EventHolds events
-  pub last : LastFits end
+  pub fits : OutputFits replies events end
+  pub rows : AllByRecursion (AllByRecursion RowsHold) replies
 
 -- what is printed of cells that fit their columns is read again
 abbrev pub printed_hold : Type 0

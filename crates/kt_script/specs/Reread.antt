@@ -11,9 +11,9 @@ use Rattle.kt_script.specs.declared.reread.Replies.{Replies}
 use Rattle.kt_script.specs.declared.reread.Sessions.{Sessions}
 use Rattle.kt_script.specs.declared.reread.Ending.{Ending}
 use Rattle.kt_script.specs.Laws.{LastFits}
-use Rattle.kt_script.specs.Texts.{line, event_line, last_text}
+use Rattle.kt_script.specs.Texts.{line, lines_text, told_sessions, event_line, last_text}
 use Rattle.kt_script.specs.Pieces.{cut}
-use Rattle.kt_script.specs.Outputs.{Stage, sessions, history, ended, place_from, first_in, may_reply, lines_text, told_sessions, IsRowLine, LineHolds, EventHolds}
+use Rattle.kt_script.specs.Outputs.{Stage, sessions, history, ended, place_from, first_in, may_reply, IsRowLine, LineHolds, EventHolds}
 
 -- the place of the first fault of what stands from a place of the text on
 abbrev pub place : List ℕ → Stage → ℕ → Option ℕ

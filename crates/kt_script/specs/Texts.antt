@@ -1,5 +1,5 @@
 -- The output text: what is printed of the replies, the history and the last line.
-use Rattle.std.specs.Prelude.{ℕ, ◌+◌, List, [], ◌∷◌, ◌++◌, length, map, codes}
+use Rattle.std.specs.Prelude.{ℕ, suc, List, [], ◌∷◌, ◌++◌, length, map, codes}
 use Rattle.std.specs.Fmt.{decimal}
 use Rattle.std.specs.List.{flat_map}
 use Rattle.kt_base.specs.declared.cell.Kind.{Kind}
@@ -10,7 +10,9 @@ use Rattle.kt_history.specs.declared.change.Outcome.TheVariants.{Done, Present, 
 use Rattle.kt_history.specs.declared.event.Event.{Event}
 use Rattle.kt_history.specs.declared.event.Event.TheVariants as event
 use Rattle.kt_history.specs.declared.reply.Reply.{Reply}
-use Rattle.kt_history.specs.declared.reply.Reply.TheVariants as reply
+use Rattle.kt_history.specs.declared.reply.Reply.TheVariants as told
+use Rattle.kt_script.specs.declared.replies.ReplyLine.{ReplyLine}
+use Rattle.kt_script.specs.declared.replies.ReplyLine.TheVariants as reply
 use Rattle.kt_script.specs.declared.output.LastLine.{LastLine}
 use Rattle.kt_script.specs.declared.output.LastLine.TheVariants as last
 use Rattle.kt_script.specs.declared.lists.ShownReply.{ShownReply}
@@ -43,53 +45,60 @@ outcome_word Present = codes "present"
 outcome_word Absent = codes "absent"
 outcome_word Ignored = codes "ignored"
 
--- a reply's word
-abbrev pub reply_word : Reply → List ℕ
-reply_word (reply.At ts outcomes) = codes "at"
-reply_word (reply.Rows t rows) = codes "rows"
-reply_word (reply.Ancient t a) = codes "ancient"
-reply_word (reply.Busy t f) = codes "busy"
-reply_word (reply.Ahm a) = codes "ahm"
-reply_word reply.Done = codes "done"
-reply_word (reply.Large n) = codes "large"
-reply_word reply.Stopped = codes "stopped"
+-- the word of a reply
+abbrev pub line_word : ReplyLine → List ℕ
+line_word (reply.At ts outcomes) = codes "at"
+line_word (reply.Rows t lines) = codes "rows"
+line_word (reply.Ancient t a) = codes "ancient"
+line_word (reply.Busy t f) = codes "busy"
+line_word (reply.Ahm a) = codes "ahm"
+line_word reply.Done = codes "done"
+line_word (reply.Large n) = codes "large"
+line_word reply.Stopped = codes "stopped"
 
 -- the numbers after it
-abbrev pub reply_numbers : Reply → List ℕ
-reply_numbers (reply.At ts outcomes) = ts ∷ []
-reply_numbers (reply.Rows t rows) = t ∷ length rows ∷ []
-reply_numbers (reply.Ancient t a) = t ∷ a ∷ []
-reply_numbers (reply.Busy t f) = t ∷ f ∷ []
-reply_numbers (reply.Ahm a) = a ∷ []
-reply_numbers reply.Done = []
-reply_numbers (reply.Large n) = n ∷ []
-reply_numbers reply.Stopped = []
+abbrev pub line_numbers : ReplyLine → List ℕ
+line_numbers (reply.At ts outcomes) = ts ∷ []
+line_numbers (reply.Rows t lines) = t ∷ length lines ∷ []
+line_numbers (reply.Ancient t a) = t ∷ a ∷ []
+line_numbers (reply.Busy t f) = t ∷ f ∷ []
+line_numbers (reply.Ahm a) = a ∷ []
+line_numbers reply.Done = []
+line_numbers (reply.Large n) = n ∷ []
+line_numbers reply.Stopped = []
 
 -- the outcomes after these
-abbrev pub outcome_words : Reply → List (List ℕ)
-outcome_words (reply.At ts outcomes) = map outcome_word outcomes
-outcome_words _ = []
+abbrev pub line_outcomes : ReplyLine → List (List ℕ)
+line_outcomes (reply.At ts outcomes) = map outcome_word outcomes
+line_outcomes _ = []
 
 -- the words of a reply's first line
-abbrev pub reply_words : Reply → List (List ℕ)
-reply_words r = reply_word r ∷ (map decimal (reply_numbers r) ++ outcome_words r)
+abbrev pub line_words : ReplyLine → List (List ℕ)
+line_words r = line_word r ∷ (map decimal (line_numbers r) ++ line_outcomes r)
 
--- the texts of a scan's rows, under columns of these kinds
-abbrev pub row_texts : List Kind → Reply → List (List ℕ)
-row_texts kinds (reply.Rows t rows) = map (row_text kinds) rows
-row_texts kinds _ = []
+-- the lines of its rows
+abbrev pub rows_in : ReplyLine → List (List ℕ)
+rows_in (reply.Rows t lines) = lines
+rows_in _ = []
 
-abbrev pub reply_text : ShownReply → List ℕ
-reply_text shown = line (words (reply_words shown.reply)) ++ flat_map line (row_texts shown.kinds shown.reply)
+-- every line of a reply
+abbrev pub lines_in : ReplyLine → List (List ℕ)
+lines_in r = words (line_words r) ∷ rows_in r
 
--- a session's number and its replies
-abbrev pub session_text : ℕ → List ShownReply → List ℕ
-session_text s replies = line (words (codes "session" ∷ decimal s ∷ [])) ++ flat_map reply_text replies
+abbrev pub lines_text : ReplyLine → List ℕ
+lines_text r = flat_map line (lines_in r)
+
+-- the first line of a session
+abbrev pub session_line : ℕ → List ℕ
+session_line number = words (codes "session" ∷ decimal number ∷ [])
+
+abbrev pub told_session : ℕ → List ReplyLine → List ℕ
+told_session number replies = line (session_line number) ++ flat_map lines_text replies
 
 -- the sessions, numbered from this one on
-abbrev pub sessions_text : ℕ → List (List ShownReply) → List ℕ
-sessions_text s [] = []
-sessions_text s (replies ∷ sessions) = session_text s replies ++ sessions_text (s + 1) sessions
+abbrev pub told_sessions : ℕ → List (List ReplyLine) → List ℕ
+told_sessions number [] = []
+told_sessions number (replies ∷ sessions) = told_session number replies ++ told_sessions (suc number) sessions
 
 abbrev pub event_word : Event → List ℕ
 event_word (event.Begin s i ts m) = codes "begin"
@@ -129,6 +138,35 @@ last_words last.Stopped = codes "tablet" ∷ codes "stopped" ∷ []
 abbrev pub last_text : LastLine → List ℕ
 last_text end = line (words (last_words end))
 
--- the whole output
+-- the whole text
+abbrev pub told_text : List (List ReplyLine) → List Event → LastLine → List ℕ
+told_text replies events end = told_sessions 1 replies ++ line (codes "history") ++ flat_map event_line events ++ last_text end
+
+-- a reply as its text shows it: the texts of rows stand for the rows
+abbrev pub seen_of : List Kind → Reply → ReplyLine
+seen_of kinds (told.At ts outcomes) = reply.At ts outcomes
+seen_of kinds (told.Rows t rows) = reply.Rows t (map (row_text kinds) rows)
+seen_of kinds (told.Ancient t a) = reply.Ancient t a
+seen_of kinds (told.Busy t f) = reply.Busy t f
+seen_of kinds (told.Ahm a) = reply.Ahm a
+seen_of kinds told.Done = reply.Done
+seen_of kinds (told.Large n) = reply.Large n
+seen_of kinds told.Stopped = reply.Stopped
+
+abbrev pub seen : ShownReply → ReplyLine
+seen told = seen_of told.kinds told.reply
+
+-- the numbers of a reply
+abbrev pub reply_numbers : Reply → List ℕ
+reply_numbers (told.At ts outcomes) = ts ∷ []
+reply_numbers (told.Rows t rows) = t ∷ length rows ∷ []
+reply_numbers (told.Ancient t a) = t ∷ a ∷ []
+reply_numbers (told.Busy t f) = t ∷ f ∷ []
+reply_numbers (told.Ahm a) = a ∷ []
+reply_numbers told.Done = []
+reply_numbers (told.Large n) = n ∷ []
+reply_numbers told.Stopped = []
+
+-- the text of what was printed
 abbrev pub output_text : List (List ShownReply) → List Event → LastLine → List ℕ
-output_text sessions events end = sessions_text 1 sessions ++ line (codes "history") ++ flat_map event_line events ++ last_text end
+output_text replies events end = told_text (map (map seen) replies) events end

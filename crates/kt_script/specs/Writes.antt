@@ -101,9 +101,13 @@ must_be_named names c = (not c.nullable && not (is_some c.default)) && not (list
 abbrev pub left_out_no : List Column → List (List ℕ) → ℕ
 left_out_no others words = reason_if (list_any (must_be_named (map name_in words)) others) 15
 
+-- a literal for each column, and no word more
+abbrev pub values_no : List Column → List (List ℕ) → ℕ
+values_no others words = min (cells_no others words) (none_left_no (drop (length others) words))
+
 -- why an operation's words behind its first are refused, by their form
 abbrev pub insert_no : List Column → List (List ℕ) → ℕ
-insert_no columns words = min (cells_no columns words) (min (none_left_no (drop (length columns) words)) (long_no columns words))
+insert_no columns words = min (key_no columns words) (values_no (other_columns columns) (drop (key_len columns) words))
 
 abbrev pub delete_no : List Column → List (List ℕ) → ℕ
 delete_no columns words = min (key_no columns words) (none_left_no (drop (key_len columns) words))
@@ -205,7 +209,7 @@ all_named others cells (word ∷ words) = all_named others (with_named (column_n
 
 -- the cells that the words behind an operation's first say
 abbrev pub cells_said : List Column → OpForm → List (List ℕ) → List (ℕ × Cell)
-cells_said columns form.Literals words = under (other_columns columns) (drop (key_len columns) (cells_of columns words))
+cells_said columns form.Literals words = under (other_columns columns) (cells_of (other_columns columns) (drop (key_len columns) words))
 cells_said columns form.RowNames words = all_named (other_columns columns) [] (drop (key_len columns) words)
 cells_said columns form.Names words = all_named (other_columns columns) [] (drop (key_len columns) words)
 cells_said columns form.Key words = []

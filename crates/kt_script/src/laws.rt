@@ -2,7 +2,7 @@
 
 ghost use Rattle.kt_script.specs.Laws.{texts_give_back};
 ghost use Rattle.kt_script.specs.Spelled.{scripts_fit};
-ghost use Rattle.kt_script.specs.Ordered.{texts_are_printed, texts_are_one, texts_are_read_again};
+ghost use Rattle.kt_script.specs.Alike.{texts_are_printed, alike_texts_are_read, texts_are_one, texts_are_read_again};
 ghost use Rattle.kt_script.specs.Outputs.{outputs_are_one, printed_texts, outputs_give_back, printed_hold};
 
 /// Outputs of one text have the same replies, as far as a text shows them, the same history and the same last
@@ -25,10 +25,12 @@ pub fn scripts_law()
     ensures { scripts_fit }
 {}
 
-/// The text of what a text says is that text with the names of each operation in schema order. So texts of one script
-/// differ in the order of these names alone, and each of them, if it is of bytes, says what its printed text says.
+/// Texts are alike where they are one but for the order of the names of each operation. The text of what a text says
+/// is alike to that text. Each text that is alike to a script's says that script, and no other text does. So what a
+/// text says is printed, and read again.
 pub fn order_law()
     ensures printed { texts_are_printed }
+    ensures read { alike_texts_are_read }
     ensures one { texts_are_one }
     ensures again { texts_are_read_again }
 {}

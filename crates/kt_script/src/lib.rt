@@ -3,11 +3,11 @@
 //!
 //! For the layers above: `read_script` answers a script exactly where the text spells it, and otherwise the first
 //! faulty line with the least reason that holds in it. `print_script` gives the text of a script with the names of each
-//! operation in schema order, which is read as that script (`print::reading_law`) and is each text of that script with its
-//! names in that order (`laws::order_law`). `print_output` appends the one text
-//! of the replies, the history and the last line, and `read_output` reads such a text again, with each row as its line,
-//! or tells the place of the first line that cannot stand where it does. The whole grammar stands in `specs/` as
-//! functions on lists of bytes. It stands on kt_base, kt_key, kt_schema and kt_history.
+//! operation in schema order, which is read as that script (`print::reading_law`). Each text that differs from it in the
+//! order of these names alone is read as that script too, and no other text is (`laws::order_law`). `print_output`
+//! appends the one text of the replies, the history and the last line, and `read_output` reads such a text again, with
+//! each row as its line, or tells the place of the first line that cannot stand where it does. The whole grammar stands
+//! in `specs/` as functions on lists of bytes. It stands on kt_base, kt_key, kt_schema and kt_history.
 #![tactic(auto)]
 
 pub mod asked;

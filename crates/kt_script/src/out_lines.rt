@@ -4,7 +4,8 @@ ghost use Rattle.std.specs.Prelude.{◌≡◌, ◌∷◌, [], IfOk, IfSome, IfNo
 ghost use Rattle.std.specs.Option.{option_map};
 ghost use Rattle.kt_base.specs.Literals.{same, value_in};
 ghost use Rattle.kt_script.specs.Pieces.{cut};
-ghost use Rattle.kt_script.specs.Outputs.{pieces_in, session_line, numbers_in, outcome_in, outcomes_in, first_from, at_in, first_in, event_at, event_from, event_in, counted, last_numbers, last_in, is_row, IsFormed};
+ghost use Rattle.kt_script.specs.Texts.{session_line};
+ghost use Rattle.kt_script.specs.Outputs.{pieces_in, numbers_in, outcome_in, outcomes_in, first_from, at_in, first_in, event_at, event_from, event_in, counted, last_numbers, last_in, is_row, IsFormed};
 
 use crate::number::read_number;
 use crate::output::LastLine;

@@ -3,7 +3,7 @@
 ghost use Rattle.std.specs.Prelude.{◌≡◌, ◌≤◌, ◌+◌, ◌<◌, ◌++◌, ◌∷◌, [], OnOk, OnErr, length, map, codes};
 ghost use Rattle.std.specs.List.{flat_map};
 ghost use Rattle.std.specs.Fmt.{decimal};
-ghost use Rattle.kt_script.specs.Texts.{line, words, literals, row_text, outcome_word, reply_words, reply_text, session_text, sessions_text, event_line, last_text, output_text};
+ghost use Rattle.kt_script.specs.Texts.{line, words, literals, row_text, outcome_word, line_words, lines_text, told_session, told_sessions, event_line, last_text, seen, output_text};
 
 use crate::lists::{ReplyLists, ShownReply};
 use crate::number::print_number;
@@ -150,10 +150,10 @@ fn print_at(ts: u64, outcomes: &[Outcome], out: &mut Octets) -> Result<(), NoMem
 }
 
 // The first line of a reply.
-fn print_first(reply: &Reply, out: &mut Octets) -> Result<(), NoMemory>
-    ensures ok { OnOk result (out.new ≡ out.old ++ line (words (reply_words reply.now))) }
+fn print_first(shown: &ShownReply, out: &mut Octets) -> Result<(), NoMemory>
+    ensures ok { OnOk result (out.new ≡ out.old ++ line (words (line_words (seen shown.now)))) }
 {
-    match reply {
+    match &shown.reply {
         Reply::At { ts, outcomes } => print_at(*ts, outcomes.as_slice(), out),
         Reply::Rows { t, rows } => print_line(b"rows", &[*t, rows.as_slice().len() as u64], out),
         Reply::Ancient { t, a } => print_line(b"ancient", &[*t, *a], out),
@@ -166,9 +166,9 @@ fn print_first(reply: &Reply, out: &mut Octets) -> Result<(), NoMemory>
 }
 
 fn print_reply(shown: &ShownReply, out: &mut Octets) -> Result<(), NoMemory>
-    ensures ok { OnOk result (out.new ≡ out.old ++ reply_text shown.now) }
+    ensures ok { OnOk result (out.new ≡ out.old ++ lines_text (seen shown.now)) }
 {
-    print_first(&shown.reply, out)?;
+    print_first(shown, out)?;
     match &shown.reply {
         Reply::Rows { rows, .. } => print_rows(shown.kinds.as_slice(), rows.as_slice(), out),
         _ => Ok(()),
@@ -176,7 +176,7 @@ fn print_reply(shown: &ShownReply, out: &mut Octets) -> Result<(), NoMemory>
 }
 
 fn print_replies(replies: &[ShownReply], out: &mut Octets) -> Result<(), NoMemory>
-    ensures ok { OnOk result (out.new ≡ out.old ++ flat_map reply_text replies.now) }
+    ensures ok { OnOk result (out.new ≡ out.old ++ flat_map lines_text (map seen replies.now)) }
 {
     for reply in replies {
         print_reply(reply, out)?;
@@ -185,14 +185,14 @@ fn print_replies(replies: &[ShownReply], out: &mut Octets) -> Result<(), NoMemor
 }
 
 fn print_session(number: u64, replies: &[ShownReply], out: &mut Octets) -> Result<(), NoMemory>
-    ensures ok { OnOk result (out.new ≡ out.old ++ session_text number replies.now) }
+    ensures ok { OnOk result (out.new ≡ out.old ++ told_session number (map seen replies.now)) }
 {
     print_line(b"session", &[number], out)?;
     print_replies(replies, out)
 }
 
 fn print_sessions(sessions: &ReplyLists, out: &mut Octets) -> Result<(), NoMemory>
-    ensures ok { OnOk result (out.new ≡ out.old ++ sessions_text 1 sessions.now) }
+    ensures ok { OnOk result (out.new ≡ out.old ++ told_sessions 1 (map (map seen) sessions.now)) }
 {
     for (at, session) in sessions.as_slice().iter().enumerate() {
         print_session(at as u64 + 1, session.as_slice(), out)?;

@@ -18,3 +18,6 @@ returns-clause-shown c =
     c.of.ensures
     ∙ all_shown_now (λ l. zipped_all (on_table c.args.schema.now) l c.loop-session.rest.rest.items) refl c.args.plan.now c.loop-session.session-index c.loop-session.shown.items _ c.loop-session-test.false c.loop-session.invariant.shown
     ∙ sessions_are (on_table c.args.schema.now) c.args.plan.now c.args.replies.items
+
+pub returns-clause-fit : goal.returns-clause-fit
+returns-clause-fit c = subst (All (All ReplyFits)) (sym c.of.ensures) c.loop-session.invariant.fit

@@ -10,7 +10,7 @@ pub loop-command-preserved : goal.loop-command-preserved
 loop-command-preserved c = record {
   shown = zipped_step (on_table c.args.schema.now) c.args.commands.now c.loop-command.command-index c.command-item.result c.loop-command.rest.rest.items c.next.new.self.rest.items c.next.result c.loop-command.rest.rest.len c.next.new.self.rest.len _ c.loop-command.shown.items c.push.new.self.items _
       c.loop-command-test.true c.command-item.is c.loop-command.rest.rest.ok.0 c.next.new.self.rest.ok.0 c.next.ensures.cases c.in_ok-kinds.ensures c.unwrap_or-reply.ensures c.in_ok-push.ensures.items c.loop-command.invariant.shown;
-  fit = subst (All ReplyFits) (sym c.in_ok-push.ensures.items) (All-push ReplyFits c.loop-command.shown.items _ c.loop-command.invariant.fit c.reply_fits.ensures);
+  fit = subst (All ReplyFits) (sym c.in_ok-push.ensures.items) (All-push ReplyFits c.loop-command.shown.items _ c.loop-command.invariant.fit (c.reply_fits.ensures.numbers, c.reply_fits.ensures.short _));
 }
 
 pub returns-clause-shown : goal.returns-clause-shown

@@ -2,7 +2,7 @@ use Rattle.std.proofs.Common.{[], ◌++◌, ap, ◌∙◌, sym}
 use Rattle.std.specs.Fmt.{decimal}
 use Rattle.std.proofs.lemmas.List.{append-nil}
 use Rattle.kt_base.specs.Literals.{same}
-use Rattle.kt_script.specs.Outputs.{session_line}
+use Rattle.kt_script.specs.Texts.{session_line}
 use Rattle.kt_script.proofs.ToldLines.{not_same}
 use Rattle.kt_script.proofs.out_lines.is_session.Goals as goal
 

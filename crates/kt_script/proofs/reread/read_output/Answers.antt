@@ -1,8 +1,8 @@
 use Rattle.std.proofs.Common.{◌≡◌, ◌++◌, Some, refl, arith}
 use Rattle.std.specs.Prelude.{codes}
 use Rattle.std.specs.List.{flat_map}
-use Rattle.kt_script.specs.Texts.{line, event_line, last_text}
-use Rattle.kt_script.specs.Outputs.{sessions, history, ended, told_sessions, place_of}
+use Rattle.kt_script.specs.Texts.{line, told_sessions, event_line, last_text}
+use Rattle.kt_script.specs.Outputs.{sessions, history, ended, place_of}
 use Rattle.kt_script.proofs.Moves.{then, behind_end}
 use Rattle.kt_script.proofs.Rereads.{sessions_place, ending_place, no_output}
 use Rattle.kt_script.proofs.reread.read_output.Goals as goal

@@ -1,6 +1,7 @@
 use Rattle.std.proofs.Common.{ℕ, suc, ◌-◌, length}
 use Rattle.std.specs.List.{flat_map, AllByRecursion}
-use Rattle.kt_script.specs.Outputs.{sessions, lines_text, LineHolds}
+use Rattle.kt_script.specs.Texts.{lines_text}
+use Rattle.kt_script.specs.Outputs.{sessions, LineHolds}
 use Rattle.kt_script.specs.Reread.{Moves}
 use Rattle.kt_script.proofs.reread.read_replies.Given as goal
 

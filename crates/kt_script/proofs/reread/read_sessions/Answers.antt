@@ -2,7 +2,8 @@ use Rattle.std.proofs.Common.{◌≡◌, ◌+◌, suc, true, false, [], ◌∷�
 use Rattle.std.specs.Prelude.{codes}
 use Rattle.std.specs.List.{flat_map, AllByRecursion}
 use Rattle.kt_base.specs.Literals.{same}
-use Rattle.kt_script.specs.Outputs.{sessions, session_line, lines_text, LineHolds}
+use Rattle.kt_script.specs.Texts.{session_line, lines_text}
+use Rattle.kt_script.specs.Outputs.{sessions, LineHolds}
 use Rattle.kt_base.proofs.Decimals.{same_text}
 use Rattle.kt_script.proofs.Rereads.{session_more, history_first, neither_refused, replies_err, all_more, how_far}
 use Rattle.kt_script.proofs.reread.read_sessions.Goals as goal

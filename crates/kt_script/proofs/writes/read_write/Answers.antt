@@ -2,7 +2,7 @@ use Rattle.std.proofs.Common.{◌≡◌, ℕ, ◌<◌, ◌≤◌, ◌∙◌, min
 use Rattle.std.specs.Prelude.{◌⊎◌}
 use Rattle.kt_history.specs.declared.operation.RowOp.{RowOp}
 use Rattle.kt_script.specs.Pieces.{words_in}
-use Rattle.kt_script.specs.Reasons.{reason_if}
+use Rattle.kt_script.specs.Reasons.{sound, reason_if}
 use Rattle.kt_script.specs.Writes.{ops_of, ops_no, many_no, twice}
 use Rattle.kt_script.proofs.OpWords.{write_least}
 use Rattle.kt_script.proofs.writes.read_write.Goals.{then-reason-gt18, else-reason-gt18}
@@ -32,9 +32,9 @@ returns c =
     ] in
     let whole = ops_of (words_in c.args.line) in
     let least = c.in-Ok.ensures.least ∙ ap (λ k. min k (min (ops_no c.args.schema.now whole) (many_no 0 whole))) c.none-no.ensures in
-    let none : m ≡ 21 = omega (arith, c.if-reason-lt-SOUND.false, c.reason-2.ensures.value, c.reason-2.ensures.bound) in
+    let none : m ≡ sound = omega (arith, c.if-reason-lt-SOUND.false, c.reason-2.ensures.value, c.reason-2.ensures.bound) in
     (write_least c.args.schema.now (words_in c.args.line) ops n m least c.in-Ok.ensures.ops last ∙ none, c.of.ensures ∙ c.in-Ok.ensures.ops (late n m last none))
   where
-    late : (n m : ℕ) {t : ℕ} → ((18 < n) × (m ≡ t)) ⊎ ((n ≤ 18) × (m ≡ n)) → m ≡ 21 → 18 < n
+    late : (n m : ℕ) {t : ℕ} → ((18 < n) × (m ≡ t)) ⊎ ((n ≤ 18) × (m ≡ n)) → m ≡ sound → 18 < n
     late n m (inl h) e = h.0
     late n m (inr h) e = absurd (omega arith)
