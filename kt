@@ -35,7 +35,7 @@ build() {
     local log begun
     is_built && return
     log=$(mktemp) && begun=$(date +%s.%N) && cd "$top/crates/kt_main" || exit 70
-    echo "kt: proving and building takes an hour of processor time where nothing is proved yet, half an hour on four processors; $log tells how far it is" >&2
+    echo "kt: proving and building takes an hour and a quarter of processor time where nothing is proved yet, half an hour on four idle processors; $log tells how far it is" >&2
     if ! rt run -- memory run <stdin >"$log" 2>&1; then
         tail -n 30 "$log" >&2
         exit 70
