@@ -74,6 +74,16 @@ fn place_in(alloc: Global, bytes: &[u8]) -> Result<Option<u64>, Fail> {
     }
 }
 
+// The same of the first superblock with another byte at a place.
+fn place_with(alloc: Global, at: usize, byte: u8) -> Result<Option<u64>, Fail> {
+    let mut bytes = FIRST;
+    match bytes.get_mut(at) {
+        Some(old) => *old = byte,
+        None => return Err("no such byte".into()),
+    }
+    place_in(alloc, &bytes)
+}
+
 #[test]
 fn a_slot_tells_the_place_of_its_first_fault(rt: HostRuntime) -> Result<(), Fail> {
     let alloc = rt.alloc();
@@ -95,9 +105,7 @@ fn a_slot_tells_the_place_of_its_first_fault(rt: HostRuntime) -> Result<(), Fail
         (73, 3, 73), // a key that takes null
     ];
     for (at, byte, place) in table {
-        let mut bytes = FIRST;
-        bytes[at] = byte;
-        assert_eq!(rt; place_in(alloc, &bytes)?, Some(place), "at {at}");
+        assert_eq!(rt; place_with(alloc, at, byte)?, Some(place), "at {at}");
     }
     Ok(())
 }
