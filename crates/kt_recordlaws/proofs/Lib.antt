@@ -1,0 +1,5 @@
+pub mod Formats
+pub mod Leaves
+pub mod Joins
+pub mod Whole
+pub mod Cells
