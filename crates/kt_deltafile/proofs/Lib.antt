@@ -1,2 +1,4 @@
-pub mod Files
 pub mod Sorted
+pub mod Rooms
+pub mod Parts
+pub mod Files

@@ -49,7 +49,7 @@ ts-take [] (suc n) k lt = refl
 ts-take (d ∷ list) (suc n) zero lt = refl
 ts-take (d ∷ list) (suc n) (suc k) lt = ts-take list n k (omega arith)
 
-both_left : (a b : Bool) → (a && b) ≡ true → a ≡ true
+pub both_left : (a b : Bool) → (a && b) ≡ true → a ≡ true
 both_left true b e = refl
 both_left false b e = absurd cc
 
@@ -57,7 +57,7 @@ other_one : (a b : Bool) → a ≡ false → (a || b) ≡ true → b ≡ true
 other_one a b is e = sym (ap (λ (a : Bool). a || b) is) ∙ e
 
 -- what may follow stands behind the last record
-follows_last : (way : Way) (rows n o t p u : ℕ) → 0 < n → (leb o p && ltb p rows) ≡ true → (eqb n 0 || (not (eqb o p) || in_order way t u)) ≡ true → Behind way o t p u
+pub follows_last : (way : Way) (rows n o t p u : ℕ) → 0 < n → (leb o p && ltb p rows) ≡ true → (eqb n 0 || (not (eqb o p) || in_order way t u)) ≡ true → Behind way o t p u
 follows_last way rows n o t p u some comes follows =
     let le : o ≤ p = leb-true o p (both_left (leb o p) (ltb p rows) comes) in
     elim (cases_lt o p) [
@@ -119,10 +119,10 @@ ordinals_rise way rows list each i j le lt = elim (cases_lt i j) [
 
 -- ---- more rows
 
-both : (a b : Bool) → a ≡ true → b ≡ true → (a && b) ≡ true
+pub both : (a b : Bool) → a ≡ true → b ≡ true → (a && b) ≡ true
 both a b p q = ap (λ (a : Bool). a && b) p ∙ q
 
-both_right : (a b : Bool) → (a && b) ≡ true → b ≡ true
+pub both_right : (a b : Bool) → (a && b) ≡ true → b ≡ true
 both_right true b e = e
 both_right false b e = absurd cc
 
@@ -153,7 +153,7 @@ last_ordinal_is list d some is = ap (λ (e : Delta). e.ordinal) is ∙ sym (ordi
 pub last_ts_is : (list : List Delta) (d : Delta) → 1 ≤ length list → d ≡ get_or list (length list - 1) d → d.ts ≡ last_ts list
 last_ts_is list d some is = ap (λ (e : Delta). e.ts) is ∙ sym (ts_is list (length list - 1) d (omega arith))
 
-some_none : (n : ℕ) → 1 ≤ n → eqb n 0 ≡ false
+pub some_none : (n : ℕ) → 1 ≤ n → eqb n 0 ≡ false
 some_none n some = ne_eqb n 0 (λ e. omega (arith, e, some))
 
 -- another row's record may have any timestamp

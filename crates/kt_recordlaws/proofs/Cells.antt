@@ -1,22 +1,22 @@
 -- Cells and lists of cells as parts of a format.
 use Rattle.std.proofs.Common.{◌≡◌, ℕ, zero, suc, ◌+◌, ◌-◌, ◌^◌, ◌<◌, ◌≤◌, Bool, true, false, List, [], ◌∷◌, ◌++◌, length, Option, Some, None, Result, Ok, refl, sym, ap, arith}
 use Rattle.std.specs.Prelude.{ℤ}
-use Rattle.std.specs.List.{flat_map}
+use Rattle.std.specs.List.{concat, flat_map}
 use Rattle.std.specs.Int.{w16, w32, w64, to_le_bytes, cast_signed, cast_unsigned}
-use Rattle.std.proofs.lemmas.List.{length_push}
+use Rattle.std.proofs.lemmas.List.{append-nil, length_push}
 use Rattle.std.proofs.lemmas.Bool.{le-leb}
 use Rattle.std.proofs.Math.Facts.{to_z-of_z, of_z-to_z, Fits-of_z, sfits_to_z, Fits-of_lt, Fits-lt-pow}
 use Rattle.kt_base.specs.declared.cell.Cell.{Cell}
 use Rattle.kt_base.specs.declared.cell.Cell.TheVariants as cells
 use Rattle.kt_bytes.specs.Reading.{◌>>=◌, number_at, checked_at, bytes_at, counted_at, many_at}
 use Rattle.kt_bytes.proofs.Numbers.{wide16, wide32, wide64}
-use Rattle.kt_records.specs.Spelling.{flag}
+use Rattle.kt_records.specs.Spelling.{flag, cell, listed_cell, cell_list}
 use Rattle.kt_records.specs.Rules.{EachAfter, CellFits, next_id, FollowingCell}
 use Rattle.kt_records.specs.Reading.{flag_at, cell_at}
 use Rattle.kt_recordlaws.specs.Cells.{cell_fields, listed_cell_fields, cell_list_fields, is_next_id, next_cell_at, rising_cells_at}
 use Rattle.kt_recordlaws.proofs.Formats.{Part}
 use Rattle.kt_recordlaws.proofs.Leaves.{same_reader, Passes, number_fields, number_part, any_number, IsText, any_text, text_fields, byte_at_front, code_fields, code_part}
-use Rattle.kt_recordlaws.proofs.Joins.{both_part, same_part, made_at, made_part, made_as, given_part, many_part}
+use Rattle.kt_recordlaws.proofs.Joins.{both_part, same_part, made_at, made_part, made_as, given_part, many_part, concat_items}
 
 -- ---- bytes behind their count
 
@@ -287,3 +287,17 @@ rising_cells_part =
     (λ cells f. record { count = f.0.1; each = f.1.1 }) (λ cells f. ((refl, f.count), (refl, f.each))) (λ cells f. refl)
     (both_part (number_at w16) (number_fields w16) (Passes (λ n. true) (2 ^ 16)) (λ n. many_at (next_cell_at n) n []) (flat_map listed_cell_fields) RisingCells (λ cells. length cells) (λ n cells f. f.0)
     (any_number w16 (2 ^ 16) wide16 (omega arith) (omega arith)) (λ n f. counted_cells_part n f.1))
+
+-- ---- their bytes
+
+pub cell_spelled : (c : Cell) → concat (cell_fields c) ≡ cell c
+cell_spelled cells.Null = refl
+cell_spelled (cells.Bool b) = refl
+cell_spelled (cells.Int n) = refl
+cell_spelled (cells.Bytes text) = ap (λ (l : List ℕ). 3 ∷ (to_le_bytes w32 (length text) ++ l)) (append-nil text)
+
+pub listed_cell_spelled : (c : ℕ × Cell) → concat (listed_cell_fields c) ≡ listed_cell c
+listed_cell_spelled c = ap (λ (l : List ℕ). to_le_bytes w16 c.0 ++ l) (cell_spelled c.1)
+
+pub cell_list_spelled : (cells : List (ℕ × Cell)) → concat (cell_list_fields cells) ≡ cell_list cells
+cell_list_spelled cells = ap (λ (l : List ℕ). to_le_bytes w16 (length cells) ++ l) (concat_items listed_cell_fields listed_cell listed_cell_spelled cells)

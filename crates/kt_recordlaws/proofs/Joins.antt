@@ -315,3 +315,13 @@ module _ {X : Type 0} (item : List X → List ℕ → Result (X × List ℕ) ℕ
     -- so many items, none in front
     pub many_part : (n : ℕ) → Left n [] → Part (many_at item n []) (flat_map fields) (AreItems n [])
     many_part n left = same_reader (items_at n []) (many_at item n []) (flat_map fields) (AreItems n []) (λ bytes. many_is n [] bytes ∙ sym (bind_same (items_at n [] bytes))) (items_part n [] left)
+
+-- ---- the bytes of items
+
+-- the bytes of the fields of items are those of each, one behind the other
+pub concat_items : {X : Type 0} (fields : X → List (List ℕ)) (spelled : X → List ℕ) → ((x : X) → concat (fields x) ≡ spelled x) → (xs : List X) → concat (flat_map fields xs) ≡ flat_map spelled xs
+concat_items fields spelled one [] = refl
+concat_items fields spelled one (x ∷ xs) =
+    ap concat (flat_map-cons fields x xs) ∙ concat-append (fields x) (flat_map fields xs)
+    ∙ ap (λ (l : List ℕ). l ++ concat (flat_map fields xs)) (one x) ∙ ap (λ (l : List ℕ). spelled x ++ l) (concat_items fields spelled one xs)
+    ∙ sym (flat_map-cons spelled x xs)
