@@ -218,7 +218,7 @@ module _ (n : ℕ) (bad : List ℕ → Bool) where
       let known : Known text_fields (IsText n bad) = record { value = text; fits = (ok, len); bytes = one_bytes text fits } in
       record { took = text_took; again = text_reads; some = known; fails = text_fails known; tells = λ Next next. one_field_tells (λ t. t) (IsText n bad) Next n (λ t f. f.1) (λ t u f g e. e) next }
 
-zero_bytes : (n : ℕ) → IsBytes (replicate n 0)
+pub zero_bytes : (n : ℕ) → IsBytes (replicate n 0)
 zero_bytes zero i = omega arith
 zero_bytes (suc n) zero = omega arith
 zero_bytes (suc n) (suc i) = zero_bytes n i

@@ -1,2 +1,4 @@
 pub mod Fields
 pub mod Cells
+pub mod Records
+pub mod Laws
