@@ -1,0 +1,6 @@
+pub mod Steps
+pub mod Allowed
+pub mod Lines
+pub mod Sitting
+pub mod Taken
+pub mod Walked
