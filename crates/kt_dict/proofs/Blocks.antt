@@ -130,6 +130,8 @@ pub record Whole (n : ℕ) (bytes : List ℕ) (entries : List (List ℕ)) (codes
   pub spells : Spells bytes n (items_of entries codes)
   pub count : length codes ≡ n
   pub within : AllByRecursion (λ c. c < length entries) codes
+  pub first_use : dictionary (items_of entries codes) ≡ entries
+  pub most : length entries ≤ 4096
   pub short : AllByRecursion (λ x. length x < 2 ^ 32) entries
 
 ended : {A : Type 0} (a : A) (rest : List ℕ) (x : A) → cond (eqb (length rest) 0) (Ok a) (Err (length rest)) ≡ Ok x → (rest ≡ []) × (a ≡ x)
@@ -169,6 +171,8 @@ block_takes n bytes x fits e =
       };
       count = count;
       within = subst (AllByRecursion (λ c. c < length known)) all s.within;
+      first_use = dict;
+      most = omega (arith, c.few, size);
       short = r.good.each;
     })
   where
@@ -196,7 +200,7 @@ block_again items fits bytes =
 
 -- what was read can be held
 pub held : (n : ℕ) (bytes : List ℕ) (entries : List (List ℕ)) (codes : List ℕ) → n < 2 ^ 32 → Whole n bytes entries codes → IsHeld entries codes
-held n bytes entries codes lt w = record { few = omega (arith, w.count); within = each_below (length entries) codes w.within; short = w.short }
+held n bytes entries codes lt w = record { few = omega (arith, w.count); within = each_below (length entries) codes w.within; first_use = w.first_use; most = w.most; short = w.short }
   where
     each_below : (d : ℕ) (cs : List ℕ) → AllByRecursion (λ c. c < d) cs → (i : ℕ) → i < length cs → get_or cs i 0 < d
     each_below d [] all i lt = absurd (omega arith)

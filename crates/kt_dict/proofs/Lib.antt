@@ -7,3 +7,5 @@ pub mod Blocks
 pub mod Faults
 pub mod Loop
 pub mod Sums
+pub mod Held
+pub mod Owned

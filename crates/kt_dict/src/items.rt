@@ -1,9 +1,12 @@
 //! The cells of a block as it stands on disk: its entries, each once, and a code for each cell.
 
-ghost use Rattle.std.specs.Prelude.{◌≡◌, ◌<◌, ◌==◌, [], length, get_or, sum_by};
+ghost use Rattle.std.specs.Prelude.{◌≡◌, ◌<◌, ◌==◌, [], length, get_or, sum_by, IfOk};
 ghost use Rattle.kt_dict.specs.Items.{IsHeld, items_of};
+ghost use Rattle.kt_dict.specs.Spelling.{Fits, spelling};
 
-use kt_bytes::Texts;
+use crate::writing::{put_places, put_short, put_texts};
+use kt_bytes::{NoMemory, Octets, Texts};
+use std::alloc::Global;
 use std::marker::Model;
 
 /// An item of a list, where it lies.
@@ -65,6 +68,24 @@ impl Items {
             sum += self.entries.get(*code as usize).len();
         }
         sum
+    }
+
+    /// How many bytes the spelling of the list takes.
+    pub fn spelled_len(&self) -> usize
+        ensures { result ≡ length (spelling self.now) }
+    {
+        2 + (4 * self.entries.len() + self.entries.byte_len()) + 2 * self.codes.len()
+    }
+
+    /// The one spelling of the list.
+    pub fn spell(&self, alloc: Global) -> Result<Octets, NoMemory>
+        ensures { IfOk result (λ bytes. (bytes ≡ spelling self.now) × Fits self.now) }
+    {
+        let mut out = Vec::with_capacity(alloc, self.spelled_len())?;
+        put_short(&mut out, self.entries.len())?;
+        put_texts(&mut out, &self.entries)?;
+        put_places(&mut out, &self.codes)?;
+        Ok(Octets::of(out))
     }
 }
 

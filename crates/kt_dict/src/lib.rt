@@ -4,9 +4,11 @@
 //! `encode` writes the one spelling of a list of byte strings with at most 4,096 different ones, and
 //! `decode` answers that list exactly where the bytes spell it, and otherwise the first place at
 //! which they don't. A list that was read is held as it stands on disk, each entry once and a code
-//! for each cell, and `get` hands out an item where its entry lies.
+//! for each cell, and `get` hands out an item where its entry lies. `Entries` tells how long the block of
+//! a list would be whose items are gone over one by one.
 #![tactic(auto)]
 
+mod entries;
 mod error;
 mod items;
 mod laws;
@@ -14,6 +16,7 @@ mod reading;
 mod table;
 mod writing;
 
+pub use entries::Entries;
 pub use error::{CodecNo, Width};
 pub use items::{Item, Items, get};
 pub use kt_bytes::{NoMemory, Octets, Texts};

@@ -1,7 +1,7 @@
 //! From a list to its block.
 
 ghost use Rattle.std.specs.Prelude.{◌≡◌, ◌<◌, ◌≤◌, ◌^◌, ◌++◌, length, map, sum_by, OnOk, IfOk, IfErr, MatchOption};
-ghost use Rattle.std.specs.List.{All, flat_map};
+ghost use Rattle.std.specs.List.{All, AllByRecursion, flat_map};
 ghost use Rattle.kt_dict.specs.Spelling.{code, dictionary, short, spelling, Fits};
 ghost use Rattle.kt_dict.specs.Writing.{text, IsRefusal};
 
@@ -34,7 +34,7 @@ fn put_entry(out: &mut Vec<u8>, bytes: &[u8]) -> Result<(), AllocError>
 }
 
 #[tactic(auto, unfolding(crate::specs::Spelling::short))]
-fn put_short(out: &mut Vec<u8>, n: usize) -> Result<(), AllocError>
+pub(crate) fn put_short(out: &mut Vec<u8>, n: usize) -> Result<(), AllocError>
     requires { n < 2 ^ 16 }
     ensures { OnOk result (out.new.items ≡ out.old.items ++ short n) }
 {
@@ -48,6 +48,27 @@ fn put_entries(out: &mut Vec<u8>, entries: &[&[u8]]) -> Result<(), AllocError>
 {
     for bytes in entries {
         put_entry(out, bytes)?;
+    }
+    Ok(())
+}
+
+/// The entries of a list that is held.
+pub(crate) fn put_texts(out: &mut Vec<u8>, entries: &Texts) -> Result<(), AllocError>
+    requires { AllByRecursion (λ x. length x < 2 ^ 32) entries.now }
+    ensures { OnOk result (out.new.items ≡ out.old.items ++ flat_map text entries.now) }
+{
+    for i in 0..entries.len() {
+        put_entry(out, entries.get(i))?;
+    }
+    Ok(())
+}
+
+/// The codes of a list that is held.
+pub(crate) fn put_places(out: &mut Vec<u8>, codes: &[u16]) -> Result<(), AllocError>
+    ensures { OnOk result (out.new.items ≡ out.old.items ++ flat_map short codes.now) }
+{
+    for code in codes {
+        put_short(out, *code as usize)?;
     }
     Ok(())
 }

@@ -2,6 +2,7 @@
 
 ghost use Rattle.std.specs.Prelude.{◌≡◌, ◌<◌, ◌^◌, ◌==◌, [], length, get_or, sum_by, OnOk, IfOk};
 ghost use Rattle.kt_front.specs.Items.{IsHeld, StandsIn, items_in, item_in};
+ghost use Rattle.kt_front.specs.Spelling.{Fits, spelling};
 ghost use Rattle.kt_front.specs.Walking.{order};
 
 use crate::prefix::STRETCH;
@@ -73,6 +74,14 @@ impl Items {
         ensures { result ≡ (length self.now == 0) }
     {
         self.len() == 0
+    }
+
+    /// The block as it stands: the one spelling of the list.
+    pub fn as_bytes(&self) -> &[u8]
+        ensures spelled { result.now ≡ spelling self.now }
+        ensures fits { Fits self.now }
+    {
+        self.bytes.as_slice()
     }
 
     /// The item at this place.
