@@ -1,6 +1,7 @@
 -- A fault stands within the bytes.
 use Rattle.std.proofs.Common.{◌≡◌, ◌≤◌, ◌<◌, ◌+◌, ◌-◌, ◌^◌, inl, inr, ℕ, List, length, drop, arith, refl, sym, subst}
-use Rattle.std.proofs.lemmas.List.{length-drop}
+use Rattle.std.proofs.lemmas.Bool.{cases_lt}
+use Rattle.std.proofs.lemmas.List.{length-drop, take_all}
 use Rattle.kt_plain.specs.declared.widths.Width.{Width}
 use Rattle.kt_plain.specs.Spelling as plain
 use Rattle.kt_plain.specs.declared.widths.NumberWidth.{NumberWidth as RunWidth}
@@ -26,7 +27,7 @@ use Rattle.kt_base.specs.declared.cell.Cell.{Cell}
 use Rattle.kt_column.specs.Forms.{is_nullable, code}
 use Rattle.kt_column.specs.Nulls.{byte_len, null_bytes}
 use Rattle.kt_column.specs.Blocks.{nulls_in}
-use Rattle.kt_column.specs.Faults.{IsShiftable, IsFrontStop, IsContentStop, IsHead, IsHeadFault, IsBody, IsBodyStop, IsFound, IsBodyFault, IsBlockStop, shifted, value_count}
+use Rattle.kt_column.specs.Faults.{IsShiftable, IsFrontStop, IsContentStop, IsHead, IsHeadFault, IsBody, IsBodyStop, IsFound, IsBodyFault, IsBlockStop, IsWrongLength, IsTooLong, ReadsContent, shifted, value_count}
 
 -- a first fault stands within the bytes
 place_within : (S : List (List ℕ) → Type 0) (bytes : List ℕ) (place : ℕ) → IsFault S bytes place → place ≤ length bytes
@@ -69,20 +70,6 @@ front_within : (nullable : Bool) (n : ℕ) (part : List ℕ) (at : ℕ) → IsFr
 front_within true n part at (inl h) = omega (arith, h.1)
 front_within true n part at (inr h) = omega (arith, h.0, h.1, h.2)
 front_within false n part at h = elim h [ ]
-
-five : (form : Form) (e : Encoding) (n k : ℕ) (part : List ℕ) (stop behind : Stop) → stop ≡ shifted k behind → k ≤ length part → 5 + length part < 2 ^ 64 → IsStop form e n (drop k part) behind → IsShiftable 5 stop
-five form e n k part stop Memory is le room why = subst (IsShiftable 5) (sym is) tt
-five form e n k part stop (Fault at) is le room why = subst (IsShiftable 5) (sym is) (let within = fault_within (width form) e n (drop k part) at why in omega (arith, within, length-drop k part))
-five form e n k part stop Whole is le room why = subst (IsShiftable 5) (sym is) tt
-
-five_front : (nullable : Bool) (n : ℕ) (part : List ℕ) (stop : Stop) → 5 + length part < 2 ^ 64 → IsFrontStop nullable n part stop → IsShiftable 5 stop
-five_front nullable n part Memory room h = tt
-five_front nullable n part (Fault at) room h = (let within = front_within nullable n part at h in omega (arith, within))
-five_front nullable n part Whole room h = tt
-
-pub five_more : (form : Form) (e : Encoding) (n : ℕ) (part : List ℕ) (stop : Stop) → 5 + length part < 2 ^ 64 → IsContentStop form e n part stop → IsShiftable 5 stop
-five_more form e n part stop room (inl h) = five_front (is_nullable form) n part stop room h
-five_more form e n part stop room (inr h) = five form e (value_count (is_nullable form) n h.nulls) (byte_len (length h.nulls)) part stop h.behind h.place h.front.within room h.why
 
 -- the bytes of a block that was read
 
@@ -135,22 +122,13 @@ values_within form e n k at part (Fault i) is le why =
     omega (arith, place, within, length-drop k part)
 values_within form e n k at part Whole is le why = absurd (cc)
 
-content_within : (form : Form) (e : Encoding) (n : ℕ) (part : List ℕ) (at : ℕ) → IsContentStop form e n part (Fault at) → at ≤ length part
+pub content_within : (form : Form) (e : Encoding) (n : ℕ) (part : List ℕ) (at : ℕ) → IsContentStop form e n part (Fault at) → at ≤ length part
 content_within form e n part at (inl h) = front_within (is_nullable form) n part at h
 content_within form e n part at (inr h) = values_within form e (value_count (is_nullable form) n h.nulls) (byte_len (length h.nulls)) at part h.behind h.place h.front.within h.why
 
-behind_head : (form : Form) (e : Encoding) (n at : ℕ) (part : List ℕ) (behind : Stop) → Fault at ≡ shifted 5 behind → IsContentStop form e n part behind → at ≤ 5 + length part
-behind_head form e n at part Memory is why = absurd (cc)
-behind_head form e n at part (Fault i) is why =
-    let place : at ≡ 5 + i = cc in
-    let within = content_within form e n part i why in
-    omega (arith, place, within)
-behind_head form e n at part Whole is why = absurd (cc)
-
 body_within : (form : Form) (e : Encoding) (n len : ℕ) (rest : List ℕ) (at : ℕ) → IsBodyStop form e n len rest (Fault at) → at ≤ 5 + length rest
-body_within form e n len rest at (inl h) = (let within = behind_head form e n at (take len rest) h.0 h.2 h.1 in omega (arith, within, length-take len rest))
-body_within form e n len rest at (inr (inl h)) = (let place : at ≡ 5 + length rest = cc in omega (arith, place))
-body_within form e n len rest at (inr (inr h)) = absurd (cc)
+body_within form e n len rest at (inl h) = (let within = content_within form e n rest h.0 h.1.fault in omega (arith, within, h.2))
+body_within form e n len rest at (inr h) = omega (arith, h.1)
 
 pub block_within : (form : Form) (n : ℕ) (bytes : List ℕ) (at : ℕ) → IsBlockStop form n bytes (Fault at) → at ≤ length bytes
 block_within form n bytes at (inl h) = head_within form bytes at h
@@ -159,3 +137,31 @@ block_within form n bytes at (inr h) =
     let four : length (to_le_bytes w32 h.len) ≡ 4 = refl in
     let whole : length bytes ≡ 5 + length h.rest = ap length h.front.parts ∙ omega (arith, length-append (to_le_bytes w32 h.len) h.rest, four) in
     omega (arith, whole, within)
+
+-- ---- a length that disagrees
+
+-- all of the bytes are the content, and they are not so many
+pub all_content : (form : Form) (e : Encoding) (n len : ℕ) (rest : List ℕ) (cs : List Cell) → ReadsContent form e n rest cs → (length rest ≡ len → ⊥) → IsWrongLength form e n len rest
+all_content form e n len rest cs r other = record { cells = cs; used = length rest; within = omega arith; content = subst (λ p. ReadsContent form e n p cs) (sym (take_all (length rest) rest (omega arith))) r; differs = other }
+
+-- the content is of another length than the one at which none stands
+pub other_content : (form : Form) (e : Encoding) (n len used : ℕ) (rest : List ℕ) (cs : List Cell) → used ≤ length rest → ReadsContent form e n (take used rest) cs → ((ds : List Cell) → ReadsContent form e n (take len rest) ds → ⊥) → IsWrongLength form e n len rest
+other_content form e n len used rest cs within r none = record { cells = cs; used = used; within = within; content = r; differs = λ same. none cs (subst (λ k. ReadsContent form e n (take k rest) cs) same r) }
+
+pub not_all : (form : Form) (e : Encoding) (n len : ℕ) (rest : List ℕ) (cs : List Cell) → ReadsContent form e n rest cs → ((ds : List Cell) → ReadsContent form e n (take len rest) ds → ⊥) → length rest ≡ len → ⊥
+not_all form e n len rest cs r none same = none cs (subst (λ p. ReadsContent form e n p cs) (sym (take_all len rest (omega (arith, same)))) r)
+
+-- a byte list is too long
+pub too_long : (form : Form) (e : Encoding) (n len : ℕ) (rest : List ℕ) → IsContentStop form e n (take len rest) Whole → IsTooLong form e n rest
+too_long form e n len rest long =
+    elim (cases_lt (length rest) len) [
+      | inl less ↦ record { used = length rest; within = omega arith; long = subst (λ p. IsContentStop form e n p Whole) (take_all len rest (omega (arith, less)) ∙ sym (take_all (length rest) rest (omega arith))) long }
+      | inr ge ↦ record { used = len; within = ge; long = long }
+    ]
+
+pub all_too_long : (form : Form) (e : Encoding) (n : ℕ) (rest : List ℕ) → IsContentStop form e n rest Whole → IsTooLong form e n rest
+all_too_long form e n rest long = record { used = length rest; within = omega arith; long = subst (λ p. IsContentStop form e n p Whole) (sym (take_all (length rest) rest (omega arith))) long }
+
+-- the bytes are fewer than the length tells, and all of them are the content
+pub short_content : (form : Form) (e : Encoding) (n len : ℕ) (rest : List ℕ) (cs : List Cell) → length rest < len → ReadsContent form e n (take len rest) cs → IsWrongLength form e n len rest
+short_content form e n len rest cs lt r = all_content form e n len rest cs (subst (λ p. ReadsContent form e n p cs) (take_all len rest (omega (arith, lt))) r) (λ same. omega (arith, same, lt))

@@ -5,6 +5,8 @@ pub mod Lists
 pub mod Readings
 pub mod NullBits
 pub mod Weaving
+pub mod HeldValues
+pub mod ShortestHeld
 pub mod Contents
 pub mod Faulty
 pub mod Heads

@@ -18,9 +18,7 @@ use Rattle.kt_column.specs.declared.form.Form.TheVariants.{Cells, Keys}
 use Rattle.kt_column.specs.declared.form.Encoding.TheVariants.{RunLength, Dictionary, Prefix}
 use Rattle.kt_column.specs.Forms.{width, limit, IsNumeric, IsInWidth}
 use Rattle.kt_column.specs.Values.{run_width, AreValues}
-use Rattle.kt_column.specs.declared.errors.Stop.{Stop}
-use Rattle.kt_column.specs.declared.errors.Stop.TheVariants.{Memory, Fault, Whole}
-use Rattle.kt_column.specs.Reading.{Reads, IsLong, IsStop}
+use Rattle.kt_column.specs.Reading.{Reads, HasLong}
 use Rattle.kt_column.proofs.Widths.{sum_of_concat, numbers_fit_in, texts_fit_in}
 
 in_plain_width : (w : Width) (z : ℤ) → IsNumeric w → run_length.IsInWidth (run_width w) z → IsInWidth w z
@@ -63,12 +61,8 @@ dictionary_read form n bytes ts w few s short = record { values = are_values for
 pub prefix_read : (form : Form) (n : ℕ) (bytes : List ℕ) (ts : List (List ℕ)) → width form ≡ widths.Bytes → n ≤ 8192 → prefix.Spells bytes n ts → All (λ t. length t ≤ limit form) ts → Reads form Prefix n bytes (Texts ts)
 prefix_read form n bytes ts w few s short = record { values = are_values form ts w (omega (arith, s.count)) short; counted = s.count; encoded = (s.fits, s.parts) }
 
-pub dictionary_stop : (form : Form) (n : ℕ) (bytes : List ℕ) (ts : List (List ℕ)) (stop : Stop) → dictionary.Spells bytes n ts → IsLong (limit form) ts stop → IsStop form Dictionary n bytes stop
-dictionary_stop form n bytes ts Memory s long = tt
-dictionary_stop form n bytes ts (Fault at) s long = elim long [ ]
-dictionary_stop form n bytes ts Whole s long = record { items = Texts ts; counted = s.count; encoded = (s.fits, s.parts); long = long }
+pub dictionary_long : (form : Form) (n : ℕ) (bytes : List ℕ) (ts : List (List ℕ)) → dictionary.Spells bytes n ts → ¬ All (λ t. length t ≤ limit form) ts → HasLong form Dictionary n bytes
+dictionary_long form n bytes ts s long = record { items = Texts ts; counted = s.count; encoded = (s.fits, s.parts); long = long }
 
-pub prefix_stop : (form : Form) (n : ℕ) (bytes : List ℕ) (ts : List (List ℕ)) (stop : Stop) → prefix.Spells bytes n ts → IsLong (limit form) ts stop → IsStop form Prefix n bytes stop
-prefix_stop form n bytes ts Memory s long = tt
-prefix_stop form n bytes ts (Fault at) s long = elim long [ ]
-prefix_stop form n bytes ts Whole s long = record { items = Texts ts; counted = s.count; encoded = (s.fits, s.parts); long = long }
+pub prefix_long : (form : Form) (n : ℕ) (bytes : List ℕ) (ts : List (List ℕ)) → prefix.Spells bytes n ts → ¬ All (λ t. length t ≤ limit form) ts → HasLong form Prefix n bytes
+prefix_long form n bytes ts s long = record { items = Texts ts; counted = s.count; encoded = (s.fits, s.parts); long = long }

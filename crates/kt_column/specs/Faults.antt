@@ -1,9 +1,10 @@
 -- The first fault of bytes that begin with no block's spelling. A block is read from left to right:
 -- its encoding, its length, which cells are null, the values. A field is at fault at its first byte.
--- What the length says is read on its own, so bytes that its values lack or leave are a fault where
--- they end. Where bytes are missing, the place is the length. The rules on a block as a whole, that
--- its encoding is the shortest and that no byte list is too long, are rules on its first field, the
--- encoding: they are checked last, and then it is at fault.
+-- The nulls and the values tell themselves where they end, so they are read whatever the length says;
+-- a length that disagrees with them is at fault itself. Where bytes are missing, the place is the
+-- length of the input. The rules on a block as a whole, that its encoding is the shortest and that no
+-- byte list is too long, are rules on its first field, the encoding: they are checked last, and then it
+-- is at fault.
 use Rattle.std.specs.Prelude.{◌≡◌, ◌≢◌, ◌≤◌, ◌<◌, ◌+◌, ◌^◌, ◌⊎◌, ℕ, Bool, true, false, List, [], ◌∷◌, ◌++◌, length, take, drop, slice_index}
 use Rattle.std.specs.Int.{w32, to_le_bytes}
 use Rattle.kt_base.specs.declared.cell.Cell.{Cell}
@@ -91,10 +92,6 @@ IsShiftable k Memory = Unit {0}
 IsShiftable k (Fault at) = k + at < 2 ^ 64
 IsShiftable k Whole = Unit {0}
 
--- the content of a block with this length, as far as it is there
-abbrev pub there : ℕ → List ℕ → List ℕ
-there len rest = take len rest
-
 -- what is behind the first fields of these cells' block
 pub record IsBody (form : Form) (encoding : Encoding) (n len : ℕ) (rest : List ℕ) (cs : List Cell) : Type 0 where
   pub within : len ≤ length rest
@@ -107,13 +104,32 @@ pub record IsLonger (form : Form) (encoding : Encoding) (n : ℕ) (part : List �
   pub content : ReadsContent form encoding n part cs
   pub longer : (values : List ℕ) → ¬ IsShortest form (values_in form cs) encoding values
 
--- the fault of a block behind its first fields: of its content, of bytes that are missing, or of the
--- block as a whole
+-- a fault of the nulls or the values, where what stands before it is not all of them
+pub record IsContentFault (form : Form) (encoding : Encoding) (n : ℕ) (rest : List ℕ) (at : ℕ) : Type 0 where
+  pub fault : IsContentStop form encoding n rest (Fault at)
+  pub open_ : (cs : List Cell) → ¬ ReadsContent form encoding n (take at rest) cs
+
+-- the nulls and the values are so many bytes, and the length tells another number
+pub record IsWrongLength (form : Form) (encoding : Encoding) (n len : ℕ) (rest : List ℕ) : Type 0 where
+  pub cells : List Cell
+  pub used : ℕ
+  pub within : used ≤ length rest
+  pub content : ReadsContent form encoding n (take used rest) cells
+  pub differs : used ≢ len
+
+-- the nulls and the values are so many bytes, but for a byte list that is too long
+pub record IsTooLong (form : Form) (encoding : Encoding) (n : ℕ) (rest : List ℕ) : Type 0 where
+  pub used : ℕ
+  pub within : used ≤ length rest
+  pub long : IsContentStop form encoding n (take used rest) Whole
+
+-- the fault of a block behind its first fields: of its content, of its length, or of the block as a whole
 abbrev pub IsBodyStop : Form → Encoding → ℕ → ℕ → List ℕ → Stop → Type 0
-IsBodyStop form encoding n len rest stop =
-    ((behind : Stop) × IsContentStop form encoding n (there len rest) behind × (stop ≡ shifted 5 behind))
-    ⊎ (((cs : List Cell) × ReadsContent form encoding n (there len rest) cs × (length rest < len) × (stop ≡ Fault (5 + length rest)))
-    ⊎ (IsLonger form encoding n (there len rest) × (len ≤ length rest) × (stop ≡ Whole)))
+IsBodyStop form encoding n len rest Memory = Unit {0}
+IsBodyStop form encoding n len rest (Fault place) =
+    ((at : ℕ) × IsContentFault form encoding n rest at × (place ≡ 5 + at))
+    ⊎ (IsWrongLength form encoding n len rest × (place ≡ 1))
+IsBodyStop form encoding n len rest Whole = IsTooLong form encoding n rest ⊎ ((len ≤ length rest) × IsLonger form encoding n (take len rest))
 
 -- why no block was read: its first fields, or what is behind them
 pub record IsBodyFault (form : Form) (n : ℕ) (bytes : List ℕ) (stop : Stop) : Type 0 where

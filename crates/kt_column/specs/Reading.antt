@@ -1,5 +1,5 @@
 -- Reading the values of a block.
-use Rattle.std.specs.Prelude.{◌≡◌, ◌≤◌, ℕ, List, length, All, Result, MatchResult}
+use Rattle.std.specs.Prelude.{◌≡◌, ℕ, List, Result, MatchResult}
 use Rattle.kt_plain.specs.declared.widths.Width.{Width}
 use Rattle.kt_plain.specs.declared.items.Items.{Items}
 use Rattle.kt_plain.specs.Items.{count}
@@ -13,7 +13,9 @@ use Rattle.kt_column.specs.declared.errors.Stop.TheVariants.{Memory, Fault, Whol
 use Rattle.kt_column.specs.declared.form.Form.{Form}
 use Rattle.kt_column.specs.declared.form.Encoding.{Encoding}
 use Rattle.kt_column.specs.declared.form.Encoding.TheVariants.{Plain, RunLength, Dictionary, Prefix}
+use Rattle.kt_column.specs.declared.held.Values.{Values}
 use Rattle.kt_column.specs.Forms.{width, limit}
+use Rattle.kt_column.specs.Held.{items_of, encoding_of}
 use Rattle.kt_column.specs.Values.{run_width, AreShort, AreValues, IsEncoded}
 
 -- the bytes are these n values in an encoding
@@ -21,6 +23,11 @@ pub record Reads (form : Form) (encoding : Encoding) (n : ℕ) (bytes : List ℕ
   pub values : AreValues form items
   pub counted : count items ≡ n
   pub encoded : IsEncoded (width form) encoding items bytes
+
+-- the same, as they are held: in that encoding
+pub record ReadsValues (form : Form) (encoding : Encoding) (n : ℕ) (bytes : List ℕ) (values : Values) : Type 0 where
+  pub reads : Reads form encoding n bytes (items_of values)
+  pub own : encoding_of values ≡ encoding
 
 -- the first fault of bytes that are no n values in an encoding, as its codec places it
 abbrev pub IsFaultOf : Width → Encoding → ℕ → List ℕ → ℕ → Type 0
@@ -36,12 +43,6 @@ pub record HasLong (form : Form) (encoding : Encoding) (n : ℕ) (bytes : List �
   pub encoded : IsEncoded (width form) encoding items bytes
   pub long : ¬ AreShort (limit form) items
 
--- why byte lists were not taken over: one is longer than this, or memory ran out
-abbrev pub IsLong : ℕ → List (List ℕ) → Stop → Type 0
-IsLong most ts Memory = Unit {0}
-IsLong most ts (Fault at) = ⊥
-IsLong most ts Whole = ¬ All (λ t. length t ≤ most) ts
-
 -- why no values were read
 abbrev pub IsStop : Form → Encoding → ℕ → List ℕ → Stop → Type 0
 IsStop form encoding n bytes Memory = Unit {0}
@@ -51,3 +52,7 @@ IsStop form encoding n bytes Whole = HasLong form encoding n bytes
 -- these, unless memory ran out
 abbrev pub IsOrMemory : {X : Type 0} → Result X Stop → X → Type 0
 IsOrMemory result x = MatchResult result (λ got. got ≡ x) (λ e. e ≡ Memory)
+
+-- the same of values that are held
+abbrev pub HoldsOrMemory : Result Values Stop → Items → Type 0
+HoldsOrMemory result items = MatchResult result (λ got. items_of got ≡ items) (λ e. e ≡ Memory)

@@ -1,46 +1,45 @@
 //! A block of up to 8,192 cells.
 
-ghost use Rattle.std.specs.Prelude.{◌≡◌, ◌==◌, ◌<◌, ◌≤◌, ◌+◌, ◌++◌, ◌∷◌, [], ℕ, List, Bool, false, length, get_or, IfOk, OnOk, ◌^◌};
+ghost use Rattle.std.specs.Prelude.{◌≡◌, ◌==◌, ◌<◌, ◌≤◌, ◌+◌, ◌++◌, ◌∷◌, [], ℕ, List, false, length, get_or, IfOk, OnOk, ◌^◌};
 ghost use Rattle.std.specs.List.{concat};
 ghost use Rattle.std.specs.Ordering.{nat_cmp};
 ghost use Rattle.std.specs.Cmp.Lexicographic.{slice_cmp};
 ghost use Rattle.kt_base.specs.declared.cell.Cell.TheVariants as cells;
-ghost use Rattle.kt_plain.specs.declared.items.Items.TheVariants.{Numbers, Texts};
 ghost use Rattle.kt_plain.specs.Items.{count};
-ghost use Rattle.kt_column.specs.Forms.{width, is_nullable};
+ghost use Rattle.kt_column.specs.Forms.{is_nullable};
 ghost use Rattle.kt_column.specs.Blocks as spec;
-ghost use Rattle.kt_column.specs.Blocks.{AreCells, cell_len, numbers_in, texts_in, nulls_in, values_in, number_cell, value_cells, weave, AreNullsOf, Held, IsBlock, SpellsBlock};
-ghost use Rattle.std.specs.Bool.{OnTrue, OnFalse};
-ghost use Rattle.kt_column.specs.Values.{AreValues, IsShortest, MayStand};
+ghost use Rattle.kt_column.specs.Blocks.{AreCells, cell_len, numbers_in, texts_in, nulls_in, values_in, AreNullsOf, Held, IsBlock, SpellsBlock};
+ghost use Rattle.kt_column.specs.Held.{items_of, cells_of, IsChosen};
+ghost use Rattle.kt_column.specs.Values.{AreValues};
 
-use crate::form::{Encoding, Form};
-use crate::lengths::shortest_encoding;
+use crate::form::Form;
+use crate::held::{self, Values, cell_of, order_of};
 use crate::nulls::Nulls;
-use crate::values::shortest;
+use crate::values::spell_values;
 use kt_base::{Cell, NoMemory, Octets};
-use kt_plain::{Item, Items, NumberWidth, Numbers, Texts, Width, get};
+use kt_plain::{Items, Numbers, Texts, Width};
 use std::alloc::{AllocError, Global};
 use std::cmp::Ordering;
 use std::marker::Model;
 
-/// The cells of a block: which are null, and the values of the others, decoded.
+/// The cells of a block: which are null, and the values of the others, where cells were given as
+/// plain values, and where bytes were read as their encoding has them.
 #[derive(Debug, Drop)]
 pub struct Block {
     form: Form,
     nulls: Nulls,
-    items: Items,
+    values: Values,
 }
 
 impl Model for Block {
-    ghost use Rattle.std.specs.Prelude.{◌≡◌};
-    ghost use Rattle.kt_column.specs.Blocks.{BlockValue, AreCells, nulls_in, values_in, value_cells, weave};
-    ghost use Rattle.kt_column.specs.Forms.{width};
+    ghost use Rattle.kt_column.specs.Blocks.{BlockValue, Held};
+    ghost use Rattle.kt_column.specs.Held.{items_of, cells_of, IsChosen};
 
     ghost Value = { BlockValue };
 
-    ghost view = { λ b. record { form = b.form; cells = weave b.nulls (value_cells (width b.form) b.items) } };
+    ghost view = { λ b. record { form = b.form; cells = cells_of b.form b.nulls b.values } };
 
-    ghost invariant = { λ b. AreCells b.form (weave b.nulls (value_cells (width b.form) b.items)) × (b.nulls ≡ nulls_in b.form (weave b.nulls (value_cells (width b.form) b.items))) × (b.items ≡ values_in b.form (weave b.nulls (value_cells (width b.form) b.items))) };
+    ghost invariant = { λ b. Held b.form b.nulls (items_of b.values) (cells_of b.form b.nulls b.values) × IsChosen b.form b.values };
 }
 
 fn is_null(cell: &Cell) -> bool
@@ -76,16 +75,6 @@ fn numbers_of(alloc: Global, cells: &[Cell]) -> Result<Vec<i64>, NoMemory>
         }
     }
     Ok(numbers)
-}
-
-/// A number as a cell.
-fn number_as(width: Width, number: i64) -> Cell
-    ensures { result ≡ number_cell width number }
-{
-    match width {
-        Width::Numbers(NumberWidth::Bit) => Cell::Bool(number == 1),
-        _ => Cell::Int(number),
-    }
 }
 
 /// Adds the cell where it is a byte list.
@@ -125,30 +114,17 @@ fn values_of(alloc: Global, form: Form, cells: &[Cell]) -> Result<Items, NoMemor
     }
 }
 
-/// A value as a cell.
-fn cell_of(alloc: Global, form: Form, items: &Items, i: u32) -> Result<Cell, NoMemory>
-    requires { i < count items.now }
-    ensures { IfOk result (λ cell. cell ≡ get_or (value_cells (width form) items.now) i cells.Null) }
-{
-    match get(items, i) {
-        Item::Number(number) => Ok(number_as(form.width(), number)),
-        Item::Bytes(bytes) => Ok(Cell::Bytes(Octets::from_slice(alloc, bytes)?)),
-    }
-}
-
 /// How many cells a block has.
 #[tactic(auto, using(crate::proofs::Weaving::len_of_nulls, crate::proofs::Weaving::len_of_values))]
-fn cell_count(form: Form, nulls: &Nulls, items: &Items) -> u32
-    requires slots { AreNullsOf (is_nullable form) nulls.now (count items.now) }
-    requires few { length (weave nulls.now (value_cells (width form) items.now)) ≤ 8192 }
-    ensures { result ≡ length (weave nulls.now (value_cells (width form) items.now)) }
+fn cell_count(form: Form, nulls: &Nulls, values: &Values) -> u32
+    requires slots { AreNullsOf (is_nullable form) nulls.now (count (items_of values.now)) }
+    requires few { length (cells_of form nulls.now values.now) ≤ 8192 }
+    ensures { result ≡ length (cells_of form nulls.now values.now) }
 {
     if form.is_nullable() {
-        return nulls.len() as u32;
-    }
-    match items {
-        Items::Numbers(numbers) => numbers.len() as u32,
-        Items::Texts(texts) => texts.len() as u32,
+        nulls.len() as u32
+    } else {
+        held::len(values) as u32
     }
 }
 
@@ -157,28 +133,29 @@ fn cell_in(
     alloc: Global,
     form: Form,
     nulls: &Nulls,
-    items: &Items,
+    values: &Values,
     i: u32,
 ) -> Result<Cell, NoMemory>
-    requires within { i < length (weave nulls.now (value_cells (width form) items.now)) }
-    requires slots { AreNullsOf (is_nullable form) nulls.now (count items.now) }
-    ensures { IfOk result (λ cell. cell ≡ get_or (weave nulls.now (value_cells (width form) items.now)) i cells.Null) }
+    requires within { i < length (cells_of form nulls.now values.now) }
+    requires slots { AreNullsOf (is_nullable form) nulls.now (count (items_of values.now)) }
+    ensures { IfOk result (λ cell. cell ≡ get_or (cells_of form nulls.now values.now) i cells.Null) }
 {
     if !form.is_nullable() {
-        return cell_of(alloc, form, items, i);
+        return cell_of(alloc, form, values, i);
     }
     match nulls.slot(i as usize) {
-        Some(k) => cell_of(alloc, form, items, k),
+        Some(k) => cell_of(alloc, form, values, k),
         None => Ok(Cell::Null),
     }
 }
 
 /// The bytes of nulls and values.
-fn spelled(alloc: Global, form: Form, nulls: &Nulls, items: &Items) -> Result<Vec<u8>, NoMemory>
-    requires { AreValues form items.now }
-    ensures { IfOk result (λ bytes. IsBlock form nulls.now items.now bytes.items) }
+fn spelled(alloc: Global, form: Form, nulls: &Nulls, values: &Values) -> Result<Vec<u8>, NoMemory>
+    requires values { AreValues form (items_of values.now) }
+    requires chosen { IsChosen form values.now }
+    ensures { IfOk result (λ bytes. IsBlock form nulls.now (items_of values.now) bytes.items) }
 {
-    let chosen = shortest(alloc, form, items)?;
+    let chosen = spell_values(alloc, form, values)?;
     let mut content = Vec::new(alloc);
     nulls.spell(&mut content)?;
     content.extend_from_slice(&chosen.bytes)?;
@@ -192,40 +169,18 @@ fn spelled(alloc: Global, form: Form, nulls: &Nulls, items: &Items) -> Result<Ve
     Ok(out)
 }
 
-/// Whether the values are the shortest in this encoding.
-#[tactic(auto, using(crate::proofs::Chosen::shortest_of_code, crate::proofs::Chosen::not_of_code))]
-fn is_shortest(
-    alloc: Global,
-    form: Form,
-    items: &Items,
-    encoding: Encoding,
-) -> Result<bool, NoMemory>
-    requires { AreValues form items.now }
-    ensures yes { IfOk result (λ b. OnTrue b ((values : List ℕ) → MayStand form items.now encoding values → IsShortest form items.now encoding values)) }
-    ensures no { IfOk result (λ b. OnFalse b ((values : List ℕ) → ¬ IsShortest form items.now encoding values)) }
-{
-    let chosen = shortest_encoding(alloc, form, items)?;
-    Ok(chosen as u8 == encoding as u8)
-}
-
-/// The order of a value's bytes and the key.
-fn text_order(form: Form, items: &Items, i: u32, key: &[u8]) -> Ordering
-    requires { i < count items.now }
-    ensures { (bytes : List ℕ) → get_or (value_cells (width form) items.now) i cells.Null ≡ cells.Bytes bytes → result ≡ slice_cmp nat_cmp bytes key.now }
-{
-    match get(items, i) {
-        Item::Number(_) => Ordering::Equal,
-        Item::Bytes(bytes) => bytes.cmp(key),
-    }
-}
-
 impl Block {
     /// The block of these nulls and values.
-    pub(crate) fn of(form: Form, nulls: Nulls, items: Items) -> Block
-        requires { Held form nulls items (weave nulls (value_cells (width form) items)) }
-        ensures { result ≡ record { form = form; cells = weave nulls (value_cells (width form) items) } }
+    pub(crate) fn of(form: Form, nulls: Nulls, values: Values) -> Block
+        requires held { Held form nulls (items_of values) (cells_of form nulls values) }
+        requires chosen { IsChosen form values }
+        ensures { result ≡ record { form = form; cells = cells_of form nulls values } }
     {
-        Block { form, nulls, items }
+        Block {
+            form,
+            nulls,
+            values,
+        }
     }
 
     /// The block of these cells.
@@ -235,14 +190,18 @@ impl Block {
     {
         let nulls = nulls_of(alloc, form, cells)?;
         let items = values_of(alloc, form, cells)?;
-        Ok(Block { form, nulls, items })
+        Ok(Block {
+            form,
+            nulls,
+            values: Values::Plain(items),
+        })
     }
 
     /// How many cells there are.
     pub fn len(&self) -> u32
         ensures { result ≡ length self.now.cells }
     {
-        cell_count(self.form, &self.nulls, &self.items)
+        cell_count(self.form, &self.nulls, &self.values)
     }
 
     /// Whether there is no cell.
@@ -257,22 +216,14 @@ impl Block {
         requires { i < length self.now.cells }
         ensures { IfOk result (λ cell. cell ≡ get_or self.now.cells i cells.Null) }
     {
-        cell_in(alloc, self.form, &self.nulls, &self.items, i)
+        cell_in(alloc, self.form, &self.nulls, &self.values, i)
     }
 
     /// The bytes of the block.
     pub fn spell(&self, alloc: Global) -> Result<Octets, NoMemory>
         ensures { IfOk result (SpellsBlock self.now.form self.now.cells) }
     {
-        Ok(Octets::of(spelled(alloc, self.form, &self.nulls, &self.items)?))
-    }
-
-    /// Whether the values are the shortest in this encoding.
-    pub(crate) fn is_shortest(&self, alloc: Global, encoding: Encoding) -> Result<bool, NoMemory>
-        ensures yes { IfOk result (λ b. OnTrue b ((values : List ℕ) → MayStand self.now.form (values_in self.now.form self.now.cells) encoding values → IsShortest self.now.form (values_in self.now.form self.now.cells) encoding values)) }
-        ensures no { IfOk result (λ b. OnFalse b ((values : List ℕ) → ¬ IsShortest self.now.form (values_in self.now.form self.now.cells) encoding values)) }
-    {
-        is_shortest(alloc, self.form, &self.items, encoding)
+        Ok(Octets::of(spelled(alloc, self.form, &self.nulls, &self.values)?))
     }
 
     /// The order of a cell's bytes and the key, where no cell is null: one comparison of the two.
@@ -281,6 +232,6 @@ impl Block {
         requires full { is_nullable self.now.form ≡ false }
         ensures { (bytes : List ℕ) → get_or self.now.cells i cells.Null ≡ cells.Bytes bytes → result ≡ slice_cmp nat_cmp bytes key.now }
     {
-        text_order(self.form, &self.items, i, key)
+        order_of(self.form, &self.values, i, key)
     }
 }

@@ -1,12 +1,15 @@
 //! From the bytes of a block to its cells.
 
-ghost use Rattle.std.specs.Prelude.{◌≡◌, ◌<◌, ◌≤◌, ◌+◌, ◌^◌, ◌++◌, ℕ, List, length, drop, IfOk, IfErr, MatchResult};
+ghost use Rattle.std.specs.Prelude.{◌≡◌, ◌<◌, ◌≤◌, ◌+◌, ◌^◌, ◌++◌, ℕ, List, length, take, drop, IfOk, IfErr, MatchResult};
 ghost use Rattle.kt_column.specs.declared.errors.Stop.TheVariants as stops;
-ghost use Rattle.kt_column.specs.Blocks.{SpellsBlock};
+ghost use Rattle.std.specs.Bool.{OnTrue, OnFalse};
+ghost use Rattle.kt_column.specs.Blocks.{Held, SpellsBlock, values_in};
+ghost use Rattle.kt_column.specs.Held.{items_of, encoding_of, cells_of};
+ghost use Rattle.kt_column.specs.Values.{IsShortest, MayStand};
 ghost use Rattle.kt_base.specs.declared.cell.Cell.{Cell};
 ghost use Rattle.kt_plain.specs.declared.items.Items.{Items};
 ghost use Rattle.kt_column.specs.Forms.{is_nullable, MayUse};
-ghost use Rattle.kt_column.specs.Reading.{Reads, IsOrMemory};
+ghost use Rattle.kt_column.specs.Reading.{Reads, ReadsValues, IsOrMemory, HoldsOrMemory};
 ghost use Rattle.kt_column.specs.Nulls.{byte_len};
 ghost use Rattle.kt_column.specs.Faults as spec;
 ghost use Rattle.kt_column.specs.Faults.{AreNullsFor, FrontNulls, IsBody, IsBodyStop, IsBlockStop, IsContentStop, IsFound, IsRefusal, IsShiftable, IsValuesStop, ReadsContent, shifted};
@@ -14,11 +17,12 @@ ghost use Rattle.kt_column.specs.Faults.{AreNullsFor, FrontNulls, IsBody, IsBody
 use crate::block::Block;
 use crate::errors::{CodecNo, Stop};
 use crate::form::{Encoding, Form};
+use crate::held::Values;
+use crate::least::is_shortest;
 use crate::nulls::Nulls;
 use crate::parts::{Head, front_nulls, read_head};
 use crate::reading::read;
 use kt_base::NoMemory;
-use kt_plain::Items;
 use std::alloc::Global;
 
 /// A fault behind so many bytes.
@@ -63,34 +67,42 @@ fn values_behind(
     n: u32,
     nulls: &Nulls,
     part: &[u8],
-) -> Result<Items, Stop>
+) -> Result<Values, Stop>
     requires few { n ≤ 8192 }
     requires open { MayUse form encoding }
     requires front { FrontNulls form n part.now nulls.now }
-    ensures found { IfOk result (Reads form encoding (spec.value_count (is_nullable form) n nulls.now) (drop (byte_len (length nulls.now)) part.now)) }
-    ensures only { (items : Items) → Reads form encoding (spec.value_count (is_nullable form) n nulls.now) (drop (byte_len (length nulls.now)) part.now) items → IsOrMemory result items }
+    ensures found { IfOk result (ReadsValues form encoding (spec.value_count (is_nullable form) n nulls.now) (drop (byte_len (length nulls.now)) part.now)) }
+    ensures only { (items : Items) → Reads form encoding (spec.value_count (is_nullable form) n nulls.now) (drop (byte_len (length nulls.now)) part.now) items → HoldsOrMemory result items }
     ensures stop { IfErr result (IsValuesStop form encoding n part.now) }
 {
     let count = value_count(form, n, nulls);
     match read(alloc, form, encoding, count, behind_nulls(nulls, part)) {
-        Ok(items) => Ok(items),
+        Ok(values) => Ok(values),
         Err(stop) => Err(behind(nulls.byte_len(), stop)),
     }
 }
 
-/// The block whose nulls and values these bytes are.
-fn content(
+/// Which cells are null, and the values of the others.
+#[derive(Debug, Drop)]
+struct Content {
+    nulls: Nulls,
+    values: Values,
+}
+
+/// The nulls and values that these bytes are.
+fn read_content(
     alloc: Global,
     form: Form,
     encoding: Encoding,
     n: u32,
     part: &[u8],
-) -> Result<Block, Stop>
+) -> Result<Content, Stop>
     requires few { n ≤ 8192 }
     requires open { MayUse form encoding }
-    ensures form { IfOk result (λ block. block.form ≡ form) }
-    ensures found { IfOk result (λ block. ReadsContent form encoding n part.now block.cells) }
-    ensures only { (cs : List Cell) → ReadsContent form encoding n part.now cs → IsOrMemory result (record { form = form; cells = cs }) }
+    ensures held { IfOk result (λ c. Held form c.nulls (items_of c.values) (cells_of form c.nulls c.values)) }
+    ensures own { IfOk result (λ c. encoding_of c.values ≡ encoding) }
+    ensures found { IfOk result (λ c. ReadsContent form encoding n part.now (cells_of form c.nulls c.values)) }
+    ensures only { (cs : List Cell) → ReadsContent form encoding n part.now cs → MatchResult result (λ c. cells_of form c.nulls c.values ≡ cs) (λ e. e ≡ stops.Memory) }
     ensures stop { IfErr result (IsContentStop form encoding n part.now) }
 {
     let nulls = match front_nulls(alloc, form, n, part) {
@@ -98,9 +110,25 @@ fn content(
         Err(stop) => return Err(stop),
     };
     match values_behind(alloc, form, encoding, n, &nulls, part) {
-        Ok(items) => Ok(Block::of(form, nulls, items)),
+        Ok(values) => Ok(Content { nulls, values }),
         Err(stop) => Err(stop),
     }
+}
+
+/// Whether the values of content that was read are the shortest in its encoding.
+fn is_least(
+    alloc: Global,
+    form: Form,
+    encoding: Encoding,
+    content: &Content,
+) -> Result<bool, NoMemory>
+    requires held { Held form content.now.nulls (items_of content.now.values) (cells_of form content.now.nulls content.now.values) }
+    requires own { encoding_of content.now.values ≡ encoding }
+    requires open { MayUse form encoding }
+    ensures yes { IfOk result (λ b. OnTrue b ((bytes : List ℕ) → MayStand form (values_in form (cells_of form content.now.nulls content.now.values)) encoding bytes → IsShortest form (values_in form (cells_of form content.now.nulls content.now.values)) encoding bytes)) }
+    ensures no { IfOk result (λ b. OnFalse b ((bytes : List ℕ) → ¬ IsShortest form (values_in form (cells_of form content.now.nulls content.now.values)) encoding bytes)) }
+{
+    is_shortest(alloc, form, &content.values)
 }
 
 /// A block, and how many bytes it takes.
@@ -110,11 +138,62 @@ pub struct Found {
     pub len: usize,
 }
 
-/// The part of the bytes that is there.
-fn there(rest: &[u8], len: usize) -> &[u8]
-    ensures { result.now ≡ spec.there len rest.now }
+/// The first so many bytes, or all.
+fn front_of(rest: &[u8], len: usize) -> &[u8]
+    ensures { result.now ≡ take len rest.now }
 {
-    if rest.len() < len { rest } else { &rest[..len] }
+    &rest[..len.min(rest.len())]
+}
+
+/// Whether these bytes are nulls and values, and why not.
+fn check_content(
+    alloc: Global,
+    form: Form,
+    encoding: Encoding,
+    n: u32,
+    part: &[u8],
+) -> Result<(), Stop>
+    requires few { n ≤ 8192 }
+    requires open { MayUse form encoding }
+    ensures found { IfOk result (λ _. (cs : List Cell) × ReadsContent form encoding n part.now cs) }
+    ensures only { (cs : List Cell) → ReadsContent form encoding n part.now cs → IfErr result (λ e. e ≡ stops.Memory) }
+    ensures stop { IfErr result (IsContentStop form encoding n part.now) }
+{
+    let _read = match read_content(alloc, form, encoding, n, part) {
+        Ok(read) => read,
+        Err(stop) => return Err(stop),
+    };
+    Ok(())
+}
+
+/// Why the bytes begin with no content of this length: its own first fault, wherever it ends, or the
+/// length.
+fn content_stop(
+    alloc: Global,
+    form: Form,
+    encoding: Encoding,
+    n: u32,
+    len: usize,
+    rest: &[u8],
+) -> Stop
+    requires few { n ≤ 8192 }
+    requires open { MayUse form encoding }
+    requires room { 5 + length rest.now < 2 ^ 64 }
+    requires none { (cs : List Cell) → ¬ ReadsContent form encoding n (take len rest.now) cs }
+    ensures { IsBodyStop form encoding n len rest.now result }
+{
+    let at = match check_content(alloc, form, encoding, n, rest) {
+        Ok(()) => return Stop::Fault { at: 1 },
+        Err(Stop::Memory) => return Stop::Memory,
+        Err(Stop::Whole) => return Stop::Whole,
+        Err(Stop::Fault { at }) => at,
+    };
+    match check_content(alloc, form, encoding, n, front_of(rest, at)) {
+        Ok(()) => Stop::Fault { at: 1 },
+        Err(Stop::Memory) => Stop::Memory,
+        Err(Stop::Whole) => Stop::Whole,
+        Err(Stop::Fault { .. }) => Stop::Fault { at: 5 + at },
+    }
 }
 
 /// The block behind its first fields.
@@ -127,17 +206,20 @@ fn body(alloc: Global, form: Form, n: u32, head: Head<'_>) -> Result<Block, Stop
     ensures only { (cs : List Cell) → IsBody form head.entry.encoding n head.entry.len head.entry.rest.now cs → IsOrMemory result (record { form = form; cells = cs }) }
     ensures stop { IfErr result (IsBodyStop form head.entry.encoding n head.entry.len head.entry.rest.now) }
 {
-    let block = match content(alloc, form, head.encoding, n, there(head.rest, head.len)) {
-        Ok(block) => block,
-        Err(stop) => return Err(behind(5, stop)),
+    let read = match read_content(alloc, form, head.encoding, n, front_of(head.rest, head.len)) {
+        Ok(read) => read,
+        Err(Stop::Memory) => return Err(Stop::Memory),
+        Err(Stop::Whole) => return Err(Stop::Whole),
+        Err(Stop::Fault { .. }) => {
+            let stop = content_stop(alloc, form, head.encoding, n, head.len, head.rest);
+            return Err(stop);
+        }
     };
     if head.rest.len() < head.len {
-        return Err(Stop::Fault {
-            at: 5 + head.rest.len(),
-        });
+        return Err(Stop::Fault { at: 1 });
     }
-    match block.is_shortest(alloc, head.encoding) {
-        Ok(true) => Ok(block),
+    match is_least(alloc, form, head.encoding, &read) {
+        Ok(true) => Ok(Block::of(form, read.nulls, read.values)),
         Ok(false) => Err(Stop::Whole),
         Err(NoMemory) => Err(Stop::Memory),
     }

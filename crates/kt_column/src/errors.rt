@@ -2,13 +2,15 @@
 
 use kt_base::NoMemory;
 use std::alloc::{AllocError, AllocFailed};
+use thiserror::Error;
 
 /// Why bytes gave no block, or no column.
-#[derive(Clone, Copy, Debug, PartialEq, Eq)]
+#[derive(Clone, Copy, Debug, PartialEq, Eq, Error)]
 pub enum CodecNo {
     /// No such spelling begins the bytes: the place of the first fault.
+    #[error("the bytes are no column at offset {offset}")]
     Place { offset: u64 },
-    /// Memory ran out.
+    #[error("out of memory")]
     Memory,
 }
 

@@ -2,11 +2,12 @@
 //! keys, all of them full but the last. Each block is in the shortest of the four encodings that its
 //! kind allows, and of encodings that are as long in the one of the lowest number.
 //!
-//! In memory a block is decoded, whatever its encoding: one list of its values that are not null, numbers as i64
-//! and byte lists in one buffer with the end of each, and in a nullable column for each cell the
-//! place of its value among them. So `cell` and `compare` take one division and look up one place, and
-//! decode nothing again, and the encoding is chosen when a block is written. Contracts see a block and
-//! a column as their lists of cells.
+//! In memory a block that was read is held as its encoding has it: plain values, runs, entries with a
+//! code for each cell, or prefixes with where their stretches begin. So a column takes a few times its
+//! bytes, whatever they stand for. In a nullable column it has for each cell the place of its value.
+//! `cell` and `compare` take one division and look up one value there, and make no list of the others. A
+//! block of cells is held as plain values, and its encoding is chosen when it is written. Contracts see
+//! a block and a column as their lists of cells.
 //!
 //! `spell` writes the one spelling, and `decode` answers the cells exactly where the bytes begin with
 //! their spelling, and otherwise the first place at which they don't. A block that is written in an
@@ -21,7 +22,9 @@ mod column_decoding;
 mod decoding;
 mod errors;
 mod form;
+mod held;
 mod laws;
+mod least;
 mod lengths;
 mod nulls;
 mod parts;

@@ -64,6 +64,16 @@ impl Nulls {
         }
     }
 
+    /// No cell, with room for so many.
+    fn with_room(alloc: Global, n: usize) -> Result<Nulls, AllocError>
+        ensures { IfOk result (λ nulls. nulls ≡ []) }
+    {
+        Ok(Nulls {
+            slots: Vec::with_capacity(alloc, n)?,
+            present: 0,
+        })
+    }
+
     pub fn len(&self) -> usize
         ensures { result ≡ length self.now }
     {
@@ -154,7 +164,7 @@ fn unpacked(alloc: Global, bytes: &[u8], n: usize) -> Result<Nulls, AllocError>
     requires whole { length bytes.now ≡ byte_len n }
     ensures { IfOk result (λ nulls. nulls ≡ spec.bits_in n bytes.now) }
 {
-    let mut nulls = Nulls::new(alloc);
+    let mut nulls = Nulls::with_room(alloc, n)?;
     let mut left = n;
     'bytes: for byte in bytes {
         let here = left.min(8);

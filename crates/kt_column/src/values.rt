@@ -2,12 +2,14 @@
 
 ghost use Rattle.std.specs.Prelude.{◌≡◌, ◌<◌, ◌-◌, ◌^◌, ℕ, List, length, sum_by, IfOk, MatchOption};
 ghost use Rattle.kt_column.specs.Forms.{width};
+ghost use Rattle.kt_column.specs.Held.{items_of, IsChosen};
 ghost use Rattle.kt_column.specs.Values.{AreValues, IsEncoded, IsShortest, MayStand, run_width};
 ghost use Rattle.kt_rle.specs.Spelling as run_length;
 ghost use Rattle.kt_dict.specs.Spelling as dictionary;
 ghost use Rattle.kt_front.specs.Spelling as prefix;
 
 use crate::form::{Encoding, Form};
+use crate::held::Values;
 use crate::lengths::shortest_encoding;
 use kt_base::NoMemory;
 use kt_plain::{Items, NumberWidth, Numbers, Texts, Width};
@@ -40,15 +42,23 @@ fn plain(alloc: Global, form: Form, items: &Items) -> Result<Vec<u8>, NoMemory>
     }
 }
 
+/// The bytes of runs.
+fn runs_spelled(alloc: Global, width: Width, runs: &kt_rle::Items) -> Result<Vec<u8>, NoMemory>
+    requires { run_length.Fits (run_width width) runs.now }
+    ensures { IfOk result (λ bytes. run_length.Spells (run_width width) (length runs.now) runs.now bytes.items) }
+{
+    match kt_rle::encode(alloc, runs, run_width(width)) {
+        Ok(octets) => Ok(octets.into_vec()),
+        Err(_) => Err(NoMemory),
+    }
+}
+
 fn run_lengths(alloc: Global, width: Width, numbers: &Numbers) -> Result<Vec<u8>, NoMemory>
     requires { run_length.Fits (run_width width) numbers.now }
     ensures { IfOk result (λ bytes. run_length.Spells (run_width width) (length numbers.now) numbers.now bytes.items) }
 {
     let runs = kt_rle::Items::of(alloc, numbers)?;
-    match kt_rle::encode(alloc, &runs, run_width(width)) {
-        Ok(octets) => Ok(octets.into_vec()),
-        Err(_) => Err(NoMemory),
-    }
+    runs_spelled(alloc, width, &runs)
 }
 
 /// The values in a dictionary, or none where there are too many different ones.
@@ -98,8 +108,8 @@ fn encoded(
     }
 }
 
-/// The values in the shortest encoding that the column may use, the lowest number among equals.
-pub fn shortest(alloc: Global, form: Form, items: &Items) -> Result<Chosen, NoMemory>
+/// Plain values in the shortest encoding that the column may use, the lowest number among equals.
+fn shortest(alloc: Global, form: Form, items: &Items) -> Result<Chosen, NoMemory>
     requires { AreValues form items.now }
     ensures { IfOk result (λ chosen. IsShortest form items.now chosen.encoding chosen.bytes.items) }
 {
@@ -107,5 +117,29 @@ pub fn shortest(alloc: Global, form: Form, items: &Items) -> Result<Chosen, NoMe
     match encoded(alloc, form, encoding, items)? {
         Some(bytes) => Ok(Chosen { encoding, bytes }),
         None => unreachable!(),
+    }
+}
+
+/// Values in the shortest encoding that the column may use. Those that are held in one are in it
+/// already.
+pub fn spell_values(alloc: Global, form: Form, values: &Values) -> Result<Chosen, NoMemory>
+    requires values { AreValues form (items_of values.now) }
+    requires chosen { IsChosen form values.now }
+    ensures { IfOk result (λ chosen. IsShortest form (items_of values.now) chosen.encoding chosen.bytes.items) }
+{
+    match values {
+        Values::Plain(items) => shortest(alloc, form, items),
+        Values::Runs(runs) => Ok(Chosen {
+            encoding: Encoding::RunLength,
+            bytes: runs_spelled(alloc, form.width(), runs)?,
+        }),
+        Values::Dictionary(items) => Ok(Chosen {
+            encoding: Encoding::Dictionary,
+            bytes: items.spell(alloc)?.into_vec(),
+        }),
+        Values::Prefixes(items) => Ok(Chosen {
+            encoding: Encoding::Prefix,
+            bytes: Vec::from_slice(alloc, items.as_bytes())?,
+        }),
     }
 }

@@ -154,6 +154,39 @@ fn bytes_behind_the_index_are_at_fault_at_the_first(rt: HostRuntime) -> Result<(
     Ok(())
 }
 
+/// The file of 8,192 keys and a column of one long string in each row, up to the filter.
+fn one_text(alloc: Global) -> Result<Octets, NoMemory> {
+    let mut bytes = Octets::from_slice(alloc, b"KTB1")?;
+    bytes.extend(&[0, 32, 0, 0, 4, 0, 0x22, 1, 0])?;
+    for i in 0..8192u16 {
+        let [low, high] = i.to_le_bytes();
+        if i % 16 == 0 {
+            bytes.extend(&[0, 0, 0, 0, 2, 0, 0, 0, high, low])?;
+        } else {
+            bytes.extend(&[1, 0, 0, 0, 1, 0, 0, 0, low])?;
+        }
+    }
+    bytes.extend(&[1, 0, 1, 0, 7, 0, 3, 6, 0x40, 1, 0, 1, 0, 0, 0, 1, 0])?;
+    for _ in 0..65_536u32 {
+        bytes.push(97)?;
+    }
+    for _ in 0..8192u32 {
+        bytes.extend(&[0, 0])?;
+    }
+    Ok(bytes)
+}
+
+/// 156 KB that stand for half a gigabyte are read up to their end, where the filter is missing.
+#[test]
+fn a_column_of_one_long_text_is_read(rt: HostRuntime) -> Result<(), Fail> {
+    let bytes = one_text(rt.alloc())?;
+    assert_eq!(rt;
+        fault(rt.alloc(), bytes.as_slice()),
+        Some(bytes.len() as u64)
+    );
+    Ok(())
+}
+
 /// The place of the fault of the file with one byte changed.
 fn fault_with(alloc: Global, place: usize, byte: u8) -> Option<u64> {
     let mut bytes = TWO;

@@ -48,7 +48,12 @@ fn plain(rt: HostRuntime) -> Result<(), Fail> {
     stands(&rt, alloc, small, 3, &bytes)?;
     assert!(rt; refused(alloc, small, 3, &bytes[..7], 7));
     assert!(rt; refused(alloc, small, 3, &bytes[..4], 4));
-    assert!(rt; refused(alloc, small, 2, &bytes, 7));
+    // A length that disagrees with the values is at fault itself, and missing bytes at their end.
+    assert!(rt; refused(alloc, small, 2, &bytes, 1));
+    assert!(rt; refused(alloc, small, 2, &[1, 3, 0, 0, 0, 5, 7, 9], 1));
+    assert!(rt; refused(alloc, small, 3, &[1, 2, 0, 0, 0, 5, 5, 7], 1));
+    assert!(rt; refused(alloc, small, 2, &[1, 9, 0, 0, 0, 5, 7], 1));
+    assert!(rt; refused(alloc, small, 3, &[1, 9, 0, 0, 0, 5, 7], 7));
     assert!(rt; refused(alloc, small, 3, &[9, 3, 0, 0, 0, 5, 5, 7], 0));
     assert!(rt; refused(alloc, small, 3, &[3, 3, 0, 0, 0, 5, 5, 7], 0));
     let runs: [u8; 15] = [2, 10, 0, 0, 0, 2, 0, 0, 0, 5, 1, 0, 0, 0, 7];
@@ -125,6 +130,43 @@ fn many_texts(rt: HostRuntime) -> Result<(), Fail> {
     stands(&rt, alloc, of(Kind::Binary), 8192, &bytes)?;
     let bytes = many(alloc, 4097)?;
     assert!(rt; refused(alloc, of(Kind::Binary), 8192, &bytes, 5));
+    Ok(())
+}
+
+/// The dictionary of one string of so many bytes, which stands in each of 8,192 cells.
+fn one_text(alloc: Global, len: u32) -> Result<Vec<u8>, Fail> {
+    let mut bytes = Vec::new(alloc);
+    bytes.push(3)?;
+    bytes.extend_from_slice(&len.saturating_add(16_390).to_le_bytes())?;
+    bytes.extend_from_slice(&[1, 0])?;
+    bytes.extend_from_slice(&len.to_le_bytes())?;
+    for _ in 0..len {
+        bytes.push(97)?;
+    }
+    for _ in 0..8192u32 {
+        bytes.extend_from_slice(&[0, 0])?;
+    }
+    Ok(bytes)
+}
+
+/// 82 KB that stand for half a gigabyte are held as they stand, and so are they where they are refused.
+#[test]
+fn one_long_text_in_each_cell(rt: HostRuntime) -> Result<(), Fail> {
+    let alloc = rt.alloc();
+    let binary = of(Kind::Binary);
+    let bytes = one_text(alloc, 65_536)?;
+    stands(&rt, alloc, binary, 8192, &bytes)?;
+    let found = decode_block(alloc, binary, 8192, &bytes)
+        .ok()
+        .ok_or("the bytes are refused")?;
+    assert_eq!(rt; found.block.len(), 8192);
+    let cell = found.block.cell(alloc, 8191)?;
+    match &cell {
+        Cell::Bytes(text) => assert_eq!(rt; text.len(), 65_536),
+        _ => assert!(rt; false),
+    }
+    let bytes = one_text(alloc, 65_537)?;
+    assert!(rt; refused(alloc, binary, 8192, &bytes, 0));
     Ok(())
 }
 

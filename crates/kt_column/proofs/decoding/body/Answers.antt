@@ -1,31 +1,57 @@
-use Rattle.std.proofs.Common.{◌≡◌, arith, length, take, sym, subst, ap, ◌∙◌}
-use Rattle.std.proofs.lemmas.List.{length-take}
-use Rattle.kt_column.specs.Blocks.{BlockValue, values_in}
+use Rattle.std.proofs.Common.{sym, subst, ap, ◌∙◌, inl, inr, refl, arith}
+use Rattle.kt_column.specs.Blocks.{values_in}
 use Rattle.kt_column.specs.Values.{IsShortest}
-use Rattle.kt_column.specs.Faults.{ReadsContent, shifted}
+use Rattle.kt_column.specs.Held.{items_of, cells_of}
+use Rattle.kt_column.specs.declared.errors.Stop.TheVariants.{Whole}
+use Rattle.kt_column.specs.Faults.{ReadsContent, IsContentStop}
+use Rattle.kt_column.proofs.Faulty.{too_long, short_content}
 use Rattle.kt_column.proofs.Contents.{make}
-use Rattle.kt_column.proofs.Faulty.{five_more}
+use Rattle.kt_column.proofs.HeldValues.{chosen}
 use Rattle.kt_column.proofs.decoding.body.Goals as goal
 
-pub behind-requires : goal.behind-requires
-behind-requires c =
-    let part : length c.there.result.now ≡ length (take c.args.head.len c.args.head.rest.now) = ap length c.there.ensures in
-    five_more c.args.form c.args.head.encoding c.args.n c.there.result.now c.in-Err.stop (omega (arith, part, length-take c.args.head.len c.args.head.rest.now, c.requires.room)) c.in-Err.ensures.stop
-
-pub returns-in-Err-clause-only : goal.returns-in-Err-clause-only
-returns-in-Err-clause-only c cs b =
-    let r : ReadsContent c.args.form c.args.head.encoding c.args.n c.there.result.now cs = subst (λ p. ReadsContent c.args.form c.args.head.encoding c.args.n p cs) (sym c.there.ensures) b.content in
-    c.behind.ensures ∙ ap (shifted 5) (c.in-Err.ensures.only cs r)
+pub of-requires-clause-chosen : goal.of-requires-clause-chosen
+of-requires-clause-chosen c =
+    let form = c.args.form in
+    let v = c.in-Ok.read.values in
+    let found = c.in-Ok.ensures.found in
+    let p : IsShortest form (values_in form (cells_of form c.in-Ok.read.nulls v)) c.args.head.encoding found.values = (rw c.in-Ok-true.field-0-test at c.in-Ok-true.ensures.yes) found.values (c.requires.open, found.encoded) in
+    chosen form v found.values (subst (λ e. IsShortest form (items_of v) e found.values) (sym c.in-Ok.ensures.own) (subst (λ items. IsShortest form items c.args.head.encoding found.values) (sym c.in-Ok.ensures.held.2) p))
 
 pub returns-in-Ok-true-clause-only : goal.returns-in-Ok-true-clause-only
 returns-in-Ok-true-clause-only c cs b =
-    let r : ReadsContent c.args.form c.args.head.encoding c.args.n c.there.result.now cs = subst (λ p. ReadsContent c.args.form c.args.head.encoding c.args.n p cs) (sym c.there.ensures) b.content in
-    c.in-Ok.ensures.only cs r
+    let r : ReadsContent c.args.form c.args.head.encoding c.args.n c.front_of.result.now cs = subst (λ p. ReadsContent c.args.form c.args.head.encoding c.args.n p cs) (sym c.front_of.ensures) b.content in
+    c.of.ensures ∙ ap (make c.args.form) (c.in-Ok.ensures.only cs r)
 
 pub returns-in-Ok-false-clause-only : goal.returns-in-Ok-false-clause-only
 returns-in-Ok-false-clause-only c cs b =
-    let r : ReadsContent c.args.form c.args.head.encoding c.args.n c.there.result.now cs = subst (λ p. ReadsContent c.args.form c.args.head.encoding c.args.n p cs) (sym c.there.ensures) b.content in
-    let same : c.in-Ok.block ≡ make c.args.form cs = c.in-Ok.ensures.only cs r in
-    let here : IsShortest c.in-Ok.block.form (values_in c.in-Ok.block.form c.in-Ok.block.cells) c.args.head.encoding b.content.values =
-    subst (λ (v : BlockValue). IsShortest v.form (values_in v.form v.cells) c.args.head.encoding b.content.values) (sym same) (b.shortest b.content.values (c.requires.open, b.content.encoded)) in
+    let form = c.args.form in
+    let r : ReadsContent form c.args.head.encoding c.args.n c.front_of.result.now cs = subst (λ p. ReadsContent form c.args.head.encoding c.args.n p cs) (sym c.front_of.ensures) b.content in
+    let here : IsShortest form (values_in form (cells_of form c.in-Ok.read.nulls c.in-Ok.read.values)) c.args.head.encoding b.content.values =
+    subst (λ ds. IsShortest form (values_in form ds) c.args.head.encoding b.content.values) (sym (c.in-Ok.ensures.only cs r)) (b.shortest b.content.values (c.requires.open, b.content.encoded)) in
     absurd ((rw c.in-Ok-false.field-0-test at c.in-Ok-false.ensures.no) b.content.values here)
+
+pub returns-in-Err-Whole-clause-only : goal.returns-in-Err-Whole-clause-only
+returns-in-Err-Whole-clause-only c cs b =
+    let r : ReadsContent c.args.form c.args.head.encoding c.args.n c.front_of.result.now cs = subst (λ p. ReadsContent c.args.form c.args.head.encoding c.args.n p cs) (sym c.front_of.ensures) b.content in
+    sym c.in-Err-Whole.field-0-is ∙ c.in-Err-Whole.ensures.only cs r
+
+pub returns-in-Err-Whole-clause-stop : goal.returns-in-Err-Whole-clause-stop
+returns-in-Err-Whole-clause-stop c =
+    inl (too_long c.args.form c.args.head.encoding c.args.n c.args.head.len c.args.head.rest.now (subst (λ p. IsContentStop c.args.form c.args.head.encoding c.args.n p Whole) c.front_of.ensures (subst (IsContentStop c.args.form c.args.head.encoding c.args.n c.front_of.result.now) c.in-Err-Whole.field-0-is c.in-Err-Whole.ensures.stop)))
+
+pub content_stop-stop-requires-clause-none : goal.content_stop-stop-requires-clause-none
+content_stop-stop-requires-clause-none c cs content =
+    let r : ReadsContent c.args.form c.args.head.encoding c.args.n c.front_of.result.now cs = subst (λ p. ReadsContent c.args.form c.args.head.encoding c.args.n p cs) (sym c.front_of.ensures) content in
+    let never = c.in-Err-Fault.ensures.only cs r in
+    cc
+
+pub returns-in-Err-Fault-clause-only : goal.returns-in-Err-Fault-clause-only
+returns-in-Err-Fault-clause-only c cs b =
+    let r : ReadsContent c.args.form c.args.head.encoding c.args.n c.front_of.result.now cs = subst (λ p. ReadsContent c.args.form c.args.head.encoding c.args.n p cs) (sym c.front_of.ensures) b.content in
+    let never = c.in-Err-Fault.ensures.only cs r in
+    absurd (cc)
+
+pub returns-then-head-clause-stop : goal.returns-then-head-clause-stop
+returns-then-head-clause-stop c =
+    let cs = cells_of c.args.form c.in-Ok.read.nulls c.in-Ok.read.values in
+    inr (short_content c.args.form c.args.head.encoding c.args.n c.args.head.len c.args.head.rest.now cs (omega arith) (subst (λ p. ReadsContent c.args.form c.args.head.encoding c.args.n p cs) c.front_of.ensures c.in-Ok.ensures.found), refl)
