@@ -10,6 +10,9 @@ use kt_records::{Entry, spell};
 use std::alloc::Global;
 use std::mem;
 
+// How many bytes a frame has where its record is of one operation, or of a few.
+const FRAME_USUAL: usize = 64;
+
 // Writes a length behind the gate at this place.
 fn set_length(bytes: &mut Vec<u8>, gate: usize, len: u32)
     requires { gate + 5 ≤ length bytes.old.items }
@@ -42,6 +45,7 @@ pub fn spelled(alloc: Global, records: &[Entry]) -> Result<Octets, NoMemory>
     ensures { IfOk result (λ bytes. bytes ≡ flat_map frame (map spelling records.now) ++ 0 ∷ []) }
 {
     let mut out = Octets::new(alloc);
+    out.reserve(records.len().saturating_mul(FRAME_USUAL))?;
     'records: for entry in records {
         put_frame(alloc, &mut out, entry)?;
     }

@@ -43,7 +43,7 @@ pub fn counted_cells_of(
 ) -> Result<(Vec<(u16, Cell)>, &[u8]), Stop>
     ensures { Gives (λ x. (x.0.items, x.1.now)) result (many_at listed_cell_at count [] bytes.now) }
 {
-    let mut cells = Vec::new(alloc);
+    let mut cells = Vec::with_capacity(alloc, usize::from(count).min(bytes.len() / 3))?;
     let mut rest = bytes;
     'cells: for _ in 0..count {
         let (cell, after) = listed_cell_of(alloc, &cells, rest)?;

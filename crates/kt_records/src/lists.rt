@@ -52,7 +52,7 @@ fn operation_of<'a>(
 pub fn operations_of(alloc: Global, count: u16, bytes: &[u8]) -> Result<(Vec<RowOp>, &[u8]), Stop>
     ensures { Gives (λ x. (x.0.items, x.1.now)) result (many_at operation_at count [] bytes.now) }
 {
-    let mut ops = Vec::new(alloc);
+    let mut ops = Vec::with_capacity(alloc, usize::from(count).min(bytes.len() / 5))?;
     let mut rest = bytes;
     'ops: for _ in 0..count {
         let (op, after) = operation_of(alloc, &ops, rest)?;
@@ -119,7 +119,7 @@ pub fn commit_rows_of(
 ) -> Result<(Vec<CommitRow>, &[u8]), Stop>
     ensures { Gives (λ x. (x.0.items, x.1.now)) result (many_at (λ front. commit_row_at) count [] bytes.now) }
 {
-    let mut rows = Vec::new(alloc);
+    let mut rows = Vec::with_capacity(alloc, usize::from(count).min(bytes.len() / 2))?;
     let mut rest = bytes;
     'rows: for _ in 0..count {
         let (row, after) = commit_row_of(rest)?;
