@@ -7,11 +7,14 @@ ghost use Rattle.kt_app.specs.Outside.{Reads, WritesFront, Gains};
 
 use kt_base::{Failed, NoMemory, Sink, Source};
 use std::alloc::Global;
+use thiserror::Error;
 
 /// Why a source was not read.
-#[derive(Clone, Copy, Debug, PartialEq, Eq)]
+#[derive(Clone, Copy, Debug, PartialEq, Eq, Error)]
 pub enum ReadNo {
+    #[error("the source failed")]
     Failed,
+    #[error("out of memory")]
     Memory,
 }
 

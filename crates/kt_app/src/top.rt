@@ -36,6 +36,7 @@ use kt_seatlock::{Pass, SeatLock};
 use std::alloc::Global;
 use std::sync::Wait;
 use std::thread::Threads;
+use thiserror::Error;
 
 /// What a call of the program ends with: its status, and its devices and its clock.
 #[derive(Drop)]
@@ -47,10 +48,13 @@ pub struct Ended<L, D, C> {
 }
 
 /// Why no script was read.
-#[derive(Clone, Copy, Debug, PartialEq, Eq)]
+#[derive(Clone, Copy, Debug, PartialEq, Eq, Error)]
 pub enum SourceNo {
+    #[error("line {number} of the script is refused for reason {reason}")]
     Line { number: u64, reason: u8 },
+    #[error("the source failed")]
     Failed,
+    #[error("out of memory")]
     Memory,
 }
 

@@ -12,18 +12,24 @@ use crate::{Cell, Kind, NoMemory, Octets};
 use itoa::Buffer;
 use memchr::memchr;
 use std::alloc::{AllocError, AllocFailed, Global};
+use thiserror::Error;
 
 /// Why a text is no cell of a kind. Of those that hold the first is told.
-#[derive(Clone, Copy, Debug, PartialEq, Eq)]
+#[derive(Clone, Copy, Debug, PartialEq, Eq, Error)]
 pub enum LiteralNo {
     /// The text is no literal.
+    #[error("the text is no literal")]
     Form,
     /// The text is `null`.
+    #[error("the text is null")]
     Null,
     /// A literal of another kind, or a number out of range.
+    #[error("the literal is of another kind or out of range")]
     Kind,
     /// More than 65,536 bytes.
+    #[error("the cell has more than 65,536 bytes")]
     Long,
+    #[error("out of memory")]
     Memory,
 }
 

@@ -9,16 +9,21 @@ ghost use Rattle.kt_boot.specs.Commits.{is_commit_of};
 use kt_base::{NoMemory, Octets};
 use kt_records::{Entry, spell};
 use std::alloc::Global;
+use thiserror::Error;
 
 /// Why a tablet is not opened.
-#[derive(Clone, Copy, Debug, PartialEq, Eq)]
+#[derive(Clone, Copy, Debug, PartialEq, Eq, Error)]
 pub enum Why {
     /// The log is at fault in the frame whose gate stands at this offset.
+    #[error("the log is at fault at offset {offset}")]
     B3 { offset: u64 },
     /// Its last timestamp is too great for another run.
+    #[error("the last timestamp {last} is too great")]
     B6 { last: u64 },
     /// A call on the device failed.
+    #[error("a device failed")]
     Fault,
+    #[error("out of memory")]
     Memory,
 }
 

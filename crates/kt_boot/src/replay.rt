@@ -10,12 +10,15 @@ use kt_history::Target;
 use kt_records::{CommitRow, Entry};
 use std::alloc::Global;
 use std::collections::BTreeMap;
+use thiserror::Error;
 
 /// Why records make no table.
-#[derive(Clone, Copy, Debug, PartialEq, Eq)]
+#[derive(Clone, Copy, Debug, PartialEq, Eq, Error)]
 pub enum ReplayNo {
     /// The COMMIT of this timestamp calls an operation needed that changes nothing.
+    #[error("the COMMIT of timestamp {ts} needs an operation that changes nothing")]
     Late { ts: u64 },
+    #[error("out of memory")]
     Memory,
 }
 

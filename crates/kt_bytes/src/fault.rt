@@ -6,22 +6,27 @@ ghost use Rattle.kt_bytes.specs.Reading.{IsAmong};
 
 use crate::NoMemory;
 use std::alloc::{AllocError, AllocFailed};
+use thiserror::Error;
 
 /// Why bytes could not be read.
-#[derive(Clone, Copy, Debug, PartialEq, Eq)]
+#[derive(Clone, Copy, Debug, PartialEq, Eq, Error)]
 pub enum CodecNo {
     /// No spelling goes on with the field at this offset, or the bytes end there too early.
+    #[error("no spelling goes on at offset {offset}")]
     Place { offset: u64 },
     /// There was no memory.
+    #[error("out of memory")]
     Memory,
 }
 
 /// Why a field could not be read.
-#[derive(Clone, Copy, Debug, PartialEq, Eq)]
+#[derive(Clone, Copy, Debug, PartialEq, Eq, Error)]
 pub enum Stop {
     /// There was no memory.
+    #[error("out of memory")]
     Memory,
     /// There is a fault, with so many bytes from its place to the end: none where bytes are missing.
+    #[error("no spelling goes on {0} bytes before the end")]
     Left(usize),
 }
 

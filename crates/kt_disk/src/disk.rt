@@ -6,11 +6,14 @@ ghost use Rattle.kt_base.specs.Causes.{Rose, HasCause};
 use crate::FileList;
 use kt_base::Failed;
 use std::alloc::{AllocError, Global};
+use thiserror::Error;
 
 /// Why a list of files is not given.
-#[derive(Clone, Copy, Debug, PartialEq, Eq)]
+#[derive(Clone, Copy, Debug, PartialEq, Eq, Error)]
 pub enum DiskNo {
+    #[error("the device failed")]
     Failed,
+    #[error("out of memory")]
     Memory,
 }
 

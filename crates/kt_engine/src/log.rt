@@ -13,17 +13,22 @@ use kt_base::Clock;
 use kt_disk::Disk;
 use kt_loglaws::{Batch, LogNo as SideNo};
 use std::alloc::Global;
+use thiserror::Error;
 
 /// Why the log is not lent.
-#[derive(Clone, Copy, Debug, PartialEq, Eq)]
+#[derive(Clone, Copy, Debug, PartialEq, Eq, Error)]
 pub enum LogNo {
     /// The tablet has stopped.
+    #[error("the tablet has stopped")]
     Stopped,
     /// This pass has it out.
+    #[error("pass {by} has the log out")]
     Out { by: u32 },
     /// Nothing is queued.
+    #[error("nothing is queued")]
     Empty,
     /// There was no memory.
+    #[error("out of memory")]
     Memory,
 }
 

@@ -6,13 +6,16 @@ ghost use Rattle.kt_journal.specs.declared.refusal.JournalNo.TheVariants as jour
 use kt_base::{Failed, NoMemory};
 use kt_disk::DiskNo;
 use std::alloc::{AllocError, AllocFailed};
+use thiserror::Error;
 
 /// Why an append gives up.
-#[derive(Clone, Copy, Debug, PartialEq, Eq)]
+#[derive(Clone, Copy, Debug, PartialEq, Eq, Error)]
 pub enum AppendNo {
     /// The device has failed.
+    #[error("the device failed")]
     Fault,
     /// There was no memory, and nothing was written.
+    #[error("out of memory")]
     Memory,
 }
 
@@ -25,13 +28,16 @@ impl From<NoMemory> for AppendNo {
 }
 
 /// Why opening a log gives up.
-#[derive(Clone, Copy, Debug, PartialEq, Eq)]
+#[derive(Clone, Copy, Debug, PartialEq, Eq, Error)]
 pub enum JournalNo {
     /// The device has failed.
+    #[error("the device failed")]
     Fault,
     /// The log has its first fault at this offset.
+    #[error("the log is at fault at offset {offset}")]
     Place { offset: u64 },
     /// There was no memory.
+    #[error("out of memory")]
     Memory,
 }
 

@@ -12,6 +12,7 @@ use std::alloc::{AllocError, Global};
 use std::marker::Model;
 use std::mem;
 use std::snapshot::Snapshot;
+use thiserror::Error;
 
 /// The log, lent to a pass, and the records that it is to append.
 #[derive(Drop)]
@@ -21,13 +22,16 @@ pub struct Batch<L: Disk> {
 }
 
 /// Why the log is not lent.
-#[derive(Clone, Copy, Debug, PartialEq, Eq)]
+#[derive(Clone, Copy, Debug, PartialEq, Eq, Error)]
 pub enum LogNo {
     /// This pass has it out.
+    #[error("pass {by} has the log out")]
     Out { by: u32 },
     /// Nothing is queued.
+    #[error("nothing is queued")]
     Empty,
     /// There was no memory.
+    #[error("out of memory")]
     Memory,
 }
 

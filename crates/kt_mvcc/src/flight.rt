@@ -14,6 +14,7 @@ use kt_base::NoMemory;
 use kt_base::limits::READING_MOST;
 use std::alloc::Global;
 use std::marker::Model;
+use thiserror::Error;
 
 /// The last timestamp, the ancient history mark, and the writes that fly with the keys that they hold.
 /// A key that no write holds is found by its hash, whatever flies; where one is held, the writes are looked at in turn.
@@ -39,11 +40,13 @@ impl Model for Flight {
 }
 
 /// Why a write does not begin.
-#[derive(Clone, Copy, Debug, PartialEq, Eq)]
+#[derive(Clone, Copy, Debug, PartialEq, Eq, Error)]
 pub enum MvccNo {
     /// The flying write of this timestamp holds one of the keys, and it is the least that does.
+    #[error("the write of timestamp {ts} holds one of the keys")]
     Wait { ts: u64 },
     /// There was no memory for it.
+    #[error("out of memory")]
     Memory,
 }
 

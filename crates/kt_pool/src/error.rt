@@ -1,7 +1,9 @@
 use std::alloc::{AllocError, AllocFailed};
+use thiserror::Error;
 
 /// There was no memory.
-#[derive(Clone, Copy, Debug, PartialEq, Eq)]
+#[derive(Clone, Copy, Debug, PartialEq, Eq, Error)]
+#[error("out of memory")]
 pub struct NoMemory;
 
 impl From<AllocError> for NoMemory {
@@ -17,7 +19,8 @@ impl<T: Drop> From<AllocFailed<T>> for NoMemory {
 }
 
 /// So many cells were asked for, and so many were free and not reserved.
-#[derive(Clone, Copy, Debug, PartialEq, Eq)]
+#[derive(Clone, Copy, Debug, PartialEq, Eq, Error)]
+#[error("{need} cells were asked for, and {free} were free")]
 pub struct Full {
     pub need: u32,
     pub free: u32,

@@ -3,6 +3,7 @@ ghost use Rattle.std.specs.Prelude.{◌≡◌};
 
 use kt_base::{Cell, Kind, Octets};
 use std::marker::Model;
+use thiserror::Error;
 
 /// A column of a table. Its id stays with it, whatever becomes of the columns around it.
 #[derive(Clone, Debug, Drop)]
@@ -54,18 +55,24 @@ impl ColumnList {
 }
 
 /// Why columns make no schema. A place is the number of a column, from 0.
-#[derive(Clone, Copy, Debug, PartialEq, Eq)]
+#[derive(Clone, Copy, Debug, PartialEq, Eq, Error)]
 pub enum SchemaNo {
     /// None is a key column.
+    #[error("no column is a key")]
     S1,
     /// A key column behind one that is no key.
+    #[error("key column {at} stands behind another column")]
     S2 { at: usize },
     /// A key column that may be null, or is of truth values.
+    #[error("key column {at} is nullable or of truth values")]
     S3 { at: usize },
     /// A column with the name of one before it.
+    #[error("column {at} has the name of one before it")]
     S4 { at: usize },
     /// More than 300 columns.
+    #[error("there are more than 300 columns")]
     S5,
     /// There was no memory for the schema.
+    #[error("out of memory")]
     Memory,
 }

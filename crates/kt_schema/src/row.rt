@@ -9,17 +9,22 @@ use crate::{Column, Schema};
 use kt_base::limits::{CELL_LEN, KEY_LEN};
 use kt_base::{Cell, Kind, Row};
 use kt_key::{has_kind, key_len};
+use thiserror::Error;
 
 /// Why a schema does not take a row. A place is the number of a cell, from 0.
-#[derive(Clone, Copy, Debug, PartialEq, Eq)]
+#[derive(Clone, Copy, Debug, PartialEq, Eq, Error)]
 pub enum RowNo {
     /// A cell of another kind, or out of its range; or a cell or a column too much.
+    #[error("cell {at} is not of its column's kind, or one too many")]
     S6 { at: usize },
     /// Null under a column that takes no null.
+    #[error("cell {at} is null in a column that is not nullable")]
     S7 { at: usize },
     /// A cell of more than 65,536 bytes.
+    #[error("cell {at} has more than 65,536 bytes")]
     S8 { at: usize },
     /// An encoded key of more than 16,384 bytes.
+    #[error("the encoded key has {length} bytes, more than 16,384")]
     S9 { length: usize },
 }
 

@@ -6,9 +6,11 @@ use crate::shared::Shared;
 use crate::view::View;
 use atomic_table::Table;
 use std::alloc::Global;
+use thiserror::Error;
 
 /// There was no memory for a lock.
-#[derive(Clone, Copy, Debug, PartialEq, Eq)]
+#[derive(Clone, Copy, Debug, PartialEq, Eq, Error)]
+#[error("out of memory")]
 pub struct NoMemory;
 
 /// A lock whose value is moved out at a visit, and home after it.

@@ -18,6 +18,7 @@ use kt_schema::Schema;
 use std::alloc::Global;
 use std::marker::Model;
 use std::snapshot::Snapshot;
+use thiserror::Error;
 
 /// A write that flies, of which the first rows are applied.
 #[derive(Debug, Drop)]
@@ -108,16 +109,19 @@ impl<S: RowStore, C: Clock> Model for Tablet<S, C> {
 }
 
 /// Why a scan of the present draws no time, or the mark does not rise.
-#[derive(Clone, Copy, Debug, PartialEq, Eq)]
+#[derive(Clone, Copy, Debug, PartialEq, Eq, Error)]
 pub enum LookNo {
     /// The tablet has stopped.
+    #[error("the tablet has stopped")]
     Stopped,
     /// There was no memory for the line.
+    #[error("out of memory")]
     Memory,
 }
 
 /// The tablet has stopped.
-#[derive(Clone, Copy, Debug, PartialEq, Eq)]
+#[derive(Clone, Copy, Debug, PartialEq, Eq, Error)]
+#[error("the tablet has stopped")]
 pub struct Stopped;
 
 // The columns of a filled insert, no session yet, and room for the line of a stop.

@@ -10,19 +10,25 @@ use crate::store::RowStore;
 use kt_base::{Clock, NoMemory};
 use kt_history::{At, Event};
 use std::alloc::Global;
+use thiserror::Error;
 
 /// Why a scan is not answered.
-#[derive(Clone, Copy, Debug, PartialEq, Eq)]
+#[derive(Clone, Copy, Debug, PartialEq, Eq, Error)]
 pub enum SnapNo {
     /// The tablet has stopped.
+    #[error("the tablet has stopped")]
     Stopped,
     /// It reads below the mark.
+    #[error("time {t} is below the mark {a}")]
     Ancient { t: u64, a: u64 },
     /// This write flies, the least that does, and is not later than the time that is given.
+    #[error("the write of timestamp {f} flies at or below time {t}")]
     Busy { t: u64, f: u64 },
     /// This write flies, the least that does, and is not later than the time that was drawn. The scan waits for it.
+    #[error("the write of timestamp {f} still flies")]
     NotYet { f: u64 },
     /// There was no memory for the copy.
+    #[error("out of memory")]
     Memory,
 }
 

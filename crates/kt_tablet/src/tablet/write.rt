@@ -9,19 +9,25 @@ use kt_history::{Event, OpList};
 use kt_mvcc::{Flight, MvccNo};
 use std::alloc::Global;
 use std::mem;
+use thiserror::Error;
 
 /// Why a write does not begin.
-#[derive(Clone, Copy, Debug, PartialEq, Eq)]
+#[derive(Clone, Copy, Debug, PartialEq, Eq, Error)]
 pub enum BeginNo {
     /// The tablet has stopped.
+    #[error("the tablet has stopped")]
     Stopped,
     /// It needs more cells than a write may.
+    #[error("the write needs {need} cells, more than a write may")]
     Large { need: u32 },
     /// It has a key of a flying write, and this is the least such.
+    #[error("the write of timestamp {ts} holds one of the keys")]
     Wait { ts: u64 },
     /// Fewer cells than it needs are free and not promised.
+    #[error("the write needs {need} cells, and {free} are free")]
     Room { need: u32, free: u32 },
     /// There was no memory for it.
+    #[error("out of memory")]
     Memory,
 }
 
