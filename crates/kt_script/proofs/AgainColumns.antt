@@ -4,11 +4,10 @@ use Rattle.std.specs.Prelude.{if◌then◌else◌, codes}
 use Rattle.std.specs.List.{flat_map, onto_first}
 use Rattle.std.proofs.lemmas.Bool.{false≢true, eqb-true}
 use Rattle.kt_base.specs.declared.cell.Kind.{Kind}
-use Rattle.kt_base.specs.declared.cell.Kind.TheVariants as kind
 use Rattle.kt_base.specs.declared.cell.Cell.{Cell}
 use Rattle.kt_base.specs.declared.literal.LiteralNo.{LiteralNo}
 use Rattle.kt_base.specs.declared.literal.LiteralNo.TheVariants as no
-use Rattle.kt_base.specs.Literals.{same, literal, cell_in}
+use Rattle.kt_base.specs.Literals.{same, literal, value_in, cell_in}
 use Rattle.kt_base.proofs.Decimals.{same_text}
 use Rattle.kt_base.proofs.Literals.{all_spelled}
 use Rattle.kt_base.proofs.Values.{both_true}
@@ -18,11 +17,12 @@ use Rattle.kt_script.specs.declared.word.Side.{Side}
 use Rattle.kt_script.specs.declared.word.Side.TheVariants.{Outside, Inside, Slashed}
 use Rattle.kt_script.specs.Pieces.{side_after, ends_word, words_from, words_of}
 use Rattle.kt_script.specs.Reasons.{sound, cell_or_null}
-use Rattle.kt_script.specs.Columns.{ColumnLine, kind_of, with_default, as_key, marked, of_kind, column_line, default_reason, default_no, default_value, place_no, said_no, column_no, with_column, columns_with}
+use Rattle.kt_script.specs.Columns.{ColumnLine, kind_word, kinds, kind_of, with_default, as_key, marked, of_kind, column_line, default_reason, default_no, default_value, place_no, said_no, column_no, with_column, columns_with}
 use Rattle.kt_script.specs.Texts.{spaced, words}
-use Rattle.kt_script.specs.Print.{kind_word, word_if, default_words, column_words}
+use Rattle.kt_script.specs.Print.{word_if, default_words, column_words}
 use Rattle.kt_script.proofs.Pieces.{some_word}
-use Rattle.kt_script.proofs.AgainLiterals.{no_memory}
+use Rattle.kt_script.proofs.FormLaws.{kind_word as word_kind}
+use Rattle.kt_script.proofs.EachKind.{or_memory}
 
 -- ---- the words of a line
 
@@ -52,23 +52,8 @@ rejoined l = rejoined_from Outside l
 
 -- ---- what a line says is in its words
 
-kind_said : (word : List ℕ) (k : Kind) → kind_of word ≡ Some k → word ≡ kind_word k
-kind_said word k h = by (same word (codes "bool")) (same word (codes "int8")) (same word (codes "int16")) (same word (codes "int32")) (same word (codes "int64")) (same word (codes "string")) (same word (codes "binary")) refl refl refl refl refl refl refl h
-  where
-    is : (c : Kind) → same word (kind_word c) ≡ true → ◌≡◌ {A = Option Kind} (Some c) (Some k) → word ≡ kind_word k
-    is c e g = let one : c ≡ k = cc in same_text word (kind_word c) e ∙ ap kind_word one
-
-    by : (a b c d e f g : Bool) → same word (codes "bool") ≡ a → same word (codes "int8") ≡ b → same word (codes "int16") ≡ c → same word (codes "int32") ≡ d → same word (codes "int64") ≡ e → same word (codes "string") ≡ f → same word (codes "binary") ≡ g
-        → (if a then Some kind.Bool else (if b then Some kind.Int8 else (if c then Some kind.Int16 else (if d then Some kind.Int32 else (if e then Some kind.Int64 else (if f then Some kind.String else (if g then Some kind.Binary else None))))))) ≡ Some k
-        → word ≡ kind_word k
-    by true b c d e f g p1 p2 p3 p4 p5 p6 p7 q = is kind.Bool p1 q
-    by false true c d e f g p1 p2 p3 p4 p5 p6 p7 q = is kind.Int8 p2 q
-    by false false true d e f g p1 p2 p3 p4 p5 p6 p7 q = is kind.Int16 p3 q
-    by false false false true e f g p1 p2 p3 p4 p5 p6 p7 q = is kind.Int32 p4 q
-    by false false false false true f g p1 p2 p3 p4 p5 p6 p7 q = is kind.Int64 p5 q
-    by false false false false false true g p1 p2 p3 p4 p5 p6 p7 q = is kind.String p6 q
-    by false false false false false false true p1 p2 p3 p4 p5 p6 p7 q = is kind.Binary p7 q
-    by false false false false false false false p1 p2 p3 p4 p5 p6 p7 q = absurd cc
+kind_said : (text : List ℕ) (k : Kind) → kind_of text ≡ Some k → text ≡ kind_word k
+kind_said text k h = word_kind kind_word kinds text k h
 
 -- the words of a default's text
 abbrev text_words : Option (List ℕ) → List (List ℕ)
@@ -150,7 +135,7 @@ default_again k (Some text) h = ap (λ t. codes "default" ∷ t ∷ []) (by (cel
     by (Err no.Null) e g = absurd (omega arith)
     by (Err no.Kind) e g = absurd (omega arith)
     by (Err no.Long) e g = absurd (omega arith)
-    by (Err no.Memory) e g = absurd (no_memory k text e)
+    by (Err no.Memory) e g = absurd (or_memory k (value_in text) e)
 
 pub column_again : (columns : List Column) (l : List ℕ) → sound ≤ column_no columns l → (c : Column) × (columns_with columns l ≡ columns ++ c ∷ []) × (l ≡ words (column_words c))
 column_again columns l h = by (column_line (words_of l)) refl h

@@ -16,7 +16,7 @@ use Rattle.kt_base.proofs.Spelled.{chosen}
 use Rattle.kt_schema.specs.declared.column.Column.{Column}
 use Rattle.kt_script.specs.Reasons.{cell_no, cell_reason, cell_value, cell_or_null}
 use Rattle.kt_script.specs.Writes.{name_in, behind_name}
-use Rattle.kt_script.proofs.OpWords.{read_cell_fits}
+use Rattle.kt_script.proofs.EachKind.{or_memory, under_null}
 
 -- a text that says nothing is the word for it
 null_value : (bytes : List ℕ) → value_in bytes ≡ Some nothing → bytes ≡ codes "null"
@@ -37,67 +37,12 @@ null_value bytes e = elim (chosen (same bytes (codes "null")) (Some nothing) _ (
     some None None (Some b) g = cc
     some None None None g = cc
 
-short_null : (bytes : List ℕ) → short_bytes bytes ≡ Err no.Null → ⊥
-short_null bytes h = by (nat_lt 65536 (length bytes)) h
-  where
-    by : (t : Bool) → (if t then Err no.Long else Ok (cell.Bytes bytes)) ≡ Err no.Null → ⊥
-    by true g = cc
-    by false g = cc
-
-number_null : (t : Bool) (n : ℤ) → (if t then Ok (cell.Int n) else Err no.Kind) ≡ Err no.Null → ⊥
-number_null true n h = cc
-number_null false n h = cc
-
-under_null : (k : Kind) (v : Value) → cell_under k v ≡ Err no.Null → v ≡ nothing
-under_null k nothing h = refl
-under_null kind.Bool (truth b) h = absurd cc
-under_null kind.Int8 (truth b) h = absurd cc
-under_null kind.Int16 (truth b) h = absurd cc
-under_null kind.Int32 (truth b) h = absurd cc
-under_null kind.Int64 (truth b) h = absurd cc
-under_null kind.String (truth b) h = absurd cc
-under_null kind.Binary (truth b) h = absurd cc
-under_null k (number n) h = absurd (number_null (number_fits k n) n h)
-under_null kind.Bool (text bytes) h = absurd cc
-under_null kind.Int8 (text bytes) h = absurd cc
-under_null kind.Int16 (text bytes) h = absurd cc
-under_null kind.Int32 (text bytes) h = absurd cc
-under_null kind.Int64 (text bytes) h = absurd cc
-under_null kind.String (text bytes) h = absurd (short_null bytes h)
-under_null kind.Binary (text bytes) h = absurd cc
-under_null kind.Bool (raw bytes) h = absurd cc
-under_null kind.Int8 (raw bytes) h = absurd cc
-under_null kind.Int16 (raw bytes) h = absurd cc
-under_null kind.Int32 (raw bytes) h = absurd cc
-under_null kind.Int64 (raw bytes) h = absurd cc
-under_null kind.String (raw bytes) h = absurd cc
-under_null kind.Binary (raw bytes) h = absurd (short_null bytes h)
-
 null_text : (k : Kind) (bytes : List ℕ) → cell_in k bytes ≡ Err no.Null → bytes ≡ codes "null"
 null_text k bytes e = by (value_in bytes) refl e
   where
     by : (o : Option Value) → value_in bytes ≡ o → cell_or k o ≡ Err no.Null → bytes ≡ codes "null"
     by None is g = absurd cc
     by (Some v) is g = null_value bytes (is ∙ ap Some (under_null k v g))
-
-unfit : (k : Kind) → fits k cell.Null ≡ true → ⊥
-unfit kind.Bool e = cc
-unfit kind.Int8 e = cc
-unfit kind.Int16 e = cc
-unfit kind.Int32 e = cc
-unfit kind.Int64 e = cc
-unfit kind.String e = cc
-unfit kind.Binary e = cc
-
--- what a text is read as is never want of memory, since a column without nulls takes what is read
-pub no_memory : (k : Kind) (bytes : List ℕ) → cell_in k bytes ≡ Err no.Memory → ⊥
-no_memory k bytes e = elim (read_cell_fits c bytes (subst (λ r. 17 < cell_reason false r) (sym e) (omega arith))) [
-  | inl fit ↦ unfit k (subst (λ x. fits k x ≡ true) (ap cell_or_null e) fit)
-  | inr null ↦ false≢true null.0
-]
-  where
-    c : Column
-    c = record { id = 1; name = []; kind = k; key = false; nullable = false; default = None }
 
 -- a literal that is taken is that of its cell
 pub literal_again : (c : Column) (word : List ℕ) → 17 < cell_no c word → word ≡ literal c.kind (cell_value c.kind word)
@@ -109,7 +54,7 @@ literal_again c word h = by (cell_in c.kind word) refl h
     by (Err no.Kind) e g = absurd (omega arith)
     by (Err no.Null) e g = null_text c.kind word e
     by (Err no.Long) e g = absurd (omega arith)
-    by (Err no.Memory) e g = absurd (no_memory c.kind word e)
+    by (Err no.Memory) e g = absurd (or_memory c.kind (value_in word) e)
 
 whole : (k : ℕ) (xs : List ℕ) → take k xs ++ drop (length (take k xs)) xs ≡ xs
 whole zero xs = refl

@@ -1,8 +1,8 @@
 -- A scan or mark line that no reason refuses is what is printed of what it says.
-use Rattle.std.proofs.Common.{◌≡◌, ℕ, zero, suc, ◌+◌, ◌≤◌, Bool, true, false, ◌||◌, List, [], ◌∷◌, ◌++◌, length, take, drop, map, Option, Some, None, Result, Ok, Err, cond, not, refl, sym, ap, subst, ◌∙◌, arith, append_assoc}
+use Rattle.std.proofs.Common.{◌≡◌, ℕ, zero, suc, ◌+◌, ◌≤◌, Bool, true, false, ◌||◌, List, [], ◌∷◌, ◌++◌, length, take, drop, map, Option, Some, None, Result, Ok, Err, cond, not, refl, sym, ap, subst, ◌∙◌, arith}
 use mathlib.Core.List.{append-nil}
 use Rattle.std.specs.Prelude.{pos, if◌then◌else◌, ◌==◌, nat_lt, codes}
-use Rattle.std.specs.List.{flat_map, onto_first, position_or_len, cons_option}
+use Rattle.std.specs.List.{onto_first, position_or_len, cons_option}
 use Rattle.std.specs.Option.{option_map}
 use Rattle.std.specs.Fmt.{decimal}
 use Rattle.std.proofs.lemmas.Bool.{eqb-true}
@@ -25,14 +25,13 @@ use Rattle.kt_script.specs.declared.asked.Sign.TheVariants.{Equal, Below, AtMost
 use Rattle.kt_script.specs.Pieces.{cut}
 use Rattle.kt_script.specs.Reasons.{sound, reason_if, cell_or_null, cell_value}
 use Rattle.kt_script.specs.Columns.{counts_from, IsTable}
-use Rattle.kt_script.specs.Texts.{spaced, words}
 use Rattle.kt_script.specs.Times.{most_time, time_in, late_no, time_no, time_or_zero, mark_no, mark_of, at_no}
 use Rattle.kt_script.specs.Writes.{is_sign, name_in, behind_name, column_named}
 use Rattle.kt_script.specs.Scans.{Asked, compared, null, not_null, PredLine, or_equal, signed, Taken, not_null_asked, is_asked, null_asked, asked_by, pred_at, behind_pred, preds_after, preds_in, ScanLine, with_preds, tests_in, where_line, select_line, Timed, given, timed, names_no, compared_reason, asked_no, preds_no, select_no, line_no, timed_no, scan_no, ids_of, test_of, pred_of, preds_of, scan_said, timed_scan, scan_of}
 use Rattle.kt_script.specs.Fit.{column_of}
-use Rattle.kt_script.specs.Print.{joined, name_of, test_text, test_under, pred_text, at_text, select_text, where_text, scan_text}
+use Rattle.kt_script.specs.Print.{joined, parted, name_of, test_words, words_under, pred_words, at_words, names_word, select_words, where_words, scan_words}
 use Rattle.kt_script.proofs.Cuts.{some_piece}
-use Rattle.kt_script.proofs.OpWords.{or_memory}
+use Rattle.kt_script.proofs.EachKind.{or_memory}
 use Rattle.kt_script.proofs.TimeWords.{unsigned}
 use Rattle.kt_script.proofs.AgainLiterals.{name_behind}
 use Rattle.kt_script.proofs.ScanFit.{name_is, id_is, found, ids_step, not_there}
@@ -57,36 +56,34 @@ time_is word t e h = by (is_count word) refl e
         number_text word (pos (count_on 0 word)) (unsigned word counts) (omega (arith, is, low)) ∙ ap decimal is
     by false counts g = absurd cc
 
-pub mark_again : (ws : List (List ℕ)) → sound ≤ mark_no ws → codes "mark " ++ decimal (mark_of ws) ≡ words (codes "mark" ∷ ws)
+pub mark_again : (ws : List (List ℕ)) → sound ≤ mark_no ws → decimal (mark_of ws) ∷ [] ≡ ws
 mark_again [] h = absurd (omega (arith, h))
 mark_again (word ∷ []) h = by (time_in word) refl h
   where
-    by : (o : Option ℕ) → time_in word ≡ o → sound ≤ time_no o → codes "mark " ++ decimal (time_or_zero o) ≡ words (codes "mark" ∷ word ∷ [])
+    by : (o : Option ℕ) → time_in word ≡ o → sound ≤ time_no o → decimal (time_or_zero o) ∷ [] ≡ word ∷ []
     by None e g = absurd (omega arith)
-    by (Some t) e g = ap (λ x. codes "mark " ++ x) (sym (time_is word t e (omega (arith, g))) ∙ sym (append-nil word))
+    by (Some t) e g = ap (λ x. x ∷ []) (sym (time_is word t e (omega (arith, g))))
 mark_again (word ∷ more ∷ later) h = absurd (omega (arith, h))
 
 -- when a scan reads
-timed_said : (ws : List (List ℕ)) (t : Timed) → timed ws ≡ Some t → sound ≤ at_no t.0 → flat_map spaced ws ≡ (32 ∷ at_text t.0) ++ flat_map spaced t.1
+timed_said : (ws : List (List ℕ)) (t : Timed) → timed ws ≡ Some t → sound ≤ at_no t.0 → ws ≡ at_words t.0 ++ t.1
 timed_said [] t e h = absurd cc
 timed_said (word ∷ ws) t e h = by (same word (codes "now")) (same word (codes "at")) refl refl e
   where
-    at_time : (vs : List (List ℕ)) → given vs ≡ Some t → flat_map spaced (codes "at" ∷ vs) ≡ (32 ∷ at_text t.0) ++ flat_map spaced t.1
+    at_time : (vs : List (List ℕ)) → given vs ≡ Some t → codes "at" ∷ vs ≡ at_words t.0 ++ t.1
     at_time [] g = absurd cc
     at_time (v ∷ vs) g = by_time (time_in v) refl g
       where
-        by_time : (o : Option ℕ) → time_in v ≡ o → option_map (λ n. (Given n, vs)) o ≡ Some t → flat_map spaced (codes "at" ∷ v ∷ vs) ≡ (32 ∷ at_text t.0) ++ flat_map spaced t.1
+        by_time : (o : Option ℕ) → time_in v ≡ o → option_map (λ n. (Given n, vs)) o ≡ Some t → codes "at" ∷ v ∷ vs ≡ at_words t.0 ++ t.1
         by_time None i f = absurd cc
         by_time (Some n) i f =
             let is : ◌≡◌ {A = Timed} (Given n, vs) t = cc in
             let low : sound ≤ late_no n = subst (λ (x : Timed). sound ≤ at_no x.0) (sym is) h in
-            subst (λ (x : Timed). flat_map spaced (codes "at" ∷ v ∷ vs) ≡ (32 ∷ at_text x.0) ++ flat_map spaced x.1) is (ap (λ x. codes " at " ++ (x ++ flat_map spaced vs)) (time_is v n i low))
+            subst (λ (x : Timed). codes "at" ∷ v ∷ vs ≡ at_words x.0 ++ x.1) is (ap (λ x. codes "at" ∷ x ∷ vs) (time_is v n i low))
 
-    by : (now at : Bool) → same word (codes "now") ≡ now → same word (codes "at") ≡ at → (if now then Some (Looked, ws) else (if at then given ws else None)) ≡ Some t → flat_map spaced (word ∷ ws) ≡ (32 ∷ at_text t.0) ++ flat_map spaced t.1
-    by true at n a g =
-        let is : ◌≡◌ {A = Timed} (Looked, ws) t = cc in
-        subst (λ (x : Timed). flat_map spaced (word ∷ ws) ≡ (32 ∷ at_text x.0) ++ flat_map spaced x.1) is (ap (λ w. (32 ∷ w) ++ flat_map spaced ws) (same_text word (codes "now") n))
-    by false true n a g = ap (λ w. (32 ∷ w) ++ flat_map spaced ws) (same_text word (codes "at") a) ∙ at_time ws g
+    by : (now at : Bool) → same word (codes "now") ≡ now → same word (codes "at") ≡ at → (if now then Some (Looked, ws) else (if at then given ws else None)) ≡ Some t → word ∷ ws ≡ at_words t.0 ++ t.1
+    by true at n a g = let is : ◌≡◌ {A = Timed} (Looked, ws) t = cc in subst (λ (x : Timed). word ∷ ws ≡ at_words x.0 ++ x.1) is (ap (λ w. w ∷ ws) (same_text word (codes "now") n))
+    by false true n a g = ap (λ w. w ∷ ws) (same_text word (codes "at") a) ∙ at_time ws g
     by false false n a g = absurd cc
 
 -- ---- a test
@@ -98,34 +95,37 @@ sign_text AtMost = codes "<="
 sign_text Above = codes ">"
 sign_text AtLeast = codes ">="
 
--- what stands behind the name
-abbrev asked_text : Asked → List ℕ
-asked_text (compared sign text) = sign_text sign ++ text
-asked_text null = codes " is null"
-asked_text not_null = codes " is not null"
+-- the words of what is asked of a name
+abbrev asked_words : List ℕ → Asked → List (List ℕ)
+asked_words name (compared sign text) = (name ++ (sign_text sign ++ text)) ∷ []
+asked_words name null = name ∷ codes "is" ∷ codes "null" ∷ []
+asked_words name not_null = name ∷ codes "is" ∷ codes "not" ∷ codes "null" ∷ []
 
-abbrev pred_line_text : PredLine → List ℕ
-pred_line_text p = p.name ++ asked_text p.asked
+abbrev line_words : PredLine → List (List ℕ)
+line_words p = asked_words p.name p.asked
 
-or_equal_is : (strict loose : Sign) (byte : ℕ) (rest : List ℕ) → sign_text strict ≡ byte ∷ [] → sign_text loose ≡ byte ∷ 61 ∷ [] → asked_text (or_equal strict loose rest) ≡ byte ∷ rest
-or_equal_is strict loose byte [] s l = ap (λ x. x ++ []) s
-or_equal_is strict loose byte (b ∷ rest) s l = by (b == 61) refl
+or_equal_is : (name : List ℕ) (strict loose : Sign) (byte : ℕ) (rest : List ℕ) → sign_text strict ≡ byte ∷ [] → sign_text loose ≡ byte ∷ 61 ∷ [] → asked_words name (or_equal strict loose rest) ≡ (name ++ byte ∷ rest) ∷ []
+or_equal_is name strict loose byte [] s l = ap (λ x. (name ++ (x ++ [])) ∷ []) s
+or_equal_is name strict loose byte (b ∷ rest) s l = by (b == 61) refl
   where
-    by : (t : Bool) → (b == 61) ≡ t → asked_text (if t then compared loose rest else compared strict (b ∷ rest)) ≡ byte ∷ b ∷ rest
-    by true e = ap (λ x. x ++ rest) l ∙ ap (λ x. byte ∷ x ∷ rest) (sym (eqb-true b 61 e))
-    by false e = ap (λ x. x ++ b ∷ rest) s
+    by : (t : Bool) → (b == 61) ≡ t → asked_words name (if t then compared loose rest else compared strict (b ∷ rest)) ≡ (name ++ byte ∷ b ∷ rest) ∷ []
+    by true e = ap (λ x. (name ++ (x ++ rest)) ∷ []) l ∙ ap (λ x. (name ++ byte ∷ x ∷ rest) ∷ []) (sym (eqb-true b 61 e))
+    by false e = ap (λ x. (name ++ (x ++ b ∷ rest)) ∷ []) s
 
-signed_is : (bytes : List ℕ) (asked : Asked) → signed bytes ≡ Some asked → bytes ≡ asked_text asked
-signed_is [] asked e = absurd cc
-signed_is (b ∷ rest) asked e = by (b == 61) (b == 60) (b == 62) refl refl refl e
+signed_is : (name bytes : List ℕ) (asked : Asked) → signed bytes ≡ Some asked → (name ++ bytes) ∷ [] ≡ asked_words name asked
+signed_is name [] asked e = absurd cc
+signed_is name (b ∷ rest) asked e = by (b == 61) (b == 60) (b == 62) refl refl refl e
   where
-    just : (a : Asked) → ◌≡◌ {A = Option Asked} (Some a) (Some asked) → a ≡ asked
-    just a g = cc
+    just : (a : Asked) → ◌≡◌ {A = Option Asked} (Some a) (Some asked) → asked_words name a ≡ asked_words name asked
+    just a g = let is : a ≡ asked = cc in ap (asked_words name) is
 
-    by : (x y z : Bool) → (b == 61) ≡ x → (b == 60) ≡ y → (b == 62) ≡ z → (if x then Some (compared Equal rest) else (if y then Some (or_equal Below AtMost rest) else (if z then Some (or_equal Above AtLeast rest) else None))) ≡ Some asked → b ∷ rest ≡ asked_text asked
-    by true y z p q r g = ap (λ n. n ∷ rest) (eqb-true b 61 p) ∙ ap asked_text (just (compared Equal rest) g)
-    by false true z p q r g = ap (λ n. n ∷ rest) (eqb-true b 60 q) ∙ (sym (or_equal_is Below AtMost 60 rest refl refl) ∙ ap asked_text (just (or_equal Below AtMost rest) g))
-    by false false true p q r g = ap (λ n. n ∷ rest) (eqb-true b 62 r) ∙ (sym (or_equal_is Above AtLeast 62 rest refl refl) ∙ ap asked_text (just (or_equal Above AtLeast rest) g))
+    begins : (n : ℕ) → (b == n) ≡ true → (name ++ b ∷ rest) ∷ [] ≡ (name ++ n ∷ rest) ∷ []
+    begins n p = ap (λ x. (name ++ x ∷ rest) ∷ []) (eqb-true b n p)
+
+    by : (x y z : Bool) → (b == 61) ≡ x → (b == 60) ≡ y → (b == 62) ≡ z → (if x then Some (compared Equal rest) else (if y then Some (or_equal Below AtMost rest) else (if z then Some (or_equal Above AtLeast rest) else None))) ≡ Some asked → (name ++ b ∷ rest) ∷ [] ≡ asked_words name asked
+    by true y z p q r g = begins 61 p ∙ just (compared Equal rest) g
+    by false true z p q r g = begins 60 q ∙ (sym (or_equal_is name Below AtMost 60 rest refl refl) ∙ just (or_equal Below AtMost rest) g)
+    by false false true p q r g = begins 62 r ∙ (sym (or_equal_is name Above AtLeast 62 rest refl refl) ∙ just (or_equal Above AtLeast rest) g)
     by false false false p q r g = absurd cc
 
 -- what begins with a sign asks
@@ -162,66 +162,66 @@ behind_is word = taken_drop (position_or_len is_sign word) word
 name_only : (word : List ℕ) → signed (behind_name word) ≡ None → word ≡ name_in word
 name_only word none = name_behind word ∙ (ap (λ x. name_in word ++ x) (behind_is word ∙ no_more word (ap signed (sym (behind_is word)) ∙ none)) ∙ append-nil (name_in word))
 
--- what a test's words say, and those behind it
-abbrev taken_text : Taken → List ℕ
-taken_text t = pred_line_text t.0 ++ flat_map spaced t.1
+-- the words of a test, and those behind it
+abbrev taken_words : Taken → List (List ℕ)
+taken_words t = line_words t.0 ++ t.1
 
-not_null_said : (name : List ℕ) (ws : List (List ℕ)) (t : Taken) → not_null_asked name ws ≡ Some t → name ++ (codes " is not" ++ flat_map spaced ws) ≡ taken_text t
+not_null_said : (name : List ℕ) (ws : List (List ℕ)) (t : Taken) → not_null_asked name ws ≡ Some t → name ∷ codes "is" ∷ codes "not" ∷ ws ≡ taken_words t
 not_null_said name [] t e = absurd cc
 not_null_said name (w ∷ ws) t e = by (same w (codes "null")) refl e
   where
-    by : (b : Bool) → same w (codes "null") ≡ b → (if b then Some (record { name = name; asked = not_null }, ws) else None) ≡ Some t → name ++ (codes " is not" ++ flat_map spaced (w ∷ ws)) ≡ taken_text t
+    by : (b : Bool) → same w (codes "null") ≡ b → (if b then Some (record { name = name; asked = not_null }, ws) else None) ≡ Some t → name ∷ codes "is" ∷ codes "not" ∷ w ∷ ws ≡ taken_words t
     by true s g =
         let is : ◌≡◌ {A = Taken} (record { name = name; asked = not_null }, ws) t = cc in
-        ap (λ x. name ++ (codes " is not" ++ ((32 ∷ x) ++ flat_map spaced ws))) (same_text w (codes "null") s) ∙ (sym (append_assoc name (codes " is not null") (flat_map spaced ws)) ∙ ap taken_text is)
+        ap (λ x. name ∷ codes "is" ∷ codes "not" ∷ x ∷ ws) (same_text w (codes "null") s) ∙ ap taken_words is
     by false s g = absurd cc
 
-is_said : (name w : List ℕ) (ws : List (List ℕ)) (t : Taken) → is_asked name w ws ≡ Some t → name ++ (codes " is" ++ flat_map spaced (w ∷ ws)) ≡ taken_text t
+is_said : (name w : List ℕ) (ws : List (List ℕ)) (t : Taken) → is_asked name w ws ≡ Some t → name ∷ codes "is" ∷ w ∷ ws ≡ taken_words t
 is_said name w ws t e = by (same w (codes "null")) (same w (codes "not")) refl refl e
   where
-    by : (a b : Bool) → same w (codes "null") ≡ a → same w (codes "not") ≡ b → (if a then Some (record { name = name; asked = null }, ws) else (if b then not_null_asked name ws else None)) ≡ Some t → name ++ (codes " is" ++ flat_map spaced (w ∷ ws)) ≡ taken_text t
+    by : (a b : Bool) → same w (codes "null") ≡ a → same w (codes "not") ≡ b → (if a then Some (record { name = name; asked = null }, ws) else (if b then not_null_asked name ws else None)) ≡ Some t → name ∷ codes "is" ∷ w ∷ ws ≡ taken_words t
     by true b s n g =
         let is : ◌≡◌ {A = Taken} (record { name = name; asked = null }, ws) t = cc in
-        ap (λ x. name ++ (codes " is" ++ ((32 ∷ x) ++ flat_map spaced ws))) (same_text w (codes "null") s) ∙ (sym (append_assoc name (codes " is null") (flat_map spaced ws)) ∙ ap taken_text is)
-    by false true s n g = ap (λ x. name ++ (codes " is" ++ ((32 ∷ x) ++ flat_map spaced ws))) (same_text w (codes "not") n) ∙ not_null_said name ws t g
+        ap (λ x. name ∷ codes "is" ∷ x ∷ ws) (same_text w (codes "null") s) ∙ ap taken_words is
+    by false true s n g = ap (λ x. name ∷ codes "is" ∷ x ∷ ws) (same_text w (codes "not") n) ∙ not_null_said name ws t g
     by false false s n g = absurd cc
 
-null_said : (name : List ℕ) (ws : List (List ℕ)) (t : Taken) → null_asked name ws ≡ Some t → name ++ flat_map spaced ws ≡ taken_text t
+null_said : (name : List ℕ) (ws : List (List ℕ)) (t : Taken) → null_asked name ws ≡ Some t → name ∷ ws ≡ taken_words t
 null_said name [] t e = absurd cc
 null_said name (v ∷ []) t e = absurd cc
 null_said name (v ∷ w ∷ ws) t e = by (same v (codes "is")) refl e
   where
-    by : (b : Bool) → same v (codes "is") ≡ b → (if b then is_asked name w ws else None) ≡ Some t → name ++ flat_map spaced (v ∷ w ∷ ws) ≡ taken_text t
-    by true s g = ap (λ x. name ++ ((32 ∷ x) ++ flat_map spaced (w ∷ ws))) (same_text v (codes "is") s) ∙ is_said name w ws t g
+    by : (b : Bool) → same v (codes "is") ≡ b → (if b then is_asked name w ws else None) ≡ Some t → name ∷ v ∷ w ∷ ws ≡ taken_words t
+    by true s g = ap (λ x. name ∷ x ∷ w ∷ ws) (same_text v (codes "is") s) ∙ is_said name w ws t g
     by false s g = absurd cc
 
-pred_said : (ws : List (List ℕ)) (t : Taken) → pred_at ws ≡ Some t → flat_map spaced ws ≡ 32 ∷ taken_text t
+pred_said : (ws : List (List ℕ)) (t : Taken) → pred_at ws ≡ Some t → ws ≡ taken_words t
 pred_said [] t e = absurd cc
 pred_said (word ∷ ws) t e = by (is_name (name_in word)) (signed (behind_name word)) refl e
   where
-    by : (b : Bool) (o : Option Asked) → signed (behind_name word) ≡ o → (if b then asked_by o (name_in word) ws else None) ≡ Some t → flat_map spaced (word ∷ ws) ≡ 32 ∷ taken_text t
-    by true None s g = ap (λ x. 32 ∷ (x ++ flat_map spaced ws)) (name_only word s) ∙ ap (λ x. 32 ∷ x) (null_said (name_in word) ws t g)
+    by : (b : Bool) (o : Option Asked) → signed (behind_name word) ≡ o → (if b then asked_by o (name_in word) ws else None) ≡ Some t → word ∷ ws ≡ taken_words t
+    by true None s g = ap (λ x. x ∷ ws) (name_only word s) ∙ null_said (name_in word) ws t g
     by true (Some asked) s g =
         let is : ◌≡◌ {A = Taken} (record { name = name_in word; asked = asked }, ws) t = cc in
-        ap (λ x. 32 ∷ (x ++ flat_map spaced ws)) (name_behind word ∙ ap (λ x. name_in word ++ x) (signed_is (behind_name word) asked s)) ∙ ap (λ (x : Taken). 32 ∷ taken_text x) is
+        ap (λ x. x ∷ ws) (name_behind word) ∙ (ap (λ x. x ++ ws) (signed_is (name_in word) (behind_name word) asked s) ∙ ap taken_words is)
     by false o s g = absurd cc
 
 -- ---- the tests
 
--- words are the text of some tests
+-- the words of some tests
 record PredsSaid (ws : List (List ℕ)) (preds : List PredLine) : Type 0 where
   first : PredLine
   later : List PredLine
   is : preds ≡ first ∷ later
-  text : flat_map spaced ws ≡ 32 ∷ joined (codes " and ") (map pred_line_text (first ∷ later))
+  words : ws ≡ parted (codes "and") (map line_words (first ∷ later))
 
 preds_said : (n : ℕ) (ws : List (List ℕ)) (preds : List PredLine) → preds_in n ws ≡ Some preds → PredsSaid ws preds
 preds_said zero ws preds e = absurd cc
 preds_said (suc n) ws preds e = by (pred_at ws) refl e (λ vs ps g. preds_said n vs ps g)
   where
-    behind : (p : PredLine) (rest : List (List ℕ)) → flat_map spaced ws ≡ 32 ∷ (pred_line_text p ++ flat_map spaced rest) → behind_pred (preds_in n) p rest ≡ Some preds → ((vs : List (List ℕ)) (ps : List PredLine) → preds_in n vs ≡ Some ps → PredsSaid vs ps) → PredsSaid ws preds
-    behind p [] text g later = record { first = p; later = []; is = cc; text = text }
-    behind p (word ∷ rest) text g later = joins (same word (codes "and")) (preds_in n rest) refl refl g
+    behind : (p : PredLine) (rest : List (List ℕ)) → ws ≡ line_words p ++ rest → behind_pred (preds_in n) p rest ≡ Some preds → ((vs : List (List ℕ)) (ps : List PredLine) → preds_in n vs ≡ Some ps → PredsSaid vs ps) → PredsSaid ws preds
+    behind p [] words g later = record { first = p; later = []; is = cc; words = words }
+    behind p (word ∷ rest) words g later = joins (same word (codes "and")) (preds_in n rest) refl refl g
       where
         joins : (b : Bool) (o : Option (List PredLine)) → same word (codes "and") ≡ b → preds_in n rest ≡ o → (if b then option_map (λ ps. p ∷ ps) o else None) ≡ Some preds → PredsSaid ws preds
         joins true None a o_is f = absurd cc
@@ -231,8 +231,7 @@ preds_said (suc n) ws preds e = by (pred_at ws) refl e (λ vs ps g. preds_said n
               first = p;
               later = ps;
               is = cc;
-              text = text ∙ (ap (λ w. 32 ∷ (pred_line_text p ++ ((32 ∷ w) ++ flat_map spaced rest))) (same_text word (codes "and") a)
-                  ∙ (ap (λ x. 32 ∷ (pred_line_text p ++ (codes " and" ++ x))) s.text ∙ ap (λ qs. 32 ∷ joined (codes " and ") (map pred_line_text (p ∷ qs))) (sym s.is)));
+              words = words ∙ (ap (λ w. line_words p ++ w ∷ rest) (same_text word (codes "and") a) ∙ (ap (λ x. line_words p ++ codes "and" ∷ x) s.words ∙ ap (λ qs. parted (codes "and") (map line_words (p ∷ qs))) (sym s.is)));
             }
         joins false o a o_is f = absurd cc
 
@@ -252,40 +251,40 @@ value_is k text h = by (cell_in k text) refl h
     by (Err no.Long) e g = absurd (omega arith)
     by (Err no.Memory) e g = absurd (or_memory k (value_in text) e)
 
-test_is : (c : Column) (asked : Asked) → sound ≤ asked_no (Some c) asked → test_text c.kind (test_of c asked) ≡ asked_text asked
-test_is c (compared Equal text) h = ap (λ x. codes "=" ++ x) (value_is c.kind text h)
-test_is c (compared Below text) h = ap (λ x. codes "<" ++ x) (value_is c.kind text h)
-test_is c (compared AtMost text) h = ap (λ x. codes "<=" ++ x) (value_is c.kind text h)
-test_is c (compared Above text) h = ap (λ x. codes ">" ++ x) (value_is c.kind text h)
-test_is c (compared AtLeast text) h = ap (λ x. codes ">=" ++ x) (value_is c.kind text h)
+test_is : (c : Column) (asked : Asked) → sound ≤ asked_no (Some c) asked → test_words c (test_of c asked) ≡ asked_words c.name asked
+test_is c (compared Equal text) h = ap (λ x. (c.name ++ (codes "=" ++ x)) ∷ []) (value_is c.kind text h)
+test_is c (compared Below text) h = ap (λ x. (c.name ++ (codes "<" ++ x)) ∷ []) (value_is c.kind text h)
+test_is c (compared AtMost text) h = ap (λ x. (c.name ++ (codes "<=" ++ x)) ∷ []) (value_is c.kind text h)
+test_is c (compared Above text) h = ap (λ x. (c.name ++ (codes ">" ++ x)) ∷ []) (value_is c.kind text h)
+test_is c (compared AtLeast text) h = ap (λ x. (c.name ++ (codes ">=" ++ x)) ∷ []) (value_is c.kind text h)
 test_is c null h = refl
 test_is c not_null h = refl
 
-preds_again : (columns : List Column) (preds : List PredLine) → counts_from 1 columns ≡ true → sound ≤ preds_no columns preds → map (pred_text columns) (preds_of columns preds) ≡ map pred_line_text preds
+preds_again : (columns : List Column) (preds : List PredLine) → counts_from 1 columns ≡ true → sound ≤ preds_no columns preds → map (pred_words columns) (preds_of columns preds) ≡ map line_words preds
 preds_again columns [] counts h = refl
 preds_again columns (p ∷ preds) counts h = by (column_named columns p.name) refl (omega (arith, h)) (preds_again columns preds counts (omega (arith, h)))
   where
-    by : (o : Option Column) → column_named columns p.name ≡ o → sound ≤ asked_no o p.asked → map (pred_text columns) (preds_of columns preds) ≡ map pred_line_text preds
-        → map (pred_text columns) (cons_option (pred_of o p.asked) (preds_of columns preds)) ≡ pred_line_text p ∷ map pred_line_text preds
+    by : (o : Option Column) → column_named columns p.name ≡ o → sound ≤ asked_no o p.asked → map (pred_words columns) (preds_of columns preds) ≡ map line_words preds
+        → map (pred_words columns) (cons_option (pred_of o p.asked) (preds_of columns preds)) ≡ line_words p ∷ map line_words preds
     by None e g later = absurd (not_there p.asked (omega (arith, g)))
     by (Some c) e g later =
         let column : column_of columns c.id ≡ Some c = (id_is 1 columns p.name c counts e).0 in
-        let text : pred_text columns (record { column = c.id; test = test_of c p.asked }) ≡ pred_line_text p = ap (λ o. test_under o (test_of c p.asked)) column ∙ (ap (λ x. c.name ++ x) (test_is c p.asked g) ∙ ap (λ n. n ++ asked_text p.asked) (name_is columns p.name c e)) in
-        ap (λ x. x ∷ map (pred_text columns) (preds_of columns preds)) text ∙ ap (λ xs. pred_line_text p ∷ xs) later
+        let words : pred_words columns (record { column = c.id; test = test_of c p.asked }) ≡ line_words p = ap (λ o. words_under o (test_of c p.asked)) column ∙ (test_is c p.asked g ∙ ap (λ n. asked_words n p.asked) (name_is columns p.name c e)) in
+        ap (λ x. x ∷ map (pred_words columns) (preds_of columns preds)) words ∙ ap (λ xs. line_words p ∷ xs) later
 
-where_some : (columns : List Column) (preds : List Pred) (text : List ℕ) (texts : List (List ℕ)) → map (pred_text columns) preds ≡ text ∷ texts → where_text columns preds ≡ codes " where " ++ joined (codes " and ") (text ∷ texts)
-where_some columns [] text texts e = absurd cc
-where_some columns (p ∷ preds) text texts e = ap (λ xs. codes " where " ++ joined (codes " and ") xs) e
+where_some : (columns : List Column) (preds : List Pred) (ws : List (List ℕ)) (more : List (List (List ℕ))) → map (pred_words columns) preds ≡ ws ∷ more → where_words columns preds ≡ codes "where" ∷ parted (codes "and") (ws ∷ more)
+where_some columns [] ws more e = absurd cc
+where_some columns (p ∷ preds) ws more e = ap (λ xs. codes "where" ∷ parted (codes "and") xs) e
 
-tests_said : (columns : List Column) (ws : List (List ℕ)) (preds : List PredLine) → counts_from 1 columns ≡ true → tests_in ws ≡ Some preds → sound ≤ preds_no columns preds → flat_map spaced ws ≡ where_text columns (preds_of columns preds)
-tests_said columns [] preds counts e h = let is : [] ≡ preds = cc in ap (λ ps. where_text columns (preds_of columns ps)) is
+tests_said : (columns : List Column) (ws : List (List ℕ)) (preds : List PredLine) → counts_from 1 columns ≡ true → tests_in ws ≡ Some preds → sound ≤ preds_no columns preds → ws ≡ where_words columns (preds_of columns preds)
+tests_said columns [] preds counts e h = let is : [] ≡ preds = cc in ap (λ ps. where_words columns (preds_of columns ps)) is
 tests_said columns (word ∷ ws) preds counts e h = by (same word (codes "where")) refl e
   where
-    by : (b : Bool) → same word (codes "where") ≡ b → (if b then preds_in (length ws) ws else None) ≡ Some preds → flat_map spaced (word ∷ ws) ≡ where_text columns (preds_of columns preds)
+    by : (b : Bool) → same word (codes "where") ≡ b → (if b then preds_in (length ws) ws else None) ≡ Some preds → word ∷ ws ≡ where_words columns (preds_of columns preds)
     by true w g =
         let s = preds_said (length ws) ws preds g in
-        ap (λ x. (32 ∷ x) ++ flat_map spaced ws) (same_text word (codes "where") w)
-        ∙ (ap (λ x. codes " where" ++ x) s.text ∙ sym (where_some columns (preds_of columns preds) (pred_line_text s.first) (map pred_line_text s.later) (preds_again columns preds counts h ∙ ap (map pred_line_text) s.is)))
+        ap (λ x. x ∷ ws) (same_text word (codes "where") w)
+        ∙ (ap (λ x. codes "where" ∷ x) s.words ∙ sym (where_some columns (preds_of columns preds) (line_words s.first) (map line_words s.later) (preds_again columns preds counts h ∙ ap (map line_words) s.is)))
     by false w g = absurd cc
 
 -- ---- the selected names
@@ -312,51 +311,49 @@ names_again columns seen (name ∷ names) counts h =
 -- ---- a scan
 
 where_said : (columns : List Column) (names : Option (List (List ℕ))) (ws : List (List ℕ)) (l : ScanLine) → counts_from 1 columns ≡ true → where_line names ws ≡ Some l → sound ≤ preds_no columns l.preds
-    → (names ≡ l.names) × (flat_map spaced ws ≡ where_text columns (preds_of columns l.preds))
+    → (names ≡ l.names) × (ws ≡ where_words columns (preds_of columns l.preds))
 where_said columns names ws l counts e h = by (tests_in ws) refl e
   where
-    by : (o : Option (List PredLine)) → tests_in ws ≡ o → with_preds names o ≡ Some l → (names ≡ l.names) × (flat_map spaced ws ≡ where_text columns (preds_of columns l.preds))
+    by : (o : Option (List PredLine)) → tests_in ws ≡ o → with_preds names o ≡ Some l → (names ≡ l.names) × (ws ≡ where_words columns (preds_of columns l.preds))
     by None i g = absurd cc
     by (Some preds) i g =
         let is : record { names = names; preds = preds } ≡ l = cc in
-        subst (λ (x : ScanLine). sound ≤ preds_no columns x.preds → (names ≡ x.names) × (flat_map spaced ws ≡ where_text columns (preds_of columns x.preds))) is (λ low. (refl, tests_said columns ws preds counts i low)) h
+        subst (λ (x : ScanLine). sound ≤ preds_no columns x.preds → (names ≡ x.names) × (ws ≡ where_words columns (preds_of columns x.preds))) is (λ low. (refl, tests_said columns ws preds counts i low)) h
 
 -- what is printed behind the time
-abbrev line_text : List Column → ScanLine → List ℕ
-line_text columns l = select_text columns (option_map (ids_of columns) l.names) ++ where_text columns (preds_of columns l.preds)
+abbrev behind_time : List Column → ScanLine → List (List ℕ)
+behind_time columns l = select_words columns (option_map (ids_of columns) l.names) ++ where_words columns (preds_of columns l.preds)
 
-none_selected : (columns : List Column) (ws : List (List ℕ)) (l : ScanLine) → counts_from 1 columns ≡ true → where_line None ws ≡ Some l → sound ≤ line_no columns (Some l) → flat_map spaced ws ≡ line_text columns l
+none_selected : (columns : List Column) (ws : List (List ℕ)) (l : ScanLine) → counts_from 1 columns ≡ true → where_line None ws ≡ Some l → sound ≤ line_no columns (Some l) → ws ≡ behind_time columns l
 none_selected columns ws l counts e h =
     let s = where_said columns None ws l counts e (omega (arith, h)) in
-    s.1 ∙ ap (λ ns. select_text columns (option_map (ids_of columns) ns) ++ where_text columns (preds_of columns l.preds)) s.0
+    s.1 ∙ ap (λ ns. select_words columns (option_map (ids_of columns) ns) ++ where_words columns (preds_of columns l.preds)) s.0
 
 some_selected : (columns : List Column) (names : List ℕ) (ws : List (List ℕ)) (l : ScanLine) → counts_from 1 columns ≡ true → where_line (Some (cut 44 names)) ws ≡ Some l → sound ≤ line_no columns (Some l)
-    → flat_map spaced (codes "select" ∷ names ∷ ws) ≡ line_text columns l
+    → codes "select" ∷ names ∷ ws ≡ behind_time columns l
 some_selected columns names ws l counts e h =
     let s = where_said columns (Some (cut 44 names)) ws l counts e (omega (arith, h)) in
     let known : sound ≤ names_no columns [] (cut 44 names) = subst (λ ns. sound ≤ select_no columns ns) (sym s.0) (omega (arith, h)) in
-    let text : joined (codes ",") (map (λ id. name_of (column_of columns id)) (ids_of columns (cut 44 names))) ≡ names = ap (joined (codes ",")) (names_again columns [] (cut 44 names) counts known) ∙ cut_again 44 names in
-    ap (λ x. codes " select " ++ (names ++ x)) s.1
-    ∙ (ap (λ x. codes " select " ++ (x ++ where_text columns (preds_of columns l.preds))) (sym text) ∙ ap (λ ns. select_text columns (option_map (ids_of columns) ns) ++ where_text columns (preds_of columns l.preds)) s.0)
+    let text : names_word columns (ids_of columns (cut 44 names)) ≡ names = ap (joined (codes ",")) (names_again columns [] (cut 44 names) counts known) ∙ cut_again 44 names in
+    ap (λ x. codes "select" ∷ names ∷ x) s.1
+    ∙ (ap (λ x. codes "select" ∷ x ∷ where_words columns (preds_of columns l.preds)) (sym text) ∙ ap (λ ns. select_words columns (option_map (ids_of columns) ns) ++ where_words columns (preds_of columns l.preds)) s.0)
 
-line_said : (columns : List Column) (ws : List (List ℕ)) (l : ScanLine) → counts_from 1 columns ≡ true → select_line ws ≡ Some l → sound ≤ line_no columns (Some l) → flat_map spaced ws ≡ line_text columns l
+line_said : (columns : List Column) (ws : List (List ℕ)) (l : ScanLine) → counts_from 1 columns ≡ true → select_line ws ≡ Some l → sound ≤ line_no columns (Some l) → ws ≡ behind_time columns l
 line_said columns [] l counts e h = none_selected columns [] l counts e h
 line_said columns (word ∷ []) l counts e h = absurd cc
 line_said columns (word ∷ names ∷ ws) l counts e h = by (same word (codes "select")) refl e
   where
-    by : (b : Bool) → same word (codes "select") ≡ b → (if b then where_line (Some (cut 44 names)) ws else where_line None (word ∷ names ∷ ws)) ≡ Some l → flat_map spaced (word ∷ names ∷ ws) ≡ line_text columns l
-    by true w g = ap (λ x. (32 ∷ x) ++ flat_map spaced (names ∷ ws)) (same_text word (codes "select") w) ∙ some_selected columns names ws l counts g h
+    by : (b : Bool) → same word (codes "select") ≡ b → (if b then where_line (Some (cut 44 names)) ws else where_line None (word ∷ names ∷ ws)) ≡ Some l → word ∷ names ∷ ws ≡ behind_time columns l
+    by true w g = ap (λ x. x ∷ names ∷ ws) (same_text word (codes "select") w) ∙ some_selected columns names ws l counts g h
     by false w g = none_selected columns (word ∷ names ∷ ws) l counts g h
 
-pub scan_again : (columns : List Column) (ws : List (List ℕ)) → IsTable columns → sound ≤ scan_no columns ws → scan_text columns (scan_of columns ws) ≡ words (codes "scan" ∷ ws)
+pub scan_again : (columns : List Column) (ws : List (List ℕ)) → IsTable columns → sound ≤ scan_no columns ws → scan_words columns (scan_of columns ws) ≡ codes "scan" ∷ ws
 scan_again columns ws table h = by (timed ws) refl (omega (arith, h))
   where
-    behind : (at : At) (rest : List (List ℕ)) (o : Option ScanLine) → select_line rest ≡ o → flat_map spaced ws ≡ (32 ∷ at_text at) ++ flat_map spaced rest → sound ≤ line_no columns o → scan_text columns (scan_said columns at o) ≡ words (codes "scan" ∷ ws)
-    behind at rest None i text g = absurd (omega (arith, g))
-    behind at rest (Some l) i text g =
-        append_assoc (codes "scan " ++ at_text at) (select_text columns (option_map (ids_of columns) l.names)) (where_text columns (preds_of columns l.preds))
-        ∙ (ap (λ x. (codes "scan " ++ at_text at) ++ x) (sym (line_said columns rest l table.ids i g)) ∙ ap (λ x. codes "scan" ++ x) (sym text))
+    behind : (at : At) (rest : List (List ℕ)) (o : Option ScanLine) → select_line rest ≡ o → ws ≡ at_words at ++ rest → sound ≤ line_no columns o → scan_words columns (scan_said columns at o) ≡ codes "scan" ∷ ws
+    behind at rest None i words g = absurd (omega (arith, g))
+    behind at rest (Some l) i words g = ap (λ x. codes "scan" ∷ (at_words at ++ x)) (sym (line_said columns rest l table.ids i g)) ∙ ap (λ x. codes "scan" ∷ x) (sym words)
 
-    by : (o : Option Timed) → timed ws ≡ o → sound ≤ timed_no columns o → scan_text columns (timed_scan columns o) ≡ words (codes "scan" ∷ ws)
+    by : (o : Option Timed) → timed ws ≡ o → sound ≤ timed_no columns o → scan_words columns (timed_scan columns o) ≡ codes "scan" ∷ ws
     by None i g = absurd (omega (arith, g))
     by (Some t) i g = behind t.0 t.1 (select_line t.1) refl (timed_said ws t i (omega (arith, g))) (omega (arith, g))

@@ -26,23 +26,23 @@ use Rattle.kt_script.specs.Reasons.{sound, reason_if, cell_no, cell_value}
 use Rattle.kt_script.specs.Columns.{IsTable}
 use Rattle.kt_script.specs.Pieces.{words_of}
 use Rattle.kt_script.specs.Texts.{words}
-use Rattle.kt_script.specs.Writes.{name_in, behind_name, column_named, given_no, under_no, cells_no, cells_of, key_len, key_of, key_no, long_no, under, all_named_no, all_named, must_be_named, left_out_no, is_empty, none_left_no, insert_no, behind_no, cells_said, op_form, op_word, op_kinds, kind_in, kind_no, op_kind, op_no, op_of, op_key, op_cells, kind_or_delete, ops_of, first_op, later_ops, ops_no, twice, write_no, write_of}
-use Rattle.kt_script.specs.Print.{key_words, cell_words, form_names, is_named, op_words, write_text}
+use Rattle.kt_script.specs.Writes.{name_in, behind_name, column_named, given_no, under_no, cells_no, cells_of, key_len, key_of, key_no, long_no, under, all_named_no, all_named, must_be_named, left_out_no, is_empty, none_left_no, insert_no, behind_no, cells_said, op_form, op_word, op_kinds, kind_no, op_kind, op_no, op_of, op_key, op_cells, kind_or_delete, ops_of, first_op, later_ops, ops_no, twice, write_no, write_of}
+use Rattle.kt_script.specs.Print.{key_words, cell_words, form_names, is_named, parted, op_words, write_words}
 use Rattle.kt_script.specs.Alike.{of_name, renamed, named_alike, behind_alike, kind_alike, op_alike, ops_alike}
 use Rattle.kt_script.proofs.Cuts.{Without}
 use Rattle.kt_script.proofs.InLine.{join, words_in_line}
 use Rattle.kt_script.proofs.OpWords.{read_cell_fits, ops_split, same_op}
 use Rattle.kt_script.proofs.PartFits.{others_rise}
-use Rattle.kt_script.proofs.PrintedWords.{IsWord, literal_word, passes_both, high_word, high, name_is, name_high}
+use Rattle.kt_script.proofs.PrintedWords.{IsWord, words_alone, literal_word, passes_both, high_word, high, name_is, name_high}
 use Rattle.kt_script.proofs.PrintedCells.{ranged}
 use Rattle.kt_script.proofs.PrintedTables.{same_self, apart_kept, apart_of}
 use Rattle.kt_script.proofs.PrintedOps.{Unbroken, op_plain}
-use Rattle.kt_script.proofs.PrintedWrites.{broken, broken_each, ops_again, Worded, write_words}
-use Rattle.kt_script.proofs.FormLaws.{all_of}
+use Rattle.kt_script.proofs.PrintedNames.{zip_all}
+use Rattle.kt_script.proofs.PrintedWrites.{ops_again, each_of, parted_in_line}
+use Rattle.kt_script.proofs.FormLaws.{Plain, kind_word}
 use Rattle.kt_script.proofs.AgainKeys.{cells_again, key_again}
 use Rattle.kt_script.proofs.AgainLiterals.{literal_again, name_behind}
 use Rattle.kt_script.proofs.AgainNames.{in_order, named_again}
-use Rattle.kt_script.proofs.AgainColumns.{rejoined}
 use Rattle.kt_script.proofs.Renamed.{size, renamed_permutes, permuted_each, permuted_size, renamed_order, named_moved}
 
 -- ---- words that are printed again
@@ -105,24 +105,15 @@ kind_again : (columns : List Column) (o : Option OpKind) (ws : List (List ℕ)) 
 kind_again columns None ws table h = absurd (omega arith)
 kind_again columns (Some kind) ws table h = behind_again columns (op_form kind) ws table h
 
-some_kind : (columns : List Column) (o : Option OpKind) (ws : List (List ℕ)) → sound ≤ kind_no columns o ws → is_some o ≡ true
-some_kind columns None ws h = absurd (omega arith)
-some_kind columns (Some k) ws h = refl
-
 -- the kind that is found has the word
-word_in : (word : List ℕ) (kinds : List OpKind) → is_some (kind_in word kinds) ≡ true → op_word (kind_or_delete (kind_in word kinds)) ≡ word
-word_in word [] h = absurd (false≢true h)
-word_in word (kind ∷ kinds) h = by (same word (op_word kind)) refl h (λ s. word_in word kinds s)
-  where
-    by : (t : Bool) → same word (op_word kind) ≡ t → is_some (if t then Some kind else kind_in word kinds) ≡ true → (is_some (kind_in word kinds) ≡ true → op_word (kind_or_delete (kind_in word kinds)) ≡ word)
-        → op_word (kind_or_delete (if t then Some kind else kind_in word kinds)) ≡ word
-    by true e s later = sym (same_text word (op_word kind) e)
-    by false e s later = later s
+word_of : (columns : List Column) (word : List ℕ) (o : Option OpKind) (ws : List (List ℕ)) → op_kind word ≡ o → sound ≤ kind_no columns o ws → word ≡ op_word (kind_or_delete o)
+word_of columns word None ws e h = absurd (omega arith)
+word_of columns word (Some k) ws e h = kind_word op_word op_kinds word k e
 
 -- an operation is printed as it was
 op_again : (columns : List Column) (ws : List (List ℕ)) → IsTable columns → sound ≤ op_no columns ws → op_alike columns ws (op_words columns (op_of columns ws))
 op_again columns [] table h = absurd (omega arith)
-op_again columns (w ∷ ws) table h = (sym (word_in w op_kinds (some_kind columns (op_kind w) ws h)), kind_again columns (op_kind w) ws table h)
+op_again columns (w ∷ ws) table h = (word_of columns w (op_kind w) ws refl h, kind_again columns (op_kind w) ws table h)
 
 pub ops_printed : (columns : List Column) (ops : List (List (List ℕ))) → IsTable columns → sound ≤ ops_no columns ops → ops_alike columns ops (map (op_words columns) (map (op_of columns) ops))
 ops_printed columns [] table h = tt
@@ -368,7 +359,7 @@ behind_closed columns form.Key ws h = values_closed (key_columns columns) ws (om
 
 op_closed : (columns : List Column) (ws : List (List ℕ)) → sound ≤ op_no columns ws → AllByRecursion IsWord ws
 op_closed columns [] h = tt
-op_closed columns (w ∷ ws) h = (subst IsWord (word_in w op_kinds (some_kind columns (op_kind w) ws h)) (op_plain (kind_or_delete (op_kind w))).word, by (op_kind w) h)
+op_closed columns (w ∷ ws) h = (subst IsWord (sym (word_of columns w (op_kind w) ws refl h)) (op_plain (kind_or_delete (op_kind w))).word, by (op_kind w) h)
   where
     by : (o : Option OpKind) → sound ≤ kind_no columns o ws → AllByRecursion IsWord ws
     by None g = absurd (omega arith)
@@ -381,30 +372,26 @@ ops_closed columns (ws ∷ ops) h = (op_closed columns ws (omega (arith, h)), op
 -- ---- the line
 
 -- what holds of each word of a line holds of those of its operations, and none of them ends one
-parted_each : (P : List ℕ → Type 0) (ws : List (List ℕ)) → AllByRecursion P ws → AllByRecursion (AllByRecursion (λ w. P w × Unbroken w)) (ops_of ws)
-parted_each P [] p = (tt, tt)
-parted_each P (w ∷ ws) p = by (same w (codes ";")) refl (ops_of ws) (parted_each P ws p.1)
+ops_hold : (P : List ℕ → Type 0) (ws : List (List ℕ)) → AllByRecursion P ws → AllByRecursion (AllByRecursion (λ w. P w × Unbroken w)) (ops_of ws)
+ops_hold P [] p = (tt, tt)
+ops_hold P (w ∷ ws) p = by (same w (codes ";")) refl (ops_of ws) (ops_hold P ws p.1)
   where
     by : (t : Bool) → same w (codes ";") ≡ t → (ops : List (List (List ℕ))) → AllByRecursion (AllByRecursion (λ v. P v × Unbroken v)) ops → AllByRecursion (AllByRecursion (λ v. P v × Unbroken v)) (if t then [] ∷ ops else onto_first w ops)
     by true e ops all = (tt, all)
     by false e [] all = (((p.0, e), tt), tt)
     by false e (vs ∷ ops) all = (((p.0, e), all.0), all.1)
 
-either_each : (P Q : List ℕ → Type 0) (ops : List (List (List ℕ))) → ((w : List ℕ) → P w → Q w) → AllByRecursion (AllByRecursion P) ops → AllByRecursion (AllByRecursion Q) ops
-either_each P Q ops f all = all_of (AllByRecursion P) (AllByRecursion Q) ops (λ ws p. all_of P Q ws f p) all
-
-mapped_each : (columns : List Column) (ops : List RowOp) → AllByRecursion (AllByRecursion IsWord) (map (op_words columns) ops) → AllByRecursion (Worded columns) ops
-mapped_each columns [] all = tt
-mapped_each columns (o ∷ ops) all = (all.0, mapped_each columns ops all.1)
-
 -- a write line that is printed again
 pub record WriteAgain (columns : List Column) (ws : List (List ℕ)) : Type 0 where
-  pub alike : ops_alike columns (ops_of ws) (ops_of (words_of (write_text columns (write_of columns ws))))
-  pub line : Without 10 (write_text columns (write_of columns ws))
+  pub alike : ops_alike columns (ops_of ws) (ops_of (words_of (words (write_words columns (write_of columns ws)))))
+  pub line : Without 10 (words (write_words columns (write_of columns ws)))
 
 pub write_again : (columns : List Column) (ws : List (List ℕ)) → IsTable columns → sound ≤ write_no columns ws → AllByRecursion (Without 10) ws → WriteAgain columns ws
 write_again columns ws table h inside = by (ops_of ws) refl (ops_split ws)
   where
+    Inside : List ℕ → Type 0
+    Inside w = Without 10 w × Unbroken w
+
     by : (ops : List (List (List ℕ))) → ops_of ws ≡ ops → ops_of ws ≡ first_op ws ∷ later_ops ws → WriteAgain columns ws
     by [] is split = absurd (none (sym is ∙ split))
       where
@@ -413,17 +400,16 @@ write_again columns ws table h inside = by (ops_of ws) refl (ops_split ws)
     by (first ∷ more) is split =
         let taken : sound ≤ ops_no columns (first ∷ more) = subst (λ os. sound ≤ ops_no columns os) is (omega (arith, h)) in
         let printed = ops_printed columns (first ∷ more) table taken in
-        let ops : List RowOp = map (op_of columns) (first ∷ more) in
-        let lines : List (List (List ℕ)) = map (op_words columns) ops in
-        let closed = ops_each IsWord columns (first ∷ more) lines printed (ops_closed columns (first ∷ more) taken) in
-        let parts = ops_each (λ w. Without 10 w × Unbroken w) columns (first ∷ more) lines printed (subst (AllByRecursion (AllByRecursion (λ w. Without 10 w × Unbroken w))) is (parted_each (Without 10) ws inside)) in
-        let text = write_text columns ops in
-        let split_text : words_of text ≡ broken lines = write_words columns (op_of columns first) (map (op_of columns) more) (mapped_each columns ops closed) in
-        let again : ops_of (words_of text) ≡ lines = ap ops_of split_text ∙ ops_again (op_words columns (op_of columns first)) (map (op_words columns) (map (op_of columns) more)) (either_each (λ w. Without 10 w × Unbroken w) Unbroken lines (λ w p. p.1) parts) in
-        let whole_line : words (broken lines) ≡ text = ap words (sym split_text) ∙ rejoined text in
-        let sign : Without 10 (codes ";") = ((λ e. omega arith), tt) in
-        let same_write : write_of columns ws ≡ ops = ap (map (op_of columns)) is in
+        let lines : List (List (List ℕ)) = map (op_words columns) (map (op_of columns) (first ∷ more)) in
+        let all : List (List ℕ) = parted (codes ";") lines in
+        let plain_ops : AllByRecursion (AllByRecursion Plain) (first ∷ more) = zip_all (AllByRecursion IsWord) (AllByRecursion Inside) (AllByRecursion Plain) (first ∷ more)
+        (λ us p q. zip_all IsWord Inside Plain us (λ w a b. record { word = a; line = b.0; apart = b.1 }) p q) (ops_closed columns (first ∷ more) taken) (subst (AllByRecursion (AllByRecursion Inside)) is (ops_hold (Without 10) ws inside)) in
+        let plain_lines = ops_each Plain columns (first ∷ more) lines printed plain_ops in
+        let line = parted_in_line lines plain_lines in
+        let cut : words_of (words all) ≡ all = words_alone (op_word (op_of columns first).kind) _ line.words.0 line.words.1 in
+        let again : ops_of (words_of (words all)) ≡ lines = ap ops_of cut ∙ ops_again (op_words columns (op_of columns first)) (map (op_words columns) (map (op_of columns) more)) (each_of Plain Unbroken lines (λ w p. p.apart) plain_lines) in
+        let same_write : write_of columns ws ≡ map (op_of columns) (first ∷ more) = ap (map (op_of columns)) is in
         record {
-          alike = subst (λ os. ops_alike columns (ops_of ws) (ops_of (words_of (write_text columns os)))) (sym same_write) (subst (λ os. ops_alike columns os (ops_of (words_of text))) (sym is) (subst (ops_alike columns (first ∷ more)) (sym again) printed));
-          line = subst (λ os. Without 10 (write_text columns os)) (sym same_write) (subst (Without 10) whole_line (words_in_line (broken lines) (broken_each (Without 10) lines sign (either_each (λ w. Without 10 w × Unbroken w) (Without 10) lines (λ w p. p.0) parts))));
+          alike = subst (λ os. ops_alike columns (ops_of ws) (ops_of (words_of (words (write_words columns os))))) (sym same_write) (subst (λ os. ops_alike columns os (ops_of (words_of (words all)))) (sym is) (subst (ops_alike columns (first ∷ more)) (sym again) printed));
+          line = subst (λ os. Without 10 (words (write_words columns os))) (sym same_write) (words_in_line all line.line);
         }

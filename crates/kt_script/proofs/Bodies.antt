@@ -1,7 +1,6 @@
 -- The lines below the columns, one after another.
-use Rattle.std.proofs.Common.{◌≡◌, ℕ, suc, ◌+◌, ◌<◌, ◌≤◌, Bool, true, false, not, List, [], ◌∷◌, ◌++◌, length, Option, Some, None, Result, Ok, Err, min, refl, sym, ap, subst, ◌∙◌, arith, length-append}
-use Rattle.std.specs.Prelude.{if◌then◌else◌, is_some, nat_lt, nat_le, codes}
-use Rattle.kt_base.specs.Literals.{same}
+use Rattle.std.proofs.Common.{◌≡◌, ℕ, suc, ◌+◌, ◌<◌, ◌≤◌, Bool, true, false, not, List, [], ◌∷◌, ◌++◌, length, drop, Option, Some, None, Result, Ok, Err, min, refl, sym, ap, subst, ◌∙◌, arith, length-append, T}
+use Rattle.std.specs.Prelude.{if◌then◌else◌, nat_lt, nat_le}
 use Rattle.std.specs.List.{list_any, AllByRecursion}
 use Rattle.std.proofs.lemmas.Bool.Decides.{nat_tests}
 use Rattle.std.proofs.lemmas.List.Sums.{sum_by-cons, sum_by-append}
@@ -13,8 +12,14 @@ use Rattle.kt_script.specs.declared.refusal.ScriptNo.TheVariants as why
 use Rattle.kt_script.specs.Pieces.{cut, words_of}
 use Rattle.kt_script.specs.Reasons.{sound, reason_if}
 use Rattle.kt_script.specs.Columns.{begins_column, column_no, columns_with, counts_from}
-use Rattle.kt_script.specs.Writes.{op_kind, write_no, write_of}
-use Rattle.kt_script.specs.Scripts.{head, body, Word, session, scan, mark, write, other, fault_if, fault_from, above_end, at, located, first_piece, first_word, word_of, word_of_op, session_no, command_no, command_of, in_session_no, worded_no, worded_plan, body_no, body_plan, push_last, commands_in, is_begun, most_sessions, most_commands, said, ReadsBody, ReadsWorded}
+use Rattle.kt_script.specs.declared.leads.TheConstants.{JOBS}
+use Rattle.kt_script.specs.declared.leads.Word.{Word}
+use Rattle.kt_script.specs.declared.leads.Word.TheVariants as word
+use Rattle.kt_script.specs.declared.leads.Lead.{Lead}
+use Rattle.kt_script.specs.declared.leads.Lead.TheVariants as lead
+use Rattle.kt_script.specs.Leads.{lead_in, alone_no}
+use Rattle.kt_script.specs.Writes.{write_no, write_of}
+use Rattle.kt_script.specs.Scripts.{head, body, fault_if, fault_from, above_end, at, located, first_piece, first_lead, session_no, full_no, command_no, command_of, led_no, led_plan, body_no, body_plan, push_last, commands_in, is_begun, most_sessions, most_commands, said, ReadsBody, ReadsLed}
 use Rattle.kt_script.specs.Times.{most_time, time_no, time_or_zero, mark_in, mark_no, mark_of}
 use Rattle.kt_script.specs.Fit.{CommandFits, WriteFits, PlanFits, IsBodyRead}
 use Rattle.kt_script.proofs.Faults.{fault_step, end_step, told, untold}
@@ -133,38 +138,37 @@ mark_fits words h = by (mark_in words) h
     by None g = absurd (omega arith)
     by (Some t) g = low t (nat_lt most_time t) refl g
 
+-- a chore is taken where there are jobs, and its word stands alone
+pub chore_taken : (jobs : Bool) (alone : ℕ) → sound ≤ (if jobs then alone else 11) → T jobs × (sound ≤ alone)
+chore_taken true alone h = (tt, h)
+chore_taken false alone h = absurd (omega arith)
+
 -- a line that no reason refuses keeps the plan fitting
 pub body_fits : (columns : List Column) (plan : List (List Command)) (words : List (List ℕ)) → counts_from 1 columns ≡ true → ((ws : List (List ℕ)) → sound ≤ write_no columns ws → WriteFits columns (write_of columns ws)) → PlanFits columns plan
     → sound ≤ body_no columns plan words → PlanFits columns (body_plan columns plan words)
-body_fits columns plan words counts writes fits h = by (first_word words) words h
+body_fits columns plan words counts writes fits h = by (first_lead words) h
   where
-    begin : (ws : List (List ℕ)) → sound ≤ session_no plan ws → PlanFits columns (plan ++ [] ∷ [])
-    begin [] g = absurd (omega (arith, g))
-    begin (w ∷ []) g =
+    begin : sound ≤ session_no plan words → PlanFits columns (plan ++ [] ∷ [])
+    begin g =
         let none : nat_le most_sessions (length plan) ≡ false = off _ 20 (omega arith) (omega (arith, g)) in
         let below : length plan < 64 = grind (arith, nat_tests) in
         let more = session_more plan in
         record { sessions = omega (arith, more.0, below); commands = omega (arith, more.1, fits.commands); each = each_push (AllByRecursion (CommandFits columns)) plan [] fits.each tt }
-    begin (w ∷ v ∷ ws) g = absurd (omega (arith, g))
 
-    in_session : (c : Command) (reason : ℕ) → (sound ≤ reason → CommandFits columns c) → (b : Bool) → is_begun plan ≡ b → sound ≤ (if b then min reason (reason_if (nat_le most_commands (commands_in plan)) 20) else 11) → PlanFits columns (push_last c plan)
-    in_session c reason fit true some g = command_pushed columns plan c fits (fit (omega (arith, g))) some (omega (arith, g))
-    in_session c reason fit false some g = absurd (omega (arith, g))
+    fit : (w : Word) → sound ≤ command_no columns w words → CommandFits columns (command_of columns w words)
+    fit word.Scan g = scan_fits columns (drop 1 words) counts g
+    fit word.Mark g = mark_fits (drop 1 words) g
+    fit (word.Chore c) g = (chore_taken JOBS (alone_no words) g).0
+    fit (word.Op k) g = writes words g
 
-    by_scan : (ws : List (List ℕ)) → sound ≤ in_session_no columns plan scan ws → PlanFits columns (push_last (command_of columns scan ws) plan)
-    by_scan [] g = in_session (command_of columns scan []) 12 (λ k. absurd (omega (arith, k))) (is_begun plan) refl g
-    by_scan (w ∷ ws) g = in_session (command_of columns scan (w ∷ ws)) (command_no columns scan (w ∷ ws)) (scan_fits columns ws counts) (is_begun plan) refl g
+    in_session : (w : Word) (b : Bool) → is_begun plan ≡ b → sound ≤ (if b then min (command_no columns w words) (full_no plan) else 11) → PlanFits columns (push_last (command_of columns w words) plan)
+    in_session w true some g = command_pushed columns plan (command_of columns w words) fits (fit w (omega (arith, g))) some (omega (arith, g))
+    in_session w false some g = absurd (omega (arith, g))
 
-    by_mark : (ws : List (List ℕ)) → sound ≤ in_session_no columns plan mark ws → PlanFits columns (push_last (command_of columns mark ws) plan)
-    by_mark [] g = in_session (command_of columns mark []) 12 (λ k. absurd (omega (arith, k))) (is_begun plan) refl g
-    by_mark (w ∷ ws) g = in_session (command_of columns mark (w ∷ ws)) (command_no columns mark (w ∷ ws)) (mark_fits ws) (is_begun plan) refl g
-
-    by : (w : Word) (ws : List (List ℕ)) → sound ≤ worded_no columns plan w ws → PlanFits columns (worded_plan columns plan w ws)
-    by session ws g = begin ws g
-    by scan ws g = by_scan ws g
-    by mark ws g = by_mark ws g
-    by write ws g = in_session (command_of columns write ws) (write_no columns ws) (writes ws) (is_begun plan) refl g
-    by other ws g = absurd (omega (arith, g))
+    by : (l : Option Lead) → sound ≤ led_no columns plan l words → PlanFits columns (led_plan columns plan l words)
+    by None g = absurd (omega (arith, g))
+    by (Some lead.Session) g = begin g
+    by (Some (lead.Command w)) g = in_session w (is_begun plan) refl g
 
 -- a line that is read
 pub body_read : {A : Type 0} {columns : List Column} {n number : ℕ} {text rest : List ℕ} {old new : List (List Command)} (front behind : List ℕ) (done : A) → counts_from 1 columns ≡ true
@@ -178,23 +182,6 @@ body_read {columns = columns} {number = number} {rest = rest} {old = old} {new =
 }
 
 -- a line is read by its first word
-pub body_worded : {A : Type 0} (columns : List Column) (old new : List (List Command)) (result : Result A LineNo) (words : List (List ℕ)) (word : List ℕ) (more : List (List ℕ)) (w : Word) → words ≡ word ∷ more → word_of word ≡ w
-    → ReadsWorded {A = A} columns old w (word ∷ more) new result → ReadsBody {A = A} columns old words new result
-body_worded {A} columns old new result words word more w is of reads =
-    subst (λ ws. ReadsBody {A = A} columns old ws new result) (sym is) (subst (λ x. ReadsWorded {A = A} columns old x (word ∷ more) new result) (sym of) reads)
-
--- the words that are neither of these
-abbrev op_word : List ℕ → Word
-op_word word = word_of_op (is_some (op_kind word))
-
-pub is_session : (word : List ℕ) → same word (codes "session") ≡ true → word_of word ≡ session
-is_session word t = ap (λ b. if b then session else (if same word (codes "scan") then scan else (if same word (codes "mark") then mark else op_word word))) t
-
-pub is_scan : (word : List ℕ) → same word (codes "session") ≡ false → same word (codes "scan") ≡ true → word_of word ≡ scan
-is_scan word s t =
-    ap (λ b. if b then session else (if same word (codes "scan") then scan else (if same word (codes "mark") then mark else op_word word))) s ∙ ap (λ b. if b then scan else (if same word (codes "mark") then mark else op_word word)) t
-
-pub is_mark : (word : List ℕ) → same word (codes "session") ≡ false → same word (codes "scan") ≡ false → same word (codes "mark") ≡ true → word_of word ≡ mark
-is_mark word s c t =
-    ap (λ b. if b then session else (if same word (codes "scan") then scan else (if same word (codes "mark") then mark else op_word word))) s
-    ∙ (ap (λ b. if b then scan else (if same word (codes "mark") then mark else op_word word)) c ∙ ap (λ b. if b then mark else op_word word) t)
+pub body_led : {A : Type 0} (columns : List Column) (old new : List (List Command)) (result : Result A LineNo) (words : List (List ℕ)) (first : List ℕ) (more : List (List ℕ)) (l : Option Lead) → words ≡ first ∷ more → lead_in first ≡ l
+    → ReadsLed {A = A} columns old l words new result → ReadsBody {A = A} columns old words new result
+body_led {A} columns old new result words first more l is of reads = subst (λ x. ReadsLed {A = A} columns old x words new result) (sym (ap first_lead is ∙ of)) reads

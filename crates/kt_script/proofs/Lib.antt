@@ -13,12 +13,13 @@ pub mod PrintedTables
 pub mod PrintedNames
 pub mod PrintedOps
 pub mod PrintedWrites
+pub mod Parted
 pub mod PrintedPreds
 pub mod PrintedScans
 pub mod PrintedColumns
-pub mod PrintedLines
 pub mod PrintedPlans
 pub mod PrintedScripts
+pub mod EachKind
 pub mod OpWords
 pub mod NamedWords
 pub mod Preds
@@ -48,3 +49,4 @@ pub mod AgainWrites
 pub mod TextsAgain
 pub mod OrderTests
 pub mod FormLaws
+pub mod FirstWords

@@ -1,6 +1,6 @@
 -- What the words of operations say, a word at a time.
 use Rattle.std.proofs.Common.{◌≡◌, ℕ, suc, ◌+◌, ◌<◌, ◌≤◌, min, Bool, true, false, not, ◌&&◌, ◌||◌, cond, List, [], ◌∷◌, ◌++◌, length, drop, map, Option, Some, None, Result, Ok, Err, inl, inr, refl, sym, ap, ◌∙◌, arith, append_assoc}
-use Rattle.std.specs.Prelude.{◌⊎◌, ℤ, pos, negsuc, if◌then◌else◌, nat_lt, codes}
+use Rattle.std.specs.Prelude.{◌⊎◌, if◌then◌else◌, nat_lt, codes}
 use Rattle.std.specs.List.{list_any, list_all, onto_first}
 use Rattle.std.proofs.lemmas.Bool.Decides.{nat_tests}
 use Rattle.kt_base.specs.declared.cell.Kind.{Kind}
@@ -9,11 +9,11 @@ use Rattle.kt_base.specs.declared.cell.Cell.{Cell}
 use Rattle.kt_base.specs.declared.cell.Cell.TheVariants as cell
 use Rattle.kt_base.specs.declared.literal.LiteralNo.{LiteralNo}
 use Rattle.kt_base.specs.declared.literal.LiteralNo.TheVariants as no
-use Rattle.kt_base.specs.Literals.{same, cell_in, cell_or, cell_under, short_bytes, number_fits, within, fits, Value, nothing, truth, number, text, raw}
+use Rattle.kt_base.specs.Literals.{same, cell_in, fits}
 use Rattle.kt_base.proofs.Literals.{all_spelled}
 use Rattle.kt_base.proofs.Values.{both, both_true}
-use Rattle.std.proofs.lemmas.Bool.{false≢true}
-use Rattle.kt_key.specs.Fit.{is_bool, in_range, has_kind, is_key}
+use Rattle.std.proofs.lemmas.Bool.{false≢true, cases_lt}
+use Rattle.kt_key.specs.Fit.{is_bool, has_kind, is_key}
 use Rattle.kt_schema.specs.declared.column.Column.{Column}
 use Rattle.kt_schema.specs.First.{passes_at}
 use Rattle.kt_schema.specs.Columns.{is_weak, columns_no, key_columns, other_columns, key_kinds}
@@ -22,6 +22,7 @@ use Rattle.kt_script.specs.Reasons.{sound, reason_if, cell_no, cell_reason, cell
 use Rattle.kt_history.specs.declared.operation.OpKind.{OpKind}
 use Rattle.kt_history.specs.declared.operation.RowOp.{RowOp}
 use Rattle.kt_script.proofs.Selections.{any_map}
+use Rattle.kt_script.proofs.EachKind.{of_kind, or_memory}
 use Rattle.kt_script.specs.Writes.{name_in, left_out_no, must_be_named, all_named_no, upsert_no, twice, op_no, op_of, op_key, ops_no, many_no, write_no, cells_no, cells_of, key_no, key_len, key_of, key_cells, none_left_no, insert_no, ops_of, first_op, later_ops}
 
 -- the first operation and those behind it
@@ -33,82 +34,6 @@ ops_split (w ∷ words) = by (same w (codes ";")) (ops_split words)
         → (if t then [] ∷ ops_of words else onto_first w (ops_of words)) ≡ (if t then [] else w ∷ first_op words) ∷ (if t then ops_of words else later_ops words)
     by true e = refl
     by false e = ap (onto_first w) e
-
--- a cell that is read has the kind of its column
-same_range : (half : ℕ) (n : ℤ) → within half n ≡ true → in_range half n ≡ true
-same_range half (pos n) h = h
-same_range half (negsuc n) h = h
-
-pub of_kind : (k : Kind) (x : Cell) → fits k x ≡ true → has_kind k x ≡ true
-of_kind kind.Bool (cell.Int n) h = absurd (false≢true h)
-of_kind kind.Int8 (cell.Int n) h = same_range _ n h
-of_kind kind.Int16 (cell.Int n) h = same_range _ n h
-of_kind kind.Int32 (cell.Int n) h = same_range _ n h
-of_kind kind.Int64 (cell.Int n) h = same_range _ n h
-of_kind kind.String (cell.Int n) h = absurd (false≢true h)
-of_kind kind.Binary (cell.Int n) h = absurd (false≢true h)
-of_kind kind.Bool (cell.Bool b) h = refl
-of_kind kind.Int8 (cell.Bool b) h = absurd (false≢true h)
-of_kind kind.Int16 (cell.Bool b) h = absurd (false≢true h)
-of_kind kind.Int32 (cell.Bool b) h = absurd (false≢true h)
-of_kind kind.Int64 (cell.Bool b) h = absurd (false≢true h)
-of_kind kind.String (cell.Bool b) h = absurd (false≢true h)
-of_kind kind.Binary (cell.Bool b) h = absurd (false≢true h)
-of_kind kind.Bool (cell.Bytes bytes) h = absurd (false≢true h)
-of_kind kind.Int8 (cell.Bytes bytes) h = absurd (false≢true h)
-of_kind kind.Int16 (cell.Bytes bytes) h = absurd (false≢true h)
-of_kind kind.Int32 (cell.Bytes bytes) h = absurd (false≢true h)
-of_kind kind.Int64 (cell.Bytes bytes) h = absurd (false≢true h)
-of_kind kind.String (cell.Bytes bytes) h = refl
-of_kind kind.Binary (cell.Bytes bytes) h = refl
-of_kind kind.Bool cell.Null h = absurd (false≢true h)
-of_kind kind.Int8 cell.Null h = absurd (false≢true h)
-of_kind kind.Int16 cell.Null h = absurd (false≢true h)
-of_kind kind.Int32 cell.Null h = absurd (false≢true h)
-of_kind kind.Int64 cell.Null h = absurd (false≢true h)
-of_kind kind.String cell.Null h = absurd (false≢true h)
-of_kind kind.Binary cell.Null h = absurd (false≢true h)
-
--- what a text is read as is never want of memory
-short_memory : (bytes : List ℕ) → short_bytes bytes ≡ Err no.Memory → ⊥
-short_memory bytes h = by (nat_lt 65536 (length bytes)) h
-  where
-    by : (t : Bool) → (if t then Err no.Long else Ok (cell.Bytes bytes)) ≡ Err no.Memory → ⊥
-    by true g = cc
-    by false g = cc
-
-number_memory : (t : Bool) (n : ℤ) → (if t then Ok (cell.Int n) else Err no.Kind) ≡ Err no.Memory → ⊥
-number_memory true n h = cc
-number_memory false n h = cc
-
-under_memory : (k : Kind) (v : Value) → cell_under k v ≡ Err no.Memory → ⊥
-under_memory k nothing h = cc
-under_memory kind.Bool (truth b) h = cc
-under_memory kind.Int8 (truth b) h = cc
-under_memory kind.Int16 (truth b) h = cc
-under_memory kind.Int32 (truth b) h = cc
-under_memory kind.Int64 (truth b) h = cc
-under_memory kind.String (truth b) h = cc
-under_memory kind.Binary (truth b) h = cc
-under_memory k (number n) h = number_memory (number_fits k n) n h
-under_memory kind.Bool (text bytes) h = cc
-under_memory kind.Int8 (text bytes) h = cc
-under_memory kind.Int16 (text bytes) h = cc
-under_memory kind.Int32 (text bytes) h = cc
-under_memory kind.Int64 (text bytes) h = cc
-under_memory kind.String (text bytes) h = short_memory bytes h
-under_memory kind.Binary (text bytes) h = cc
-under_memory kind.Bool (raw bytes) h = cc
-under_memory kind.Int8 (raw bytes) h = cc
-under_memory kind.Int16 (raw bytes) h = cc
-under_memory kind.Int32 (raw bytes) h = cc
-under_memory kind.Int64 (raw bytes) h = cc
-under_memory kind.String (raw bytes) h = cc
-under_memory kind.Binary (raw bytes) h = short_memory bytes h
-
-pub or_memory : (k : Kind) (v : Option Value) → cell_or k v ≡ Err no.Memory → ⊥
-or_memory k None h = cc
-or_memory k (Some v) h = under_memory k v h
 
 -- a text that no reason up to 17 refuses is a cell that the column takes, or null where it may be
 pub read_cell_fits : (c : Column) (word : List ℕ) → 17 < cell_no c word → (fits c.kind (cell_value c.kind word) ≡ true) ⊎ ((c.nullable ≡ true) × (cell_value c.kind word ≡ cell.Null))
@@ -154,7 +79,7 @@ keys_fit (c ∷ keys) (w ∷ words) strong h =
     let parts = both_true _ _ strong in
     let kind = neither c.nullable (is_bool c.kind) parts.0 in
     let here : has_kind c.kind (cell_value c.kind w) ≡ true = elim (read_cell_fits c w (omega (arith, h))) [
-      | inl fit ↦ of_kind c.kind (cell_value c.kind w) fit
+      | inl fit ↦ (of_kind c.kind (cell_value c.kind w) fit).0
       | inr null ↦ absurd (false≢true (sym kind.0 ∙ null.0))
     ] in
     key_one c.kind (map (λ (d : Column). d.kind) keys) (cell_value c.kind w) (cells_of keys words) kind.1 here (keys_fit keys words parts.1 (omega (arith, h)))
@@ -181,13 +106,10 @@ insert_least columns others words first second old a b l m group behind_key behi
 pub same_op : (k : OpKind) (key other : List ℕ) (cells more : List (ℕ × Cell)) → key ≡ other → cells ≡ more → ◌≡◌ {A = RowOp} (record { kind = k; key = key; cells = cells }) (record { kind = k; key = other; cells = more })
 same_op k key other cells more e f = ap (λ (x : List ℕ). record { kind = k; key = x; cells = cells }) e ∙ ap (λ (x : List (ℕ × Cell)). record { kind = k; key = other; cells = x }) f
 
--- names that are left out add nothing once a reason up to 13 holds
-pub late_left_out : (others : List Column) (words : List (List ℕ)) → 15 ≤ left_out_no others words
-late_left_out others words = by (list_any (must_be_named (map name_in words)) others)
-  where
-    by : (t : Bool) → 15 ≤ reason_if t 15
-    by true = omega arith
-    by false = omega arith
+-- a reason that may hold is no less than itself, and no more than none
+late : (test : Bool) (reason : ℕ) → reason ≤ sound → (reason ≤ reason_if test reason) × (reason_if test reason ≤ sound)
+late true reason h = (omega arith, h)
+late false reason h = (h, omega arith)
 
 limit : (most n reason : ℕ) → ((most < n) × (reason_if (nat_lt most n) reason ≡ reason)) ⊎ ((n ≤ most) × (reason_if (nat_lt most n) reason ≡ sound))
 limit most n reason = by (nat_lt most n) refl
@@ -236,44 +158,37 @@ keys_same columns [] = refl
 keys_same columns ([] ∷ ops) = ap (λ xs. [] ∷ xs) (keys_same columns ops)
 keys_same columns ((w ∷ words) ∷ ops) = ap (λ xs. key_of columns words ∷ xs) (keys_same columns ops)
 
-either_no : (t : Bool) (reason : ℕ) → (reason_if t reason ≡ reason) ⊎ (reason_if t reason ≡ sound)
-either_no true reason = inl refl
-either_no false reason = inr refl
-
 -- the reason of a write, after its operations
 pub write_least : (columns : List Column) (words : List (List ℕ)) (ops : List RowOp) (n m : ℕ) → n ≡ min sound (min (ops_no columns (ops_of words)) (many_no 0 (ops_of words)))
-    → (18 < n → ops ≡ map (op_of columns) (ops_of words))
-    → ((18 < n) × (m ≡ min n (reason_if (twice (map (λ (o : RowOp). o.key) ops)) 19))) ⊎ ((n ≤ 18) × (m ≡ n)) → write_no columns words ≡ m
+    → (18 < n → ops ≡ map (op_of columns) (ops_of words)) → m ≡ min n (reason_if (twice (map (λ (o : RowOp). o.key) ops)) 19) → write_no columns words ≡ m
 write_least columns words ops n m least kept last =
     let whole = ops_of words in
     let zero_more : 0 + length whole ≡ length whole = omega arith in
     let many : many_no 0 whole ≡ reason_if (nat_lt 64 (length whole)) 18 = ap (λ k. reason_if (nat_lt 64 k) 18) zero_more in
     let alike : 18 < n → reason_if (twice (map (λ (o : RowOp). o.key) ops)) 19 ≡ reason_if (twice (map (op_key columns) whole)) 19 =
     λ h. ap (λ keys. reason_if (twice keys) 19) (ap (map (λ (o : RowOp). o.key)) (kept h) ∙ keys_same columns whole) in
-    by (ops_no columns whole) (reason_if (nat_lt 64 (length whole)) 18) (reason_if (twice (map (op_key columns) whole)) 19) (least ∙ ap (λ k. min sound (min (ops_no columns whole) k)) many) alike (either_no (twice (map (op_key columns) whole)) 19) last
+    let read = late (twice (map (λ (o : RowOp). o.key) ops)) 19 (omega arith) in
+    let said = late (twice (map (op_key columns) whole)) 19 (omega arith) in
+    by (ops_no columns whole) (reason_if (nat_lt 64 (length whole)) 18) _ _ (least ∙ ap (λ k. min sound (min (ops_no columns whole) k)) many) alike read.0 said.0 said.1 last (cases_lt 18 n)
   where
-    by : (o k t : ℕ) → n ≡ min sound (min o k) → (18 < n → reason_if (twice (map (λ (p : RowOp). p.key) ops)) 19 ≡ t) → (t ≡ 19) ⊎ (t ≡ sound)
-        → ((18 < n) × (m ≡ min n (reason_if (twice (map (λ (p : RowOp). p.key) ops)) 19))) ⊎ ((n ≤ 18) × (m ≡ n)) → min o (min k t) ≡ m
-    by o k t e alike (inl u) (inl h) = let f = alike h.0 in omega (arith, f, h.1)
-    by o k t e alike (inr u) (inl h) = let f = alike h.0 in omega (arith, f, h.1)
-    by o k t e alike (inl u) (inr h) = omega arith
-    by o k t e alike (inr u) (inr h) = omega arith
+    by : (o k u t : ℕ) → n ≡ min sound (min o k) → (18 < n → u ≡ t) → 19 ≤ u → 19 ≤ t → t ≤ sound → m ≡ min n u → (18 < n) ⊎ (n ≤ 18) → min o (min k t) ≡ m
+    by o k u t e alike read said most last (inl h) = let f = alike h in omega (arith, f)
+    by o k u t e alike read said most last (inr h) = omega arith
 
 -- the reason of an upsert, after its names
 pub upsert_least : (columns others : List Column) (words rest names : List (List ℕ)) (old a b m : ℕ) → others ≡ other_columns columns → rest ≡ drop (key_len columns) words
     → a ≡ min old (key_no columns words) → b ≡ min a (all_named_no others [] rest) → (13 < b → names ≡ map name_in rest)
-    → ((13 < b) × (m ≡ min b (reason_if (list_any (must_be_named names) others) 15))) ⊎ ((b ≤ 13) × (m ≡ b)) → m ≡ min old (upsert_no columns words)
+    → m ≡ min b (reason_if (list_any (must_be_named names) others) 15) → m ≡ min old (upsert_no columns words)
 upsert_least columns others words rest names old a b m group behind la lb named last =
     let R = drop (key_len columns) words in
     let oc = other_columns columns in
     let x : all_named_no others [] rest ≡ all_named_no oc [] R = ap (λ cs. all_named_no cs [] rest) group ∙ ap (all_named_no oc []) behind in
     let y : (13 < b) → reason_if (list_any (must_be_named names) others) 15 ≡ left_out_no oc R = λ h. ap (λ ns. reason_if (list_any (must_be_named ns) others) 15) (named h ∙ ap (map name_in) behind) ∙ ap (λ cs. reason_if (list_any (must_be_named (map name_in R)) cs) 15) group in
-    by (key_no columns words) (all_named_no oc [] R) (left_out_no oc R) la (lb ∙ ap (min a) x) (late_left_out oc R) last y
+    by (key_no columns words) (all_named_no oc [] R) _ (left_out_no oc R) la (lb ∙ ap (min a) x) (late (list_any (must_be_named names) others) 15 (omega arith)).0 (late (list_any (must_be_named (map name_in R)) oc) 15 (omega arith)).0 y last (cases_lt 13 b)
   where
-    by : (k z l : ℕ) → a ≡ min old k → b ≡ min a z → 15 ≤ l → ((13 < b) × (m ≡ min b (reason_if (list_any (must_be_named names) others) 15))) ⊎ ((b ≤ 13) × (m ≡ b))
-        → (13 < b → reason_if (list_any (must_be_named names) others) 15 ≡ l) → m ≡ min old (min (min k z) l)
-    by k z l p q late (inl h) same_l = let e = same_l h.0 in omega (arith, e, h.1)
-    by k z l p q late (inr h) same_l = omega arith
+    by : (k z u l : ℕ) → a ≡ min old k → b ≡ min a z → 15 ≤ u → 15 ≤ l → (13 < b → u ≡ l) → m ≡ min b u → (13 < b) ⊎ (b ≤ 13) → m ≡ min old (min (min k z) l)
+    by k z u l p q read said alike last (inl h) = let e = alike h in omega (arith, e)
+    by k z u l p q read said alike last (inr h) = omega arith
 
 -- whether one of some operations has the key of the one before them
 pub twice_more : (left : List RowOp) (o : RowOp) (behind : List RowOp) (key : List ℕ) (b : Bool) → left ≡ o ∷ behind → key ≡ o.key → list_any (λ (p : RowOp). same key p.key) behind ≡ b

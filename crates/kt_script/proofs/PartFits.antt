@@ -24,30 +24,13 @@ use Rattle.kt_script.specs.Reasons.{cell_no, cell_value}
 use Rattle.kt_script.specs.Columns.{counts_from}
 use Rattle.kt_script.specs.Writes.{cells_no, cells_of, under, name_in, behind_name, column_named, under_no, given_no, all_named_no, with_named, all_named, is_empty}
 use Rattle.kt_script.specs.Fit.{fits_column, is_part}
-use Rattle.kt_script.proofs.OpWords.{of_kind, read_cell_fits}
+use Rattle.kt_script.proofs.OpWords.{read_cell_fits}
+use Rattle.kt_script.proofs.EachKind.{of_kind}
 
 -- a cell that is read is one that its column takes
-not_long : (k : Kind) (x : Cell) → fits k x ≡ true → is_long x ≡ false
-not_long k cell.Null h = refl
-not_long k (cell.Int n) h = refl
-not_long k (cell.Bool b) h = refl
-not_long kind.Bool (cell.Bytes bytes) h = absurd (false≢true h)
-not_long kind.Int8 (cell.Bytes bytes) h = absurd (false≢true h)
-not_long kind.Int16 (cell.Bytes bytes) h = absurd (false≢true h)
-not_long kind.Int32 (cell.Bytes bytes) h = absurd (false≢true h)
-not_long kind.Int64 (cell.Bytes bytes) h = absurd (false≢true h)
-not_long kind.String (cell.Bytes bytes) h = short (length bytes) h
-  where
-    short : (n : ℕ) → nat_le n 65536 ≡ true → nat_lt 65536 n ≡ false
-    short n g = grind (arith, nat_tests)
-not_long kind.Binary (cell.Bytes bytes) h = short (length bytes) h
-  where
-    short : (n : ℕ) → nat_le n 65536 ≡ true → nat_lt 65536 n ≡ false
-    short n g = grind (arith, nat_tests)
-
 pub cell_fits : (c : Column) (word : List ℕ) → 17 < cell_no c word → fits_column c (cell_value c.kind word) ≡ true
 cell_fits c word h = elim (read_cell_fits c word h) [
-  | inl fit ↦ both _ _ (either (has_kind c.kind x) (is_null x && c.nullable) (of_kind c.kind x fit)) (ap not (not_long c.kind x fit))
+  | inl fit ↦ let of = of_kind c.kind x fit in both _ _ (either (has_kind c.kind x) (is_null x && c.nullable) of.0) of.1
   | inr null ↦ subst (λ y. fits_column c y ≡ true) (sym null.1) (nothing c.nullable null.0)
 ]
   where

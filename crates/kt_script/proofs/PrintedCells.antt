@@ -27,44 +27,13 @@ use Rattle.kt_script.proofs.Cuts.{Without}
 use Rattle.kt_script.proofs.InLine.{row_in_line}
 use Rattle.kt_script.proofs.PrintedWords.{Ranged, literal_word}
 use Rattle.kt_script.proofs.FormLaws.{Plain}
+use Rattle.kt_script.proofs.EachKind.{kind_fits}
 
 pub min_sound : (a b : ℕ) → a ≡ sound → b ≡ sound → min a b ≡ sound
 min_sound a b p q = omega arith
 
-same_range : (half : ℕ) (n : ℤ) → in_range half n ≡ within half n
-same_range half (pos n) = refl
-same_range half (negsuc n) = refl
-
-short_enough : (n : ℕ) → not (nat_lt 65536 n) ≡ true → nat_le n 65536 ≡ true
-short_enough n h = grind (arith, nat_tests)
-
 not_long : (n : ℕ) → n ≤ 65536 → not (nat_lt 65536 n) ≡ true
 not_long n h = grind (arith, nat_tests)
-
--- a cell of a kind that is not too long has a literal
-pub kind_fits : (k : Kind) (x : Cell) → has_kind k x ≡ true → not (is_long x) ≡ true → fits k x ≡ true
-kind_fits k cell.Null h g = absurd cc
-kind_fits kind.Bool (cell.Bool b) h g = refl
-kind_fits kind.Int8 (cell.Bool b) h g = absurd cc
-kind_fits kind.Int16 (cell.Bool b) h g = absurd cc
-kind_fits kind.Int32 (cell.Bool b) h g = absurd cc
-kind_fits kind.Int64 (cell.Bool b) h g = absurd cc
-kind_fits kind.String (cell.Bool b) h g = absurd cc
-kind_fits kind.Binary (cell.Bool b) h g = absurd cc
-kind_fits kind.Bool (cell.Int n) h g = absurd cc
-kind_fits kind.Int8 (cell.Int n) h g = sym (same_range (half_of (width_of kind.Int8)) n) ∙ h
-kind_fits kind.Int16 (cell.Int n) h g = sym (same_range (half_of (width_of kind.Int16)) n) ∙ h
-kind_fits kind.Int32 (cell.Int n) h g = sym (same_range (half_of (width_of kind.Int32)) n) ∙ h
-kind_fits kind.Int64 (cell.Int n) h g = sym (same_range (half_of (width_of kind.Int64)) n) ∙ h
-kind_fits kind.String (cell.Int n) h g = absurd cc
-kind_fits kind.Binary (cell.Int n) h g = absurd cc
-kind_fits kind.Bool (cell.Bytes b) h g = absurd cc
-kind_fits kind.Int8 (cell.Bytes b) h g = absurd cc
-kind_fits kind.Int16 (cell.Bytes b) h g = absurd cc
-kind_fits kind.Int32 (cell.Bytes b) h g = absurd cc
-kind_fits kind.Int64 (cell.Bytes b) h g = absurd cc
-kind_fits kind.String (cell.Bytes b) h g = short_enough (length b) g
-kind_fits kind.Binary (cell.Bytes b) h g = short_enough (length b) g
 
 pub ranged : (k : Kind) (x : Cell) → fits k x ≡ true → Ranged k x
 ranged k cell.Null h = tt

@@ -18,11 +18,16 @@ use Rattle.kt_schema.specs.declared.column.Column.{Column}
 use Rattle.kt_schema.proofs.Places.{passes_at-here}
 use Rattle.kt_script.specs.Pieces.{words_of}
 use Rattle.kt_script.specs.Reasons.{sound, reason_if, cell_or_null}
-use Rattle.kt_script.specs.Columns.{ColumnLine, IsTable, kind_of, marked, of_kind, column_line, begins_column, default_reason, default_no, place_no, said_no, column_no, default_value, with_column, columns_with}
+use Rattle.kt_script.specs.Columns.{ColumnLine, IsTable, kind_word, kind_of, marked, of_kind, column_line, begins_column, default_reason, default_no, place_no, said_no, column_no, default_value, with_column, columns_with}
 use Rattle.kt_script.specs.Texts.{words}
 use Rattle.kt_script.specs.Fit.{compares}
-use Rattle.kt_script.specs.Print.{kind_word, word_if, default_words, column_words, default_fits, DefaultBytes, ColumnFits}
-use Rattle.kt_script.proofs.PrintedWords.{IsWord, high, high_word, name_is, name_high, words_alone}
+use Rattle.kt_script.specs.Print.{word_if, default_words, column_words, default_fits, DefaultBytes, ColumnFits}
+use Rattle.kt_script.proofs.Cuts.{Without}
+use Rattle.kt_script.proofs.InLine.{words_in_line}
+use Rattle.kt_script.proofs.FormLaws.{Plain, plain}
+use Rattle.kt_script.proofs.PrintedWords.{name_is, words_alone}
+use Rattle.kt_script.proofs.PrintedNames.{name_plain}
+use Rattle.kt_script.proofs.PrintedWrites.{plain_in_line}
 use Rattle.kt_script.proofs.PrintedCells.{compared_again, min_sound}
 
 true_false : ◌≡◌ {A = Bool} true false → ⊥
@@ -37,14 +42,14 @@ kind_again kind.Int64 = refl
 kind_again kind.String = refl
 kind_again kind.Binary = refl
 
-kind_is_word : (k : Kind) → IsWord (kind_word k)
-kind_is_word kind.Bool = high (codes "bool") refl
-kind_is_word kind.Int8 = high (codes "int8") refl
-kind_is_word kind.Int16 = high (codes "int16") refl
-kind_is_word kind.Int32 = high (codes "int32") refl
-kind_is_word kind.Int64 = high (codes "int64") refl
-kind_is_word kind.String = high (codes "string") refl
-kind_is_word kind.Binary = high (codes "binary") refl
+kind_plain : (k : Kind) → Plain (kind_word k)
+kind_plain kind.Bool = plain (codes "bool") refl refl
+kind_plain kind.Int8 = plain (codes "int8") refl refl
+kind_plain kind.Int16 = plain (codes "int16") refl refl
+kind_plain kind.Int32 = plain (codes "int32") refl refl
+kind_plain kind.Int64 = plain (codes "int64") refl refl
+kind_plain kind.String = plain (codes "string") refl refl
+kind_plain kind.Binary = plain (codes "binary") refl refl
 
 -- ---- defaults
 
@@ -54,7 +59,7 @@ default_text k None = None
 default_text k (Some x) = Some (literal k x)
 
 record DefaultRead (k : Kind) (d : Option Cell) : Type 0 where
-  words : AllByRecursion IsWord (default_words k d)
+  words : AllByRecursion Plain (default_words k d)
   no : default_no k (default_text k d) ≡ sound
   is : default_value k (default_text k d) ≡ d
 
@@ -62,16 +67,16 @@ default_read : (c : Column) (d : Option Cell) → default_fits c d ≡ true → 
 default_read c None fit bytes = record { words = tt; no = refl; is = refl }
 default_read c (Some x) fit bytes =
     let again = compared_again c x (both_true (not c.key) (compares c x) fit).1 bytes in
-    record { words = (high (codes "default") refl, (again.plain.word, tt)); no = ap default_reason again.read; is = ap (λ r. Some (cell_or_null r)) again.read }
+    record { words = (plain (codes "default") refl refl, (again.plain, tt)); no = ap default_reason again.read; is = ap (λ r. Some (cell_or_null r)) again.read }
 
 -- ---- what stands behind the kind
 
 abbrev marks : Kind → Bool → Bool → Option Cell → List (List ℕ)
 marks k key nullable d = if key then codes "key" ∷ [] else word_if nullable (codes "nullable") ++ default_words k d
 
-marks_words : (k : Kind) (key nullable : Bool) (d : Option Cell) → AllByRecursion IsWord (default_words k d) → AllByRecursion IsWord (marks k key nullable d)
-marks_words k true nullable d p = (high (codes "key") refl, tt)
-marks_words k false true d p = (high (codes "nullable") refl, p)
+marks_words : (k : Kind) (key nullable : Bool) (d : Option Cell) → AllByRecursion Plain (default_words k d) → AllByRecursion Plain (marks k key nullable d)
+marks_words k true nullable d p = (plain (codes "key") refl refl, tt)
+marks_words k false true d p = (plain (codes "nullable") refl refl, p)
 marks_words k false false d p = p
 
 -- what a column's line says
@@ -121,6 +126,7 @@ pub record ColumnRead (front : List Column) (c : Column) : Type 0 where
   pub begins : begins_column (words (column_words c)) ≡ true
   pub no : column_no front (words (column_words c)) ≡ sound
   pub is : columns_with front (words (column_words c)) ≡ front ++ c ∷ []
+  pub line : Without 10 (words (column_words c))
 
 key_bare : (k n b : Bool) → (k && (n || b)) ≡ false → (k && n) ≡ false
 key_bare true true b h = h
@@ -144,8 +150,9 @@ column_read front c f fit id =
     let d = default_read c c.default fit.default fit.bytes in
     let l : List ℕ = words (column_words c) in
     let tail : List (List ℕ) = marks c.kind c.key c.nullable c.default in
-    let cut : words_of l ≡ column_words c = words_alone (codes "column") (c.name ∷ kind_word c.kind ∷ tail) (high (codes "column") refl)
-    (high_word c.name (name_high c.name (name_is c.name fit.name)), (kind_is_word c.kind, marks_words c.kind c.key c.nullable c.default d.words)) in
+    let behind : AllByRecursion Plain (c.name ∷ kind_word c.kind ∷ tail) = (name_plain c.name (name_is c.name fit.name), (kind_plain c.kind, marks_words c.kind c.key c.nullable c.default d.words)) in
+    let line = plain_in_line (column_words c) (plain (codes "column") refl refl, behind) in
+    let cut : words_of l ≡ column_words c = words_alone (codes "column") (c.name ∷ kind_word c.kind ∷ tail) line.words.0 line.words.1 in
     let cl : ColumnLine = said_line c.name c.kind c.key c.nullable c.default in
     let says : column_line (words_of l) ≡ Some cl =
     ap column_line cut ∙ (ap (λ t. if t then of_kind c.name (kind_of (kind_word c.kind)) tail else None) fit.name ∙ (ap (λ k. of_kind c.name k tail) (kind_again c.kind)
@@ -160,6 +167,7 @@ column_read front c f fit id =
     (min_sound (reason_if n 8) (reason_if m 9) (ap (λ t. reason_if t 8) f.again) (ap (λ t. reason_if t 9) (under_limit (length front) f.few)))) in
     record {
       begins = refl;
+      line = words_in_line (column_words c) line.line;
       no = ap (said_no front) says ∙ min_sound (default_no c.kind cl.default) (place_no front cl) d.no place;
       is = ap (with_column front) says ∙ (ap (λ v. front ++ record { id = length front + 1; name = c.name; kind = c.kind; key = c.key; nullable = c.nullable; default = v } ∷ []) d.is
           ∙ ap (λ i. front ++ record { id = i; name = c.name; kind = c.kind; key = c.key; nullable = c.nullable; default = c.default } ∷ []) (sym id));

@@ -1,7 +1,7 @@
 -- Cells that are printed with the names of their columns are read as these cells.
-use Rattle.std.proofs.Common.{◌≡◌, ℕ, ◌+◌, ◌<◌, List, [], ◌∷◌, ◌++◌, refl, sym, ap, ◌∙◌, cond, arith, length, take, drop, Bool, true, false, not, min, append_assoc}
+use Rattle.std.proofs.Common.{◌≡◌, ℕ, ◌+◌, ◌<◌, List, [], ◌∷◌, ◌++◌, refl, sym, ap, subst, ◌∙◌, cond, arith, length, take, drop, Bool, true, false, not, min, append_assoc}
 use mathlib.Core.List.{append-nil}
-use Rattle.std.specs.Prelude.{◌≢◌, ◌||◌, ◌&&◌, ◌==◌, if◌then◌else◌}
+use Rattle.std.specs.Prelude.{◌≢◌, ◌||◌, ◌&&◌, ◌==◌, if◌then◌else◌, codes}
 use Rattle.std.specs.List.{list_any, position_or_len, AllByRecursion}
 use Rattle.std.specs.declared.cmp.Ordering.TheVariants.{Greater}
 use Rattle.std.specs.Ordering.{nat_cmp}
@@ -19,8 +19,8 @@ use Rattle.kt_script.specs.Writes.{is_sign, name_in, behind_name, column_named, 
 use Rattle.kt_script.specs.Fit.{is_part, fits_column}
 use Rattle.kt_script.specs.Print.{ColumnFits, cell_word, cell_words}
 use Rattle.kt_script.proofs.InLine.{join}
-use Rattle.kt_script.proofs.FormLaws.{Plain, high_line}
-use Rattle.kt_script.proofs.PrintedWords.{NameByte, Named, name_apart, name_is, name_bytes_of, name_high, high_word, high, passes_both}
+use Rattle.kt_script.proofs.FormLaws.{Plain, plain_high, high_line}
+use Rattle.kt_script.proofs.PrintedWords.{NameByte, Named, High, name_apart, name_is, name_bytes_of, name_high, high_word, passes_both}
 use Rattle.kt_script.proofs.PrintedCells.{CellOk, cell_ok, min_sound}
 use Rattle.kt_script.proofs.PrintedTables.{IsNamed, Other, Apart, Above, Rising}
 use Rattle.kt_script.specs.declared.word.Side.TheVariants.{Outside}
@@ -87,16 +87,22 @@ named_ok others c x known ok =
 
 -- ---- the words
 
+pub name_plain : (name : List ℕ) → Named name → Plain name
+name_plain name n = plain_high name (name_high name n) (subst (λ x. same x (codes ";") ≡ false) (append-nil name) (name_apart name [] n))
+
+-- a name, a sign and a literal
+pub sign_plain : (c : Column) (sign lit : List ℕ) → ColumnFits c → AllByRecursion High sign → Plain lit → Plain (c.name ++ (sign ++ lit))
+sign_plain c sign lit fit h p =
+    let name = name_is c.name fit.name in
+    record {
+      word = passes_both Outside Outside Outside c.name (sign ++ lit) (high_word c.name (name_high c.name name)) (passes_both Outside Outside Outside sign lit (high_word sign h) p.word);
+      line = join (λ b. b ≢ 10) c.name (sign ++ lit) (high_line c.name (name_high c.name name)) (join (λ b. b ≢ 10) sign lit (high_line sign h) p.line);
+      apart = name_apart c.name (sign ++ lit) name;
+    }
+
 cell_word_plain : (named : Bool) (c : Column) (x : Cell) → ColumnFits c → CellOk c x → Plain (cell_word named c x)
 cell_word_plain false c x fit ok = ok.plain
-cell_word_plain true c x fit ok =
-    let name = name_is c.name fit.name in
-    let behind : List ℕ = 61 ∷ literal c.kind x in
-    record {
-      word = passes_both Outside Outside Outside c.name behind (high_word c.name (name_high c.name name)) (passes_both Outside Outside Outside (61 ∷ []) (literal c.kind x) (high (61 ∷ []) refl) ok.plain.word);
-      line = join (λ b. b ≢ 10) c.name behind (high_line c.name (name_high c.name name)) ((λ e. omega arith), ok.plain.line);
-      apart = name_apart c.name behind name;
-    }
+cell_word_plain true c x fit ok = sign_plain c (61 ∷ []) (literal c.kind x) fit (omega arith, tt) ok.plain
 
 abbrev pub Bytes : ℕ × Cell → Type 0
 Bytes x = CellBytes x.1

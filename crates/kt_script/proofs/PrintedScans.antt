@@ -1,5 +1,5 @@
 -- A printed scan is read as that scan.
-use Rattle.std.proofs.Common.{◌≡◌, ℕ, ◌≤◌, List, [], ◌∷◌, ◌++◌, refl, sym, ap, subst, ◌∙◌, arith, length, map, Bool, true, false, not, min, Option, Some, None, append_assoc}
+use Rattle.std.proofs.Common.{◌≡◌, ℕ, ◌≤◌, List, [], ◌∷◌, ◌++◌, refl, sym, ap, subst, ◌∙◌, arith, length, drop, map, Bool, true, false, not, min, Option, Some, None}
 use mathlib.Core.List.{append-nil}
 use Rattle.std.specs.Prelude.{◌||◌, ◌&&◌, ◌==◌, is_some, if◌then◌else◌, codes}
 use Rattle.std.specs.List.{list_any, cons_option, AllByRecursion}
@@ -14,21 +14,22 @@ use Rattle.kt_history.specs.declared.scan.At.{At}
 use Rattle.kt_history.specs.declared.scan.At.TheVariants.{Looked, Given}
 use Rattle.kt_history.specs.declared.scan.Pred.{Pred}
 use Rattle.kt_history.specs.declared.scan.Scan.{Scan}
-use Rattle.kt_script.specs.Pieces.{cut, words_of}
+use Rattle.kt_script.specs.Pieces.{cut}
 use Rattle.kt_script.specs.Reasons.{sound, reason_if}
 use Rattle.kt_script.specs.Writes.{column_named}
 use Rattle.kt_script.specs.Scans.{ScanLine, where_line, select_line, timed, name_no, names_no, preds_no, select_no, scan_no, id_of, ids_of, preds_of, scan_of, scan_said, timed_scan, timed_no, line_no}
-use Rattle.kt_script.specs.Times.{at_no}
+use Rattle.kt_script.specs.Times.{most_time, time_in, at_no}
 use Rattle.kt_script.specs.Fit.{column_of, are_selected, selection_fits, AtFits, ScanFits}
-use Rattle.kt_script.specs.Print.{ColumnFits, joined, name_of, at_text, select_text, where_text, scan_text, TestBytes}
+use Rattle.kt_script.specs.Print.{ColumnFits, joined, parted, name_of, pred_words, at_words, names_word, select_words, where_words, scan_words, TestBytes}
 use Rattle.kt_base.proofs.Decimals.{same_text}
 use Rattle.kt_script.proofs.Cuts.{Without, cut_front, cut_end}
 use Rattle.kt_script.proofs.InLine.{join}
-use Rattle.kt_script.proofs.PrintedWords.{IsWord, High, NameByte, Named, name_is, name_high, name_bytes_of, high_word, high, word_then}
+use Rattle.kt_script.proofs.PrintedWords.{High, NameByte, Named, name_is, name_high, name_bytes_of, name_apart}
+use Rattle.kt_script.proofs.FormLaws.{Plain, plain, plain_high}
 use Rattle.kt_script.proofs.PrintedCells.{min_sound}
 use Rattle.kt_script.proofs.PrintedTables.{IsNamed, Tabled, column_found}
 use Rattle.kt_script.proofs.PrintedNames.{Known, zip_all}
-use Rattle.kt_script.proofs.PrintedPreds.{Tails, tails_some, PredRead, preds_read, preds_words, pred_lines, preds_many, preds_sound, preds_are, where_words, where_tails, where_again}
+use Rattle.kt_script.proofs.PrintedPreds.{PredRead, preds_read, pred_lines, preds_many, preds_sound, preds_are, where_plain, where_again}
 use Rattle.kt_script.proofs.TimeWords.{time_again, time_high, not_late}
 
 -- ---- the selected names
@@ -145,16 +146,12 @@ names_high columns id (next ∷ ids) all =
 
 -- ---- the selection
 
-abbrev select_words : List Column → Option (List ℕ) → List (List ℕ)
-select_words columns None = []
-select_words columns (Some ids) = codes "select" ∷ joined (codes ",") (map (selected_name columns) ids) ∷ []
-
 abbrev names_selected : List Column → Option (List ℕ) → Option (List (List ℕ))
 names_selected columns sel = option_map (map (selected_name columns)) sel
 
 record SelectRead (columns : List Column) (sel : Option (List ℕ)) : Type 0 where
-  tails : (text : List ℕ) (ws : List (List ℕ)) → Tails text ws → Tails (select_text columns sel ++ text) (select_words columns sel ++ ws)
-  line : (preds : List Pred) (all : AllByRecursion (PredRead columns) preds) → select_line (select_words columns sel ++ where_words columns preds all) ≡ where_line (names_selected columns sel) (where_words columns preds all)
+  plain : AllByRecursion Plain (select_words columns sel)
+  line : (preds : List Pred) → AllByRecursion (PredRead columns) preds → select_line (select_words columns sel ++ where_words columns preds) ≡ where_line (names_selected columns sel) (where_words columns preds)
   no : select_no columns (names_selected columns sel) ≡ sound
   is : option_map (ids_of columns) (names_selected columns sel) ≡ sel
 
@@ -163,67 +160,59 @@ no_selection [] h = absurd (omega arith)
 no_selection (w ∷ ws) h = refl
 
 select_read : (columns : List Column) (sel : Option (List ℕ)) → Tabled columns → selection_fits columns sel ≡ true → SelectRead columns sel
-select_read columns None t fit = record { tails = λ text ws p. p; line = line; no = refl; is = refl }
+select_read columns None t fit = record { plain = tt; line = line; no = refl; is = refl }
   where
-    line : (preds : List Pred) (all : AllByRecursion (PredRead columns) preds) → select_line (where_words columns preds all) ≡ where_line None (where_words columns preds all)
+    line : (preds : List Pred) → AllByRecursion (PredRead columns) preds → select_line (where_words columns preds) ≡ where_line None (where_words columns preds)
     line [] all = refl
-    line (p ∷ preds) all = let many = preds_many columns p preds all in no_selection (preds_words columns p preds all) (omega (arith, many))
+    line (p ∷ preds) all = let many = preds_many columns p preds all in no_selection (parted (codes "and") (map (pred_words columns) (p ∷ preds))) (omega (arith, many))
 select_read columns (Some []) t fit = absurd cc
 select_read columns (Some (id ∷ ids)) t fit =
     let all = all_selected columns (id ∷ ids) t (both_true (not (length (id ∷ ids) == 0)) (are_selected columns (id ∷ ids)) fit).1 in
-    let names : List ℕ = joined (codes ",") (map (selected_name columns) (id ∷ ids)) in
-    let word : IsWord names = high_word names (names_high columns id ids all.0) in
+    let names : List ℕ = names_word columns (id ∷ ids) in
     record {
-      tails = λ text ws p. tails_some (codes "select" ++ 32 ∷ (names ++ text)) (codes "select" ∷ names ∷ ws) (word_then (codes "select") (names ++ text) (high (codes "select") refl) ∙ ap (λ vs. codes "select" ∷ vs) (p names word));
-      line = λ preds ps. ap (λ ns. where_line (Some ns) (where_words columns preds ps)) (names_cut columns id ids all.0);
+      plain = (plain (codes "select") refl refl, (plain_high names (names_high columns id ids all.0) (name_apart (selected_name columns id) _ (name_known columns id all.0.0)), tt));
+      line = λ preds ps. ap (λ ns. where_line (Some ns) (where_words columns preds)) (names_cut columns id ids all.0);
       no = names_sound columns [] (id ∷ ids) all.0 all.1 (all_unused columns (id ∷ ids));
       is = ap Some (ids_again columns (id ∷ ids) all.0);
     }
 
 -- ---- the time
 
--- the words of a time
-abbrev at_words : At → List (List ℕ)
-at_words Looked = codes "now" ∷ []
-at_words (Given t) = codes "at" ∷ decimal t ∷ []
-
 -- a time and what is read behind it
 record AtRead (at : At) : Type 0 where
-  tails : (text : List ℕ) (ws : List (List ℕ)) → Tails text ws → words_of (at_text at ++ text) ≡ at_words at ++ ws
+  plain : AllByRecursion Plain (at_words at)
   read : (ws : List (List ℕ)) → timed (at_words at ++ ws) ≡ Some (at, ws)
   no : at_no at ≡ sound
 
-at_read : (at : At) → AtFits at → AtRead at
-at_read Looked fit = record { tails = λ text ws p. p (codes "now") (high (codes "now") refl); read = λ ws. refl; no = refl }
-at_read (Given t) fit = record {
-  tails = λ text ws p. word_then (codes "at") (decimal t ++ text) (high (codes "at") refl) ∙ ap (λ vs. codes "at" ∷ vs) (p (decimal t) (high_word (decimal t) (time_high t fit)));
-  read = λ ws. ap (option_map (λ n. (Given n, ws))) (time_again t fit);
-  no = not_late t fit;
-}
+pub time_plain : (t : ℕ) → t ≤ most_time → Plain (decimal t)
+time_plain t h = plain_high (decimal t) (time_high t h) (no_sign (same (decimal t) (codes ";")) refl)
+  where
+    no_sign : (b : Bool) → same (decimal t) (codes ";") ≡ b → b ≡ false
+    no_sign true e = let none : None ≡ Some t = ap time_in (sym (same_text (decimal t) (codes ";") e)) ∙ time_again t h in absurd cc
+    no_sign false e = refl
 
--- the line of a scan, which is read as it
+at_read : (at : At) → AtFits at → AtRead at
+at_read Looked fit = record { plain = (plain (codes "now") refl refl, tt); read = λ ws. refl; no = refl }
+at_read (Given t) fit = record { plain = (plain (codes "at") refl refl, (time_plain t fit, tt)); read = λ ws. ap (option_map (λ n. (Given n, ws))) (time_again t fit); no = not_late t fit }
+
+-- the words of a scan, which are read as it
 pub record ScanRead (columns : List Column) (scan : Scan) : Type 0 where
-  pub rest : List (List ℕ)
-  pub starts : words_of (scan_text columns scan) ≡ codes "scan" ∷ rest
-  pub no : scan_no columns rest ≡ sound
-  pub is : scan_of columns rest ≡ scan
+  pub plain : AllByRecursion Plain (scan_words columns scan)
+  pub no : scan_no columns (drop 1 (scan_words columns scan)) ≡ sound
+  pub is : scan_of columns (drop 1 (scan_words columns scan)) ≡ scan
 
 pub scan_read : (columns : List Column) (scan : Scan) → Tabled columns → ScanFits columns scan → AllByRecursion (λ (p : Pred). TestBytes p.test) scan.preds → ScanRead columns scan
 scan_read columns scan t fit bytes =
     let preds = preds_read columns scan.preds t fit.preds bytes in
     let select = select_read columns scan.columns t fit.columns_there in
     let time = at_read scan.at fit.time in
-    let ws : List (List ℕ) = select_words columns scan.columns ++ where_words columns scan.preds preds in
-    let text : List ℕ = select_text columns scan.columns ++ where_text columns scan.preds in
-    let tails : Tails text ws = select.tails (where_text columns scan.preds) (where_words columns scan.preds preds) (where_tails columns scan.preds preds) in
+    let ws : List (List ℕ) = select_words columns scan.columns ++ where_words columns scan.preds in
     let sl : ScanLine = record { names = names_selected columns scan.columns; preds = pred_lines columns scan.preds preds } in
     let line : select_line ws ≡ Some sl = select.line scan.preds preds ∙ where_again columns (names_selected columns scan.columns) scan.preds preds in
     let read : timed (at_words scan.at ++ ws) ≡ Some (scan.at, ws) = time.read ws in
     let taken : line_no columns (select_line ws) ≡ sound = ap (line_no columns) line ∙ min_sound (select_no columns sl.names) (preds_no columns sl.preds) select.no (preds_sound columns scan.preds preds) in
     record {
-      rest = at_words scan.at ++ ws;
-      starts = ap words_of (append_assoc (codes "scan " ++ at_text scan.at) (select_text columns scan.columns) (where_text columns scan.preds) ∙ append_assoc (codes "scan ") (at_text scan.at) text)
-          ∙ (word_then (codes "scan") (at_text scan.at ++ text) (high (codes "scan") refl) ∙ ap (λ vs. codes "scan" ∷ vs) (time.tails text ws tails));
+      plain = (plain (codes "scan") refl refl, join Plain (at_words scan.at) ws time.plain (join Plain (select_words columns scan.columns) (where_words columns scan.preds) select.plain (where_plain columns scan.preds preds)));
       no = ap (timed_no columns) read ∙ min_sound (at_no scan.at) (line_no columns (select_line ws)) time.no taken;
       is = ap (timed_scan columns) read ∙ (ap (scan_said columns scan.at) line ∙ (ap (λ cs. record { at = scan.at; columns = cs; preds = preds_of columns sl.preds }) select.is
           ∙ ap (λ ps. record { at = scan.at; columns = scan.columns; preds = ps }) (preds_are columns scan.preds preds)));

@@ -7,24 +7,19 @@ use Rattle.std.proofs.lemmas.Bool.Decides.{nat_tests}
 use Rattle.std.proofs.lemmas.Grind.{flat_map-append}
 use Rattle.kt_schema.specs.declared.column.Column.{Column}
 use Rattle.kt_history.specs.declared.command.Command.{Command}
-use Rattle.kt_history.specs.declared.command.Command.TheVariants as command
 use Rattle.kt_script.specs.Reasons.{sound}
 use Rattle.kt_script.specs.Pieces.{cut}
 use Rattle.kt_script.specs.Columns.{IsTable}
 use Rattle.kt_script.specs.Texts.{line, words}
 use Rattle.kt_script.specs.Scripts.{Above, start, head, line_no, end_no, after, fault_from, above_end, Said, said, script_of}
-use Rattle.kt_script.specs.Fit.{CommandFits}
-use Rattle.kt_script.specs.Print.{CommandBytes, column_words, column_text, command_text, session_lines, script_text, ColumnFits, prints_are_read}
-use Rattle.kt_script.proofs.Cuts.{Without, cut_lines}
-use Rattle.kt_script.proofs.InLine.{join}
+use Rattle.kt_script.specs.Print.{column_words, column_text, command_text, session_lines, script_text, ColumnFits, prints_are_read}
+use Rattle.kt_script.proofs.Cuts.{cut_lines}
 use Rattle.kt_script.proofs.PrintedWords.{all_high}
-use Rattle.kt_script.proofs.PrintedTables.{Tabled, tabled, AreNumbered, numbered}
+use Rattle.kt_script.proofs.PrintedTables.{tabled, AreNumbered, numbered}
 use Rattle.kt_script.proofs.PrintedColumns.{fresh, column_read}
 use Rattle.kt_script.proofs.FormLaws.{high_line}
 use Rattle.kt_script.proofs.Spelling.{is_script}
-use Rattle.kt_script.proofs.PrintedWrites.{write_read}
-use Rattle.kt_script.proofs.PrintedLines.{column_in_line, scan_in_line, mark_in_line}
-use Rattle.kt_script.proofs.PrintedPlans.{Good, good_both, no_fault, at_end, plan_lines, plan_good}
+use Rattle.kt_script.proofs.PrintedPlans.{Good, good_both, good_in_line, no_fault, at_end, plan_lines, plan_good}
 
 -- ---- columns
 
@@ -39,7 +34,7 @@ columns_good columns front (c ∷ rest) e table fit ids =
     let no : line_no (head front) l ≡ sound = read.no in
     let next : after (head front) l ≡ head (front ++ c ∷ []) = ap head read.is in
     let later = columns_good columns (front ++ c ∷ []) rest (e ∙ sym (append_assoc front (c ∷ []) rest)) table fit.1 (subst (λ n. AreNumbered n rest) (ap (λ n. n + 1) (sym (one_more front c))) ids.1) in
-    (no, subst (λ a. Good a (map (λ x. words (column_words x)) rest) (head columns)) (sym next) later)
+    (no, read.line, subst (λ a. Good a (map (λ x. words (column_words x)) rest) (head columns)) (sym next) later)
 
 -- ---- the text
 
@@ -70,35 +65,14 @@ script_is_lines s =
     ap (λ x. x ++ flat_map (session_lines s.columns) s.plan) (columns_are_lines s.columns) ∙ (ap (λ x. flat_map line lines ++ x) (plan_is_lines s.columns s.plan) ∙ sym (flat_map-append line lines (plan_lines s.columns s.plan))) in
     ap (λ x. line (codes "table") ++ x) both
 
--- ---- no newline within
-
-columns_in_line : (columns : List Column) → AllByRecursion ColumnFits columns → AllByRecursion (Without 10) (map (λ c. words (column_words c)) columns)
-columns_in_line [] fit = tt
-columns_in_line (c ∷ columns) fit = (column_in_line c fit.0, columns_in_line columns fit.1)
-
-command_in_line : (columns : List Column) (c : Command) → Tabled columns → CommandFits columns c → CommandBytes columns c → Without 10 (command_text columns c)
-command_in_line columns (command.Write w) t fit said = (write_read columns w.ops t fit said).line
-command_in_line columns (command.Scan q) t fit said = scan_in_line columns q t.fit fit.time
-command_in_line columns (command.Mark a) t fit said = mark_in_line a fit
-command_in_line columns (command.Chore c) t fit said = absurd fit
-
-commands_in_line : (columns : List Column) (commands : List Command) → Tabled columns → AllByRecursion (CommandFits columns) commands → AllByRecursion (CommandBytes columns) commands → AllByRecursion (Without 10) (map (command_text columns) commands)
-commands_in_line columns [] t fit said = tt
-commands_in_line columns (c ∷ commands) t fit said = (command_in_line columns c t fit.0 said.0, commands_in_line columns commands t fit.1 said.1)
-
-plan_in_line : (columns : List Column) (plan : List (List Command)) → Tabled columns → AllByRecursion (AllByRecursion (CommandFits columns)) plan → AllByRecursion (AllByRecursion (CommandBytes columns)) plan → AllByRecursion (Without 10) (plan_lines columns plan)
-plan_in_line columns [] t fit said = tt
-plan_in_line columns (commands ∷ plan) t fit said =
-    (high_line (codes "session") (all_high (codes "session") refl), join (Without 10) (map (command_text columns) commands) (plan_lines columns plan) (commands_in_line columns commands t fit.0 said.0) (plan_in_line columns plan t fit.1 said.1))
-
 -- ---- the whole
 
 short_text : (n : ℕ) → n ≤ 67108864 → nat_lt 67108864 n ≡ false
 short_text n h = grind (arith, nat_tests)
 
-read_lines : (text : List ℕ) (lines : List (List ℕ)) (end : Above) (s : Said) → text ≡ flat_map line lines → AllByRecursion (Without 10) lines → Good start lines end → end_no end ≡ sound → said end ≡ s → length text ≤ 67108864 → script_of text ≡ Some s
-read_lines text lines end s is in_line good ends says short =
-    let cuts : cut 10 text ≡ lines ++ [] ∷ [] = ap (cut 10) is ∙ cut_lines lines in_line in
+read_lines : (text : List ℕ) (lines : List (List ℕ)) (end : Above) (s : Said) → text ≡ flat_map line lines → Good start lines end → end_no end ≡ sound → said end ≡ s → length text ≤ 67108864 → script_of text ≡ Some s
+read_lines text lines end s is good ends says short =
+    let cuts : cut 10 text ≡ lines ++ [] ∷ [] = ap (cut 10) is ∙ cut_lines lines (good_in_line start end lines good) in
     is_script text s (record {
       short = short_text (length text) short;
       taken = ap (fault_from start 1) cuts ∙ no_fault start end 1 lines good ends;
@@ -111,6 +85,5 @@ printed_is_read s fit plan all short =
     let p = plan_good s.columns s.plan t fit.key plan all in
     let lines : List (List ℕ) = map (λ c. words (column_words c)) s.columns in
     read_lines (script_text s) (script_lines s) p.end s (script_is_lines s)
-    (high_line (codes "table") (all_high (codes "table") refl), join (Without 10) lines (plan_lines s.columns s.plan) (columns_in_line s.columns fit.each) (plan_in_line s.columns s.plan t plan.each all))
-    (refl, good_both (head []) (head s.columns) p.end lines (plan_lines s.columns s.plan) (columns_good s.columns [] s.columns refl fit.table fit.each (numbered 1 s.columns fit.table.ids)) p.good)
+    (refl, high_line (codes "table") (all_high (codes "table") refl), good_both (head []) (head s.columns) p.end lines (plan_lines s.columns s.plan) (columns_good s.columns [] s.columns refl fit.table fit.each (numbered 1 s.columns fit.table.ids)) p.good)
     p.ends p.says short

@@ -18,7 +18,7 @@ command_keyed : (columns : List Column) (c : Command) → CommandFits columns c 
 command_keyed columns (command.Write w) fit = All-from_recursion (λ (o : RowOp). IsKey columns o.key) w.ops (ops_keyed columns w.ops fit.each)
 command_keyed columns (command.Scan scan) fit = tt
 command_keyed columns (command.Mark t) fit = tt
-command_keyed columns (command.Chore chore) fit = absurd fit
+command_keyed columns (command.Chore chore) fit = tt
 
 commands_keyed : (columns : List Column) (commands : List Command) → AllByRecursion (CommandFits columns) commands → AllByRecursion (HasKeys columns) commands
 commands_keyed columns [] fit = tt

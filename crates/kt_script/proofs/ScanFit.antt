@@ -7,7 +7,7 @@ use Rattle.std.proofs.lemmas.Bool.{eqb-true, eq-eqb}
 use Rattle.std.proofs.lemmas.Bool.Decides.{nat_tests}
 use Rattle.std.proofs.lemmas.List.Folds.{list_any-append}
 use Rattle.kt_base.specs.Literals.{same, cell_in}
-use Rattle.kt_base.proofs.Values.{both}
+use Rattle.kt_base.proofs.Values.{both, both_true}
 use Rattle.kt_base.specs.declared.cell.Cell.{Cell}
 use Rattle.kt_base.specs.declared.literal.LiteralNo.{LiteralNo}
 use Rattle.kt_base.specs.declared.literal.LiteralNo.TheVariants as no
@@ -41,18 +41,10 @@ name_is (x ∷ columns) name c e = by (same x.name name) refl e (name_is columns
 -- and it is found by its id
 pub id_is : (n : ℕ) (columns : List Column) (name : List ℕ) (c : Column) → counts_from n columns ≡ true → column_named columns name ≡ Some c → (column_of columns c.id ≡ Some c) × (n ≤ c.id)
 id_is n [] name c counts e = absurd cc
-id_is n (x ∷ columns) name c counts e = by (same x.name name) e (id_is (n + 1) columns name c (right _ _ counts))
+id_is n (x ∷ columns) name c counts e = by (same x.name name) e (id_is (n + 1) columns name c (both_true (x.id == n) (counts_from (n + 1) columns) counts).1)
   where
-    left : (a b : Bool) → (a && b) ≡ true → a ≡ true
-    left true b h = refl
-    left false b h = h
-
-    right : (a b : Bool) → (a && b) ≡ true → b ≡ true
-    right true b h = h
-    right false b h = cc
-
     first : x.id ≡ n
-    first = eqb-true x.id n (left _ _ counts)
+    first = eqb-true x.id n (both_true (x.id == n) (counts_from (n + 1) columns) counts).0
 
     by : (b : Bool) → (if b then Some x else column_named columns name) ≡ Some c → (column_named columns name ≡ Some c → (column_of columns c.id ≡ Some c) × (n + 1 ≤ c.id)) → (column_of (x ∷ columns) c.id ≡ Some c) × (n ≤ c.id)
     by true g later =

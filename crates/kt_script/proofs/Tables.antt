@@ -1,6 +1,6 @@
 -- Columns whose lines are taken make a schema, once one of them is a key.
 use Rattle.std.proofs.Common.{◌≡◌, ℕ, suc, ◌+◌, ◌<◌, ◌≤◌, Bool, true, false, not, min, ◌&&◌, ◌||◌, List, [], ◌∷◌, ◌++◌, length, take, Option, Some, None, inl, inr, refl, sym, ap, subst, ◌∙◌, arith, length-append}
-use Rattle.std.specs.Prelude.{◌⊎◌, if◌then◌else◌, nat_lt, nat_le, codes}
+use Rattle.std.specs.Prelude.{◌⊎◌, ◌==◌, if◌then◌else◌, nat_lt, nat_le, codes}
 use Rattle.std.specs.List.{list_any}
 use Rattle.std.specs.Option.{option_map_or}
 use Rattle.std.specs.Ordering.{nat_cmp, is_eq}
@@ -12,6 +12,7 @@ use Rattle.std.proofs.lemmas.Bool.Decides.{nat_tests}
 use Rattle.std.proofs.Math.Seq.{get_or-append_seam, take-append_seam}
 use Rattle.kt_base.specs.declared.cell.Kind.{Kind}
 use Rattle.kt_base.specs.Literals.{same}
+use Rattle.kt_base.proofs.Values.{both, both_true}
 use Rattle.kt_key.specs.Fit.{is_bool}
 use Rattle.kt_schema.specs.Names.{is_name}
 use Rattle.kt_schema.specs.declared.column.Column.{Column}
@@ -73,22 +74,10 @@ table_more columns c t f = record {
       where
         last : n + 0 ≡ n
         last = omega arith
-    counts_on n (x ∷ xs) h e = both _ _ (first _ _ h) (counts_on (n + 1) xs (rest _ _ h) (e ∙ step))
+    counts_on n (x ∷ xs) h e = let parts = both_true (x.id == n) (counts_from (n + 1) xs) h in both _ _ parts.0 (counts_on (n + 1) xs parts.1 (e ∙ step))
       where
         step : n + length (x ∷ xs) ≡ n + 1 + length xs
         step = omega arith
-
-        both : (a b : Bool) → a ≡ true → b ≡ true → (a && b) ≡ true
-        both true b p q = q
-        both false b p q = cc
-
-        first : (a b : Bool) → (a && b) ≡ true → a ≡ true
-        first true b p = refl
-        first false b p = p
-
-        rest : (a b : Bool) → (a && b) ≡ true → b ≡ true
-        rest true b p = p
-        rest false b p = cc
 
     count : (k : ℕ) → k < length (columns ++ c ∷ []) → k < suc (length columns)
     count k h = let size : length (columns ++ c ∷ []) ≡ length columns + length (c ∷ []) = length-append columns (c ∷ []) in omega (arith, size)

@@ -1,7 +1,7 @@
 -- What a text says is printed as that text but for the order of names, and each order of them says it.
-use Rattle.std.proofs.Common.{◌≡◌, ℕ, suc, ◌+◌, ◌≤◌, Bool, true, false, not, List, [], ◌∷◌, ◌++◌, length, Option, Some, None, min, inl, inr, refl, sym, ap, subst, ◌∙◌, arith, append_assoc, length-append, eq-eqb}
+use Rattle.std.proofs.Common.{◌≡◌, ℕ, suc, ◌+◌, ◌≤◌, Bool, true, false, not, List, [], ◌∷◌, ◌++◌, length, drop, Option, Some, None, min, refl, sym, ap, subst, ◌∙◌, arith, append_assoc, length-append, eq-eqb}
 use mathlib.Core.List.{append-nil}
-use Rattle.std.specs.Prelude.{◌≢◌, ◌⊎◌, if◌then◌else◌, ◌&&◌, ◌==◌, is_some, nat_lt, nat_le, codes}
+use Rattle.std.specs.Prelude.{◌≢◌, if◌then◌else◌, ◌&&◌, ◌==◌, nat_lt, codes}
 use Rattle.std.specs.List.{flat_map, list_any, onto_first, AllByRecursion}
 use Rattle.std.proofs.lemmas.Bool.{false≢true}
 use Rattle.std.proofs.lemmas.Bool.Decides.{nat_tests}
@@ -22,14 +22,20 @@ use Rattle.kt_script.specs.Reasons.{sound, reason_if}
 use Rattle.kt_script.specs.Texts.{line, words}
 use Rattle.kt_script.specs.Columns.{column_line, kind_of, of_kind, begins_column, said_no, column_no, columns_with, IsTable}
 use Rattle.kt_script.specs.Writes.{op_kind, op_form, ops_of, first_op, later_ops, write_no, write_of}
-use Rattle.kt_script.specs.Times.{mark_no, mark_of}
-use Rattle.kt_script.specs.Scans.{scan_no, scan_of}
-use Rattle.kt_script.specs.Scripts.{Above, start, head, body, Word, session, scan, mark, write, other, word_of, word_of_op, session_no, command_of, in_session_no, worded_no, worded_plan, body_no, body_plan, first_word, push_last, is_begun, commands_in, most_commands, most_bytes, line_no, rest_no, after, Fault, fault_if, fault_from, above_end, Said, said}
-use Rattle.kt_script.specs.Print.{column_text, command_text, session_lines, write_text, script_text}
-use Rattle.kt_script.specs.Alike.{behind_alike, kind_alike, op_alike, ops_alike, alike_as, line_alike, lines_alike, alike, texts_are_printed, alike_texts_are_read, texts_are_one, texts_are_read_again}
+use Rattle.kt_script.specs.declared.leads.TheConstants.{JOBS}
+use Rattle.kt_script.specs.declared.leads.Word.{Word}
+use Rattle.kt_script.specs.declared.leads.Word.TheVariants as word
+use Rattle.kt_script.specs.declared.leads.Lead.{Lead}
+use Rattle.kt_script.specs.declared.leads.Lead.TheVariants as lead
+use Rattle.kt_script.specs.Leads.{chore_word, lead_word, lead_in, alone_no}
+use Rattle.kt_script.specs.Scripts.{Above, start, head, body, session_no, full_no, command_no, command_of, in_session_no, led_no, led_plan, body_no, body_plan, first_lead, push_last, is_begun, most_bytes, line_no, rest_no, after, Fault, fault_if, fault_from, above_end, Said, said}
+use Rattle.kt_script.specs.Print.{column_text, command_text, session_lines, write_words, script_text}
+use Rattle.kt_script.specs.Alike.{is_write, behind_alike, kind_alike, op_alike, ops_alike, alike_as, line_alike, lines_alike, alike, texts_are_printed, alike_texts_are_read, texts_are_one, texts_are_read_again}
 use Rattle.kt_script.proofs.Cuts.{Without, some_piece, cut_lines}
 use Rattle.kt_script.proofs.Pieces.{some_word}
 use Rattle.kt_script.proofs.OpWords.{ops_split}
+use Rattle.kt_script.proofs.FirstWords.{lead_is}
+use Rattle.kt_script.proofs.Bodies.{chore_taken}
 use Rattle.kt_script.proofs.Spelling.{FitsAbove, after_kept, no_fault, script_is, is_script}
 use Rattle.kt_script.proofs.AgainColumns.{rejoined, column_again}
 use Rattle.kt_script.proofs.AgainScans.{scan_again, mark_again}
@@ -44,18 +50,18 @@ printed (body columns plan) = script_text (record { columns = columns; plan = pl
 
 -- ---- the first line and columns
 
--- a column line begins with a word of its own
-column_is_other : (columns : List Column) (text : List ℕ) → sound ≤ column_no columns text → first_word (words_of text) ≡ other
+-- a column line is no write
+column_is_other : (columns : List Column) (text : List ℕ) → sound ≤ column_no columns text → is_write (first_lead (words_of text)) ≡ false
 column_is_other columns text h = by (words_of text) refl
   where
     none : (words : List (List ℕ)) → words_of text ≡ words → column_line words ≡ None → ⊥
     none words is g = let no : said_no columns (column_line (words_of text)) ≡ 4 = ap (λ ws. said_no columns (column_line ws)) is ∙ ap (said_no columns) g in omega (arith, h, no)
 
-    from : (w v u : List ℕ) (ws : List (List ℕ)) → words_of text ≡ w ∷ v ∷ u ∷ ws → (b : Bool) → same w (codes "column") ≡ b → word_of w ≡ other
-    from w v u ws is true t = ap word_of (same_text w (codes "column") t)
-    from w v u ws is false t = absurd (none (w ∷ v ∷ u ∷ ws) is (ap (λ b. if b && is_name v then of_kind v (kind_of u) ws else None) t))
+    from : (w v u : List ℕ) (ws : List (List ℕ)) → words_of text ≡ w ∷ v ∷ u ∷ ws → (b : Bool) → same w (codes "column") ≡ b → is_write (lead_in w) ≡ false
+    from w v u ws is true t = ap (λ x. is_write (lead_in x)) (same_text w (codes "column") t)
+    from w v u ws is false t = absurd (none (w ∷ v ∷ u ∷ ws) is (ap (λ b. if b then of_kind v (kind_of u) ws else None) (ap (λ x. x && is_name v) t)))
 
-    by : (words : List (List ℕ)) → words_of text ≡ words → first_word words ≡ other
+    by : (words : List (List ℕ)) → words_of text ≡ words → is_write (first_lead words) ≡ false
     by [] is = refl
     by (w ∷ []) is = absurd (none (w ∷ []) is refl)
     by (w ∷ v ∷ []) is = absurd (none (w ∷ v ∷ []) is refl)
@@ -107,25 +113,22 @@ words_without byte l h = words_from_without byte Outside l h
 
 -- ---- lines that are alike
 
--- an operation begins with the same word
-first_alike : (columns : List Column) (ws vs : List (List ℕ)) → first_word ws ≡ write → ops_alike columns (ops_of ws) (ops_of vs) → first_word vs ≡ write
-first_alike columns [] vs first e = absurd cc
+-- a write begins with the same word
+first_alike : (columns : List Column) (ws vs : List (List ℕ)) → is_write (first_lead ws) ≡ true → ops_alike columns (ops_of ws) (ops_of vs) → first_lead vs ≡ first_lead ws
+first_alike columns [] vs first e = absurd (false≢true first)
 first_alike columns (w ∷ ws) vs first e = by (same w (codes ";")) refl (subst (λ os. ops_alike columns os (first_op vs ∷ later_ops vs)) (ops_split (w ∷ ws)) (subst (ops_alike columns (ops_of (w ∷ ws))) (ops_split vs) e)).0
   where
-    by : (t : Bool) → same w (codes ";") ≡ t → op_alike columns (if t then [] else w ∷ first_op ws) (first_op vs) → first_word vs ≡ write
-    by true s g = absurd (no_sign (sym first ∙ ap word_of (same_text w (codes ";") s)))
+    of : (xs : List (List ℕ)) → op_alike columns (w ∷ first_op ws) (first_op xs) → first_lead xs ≡ lead_in w
+    of [] q = absurd q
+    of (x ∷ xs) q = sign (same x (codes ";")) q
       where
-        no_sign : ◌≡◌ {A = Word} write other → ⊥
-        no_sign q = cc
+        sign : (t : Bool) → op_alike columns (w ∷ first_op ws) (if t then [] else x ∷ first_op xs) → lead_in x ≡ lead_in w
+        sign true p = absurd p
+        sign false p = ap lead_in (sym p.0)
+
+    by : (t : Bool) → same w (codes ";") ≡ t → op_alike columns (if t then [] else w ∷ first_op ws) (first_op vs) → first_lead vs ≡ lead_in w
+    by true s g = absurd (false≢true (sym (ap (λ x. is_write (lead_in x)) (same_text w (codes ";") s)) ∙ first))
     by false s g = of vs g
-      where
-        of : (xs : List (List ℕ)) → op_alike columns (w ∷ first_op ws) (first_op xs) → first_word xs ≡ write
-        of [] q = absurd q
-        of (x ∷ xs) q = sign (same x (codes ";")) q
-          where
-            sign : (t : Bool) → op_alike columns (w ∷ first_op ws) (if t then [] else x ∷ first_op xs) → word_of x ≡ write
-            sign true p = absurd p
-            sign false p = ap word_of (sym p.0) ∙ first
 
 behind_joined : (columns : List Column) (f : OpForm) (ws us vs : List (List ℕ)) → behind_alike columns f ws us → behind_alike columns f vs us → behind_alike columns f ws vs
 behind_joined columns form.Literals ws us vs a b = a ∙ sym b
@@ -155,47 +158,21 @@ ops_joined columns (ws ∷ ops) (us ∷ mid) (vs ∷ more) a b = (op_joined colu
 
 -- ---- a write line, or another
 
-is_write : (w : Word) → (w ≡ write) ⊎ (w ≡ write → ⊥)
-is_write session = inr (λ e. cc)
-is_write scan = inr (λ e. cc)
-is_write mark = inr (λ e. cc)
-is_write write = inl refl
-is_write other = inr (λ e. cc)
+abbrev writes : List ℕ → Bool
+writes text = is_write (first_lead (words_of text))
 
-plain_same : (columns : List Column) (w : Word) (text next : List ℕ) → (w ≡ write → ⊥) → alike_as columns w text next → text ≡ next
-plain_same columns session text next other_word e = e
-plain_same columns scan text next other_word e = e
-plain_same columns mark text next other_word e = e
-plain_same columns write text next other_word e = absurd (other_word refl)
-plain_same columns other text next other_word e = e
-
-same_plain : (columns : List Column) (w : Word) (text next : List ℕ) → (w ≡ write → ⊥) → text ≡ next → alike_as columns w text next
-same_plain columns session text next other_word e = e
-same_plain columns scan text next other_word e = e
-same_plain columns mark text next other_word e = e
-same_plain columns write text next other_word e = absurd (other_word refl)
-same_plain columns other text next other_word e = e
-
-abbrev first_of : List ℕ → Word
-first_of text = first_word (words_of text)
+still_write : (columns : List Column) (text next : List ℕ) → writes text ≡ true → ops_alike columns (ops_of (words_of text)) (ops_of (words_of next)) → writes next ≡ true
+still_write columns text next t e = ap is_write (first_alike columns (words_of text) (words_of next) t e) ∙ t
 
 -- lines that are alike to one are alike
 line_joined : (columns : List Column) (text mid next : List ℕ) → line_alike columns text mid → line_alike columns next mid → line_alike columns text next
-line_joined columns text mid next a b = elim (is_write (first_of text)) [
-  | inl t ↦
-      let p : ops_alike columns (ops_of (words_of text)) (ops_of (words_of mid)) = subst (λ w. alike_as columns w text mid) t a in
-      let middle = first_alike columns (words_of text) (words_of mid) t p in
-      elim (is_write (first_of next)) [
-        | inl n ↦ subst (λ w. alike_as columns w text next) (sym t) (ops_joined columns (ops_of (words_of text)) (ops_of (words_of mid)) (ops_of (words_of next)) p (subst (λ w. alike_as columns w next mid) n b))
-        | inr n ↦ absurd (n (ap first_of (plain_same columns (first_of next) next mid n b) ∙ middle))
-      ]
-  | inr t ↦
-      let p = plain_same columns (first_of text) text mid t a in
-      elim (is_write (first_of next)) [
-        | inl n ↦ absurd (t (ap first_of p ∙ first_alike columns (words_of next) (words_of mid) n (subst (λ w. alike_as columns w next mid) n b)))
-        | inr n ↦ same_plain columns (first_of text) text next t (p ∙ sym (plain_same columns (first_of next) next mid n b))
-      ]
-]
+line_joined columns text mid next = by (writes text) (writes next) refl refl
+  where
+    by : (s t : Bool) → writes text ≡ s → writes next ≡ t → alike_as columns s text mid → alike_as columns t next mid → alike_as columns s text next
+    by true true p q a b = ops_joined columns (ops_of (words_of text)) (ops_of (words_of mid)) (ops_of (words_of next)) a b
+    by true false p q a b = absurd (false≢true (sym q ∙ (ap writes b ∙ still_write columns text mid p a)))
+    by false true p q a b = absurd (false≢true (sym p ∙ (ap writes a ∙ still_write columns next mid q b)))
+    by false false p q a b = a ∙ sym b
 
 joined_alike : (columns : List Column) (lines mid others : List (List ℕ)) → lines_alike columns lines mid → lines_alike columns others mid → lines_alike columns lines others
 joined_alike columns [] [] [] a b = tt
@@ -224,141 +201,103 @@ goes_on : (columns : List Column) (plan longer : List (List Command)) (added : L
     → script_text (record { columns = columns; plan = longer }) ≡ script_text (record { columns = columns; plan = plan }) ++ added
 goes_on columns plan longer added h = rw h (simp (append_assoc))
 
-word_is_session : (w : List ℕ) → word_of w ≡ session → w ≡ codes "session"
-word_is_session w h = by (same w (codes "session")) refl
+-- a line of a word alone, by what it begins
+alone_is : (text : List ℕ) (ws : List (List ℕ)) (l : Lead) → words_of text ≡ ws → first_lead ws ≡ Some l → sound ≤ alone_no ws → text ≡ lead_word l
+alone_is text [] l is first h = absurd (omega (arith, h))
+alone_is text (w ∷ []) l is first h = sym (rejoined text) ∙ ap words is ∙ append-nil w ∙ lead_is w l first
+alone_is text (w ∷ v ∷ ws) l is first h = absurd (omega (arith, h))
+
+-- a line is its first word and those behind it
+begins_with : (text : List ℕ) (l : Lead) → first_lead (words_of text) ≡ Some l → words (lead_word l ∷ drop 1 (words_of text)) ≡ text
+begins_with text l first = by (words_of text) first ∙ rejoined text
   where
-    later : (a b : Bool) (c : Bool) → (if a then scan else (if b then mark else word_of_op c)) ≡ session → ⊥
-    later true b c g = absurd cc
-    later false true c g = absurd cc
-    later false false true g = absurd cc
-    later false false false g = absurd cc
-
-    by : (b : Bool) → same w (codes "session") ≡ b → w ≡ codes "session"
-    by true t = same_text w (codes "session") t
-    by false t =
-        let a = same w (codes "scan") in
-        let b = same w (codes "mark") in
-        let c = is_some (op_kind w) in
-        absurd (later a b c (ap (λ t. if t then session else (if a then scan else (if b then mark else word_of_op c))) (sym t) ∙ h))
-
-word_is_scan : (w : List ℕ) → word_of w ≡ scan → w ≡ codes "scan"
-word_is_scan w h = by (same w (codes "session")) (same w (codes "scan")) refl h
-  where
-    later : (b c : Bool) → (if b then mark else word_of_op c) ≡ scan → ⊥
-    later true c g = absurd cc
-    later false true g = absurd cc
-    later false false g = absurd cc
-
-    by : (a b : Bool) → same w (codes "scan") ≡ b → (if a then session else (if b then scan else (if same w (codes "mark") then mark
-        else word_of_op (is_some (op_kind w))))) ≡ scan → w ≡ codes "scan"
-    by true b t g = absurd cc
-    by false true t g = same_text w (codes "scan") t
-    by false false t g = absurd (later (same w (codes "mark")) (is_some (op_kind w)) g)
-
-word_is_mark : (w : List ℕ) → word_of w ≡ mark → w ≡ codes "mark"
-word_is_mark w h = by (same w (codes "session")) (same w (codes "scan")) (same w (codes "mark")) refl h
-  where
-    later : (c : Bool) → word_of_op c ≡ mark → ⊥
-    later true g = absurd cc
-    later false g = absurd cc
-
-    by : (a b c : Bool) → same w (codes "mark") ≡ c → (if a then session else (if b then scan else (if c then mark
-        else word_of_op (is_some (op_kind w))))) ≡ mark → w ≡ codes "mark"
-    by true b c t g = absurd cc
-    by false true c t g = absurd cc
-    by false false true t g = same_text w (codes "mark") t
-    by false false false t g = absurd (later (is_some (op_kind w)) g)
-
--- a session line is its word
-session_alone : (plan : List (List Command)) (text : List ℕ) (ws : List (List ℕ)) → words_of text ≡ ws → first_word ws ≡ session → sound ≤ session_no plan ws → text ≡ codes "session"
-session_alone plan text [] is first h = absurd (omega (arith, h))
-session_alone plan text (w ∷ []) is first h = sym (rejoined text) ∙ ap words is ∙ append-nil w ∙ word_is_session w first
-session_alone plan text (w ∷ v ∷ ws) is first h = absurd (omega (arith, h))
+    by : (ws : List (List ℕ)) → first_lead ws ≡ Some l → words (lead_word l ∷ drop 1 ws) ≡ words ws
+    by [] e = absurd cc
+    by (w ∷ ws) e = ap (λ v. words (v ∷ ws)) (sym (lead_is w l e))
 
 -- a line below the columns
 module _ (columns : List Column) (plan : List (List Command)) (text : List ℕ) (table : IsTable columns) where
   abbrev so_far : List ℕ
   so_far = script_text (record { columns = columns; plan = plan })
 
-  -- a command that is printed as the line
-  command_goes_on : (c : Command) (n : ℕ) (l : List ℕ) → sound ≤ (if is_begun plan then min n (reason_if (nat_le most_commands (commands_in plan)) 20) else 11) → (sound ≤ n → command_text columns c ≡ l)
-      → script_text (record { columns = columns; plan = push_last c plan }) ≡ so_far ++ line l
-  command_goes_on c n l taken is = by (is_begun plan) refl taken
+  -- a command that is printed as a line
+  command_goes_on : (w : Word) (l : List ℕ) → sound ≤ in_session_no columns plan w (words_of text) → (sound ≤ command_no columns w (words_of text) → command_text columns (command_of columns w (words_of text)) ≡ l)
+      → script_text (record { columns = columns; plan = push_last (command_of columns w (words_of text)) plan }) ≡ so_far ++ line l
+  command_goes_on w l taken is = by (is_begun plan) refl taken
     where
-      by : (b : Bool) → is_begun plan ≡ b → sound ≤ (if b then min n (reason_if (nat_le most_commands (commands_in plan)) 20) else 11) → script_text (record { columns = columns; plan = push_last c plan }) ≡ so_far ++ line l
+      c : Command
+      c = command_of columns w (words_of text)
+
+      by : (b : Bool) → is_begun plan ≡ b → sound ≤ (if b then min (command_no columns w (words_of text)) (full_no plan) else 11) → script_text (record { columns = columns; plan = push_last c plan }) ≡ so_far ++ line l
       by true some g = goes_on columns plan (push_last c plan) (line l) (plan_push columns plan c some ∙ ap (λ x. flat_map (session_lines columns) plan ++ line x) (is (omega (arith, g))))
       by false some g = absurd (omega (arith, g))
 
-  scan_line : (ws : List (List ℕ)) → words_of text ≡ ws → first_word ws ≡ scan → sound ≤ in_session_no columns plan scan ws → script_text (record { columns = columns; plan = push_last (command_of columns scan ws) plan }) ≡ so_far ++ line text
-  scan_line [] is first h = absurd cc
-  scan_line (w ∷ ws) is first h = command_goes_on (command.Scan (scan_of columns ws)) (scan_no columns ws) text h
-      (λ taken. scan_again columns ws table taken ∙ ap (λ v. words (v ∷ ws)) (sym (word_is_scan w first)) ∙ ap words (sym is) ∙ rejoined text)
+  -- a command but a write is printed as its line
+  command_shown : (w : Word) → first_lead (words_of text) ≡ Some (lead.Command w) → is_write (Some (lead.Command w)) ≡ false → sound ≤ command_no columns w (words_of text) → command_text columns (command_of columns w (words_of text)) ≡ text
+  command_shown word.Scan first plain h = ap words (scan_again columns (drop 1 (words_of text)) table h) ∙ begins_with text (lead.Command word.Scan) first
+  command_shown word.Mark first plain h = ap (λ vs. words (codes "mark" ∷ vs)) (mark_again (drop 1 (words_of text)) h) ∙ begins_with text (lead.Command word.Mark) first
+  command_shown (word.Chore c) first plain h = append-nil (chore_word c) ∙ sym (alone_is text (words_of text) (lead.Command (word.Chore c)) refl first (chore_taken JOBS (alone_no (words_of text)) h).1)
+  command_shown (word.Op k) first plain h = absurd (false≢true (sym plain))
 
-  mark_line : (ws : List (List ℕ)) → words_of text ≡ ws → first_word ws ≡ mark → sound ≤ in_session_no columns plan mark ws → script_text (record { columns = columns; plan = push_last (command_of columns mark ws) plan }) ≡ so_far ++ line text
-  mark_line [] is first h = absurd cc
-  mark_line (w ∷ ws) is first h = command_goes_on (command.Mark (mark_of ws)) (mark_no ws) text h
-      (λ taken. mark_again ws taken ∙ ap (λ v. words (v ∷ ws)) (sym (word_is_mark w first)) ∙ ap words (sym is) ∙ rejoined text)
-
-  write_line : sound ≤ in_session_no columns plan write (words_of text) → script_text (record { columns = columns; plan = push_last (command_of columns write (words_of text)) plan }) ≡ so_far ++ line (write_text columns (write_of columns (words_of text)))
-  write_line h = command_goes_on (command.Write (record { ops = write_of columns (words_of text) })) (write_no columns (words_of text)) (write_text columns (write_of columns (words_of text))) h (λ taken. refl)
-
-  session_line_on : first_word (words_of text) ≡ session → sound ≤ session_no plan (words_of text) → script_text (record { columns = columns; plan = plan ++ [] ∷ [] }) ≡ so_far ++ line text
+  session_line_on : first_lead (words_of text) ≡ Some lead.Session → sound ≤ session_no plan (words_of text) → script_text (record { columns = columns; plan = plan ++ [] ∷ [] }) ≡ so_far ++ line text
   session_line_on first h =
-      let is = session_alone plan text (words_of text) refl first h in
+      let is = alone_is text (words_of text) lead.Session refl first (omega (arith, h)) in
       goes_on columns plan (plan ++ [] ∷ []) (line text) (rw (flat_map-append (session_lines columns) plan ([] ∷ []), is) (simp (append-nil)))
 
-  write_taken : sound ≤ in_session_no columns plan write (words_of text) → sound ≤ write_no columns (words_of text)
-  write_taken g = by (is_begun plan) g
+  write_taken : (k : OpKind) → sound ≤ in_session_no columns plan (word.Op k) (words_of text) → sound ≤ write_no columns (words_of text)
+  write_taken k g = by (is_begun plan) g
     where
-      by : (b : Bool) → sound ≤ (if b then min (write_no columns (words_of text)) (reason_if (nat_le most_commands (commands_in plan)) 20) else 11) → sound ≤ write_no columns (words_of text)
+      by : (b : Bool) → sound ≤ (if b then min (write_no columns (words_of text)) (full_no plan) else 11) → sound ≤ write_no columns (words_of text)
       by true e = omega (arith, e)
       by false e = absurd (omega (arith, e))
 
   body_goes_on : sound ≤ body_no columns plan (words_of text) → Without 10 text → LineAgain columns text (printed (body columns (body_plan columns plan (words_of text)))) so_far
-  body_goes_on h inside = by (first_word (words_of text)) refl h
+  body_goes_on h inside = by (first_lead (words_of text)) refl h
     where
-      as_it_is : (w : Word) → first_word (words_of text) ≡ w → alike_as columns w text text → (now : List ℕ) → now ≡ so_far ++ line text → LineAgain columns text now so_far
-      as_it_is w first self now is = record { shown = text; printed = is; alike = subst (λ x. alike_as columns x text text) (sym first) self; inside = inside }
+      as_it_is : (l : Option Lead) → first_lead (words_of text) ≡ l → is_write l ≡ false → (now : List ℕ) → now ≡ so_far ++ line text → LineAgain columns text now so_far
+      as_it_is l first plain now is = record { shown = text; printed = is; alike = subst (λ b. alike_as columns b text text) (sym (ap is_write first ∙ plain)) refl; inside = inside }
 
-      by : (w : Word) → first_word (words_of text) ≡ w → sound ≤ worded_no columns plan w (words_of text) → LineAgain columns text (script_text (record { columns = columns; plan = worded_plan columns plan w (words_of text) })) so_far
-      by session first g = as_it_is session first refl _ (session_line_on first g)
-      by scan first g = as_it_is scan first refl _ (scan_line (words_of text) refl first g)
-      by mark first g = as_it_is mark first refl _ (mark_line (words_of text) refl first g)
-      by write first g =
-          let again = write_again columns (words_of text) table (write_taken g) (words_without 10 text inside) in
-          record { shown = write_text columns (write_of columns (words_of text)); printed = write_line g; alike = subst (λ x. alike_as columns x text (write_text columns (write_of columns (words_of text)))) (sym first) again.alike; inside = again.line }
-      by other first g = absurd (omega (arith, g))
+      plain : (w : Word) → is_write (Some (lead.Command w)) ≡ false → first_lead (words_of text) ≡ Some (lead.Command w) → sound ≤ in_session_no columns plan w (words_of text)
+          → LineAgain columns text (script_text (record { columns = columns; plan = push_last (command_of columns w (words_of text)) plan })) so_far
+      plain w other first g = as_it_is (Some (lead.Command w)) first other _ (command_goes_on w text g (command_shown w first other))
+
+      by : (l : Option Lead) → first_lead (words_of text) ≡ l → sound ≤ led_no columns plan l (words_of text) → LineAgain columns text (script_text (record { columns = columns; plan = led_plan columns plan l (words_of text) })) so_far
+      by None first g = absurd (omega (arith, g))
+      by (Some lead.Session) first g = as_it_is (Some lead.Session) first refl _ (session_line_on first g)
+      by (Some (lead.Command word.Scan)) first g = plain word.Scan refl first g
+      by (Some (lead.Command word.Mark)) first g = plain word.Mark refl first g
+      by (Some (lead.Command (word.Chore c))) first g = plain (word.Chore c) refl first g
+      by (Some (lead.Command (word.Op k))) first g =
+          let again = write_again columns (words_of text) table (write_taken k g) (words_without 10 text inside) in
+          let shown : List ℕ = words (write_words columns (write_of columns (words_of text))) in
+          record { shown = shown; printed = command_goes_on (word.Op k) shown g (λ taken. refl); alike = subst (λ b. alike_as columns b text shown) (sym (ap is_write first)) again.alike; inside = again.line }
 
   -- another order of the names
-  body_moved : (other_text : List ℕ) → sound ≤ body_no columns plan (words_of text) → line_alike columns text other_text → (sound ≤ body_no columns plan (words_of other_text)) × (body_plan columns plan (words_of other_text) ≡ body_plan columns plan (words_of text))
-  body_moved other_text h e = by (first_word (words_of text)) refl h e
+  body_moved : (next : List ℕ) → sound ≤ body_no columns plan (words_of text) → line_alike columns text next → (sound ≤ body_no columns plan (words_of next)) × (body_plan columns plan (words_of next) ≡ body_plan columns plan (words_of text))
+  body_moved next h e = by (first_lead (words_of text)) refl h e
     where
       Moved : List ℕ → Type 0
       Moved x = (sound ≤ body_no columns plan (words_of x)) × (body_plan columns plan (words_of x) ≡ body_plan columns plan (words_of text))
 
-      itself : text ≡ other_text → Moved other_text
+      itself : text ≡ next → Moved next
       itself is = subst Moved is (h, refl)
 
-      by : (w : Word) → first_word (words_of text) ≡ w → sound ≤ worded_no columns plan w (words_of text) → alike_as columns w text other_text → Moved other_text
-      by session first g k = itself k
-      by scan first g k = itself k
-      by mark first g k = itself k
-      by other first g k = itself k
-      by write first g k =
-          let moved = write_moved columns (words_of text) (words_of other_text) table (taken (is_begun plan) g) k in
-          let next = first_alike columns (words_of text) (words_of other_text) first k in (
-            subst (λ w. sound ≤ worded_no columns plan w (words_of other_text)) (sym next) (still (is_begun plan) g moved.0),
-            ap (λ w. worded_plan columns plan w (words_of other_text)) next ∙ (ap (λ ops. push_last (command.Write (record { ops = ops })) plan) moved.1 ∙ ap (λ w. worded_plan columns plan w (words_of text)) (sym first)),
+      by : (l : Option Lead) → first_lead (words_of text) ≡ l → sound ≤ led_no columns plan l (words_of text) → alike_as columns (is_write l) text next → Moved next
+      by None first g k = itself k
+      by (Some lead.Session) first g k = itself k
+      by (Some (lead.Command word.Scan)) first g k = itself k
+      by (Some (lead.Command word.Mark)) first g k = itself k
+      by (Some (lead.Command (word.Chore c))) first g k = itself k
+      by (Some (lead.Command (word.Op kind))) first g k =
+          let moved = write_moved columns (words_of text) (words_of next) table (write_taken kind g) k in
+          let leads = first_alike columns (words_of text) (words_of next) (ap is_write first) k ∙ first in (
+            subst (λ l. sound ≤ led_no columns plan l (words_of next)) (sym leads) (still (is_begun plan) g moved.0),
+            ap (λ l. led_plan columns plan l (words_of next)) leads ∙ (ap (λ ops. push_last (command.Write (record { ops = ops })) plan) moved.1 ∙ ap (λ l. led_plan columns plan l (words_of text)) (sym first)),
           )
         where
-          taken : (b : Bool) → sound ≤ (if b then min (write_no columns (words_of text)) (reason_if (nat_le most_commands (commands_in plan)) 20) else 11) → sound ≤ write_no columns (words_of text)
-          taken true q = omega arith
-          taken false q = absurd (omega arith)
-
-          still : (b : Bool) → sound ≤ (if b then min (write_no columns (words_of text)) (reason_if (nat_le most_commands (commands_in plan)) 20) else 11) → sound ≤ write_no columns (words_of other_text)
-              → sound ≤ (if b then min (write_no columns (words_of other_text)) (reason_if (nat_le most_commands (commands_in plan)) 20) else 11)
-          still true q m = omega arith
-          still false q m = absurd (omega arith)
+          still : (b : Bool) → sound ≤ (if b then min (write_no columns (words_of text)) (full_no plan) else 11) → sound ≤ write_no columns (words_of next) → sound ≤ (if b then min (write_no columns (words_of next)) (full_no plan) else 11)
+          still true q m = omega (arith, q, m)
+          still false q m = absurd (omega (arith, q))
 
 -- ---- line by line
 
@@ -372,14 +311,14 @@ abbrev columns_at : Above → List (List ℕ) → List Column
 columns_at above pieces = (said (above_end above pieces)).columns
 
 -- a line that is no write is as it is
-plain_again : (columns : List Column) (text now above : List ℕ) → first_word (words_of text) ≡ other → Without 10 text → now ≡ above ++ line text → LineAgain columns text now above
-plain_again columns text now above first inside is = record { shown = text; printed = is; alike = subst (λ w. alike_as columns w text text) (sym first) refl; inside = inside }
+plain_again : (columns : List Column) (text now above : List ℕ) → writes text ≡ false → Without 10 text → now ≡ above ++ line text → LineAgain columns text now above
+plain_again columns text now above plain inside is = record { shown = text; printed = is; alike = subst (λ b. alike_as columns b text text) (sym plain) refl; inside = inside }
 
 step : (above : Above) (text : List ℕ) (pieces : List (List ℕ)) → FitsAbove above → sound ≤ line_no above text → Without 10 text → LineAgain (columns_at (after above text) pieces) text (printed (after above text)) (printed above)
 step start text pieces fits h inside = by (same text (codes "table")) refl h
   where
     by : (b : Bool) → same text (codes "table") ≡ b → sound ≤ reason_if (not b) 3 → LineAgain (columns_at (head []) pieces) text (printed (head [])) []
-    by true t g = let is = same_text text (codes "table") t in plain_again (columns_at (head []) pieces) text (printed (head [])) [] (ap (λ x. first_word (words_of x)) is) inside (ap line (sym is))
+    by true t g = let is = same_text text (codes "table") t in plain_again (columns_at (head []) pieces) text (printed (head [])) [] (ap writes is) inside (ap line (sym is))
     by false t g = absurd (omega arith)
 step (head columns) text pieces fits h inside = by (begins_column text) (list_any (λ c. c.key) columns) h
   where
@@ -422,7 +361,7 @@ moved start text next pieces fits h e = by (same text (codes "table")) refl h
   where
     by : (b : Bool) → same text (codes "table") ≡ b → sound ≤ reason_if (not b) 3 → (sound ≤ line_no start next) × (after start next ≡ after start text)
     by true t g = let is = same_text text (codes "table") t in
-        let one : text ≡ next = subst (λ w. alike_as (columns_at (head []) pieces) w text next) (ap (λ x. first_word (words_of x)) is) e in
+        let one : text ≡ next = subst (λ b. alike_as (columns_at (head []) pieces) b text next) (ap writes is) e in
         (subst (λ x. sound ≤ line_no start x) one h, refl)
     by false t g = absurd (omega arith)
 moved (head columns) text next pieces fits h e = by (begins_column text) (list_any (λ c. c.key) columns) refl h e
@@ -433,16 +372,14 @@ moved (head columns) text next pieces fits h e = by (begins_column text) (list_a
     itself : text ≡ next → Moved next
     itself is = subst Moved is (h, refl)
 
-    begins : (w : Word) → sound ≤ worded_no columns [] w (words_of text) → alike_as columns w text next → text ≡ next
-    begins session g k = k
-    begins scan g k = k
-    begins mark g k = k
-    begins write g k = absurd (omega arith)
-    begins other g k = k
+    begins : (l : Option Lead) → sound ≤ led_no columns [] l (words_of text) → alike_as columns (is_write l) text next → text ≡ next
+    begins None g k = k
+    begins (Some lead.Session) g k = k
+    begins (Some (lead.Command w)) g k = absurd (omega (arith, g))
 
     by : (b k : Bool) → begins_column text ≡ b → sound ≤ (if b then column_no columns text else (if k then body_no columns [] (words_of text) else 5)) → line_alike (columns_at (if b then head (columns_with columns text) else body columns (body_plan columns [] (words_of text))) pieces) text next → Moved next
-    by true k t g q = itself (subst (λ w. alike_as (columns_at (head (columns_with columns text)) pieces) w text next) (column_is_other columns text g) q)
-    by false true t g q = itself (begins (first_word (words_of text)) g (subst (λ cs. line_alike cs text next) (columns_stay columns (body_plan columns [] (words_of text)) pieces) q))
+    by true k t g q = itself (subst (λ b. alike_as (columns_at (head (columns_with columns text)) pieces) b text next) (column_is_other columns text g) q)
+    by false true t g q = itself (begins (first_lead (words_of text)) g (subst (λ cs. line_alike cs text next) (columns_stay columns (body_plan columns [] (words_of text)) pieces) q))
     by false false t g q = absurd (omega arith)
 moved (body columns plan) text next pieces fits h e =
     let m = body_moved columns plan text fits.0 next h (subst (λ cs. line_alike cs text next) (columns_stay columns (body_plan columns plan (words_of text)) pieces) e) in
@@ -491,14 +428,11 @@ pieces_size (b ∷ l) = by (b == 10) (some_piece 10 l) (pieces_size l)
     by false some more = let a = ap (λ ps. size (onto_first b ps)) some.2 in let c = ap size some.2 in omega (arith, more, a, c)
 
 line_size : (columns : List Column) (text next : List ℕ) → line_alike columns text next → length text ≡ length next
-line_size columns text next e = by (first_word (words_of text)) e
+line_size columns text next e = by (writes text) e
   where
-    by : (w : Word) → alike_as columns w text next → length text ≡ length next
-    by session k = ap length k
-    by scan k = ap length k
-    by mark k = ap length k
-    by other k = ap length k
-    by write k = let a = write_size columns (words_of text) (words_of next) k in let b = words_size text in let c = words_size next in omega (arith, a, b, c)
+    by : (b : Bool) → alike_as columns b text next → length text ≡ length next
+    by true k = let a = write_size columns (words_of text) (words_of next) k in let b = words_size text in let c = words_size next in omega (arith, a, b, c)
+    by false k = ap length k
 
 lines_size : (columns : List Column) (lines others : List (List ℕ)) → lines_alike columns lines others → size lines ≡ size others
 lines_size columns [] [] e = refl

@@ -100,55 +100,40 @@ key_spelled columns words none h =
     short true n e g = below n (not_held (nat_lt 16384 n) 17 (omega arith) g)
     short false n e g = absurd (false≢true e)
 
--- an operation of a form that is taken fits, whatever its kind
-record FormFits (columns : List Column) (f : OpForm) (words : List (List ℕ)) : Type 0 where
-  key : Spells (key_kinds columns) (key_cells columns words) (key_of columns words)
-  short : length (key_of columns words) ≤ 16384
-  cells : cells_fit (other_columns columns) f (cells_said columns f words) ≡ true
+module _ (columns : List Column) (none : columns_no columns ≡ None) (rise : Rises 1 (other_columns columns)) (apart : AllByRecursion (IsNamed (other_columns columns)) (other_columns columns)) where
+  key_taken : (f : OpForm) (words : List (List ℕ)) → sound ≤ behind_no columns f words → sound ≤ key_no columns words
+  key_taken form.Literals words h = omega (arith, h)
+  key_taken form.RowNames words h = omega (arith, h)
+  key_taken form.Names words h = omega (arith, h)
+  key_taken form.Key words h = omega (arith, h)
 
-form_fits : (columns : List Column) → columns_no columns ≡ None → Rises 1 (other_columns columns) → AllByRecursion (IsNamed (other_columns columns)) (other_columns columns) → (f : OpForm) (words : List (List ℕ)) → sound ≤ behind_no columns f words → FormFits columns f words
-form_fits columns none rise apart form.Literals words h =
-    let others = other_columns columns in
-    let rest = drop (key_len columns) words in
-    let key = key_spelled columns words none (omega (arith, h)) in
-    let cells = inserted others rest (omega (arith, h)) in
-    record {
-      key = key.0;
-      short = key.1;
-      cells = both _ _ cells.0 (ap (λ n. n == length others) cells.1 ∙ same_id (length others));
-    }
-form_fits columns none rise apart form.RowNames words h =
-    let others = other_columns columns in
-    let rest = drop (key_len columns) words in
-    let key = key_spelled columns words none (omega (arith, h)) in
-    let named = part_named 1 others rest [] [] rise (omega (arith, h)) refl in
-    let given = given_all others others rest (λ c g. g) apart (not_held (list_any (must_be_named (map name_in rest)) others) 15 (omega arith) (omega (arith, h))) in
-    record { key = key.0; short = key.1; cells = both _ _ named given }
-form_fits columns none rise apart form.Names words h =
-    let others = other_columns columns in
-    let rest = drop (key_len columns) words in
-    let key = key_spelled columns words none (omega (arith, h)) in
-    let named = part_named 1 others rest [] [] rise (omega (arith, h)) refl in
-    record { key = key.0; short = key.1; cells = both _ _ named (some_given others rest (omega (arith, h)) (not_held (is_empty rest) 12 (omega arith) (omega (arith, h)))) }
-form_fits columns none rise apart form.Key words h =
-    let key = key_spelled columns words none (omega (arith, h)) in
-    record { key = key.0; short = key.1; cells = refl }
+  cells_taken : (f : OpForm) (words : List (List ℕ)) → sound ≤ behind_no columns f words → cells_fit (other_columns columns) f (cells_said columns f words) ≡ true
+  cells_taken form.Literals words h =
+      let cells = inserted (other_columns columns) (drop (key_len columns) words) (omega (arith, h)) in
+      both _ _ cells.0 (ap (λ n. n == length (other_columns columns)) cells.1 ∙ same_id (length (other_columns columns)))
+  cells_taken form.RowNames words h =
+      let others = other_columns columns in
+      let rest = drop (key_len columns) words in
+      both _ _ (part_named 1 others rest [] [] rise (omega (arith, h)) refl) (given_all others others rest (λ c g. g) apart (not_held (list_any (must_be_named (map name_in rest)) others) 15 (omega arith) (omega (arith, h))))
+  cells_taken form.Names words h =
+      let others = other_columns columns in
+      let rest = drop (key_len columns) words in
+      both _ _ (part_named 1 others rest [] [] rise (omega (arith, h)) refl) (some_given others rest (omega (arith, h)) (not_held (is_empty rest) 12 (omega arith) (omega (arith, h))))
+  cells_taken form.Key words h = refl
 
-kind_fits : (columns : List Column) → columns_no columns ≡ None → Rises 1 (other_columns columns) → AllByRecursion (IsNamed (other_columns columns)) (other_columns columns) → (o : Option OpKind) (words : List (List ℕ)) → sound ≤ kind_no columns o words
-    → OpFits columns (record { kind = kind_or_delete o; key = key_of columns words; cells = op_cells columns o words })
-kind_fits columns none rise apart None words h = absurd (omega arith)
-kind_fits columns none rise apart (Some kind) words h =
-    let fit = form_fits columns none rise apart (op_form kind) words h in
-    record { key_cells = key_cells columns words; key = fit.key; short = fit.short; cells = fit.cells }
+  op_fits : (words : List (List ℕ)) → sound ≤ op_no columns words → OpFits columns (op_of columns words)
+  op_fits [] h = absurd (omega arith)
+  op_fits (w ∷ words) h = by (op_kind w) h
+    where
+      by : (o : Option OpKind) → sound ≤ kind_no columns o words → OpFits columns (record { kind = kind_or_delete o; key = key_of columns words; cells = op_cells columns o words })
+      by None g = absurd (omega arith)
+      by (Some kind) g =
+          let key = key_spelled columns words none (key_taken (op_form kind) words g) in
+          record { key_cells = key_cells columns words; key = key.0; short = key.1; cells = cells_taken (op_form kind) words g }
 
-op_fits : (columns : List Column) → columns_no columns ≡ None → Rises 1 (other_columns columns) → AllByRecursion (IsNamed (other_columns columns)) (other_columns columns) → (words : List (List ℕ)) → sound ≤ op_no columns words → OpFits columns (op_of columns words)
-op_fits columns none rise apart [] h = absurd (omega arith)
-op_fits columns none rise apart (w ∷ words) h = kind_fits columns none rise apart (op_kind w) words h
-
-all_fit : (columns : List Column) → columns_no columns ≡ None → Rises 1 (other_columns columns) → AllByRecursion (IsNamed (other_columns columns)) (other_columns columns) → (ops : List (List (List ℕ))) → sound ≤ ops_no columns ops
-    → AllByRecursion (OpFits columns) (map (op_of columns) ops)
-all_fit columns none rise apart [] h = tt
-all_fit columns none rise apart (words ∷ ops) h = (op_fits columns none rise apart words (omega (arith, h)), all_fit columns none rise apart ops (omega (arith, h)))
+  all_fit : (ops : List (List (List ℕ))) → sound ≤ ops_no columns ops → AllByRecursion (OpFits columns) (map (op_of columns) ops)
+  all_fit [] h = tt
+  all_fit (words ∷ ops) h = (op_fits words (omega (arith, h)), all_fit ops (omega (arith, h)))
 
 -- a write line that is taken fits the columns of its table
 pub write_fits : (columns : List Column) (words : List (List ℕ)) → IsTable columns → counts_from 1 columns ≡ true → list_any (λ c. c.key) columns ≡ true → sound ≤ write_no columns words → WriteFits columns (write_of columns words)

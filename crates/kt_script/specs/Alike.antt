@@ -1,5 +1,5 @@
 -- Texts that are one but for the order of the names of each operation.
-use Rattle.std.specs.Prelude.{◌≡◌, ℕ, List, [], ◌∷◌, take, drop, Option, Some, None}
+use Rattle.std.specs.Prelude.{◌≡◌, ℕ, Bool, true, false, List, [], ◌∷◌, take, drop, Option, Some, None}
 use Rattle.std.specs.List.{filter}
 use Rattle.kt_base.specs.Literals.{same}
 use Rattle.kt_schema.specs.declared.column.Column.{Column}
@@ -8,7 +8,10 @@ use Rattle.kt_script.specs.declared.forms.OpForm.{OpForm}
 use Rattle.kt_script.specs.declared.forms.OpForm.TheVariants as form
 use Rattle.kt_script.specs.Pieces.{cut, words_of}
 use Rattle.kt_script.specs.Writes.{name_in, key_len, op_kind, op_form, ops_of}
-use Rattle.kt_script.specs.Scripts.{Word, write, Said, script_of, first_word}
+use Rattle.kt_script.specs.declared.leads.Word.TheVariants as word
+use Rattle.kt_script.specs.declared.leads.Lead.{Lead}
+use Rattle.kt_script.specs.declared.leads.Lead.TheVariants as lead
+use Rattle.kt_script.specs.Scripts.{Said, script_of, first_lead}
 use Rattle.kt_script.specs.Print.{script_text}
 
 -- the words of a name
@@ -45,13 +48,17 @@ ops_alike columns [] [] = Unit {0}
 ops_alike columns (ws ∷ ops) (vs ∷ more) = op_alike columns ws vs × ops_alike columns ops more
 ops_alike columns _ _ = ⊥
 
--- a line by its first word: a write's operations, or the line as it is
-abbrev pub alike_as : List Column → Word → List ℕ → List ℕ → Type 0
-alike_as columns write text other = ops_alike columns (ops_of (words_of text)) (ops_of (words_of other))
-alike_as columns kind text other = text ≡ other
+abbrev pub is_write : Option Lead → Bool
+is_write (Some (lead.Command (word.Op k))) = true
+is_write l = false
+
+-- a write's operations, or the line as it is
+abbrev pub alike_as : List Column → Bool → List ℕ → List ℕ → Type 0
+alike_as columns true text other = ops_alike columns (ops_of (words_of text)) (ops_of (words_of other))
+alike_as columns false text other = text ≡ other
 
 abbrev pub line_alike : List Column → List ℕ → List ℕ → Type 0
-line_alike columns text other = alike_as columns (first_word (words_of text)) text other
+line_alike columns text other = alike_as columns (is_write (first_lead (words_of text))) text other
 
 abbrev pub lines_alike : List Column → List (List ℕ) → List (List ℕ) → Type 0
 lines_alike columns [] [] = Unit {0}

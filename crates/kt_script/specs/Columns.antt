@@ -18,7 +18,8 @@ use Rattle.kt_script.specs.declared.columns.Line.{Line}
 use Rattle.kt_script.specs.declared.columns.LineNo.{LineNo}
 use Rattle.kt_script.specs.declared.columns.LineNo.TheVariants as line
 use Rattle.kt_script.specs.Pieces.{words_of, text_now}
-use Rattle.kt_script.specs.Reasons.{sound, reason_if, cell_value}
+use Rattle.kt_script.specs.Form.{kind_in}
+use Rattle.kt_script.specs.Reasons.{sound, Reads, reason_if, cell_value}
 
 -- What a column line says. A default is the text of a literal.
 pub record ColumnLine : Type 0 where
@@ -28,9 +29,21 @@ pub record ColumnLine : Type 0 where
   pub nullable : Bool
   pub default : Option (List ℕ)
 
+-- the word of each kind
+abbrev pub kind_word : Kind → List ℕ
+kind_word kind.Bool = codes "bool"
+kind_word kind.Int8 = codes "int8"
+kind_word kind.Int16 = codes "int16"
+kind_word kind.Int32 = codes "int32"
+kind_word kind.Int64 = codes "int64"
+kind_word kind.String = codes "string"
+kind_word kind.Binary = codes "binary"
+
+abbrev pub kinds : List Kind
+kinds = kind.Bool ∷ kind.Int8 ∷ kind.Int16 ∷ kind.Int32 ∷ kind.Int64 ∷ kind.String ∷ kind.Binary ∷ []
+
 abbrev pub kind_of : List ℕ → Option Kind
-kind_of word = if same word (codes "bool") then Some kind.Bool else (if same word (codes "int8") then Some kind.Int8 else (if same word (codes "int16") then Some kind.Int16 else (if same word (codes "int32") then Some kind.Int32
-    else (if same word (codes "int64") then Some kind.Int64 else (if same word (codes "string") then Some kind.String else (if same word (codes "binary") then Some kind.Binary else None))))))
+kind_of word = kind_in kind_word kinds word
 
 -- behind the kind and nullable: nothing, or the default
 abbrev pub with_default : List ℕ → Kind → Bool → List (List ℕ) → Option ColumnLine
@@ -109,9 +122,7 @@ line_view l = record { name = l.name.now; kind = l.kind; key = l.key; nullable =
 
 -- the cell of a default, or its reason
 abbrev pub ReadsDefault : Kind → Option (List ℕ) → Result (Option Cell) LineNo → Type 0
-ReadsDefault kind text (Ok cell) = (default_no kind text ≡ sound) × (cell ≡ default_value kind text)
-ReadsDefault kind text (Err (line.Reason r)) = (default_no kind text ≡ r) × (r < sound)
-ReadsDefault kind text (Err line.Memory) = Unit {0}
+ReadsDefault kind text result = Reads (default_no kind text) (default_value kind text) result
 
 -- one column more, or the reason of its line
 abbrev pub ReadsColumn : List Column → List ℕ → Result Column LineNo → Type 0

@@ -6,6 +6,7 @@ pub mod Form
 pub mod Columns
 pub mod Writes
 pub mod Times
+pub mod Leads
 pub mod Scans
 pub mod Sessions
 pub mod Scripts

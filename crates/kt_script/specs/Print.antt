@@ -3,10 +3,7 @@ use Rattle.std.specs.Prelude.{◌≡◌, ℕ, ◌≤◌, Bool, true, false, not,
 use Rattle.std.specs.Fmt.{decimal}
 use Rattle.std.specs.List.{flat_map, list_any, AllByRecursion}
 use Rattle.kt_base.specs.declared.cell.Kind.{Kind}
-use Rattle.kt_base.specs.declared.cell.Kind.TheVariants as kind
 use Rattle.kt_base.specs.declared.cell.Cell.{Cell}
-use Rattle.kt_base.specs.declared.chore.Chore.{Chore}
-use Rattle.kt_base.specs.declared.chore.Chore.TheVariants as chore
 use Rattle.kt_base.specs.Keys.{key_cells}
 use Rattle.kt_base.specs.Literals.{literal, CellBytes}
 use Rattle.kt_key.specs.Reading.{Spells}
@@ -26,8 +23,9 @@ use Rattle.kt_history.specs.declared.command.Command.TheVariants as command
 use Rattle.kt_script.specs.declared.forms.OpForm.{OpForm}
 use Rattle.kt_script.specs.declared.forms.OpForm.TheVariants as form
 use Rattle.kt_script.specs.Writes.{op_word, op_form}
+use Rattle.kt_script.specs.Leads.{chore_word}
 use Rattle.kt_script.specs.Texts.{line, words, literals}
-use Rattle.kt_script.specs.Columns.{IsTable}
+use Rattle.kt_script.specs.Columns.{IsTable, kind_word}
 use Rattle.kt_script.specs.Scripts.{Said, most_bytes, script_of}
 use Rattle.kt_script.specs.Fit.{column_of, compares, PlanFits}
 
@@ -37,15 +35,6 @@ joined separator [] = []
 joined separator (text ∷ texts) = text ++ flat_map (λ t. separator ++ t) texts
 
 -- ---- columns
-
-abbrev pub kind_word : Kind → List ℕ
-kind_word kind.Bool = codes "bool"
-kind_word kind.Int8 = codes "int8"
-kind_word kind.Int16 = codes "int16"
-kind_word kind.Int32 = codes "int32"
-kind_word kind.Int64 = codes "int64"
-kind_word kind.String = codes "string"
-kind_word kind.Binary = codes "binary"
 
 -- a word where a test holds
 abbrev pub word_if : Bool → List ℕ → List (List ℕ)
@@ -95,11 +84,13 @@ is_named kind = form_names (op_form kind)
 abbrev pub op_words : List Column → RowOp → List (List ℕ)
 op_words columns o = op_word o.kind ∷ (key_words columns o.key ++ cell_words (is_named o.kind) (other_columns columns) o.cells)
 
-abbrev pub op_text : List Column → RowOp → List ℕ
-op_text columns o = words (op_words columns o)
+-- lists of words with a word between each two
+abbrev pub parted : List ℕ → List (List (List ℕ)) → List (List ℕ)
+parted word [] = []
+parted word (ws ∷ more) = ws ++ flat_map (λ vs. word ∷ vs) more
 
-abbrev pub write_text : List Column → List RowOp → List ℕ
-write_text columns ops = joined (codes " ; ") (map (op_text columns) ops)
+abbrev pub write_words : List Column → List RowOp → List (List ℕ)
+write_words columns ops = parted (codes ";") (map (op_words columns) ops)
 
 -- ---- scans
 
@@ -107,52 +98,51 @@ abbrev pub name_of : Option Column → List ℕ
 name_of None = []
 name_of (Some c) = c.name
 
--- what is asked of a column of this kind
-abbrev pub test_text : Kind → Test → List ℕ
-test_text kind (test.Eq cell) = codes "=" ++ literal kind cell
-test_text kind (test.Lt cell) = codes "<" ++ literal kind cell
-test_text kind (test.Le cell) = codes "<=" ++ literal kind cell
-test_text kind (test.Gt cell) = codes ">" ++ literal kind cell
-test_text kind (test.Ge cell) = codes ">=" ++ literal kind cell
-test_text kind test.IsNull = codes " is null"
-test_text kind test.NotNull = codes " is not null"
+-- what is asked of a column
+abbrev pub test_words : Column → Test → List (List ℕ)
+test_words c (test.Eq cell) = (c.name ++ (codes "=" ++ literal c.kind cell)) ∷ []
+test_words c (test.Lt cell) = (c.name ++ (codes "<" ++ literal c.kind cell)) ∷ []
+test_words c (test.Le cell) = (c.name ++ (codes "<=" ++ literal c.kind cell)) ∷ []
+test_words c (test.Gt cell) = (c.name ++ (codes ">" ++ literal c.kind cell)) ∷ []
+test_words c (test.Ge cell) = (c.name ++ (codes ">=" ++ literal c.kind cell)) ∷ []
+test_words c test.IsNull = c.name ∷ codes "is" ∷ codes "null" ∷ []
+test_words c test.NotNull = c.name ∷ codes "is" ∷ codes "not" ∷ codes "null" ∷ []
 
-abbrev pub test_under : Option Column → Test → List ℕ
-test_under None test = []
-test_under (Some c) test = c.name ++ test_text c.kind test
+abbrev pub words_under : Option Column → Test → List (List ℕ)
+words_under None test = []
+words_under (Some c) test = test_words c test
 
-abbrev pub pred_text : List Column → Pred → List ℕ
-pred_text columns p = test_under (column_of columns p.column) p.test
+abbrev pub pred_words : List Column → Pred → List (List ℕ)
+pred_words columns p = words_under (column_of columns p.column) p.test
 
-abbrev pub at_text : At → List ℕ
-at_text Looked = codes "now"
-at_text (Given t) = codes "at " ++ decimal t
+abbrev pub at_words : At → List (List ℕ)
+at_words Looked = codes "now" ∷ []
+at_words (Given t) = codes "at" ∷ decimal t ∷ []
 
-abbrev pub select_text : List Column → Option (List ℕ) → List ℕ
-select_text columns None = []
-select_text columns (Some ids) = codes " select " ++ joined (codes ",") (map (λ id. name_of (column_of columns id)) ids)
+abbrev pub names_word : List Column → List ℕ → List ℕ
+names_word columns ids = joined (codes ",") (map (λ id. name_of (column_of columns id)) ids)
 
-abbrev pub where_text : List Column → List Pred → List ℕ
-where_text columns [] = []
-where_text columns (p ∷ preds) = codes " where " ++ joined (codes " and ") (map (pred_text columns) (p ∷ preds))
+abbrev pub select_words : List Column → Option (List ℕ) → List (List ℕ)
+select_words columns None = []
+select_words columns (Some ids) = codes "select" ∷ names_word columns ids ∷ []
 
-abbrev pub scan_text : List Column → Scan → List ℕ
-scan_text columns scan = codes "scan " ++ at_text scan.at ++ select_text columns scan.columns ++ where_text columns scan.preds
+abbrev pub where_words : List Column → List Pred → List (List ℕ)
+where_words columns [] = []
+where_words columns (p ∷ preds) = codes "where" ∷ parted (codes "and") (map (pred_words columns) (p ∷ preds))
+
+abbrev pub scan_words : List Column → Scan → List (List ℕ)
+scan_words columns scan = codes "scan" ∷ (at_words scan.at ++ (select_words columns scan.columns ++ where_words columns scan.preds))
 
 -- ---- lines
 
-abbrev pub chore_word : Chore → List ℕ
-chore_word chore.Flush = codes "flush"
-chore_word chore.FlushDeltas = codes "flush-deltas"
-chore_word chore.Minor = codes "minor"
-chore_word chore.Major = codes "major"
-chore_word chore.Compact = codes "compact"
+abbrev pub command_words : List Column → Command → List (List ℕ)
+command_words columns (command.Write w) = write_words columns w.ops
+command_words columns (command.Scan scan) = scan_words columns scan
+command_words columns (command.Mark t) = codes "mark" ∷ decimal t ∷ []
+command_words columns (command.Chore c) = chore_word c ∷ []
 
 abbrev pub command_text : List Column → Command → List ℕ
-command_text columns (command.Write w) = write_text columns w.ops
-command_text columns (command.Scan scan) = scan_text columns scan
-command_text columns (command.Mark t) = codes "mark " ++ decimal t
-command_text columns (command.Chore c) = chore_word c
+command_text columns c = words (command_words columns c)
 
 abbrev pub session_lines : List Column → List Command → List ℕ
 session_lines columns commands = line (codes "session") ++ flat_map (λ c. line (command_text columns c)) commands

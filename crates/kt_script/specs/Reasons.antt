@@ -1,5 +1,5 @@
 -- The reasons for which a line is refused are numbered. The least one that holds is told.
-use Rattle.std.specs.Prelude.{ℕ, Bool, true, false, List, if◌then◌else◌, Result, Ok, Err}
+use Rattle.std.specs.Prelude.{◌≡◌, ◌<◌, ℕ, Bool, true, false, List, Option, Some, None, if◌then◌else◌, Result, Ok, Err}
 use Rattle.kt_base.specs.declared.cell.Kind.{Kind}
 use Rattle.kt_base.specs.declared.cell.Kind.TheVariants as kind
 use Rattle.kt_base.specs.declared.cell.Cell.{Cell}
@@ -8,10 +8,23 @@ use Rattle.kt_base.specs.declared.literal.LiteralNo.{LiteralNo}
 use Rattle.kt_base.specs.declared.literal.LiteralNo.TheVariants as no
 use Rattle.kt_base.specs.Literals.{cell_in}
 use Rattle.kt_schema.specs.declared.column.Column.{Column}
+use Rattle.kt_script.specs.declared.columns.LineNo.{LineNo}
+use Rattle.kt_script.specs.declared.columns.LineNo.TheVariants as line
 
--- one more than the last reason: no reason holds
+-- No reason holds: more than each reason, which is a byte.
 abbrev pub sound : ℕ
-sound = 21
+sound = 256
+
+-- the least reason, or that none holds
+abbrev pub no_of : Option ℕ → ℕ
+no_of None = sound
+no_of (Some reason) = reason
+
+-- what is read where no reason holds, or the least reason
+abbrev pub Reads : {A : Type 0} → ℕ → A → Result A LineNo → Type 0
+Reads least value (Ok a) = (least ≡ sound) × (a ≡ value)
+Reads least value (Err (line.Reason r)) = (least ≡ r) × (r < sound)
+Reads least value (Err line.Memory) = Unit {0}
 
 abbrev pub reason_if : Bool → ℕ → ℕ
 reason_if test reason = if test then reason else sound

@@ -24,7 +24,7 @@ use Rattle.kt_script.specs.declared.asked.Question.{Question}
 use Rattle.kt_script.specs.declared.asked.Question.TheVariants as question
 use Rattle.kt_script.specs.declared.test_words.TakenTest.{TakenTest}
 use Rattle.kt_script.specs.Pieces.{cut, words_in}
-use Rattle.kt_script.specs.Reasons.{sound, reason_if, cell_value}
+use Rattle.kt_script.specs.Reasons.{sound, Reads, reason_if, cell_value}
 use Rattle.kt_script.specs.Writes.{name_in, behind_name, column_named}
 use Rattle.kt_script.specs.Times.{time_in, at_no}
 
@@ -247,15 +247,11 @@ IsMade at columns preds reason (Err line.Memory) = ⊥
 
 -- the scan at a time, as it is said behind that, or its reason
 abbrev pub ReadsLine : List Column → At → Option ScanLine → Result Scan LineNo → Type 0
-ReadsLine columns at said (Ok scan) = (line_no columns said ≡ sound) × (scan ≡ scan_said columns at said)
-ReadsLine columns at said (Err (line.Reason r)) = (line_no columns said ≡ r) × (r < sound)
-ReadsLine columns at said (Err line.Memory) = Unit {0}
+ReadsLine columns at said result = Reads (line_no columns said) (scan_said columns at said) result
 
 -- the scan of a time and the words behind it, or its reason
 abbrev pub ReadsTimed : List Column → Option Timed → Result Scan LineNo → Type 0
-ReadsTimed columns said (Ok scan) = (timed_no columns said ≡ sound) × (scan ≡ timed_scan columns said)
-ReadsTimed columns said (Err (line.Reason r)) = (timed_no columns said ≡ r) × (r < sound)
-ReadsTimed columns said (Err line.Memory) = Unit {0}
+ReadsTimed columns said result = Reads (timed_no columns said) (timed_scan columns said) result
 
 -- the scan of a line, or its reason
 abbrev pub ReadsScan : List Column → List (List ℕ) → Result Scan LineNo → Type 0

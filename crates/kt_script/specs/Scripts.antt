@@ -1,5 +1,5 @@
 -- Scripts: the first line that is refused, and what a script says where none is.
-use Rattle.std.specs.Prelude.{◌≡◌, ◌<◌, ◌≤◌, Result, Ok, Err, ℕ, ◌+◌, min, Bool, true, false, not, List, [], ◌∷◌, ◌++◌, length, map, Option, Some, None, is_some, if◌then◌else◌, nat_lt, nat_le, codes}
+use Rattle.std.specs.Prelude.{◌≡◌, ◌<◌, ◌≤◌, Result, Ok, Err, ℕ, ◌+◌, min, Bool, true, false, not, List, [], ◌∷◌, ◌++◌, length, drop, map, Option, Some, None, if◌then◌else◌, nat_lt, nat_le, codes}
 use Rattle.std.proofs.Common.{Bor}
 use Rattle.std.specs.List.{sum_by, list_any}
 use Rattle.kt_base.specs.Literals.{same}
@@ -15,11 +15,16 @@ use Rattle.kt_script.specs.declared.head.Table.{Table}
 use Rattle.kt_script.specs.declared.refusal.ScriptNo.{ScriptNo}
 use Rattle.kt_script.specs.declared.refusal.ScriptNo.TheVariants as why
 use Rattle.kt_script.specs.Pieces.{cut, words_of}
-use Rattle.kt_script.specs.Reasons.{sound, reason_if}
+use Rattle.kt_script.specs.declared.leads.Word.{Word}
+use Rattle.kt_script.specs.declared.leads.Word.TheVariants as word
+use Rattle.kt_script.specs.declared.leads.Lead.{Lead}
+use Rattle.kt_script.specs.declared.leads.Lead.TheVariants as lead
+use Rattle.kt_script.specs.Reasons.{sound, reason_if, Reads}
 use Rattle.kt_script.specs.Columns.{begins_column, column_no, columns_with, keys_no, IsTable}
-use Rattle.kt_script.specs.Writes.{op_kind, write_no, write_of}
+use Rattle.kt_script.specs.Writes.{write_no, write_of}
 use Rattle.kt_script.specs.Times.{mark_no, mark_of}
 use Rattle.kt_script.specs.Scans.{scan_no, scan_of}
+use Rattle.kt_script.specs.Leads.{lead_in, alone_no, chore_no}
 
 abbrev pub most_bytes : ℕ
 most_bytes = 67108864
@@ -30,38 +35,18 @@ most_sessions = 64
 abbrev pub most_commands : ℕ
 most_commands = 262144
 
--- A line of a session, by its first word.
-pub data Word : Type 0 where
-  session : Word
-  scan : Word
-  mark : Word
-  write : Word
-  other : Word
-
-abbrev pub word_of_op : Bool → Word
-word_of_op true = write
-word_of_op false = other
-
-abbrev pub word_of : List ℕ → Word
-word_of word = if same word (codes "session") then session else (if same word (codes "scan") then scan else (if same word (codes "mark") then mark
-    else word_of_op (is_some (op_kind word))))
-
--- why a command of these words is refused
+-- why a command is refused, by its first word
 abbrev pub command_no : List Column → Word → List (List ℕ) → ℕ
-command_no columns session words = 12
-command_no columns other words = 11
-command_no columns scan [] = 12
-command_no columns scan (word ∷ words) = scan_no columns words
-command_no columns mark [] = 12
-command_no columns mark (word ∷ words) = mark_no words
-command_no columns write words = write_no columns words
+command_no columns word.Scan words = scan_no columns (drop 1 words)
+command_no columns word.Mark words = mark_no (drop 1 words)
+command_no columns (word.Chore c) words = chore_no words
+command_no columns (word.Op k) words = write_no columns words
 
 abbrev pub command_of : List Column → Word → List (List ℕ) → Command
-command_of columns scan [] = command.Scan (scan_of columns [])
-command_of columns scan (word ∷ words) = command.Scan (scan_of columns words)
-command_of columns mark [] = command.Mark 0
-command_of columns mark (word ∷ words) = command.Mark (mark_of words)
-command_of columns w words = command.Write (record { ops = write_of columns words })
+command_of columns word.Scan words = command.Scan (scan_of columns (drop 1 words))
+command_of columns word.Mark words = command.Mark (mark_of (drop 1 words))
+command_of columns (word.Chore c) words = command.Chore c
+command_of columns (word.Op k) words = command.Write (record { ops = write_of columns words })
 
 -- how many commands there are, and whether a session is begun
 abbrev pub commands_in : List (List Command) → ℕ
@@ -72,26 +57,26 @@ is_begun plan = nat_lt 0 (length plan)
 
 -- a session line is its word alone
 abbrev pub session_no : List (List Command) → List (List ℕ) → ℕ
-session_no plan [] = 12
-session_no plan (word ∷ []) = reason_if (nat_le most_sessions (length plan)) 20
-session_no plan (word ∷ more ∷ words) = 12
+session_no plan words = min (alone_no words) (reason_if (nat_le most_sessions (length plan)) 20)
+
+-- one command too many
+abbrev pub full_no : List (List Command) → ℕ
+full_no plan = reason_if (nat_le most_commands (commands_in plan)) 20
 
 abbrev pub in_session_no : List Column → List (List Command) → Word → List (List ℕ) → ℕ
-in_session_no columns plan w words = if is_begun plan then min (command_no columns w words) (reason_if (nat_le most_commands (commands_in plan)) 20) else 11
+in_session_no columns plan w words = if is_begun plan then min (command_no columns w words) (full_no plan) else 11
 
-abbrev pub worded_no : List Column → List (List Command) → Word → List (List ℕ) → ℕ
-worded_no columns plan session words = session_no plan words
-worded_no columns plan scan words = in_session_no columns plan scan words
-worded_no columns plan mark words = in_session_no columns plan mark words
-worded_no columns plan write words = in_session_no columns plan write words
-worded_no columns plan other words = 11
+abbrev pub led_no : List Column → List (List Command) → Option Lead → List (List ℕ) → ℕ
+led_no columns plan None words = 11
+led_no columns plan (Some lead.Session) words = session_no plan words
+led_no columns plan (Some (lead.Command w)) words = in_session_no columns plan w words
 
-abbrev pub first_word : List (List ℕ) → Word
-first_word [] = other
-first_word (word ∷ words) = word_of word
+abbrev pub first_lead : List (List ℕ) → Option Lead
+first_lead [] = None
+first_lead (text ∷ words) = lead_in text
 
 abbrev pub body_no : List Column → List (List Command) → List (List ℕ) → ℕ
-body_no columns plan words = worded_no columns plan (first_word words) words
+body_no columns plan words = led_no columns plan (first_lead words) words
 
 -- the commands with one more in the last session
 abbrev pub push_last : Command → List (List Command) → List (List Command)
@@ -99,15 +84,13 @@ push_last c [] = (c ∷ []) ∷ []
 push_last c (commands ∷ []) = (commands ++ c ∷ []) ∷ []
 push_last c (commands ∷ more ∷ plan) = commands ∷ push_last c (more ∷ plan)
 
-abbrev pub worded_plan : List Column → List (List Command) → Word → List (List ℕ) → List (List Command)
-worded_plan columns plan session words = plan ++ [] ∷ []
-worded_plan columns plan scan words = push_last (command_of columns scan words) plan
-worded_plan columns plan mark words = push_last (command_of columns mark words) plan
-worded_plan columns plan write words = push_last (command_of columns write words) plan
-worded_plan columns plan other words = plan
+abbrev pub led_plan : List Column → List (List Command) → Option Lead → List (List ℕ) → List (List Command)
+led_plan columns plan None words = plan
+led_plan columns plan (Some lead.Session) words = plan ++ [] ∷ []
+led_plan columns plan (Some (lead.Command w)) words = push_last (command_of columns w words) plan
 
 abbrev pub body_plan : List Column → List (List Command) → List (List ℕ) → List (List Command)
-body_plan columns plan words = worded_plan columns plan (first_word words) words
+body_plan columns plan words = led_plan columns plan (first_lead words) words
 
 -- What stands above a line: nothing, the first line and columns, or columns and the sessions below them.
 pub data Above : Type 0 where
@@ -184,18 +167,18 @@ script_of text = said_unless (fault_of text) (said (above_end start (cut 10 text
 abbrev pub workload : ℕ → Said → Workload
 workload cells s = record { plan = s.plan; cells = cells; keys = map (λ c. (c.id, c.kind)) (key_columns s.columns); others = map (λ c. (c.id, c.kind)) (other_columns s.columns); fill = fill_of s.columns }
 
+-- the command of a line, or its reason
+abbrev pub ReadsCommand : List Column → Word → List (List ℕ) → Result Command LineNo → Type 0
+ReadsCommand columns w words result = Reads (command_no columns w words) (command_of columns w words) result
+
 -- a line of a session is read: the sessions with what it says, or its reason
-abbrev pub ReadsWorded : {A : Type 0} → List Column → List (List Command) → Word → List (List ℕ) → List (List Command) → Result A LineNo → Type 0
-ReadsWorded columns old w words new (Ok done) = (worded_no columns old w words ≡ sound) × (new ≡ worded_plan columns old w words)
-ReadsWorded columns old w words new (Err (line.Reason r)) = (worded_no columns old w words ≡ r) × (r < sound)
-ReadsWorded columns old w words new (Err line.Memory) = Unit {0}
+abbrev pub ReadsLed : {A : Type 0} → List Column → List (List Command) → Option Lead → List (List ℕ) → List (List Command) → Result A LineNo → Type 0
+ReadsLed columns old l words new (Ok done) = (led_no columns old l words ≡ sound) × (new ≡ led_plan columns old l words)
+ReadsLed columns old l words new (Err (line.Reason r)) = (led_no columns old l words ≡ r) × (r < sound)
+ReadsLed columns old l words new (Err line.Memory) = Unit {0}
 
 abbrev pub ReadsBody : {A : Type 0} → List Column → List (List Command) → List (List ℕ) → List (List Command) → Result A LineNo → Type 0
-ReadsBody columns old words new result = ReadsWorded columns old (first_word words) words new result
-
--- one command too many
-abbrev pub full_no : List (List Command) → ℕ
-full_no plan = reason_if (nat_le most_commands (commands_in plan)) 20
+ReadsBody columns old words new result = ReadsLed columns old (first_lead words) words new result
 
 -- a command more in the last session, unless it is one too many
 abbrev pub IsPushed : {A : Type 0} → List (List Command) → Command → List (List Command) → Result A LineNo → Type 0

@@ -20,6 +20,7 @@ use Rattle.kt_script.specs.declared.forms.OpForm.TheVariants as form
 use Rattle.kt_script.specs.declared.columns.LineNo.{LineNo}
 use Rattle.kt_script.specs.declared.columns.LineNo.TheVariants as line
 use Rattle.kt_script.specs.Pieces.{words_in}
+use Rattle.kt_script.specs.Form.{kind_in}
 use Rattle.kt_script.specs.Reasons.{sound, reason_if, cell_no, cell_value, form_no}
 
 -- a literal for each column at the front of some words
@@ -150,14 +151,9 @@ op_word op.DeleteIgnore = codes "delete-ignore"
 abbrev pub op_kinds : List OpKind
 op_kinds = op.Insert ∷ op.Upsert ∷ op.Update ∷ op.Delete ∷ op.InsertIgnore ∷ op.UpdateIgnore ∷ op.DeleteIgnore ∷ []
 
--- the first of these kinds that has this word
-abbrev pub kind_in : List ℕ → List OpKind → Option OpKind
-kind_in word [] = None
-kind_in word (kind ∷ kinds) = if same word (op_word kind) then Some kind else kind_in word kinds
-
 -- the kind of an operation by its first word
 abbrev pub op_kind : List ℕ → Option OpKind
-op_kind word = kind_in word op_kinds
+op_kind word = kind_in op_word op_kinds word
 
 abbrev pub kind_no : List Column → Option OpKind → List (List ℕ) → ℕ
 kind_no columns None words = 12

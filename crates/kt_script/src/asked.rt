@@ -3,10 +3,9 @@
 ghost use Rattle.std.specs.Prelude.{◌≡◌, min, IfOk, OnOk};
 ghost use Rattle.std.specs.Option.{option_map};
 ghost use Rattle.kt_base.specs.Literals.{cell_in};
-ghost use Rattle.kt_script.specs.Reasons.{cell_value};
+ghost use Rattle.kt_script.specs.Reasons.{no_of, cell_value};
 ghost use Rattle.kt_script.specs.Scans.{or_equal, signed, asked_view, compared_reason, asked_no, test_of};
 
-use crate::columns::SOUND;
 use crate::least::Least;
 use kt_base::literal::{LiteralNo, read_literal};
 use kt_base::{Cell, NoMemory};
@@ -60,16 +59,16 @@ pub fn signed(text: &[u8]) -> Option<Question<'_>>
 }
 
 // Null is not compared.
-fn compared_reason(read: &Result<Cell, LiteralNo>) -> u8
-    ensures { result ≡ compared_reason read.now }
+fn compared_reason(read: &Result<Cell, LiteralNo>) -> Option<u8>
+    ensures { no_of result ≡ compared_reason read.now }
 {
     match read {
-        Ok(_) => SOUND,
-        Err(LiteralNo::Form) => 12,
-        Err(LiteralNo::Null) => 12,
-        Err(LiteralNo::Kind) => 14,
-        Err(LiteralNo::Long) => 16,
-        Err(LiteralNo::Memory) => SOUND,
+        Ok(_) => None,
+        Err(LiteralNo::Form) => Some(12),
+        Err(LiteralNo::Null) => Some(12),
+        Err(LiteralNo::Kind) => Some(14),
+        Err(LiteralNo::Long) => Some(16),
+        Err(LiteralNo::Memory) => None,
     }
 }
 
@@ -105,11 +104,11 @@ pub fn read_test(
 {
     match question {
         Question::Null => {
-            no.note(SOUND);
+            no.note(None);
             Ok(Test::IsNull)
         }
         Question::NotNull => {
-            no.note(SOUND);
+            no.note(None);
             Ok(Test::NotNull)
         }
         Question::Compared(sign, literal) => {

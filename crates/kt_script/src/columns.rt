@@ -6,22 +6,24 @@ ghost use Rattle.std.specs.Option.{option_map};
 ghost use Rattle.std.specs.Ordering.{nat_cmp, is_eq};
 ghost use Rattle.std.specs.Cmp.Lexicographic.{slice_cmp};
 ghost use Rattle.kt_script.specs.Pieces.{words_of, words_in, text_now};
+ghost use Rattle.kt_script.specs.Reasons.{no_of};
 ghost use Rattle.kt_script.specs.Columns.{kind_of, with_default, as_key, marked, column_line, line_view, place_no, ReadsDefault, ReadsColumn};
 
+use crate::least::least_of;
 use crate::word::next_word;
 use kt_base::limits::COLUMNS;
 use kt_base::literal::{LiteralNo, read_literal};
 use kt_base::{Cell, Kind, Octets};
 use kt_schema::{Column, is_name};
 use std::alloc::Global;
-
-/// No reason holds.
-pub const SOUND: u8 = 21;
+use thiserror::Error;
 
 /// Why a line is not read: the least reason that holds in it, or want of memory.
-#[derive(Clone, Copy, Debug, PartialEq, Eq)]
+#[derive(Clone, Copy, Debug, PartialEq, Eq, Error)]
 pub enum LineNo {
+    #[error("the line is refused for reason {0}")]
     Reason(u8),
+    #[error("out of memory")]
     Memory,
 }
 
@@ -162,19 +164,19 @@ fn has_name(columns: &[Column], name: &[u8]) -> bool
 }
 
 // Why a column may not stand below these columns.
-fn place_no(columns: &[Column], line: &Line<'_>) -> u8
-    ensures { result ≡ place_no columns.now (line_view line.now) }
+fn place_no(columns: &[Column], line: &Line<'_>) -> Option<u8>
+    ensures { no_of result ≡ place_no columns.now (line_view line.now) }
 {
     if line.key && has_other(columns) {
-        6
+        Some(6)
     } else if line.key && line.kind == Kind::Bool {
-        7
+        Some(7)
     } else if has_name(columns, line.name) {
-        8
+        Some(8)
     } else if COLUMNS <= columns.len() {
-        9
+        Some(9)
     } else {
-        SOUND
+        None
     }
 }
 
@@ -188,11 +190,11 @@ pub fn read_column(alloc: Global, columns: &[Column], text: &[u8]) -> Result<Col
     let place = place_no(columns, &line);
     let default = match read_default(alloc, line.kind, line.default) {
         Ok(default) => default,
-        Err(LineNo::Reason(reason)) => return Err(LineNo::Reason(reason.min(place))),
+        Err(LineNo::Reason(reason)) => return Err(LineNo::Reason(least_of(reason, place))),
         Err(LineNo::Memory) => return Err(LineNo::Memory),
     };
-    if place < SOUND {
-        return Err(LineNo::Reason(place));
+    if let Some(reason) = place {
+        return Err(LineNo::Reason(reason));
     }
     let Ok(name) = Octets::from_slice(alloc, line.name) else {
         return Err(LineNo::Memory);

@@ -1,63 +1,84 @@
 //! The least reason that was found in a line so far.
 
-ghost use Rattle.std.specs.Prelude.{◌≡◌, ◌≤◌, min, IfOk, OnOk};
-ghost use Rattle.kt_script.specs.Reasons.{sound, cell_reason, cell_no, cell_value, form_no};
+ghost use Rattle.std.specs.Prelude.{◌≡◌, ◌<◌, ◌↔◌, min, IfOk, OnOk, IsTrue};
+ghost use Rattle.kt_script.specs.Reasons.{sound, no_of, cell_reason, cell_no, cell_value, form_no};
 
-use crate::columns::SOUND;
 use kt_base::literal::{LiteralNo, read_literal};
 use kt_base::{Cell, Kind, NoMemory};
 use kt_schema::Column;
 use std::alloc::Global;
 use std::marker::Model;
 
-/// The least reason so far. Contracts see its number, which is 21 where there is none.
+/// The least reason so far, if one holds. Contracts see its number, and `sound` where none holds.
 #[derive(Debug, Drop)]
 pub struct Least {
-    reason: u8,
+    reason: Option<u8>,
 }
 
 impl Model for Least {
     ghost use Rattle.std.specs.Prelude.{ℕ, ◌≤◌};
-    ghost use Rattle.kt_script.specs.Reasons.{sound};
+    ghost use Rattle.kt_script.specs.Reasons.{sound, no_of};
 
     ghost Value = { ℕ };
 
-    ghost view = { λ l. l.reason };
+    ghost view = { λ l. no_of l.reason };
 
-    ghost invariant = { λ l. l.reason ≤ sound };
+    ghost invariant = { λ l. no_of l.reason ≤ sound };
 }
 
 impl Least {
     pub fn none() -> Least
         ensures { result ≡ sound }
     {
-        Least { reason: SOUND }
+        Least { reason: None }
     }
 
-    pub fn note(&mut self, reason: u8)
-        ensures { self.new ≡ min self.old reason }
+    /// Notes a reason, if one holds.
+    pub fn note(&mut self, reason: Option<u8>)
+        ensures { self.new ≡ min self.old (no_of reason) }
     {
-        self.reason = self.reason.min(reason);
+        if let Some(reason) = reason {
+            self.reason = Some(least_of(reason, self.reason));
+        }
     }
 
-    pub fn reason(&self) -> u8
-        ensures value { result ≡ self.now }
-        ensures bound { result ≤ sound }
+    pub fn reason(&self) -> Option<u8>
+        ensures { no_of result ≡ self.now }
     {
         self.reason
     }
+
+    /// Whether no reason up to this one holds.
+    pub fn is_above(&self, reason: u8) -> bool
+        ensures { IsTrue result ↔ (reason < self.now) }
+    {
+        match self.reason {
+            Some(least) => reason < least,
+            None => true,
+        }
+    }
 }
 
-fn cell_reason(nullable: bool, read: &Result<Cell, LiteralNo>) -> u8
-    ensures { result ≡ cell_reason nullable read.now }
+/// The lesser of a reason and another, if there is one.
+pub fn least_of(reason: u8, other: Option<u8>) -> u8
+    ensures { result ≡ min reason (no_of other) }
+{
+    match other {
+        Some(other) => reason.min(other),
+        None => reason,
+    }
+}
+
+fn cell_reason(nullable: bool, read: &Result<Cell, LiteralNo>) -> Option<u8>
+    ensures { no_of result ≡ cell_reason nullable read.now }
 {
     match read {
-        Ok(_) => SOUND,
-        Err(LiteralNo::Form) => 12,
-        Err(LiteralNo::Null) => { if nullable { SOUND } else { 15 } }
-        Err(LiteralNo::Kind) => 14,
-        Err(LiteralNo::Long) => 16,
-        Err(LiteralNo::Memory) => SOUND,
+        Ok(_) => None,
+        Err(LiteralNo::Form) => Some(12),
+        Err(LiteralNo::Null) => { if nullable { None } else { Some(15) } }
+        Err(LiteralNo::Kind) => Some(14),
+        Err(LiteralNo::Long) => Some(16),
+        Err(LiteralNo::Memory) => None,
     }
 }
 
@@ -88,8 +109,8 @@ pub fn note_form(alloc: Global, text: &[u8], no: &mut Least) -> Result<(), NoMem
 {
     match read_literal(alloc, text, Kind::Bool) {
         Err(LiteralNo::Memory) => return Err(NoMemory),
-        Err(LiteralNo::Form) => no.note(12),
-        _ => no.note(SOUND),
+        Err(LiteralNo::Form) => no.note(Some(12)),
+        _ => no.note(None),
     }
     Ok(())
 }

@@ -15,6 +15,7 @@ pub mod columns;
 pub mod forms;
 pub mod head;
 pub mod laws;
+pub mod leads;
 pub mod least;
 pub mod lists;
 pub mod named;

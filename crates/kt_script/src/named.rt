@@ -3,10 +3,9 @@
 ghost use Rattle.std.specs.Prelude.{◌≡◌, ◌<◌, ◌++◌, ◌∷◌, [], not, ◌&&◌, min, map, drop, IfOk, OnOk};
 ghost use Rattle.std.specs.List.{list_any};
 ghost use Rattle.kt_base.specs.Literals.{same};
-ghost use Rattle.kt_script.specs.Reasons.{reason_if};
+ghost use Rattle.kt_script.specs.Reasons.{no_of, reason_if};
 ghost use Rattle.kt_script.specs.Writes.{name_in, behind_name, column_named, named_no, all_named_no, with_named, all_named, must_be_named, op_in, later_in, names_now, again_no, IsGiven};
 
-use crate::columns::SOUND;
 use crate::least::{Least, note_form, read_cell};
 use crate::names::find_column;
 use crate::operations::next_op_word;
@@ -31,10 +30,14 @@ fn has_name(names: &[&[u8]], name: &[u8]) -> bool
 }
 
 /// Why a name may not stand behind these.
-pub fn again_no(names: &[&[u8]], name: &[u8]) -> u8
-    ensures { result ≡ again_no (names_now names.now) name.now }
+pub fn again_no(names: &[&[u8]], name: &[u8]) -> Option<u8>
+    ensures { no_of result ≡ again_no (names_now names.now) name.now }
 {
-    if has_name(names, name) { 13 } else { SOUND }
+    if has_name(names, name) {
+        Some(13)
+    } else {
+        None
+    }
 }
 
 // The literal behind the sign of NAME=LIT.
@@ -65,15 +68,15 @@ fn read_named<'a>(
     let (name, behind) = cut_sign(word);
     no.note(again_no(names, name));
     let Some(literal) = given(name, behind) else {
-        no.note(12);
+        no.note(Some(12));
         return Ok(());
     };
     let Some(column) = find_column(others, name) else {
-        no.note(13);
+        no.note(Some(13));
         return note_form(alloc, literal, no);
     };
     let cell = read_cell(alloc, column, literal, no)?;
-    if no.reason() > 13 {
+    if no.is_above(13) {
         names.push(name)?;
         put_cell(cells, column.id, cell)?;
     }
@@ -99,7 +102,7 @@ pub fn take_names<'a>(
         read_named(alloc, others, word, &mut names, &mut cells, no)?;
         left = behind;
     }
-    no.note(SOUND);
+    no.note(None);
     Ok(TakenNames {
         names,
         cells,
@@ -120,8 +123,12 @@ fn leaves_out(names: &[&[u8]], others: &[Column]) -> bool
 }
 
 /// Why names are not enough for an upsert.
-pub fn left_out_no(others: &[Column], names: &[&[u8]]) -> u8
-    ensures { result ≡ reason_if (list_any (must_be_named (names_now names.now)) others.now) 15 }
+pub fn left_out_no(others: &[Column], names: &[&[u8]]) -> Option<u8>
+    ensures { no_of result ≡ reason_if (list_any (must_be_named (names_now names.now)) others.now) 15 }
 {
-    if leaves_out(names, others) { 15 } else { SOUND }
+    if leaves_out(names, others) {
+        Some(15)
+    } else {
+        None
+    }
 }

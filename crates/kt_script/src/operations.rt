@@ -4,10 +4,9 @@ ghost use Rattle.std.specs.Prelude.{◌≡◌, ◌<◌, [], min, length, drop, �
 ghost use Rattle.kt_key.specs.Fit.{is_key};
 ghost use Rattle.kt_key.specs.Spelling.{spelling};
 ghost use Rattle.kt_schema.specs.Columns.{columns_no, key_columns, key_kinds};
-ghost use Rattle.kt_script.specs.Reasons.{reason_if};
+ghost use Rattle.kt_script.specs.Reasons.{no_of, reason_if};
 ghost use Rattle.kt_script.specs.Writes.{cells_no, cells_of, under, key_no, key_len, key_of, none_left_no, op_in, later_in, ops_in, IsOpCut};
 
-use crate::columns::SOUND;
 use crate::least::{Least, read_cell};
 use crate::word::next_word;
 use kt_base::limits::KEY_LEN;
@@ -65,12 +64,12 @@ pub fn behind_op(rest: Option<&[u8]>) -> Option<Option<&[u8]>>
 }
 
 /// Why an operation is refused in which words are left.
-pub fn left_no(rest: Option<&[u8]>) -> u8
-    ensures { result ≡ none_left_no (op_in rest.entry) }
+pub fn left_no(rest: Option<&[u8]>) -> Option<u8>
+    ensures { no_of result ≡ none_left_no (op_in rest.entry) }
 {
     match next_op_word(rest) {
-        Some(_) => 12,
-        None => SOUND,
+        Some(_) => Some(12),
+        None => None,
     }
 }
 
@@ -90,13 +89,13 @@ pub fn take_cells<'a>(
     let mut left = rest;
     for column in columns {
         let Some((word, behind)) = next_op_word(left) else {
-            no.note(12);
+            no.note(Some(12));
             return Ok(TakenCells { cells, rest: left });
         };
         cells.push(read_cell(alloc, column, word, no)?)?;
         left = behind;
     }
-    no.note(SOUND);
+    no.note(None);
     Ok(TakenCells { cells, rest: left })
 }
 
@@ -116,13 +115,13 @@ pub fn take_others<'a>(
     let mut left = rest;
     for column in columns {
         let Some((word, behind)) = next_op_word(left) else {
-            no.note(12);
+            no.note(Some(12));
             return Ok(TakenOthers { cells, rest: left });
         };
         cells.push((column.id, read_cell(alloc, column, word, no)?))?;
         left = behind;
     }
-    no.note(SOUND);
+    no.note(None);
     Ok(TakenOthers { cells, rest: left })
 }
 
@@ -146,11 +145,11 @@ fn spell_key(
     ensures key { IfOk result (λ key. 17 < no.new → key ≡ spelling (key_kinds schema.now) cells.now) }
     ensures least { OnOk result (no.new ≡ min no.old (reason_if (is_key (key_kinds schema.now) cells.now && nat_lt 16384 (length (spelling (key_kinds schema.now) cells.now))) 17)) }
 {
-    if no.reason() <= 17 {
+    if !no.is_above(17) {
         return Ok(Octets::new(alloc));
     }
     let key = encode_key(alloc, schema.key_kinds(), cells)?;
-    no.note(if key.len() > KEY_LEN { 17 } else { SOUND });
+    no.note(if key.len() > KEY_LEN { Some(17) } else { None });
     Ok(key)
 }
 

@@ -1,20 +1,22 @@
 //! The one text of a script: the names of each operation stand in schema order.
 
-ghost use Rattle.std.specs.Prelude.{◌≡◌, ◌++◌, ◌∷◌, OnOk, IfOk, map, codes, All};
+ghost use Rattle.std.specs.Prelude.{◌≡◌, ◌++◌, ◌∷◌, [], OnOk, IfOk, map, codes, All};
 ghost use Rattle.std.specs.Fmt.{decimal};
 ghost use Rattle.std.specs.List.{flat_map};
 ghost use Rattle.std.specs.Option.{option_copied};
-ghost use Rattle.kt_script.specs.Texts.{spaced, literals};
+ghost use Rattle.kt_script.specs.Texts.{spaced, words, literals};
 ghost use Rattle.kt_base.specs.Literals.{literal};
+ghost use Rattle.kt_script.specs.Columns.{kind_word};
 ghost use Rattle.kt_script.specs.Writes.{op_word};
 ghost use Rattle.kt_script.specs.Fit.{column_of, PlanFits};
-ghost use Rattle.kt_script.specs.Print.{joined, kind_word, default_words, mark_words, column_text, key_words, cell_word, cell_words, is_named, op_text, write_text, name_of, test_text, pred_text, at_text, select_text, where_text, scan_text, chore_word, command_text, session_lines, script_text, IsKey, HasKeys, prints_are_read};
+ghost use Rattle.kt_script.specs.Print.{default_words, mark_words, column_text, key_words, cell_word, cell_words, is_named, op_words, write_words, name_of, names_word, test_words, pred_words, at_words, select_words, where_words, scan_words, command_text, session_lines, script_text, IsKey, HasKeys, prints_are_read};
 
 use crate::forms::{OpForm, op_form};
+use crate::leads::print_chore;
 use crate::number::print_number;
 use crate::script::Script;
 use kt_base::literal::append_literal;
-use kt_base::{Cell, Chore, Kind, NoMemory, Octets};
+use kt_base::{Cell, Kind, NoMemory, Octets};
 use kt_history::{At, Command, OpKind, Plan, Pred, RowOp, Scan, Test};
 use kt_key::decode_key;
 use kt_schema::{Column, Schema};
@@ -158,7 +160,7 @@ fn is_named(kind: OpKind) -> bool
 
 fn print_op(alloc: Global, schema: &Schema, op: &RowOp, out: &mut Octets) -> Result<(), NoMemory>
     requires { IsKey schema.now op.now.key }
-    ensures ok { OnOk result (out.new ≡ out.old ++ op_text schema.now op.now) }
+    ensures ok { OnOk result (out.new ≡ out.old ++ words (op_words schema.now op.now)) }
 {
     print_op_word(op.kind, out)?;
     print_key(alloc, schema, op.key.as_slice(), out)?;
@@ -173,7 +175,7 @@ fn print_more_ops(
     out: &mut Octets,
 ) -> Result<(), NoMemory>
     requires { All (λ o. IsKey schema.now o.key) ops.now }
-    ensures ok { OnOk result (out.new ≡ out.old ++ flat_map (λ t. codes " ; " ++ t) (map (op_text schema.now) ops.now)) }
+    ensures ok { OnOk result (out.new ≡ out.old ++ flat_map spaced (flat_map (λ vs. codes ";" ∷ vs) (map (op_words schema.now) ops.now))) }
 {
     for op in ops {
         out.extend(b" ; ")?;
@@ -189,7 +191,7 @@ fn print_write(
     out: &mut Octets,
 ) -> Result<(), NoMemory>
     requires { All (λ o. IsKey schema.now o.key) ops.now }
-    ensures ok { OnOk result (out.new ≡ out.old ++ write_text schema.now ops.now) }
+    ensures ok { OnOk result (out.new ≡ out.old ++ words (write_words schema.now ops.now)) }
 {
     match ops.split_first() {
         Some((first, others)) => {
@@ -235,7 +237,7 @@ fn print_more_names(columns: &[Column], ids: &[u16], out: &mut Octets) -> Result
 }
 
 fn print_names(columns: &[Column], ids: &[u16], out: &mut Octets) -> Result<(), NoMemory>
-    ensures ok { OnOk result (out.new ≡ out.old ++ joined (codes ",") (map (λ id. name_of (column_of columns.now id)) ids.now)) }
+    ensures ok { OnOk result (out.new ≡ out.old ++ names_word columns.now ids.now) }
 {
     match ids.split_first() {
         Some((first, others)) => {
@@ -246,53 +248,67 @@ fn print_names(columns: &[Column], ids: &[u16], out: &mut Octets) -> Result<(), 
     }
 }
 
-fn print_compared(sign: &[u8], kind: Kind, cell: &Cell, out: &mut Octets) -> Result<(), NoMemory>
-    ensures ok { OnOk result (out.new ≡ out.old ++ sign.now ++ literal kind cell.now) }
+// A space, and a comparison of a column.
+fn print_compared(
+    column: &Column,
+    sign: &[u8],
+    cell: &Cell,
+    out: &mut Octets,
+) -> Result<(), NoMemory>
+    ensures ok { OnOk result (out.new ≡ out.old ++ 32 ∷ (column.now.name ++ (sign.now ++ literal column.now.kind cell.now))) }
 {
+    out.push(b' ')?;
+    out.extend(column.name.as_slice())?;
     out.extend(sign)?;
-    append_literal(cell, kind, out)
+    append_literal(cell, column.kind, out)
 }
 
-fn print_test(kind: Kind, test: &Test, out: &mut Octets) -> Result<(), NoMemory>
-    ensures ok { OnOk result (out.new ≡ out.old ++ test_text kind test.now) }
+fn print_null(column: &Column, words: &[u8], out: &mut Octets) -> Result<(), NoMemory>
+    ensures ok { OnOk result (out.new ≡ out.old ++ 32 ∷ (column.now.name ++ words.now)) }
+{
+    out.push(b' ')?;
+    out.extend(column.name.as_slice())?;
+    out.extend(words)
+}
+
+// A space and a word for each word of a test.
+fn print_test(column: &Column, test: &Test, out: &mut Octets) -> Result<(), NoMemory>
+    ensures ok { OnOk result (out.new ≡ out.old ++ flat_map spaced (test_words column.now test.now)) }
 {
     match test {
-        Test::Eq(cell) => print_compared(b"=", kind, cell, out),
-        Test::Lt(cell) => print_compared(b"<", kind, cell, out),
-        Test::Le(cell) => print_compared(b"<=", kind, cell, out),
-        Test::Gt(cell) => print_compared(b">", kind, cell, out),
-        Test::Ge(cell) => print_compared(b">=", kind, cell, out),
-        Test::IsNull => out.extend(b" is null"),
-        Test::NotNull => out.extend(b" is not null"),
+        Test::Eq(cell) => print_compared(column, b"=", cell, out),
+        Test::Lt(cell) => print_compared(column, b"<", cell, out),
+        Test::Le(cell) => print_compared(column, b"<=", cell, out),
+        Test::Gt(cell) => print_compared(column, b">", cell, out),
+        Test::Ge(cell) => print_compared(column, b">=", cell, out),
+        Test::IsNull => print_null(column, b" is null", out),
+        Test::NotNull => print_null(column, b" is not null", out),
     }
 }
 
 fn print_pred(columns: &[Column], pred: &Pred, out: &mut Octets) -> Result<(), NoMemory>
-    ensures ok { OnOk result (out.new ≡ out.old ++ pred_text columns.now pred.now) }
+    ensures ok { OnOk result (out.new ≡ out.old ++ flat_map spaced (pred_words columns.now pred.now)) }
 {
     match column_of(columns, pred.column) {
-        Some(column) => {
-            out.extend(column.name.as_slice())?;
-            print_test(column.kind, &pred.test, out)
-        }
+        Some(column) => print_test(column, &pred.test, out),
         None => Ok(()),
     }
 }
 
 fn print_at(at: At, out: &mut Octets) -> Result<(), NoMemory>
-    ensures ok { OnOk result (out.new ≡ out.old ++ at_text at) }
+    ensures ok { OnOk result (out.new ≡ out.old ++ flat_map spaced (at_words at)) }
 {
     match at {
-        At::Looked => out.extend(b"now"),
+        At::Looked => out.extend(b" now"),
         At::Given(t) => {
-            out.extend(b"at ")?;
+            out.extend(b" at ")?;
             print_number(t, out)
         }
     }
 }
 
 fn print_select(columns: &[Column], scan: &Scan, out: &mut Octets) -> Result<(), NoMemory>
-    ensures ok { OnOk result (out.new ≡ out.old ++ select_text columns.now scan.now.columns) }
+    ensures ok { OnOk result (out.new ≡ out.old ++ flat_map spaced (select_words columns.now scan.now.columns)) }
 {
     match &scan.columns {
         Some(ids) => {
@@ -304,21 +320,21 @@ fn print_select(columns: &[Column], scan: &Scan, out: &mut Octets) -> Result<(),
 }
 
 fn print_more_preds(columns: &[Column], preds: &[Pred], out: &mut Octets) -> Result<(), NoMemory>
-    ensures ok { OnOk result (out.new ≡ out.old ++ flat_map (λ t. codes " and " ++ t) (map (pred_text columns.now) preds.now)) }
+    ensures ok { OnOk result (out.new ≡ out.old ++ flat_map spaced (flat_map (λ vs. codes "and" ∷ vs) (map (pred_words columns.now) preds.now))) }
 {
     for pred in preds {
-        out.extend(b" and ")?;
+        out.extend(b" and")?;
         print_pred(columns, pred, out)?;
     }
     Ok(())
 }
 
 fn print_where(columns: &[Column], preds: &[Pred], out: &mut Octets) -> Result<(), NoMemory>
-    ensures ok { OnOk result (out.new ≡ out.old ++ where_text columns.now preds.now) }
+    ensures ok { OnOk result (out.new ≡ out.old ++ flat_map spaced (where_words columns.now preds.now)) }
 {
     match preds.split_first() {
         Some((first, others)) => {
-            out.extend(b" where ")?;
+            out.extend(b" where")?;
             print_pred(columns, first, out)?;
             print_more_preds(columns, others, out)
         }
@@ -327,28 +343,16 @@ fn print_where(columns: &[Column], preds: &[Pred], out: &mut Octets) -> Result<(
 }
 
 fn print_scan(columns: &[Column], scan: &Scan, out: &mut Octets) -> Result<(), NoMemory>
-    ensures ok { OnOk result (out.new ≡ out.old ++ scan_text columns.now scan.now) }
+    ensures ok { OnOk result (out.new ≡ out.old ++ words (scan_words columns.now scan.now)) }
 {
-    out.extend(b"scan ")?;
+    out.extend(b"scan")?;
     print_at(scan.at, out)?;
     print_select(columns, scan, out)?;
     print_where(columns, scan.preds.as_slice(), out)
 }
 
-fn print_chore(chore: Chore, out: &mut Octets) -> Result<(), NoMemory>
-    ensures ok { OnOk result (out.new ≡ out.old ++ chore_word chore) }
-{
-    match chore {
-        Chore::Flush => out.extend(b"flush"),
-        Chore::FlushDeltas => out.extend(b"flush-deltas"),
-        Chore::Minor => out.extend(b"minor"),
-        Chore::Major => out.extend(b"major"),
-        Chore::Compact => out.extend(b"compact"),
-    }
-}
-
 fn print_mark(t: u64, out: &mut Octets) -> Result<(), NoMemory>
-    ensures ok { OnOk result (out.new ≡ out.old ++ codes "mark " ++ decimal t) }
+    ensures ok { OnOk result (out.new ≡ out.old ++ words (codes "mark" ∷ decimal t ∷ [])) }
 {
     out.extend(b"mark ")?;
     print_number(t, out)

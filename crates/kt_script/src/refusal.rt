@@ -3,12 +3,15 @@
 ghost use Rattle.std.specs.Prelude.{◌≡◌};
 
 use kt_base::NoMemory;
+use thiserror::Error;
 
 /// The first line that is refused, with the least reason that holds in it, or want of memory. Lines are numbered from
 /// 1, and the whole text, where it is too long, is line 0.
-#[derive(Clone, Copy, Debug, PartialEq, Eq)]
+#[derive(Clone, Copy, Debug, PartialEq, Eq, Error)]
 pub enum ScriptNo {
+    #[error("line {number} is refused for reason {reason}")]
     Line { number: u64, reason: u8 },
+    #[error("out of memory")]
     Memory,
 }
 

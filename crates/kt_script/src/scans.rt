@@ -10,7 +10,7 @@ ghost use Rattle.kt_script.specs.Writes.{column_named, names_now, again_no};
 ghost use Rattle.kt_script.specs.Scans.{asked_view, asked_no, literal_reason, pred_of, preds_in, tests_in, where_line, select_line, given, name_no, names_no, id_of, ids_of, IsMade, ReadsPreds, ReadsLine, ReadsTimed, ReadsScan};
 
 use crate::asked::{Question, read_test};
-use crate::columns::{LineNo, SOUND};
+use crate::columns::LineNo;
 use crate::least::Least;
 use crate::named::again_no;
 use crate::names::{cut_name, find_column};
@@ -29,9 +29,9 @@ fn note_literal(alloc: Global, text: &[u8], no: &mut Least) -> Result<(), NoMemo
 {
     match read_literal(alloc, text, Kind::Bool) {
         Err(LiteralNo::Memory) => return Err(NoMemory),
-        Err(LiteralNo::Form) => no.note(12),
-        Err(LiteralNo::Null) => no.note(12),
-        _ => no.note(SOUND),
+        Err(LiteralNo::Form) => no.note(Some(12)),
+        Err(LiteralNo::Null) => no.note(Some(12)),
+        _ => no.note(None),
     }
     Ok(())
 }
@@ -40,7 +40,7 @@ fn note_literal(alloc: Global, text: &[u8], no: &mut Least) -> Result<(), NoMemo
 fn note_missing(alloc: Global, question: Question<'_>, no: &mut Least) -> Result<(), NoMemory>
     ensures { OnOk result (no.new ≡ min no.old (asked_no None (asked_view question.entry))) }
 {
-    no.note(13);
+    no.note(Some(13));
     match question {
         Question::Compared(_, literal) => note_literal(alloc, literal, no),
         Question::Null => Ok(()),
@@ -130,14 +130,14 @@ fn read_name<'a>(
 {
     no.note(again_no(seen, name));
     if !is_name(name) {
-        no.note(12);
+        no.note(Some(12));
         return Ok(());
     }
     let Some(column) = find_column(columns, name) else {
-        no.note(13);
+        no.note(Some(13));
         return Ok(());
     };
-    if no.reason() > 13 {
+    if no.is_above(13) {
         seen.push(name)?;
         ids.push(column.id)?;
     }
@@ -175,11 +175,10 @@ fn make_scan(
 ) -> Result<Scan, LineNo>
     ensures { IsMade at columns preds no.now result }
 {
-    let reason = no.reason();
-    if reason < SOUND {
-        return Err(LineNo::Reason(reason));
+    match no.reason() {
+        Some(reason) => Err(LineNo::Reason(reason)),
+        None => Ok(Scan { at, columns, preds }),
     }
-    Ok(Scan { at, columns, preds })
 }
 
 // Behind `select`.
@@ -252,7 +251,8 @@ fn read_given(alloc: Global, columns: &[Column], rest: Option<&[u8]>) -> Result<
         Time::Named(t) => read_select(alloc, columns, At::Given(t), behind),
         Time::TooLate => match read_select(alloc, columns, At::Looked, behind) {
             Ok(_) => Err(LineNo::Reason(20)),
-            Err(no) => Err(no),
+            Err(LineNo::Reason(reason)) => Err(LineNo::Reason(reason.min(20))),
+            Err(LineNo::Memory) => Err(LineNo::Memory),
         },
         Time::NoTime => Err(LineNo::Reason(12)),
     }

@@ -1,23 +1,28 @@
 //! Whole scripts.
 
-ghost use Rattle.std.specs.Prelude.{◌≡◌, ◌≤◌, ◌+◌, ◌∷◌, length, ℕ, List, Some, is_some, IfOk, IfErr, true, false};
+ghost use Rattle.std.specs.Prelude.{◌≡◌, ◌≤◌, ◌+◌, ◌∷◌, length, ℕ, List, Some, IfOk, IfErr, true, false};
 ghost use Rattle.std.specs.List.{list_any};
 ghost use Rattle.kt_schema.specs.declared.column.Column.{Column};
+ghost use Rattle.kt_history.specs.declared.operation.OpKind.{OpKind};
+ghost use Rattle.kt_script.specs.declared.leads.Lead.TheVariants as lead;
+ghost use Rattle.kt_script.specs.declared.leads.Word.TheVariants as begins;
 ghost use Rattle.kt_script.specs.Pieces.{cut, words_of, words_in};
+ghost use Rattle.kt_script.specs.Reasons.{no_of};
 ghost use Rattle.kt_script.specs.Columns.{begins_column, IsTable};
-ghost use Rattle.kt_script.specs.Writes.{op_kind};
-ghost use Rattle.kt_script.specs.Scripts.{session, scan, mark, write, is_begun, most_bytes, first_piece, script_of, ReadsWorded, ReadsBody, IsPushed, IsFirstFault};
+ghost use Rattle.kt_script.specs.Scripts.{full_no, is_begun, most_bytes, first_piece, script_of, ReadsCommand, ReadsLed, ReadsBody, IsPushed, IsFirstFault};
 ghost use Rattle.kt_script.specs.Fit.{PlanFits, IsBodyRead};
 
 use crate::columns::LineNo;
-use crate::forms::op_kind;
 use crate::head::{Table, cut_line, located, read_table};
+use crate::leads::{JOBS, Lead, Word, lead_in};
+use crate::least::least_of;
 use crate::refusal::ScriptNo;
 use crate::scans::read_scan;
 use crate::sessions::Sessions;
 use crate::times::read_mark;
 use crate::word::{cut_word, next_word};
 use crate::writes::read_write;
+use kt_base::Chore;
 use kt_base::limits::{COMMANDS, SCRIPT_BYTES, SESSIONS};
 use kt_history::{Command, Plan};
 use kt_schema::Schema;
@@ -32,7 +37,7 @@ pub struct Script {
 
 // A session begins.
 fn begin_session(alloc: Global, sessions: &mut Sessions, rest: Option<&[u8]>) -> Result<(), LineNo>
-    ensures { (columns : List Column) (word : List ℕ) → ReadsWorded columns sessions.old session (word ∷ words_in rest.entry) sessions.new result }
+    ensures { (columns : List Column) (word : List ℕ) → ReadsLed columns sessions.old (Some lead.Session) (word ∷ words_in rest.entry) sessions.new result }
 {
     if next_word(rest).is_some() {
         return Err(LineNo::Reason(12));
@@ -43,6 +48,17 @@ fn begin_session(alloc: Global, sessions: &mut Sessions, rest: Option<&[u8]>) ->
     match sessions.begin(alloc) {
         Ok(()) => Ok(()),
         Err(_) => Err(LineNo::Memory),
+    }
+}
+
+// Why there may be no command more.
+fn full_no(sessions: &Sessions) -> Option<u8>
+    ensures { no_of result ≡ full_no sessions.now }
+{
+    if sessions.commands() >= COMMANDS {
+        Some(20)
+    } else {
+        None
     }
 }
 
@@ -59,56 +75,81 @@ fn push_command(sessions: &mut Sessions, command: Command) -> Result<(), LineNo>
     }
 }
 
-fn read_scan_line(
+fn read_scan_command(alloc: Global, schema: &Schema, rest: Option<&[u8]>) -> Result<Command, LineNo>
+    ensures { (first : List ℕ) → ReadsCommand schema.now begins.Scan (first ∷ words_in rest.entry) result }
+{
+    match read_scan(alloc, schema, rest) {
+        Ok(scan) => Ok(Command::Scan(scan)),
+        Err(no) => Err(no),
+    }
+}
+
+fn read_mark_command(rest: Option<&[u8]>) -> Result<Command, LineNo>
+    ensures { (columns : List Column) (first : List ℕ) → ReadsCommand columns begins.Mark (first ∷ words_in rest.entry) result }
+{
+    match read_mark(rest) {
+        Ok(t) => Ok(Command::Mark(t)),
+        Err(no) => Err(no),
+    }
+}
+
+fn read_chore(chore: Chore, rest: Option<&[u8]>) -> Result<Command, LineNo>
+    ensures { (columns : List Column) (first : List ℕ) → ReadsCommand columns (begins.Chore chore) (first ∷ words_in rest.entry) result }
+{
+    if !JOBS {
+        return Err(LineNo::Reason(11));
+    }
+    match next_word(rest) {
+        Some(_) => Err(LineNo::Reason(12)),
+        None => Ok(Command::Chore(chore)),
+    }
+}
+
+fn read_write_command(alloc: Global, schema: &Schema, line: &[u8]) -> Result<Command, LineNo>
+    ensures { (kind : OpKind) → ReadsCommand schema.now (begins.Op kind) (words_of line.now) result }
+{
+    match read_write(alloc, schema, Some(line)) {
+        Ok(write) => Ok(Command::Write(write)),
+        Err(no) => Err(no),
+    }
+}
+
+// The command of a line, of which `rest` stands behind its first word.
+fn read_command(
+    alloc: Global,
+    schema: &Schema,
+    word: Word,
+    line: &[u8],
+    rest: Option<&[u8]>,
+) -> Result<Command, LineNo>
+    ensures { (first : List ℕ) → words_of line.now ≡ first ∷ words_in rest.entry → ReadsCommand schema.now word (words_of line.now) result }
+{
+    match word {
+        Word::Scan => read_scan_command(alloc, schema, rest),
+        Word::Mark => read_mark_command(rest),
+        Word::Chore(chore) => read_chore(chore, rest),
+        Word::Op(_) => read_write_command(alloc, schema, line),
+    }
+}
+
+fn read_command_line(
     alloc: Global,
     schema: &Schema,
     sessions: &mut Sessions,
+    word: Word,
+    line: &[u8],
     rest: Option<&[u8]>,
 ) -> Result<(), LineNo>
-    ensures { (word : List ℕ) → ReadsWorded schema.now sessions.old scan (word ∷ words_in rest.entry) sessions.new result }
+    ensures { (first : List ℕ) → words_of line.now ≡ first ∷ words_in rest.entry → ReadsLed schema.now sessions.old (Some (lead.Command word)) (words_of line.now) sessions.new result }
 {
     if !sessions.is_begun() {
         return Err(LineNo::Reason(11));
     }
-    match read_scan(alloc, schema, rest) {
-        Ok(scan) => push_command(sessions, Command::Scan(scan)),
-        Err(no) => Err(no),
+    match read_command(alloc, schema, word, line, rest) {
+        Ok(command) => push_command(sessions, command),
+        Err(LineNo::Reason(reason)) => { Err(LineNo::Reason(least_of(reason, full_no(sessions)))) }
+        Err(LineNo::Memory) => Err(LineNo::Memory),
     }
-}
-
-fn read_mark_line(sessions: &mut Sessions, rest: Option<&[u8]>) -> Result<(), LineNo>
-    ensures { (columns : List Column) (word : List ℕ) → ReadsWorded columns sessions.old mark (word ∷ words_in rest.entry) sessions.new result }
-{
-    if !sessions.is_begun() {
-        return Err(LineNo::Reason(11));
-    }
-    match read_mark(rest) {
-        Ok(t) => push_command(sessions, Command::Mark(t)),
-        Err(no) => Err(no),
-    }
-}
-
-fn read_write_line(
-    alloc: Global,
-    schema: &Schema,
-    sessions: &mut Sessions,
-    line: &[u8],
-) -> Result<(), LineNo>
-    ensures { ReadsWorded schema.now sessions.old write (words_of line.now) sessions.new result }
-{
-    if !sessions.is_begun() {
-        return Err(LineNo::Reason(11));
-    }
-    match read_write(alloc, schema, Some(line)) {
-        Ok(write) => push_command(sessions, Command::Write(write)),
-        Err(no) => Err(no),
-    }
-}
-
-fn is_write(word: &[u8]) -> bool
-    ensures { result ≡ is_some (op_kind word.now) }
-{
-    op_kind(word).is_some()
 }
 
 // A line below the columns.
@@ -120,17 +161,13 @@ fn read_line(
 ) -> Result<(), LineNo>
     ensures { ReadsBody schema.now sessions.old (words_of line.now) sessions.new result }
 {
-    let (word, rest) = cut_word(line);
-    if word == b"session".as_slice() {
-        begin_session(alloc, sessions, rest)
-    } else if word == b"scan".as_slice() {
-        read_scan_line(alloc, schema, sessions, rest)
-    } else if word == b"mark".as_slice() {
-        read_mark_line(sessions, rest)
-    } else if is_write(word) {
-        read_write_line(alloc, schema, sessions, line)
-    } else {
-        Err(LineNo::Reason(11))
+    let (first, rest) = cut_word(line);
+    match lead_in(first) {
+        Some(Lead::Session) => begin_session(alloc, sessions, rest),
+        Some(Lead::Command(word)) => {
+            read_command_line(alloc, schema, sessions, word, line, rest)
+        }
+        None => Err(LineNo::Reason(11)),
     }
 }
 

@@ -6,10 +6,10 @@ ghost use Rattle.kt_base.specs.Literals.{same};
 ghost use Rattle.kt_history.specs.declared.operation.RowOp.{RowOp};
 ghost use Rattle.kt_script.specs.declared.forms.OpForm.TheVariants as form;
 ghost use Rattle.kt_script.specs.Pieces.{words_in};
-ghost use Rattle.kt_script.specs.Reasons.{reason_if};
+ghost use Rattle.kt_script.specs.Reasons.{no_of, reason_if};
 ghost use Rattle.kt_script.specs.Writes.{insert_no, upsert_no, update_no, delete_no, behind_no, op_form, op_no, op_of, op_said, ops_of, ops_no, many_no, twice, op_in, later_in, ops_in, ReadsWrite};
 
-use crate::columns::{LineNo, SOUND};
+use crate::columns::LineNo;
 use crate::forms::{OpForm, op_form, op_kind};
 use crate::least::Least;
 use crate::named::{TakenNames, left_out_no, take_names};
@@ -68,9 +68,7 @@ fn read_upsert<'a>(
     let others = schema.other_columns();
     let TakenKey { key, rest } = take_key(alloc, schema, rest, no)?;
     let TakenNames { names, cells, rest } = take_names(alloc, others, rest, no)?;
-    if no.reason() > 13 {
-        no.note(left_out_no(others, &names));
-    }
+    no.note(left_out_no(others, &names));
     let op = RowOp {
         kind,
         key,
@@ -95,9 +93,9 @@ fn read_update<'a>(
 {
     let TakenKey { key, rest } = take_key(alloc, schema, rest, no)?;
     no.note(if next_op_word(rest).is_none() {
-        12
+        Some(12)
     } else {
-        SOUND
+        None
     });
     let TakenNames { cells, rest, .. } = take_names(alloc, schema.other_columns(), rest, no)?;
     let op = RowOp {
@@ -181,13 +179,13 @@ fn read_op<'a>(
     ensures least { OnOk result (no.new ≡ min no.old (op_no schema.now (op_in rest.entry))) }
 {
     let Some((word, behind)) = next_op_word(rest) else {
-        no.note(12);
+        no.note(Some(12));
         return Ok(no_op(alloc, rest));
     };
     match op_kind(word) {
         Some(kind) => read_behind(alloc, schema, kind, behind, no),
         None => {
-            no.note(12);
+            no.note(Some(12));
             Ok(no_op(alloc, behind))
         }
     }
@@ -201,9 +199,9 @@ fn keep_op(ops: &mut Vec<RowOp>, op: RowOp, no: &mut Least) -> Result<(), NoMemo
     ensures room { OnOk result (length ops.new.items ≡ min 64 (length ops.old.items + 1)) }
 {
     if ops.len() >= OPERATIONS {
-        no.note(18);
+        no.note(Some(18));
     } else {
-        no.note(SOUND);
+        no.note(None);
         ops.push(op)?;
     }
     Ok(())
@@ -226,7 +224,7 @@ fn read_ops(
         keep_op(&mut ops, taken.op, no)?;
         left = taken.rest;
     }
-    no.note(SOUND);
+    no.note(None);
     Ok(ops)
 }
 
@@ -250,10 +248,10 @@ fn is_twice(ops: &[RowOp]) -> bool
     false
 }
 
-fn twice_no(ops: &[RowOp]) -> u8
-    ensures { result ≡ reason_if (twice (map (λ (o : RowOp). o.key) ops.now)) 19 }
+fn twice_no(ops: &[RowOp]) -> Option<u8>
+    ensures { no_of result ≡ reason_if (twice (map (λ (o : RowOp). o.key) ops.now)) 19 }
 {
-    if is_twice(ops) { 19 } else { SOUND }
+    if is_twice(ops) { Some(19) } else { None }
 }
 
 /// The write of a line, from its first word on.
@@ -264,13 +262,11 @@ pub fn read_write(alloc: Global, schema: &Schema, line: Option<&[u8]>) -> Result
     let Ok(ops) = read_ops(alloc, schema, line, &mut no) else {
         return Err(LineNo::Memory);
     };
-    if no.reason() > 18 {
-        no.note(twice_no(&ops));
+    no.note(twice_no(&ops));
+    match no.reason() {
+        Some(reason) => Err(LineNo::Reason(reason)),
+        None => Ok(Write {
+            ops: OpList::of(ops),
+        }),
     }
-    if no.reason() < SOUND {
-        return Err(LineNo::Reason(no.reason()));
-    }
-    Ok(Write {
-        ops: OpList::of(ops),
-    })
 }

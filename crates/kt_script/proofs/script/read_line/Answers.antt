@@ -1,31 +1,19 @@
-use Rattle.std.proofs.Common.{◌≡◌, ◌∙◌, ap, sym, true, false}
-use Rattle.std.specs.Prelude.{codes}
-use Rattle.kt_base.specs.Literals.{same}
+use Rattle.std.proofs.Common.{Some, sym, subst}
+use Rattle.kt_script.specs.declared.leads.Lead.TheVariants as lead
 use Rattle.kt_script.specs.Pieces.{words_of, words_in}
-use Rattle.kt_script.specs.Scripts.{session, scan, mark}
-use Rattle.kt_script.proofs.Bodies.{body_worded, is_session, is_scan, is_mark}
+use Rattle.kt_script.specs.Scripts.{ReadsLed}
+use Rattle.kt_script.proofs.Bodies.{body_led}
 use Rattle.kt_script.proofs.script.read_line.Goals as goal
 
-pub returns-then-eq : goal.returns-then-eq
-returns-then-eq c =
-    let word = c.cut_word.result.0.now in
-    let is : same word (codes "session") ≡ true = sym (ap (same word) c.as_slice.ensures) ∙ sym c.if-eq.ensures in
-    body_worded c.args.schema.now c.args.sessions.now c.begin_session.new.sessions c.begin_session.result (words_of c.args.line.now) word (words_in c.cut_word.result.1) session c.cut_word.ensures (is_session word is)
-    (c.begin_session.ensures c.args.schema.now word)
+pub returns-in-Some-Session : goal.returns-in-Some-Session
+returns-in-Some-Session c =
+    let first = c.cut_word.result.0.now in
+    let begun = subst (λ ws. ReadsLed c.args.schema.now c.args.sessions.now (Some lead.Session) ws c.begin_session.new.sessions c.begin_session.result) (sym c.cut_word.ensures) (c.begin_session.ensures c.args.schema.now first) in
+    body_led c.args.schema.now c.args.sessions.now c.begin_session.new.sessions c.begin_session.result (words_of c.args.line.now) first (words_in c.cut_word.result.1) (Some lead.Session) c.cut_word.ensures
+    (sym (rw c.in-Some-Session.field-0-is at c.in-Some-Session.ensures)) begun
 
-pub returns-then-eq-2 : goal.returns-then-eq-2
-returns-then-eq-2 c =
-    let word = c.cut_word.result.0.now in
-    let other : same word (codes "session") ≡ false = sym (ap (same word) c.as_slice.ensures) ∙ sym c.if-eq.ensures in
-    let is : same word (codes "scan") ≡ true = sym (ap (same word) c.as_slice-else-eq.ensures) ∙ sym c.if-eq-2.ensures in
-    body_worded c.args.schema.now c.args.sessions.now c.read_scan_line.new.sessions c.read_scan_line.result (words_of c.args.line.now) word (words_in c.cut_word.result.1) scan c.cut_word.ensures (is_scan word other is)
-    (c.read_scan_line.ensures word)
-
-pub returns-then-eq-3 : goal.returns-then-eq-3
-returns-then-eq-3 c =
-    let word = c.cut_word.result.0.now in
-    let no_session : same word (codes "session") ≡ false = sym (ap (same word) c.as_slice.ensures) ∙ sym c.if-eq.ensures in
-    let no_scan : same word (codes "scan") ≡ false = sym (ap (same word) c.as_slice-else-eq.ensures) ∙ sym c.if-eq-2.ensures in
-    let is : same word (codes "mark") ≡ true = sym (ap (same word) c.as_slice-else-eq-2.ensures) ∙ sym c.if-eq-3.ensures in
-    body_worded c.args.schema.now c.args.sessions.now c.read_mark_line.new.sessions c.read_mark_line.result (words_of c.args.line.now) word (words_in c.cut_word.result.1) mark c.cut_word.ensures (is_mark word no_session no_scan is)
-    (c.read_mark_line.ensures c.args.schema.now word)
+pub returns-in-Some-Command : goal.returns-in-Some-Command
+returns-in-Some-Command c =
+    let first = c.cut_word.result.0.now in
+    body_led c.args.schema.now c.args.sessions.now c.read_command_line.new.sessions c.read_command_line.result (words_of c.args.line.now) first (words_in c.cut_word.result.1) (Some (lead.Command c.in-Some-Command.word)) c.cut_word.ensures
+    (sym (rw c.in-Some-Command.field-0-is at c.in-Some-Command.ensures)) (c.read_command_line.ensures first c.cut_word.ensures)

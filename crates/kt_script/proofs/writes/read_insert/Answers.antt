@@ -1,5 +1,6 @@
 use Rattle.std.proofs.Common.{◌∙◌, ap, arith, drop}
 use Rattle.kt_schema.specs.Columns.{other_columns}
+use Rattle.kt_script.specs.Reasons.{no_of}
 use Rattle.kt_script.specs.Writes.{cells_of, under, key_len, key_of, op_in}
 use Rattle.kt_script.proofs.OpWords.{insert_least, same_op}
 use Rattle.kt_script.proofs.writes.read_insert.Goals as goal
@@ -15,5 +16,5 @@ returns-clause-op c = λ h.
 
 pub returns-clause-least : goal.returns-clause-least
 returns-clause-least c =
-    insert_least c.args.schema.now c.other_columns.result.now (op_in c.args.rest) (op_in c.in_ok-key.field-0.rest) (op_in c.in_ok-cells.field-0.rest) c.args.no.now c.take_key.new.no c.take_others.new.no c.left_no.result c.note.new.self
+    insert_least c.args.schema.now c.other_columns.result.now (op_in c.args.rest) (op_in c.in_ok-key.field-0.rest) (op_in c.in_ok-cells.field-0.rest) c.args.no.now c.take_key.new.no c.take_others.new.no (no_of c.left_no.result) c.note.new.self
     c.other_columns.ensures c.in_ok-key.ensures.behind c.in_ok-cells.ensures.behind c.in_ok-key.ensures.least c.in_ok-cells.ensures.least c.left_no.ensures c.note.ensures

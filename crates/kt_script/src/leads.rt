@@ -1,0 +1,91 @@
+//! The first word of a line below the columns, and the words of chores.
+
+ghost use Rattle.std.specs.Prelude.{◌≡◌, ◌++◌, OnOk};
+ghost use Rattle.kt_script.specs.Leads.{chore_word, chore_in, command_in, lead_in};
+
+use crate::forms::op_kind;
+use kt_base::{Chore, NoMemory, Octets};
+use kt_history::OpKind;
+
+/// Whether there are jobs. Without them the line of a chore is refused as that of no command.
+pub const JOBS: bool = false;
+
+/// The first word of a command.
+#[derive(Clone, Copy, Debug, PartialEq, Eq)]
+pub enum Word {
+    Scan,
+    Mark,
+    Chore(Chore),
+    /// A write begins with the word of its first operation.
+    Op(OpKind),
+}
+
+/// What a line below the columns begins.
+#[derive(Clone, Copy, Debug, PartialEq, Eq)]
+pub enum Lead {
+    Session,
+    Command(Word),
+}
+
+/// The chore of a word.
+pub fn chore_in(text: &[u8]) -> Option<Chore>
+    ensures { result ≡ chore_in text.now }
+{
+    if text == b"flush".as_slice() {
+        Some(Chore::Flush)
+    } else if text == b"flush-deltas".as_slice() {
+        Some(Chore::FlushDeltas)
+    } else if text == b"minor".as_slice() {
+        Some(Chore::Minor)
+    } else if text == b"major".as_slice() {
+        Some(Chore::Major)
+    } else if text == b"compact".as_slice() {
+        Some(Chore::Compact)
+    } else {
+        None
+    }
+}
+
+/// Appends the word of a chore.
+pub fn print_chore(chore: Chore, out: &mut Octets) -> Result<(), NoMemory>
+    ensures { OnOk result (out.new ≡ out.old ++ chore_word chore) }
+{
+    match chore {
+        Chore::Flush => out.extend(b"flush"),
+        Chore::FlushDeltas => out.extend(b"flush-deltas"),
+        Chore::Minor => out.extend(b"minor"),
+        Chore::Major => out.extend(b"major"),
+        Chore::Compact => out.extend(b"compact"),
+    }
+}
+
+fn command_in(text: &[u8]) -> Option<Word>
+    ensures { result ≡ command_in text.now }
+{
+    if text == b"scan".as_slice() {
+        return Some(Word::Scan);
+    }
+    if text == b"mark".as_slice() {
+        return Some(Word::Mark);
+    }
+    match chore_in(text) {
+        Some(chore) => Some(Word::Chore(chore)),
+        None => match op_kind(text) {
+            Some(kind) => Some(Word::Op(kind)),
+            None => None,
+        },
+    }
+}
+
+/// What a line begins, by its first word.
+pub fn lead_in(text: &[u8]) -> Option<Lead>
+    ensures { result ≡ lead_in text.now }
+{
+    if text == b"session".as_slice() {
+        return Some(Lead::Session);
+    }
+    match command_in(text) {
+        Some(word) => Some(Lead::Command(word)),
+        None => None,
+    }
+}
