@@ -19,3 +19,6 @@ pub use file::{DeltaFile, Way};
 pub use kt_bytes::CodecNo;
 pub use reading::decode;
 pub use writing::spell;
+
+#[cfg(test)]
+mod tests;
