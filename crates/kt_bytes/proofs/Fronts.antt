@@ -1,5 +1,5 @@
 -- Lists of fields, taken apart, and what the place of a fault says of the whole.
-use Rattle.std.proofs.Common.{◌≡◌, ℕ, ◌+◌, ◌<◌, ◌≤◌, List, [], ◌∷◌, ◌++◌, length, take, drop, refl, sym, ap, subst, ◌∙◌, append_assoc, arith, map}
+use Rattle.std.proofs.Common.{◌≡◌, ℕ, ◌<◌, Bool, true, false, List, [], ◌∷◌, ◌++◌, length, take, drop, refl, sym, ap, subst, ◌∙◌, append_assoc, arith, map}
 use Rattle.std.specs.List.{concat, flat_map}
 use Rattle.std.proofs.lemmas.List.{append-nil, take_at, drop_at}
 use Rattle.kt_bytes.specs.Places.{Begins, GoesOn, Stands, IsFault, Delimited}
@@ -15,6 +15,15 @@ concat-map f (x ∷ xs) = ap (λ (l : List ℕ). f x ++ l) (concat-map f xs)
 pub concat-push : (front : List (List ℕ)) (field : List ℕ) → concat (front ++ field ∷ []) ≡ concat front ++ field
 concat-push [] field = append-nil field
 concat-push (x ∷ front) field = ap (λ (l : List ℕ). x ++ l) (concat-push front field) ∙ sym (append_assoc x (concat front) field)
+
+-- one field more
+pub parts_push : (front : List (List ℕ)) (field bytes rest after : List ℕ) → bytes ≡ concat front ++ rest → rest ≡ field ++ after → bytes ≡ concat (front ++ field ∷ []) ++ after
+parts_push front field bytes rest after p q =
+    p ∙ (ap (λ (t : List ℕ). concat front ++ t) q ∙ (sym (append_assoc (concat front) field after) ∙ ap (λ (t : List ℕ). t ++ after) (sym (concat-push front field))))
+
+pub no_bool : (b : Bool) → b ≡ false → b ≡ true → ⊥
+no_bool true f t = absurd cc
+no_bool false f t = absurd cc
 
 -- what a function gives for each of some values, taken apart at one of them
 pub record MapSplit {X : Type 0} (f : X → List ℕ) (xs : List X) (front : List (List ℕ)) (field : List ℕ) (more : List (List ℕ)) : Type 0 where

@@ -4,3 +4,8 @@ pub mod Taken
 pub mod Places
 pub mod Fronts
 pub mod Faults
+pub mod Free
+pub mod Formats
+pub mod Leaves
+pub mod Joins
+pub mod Whole

@@ -1,5 +1,5 @@
 -- Bytes have one first fault.
-use Rattle.std.proofs.Common.{◌≡◌, ℕ, ◌+◌, ◌<◌, ◌≤◌, List, [], ◌∷◌, ◌++◌, length, take, drop, refl, sym, ap, subst, ◌∙◌, append_assoc, arith, inl, inr}
+use Rattle.std.proofs.Common.{◌≡◌, ℕ, List, [], ◌∷◌, ◌++◌, length, take, drop, refl, sym, ap, subst, ◌∙◌, append_assoc, arith, inl, inr}
 use Rattle.std.specs.List.{concat}
 use Rattle.std.proofs.lemmas.List.{append-nil, take_at, drop_at}
 use Rattle.kt_bytes.specs.Places.{Begins, GoesOn, Stands, IsPlace, IsFault, Delimited}
@@ -19,7 +19,7 @@ pub record Meet (S : List (List ℕ) → Type 0) (front f g : List (List ℕ)) (
 next : {A : Type 0} (front : List A) (a : A) (f : List A) → front ++ a ∷ f ≡ (front ++ a ∷ []) ++ f
 next front a f = sym (append_assoc front (a ∷ []) f)
 
-one_front : (S : List (List ℕ) → Type 0) (front f g : List (List ℕ)) (r s : List ℕ) → Delimited S → Meet S front f g r s → (f ≡ g) × (r ≡ s)
+pub one_front : (S : List (List ℕ) → Type 0) (front f g : List (List ℕ)) (r s : List ℕ) → Delimited S → Meet S front f g r s → (f ≡ g) × (r ≡ s)
 one_front S front [] [] r s d m = (refl, m.same)
 one_front S front [] (b ∷ g) r s d m =
     absurd (m.ends_f b (rw append-nil (goes_on S front b g m.begins_g)) (concat g ++ s, m.same ∙ append_assoc b (concat g) s))

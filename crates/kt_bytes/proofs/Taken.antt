@@ -1,7 +1,7 @@
 -- What a reader of some value took from the front: its spelling.
-use Rattle.std.proofs.Common.{◌≡◌, ℕ, ◌<◌, List, ◌++◌, length, Result, Ok, sym, ap, subst, ◌∙◌, append_assoc}
+use Rattle.std.proofs.Common.{◌≡◌, ℕ, ◌<◌, List, ◌++◌, length, Ok, sym, ap, subst, ◌∙◌, append_assoc}
 use Rattle.std.specs.Int.{Width, to_le_bytes}
-use Rattle.kt_bytes.specs.Reading.{◌>>=◌, number_at, bytes_at, counted_at}
+use Rattle.kt_bytes.specs.Reading.{number_at, bytes_at, counted_at}
 use Rattle.kt_bytes.proofs.Numbers.{IsBytes, IsWide, done, ok_is, bind_ok, then_is, number_takes, number_again, bytes_takes, bytes_again}
 
 -- what a reader took from the front

@@ -1,6 +1,6 @@
 -- Where bytes that are no spelling are at fault, told by the spellings alone. A spelling is a list of fields, and a
 -- format says which lists of fields are one.
-use Rattle.std.specs.Prelude.{◌≡◌, ◌<◌, ◌≤◌, ◌+◌, ◌⊎◌, ℕ, List, [], ◌∷◌, ◌++◌, length}
+use Rattle.std.specs.Prelude.{◌≡◌, ◌<◌, ◌≤◌, ◌+◌, ◌⊎◌, ℕ, List, [], ◌∷◌, ◌++◌, length, get_or}
 use Rattle.std.specs.List.{concat}
 
 -- some spelling begins with these fields
@@ -35,3 +35,16 @@ pub record IsFault (Spelled : List (List ℕ) → Type 0) (bytes : List ℕ) (pl
 -- what stands before a field tells how long it is
 abbrev pub Delimited : (List (List ℕ) → Type 0) → Type 0
 Delimited Spelled = (front : List (List ℕ)) (a b : List ℕ) → GoesOn Spelled front a → GoesOn Spelled front b → length a ≡ length b
+
+-- ---- spellings of values
+
+-- the numbers are bytes
+abbrev pub AreBytes : List ℕ → Type 0
+AreBytes bytes = (i : ℕ) → get_or bytes i 0 < 256
+
+-- these are the fields of a value that keeps the rules, in bytes
+pub record IsSpelled {X : Type 0} (fields : X → List (List ℕ)) (Keeps : X → Type 0) (all : List (List ℕ)) : Type 0 where
+  pub value : X
+  pub keeps : Keeps value
+  pub bytes : AreBytes (concat all)
+  pub is : all ≡ fields value

@@ -41,6 +41,11 @@ many_at item (suc n) front bytes = do
   x ← item front bytes
   many_at item n (front ++ x.0 ∷ []) x.1
 
+-- each item of a list keeps to this, behind those before it
+abbrev pub EachAfter : {X : Type 0} → (List X → X → Type 0) → List X → List X → Type 0
+EachAfter Keeps front [] = Unit {0}
+EachAfter Keeps front (x ∷ xs) = Keeps front x × EachAfter Keeps (front ++ x ∷ []) xs
+
 -- ---- what a function answers
 
 -- what a function returned, seen by view, is what reading gives, unless memory ran out

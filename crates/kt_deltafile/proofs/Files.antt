@@ -8,7 +8,7 @@ use Rattle.kt_bytes.specs.declared.fault.CodecNo.{CodecNo}
 use Rattle.kt_bytes.specs.Places.{IsFault}
 use Rattle.kt_bytes.specs.Reading.{with_offset, Answers}
 use Rattle.kt_bytes.proofs.Numbers.{IsBytes, ok_is}
-use Rattle.kt_recordlaws.proofs.Whole.{found, again, place}
+use Rattle.kt_bytes.proofs.Whole.{found, again, place}
 use Rattle.kt_deltafile.specs.declared.file.Way.{Way}
 use Rattle.kt_deltafile.specs.File.{FileView}
 use Rattle.kt_deltafile.specs.Rules.{FileFits}

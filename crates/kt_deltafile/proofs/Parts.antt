@@ -11,9 +11,9 @@ use Rattle.kt_bytes.specs.Reading.{◌>>=◌, checked_at, many_at}
 use Rattle.kt_bytes.proofs.Numbers.{wide32, wide64}
 use Rattle.kt_records.specs.Rules.{EachAfter}
 use Rattle.kt_recordlaws.specs.Cells.{cell_list_fields, rising_cells_at}
-use Rattle.kt_recordlaws.proofs.Formats.{Part}
-use Rattle.kt_recordlaws.proofs.Leaves.{same_reader, Passes, number_fields, number_part, byte_at_front, code_fields, code_part}
-use Rattle.kt_recordlaws.proofs.Joins.{both_part, same_part, made_at, made_part, made_as, given_part, many_part, concat_items}
+use Rattle.kt_bytes.proofs.Formats.{Part}
+use Rattle.kt_bytes.proofs.Leaves.{same_reader, Passes, number_fields, number_part, byte_at_front, code_fields, code_part}
+use Rattle.kt_bytes.proofs.Joins.{both_part, same_part, made_at, made_part, made_as, given_part, many_part, concat_items}
 use Rattle.kt_recordlaws.proofs.Cells.{CellListFits, rising_cells_part, cell_list_spelled}
 use Rattle.kt_deltafile.specs.declared.file.Way.{Way}
 use Rattle.kt_deltafile.specs.declared.file.Way.TheVariants.{Redo, Undo}

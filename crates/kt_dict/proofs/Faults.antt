@@ -4,12 +4,13 @@ use Rattle.std.specs.Int.{w16, w32}
 use Rattle.std.specs.List.{flat_map, concat, AllByRecursion}
 use Rattle.std.proofs.lemmas.List.{append-nil, drop_at, take_at, length_push, nil_from_length}
 use Rattle.std.proofs.lemmas.Grind.{flat_map-append}
+use Rattle.std.proofs.lemmas.List.Folds.{concat-append}
 use Rattle.kt_bytes.specs.Places.{Begins, GoesOn, Stands}
 use Rattle.kt_bytes.specs.Reading.{◌>>=◌, number_at, checked_at, bytes_at}
 use Rattle.kt_bytes.proofs.Numbers.{IsBytes, bind_ok, ok_is, IsBytes-drop, bytes_takes}
 use Rattle.kt_bytes.proofs.Places.{goes_on}
 use Rattle.kt_bytes.proofs.Faults.{FaultLeft, bind_err, guard_err, pass_err, checked_fails, bytes_fail, is_missing, is_wrong, is_wrong_field, never_err, number_long}
-use Rattle.kt_bytes.proofs.Fronts.{concat-push}
+use Rattle.kt_bytes.proofs.Fronts.{parts_push, no_bool}
 use Rattle.kt_dict.specs.Spelling.{AreBytes, has, place, dictionary, short, number, entry, code, spelling, Spelled}
 use Rattle.kt_dict.specs.Writing.{text}
 use Rattle.kt_dict.specs.Reading.{Spells}
@@ -26,20 +27,6 @@ Fault n bytes left = FaultLeft (Spelled n) bytes left
 
 abbrev Read : Type 0
 Read = Result (List (List ℕ) × List ℕ) ℕ
-
--- the bytes of two lists of fields
-concat_append : (xs ys : List (List ℕ)) → concat (xs ++ ys) ≡ concat xs ++ concat ys
-concat_append [] ys = refl
-concat_append (x ∷ xs) ys = ap (λ (t : List ℕ). x ++ t) (concat_append xs ys) ∙ sym (append_assoc x (concat xs) (concat ys))
-
--- one field more
-parts_push : (front : List (List ℕ)) (field bytes rest after : List ℕ) → bytes ≡ concat front ++ rest → rest ≡ field ++ after → bytes ≡ concat (front ++ field ∷ []) ++ after
-parts_push front field bytes rest after p q =
-    p ∙ (ap (λ (t : List ℕ). concat front ++ t) q ∙ (sym (append_assoc (concat front) field after) ∙ ap (λ (t : List ℕ). t ++ after) (sym (concat-push front field))))
-
-no_bool : (b : Bool) → b ≡ false → b ≡ true → ⊥
-no_bool true f t = absurd cc
-no_bool false f t = absurd cc
 
 -- ---- the number of entries
 
@@ -185,7 +172,7 @@ unfolding text
 front_push n d known x bytes rest after p q =
     let more : entries_front d (known ++ x ∷ []) ≡ entries_front d known ++ entry x = ap (λ (t : List (List ℕ)). short d ∷ t) (flat_map-append entry known (x ∷ [])) in
     let two : concat (entry x) ≡ number (length x) ++ x = ap (λ (t : List ℕ). number (length x) ++ t) (append-nil x) in
-    let all : concat (entries_front d (known ++ x ∷ [])) ≡ concat (entries_front d known) ++ (number (length x) ++ x) = ap concat more ∙ (concat_append (entries_front d known) (entry x) ∙ ap (λ (t : List ℕ). concat (entries_front d known) ++ t) two) in
+    let all : concat (entries_front d (known ++ x ∷ [])) ≡ concat (entries_front d known) ++ (number (length x) ++ x) = ap concat more ∙ (concat-append (entries_front d known) (entry x) ∙ ap (λ (t : List ℕ). concat (entries_front d known) ++ t) two) in
     p ∙ (ap (λ (t : List ℕ). concat (entries_front d known) ++ t) q ∙ (sym (append_assoc (concat (entries_front d known)) (number (length x) ++ x) after) ∙ ap (λ (t : List ℕ). t ++ after) (sym all)))
 
 entries_fault : (m n : ℕ) (known : List (List ℕ)) (bytes rest : List ℕ) (left : ℕ) → Good known → is_count n (length known + m) ≡ true → IsBytes rest → bytes ≡ concat (entries_front (length known + m) known) ++ rest

@@ -4,13 +4,14 @@ use Rattle.std.specs.Prelude.{nat_lt, ◌==◌, ◌&&◌}
 use Rattle.std.specs.Int.{w32}
 use Rattle.std.specs.List.{AllByRecursion, concat}
 use Rattle.std.proofs.lemmas.Bool.{leb-true, le-ltb, lt-ltb}
-use Rattle.std.proofs.lemmas.List.{append-nil, take_at, drop_at, length-drop, length_push}
+use Rattle.std.proofs.lemmas.List.{take_at, drop_at, length-drop, length_push}
+use Rattle.std.proofs.lemmas.List.Folds.{concat-append}
 use Rattle.kt_bytes.specs.Places.{Begins, GoesOn, Stands, Delimited}
 use Rattle.kt_bytes.specs.Reading.{◌>>=◌, number_at, checked_at, bytes_at}
 use Rattle.kt_bytes.proofs.Numbers.{IsBytes, ok_is, bytes_takes}
-use Rattle.kt_bytes.proofs.Places.{Meet, goes_on, one_place as places_one}
+use Rattle.kt_bytes.proofs.Places.{goes_on, one_front, one_place as places_one}
 use Rattle.kt_bytes.proofs.Faults.{FaultLeft, bind_err, guard_err, pass_err, checked_fails, number_fails, bytes_fail, number_long, is_missing, begins_of, never_err}
-use Rattle.kt_bytes.proofs.Fronts.{concat-push}
+use Rattle.kt_bytes.proofs.Fronts.{parts_push, no_bool}
 use Rattle.kt_front.specs.Spelling.{AreBytes, base, shared, number, cell, cell_fields, fields, CellFits, Spelled}
 use Rattle.kt_front.specs.Reading.{IsFault, is_rest, Spells}
 use Rattle.kt_front.specs.Walk.{begin_alike, is_shared, cell_at, items_at, behind_of, ended_of}
@@ -19,20 +20,6 @@ use Rattle.kt_front.proofs.Fields.{length-number, number_one, number_takes, numb
 use Rattle.kt_front.proofs.Blocks.{spelled_behind}
 use Rattle.kt_front.proofs.Cells.{last_or}
 use Rattle.kt_front.proofs.Places.{fields_append, Sofar, sofar_push, begins, made, next, delimited, length-fields, whole_ends}
-
--- the bytes of two lists of fields
-concat_append : (xs ys : List (List ℕ)) → concat (xs ++ ys) ≡ concat xs ++ concat ys
-concat_append [] ys = refl
-concat_append (x ∷ xs) ys = ap (λ (t : List ℕ). x ++ t) (concat_append xs ys) ∙ sym (append_assoc x (concat xs) (concat ys))
-
--- one field more
-parts_push : (front : List (List ℕ)) (field bytes rest after : List ℕ) → bytes ≡ concat front ++ rest → rest ≡ field ++ after → bytes ≡ concat (front ++ field ∷ []) ++ after
-parts_push front field bytes rest after p q =
-    p ∙ (ap (λ (t : List ℕ). concat front ++ t) q ∙ (sym (append_assoc (concat front) field after) ∙ ap (λ (t : List ℕ). t ++ after) (sym (concat-push front field))))
-
-no_bool : (b : Bool) → b ≡ false → b ≡ true → ⊥
-no_bool true f t = absurd cc
-no_bool false f t = absurd cc
 
 -- what stands there is no field that can follow, and these are the fields in front of it
 is_wrong_here : (S : List (List ℕ) → Type 0) (front : List (List ℕ)) (bytes rest : List ℕ) (left : ℕ) → bytes ≡ concat front ++ rest → left ≡ length rest
@@ -284,7 +271,7 @@ unfolding base_at cell
 cell_push xs x bytes rest after p q =
     let w : List ℕ = base (0 + length xs) (last_or [] xs) in
     let one : concat (cell_fields w x) ≡ (number (shared w x) ++ number (length x - shared w x)) ++ drop (shared w x) x = ap (λ (t : List ℕ). number (shared w x) ++ (number (length x - shared w x) ++ t)) (append-nil (drop (shared w x) x)) ∙ sym (append_assoc (number (shared w x)) (number (length x - shared w x)) (drop (shared w x) x)) in
-    let all : concat (fields (xs ++ x ∷ [])) ≡ concat (fields xs) ++ ((number (shared w x) ++ number (length x - shared w x)) ++ drop (shared w x) x) = ap concat (fields_append 0 [] xs (x ∷ [])) ∙ (concat_append (fields xs) (cell_fields w x) ∙ ap (λ (t : List ℕ). concat (fields xs) ++ t) one) in
+    let all : concat (fields (xs ++ x ∷ [])) ≡ concat (fields xs) ++ ((number (shared w x) ++ number (length x - shared w x)) ++ drop (shared w x) x) = ap concat (fields_append 0 [] xs (x ∷ [])) ∙ (concat-append (fields xs) (cell_fields w x) ∙ ap (λ (t : List ℕ). concat (fields xs) ++ t) one) in
     p ∙ (ap (λ (t : List ℕ). concat (fields xs) ++ t) q ∙ (sym (append_assoc (concat (fields xs)) ((number (shared w x) ++ number (length x - shared w x)) ++ drop (shared w x) x) after) ∙ ap (λ (t : List ℕ). t ++ after) (sym all)))
 
 trailing_fault : (n : ℕ) (xs : List (List ℕ)) (bytes rest : List ℕ) (left : ℕ) → Sofar n 0 xs → bytes ≡ concat (fields xs) ++ rest → 0 < length rest → left ≡ length rest → Fault n bytes left
@@ -336,32 +323,6 @@ block_fault n bytes left fits e = items_fault n n 0 [] [] bytes bytes left (reco
     all_left n = omega arith
 
 -- ---- one place
-
--- two faults of the same bytes have the same fields in front of them
-split : {A : Type 0} (front : List A) (a : A) (f : List A) → front ++ a ∷ f ≡ (front ++ a ∷ []) ++ f
-split front a f = sym (append_assoc front (a ∷ []) f)
-
-one_front : (S : List (List ℕ) → Type 0) (front f g : List (List ℕ)) (r s : List ℕ) → Delimited S → Meet S front f g r s → (f ≡ g) × (r ≡ s)
-one_front S front [] [] r s d m = (refl, m.same)
-one_front S front [] (b ∷ g) r s d m =
-    absurd (m.ends_f b (rw append-nil (goes_on S front b g m.begins_g)) (concat g ++ s, m.same ∙ append_assoc b (concat g) s))
-one_front S front (a ∷ f) [] r s d m =
-    absurd (m.ends_g a (rw append-nil (goes_on S front a f m.begins_f)) (concat f ++ r, sym m.same ∙ append_assoc a (concat f) r))
-one_front S front (a ∷ f) (b ∷ g) r s d m =
-    let len : length a ≡ length b = d front a b (goes_on S front a f m.begins_f) (goes_on S front b g m.begins_g) in
-    let whole : a ++ (concat f ++ r) ≡ b ++ (concat g ++ s) = sym (append_assoc a (concat f) r) ∙ m.same ∙ append_assoc b (concat g) s in
-    let one : a ≡ b = sym (take_at a (concat f ++ r) (length b) len) ∙ ap (take (length b)) whole ∙ take_at b (concat g ++ s) (length b) refl in
-    let rest : concat f ++ r ≡ concat g ++ s = sym (drop_at a (concat f ++ r) (length b) len) ∙ ap (drop (length b)) whole ∙ drop_at b (concat g ++ s) (length b) refl in
-    let left : front ++ a ∷ f ≡ (front ++ a ∷ []) ++ f = split front a f in
-    let right : front ++ b ∷ g ≡ (front ++ a ∷ []) ++ g = ap (λ (x : List ℕ). front ++ x ∷ g) (sym one) ∙ split front a g in
-    let more : (f ≡ g) × (r ≡ s) = one_front S (front ++ a ∷ []) f g r s d (record {
-      begins_f = subst (Begins S) left m.begins_f;
-      begins_g = subst (Begins S) right m.begins_g;
-      ends_f = λ field on. m.ends_f field (subst (λ (l : List (List ℕ)). GoesOn S l field) (sym left) on);
-      ends_g = λ field on. m.ends_g field (subst (λ (l : List (List ℕ)). GoesOn S l field) (sym right) on);
-      same = rest;
-    }) in
-    (ap (λ (x : List ℕ). x ∷ f) one ∙ ap (λ (l : List (List ℕ)). b ∷ l) more.0, more.1)
 
 pub one_place : (bytes : List ℕ) (n a b : ℕ) → IsFault n bytes a → IsFault n bytes b → a ≡ b
 one_place bytes n a b p q =

@@ -14,9 +14,9 @@ use Rattle.kt_records.specs.Spelling.{flag, cell, listed_cell, cell_list}
 use Rattle.kt_records.specs.Rules.{EachAfter, CellFits, next_id, FollowingCell}
 use Rattle.kt_records.specs.Reading.{flag_at, cell_at}
 use Rattle.kt_recordlaws.specs.Cells.{cell_fields, listed_cell_fields, cell_list_fields, is_next_id, next_cell_at, rising_cells_at}
-use Rattle.kt_recordlaws.proofs.Formats.{Part}
-use Rattle.kt_recordlaws.proofs.Leaves.{same_reader, Passes, number_fields, number_part, any_number, IsText, any_text, text_fields, byte_at_front, code_fields, code_part}
-use Rattle.kt_recordlaws.proofs.Joins.{both_part, same_part, made_at, made_part, made_as, given_part, many_part, concat_items}
+use Rattle.kt_bytes.proofs.Formats.{Part}
+use Rattle.kt_bytes.proofs.Leaves.{same_reader, Passes, number_fields, number_part, any_number, IsText, any_text, text_fields, byte_at_front, code_fields, code_part}
+use Rattle.kt_bytes.proofs.Joins.{both_part, same_part, made_at, made_part, made_as, given_part, many_part, concat_items}
 
 -- ---- bytes behind their count
 

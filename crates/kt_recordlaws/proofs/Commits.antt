@@ -13,9 +13,9 @@ use Rattle.kt_records.specs.Spelling.{outcome}
 use Rattle.kt_records.specs.Rules.{EachAfter, TargetFits, may_change, RowFits}
 use Rattle.kt_records.specs.Reading.{target_at, outcome_at, target_list_at, commit_row_at}
 use Rattle.kt_recordlaws.specs.Records.{target_fields, row_fields}
-use Rattle.kt_recordlaws.proofs.Formats.{Part}
-use Rattle.kt_recordlaws.proofs.Leaves.{same_reader, Passes, number_fields, any_number, byte_at_front, code_fields, code_part}
-use Rattle.kt_recordlaws.proofs.Joins.{both_part, same_part, made_at, made_part, made_as, many_part}
+use Rattle.kt_bytes.proofs.Formats.{Part}
+use Rattle.kt_bytes.proofs.Leaves.{same_reader, Passes, number_fields, any_number, byte_at_front, code_fields, code_part}
+use Rattle.kt_bytes.proofs.Joins.{both_part, same_part, made_at, made_part, made_as, many_part}
 
 -- ---- stores
 
@@ -202,7 +202,7 @@ unfolding target_list_at
 listed_is o [] = refl
 listed_is o (n ∷ rest) = which (may_change o n)
   where
-    which : (b : Bool) → cond b (many_at (λ front. target_at) n [] rest) (Err (suc (length rest))) ≡ (Rattle.kt_recordlaws.proofs.Leaves.chosen rest (cond b (Some n) None) >>= λ m. many_at (λ front. target_at) m.0 [] m.1)
+    which : (b : Bool) → cond b (many_at (λ front. target_at) n [] rest) (Err (suc (length rest))) ≡ (Rattle.kt_bytes.proofs.Leaves.chosen rest (cond b (Some n) None) >>= λ m. many_at (λ front. target_at) m.0 [] m.1)
     which true = refl
     which false = refl
 

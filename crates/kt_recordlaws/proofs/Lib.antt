@@ -1,9 +1,4 @@
-pub mod Formats
-pub mod Leaves
-pub mod Joins
-pub mod Whole
 pub mod Cells
-pub mod Free
 pub mod Operations
 pub mod Commits
 pub mod Records

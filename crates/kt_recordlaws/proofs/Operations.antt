@@ -20,11 +20,11 @@ use Rattle.kt_records.specs.Rules.{has_key, may_list, CellsFit, FollowingOp}
 use Rattle.kt_records.specs.Reading.{kind_at}
 use Rattle.kt_recordlaws.specs.Cells.{cell_list_fields, listed_cell_fields, next_cell_at}
 use Rattle.kt_recordlaws.specs.Records.{operation_fields, is_key_len, free_key_at, listed_cells_at, next_operation_at}
-use Rattle.kt_recordlaws.proofs.Formats.{Part}
-use Rattle.kt_recordlaws.proofs.Leaves.{same_reader, Passes, number_fields, number_part, IsText, text_at, text_fields, text_part, byte_at_front, code_fields, code_part, zero_bytes}
-use Rattle.kt_recordlaws.proofs.Joins.{both_part, same_part, made_at, made_part}
+use Rattle.kt_bytes.proofs.Formats.{Part}
+use Rattle.kt_bytes.proofs.Leaves.{same_reader, Passes, number_fields, number_part, IsText, text_at, text_fields, text_part, byte_at_front, code_fields, code_part, zero_bytes}
+use Rattle.kt_bytes.proofs.Joins.{both_part, same_part, made_at, made_part}
 use Rattle.kt_recordlaws.proofs.Cells.{RisingCells, counted_cells_part}
-use Rattle.kt_recordlaws.proofs.Free.{free_place}
+use Rattle.kt_bytes.proofs.Free.{free_place}
 
 -- ---- kinds
 

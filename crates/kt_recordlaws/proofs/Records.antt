@@ -17,10 +17,10 @@ use Rattle.kt_records.specs.Rules.{EachAfter, FollowingOp, may_hold, KeepsRules}
 use Rattle.kt_records.specs.Reading.{commit_row_at, commit_at, entry_at, whole_at, record_of}
 use Rattle.kt_records.proofs.Records.{is_found, record_again}
 use Rattle.kt_recordlaws.specs.Records.{operation_fields, target_fields, row_fields, record_fields, Spelled, next_operation_at, write_at, next_record_at, one_record_at, first_fault_of}
-use Rattle.kt_recordlaws.proofs.Formats.{Part}
-use Rattle.kt_recordlaws.proofs.Leaves.{same_reader, Passes, number_fields, number_part, any_number, byte_at_front, code_fields, code_part}
-use Rattle.kt_recordlaws.proofs.Joins.{both_part, same_part, made_at, made_part, many_part, concat_items}
-use Rattle.kt_recordlaws.proofs.Whole.{found, again, place, told_place}
+use Rattle.kt_bytes.proofs.Formats.{Part}
+use Rattle.kt_bytes.proofs.Leaves.{same_reader, Passes, number_fields, number_part, any_number, byte_at_front, code_fields, code_part}
+use Rattle.kt_bytes.proofs.Joins.{both_part, same_part, made_at, made_part, many_part, concat_items}
+use Rattle.kt_bytes.proofs.Whole.{found, again, place, told_place}
 use Rattle.kt_recordlaws.proofs.Cells.{cell_list_spelled}
 use Rattle.kt_recordlaws.proofs.Operations.{operation_part}
 use Rattle.kt_recordlaws.proofs.Commits.{Rows, rows_part}

@@ -3,7 +3,7 @@ use Rattle.std.specs.Prelude.{◌≡◌, ◌≢◌, ◌↔◌, ℕ, List, Ok, Er
 use Rattle.kt_bytes.specs.Places.{IsFault}
 use Rattle.kt_records.specs.declared.entry.Entry.{Entry}
 use Rattle.kt_records.specs.Reading.{record_of}
-use Rattle.kt_recordlaws.specs.Fields.{AreBytes}
+use Rattle.kt_bytes.specs.Places.{AreBytes}
 use Rattle.kt_recordlaws.specs.Records.{Spelled, first_fault_of}
 
 -- the place that is told is the first fault by the spellings alone, and the first fault is told

@@ -1,4 +1,3 @@
-pub mod Fields
 pub mod Cells
 pub mod Records
 pub mod Laws

@@ -14,7 +14,7 @@ use Rattle.kt_records.specs.declared.entry.Entry.TheVariants.{Replicate, Commit}
 use Rattle.kt_records.specs.Spelling.{kind, outcome}
 use Rattle.kt_records.specs.Rules.{has_key, may_list, may_hold, KeepsRules}
 use Rattle.kt_records.specs.Reading.{kind_at, commit_at}
-use Rattle.kt_recordlaws.specs.Fields.{IsSpelled}
+use Rattle.kt_bytes.specs.Places.{IsSpelled}
 use Rattle.kt_recordlaws.specs.Cells.{cell_list_fields, next_cell_at}
 
 -- ---- fields

@@ -16,11 +16,7 @@ use Rattle.kt_history.specs.Rows.{key_cmp}
 use Rattle.kt_records.specs.declared.entry.CommitRow.{CommitRow}
 use Rattle.kt_records.specs.declared.entry.Entry.{Entry}
 use Rattle.kt_records.specs.declared.entry.Entry.TheVariants.{Replicate, Commit}
-
--- each item of a list keeps to this, behind those before it
-abbrev pub EachAfter : {X : Type 0} → (List X → X → Type 0) → List X → List X → Type 0
-EachAfter Keeps front [] = Unit {0}
-EachAfter Keeps front (x ∷ xs) = Keeps front x × EachAfter Keeps (front ++ x ∷ []) xs
+pub use Rattle.kt_bytes.specs.Reading.{EachAfter}
 
 -- the value fits its field
 abbrev pub CellFits : Cell → Type 0

@@ -9,9 +9,9 @@ use Rattle.kt_bytes.specs.Reading.{◌>>=◌, many_at}
 use Rattle.kt_bytes.proofs.Numbers.{IsBytes, bind_ok, ok_is, then_is}
 use Rattle.kt_bytes.proofs.Taken.{Took, joined}
 use Rattle.kt_bytes.proofs.Faults.{never_err}
-use Rattle.kt_records.specs.Rules.{EachAfter}
-use Rattle.kt_recordlaws.proofs.Formats.{FaultAt, same_format, same_delimited, Then, Known, Live, Part, follows_known, first, bytes_front, bytes_back, bytes_join}
-use Rattle.kt_recordlaws.proofs.Leaves.{same_reader, bind_same}
+use Rattle.kt_bytes.specs.Reading.{EachAfter}
+use Rattle.kt_bytes.proofs.Formats.{FaultAt, same_format, same_delimited, Then, Known, Live, Part, follows_known, first, bytes_front, bytes_back, bytes_join}
+use Rattle.kt_bytes.proofs.Leaves.{same_reader, bind_same}
 
 concat_bytes : (xs ys : List (List ℕ)) → IsBytes (concat xs) → IsBytes (concat ys) → IsBytes (concat (xs ++ ys))
 concat_bytes xs ys f g = rw (concat-append xs ys) (bytes_join (concat xs) (concat ys) f g)

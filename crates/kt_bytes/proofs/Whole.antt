@@ -9,8 +9,8 @@ use Rattle.kt_bytes.proofs.Numbers.{IsBytes, bind_ok, then_is, ok_is, allowed}
 use Rattle.kt_bytes.proofs.Faults.{never_err, pass_err}
 use Rattle.kt_bytes.proofs.Places.{one_place}
 use Rattle.kt_bytes.proofs.Fronts.{IsWhole, refused}
-use Rattle.kt_recordlaws.specs.Fields.{IsSpelled}
-use Rattle.kt_recordlaws.proofs.Formats.{FaultAt, same_format, same_delimited, left_over, Then, Part, first, one_value}
+use Rattle.kt_bytes.specs.Places.{IsSpelled}
+use Rattle.kt_bytes.proofs.Formats.{FaultAt, same_format, same_delimited, left_over, Then, Part, first, one_value}
 
 module _ {X : Type 0} (reads : List ℕ → Result (X × List ℕ) ℕ) (fields : X → List (List ℕ)) (Fits : X → Type 0) (p : Part reads fields Fits) where
   -- what is read, where nothing stands behind it

@@ -2,6 +2,7 @@
 use Rattle.std.proofs.Common.{◌≡◌, ℕ, zero, suc, ◌+◌, ◌<◌, Bool, true, false, ◌||◌, List, [], ◌∷◌, length, refl, sym, ap, ◌∙◌, arith, inl, inr}
 use Rattle.std.specs.Prelude.{◌⊎◌}
 use Rattle.std.specs.List.{list_any}
+use Rattle.kt_bytes.proofs.Fronts.{no_bool}
 
 either : (b : Bool) → (b ≡ true) ⊎ (b ≡ false)
 either true = inl refl
@@ -17,10 +18,6 @@ no_left a b p q = ap (λ (x : Bool). x || b) p ∙ q
 right_one : (a b : Bool) → a ≡ false → (a || b) ≡ true → b ≡ true
 right_one a b p e = sym (ap (λ (x : Bool). x || b) p) ∙ e
 
-no_bool : (b : Bool) → b ≡ true → b ≡ false → ⊥
-no_bool true p q = absurd cc
-no_bool false p q = absurd cc
-
 -- takes x p: the thing stands at the place; no thing stands at two
 module _ {X : Type 0} (takes : X → ℕ → Bool) (one : (x : X) (p q : ℕ) → takes x p ≡ true → takes x q ≡ true → p ≡ q) where
   abbrev taken : List X → ℕ → Bool
@@ -33,7 +30,7 @@ module _ {X : Type 0} (takes : X → ℕ → Bool) (one : (x : X) (p q : ℕ) �
     free : (q : ℕ) → (p ≡ q → ⊥) → taken rest q ≡ false → taken xs q ≡ false
 
   without : (xs : List X) (p : ℕ) → taken xs p ≡ true → Without xs p
-  without [] p e = absurd (no_bool (taken [] p) e refl)
+  without [] p e = absurd (no_bool (taken [] p) refl e)
   without (x ∷ xs) p e = elim (either (takes x p)) [
     | inl here ↦ record {
       rest = xs;

@@ -10,7 +10,7 @@ use Rattle.kt_bytes.specs.Reading.{◌>>=◌, number_at, checked_at, bytes_at}
 use Rattle.kt_bytes.proofs.Numbers.{IsBytes, IsWide, IsBytes-rest, bind_ok, ok_is, then_is, number_again, checked_takes, checked_again, bytes_takes, bytes_again, passed}
 use Rattle.kt_bytes.proofs.Taken.{Took}
 use Rattle.kt_bytes.proofs.Faults.{bind_err, guard_err, never_err, checked_fails, bytes_fail, number_long}
-use Rattle.kt_recordlaws.proofs.Formats.{FaultAt, FirstIs, missing, wrong, Follows, Then, Known, Live, Part}
+use Rattle.kt_bytes.proofs.Formats.{FaultAt, FirstIs, missing, wrong, Follows, Then, Known, Live, Part}
 
 -- ---- what one field is
 
