@@ -4,7 +4,7 @@ use Rattle.std.specs.Prelude.{nat_lt, ◌==◌, ◌&&◌}
 use Rattle.std.specs.Int.{w32}
 use Rattle.std.specs.List.{AllByRecursion, concat}
 use Rattle.std.proofs.lemmas.Bool.{leb-true, le-ltb, lt-ltb}
-use Rattle.std.proofs.lemmas.List.{take_at, drop_at, length-drop, length_push}
+use Rattle.std.proofs.lemmas.List.{append-nil, take_at, drop_at, length-drop, length_push}
 use Rattle.std.proofs.lemmas.List.Folds.{concat-append}
 use Rattle.kt_bytes.specs.Places.{Begins, GoesOn, Stands, Delimited}
 use Rattle.kt_bytes.specs.Reading.{◌>>=◌, number_at, checked_at, bytes_at}
