@@ -1,15 +1,12 @@
 -- What is read as a cell, or as null, is the literal of what it is read as, and a word is a name and what stands behind it.
-use Rattle.std.proofs.Common.{◌≡◌, ℕ, zero, suc, ◌<◌, Bool, true, false, List, [], ◌∷◌, ◌++◌, length, take, drop, Option, Some, None, Result, Ok, Err, inl, inr, refl, sym, ap, subst, ◌∙◌, arith}
-use Rattle.std.specs.Prelude.{ℤ, if◌then◌else◌, nat_lt, codes}
+use Rattle.std.proofs.Common.{◌≡◌, ℕ, zero, suc, ◌<◌, true, false, List, [], ◌∷◌, ◌++◌, length, take, drop, Option, Some, None, Result, Ok, Err, inl, inr, refl, sym, ap, ◌∙◌, arith}
+use Rattle.std.specs.Prelude.{ℤ, codes}
 use Rattle.std.specs.Option.{option_map, option_or}
-use Rattle.std.proofs.lemmas.Bool.{false≢true}
 use Rattle.kt_base.specs.declared.cell.Kind.{Kind}
-use Rattle.kt_base.specs.declared.cell.Kind.TheVariants as kind
 use Rattle.kt_base.specs.declared.cell.Cell.{Cell}
-use Rattle.kt_base.specs.declared.cell.Cell.TheVariants as cell
 use Rattle.kt_base.specs.declared.literal.LiteralNo.{LiteralNo}
 use Rattle.kt_base.specs.declared.literal.LiteralNo.TheVariants as no
-use Rattle.kt_base.specs.Literals.{same, literal, fits, cell_in, cell_or, cell_under, short_bytes, value_in, number_in, string_in, binary_in, number_fits, Value, nothing, truth, number, text, raw}
+use Rattle.kt_base.specs.Literals.{same, literal, cell_in, cell_or, value_in, number_in, string_in, binary_in, Value, nothing, truth, number, text, raw}
 use Rattle.kt_base.proofs.Decimals.{same_text}
 use Rattle.kt_base.proofs.Literals.{all_spelled}
 use Rattle.kt_base.proofs.Spelled.{chosen}

@@ -18,7 +18,6 @@ use Rattle.kt_schema.specs.Columns.{key_columns, other_columns, key_kinds}
 use Rattle.kt_schema.specs.Names.{is_name}
 use Rattle.kt_schema.specs.declared.column.Column.{Column}
 use Rattle.kt_history.specs.declared.operation.OpKind.{OpKind}
-use Rattle.kt_history.specs.declared.operation.RowOp.{RowOp}
 use Rattle.kt_script.specs.declared.forms.OpForm.{OpForm}
 use Rattle.kt_script.specs.declared.forms.OpForm.TheVariants as form
 use Rattle.kt_script.specs.declared.word.Side.TheVariants.{Outside}

@@ -40,3 +40,11 @@ some_piece byte (x ∷ xs) = by (eqb x byte)
     by : (t : Bool) → (piece : List ℕ) × (pieces : List (List ℕ)) × (cond t ([] ∷ cut byte xs) (onto_first x (cut byte xs)) ≡ piece ∷ pieces)
     by true = ([], cut byte xs, refl)
     by false = first (cut byte xs)
+
+-- bytes in front of the first piece
+pub cut_onto : (byte : ℕ) (k r piece : List ℕ) (pieces : List (List ℕ)) → Without byte k → cut byte r ≡ piece ∷ pieces → cut byte (k ++ r) ≡ (k ++ piece) ∷ pieces
+cut_onto byte [] r piece pieces p e = e
+cut_onto byte (c ∷ k) r piece pieces p e = ap (λ t. cond t ([] ∷ cut byte (k ++ r)) (onto_first c (cut byte (k ++ r)))) (ne_eqb c byte p.0) ∙ ap (onto_first c) (cut_onto byte k r piece pieces p.1 e)
+
+pub cut_line : (l t : List ℕ) → Without 10 l → cut 10 (line l ++ t) ≡ l ∷ cut 10 t
+cut_line l t clean = ap (cut 10) (append_assoc l (10 ∷ []) t) ∙ cut_front 10 l t clean

@@ -1,17 +1,11 @@
 -- Reading the words of a line, one after the other.
-use Rattle.std.proofs.Common.{◌≡◌, ℕ, Bool, List, [], ◌∷◌, ◌++◌, Option, Some, None, refl, sym, ap, ◌∙◌, append_assoc}
+use Rattle.std.proofs.Common.{◌≡◌, ℕ, List, [], ◌∷◌, ◌++◌, Option, Some, None, refl, sym, ap, ◌∙◌, append_assoc}
 use Rattle.std.specs.Option.{option_map, option_and_then}
 use Rattle.std.proofs.lemmas.List.{append-nil}
-use Rattle.std.specs.Prelude.{codes, is_some, Result, Ok, Err, IfOk}
-use Rattle.kt_base.specs.declared.cell.Kind.TheVariants as kind
-use Rattle.kt_base.specs.declared.cell.Cell.{Cell}
-use Rattle.kt_bytes.specs.declared.memory.NoMemory.{NoMemory}
-use Rattle.kt_base.specs.declared.literal.LiteralNo.{LiteralNo}
-use Rattle.kt_base.specs.declared.literal.LiteralNo.TheVariants as no
-use Rattle.kt_base.specs.Literals.{Value, nothing, truth, number, text, raw, Reads, cell_or, cell_under}
+use Rattle.std.specs.Prelude.{codes}
 use Rattle.kt_script.specs.declared.output.LastLine.{LastLine}
 use Rattle.kt_script.specs.declared.output.LastLine.TheVariants as last
-use Rattle.kt_script.specs.Outputs.{onto, each_in, unless_more, counted, last_numbers, IsFormed}
+use Rattle.kt_script.specs.Outputs.{onto, each_in, unless_more, counted, last_numbers}
 use Rattle.kt_script.specs.Pieces.{cut}
 use Rattle.kt_script.proofs.Cuts.{some_piece}
 
@@ -55,29 +49,3 @@ last_none ws a c n rest first second third more =
     ∙ ap (option_and_then (λ (z : ℕ × List (List ℕ)). unless_more (last.Numbers a.0 c.0 z.0) z.1)) third
     ∙ ap (option_and_then (inner a)) second
     ∙ ap (option_and_then (λ (x : ℕ × List (List ℕ)). option_and_then (inner x) (counted (codes "last") x.1))) first
-
--- a literal of some kind
-formed_is : (o : Option Value) (r : Result Cell LiteralNo) (is : Bool) → Reads r (cell_or kind.Bool o) → IsFormed r is → is ≡ is_some o
-formed_is None (Ok c) is reads told = absurd cc
-formed_is None (Err no.Form) is reads told = told
-formed_is None (Err no.Null) is reads told = absurd cc
-formed_is None (Err no.Kind) is reads told = absurd cc
-formed_is None (Err no.Long) is reads told = absurd cc
-formed_is None (Err no.Memory) is reads told = absurd told
-formed_is (Some v) (Ok c) is reads told = told
-formed_is (Some v) (Err no.Form) is reads told = absurd (never v reads)
-  where
-    never : (v : Value) → cell_under kind.Bool v ≡ Err no.Form → ⊥
-    never nothing e = cc
-    never (truth b) e = cc
-    never (number n) e = cc
-    never (text bytes) e = cc
-    never (raw bytes) e = cc
-formed_is (Some v) (Err no.Null) is reads told = told
-formed_is (Some v) (Err no.Kind) is reads told = told
-formed_is (Some v) (Err no.Long) is reads told = told
-formed_is (Some v) (Err no.Memory) is reads told = absurd told
-
-pub formed_ok : (o : Option Value) (r : Result Cell LiteralNo) (result : Result Bool NoMemory) → Reads r (cell_or kind.Bool o) → IfOk result (λ is. IsFormed r is) → IfOk result (λ is. is ≡ is_some o)
-formed_ok o r (Ok is) reads told = formed_is o r is reads told
-formed_ok o r (Err e) reads told = tt

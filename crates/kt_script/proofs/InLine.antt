@@ -49,7 +49,7 @@ numbers_ink : (ns : List ℕ) → AllByRecursion Fits64 ns → AllByRecursion In
 numbers_ink [] p = tt
 numbers_ink (n ∷ ns) p = (decimal_ink n, numbers_ink ns p.1)
 
-outcome_ink : (o : Outcome) → Ink (outcome_word o)
+pub outcome_ink : (o : Outcome) → Ink (outcome_word o)
 outcome_ink Done = ink (codes "ok") refl
 outcome_ink Present = ink (codes "present") refl
 outcome_ink Absent = ink (codes "absent") refl

@@ -1,15 +1,18 @@
 -- Reading an output text a line at a time.
-use Rattle.std.proofs.Common.{◌≡◌, ◌≢◌, ℕ, suc, ◌+◌, ◌<◌, ◌≤◌, Bool, true, false, cond, eqb, List, [], ◌∷◌, ◌++◌, length, drop, Some, None, refl, sym, ap, ◌∙◌, arith, append_assoc, length-append, length-drop}
+use Rattle.std.proofs.Common.{◌≡◌, ◌≢◌, ℕ, suc, ◌+◌, ◌<◌, ◌≤◌, Bool, true, false, cond, eqb, List, [], ◌∷◌, ◌++◌, length, drop, refl, sym, ap, subst, ◌∙◌, arith, append_assoc, length-append, length-drop}
 use Rattle.std.specs.Prelude.{All}
 use Rattle.std.specs.List.{onto_first}
-use Rattle.std.proofs.Math.ListN.{drop_of_length-le}
-use Rattle.std.proofs.lemmas.List.{append-nil, drop-drop, drop_at}
+use Rattle.std.proofs.lemmas.List.{drop-drop, drop_at}
 use Rattle.std.proofs.lemmas.List.Elements.{recursion_from_All}
 use Rattle.kt_script.specs.Texts.{line}
 use Rattle.kt_script.specs.Pieces.{cut}
-use Rattle.kt_script.specs.Outputs.{Stage, ended, stands, after, rest_place, place_from}
-use Rattle.kt_script.specs.Reread.{place, StandsAt, Moves}
-use Rattle.kt_script.proofs.Cuts.{cut_front, cut_end, some_piece}
+use Rattle.kt_script.specs.Places.{IsFault}
+use Rattle.kt_script.specs.Stages.{Stage, ended, stands, after, goes, MayStand, Goes}
+use Rattle.kt_script.specs.Reread.{IsFaultFrom, StandsAt, Moves}
+use Rattle.kt_script.proofs.Cuts.{Without, cut_front, some_piece}
+use Rattle.kt_script.proofs.Places.{behind_front, byte_off}
+use Rattle.kt_script.proofs.ToldTexts.{goes_line}
+use Rattle.kt_script.proofs.Stages.{Open, line_fault, rest_fault, rest_none}
 
 -- ---- the line at a place
 
@@ -31,72 +34,96 @@ line_found text at front behind within is none =
       clean = none;
     }
 
-pub line_missing : (text : List ℕ) (at : ℕ) → All (λ b. b ≢ 10) (drop at text) → cut 10 (drop at text) ≡ drop at text ∷ []
-line_missing text at none = cut_end 10 (drop at text) (recursion_from_All (λ b. b ≢ 10) (drop at text) none)
-
 -- ---- one line more
 
-pub place_line : (stage : Stage) (at : ℕ) (text front behind : List ℕ) → cut 10 text ≡ front ∷ cut 10 behind → place_from stage at (cut 10 text) ≡ cond (stands stage front) (place_from (after stage front) (at + length front + 1) (cut 10 behind)) (Some at)
-place_line stage at text front behind is =
-    let some = some_piece 10 behind in
-    ap (place_from stage at) (is ∙ ap (λ ps. front ∷ ps) some.2) ∙ ap (λ ps. cond (stands stage front) (place_from (after stage front) (at + length front + 1) ps) (Some at)) (sym some.2)
-
-bytes_behind : (at b : ℕ) (bytes : List ℕ) → place_from ended at (cut 10 (b ∷ bytes)) ≡ Some at
-bytes_behind at b bytes = by (eqb b 10) (some_piece 10 bytes)
-  where
-    parted : (piece : List ℕ) (pieces : List (List ℕ)) → place_from ended at ((b ∷ piece) ∷ pieces) ≡ Some at
-    parted piece [] = refl
-    parted piece (next ∷ pieces) = refl
-
-    by : (t : Bool) → (piece : List ℕ) × (pieces : List (List ℕ)) × (cut 10 bytes ≡ piece ∷ pieces) → place_from ended at (cond t ([] ∷ cut 10 bytes) (onto_first b (cut 10 bytes))) ≡ Some at
-    by true some = ap (λ pieces. place_from ended at ([] ∷ pieces)) some.2
-    by false some = ap (λ pieces. place_from ended at (onto_first b pieces)) some.2 ∙ parted some.0 some.1
-
 module _ (text : List ℕ) where
-  pub stays : (stage : Stage) (at : ℕ) → at ≤ length text → Moves text stage at stage at []
-  stays stage at within = record { places = refl; bytes = refl; within = within }
-
   module _ (from to : Stage) (start at : ℕ) (front : List ℕ) (moves : Moves text from start to at front) where
     pub then : (stage : Stage) (next : ℕ) (more : List ℕ) → Moves text to at stage next more → Moves text from start stage next (front ++ more)
     then stage next more later = record {
-      places = moves.places ∙ later.places;
+      goes_on = λ t. ap (λ x. goes from (cut 10 x)) (append_assoc front more t) ∙ moves.goes_on (more ++ t) ∙ later.goes_on t;
       bytes = moves.bytes ∙ ap (λ bytes. front ++ bytes) later.bytes ∙ sym (append_assoc front more (drop next text));
+      begins = moves.begins;
       within = later.within;
     }
+
+    -- how far a move goes
+    pub how_far : start + length front ≡ at
+    how_far =
+        let e : length (drop start text) ≡ length front + length (drop at text) = ap length moves.bytes ∙ length-append front (drop at text) in
+        omega (arith, e, length-drop start text, length-drop at text, moves.begins, moves.within)
 
     -- a line that may stand there
     pub line_more : (l : List ℕ) (stage : Stage) → StandsAt text at l
         → stands to l ≡ true → after to l ≡ stage → Moves text from start stage (at + length l + 1) (front ++ line l)
     line_more l stage here may next =
         then stage (at + length l + 1) (line l) (record {
-          places = place_line to at (drop at text) l (drop (at + length l + 1) text) here.parted
-              ∙ ap (λ b. cond b (place_from (after to l) (at + length l + 1) (cut 10 (drop (at + length l + 1) text))) (Some at)) may
-              ∙ ap (λ s. place text s (at + length l + 1)) next;
+          goes_on = λ t.
+              goes_line to l t (recursion_from_All (λ b. b ≢ 10) l here.clean) ∙ ap (λ b. cond b (goes (after to l) (cut 10 t)) false) may ∙ ap (λ s. goes s (cut 10 t)) next;
           bytes = here.bytes;
+          begins = moves.within;
           within = here.within;
         })
 
-    -- a line that may not
-    pub line_refused : (l behind : List ℕ) → cut 10 (drop at text) ≡ l ∷ cut 10 behind → stands to l ≡ false → place text from start ≡ Some at
-    line_refused l behind here bad =
-        moves.places ∙ place_line to at (drop at text) l behind here ∙ ap (λ b. cond b (place_from (after to l) (at + length l + 1) (cut 10 behind)) (Some at)) bad
+    -- the fault behind a move
+    pub fault_behind : (offset : ℕ) → IsFaultFrom text to at offset → IsFaultFrom text from start offset
+    fault_behind offset f = record {
+      far = length front + f.far;
+      offset_is = omega (arith, how_far, f.offset_is);
+      fault = subst (λ (x : List ℕ). IsFault (Goes from) x (length front + f.far)) (sym moves.bytes) (behind_front (Goes from) (Goes to) front (drop at text) f.far (λ x g. moves.goes_on x ∙ g) (λ x g. sym (moves.goes_on x) ∙ g) f.fault);
+      none = ap (λ x. goes from (cut 10 x)) moves.bytes ∙ moves.goes_on (drop at text) ∙ f.none;
+    }
 
-    -- bytes are missing
-    pub rest_missing : cut 10 (drop at text) ≡ drop at text ∷ [] → ((at : ℕ) (bytes : List ℕ) → rest_place to at bytes ≡ Some (at + length bytes)) → place text from start ≡ Some (length text)
-    rest_missing here more =
-        let size : at + length (drop at text) ≡ length text = omega (arith, length-drop at text, moves.within) in
-        moves.places ∙ ap (place_from to at) here ∙ more at (drop at text) ∙ ap Some size
+    -- a line that may not stand there
+    pub line_refused : (l : List ℕ) (m : ℕ) → StandsAt text at l → Open to → stands to l ≡ false → IsFault (MayStand to) l m → IsFaultFrom text from start (at + m)
+    line_refused l m here more bad fault =
+        let behind : List ℕ = drop (at + length l + 1) text in
+        let clean : Without 10 l = recursion_from_All (λ b. b ≢ 10) l here.clean in
+        fault_behind (at + m) (record {
+          far = m;
+          offset_is = refl;
+          fault = subst (λ (x : List ℕ). IsFault (Goes to) x m) (sym here.bytes) (line_fault to l behind m more clean bad fault);
+          none = ap (λ x. goes to (cut 10 x)) here.bytes ∙ goes_line to l behind clean ∙ ap (λ b. cond b (goes (after to l) (cut 10 behind)) false) bad;
+        })
+
+    -- bytes without a newline
+    pub rest_refused : (rest : List ℕ) (m : ℕ) → rest ≡ drop at text → All (λ b. b ≢ 10) (drop at text) → Open to → IsFault (MayStand to) rest m → IsFaultFrom text from start (at + m)
+    rest_refused rest m is none more fault =
+        let clean : Without 10 (drop at text) = recursion_from_All (λ b. b ≢ 10) (drop at text) none in
+        fault_behind (at + m) (record {
+          far = m;
+          offset_is = refl;
+          fault = rest_fault to (drop at text) m more clean (subst (λ (x : List ℕ). IsFault (MayStand to) x m) is fault);
+          none = rest_none to (drop at text) more clean;
+        })
 
     -- bytes behind the last line
-    pub behind_end : to ≡ ended → at < length text → place text from start ≡ Some at
-    behind_end is more = moves.places ∙ ap (λ s. place text s at) is ∙ some_bytes (drop at text) (omega (arith, length-drop at text, more))
+    pub behind_end : to ≡ ended → at < length text → IsFaultFrom text from start at
+    behind_end is more =
+        fault_behind at (subst (λ s. IsFaultFrom text s at at) (sym is) (record {
+          far = 0;
+          offset_is = omega arith;
+          fault = some_bytes (drop at text) some;
+          none = no_end (drop at text) some;
+        }))
       where
-        some_bytes : (bytes : List ℕ) → 0 < length bytes → place_from ended at (cut 10 bytes) ≡ Some at
-        some_bytes [] some = absurd (omega (arith, some))
-        some_bytes (b ∷ bytes) some = bytes_behind at b bytes
+        some : 0 < length (drop at text)
+        some = omega (arith, length-drop at text, more)
 
-    -- nothing is left
-    pub at_end : to ≡ ended → length text ≤ at → (place text from start ≡ None) × (drop start text ≡ front)
-    at_end is past =
-        let none : drop at text ≡ [] = drop_of_length-le text past in
-        (moves.places ∙ ap (λ s. place text s at) is ∙ ap (λ bytes. place_from ended at (cut 10 bytes)) none, moves.bytes ∙ ap (λ bytes. front ++ bytes) none ∙ append-nil front)
+        bytes_behind : (b : ℕ) (bytes : List ℕ) → goes ended (cut 10 (b ∷ bytes)) ≡ false
+        bytes_behind b bytes = by (eqb b 10) (some_piece 10 bytes)
+          where
+            parted : (piece : List ℕ) (pieces : List (List ℕ)) → goes ended ((b ∷ piece) ∷ pieces) ≡ false
+            parted piece [] = refl
+            parted piece (next ∷ pieces) = refl
+
+            by : (t : Bool) → (piece : List ℕ) × (pieces : List (List ℕ)) × (cut 10 bytes ≡ piece ∷ pieces) → goes ended (cond t ([] ∷ cut 10 bytes) (onto_first b (cut 10 bytes))) ≡ false
+            by true some = ap (λ pieces. goes ended ([] ∷ pieces)) some.2
+            by false some = ap (λ pieces. goes ended (onto_first b pieces)) some.2 ∙ parted some.0 some.1
+
+        no_end : (bytes : List ℕ) → 0 < length bytes → goes ended (cut 10 bytes) ≡ false
+        no_end [] some = absurd (omega (arith, some))
+        no_end (b ∷ bytes) some = bytes_behind b bytes
+
+        some_bytes : (bytes : List ℕ) → 0 < length bytes → IsFault (Goes ended) bytes 0
+        some_bytes [] some = absurd (omega (arith, some))
+        some_bytes (b ∷ bytes) some = byte_off (Goes ended) b bytes [] refl (λ y g. let none = bytes_behind b y in cc)

@@ -1,6 +1,6 @@
 -- The cells of an operation that is taken are cells that their columns take.
 use Rattle.std.proofs.Common.{◌≡◌, ℕ, suc, ◌+◌, ◌<◌, ◌≤◌, Bool, true, false, not, ◌&&◌, ◌||◌, cond, List, [], ◌∷◌, ◌++◌, length, drop, Option, Some, None, inl, inr, refl, sym, ap, subst, ◌∙◌, arith}
-use Rattle.std.specs.Prelude.{◌⊎◌, if◌then◌else◌, ◌==◌, nat_lt, nat_le}
+use Rattle.std.specs.Prelude.{◌⊎◌, if◌then◌else◌, ◌==◌}
 use Rattle.kt_schema.specs.Names.{is_name}
 use Rattle.std.specs.Ordering.{nat_cmp}
 use Rattle.std.specs.List.{AllByRecursion}
@@ -10,15 +10,12 @@ use Rattle.std.specs.Cmp.{nat_cmp_is}
 use Rattle.std.specs.FinMap.Entries.{put, by_order}
 use Rattle.std.proofs.lemmas.Bool.{false≢true}
 use Rattle.std.proofs.lemmas.Bool.Decides.{nat_tests}
-use Rattle.kt_base.specs.declared.cell.Kind.{Kind}
-use Rattle.kt_base.specs.declared.cell.Kind.TheVariants as kind
 use Rattle.kt_base.specs.declared.cell.Cell.{Cell}
-use Rattle.kt_base.specs.declared.cell.Cell.TheVariants as cell
-use Rattle.kt_base.specs.Literals.{same, fits}
+use Rattle.kt_base.specs.Literals.{same}
 use Rattle.kt_base.proofs.Values.{both, both_true}
 use Rattle.kt_key.specs.Fit.{has_kind}
 use Rattle.kt_schema.specs.declared.column.Column.{Column}
-use Rattle.kt_schema.specs.Rows.{is_null, is_long}
+use Rattle.kt_schema.specs.Rows.{is_null}
 use Rattle.kt_schema.specs.Columns.{other_columns}
 use Rattle.kt_script.specs.Reasons.{cell_no, cell_value}
 use Rattle.kt_script.specs.Columns.{counts_from}

@@ -1,5 +1,5 @@
 -- Lists of words with a word between each two.
-use Rattle.std.proofs.Common.{ℕ, List, [], ◌∷◌, ◌++◌}
+use Rattle.std.proofs.Common.{ℕ, List, [], ◌∷◌}
 use Rattle.std.specs.List.{flat_map, AllByRecursion}
 use Rattle.kt_script.specs.Print.{parted}
 use Rattle.kt_script.proofs.InLine.{join}

@@ -1,20 +1,18 @@
 -- Printed cells are read as these cells.
-use Rattle.std.proofs.Common.{◌≡◌, ℕ, ◌+◌, ◌≤◌, ℤ, pos, negsuc, List, [], ◌∷◌, ◌++◌, refl, sym, ap, subst, ◌∙◌, arith, length, map, drop, Bool, true, false, not, min, Ok, Err, length-append}
+use Rattle.std.proofs.Common.{◌≡◌, ℕ, ◌+◌, ◌≤◌, List, [], ◌∷◌, ◌++◌, refl, sym, ap, subst, ◌∙◌, arith, length, map, drop, Bool, true, false, not, min, Ok, Err, length-append}
 use mathlib.Core.List.{append-nil}
-use Rattle.std.specs.Prelude.{◌&&◌, ◌||◌, nat_lt, nat_le, codes}
+use Rattle.std.specs.Prelude.{◌&&◌, ◌||◌, nat_lt, codes}
 use Rattle.std.specs.List.{AllByRecursion}
 use Rattle.std.proofs.lemmas.Bool.Decides.{nat_tests}
 use Rattle.kt_base.specs.declared.cell.Kind.{Kind}
-use Rattle.kt_base.specs.declared.cell.Kind.TheVariants as kind
 use Rattle.kt_base.specs.declared.cell.Cell.{Cell}
 use Rattle.kt_base.specs.declared.cell.Cell.TheVariants as cell
 use Rattle.kt_base.specs.declared.literal.LiteralNo.TheVariants as no
-use Rattle.kt_base.specs.Keys.{half_of, width_of}
-use Rattle.kt_base.specs.Literals.{same, literal, fits, within, cell_in, CellBytes}
+use Rattle.kt_base.specs.Literals.{same, literal, fits, cell_in, CellBytes}
 use Rattle.kt_base.proofs.Decimals.{same_text}
 use Rattle.kt_base.proofs.Values.{both_true}
 use Rattle.kt_base.proofs.Literals.{all_read}
-use Rattle.kt_key.specs.Fit.{has_kind, in_range, is_key}
+use Rattle.kt_key.specs.Fit.{has_kind, is_key}
 use Rattle.kt_key.specs.Spelling.{spelling, inner_spelling, last_spelling}
 use Rattle.kt_key.proofs.Steps.{length-escaped, is_key_more}
 use Rattle.kt_schema.specs.Rows.{is_long}

@@ -11,7 +11,7 @@ use Rattle.kt_history.specs.declared.command.Command.{Command}
 use Rattle.kt_history.specs.declared.command.Command.TheVariants as command
 use Rattle.kt_script.specs.Pieces.{words_of}
 use Rattle.kt_script.specs.Reasons.{sound, reason_if}
-use Rattle.kt_script.specs.Times.{most_time, time_no, time_or_zero}
+use Rattle.kt_script.specs.Times.{time_no, time_or_zero}
 use Rattle.kt_script.specs.Scripts.{most_sessions, first_lead, command_no, command_of, commands_in, is_begun, session_no, full_no, in_session_no, led_no, led_plan, push_last, Above, head, body, line_no, end_no, after, fault_if, fault_from, above_end, said}
 use Rattle.kt_script.specs.declared.leads.Word.{Word}
 use Rattle.kt_script.specs.declared.leads.Word.TheVariants as word

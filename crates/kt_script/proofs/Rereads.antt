@@ -1,8 +1,9 @@
 -- The loops that read an output text: what one line more adds.
-use Rattle.std.proofs.Common.{◌≡◌, ℕ, zero, suc, ◌+◌, ◌-◌, ◌<◌, ◌≤◌, true, false, ◌||◌, cond, List, [], ◌∷◌, ◌++◌, length, drop, Option, Some, None, Err, refl, sym, ap, ◌∙◌, subst, arith, append_assoc, length-append, length-drop}
-use Rattle.std.specs.Prelude.{codes, is_some}
+use Rattle.std.proofs.Common.{◌≡◌, ℕ, zero, suc, ◌+◌, ◌-◌, ◌<◌, true, false, ◌||◌, cond, List, [], ◌∷◌, ◌++◌, length, drop, Some, None, Err, refl, sym, ap, ◌∙◌, subst, arith, append_assoc, length-append}
+use Rattle.std.specs.Prelude.{◌≢◌, codes, is_some, All}
 use Rattle.std.specs.List.{flat_map, AllByRecursion}
 use Rattle.std.proofs.lemmas.List.{append-nil}
+use Rattle.std.proofs.lemmas.List.Elements.{recursion_from_All}
 use Rattle.std.proofs.lemmas.Grind.{flat_map-append}
 use Rattle.kt_base.specs.Literals.{same}
 use Rattle.kt_history.specs.declared.event.Event.{Event}
@@ -13,13 +14,20 @@ use Rattle.kt_script.specs.declared.reread.CodecNo.{CodecNo}
 use Rattle.kt_script.specs.declared.reread.CodecNo.TheVariants as no
 use Rattle.kt_script.specs.Texts.{line, words, lines_text, line_words, session_line, told_session, told_sessions, event_line, last_text}
 use Rattle.kt_script.specs.Pieces.{cut}
-use Rattle.kt_script.specs.Outputs.{Stage, sessions, history, ended, stands, after, may_reply, rows_due, first_in, event_in, last_in, is_row, place_of, IsPlace, IsNoOutput}
-use Rattle.kt_script.specs.Reread.{place, StandsAt, Moves, NoReply, AreRowsRead, AreRepliesRead, AreSessionsRead, IsEndingRead}
+use Rattle.kt_script.specs.Outputs.{first_in, event_in, last_in, is_row, IsRowLine, HasOutput, IsPlace, IsNoOutput}
+use Rattle.kt_script.specs.Stages.{Stage, sessions, history, ended, stands, after, may_reply, begins_session, rows_due, MayStand, Goes}
+use Rattle.kt_script.specs.Places.{IsFault}
+use Rattle.kt_script.specs.Laws.{Fits64}
+use Rattle.kt_script.specs.Reread.{IsFaultFrom, StandsAt, Moves, NoReply, AreRowsRead, AreRepliesRead, AreSessionsRead, IsEndingRead}
 use Rattle.kt_script.proofs.Words.{told_more}
 use Rattle.kt_script.proofs.InLine.{join}
-use Rattle.kt_script.proofs.Moves.{then, line_more, line_refused}
+use Rattle.kt_script.proofs.Moves.{then, line_more, fault_behind, line_refused, rest_refused}
+use Rattle.kt_script.proofs.Cuts.{cut_end, some_piece}
+use Rattle.kt_script.proofs.Places.{same_kind}
+use Rattle.kt_script.proofs.Stages.{goes_has, has_goes}
+use Rattle.kt_script.proofs.StageLines.{fault_row}
 use Rattle.kt_script.proofs.ToldLines.{IsFirstOf, event_is, last_is}
-use Rattle.kt_script.proofs.ToldTexts.{no_place}
+use Rattle.kt_script.proofs.ToldTexts.{begins_own}
 
 -- one more at the end of a text of parts
 pub one_part : {A : Type 0} (f : A → List ℕ) (xs : List A) (x : A) → flat_map f xs ++ f x ≡ flat_map f (xs ++ x ∷ [])
@@ -31,12 +39,6 @@ all_more P xs x new is all here = subst (AllByRecursion P) (sym is) (join P xs (
 pub in_front : (text : List ℕ) (from to : Stage) (start at : ℕ) (front new : List ℕ) → front ≡ new → Moves text from start to at front → Moves text from start to at new
 in_front text from to start at front new is moves = subst (Moves text from start to at) is moves
 
--- how far a move goes
-pub how_far : (text : List ℕ) (from to : Stage) (start at : ℕ) (front : List ℕ) → start ≤ length text → Moves text from start to at front → start + length front ≡ at
-how_far text from to start at front within moves =
-    let e : length (drop start text) ≡ length front + length (drop at text) = ap length moves.bytes ∙ length-append front (drop at text) in
-    omega (arith, e, length-drop start text, length-drop at text, within, moves.within)
-
 module _ (text : List ℕ) where
   -- ---- rows
 
@@ -47,10 +49,16 @@ module _ (text : List ℕ) where
         in_front text (sessions n due) (sessions n (left - 1)) start (at + length l + 1) (flat_map line lines ++ line l) (flat_map line new) (one_part line lines l ∙ ap (flat_map line) (sym is))
         (line_more text (sessions n due) (sessions n left) start at (flat_map line lines) moves l (sessions n (left - 1)) here (ap (λ k. stands (sessions n k) l) e ∙ row) (ap (λ k. after (sessions n k) l) e))
 
-    pub row_refused : (l : List ℕ) → StandsAt text at l → 0 < left → is_row l ≡ false → place text (sessions n due) start ≡ Some at
-    row_refused l here some row =
+    row_due : (l : List ℕ) (m : ℕ) → 0 < left → IsFault IsRowLine l m → IsFault (MayStand (sessions n left)) l m
+    row_due l m some fault = let e : left ≡ suc (left - 1) = omega (arith, some) in subst (λ k. IsFault (MayStand (sessions n k)) l m) (sym e) (fault_row n (left - 1) l m fault)
+
+    pub row_refused : (l : List ℕ) (m : ℕ) → StandsAt text at l → 0 < left → is_row l ≡ false → IsFault IsRowLine l m → IsFaultFrom text (sessions n due) start (at + m)
+    row_refused l m here some row fault =
         let e : left ≡ suc (left - 1) = omega (arith, some) in
-        line_refused text (sessions n due) (sessions n left) start at (flat_map line lines) moves l (drop (at + length l + 1) text) here.parted (ap (λ k. stands (sessions n k) l) e ∙ row)
+        line_refused text (sessions n due) (sessions n left) start at (flat_map line lines) moves l m here (λ rest. refl) (ap (λ k. stands (sessions n k) l) e ∙ row) (row_due l m some fault)
+
+    pub row_missing : (rest : List ℕ) (m : ℕ) → rest ≡ drop at text → All (λ b. b ≢ 10) (drop at text) → 0 < left → IsFault IsRowLine rest m → IsFaultFrom text (sessions n due) start (at + m)
+    row_missing rest m is none some fault = rest_refused text (sessions n due) (sessions n left) start at (flat_map line lines) moves rest m is none (λ rest. refl) (row_due rest m some fault)
 
   -- ---- replies
 
@@ -58,8 +66,8 @@ module _ (text : List ℕ) where
     pub first_more : Moves text (sessions (suc n) 0) start (sessions (suc n) f.due) (at + length l + 1) (flat_map lines_text replies ++ line l)
     first_more =
         line_more text (sessions (suc n) 0) (sessions (suc n) 0) start at (flat_map lines_text replies) moves l (sessions (suc n) f.due) here
-        (ap (λ o. may_reply (suc n) o || (same l (session_line (suc (suc n))) || same l (codes "history"))) is)
-        (ap (λ o. cond (may_reply (suc n) o) (sessions (suc n) (rows_due o)) (cond (same l (session_line (suc (suc n)))) (sessions (suc (suc n)) 0) history)) is)
+        (ap (λ o. may_reply (suc n) o || (begins_session (suc n) l || same l (codes "history"))) is)
+        (ap (λ o. cond (may_reply (suc n) o) (sessions (suc n) (rows_due o)) (cond (begins_session (suc n) l) (sessions (suc (suc n)) 0) history)) is)
 
     pub reply_more : (next : ℕ) (lines : List (List ℕ)) (r : ReplyLine) (new : List ReplyLine) → Moves text (sessions (suc n) f.due) (at + length l + 1) (sessions (suc n) 0) next (flat_map line lines)
         → IsFirstOf l r lines → new ≡ replies ++ r ∷ [] → Moves text (sessions (suc n) 0) start (sessions (suc n) 0) next (flat_map lines_text new)
@@ -69,56 +77,62 @@ module _ (text : List ℕ) where
         (append_assoc (flat_map lines_text replies) (line l) (flat_map line lines) ∙ ap (λ xs. flat_map lines_text replies ++ xs) whole ∙ one_part lines_text replies r ∙ ap (flat_map lines_text) (sym new-is))
         (then text (sessions (suc n) 0) (sessions (suc n) f.due) start (at + length l + 1) (flat_map lines_text replies ++ line l) first_more (sessions (suc n) 0) next (flat_map line lines) later)
 
-    pub rows_refused : (offset : ℕ) → place text (sessions (suc n) f.due) (at + length l + 1) ≡ Some offset → place text (sessions (suc n) 0) start ≡ Some offset
-    rows_refused offset e = first_more.places ∙ e
+    pub rows_refused : (offset : ℕ) → IsFaultFrom text (sessions (suc n) f.due) (at + length l + 1) offset → IsFaultFrom text (sessions (suc n) 0) start offset
+    rows_refused offset e = fault_behind text (sessions (suc n) 0) (sessions (suc n) f.due) start (at + length l + 1) (flat_map lines_text replies ++ line l) first_more offset e
 
-  pub no_reply_here : (n at : ℕ) (l behind : List ℕ) → cut 10 (drop at text) ≡ l ∷ cut 10 behind → first_in l ≡ None → NoReply text n at
-  no_reply_here n at l behind here none other more e = by n
+  pub no_reply_here : (n at : ℕ) (l : List ℕ) → StandsAt text at l → first_in l ≡ None → NoReply text n at
+  no_reply_here n at l here none other there = by n
     where
       same_line : l ≡ other
-      same_line = let both : l ∷ cut 10 behind ≡ other ∷ more = sym here ∙ e in cc
+      same_line = let both : l ∷ cut 10 (drop (at + length l + 1) text) ≡ other ∷ cut 10 (drop (at + length other + 1) text) = sym here.parted ∙ there.parted in cc
 
       by : (n : ℕ) → may_reply n (first_in other) ≡ false
       by zero = refl
       by (suc n) = ap is_some (ap first_in (sym same_line) ∙ none)
 
+  pub no_reply_end : (n at : ℕ) → All (λ b. b ≢ 10) (drop at text) → NoReply text n at
+  no_reply_end n at none l here =
+      let some = some_piece 10 (drop (at + length l + 1) text) in
+      let both : drop at text ∷ [] ≡ l ∷ some.0 ∷ some.1 = sym (cut_end 10 (drop at text) (recursion_from_All (λ b. b ≢ 10) (drop at text) none)) ∙ here.parted ∙ ap (λ ps. l ∷ ps) some.2 in
+      absurd cc
+
   -- ---- sessions
 
   module _ (n at : ℕ) (xs : List (List ReplyLine)) (count : length xs ≡ n) (moves : Moves text (sessions 0 0) 0 (sessions n 0) at (told_sessions 1 xs)) (none : NoReply text n at) (l : List ℕ) (here : StandsAt text at l) where
     no_first : may_reply n (first_in l) ≡ false
-    no_first = none l (cut 10 (drop (at + length l + 1) text)) here.parted
+    no_first = none l here
 
-    session_first : same l (session_line (suc n)) ≡ true → Moves text (sessions 0 0) 0 (sessions (suc n) 0) (at + length l + 1) (told_sessions 1 xs ++ line l)
-    session_first is =
+    session_first : Fits64 (suc n) → same l (session_line (suc n)) ≡ true → Moves text (sessions 0 0) 0 (sessions (suc n) 0) (at + length l + 1) (told_sessions 1 xs ++ line l)
+    session_first fits is =
         line_more text (sessions 0 0) (sessions n 0) 0 at (told_sessions 1 xs) moves l (sessions (suc n) 0) here
-        (ap (λ b. b || (same l (session_line (suc n)) || same l (codes "history"))) no_first ∙ ap (λ b. b || same l (codes "history")) is)
-        (ap (λ b. cond b (sessions n (rows_due (first_in l))) (cond (same l (session_line (suc n))) (sessions (suc n) 0) history)) no_first ∙ ap (λ b. cond b (sessions (suc n) 0) history) is)
+        (ap (λ b. b || (begins_session n l || same l (codes "history"))) no_first ∙ ap (λ b. b || same l (codes "history")) (begins_own n l true fits is))
+        (ap (λ b. cond b (sessions n (rows_due (first_in l))) (cond (begins_session n l) (sessions (suc n) 0) history)) no_first ∙ ap (λ b. cond b (sessions (suc n) 0) history) (begins_own n l true fits is))
 
-    pub session_more : (next : ℕ) (rs : List ReplyLine) (new : List (List ReplyLine)) → same l (session_line (suc n)) ≡ true → l ≡ session_line (suc n)
+    pub session_more : (next : ℕ) (rs : List ReplyLine) (new : List (List ReplyLine)) → Fits64 (suc n) → same l (session_line (suc n)) ≡ true → l ≡ session_line (suc n)
         → Moves text (sessions (suc n) 0) (at + length l + 1) (sessions (suc n) 0) next (flat_map lines_text rs) → new ≡ xs ++ rs ∷ [] → Moves text (sessions 0 0) 0 (sessions (length new) 0) next (told_sessions 1 new)
-    session_more next rs new is l-is later new-is =
+    session_more next rs new fits is l-is later new-is =
         let longer : suc n ≡ length new = omega (arith, count, ap length new-is ∙ length-append xs (rs ∷ [])) in
         let number : suc n ≡ 1 + length xs = omega (arith, count) in
         let whole : line l ++ flat_map lines_text rs ≡ told_session (1 + length xs) rs = ap (λ x. line x ++ flat_map lines_text rs) (l-is ∙ ap session_line number) in
         subst (λ k. Moves text (sessions 0 0) 0 (sessions k 0) next (told_sessions 1 new)) longer
         (in_front text (sessions 0 0) (sessions (suc n) 0) 0 next ((told_sessions 1 xs ++ line l) ++ flat_map lines_text rs) (told_sessions 1 new)
         (append_assoc (told_sessions 1 xs) (line l) (flat_map lines_text rs) ∙ ap (λ ys. told_sessions 1 xs ++ ys) whole ∙ sym (told_more 1 xs rs) ∙ ap (told_sessions 1) (sym new-is))
-        (then text (sessions 0 0) (sessions (suc n) 0) 0 (at + length l + 1) (told_sessions 1 xs ++ line l) (session_first is) (sessions (suc n) 0) next (flat_map lines_text rs) later))
+        (then text (sessions 0 0) (sessions (suc n) 0) 0 (at + length l + 1) (told_sessions 1 xs ++ line l) (session_first fits is) (sessions (suc n) 0) next (flat_map lines_text rs) later))
 
-    pub session_refused : (offset : ℕ) → same l (session_line (suc n)) ≡ true → place text (sessions (suc n) 0) (at + length l + 1) ≡ Some offset → place text (sessions 0 0) 0 ≡ Some offset
-    session_refused offset is e = (session_first is).places ∙ e
+    pub session_refused : (offset : ℕ) → Fits64 (suc n) → same l (session_line (suc n)) ≡ true → IsFaultFrom text (sessions (suc n) 0) (at + length l + 1) offset → IsFaultFrom text (sessions 0 0) 0 offset
+    session_refused offset fits is e = fault_behind text (sessions 0 0) (sessions (suc n) 0) 0 (at + length l + 1) (told_sessions 1 xs ++ line l) (session_first fits is) offset e
 
-    pub history_first : same l (session_line (suc n)) ≡ false → same l (codes "history") ≡ true → l ≡ codes "history" → Moves text (sessions 0 0) 0 history (at + length l + 1) (told_sessions 1 xs ++ line (codes "history"))
-    history_first other is l-is =
+    pub history_first : Fits64 (suc n) → same l (session_line (suc n)) ≡ false → same l (codes "history") ≡ true → l ≡ codes "history" → Moves text (sessions 0 0) 0 history (at + length l + 1) (told_sessions 1 xs ++ line (codes "history"))
+    history_first fits other is l-is =
         in_front text (sessions 0 0) history 0 (at + length l + 1) (told_sessions 1 xs ++ line l) (told_sessions 1 xs ++ line (codes "history")) (ap (λ x. told_sessions 1 xs ++ line x) l-is)
         (line_more text (sessions 0 0) (sessions n 0) 0 at (told_sessions 1 xs) moves l history here
-        (ap (λ b. b || (same l (session_line (suc n)) || same l (codes "history"))) no_first ∙ ap (λ b. b || same l (codes "history")) other ∙ is)
-        (ap (λ b. cond b (sessions n (rows_due (first_in l))) (cond (same l (session_line (suc n))) (sessions (suc n) 0) history)) no_first ∙ ap (λ b. cond b (sessions (suc n) 0) history) other))
+        (ap (λ b. b || (begins_session n l || same l (codes "history"))) no_first ∙ ap (λ b. b || same l (codes "history")) (begins_own n l false fits other) ∙ is)
+        (ap (λ b. cond b (sessions n (rows_due (first_in l))) (cond (begins_session n l) (sessions (suc n) 0) history)) no_first ∙ ap (λ b. cond b (sessions (suc n) 0) history) (begins_own n l false fits other)))
 
-    pub neither_refused : same l (session_line (suc n)) ≡ false → same l (codes "history") ≡ false → place text (sessions 0 0) 0 ≡ Some at
-    neither_refused other is =
-        line_refused text (sessions 0 0) (sessions n 0) 0 at (told_sessions 1 xs) moves l (drop (at + length l + 1) text) here.parted
-        (ap (λ b. b || (same l (session_line (suc n)) || same l (codes "history"))) no_first ∙ ap (λ b. b || same l (codes "history")) other ∙ is)
+    pub neither_refused : (m : ℕ) → Fits64 (suc n) → same l (session_line (suc n)) ≡ false → same l (codes "history") ≡ false → IsFault (MayStand (sessions n 0)) l m → IsFaultFrom text (sessions 0 0) 0 (at + m)
+    neither_refused m fits other is fault =
+        line_refused text (sessions 0 0) (sessions n 0) 0 at (told_sessions 1 xs) moves l m here (λ rest. refl)
+        (ap (λ b. b || (begins_session n l || same l (codes "history"))) no_first ∙ ap (λ b. b || same l (codes "history")) (begins_own n l false fits other) ∙ is) fault
 
   -- ---- the history and the last line
 
@@ -134,8 +148,8 @@ module _ (text : List ℕ) where
         in_front text history ended start (at + length l + 1) (flat_map event_line events ++ line l) (flat_map event_line events ++ last_text end) (ap (λ x. flat_map event_line events ++ line x) (last_is l end is).0)
         (line_more text history history start at (flat_map event_line events) moves l ended here (ap (λ o. is_some o || is_some (last_in l)) none ∙ ap is_some is) (ap (λ o. cond (is_some o) history ended) none))
 
-    pub ending_refused : event_in l ≡ None → last_in l ≡ None → place text history start ≡ Some at
-    ending_refused none is = line_refused text history history start at (flat_map event_line events) moves l (drop (at + length l + 1) text) here.parted (ap (λ o. is_some o || is_some (last_in l)) none ∙ ap is_some is)
+    pub ending_refused : (m : ℕ) → event_in l ≡ None → last_in l ≡ None → IsFault (MayStand history) l m → IsFaultFrom text history start (at + m)
+    ending_refused m none is fault = line_refused text history history start at (flat_map event_line events) moves l m here (λ rest. refl) (ap (λ o. is_some o || is_some (last_in l)) none ∙ ap is_some is) fault
 
   -- ---- refusals that are handed on
 
@@ -144,20 +158,24 @@ module _ (text : List ℕ) where
   rows_err start at replies moves l here f is (no.Place offset) e = λ n. rows_refused n start at replies (moves n) l here f is offset (e (suc n))
   rows_err start at replies moves l here f is no.Memory e = tt
 
-  pub replies_err : (n at : ℕ) (xs : List (List ReplyLine)) → length xs ≡ n → Moves text (sessions 0 0) 0 (sessions n 0) at (told_sessions 1 xs) → NoReply text n at → (l : List ℕ) → StandsAt text at l → same l (session_line (suc n)) ≡ true
+  pub replies_err : (n at : ℕ) (xs : List (List ReplyLine)) → length xs ≡ n → Moves text (sessions 0 0) 0 (sessions n 0) at (told_sessions 1 xs) → NoReply text n at → (l : List ℕ) → StandsAt text at l → Fits64 (suc n) → same l (session_line (suc n)) ≡ true
       → (e : CodecNo) → AreRepliesRead text (at + length l + 1) (Err e) → AreSessionsRead text (Err e)
-  replies_err n at xs count moves none l here is (no.Place offset) e = session_refused n at xs count moves none l here offset is (e n)
-  replies_err n at xs count moves none l here is no.Memory e = tt
+  replies_err n at xs count moves none l here fits is (no.Place offset) e = session_refused n at xs count moves none l here offset fits is (e n)
+  replies_err n at xs count moves none l here fits is no.Memory e = tt
 
-  pub sessions_place : (e : CodecNo) → AreSessionsRead text (Err e) → IsPlace text e
-  sessions_place (no.Place offset) h = h
-  sessions_place no.Memory h = tt
+  pub ending_err : (at : ℕ) (front : List ℕ) → Moves text (sessions 0 0) 0 history at front → (e : CodecNo) → IsEndingRead text at (Err e) → AreSessionsRead text (Err e)
+  ending_err at front moves (no.Place offset) h = fault_behind text (sessions 0 0) history 0 at front moves offset h
+  ending_err at front moves no.Memory h = tt
 
-  pub ending_place : (at : ℕ) (front : List ℕ) → Moves text (sessions 0 0) 0 history at front → (e : CodecNo) → IsEndingRead text at (Err e) → IsPlace text e
-  ending_place at front moves (no.Place offset) h = moves.places ∙ h
-  ending_place at front moves no.Memory h = tt
+  -- ---- what is told of the whole text
+
+  pub place_told : (e : CodecNo) → AreSessionsRead text (Err e) → IsPlace text e
+  place_told (no.Place offset) h =
+      let far : h.far ≡ offset = omega (arith, h.offset_is) in
+      same_kind (Goes (sessions 0 0)) HasOutput text offset goes_has has_goes (subst (λ k. IsFault (Goes (sessions 0 0)) text k) far h.fault)
+  place_told no.Memory h = tt
 
   -- where a line is at fault, no output has the text
-  pub no_output : (e : CodecNo) → IsPlace text e → IsNoOutput text e
-  no_output (no.Place offset) h = λ out p. let none : place_of text ≡ None = ap place_of p.text_is ∙ no_place out p.holds in let both : ◌≡◌ {A = Option ℕ} (Some offset) None = sym h ∙ none in cc
+  pub no_output : (e : CodecNo) → AreSessionsRead text (Err e) → IsNoOutput text e
+  no_output (no.Place offset) h = λ out p. let all = has_goes text (out, p) in let none = h.none in absurd cc
   no_output no.Memory h = tt

@@ -102,7 +102,7 @@ numbers_told (n ∷ ns) all = ap (option_and_then (λ m. onto m (numbers_in (map
 
 -- ---- outcomes
 
-outcome_is : (w : List ℕ) (o : Outcome) → outcome_in w ≡ Some o → w ≡ outcome_word o
+pub outcome_is : (w : List ℕ) (o : Outcome) → outcome_in w ≡ Some o → w ≡ outcome_word o
 outcome_is w o e =
     word_case (λ x. w ≡ outcome_word x) w (codes "ok") Done _ o e (λ h. h)
     (λ f. word_case (λ x. w ≡ outcome_word x) w (codes "present") Present _ o f (λ h. h)

@@ -1,9 +1,8 @@
 -- The first word of a line below the columns: a session's, or that of a command.
-use Rattle.std.specs.Prelude.{ℕ, List, [], ◌∷◌, Option, Some, None, if◌then◌else◌, codes}
+use Rattle.std.specs.Prelude.{ℕ, List, [], ◌∷◌, Option, if◌then◌else◌, codes}
 use Rattle.std.specs.Option.{option_map, option_or}
 use Rattle.kt_base.specs.declared.chore.Chore.{Chore}
 use Rattle.kt_base.specs.declared.chore.Chore.TheVariants as chore
-use Rattle.kt_base.specs.Literals.{same}
 use Rattle.kt_script.specs.declared.leads.TheConstants.{JOBS}
 use Rattle.kt_script.specs.declared.leads.Word.{Word}
 use Rattle.kt_script.specs.declared.leads.Word.TheVariants as word

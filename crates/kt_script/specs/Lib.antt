@@ -13,6 +13,10 @@ pub mod Scripts
 pub mod Fit
 pub mod Spelled
 pub mod Print
+pub mod Places
 pub mod Outputs
+pub mod Lex
+pub mod OutForms
+pub mod Stages
 pub mod Reread
 pub mod Alike

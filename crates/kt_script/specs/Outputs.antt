@@ -1,5 +1,5 @@
--- Output texts with each row as its line: what has a text, and the first line that cannot stand where it does.
-use Rattle.std.specs.Prelude.{◌≡◌, ◌≢◌, ◌^◌, ℕ, ◌+◌, zero, suc, Bool, true, false, ◌||◌, List, [], ◌∷◌, length, map, All, Option, Some, None, Result, Ok, Err, is_some, nat_lt, if◌then◌else◌, codes}
+-- Output texts with each row as its line: what each line says, and which output has a text.
+use Rattle.std.specs.Prelude.{◌≡◌, ◌≢◌, ◌^◌, ℕ, Bool, true, List, [], ◌∷◌, length, map, All, Option, Some, None, is_some, nat_lt, if◌then◌else◌, codes}
 use Rattle.std.proofs.Common.{Bor}
 use Rattle.std.specs.Fmt.{decimal}
 use Rattle.std.specs.List.{list_all, AllByRecursion}
@@ -8,8 +8,6 @@ use Rattle.std.specs.Str.Parse.{digits_value}
 use Rattle.kt_base.specs.declared.cell.Kind.{Kind}
 use Rattle.kt_base.specs.declared.cell.Cell.{Cell}
 use Rattle.kt_base.specs.declared.cell.Cell.TheVariants as cell
-use Rattle.kt_base.specs.declared.literal.LiteralNo.{LiteralNo}
-use Rattle.kt_base.specs.declared.literal.LiteralNo.TheVariants as literal_no
 use Rattle.kt_base.specs.Literals.{same, value_in, fits, CellBytes}
 use Rattle.kt_history.specs.declared.change.Outcome.{Outcome}
 use Rattle.kt_history.specs.declared.change.Outcome.TheVariants.{Done, Present, Absent, Ignored}
@@ -26,8 +24,9 @@ use Rattle.kt_script.specs.declared.reread.Output.{Output}
 use Rattle.kt_script.specs.declared.reread.CodecNo.{CodecNo}
 use Rattle.kt_script.specs.declared.reread.CodecNo.TheVariants as no
 use Rattle.kt_script.specs.declared.out_lines.FirstLine.{FirstLine}
-use Rattle.kt_script.specs.Texts.{line_numbers, rows_in, session_line, told_text, event_numbers, output_text, seen}
+use Rattle.kt_script.specs.Texts.{line_numbers, rows_in, told_text, event_numbers, output_text, seen}
 use Rattle.kt_script.specs.Pieces.{cut, words_of}
+use Rattle.kt_script.specs.Places.{IsFault}
 use Rattle.kt_script.specs.Laws.{Fits64, Fits32, short_of_reply, short_of_event, LastFits, OutputFits}
 
 -- the text of an output
@@ -132,62 +131,9 @@ last_of_words (word ∷ more) = if same word (codes "tablet") then last_numbers 
 abbrev pub last_in : List ℕ → Option LastLine
 last_in text = if same text (codes "tablet stopped") then Some last.Stopped else last_of_words (cut 32 text)
 
--- whether what was read is a literal, of any kind
-abbrev pub IsFormed : Result Cell LiteralNo → Bool → Type 0
-IsFormed (Ok c) is = is ≡ true
-IsFormed (Err literal_no.Form) is = is ≡ false
-IsFormed (Err literal_no.Memory) is = ⊥
-IsFormed (Err other) is = is ≡ true
-
 -- one or more literals
 abbrev pub is_row : List ℕ → Bool
 is_row text = list_all (λ word. is_some (value_in word)) (words_of text)
-
--- ---- which line may stand where
-
--- Where a line stands: below so many sessions, with so many rows of the last reply still to come, in the history, or behind the last line.
-pub data Stage : Type 0 where
-  sessions : ℕ → ℕ → Stage
-  history : Stage
-  ended : Stage
-
--- a reply has a session above it
-abbrev pub may_reply : ℕ → Option FirstLine → Bool
-may_reply zero line = false
-may_reply (suc n) line = is_some line
-
-abbrev pub stands : Stage → List ℕ → Bool
-stands (sessions n (suc due)) text = is_row text
-stands (sessions n zero) text = may_reply n (first_in text) || (same text (session_line (suc n)) || same text (codes "history"))
-stands history text = is_some (event_in text) || is_some (last_in text)
-stands ended text = false
-
-abbrev pub rows_due : Option FirstLine → ℕ
-rows_due None = 0
-rows_due (Some line) = line.due
-
--- where the next line stands
-abbrev pub after : Stage → List ℕ → Stage
-after (sessions n (suc due)) text = sessions n due
-after (sessions n zero) text = if may_reply n (first_in text) then sessions n (rows_due (first_in text)) else (if same text (session_line (suc n)) then sessions (suc n) 0 else history)
-after history text = if is_some (event_in text) then history else ended
-after ended text = ended
-
--- what follows the last newline: nothing, behind the last line, and else bytes are missing
-abbrev pub rest_place : Stage → ℕ → List ℕ → Option ℕ
-rest_place ended at [] = None
-rest_place ended at (b ∷ bytes) = Some at
-rest_place stage at rest = Some (at + length rest)
-
--- the place of the first fault of some lines, the first of which begins at a place. The last piece is what follows the last newline
-abbrev pub place_from : Stage → ℕ → List (List ℕ) → Option ℕ
-place_from stage at [] = None
-place_from stage at (rest ∷ []) = rest_place stage at rest
-place_from stage at (text ∷ more ∷ pieces) = if stands stage text then place_from (after stage text) (at + length text + 1) (more ∷ pieces) else Some at
-
--- the place of the first fault of a text, if it is no output's
-abbrev pub place_of : List ℕ → Option ℕ
-place_of text = place_from (sessions 0 0) 0 (cut 10 text)
 
 -- ---- outputs that a program can hold
 
@@ -214,9 +160,13 @@ pub record IsTextOf (text : List ℕ) (out : Output) : Type 0 where
   pub holds : OutputHolds out
   pub text_is : text ≡ text_of out
 
--- the first fault is told by its place
+-- some output has the text
+abbrev pub HasOutput : List ℕ → Type 0
+HasOutput text = (out : Output) × IsTextOf text out
+
+-- the place is that of the first byte at which no output's text goes on, or the length where bytes are missing
 abbrev pub IsPlace : List ℕ → CodecNo → Type 0
-IsPlace text (no.Place offset) = place_of text ≡ Some offset
+IsPlace text (no.Place offset) = IsFault HasOutput text offset
 IsPlace text no.Memory = Unit {0}
 
 -- no output has the text

@@ -6,22 +6,25 @@
 //! operation in schema order, which is read as that script (`print::reading_law`). Each text that differs from it in the
 //! order of these names alone is read as that script too, and no other text is (`laws::order_law`). `print_output`
 //! appends the one text of the replies, the history and the last line, and `read_output` reads such a text again, with
-//! each row as its line, or tells the place of the first line that cannot stand where it does. The whole grammar stands
-//! in `specs/` as functions on lists of bytes. It stands on kt_base, kt_key, kt_schema and kt_history.
+//! each row as its line, or tells the first byte at which no output's text goes on. The whole grammar stands in `specs/`
+//! as functions on lists of bytes. It stands on kt_base, kt_key, kt_schema and kt_history.
 #![tactic(auto)]
 
 pub mod asked;
 pub mod columns;
 pub mod forms;
+pub mod fronts;
 pub mod head;
 pub mod laws;
 pub mod leads;
 pub mod least;
+pub mod lex;
 pub mod lists;
 pub mod named;
 pub mod names;
 pub mod number;
 pub mod operations;
+pub mod out_fronts;
 pub mod out_lines;
 pub mod output;
 pub mod print;

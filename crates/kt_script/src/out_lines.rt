@@ -1,20 +1,18 @@
 //! The lines of an output text, each read by itself.
 
-ghost use Rattle.std.specs.Prelude.{◌≡◌, ◌∷◌, [], IfOk, IfSome, IfNone, is_some, Some, None, if◌then◌else◌};
+ghost use Rattle.std.specs.Prelude.{◌≡◌, ◌∷◌, [], IfOk, IfSome, IfNone, Some, None, if◌then◌else◌};
 ghost use Rattle.std.specs.Option.{option_map};
-ghost use Rattle.kt_base.specs.Literals.{same, value_in};
+ghost use Rattle.kt_base.specs.Literals.{same};
 ghost use Rattle.kt_script.specs.Pieces.{cut};
 ghost use Rattle.kt_script.specs.Texts.{session_line};
-ghost use Rattle.kt_script.specs.Outputs.{pieces_in, numbers_in, outcome_in, outcomes_in, first_from, at_in, first_in, event_at, event_from, event_in, counted, last_numbers, last_in, is_row, IsFormed};
+ghost use Rattle.kt_script.specs.Outputs.{pieces_in, numbers_in, outcome_in, outcomes_in, first_from, at_in, first_in, event_at, event_from, event_in, counted, last_numbers, last_in};
 
 use crate::number::read_number;
 use crate::output::LastLine;
 use crate::replies::{LineList, ReplyLine};
 use crate::split::{after, cut_at};
-use crate::word::next_word;
 use itoa::Buffer;
-use kt_base::literal::{LiteralNo, read_literal};
-use kt_base::{Cell, Kind, NoMemory};
+use kt_base::NoMemory;
 use kt_history::{Event, Outcome, OutcomeList};
 use std::alloc::Global;
 
@@ -62,7 +60,8 @@ fn read_numbers(rest: Option<&[u8]>, numbers: &mut Vec<u64>) -> Result<bool, NoM
     Ok(true)
 }
 
-fn outcome_of(word: &[u8]) -> Option<Outcome>
+/// The outcome that a word says.
+pub fn outcome_of(word: &[u8]) -> Option<Outcome>
     ensures { result ≡ outcome_in word.now }
 {
     if word == b"ok".as_slice() {
@@ -321,38 +320,6 @@ pub fn last_of(line: &[u8]) -> Option<LastLine>
     } else {
         None
     }
-}
-
-// Whether what was read is a literal, of any kind.
-fn formed(read: &Result<Cell, LiteralNo>) -> Result<bool, NoMemory>
-    ensures { IfOk result (λ is. IsFormed read.now is) }
-{
-    match read {
-        Err(LiteralNo::Memory) => Err(NoMemory),
-        Err(LiteralNo::Form) => Ok(false),
-        _ => Ok(true),
-    }
-}
-
-fn is_literal(alloc: Global, word: &[u8]) -> Result<bool, NoMemory>
-    ensures { IfOk result (λ is. is ≡ is_some (value_in word.now)) }
-{
-    let read = read_literal(alloc, word, Kind::Bool);
-    formed(&read)
-}
-
-/// Whether a line is one or more literals.
-pub fn is_row(alloc: Global, line: &[u8]) -> Result<bool, NoMemory>
-    ensures { IfOk result (λ is. is ≡ is_row line.now) }
-{
-    let mut left = Some(line);
-    'words: while let Some((word, behind)) = next_word(left) {
-        if !is_literal(alloc, word)? {
-            return Ok(false);
-        }
-        left = behind;
-    }
-    Ok(true)
 }
 
 /// Whether a line begins the session of this number.

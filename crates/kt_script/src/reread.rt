@@ -5,13 +5,16 @@ ghost use Rattle.kt_script.specs.declared.reread.CodecNo.TheVariants.{Place};
 ghost use Rattle.kt_script.specs.Outputs.{IsTextOf, IsPlace, IsNoOutput};
 ghost use Rattle.kt_script.specs.Reread.{IsLineAt, with_rows, AreRowsRead, AreRepliesRead, AreSessionsRead, IsEndingRead};
 
-use crate::out_lines::{FirstLine, event_of, first_of, is_row, is_session, last_of};
+use crate::fronts::{is_row, row_front};
+use crate::out_fronts::{history_front, sessions_front};
+use crate::out_lines::{FirstLine, event_of, first_of, is_session, last_of};
 use crate::output::LastLine;
 use crate::replies::{LineList, ReplyLine, ReplyLineList, ReplyLines};
 use crate::split::cut_at;
 use kt_base::{NoMemory, Octets};
 use kt_history::{Event, EventList};
 use std::alloc::Global;
+use thiserror::Error;
 
 /// What an output text tells.
 #[derive(Debug, Drop)]
@@ -22,11 +25,13 @@ pub struct Output {
 }
 
 /// Why a text is not read.
-#[derive(Clone, Copy, Debug, PartialEq, Eq)]
+#[derive(Clone, Copy, Debug, PartialEq, Eq, Error)]
 pub enum CodecNo {
-    /// No output has the text: the first byte of the first line that cannot stand where it does, or the length of
-    /// the text where bytes are missing.
+    /// No output has the text: the first byte with which no output's text goes on from the bytes before it, or the
+    /// length of the text where bytes are missing.
+    #[error("no output has the text, which is at fault at byte {offset}")]
     Place { offset: u64 },
+    #[error("out of memory")]
     Memory,
 }
 
@@ -104,10 +109,11 @@ fn read_rows(alloc: Global, text: &[u8], start: usize, due: u64) -> Result<Rows,
     let mut left = due;
     while left > 0 {
         let Some(line) = line_at(text, at) else {
-            return Err(fault(text.len()));
+            let (_, rest) = text.split_at(at);
+            return Err(fault(at + row_front(rest)));
         };
-        if !is_row(alloc, line)? {
-            return Err(fault(at));
+        if !is_row(line) {
+            return Err(fault(at + row_front(line)));
         }
         let below = at + line.len() + 1;
         push(&mut lines, Octets::from_slice(alloc, line)?)?;
@@ -152,7 +158,7 @@ fn read_replies(
         push(&mut replies, with_rows(reply, lines))?;
         at = behind;
     }
-    Err(fault(text.len()))
+    Ok(Replies { replies, at })
 }
 
 fn read_sessions(alloc: Global, text: &[u8], numbers: &mut Vec<u64>) -> Result<Sessions, CodecNo>
@@ -178,10 +184,11 @@ fn read_sessions(alloc: Global, text: &[u8], numbers: &mut Vec<u64>) -> Result<S
                 at: below,
             });
         } else {
-            return Err(fault(at));
+            return Err(fault(at + sessions_front(line, sessions.len() as u64)));
         }
     }
-    Err(fault(text.len()))
+    let (_, rest) = text.split_at(at);
+    Err(fault(at + sessions_front(rest, sessions.len() as u64)))
 }
 
 fn read_ending(
@@ -209,15 +216,16 @@ fn read_ending(
                         last,
                         at: below,
                     }),
-                    None => Err(fault(at)),
+                    None => Err(fault(at + history_front(line))),
                 };
             }
         }
     }
-    Err(fault(text.len()))
+    let (_, rest) = text.split_at(at);
+    Err(fault(at + history_front(rest)))
 }
 
-/// The output that has a text. Where none has it, the place of the first fault is told.
+/// The output that has a text. Where none has it, the place is told at which the text stops being the front of one.
 pub fn read_output(alloc: Global, text: &[u8]) -> Result<Output, CodecNo>
     ensures found { IfOk result (λ out. IsTextOf text.now out) }
     ensures place { IfErr result (λ no. IsPlace text.now no) }

@@ -85,14 +85,14 @@ fn worked_outputs_are_read(rt: HostRuntime) -> Result<(), Fail> {
 #[test]
 fn faults_have_their_places(rt: HostRuntime) -> Result<(), Fail> {
     let alloc = rt.alloc();
-    let faulty: [(&[u8], u64); 13] = [
+    let faulty: [(&[u8], u64); 17] = [
         (b"", 0),
         (b"history\n", 8),
         (b"history\ntablet stopped", 22),
         (b"history\ntablet stopped\n\n", 23),
-        (b"session 2\nhistory\ntablet stopped\n", 0),
+        (b"session 2\nhistory\ntablet stopped\n", 8),
         (b"done\nhistory\ntablet stopped\n", 0),
-        (b"session 1\nat 04096 ok\nhistory\ntablet stopped\n", 10),
+        (b"session 1\nat 04096 ok\nhistory\ntablet stopped\n", 14),
         (
             b"session 1\nrows 8192 2\n1 \"a\"\nhistory\ntablet stopped\n",
             28,
@@ -103,11 +103,21 @@ fn faults_have_their_places(rt: HostRuntime) -> Result<(), Fail> {
         ),
         (
             b"session 1\nlarge 1026\nsession 3\nhistory\ntablet stopped\n",
-            21,
+            29,
         ),
-        (b"history\nbegin 4294967296 1 1 1\ntablet stopped\n", 8),
-        (b"history\nstop \ntablet stopped\n", 8),
-        (b"history\ntablet ahm 0 last 8192\n", 8),
+        (b"history\nbegin 4294967296 1 1 1\ntablet stopped\n", 23),
+        (b"history\nstop \ntablet stopped\n", 12),
+        (b"history\ntablet ahm 0 last 8192\n", 30),
+        (b"history\ntablet stoped\n", 19),
+        (
+            b"session 1\nahm 18446744073709551616\nhistory\ntablet stopped\n",
+            33,
+        ),
+        (b"session 1\ndonehistory\ntablet stopped\n", 14),
+        (
+            b"session 1\nrows 4096 1\n7 \"a\\x1g\"\nhistory\ntablet stopped\n",
+            29,
+        ),
     ];
     for (text, offset) in faulty {
         assert_eq!(rt; place(alloc, text)?, Some(offset));

@@ -1,4 +1,8 @@
-use Rattle.std.proofs.Common.{◌≡◌, Some, None, sym, ◌∙◌}
+use Rattle.std.proofs.Common.{◌≡◌, Some, None, refl, sym, ◌∙◌}
+use Rattle.std.specs.List.{flat_map}
+use Rattle.kt_script.specs.Texts.{event_line}
+use Rattle.kt_script.specs.Stages.{history}
+use Rattle.kt_script.proofs.Moves.{rest_refused}
 use Rattle.kt_script.specs.Outputs.{event_in, last_in, EventHolds}
 use Rattle.kt_script.proofs.ToldLines.{event_is, last_is}
 use Rattle.kt_script.proofs.Rereads.{event_more, last_more, ending_refused, all_more}
@@ -25,4 +29,8 @@ pub returns-in-None-last_of : goal.returns-in-None-last_of
 returns-in-None-last_of c =
     let l = c.in-Some.line.now in
     let none : event_in l ≡ None = sym c.in_ok-event.ensures ∙ c.in-None.is in
-    rw c.fault.ensures (ending_refused c.args.text.now c.args.start c.lines.at c.lines.events.items c.lines.invariant.moves l c.in-Some.ensures none (sym c.in-None-last_of.ensures))
+    rw c.fault.ensures (ending_refused c.args.text.now c.args.start c.lines.at c.lines.events.items c.lines.invariant.moves l c.in-Some.ensures c.history_front.result none (sym c.in-None-last_of.ensures) c.history_front.ensures)
+
+pub returns : goal.returns
+returns c =
+    rw c.fault-2.ensures (rest_refused c.args.text.now history history c.args.start c.lines.at (flat_map event_line c.lines.events.items) c.lines.invariant.moves c.split_at.result.1.now c.history_front-2.result c.split_at.ensures.back c.in_default.ensures (λ rest. refl) c.history_front-2.ensures)

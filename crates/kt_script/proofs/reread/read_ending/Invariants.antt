@@ -1,7 +1,8 @@
 use Rattle.std.proofs.Common.{◌-◌, length}
 use Rattle.std.specs.List.{flat_map, AllByRecursion}
 use Rattle.kt_script.specs.Texts.{event_line}
-use Rattle.kt_script.specs.Outputs.{history, EventHolds}
+use Rattle.kt_script.specs.Outputs.{EventHolds}
+use Rattle.kt_script.specs.Stages.{history}
 use Rattle.kt_script.specs.Reread.{Moves}
 use Rattle.kt_script.proofs.reread.read_ending.Given as goal
 

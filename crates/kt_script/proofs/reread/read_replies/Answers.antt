@@ -2,10 +2,12 @@ use Rattle.std.proofs.Common.{◌≡◌, ◌+◌, suc, Some, [], ◌∷◌, ◌+
 use Rattle.std.specs.List.{flat_map}
 use Rattle.kt_script.specs.declared.out_lines.FirstLine.{FirstLine}
 use Rattle.kt_script.specs.Texts.{line}
-use Rattle.kt_script.specs.Outputs.{sessions, first_in, LineHolds}
+use Rattle.kt_script.specs.Outputs.{first_in, LineHolds}
+use Rattle.kt_script.specs.Stages.{sessions}
 use Rattle.kt_script.specs.Reread.{with_rows}
 use Rattle.kt_script.proofs.ToldLines.{first_is}
-use Rattle.kt_script.proofs.Rereads.{reply_more, rows_err, all_more, how_far}
+use Rattle.kt_script.proofs.Moves.{how_far}
+use Rattle.kt_script.proofs.Rereads.{reply_more, rows_err, all_more}
 use Rattle.kt_script.proofs.reread.read_replies.Goals as goal
 
 pub line_at-requires : goal.line_at-requires
@@ -21,7 +23,7 @@ returns-in-Err c =
 pub replies-smaller : goal.replies-smaller
 replies-smaller c =
     let below = c.replies.at + length c.in-Some.line.now + 1 in
-    let far = how_far c.args.text.now (sessions 1 c.in-Some-2.field-0.due) (sessions 1 0) below c.in-Ok.rows.at (flat_map line c.in-Ok.rows.lines.items) c.in-Some.ensures.within (c.in-Ok.ensures.0 1) in
+    let far = how_far c.args.text.now (sessions 1 c.in-Some-2.field-0.due) (sessions 1 0) below c.in-Ok.rows.at (flat_map line c.in-Ok.rows.lines.items) (c.in-Ok.ensures.0 1) in
     omega (arith, far, c.in-Some.ensures.within)
 
 pub replies-preserved : goal.replies-preserved

@@ -1,7 +1,8 @@
 use Rattle.std.proofs.Common.{ℕ, suc, ◌-◌, length}
 use Rattle.std.specs.List.{flat_map, AllByRecursion}
 use Rattle.kt_script.specs.Texts.{lines_text}
-use Rattle.kt_script.specs.Outputs.{sessions, LineHolds}
+use Rattle.kt_script.specs.Outputs.{LineHolds}
+use Rattle.kt_script.specs.Stages.{sessions}
 use Rattle.kt_script.specs.Reread.{Moves}
 use Rattle.kt_script.proofs.reread.read_replies.Given as goal
 

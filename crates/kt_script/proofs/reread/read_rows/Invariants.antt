@@ -1,7 +1,8 @@
 use Rattle.std.proofs.Common.{◌≡◌, ℕ, ◌+◌, length}
 use Rattle.std.specs.List.{flat_map, AllByRecursion}
 use Rattle.kt_script.specs.Texts.{line}
-use Rattle.kt_script.specs.Outputs.{sessions, IsRowLine}
+use Rattle.kt_script.specs.Outputs.{IsRowLine}
+use Rattle.kt_script.specs.Stages.{sessions}
 use Rattle.kt_script.specs.Reread.{Moves}
 use Rattle.kt_script.proofs.reread.read_rows.Given as goal
 

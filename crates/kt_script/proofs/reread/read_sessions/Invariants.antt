@@ -1,7 +1,8 @@
 use Rattle.std.proofs.Common.{◌-◌, length}
 use Rattle.std.specs.List.{AllByRecursion}
 use Rattle.kt_script.specs.Texts.{told_sessions}
-use Rattle.kt_script.specs.Outputs.{sessions, LineHolds}
+use Rattle.kt_script.specs.Outputs.{LineHolds}
+use Rattle.kt_script.specs.Stages.{sessions}
 use Rattle.kt_script.specs.Reread.{Moves, NoReply}
 use Rattle.kt_script.proofs.reread.read_sessions.Given as goal
 

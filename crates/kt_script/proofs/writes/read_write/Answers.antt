@@ -1,7 +1,7 @@
-use Rattle.std.proofs.Common.{◌≡◌, ◌<◌, ◌∙◌, min, map, ap, sym, arith}
+use Rattle.std.proofs.Common.{◌<◌, ◌∙◌, min, map, ap, sym, arith}
 use Rattle.kt_history.specs.declared.operation.RowOp.{RowOp}
 use Rattle.kt_script.specs.Pieces.{words_in}
-use Rattle.kt_script.specs.Reasons.{sound, reason_if}
+use Rattle.kt_script.specs.Reasons.{reason_if}
 use Rattle.kt_script.specs.Writes.{ops_of, ops_no, many_no, twice}
 use Rattle.kt_script.proofs.OpWords.{write_least}
 use Rattle.kt_script.proofs.writes.read_write.Goals as goal
