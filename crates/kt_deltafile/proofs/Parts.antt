@@ -10,11 +10,12 @@ use Rattle.kt_history.specs.declared.changes.Delta.{Delta}
 use Rattle.kt_bytes.specs.Reading.{◌>>=◌, checked_at, many_at}
 use Rattle.kt_bytes.proofs.Numbers.{wide32, wide64}
 use Rattle.kt_records.specs.Rules.{EachAfter}
-use Rattle.kt_recordlaws.specs.Cells.{cell_list_fields, rising_cells_at}
+use Rattle.kt_records.specs.Fields.{cell_list_fields}
+use Rattle.kt_records.specs.Reading.{cells_at}
 use Rattle.kt_bytes.proofs.Formats.{Part}
 use Rattle.kt_bytes.proofs.Leaves.{same_reader, Passes, number_fields, number_part, byte_at_front, code_fields, code_part}
 use Rattle.kt_bytes.proofs.Joins.{both_part, same_part, made_at, made_part, made_as, given_part, many_part, concat_items}
-use Rattle.kt_recordlaws.proofs.Cells.{CellListFits, rising_cells_part, cell_list_spelled}
+use Rattle.kt_records.proofs.Cells.{CellListFits, cells_part, cell_list_spelled}
 use Rattle.kt_deltafile.specs.declared.file.Way.{Way}
 use Rattle.kt_deltafile.specs.declared.file.Way.TheVariants.{Redo, Undo}
 use Rattle.kt_deltafile.specs.File.{FileView}
@@ -85,8 +86,8 @@ listed_fields (Upd cells) = cell_list_fields cells
 listed_fields Del = []
 
 abbrev listed_at : Tag → List ℕ → Result (Change × List ℕ) ℕ
-listed_at IsIns bytes = made_at rising_cells_at Ins bytes
-listed_at IsUpd bytes = made_at rising_cells_at Upd bytes
+listed_at IsIns bytes = made_at cells_at Ins bytes
+listed_at IsUpd bytes = made_at cells_at Upd bytes
 listed_at IsDel bytes = Ok (Del, bytes)
 
 abbrev listed_in : Change → List (ℕ × Cell)
@@ -101,13 +102,13 @@ no_cells : CellListFits []
 no_cells = record { count = omega arith; each = tt }
 
 listed_part : (tag : Tag) → Part (listed_at tag) listed_fields (IsOf tag)
-listed_part IsIns = made_as rising_cells_at cell_list_fields CellListFits Ins listed_in listed_fields (IsOf IsIns) (λ cells f. refl) (λ cells f. (f, refl)) from (λ cells f. refl) rising_cells_part
+listed_part IsIns = made_as cells_at cell_list_fields CellListFits Ins listed_in listed_fields (IsOf IsIns) (λ cells f. refl) (λ cells f. (f, refl)) from (λ cells f. refl) cells_part
   where
     from : (c : Change) → IsOf IsIns c → CellListFits (listed_in c) × (Ins (listed_in c) ≡ c)
     from (Ins cells) f = (f.0, refl)
     from (Upd cells) f = let bad : IsUpd ≡ IsIns = f.1 in absurd cc
     from Del f = let bad : IsDel ≡ IsIns = f.1 in absurd cc
-listed_part IsUpd = made_as rising_cells_at cell_list_fields CellListFits Upd listed_in listed_fields (IsOf IsUpd) (λ cells f. refl) (λ cells f. (f, refl)) from (λ cells f. refl) rising_cells_part
+listed_part IsUpd = made_as cells_at cell_list_fields CellListFits Upd listed_in listed_fields (IsOf IsUpd) (λ cells f. refl) (λ cells f. (f, refl)) from (λ cells f. refl) cells_part
   where
     from : (c : Change) → IsOf IsUpd c → CellListFits (listed_in c) × (Upd (listed_in c) ≡ c)
     from (Ins cells) f = let bad : IsIns ≡ IsUpd = f.1 in absurd cc

@@ -7,7 +7,7 @@ use Rattle.kt_history.specs.declared.change.Change.{Change}
 use Rattle.kt_history.specs.declared.change.Change.TheVariants.{Ins, Upd, Del}
 use Rattle.kt_history.specs.declared.changes.Delta.{Delta}
 use Rattle.kt_bytes.specs.Reading.{◌>>=◌, checked_at, many_at, with_offset}
-use Rattle.kt_recordlaws.specs.Cells.{rising_cells_at}
+use Rattle.kt_records.specs.Reading.{cells_at}
 use Rattle.kt_deltafile.specs.declared.file.Way.{Way}
 use Rattle.kt_deltafile.specs.declared.file.Way.TheVariants.{Redo, Undo}
 use Rattle.kt_deltafile.specs.File.{FileView}
@@ -64,10 +64,10 @@ unfoldable pub change_at : Way → List ℕ → Result (Change × List ℕ) ℕ
 change_at way [] = Err 0
 change_at way (zero ∷ rest) = Err (suc (length rest))
 change_at way (suc zero ∷ rest) = if may_insert way then (do
-  cells ← rising_cells_at rest
+  cells ← cells_at rest
   Ok (Ins cells.0, cells.1)) else Err (suc (length rest))
 change_at way (suc (suc zero) ∷ rest) = do
-  cells ← rising_cells_at rest
+  cells ← cells_at rest
   Ok (Upd cells.0, cells.1)
 change_at way (suc (suc (suc zero)) ∷ rest) = Ok (Del, rest)
 change_at way (suc (suc (suc (suc b))) ∷ rest) = Err (suc (length rest))

@@ -10,12 +10,12 @@ ghost use Rattle.kt_deltafile.specs.Spelling.{spelling};
 ghost use Rattle.kt_deltafile.specs.Fields.{Spelled};
 ghost use Rattle.kt_deltafile.specs.Reading.{is_ordinal, is_ts, may_hold, is_ktd1, change_at, record_at, way_at, body_at, file_at, whole_at, file_of};
 
-use crate::cell_reading::cells_of;
 use crate::file::{DeltaFile, Way};
 use crate::order::{is_ordinal, is_ts};
 use kt_bytes::fields::{fault_at, u32_at, u64_at};
 use kt_bytes::{CodecNo, Stop};
 use kt_history::{Change, Delta, DeltaList};
+use kt_records::cell_lists::cells_of;
 use std::alloc::Global;
 
 /// The letters KTD1, as a number.

@@ -1,5 +1,5 @@
 -- A change read from its bytes, and its bytes after a change of its first fields.
-use Rattle.std.proofs.Common.{◌≡◌, ℕ, ◌+◌, ◌-◌, ◌^◌, ◌≤◌, List, [], ◌∷◌, ◌++◌, length, take, drop, Ok, refl, sym, ap, ◌∙◌, arith, length-append}
+use Rattle.std.proofs.Common.{◌≡◌, ℕ, ◌+◌, ◌-◌, ◌≤◌, List, [], ◌∷◌, ◌++◌, length, take, drop, Ok, refl, sym, ap, ◌∙◌, arith, length-append}
 use Rattle.std.specs.List.{flat_map, sum_by}
 use Rattle.std.specs.Int.{w16, to_le_bytes}
 use Rattle.std.proofs.lemmas.List.{append-nil, drop-take, get_or-take}
@@ -14,11 +14,8 @@ use Rattle.kt_history.specs.Operations.{cell_len}
 use Rattle.std.proofs.lemmas.List.Concat.{flat_map-cons}
 use Rattle.std.proofs.lemmas.List.Sums.{sum_by-cons}
 use Rattle.kt_records.specs.Spelling.{cell, listed_cell, cell_list}
-use Rattle.kt_records.specs.Rules.{FollowingCell}
-use Rattle.kt_records.specs.Reading.{listed_cell_at, cells_at}
-use Rattle.kt_bytes.proofs.Numbers.{wide16, number_again}
-use Rattle.kt_records.proofs.Cells.{listed_cell_again}
-use Rattle.kt_records.proofs.Items.{all_again}
+use Rattle.kt_records.specs.Reading.{cells_at}
+use Rattle.kt_records.proofs.Cells as listed
 use Rattle.kt_pool.specs.Contents.{Contents, bytes_at, overwritten}
 use Rattle.kt_tree.proofs.Places.{bytes_some}
 use Rattle.kt_memrowset.specs.declared.link.Head.{Head}
@@ -62,10 +59,7 @@ head_again h cells f =
 
 -- and so are the cells
 pub cells_again : (cells : Row) → CellsFit cells → cells_at (cell_list cells) ≡ Ok (cells, [])
-unfolding cells_at
-cells_again cells fits =
-    let regrouped : cell_list cells ≡ to_le_bytes w16 (length cells) ++ (flat_map listed_cell cells ++ []) = ap (λ r. to_le_bytes w16 (length cells) ++ r) (sym (append-nil (flat_map listed_cell cells))) in
-    ap cells_at regrouped ∙ rw (number_again w16 (2 ^ 16) wide16 (length cells) (flat_map listed_cell cells ++ []) fits.count) (all_again listed_cell_at listed_cell FollowingCell listed_cell_again cells [] fits.each)
+cells_again cells fits = ap cells_at (sym (append-nil (cell_list cells))) ∙ listed.cells_again cells [] (record { count = fits.count; each = fits.each })
 
 pub rest_is : (h : Head) (cells : Row) → drop 21 (spelling h cells) ≡ cell_list cells
 rest_is h cells = refl

@@ -1,5 +1,6 @@
 pub mod Spelling
 pub mod Rules
+pub mod Fields
 pub mod Numbers
 pub mod Reading
 pub mod Tail

@@ -1,7 +1,8 @@
--- Reading a record from left to right. A fault is told by how many bytes stand from its place to the end:
--- none where bytes are missing, and all from its first byte on where a field is wrong.
-use Rattle.std.specs.Prelude.{◌≡◌, ℕ, zero, suc, ◌-◌, Bool, true, false, List, [], ◌∷◌, ◌++◌, length, take, drop, Result, Ok, Err, nat_lt, ◌==◌, if◌then◌else◌}
-use Rattle.std.specs.Int.{Width, w16, w32, w64, byte_len, from_le_bytes, cast_signed}
+-- How the reader goes over a record, from left to right, up to the first fault. The fields of a record tell the place of
+-- a fault by themselves; these are the steps that find it. A fault is told by how many bytes stand from its place to the
+-- end: none where bytes are missing, and all from its first byte on where a field is wrong.
+use Rattle.std.specs.Prelude.{ℕ, zero, suc, ◌+◌, ◌-◌, ◌^◌, Bool, true, false, not, ◌&&◌, ◌||◌, List, [], ◌∷◌, length, Result, Ok, Err, nat_le, ◌==◌, if◌then◌else◌}
+use Rattle.std.specs.Int.{w16, w32, w64, cast_signed}
 use Rattle.kt_base.specs.declared.cell.Cell.{Cell}
 use Rattle.kt_base.specs.declared.cell.Cell.TheVariants as cells
 use Rattle.kt_history.specs.declared.change.Outcome.{Outcome}
@@ -14,7 +15,7 @@ use Rattle.kt_history.specs.declared.target.Target.TheVariants as stores
 use Rattle.kt_records.specs.declared.entry.CommitRow.{CommitRow}
 use Rattle.kt_records.specs.declared.entry.Entry.{Entry}
 use Rattle.kt_records.specs.declared.entry.Entry.TheVariants.{Replicate, Commit}
-use Rattle.kt_bytes.specs.Reading.{◌>>=◌, number_at, bytes_at, counted_at, many_at, with_offset}
+use Rattle.kt_bytes.specs.Reading.{◌>>=◌, number_at, checked_at, bytes_at, counted_at, many_at, with_offset}
 use Rattle.kt_records.specs.Rules.{next_id, may_list, has_key, may_change, may_hold}
 
 unfoldable pub flag_at : List ℕ → Result (Bool × List ℕ) ℕ
@@ -37,25 +38,28 @@ cell_at (suc (suc (suc zero)) ∷ rest) = do
   Ok (cells.Bytes text.0, text.1)
 cell_at (suc (suc (suc (suc b))) ∷ rest) = Err (suc (length rest))
 
--- an id above those before it, and its cell
-unfoldable pub listed_cell_at : List (ℕ × Cell) → List ℕ → Result ((ℕ × Cell) × List ℕ) ℕ
-listed_cell_at front bytes = do
-  id ← number_at w16 bytes
-  if nat_lt id.0 (next_id front) then Err (length bytes) else do
-    c ← cell_at id.1
-    Ok ((id.0, c.0), c.1)
+-- an id of a list of n cells, above those before it, that leaves ids for the cells behind it
+abbrev pub is_next_id : ℕ → List (ℕ × Cell) → ℕ → Bool
+is_next_id n front id = nat_le (next_id front) id && nat_le (id + (n - length front)) (2 ^ 16)
+
+-- such an id, and its cell
+unfoldable pub listed_cell_at : ℕ → List (ℕ × Cell) → List ℕ → Result ((ℕ × Cell) × List ℕ) ℕ
+listed_cell_at n front bytes = do
+  id ← checked_at w16 (is_next_id n front) bytes
+  c ← cell_at id.1
+  Ok ((id.0, c.0), c.1)
 
 -- cells by rising id behind their count
 unfoldable pub cells_at : List ℕ → Result (List (ℕ × Cell) × List ℕ) ℕ
 cells_at bytes = do
   n ← number_at w16 bytes
-  many_at listed_cell_at n.0 [] n.1
+  many_at (listed_cell_at n.0) n.0 [] n.1
 
 -- the cells of an operation of this kind
 unfoldable pub cell_list_at : OpKind → List ℕ → Result (List (ℕ × Cell) × List ℕ) ℕ
 cell_list_at kind bytes = do
-  n ← number_at w16 bytes
-  if may_list kind n.0 then many_at listed_cell_at n.0 [] n.1 else Err (length bytes)
+  n ← checked_at w16 (may_list kind) bytes
+  many_at (listed_cell_at n.0) n.0 [] n.1
 
 unfoldable pub kind_at : List ℕ → Result (OpKind × List ℕ) ℕ
 kind_at [] = Err 0
@@ -69,10 +73,14 @@ kind_at (suc (suc (suc (suc (suc (suc zero))))) ∷ rest) = Ok (UpdateIgnore, re
 kind_at (suc (suc (suc (suc (suc (suc (suc zero)))))) ∷ rest) = Ok (DeleteIgnore, rest)
 kind_at (suc (suc (suc (suc (suc (suc (suc (suc b))))))) ∷ rest) = Err (suc (length rest))
 
+-- the length of a key that can stand behind these operations: one of them may have the empty key already
+abbrev pub is_key_len : List RowOp → ℕ → Bool
+is_key_len front len = not (len == 0) || not (has_key front [])
+
 -- a key that none of these operations has
 unfoldable pub new_key_at : List RowOp → List ℕ → Result (List ℕ × List ℕ) ℕ
 new_key_at front bytes = do
-  n ← number_at w16 bytes
+  n ← checked_at w16 (is_key_len front) bytes
   key ← bytes_at n.0 n.1
   if has_key front key.0 then Err (length n.1) else Ok key
 
@@ -117,10 +125,9 @@ commit_row_at bytes = do
 unfoldable pub replicate_at : List ℕ → Result (Entry × List ℕ) ℕ
 replicate_at bytes = do
   ts ← number_at w64 bytes
-  n ← number_at w16 ts.1
-  if may_hold n.0 then (do
-    ops ← many_at operation_at n.0 [] n.1
-    Ok (Replicate ts.0 ops.0, ops.1)) else Err (length ts.1)
+  n ← checked_at w16 may_hold ts.1
+  ops ← many_at operation_at n.0 [] n.1
+  Ok (Replicate ts.0 ops.0, ops.1)
 
 unfoldable pub commit_at : List ℕ → Result (Entry × List ℕ) ℕ
 commit_at bytes = do
@@ -142,6 +149,6 @@ whole_at bytes = do
   entry ← entry_at bytes
   if length entry.1 == 0 then Ok entry.0 else Err (length entry.1)
 
--- the record that all of the bytes spell, or the offset of the first fault
+-- the record that all of the bytes spell, or the offset of their first fault
 abbrev pub record_of : List ℕ → Result Entry ℕ
 record_of bytes = with_offset (length bytes) (whole_at bytes)

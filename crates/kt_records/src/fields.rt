@@ -3,14 +3,14 @@
 //! Each function gives the field and the bytes after it, or `Stop::Left` with how many bytes stand from the fault to the
 //! end: none where bytes are missing, and all from the field's first byte on where the field is wrong.
 ghost use Rattle.std.specs.Prelude.{◌≡◌};
-ghost use Rattle.std.specs.Int.{w32};
+ghost use Rattle.std.specs.Int.{w16, w32};
 ghost use Rattle.kt_records.specs.Rules.{has_key};
-ghost use Rattle.kt_bytes.specs.Reading.{Gives, counted_at};
-ghost use Rattle.kt_records.specs.Reading.{flag_at, cell_at, kind_at, new_key_at, outcome_at, target_at};
+ghost use Rattle.kt_bytes.specs.Reading.{Gives, checked_at, counted_at};
+ghost use Rattle.kt_records.specs.Reading.{flag_at, cell_at, kind_at, is_key_len, new_key_at, outcome_at, target_at};
 
 use kt_base::{Cell, Octets};
 use kt_bytes::Stop;
-use kt_bytes::fields::{front_of, u16_at, u32_at, u64_at};
+use kt_bytes::fields::{fault_at, front_of, u16_at, u32_at, u64_at};
 use kt_history::{OpKind, Outcome, RowOp, Target};
 use std::alloc::Global;
 
@@ -83,6 +83,24 @@ fn is_taken(ops: &[RowOp], key: &[u8]) -> bool
     ops.iter().any(|op| op.key.as_slice().cmp(&key).is_eq())
 }
 
+/// The length of a key that can stand behind these operations.
+fn is_key_len(front: &[RowOp], len: u16) -> bool
+    ensures { result ≡ is_key_len front.now len }
+{
+    len != 0 || !is_taken(front, &[])
+}
+
+fn key_len_of<'a>(front: &[RowOp], bytes: &'a [u8]) -> Result<(u16, &'a [u8]), Stop>
+    ensures { Gives (λ x. (x.0, x.1.now)) result (checked_at w16 (is_key_len front.now) bytes.now) }
+{
+    let (len, rest) = u16_at(bytes)?;
+    if is_key_len(front, len) {
+        Ok((len, rest))
+    } else {
+        fault_at(bytes)
+    }
+}
+
 /// A key behind its length, which none of the operations in front has.
 #[tactic(auto, unfolding(crate::specs::Reading::new_key_at))]
 pub fn new_key_of<'a>(
@@ -92,10 +110,10 @@ pub fn new_key_of<'a>(
 ) -> Result<(Octets, &'a [u8]), Stop>
     ensures { Gives (λ x. (x.0, x.1.now)) result (new_key_at front.now bytes.now) }
 {
-    let (len, rest) = u16_at(bytes)?;
+    let (len, rest) = key_len_of(front, bytes)?;
     let (key, after) = front_of(rest, len as usize)?;
     if is_taken(front, key) {
-        return Err(Stop::Left(rest.len()));
+        return fault_at(rest);
     }
     Ok((Octets::from_slice(alloc, key)?, after))
 }

@@ -9,7 +9,7 @@ use crate::entry::{CommitRow, TargetList};
 use crate::fields::{kind_of, new_key_of, outcome_of, target_of};
 use kt_base::Cells;
 use kt_bytes::Stop;
-use kt_bytes::fields::u16_at;
+use kt_bytes::fields::{fault_at, u16_at};
 use kt_history::{OpKind, Outcome, RowOp};
 use std::alloc::Global;
 
@@ -28,7 +28,7 @@ fn cell_list_of(alloc: Global, kind: OpKind, bytes: &[u8]) -> Result<(Cells, &[u
 {
     let (count, rest) = u16_at(bytes)?;
     if !lists(kind, count) {
-        return Err(Stop::Left(bytes.len()));
+        return fault_at(bytes);
     }
     let (cells, rest) = counted_cells_of(alloc, count, rest)?;
     Ok((Cells::of(cells), rest))

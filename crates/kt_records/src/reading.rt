@@ -3,12 +3,14 @@ ghost use Rattle.std.specs.Prelude.{◌≡◌, IfOk, Ok};
 ghost use Rattle.kt_records.specs.declared.entry.Entry.{Entry};
 ghost use Rattle.kt_records.specs.Spelling.{spelling};
 ghost use Rattle.kt_records.specs.Rules.{KeepsRules, may_hold};
-ghost use Rattle.kt_bytes.specs.Reading.{Gives, Answers};
+ghost use Rattle.kt_bytes.specs.Places.{IsFault};
+ghost use Rattle.kt_bytes.specs.Reading.{Gives, Answers, IfPlace};
+ghost use Rattle.kt_records.specs.Fields.{Spelled};
 ghost use Rattle.kt_records.specs.Reading.{replicate_at, commit_at, entry_at, whole_at, record_of};
 
 use crate::entry::{CommitRows, Entry};
 use crate::lists::{commit_rows_of, operations_of};
-use kt_bytes::fields::{u16_at, u64_at};
+use kt_bytes::fields::{fault_at, u16_at, u64_at};
 use kt_bytes::{CodecNo, Stop};
 use kt_history::OpList;
 use std::alloc::Global;
@@ -26,7 +28,7 @@ fn replicate_of(alloc: Global, bytes: &[u8]) -> Result<(Entry, &[u8]), Stop>
     let (ts, after) = u64_at(bytes)?;
     let (count, rest) = u16_at(after)?;
     if !holds(count) {
-        return Err(Stop::Left(after.len()));
+        return fault_at(after);
     }
     let (ops, rest) = operations_of(alloc, count, rest)?;
     let ops = OpList::of(ops);
@@ -82,7 +84,9 @@ pub fn read_record(alloc: Global, bytes: &[u8]) -> Result<Entry, CodecNo>
     ensures found { IfOk result (λ entry. KeepsRules entry × (bytes.now ≡ spelling entry)) }
     // What is spelled so is read, unless memory runs out.
     ensures only { (entry : Entry) → KeepsRules entry → bytes.now ≡ spelling entry → Answers result (Ok entry) }
-    // Which fault it is.
+    // Where the first fault is: the spellings alone tell it.
+    ensures place { IfPlace result (IsFault Spelled bytes.now) }
+    // How the reader finds it.
     ensures exact { Answers result (record_of bytes.now) }
 {
     record_from(alloc, bytes)

@@ -1,6 +1,7 @@
 use kt_base::{Cell, Cells, Octets};
 use kt_history::{OpKind, OpList, Outcome, RowOp, Target};
 use kt_records::{CodecNo, CommitRow, CommitRows, Entry, TargetList, read_record, spell};
+use std::mem::size_of;
 use std::test::Fail;
 
 const REPLICATE: [u8; 32] = [
@@ -137,5 +138,96 @@ fn an_ignored_operation_has_no_target(rt: HostRuntime) -> Result<(), Fail> {
             Err(CodecNo::Place { offset: 11 })
         )
     );
+    Ok(())
+}
+
+#[test]
+fn an_id_that_leaves_none_behind_it_is_at_fault_itself(rt: HostRuntime) -> Result<(), Fail> {
+    let alloc = rt.alloc();
+    // An insert without a key, of two cells of which the first has the last id.
+    let mut bytes = [
+        1, 0, 16, 0, 0, 0, 0, 0, 0, 1, 0, 1, 0, 0, 2, 0, 255, 255, 0, 255, 255, 0,
+    ];
+    let read = read_record(alloc, &bytes);
+    assert!(rt; matches!(read, Err(CodecNo::Place { offset: 16 })));
+    // The last id but one leaves one.
+    bytes[16] = 254;
+    assert!(rt; is_spelled_again(alloc, &bytes)?);
+    Ok(())
+}
+
+#[test]
+fn a_second_empty_key_is_at_fault_at_its_length(rt: HostRuntime) -> Result<(), Fail> {
+    let alloc = rt.alloc();
+    // Two deletes, neither with a key.
+    let bytes = [
+        1, 0, 16, 0, 0, 0, 0, 0, 0, 2, 0, 4, 0, 0, 0, 0, 4, 0, 0, 0, 0,
+    ];
+    let read = read_record(alloc, &bytes);
+    assert!(rt; matches!(read, Err(CodecNo::Place { offset: 17 })));
+    // Where the second has one, its key is read.
+    let other = [
+        1, 0, 16, 0, 0, 0, 0, 0, 0, 2, 0, 4, 0, 0, 0, 0, 4, 1, 0, 97, 0, 0,
+    ];
+    assert!(rt; is_spelled_again(alloc, &other)?);
+    Ok(())
+}
+
+// A COMMIT of so many operations that were refused, of two bytes each.
+fn refused_operations(alloc: std::alloc::Global, count: u16) -> Result<Vec<u8>, Fail> {
+    let mut bytes = vec![in alloc; 2, 0, 16, 0, 0, 0, 0, 0, 0]?;
+    bytes.extend_from_slice(&count.to_le_bytes())?;
+    for _ in 0..count {
+        bytes.extend_from_slice(&[1, 0])?;
+    }
+    Ok(bytes)
+}
+
+#[test]
+fn a_commit_is_held_in_thirty_two_times_its_bytes(rt: HostRuntime) -> Result<(), Fail> {
+    let alloc = rt.alloc();
+    // A vector that grew to the first of them would have room for twice its rows; the second is the most.
+    for count in [32_769, 65_535] {
+        let bytes = refused_operations(alloc, count)?;
+        let Ok(Entry::Commit { rows, .. }) = read_record(alloc, &bytes) else {
+            return Err("not read".into());
+        };
+        let rows = rows.into_vec();
+        let held = rows.capacity().saturating_mul(size_of::<CommitRow>());
+        assert_eq!(rt; rows.len(), usize::from(count));
+        assert!(rt; held <= bytes.len().saturating_mul(32));
+    }
+    Ok(())
+}
+
+// The room of some operations, with their keys and cells. A vector that grew has room for at most twice its items.
+fn room_of(ops: &[RowOp]) -> usize {
+    let mut items = ops.len().saturating_mul(size_of::<RowOp>());
+    for op in ops {
+        let cells = op.cells.len().saturating_mul(size_of::<(u16, Cell)>());
+        items = items.saturating_add(op.key.len()).saturating_add(cells);
+    }
+    items.saturating_mul(2)
+}
+
+#[test]
+fn a_replicate_is_held_in_thirty_two_times_its_bytes(rt: HostRuntime) -> Result<(), Fail> {
+    let alloc = rt.alloc();
+    // An insert without a key, of 32,769 cells that are null.
+    let mut bytes = vec![in alloc; 1, 0, 16, 0, 0, 0, 0, 0, 0, 1, 0, 1, 0, 0, 1, 128]?;
+    for id in 0..32_769_u16 {
+        bytes.extend_from_slice(&id.to_le_bytes())?;
+        bytes.push(0)?;
+    }
+    let Ok(Entry::Replicate { ops, .. }) = read_record(alloc, &bytes) else {
+        return Err("not read".into());
+    };
+    assert!(rt; room_of(ops.as_slice()) <= bytes.len().saturating_mul(32));
+    // Counts that the bytes do not hold: 64 operations, the first of 65,535 cells.
+    let few = [
+        1, 0, 16, 0, 0, 0, 0, 0, 0, 64, 0, 1, 0, 0, 255, 255, 0, 0, 0, 1, 0, 0,
+    ];
+    let read = read_record(alloc, &few);
+    assert!(rt; matches!(read, Err(CodecNo::Place { offset: 22 })));
     Ok(())
 }

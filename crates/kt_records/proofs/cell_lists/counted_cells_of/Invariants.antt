@@ -4,4 +4,4 @@ use Rattle.kt_records.specs.Reading.{listed_cell_at}
 use Rattle.kt_records.proofs.cell_lists.counted_cells_of.Given as goal
 
 abbrev pub invariant-cells : goal.invariant-cells
-invariant-cells l = many_at listed_cell_at (l.count - l.counter) l.cells.items l.rest ≡ many_at listed_cell_at l.count [] l.bytes
+invariant-cells l = many_at (listed_cell_at l.count) (l.count - l.counter) l.cells.items l.rest ≡ many_at (listed_cell_at l.count) l.count [] l.bytes

@@ -1,7 +1,0 @@
-use Rattle.std.proofs.Common.{◌≡◌, ◌-◌, []}
-use Rattle.kt_bytes.specs.Reading.{many_at}
-use Rattle.kt_recordlaws.specs.Cells.{next_cell_at}
-use Rattle.kt_deltafile.proofs.cell_reading.counted_cells_of.Given as goal
-
-abbrev pub invariant-cells : goal.invariant-cells
-invariant-cells l = many_at (next_cell_at l.count) (l.count - l.counter) l.cells.items l.rest ≡ many_at (next_cell_at l.count) l.count [] l.bytes

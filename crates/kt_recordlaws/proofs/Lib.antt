@@ -1,4 +1,0 @@
-pub mod Cells
-pub mod Operations
-pub mod Commits
-pub mod Records
