@@ -131,7 +131,7 @@ impl MemRowSet {
             extend(pool, first.cell, fresh);
             return Target::Mem(self.id);
         }
-        let _none = self.tree.insert_reserved(pool, key, Place { cell: fresh });
+        self.tree.insert_new(pool, key, Place { cell: fresh });
         Target::Mem(self.id)
     }
 

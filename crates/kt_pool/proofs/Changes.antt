@@ -39,10 +39,7 @@ lt_no a b x y e = no (nat_lt a b) x y (grind (arith, nat_tests))
 
 -- ---- a place that is made
 
-module _ (old new : List Cell) (first free reserved : ℕ) (s : IsSound old first free reserved) (bytes : List ℕ) (after : ℕ) (f : Fills old new first bytes after) (promised : cells_for (length bytes) ≤ reserved) where
-  taken_free : cells_for (length bytes) ≤ free
-  taken_free = let p = s.promised in omega arith
-
+module _ (old new : List Cell) (first free : ℕ) (s : IsSound old first free) (bytes : List ℕ) (after : ℕ) (f : Fills old new first bytes after) (taken_free : cells_for (length bytes) ≤ free) where
   -- it begins at a cell of the pool, where none was
   pub first_inside : first < length old
   first_inside = (s.spare 0 (let t = taken_free in omega arith)).inside
@@ -50,7 +47,7 @@ module _ (old new : List Cell) (first free reserved : ℕ) (s : IsSound old firs
   pub first_vacant : len_at old first ≡ nothing
   first_vacant = elim (cases_eq (len_at old first) nothing) [
     | inl none ↦ none
-    | inr has ↦ absurd (not_spare old first free reserved s first 0 0 first_inside has (omega arith) (let t = taken_free in omega arith) refl)
+    | inr has ↦ absurd (not_spare old first free s first 0 0 first_inside has (omega arith) (let t = taken_free in omega arith) refl)
   ]
 
   pub vacant : get_or (places_in old) first None ≡ None
@@ -66,7 +63,7 @@ module _ (old new : List Cell) (first free reserved : ℕ) (s : IsSound old firs
   byte_other : (head i : ℕ) → head < length old → len_at old head ≢ nothing → i < len_at old head → byte_at new head i ≡ byte_at old head i
   byte_other head i inside has low =
       let there = walk old head (i / 56) in
-      ap (λ c. get_or (load_at new c) (i % 56) 0) (walk_new head (i / 56)) ∙ ap (λ xs. get_or xs (i % 56) 0) (f.frame there (λ j b. not_spare old first free reserved s head (i / 56) j inside has (omega arith) (let t = taken_free in omega arith)))
+      ap (λ c. get_or (load_at new c) (i % 56) 0) (walk_new head (i / 56)) ∙ ap (λ xs. get_or xs (i % 56) 0) (f.frame there (λ j b. not_spare old first free s head (i / 56) j inside has (omega arith) (let t = taken_free in omega arith)))
 
   place_other : (k : ℕ) → k < length old → k ≢ first → placed_in new k ≡ placed_in old k
   place_other k inside ne =
@@ -130,7 +127,7 @@ module _ (old new : List Cell) (first free reserved : ℕ) (s : IsSound old firs
             })
       ]
 
-  pub placed_sound : IsSound new after (free - cells_for (length bytes)) (reserved - cells_for (length bytes))
+  pub placed_sound : IsSound new after (free - cells_for (length bytes))
   placed_sound = record {
     owner = owner;
     depth = depth;
@@ -144,25 +141,24 @@ module _ (old new : List Cell) (first free reserved : ℕ) (s : IsSound old firs
         let now = ap (sum_by cells_of) placed_places in
         let c = s.counted in let l = f.count in let t = taken_free in
         omega arith;
-    promised = let p = s.promised in omega arith;
   }
 
 -- ---- a place that is given back
 
-module _ (old new : List Cell) (first free reserved : ℕ) (s : IsSound old first free reserved) (head : ℕ) (bytes : List ℕ) (st : IsStanding old head bytes) (f : Frees old new head first) where
+module _ (old new : List Cell) (first free : ℕ) (s : IsSound old first free) (head : ℕ) (bytes : List ℕ) (st : IsStanding old head bytes) (f : Frees old new head first) where
   walk_avoid : (x j : ℕ) → ((i : ℕ) → i < j → walk old x i ≢ walk old head (cells_for (len_at old head) - 1)) → walk new x j ≡ walk old x j
   walk_avoid x zero h = refl
   walk_avoid x (suc j) h = ap (next_at new) (walk_avoid x j (λ i low. h i (omega arith))) ∙ f.inner (walk old x j) (h j (omega arith))
 
   -- the free chain, the place's chain up to its last cell, and the other chains are as before
   walk_spare : (j : ℕ) → j ≤ free → walk new first j ≡ walk old first j
-  walk_spare j fits = walk_avoid first j (λ i low. not_spare old first free reserved s head (cells_for (len_at old head) - 1) i st.inside st.has (omega arith) (omega arith))
+  walk_spare j fits = walk_avoid first j (λ i low. not_spare old first free s head (cells_for (len_at old head) - 1) i st.inside st.has (omega arith) (omega arith))
 
   walk_head : (j : ℕ) → j < cells_for (len_at old head) → walk new head j ≡ walk old head j
   walk_head j low = walk_avoid head j (λ i less e. absurd (let same : i ≡ cells_for (len_at old head) - 1 = st.chain.apart i (cells_for (len_at old head) - 1) (omega arith) (omega arith) e in omega arith))
 
   walk_other : (k j : ℕ) → k < length old → len_at old k ≢ nothing → k ≢ head → j < cells_for (len_at old k) → walk new k j ≡ walk old k j
-  walk_other k j inside has ne low = walk_avoid k j (λ i less. not_owned old first free reserved s head k (cells_for (len_at old head) - 1) i st.inside st.has (omega arith) inside has (omega arith) (λ e. ne (sym e)))
+  walk_other k j inside has ne low = walk_avoid k j (λ i less. not_owned old first free s head k (cells_for (len_at old head) - 1) i st.inside st.has (omega arith) inside has (omega arith) (λ e. ne (sym e)))
 
   walk_joined : (j : ℕ) → j < free → walk new head (cells_for (len_at old head) + j) ≡ walk old first j
   walk_joined j low =
@@ -252,7 +248,7 @@ module _ (old new : List Cell) (first free reserved : ℕ) (s : IsSound old firs
       let c = s.counted in let l = f.count in
       omega arith
 
-  pub freed_sound : IsSound new head (free + cells_for (len_at old head)) reserved
+  pub freed_sound : IsSound new head (free + cells_for (len_at old head))
   freed_sound = record {
     owner = free_owner;
     depth = free_depth;
@@ -261,7 +257,6 @@ module _ (old new : List Cell) (first free reserved : ℕ) (s : IsSound old firs
     full = λ k low. ap length (f.load k) ∙ s.full k (subst (λ m. k < m) f.count low);
     small = let c = f.count in let m = s.small in omega arith;
     counted = freed_sum;
-    promised = let p = s.promised in omega arith;
   }
 
 -- ---- a place that is written over
@@ -283,7 +278,7 @@ pub length-overwritten : (at : ℕ) (bytes old : List ℕ) → at + length bytes
 length-overwritten at bytes old fits =
     length-append (take at old ++ bytes) (drop (at + length bytes) old) ∙ (let a = length-append (take at old) bytes in let t = length-take-le at old (omega arith) in let d = length-drop (at + length bytes) old in omega arith)
 
-module _ (old new : List Cell) (first free reserved : ℕ) (s : IsSound old first free reserved) (head : ℕ) (was : List ℕ) (st : IsStanding old head was) (at : ℕ) (bytes : List ℕ) (fits : at + length bytes ≤ length was) (kept : KeepsChains old new) (done : (m i : ℕ) → IsChain old head m → i < 56 * m → byte_at new head i ≡ written at bytes (byte_at old head) i) (frame : (k : ℕ) → ((j : ℕ) → j < cells_for (at + length bytes) → walk old head j ≢ k) → load_at new k ≡ load_at old k) where
+module _ (old new : List Cell) (first free : ℕ) (s : IsSound old first free) (head : ℕ) (was : List ℕ) (st : IsStanding old head was) (at : ℕ) (bytes : List ℕ) (fits : at + length bytes ≤ length was) (kept : KeepsChains old new) (done : (m i : ℕ) → IsChain old head m → i < 56 * m → byte_at new head i ≡ written at bytes (byte_at old head) i) (frame : (k : ℕ) → ((j : ℕ) → j < cells_for (at + length bytes) → walk old head j ≢ k) → load_at new k ≡ load_at old k) where
   walk_same : (k j : ℕ) → walk new k j ≡ walk old k j
   walk_same k j = walk_kept old new kept.next k j
 
@@ -297,7 +292,7 @@ module _ (old new : List Cell) (first free reserved : ℕ) (s : IsSound old firs
       written_same f g i e = ap (λ b. cond (nat_le at i && nat_lt i (at + length bytes)) (get_or bytes (i - at) 0) b) e
 
   byte_there : (k i : ℕ) → k < length old → len_at old k ≢ nothing → k ≢ head → i < len_at old k → byte_at new k i ≡ byte_at old k i
-  byte_there k i inside has ne low = ap (λ c. get_or (load_at new c) (i % 56) 0) (walk_same k (i / 56)) ∙ ap (λ xs. get_or xs (i % 56) 0) (frame (walk old k (i / 56)) (λ j less. let l = st.long in not_owned old first free reserved s k head (i / 56) j inside has (omega arith) st.inside st.has (omega arith) ne))
+  byte_there k i inside has ne low = ap (λ c. get_or (load_at new c) (i % 56) 0) (walk_same k (i / 56)) ∙ ap (λ xs. get_or xs (i % 56) 0) (frame (walk old k (i / 56)) (λ j less. let l = st.long in not_owned old first free s k head (i / 56) j inside has (omega arith) st.inside st.has (omega arith) ne))
 
   set_here : placed_in new head ≡ Some (overwritten at bytes was)
   set_here =
@@ -323,7 +318,7 @@ module _ (old new : List Cell) (first free reserved : ℕ) (s : IsSound old firs
   set_spare j o = let P : ℕ → Type 0 = λ c. IsOwned new s.owner s.depth (length new) j c in
       subst P (sym (walk_same first j)) (record { inside = subst (λ m. walk old first j < m) (sym kept.count) o.inside; owner = o.owner ∙ sym kept.count; depth = o.depth })
 
-  pub set_sound : IsSound new first free reserved
+  pub set_sound : IsSound new first free
   set_sound = record {
     owner = s.owner;
     depth = s.depth;
@@ -338,5 +333,4 @@ module _ (old new : List Cell) (first free reserved : ℕ) (s : IsSound old firs
         let now = ap (sum_by cells_of) set_places in
         let c = s.counted in let l = kept.count in
         omega arith;
-    promised = s.promised;
   }

@@ -1,5 +1,6 @@
 pub mod Writing
 pub mod Views
+pub mod Padded
 pub mod Along
 pub mod Placing
 pub mod Clearing
@@ -7,4 +8,5 @@ pub mod Standing
 pub mod Changes
 pub mod Fresh
 pub mod Methods
+pub mod Making
 pub mod Callers

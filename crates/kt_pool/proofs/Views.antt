@@ -1,13 +1,12 @@
 -- What sound cells are seen as.
-use Rattle.std.proofs.Common.{◌≡◌, ℕ, ◌+◌, ◌-◌, ◌<◌, ◌≤◌, ◌≢◌, inl, inr, true, false, List, length, get_or, set, refl, sym, ap, ◌∙◌, arith, subst, Some, None, Option}
+use Rattle.std.proofs.Common.{◌≡◌, ℕ, ◌<◌, ◌≤◌, ◌≢◌, inl, inr, true, false, List, length, get_or, set, refl, sym, ap, ◌∙◌, arith, subst, Some, None, Option}
 use Rattle.std.specs.Prelude.{◌==◌}
-use Rattle.std.specs.List.{sum_by}
 use Rattle.std.proofs.lemmas.Bool.{cases_eq}
 use Rattle.std.proofs.lemmas.Bool.Decides.{nat_tests}
 use Rattle.std.proofs.lemmas.List.FromFn.{length-map-range_with_len, get_or-map-range_with_len}
 use Rattle.std.proofs.lemmas.List.{length-set, get_or-set_same, get_or-set_other, ext_get_or}
 use Rattle.std.proofs.lemmas.Grind.{same_number_lists}
-use Rattle.kt_pool.specs.Contents.{cells_for, cells_of}
+use Rattle.kt_pool.specs.Contents.{cells_for}
 use Rattle.kt_pool.specs.Cells.{IsChain, walk, len_at, byte_at, content, nothing}
 use Rattle.kt_pool.specs.Sound.{placed_in, places_in, IsSound}
 use Rattle.kt_pool.specs.declared.cells.Cell.{Cell}
@@ -52,7 +51,7 @@ places_set old new k v count low here others =
 
 -- ---- sound cells
 
-module _ (cells : List Cell) (first free reserved : ℕ) (s : IsSound cells first free reserved) where
+module _ (cells : List Cell) (first free : ℕ) (s : IsSound cells first free) where
   -- the free cells are a chain
   pub chain_spare : (m : ℕ) → m ≤ free → IsChain cells first m
   chain_spare m fits = record {
@@ -77,9 +76,3 @@ module _ (cells : List Cell) (first free reserved : ℕ) (s : IsSound cells firs
 
   pub not_owned : (head other i j : ℕ) → head < length cells → len_at cells head ≢ nothing → i < cells_for (len_at cells head) → other < length cells → len_at cells other ≢ nothing → j < cells_for (len_at cells other) → head ≢ other → walk cells other j ≢ walk cells head i
   not_owned head other i j hin hhas a oin ohas b ne e = ne (sym (s.owned head i hin hhas a).owner ∙ ap s.owner (sym e) ∙ (s.owned other j oin ohas b).owner)
-
-  pub free_is : free ≡ length (places_in cells) - sum_by cells_of (places_in cells)
-  free_is = let c = s.counted in let l = length-places cells in omega arith
-
-  pub free_and_used : free + sum_by cells_of (places_in cells) ≡ length (places_in cells)
-  free_and_used = s.counted ∙ sym (length-places cells)

@@ -7,7 +7,8 @@ ghost use Rattle.std.specs.Vec.{vec_capacity, vec_len};
 ghost use Rattle.kt_pool.specs.Contents.{cells_for};
 ghost use Rattle.kt_pool.specs.Cells.{KeepsChains, IsChain, IsFull, walk, len_at, load_at, byte_at, content, written, nothing, Fills, Frees};
 ghost use Rattle.kt_pool.specs.Clearing.{Clears};
-ghost use Rattle.std.specs.Prelude.{min, slice_range, replicate};
+ghost use Rattle.kt_pool.specs.Sound.{IsSound, places_in, padded};
+ghost use Rattle.std.specs.Prelude.{min, max, slice_range, replicate};
 
 use std::alloc::AllocError;
 use std::cmp::Ordering;
@@ -88,6 +89,28 @@ pub fn fill(cells: &mut [Cell], first: u32, bytes: &[u8]) -> u32
     let after = write(cells, first, 0, bytes);
     cells[first as usize].len = bytes.len() as u32;
     after
+}
+
+/// Makes free cells in front of a chain of them until there are `count`, and says where it begins then.
+pub fn lengthen(cells: &mut Vec<Cell>, first: u32, spare: u32, count: u32) -> u32
+    requires sound { IsSound cells.old.items first spare }
+    requires room { length cells.old.items + (count - spare) ≤ vec_capacity cells.old }
+    requires small { length cells.old.items + (count - spare) ≤ 76_695_844 }
+    ensures sound { IsSound cells.new.items result (max spare count) }
+    ensures places { places_in cells.new.items ≡ padded (places_in cells.old.items) (count - spare) }
+    ensures room { vec_capacity cells.new ≡ vec_capacity cells.old }
+{
+    let mut at = first;
+    for _made in spare..count {
+        let number = cells.len() as u32;
+        cells.push_reserved(Cell {
+            bytes: [0; 56],
+            next: at,
+            len: NOTHING,
+        });
+        at = number;
+    }
+    at
 }
 
 /// Makes the first `count` cells of a chain all 0, and says which cell comes after them.

@@ -7,7 +7,7 @@ ghost use Rattle.std.specs.Vec.{vec_capacity, vec_len};
 ghost use Rattle.kt_pool.specs.Contents.{Contents, cells_for, used, free, at_cell, Stands, bytes_at, with_place, with_reserved, overwritten};
 
 use crate::cells::{
-    Cell, NOTHING, append, byte, cells_taken, chunk, compare, fill, fill_blank, len_of, release,
+    Cell, append, byte, cells_taken, chunk, compare, fill, fill_blank, len_of, lengthen, release,
     write,
 };
 use crate::error::{Full, NoMemory};
@@ -19,12 +19,13 @@ use std::marker::Model;
 /// The most cells of a pool: the length of a place that takes them all still fits its word.
 const MOST_CELLS: u32 = 76_695_844;
 
-/// A pool of cells.
+/// A pool of cells. They are made as they are used, in room that is taken at once.
 #[derive(Drop)]
 pub struct Pool {
     cells: Vec<Cell>,
+    size: u32,
     first: u32,
-    free: u32,
+    spare: u32,
     reserved: u32,
 }
 
@@ -33,11 +34,13 @@ impl Model for Pool {
 
     ghost Value = { Contents };
 
-    ghost use Rattle.kt_pool.specs.Sound.{IsSound, places_in};
+    ghost use Rattle.std.specs.Prelude.{◌-◌, length};
+    ghost use Rattle.std.specs.Vec.{vec_capacity};
+    ghost use Rattle.kt_pool.specs.Sound.{IsPool, places_in, padded};
 
-    ghost view = { λ p. record { places = places_in p.cells.items; reserved = p.reserved } };
+    ghost view = { λ p. record { places = padded (places_in p.cells.items) (p.size - length p.cells.items); reserved = p.reserved } };
 
-    ghost invariant = { λ p. IsSound p.cells.items p.first p.free p.reserved };
+    ghost invariant = { λ p. IsPool p.cells.items p.first p.spare p.size (vec_capacity p.cells) p.reserved };
 }
 
 impl Pool {
@@ -49,18 +52,11 @@ impl Pool {
         if cells > MOST_CELLS {
             return Err(NoMemory);
         }
-        let mut list = Vec::with_capacity(alloc, cells as usize)?;
-        for i in 0..cells {
-            list.push(Cell {
-                bytes: [0; 56],
-                next: i + 1,
-                len: NOTHING,
-            })?;
-        }
         Ok(Pool {
-            cells: list,
+            cells: Vec::with_capacity(alloc, cells as usize)?,
+            size: cells,
             first: 0,
-            free: cells,
+            spare: 0,
             reserved: 0,
         })
     }
@@ -69,7 +65,7 @@ impl Pool {
     pub fn size(&self) -> u32
         ensures { result ≡ length self.now.places }
     {
-        self.cells.len() as u32
+        self.size
     }
 
     /// How many cells no place has.
@@ -77,7 +73,7 @@ impl Pool {
         ensures free { result ≡ free self.now }
         ensures all { result + used self.now ≡ length self.now.places }
     {
-        self.free
+        self.spare + (self.size - self.cells.len() as u32)
     }
 
     /// How many of the free cells are promised.
@@ -95,7 +91,7 @@ impl Pool {
         ensures full { IsOk result ↔ (n ≤ free self.old - self.old.reserved) }
         ensures says { MatchResult result (λ _. Unit {0}) (λ e. (e.need ≡ n) × (e.free ≡ free self.old - self.old.reserved)) }
     {
-        let left = self.free - self.reserved;
+        let left = self.free() - self.reserved;
         if n > left {
             return Err(Full {
                 need: n,
@@ -121,11 +117,11 @@ impl Pool {
         ensures inside { result.cell < length self.old.places }
         ensures placed { self.new ≡ with_place self.old result.cell (Some bytes.now) (self.old.reserved - cells_for (length bytes.now)) }
     {
-        let first = self.first;
-        let after = fill(&mut self.cells, first, bytes);
+        let spare = self.spare;
         let taken = cells_taken(bytes.len()) as u32;
-        self.first = after;
-        self.free -= taken;
+        let first = lengthen(&mut self.cells, self.first, spare, taken);
+        self.first = fill(&mut self.cells, first, bytes);
+        self.spare = spare.saturating_sub(taken);
         self.reserved -= taken;
         Place { cell: first }
     }
@@ -137,12 +133,12 @@ impl Pool {
         ensures inside { result.cell < length self.old.places }
         ensures placed { self.new ≡ with_place self.old result.cell (Some (replicate len 0)) (self.old.reserved - cells_for len) }
     {
-        let first = self.first;
-        let rest = fill_blank(&mut self.cells, first, len);
-        let count = cells_taken(len) as u32;
-        self.first = rest;
-        self.free -= count;
-        self.reserved -= count;
+        let spare = self.spare;
+        let taken = cells_taken(len) as u32;
+        let first = lengthen(&mut self.cells, self.first, spare, taken);
+        self.first = fill_blank(&mut self.cells, first, len);
+        self.spare = spare.saturating_sub(taken);
+        self.reserved -= taken;
         Place { cell: first }
     }
 
@@ -209,6 +205,6 @@ impl Pool {
     {
         let taken = release(&mut self.cells, place.cell, self.first);
         self.first = place.cell;
-        self.free += taken;
+        self.spare += taken;
     }
 }

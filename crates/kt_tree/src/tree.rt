@@ -80,12 +80,28 @@ impl Tree {
         if let Some(old) = overwrite(pool, self.root, key, value.cell) {
             return Some(Place { cell: old });
         }
+        self.insert_new(pool, key, value);
+        None
+    }
+
+    /// Sets the place of a key's value where the key is not there, in reserved cells: one for the node and those of the key.
+    pub fn insert_new(&mut self, pool: &mut Pool, key: &[u8], value: Place)
+        requires tree { IsTree self.old pool.old }
+        requires absent { value_of key.now (entries self.old pool.old) ≡ None }
+        requires reserved { need key.now ≤ pool.old.reserved }
+        ensures tree { IsTree self.new pool.new }
+        ensures put { entries self.new pool.new ≡ put key.now value.cell (entries self.old pool.old) }
+        ensures takes { Takes pool.old pool.new (need key.now) }
+        // Its new places are vacant before, and every other place keeps its bytes.
+        ensures keeps { (k : ℕ) → Owns self.old pool.old k → Owns self.new pool.new k }
+        ensures grows { (k : ℕ) → Owns self.new pool.new k → Owns self.old pool.old k ⊎ (at_cell pool.old k ≡ None) }
+        ensures frame { (k : ℕ) → ¬ Owns self.new pool.new k → at_cell pool.new k ≡ at_cell pool.old k }
+    {
         let at = pool.place(key);
         let fresh = place(pool, at.cell, value.cell, head_of(key));
         self.root = hang(pool, self.root, fresh, key);
         prove!(self.count < pool.size());
         self.count += 1;
-        None
     }
 
     /// Where the value of this key is placed, if it is there.

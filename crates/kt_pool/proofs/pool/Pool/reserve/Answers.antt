@@ -1,12 +1,18 @@
-use Rattle.std.proofs.Common.{arith, refl}
-use Rattle.kt_pool.proofs.Views.{free_is}
+use Rattle.std.proofs.Common.{arith, ◌≡◌, ◌+◌, ◌-◌, length, sym, ap, ◌∙◌}
+use Rattle.kt_pool.specs.Contents.{Contents, free}
+use Rattle.kt_pool.proofs.Padded.{free_is}
 use Rattle.kt_pool.proofs.pool.Pool.reserve.Goals as goal
 
-pub returns-then-n-left-clause-full : goal.returns-then-n-left-clause-full
-returns-then-n-left-clause-full c = let i = c.self.inside in let f = free_is i.cells.items i.first i.free i.reserved c.self.invariant in rw (← c.self.view_is) (grind (arith, f))
+pub overflow_sub-left : goal.overflow_sub-left
+overflow_sub-left c =
+    let i = c.self.inside in
+    let f : i.spare + (i.size - length i.cells.items) ≡ c.free.result = free_is _ _ _ _ _ _ c.self.invariant ∙ ap (λ (p : Contents). free p) c.self.view_is ∙ sym c.free.ensures.free in
+    let p = c.self.invariant.promised in
+    omega arith
 
-pub returns-then-n-left-clause-says : goal.returns-then-n-left-clause-says
-returns-then-n-left-clause-says c = let i = c.self.inside in let f = free_is i.cells.items i.first i.free i.reserved c.self.invariant in rw (← c.self.view_is) (refl, omega arith)
-
-pub returns-clause-full : goal.returns-clause-full
-returns-clause-full c = let i = c.self.inside in let f = free_is i.cells.items i.first i.free i.reserved c.self.invariant in rw (← c.self.view_is) (grind (arith, f))
+pub invariant_of-self : goal.invariant_of-self
+invariant_of-self c =
+    let i = c.self.inside in
+    let f : i.spare + (i.size - length i.cells.items) ≡ c.free.result = free_is _ _ _ _ _ _ c.self.invariant ∙ ap (λ (p : Contents). free p) c.self.view_is ∙ sym c.free.ensures.free in
+    let v = c.self.invariant in
+    record { sound = v.sound; used = v.used; room = v.room; small = v.small; promised = omega arith }
