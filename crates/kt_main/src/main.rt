@@ -6,19 +6,13 @@
 //! where the words cannot be read for want of memory it is 7. Nothing is written to standard error.
 #![tactic(auto)]
 
-mod dir;
-mod edges;
-#[cfg(test)]
-mod tests;
-
 ghost use Rattle.std.specs.Prelude.{IsTrue};
 ghost use Rattle.kt_journal.specs.Log.{CanOpen};
 
-use dir::{DirDisk, Taken};
-use edges::{MachineClock, Stdin, Stdout, Ticks};
 use kt_app::tablet_main;
 use kt_base::Clock;
 use kt_disk::{Disk, MemDisk, PassGate};
+use kt_host::{DirDisk, MachineClock, Stdin, Stdout, Taken, Ticks};
 use std::alloc::AllocError;
 use std::io::ErrorKind;
 use std::process::ExitCode;

@@ -1,5 +1,5 @@
-use Rattle.kt_main.proofs.Streams.{kept, kept_still, write_after, write_failed}
-use Rattle.kt_main.proofs.edges.write_through.Goals as goal
+use Rattle.kt_host.proofs.Streams.{kept, kept_still, write_after, write_failed}
+use Rattle.kt_host.proofs.edges.write_through.Goals as goal
 
 pub loop-init : goal.loop-init
 loop-init g c = kept _

@@ -13,7 +13,7 @@ fn new_folder(rt: &HostRuntime, name: &str) -> io::Result<String> {
     let alloc = rt.alloc();
     let base = env::temp_dir(rt)?;
     let number = process::id(rt.process());
-    let folder = format!(in alloc; "{}/kt_main_{name}_{number}", base.display())?;
+    let folder = format!(in alloc; "{}/kt_host_{name}_{number}", base.display())?;
     create_dir(rt, folder.as_str())?;
     Ok(folder)
 }

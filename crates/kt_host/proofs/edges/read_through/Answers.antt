@@ -1,5 +1,5 @@
-use Rattle.kt_main.proofs.Streams.{kept, kept_still, read_after, read_failed}
-use Rattle.kt_main.proofs.edges.read_through.Goals as goal
+use Rattle.kt_host.proofs.Streams.{kept, kept_still, read_after, read_failed}
+use Rattle.kt_host.proofs.edges.read_through.Goals as goal
 
 pub loop-init : goal.loop-init
 loop-init g c = kept _
