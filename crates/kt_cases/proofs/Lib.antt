@@ -1,3 +1,1 @@
 mod Written
-mod TwoRows
-mod FourSessions

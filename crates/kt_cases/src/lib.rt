@@ -1,14 +1,11 @@
 //! Worked cases of the parts of a tablet, each by itself: the pool, disks and the log, the clock of writes, scans, a
-//! MemRowSet, the queue of the log, the tablet, the engine and opening. Tests alone: they call what each crate offers to all
-//! others.
+//! MemRowSet, the queue of the log and the replay of a log. Tests alone: they call what each crate offers to all others.
 #![tactic(auto)]
 
 #[cfg(test)]
 mod boot;
 #[cfg(test)]
 mod disk;
-#[cfg(test)]
-mod engine;
 #[cfg(test)]
 mod journal;
 #[cfg(test)]
@@ -21,5 +18,3 @@ mod mvcc;
 mod pool;
 #[cfg(test)]
 mod scan;
-#[cfg(test)]
-mod tablet;

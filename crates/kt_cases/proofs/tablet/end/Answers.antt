@@ -1,5 +1,0 @@
-use Rattle.kt_cases.proofs.TwoRows.{may_end_two}
-use Rattle.kt_cases.proofs.tablet.end.Goals as goal
-
-pub end-requires : goal.end-requires
-end-requires c = λ goes. may_end_two c.args.tablet.now.core c.requires

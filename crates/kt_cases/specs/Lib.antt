@@ -1,2 +1,0 @@
-pub mod TwoRows
-pub mod FourSessions
