@@ -15,6 +15,9 @@ of-requires-2-clause-names g c = queued_names _ _ _ _ _ _ c.in-Ok-reopen.ensures
 pub of-requires-2-clause-others : goal.of-requires-2-clause-others
 of-requires-2-clause-others g c = λ told. subst (λ d. KeepsOthers g.L.Disk.now g.L.Disk.leaves d c.in-Ok.opened.0.disk) (sym c.of-device.ensures) (opened_others g.L.Disk.now g.L.Disk.leaves c.args.log c.in-Ok.opened.0.disk (c.in-Ok.ensures.frames told))
 
+pub returns-in-Err-of-clause-openable : goal.returns-in-Err-of-clause-openable
+returns-in-Err-of-clause-openable g c = λ told. subst (CanOpen g.L.Disk.now g.L.Disk.leaves) (sym c.given_up-in-Err-of.ensures.log) (c.in-Ok.ensures.openable told)
+
 pub returns-clause-openable : goal.returns-clause-openable
 returns-clause-openable g c = λ told.
     subst (CanOpen g.L.Disk.now g.L.Disk.leaves) (sym (c.given_up-in-Err-of-2.ensures.log ∙ ap (λ j. j.disk) c.in-Err-of-2.ensures.back.1)) (c.in-Ok.ensures.openable told)
