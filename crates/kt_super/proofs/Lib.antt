@@ -1,10 +1,16 @@
+pub mod Apart
+pub mod Names
+pub mod InBytes
+pub mod CellParts
+pub mod ColumnParts
+pub mod ColumnLists
+pub mod SchemaOf
+pub mod RowsetParts
+pub mod RowsetLists
+pub mod HeadParts
+pub mod BodyParts
 pub mod Loops
-pub mod RowsetLaws
-pub mod ColumnLaws
-pub mod BodyLaws
-pub mod RowsetTakes
-pub mod ColumnTakes
-pub mod BodyTakes
+pub mod SlotLaws
 pub mod SlotTakes
 pub mod SlotParts
 pub mod TakenNumbers
@@ -13,3 +19,4 @@ pub mod Moves
 pub mod Supers
 pub mod Prepares
 pub mod Appends
+mod Worked

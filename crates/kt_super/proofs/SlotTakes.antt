@@ -8,8 +8,8 @@ use Rattle.kt_super.specs.declared.meta.Meta.{Meta}
 use Rattle.kt_super.specs.Body.{spelled_body, body_at}
 use Rattle.kt_super.specs.Slots.{misfit, settled, of_length, opened_at, slot_at, spelled_slot}
 use Rattle.kt_bytes.proofs.Numbers.{IsBytes, IsBytes-drop, IsBytes-take, wide32}
-use Rattle.kt_super.proofs.RowsetLaws.{both}
-use Rattle.kt_super.proofs.BodyTakes.{body_takes}
+use Rattle.kt_super.proofs.ColumnParts.{both}
+use Rattle.kt_super.proofs.BodyParts.{body_takes}
 
 pub bytes_fit : (bytes : List ℕ) → All (λ b. b < 256) bytes → IsBytes bytes
 bytes_fit bytes all i = elim (cases_lt i (length bytes)) [ inl lt ↦ all i 0 lt | inr le ↦ rw (get_or_past bytes i 0 le) (omega arith) ]
@@ -39,7 +39,7 @@ length_takes slot len rest m fits e =
     let s = settled_ok (leb len (length rest)) (5 + length rest) (length (take len rest)) m (body_at slot (take len rest)) e in
     let t = body_takes slot (take len rest) (m, []) (IsBytes-take len rest fits) s.1 in
     let there : len ≤ length rest = leb-true len (length rest) s.0 in
-    let front : take len rest ≡ spelled_body m = t.0.parts ∙ append-nil (spelled_body m) in
+    let front : take len rest ≡ spelled_body m = t.0 ∙ append-nil (spelled_body m) in
     (omega (arith, length-take len rest, ap length front), sym (take-append-drop len rest) ∙ ap (λ (l : List ℕ). l ++ drop len rest) front)
 
 tail_takes : (slot : ℕ) (tail : List ℕ) (m : Meta) → IsBytes tail → 4 ≤ length tail → of_length slot (from_le_bytes w32 (take 4 tail)) (drop 4 tail) ≡ Ok (Some m) → (more : List ℕ) × (tail ≡ spelled_slot m ++ more)

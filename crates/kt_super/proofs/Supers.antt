@@ -6,7 +6,7 @@ use Rattle.kt_super.specs.declared.refusal.Place.{Place}
 use Rattle.kt_super.specs.declared.meta.Meta.{Meta}
 use Rattle.kt_super.specs.Body.{slot_for}
 use Rattle.kt_super.specs.Slots.{slot_at, of_both, super_of, IsSlot, next_number, IsNext, IsOldOrNone}
-use Rattle.kt_super.proofs.BodyLaws.{slot_fits}
+use Rattle.kt_super.proofs.SlotLaws.{slot_fits}
 
 -- a number and the one above it have different slots
 turns_even : (n : ℕ) → (n % 2 ≡ 1 → ⊥) → ((n + 1) % 2 ≡ 1 → ⊥) → ⊥

@@ -1,5 +1,5 @@
 -- The body of a superblock: its rules, its spelling, and how it is read.
-use Rattle.std.specs.Prelude.{◌≡◌, ℕ, ◌%◌, ◌^◌, ◌<◌, Bool, true, ◌&&◌, ◌==◌, List, [], ◌++◌, length, is_none, Result, Ok, Err, nat_le, if◌then◌else◌}
+use Rattle.std.specs.Prelude.{◌≡◌, ℕ, ◌%◌, ◌^◌, ◌<◌, Bool, true, ◌&&◌, ◌==◌, List, [], ◌++◌, length, is_none, Result, Ok, nat_le, if◌then◌else◌}
 use Rattle.std.specs.Int.{w16, w64, to_le_bytes}
 use Rattle.kt_schema.specs.declared.column.Column.{Column}
 use Rattle.kt_schema.specs.Columns.{columns_no}
@@ -61,6 +61,10 @@ spelled_body m = spelled_head (head_of m) ++ (spelled_columns m.schema ++ spelle
 abbrev pub is_format : ℕ → Bool
 is_format n = n == format
 
+-- a schema has a column with an id below this
+abbrev pub is_next_column : ℕ → Bool
+is_next_column n = nat_le 1 n
+
 unfoldable pub head_at : ℕ → List ℕ → Result (Head × List ℕ) ℕ
 head_at slot bytes = do
   start ← checked_at w16 is_format bytes
@@ -71,13 +75,8 @@ head_at slot bytes = do
   last_mem ← checked_at w64 is_small need.1
   next_rowset ← checked_at w64 is_small last_mem.1
   next_file ← checked_at w64 is_next_file next_rowset.1
-  next_column ← number_at w16 next_file.1
+  next_column ← checked_at w16 is_next_column next_file.1
   Ok (record { number = number.0; a = a.0; c = c.0; need = need.0; last_mem = last_mem.0; next_rowset = next_rowset.0; next_file = next_file.0; next_column = next_column.0 }, next_column.1)
-
-unfoldable pub schema_at : ℕ → List ℕ → Result (List Column × List ℕ) ℕ
-schema_at next bytes = do
-  columns ← counted_columns_at next bytes
-  if makes_schema columns.0 then Ok columns else Err (length bytes)
 
 abbrev pub meta_of : Head → List Column → List MetaRowset → Meta
 meta_of h columns rowsets = record { number = h.number; a = h.a; c = h.c; need = h.need; last_mem = h.last_mem; next_rowset = h.next_rowset; next_file = h.next_file; next_column = h.next_column; schema = columns; rowsets = rowsets }
@@ -85,6 +84,6 @@ meta_of h columns rowsets = record { number = h.number; a = h.a; c = h.c; need =
 unfoldable pub body_at : ℕ → List ℕ → Result (Meta × List ℕ) ℕ
 body_at slot bytes = do
   head ← head_at slot bytes
-  schema ← schema_at head.0.next_column head.1
+  schema ← counted_columns_at head.0.next_column head.1
   rowsets ← counted_rowsets_at head.0.next_rowset head.0.next_file schema.1
   Ok (meta_of head.0 schema.0 rowsets.0, rowsets.1)

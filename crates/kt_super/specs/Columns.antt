@@ -1,6 +1,6 @@
 -- The columns of a superblock: their rules, their spelling, and how they are read.
-use Rattle.std.specs.Prelude.{◌≡◌, ℕ, zero, suc, ◌+◌, ◌*◌, ◌/◌, ◌%◌, ◌^◌, ◌<◌, Bool, true, false, not, ◌&&◌, ◌==◌, List, [], ◌∷◌, ◌++◌, length, Option, Some, None, is_some, IfSome, FitsSigned, Result, Ok, Err, nat_lt, nat_le, if◌then◌else◌}
-use Rattle.std.specs.List.{flat_map, list_any, list_all}
+use Rattle.std.specs.Prelude.{◌≡◌, ℕ, ◌+◌, ◌*◌, ◌/◌, ◌%◌, ◌^◌, ◌<◌, Bool, true, false, not, ◌&&◌, ◌||◌, ◌==◌, List, [], ◌∷◌, ◌++◌, length, Option, Some, None, is_some, IfSome, FitsSigned, Result, Ok, Err, nat_lt, nat_le, if◌then◌else◌}
+use Rattle.std.specs.List.{count_by, flat_map, list_any, list_all}
 use Rattle.std.specs.Ordering.{nat_cmp, is_eq}
 use Rattle.std.specs.Cmp.Lexicographic.{slice_cmp}
 use Rattle.std.specs.Int.{w8, w16, w32, w64, to_le_bytes, cast_signed, cast_unsigned}
@@ -9,7 +9,7 @@ use Rattle.kt_base.specs.declared.cell.Kind.TheVariants as kind
 use Rattle.kt_base.specs.declared.cell.Cell.{Cell}
 use Rattle.kt_base.specs.declared.cell.Cell.TheVariants as cell
 use Rattle.kt_schema.specs.declared.column.Column.{Column}
-use Rattle.kt_bytes.specs.Reading.{◌>>=◌, number_at, checked_at, bytes_at}
+use Rattle.kt_bytes.specs.Reading.{◌>>=◌, number_at, checked_at, bytes_at, many_at}
 
 -- ---- rules
 
@@ -43,6 +43,10 @@ pub record IsColumn (next : ℕ) (earlier : List Column) (c : Column) : Type 0 w
   pub name_len : length c.name < 2 ^ 8
   pub flags : may_stand earlier c.kind c.key c.nullable ≡ true
   pub default : IfSome c.default FitsCell
+
+-- how many columns a superblock may have
+abbrev pub is_count : ℕ → Bool
+is_count n = nat_le 1 n && nat_le n 300
 
 -- columns behind these, with ids and names of their own
 abbrev pub AreColumns : ℕ → List Column → List Column → Type 0
@@ -85,10 +89,26 @@ spelled_column c = to_le_bytes w16 c.id ++ (spelled_name c.name ++ (to_le_bytes 
 abbrev pub spelled_columns : List Column → List ℕ
 spelled_columns columns = to_le_bytes w16 (length columns) ++ flat_map spelled_column columns
 
--- ---- reading
+-- ---- what can stand where
+
+-- so many columns have ids below the next one
+abbrev pub may_have : ℕ → ℕ → Bool
+may_have next n = is_count n && nat_le n next
+
+-- how many names of so many bytes are taken
+abbrev pub names_of : List Column → ℕ → ℕ
+names_of earlier n = count_by (λ d. length d.name == n) earlier
+
+-- a name of so many bytes is free: there is one of no byte, there are 256 of one byte, and of more bytes more than columns
+abbrev pub has_free_name : List Column → ℕ → Bool
+has_free_name earlier n = nat_le 2 n || nat_lt (names_of earlier n) (if n == 0 then 1 else 256)
 
 abbrev pub is_kind : ℕ → Bool
 is_kind n = nat_le 1 n && nat_le n 7
+
+-- the kind of a column behind these: the first is a key, which is not of truth values
+abbrev pub may_be : List Column → ℕ → Bool
+may_be earlier n = is_kind n && (nat_lt 1 n || not (length earlier == 0))
 
 abbrev pub kind_of : ℕ → Kind
 kind_of n =
@@ -113,6 +133,8 @@ is_tag n = nat_lt n 4
 abbrev pub is_bit : ℕ → Bool
 is_bit n = nat_lt n 2
 
+-- ---- reading
+
 unfoldable pub text_at : List ℕ → Result (List ℕ × List ℕ) ℕ
 text_at bytes = do
   n ← number_at w32 bytes
@@ -133,9 +155,10 @@ cell_at bytes = do
 unfoldable pub default_at : ℕ → List ℕ → Result (Option Cell × List ℕ) ℕ
 default_at flags bytes = if has_default flags then (cell_at bytes >>= λ c. Ok (Some c.0, c.1)) else Ok (None, bytes)
 
+-- a name that is not taken
 unfoldable pub name_at : List Column → List ℕ → Result (List ℕ × List ℕ) ℕ
 name_at earlier bytes = do
-  n ← number_at w8 bytes
+  n ← checked_at w8 (has_free_name earlier) bytes
   name ← bytes_at n.0 n.1
   if has_name earlier name.0 then Err (length n.1) else Ok name
 
@@ -143,22 +166,12 @@ unfoldable pub column_at : ℕ → List Column → List ℕ → Result (Column �
 column_at next earlier bytes = do
   id ← checked_at w16 (is_free_id next earlier) bytes
   name ← name_at earlier id.1
-  kind ← checked_at w8 is_kind name.1
+  kind ← checked_at w8 (may_be earlier) name.1
   flags ← checked_at w8 (are_flags earlier (kind_of kind.0)) kind.1
   default ← default_at flags.0 flags.1
   Ok (record { id = id.0; name = name.0; kind = kind_of kind.0; key = is_key flags.0; nullable = is_nullable flags.0; default = default.0 }, default.1)
 
--- so many more columns behind those that were read
-unfoldable pub columns_at : ℕ → ℕ → List Column → List ℕ → Result (List Column × List ℕ) ℕ
-columns_at zero next columns bytes = Ok (columns, bytes)
-columns_at (suc n) next columns bytes = do
-  c ← column_at next columns bytes
-  columns_at n next (columns ++ c.0 ∷ []) c.1
-
-abbrev pub is_count : ℕ → Bool
-is_count n = nat_le 1 n && nat_le n 300
-
 unfoldable pub counted_columns_at : ℕ → List ℕ → Result (List Column × List ℕ) ℕ
 counted_columns_at next bytes = do
-  n ← checked_at w16 is_count bytes
-  columns_at n.0 next [] n.1
+  n ← checked_at w16 (may_have next) bytes
+  many_at (column_at next) n.0 [] n.1

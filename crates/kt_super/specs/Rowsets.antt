@@ -1,10 +1,10 @@
 -- The disk rowsets of a superblock: their rules, their spelling, and how they are read.
-use Rattle.std.specs.Prelude.{◌≡◌, ℕ, zero, suc, ◌+◌, ◌^◌, Bool, true, not, ◌&&◌, ◌==◌, List, [], ◌∷◌, ◌++◌, length, map, Result, Ok, nat_lt, nat_le}
+use Rattle.std.specs.Prelude.{◌≡◌, ℕ, ◌+◌, ◌-◌, ◌^◌, Bool, true, not, ◌&&◌, ◌==◌, List, [], ◌∷◌, ◌++◌, length, map, Result, Ok, nat_lt, nat_le}
 use Rattle.std.specs.List.{flat_map, list_any}
 use Rattle.std.specs.Int.{w32, w64, to_le_bytes}
 use Rattle.kt_super.specs.declared.meta.FileRef.{FileRef}
 use Rattle.kt_super.specs.declared.meta.MetaRowset.{MetaRowset}
-use Rattle.kt_bytes.specs.Reading.{◌>>=◌, number_at, checked_at}
+use Rattle.kt_bytes.specs.Reading.{◌>>=◌, checked_at, many_at}
 
 -- numbers and lengths lie below this
 abbrev pub is_small : ℕ → Bool
@@ -68,6 +68,34 @@ spelled_rowset r = to_le_bytes w64 r.rowset ++ (to_le_bytes w64 r.last_dms ++ (s
 abbrev pub spelled_rowsets : List MetaRowset → List ℕ
 spelled_rowsets rowsets = to_le_bytes w32 (length rowsets) ++ flat_map spelled_rowset rowsets
 
+-- ---- what can stand where
+
+-- how many numbers of data files are free
+abbrev pub free_numbers : ℕ → List ℕ → ℕ
+free_numbers next taken = next - 3 - length taken
+
+-- so many files more have numbers, and beside them a base file of each rowset that is to come
+abbrev pub has_room : ℕ → List ℕ → ℕ → ℕ → Bool
+has_room next taken behind n = nat_le (n + behind) (free_numbers next taken)
+
+-- the number of a rowset, with numbers above it for so many more
+abbrev pub is_next_rowset : ℕ → ℕ → ℕ → ℕ → Bool
+is_next_rowset least next behind n = nat_le least n && nat_lt behind (next - n)
+
+-- so many rowsets, and their base files, have numbers
+abbrev pub may_have : ℕ → ℕ → ℕ → Bool
+may_have next_rowset next_file n = nat_le n next_rowset && nat_le n (next_file - 3)
+
+-- the least number that may come behind these rowsets, which come behind those below a number
+abbrev pub least_after : ℕ → List MetaRowset → ℕ
+least_after least [] = least
+least_after least (r ∷ rowsets) = least_after (r.rowset + 1) rowsets
+
+-- the numbers of files that are taken behind these rowsets
+abbrev pub taken_after : List ℕ → List MetaRowset → List ℕ
+taken_after taken [] = taken
+taken_after taken (r ∷ rowsets) = taken_after (taken_by taken r) rowsets
+
 -- ---- reading
 
 unfoldable pub file_at : ℕ → List ℕ → List ℕ → Result (FileRef × List ℕ) ℕ
@@ -76,35 +104,31 @@ file_at next taken bytes = do
   len ← checked_at w64 is_small file.1
   Ok (record { file = file.0; len = len.0 }, len.1)
 
--- so many more files behind those that were read
-unfoldable pub files_at : ℕ → ℕ → List ℕ → List FileRef → List ℕ → Result (List FileRef × List ℕ) ℕ
-files_at zero next taken files bytes = Ok (files, bytes)
-files_at (suc n) next taken files bytes = do
-  f ← file_at next taken bytes
-  files_at n next (taken ++ f.0.file ∷ []) (files ++ f.0 ∷ []) f.1
+-- a file behind those that were read
+abbrev pub next_file_at : ℕ → List ℕ → List FileRef → List ℕ → Result (FileRef × List ℕ) ℕ
+next_file_at next taken files bytes = file_at next (taken ++ numbers_of files) bytes
 
-unfoldable pub counted_files_at : ℕ → List ℕ → List ℕ → Result (List FileRef × List ℕ) ℕ
-counted_files_at next taken bytes = do
-  n ← number_at w32 bytes
-  files_at n.0 next taken [] n.1
+-- files with so many rowsets behind
+unfoldable pub counted_files_at : ℕ → List ℕ → ℕ → List ℕ → Result (List FileRef × List ℕ) ℕ
+counted_files_at next taken behind bytes = do
+  n ← checked_at w32 (has_room next taken behind) bytes
+  many_at (next_file_at next taken) n.0 [] n.1
 
-unfoldable pub rowset_at : ℕ → ℕ → ℕ → List ℕ → List ℕ → Result (MetaRowset × List ℕ) ℕ
-rowset_at next_rowset next_file least taken bytes = do
-  rowset ← checked_at w64 (is_rowset least next_rowset) bytes
+-- a rowset with so many behind
+unfoldable pub rowset_at : ℕ → ℕ → ℕ → ℕ → List ℕ → List ℕ → Result (MetaRowset × List ℕ) ℕ
+rowset_at next_rowset next_file behind least taken bytes = do
+  rowset ← checked_at w64 (is_next_rowset least next_rowset behind) bytes
   last_dms ← checked_at w64 is_small rowset.1
   base ← file_at next_file taken last_dms.1
-  undo ← counted_files_at next_file (taken ++ base.0.file ∷ []) base.1
-  redo ← counted_files_at next_file (taken ++ base.0.file ∷ [] ++ numbers_of undo.0) undo.1
+  undo ← counted_files_at next_file (taken ++ base.0.file ∷ []) behind base.1
+  redo ← counted_files_at next_file (taken ++ base.0.file ∷ [] ++ numbers_of undo.0) behind undo.1
   Ok (record { rowset = rowset.0; last_dms = last_dms.0; base = base.0; undo = undo.0; redo = redo.0 }, redo.1)
 
--- so many more rowsets behind those that were read
-unfoldable pub rowsets_at : ℕ → ℕ → ℕ → ℕ → List ℕ → List MetaRowset → List ℕ → Result (List MetaRowset × List ℕ) ℕ
-rowsets_at zero next_rowset next_file least taken rowsets bytes = Ok (rowsets, bytes)
-rowsets_at (suc n) next_rowset next_file least taken rowsets bytes = do
-  r ← rowset_at next_rowset next_file least taken bytes
-  rowsets_at n next_rowset next_file (r.0.rowset + 1) (taken_by taken r.0) (rowsets ++ r.0 ∷ []) r.1
+-- a rowset of so many, behind those that were read
+abbrev pub next_rowset_at : ℕ → ℕ → ℕ → List MetaRowset → List ℕ → Result (MetaRowset × List ℕ) ℕ
+next_rowset_at next_rowset next_file n rowsets bytes = rowset_at next_rowset next_file (n - length rowsets - 1) (least_after 0 rowsets) (taken_after [] rowsets) bytes
 
 unfoldable pub counted_rowsets_at : ℕ → ℕ → List ℕ → Result (List MetaRowset × List ℕ) ℕ
 counted_rowsets_at next_rowset next_file bytes = do
-  n ← number_at w32 bytes
-  rowsets_at n.0 next_rowset next_file 0 [] [] n.1
+  n ← checked_at w32 (may_have next_rowset next_file) bytes
+  many_at (next_rowset_at next_rowset next_file n.0) n.0 [] n.1

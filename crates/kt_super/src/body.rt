@@ -1,12 +1,14 @@
 //! Reading the body of a superblock.
-ghost use Rattle.std.specs.Prelude.{◌≡◌};
+ghost use Rattle.std.specs.Prelude.{◌≡◌, None};
 ghost use Rattle.std.specs.Int.{w16, w64};
+ghost use Rattle.kt_schema.specs.Columns.{told_no};
 ghost use Rattle.kt_bytes.specs.Reading.{Gives, checked_at};
-ghost use Rattle.kt_super.specs.Body.{slot_for, is_number, is_next_file, is_format, head_at, schema_at, body_at};
+ghost use Rattle.kt_super.specs.Columns.{counted_columns_at};
+ghost use Rattle.kt_super.specs.Body.{slot_for, is_number, is_next_file, is_next_column, is_format, head_at, body_at};
 
 use crate::Meta;
 use crate::columns::counted_columns_of;
-use crate::rowsets::{SMALL, counted_rowsets_of, small_at};
+use crate::rowsets::{Next, SMALL, counted_rowsets_of, small_at};
 use kt_bytes::Stop;
 use kt_bytes::fields::{fault_at, u16_at, u64_at};
 use kt_schema::{ColumnList, Schema, SchemaNo};
@@ -65,6 +67,18 @@ fn next_file_at(bytes: &[u8]) -> Result<(u64, &[u8]), Stop>
     }
 }
 
+// A schema has a column with an id below this.
+fn next_column_at(bytes: &[u8]) -> Result<(u16, &[u8]), Stop>
+    ensures { Gives (λ x. (x.0, x.1.now)) result (checked_at w16 is_next_column bytes.now) }
+{
+    let (number, rest) = u16_at(bytes)?;
+    if 1 <= number {
+        Ok((number, rest))
+    } else {
+        fault_at(bytes)
+    }
+}
+
 #[tactic(auto, unfolding(crate::specs::Body::head_at))]
 fn head_of(slot: u64, bytes: &[u8]) -> Result<(Head, &[u8]), Stop>
     ensures { Gives (λ x. (x.0, x.1.now)) result (head_at slot bytes.now) }
@@ -77,7 +91,7 @@ fn head_of(slot: u64, bytes: &[u8]) -> Result<(Head, &[u8]), Stop>
     let (last_mem, rest) = small_at(rest)?;
     let (next_rowset, rest) = small_at(rest)?;
     let (next_file, rest) = next_file_at(rest)?;
-    let (next_column, rest) = u16_at(rest)?;
+    let (next_column, rest) = next_column_at(rest)?;
     let head = Head {
         number,
         a,
@@ -91,15 +105,28 @@ fn head_of(slot: u64, bytes: &[u8]) -> Result<(Head, &[u8]), Stop>
     Ok((head, rest))
 }
 
-#[tactic(auto, unfolding(crate::specs::Body::schema_at))]
+// Columns that make a schema are refused for want of memory alone.
+fn no_memory(no: SchemaNo) -> Stop
+    requires { told_no no ≡ None }
+    ensures { result ≡ Stop.Memory }
+{
+    match no {
+        SchemaNo::Memory => Stop::Memory,
+        SchemaNo::S1 => unreachable!(),
+        SchemaNo::S2 { .. } => unreachable!(),
+        SchemaNo::S3 { .. } => unreachable!(),
+        SchemaNo::S4 { .. } => unreachable!(),
+        SchemaNo::S5 => unreachable!(),
+    }
+}
+
 fn schema_of(alloc: Global, next: u16, bytes: &[u8]) -> Result<(Schema, &[u8]), Stop>
-    ensures { Gives (λ x. (x.0, x.1.now)) result (schema_at next bytes.now) }
+    ensures { Gives (λ x. (x.0, x.1.now)) result (counted_columns_at next bytes.now) }
 {
     let (columns, rest) = counted_columns_of(alloc, next, bytes)?;
     match Schema::new(alloc, ColumnList::of(columns)) {
         Ok(schema) => Ok((schema, rest)),
-        Err(SchemaNo::Memory) => Err(Stop::Memory),
-        Err(_) => fault_at(bytes),
+        Err(no) => Err(no_memory(no)),
     }
 }
 
@@ -110,7 +137,11 @@ pub fn body_of(alloc: Global, slot: u64, bytes: &[u8]) -> Result<(Meta, &[u8]), 
 {
     let (head, rest) = head_of(slot, bytes)?;
     let (schema, rest) = schema_of(alloc, head.next_column, rest)?;
-    let (rowsets, rest) = counted_rowsets_of(alloc, head.next_rowset, head.next_file, rest)?;
+    let next = Next {
+        rowset: head.next_rowset,
+        file: head.next_file,
+    };
+    let (rowsets, rest) = counted_rowsets_of(alloc, next, rest)?;
     let meta = Meta {
         number: head.number,
         a: head.a,

@@ -2,8 +2,8 @@
 ghost use Rattle.std.specs.Prelude.{◌≡◌, [], ◌==◌};
 ghost use Rattle.std.specs.List.{list_all};
 ghost use Rattle.std.specs.Int.{w8, w16};
-ghost use Rattle.kt_bytes.specs.Reading.{Gives, checked_at};
-ghost use Rattle.kt_super.specs.Columns.{has_id, has_name, is_free_id, may_stand, is_kind, kind_of, are_flags, is_tag, is_bit, is_count, text_at, cell_by, cell_at, default_at, name_at, column_at, columns_at, counted_columns_at};
+ghost use Rattle.kt_bytes.specs.Reading.{Gives, checked_at, many_at};
+ghost use Rattle.kt_super.specs.Columns.{has_id, has_name, is_free_id, may_stand, may_have, names_of, has_free_name, may_be, kind_of, are_flags, is_tag, is_bit, text_at, cell_by, cell_at, default_at, name_at, column_at, counted_columns_at};
 
 use kt_base::limits::COLUMNS;
 use kt_base::{Cell, Kind, Octets};
@@ -53,6 +53,35 @@ fn id_at<'a>(next: u16, earlier: &[Column], bytes: &'a [u8]) -> Result<(u16, &'a
     }
 }
 
+// How many names have so many bytes.
+fn names_of(earlier: &[Column], len: u8) -> usize
+    ensures { result ≡ names_of earlier.now len }
+{
+    earlier
+        .iter()
+        .filter(|column| column.name.len() == len as usize)
+        .count()
+}
+
+// There is one name of no byte, there are 256 of one byte, and of more bytes more than columns.
+fn has_free_name(earlier: &[Column], len: u8) -> bool
+    ensures { result ≡ has_free_name earlier.now len }
+{
+    let all = if len == 0 { 1 } else { 256 };
+    2 <= len || names_of(earlier, len) < all
+}
+
+fn name_len_at<'a>(earlier: &[Column], bytes: &'a [u8]) -> Result<(u8, &'a [u8]), Stop>
+    ensures { Gives (λ x. (x.0, x.1.now)) result (checked_at w8 (has_free_name earlier.now) bytes.now) }
+{
+    let (len, rest) = u8_at(bytes)?;
+    if has_free_name(earlier, len) {
+        Ok((len, rest))
+    } else {
+        fault_at(bytes)
+    }
+}
+
 #[tactic(auto, unfolding(crate::specs::Columns::name_at))]
 fn name_of<'a>(
     alloc: Global,
@@ -61,7 +90,7 @@ fn name_of<'a>(
 ) -> Result<(Octets, &'a [u8]), Stop>
     ensures { Gives (λ x. (x.0, x.1.now)) result (name_at earlier.now bytes.now) }
 {
-    let (len, from) = u8_at(bytes)?;
+    let (len, from) = name_len_at(earlier, bytes)?;
     let (name, rest) = front_of(from, len as usize)?;
     if has_name(earlier, name) {
         return fault_at(from);
@@ -69,11 +98,18 @@ fn name_of<'a>(
     Ok((Octets::from_slice(alloc, name)?, rest))
 }
 
-fn kind_number_at(bytes: &[u8]) -> Result<(u8, &[u8]), Stop>
-    ensures { Gives (λ x. (x.0, x.1.now)) result (checked_at w8 is_kind bytes.now) }
+// The first column is a key, and no key is of truth values.
+fn may_be(earlier: &[Column], number: u8) -> bool
+    ensures { result ≡ may_be earlier.now number }
+{
+    1 <= number && number <= 7 && (1 < number || !earlier.is_empty())
+}
+
+fn kind_number_at<'a>(earlier: &[Column], bytes: &'a [u8]) -> Result<(u8, &'a [u8]), Stop>
+    ensures { Gives (λ x. (x.0, x.1.now)) result (checked_at w8 (may_be earlier.now) bytes.now) }
 {
     let (number, rest) = u8_at(bytes)?;
-    if 1 <= number && number <= 7 {
+    if may_be(earlier, number) {
         Ok((number, rest))
     } else {
         fault_at(bytes)
@@ -187,7 +223,7 @@ fn column_of<'a>(
 {
     let (id, rest) = id_at(next, earlier, bytes)?;
     let (name, rest) = name_of(alloc, earlier, rest)?;
-    let (number, rest) = kind_number_at(rest)?;
+    let (number, rest) = kind_number_at(earlier, rest)?;
     let kind = kind_of(number);
     let (flags, rest) = flags_at(earlier, kind, rest)?;
     let (default, rest) = default_of(alloc, flags, rest)?;
@@ -208,7 +244,7 @@ fn columns_of(
     next: u16,
     bytes: &[u8],
 ) -> Result<(Vec<Column>, &[u8]), Stop>
-    ensures { Gives (λ x. (x.0.items, x.1.now)) result (columns_at count next [] bytes.now) }
+    ensures { Gives (λ x. (x.0.items, x.1.now)) result (many_at (column_at next) count [] bytes.now) }
 {
     let mut columns = Vec::new(alloc);
     let mut rest = bytes;
@@ -220,18 +256,18 @@ fn columns_of(
     Ok((columns, rest))
 }
 
-fn count_at(bytes: &[u8]) -> Result<(u16, &[u8]), Stop>
-    ensures { Gives (λ x. (x.0, x.1.now)) result (checked_at w16 is_count bytes.now) }
+fn count_at(next: u16, bytes: &[u8]) -> Result<(u16, &[u8]), Stop>
+    ensures { Gives (λ x. (x.0, x.1.now)) result (checked_at w16 (may_have next) bytes.now) }
 {
     let (count, rest) = u16_at(bytes)?;
-    if 1 <= count && count as usize <= COLUMNS {
+    if 1 <= count && count as usize <= COLUMNS && count <= next {
         Ok((count, rest))
     } else {
         fault_at(bytes)
     }
 }
 
-/// The columns, with their count before them.
+/// The columns, with their count before them. Their ids differ and are below the next one.
 #[tactic(auto, unfolding(crate::specs::Columns::counted_columns_at))]
 pub fn counted_columns_of(
     alloc: Global,
@@ -240,6 +276,6 @@ pub fn counted_columns_of(
 ) -> Result<(Vec<Column>, &[u8]), Stop>
     ensures { Gives (λ x. (x.0.items, x.1.now)) result (counted_columns_at next bytes.now) }
 {
-    let (count, rest) = count_at(bytes)?;
+    let (count, rest) = count_at(next, bytes)?;
     columns_of(alloc, count, next, rest)
 }

@@ -3,7 +3,8 @@ ghost use Rattle.std.specs.Prelude.{◌≡◌, ◌≢◌, ◌≤◌, ◌<◌, �
 ghost use Rattle.kt_super.specs.Body.{IsMeta};
 ghost use Rattle.kt_base.specs.Causes.{Rose, HasCause};
 ghost use Rattle.kt_disk.specs.Disk.{held, Same, Turns};
-ghost use Rattle.kt_super.specs.Slots.{newer, super_of, slot_at, of_length, IsHead, AreStable};
+ghost use Rattle.kt_super.specs.Slots.{newer, super_of, slot_at, of_length, IsHead, IsSlot, AreStable};
+ghost use Rattle.kt_super.specs.Faults.{IsFaultBehind, IsSlotFault};
 ghost use Rattle.kt_super.specs.Told.{TellsOf};
 
 use crate::slot::{Head, SlotNo, body_told, head_of};
@@ -38,6 +39,7 @@ fn slot_body<D: Disk>(
     requires behind { IsTrue D.tells → 5 ≤ length (held (D.seen disk.old) slot) }
     ensures rules { IfOk result (λ found. IfSome found IsMeta) }
     ensures told { IsTrue D.tells → TellsOf slot result (of_length slot len (drop 5 (held (D.seen disk.old) slot))) }
+    ensures place { (at offset : ℕ) → result ≡ Err (SuperNo.Place at offset) → IsTrue D.tells → IsSlot slot → IsFaultBehind slot len (drop 5 (held (D.seen disk.old) slot)) offset }
     ensures seen { IsTrue D.tells → D.seen disk.new ≡ D.seen disk.old }
     ensures images { IsTrue D.tells → Turns D.now D.leaves Same disk.old disk.new }
     ensures fault { result ≡ Err SuperNo.Fault → Rose (D.faults disk.old) (D.faults disk.new) }
@@ -72,6 +74,7 @@ fn slot_head<D: Disk>(disk: &mut D, slot: u64, len: u64) -> Result<Head, Failed>
 fn slot_told<D: Disk>(alloc: Global, disk: &mut D, slot: u64) -> Result<Option<Meta>, SuperNo>
     ensures rules { IfOk result (λ found. IfSome found IsMeta) }
     ensures told { IsTrue D.tells → TellsOf slot result (slot_at slot (held (D.seen disk.old) slot)) }
+    ensures place { (at offset : ℕ) → result ≡ Err (SuperNo.Place at offset) → IsTrue D.tells → IsSlot slot → IsSlotFault slot (held (D.seen disk.old) slot) offset }
     ensures seen { IsTrue D.tells → D.seen disk.new ≡ D.seen disk.old }
     ensures images { IsTrue D.tells → Turns D.now D.leaves Same disk.old disk.new }
     ensures fault { result ≡ Err SuperNo.Fault → Rose (D.faults disk.old) (D.faults disk.new) }
@@ -111,7 +114,10 @@ pub fn load<D: Disk>(alloc: Global, disk: &mut D) -> Result<Option<Meta>, SuperN
 
     ensures rules { IfOk result (λ found. IfSome found IsMeta) }
 
-    // An open slot is not in the grammar, and here is its first fault, that of slot 1 first.
+    // An open slot is not in the grammar, and here is its first fault, told by the spellings alone.
+    ensures fault_place { (slot offset : ℕ) → result ≡ Err (SuperNo.Place slot offset) → IsTrue D.tells → IsSlotFault slot (held (D.seen disk.old) slot) offset }
+
+    // How the reader finds it, in slot 1 first.
     ensures place { (slot offset : _) → result ≡ Err (SuperNo.Place slot offset) → IsTrue D.tells → super_of (D.seen disk.old) ≡ Err (record { slot = slot; offset = offset }) }
 
     ensures stable { OnOk result (IsTrue D.tells → AreStable D.seen D.now D.leaves disk.new) }

@@ -2,6 +2,7 @@
 ghost use Rattle.std.specs.Prelude.{◌≡◌, ◌≢◌, ◌≤◌, ◌++◌, ℕ, List, IsTrue, true, false, drop, Err, IfOk, OnOk};
 ghost use Rattle.kt_base.specs.Causes.{Rose, HasCause};
 ghost use Rattle.kt_disk.specs.Disk.{held, Same, Turns, LeavesOnly};
+ghost use Rattle.kt_bytes.specs.Places.{AreBytes};
 ghost use Rattle.kt_super.specs.Body.{slot_for, IsMeta};
 ghost use Rattle.kt_super.specs.Slots.{is_open, is_shut, slot_at, super_of, IsSlot, AreStable, IsNext, IsReady, IsWith, Tells, IsOldOrNone};
 
@@ -52,6 +53,7 @@ fn place<D: Disk>(disk: &mut D, slot: u64, rest: &[u8]) -> Result<(), Failed>
     requires stable { IsTrue D.tells → AreStable D.seen D.now D.leaves disk.old }
     ensures closed { OnOk result (IsTrue D.tells → is_open (held (D.seen disk.new) slot) ≡ false) }
     ensures behind { OnOk result (IsTrue D.tells → (more : List ℕ) × (drop 1 (held (D.seen disk.new) slot) ≡ rest.now ++ more)) }
+    ensures bytes { OnOk result (AreBytes rest.now) }
     ensures stable { OnOk result (IsTrue D.tells → AreStable D.seen D.now D.leaves disk.new) }
     ensures others { IsTrue D.tells → (n : ℕ) → n ≢ slot → D.seen disk.new n ≡ D.seen disk.old n }
     ensures any_moment { IsTrue D.tells → LeavesOnly D.now D.leaves (Tells D.now D.leaves disk.old slot (IsOldOrNone (slot_at slot (held (D.seen disk.old) slot)))) disk.old disk.new }

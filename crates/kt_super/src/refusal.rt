@@ -3,6 +3,7 @@ ghost use Rattle.std.specs.Prelude.{◌≡◌};
 
 use kt_base::{Failed, NoMemory};
 use std::alloc::AllocError;
+use thiserror::Error;
 
 /// A byte of a slot.
 #[derive(Clone, Copy, Debug, PartialEq, Eq)]
@@ -12,18 +13,25 @@ pub struct Place {
 }
 
 /// Why no superblock is told.
-#[derive(Clone, Copy, Debug, PartialEq, Eq)]
+#[derive(Clone, Copy, Debug, PartialEq, Eq, Error)]
 pub enum SuperNo {
+    /// The disk failed.
+    #[error("the disk failed")]
     Fault,
     /// An open slot holds no superblock, and here is its first fault.
+    #[error("slot {slot} holds no superblock: it is at fault at offset {offset}")]
     Place { slot: u64, offset: u64 },
+    #[error("out of memory")]
     Memory,
 }
 
 /// Why a superblock is not prepared.
-#[derive(Clone, Copy, Debug, PartialEq, Eq)]
+#[derive(Clone, Copy, Debug, PartialEq, Eq, Error)]
 pub enum PrepareNo {
+    /// The disk failed.
+    #[error("the disk failed")]
     Fault,
+    #[error("out of memory")]
     Memory,
 }
 

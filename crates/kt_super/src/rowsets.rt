@@ -1,8 +1,8 @@
 //! Reading the disk rowsets of a superblock.
 ghost use Rattle.std.specs.Prelude.{◌≡◌, ◌++◌, [], ◌+◌, ◌<◌, IfOk};
-ghost use Rattle.std.specs.Int.{w64};
-ghost use Rattle.kt_bytes.specs.Reading.{Gives, checked_at};
-ghost use Rattle.kt_super.specs.Rowsets.{is_small, numbers_of, is_free, is_rowset, taken_by, file_at, files_at, counted_files_at, rowset_at, rowsets_at, counted_rowsets_at};
+ghost use Rattle.std.specs.Int.{w32, w64};
+ghost use Rattle.kt_bytes.specs.Reading.{Gives, checked_at, many_at};
+ghost use Rattle.kt_super.specs.Rowsets.{is_small, numbers_of, is_free, taken_by, free_numbers, has_room, is_next_rowset, may_have, file_at, next_file_at, counted_files_at, rowset_at, next_rowset_at, counted_rowsets_at};
 
 use crate::taken::Taken;
 use crate::{FileRef, FileRefs, MetaRowset, MetaRowsets};
@@ -44,6 +44,30 @@ fn file_of<'a>(next: u64, taken: &Taken, bytes: &'a [u8]) -> Result<(FileRef, &'
     Ok((FileRef { file, len }, rest))
 }
 
+// How many numbers of data files are free.
+fn free_numbers(next: u64, taken: &Taken) -> u64
+    ensures { result ≡ free_numbers next taken.now }
+{
+    next.saturating_sub(3).saturating_sub(taken.len() as u64)
+}
+
+// So many files, and beside them a base file of each rowset that is to come, have numbers.
+fn file_count_at<'a>(
+    next: u64,
+    taken: &Taken,
+    behind: u32,
+    bytes: &'a [u8],
+) -> Result<(u32, &'a [u8]), Stop>
+    ensures { Gives (λ x. (x.0, x.1.now)) result (checked_at w32 (has_room next taken.now behind) bytes.now) }
+{
+    let (count, rest) = u32_at(bytes)?;
+    if u64::from(count) + u64::from(behind) <= free_numbers(next, taken) {
+        Ok((count, rest))
+    } else {
+        fault_at(bytes)
+    }
+}
+
 fn files_of<'a>(
     alloc: Global,
     count: u32,
@@ -51,7 +75,7 @@ fn files_of<'a>(
     taken: &mut Taken,
     bytes: &'a [u8],
 ) -> Result<(Vec<FileRef>, &'a [u8]), Stop>
-    ensures files { Gives (λ x. (x.0.items, x.1.now)) result (files_at count next taken.old [] bytes.now) }
+    ensures files { Gives (λ x. (x.0.items, x.1.now)) result (many_at (next_file_at next taken.old) count [] bytes.now) }
     ensures taken { IfOk result (λ x. taken.new ≡ taken.old ++ numbers_of x.0.items) }
 {
     let mut files = Vec::new(alloc);
@@ -70,46 +94,56 @@ fn counted_files_of<'a>(
     alloc: Global,
     next: u64,
     taken: &mut Taken,
+    behind: u32,
     bytes: &'a [u8],
 ) -> Result<(FileRefs, &'a [u8]), Stop>
-    ensures files { Gives (λ x. (x.0, x.1.now)) result (counted_files_at next taken.old bytes.now) }
+    ensures files { Gives (λ x. (x.0, x.1.now)) result (counted_files_at next taken.old behind bytes.now) }
     ensures taken { IfOk result (λ x. taken.new ≡ taken.old ++ numbers_of x.0) }
 {
-    let (count, rest) = u32_at(bytes)?;
+    let (count, rest) = file_count_at(next, taken, behind, bytes)?;
     let (files, rest) = files_of(alloc, count, next, taken, rest)?;
     Ok((FileRefs::of(files), rest))
 }
 
-fn rowset_number_at(least: u64, next: u64, bytes: &[u8]) -> Result<(u64, &[u8]), Stop>
-    ensures { Gives (λ x. (x.0, x.1.now)) result (checked_at w64 (is_rowset least next) bytes.now) }
+fn rowset_number_at(least: u64, next: u64, behind: u32, bytes: &[u8]) -> Result<(u64, &[u8]), Stop>
+    ensures number { Gives (λ x. (x.0, x.1.now)) result (checked_at w64 (is_next_rowset least next behind) bytes.now) }
+    ensures below { IfOk result (λ x. x.0 < next) }
 {
     let (number, rest) = u64_at(bytes)?;
-    if least <= number && number < next {
+    if least <= number && u64::from(behind) < next.saturating_sub(number) {
         Ok((number, rest))
     } else {
         fault_at(bytes)
     }
 }
 
+/// The numbers that come next.
+#[derive(Clone, Copy)]
+pub struct Next {
+    pub rowset: u64,
+    pub file: u64,
+}
+
+// A rowset with so many behind it.
 #[tactic(auto, unfolding(crate::specs::Rowsets::rowset_at))]
 fn rowset_of<'a>(
     alloc: Global,
-    next_rowset: u64,
-    next_file: u64,
+    next: Next,
+    behind: u32,
     least: u64,
     taken: &mut Taken,
     bytes: &'a [u8],
 ) -> Result<(MetaRowset, &'a [u8]), Stop>
-    ensures rowset { Gives (λ x. (x.0, x.1.now)) result (rowset_at next_rowset next_file least taken.old bytes.now) }
+    ensures rowset { Gives (λ x. (x.0, x.1.now)) result (rowset_at next.rowset next.file behind least taken.old bytes.now) }
     ensures taken { IfOk result (λ x. taken.new ≡ taken_by taken.old x.0) }
-    ensures below { IfOk result (λ x. x.0.rowset < next_rowset) }
+    ensures below { IfOk result (λ x. x.0.rowset < next.rowset) }
 {
-    let (rowset, rest) = rowset_number_at(least, next_rowset, bytes)?;
+    let (rowset, rest) = rowset_number_at(least, next.rowset, behind, bytes)?;
     let (last_dms, rest) = small_at(rest)?;
-    let (base, rest) = file_of(next_file, taken, rest)?;
+    let (base, rest) = file_of(next.file, taken, rest)?;
     taken.push(base.file)?;
-    let (undo, rest) = counted_files_of(alloc, next_file, taken, rest)?;
-    let (redo, rest) = counted_files_of(alloc, next_file, taken, rest)?;
+    let (undo, rest) = counted_files_of(alloc, next.file, taken, behind, rest)?;
+    let (redo, rest) = counted_files_of(alloc, next.file, taken, behind, rest)?;
     let read = MetaRowset {
         rowset,
         last_dms,
@@ -120,21 +154,20 @@ fn rowset_of<'a>(
     Ok((read, rest))
 }
 
-fn rowsets_of<'a>(
+fn rowsets_of(
     alloc: Global,
     count: u32,
-    next_rowset: u64,
-    next_file: u64,
-    bytes: &'a [u8],
-) -> Result<(Vec<MetaRowset>, &'a [u8]), Stop>
-    ensures { Gives (λ x. (x.0.items, x.1.now)) result (rowsets_at count next_rowset next_file 0 [] [] bytes.now) }
+    next: Next,
+    bytes: &[u8],
+) -> Result<(Vec<MetaRowset>, &[u8]), Stop>
+    ensures { Gives (λ x. (x.0.items, x.1.now)) result (many_at (next_rowset_at next.rowset next.file count) count [] bytes.now) }
 {
     let mut rowsets = Vec::new(alloc);
     let mut taken = Taken::new(alloc);
     let mut least = 0;
     let mut rest = bytes;
-    for _ in 0..count {
-        let (rowset, after) = rowset_of(alloc, next_rowset, next_file, least, &mut taken, rest)?;
+    for i in 0..count {
+        let (rowset, after) = rowset_of(alloc, next, count - i - 1, least, &mut taken, rest)?;
         least = rowset.rowset + 1;
         rowsets.push(rowset)?;
         rest = after;
@@ -142,17 +175,28 @@ fn rowsets_of<'a>(
     Ok((rowsets, rest))
 }
 
-/// The rowsets, with their count before them.
-#[tactic(auto, unfolding(crate::specs::Rowsets::counted_rowsets_at))]
-pub fn counted_rowsets_of<'a>(
-    alloc: Global,
-    next_rowset: u64,
-    next_file: u64,
-    bytes: &'a [u8],
-) -> Result<(MetaRowsets, &'a [u8]), Stop>
-    ensures { Gives (λ x. (x.0, x.1.now)) result (counted_rowsets_at next_rowset next_file bytes.now) }
+// So many rowsets, and their base files, have numbers.
+fn rowset_count_at(next: Next, bytes: &[u8]) -> Result<(u32, &[u8]), Stop>
+    ensures { Gives (λ x. (x.0, x.1.now)) result (checked_at w32 (may_have next.rowset next.file) bytes.now) }
 {
     let (count, rest) = u32_at(bytes)?;
-    let (rowsets, rest) = rowsets_of(alloc, count, next_rowset, next_file, rest)?;
+    if u64::from(count) <= next.rowset && u64::from(count) <= next.file.saturating_sub(3) {
+        Ok((count, rest))
+    } else {
+        fault_at(bytes)
+    }
+}
+
+/// The rowsets, with their count before them.
+#[tactic(auto, unfolding(crate::specs::Rowsets::counted_rowsets_at))]
+pub fn counted_rowsets_of(
+    alloc: Global,
+    next: Next,
+    bytes: &[u8],
+) -> Result<(MetaRowsets, &[u8]), Stop>
+    ensures { Gives (λ x. (x.0, x.1.now)) result (counted_rowsets_at next.rowset next.file bytes.now) }
+{
+    let (count, rest) = rowset_count_at(next, bytes)?;
+    let (rowsets, rest) = rowsets_of(alloc, count, next, rest)?;
     Ok((MetaRowsets::of(rowsets), rest))
 }

@@ -1,5 +1,6 @@
 //! What the bytes of a slot tell.
 ghost use Rattle.std.specs.Prelude.{◌≡◌, ◌+◌, ◌≤◌, ◌<◌, ◌^◌, length, min, nat_le, IfOk, IfSome};
+ghost use Rattle.kt_bytes.specs.Places.{AreBytes};
 ghost use Rattle.kt_super.specs.Body.{IsMeta, body_at};
 ghost use Rattle.kt_super.specs.Slots.{is_open, settled, IsHead};
 ghost use Rattle.kt_super.specs.Told.{Tells};
@@ -60,6 +61,7 @@ pub fn body_told(
     requires room { left + 5 < 2 ^ 64 }
     ensures told { Tells result (settled (nat_le len left) (5 + left) (length body.now) (body_at slot body.now)) }
     ensures rules { IfOk result (λ found. IfSome found IsMeta) }
+    ensures bytes { AreBytes body.now }
 {
     let there = len <= left;
     let misfit = if there { 1 } else { 5 + left };

@@ -1,5 +1,5 @@
 //! The numbers of the files that a superblock has named so far.
-ghost use Rattle.std.specs.Prelude.{◌≡◌, ◌++◌, ◌∷◌, [], OnOk};
+ghost use Rattle.std.specs.Prelude.{◌≡◌, ◌++◌, ◌∷◌, [], length, OnOk};
 ghost use Rattle.kt_super.specs.Rowsets as spec;
 
 use kt_base::NoMemory;
@@ -35,6 +35,12 @@ impl Taken {
             numbers: Vec::new(alloc),
             sorted: BTreeSet::new(alloc),
         }
+    }
+
+    pub fn len(&self) -> usize
+        ensures { result ≡ length self.now }
+    {
+        self.numbers.len()
     }
 
     /// Whether this number is among them.

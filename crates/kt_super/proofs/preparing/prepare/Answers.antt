@@ -1,9 +1,12 @@
-use Rattle.std.proofs.Common.{◌≡◌, ◌++◌, ◌∷◌, List, ℕ, inr, refl, sym, ◌∙◌, ap, subst, drop}
+use Rattle.std.proofs.Common.{◌≡◌, ◌++◌, ◌∷◌, List, ℕ, inr, refl, sym, ◌∙◌, ap, subst, length, drop}
+use Rattle.std.specs.Int.{w32, to_le_bytes}
 use Rattle.kt_disk.specs.Disk.{Files, held, LeavesOnly}
-use Rattle.kt_super.specs.Body.{slot_for}
+use Rattle.kt_bytes.specs.Places.{AreBytes}
+use Rattle.kt_bytes.proofs.Formats.{bytes_back}
+use Rattle.kt_super.specs.Body.{slot_for, spelled_body}
 use Rattle.kt_super.specs.Slots.{slot_at, super_of, spelled_slot, IsSlot, Tells, IsOldOrNone}
 use Rattle.kt_super.proofs.Closing.{closed_tells}
-use Rattle.kt_super.proofs.BodyLaws.{slot_again}
+use Rattle.kt_super.proofs.SlotLaws.{slot_again}
 use Rattle.kt_super.proofs.Supers.{kept, slot_is, next_is}
 use Rattle.kt_super.proofs.Prepares.{superblock_kept, superblock_begun}
 use Rattle.kt_super.proofs.preparing.prepare.Goals as goal
@@ -31,11 +34,12 @@ returns-clause-ready g c told =
     let closed = c.in_ok-place.ensures.closed told in
     let behind = c.in_ok-place.ensures.behind told in
     let text : drop 1 (held files slot) ≡ spelled_slot m ++ behind.0 = behind.1 ∙ ap (λ (l : List ℕ). l ++ behind.0) (c.as_slice.ensures ∙ c.in_ok-rest.ensures.spelled) in
+    let fits : AreBytes (spelled_body m) = bytes_back (to_le_bytes w32 (length (spelled_body m))) (spelled_body m) (subst AreBytes (c.as_slice.ensures ∙ c.in_ok-rest.ensures.spelled) c.in_ok-place.ensures.bytes) in
     let same = kept (seen c.args.disk.now) files m.number (c.requires.next told) slot is (sym here) (λ n is_one apart. c.place.ensures.others told n apart) (inr (closed_tells slot (held files slot) closed)) in
     record {
       slot = here;
       number = refl;
       next = next_is m.number (super_of (seen c.args.disk.now)) (super_of files) (sym same) (c.requires.next told);
       closed = closed;
-      behind = ap (λ (l : List ℕ). slot_at slot (1 ∷ l)) text ∙ slot_again slot m behind.0 c.requires.meta here c.in_ok-rest.ensures.fits;
+      behind = ap (λ (l : List ℕ). slot_at slot (1 ∷ l)) text ∙ slot_again slot m behind.0 c.requires.meta here fits c.in_ok-rest.ensures.fits;
     }

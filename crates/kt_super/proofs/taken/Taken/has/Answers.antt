@@ -1,4 +1,4 @@
-use Rattle.std.proofs.Common.{◌∙◌, sym, ap, List, ℕ}
+use Rattle.std.proofs.Common.{◌∙◌, ap, List, ℕ}
 use Rattle.kt_super.specs.Rowsets as spec
 use Rattle.kt_super.proofs.TakenNumbers.{set_has}
 use Rattle.kt_super.proofs.taken.Taken.has.Goals as goal
