@@ -17,7 +17,8 @@ use Rattle.kt_plain.specs.declared.items.Items.TheVariants.{Numbers, Texts}
 use Rattle.kt_column.specs.declared.form.Form.{Form}
 use Rattle.kt_column.specs.declared.form.Encoding.{Encoding}
 use Rattle.kt_column.specs.Forms.{width, is_nullable, limit}
-use Rattle.kt_column.specs.Values.{AreValues, AreShort, IsEncoded}
+use Rattle.kt_column.specs.Values.{AreValues, IsEncoded}
+use Rattle.kt_plain.specs.Spelling.{AreShort}
 use Rattle.kt_column.specs.Reading.{Reads}
 use Rattle.kt_column.specs.Nulls.{byte_len, null_bytes, count_present}
 use Rattle.kt_column.specs.Blocks.{IsCellOf, IsCell, AreNullsOf, Held, BlockValue, is_null, nulls_in, bit, numbers_in, texts_in, values_of, values_in, is_one, number_cell, value_cells, weave}

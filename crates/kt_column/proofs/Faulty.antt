@@ -1,8 +1,6 @@
 -- A fault stands within the bytes.
 use Rattle.std.proofs.Common.{◌≡◌, ◌≤◌, ◌<◌, ◌+◌, ◌-◌, ◌^◌, inl, inr, ℕ, List, length, drop, arith, refl, sym, subst}
-use Rattle.std.proofs.lemmas.Bool.{cases_lt}
 use Rattle.std.proofs.lemmas.List.{length-drop, take_all}
-use Rattle.kt_plain.specs.declared.widths.Width.{Width}
 use Rattle.kt_plain.specs.Spelling as plain
 use Rattle.kt_plain.specs.declared.widths.NumberWidth.{NumberWidth as RunWidth}
 use Rattle.kt_rle.specs.Spelling as run_length
@@ -13,11 +11,11 @@ use Rattle.std.specs.Prelude.{◌&&◌, nat_lt}
 use Rattle.std.specs.List.{concat}
 use Rattle.kt_bytes.specs.Places.{IsFault, IsPlace}
 use Rattle.kt_column.specs.declared.errors.Stop.{Stop}
-use Rattle.kt_column.specs.declared.errors.Stop.TheVariants.{Memory, Fault, Whole}
+use Rattle.kt_column.specs.declared.errors.Stop.TheVariants.{Memory, Fault}
 use Rattle.kt_column.specs.declared.form.Form.{Form}
 use Rattle.kt_column.specs.declared.form.Encoding.{Encoding}
 use Rattle.kt_column.specs.declared.form.Encoding.TheVariants.{Plain, RunLength, Dictionary, Prefix}
-use Rattle.kt_column.specs.Forms.{width}
+use Rattle.kt_column.specs.Forms.{width, limit}
 use Rattle.kt_column.specs.Values.{run_width}
 use Rattle.kt_column.specs.Reading.{IsFaultOf, IsStop}
 use Rattle.std.proofs.Common.{Bool, true, false, cond, suc, take, ◌∷◌, ◌++◌, ap, ◌∙◌, length-append, length-take}
@@ -27,7 +25,7 @@ use Rattle.kt_base.specs.declared.cell.Cell.{Cell}
 use Rattle.kt_column.specs.Forms.{is_nullable, code}
 use Rattle.kt_column.specs.Nulls.{byte_len, null_bytes}
 use Rattle.kt_column.specs.Blocks.{nulls_in}
-use Rattle.kt_column.specs.Faults.{IsShiftable, IsFrontStop, IsContentStop, IsHead, IsHeadFault, IsBody, IsBodyStop, IsFound, IsBodyFault, IsBlockStop, IsWrongLength, IsTooLong, ReadsContent, shifted, value_count}
+use Rattle.kt_column.specs.Faults.{IsShiftable, IsFrontStop, IsContentStop, IsHead, IsHeadFault, IsBody, IsBodyStop, IsFound, IsBodyFault, IsBlockStop, IsWrongLength, ReadsContent, shifted, value_count}
 
 -- a first fault stands within the bytes
 place_within : (S : List (List ℕ) → Type 0) (bytes : List ℕ) (place : ℕ) → IsFault S bytes place → place ≤ length bytes
@@ -53,16 +51,15 @@ told_within w n bytes place f =
       | inr t ↦ omega (arith, t.1, place_within (run_length.Spelled w n) bytes f.at f.fault)
     ]
 
-pub fault_within : (w : Width) (e : Encoding) (n : ℕ) (bytes : List ℕ) (at : ℕ) → IsFaultOf w e n bytes at → at ≤ length bytes
-fault_within w Plain n bytes at f = place_within (plain.Spelled w n) bytes at f
-fault_within w RunLength n bytes at f = told_within (run_width w) n bytes at f
-fault_within w Dictionary n bytes at f = place_within (dictionary.Spelled n) bytes at f
-fault_within w Prefix n bytes at f = not_later (is_rest f.fault.front && nat_lt f.field (length bytes)) f.field at (length bytes) f.told (place_within (prefix.Spelled n) bytes f.field f.fault)
+pub fault_within : (form : Form) (e : Encoding) (n : ℕ) (bytes : List ℕ) (at : ℕ) → IsFaultOf form e n bytes at → at ≤ length bytes
+fault_within form Plain n bytes at f = place_within (plain.SpelledWithin (limit form) (width form) n) bytes at f
+fault_within form RunLength n bytes at f = told_within (run_width (width form)) n bytes at f
+fault_within form Dictionary n bytes at f = place_within (dictionary.SpelledWithin (limit form) n) bytes at f
+fault_within form Prefix n bytes at f = not_later (is_rest f.fault.front && nat_lt f.field (length bytes)) f.field at (length bytes) f.told (place_within (prefix.SpelledWithin (limit form) n) bytes f.field f.fault)
 
 pub shiftable : (form : Form) (e : Encoding) (n skip : ℕ) (bytes : List ℕ) (stop : Stop) → skip + length bytes < 2 ^ 64 → IsStop form e n bytes stop → IsShiftable skip stop
 shiftable form e n skip bytes Memory room why = tt
-shiftable form e n skip bytes (Fault at) room why = (let within = fault_within (width form) e n bytes at why in omega (arith, within))
-shiftable form e n skip bytes Whole room why = tt
+shiftable form e n skip bytes (Fault at) room why = (let within = fault_within form e n bytes at why in omega (arith, within))
 
 -- the fault of a content stands within it
 
@@ -105,7 +102,6 @@ found_block form e n len bytes rest cs h b =
 pub body_stop : (form : Form) (n : ℕ) (bytes : List ℕ) (stop : Stop) → IsBodyFault form n bytes stop → IsBlockStop form n bytes stop
 body_stop form n bytes Memory h = tt
 body_stop form n bytes (Fault at) h = inr h
-body_stop form n bytes Whole h = inr h
 
 -- the fault of a block stands within the bytes
 
@@ -118,9 +114,8 @@ values_within : (form : Form) (e : Encoding) (n k at : ℕ) (part : List ℕ) (b
 values_within form e n k at part Memory is le why = absurd (cc)
 values_within form e n k at part (Fault i) is le why =
     let place : at ≡ k + i = cc in
-    let within = fault_within (width form) e n (drop k part) i why in
+    let within = fault_within form e n (drop k part) i why in
     omega (arith, place, within, length-drop k part)
-values_within form e n k at part Whole is le why = absurd (cc)
 
 pub content_within : (form : Form) (e : Encoding) (n : ℕ) (part : List ℕ) (at : ℕ) → IsContentStop form e n part (Fault at) → at ≤ length part
 content_within form e n part at (inl h) = front_within (is_nullable form) n part at h
@@ -128,7 +123,8 @@ content_within form e n part at (inr h) = values_within form e (value_count (is_
 
 body_within : (form : Form) (e : Encoding) (n len : ℕ) (rest : List ℕ) (at : ℕ) → IsBodyStop form e n len rest (Fault at) → at ≤ 5 + length rest
 body_within form e n len rest at (inl h) = (let within = content_within form e n rest h.0 h.1.fault in omega (arith, within, h.2))
-body_within form e n len rest at (inr h) = omega (arith, h.1)
+body_within form e n len rest at (inr (inl h)) = omega (arith, h.1)
+body_within form e n len rest at (inr (inr h)) = omega (arith, h.2)
 
 pub block_within : (form : Form) (n : ℕ) (bytes : List ℕ) (at : ℕ) → IsBlockStop form n bytes (Fault at) → at ≤ length bytes
 block_within form n bytes at (inl h) = head_within form bytes at h
@@ -150,17 +146,6 @@ other_content form e n len used rest cs within r none = record { cells = cs; use
 
 pub not_all : (form : Form) (e : Encoding) (n len : ℕ) (rest : List ℕ) (cs : List Cell) → ReadsContent form e n rest cs → ((ds : List Cell) → ReadsContent form e n (take len rest) ds → ⊥) → length rest ≡ len → ⊥
 not_all form e n len rest cs r none same = none cs (subst (λ p. ReadsContent form e n p cs) (sym (take_all len rest (omega (arith, same)))) r)
-
--- a byte list is too long
-pub too_long : (form : Form) (e : Encoding) (n len : ℕ) (rest : List ℕ) → IsContentStop form e n (take len rest) Whole → IsTooLong form e n rest
-too_long form e n len rest long =
-    elim (cases_lt (length rest) len) [
-      | inl less ↦ record { used = length rest; within = omega arith; long = subst (λ p. IsContentStop form e n p Whole) (take_all len rest (omega (arith, less)) ∙ sym (take_all (length rest) rest (omega arith))) long }
-      | inr ge ↦ record { used = len; within = ge; long = long }
-    ]
-
-pub all_too_long : (form : Form) (e : Encoding) (n : ℕ) (rest : List ℕ) → IsContentStop form e n rest Whole → IsTooLong form e n rest
-all_too_long form e n rest long = record { used = length rest; within = omega arith; long = subst (λ p. IsContentStop form e n p Whole) (sym (take_all (length rest) rest (omega arith))) long }
 
 -- the bytes are fewer than the length tells, and all of them are the content
 pub short_content : (form : Form) (e : Encoding) (n len : ℕ) (rest : List ℕ) (cs : List Cell) → length rest < len → ReadsContent form e n (take len rest) cs → IsWrongLength form e n len rest

@@ -5,7 +5,7 @@ use Rattle.std.proofs.lemmas.Nat.{from_le_bytes-to_le_bytes_4}
 use Rattle.std.proofs.Math.Seq.{take-append_seam}
 use Rattle.kt_base.specs.declared.cell.Cell.{Cell}
 use Rattle.kt_column.specs.declared.errors.Stop.{Stop}
-use Rattle.kt_column.specs.declared.errors.Stop.TheVariants.{Memory, Fault, Whole}
+use Rattle.kt_column.specs.declared.errors.Stop.TheVariants.{Memory, Fault}
 use Rattle.kt_column.specs.declared.form.Form.{Form}
 use Rattle.kt_column.specs.declared.form.Encoding.{Encoding}
 use Rattle.kt_column.specs.Forms.{code}
@@ -29,7 +29,6 @@ same_rests form bytes e f len m r s p q =
 
 pub no_head_stop : (form : Form) (bytes : List ℕ) (e : Encoding) (len : ℕ) (r : List ℕ) (stop : Stop) → IsHead form bytes e len r → IsHeadStop form bytes stop → ⊥
 no_head_stop form bytes e len r Memory h f = f
-no_head_stop form bytes e len r Whole h f = f
 no_head_stop form bytes e len r (Fault at) h (inl f) = (let long = ap length h.parts in absurd (omega (arith, long, f.0)))
 no_head_stop form bytes e len r (Fault at) h (inr (inl f)) = f.2 e h.open_ (ap (λ b. get_or b 0 0) h.parts)
 no_head_stop form bytes e len r (Fault at) h (inr (inr f)) =

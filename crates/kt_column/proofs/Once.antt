@@ -1,5 +1,5 @@
 -- No bytes are the spelling of two lists of as many cells.
-use Rattle.std.proofs.Common.{◌≡◌, ℕ, zero, suc, Bool, true, false, List, [], ◌++◌, length, take, drop, refl, sym, ap, ◌∙◌, subst, arith, append_assoc, length-take}
+use Rattle.std.proofs.Common.{◌≡◌, ℕ, zero, suc, Bool, true, false, List, [], ◌++◌, length, take, drop, refl, sym, ap, ◌∙◌, subst, arith, append_assoc, length-take, lit≤}
 use Rattle.std.proofs.lemmas.List.{nil_from_length, length-drop, take-append-drop, append_cancel_left}
 use Rattle.std.proofs.Math.Seq.{take-append_seam}
 use Rattle.kt_base.specs.declared.cell.Cell.{Cell}
@@ -34,7 +34,7 @@ values_once w RunLength n bytes (Numbers xs) (Numbers ys) f g p q a b =
     ap Numbers (runs.spells_one (run_width w) n bytes xs ys (subst (λ k. run_length.Spells (run_width w) k xs bytes) p a) (subst (λ k. run_length.Spells (run_width w) k ys bytes) q b))
 values_once w RunLength n bytes (Texts xs) ys f g p q a b = elim a [ ]
 values_once w RunLength n bytes (Numbers xs) (Texts ys) f g p q a b = elim b [ ]
-values_once w Dictionary n bytes (Texts xs) (Texts ys) f g p q a b = ap Texts (dictionary.one_list bytes n xs ys record { count = p; fits = a.0; parts = a.1 } record { count = q; fits = b.0; parts = b.1 })
+values_once w Dictionary n bytes (Texts xs) (Texts ys) f g p q a b = ap Texts (dictionary.one_list 4294967295 bytes n xs ys (lit≤ tt) record { count = p; fits = a.0; parts = a.1 } record { count = q; fits = b.0; parts = b.1 })
 values_once w Dictionary n bytes (Numbers xs) ys f g p q a b = elim a [ ]
 values_once w Dictionary n bytes (Texts xs) (Numbers ys) f g p q a b = elim b [ ]
 values_once w Prefix n bytes (Texts xs) (Texts ys) f g p q a b = ap Texts (prefix.one_list bytes n xs ys record { count = p; fits = a.0; parts = a.1 } record { count = q; fits = b.0; parts = b.1 })

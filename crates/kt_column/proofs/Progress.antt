@@ -1,5 +1,5 @@
 -- The blocks of a column that were read so far, and what is behind them.
-use Rattle.std.proofs.Common.{◌≡◌, ◌≤◌, ◌<◌, ◌+◌, ◌-◌, ◌*◌, ◌/◌, ◌^◌, inl, inr, ℕ, suc, List, [], ◌++◌, length, take, drop, min, refl, sym, ap, ◌∙◌, subst, arith, append_assoc, append-nil, length-append, length-take}
+use Rattle.std.proofs.Common.{◌≡◌, ◌≤◌, ◌<◌, ◌+◌, ◌-◌, ◌*◌, ◌/◌, ◌^◌, ℕ, suc, List, [], ◌++◌, length, take, drop, min, refl, sym, ap, ◌∙◌, subst, arith, append_assoc, append-nil, length-append, length-take}
 use Rattle.std.proofs.lemmas.List.{nil_from_length, length-drop, drop-drop, take-append-drop}
 use Rattle.std.proofs.Math.Seq.{take-add, drop-append_seam}
 use Rattle.kt_base.specs.declared.cell.Cell.{Cell}
@@ -140,5 +140,4 @@ no_only form rows used n bytes part column refusal p lt is part-is only cs front
 
 pub refusal_shifts : (form : Form) (n used : ℕ) (bytes : List ℕ) (refusal : CodecNo) → used + length bytes < 2 ^ 64 → IsRefusal form n bytes refusal → IsShiftable used refusal
 refusal_shifts form n used bytes answers.Memory room r = tt
-refusal_shifts form n used bytes (answers.Place at) room (inl h) = (let within = block_within form n bytes at h in omega (arith, within, room))
-refusal_shifts form n used bytes (answers.Place at) room (inr h) = omega (arith, h.1, room)
+refusal_shifts form n used bytes (answers.Place at) room h = (let within = block_within form n bytes at h in omega (arith, within, room))

@@ -1,7 +1,7 @@
 -- What the codecs read, as values of a block.
 use Rattle.std.proofs.Common.{◌≡◌, ◌<◌, ◌≤◌, ◌^◌, ℕ, ℤ, List, [], ◌∷◌, length, All, arith, sym, subst, lit≤}
 use Rattle.std.specs.List.{concat, flat_map}
-use Rattle.std.proofs.lemmas.List.Elements.{All-nil, All-append, All-replicate}
+use Rattle.std.proofs.lemmas.List.Elements.{All-nil, All-append, All-replicate, All-from_recursion, recursion_from_All}
 use Rattle.std.proofs.lemmas.List.Sums.{sum_by-le}
 use Rattle.kt_plain.specs.declared.widths.Width.{Width}
 use Rattle.kt_plain.specs.declared.widths.Width.TheVariants as widths
@@ -15,10 +15,15 @@ use Rattle.kt_dict.specs.Reading as dictionary
 use Rattle.kt_front.specs.Reading as prefix
 use Rattle.kt_column.specs.declared.form.Form.{Form}
 use Rattle.kt_column.specs.declared.form.Form.TheVariants.{Cells, Keys}
-use Rattle.kt_column.specs.declared.form.Encoding.TheVariants.{RunLength, Dictionary, Prefix}
+use Rattle.kt_column.specs.declared.form.Encoding.TheVariants.{Plain, RunLength, Dictionary, Prefix}
 use Rattle.kt_column.specs.Forms.{width, limit, IsNumeric, IsInWidth}
 use Rattle.kt_column.specs.Values.{run_width, AreValues}
-use Rattle.kt_column.specs.Reading.{Reads, HasLong}
+use Rattle.kt_column.specs.Reading.{Reads}
+use Rattle.kt_plain.specs.declared.items.Items.{Items}
+use Rattle.kt_plain.specs.Spelling as plain
+use Rattle.kt_dict.specs.Spelling as words
+use Rattle.kt_dict.proofs.Limits.{items_short, entries_short}
+use Rattle.kt_front.proofs.Cells.{short_more}
 use Rattle.kt_column.proofs.Widths.{sum_of_concat, numbers_fit_in, texts_fit_in}
 
 in_plain_width : (w : Width) (z : ℤ) → IsNumeric w → run_length.IsInWidth (run_width w) z → IsInWidth w z
@@ -55,14 +60,32 @@ small_together form ts few short =
 pub are_values : (form : Form) (ts : List (List ℕ)) → width form ≡ widths.Bytes → length ts ≤ 8192 → All (λ t. length t ≤ limit form) ts → AreValues form (Texts ts)
 are_values form ts bytes few short = record { fits = texts_fit_in (width form) ts bytes (omega (arith, few)) (small_together form ts few short); few = few; short = short }
 
-pub dictionary_read : (form : Form) (n : ℕ) (bytes : List ℕ) (ts : List (List ℕ)) → width form ≡ widths.Bytes → n ≤ 8192 → dictionary.Spells bytes n ts → All (λ t. length t ≤ limit form) ts → Reads form Dictionary n bytes (Texts ts)
-dictionary_read form n bytes ts w few s short = record { values = are_values form ts w (omega (arith, s.count)) short; counted = s.count; encoded = (s.fits, s.parts) }
+-- the codecs read what has no longer byte lists
 
-pub prefix_read : (form : Form) (n : ℕ) (bytes : List ℕ) (ts : List (List ℕ)) → width form ≡ widths.Bytes → n ≤ 8192 → prefix.Spells bytes n ts → All (λ t. length t ≤ limit form) ts → Reads form Prefix n bytes (Texts ts)
-prefix_read form n bytes ts w few s short = record { values = are_values form ts w (omega (arith, s.count)) short; counted = s.count; encoded = (s.fits, s.parts) }
+pub plain_read : (form : Form) (n : ℕ) (bytes : List ℕ) (items : Items) → n ≤ 8192 → plain.SpellsWithin (limit form) (width form) n items bytes → Reads form Plain n bytes items
+plain_read form n bytes items few s = record { values = record { fits = s.spells.fits; few = omega (arith, s.spells.counted); short = s.short }; counted = s.spells.counted; encoded = s.spells.spelled }
 
-pub dictionary_long : (form : Form) (n : ℕ) (bytes : List ℕ) (ts : List (List ℕ)) → dictionary.Spells bytes n ts → ¬ All (λ t. length t ≤ limit form) ts → HasLong form Dictionary n bytes
-dictionary_long form n bytes ts s long = record { items = Texts ts; counted = s.count; encoded = (s.fits, s.parts); long = long }
+pub plain_spelled : (form : Form) (n : ℕ) (bytes : List ℕ) (items : Items) → Reads form Plain n bytes items → plain.SpellsWithin (limit form) (width form) n items bytes
+plain_spelled form n bytes items r = record { spells = record { fits = r.values.fits; counted = r.counted; spelled = r.encoded }; short = r.values.short }
 
-pub prefix_long : (form : Form) (n : ℕ) (bytes : List ℕ) (ts : List (List ℕ)) → prefix.Spells bytes n ts → ¬ All (λ t. length t ≤ limit form) ts → HasLong form Prefix n bytes
-prefix_long form n bytes ts s long = record { items = Texts ts; counted = s.count; encoded = (s.fits, s.parts); long = long }
+pub dictionary_read : (form : Form) (n : ℕ) (bytes : List ℕ) (ts : List (List ℕ)) → width form ≡ widths.Bytes → n ≤ 8192 → dictionary.SpellsWithin (limit form) bytes n ts → Reads form Dictionary n bytes (Texts ts)
+dictionary_read form n bytes ts w few s =
+    record {
+      values = are_values form ts w (omega (arith, s.count)) (items_short (limit form) ts s.fits.each);
+      counted = s.count;
+      encoded = (record { few = s.fits.few; each = short_more (limit form) 4294967295 (words.dictionary ts) (omega (arith, limited form)) s.fits.each }, s.parts);
+    }
+
+pub dictionary_spelled : (form : Form) (n : ℕ) (bytes : List ℕ) (ts : List (List ℕ)) → Reads form Dictionary n bytes (Texts ts) → dictionary.SpellsWithin (limit form) bytes n ts
+dictionary_spelled form n bytes ts r = record { count = r.counted; fits = record { few = r.encoded.0.few; each = entries_short (limit form) ts r.values.short }; parts = r.encoded.1 }
+
+pub prefix_read : (form : Form) (n : ℕ) (bytes : List ℕ) (ts : List (List ℕ)) → width form ≡ widths.Bytes → n ≤ 8192 → prefix.SpellsWithin (limit form) bytes n ts → Reads form Prefix n bytes (Texts ts)
+prefix_read form n bytes ts w few s =
+    record {
+      values = are_values form ts w (omega (arith, s.count)) (All-from_recursion (λ t. length t ≤ limit form) ts s.fits.each);
+      counted = s.count;
+      encoded = (record { each = short_more (limit form) 4294967295 ts (omega (arith, limited form)) s.fits.each }, s.parts);
+    }
+
+pub prefix_spelled : (form : Form) (n : ℕ) (bytes : List ℕ) (ts : List (List ℕ)) → Reads form Prefix n bytes (Texts ts) → prefix.SpellsWithin (limit form) bytes n ts
+prefix_spelled form n bytes ts r = record { count = r.counted; fits = record { each = recursion_from_All (λ t. length t ≤ limit form) ts r.values.short }; parts = r.encoded.1 }

@@ -17,7 +17,7 @@ use Rattle.kt_rle.specs.Spelling as run_length
 use Rattle.kt_rle.proofs.Once.{spelled_once}
 use Rattle.kt_dict.specs.Spelling as dictionary
 use Rattle.kt_dict.specs.Writing.{text}
-use Rattle.kt_dict.proofs.Short.{short_entries, length-spelling}
+use Rattle.kt_dict.proofs.Short.{no_longer, short_entries, length-spelling}
 use Rattle.kt_dict.proofs.Held.{so_far_less}
 use Rattle.kt_dict.proofs.Owned.{text_more}
 use Rattle.kt_front.specs.Spelling as prefix
@@ -170,7 +170,7 @@ used_too_much items ds rest most so_far (inr long) fits = (let less = so_far_les
 
 -- all of the list
 pub used_up : (items ds : List (List ℕ)) → length ds ≤ 4096 → sum_by length items < 2 ^ 32 → ds ≡ dictionary.dictionary items → dictionary.Fits items × (length (dictionary.spelling items) ≡ 2 + length (flat_map text ds) + 2 * length items)
-used_up items ds few small is = (record { few = omega (arith, ap length is, few); each = short_entries items small }, length-spelling items ds is)
+used_up items ds few small is = (record { few = omega (arith, ap length is, few); each = no_longer (dictionary.dictionary items) (short_entries items small) }, length-spelling items ds is)
 
 -- byte lists gone over
 pub sum_more : (ts : List (List ℕ)) (i : ℕ) → i < length ts → sum_by length (take (i + 1) ts) ≡ sum_by length (take i ts) + length (get_or ts i [])

@@ -2,16 +2,16 @@
 -- its encoding, its length, which cells are null, the values. A field is at fault at its first byte.
 -- The nulls and the values tell themselves where they end, so they are read whatever the length says;
 -- a length that disagrees with them is at fault itself. Where bytes are missing, the place is the
--- length of the input. The rules on a block as a whole, that its encoding is the shortest and that no
--- byte list is too long, are rules on its first field, the encoding: they are checked last, and then it
--- is at fault.
+-- length of the input. A byte list that is too long is at fault at its length field. The rule on a block
+-- as a whole, that its encoding is the shortest, is one on its first field, the encoding: it is checked
+-- last, and then that is at fault.
 use Rattle.std.specs.Prelude.{◌≡◌, ◌≢◌, ◌≤◌, ◌<◌, ◌+◌, ◌^◌, ◌⊎◌, ℕ, Bool, true, false, List, [], ◌∷◌, ◌++◌, length, take, drop, slice_index}
 use Rattle.std.specs.Int.{w32, to_le_bytes}
 use Rattle.kt_base.specs.declared.cell.Cell.{Cell}
 use Rattle.kt_column.specs.declared.errors.CodecNo.{CodecNo}
 use Rattle.kt_column.specs.declared.errors.CodecNo.TheVariants as answers
 use Rattle.kt_column.specs.declared.errors.Stop.{Stop}
-use Rattle.kt_column.specs.declared.errors.Stop.TheVariants.{Memory, Fault, Whole}
+use Rattle.kt_column.specs.declared.errors.Stop.TheVariants.{Memory, Fault}
 use Rattle.kt_column.specs.declared.form.Form.{Form}
 use Rattle.kt_column.specs.declared.form.Encoding.{Encoding}
 use Rattle.kt_column.specs.Forms.{width, is_nullable, code, MayUse}
@@ -30,7 +30,6 @@ IsHeadFault form bytes at =
 abbrev pub IsHeadStop : Form → List ℕ → Stop → Type 0
 IsHeadStop form bytes Memory = ⊥
 IsHeadStop form bytes (Fault at) = IsHeadFault form bytes at
-IsHeadStop form bytes Whole = ⊥
 
 -- the bytes begin with an encoding that the column may use, and a length
 pub record IsHead (form : Form) (bytes : List ℕ) (encoding : Encoding) (len : ℕ) (rest : List ℕ) : Type 0 where
@@ -58,13 +57,11 @@ abbrev pub IsFrontStop : Bool → ℕ → List ℕ → Stop → Type 0
 IsFrontStop true n part stop = IsNullStop n part stop
 IsFrontStop false n part Memory = Unit {0}
 IsFrontStop false n part (Fault at) = ⊥
-IsFrontStop false n part Whole = ⊥
 
 -- a fault behind so many bytes
 abbrev pub shifted : ℕ → Stop → Stop
 shifted k Memory = Memory
 shifted k (Fault at) = Fault (k + at)
-shifted k Whole = Whole
 
 -- the bytes are which of n cells are null, and their values in an encoding
 pub record ReadsContent (form : Form) (encoding : Encoding) (n : ℕ) (part : List ℕ) (cs : List Cell) : Type 0 where
@@ -90,7 +87,6 @@ IsContentStop form encoding n part stop = IsFrontStop (is_nullable form) n part 
 abbrev pub IsShiftable : ℕ → Stop → Type 0
 IsShiftable k Memory = Unit {0}
 IsShiftable k (Fault at) = k + at < 2 ^ 64
-IsShiftable k Whole = Unit {0}
 
 -- what is behind the first fields of these cells' block
 pub record IsBody (form : Form) (encoding : Encoding) (n len : ℕ) (rest : List ℕ) (cs : List Cell) : Type 0 where
@@ -117,19 +113,13 @@ pub record IsWrongLength (form : Form) (encoding : Encoding) (n len : ℕ) (rest
   pub content : ReadsContent form encoding n (take used rest) cells
   pub differs : used ≢ len
 
--- the nulls and the values are so many bytes, but for a byte list that is too long
-pub record IsTooLong (form : Form) (encoding : Encoding) (n : ℕ) (rest : List ℕ) : Type 0 where
-  pub used : ℕ
-  pub within : used ≤ length rest
-  pub long : IsContentStop form encoding n (take used rest) Whole
-
 -- the fault of a block behind its first fields: of its content, of its length, or of the block as a whole
 abbrev pub IsBodyStop : Form → Encoding → ℕ → ℕ → List ℕ → Stop → Type 0
 IsBodyStop form encoding n len rest Memory = Unit {0}
 IsBodyStop form encoding n len rest (Fault place) =
     ((at : ℕ) × IsContentFault form encoding n rest at × (place ≡ 5 + at))
-    ⊎ (IsWrongLength form encoding n len rest × (place ≡ 1))
-IsBodyStop form encoding n len rest Whole = IsTooLong form encoding n rest ⊎ ((len ≤ length rest) × IsLonger form encoding n (take len rest))
+    ⊎ ((IsWrongLength form encoding n len rest × (place ≡ 1))
+    ⊎ ((len ≤ length rest) × IsLonger form encoding n (take len rest) × (place ≡ 0)))
 
 -- why no block was read: its first fields, or what is behind them
 pub record IsBodyFault (form : Form) (n : ℕ) (bytes : List ℕ) (stop : Stop) : Type 0 where
@@ -149,7 +139,7 @@ pub record IsFound (form : Form) (n : ℕ) (bytes : List ℕ) (cs : List Cell) (
   pub counted : length cs ≡ n
   pub spelled : SpellsBlock form cs (take len bytes)
 
--- The answer of a decoder without a block. A fault of the block as a whole is one of its first byte.
+-- the answer of a decoder without a block
 abbrev pub IsRefusal : Form → ℕ → List ℕ → CodecNo → Type 0
 IsRefusal form n bytes answers.Memory = Unit {0}
-IsRefusal form n bytes (answers.Place offset) = IsBlockStop form n bytes (Fault offset) ⊎ (IsBlockStop form n bytes Whole × (offset ≡ 0))
+IsRefusal form n bytes (answers.Place offset) = IsBlockStop form n bytes (Fault offset)

@@ -1,7 +1,7 @@
 -- Which cells of a block are null, and the bytes that say so.
 use Rattle.std.specs.Prelude.{◌≡◌, ◌+◌, ◌-◌, ◌*◌, ◌/◌, ◌%◌, ◌^◌, ◌<◌, ◌≤◌, ◌⊎◌, ◌==◌, ℕ, zero, suc, Bool, true, false, List, [], ◌∷◌, ◌++◌, length, take, drop, min, slice_index, Option, None, Some, if◌then◌else◌}
 use Rattle.kt_column.specs.declared.errors.Stop.{Stop}
-use Rattle.kt_column.specs.declared.errors.Stop.TheVariants.{Memory, Fault, Whole}
+use Rattle.kt_column.specs.declared.errors.Stop.TheVariants.{Memory, Fault}
 
 -- how many bytes the bits of so many cells take
 abbrev pub byte_len : ℕ → ℕ
@@ -62,4 +62,3 @@ pub record ReadsNulls (n : ℕ) (bytes : List ℕ) (nulls : List Bool) : Type 0 
 abbrev pub IsNullStop : ℕ → List ℕ → Stop → Type 0
 IsNullStop n bytes Memory = Unit {0}
 IsNullStop n bytes (Fault at) = IsNullFault n bytes at
-IsNullStop n bytes Whole = ⊥

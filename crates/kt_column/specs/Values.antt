@@ -1,5 +1,5 @@
 -- The values of a block, which are its cells that are not null, and their bytes.
-use Rattle.std.specs.Prelude.{◌≡◌, ◌≤◌, ◌<◌, ◌⊎◌, ℕ, List, length, All, Option, Some, None, MatchOption}
+use Rattle.std.specs.Prelude.{◌≡◌, ◌≤◌, ◌<◌, ◌⊎◌, ℕ, List, length, Option, Some, None, MatchOption}
 use Rattle.kt_plain.specs.declared.widths.Width.{Width}
 use Rattle.kt_plain.specs.declared.widths.Width.TheVariants as widths
 use Rattle.kt_plain.specs.declared.widths.NumberWidth.TheVariants as number_widths
@@ -23,16 +23,11 @@ abbrev pub run_width : Width → NumberWidth
 run_width (widths.Numbers w) = w
 run_width widths.Bytes = number_widths.Eight
 
--- no byte list is longer
-abbrev pub AreShort : ℕ → Items → Type 0
-AreShort most (Numbers zs) = Unit {0}
-AreShort most (Texts ts) = All (λ t. length t ≤ most) ts
-
 -- the values may stand in a block
 pub record AreValues (form : Form) (items : Items) : Type 0 where
   pub fits : plain.Fits (width form) items
   pub few : count items ≤ 8192
-  pub short : AreShort (limit form) items
+  pub short : plain.AreShort (limit form) items
 
 -- the bytes are those of the values in an encoding, which is one for their kind
 abbrev pub IsEncoded : Width → Encoding → Items → List ℕ → Type 0

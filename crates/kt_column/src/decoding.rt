@@ -185,13 +185,11 @@ fn content_stop(
     let at = match check_content(alloc, form, encoding, n, rest) {
         Ok(()) => return Stop::Fault { at: 1 },
         Err(Stop::Memory) => return Stop::Memory,
-        Err(Stop::Whole) => return Stop::Whole,
         Err(Stop::Fault { at }) => at,
     };
     match check_content(alloc, form, encoding, n, front_of(rest, at)) {
         Ok(()) => Stop::Fault { at: 1 },
         Err(Stop::Memory) => Stop::Memory,
-        Err(Stop::Whole) => Stop::Whole,
         Err(Stop::Fault { .. }) => Stop::Fault { at: 5 + at },
     }
 }
@@ -209,7 +207,6 @@ fn body(alloc: Global, form: Form, n: u32, head: Head<'_>) -> Result<Block, Stop
     let read = match read_content(alloc, form, head.encoding, n, front_of(head.rest, head.len)) {
         Ok(read) => read,
         Err(Stop::Memory) => return Err(Stop::Memory),
-        Err(Stop::Whole) => return Err(Stop::Whole),
         Err(Stop::Fault { .. }) => {
             let stop = content_stop(alloc, form, head.encoding, n, head.len, head.rest);
             return Err(stop);
@@ -220,7 +217,7 @@ fn body(alloc: Global, form: Form, n: u32, head: Head<'_>) -> Result<Block, Stop
     }
     match is_least(alloc, form, head.encoding, &read) {
         Ok(true) => Ok(Block::of(form, read.nulls, read.values)),
-        Ok(false) => Err(Stop::Whole),
+        Ok(false) => Err(Stop::Fault { at: 0 }),
         Err(NoMemory) => Err(Stop::Memory),
     }
 }
@@ -261,6 +258,5 @@ pub fn decode_block(alloc: Global, form: Form, n: u32, bytes: &[u8]) -> Result<F
         Ok(found) => Ok(found),
         Err(Stop::Memory) => Err(CodecNo::Memory),
         Err(Stop::Fault { at }) => Err(CodecNo::Place { offset: at as u64 }),
-        Err(Stop::Whole) => Err(CodecNo::Place { offset: 0 }),
     }
 }

@@ -25,12 +25,11 @@ impl From<NoMemory> for CodecNo {
     }
 }
 
-/// Why reading stopped: no memory, a fault at a place, or one of the block as a whole.
+/// Why reading stopped: no memory, or a fault at a place.
 #[derive(Clone, Copy, Debug)]
 pub enum Stop {
     Memory,
     Fault { at: usize },
-    Whole,
 }
 
 impl From<NoMemory> for Stop {

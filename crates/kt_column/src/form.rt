@@ -52,7 +52,7 @@ impl Form {
     }
 
     /// The most bytes that a string, a binary or a key has.
-    pub fn limit(self) -> usize
+    pub fn limit(self) -> u32
         ensures { result ≡ forms.limit self }
     {
         match self {

@@ -10,9 +10,9 @@
 //! a block and a column as their lists of cells.
 //!
 //! `spell` writes the one spelling, and `decode` answers the cells exactly where the bytes begin with
-//! their spelling, and otherwise the first place at which they don't. A block that is written in an
-//! encoding that is not the shortest, or with a byte list that is too long, is at fault at its first
-//! byte, the number of its encoding: both are rules on the block as a whole.
+//! their spelling, and otherwise the first place at which they don't. A byte list that is too long
+//! is at fault at its length. A block that is written in an encoding that is not the shortest is at
+//! fault at its first byte, the number of its encoding: that is a rule on the block as a whole.
 #![tactic(auto)]
 
 mod block;

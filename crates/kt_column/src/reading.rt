@@ -1,7 +1,6 @@
 //! From the bytes of a block's values to the values, as they are held.
 
-ghost use Rattle.std.specs.Prelude.{◌≡◌, ◌<◌, ◌≤◌, length, All, IfOk, IfErr};
-ghost use Rattle.std.specs.Bool.{OnTrue, OnFalse};
+ghost use Rattle.std.specs.Prelude.{◌≡◌, ◌≤◌, IfOk, IfErr};
 ghost use Rattle.kt_plain.specs.declared.items.Items.{Items};
 ghost use Rattle.kt_column.specs.Forms.{width, IsNumeric, MayUse};
 ghost use Rattle.kt_column.specs.Reading.{Reads, ReadsValues, IsStop, HoldsOrMemory};
@@ -10,67 +9,19 @@ use crate::errors::Stop;
 use crate::form::{Encoding, Form};
 use crate::held::Values;
 use crate::values::run_width;
-use kt_plain::{Items, Texts, Width};
+use kt_plain::Width;
 use std::alloc::Global;
 
-/// Whether no byte list is longer.
-#[tactic(auto, using(crate::proofs::Lists::all_more, crate::proofs::Lists::all_of_take, crate::proofs::Lists::concat_more))]
-fn are_short(texts: &Texts, most: usize) -> bool
-    ensures yes { OnTrue result (All (λ t. length t ≤ most) texts.now) }
-    ensures no { OnFalse result (¬ All (λ t. length t ≤ most) texts.now) }
-{
-    'texts: for i in 0..texts.len() {
-        if texts.get(i).len() > most {
-            return false;
-        }
-    }
-    true
-}
-
-/// Whether no item of a dictionary is longer.
-#[tactic(auto, using(crate::proofs::Lists::all_more, crate::proofs::Lists::all_of_take, crate::proofs::Lists::concat_more))]
-fn is_dictionary_short(items: &kt_dict::Items, most: usize) -> bool
-    ensures yes { OnTrue result (All (λ t. length t ≤ most) items.now) }
-    ensures no { OnFalse result (¬ All (λ t. length t ≤ most) items.now) }
-{
-    'items: for i in 0..items.len() {
-        if items.item(i).len() > most {
-            return false;
-        }
-    }
-    true
-}
-
-/// Whether no item of a prefix block is longer.
-#[tactic(auto, using(crate::proofs::Lists::all_more, crate::proofs::Lists::all_of_take, crate::proofs::Lists::concat_more))]
-fn are_prefixes_short(items: &kt_front::Items, most: usize) -> bool
-    requires { length items.now ≤ 8192 }
-    ensures yes { OnTrue result (All (λ t. length t ≤ most) items.now) }
-    ensures no { OnFalse result (¬ All (λ t. length t ≤ most) items.now) }
-{
-    'items: for i in 0..items.len() {
-        if items.item(i as u32).len() > most {
-            return false;
-        }
-    }
-    true
-}
-
 /// The values that the bytes are, as plain values.
+#[tactic(auto, using(crate::proofs::Readings::plain_read, crate::proofs::Readings::plain_spelled))]
 fn read_plain(alloc: Global, form: Form, n: u32, bytes: &[u8]) -> Result<Values, Stop>
     requires { n ≤ 8192 }
     ensures found { IfOk result (ReadsValues form Encoding.Plain n bytes.now) }
     ensures only { (items : Items) → Reads form Encoding.Plain n bytes.now items → HoldsOrMemory result items }
     ensures stop { IfErr result (IsStop form Encoding.Plain n bytes.now) }
 {
-    match kt_plain::decode(alloc, bytes, n, form.width()) {
-        Ok(Items::Numbers(numbers)) => Ok(Values::Plain(Items::Numbers(numbers))),
-        Ok(Items::Texts(texts)) => {
-            if !are_short(&texts, form.limit()) {
-                return Err(Stop::Whole);
-            }
-            Ok(Values::Plain(Items::Texts(texts)))
-        }
+    match kt_plain::decode_within(alloc, bytes, n, form.width(), form.limit()) {
+        Ok(items) => Ok(Values::Plain(items)),
         Err(kt_plain::CodecNo::Place { offset }) => Err(Stop::Fault {
             at: offset as usize,
         }),
@@ -97,7 +48,7 @@ fn read_runs(alloc: Global, form: Form, n: u32, bytes: &[u8]) -> Result<Values, 
 }
 
 /// The values that the bytes are, as a dictionary.
-#[tactic(auto, using(crate::proofs::Readings::dictionary_read, crate::proofs::Readings::dictionary_long))]
+#[tactic(auto, using(crate::proofs::Readings::dictionary_read, crate::proofs::Readings::dictionary_spelled))]
 fn read_dictionary(alloc: Global, form: Form, n: u32, bytes: &[u8]) -> Result<Values, Stop>
     requires few { n ≤ 8192 }
     requires bytes { width form ≡ Width.Bytes }
@@ -105,13 +56,8 @@ fn read_dictionary(alloc: Global, form: Form, n: u32, bytes: &[u8]) -> Result<Va
     ensures only { (items : Items) → Reads form Encoding.Dictionary n bytes.now items → HoldsOrMemory result items }
     ensures stop { IfErr result (IsStop form Encoding.Dictionary n bytes.now) }
 {
-    match kt_dict::decode(alloc, bytes, n, kt_dict::Width::Bytes) {
-        Ok(items) => {
-            if !is_dictionary_short(&items, form.limit()) {
-                return Err(Stop::Whole);
-            }
-            Ok(Values::Dictionary(items))
-        }
+    match kt_dict::decode_within(alloc, bytes, n, kt_dict::Width::Bytes, form.limit()) {
+        Ok(items) => Ok(Values::Dictionary(items)),
         Err(kt_dict::CodecNo::Place { offset }) => Err(Stop::Fault {
             at: offset as usize,
         }),
@@ -120,7 +66,7 @@ fn read_dictionary(alloc: Global, form: Form, n: u32, bytes: &[u8]) -> Result<Va
 }
 
 /// The values that the bytes are, as what each shares with the one before and the rest.
-#[tactic(auto, using(crate::proofs::Readings::prefix_read, crate::proofs::Readings::prefix_long))]
+#[tactic(auto, using(crate::proofs::Readings::prefix_read, crate::proofs::Readings::prefix_spelled))]
 fn read_prefixes(alloc: Global, form: Form, n: u32, bytes: &[u8]) -> Result<Values, Stop>
     requires few { n ≤ 8192 }
     requires bytes { width form ≡ Width.Bytes }
@@ -128,13 +74,8 @@ fn read_prefixes(alloc: Global, form: Form, n: u32, bytes: &[u8]) -> Result<Valu
     ensures only { (items : Items) → Reads form Encoding.Prefix n bytes.now items → HoldsOrMemory result items }
     ensures stop { IfErr result (IsStop form Encoding.Prefix n bytes.now) }
 {
-    match kt_front::decode(alloc, bytes, n, kt_front::Width::Bytes) {
-        Ok(items) => {
-            if !are_prefixes_short(&items, form.limit()) {
-                return Err(Stop::Whole);
-            }
-            Ok(Values::Prefixes(items))
-        }
+    match kt_front::decode_within(alloc, bytes, n, kt_front::Width::Bytes, form.limit()) {
+        Ok(items) => Ok(Values::Prefixes(items)),
         Err(kt_front::CodecNo::Place { offset }) => Err(Stop::Fault {
             at: offset as usize,
         }),

@@ -1,5 +1,5 @@
 -- A field that is read is the field that was written, and what was written is read again.
-use Rattle.std.proofs.Common.{◌≡◌, ℕ, ◌+◌, ◌^◌, ◌<◌, Bool, true, List, [], ◌∷◌, ◌++◌, length, map, Ok, refl, sym, ap, subst, ◌∙◌, append_assoc, arith, length-append}
+use Rattle.std.proofs.Common.{◌≡◌, ℕ, ◌+◌, ◌^◌, ◌<◌, ◌≤◌, Bool, true, List, [], ◌∷◌, ◌++◌, length, map, Ok, refl, sym, ap, subst, ◌∙◌, append_assoc, arith, length-append}
 use Rattle.std.specs.Int.{w16, w32, from_le_bytes}
 use Rattle.std.specs.List.{concat, flat_map}
 use Rattle.std.proofs.lemmas.List.{get_or_append_left, get_or_past}
@@ -10,6 +10,7 @@ use Rattle.kt_bytes.proofs.Numbers.{IsBytes, Takes, Takes-then, wide16, wide32, 
 use Rattle.kt_dict.specs.Spelling.{short, number, entry, code, block, dictionary, spelling}
 use Rattle.kt_dict.specs.Writing.{text}
 use Rattle.kt_dict.specs.Walk.{is_length, text_at}
+use Rattle.kt_dict.proofs.Fresh.{within_length}
 
 pub length-short : (n : ℕ) → length (short n) ≡ 2
 unfolding short
@@ -61,32 +62,30 @@ bytes_front xs rest h i =
       | inr le ↦ rw (get_or_past xs i 0 le) (omega arith)
     ]
 
-pub record Taken (known : List (List ℕ)) (bytes : List ℕ) (x : List ℕ × List ℕ) : Type 0 where
+pub record Taken (most : ℕ) (known : List (List ℕ)) (bytes : List ℕ) (x : List ℕ × List ℕ) : Type 0 where
   pub takes : Takes bytes (text x.0) x.1
-  pub short : length x.0 < 2 ^ 32
+  pub short : length x.0 ≤ most
   pub bytes_fit : IsBytes x.0
-  pub open_length : is_length known (length x.0) ≡ true
 
-pub text_takes : (known : List (List ℕ)) (bytes : List ℕ) (x : List ℕ × List ℕ) → IsBytes bytes → text_at known bytes ≡ Ok x → Taken known bytes x
+pub text_takes : (most : ℕ) (known : List (List ℕ)) (bytes : List ℕ) (x : List ℕ × List ℕ) → IsBytes bytes → text_at most known bytes ≡ Ok x → Taken most known bytes x
 unfolding text_at text
-text_takes known bytes x fits e =
-    let b = bind_ok (checked_at w32 (is_length known) bytes) (λ len. bytes_at len.0 len.1) x e in
-    let t = number_is (is_length known) bytes b.0 fits b.1 in
+text_takes most known bytes x fits e =
+    let b = bind_ok (checked_at w32 (is_length most known) bytes) (λ len. bytes_at len.0 len.1) x e in
+    let t = number_is (is_length most known) bytes b.0 fits b.1 in
     let s = bytes_takes b.0.0 b.0.1 x t.0.rest_fits b.2 in
     let len : b.0.0 ≡ length x.0 = sym s.1 in
     record {
       takes = subst (λ (k : ℕ). Takes bytes (number k ++ x.0) x.1) len (Takes-then bytes (number b.0.0) b.0.1 x.0 x.1 t.0 s.0);
-      short = omega (arith, t.2, s.1);
+      short = omega (arith, (within_length most known b.0.0 t.1).0, s.1);
       bytes_fit = bytes_front x.0 x.1 (subst IsBytes s.0.parts t.0.rest_fits);
-      open_length = subst (λ (k : ℕ). is_length known k ≡ true) len t.1;
     }
 
-pub text_again : (known : List (List ℕ)) (x rest : List ℕ) → length x < 2 ^ 32 → is_length known (length x) ≡ true → text_at known (text x ++ rest) ≡ Ok (x, rest)
+pub text_again : (most : ℕ) (known : List (List ℕ)) (x rest : List ℕ) → length x < 2 ^ 32 → is_length most known (length x) ≡ true → text_at most known (text x ++ rest) ≡ Ok (x, rest)
 unfolding text_at text
-text_again known x rest lt stands =
+text_again most known x rest lt stands =
     let split : (number (length x) ++ x) ++ rest ≡ number (length x) ++ (x ++ rest) = append_assoc (number (length x)) x rest in
-    ap (λ (b : List ℕ). checked_at w32 (is_length known) b >>= λ len. bytes_at len.0 len.1) split
-    ∙ (then_is (checked_at w32 (is_length known) (number (length x) ++ (x ++ rest))) (λ len. bytes_at len.0 len.1) (length x, x ++ rest) (number_passes (is_length known) (length x) (x ++ rest) lt stands)
+    ap (λ (b : List ℕ). checked_at w32 (is_length most known) b >>= λ len. bytes_at len.0 len.1) split
+    ∙ (then_is (checked_at w32 (is_length most known) (number (length x) ++ (x ++ rest))) (λ len. bytes_at len.0 len.1) (length x, x ++ rest) (number_passes (is_length most known) (length x) (x ++ rest) lt stands)
     ∙ bytes_again x rest)
 
 pub length-text : (bytes : List ℕ) → length (text bytes) ≡ 4 + length bytes

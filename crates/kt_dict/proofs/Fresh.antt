@@ -1,12 +1,12 @@
 -- A byte string of some length that is not among others, and where there is none.
-use Rattle.std.proofs.Common.{◌≡◌, ℕ, zero, suc, ◌+◌, ◌/◌, ◌%◌, ◌^◌, ◌<◌, ◌≤◌, Bool, true, false, cond, not, ◌||◌, List, [], ◌∷◌, ◌++◌, length, get_or, refl, sym, ap, subst, ◌∙◌, append_assoc, arith, inl, inr}
-use Rattle.std.specs.Prelude.{◌⊎◌, nat_eq, ◌==◌, replicate}
+use Rattle.std.proofs.Common.{◌≡◌, ℕ, zero, suc, ◌+◌, ◌/◌, ◌%◌, ◌^◌, ◌<◌, ◌≤◌, Bool, true, false, cond, not, ◌||◌, ◌&&◌, List, [], ◌∷◌, ◌++◌, length, get_or, refl, sym, ap, subst, ◌∙◌, append_assoc, arith, inl, inr}
+use Rattle.std.specs.Prelude.{◌⊎◌, nat_eq, nat_le, ◌==◌, replicate}
 use Rattle.std.specs.List.{AllByRecursion}
-use Rattle.std.proofs.lemmas.Bool.{cases_lt}
+use Rattle.std.proofs.lemmas.Bool.{cases_lt, leb-true}
 use Rattle.std.proofs.lemmas.Bool.Decides.{nat_tests}
 use Rattle.std.proofs.lemmas.List.{append-nil, length_push}
 use Rattle.kt_dict.specs.Spelling.{AreBytes, same, has}
-use Rattle.kt_dict.specs.Walk.{has_free, is_length}
+use Rattle.kt_dict.specs.Walk.{has_free, is_open, is_length}
 use Rattle.kt_dict.proofs.Words.{Own, own_nil, own_push, same_is}
 
 -- among m strings there is this one, or none of them is it
@@ -165,8 +165,8 @@ not_false : (b : Bool) → not b ≡ false → b ≡ true
 not_false true e = refl
 not_false false e = absurd cc
 
-pub fresh : (known : List (List ℕ)) (len : ℕ) → length known < 65536 → is_length known len ≡ true → (x : List ℕ) × IsFresh known len x
-unfolding is_length
+pub fresh : (known : List (List ℕ)) (len : ℕ) → length known < 65536 → is_open known len ≡ true → (x : List ℕ) × IsFresh known len x
+unfolding is_open
 fresh known zero lt e = ([], record { length_is = refl; bytes = no_bytes; is_new = not_true (has known []) e })
 fresh known (suc zero) lt e =
     let r = free_byte known 256 e in
@@ -178,12 +178,12 @@ fresh known (suc (suc n)) lt e =
 not_eq : (m n : ℕ) → n < m → (m == n) ≡ false
 not_eq m n lt = grind (arith, nat_tests)
 
-long_length : (known : List (List ℕ)) (len : ℕ) → 2 ≤ len → is_length known len ≡ true
-unfolding is_length
+long_length : (known : List (List ℕ)) (len : ℕ) → 2 ≤ len → is_open known len ≡ true
+unfolding is_open
 long_length known len le = rw (not_eq len 0 (omega arith), not_eq len 1 (omega arith)) refl
 
-pub none_fresh : (known : List (List ℕ)) (len : ℕ) (x : List ℕ) → is_length known len ≡ false → IsFresh known len x → ⊥
-unfolding is_length
+pub none_fresh : (known : List (List ℕ)) (len : ℕ) (x : List ℕ) → is_open known len ≡ false → IsFresh known len x → ⊥
+unfolding is_open
 none_fresh known zero [] e f = let t : true ≡ false = sym (not_false (has known []) e) ∙ f.is_new in cc
 none_fresh known zero (b ∷ x) e f = absurd (omega (arith, f.length_is))
 none_fresh known (suc zero) [] e f = absurd (omega (arith, f.length_is))
@@ -192,41 +192,62 @@ none_fresh known (suc zero) (b ∷ c ∷ x) e f = absurd (omega (arith, f.length
 none_fresh known (suc (suc n)) x e f = let t : true ≡ false = sym (long_length known (suc (suc n)) (omega arith)) ∙ e in cc
 
 -- a length at which one string is new is one that can stand
-pub fresh_length : (known : List (List ℕ)) (x : List ℕ) → AreBytes x → has known x ≡ false → is_length known (length x) ≡ true
+pub fresh_length : (known : List (List ℕ)) (x : List ℕ) → AreBytes x → has known x ≡ false → is_open known (length x) ≡ true
 fresh_length known x bytes new =
-    (elim (is_length known (length x)) as (λ b. is_length known (length x) ≡ b → b ≡ true) [
+    (elim (is_open known (length x)) as (λ b. is_open known (length x) ≡ b → b ≡ true) [
       | true ↦ λ e. refl
       | false ↦ λ e. absurd (none_fresh known (length x) x e (record { length_is = refl; bytes = bytes; is_new = new }))
     ]) refl
 
+-- ---- a limit of the length
+
+pub and_both : (a b : Bool) → (a && b) ≡ true → (a ≡ true) × (b ≡ true)
+and_both true b e = (refl, e)
+and_both false b e = absurd cc
+
+pub upto_test : (a b : ℕ) → a ≤ b → nat_le a b ≡ true
+upto_test a b h = grind (arith, nat_tests)
+
+pub within_length : (most : ℕ) (known : List (List ℕ)) (len : ℕ) → is_length most known len ≡ true → (len ≤ most) × (is_open known len ≡ true)
+within_length most known len e = let p = and_both (nat_le len most) (is_open known len) e in (leb-true len most p.0, p.1)
+
+pub can_length : (most : ℕ) (known : List (List ℕ)) (len : ℕ) → len ≤ most → is_open known len ≡ true → is_length most known len ≡ true
+can_length most known len le stands = rw (upto_test len most le, stands) refl
+
+-- entries have room for two bytes, and the length has room in its field
+pub record Limit (most : ℕ) : Type 0 where
+  pub two : 2 ≤ most
+  pub room : most < 2 ^ 32
+
 -- ---- entries that stand in a dictionary
 
-pub record Good (known : List (List ℕ)) : Type 0 where
+pub record Good (most : ℕ) (known : List (List ℕ)) : Type 0 where
+  pub limit : Limit most
   pub own : Own known
-  pub each : AllByRecursion (λ x. length x < 2 ^ 32) known
+  pub each : AllByRecursion (λ x. length x ≤ most) known
   pub bytes : AllByRecursion AreBytes known
 
 pub all_push : {A : Type 0} (P : A → Type 0) (xs : List A) (x : A) → AllByRecursion P xs → P x → AllByRecursion P (xs ++ x ∷ [])
 all_push P [] x all here = (here, tt)
 all_push P (y ∷ xs) x all here = (all.0, all_push P xs x all.1 here)
 
-pub good_push : (known : List (List ℕ)) (x : List ℕ) → Good known → has known x ≡ false → length x < 2 ^ 32 → AreBytes x → Good (known ++ x ∷ [])
-good_push known x g new lt bytes = record { own = own_push known x g.own new; each = all_push (λ y. length y < 2 ^ 32) known x g.each lt; bytes = all_push AreBytes known x g.bytes bytes }
+pub good_push : {most : ℕ} (known : List (List ℕ)) (x : List ℕ) → Good most known → has known x ≡ false → length x ≤ most → AreBytes x → Good most (known ++ x ∷ [])
+good_push {most = most} known x g new lt bytes = record { limit = g.limit; own = own_push known x g.own new; each = all_push (λ y. length y ≤ most) known x g.each lt; bytes = all_push AreBytes known x g.bytes bytes }
 
-pub good_nil : Good []
-good_nil = record { own = own_nil; each = tt; bytes = tt }
+pub good_nil : {most : ℕ} → Limit most → Good most []
+good_nil limit = record { limit = limit; own = own_nil; each = tt; bytes = tt }
 
 pub two_bytes : (known : List (List ℕ)) → length known < 65536 → (x : List ℕ) × IsFresh known 2 x
-unfolding is_length
+unfolding is_open
 two_bytes known lt = fresh known 2 lt refl
 
 -- so many entries more
-pub grow : (m : ℕ) (known : List (List ℕ)) → Good known → length known + m ≤ 4096 → (more : List (List ℕ)) × (length more ≡ m) × Good (known ++ more)
-grow zero known g few = ([], refl, rw append-nil g)
-grow (suc m) known g few =
+pub grow : {most : ℕ} (m : ℕ) (known : List (List ℕ)) → Good most known → length known + m ≤ 4096 → (more : List (List ℕ)) × (length more ≡ m) × Good most (known ++ more)
+grow {most = most} zero known g few = ([], refl, rw append-nil g)
+grow {most = most} (suc m) known g few =
     let x = two_bytes known (omega arith) in
-    let r = grow m (known ++ x.0 ∷ []) (good_push known x.0 g x.1.is_new (omega (arith, x.1.length_is)) x.1.bytes) (omega (arith, length_push known x.0)) in
-    (x.0 ∷ r.0, one_more r.0 m r.1, subst Good (append_assoc known (x.0 ∷ []) r.0) r.2)
+    let r = grow m (known ++ x.0 ∷ []) (good_push known x.0 g x.1.is_new (omega (arith, x.1.length_is, g.limit.two)) x.1.bytes) (omega (arith, length_push known x.0)) in
+    (x.0 ∷ r.0, one_more r.0 m r.1, subst (Good most) (append_assoc known (x.0 ∷ []) r.0) r.2)
   where
     one_more : (xs : List (List ℕ)) (k : ℕ) → length xs ≡ k → suc (length xs) ≡ suc k
     one_more xs k e = ap suc e

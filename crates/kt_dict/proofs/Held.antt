@@ -1,5 +1,5 @@
 -- The spelling of a held list, how long it is, and how long it is at least while a list is gone over.
-use Rattle.std.proofs.Common.{◌≡◌, ℕ, zero, suc, ◌+◌, ◌*◌, ◌^◌, ◌<◌, ◌≤◌, List, [], ◌∷◌, ◌++◌, length, get_or, drop, refl, sym, ap, subst, ◌∙◌, arith}
+use Rattle.std.proofs.Common.{◌≡◌, ℕ, suc, ◌+◌, ◌*◌, ◌^◌, ◌<◌, ◌≤◌, List, [], ◌∷◌, ◌++◌, length, get_or, refl, sym, ap, subst, ◌∙◌, arith}
 use Rattle.std.specs.List.{AllByRecursion, concat, flat_map}
 use Rattle.std.proofs.lemmas.List.{length-map, length-append}
 use Rattle.kt_dict.specs.Spelling.{short, code, dictionary, entries_after, spelling, Fits}
@@ -7,7 +7,7 @@ use Rattle.kt_dict.specs.Writing.{text}
 use Rattle.kt_dict.specs.Items.{IsHeld, items_of}
 use Rattle.kt_dict.proofs.Words.{Own, own_nil, own_after, after_grows}
 use Rattle.kt_dict.proofs.Fields.{length-text}
-use Rattle.kt_dict.proofs.Short.{spelled_by, length-spelling}
+use Rattle.kt_dict.proofs.Short.{spelled_by, length-spelling, no_longer}
 
 codes_are : (entries : List (List ℕ)) (codes : List ℕ) → Own entries → ((i : ℕ) → i < length codes → get_or codes i 0 < length entries) → flat_map (code entries) (items_of entries codes) ≡ flat_map short codes
 codes_are entries [] own within = refl
@@ -24,7 +24,7 @@ held_spelled entries codes h =
     ∙ spelled_by items entries (length entries) (sym h.first_use) (ap length (sym h.first_use))
 
 pub held_fits : (entries : List (List ℕ)) (codes : List ℕ) → IsHeld entries codes → Fits (items_of entries codes)
-held_fits entries codes h = record { few = omega (arith, ap length h.first_use, h.most); each = subst (AllByRecursion (λ x. length x < 2 ^ 32)) (sym h.first_use) h.short }
+held_fits entries codes h = record { few = omega (arith, ap length h.first_use, h.most); each = no_longer (dictionary (items_of entries codes)) (subst (AllByRecursion (λ x. length x < 2 ^ 32)) (sym h.first_use) h.short) }
 
 pub length-texts : (ds : List (List ℕ)) → length (flat_map text ds) ≡ 4 * length ds + length (concat ds)
 length-texts [] = refl

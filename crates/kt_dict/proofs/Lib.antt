@@ -9,3 +9,4 @@ pub mod Loop
 pub mod Sums
 pub mod Held
 pub mod Owned
+pub mod Limits

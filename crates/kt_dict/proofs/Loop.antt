@@ -15,35 +15,35 @@ Read = Result (List (List ℕ) × List ℕ) ℕ
 more_left : (count i : ℕ) → i < count → count - i ≡ suc (count - (i + 1))
 more_left count i lt = omega arith
 
-pub entry_goes : (count i : ℕ) (known : List (List ℕ)) (bytes x after : List ℕ) (total : Read) → i < count → text_at known bytes ≡ Ok (x, after) → has known x ≡ false
-    → entries_at (count - i) known bytes ≡ total → entries_at (count - (i + 1)) (known ++ x ∷ []) after ≡ total
+pub entry_goes : (most count i : ℕ) (known : List (List ℕ)) (bytes x after : List ℕ) (total : Read) → i < count → text_at most known bytes ≡ Ok (x, after) → has known x ≡ false
+    → entries_at most (count - i) known bytes ≡ total → entries_at most (count - (i + 1)) (known ++ x ∷ []) after ≡ total
 unfolding entries_at entry_at
-entry_goes count i known bytes x after total lt h new so_far =
+entry_goes most count i known bytes x after total lt h new so_far =
     let k = more_left count i lt in
-    let one : entries_at (count - i) known bytes ≡ entries_at (count - (i + 1)) (known ++ x ∷ []) after = rw (k, h, new) refl in
+    let one : entries_at most (count - i) known bytes ≡ entries_at most (count - (i + 1)) (known ++ x ∷ []) after = rw (k, h, new) refl in
     sym one ∙ so_far
 
-pub entry_stops : (e : Stop) (count i : ℕ) (known : List (List ℕ)) (bytes : List ℕ) (total : Read) → i < count → Fails e (text_at known bytes) → entries_at (count - i) known bytes ≡ total → Fails e total
+pub entry_stops : (most : ℕ) (e : Stop) (count i : ℕ) (known : List (List ℕ)) (bytes : List ℕ) (total : Read) → i < count → Fails e (text_at most known bytes) → entries_at most (count - i) known bytes ≡ total → Fails e total
 unfolding entries_at entry_at
-entry_stops stops.Memory count i known bytes total lt h so_far = tt
-entry_stops (stops.Left left) count i known bytes total lt h so_far =
+entry_stops most stops.Memory count i known bytes total lt h so_far = tt
+entry_stops most (stops.Left left) count i known bytes total lt h so_far =
     let k = more_left count i lt in
-    let one : entries_at (count - i) known bytes ≡ Err left = rw (k, h) refl in
+    let one : entries_at most (count - i) known bytes ≡ Err left = rw (k, h) refl in
     sym so_far ∙ one
 
-pub entry_repeats : (count i : ℕ) (known : List (List ℕ)) (bytes x after : List ℕ) (total : Read) → i < count → text_at known bytes ≡ Ok (x, after) → has known x ≡ true
-    → entries_at (count - i) known bytes ≡ total → total ≡ Err (length x + length after)
+pub entry_repeats : (most count i : ℕ) (known : List (List ℕ)) (bytes x after : List ℕ) (total : Read) → i < count → text_at most known bytes ≡ Ok (x, after) → has known x ≡ true
+    → entries_at most (count - i) known bytes ≡ total → total ≡ Err (length x + length after)
 unfolding entries_at entry_at
-entry_repeats count i known bytes x after total lt h old so_far =
+entry_repeats most count i known bytes x after total lt h old so_far =
     let k = more_left count i lt in
-    let one : entries_at (count - i) known bytes ≡ Err (length x + length after) = rw (k, h, old) refl in
+    let one : entries_at most (count - i) known bytes ≡ Err (length x + length after) = rw (k, h, old) refl in
     sym so_far ∙ one
 
-pub entries_done : (count i : ℕ) (known : List (List ℕ)) (bytes : List ℕ) (total : Read) → count ≤ i → entries_at (count - i) known bytes ≡ total → total ≡ Ok (known, bytes)
+pub entries_done : (most count i : ℕ) (known : List (List ℕ)) (bytes : List ℕ) (total : Read) → count ≤ i → entries_at most (count - i) known bytes ≡ total → total ≡ Ok (known, bytes)
 unfolding entries_at
-entries_done count i known bytes total le so_far =
+entries_done most count i known bytes total le so_far =
     let k : count - i ≡ 0 = omega arith in
-    let one : entries_at (count - i) known bytes ≡ Ok (known, bytes) = rw k refl in
+    let one : entries_at most (count - i) known bytes ≡ Ok (known, bytes) = rw k refl in
     sym so_far ∙ one
 
 abbrev Codes : Type 0

@@ -9,11 +9,11 @@ use Rattle.std.proofs.lemmas.Grind.{flat_map-append}
 use Rattle.kt_bytes.specs.Places.{Begins, GoesOn, Delimited}
 use Rattle.kt_bytes.proofs.Places.{goes_on}
 use Rattle.kt_bytes.proofs.Fronts.{IsWhole}
-use Rattle.kt_dict.specs.Spelling.{AreBytes, has, place, with_entry, entries_after, dictionary, short, number, entry, code, block, fields, Fits, Spelled}
+use Rattle.kt_dict.specs.Spelling.{AreBytes, has, place, with_entry, entries_after, dictionary, short, number, entry, code, block, fields, FitsWithin, SpelledWithin}
 use Rattle.kt_dict.specs.Walk.{is_count, is_code, used_with}
 use Rattle.kt_dict.proofs.Words.{Own, own_nil, own_after, has_place, has_get, has_front, has_front_not, place_front, place_push, place-le, after_grows, same_self}
 use Rattle.kt_dict.proofs.Fields.{length-short, length-number, short_one, number_one}
-use Rattle.kt_dict.proofs.Fresh.{Good, IsFresh, grow}
+use Rattle.kt_dict.proofs.Fresh.{and_both, upto_test, Good, IsFresh, grow}
 
 -- the fields of the count and of these entries; and of the codes of these items behind them
 abbrev pub entries_front : ℕ → List (List ℕ) → List (List ℕ)
@@ -24,15 +24,8 @@ codes_front known items = short (length known) ∷ (flat_map entry known ++ map 
 
 -- ---- tests
 
-pub and_both : (a b : Bool) → (a && b) ≡ true → (a ≡ true) × (b ≡ true)
-and_both true b e = (refl, e)
-and_both false b e = absurd cc
-
 pub below_test : (a b : ℕ) → a < b → nat_lt a b ≡ true
 below_test a b h = grind (arith, nat_tests)
-
-pub upto_test : (a b : ℕ) → a ≤ b → nat_le a b ≡ true
-upto_test a b h = grind (arith, nat_tests)
 
 pub same_test : (a b : ℕ) → a ≡ b → (a == b) ≡ true
 same_test a b h = grind (arith, nat_tests)
@@ -124,8 +117,8 @@ all_had ds (x ∷ xs) =
 -- ---- what some list goes on with
 
 -- so many of d entries are used by these items, and m items of n are left, enough for the other entries
-pub record Coded (n m used : ℕ) (known items : List (List ℕ)) : Type 0 where
-  pub good : Good known
+pub record Coded (most n m used : ℕ) (known items : List (List ℕ)) : Type 0 where
+  pub good : Good most known
   pub counts : is_count n (length known) ≡ true
   pub total : length items + m ≡ n
   pub within : used ≤ length known
@@ -135,9 +128,9 @@ pub record Coded (n m used : ℕ) (known items : List (List ℕ)) : Type 0 where
 rest_of : ℕ → ℕ → List (List ℕ) → List (List ℕ)
 rest_of m used known = drop used known ++ replicate (m - length (drop used known)) (get_or known 0 [])
 
-dictionary_of : (n m used : ℕ) (known items : List (List ℕ)) → Coded n m used known items → dictionary (items ++ rest_of m used known) ≡ known
+dictionary_of : (most n m used : ℕ) (known items : List (List ℕ)) → Coded most n m used known items → dictionary (items ++ rest_of m used known) ≡ known
 unfolding rest_of
-dictionary_of n m used known items c =
+dictionary_of most n m used known items c =
     let left : List (List ℕ) = drop used known in
     let k : ℕ = m - length left in
     let y : List ℕ = get_or known 0 [] in
@@ -154,17 +147,17 @@ length-times : (k : ℕ) (y : List ℕ) → length (replicate k y) ≡ k
 length-times zero y = refl
 length-times (suc k) y = ap suc (length-times k y)
 
-all_left : (n m used : ℕ) (known items : List (List ℕ)) → Coded n m used known items → length items + length (rest_of m used known) ≡ n
+all_left : (most n m used : ℕ) (known items : List (List ℕ)) → Coded most n m used known items → length items + length (rest_of m used known) ≡ n
 unfolding rest_of
-all_left n m used known items c = omega (arith, c.total, c.enough, c.within, length-drop used known, length-append (drop used known) (replicate (m - length (drop used known)) (get_or known 0 [])), length-times (m - length (drop used known)) (get_or known 0 []))
+all_left most n m used known items c = omega (arith, c.total, c.enough, c.within, length-drop used known, length-append (drop used known) (replicate (m - length (drop used known)) (get_or known 0 [])), length-times (m - length (drop used known)) (get_or known 0 []))
 
-pub begins_codes : (n m used : ℕ) (known items : List (List ℕ)) → Coded n m used known items → Begins (Spelled n) (codes_front known items)
-begins_codes n m used known items c = (
+pub begins_codes : (most n m used : ℕ) (known items : List (List ℕ)) → Coded most n m used known items → Begins (SpelledWithin most n) (codes_front known items)
+begins_codes most n m used known items c = (
   map (code known) (rest_of m used known),
   record {
     items = items ++ rest_of m used known;
-    count = length-append items (rest_of m used known) ∙ all_left n m used known items c;
-    fits = record { few = omega (arith, ap length dict, (counted n (length known) c.counts).few); each = subst (λ (ds : List (List ℕ)). AllByRecursion (λ x. length x < 2 ^ 32) ds) (sym dict) c.good.each };
+    count = length-append items (rest_of m used known) ∙ all_left most n m used known items c;
+    fits = record { few = omega (arith, ap length dict, (counted n (length known) c.counts).few); each = subst (λ (ds : List (List ℕ)). AllByRecursion (λ x. length x ≤ most) ds) (sym dict) c.good.each };
     bytes = subst (λ (ds : List (List ℕ)). AllByRecursion AreBytes ds) (sym dict) c.good.bytes;
     is = ap (λ (t : List (List ℕ)). short (length known) ∷ t) (append_assoc (flat_map entry known) (map (code known) items) (map (code known) (rest_of m used known))
         ∙ ap (λ (t : List (List ℕ)). flat_map entry known ++ t) (sym (map-append (code known) items (rest_of m used known))))
@@ -173,18 +166,18 @@ begins_codes n m used known items c = (
 )
   where
     dict : dictionary (items ++ rest_of m used known) ≡ known
-    dict = dictionary_of n m used known items c
+    dict = dictionary_of most n m used known items c
 
-pub begins_entries : (n m : ℕ) (known : List (List ℕ)) → Good known → is_count n (length known + m) ≡ true → Begins (Spelled n) (entries_front (length known + m) known)
-begins_entries n m known g e =
+pub begins_entries : (most n m : ℕ) (known : List (List ℕ)) → Good most known → is_count n (length known + m) ≡ true → Begins (SpelledWithin most n) (entries_front (length known + m) known)
+begins_entries most n m known g e =
     let c = counted n (length known + m) e in
     let r = grow m known g c.few in
     let all : List (List ℕ) = known ++ r.0 in
     let size : length all ≡ length known + m = omega (arith, length-append known r.0, r.1) in
-    let b = begins_codes n n 0 all [] (record { good = r.2; counts = rw size e; total = refl_zero n; within = omega arith; enough = omega (arith, c.room); so_far = refl }) in
+    let b = begins_codes most n n 0 all [] (record { good = r.2; counts = rw size e; total = refl_zero n; within = omega arith; enough = omega (arith, c.room); so_far = refl }) in
     let group : flat_map entry all ++ [] ≡ flat_map entry known ++ flat_map entry r.0 = append-nil (flat_map entry all) ∙ flat_map-append entry known r.0 in
     let is : codes_front all [] ≡ entries_front (length known + m) known ++ flat_map entry r.0 = ap (λ (k : ℕ). short k ∷ (flat_map entry all ++ [])) size ∙ ap (λ (t : List (List ℕ)). short (length known + m) ∷ t) group in
-    (flat_map entry r.0 ++ b.0, subst (Spelled n) (ap (λ (t : List (List ℕ)). t ++ b.0) is ∙ append_assoc (entries_front (length known + m) known) (flat_map entry r.0) b.0) b.1)
+    (flat_map entry r.0 ++ b.0, subst (SpelledWithin most n) (ap (λ (t : List (List ℕ)). t ++ b.0) is ∙ append_assoc (entries_front (length known + m) known) (flat_map entry r.0) b.0) b.1)
   where
     refl_zero : (n : ℕ) → 0 + n ≡ n
     refl_zero n = omega arith
@@ -217,19 +210,19 @@ codes_inside known (x ∷ xs) (y ∷ ys) tail few hx hy e =
     (r.0, ap (λ (z : List ℕ). z ∷ ys) one ∙ ap (λ (t : List (List ℕ)). x ∷ t) r.1, r.2)
 
 -- the entries of a list whose fields begin so
-pub record Inside (n d : ℕ) (known tail : List (List ℕ)) : Type 0 where
+pub record Inside (most n d : ℕ) (known tail : List (List ℕ)) : Type 0 where
   pub items : List (List ℕ)
   pub count : length items ≡ n
   pub size : length (dictionary items) ≡ d
   pub more : List (List ℕ)
   pub is : dictionary items ≡ known ++ more
-  pub short : AllByRecursion (λ x. length x < 2 ^ 32) (known ++ more)
+  pub short : AllByRecursion (λ x. length x ≤ most) (known ++ more)
   pub bytes : AllByRecursion AreBytes (known ++ more)
   pub own : Own (known ++ more)
   pub tail_is : tail ≡ flat_map entry more ++ map (code (known ++ more)) items
 
-pub inside : (n d : ℕ) (known tail all : List (List ℕ)) → d ≤ 4096 → length known ≤ d → Spelled n all → all ≡ short d ∷ (flat_map entry known ++ tail) → Inside n d known tail
-inside n d known tail all few le s e =
+pub inside : (most n d : ℕ) (known tail all : List (List ℕ)) → d ≤ 4096 → length known ≤ d → SpelledWithin most n all → all ≡ short d ∷ (flat_map entry known ++ tail) → Inside most n d known tail
+inside most n d known tail all few le s e =
     let ds : List (List ℕ) = dictionary s.items in
     let whole : short d ∷ (flat_map entry known ++ tail) ≡ short (length ds) ∷ (flat_map entry ds ++ map (code ds) s.items) = sym e ∙ s.is in
     let first : short d ≡ short (length ds) = cc in
@@ -242,7 +235,7 @@ inside n d known tail all few le s e =
       size = size;
       more = r.0;
       is = r.1;
-      short = subst (AllByRecursion (λ x. length x < 2 ^ 32)) r.1 s.fits.each;
+      short = subst (AllByRecursion (λ x. length x ≤ most)) r.1 s.fits.each;
       bytes = subst (AllByRecursion AreBytes) r.1 s.bytes;
       own = subst Own r.1 (own_after [] s.items own_nil);
       tail_is = r.2 ∙ ap (λ (es : List (List ℕ)). flat_map entry r.0 ++ map (code es) s.items) r.1;
@@ -253,47 +246,50 @@ all_at P [] y ys all = all.0
 all_at P (x ∷ xs) y ys all = all_at P xs y ys all.1
 
 -- the length of an entry
-pub record NextLength (known : List (List ℕ)) (f : List ℕ) : Type 0 where
+pub record NextLength (most : ℕ) (known : List (List ℕ)) (f : List ℕ) : Type 0 where
   pub x : List ℕ
   pub fresh : IsFresh known (length x) x
-  pub small : length x < 2 ^ 32
+  pub small : length x ≤ most
   pub field : f ≡ number (length x)
 
 regroup : (a : List ℕ) (xs : List (List ℕ)) (f : List ℕ) (more : List (List ℕ)) → ((a ∷ xs) ++ f ∷ []) ++ more ≡ a ∷ (xs ++ f ∷ more)
 regroup a xs f more = ap (λ (t : List (List ℕ)). a ∷ t) (append_assoc xs (f ∷ []) more)
 
-pub next_length : (n d : ℕ) (known : List (List ℕ)) (f : List ℕ) → d ≤ 4096 → length known < d → GoesOn (Spelled n) (entries_front d known) f → NextLength known f
-next_length n d known f few lt on = at (inside n d known (f ∷ on.0) (entries_front d known ++ f ∷ [] ++ on.0) few (omega arith) on.1 (regroup (short d) (flat_map entry known) f on.0))
+pub next_length : (most n d : ℕ) (known : List (List ℕ)) (f : List ℕ) → d ≤ 4096 → length known < d → GoesOn (SpelledWithin most n) (entries_front d known) f → NextLength most known f
+next_length most n d known f few lt on = at (inside most n d known (f ∷ on.0) (entries_front d known ++ f ∷ [] ++ on.0) few (omega arith) on.1 (regroup (short d) (flat_map entry known) f on.0))
   where
-    at : Inside n d known (f ∷ on.0) → NextLength known f
+    at : Inside most n d known (f ∷ on.0) → NextLength most known f
     at i = from i.more i.is i.short i.bytes i.own i.tail_is
       where
-        from : (more : List (List ℕ)) → dictionary i.items ≡ known ++ more → AllByRecursion (λ x. length x < 2 ^ 32) (known ++ more) → AllByRecursion AreBytes (known ++ more) → Own (known ++ more) → f ∷ on.0 ≡ flat_map entry more ++ map (code (known ++ more)) i.items → NextLength known f
+        from : (more : List (List ℕ)) → dictionary i.items ≡ known ++ more → AllByRecursion (λ x. length x ≤ most) (known ++ more) → AllByRecursion AreBytes (known ++ more) → Own (known ++ more) → f ∷ on.0 ≡ flat_map entry more ++ map (code (known ++ more)) i.items → NextLength most known f
         from [] is short bytes own e = absurd (omega (arith, ap length is, ap length (append-nil known), i.size))
         from (x ∷ more) is short bytes own e = record {
           x = x;
           fresh = record { length_is = refl; bytes = all_at AreBytes known x more bytes; is_new = new_one known x more own };
-          small = all_at (λ y. length y < 2 ^ 32) known x more short;
+          small = all_at (λ y. length y ≤ most) known x more short;
           field = cc;
         }
 
 -- the bytes of an entry behind its length
-pub next_bytes : (n d len : ℕ) (known : List (List ℕ)) (f : List ℕ) → d ≤ 4096 → length known < d → len < 2 ^ 32 → GoesOn (Spelled n) (entries_front d known ++ number len ∷ []) f → IsFresh known len f
-next_bytes n d len known f few lt short_len on = at (inside n d known (number len ∷ f ∷ on.0) (((entries_front d known ++ number len ∷ []) ++ f ∷ []) ++ on.0) few (omega arith) on.1 group)
+pub next_bytes : (most n d len : ℕ) (known : List (List ℕ)) (f : List ℕ) → d ≤ 4096 → length known < d → most < 2 ^ 32 → len < 2 ^ 32 → GoesOn (SpelledWithin most n) (entries_front d known ++ number len ∷ []) f → IsFresh known len f
+next_bytes most n d len known f few lt room short_len on = at (inside most n d known (number len ∷ f ∷ on.0) (((entries_front d known ++ number len ∷ []) ++ f ∷ []) ++ on.0) few (omega arith) on.1 group)
   where
     group : ((entries_front d known ++ number len ∷ []) ++ f ∷ []) ++ on.0 ≡ short d ∷ (flat_map entry known ++ number len ∷ f ∷ on.0)
     group = ap (λ (t : List (List ℕ)). short d ∷ t) (append_assoc (flat_map entry known ++ number len ∷ []) (f ∷ []) on.0 ∙ append_assoc (flat_map entry known) (number len ∷ []) (f ∷ on.0))
 
-    at : Inside n d known (number len ∷ f ∷ on.0) → IsFresh known len f
+    has_room : (k : ℕ) → k ≤ most → k < 2 ^ 32
+    has_room k le = omega (arith, room)
+
+    at : Inside most n d known (number len ∷ f ∷ on.0) → IsFresh known len f
     at i = from i.more i.is i.short i.bytes i.own i.tail_is
       where
-        from : (more : List (List ℕ)) → dictionary i.items ≡ known ++ more → AllByRecursion (λ x. length x < 2 ^ 32) (known ++ more) → AllByRecursion AreBytes (known ++ more) → Own (known ++ more)
+        from : (more : List (List ℕ)) → dictionary i.items ≡ known ++ more → AllByRecursion (λ x. length x ≤ most) (known ++ more) → AllByRecursion AreBytes (known ++ more) → Own (known ++ more)
             → number len ∷ f ∷ on.0 ≡ flat_map entry more ++ map (code (known ++ more)) i.items → IsFresh known len f
         from [] is short bytes own e = absurd (omega (arith, ap length is, ap length (append-nil known), i.size))
         from (x ∷ more) is short bytes own e =
             let first : number len ≡ number (length x) = cc in
             let second : x ≡ f = cc in
-            let same : length x ≡ len = sym (number_one len (length x) short_len (all_at (λ y. length y < 2 ^ 32) known x more short) first) in
+            let same : length x ≡ len = sym (number_one len (length x) short_len (has_room (length x) (all_at (λ y. length y ≤ most) known x more short)) first) in
             subst (IsFresh known len) second (record { length_is = same; bytes = all_at AreBytes known x more bytes; is_new = new_one known x more own })
 
 -- ---- codes
@@ -371,8 +367,8 @@ again_step known used x xs le e =
     ]) refl e
 
 -- one item more, the entry of a code that can stand
-pub coded_step : (n m used c : ℕ) (known items : List (List ℕ)) → Coded n (suc m) used known items → is_code m (length known) used c ≡ true → Coded n m (used_with used c) known (items ++ get_or known c [] ∷ [])
-coded_step n m used c known items s e =
+pub coded_step : (most n m used c : ℕ) (known items : List (List ℕ)) → Coded most n (suc m) used known items → is_code m (length known) used c ≡ true → Coded most n m (used_with used c) known (items ++ get_or known c [] ∷ [])
+coded_step most n m used c known items s e =
     let t = code_step m known used c s.good.own s.within s.enough e in
     record {
       good = s.good;
@@ -403,11 +399,11 @@ some_code m used d le enough some =
     first : (m used d : ℕ) → 0 < used → d ≤ used → is_code m d used 0 ≡ true
     first m used d lt le = rw (below_test 0 used lt) (upto_test d (used + m) (omega arith))
 
-pub code_goes_on : (n m used : ℕ) (known items : List (List ℕ)) → Coded n (suc m) used known items → (w : List ℕ) × (length w ≡ 2) × GoesOn (Spelled n) (codes_front known items) w
-code_goes_on n m used known items s =
+pub code_goes_on : (most n m used : ℕ) (known items : List (List ℕ)) → Coded most n (suc m) used known items → (w : List ℕ) × (length w ≡ 2) × GoesOn (SpelledWithin most n) (codes_front known items) w
+code_goes_on most n m used known items s =
     let c = some_code m used (length known) s.within s.enough (omega (arith, (counted n (length known) s.counts).some, s.total)) in
     let t = code_step m known used c.0 s.good.own s.within s.enough c.1 in
-    (short c.0, length-short c.0, subst (Begins (Spelled n)) (codes_push known items c.0 s.good.own t.there) (begins_codes n m (used_with used c.0) known (items ++ get_or known c.0 [] ∷ []) (coded_step n m used c.0 known items s c.1)))
+    (short c.0, length-short c.0, subst (Begins (SpelledWithin most n)) (codes_push known items c.0 s.good.own t.there) (begins_codes most n m (used_with used c.0) known (items ++ get_or known c.0 [] ∷ []) (coded_step most n m used c.0 known items s c.1)))
 
 all_items : (ds items : List (List ℕ)) → dictionary items ≡ ds → AllByRecursion (λ x. has ds x ≡ true) items
 all_items ds items e = subst (λ (es : List (List ℕ)). AllByRecursion (λ x. has es x ≡ true) items) e (all_had [] items)
@@ -423,13 +419,13 @@ record Ahead (n used : ℕ) (known items : List (List ℕ)) (f : List ℕ) (more
   pub used_up : entries_after (take used known) rest ≡ known
   pub codes : f ∷ more ≡ map (code known) rest
 
-ahead : (n m used : ℕ) (known items : List (List ℕ)) (f : List ℕ) → Coded n m used known items → (on : GoesOn (Spelled n) (codes_front known items) f) → Ahead n used known items f on.0
-ahead n m used known items f s on = at (inside n (length known) known (map (code known) items ++ f ∷ on.0) ((codes_front known items ++ f ∷ []) ++ on.0) (counted n (length known) s.counts).few (omega arith) on.1 group)
+ahead : (most n m used : ℕ) (known items : List (List ℕ)) (f : List ℕ) → Coded most n m used known items → (on : GoesOn (SpelledWithin most n) (codes_front known items) f) → Ahead n used known items f on.0
+ahead most n m used known items f s on = at (inside most n (length known) known (map (code known) items ++ f ∷ on.0) ((codes_front known items ++ f ∷ []) ++ on.0) (counted n (length known) s.counts).few (omega arith) on.1 group)
   where
     group : (codes_front known items ++ f ∷ []) ++ on.0 ≡ short (length known) ∷ (flat_map entry known ++ (map (code known) items ++ f ∷ on.0))
     group = ap (λ (t : List (List ℕ)). short (length known) ∷ t) (append_assoc (flat_map entry known ++ map (code known) items) (f ∷ []) on.0 ∙ append_assoc (flat_map entry known) (map (code known) items) (f ∷ on.0))
 
-    at : Inside n (length known) known (map (code known) items ++ f ∷ on.0) → Ahead n used known items f on.0
+    at : Inside most n (length known) known (map (code known) items ++ f ∷ on.0) → Ahead n used known items f on.0
     at i =
         let none : i.more ≡ [] = nil_from_length i.more (omega (arith, ap length i.is, length-append known i.more, i.size)) in
         let dict : dictionary i.items ≡ known = i.is ∙ (ap (λ (t : List (List ℕ)). known ++ t) none ∙ append-nil known) in
@@ -443,8 +439,8 @@ ahead n m used known items f s on = at (inside n (length known) known (map (code
           codes = r.2;
         }
 
-pub next_code : (n m used : ℕ) (known items : List (List ℕ)) (f : List ℕ) → Coded n (suc m) used known items → GoesOn (Spelled n) (codes_front known items) f → NextCode m used known f
-next_code n m used known items f s on = at (ahead n (suc m) used known items f s on)
+pub next_code : (most n m used : ℕ) (known items : List (List ℕ)) (f : List ℕ) → Coded most n (suc m) used known items → GoesOn (SpelledWithin most n) (codes_front known items) f → NextCode m used known f
+next_code most n m used known items f s on = at (ahead most n (suc m) used known items f s on)
   where
     from : (rest : List (List ℕ)) → length items + length rest ≡ n → entries_after (take used known) rest ≡ known → f ∷ on.0 ≡ map (code known) rest → NextCode m used known f
     from [] count up e = absurd cc
@@ -456,8 +452,8 @@ next_code n m used known items f s on = at (ahead n (suc m) used known items f s
     at : Ahead n used known items f on.0 → NextCode m used known f
     at a = from a.rest a.count a.used_up a.codes
 
-pub no_more : (n used : ℕ) (known items : List (List ℕ)) (f : List ℕ) → Coded n 0 used known items → GoesOn (Spelled n) (codes_front known items) f → ⊥
-no_more n used known items f s on = at (ahead n 0 used known items f s on)
+pub no_more : (most n used : ℕ) (known items : List (List ℕ)) (f : List ℕ) → Coded most n 0 used known items → GoesOn (SpelledWithin most n) (codes_front known items) f → ⊥
+no_more most n used known items f s on = at (ahead most n 0 used known items f s on)
   where
     from : (rest : List (List ℕ)) → length items + length rest ≡ n → f ∷ on.0 ≡ map (code known) rest → ⊥
     from [] count e = absurd (let len : suc (length on.0) ≡ 0 = ap length e in omega arith)
@@ -475,25 +471,26 @@ codes_two ds [] (f ∷ front) a more e = absurd (let len : suc (length (front ++
 codes_two ds (x ∷ items) (f ∷ front) a more e = let rest : front ++ a ∷ more ≡ map (code ds) items = cc in codes_two ds items front a more rest
 
 -- the fields of two lists with as many entries
-record Alike (front : List (List ℕ)) (a b : List ℕ) (ds es ks ls : List (List ℕ)) (xs ys : List (List ℕ)) (more others : List (List ℕ)) : Type 0 where
+record Alike (most : ℕ) (front : List (List ℕ)) (a b : List ℕ) (ds es ks ls : List (List ℕ)) (xs ys : List (List ℕ)) (more others : List (List ℕ)) : Type 0 where
+  pub room : most < 2 ^ 32
   pub count : length ds ≡ length es
-  pub short : AllByRecursion (λ x. length x < 2 ^ 32) ds
-  pub small : AllByRecursion (λ x. length x < 2 ^ 32) es
+  pub short : AllByRecursion (λ x. length x ≤ most) ds
+  pub small : AllByRecursion (λ x. length x ≤ most) es
   pub first : front ++ a ∷ more ≡ flat_map entry ds ++ map (code ks) xs
   pub second : front ++ b ∷ others ≡ flat_map entry es ++ map (code ls) ys
 
-alike : (front : List (List ℕ)) (a b : List ℕ) (ds es ks ls xs ys more others : List (List ℕ)) → Alike front a b ds es ks ls xs ys more others → length a ≡ length b
-alike front a b [] [] ks ls xs ys more others l = codes_two ks xs front a more l.first ∙ sym (codes_two ls ys front b others l.second)
-alike front a b [] (e ∷ es) ks ls xs ys more others l = absurd (omega (arith, l.count))
-alike front a b (d ∷ ds) [] ks ls xs ys more others l = absurd (omega (arith, l.count))
-alike [] a b (d ∷ ds) (e ∷ es) ks ls xs ys more others l =
+alike : (most : ℕ) (front : List (List ℕ)) (a b : List ℕ) (ds es ks ls xs ys more others : List (List ℕ)) → Alike most front a b ds es ks ls xs ys more others → length a ≡ length b
+alike most front a b [] [] ks ls xs ys more others l = codes_two ks xs front a more l.first ∙ sym (codes_two ls ys front b others l.second)
+alike most front a b [] (e ∷ es) ks ls xs ys more others l = absurd (omega (arith, l.count))
+alike most front a b (d ∷ ds) [] ks ls xs ys more others l = absurd (omega (arith, l.count))
+alike most [] a b (d ∷ ds) (e ∷ es) ks ls xs ys more others l =
     let p : a ≡ number (length d) = head_is l.first in
     let q : b ≡ number (length e) = head_is l.second in
     omega (arith, ap length p, ap length q, length-number (length d), length-number (length e))
   where
     head_is : {x y : List ℕ} {xs ys : List (List ℕ)} → x ∷ xs ≡ y ∷ ys → x ≡ y
     head_is e = cc
-alike (f ∷ []) a b (d ∷ ds) (e ∷ es) ks ls xs ys more others l = two f a b d e more others (flat_map entry ds ++ map (code ks) xs) (flat_map entry es ++ map (code ls) ys) l.short.0 l.small.0 l.first l.second
+alike most (f ∷ []) a b (d ∷ ds) (e ∷ es) ks ls xs ys more others l = two f a b d e more others (flat_map entry ds ++ map (code ks) xs) (flat_map entry es ++ map (code ls) ys) (omega (arith, l.room, l.short.0)) (omega (arith, l.room, l.small.0)) l.first l.second
   where
     two : (f a b d e : List ℕ) (more others xs ys : List (List ℕ)) → length d < 2 ^ 32 → length e < 2 ^ 32 → f ∷ a ∷ more ≡ number (length d) ∷ d ∷ xs → f ∷ b ∷ others ≡ number (length e) ∷ e ∷ ys → length a ≡ length b
     two f a b d e more others xs ys ld le p q =
@@ -501,28 +498,28 @@ alike (f ∷ []) a b (d ∷ ds) (e ∷ es) ks ls xs ys more others l = two f a b
         let ad : a ≡ d = cc in
         let be : b ≡ e = cc in
         omega (arith, number_one (length d) (length e) ld le same, ap length ad, ap length be)
-alike (f ∷ g ∷ front) a b (d ∷ ds) (e ∷ es) ks ls xs ys more others l =
-    alike front a b ds es ks ls xs ys more others (record { count = omega (arith, l.count); short = l.short.1; small = l.small.1; first = tail_is l.first; second = tail_is l.second })
+alike most (f ∷ g ∷ front) a b (d ∷ ds) (e ∷ es) ks ls xs ys more others l =
+    alike most front a b ds es ks ls xs ys more others (record { room = l.room; count = omega (arith, l.count); short = l.short.1; small = l.small.1; first = tail_is l.first; second = tail_is l.second })
   where
     tail_is : {x y z w : List ℕ} {xs ys : List (List ℕ)} → x ∷ y ∷ xs ≡ z ∷ w ∷ ys → xs ≡ ys
     tail_is e = cc
 
 -- the same, whatever the items are made of
-pub record Listed (n : ℕ) (all : List (List ℕ)) : Type 0 where
+pub record Listed (most n : ℕ) (all : List (List ℕ)) : Type 0 where
   pub items : List (List ℕ)
   pub count : length items ≡ n
-  pub fits : Fits items
+  pub fits : FitsWithin most items
   pub is : all ≡ fields items
 
-pub listed : (n : ℕ) (all : List (List ℕ)) → Spelled n all → Listed n all
-listed n all s = record { items = s.items; count = s.count; fits = s.fits; is = s.is }
+pub listed : (most n : ℕ) (all : List (List ℕ)) → SpelledWithin most n all → Listed most n all
+listed most n all s = record { items = s.items; count = s.count; fits = s.fits; is = s.is }
 
-pub listed_on : (n : ℕ) (front : List (List ℕ)) (field : List ℕ) → GoesOn (Spelled n) front field → GoesOn (Listed n) front field
-listed_on n front field on = (on.0, listed n ((front ++ field ∷ []) ++ on.0) on.1)
+pub listed_on : (most n : ℕ) (front : List (List ℕ)) (field : List ℕ) → GoesOn (SpelledWithin most n) front field → GoesOn (Listed most n) front field
+listed_on most n front field on = (on.0, listed most n ((front ++ field ∷ []) ++ on.0) on.1)
 
 -- two lists whose first fields are one have as many entries
-same_count : (n : ℕ) (f : List ℕ) (xs ys : List (List ℕ)) (s : Listed n (f ∷ xs)) (t : Listed n (f ∷ ys)) → length (dictionary s.items) ≡ length (dictionary t.items)
-same_count n f xs ys s t =
+same_count : (most n : ℕ) (f : List ℕ) (xs ys : List (List ℕ)) (s : Listed most n (f ∷ xs)) (t : Listed most n (f ∷ ys)) → length (dictionary s.items) ≡ length (dictionary t.items)
+same_count most n f xs ys s t =
     let p : f ≡ short (length (dictionary s.items)) = head_is s.is in
     let q : f ≡ short (length (dictionary t.items)) = head_is t.is in
     short_one (length (dictionary s.items)) (length (dictionary t.items)) (omega (arith, s.fits.few)) (omega (arith, t.fits.few)) (sym p ∙ q)
@@ -533,19 +530,20 @@ same_count n f xs ys s t =
 tail_of : {x y : List ℕ} {xs ys : List (List ℕ)} → x ∷ xs ≡ y ∷ ys → xs ≡ ys
 tail_of e = cc
 
-listed_delimited : (n : ℕ) → Delimited (Listed n)
-listed_delimited n [] a b p q =
+listed_delimited : (most n : ℕ) → most < 2 ^ 32 → Delimited (Listed most n)
+listed_delimited most n room [] a b p q =
     let s = p.1 in
     let t = q.1 in
     omega (arith, length-short (length (dictionary s.items)), length-short (length (dictionary t.items)), ap length (head_is s.is), ap length (head_is t.is))
   where
     head_is : {x y : List ℕ} {xs ys : List (List ℕ)} → x ∷ xs ≡ y ∷ ys → x ≡ y
     head_is e = cc
-listed_delimited n (f ∷ front) a b p q =
-    let s : Listed n (f ∷ ((front ++ a ∷ []) ++ p.0)) = p.1 in
-    let t : Listed n (f ∷ ((front ++ b ∷ []) ++ q.0)) = q.1 in
-    alike front a b (dictionary s.items) (dictionary t.items) (dictionary s.items) (dictionary t.items) s.items t.items p.0 q.0 (record {
-      count = same_count n f ((front ++ a ∷ []) ++ p.0) ((front ++ b ∷ []) ++ q.0) s t;
+listed_delimited most n room (f ∷ front) a b p q =
+    let s : Listed most n (f ∷ ((front ++ a ∷ []) ++ p.0)) = p.1 in
+    let t : Listed most n (f ∷ ((front ++ b ∷ []) ++ q.0)) = q.1 in
+    alike most front a b (dictionary s.items) (dictionary t.items) (dictionary s.items) (dictionary t.items) s.items t.items p.0 q.0 (record {
+      room = room;
+      count = same_count most n f ((front ++ a ∷ []) ++ p.0) ((front ++ b ∷ []) ++ q.0) s t;
       short = s.fits.each;
       small = t.fits.each;
       first = sym (append_assoc front (a ∷ []) p.0) ∙ tail_of s.is;
@@ -556,26 +554,26 @@ length-entries : (ds : List (List ℕ)) → length (flat_map entry ds) ≡ 2 * l
 length-entries [] = refl
 length-entries (d ∷ ds) = omega (arith, length-entries ds)
 
-field_count : (n : ℕ) (f : List ℕ) (xs : List (List ℕ)) (s : Listed n (f ∷ xs)) → length xs ≡ 2 * length (dictionary s.items) + n
-field_count n f xs s = omega (arith, ap length s.is, length-append (flat_map entry (dictionary s.items)) (map (code (dictionary s.items)) s.items), length-entries (dictionary s.items), length-map s.items (code (dictionary s.items)), s.count)
+field_count : (most n : ℕ) (f : List ℕ) (xs : List (List ℕ)) (s : Listed most n (f ∷ xs)) → length xs ≡ 2 * length (dictionary s.items) + n
+field_count most n f xs s = omega (arith, ap length s.is, length-append (flat_map entry (dictionary s.items)) (map (code (dictionary s.items)) s.items), length-entries (dictionary s.items), length-map s.items (code (dictionary s.items)), s.count)
 
 -- what is whole doesn't go on
-pub listed_ends : (n : ℕ) (front : List (List ℕ)) (w : List ℕ) → GoesOn (Listed n) front w → ¬ Listed n front
-listed_ends n [] w on s = absurd (let len : 0 ≡ suc (length (flat_map entry (dictionary s.items) ++ map (code (dictionary s.items)) s.items)) = ap length s.is in omega arith)
-listed_ends n (f ∷ front) w on s =
-    let t : Listed n (f ∷ ((front ++ w ∷ []) ++ on.0)) = on.1 in
-    absurd (omega (arith, same_count n f front ((front ++ w ∷ []) ++ on.0) s t, field_count n f front s, field_count n f ((front ++ w ∷ []) ++ on.0) t, length-append (front ++ w ∷ []) on.0, length_push front w))
+pub listed_ends : (most n : ℕ) (front : List (List ℕ)) (w : List ℕ) → GoesOn (Listed most n) front w → ¬ Listed most n front
+listed_ends most n [] w on s = absurd (let len : 0 ≡ suc (length (flat_map entry (dictionary s.items) ++ map (code (dictionary s.items)) s.items)) = ap length s.is in omega arith)
+listed_ends most n (f ∷ front) w on s =
+    let t : Listed most n (f ∷ ((front ++ w ∷ []) ++ on.0)) = on.1 in
+    absurd (omega (arith, same_count most n f front ((front ++ w ∷ []) ++ on.0) s t, field_count most n f front s, field_count most n f ((front ++ w ∷ []) ++ on.0) t, length-append (front ++ w ∷ []) on.0, length_push front w))
 
-pub delimited : (n : ℕ) → Delimited (Spelled n)
-delimited n front a b p q = listed_delimited n front a b (listed_on n front a p) (listed_on n front b q)
+pub delimited : (most n : ℕ) → most < 2 ^ 32 → Delimited (SpelledWithin most n)
+delimited most n room front a b p q = listed_delimited most n room front a b (listed_on most n front a p) (listed_on most n front b q)
 
-pub whole_ends : (n : ℕ) (front : List (List ℕ)) (w : List ℕ) → GoesOn (Spelled n) front w → ¬ Spelled n front
-whole_ends n front w on s = listed_ends n front w (listed_on n front w on) (listed n front s)
+pub whole_ends : (most n : ℕ) (front : List (List ℕ)) (w : List ℕ) → GoesOn (SpelledWithin most n) front w → ¬ SpelledWithin most n front
+whole_ends most n front w on s = listed_ends most n front w (listed_on most n front w on) (listed most n front s)
 
 -- ---- one list
 
-same_fields : (xs ys : List (List ℕ)) → Fits xs → Fits ys → fields xs ≡ fields ys → xs ≡ ys
-same_fields xs ys p q e =
+same_fields : (most : ℕ) (xs ys : List (List ℕ)) → FitsWithin most xs → FitsWithin most ys → fields xs ≡ fields ys → xs ≡ ys
+same_fields most xs ys p q e =
     let ds : List (List ℕ) = dictionary xs in
     let es : List (List ℕ) = dictionary ys in
     let first : short (length ds) ≡ short (length es) = head_is e in
@@ -608,8 +606,8 @@ same_cut S front (a ∷ f) (b ∷ g) d w p q e =
     let more = same_cut S (front ++ a ∷ []) f g d w (subst S (sym (append_assoc front (a ∷ []) f)) p) (subst S right q) rest in
     ap (λ (x : List ℕ). x ∷ f) one ∙ ap (λ (l : List (List ℕ)). b ∷ l) more
 
-pub one_spelling : (n : ℕ) (xs ys : List (List ℕ)) → Fits xs → Fits ys → length xs ≡ n → length ys ≡ n → concat (fields xs) ≡ concat (fields ys) → xs ≡ ys
-one_spelling n xs ys p q cx cy e =
-    let s : Listed n (fields xs) = record { items = xs; count = cx; fits = p; is = refl } in
-    let t : Listed n (fields ys) = record { items = ys; count = cy; fits = q; is = refl } in
-    same_fields xs ys p q (same_cut (Listed n) [] (fields xs) (fields ys) (listed_delimited n) (λ front w whole on. listed_ends n front w on whole) s t e)
+pub one_spelling : (most n : ℕ) (xs ys : List (List ℕ)) → most < 2 ^ 32 → FitsWithin most xs → FitsWithin most ys → length xs ≡ n → length ys ≡ n → concat (fields xs) ≡ concat (fields ys) → xs ≡ ys
+one_spelling most n xs ys room p q cx cy e =
+    let s : Listed most n (fields xs) = record { items = xs; count = cx; fits = p; is = refl } in
+    let t : Listed most n (fields ys) = record { items = ys; count = cy; fits = q; is = refl } in
+    same_fields most xs ys p q (same_cut (Listed most n) [] (fields xs) (fields ys) (listed_delimited most n room) (λ front w whole on. listed_ends most n front w on whole) s t e)

@@ -24,6 +24,11 @@ short_after : (ds xs : List (List ℕ)) → AllByRecursion IsShort ds → ((k : 
 short_after ds [] all each = all
 short_after ds (x ∷ xs) all each = short_after (with_entry ds x) xs (short_with ds x all (each 0 (omega arith))) (λ k lt. each (suc k) (omega arith))
 
+-- a length that has room is no more than the longest
+pub no_longer : (ds : List (List ℕ)) → AllByRecursion IsShort ds → AllByRecursion (λ x. length x ≤ 4294967295) ds
+no_longer [] all = tt
+no_longer (d ∷ ds) all = (omega (arith, all.0), no_longer ds all.1)
+
 pub short_entries : (items : List (List ℕ)) → sum_by length items < 2 ^ 32 → AllByRecursion IsShort (dictionary items)
 short_entries items small = short_after [] items tt (λ k lt. omega (arith, get_or-le-sum_by length items k [] lt))
 

@@ -1,5 +1,5 @@
 -- The one spelling of a list of byte strings: its dictionary, and where each item stands in it.
-use Rattle.std.specs.Prelude.{◌≡◌, ℕ, suc, ◌<◌, ◌≤◌, ◌^◌, List, [], ◌∷◌, ◌++◌, length, map, get_or, nat_eq, Bool, if◌then◌else◌}
+use Rattle.std.specs.Prelude.{◌≡◌, ℕ, suc, ◌<◌, ◌≤◌, List, [], ◌∷◌, ◌++◌, length, map, get_or, nat_eq, Bool, if◌then◌else◌}
 use Rattle.std.specs.List.{AllByRecursion, concat, flat_map, list_any}
 use Rattle.std.specs.Cmp.Lexicographic.{pointwise}
 use Rattle.std.specs.Int.{w16, w32, to_le_bytes}
@@ -55,19 +55,31 @@ fields items = block (dictionary items) items
 unfoldable pub spelling : List (List ℕ) → List ℕ
 spelling items = concat (fields items)
 
--- what has a spelling: at most 4,096 different items, and the length of each has room in its field
-pub record Fits (items : List (List ℕ)) : Type 0 where
+-- at most 4,096 different items, and none of more bytes
+pub record FitsWithin (most : ℕ) (items : List (List ℕ)) : Type 0 where
   pub few : length (dictionary items) ≤ 4096
-  pub each : AllByRecursion (λ x. length x < 2 ^ 32) (dictionary items)
+  pub each : AllByRecursion (λ x. length x ≤ most) (dictionary items)
+
+-- the most bytes whose number has room in a length field
+abbrev pub longest : ℕ
+longest = 4294967295
+
+-- what has a spelling
+abbrev pub Fits : List (List ℕ) → Type 0
+Fits items = FitsWithin longest items
 
 -- the numbers are bytes
 abbrev pub AreBytes : List ℕ → Type 0
 AreBytes item = (i : ℕ) → get_or item i 0 < 256
 
--- the fields are those of a list of n byte strings
-pub record Spelled (n : ℕ) (all : List (List ℕ)) : Type 0 where
+-- the fields are those of a list of n byte strings, none of more bytes
+pub record SpelledWithin (most n : ℕ) (all : List (List ℕ)) : Type 0 where
   pub items : List (List ℕ)
   pub count : length items ≡ n
-  pub fits : Fits items
+  pub fits : FitsWithin most items
   pub bytes : AllByRecursion AreBytes (dictionary items)
   pub is : all ≡ fields items
+
+-- the fields are those of a list of n byte strings
+abbrev pub Spelled : ℕ → List (List ℕ) → Type 0
+Spelled n = SpelledWithin longest n

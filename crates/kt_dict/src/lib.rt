@@ -3,9 +3,10 @@
 //!
 //! `encode` writes the one spelling of a list of byte strings with at most 4,096 different ones, and
 //! `decode` answers that list exactly where the bytes spell it, and otherwise the first place at
-//! which they don't. A list that was read is held as it stands on disk, each entry once and a code
-//! for each cell, and `get` hands out an item where its entry lies. `Entries` tells how long the block of
-//! a list would be whose items are gone over one by one.
+//! which they don't; `decode_within` does so of items that are no longer than a limit. A list that was
+//! read is held as it stands on disk, each entry once and a code for each cell, and `get` hands out an
+//! item where its entry lies. `Entries` tells how long the block of a list would be whose items are
+//! gone over one by one.
 #![tactic(auto)]
 
 mod entries;
@@ -21,5 +22,5 @@ pub use error::{CodecNo, Width};
 pub use items::{Item, Items, get};
 pub use kt_bytes::{NoMemory, Octets, Texts};
 pub use laws::{one_place, one_value};
-pub use reading::decode;
+pub use reading::{decode, decode_within};
 pub use writing::{encode, encoded_len};

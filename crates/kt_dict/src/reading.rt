@@ -2,7 +2,7 @@
 
 ghost use Rattle.std.specs.Prelude.{◌≡◌, ◌≤◌, ◌<◌, ◌^◌, [], List, ℕ, map, IfOk, IfErr, IsTrue};
 ghost use Rattle.kt_bytes.specs.Reading.{Gives};
-ghost use Rattle.kt_dict.specs.Reading.{Spells, IsCause, IsItems};
+ghost use Rattle.kt_dict.specs.Reading.{Spells, SpellsWithin, IsCause, IsCauseWithin, IsItems};
 ghost use Rattle.kt_dict.specs.Walk.{is_code, count_at, text_at, entries_at, code_at, used_with, codes_at, block_at};
 
 use crate::error::{CodecNo, Width};
@@ -31,15 +31,18 @@ fn count_of(n: u32, bytes: &[u8]) -> Result<(usize, &[u8]), Stop>
 
 /// The bytes of an entry behind these.
 #[tactic(auto, unfolding(crate::specs::Walk::text_at))]
-fn text_of<'a>(entries: &IndexSet<&[u8]>, bytes: &'a [u8]) -> Result<(&'a [u8], &'a [u8]), Stop>
-    ensures { Gives (λ x. (x.0.now, x.1.now)) result (text_at (map (λ k. k.now) entries.now.keys) bytes.now) }
+fn text_of<'a>(
+    entries: &IndexSet<&[u8]>,
+    most: u32,
+    bytes: &'a [u8],
+) -> Result<(&'a [u8], &'a [u8]), Stop>
+    ensures { Gives (λ x. (x.0.now, x.1.now)) result (text_at most (map (λ k. k.now) entries.now.keys) bytes.now) }
 {
     let (len, rest) = u32_at(bytes)?;
-    let len = len as usize;
-    if !can_stand(entries, len) {
+    if len > most || !can_stand(entries, len as usize) {
         return Err(Stop::Left(bytes.len()));
     }
-    front_of(rest, len)
+    front_of(rest, len as usize)
 }
 
 /// The entries, and the bytes behind them.
@@ -49,13 +52,13 @@ struct Known<'a> {
     rest: &'a [u8],
 }
 
-fn entries_of(alloc: Global, count: usize, bytes: &[u8]) -> Result<Known<'_>, Stop>
-    ensures { Gives (λ x. (map (λ k. k.now) x.entries.keys, x.rest.now)) result (entries_at count [] bytes.now) }
+fn entries_of(alloc: Global, count: usize, most: u32, bytes: &[u8]) -> Result<Known<'_>, Stop>
+    ensures { Gives (λ x. (map (λ k. k.now) x.entries.keys, x.rest.now)) result (entries_at most count [] bytes.now) }
 {
     let mut entries = IndexSet::new(alloc);
     let mut rest = bytes;
     for _ in 0..count {
-        let (text, after) = text_of(&entries, rest)?;
+        let (text, after) = text_of(&entries, most, rest)?;
         if !use_item(&mut entries, text)? {
             return Err(Stop::Left(text.len() + after.len()));
         }
@@ -122,11 +125,11 @@ struct Parts {
 }
 
 #[tactic(auto, unfolding(crate::specs::Walk::block_at))]
-fn block_of(alloc: Global, n: u32, bytes: &[u8]) -> Result<Parts, Stop>
-    ensures { Gives (λ x. (x.entries, x.codes.items)) result (block_at n bytes.now) }
+fn block_of(alloc: Global, n: u32, most: u32, bytes: &[u8]) -> Result<Parts, Stop>
+    ensures { Gives (λ x. (x.entries, x.codes.items)) result (block_at most n bytes.now) }
 {
     let (count, rest) = count_of(n, bytes)?;
-    let known = entries_of(alloc, count, rest)?;
+    let known = entries_of(alloc, count, most, rest)?;
     let (codes, rest) = codes_of(alloc, n, known.entries.len(), known.rest)?;
     if !rest.is_empty() {
         return Err(Stop::Left(rest.len()));
@@ -144,8 +147,24 @@ pub fn decode(alloc: Global, bytes: &[u8], n: u32, width: Width) -> Result<Items
     // Where the first fault is.
     ensures place { IfErr result (IsCause bytes.now n) }
 {
+    decode_within(alloc, bytes, n, width, u32::MAX)
+}
+
+/// The same of items of which none has more than so many bytes: a longer one is at fault at its length.
+pub fn decode_within(
+    alloc: Global,
+    bytes: &[u8],
+    n: u32,
+    width: Width,
+    most: u32,
+) -> Result<Items, CodecNo>
+    requires { 2 ≤ most }
+    ensures found { IfOk result (λ items. SpellsWithin most bytes.now n items) }
+    ensures only { (items : List (List ℕ)) → SpellsWithin most bytes.now n items → IsItems result items }
+    ensures place { IfErr result (IsCauseWithin most bytes.now n) }
+{
     let Width::Bytes = width;
-    match block_of(alloc, n, bytes) {
+    match block_of(alloc, n, most, bytes) {
         Ok(parts) => Ok(Items::of(parts.entries, parts.codes)),
         Err(Stop::Memory) => Err(CodecNo::Memory),
         Err(Stop::Left(left)) => Err(CodecNo::Place {

@@ -46,9 +46,9 @@ fn has_free(entries: &IndexSet<&[u8]>) -> bool
 }
 
 /// An entry of this length can stand behind these.
-#[tactic(auto, unfolding(crate::specs::Walk::is_length))]
+#[tactic(auto, unfolding(crate::specs::Walk::is_open))]
 pub fn can_stand(entries: &IndexSet<&[u8]>, len: usize) -> bool
-    ensures { result ≡ walk.is_length (map (λ k. k.now) entries.now.keys) len }
+    ensures { result ≡ walk.is_open (map (λ k. k.now) entries.now.keys) len }
 {
     if len == 0 {
         !has_item(entries, &[])

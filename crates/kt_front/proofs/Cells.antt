@@ -1,10 +1,10 @@
 -- The cells of a list, one after the other.
-use Rattle.std.proofs.Common.{◌≡◌, ℕ, zero, suc, ◌+◌, ◌-◌, ◌%◌, ◌^◌, ◌<◌, ◌≤◌, true, false, cond, List, [], ◌∷◌, ◌++◌, length, get_or, take, refl, sym, ap, ◌∙◌, arith, append_assoc}
+use Rattle.std.proofs.Common.{◌≡◌, ℕ, zero, suc, ◌+◌, ◌-◌, ◌%◌, ◌^◌, ◌<◌, ◌≤◌, true, false, cond, List, [], ◌∷◌, ◌++◌, length, get_or, take, drop, refl, sym, ap, ◌∙◌, arith, append_assoc}
 use Rattle.std.specs.Prelude.{nat_eq}
-use Rattle.std.specs.List.{sum_by}
+use Rattle.std.specs.List.{sum_by, AllByRecursion}
 use Rattle.std.proofs.lemmas.List.{append-nil, take_more, length-take-le, get_or-take, get_or_push, length_push}
 use Rattle.std.proofs.lemmas.List.Sums.{get_or-le-sum_by}
-use Rattle.kt_front.specs.Spelling.{base, cell, cells, spelling, AllFit, Fits}
+use Rattle.kt_front.specs.Spelling.{base, cell, cells, spelling, shared, Fits}
 use Rattle.kt_bytes.specs.Cuts.{last}
 use Rattle.kt_front.proofs.Shared.{shared-le}
 
@@ -61,16 +61,43 @@ spelling_more items i before lt is =
 
 -- ---- what fits
 
-each_fits : (i : ℕ) (b : List ℕ) (items : List (List ℕ)) → ((k : ℕ) → k < length items → length (get_or items k []) < 2 ^ 32) → AllFit i b items
-each_fits i b [] each = tt
-each_fits i b (x ∷ items) each =
-    let first : length x < 2 ^ 32 = each 0 (omega arith) in
-    (record { shared_part = omega (arith, shared-le (base i b) x); rest = omega arith }, each_fits (suc i) x items (λ k lt. each (suc k) (omega arith)))
+abbrev pub AllShort : ℕ → List (List ℕ) → Type 0
+AllShort most items = AllByRecursion (λ x. length x ≤ most) items
+
+-- both numbers of a cell have room in their fields
+pub shared_small : (most : ℕ) (w x : List ℕ) → most < 2 ^ 32 → length x ≤ most → shared w x < 2 ^ 32
+shared_small most w x room le = omega (arith, shared-le w x)
+
+pub rest_small : (most : ℕ) (w x : List ℕ) → most < 2 ^ 32 → length x ≤ most → length x - shared w x < 2 ^ 32
+rest_small most w x room le = omega arith
+
+pub short_at : (most j : ℕ) (xs : List (List ℕ)) → AllShort most xs → j < length xs → length (get_or xs j []) ≤ most
+short_at most j [] all lt = absurd (omega arith)
+short_at most zero (x ∷ xs) all lt = all.0
+short_at most (suc j) (x ∷ xs) all lt = short_at most j xs all.1 (omega arith)
+
+pub short_front : (most j : ℕ) (xs : List (List ℕ)) → AllShort most xs → AllShort most (take j xs)
+short_front most zero xs all = tt
+short_front most (suc j) [] all = tt
+short_front most (suc j) (x ∷ xs) all = (all.0, short_front most j xs all.1)
+
+pub short_behind : (most j : ℕ) (xs : List (List ℕ)) → AllShort most xs → AllShort most (drop j xs)
+short_behind most zero xs all = all
+short_behind most (suc j) [] all = tt
+short_behind most (suc j) (x ∷ xs) all = short_behind most j xs all.1
+
+-- what is within a limit is within a greater one
+pub short_more : (most greater : ℕ) (xs : List (List ℕ)) → most ≤ greater → AllShort most xs → AllShort greater xs
+short_more most greater [] le all = tt
+short_more most greater (x ∷ xs) le all = (omega (arith, all.0), short_more most greater xs le all.1)
+
+each_fits : (items : List (List ℕ)) → ((k : ℕ) → k < length items → length (get_or items k []) < 2 ^ 32) → AllShort 4294967295 items
+each_fits [] each = tt
+each_fits (x ∷ items) each = (let first : length x < 2 ^ 32 = each 0 (omega arith) in omega arith, each_fits items (λ k lt. each (suc k) (omega arith)))
 
 -- what is short together has a spelling
 pub fits_together : (items : List (List ℕ)) → sum_by length items < 2 ^ 32 → Fits items
-unfolding Fits
-fits_together items small = each_fits 0 [] items (λ k lt. omega (arith, get_or-le-sum_by length items k [] lt))
+fits_together items small = record { each = each_fits items (λ k lt. omega (arith, get_or-le-sum_by length items k [] lt)) }
 
 pub spelling_nil : spelling [] ≡ []
 unfolding spelling

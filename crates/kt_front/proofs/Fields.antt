@@ -7,8 +7,8 @@ use Rattle.std.proofs.lemmas.Bool.Decides.{nat_tests}
 use Rattle.std.proofs.lemmas.List.{drop_at, take-append-drop, length-append, length-take, length-drop, get_or_append_left, get_or_past}
 use Rattle.kt_bytes.specs.Reading.{◌>>=◌, number_at, checked_at, bytes_at}
 use Rattle.kt_bytes.proofs.Numbers.{IsBytes, Takes, Takes-then, wide32, number_takes as takes_number, number_again as again_number, checked_takes, checked_again, bytes_takes, bytes_again, bind_ok, guard_ok, then_is, IsBytes-take}
-use Rattle.kt_front.specs.Spelling.{shared, number, cell, CellFits}
-use Rattle.kt_front.specs.Walk.{begin_alike, is_shared, cell_at}
+use Rattle.kt_front.specs.Spelling.{shared, number, cell}
+use Rattle.kt_front.specs.Walk.{begin_alike, is_shared, is_more, cell_at}
 use Rattle.kt_front.proofs.Shared.{shared-le, shared_exact, shared_front, shared_apart}
 
 -- ---- numbers
@@ -68,21 +68,22 @@ bytes_both [] ys p q i = q i
 bytes_both (x ∷ xs) ys p q zero = p 0
 bytes_both (x ∷ xs) ys p q (suc i) = bytes_both xs ys (λ k. p (suc k)) q i
 
-pub record TakesCell (with bytes : List ℕ) (x : List ℕ × List ℕ) : Type 0 where
+pub record TakesCell (most : ℕ) (with bytes : List ℕ) (x : List ℕ × List ℕ) : Type 0 where
   pub takes : Takes bytes (cell with x.0) x.1
-  pub fits : CellFits with x.0
+  pub fits : length x.0 ≤ most
   pub bytes_fit : IsBytes with → IsBytes x.0
 
-pub cell_takes : (with bytes : List ℕ) (x : List ℕ × List ℕ) → IsBytes bytes → cell_at with bytes ≡ Ok x → TakesCell with bytes x
+pub cell_takes : (most : ℕ) (with bytes : List ℕ) (x : List ℕ × List ℕ) → IsBytes bytes → cell_at most with bytes ≡ Ok x → TakesCell most with bytes x
 unfolding cell_at
-cell_takes with bytes x fits e =
-    let a = bind_ok (checked_at w32 (is_shared with) bytes) (λ n. number_at w32 n.1 >>= λ m. bytes_at m.0 m.1 >>= λ rest. cond (begin_alike (drop n.0 with) rest.0) (Err (length bytes)) (Ok (take n.0 with ++ rest.0, rest.1))) x e in
+cell_takes most with bytes x fits e =
+    let a = bind_ok (checked_at w32 (is_shared with) bytes) (λ n. checked_at w32 (is_more most n.0) n.1 >>= λ m. bytes_at m.0 m.1 >>= λ rest. cond (begin_alike (drop n.0 with) rest.0) (Err (length bytes)) (Ok (take n.0 with ++ rest.0, rest.1))) x e in
     let n = a.0 in
     let t0 = shared_takes (is_shared with) bytes n fits a.1 in
     let enough : n.0 ≤ length with = leb-true n.0 (length with) t0.1 in
-    let b = bind_ok (number_at w32 n.1) (λ m. bytes_at m.0 m.1 >>= λ rest. cond (begin_alike (drop n.0 with) rest.0) (Err (length bytes)) (Ok (take n.0 with ++ rest.0, rest.1))) x a.2 in
+    let b = bind_ok (checked_at w32 (is_more most n.0) n.1) (λ m. bytes_at m.0 m.1 >>= λ rest. cond (begin_alike (drop n.0 with) rest.0) (Err (length bytes)) (Ok (take n.0 with ++ rest.0, rest.1))) x a.2 in
     let m = b.0 in
-    let t1 = number_takes n.1 m t0.0.rest_fits b.1 in
+    let t1 = shared_takes (is_more most n.0) n.1 m t0.0.rest_fits b.1 in
+    let within : n.0 + m.0 ≤ most = leb-true (n.0 + m.0) most t1.1 in
     let c = bind_ok (bytes_at m.0 m.1) (λ rest. cond (begin_alike (drop n.0 with) rest.0) (Err (length bytes)) (Ok (take n.0 with ++ rest.0, rest.1))) x b.2 in
     let third = bytes_takes m.0 m.1 c.0 t1.0.rest_fits c.1 in
     let g = guard_ok (begin_alike (drop n.0 with) c.0.0) (length bytes) (take n.0 with ++ c.0.0, c.0.1) x c.2 in
@@ -96,15 +97,15 @@ cell_takes with bytes x fits e =
     let both = Takes-then n.1 (number m.0) m.1 rest after t1.0 third.0 in
     let all = Takes-then bytes (number n.0) n.1 (number m.0 ++ rest) after t0.0 both in
     let spelled : cell with item ≡ number n.0 ++ (number m.0 ++ rest) = cell_is with item n.0 rest m.0 exact len tail in
-    subst (TakesCell with bytes) g.1 (record {
+    subst (TakesCell most with bytes) g.1 (record {
       takes = subst (λ (t : List ℕ). Takes bytes t after) (sym spelled) all;
-      fits = record { shared_part = rw exact t0.2; rest = rw (exact, len) t1.1 };
+      fits = omega (arith, length-append (take n.0 with) rest, third.1);
       bytes_fit = λ w. bytes_both (take n.0 with) rest (IsBytes-take n.0 with w) (bytes_front rest after (subst IsBytes third.0.parts t1.0.rest_fits));
     })
 
-pub cell_again : (with item rest : List ℕ) → CellFits with item → cell_at with (cell with item ++ rest) ≡ Ok (item, rest)
+pub cell_again : (most : ℕ) (with item rest : List ℕ) → most < 2 ^ 32 → length item ≤ most → cell_at most with (cell with item ++ rest) ≡ Ok (item, rest)
 unfolding cell_at cell
-cell_again with item rest fits =
+cell_again most with item rest room fits =
     let n : ℕ = shared with item in
     let m : ℕ = length item - n in
     let tail : List ℕ = drop n item in
@@ -115,9 +116,9 @@ cell_again with item rest fits =
     let text : List ℕ = number n ++ (number m ++ (tail ++ rest)) in
     let end : List ℕ × List ℕ → Result (List ℕ × List ℕ) ℕ = λ y. cond (begin_alike (drop n with) y.0) (Err (length text)) (Ok (take n with ++ y.0, y.1)) in
     let third : bytes_at m (tail ++ rest) ≡ Ok (tail, rest) = subst (λ (k : ℕ). bytes_at k (tail ++ rest) ≡ Ok (tail, rest)) len (bytes_again tail rest) in
-    ap (cell_at with) split
-    ∙ (then_is (checked_at w32 (is_shared with) text) (λ k. number_at w32 k.1 >>= λ j. bytes_at j.0 j.1 >>= λ y. cond (begin_alike (drop k.0 with) y.0) (Err (length text)) (Ok (take k.0 with ++ y.0, y.1))) (n, number m ++ (tail ++ rest)) (shared_again (is_shared with) n (number m ++ (tail ++ rest)) fits.shared_part (upto_test n (length with) le.0))
-    ∙ (then_is (number_at w32 (number m ++ (tail ++ rest))) (λ j. bytes_at j.0 j.1 >>= end) (m, tail ++ rest) (number_again m (tail ++ rest) fits.rest)
+    ap (cell_at most with) split
+    ∙ (then_is (checked_at w32 (is_shared with) text) (λ k. checked_at w32 (is_more most k.0) k.1 >>= λ j. bytes_at j.0 j.1 >>= λ y. cond (begin_alike (drop k.0 with) y.0) (Err (length text)) (Ok (take k.0 with ++ y.0, y.1))) (n, number m ++ (tail ++ rest)) (shared_again (is_shared with) n (number m ++ (tail ++ rest)) (omega (arith, le.1)) (upto_test n (length with) le.0))
+    ∙ (then_is (checked_at w32 (is_more most n) (number m ++ (tail ++ rest))) (λ j. bytes_at j.0 j.1 >>= end) (m, tail ++ rest) (shared_again (is_more most n) m (tail ++ rest) (omega arith) (upto_test (n + m) most (omega (arith, le.1))))
     ∙ (then_is (bytes_at m (tail ++ rest)) end (tail, rest) third
     ∙ (ap (λ (b : Bool). cond b (Err (length text)) (Ok (take n with ++ tail, rest))) (shared_apart with item)
     ∙ ap (λ (t : List ℕ). Ok (t, rest)) whole))))

@@ -10,26 +10,26 @@ one_more : (item : List ℕ) (read : Result (List (List ℕ) × List ℕ) ℕ) �
 one_more item (Ok x) = refl
 one_more item (Err left) = refl
 
-pub goes_on : (count i : ℕ) (before bytes item after : List ℕ) (total : Result (List ℕ) ℕ) → i < count → cell_at (base i before) bytes ≡ Ok (item, after)
-    → behind_of (items_at (count - i) i before bytes) ≡ total → behind_of (items_at (count - (i + 1)) (i + 1) item after) ≡ total
+pub goes_on : (most count i : ℕ) (before bytes item after : List ℕ) (total : Result (List ℕ) ℕ) → i < count → cell_at most (base i before) bytes ≡ Ok (item, after)
+    → behind_of (items_at most (count - i) i before bytes) ≡ total → behind_of (items_at most (count - (i + 1)) (i + 1) item after) ≡ total
 unfolding items_at
-goes_on count i before bytes item after total lt h so_far =
+goes_on most count i before bytes item after total lt h so_far =
     let k : count - i ≡ suc (count - (i + 1)) = omega arith in
     let s : suc i ≡ i + 1 = omega arith in
-    let one : behind_of (items_at (count - i) i before bytes) ≡ behind_of (items_at (count - (i + 1)) (i + 1) item after) = rw (k, h) (one_more item (items_at (count - (i + 1)) (suc i) item after) ∙ ap (λ (j : ℕ). behind_of (items_at (count - (i + 1)) j item after)) s) in
+    let one : behind_of (items_at most (count - i) i before bytes) ≡ behind_of (items_at most (count - (i + 1)) (i + 1) item after) = rw (k, h) (one_more item (items_at most (count - (i + 1)) (suc i) item after) ∙ ap (λ (j : ℕ). behind_of (items_at most (count - (i + 1)) j item after)) s) in
     sym one ∙ so_far
 
-pub ends : (e : Stop) (count i : ℕ) (before bytes : List ℕ) (total : Result (List ℕ) ℕ) → i < count → Fails e (cell_at (base i before) bytes) → behind_of (items_at (count - i) i before bytes) ≡ total → Fails e total
+pub ends : (e : Stop) (most count i : ℕ) (before bytes : List ℕ) (total : Result (List ℕ) ℕ) → i < count → Fails e (cell_at most (base i before) bytes) → behind_of (items_at most (count - i) i before bytes) ≡ total → Fails e total
 unfolding items_at
-ends stops.Memory count i before bytes total lt h so_far = tt
-ends (stops.Left left) count i before bytes total lt h so_far =
+ends stops.Memory most count i before bytes total lt h so_far = tt
+ends (stops.Left left) most count i before bytes total lt h so_far =
     let k : count - i ≡ suc (count - (i + 1)) = omega arith in
-    let one : behind_of (items_at (count - i) i before bytes) ≡ Err left = rw (k, h) refl in
+    let one : behind_of (items_at most (count - i) i before bytes) ≡ Err left = rw (k, h) refl in
     sym so_far ∙ one
 
-pub is_done : (count i : ℕ) (before bytes : List ℕ) (total : Result (List ℕ) ℕ) → count ≤ i → behind_of (items_at (count - i) i before bytes) ≡ total → total ≡ Ok bytes
+pub is_done : (most count i : ℕ) (before bytes : List ℕ) (total : Result (List ℕ) ℕ) → count ≤ i → behind_of (items_at most (count - i) i before bytes) ≡ total → total ≡ Ok bytes
 unfolding items_at
-is_done count i before bytes total le so_far =
+is_done most count i before bytes total le so_far =
     let k : count - i ≡ 0 = omega arith in
-    let one : behind_of (items_at (count - i) i before bytes) ≡ Ok bytes = rw k refl in
+    let one : behind_of (items_at most (count - i) i before bytes) ≡ Ok bytes = rw k refl in
     sym so_far ∙ one

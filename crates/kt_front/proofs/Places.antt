@@ -1,16 +1,16 @@
 -- What the fields of a list are: which of them can follow others, and how long they are.
-use Rattle.std.proofs.Common.{◌≡◌, ℕ, zero, suc, ◌+◌, ◌*◌, ◌-◌, ◌<◌, ◌≤◌, true, false, cond, List, [], ◌∷◌, ◌++◌, length, take, drop, refl, sym, ap, subst, ◌∙◌, append_assoc, arith, length-append, length-drop}
+use Rattle.std.proofs.Common.{◌≡◌, ℕ, zero, suc, ◌+◌, ◌*◌, ◌-◌, ◌^◌, ◌<◌, ◌≤◌, true, false, cond, List, [], ◌∷◌, ◌++◌, length, take, drop, refl, sym, ap, subst, ◌∙◌, append_assoc, arith, length-append, length-drop}
 use Rattle.std.specs.Prelude.{replicate, nat_eq, ◌==◌}
 use Rattle.std.specs.List.{AllByRecursion, concat}
 use Rattle.std.proofs.lemmas.Bool.Decides.{nat_tests}
 use Rattle.std.proofs.lemmas.List.{take-append-drop, length-take, length_push, drop_at}
 use Rattle.kt_bytes.specs.Places.{Begins, GoesOn, Delimited}
 use Rattle.kt_bytes.proofs.Numbers.{IsBytes-take}
-use Rattle.kt_front.specs.Spelling.{AreBytes, base, shared, number, cell, cells, cell_fields, fields_from, fields, spelling, CellFits, AllFit, Fits, Spelled}
+use Rattle.kt_front.specs.Spelling.{AreBytes, base, shared, number, cell, cells, cell_fields, fields_from, fields, spelling, SpelledWithin}
 use Rattle.kt_front.specs.Walk.{begin_alike}
-use Rattle.kt_front.proofs.Shared.{shared-le, shared_exact, shared_front}
+use Rattle.kt_front.proofs.Shared.{shared_exact, shared_front}
 use Rattle.kt_front.proofs.Fields.{length-number, number_one, bytes_both}
-use Rattle.kt_front.proofs.Cells.{last_or}
+use Rattle.kt_front.proofs.Cells.{last_or, AllShort, shared_small, rest_small}
 
 -- ---- the fields are the spelling
 
@@ -39,13 +39,6 @@ fields_append i b (x ∷ xs) ys =
     let at : suc i + length xs ≡ i + suc (length xs) = omega arith in
     ap (λ (t : List (List ℕ)). cell_fields (base i b) x ++ t) (fields_append (suc i) x xs ys ∙ ap (λ (k : ℕ). fields_from (suc i) x xs ++ fields_from k (last_or x xs) ys) at)
 
-fits_append : (i : ℕ) (b : List ℕ) (xs ys : List (List ℕ)) → AllFit i b xs → AllFit (i + length xs) (last_or b xs) ys → AllFit i b (xs ++ ys)
-unfolding last_or
-fits_append i b [] ys p q = let at : i + 0 ≡ i = omega arith in subst (λ (k : ℕ). AllFit k b ys) at q
-fits_append i b (x ∷ xs) ys p q =
-    let at : i + suc (length xs) ≡ suc i + length xs = omega arith in
-    (p.0, fits_append (suc i) x xs ys p.1 (subst (λ (k : ℕ). AllFit k (last_or x xs) ys) at q))
-
 all_append : {A : Type 0} (P : A → Type 0) (xs ys : List A) → AllByRecursion P xs → AllByRecursion P ys → AllByRecursion P (xs ++ ys)
 all_append P [] ys p q = q
 all_append P (x ∷ xs) ys p q = (p.0, all_append P xs ys p.1 q)
@@ -55,12 +48,9 @@ all_back P [] ys all = all
 all_back P (x ∷ xs) ys all = all_back P xs ys all.1
 
 -- empty items always fit
-nothing_fits : (w : List ℕ) → CellFits w []
-nothing_fits w = record { shared_part = omega (arith, shared-le w []); rest = omega arith }
-
-empties_fit : (m i : ℕ) (b : List ℕ) → AllFit i b (replicate m [])
-empties_fit zero i b = tt
-empties_fit (suc m) i b = (nothing_fits (base i b), empties_fit m (suc i) [])
+empties_fit : (most m : ℕ) → AllShort most (replicate m [])
+empties_fit most zero = tt
+empties_fit most (suc m) = (omega arith, empties_fit most m)
 
 empty_bytes : (m : ℕ) → AllByRecursion AreBytes (replicate m [])
 empty_bytes zero = tt
@@ -71,22 +61,22 @@ length-empties zero = refl
 length-empties (suc m) = ap suc (length-empties m)
 
 -- so many items were read, and m of n are left
-pub record Sofar (n m : ℕ) (xs : List (List ℕ)) : Type 0 where
+pub record Sofar (most n m : ℕ) (xs : List (List ℕ)) : Type 0 where
+  pub room : most < 2 ^ 32
   pub total : length xs + m ≡ n
-  pub fits : AllFit 0 [] xs
+  pub fits : AllShort most xs
   pub bytes : AllByRecursion AreBytes xs
 
-pub sofar_push : (n m : ℕ) (xs : List (List ℕ)) (x : List ℕ) → Sofar n (suc m) xs → CellFits (base (0 + length xs) (last_or [] xs)) x → AreBytes x → Sofar n m (xs ++ x ∷ [])
-sofar_push n m xs x s fits bytes = record { total = omega (arith, s.total, length_push xs x); fits = fits_append 0 [] xs (x ∷ []) s.fits (fits, tt); bytes = all_append AreBytes xs (x ∷ []) s.bytes (bytes, tt) }
+pub sofar_push : (most n m : ℕ) (xs : List (List ℕ)) (x : List ℕ) → Sofar most n (suc m) xs → length x ≤ most → AreBytes x → Sofar most n m (xs ++ x ∷ [])
+sofar_push most n m xs x s fits bytes = record { room = s.room; total = omega (arith, s.total, length_push xs x); fits = all_append (λ y. length y ≤ most) xs (x ∷ []) s.fits (fits, tt); bytes = all_append AreBytes xs (x ∷ []) s.bytes (bytes, tt) }
 
-pub begins : (n m : ℕ) (xs : List (List ℕ)) → Sofar n m xs → Begins (Spelled n) (fields xs)
-unfolding Fits
-begins n m xs s = (
+pub begins : (most n m : ℕ) (xs : List (List ℕ)) → Sofar most n m xs → Begins (SpelledWithin most n) (fields xs)
+begins most n m xs s = (
   fields_from (0 + length xs) (last_or [] xs) (replicate m []),
   record {
     items = xs ++ replicate m [];
     count = omega (arith, s.total, length-append xs (replicate m []), length-empties m);
-    fits = fits_append 0 [] xs (replicate m []) s.fits (empties_fit m (0 + length xs) (last_or [] xs));
+    fits = record { each = all_append (λ y. length y ≤ most) xs (replicate m []) s.fits (empties_fit most m) };
     bytes = all_append AreBytes xs (replicate m []) s.bytes (empty_bytes m);
     is = sym (fields_append 0 [] xs (replicate m []));
   },
@@ -142,55 +132,54 @@ made w s r bytes le =
 
 -- ---- what follows
 
-pub record Inside (i : ℕ) (b : List ℕ) (xs tail ys : List (List ℕ)) : Type 0 where
+pub record Inside (most i : ℕ) (b : List ℕ) (xs tail ys : List (List ℕ)) : Type 0 where
   pub rest : List (List ℕ)
   pub is : ys ≡ xs ++ rest
   pub tail_is : tail ≡ fields_from (i + length xs) (last_or b xs) rest
-  pub fits : AllFit (i + length xs) (last_or b xs) rest
+  pub fits : AllShort most rest
 
-one_item : (w x y : List ℕ) → CellFits w x → CellFits w y → number (shared w x) ≡ number (shared w y) → drop (shared w x) x ≡ drop (shared w y) y → y ≡ x
-one_item w x y p q e r =
-    let s : shared w y ≡ shared w x = sym (number_one (shared w x) (shared w y) p.shared_part q.shared_part e) in
+one_item : (most : ℕ) (w x y : List ℕ) → most < 2 ^ 32 → length x ≤ most → length y ≤ most → number (shared w x) ≡ number (shared w y) → drop (shared w x) x ≡ drop (shared w y) y → y ≡ x
+one_item most w x y room p q e r =
+    let s : shared w y ≡ shared w x = sym (number_one (shared w x) (shared w y) (shared_small most w x room p) (shared_small most w y room q) e) in
     let front : take (shared w x) y ≡ take (shared w x) x = ap (λ (k : ℕ). take k y) (sym s) ∙ (sym (shared_front w y) ∙ (ap (λ (k : ℕ). take k w) s ∙ shared_front w x)) in
     let back : drop (shared w x) y ≡ drop (shared w x) x = ap (λ (k : ℕ). drop k y) (sym s) ∙ sym r in
     sym (take-append-drop (shared w x) y) ∙ (ap (λ (t : List ℕ). t ++ drop (shared w x) y) front ∙ (ap (λ (t : List ℕ). take (shared w x) x ++ t) back ∙ take-append-drop (shared w x) x))
 
-pub inside : (i : ℕ) (b : List ℕ) (xs tail ys : List (List ℕ)) → AllFit i b xs → AllFit i b ys → fields_from i b xs ++ tail ≡ fields_from i b ys → length xs ≤ length ys → Inside i b xs tail ys
+pub inside : (most i : ℕ) (b : List ℕ) (xs tail ys : List (List ℕ)) → most < 2 ^ 32 → AllShort most xs → AllShort most ys → fields_from i b xs ++ tail ≡ fields_from i b ys → length xs ≤ length ys → Inside most i b xs tail ys
 unfolding last_or
-inside i b [] tail ys p q e le =
+inside most i b [] tail ys room p q e le =
     let at : i ≡ i + 0 = omega arith in
-    record { rest = ys; is = refl; tail_is = e ∙ ap (λ (k : ℕ). fields_from k b ys) at; fits = subst (λ (k : ℕ). AllFit k b ys) at q }
-inside i b (x ∷ xs) tail [] p q e le = absurd (omega arith)
-inside i b (x ∷ xs) tail (y ∷ ys) p q e le =
+    record { rest = ys; is = refl; tail_is = e ∙ ap (λ (k : ℕ). fields_from k b ys) at; fits = q }
+inside most i b (x ∷ xs) tail [] room p q e le = absurd (omega arith)
+inside most i b (x ∷ xs) tail (y ∷ ys) room p q e le =
     let w : List ℕ = base i b in
     let whole : number (shared w x) ∷ number (length x - shared w x) ∷ drop (shared w x) x ∷ (fields_from (suc i) x xs ++ tail) ≡ number (shared w y) ∷ number (length y - shared w y) ∷ drop (shared w y) y ∷ fields_from (suc i) y ys = e in
     let first : number (shared w x) ≡ number (shared w y) = cc in
     let third : drop (shared w x) x ≡ drop (shared w y) y = cc in
     let rest : fields_from (suc i) x xs ++ tail ≡ fields_from (suc i) y ys = cc in
-    let one : y ≡ x = one_item w x y p.0 q.0 first third in
-    let r = inside (suc i) x xs tail ys p.1 (subst (λ (z : List ℕ). AllFit (suc i) z ys) one q.1) (rest ∙ ap (λ (z : List ℕ). fields_from (suc i) z ys) one) (omega arith) in
+    let one : y ≡ x = one_item most w x y room p.0 q.0 first third in
+    let r = inside most (suc i) x xs tail ys room p.1 q.1 (rest ∙ ap (λ (z : List ℕ). fields_from (suc i) z ys) one) (omega arith) in
     let at : suc i + length xs ≡ i + suc (length xs) = omega arith in
     record {
       rest = r.rest;
       is = ap (λ (z : List ℕ). z ∷ ys) one ∙ ap (λ (t : List (List ℕ)). x ∷ t) r.is;
       tail_is = r.tail_is ∙ ap (λ (k : ℕ). fields_from k (last_or x xs) r.rest) at;
-      fits = subst (λ (k : ℕ). AllFit k (last_or x xs) r.rest) at r.fits;
+      fits = r.fits;
     }
 
 -- the next item of a list whose fields begin with those of these
-pub record Next (n m : ℕ) (xs tail : List (List ℕ)) : Type 0 where
+pub record Next (most n m : ℕ) (xs tail : List (List ℕ)) : Type 0 where
   pub item : List ℕ
   pub others : List (List ℕ)
   pub some : 0 < m
-  pub fits : CellFits (base (0 + length xs) (last_or [] xs)) item
+  pub fits : length item ≤ most
   pub bytes : AreBytes item
   pub tail_is : tail ≡ cell_fields (base (0 + length xs) (last_or [] xs)) item ++ others
 
-pub next : (n m : ℕ) (xs tail : List (List ℕ)) → Sofar n m xs → Spelled n (fields xs ++ tail) → 0 < length tail → Next n m xs tail
-unfolding Fits
-next n m xs tail s t some = at (inside 0 [] xs tail t.items s.fits t.fits t.is (omega (arith, s.total, t.count)))
+pub next : (most n m : ℕ) (xs tail : List (List ℕ)) → Sofar most n m xs → SpelledWithin most n (fields xs ++ tail) → 0 < length tail → Next most n m xs tail
+next most n m xs tail s t some = at (inside most 0 [] xs tail t.items s.room s.fits t.fits.each t.is (omega (arith, s.total, t.count)))
   where
-    from : (rest : List (List ℕ)) → t.items ≡ xs ++ rest → tail ≡ fields_from (0 + length xs) (last_or [] xs) rest → AllFit (0 + length xs) (last_or [] xs) rest → Next n m xs tail
+    from : (rest : List (List ℕ)) → t.items ≡ xs ++ rest → tail ≡ fields_from (0 + length xs) (last_or [] xs) rest → AllShort most rest → Next most n m xs tail
     from [] is e fits = absurd (omega (arith, ap length e))
     from (y ∷ rest) is e fits = record {
       item = y;
@@ -201,68 +190,60 @@ next n m xs tail s t some = at (inside 0 [] xs tail t.items s.fits t.fits t.is (
       tail_is = e;
     }
 
-    at : Inside 0 [] xs tail t.items → Next n m xs tail
+    at : Inside most 0 [] xs tail t.items → Next most n m xs tail
     at i = from i.rest i.is i.tail_is i.fits
 
 -- ---- how long fields are
 
-pub record Listed (n : ℕ) (all : List (List ℕ)) : Type 0 where
-  pub items : List (List ℕ)
-  pub count : length items ≡ n
-  pub fits : Fits items
-  pub is : all ≡ fields items
-
-pub listed_on : (n : ℕ) (front : List (List ℕ)) (field : List ℕ) → GoesOn (Spelled n) front field → GoesOn (Listed n) front field
-listed_on n front field on = (on.0, record { items = on.1.items; count = on.1.count; fits = on.1.fits; is = on.1.is })
-
-record Alike (front : List (List ℕ)) (a b : List ℕ) (i j : ℕ) (p q : List ℕ) (xs ys more others : List (List ℕ)) : Type 0 where
-  pub fits : AllFit i p xs
-  pub suits : AllFit j q ys
+record Alike (most : ℕ) (front : List (List ℕ)) (a b : List ℕ) (i j : ℕ) (p q : List ℕ) (xs ys more others : List (List ℕ)) : Type 0 where
+  pub room : most < 2 ^ 32
+  pub fits : AllShort most xs
+  pub suits : AllShort most ys
   pub first : front ++ a ∷ more ≡ fields_from i p xs
   pub second : front ++ b ∷ others ≡ fields_from j q ys
 
-last_len : (w v x y g : List ℕ) → CellFits w x → CellFits v y → g ≡ number (length x - shared w x) → g ≡ number (length y - shared v y) → length (drop (shared w x) x) ≡ length (drop (shared v y) y)
-last_len w v x y g p q e f =
-    let same : length x - shared w x ≡ length y - shared v y = number_one (length x - shared w x) (length y - shared v y) p.rest q.rest (sym e ∙ f) in
+last_len : (most : ℕ) (w v x y g : List ℕ) → most < 2 ^ 32 → length x ≤ most → length y ≤ most → g ≡ number (length x - shared w x) → g ≡ number (length y - shared v y) → length (drop (shared w x) x) ≡ length (drop (shared v y) y)
+last_len most w v x y g room p q e f =
+    let same : length x - shared w x ≡ length y - shared v y = number_one (length x - shared w x) (length y - shared v y) (rest_small most w x room p) (rest_small most v y room q) (sym e ∙ f) in
     omega (arith, length-drop (shared w x) x, length-drop (shared v y) y)
 
-alike : (front : List (List ℕ)) (a b : List ℕ) (i j : ℕ) (p q : List ℕ) (xs ys more others : List (List ℕ)) → Alike front a b i j p q xs ys more others → length a ≡ length b
-alike front a b i j p q [] ys more others l = absurd (omega (arith, ap length l.first, length-append front (a ∷ more)))
-alike front a b i j p q (x ∷ xs) [] more others l = absurd (omega (arith, ap length l.second, length-append front (b ∷ others)))
-alike [] a b i j p q (x ∷ xs) (y ∷ ys) more others l =
+alike : (most : ℕ) (front : List (List ℕ)) (a b : List ℕ) (i j : ℕ) (p q : List ℕ) (xs ys more others : List (List ℕ)) → Alike most front a b i j p q xs ys more others → length a ≡ length b
+alike most front a b i j p q [] ys more others l = absurd (omega (arith, ap length l.first, length-append front (a ∷ more)))
+alike most front a b i j p q (x ∷ xs) [] more others l = absurd (omega (arith, ap length l.second, length-append front (b ∷ others)))
+alike most [] a b i j p q (x ∷ xs) (y ∷ ys) more others l =
     let e : a ≡ number (shared (base i p) x) = first_is l.first in
     let f : b ≡ number (shared (base j q) y) = first_is l.second in
     omega (arith, ap length e, ap length f, length-number (shared (base i p) x), length-number (shared (base j q) y))
   where
     first_is : {u v : List ℕ} {us vs : List (List ℕ)} → u ∷ us ≡ v ∷ vs → u ≡ v
     first_is e = cc
-alike (f ∷ []) a b i j p q (x ∷ xs) (y ∷ ys) more others l =
+alike most (f ∷ []) a b i j p q (x ∷ xs) (y ∷ ys) more others l =
     let e : a ≡ number (length x - shared (base i p) x) = second_is l.first in
     let g : b ≡ number (length y - shared (base j q) y) = second_is l.second in
     omega (arith, ap length e, ap length g, length-number (length x - shared (base i p) x), length-number (length y - shared (base j q) y))
   where
     second_is : {u v w z : List ℕ} {us vs : List (List ℕ)} → u ∷ w ∷ us ≡ v ∷ z ∷ vs → w ≡ z
     second_is e = cc
-alike (f ∷ g ∷ []) a b i j p q (x ∷ xs) (y ∷ ys) more others l =
-    ap length (third_is l.first) ∙ (last_len (base i p) (base j q) x y g l.fits.0 l.suits.0 (second_is l.first) (second_is l.second) ∙ sym (ap length (third_is l.second)))
+alike most (f ∷ g ∷ []) a b i j p q (x ∷ xs) (y ∷ ys) more others l =
+    ap length (third_is l.first) ∙ (last_len most (base i p) (base j q) x y g l.room l.fits.0 l.suits.0 (second_is l.first) (second_is l.second) ∙ sym (ap length (third_is l.second)))
   where
     second_is : {u v w z : List ℕ} {us vs : List (List ℕ)} → u ∷ w ∷ us ≡ v ∷ z ∷ vs → w ≡ z
     second_is e = cc
 
     third_is : {u v w z s t : List ℕ} {us vs : List (List ℕ)} → u ∷ w ∷ s ∷ us ≡ v ∷ z ∷ t ∷ vs → s ≡ t
     third_is e = cc
-alike (f ∷ g ∷ h ∷ front) a b i j p q (x ∷ xs) (y ∷ ys) more others l =
-    alike front a b (suc i) (suc j) x y xs ys more others (record { fits = l.fits.1; suits = l.suits.1; first = rest_is l.first; second = rest_is l.second })
+alike most (f ∷ g ∷ h ∷ front) a b i j p q (x ∷ xs) (y ∷ ys) more others l =
+    alike most front a b (suc i) (suc j) x y xs ys more others (record { room = l.room; fits = l.fits.1; suits = l.suits.1; first = rest_is l.first; second = rest_is l.second })
   where
     rest_is : {u v w z s t : List ℕ} {us vs : List (List ℕ)} → u ∷ w ∷ s ∷ us ≡ v ∷ z ∷ t ∷ vs → us ≡ vs
     rest_is e = cc
 
-pub delimited : (n : ℕ) → Delimited (Spelled n)
-unfolding Fits
-delimited n front a b p q =
-    alike front a b 0 0 [] [] p.1.items q.1.items p.0 q.0 (record {
-      fits = p.1.fits;
-      suits = q.1.fits;
+pub delimited : (most n : ℕ) → most < 2 ^ 32 → Delimited (SpelledWithin most n)
+delimited most n room front a b p q =
+    alike most front a b 0 0 [] [] p.1.items q.1.items p.0 q.0 (record {
+      room = room;
+      fits = p.1.fits.each;
+      suits = q.1.fits.each;
       first = sym (append_assoc front (a ∷ []) p.0) ∙ p.1.is;
       second = sym (append_assoc front (b ∷ []) q.0) ∙ q.1.is;
     })
@@ -272,6 +253,6 @@ length-fields i b [] = refl
 length-fields i b (x ∷ xs) = omega (arith, length-fields (suc i) x xs)
 
 -- what is whole doesn't go on
-pub whole_ends : (n : ℕ) (front : List (List ℕ)) (w : List ℕ) → GoesOn (Spelled n) front w → ¬ Spelled n front
-whole_ends n front w on s =
+pub whole_ends : (most n : ℕ) (front : List (List ℕ)) (w : List ℕ) → GoesOn (SpelledWithin most n) front w → ¬ SpelledWithin most n front
+whole_ends most n front w on s =
     absurd (omega (arith, ap length s.is, ap length on.1.is, length-fields 0 [] s.items, length-fields 0 [] on.1.items, s.count, on.1.count, length-append (front ++ w ∷ []) on.0, length_push front w))

@@ -1,5 +1,5 @@
 -- Walking over the cells of a block.
-use Rattle.std.proofs.Common.{◌≡◌, ℕ, zero, suc, ◌+◌, ◌-◌, ◌*◌, ◌/◌, ◌%◌, ◌<◌, ◌≤◌, true, false, cond, ltb, List, [], ◌∷◌, ◌++◌, length, get_or, take, drop, Ok, Err, refl, sym, ap, subst, ◌∙◌, append_assoc, arith, inl, inr}
+use Rattle.std.proofs.Common.{◌≡◌, ℕ, zero, suc, ◌+◌, ◌-◌, ◌*◌, ◌/◌, ◌%◌, ◌<◌, ◌≤◌, true, false, cond, ltb, List, [], ◌∷◌, ◌++◌, length, get_or, take, drop, Ok, Err, refl, sym, ap, subst, ◌∙◌, append_assoc, arith, inl, inr, lit≤}
 use Rattle.std.specs.Prelude.{nat_eq}
 use Rattle.std.specs.declared.cmp.Ordering.{Ordering}
 use Rattle.std.specs.declared.cmp.Ordering.TheVariants.{Less, Equal, Greater}
@@ -8,23 +8,23 @@ use Rattle.std.specs.Cmp.Lexicographic.{slice_cmp}
 use Rattle.std.proofs.lemmas.Bool.{eqb-true, le-ltb, cases_lt}
 use Rattle.std.proofs.lemmas.Bool.Decides.{nat_tests}
 use Rattle.std.proofs.lemmas.List.{length-drop, length-append, take_at, drop_at, take-append-drop, take-take, length-take, take_rest, get_or-drop, drop-drop}
-use Rattle.kt_front.specs.Spelling.{base, number, cell, cells, spelling, CellFits, AllFit, Fits, shared}
+use Rattle.kt_front.specs.Spelling.{base, number, cell, cells, spelling, Fits, shared}
 use Rattle.kt_front.specs.Walking.{order, Fields, fields_at, behind, before_at, IsBlock, Meets, AreStarts}
 use Rattle.kt_front.proofs.Shared.{shared-le, shared_front}
 use Rattle.kt_bytes.proofs.Numbers.{ok_is}
 use Rattle.kt_front.proofs.Fields.{number_again}
-use Rattle.kt_front.proofs.Cells.{take-base}
+use Rattle.kt_front.proofs.Cells.{take-base, shared_small, rest_small, short_at, short_behind}
 
-pub fields_again : (with item rest : List ℕ) → CellFits with item → fields_at (cell with item ++ rest) ≡ Ok (record { shared = shared with item; rest = drop (shared with item) item; after = rest })
+pub fields_again : (with item rest : List ℕ) → length item ≤ 4294967295 → fields_at (cell with item ++ rest) ≡ Ok (record { shared = shared with item; rest = drop (shared with item) item; after = rest })
 unfolding fields_at cell
-fields_again with item rest fits =
+fields_again with item rest le =
     let n : ℕ = shared with item in
     let m : ℕ = length item - n in
     let tail : List ℕ = drop n item in
     let split : (number n ++ number m ++ tail) ++ rest ≡ number n ++ (number m ++ (tail ++ rest)) = append_assoc (number n ++ number m) tail rest ∙ append_assoc (number n) (number m) (tail ++ rest) in
     let len : length tail ≡ m = length-drop n item in
     let long : ltb (length (tail ++ rest)) m ≡ false = le-ltb _ _ (omega (arith, length-append tail rest)) in
-    ap fields_at split ∙ rw (number_again n (number m ++ (tail ++ rest)) fits.shared_part, number_again m (tail ++ rest) fits.rest, long, take_at tail rest m len, drop_at tail rest m len) refl
+    ap fields_at split ∙ rw (number_again n (number m ++ (tail ++ rest)) (shared_small 4294967295 with item (lit≤ tt) le), number_again m (tail ++ rest) (rest_small 4294967295 with item (lit≤ tt) le), long, take_at tail rest m len, drop_at tail rest m len) refl
 
 before_more : (j : ℕ) (x : List ℕ) (xs : List (List ℕ)) → before_at j x xs ≡ get_or (x ∷ xs) j []
 before_more zero x xs = refl
@@ -39,25 +39,15 @@ behind_step (suc j) i b (x ∷ xs) lt =
     let at : suc i + j ≡ i + suc j = omega arith in
     behind_step j (suc i) x xs (omega arith) ∙ (ap (λ k. cell (base k (before_at j x xs)) (get_or xs j []) ++ behind (suc j) (suc i) x xs) at ∙ ap (λ w. cell (base (i + suc j) w) (get_or xs j []) ++ behind (suc j) (suc i) x xs) (before_more j x xs))
 
-pub fits_at : (j i : ℕ) (b : List ℕ) (xs : List (List ℕ)) → AllFit i b xs → j < length xs → CellFits (base (i + j) (before_at j b xs)) (get_or xs j [])
-fits_at j i b [] fits lt = absurd (omega arith)
-fits_at zero i b (x ∷ xs) fits lt =
-    let at : i ≡ i + 0 = omega arith in
-    subst (λ k. CellFits (base k b) x) at fits.0
-fits_at (suc j) i b (x ∷ xs) fits lt =
-    let at : suc i + j ≡ i + suc j = omega arith in
-    subst (λ w. CellFits (base (i + suc j) w) (get_or xs j [])) (before_more j x xs) (subst (λ k. CellFits (base k (before_at j x xs)) (get_or xs j [])) at (fits_at j (suc i) x xs fits.1 (omega arith)))
-
 -- what the cell at place j tells
 pub block_step : (items : List (List ℕ)) (j : ℕ) (bytes : List ℕ) → Fits items → j < length items → bytes ≡ behind j 0 [] items
     → fields_at bytes ≡ Ok (record { shared = shared (base j (before_at j [] items)) (get_or items j []); rest = drop (shared (base j (before_at j [] items)) (get_or items j [])) (get_or items j []); after = behind (j + 1) 0 [] items })
-unfolding Fits
 block_step items j bytes fits lt is =
     let at : 0 + j ≡ j = omega arith in
     let one : suc j ≡ j + 1 = omega arith in
     let w : List ℕ = base j (before_at j [] items) in
     let item : List ℕ = get_or items j [] in
-    let fit : CellFits w item = subst (λ k. CellFits (base k (before_at j [] items)) item) at (fits_at j 0 [] items fits lt) in
+    let fit : length item ≤ 4294967295 = short_at 4294967295 j items fits.each lt in
     let parts : bytes ≡ cell w item ++ behind (suc j) 0 [] items = is ∙ (behind_step j 0 [] items lt ∙ ap (λ k. cell (base k (before_at j [] items)) item ++ behind (suc j) 0 [] items) at) in
     ap fields_at parts ∙ (fields_again w item (behind (suc j) 0 [] items) fit ∙ ap (λ k. Ok (record { shared = shared w item; rest = drop (shared w item) item; after = behind k 0 [] items })) one)
 
@@ -173,13 +163,6 @@ behind-cells (suc j) i b (x ∷ xs) le =
     let at : suc i + j ≡ i + suc j = omega arith in
     behind-cells j (suc i) x xs (omega arith) ∙ (ap (λ k. cells k (before_at j x xs) (drop j xs)) at ∙ ap (λ w. cells (i + suc j) w (drop j xs)) (before_more j x xs))
 
-fits_behind : (j i : ℕ) (b : List ℕ) (xs : List (List ℕ)) → j ≤ length xs → AllFit i b xs → AllFit (i + j) (before_at j b xs) (drop j xs)
-fits_behind zero i b xs le fits = let at : i ≡ i + 0 = omega arith in subst (λ k. AllFit k b xs) at fits
-fits_behind (suc j) i b [] le fits = absurd (omega arith)
-fits_behind (suc j) i b (x ∷ xs) le fits =
-    let at : suc i + j ≡ i + suc j = omega arith in
-    subst (λ w. AllFit (i + suc j) w (drop j xs)) (before_more j x xs) (subst (λ k. AllFit k (before_at j x xs) (drop j xs)) at (fits_behind j (suc i) x xs (omega arith) fits.1))
-
 next_place : (i k : ℕ) → i % 16 ≡ k % 16 → suc i % 16 ≡ suc k % 16
 next_place i k e = omega arith
 
@@ -192,25 +175,19 @@ cells_cycle i k b c (x ∷ xs) e w =
     let next = next_place i k e in
     ap (λ v. cell v x ++ cells (suc i) x xs) w ∙ ap (λ t. cell (base k c) x ++ t) (cells_cycle (suc i) (suc k) x x xs next (same_base (suc i) (suc k) x next))
 
-fits_cycle : (i k : ℕ) (b c : List ℕ) (xs : List (List ℕ)) → i % 16 ≡ k % 16 → base i b ≡ base k c → AllFit i b xs → AllFit k c xs
-fits_cycle i k b c [] e w fits = tt
-fits_cycle i k b c (x ∷ xs) e w fits =
-    let next = next_place i k e in
-    (subst (λ v. CellFits v x) w fits.0, fits_cycle (suc i) (suc k) x x xs next (same_base (suc i) (suc k) x next) fits.1)
-
 -- at the start of a stretch the base is nothing
 bare_base : (n : ℕ) (b : List ℕ) → n % 16 ≡ 0 → base n b ≡ []
 bare_base n b e = ap (λ m. cond (nat_eq m 0) [] b) e
 
 -- what stands behind whole stretches is the block of the items behind them
 pub block_behind : (items : List (List ℕ)) (n : ℕ) (bytes : List ℕ) → Fits items → n % 16 ≡ 0 → n ≤ length items → bytes ≡ behind n 0 [] items → IsBlock bytes (drop n items)
-unfolding Fits spelling
+unfolding spelling
 block_behind items n bytes fits whole le is =
     let at : 0 + n ≡ n = omega arith in
     let place : (0 + n) % 16 ≡ 0 % 16 = rw at whole in
     let bare : base (0 + n) (before_at n [] items) ≡ base 0 [] = rw at (bare_base n (before_at n [] items) whole) in
     record {
-      fits = fits_cycle (0 + n) 0 (before_at n [] items) [] (drop n items) place bare (fits_behind n 0 [] items le fits);
+      fits = record { each = short_behind 4294967295 n items fits.each };
       parts = is ∙ (behind-cells n 0 [] items le ∙ cells_cycle (0 + n) 0 (before_at n [] items) [] (drop n items) place bare);
     }
 

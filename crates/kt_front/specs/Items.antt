@@ -1,5 +1,6 @@
 -- A list that is held as it stands on disk, and an item where it stands.
 use Rattle.std.specs.Prelude.{ℕ, suc, ◌<◌, ◌^◌, List, [], length, get_or, Result, Ok, Err}
+use Rattle.kt_front.specs.Spelling.{longest}
 use Rattle.kt_front.specs.Reading.{Spells}
 use Rattle.kt_front.specs.Walk.{items_at, block_at}
 use Rattle.kt_front.specs.Walking.{IsBlock, AreStarts}
@@ -10,7 +11,7 @@ list_of (Err left) = []
 
 -- the n items that the bytes are a block of
 abbrev pub items_in : ℕ → List ℕ → List (List ℕ)
-items_in n bytes = list_of (block_at n bytes)
+items_in n bytes = list_of (block_at longest n bytes)
 
 -- the bytes are a block of n items, and its stretches begin there
 pub record IsHeld (n : ℕ) (bytes starts : List ℕ) : Type 0 where
@@ -24,7 +25,7 @@ firsts_of (Err left) = []
 
 -- the item at a place of a block
 abbrev pub item_in : ℕ → List ℕ → List ℕ
-item_in k bytes = get_or (firsts_of (items_at (suc k) 0 [] bytes)) k []
+item_in k bytes = get_or (firsts_of (items_at longest (suc k) 0 [] bytes)) k []
 
 -- the bytes are a block with an item at this place
 pub record StandsIn (k : ℕ) (bytes : List ℕ) : Type 0 where

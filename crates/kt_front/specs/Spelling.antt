@@ -1,5 +1,5 @@
 -- The one spelling of a list of byte lists.
-use Rattle.std.specs.Prelude.{◌≡◌, ℕ, suc, ◌-◌, ◌%◌, ◌<◌, ◌^◌, List, [], ◌∷◌, ◌++◌, length, drop, get_or, nat_eq, ◌==◌, if◌then◌else◌}
+use Rattle.std.specs.Prelude.{◌≡◌, ℕ, suc, ◌-◌, ◌%◌, ◌<◌, ◌≤◌, List, [], ◌∷◌, ◌++◌, length, drop, get_or, nat_eq, ◌==◌, if◌then◌else◌}
 use Rattle.std.specs.List.{AllByRecursion, common_prefix_len}
 use Rattle.std.specs.Int.{w32, to_le_bytes}
 
@@ -39,27 +39,30 @@ fields_from i before (item ∷ items) = cell_fields (base i before) item ++ fiel
 abbrev pub fields : List (List ℕ) → List (List ℕ)
 fields items = fields_from 0 [] items
 
--- both numbers of a cell have room in their fields
-pub record CellFits (with item : List ℕ) : Type 0 where
-  pub shared_part : shared with item < 2 ^ 32
-  pub rest : length item - shared with item < 2 ^ 32
+-- no item has more bytes
+pub record FitsWithin (most : ℕ) (items : List (List ℕ)) : Type 0 where
+  pub each : AllByRecursion (λ x. length x ≤ most) items
 
-abbrev pub AllFit : ℕ → List ℕ → List (List ℕ) → Type 0
-AllFit i before [] = Unit {0}
-AllFit i before (item ∷ items) = CellFits (base i before) item × AllFit (suc i) item items
+-- the most bytes whose number has room in a length field
+abbrev pub longest : ℕ
+longest = 4294967295
 
 -- what has a spelling
-unfoldable pub Fits : List (List ℕ) → Type 0
-Fits items = AllFit 0 [] items
+abbrev pub Fits : List (List ℕ) → Type 0
+Fits items = FitsWithin longest items
 
 -- the numbers are bytes
 abbrev pub AreBytes : List ℕ → Type 0
 AreBytes item = (i : ℕ) → get_or item i 0 < 256
 
--- the fields are those of a list of n byte strings
-pub record Spelled (n : ℕ) (all : List (List ℕ)) : Type 0 where
+-- the fields are those of a list of n byte strings, none of more bytes
+pub record SpelledWithin (most n : ℕ) (all : List (List ℕ)) : Type 0 where
   pub items : List (List ℕ)
   pub count : length items ≡ n
-  pub fits : Fits items
+  pub fits : FitsWithin most items
   pub bytes : AllByRecursion AreBytes items
   pub is : all ≡ fields items
+
+-- the fields are those of a list of n byte strings
+abbrev pub Spelled : ℕ → List (List ℕ) → Type 0
+Spelled n = SpelledWithin longest n

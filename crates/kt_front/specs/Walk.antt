@@ -1,8 +1,8 @@
 -- How the reader goes over a block, from left to right, up to the first fault, which is told by how many bytes stand from
 -- its place on.
-use Rattle.std.specs.Prelude.{ℕ, zero, suc, Bool, false, List, [], ◌∷◌, ◌++◌, length, take, drop, Result, Ok, Err, nat_le, ◌==◌, if◌then◌else◌}
+use Rattle.std.specs.Prelude.{ℕ, zero, suc, ◌+◌, Bool, false, List, [], ◌∷◌, ◌++◌, length, take, drop, Result, Ok, Err, nat_le, ◌==◌, if◌then◌else◌}
 use Rattle.std.specs.Int.{w32}
-use Rattle.kt_bytes.specs.Reading.{◌>>=◌, number_at, checked_at, bytes_at}
+use Rattle.kt_bytes.specs.Reading.{◌>>=◌, checked_at, bytes_at}
 use Rattle.kt_front.specs.Spelling.{base}
 
 -- both lists have a first byte, and it is the same
@@ -15,26 +15,30 @@ begin_alike (x ∷ xs) (y ∷ ys) = x == y
 abbrev pub is_shared : List ℕ → ℕ → Bool
 is_shared with n = nat_le n (length with)
 
--- an item that may share bytes with this list
-unfoldable pub cell_at : List ℕ → List ℕ → Result (List ℕ × List ℕ) ℕ
-cell_at with bytes = do
+-- that many bytes more are not too many
+abbrev pub is_more : ℕ → ℕ → ℕ → Bool
+is_more most shared n = nat_le (shared + n) most
+
+-- an item that may share bytes with this list, and has no more bytes than a limit
+unfoldable pub cell_at : ℕ → List ℕ → List ℕ → Result (List ℕ × List ℕ) ℕ
+cell_at most with bytes = do
   n ← checked_at w32 (is_shared with) bytes
-  m ← number_at w32 n.1
+  m ← checked_at w32 (is_more most n.0) n.1
   rest ← bytes_at m.0 m.1
   if begin_alike (drop n.0 with) rest.0 then Err (length bytes) else Ok (take n.0 with ++ rest.0, rest.1)
 
 -- n items from number i on, behind this one
-unfoldable pub items_at : ℕ → ℕ → List ℕ → List ℕ → Result (List (List ℕ) × List ℕ) ℕ
-items_at zero i before bytes = Ok ([], bytes)
-items_at (suc n) i before bytes = do
-  first ← cell_at (base i before) bytes
-  others ← items_at n (suc i) first.0 first.1
+unfoldable pub items_at : ℕ → ℕ → ℕ → List ℕ → List ℕ → Result (List (List ℕ) × List ℕ) ℕ
+items_at most zero i before bytes = Ok ([], bytes)
+items_at most (suc n) i before bytes = do
+  first ← cell_at most (base i before) bytes
+  others ← items_at most n (suc i) first.0 first.1
   Ok (first.0 ∷ others.0, others.1)
 
 -- n items that are all of the bytes
-unfoldable pub block_at : ℕ → List ℕ → Result (List (List ℕ)) ℕ
-block_at n bytes = do
-  all ← items_at n 0 [] bytes
+unfoldable pub block_at : ℕ → ℕ → List ℕ → Result (List (List ℕ)) ℕ
+block_at most n bytes = do
+  all ← items_at most n 0 [] bytes
   if length all.1 == 0 then Ok all.0 else Err (length all.1)
 
 -- the bytes behind the items

@@ -3,10 +3,10 @@
 //! sixteen cells from there on, a stretch, are read on their own.
 //!
 //! `encode` writes the one spelling of a list of byte strings, and `decode` answers that list exactly
-//! where the bytes spell it, and otherwise the first place at which they don't. A list that was read
-//! is held as it stands on disk, with where its stretches begin, and `get` hands out an item where it
-//! stands: its length, its order against a key and a copy of it come from its stretch alone.
-//! `compare` and `compare_at` order an item of a block's bytes against a key.
+//! where the bytes spell it, and otherwise the first place at which they don't; `decode_within` does so
+//! of items that are no longer than a limit. A list that was read is held as it stands on disk, with
+//! where its stretches begin, and `get` hands out an item where it stands: its length, its order
+//! against a key and a copy of it come from its stretch alone. `compare` and `compare_at` order an item of a block's bytes against a key.
 #![tactic(auto)]
 
 mod error;
@@ -22,7 +22,7 @@ pub use error::{CodecNo, Width};
 pub use items::{Item, Items, get};
 pub use kt_bytes::{NoMemory, Octets, Texts};
 pub use laws::{fields_spell, one_place, one_value};
-pub use reading::decode;
+pub use reading::{decode, decode_within};
 pub use starts::{Starts, compare_at};
 pub use walking::compare;
 pub use writing::{cell_len, encode};

@@ -2,7 +2,7 @@
 
 ghost use Rattle.std.specs.Prelude.{◌≤◌, ◌++◌, [], List, ℕ, length, take, IfOk, IfErr};
 ghost use Rattle.kt_bytes.specs.Reading.{Gives};
-ghost use Rattle.kt_front.specs.Reading.{Spells, IsCause, IsItems};
+ghost use Rattle.kt_front.specs.Reading.{Spells, SpellsWithin, IsCause, IsCauseWithin, IsItems};
 ghost use Rattle.kt_front.specs.Walk.{behind_of, cell_at, ended_of, items_at};
 
 use crate::error::{CodecNo, Width};
@@ -15,8 +15,8 @@ use kt_bytes::{Octets, Stop};
 use std::alloc::Global;
 
 #[tactic(auto, unfolding(crate::specs::Walk::cell_at))]
-fn cell_of<'a>(with: &[u8], bytes: &'a [u8]) -> Result<Cell<'a>, Stop>
-    ensures read { Gives (λ x. (take x.shared with.now ++ x.rest.now, x.after.now)) result (cell_at with.now bytes.now) }
+fn cell_of<'a>(with: &[u8], most: u32, bytes: &'a [u8]) -> Result<Cell<'a>, Stop>
+    ensures read { Gives (λ x. (take x.shared with.now ++ x.rest.now, x.after.now)) result (cell_at most with.now bytes.now) }
     ensures there { IfOk result (λ x. x.shared ≤ length with.now) }
 {
     let (shared, behind) = u32_at(bytes)?;
@@ -24,8 +24,12 @@ fn cell_of<'a>(with: &[u8], bytes: &'a [u8]) -> Result<Cell<'a>, Stop>
     if shared > with.len() {
         return Err(Stop::Left(bytes.len()));
     }
-    let (len, behind) = u32_at(behind)?;
-    let (rest, after) = front_of(behind, len as usize)?;
+    let (len, rest) = u32_at(behind)?;
+    let len = len as usize;
+    if shared + len > most as usize {
+        return Err(Stop::Left(behind.len()));
+    }
+    let (rest, after) = front_of(rest, len)?;
     if begin_alike(&with[shared..], rest) {
         return Err(Stop::Left(bytes.len()));
     }
@@ -37,13 +41,13 @@ fn cell_of<'a>(with: &[u8], bytes: &'a [u8]) -> Result<Cell<'a>, Stop>
 }
 
 /// The bytes behind `n` items. No more than one item is written out at a time.
-fn behind_items(alloc: Global, n: u32, bytes: &[u8]) -> Result<&[u8], Stop>
-    ensures { Gives (λ rest. rest.now) result (behind_of (items_at n 0 [] bytes.now)) }
+fn behind_items(alloc: Global, n: u32, most: u32, bytes: &[u8]) -> Result<&[u8], Stop>
+    ensures { Gives (λ rest. rest.now) result (behind_of (items_at most n 0 [] bytes.now)) }
 {
     let mut item = Octets::new(alloc);
     let mut rest = bytes;
     for i in 0..n {
-        let cell = cell_of(base_of(i as usize, item.as_slice()), rest)?;
+        let cell = cell_of(base_of(i as usize, item.as_slice()), most, rest)?;
         item.truncate(cell.shared);
         item.extend(cell.rest)?;
         rest = cell.after;
@@ -52,10 +56,10 @@ fn behind_items(alloc: Global, n: u32, bytes: &[u8]) -> Result<&[u8], Stop>
 }
 
 /// All of the bytes are `n` items.
-fn check(alloc: Global, n: u32, bytes: &[u8]) -> Result<(), Stop>
-    ensures { Gives (λ _. 0) result (ended_of (behind_of (items_at n 0 [] bytes.now))) }
+fn check(alloc: Global, n: u32, most: u32, bytes: &[u8]) -> Result<(), Stop>
+    ensures { Gives (λ _. 0) result (ended_of (behind_of (items_at most n 0 [] bytes.now))) }
 {
-    let rest = behind_items(alloc, n, bytes)?;
+    let rest = behind_items(alloc, n, most, bytes)?;
     if !rest.is_empty() {
         return Err(Stop::Left(rest.len()));
     }
@@ -71,8 +75,24 @@ pub fn decode(alloc: Global, bytes: &[u8], n: u32, width: Width) -> Result<Items
     // Where the first fault is.
     ensures place { IfErr result (IsCause bytes.now n) }
 {
+    decode_within(alloc, bytes, n, width, u32::MAX)
+}
+
+/// The same of items of which none has more than so many bytes: where one has more, the number of those that it
+/// doesn't share is at fault.
+pub fn decode_within(
+    alloc: Global,
+    bytes: &[u8],
+    n: u32,
+    width: Width,
+    most: u32,
+) -> Result<Items, CodecNo>
+    ensures found { IfOk result (λ items. SpellsWithin most bytes.now n items) }
+    ensures only { (items : List (List ℕ)) → SpellsWithin most bytes.now n items → IsItems result items }
+    ensures place { IfErr result (IsCauseWithin most bytes.now n) }
+{
     let Width::Bytes = width;
-    match check(alloc, n, bytes) {
+    match check(alloc, n, most, bytes) {
         Ok(()) => {
             let starts = Starts::of(alloc, bytes, n)?;
             let held = Octets::from_slice(alloc, bytes)?;

@@ -7,19 +7,20 @@ use Rattle.std.proofs.lemmas.List.Folds.{concat-append}
 use Rattle.kt_bytes.specs.Cuts.{pieces, IsCut, ends_of}
 use Rattle.kt_bytes.specs.Places.{Delimited}
 use Rattle.kt_bytes.proofs.Cuts.{IsCut-ends_of, length-ends_of, pieces-ends_of}
-use Rattle.kt_bytes.proofs.Fronts.{concat-map, refused}
+use Rattle.kt_bytes.proofs.Fronts.{concat-map, refused, IsWhole}
 use Rattle.kt_plain.specs.declared.widths.NumberWidth.{NumberWidth}
 use Rattle.kt_plain.specs.declared.widths.Width.{Width}
 use Rattle.kt_plain.specs.declared.widths.Width.TheVariants as widths
 use Rattle.kt_plain.specs.declared.items.Items.{Items}
 use Rattle.kt_plain.specs.declared.items.Items.TheVariants.{Numbers, Texts}
 use Rattle.kt_plain.specs.Widths.{number, AreNumbers}
-use Rattle.kt_plain.specs.Spelling.{fields, Spells, SpellsOne, Spelled, IsJoined}
-use Rattle.kt_plain.specs.Reading.{AreTexts, ends_in, IsAtFault}
+use Rattle.kt_plain.specs.Spelling.{fields, SpellsWithin, Spells, SpellsOne, Spelled, SpelledWithin, IsJoined}
+use Rattle.kt_plain.specs.Reading.{AreTexts, ends_in, IsAtFaultWithin}
 use Rattle.kt_plain.proofs.Fields.{numbers_are}
 use Rattle.kt_plain.proofs.Ends.{ends_in-spelled, length-le32}
 use Rattle.kt_plain.proofs.NumbersFault.{numbers_delimited, numbers_whole}
 use Rattle.kt_plain.proofs.TextsFault.{end_bytes, texts_delimited, texts_whole}
+use Rattle.kt_plain.proofs.Within.{any_length, room_length, delimited_same, whole_same}
 
 -- items that are spelled in a width of numbers are numbers
 pub as_numbers : (w : NumberWidth) (n : ℕ) (items : Items) (bytes : List ℕ) → Spells (widths.Numbers w) n items bytes → (zs : List ℤ) × (items ≡ Numbers zs) × AreNumbers w zs bytes
@@ -89,13 +90,20 @@ joined widths.Bytes (Texts ts) fits =
 
 pub spelled_delimited : (width : Width) (n : ℕ) → Delimited (Spelled width n)
 spelled_delimited (widths.Numbers w) n = numbers_delimited w n
-spelled_delimited widths.Bytes n = texts_delimited n
+spelled_delimited widths.Bytes n = delimited_same (Spelled widths.Bytes n) (SpelledWithin 4294967295 widths.Bytes n) (room_length widths.Bytes n) (texts_delimited 4294967295 n)
+
+pub within_delimited : (most : ℕ) (width : Width) (n : ℕ) → Delimited (SpelledWithin most width n)
+within_delimited most width n = delimited_same (SpelledWithin most width n) (Spelled width n) (any_length most width n) (spelled_delimited width n)
+
+spelled_whole : (width : Width) (n : ℕ) → IsWhole (Spelled width n)
+spelled_whole (widths.Numbers w) n = numbers_whole w n
+spelled_whole widths.Bytes n = whole_same (Spelled widths.Bytes n) (SpelledWithin 4294967295 widths.Bytes n) (room_length widths.Bytes n) (texts_whole 4294967295 n)
+
+pub within_whole : (most : ℕ) (width : Width) (n : ℕ) → IsWhole (SpelledWithin most width n)
+within_whole most width n = whole_same (SpelledWithin most width n) (Spelled width n) (any_length most width n) (spelled_whole width n)
 
 -- bytes with a fault spell no items
-pub none_spelled : (width : Width) (n : ℕ) (bytes : List ℕ) (place : ℕ) → IsAtFault width n bytes place → (items : Items) → Spells width n items bytes → ⊥
-none_spelled (widths.Numbers w) n bytes place f items s =
-    refused (Spelled (widths.Numbers w) n) bytes place (numbers_delimited w n) (numbers_whole w n) f (fields (widths.Numbers w) items)
-    (record { items = items; fits = s.fits; counted = s.counted; spelled = refl }) (s.spelled ∙ joined (widths.Numbers w) items s.fits)
-none_spelled widths.Bytes n bytes place f items s =
-    refused (Spelled widths.Bytes n) bytes place (texts_delimited n) (texts_whole n) f (fields widths.Bytes items)
-    (record { items = items; fits = s.fits; counted = s.counted; spelled = refl }) (s.spelled ∙ joined widths.Bytes items s.fits)
+pub none_spelled : (most : ℕ) (width : Width) (n : ℕ) (bytes : List ℕ) (place : ℕ) → IsAtFaultWithin most width n bytes place → (items : Items) → SpellsWithin most width n items bytes → ⊥
+none_spelled most width n bytes place f items s =
+    refused (SpelledWithin most width n) bytes place (within_delimited most width n) (within_whole most width n) f (fields width items)
+    (record { items = items; fits = s.spells.fits; short = s.short; counted = s.spells.counted; spelled = refl }) (s.spells.spelled ∙ joined width items s.spells.fits)

@@ -1,7 +1,7 @@
 -- The end positions of byte lists, in four bytes each.
 use Rattle.std.proofs.Common.{◌≡◌, ℕ, zero, suc, ◌+◌, ◌*◌, ◌^◌, ◌<◌, ◌≤◌, List, [], ◌∷◌, ◌++◌, length, take, drop, map, replicate, refl, sym, ap, ◌∙◌, arith}
 use Rattle.std.specs.Prelude.{All}
-use Rattle.std.specs.List.{flat_map}
+use Rattle.std.specs.List.{flat_map, between}
 use Rattle.std.proofs.lemmas.List.Elements.{All-nil, All-cons}
 use Rattle.std.specs.Int.{w32, to_le_bytes, from_le_bytes}
 use Rattle.std.proofs.Math.Seq.{take-add}
@@ -9,8 +9,8 @@ use Rattle.std.proofs.lemmas.Nat.{le_bytes_4}
 use Rattle.std.proofs.lemmas.List.{drop-drop, length-drop, length-take}
 use Rattle.byteorder.specs.Endian.{little_number}
 use Rattle.byteorder.specs.Numbers.{little_number-reads_back, little_from-take}
-use Rattle.kt_bytes.specs.Cuts.{IsCut}
-use Rattle.kt_bytes.proofs.Cuts.{cut_from}
+use Rattle.kt_bytes.specs.Cuts.{IsCut, pieces, ends_of}
+use Rattle.kt_bytes.proofs.Cuts.{cut_from, length-between}
 use Rattle.kt_bytes.proofs.Numbers.{IsBytes, IsBytes-take, IsBytes-drop}
 use Rattle.kt_plain.specs.Reading.{ends_in}
 
@@ -102,3 +102,31 @@ same_ends at bt (e ∷ es) (f ∷ fs) a b more cut other al bl same =
 pub all_below : (at : ℕ) (es : List ℕ) (total m : ℕ) → IsCut at es total → total < m → All (λ e. e < m) es
 all_below at [] total m cut lt = All-nil (λ (e : ℕ). e < m)
 all_below at (e ∷ es) total m cut lt = All-cons (λ (e : ℕ). e < m) e es (omega (arith, cut_from e es total cut.1)) (all_below e es total m cut.1 lt)
+
+-- ---- ends that rise by no more than so much
+
+abbrev pub AreSteps : ℕ → ℕ → List ℕ → Type 0
+AreSteps most at [] = Unit {0}
+AreSteps most at (e ∷ es) = (e ≤ at + most) × AreSteps most e es
+
+pub steps_more : (most at : ℕ) (es : List ℕ) (last next : ℕ) → IsCut at es last → AreSteps most at es → next ≤ last + most → AreSteps most at (es ++ next ∷ [])
+steps_more most at [] last next cut steps le = (omega (arith, cut), tt)
+steps_more most at (e ∷ es) last next cut steps le = (steps.0, steps_more most e es last next cut.1 steps.1 le)
+
+pub steps_same : (most at : ℕ) (es : List ℕ) (last k : ℕ) → IsCut at es last → AreSteps most at es → AreSteps most at (es ++ replicate k last)
+steps_same most at [] last zero cut steps = tt
+steps_same most at [] last (suc k) cut steps = (omega (arith, cut), steps_same most last [] last k refl tt)
+steps_same most at (e ∷ es) last k cut steps = (steps.0, steps_same most e es last k cut.1 steps.1)
+
+pub step_at : (most at : ℕ) (es : List ℕ) (last next : ℕ) (more : List ℕ) → IsCut at es last → AreSteps most at (es ++ next ∷ more) → next ≤ last + most
+step_at most at [] last next more cut steps = omega (arith, cut, steps.0)
+step_at most at (e ∷ es) last next more cut steps = step_at most e es last next more cut.1 steps.1
+
+-- the byte lists between such ends are no longer, and those that are no longer have such ends
+pub short_pieces : (most at : ℕ) (es body : List ℕ) → IsCut at es (length body) → AreSteps most at es → All (λ (t : List ℕ). length t ≤ most) (pieces at es body)
+short_pieces most at [] body cut steps = All-nil (λ (t : List ℕ). length t ≤ most)
+short_pieces most at (e ∷ es) body cut steps = All-cons (λ (t : List ℕ). length t ≤ most) (between at e body) (pieces e es body) (omega (arith, steps.0, length-between at e body cut.0 (cut_from e es (length body) cut.1))) (short_pieces most e es body cut.1 steps.1)
+
+pub short_steps : (most at : ℕ) (ts : List (List ℕ)) → All (λ (t : List ℕ). length t ≤ most) ts → AreSteps most at (ends_of at ts)
+short_steps most at [] short = tt
+short_steps most at (t ∷ ts) short = (omega (arith, short 0 [] (omega arith)), short_steps most (at + length t) ts (λ k d lt. short (suc k) d (omega arith)))

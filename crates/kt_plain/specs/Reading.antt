@@ -7,7 +7,7 @@ use Rattle.kt_bytes.specs.Cuts.{ends_of}
 use Rattle.kt_bytes.specs.Places.{IsFault}
 use Rattle.kt_plain.specs.declared.widths.Width.{Width}
 use Rattle.kt_plain.specs.declared.items.Items.{Items}
-use Rattle.kt_plain.specs.Spelling.{Spells, Spelled}
+use Rattle.kt_plain.specs.Spelling.{Spells, SpellsWithin, Spelled, SpelledWithin}
 
 -- the bytes are those of n byte lists: the end of each, and then all their bytes
 pub record AreTexts (n : ℕ) (texts : List (List ℕ)) (bytes : List ℕ) : Type 0 where
@@ -25,9 +25,17 @@ ends_in (suc n) bytes = little_number 4 bytes ∷ ends_in n (drop 4 bytes)
 abbrev pub IsSpelling : Width → ℕ → List ℕ → Type 0
 IsSpelling width n bytes = (items : Items) × Spells width n items bytes
 
+-- the same of items without a byte list of more bytes
+abbrev pub IsSpellingWithin : ℕ → Width → ℕ → List ℕ → Type 0
+IsSpellingWithin most width n bytes = (items : Items) × SpellsWithin most width n items bytes
+
 -- this is the first fault of bytes that are no n items
 abbrev pub IsAtFault : Width → ℕ → List ℕ → ℕ → Type 0
 IsAtFault width n bytes place = IsFault (Spelled width n) bytes place
+
+-- the same of items without a byte list of more bytes
+abbrev pub IsAtFaultWithin : ℕ → Width → ℕ → List ℕ → ℕ → Type 0
+IsAtFaultWithin most width n bytes place = IsFault (SpelledWithin most width n) bytes place
 
 -- the place of the first byte above 1
 pub record IsFirstAbove (bytes : List ℕ) (at : ℕ) : Type 0 where

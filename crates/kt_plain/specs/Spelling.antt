@@ -1,5 +1,5 @@
 -- The one spelling of each list of items, and the fields that it is made of.
-use Rattle.std.specs.Prelude.{◌≡◌, ◌<◌, ◌^◌, ℕ, List, [], ◌∷◌, ◌++◌, length, map, All}
+use Rattle.std.specs.Prelude.{◌≡◌, ◌<◌, ◌≤◌, ◌^◌, ℕ, List, [], ◌∷◌, ◌++◌, length, map, All}
 use Rattle.std.specs.List.{flat_map, concat}
 use Rattle.std.specs.Int.{w32, to_le_bytes}
 use Rattle.kt_bytes.specs.Cuts.{ends_of}
@@ -30,6 +30,16 @@ pub record Spells (width : Width) (n : ℕ) (items : Items) (bytes : List ℕ) :
   pub counted : count items ≡ n
   pub spelled : bytes ≡ spelling width items
 
+-- no byte list has more bytes
+abbrev pub AreShort : ℕ → Items → Type 0
+AreShort most (Numbers zs) = Unit {0}
+AreShort most (Texts ts) = All (λ t. length t ≤ most) ts
+
+-- the bytes spell these items, which are n, and no byte list among them has more bytes
+pub record SpellsWithin (most : ℕ) (width : Width) (n : ℕ) (items : Items) (bytes : List ℕ) : Type 0 where
+  pub spells : Spells width n items bytes
+  pub short : AreShort most items
+
 -- bytes spell one list of items at most
 abbrev pub SpellsOne : Type 0
 SpellsOne = (width : Width) (n : ℕ) (bytes : List ℕ) (a b : Items) → Spells width n a bytes → Spells width n b bytes → a ≡ b
@@ -46,6 +56,14 @@ fields widths.Bytes (Numbers zs) = []
 pub record Spelled (width : Width) (n : ℕ) (fs : List (List ℕ)) : Type 0 where
   pub items : Items
   pub fits : Fits width items
+  pub counted : count items ≡ n
+  pub spelled : fs ≡ fields width items
+
+-- these are the fields of n items, and no byte list among them has more bytes
+pub record SpelledWithin (most : ℕ) (width : Width) (n : ℕ) (fs : List (List ℕ)) : Type 0 where
+  pub items : Items
+  pub fits : Fits width items
+  pub short : AreShort most items
   pub counted : count items ≡ n
   pub spelled : fs ≡ fields width items
 

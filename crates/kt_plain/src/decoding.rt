@@ -3,7 +3,7 @@
 ghost use Rattle.std.specs.Prelude.{◌≡◌, ◌≤◌, ◌*◌, ℕ, List, length, IfOk};
 ghost use Rattle.kt_bytes.specs.Places.{IsFault};
 ghost use Rattle.kt_bytes.specs.Reading.{IfPlace, IsOrMemory};
-ghost use Rattle.kt_plain.specs.Spelling.{Spells, Spelled};
+ghost use Rattle.kt_plain.specs.Spelling.{Spells, SpellsWithin, Spelled, SpelledWithin};
 ghost use Rattle.kt_plain.specs.Reading.{AreTexts, ends_in};
 
 use crate::faults::fault;
@@ -23,7 +23,22 @@ pub fn decode(alloc: Global, bytes: &[u8], n: u32, width: Width) -> Result<Items
     // No items have the spelling, and which fault is the first.
     ensures place { IfPlace result (IsFault (Spelled width n) bytes.now) }
 {
-    if let Some(place) = fault(bytes, n, width) {
+    decode_within(alloc, bytes, n, width, u32::MAX)
+}
+
+/// The same of items without a byte list of more than so many bytes: a longer one is at fault at its end position.
+pub fn decode_within(
+    alloc: Global,
+    bytes: &[u8],
+    n: u32,
+    width: Width,
+    most: u32,
+) -> Result<Items, CodecNo>
+    ensures found { IfOk result (λ items. SpellsWithin most width n items bytes.now) }
+    ensures only { (items : Items) → SpellsWithin most width n items bytes.now → IsOrMemory result items }
+    ensures place { IfPlace result (IsFault (SpelledWithin most width n) bytes.now) }
+{
+    if let Some(place) = fault(bytes, n, width, most) {
         return Err(CodecNo::Place {
             offset: place as u64,
         });

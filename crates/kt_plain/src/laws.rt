@@ -2,7 +2,7 @@
 
 ghost use Rattle.std.specs.Prelude.{ℕ};
 ghost use Rattle.kt_bytes.specs.Places.{Delimited};
-ghost use Rattle.kt_plain.specs.Spelling.{SpellsOne, Spelled, IsJoined};
+ghost use Rattle.kt_plain.specs.Spelling.{SpellsOne, Spelled, SpelledWithin, IsJoined};
 
 use crate::widths::Width;
 
@@ -15,4 +15,5 @@ pub fn one_value()
 pub fn delimited()
     ensures joined { IsJoined }
     ensures delimited { (width : Width) (n : ℕ) → Delimited (Spelled width n) }
+    ensures within { (most : ℕ) (width : Width) (n : ℕ) → Delimited (SpelledWithin most width n) }
 {}

@@ -3,7 +3,8 @@
 //! bytes.
 //!
 //! Its one contract: `encode` gives the one spelling of the items, and `decode` gives the items that
-//! the bytes spell, or the place of the first fault. Items are held as a block has them: the bytes of
+//! the bytes spell, or the place of the first fault; `decode_within` does so of byte lists that are no
+//! longer than a limit. Items are held as a block has them: the bytes of
 //! the numbers, and the bytes and ends of the byte lists. It stands on `kt_bytes` and `byteorder`.
 #![tactic(auto)]
 
@@ -15,7 +16,7 @@ mod laws;
 mod numbers;
 mod widths;
 
-pub use decoding::decode;
+pub use decoding::{decode, decode_within};
 pub use encoding::{encode, encoded_len};
 pub use items::{Item, Items, get};
 pub use kt_bytes::{CodecNo, NoMemory, Octets, Texts};

@@ -166,8 +166,24 @@ fn one_long_text_in_each_cell(rt: HostRuntime) -> Result<(), Fail> {
         _ => assert!(rt; false),
     }
     let bytes = one_text(alloc, 65_537)?;
-    assert!(rt; refused(alloc, binary, 8192, &bytes, 0));
+    assert!(rt; refused(alloc, binary, 8192, &bytes, 7));
     Ok(())
+}
+
+/// A byte list that is too long is at fault at its length, before the bytes that are missing behind it.
+#[test]
+fn too_long_at_its_length(rt: HostRuntime) {
+    let alloc = rt.alloc();
+    let plain: [u8; 13] = [1, 8, 0, 1, 0, 0, 0, 1, 0, 1, 0, 2, 0];
+    assert!(rt; refused(alloc, of(Kind::String), 2, &plain, 9));
+    let long_end: [u8; 13] = [1, 8, 0, 1, 0, 1, 0, 1, 0, 1, 0, 2, 0];
+    assert!(rt; refused(alloc, of(Kind::String), 2, &long_end, 5));
+    let known: [u8; 11] = [3, 8, 0, 1, 0, 1, 0, 1, 0, 1, 0];
+    assert!(rt; refused(alloc, of(Kind::Binary), 1, &known, 7));
+    let key: [u8; 13] = [4, 9, 64, 0, 0, 0, 0, 0, 0, 1, 64, 0, 0];
+    assert!(rt; refused(alloc, Form::Keys, 1, &key, 9));
+    let longest: [u8; 13] = [4, 8, 64, 0, 0, 0, 0, 0, 0, 0, 64, 0, 0];
+    assert!(rt; refused(alloc, Form::Keys, 1, &longest, 13));
 }
 
 #[test]

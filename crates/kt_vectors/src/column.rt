@@ -33,7 +33,7 @@ fn admits(form: Form, cell: &Cell) -> bool
         Cell::Null => form.is_nullable(),
         Cell::Bool(_) => matches!(width, Width::Numbers(NumberWidth::Bit)),
         Cell::Bytes(bytes) => {
-            matches!(width, Width::Bytes) && bytes.as_slice().len() <= form.limit()
+            matches!(width, Width::Bytes) && bytes.as_slice().len() <= form.limit() as usize
         }
         Cell::Int(number) => has_width(width, *number),
     }

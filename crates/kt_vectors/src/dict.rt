@@ -1,6 +1,6 @@
 ghost use Rattle.std.specs.Prelude.{◌≡◌, ◌*◌, length, sum_by, IfOk};
 
-use kt_dict::{CodecNo, NoMemory, Texts, Width, decode, encode, get};
+use kt_dict::{CodecNo, NoMemory, Texts, Width, decode, decode_within, encode, get};
 use std::alloc::Global;
 use std::test::Fail;
 
@@ -60,6 +60,24 @@ fn second_empty_entry_at_its_length(rt: HostRuntime) {
         matches!(
             decode(rt.alloc(), &bytes, 2, Width::Bytes),
             Err(CodecNo::Place { offset: 6 })
+        )
+    );
+}
+
+/// The second entry has three bytes, which are missing: with two at most its length is at fault.
+#[test]
+fn too_long_at_its_length(rt: HostRuntime) {
+    let bytes = [2, 0, 1, 0, 0, 0, 97, 3, 0, 0, 0];
+    assert!(rt;
+        matches!(
+            decode_within(rt.alloc(), &bytes, 2, Width::Bytes, 2),
+            Err(CodecNo::Place { offset: 7 })
+        )
+    );
+    assert!(rt;
+        matches!(
+            decode_within(rt.alloc(), &bytes, 2, Width::Bytes, 3),
+            Err(CodecNo::Place { offset: 11 })
         )
     );
 }

@@ -1,4 +1,4 @@
-use kt_front::{CodecNo, Starts, Texts, Width, compare, compare_at, decode, encode, get};
+use kt_front::{CodecNo, Starts, Texts, Width, compare, compare_at, decode, decode_within, encode, get};
 use std::cmp::Ordering;
 use std::test::Fail;
 
@@ -34,6 +34,18 @@ fn read_again(rt: HostRuntime) -> Result<(), Fail> {
     assert_eq!(rt; compare_at(&BLOCK, &starts, 1, b"abd"), Ordering::Less);
     assert_eq!(rt; compare(&BLOCK, 1, b"abc"), Ordering::Equal);
     Ok(())
+}
+
+/// Two bytes at most: the second item has three, and the number of those that it doesn't share is at fault.
+#[test]
+fn too_long_at_its_length(rt: HostRuntime) {
+    assert!(rt;
+        matches!(
+            decode_within(rt.alloc(), &BLOCK, 2, Width::Bytes, 2),
+            Err(CodecNo::Place { offset: 14 })
+        )
+    );
+    assert!(rt; decode_within(rt.alloc(), &BLOCK, 2, Width::Bytes, 3).is_ok());
 }
 
 #[test]

@@ -1,4 +1,4 @@
-use kt_plain::{CodecNo, Items, NumberWidth, Numbers, Texts, Width, decode, encode};
+use kt_plain::{CodecNo, Items, NumberWidth, Numbers, Texts, Width, decode, decode_within, encode};
 use std::test::*;
 
 #[test]
@@ -78,4 +78,17 @@ fn refusals(rt: HostRuntime) {
     // The last end says one byte more, and one less.
     assert!(rt; refused_at(&rt, &[2, 0, 0, 0, 97], 1, Width::Bytes, 5));
     assert!(rt; refused_at(&rt, &[0, 0, 0, 0, 97], 1, Width::Bytes, 4));
+}
+
+/// The second byte list has two bytes: with one at most its end is at fault.
+#[test]
+fn too_long_at_its_end(rt: HostRuntime) {
+    let bytes: [u8; 11] = [1, 0, 0, 0, 3, 0, 0, 0, 97, 98, 99];
+    assert!(rt;
+        matches!(
+            decode_within(rt.alloc(), &bytes, 2, Width::Bytes, 1),
+            Err(CodecNo::Place { offset: 4 })
+        )
+    );
+    assert!(rt; decode_within(rt.alloc(), &bytes, 2, Width::Bytes, 2).is_ok());
 }

@@ -2,9 +2,8 @@ use Rattle.std.proofs.Common.{sym, subst, ap, ◌∙◌, inl, inr, refl, arith}
 use Rattle.kt_column.specs.Blocks.{values_in}
 use Rattle.kt_column.specs.Values.{IsShortest}
 use Rattle.kt_column.specs.Held.{items_of, cells_of}
-use Rattle.kt_column.specs.declared.errors.Stop.TheVariants.{Whole}
-use Rattle.kt_column.specs.Faults.{ReadsContent, IsContentStop}
-use Rattle.kt_column.proofs.Faulty.{too_long, short_content}
+use Rattle.kt_column.specs.Faults.{ReadsContent}
+use Rattle.kt_column.proofs.Faulty.{short_content}
 use Rattle.kt_column.proofs.Contents.{make}
 use Rattle.kt_column.proofs.HeldValues.{chosen}
 use Rattle.kt_column.proofs.decoding.body.Goals as goal
@@ -30,15 +29,6 @@ returns-in-Ok-false-clause-only c cs b =
     subst (λ ds. IsShortest form (values_in form ds) c.args.head.encoding b.content.values) (sym (c.in-Ok.ensures.only cs r)) (b.shortest b.content.values (c.requires.open, b.content.encoded)) in
     absurd ((rw c.in-Ok-false.field-0-test at c.in-Ok-false.ensures.no) b.content.values here)
 
-pub returns-in-Err-Whole-clause-only : goal.returns-in-Err-Whole-clause-only
-returns-in-Err-Whole-clause-only c cs b =
-    let r : ReadsContent c.args.form c.args.head.encoding c.args.n c.front_of.result.now cs = subst (λ p. ReadsContent c.args.form c.args.head.encoding c.args.n p cs) (sym c.front_of.ensures) b.content in
-    sym c.in-Err-Whole.field-0-is ∙ c.in-Err-Whole.ensures.only cs r
-
-pub returns-in-Err-Whole-clause-stop : goal.returns-in-Err-Whole-clause-stop
-returns-in-Err-Whole-clause-stop c =
-    inl (too_long c.args.form c.args.head.encoding c.args.n c.args.head.len c.args.head.rest.now (subst (λ p. IsContentStop c.args.form c.args.head.encoding c.args.n p Whole) c.front_of.ensures (subst (IsContentStop c.args.form c.args.head.encoding c.args.n c.front_of.result.now) c.in-Err-Whole.field-0-is c.in-Err-Whole.ensures.stop)))
-
 pub content_stop-stop-requires-clause-none : goal.content_stop-stop-requires-clause-none
 content_stop-stop-requires-clause-none c cs content =
     let r : ReadsContent c.args.form c.args.head.encoding c.args.n c.front_of.result.now cs = subst (λ p. ReadsContent c.args.form c.args.head.encoding c.args.n p cs) (sym c.front_of.ensures) content in
@@ -54,4 +44,4 @@ returns-in-Err-Fault-clause-only c cs b =
 pub returns-then-head-clause-stop : goal.returns-then-head-clause-stop
 returns-then-head-clause-stop c =
     let cs = cells_of c.args.form c.in-Ok.read.nulls c.in-Ok.read.values in
-    inr (short_content c.args.form c.args.head.encoding c.args.n c.args.head.len c.args.head.rest.now cs (omega arith) (subst (λ p. ReadsContent c.args.form c.args.head.encoding c.args.n p cs) c.front_of.ensures c.in-Ok.ensures.found), refl)
+    inr (inl (short_content c.args.form c.args.head.encoding c.args.n c.args.head.len c.args.head.rest.now cs (omega arith) (subst (λ p. ReadsContent c.args.form c.args.head.encoding c.args.n p cs) c.front_of.ensures c.in-Ok.ensures.found), refl))

@@ -2,6 +2,3 @@ use Rattle.kt_column.proofs.decoding.decode_block.Goals as goal
 
 pub returns-in-Err-Fault-clause-only : goal.returns-in-Err-Fault-clause-only
 returns-in-Err-Fault-clause-only c cs front rest b len is = let none = c.in-Err-Fault.ensures.only cs front rest b len is in cc
-
-pub returns-in-Err-Whole-clause-only : goal.returns-in-Err-Whole-clause-only
-returns-in-Err-Whole-clause-only c cs front rest b len is = let none = c.in-Err-Whole.ensures.only cs front rest b len is in cc

@@ -1,9 +1,10 @@
-use Rattle.std.proofs.Common.{◌≤◌, refl, subst, length, All}
-use Rattle.kt_column.specs.Forms.{limit}
+use Rattle.std.proofs.Common.{refl, subst}
+use Rattle.kt_dict.specs.Reading.{SpellsWithin}
 use Rattle.kt_column.proofs.Readings.{dictionary_read}
 use Rattle.kt_column.proofs.reading.read_dictionary.Goals as goal
 
-pub returns-else-not-is_dictionary_short-clause-found : goal.returns-else-not-is_dictionary_short-clause-found
-returns-else-not-is_dictionary_short-clause-found c =
-    let short : All (λ t. length t ≤ limit c.args.form) c.in-Ok.items = subst (λ m. All (λ t. length t ≤ m) c.in-Ok.items) c.limit.ensures c.if-not-is_dictionary_short.ensures.yes in
-    record { reads = dictionary_read c.args.form c.args.n c.args.bytes.now c.in-Ok.items c.requires.bytes c.requires.few c.in-Ok.ensures.found short; own = refl }
+pub returns-in-Ok-clause-found : goal.returns-in-Ok-clause-found
+returns-in-Ok-clause-found c = record {
+  reads = dictionary_read c.args.form c.args.n c.args.bytes.now c.in-Ok.items c.requires.bytes c.requires.few (subst (λ m. SpellsWithin m c.args.bytes.now c.args.n c.in-Ok.items) c.limit.ensures c.in-Ok.ensures.found);
+  own = refl;
+}

@@ -4,7 +4,7 @@ use Rattle.std.specs.List.{All, flat_map}
 use Rattle.kt_dict.specs.Spelling.{dictionary, short, code}
 use Rattle.kt_dict.specs.Writing.{text}
 use Rattle.kt_dict.proofs.Words.{nows}
-use Rattle.kt_dict.proofs.Short.{short_entries, short_keys, keys_count, spelled_by}
+use Rattle.kt_dict.proofs.Short.{no_longer, short_entries, short_keys, keys_count, spelled_by}
 use Rattle.kt_dict.proofs.writing.encode.Goals as goal
 
 pub overflow_cast-result : goal.overflow_cast-result
@@ -24,4 +24,4 @@ returns-clause-ok c =
     let first : c.put_short.new.out.items ≡ short c.len-count.result = c.in_ok-put_short.ensures ∙ ap (λ (t : List ℕ). t ++ short c.len-count.result) c.new-out.ensures.items in
     let second : c.put_entries.new.out.items ≡ short c.len-count.result ++ flat_map text (nows keys) = c.in_ok-put_entries.ensures ∙ (ap (λ (t : List ℕ). t ++ flat_map text (nows c.as_slice.result.now)) first ∙ ap (λ ks. short c.len-count.result ++ flat_map text (nows ks)) c.as_slice.ensures.keys) in
     let third : c.put_codes.new.out.items ≡ (short c.len-count.result ++ flat_map text (nows keys)) ++ flat_map (code (nows keys)) items = c.in_ok-put_codes.ensures ∙ ap (λ (t : List ℕ). t ++ flat_map (code (nows keys)) items) second in
-    (c.of.ensures ∙ (third ∙ spelled_by items (nows keys) c.len-count.result c.in_ok-table.ensures count), record { few = omega (arith, count, c.if-count-gt-MOST.false); each = short_entries items c.requires.small })
+    (c.of.ensures ∙ (third ∙ spelled_by items (nows keys) c.len-count.result c.in_ok-table.ensures count), record { few = omega (arith, count, c.if-count-gt-MOST.false); each = no_longer (dictionary items) (short_entries items c.requires.small) })

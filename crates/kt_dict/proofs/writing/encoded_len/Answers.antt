@@ -1,10 +1,10 @@
 use Rattle.std.proofs.Common.{◌≡◌, ◌<◌, List, ℕ, length, ap, sym, subst, arith}
 use Rattle.std.specs.Borrow.{Bor}
 use Rattle.std.specs.List.{All, flat_map}
-use Rattle.kt_dict.specs.Spelling.{Fits}
+use Rattle.kt_dict.specs.Spelling.{dictionary, Fits}
 use Rattle.kt_dict.specs.Writing.{text}
 use Rattle.kt_dict.proofs.Words.{nows}
-use Rattle.kt_dict.proofs.Short.{short_entries, short_keys, keys_count, length-spelling}
+use Rattle.kt_dict.proofs.Short.{no_longer, short_entries, short_keys, keys_count, length-spelling}
 use Rattle.kt_dict.proofs.writing.encoded_len.Goals as goal
 
 pub entries_len-requires-clause-few : goal.entries_len-requires-clause-few
@@ -29,5 +29,5 @@ returns-in-Some c =
     let keys = c.in-Some.table.keys in
     let same : length (flat_map text (nows c.as_slice.result.now)) ≡ length (flat_map text (nows keys)) = ap (λ ks. length (flat_map text (nows ks))) c.as_slice.ensures.keys in
     let long = length-spelling c.args.cells.now (nows keys) table.0 in
-    let fits : Fits c.args.cells.now = record { few = table.1; each = short_entries c.args.cells.now c.requires.small } in
+    let fits : Fits c.args.cells.now = record { few = table.1; each = no_longer (dictionary c.args.cells.now) (short_entries c.args.cells.now c.requires.small) } in
     (fits, omega (arith, long, same, c.entries_len.ensures.value, c.len.ensures))

@@ -1,5 +1,5 @@
 use Rattle.kt_dict.proofs.Sums.{entry_short}
-use Rattle.std.proofs.Common.{arith, ap}
+use Rattle.std.proofs.Common.{arith}
 use Rattle.kt_dict.proofs.writing.put_texts.Goals as goal
 
 pub put_entry-requires : goal.put_entry-requires

@@ -1,14 +1,8 @@
-use Rattle.std.proofs.Common.{sym, ◌∙◌, ap, subst}
-use Rattle.kt_plain.specs.declared.items.Items.TheVariants.{Numbers}
-use Rattle.kt_plain.specs.declared.widths.Width.{Width}
-use Rattle.kt_plain.specs.Spelling.{Spells}
-use Rattle.kt_plain.proofs.Decoded.{as_numbers, none_spelled}
+use Rattle.kt_plain.proofs.Within.{spells_room, place_any}
 use Rattle.kt_plain.proofs.decoding.decode.Goals as goal
 
-pub returns-in-Some-clause-only : goal.returns-in-Some-clause-only
-returns-in-Some-clause-only c = λ items s. absurd (none_spelled c.args.width c.args.n c.args.bytes.now c.in-Some.place c.in-Some.ensures items s)
+pub returns-clause-only : goal.returns-clause-only
+returns-clause-only c = λ items s. c.decode_within.ensures.only items (spells_room c.args.width c.args.n items c.args.bytes.now s)
 
-pub returns-in_ok-read-in-Numbers-clause-only : goal.returns-in_ok-read-in-Numbers-clause-only
-returns-in_ok-read-in-Numbers-clause-only c = λ items s.
-    let x = as_numbers c.in-Numbers.width c.args.n items c.args.bytes.now (subst (λ (w : Width). Spells w c.args.n items c.args.bytes.now) c.in-Numbers.is s) in
-    ap Numbers (c.in_ok-read-in-Numbers.ensures x.0 x.2) ∙ sym x.1
+pub returns-clause-place : goal.returns-clause-place
+returns-clause-place c = place_any c.args.width c.args.n c.args.bytes.now c.decode_within.result c.decode_within.ensures.place
