@@ -4,24 +4,23 @@ use Rattle.std.specs.Prelude.{◌≡◌, ℕ, zero, suc, ◌+◌, ◌-◌, ◌^�
 use Rattle.std.specs.Int.{w16, w32}
 use Rattle.kt_base.specs.declared.cell.Kind.{Kind}
 use Rattle.kt_base.specs.declared.cell.Kind.TheVariants as kinds
-use Rattle.kt_base.specs.declared.cell.Cell.{Cell}
 use Rattle.kt_bytes.specs.declared.fault.Stop.{Stop}
 use Rattle.kt_bytes.specs.declared.fault.Stop.TheVariants as stops
 use Rattle.kt_bytes.specs.Reading.{◌>>=◌, number_at}
 use Rattle.kt_records.specs.Reading.{flag_at}
 use Rattle.kt_column.specs.declared.errors.CodecNo.TheVariants as column
 use Rattle.kt_column.specs.declared.form.Form.{Form}
-use Rattle.kt_column.specs.declared.form.Form.TheVariants.{Keys}
-use Rattle.kt_column.specs.Columns.{IsColumnFound, IsColumnRefusal}
+use Rattle.kt_column.specs.Columns.{IsColumnRefusal}
+use Rattle.kt_column.specs.Keys.{IsRisingRefusal}
 use Rattle.kt_lookup.specs.Filter.{filter_of}
-use Rattle.kt_lookup.specs.Index.{Rises, index_of}
+use Rattle.kt_lookup.specs.Index.{index_of}
 use Rattle.kt_lookup.specs.Tail.{used_of}
 use Rattle.kt_baseset.specs.declared.errors.CodecNo.{CodecNo}
 use Rattle.kt_baseset.specs.declared.errors.CodecNo.TheVariants as answers
 use Rattle.kt_baseset.specs.declared.schema.ColumnShape.{ColumnShape}
 use Rattle.kt_baseset.specs.declared.held.HeldColumn.{HeldColumn}
 use Rattle.kt_baseset.specs.Rows.{AreKeys, form_of}
-use Rattle.kt_baseset.specs.Tables.{keys_of, shapes_of, IsColumn, AreColumns}
+use Rattle.kt_baseset.specs.Tables.{shapes_of, IsColumn, AreColumns}
 use Rattle.kt_baseset.specs.Spelling.{ktb1, SpellsKeys, SpellsOne, SpellsEach, SpellsColumns, lookup_bytes}
 
 -- ---- fields of fixed length: a value and the bytes after it
@@ -100,11 +99,16 @@ pub record IsRefusedAt (form : Form) (rows : ℕ) (bytes : List ℕ) (left : ℕ
   pub why : IsColumnRefusal form rows bytes (column.Place at)
   pub place : left ≡ length bytes - at
 
--- of the first fields and the keys: keys that do not rise are at fault at their first byte
+-- keys that rise, of so many rows, are refused at a place of the bytes
+pub record AreRefusedAt (rows : ℕ) (bytes : List ℕ) (left : ℕ) : Type 0 where
+  pub at : ℕ
+  pub why : IsRisingRefusal rows bytes (column.Place at)
+  pub place : left ≡ length bytes - at
+
+-- of the first fields and the keys
 pub data IsKeysFault (bytes : List ℕ) (left : ℕ) : Type 0 where
   in_rows : rows_at bytes ≡ Err left → IsKeysFault bytes left
-  in_keys : (n : ℕ) (rest : List ℕ) → rows_at bytes ≡ Ok (n, rest) → IsRefusedAt Keys n rest left → IsKeysFault bytes left
-  in_order : (n : ℕ) (rest : List ℕ) (cs : List Cell) (used : ℕ) → rows_at bytes ≡ Ok (n, rest) → IsColumnFound Keys n rest cs used → ¬ Rises (keys_of cs) → left ≡ length rest → IsKeysFault bytes left
+  in_keys : (n : ℕ) (rest : List ℕ) → rows_at bytes ≡ Ok (n, rest) → AreRefusedAt n rest left → IsKeysFault bytes left
 
 -- the least id that may follow these columns
 abbrev pub next_id : ℕ → List ColumnShape → ℕ

@@ -1,20 +1,19 @@
 //! The keys of a base file: as a column, and as a list.
-ghost use Rattle.std.specs.Prelude.{◌≡◌, ◌<◌, ◌+◌, ◌++◌, ◌∷◌, [], ℕ, List, length, IfOk, IfErr, OnOk, MatchResult};
-ghost use Rattle.std.specs.Bool.{OnTrue, OnFalse};
+ghost use Rattle.std.specs.Prelude.{◌≡◌, ◌<◌, ◌+◌, ◌++◌, ℕ, List, length, IfOk, IfErr, MatchResult};
 ghost use Rattle.kt_base.specs.declared.cell.Cell.{Cell};
 ghost use Rattle.kt_bytes.specs.declared.fault.Stop.TheVariants as stops;
 ghost use Rattle.kt_column.specs.declared.form.Form.TheVariants as forms;
 ghost use Rattle.kt_column.specs.Columns.{IsColumnFound, SpellsColumn};
-ghost use Rattle.kt_lookup.specs.Index.{Rises};
+ghost use Rattle.kt_column.specs.Keys.{AreRising};
 ghost use Rattle.kt_baseset.specs.Rows.{AreKeys, keys_in};
 ghost use Rattle.kt_baseset.specs.Tables.{bytes_of, keys_of, key_cells};
-ghost use Rattle.kt_baseset.specs.Reading.{IsRefusedAt, IsKeysFault, ReadsKeys, Stops};
+ghost use Rattle.kt_baseset.specs.Reading.{AreRefusedAt, IsKeysFault, ReadsKeys, Stops};
 
 use crate::fields::{after, rows_of};
 use crate::rows::KeyedRow;
 use kt_base::{Cell, NoMemory};
 use kt_bytes::Stop;
-use kt_column::{Cells1, CodecNo, ColumnData, build_keys, decode_keys};
+use kt_column::{Cells1, CodecNo, ColumnData, build_keys, decode_rising};
 use kt_lookup::KeyList;
 use std::alloc::Global;
 
@@ -38,52 +37,47 @@ pub fn column_of(alloc: Global, rows: &[KeyedRow]) -> Result<ColumnData, NoMemor
     build_keys(alloc, &cells)
 }
 
-/// Adds a key's cell to a list of keys.
-fn push_cell(list: &mut KeyList, cell: &Cell) -> Result<(), NoMemory>
-    ensures { OnOk result (list.new ≡ list.old ++ bytes_of cell.now ∷ []) }
+/// The bytes of a key's cell.
+fn key_of(cell: &Cell) -> &[u8]
+    ensures { result.now ≡ bytes_of cell.now }
 {
-    let pushed = match cell {
-        Cell::Bytes(bytes) => list.push(bytes.as_slice()),
-        _ => list.push(&[]),
-    };
-    match pushed {
-        Ok(()) => Ok(()),
-        Err(_) => Err(NoMemory),
+    match cell {
+        Cell::Bytes(bytes) => bytes.as_slice(),
+        _ => &[],
     }
 }
 
-/// The keys of a column as a list.
+/// How many bytes the keys of a column have together.
+fn keys_len(alloc: Global, column: &ColumnData) -> Result<usize, NoMemory> {
+    let mut len: usize = 0;
+    for i in 0..column.len() {
+        let cell = column.cell(alloc, i)?;
+        len = len.saturating_add(key_of(&cell).len());
+    }
+    Ok(len)
+}
+
+/// The keys of a column as a list, whose room is taken once: a buffer that grows would be there twice.
 pub fn list_of(alloc: Global, column: &ColumnData) -> Result<KeyList, NoMemory>
     ensures { IfOk result (λ list. list ≡ keys_of column.now.cells) }
 {
-    let mut list = KeyList::new(alloc);
+    let mut bytes = Vec::with_capacity(alloc, keys_len(alloc, column)?)?;
+    let mut ends = Vec::with_capacity(alloc, column.len() as usize)?;
     'cells: for i in 0..column.len() {
         let cell = column.cell(alloc, i)?;
-        push_cell(&mut list, &cell)?;
+        bytes.extend_from_slice(key_of(&cell))?;
+        ends.push(bytes.len())?;
     }
-    Ok(list)
+    Ok(KeyList::cut(bytes, ends))
 }
 
-/// Whether each key is below the next one.
-pub fn rises(list: &KeyList) -> bool
-    ensures yes { OnTrue result (Rises list.now) }
-    ensures no { OnFalse result (¬ Rises list.now) }
-{
-    'keys: for i in 1..list.len() {
-        if !list.get(i - 1).cmp(list.get(i)).is_lt() {
-            return false;
-        }
-    }
-    true
-}
-
-/// The key column of so many rows, and how many bytes it takes.
+/// The key column of so many rows, whose keys rise, and how many bytes it takes.
 fn keys_at(alloc: Global, rows: u32, bytes: &[u8]) -> Result<(ColumnData, usize), Stop>
-    ensures found { IfOk result (λ found. (found.0.form ≡ forms.Keys) × IsColumnFound forms.Keys rows bytes.now found.0.cells found.1) }
-    ensures only { (cs : List Cell) (front rest : List ℕ) → SpellsColumn forms.Keys cs front → length cs ≡ rows → bytes.now ≡ front ++ rest → MatchResult result (λ found. (found.0 ≡ record { form = forms.Keys; cells = cs }) × (found.1 ≡ length front)) (λ e. e ≡ stops.Memory) }
-    ensures stop { IfErr result (Stops (IsRefusedAt forms.Keys rows bytes.now)) }
+    ensures found { IfOk result (λ found. (found.0.form ≡ forms.Keys) × IsColumnFound forms.Keys rows bytes.now found.0.cells found.1 × AreRising found.0.cells) }
+    ensures only { (cs : List Cell) (front rest : List ℕ) → SpellsColumn forms.Keys cs front → length cs ≡ rows → AreRising cs → bytes.now ≡ front ++ rest → MatchResult result (λ found. (found.0 ≡ record { form = forms.Keys; cells = cs }) × (found.1 ≡ length front)) (λ e. e ≡ stops.Memory) }
+    ensures stop { IfErr result (Stops (AreRefusedAt rows bytes.now)) }
 {
-    match decode_keys(alloc, bytes, rows) {
+    match decode_rising(alloc, bytes, rows) {
         Ok(found) => Ok(found),
         Err(CodecNo::Memory) => Err(Stop::Memory),
         Err(CodecNo::Place { offset }) => {
@@ -118,9 +112,6 @@ pub fn front_of(alloc: Global, bytes: &[u8]) -> Result<Front<'_>, Stop>
     let Ok(list) = list_of(alloc, &column) else {
         return Err(Stop::Memory);
     };
-    if !rises(&list) {
-        return Err(Stop::Left(behind.len()));
-    }
     Ok(Front {
         column,
         list,

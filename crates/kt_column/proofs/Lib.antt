@@ -14,3 +14,4 @@ pub mod Places
 pub mod Columns
 pub mod Progress
 pub mod Once
+pub mod KeyFalls

@@ -44,11 +44,11 @@ values_once w Prefix n bytes (Texts xs) (Numbers ys) f g p q a b = elim b [ ]
 reads_once : (form : Form) (e : Encoding) (n : ℕ) (bytes : List ℕ) (xs ys : Items) → Reads form e n bytes xs → Reads form e n bytes ys → xs ≡ ys
 reads_once form e n bytes xs ys r s = values_once (width form) e n bytes xs ys r.values.fits s.values.fits r.counted s.counted r.encoded s.encoded
 
-nulls_once : (nullable : Bool) (n : ℕ) (part : List ℕ) (p q : List Bool) (v w : List ℕ) → AreNullsFor nullable n p → AreNullsFor nullable n q → part ≡ null_bytes p ++ v → part ≡ null_bytes q ++ w → p ≡ q
+pub nulls_once : (nullable : Bool) (n : ℕ) (part : List ℕ) (p q : List Bool) (v w : List ℕ) → AreNullsFor nullable n p → AreNullsFor nullable n q → part ≡ null_bytes p ++ v → part ≡ null_bytes q ++ w → p ≡ q
 nulls_once true n part p q v w h k e f = sym (same_nulls n p v part h e) ∙ same_nulls n q w part k f
 nulls_once false n part p q v w h k e f = h ∙ sym k
 
-content_once : (form : Form) (e : Encoding) (n : ℕ) (part : List ℕ) (cs ds : List Cell) → ReadsContent form e n part cs → ReadsContent form e n part ds → cs ≡ ds
+pub content_once : (form : Form) (e : Encoding) (n : ℕ) (part : List ℕ) (cs ds : List Cell) → ReadsContent form e n part cs → ReadsContent form e n part ds → cs ≡ ds
 content_once form e n part cs ds r s =
     let nulls : nulls_in form cs ≡ nulls_in form ds = nulls_once (is_nullable form) n part (nulls_in form cs) (nulls_in form ds) r.values s.values (nulls_front form e n part cs r) (nulls_front form e n part ds s) r.parts s.parts in
     let mine = values_front form e n part cs (nulls_in form cs) r refl in

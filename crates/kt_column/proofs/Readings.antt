@@ -46,7 +46,7 @@ runs_read form n bytes zs numeric few s =
       encoded = subst (λ k. runs.Spells (run_width (width form)) k zs bytes) (sym s.counted) s;
     }
 
-limited : (form : Form) → limit form ≤ 65536
+pub limited : (form : Form) → limit form ≤ 65536
 limited (Cells kind nullable) = lit≤ tt
 limited Keys = lit≤ tt
 

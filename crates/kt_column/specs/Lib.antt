@@ -6,3 +6,4 @@ pub mod Blocks
 pub mod Held
 pub mod Faults
 pub mod Columns
+pub mod Keys

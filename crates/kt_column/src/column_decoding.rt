@@ -13,7 +13,7 @@ use kt_base::{Kind, NoMemory};
 use std::alloc::Global;
 
 /// A refusal behind so many bytes.
-fn behind(used: usize, no: CodecNo) -> CodecNo
+pub(crate) fn behind(used: usize, no: CodecNo) -> CodecNo
     requires { spec.IsShiftable used no }
     ensures { result ≡ spec.shifted used no }
 {

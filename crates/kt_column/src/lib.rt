@@ -29,6 +29,7 @@ mod lengths;
 mod nulls;
 mod parts;
 mod reading;
+mod rising;
 mod values;
 
 pub use block::Block;
@@ -39,3 +40,4 @@ pub use decoding::{Found, decode_block};
 pub use errors::CodecNo;
 pub use form::{Encoding, Form};
 pub use laws::{one_column, one_column_spelling, one_spelling};
+pub use rising::decode_rising;

@@ -86,6 +86,10 @@ short_behind most zero xs all = all
 short_behind most (suc j) [] all = tt
 short_behind most (suc j) (x ∷ xs) all = short_behind most j xs all.1
 
+pub short_push : (most : ℕ) (xs : List (List ℕ)) (x : List ℕ) → AllShort most xs → length x ≤ most → AllShort most (xs ++ x ∷ [])
+short_push most [] x all le = (le, tt)
+short_push most (y ∷ xs) x all le = (all.0, short_push most xs x all.1 le)
+
 -- what is within a limit is within a greater one
 pub short_more : (most greater : ℕ) (xs : List (List ℕ)) → most ≤ greater → AllShort most xs → AllShort greater xs
 short_more most greater [] le all = tt

@@ -4,22 +4,22 @@ use Rattle.std.specs.Prelude.{nat_lt, ◌==◌, ◌&&◌}
 use Rattle.std.specs.Int.{w32}
 use Rattle.std.specs.List.{AllByRecursion, concat}
 use Rattle.std.proofs.lemmas.Bool.{leb-true, le-ltb, lt-ltb}
-use Rattle.std.proofs.lemmas.List.{append-nil, take_at, length-drop, length_push}
+use Rattle.std.proofs.lemmas.List.{append-nil, take_at, length-drop, length_push, take-append-drop, drop_at}
 use Rattle.std.proofs.lemmas.List.Folds.{concat-append}
 use Rattle.kt_bytes.specs.Places.{Begins, GoesOn, Stands, Delimited}
 use Rattle.kt_bytes.specs.Reading.{◌>>=◌, number_at, checked_at, bytes_at}
-use Rattle.kt_bytes.proofs.Numbers.{IsBytes, ok_is, bytes_takes}
+use Rattle.kt_bytes.proofs.Numbers.{IsBytes, IsBytes-take, IsBytes-drop, ok_is, bytes_takes}
 use Rattle.kt_bytes.proofs.Places.{goes_on, one_front, one_place as places_one}
 use Rattle.kt_bytes.proofs.Faults.{FaultLeft, bind_err, guard_err, pass_err, checked_fails, bytes_fail, number_long, is_missing, begins_of, never_err}
 use Rattle.kt_bytes.proofs.Fronts.{parts_push, no_bool}
-use Rattle.kt_front.specs.Spelling.{AreBytes, base, shared, number, cell, cell_fields, fields, SpelledWithin}
+use Rattle.kt_front.specs.Spelling.{AreBytes, base, shared, number, cell, cells, cell_fields, fields, spelling, SpelledWithin}
 use Rattle.kt_front.specs.Reading.{IsFaultWithin, is_rest, SpellsWithin}
 use Rattle.kt_front.specs.Walk.{begin_alike, is_shared, is_more, cell_at, items_at, behind_of, ended_of}
-use Rattle.kt_front.proofs.Shared.{shared-le, shared_apart}
-use Rattle.kt_front.proofs.Fields.{length-number, number_one, number_again, shared_takes, upto_test, cell_takes}
+use Rattle.kt_front.proofs.Shared.{shared-le, shared_apart, shared_front}
+use Rattle.kt_front.proofs.Fields.{length-number, number_one, number_again, shared_takes, upto_test, cell_takes, bytes_front, bytes_both}
 use Rattle.kt_front.proofs.Blocks.{spelled_behind}
 use Rattle.kt_front.proofs.Cells.{last_or, AllShort, shared_small, rest_small}
-use Rattle.kt_front.proofs.Places.{fields_append, Sofar, sofar_push, begins, made, next, delimited, length-fields, whole_ends}
+use Rattle.kt_front.proofs.Places.{fields_spell, fields_append, Sofar, sofar_push, begins, made, next, delimited, length-fields, whole_ends}
 
 -- what stands there is no field that can follow, and these are the fields in front of it
 is_wrong_here : (S : List (List ℕ) → Type 0) (front : List (List ℕ)) (bytes rest : List ℕ) (left : ℕ) → bytes ≡ concat front ++ rest → left ≡ length rest
@@ -150,7 +150,7 @@ one_more k m e = not_two (k % 3) (omega arith)
     not_two : (a : ℕ) → a ≡ 1 → (a == 2) ≡ false
     not_two a e = rw e refl
 
-whole_cells : (xs : List (List ℕ)) → is_rest (fields xs) ≡ false
+pub whole_cells : (xs : List (List ℕ)) → is_rest (fields xs) ≡ false
 whole_cells xs = three_times (length (fields xs)) (length xs) (length-fields 0 [] xs)
 
 -- where a cell is read
@@ -366,6 +366,36 @@ block_fault most n bytes left room fits e = items_fault most n n 0 [] [] bytes b
   where
     all_left : (n : ℕ) → 0 + n ≡ n
     all_left n = omega arith
+
+-- ---- a list's fields are those of its block
+
+cells_bytes : (i : ℕ) (b : List ℕ) (xs : List (List ℕ)) → IsBytes b → IsBytes (cells i b xs) → AllByRecursion AreBytes xs
+unfolding cell
+cells_bytes i b [] before fits = tt
+cells_bytes i b (x ∷ xs) before fits =
+    let w : List ℕ = base i b in
+    let n : ℕ = shared w x in
+    let m : ℕ = length x - n in
+    let tail : List ℕ = cells (suc i) x xs in
+    let split : ((number n ++ number m) ++ drop n x) ++ tail ≡ number n ++ (number m ++ (drop n x ++ tail)) = append_assoc (number n ++ number m) (drop n x) tail ∙ append_assoc (number n) (number m) (drop n x ++ tail) in
+    let first : IsBytes (number m ++ (drop n x ++ tail)) = behind_bytes (number n) (number m ++ (drop n x ++ tail)) (subst IsBytes split fits) in
+    let second : IsBytes (drop n x ++ tail) = behind_bytes (number m) (drop n x ++ tail) first in
+    let front : IsBytes (take n x) = subst IsBytes (shared_front w x) (IsBytes-take n w (either i b before)) in
+    let whole : IsBytes x = subst IsBytes (take-append-drop n x) (bytes_both (take n x) (drop n x) front (bytes_front (drop n x) tail second)) in
+    (whole, cells_bytes (suc i) x xs whole (behind_bytes (drop n x) tail second))
+  where
+    behind_bytes : (xs ys : List ℕ) → IsBytes (xs ++ ys) → IsBytes ys
+    behind_bytes xs ys h = subst IsBytes (drop_at xs ys (length xs) refl) (IsBytes-drop (length xs) (xs ++ ys) h)
+
+    either : (i : ℕ) (b : List ℕ) → IsBytes b → IsBytes (base i b)
+    either i b h = elim (i % 16 == 0) as (λ t. IsBytes (cond t [] b)) [ true ↦ λ k. omega arith | false ↦ h ]
+
+pub spelled_whole : (most : ℕ) (bytes : List ℕ) (n : ℕ) (items : List (List ℕ)) → IsBytes bytes → SpellsWithin most bytes n items → SpelledWithin most n (fields items) × (bytes ≡ concat (fields items))
+unfolding spelling
+spelled_whole most bytes n items fits s = (
+  record { items = items; count = s.count; fits = s.fits; bytes = cells_bytes 0 [] items (λ k. omega arith) (subst IsBytes s.parts fits); is = refl },
+  s.parts ∙ sym (fields_spell items),
+)
 
 -- ---- one place
 

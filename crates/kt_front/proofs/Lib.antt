@@ -6,3 +6,4 @@ pub mod Blocks
 pub mod Places
 pub mod Faults
 pub mod Loop
+pub mod Falls

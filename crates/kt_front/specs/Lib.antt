@@ -3,3 +3,4 @@ pub mod Reading
 pub mod Walk
 pub mod Walking
 pub mod Items
+pub mod Order

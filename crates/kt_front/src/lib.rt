@@ -6,7 +6,8 @@
 //! where the bytes spell it, and otherwise the first place at which they don't; `decode_within` does so
 //! of items that are no longer than a limit. A list that was read is held as it stands on disk, with
 //! where its stretches begin, and `get` hands out an item where it stands: its length, its order
-//! against a key and a copy of it come from its stretch alone. `compare` and `compare_at` order an item of a block's bytes against a key.
+//! against a key and a copy of it come from its stretch alone. `first_fall`
+//! tells where items that are to rise stop doing so. `compare` and `compare_at` order an item of a block's bytes against a key.
 #![tactic(auto)]
 
 mod error;
@@ -14,6 +15,7 @@ mod items;
 mod laws;
 mod prefix;
 mod reading;
+mod rising;
 mod starts;
 mod walking;
 mod writing;
@@ -23,6 +25,7 @@ pub use items::{Item, Items, get};
 pub use kt_bytes::{NoMemory, Octets, Texts};
 pub use laws::{fields_spell, one_place, one_value};
 pub use reading::{decode, decode_within};
+pub use rising::first_fall;
 pub use starts::{Starts, compare_at};
 pub use walking::compare;
 pub use writing::{cell_len, encode};

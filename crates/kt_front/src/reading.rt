@@ -15,7 +15,7 @@ use kt_bytes::{Octets, Stop};
 use std::alloc::Global;
 
 #[tactic(auto, unfolding(crate::specs::Walk::cell_at))]
-fn cell_of<'a>(with: &[u8], most: u32, bytes: &'a [u8]) -> Result<Cell<'a>, Stop>
+pub(crate) fn cell_of<'a>(with: &[u8], most: u32, bytes: &'a [u8]) -> Result<Cell<'a>, Stop>
     ensures read { Gives (λ x. (take x.shared with.now ++ x.rest.now, x.after.now)) result (cell_at most with.now bytes.now) }
     ensures there { IfOk result (λ x. x.shared ≤ length with.now) }
 {

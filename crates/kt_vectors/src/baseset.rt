@@ -154,10 +154,11 @@ fn bytes_behind_the_index_are_at_fault_at_the_first(rt: HostRuntime) -> Result<(
     Ok(())
 }
 
-/// The file of 8,192 keys and a column of one long string in each row, up to the filter.
-fn one_text(alloc: Global) -> Result<Octets, NoMemory> {
+/// The letters, so many rows, and a block of 8,192 keys.
+fn many_keys(alloc: Global, rows: u32) -> Result<Octets, NoMemory> {
     let mut bytes = Octets::from_slice(alloc, b"KTB1")?;
-    bytes.extend(&[0, 32, 0, 0, 4, 0, 0x22, 1, 0])?;
+    bytes.extend(&rows.to_le_bytes())?;
+    bytes.extend(&[4, 0, 0x22, 1, 0])?;
     for i in 0..8192u16 {
         let [low, high] = i.to_le_bytes();
         if i % 16 == 0 {
@@ -166,6 +167,29 @@ fn one_text(alloc: Global) -> Result<Octets, NoMemory> {
             bytes.extend(&[1, 0, 0, 0, 1, 0, 0, 0, low])?;
         }
     }
+    Ok(bytes)
+}
+
+/// A key that falls is at fault at its cell, before what is wrong behind it, also as the first one of a block.
+#[test]
+fn a_key_that_falls_comes_first(rt: HostRuntime) -> Result<(), Fail> {
+    let alloc = rt.alloc();
+    let mut cut = TWO;
+    cut[30] = 0x60;
+    for len in 31..54 {
+        assert_eq!(rt; fault(alloc, &cut[..len]), Some(22));
+    }
+    assert_eq!(rt; fault(alloc, &cut[..30]), Some(30));
+    let mut bytes = many_keys(alloc, 8193)?;
+    assert_eq!(rt; bytes.len(), 74_253);
+    bytes.extend(&[4, 10, 0, 0, 0, 0, 0, 0, 0, 2, 0, 0, 0, 0x1f, 0xff])?;
+    assert_eq!(rt; fault(alloc, bytes.as_slice()), Some(74_258));
+    Ok(())
+}
+
+/// The file of 8,192 keys and a column of one long string in each row, up to the filter.
+fn one_text(alloc: Global) -> Result<Octets, NoMemory> {
+    let mut bytes = many_keys(alloc, 8192)?;
     bytes.extend(&[1, 0, 1, 0, 7, 0, 3, 6, 0x40, 1, 0, 1, 0, 0, 0, 1, 0])?;
     for _ in 0..65_536u32 {
         bytes.push(97)?;
@@ -198,8 +222,8 @@ fn fault_with(alloc: Global, place: usize, byte: u8) -> Option<u64> {
 
 #[test]
 fn faults_in_the_keys_are_found(rt: HostRuntime) {
-    // The letters, the number of rows, the keys' encoding, and keys that fall.
-    for (place, byte, at) in [(3, 0x32, 0), (4, 0, 4), (8, 1, 8), (30, 0x60, 8)] {
+    // The letters, the number of rows, the keys' encoding, and a key that falls, at its cell.
+    for (place, byte, at) in [(3, 0x32, 0), (4, 0, 4), (8, 1, 8), (30, 0x60, 22)] {
         assert_eq!(rt; fault_with(rt.alloc(), place, byte), Some(at));
     }
 }

@@ -1,4 +1,6 @@
-use kt_front::{CodecNo, Starts, Texts, Width, compare, compare_at, decode, decode_within, encode, get};
+use kt_front::{
+    CodecNo, Starts, Texts, Width, compare, compare_at, decode, decode_within, encode, get,
+};
 use std::cmp::Ordering;
 use std::test::Fail;
 

@@ -1,7 +1,5 @@
-use Rattle.std.proofs.Common.{List, ℕ, arith, refl, subst}
-use Rattle.kt_lookup.specs.Index.{Rises}
-use Rattle.kt_baseset.proofs.Fronts.{no_rows, no_keys, no_front, front_found, front_column, front_only, falls}
-use Rattle.kt_baseset.specs.Reading.{in_order}
+use Rattle.std.proofs.Common.{arith}
+use Rattle.kt_baseset.proofs.Fronts.{no_rows, no_keys, no_front, front_found, front_column, front_only}
 use Rattle.kt_baseset.proofs.keys.front_of.Goals as goal
 
 pub returns-in-Err-clause-only : goal.returns-in-Err-clause-only
@@ -16,23 +14,12 @@ returns-in-Err-keys_at-clause-stop c = no_keys c.in-Err-keys_at.stop c.args.byte
 pub after-requires : goal.after-requires
 after-requires c = c.in-Ok-keys_at.ensures.found.1.within
 
-pub returns-then-not-rises-clause-only : goal.returns-then-not-rises-clause-only
-returns-then-not-rises-clause-only c =
-    let falling = subst (λ (ks : List (List ℕ)). Rises ks → ⊥) c.in-Ok-list_of.ensures c.if-not-rises.ensures.no in
-    λ keys rest r. absurd (falls c.args.bytes.now c.in-Ok.read.0 c.in-Ok.read.1.now c.in-Ok-keys_at.read.0 c.in-Ok-keys_at.read.1 c.in-Ok.ensures c.in-Ok-keys_at.ensures.only falling keys rest r)
-
-pub returns-then-not-rises-clause-stop : goal.returns-then-not-rises-clause-stop
-returns-then-not-rises-clause-stop c =
-    let falling = subst (λ (ks : List (List ℕ)). Rises ks → ⊥) c.in-Ok-list_of.ensures c.if-not-rises.ensures.no in
-    in_order c.in-Ok.read.0 c.in-Ok.read.1.now c.in-Ok-keys_at.read.0.cells c.in-Ok-keys_at.read.1 c.in-Ok.ensures c.in-Ok-keys_at.ensures.found.1 falling refl
-
 pub returns-clause-column : goal.returns-clause-column
 returns-clause-column c = rw c.in-Ok-list_of.ensures (front_column c.in-Ok-keys_at.read.0 c.in-Ok.read.0 c.in-Ok.read.1.now c.in-Ok-keys_at.read.1 c.in-Ok-keys_at.ensures.found.0 c.in-Ok-keys_at.ensures.found.1)
 
 pub returns-clause-found : goal.returns-clause-found
 returns-clause-found c =
-    let rise = subst Rises c.in-Ok-list_of.ensures c.if-not-rises.ensures.yes in
-    rw (c.after.ensures, c.in-Ok-list_of.ensures) (front_found c.args.bytes.now c.in-Ok.read.0 c.in-Ok.read.1.now c.in-Ok-keys_at.read.0.cells c.in-Ok-keys_at.read.1 (λ i. omega (arith, c.type_inv.bytes i)) c.in-Ok.ensures c.in-Ok-keys_at.ensures.found.1 rise)
+    rw (c.after.ensures, c.in-Ok-list_of.ensures) (front_found c.args.bytes.now c.in-Ok.read.0 c.in-Ok.read.1.now c.in-Ok-keys_at.read.0.cells c.in-Ok-keys_at.read.1 (λ i. omega (arith, c.type_inv.bytes i)) c.in-Ok.ensures c.in-Ok-keys_at.ensures.found.1 c.in-Ok-keys_at.ensures.found.2)
 
 pub returns-clause-only : goal.returns-clause-only
 returns-clause-only c = rw (c.after.ensures, c.in-Ok-list_of.ensures) (front_only c.args.bytes.now c.in-Ok.read.0 c.in-Ok.read.1.now c.in-Ok-keys_at.read.0 c.in-Ok-keys_at.read.1 c.in-Ok.ensures c.in-Ok-keys_at.ensures.only)
