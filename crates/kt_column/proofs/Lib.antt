@@ -15,3 +15,4 @@ pub mod Columns
 pub mod Progress
 pub mod Once
 pub mod KeyFalls
+pub mod OnePlace

@@ -39,5 +39,5 @@ pub use column_decoding::{decode, decode_keys};
 pub use decoding::{Found, decode_block};
 pub use errors::CodecNo;
 pub use form::{Encoding, Form};
-pub use laws::{one_column, one_column_spelling, one_spelling};
+pub use laws::{one_column, one_column_spelling, one_place, one_spelling};
 pub use rising::decode_rising;

@@ -11,7 +11,7 @@ use Rattle.kt_bytes.proofs.Numbers.{IsBytes, bind_ok, ok_is, IsBytes-drop, bytes
 use Rattle.kt_bytes.proofs.Places.{goes_on}
 use Rattle.kt_bytes.proofs.Faults.{FaultLeft, bind_err, guard_err, pass_err, checked_fails, bytes_fail, is_missing, is_wrong, is_wrong_field, never_err, number_long}
 use Rattle.kt_bytes.proofs.Fronts.{parts_push, no_bool}
-use Rattle.kt_dict.specs.Spelling.{AreBytes, has, place, dictionary, short, number, entry, code, spelling, SpelledWithin}
+use Rattle.kt_dict.specs.Spelling.{AreBytes, has, place, dictionary, short, number, entry, code, fields, spelling, SpelledWithin}
 use Rattle.kt_dict.specs.Writing.{text}
 use Rattle.kt_dict.specs.Reading.{SpellsWithin}
 use Rattle.kt_dict.specs.Items.{items_of}
@@ -331,6 +331,11 @@ spelled_bytes items bytes fits e =
     let codes : List ℕ = flat_map (code ds) items in
     let is : bytes ≡ short (length ds) ++ (flat_map text ds ++ codes) = e ∙ (spelling_is items ∙ append_assoc (short (length ds)) (flat_map text ds) codes) in
     entries_bytes ds codes (subst IsBytes (drop_at (short (length ds)) (flat_map text ds ++ codes) 2 (length-short (length ds))) (IsBytes-drop 2 (short (length ds) ++ (flat_map text ds ++ codes)) (subst IsBytes is fits)))
+
+-- a list's fields are those of its block
+pub spelled_whole : (most : ℕ) (bytes : List ℕ) (n : ℕ) (items : List (List ℕ)) → IsBytes bytes → SpellsWithin most bytes n items → SpelledWithin most n (fields items) × (bytes ≡ concat (fields items))
+unfolding spelling
+spelled_whole most bytes n items fits s = (record { items = items; count = s.count; fits = s.fits; bytes = spelled_bytes items bytes fits s.parts; is = refl }, s.parts)
 
 spelled_read : (most : ℕ) (bytes : List ℕ) (n : ℕ) (items : List (List ℕ)) → most < 2 ^ 32 → IsBytes bytes → SpellsWithin most bytes n items → block_at most n bytes ≡ Ok (dictionary items, map (place (dictionary items)) items)
 spelled_read most bytes n items room fits s =
