@@ -54,7 +54,7 @@ rises_of cs texts rise =
     let same : texts_in cs ≡ keys_of cs = ap texts_in texts ∙ texts_again (keys_of cs) in
     rises_from_next (keys_of cs) (λ k lt. subst (λ (ts : List (List ℕ)). IsBelow (get_or ts k []) (get_or ts (k + 1) [])) same (rising_next cs rise k (subst (λ (ts : List (List ℕ)). k + 1 < length ts) (sym same) lt)))
 
-rising_keys : (keys : List (List ℕ)) → Rises keys → AreRising (key_cells keys)
+pub rising_keys : (keys : List (List ℕ)) → Rises keys → AreRising (key_cells keys)
 rising_keys keys rise = rising_of keys (λ k lt. rise k (k + 1) (omega arith) lt)
 
 -- the keys of a column that was found

@@ -6,3 +6,4 @@ pub mod Each
 pub mod Found
 pub mod Whole
 pub mod Once
+pub mod OnePlace

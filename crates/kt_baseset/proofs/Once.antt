@@ -46,14 +46,14 @@ base_once schema rows a b p q = table_once (keys_in rows) (columns_of schema row
 
 -- ---- one base file
 
-keys_same : (bytes : List ℕ) (keys keys' : List (List ℕ)) (rest rest' : List ℕ) → ReadsKeys bytes keys rest → ReadsKeys bytes keys' rest' → (keys ≡ keys') × (rest ≡ rest')
+pub keys_same : (bytes : List ℕ) (keys keys' : List (List ℕ)) (rest rest' : List ℕ) → ReadsKeys bytes keys rest → ReadsKeys bytes keys' rest' → (keys ≡ keys') × (rest ≡ rest')
 keys_same bytes keys keys' rest rest' p q =
     let e = same_read (rows_at bytes) (length keys) (length keys') (p.spelled.blocks ++ rest) (q.spelled.blocks ++ rest') (rows_read bytes keys rest p) (rows_read bytes keys' rest' q) in
     let count : length (key_cells keys) ≡ length (key_cells keys') = length-map keys cells.Bytes ∙ e.0 ∙ sym (length-map keys' cells.Bytes) in
     let once = column_once Keys (key_cells keys) (key_cells keys') p.spelled.blocks q.spelled.blocks rest rest' p.spelled.spelled q.spelled.spelled count e.1 in
     (sym (same_texts keys) ∙ ap keys_of once.0 ∙ same_texts keys', once.2)
 
-spelled_as : (c : HeldColumn) (form : Form) (blocks : List ℕ) → c.column.form ≡ form → SpellsColumn c.column.form c.column.cells blocks → SpellsColumn form c.column.cells blocks
+pub spelled_as : (c : HeldColumn) (form : Form) (blocks : List ℕ) → c.column.form ≡ form → SpellsColumn c.column.form c.column.cells blocks → SpellsColumn form c.column.cells blocks
 spelled_as c form blocks e spelled = subst (λ (f : Form). SpellsColumn f c.column.cells blocks) e spelled
 
 value_same : (a b : ColumnValue) → a.form ≡ b.form → a.cells ≡ b.cells → a ≡ b
@@ -64,7 +64,7 @@ held_same : (c d : HeldColumn) → c.shape ≡ d.shape → c.column.form ≡ d.c
 held_same c d p q r = ap (λ (s : ColumnShape). let h : HeldColumn = record { shape = s; column = c.column } in h) p ∙ ap (λ (x : ColumnValue). let h : HeldColumn = record { shape = d.shape; column = x } in h) (value_same c.column d.column q r)
 
 -- a column at the front of some bytes is the only one there
-one_same : (rows least : ℕ) (bytes : List ℕ) (c d : HeldColumn) (rest rest' : List ℕ) → ReadsOne rows least bytes c rest → ReadsOne rows least bytes d rest' → (c ≡ d) × (rest ≡ rest')
+pub one_same : (rows least : ℕ) (bytes : List ℕ) (c d : HeldColumn) (rest rest' : List ℕ) → ReadsOne rows least bytes c rest → ReadsOne rows least bytes d rest' → (c ≡ d) × (rest ≡ rest')
 one_same rows least bytes c d rest rest' p q =
     let e = same_shape (shape_at least bytes) c.shape d.shape (p.spelled.blocks ++ rest) (q.spelled.blocks ++ rest') (shape_read rows least bytes c rest p) (shape_read rows least bytes d rest' q) in
     let form : d.column.form ≡ form_of c.shape = q.is.form ∙ ap form_of (sym e.0) in
@@ -74,19 +74,19 @@ one_same rows least bytes c d rest rest' p q =
     (held_same c d e.0 (p.is.form ∙ sym form) once.0, once.2)
 
 -- what is known of columns that stand one after another
-record Row (rows least : ℕ) (cs : List HeldColumn) : Type 0 where
-  rise : IdsRise least (shapes_of cs)
-  fit : HaveIds (shapes_of cs)
-  each : All (IsColumn rows) cs
+pub record Row (rows least : ℕ) (cs : List HeldColumn) : Type 0 where
+  pub rise : IdsRise least (shapes_of cs)
+  pub fit : HaveIds (shapes_of cs)
+  pub each : All (IsColumn rows) cs
 
-tail_row : (rows least : ℕ) (c : HeldColumn) (cs : List HeldColumn) → Row rows least (c ∷ cs) → Row rows (c.shape.id + 1) cs
+pub tail_row : (rows least : ℕ) (c : HeldColumn) (cs : List HeldColumn) → Row rows least (c ∷ cs) → Row rows (c.shape.id + 1) cs
 tail_row rows least c cs r = record {
   rise = r.rise.1;
   fit = All-tail (λ (s : ColumnShape). s.id < 2 ^ 16) c.shape (shapes_of cs) r.fit;
   each = All-tail (IsColumn rows) c cs r.each;
 }
 
-head_one : (rows least : ℕ) (c : HeldColumn) (cs : List HeldColumn) (front rest : List ℕ) → Row rows least (c ∷ cs) → SpellsOne c front → ReadsOne rows least (front ++ rest) c rest
+pub head_one : (rows least : ℕ) (c : HeldColumn) (cs : List HeldColumn) (front rest : List ℕ) → Row rows least (c ∷ cs) → SpellsOne c front → ReadsOne rows least (front ++ rest) c rest
 head_one rows least c cs front rest r spelled = record {
   is = All-head (IsColumn rows) c cs r.each;
   above = r.rise.0;
@@ -96,7 +96,7 @@ head_one rows least c cs front rest r spelled = record {
   parts = refl;
 }
 
-each_same : (rows least : ℕ) (cs ds : List HeldColumn) (a b r s : List ℕ) → Row rows least cs → Row rows least ds → SpellsEach cs a → SpellsEach ds b → length cs ≡ length ds → a ++ r ≡ b ++ s → (cs ≡ ds) × (r ≡ s)
+pub each_same : (rows least : ℕ) (cs ds : List HeldColumn) (a b r s : List ℕ) → Row rows least cs → Row rows least ds → SpellsEach cs a → SpellsEach ds b → length cs ≡ length ds → a ++ r ≡ b ++ s → (cs ≡ ds) × (r ≡ s)
 each_same rows least [] [] a b r s x y p q len e = (refl, ap (λ (z : List ℕ). z ++ r) (sym p) ∙ e ∙ ap (λ (z : List ℕ). z ++ s) q)
 each_same rows least [] (d ∷ ds) a b r s x y p q len e = absurd (omega (arith, len))
 each_same rows least (c ∷ cs) [] a b r s x y p q len e = absurd (omega (arith, len))

@@ -2,7 +2,17 @@
 use Rattle.std.specs.Prelude.{◌≡◌, ℕ, List}
 use Rattle.kt_baseset.specs.declared.schema.ColumnShape.{ColumnShape}
 use Rattle.kt_baseset.specs.declared.rows.KeyedRow.{KeyedRow}
+use Rattle.kt_bytes.specs.Places.{AreBytes}
+use Rattle.kt_baseset.specs.declared.errors.CodecNo.TheVariants as answers
 use Rattle.kt_baseset.specs.Spelling.{SpellsBase}
+use Rattle.kt_baseset.specs.Reading.{IsRefusal}
+
+-- bytes are refused at one place, and those that are refused are no base file
+abbrev pub one_place : Type 0
+one_place = (bytes : List ℕ) (a b : ℕ) → AreBytes bytes → IsRefusal bytes (answers.Place a) → IsRefusal bytes (answers.Place b) → a ≡ b
+
+abbrev pub refused_is_none : Type 0
+refused_is_none = (bytes : List ℕ) (at : ℕ) (schema : List ColumnShape) (rows : List KeyedRow) → AreBytes bytes → IsRefusal bytes (answers.Place at) → ¬ SpellsBase schema rows bytes
 
 -- no two base files have one spelling, and none has two
 abbrev pub bytes_spell_one : Type 0

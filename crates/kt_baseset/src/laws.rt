@@ -1,6 +1,6 @@
 //! Laws of the spelling.
 
-ghost use Rattle.kt_baseset.specs.Laws.{bytes_spell_one, one_spelling};
+ghost use Rattle.kt_baseset.specs.Laws.{bytes_spell_one, one_spelling, one_place, refused_is_none};
 
 /// No two base files have one spelling.
 pub fn bytes_law()
@@ -10,4 +10,10 @@ pub fn bytes_law()
 /// No base file has two spellings.
 pub fn spelling_law()
     ensures { one_spelling }
+{}
+
+/// Bytes are refused at one place, and those that are refused are no base file.
+pub fn place_law()
+    ensures one { one_place }
+    ensures none { refused_is_none }
 {}
