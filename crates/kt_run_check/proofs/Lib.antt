@@ -4,3 +4,12 @@ pub mod Lines
 pub mod Sitting
 pub mod Taken
 pub mod Walked
+pub mod Worked
+pub mod Dated
+pub mod Placed
+pub mod Shown
+pub mod Opened
+pub mod Growing
+pub mod Viewed
+pub mod KindsAt
+pub mod Answering

@@ -4,3 +4,10 @@ pub mod Works
 pub mod Machine
 pub mod Faults
 pub mod Walks
+pub mod Openings
+pub mod Tables
+pub mod TableLaws
+pub mod Grown
+pub mod Verdicts
+pub mod Replied
+pub mod Wrong

@@ -20,7 +20,7 @@ use kt_base::NoMemory;
 use kt_history::{At, Command, Event, Plan, RowOp};
 use kt_script::Script;
 
-fn command_at(plan: &Plan, s: u32, i: u32) -> Option<&Command>
+pub(crate) fn command_at(plan: &Plan, s: u32, i: u32) -> Option<&Command>
     ensures { option_copied result ≡ command_of (nth plan.now s) i }
 {
     match nth(plan.as_slice(), s) {
@@ -30,12 +30,22 @@ fn command_at(plan: &Plan, s: u32, i: u32) -> Option<&Command>
 }
 
 // The operations of a command that is a write.
-pub(crate) fn write_at(plan: &Plan, s: u32, i: u32) -> Option<&[RowOp]>
+fn write_at(plan: &Plan, s: u32, i: u32) -> Option<&[RowOp]>
     ensures { option_copied result ≡ write_in (command_of (nth plan.now s) i) }
 {
     match command_at(plan, s, i) {
         Some(Command::Write(write)) => Some(write.ops.as_slice()),
         _ => None,
+    }
+}
+
+// The operations of a command that is a write, and none of another.
+pub(crate) fn ops_at(plan: &Plan, s: u32, i: u32) -> &[RowOp]
+    ensures { result.now ≡ ops_in (write_in (command_of (nth plan.now s) i)) }
+{
+    match write_at(plan, s, i) {
+        Some(ops) => ops,
+        None => &[],
     }
 }
 

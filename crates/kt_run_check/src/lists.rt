@@ -1,5 +1,5 @@
-//! Items counted from 1.
-ghost use Rattle.std.specs.Prelude.{◌≡◌};
+//! Items of lists.
+ghost use Rattle.std.specs.Prelude.{◌≡◌, slice_get};
 ghost use Rattle.std.specs.Option.{option_copied};
 ghost use Rattle.kt_history.specs.Machine.{nth};
 
@@ -11,4 +11,11 @@ pub(crate) fn nth<T>(items: &[T], number: u32) -> Option<&T>
         Some(at) => items.get(at as usize),
         None => None,
     }
+}
+
+/// The item at a place, counted from 0.
+pub(crate) fn item<T>(items: &[T], at: usize) -> Option<&T>
+    ensures { option_copied result ≡ slice_get items.now at }
+{
+    items.get(at)
 }

@@ -1,10 +1,8 @@
 //! Where a session stands in a history.
 ghost use Rattle.std.specs.Prelude.{◌≡◌, [], OnOk, Some, None};
-ghost use Rattle.kt_history.specs.Machine.{nth};
 ghost use Rattle.kt_run_check.specs.Decided.{Decided};
 ghost use Rattle.kt_run_check.specs.Turns.{turn_of, with_line};
 
-use crate::lists::nth;
 use kt_base::NoMemory;
 use kt_history::Event;
 use std::alloc::Global;
@@ -59,10 +57,10 @@ impl Turn {
         Ok(())
     }
 
-    /// The line that answered a command.
-    pub(crate) fn line(&self, i: u32) -> Option<Event>
-        ensures { result ≡ nth self.now.lines i }
+    /// The lines that answered the commands so far.
+    pub(crate) fn lines(&self) -> &[Event]
+        ensures { result.now ≡ self.now.lines }
     {
-        nth(&self.answered, i).copied()
+        &self.answered
     }
 }
