@@ -8,6 +8,7 @@ pub mod Worked
 pub mod Dated
 pub mod Placed
 pub mod Shown
+pub mod Barely
 pub mod Opened
 pub mod Growing
 pub mod Viewed

@@ -1,53 +1,20 @@
 -- The table of an opening.
-use Rattle.std.proofs.Common.{◌≡◌, ℕ, ◌+◌, ◌<◌, ◌≤◌, List, [], ◌∷◌, ◌++◌, Some, None, refl, true, false, ◌&&◌, cond, sym, ap, ◌∙◌, subst, arith, length, take, drop, map, get_or}
+use Rattle.std.proofs.Common.{◌≡◌, ℕ, ◌+◌, ◌<◌, ◌≤◌, List, [], ◌∷◌, ◌++◌, true, sym, ap, ◌∙◌, subst, arith, length, take, drop, map, get_or}
 use Rattle.std.specs.Prelude.{nat_le}
-use Rattle.std.specs.List.{AllByRecursion}
-use Rattle.std.specs.Ordering.{eq_by_cmp, is_lt}
-use Rattle.std.specs.FinMap.Entries.{find, below_all, is_sorted}
 use Rattle.std.proofs.lemmas.Bool.{and_parts}
 use Rattle.std.proofs.lemmas.Bool.Decides.{nat_tests}
 use Rattle.std.proofs.lemmas.List.{take_more, take_all, drop_more, map-append}
-use Rattle.kt_history.specs.Rows.{Rows, Changes, key_cmp}
+use Rattle.kt_history.specs.Rows.{Rows, Changes}
 use Rattle.kt_history.specs.History.{PastWrite, IsUpTo, Rise, replay, rows_at}
 use Rattle.kt_history.proofs.RowLaws.{replay-append}
 use Rattle.kt_run_check.specs.declared.opening.Opening.{Opening}
 use Rattle.kt_run_check.specs.declared.opening.OpeningWrite.{OpeningWrite}
 use Rattle.kt_run_check.specs.Openings.{write_of, past_of, IsOpening}
-use Rattle.kt_run_check.specs.Tables.{Versions, Entries, AreOrdered, row_of, row_from, versions_in, first_entry, IsTable, IsTableUpTo, IsTableOf, Shows, with_changes}
+use Rattle.kt_run_check.specs.Tables.{Entries, IsTable, IsTableUpTo, IsTableOf, Shows, with_changes}
 use Rattle.kt_run_check.proofs.Dated.{later_too}
+use Rattle.kt_run_check.specs.Bare.{HasRows}
+use Rattle.kt_run_check.proofs.Barely.{inserted}
 use Rattle.kt_run_check.proofs.Shown.{shows_same}
-
-from_start : (t : ℕ) → nat_le 0 t ≡ true
-from_start t = grind (arith, nat_tests)
-
-row_of-first : (base : Rows) (key : List ℕ) (t : ℕ) → row_of (map first_entry base) key t ≡ find key_cmp key base
-row_of-first [] key t = refl
-row_of-first (r ∷ base) key t = elim (eq_by_cmp key_cmp key r.0) as (λ b. row_from None t (versions_in (cond b (Some (first_entry r).1) (find key_cmp key (map first_entry base)))) ≡ cond b (Some r.1) (find key_cmp key base)) [
-  | true ↦ ap (λ b. cond b (Some r.1) None) (from_start t)
-  | false ↦ row_of-first base key t
-]
-
-below_all-first : (x : List ℕ) (base : Rows) → below_all key_cmp x (map first_entry base) ≡ below_all key_cmp x base
-below_all-first x [] = refl
-below_all-first x (r ∷ base) = ap (λ b. is_lt (key_cmp x r.0) && b) (below_all-first x base)
-
-is_sorted-first : (base : Rows) → is_sorted key_cmp (map first_entry base) ≡ is_sorted key_cmp base
-is_sorted-first [] = refl
-is_sorted-first (r ∷ base) = ap (λ b. b && is_sorted key_cmp (map first_entry base)) (below_all-first r.0 base) ∙ ap (λ b. below_all key_cmp r.0 base && b) (is_sorted-first base)
-
-one_ordered : (v : Versions) → length v ≡ 1 → AreOrdered v
-one_ordered v one i j d le lt = let same : i ≡ j = omega arith in subst (λ (k : ℕ). (get_or v i d).0 ≤ (get_or v k d).0) same (omega arith)
-
-all_ordered : (base : Rows) → AllByRecursion (λ (e : List ℕ × Versions). AreOrdered e.1) (map first_entry base)
-all_ordered [] = tt
-all_ordered (r ∷ base) = (one_ordered (first_entry r).1 refl, all_ordered base)
-
-pub table-first : (base : Rows) → is_sorted key_cmp base ≡ true → IsTable (map first_entry base)
-table-first base sorted = record { rising = is_sorted-first base ∙ sorted; ordered = all_ordered base }
-
-pub up_to-first : (ts : ℕ) (base : Rows) → IsTableUpTo ts (map first_entry base)
-up_to-first ts [] = tt
-up_to-first ts (r ∷ base) = ((omega arith, tt), up_to-first ts base)
 
 pub table_later : (ts t : ℕ) (es : Entries) → ts ≤ t → IsTableUpTo ts es → IsTableUpTo t es
 table_later ts t [] le h = tt
@@ -63,17 +30,18 @@ pub record AreDone (o : Opening) (k : ℕ) (es : Entries) : Type 0 where
   pub rest : Rise low (map write_of (drop k o.writes.items))
   pub ends : IsUpTo o.c (map write_of (drop k o.writes.items))
 
-pub starts : (o : Opening) (es : Entries) → IsOpening o → es ≡ map first_entry o.rows.items → AreDone o 0 es
-starts o es is same =
-    subst (λ (entries : Entries). AreDone o 0 entries) (sym same) (record {
-      table = table-first o.rows.items is.past.is.rows;
-      shows = row_of-first o.rows.items;
+pub starts : (o : Opening) (es : Entries) (rows : Rows) → IsOpening o → rows ≡ o.rows.items → HasRows rows es → AreDone o 0 es
+starts o es rows is same had =
+    let has = subst (λ (rs : Rows). HasRows rs es) same had in
+    record {
+      table = has.table;
+      shows = λ q t. has.shows q t ∙ inserted q o.rows.items t is.past.is.rows;
       low = o.a;
-      up_to = up_to-first o.a o.rows.items;
+      up_to = table_later 0 o.a es (omega arith) has.up_to;
       below = is.past.mark;
       rest = is.past.is.writes;
       ends = is.past.writes;
-    })
+    }
 
 -- the next write lies above what is done, and not above the last timestamp
 rest_at : (o : Opening) (k : ℕ) (d : OpeningWrite) → k < length o.writes.items → map write_of (drop k o.writes.items) ≡ write_of (get_or o.writes.items k d) ∷ map write_of (drop (k + 1) o.writes.items)

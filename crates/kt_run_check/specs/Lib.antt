@@ -6,6 +6,7 @@ pub mod Faults
 pub mod Walks
 pub mod Openings
 pub mod Tables
+pub mod Bare
 pub mod TableLaws
 pub mod Grown
 pub mod Verdicts

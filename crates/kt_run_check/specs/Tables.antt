@@ -79,7 +79,3 @@ pub record IsTableOf (c : ℕ) (rows : ℕ → Rows) (entries : Entries) : Type 
   pub table : IsTable entries
   pub up_to : IsTableUpTo c entries
   pub shows : Shows entries rows
-
--- a key with its row from the first time on
-abbrev pub first_entry : List ℕ × Row → List ℕ × Versions
-first_entry r = (r.0, (0, Whole (Some r.1)) ∷ [])

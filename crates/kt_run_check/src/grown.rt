@@ -9,6 +9,7 @@ ghost use Rattle.kt_run_check.specs.Grown.{BeginsLater, Grows, end_of};
 ghost use Rattle.kt_schema.specs.Columns.{fill_of};
 
 use crate::follow::ops_at;
+use crate::keys::run_keys;
 use crate::opening::{Opening, table_of};
 use crate::versions::Versions;
 use crate::writes::put_write;
@@ -49,7 +50,8 @@ pub(crate) fn run_table(
     ensures { IfOk result (λ entries. IsTableOf (end_of (work_of cells script.now) (past_of opening.now) opening.now.c events.now).c (rows_at (end_of (work_of cells script.now) (past_of opening.now) opening.now.c events.now).past) entries.items) }
 {
     let fill = script.schema.fill(alloc)?;
-    let mut entries = table_of(alloc, opening)?;
+    let keys = run_keys(alloc, opening, script, events)?;
+    let mut entries = table_of(alloc, opening, keys)?;
     for event in events {
         put_line(alloc, &mut entries, script, &fill, event)?;
     }

@@ -12,6 +12,7 @@ mod follow;
 mod grown;
 pub mod history;
 pub mod judging;
+mod keys;
 mod kinds;
 mod lists;
 mod machine;

@@ -1,10 +1,11 @@
 //! Where a run begins: the rows at the ancient history mark, and the writes above it.
-ghost use Rattle.std.specs.Prelude.{◌≡◌, ◌∷◌, [], Some, IfOk, map};
+ghost use Rattle.std.specs.Prelude.{◌≡◌, ◌-◌, length, slice_get, IfOk, OnOk};
 ghost use Rattle.kt_history.specs.History.{rows_at};
-ghost use Rattle.kt_run_check.specs.declared.versions.Version.TheVariants.{Whole};
 ghost use Rattle.kt_run_check.specs.Openings.{past_of, IsOpening};
-ghost use Rattle.kt_run_check.specs.Tables.{IsTableOf, first_entry};
+ghost use Rattle.kt_run_check.specs.Tables.{IsTableOf};
+ghost use Rattle.kt_run_check.specs.Bare.{is_above, AreBare, HasRows};
 
+use crate::table::put_change;
 use crate::versions::Versions;
 use crate::writes::put_changes;
 use kt_base::{Cells, NoMemory, Octets};
@@ -28,29 +29,57 @@ pub struct Opening {
     pub writes: Vec<OpeningWrite>,
 }
 
-// Each key with its row from the first time on.
-fn first_entries(
-    alloc: Global,
-    rows: &[(Octets, Cells)],
-) -> Result<Vec<(Octets, Versions)>, NoMemory>
-    ensures { IfOk result (λ entries. entries.items ≡ map first_entry rows.now) }
+// Whether a key is above all that are there.
+fn is_above(entries: &[(Octets, Versions)], key: &[u8]) -> bool
+    ensures { result ≡ is_above (slice_get entries.now (length entries.now - 1)) key.now }
 {
-    let mut entries = Vec::with_capacity(alloc, rows.len())?;
-    for (key, row) in rows {
-        entries.push((key.copy()?, Versions::first(alloc, row.copy()?)?))?;
+    match entries.last() {
+        Some((last, _)) => last.as_slice().cmp(&key).is_lt(),
+        None => true,
+    }
+}
+
+// Those of some keys that rise, and nothing that became of them.
+fn bare_entries(alloc: Global, keys: Vec<&[u8]>) -> Result<Vec<(Octets, Versions)>, NoMemory>
+    ensures { IfOk result (λ entries. AreBare entries.items) }
+{
+    let mut entries = Vec::with_capacity(alloc, keys.len())?;
+    for key in keys {
+        if is_above(&entries, key) {
+            entries.push((Octets::from_slice(alloc, key)?, Versions::new(alloc)))?;
+        }
     }
     Ok(entries)
 }
 
-/// The table of an opening.
+// The rows at the mark, under keys of which nothing became yet.
+fn put_rows(
+    alloc: Global,
+    entries: &mut Vec<(Octets, Versions)>,
+    rows: &[(Octets, Cells)],
+) -> Result<(), NoMemory>
+    requires { AreBare entries.old.items }
+    ensures { OnOk result (HasRows rows.now entries.new.items) }
+{
+    for (key, row) in rows {
+        let change = Change::Ins(row.copy()?);
+        put_change(alloc, entries, key.as_slice(), 0, &change)?;
+    }
+    Ok(())
+}
+
+/// The table of an opening. The keys are those that may come to have rows, in their order: where one is missing or out of
+/// order, it is put in its place when it has one.
 pub(crate) fn table_of(
     alloc: Global,
     opening: &Opening,
+    keys: Vec<&[u8]>,
 ) -> Result<Vec<(Octets, Versions)>, NoMemory>
     requires { IsOpening opening.now }
     ensures { IfOk result (λ entries. IsTableOf opening.now.c (rows_at (past_of opening.now)) entries.items) }
 {
-    let mut entries = first_entries(alloc, &opening.rows)?;
+    let mut entries = bare_entries(alloc, keys)?;
+    put_rows(alloc, &mut entries, &opening.rows)?;
     for write in &opening.writes {
         put_changes(alloc, &mut entries, write.ts, &write.changes)?;
     }

@@ -192,3 +192,22 @@ fn rows_are_those_of_their_time(rt: HostRuntime) -> Result<(), Fail> {
     );
     Ok(())
 }
+
+// Keys that are inserted out of their order.
+const SCATTERED: &[u8] =
+    b"table\ncolumn id int64 key\ncolumn v string\nsession\ninsert 3 \"c\"\ninsert 1 \"a\" ; insert 2 \"b\"\nscan at 4097\n";
+
+const GATHERED: &[u8] =
+    b"session 1\nat 4096 ok\nat 4097 ok ok\nrows 4097 3\n1 \"a\"\n2 \"b\"\n3 \"c\"\nhistory\nbegin 1 1 4096 1\nend 1 1 4096\nbegin 1 2 4097 1\nend 1 2 4097\nrows 1 3 4097\ntablet ahm 0 last 4097 rowsets 0\n";
+
+#[test]
+fn keys_may_come_in_any_order(rt: HostRuntime) -> Result<(), Fail> {
+    let alloc = rt.alloc();
+    let script = read_script(alloc, SCATTERED)?;
+    let output = read_output(alloc, GATHERED)?;
+    assert_eq!(rt;
+        judge(alloc, &empty(alloc), &script, 1024, &output)?,
+        Verdict::Yes
+    );
+    Ok(())
+}

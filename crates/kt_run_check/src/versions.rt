@@ -1,5 +1,5 @@
 //! What became of the row of one key, by time.
-ghost use Rattle.std.specs.Prelude.{◌≡◌, ◌≤◌, ◌++◌, ◌∷◌, [], ℕ, length, take, nat_le, is_some, true, false, Some, None, IfOk, OnOk, if◌then◌else◌};
+ghost use Rattle.std.specs.Prelude.{◌≡◌, ◌≤◌, ◌++◌, ◌∷◌, [], ℕ, length, take, nat_le, is_some, true, false, None, IfOk, OnOk, if◌then◌else◌};
 ghost use Rattle.std.specs.List.Sorted.{IsPartitionPoint};
 ghost use Rattle.std.specs.Option.{option_copied};
 ghost use Rattle.kt_history.specs.Rows.{apply};
@@ -134,15 +134,6 @@ impl Versions {
             list: Vec::new(alloc),
             spare: 0,
         }
-    }
-
-    /// A row from the first time on.
-    pub(crate) fn first(alloc: Global, row: Cells) -> Result<Versions, NoMemory>
-        ensures { IfOk result (λ versions. versions ≡ (0, Version.Whole (Some row)) ∷ []) }
-    {
-        let mut versions = Versions::new(alloc);
-        versions.put_whole(0, Some(row))?;
-        Ok(versions)
     }
 
     // The versions at or below a time.

@@ -1,10 +1,8 @@
-use Rattle.std.proofs.Common.{ap, ◌∙◌, map}
-use Rattle.kt_run_check.specs.Tables.{first_entry}
 use Rattle.kt_run_check.proofs.Opened.{starts, next_later, done_more, all_done}
 use Rattle.kt_run_check.proofs.opening.table_of.Goals as goal
 
 pub loop-write-init : goal.loop-write-init
-loop-write-init c = starts c.args.opening.now c.in_ok-entries.entries.items c.requires (c.in_ok-entries.ensures ∙ ap (map first_entry) c.deref.ensures.value)
+loop-write-init c = starts c.args.opening.now c.put_rows.new.entries.items c.deref.result.now c.requires c.deref.ensures.value c.in_ok-put_rows.ensures
 
 pub put_changes-requires-clause-later : goal.put_changes-requires-clause-later
 put_changes-requires-clause-later c = next_later c.args.opening.now c.loop-write.write-index c.loop-write.entries.items c.write-item.result c.deref-write-items.result.now c.loop-write.invariant c.deref-write-items.ensures.value c.loop-write-test.true c.write-item.is
