@@ -17,7 +17,7 @@ use Rattle.kt_script.specs.Texts.{spaced, words, outcome_word, line_words, line_
 use Rattle.kt_script.specs.Laws.{Fits64, Fits32, LastFits, short_of_reply}
 use Rattle.kt_script.specs.Outputs.{outcome_in, first_in, event_in, last_in, IsRowLine, LineHolds, EventHolds}
 use Rattle.kt_script.specs.Reread.{with_rows}
-use Rattle.kt_script.specs.Places.{Either, Chain, IsWord}
+use Rattle.kt_script.specs.Fronts.{Either, Chain, IsWord}
 use Rattle.kt_script.specs.OutForms.{LONG, SHORT, IsWriteLine, IsNumbersLine, IsCounted, AreCounts, IsForm, IsOutcome, IsEventLine, IsLastLine, IsReplyLine}
 use Rattle.kt_script.proofs.ToldLines.{first_is, event_is, last_is, outcome_is}
 use Rattle.kt_script.proofs.ToldTexts.{first_back, event_back, last_told}

@@ -8,7 +8,8 @@ use Rattle.std.proofs.lemmas.List.{append-nil, take-append-le, take_all, take_at
 use Rattle.std.proofs.lemmas.Fmt.{decimal_digit, decimal_step, decimal_by_steps, decimal_nonempty, first_decimal, decimal_injective}
 use Rattle.std.proofs.Math.Seq.{take-append-add}
 use Rattle.kt_base.specs.Literals.{is_digit}
-use Rattle.kt_script.specs.Places.{IsFault, IsNumber, IsBehind, longer}
+use Rattle.kt_script.specs.Places.{IsFault}
+use Rattle.kt_script.specs.Fronts.{IsNumber, IsBehind, longer}
 use Rattle.kt_script.proofs.Places.{byte_on, byte_off, no_bytes}
 
 -- ---- the front of a number is a number, and no greater

@@ -7,7 +7,8 @@ use Rattle.std.proofs.lemmas.Bool.{and_parts}
 use Rattle.std.proofs.lemmas.Fmt.{decimal_nonempty}
 use Rattle.std.proofs.Math.Seq.{take-add}
 use Rattle.kt_base.specs.Literals.{is_digit}
-use Rattle.kt_script.specs.Places.{IsFault, Chain, IsWord, IsNumber}
+use Rattle.kt_script.specs.Places.{IsFault}
+use Rattle.kt_script.specs.Fronts.{Chain, IsWord, IsNumber}
 use Rattle.kt_script.specs.OutForms.{IsCounted, AreCounts, IsForm, IsFront}
 use Rattle.kt_script.proofs.Places.{Parted, second_at, first_at, word_parted}
 use Rattle.kt_script.proofs.WordBytes.{word_whole, word_within}

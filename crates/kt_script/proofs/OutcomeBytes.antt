@@ -9,7 +9,8 @@ use Rattle.kt_history.specs.declared.change.Outcome.{Outcome}
 use Rattle.kt_history.specs.declared.change.Outcome.TheVariants.{Done}
 use Rattle.kt_script.specs.Texts.{spaced, outcome_word}
 use Rattle.kt_script.specs.Outputs.{outcome_in}
-use Rattle.kt_script.specs.Places.{CanGoOn, IsFault, Chain, IsWord}
+use Rattle.kt_script.specs.Places.{CanGoOn, IsFault}
+use Rattle.kt_script.specs.Fronts.{Chain, IsWord}
 use Rattle.kt_script.specs.OutForms.{AreOutcomes, IsOutcome, IsSpacedOutcome, IsFront}
 use Rattle.kt_script.proofs.Cuts.{Without}
 use Rattle.kt_script.proofs.InLine.{outcome_ink}

@@ -3,7 +3,8 @@ use Rattle.std.proofs.Common.{◌≡◌, ℕ, suc, ◌+◌, ◌<◌, ◌≤◌, 
 use Rattle.std.proofs.lemmas.List.{append-nil, take-append-drop, take-take, length-take-le}
 use Rattle.std.proofs.Math.Seq.{take-append_seam, take-append-add}
 use Rattle.std.proofs.lemmas.Bool.{cases_order}
-use Rattle.kt_script.specs.Places.{CanGoOn, IsFault, IsFurther, Either, Chain, IsWord}
+use Rattle.kt_script.specs.Places.{CanGoOn, IsFault}
+use Rattle.kt_script.specs.Fronts.{IsFurther, Either, Chain, IsWord}
 
 -- what goes on with more bytes goes on with fewer
 pub shorter : (L : List ℕ → Type 0) (text : List ℕ) (m n : ℕ) → m ≤ n → CanGoOn L (take n text) → CanGoOn L (take m text)

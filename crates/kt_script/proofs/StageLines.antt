@@ -9,7 +9,8 @@ use Rattle.kt_base.proofs.Decimals.{same_text}
 use Rattle.kt_script.specs.Texts.{session_line}
 use Rattle.kt_script.specs.Laws.{Fits64}
 use Rattle.kt_script.specs.Outputs.{first_in, event_in, last_in, IsRowLine}
-use Rattle.kt_script.specs.Places.{IsFault, Either, Chain, IsWord}
+use Rattle.kt_script.specs.Places.{IsFault}
+use Rattle.kt_script.specs.Fronts.{Either, Chain, IsWord}
 use Rattle.kt_script.specs.OutForms.{IsEventLine, IsLastLine, IsReplyLine}
 use Rattle.kt_script.specs.Stages.{sessions, history, begins_session, MayStand}
 use Rattle.kt_script.proofs.Places.{same_kind, second_at, first_at, word_parted}

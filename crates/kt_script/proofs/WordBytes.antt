@@ -3,7 +3,8 @@ use Rattle.std.proofs.Common.{◌≡◌, ℕ, suc, ◌+◌, ◌<◌, ◌≤◌, 
 use Rattle.std.specs.Prelude.{◌==◌, if◌then◌else◌}
 use Rattle.std.proofs.lemmas.Bool.{eqb-true, eqb-false, eq-eqb, ne_eqb}
 use Rattle.std.proofs.lemmas.List.{append-nil, drop_more, drop_all, nil_from_length, length-take-le}
-use Rattle.kt_script.specs.Places.{IsFault, IsWord}
+use Rattle.kt_script.specs.Places.{IsFault}
+use Rattle.kt_script.specs.Fronts.{IsWord}
 use Rattle.kt_script.proofs.Places.{byte_on, byte_off, no_bytes}
 
 -- how many bytes two texts begin with alike

@@ -14,6 +14,7 @@ pub mod Fit
 pub mod Spelled
 pub mod Print
 pub mod Places
+pub mod Fronts
 pub mod Outputs
 pub mod Lex
 pub mod OutForms

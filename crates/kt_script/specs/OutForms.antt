@@ -4,7 +4,8 @@ use Rattle.std.specs.List.{flat_map}
 use Rattle.kt_history.specs.declared.change.Outcome.{Outcome}
 use Rattle.kt_script.specs.Texts.{spaced, outcome_word}
 use Rattle.kt_script.specs.Outputs.{outcome_in, first_in, event_in, last_in}
-use Rattle.kt_script.specs.Places.{IsFault, Chain, IsWord, IsNumber}
+use Rattle.kt_script.specs.Places.{IsFault}
+use Rattle.kt_script.specs.Fronts.{Chain, IsWord, IsNumber}
 
 -- the greatest number of 64 bits
 abbrev pub LONG : ℕ

@@ -2,7 +2,8 @@
 //! Each place is that of the first byte with which no spelling goes on, or the length of the text where bytes are missing.
 
 ghost use Rattle.std.specs.Prelude.{◌≡◌, ◌<◌, ◌≤◌};
-ghost use Rattle.kt_script.specs.Places.{IsFault, IsWord, IsNumber, IsBehind, longer};
+ghost use Rattle.kt_script.specs.Places.{IsFault};
+ghost use Rattle.kt_script.specs.Fronts.{IsWord, IsNumber, IsBehind, longer};
 ghost use Rattle.kt_script.specs.Outputs.{is_row, IsRowLine};
 
 use crate::lex::{Lex, is_digit};

@@ -2,7 +2,8 @@
 
 ghost use Rattle.std.specs.Prelude.{◌+◌, ◌<◌, ◌^◌};
 ghost use Rattle.kt_script.specs.Texts.{session_line};
-ghost use Rattle.kt_script.specs.Places.{IsFault, IsFurther, IsWord};
+ghost use Rattle.kt_script.specs.Places.{IsFault};
+ghost use Rattle.kt_script.specs.Fronts.{IsFurther, IsWord};
 ghost use Rattle.kt_script.specs.OutForms.{IsCounted, AreCounts, IsForm, IsFront, AreOutcomes, IsOutcome, IsSpacedOutcome, IsWriteLine, IsNumbersLine, IsEventLine, IsLastLine, IsReplyLine};
 ghost use Rattle.kt_script.specs.Stages.{sessions, history, MayStand};
 

@@ -1,5 +1,6 @@
 use Rattle.std.proofs.Common.{◌≡◌, length, subst, sym, ◌∙◌, arith}
-use Rattle.kt_script.specs.Places.{IsFault, IsBehind}
+use Rattle.kt_script.specs.Places.{IsFault}
+use Rattle.kt_script.specs.Fronts.{IsBehind}
 use Rattle.kt_script.proofs.NumberBytes.{digits_stop, digits_all, digits_fault}
 use Rattle.kt_script.proofs.fronts.digits_front.Goals as goal
 

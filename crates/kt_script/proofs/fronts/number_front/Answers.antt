@@ -1,7 +1,8 @@
 use Rattle.std.proofs.Common.{refl, sym, subst, arith}
 use Rattle.std.specs.Fmt.{decimal}
 use Rattle.std.proofs.lemmas.List.{nil_from_length}
-use Rattle.kt_script.specs.Places.{IsFault, IsNumber}
+use Rattle.kt_script.specs.Places.{IsFault}
+use Rattle.kt_script.specs.Fronts.{IsNumber}
 use Rattle.kt_script.proofs.Places.{no_bytes}
 use Rattle.kt_script.proofs.NumberBytes.{zero_fault, digit_fault, no_digit}
 use Rattle.kt_script.proofs.fronts.number_front.Goals as goal

@@ -1,5 +1,6 @@
 use Rattle.std.proofs.Common.{subst}
-use Rattle.kt_script.specs.Places.{IsFault, IsWord}
+use Rattle.kt_script.specs.Places.{IsFault}
+use Rattle.kt_script.specs.Fronts.{IsWord}
 use Rattle.kt_script.proofs.WordBytes.{common_apart, common_text, common_word, word_fault}
 use Rattle.kt_script.proofs.fronts.word_front.Goals as goal
 

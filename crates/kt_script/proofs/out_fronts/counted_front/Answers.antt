@@ -1,5 +1,6 @@
 use Rattle.std.proofs.Common.{subst, arith}
-use Rattle.kt_script.specs.Places.{IsFault, IsNumber}
+use Rattle.kt_script.specs.Places.{IsFault}
+use Rattle.kt_script.specs.Fronts.{IsNumber}
 use Rattle.kt_script.proofs.OutForms.{counted_short, counted_none, counted_some}
 use Rattle.kt_script.proofs.out_fronts.counted_front.Goals as goal
 

@@ -1,7 +1,8 @@
 use Rattle.std.proofs.Common.{◌≡◌, ℕ, ◌+◌, List, ◌++◌, drop, Ok, refl, subst, arith}
 use Rattle.std.specs.Prelude.{codes}
 use Rattle.std.specs.Fmt.{decimal}
-use Rattle.kt_script.specs.Places.{IsFault, Chain}
+use Rattle.kt_script.specs.Places.{IsFault}
+use Rattle.kt_script.specs.Fronts.{Chain}
 use Rattle.kt_script.specs.OutForms.{LONG, IsCounted, IsFront, IsNumbersLine}
 use Rattle.kt_script.proofs.OutForms.{word_spaced, chain_spaced, chain_stop, chain_more}
 use Rattle.kt_script.proofs.out_fronts.numbers_front.Goals as goal

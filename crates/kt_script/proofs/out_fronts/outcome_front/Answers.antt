@@ -1,6 +1,7 @@
 use Rattle.std.proofs.Common.{◌≡◌, ℕ, List, [], ◌∷◌, take, true, sym, ap, subst, ◌∙◌, arith}
 use Rattle.std.specs.Prelude.{is_some}
-use Rattle.kt_script.specs.Places.{IsFault, IsWord}
+use Rattle.kt_script.specs.Places.{IsFault}
+use Rattle.kt_script.specs.Fronts.{IsWord}
 use Rattle.kt_script.specs.Outputs.{outcome_in}
 use Rattle.kt_script.proofs.OutcomeBytes.{outcome_missing, outcome_there, outcome_wrong}
 use Rattle.kt_script.proofs.out_fronts.outcome_front.Goals as goal

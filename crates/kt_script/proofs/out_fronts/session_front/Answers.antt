@@ -2,7 +2,8 @@ use Rattle.std.proofs.Common.{◌≡◌, ◌+◌, ◌<◌, ◌≤◌, ◌++◌, 
 use Rattle.std.specs.Prelude.{codes}
 use Rattle.std.specs.Fmt.{decimal}
 use Rattle.std.proofs.lemmas.List.{append-nil}
-use Rattle.kt_script.specs.Places.{IsFault, IsWord}
+use Rattle.kt_script.specs.Places.{IsFault}
+use Rattle.kt_script.specs.Fronts.{IsWord}
 use Rattle.kt_script.specs.Texts.{session_line}
 use Rattle.kt_script.proofs.StageLines.{first_short, second_more}
 use Rattle.kt_script.proofs.out_fronts.session_front.Goals as goal

@@ -1,5 +1,6 @@
 use Rattle.std.proofs.Common.{◌≡◌, ◌+◌, suc, subst, arith}
-use Rattle.kt_script.specs.Places.{IsFault, IsWord}
+use Rattle.kt_script.specs.Places.{IsFault}
+use Rattle.kt_script.specs.Fronts.{IsWord}
 use Rattle.kt_script.specs.Texts.{session_line}
 use Rattle.kt_script.proofs.Places.{further_of}
 use Rattle.kt_script.proofs.StageLines.{fault_first, fault_later}
