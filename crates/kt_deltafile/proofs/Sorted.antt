@@ -3,9 +3,9 @@ use Rattle.std.proofs.Common.{◌≡◌, ◌≢◌, ℕ, zero, suc, ◌+◌, ◌
 use Rattle.std.specs.Prelude.{◌⊎◌}
 use Rattle.std.proofs.lemmas.Bool.{cases_lt, ltb-true, lt-ltb, leb-true, eq-eqb, ne_eqb}
 use Rattle.std.proofs.lemmas.List.{length-take}
-use Rattle.kt_records.proofs.Items.{each_at}
+use Rattle.kt_cells.proofs.Items.{each_at}
 use Rattle.kt_history.specs.declared.changes.Delta.{Delta}
-use Rattle.kt_records.specs.Rules.{EachAfter}
+use Rattle.kt_cells.specs.Rules.{EachAfter}
 use Rattle.kt_deltafile.specs.declared.file.Way.{Way}
 use Rattle.kt_deltafile.specs.declared.file.Way.TheVariants.{Redo, Undo}
 use Rattle.kt_deltafile.specs.Order.{in_order, ordinal_at, ts_at, last_ordinal, last_ts, may_follow, IsSorted}

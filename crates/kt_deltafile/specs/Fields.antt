@@ -6,7 +6,7 @@ use Rattle.kt_history.specs.declared.change.Change.{Change}
 use Rattle.kt_history.specs.declared.change.Change.TheVariants.{Ins, Upd, Del}
 use Rattle.kt_history.specs.declared.changes.Delta.{Delta}
 use Rattle.kt_bytes.specs.Places.{IsSpelled}
-use Rattle.kt_records.specs.Fields.{cell_list_fields}
+use Rattle.kt_cells.specs.Fields.{cell_list_fields}
 use Rattle.kt_deltafile.specs.File.{FileView}
 use Rattle.kt_deltafile.specs.Rules.{FileFits}
 use Rattle.kt_deltafile.specs.Spelling.{way_byte, ktd1}

@@ -1,8 +1,8 @@
 //! Lists of cells, added behind some bytes.
 ghost use Rattle.std.specs.Prelude.{◌≡◌, ◌<◌, ◌^◌, ◌++◌, [], length, OnOk};
 ghost use Rattle.std.specs.List.{flat_map};
-ghost use Rattle.kt_records.specs.Spelling.{cell as cell_bytes, listed_cell, cell_list};
-ghost use Rattle.kt_records.specs.Rules.{EachAfter, CellFits, FollowingCell};
+ghost use Rattle.kt_cells.specs.Spelling.{cell as cell_bytes, listed_cell, cell_list};
+ghost use Rattle.kt_cells.specs.Rules.{EachAfter, CellFits, FollowingCell};
 
 use kt_base::{Cell, Cells, NoMemory, Octets};
 

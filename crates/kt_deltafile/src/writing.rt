@@ -1,7 +1,7 @@
 //! Spelling a delta file.
 ghost use Rattle.std.specs.Prelude.{◌≡◌, ◌<◌, ◌^◌, ◌++◌, [], IfOk, OnOk};
 ghost use Rattle.std.specs.List.{flat_map};
-ghost use Rattle.kt_records.specs.Rules.{EachAfter};
+ghost use Rattle.kt_cells.specs.Rules.{EachAfter};
 ghost use Rattle.kt_deltafile.specs.Rules.{ChangeFits, Follows, IsFile};
 ghost use Rattle.kt_deltafile.specs.Spelling.{way_byte, change_bytes, record_bytes, spelling};
 

@@ -13,9 +13,9 @@ use Rattle.kt_base.specs.declared.cell.Cell.TheVariants as cells
 use Rattle.kt_history.specs.Operations.{cell_len}
 use Rattle.std.proofs.lemmas.List.Concat.{flat_map-cons}
 use Rattle.std.proofs.lemmas.List.Sums.{sum_by-cons}
-use Rattle.kt_records.specs.Spelling.{cell, listed_cell, cell_list}
-use Rattle.kt_records.specs.Reading.{cells_at}
-use Rattle.kt_records.proofs.Cells as listed
+use Rattle.kt_cells.specs.Spelling.{cell, listed_cell, cell_list}
+use Rattle.kt_cells.specs.Reading.{cells_at}
+use Rattle.kt_cells.proofs.Cells as listed
 use Rattle.kt_pool.specs.Contents.{Contents, bytes_at, overwritten}
 use Rattle.kt_tree.proofs.Places.{bytes_some}
 use Rattle.kt_memrowset.specs.declared.link.Head.{Head}

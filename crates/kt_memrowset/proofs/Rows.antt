@@ -19,7 +19,7 @@ use Rattle.kt_pool.specs.declared.place.Place.{Place}
 use Rattle.kt_tree.specs.Entries.{Entry, order, is_at, value_of}
 use Rattle.kt_tree.specs.Trees.{place_at, entries}
 use Rattle.kt_memrowset.specs.declared.link.Head.{Head}
-use Rattle.kt_records.specs.Reading.{cells_at}
+use Rattle.kt_cells.specs.Reading.{cells_at}
 use Rattle.kt_memrowset.specs.Links.{nothing, Link, IsLink, link_at, head_of, Chains, chain, cells_of, times, newest, IsChainAt, step_of, steps_of}
 use Rattle.kt_memrowset.specs.Stores.{hist_of, row_at, stays, RowStands, EachValue, in_rows, IsStore, Leads}
 use Rattle.kt_memrowset.specs.declared.store.MemRowSet.{MemRowSet}

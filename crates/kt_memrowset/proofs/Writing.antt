@@ -11,7 +11,7 @@ use Rattle.kt_pool.specs.Contents.{Contents, Stands, at_cell, bytes_at, cells_of
 use Rattle.kt_pool.proofs.Callers.{at_other, size_same, reserved_after, bytes_placed, stands_placed}
 use Rattle.kt_tree.proofs.Places.{stands_inside, some_bytes, used_after}
 use Rattle.kt_history.specs.Rows.{Row}
-use Rattle.kt_records.specs.Spelling.{listed_cell}
+use Rattle.kt_cells.specs.Spelling.{listed_cell}
 use Rattle.kt_memrowset.specs.declared.link.Head.{Head}
 use Rattle.kt_memrowset.specs.Links.{nothing, kind_byte, spelling, HeadFits, CellsFit, IsLink}
 use Rattle.kt_tree.specs.Takes.{Takes}

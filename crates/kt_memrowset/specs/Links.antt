@@ -7,9 +7,9 @@ use Rattle.kt_history.specs.declared.target.Kindly.{Kindly}
 use Rattle.kt_history.specs.declared.target.Kindly.TheVariants.{Ins, Upd, Del}
 use Rattle.kt_history.specs.Rows.{Row}
 use Rattle.kt_histlaws.specs.Histories.{Steps}
-use Rattle.kt_records.specs.Spelling.{cell_list}
-use Rattle.kt_records.specs.Rules.{EachAfter, FollowingCell}
-use Rattle.kt_records.specs.Reading.{cells_at}
+use Rattle.kt_cells.specs.Spelling.{cell_list}
+use Rattle.kt_cells.specs.Rules.{EachAfter, FollowingCell}
+use Rattle.kt_cells.specs.Reading.{cells_at}
 use Rattle.kt_pool.specs.Contents.{Contents, at_cell, bytes_at}
 use Rattle.kt_memrowset.specs.declared.link.Head.{Head}
 

@@ -11,7 +11,7 @@ use kt_base::{Cells, NoMemory, Octets};
 use kt_bytes::Stop;
 use kt_history::{Change, KeyChange, Kindly, apply};
 use kt_pool::{Place, Pool};
-use kt_records::cell_lists::cells_of;
+use kt_cells::lists::cells_of;
 use std::alloc::Global;
 
 /// Whether there is a row after a change of this kind.

@@ -1,5 +1,4 @@
 pub mod Items
-pub mod Cells
 pub mod Operations
 pub mod Commits
 pub mod Records

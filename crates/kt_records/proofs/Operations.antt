@@ -22,7 +22,7 @@ use Rattle.kt_records.specs.Reading.{kind_at, listed_cell_at, cell_list_at, is_k
 use Rattle.kt_bytes.proofs.Formats.{Part}
 use Rattle.kt_bytes.proofs.Leaves.{same_reader, Passes, number_fields, number_part, IsText, text_at, text_fields, text_part, byte_at_front, code_fields, code_part, zero_bytes}
 use Rattle.kt_bytes.proofs.Joins.{both_part, same_part, made_at, made_part}
-use Rattle.kt_records.proofs.Cells.{RisingCells, counted_cells_part}
+use Rattle.kt_cells.proofs.Cells.{RisingCells, counted_cells_part}
 use Rattle.kt_bytes.proofs.Free.{free_place}
 
 -- ---- kinds

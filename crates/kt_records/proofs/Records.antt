@@ -23,7 +23,7 @@ use Rattle.kt_bytes.proofs.Formats.{Part}
 use Rattle.kt_bytes.proofs.Leaves.{same_reader, Passes, number_fields, number_part, any_number, byte_at_front, code_fields, code_part}
 use Rattle.kt_bytes.proofs.Joins.{both_part, same_part, made_at, made_part, many_part, concat_items}
 use Rattle.kt_bytes.proofs.Whole.{found, again, place, told_place}
-use Rattle.kt_records.proofs.Cells.{cell_list_spelled}
+use Rattle.kt_cells.proofs.Cells.{cell_list_spelled}
 use Rattle.kt_records.proofs.Operations.{operation_part}
 use Rattle.kt_records.proofs.Commits.{Rows, rows_part}
 

@@ -3,5 +3,4 @@ pub mod Rules
 pub mod Fields
 pub mod Numbers
 pub mod Reading
-pub mod Tail
 pub mod Laws

@@ -2,9 +2,8 @@
 -- a fault by themselves; these are the steps that find it. A fault is told by how many bytes stand from its place to the
 -- end: none where bytes are missing, and all from its first byte on where a field is wrong.
 use Rattle.std.specs.Prelude.{ℕ, zero, suc, ◌+◌, ◌-◌, ◌^◌, Bool, true, false, not, ◌&&◌, ◌||◌, List, [], ◌∷◌, length, Result, Ok, Err, nat_le, ◌==◌, if◌then◌else◌}
-use Rattle.std.specs.Int.{w16, w32, w64, cast_signed}
+use Rattle.std.specs.Int.{w16, w64}
 use Rattle.kt_base.specs.declared.cell.Cell.{Cell}
-use Rattle.kt_base.specs.declared.cell.Cell.TheVariants as cells
 use Rattle.kt_history.specs.declared.change.Outcome.{Outcome}
 use Rattle.kt_history.specs.declared.change.Outcome.TheVariants.{Done, Present, Absent, Ignored}
 use Rattle.kt_history.specs.declared.operation.OpKind.{OpKind}
@@ -15,45 +14,9 @@ use Rattle.kt_history.specs.declared.target.Target.TheVariants as stores
 use Rattle.kt_records.specs.declared.entry.CommitRow.{CommitRow}
 use Rattle.kt_records.specs.declared.entry.Entry.{Entry}
 use Rattle.kt_records.specs.declared.entry.Entry.TheVariants.{Replicate, Commit}
-use Rattle.kt_bytes.specs.Reading.{◌>>=◌, number_at, checked_at, bytes_at, counted_at, many_at, with_offset}
-use Rattle.kt_records.specs.Rules.{next_id, may_list, has_key, may_change, may_hold}
-
-unfoldable pub flag_at : List ℕ → Result (Bool × List ℕ) ℕ
-flag_at [] = Err 0
-flag_at (zero ∷ rest) = Ok (false, rest)
-flag_at (suc zero ∷ rest) = Ok (true, rest)
-flag_at (suc (suc b) ∷ rest) = Err (suc (length rest))
-
-unfoldable pub cell_at : List ℕ → Result (Cell × List ℕ) ℕ
-cell_at [] = Err 0
-cell_at (zero ∷ rest) = Ok (cells.Null, rest)
-cell_at (suc zero ∷ rest) = do
-  b ← flag_at rest
-  Ok (cells.Bool b.0, b.1)
-cell_at (suc (suc zero) ∷ rest) = do
-  n ← number_at w64 rest
-  Ok (cells.Int (cast_signed w64 n.0), n.1)
-cell_at (suc (suc (suc zero)) ∷ rest) = do
-  text ← counted_at w32 rest
-  Ok (cells.Bytes text.0, text.1)
-cell_at (suc (suc (suc (suc b))) ∷ rest) = Err (suc (length rest))
-
--- an id of a list of n cells, above those before it, that leaves ids for the cells behind it
-abbrev pub is_next_id : ℕ → List (ℕ × Cell) → ℕ → Bool
-is_next_id n front id = nat_le (next_id front) id && nat_le (id + (n - length front)) (2 ^ 16)
-
--- such an id, and its cell
-unfoldable pub listed_cell_at : ℕ → List (ℕ × Cell) → List ℕ → Result ((ℕ × Cell) × List ℕ) ℕ
-listed_cell_at n front bytes = do
-  id ← checked_at w16 (is_next_id n front) bytes
-  c ← cell_at id.1
-  Ok ((id.0, c.0), c.1)
-
--- cells by rising id behind their count
-unfoldable pub cells_at : List ℕ → Result (List (ℕ × Cell) × List ℕ) ℕ
-cells_at bytes = do
-  n ← number_at w16 bytes
-  many_at (listed_cell_at n.0) n.0 [] n.1
+use Rattle.kt_bytes.specs.Reading.{◌>>=◌, number_at, checked_at, bytes_at, many_at, with_offset}
+pub use Rattle.kt_cells.specs.Reading.{flag_at, cell_at, is_next_id, listed_cell_at, cells_at}
+use Rattle.kt_records.specs.Rules.{may_list, has_key, may_change, may_hold}
 
 -- the cells of an operation of this kind
 unfoldable pub cell_list_at : OpKind → List ℕ → Result (List (ℕ × Cell) × List ℕ) ℕ

@@ -4,7 +4,6 @@ use Rattle.std.specs.List.{list_any}
 use Rattle.std.specs.Int.{w64}
 use Rattle.std.specs.Ordering.{eq_by_cmp}
 use Rattle.kt_base.specs.declared.cell.Cell.{Cell}
-use Rattle.kt_base.specs.declared.cell.Cell.TheVariants as cells
 use Rattle.kt_history.specs.declared.change.Outcome.{Outcome}
 use Rattle.kt_history.specs.declared.change.Outcome.TheVariants.{Done, Present, Absent, Ignored}
 use Rattle.kt_history.specs.declared.operation.OpKind.{OpKind}
@@ -16,26 +15,7 @@ use Rattle.kt_history.specs.Rows.{key_cmp}
 use Rattle.kt_records.specs.declared.entry.CommitRow.{CommitRow}
 use Rattle.kt_records.specs.declared.entry.Entry.{Entry}
 use Rattle.kt_records.specs.declared.entry.Entry.TheVariants.{Replicate, Commit}
-pub use Rattle.kt_bytes.specs.Reading.{EachAfter}
-
--- the value fits its field
-abbrev pub CellFits : Cell → Type 0
-CellFits cells.Null = Unit {0}
-CellFits (cells.Bool b) = Unit {0}
-CellFits (cells.Int n) = FitsSigned w64 n
-CellFits (cells.Bytes bytes) = length bytes < 2 ^ 32
-
--- the least id above those of the cells
-abbrev pub next_id : List (ℕ × Cell) → ℕ
-next_id [] = 0
-next_id (c ∷ []) = c.0 + 1
-next_id (c ∷ d ∷ cells) = next_id (d ∷ cells)
-
--- its id is above those of the cells before it
-pub record FollowingCell (front : List (ℕ × Cell)) (c : ℕ × Cell) : Type 0 where
-  pub rising : next_id front ≤ c.0
-  pub id : c.0 < 2 ^ 16
-  pub cell : CellFits c.1
+pub use Rattle.kt_cells.specs.Rules.{EachAfter, CellFits, next_id, FollowingCell}
 
 -- whether an operation of this kind may list so many cells: a delete lists none
 abbrev pub may_list : OpKind → ℕ → Bool

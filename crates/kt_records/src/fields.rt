@@ -1,63 +1,18 @@
-//! Fields of fixed length, cells and keys, read from the front of some bytes.
+//! Fields of fixed length and keys, read from the front of some bytes.
 //!
 //! Each function gives the field and the bytes after it, or `Stop::Left` with how many bytes stand from the fault to the
 //! end: none where bytes are missing, and all from the field's first byte on where the field is wrong.
 ghost use Rattle.std.specs.Prelude.{◌≡◌};
-ghost use Rattle.std.specs.Int.{w16, w32};
+ghost use Rattle.std.specs.Int.{w16};
 ghost use Rattle.kt_records.specs.Rules.{has_key};
-ghost use Rattle.kt_bytes.specs.Reading.{Gives, checked_at, counted_at};
-ghost use Rattle.kt_records.specs.Reading.{flag_at, cell_at, kind_at, is_key_len, new_key_at, outcome_at, target_at};
+ghost use Rattle.kt_bytes.specs.Reading.{Gives, checked_at};
+ghost use Rattle.kt_records.specs.Reading.{kind_at, is_key_len, new_key_at, outcome_at, target_at};
 
-use kt_base::{Cell, Octets};
+use kt_base::Octets;
 use kt_bytes::Stop;
-use kt_bytes::fields::{fault_at, front_of, u16_at, u32_at, u64_at};
+use kt_bytes::fields::{fault_at, front_of, u16_at, u64_at};
 use kt_history::{OpKind, Outcome, RowOp, Target};
 use std::alloc::Global;
-
-fn text_of(alloc: Global, bytes: &[u8]) -> Result<(Octets, &[u8]), Stop>
-    ensures { Gives (λ x. (x.0, x.1.now)) result (counted_at w32 bytes.now) }
-{
-    let (len, rest) = u32_at(bytes)?;
-    let (text, rest) = front_of(rest, len as usize)?;
-    Ok((Octets::from_slice(alloc, text)?, rest))
-}
-
-/// A byte that says no or yes.
-#[tactic(auto, unfolding(crate::specs::Reading::flag_at))]
-pub fn flag_of(bytes: &[u8]) -> Result<(bool, &[u8]), Stop>
-    ensures { Gives (λ x. (x.0, x.1.now)) result (flag_at bytes.now) }
-{
-    match bytes {
-        [] => Err(Stop::Left(0)),
-        [0, rest @ ..] => Ok((false, rest)),
-        [1, rest @ ..] => Ok((true, rest)),
-        [_, ..] => Err(Stop::Left(bytes.len())),
-    }
-}
-
-/// A cell: the byte of its kind, and its value.
-#[tactic(auto, unfolding(crate::specs::Reading::cell_at))]
-pub fn cell_of(alloc: Global, bytes: &[u8]) -> Result<(Cell, &[u8]), Stop>
-    ensures { Gives (λ x. (x.0, x.1.now)) result (cell_at bytes.now) }
-{
-    match bytes {
-        [] => Err(Stop::Left(0)),
-        [0, rest @ ..] => Ok((Cell::Null, rest)),
-        [1, rest @ ..] => {
-            let (flag, rest) = flag_of(rest)?;
-            Ok((Cell::Bool(flag), rest))
-        }
-        [2, rest @ ..] => {
-            let (number, rest) = u64_at(rest)?;
-            Ok((Cell::Int(number.cast_signed()), rest))
-        }
-        [3, rest @ ..] => {
-            let (text, rest) = text_of(alloc, rest)?;
-            Ok((Cell::Bytes(text), rest))
-        }
-        [_, ..] => Err(Stop::Left(bytes.len())),
-    }
-}
 
 /// The byte of an operation's kind.
 #[tactic(auto, unfolding(crate::specs::Reading::kind_at))]

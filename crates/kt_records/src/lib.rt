@@ -2,16 +2,15 @@
 //! which says what became of each operation and which stores it changed.
 //!
 //! For the layers above: `spell` appends the one spelling of a record, and `read_record` answers a record exactly
-//! where its bytes are that spelling, or the place of the first fault. It stands on kt_bytes, kt_base and kt_history.
+//! where its bytes are that spelling, or the place of the first fault. It stands on kt_bytes, kt_base, kt_cells and
+//! kt_history.
 #![tactic(auto)]
 
-pub mod cell_lists;
 pub mod entry;
 pub mod fields;
 pub mod laws;
 mod lists;
 mod reading;
-mod tail;
 mod writing;
 
 pub use entry::{CommitRow, CommitRows, Entry, RecordList, TargetList};

@@ -4,12 +4,12 @@ ghost use Rattle.kt_records.specs.Rules.{may_list, may_change};
 ghost use Rattle.kt_bytes.specs.Reading.{Gives, many_at};
 ghost use Rattle.kt_records.specs.Reading.{cell_list_at, operation_at, target_at, target_list_at, commit_row_at};
 
-use crate::cell_lists::counted_cells_of;
 use crate::entry::{CommitRow, TargetList};
 use crate::fields::{kind_of, new_key_of, outcome_of, target_of};
 use kt_base::Cells;
 use kt_bytes::Stop;
 use kt_bytes::fields::{fault_at, u16_at};
+use kt_cells::lists::counted_cells_of;
 use kt_history::{OpKind, Outcome, RowOp};
 use std::alloc::Global;
 

@@ -2,55 +2,16 @@
 ghost use Rattle.std.specs.Prelude.{◌≡◌, ◌<◌, ◌^◌, ◌++◌, ◌∷◌, [], length, OnOk, OnErr};
 ghost use Rattle.std.specs.List.{flat_map};
 ghost use Rattle.std.specs.Int.{w16, w64, to_le_bytes};
-ghost use Rattle.kt_records.specs.Spelling.{cell as cell_bytes, listed_cell, cell_list, kind as kind_number, operation, outcome as outcome_number, target as target_bytes, commit_row, spelling};
-ghost use Rattle.kt_records.specs.Rules.{EachAfter, CellFits, FollowingCell, CellsFit, FollowingOp, RowFits, KeepsRules};
+ghost use Rattle.kt_records.specs.Spelling.{kind as kind_number, operation, outcome as outcome_number, target as target_bytes, commit_row, spelling};
+ghost use Rattle.kt_records.specs.Rules.{EachAfter, CellsFit, FollowingOp, RowFits, KeepsRules};
 
 use crate::entry::{CommitRow, Entry};
-use crate::tail::Tail;
-use kt_base::{Cell, Cells, NoMemory, Octets};
+use kt_base::{NoMemory, Octets};
+use kt_cells::Tail;
+use kt_cells::writing::put_cell_list;
 use kt_history::{OpKind, Outcome, RowOp, Target};
 use std::alloc::Global;
 use std::mem;
-
-fn put_cell(out: &mut Tail, cell: &Cell) -> Result<(), NoMemory>
-    requires { CellFits cell.now }
-    ensures front { out.new.front ≡ out.old.front }
-    ensures ok { OnOk result (out.new.added ≡ out.old.added ++ cell_bytes cell.now) }
-{
-    match cell {
-        Cell::Null => out.push(0),
-        Cell::Bool(flag) => out.extend(&[1, u8::from(*flag)]),
-        Cell::Int(number) => {
-            out.push(2)?;
-            out.extend(&number.to_le_bytes())
-        }
-        Cell::Bytes(bytes) => {
-            out.push(3)?;
-            out.extend(&(bytes.len() as u32).to_le_bytes())?;
-            out.extend(bytes.as_slice())
-        }
-    }
-}
-
-fn put_listed_cell(out: &mut Tail, id: u16, cell: &Cell) -> Result<(), NoMemory>
-    requires { CellFits cell.now }
-    ensures front { out.new.front ≡ out.old.front }
-    ensures ok { OnOk result (out.new.added ≡ out.old.added ++ listed_cell (id, cell.now)) }
-{
-    out.extend(&id.to_le_bytes())?;
-    put_cell(out, cell)
-}
-
-fn put_cells(out: &mut Tail, cells: &[(u16, Cell)]) -> Result<(), NoMemory>
-    requires { EachAfter FollowingCell [] cells.now }
-    ensures front { out.new.front ≡ out.old.front }
-    ensures ok { OnOk result (out.new.added ≡ out.old.added ++ flat_map listed_cell cells.now) }
-{
-    'cells: for listed in cells {
-        put_listed_cell(out, listed.0, &listed.1)?;
-    }
-    Ok(())
-}
 
 fn number_of_kind(kind: OpKind) -> u8
     ensures { result ≡ kind_number kind }
@@ -64,16 +25,6 @@ fn number_of_kind(kind: OpKind) -> u8
         OpKind::UpdateIgnore => 6,
         OpKind::DeleteIgnore => 7,
     }
-}
-
-fn put_cell_list(out: &mut Tail, cells: &Cells) -> Result<(), NoMemory>
-    requires count { length cells.now < 2 ^ 16 }
-    requires cells { EachAfter FollowingCell [] cells.now }
-    ensures front { out.new.front ≡ out.old.front }
-    ensures ok { OnOk result (out.new.added ≡ out.old.added ++ cell_list cells.now) }
-{
-    out.extend(&(cells.len() as u16).to_le_bytes())?;
-    put_cells(out, cells.as_slice())
 }
 
 fn put_key(out: &mut Tail, key: &Octets) -> Result<(), NoMemory>

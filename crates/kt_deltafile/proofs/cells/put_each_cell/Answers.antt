@@ -1,7 +1,7 @@
 use Rattle.std.proofs.Common.{ℕ, [], sym, subst}
 use Rattle.kt_base.specs.declared.cell.Cell.{Cell}
-use Rattle.kt_records.specs.Rules.{CellFits, FollowingCell}
-use Rattle.kt_records.proofs.Items.{each_at}
+use Rattle.kt_cells.specs.Rules.{CellFits, FollowingCell}
+use Rattle.kt_cells.proofs.Items.{each_at}
 use Rattle.kt_deltafile.proofs.cells.put_each_cell.Goals as goal
 
 pub put_listed_cell-requires : goal.put_listed_cell-requires

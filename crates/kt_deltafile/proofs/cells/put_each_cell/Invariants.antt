@@ -1,6 +1,6 @@
 use Rattle.std.proofs.Common.{◌≡◌, ◌++◌, take}
 use Rattle.std.specs.List.{flat_map}
-use Rattle.kt_records.specs.Spelling.{listed_cell}
+use Rattle.kt_cells.specs.Spelling.{listed_cell}
 use Rattle.kt_deltafile.proofs.cells.put_each_cell.Given as goal
 
 abbrev pub invariant-cells : goal.invariant-cells

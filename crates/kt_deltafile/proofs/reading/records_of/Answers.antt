@@ -1,7 +1,7 @@
 use Rattle.std.proofs.Common.{[]}
 use Rattle.std.proofs.lemmas.Result.{err_from_is_err_and}
 use Rattle.kt_bytes.specs.Reading.{many_at}
-use Rattle.kt_records.proofs.Items.{goes_on, ends, is_done}
+use Rattle.kt_cells.proofs.Items.{goes_on, ends, is_done}
 use Rattle.kt_deltafile.specs.Reading.{record_at}
 use Rattle.kt_deltafile.proofs.reading.records_of.Goals as goal
 

@@ -1,6 +1,6 @@
 use Rattle.std.proofs.Common.{◌^◌, [], sym, subst}
 use Rattle.kt_history.specs.declared.changes.Delta.{Delta}
-use Rattle.kt_records.proofs.Items.{each_at}
+use Rattle.kt_cells.proofs.Items.{each_at}
 use Rattle.kt_deltafile.specs.Rules.{ChangeFits, Follows}
 use Rattle.kt_deltafile.specs.Spelling.{record_bytes}
 use Rattle.kt_deltafile.proofs.Files.{one_more}

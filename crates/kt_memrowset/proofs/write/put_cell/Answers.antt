@@ -4,8 +4,8 @@ use Rattle.std.specs.Prelude.{ℤ, FitsSigned}
 use Rattle.std.specs.Int.{w64}
 use Rattle.std.proofs.Math.Facts.{to_z-of_z}
 use Rattle.kt_base.specs.declared.cell.Cell.TheVariants as cells
-use Rattle.kt_records.specs.Rules.{CellFits}
-use Rattle.kt_records.specs.Spelling.{listed_cell}
+use Rattle.kt_cells.specs.Rules.{CellFits}
+use Rattle.kt_cells.specs.Spelling.{listed_cell}
 use Rattle.kt_memrowset.specs.Writes.{Puts}
 use Rattle.kt_memrowset.proofs.write.put_cell.Goals as goal
 

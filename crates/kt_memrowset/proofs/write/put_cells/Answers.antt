@@ -1,7 +1,7 @@
 use Rattle.std.proofs.Common.{ℕ, [], sym, subst, arith}
 use Rattle.kt_base.specs.declared.cell.Cell.{Cell}
-use Rattle.kt_records.specs.Rules.{CellFits, FollowingCell}
-use Rattle.kt_records.proofs.Items.{each_at}
+use Rattle.kt_cells.specs.Rules.{CellFits, FollowingCell}
+use Rattle.kt_cells.proofs.Items.{each_at}
 use Rattle.kt_memrowset.proofs.Writing.{room_left, cells_more, puts_none}
 use Rattle.kt_memrowset.proofs.write.put_cells.Goals as goal
 

@@ -1,6 +1,6 @@
 use Rattle.std.proofs.Common.{take}
 use Rattle.std.specs.List.{flat_map}
-use Rattle.kt_records.specs.Spelling.{listed_cell}
+use Rattle.kt_cells.specs.Spelling.{listed_cell}
 use Rattle.kt_memrowset.specs.Writes.{Puts}
 use Rattle.kt_memrowset.proofs.write.put_cells.Given as goal
 

@@ -2,7 +2,7 @@ use Rattle.std.proofs.Common.{[]}
 use Rattle.std.proofs.lemmas.Result.{err_from_is_err_and}
 use Rattle.kt_bytes.specs.Reading.{many_at}
 use Rattle.kt_records.specs.Reading.{commit_row_at}
-use Rattle.kt_records.proofs.Items.{goes_on, ends, is_done}
+use Rattle.kt_cells.proofs.Items.{goes_on, ends, is_done}
 use Rattle.kt_records.proofs.lists.commit_rows_of.Goals as goal
 
 pub returns-in_err-row : goal.returns-in_err-row

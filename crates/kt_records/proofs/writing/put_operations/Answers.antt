@@ -1,7 +1,7 @@
 use Rattle.std.proofs.Common.{[], length, ◌<◌, ◌^◌, sym, subst}
 use Rattle.kt_history.specs.declared.operation.RowOp.{RowOp}
 use Rattle.kt_records.specs.Rules.{CellsFit, FollowingOp}
-use Rattle.kt_records.proofs.Items.{each_at}
+use Rattle.kt_cells.proofs.Items.{each_at}
 use Rattle.kt_records.proofs.writing.put_operations.Goals as goal
 
 pub put_operation-requires-clause-key : goal.put_operation-requires-clause-key

@@ -1,7 +1,7 @@
 use Rattle.std.proofs.Common.{[], length, sym, subst}
 use Rattle.kt_records.specs.declared.entry.CommitRow.{CommitRow}
 use Rattle.kt_records.specs.Rules.{RowFits}
-use Rattle.kt_records.proofs.Items.{each_at}
+use Rattle.kt_cells.proofs.Items.{each_at}
 use Rattle.kt_records.proofs.Commits.{few_targets}
 use Rattle.kt_records.proofs.writing.put_rows.Goals as goal
 

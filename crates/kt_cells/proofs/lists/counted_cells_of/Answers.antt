@@ -1,9 +1,9 @@
 use Rattle.std.proofs.Common.{[]}
 use Rattle.std.proofs.lemmas.Result.{err_from_is_err_and}
 use Rattle.kt_bytes.specs.Reading.{many_at}
-use Rattle.kt_records.specs.Reading.{listed_cell_at}
-use Rattle.kt_records.proofs.Items.{goes_on, ends, is_done}
-use Rattle.kt_records.proofs.cell_lists.counted_cells_of.Goals as goal
+use Rattle.kt_cells.specs.Reading.{listed_cell_at}
+use Rattle.kt_cells.proofs.Items.{goes_on, ends, is_done}
+use Rattle.kt_cells.proofs.lists.counted_cells_of.Goals as goal
 
 pub returns-in_err-cell : goal.returns-in_err-cell
 returns-in_err-cell c =

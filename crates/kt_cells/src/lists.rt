@@ -1,9 +1,9 @@
 //! Lists of cells, read from the front of some bytes.
 ghost use Rattle.std.specs.Prelude.{◌≡◌, []};
 ghost use Rattle.std.specs.Int.{w16};
-ghost use Rattle.kt_records.specs.Rules.{next_id};
+ghost use Rattle.kt_cells.specs.Rules.{next_id};
 ghost use Rattle.kt_bytes.specs.Reading.{Gives, checked_at, many_at};
-ghost use Rattle.kt_records.specs.Reading.{is_next_id, listed_cell_at, cells_at};
+ghost use Rattle.kt_cells.specs.Reading.{is_next_id, listed_cell_at, cells_at};
 
 use crate::fields::cell_of;
 use kt_base::{Cell, Cells};

@@ -13,7 +13,7 @@ pub struct Tail {
 
 impl Model for Tail {
     ghost use Rattle.std.specs.Prelude.{◌≤◌, length, take, drop};
-    ghost use Rattle.kt_records.specs.Tail.{TailView};
+    ghost use Rattle.kt_cells.specs.Tail.{TailView};
 
     ghost Value = { TailView };
 

@@ -1,7 +1,7 @@
 use Rattle.std.proofs.Common.{◌≡◌, ℕ, suc, ◌+◌, ◌-◌, ◌<◌, List, [], ◌∷◌, length, get_or, refl, sym, ap, ◌∙◌, arith, rules}
 use Rattle.kt_base.specs.declared.cell.Cell.{Cell}
-use Rattle.kt_records.specs.Rules.{next_id}
-use Rattle.kt_records.proofs.cell_lists.least_id.Goals as goal
+use Rattle.kt_cells.specs.Rules.{next_id}
+use Rattle.kt_cells.proofs.lists.least_id.Goals as goal
 
 next_id-last : (cells : List (ℕ × Cell)) (d : ℕ × Cell) → 0 < length cells → next_id cells ≡ (get_or cells (length cells - 1) d).0 + 1
 next_id-last [] d h = absurd (omega arith)

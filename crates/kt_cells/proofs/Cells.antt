@@ -10,10 +10,10 @@ use Rattle.kt_base.specs.declared.cell.Cell.{Cell}
 use Rattle.kt_base.specs.declared.cell.Cell.TheVariants as cells
 use Rattle.kt_bytes.specs.Reading.{◌>>=◌, number_at, checked_at, bytes_at, counted_at, many_at}
 use Rattle.kt_bytes.proofs.Numbers.{wide16, wide32, wide64}
-use Rattle.kt_records.specs.Spelling.{flag, cell, listed_cell, cell_list}
-use Rattle.kt_records.specs.Rules.{EachAfter, CellFits, next_id, FollowingCell}
-use Rattle.kt_records.specs.Fields.{cell_fields, listed_cell_fields, cell_list_fields}
-use Rattle.kt_records.specs.Reading.{flag_at, cell_at, is_next_id, listed_cell_at, cells_at}
+use Rattle.kt_cells.specs.Spelling.{flag, cell, listed_cell, cell_list}
+use Rattle.kt_cells.specs.Rules.{EachAfter, CellFits, next_id, FollowingCell, CellListFits}
+use Rattle.kt_cells.specs.Fields.{cell_fields, listed_cell_fields, cell_list_fields}
+use Rattle.kt_cells.specs.Reading.{flag_at, cell_at, is_next_id, listed_cell_at, cells_at}
 use Rattle.kt_bytes.proofs.Formats.{Part}
 use Rattle.kt_bytes.proofs.Leaves.{same_reader, Passes, number_fields, number_part, any_number, IsText, any_text, text_fields, byte_at_front, code_fields, code_part}
 use Rattle.kt_bytes.proofs.Joins.{both_part, same_part, made_at, made_part, made_as, given_part, many_part, concat_items}
@@ -274,11 +274,6 @@ counted_cells_part n lt =
   where
     next : (k : ℕ) (front : List (ℕ × Cell)) (c : ℕ × Cell) → RoomFor n (suc k) front → NextCell n front c → RoomFor n k (front ++ c ∷ [])
     next k front c room keeps = record { count = omega (arith, room.count, length_push front c); ids = omega (arith, room.count, keeps.room, next_id-push front c) }
-
--- cells by rising id, fewer than their count can say
-pub record CellListFits (cells : List (ℕ × Cell)) : Type 0 where
-  pub count : length cells < 2 ^ 16
-  pub each : EachAfter FollowingCell [] cells
 
 pub cells_part : Part cells_at cell_list_fields CellListFits
 unfolding cells_at
