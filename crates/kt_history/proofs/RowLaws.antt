@@ -5,7 +5,12 @@ use Rattle.std.specs.List.{filter}
 use Rattle.std.proofs.lemmas.Bool.{cases_lt}
 use Rattle.std.proofs.Common.{inl, inr}
 use Rattle.std.proofs.lemmas.Bool.Decides.{nat_tests}
-use Rattle.kt_history.specs.Rows.{Rows, Changes, changed}
+use Rattle.std.proofs.Common.{Some, None, Option, T}
+use Rattle.std.proofs.lemmas.Cmp.{nat_list_cmp_total}
+use Rattle.std.specs.Prelude.{not}
+use Rattle.std.specs.Ordering.{eq_by_cmp}
+use Rattle.std.specs.FinMap.Entries.{find, is_sorted, is_sorted-put, is_sorted-where_key}
+use Rattle.kt_history.specs.Rows.{Row, Rows, Changes, apply, set_row, changed, key_cmp}
 use Rattle.kt_history.specs.History.{Past, PastWrite, IsPast, IsUpTo, Rise, replay, rows_at, raise, with_write}
 
 pub replay-append : (t : ℕ) (ws vs : List PastWrite) (rows : Rows) → replay t (ws ++ vs) rows ≡ replay t vs (replay t ws rows)
@@ -78,3 +83,16 @@ replay-raised low mark t (w ∷ ws) rows rise le = elim (cases_lt mark w.ts) [
 -- told from a later mark on, a past has the same rows from there on
 pub rows_at-raise : (past : Past) (mark t : ℕ) → IsPast past → mark ≤ t → rows_at (raise past mark) t ≡ rows_at past t
 rows_at-raise past mark t is le = replay-raised past.mark mark t past.writes past.base is.writes le
+
+-- rows by rising key stay so
+sorted-set_row : (k : List ℕ) (o : Option Row) (rows : Rows) → T (is_sorted key_cmp rows) → T (is_sorted key_cmp (set_row k o rows))
+sorted-set_row k None rows h = is_sorted-where_key key_cmp (λ other. not (eq_by_cmp key_cmp k other)) rows h
+sorted-set_row k (Some row) rows h = is_sorted-put key_cmp nat_list_cmp_total k row rows h
+
+sorted-changed : (changes : Changes) (rows : Rows) → T (is_sorted key_cmp rows) → T (is_sorted key_cmp (changed changes rows))
+sorted-changed [] rows h = h
+sorted-changed (c ∷ changes) rows h = sorted-changed changes _ (sorted-set_row c.0 (apply c.1 (find key_cmp c.0 rows)) rows h)
+
+pub sorted-replay : (t : ℕ) (ws : List PastWrite) (rows : Rows) → T (is_sorted key_cmp rows) → T (is_sorted key_cmp (replay t ws rows))
+sorted-replay t [] rows h = h
+sorted-replay t (w ∷ ws) rows h = sorted-replay t ws _ (elim (nat_le w.ts t) as (λ b. T (is_sorted key_cmp (cond b (changed w.changes rows) rows))) [ true ↦ sorted-changed w.changes rows h | false ↦ h ])

@@ -25,7 +25,8 @@ pub fn outcome(kind: OpKind, present: bool) -> Outcome
     }
 }
 
-fn place_of_cell(cells: &[(u16, Cell)], id: u16) -> Result<usize, usize>
+/// The place of a column among entries by rising id, or the place where a new one goes.
+pub(crate) fn place_of_id<X>(cells: &[(u16, X)], id: u16) -> Result<usize, usize>
     ensures { result ≡ place_of nat_cmp id cells.now }
 {
     for (at, cell) in cells.iter().enumerate() {
@@ -42,7 +43,7 @@ fn place_of_cell(cells: &[(u16, Cell)], id: u16) -> Result<usize, usize>
 pub fn put_cell(cells: &mut Vec<(u16, Cell)>, id: u16, cell: Cell) -> Result<(), NoMemory>
     ensures { OnOk result (cells.new.items ≡ put nat_cmp id cell cells.old.items) }
 {
-    match place_of_cell(cells, id) {
+    match place_of_id(cells, id) {
         Ok(at) => {
             cells[at].1 = cell;
             Ok(())

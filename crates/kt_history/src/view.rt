@@ -1,10 +1,11 @@
 //! A view of a table: a store that tells its rows.
-ghost use Rattle.std.specs.Prelude.{◌≡◌, ◌≤◌, ℕ, List, Option, IfOk, IsSome};
+ghost use Rattle.std.specs.Prelude.{◌≡◌, ◌≤◌, ℕ, List, Option, Some, None, IfOk, IsSome, if◌then◌else◌};
 ghost use Rattle.std.specs.List.{Contains};
 ghost use Rattle.std.specs.Option.{option_copied};
 ghost use Rattle.kt_history.specs.Rows.{Row};
 ghost use Rattle.kt_history.specs.Views.{key_above, AreRising};
 
+use crate::RowRef;
 use kt_base::{Cells, NoMemory, Octets};
 use std::alloc::Global;
 
@@ -26,6 +27,20 @@ pub trait View {
     /// The least key above another, or the least of all, those of deleted rows too.
     fn key_after(&self, alloc: Global, after: Option<&[u8]>) -> Result<Option<Octets>, NoMemory>
         ensures { IfOk result (λ found. found ≡ key_above (option_copied after.entry) (keys self.now)) };
+
+    /// As `key_after`, without a copy. A hint tells nothing: it is a place that may save a search, and is moved on.
+    fn next_key(&self, after: Option<&[u8]>, hint: &mut usize) -> Option<&[u8]>
+        ensures { option_copied result ≡ key_above (option_copied after.entry) (keys self.now) };
+
+    /// As `row_at`, into a row that borrows from the view. Tells whether there is a row. The hint is that of `next_key`.
+    fn row_into<'v>(
+        &'v self,
+        key: &[u8],
+        t: u64,
+        hint: &mut usize,
+        row: &mut RowRef<'v>,
+    ) -> Result<bool, NoMemory>
+        ensures { IfOk result (λ found. mark self.now ≤ t → row_of self.now key.now t ≡ (if found then Some row.new else None)) };
 
     /// The keys rise.
     ghost keys_rise: { (view : Self) → AreRising (keys view) };

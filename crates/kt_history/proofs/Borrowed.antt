@@ -1,0 +1,22 @@
+-- Borrowed rows change as the rows do that they are read as.
+use Rattle.std.proofs.Common.{◌≡◌, ℕ, List, [], ◌∷◌, ◌++◌, refl, ap}
+use Rattle.std.specs.Ordering.{nat_cmp}
+use Rattle.std.specs.declared.cmp.Ordering.TheVariants.{Less, Equal, Greater}
+use Rattle.std.specs.FinMap.Entries.{by_order, put}
+use Rattle.kt_history.specs.declared.row_ref.CellRef.{CellRef}
+use Rattle.kt_history.specs.Borrowed.{cell_in, cells_in}
+
+-- a cell that is put in its place
+pub put_in : (id : ℕ) (cell : CellRef) (cells : List (ℕ × CellRef)) → cells_in (put nat_cmp id cell cells) ≡ put nat_cmp id (cell_in cell) (cells_in cells)
+put_in id cell [] = refl
+put_in id cell (c ∷ cells) =
+    elim (nat_cmp id c.0) as (λ o. cells_in (by_order o ((id, cell) ∷ c ∷ cells) ((c.0, cell) ∷ cells) (c ∷ put nat_cmp id cell cells)) ≡ by_order o ((id, cell_in cell) ∷ cells_in (c ∷ cells)) ((c.0, cell_in cell) ∷ cells_in cells) ((c.0, cell_in c.1) ∷ put nat_cmp id (cell_in cell) (cells_in cells))) [
+      | Less ↦ refl
+      | Equal ↦ refl
+      | Greater ↦ ap (λ rest. (c.0, cell_in c.1) ∷ rest) (put_in id cell cells)
+    ]
+
+-- a cell that is appended
+pub append_in : (cells more : List (ℕ × CellRef)) → cells_in (cells ++ more) ≡ cells_in cells ++ cells_in more
+append_in [] more = refl
+append_in (c ∷ cells) more = ap (λ rest. (c.0, cell_in c.1) ∷ rest) (append_in cells more)

@@ -1,0 +1,145 @@
+//! Cells and rows that borrow their texts, so that a row is read without a copy.
+ghost use Rattle.std.specs.Prelude.{◌≡◌, ◌∷◌, ◌++◌, [], IfOk, OnOk};
+ghost use Rattle.std.specs.Ordering.{nat_cmp};
+ghost use Rattle.std.specs.FinMap.Entries.{put};
+ghost use Rattle.kt_history.specs.Borrowed.{cell_in, cells_in};
+ghost use Rattle.kt_history.specs.Rows.{with_cells};
+
+use crate::effect::place_of_id;
+use kt_base::{Cell, NoMemory, Octets};
+use std::alloc::Global;
+use std::marker::Model;
+
+/// A cell that borrows its text.
+#[derive(Clone, Copy, Debug)]
+pub enum CellRef<'v> {
+    Null,
+    Int(i64),
+    Bool(bool),
+    Bytes(&'v [u8]),
+}
+
+/// A row that borrows its texts, and may be used again for another. Contracts see it as a list of ids and cells.
+#[derive(Debug, Drop)]
+pub struct RowRef<'v> {
+    cells: Vec<(u16, CellRef<'v>)>,
+}
+
+impl<'v> Model for RowRef<'v> {
+    ghost use Rattle.std.specs.Prelude.{List, ℕ};
+    ghost use Rattle.kt_base.specs.declared.cell.Cell.{Cell};
+    ghost use Rattle.kt_history.specs.Borrowed.{cells_in};
+
+    ghost Value = { List (ℕ × Cell) };
+
+    ghost view = { λ r. cells_in r.cells.items };
+}
+
+impl<'v> CellRef<'v> {
+    /// The same cell, borrowed.
+    pub fn of(cell: &'v Cell) -> CellRef<'v>
+        ensures { cell_in result ≡ cell.now }
+    {
+        match cell {
+            Cell::Null => CellRef::Null,
+            Cell::Int(number) => CellRef::Int(*number),
+            Cell::Bool(truth) => CellRef::Bool(*truth),
+            Cell::Bytes(bytes) => CellRef::Bytes(bytes.as_slice()),
+        }
+    }
+
+    /// The same cell, with a text of its own.
+    pub fn to_cell(self, alloc: Global) -> Result<Cell, NoMemory>
+        ensures { IfOk result (λ cell. cell ≡ cell_in self.entry) }
+    {
+        Ok(match self {
+            CellRef::Null => Cell::Null,
+            CellRef::Int(number) => Cell::Int(number),
+            CellRef::Bool(truth) => Cell::Bool(truth),
+            CellRef::Bytes(bytes) => Cell::Bytes(Octets::from_slice(alloc, bytes)?),
+        })
+    }
+}
+
+impl<'v> RowRef<'v> {
+    /// No cells.
+    pub fn new(alloc: Global) -> RowRef<'v>
+        ensures { result ≡ [] }
+    {
+        RowRef {
+            cells: Vec::new(alloc),
+        }
+    }
+
+    /// No cells are left.
+    pub fn clear(&mut self)
+        ensures { self.new ≡ [] }
+    {
+        self.cells.clear();
+    }
+
+    pub fn as_slice(&self) -> &[(u16, CellRef<'v>)]
+        ensures { cells_in result.now ≡ self.now }
+    {
+        &self.cells
+    }
+
+    /// Appends a cell.
+    #[tactic(auto, using(crate::proofs::Borrowed::append_in))]
+    pub fn push(&mut self, id: u16, cell: CellRef<'v>) -> Result<(), NoMemory>
+        ensures { OnOk result (self.new ≡ self.old ++ (id, cell_in cell.entry) ∷ []) }
+    {
+        self.cells.push((id, cell))?;
+        Ok(())
+    }
+
+    /// Sets the cell of a column, in its place among cells by rising id.
+    #[tactic(auto, using(crate::proofs::Borrowed::put_in))]
+    pub fn set(&mut self, id: u16, cell: CellRef<'v>) -> Result<(), NoMemory>
+        ensures { OnOk result (self.new ≡ put nat_cmp id (cell_in cell.entry) self.old) }
+    {
+        put_ref(&mut self.cells, id, cell)
+    }
+
+    /// Sets these cells, in place of the row's own where it has them.
+    pub fn set_all(&mut self, cells: &'v [(u16, Cell)]) -> Result<(), NoMemory>
+        ensures { OnOk result (self.new ≡ with_cells cells.now self.old) }
+    {
+        let mut at = cells.len();
+        'cells: while at > 0 {
+            at -= 1;
+            self.set(cells[at].0, CellRef::of(&cells[at].1))?;
+        }
+        Ok(())
+    }
+
+    /// These cells alone.
+    pub fn assign(&mut self, cells: &'v [(u16, Cell)]) -> Result<(), NoMemory>
+        ensures { OnOk result (self.new ≡ cells.now) }
+    {
+        self.clear();
+        for cell in cells {
+            self.push(cell.0, CellRef::of(&cell.1))?;
+        }
+        Ok(())
+    }
+}
+
+fn put_ref<'v>(
+    cells: &mut Vec<(u16, CellRef<'v>)>,
+    id: u16,
+    cell: CellRef<'v>,
+) -> Result<(), NoMemory>
+    ensures { OnOk result (cells.new.items ≡ put nat_cmp id cell.entry cells.old.items) }
+{
+    match place_of_id(cells, id) {
+        Ok(at) => {
+            cells[at].1 = cell;
+            Ok(())
+        }
+        Err(at) => {
+            cells.insert(at, (id, cell))?;
+            Ok(())
+        }
+    }
+}
