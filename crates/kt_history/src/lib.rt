@@ -1,7 +1,8 @@
 //! The tablet as a machine: what changes do to rows, what a history is, which lines may come next, and the
 //! reply that each line gives. The types are the plain values that contracts speak of.
 //!
-//! For the layers above: the definitions in `specs/`, and the laws of `laws` over them. It stands on kt_base.
+//! For the layers above: the definitions in `specs/`, and the laws of `laws` over them. It stands on kt_base and
+//! kt_cells.
 #![tactic(auto)]
 
 pub mod change;
@@ -26,7 +27,7 @@ pub use event::{Event, EventList};
 pub use need::{cells_needed, cells_of};
 pub use operation::{OpKind, OpList, RowOp, Write};
 pub use reply::{OutcomeList, Reply, RowList};
-pub use row_ref::{CellRef, RowRef};
+pub use row_ref::RowRef;
 pub use scan::{At, ColumnIds, Pred, PredList, Scan, Test};
 pub use target::{Kindly, Target};
 pub use view::View;

@@ -1,23 +1,15 @@
-//! Cells and rows that borrow their texts, so that a row is read without a copy.
-ghost use Rattle.std.specs.Prelude.{◌≡◌, ◌∷◌, ◌++◌, [], IfOk, OnOk};
+//! A row that borrows its texts, so that it is read without a copy.
+ghost use Rattle.std.specs.Prelude.{◌≡◌, ◌∷◌, ◌++◌, [], OnOk};
 ghost use Rattle.std.specs.Ordering.{nat_cmp};
 ghost use Rattle.std.specs.FinMap.Entries.{put};
-ghost use Rattle.kt_history.specs.Borrowed.{cell_in, cells_in};
+ghost use Rattle.kt_cells.specs.Borrowed.{cell_in, cells_in};
 ghost use Rattle.kt_history.specs.Rows.{with_cells};
 
 use crate::effect::place_of_id;
-use kt_base::{Cell, NoMemory, Octets};
+use kt_base::{Cell, NoMemory};
+use kt_cells::CellRef;
 use std::alloc::Global;
 use std::marker::Model;
-
-/// A cell that borrows its text.
-#[derive(Clone, Copy, Debug)]
-pub enum CellRef<'v> {
-    Null,
-    Int(i64),
-    Bool(bool),
-    Bytes(&'v [u8]),
-}
 
 /// A row that borrows its texts, and may be used again for another. Contracts see it as a list of ids and cells.
 #[derive(Debug, Drop)]
@@ -28,37 +20,11 @@ pub struct RowRef<'v> {
 impl<'v> Model for RowRef<'v> {
     ghost use Rattle.std.specs.Prelude.{List, ℕ};
     ghost use Rattle.kt_base.specs.declared.cell.Cell.{Cell};
-    ghost use Rattle.kt_history.specs.Borrowed.{cells_in};
+    ghost use Rattle.kt_cells.specs.Borrowed.{cells_in};
 
     ghost Value = { List (ℕ × Cell) };
 
     ghost view = { λ r. cells_in r.cells.items };
-}
-
-impl<'v> CellRef<'v> {
-    /// The same cell, borrowed.
-    pub fn of(cell: &'v Cell) -> CellRef<'v>
-        ensures { cell_in result ≡ cell.now }
-    {
-        match cell {
-            Cell::Null => CellRef::Null,
-            Cell::Int(number) => CellRef::Int(*number),
-            Cell::Bool(truth) => CellRef::Bool(*truth),
-            Cell::Bytes(bytes) => CellRef::Bytes(bytes.as_slice()),
-        }
-    }
-
-    /// The same cell, with a text of its own.
-    pub fn to_cell(self, alloc: Global) -> Result<Cell, NoMemory>
-        ensures { IfOk result (λ cell. cell ≡ cell_in self.entry) }
-    {
-        Ok(match self {
-            CellRef::Null => Cell::Null,
-            CellRef::Int(number) => Cell::Int(number),
-            CellRef::Bool(truth) => Cell::Bool(truth),
-            CellRef::Bytes(bytes) => Cell::Bytes(Octets::from_slice(alloc, bytes)?),
-        })
-    }
 }
 
 impl<'v> RowRef<'v> {
