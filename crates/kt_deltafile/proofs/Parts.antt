@@ -9,13 +9,13 @@ use Rattle.kt_history.specs.declared.change.Change.TheVariants.{Ins, Upd, Del}
 use Rattle.kt_history.specs.declared.changes.Delta.{Delta}
 use Rattle.kt_bytes.specs.Reading.{◌>>=◌, checked_at, many_at}
 use Rattle.kt_bytes.proofs.Numbers.{wide32, wide64}
-use Rattle.kt_cells.specs.Rules.{EachAfter}
+use Rattle.kt_cells.specs.Rules.{EachAfter, CellListFits}
 use Rattle.kt_cells.specs.Fields.{cell_list_fields}
 use Rattle.kt_cells.specs.Reading.{cells_at}
 use Rattle.kt_bytes.proofs.Formats.{Part}
 use Rattle.kt_bytes.proofs.Leaves.{same_reader, Passes, number_fields, number_part, byte_at_front, code_fields, code_part}
 use Rattle.kt_bytes.proofs.Joins.{both_part, same_part, made_at, made_part, made_as, given_part, many_part, concat_items}
-use Rattle.kt_cells.proofs.Cells.{CellListFits, cells_part, cell_list_spelled}
+use Rattle.kt_cells.proofs.Cells.{cells_part, cell_list_spelled}
 use Rattle.kt_deltafile.specs.declared.file.Way.{Way}
 use Rattle.kt_deltafile.specs.declared.file.Way.TheVariants.{Redo, Undo}
 use Rattle.kt_deltafile.specs.File.{FileView}

@@ -4,10 +4,9 @@
 //!
 //! For the layers above: `spell` gives the one spelling of a list of changes, `decode` answers a file exactly where
 //! the bytes are that spelling, or the place of the first fault, and `of_row` finds a row's records. It stands on
-//! kt_base and kt_history, and on kt_records, which says how cells are spelled and reads them.
+//! kt_base, kt_cells and kt_history.
 #![tactic(auto)]
 
-mod cells;
 mod file;
 pub mod laws;
 mod order;

@@ -5,9 +5,10 @@ ghost use Rattle.kt_cells.specs.Rules.{EachAfter};
 ghost use Rattle.kt_deltafile.specs.Rules.{ChangeFits, Follows, IsFile};
 ghost use Rattle.kt_deltafile.specs.Spelling.{way_byte, change_bytes, record_bytes, spelling};
 
-use crate::cells::put_cells;
 use crate::file::Way;
 use kt_base::{NoMemory, Octets};
+use kt_cells::Tail;
+use kt_cells::writing::put_cell_list;
 use kt_history::{Change, Delta, DeltaList};
 use std::alloc::Global;
 
@@ -20,35 +21,38 @@ fn number_of_way(way: Way) -> u8
     }
 }
 
-fn put_change(way: Way, out: &mut Octets, change: &Change) -> Result<(), NoMemory>
+fn put_change(way: Way, out: &mut Tail, change: &Change) -> Result<(), NoMemory>
     requires { ChangeFits way change.now }
-    ensures { OnOk result (out.new ≡ out.old ++ change_bytes change.now) }
+    ensures front { out.new.front ≡ out.old.front }
+    ensures ok { OnOk result (out.new.added ≡ out.old.added ++ change_bytes change.now) }
 {
     match change {
         Change::Ins(cells) => {
             out.push(1)?;
-            put_cells(out, cells)
+            put_cell_list(out, cells)
         }
         Change::Upd(cells) => {
             out.push(2)?;
-            put_cells(out, cells)
+            put_cell_list(out, cells)
         }
         Change::Del => out.push(3),
     }
 }
 
-fn put_record(way: Way, out: &mut Octets, record1: &Delta) -> Result<(), NoMemory>
+fn put_record(way: Way, out: &mut Tail, record1: &Delta) -> Result<(), NoMemory>
     requires { ChangeFits way record1.now.change }
-    ensures { OnOk result (out.new ≡ out.old ++ record_bytes record1.now) }
+    ensures front { out.new.front ≡ out.old.front }
+    ensures ok { OnOk result (out.new.added ≡ out.old.added ++ record_bytes record1.now) }
 {
     out.extend(&record1.ordinal.to_le_bytes())?;
     out.extend(&record1.ts.to_le_bytes())?;
     put_change(way, out, &record1.change)
 }
 
-fn put_records(way: Way, out: &mut Octets, records: &[Delta]) -> Result<(), NoMemory>
+fn put_records(way: Way, out: &mut Tail, records: &[Delta]) -> Result<(), NoMemory>
     requires { EachAfter (Follows way (2 ^ 32)) [] records.now }
-    ensures { OnOk result (out.new ≡ out.old ++ flat_map record_bytes records.now) }
+    ensures front { out.new.front ≡ out.old.front }
+    ensures ok { OnOk result (out.new.added ≡ out.old.added ++ flat_map record_bytes records.now) }
 {
     'records: for one in records {
         put_record(way, out, one)?;
@@ -61,10 +65,10 @@ pub fn spell(alloc: Global, list: &DeltaList, way: Way) -> Result<Octets, NoMemo
     requires { IsFile way list.now }
     ensures { IfOk result (λ bytes. bytes ≡ spelling way list.now) }
 {
-    let mut out = Octets::new(alloc);
+    let mut out = Tail::of(Octets::new(alloc));
     out.extend(b"KTD1")?;
     out.push(number_of_way(way))?;
     out.extend(&(list.len() as u32).to_le_bytes())?;
     put_records(way, &mut out, list.as_slice())?;
-    Ok(out)
+    Ok(out.whole())
 }

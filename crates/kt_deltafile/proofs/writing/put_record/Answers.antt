@@ -1,6 +1,0 @@
-use Rattle.kt_deltafile.specs.Spelling.{change_bytes}
-use Rattle.kt_deltafile.proofs.Files.{fielded}
-use Rattle.kt_deltafile.proofs.writing.put_record.Goals as goal
-
-pub returns : goal.returns
-returns c = fielded c.put_change.result c.args.out.now c.extend.new.self c.extend-2.new.self c.put_change.new.out _ _ (change_bytes c.args.record1.now.change) _ _ c.in_ok-extend.ensures.ok c.in_ok-extend-2.ensures.ok c.put_change.ensures c.to_le_bytes.ensures c.to_le_bytes-2.ensures
