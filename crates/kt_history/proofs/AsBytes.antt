@@ -1,0 +1,89 @@
+-- Changes held as bytes stay what they are as strings are added.
+use Rattle.std.proofs.Common.{◌≡◌, ℕ, suc, ◌+◌, ◌-◌, ◌<◌, ◌≤◌, Bool, true, false, ◌&&◌, List, [], ◌∷◌, ◌++◌, length, get_or, Result, Ok, Err, refl, sym, ap, ◌∙◌, arith}
+use Rattle.std.specs.Prelude.{map, nat_lt, OnErr}
+use Rattle.std.specs.List.{list_all}
+use Rattle.std.proofs.lemmas.List.{get_or_append_left, length_push, length-map}
+use Rattle.std.proofs.Math.Seq.{get_or-append_seam}
+use Rattle.kt_cells.specs.Reading.{cells_behind}
+use Rattle.kt_history.specs.declared.changes.KeyChange.{KeyChange}
+use Rattle.kt_history.specs.declared.flat.Head.{Head}
+use Rattle.kt_history.specs.declared.target.Kindly.{Kindly}
+use Rattle.kt_history.specs.AsBytes.{change_with, change_at, changes_at, is_inside, are_inside, last_at, last_key}
+
+pub on_err : {A E P : Type 0} (r : Result A E) → P → OnErr r P
+on_err (Ok x) p = tt
+on_err (Err e) p = p
+
+inside_at : (n : ℕ) (h : Head) (heads : List Head) → are_inside n (h ∷ heads) ≡ true → (h.key < n) × (h.cells < n) × (are_inside n heads ≡ true)
+inside_at n h heads e = grind arith
+
+is_in : (n : ℕ) (h : Head) → h.key < n → h.cells < n → is_inside n h ≡ true
+is_in n h key cells = grind (arith, key, cells)
+
+both : (a b : Bool) → a ≡ true → b ≡ true → (a && b) ≡ true
+both a b p q = rw (p, q) refl
+
+pub inside_more : (texts : List (List ℕ)) (text : List ℕ) (heads : List Head) → are_inside (length texts) heads ≡ true → are_inside (length (texts ++ text ∷ [])) heads ≡ true
+inside_more texts text [] e = refl
+inside_more texts text (h ∷ heads) e =
+    let i = inside_at (length texts) h heads e in
+    both (is_inside (length (texts ++ text ∷ [])) h) (are_inside (length (texts ++ text ∷ [])) heads) (is_in (length (texts ++ text ∷ [])) h (omega (arith, i.0, length_push texts text)) (omega (arith, i.1, length_push texts text))) (inside_more texts text heads i.2)
+
+pub kept_more : (texts : List (List ℕ)) (text : List ℕ) (heads : List Head) → are_inside (length texts) heads ≡ true → changes_at (texts ++ text ∷ []) heads ≡ changes_at texts heads
+kept_more texts text [] e = refl
+kept_more texts text (h ∷ heads) e =
+    let i = inside_at (length texts) h heads e in
+    rw (get_or_append_left texts (text ∷ []) [] h.key i.0, get_or_append_left texts (text ∷ []) [] h.cells i.1, kept_more texts text heads i.2) refl
+
+-- a string and a change more, whose cells are the string
+module _ (texts : List (List ℕ)) (text : List ℕ) where
+  pub added : (heads : List Head) (key at ts : ℕ) (kind : Kindly) → are_inside (length texts) heads ≡ true → key < length texts → at ≡ length texts
+      → changes_at (texts ++ text ∷ []) (heads ++ (record { key = key; cells = at; ts = ts; kind = kind }) ∷ []) ≡ changes_at texts heads ++ (record { key = get_or texts key []; ts = ts; change = change_with kind (cells_behind text) }) ∷ []
+  added [] key at ts kind e known is = rw (is, get_or_append_left texts (text ∷ []) [] key known, get_or-append_seam texts text [] []) refl
+  added (g ∷ heads) key at ts kind e known is =
+      let i = inside_at (length texts) g heads e in
+      rw (get_or_append_left texts (text ∷ []) [] g.key i.0, get_or_append_left texts (text ∷ []) [] g.cells i.1, added heads key at ts kind i.2 known is) refl
+
+  pub inside_added : (heads : List Head) (key at ts : ℕ) (kind : Kindly) → are_inside (length texts) heads ≡ true → key < length texts → at ≡ length texts
+      → are_inside (length (texts ++ text ∷ [])) (heads ++ (record { key = key; cells = at; ts = ts; kind = kind }) ∷ []) ≡ true
+  inside_added [] key at ts kind e known is = both (is_inside (length (texts ++ text ∷ [])) (record { key = key; cells = at; ts = ts; kind = kind })) true (is_in (length (texts ++ text ∷ [])) (record { key = key; cells = at; ts = ts; kind = kind }) (omega (arith, known, length_push texts text)) (omega (arith, is, length_push texts text))) refl
+  inside_added (g ∷ heads) key at ts kind e known is =
+      let i = inside_at (length texts) g heads e in
+      both (is_inside (length (texts ++ text ∷ [])) g) (are_inside (length (texts ++ text ∷ [])) (heads ++ (record { key = key; cells = at; ts = ts; kind = kind }) ∷ [])) (is_in (length (texts ++ text ∷ [])) g (omega (arith, i.0, length_push texts text)) (omega (arith, i.1, length_push texts text))) (inside_added heads key at ts kind i.2 known is)
+
+  -- the string that was added is the key
+  pub with_key : (heads : List Head) (at ts : ℕ) (kind : Kindly) (cells : List ℕ) (now new : List KeyChange) → are_inside (length texts) heads ≡ true → at ≡ length texts → now ≡ changes_at texts heads
+      → new ≡ changes_at (texts ++ text ∷ []) heads ++ (record { key = get_or (texts ++ text ∷ []) at []; ts = ts; change = change_with kind (cells_behind cells) }) ∷ []
+      → new ≡ now ++ (record { key = text; ts = ts; change = change_with kind (cells_behind cells) }) ∷ []
+  with_key heads at ts kind cells now new e is view h =
+      h ∙ rw (is, get_or-append_seam texts text [] [], kept_more texts text heads e, view) refl
+
+pub last_is : (heads : List Head) (d : Head) → 0 < length heads → last_at heads ≡ (get_or heads (length heads - 1) d).key
+last_is [] d some = absurd (omega arith)
+last_is (h ∷ []) d some = refl
+last_is (h ∷ g ∷ heads) d some =
+    let i : length (h ∷ g ∷ heads) - 1 ≡ suc (length (g ∷ heads) - 1) = omega arith in
+    last_is (g ∷ heads) d (omega arith) ∙ ap (λ (n : ℕ). (get_or (h ∷ g ∷ heads) n d).key) (sym i)
+
+-- the key of the last change is that string
+last_of : (texts : List (List ℕ)) (heads : List Head) → 0 < length heads → get_or texts (last_at heads) [] ≡ last_key (changes_at texts heads)
+last_of texts [] some = absurd (omega arith)
+last_of texts (h ∷ []) some = refl
+last_of texts (h ∷ g ∷ heads) some = last_of texts (g ∷ heads) (omega arith)
+
+-- and it is one of them
+last_inside : (n : ℕ) (heads : List Head) → 0 < length heads → are_inside n heads ≡ true → last_at heads < n
+last_inside n [] some e = absurd (omega arith)
+last_inside n (h ∷ []) some e = let i = inside_at n h [] e in i.0
+last_inside n (h ∷ g ∷ heads) some e = let i = inside_at n h (g ∷ heads) e in last_inside n (g ∷ heads) (omega arith) i.2
+
+pub last_known : (texts : List (List ℕ)) (heads : List Head) (now : List KeyChange) → changes_at texts heads ≡ now → 0 < length now → are_inside (length texts) heads ≡ true → last_at heads < length texts
+last_known texts heads now view some e = last_inside (length texts) heads (omega (arith, some, ap length view, length-map heads (change_at texts))) e
+
+pub with_last : (texts : List (List ℕ)) (heads : List Head) (at ts : ℕ) (kind : Kindly) (cells : List ℕ) (now new : List KeyChange) → changes_at texts heads ≡ now → 0 < length now → at ≡ last_at heads
+    → new ≡ changes_at texts heads ++ (record { key = get_or texts at []; ts = ts; change = change_with kind (cells_behind cells) }) ∷ []
+    → new ≡ now ++ (record { key = last_key now; ts = ts; change = change_with kind (cells_behind cells) }) ∷ []
+with_last texts heads at ts kind cells now new view some is h =
+    let there : 0 < length heads = omega (arith, some, ap length view, length-map heads (change_at texts)) in
+    let key : get_or texts at [] ≡ last_key (changes_at texts heads) = ap (λ (n : ℕ). get_or texts n []) is ∙ last_of texts heads there in
+    h ∙ ap (λ (k : List ℕ). changes_at texts heads ++ (record { key = k; ts = ts; change = change_with kind (cells_behind cells) }) ∷ []) key ∙ ap (λ (l : List KeyChange). l ++ (record { key = last_key l; ts = ts; change = change_with kind (cells_behind cells) }) ∷ []) view

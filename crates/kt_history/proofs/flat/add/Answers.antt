@@ -1,0 +1,15 @@
+use Rattle.std.proofs.Common.{refl, arith}
+use Rattle.kt_history.proofs.AsBytes.{on_err, inside_more, kept_more, added, inside_added}
+use Rattle.kt_history.proofs.flat.add.Goals as goal
+
+pub returns-in_err-push-2-clause-err : goal.returns-in_err-push-2-clause-err
+returns-in_err-push-2-clause-err c = rw (c.in_ok-push.ensures.ok, c.in_err-push-2.ensures.items) (on_err c.from_residual-in_err-push-2.result (kept_more c.args.texts.now c.args.cells.now c.args.heads.now.items c.requires.inside))
+
+pub returns-in_err-push-2-clause-inside : goal.returns-in_err-push-2-clause-inside
+returns-in_err-push-2-clause-inside c = rw (c.in_ok-push.ensures.ok, c.in_err-push-2.ensures.items) (inside_more c.args.texts.now c.args.cells.now c.args.heads.now.items c.requires.inside)
+
+pub returns-clause-ok : goal.returns-clause-ok
+returns-clause-ok c = rw (c.in_ok-push.ensures.ok, c.in_ok-push-2.ensures.items) (added c.args.texts.now c.args.cells.now c.args.heads.now.items c.args.key c.len-at.result c.args.ts c.args.kind c.requires.inside c.requires.known c.len-at.ensures)
+
+pub returns-clause-inside : goal.returns-clause-inside
+returns-clause-inside c = rw (c.in_ok-push.ensures.ok, c.in_ok-push-2.ensures.items) (inside_added c.args.texts.now c.args.cells.now c.args.heads.now.items c.args.key c.len-at.result c.args.ts c.args.kind c.requires.inside c.requires.known c.len-at.ensures)

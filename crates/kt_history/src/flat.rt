@@ -1,0 +1,148 @@
+//! Changes held as the bytes that they are spelled by, so that a copy of many takes no memory for each.
+ghost use Rattle.std.specs.Prelude.{◌≡◌, ◌==◌, ◌<◌, ◌∷◌, ◌++◌, [], true, length, get_or, slice_get, OnOk, OnErr};
+ghost use Rattle.std.specs.Option.{option_copied, option_map};
+ghost use Rattle.kt_cells.specs.Reading.{cells_behind};
+ghost use Rattle.kt_history.specs.AsBytes.{change_with, changes_at, are_inside, last_at, last_key, step_in, step_of};
+
+use crate::Kindly;
+use kt_base::NoMemory;
+use kt_bytes::Texts;
+use kt_cells::CellsRef;
+use std::alloc::Global;
+use std::marker::Model;
+
+// Which strings are the key and the cells of a change, with its timestamp and kind.
+#[derive(Clone, Copy, Debug)]
+struct Head {
+    key: usize,
+    cells: usize,
+    ts: u64,
+    kind: Kindly,
+}
+
+/// A change, whose cells are read where they lie.
+#[derive(Clone, Copy, Debug)]
+pub struct ChangeRef<'v> {
+    pub ts: u64,
+    pub kind: Kindly,
+    pub cells: CellsRef<'v>,
+}
+
+/// Changes by rising key, then timestamp, as bytes. Contracts see them as a list.
+#[derive(Debug, Drop)]
+pub struct ChangeBytes {
+    texts: Texts,
+    heads: Vec<Head>,
+}
+
+impl Model for ChangeBytes {
+    ghost use Rattle.std.specs.Prelude.{◌≡◌, true, List, length};
+    ghost use Rattle.kt_history.specs.declared.changes.KeyChange.{KeyChange};
+    ghost use Rattle.kt_history.specs.AsBytes.{changes_at, are_inside};
+
+    ghost Value = { List KeyChange };
+
+    ghost view = { λ l. changes_at l.texts l.heads.items };
+
+    ghost invariant = { λ l. are_inside (length l.texts) l.heads.items ≡ true };
+}
+
+// Adds a change whose key is this string of the list.
+fn add(
+    texts: &mut Texts,
+    heads: &mut Vec<Head>,
+    key: usize,
+    ts: u64,
+    kind: Kindly,
+    cells: &[u8],
+) -> Result<(), NoMemory>
+    requires known { key < length texts.old }
+    requires inside { are_inside (length texts.old) heads.old.items ≡ true }
+    ensures ok { OnOk result (changes_at texts.new heads.new.items ≡ changes_at texts.old heads.old.items ++ (record { key = get_or texts.old key []; ts = ts; change = change_with kind (cells_behind cells.now) }) ∷ []) }
+    ensures err { OnErr result (changes_at texts.new heads.new.items ≡ changes_at texts.old heads.old.items) }
+    ensures inside { are_inside (length texts.new) heads.new.items ≡ true }
+{
+    let at = texts.len();
+    texts.push(cells)?;
+    heads.push(Head {
+        key,
+        cells: at,
+        ts,
+        kind,
+    })?;
+    Ok(())
+}
+
+// Which string is the key of the last change.
+fn last_at(heads: &[Head]) -> usize
+    ensures { result ≡ last_at heads.now }
+{
+    match heads {
+        [.., head] => head.key,
+        [] => 0,
+    }
+}
+
+impl ChangeBytes {
+    /// No changes.
+    pub fn new(alloc: Global) -> ChangeBytes
+        ensures { result ≡ [] }
+    {
+        ChangeBytes {
+            texts: Texts::new(alloc),
+            heads: Vec::new(alloc),
+        }
+    }
+
+    pub fn len(&self) -> usize
+        ensures { result ≡ length self.now }
+    {
+        self.heads.len()
+    }
+
+    pub fn is_empty(&self) -> bool
+        ensures { result ≡ (length self.now == 0) }
+    {
+        self.heads.is_empty()
+    }
+
+    /// The key of the change at a place, if there is one.
+    pub fn key(&self, at: usize) -> Option<&[u8]>
+        ensures { option_copied result ≡ option_map (λ c. c.key) (slice_get self.now at) }
+    {
+        let head = self.heads.get(at)?;
+        Some(self.texts.get(head.key))
+    }
+
+    /// The change at a place, if there is one.
+    pub fn get(&self, at: usize) -> Option<ChangeRef<'_>>
+        ensures { option_map step_in result ≡ option_map step_of (slice_get self.now at) }
+    {
+        let head = self.heads.get(at)?;
+        Some(ChangeRef {
+            ts: head.ts,
+            kind: head.kind,
+            cells: CellsRef::of(self.texts.get(head.cells)),
+        })
+    }
+
+    /// Adds a change of a key, with its cells as they are spelled behind their count. Without memory nothing is added.
+    pub fn push(&mut self, key: &[u8], ts: u64, kind: Kindly, cells: &[u8]) -> Result<(), NoMemory>
+        ensures ok { OnOk result (self.new ≡ self.old ++ (record { key = key.now; ts = ts; change = change_with kind (cells_behind cells.now) }) ∷ []) }
+        ensures err { OnErr result (self.new ≡ self.old) }
+    {
+        let at = self.texts.len();
+        self.texts.push(key)?;
+        add(&mut self.texts, &mut self.heads, at, ts, kind, cells)
+    }
+
+    /// Adds another change of the last one's key. Without memory nothing is added.
+    pub fn push_again(&mut self, ts: u64, kind: Kindly, cells: &[u8]) -> Result<(), NoMemory>
+        requires { 0 < length self.old }
+        ensures ok { OnOk result (self.new ≡ self.old ++ (record { key = last_key self.old; ts = ts; change = change_with kind (cells_behind cells.now) }) ∷ []) }
+        ensures err { OnErr result (self.new ≡ self.old) }
+    {
+        let at = last_at(&self.heads);
+        add(&mut self.texts, &mut self.heads, at, ts, kind, cells)
+    }
+}
