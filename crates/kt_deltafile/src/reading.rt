@@ -14,8 +14,8 @@ use crate::file::{DeltaFile, Way};
 use crate::order::{is_ordinal, is_ts};
 use kt_bytes::fields::{fault_at, u32_at, u64_at};
 use kt_bytes::{CodecNo, Stop};
-use kt_history::{Change, Delta, DeltaList};
 use kt_cells::lists::cells_of;
+use kt_history::{Change, Delta, DeltaList};
 use std::alloc::Global;
 
 /// The letters KTD1, as a number.
