@@ -1,13 +1,15 @@
 -- Changes held as bytes stay what they are as strings are added.
-use Rattle.std.proofs.Common.{◌≡◌, ℕ, suc, ◌+◌, ◌-◌, ◌<◌, ◌≤◌, Bool, true, false, ◌&&◌, List, [], ◌∷◌, ◌++◌, length, get_or, Result, Ok, Err, refl, sym, ap, ◌∙◌, arith}
-use Rattle.std.specs.Prelude.{map, nat_lt, OnErr}
-use Rattle.std.specs.List.{list_all}
-use Rattle.std.proofs.lemmas.List.{get_or_append_left, length_push, length-map}
+use Rattle.std.proofs.Common.{◌≡◌, ℕ, suc, ◌-◌, ◌<◌, ◌≤◌, Bool, true, false, ◌&&◌, List, [], ◌∷◌, ◌++◌, length, get_or, Result, Ok, Err, refl, sym, ap, ◌∙◌, arith}
+use Rattle.std.specs.Prelude.{OnErr}
+use Rattle.std.proofs.lemmas.List.{get_or_append_left, get_or_default, length_push, length-map}
 use Rattle.std.proofs.Math.Seq.{get_or-append_seam}
+use Rattle.std.proofs.Math.ListN.{get_or-map}
+use Rattle.std.specs.List.Sorted.{IsPartitionedBy, IsPartitionPoint}
 use Rattle.kt_cells.specs.Reading.{cells_behind}
 use Rattle.kt_history.specs.declared.changes.KeyChange.{KeyChange}
 use Rattle.kt_history.specs.declared.flat.Head.{Head}
 use Rattle.kt_history.specs.declared.target.Kindly.{Kindly}
+use Rattle.kt_history.specs.declared.target.Kindly.TheVariants.{Ins}
 use Rattle.kt_history.specs.AsBytes.{change_with, change_at, changes_at, is_inside, are_inside, last_at, last_key}
 
 pub on_err : {A E P : Type 0} (r : Result A E) → P → OnErr r P
@@ -87,3 +89,29 @@ with_last texts heads at ts kind cells now new view some is h =
     let there : 0 < length heads = omega (arith, some, ap length view, length-map heads (change_at texts)) in
     let key : get_or texts at [] ≡ last_key (changes_at texts heads) = ap (λ (n : ℕ). get_or texts n []) is ∙ last_of texts heads there in
     h ∙ ap (λ (k : List ℕ). changes_at texts heads ++ (record { key = k; ts = ts; change = change_with kind (cells_behind cells) }) ∷ []) key ∙ ap (λ (l : List KeyChange). l ++ (record { key = last_key l; ts = ts; change = change_with kind (cells_behind cells) }) ∷ []) view
+
+-- ---- where a test ends to pass
+
+module _ (p : KeyChange → Bool) (texts : List (List ℕ)) (heads : List Head) where
+  read_at : (k : ℕ) (h : Head) → get_or (changes_at texts heads) k (change_at texts h) ≡ change_at texts (get_or heads k h)
+  read_at k h = get_or-map (change_at texts) heads k h
+
+  pub parted : IsPartitionedBy p (changes_at texts heads) → IsPartitionedBy (λ h. p (change_at texts h)) heads
+  parted parts i j h le within passes =
+      let there : j < length (changes_at texts heads) = omega (arith, within, length-map heads (change_at texts)) in
+      ap p (sym (read_at i h)) ∙ parts i j (change_at texts h) le there (ap p (read_at j h) ∙ passes)
+
+  pub parted_at : (n : ℕ) → n ≤ length heads → IsPartitionPoint (λ h. p (change_at texts h) ≡ true) (λ h. p (change_at texts h) ≡ false) heads n → IsPartitionPoint (λ c. p c ≡ true) (λ c. p c ≡ false) (changes_at texts heads) n
+  parted_at n bound point = (front, behind)
+    where
+      none : Head
+      none = record { key = 0; cells = 0; ts = 0; kind = Ins }
+
+      read : (k : ℕ) (d : KeyChange) → k < length heads → get_or (changes_at texts heads) k d ≡ change_at texts (get_or heads k none)
+      read k d lt = get_or_default (changes_at texts heads) k d (change_at texts none) (omega (arith, lt, length-map heads (change_at texts))) ∙ read_at k none
+
+      front : (k : ℕ) (d : KeyChange) → 0 ≤ k → k < n → p (get_or (changes_at texts heads) k d) ≡ true
+      front k d zero lt = ap p (read k d (omega (arith, lt, bound))) ∙ point.0 k none zero lt
+
+      behind : (k : ℕ) (d : KeyChange) → n ≤ k → k < length (changes_at texts heads) → p (get_or (changes_at texts heads) k d) ≡ false
+      behind k d le lt = let within : k < length heads = omega (arith, lt, length-map heads (change_at texts)) in ap p (read k d within) ∙ point.1 k none le within

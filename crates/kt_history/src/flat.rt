@@ -1,6 +1,9 @@
 //! Changes held as the bytes that they are spelled by, so that a copy of many takes no memory for each.
-ghost use Rattle.std.specs.Prelude.{◌≡◌, ◌==◌, ◌<◌, ◌∷◌, ◌++◌, [], true, length, get_or, slice_get, OnOk, OnErr};
+ghost use Rattle.std.specs.Prelude.{◌≡◌, ◌==◌, ◌<◌, ◌∷◌, ◌++◌, [], true, false, not, ◌≤◌, length, get_or, slice_get, OnOk, OnErr};
+ghost use Rattle.std.specs.List.Sorted.{IsPartitionedBy, IsPartitionPoint};
 ghost use Rattle.std.specs.Option.{option_copied, option_map};
+ghost use Rattle.std.specs.Ordering.{is_lt};
+ghost use Rattle.kt_history.specs.Rows.{key_cmp};
 ghost use Rattle.kt_cells.specs.Reading.{cells_behind};
 ghost use Rattle.kt_history.specs.AsBytes.{change_with, changes_at, are_inside, last_at, last_key, step_in, step_of};
 
@@ -73,6 +76,13 @@ fn add(
     Ok(())
 }
 
+// The string at a place, and the empty one where there is none.
+fn text_at(texts: &Texts, at: usize) -> &[u8]
+    ensures { result.now ≡ get_or texts.now at [] }
+{
+    if at < texts.len() { texts.get(at) } else { &[] }
+}
+
 // Which string is the key of the last change.
 fn last_at(heads: &[Head]) -> usize
     ensures { result ≡ last_at heads.now }
@@ -104,6 +114,28 @@ impl ChangeBytes {
         ensures { result ≡ (length self.now == 0) }
     {
         self.heads.is_empty()
+    }
+
+    /// How many changes have keys below another, where those come first.
+    pub fn count_below(&self, key: &[u8]) -> usize
+        requires { IsPartitionedBy (λ c. is_lt (key_cmp c.key key.now)) self.now }
+        ensures bound { result ≤ length self.now }
+        ensures parts { IsPartitionPoint (λ c. is_lt (key_cmp c.key key.now) ≡ true) (λ c. is_lt (key_cmp c.key key.now) ≡ false) self.now result }
+    {
+        let texts = &self.texts;
+        self.heads
+            .partition_point(|head| text_at(texts, head.key).cmp(&key).is_lt())
+    }
+
+    /// How many changes have keys that are not above another, where those come first.
+    pub fn count_not_above(&self, key: &[u8]) -> usize
+        requires { IsPartitionedBy (λ c. not (is_lt (key_cmp key.now c.key))) self.now }
+        ensures bound { result ≤ length self.now }
+        ensures parts { IsPartitionPoint (λ c. not (is_lt (key_cmp key.now c.key)) ≡ true) (λ c. not (is_lt (key_cmp key.now c.key)) ≡ false) self.now result }
+    {
+        let texts = &self.texts;
+        self.heads
+            .partition_point(|head| !key.cmp(&text_at(texts, head.key)).is_lt())
     }
 
     /// The key of the change at a place, if there is one.

@@ -1,4 +1,3 @@
-use Rattle.std.proofs.Common.{refl, arith}
 use Rattle.kt_history.proofs.AsBytes.{on_err, inside_more, kept_more, added, inside_added}
 use Rattle.kt_history.proofs.flat.add.Goals as goal
 

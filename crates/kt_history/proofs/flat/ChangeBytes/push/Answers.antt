@@ -1,5 +1,5 @@
 use Rattle.std.proofs.lemmas.Result.{on_ok_weaker, on_err_weaker}
-use Rattle.std.proofs.Common.{sym, ◌∙◌, ap}
+use Rattle.std.proofs.Common.{sym, ◌∙◌}
 use Rattle.kt_history.proofs.AsBytes.{inside_more, kept_more, with_key}
 use Rattle.kt_history.proofs.flat.ChangeBytes.push.Goals as goal
 

@@ -1,0 +1,23 @@
+use Rattle.std.proofs.Common.{ℕ, Bool, List, rules}
+use Rattle.std.specs.Prelude.{not}
+use Rattle.std.specs.Ordering.{is_lt}
+use Rattle.std.specs.List.Sorted.{IsPartitionedBy}
+use Rattle.std.proofs.lemmas.List.Sorted.{IsPartitionPoint-from_clause}
+use Rattle.kt_history.specs.declared.changes.KeyChange.{KeyChange}
+use Rattle.kt_history.specs.Rows.{key_cmp}
+use Rattle.kt_history.specs.AsBytes.{change_at}
+use Rattle.kt_history.proofs.AsBytes.{parted, parted_at}
+use Rattle.kt_history.proofs.flat.ChangeBytes.count_not_above.Goals as goal
+
+test : List ℕ → KeyChange → Bool
+test q = λ c. not (is_lt (key_cmp q c.key))
+
+pub returns-clause-parts : goal.returns-clause-parts
+unfolding test
+returns-clause-parts c =
+    let texts = c.self.inside.texts in
+    let heads = c.self.inside.heads.items in
+    let parts : IsPartitionedBy (test c.args.key.now) c.args.self.now = c.requires in
+    let parted_heads : IsPartitionedBy (λ h. test c.args.key.now (change_at texts h)) c.deref.result.now = rw c.deref.ensures.value (parted (test c.args.key.now) texts heads (rw c.self.view_is parts)) in
+    let point = IsPartitionPoint-from_clause (λ h. test c.args.key.now (change_at texts h)) _ _ c.partition_point.ensures.partitioned parted_heads (λ a r f k. search rules) in
+    rw (← c.self.view_is) (parted_at (test c.args.key.now) texts heads c.partition_point.result (rw c.deref.ensures.value at c.partition_point.ensures.bound) (rw c.deref.ensures.value at point))
