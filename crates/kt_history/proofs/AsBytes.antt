@@ -1,5 +1,5 @@
 -- Changes held as bytes stay what they are as strings are added.
-use Rattle.std.proofs.Common.{◌≡◌, ℕ, suc, ◌-◌, ◌<◌, ◌≤◌, Bool, true, false, ◌&&◌, List, [], ◌∷◌, ◌++◌, length, get_or, Result, Ok, Err, refl, sym, ap, ◌∙◌, arith}
+use Rattle.std.proofs.Common.{◌≡◌, ℕ, ◌<◌, ◌≤◌, Bool, true, false, ◌&&◌, List, [], ◌∷◌, ◌++◌, length, get_or, Result, Ok, Err, refl, sym, ap, ◌∙◌, arith}
 use Rattle.std.specs.Prelude.{OnErr}
 use Rattle.std.proofs.lemmas.List.{get_or_append_left, get_or_default, length_push, length-map}
 use Rattle.std.proofs.Math.Seq.{get_or-append_seam}
@@ -10,7 +10,7 @@ use Rattle.kt_history.specs.declared.changes.KeyChange.{KeyChange}
 use Rattle.kt_history.specs.declared.flat.Head.{Head}
 use Rattle.kt_history.specs.declared.target.Kindly.{Kindly}
 use Rattle.kt_history.specs.declared.target.Kindly.TheVariants.{Ins}
-use Rattle.kt_history.specs.AsBytes.{change_with, change_at, changes_at, is_inside, are_inside, last_at, last_key}
+use Rattle.kt_history.specs.AsBytes.{change_with, change_at, changes_at, is_inside, are_inside}
 
 pub on_err : {A E P : Type 0} (r : Result A E) → P → OnErr r P
 on_err (Ok x) p = tt
@@ -53,42 +53,15 @@ module _ (texts : List (List ℕ)) (text : List ℕ) where
       let i = inside_at (length texts) g heads e in
       both (is_inside (length (texts ++ text ∷ [])) g) (are_inside (length (texts ++ text ∷ [])) (heads ++ (record { key = key; cells = at; ts = ts; kind = kind }) ∷ [])) (is_in (length (texts ++ text ∷ [])) g (omega (arith, i.0, length_push texts text)) (omega (arith, i.1, length_push texts text))) (inside_added heads key at ts kind i.2 known is)
 
-  -- the string that was added is the key
-  pub with_key : (heads : List Head) (at ts : ℕ) (kind : Kindly) (cells : List ℕ) (now new : List KeyChange) → are_inside (length texts) heads ≡ true → at ≡ length texts → now ≡ changes_at texts heads
-      → new ≡ changes_at (texts ++ text ∷ []) heads ++ (record { key = get_or (texts ++ text ∷ []) at []; ts = ts; change = change_with kind (cells_behind cells) }) ∷ []
-      → new ≡ now ++ (record { key = text; ts = ts; change = change_with kind (cells_behind cells) }) ∷ []
-  with_key heads at ts kind cells now new e is view h =
-      h ∙ rw (is, get_or-append_seam texts text [] [], kept_more texts text heads e, view) refl
+-- the string that was added last
+pub is_last : (texts : List (List ℕ)) (text : List ℕ) (at : ℕ) → at ≡ length texts → (at < length (texts ++ text ∷ [])) × (get_or (texts ++ text ∷ []) at [] ≡ text)
+is_last texts text at is = (omega (arith, is, length_push texts text), ap (λ (n : ℕ). get_or (texts ++ text ∷ []) n []) is ∙ get_or-append_seam texts text [] [])
 
-pub last_is : (heads : List Head) (d : Head) → 0 < length heads → last_at heads ≡ (get_or heads (length heads - 1) d).key
-last_is [] d some = absurd (omega arith)
-last_is (h ∷ []) d some = refl
-last_is (h ∷ g ∷ heads) d some =
-    let i : length (h ∷ g ∷ heads) - 1 ≡ suc (length (g ∷ heads) - 1) = omega arith in
-    last_is (g ∷ heads) d (omega arith) ∙ ap (λ (n : ℕ). (get_or (h ∷ g ∷ heads) n d).key) (sym i)
-
--- the key of the last change is that string
-last_of : (texts : List (List ℕ)) (heads : List Head) → 0 < length heads → get_or texts (last_at heads) [] ≡ last_key (changes_at texts heads)
-last_of texts [] some = absurd (omega arith)
-last_of texts (h ∷ []) some = refl
-last_of texts (h ∷ g ∷ heads) some = last_of texts (g ∷ heads) (omega arith)
-
--- and it is one of them
-last_inside : (n : ℕ) (heads : List Head) → 0 < length heads → are_inside n heads ≡ true → last_at heads < n
-last_inside n [] some e = absurd (omega arith)
-last_inside n (h ∷ []) some e = let i = inside_at n h [] e in i.0
-last_inside n (h ∷ g ∷ heads) some e = let i = inside_at n h (g ∷ heads) e in last_inside n (g ∷ heads) (omega arith) i.2
-
-pub last_known : (texts : List (List ℕ)) (heads : List Head) (now : List KeyChange) → changes_at texts heads ≡ now → 0 < length now → are_inside (length texts) heads ≡ true → last_at heads < length texts
-last_known texts heads now view some e = last_inside (length texts) heads (omega (arith, some, ap length view, length-map heads (change_at texts))) e
-
-pub with_last : (texts : List (List ℕ)) (heads : List Head) (at ts : ℕ) (kind : Kindly) (cells : List ℕ) (now new : List KeyChange) → changes_at texts heads ≡ now → 0 < length now → at ≡ last_at heads
+-- a change whose key is the string at a place
+pub with_key : (texts : List (List ℕ)) (heads : List Head) (at ts : ℕ) (kind : Kindly) (key cells : List ℕ) (now new : List KeyChange) → changes_at texts heads ≡ now → get_or texts at [] ≡ key
     → new ≡ changes_at texts heads ++ (record { key = get_or texts at []; ts = ts; change = change_with kind (cells_behind cells) }) ∷ []
-    → new ≡ now ++ (record { key = last_key now; ts = ts; change = change_with kind (cells_behind cells) }) ∷ []
-with_last texts heads at ts kind cells now new view some is h =
-    let there : 0 < length heads = omega (arith, some, ap length view, length-map heads (change_at texts)) in
-    let key : get_or texts at [] ≡ last_key (changes_at texts heads) = ap (λ (n : ℕ). get_or texts n []) is ∙ last_of texts heads there in
-    h ∙ ap (λ (k : List ℕ). changes_at texts heads ++ (record { key = k; ts = ts; change = change_with kind (cells_behind cells) }) ∷ []) key ∙ ap (λ (l : List KeyChange). l ++ (record { key = last_key l; ts = ts; change = change_with kind (cells_behind cells) }) ∷ []) view
+    → new ≡ now ++ (record { key = key; ts = ts; change = change_with kind (cells_behind cells) }) ∷ []
+with_key texts heads at ts kind key cells now new view is h = h ∙ rw (view, is) refl
 
 -- ---- where a test ends to pass
 

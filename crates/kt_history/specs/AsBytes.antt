@@ -1,5 +1,5 @@
 -- Changes whose keys and cells stand as byte strings in one list.
-use Rattle.std.specs.Prelude.{ℕ, Bool, ◌&&◌, List, [], ◌∷◌, map, get_or, nat_lt}
+use Rattle.std.specs.Prelude.{ℕ, Bool, ◌&&◌, List, [], map, get_or, nat_lt}
 use Rattle.std.specs.List.{list_all}
 use Rattle.kt_cells.specs.Reading.{cells_behind}
 use Rattle.kt_history.specs.declared.change.Change.{Change}
@@ -31,18 +31,6 @@ is_inside n h = nat_lt h.key n && nat_lt h.cells n
 
 abbrev pub are_inside : ℕ → List Head → Bool
 are_inside n heads = list_all (is_inside n) heads
-
--- which string is the key of the last change
-abbrev pub last_at : List Head → ℕ
-last_at [] = 0
-last_at (h ∷ []) = h.key
-last_at (h ∷ g ∷ heads) = last_at (g ∷ heads)
-
--- the key of the last change, or the empty one
-abbrev pub last_key : List KeyChange → List ℕ
-last_key [] = []
-last_key (c ∷ []) = c.key
-last_key (c ∷ d ∷ changes) = last_key (d ∷ changes)
 
 -- a change that is read where it lies, and one of a list, without its key
 abbrev pub step_in : ChangeRef → ℕ × Change

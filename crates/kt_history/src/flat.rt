@@ -1,11 +1,11 @@
 //! Changes held as the bytes that they are spelled by, so that a copy of many takes no memory for each.
-ghost use Rattle.std.specs.Prelude.{◌≡◌, ◌==◌, ◌<◌, ◌∷◌, ◌++◌, [], true, false, not, ◌≤◌, length, get_or, slice_get, OnOk, OnErr};
+ghost use Rattle.std.specs.Prelude.{◌≡◌, ◌==◌, ◌<◌, ◌∷◌, ◌++◌, [], true, false, not, ◌≤◌, length, get_or, slice_get, IfOk, OnOk, OnErr};
 ghost use Rattle.std.specs.List.Sorted.{IsPartitionedBy, IsPartitionPoint};
 ghost use Rattle.std.specs.Option.{option_copied, option_map};
 ghost use Rattle.std.specs.Ordering.{is_lt};
 ghost use Rattle.kt_history.specs.Rows.{key_cmp};
 ghost use Rattle.kt_cells.specs.Reading.{cells_behind};
-ghost use Rattle.kt_history.specs.AsBytes.{change_with, changes_at, are_inside, last_at, last_key, step_in, step_of};
+ghost use Rattle.kt_history.specs.AsBytes.{change_with, changes_at, are_inside, step_in, step_of};
 
 use crate::Kindly;
 use kt_base::NoMemory;
@@ -83,14 +83,35 @@ fn text_at(texts: &Texts, at: usize) -> &[u8]
     if at < texts.len() { texts.get(at) } else { &[] }
 }
 
-// Which string is the key of the last change.
-fn last_at(heads: &[Head]) -> usize
-    ensures { result ≡ last_at heads.now }
+// Whether a string at a place is this one.
+fn is_at(texts: &Texts, at: usize, text: &[u8]) -> bool
+    ensures { result ≡ true → (at < length texts.now) × (get_or texts.now at [] ≡ text.now) }
 {
-    match heads {
-        [.., head] => head.key,
-        [] => 0,
+    at < texts.len() && texts.get(at) == text
+}
+
+// Which string is the key of the last change. It is looked at first, and tells nothing.
+fn last_key(heads: &[Head]) -> usize {
+    match heads.last() {
+        Some(head) => head.key,
+        None => 0,
     }
+}
+
+// Which string is a key: that of the last change, if it is the same, or else a new one.
+fn place_of(texts: &mut Texts, heads: &[Head], key: &[u8]) -> Result<usize, NoMemory>
+    requires { are_inside (length texts.old) heads.now ≡ true }
+    ensures same { changes_at texts.new heads.now ≡ changes_at texts.old heads.now }
+    ensures inside { are_inside (length texts.new) heads.now ≡ true }
+    ensures known { IfOk result (λ at. (at < length texts.new) × (get_or texts.new at [] ≡ key.now)) }
+{
+    let last = last_key(heads);
+    if is_at(texts, last, key) {
+        return Ok(last);
+    }
+    let at = texts.len();
+    texts.push(key)?;
+    Ok(at)
 }
 
 impl ChangeBytes {
@@ -163,18 +184,7 @@ impl ChangeBytes {
         ensures ok { OnOk result (self.new ≡ self.old ++ (record { key = key.now; ts = ts; change = change_with kind (cells_behind cells.now) }) ∷ []) }
         ensures err { OnErr result (self.new ≡ self.old) }
     {
-        let at = self.texts.len();
-        self.texts.push(key)?;
-        add(&mut self.texts, &mut self.heads, at, ts, kind, cells)
-    }
-
-    /// Adds another change of the last one's key. Without memory nothing is added.
-    pub fn push_again(&mut self, ts: u64, kind: Kindly, cells: &[u8]) -> Result<(), NoMemory>
-        requires { 0 < length self.old }
-        ensures ok { OnOk result (self.new ≡ self.old ++ (record { key = last_key self.old; ts = ts; change = change_with kind (cells_behind cells.now) }) ∷ []) }
-        ensures err { OnErr result (self.new ≡ self.old) }
-    {
-        let at = last_at(&self.heads);
+        let at = place_of(&mut self.texts, &self.heads, key)?;
         add(&mut self.texts, &mut self.heads, at, ts, kind, cells)
     }
 }
