@@ -1,13 +1,13 @@
 -- What sound cells are seen as.
-use Rattle.std.proofs.Common.{◌≡◌, ℕ, ◌<◌, ◌≤◌, ◌≢◌, inl, inr, true, false, List, length, get_or, set, refl, sym, ap, ◌∙◌, arith, subst, Some, None, Option}
+use Rattle.std.proofs.Common.{◌≡◌, ℕ, ◌/◌, ◌%◌, ◌<◌, ◌≤◌, ◌≢◌, inl, inr, true, false, List, length, take, get_or, set, refl, sym, ap, ◌∙◌, arith, subst, Some, None, Option}
 use Rattle.std.specs.Prelude.{◌==◌}
 use Rattle.std.proofs.lemmas.Bool.{cases_eq}
 use Rattle.std.proofs.lemmas.Bool.Decides.{nat_tests}
 use Rattle.std.proofs.lemmas.List.FromFn.{length-map-range_with_len, get_or-map-range_with_len}
-use Rattle.std.proofs.lemmas.List.{length-set, get_or-set_same, get_or-set_other, ext_get_or}
+use Rattle.std.proofs.lemmas.List.{length-set, get_or-set_same, get_or-set_other, ext_get_or, get_or-take, length-take-le}
 use Rattle.std.proofs.lemmas.Grind.{same_number_lists}
 use Rattle.kt_pool.specs.Contents.{cells_for}
-use Rattle.kt_pool.specs.Cells.{IsChain, walk, len_at, byte_at, content, nothing}
+use Rattle.kt_pool.specs.Cells.{IsChain, IsFull, walk, len_at, load_at, byte_at, content, nothing}
 use Rattle.kt_pool.specs.Sound.{placed_in, places_in, IsSound}
 use Rattle.kt_pool.specs.declared.cells.Cell.{Cell}
 
@@ -23,6 +23,26 @@ is_content cells first bytes h = same_number_lists _ _ (length-content cells fir
 
 pub same_content : (a b : List Cell) (first n : ℕ) → ((i : ℕ) → i < n → byte_at a first i ≡ byte_at b first i) → content a first n ≡ content b first n
 same_content a b first n h = same_number_lists _ _ (length-content a first n ∙ sym (length-content b first n)) (λ i low. let l : i < n = subst (λ m. i < m) (length-content a first n) low in get_or-content a first n i l ∙ h i l ∙ sym (get_or-content b first n i l))
+
+-- the first bytes of a chain's content are its content so far
+pub take_content : (cells : List Cell) (first m n : ℕ) → m ≤ n → content cells first m ≡ take m (content cells first n)
+take_content cells first m n low =
+    let whole = length-content cells first n in
+    let right : length (take m (content cells first n)) ≡ m = length-take-le m (content cells first n) (omega arith) in
+    same_number_lists _ _ (length-content cells first m ∙ sym right) (λ i l.
+    let less : i < m = subst (λ k. i < k) (length-content cells first m) l in
+    get_or-content cells first m i less ∙ sym (get_or-take m (content cells first n) i 0 less ∙ get_or-content cells first n i (omega arith)))
+
+-- the first bytes of a cell are those of the chain that begins there
+pub front_content : (cells : List Cell) (first n : ℕ) → IsFull cells → first < length cells → n ≤ 56 → take n (load_at cells first) ≡ content cells first n
+front_content cells first n full inside low =
+    let whole = full first inside in
+    let left : length (take n (load_at cells first)) ≡ n = length-take-le n (load_at cells first) (omega arith) in
+    same_number_lists _ _ (left ∙ sym (length-content cells first n)) (λ i l.
+    let less : i < n = subst (λ k. i < k) left l in
+    let cell : i / 56 ≡ 0 = omega arith in
+    let at : i % 56 ≡ i = omega arith in
+    get_or-take n (load_at cells first) i 0 less ∙ sym (get_or-content cells first n i less ∙ ap (λ k. get_or (load_at cells (walk cells first k)) (i % 56) 0) cell ∙ ap (λ k. get_or (load_at cells first) k 0) at))
 
 pub length-places : (cells : List Cell) → length (places_in cells) ≡ length cells
 length-places cells = length-map-range_with_len (placed_in cells) 0 (length cells)

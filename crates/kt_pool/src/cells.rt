@@ -193,6 +193,16 @@ pub fn chunk(cells: &[Cell], first: u32, len: usize, at: usize) -> &[u8]
     &here[skip..end]
 }
 
+/// The first `len` bytes along a chain, where its first cell has them all.
+pub fn front(cells: &[Cell], first: u32, len: usize) -> &[u8]
+    requires inside { first < length cells.now }
+    requires full { IsFull cells.now }
+    requires short { len ≤ 56 }
+    ensures { result.now ≡ content cells.now first len }
+{
+    &cells[first as usize].bytes[..len]
+}
+
 /// Compares the first `len` bytes along a chain with a key.
 pub fn compare(cells: &[Cell], first: u32, len: usize, key: &[u8]) -> Ordering
     requires chain { IsChain cells.now first (cells_for len) }

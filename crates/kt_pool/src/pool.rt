@@ -1,5 +1,5 @@
 ghost use Rattle.std.specs.Prelude.{◌≡◌, ◌+◌, ◌-◌, ◌*◌, ◌/◌, ◌<◌, ◌≤◌, ◌↔◌, length, IsOk, IfOk, OnOk, OnErr, MatchResult, slice_index, set, Some, None};
-ghost use Rattle.std.specs.Prelude.{replicate, ◌++◌, if◌then◌else◌, min, slice_range};
+ghost use Rattle.std.specs.Prelude.{replicate, ◌++◌, if◌then◌else◌, min, slice_range, take};
 ghost use Rattle.std.specs.Result.{is_ok};
 ghost use Rattle.std.specs.Ordering.{nat_cmp};
 ghost use Rattle.std.specs.Cmp.Lexicographic.{slice_cmp};
@@ -7,8 +7,8 @@ ghost use Rattle.std.specs.Vec.{vec_capacity, vec_len};
 ghost use Rattle.kt_pool.specs.Contents.{Contents, cells_for, used, free, at_cell, Stands, bytes_at, with_place, with_reserved, overwritten};
 
 use crate::cells::{
-    Cell, append, byte, cells_taken, chunk, compare, fill, fill_blank, len_of, lengthen, release,
-    write,
+    Cell, append, byte, cells_taken, chunk, compare, fill, fill_blank, front, len_of, lengthen,
+    release, write,
 };
 use crate::error::{Full, NoMemory};
 use crate::place::Place;
@@ -165,6 +165,16 @@ impl Pool {
     {
         let len = len_of(&self.cells, place.cell);
         chunk(&self.cells, place.cell, len, at)
+    }
+
+    /// The first of the bytes placed there, as many as a cell holds at most.
+    pub fn front(&self, place: Place, len: usize) -> &[u8]
+        requires some { 0 < len }
+        requires short { len ≤ 56 }
+        requires inside { len ≤ length (bytes_at self.now place.cell) }
+        ensures { result.now ≡ take len (bytes_at self.now place.cell) }
+    {
+        front(&self.cells, place.cell, len)
     }
 
     /// The order of the bytes placed there and a key.
