@@ -9,9 +9,9 @@ use Rattle.kt_tree.specs.Changes.{Splits, Becomes, alone, StandsBy}
 use Rattle.kt_tree.specs.declared.node.Node.{Node}
 use Rattle.kt_tree.proofs.Orders.{rising_below, put_before, put_after, put_past, put_first, above_is}
 use Rattle.kt_tree.proofs.Places.{one_same, bytes_same}
-use Rattle.kt_tree.proofs.Shapes.{kept, no_tree, root_long}
+use Rattle.kt_tree.proofs.Shapes.{kept, no_tree, node_kept}
 use Rattle.kt_tree.proofs.Splitting.{to_node, not_less, lacks_right, lacks_left, own_order, own_other}
-use Rattle.kt_tree.proofs.Joining.{unchanged, joined_right, joined_left}
+use Rattle.kt_tree.proofs.Joining.{unchanged, root_node, joined_right, joined_left}
 use Rattle.kt_tree.proofs.Overwriting.{becomes_as}
 
 -- the places of a tree, and of a node that stands alone beside it
@@ -115,15 +115,16 @@ module _ (old : Contents) (root fresh : ℕ) (key : List ℕ) (n : Node) (read :
     by_left_there (node cell l own at v r) place value h = (l, place, value, by_left cell l own at v r place value h)
 
     module _ (mid : Contents) (child : ℕ) where
-      pub long_hung_right : (s : Shape) (place value : ℕ) → StandsBy old root fresh key s place value → ((r : Shape) (place value : ℕ) → StandsBy old n.right fresh key r place value → Becomes old mid child (put key value (flat r)) (both r fresh key place value)) → length (bytes_at mid root) ≡ 24
-      long_hung_right leaf place value h f = absurd (ne h.lacks.tree.root)
-      long_hung_right (node cell l own at v r) place value h f =
-          ap length (bytes_same old mid root ((f r place value (by_right cell l own at v r place value h)).rewrites.frame root (root_out cell l own at v r place value h).0)) ∙ root_long old root cell l own at v r h.lacks.tree
+      -- the root's node is as it was
+      pub still_hung_right : (s : Shape) (place value : ℕ) → StandsBy old root fresh key s place value → ((r : Shape) (place value : ℕ) → StandsBy old n.right fresh key r place value → Becomes old mid child (put key value (flat r)) (both r fresh key place value)) → IsNode mid root n
+      still_hung_right leaf place value h f = absurd (ne h.lacks.tree.root)
+      still_hung_right (node cell l own at v r) place value h f =
+          node_kept old mid root n ((f r place value (by_right cell l own at v r place value h)).rewrites.frame root (root_out cell l own at v r place value h).0) (root_node old root key n read cell l own at v r h.lacks.tree)
 
-      pub long_hung_left : (s : Shape) (place value : ℕ) → StandsBy old root fresh key s place value → ((l : Shape) (place value : ℕ) → StandsBy old n.left fresh key l place value → Becomes old mid child (put key value (flat l)) (both l fresh key place value)) → length (bytes_at mid root) ≡ 24
-      long_hung_left leaf place value h f = absurd (ne h.lacks.tree.root)
-      long_hung_left (node cell l own at v r) place value h f =
-          ap length (bytes_same old mid root ((f l place value (by_left cell l own at v r place value h)).rewrites.frame root (root_out cell l own at v r place value h).1)) ∙ root_long old root cell l own at v r h.lacks.tree
+      pub still_hung_left : (s : Shape) (place value : ℕ) → StandsBy old root fresh key s place value → ((l : Shape) (place value : ℕ) → StandsBy old n.left fresh key l place value → Becomes old mid child (put key value (flat l)) (both l fresh key place value)) → IsNode mid root n
+      still_hung_left leaf place value h f = absurd (ne h.lacks.tree.root)
+      still_hung_left (node cell l own at v r) place value h f =
+          node_kept old mid root n ((f l place value (by_left cell l own at v r place value h)).rewrites.frame root (root_out cell l own at v r place value h).1) (root_node old root key n read cell l own at v r h.lacks.tree)
 
       module _ (new : Contents) (ot : Rewrites mid new (one_at root)) where
         pub hangs_right : order (bytes_at old n.key) key ≡ Less → IsNode new root (to_node n.left child n.key n.value n.head) → ((r : Shape) (place value : ℕ) → StandsBy old n.right fresh key r place value → Becomes old mid child (put key value (flat r)) (both r fresh key place value)) → (s : Shape) (place value : ℕ) → StandsBy old root fresh key s place value → Becomes old new root (put key value (flat s)) (both s fresh key place value)

@@ -9,4 +9,5 @@ pub mod Hanging
 pub mod Clearing
 pub mod Trees
 pub mod Walks
+pub mod InOrder
 pub mod Callers

@@ -3,4 +3,5 @@ pub mod Shapes
 pub mod Takes
 pub mod Trees
 pub mod Walks
+pub mod InOrder
 pub mod Changes

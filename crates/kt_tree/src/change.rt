@@ -1,10 +1,10 @@
 //! Trees that are cut and joined.
 ghost use Rattle.std.specs.Prelude.{◌≡◌, ◌<◌, ◌+◌, ℕ, Some, None, MatchOption};
 ghost use Rattle.kt_tree.specs.Entries.{IsRising, value_of, put};
-ghost use Rattle.kt_tree.specs.Shapes.{Shape, IsTreeAt, HasTree, flat, count};
+ghost use Rattle.kt_tree.specs.Shapes.{Shape, IsNode, IsTreeAt, HasTree, Rewrites, flat, count, one_at};
 ghost use Rattle.kt_tree.specs.Changes.{IsAbsent, Lacks, Splits, Becomes, alone, StandsBy, Clears};
 
-use crate::node::{NOTHING, node_in, order, write};
+use crate::node::{NOTHING, Node, node_in, order, write};
 use kt_pool::{Place, Pool};
 use std::cmp::Ordering;
 
@@ -53,6 +53,28 @@ pub fn split(pool: &mut Pool, root: u32, key: &[u8]) -> Halves
     }
 }
 
+/// The node in this cell has this tree to its left from now on. It is written only where it had another.
+fn set_left(pool: &mut Pool, cell: u32, node: Node, left: u32)
+    requires { IsNode pool.old cell node }
+    ensures node { IsNode pool.new cell (record node { left = left }) }
+    ensures others { Rewrites pool.old pool.new (one_at cell) }
+{
+    if node.left != left {
+        write(pool, cell, Node { left, ..node });
+    }
+}
+
+/// The node in this cell has this tree to its right from now on. It is written only where it had another.
+fn set_right(pool: &mut Pool, cell: u32, node: Node, right: u32)
+    requires { IsNode pool.old cell node }
+    ensures node { IsNode pool.new cell (record node { right = right }) }
+    ensures others { Rewrites pool.old pool.new (one_at cell) }
+{
+    if node.right != right {
+        write(pool, cell, Node { right, ..node });
+    }
+}
+
 /// Hangs a node that stands alone into a tree without its key, and says where the tree begins now.
 pub fn hang(pool: &mut Pool, root: u32, fresh: u32, key: &[u8]) -> u32
     requires { (s : Shape) × (place : ℕ) × (value : ℕ) × StandsBy pool.old root fresh key.now s place value }
@@ -69,14 +91,14 @@ pub fn hang(pool: &mut Pool, root: u32, fresh: u32, key: &[u8]) -> u32
         write(pool, fresh, top);
         return fresh;
     }
-    let mut node = node_in(pool, root);
+    let node = node_in(pool, root);
     if order(pool, &node, key).is_lt() {
-        node.right = hang(pool, node.right, fresh, key);
-        write(pool, root, node);
+        let right = hang(pool, node.right, fresh, key);
+        set_right(pool, root, node, right);
         root
     } else {
-        node.left = hang(pool, node.left, fresh, key);
-        write(pool, root, node);
+        let left = hang(pool, node.left, fresh, key);
+        set_left(pool, root, node, left);
         root
     }
 }

@@ -4,7 +4,9 @@
 #![tactic(auto)]
 
 pub use tree::{Pair, Tree};
+pub use walk::Walk;
 
 pub mod change;
 pub mod node;
 pub mod tree;
+pub mod walk;

@@ -29,12 +29,11 @@ pub struct Node {
     pub head: Head,
 }
 
-/// The node in this cell.
-pub fn node_in(pool: &Pool, cell: u32) -> Node
-    requires { length (bytes_at pool.now cell) ≡ 24 }
-    ensures { result ≡ node_of (bytes_at pool.now cell) }
+/// The node that these bytes spell.
+fn node_from(bytes: &[u8]) -> Node
+    requires { length bytes.now ≡ 24 }
+    ensures { result ≡ node_of bytes.now }
 {
-    let bytes = pool.chunk(Place { cell }, 0);
     Node {
         left: LittleEndian::read_u32(bytes),
         right: LittleEndian::read_u32(&bytes[4..]),
@@ -45,6 +44,14 @@ pub fn node_in(pool: &Pool, cell: u32) -> Node
             low: LittleEndian::read_u32(&bytes[20..]),
         },
     }
+}
+
+/// The node in this cell.
+pub fn node_in(pool: &Pool, cell: u32) -> Node
+    requires { length (bytes_at pool.now cell) ≡ 24 }
+    ensures { result ≡ node_of (bytes_at pool.now cell) }
+{
+    node_from(pool.front(Place { cell }, 24))
 }
 
 /// The bytes of a node.

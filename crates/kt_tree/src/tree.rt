@@ -5,12 +5,15 @@ ghost use Rattle.std.specs.List.{sum_by};
 ghost use Rattle.kt_pool.specs.Contents.{Contents, Stands, at_cell, bytes_at, used};
 ghost use Rattle.kt_tree.specs.Entries.{Entry, value_of, is_past, next, put};
 ghost use Rattle.kt_tree.specs.Shapes.{head_of, AreBytes};
+ghost use Rattle.kt_tree.specs.InOrder.{IsWalk, to_come};
 ghost use Rattle.kt_tree.specs.Takes.{Takes};
 ghost use Rattle.kt_tree.specs.Trees.{IsTree, IsPairOf, entries, Owns, need, place_at};
 
 use crate::change::{give_back, hang, overwrite};
 use crate::node::{NOTHING, Node, head_of, node_in, order, place};
+use crate::walk::Walk;
 use kt_pool::{Place, Pool};
+use std::alloc::Global;
 use std::cmp::Ordering;
 
 #[cfg(test)]
@@ -142,6 +145,17 @@ impl Tree {
             }
         }
         best
+    }
+
+    /// A walk through the entries in the order of their keys.
+    pub fn walk(&self, alloc: Global) -> Walk
+        ensures walk { (pool : Contents) → IsTree self.now pool → IsWalk result pool }
+        ensures all { (pool : Contents) → IsTree self.now pool → to_come result pool ≡ entries self.now pool }
+    {
+        Walk {
+            cell: self.root,
+            above: Vec::new(alloc),
+        }
     }
 
     /// Gives back the cells of all nodes and keys. The values keep theirs.
