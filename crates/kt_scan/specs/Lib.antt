@@ -3,3 +3,4 @@ pub mod Live
 pub mod Lines
 pub mod Single
 pub mod Parts
+pub mod Whole

@@ -1,10 +1,10 @@
 //! The cells that the bytes of a key spell, whatever bytes they are.
-ghost use Rattle.std.specs.Prelude.{◌≡◌, ◌-◌, ◌^◌, ◌≤◌, pos, ◌-ℤ◌, length, take, slice_index, IfOk};
+ghost use Rattle.std.specs.Prelude.{◌≡◌, ◌-◌, ◌^◌, ◌≤◌, pos, ◌-ℤ◌, length, take, slice_index, IfOk, OnOk};
 ghost use Rattle.std.specs.Int.{from_be_bytes, w16, w32, w64};
 ghost use Rattle.kt_base.specs.Keys.{width_of, number_of_key, last_cell, key_cells};
 ghost use Rattle.kt_scan.specs.Parts.{IsMark, IsTextAt, IsFirst};
 
-use kt_base::{Cell, Kind, NoMemory, Octets, Row};
+use kt_base::{Cell, Kind, NoMemory, Octets};
 use kt_key::length::width;
 use memchr::memchr;
 use std::alloc::Global;
@@ -179,13 +179,18 @@ fn last_cell(alloc: Global, kind: Kind, bytes: &[u8]) -> Result<Cell, NoMemory>
     }
 }
 
-/// The cells that the bytes of a key spell, for key columns of these kinds.
-pub fn key_cells(alloc: Global, kinds: &[Kind], bytes: &[u8]) -> Result<Row, NoMemory>
-    ensures { IfOk result (λ row. row ≡ key_cells kinds.now bytes.now) }
+/// Reads the cells that the bytes of a key spell, for key columns of these kinds, in place of the cells before.
+pub fn read_key(
+    alloc: Global,
+    kinds: &[Kind],
+    bytes: &[u8],
+    cells: &mut Vec<Cell>,
+) -> Result<(), NoMemory>
+    ensures { OnOk result (cells.new.items ≡ key_cells kinds.now bytes.now) }
 {
-    let mut cells = Vec::with_capacity(alloc, kinds.len())?;
+    cells.clear();
     let Some((last, others)) = kinds.split_last() else {
-        return Ok(Row::of(cells));
+        return Ok(());
     };
     let mut rest = bytes;
     for kind in others {
@@ -195,5 +200,5 @@ pub fn key_cells(alloc: Global, kinds: &[Kind], bytes: &[u8]) -> Result<Row, NoM
         rest = behind;
     }
     cells.push(last_cell(alloc, *last, rest)?)?;
-    Ok(Row::of(cells))
+    Ok(())
 }

@@ -1,32 +1,50 @@
-//! The keys of several views, by rising bytes.
-ghost use Rattle.std.specs.Prelude.{◌≡◌, ◌≤◌, IfOk};
+//! The keys of several views, by rising bytes, and the rows of each.
+ghost use Rattle.std.specs.Prelude.{◌≡◌, ◌≤◌, Some, None, IfOk, if◌then◌else◌};
 ghost use Rattle.std.specs.List.{All};
 ghost use Rattle.std.specs.Option.{option_copied};
 ghost use Rattle.kt_history.specs.Views.{key_above};
 ghost use Rattle.kt_scan.specs.Live.{lesser, all_keys, row_in};
 
-use kt_base::{Cells, NoMemory, Octets};
-use kt_history::View;
+use kt_base::NoMemory;
+use kt_history::{RowRef, View};
 use std::alloc::Global;
 
-fn bytes_of(key: &Option<Octets>) -> Option<&[u8]>
-    ensures { option_copied result ≡ key.now }
-{
-    match key {
-        Some(key) => Some(key.as_slice()),
-        None => None,
+/// A place for each view, where it is looked at first. The places tell nothing: they only save a search.
+#[derive(Debug, Drop)]
+pub struct Hints {
+    places: Vec<usize>,
+}
+
+impl Hints {
+    /// The first places of so many views.
+    pub fn new(alloc: Global, views: usize) -> Result<Hints, NoMemory> {
+        let mut places = Vec::with_capacity(alloc, views)?;
+        for _ in 0..views {
+            places.push(0)?;
+        }
+        Ok(Hints { places })
+    }
+
+    fn place(&self, view: usize) -> usize {
+        self.places.get(view).copied().unwrap_or(0)
+    }
+
+    fn set(&mut self, view: usize, place: usize) {
+        if let Some(old) = self.places.get_mut(view) {
+            *old = place;
+        }
     }
 }
 
 // The lesser of two keys.
-fn lesser(one: Option<Octets>, other: Option<Octets>) -> Option<Octets>
-    ensures { result ≡ lesser one other }
+fn lesser<'v>(one: Option<&'v [u8]>, other: Option<&'v [u8]>) -> Option<&'v [u8]>
+    ensures { option_copied result ≡ lesser (option_copied one.entry) (option_copied other.entry) }
 {
     match (one, other) {
         (None, other) => other,
         (Some(one), None) => Some(one),
         (Some(one), Some(other)) => {
-            if other.as_slice().cmp(&one.as_slice()).is_lt() {
+            if other.cmp(&one).is_lt() {
                 Some(other)
             } else {
                 Some(one)
@@ -36,34 +54,40 @@ fn lesser(one: Option<Octets>, other: Option<Octets>) -> Option<Octets>
 }
 
 /// The least key of any view above another, or the least one of all.
-pub fn key_after<V: View>(
-    alloc: Global,
-    views: &[V],
-    after: &Option<Octets>,
-) -> Result<Option<Octets>, NoMemory>
-    ensures { IfOk result (λ found. found ≡ key_above after.now (all_keys V.keys views.now)) }
+pub fn next_key<'v, V: View>(
+    views: &'v [V],
+    after: Option<&[u8]>,
+    hints: &mut Hints,
+) -> Option<&'v [u8]>
+    ensures { option_copied result ≡ key_above (option_copied after.entry) (all_keys V.keys views.now) }
 {
     let mut found = None;
-    for view in views {
-        found = lesser(found, view.key_after(alloc, bytes_of(after))?);
+    for (at, view) in views.iter().enumerate() {
+        let mut place = hints.place(at);
+        found = lesser(found, view.next_key(after, &mut place));
+        hints.set(at, place);
     }
-    Ok(found)
+    found
 }
 
-/// The row of a key at a time, of the first view that has one.
-pub fn row_at<V: View>(
-    alloc: Global,
-    views: &[V],
+/// The row of a key at a time, of the first view that has one. Tells whether there is one.
+pub fn row_into<'v, V: View>(
+    views: &'v [V],
     key: &[u8],
     t: u64,
-) -> Result<Option<Cells>, NoMemory>
+    hints: &mut Hints,
+    row: &mut RowRef<'v>,
+) -> Result<bool, NoMemory>
     requires { All (λ v. V.mark v ≤ t) views.now }
-    ensures { IfOk result (λ found. found ≡ row_in V.row_of views.now key.now t) }
+    ensures { IfOk result (λ found. row_in V.row_of views.now key.now t ≡ (if found then Some row.new else None)) }
 {
-    for view in views {
-        if let Some(cells) = view.row_at(alloc, key, t)? {
-            return Ok(Some(cells));
+    for (at, view) in views.iter().enumerate() {
+        let mut place = hints.place(at);
+        let found = view.row_into(key, t, &mut place, row)?;
+        hints.set(at, place);
+        if found {
+            return Ok(true);
         }
     }
-    Ok(None)
+    Ok(false)
 }

@@ -6,9 +6,11 @@
 
 mod key_cells;
 mod keys;
+mod kinds;
 pub mod laws;
 mod row;
 mod scanning;
 mod tested;
 
+pub use kinds::kinds_shown;
 pub use scanning::run;

@@ -1,63 +1,72 @@
-//! A whole row, from its encoded key and its other cells.
-ghost use Rattle.std.specs.Prelude.{◌≡◌, ◌++◌, Some, IfOk};
-ghost use Rattle.std.specs.Option.{option_copied};
+//! A whole row: the cells of its key, and its other cells.
+ghost use Rattle.std.specs.Prelude.{◌≡◌, ◌++◌, [], Some, IfOk, OnOk, false};
+ghost use Rattle.std.specs.List.{list_any};
+ghost use Rattle.std.specs.Option.{option_copied, option_map};
 ghost use Rattle.std.specs.Ordering.{nat_cmp};
 ghost use Rattle.std.specs.FinMap.Entries.{find};
-ghost use Rattle.kt_history.specs.Replies.{whole_row};
-ghost use Rattle.kt_scan.specs.Encoded.{keys_of, ids_with};
+ghost use Rattle.kt_cells.specs.Borrowed.{cell_in, cells_in};
+ghost use Rattle.kt_history.specs.Replies.{cell_of};
+ghost use Rattle.kt_scan.specs.Encoded.{ids_with};
+ghost use Rattle.kt_scan.specs.Whole.{whole_in};
 
-use crate::key_cells::key_cells;
-use kt_base::{Cell, Cells, NoMemory, Row};
-use kt_schema::{Column, Schema};
+use kt_base::Cell;
+use kt_cells::CellRef;
+use kt_history::RowRef;
+use kt_schema::Column;
 use std::alloc::Global;
 
-// The key's cells under their columns.
-fn under(alloc: Global, columns: &[Column], cells: Row) -> Result<Vec<(u16, Cell)>, NoMemory>
-    ensures { IfOk result (λ key. key.items ≡ ids_with columns.now cells) }
+/// A whole row, used again for each key. The cells of its key stand under the key columns, in order.
+#[derive(Debug, Drop)]
+pub struct WholeRow<'v> {
+    pub key: Vec<Cell>,
+    pub others: RowRef<'v>,
+}
+
+// The cell of a key column, if this column is one.
+fn key_cell<'k>(columns: &[Column], key: &'k [Cell], id: u16) -> Option<&'k Cell>
+    ensures { option_copied result ≡ find nat_cmp id (ids_with columns.now key.now) }
 {
-    let mut key = Vec::new(alloc);
-    let mut rest = columns;
-    for cell in cells.into_vec() {
-        if let Some((column, others)) = rest.split_first() {
-            key.push((column.id, cell))?;
-            rest = others;
+    let mut rest = key;
+    for column in columns {
+        let Some((cell, behind)) = rest.split_first() else {
+            return None;
+        };
+        if column.id == id {
+            return Some(cell);
         }
+        rest = behind;
     }
-    Ok(key)
+    None
 }
 
-// A row's other cells behind those of its key.
-fn behind(key: Vec<(u16, Cell)>, cells: Cells) -> Result<Vec<(u16, Cell)>, NoMemory>
-    ensures { IfOk result (λ whole. whole.items ≡ key.items ++ cells) }
+// The cell of another column, if the row has one.
+fn other_cell<'v>(cells: &[(u16, CellRef<'v>)], id: u16) -> Option<CellRef<'v>>
+    ensures { option_map cell_in result ≡ find nat_cmp id (cells_in cells.now) }
 {
-    let mut whole = key;
-    for cell in cells.into_vec() {
-        whole.push(cell)?;
-    }
-    Ok(whole)
-}
-
-/// Every cell of a row by its column, the key's first.
-pub fn whole_row(
-    alloc: Global,
-    schema: &Schema,
-    key: &[u8],
-    cells: Cells,
-) -> Result<Vec<(u16, Cell)>, NoMemory>
-    ensures { IfOk result (λ whole. whole.items ≡ whole_row (keys_of schema.now) (key.now, cells)) }
-{
-    let key = key_cells(alloc, schema.key_kinds(), key)?;
-    behind(under(alloc, schema.key_columns(), key)?, cells)
-}
-
-/// The cell of a column, if the row has one.
-pub fn cell_at(row: &[(u16, Cell)], column: u16) -> Option<&Cell>
-    ensures { option_copied result ≡ find nat_cmp column row.now }
-{
-    for cell in row {
-        if cell.0 == column {
-            return Some(&cell.1);
+    for cell in cells {
+        if cell.0 == id {
+            return Some(cell.1);
         }
     }
     None
+}
+
+impl<'v> WholeRow<'v> {
+    /// No cells.
+    pub fn new(alloc: Global) -> WholeRow<'v> {
+        WholeRow {
+            key: Vec::new(alloc),
+            others: RowRef::new(alloc),
+        }
+    }
+
+    /// The cell of a column, and null where the row has none.
+    pub fn cell<'r>(&'r self, columns: &[Column], id: u16) -> CellRef<'r>
+        ensures { cell_in result ≡ cell_of (whole_in columns.now self.now) id }
+    {
+        match key_cell(columns, &self.key, id) {
+            Some(cell) => CellRef::of(cell),
+            None => other_cell(self.others.as_slice(), id).unwrap_or(CellRef::Null),
+        }
+    }
 }

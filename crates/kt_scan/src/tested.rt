@@ -1,34 +1,39 @@
 //! The tests of a scan, and its selection.
-ghost use Rattle.std.specs.Prelude.{◌≡◌, IfOk, map};
+ghost use Rattle.std.specs.Prelude.{◌≡◌, ◌++◌, IfOk, OnOk, map};
+ghost use Rattle.kt_cells.specs.Borrowed.{cell_in, cells_in};
 ghost use Rattle.kt_history.specs.Replies.{cell_cmp, is_null, passes, kept, selected, cell_of};
+ghost use Rattle.kt_scan.specs.Encoded.{ids_with};
 ghost use Rattle.kt_scan.specs.Lines.{cut};
+ghost use Rattle.kt_scan.specs.Whole.{whole_in};
 
-use crate::row::cell_at;
+use crate::row::WholeRow;
 use kt_base::{Cell, NoMemory, Row};
+use kt_cells::CellRef;
 use kt_history::{ColumnIds, Pred, Scan, Test};
+use kt_schema::Column;
 use std::alloc::Global;
 use std::cmp::Ordering;
 
 // How two cells of one kind compare. Null compares with nothing.
-fn cell_cmp(cell: &Cell, other: &Cell) -> Option<Ordering>
-    ensures { result ≡ cell_cmp cell.now other.now }
+fn cell_cmp(cell: CellRef<'_>, other: &Cell) -> Option<Ordering>
+    ensures { result ≡ cell_cmp (cell_in cell.entry) other.now }
 {
     match (cell, other) {
-        (Cell::Int(number), Cell::Int(other)) => Some(number.cmp(other)),
-        (Cell::Bool(truth), Cell::Bool(other)) => Some(truth.cmp(other)),
-        (Cell::Bytes(bytes), Cell::Bytes(other)) => Some(bytes.as_slice().cmp(&other.as_slice())),
+        (CellRef::Int(number), Cell::Int(other)) => Some(number.cmp(other)),
+        (CellRef::Bool(truth), Cell::Bool(other)) => Some(truth.cmp(other)),
+        (CellRef::Bytes(bytes), Cell::Bytes(other)) => Some(bytes.cmp(&other.as_slice())),
         _ => None,
     }
 }
 
-fn is_null(cell: &Cell) -> bool
-    ensures { result ≡ is_null cell.now }
+fn is_null(cell: CellRef<'_>) -> bool
+    ensures { result ≡ is_null (cell_in cell.entry) }
 {
-    matches!(cell, Cell::Null)
+    matches!(cell, CellRef::Null)
 }
 
-fn passes(test: &Test, cell: &Cell) -> bool
-    ensures { result ≡ passes test.now cell.now }
+fn passes(test: &Test, cell: CellRef<'_>) -> bool
+    ensures { result ≡ passes test.now (cell_in cell.entry) }
 {
     match test {
         Test::Eq(wanted) => cell_cmp(cell, wanted).is_some_and(Ordering::is_eq),
@@ -41,54 +46,68 @@ fn passes(test: &Test, cell: &Cell) -> bool
     }
 }
 
-// Whether the cell of a column passes its test.
-fn passes_at(pred: &Pred, row: &[(u16, Cell)]) -> bool
-    ensures { result ≡ passes pred.now.test (cell_of row.now pred.now.column) }
-{
-    match cell_at(row, pred.column) {
-        Some(cell) => passes(&pred.test, cell),
-        None => passes(&pred.test, &Cell::Null),
-    }
-}
-
 // Whether a whole row passes all tests.
-fn kept(preds: &[Pred], row: &[(u16, Cell)]) -> bool
-    ensures { result ≡ kept preds.now row.now }
+fn kept(preds: &[Pred], columns: &[Column], row: &WholeRow<'_>) -> bool
+    ensures { result ≡ kept preds.now (whole_in columns.now row.now) }
 {
     for pred in preds {
-        if !passes_at(pred, row) {
+        if !passes(&pred.test, row.cell(columns, pred.column)) {
             return false;
         }
     }
     true
 }
 
-fn all_cells(alloc: Global, row: Vec<(u16, Cell)>) -> Result<Vec<Cell>, NoMemory>
-    ensures { IfOk result (λ cells. cells.items ≡ map (λ c. c.1) row.items) }
+// Appends the cells of a key that stand under its columns.
+fn push_key(cells: &mut Vec<Cell>, columns: &[Column], key: &[Cell]) -> Result<(), NoMemory>
+    ensures { OnOk result (cells.new.items ≡ cells.old.items ++ map (λ c. c.1) (ids_with columns.now key.now)) }
 {
-    let mut cells = Vec::with_capacity(alloc, row.len())?;
-    for (_, cell) in row {
-        cells.push(cell)?;
+    let mut rest = columns;
+    for cell in key {
+        let Some((_, behind)) = rest.split_first() else {
+            return Ok(());
+        };
+        cells.push(cell.copy()?)?;
+        rest = behind;
     }
+    Ok(())
+}
+
+// Appends the other cells of a row.
+fn push_others(
+    alloc: Global,
+    cells: &mut Vec<Cell>,
+    others: &[(u16, CellRef<'_>)],
+) -> Result<(), NoMemory>
+    ensures { OnOk result (cells.new.items ≡ cells.old.items ++ map (λ c. c.1) (cells_in others.now)) }
+{
+    for cell in others {
+        cells.push(cell.1.to_cell(alloc)?)?;
+    }
+    Ok(())
+}
+
+fn all_cells(alloc: Global, columns: &[Column], row: &WholeRow<'_>) -> Result<Vec<Cell>, NoMemory>
+    ensures { IfOk result (λ cells. cells.items ≡ map (λ c. c.1) (whole_in columns.now row.now)) }
+{
+    let others = row.others.as_slice();
+    let mut cells = Vec::with_capacity(alloc, row.key.len().saturating_add(others.len()))?;
+    push_key(&mut cells, columns, &row.key)?;
+    push_others(alloc, &mut cells, others)?;
     Ok(cells)
 }
 
-// The cell of a column, and null where the row has none.
-fn cell_of(row: &[(u16, Cell)], column: u16) -> Result<Cell, NoMemory>
-    ensures { IfOk result (λ cell. cell ≡ cell_of row.now column) }
+fn cells_of(
+    alloc: Global,
+    ids: &[u16],
+    columns: &[Column],
+    row: &WholeRow<'_>,
+) -> Result<Vec<Cell>, NoMemory>
+    ensures { IfOk result (λ cells. cells.items ≡ map (cell_of (whole_in columns.now row.now)) ids.now) }
 {
-    match cell_at(row, column) {
-        Some(cell) => cell.copy(),
-        None => Ok(Cell::Null),
-    }
-}
-
-fn cells_of(alloc: Global, columns: &[u16], row: &[(u16, Cell)]) -> Result<Vec<Cell>, NoMemory>
-    ensures { IfOk result (λ cells. cells.items ≡ map (cell_of row.now) columns.now) }
-{
-    let mut cells = Vec::with_capacity(alloc, columns.len())?;
-    for column in columns {
-        cells.push(cell_of(row, *column)?)?;
+    let mut cells = Vec::with_capacity(alloc, ids.len())?;
+    for id in ids {
+        cells.push(row.cell(columns, *id).to_cell(alloc)?)?;
     }
     Ok(cells)
 }
@@ -96,23 +115,29 @@ fn cells_of(alloc: Global, columns: &[u16], row: &[(u16, Cell)]) -> Result<Vec<C
 // The selected cells of a whole row, in the order of the selection.
 fn selected(
     alloc: Global,
-    columns: &Option<ColumnIds>,
-    row: Vec<(u16, Cell)>,
+    selection: &Option<ColumnIds>,
+    columns: &[Column],
+    row: &WholeRow<'_>,
 ) -> Result<Row, NoMemory>
-    ensures { IfOk result (λ cells. cells ≡ selected columns.now row.items) }
+    ensures { IfOk result (λ cells. cells ≡ selected selection.now (whole_in columns.now row.now)) }
 {
-    match columns {
-        None => Ok(Row::of(all_cells(alloc, row)?)),
-        Some(columns) => Ok(Row::of(cells_of(alloc, columns.as_slice(), row.as_slice())?)),
+    match selection {
+        None => Ok(Row::of(all_cells(alloc, columns, row)?)),
+        Some(ids) => Ok(Row::of(cells_of(alloc, ids.as_slice(), columns, row)?)),
     }
 }
 
 /// What a scan shows of a whole row, if the row passes its tests.
-pub fn cut(alloc: Global, scan: &Scan, row: Vec<(u16, Cell)>) -> Result<Option<Row>, NoMemory>
-    ensures { IfOk result (λ line. line ≡ cut scan.now row.items) }
+pub fn cut(
+    alloc: Global,
+    scan: &Scan,
+    columns: &[Column],
+    row: &WholeRow<'_>,
+) -> Result<Option<Row>, NoMemory>
+    ensures { IfOk result (λ line. line ≡ cut scan.now (whole_in columns.now row.now)) }
 {
-    if kept(scan.preds.as_slice(), row.as_slice()) {
-        Ok(Some(selected(alloc, &scan.columns, row)?))
+    if kept(scan.preds.as_slice(), columns, row) {
+        Ok(Some(selected(alloc, &scan.columns, columns, row)?))
     } else {
         Ok(None)
     }

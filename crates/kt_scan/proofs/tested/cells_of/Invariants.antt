@@ -1,6 +1,7 @@
 use Rattle.std.proofs.Common.{◌≡◌, map, take}
 use Rattle.kt_history.specs.Replies.{cell_of}
+use Rattle.kt_scan.specs.Whole.{whole_in}
 use Rattle.kt_scan.proofs.tested.cells_of.Given as goal
 
-abbrev pub invariant-loop-column : goal.invariant-loop-column
-invariant-loop-column l = l.cells.items ≡ map (cell_of l.row) (take l.column-index l.columns)
+abbrev pub invariant-loop-id : goal.invariant-loop-id
+invariant-loop-id l = l.cells.items ≡ map (cell_of (whole_in l.columns l.row)) (take l.id-index l.ids)
