@@ -7,7 +7,7 @@ use Rattle.std.proofs.Math.ListN.{get_or-map}
 use Rattle.std.specs.List.Sorted.{IsPartitionedBy, IsPartitionPoint}
 use Rattle.kt_cells.specs.Reading.{cells_behind}
 use Rattle.kt_history.specs.declared.changes.KeyChange.{KeyChange}
-use Rattle.kt_history.specs.declared.flat.Head.{Head}
+use Rattle.kt_history.specs.declared.change_list.Head.{Head}
 use Rattle.kt_history.specs.declared.target.Kindly.{Kindly}
 use Rattle.kt_history.specs.declared.target.Kindly.TheVariants.{Ins}
 use Rattle.kt_history.specs.AsBytes.{change_with, change_at, changes_at, is_inside, are_inside}

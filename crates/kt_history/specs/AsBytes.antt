@@ -7,8 +7,8 @@ use Rattle.kt_history.specs.declared.change.Change.TheVariants as change
 use Rattle.kt_history.specs.declared.changes.KeyChange.{KeyChange}
 use Rattle.kt_history.specs.declared.target.Kindly.{Kindly}
 use Rattle.kt_history.specs.declared.target.Kindly.TheVariants.{Ins, Upd, Del}
-use Rattle.kt_history.specs.declared.flat.Head.{Head}
-use Rattle.kt_history.specs.declared.flat.ChangeRef.{ChangeRef}
+use Rattle.kt_history.specs.declared.change_list.Head.{Head}
+use Rattle.kt_history.specs.declared.change_list.ChangeRef.{ChangeRef}
 use Rattle.kt_cells.specs.Borrowed.{cells_in_ref}
 use Rattle.kt_history.specs.Rows.{Row}
 

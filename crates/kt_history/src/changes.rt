@@ -1,4 +1,4 @@
-//! Lists of the changes that a store holds.
+//! Changes, and lists of them by ordinal.
 ghost use Rattle.std.specs.Prelude.{◌≡◌, ◌==◌, length};
 
 use crate::Change;
@@ -11,48 +11,6 @@ pub struct KeyChange {
     pub key: Octets,
     pub ts: u64,
     pub change: Change,
-}
-
-/// Changes by rising key, then timestamp. Contracts see them as a list.
-#[derive(Debug, Drop)]
-pub struct ChangeList {
-    changes: Vec<KeyChange>,
-}
-
-impl Model for ChangeList {
-    ghost use Rattle.std.specs.Prelude.{List};
-    ghost use Rattle.kt_history.specs.declared.changes.KeyChange.{KeyChange};
-
-    ghost Value = { List KeyChange };
-
-    ghost view = { λ l. l.changes.items };
-}
-
-impl ChangeList {
-    /// The changes of a vector, which takes no memory.
-    pub fn of(changes: Vec<KeyChange>) -> ChangeList
-        ensures { result ≡ changes.items }
-    {
-        ChangeList { changes }
-    }
-
-    pub fn len(&self) -> usize
-        ensures { result ≡ length self.now }
-    {
-        self.changes.len()
-    }
-
-    pub fn is_empty(&self) -> bool
-        ensures { result ≡ (length self.now == 0) }
-    {
-        self.changes.is_empty()
-    }
-
-    pub fn as_slice(&self) -> &[KeyChange]
-        ensures { result.now ≡ self.now }
-    {
-        &self.changes
-    }
 }
 
 /// A change of the row with this ordinal at a timestamp.

@@ -6,11 +6,11 @@
 #![tactic(auto)]
 
 pub mod change;
+pub mod change_list;
 pub mod changes;
 pub mod command;
 pub mod effect;
 pub mod event;
-pub mod flat;
 pub mod laws;
 pub mod need;
 pub mod operation;
@@ -21,11 +21,11 @@ pub mod target;
 pub mod view;
 
 pub use change::{Change, Outcome};
-pub use changes::{ChangeList, Delta, DeltaList, KeyChange};
+pub use change_list::{ChangeList, ChangeRef};
+pub use changes::{Delta, DeltaList, KeyChange};
 pub use command::{Command, Plan, Session};
 pub use effect::{apply, outcome, put_cell, undo_of, with_cells};
 pub use event::{Event, EventList};
-pub use flat::{ChangeBytes, ChangeRef};
 pub use need::{cells_needed, cells_of};
 pub use operation::{OpKind, OpList, RowOp, Write};
 pub use reply::{OutcomeList, Reply, RowList};

@@ -7,7 +7,7 @@ use Rattle.kt_history.specs.declared.changes.KeyChange.{KeyChange}
 use Rattle.kt_history.specs.Rows.{key_cmp}
 use Rattle.kt_history.specs.AsBytes.{change_at}
 use Rattle.kt_history.proofs.AsBytes.{parted, parted_at}
-use Rattle.kt_history.proofs.flat.ChangeBytes.count_not_above.Goals as goal
+use Rattle.kt_history.proofs.change_list.ChangeList.count_not_above.Goals as goal
 
 test : List ℕ → KeyChange → Bool
 test q = λ c. not (is_lt (key_cmp q c.key))

@@ -1,5 +1,5 @@
 use Rattle.kt_history.proofs.AsBytes.{inside_more, kept_more, is_last}
-use Rattle.kt_history.proofs.flat.place_of.Goals as goal
+use Rattle.kt_history.proofs.change_list.place_of.Goals as goal
 
 pub returns-clause-same : goal.returns-clause-same
 returns-clause-same c = rw c.in_ok-push.ensures.ok (kept_more c.args.texts.now c.args.key.now c.args.heads.now c.requires)

@@ -1,5 +1,5 @@
 use Rattle.kt_history.proofs.AsBytes.{on_err, inside_more, kept_more, added, inside_added}
-use Rattle.kt_history.proofs.flat.add.Goals as goal
+use Rattle.kt_history.proofs.change_list.add.Goals as goal
 
 pub returns-in_err-push-2-clause-err : goal.returns-in_err-push-2-clause-err
 returns-in_err-push-2-clause-err c = rw (c.in_ok-push.ensures.ok, c.in_err-push-2.ensures.items) (on_err c.from_residual-in_err-push-2.result (kept_more c.args.texts.now c.args.cells.now c.args.heads.now.items c.requires.inside))

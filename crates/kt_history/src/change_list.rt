@@ -1,4 +1,4 @@
-//! Changes held as the bytes that they are spelled by, so that a copy of many takes no memory for each.
+//! The changes of a store, held as the bytes that spell them, so that a copy of many takes no memory for each.
 ghost use Rattle.std.specs.Prelude.{◌≡◌, ◌==◌, ◌<◌, ◌∷◌, ◌++◌, [], true, false, not, ◌≤◌, length, get_or, slice_get, IfOk, OnOk, OnErr};
 ghost use Rattle.std.specs.List.Sorted.{IsPartitionedBy, IsPartitionPoint};
 ghost use Rattle.std.specs.Option.{option_copied, option_map};
@@ -33,12 +33,12 @@ pub struct ChangeRef<'v> {
 
 /// Changes by rising key, then timestamp, as bytes. Contracts see them as a list.
 #[derive(Debug, Drop)]
-pub struct ChangeBytes {
+pub struct ChangeList {
     texts: Texts,
     heads: Vec<Head>,
 }
 
-impl Model for ChangeBytes {
+impl Model for ChangeList {
     ghost use Rattle.std.specs.Prelude.{◌≡◌, true, List, length};
     ghost use Rattle.kt_history.specs.declared.changes.KeyChange.{KeyChange};
     ghost use Rattle.kt_history.specs.AsBytes.{changes_at, are_inside};
@@ -114,12 +114,12 @@ fn place_of(texts: &mut Texts, heads: &[Head], key: &[u8]) -> Result<usize, NoMe
     Ok(at)
 }
 
-impl ChangeBytes {
+impl ChangeList {
     /// No changes.
-    pub fn new(alloc: Global) -> ChangeBytes
+    pub fn new(alloc: Global) -> ChangeList
         ensures { result ≡ [] }
     {
-        ChangeBytes {
+        ChangeList {
             texts: Texts::new(alloc),
             heads: Vec::new(alloc),
         }

@@ -1,7 +1,7 @@
 use Rattle.std.proofs.Common.{◌∙◌}
 use Rattle.std.proofs.lemmas.Result.{on_ok_weaker, on_err_weaker}
 use Rattle.kt_history.proofs.AsBytes.{with_key}
-use Rattle.kt_history.proofs.flat.ChangeBytes.push.Goals as goal
+use Rattle.kt_history.proofs.change_list.ChangeList.push.Goals as goal
 
 pub returns-clause-ok : goal.returns-clause-ok
 returns-clause-ok c =
