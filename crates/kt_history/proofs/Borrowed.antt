@@ -1,5 +1,7 @@
 -- Borrowed rows change as the rows do that they are read as.
-use Rattle.std.proofs.Common.{◌≡◌, ℕ, List, [], ◌∷◌, ◌++◌, refl, ap}
+use Rattle.std.proofs.Common.{◌≡◌, ℕ, suc, ◌≤◌, List, [], ◌∷◌, ◌++◌, length, drop, get_or, refl, sym, ap, ◌∙◌, arith}
+use Rattle.std.proofs.Math.Seq.{drop-cons}
+use Rattle.kt_history.specs.Rows.{with_cells}
 use Rattle.std.specs.Ordering.{nat_cmp}
 use Rattle.std.specs.declared.cmp.Ordering.TheVariants.{Less, Equal, Greater}
 use Rattle.std.specs.FinMap.Entries.{by_order, put}
@@ -20,3 +22,11 @@ put_in id cell (c ∷ cells) =
 pub append_in : (cells more : List (ℕ × CellRef)) → cells_in (cells ++ more) ≡ cells_in cells ++ cells_in more
 append_in [] more = refl
 append_in (c ∷ cells) more = ap (λ rest. (c.0, cell_in c.1) ∷ rest) (append_in cells more)
+
+-- one cell more of those from here on
+pub put_one : (more : List (ℕ × CellRef)) (at i : ℕ) (d : ℕ × CellRef) (row now start : List (ℕ × CellRef)) → at ≡ suc i → at ≤ length more → cells_in row ≡ with_cells (cells_in (drop at more)) (cells_in start) → now ≡ put nat_cmp (get_or more i d).0 (get_or more i d).1 row
+    → cells_in now ≡ with_cells (cells_in (drop i more)) (cells_in start)
+put_one more at i d row now start is within so_far e =
+    let c = get_or more i d in
+    let rest : drop i more ≡ c ∷ drop (suc i) more = drop-cons more i d (omega (arith, within, is)) in
+    ap cells_in e ∙ put_in c.0 c.1 row ∙ ap (put nat_cmp c.0 (cell_in c.1)) (so_far ∙ ap (λ (n : ℕ). with_cells (cells_in (drop n more)) (cells_in start)) is) ∙ ap (λ (cells : List (ℕ × CellRef)). with_cells (cells_in cells) (cells_in start)) (sym rest)

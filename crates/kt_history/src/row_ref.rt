@@ -2,12 +2,12 @@
 ghost use Rattle.std.specs.Prelude.{◌≡◌, ◌∷◌, ◌++◌, [], OnOk};
 ghost use Rattle.std.specs.Ordering.{nat_cmp};
 ghost use Rattle.std.specs.FinMap.Entries.{put};
-ghost use Rattle.kt_cells.specs.Borrowed.{cell_in, cells_in};
+ghost use Rattle.kt_cells.specs.Borrowed.{cell_in, cells_in, cells_in_ref};
 ghost use Rattle.kt_history.specs.Rows.{with_cells};
 
 use crate::effect::place_of_id;
 use kt_base::{Cell, NoMemory};
-use kt_cells::CellRef;
+use kt_cells::{CellRef, CellsRef};
 use std::alloc::Global;
 use std::marker::Model;
 
@@ -15,6 +15,8 @@ use std::marker::Model;
 #[derive(Debug, Drop)]
 pub struct RowRef<'v> {
     cells: Vec<(u16, CellRef<'v>)>,
+    // The cells of a change, read before they are put in.
+    read: Vec<(u16, CellRef<'v>)>,
 }
 
 impl<'v> Model for RowRef<'v> {
@@ -34,6 +36,7 @@ impl<'v> RowRef<'v> {
     {
         RowRef {
             cells: Vec::new(alloc),
+            read: Vec::new(alloc),
         }
     }
 
@@ -79,6 +82,14 @@ impl<'v> RowRef<'v> {
         Ok(())
     }
 
+    /// As `set_all`, of cells that are read where they lie.
+    pub fn set_read(&mut self, cells: CellsRef<'v>) -> Result<(), NoMemory>
+        ensures { OnOk result (self.new ≡ with_cells (cells_in_ref cells.entry) self.old) }
+    {
+        read_all(cells, &mut self.read)?;
+        put_all(&mut self.cells, &self.read)
+    }
+
     /// These cells alone.
     pub fn assign(&mut self, cells: &'v [(u16, Cell)]) -> Result<(), NoMemory>
         ensures { OnOk result (self.new ≡ cells.now) }
@@ -108,4 +119,34 @@ fn put_ref<'v>(
             Ok(())
         }
     }
+}
+
+// Reads cells where they lie, one by one.
+#[tactic(auto, using(crate::proofs::Borrowed::append_in))]
+fn read_all<'v>(cells: CellsRef<'v>, into: &mut Vec<(u16, CellRef<'v>)>) -> Result<(), NoMemory>
+    ensures { OnOk result (cells_in into.new.items ≡ cells_in_ref cells.entry) }
+{
+    into.clear();
+    let mut rest = cells;
+    'cells: while let Some((cell, others)) = rest.split_first() {
+        into.push(cell)?;
+        rest = others;
+    }
+    Ok(())
+}
+
+// Sets cells, in place of those of their columns.
+#[tactic(auto, using(crate::proofs::Borrowed::put_in))]
+fn put_all<'v>(
+    cells: &mut Vec<(u16, CellRef<'v>)>,
+    more: &[(u16, CellRef<'v>)],
+) -> Result<(), NoMemory>
+    ensures { OnOk result (cells_in cells.new.items ≡ with_cells (cells_in more.now) (cells_in cells.old.items)) }
+{
+    let mut at = more.len();
+    'cells: while at > 0 {
+        at -= 1;
+        put_ref(cells, more[at].0, more[at].1)?;
+    }
+    Ok(())
 }
