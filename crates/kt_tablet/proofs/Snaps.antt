@@ -1,6 +1,6 @@
 -- What the changes of a store tell, by rising key.
 use Rattle.std.proofs.Common.{◌≡◌, ℕ, zero, suc, ◌+◌, ◌<◌, ◌≤◌, List, [], ◌∷◌, ◌++◌, Some, None, Option, refl, true, false, Bool, ◌&&◌, cond, sym, ap, ◌∙◌, subst, arith, map, length, take, drop, get_or}
-use Rattle.std.specs.Prelude.{not, slice_get, Result, Ok, Err, IfOk}
+use Rattle.std.specs.Prelude.{not, slice_get}
 use Rattle.std.specs.List.{filter, find, list_all}
 use Rattle.std.specs.List.Sorted.{IsPartitionedBy, IsPartitionPoint}
 use Rattle.std.specs.Option.{option_map}
@@ -16,10 +16,13 @@ use Rattle.kt_history.specs.declared.changes.KeyChange.{KeyChange}
 use Rattle.kt_history.specs.Rows.{Row, key_cmp}
 use Rattle.kt_history.specs.Views.{is_above, key_above}
 use Rattle.kt_histlaws.proofs.OneKey.{after_steps-append}
-use Rattle.std.proofs.Common.{length-drop}
-use Rattle.std.proofs.lemmas.List.{map-append, get_or-drop, take_more}
+use Rattle.std.proofs.lemmas.List.{map-append, take_more}
 use Rattle.kt_tablet.specs.SnapLaws.{order, by_bool, not_true, equal_of, same_key}
-use Rattle.kt_tablet.specs.Snaps.{rises, keys_in, changes_of, step_in, row_in}
+use Rattle.kt_tablet.specs.Snaps.{rises, keys_in, changes_of, step_in, row_in, is_above_at, is_reached_at, change_there}
+use Rattle.kt_tablet.specs.Filling.{filled_change}
+use Rattle.kt_history.specs.AsBytes.{step_of}
+use Rattle.kt_history.specs.declared.change.Change.{Change}
+use Rattle.std.proofs.lemmas.List.{append-nil}
 
 -- KEYS IN ORDER
 gt_back : (o : Ordering) → is_gt (ordering_reverse o) ≡ is_lt o
@@ -104,11 +107,6 @@ not_below q a lt = by_bool (eq_by_cmp key_cmp q a) (λ e. absurd (false≢true (
     lt_of_equal Equal e = refl
     lt_of_equal Greater e = refl
 
-pub skip_below : (q : List ℕ) (cs : List KeyChange) (n : ℕ) → ((k : ℕ) (d : KeyChange) → k < n → is_lt (key_cmp (get_or cs k d).key q) ≡ true) → n ≤ length cs → changes_of q cs ≡ changes_of q (drop n cs)
-skip_below q cs zero below le = refl
-skip_below q [] (suc n) below le = refl
-skip_below q (c ∷ cs) (suc n) below le = ap (λ b. cond b (c ∷ changes_of q cs) (changes_of q cs)) (not_below q c.key (below zero c (omega arith))) ∙ skip_below q cs n (λ k d lt. below (suc k) d (omega arith)) (omega arith)
-
 -- THE KEYS
 find_filter : (p r : List ℕ → Bool) (keys : List (List ℕ)) → ((key : List ℕ) → p key ≡ true → r key ≡ true) → find p (filter r keys) ≡ find p keys
 find_filter p r [] f = refl
@@ -142,26 +140,6 @@ step_more fill q t cs i x row new lt is e one before =
     one ∙ ap (after_steps t (step_in fill x ∷ [])) before ∙ sym (after_steps-append t (map (step_in fill) (changes_of q (take i cs))) (step_in fill x ∷ []) None)
     ∙ ap (λ l. after_steps t l None) (sym (ap (map (step_in fill)) (more_of q cs i x lt is e) ∙ map-append (step_in fill) (changes_of q (take i cs)) (x ∷ [])))
 
--- where another key comes, all changes of this one are done
-stop_at : (q : List ℕ) (cs : List KeyChange) (i : ℕ) (x : KeyChange) → rises cs ≡ true → ((k : ℕ) (d : KeyChange) → k < length cs → is_lt (key_cmp (get_or cs k d).key q) ≡ false) → i < length cs → eq_by_cmp key_cmp q (get_or cs i x).key ≡ false
-    → changes_of q (take i cs) ≡ changes_of q cs
-stop_at q [] i x h reached lt ne = absurd (omega arith)
-stop_at q (c ∷ cs) zero x h reached lt ne = sym (none_after q c cs h (reached zero c (omega arith)) ne)
-stop_at q (c ∷ cs) (suc i) x h reached lt ne = ap (λ l. cond (eq_by_cmp key_cmp q c.key) (c ∷ l) l) (stop_at q cs i x ((and_parts _ _ h).1) (λ k d within. reached (suc k) d (omega arith)) (omega arith) ne)
-
-pub stopped_at : (fill : Row) (q : List ℕ) (t : ℕ) (cs : List KeyChange) (i : ℕ) (x : KeyChange) (row : Option Row) → rises cs ≡ true → ((k : ℕ) (d : KeyChange) → k < length cs → is_lt (key_cmp (get_or cs k d).key q) ≡ false) → i < length cs → x ≡ get_or cs i x → eq_by_cmp key_cmp q x.key ≡ false
-    → row ≡ after_steps t (map (step_in fill) (changes_of q (take i cs))) None → row ≡ row_in fill cs q t
-stopped_at fill q t cs i x row h reached lt is ne before = before ∙ ap (λ l. after_steps t (map (step_in fill) l) None) (stop_at q cs i x h reached lt (ap (λ y. eq_by_cmp key_cmp q y.key) (sym is) ∙ ne))
-
--- from the first change of the key on
-pub row_from : (fill : Row) (q : List ℕ) (t n : ℕ) (cs : List KeyChange) → n ≤ length cs → IsPartitionPoint (λ c. is_lt (key_cmp c.key q) ≡ true) (λ c. is_lt (key_cmp c.key q) ≡ false) cs n → row_in fill (drop n cs) q t ≡ row_in fill cs q t
-row_from fill q t n cs le parts = ap (λ l. after_steps t (map (step_in fill) l) None) (sym (skip_below q cs n (λ k d lt. parts.0 k d (omega arith) lt) le))
-
-pub reached_from : (q : List ℕ) (n : ℕ) (cs : List KeyChange) → n ≤ length cs → IsPartitionPoint (λ c. is_lt (key_cmp c.key q) ≡ true) (λ c. is_lt (key_cmp c.key q) ≡ false) cs n
-    → (k : ℕ) (d : KeyChange) → k < length (drop n cs) → is_lt (key_cmp (get_or (drop n cs) k d).key q) ≡ false
-reached_from q n cs le parts k d lt = let len = length-drop n cs in
-    subst (λ x. is_lt (key_cmp x.key q) ≡ false) (sym (get_or-drop n cs k d)) (parts.1 (n + k) d (omega arith) (omega (arith, len)))
-
 -- the first key that is above another, or the first of all
 pub above_none : (cs : List KeyChange) → option_map (λ c. c.key) (slice_get cs 0) ≡ key_above None (keys_in cs)
 above_none cs = ap (option_map (λ c. c.key)) (sym (find_at (λ c. is_above None c.key) cs 0 (λ k d lt within. absurd (omega arith)) (λ d within. refl))) ∙ sym (find_keys (is_above None) cs)
@@ -173,6 +151,108 @@ above_some cs a n parts = ap (option_map (λ c. c.key)) (sym (find_at (λ c. is_
     not_false true h = refl
     not_false false h = sym h
 
-pub if_ok : {X E : Type 0} (r : Result X E) (x y : X) → x ≡ y → IfOk r (λ found. found ≡ x) → IfOk r (λ found. found ≡ y)
-if_ok (Ok z) x y e h = h ∙ e
-if_ok (Err z) x y e h = tt
+-- THE PLACE THAT IS GUESSED
+-- where an element fails that no earlier one but the last before it is known to pass, those that pass end
+point_at : {X : Type 0} (p : X → Bool) (xs : List X) (i : ℕ) → IsPartitionedBy p xs → i ≤ length xs → ((d : X) → i < length xs → p (get_or xs i d) ≡ false) → ((k : ℕ) (d : X) → i ≡ k + 1 → p (get_or xs k d) ≡ true)
+    → IsPartitionPoint (λ y. p y ≡ true) (λ y. p y ≡ false) xs i
+point_at {X = X} p xs i parts le here before = (below i le before, above)
+  where
+    below : (j : ℕ) → j ≤ length xs → ((k : ℕ) (d : X) → j ≡ k + 1 → p (get_or xs k d) ≡ true) → (k : ℕ) (d : X) → 0 ≤ k → k < j → p (get_or xs k d) ≡ true
+    below zero le before k d low lt = absurd (omega arith)
+    below (suc j) le before k d low lt = parts k j d (omega arith) (omega arith) (before j d (omega arith))
+
+    above : (k : ℕ) (d : X) → i ≤ k → k < length xs → p (get_or xs k d) ≡ false
+    above k d ge within = by_bool (p (get_or xs k d)) (λ pass. absurd (false≢true (sym (here d (omega arith)) ∙ parts i k d ge within pass))) (λ fail. fail)
+
+get_at : {X : Type 0} (xs : List X) (k : ℕ) (d : X) → k < length xs → slice_get xs k ≡ Some (get_or xs k d)
+get_at [] k d lt = absurd (omega arith)
+get_at (x ∷ xs) zero d lt = refl
+get_at (x ∷ xs) (suc k) d lt = get_at xs k d (omega arith)
+
+abbrev key_at : List KeyChange → ℕ → Option (List ℕ)
+key_at cs k = option_map (λ c. c.key) (slice_get cs k)
+
+pub above_begin : (cs : List KeyChange) (q : List ℕ) (at : ℕ) → rises cs ≡ true → at ≤ length cs → is_above_at q (key_at cs at) ≡ true → ((k : ℕ) → at ≡ k + 1 → is_above_at q (key_at cs k) ≡ false)
+    → IsPartitionPoint (λ c. not (is_lt (key_cmp q c.key)) ≡ true) (λ c. not (is_lt (key_cmp q c.key)) ≡ false) cs at
+above_begin cs q at h le here before = point_at (λ c. not (is_lt (key_cmp q c.key))) cs at (parts_not_above cs q h) le
+    (λ d lt. ap not (sym (ap (λ (o : Option KeyChange). is_above_at q (option_map (λ c. c.key) o)) (get_at cs at d lt)) ∙ here))
+    (λ k d e. ap not (sym (ap (λ (o : Option KeyChange). is_above_at q (option_map (λ c. c.key) o)) (get_at cs k d (omega (arith, e, le)))) ∙ before k e))
+
+pub reached_begin : (cs : List KeyChange) (q : List ℕ) (at : ℕ) → rises cs ≡ true → at ≤ length cs → is_reached_at q (key_at cs at) ≡ true → ((k : ℕ) → at ≡ k + 1 → is_reached_at q (key_at cs k) ≡ false)
+    → IsPartitionPoint (λ c. is_lt (key_cmp c.key q) ≡ true) (λ c. is_lt (key_cmp c.key q) ≡ false) cs at
+reached_begin cs q at h le here before = point_at (λ c. is_lt (key_cmp c.key q)) cs at (parts_below cs q h) le
+    (λ d lt. not_true _ (sym (ap (λ (o : Option KeyChange). is_reached_at q (option_map (λ c. c.key) o)) (get_at cs at d lt)) ∙ here))
+    (λ k d e. not_not _ (sym (ap (λ (o : Option KeyChange). is_reached_at q (option_map (λ c. c.key) o)) (get_at cs k d (omega (arith, e, le)))) ∙ before k e))
+  where
+    not_not : (b : Bool) → not b ≡ false → b ≡ true
+    not_not true e = refl
+    not_not false e = sym e
+
+-- THE CHANGES OF A KEY, ONE BY ONE
+some_is : {X : Type 0} (x y : X) → Some x ≡ Some y → x ≡ y
+some_is x y e = cc
+
+got : {X : Type 0} (xs : List X) (k : ℕ) (x : X) → slice_get xs k ≡ Some x → (k < length xs) × (x ≡ get_or xs k x) × (drop k xs ≡ x ∷ drop (suc k) xs)
+got [] k x e = absurd cc
+got (y ∷ xs) zero x e = let is = some_is y x e in (omega arith, sym is, ap (λ z. z ∷ xs) is)
+got (y ∷ xs) (suc k) x e = let rest = got xs k x e in (omega (arith, rest.0), rest.1, rest.2)
+
+ended : {X : Type 0} (xs : List X) (k : ℕ) → slice_get xs k ≡ None → take k xs ≡ xs
+ended [] zero e = refl
+ended [] (suc k) e = refl
+ended (y ∷ xs) zero e = absurd cc
+ended (y ∷ xs) (suc k) e = ap (λ rest. y ∷ rest) (ended xs k e)
+
+taken_all : {X : Type 0} (xs : List X) (k : ℕ) → length xs ≤ k → take k xs ≡ xs
+taken_all [] zero past = refl
+taken_all [] (suc k) past = refl
+taken_all (y ∷ xs) zero past = absurd (omega arith)
+taken_all (y ∷ xs) (suc k) past = ap (λ rest. y ∷ rest) (taken_all xs k (omega arith))
+
+taken_and_left : {X : Type 0} (n : ℕ) (xs : List X) → take n xs ++ drop n xs ≡ xs
+taken_and_left zero xs = refl
+taken_and_left (suc n) [] = refl
+taken_and_left (suc n) (x ∷ xs) = ap (λ rest. x ∷ rest) (taken_and_left n xs)
+
+-- before the first change of a key there is none of it
+none_before : (q : List ℕ) (cs : List KeyChange) (n : ℕ) → ((k : ℕ) (d : KeyChange) → k < n → is_lt (key_cmp (get_or cs k d).key q) ≡ true) → changes_of q (take n cs) ≡ []
+none_before q cs zero below = refl
+none_before q [] (suc n) below = refl
+none_before q (c ∷ cs) (suc n) below =
+    ap (λ b. cond b (c ∷ changes_of q (take n cs)) (changes_of q (take n cs))) (not_below q c.key (below zero c (omega arith))) ∙ none_before q cs n (λ k d lt. below (suc k) d (omega arith))
+
+module _ (fill : Row) (q : List ℕ) (t : ℕ) (cs : List KeyChange) where
+  -- the row after the changes of the key among the first so many
+  abbrev pub row_after : ℕ → Option Row
+  row_after at = after_steps t (map (step_in fill) (changes_of q (take at cs))) None
+
+  pub row_begins : (n : ℕ) → IsPartitionPoint (λ c. is_lt (key_cmp c.key q) ≡ true) (λ c. is_lt (key_cmp c.key q) ≡ false) cs n → None ≡ row_after n
+  row_begins n parts = sym (ap (λ l. after_steps t (map (step_in fill) l) None) (none_before q cs n (λ k d lt. parts.0 k d (omega arith) lt)))
+
+  pub row_goes_on : (at : ℕ) (s : ℕ × Change) (row new : Option Row) → Some s ≡ option_map step_of (change_there q (slice_get cs at)) → new ≡ after_steps t ((s.0, filled_change fill s.1) ∷ []) row → row ≡ row_after at
+      → (at < length cs) × (new ≡ row_after (at + 1))
+  row_goes_on at s row new told one before = by (slice_get cs at) refl told
+    where
+      by : (o : Option KeyChange) → slice_get cs at ≡ o → Some s ≡ option_map step_of (change_there q o) → (at < length cs) × (new ≡ row_after (at + 1))
+      by None e told = absurd cc
+      by (Some x) e told = by_bool (eq_by_cmp key_cmp q x.key)
+          (λ same. let here = got cs at x e in
+          let is = some_is s (step_of x) (told ∙ ap (λ b. option_map step_of (cond b (Some x) None)) same) in
+          (here.0, step_more fill q t cs at x row new here.0 here.1 same (one ∙ ap (λ (c : ℕ × Change). after_steps t ((c.0, filled_change fill c.1) ∷ []) row) is) before))
+          (λ other. let none : Some s ≡ None = told ∙ ap (λ b. option_map step_of (cond b (Some x) None)) other in absurd cc)
+
+  pub row_ends : (n at : ℕ) (row : Option Row) → rises cs ≡ true → n ≤ at → IsPartitionPoint (λ c. is_lt (key_cmp c.key q) ≡ true) (λ c. is_lt (key_cmp c.key q) ≡ false) cs n
+      → None ≡ option_map step_of (change_there q (slice_get cs at)) → row ≡ row_after at → row ≡ row_in fill cs q t
+  row_ends n at row h le parts told before = before ∙ ap (λ l. after_steps t (map (step_in fill) l) None) (by (slice_get cs at) refl told)
+    where
+      by : (o : Option KeyChange) → slice_get cs at ≡ o → None ≡ option_map step_of (change_there q o) → changes_of q (take at cs) ≡ changes_of q cs
+      by None e told = ap (changes_of q) (ended cs at e)
+      by (Some x) e told = by_bool (eq_by_cmp key_cmp q x.key)
+          (λ same. let none : None ≡ Some (step_of x) = told ∙ ap (λ b. option_map step_of (cond b (Some x) None)) same in absurd cc)
+          (λ other. let here = got cs at x e in
+          let not_under : is_lt (key_cmp x.key q) ≡ false = ap (λ (y : KeyChange). is_lt (key_cmp y.key q)) here.1 ∙ parts.1 at x le here.0 in
+          let rest : changes_of q (drop at cs) ≡ [] = ap (changes_of q) here.2 ∙ none_after q x (drop (suc at) cs) (ap rises (sym here.2) ∙ rises_drop at cs h) not_under other in
+          sym (append-nil (changes_of q (take at cs))) ∙ ap (λ l. changes_of q (take at cs) ++ l) (sym rest) ∙ sym (filter-append (λ c. eq_by_cmp key_cmp q c.key) (take at cs) (drop at cs)) ∙ ap (changes_of q) (taken_and_left at cs))
+
+  pub row_past : (at : ℕ) (row : Option Row) → length cs ≤ at → row ≡ row_after at → row ≡ row_in fill cs q t
+  row_past at row past before = before ∙ ap (λ l. after_steps t (map (step_in fill) (changes_of q l)) None) (taken_all cs at past)

@@ -1,7 +1,7 @@
 -- What a scan reads of a store: its changes up to a time.
-use Rattle.std.specs.Prelude.{ℕ, Bool, true, not, ◌&&◌, List, [], ◌∷◌, map, Option, None}
+use Rattle.std.specs.Prelude.{ℕ, Bool, true, not, ◌&&◌, List, [], ◌∷◌, map, Option, Some, None, if◌then◌else◌}
 use Rattle.std.specs.List.{filter, list_all}
-use Rattle.std.specs.Ordering.{is_gt, eq_by_cmp}
+use Rattle.std.specs.Ordering.{is_gt, is_lt, eq_by_cmp}
 use Rattle.kt_history.specs.declared.change.Change.{Change}
 use Rattle.kt_history.specs.declared.changes.KeyChange.{KeyChange}
 use Rattle.kt_history.specs.Rows.{Row, key_cmp}
@@ -29,3 +29,18 @@ step_in fill c = (c.ts, filled_change fill c.change)
 -- the row of a key at a time
 abbrev pub row_in : Row → List KeyChange → List ℕ → ℕ → Option Row
 row_in fill changes key t = after_steps t (map (step_in fill) (changes_of key changes)) None
+
+-- whether a key, if there is one, is above another
+abbrev pub is_above_at : List ℕ → Option (List ℕ) → Bool
+is_above_at key None = true
+is_above_at key (Some other) = is_lt (key_cmp key other)
+
+-- whether a key, if there is one, is not below another
+abbrev pub is_reached_at : List ℕ → Option (List ℕ) → Bool
+is_reached_at key None = true
+is_reached_at key (Some other) = not (is_lt (key_cmp other key))
+
+-- a change, if there is one and it is of this key
+abbrev pub change_there : List ℕ → Option KeyChange → Option KeyChange
+change_there key None = None
+change_there key (Some c) = if eq_by_cmp key_cmp key c.key then Some c else None

@@ -9,6 +9,7 @@ mod amend;
 mod memrowset;
 pub mod need;
 pub mod new_write;
+mod reading;
 pub mod snap;
 pub mod store;
 pub mod tablet;

@@ -1,18 +1,15 @@
 //! What a scan reads: copies of what stores hold up to its time.
-ghost use Rattle.std.specs.Prelude.{◌≡◌, ◌∷◌, [], true, false, not, IfOk, slice_get, ◌≤◌, length};
-ghost use Rattle.std.specs.List.{All};
-ghost use Rattle.std.specs.List.Sorted.{IsPartitionPoint};
-ghost use Rattle.std.specs.Option.{option_copied, option_map};
+ghost use Rattle.std.specs.Prelude.{◌≡◌, ◌∷◌, [], true, map, Some, None, IfOk};
+ghost use Rattle.std.specs.Option.{option_copied};
+ghost use Rattle.kt_cells.specs.Borrowed.{cells_in};
 ghost use Rattle.kt_history.specs.Views.{key_above};
-ghost use Rattle.std.specs.Ordering.{is_lt};
-ghost use Rattle.kt_history.specs.Rows.{key_cmp};
-ghost use Rattle.kt_histlaws.specs.Histories.{after_steps};
-ghost use Rattle.kt_tablet.specs.Snaps.{rises, step_in, row_in, keys_in};
+ghost use Rattle.kt_tablet.specs.Snaps.{rises, row_in, keys_in};
 ghost use Rattle.kt_tablet.specs.SnapLaws.{keys_in_rise, row_in_has_key};
 
-use crate::amend::amend;
+use crate::reading::{next_key, row_into};
 use kt_base::{Cells, NoMemory, Octets};
-use kt_history::{ChangeList, KeyChange, View};
+use kt_cells::CellRef;
+use kt_history::{ChangeList, RowRef, View};
 use std::alloc::Global;
 use std::marker::Model;
 
@@ -65,93 +62,58 @@ impl SnapList {
     }
 }
 
-// How many changes are of lesser keys.
-fn count_below(changes: &[KeyChange], key: &[u8]) -> usize
-    requires { rises changes.now ≡ true }
-    ensures bound { result ≤ length changes.now }
-    ensures parts { IsPartitionPoint (λ c. is_lt (key_cmp c.key key.now) ≡ true) (λ c. is_lt (key_cmp c.key key.now) ≡ false) changes.now result }
+// A row with texts of its own.
+fn owned(alloc: Global, row: &[(u16, CellRef<'_>)]) -> Result<Cells, NoMemory>
+    ensures { IfOk result (λ cells. cells ≡ cells_in row.now) }
 {
-    changes.partition_point(|change| change.key.as_slice().cmp(&key).is_lt())
-}
-
-// How many changes are of keys that are not above another.
-fn count_not_above(changes: &[KeyChange], key: &[u8]) -> usize
-    requires { rises changes.now ≡ true }
-    ensures bound { result ≤ length changes.now }
-    ensures parts { IsPartitionPoint (λ c. not (is_lt (key_cmp key.now c.key)) ≡ true) (λ c. not (is_lt (key_cmp key.now c.key)) ≡ false) changes.now result }
-{
-    changes.partition_point(|change| !key.cmp(&change.key.as_slice()).is_lt())
-}
-
-// The row after one change more, if that is not later than the time.
-fn step(
-    row: Option<Cells>,
-    fill: &Cells,
-    change: &KeyChange,
-    t: u64,
-) -> Result<Option<Cells>, NoMemory>
-    ensures { IfOk result (λ new. new ≡ after_steps t (step_in fill.now change.now ∷ []) row) }
-{
-    if change.ts > t {
-        return Ok(row);
+    let mut cells = Vec::with_capacity(alloc, row.len())?;
+    for cell in row {
+        cells.push((cell.0, cell.1.to_cell(alloc)?))?;
     }
-    amend(row, fill, &change.change)
+    Ok(Cells::of(cells))
 }
 
-// The row of a key, where no change is of a lesser one.
-fn first_row(
+// The row of a key, with texts of its own.
+fn row_of(
+    alloc: Global,
     fill: &Cells,
-    changes: &[KeyChange],
+    changes: &ChangeList,
     key: &[u8],
     t: u64,
 ) -> Result<Option<Cells>, NoMemory>
-    requires rising { rises changes.now ≡ true }
-    requires reached { All (λ c. is_lt (key_cmp c.key key.now) ≡ false) changes.now }
+    requires { rises changes.now ≡ true }
     ensures { IfOk result (λ row. row ≡ row_in fill.now changes.now key.now t) }
 {
-    let mut row = None;
-    for change in changes {
-        if !key.cmp(&change.key.as_slice()).is_eq() {
-            return Ok(row);
-        }
-        row = step(row, fill, change, t)?;
+    let mut row = RowRef::new(alloc);
+    let mut hint = changes.len();
+    if row_into(fill, changes, key, t, &mut hint, &mut row)? {
+        Ok(Some(owned(alloc, row.as_slice())?))
+    } else {
+        Ok(None)
     }
-    Ok(row)
 }
 
-// The key of the change at a place, if there is one.
-fn key_at(changes: &[KeyChange], at: usize) -> Result<Option<Octets>, NoMemory>
-    ensures { IfOk result (λ key. key ≡ option_map (λ c. c.key) (slice_get changes.now at)) }
+// A key with bytes of its own.
+fn copied(alloc: Global, key: Option<&[u8]>) -> Result<Option<Octets>, NoMemory>
+    ensures { IfOk result (λ copy. copy ≡ option_copied key.entry) }
 {
-    match changes.get(at) {
-        Some(change) => Ok(Some(change.key.copy()?)),
+    match key {
+        Some(key) => Ok(Some(Octets::from_slice(alloc, key)?)),
         None => Ok(None),
     }
 }
 
-// The row of a key.
-fn row_of(
-    fill: &Cells,
-    changes: &[KeyChange],
-    key: &[u8],
-    t: u64,
-) -> Result<Option<Cells>, NoMemory>
-    requires { rises changes.now ≡ true }
-    ensures { IfOk result (λ row. row ≡ row_in fill.now changes.now key.now t) }
-{
-    let (_, from) = changes.split_at(count_below(changes, key));
-    first_row(fill, from, key, t)
-}
-
-// The least key above another, or the first of all.
-fn least_above(changes: &[KeyChange], after: Option<&[u8]>) -> Result<Option<Octets>, NoMemory>
+// The least key above another, or the first of all, with bytes of its own.
+fn least_above(
+    alloc: Global,
+    changes: &ChangeList,
+    after: Option<&[u8]>,
+) -> Result<Option<Octets>, NoMemory>
     requires { rises changes.now ≡ true }
     ensures { IfOk result (λ found. found ≡ key_above (option_copied after.entry) (keys_in changes.now)) }
 {
-    match after {
-        None => key_at(changes, 0),
-        Some(after) => key_at(changes, count_not_above(changes, after)),
-    }
+    let mut hint = changes.len();
+    Ok(copied(alloc, next_key(changes, after, &mut hint))?)
 }
 
 impl SnapView {
@@ -179,11 +141,25 @@ impl View for SnapView {
 
     ghost rows_have_keys = { λ v key t told some. row_in_has_key v.fill v.changes key t some };
 
-    fn row_at(&self, _alloc: Global, key: &[u8], t: u64) -> Result<Option<Cells>, NoMemory> {
-        row_of(&self.fill, self.changes.as_slice(), key, t)
+    fn row_at(&self, alloc: Global, key: &[u8], t: u64) -> Result<Option<Cells>, NoMemory> {
+        row_of(alloc, &self.fill, &self.changes, key, t)
     }
 
-    fn key_after(&self, _alloc: Global, after: Option<&[u8]>) -> Result<Option<Octets>, NoMemory> {
-        least_above(self.changes.as_slice(), after)
+    fn key_after(&self, alloc: Global, after: Option<&[u8]>) -> Result<Option<Octets>, NoMemory> {
+        least_above(alloc, &self.changes, after)
+    }
+
+    fn next_key(&self, after: Option<&[u8]>, hint: &mut usize) -> Option<&[u8]> {
+        next_key(&self.changes, after, hint)
+    }
+
+    fn row_into<'v>(
+        &'v self,
+        key: &[u8],
+        t: u64,
+        hint: &mut usize,
+        row: &mut RowRef<'v>,
+    ) -> Result<bool, NoMemory> {
+        row_into(&self.fill, &self.changes, key, t, hint, row)
     }
 }

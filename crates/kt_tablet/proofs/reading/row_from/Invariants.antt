@@ -1,0 +1,14 @@
+use Rattle.std.proofs.Common.{◌≡◌, ◌≤◌, ◌-◌, length, cond, Some, None}
+use Rattle.kt_tablet.proofs.Snaps.{row_after}
+use Rattle.kt_tablet.proofs.reading.row_from.Given as goal
+
+-- the changes of the key before this place are done
+abbrev pub invariant-changes : goal.invariant-changes
+invariant-changes l = record {
+  from : l.initial.place ≤ l.at;
+  upto : l.at ≤ length l.changes;
+  row : cond l.there (Some l.row) None ≡ row_after l.fill l.key l.t l.changes l.at;
+}
+
+abbrev pub decreases-changes : goal.decreases-changes
+decreases-changes l = length l.changes - l.at
