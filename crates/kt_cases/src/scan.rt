@@ -3,7 +3,7 @@ ghost use Rattle.std.specs.Ordering.{is_eq};
 ghost use Rattle.kt_scan.specs.Single.{single_row, single_has_key};
 
 use kt_base::{Cell, Cells, Kind, NoMemory, Octets};
-use kt_history::{At, ColumnIds, Pred, PredList, RowList, Scan, Test, View};
+use kt_history::{At, ColumnIds, Pred, PredList, RowList, RowRef, Scan, Test, View};
 use kt_scan::run;
 use kt_schema::{Column, ColumnList, Schema};
 use std::alloc::{AllocError, Global};
@@ -45,6 +45,33 @@ impl View for Single {
             Ok(Some(self.key.copy()?))
         } else {
             Ok(None)
+        }
+    }
+
+    fn next_key(&self, after: Option<&[u8]>, _hint: &mut usize) -> Option<&[u8]> {
+        let above = match after {
+            None => true,
+            Some(after) => after.cmp(&self.key.as_slice()).is_lt(),
+        };
+        if above {
+            Some(self.key.as_slice())
+        } else {
+            None
+        }
+    }
+
+    fn row_into<'v>(
+        &'v self,
+        key: &[u8],
+        t: u64,
+        _hint: &mut usize,
+        row: &mut RowRef<'v>,
+    ) -> Result<bool, NoMemory> {
+        if key.cmp(&self.key.as_slice()).is_eq() && self.from <= t {
+            row.assign(self.cells.as_slice())?;
+            Ok(true)
+        } else {
+            Ok(false)
         }
     }
 }
