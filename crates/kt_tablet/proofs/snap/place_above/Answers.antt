@@ -1,8 +1,0 @@
-use Rattle.kt_tablet.proofs.Snaps.{above_begin}
-use Rattle.kt_tablet.proofs.snap.place_above.Goals as goal
-
-pub returns-then-begin_above-clause-parts : goal.returns-then-begin_above-clause-parts
-returns-then-begin_above-clause-parts c =
-    let told = c.begin_above.ensures in
-    let is = c.if-begin_above.true in
-    above_begin c.args.changes.now c.args.key.now c.args.hint c.requires (told.bound is) (told.here is) (told.before is)
