@@ -1,5 +1,5 @@
 //! The rows of a table at each time: its keys by rising bytes, each with what became of its row.
-ghost use Rattle.std.specs.Prelude.{◌≡◌, ◌≤◌, length, slice_get, is_some, true, false, IfOk, OnOk};
+ghost use Rattle.std.specs.Prelude.{◌≡◌, ◌≤◌, length, slice_get, is_some, true, false, Some, None, IfOk, OnOk, if◌then◌else◌};
 ghost use Rattle.std.specs.List.Sorted.{IsPartitionPoint};
 ghost use Rattle.std.specs.Option.{option_copied};
 ghost use Rattle.std.specs.Ordering.{is_lt};
@@ -10,7 +10,7 @@ ghost use Rattle.kt_run_check.specs.Tables.{row_of, IsTable, IsTableUpTo, IsPut}
 
 use crate::versions::Versions;
 use kt_base::{Cells, NoMemory, Octets};
-use kt_history::Change;
+use kt_history::{Change, RowRef};
 use std::alloc::Global;
 
 // How many keys are below another.
@@ -71,6 +71,22 @@ pub(crate) fn row_at(
     match versions_of(entries, key) {
         Some(versions) => versions.row_at(t),
         None => Ok(None),
+    }
+}
+
+/// As `row_at`, in a row that borrows. Tells whether there is a row.
+pub(crate) fn row_into<'v>(
+    entries: &'v [(Octets, Versions)],
+    key: &[u8],
+    t: u64,
+    row: &mut RowRef<'v>,
+) -> Result<bool, NoMemory>
+    requires { IsTable entries.now }
+    ensures { IfOk result (λ is. (if is then Some row.new else None) ≡ row_of entries.now key.now t) }
+{
+    match versions_of(entries, key) {
+        Some(versions) => versions.row_into(t, row),
+        None => Ok(false),
     }
 }
 

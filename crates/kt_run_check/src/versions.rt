@@ -1,12 +1,12 @@
 //! What became of the row of one key, by time.
-ghost use Rattle.std.specs.Prelude.{◌≡◌, ◌≤◌, ◌++◌, ◌∷◌, [], ℕ, length, take, nat_le, is_some, true, false, None, IfOk, OnOk, if◌then◌else◌};
+ghost use Rattle.std.specs.Prelude.{◌≡◌, ◌≤◌, ◌++◌, ◌∷◌, [], ℕ, length, take, nat_le, is_some, true, false, Some, None, IfOk, OnOk, if◌then◌else◌};
 ghost use Rattle.std.specs.List.Sorted.{IsPartitionPoint};
 ghost use Rattle.std.specs.Option.{option_copied};
 ghost use Rattle.kt_history.specs.Rows.{apply};
 ghost use Rattle.kt_run_check.specs.Tables.{stepped, row_after_all, row_from, AreOrdered, AreUpTo};
 
 use kt_base::{Cell, Cells, NoMemory};
-use kt_history::{Change, apply, with_cells};
+use kt_history::{Change, RowRef, apply, with_cells};
 use std::alloc::Global;
 use std::marker::Model;
 
@@ -125,6 +125,45 @@ fn last_row(list: &[(u64, Version)]) -> Result<Option<Cells>, NoMemory>
     Ok(row)
 }
 
+// The row that is borrowed, if there is one, in a row that is used again.
+fn base_in<'v>(row: &mut RowRef<'v>, base: Option<&'v Cells>) -> Result<bool, NoMemory>
+    ensures { IfOk result (λ is. (if is then Some row.new else None) ≡ option_copied base.entry) }
+{
+    match base {
+        Some(base) => {
+            row.assign(base.as_slice())?;
+            Ok(true)
+        }
+        None => Ok(false),
+    }
+}
+
+// As `after`, in a row that borrows. Told whether there is a row, it tells whether there is one then.
+fn after_in<'v>(version: &'v Version, row: &mut RowRef<'v>, there: bool) -> Result<bool, NoMemory>
+    ensures { IfOk result (λ is. (if is then Some row.new else None) ≡ stepped version.now (if there then Some row.old else None)) }
+{
+    match (version, there) {
+        (Version::Whole(whole), _) => base_in(row, whole.as_ref()),
+        (Version::Update(cells), true) => {
+            row.set_all(cells.as_slice())?;
+            Ok(true)
+        }
+        (Version::Update(_), false) => Ok(false),
+    }
+}
+
+// As `last_row`, in a row that borrows.
+fn last_row_in<'v>(list: &'v [(u64, Version)], row: &mut RowRef<'v>) -> Result<bool, NoMemory>
+    ensures { IfOk result (λ is. (if is then Some row.new else None) ≡ row_after_all None list.now) }
+{
+    let base = base_of(list);
+    let mut there = base_in(row, base.row)?;
+    for at in base.count..list.len() {
+        there = after_in(&list[at].1, row, there)?;
+    }
+    Ok(there)
+}
+
 impl Versions {
     /// No version yet.
     pub(crate) fn new(alloc: Global) -> Versions
@@ -150,6 +189,14 @@ impl Versions {
         ensures { IfOk result (λ row. row ≡ row_from None t self.now) }
     {
         last_row(self.up_to(t))
+    }
+
+    /// As `row_at`, in a row that borrows. Tells whether there is a row.
+    pub(crate) fn row_into<'v>(&'v self, t: u64, row: &mut RowRef<'v>) -> Result<bool, NoMemory>
+        requires { AreOrdered self.now }
+        ensures { IfOk result (λ is. (if is then Some row.new else None) ≡ row_from None t self.now) }
+    {
+        last_row_in(self.up_to(t), row)
     }
 
     /// Whether there is a row at a time.

@@ -9,10 +9,10 @@ ghost use Rattle.kt_history.specs.Views.{key_above};
 ghost use Rattle.kt_run_check.specs.Tables.{IsTable, keys_in, row_of};
 ghost use Rattle.kt_run_check.specs.TableLaws.{keys_rise, has_key};
 
-use crate::table::{entry_at, has_row_at, row_at};
+use crate::table::{entry_at, has_row_at, row_at, row_into};
 use crate::versions::Versions;
 use kt_base::{Cells, NoMemory, Octets};
-use kt_history::View;
+use kt_history::{RowRef, View};
 use std::alloc::Global;
 
 /// The rows of a table at each time.
@@ -55,6 +55,27 @@ fn least_above(
     }
 }
 
+// The key at a place, borrowed, if there is one.
+fn borrowed_at(entries: &[(Octets, Versions)], at: usize) -> Option<&[u8]>
+    ensures { option_copied result ≡ option_map (λ e. e.0) (slice_get entries.now at) }
+{
+    match entry_at(entries, at) {
+        Some((key, _)) => Some(key.as_slice()),
+        None => None,
+    }
+}
+
+// The least key above another, or the first of all, borrowed.
+fn next_above<'v>(entries: &'v [(Octets, Versions)], after: Option<&[u8]>) -> Option<&'v [u8]>
+    requires { IsTable entries.now }
+    ensures { option_copied result ≡ key_above (option_copied after.entry) (keys_in entries.now) }
+{
+    match after {
+        None => borrowed_at(entries, 0),
+        Some(after) => borrowed_at(entries, count_not_above(entries, after)),
+    }
+}
+
 impl Table {
     /// The rows that these entries tell.
     pub(crate) fn of(entries: Vec<(Octets, Versions)>) -> Table
@@ -89,5 +110,19 @@ impl View for Table {
 
     fn key_after(&self, _alloc: Global, after: Option<&[u8]>) -> Result<Option<Octets>, NoMemory> {
         least_above(&self.entries, after)
+    }
+
+    fn next_key(&self, after: Option<&[u8]>, _hint: &mut usize) -> Option<&[u8]> {
+        next_above(&self.entries, after)
+    }
+
+    fn row_into<'v>(
+        &'v self,
+        key: &[u8],
+        t: u64,
+        _hint: &mut usize,
+        row: &mut RowRef<'v>,
+    ) -> Result<bool, NoMemory> {
+        row_into(&self.entries, key, t, row)
     }
 }
