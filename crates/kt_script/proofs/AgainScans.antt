@@ -33,7 +33,7 @@ use Rattle.kt_script.specs.Print.{joined, parted, name_of, test_words, words_und
 use Rattle.kt_script.proofs.Cuts.{some_piece}
 use Rattle.kt_script.proofs.EachKind.{or_memory}
 use Rattle.kt_script.proofs.TimeWords.{unsigned}
-use Rattle.kt_script.proofs.AgainLiterals.{name_behind}
+use Rattle.kt_script.proofs.Cells.{name_behind}
 use Rattle.kt_script.proofs.ScanFit.{name_is, id_is, found, ids_step, not_there}
 
 -- ---- times

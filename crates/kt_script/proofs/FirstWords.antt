@@ -10,7 +10,7 @@ use Rattle.kt_script.specs.declared.leads.Word.{Word}
 use Rattle.kt_script.specs.declared.leads.Word.TheVariants as word
 use Rattle.kt_script.specs.declared.leads.Lead.{Lead}
 use Rattle.kt_script.specs.declared.leads.Lead.TheVariants as lead
-use Rattle.kt_script.specs.Form.{kind_in}
+use Rattle.kt_script.specs.Kinds.{kind_in}
 use Rattle.kt_script.specs.Writes.{op_word, op_kinds, op_kind}
 use Rattle.kt_script.specs.Leads.{chore_word, chores, chore_in, command_word, command_in, lead_word, lead_in}
 use Rattle.kt_script.proofs.FormLaws.{Plain, plain, kind_word}

@@ -10,7 +10,8 @@ use Rattle.kt_script.proofs.PrintedWords.{IsWord, High, high_word, all_high}
 use Rattle.kt_script.proofs.PrintedTables.{same_self}
 use Rattle.kt_script.proofs.InLine.{join}
 use Rattle.kt_script.proofs.Cuts.{Without}
-use Rattle.kt_script.specs.Form.{Single, Form, Spells, one, each, each_no, each_value, each_words, each_keeps, nothing, tagged, pair, mapped, ruled, kind_in, kind_no, kind_value, first_kind, chosen, picked, never}
+use Rattle.kt_script.specs.Kinds.{kind_in}
+use Rattle.kt_script.proofs.WordForms.{Single, Form, Spells, each, each_no, each_value, each_words, each_keeps, nothing, pair, mapped, ruled, kind_no, kind_value, first_kind, chosen}
 
 -- A printed word: it stands between spaces, in a line, and is not what stands between operations.
 pub record Plain (w : List ℕ) : Type 0 where
@@ -32,6 +33,10 @@ plain w h apart = plain_high w (all_high w h) apart
 pub all_of : {X : Type 0} (P Q : X → Type 0) (xs : List X) → ((x : X) → P x → Q x) → AllByRecursion P xs → AllByRecursion Q xs
 all_of P Q [] f p = tt
 all_of P Q (x ∷ xs) f p = (f x p.0, all_of P Q xs f p.1)
+
+pub zip_all : {X : Type 0} (P Q R : X → Type 0) (xs : List X) → ((x : X) → P x → Q x → R x) → AllByRecursion P xs → AllByRecursion Q xs → AllByRecursion R xs
+zip_all P Q R [] f p q = tt
+zip_all P Q R (x ∷ xs) f p q = (f x p.0 q.0, zip_all P Q R xs f p.1 q.1)
 
 -- A form of one word is well made.
 pub record One {A : Type 0} (s : Single A) : Type 0 where
@@ -59,10 +64,6 @@ module _ {A : Type 0} (f : Form A) (law : Lawful f) where
       let m = law.moved (f.words a) ws r.0 (law.back ws (f.words a) s.words) in
       (m.0, m.1 ∙ r.1)
 
-  -- one value a line
-  pub one_value : (ws : List (List ℕ)) (a b : A) → Spells f ws a → Spells f ws b → a ≡ b
-  one_value ws a b p q = sym (reads ws a p).1 ∙ (reads ws b q).1
-
   -- what is printed spells the value
   pub printed : (a : A) → f.keeps a → Spells f (f.words a) a
   printed a k = record { keeps = k; words = law.self (f.words a) }
@@ -71,20 +72,6 @@ module _ {A : Type 0} (f : Form A) (law : Lawful f) where
 
 equal_moved : {A : Type 0} (f : Form A) (ws vs : List (List ℕ)) → sound ≤ f.no ws → ws ≡ vs → (sound ≤ f.no vs) × (f.value vs ≡ f.value ws)
 equal_moved f ws vs h e = (subst (λ us. sound ≤ f.no us) e h, ap f.value (sym e))
-
-one_said : {A : Type 0} (s : Single A) → One s → (ws : List (List ℕ)) → sound ≤ (one s).no ws → s.keeps ((one s).value ws) × (ws ≡ (one s).words ((one s).value ws))
-one_said s law [] h = absurd (omega arith)
-one_said s law (w ∷ []) h = let x = law.said w h in (x.0, ap (λ v. v ∷ []) (sym x.1))
-one_said s law (w ∷ v ∷ ws) h = absurd (omega arith)
-
-pub one_law : {A : Type 0} (s : Single A) → One s → Lawful (one s)
-one_law s law = record {
-  said = one_said s law;
-  read = λ a k. let r = law.read a k in (r.0, r.1, (r.2, tt));
-  moved = equal_moved (one s);
-  self = λ ws. refl;
-  back = λ ws vs e. sym e;
-}
 
 module _ {C A : Type 0} (s : C → Single A) (law : (c : C) → One (s c)) where
   each_said : (cs : List C) (ws : List (List ℕ)) → sound ≤ each_no s cs ws → each_keeps s cs (each_value s cs ws) × (ws ≡ each_words s cs (each_value s cs ws))
@@ -124,31 +111,6 @@ pub nothing_law : {A : Type 0} (a : A) → Lawful (nothing a)
 nothing_law a = record { said = nothing_said a; read = λ b k. (omega arith, sym k, tt); moved = equal_moved (nothing a); self = λ ws. refl; back = λ ws vs e. sym e }
 
 -- ---- words behind words
-
-module _ {A : Type 0} (tag : List ℕ) (f : Form A) (law : Lawful f) where
-  tag_there : (ws : List (List ℕ)) → sound ≤ (tagged tag f).no ws → (take 1 ws ≡ tag ∷ []) × (sound ≤ f.no (drop 1 ws))
-  tag_there [] h = absurd (omega arith)
-  tag_there (w ∷ ws) h = by (same w tag) refl h
-    where
-      by : (t : Bool) → same w tag ≡ t → sound ≤ (if t then f.no ws else 12) → (w ∷ [] ≡ tag ∷ []) × (sound ≤ f.no ws)
-      by true e g = (ap (λ v. v ∷ []) (same_text w tag e), g)
-      by false e g = absurd (omega arith)
-
-  tag_back : (ws : List (List ℕ)) → take 1 ws ≡ tag ∷ [] → sound ≤ f.no (drop 1 ws) → sound ≤ (tagged tag f).no ws
-  tag_back [] e h = absurd cc
-  tag_back (w ∷ ws) e h = subst (λ t. sound ≤ (if t then f.no ws else 12)) (sym (ap (λ v. same v tag) (head w tag e) ∙ same_self tag)) h
-    where
-      head : (x y : List ℕ) → x ∷ [] ≡ y ∷ [] → x ≡ y
-      head x y g = cc
-
-  pub tagged_law : Plain tag → Lawful (tagged tag f)
-  tagged_law word = record {
-    said = λ ws h. let t = tag_there ws h in let x = law.said (drop 1 ws) t.1 in (x.0, (t.0, x.1));
-    read = λ a k. let r = law.read a k in (tag_back (tag ∷ f.words a) refl r.0, r.1, (word, r.2));
-    moved = λ ws vs h e. let t = tag_there ws h in let m = law.moved (drop 1 ws) (drop 1 vs) t.1 e.1 in (tag_back vs (sym e.0 ∙ t.0) m.0, m.1);
-    self = λ ws. (refl, law.self (drop 1 ws));
-    back = λ ws vs e. (sym e.0, law.back (drop 1 ws) (drop 1 vs) e.1);
-  }
 
 module _ {A B : Type 0} (n : ℕ) (f : Form A) (g : Form B) (fs : Lawful f) (gs : Lawful g) (size : (a : A) → f.keeps a → length (f.words a) ≡ n) where
   front : (x : A × B) → f.keeps x.0 → take n (f.words x.0 ++ g.words x.1) ≡ f.words x.0
@@ -251,30 +213,6 @@ module _ {K A : Type 0} (tag : K → List ℕ) (kinds : List K) (kind_of : A →
 
       one : (j k : K) → ◌≡◌ {A = Option K} (Some j) (Some k) → j ≡ k
       one j k q = cc
-
-module _ {K A : Type 0} (pick : List (List ℕ) → K) (kind_of : A → K) (form : K → Form A) where
-  pub picked_law : ((k : K) → Lawful (form k)) → ((k : K) (a : A) → (form k).keeps a → kind_of a ≡ k) → ((k : K) (a : A) → (form k).keeps a → pick ((form k).words a) ≡ k) → Lawful (picked pick kind_of form)
-  picked_law laws kept found = record {
-    said = λ ws h.
-        let k = pick ws in
-        let x = (laws k).said ws h in
-        let a = (form k).value ws in
-        let is = kept k a x.0 in
-        subst (λ j. (form j).keeps a × ((pick ws ≡ pick ((form j).words a)) × (form k).alike ws ((form j).words a))) (sym is) (x.0, (sym (found k a x.0), x.1));
-    read = λ a k.
-        let j = kind_of a in
-        let r = (laws j).read a k in
-        let is = sym (found j a k) in
-        (subst (λ i. sound ≤ (form i).no ((form j).words a)) is r.0, subst (λ i. (form i).value ((form j).words a) ≡ a) is r.1, r.2);
-    moved = λ ws vs h e.
-        let m = (laws (pick ws)).moved ws vs h e.1 in
-        (subst (λ i. sound ≤ (form i).no vs) e.0 m.0, subst (λ i. (form i).value vs ≡ (form (pick ws)).value ws) e.0 m.1);
-    self = λ ws. (refl, (laws (pick ws)).self ws);
-    back = λ ws vs e. (sym e.0, subst (λ i. (form i).alike vs ws) e.0 ((laws (pick ws)).back ws vs e.1));
-  }
-
-pub never_law : {A : Type 0} (reason : ℕ) (other : A) → reason < sound → Lawful (never reason other)
-never_law reason other low = record { said = λ ws h. absurd (omega arith); read = λ a k. absurd k; moved = λ ws vs h e. absurd (omega arith); self = λ ws. refl; back = λ ws vs e. sym e }
 
 -- ---- other values, and one rule more
 

@@ -1,29 +1,18 @@
 -- What the words of operations say, a word at a time.
-use Rattle.std.proofs.Common.{◌≡◌, ℕ, suc, ◌+◌, ◌<◌, ◌≤◌, min, Bool, true, false, not, ◌&&◌, ◌||◌, cond, List, [], ◌∷◌, ◌++◌, length, drop, map, None, Result, Ok, Err, inl, inr, refl, sym, ap, ◌∙◌, arith, append_assoc}
+use Rattle.std.proofs.Common.{◌≡◌, ℕ, suc, ◌+◌, ◌<◌, ◌≤◌, min, Bool, true, false, ◌||◌, List, [], ◌∷◌, ◌++◌, length, drop, map, inl, inr, refl, sym, ap, ◌∙◌, arith, append_assoc}
 use Rattle.std.specs.Prelude.{◌⊎◌, if◌then◌else◌, nat_lt, codes}
-use Rattle.std.specs.List.{list_any, list_all, onto_first}
+use Rattle.std.specs.List.{list_any, onto_first}
+use Rattle.std.proofs.lemmas.Bool.{cases_lt}
 use Rattle.std.proofs.lemmas.Bool.Decides.{nat_tests}
-use Rattle.kt_base.specs.declared.cell.Kind.{Kind}
-use Rattle.kt_base.specs.declared.cell.Kind.TheVariants as kind
 use Rattle.kt_base.specs.declared.cell.Cell.{Cell}
-use Rattle.kt_base.specs.declared.cell.Cell.TheVariants as cell
-use Rattle.kt_base.specs.declared.literal.LiteralNo.{LiteralNo}
-use Rattle.kt_base.specs.declared.literal.LiteralNo.TheVariants as no
-use Rattle.kt_base.specs.Literals.{same, cell_in, fits}
-use Rattle.kt_base.proofs.Literals.{all_spelled}
-use Rattle.kt_base.proofs.Values.{both, both_true}
-use Rattle.std.proofs.lemmas.Bool.{false≢true, cases_lt}
-use Rattle.kt_key.specs.Fit.{is_bool, has_kind, is_key}
+use Rattle.kt_base.specs.Literals.{same}
 use Rattle.kt_schema.specs.declared.column.Column.{Column}
-use Rattle.kt_schema.specs.First.{passes_at}
-use Rattle.kt_schema.specs.Columns.{is_weak, columns_no, key_columns, other_columns, key_kinds}
-use Rattle.kt_schema.proofs.Columns.{schema_holds}
-use Rattle.kt_script.specs.Reasons.{sound, reason_if, cell_no, cell_reason, cell_value, cell_or_null}
+use Rattle.kt_schema.specs.Columns.{other_columns}
 use Rattle.kt_history.specs.declared.operation.OpKind.{OpKind}
 use Rattle.kt_history.specs.declared.operation.RowOp.{RowOp}
+use Rattle.kt_script.specs.Reasons.{sound, reason_if}
+use Rattle.kt_script.specs.Writes.{name_in, left_out_no, must_be_named, all_named_no, upsert_no, twice, op_no, op_of, op_key, ops_no, many_no, write_no, cells_no, key_no, key_len, key_of, none_left_no, insert_no, ops_of, first_op, later_ops}
 use Rattle.kt_script.proofs.Selections.{any_map}
-use Rattle.kt_script.proofs.EachKind.{of_kind, or_memory}
-use Rattle.kt_script.specs.Writes.{name_in, left_out_no, must_be_named, all_named_no, upsert_no, twice, op_no, op_of, op_key, ops_no, many_no, write_no, cells_no, cells_of, key_no, key_len, key_of, key_cells, none_left_no, insert_no, ops_of, first_op, later_ops}
 
 -- the first operation and those behind it
 pub ops_split : (words : List (List ℕ)) → ops_of words ≡ first_op words ∷ later_ops words
@@ -34,64 +23,6 @@ ops_split (w ∷ words) = by (same w (codes ";")) (ops_split words)
         → (if t then [] ∷ ops_of words else onto_first w (ops_of words)) ≡ (if t then [] else w ∷ first_op words) ∷ (if t then ops_of words else later_ops words)
     by true e = refl
     by false e = ap (onto_first w) e
-
--- a text that no reason up to 17 refuses is a cell that the column takes, or null where it may be
-pub read_cell_fits : (c : Column) (word : List ℕ) → 17 < cell_no c word → (fits c.kind (cell_value c.kind word) ≡ true) ⊎ ((c.nullable ≡ true) × (cell_value c.kind word ≡ cell.Null))
-read_cell_fits c word h = by (cell_in c.kind word) refl h
-  where
-    null : (b : Bool) → 17 < cell_reason b (Err no.Null) → b ≡ true
-    null true g = refl
-    null false g = absurd (omega arith)
-
-    by : (r : Result Cell LiteralNo) → cell_in c.kind word ≡ r → 17 < cell_reason c.nullable r → (fits c.kind (cell_or_null r) ≡ true) ⊎ ((c.nullable ≡ true) × (cell_or_null r ≡ cell.Null))
-    by (Ok x) e g = inl (all_spelled c.kind x word e).fit
-    by (Err no.Form) e g = absurd (omega arith)
-    by (Err no.Kind) e g = absurd (omega arith)
-    by (Err no.Null) e g = inr (null c.nullable g, refl)
-    by (Err no.Long) e g = absurd (omega arith)
-    by (Err no.Memory) e g = absurd (or_memory c.kind _ e)
-
--- a column of a key: none of its cells is null, and it is of no truth values
-abbrev pub is_strong : Column → Bool
-is_strong c = not (c.nullable || is_bool c.kind)
-
-strong_keys : (columns : List Column) → ((k : ℕ) → passes_at is_weak columns k ≡ false) → list_all is_strong (key_columns columns) ≡ true
-strong_keys [] weak = refl
-strong_keys (c ∷ columns) weak = by c.key (weak 0) (strong_keys columns (λ k. weak (suc k)))
-  where
-    by : (b : Bool) → (b && (c.nullable || is_bool c.kind)) ≡ false → list_all is_strong (key_columns columns) ≡ true → list_all is_strong (cond b (c ∷ key_columns columns) (key_columns columns)) ≡ true
-    by true weak more = both _ _ (ap not weak) more
-    by false weak more = more
-
-key_one : (k : Kind) (kinds : List Kind) (x : Cell) (cells : List Cell) → is_bool k ≡ false → has_kind k x ≡ true → is_key kinds cells ≡ true → is_key (k ∷ kinds) (x ∷ cells) ≡ true
-key_one kind.Bool kinds x cells b h more = absurd (false≢true (sym b))
-key_one kind.Int8 kinds x cells b h more = both _ _ h more
-key_one kind.Int16 kinds x cells b h more = both _ _ h more
-key_one kind.Int32 kinds x cells b h more = both _ _ h more
-key_one kind.Int64 kinds x cells b h more = both _ _ h more
-key_one kind.String kinds x cells b h more = both _ _ h more
-key_one kind.Binary kinds x cells b h more = both _ _ h more
-
-keys_fit : (keys : List Column) (words : List (List ℕ)) → list_all is_strong keys ≡ true → 17 < cells_no keys words → is_key (map (λ (c : Column). c.kind) keys) (cells_of keys words) ≡ true
-keys_fit [] words strong h = refl
-keys_fit (c ∷ keys) [] strong h = absurd (omega arith)
-keys_fit (c ∷ keys) (w ∷ words) strong h =
-    let parts = both_true _ _ strong in
-    let kind = neither c.nullable (is_bool c.kind) parts.0 in
-    let here : has_kind c.kind (cell_value c.kind w) ≡ true = elim (read_cell_fits c w (omega (arith, h))) [
-      | inl fit ↦ (of_kind c.kind (cell_value c.kind w) fit).0
-      | inr null ↦ absurd (false≢true (sym kind.0 ∙ null.0))
-    ] in
-    key_one c.kind (map (λ (d : Column). d.kind) keys) (cell_value c.kind w) (cells_of keys words) kind.1 here (keys_fit keys words parts.1 (omega (arith, h)))
-  where
-    neither : (a b : Bool) → not (a || b) ≡ true → (a ≡ false) × (b ≡ false)
-    neither true b g = absurd (false≢true g)
-    neither false true g = absurd (false≢true g)
-    neither false false g = (refl, refl)
-
--- literals that no reason up to 17 refuses spell a key
-pub key_fits : (columns : List Column) (words : List (List ℕ)) → columns_no columns ≡ None → 17 < cells_no (key_columns columns) words → is_key (key_kinds columns) (key_cells columns words) ≡ true
-key_fits columns words none h = keys_fit (key_columns columns) words (strong_keys columns (schema_holds columns none).weak) h
 
 -- what an insert's readers note, one after the other
 pub insert_least : (columns others : List Column) (words first second : List (List ℕ)) (old a b l m : ℕ) → others ≡ other_columns columns
@@ -111,7 +42,7 @@ late : (test : Bool) (reason : ℕ) → reason ≤ sound → (reason ≤ reason_
 late true reason h = (omega arith, h)
 late false reason h = (h, omega arith)
 
-limit : (most n reason : ℕ) → ((most < n) × (reason_if (nat_lt most n) reason ≡ reason)) ⊎ ((n ≤ most) × (reason_if (nat_lt most n) reason ≡ sound))
+pub limit : (most n reason : ℕ) → ((most < n) × (reason_if (nat_lt most n) reason ≡ reason)) ⊎ ((n ≤ most) × (reason_if (nat_lt most n) reason ≡ sound))
 limit most n reason = by (nat_lt most n) refl
   where
     by : (t : Bool) → nat_lt most n ≡ t → ((most < n) × (reason_if t reason ≡ reason)) ⊎ ((n ≤ most) × (reason_if t reason ≡ sound))

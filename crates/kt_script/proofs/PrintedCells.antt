@@ -1,9 +1,7 @@
 -- Printed cells are read as these cells.
-use Rattle.std.proofs.Common.{◌≡◌, ℕ, ◌+◌, ◌≤◌, List, [], ◌∷◌, ◌++◌, refl, sym, ap, subst, ◌∙◌, arith, length, map, drop, Bool, true, false, not, min, Ok, Err, length-append}
+use Rattle.std.proofs.Common.{◌≡◌, ℕ, List, [], ◌∷◌, refl, sym, ap, subst, ◌∙◌, arith, map, Bool, true, false, not, min, Ok, Err}
 use mathlib.Core.List.{append-nil}
-use Rattle.std.specs.Prelude.{◌&&◌, ◌||◌, nat_lt, codes}
-use Rattle.std.specs.List.{AllByRecursion}
-use Rattle.std.proofs.lemmas.Bool.Decides.{nat_tests}
+use Rattle.std.specs.Prelude.{◌&&◌, ◌||◌, codes}
 use Rattle.kt_base.specs.declared.cell.Kind.{Kind}
 use Rattle.kt_base.specs.declared.cell.Cell.{Cell}
 use Rattle.kt_base.specs.declared.cell.Cell.TheVariants as cell
@@ -12,14 +10,10 @@ use Rattle.kt_base.specs.Literals.{same, literal, fits, cell_in, CellBytes}
 use Rattle.kt_base.proofs.Decimals.{same_text}
 use Rattle.kt_base.proofs.Values.{both_true}
 use Rattle.kt_base.proofs.Literals.{all_read}
-use Rattle.kt_key.specs.Fit.{has_kind, is_key}
-use Rattle.kt_key.specs.Spelling.{spelling, inner_spelling, last_spelling}
-use Rattle.kt_key.proofs.Steps.{length-escaped, is_key_more}
+use Rattle.kt_key.specs.Fit.{has_kind}
 use Rattle.kt_schema.specs.Rows.{is_long}
 use Rattle.kt_schema.specs.declared.column.Column.{Column}
 use Rattle.kt_script.specs.Reasons.{sound, cell_reason, cell_or_null, cell_no, cell_value}
-use Rattle.kt_script.specs.Texts.{literals}
-use Rattle.kt_script.specs.Writes.{cells_no, cells_of}
 use Rattle.kt_script.specs.Fit.{fits_column, compares}
 use Rattle.kt_script.proofs.Cuts.{Without}
 use Rattle.kt_script.proofs.InLine.{row_in_line}
@@ -29,9 +23,6 @@ use Rattle.kt_script.proofs.EachKind.{kind_fits}
 
 pub min_sound : (a b : ℕ) → a ≡ sound → b ≡ sound → min a b ≡ sound
 min_sound a b p q = omega arith
-
-not_long : (n : ℕ) → n ≤ 65536 → not (nat_lt 65536 n) ≡ true
-not_long n h = grind (arith, nat_tests)
 
 pub ranged : (k : Kind) (x : Cell) → fits k x ≡ true → Ranged k x
 ranged k cell.Null h = tt
@@ -90,68 +81,5 @@ cell_ok c (cell.Int n) h bytes = other_cell c (cell.Int n) h bytes
 cell_ok c (cell.Bool b) h bytes = other_cell c (cell.Bool b) h bytes
 cell_ok c (cell.Bytes b) h bytes = other_cell c (cell.Bytes b) h bytes
 
--- ---- literals in the order of the columns
-
--- a cell for each column
-abbrev pub CellsOk : List Column → List Cell → Type 0
-CellsOk [] [] = Unit {0}
-CellsOk [] (x ∷ xs) = ⊥
-CellsOk (c ∷ cs) [] = ⊥
-CellsOk (c ∷ cs) (x ∷ xs) = CellOk c x × CellsOk cs xs
-
 abbrev pub kinds_of : List Column → List Kind
 kinds_of cs = map (λ (c : Column). c.kind) cs
-
-pub front_drop : (cs : List Column) (xs : List Cell) (more : List (List ℕ)) → CellsOk cs xs → drop (length cs) (literals (kinds_of cs) xs ++ more) ≡ more
-front_drop [] [] more ok = refl
-front_drop [] (x ∷ xs) more ok = absurd ok
-front_drop (c ∷ cs) [] more ok = absurd ok
-front_drop (c ∷ cs) (x ∷ xs) more ok = front_drop cs xs more ok.1
-
-pub front_plain : (cs : List Column) (xs : List Cell) → CellsOk cs xs → AllByRecursion Plain (literals (kinds_of cs) xs)
-front_plain [] [] ok = tt
-front_plain [] (x ∷ xs) ok = absurd ok
-front_plain (c ∷ cs) [] ok = absurd ok
-front_plain (c ∷ cs) (x ∷ xs) ok = (ok.0.plain, front_plain cs xs ok.1)
-
-pub all_no : (cs : List Column) (xs : List Cell) (more : List (List ℕ)) → CellsOk cs xs → cells_no cs (literals (kinds_of cs) xs ++ more) ≡ sound
-all_no [] [] more ok = refl
-all_no [] (x ∷ xs) more ok = absurd ok
-all_no (c ∷ cs) [] more ok = absurd ok
-all_no (c ∷ cs) (x ∷ xs) more ok = min_sound (cell_no c (literal c.kind x)) (cells_no cs (literals (kinds_of cs) xs ++ more)) ok.0.taken (all_no cs xs more ok.1)
-
-pub all_of : (cs : List Column) (xs : List Cell) (more : List (List ℕ)) → CellsOk cs xs → cells_of cs (literals (kinds_of cs) xs ++ more) ≡ xs
-all_of [] [] more ok = refl
-all_of [] (x ∷ xs) more ok = absurd ok
-all_of (c ∷ cs) [] more ok = absurd ok
-all_of (c ∷ cs) (x ∷ xs) more ok = ap (λ v. v ∷ cells_of cs (literals (kinds_of cs) xs ++ more)) ok.0.value ∙ ap (λ vs. x ∷ vs) (all_of cs xs more ok.1)
-
--- ---- keys
-
-inner_short : (k : Kind) (x : Cell) → length (inner_spelling k x) ≤ 65536 → not (is_long x) ≡ true
-inner_short k cell.Null h = refl
-inner_short k (cell.Int n) h = refl
-inner_short k (cell.Bool b) h = refl
-inner_short k (cell.Bytes b) h = let size = length-escaped b in let short : length b ≤ 65536 = omega (arith, size) in not_long (length b) short
-
-last_short : (k : Kind) (x : Cell) → length (last_spelling k x) ≤ 65536 → not (is_long x) ≡ true
-last_short k cell.Null h = refl
-last_short k (cell.Int n) h = refl
-last_short k (cell.Bool b) h = refl
-last_short k (cell.Bytes b) h = not_long (length b) h
-
--- the cells of a key that is not too long
-pub key_ok : (cs : List Column) (xs : List Cell) → is_key (kinds_of cs) xs ≡ true → length (spelling (kinds_of cs) xs) ≤ 65536 → AllByRecursion CellBytes xs → CellsOk cs xs
-key_ok [] [] h short bytes = tt
-key_ok [] (x ∷ xs) h short bytes = absurd cc
-key_ok (c ∷ cs) [] h short bytes = absurd cc
-key_ok (c ∷ []) (x ∷ []) h short bytes = let more = is_key_more c.kind [] x [] h in (some_cell c x more.0 (last_short c.kind x short) bytes.0, tt)
-key_ok (c ∷ []) (x ∷ y ∷ xs) h short bytes = let more = is_key_more c.kind [] x (y ∷ xs) h in absurd (no more.1)
-  where
-    no : ◌≡◌ {A = Bool} false true → ⊥
-    no e = cc
-key_ok (c ∷ d ∷ cs) (x ∷ xs) h short bytes =
-    let rest : List ℕ = spelling (kinds_of (d ∷ cs)) xs in
-    let size : length (inner_spelling c.kind x ++ rest) ≡ length (inner_spelling c.kind x) + length rest = length-append (inner_spelling c.kind x) rest in
-    let more = is_key_more c.kind (kinds_of (d ∷ cs)) x xs h in
-    (some_cell c x more.0 (inner_short c.kind x (omega (arith, size, short))) bytes.0, key_ok (d ∷ cs) xs more.1 (omega (arith, size, short)) bytes.1)

@@ -27,7 +27,7 @@ use Rattle.kt_script.proofs.InLine.{words_in_line}
 use Rattle.kt_script.proofs.FormLaws.{Plain, plain}
 use Rattle.kt_script.proofs.PrintedWords.{name_is, words_alone}
 use Rattle.kt_script.proofs.PrintedNames.{name_plain}
-use Rattle.kt_script.proofs.PrintedWrites.{plain_in_line}
+use Rattle.kt_script.proofs.WriteLaws.{plain_in_line}
 use Rattle.kt_script.proofs.PrintedCells.{compared_again, min_sound}
 
 true_false : ◌≡◌ {A = Bool} true false → ⊥

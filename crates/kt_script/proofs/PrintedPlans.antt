@@ -30,7 +30,7 @@ use Rattle.kt_script.proofs.FormLaws.{plain, high_line}
 use Rattle.kt_script.proofs.PrintedWords.{IsWord, all_high, words_alone}
 use Rattle.kt_script.proofs.PrintedCells.{min_sound}
 use Rattle.kt_script.proofs.PrintedTables.{Tabled}
-use Rattle.kt_script.proofs.PrintedWrites.{InLine, plain_in_line, write_read}
+use Rattle.kt_script.proofs.WriteLaws.{InLine, plain_in_line, write_read}
 use Rattle.kt_script.proofs.PrintedScans.{scan_read, time_plain}
 use Rattle.kt_script.proofs.TimeWords.{time_again, not_late}
 

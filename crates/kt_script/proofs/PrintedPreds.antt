@@ -23,11 +23,11 @@ use Rattle.kt_script.specs.Scans.{Asked, compared, null, not_null, PredLine, or_
 use Rattle.kt_script.specs.Fit.{column_of, test_fits, tests_column, pred_fits}
 use Rattle.kt_script.specs.Print.{ColumnFits, parted, test_words, words_under, pred_words, where_words, TestBytes}
 use Rattle.kt_script.proofs.PrintedWords.{name_is}
-use Rattle.kt_script.proofs.FormLaws.{Plain, plain}
+use Rattle.kt_script.proofs.FormLaws.{Plain, zip_all, plain}
 use Rattle.kt_script.proofs.Parted.{parted_each}
 use Rattle.kt_script.proofs.PrintedCells.{ReadsAgain, compared_again, min_sound}
 use Rattle.kt_script.proofs.PrintedTables.{IsNamed, Tabled, column_found}
-use Rattle.kt_script.proofs.PrintedNames.{Known, zip_all, name_before, behind_sign, name_alone, behind_alone, name_plain, sign_plain}
+use Rattle.kt_script.proofs.PrintedNames.{Known, name_before, behind_sign, name_alone, behind_alone, name_plain, sign_plain}
 
 -- ---- tests
 
@@ -113,19 +113,19 @@ not_null_read columns c known = record {
 test_read : (columns : List Column) (c : Column) (t : Test) → Known columns c → test_fits c t ≡ true → TestBytes t → TestRead columns c t
 test_read columns c (test.Eq x) known fit bytes =
     let again = compared_again c x fit bytes in
-    compared_read columns c x (test.Eq x) 61 (literal c.kind x) Equal known again refl (sign_plain c (61 ∷ []) (literal c.kind x) known.fit (omega arith, tt) again.plain) refl refl refl (ap test.Eq (value_again c x again))
+    compared_read columns c x (test.Eq x) 61 (literal c.kind x) Equal known again refl (sign_plain c.name (61 ∷ []) (literal c.kind x) (name_is c.name known.fit.name) (omega arith, tt) again.plain) refl refl refl (ap test.Eq (value_again c x again))
 test_read columns c (test.Lt x) known fit bytes =
     let again = compared_again c x fit bytes in
-    compared_read columns c x (test.Lt x) 60 (literal c.kind x) Below known again refl (sign_plain c (60 ∷ []) (literal c.kind x) known.fit (omega arith, tt) again.plain) refl refl (ap Some (strict_sign c.kind x Below AtMost (literal c.kind x) again.read)) (ap test.Lt (value_again c x again))
+    compared_read columns c x (test.Lt x) 60 (literal c.kind x) Below known again refl (sign_plain c.name (60 ∷ []) (literal c.kind x) (name_is c.name known.fit.name) (omega arith, tt) again.plain) refl refl (ap Some (strict_sign c.kind x Below AtMost (literal c.kind x) again.read)) (ap test.Lt (value_again c x again))
 test_read columns c (test.Le x) known fit bytes =
     let again = compared_again c x fit bytes in
-    compared_read columns c x (test.Le x) 60 (61 ∷ literal c.kind x) AtMost known again refl (sign_plain c (60 ∷ 61 ∷ []) (literal c.kind x) known.fit (omega arith, (omega arith, tt)) again.plain) refl refl refl (ap test.Le (value_again c x again))
+    compared_read columns c x (test.Le x) 60 (61 ∷ literal c.kind x) AtMost known again refl (sign_plain c.name (60 ∷ 61 ∷ []) (literal c.kind x) (name_is c.name known.fit.name) (omega arith, (omega arith, tt)) again.plain) refl refl refl (ap test.Le (value_again c x again))
 test_read columns c (test.Gt x) known fit bytes =
     let again = compared_again c x fit bytes in
-    compared_read columns c x (test.Gt x) 62 (literal c.kind x) Above known again refl (sign_plain c (62 ∷ []) (literal c.kind x) known.fit (omega arith, tt) again.plain) refl refl (ap Some (strict_sign c.kind x Above AtLeast (literal c.kind x) again.read)) (ap test.Gt (value_again c x again))
+    compared_read columns c x (test.Gt x) 62 (literal c.kind x) Above known again refl (sign_plain c.name (62 ∷ []) (literal c.kind x) (name_is c.name known.fit.name) (omega arith, tt) again.plain) refl refl (ap Some (strict_sign c.kind x Above AtLeast (literal c.kind x) again.read)) (ap test.Gt (value_again c x again))
 test_read columns c (test.Ge x) known fit bytes =
     let again = compared_again c x fit bytes in
-    compared_read columns c x (test.Ge x) 62 (61 ∷ literal c.kind x) AtLeast known again refl (sign_plain c (62 ∷ 61 ∷ []) (literal c.kind x) known.fit (omega arith, (omega arith, tt)) again.plain) refl refl refl (ap test.Ge (value_again c x again))
+    compared_read columns c x (test.Ge x) 62 (61 ∷ literal c.kind x) AtLeast known again refl (sign_plain c.name (62 ∷ 61 ∷ []) (literal c.kind x) (name_is c.name known.fit.name) (omega arith, (omega arith, tt)) again.plain) refl refl refl (ap test.Ge (value_again c x again))
 test_read columns c test.IsNull known fit bytes = null_read columns c known
 test_read columns c test.NotNull known fit bytes = not_null_read columns c known
 

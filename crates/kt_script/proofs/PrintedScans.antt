@@ -25,10 +25,10 @@ use Rattle.kt_base.proofs.Decimals.{same_text}
 use Rattle.kt_script.proofs.Cuts.{Without, cut_front, cut_end}
 use Rattle.kt_script.proofs.InLine.{join}
 use Rattle.kt_script.proofs.PrintedWords.{High, NameByte, Named, name_is, name_high, name_bytes_of, name_apart}
-use Rattle.kt_script.proofs.FormLaws.{Plain, plain, plain_high}
+use Rattle.kt_script.proofs.FormLaws.{Plain, zip_all, plain, plain_high}
 use Rattle.kt_script.proofs.PrintedCells.{min_sound}
 use Rattle.kt_script.proofs.PrintedTables.{IsNamed, Tabled, column_found}
-use Rattle.kt_script.proofs.PrintedNames.{Known, zip_all}
+use Rattle.kt_script.proofs.PrintedNames.{Known}
 use Rattle.kt_script.proofs.PrintedPreds.{PredRead, preds_read, pred_lines, preds_many, preds_sound, preds_are, where_plain, where_again}
 use Rattle.kt_script.proofs.TimeWords.{time_again, time_high, not_late}
 

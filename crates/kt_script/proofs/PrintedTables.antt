@@ -12,7 +12,7 @@ use Rattle.kt_key.proofs.Kept.{bytes_cmp-self}
 use Rattle.kt_schema.specs.declared.column.Column.{Column}
 use Rattle.kt_schema.specs.First.{passes_at}
 use Rattle.kt_schema.specs.Columns.{is_again, same_name, other_columns}
-use Rattle.kt_script.specs.Columns.{counts_from}
+use Rattle.kt_script.specs.Columns.{counts_from, IsTable}
 use Rattle.kt_script.specs.Writes.{column_named}
 use Rattle.kt_script.specs.Fit.{column_of}
 use Rattle.kt_script.specs.Print.{ColumnFits, ColumnsFit}
@@ -20,6 +20,19 @@ use Rattle.kt_base.proofs.Decimals.{same_text}
 
 pub same_self : (xs : List ℕ) → same xs xs ≡ true
 same_self xs = nat_list_eq_equiv.refl xs
+
+pub names_differ : (m n : List ℕ) → same m n ≡ false → m ≡ n → ⊥
+names_differ m n h e = true_false (sym (ap (λ x. same x n) e ∙ same_self n) ∙ h)
+  where
+    true_false : ◌≡◌ {A = Bool} true false → ⊥
+    true_false e = cc
+
+pub turned : (m n : List ℕ) → same m n ≡ false → same n m ≡ false
+turned m n h = by (same n m) refl
+  where
+    by : (t : Bool) → same n m ≡ t → t ≡ false
+    by true e = absurd (names_differ m n h (sym (same_text n m e)))
+    by false e = refl
 
 -- names that differ
 abbrev pub Other : Column → Column → Type 0
@@ -52,7 +65,7 @@ apart_kept p (c ∷ cs) h = elim (p c) as (λ t. Apart (cond t (c ∷ filter p c
   | false ↦ apart_kept p cs h.1
 ]
 
-rising_kept : (p : Column → Bool) (cs : List Column) → Rising cs → Rising (filter p cs)
+pub rising_kept : (p : Column → Bool) (cs : List Column) → Rising cs → Rising (filter p cs)
 rising_kept p [] h = tt
 rising_kept p (c ∷ cs) h = elim (p c) as (λ t. Rising (cond t (c ∷ filter p cs) (filter p cs))) [
   | true ↦ (all_kept (Above c) p cs h.0, rising_kept p cs h.1)
@@ -138,22 +151,19 @@ rising_of n (c ∷ cs) h = let id = h.0 in (above_from c (n + 1) cs (omega arith
 -- ---- the whole table
 
 pub record Tabled (columns : List Column) : Type 0 where
+  pub table : IsTable columns
   pub named : AllByRecursion (IsNamed columns) columns
   pub fit : AllByRecursion ColumnFits columns
-  pub others_named : AllByRecursion (IsNamed (other_columns columns)) (other_columns columns)
   pub others_fit : AllByRecursion ColumnFits (other_columns columns)
-  pub others_apart : Apart (other_columns columns)
   pub others_rising : Rising (other_columns columns)
 
 pub tabled : (columns : List Column) → ColumnsFit columns → Tabled columns
 tabled columns h =
     let apart = apart_of columns h.table.again in
-    let others = apart_kept (λ c. not c.key) columns apart in
     record {
+      table = h.table;
       named = all_named_in columns apart;
       fit = h.each;
-      others_named = all_named_in (other_columns columns) others;
       others_fit = all_kept ColumnFits (λ c. not c.key) columns h.each;
-      others_apart = others;
       others_rising = rising_kept (λ c. not c.key) columns (rising_of 1 columns (numbered 1 columns h.table.ids));
     }

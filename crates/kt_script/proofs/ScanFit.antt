@@ -27,7 +27,7 @@ use Rattle.kt_script.specs.Times.{most_time, at_no}
 use Rattle.kt_script.specs.Fit.{compares, column_of, are_selected, selection_fits, test_fits, tests_column, pred_fits, AtFits, ScanFits}
 use Rattle.kt_base.proofs.Decimals.{differ, same_text}
 use Rattle.kt_script.proofs.Cuts.{some_piece}
-use Rattle.kt_script.proofs.PartFits.{cell_fits}
+use Rattle.kt_script.proofs.Cells.{cell_taken}
 
 -- a column has the name by which it is found
 pub name_is : (columns : List Column) (name : List ℕ) (c : Column) → column_named columns name ≡ Some c → c.name ≡ name
@@ -138,7 +138,7 @@ selection columns (Some (name ∷ names)) counts some h =
 compared_fits : (c : Column) (word : List ℕ) → 18 ≤ compared_reason (cell_in c.kind word) → compares c (cell_value c.kind word) ≡ true
 compared_fits c word h =
     let x = cell_value c.kind word in
-    there (has_kind c.kind x) (is_null x) (not (is_long x)) (cell_fits (record { id = c.id; name = c.name; kind = c.kind; key = c.key; nullable = false; default = c.default }) word (never_null (cell_in c.kind word) h))
+    there (has_kind c.kind x) (is_null x) (not (is_long x)) (cell_taken (record { id = c.id; name = c.name; kind = c.kind; key = c.key; nullable = false; default = c.default }) word (never_null (cell_in c.kind word) h)).0
   where
     never_null : (r : Result Cell LiteralNo) → 18 ≤ compared_reason r → 17 < cell_reason false r
     never_null (Ok x) g = omega arith

@@ -14,7 +14,7 @@ use Rattle.kt_script.specs.Spelled.{SaidFits, scripts_fit}
 use Rattle.kt_script.proofs.Cuts.{some_piece}
 use Rattle.kt_script.proofs.Tables.{table_none, table_more, column_fits}
 use Rattle.kt_script.proofs.Bodies.{body_fits}
-use Rattle.kt_script.proofs.WriteFits.{write_fits}
+use Rattle.kt_script.proofs.WriteLaws.{write_fits}
 
 -- what stands above a line keeps the rules
 abbrev pub FitsAbove : Above → Type 0
@@ -28,7 +28,7 @@ no_plan columns = record { sessions = omega arith; commands = omega arith; each 
 -- ---- line by line
 
 body_kept : (columns : List Column) (plan : List (List Command)) (words : List (List ℕ)) → IsTable columns → list_any (λ c. c.key) columns ≡ true → PlanFits columns plan → sound ≤ body_no columns plan words → PlanFits columns (body_plan columns plan words)
-body_kept columns plan words table key fits h = body_fits columns plan words table.ids (λ ws. write_fits columns ws table table.ids key) fits h
+body_kept columns plan words table key fits h = body_fits columns plan words table.ids (λ ws. write_fits columns ws table) fits h
 
 column_kept : (columns : List Column) (line : List ℕ) → IsTable columns → sound ≤ column_no columns line → IsTable (columns_with columns line)
 column_kept columns line table h = by (column_line (words_of line)) refl

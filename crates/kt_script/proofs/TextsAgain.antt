@@ -39,8 +39,8 @@ use Rattle.kt_script.proofs.Bodies.{chore_taken}
 use Rattle.kt_script.proofs.Spelling.{FitsAbove, after_kept, no_fault, script_is, is_script}
 use Rattle.kt_script.proofs.AgainColumns.{rejoined, column_again}
 use Rattle.kt_script.proofs.AgainScans.{scan_again, mark_again}
-use Rattle.kt_script.proofs.Renamed.{size}
-use Rattle.kt_script.proofs.AgainWrites.{write_again, write_moved, write_size}
+use Rattle.kt_script.proofs.ByName.{size}
+use Rattle.kt_script.proofs.WriteLaws.{write_again, write_moved, write_size}
 
 -- what is printed of what stands above a line
 abbrev printed : Above → List ℕ
@@ -98,18 +98,6 @@ cut_without byte (b ∷ l) = by (b == byte) refl (cut_without byte l)
     by : (t : Bool) → (b == byte) ≡ t → AllByRecursion (Without byte) (cut byte l) → AllByRecursion (Without byte) (if t then [] ∷ cut byte l else onto_first b (cut byte l))
     by true e more = (tt, more)
     by false e more = onto_without byte b (cut byte l) (λ q. false≢true (sym e ∙ eq-eqb b byte q)) more
-
-words_from_without : (byte : ℕ) (side : Side) (l : List ℕ) → Without byte l → AllByRecursion (Without byte) (words_from side l)
-words_from_without byte side [] h = (tt, tt)
-words_from_without byte side (b ∷ l) h = by (ends_word side b) (words_from_without byte Outside l h.1) (words_from_without byte (side_after side b) l h.1)
-  where
-    by : (t : Bool) → AllByRecursion (Without byte) (words_from Outside l) → AllByRecursion (Without byte) (words_from (side_after side b) l)
-        → AllByRecursion (Without byte) (if t then [] ∷ words_from Outside l else onto_first b (words_from (side_after side b) l))
-    by true out on = (tt, out)
-    by false out on = onto_without byte b (words_from (side_after side b) l) h.0 on
-
-words_without : (byte : ℕ) (l : List ℕ) → Without byte l → AllByRecursion (Without byte) (words_of l)
-words_without byte l h = words_from_without byte Outside l h
 
 -- ---- lines that are alike
 
@@ -268,7 +256,7 @@ module _ (columns : List Column) (plan : List (List Command)) (text : List ℕ) 
       by (Some (lead.Command word.Mark)) first g = plain word.Mark refl first g
       by (Some (lead.Command (word.Chore c))) first g = plain (word.Chore c) refl first g
       by (Some (lead.Command (word.Op k))) first g =
-          let again = write_again columns (words_of text) table (write_taken k g) (words_without 10 text inside) in
+          let again = write_again columns (words_of text) table (write_taken k g) in
           let shown : List ℕ = words (write_words columns (write_of columns (words_of text))) in
           record { shown = shown; printed = command_goes_on (word.Op k) shown g (λ taken. refl); alike = subst (λ b. alike_as columns b text shown) (sym (ap is_write first)) again.alike; inside = again.line }
 

@@ -18,7 +18,7 @@ use Rattle.kt_script.specs.declared.columns.Line.{Line}
 use Rattle.kt_script.specs.declared.columns.LineNo.{LineNo}
 use Rattle.kt_script.specs.declared.columns.LineNo.TheVariants as line
 use Rattle.kt_script.specs.Pieces.{words_of, text_now}
-use Rattle.kt_script.specs.Form.{kind_in}
+use Rattle.kt_script.specs.Kinds.{kind_in}
 use Rattle.kt_script.specs.Reasons.{sound, Reads, reason_if, cell_value}
 
 -- What a column line says. A default is the text of a literal.

@@ -9,7 +9,7 @@ use Rattle.kt_script.specs.declared.leads.Word.TheVariants as word
 use Rattle.kt_script.specs.declared.leads.Lead.{Lead}
 use Rattle.kt_script.specs.declared.leads.Lead.TheVariants as lead
 use Rattle.kt_script.specs.Reasons.{sound}
-use Rattle.kt_script.specs.Form.{kind_in}
+use Rattle.kt_script.specs.Kinds.{kind_in}
 use Rattle.kt_script.specs.Writes.{op_word, op_kind}
 
 -- the word of each chore

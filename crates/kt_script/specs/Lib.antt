@@ -2,7 +2,7 @@ pub mod Texts
 pub mod Laws
 pub mod Pieces
 pub mod Reasons
-pub mod Form
+pub mod Kinds
 pub mod Columns
 pub mod Writes
 pub mod Times

@@ -20,7 +20,7 @@ use Rattle.kt_script.specs.declared.forms.OpForm.TheVariants as form
 use Rattle.kt_script.specs.declared.columns.LineNo.{LineNo}
 use Rattle.kt_script.specs.declared.columns.LineNo.TheVariants as line
 use Rattle.kt_script.specs.Pieces.{words_in}
-use Rattle.kt_script.specs.Form.{kind_in}
+use Rattle.kt_script.specs.Kinds.{kind_in}
 use Rattle.kt_script.specs.Reasons.{sound, reason_if, cell_no, cell_value, form_no}
 
 -- a literal for each column at the front of some words

@@ -2,7 +2,7 @@ use Rattle.std.proofs.Common.{◌∙◌, ap, arith}
 use Rattle.kt_key.specs.Fit.{is_key}
 use Rattle.kt_schema.specs.Columns.{key_kinds}
 use Rattle.kt_script.specs.Writes.{op_in}
-use Rattle.kt_script.proofs.OpWords.{key_fits}
+use Rattle.kt_script.proofs.KeyCells.{key_fits}
 use Rattle.kt_script.proofs.operations.take_key.Goals as goal
 
 pub spell_key-requires : goal.spell_key-requires

@@ -1,4 +1,4 @@
-use Rattle.kt_script.proofs.WriteFits.{write_fits}
+use Rattle.kt_script.proofs.WriteLaws.{write_fits}
 use Rattle.kt_script.proofs.Bodies.{body_refused, body_read}
 use Rattle.kt_script.proofs.script.read_body.Goals as goal
 
@@ -8,4 +8,4 @@ returns-in-Err c = rw c.located.ensures (body_refused (Unit {0}) c.read_line.new
 pub lines-preserved : goal.lines-preserved
 lines-preserved c =
     body_read c.in-Some.line.now c.in-Some.behind.now c.in_default-read_line.field-0 c.requires.table.ids
-    (λ words. write_fits c.args.schema.now words c.requires.table c.requires.table.ids c.requires.key) c.lines.invariant c.in-Some.ensures.0 c.in-Some.ensures.1 c.in_default-read_line.ensures
+    (λ words. write_fits c.args.schema.now words c.requires.table) c.lines.invariant c.in-Some.ensures.0 c.in-Some.ensures.1 c.in_default-read_line.ensures

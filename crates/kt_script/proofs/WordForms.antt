@@ -1,7 +1,7 @@
 -- Forms: how values of a kind are written in the words of a line. A form is described once; how it is read, printed and kept follows.
 use Rattle.std.specs.Prelude.{◌≡◌, ℕ, min, List, [], ◌∷◌, ◌++◌, take, drop, Option, Some, None, if◌then◌else◌}
-use Rattle.kt_base.specs.Literals.{same}
 use Rattle.kt_script.specs.Reasons.{sound}
+use Rattle.kt_script.specs.Kinds.{kind_in}
 
 -- How a value is written in one word: why a word is refused, what it says, and what is printed.
 pub record Single (A : Type 0) : Type 1 where
@@ -27,18 +27,7 @@ pub record Spells {A : Type 0} (f : Form A) (ws : List (List ℕ)) (a : A) : Typ
 abbrev pub equal : List (List ℕ) → List (List ℕ) → Type 0
 equal ws vs = ws ≡ vs
 
--- ---- one word, and a word for each of a list
-
-abbrev one_no : (List ℕ → ℕ) → List (List ℕ) → ℕ
-one_no why (w ∷ []) = why w
-one_no why _ = 12
-
-abbrev first_word : List (List ℕ) → List ℕ
-first_word [] = []
-first_word (w ∷ ws) = w
-
-abbrev pub one : {A : Type 0} → Single A → Form A
-one s = record { no = one_no s.no; value = λ ws. s.value (first_word ws); words = λ a. s.word a ∷ []; keeps = s.keeps; alike = equal }
+-- ---- a word for each of a list
 
 module _ {C A : Type 0} (s : C → Single A) where
   abbrev pub each_no : List C → List (List ℕ) → ℕ
@@ -72,17 +61,6 @@ nothing_no (w ∷ ws) = 12
 abbrev pub nothing : {A : Type 0} → A → Form A
 nothing a = record { no = nothing_no; value = λ ws. a; words = λ b. []; keeps = λ b. b ≡ a; alike = equal }
 
--- a first word
-abbrev tag_no : List ℕ → (List (List ℕ) → ℕ) → List (List ℕ) → ℕ
-tag_no tag why [] = 12
-tag_no tag why (w ∷ ws) = if same w tag then why ws else 12
-
-abbrev pub alike_behind : (List (List ℕ) → List (List ℕ) → Type 0) → List (List ℕ) → List (List ℕ) → Type 0
-alike_behind alike ws vs = (take 1 ws ≡ take 1 vs) × alike (drop 1 ws) (drop 1 vs)
-
-abbrev pub tagged : {A : Type 0} → List ℕ → Form A → Form A
-tagged tag f = record { no = tag_no tag f.no; value = λ ws. f.value (drop 1 ws); words = λ a. tag ∷ f.words a; keeps = f.keeps; alike = alike_behind f.alike }
-
 -- so many words, and those behind them
 abbrev pub pair : {A B : Type 0} → ℕ → Form A → Form B → Form (A × B)
 pair n f g = record {
@@ -94,11 +72,6 @@ pair n f g = record {
 }
 
 -- ---- kinds of lines
-
--- the first of some kinds that has this word
-abbrev pub kind_in : {K : Type 0} → (K → List ℕ) → List K → List ℕ → Option K
-kind_in tag [] word = None
-kind_in tag (kind ∷ kinds) word = if same word (tag kind) then Some kind else kind_in tag kinds word
 
 -- a first word of several, which tells how the others are read
 module _ {K A : Type 0} (tag : K → List ℕ) (kinds : List K) (kind_of : A → K) (form : K → Form A) (other : A) where
@@ -122,20 +95,6 @@ module _ {K A : Type 0} (tag : K → List ℕ) (kinds : List K) (kind_of : A →
     keeps = λ a. (form (kind_of a)).keeps a;
     alike = λ ws vs. (take 1 ws ≡ take 1 vs) × ((k : K) → first_kind ws ≡ Some k → (form k).alike (drop 1 ws) (drop 1 vs));
   }
-
--- one of several forms, by a test of the words
-abbrev pub picked : {K A : Type 0} → (List (List ℕ) → K) → (A → K) → (K → Form A) → Form A
-picked pick kind_of form = record {
-  no = λ ws. (form (pick ws)).no ws;
-  value = λ ws. (form (pick ws)).value ws;
-  words = λ a. (form (kind_of a)).words a;
-  keeps = λ a. (form (kind_of a)).keeps a;
-  alike = λ ws vs. (pick ws ≡ pick vs) × (form (pick ws)).alike ws vs;
-}
-
--- no words are of this form, for a reason
-abbrev pub never : {A : Type 0} → ℕ → A → Form A
-never reason other = record { no = λ ws. reason; value = λ ws. other; words = λ a. []; keeps = λ a. ⊥; alike = equal }
 
 -- ---- other values, and one rule more
 
