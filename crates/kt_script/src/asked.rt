@@ -14,7 +14,7 @@ use kt_schema::Column;
 use std::alloc::Global;
 
 /// How a cell is compared with a literal.
-#[derive(Clone, Copy, Debug, PartialEq, Eq)]
+#[derive(Clone, Copy)]
 pub enum Sign {
     Equal,
     Below,

@@ -11,7 +11,7 @@ use kt_history::OpKind;
 pub const JOBS: bool = false;
 
 /// The first word of a command.
-#[derive(Clone, Copy, Debug, PartialEq, Eq)]
+#[derive(Clone, Copy)]
 pub enum Word {
     Scan,
     Mark,
@@ -21,7 +21,7 @@ pub enum Word {
 }
 
 /// What a line below the columns begins.
-#[derive(Clone, Copy, Debug, PartialEq, Eq)]
+#[derive(Clone, Copy)]
 pub enum Lead {
     Session,
     Command(Word),

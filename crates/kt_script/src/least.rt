@@ -10,7 +10,7 @@ use std::alloc::Global;
 use std::marker::Model;
 
 /// The least reason so far, if one holds. Contracts see its number, and `sound` where none holds.
-#[derive(Debug, Drop)]
+#[derive(Drop)]
 pub struct Least {
     reason: Option<u8>,
 }

@@ -6,7 +6,7 @@ ghost use Rattle.kt_script.specs.declared.lex.Lex.TheVariants.{Start, Minus, Tex
 ghost use Rattle.kt_script.specs.Lex.{next, low_of, is_whole, next_in_row};
 
 /// What the bytes of a literal were that stand before a place. From each of them some literal is reached.
-#[derive(Clone, Copy, Debug, PartialEq, Eq)]
+#[derive(Clone, Copy)]
 pub enum Lex {
     Start,
     N,

@@ -16,7 +16,7 @@ use kt_schema::{Column, is_name};
 use std::alloc::Global;
 
 /// Named cells by rising column id, their names in the order of the line, and what is left of the line behind them.
-#[derive(Debug, Drop)]
+#[derive(Drop)]
 pub struct TakenNames<'a> {
     pub names: Vec<&'a [u8]>,
     pub cells: Vec<(u16, Cell)>,

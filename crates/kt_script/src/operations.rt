@@ -16,21 +16,21 @@ use kt_schema::{Column, Schema};
 use std::alloc::Global;
 
 /// Cells that are read, and what is left of the line behind them.
-#[derive(Debug, Drop)]
+#[derive(Drop)]
 pub struct TakenCells<'a> {
     pub cells: Vec<Cell>,
     pub rest: Option<&'a [u8]>,
 }
 
 /// Cells with the ids of their columns, and what is left of the line behind them.
-#[derive(Debug, Drop)]
+#[derive(Drop)]
 pub struct TakenOthers<'a> {
     pub cells: Vec<(u16, Cell)>,
     pub rest: Option<&'a [u8]>,
 }
 
 /// A key, and what is left of the line behind it.
-#[derive(Debug, Drop)]
+#[derive(Drop)]
 pub struct TakenKey<'a> {
     pub key: Octets,
     pub rest: Option<&'a [u8]>,

@@ -17,7 +17,7 @@ use kt_history::{Event, Outcome, OutcomeList};
 use std::alloc::Global;
 
 /// The first line of a reply, before its rows: the reply without them, and how many there are.
-#[derive(Debug, Drop)]
+#[derive(Drop)]
 pub struct FirstLine {
     pub reply: ReplyLine,
     pub due: u64,

@@ -10,7 +10,7 @@ use std::marker::Model;
 
 /// The sessions that have ended, and the commands of the last one, if one has begun. Contracts see the commands of each
 /// session.
-#[derive(Debug, Drop)]
+#[derive(Drop)]
 pub struct Sessions {
     ended: Vec<Session>,
     last: Option<Vec<Command>>,

@@ -12,7 +12,7 @@ use crate::word::next_word;
 use kt_base::limits::TIME_MOST;
 
 /// A word where a time may be named.
-#[derive(Clone, Copy, Debug, PartialEq, Eq)]
+#[derive(Clone, Copy)]
 pub enum Time {
     /// A time that may be named.
     Named(u64),

@@ -4,7 +4,7 @@ ghost use Rattle.std.specs.Prelude.{◌≡◌, [], IfSome, IfNone, ◌<◌};
 ghost use Rattle.kt_script.specs.Pieces.{side_after, ends_word, words_of, words_in, IsCut};
 
 /// Where a byte of a line stands.
-#[derive(Clone, Copy, Debug, PartialEq, Eq)]
+#[derive(Clone, Copy)]
 pub enum Side {
     Outside,
     /// Between quotes.

@@ -23,7 +23,7 @@ use kt_schema::Schema;
 use std::alloc::Global;
 
 // An operation, and what is left behind its `;`, if it has one. It counts only where no reason up to 17 holds.
-#[derive(Debug, Drop)]
+#[derive(Drop)]
 struct TakenOp<'a> {
     op: RowOp,
     rest: Option<Option<&'a [u8]>>,
