@@ -224,18 +224,27 @@ impl Flight {
         if let Some(ts) = holder(&self.held, &self.flying, &keys) {
             return Err(MvccNo::Wait { ts });
         }
-        let ts = next(self.c, m);
         if self.flying.try_reserve(1).is_err() {
             return Err(MvccNo::Memory);
         }
+        Ok(self.begin_free(who, keys, m))
+    }
+
+    /// Begins a write for which there is room, and whose keys no write holds. They are not looked up again.
+    pub fn begin_free(&mut self, who: u32, keys: KeyList, m: u64) -> u64
+        requires rests { flies who self.old.flying ≡ false }
+        requires below { self.old.c < 2 ^ 64 - 1 }
+        requires free { holder keys self.old.flying ≡ None }
+        requires room { 0 < self.old.room }
+        ensures ts { (result ≡ next_timestamp self.old.c m) × (self.new.c ≡ result) }
+        ensures flying { self.new.flying ≡ self.old.flying ++ record { who = who; ts = result; keys = keys } ∷ [] }
+        ensures mark { self.new.a ≡ self.old.a }
+    {
+        let ts = next(self.c, m);
         self.held.hold(who, keys.as_slice());
-        match self.flying.push(Flier { who, ts, keys }) {
-            Ok(()) => {
-                self.c = ts;
-                Ok(ts)
-            }
-            Err(_) => Err(MvccNo::Memory),
-        }
+        self.flying.push_reserved(Flier { who, ts, keys });
+        self.c = ts;
+        ts
     }
 
     /// Ends a write, and lets go of its keys.
