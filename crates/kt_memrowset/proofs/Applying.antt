@@ -25,7 +25,7 @@ use Rattle.kt_memrowset.specs.Writes.{IsFresh, Extends}
 use Rattle.kt_memrowset.proofs.Links.{link_bytes, length-spelling, length-cells}
 use Rattle.kt_memrowset.proofs.Chains.{link_kept}
 use Rattle.kt_memrowset.proofs.Trails.{leads_same, cells_kept, trail_stands}
-use Rattle.kt_memrowset.proofs.Rows.{in_row_found, hist_found, hist_there, hist_lacking}
+use Rattle.kt_memrowset.proofs.Rows.{get_some, get_none, in_row_found, hist_found, hist_there, hist_lacking}
 use Rattle.kt_memrowset.proofs.Splits.{at_key, Found, Lacking, found, lacking, put_found, put_lacking}
 use Rattle.kt_memrowset.proofs.Frames.{in_rows-append, is_still, store_still, had_still, owns_back, owns_on}
 use Rattle.kt_memrowset.proofs.Joining.{told_by, Grows, trail_grown, rows_grown, store_grown}
@@ -76,6 +76,16 @@ module _ (s : MemRowSet) (p0 p1 : Contents) (fresh : Link) (op : RowOp) (st : Is
 
   rows1 : store_of s p1 ≡ store_of s p0
   rows1 = store_still s p0 p1 st same1
+
+  entries1 : trees.entries s.tree p1 ≡ trees.entries s.tree p0
+  entries1 = still_entries s.tree p0 p1 st.tree (λ k own. same1 k (inl own))
+
+  -- the key is found where it was, if it was there
+  pub found1 : (first : Place) → Some first ≡ option_map trees.place_at (value_of op.key (trees.entries s.tree p0)) → value_of op.key (trees.entries s.tree p1) ≡ Some first.cell
+  found1 first e = ap (value_of op.key) entries1 ∙ get_some (value_of op.key (trees.entries s.tree p0)) first e
+
+  pub lacks1 : None ≡ option_map trees.place_at (value_of op.key (trees.entries s.tree p0)) → value_of op.key (trees.entries s.tree p1) ≡ None
+  lacks1 e = ap (value_of op.key) entries1 ∙ get_none (value_of op.key (trees.entries s.tree p0)) e
 
   ts : ℕ
   ts = fresh.head.ts

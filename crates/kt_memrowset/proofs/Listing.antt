@@ -1,28 +1,28 @@
 -- The changes of a store, one row after the other.
-use Rattle.std.proofs.Common.{◌≡◌, ◌≢◌, ℕ, ◌+◌, ◌≤◌, List, [], ◌∷◌, ◌++◌, length, map, Some, None, Option, cond, Bool, true, false, refl, sym, ap, subst, ◌∙◌, append_assoc, arith, length-append}
+use Rattle.std.proofs.Common.{◌≡◌, ◌≢◌, ℕ, ◌+◌, ◌≤◌, List, [], ◌∷◌, ◌++◌, length, map, drop, Some, None, cond, Bool, true, false, refl, sym, ap, subst, ◌∙◌, append_assoc, arith, length-append}
 use Rattle.std.specs.Prelude.{nat_le}
 use Rattle.std.specs.List.{filter}
-use Rattle.std.specs.Ordering.{is_eq, is_gt}
-use Rattle.std.specs.declared.cmp.Ordering.{Ordering}
-use Rattle.std.specs.declared.cmp.Ordering.TheVariants.{Less, Equal, Greater}
-use Rattle.std.proofs.lemmas.Bool.{false≢true}
-use Rattle.std.proofs.lemmas.Grind.{flat_map-append}
-use Rattle.kt_histlaws.proofs.Pending.{itself}
 use Rattle.kt_tree.proofs.Places.{bytes_some}
 use Rattle.std.proofs.lemmas.List.{append-nil, map-append}
 use Rattle.std.proofs.lemmas.List.Concat.{flat_map-cons}
+use Rattle.std.proofs.lemmas.Grind.{flat_map-append}
+use Rattle.kt_cells.specs.Reading.{cells_behind}
+use Rattle.kt_cells.proofs.InPlace.{whole_behind}
+use Rattle.kt_history.specs.AsBytes.{change_with}
 use Rattle.kt_history.specs.declared.change.Change.{Change}
 use Rattle.kt_history.specs.declared.changes.KeyChange.{KeyChange}
 use Rattle.kt_histlaws.specs.Histories.{Steps}
 use Rattle.kt_pool.specs.Contents.{Contents, bytes_at}
-use Rattle.kt_tree.specs.Entries.{Entry, order, IsRising, AreAbove, is_after, next}
+use Rattle.kt_tree.specs.Entries.{Entry}
+use Rattle.kt_tree.specs.InOrder.{IsWalk, IsFirst, to_come}
 use Rattle.kt_tree.specs.Trees as trees
 use Rattle.kt_tree.specs.declared.tree.Pair.{Pair}
-use Rattle.kt_tree.proofs.Orders.{find_past, none_after, rising_below, rising_right, greater_is}
+use Rattle.kt_tree.specs.declared.walk.Walk.{Walk}
+use Rattle.kt_memrowset.specs.declared.link.Head.{Head}
 use Rattle.kt_memrowset.specs.declared.store.MemRowSet.{MemRowSet}
-use Rattle.kt_memrowset.specs.Links.{nothing, Link, link_at, Chains, chain, IsChainAt, step_of, steps_of}
-use Rattle.kt_memrowset.specs.Stores.{row_at, store_of, in_rows, IsStore, key_change, row_changes, changes_upto, Lists, first_of, Walks}
-use Rattle.kt_memrowset.proofs.Links.{link_again}
+use Rattle.kt_memrowset.specs.Links.{nothing, Link, IsLink, link_at, head_of, Chains, chain, IsChainAt, step_of, steps_of}
+use Rattle.kt_memrowset.specs.Stores.{row_at, store_of, in_rows, IsStore, key_change, row_changes, changes_upto, Lists, Walks}
+use Rattle.kt_memrowset.proofs.Links.{link_again, link_head, link_cells}
 use Rattle.kt_memrowset.proofs.Rows.{next_chain}
 use Rattle.kt_memrowset.proofs.Frames.{RowsStand, in_rows-append, rows_right}
 
@@ -63,82 +63,73 @@ pub lists_done : (pool : Contents) (first cell upto : ℕ) (key : List ℕ) (old
 lists_done pool first cell upto key old now e h =
     sym (append-nil now) ∙ ap (λ links. now ++ row_changes upto key (steps_of links)) (sym (no_links pool cell h.links h.stand.chains e)) ∙ h.same
 
+-- the change that a place spells, as the bytes behind its first fields
+pub listed_link : (pool : Contents) (cell upto : ℕ) (key bytes cells : List ℕ) (h : Head) → IsLink pool (link_at pool cell) → bytes ≡ bytes_at pool cell → cells ≡ drop 21 bytes → h ≡ head_of (bytes_at pool cell) → nat_le h.ts upto ≡ true
+    → record { key = key; ts = h.ts; change = change_with h.kind (cells_behind cells) } ∷ [] ≡ row_changes upto key (steps_of (link_at pool cell ∷ []))
+listed_link pool cell upto key bytes cells h s e behind read low =
+    let l = link_at pool cell in
+    let head : h ≡ l.head = read ∙ link_head pool l s in
+    let same : cells ≡ drop 21 (bytes_at pool cell) = behind ∙ ap (drop 21) e in
+    let is : cells_behind cells ≡ l.cells = ap cells_behind same ∙ sym (whole_behind (drop 21 (bytes_at pool cell)) l.cells [] (link_cells pool l s)) in
+    let at : nat_le l.head.ts upto ≡ true = ap (λ (h : Head). nat_le h.ts upto) (sym head) ∙ low in
+    ap (λ (h : Head). record { key = key; ts = h.ts; change = change_with h.kind (cells_behind cells) } ∷ []) head
+    ∙ ap (λ cells. record { key = key; ts = l.head.ts; change = change_with l.head.kind cells } ∷ []) is
+    ∙ sym (ap (λ b. map (key_change key) (cond b (step_of l ∷ []) [])) at)
+
+-- and one above the time is not listed
+pub unlisted_link : (pool : Contents) (cell upto : ℕ) (key : List ℕ) (h : Head) → IsLink pool (link_at pool cell) → h ≡ head_of (bytes_at pool cell) → nat_le h.ts upto ≡ false → row_changes upto key (steps_of (link_at pool cell ∷ [])) ≡ []
+unlisted_link pool cell upto key h s read high =
+    let l = link_at pool cell in
+    let head : h ≡ l.head = read ∙ link_head pool l s in
+    ap (λ b. map (key_change key) (cond b (step_of l ∷ []) [])) (ap (λ (h : Head). nat_le h.ts upto) (sym head) ∙ high)
+
 -- ---- the rows
 
-first_found : (es : List Entry) → next None es ≡ first_of es
-first_found [] = refl
-first_found (e ∷ es) = refl
-
-pub walk_starts : (s : MemRowSet) (pool : Contents) (upto : ℕ) (p : Option Pair) → trees.IsPairOf s.tree pool p (next None (trees.entries s.tree pool)) → Walks s pool upto p 0 []
-walk_starts s pool upto p h = record { front = []; rest = trees.entries s.tree pool; is = refl; pair = subst (trees.IsPairOf s.tree pool p) (first_found (trees.entries s.tree pool)) h; count = refl; listed = refl }
-
-same_order : (k : List ℕ) → order k k ≡ Equal
-same_order k = equal (order k k) (itself k)
-  where
-    equal : (o : Ordering) → is_eq o ≡ true → o ≡ Equal
-    equal Less e = absurd (false≢true e)
-    equal Equal e = refl
-    equal Greater e = absurd (false≢true e)
-
-above_first : (key : List ℕ) (es : List Entry) → AreAbove key es → next (Some key) es ≡ first_of es
-above_first key [] a = refl
-above_first key (e ∷ es) a = ap (λ b. cond b (Some e) (next (Some key) es)) (ap is_gt (greater_is e.key key a.0))
-
-next_is : (front : List Entry) (e : Entry) (es : List Entry) → IsRising (front ++ e ∷ es) → next (Some e.key) (front ++ e ∷ es) ≡ first_of es
-next_is front e es r =
-    find_past (is_after (Some e.key)) front (e ∷ es) (none_after e.key front (rising_below front e es r))
-    ∙ ap (λ b. cond b (Some e) (next (Some e.key) es)) (ap is_gt (same_order e.key)) ∙ above_first e.key es (rising_right front (e ∷ es) r).0
+pub walk_starts : (s : MemRowSet) (pool : Contents) (upto : ℕ) (walk : Walk) → IsWalk walk pool → to_come walk pool ≡ trees.entries s.tree pool → Walks s pool upto walk 0 []
+walk_starts s pool upto walk w all = record { stands = w; front = []; is = sym all; count = refl; listed = refl }
 
 more_rows : (upto : ℕ) (pool : Contents) (front : List Entry) (e : Entry) → changes_upto upto (map (row_at pool) (front ++ e ∷ [])) ≡ changes_upto upto (map (row_at pool) front) ++ row_changes upto e.key (steps_of (chain pool e.value))
 more_rows upto pool front e =
     ap (changes_upto upto) (map-append (row_at pool) front (e ∷ [])) ∙ flat_map-append (λ row. row_changes upto row.0 row.1.steps) (map (row_at pool) front) (row_at pool e ∷ [])
     ∙ ap (λ xs. changes_upto upto (map (row_at pool) front) ++ xs) (flat_map-cons (λ row. row_changes upto row.0 row.1.steps) (row_at pool e) [] ∙ append-nil (row_changes upto e.key (steps_of (chain pool e.value))))
 
-module _ (s : MemRowSet) (pool : Contents) (st : IsStore s pool) (upto n : ℕ) (p : Pair) (now : List KeyChange) where
-  alone_by : (front rest : List Entry) → trees.entries s.tree pool ≡ front ++ rest → trees.IsPairOf s.tree pool (Some p) (first_of rest) → IsChainAt pool p.value.cell (chain pool p.value.cell)
-  alone_by front [] is h = absurd h
-  alone_by front (e ∷ es) is h =
-      let row = (rows_right pool front (e ∷ es) (subst (RowsStand pool) is st.rows)).0 in
-      subst (λ v. IsChainAt pool v (chain pool v)) (sym h.value) (record {
+module _ (s : MemRowSet) (pool : Contents) (st : IsStore s pool) (upto n : ℕ) (p : Pair) (walk new : Walk) (first : IsFirst pool (Some p) (to_come walk pool) (to_come new pool)) (now : List KeyChange) (w : Walks s pool upto walk n now) where
+  entries_are : trees.entries s.tree pool ≡ w.front ++ first.0 ∷ to_come new pool
+  entries_are = w.is ∙ ap (λ rest. w.front ++ rest) first.1
+
+  pub walk_alone : IsChainAt pool p.value.cell (chain pool p.value.cell)
+  walk_alone =
+      let rest = first.0 ∷ to_come new pool in
+      let row = (rows_right pool w.front rest (subst (RowsStand pool) entries_are st.rows)).0 in
+      subst (λ v. IsChainAt pool v (chain pool v)) (sym first.2.value) (record {
         chains = row.chains;
-        once = λ k. let a = ap (λ es. in_rows pool es k) is in let b = in_rows-append pool front (e ∷ es) k in let w = st.within k in let o = st.once k in omega arith;
+        once = λ k. let a = ap (λ es. in_rows pool es k) entries_are in let b = in_rows-append pool w.front rest k in let i = st.within k in let o = st.once k in omega arith;
       })
 
-  pub walk_alone : Walks s pool upto (Some p) n now → IsChainAt pool p.value.cell (chain pool p.value.cell)
-  walk_alone w = alone_by w.front w.rest w.is w.pair
-
-  module _ (key : List ℕ) (key_is : key ≡ bytes_at pool p.key.cell) (q : Option Pair) (after : trees.IsPairOf s.tree pool q (next (Some key) (trees.entries s.tree pool))) (now2 : List KeyChange) (more : now2 ≡ now ++ row_changes upto key (steps_of (chain pool p.value.cell))) where
-    step_by : (front rest : List Entry) → trees.entries s.tree pool ≡ front ++ rest → trees.IsPairOf s.tree pool (Some p) (first_of rest) → length front ≡ n → now ≡ changes_upto upto (map (row_at pool) front) → Walks s pool upto q (n + 1) now2
-    step_by front [] is h count listed = absurd h
-    step_by front (e ∷ es) is h count listed =
-        let k : key ≡ e.key = key_is ∙ bytes_some pool p.key.cell e.key h.key in
+  module _ (stands : IsWalk new pool) (key : List ℕ) (key_is : key ≡ bytes_at pool p.key.cell) (now2 : List KeyChange) (more : now2 ≡ now ++ row_changes upto key (steps_of (chain pool p.value.cell))) where
+    pub walk_next : Walks s pool upto new (n + 1) now2
+    walk_next =
+        let k : key ≡ first.0.key = key_is ∙ bytes_some pool p.key.cell first.0.key first.2.key in
+        let count = w.count in
         record {
-          front = front ++ e ∷ [];
-          rest = es;
-          is = is ∙ sym (append_assoc front (e ∷ []) es);
-          pair = subst (trees.IsPairOf s.tree pool q) (ap (λ k. next (Some k) (trees.entries s.tree pool)) k ∙ ap (next (Some e.key)) is ∙ next_is front e es (subst IsRising is st.tree.rising)) after;
-          count = omega (arith, length-append front (e ∷ []));
-          listed = more ∙ ap (λ xs. xs ++ row_changes upto key (steps_of (chain pool p.value.cell))) listed ∙ ap (λ k. changes_upto upto (map (row_at pool) front) ++ row_changes upto k (steps_of (chain pool p.value.cell))) k
-              ∙ ap (λ v. changes_upto upto (map (row_at pool) front) ++ row_changes upto e.key (steps_of (chain pool v))) h.value ∙ sym (more_rows upto pool front e);
+          stands = stands;
+          front = w.front ++ first.0 ∷ [];
+          is = entries_are ∙ sym (append_assoc w.front (first.0 ∷ []) (to_come new pool));
+          count = omega (arith, length-append w.front (first.0 ∷ []));
+          listed = more ∙ ap (λ xs. xs ++ row_changes upto key (steps_of (chain pool p.value.cell))) w.listed ∙ ap (λ k. changes_upto upto (map (row_at pool) w.front) ++ row_changes upto k (steps_of (chain pool p.value.cell))) k
+              ∙ ap (λ v. changes_upto upto (map (row_at pool) w.front) ++ row_changes upto first.0.key (steps_of (chain pool v))) first.2.value ∙ sym (more_rows upto pool w.front first.0);
         }
 
-    pub walk_next : Walks s pool upto (Some p) n now → Walks s pool upto q (n + 1) now2
-    walk_next w = step_by w.front w.rest w.is w.pair w.count w.listed
-
-module _ (s : MemRowSet) (pool : Contents) (upto : ℕ) (now : List KeyChange) where
-  all_by : (front rest : List Entry) → trees.entries s.tree pool ≡ front ++ rest → rest ≡ [] → now ≡ changes_upto upto (map (row_at pool) front) → now ≡ changes_upto upto (store_of s pool)
-  all_by front rest is none listed = listed ∙ ap (λ es. changes_upto upto (map (row_at pool) es)) (sym (append-nil front) ∙ ap (λ rest. front ++ rest) (sym none) ∙ sym is)
-
-  no_rest : (rest : List Entry) → trees.IsPairOf s.tree pool None (first_of rest) → rest ≡ []
-  no_rest [] h = refl
-  no_rest (e ∷ es) h = absurd h
+module _ (s : MemRowSet) (pool : Contents) (upto n : ℕ) (walk : Walk) (now : List KeyChange) (w : Walks s pool upto walk n now) where
+  all_by : to_come walk pool ≡ [] → now ≡ changes_upto upto (store_of s pool)
+  all_by none = w.listed ∙ ap (λ es. changes_upto upto (map (row_at pool) es)) (sym (append-nil w.front) ∙ ap (λ rest. w.front ++ rest) (sym none) ∙ sym w.is)
 
   nil_of : (rest : List Entry) → length rest ≡ 0 → rest ≡ []
   nil_of [] h = refl
   nil_of (e ∷ es) h = absurd (omega arith)
 
-  pub walk_breaks : (n : ℕ) → Walks s pool upto None n now → now ≡ changes_upto upto (store_of s pool)
-  walk_breaks n w = all_by w.front w.rest w.is (no_rest w.rest w.pair) w.listed
+  pub walk_breaks : (new : Walk) → IsFirst pool None (to_come walk pool) (to_come new pool) → now ≡ changes_upto upto (store_of s pool)
+  walk_breaks new first = all_by first.0
 
-  pub walk_ends : (n len : ℕ) (p : Option Pair) → len ≡ length (trees.entries s.tree pool) → len ≤ n → Walks s pool upto p n now → now ≡ changes_upto upto (store_of s pool)
-  walk_ends n len p e low w = all_by w.front w.rest w.is (nil_of w.rest (let a = ap length w.is in let c = w.count in omega (arith, length-append w.front w.rest))) w.listed
+  pub walk_ends : (len : ℕ) → len ≡ length (trees.entries s.tree pool) → len ≤ n → now ≡ changes_upto upto (store_of s pool)
+  walk_ends len e low = all_by (nil_of (to_come walk pool) (let a = ap length w.is in let c = w.count in omega (arith, length-append w.front (to_come walk pool))))

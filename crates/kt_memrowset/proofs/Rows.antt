@@ -1,6 +1,6 @@
 -- A row of a store: where it is found, and how its changes are read.
 use Rattle.std.proofs.Common.{◌≡◌, ◌≢◌, ℕ, ◌-◌, ◌<◌, ◌≤◌, Bool, true, false, cond, List, [], ◌∷◌, length, take, drop, map, Result, Ok, Err, length-drop, Some, None, Option, refl, sym, ap, subst, ◌∙◌, arith}
-use Rattle.std.specs.Prelude.{is_some}
+use Rattle.std.specs.Prelude.{is_some, IfSome}
 use Rattle.std.proofs.lemmas.List.{take_all}
 use Rattle.std.specs.Option.{option_map, unwrap_or}
 use Rattle.std.specs.List.{find}
@@ -9,10 +9,13 @@ use Rattle.std.specs.declared.cmp.Ordering.{Ordering}
 use Rattle.std.specs.declared.cmp.Ordering.TheVariants.{Less, Equal, Greater}
 use Rattle.std.specs.Cmp.Lexicographic.{nat_list_cmp_total}
 use Rattle.std.specs.FinMap.Entries.{find as find_key}
-use Rattle.kt_history.specs.Rows.{Row, key_cmp}
+use Rattle.kt_history.specs.Rows.{Row, key_cmp, fits}
+use Rattle.kt_history.specs.declared.operation.OpKind.{OpKind}
+use Rattle.kt_history.specs.declared.operation.OpKind.TheVariants.{Insert, Upsert, Update, Delete, InsertIgnore, UpdateIgnore, DeleteIgnore}
+use Rattle.kt_history.specs.declared.operation.RowOp.{RowOp}
 use Rattle.kt_history.specs.declared.target.Kindly.{Kindly}
-use Rattle.kt_histlaws.specs.Histories.{Hist, never, hist_in, row_of, after_steps}
-use Rattle.kt_histlaws.specs.Flights.{UpTo}
+use Rattle.kt_histlaws.specs.Histories.{Hist, Steps, never, hist_in, row_of, after_steps}
+use Rattle.kt_histlaws.specs.Flights.{UpTo, Under}
 use Rattle.kt_histlaws.proofs.OneKey.{after_steps-append}
 use Rattle.kt_pool.specs.Contents.{Contents, bytes_at}
 use Rattle.kt_pool.specs.declared.place.Place.{Place}
@@ -20,8 +23,9 @@ use Rattle.kt_tree.specs.Entries.{Entry, order, is_at, value_of}
 use Rattle.kt_tree.specs.Trees.{place_at, entries}
 use Rattle.kt_memrowset.specs.declared.link.Head.{Head}
 use Rattle.kt_cells.specs.Reading.{cells_at}
-use Rattle.kt_memrowset.specs.Links.{nothing, Link, IsLink, link_at, head_of, Chains, chain, cells_of, times, newest, IsChainAt, step_of, steps_of}
-use Rattle.kt_memrowset.specs.Stores.{hist_of, row_at, stays, RowStands, EachValue, in_rows, IsStore, Leads}
+use Rattle.kt_memrowset.specs.Links.{nothing, change_of, Link, IsLink, link_at, head_of, Chains, chain, cells_of, times, newest, IsChainAt, step_of, steps_of}
+use Rattle.kt_memrowset.specs.Stores.{hist_of, row_at, store_of, change_by, stays, RowStands, EachValue, in_rows, IsStore, Leads}
+use Rattle.kt_memrowset.specs.Taking.{kind_made, links_from}
 use Rattle.kt_memrowset.specs.declared.store.MemRowSet.{MemRowSet}
 use Rattle.kt_memrowset.proofs.Links.{link_bytes, length-spelling, link_head, link_cells, link_again}
 use Rattle.kt_memrowset.proofs.Chains.{chain_is, newest_stands}
@@ -184,3 +188,47 @@ row_there s pool key v st f = each_found (λ cell. RowStands pool cell (chain po
 pub link_long : (pool : Contents) (cell : ℕ) → IsLink pool (link_at pool cell) → 23 ≤ length (bytes_at pool cell)
 link_long pool cell s =
     let e = ap length (link_bytes pool (link_at pool cell) s) in let l = length-spelling (link_at pool cell).head (link_at pool cell).cells in omega arith
+
+-- ---- the row whose first change the tree gives
+
+pub found_stands : (s : MemRowSet) (pool : Contents) (key : List ℕ) (first : Option Place) → IsStore s pool → first ≡ option_map place_at (value_of key (entries s.tree pool)) → IfSome first (λ first. RowStands pool first.cell (chain pool first.cell))
+found_stands s pool key None st e = tt
+found_stands s pool key (Some first) st e = row_there s pool key first.cell st (get_some (value_of key (entries s.tree pool)) first e)
+
+pub found_hist : (s : MemRowSet) (pool : Contents) (key : List ℕ) (first : Option Place) → first ≡ option_map place_at (value_of key (entries s.tree pool)) → hist_in key (store_of s pool) ≡ hist_of (links_from pool first)
+found_hist s pool key None e = hist_lacking pool key (entries s.tree pool) (get_none (value_of key (entries s.tree pool)) e)
+found_hist s pool key (Some first) e = hist_there pool key (entries s.tree pool) first.cell (get_some (value_of key (entries s.tree pool)) first e)
+
+-- whether it is there
+pub found_live : (s : MemRowSet) (pool : Contents) (key : List ℕ) (first : Option Place) (live : Bool) → first ≡ option_map place_at (value_of key (entries s.tree pool)) → ((t : ℕ) → UpTo t (steps_of (links_from pool first)) → live ≡ is_some (row_of t (hist_of (links_from pool first))))
+    → (t : ℕ) → UpTo t (hist_in key (store_of s pool)).steps → live ≡ is_some (row_of t (hist_in key (store_of s pool)))
+found_live s pool key first live e told t up =
+    let h = found_hist s pool key first e in
+    told t (subst (λ (h : Hist). UpTo t h.steps) h up) ∙ ap (λ (h : Hist). is_some (row_of t h)) (sym h)
+
+pub up_to : (t : ℕ) (steps : Steps) → Under t steps → UpTo t steps
+up_to t [] under = tt
+up_to t (c ∷ steps) under = (let low = under.0 in omega arith, up_to t steps under.1)
+
+-- the kind of change that an operation makes fits its row
+pub made_fits : (op : RowOp) (kind : Kindly) (row : Option Row) → kind_made op.kind (is_some row) ≡ Some kind → fits (change_by kind op) row ≡ true
+made_fits op kind row h = by op.kind row h
+  where
+    some : (x y : Kindly) → Some x ≡ Some y → x ≡ y
+    some x y e = cc
+
+    by : (k : OpKind) (row : Option Row) → kind_made k (is_some row) ≡ Some kind → fits (change_of kind op.cells) row ≡ true
+    by Insert None h = ap (λ k. fits (change_of k op.cells) None) (sym (some _ _ h))
+    by Insert (Some r) h = cc
+    by Upsert None h = ap (λ k. fits (change_of k op.cells) None) (sym (some _ _ h))
+    by Upsert (Some r) h = ap (λ k. fits (change_of k op.cells) (Some r)) (sym (some _ _ h))
+    by Update None h = cc
+    by Update (Some r) h = ap (λ k. fits (change_of k op.cells) (Some r)) (sym (some _ _ h))
+    by Delete None h = cc
+    by Delete (Some r) h = ap (λ k. fits (change_of k op.cells) (Some r)) (sym (some _ _ h))
+    by InsertIgnore None h = ap (λ k. fits (change_of k op.cells) None) (sym (some _ _ h))
+    by InsertIgnore (Some r) h = cc
+    by UpdateIgnore None h = cc
+    by UpdateIgnore (Some r) h = ap (λ k. fits (change_of k op.cells) (Some r)) (sym (some _ _ h))
+    by DeleteIgnore None h = cc
+    by DeleteIgnore (Some r) h = ap (λ k. fits (change_of k op.cells) (Some r)) (sym (some _ _ h))

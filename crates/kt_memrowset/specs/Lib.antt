@@ -1,4 +1,5 @@
 pub mod Links
 pub mod Stores
+pub mod Taking
 pub mod Writes
 pub mod Laws

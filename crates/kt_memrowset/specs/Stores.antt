@@ -1,5 +1,5 @@
 -- What a MemRowSet is to its callers, read with its pool.
-use Rattle.std.specs.Prelude.{◌≡◌, ℕ, zero, suc, ◌+◌, ◌/◌, ◌<◌, ◌≤◌, ◌==◌, ◌⊎◌, Bool, true, false, cond, is_some, List, [], ◌∷◌, ◌++◌, map, length, drop, Option, Some, None, nat_le}
+use Rattle.std.specs.Prelude.{◌≡◌, ℕ, zero, suc, ◌+◌, ◌/◌, ◌<◌, ◌≤◌, ◌==◌, ◌⊎◌, Bool, true, false, cond, is_some, List, [], ◌∷◌, ◌++◌, map, length, drop, Option, None, nat_le}
 use Rattle.std.specs.List.{filter, flat_map, sum_by}
 use Rattle.std.specs.List.{find as find_first}
 use Rattle.std.specs.Option.{option_map}
@@ -20,7 +20,8 @@ use Rattle.kt_tree.specs.Entries.{Entry, is_past}
 use Rattle.kt_tree.specs.Takes.{Takes}
 use Rattle.kt_tree.specs.Trees as trees
 use Rattle.kt_memrowset.specs.Links.{nothing, change_of, Link, Chains, chain, cells_of, times, newest, IsMarked, IsChainAt, steps_of}
-use Rattle.kt_tree.specs.declared.tree.Pair.{Pair}
+use Rattle.kt_tree.specs.InOrder.{IsWalk, to_come}
+use Rattle.kt_tree.specs.declared.walk.Walk.{Walk}
 use Rattle.kt_memrowset.specs.declared.store.MemRowSet.{MemRowSet}
 
 -- its number
@@ -194,15 +195,10 @@ pub record Lists (pool : Contents) (first cell upto : ℕ) (key : List ℕ) (old
   pub stand : IsChainAt pool cell links
   pub same : now ++ row_changes upto key (steps_of links) ≡ old ++ row_changes upto key (steps_of (chain pool first))
 
-abbrev pub first_of : List Entry → Option Entry
-first_of [] = None
-first_of (e ∷ es) = Some e
-
--- the changes of so many rows are listed, and this is the next one's pair
-pub record Walks (s : MemRowSet) (pool : Contents) (upto : ℕ) (next : Option Pair) (n : ℕ) (now : List KeyChange) : Type 0 where
+-- the changes of so many rows are listed, and the walk comes to the others
+pub record Walks (s : MemRowSet) (pool : Contents) (upto : ℕ) (walk : Walk) (n : ℕ) (now : List KeyChange) : Type 0 where
+  pub stands : IsWalk walk pool
   pub front : List Entry
-  pub rest : List Entry
-  pub is : trees.entries s.tree pool ≡ front ++ rest
-  pub pair : trees.IsPairOf s.tree pool next (first_of rest)
+  pub is : trees.entries s.tree pool ≡ front ++ to_come walk pool
   pub count : length front ≡ n
   pub listed : now ≡ changes_upto upto (map (row_at pool) front)

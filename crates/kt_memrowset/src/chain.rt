@@ -1,17 +1,19 @@
 //! The changes of one row, in a chain.
-ghost use Rattle.std.specs.Prelude.{◌≡◌, [], ◌∷◌, List, ◌++◌, None, length, IfOk, OnOk};
+ghost use Rattle.std.specs.Prelude.{◌≡◌, ℕ, [], ◌∷◌, List, ◌++◌, None, is_some, length, IfOk, IfSome, OnOk};
 ghost use Rattle.std.specs.Prelude.{◌==◌};
-ghost use Rattle.kt_histlaws.specs.Histories.{after_steps};
+ghost use Rattle.kt_histlaws.specs.Histories.{after_steps, row_of};
+ghost use Rattle.kt_histlaws.specs.Flights.{UpTo};
 ghost use Rattle.kt_memrowset.specs.Links.{Link, IsLink, IsChainAt, link_at, chain, newest, change_of, steps_of};
-ghost use Rattle.kt_memrowset.specs.Stores.{RowStands, stays, trail_at, IsTrailAt, Releases, row_changes};
+ghost use Rattle.kt_memrowset.specs.Stores.{RowStands, hist_of, stays, trail_at, IsTrailAt, Releases, row_changes};
+ghost use Rattle.kt_memrowset.specs.Taking.{links_from};
 ghost use Rattle.kt_pool.specs.Contents.{Stands, bytes_at};
 
 use crate::link::{NOTHING, head_in};
 use kt_base::{Cells, NoMemory, Octets};
 use kt_bytes::Stop;
-use kt_history::{Change, KeyChange, Kindly, apply};
-use kt_pool::{Place, Pool};
 use kt_cells::lists::cells_of;
+use kt_history::{Change, ChangeList, Kindly, apply};
+use kt_pool::{Place, Pool};
 use std::alloc::Global;
 
 /// Whether there is a row after a change of this kind.
@@ -34,6 +36,17 @@ pub fn last_of(pool: &Pool, first: u32) -> u32
         first
     } else {
         head.last
+    }
+}
+
+/// Whether a row is there after all its changes, of which the first is placed here, if it has any.
+pub fn is_live(pool: &Pool, first: Option<Place>) -> bool
+    requires { IfSome first (λ first. RowStands pool.now first.cell (chain pool.now first.cell)) }
+    ensures { (t : ℕ) → UpTo t (steps_of (links_from pool.now first)) → result ≡ is_some (row_of t (hist_of (links_from pool.now first))) }
+{
+    match first {
+        Some(first) => stays(head_in(pool, last_of(pool, first.cell)).kind),
+        None => false,
     }
 }
 
@@ -129,48 +142,54 @@ pub fn release(pool: &mut Pool, newest: u32)
     }
 }
 
-/// Lists the change in this cell, if it is at or below a time.
+/// Reads the bytes of a place into a buffer that is used again.
+pub fn read_into(pool: &Pool, cell: u32, buffer: &mut Vec<u8>) -> Result<(), NoMemory>
+    requires { Stands pool.now cell }
+    ensures { OnOk result (buffer.new.items ≡ bytes_at pool.now cell) }
+{
+    buffer.clear();
+    match pool.append_to(Place { cell }, buffer) {
+        Ok(()) => Ok(()),
+        Err(_) => Err(NoMemory),
+    }
+}
+
+/// Lists the change in this cell, if it is at or below a time, as its bytes.
 fn push_change(
-    alloc: Global,
     pool: &Pool,
-    key: &Octets,
+    key: &[u8],
     cell: u32,
     upto: u64,
-    list: &mut Vec<KeyChange>,
+    list: &mut ChangeList,
     buffer: &mut Vec<u8>,
 ) -> Result<u32, NoMemory>
     requires { IsLink pool.now (link_at pool.now cell) }
     ensures next { IfOk result (λ next. next ≡ (link_at pool.now cell).head.next) }
-    ensures list { IfOk result (λ next. list.new.items ≡ list.old.items ++ row_changes upto key.now (steps_of (link_at pool.now cell ∷ []))) }
+    ensures list { IfOk result (λ next. list.new ≡ list.old ++ row_changes upto key.now (steps_of (link_at pool.now cell ∷ []))) }
 {
     let head = head_in(pool, cell);
     if head.ts <= upto {
-        let change = change_in(alloc, pool, cell, head.kind, buffer)?;
-        list.push(KeyChange {
-            key: key.copy()?,
-            ts: head.ts,
-            change,
-        })?;
+        read_into(pool, cell, buffer)?;
+        list.push(key, head.ts, head.kind, &buffer[21..])?;
     }
     Ok(head.next)
 }
 
-/// Lists the changes of a row at or below a time.
+/// Lists the changes of a row at or below a time. They are read through a buffer.
 pub fn push_changes(
-    alloc: Global,
     pool: &Pool,
-    key: &Octets,
+    key: &[u8],
     first: u32,
     upto: u64,
-    list: &mut Vec<KeyChange>,
+    list: &mut ChangeList,
+    buffer: &mut Vec<u8>,
 ) -> Result<(), NoMemory>
     requires { IsChainAt pool.now first (chain pool.now first) }
-    ensures { OnOk result (list.new.items ≡ list.old.items ++ row_changes upto key.now (steps_of (chain pool.now first))) }
+    ensures { OnOk result (list.new ≡ list.old ++ row_changes upto key.now (steps_of (chain pool.now first))) }
 {
-    let mut buffer = Vec::new(alloc);
     let mut cell = first;
     while cell != NOTHING {
-        cell = push_change(alloc, pool, key, cell, upto, list, &mut buffer)?;
+        cell = push_change(pool, key, cell, upto, list, buffer)?;
     }
     Ok(())
 }

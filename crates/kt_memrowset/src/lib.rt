@@ -10,6 +10,8 @@ pub mod chain;
 pub mod laws;
 pub mod link;
 pub mod store;
+pub mod taking;
 pub mod write;
 
 pub use store::MemRowSet;
+pub use taking::Taken;

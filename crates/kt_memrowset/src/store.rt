@@ -7,8 +7,9 @@ ghost use Rattle.kt_histlaws.specs.Flights.{UpTo, Under};
 ghost use Rattle.kt_history.specs.Rows.{fits};
 ghost use Rattle.kt_memrowset.specs.Links.{CellsFit};
 
-use crate::chain::{last_of, octets_at, push_changes, release, row_at, stays};
-use crate::link::{Head, NOTHING, head_in};
+use crate::chain::{is_live, octets_at, push_changes, read_into, release, row_at};
+use crate::link::{Head, NOTHING};
+use crate::taking::{Taken, kind_made};
 use crate::write::{extend, place};
 use kt_base::{Cells, NoMemory, Octets};
 use kt_history::{ChangeList, Kindly, RowOp, Target};
@@ -26,6 +27,10 @@ pub struct MemRowSet {
 }
 
 impl MemRowSet {
+    ghost use Rattle.std.specs.Option.{option_map};
+    ghost use Rattle.kt_tree.specs.Entries.{value_of};
+    ghost use Rattle.kt_tree.specs.Trees.{entries, place_at};
+    ghost use Rattle.kt_memrowset.specs.Taking.{JoinsIf, kind_made};
     ghost use Rattle.kt_memrowset.specs.Stores.{IsStore, store_of, Owns, cells_had, number_of, is_frozen, share, change_by, Joins, key_past, changes_upto};
 
     /// A store with no row. It takes no cell.
@@ -82,10 +87,7 @@ impl MemRowSet {
         requires { IsStore self.now pool.now }
         ensures { (t : ℕ) → UpTo t (hist_in key.now (store_of self.now pool.now)).steps → result ≡ is_some (row_of t (hist_in key.now (store_of self.now pool.now))) }
     {
-        match self.tree.get(pool, key) {
-            Some(first) => stays(head_in(pool, last_of(pool, first.cell)).kind),
-            None => false,
-        }
+        is_live(pool, self.tree.get(pool, key))
     }
 
     /// The row of a key at a time.
@@ -116,6 +118,55 @@ impl MemRowSet {
         ensures joins { Joins self.old self.new pool.old pool.new op.now ts change }
         ensures target { result ≡ Target.Mem (number_of self.old) }
     {
+        let first = self.tree.get(pool, op.key.as_slice());
+        self.join(pool, first, ts, op, change)
+    }
+
+    /// Takes the change of an operation, if it makes one, in reserved cells: half of what a write of the operation needs
+    /// suffices. It looks for the row once.
+    pub fn take(&mut self, pool: &mut Pool, ts: u64, op: &RowOp) -> Taken
+        requires store { IsStore self.old pool.old }
+        requires cells { CellsFit op.now.cells }
+        requires room { share op.now ≤ pool.old.reserved }
+        requires later { Under ts (hist_in op.now.key (store_of self.old pool.old)).steps }
+        requires thawed { is_frozen self.old ≡ false }
+        ensures there { (t : ℕ) → UpTo t (hist_in op.now.key (store_of self.old pool.old)).steps → result.there ≡ is_some (row_of t (hist_in op.now.key (store_of self.old pool.old))) }
+        ensures joins { JoinsIf self.old self.new pool.old pool.new op.now ts (kind_made op.now.kind result.there) }
+        ensures target { result.target ≡ option_map (λ _. Target.Mem (number_of self.old)) (kind_made op.now.kind result.there) }
+    {
+        let first = self.tree.get(pool, op.key.as_slice());
+        let there = is_live(pool, first);
+        let Some(kind) = kind_made(op.kind, there) else {
+            return Taken {
+                there,
+                target: None,
+            };
+        };
+        let target = self.join(pool, first, ts, op, kind);
+        Taken {
+            there,
+            target: Some(target),
+        }
+    }
+
+    // Takes a change of the row whose first change is placed here, or else of a new row.
+    fn join(
+        &mut self,
+        pool: &mut Pool,
+        first: Option<Place>,
+        ts: u64,
+        op: &RowOp,
+        change: Kindly,
+    ) -> Target
+        requires store { IsStore self.old pool.old }
+        requires found { first ≡ option_map place_at (value_of op.now.key (entries self.old.tree pool.old)) }
+        requires cells { CellsFit op.now.cells }
+        requires room { share op.now ≤ pool.old.reserved }
+        requires later { Under ts (hist_in op.now.key (store_of self.old pool.old)).steps }
+        requires fits { fits (change_by change op.now) (row_of ts (hist_in op.now.key (store_of self.old pool.old))) ≡ true }
+        ensures joins { Joins self.old self.new pool.old pool.new op.now ts change }
+        ensures target { result ≡ Target.Mem (number_of self.old) }
+    {
         let head = Head {
             next: NOTHING,
             last: NOTHING,
@@ -127,7 +178,7 @@ impl MemRowSet {
         let key = op.key.as_slice();
         let fresh = place(pool, head, cells);
         self.newest = fresh;
-        if let Some(first) = self.tree.get(pool, key) {
+        if let Some(first) = first {
             extend(pool, first.cell, fresh);
             return Target::Mem(self.id);
         }
@@ -156,17 +207,21 @@ impl MemRowSet {
         requires { IsStore self.now pool.now }
         ensures { IfOk result (λ list. list ≡ changes_upto upto (store_of self.now pool.now)) }
     {
-        let mut list = Vec::new(alloc);
-        let mut next = self.tree.after(pool, None);
+        let mut list = ChangeList::new(alloc);
+        let mut key = Vec::new(alloc);
+        let mut buffer = Vec::new(alloc);
+        let mut walk = self.tree.walk(alloc);
         'rows: for _ in 0..self.tree.len() {
+            let Ok(next) = walk.next(pool) else {
+                return Err(NoMemory);
+            };
             let Some(pair) = next else {
                 break;
             };
-            let key = octets_at(alloc, pool, pair.key.cell)?;
-            push_changes(alloc, pool, &key, pair.value.cell, upto, &mut list)?;
-            next = self.tree.after(pool, Some(key.as_slice()));
+            read_into(pool, pair.key.cell, &mut key)?;
+            push_changes(pool, &key, pair.value.cell, upto, &mut list, &mut buffer)?;
         }
-        Ok(ChangeList::of(list))
+        Ok(list)
     }
 
     /// Gives back the cells of all nodes, keys and changes.

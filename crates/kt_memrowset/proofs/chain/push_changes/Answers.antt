@@ -19,12 +19,12 @@ loop-cell-smaller c =
 pub loop-cell-preserved : goal.loop-cell-preserved
 loop-cell-preserved c =
     let ne : c.loop-cell.cell ≢ nothing = omega arith in
-    lists_next c.args.pool.now c.loop-cell.cell c.in_ok-cell.cell ne c.in_ok-cell.ensures.next c.args.first c.args.upto c.args.key.now c.args.list.now.items c.loop-cell.list.items c.push_change.new.list.items c.in_ok-cell.ensures.list c.loop-cell.invariant
+    lists_next c.args.pool.now c.loop-cell.cell c.in_ok-cell.cell ne c.in_ok-cell.ensures.next c.args.first c.args.upto c.args.key.now c.args.list.now c.loop-cell.list c.push_change.new.list c.in_ok-cell.ensures.list c.loop-cell.invariant
 
 pub loop-cell-init : goal.loop-cell-init
-loop-cell-init c = lists_first c.args.pool.now c.args.first c.args.upto c.args.key.now c.args.list.now.items c.requires
+loop-cell-init c = lists_first c.args.pool.now c.args.first c.args.upto c.args.key.now c.args.list.now c.requires
 
 pub returns : goal.returns
 returns c =
     let e : c.loop-cell.cell ≡ nothing = omega arith in
-    lists_done c.args.pool.now c.args.first c.loop-cell.cell c.args.upto c.args.key.now c.args.list.now.items c.loop-cell.list.items e c.loop-cell.invariant
+    lists_done c.args.pool.now c.args.first c.loop-cell.cell c.args.upto c.args.key.now c.args.list.now c.loop-cell.list e c.loop-cell.invariant
