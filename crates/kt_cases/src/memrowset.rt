@@ -139,9 +139,9 @@ fn is_key(next: Option<Octets>, key: &[u8]) -> bool {
 
 /// Whether this change of the list is one of this key at this time.
 fn is_listed(list: &ChangeList, at: usize, key: &[u8], ts: u64) -> bool {
-    match list.as_slice().get(at) {
-        Some(change) => change.key.as_slice() == key && change.ts == ts,
-        None => false,
+    match (list.key(at), list.get(at)) {
+        (Some(other), Some(change)) => other == key && change.ts == ts,
+        _ => false,
     }
 }
 
