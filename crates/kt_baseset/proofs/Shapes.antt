@@ -5,7 +5,7 @@ use Rattle.std.proofs.lemmas.Bool.{eqb-true, leb-true, le-leb, ltb-false, le-ltb
 use Rattle.kt_base.specs.declared.cell.Kind.{Kind}
 use Rattle.kt_base.specs.declared.cell.Kind.TheVariants as kinds
 use Rattle.kt_bytes.specs.Reading.{◌>>=◌, number_at}
-use Rattle.kt_records.specs.Reading.{flag_at}
+use Rattle.kt_cells.specs.Reading.{flag_at}
 use Rattle.kt_bytes.proofs.Numbers.{IsBytes, IsBytes-rest, bind_ok, passed, allowed, ok_is, wide16, wide32, number_again}
 use Rattle.kt_bytes.proofs.Taken.{Took, took_as, joined, number_took}
 use Rattle.kt_baseset.specs.declared.schema.ColumnShape.{ColumnShape}

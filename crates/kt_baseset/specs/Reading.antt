@@ -7,7 +7,7 @@ use Rattle.kt_base.specs.declared.cell.Kind.TheVariants as kinds
 use Rattle.kt_bytes.specs.declared.fault.Stop.{Stop}
 use Rattle.kt_bytes.specs.declared.fault.Stop.TheVariants as stops
 use Rattle.kt_bytes.specs.Reading.{◌>>=◌, number_at}
-use Rattle.kt_records.specs.Reading.{flag_at}
+use Rattle.kt_cells.specs.Reading.{flag_at}
 use Rattle.kt_column.specs.declared.errors.CodecNo.TheVariants as column
 use Rattle.kt_column.specs.declared.form.Form.{Form}
 use Rattle.kt_column.specs.Columns.{IsColumnRefusal}

@@ -8,7 +8,7 @@ use crate::schema::ColumnShape;
 use kt_base::Kind;
 use kt_bytes::Stop;
 use kt_bytes::fields::{u16_at, u32_at};
-use kt_records::fields::flag_of;
+use kt_cells::fields::flag_of;
 
 /// The letters KTB1, as a number.
 const KTB1: u32 = 0x3142544b;

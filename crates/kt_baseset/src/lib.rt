@@ -8,7 +8,7 @@
 //! For the layers above: `build` makes a base set of rows, `ordinal` finds a key's row, `row` and `key` give what
 //! stands there, `spell` writes the one spelling, and `decode` answers a base set exactly where the bytes are its
 //! spelling, and otherwise the place of the first fault. It stands on kt_column for the columns, on kt_lookup for
-//! the filter and the index, and on kt_records, whose definitions say how numbers are read.
+//! the filter and the index, and on kt_cells, whose definition says how a flag is read.
 #![tactic(auto)]
 
 mod baseset;
