@@ -18,7 +18,8 @@ use Rattle.kt_memrowset.specs.Links.{change_of}
 use Rattle.kt_tablet.specs.Filling.{filled_change}
 use Rattle.kt_tablet.specs.Stores.{apply_all}
 use Rattle.kt_boot.specs.Reopening.{row_told}
-use Rattle.kt_boot.specs.Rebuilding.{kindly_of, told}
+use Rattle.kt_memrowset.specs.Taking.{kind_made}
+use Rattle.kt_boot.specs.Rebuilding.{told}
 
 -- a store's change and the past's, which it is once an insert is filled
 abbrev pub IsAlike : Row → Change → Change → Type 0
@@ -102,7 +103,7 @@ as_upd fill kind cells row k e h = subst (Effect fill kind cells row) e h
 as_del : (fill : Row) (kind : OpKind) (cells : Row) (row : Option Row) (k : Kindly) → kindly.Del ≡ k → Effect fill kind cells row kindly.Del → Effect fill kind cells row k
 as_del fill kind cells row k e h = subst (Effect fill kind cells row) e h
 
-pub effect_alike : (fill : Row) (kind : OpKind) (cells : Row) (row : Option Row) (k : Kindly) → kindly_of kind (is_some row) ≡ Some k → Effect fill kind cells row k
+pub effect_alike : (fill : Row) (kind : OpKind) (cells : Row) (row : Option Row) (k : Kindly) → kind_made kind (is_some row) ≡ Some k → Effect fill kind cells row k
 effect_alike fill Insert cells None k h = as_ins fill Insert cells None k (let e : kindly.Ins ≡ k = cc in e) (record { change = Ins (with_cells cells fill); is = refl; alike = refl })
 effect_alike fill Insert cells (Some r) k h = cc
 effect_alike fill Upsert cells None k h = as_ins fill Upsert cells None k (let e : kindly.Ins ≡ k = cc in e) (record { change = Ins (with_cells cells fill); is = refl; alike = refl })
@@ -118,7 +119,7 @@ effect_alike fill UpdateIgnore cells (Some r) k h = as_upd fill UpdateIgnore cel
 effect_alike fill DeleteIgnore cells None k h = cc
 effect_alike fill DeleteIgnore cells (Some r) k h = as_del fill DeleteIgnore cells (Some r) k (let e : kindly.Del ≡ k = cc in e) (record { change = Del; is = refl; alike = tt })
 
-pub effect_none : (fill : Row) (kind : OpKind) (cells : Row) (row : Option Row) → kindly_of kind (is_some row) ≡ None → (effect fill kind cells row).0 ≡ None
+pub effect_none : (fill : Row) (kind : OpKind) (cells : Row) (row : Option Row) → kind_made kind (is_some row) ≡ None → (effect fill kind cells row).0 ≡ None
 effect_none fill Insert cells None h = cc
 effect_none fill Insert cells (Some r) h = refl
 effect_none fill Upsert cells None h = cc
@@ -134,7 +135,7 @@ effect_none fill UpdateIgnore cells (Some r) h = cc
 effect_none fill DeleteIgnore cells None h = refl
 effect_none fill DeleteIgnore cells (Some r) h = cc
 
-pub effect_some : (fill : Row) (kind : OpKind) (cells : Row) (row : Option Row) → is_some (kindly_of kind (is_some row)) ≡ is_some (effect fill kind cells row).0
+pub effect_some : (fill : Row) (kind : OpKind) (cells : Row) (row : Option Row) → is_some (kind_made kind (is_some row)) ≡ is_some (effect fill kind cells row).0
 effect_some fill Insert cells None = refl
 effect_some fill Insert cells (Some r) = refl
 effect_some fill Upsert cells None = refl

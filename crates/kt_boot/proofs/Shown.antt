@@ -19,7 +19,8 @@ use Rattle.kt_memrowset.specs.Stores.{change_by}
 use Rattle.kt_tablet.specs.Stores.{apply_all}
 use Rattle.kt_tablet.proofs.Filling.{last_under}
 use Rattle.kt_boot.specs.Reopening.{row_told}
-use Rattle.kt_boot.specs.Rebuilding.{is_there, kind_in, taken_as, taken, told, kindly_of}
+use Rattle.kt_memrowset.specs.Taking.{kind_made}
+use Rattle.kt_boot.specs.Rebuilding.{is_there, kind_in, taken_as, taken, told}
 use Rattle.kt_boot.proofs.Taking.{hist_in-put}
 use Rattle.kt_boot.proofs.Alike.{AreAlike, IsAlike, last_alike, alike_push, effect_alike, effect_none, effect_some, effect_told, hist, sound_step}
 
@@ -133,7 +134,7 @@ module _ (fill : Row) (table : Rows) (writes : List PastWrite) (ts : ℕ) (store
   -- the operation is taken, with the change that it makes
   pub at_next : At fill (taken ts op store) (line_with writes ts next) (row_with table next)
   at_next =
-      let kinds : kind_in op store ≡ kindly_of op.kind (is_some (find key_cmp op.key table)) = ap (kindly_of op.kind) present in
+      let kinds : kind_in op store ≡ kind_made op.kind (is_some (find key_cmp op.key table)) = ap (kind_made op.kind) present in
       elim (kind_in op store) as (λ o. kind_in op store ≡ o → At fill (taken_as ts op store o) (line_with writes ts next) (row_with table next)) [
         | None ↦ λ e.
             let none = effect_none fill op.kind op.cells (find key_cmp op.key table) (sym kinds ∙ e) in
@@ -146,7 +147,7 @@ module _ (fill : Row) (table : Rows) (writes : List PastWrite) (ts : ℕ) (store
       ] refl
 
   pub fits_first : is_some (kind_in op store) ≡ is_some (effect_on fill table op).0
-  fits_first = ap (λ b. is_some (kindly_of op.kind b)) present ∙ effect_some fill op.kind op.cells (find key_cmp op.key table)
+  fits_first = ap (λ b. is_some (kind_made op.kind b)) present ∙ effect_some fill op.kind op.cells (find key_cmp op.key table)
 
   pub told_first : (number : ℕ) → told number op.kind (is_there op.key store) ≡ row_told number (effect_on fill table op)
   told_first number = ap (told number op.kind) present ∙ effect_told number fill op.kind op.cells (find key_cmp op.key table)

@@ -24,7 +24,8 @@ use Rattle.kt_memrowset.specs.Links.{change_of}
 use Rattle.kt_memrowset.specs.Stores.{IsStore, store_of, Owns, number_of, is_frozen, share, cells_taken, link_need, change_by, Joins}
 use Rattle.kt_memrowset.proofs.Applying.{share_covers}
 use Rattle.kt_memrowset.specs.declared.store.MemRowSet.{MemRowSet}
-use Rattle.kt_boot.specs.Rebuilding.{kindly_of, is_there, kind_in, taken_as, taken, all_taken, all_fit, MayTake, MayTakeAll, TakesAll}
+use Rattle.kt_memrowset.specs.Taking.{kind_made, JoinsIf}
+use Rattle.kt_boot.specs.Rebuilding.{is_there, kind_in, taken_as, taken, all_taken, all_fit, MayTake, MayTakeAll, TakesAll}
 
 -- what a store has of a key after another key, or the same, was put
 pub hist_in-put : (q k : List ℕ) (h : Hist) (store : Store) → hist_in q (put key_cmp k h store) ≡ cond (eq_by_cmp key_cmp q k) h (hist_in q store)
@@ -95,26 +96,6 @@ pub up_to : (ts : ℕ) (steps : Steps) → Under ts steps → UpTo ts steps
 up_to ts [] under = tt
 up_to ts (c ∷ steps) under = (omega (arith, under.0), up_to ts steps under.1)
 
-fit_kind : (kind : OpKind) (cells : Row) (k : Kindly) (row : Option Row) → kindly_of kind (is_some row) ≡ Some k → fits (change_of k cells) row ≡ true
-fit_kind Insert cells k None h = let e : Ins ≡ k = cc in subst (λ k. fits (change_of k cells) None ≡ true) e refl
-fit_kind Insert cells k (Some row) h = cc
-fit_kind Upsert cells k None h = let e : Ins ≡ k = cc in subst (λ k. fits (change_of k cells) None ≡ true) e refl
-fit_kind Upsert cells k (Some row) h = let e : Upd ≡ k = cc in subst (λ k. fits (change_of k cells) (Some row) ≡ true) e refl
-fit_kind Update cells k None h = cc
-fit_kind Update cells k (Some row) h = let e : Upd ≡ k = cc in subst (λ k. fits (change_of k cells) (Some row) ≡ true) e refl
-fit_kind Delete cells k None h = cc
-fit_kind Delete cells k (Some row) h = let e : Del ≡ k = cc in subst (λ k. fits (change_of k cells) (Some row) ≡ true) e refl
-fit_kind InsertIgnore cells k None h = let e : Ins ≡ k = cc in subst (λ k. fits (change_of k cells) None ≡ true) e refl
-fit_kind InsertIgnore cells k (Some row) h = cc
-fit_kind UpdateIgnore cells k None h = cc
-fit_kind UpdateIgnore cells k (Some row) h = let e : Upd ≡ k = cc in subst (λ k. fits (change_of k cells) (Some row) ≡ true) e refl
-fit_kind DeleteIgnore cells k None h = cc
-fit_kind DeleteIgnore cells k (Some row) h = let e : Del ≡ k = cc in subst (λ k. fits (change_of k cells) (Some row) ≡ true) e refl
-
--- a change of the operation's kind fits the row that is there
-pub kind_fits : (ts : ℕ) (op : RowOp) (store : Store) (kind : Kindly) → MayTake ts store op → kind_in op store ≡ Some kind → fits (change_by kind op) (row_of ts (hist_in op.key store)) ≡ true
-kind_fits ts op store kind may is = rw (last_is ts (hist_in op.key store) may.under) (fit_kind op.kind op.cells kind (last_row (hist_in op.key store)) is)
-
 taken_covered : (op : RowOp) (store : Store) → cells_taken op store ≤ share op
 taken_covered op store = let all = share_covers op in elim (is_some (find key_cmp op.key store)) as (λ b. link_need op.cells + cond b 0 (tree_need op.key) ≤ share op) [ true ↦ omega arith | false ↦ omega arith ]
 
@@ -152,6 +133,11 @@ module _ (s : MemRowSet) (old : Contents) (ts : ℕ) (op : RowOp) where
     keeps = joins.keeps;
     frame = joins.frame;
   }
+
+  -- whether it made one or not
+  pub takes_by : (t : MemRowSet) (new : Contents) (kind : Option Kindly) → kind_in op (store_of s old) ≡ kind → IsStore s old → need (op ∷ []) ≤ old.reserved → JoinsIf s t old new op ts kind → TakesAll s t old new ts (op ∷ [])
+  takes_by t new None is st enough same = subst (λ (t : MemRowSet). TakesAll s t old new ts (op ∷ [])) (sym same.0) (subst (λ (new : Contents). TakesAll s s old new ts (op ∷ [])) (sym same.1) (takes_none is st))
+  takes_by t new (Some kind) is st enough joins = takes_one t new kind is enough joins
 
 -- of these operations the rest is still to be taken
 pub record Taking (s t : MemRowSet) (old new : Contents) (ts : ℕ) (ops rest : List RowOp) : Type 0 where
@@ -200,8 +186,8 @@ present_is ts op store key b e may live =
     let told : (t : ℕ) → UpTo t (hist_in op.key store).steps → b ≡ is_some (row_of t (hist_in op.key store)) = subst (λ k. (t : ℕ) → UpTo t (hist_in k store).steps → b ≡ is_some (row_of t (hist_in k store))) e live in
     told ts (up_to ts (hist_in op.key store).steps may.under) ∙ ap is_some (last_is ts (hist_in op.key store) may.under)
 
-pub kind_is : (op : RowOp) (store : Store) (b : Bool) (o : Option Kindly) → b ≡ is_there op.key store → o ≡ kindly_of op.kind b → kind_in op store ≡ o
-kind_is op store b o e is = ap (kindly_of op.kind) (sym e) ∙ sym is
+pub kind_is : (op : RowOp) (store : Store) (b : Bool) (o : Option Kindly) → b ≡ is_there op.key store → o ≡ kind_made op.kind b → kind_in op store ≡ o
+kind_is op store b o e is = ap (kind_made op.kind) (sym e) ∙ sym is
 
 -- the first of what is left fits or not
 pub fit_first : (ts : ℕ) (op : RowOp) (rest : List RowOp) (store : Store) → is_some (kind_in op store) ≡ true → all_fit ts (op ∷ rest) store ≡ all_fit ts rest (taken ts op store)

@@ -2,10 +2,8 @@
 use Rattle.std.specs.Prelude.{◌≡◌, ◌≤◌, ℕ, ◌+◌, length, Bool, true, false, is_some, List, [], ◌∷◌, Option, Some, None, Result, Ok, Err, if◌then◌else◌}
 use Rattle.std.specs.FinMap.Entries.{put}
 use Rattle.kt_history.specs.declared.operation.OpKind.{OpKind}
-use Rattle.kt_history.specs.declared.operation.OpKind.TheVariants.{Insert, Upsert, Update, Delete, InsertIgnore, UpdateIgnore, DeleteIgnore}
 use Rattle.kt_history.specs.declared.operation.RowOp.{RowOp}
 use Rattle.kt_history.specs.declared.target.Kindly.{Kindly}
-use Rattle.kt_history.specs.declared.target.Kindly.TheVariants.{Ins, Upd, Del}
 use Rattle.kt_history.specs.declared.target.Target.{Target}
 use Rattle.kt_history.specs.declared.target.Target.TheVariants.{Mem}
 use Rattle.kt_history.specs.Rows.{key_cmp}
@@ -18,34 +16,18 @@ use Rattle.kt_records.specs.declared.entry.CommitRow.{CommitRow}
 use Rattle.kt_loglaws.specs.Replay.{commit_of, replayed, needed_ops}
 use Rattle.kt_memrowset.specs.Links.{CellsFit}
 use Rattle.kt_memrowset.specs.Stores.{IsStore, store_of, Owns, number_of, is_frozen, change_by}
+use Rattle.kt_memrowset.specs.Taking.{kind_made}
 use Rattle.kt_memrowset.specs.declared.store.MemRowSet.{MemRowSet}
 use Rattle.kt_pool.specs.Contents.{Contents, used, at_cell}
 use Rattle.kt_tablet.specs.Stores.{last_row}
 use Rattle.kt_boot.specs.Reopening.{unless_told}
-
--- the kind of the change that an operation makes, by whether its key is present
-abbrev pub kindly_of : OpKind → Bool → Option Kindly
-kindly_of Insert false = Some Ins
-kindly_of Insert true = None
-kindly_of Upsert false = Some Ins
-kindly_of Upsert true = Some Upd
-kindly_of Update false = None
-kindly_of Update true = Some Upd
-kindly_of Delete false = None
-kindly_of Delete true = Some Del
-kindly_of InsertIgnore false = Some Ins
-kindly_of InsertIgnore true = None
-kindly_of UpdateIgnore false = None
-kindly_of UpdateIgnore true = Some Upd
-kindly_of DeleteIgnore false = None
-kindly_of DeleteIgnore true = Some Del
 
 -- whether the row of a key is there
 abbrev pub is_there : List ℕ → Store → Bool
 is_there q store = is_some (last_row (hist_in q store))
 
 abbrev pub kind_in : RowOp → Store → Option Kindly
-kind_in op store = kindly_of op.kind (is_there op.key store)
+kind_in op store = kind_made op.kind (is_there op.key store)
 
 -- the store with the change of this kind, if there is one
 abbrev pub taken_as : ℕ → RowOp → Store → Option Kindly → Store
@@ -72,7 +54,7 @@ stores_named number (Some kind) = Mem number ∷ []
 
 -- what a COMMIT tells of an operation, by whether its key was present
 abbrev pub told : ℕ → OpKind → Bool → CommitRow
-told number kind present = record { outcome = outcome_of kind present; targets = stores_named number (kindly_of kind present) }
+told number kind present = record { outcome = outcome_of kind present; targets = stores_named number (kind_made kind present) }
 
 -- and of operations in turn
 abbrev pub all_told : ℕ → ℕ → List RowOp → Store → List CommitRow

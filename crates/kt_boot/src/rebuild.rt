@@ -11,12 +11,13 @@ ghost use Rattle.kt_pool.specs.Contents.{at_cell, used};
 ghost use Rattle.kt_memrowset.specs.Stores.{IsStore, store_of, Owns, number_of, is_frozen};
 ghost use Rattle.kt_boot.specs.Commits.{commit_at};
 ghost use Rattle.kt_boot.specs.Reopening.{greatest, greatest_of, mem_number, needs_of, unless_told};
-ghost use Rattle.kt_boot.specs.Rebuilding.{kindly_of, is_there, all_fit, all_told, told, fits_store, rebuilt, owed_by, MayTake, MayTakeAll, TakesAll};
+ghost use Rattle.kt_boot.specs.Rebuilding.{is_there, all_fit, all_told, told, fits_store, rebuilt, owed_by, MayTake, MayTakeAll, TakesAll};
 
 use crate::replay::{ReplayNo, commit_at, needs};
 use kt_base::NoMemory;
-use kt_history::{Kindly, OpKind, RowOp, Target, outcome};
+use kt_history::{OpKind, RowOp, Target, outcome};
 use kt_memrowset::MemRowSet;
+use kt_memrowset::taking::kind_made;
 use kt_pool::Pool;
 use kt_records::{CommitRow, CommitRows, Entry, RecordList, TargetList};
 use std::alloc::Global;
@@ -57,18 +58,6 @@ pub fn mem_number(records: &[Entry]) -> u64
     number
 }
 
-// The kind of the change that an operation makes, by whether its key is present.
-fn kindly(kind: OpKind, present: bool) -> Option<Kindly>
-    ensures { result ≡ kindly_of kind present }
-{
-    match (kind, present) {
-        (OpKind::Insert | OpKind::Upsert | OpKind::InsertIgnore, false) => Some(Kindly::Ins),
-        (OpKind::Upsert | OpKind::Update | OpKind::UpdateIgnore, true) => Some(Kindly::Upd),
-        (OpKind::Delete | OpKind::DeleteIgnore, true) => Some(Kindly::Del),
-        _ => None,
-    }
-}
-
 // Takes the change of an operation, if it makes one, and tells whether its key was present.
 fn take(mem: &mut MemRowSet, pool: &mut Pool, ts: u64, op: &RowOp) -> bool
     requires store { IsStore mem.old pool.old }
@@ -78,11 +67,7 @@ fn take(mem: &mut MemRowSet, pool: &mut Pool, ts: u64, op: &RowOp) -> bool
     ensures present { result ≡ is_there op.now.key (store_of mem.old pool.old) }
     ensures takes { TakesAll mem.old mem.new pool.old pool.new ts (op.now ∷ []) }
 {
-    let present = mem.live(pool, op.key.as_slice());
-    if let Some(change) = kindly(op.kind, present) {
-        let _target = mem.apply_reserved(pool, ts, op, change);
-    }
-    present
+    mem.take(pool, ts, op).there
 }
 
 // Takes the operations that a COMMIT calls needed, up to one that changes nothing, and tells whether each changed its row.
@@ -103,7 +88,7 @@ fn take_needed(
     'ops: for (at, op) in ops.iter().enumerate() {
         if needs(rows, at) {
             let present = take(mem, pool, ts, op);
-            if kindly(op.kind, present).is_none() {
+            if kind_made(op.kind, present).is_none() {
                 return false;
             }
         }
@@ -117,7 +102,7 @@ fn told(number: u64, kind: OpKind, present: bool) -> CommitRow
 {
     CommitRow {
         outcome: outcome(kind, present),
-        targets: match kindly(kind, present) {
+        targets: match kind_made(kind, present) {
             Some(_) => TargetList::one(Target::Mem(number)),
             None => TargetList::none(),
         },

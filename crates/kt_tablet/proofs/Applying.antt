@@ -8,7 +8,6 @@ use Rattle.kt_history.specs.declared.change.Change.{Change}
 use Rattle.kt_history.specs.declared.operation.OpKind.{OpKind}
 use Rattle.kt_history.specs.declared.operation.OpKind.TheVariants.{Insert, Upsert, Update, Delete, InsertIgnore, UpdateIgnore, DeleteIgnore}
 use Rattle.kt_history.specs.declared.operation.RowOp.{RowOp}
-use Rattle.kt_history.specs.declared.target.Kindly.{Kindly}
 use Rattle.kt_history.specs.declared.target.Target.{Target}
 use Rattle.kt_history.specs.Operations.{effect, outcome_of, need, op_len}
 use Rattle.kt_history.specs.Rows.{Row, key_cmp, fits}
@@ -18,9 +17,12 @@ use Rattle.kt_histlaws.specs.Histories.{Store, hist_in, push, row_of, or_else}
 use Rattle.kt_histlaws.specs.Flights.{Under, AllOps}
 use Rattle.kt_histlaws.specs.Core.{live}
 use Rattle.kt_histlaws.specs.Events.{pushed_if}
-use Rattle.kt_tablet.specs.Stores.{last_row, change_of, share}
+use Rattle.kt_tablet.specs.Stores.{last_row, change_of, change_by, is_there, with_change, share}
 use Rattle.kt_tablet.specs.Filling.{filled, filled_change}
-use Rattle.kt_tablet.specs.Rows.{kind_of, change_by, is_there, with_change, targets_of}
+use Rattle.kt_memrowset.specs.Taking.{kind_made}
+use Rattle.kt_records.specs.declared.entry.CommitRow.{CommitRow}
+use Rattle.kt_history.specs.declared.change.Outcome.{Outcome}
+use Rattle.kt_tablet.specs.Rows.{targets_of, commit_row}
 use Rattle.kt_tablet.proofs.Filling.{last_alike, last_under, find-filled, push-filled, put-filled, under-filled}
 
 none_is_some : (op : RowOp) → None ≡ Some op → ⊥
@@ -29,66 +31,52 @@ none_is_some op e = cc
 some_is : (x op : RowOp) → Some x ≡ Some op → x ≡ op
 some_is x op e = cc
 
--- the operation's kind of change fits, and names a store
-pub fits_there : (op : RowOp) (kind : Kindly) (row : Option Row) → kind_of op.kind (is_some row) ≡ Some kind → fits (change_of kind op.cells) row ≡ true
-fits_there op kind row h = by op.kind row h
+-- the store that took the change is the one that is recorded
+pub named_one : (k : OpKind) (b : Bool) (mine target : Target) → Some target ≡ option_map (λ _. mine) (kind_made k b) → target ∷ [] ≡ targets_of mine (outcome_of k b)
+named_one Insert false mine target h = let e : target ≡ mine = cc in ap (λ t. t ∷ []) e
+named_one Insert true mine target h = cc
+named_one Upsert false mine target h = let e : target ≡ mine = cc in ap (λ t. t ∷ []) e
+named_one Upsert true mine target h = let e : target ≡ mine = cc in ap (λ t. t ∷ []) e
+named_one Update false mine target h = cc
+named_one Update true mine target h = let e : target ≡ mine = cc in ap (λ t. t ∷ []) e
+named_one Delete false mine target h = cc
+named_one Delete true mine target h = let e : target ≡ mine = cc in ap (λ t. t ∷ []) e
+named_one InsertIgnore false mine target h = let e : target ≡ mine = cc in ap (λ t. t ∷ []) e
+named_one InsertIgnore true mine target h = cc
+named_one UpdateIgnore false mine target h = cc
+named_one UpdateIgnore true mine target h = let e : target ≡ mine = cc in ap (λ t. t ∷ []) e
+named_one DeleteIgnore false mine target h = cc
+named_one DeleteIgnore true mine target h = let e : target ≡ mine = cc in ap (λ t. t ∷ []) e
+
+pub named_none : (k : OpKind) (b : Bool) (mine : Target) → None ≡ option_map (λ _. mine) (kind_made k b) → [] ≡ targets_of mine (outcome_of k b)
+named_none Insert false mine h = cc
+named_none Insert true mine h = refl
+named_none Upsert false mine h = cc
+named_none Upsert true mine h = cc
+named_none Update false mine h = refl
+named_none Update true mine h = cc
+named_none Delete false mine h = refl
+named_none Delete true mine h = cc
+named_none InsertIgnore false mine h = cc
+named_none InsertIgnore true mine h = refl
+named_none UpdateIgnore false mine h = refl
+named_none UpdateIgnore true mine h = cc
+named_none DeleteIgnore false mine h = refl
+named_none DeleteIgnore true mine h = cc
+
+-- what is recorded of an operation, by what the store said of it
+pub row_is : (k : OpKind) (b there : Bool) (mine : Target) (o : Outcome) (targets : List Target) → b ≡ there → o ≡ outcome_of k b → targets ≡ targets_of mine (outcome_of k b) → record { outcome = o; targets = targets } ≡ commit_row mine (outcome_of k there)
+row_is k b there mine o targets same outcome named =
+    ap (λ o. commit_row_of o targets) outcome ∙ ap (commit_row_of (outcome_of k b)) named ∙ ap (λ b. commit_row mine (outcome_of k b)) same
   where
-    some : {A : Type 0} (x y : A) → Some x ≡ Some y → x ≡ y
-    some x y e = cc
-
-    by : (k : OpKind) (row : Option Row) → kind_of k (is_some row) ≡ Some kind → fits (change_of kind op.cells) row ≡ true
-    by Insert None h = ap (λ k. fits (change_of k op.cells) None) (sym (some _ _ h))
-    by Insert (Some r) h = cc
-    by Upsert None h = ap (λ k. fits (change_of k op.cells) None) (sym (some _ _ h))
-    by Upsert (Some r) h = ap (λ k. fits (change_of k op.cells) (Some r)) (sym (some _ _ h))
-    by Update None h = cc
-    by Update (Some r) h = ap (λ k. fits (change_of k op.cells) (Some r)) (sym (some _ _ h))
-    by Delete None h = cc
-    by Delete (Some r) h = ap (λ k. fits (change_of k op.cells) (Some r)) (sym (some _ _ h))
-    by InsertIgnore None h = ap (λ k. fits (change_of k op.cells) None) (sym (some _ _ h))
-    by InsertIgnore (Some r) h = cc
-    by UpdateIgnore None h = cc
-    by UpdateIgnore (Some r) h = ap (λ k. fits (change_of k op.cells) (Some r)) (sym (some _ _ h))
-    by DeleteIgnore None h = cc
-    by DeleteIgnore (Some r) h = ap (λ k. fits (change_of k op.cells) (Some r)) (sym (some _ _ h))
-
-pub named_one : (k : OpKind) (b : Bool) (kind : Kindly) (target : Target) → kind_of k b ≡ Some kind → target ∷ [] ≡ targets_of target (outcome_of k b)
-named_one Insert false kind target h = refl
-named_one Insert true kind target h = cc
-named_one Upsert false kind target h = refl
-named_one Upsert true kind target h = refl
-named_one Update false kind target h = cc
-named_one Update true kind target h = refl
-named_one Delete false kind target h = cc
-named_one Delete true kind target h = refl
-named_one InsertIgnore false kind target h = refl
-named_one InsertIgnore true kind target h = cc
-named_one UpdateIgnore false kind target h = cc
-named_one UpdateIgnore true kind target h = refl
-named_one DeleteIgnore false kind target h = cc
-named_one DeleteIgnore true kind target h = refl
-
-pub named_none : (k : OpKind) (b : Bool) (target : Target) → kind_of k b ≡ None → [] ≡ targets_of target (outcome_of k b)
-named_none Insert false target h = cc
-named_none Insert true target h = refl
-named_none Upsert false target h = cc
-named_none Upsert true target h = cc
-named_none Update false target h = refl
-named_none Update true target h = cc
-named_none Delete false target h = refl
-named_none Delete true target h = cc
-named_none InsertIgnore false target h = cc
-named_none InsertIgnore true target h = refl
-named_none UpdateIgnore false target h = refl
-named_none UpdateIgnore true target h = cc
-named_none DeleteIgnore false target h = refl
-named_none DeleteIgnore true target h = cc
+    commit_row_of : Outcome → List Target → CommitRow
+    commit_row_of o targets = record { outcome = o; targets = targets }
 
 -- filled, it is the change that the operation has on a row that is there as the store's is
 change_alike : (fill : Row) (op : RowOp) (row : Option Row) → option_map (filled_change fill) (change_by op (is_some row)) ≡ (effect fill op.kind op.cells row).0
 change_alike fill op row = by op.kind row
   where
-    by : (k : OpKind) (row : Option Row) → option_map (filled_change fill) (option_map (λ kind. change_of kind op.cells) (kind_of k (is_some row))) ≡ (effect fill k op.cells row).0
+    by : (k : OpKind) (row : Option Row) → option_map (filled_change fill) (option_map (λ kind. change_of kind op.cells) (kind_made k (is_some row))) ≡ (effect fill k op.cells row).0
     by Insert None = refl
     by Insert (Some r) = refl
     by Upsert None = refl

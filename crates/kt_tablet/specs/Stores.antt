@@ -1,5 +1,6 @@
 -- What a store in the pool does with an operation: the change of its own cells, and the cells that it takes.
-use Rattle.std.specs.Prelude.{◌≡◌, ◌≤◌, ℕ, ◌+◌, ◌/◌, false, true, List, [], ◌∷◌, length, map, nat_le, Option, None}
+use Rattle.std.specs.Prelude.{◌≡◌, ◌≤◌, ℕ, ◌+◌, ◌/◌, Bool, false, true, is_some, List, [], ◌∷◌, length, map, nat_le, Option, None, Some}
+use Rattle.std.specs.Option.{option_map}
 use Rattle.std.specs.List.{filter, flat_map}
 use Rattle.kt_history.specs.declared.change.Change.{Change}
 use Rattle.kt_history.specs.declared.change.Change.TheVariants.{Ins, Upd, Del}
@@ -8,12 +9,13 @@ use Rattle.kt_history.specs.declared.operation.RowOp.{RowOp}
 use Rattle.kt_history.specs.declared.target.Kindly.{Kindly}
 use Rattle.kt_history.specs.declared.target.Kindly.TheVariants as kindly
 use Rattle.kt_history.specs.Operations.{op_len}
-use Rattle.std.specs.FinMap.Entries.{is_sorted}
+use Rattle.std.specs.FinMap.Entries.{is_sorted, put}
 use Rattle.kt_history.specs.Rows.{Row, apply, key_cmp}
 use Rattle.kt_pool.specs.Contents.{Contents, used}
-use Rattle.kt_histlaws.specs.Histories.{Store, Hist, Steps}
+use Rattle.kt_histlaws.specs.Histories.{Store, Hist, Steps, push, hist_in}
 use Rattle.kt_memrowset.specs.declared.store.MemRowSet.{MemRowSet}
 use Rattle.kt_memrowset.specs.Stores.{IsStore, is_frozen}
+use Rattle.kt_memrowset.specs.Taking.{kind_made}
 
 -- the change of this kind, with the operation's own cells
 abbrev pub change_of : Kindly → Row → Change
@@ -28,6 +30,19 @@ apply_all (c ∷ steps) row = apply_all steps (apply c.1 row)
 
 abbrev pub last_row : Hist → Option Row
 last_row h = apply_all h.steps h.first
+
+-- the change that an operation makes to a row that is there, or is not
+abbrev pub change_by : RowOp → Bool → Option Change
+change_by op there = option_map (λ kind. change_of kind op.cells) (kind_made op.kind there)
+
+-- whether the store has the operation's row after all changes
+abbrev pub is_there : RowOp → Store → Bool
+is_there op store = is_some (last_row (hist_in op.key store))
+
+-- a store with a change more, if there is one
+abbrev pub with_change : List ℕ → ℕ → Option Change → Store → Store
+with_change q ts None store = store
+with_change q ts (Some c) store = put key_cmp q (push ts c (hist_in q store)) store
 
 -- the most cells of the pool that one store takes for an operation: half of what a write needs for it
 abbrev pub share : RowOp → ℕ

@@ -10,7 +10,7 @@ ghost use Rattle.kt_tablet.specs.StoreLaws.{is_grown};
 use crate::store::RowStore;
 use kt_base::NoMemory;
 use kt_history::{ChangeList, Kindly, RowOp, Target};
-use kt_memrowset::MemRowSet;
+use kt_memrowset::{MemRowSet, Taken};
 use kt_pool::Pool;
 use std::alloc::Global;
 
@@ -37,5 +37,9 @@ impl RowStore for MemRowSet {
 
     fn apply_reserved(&mut self, pool: &mut Pool, ts: u64, op: &RowOp, change: Kindly) -> Target {
         MemRowSet::apply_reserved(self, pool, ts, op, change)
+    }
+
+    fn take(&mut self, pool: &mut Pool, ts: u64, op: &RowOp) -> Taken {
+        MemRowSet::take(self, pool, ts, op)
     }
 }

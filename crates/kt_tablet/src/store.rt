@@ -1,6 +1,7 @@
 //! A store of rows in the cells of a pool.
 
 ghost use Rattle.std.specs.Prelude.{◌≡◌, ◌≤◌, ◌<◌, ◌^◌, ◌⊎◌, ℕ, None, true, is_some, IfOk, length, []};
+ghost use Rattle.std.specs.Option.{option_map};
 ghost use Rattle.std.specs.FinMap.Entries.{put};
 ghost use Rattle.kt_pool.specs.Contents.{Contents, at_cell, with_reserved};
 ghost use Rattle.kt_history.specs.Rows.{key_cmp, fits};
@@ -8,10 +9,12 @@ ghost use Rattle.kt_history.specs.declared.target.Target.{Target};
 ghost use Rattle.kt_records.specs.Rules.{EachAfter, FollowingCell};
 ghost use Rattle.kt_histlaws.specs.Histories.{Store, hist_in, push};
 ghost use Rattle.kt_histlaws.specs.Flights.{Under};
-ghost use Rattle.kt_tablet.specs.Stores.{change_of, last_row, share, changes_upto, TakesUpTo, IsGrown};
+ghost use Rattle.kt_memrowset.specs.Taking.{kind_made};
+ghost use Rattle.kt_tablet.specs.Stores.{change_of, change_by, is_there, last_row, with_change, share, changes_upto, TakesUpTo, IsGrown};
 
 use kt_base::NoMemory;
 use kt_history::{ChangeList, Kindly, RowOp, Target};
+use kt_memrowset::Taken;
 use kt_pool::Pool;
 use std::alloc::Global;
 
@@ -53,6 +56,24 @@ pub trait RowStore {
         ensures named { result ≡ target self.old }
         ensures name { target self.new ≡ target self.old }
         ensures takes { TakesUpTo (share op.now) pool.old pool.new }
+        ensures grows { (k : ℕ) → owns self.new pool.new k → owns self.old pool.old k ⊎ (at_cell pool.old k ≡ None) }
+        ensures frame { (k : ℕ) → ¬ owns self.new pool.new k → at_cell pool.new k ≡ at_cell pool.old k };
+
+    /// Adds the change of an operation, if it makes one, in reserved cells. It tells whether the row was there before, and
+    /// the store that took the change.
+    fn take(&mut self, pool: &mut Pool, ts: u64, op: &RowOp) -> Taken
+        requires stands { stands self.old pool.old }
+        requires reserved { share op.now ≤ pool.old.reserved }
+        requires count { length op.now.cells < 2 ^ 16 }
+        requires cells { EachAfter FollowingCell [] op.now.cells }
+        requires above { Under ts (hist_in op.now.key (store self.old pool.old)).steps }
+        ensures stands { stands self.new pool.new }
+        ensures there { result.there ≡ is_there op.now (store self.old pool.old) }
+        ensures changed { store self.new pool.new ≡ with_change op.now.key ts (change_by op.now result.there) (store self.old pool.old) }
+        ensures named { result.target ≡ option_map (λ _. target self.old) (kind_made op.now.kind result.there) }
+        ensures name { target self.new ≡ target self.old }
+        ensures takes { TakesUpTo (share op.now) pool.old pool.new }
+        ensures idle { result.target ≡ None → (self.new ≡ self.old) × (pool.new ≡ pool.old) }
         ensures grows { (k : ℕ) → owns self.new pool.new k → owns self.old pool.old k ⊎ (at_cell pool.old k ≡ None) }
         ensures frame { (k : ℕ) → ¬ owns self.new pool.new k → at_cell pool.new k ≡ at_cell pool.old k };
 

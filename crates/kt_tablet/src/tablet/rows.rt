@@ -6,15 +6,15 @@ ghost use Rattle.kt_records.specs.Rules.{EachAfter, FollowingCell};
 ghost use Rattle.kt_history.specs.Operations.{outcome_of};
 ghost use Rattle.kt_histlaws.specs.Histories.{hist_in};
 ghost use Rattle.kt_histlaws.specs.Flights.{Under};
-ghost use Rattle.kt_tablet.specs.Stores.{share, TakesUpTo};
-ghost use Rattle.kt_tablet.specs.Rows.{kind_of as kind_made, change_by, is_there, with_change, commit_row};
+ghost use Rattle.kt_tablet.specs.Stores.{share, change_by, is_there, with_change, TakesUpTo};
+ghost use Rattle.kt_tablet.specs.Rows.{commit_row};
 ghost use Rattle.kt_tablet.specs.Views.{unpromised};
 
 use super::{FlyingWrite, Stopped, Tablet};
 use crate::need::cells_of;
 use crate::store::RowStore;
 use kt_base::Clock;
-use kt_history::{Event, Kindly, OpKind, OpList, Outcome, OutcomeList, RowOp, outcome};
+use kt_history::{Event, OpList, Outcome, OutcomeList, RowOp, outcome};
 use kt_mvcc::KeyList;
 use kt_pool::Pool;
 use kt_records::{CommitRow, CommitRows, TargetList};
@@ -31,18 +31,6 @@ pub struct WriteEnd {
     pub keys: KeyList,
 }
 
-// The kind of change that an operation makes to a row that is there, or is not.
-fn kind_of(kind: OpKind, there: bool) -> Option<Kindly>
-    ensures { result ≡ kind_made kind there }
-{
-    match (kind, there) {
-        (OpKind::Insert | OpKind::Upsert | OpKind::InsertIgnore, false) => Some(Kindly::Ins),
-        (OpKind::Upsert | OpKind::Update | OpKind::UpdateIgnore, true) => Some(Kindly::Upd),
-        (OpKind::Delete | OpKind::DeleteIgnore, true) => Some(Kindly::Del),
-        _ => None,
-    }
-}
-
 // Makes the change of an operation, if it makes one, in reserved cells.
 fn change_store<S: RowStore>(store: &mut S, pool: &mut Pool, ts: u64, op: &RowOp) -> CommitRow
     requires stands { S.stands store.old pool.old }
@@ -57,11 +45,10 @@ fn change_store<S: RowStore>(store: &mut S, pool: &mut Pool, ts: u64, op: &RowOp
     ensures takes { TakesUpTo (share op.now) pool.old pool.new }
     ensures vacant { S.store store.new pool.new ≡ [] → used pool.new ≡ used pool.old }
 {
-    let there = store.live(pool, op.key.as_slice());
-    let outcome = outcome(op.kind, there);
-    match kind_of(op.kind, there) {
-        Some(kind) => {
-            let target = store.apply_reserved(pool, ts, op, kind);
+    let taken = store.take(pool, ts, op);
+    let outcome = outcome(op.kind, taken.there);
+    match taken.target {
+        Some(target) => {
             let targets = TargetList::one(target);
             CommitRow { outcome, targets }
         }

@@ -6,7 +6,7 @@ use crate::new_write::NewWrite;
 use crate::store::RowStore;
 use kt_base::{Clock, NoMemory};
 use kt_history::{Event, OpList};
-use kt_mvcc::{Flight, MvccNo};
+use kt_mvcc::Flight;
 use std::alloc::Global;
 use std::mem;
 use thiserror::Error;
@@ -171,11 +171,7 @@ impl<S: RowStore, C: Clock> Tablet<S, C> {
             rows,
             cells: _,
         } = mem::replace(write, NewWrite::none(alloc));
-        let ts = match self.flight.begin(alloc, number, keys, reading) {
-            Ok(ts) => ts,
-            Err(MvccNo::Wait { ts: _ }) => unreachable!(),
-            Err(MvccNo::Memory) => unreachable!(),
-        };
+        let ts = self.flight.begin_free(number, keys, reading);
         self.trail.push_reserved(Event::Begin {
             s: number,
             i: index,

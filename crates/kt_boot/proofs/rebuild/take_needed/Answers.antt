@@ -19,7 +19,7 @@ take-present-requires-clause-room c =
 
 pub returns-then-is_none-clause-fit : goal.returns-then-is_none-clause-fit
 returns-then-is_none-clause-fit c =
-    let kind = kind_is c.index-ops-at.result (store_of c.ops.mem c.ops.pool) c.take-present.result c.kindly.result c.take-present.ensures.present c.kindly.ensures in
+    let kind = kind_is c.index-ops-at.result (store_of c.ops.mem c.ops.pool) c.take-present.result c.kind_made.result c.take-present.ensures.present c.kind_made.ensures in
     fit_never c.args.mem.now c.ops.mem c.args.pool.now c.ops.pool c.args.ts c.args.ops.now c.args.rows.now c.ops.at c.index-ops-at.result c.ops-test.true c.index-ops-at.is c.ops.invariant.taking
     (all_fit c.args.ts (needed_ops c.args.ops.now c.args.rows.now) (store_of c.args.mem.now c.args.pool.now)) c.ops.invariant.fit (sym c.needs.ensures ∙ c.if-needs.true)
     (ap is_some kind ∙ (c.is_none.ensures ∙ ap not c.if-is_none.true))
@@ -31,7 +31,7 @@ ops-preserved c =
     elim c.if-needs.branch [
       | then-needs+else-is_none w ↦
           let need = sym c.needs.ensures ∙ w.if-needs.true in
-          let kind = kind_is c.index-ops-at.result (store_of c.ops.mem c.ops.pool) w.take-present.result w.kindly.result w.take-present.ensures.present w.kindly.ensures in
+          let kind = kind_is c.index-ops-at.result (store_of c.ops.mem c.ops.pool) w.take-present.result w.kind_made.result w.take-present.ensures.present w.kind_made.ensures in
           let first = taking_first_left c.args.mem.now c.ops.mem c.args.pool.now c.ops.pool c.args.ts c.args.ops.now c.args.rows.now c.ops.at c.index-ops-at.result c.ops-test.true c.index-ops-at.is c.ops.invariant.taking need in
           rw (w.mem-is, w.pool-is) (record {
             taking = taking_next c.args.mem.now c.ops.mem w.take-present.new.mem c.args.pool.now c.ops.pool w.take-present.new.pool c.args.ts (needed_ops c.args.ops.now c.args.rows.now) c.index-ops-at.result left first w.take-present.ensures.takes;

@@ -1,5 +1,6 @@
 use Rattle.std.proofs.Common.{◌<◌, length, refl, sym, ap, ◌∙◌, subst, rules}
-use Rattle.kt_tablet.specs.Rows.{with_change, change_by, is_there, commit_row}
+use Rattle.kt_tablet.specs.Stores.{with_change, change_by, is_there}
+use Rattle.kt_tablet.specs.Rows.{commit_row}
 use Rattle.kt_tablet.specs.Views.{aloft_of}
 use Rattle.kt_tablet.specs.Visits.{MayApply}
 use Rattle.kt_tablet.proofs.Applying.{under_store, store_applied, outcome_live}

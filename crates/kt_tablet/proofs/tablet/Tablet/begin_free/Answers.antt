@@ -1,6 +1,7 @@
-use Rattle.std.proofs.Common.{◌≡◌, ◌≤◌, ◌+◌, ◌++◌, ◌∷◌, [], length, Some, None, refl, ◌∙◌, ap, sym, rules}
+use Rattle.std.proofs.Common.{◌≡◌, ◌≤◌, ◌+◌, ◌++◌, ◌∷◌, [], length, None, refl, ◌∙◌, ap, sym, rules}
 use Rattle.std.specs.Vec.{vec_len, vec_capacity}
 use Rattle.kt_history.specs.Machine.{next_timestamp}
+use Rattle.kt_mvcc.specs.Flying.{holder}
 use Rattle.kt_pool.specs.Contents.{used, with_reserved}
 use Rattle.kt_tablet.specs.Filling.{filled}
 use Rattle.kt_history.specs.Operations.{need}
@@ -12,8 +13,8 @@ use Rattle.kt_tablet.proofs.Exact.{vacant_still}
 use Rattle.kt_tablet.proofs.Told.{told_on, told_begun}
 use Rattle.kt_tablet.proofs.tablet.Tablet.begin_free.Goals as goal
 
-pub begin-requires-clause-rests : goal.begin-requires-clause-rests
-begin-requires-clause-rests g c =
+pub begin_free-ts-requires-clause-rests : goal.begin_free-ts-requires-clause-rests
+begin_free-ts-requires-clause-rests g c =
     let same : c.replace-ops.result.ops ≡ c.args.write.now.ops = ap (λ w. w.ops) c.replace-ops.ensures.value in
     let now : MayBeginNow c.args.self.now.core c.args.number c.args.index c.args.write.now.ops (need c.args.write.now.ops) = record { may = c.requires.may; cells = refl; goes = c.requires.free.goes; fits = c.requires.free.fits } in
     let may = may_begin _ _ c.args.number c.args.index c.replace-ops.result.ops (need c.replace-ops.result.ops) c.self.view_is (begins_as c.args.self.now.core c.args.number c.args.index c.args.write.now.ops c.replace-ops.result.ops same now) in
@@ -22,25 +23,28 @@ begin-requires-clause-rests g c =
 pub invariant_of-self-2 : goal.invariant_of-self-2
 invariant_of-self-2 g c =
     let same : c.replace-ops.result.ops ≡ c.args.write.now.ops = ap (λ w. w.ops) c.replace-ops.ensures.value in
+    let way = way_old _ _ c.replace-ops.result.ops _ c.self.view_is
+    (in_the_way c.replace-ops.result.ops c.replace-ops.result.keys c.self.inside.flights.items c.make_room.new.flight.flying (holder c.replace-ops.result.keys c.make_room.new.flight.flying) c.replace-ops.result.keyed (ap (λ f. f.flying) c.make_room.ensures.flight ∙ c.self.invariant.1.held) refl) in
+    let free : holder c.replace-ops.result.keys c.make_room.new.flight.flying ≡ None = sym way ∙ ap (holder_of c.args.self.now.core) same ∙ c.requires.free.apart in
     let now : MayBeginNow c.args.self.now.core c.args.number c.args.index c.args.write.now.ops (need c.args.write.now.ops) = record { may = c.requires.may; cells = refl; goes = c.requires.free.goes; fits = c.requires.free.fits } in
     let may = may_begin _ _ c.args.number c.args.index c.replace-ops.result.ops (need c.replace-ops.result.ops) c.self.view_is (begins_as c.args.self.now.core c.args.number c.args.index c.args.write.now.ops c.replace-ops.result.ops same now) in
     let promised : c.reserve.new.self ≡ with_reserved c.self.inside.pool (c.self.inside.pool.reserved + need c.replace-ops.result.ops) = search rules in
     let room : vec_len c.push_reserved.new.self + length c.self.inside.flights.items + 2 ≤ vec_capacity c.push_reserved.new.self = search rules in
     let lines = one_line _ _ _ _ c.push_reserved.ensures.items c.make_room.ensures.lines in
-    let sound = begin_sound g.C.Clock.readings _ c.now-reading.new.self c.args.number c.args.index c.in-Ok-begin.ts c.now-reading.result c.replace-ops.result.ops (need c.replace-ops.result.ops) _ _ _ _ _ _
+    let sound = begin_sound g.C.Clock.readings _ c.now-reading.new.self c.args.number c.args.index c.begin_free-ts.result c.now-reading.result c.replace-ops.result.ops (need c.replace-ops.result.ops) _ _ _ _ _ _
     c.self.invariant.0
     (ap (λ s. filled c.self.inside.fill s ∷ []) (promised_alike g.S.RowStore.stands g.S.RowStore.store c.self.inside.store c.self.inside.pool c.reserve.new.self (c.self.inside.pool.reserved + need c.replace-ops.result.ops) g.met.S.RowStore.looks c.self.invariant.2 promised))
     may
-    (c.in-Ok-begin.ensures.ts.0 ∙ ap (λ f. next_timestamp f.c c.now-reading.result) c.make_room.ensures.flight)
+    (c.begin_free-ts.ensures.ts.0 ∙ ap (λ f. next_timestamp f.c c.now-reading.result) c.make_room.ensures.flight)
     (apart c.replace-ops.result.ops c.self.inside.flights.items
-    (in_the_way c.replace-ops.result.ops c.replace-ops.result.keys c.self.inside.flights.items c.make_room.new.flight.flying None c.replace-ops.result.keyed (ap (λ f. f.flying) c.make_room.ensures.flight ∙ c.self.invariant.1.held) (sym c.in-Ok-begin.ensures.free)))
+    (in_the_way c.replace-ops.result.ops c.replace-ops.result.keys c.self.inside.flights.items c.make_room.new.flight.flying None c.replace-ops.result.keyed (ap (λ f. f.flying) c.make_room.ensures.flight ∙ c.self.invariant.1.held) (sym free)))
     c.now-reading.ensures
     lines
-    (c.in-Ok-begin.ensures.mark ∙ ap (λ f. f.a) c.make_room.ensures.flight)
-    c.in-Ok-begin.ensures.ts.1
+    (c.begin_free-ts.ensures.mark ∙ ap (λ f. f.a) c.make_room.ensures.flight)
+    c.begin_free-ts.ensures.ts.1
     (one_flight _ _ _ _ c.push_reserved-2.ensures.items c.make_room.ensures.flights) in (
       sound,
-      ready_begun _ _ (record { who = c.args.number; index = c.args.index; ts = c.in-Ok-begin.ts; ops = c.replace-ops.result.ops; applied = 0; outcomes = c.replace-ops.result.outcomes; rows = c.replace-ops.result.rows }) _ _ _ _ _ _ _ _ _ _ _ _
+      ready_begun _ _ (record { who = c.args.number; index = c.args.index; ts = c.begin_free-ts.result; ops = c.replace-ops.result.ops; applied = 0; outcomes = c.replace-ops.result.outcomes; rows = c.replace-ops.result.rows }) _ _ _ _ _ _ _ _ _ _ _ _
           c.self.invariant.1
           (record {
             count = may.may.count;
@@ -49,7 +53,7 @@ invariant_of-self-2 g c =
             room = c.replace-ops.result.room;
           })
           may.may.at.rests c.push_reserved-2.ensures.items c.make_room.ensures.flights
-          (c.in-Ok-begin.ensures.flying ∙ (λ k. (c.make_room.ensures.flight k).flying ++ record { who = c.args.number; ts = c.in-Ok-begin.ts; keys = c.replace-ops.result.keyed k } ∷ []))
+          (c.begin_free-ts.ensures.flying ∙ (λ k. (c.make_room.ensures.flight k).flying ++ record { who = c.args.number; ts = c.begin_free-ts.result; keys = c.replace-ops.result.keyed k } ∷ []))
           may.cells promised room,
       promised_placed g.S.RowStore.stands g.S.RowStore.store c.self.inside.store c.self.inside.pool c.reserve.new.self (c.self.inside.pool.reserved + need c.replace-ops.result.ops) g.met.S.RowStore.looks c.self.invariant.2 promised,
       told_begun (work_of c.self.inside.schema.value c.self.inside.plan.value c.self.inside.cells c.self.inside.fill) _ _ _ c.push_reserved.new.self.items (g.S.RowStore.target c.self.inside.store) _ _ _ _
@@ -62,19 +66,18 @@ pub returns-clause-begun : goal.returns-clause-begun
 returns-clause-begun g c =
     let promised : c.reserve.new.self ≡ with_reserved c.self.inside.pool (c.self.inside.pool.reserved + need c.replace-ops.result.ops) = search rules in
     let same : c.replace-ops.result.ops ≡ c.args.write.now.ops = ap (λ w. w.ops) c.replace-ops.ensures.value in
-    begun_as _ _ c.args.number c.args.index c.in-Ok-begin.ts c.args.write.now.ops c.replace-ops.result.ops same (has_begun _ _ c.args.number c.args.index c.in-Ok-begin.ts c.now-reading.result c.replace-ops.result.ops _ _ _ _ _ c.self.view_is
+    begun_as _ _ c.args.number c.args.index c.begin_free-ts.result c.args.write.now.ops c.replace-ops.result.ops same (has_begun _ _ c.args.number c.args.index c.begin_free-ts.result c.now-reading.result c.replace-ops.result.ops _ _ _ _ _ c.self.view_is
     (ap (λ s. filled c.self.inside.fill s ∷ []) (promised_alike g.S.RowStore.stands g.S.RowStore.store c.self.inside.store c.self.inside.pool c.reserve.new.self (c.self.inside.pool.reserved + need c.replace-ops.result.ops) g.met.S.RowStore.looks c.self.invariant.2 promised))
-    (c.in-Ok-begin.ensures.ts.0 ∙ ap (λ f. next_timestamp f.c c.now-reading.result) c.make_room.ensures.flight)
+    (c.begin_free-ts.ensures.ts.0 ∙ ap (λ f. next_timestamp f.c c.now-reading.result) c.make_room.ensures.flight)
     (one_line _ _ _ _ c.push_reserved.ensures.items c.make_room.ensures.lines)
-    (c.in-Ok-begin.ensures.mark ∙ ap (λ f. f.a) c.make_room.ensures.flight)
-    c.in-Ok-begin.ensures.ts.1
+    (c.begin_free-ts.ensures.mark ∙ ap (λ f. f.a) c.make_room.ensures.flight)
+    c.begin_free-ts.ensures.ts.1
     (one_flight _ _ _ _ c.push_reserved-2.ensures.items c.make_room.ensures.flights))
 
-pub unreachable-requires-in-Err-Wait : goal.unreachable-requires-in-Err-Wait
-unreachable-requires-in-Err-Wait g c =
+pub begin_free-ts-requires-clause-free : goal.begin_free-ts-requires-clause-free
+begin_free-ts-requires-clause-free g c =
     let same : c.replace-ops.result.ops ≡ c.args.write.now.ops = ap (λ w. w.ops) c.replace-ops.ensures.value in
-    let refused = rw c.in-Err-Wait.field-0-is at c.in-Err-Wait.ensures.refused in
-    let held = way_old _ _ c.replace-ops.result.ops _ c.self.view_is
-    (in_the_way c.replace-ops.result.ops c.replace-ops.result.keys c.self.inside.flights.items c.make_room.new.flight.flying (Some c.in-Err-Wait.field-0-0) c.replace-ops.result.keyed (ap (λ f. f.flying) c.make_room.ensures.flight ∙ c.self.invariant.1.held) (sym refused)) in
-    let no : None ≡ Some c.in-Err-Wait.field-0-0 = sym c.requires.free.apart ∙ ap (holder_of c.args.self.now.core) (sym same) ∙ held in
-    cc
+    let way = way_old _ _ c.replace-ops.result.ops _ c.self.view_is
+    (in_the_way c.replace-ops.result.ops c.replace-ops.result.keys c.self.inside.flights.items c.make_room.new.flight.flying (holder c.replace-ops.result.keys c.make_room.new.flight.flying) c.replace-ops.result.keyed (ap (λ f. f.flying) c.make_room.ensures.flight ∙ c.self.invariant.1.held) refl) in
+    let free : holder c.replace-ops.result.keys c.make_room.new.flight.flying ≡ None = sym way ∙ ap (holder_of c.args.self.now.core) same ∙ c.requires.free.apart in
+    free
