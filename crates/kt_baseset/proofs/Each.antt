@@ -1,8 +1,8 @@
 -- Columns, one after another: read and spelled.
-use Rattle.std.proofs.Common.{◌≡◌, ℕ, ◌+◌, ◌^◌, ◌<◌, ◌≤◌, List, [], ◌∷◌, ◌++◌, length, get_or, take, drop, Result, Ok, Err, refl, sym, ap, subst, ◌∙◌, append_assoc, lit<, arith}
+use Rattle.std.proofs.Common.{◌≡◌, ℕ, ◌+◌, ◌-◌, ◌^◌, ◌<◌, ◌≤◌, List, [], ◌∷◌, ◌++◌, length, get_or, take, drop, Result, Ok, Err, refl, sym, ap, subst, ◌∙◌, append_assoc, lit<, arith}
 use Rattle.std.specs.Int.{w16, to_le_bytes}
 use Rattle.std.proofs.lemmas.List.{append-nil, take-append-drop, length-append, length-map, drop_at, get_or_at}
-use Rattle.std.proofs.lemmas.List.Elements.{All-nil, All-push}
+use Rattle.std.proofs.lemmas.List.Elements.{All-nil, All-push, All-head, All-tail}
 use Rattle.kt_base.specs.declared.cell.Cell.{Cell}
 use Rattle.kt_bytes.specs.declared.fault.Stop.{Stop}
 use Rattle.kt_bytes.specs.declared.fault.Stop.TheVariants as stops
@@ -13,7 +13,7 @@ use Rattle.kt_column.specs.declared.form.Form.{Form}
 use Rattle.kt_column.specs.Columns.{ColumnValue, SpellsColumn, IsColumnFound}
 use Rattle.kt_baseset.specs.declared.schema.ColumnShape.{ColumnShape}
 use Rattle.kt_baseset.specs.declared.held.HeldColumn.{HeldColumn}
-use Rattle.kt_baseset.specs.Rows.{IdsRise, AreShapes, form_of}
+use Rattle.kt_baseset.specs.Rows.{IdsRise, HaveIds, AreShapes, form_of}
 use Rattle.kt_baseset.specs.Tables.{shapes_of, IsColumn, AreColumns}
 use Rattle.kt_baseset.specs.Spelling.{shape_bytes, SpellsOne, SpellsEach}
 use Rattle.kt_baseset.specs.Reading.{shape_at, IsRefusedAt, next_id, IsOneFault, in_blocks, IsEachFault, IsColumnsFault, in_each, ReadsOne, ReadsEach, ReadsColumns, Stops}
@@ -22,11 +22,11 @@ use Rattle.kt_baseset.proofs.Spelled.{column_holds}
 
 -- ---- one column
 
-pub shape_read : (rows least : ℕ) (bytes : List ℕ) (c : HeldColumn) (rest : List ℕ) (r : ReadsOne rows least bytes c rest) → shape_at least bytes ≡ Ok (c.shape, r.spelled.blocks ++ rest)
-shape_read rows least bytes c rest r =
+pub shape_read : (rows least more : ℕ) (bytes : List ℕ) (c : HeldColumn) (rest : List ℕ) (r : ReadsOne rows least bytes c rest) → c.shape.id + more < 2 ^ 16 → shape_at least more bytes ≡ Ok (c.shape, r.spelled.blocks ++ rest)
+shape_read rows least more bytes c rest r room =
     let blocks = r.spelled.blocks in
     let e : bytes ≡ shape_bytes c.shape ++ (blocks ++ rest) = r.parts ∙ ap (λ (x : List ℕ). x ++ rest) r.spelled.parts ∙ append_assoc (shape_bytes c.shape) blocks rest in
-    ap (shape_at least) e ∙ shape_again least c.shape (blocks ++ rest) (record { above = r.above; fit = r.fit })
+    ap (shape_at least more) e ∙ shape_again least more c.shape (blocks ++ rest) (record { above = r.above; room = room })
 
 abbrev pub Read : Type 0
 Read = Result (ColumnShape × List ℕ) ℕ
@@ -34,34 +34,37 @@ Read = Result (ColumnShape × List ℕ) ℕ
 not_both : (r : Read) (x : ColumnShape × List ℕ) (left : ℕ) → r ≡ Ok x → r ≡ Err left → ⊥
 not_both r x left p q = absurd cc
 
-pub no_shape : (e : Stop) (rows least : ℕ) (bytes : List ℕ) → Fails e (shape_at least bytes) → (c : HeldColumn) (rest : List ℕ) → ReadsOne rows least bytes c rest → e ≡ stops.Memory
-no_shape stops.Memory rows least bytes failed c rest r = refl
-no_shape (stops.Left left) rows least bytes failed c rest r = absurd (not_both (shape_at least bytes) (c.shape, r.spelled.blocks ++ rest) left (shape_read rows least bytes c rest r) failed)
+pub no_shape : (e : Stop) (rows least more : ℕ) (bytes : List ℕ) → Fails e (shape_at least more bytes) → (c : HeldColumn) (rest : List ℕ) → ReadsOne rows least bytes c rest → c.shape.id + more < 2 ^ 16 → e ≡ stops.Memory
+no_shape stops.Memory rows least more bytes failed c rest r room = refl
+no_shape (stops.Left left) rows least more bytes failed c rest r room = absurd (not_both (shape_at least more bytes) (c.shape, r.spelled.blocks ++ rest) left (shape_read rows least more bytes c rest r room) failed)
 
-pub no_blocks : (e : Stop) (rows least : ℕ) (bytes : List ℕ) (shape : ColumnShape) (behind : List ℕ) → shape_at least bytes ≡ Ok (shape, behind) → Stops (IsRefusedAt (form_of shape) rows behind) e → Stops (IsOneFault rows least bytes) e
-no_blocks stops.Memory rows least bytes shape behind read why = tt
-no_blocks (stops.Left left) rows least bytes shape behind read why = in_blocks shape behind read why
+pub no_blocks : (e : Stop) (rows least more : ℕ) (bytes : List ℕ) (shape : ColumnShape) (behind : List ℕ) → shape_at least more bytes ≡ Ok (shape, behind) → Stops (IsRefusedAt (form_of shape) rows behind) e → Stops (IsOneFault rows least more bytes) e
+no_blocks stops.Memory rows least more bytes shape behind read why = tt
+no_blocks (stops.Left left) rows least more bytes shape behind read why = in_blocks shape behind read why
 
 pub same_shape : (r : Read) (s t : ColumnShape) (a b : List ℕ) → r ≡ Ok (s, a) → r ≡ Ok (t, b) → (s ≡ t) × (a ≡ b)
 same_shape r s t a b p q =
     let e = ok_is (s, a) (t, b) (sym p ∙ q) in
     (ap (λ (x : ColumnShape × List ℕ). x.0) e, ap (λ (x : ColumnShape × List ℕ). x.1) e)
 
-pub one_found : (rows least : ℕ) (bytes : List ℕ) (shape : ColumnShape) (behind : List ℕ) (column : ColumnValue) (used : ℕ) → IsBytes bytes → shape_at least bytes ≡ Ok (shape, behind)
+pub one_found : (rows least more : ℕ) (bytes : List ℕ) (shape : ColumnShape) (behind : List ℕ) (column : ColumnValue) (used : ℕ) → IsBytes bytes → shape_at least more bytes ≡ Ok (shape, behind)
     → column.form ≡ form_of shape → IsColumnFound (form_of shape) rows behind column.cells used → ReadsOne rows least bytes (record { shape = shape; column = column }) (drop used behind)
-one_found rows least bytes shape behind column used fits read form found =
-    let t = shape_takes least bytes (shape, behind) fits read in
+one_found rows least more bytes shape behind column used fits read form found =
+    let t = shape_takes least more bytes (shape, behind) fits read in
     let blocks : List ℕ = take used behind in
     let front : List ℕ = shape_bytes shape ++ blocks in
     let regrouped : shape_bytes shape ++ behind ≡ front ++ drop used behind = ap (λ (x : List ℕ). shape_bytes shape ++ x) (sym (take-append-drop used behind)) ∙ sym (append_assoc (shape_bytes shape) blocks (drop used behind)) in
     record {
       is = record { form = form; count = found.counted; cells = column_holds (form_of shape) column.cells blocks found.spelled };
       above = t.fits.above;
-      fit = t.fits.fit;
+      fit = omega (arith, t.fits.room);
       front = front;
       spelled = record { blocks = blocks; spelled = subst (λ (f : Form). SpellsColumn f column.cells blocks) (sym form) found.spelled; parts = refl };
       parts = t.parts ∙ regrouped;
     }
+
+pub id_room : (least more : ℕ) (bytes : List ℕ) (shape : ColumnShape) (behind : List ℕ) → IsBytes bytes → shape_at least more bytes ≡ Ok (shape, behind) → shape.id + more < 2 ^ 16
+id_room least more bytes shape behind fits read = (shape_takes least more bytes (shape, behind) fits read).fits.room
 
 -- what the column's decoder says of each spelling
 abbrev pub OnlyColumn : Form → ℕ → List ℕ → ColumnValue → ℕ → Type 0
@@ -75,19 +78,19 @@ held_is shape column c e is form =
 spelled_as : (shape : ColumnShape) (c : HeldColumn) (blocks : List ℕ) → shape ≡ c.shape → c.column.form ≡ form_of c.shape → SpellsColumn c.column.form c.column.cells blocks → SpellsColumn (form_of shape) c.column.cells blocks
 spelled_as shape c blocks e form spelled = subst (λ (f : Form). SpellsColumn f c.column.cells blocks) (form ∙ ap form_of (sym e)) spelled
 
-pub one_only : (rows least : ℕ) (bytes : List ℕ) (shape : ColumnShape) (behind : List ℕ) (column : ColumnValue) (used : ℕ) → shape_at least bytes ≡ Ok (shape, behind) → OnlyColumn (form_of shape) rows behind column used
-    → (c : HeldColumn) (rest : List ℕ) → ReadsOne rows least bytes c rest → (record { shape = shape; column = column } ≡ c) × (drop used behind ≡ rest)
-one_only rows least bytes shape behind column used read only c rest r =
+pub one_only : (rows least more : ℕ) (bytes : List ℕ) (shape : ColumnShape) (behind : List ℕ) (column : ColumnValue) (used : ℕ) → shape_at least more bytes ≡ Ok (shape, behind) → OnlyColumn (form_of shape) rows behind column used
+    → (c : HeldColumn) (rest : List ℕ) → ReadsOne rows least bytes c rest → c.shape.id + more < 2 ^ 16 → (record { shape = shape; column = column } ≡ c) × (drop used behind ≡ rest)
+one_only rows least more bytes shape behind column used read only c rest r room =
     let blocks = r.spelled.blocks in
-    let e = same_shape (shape_at least bytes) shape c.shape behind (blocks ++ rest) read (shape_read rows least bytes c rest r) in
+    let e = same_shape (shape_at least more bytes) shape c.shape behind (blocks ++ rest) read (shape_read rows least more bytes c rest r room) in
     let is = only c.column.cells blocks rest (spelled_as shape c blocks e.0 r.is.form r.spelled.spelled) r.is.count e.1 in
     (held_is shape column c e.0 is.0 r.is.form, ap (λ (k : ℕ). drop k behind) is.1 ∙ ap (λ (x : List ℕ). drop (length blocks) x) e.1 ∙ drop_at blocks rest (length blocks) refl)
 
-pub no_one : (e : Stop) (rows least : ℕ) (bytes : List ℕ) (shape : ColumnShape) (behind : List ℕ) → shape_at least bytes ≡ Ok (shape, behind) → ((cs : List Cell) (front rest : List ℕ) → SpellsColumn (form_of shape) cs front → length cs ≡ rows → behind ≡ front ++ rest → e ≡ stops.Memory)
-    → (c : HeldColumn) (rest : List ℕ) → ReadsOne rows least bytes c rest → e ≡ stops.Memory
-no_one e rows least bytes shape behind read only c rest r =
+pub no_one : (e : Stop) (rows least more : ℕ) (bytes : List ℕ) (shape : ColumnShape) (behind : List ℕ) → shape_at least more bytes ≡ Ok (shape, behind) → ((cs : List Cell) (front rest : List ℕ) → SpellsColumn (form_of shape) cs front → length cs ≡ rows → behind ≡ front ++ rest → e ≡ stops.Memory)
+    → (c : HeldColumn) (rest : List ℕ) → ReadsOne rows least bytes c rest → c.shape.id + more < 2 ^ 16 → e ≡ stops.Memory
+no_one e rows least more bytes shape behind read only c rest r room =
     let blocks = r.spelled.blocks in
-    let s = same_shape (shape_at least bytes) shape c.shape behind (blocks ++ rest) read (shape_read rows least bytes c rest r) in
+    let s = same_shape (shape_at least more bytes) shape c.shape behind (blocks ++ rest) read (shape_read rows least more bytes c rest r room) in
     only c.column.cells blocks rest (spelled_as shape c blocks s.0 r.is.form r.spelled.spelled) r.is.count s.1
 
 -- ---- several
@@ -99,11 +102,11 @@ spells_push [] c a b spelled one =
 spells_push (d ∷ cs) c a b spelled one =
     (spelled.0, spelled.1 ++ b, spelled.2, spells_push cs c spelled.1 b spelled.3 one, ap (λ (x : List ℕ). x ++ b) spelled.4 ∙ append_assoc spelled.0 spelled.1 b)
 
-next-push : (schema : List ColumnShape) (least : ℕ) (c : ColumnShape) → next_id least (schema ++ c ∷ []) ≡ c.id + 1
+pub next-push : (schema : List ColumnShape) (least : ℕ) (c : ColumnShape) → next_id least (schema ++ c ∷ []) ≡ c.id + 1
 next-push [] least c = refl
 next-push (d ∷ schema) least c = next-push schema (d.id + 1) c
 
-rise-push : (schema : List ColumnShape) (least : ℕ) (c : ColumnShape) → IdsRise least schema → next_id least schema ≤ c.id → IdsRise least (schema ++ c ∷ [])
+pub rise-push : (schema : List ColumnShape) (least : ℕ) (c : ColumnShape) → IdsRise least schema → next_id least schema ≤ c.id → IdsRise least (schema ++ c ∷ [])
 rise-push [] least c rise le = (le, tt)
 rise-push (d ∷ schema) least c rise le = (rise.0, rise-push schema (d.id + 1) c rise.1 le)
 
@@ -111,7 +114,23 @@ rise_after : (schema more : List ColumnShape) (least : ℕ) (c : ColumnShape) �
 rise_after [] more least c rise = rise.0
 rise_after (d ∷ schema) more least c rise = rise_after schema more (d.id + 1) c rise.1
 
-shapes-append : (cs ds : List HeldColumn) → shapes_of (cs ++ ds) ≡ shapes_of cs ++ shapes_of ds
+-- ids that rise leave none of those behind them without one
+pub tail_past : (more : List ColumnShape) (id : ℕ) → IdsRise (id + 1) more → id + length more < next_id (id + 1) more
+tail_past [] id rise = omega arith
+tail_past (d ∷ more) id rise = omega (arith, rise.0, tail_past more d.id rise.1)
+
+next_past : (schema more : List ColumnShape) (least : ℕ) (c : ColumnShape) → IdsRise least (schema ++ c ∷ more) → c.id + length more < next_id least (schema ++ c ∷ more)
+next_past [] more least c rise = tail_past more c.id rise.1
+next_past (d ∷ schema) more least c rise = next_past schema more (d.id + 1) c rise.1
+
+pub next_below : (schema : List ColumnShape) (least : ℕ) → least ≤ 2 ^ 16 → HaveIds schema → next_id least schema ≤ 2 ^ 16
+next_below [] least le fit = le
+next_below (c ∷ schema) least le fit =
+    let S : ColumnShape → Type 0 = λ s. s.id < 2 ^ 16 in
+    let head : S c = All-head S c schema fit in
+    next_below schema (c.id + 1) (omega (arith, head)) (All-tail S c schema fit)
+
+pub shapes-append : (cs ds : List HeldColumn) → shapes_of (cs ++ ds) ≡ shapes_of cs ++ shapes_of ds
 shapes-append [] ds = refl
 shapes-append (c ∷ cs) ds = ap (λ (xs : List ColumnShape). c.shape ∷ xs) (shapes-append cs ds)
 
@@ -162,6 +181,7 @@ pub record Next (rows : ℕ) (cs : List HeldColumn) (rest : List ℕ) (all : Lis
   pub behind : List ℕ
   pub one : ReadsOne rows (next_id 0 (shapes_of cs)) rest c behind
   pub left : Remains (cs ++ c ∷ []) behind all last
+  pub room : c.shape.id + (length all - length cs) ≤ next_id 0 (shapes_of all)
 
 next_by : (rows : ℕ) (cs more : List HeldColumn) (rest : List ℕ) (all : List HeldColumn) (last after : List ℕ) → AreColumns rows all → all ≡ cs ++ more → SpellsEach more after → rest ≡ after ++ last → length cs < length all → Next rows cs rest all last
 next_by rows cs [] rest all last after are list spelled parts lt = absurd (omega (arith, lt, ap length list, length-append cs []))
@@ -184,6 +204,9 @@ next_by rows cs (c ∷ more) rest all last after are list spelled parts lt =
         parts = parts ∙ ap (λ (x : List ℕ). x ++ last) spelled.4 ∙ append_assoc spelled.0 spelled.1 last;
       };
       left = record { more = more; list = list ∙ sym (append_assoc cs (c ∷ []) more); after = spelled.1; spelled = spelled.3; parts = refl };
+      room =
+          let past = next_past (shapes_of cs) (shapes_of more) 0 c.shape (subst (IdsRise 0) shapes are.shapes.rise) in
+          omega (arith, past, ap (next_id 0) shapes, ap length list, length-append cs (c ∷ more), length-map more shape);
     }
 
 pub next_of : (rows n : ℕ) (bytes : List ℕ) (cs : List HeldColumn) (rest : List ℕ) (all : List HeldColumn) (last : List ℕ) → ReadsEach rows n bytes all last → Remains cs rest all last → length cs < n → Next rows cs rest all last
@@ -196,24 +219,43 @@ done_by cs (c ∷ more) all rest last after len list spelled parts = absurd (ome
 pub each_done : (rows n : ℕ) (bytes : List ℕ) (cs : List HeldColumn) (rest : List ℕ) (all : List HeldColumn) (last : List ℕ) → length cs ≡ n → ReadsEach rows n bytes all last → Remains cs rest all last → (cs ≡ all) × (rest ≡ last)
 each_done rows n bytes cs rest all last len r left = done_by cs left.more all rest last left.after (omega (arith, len, r.count)) left.list left.spelled left.parts
 
-pub each_stop : (e : Stop) (rows n i : ℕ) (bytes : List ℕ) (cs : List HeldColumn) (rest : List ℕ) (least : ℕ) → i < n → ReadsEach rows i bytes cs rest → least ≡ next_id 0 (shapes_of cs) → Stops (IsOneFault rows least rest) e → Stops (IsEachFault rows n bytes) e
-each_stop stops.Memory rows n i bytes cs rest least lt r is why = tt
-each_stop (stops.Left left) rows n i bytes cs rest least lt r is why = record { stand = i; more = lt; columns = cs; rest = rest; read = r; next = subst (λ (k : ℕ). IsOneFault rows k rest left) is why }
+-- so many columns stand
+pub own_count : (rows n : ℕ) (bytes : List ℕ) (cs : List HeldColumn) (rest : List ℕ) → ReadsEach rows n bytes cs rest → ReadsEach rows (length cs) bytes cs rest
+own_count rows n bytes cs rest r = record { are = r.are; count = refl; front = r.front; spelled = r.spelled; parts = r.parts }
+
+-- all columns leave ids for no other
+pub room_all : (rows n : ℕ) (bytes : List ℕ) (cs : List HeldColumn) (rest : List ℕ) → ReadsEach rows n bytes cs rest → next_id 0 (shapes_of cs) + (n - length cs) ≤ 2 ^ 16
+room_all rows n bytes cs rest r = omega (arith, next_below (shapes_of cs) 0 (omega arith) r.are.shapes.fit, r.count)
+
+-- room for the columns behind one more
+pub room_more : (n i : ℕ) (cs : List HeldColumn) (c : HeldColumn) (more : ℕ) → i < n → more ≡ n - i - 1 → c.shape.id + more < 2 ^ 16 → next_id 0 (shapes_of (cs ++ c ∷ [])) + (n - (i + 1)) ≤ 2 ^ 16
+room_more n i cs c more lt is room = omega (arith, is, room, lt, next_more cs c)
+
+pub each_stop : (e : Stop) (rows n i : ℕ) (bytes : List ℕ) (cs : List HeldColumn) (rest : List ℕ) (least more : ℕ) → i < n → ReadsEach rows i bytes cs rest → next_id 0 (shapes_of cs) + (n - i) ≤ 2 ^ 16 → least ≡ next_id 0 (shapes_of cs) → more ≡ n - i - 1 → Stops (IsOneFault rows least more rest) e → Stops (IsEachFault rows n bytes) e
+each_stop stops.Memory rows n i bytes cs rest least more lt r room is left_over why = tt
+each_stop (stops.Left left) rows n i bytes cs rest least more lt r room is left_over why =
+    let same : more ≡ n - length cs - 1 = omega (arith, left_over, r.count) in
+    record {
+      columns = cs;
+      rest = rest;
+      stand = record { read = own_count rows i bytes cs rest r; some = omega (arith, r.count, lt); room = omega (arith, r.count, room) };
+      next = subst (λ (k : ℕ). IsOneFault rows k (n - length cs - 1) rest left) is (subst (λ (m : ℕ). IsOneFault rows least m rest left) same why);
+    }
 
 -- what the next column's decoder says of each reading
-pub no_next : (e : Stop) (rows n i : ℕ) (bytes : List ℕ) (cs : List HeldColumn) (rest : List ℕ) (least : ℕ) → i < n → ReadsEach rows i bytes cs rest → least ≡ next_id 0 (shapes_of cs)
-    → ((c : HeldColumn) (behind : List ℕ) → ReadsOne rows least rest c behind → e ≡ stops.Memory)
+pub no_next : (e : Stop) (rows n i : ℕ) (bytes : List ℕ) (cs : List HeldColumn) (rest : List ℕ) (least more : ℕ) → i < n → ReadsEach rows i bytes cs rest → least ≡ next_id 0 (shapes_of cs) → more ≡ n - i - 1
+    → ((c : HeldColumn) (behind : List ℕ) → ReadsOne rows least rest c behind → c.shape.id + more < 2 ^ 16 → e ≡ stops.Memory)
     → (all : List HeldColumn) (last : List ℕ) → ReadsEach rows n bytes all last → Remains cs rest all last → e ≡ stops.Memory
-no_next e rows n i bytes cs rest least lt r is only all last q left =
+no_next e rows n i bytes cs rest least more lt r is left_over only all last q left =
     let next = next_of rows n bytes cs rest all last q left (omega (arith, lt, r.count)) in
-    only next.c next.behind (subst (λ (k : ℕ). ReadsOne rows k rest next.c next.behind) (sym is) next.one)
+    only next.c next.behind (subst (λ (k : ℕ). ReadsOne rows k rest next.c next.behind) (sym is) next.one) (omega (arith, lt, left_over, r.count, q.count, next.room, room_all rows n bytes all last q))
 
-pub remains_more : (rows n i : ℕ) (bytes : List ℕ) (cs : List HeldColumn) (rest : List ℕ) (least : ℕ) (c : HeldColumn) (after : List ℕ) → i < n → ReadsEach rows i bytes cs rest → least ≡ next_id 0 (shapes_of cs)
-    → ((d : HeldColumn) (behind : List ℕ) → ReadsOne rows least rest d behind → (c ≡ d) × (after ≡ behind))
+pub remains_more : (rows n i : ℕ) (bytes : List ℕ) (cs : List HeldColumn) (rest : List ℕ) (least more : ℕ) (c : HeldColumn) (after : List ℕ) → i < n → ReadsEach rows i bytes cs rest → least ≡ next_id 0 (shapes_of cs) → more ≡ n - i - 1
+    → ((d : HeldColumn) (behind : List ℕ) → ReadsOne rows least rest d behind → d.shape.id + more < 2 ^ 16 → (c ≡ d) × (after ≡ behind))
     → (all : List HeldColumn) (last : List ℕ) → ReadsEach rows n bytes all last → Remains cs rest all last → Remains (cs ++ c ∷ []) after all last
-remains_more rows n i bytes cs rest least c after lt r is only all last q left =
+remains_more rows n i bytes cs rest least more c after lt r is left_over only all last q left =
     let next = next_of rows n bytes cs rest all last q left (omega (arith, lt, r.count)) in
-    let same = only next.c next.behind (subst (λ (k : ℕ). ReadsOne rows k rest next.c next.behind) (sym is) next.one) in
+    let same = only next.c next.behind (subst (λ (k : ℕ). ReadsOne rows k rest next.c next.behind) (sym is) next.one) (omega (arith, lt, left_over, r.count, q.count, next.room, room_all rows n bytes all last q)) in
     let P : HeldColumn → Type 0 = λ d. Remains (cs ++ d ∷ []) next.behind all last in
     let Q : List ℕ → Type 0 = λ b. Remains (cs ++ c ∷ []) b all last in
     subst Q (sym same.1) (subst P (sym same.0) next.left)

@@ -7,3 +7,5 @@ pub mod Found
 pub mod Whole
 pub mod Once
 pub mod OnePlace
+pub mod FrontParts
+pub mod FrontFaults

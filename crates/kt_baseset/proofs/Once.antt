@@ -66,7 +66,7 @@ held_same c d p q r = ap (λ (s : ColumnShape). let h : HeldColumn = record { sh
 -- a column at the front of some bytes is the only one there
 pub one_same : (rows least : ℕ) (bytes : List ℕ) (c d : HeldColumn) (rest rest' : List ℕ) → ReadsOne rows least bytes c rest → ReadsOne rows least bytes d rest' → (c ≡ d) × (rest ≡ rest')
 one_same rows least bytes c d rest rest' p q =
-    let e = same_shape (shape_at least bytes) c.shape d.shape (p.spelled.blocks ++ rest) (q.spelled.blocks ++ rest') (shape_read rows least bytes c rest p) (shape_read rows least bytes d rest' q) in
+    let e = same_shape (shape_at least 0 bytes) c.shape d.shape (p.spelled.blocks ++ rest) (q.spelled.blocks ++ rest') (shape_read rows least 0 bytes c rest p (omega (arith, p.fit))) (shape_read rows least 0 bytes d rest' q (omega (arith, q.fit))) in
     let form : d.column.form ≡ form_of c.shape = q.is.form ∙ ap form_of (sym e.0) in
     let a = spelled_as c (form_of c.shape) p.spelled.blocks p.is.form p.spelled.spelled in
     let b = spelled_as d (form_of c.shape) q.spelled.blocks form q.spelled.spelled in

@@ -18,26 +18,26 @@ use Rattle.kt_baseset.specs.declared.held.HeldColumn.{HeldColumn}
 use Rattle.kt_baseset.specs.Rows.{keys_in, form_of}
 use Rattle.kt_baseset.specs.Tables.{shapes_of, key_cells}
 use Rattle.kt_baseset.specs.Spelling.{SpellsEach, SpellsBase, lookup_bytes}
-use Rattle.kt_baseset.specs.Reading.{rows_at, shape_at, next_id, ReadsKeys, ReadsOne, ReadsEach, ReadsColumns, IsRefusedAt, AreRefusedAt, IsKeysFault, in_rows, in_keys, IsOneFault, in_shape, in_blocks, IsEachFault, IsColumnsFault, in_count, in_each, IsLookupFault, in_field, behind, IsFault, of_keys, of_columns, of_lookup}
+use Rattle.kt_baseset.specs.Reading.{rows_at, shape_at, next_id, ReadsKeys, ReadsOne, ReadsEach, ReadsSome, ReadsColumns, IsRefusedAt, AreRefusedAt, IsKeysFault, in_rows, in_keys, IsOneFault, in_shape, in_blocks, IsEachFault, IsColumnsFault, in_count, in_each, IsLookupFault, in_field, behind, IsFault, of_keys, of_columns, of_lookup}
 use Rattle.kt_baseset.proofs.Shapes.{rows_take, shape_takes}
 use Rattle.kt_baseset.proofs.Fronts.{rows_read, same_read, rising_keys}
-use Rattle.kt_baseset.proofs.Each.{shape_read, same_shape, count_read, same_count, columns_each, Remains, next_of}
+use Rattle.kt_baseset.proofs.Each.{shape_read, same_shape, count_read, same_count, columns_each, Remains, Next, next_of, own_count, room_all}
 use Rattle.kt_baseset.proofs.Once.{Row, tail_row, head_one, one_same, each_same, keys_same, spelled_as}
 use Rattle.kt_baseset.proofs.Whole.{keys_read, columns_read}
 
 -- what was read was not refused, and is refused in one way
-never : {X : Type 0} (r : Result X ℕ) (x : X) (left : ℕ) → r ≡ Ok x → r ≡ Err left → ⊥
+pub never : {X : Type 0} (r : Result X ℕ) (x : X) (left : ℕ) → r ≡ Ok x → r ≡ Err left → ⊥
 never r x left p q = absurd cc
 
-same_err : {X : Type 0} (r : Result X ℕ) (a b : ℕ) → r ≡ Err a → r ≡ Err b → a ≡ b
+pub same_err : {X : Type 0} (r : Result X ℕ) (a b : ℕ) → r ≡ Err a → r ≡ Err b → a ≡ b
 same_err r a b p q = cc
 
-behind_bytes : (xs ys bytes : List ℕ) → bytes ≡ xs ++ ys → IsBytes bytes → IsBytes ys
+pub behind_bytes : (xs ys bytes : List ℕ) → bytes ≡ xs ++ ys → IsBytes bytes → IsBytes ys
 behind_bytes xs ys bytes e h = subst IsBytes (ap (drop (length xs)) e ∙ drop_at xs ys (length xs) refl) (IsBytes-drop (length xs) bytes h)
 
 -- ---- keys
 
-keys_once : (bytes : List ℕ) (a b : ℕ) → IsBytes bytes → IsKeysFault bytes a → IsKeysFault bytes b → a ≡ b
+pub keys_once : (bytes : List ℕ) (a b : ℕ) → IsBytes bytes → IsKeysFault bytes a → IsKeysFault bytes b → a ≡ b
 keys_once bytes a b fits (in_rows p) (in_rows q) = same_err (rows_at bytes) a b p q
 keys_once bytes a b fits (in_rows p) (in_keys n rest q g) = absurd (never (rows_at bytes) (n, rest) a q p)
 keys_once bytes a b fits (in_keys n rest p f) (in_rows q) = absurd (never (rows_at bytes) (n, rest) b p q)
@@ -47,7 +47,7 @@ keys_once bytes a b fits (in_keys n rest p f) (in_keys m others q g) =
     let at : f.at ≡ h.at = rising_once_refused n rest f.at h.at (rows_take bytes n rest fits p).rest_fits f.why h.why in
     f.place ∙ (ap (λ k. length rest - k) at ∙ sym h.place)
 
-no_keys : (bytes : List ℕ) (a : ℕ) (keys : List (List ℕ)) (rest : List ℕ) → IsBytes bytes → IsKeysFault bytes a → ReadsKeys bytes keys rest → ⊥
+pub no_keys : (bytes : List ℕ) (a : ℕ) (keys : List (List ℕ)) (rest : List ℕ) → IsBytes bytes → IsKeysFault bytes a → ReadsKeys bytes keys rest → ⊥
 no_keys bytes a keys rest fits (in_rows p) r = never (rows_at bytes) (length keys, r.spelled.blocks ++ rest) a (rows_read bytes keys rest r) p
 no_keys bytes a keys rest fits (in_keys n others p f) r =
     let e = same_read (rows_at bytes) n (length keys) others (r.spelled.blocks ++ rest) p (rows_read bytes keys rest r) in
@@ -55,22 +55,22 @@ no_keys bytes a keys rest fits (in_keys n others p f) r =
 
 -- ---- a column
 
-one_once : (rows least : ℕ) (bytes : List ℕ) (a b : ℕ) → IsBytes bytes → IsOneFault rows least bytes a → IsOneFault rows least bytes b → a ≡ b
-one_once rows least bytes a b fits (in_shape p) (in_shape q) = same_err (shape_at least bytes) a b p q
-one_once rows least bytes a b fits (in_shape p) (in_blocks s rest q g) = absurd (never (shape_at least bytes) (s, rest) a q p)
-one_once rows least bytes a b fits (in_blocks s rest p f) (in_shape q) = absurd (never (shape_at least bytes) (s, rest) b p q)
-one_once rows least bytes a b fits (in_blocks s rest p f) (in_blocks t others q g) =
-    let e = same_shape (shape_at least bytes) s t rest others p q in
+pub one_once : (rows least more : ℕ) (bytes : List ℕ) (a b : ℕ) → IsBytes bytes → IsOneFault rows least more bytes a → IsOneFault rows least more bytes b → a ≡ b
+one_once rows least more bytes a b fits (in_shape p) (in_shape q) = same_err (shape_at least more bytes) a b p q
+one_once rows least more bytes a b fits (in_shape p) (in_blocks s rest q g) = absurd (never (shape_at least more bytes) (s, rest) a q p)
+one_once rows least more bytes a b fits (in_blocks s rest p f) (in_shape q) = absurd (never (shape_at least more bytes) (s, rest) b p q)
+one_once rows least more bytes a b fits (in_blocks s rest p f) (in_blocks t others q g) =
+    let e = same_shape (shape_at least more bytes) s t rest others p q in
     let h : IsRefusedAt (form_of s) rows rest b = subst (λ (u : ColumnShape). IsRefusedAt (form_of u) rows rest b) (sym e.0) (subst (λ (r : List ℕ). IsRefusedAt (form_of t) rows r b) (sym e.1) g) in
-    let at : f.at ≡ h.at = column_once_refused (form_of s) rows rest f.at h.at (shape_takes least bytes (s, rest) fits p).rest_fits f.why h.why in
+    let at : f.at ≡ h.at = column_once_refused (form_of s) rows rest f.at h.at (shape_takes least more bytes (s, rest) fits p).rest_fits f.why h.why in
     f.place ∙ (ap (λ k. length rest - k) at ∙ sym h.place)
 
-no_one : (rows least : ℕ) (bytes : List ℕ) (a : ℕ) (c : HeldColumn) (rest : List ℕ) → IsBytes bytes → IsOneFault rows least bytes a → ReadsOne rows least bytes c rest → ⊥
-no_one rows least bytes a c rest fits (in_shape p) r = never (shape_at least bytes) (c.shape, r.spelled.blocks ++ rest) a (shape_read rows least bytes c rest r) p
-no_one rows least bytes a c rest fits (in_blocks s others p f) r =
-    let e = same_shape (shape_at least bytes) s c.shape others (r.spelled.blocks ++ rest) p (shape_read rows least bytes c rest r) in
+no_one : (rows least more : ℕ) (bytes : List ℕ) (a : ℕ) (c : HeldColumn) (rest : List ℕ) → IsBytes bytes → IsOneFault rows least more bytes a → ReadsOne rows least bytes c rest → c.shape.id + more < 2 ^ 16 → ⊥
+no_one rows least more bytes a c rest fits (in_shape p) r room = never (shape_at least more bytes) (c.shape, r.spelled.blocks ++ rest) a (shape_read rows least more bytes c rest r room) p
+no_one rows least more bytes a c rest fits (in_blocks s others p f) r room =
+    let e = same_shape (shape_at least more bytes) s c.shape others (r.spelled.blocks ++ rest) p (shape_read rows least more bytes c rest r room) in
     let form : c.column.form ≡ form_of s = r.is.form ∙ ap form_of (sym e.0) in
-    refused_column (form_of s) rows others f.at c.column.cells r.spelled.blocks rest (shape_takes least bytes (s, others) fits p).rest_fits f.why (spelled_as c (form_of s) r.spelled.blocks form r.spelled.spelled) r.is.count e.1
+    refused_column (form_of s) rows others f.at c.column.cells r.spelled.blocks rest (shape_takes least more bytes (s, others) fits p).rest_fits f.why (spelled_as c (form_of s) r.spelled.blocks form r.spelled.spelled) r.is.count e.1
 
 -- ---- columns
 
@@ -93,23 +93,35 @@ ahead rows least (c ∷ cs) (d ∷ ds) a b r s x y p q le e =
 row_of : (rows n : ℕ) (bytes : List ℕ) (cs : List HeldColumn) (rest : List ℕ) → ReadsEach rows n bytes cs rest → Row rows 0 cs
 row_of rows n bytes cs rest r = record { rise = r.are.shapes.rise; fit = r.are.shapes.fit; each = r.are.each }
 
+-- behind fewer columns stands the next of more
+pub next_ahead : (rows : ℕ) (bytes : List ℕ) (cs ds : List HeldColumn) (rest last : List ℕ) → length cs < length ds → ReadsEach rows (length cs) bytes cs rest → ReadsEach rows (length ds) bytes ds last → Next rows cs rest ds last
+next_ahead rows bytes cs ds rest last lt p q =
+    let left = ahead rows 0 cs ds p.front q.front rest last (row_of rows (length cs) bytes cs rest p) (row_of rows (length ds) bytes ds last q) p.spelled q.spelled (omega (arith, lt)) (sym p.parts ∙ q.parts) in
+    next_of rows (length ds) bytes cs rest ds last q left lt
+
+-- as many columns are the same
+pub some_same : (rows n : ℕ) (bytes : List ℕ) (cs ds : List HeldColumn) (rest last : List ℕ) → ReadsSome rows n bytes cs rest → ReadsSome rows n bytes ds last → length cs ≡ length ds → (cs ≡ ds) × (rest ≡ last)
+some_same rows n bytes cs ds rest last p q len =
+    each_same rows 0 cs ds p.read.front q.read.front rest last (row_of rows (length cs) bytes cs rest p.read) (row_of rows (length ds) bytes ds last q.read) p.read.spelled q.read.spelled len (sym p.read.parts ∙ q.read.parts)
+
 -- where some columns stand, and the next one is at fault, no more stand
-no_next : (rows n m : ℕ) (bytes : List ℕ) (a : ℕ) (cs ds : List HeldColumn) (rest last : List ℕ) → IsBytes bytes → n < m → ReadsEach rows n bytes cs rest → ReadsEach rows m bytes ds last → IsOneFault rows (next_id 0 (shapes_of cs)) rest a → ⊥
-no_next rows n m bytes a cs ds rest last fits lt p q f =
-    let left = ahead rows 0 cs ds p.front q.front rest last (row_of rows n bytes cs rest p) (row_of rows m bytes ds last q) p.spelled q.spelled (omega (arith, p.count, q.count, lt)) (sym p.parts ∙ q.parts) in
-    let next = next_of rows m bytes cs rest ds last q left (omega (arith, p.count, lt)) in
-    no_one rows (next_id 0 (shapes_of cs)) rest a next.c next.behind (behind_bytes p.front rest bytes p.parts fits) f next.one
+pub no_next : (rows n : ℕ) (bytes : List ℕ) (a : ℕ) (cs ds : List HeldColumn) (rest last : List ℕ) → IsBytes bytes → length cs < length ds → length ds ≤ n → ReadsEach rows (length cs) bytes cs rest → ReadsEach rows (length ds) bytes ds last
+    → next_id 0 (shapes_of ds) + (n - length ds) ≤ 2 ^ 16 → IsOneFault rows (next_id 0 (shapes_of cs)) (n - length cs - 1) rest a → ⊥
+no_next rows n bytes a cs ds rest last fits lt le p q room f =
+    let next = next_ahead rows bytes cs ds rest last lt p q in
+    no_one rows (next_id 0 (shapes_of cs)) (n - length cs - 1) rest a next.c next.behind (behind_bytes p.front rest bytes p.parts fits) f next.one (omega (arith, next.room, room, lt, le))
 
 each_fault_once : (rows n : ℕ) (bytes : List ℕ) (a b : ℕ) → IsBytes bytes → IsEachFault rows n bytes a → IsEachFault rows n bytes b → a ≡ b
 each_fault_once rows n bytes a b fits f g =
-    elim (cases_lt f.stand g.stand) [
-      | inl lt ↦ absurd (no_next rows f.stand g.stand bytes a f.columns g.columns f.rest g.rest fits lt f.read g.read f.next)
-      | inr ge ↦ elim (cases_lt g.stand f.stand) [
-        | inl lt ↦ absurd (no_next rows g.stand f.stand bytes b g.columns f.columns g.rest f.rest fits lt g.read f.read g.next)
+    elim (cases_lt (length f.columns) (length g.columns)) [
+      | inl lt ↦ absurd (no_next rows n bytes a f.columns g.columns f.rest g.rest fits lt (omega (arith, g.stand.some)) f.stand.read g.stand.read g.stand.room f.next)
+      | inr ge ↦ elim (cases_lt (length g.columns) (length f.columns)) [
+        | inl lt ↦ absurd (no_next rows n bytes b g.columns f.columns g.rest f.rest fits lt (omega (arith, f.stand.some)) g.stand.read f.stand.read f.stand.room g.next)
         | inr le ↦
-            let same = each_same rows 0 f.columns g.columns f.read.front g.read.front f.rest g.rest (row_of rows f.stand bytes f.columns f.rest f.read) (row_of rows g.stand bytes g.columns g.rest g.read) f.read.spelled g.read.spelled (omega (arith, f.read.count, g.read.count, ge, le)) (sym f.read.parts ∙ g.read.parts) in
-            let next : IsOneFault rows (next_id 0 (shapes_of g.columns)) g.rest a = subst (λ (cs : List HeldColumn). IsOneFault rows (next_id 0 (shapes_of cs)) g.rest a) same.0 (subst (λ (r : List ℕ). IsOneFault rows (next_id 0 (shapes_of f.columns)) r a) same.1 f.next) in
-            one_once rows (next_id 0 (shapes_of g.columns)) g.rest a b (behind_bytes g.read.front g.rest bytes g.read.parts fits) next g.next
+            let same = some_same rows n bytes f.columns g.columns f.rest g.rest f.stand g.stand (omega (arith, ge, le)) in
+            let moved : IsOneFault rows (next_id 0 (shapes_of g.columns)) (n - length g.columns - 1) f.rest a = subst (λ (cs : List HeldColumn). IsOneFault rows (next_id 0 (shapes_of cs)) (n - length cs - 1) f.rest a) same.0 f.next in
+            let next : IsOneFault rows (next_id 0 (shapes_of g.columns)) (n - length g.columns - 1) g.rest a = subst (λ (r : List ℕ). IsOneFault rows (next_id 0 (shapes_of g.columns)) (n - length g.columns - 1) r a) same.1 moved in
+            one_once rows (next_id 0 (shapes_of g.columns)) (n - length g.columns - 1) g.rest a b (behind_bytes g.stand.read.front g.rest bytes g.stand.read.parts fits) next g.next
       ]
     ]
 
@@ -122,10 +134,11 @@ columns_once rows bytes a b fits (in_each n rest p f) (in_each m others q g) =
     let h : IsEachFault rows n rest b = subst (λ k. IsEachFault rows k rest b) (sym e.0) (subst (λ (r : List ℕ). IsEachFault rows m r b) (sym e.1) g) in
     each_fault_once rows n rest a b (number_took w16 (2 ^ 16) wide16 bytes (n, rest) fits p).rest_fits f h
 
-no_columns : (rows : ℕ) (bytes : List ℕ) (a : ℕ) (cs : List HeldColumn) (last : List ℕ) → IsBytes bytes → IsColumnsFault rows bytes a → ReadsColumns rows bytes cs last → ⊥
+pub no_columns : (rows : ℕ) (bytes : List ℕ) (a : ℕ) (cs : List HeldColumn) (last : List ℕ) → IsBytes bytes → IsColumnsFault rows bytes a → ReadsColumns rows bytes cs last → ⊥
 no_columns rows bytes a cs last fits (in_count p) r = never (number_at w16 bytes) (length cs, r.spelled.each ++ last) a (count_read rows bytes cs last r) p
 no_columns rows bytes a cs last fits (in_each n rest p f) r =
-    no_next rows f.stand n rest a f.columns cs f.rest last (number_took w16 (2 ^ 16) wide16 bytes (n, rest) fits p).rest_fits f.more f.read (columns_each rows bytes n rest p cs last r) f.next
+    let all = columns_each rows bytes n rest p cs last r in
+    no_next rows n rest a f.columns cs f.rest last (number_took w16 (2 ^ 16) wide16 bytes (n, rest) fits p).rest_fits (omega (arith, f.stand.some, all.count)) (omega (arith, all.count)) f.stand.read (own_count rows n rest cs last all) (room_all rows n rest cs last all) f.next
 
 columns_agree : (rows : ℕ) (bytes : List ℕ) (cs ds : List HeldColumn) (last other : List ℕ) → ReadsColumns rows bytes cs last → ReadsColumns rows bytes ds other → last ≡ other
 columns_agree rows bytes cs ds last other p q =
@@ -149,7 +162,7 @@ no_lookup keys bytes a (behind rest is some f) e = omega (arith, some, ap length
 -- ---- the whole file
 
 -- the bytes behind the keys, and behind the columns
-keys_behind : (bytes : List ℕ) (keys : List (List ℕ)) (rest : List ℕ) → IsBytes bytes → ReadsKeys bytes keys rest → IsBytes rest
+pub keys_behind : (bytes : List ℕ) (keys : List (List ℕ)) (rest : List ℕ) → IsBytes bytes → ReadsKeys bytes keys rest → IsBytes rest
 keys_behind bytes keys rest fits r = behind_bytes r.front rest bytes r.parts fits
 
 pub fault_once : (bytes : List ℕ) (a b : ℕ) → IsBytes bytes → IsFault bytes a → IsFault bytes b → a ≡ b

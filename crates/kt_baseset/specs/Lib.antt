@@ -2,4 +2,5 @@ pub mod Rows
 pub mod Tables
 pub mod Spelling
 pub mod Reading
+pub mod Fields
 pub mod Laws

@@ -6,7 +6,7 @@ use Rattle.kt_base.specs.declared.cell.Kind.{Kind}
 use Rattle.kt_base.specs.declared.cell.Kind.TheVariants as kinds
 use Rattle.kt_bytes.specs.declared.fault.Stop.{Stop}
 use Rattle.kt_bytes.specs.declared.fault.Stop.TheVariants as stops
-use Rattle.kt_bytes.specs.Reading.{◌>>=◌, number_at}
+use Rattle.kt_bytes.specs.Reading.{◌>>=◌, number_at, checked_at}
 use Rattle.kt_cells.specs.Reading.{flag_at}
 use Rattle.kt_column.specs.declared.errors.CodecNo.TheVariants as column
 use Rattle.kt_column.specs.declared.form.Form.{Form}
@@ -23,19 +23,21 @@ use Rattle.kt_baseset.specs.Rows.{AreKeys, form_of}
 use Rattle.kt_baseset.specs.Tables.{shapes_of, IsColumn, AreColumns}
 use Rattle.kt_baseset.specs.Spelling.{ktb1, SpellsKeys, SpellsOne, SpellsEach, SpellsColumns, lookup_bytes}
 
--- ---- fields of fixed length: a value and the bytes after it
+-- ---- fields of fixed length: a value and the bytes after it. The fields of a front tell the place of a fault by
+-- themselves; these are the steps that find it.
 
 -- whether a base file may have so many rows
 abbrev pub may_have : ℕ → Bool
 may_have n = nat_le 1 n && nat_le n 3435973836
 
+abbrev pub is_ktb1 : ℕ → Bool
+is_ktb1 word = word == ktb1
+
 -- the letters KTB1, and how many rows there are
 unfoldable pub rows_at : List ℕ → Result (ℕ × List ℕ) ℕ
 rows_at bytes = do
-  word ← number_at w32 bytes
-  if word.0 == ktb1 then (do
-    n ← number_at w32 word.1
-    if may_have n.0 then Ok (n.0, n.1) else Err (length word.1)) else Err (length bytes)
+  word ← checked_at w32 is_ktb1 bytes
+  checked_at w32 may_have word.1
 
 unfoldable pub kind_at : List ℕ → Result (Kind × List ℕ) ℕ
 kind_at [] = Err 0
@@ -49,14 +51,17 @@ kind_at (suc (suc (suc (suc (suc (suc zero))))) ∷ rest) = Ok (kinds.String, re
 kind_at (suc (suc (suc (suc (suc (suc (suc zero)))))) ∷ rest) = Ok (kinds.Binary, rest)
 kind_at (suc (suc (suc (suc (suc (suc (suc (suc b))))))) ∷ rest) = Err (suc (length rest))
 
--- an id that is not below the least one, a kind and whether the column may be null
-unfoldable pub shape_at : ℕ → List ℕ → Result (ColumnShape × List ℕ) ℕ
-shape_at least bytes = do
-  id ← number_at w16 bytes
-  if nat_lt id.0 least then Err (length bytes) else do
-    kind ← kind_at id.1
-    nullable ← flag_at kind.1
-    Ok (record { id = id.0; kind = kind.0; nullable = nullable.0 }, nullable.1)
+-- an id that is not below the least one, and leaves ids for so many columns more
+abbrev pub is_id : ℕ → ℕ → ℕ → Bool
+is_id least more id = nat_le least id && nat_lt (id + more) (2 ^ 16)
+
+-- such an id, a kind and whether the column may be null
+unfoldable pub shape_at : ℕ → ℕ → List ℕ → Result (ColumnShape × List ℕ) ℕ
+shape_at least more bytes = do
+  id ← checked_at w16 (is_id least more) bytes
+  kind ← kind_at id.1
+  nullable ← flag_at kind.1
+  Ok (record { id = id.0; kind = kind.0; nullable = nullable.0 }, nullable.1)
 
 -- ---- what is read: the bytes begin with a spelling, and the rest stands behind it
 
@@ -84,6 +89,17 @@ pub record ReadsEach (rows n : ℕ) (bytes : List ℕ) (columns : List HeldColum
   pub spelled : SpellsEach columns front
   pub parts : bytes ≡ front ++ rest
 
+-- the least id that may follow these columns
+abbrev pub next_id : ℕ → List ColumnShape → ℕ
+next_id least [] = least
+next_id least (c ∷ cs) = next_id (c.id + 1) cs
+
+-- some of n columns, which leave ids for the others
+pub record ReadsSome (rows n : ℕ) (bytes : List ℕ) (columns : List HeldColumn) (rest : List ℕ) : Type 0 where
+  pub read : ReadsEach rows (length columns) bytes columns rest
+  pub some : length columns < n
+  pub room : next_id 0 (shapes_of columns) + (n - length columns) ≤ 2 ^ 16
+
 -- columns behind their count
 pub record ReadsColumns (rows : ℕ) (bytes : List ℕ) (columns : List HeldColumn) (rest : List ℕ) : Type 0 where
   pub are : AreColumns rows columns
@@ -110,24 +126,17 @@ pub data IsKeysFault (bytes : List ℕ) (left : ℕ) : Type 0 where
   in_rows : rows_at bytes ≡ Err left → IsKeysFault bytes left
   in_keys : (n : ℕ) (rest : List ℕ) → rows_at bytes ≡ Ok (n, rest) → AreRefusedAt n rest left → IsKeysFault bytes left
 
--- the least id that may follow these columns
-abbrev pub next_id : ℕ → List ColumnShape → ℕ
-next_id least [] = least
-next_id least (c ∷ cs) = next_id (c.id + 1) cs
-
--- of a column: what it is, or its blocks
-pub data IsOneFault (rows least : ℕ) (bytes : List ℕ) (left : ℕ) : Type 0 where
-  in_shape : shape_at least bytes ≡ Err left → IsOneFault rows least bytes left
-  in_blocks : (shape : ColumnShape) (rest : List ℕ) → shape_at least bytes ≡ Ok (shape, rest) → IsRefusedAt (form_of shape) rows rest left → IsOneFault rows least bytes left
+-- of a column with so many behind it: what it is, or its blocks
+pub data IsOneFault (rows least more : ℕ) (bytes : List ℕ) (left : ℕ) : Type 0 where
+  in_shape : shape_at least more bytes ≡ Err left → IsOneFault rows least more bytes left
+  in_blocks : (shape : ColumnShape) (rest : List ℕ) → shape_at least more bytes ≡ Ok (shape, rest) → IsRefusedAt (form_of shape) rows rest left → IsOneFault rows least more bytes left
 
 -- of columns: some stand, and behind them the next one is at fault
 pub record IsEachFault (rows n : ℕ) (bytes : List ℕ) (left : ℕ) : Type 0 where
-  pub stand : ℕ
-  pub more : stand < n
   pub columns : List HeldColumn
   pub rest : List ℕ
-  pub read : ReadsEach rows stand bytes columns rest
-  pub next : IsOneFault rows (next_id 0 (shapes_of columns)) rest left
+  pub stand : ReadsSome rows n bytes columns rest
+  pub next : IsOneFault rows (next_id 0 (shapes_of columns)) (n - length columns - 1) rest left
 
 -- of the columns behind their count
 pub data IsColumnsFault (rows : ℕ) (bytes : List ℕ) (left : ℕ) : Type 0 where

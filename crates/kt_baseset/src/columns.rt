@@ -1,5 +1,5 @@
 //! The columns of a base file that are not the key's: made of rows, and read.
-ghost use Rattle.std.specs.Prelude.{◌≡◌, ◌<◌, ◌^◌, ◌++◌, ℕ, List, All, length, IfOk, IfErr, MatchResult};
+ghost use Rattle.std.specs.Prelude.{◌≡◌, ◌<◌, ◌^◌, ◌+◌, ◌++◌, ℕ, List, All, length, IfOk, IfErr, MatchResult};
 ghost use Rattle.kt_base.specs.declared.cell.Cell.{Cell};
 ghost use Rattle.kt_bytes.specs.declared.fault.Stop.TheVariants as stops;
 ghost use Rattle.kt_column.specs.Blocks.{IsCell};
@@ -90,13 +90,21 @@ fn blocks_at(
     }
 }
 
-/// The column at the front of the bytes, whose id is not below the least one, and what stands behind it.
-fn read_one(alloc: Global, rows: u32, least: u32, bytes: &[u8]) -> Result<(HeldColumn, &[u8]), Stop>
+/// The column at the front of the bytes and what stands behind it. Its id is not below the least one, and leaves ids for
+/// so many columns more.
+fn read_one(
+    alloc: Global,
+    rows: u32,
+    least: u32,
+    more: u16,
+    bytes: &[u8],
+) -> Result<(HeldColumn, &[u8]), Stop>
     ensures found { IfOk result (λ x. ReadsOne rows least bytes.now x.0 x.1.now) }
-    ensures only { (c : HeldColumn) (rest : List ℕ) → ReadsOne rows least bytes.now c rest → MatchResult result (λ x. (x.0 ≡ c) × (x.1.now ≡ rest)) (λ e. e ≡ stops.Memory) }
-    ensures stop { IfErr result (Stops (IsOneFault rows least bytes.now)) }
+    ensures room { IfOk result (λ x. x.0.shape.id + more < 2 ^ 16) }
+    ensures only { (c : HeldColumn) (rest : List ℕ) → ReadsOne rows least bytes.now c rest → c.shape.id + more < 2 ^ 16 → MatchResult result (λ x. (x.0 ≡ c) × (x.1.now ≡ rest)) (λ e. e ≡ stops.Memory) }
+    ensures stop { IfErr result (Stops (IsOneFault rows least more bytes.now)) }
 {
-    let (shape, behind) = match shape_of(least, bytes) {
+    let (shape, behind) = match shape_of(least, more, bytes) {
         Ok(read) => read,
         Err(stop) => return Err(stop),
     };
@@ -120,8 +128,9 @@ fn read_each(
     let mut columns = Vec::new(alloc);
     let mut least = 0;
     let mut rest = bytes;
-    'columns: for _ in 0..n {
-        let (column, behind) = match read_one(alloc, rows, least, rest) {
+    'columns: for i in 0..n {
+        let more = n - i - 1;
+        let (column, behind) = match read_one(alloc, rows, least, more, rest) {
             Ok(read) => read,
             Err(stop) => return Err(stop),
         };

@@ -8,6 +8,7 @@ ghost use Rattle.kt_baseset.specs.Rows.{AreKeys};
 ghost use Rattle.kt_baseset.specs.Tables.{IsLookup};
 ghost use Rattle.kt_baseset.specs.Spelling.{SpellsBase, lookup_bytes};
 ghost use Rattle.kt_baseset.specs.Reading.{IsLookupFault, IsFault, IsRefusal, Stops};
+ghost use Rattle.kt_baseset.specs.Fields.{TellsFront};
 
 use crate::baseset::{BaseSet, lookup_of};
 use crate::columns::read_columns;
@@ -63,6 +64,8 @@ pub fn decode(alloc: Global, bytes: &[u8]) -> Result<BaseSet, CodecNo>
     ensures only { (schema : List ColumnShape) (rows : List KeyedRow) → SpellsBase schema rows bytes.now → MatchResult result (λ set. set ≡ record { schema = schema; rows = rows }) (λ e. e ≡ answers.Memory) }
     // Where the first fault is.
     ensures place { IfErr result (IsRefusal bytes.now) }
+    // In front of the blocks the fields alone tell it.
+    ensures front { IfErr result (TellsFront bytes.now) }
 {
     match read_set(alloc, bytes) {
         Ok(set) => Ok(set),

@@ -2,6 +2,7 @@
 ghost use Rattle.std.specs.Prelude.{◌≡◌, ◌≤◌, drop, length};
 ghost use Rattle.kt_bytes.specs.Reading.{Gives};
 ghost use Rattle.kt_baseset.specs.Spelling.{kind_number};
+ghost use Rattle.kt_baseset.specs.Reading as reading;
 ghost use Rattle.kt_baseset.specs.Reading.{rows_at, kind_at, shape_at};
 
 use crate::schema::ColumnShape;
@@ -50,13 +51,20 @@ fn kind_of(bytes: &[u8]) -> Result<(Kind, &[u8]), Stop>
     }
 }
 
-/// What a column is. Its id is not below the least one.
+/// Whether the id is not below the least one, and leaves ids for so many columns more.
+fn is_id(least: u32, more: u16, id: u16) -> bool
+    ensures { result ≡ reading.is_id least more id }
+{
+    least <= u32::from(id) && u32::from(id) + u32::from(more) < 65_536
+}
+
+/// What a column is that has so many behind it.
 #[tactic(auto, unfolding(crate::specs::Reading::shape_at))]
-pub fn shape_of(least: u32, bytes: &[u8]) -> Result<(ColumnShape, &[u8]), Stop>
-    ensures { Gives (λ x. (x.0, x.1.now)) result (shape_at least bytes.now) }
+pub fn shape_of(least: u32, more: u16, bytes: &[u8]) -> Result<(ColumnShape, &[u8]), Stop>
+    ensures { Gives (λ x. (x.0, x.1.now)) result (shape_at least more bytes.now) }
 {
     let (id, rest) = u16_at(bytes)?;
-    if u32::from(id) < least {
+    if !is_id(least, more, id) {
         return Err(Stop::Left(bytes.len()));
     }
     let (kind, rest) = kind_of(rest)?;
