@@ -211,6 +211,57 @@ fn a_column_of_one_long_text_is_read(rt: HostRuntime) -> Result<(), Fail> {
     Ok(())
 }
 
+/// The file of 8,192 keys and so many columns of the same blocks, up to the filter.
+fn columns_of(alloc: Global, count: u16, kind: [u8; 2], blocks: &[u8]) -> Result<Octets, NoMemory> {
+    let mut bytes = many_keys(alloc, 8192)?;
+    bytes.extend(&count.to_le_bytes())?;
+    for id in 0..count {
+        bytes.extend(&id.to_le_bytes())?;
+        bytes.extend(&kind)?;
+        bytes.extend(blocks)?;
+    }
+    Ok(bytes)
+}
+
+/// 246 KB whose 8,192 columns of one run each stand for half a gigabyte are read up to their end.
+#[test]
+fn columns_of_one_run_are_read(rt: HostRuntime) -> Result<(), Fail> {
+    let run = b"\x02\x0c\0\0\0\0\x20\0\0\x09\0\0\0\0\0\0\0";
+    let bytes = columns_of(rt.alloc(), 8192, [5, 0], run)?;
+    assert_eq!(rt;
+        fault(rt.alloc(), bytes.as_slice()),
+        Some(bytes.len() as u64)
+    );
+    Ok(())
+}
+
+/// 2 MB whose 2,048 columns are null in each row are read up to their end.
+#[test]
+fn columns_of_nulls_are_read(rt: HostRuntime) -> Result<(), Fail> {
+    let mut block = Octets::from_slice(rt.alloc(), &[1, 0, 4, 0, 0])?;
+    for _ in 0..1024u32 {
+        block.push(255)?;
+    }
+    let bytes = columns_of(rt.alloc(), 2048, [2, 1], block.as_slice())?;
+    assert_eq!(rt;
+        fault(rt.alloc(), bytes.as_slice()),
+        Some(bytes.len() as u64)
+    );
+    Ok(())
+}
+
+/// Two columns stand in the file, of which the first has the last id, or the last but one.
+#[test]
+fn an_id_that_leaves_none_behind_it_is_at_fault_itself(rt: HostRuntime) {
+    let mut bytes = TWO;
+    bytes[31] = 2;
+    bytes[33] = 255;
+    bytes[34] = 255;
+    assert_eq!(rt; fault(rt.alloc(), &bytes), Some(33));
+    bytes[33] = 254;
+    assert_eq!(rt; fault(rt.alloc(), &bytes), Some(44));
+}
+
 /// The place of the fault of the file with one byte changed.
 fn fault_with(alloc: Global, place: usize, byte: u8) -> Option<u64> {
     let mut bytes = TWO;

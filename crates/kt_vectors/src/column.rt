@@ -112,84 +112,101 @@ fn texts(alloc: Global, texts: &[&[u8]]) -> Result<Vec<Cell>, Fail> {
 #[test]
 fn numbers_of_each_width(rt: HostRuntime) -> Result<(), Fail> {
     let alloc = rt.alloc();
-    let cells = numbers(alloc, &[5, 5, 7])?;
-    stands(
-        &rt,
-        alloc,
-        Kind::Int8,
-        false,
-        cells,
-        &[1, 3, 0, 0, 0, 5, 5, 7],
-    )?;
-    let cells = repeated(alloc, 100, Some(9))?;
-    let nines: [u8; 17] = [2, 12, 0, 0, 0, 100, 0, 0, 0, 9, 0, 0, 0, 0, 0, 0, 0];
-    stands(&rt, alloc, Kind::Int64, false, cells, &nines)?;
-    let cells = numbers(alloc, &[-128, 127])?;
-    stands(
-        &rt,
-        alloc,
-        Kind::Int8,
-        false,
-        cells,
-        &[1, 2, 0, 0, 0, 128, 127],
-    )?;
-    let cells = numbers(alloc, &[-32768, 32767])?;
-    let bytes: [u8; 9] = [1, 4, 0, 0, 0, 0, 128, 255, 127];
-    stands(&rt, alloc, Kind::Int16, false, cells, &bytes)?;
-    let cells = numbers(alloc, &[-2147483648, 2147483647])?;
-    let bytes: [u8; 13] = [1, 8, 0, 0, 0, 0, 0, 0, 128, 255, 255, 255, 127];
-    stands(&rt, alloc, Kind::Int32, false, cells, &bytes)?;
-    let cells = numbers(alloc, &[1, -1])?;
-    let bytes: [u8; 13] = [1, 8, 0, 0, 0, 1, 0, 0, 0, 255, 255, 255, 255];
-    stands(&rt, alloc, Kind::Int32, false, cells, &bytes)?;
-    let cells = numbers(alloc, &[i64::MIN, i64::MAX])?;
-    let bytes: [u8; 21] = [
-        1, 16, 0, 0, 0, 0, 0, 0, 0, 0, 0, 0, 128, 255, 255, 255, 255, 255, 255, 255, 127,
+    let columns: [(Kind, &[i64], &[u8]); 6] = [
+        (Kind::Int8, &[5, 5, 7], b"\x01\x03\0\0\0\x05\x05\x07"),
+        (Kind::Int8, &[-128, 127], b"\x01\x02\0\0\0\x80\x7f"),
+        (
+            Kind::Int16,
+            &[-32768, 32767],
+            b"\x01\x04\0\0\0\0\x80\xff\x7f",
+        ),
+        (
+            Kind::Int32,
+            &[-2147483648, 2147483647],
+            b"\x01\x08\0\0\0\0\0\0\x80\xff\xff\xff\x7f",
+        ),
+        (
+            Kind::Int32,
+            &[1, -1],
+            b"\x01\x08\0\0\0\x01\0\0\0\xff\xff\xff\xff",
+        ),
+        (
+            Kind::Int64,
+            &[i64::MIN, i64::MAX],
+            b"\x01\x10\0\0\0\0\0\0\0\0\0\0\x80\xff\xff\xff\xff\xff\xff\xff\x7f",
+        ),
     ];
-    stands(&rt, alloc, Kind::Int64, false, cells, &bytes)
+    for (kind, held, bytes) in columns {
+        stands(&rt, alloc, kind, false, numbers(alloc, held)?, bytes)?;
+    }
+    Ok(())
+}
+
+/// The column of so many cells of one number.
+fn repeats(
+    rt: &impl Abort,
+    alloc: Global,
+    kind: Kind,
+    count: u32,
+    number: i64,
+    bytes: &[u8],
+) -> Result<(), Fail> {
+    stands(
+        rt,
+        alloc,
+        kind,
+        false,
+        repeated(alloc, count, Some(number))?,
+        bytes,
+    )
 }
 
 #[test]
-fn encodings_of_one_length(rt: HostRuntime) -> Result<(), Fail> {
+fn runs_of_one_number(rt: HostRuntime) -> Result<(), Fail> {
+    let fives = b"\x02\x05\0\0\0\0\x20\0\0\x05\x01\x01\0\0\0\x05";
+    let columns: [(Kind, u32, i64, &[u8]); 6] = [
+        (
+            Kind::Int64,
+            100,
+            9,
+            b"\x02\x0c\0\0\0\x64\0\0\0\x09\0\0\0\0\0\0\0",
+        ),
+        // Plain values and runs of five bytes, and one cell more.
+        (Kind::Int8, 5, 5, b"\x01\x05\0\0\0\x05\x05\x05\x05\x05"),
+        (Kind::Int8, 6, 5, b"\x02\x05\0\0\0\x06\0\0\0\x05"),
+        // No cell, a full block, and one cell more.
+        (Kind::Int8, 0, 5, b""),
+        (Kind::Int8, 8192, 5, &fives[..10]),
+        (Kind::Int8, 8193, 5, fives),
+    ];
+    for (kind, count, number, bytes) in columns {
+        repeats(&rt, rt.alloc(), kind, count, number, bytes)?;
+    }
+    Ok(())
+}
+
+#[test]
+fn texts_of_each_encoding(rt: HostRuntime) -> Result<(), Fail> {
     let alloc = rt.alloc();
-    let cells = repeated(alloc, 5, Some(5))?;
-    stands(
-        &rt,
-        alloc,
-        Kind::Int8,
-        false,
-        cells,
-        &[1, 5, 0, 0, 0, 5, 5, 5, 5, 5],
-    )?;
-    let cells = repeated(alloc, 6, Some(5))?;
-    stands(
-        &rt,
-        alloc,
-        Kind::Int8,
-        false,
-        cells,
-        &[2, 5, 0, 0, 0, 6, 0, 0, 0, 5],
-    )?;
-    let cells = texts(alloc, &[b"", b"", b""])?;
-    let bytes: [u8; 17] = [1, 12, 0, 0, 0, 0, 0, 0, 0, 0, 0, 0, 0, 0, 0, 0, 0];
-    stands(&rt, alloc, Kind::String, false, cells, &bytes)?;
-    let cells = texts(alloc, &[b"a", b"bc"])?;
-    let bytes: [u8; 16] = [1, 11, 0, 0, 0, 1, 0, 0, 0, 3, 0, 0, 0, 97, 98, 99];
-    stands(&rt, alloc, Kind::String, false, cells, &bytes)?;
-    // A dictionary and prefixes of 35 bytes.
-    let cells = texts(alloc, &[b"aaaaaaaa", b"aaaaaaaa", b"aaaaaaaaaaa"])?;
-    let bytes: [u8; 40] = [
-        3, 35, 0, 0, 0, 2, 0, 8, 0, 0, 0, 97, 97, 97, 97, 97, 97, 97, 97, 11, 0, 0, 0, 97, 97, 97,
-        97, 97, 97, 97, 97, 97, 97, 97, 0, 0, 0, 0, 1, 0,
+    let columns: [(&[&[u8]], &[u8]); 4] = [
+        (&[b"", b"", b""], b"\x01\x0c\0\0\0\0\0\0\0\0\0\0\0\0\0\0\0"),
+        (&[b"a", b"bc"], b"\x01\x0b\0\0\0\x01\0\0\0\x03\0\0\0abc"),
+        // A dictionary and prefixes of 35 bytes.
+        (
+            &[b"aaaaaaaa", b"aaaaaaaa", b"aaaaaaaaaaa"],
+            b"\x03\x23\0\0\0\x02\0\x08\0\0\0aaaaaaaa\x0b\0\0\0aaaaaaaaaaa\0\0\0\0\x01\0",
+        ),
+        // Plain values and prefixes of 41 bytes.
+        (
+            &[b"aaaab", b"aaaab", b"aaaaaaa", b"aaaaaaaa"],
+            b"\x01\x29\0\0\0\x05\0\0\0\x0a\0\0\0\x11\0\0\0\x19\0\0\0aaaabaaaabaaaaaaaaaaaaaaa",
+        ),
     ];
-    stands(&rt, alloc, Kind::String, false, cells, &bytes)?;
-    // Plain values and prefixes of 41 bytes.
-    let cells = texts(alloc, &[b"aaaab", b"aaaab", b"aaaaaaa", b"aaaaaaaa"])?;
-    let bytes: [u8; 46] = [
-        1, 41, 0, 0, 0, 5, 0, 0, 0, 10, 0, 0, 0, 17, 0, 0, 0, 25, 0, 0, 0, 97, 97, 97, 97, 98, 97,
-        97, 97, 97, 98, 97, 97, 97, 97, 97, 97, 97, 97, 97, 97, 97, 97, 97, 97, 97,
-    ];
-    stands(&rt, alloc, Kind::Binary, false, cells, &bytes)
+    for (held, bytes) in columns {
+        stands(&rt, alloc, Kind::Binary, false, texts(alloc, held)?, bytes)?;
+        stands(&rt, alloc, Kind::String, false, texts(alloc, held)?, bytes)?;
+    }
+    Ok(())
 }
 
 /// So many times 255 behind a head, and bytes behind them.
@@ -203,14 +220,8 @@ fn framed(alloc: Global, head: &[u8], count: u32, tail: &[u8]) -> Result<Vec<u8>
 }
 
 #[test]
-fn a_full_block_and_one_cell_more(rt: HostRuntime) -> Result<(), Fail> {
+fn a_full_block_of_nulls_and_one_more(rt: HostRuntime) -> Result<(), Fail> {
     let alloc = rt.alloc();
-    stands(&rt, alloc, Kind::Int8, false, Vec::new(alloc), &[])?;
-    let fives: [u8; 16] = [2, 5, 0, 0, 0, 0, 32, 0, 0, 5, 1, 1, 0, 0, 0, 5];
-    let cells = repeated(alloc, 8192, Some(5))?;
-    stands(&rt, alloc, Kind::Int8, false, cells, &fives[..10])?;
-    let cells = repeated(alloc, 8193, Some(5))?;
-    stands(&rt, alloc, Kind::Int8, false, cells, &fives)?;
     let cells = repeated(alloc, 8193, None)?;
     let bytes = framed(alloc, &[1, 0, 4, 0, 0], 1024, &[1, 1, 0, 0, 0, 1])?;
     stands(&rt, alloc, Kind::Int8, true, cells, &bytes)
@@ -241,21 +252,25 @@ fn refused(alloc: Global, rows: u32, bytes: &[u8], at: u64) -> bool {
 }
 
 #[test]
-fn faults_of_the_second_block(rt: HostRuntime) -> Result<(), Fail> {
-    let alloc = rt.alloc();
-    let fives: [u8; 16] = [2, 5, 0, 0, 0, 0, 32, 0, 0, 5, 1, 1, 0, 0, 0, 5];
-    assert!(rt; refused(alloc, 8193, &fives[..15], 15));
-    assert!(rt; refused(alloc, 8193, &fives[..10], 10));
-    assert!(rt; refused(alloc, 8194, &fives, 16));
-    let other: [u8; 16] = [2, 5, 0, 0, 0, 0, 32, 0, 0, 5, 3, 1, 0, 0, 0, 5];
-    assert!(rt; refused(alloc, 8193, &other, 10));
-    // A run of one cell is longer than the plain cell.
-    let run: [u8; 20] = [2, 5, 0, 0, 0, 0, 32, 0, 0, 5, 2, 5, 0, 0, 0, 1, 0, 0, 0, 5];
-    assert!(rt; refused(alloc, 8193, &run, 10));
-    // All cells in one block.
-    let whole: [u8; 10] = [2, 5, 0, 0, 0, 1, 32, 0, 0, 5];
-    assert!(rt; refused(alloc, 8193, &whole, 5));
-    Ok(())
+fn faults_of_the_second_block(rt: HostRuntime) {
+    let fives = b"\x02\x05\0\0\0\0\x20\0\0\x05\x01\x01\0\0\0\x05";
+    let blocks: [(u32, &[u8], u64); 6] = [
+        (8193, &fives[..15], 15),
+        (8193, &fives[..10], 10),
+        (8194, fives, 16),
+        (8193, b"\x02\x05\0\0\0\0\x20\0\0\x05\x03\x01\0\0\0\x05", 10),
+        // A run of one cell is longer than the plain cell.
+        (
+            8193,
+            b"\x02\x05\0\0\0\0\x20\0\0\x05\x02\x05\0\0\0\x01\0\0\0\x05",
+            10,
+        ),
+        // All cells in one block.
+        (8193, b"\x02\x05\0\0\0\x01\x20\0\0\x05", 5),
+    ];
+    for (rows, bytes, at) in blocks {
+        assert!(rt; refused(rt.alloc(), rows, bytes, at));
+    }
 }
 
 /// So many strings of two bytes, of which the first so many differ.
@@ -296,26 +311,24 @@ fn plain_block(alloc: Global) -> Result<Vec<u8>, AllocError> {
 }
 
 #[test]
+fn strings_that_a_dictionary_holds(rt: HostRuntime) -> Result<(), Fail> {
+    let alloc = rt.alloc();
+    let cells = pairs(alloc, 8192, 4096)?;
+    stands(
+        &rt,
+        alloc,
+        Kind::Binary,
+        false,
+        cells,
+        &dictionary_block(alloc)?,
+    )
+}
+
+#[test]
 fn too_many_strings_for_a_dictionary(rt: HostRuntime) -> Result<(), Fail> {
     let alloc = rt.alloc();
-    let bytes = dictionary_block(alloc)?;
-    stands(
-        &rt,
-        alloc,
-        Kind::Binary,
-        false,
-        pairs(alloc, 8192, 4096)?,
-        &bytes,
-    )?;
-    let bytes = plain_block(alloc)?;
-    stands(
-        &rt,
-        alloc,
-        Kind::Binary,
-        false,
-        pairs(alloc, 8192, 4097)?,
-        &bytes,
-    )
+    let cells = pairs(alloc, 8192, 4097)?;
+    stands(&rt, alloc, Kind::Binary, false, cells, &plain_block(alloc)?)
 }
 
 #[test]

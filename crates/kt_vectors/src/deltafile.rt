@@ -61,21 +61,25 @@ fn fault_at(alloc: Global, place: usize, byte: u8, rows: u32) -> Option<u64> {
 
 #[test]
 fn faults_are_found_at_their_places(rt: HostRuntime) {
-    let alloc = rt.alloc();
-    // The letters, the way and the count.
-    assert_eq!(rt; fault_at(alloc, 3, 0x32, 5), Some(0));
-    assert_eq!(rt; fault_at(alloc, 4, 3, 5), Some(4));
-    assert_eq!(rt; fault_at(alloc, 5, 2, 5), Some(37));
-    assert_eq!(rt; fault_at(alloc, 5, 4, 5), Some(56));
-    // A REDO file has rising timestamps and no insert, an UNDO file falling ones.
-    assert_eq!(rt; fault_at(alloc, 4, 1, 5), Some(26));
-    assert_eq!(rt; fault_at(alloc, 26, 5, 5), Some(26));
-    // An ordinal that falls, and one that no row has.
-    assert_eq!(rt; fault_at(alloc, 22, 0, 5), Some(22));
-    assert_eq!(rt; fault_at(alloc, 0, 0x4b, 4), Some(37));
-    // A change, and the cells that it lists.
-    assert_eq!(rt; fault_at(alloc, 49, 4, 5), Some(49));
-    assert_eq!(rt; fault_at(alloc, 55, 2, 5), Some(55));
+    let faults = [
+        // The letters, the way and the count.
+        (3, 0x32, 5, 0),
+        (4, 3, 5, 4),
+        (5, 2, 5, 37),
+        (5, 4, 5, 56),
+        // A REDO file has rising timestamps and no insert, an UNDO file falling ones.
+        (4, 1, 5, 26),
+        (26, 5, 5, 26),
+        // An ordinal that falls, and one that no row has.
+        (22, 0, 5, 22),
+        (0, 0x4b, 4, 37),
+        // A change, and the cells that it lists.
+        (49, 4, 5, 49),
+        (55, 2, 5, 55),
+    ];
+    for (place, byte, rows, offset) in faults {
+        assert_eq!(rt; fault_at(rt.alloc(), place, byte, rows), Some(offset));
+    }
 }
 
 #[test]

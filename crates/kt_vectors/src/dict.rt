@@ -1,4 +1,4 @@
-ghost use Rattle.std.specs.Prelude.{◌≡◌, ◌*◌, length, sum_by, IfOk};
+ghost use Rattle.std.specs.Prelude.{◌≡◌, ◌≤◌, ◌*◌, length, sum_by, IfOk};
 
 use kt_dict::{CodecNo, NoMemory, Texts, Width, decode, decode_within, encode, get};
 use std::alloc::Global;
@@ -31,55 +31,44 @@ fn three_items_are_written(rt: HostRuntime) -> Result<(), Fail> {
     Ok(())
 }
 
-#[test]
-fn second_entry_is_never_used(rt: HostRuntime) {
-    let bytes = [2, 0, 1, 0, 0, 0, 97, 1, 0, 0, 0, 98, 0, 0, 0, 0];
-    assert!(rt;
-        matches!(
-            decode(rt.alloc(), &bytes, 2, Width::Bytes),
-            Err(CodecNo::Place { offset: 14 })
-        )
-    );
+/// The place at which two items are refused.
+fn fault(alloc: Global, bytes: &[u8]) -> Option<u64> {
+    match decode(alloc, bytes, 2, Width::Bytes) {
+        Err(CodecNo::Place { offset }) => Some(offset),
+        _ => None,
+    }
 }
 
 #[test]
-fn repeated_entry_at_its_bytes(rt: HostRuntime) {
-    let bytes = [2, 0, 1, 0, 0, 0, 97, 1, 0, 0, 0, 97, 0, 0, 1, 0];
-    assert!(rt;
-        matches!(
-            decode(rt.alloc(), &bytes, 2, Width::Bytes),
-            Err(CodecNo::Place { offset: 11 })
-        )
-    );
+fn refusals(rt: HostRuntime) {
+    let blocks: [(&[u8], u64); 3] = [
+        // The second entry is never used.
+        (b"\x02\0\x01\0\0\0a\x01\0\0\0b\0\0\0\0", 14),
+        // It repeats the first one, at its byte, and is a second empty one, at its length.
+        (b"\x02\0\x01\0\0\0a\x01\0\0\0a\0\0\x01\0", 11),
+        (b"\x02\0\0\0\0\0\0\0\0\0\0\0\x01\0", 6),
+    ];
+    for (bytes, place) in blocks {
+        assert_eq!(rt; fault(rt.alloc(), bytes), Some(place));
+    }
 }
 
-#[test]
-fn second_empty_entry_at_its_length(rt: HostRuntime) {
-    let bytes = [2, 0, 0, 0, 0, 0, 0, 0, 0, 0, 0, 0, 1, 0];
-    assert!(rt;
-        matches!(
-            decode(rt.alloc(), &bytes, 2, Width::Bytes),
-            Err(CodecNo::Place { offset: 6 })
-        )
-    );
+/// Whether two items of so many bytes at most are refused at a place.
+fn refused_within(alloc: Global, bytes: &[u8], most: u32, place: u64) -> bool
+    requires { 2 ≤ most }
+{
+    match decode_within(alloc, bytes, 2, Width::Bytes, most) {
+        Err(CodecNo::Place { offset }) => offset == place,
+        _ => false,
+    }
 }
 
 /// The second entry has three bytes, which are missing: with two at most its length is at fault.
 #[test]
 fn too_long_at_its_length(rt: HostRuntime) {
-    let bytes = [2, 0, 1, 0, 0, 0, 97, 3, 0, 0, 0];
-    assert!(rt;
-        matches!(
-            decode_within(rt.alloc(), &bytes, 2, Width::Bytes, 2),
-            Err(CodecNo::Place { offset: 7 })
-        )
-    );
-    assert!(rt;
-        matches!(
-            decode_within(rt.alloc(), &bytes, 2, Width::Bytes, 3),
-            Err(CodecNo::Place { offset: 11 })
-        )
-    );
+    let bytes = b"\x02\0\x01\0\0\0a\x03\0\0\0";
+    assert!(rt; refused_within(rt.alloc(), bytes, 2, 7));
+    assert!(rt; refused_within(rt.alloc(), bytes, 3, 11));
 }
 
 /// 82 KB that spell half a gigabyte are held as they stand.

@@ -60,24 +60,21 @@ fn refused_at(rt: &HostRuntime, bytes: &[u8], n: u32, width: Width, place: u64) 
 
 #[test]
 fn refusals(rt: HostRuntime) {
-    // A bool is 0 or 1.
-    assert!(rt; refused_at(&rt, &[0, 1, 2], 3, Width::Numbers(NumberWidth::Bit), 2));
-    // Bytes are missing, and bytes follow.
-    assert!(rt; refused_at(&rt, &[1, 0, 0], 2, Width::Numbers(NumberWidth::Two), 3));
-    assert!(rt;
-        refused_at(
-            &rt,
-            &[1, 0, 0, 0, 7],
-            2,
-            Width::Numbers(NumberWidth::Two),
-            4
-        )
-    );
-    // The second end is below the first.
-    assert!(rt; refused_at(&rt, &[0, 1, 0, 0, 0, 0, 0, 0], 2, Width::Bytes, 4));
-    // The last end says one byte more, and one less.
-    assert!(rt; refused_at(&rt, &[2, 0, 0, 0, 97], 1, Width::Bytes, 5));
-    assert!(rt; refused_at(&rt, &[0, 0, 0, 0, 97], 1, Width::Bytes, 4));
+    let blocks: [(&[u8], u32, Width, u64); 6] = [
+        // A bool is 0 or 1.
+        (b"\0\x01\x02", 3, Width::Numbers(NumberWidth::Bit), 2),
+        // Bytes are missing, and bytes follow.
+        (b"\x01\0\0", 2, Width::Numbers(NumberWidth::Two), 3),
+        (b"\x01\0\0\0\x07", 2, Width::Numbers(NumberWidth::Two), 4),
+        // The second end is below the first.
+        (b"\0\x01\0\0\0\0\0\0", 2, Width::Bytes, 4),
+        // The last end says one byte more, and one less.
+        (b"\x02\0\0\0a", 1, Width::Bytes, 5),
+        (b"\0\0\0\0a", 1, Width::Bytes, 4),
+    ];
+    for (bytes, n, width, place) in blocks {
+        assert!(rt; refused_at(&rt, bytes, n, width, place));
+    }
 }
 
 /// The second byte list has two bytes: with one at most its end is at fault.

@@ -61,17 +61,21 @@ fn fault_at(alloc: std::alloc::Global, place: usize, byte: u8) -> Option<u64> {
 
 #[test]
 fn faults_are_found_at_their_places(rt: HostRuntime) {
-    let alloc = rt.alloc();
-    assert_eq!(rt; fault_at(alloc, 0, 3), Some(0));
-    assert_eq!(rt; fault_at(alloc, 9, 0), Some(9));
-    assert_eq!(rt; fault_at(alloc, 9, 65), Some(9));
-    assert_eq!(rt; fault_at(alloc, 10, 1), Some(9));
-    assert_eq!(rt; fault_at(alloc, 11, 8), Some(11));
-    assert_eq!(rt; fault_at(alloc, 11, 4), Some(22));
-    assert_eq!(rt; fault_at(alloc, 11, 7), Some(22));
-    assert_eq!(rt; fault_at(alloc, 12, 200), Some(32));
-    assert_eq!(rt; fault_at(alloc, 26, 4), Some(26));
-    assert_eq!(rt; fault_at(alloc, 27, 0), Some(31));
+    let faults = [
+        (0, 3, 0),
+        (9, 0, 9),
+        (9, 65, 9),
+        (10, 1, 9),
+        (11, 8, 11),
+        (11, 4, 22),
+        (11, 7, 22),
+        (12, 200, 32),
+        (26, 4, 26),
+        (27, 0, 31),
+    ];
+    for (place, byte, offset) in faults {
+        assert_eq!(rt; fault_at(rt.alloc(), place, byte), Some(offset));
+    }
 }
 
 #[test]
@@ -123,22 +127,17 @@ fn an_ignored_operation_has_no_target(rt: HostRuntime) -> Result<(), Fail> {
         _ => return Err("not read".into()),
     }
     assert!(rt; is_spelled_again(alloc, &ignored)?);
-    let mut done = COMMIT;
-    done[11] = 3;
-    assert!(rt;
-        matches!(
-            read_record(alloc, &done),
-            Err(CodecNo::Place { offset: 12 })
-        )
-    );
-    done[11] = 4;
-    assert!(rt;
-        matches!(
-            read_record(alloc, &done),
-            Err(CodecNo::Place { offset: 11 })
-        )
-    );
     Ok(())
+}
+
+#[test]
+fn outcomes_with_a_target_are_found(rt: HostRuntime) {
+    for (outcome, offset) in [(3, 12), (4, 11)] {
+        let mut bytes = COMMIT;
+        bytes[11] = outcome;
+        let read = read_record(rt.alloc(), &bytes);
+        assert!(rt; matches!(read, Err(CodecNo::Place { offset: at }) if at == offset));
+    }
 }
 
 #[test]

@@ -36,13 +36,18 @@ fn refused_at(rt: &HostRuntime, bytes: &[u8], n: u32, width: Width, place: u64) 
 
 #[test]
 fn refusals(rt: HostRuntime) {
-    // Neighbours are equal.
-    assert!(rt; refused_at(&rt, &[1, 0, 0, 0, 5, 1, 0, 0, 0, 5], 2, Width::One, 5));
-    // A length is 0, or more than is left, or too little and bytes are missing.
-    assert!(rt; refused_at(&rt, &[0, 0, 0, 0, 5], 1, Width::One, 0));
-    assert!(rt; refused_at(&rt, &[2, 0, 0, 0, 5], 1, Width::One, 0));
-    assert!(rt; refused_at(&rt, &[1, 0, 0, 0, 5], 2, Width::One, 5));
-    // A bool is 0 or 1, and nothing follows the last run.
-    assert!(rt; refused_at(&rt, &[1, 0, 0, 0, 2], 1, Width::Bit, 4));
-    assert!(rt; refused_at(&rt, &[1, 0, 0, 0, 1, 9], 1, Width::Bit, 5));
+    let blocks: [(&[u8], u32, Width, u64); 6] = [
+        // Neighbours are equal.
+        (b"\x01\0\0\0\x05\x01\0\0\0\x05", 2, Width::One, 5),
+        // A length is 0, or more than is left, or too little and bytes are missing.
+        (b"\0\0\0\0\x05", 1, Width::One, 0),
+        (b"\x02\0\0\0\x05", 1, Width::One, 0),
+        (b"\x01\0\0\0\x05", 2, Width::One, 5),
+        // A bool is 0 or 1, and nothing follows the last run.
+        (b"\x01\0\0\0\x02", 1, Width::Bit, 4),
+        (b"\x01\0\0\0\x01\x09", 1, Width::Bit, 5),
+    ];
+    for (bytes, n, width, place) in blocks {
+        assert!(rt; refused_at(&rt, bytes, n, width, place));
+    }
 }

@@ -38,23 +38,33 @@ fn three(alloc: Global) -> Result<Vec<Column>, NoMemory> {
     Ok(columns)
 }
 
+/// Why columns of these names and kinds are refused. True stands for a key column.
+fn refusal(alloc: Global, listed: &[(u8, Kind, bool)]) -> Result<Option<SchemaNo>, NoMemory> {
+    let mut columns = Vec::new(alloc);
+    for (name, kind, key) in listed {
+        columns.push(column(alloc, &[*name], *kind, *key)?)?;
+    }
+    Ok(refused(alloc, columns))
+}
+
 #[test]
 fn columns_refused(rt: HostRuntime) -> Result<(), Fail> {
-    let alloc = rt.alloc();
-    assert_eq!(rt; refused(alloc, Vec::new(alloc)), Some(SchemaNo::S1));
-    let mut late = Vec::new(alloc);
-    late.push(column(alloc, b"a", Kind::Bool, false)?)?;
-    late.push(column(alloc, b"b", Kind::Bool, true)?)?;
-    assert_eq!(rt; refused(alloc, late), Some(SchemaNo::S2 { at: 1 }));
-    let mut weak = Vec::new(alloc);
-    weak.push(column(alloc, b"a", Kind::Int8, true)?)?;
-    weak.push(column(alloc, b"a", Kind::Bool, true)?)?;
-    assert_eq!(rt; refused(alloc, weak), Some(SchemaNo::S3 { at: 1 }));
-    let mut again = Vec::new(alloc);
-    again.push(column(alloc, b"a", Kind::Int8, true)?)?;
-    again.push(column(alloc, b"b", Kind::Int8, true)?)?;
-    again.push(column(alloc, b"a", Kind::Int8, false)?)?;
-    assert_eq!(rt; refused(alloc, again), Some(SchemaNo::S4 { at: 2 }));
+    let late = [(b'a', Kind::Bool, false), (b'b', Kind::Bool, true)];
+    let weak = [(b'a', Kind::Int8, true), (b'a', Kind::Bool, true)];
+    let again = [
+        (b'a', Kind::Int8, true),
+        (b'b', Kind::Int8, true),
+        (b'a', Kind::Int8, false),
+    ];
+    let refusals: [(&[(u8, Kind, bool)], SchemaNo); 4] = [
+        (&[], SchemaNo::S1),
+        (&late, SchemaNo::S2 { at: 1 }),
+        (&weak, SchemaNo::S3 { at: 1 }),
+        (&again, SchemaNo::S4 { at: 2 }),
+    ];
+    for (columns, why) in refusals {
+        assert_eq!(rt; refusal(rt.alloc(), columns)?, Some(why));
+    }
     Ok(())
 }
 
@@ -80,7 +90,8 @@ fn a_schema_tells_its_columns(rt: HostRuntime) -> Result<(), Fail> {
     Ok(())
 }
 
-fn row(alloc: Global, text: usize, number: i64, cpu: Cell) -> Result<Row, NoMemory> {
+/// A row of a text of so many zeros, a number and a number that may be null.
+fn row(alloc: Global, text: usize, number: i64, cpu: Option<i64>) -> Result<Row, NoMemory> {
     let mut bytes = Octets::new(alloc);
     for _ in 0..text {
         bytes.push(0)?;
@@ -88,32 +99,32 @@ fn row(alloc: Global, text: usize, number: i64, cpu: Cell) -> Result<Row, NoMemo
     let mut cells = Vec::new(alloc);
     cells.push(Cell::Bytes(bytes))?;
     cells.push(Cell::Int(number))?;
-    cells.push(cpu)?;
+    cells.push(cpu.map_or(Cell::Null, Cell::Int))?;
     Ok(Row::of(cells))
 }
 
 #[test]
 fn rows_refused(rt: HostRuntime) -> Result<(), Fail> {
-    let alloc = rt.alloc();
-    let schema = schema(alloc)?;
-    assert_eq!(rt; schema.check_row(&row(alloc, 0, -128, Cell::Null)?), Ok(()));
-    assert_eq!(rt;
-        schema.check_row(&Row::of(Vec::new(alloc))),
-        Err(RowNo::S6 { at: 0 })
-    );
-    assert_eq!(rt;
-        schema.check_row(&row(alloc, 0, 128, Cell::Null)?),
-        Err(RowNo::S6 { at: 1 })
-    );
-    assert_eq!(rt;
-        schema.check_row(&row(alloc, 65_537, 0, Cell::Int(1))?),
-        Err(RowNo::S8 { at: 0 })
-    );
-    // Each of 8,191 zeros takes two bytes, the end of the text two and the number one.
-    assert_eq!(rt;
-        schema.check_row(&row(alloc, 8_191, 0, Cell::Int(1))?),
-        Err(RowNo::S9 { length: 16_385 })
-    );
+    let schema = schema(rt.alloc())?;
+    let rows = [
+        (0, -128, None, Ok(())),
+        (0, 128, None, Err(RowNo::S6 { at: 1 })),
+        (65_537, 0, Some(1), Err(RowNo::S8 { at: 0 })),
+        // Each of 8,191 zeros takes two bytes, the end of the text two and the number one.
+        (8_191, 0, Some(1), Err(RowNo::S9 { length: 16_385 })),
+    ];
+    for (text, number, cpu, answer) in rows {
+        let row = row(rt.alloc(), text, number, cpu)?;
+        assert_eq!(rt; schema.check_row(&row), answer);
+    }
+    Ok(())
+}
+
+#[test]
+fn an_empty_row_is_refused(rt: HostRuntime) -> Result<(), Fail> {
+    let schema = schema(rt.alloc())?;
+    let row = Row::of(Vec::new(rt.alloc()));
+    assert_eq!(rt; schema.check_row(&row), Err(RowNo::S6 { at: 0 }));
     Ok(())
 }
 
