@@ -235,14 +235,14 @@ fn columns_of_one_run_are_read(rt: HostRuntime) -> Result<(), Fail> {
     Ok(())
 }
 
-/// 2 MB whose 2,048 columns are null in each row are read up to their end.
+/// 265 KB whose 256 columns are null in each row are read up to their end.
 #[test]
 fn columns_of_nulls_are_read(rt: HostRuntime) -> Result<(), Fail> {
     let mut block = Octets::from_slice(rt.alloc(), &[1, 0, 4, 0, 0])?;
     for _ in 0..1024u32 {
         block.push(255)?;
     }
-    let bytes = columns_of(rt.alloc(), 2048, [2, 1], block.as_slice())?;
+    let bytes = columns_of(rt.alloc(), 256, [2, 1], block.as_slice())?;
     assert_eq!(rt;
         fault(rt.alloc(), bytes.as_slice()),
         Some(bytes.len() as u64)
