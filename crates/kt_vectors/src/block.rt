@@ -265,9 +265,11 @@ fn keys(rt: HostRuntime) -> Result<(), Fail> {
 
 #[test]
 fn keys_are_compared(rt: HostRuntime) -> Result<(), Fail> {
-    let block = read(rt.alloc(), Form::Keys, 2, KEYS)?;
-    assert_eq!(rt; block.len(), 2);
-    assert_eq!(rt; block.compare(1, b"abd"), Ordering::Less);
+    let found = decode_block(rt.alloc(), Form::Keys, 2, KEYS)
+        .ok()
+        .ok_or("the bytes are refused")?;
+    assert_eq!(rt; found.block.len(), 2);
+    assert_eq!(rt; found.block.compare(1, b"abd"), Ordering::Less);
     Ok(())
 }
 
