@@ -2,4 +2,3 @@ pub mod Frames
 pub mod Moving
 pub mod Opened
 pub mod Planned
-pub mod Ready

@@ -1,4 +1,3 @@
 pub mod Plans
 pub mod Seats
 pub mod Openings
-pub mod Five

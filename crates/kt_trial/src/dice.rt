@@ -2,7 +2,7 @@
 ghost use Rattle.std.specs.Prelude.{◌<◌};
 
 /// Numbers that follow from a seed.
-#[derive(Debug, Drop)]
+#[derive(Drop)]
 pub struct Dice {
     state: u64,
 }

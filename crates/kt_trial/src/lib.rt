@@ -8,8 +8,6 @@ pub mod dice;
 #[cfg(test)]
 pub mod events;
 #[cfg(test)]
-pub mod full;
-#[cfg(test)]
 pub mod log;
 #[cfg(test)]
 pub mod machine;

@@ -24,3 +24,20 @@ pub fn make_durable(alloc: Global, engine: &mut Tried) -> Result<(), Miss>
     engine.log_home(PASS, batch);
     Ok(())
 }
+
+/// Takes the log out, and back with all that was queued, as after an append that met want of memory. Another pass is told
+/// who has it.
+pub fn take_back(alloc: Global, engine: &mut Tried) -> Result<(), Miss>
+    ensures { OnOk result (engine.new.tablet ≡ engine.old.tablet) }
+{
+    let batch = match engine.log_out(alloc, PASS) {
+        Ok(batch) => batch,
+        Err(LogNo::Empty) => return Ok(()),
+        Err(_) => return Err(Miss::Log),
+    };
+    let Err(LogNo::Out { by: PASS }) = engine.log_out(alloc, 2) else {
+        return Err(Miss::Log);
+    };
+    engine.log_back(PASS, batch);
+    Ok(())
+}

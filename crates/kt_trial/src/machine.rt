@@ -9,7 +9,7 @@ use std::alloc::Global;
 pub const MOST_CELLS: u32 = 30;
 
 // A write, from its begin on.
-#[derive(Debug, Drop)]
+#[derive(Drop)]
 struct Written {
     session: u32,
     ts: u64,
@@ -18,7 +18,7 @@ struct Written {
 }
 
 /// What a write is told when it asks to begin.
-#[derive(Clone, Copy, Debug, PartialEq, Eq)]
+#[derive(Clone, Copy, PartialEq)]
 pub enum Begins {
     At(u64),
     Waits(u64),
@@ -26,7 +26,7 @@ pub enum Begins {
 }
 
 /// What a scan is told.
-#[derive(Clone, Copy, Debug, PartialEq, Eq)]
+#[derive(Clone, Copy, PartialEq)]
 pub enum Reads {
     At(u64),
     Ancient { t: u64, a: u64 },
@@ -35,7 +35,7 @@ pub enum Reads {
 }
 
 /// The plain machine, over the readings of a clock.
-#[derive(Debug, Drop)]
+#[derive(Drop)]
 pub struct Machine {
     writes: Vec<Written>,
     readings: Vec<u64>,

@@ -22,7 +22,7 @@ use std::snapshot::Snapshot;
 pub type Tried = Engine<MemDisk, (), MemClock>;
 
 /// A column that is nullable unless it is of the key.
-pub fn column(
+fn column(
     alloc: Global,
     id: u16,
     name: &[u8],
@@ -40,23 +40,18 @@ pub fn column(
     })
 }
 
-/// A table of one key column and two others, of which the second has a default.
-pub fn schema(alloc: Global) -> Result<Schema, Miss> {
-    let default = Some(Cell::Int(DEFAULT));
-    let mut columns = Vec::new(alloc);
+// A key column and two others, of which the second has a default.
+fn columns(alloc: Global) -> Result<ColumnList, NoMemory> {
     let key = column(alloc, 0, b"k", Kind::String, true, None)?;
     let x = column(alloc, 1, b"x", Kind::Int64, false, None)?;
-    let y = column(alloc, 2, b"y", Kind::Int64, false, default)?;
-    let Ok(()) = columns.push(key) else {
-        return Err(Miss::Memory);
-    };
-    let Ok(()) = columns.push(x) else {
-        return Err(Miss::Memory);
-    };
-    let Ok(()) = columns.push(y) else {
-        return Err(Miss::Memory);
-    };
-    match Schema::new(alloc, ColumnList::of(columns)) {
+    let y = column(alloc, 2, b"y", Kind::Int64, false, Some(Cell::Int(DEFAULT)))?;
+    Ok(ColumnList::of(vec![in alloc; key, x, y]?))
+}
+
+/// The table of these columns.
+pub fn schema(alloc: Global) -> Result<Schema, Miss> {
+    let columns = columns(alloc)?;
+    match Schema::new(alloc, columns) {
         Ok(schema) => Ok(schema),
         Err(_) => Err(Miss::Opening),
     }

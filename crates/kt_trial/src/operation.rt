@@ -10,14 +10,14 @@ pub const KEYS: u8 = 12;
 pub const DEFAULT: i64 = 7;
 
 /// The cells of a row.
-#[derive(Clone, Copy, Debug, PartialEq, Eq)]
+#[derive(Clone, Copy, PartialEq)]
 pub struct Line {
     pub x: Option<i64>,
     pub y: Option<i64>,
 }
 
 /// An operation on one key, with the number and the value of its cell, if it has one.
-#[derive(Clone, Copy, Debug, Drop)]
+#[derive(Clone, Copy, Drop)]
 pub struct Op {
     pub kind: OpKind,
     pub key: u8,

@@ -2,12 +2,13 @@
 ghost use Rattle.std.specs.Prelude.{◌≡◌, ◌<◌, ◌+◌, ◌^◌, Some, IfSome, IfOk, OnOk, length, slice_get};
 ghost use Rattle.kt_history.specs.declared.command.Command.TheVariants.{Write as AWrite, Scan as AScan, Mark as AMark};
 ghost use Rattle.kt_history.specs.Machine.{nth, command_at, command_of};
+ghost use Rattle.kt_trial.specs.Openings.{IsAtStart};
 ghost use Rattle.kt_trial.specs.Plans.{WriteFits, CommandFits, PlanFits};
 ghost use Rattle.kt_trial.specs.Seats.{next_of, Sits, AreSeated, Moves};
 
 use crate::dice::Dice;
 use crate::events::{apply, begin, end, look, mark, read};
-use crate::log::make_durable;
+use crate::log::{make_durable, take_back};
 use crate::machine::{MOST_CELLS, Machine};
 use crate::miss::{Miss, agree};
 use crate::opening::{Tried, engine, schema};
@@ -207,7 +208,7 @@ fn sit_on(
     Ok(())
 }
 
-// One step: some session goes on, or the log is made durable.
+// One step: some session goes on, the log is made durable, or it is taken out and back.
 fn step(
     alloc: Global,
     dice: &mut Dice,
@@ -222,11 +223,13 @@ fn step(
     ensures seated { OnOk result (AreSeated engine.new.tablet.core seats.new) }
     ensures planned { OnOk result (engine.new.tablet.core.work.plan ≡ plan.now) }
 {
-    let at = dice.below(10) as usize;
+    let at = dice.below(11) as usize;
     if at < seats.len() {
         sit_on(alloc, engine, machine, plan, seats, at)
-    } else {
+    } else if at < 10 {
         make_durable(alloc, engine)
+    } else {
+        take_back(alloc, engine)
     }
 }
 
@@ -263,22 +266,60 @@ fn readings(alloc: Global, dice: &mut Dice) -> Result<(Vec<u64>, Vec<u64>), NoMe
     Ok((told, same))
 }
 
+// Plays all steps on an engine in which nothing has happened yet.
+fn play_on(
+    alloc: Global,
+    dice: &mut Dice,
+    engine: &mut Tried,
+    machine: &mut Machine,
+    plan: &Plan,
+) -> Result<(), Miss>
+    requires starts { IsAtStart engine.old.tablet.core plan.now }
+    requires fits { PlanFits plan.now }
+{
+    let mut seats = first_seats(alloc, plan)?;
+    steps(alloc, dice, engine, machine, plan, &mut seats)
+}
+
+// An engine with a plan of eight sessions, whose clock gives these readings.
+fn opened(alloc: Global, plan: &Plan, readings: Vec<u64>) -> Result<Tried, Miss>
+    requires fits { PlanFits plan.now }
+    requires count { length plan.now ≡ 8 }
+    ensures { IfOk result (λ engine. IsAtStart engine.tablet.core plan.now) }
+{
+    let schema = schema(alloc)?;
+    engine(alloc, &schema, MOST_CELLS, plan, readings)
+}
+
+// Plays one interleaving of a plan on an engine whose clock gives these readings.
+fn play_with(
+    alloc: Global,
+    dice: &mut Dice,
+    plan: &Plan,
+    readings: Vec<u64>,
+    machine: &mut Machine,
+) -> Result<(), Miss>
+    requires fits { PlanFits plan.now }
+    requires count { length plan.now ≡ 8 }
+{
+    let mut engine = opened(alloc, plan, readings)?;
+    play_on(alloc, dice, &mut engine, machine, plan)
+}
+
+// Plays one interleaving of a plan.
+fn play_plan(alloc: Global, dice: &mut Dice, plan: &Plan) -> Result<Tally, Miss>
+    requires fits { PlanFits plan.now }
+    requires count { length plan.now ≡ 8 }
+{
+    let (told, same) = readings(alloc, dice)?;
+    let mut machine = Machine::new(alloc, same);
+    play_with(alloc, dice, plan, told, &mut machine)?;
+    Ok(machine.tally())
+}
+
 /// Plays one interleaving of a plan, both made from the seed, and compares each answer. Counts what was answered.
 pub fn play(alloc: Global, seed: u64) -> Result<Tally, Miss> {
     let mut dice = Dice::of(seed);
     let plan = plan(alloc, &mut dice)?;
-    let (told, same) = readings(alloc, &mut dice)?;
-    let schema = schema(alloc)?;
-    let mut engine = engine(alloc, &schema, MOST_CELLS, &plan, told)?;
-    let mut machine = Machine::new(alloc, same);
-    let mut seats = first_seats(alloc, &plan)?;
-    steps(
-        alloc,
-        &mut dice,
-        &mut engine,
-        &mut machine,
-        &plan,
-        &mut seats,
-    )?;
-    Ok(machine.tally())
+    play_plan(alloc, &mut dice, &plan)
 }

@@ -10,7 +10,7 @@ use std::alloc::Global;
 
 /// A session goes on with its next command, its scan of the present has drawn a time, or its write flies, of which the first
 /// rows are applied.
-#[derive(Clone, Copy, Debug, PartialEq, Eq)]
+#[derive(Clone, Copy)]
 pub enum Seat {
     Ready { next: u32 },
     Drawn { next: u32, t: u64 },

@@ -1,7 +1,7 @@
 //! How often each answer was given.
 
 /// Counts of answers, which stand still at the end of their type.
-#[derive(Clone, Copy, Debug, PartialEq, Eq)]
+#[derive(Clone, Copy)]
 pub struct Tally {
     pub begun: u32,
     pub waits: u32,

@@ -1,8 +1,6 @@
-use crate::full::told;
 use crate::miss::Miss;
 use crate::play::play;
 use crate::tally::Tally;
-use kt_engine::BeginNo;
 use std::alloc::Global;
 use std::test::Fail;
 
@@ -21,28 +19,21 @@ fn play_all(alloc: Global) -> Result<Tally, Miss> {
 fn each_answer_is_that_of_the_plain_machine(rt: HostRuntime) -> Result<(), Fail> {
     let tally = play_all(rt.alloc())?;
     // Each kind of answer was given, and often.
-    assert!(rt; tally.begun > 10_000, "{tally:?}");
-    assert!(rt; tally.ended > 10_000, "{tally:?}");
-    assert!(rt; tally.ignored > 1_000, "{tally:?}");
-    assert!(rt; tally.waits > 10_000, "{tally:?}");
-    assert!(rt; tally.large > 1_000, "{tally:?}");
-    assert!(rt; tally.rows > 5_000, "{tally:?}");
-    assert!(rt; tally.ancient > 500, "{tally:?}");
-    assert!(rt; tally.busy > 1_000, "{tally:?}");
-    assert!(rt; tally.not_yet > 10_000, "{tally:?}");
-    assert!(rt; tally.raised > 1_000, "{tally:?}");
-    assert!(rt; tally.held > 1_000, "{tally:?}");
-    Ok(())
-}
-
-#[test]
-fn an_engine_of_1024_cells_tells_what_stands_in_the_way(rt: HostRuntime) -> Result<(), Fail> {
-    let told = told(rt.alloc())?;
-    assert_eq!(rt; told.first, Ok(4096));
-    assert_eq!(rt; told.second, Err(BeginNo::Wait { ts: 4096 }));
-    assert_eq!(rt; told.third, Err(BeginNo::Room { need: 10, free: 0 }));
-    assert_eq!(rt; told.fourth, Err(BeginNo::Large { need: 1026 }));
-    assert_eq!(rt; told.busy, (4096, 4096));
-    assert_eq!(rt; told.holder, 1);
+    let counts = [
+        (tally.begun, 10_000),
+        (tally.ended, 10_000),
+        (tally.ignored, 1_000),
+        (tally.waits, 10_000),
+        (tally.large, 1_000),
+        (tally.rows, 5_000),
+        (tally.ancient, 500),
+        (tally.busy, 1_000),
+        (tally.not_yet, 10_000),
+        (tally.raised, 1_000),
+        (tally.held, 1_000),
+    ];
+    for (count, least) in counts {
+        assert!(rt; count > least, "{count} and not {least}");
+    }
     Ok(())
 }
