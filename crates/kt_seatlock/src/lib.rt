@@ -17,8 +17,6 @@ mod plays;
 mod rule;
 mod shared;
 mod tells;
-#[cfg(test)]
-mod tests;
 mod uses;
 mod view;
 mod visits;

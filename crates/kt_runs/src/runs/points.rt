@@ -1,6 +1,7 @@
 //! The points that a run comes to.
 
-use super::{clock, run_gated, script};
+use super::run;
+use kt_base::NoMemory;
 use kt_disk::{Gate, MemDisk, Point};
 use std::alloc::Global;
 use std::sync::Wait;
@@ -33,19 +34,11 @@ impl Gate for Notes {
 }
 
 // The digits of a run of these lines.
-fn noted<R: Threads + Wait + Sync>(rt: &R, alloc: Global, lines: &[u8]) -> Result<u64, Fail> {
+fn noted<R: Threads + Wait + Sync>(rt: &R, alloc: Global, lines: &[u8]) -> Result<u64, NoMemory> {
     let gate = Notes {
         digits: AtomicU64::new(0),
     };
-    let clock = clock(alloc, 1, 2)?;
-    let _ended = run_gated(
-        rt,
-        alloc,
-        script(alloc, lines)?,
-        MemDisk::new(alloc),
-        clock,
-        &gate,
-    )?;
+    let _ended = run(rt, alloc, lines, MemDisk::new(alloc), &gate)?;
     Ok(gate.digits.load(Ordering::SeqCst))
 }
 

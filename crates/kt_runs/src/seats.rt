@@ -2,9 +2,7 @@
 ghost use Rattle.std.specs.Prelude.{◌≡◌, ◌+◌, ◌<◌, ◌≤◌, [], IfOk, length};
 ghost use Rattle.kt_seatlock.specs.Passes.{joined, given, passes_of, IsOutside, IsSamePass, MayEnter, IsBack};
 
-use crate::lock::{NoMemory, SeatLock};
-use crate::pass::Pass;
-use crate::uses::{Journal, Line, write_all};
+use kt_seatlock::{Journal, Line, NoMemory, Pass, SeatLock, write_all};
 use std::alloc::{AllocError, Global};
 use std::sync::Wait;
 use std::test::Fail;
@@ -74,54 +72,6 @@ fn pair<R: Threads + Wait + Sync>(
             ensures { IsBack b result }
         { alone(rt, lock, b, texts) },
     )
-}
-
-// Two threads write with new passes, which are joined in.
-fn two<R: Threads + Wait + Sync>(
-    rt: &R,
-    lock: &SeatLock<Journal>,
-    pass: &mut Pass<Journal>,
-    texts: &[u64],
-)
-    requires { MayEnter lock.now pass.old × (0 < given pass.old) × (given pass.old + 2 ≤ passes_of lock.now) }
-    ensures { IsSamePass pass.old pass.new × IsOutside pass.new × (given pass.new ≡ given pass.old + 2) × (length (joined pass.new) ≡ length (joined pass.old) + 2) }
-{
-    let a = lock.split(pass);
-    let b = lock.split(pass);
-    let (a, b) = pair(rt, lock, a, b, texts);
-    lock.join(pass, a);
-    lock.join(pass, b);
-}
-
-// Four threads write with new passes, which are joined in.
-fn four<R: Threads + Wait + Sync>(
-    rt: &R,
-    lock: &SeatLock<Journal>,
-    pass: &mut Pass<Journal>,
-    texts: &[u64],
-)
-    requires { MayEnter lock.now pass.old × (0 < given pass.old) × (given pass.old + 4 ≤ passes_of lock.now) }
-    ensures { IsSamePass pass.old pass.new × IsOutside pass.new × (given pass.new ≡ given pass.old + 4) × (length (joined pass.new) ≡ length (joined pass.old) + 4) }
-{
-    let a = lock.split(pass);
-    let b = lock.split(pass);
-    let c = lock.split(pass);
-    let d = lock.split(pass);
-    let ((a, b), (c, d)) = join(
-        rt,
-        || -> (Pass<Journal>, Pass<Journal>)
-            requires { MayEnter lock.now a × MayEnter lock.now b }
-            ensures { IsBack a result.0 × IsBack b result.1 }
-        { pair(rt, lock, a, b, texts) },
-        || -> (Pass<Journal>, Pass<Journal>)
-            requires { MayEnter lock.now c × MayEnter lock.now d }
-            ensures { IsBack c result.0 × IsBack d result.1 }
-        { pair(rt, lock, c, d, texts) },
-    );
-    lock.join(pass, a);
-    lock.join(pass, b);
-    lock.join(pass, c);
-    lock.join(pass, d);
 }
 
 // Two pairs of threads write all texts each.
@@ -279,34 +229,6 @@ fn texts(alloc: Global) -> Result<Vec<u64>, AllocError> {
 }
 
 #[test]
-fn two_threads_write_each_line_once(rt: HostRuntime) -> Result<(), Fail> {
-    let texts = texts(rt.alloc())?;
-    let journal = empty(rt.alloc(), 3)?;
-    let (lock, mut pass) = filled(rt.alloc(), journal, 3).expect(&rt, "memory");
-    two(&rt, &lock, &mut pass, &texts);
-    let journal = lock.close(pass);
-    assert_eq!(rt; journal.lines.len(), 20_000);
-    for by in 1..3 {
-        assert_eq!(rt; in_order(&journal.lines, by), VISITS);
-    }
-    Ok(())
-}
-
-#[test]
-fn four_threads_write_each_line_once(rt: HostRuntime) -> Result<(), Fail> {
-    let texts = texts(rt.alloc())?;
-    let journal = empty(rt.alloc(), 5)?;
-    let (lock, mut pass) = filled(rt.alloc(), journal, 5).expect(&rt, "memory");
-    four(&rt, &lock, &mut pass, &texts);
-    let journal = lock.close(pass);
-    assert_eq!(rt; journal.lines.len(), 40_000);
-    for by in 1..5 {
-        assert_eq!(rt; in_order(&journal.lines, by), VISITS);
-    }
-    Ok(())
-}
-
-#[test]
 fn eight_threads_write_each_line_once(rt: HostRuntime) -> Result<(), Fail> {
     let texts = texts(rt.alloc())?;
     let journal = empty(rt.alloc(), 9)?;
@@ -329,19 +251,28 @@ fn a_thread_rests_until_anothers_visit(rt: HostRuntime) -> Result<(), Fail> {
     Ok(())
 }
 
+// The journal of a lock in which one pass writes two lines.
+fn closed<R: Wait>(rt: &R, alloc: Global) -> Result<Journal, NoMemory> {
+    let Ok(journal) = empty(alloc, 1) else {
+        return Err(NoMemory);
+    };
+    let (lock, mut pass) = filled(alloc, journal, 1)?;
+    let _written = write_all(rt, &lock, &mut pass, &[5, 6]);
+    Ok(lock.close(pass))
+}
+
 #[test]
-fn a_lock_is_filled_and_closed_or_given_up(rt: HostRuntime) -> Result<(), Fail> {
-    let journal = empty(rt.alloc(), 1)?;
-    let (lock, mut pass) = filled(rt.alloc(), journal, 1).expect(&rt, "memory");
-    let _written = write_all(&rt, &lock, &mut pass, &[5, 6]);
-    assert_eq!(rt; pass.number(), 0);
-    let journal = lock.close(pass);
+fn a_lock_is_filled_and_closed(rt: HostRuntime) {
+    let journal = closed(&rt, rt.alloc()).expect(&rt, "memory");
     assert_eq!(rt;
         journal.lines.as_slice(),
         [Line { by: 0, text: 5 }, Line { by: 0, text: 6 }].as_slice()
     );
     assert_eq!(rt; journal.counts.as_slice(), [2].as_slice());
+}
+
+#[test]
+fn a_lock_is_given_up(rt: HostRuntime) {
     let (vacant, pass) = SeatLock::<Journal>::vacant(rt.alloc(), 4).expect(&rt, "memory");
     vacant.unmake(pass);
-    Ok(())
 }

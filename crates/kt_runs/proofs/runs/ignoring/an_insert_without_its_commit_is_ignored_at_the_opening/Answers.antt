@@ -1,7 +1,0 @@
-use Rattle.std.proofs.Common.{ap}
-use Rattle.kt_disk.specs.Memory.{MemView}
-use Rattle.kt_journal.proofs.Fresh.{fresh_opens}
-use Rattle.kt_runs.proofs.runs.ignoring.an_insert_without_its_commit_is_ignored_at_the_opening.Goals as goal
-
-pub run-requires-after_bounds : goal.run-requires-after_bounds
-run-requires-after_bounds g c = λ outlives told. fresh_opens c.new.result (ap (λ (d : MemView). d.calls) c.new.ensures)
