@@ -164,6 +164,15 @@ def a_log_ends_at_a_shut_gate(room):
         at += 5 + len(WRITES[count]) if count < len(WRITES) else 0
 
 
+def a_changed_byte_is_refused_at_its_frame(room):
+    """A byte that no record has there is refused with the place of its frame."""
+    second = 5 + len(A)
+    for frame, behind, byte in [(0, 5, 3), (0, 14, 0), (second, 5, 1), (second, 6, 1), (second, 14, 2), (second, 16, 3)]:
+        log = bytearray(log_of([A, A_DONE]))
+        log[frame + behind] = byte
+        refused_as(room, bytes(log), f"B3 {frame}")
+
+
 def rows_stand_at_their_times(room):
     """Rows of a log that is opened stand at the times of their writes."""
     scans = [f"scan at {it}" for it in (4095, 4096, 12287, 12288)]
@@ -178,5 +187,6 @@ ALL = [
     logs_at_fault_are_refused,
     a_log_is_cut_anywhere,
     a_log_ends_at_a_shut_gate,
+    a_changed_byte_is_refused_at_its_frame,
     rows_stand_at_their_times,
 ]

@@ -159,6 +159,16 @@ def a_device_that_fails_stops_the_run(room):
     wants(found == list(range(1, len(found) + 1)), f"the log has {found}")
 
 
+def keys_in_any_order_are_written_in_time(room):
+    """A tree of keys stays flat: 100,000 keys that rise, fall or come in no order are written in a second, not in minutes."""
+    orders = [range(100_000), range(100_000, 0, -1), [at * 2_654_435_761 % 2**32 for at in range(100_000)]]
+    for ids in orders:
+        writes = (" ; ".join(f'insert {it} ""' for it in ids[at : at + 64]) for at in range(0, len(ids), 64))
+        begun = time.monotonic()
+        status, _ = room.run(["memory", "run"], script(*writes))
+        wants(status == 0 and time.monotonic() - begun < 10, f"status {status} after {time.monotonic() - begun:.0f} seconds")
+
+
 def sessions_share_keys(room):
     """Sixteen sessions write and read the same keys, and a plain machine takes each line and each reply."""
     for seed in range(4):
@@ -214,6 +224,7 @@ ALL = [
     a_signal_interrupts_a_stream,
     rows_outlive_a_kill,
     a_device_that_fails_stops_the_run,
+    keys_in_any_order_are_written_in_time,
     sessions_share_keys,
     the_clock_counts_from_2020,
     memory_is_refused_at_the_words,

@@ -118,187 +118,125 @@ fn write_all(
     Ok(())
 }
 
-/// Whether the row has this text in its one column.
-fn is_text(row: Option<Cells>, text: &[u8]) -> bool {
+/// Whether the row of a key has this text at a time, or is not there.
+fn reads(
+    alloc: Global,
+    store: &MemRowSet,
+    pool: &Pool,
+    key: &[u8],
+    t: u64,
+    text: Option<&[u8]>,
+) -> Result<bool, NoMemory>
+    requires { IsStore store.now pool.now }
+{
+    let row = store.at(alloc, pool, key, t)?;
+    Ok(match (row, text) {
+        (Some(row), Some(text)) => is_text(row.as_slice(), text),
+        (row, text) => row.is_none() && text.is_none(),
+    })
+}
+
+fn is_text(row: &[(u16, Cell)], text: &[u8]) -> bool {
     match row {
-        Some(cells) => match cells.as_slice() {
-            [(_, Cell::Bytes(octets))] => octets.as_slice() == text,
-            _ => false,
-        },
-        None => false,
-    }
-}
-
-/// Whether the next key is this one.
-fn is_key(next: Option<Octets>, key: &[u8]) -> bool {
-    match next {
-        Some(octets) => octets.as_slice() == key,
-        None => false,
-    }
-}
-
-/// Whether this change of the list is one of this key at this time.
-fn is_listed(list: &ChangeList, at: usize, key: &[u8], ts: u64) -> bool {
-    match (list.key(at), list.get(at)) {
-        (Some(other), Some(change)) => other == key && change.ts == ts,
+        [(_, Cell::Bytes(octets))] => octets.as_slice() == text,
         _ => false,
     }
 }
 
-/// Reads the row of the key "k" at the times of its changes and before each.
-fn is_read(rt: &impl Abort, alloc: Global, store: &MemRowSet, pool: &Pool) -> Result<(), NoMemory>
+/// Whether the store has just these keys, which rise.
+fn has_keys(alloc: Global, store: &MemRowSet, pool: &Pool, keys: &[&[u8]]) -> Result<bool, NoMemory>
     requires { IsStore store.now pool.now }
 {
-    assert!(rt; store.at(alloc, pool, b"k", 4095)?.is_none());
-    assert!(rt; is_text(store.at(alloc, pool, b"k", 4096)?, b"a"));
-    assert!(rt; is_text(store.at(alloc, pool, b"k", 8191)?, b"a"));
-    assert!(rt; store.at(alloc, pool, b"k", 8192)?.is_none());
-    assert!(rt; store.at(alloc, pool, b"k", 12287)?.is_none());
-    assert!(rt; is_text(store.at(alloc, pool, b"k", 12288)?, b"b"));
-    Ok(())
+    let mut last = None;
+    for key in keys {
+        match store.key_after(alloc, pool, last)? {
+            Some(next) if next.as_slice() == *key => last = Some(*key),
+            _ => return Ok(false),
+        }
+    }
+    Ok(store.key_after(alloc, pool, last)?.is_none())
 }
 
-#[test]
-fn inserted_deleted_and_inserted_again(rt: HostRuntime) -> Result<(), Fail> {
-    let alloc = rt.alloc();
-    let mut pool = Pool::new(alloc, 100)?;
-    pool.reserve(40)?;
-    let mut store = MemRowSet::new(7);
-    let steps: [Step; 3] = [
-        (4096, Kindly::Ins, b"k", b"a"),
-        (8192, Kindly::Del, b"k", b""),
-        (12288, Kindly::Ins, b"k", b"b"),
-    ];
-    write_all(&rt, alloc, &mut store, &mut pool, &steps)?;
-    assert_eq!(rt; store.rows(), 1);
-    is_read(&rt, alloc, &store, &pool)?;
-    store.empty_into(&mut pool);
-    assert_eq!(rt; pool.free(), 100);
-    assert_eq!(rt; store.rows(), 0);
-    Ok(())
+/// Whether the changes in a list are those of these keys at these times.
+fn are_listed(list: &ChangeList, wanted: &[(&[u8], u64)]) -> bool {
+    for (at, (key, ts)) in wanted.iter().enumerate() {
+        match (list.key(at), list.get(at)) {
+            (Some(other), Some(change)) if other == *key && change.ts == *ts => {}
+            _ => return false,
+        }
+    }
+    list.len() == wanted.len()
 }
 
-/// Reads the keys "a", "m", whose row is deleted, "z" and "zz" one after the other.
-fn are_keys(rt: &impl Abort, alloc: Global, store: &MemRowSet, pool: &Pool) -> Result<(), NoMemory>
+const LONG: [u8; 130] = [7; 130];
+
+/// A row that is inserted, deleted and inserted again, and one of a long key and long texts.
+const STEPS: [Step; 6] = [
+    (4096, Kindly::Ins, b"k", b"a"),
+    (8192, Kindly::Ins, &LONG, &[1; 400]),
+    (12288, Kindly::Del, b"k", b""),
+    (16384, Kindly::Ins, b"k", b"b"),
+    (20480, Kindly::Upd, &LONG, &[2; 300]),
+    (24576, Kindly::Del, &LONG, b""),
+];
+
+/// Keys, times, and the texts of their rows then.
+const READS: [(&[u8], u64, Option<&[u8]>); 10] = [
+    (b"k", 4095, None),
+    (b"k", 4096, Some(b"a")),
+    (b"k", 12287, Some(b"a")),
+    (b"k", 12288, None),
+    (b"k", 16384, Some(b"b")),
+    (&LONG, 8191, None),
+    (&LONG, 20479, Some(&[1; 400])),
+    (&LONG, 24575, Some(&[2; 300])),
+    (&LONG, 24576, None),
+    (b"l", 24576, None),
+];
+
+fn has_rows(alloc: Global, store: &MemRowSet, pool: &Pool) -> Result<bool, NoMemory>
     requires { IsStore store.now pool.now }
 {
-    assert_eq!(rt; store.rows(), 4);
-    assert!(rt; is_key(store.key_after(alloc, pool, None)?, b"a"));
-    assert!(rt; is_key(store.key_after(alloc, pool, Some(b"a"))?, b"m"));
-    assert!(rt; is_key(store.key_after(alloc, pool, Some(b"b"))?, b"m"));
-    assert!(rt; is_key(store.key_after(alloc, pool, Some(b"m"))?, b"z"));
-    assert!(rt; is_key(store.key_after(alloc, pool, Some(b"z"))?, b"zz"));
-    assert!(rt; store.key_after(alloc, pool, Some(b"zz"))?.is_none());
-    Ok(())
+    for (key, t, text) in READS {
+        if !reads(alloc, store, pool, key, t, text)? {
+            return Ok(false);
+        }
+    }
+    Ok(true)
 }
 
-/// Lists the changes of these keys up to times between them.
-fn are_changes(
-    rt: &impl Abort,
-    alloc: Global,
-    store: &MemRowSet,
-    pool: &Pool,
-) -> Result<(), NoMemory>
+fn has_changes(alloc: Global, store: &MemRowSet, pool: &Pool) -> Result<bool, NoMemory>
     requires { IsStore store.now pool.now }
 {
-    assert!(rt; store.changes(alloc, pool, 4095)?.is_empty());
-    let early = store.changes(alloc, pool, 8192)?;
-    assert_eq!(rt; early.len(), 2);
-    assert!(rt; is_listed(&early, 0, b"a", 8192));
-    assert!(rt; is_listed(&early, 1, b"m", 4096));
-    let all = store.changes(alloc, pool, 20480)?;
-    assert_eq!(rt; all.len(), 5);
-    assert!(rt; is_listed(&all, 1, b"m", 4096));
-    assert!(rt; is_listed(&all, 2, b"m", 20480));
-    assert!(rt; is_listed(&all, 3, b"z", 16384));
-    assert!(rt; is_listed(&all, 4, b"zz", 12288));
-    Ok(())
+    let early = store.changes(alloc, pool, 16384)?;
+    Ok(are_listed(
+        &early,
+        &[(&LONG, 8192), (b"k", 4096), (b"k", 12288), (b"k", 16384)],
+    ))
 }
 
-#[test]
-fn rows_out_of_order_are_read_by_rising_key(rt: HostRuntime) -> Result<(), Fail> {
-    let alloc = rt.alloc();
-    let mut pool = Pool::new(alloc, 100)?;
-    pool.reserve(100)?;
-    let mut store = MemRowSet::new(7);
-    let steps: [Step; 5] = [
-        (4096, Kindly::Ins, b"m", b"1"),
-        (8192, Kindly::Ins, b"a", b"2"),
-        (12288, Kindly::Ins, b"zz", b"3"),
-        (16384, Kindly::Ins, b"z", b"4"),
-        (20480, Kindly::Del, b"m", b""),
-    ];
-    write_all(&rt, alloc, &mut store, &mut pool, &steps)?;
-    are_keys(&rt, alloc, &store, &pool)?;
-    are_changes(&rt, alloc, &store, &pool)?;
-    Ok(())
-}
-
-#[test]
-fn long_rows_lie_in_many_cells(rt: HostRuntime) -> Result<(), Fail> {
-    let alloc = rt.alloc();
-    let mut pool = Pool::new(alloc, 100)?;
-    pool.reserve(100)?;
-    let mut store = MemRowSet::new(7);
-    let steps: [Step; 3] = [
-        (4096, Kindly::Ins, &[7; 130], &[1; 400]),
-        (8192, Kindly::Ins, &[7; 129], &[3; 57]),
-        (12288, Kindly::Upd, &[7; 130], &[2; 300]),
-    ];
-    write_all(&rt, alloc, &mut store, &mut pool, &steps)?;
-    assert!(rt; is_text(store.at(alloc, &pool, &[7; 130], 8192)?, &[1; 400]));
-    assert!(rt; is_text(store.at(alloc, &pool, &[7; 130], 12288)?, &[2; 300]));
-    assert!(rt; is_text(store.at(alloc, &pool, &[7; 129], 12288)?, &[3; 57]));
-    assert!(rt; is_key(store.key_after(alloc, &pool, None)?, &[7; 129]));
-    assert!(rt; is_key(store.key_after(alloc, &pool, Some(&[7; 129]))?, &[7; 130]));
-    store.empty_into(&mut pool);
-    assert_eq!(rt; pool.free(), 100);
-    Ok(())
-}
-
-#[test]
-fn a_frozen_store_still_answers(rt: HostRuntime) -> Result<(), Fail> {
-    let alloc = rt.alloc();
-    let mut pool = Pool::new(alloc, 100)?;
-    pool.reserve(100)?;
-    let mut store = MemRowSet::new(7);
-    write(
-        &rt,
-        alloc,
-        &mut store,
-        &mut pool,
-        4096,
-        Kindly::Ins,
-        b"k",
-        b"a",
-    )?;
+/// What a store tells of itself, frozen and then emptied.
+fn told_at_last(store: &mut MemRowSet, pool: &mut Pool) -> [u64; 5]
+    requires { IsStore store.old pool.old }
+{
     store.freeze();
-    assert!(rt; store.is_frozen());
-    write(
-        &rt,
-        alloc,
-        &mut store,
-        &mut pool,
-        8192,
-        Kindly::Upd,
-        b"k",
-        b"b",
-    )?;
-    assert!(rt; is_text(store.at(alloc, &pool, b"k", 8191)?, b"a"));
-    assert!(rt; is_text(store.at(alloc, &pool, b"k", 8192)?, b"b"));
-    write(
-        &rt,
-        alloc,
-        &mut store,
-        &mut pool,
-        12288,
-        Kindly::Del,
-        b"k",
-        b"",
-    )?;
-    assert!(rt; !store.live(&pool, b"k"));
-    assert_eq!(rt; store.changes(alloc, &pool, 12288)?.len(), 3);
-    assert!(rt; is_key(store.key_after(alloc, &pool, None)?, b"k"));
-    assert_eq!(rt; store.id(), 7);
+    let frozen = u64::from(store.is_frozen());
+    let rows = u64::from(store.rows());
+    store.empty_into(pool);
+    let free = u64::from(pool.free());
+    [store.id(), frozen, rows, u64::from(store.rows()), free]
+}
+
+#[test]
+fn rows_are_read_at_their_times(rt: HostRuntime) -> Result<(), Fail> {
+    let alloc = rt.alloc();
+    let mut pool = Pool::new(alloc, 100)?;
+    pool.reserve(100)?;
+    let mut store = MemRowSet::new(7);
+    write_all(&rt, alloc, &mut store, &mut pool, &STEPS)?;
+    assert!(rt; has_rows(alloc, &store, &pool)?);
+    assert!(rt; has_keys(alloc, &store, &pool, &[&LONG, b"k"])?);
+    assert!(rt; has_changes(alloc, &store, &pool)?);
+    assert_eq!(rt; told_at_last(&mut store, &mut pool), [7, 1, 2, 0, 100]);
     Ok(())
 }

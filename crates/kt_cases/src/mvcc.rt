@@ -12,16 +12,23 @@ fn drawn(alloc: Global, c: u64, m: u64) -> u64
     flight.draw(m)
 }
 
+// The last timestamp, the reading of the clock, and the timestamp that is drawn.
+const DRAWN: [(u64, u64, u64); 7] = [
+    (0, 0, 1),
+    (0, 5, 20_480),
+    (20_480, 3, 20_481),
+    (0, (1 << 50) - 1, 4_611_686_018_427_383_808),
+    (0, 1 << 63, 4_611_686_018_427_383_808),
+    (0, u64::MAX, 4_611_686_018_427_383_808),
+    (u64::MAX - 1, 1, u64::MAX),
+];
+
 #[test]
 fn readings_of_the_clock(rt: HostRuntime) {
-    let alloc = rt.alloc();
-    assert_eq!(rt; drawn(alloc, 0, 0), 1);
-    assert_eq!(rt; drawn(alloc, 0, 5), 20_480);
-    assert_eq!(rt; drawn(alloc, 20_480, 3), 20_481);
-    assert_eq!(rt; drawn(alloc, 0, (1 << 50) - 1), 4_611_686_018_427_383_808);
-    assert_eq!(rt; drawn(alloc, 0, 1 << 63), 4_611_686_018_427_383_808);
-    assert_eq!(rt; drawn(alloc, 0, u64::MAX), 4_611_686_018_427_383_808);
-    assert_eq!(rt; drawn(alloc, u64::MAX - 1, 1), u64::MAX);
+    for (last, reading, wanted) in DRAWN {
+        assert!(rt; last < u64::MAX);
+        assert_eq!(rt; drawn(rt.alloc(), last, reading), wanted);
+    }
 }
 
 fn key(alloc: Global) -> Result<KeyList, NoMemory> {
@@ -30,19 +37,22 @@ fn key(alloc: Global) -> Result<KeyList, NoMemory> {
     Ok(KeyList::of(keys))
 }
 
+// The timestamp of the write that holds a key, the least of a flying write, 0 where there is none, and the greatest below all of these.
+fn told(flight: &Flight, keys: &KeyList) -> [u64; 3] {
+    let held = flight.try_keys(keys).err().unwrap_or(0);
+    let least = flight.least().unwrap_or(0);
+    [held, least, flight.clean()]
+}
+
 #[test]
 fn a_key_is_held_while_its_write_flies(rt: HostRuntime) -> Result<(), Fail> {
     let alloc = rt.alloc();
+    let keys = key(alloc)?;
     let mut flight = Flight::new(alloc, 0, 0);
     flight.reserve(alloc, 1)?;
-    let ts = flight.begin(alloc, 1, key(alloc)?, 1)?;
-    assert_eq!(rt; ts, 4096);
-    assert_eq!(rt; flight.try_keys(&key(alloc)?), Err(4096));
-    assert_eq!(rt; flight.least(), Some(4096));
-    assert_eq!(rt; flight.clean(), 4095);
-    assert_eq!(rt; flight.raise_mark(8192), 4095);
+    flight.begin(alloc, 1, key(alloc)?, 1)?;
+    assert_eq!(rt; told(&flight, &keys), [4096, 4096, 4095]);
     flight.end(1);
-    assert_eq!(rt; flight.try_keys(&key(alloc)?), Ok(()));
-    assert_eq!(rt; flight.raise_mark(8192), 4096);
+    assert_eq!(rt; told(&flight, &keys), [0, 0, 4096]);
     Ok(())
 }

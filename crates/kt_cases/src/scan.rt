@@ -117,28 +117,6 @@ fn row_at_100(alloc: Global, key: &[u8], from: u64, cpu: Cell) -> Result<Single,
     })
 }
 
-// What a scan shows of some views.
-fn shown(
-    alloc: Global,
-    views: &[Single],
-    t: u64,
-    scan: &Scan,
-    schema: &Schema,
-) -> Result<RowList, Fail> {
-    match run(alloc, views, t, scan, schema, 0) {
-        Ok(rows) => Ok(rows),
-        Err(NoMemory) => Err("no memory".into()),
-    }
-}
-
-fn scan(columns: Option<ColumnIds>, preds: Vec<Pred>) -> Scan {
-    Scan {
-        at: At::Looked,
-        columns,
-        preds: PredList::of(preds),
-    }
-}
-
 // The numbers and the texts of some rows, in order, with 0 for null and 1 for a truth value.
 fn cells_of(alloc: Global, rows: &RowList) -> Result<Vec<i64>, AllocError> {
     let mut cells = Vec::new(alloc);
@@ -155,47 +133,75 @@ fn cells_of(alloc: Global, rows: &RowList) -> Result<Vec<i64>, AllocError> {
     Ok(cells)
 }
 
-#[test]
-fn rows_come_by_key_filtered_and_cut(rt: HostRuntime) -> Result<(), Fail> {
-    let alloc = rt.alloc();
+// What a scan asks of its rows.
+enum Asked {
+    All,
+    Above,
+    Null,
+}
+
+fn preds(alloc: Global, asked: &Asked) -> Result<PredList, AllocError> {
+    let mut preds = Vec::new(alloc);
+    let test = match asked {
+        Asked::All => return Ok(PredList::of(preds)),
+        Asked::Above => Test::Gt(Cell::Int(0)),
+        Asked::Null => Test::IsNull,
+    };
+    preds.push(Pred { column: 3, test })?;
+    Ok(PredList::of(preds))
+}
+
+fn scan(alloc: Global, asked: &Asked) -> Result<Scan, AllocError> {
+    let columns = match asked {
+        Asked::Above => Some(ColumnIds::of(vec![in alloc; 3, 1]?)),
+        _ => None,
+    };
+    Ok(Scan {
+        at: At::Looked,
+        columns,
+        preds: preds(alloc, asked)?,
+    })
+}
+
+// Whether a scan shows these cells of some views.
+fn shows(
+    alloc: Global,
+    views: &[Single],
+    t: u64,
+    asked: &Asked,
+    wanted: &[i64],
+) -> Result<bool, Fail> {
     let schema = schema(alloc)?;
-    let views = vec![in alloc;
+    let scan = scan(alloc, asked)?;
+    let rows = run(alloc, views, t, &scan, &schema, 0)?;
+    Ok(cells_of(alloc, &rows)?.as_slice() == wanted)
+}
+
+fn views(alloc: Global) -> Result<Vec<Single>, Fail> {
+    Ok(vec![in alloc;
         row_at_100(alloc, b"w\x00\x00\xe4", 20, Cell::Int(1))?,
         row_at_100(alloc, b"d\x00\x00\xe4", 10, Cell::Int(58))?,
         row_at_100(alloc, b"e\x00\x00\x80", 30, Cell::Null)?,
-    ]?;
-    let all = shown(alloc, &views, 30, &scan(None, Vec::new(alloc)), &schema)?;
-    assert_eq!(rt;
-        cells_of(alloc, &all)?.as_slice(),
-        [100, 100, 58, 1, 101, 0, 0, 1, 119, 100, 1, 1].as_slice()
-    );
-    let early = shown(alloc, &views, 10, &scan(None, Vec::new(alloc)), &schema)?;
-    assert_eq!(rt;
-        cells_of(alloc, &early)?.as_slice(),
-        [100, 100, 58, 1].as_slice()
-    );
-    let columns = Some(ColumnIds::of(vec![in alloc; 3, 1]?));
-    let above = vec![in alloc;
-        Pred {
-            column: 3,
-            test: Test::Gt(Cell::Int(0))
-        },
-    ]?;
-    let cut = shown(alloc, &views, 30, &scan(columns, above), &schema)?;
-    assert_eq!(rt;
-        cells_of(alloc, &cut)?.as_slice(),
-        [58, 100, 1, 119].as_slice()
-    );
-    let null = vec![in alloc;
-        Pred {
-            column: 3,
-            test: Test::IsNull
-        },
-    ]?;
-    let cut = shown(alloc, &views, 30, &scan(None, null), &schema)?;
-    assert_eq!(rt;
-        cells_of(alloc, &cut)?.as_slice(),
-        [101, 0, 0, 1].as_slice()
-    );
+    ]?)
+}
+
+// The time of a scan, what it asks, and the cells that it shows.
+const SHOWN: [(u64, Asked, &[i64]); 4] = [
+    (
+        30,
+        Asked::All,
+        &[100, 100, 58, 1, 101, 0, 0, 1, 119, 100, 1, 1],
+    ),
+    (10, Asked::All, &[100, 100, 58, 1]),
+    (30, Asked::Above, &[58, 100, 1, 119]),
+    (30, Asked::Null, &[101, 0, 0, 1]),
+];
+
+#[test]
+fn rows_come_by_key_filtered_and_cut(rt: HostRuntime) -> Result<(), Fail> {
+    let views = views(rt.alloc())?;
+    for (t, asked, wanted) in &SHOWN {
+        assert!(rt; shows(rt.alloc(), &views, *t, asked, *wanted)?);
+    }
     Ok(())
 }

@@ -17,6 +17,3 @@ pub use file::{DeltaFile, Way};
 pub use kt_bytes::CodecNo;
 pub use reading::decode;
 pub use writing::spell;
-
-#[cfg(test)]
-mod tests;

@@ -5,8 +5,6 @@
 
 pub mod dir;
 pub mod edges;
-#[cfg(test)]
-mod tests;
 
 pub use dir::{DirDisk, Taken};
 pub use edges::{MachineClock, Stdin, Stdout, Ticks};

@@ -4,4 +4,3 @@ pub mod Halves
 pub mod Search
 pub mod FieldsAt
 mod Worked
-pub mod Singles

@@ -3,4 +3,3 @@ pub mod Filter
 pub mod Index
 pub mod Tables
 pub mod Tail
-pub mod Upto

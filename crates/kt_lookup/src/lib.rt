@@ -20,6 +20,3 @@ pub use kt_bytes::{NoMemory, Octets, Texts as KeyList};
 pub use lookups::{Lookup, build};
 pub use steps::Steps;
 pub use tails::Differs;
-
-#[cfg(test)]
-mod tests;

@@ -13,8 +13,6 @@ pub mod laws;
 mod order;
 pub mod picking;
 pub mod table;
-#[cfg(test)]
-mod tests;
 
 pub use candidate::{Candidate, CandidateList, IdList};
 pub use picking::{Picked, accepts, best};

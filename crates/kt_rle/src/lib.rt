@@ -20,6 +20,3 @@ pub use items::{Item, Items, get};
 pub use kt_bytes::{CodecNo, NoMemory, Octets};
 pub use kt_plain::NumberWidth as Width;
 pub use laws::{delimited, one_place, one_spelling, one_value};
-
-#[cfg(test)]
-mod tests;

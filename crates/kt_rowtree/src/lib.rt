@@ -10,6 +10,4 @@ pub use tree::RowTree;
 
 pub mod lists;
 mod search;
-#[cfg(test)]
-mod tests;
 pub mod tree;

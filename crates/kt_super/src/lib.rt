@@ -23,6 +23,3 @@ pub use loading::load;
 pub use meta::{FileRef, FileRefs, Meta, MetaRowset, MetaRowsets, Prepared};
 pub use preparing::prepare;
 pub use refusal::{Place, PrepareNo, SuperNo};
-
-#[cfg(test)]
-mod tests;

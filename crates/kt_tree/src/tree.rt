@@ -16,9 +16,6 @@ use kt_pool::{Place, Pool};
 use std::alloc::Global;
 use std::cmp::Ordering;
 
-#[cfg(test)]
-mod tests;
-
 /// A key's place, and that of its value.
 #[derive(Clone, Copy, Debug, PartialEq, Eq)]
 pub struct Pair {

@@ -1,5 +1,0 @@
-use Rattle.kt_journal.proofs.Fresh.{fresh_opens}
-use Rattle.kt_cases.proofs.journal.found.Goals as goal
-
-pub open_journal-requires : goal.open_journal-requires
-open_journal-requires c = record { openable = λ told. fresh_opens c.args.disk c.requires }

@@ -1,4 +1,0 @@
-use Rattle.kt_lookup.proofs.tests.first.Given as goal
-
-abbrev pub ghosts-first_of : goal.ghosts-first_of
-ghosts-first_of a = record { name = a.blank.name; parts = a.blank.parts }
