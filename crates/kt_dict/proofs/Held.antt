@@ -6,7 +6,7 @@ use Rattle.kt_dict.specs.Spelling.{short, code, dictionary, entries_after, spell
 use Rattle.kt_dict.specs.Writing.{text}
 use Rattle.kt_dict.specs.Items.{IsHeld, items_of}
 use Rattle.kt_dict.proofs.Words.{Own, own_nil, own_after, after_grows}
-use Rattle.kt_dict.proofs.Fields.{length-text}
+use Rattle.kt_dict.proofs.Fields.{length-text, concat_block}
 use Rattle.kt_dict.proofs.Short.{spelled_by, length-spelling, no_longer}
 
 codes_are : (entries : List (List ℕ)) (codes : List ℕ) → Own entries → ((i : ℕ) → i < length codes → get_or codes i 0 < length entries) → flat_map (code entries) (items_of entries codes) ≡ flat_map short codes
@@ -21,7 +21,7 @@ held_spelled entries codes h =
     let items : List (List ℕ) = items_of entries codes in
     let own : Own entries = subst Own h.first_use (own_after [] items own_nil) in
     ap (λ (t : List ℕ). (short (length entries) ++ flat_map text entries) ++ t) (sym (codes_are entries codes own h.within))
-    ∙ spelled_by items entries (length entries) (sym h.first_use) (ap length (sym h.first_use))
+    ∙ (sym (concat_block entries items) ∙ spelled_by items entries (sym h.first_use))
 
 pub held_fits : (entries : List (List ℕ)) (codes : List ℕ) → IsHeld entries codes → Fits (items_of entries codes)
 held_fits entries codes h = record { few = omega (arith, ap length h.first_use, h.most); each = no_longer (dictionary (items_of entries codes)) (subst (AllByRecursion (λ x. length x < 2 ^ 32)) (sym h.first_use) h.short) }

@@ -1,11 +1,11 @@
 -- The entries of a list are items of it, so that none is longer than all together.
 use Rattle.std.proofs.Common.{◌≡◌, ℕ, zero, suc, ◌+◌, ◌*◌, ◌^◌, ◌<◌, ◌≤◌, true, false, cond, List, [], ◌∷◌, ◌++◌, length, get_or, take, drop, drop-cons, All, refl, sym, ap, subst, ◌∙◌, arith}
-use Rattle.std.specs.List.{AllByRecursion, sum_by, flat_map}
+use Rattle.std.specs.List.{AllByRecursion, concat, sum_by, flat_map}
 use Rattle.std.specs.Borrow.{Bor}
 use Rattle.std.proofs.lemmas.List.{length-map, length-append}
 use Rattle.std.proofs.lemmas.List.Elements.{All-from_recursion}
 use Rattle.std.proofs.lemmas.List.Sums.{get_or-le-sum_by}
-use Rattle.kt_dict.specs.Spelling.{has, with_entry, entries_after, dictionary, place, short, code, spelling}
+use Rattle.kt_dict.specs.Spelling.{has, with_entry, entries_after, dictionary, place, short, code, block, spelling}
 use Rattle.kt_dict.specs.Writing.{text}
 use Rattle.kt_dict.proofs.Words.{nows, after_grows}
 use Rattle.kt_dict.proofs.Fields.{length-short, length-text, spelling_is}
@@ -45,9 +45,10 @@ keys_count items ks is =
     let g = after_grows [] items in
     (n, omega (arith, ap length g.1, g.2))
 
--- the parts that were written are the spelling
-pub spelled_by : (items known : List (List ℕ)) (n : ℕ) → known ≡ dictionary items → n ≡ length (dictionary items) → (short n ++ flat_map text known) ++ flat_map (code known) items ≡ spelling items
-spelled_by items known n is count = ap (λ k. (short k ++ flat_map text known) ++ flat_map (code known) items) count ∙ (ap (λ ds. (short (length (dictionary items)) ++ flat_map text ds) ++ flat_map (code ds) items) is ∙ sym (spelling_is items))
+-- the block that was written is the spelling
+pub spelled_by : (items known : List (List ℕ)) → known ≡ dictionary items → concat (block known items) ≡ spelling items
+unfolding spelling
+spelled_by items known is = ap (λ (ds : List (List ℕ)). concat (block ds items)) is
 
 -- ---- how long a spelling is
 

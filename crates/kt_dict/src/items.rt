@@ -13,7 +13,7 @@ use std::marker::Model;
 pub type Item<'a> = &'a [u8];
 
 /// The list of a block that was read. Contracts see the items, each the entry of its code.
-#[derive(Debug, Drop)]
+#[derive(Drop)]
 pub struct Items {
     entries: Texts,
     codes: Vec<u16>,

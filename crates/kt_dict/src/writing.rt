@@ -1,8 +1,8 @@
 //! From a list to its block.
 
 ghost use Rattle.std.specs.Prelude.{◌≡◌, ◌<◌, ◌≤◌, ◌^◌, ◌++◌, length, map, sum_by, OnOk, IfOk, IfErr, MatchOption};
-ghost use Rattle.std.specs.List.{All, AllByRecursion, flat_map};
-ghost use Rattle.kt_dict.specs.Spelling.{code, dictionary, short, spelling, Fits};
+ghost use Rattle.std.specs.List.{All, AllByRecursion, concat, flat_map};
+ghost use Rattle.kt_dict.specs.Spelling.{block, code, dictionary, short, spelling, Fits};
 ghost use Rattle.kt_dict.specs.Writing.{text, IsRefusal};
 
 use crate::error::{CodecNo, Width};
@@ -83,6 +83,19 @@ fn put_codes(out: &mut Vec<u8>, table: &IndexSet<&[u8]>, cells: &Texts) -> Resul
     Ok(())
 }
 
+/// The bytes of a dictionary, and of the codes of cells.
+fn written(alloc: Global, table: &IndexSet<&[u8]>, cells: &Texts) -> Result<Vec<u8>, AllocError>
+    requires few { length (map (λ k. k.now) table.now.keys) ≤ 4096 }
+    requires small { All (λ k. length k.now < 2 ^ 32) table.now.keys }
+    ensures { IfOk result (λ bytes. bytes.items ≡ concat (block (map (λ k. k.now) table.now.keys) cells.now)) }
+{
+    let mut out = Vec::new(alloc);
+    put_short(&mut out, table.len())?;
+    put_entries(&mut out, table.as_slice())?;
+    put_codes(&mut out, table, cells)?;
+    Ok(out)
+}
+
 /// How many bytes the entries take.
 fn entries_len(entries: &[&[u8]]) -> usize
     requires few { length entries.now ≤ 4096 }
@@ -139,9 +152,5 @@ pub fn encode(alloc: Global, cells: &Texts, width: Width) -> Result<Octets, Code
             count: count as u32,
         });
     }
-    let mut out = Vec::new(alloc);
-    put_short(&mut out, count)?;
-    put_entries(&mut out, table.as_slice())?;
-    put_codes(&mut out, &table, cells)?;
-    Ok(Octets::of(out))
+    Ok(Octets::of(written(alloc, &table, cells)?))
 }

@@ -14,7 +14,7 @@ use std::cmp::Ordering;
 use std::marker::Model;
 
 /// The list of a block that was read. Contracts see the items.
-#[derive(Debug, Drop)]
+#[derive(Drop)]
 pub struct Items {
     bytes: Octets,
     starts: Starts,
@@ -34,7 +34,7 @@ impl Model for Items {
 
 /// An item where it stands: the block from its stretch on, and its place in the stretch. Contracts
 /// see its bytes.
-#[derive(Debug, Drop)]
+#[derive(Drop)]
 pub struct Item<'a> {
     stretch: &'a [u8],
     place: u32,

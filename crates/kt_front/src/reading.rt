@@ -1,9 +1,10 @@
 //! From a block to its list.
 
-ghost use Rattle.std.specs.Prelude.{◌≤◌, ◌++◌, [], List, ℕ, length, take, IfOk, IfErr};
-ghost use Rattle.kt_bytes.specs.Reading.{Gives};
+ghost use Rattle.std.specs.Prelude.{◌<◌, ◌≤◌, ◌^◌, ◌++◌, [], List, ℕ, length, take, IfOk, IfErr};
+ghost use Rattle.std.specs.Int.{w32};
+ghost use Rattle.kt_bytes.specs.Reading.{checked_at, Gives};
 ghost use Rattle.kt_front.specs.Reading.{Spells, SpellsWithin, IsCause, IsCauseWithin, IsItems};
-ghost use Rattle.kt_front.specs.Walk.{behind_of, cell_at, ended_of, items_at};
+ghost use Rattle.kt_front.specs.Walk.{behind_of, cell_at, ended_of, is_more, is_shared, items_at};
 
 use crate::error::{CodecNo, Width};
 use crate::items::Items;
@@ -14,22 +15,40 @@ use kt_bytes::fields::{front_of, u32_at};
 use kt_bytes::{Octets, Stop};
 use std::alloc::Global;
 
+/// How many bytes an item shares with this one, which has as many.
+fn shared_of<'a>(with: &[u8], bytes: &'a [u8]) -> Result<(usize, &'a [u8]), Stop>
+    ensures read { Gives (λ x. (x.0, x.1.now)) result (checked_at w32 (is_shared with.now) bytes.now) }
+    ensures within { IfOk result (λ x. x.0 ≤ length with.now) }
+{
+    let (shared, rest) = u32_at(bytes)?;
+    let shared = shared as usize;
+    if shared > with.len() {
+        return Err(Stop::Left(bytes.len()));
+    }
+    Ok((shared, rest))
+}
+
+/// How many bytes more an item has, at most so many together.
+fn more_of(most: u32, shared: usize, bytes: &[u8]) -> Result<(usize, &[u8]), Stop>
+    requires { shared < 2 ^ 63 }
+    ensures { Gives (λ x. (x.0, x.1.now)) result (checked_at w32 (is_more most shared) bytes.now) }
+{
+    let (len, rest) = u32_at(bytes)?;
+    let len = len as usize;
+    if shared + len > most as usize {
+        return Err(Stop::Left(bytes.len()));
+    }
+    Ok((len, rest))
+}
+
 #[tactic(auto, unfolding(crate::specs::Walk::cell_at))]
 pub(crate) fn cell_of<'a>(with: &[u8], most: u32, bytes: &'a [u8]) -> Result<Cell<'a>, Stop>
     ensures read { Gives (λ x. (take x.shared with.now ++ x.rest.now, x.after.now)) result (cell_at most with.now bytes.now) }
     ensures there { IfOk result (λ x. x.shared ≤ length with.now) }
 {
-    let (shared, behind) = u32_at(bytes)?;
-    let shared = shared as usize;
-    if shared > with.len() {
-        return Err(Stop::Left(bytes.len()));
-    }
-    let (len, rest) = u32_at(behind)?;
-    let len = len as usize;
-    if shared + len > most as usize {
-        return Err(Stop::Left(behind.len()));
-    }
-    let (rest, after) = front_of(rest, len)?;
+    let (shared, behind) = shared_of(with, bytes)?;
+    let (len, behind) = more_of(most, shared, behind)?;
+    let (rest, after) = front_of(behind, len)?;
     if begin_alike(&with[shared..], rest) {
         return Err(Stop::Left(bytes.len()));
     }

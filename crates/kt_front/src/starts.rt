@@ -13,7 +13,7 @@ use std::cmp::Ordering;
 use std::marker::Model;
 
 /// The offset of each stretch of a block, made once for the block.
-#[derive(Debug, Drop)]
+#[derive(Drop)]
 pub struct Starts {
     offsets: Vec<usize>,
 }

@@ -7,14 +7,14 @@ use crate::numbers::Numbers;
 use kt_bytes::Texts;
 
 /// The items of a block: numbers, or byte lists.
-#[derive(Debug, Drop)]
+#[derive(Drop)]
 pub enum Items {
     Numbers(Numbers),
     Texts(Texts),
 }
 
 /// One item.
-#[derive(Clone, Copy, Debug)]
+#[derive(Clone, Copy)]
 pub enum Item<'a> {
     Number(i64),
     Bytes(&'a [u8]),

@@ -12,7 +12,7 @@ use std::alloc::{AllocError, Global};
 use std::marker::Model;
 
 /// A list of numbers of one width: the bytes of each, one after another. Contracts see the list.
-#[derive(Debug, Drop)]
+#[derive(Drop)]
 pub struct Numbers {
     width: NumberWidth,
     bytes: Vec<u8>,

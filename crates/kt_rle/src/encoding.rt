@@ -77,12 +77,19 @@ fn put_run(out: &mut Vec<u8>, len: u32, value: i64, width: Width) -> Result<(), 
     ensures { OnOk result (out.new.items ≡ out.old.items ++ run_bytes width (record { len = len; value = value })) }
 {
     out.extend_from_slice(&len.to_le_bytes())?;
+    put_number(out, value, width)
+}
+
+/// Writes a number at the end.
+fn put_number(out: &mut Vec<u8>, value: i64, width: Width) -> Result<(), AllocError>
+    requires { IsInWidth width value }
+    ensures { OnOk result (out.new.items ≡ out.old.items ++ number width value) }
+{
     match width {
-        Width::Bit => out.push(value as u8)?,
-        Width::One => out.push((value as i8).cast_unsigned())?,
-        Width::Two => out.extend_from_slice(&(value as i16).to_le_bytes())?,
-        Width::Four => out.extend_from_slice(&(value as i32).to_le_bytes())?,
-        Width::Eight => out.extend_from_slice(&value.to_le_bytes())?,
+        Width::Bit => out.extend_from_slice(&[value as u8]),
+        Width::One => out.extend_from_slice(&[(value as i8).cast_unsigned()]),
+        Width::Two => out.extend_from_slice(&(value as i16).to_le_bytes()),
+        Width::Four => out.extend_from_slice(&(value as i32).to_le_bytes()),
+        Width::Eight => out.extend_from_slice(&value.to_le_bytes()),
     }
-    Ok(())
 }

@@ -12,7 +12,7 @@ use std::alloc::{AllocError, Global};
 use std::marker::Model;
 
 /// The items of a block: its runs, each with its number and where it ends. Contracts see the list of numbers.
-#[derive(Debug, Drop)]
+#[derive(Drop)]
 pub struct Items {
     runs: Vec<Held>,
 }
