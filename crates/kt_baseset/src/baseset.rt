@@ -22,7 +22,7 @@ use std::marker::{Brand, Model};
 use std::sync::ledger::{Blank, Ledger};
 
 /// The base file of a disk rowset. Contracts see its columns, and its rows by rising key.
-#[derive(Debug, Drop)]
+#[derive(Drop)]
 pub struct BaseSet {
     keys: ColumnData,
     columns: Vec<HeldColumn>,

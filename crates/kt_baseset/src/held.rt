@@ -4,7 +4,7 @@ use crate::schema::ColumnShape;
 use kt_column::ColumnData;
 
 /// A column that is not part of the key, and its cells.
-#[derive(Debug, Drop)]
+#[derive(Drop)]
 pub struct HeldColumn {
     pub shape: ColumnShape,
     pub column: ColumnData,

@@ -24,7 +24,7 @@ use std::marker::Model;
 
 /// The cells of a block: which are null, and the values of the others, where cells were given as
 /// plain values, and where bytes were read as their encoding has them.
-#[derive(Debug, Drop)]
+#[derive(Drop)]
 pub struct Block {
     form: Form,
     nulls: Nulls,

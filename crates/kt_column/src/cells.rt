@@ -6,7 +6,7 @@ use kt_base::Cell;
 use std::marker::Model;
 
 /// The cells of one column, row by row. Contracts see them as a list.
-#[derive(Debug, Drop)]
+#[derive(Drop)]
 pub struct Cells1 {
     cells: Vec<Cell>,
 }

@@ -18,7 +18,7 @@ use std::marker::Model;
 
 /// The cells of a column, decoded. A cell's block and its place there are a division away. Contracts
 /// see its form and the list of its cells.
-#[derive(Debug, Drop)]
+#[derive(Drop)]
 pub struct ColumnData {
     form: Form,
     blocks: Vec<Block>,

@@ -83,7 +83,7 @@ fn values_behind(
 }
 
 /// Which cells are null, and the values of the others.
-#[derive(Debug, Drop)]
+#[derive(Drop)]
 struct Content {
     nulls: Nulls,
     values: Values,
@@ -132,7 +132,7 @@ fn is_least(
 }
 
 /// A block, and how many bytes it takes.
-#[derive(Debug, Drop)]
+#[derive(Drop)]
 pub struct Found {
     pub block: Block,
     pub len: usize,

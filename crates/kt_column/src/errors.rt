@@ -5,7 +5,7 @@ use std::alloc::{AllocError, AllocFailed};
 use thiserror::Error;
 
 /// Why bytes gave no block, or no column.
-#[derive(Clone, Copy, Debug, PartialEq, Eq, Error)]
+#[derive(Clone, Copy, Debug, Error)]
 pub enum CodecNo {
     /// No such spelling begins the bytes: the place of the first fault.
     #[error("the bytes are no column at offset {offset}")]
@@ -26,7 +26,7 @@ impl From<NoMemory> for CodecNo {
 }
 
 /// Why reading stopped: no memory, or a fault at a place.
-#[derive(Clone, Copy, Debug)]
+#[derive(Clone, Copy)]
 pub enum Stop {
     Memory,
     Fault { at: usize },

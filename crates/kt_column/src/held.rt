@@ -17,7 +17,7 @@ use std::cmp::Ordering;
 
 /// The values of a block: those of cells as plain values, and those of bytes as their encoding has
 /// them, so that they take no more than a few times the bytes.
-#[derive(Debug, Drop)]
+#[derive(Drop)]
 pub enum Values {
     Plain(Items),
     Runs(kt_rle::Items),

@@ -13,7 +13,7 @@ use kt_plain::{Items, Texts};
 use std::alloc::Global;
 
 /// An encoding, and how many bytes the values take in it.
-#[derive(Clone, Copy, Debug)]
+#[derive(Clone, Copy)]
 pub struct Measured {
     pub encoding: Encoding,
     pub len: usize,

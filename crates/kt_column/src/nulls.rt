@@ -12,7 +12,7 @@ use std::marker::Model;
 
 /// For each cell none where it is null, and else the place of its value among the values. Contracts
 /// see it as a list that says of each cell whether it is null.
-#[derive(Debug, Drop)]
+#[derive(Drop)]
 pub struct Nulls {
     slots: Vec<Option<u16>>,
     present: u16,

@@ -13,7 +13,7 @@ use crate::nulls::{self, Nulls};
 use std::alloc::Global;
 
 /// The first fields of a block, and the bytes behind them.
-#[derive(Clone, Copy, Debug)]
+#[derive(Clone, Copy)]
 pub struct Head<'a> {
     pub encoding: Encoding,
     pub len: usize,

@@ -16,7 +16,7 @@ use kt_plain::{Items, NumberWidth, Numbers, Texts, Width};
 use std::alloc::Global;
 
 /// The bytes of a block's values, and their encoding.
-#[derive(Debug, Drop)]
+#[derive(Drop)]
 pub struct Chosen {
     pub encoding: Encoding,
     pub bytes: Vec<u8>,

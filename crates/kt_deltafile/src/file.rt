@@ -16,7 +16,7 @@ pub enum Way {
 }
 
 /// The records of a delta file, by ordinal, and those of a row in the order of the way.
-#[derive(Debug, Drop)]
+#[derive(Drop)]
 pub struct DeltaFile {
     way: Way,
     list: DeltaList,
