@@ -1,5 +1,5 @@
 -- Words by their names, in any order.
-use Rattle.std.proofs.Common.{◌≡◌, ℕ, suc, ◌+◌, ◌≤◌, Bool, true, false, not, cond, ◌||◌, List, [], ◌∷◌, ◌++◌, length, map, Option, Some, None, refl, sym, ap, subst, ◌∙◌, arith}
+use Rattle.std.proofs.Common.{◌≡◌, ℕ, suc, ◌+◌, Bool, true, false, not, cond, ◌||◌, List, [], ◌∷◌, ◌++◌, length, map, Option, Some, None, refl, sym, ap, subst, ◌∙◌}
 use mathlib.Core.List.{append-nil}
 use Rattle.std.specs.Prelude.{if◌then◌else◌}
 use Rattle.std.specs.List.{list_any, flat_map, sum_by, AllByRecursion}
@@ -12,7 +12,7 @@ use Rattle.kt_base.proofs.Decimals.{same_text}
 use Rattle.kt_schema.specs.declared.column.Column.{Column}
 use Rattle.kt_script.specs.Writes.{name_in, column_named, is_empty}
 use Rattle.kt_script.specs.Alike.{of_name, renamed}
-use Rattle.kt_script.proofs.PrintedTables.{same_self, names_differ, turned, Other, Apart}
+use Rattle.kt_script.proofs.PrintedTables.{same_self, names_differ, turned, Apart}
 
 abbrev pub has : List ℕ → List ℕ → Bool
 has name w = same name (name_in w)

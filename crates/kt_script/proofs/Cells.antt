@@ -1,11 +1,10 @@
 -- What is read of a word as a cell of a column, and the word that is printed of it.
-use Rattle.std.proofs.Common.{◌≡◌, ℕ, zero, suc, ◌<◌, ◌≤◌, Bool, true, false, ◌&&◌, ◌||◌, List, [], ◌∷◌, ◌++◌, length, take, drop, Option, Some, None, Result, Ok, Err, inl, inr, refl, sym, ap, subst, ◌∙◌, arith}
+use Rattle.std.proofs.Common.{◌≡◌, ℕ, zero, suc, ◌<◌, Bool, true, false, ◌&&◌, ◌||◌, List, [], ◌∷◌, ◌++◌, length, take, drop, Option, Some, None, Result, Ok, Err, inl, inr, refl, sym, ap, subst, ◌∙◌, arith}
 use Rattle.std.specs.Prelude.{◌⊎◌, ℤ, codes}
 use Rattle.std.specs.Option.{option_map, option_or}
 use Rattle.std.proofs.lemmas.Bool.{false≢true}
 use Rattle.kt_base.specs.declared.cell.Kind.{Kind}
 use Rattle.kt_base.specs.declared.cell.Cell.{Cell}
-use Rattle.kt_base.specs.declared.cell.Cell.TheVariants as cell
 use Rattle.kt_base.specs.declared.literal.LiteralNo.{LiteralNo}
 use Rattle.kt_base.specs.declared.literal.LiteralNo.TheVariants as no
 use Rattle.kt_base.specs.Literals.{same, literal, cell_in, cell_or, value_in, number_in, string_in, binary_in, Value, nothing, truth, number, text, raw, CellBytes, SpellsCell}
@@ -16,7 +15,7 @@ use Rattle.kt_base.proofs.Values.{both}
 use Rattle.kt_key.specs.Fit.{has_kind}
 use Rattle.kt_schema.specs.declared.column.Column.{Column}
 use Rattle.kt_schema.specs.Rows.{is_null}
-use Rattle.kt_script.specs.Reasons.{sound, cell_no, cell_reason, cell_value, cell_or_null}
+use Rattle.kt_script.specs.Reasons.{cell_no, cell_reason, cell_value, cell_or_null}
 use Rattle.kt_script.specs.Writes.{name_in, behind_name}
 use Rattle.kt_script.specs.Fit.{fits_column}
 use Rattle.kt_script.proofs.EachKind.{of_kind, or_memory, under_null}

@@ -1,5 +1,5 @@
 -- Laws of forms.
-use Rattle.std.proofs.Common.{◌≡◌, ℕ, suc, ◌≤◌, ◌<◌, Bool, true, false, List, [], ◌∷◌, ◌++◌, length, take, drop, Option, Some, None, refl, sym, ap, subst, ◌∙◌, arith}
+use Rattle.std.proofs.Common.{◌≡◌, ℕ, suc, ◌≤◌, Bool, true, false, List, [], ◌∷◌, ◌++◌, length, take, drop, Option, Some, None, refl, sym, ap, subst, ◌∙◌, arith}
 use Rattle.std.specs.Prelude.{if◌then◌else◌, nat_lt, codes}
 use Rattle.std.specs.List.{list_all, AllByRecursion}
 use Rattle.std.proofs.Math.Seq.{take-append_seam, drop-append_seam}
@@ -7,7 +7,6 @@ use Rattle.kt_base.specs.Literals.{same}
 use Rattle.kt_base.proofs.Decimals.{same_text}
 use Rattle.kt_script.specs.Reasons.{sound}
 use Rattle.kt_script.proofs.PrintedWords.{IsWord, High, high_word, all_high}
-use Rattle.kt_script.proofs.PrintedTables.{same_self}
 use Rattle.kt_script.proofs.InLine.{join}
 use Rattle.kt_script.proofs.Cuts.{Without}
 use Rattle.kt_script.specs.Kinds.{kind_in}

@@ -1,5 +1,5 @@
 -- NAME=LIT in any order: what is read of a column is what stands behind its name.
-use Rattle.std.proofs.Common.{◌≡◌, ℕ, ◌+◌, ◌<◌, ◌≤◌, min, Bool, true, false, not, cond, ◌&&◌, ◌||◌, List, [], ◌∷◌, ◌++◌, length, map, drop, Option, Some, None, refl, sym, ap, subst, ◌∙◌, arith, append_assoc, length-append}
+use Rattle.std.proofs.Common.{◌≡◌, ℕ, ◌<◌, ◌≤◌, Bool, true, false, not, cond, ◌&&◌, ◌||◌, List, [], ◌∷◌, ◌++◌, length, map, drop, Option, Some, None, refl, sym, ap, subst, ◌∙◌, arith, append_assoc, length-append}
 use mathlib.Core.List.{append-nil}
 use Rattle.std.specs.Prelude.{if◌then◌else◌, ◌==◌, is_some}
 use Rattle.std.specs.List.{list_any, list_all, flat_map, AllByRecursion}
@@ -20,9 +20,9 @@ use Rattle.kt_script.specs.Fit.{is_given}
 use Rattle.kt_script.specs.Print.{cell_word, cell_words}
 use Rattle.kt_script.specs.Alike.{of_name, renamed}
 use Rattle.kt_script.proofs.InLine.{join}
-use Rattle.kt_script.proofs.PrintedWords.{High, name_is as named_is}
+use Rattle.kt_script.proofs.PrintedWords.{name_is as named_is}
 use Rattle.kt_script.proofs.PrintedCells.{cell_ok}
-use Rattle.kt_script.proofs.PrintedTables.{same_self, turned, names_differ, IsNamed, Apart, Rising, all_named_in}
+use Rattle.kt_script.proofs.PrintedTables.{same_self, names_differ, IsNamed, Apart, Rising, all_named_in}
 use Rattle.kt_script.proofs.PrintedNames.{name_before, behind_sign, sign_plain}
 use Rattle.kt_script.proofs.Among.{found_has}
 use Rattle.kt_script.proofs.ScanFit.{name_is}

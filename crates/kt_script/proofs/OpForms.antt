@@ -23,10 +23,10 @@ use Rattle.kt_script.specs.declared.forms.OpForm.TheVariants as form
 use Rattle.kt_script.specs.Reasons.{sound, reason_if, cell_no, cell_value}
 use Rattle.kt_script.specs.Columns.{IsTable}
 use Rattle.kt_script.specs.Texts.{literals}
-use Rattle.kt_script.specs.Writes.{name_in, cells_no, cells_of, key_len, key_of, key_no, long_no, under, all_named_no, all_named, must_be_named, left_out_no, is_empty, none_left_no, values_no, behind_no, cells_said, op_form, op_word, op_kinds, kind_no, op_kind, op_no, op_of, op_cells, kind_or_delete}
+use Rattle.kt_script.specs.Writes.{name_in, cells_no, cells_of, key_len, key_of, key_no, under, must_be_named, left_out_no, is_empty, none_left_no, values_no, behind_no, cells_said, op_form, op_word, op_kinds, kind_no, op_kind, op_no, op_of, op_cells, kind_or_delete}
 use Rattle.kt_script.specs.Fit.{is_part, is_given, cells_fit, fits_column, OpFits}
-use Rattle.kt_script.specs.Print.{ColumnFits, key_words, cell_words, form_names, is_named, op_words, OpBytes}
-use Rattle.kt_script.specs.Alike.{of_name, renamed, behind_alike, kind_alike, op_alike}
+use Rattle.kt_script.specs.Print.{ColumnFits, cell_words, form_names, is_named, op_words, OpBytes}
+use Rattle.kt_script.specs.Alike.{of_name, behind_alike, kind_alike, op_alike}
 use Rattle.kt_script.proofs.WordForms.{Form, Spells, each, each_no, each_value, each_words, each_keeps, nothing, nothing_no, pair, mapped, ruled, kind_no as kind_no_of, kind_value, chosen}
 use Rattle.kt_script.proofs.FormLaws.{Plain, plain, Lawful, all_of, reads, each_law, each_size, nothing_law, pair_law, chosen_law, mapped_law, ruled_law}
 use Rattle.kt_script.proofs.Among.{same_id}
@@ -34,7 +34,7 @@ use Rattle.kt_script.proofs.Cells.{literal_of, literal_law}
 use Rattle.kt_script.proofs.KeyCells.{strong_keys, keys_kept, key_kept}
 use Rattle.kt_script.proofs.PrintedCells.{kinds_of}
 use Rattle.kt_script.proofs.PrintedTables.{Tabled, Rising, Apart, apart_of, apart_kept, rising_of, rising_kept, numbered}
-use Rattle.kt_script.proofs.Packed.{Packed, packed_part, part_packed, no_part, no_words}
+use Rattle.kt_script.proofs.Packed.{packed_part, part_packed, no_words}
 use Rattle.kt_script.proofs.ByName.{none_left}
 use Rattle.kt_script.proofs.NamedForm.{named, named_law, given_named}
 use Rattle.kt_script.proofs.OpWords.{limit, same_op}

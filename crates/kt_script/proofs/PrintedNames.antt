@@ -1,5 +1,5 @@
 -- A word that begins with a name.
-use Rattle.std.proofs.Common.{◌≡◌, ℕ, ◌+◌, List, [], ◌∷◌, ◌++◌, refl, sym, ap, subst, ◌∙◌, cond, arith, length, take, drop, Bool, true, false, not}
+use Rattle.std.proofs.Common.{◌≡◌, ℕ, ◌+◌, List, [], ◌∷◌, ◌++◌, refl, sym, ap, subst, ◌∙◌, cond, arith, length, take, drop, true, false, not}
 use mathlib.Core.List.{append-nil}
 use Rattle.std.specs.Prelude.{◌≢◌, ◌||◌, ◌==◌, codes}
 use Rattle.std.specs.List.{position_or_len, AllByRecursion}

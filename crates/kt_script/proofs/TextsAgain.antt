@@ -15,9 +15,8 @@ use Rattle.kt_history.specs.declared.command.Command.{Command}
 use Rattle.kt_history.specs.declared.command.Command.TheVariants as command
 use Rattle.kt_script.specs.declared.forms.OpForm.{OpForm}
 use Rattle.kt_script.specs.declared.forms.OpForm.TheVariants as form
-use Rattle.kt_script.specs.declared.word.Side.{Side}
 use Rattle.kt_script.specs.declared.word.Side.TheVariants.{Outside}
-use Rattle.kt_script.specs.Pieces.{cut, side_after, ends_word, words_from, words_of}
+use Rattle.kt_script.specs.Pieces.{cut, words_of}
 use Rattle.kt_script.specs.Reasons.{sound, reason_if}
 use Rattle.kt_script.specs.Texts.{line, words}
 use Rattle.kt_script.specs.Columns.{column_line, kind_of, of_kind, begins_column, said_no, column_no, columns_with, IsTable}

@@ -1,5 +1,5 @@
 -- Forms: how values of a kind are written in the words of a line. A form is described once; how it is read, printed and kept follows.
-use Rattle.std.specs.Prelude.{◌≡◌, ℕ, min, List, [], ◌∷◌, ◌++◌, take, drop, Option, Some, None, if◌then◌else◌}
+use Rattle.std.specs.Prelude.{◌≡◌, ℕ, min, List, [], ◌∷◌, ◌++◌, take, drop, Option, Some, None}
 use Rattle.kt_script.specs.Reasons.{sound}
 use Rattle.kt_script.specs.Kinds.{kind_in}
 

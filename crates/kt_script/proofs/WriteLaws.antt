@@ -1,8 +1,8 @@
 -- A write line that is taken keeps the rules of its table, and is printed as it was but for the order of names; what is printed is read again; each order of the names says the same.
-use Rattle.std.proofs.Common.{◌≡◌, ℕ, suc, ◌+◌, ◌≤◌, min, Bool, true, false, List, [], ◌∷◌, ◌++◌, length, take, drop, map, Option, Some, None, inl, inr, refl, sym, ap, subst, ◌∙◌, arith}
+use Rattle.std.proofs.Common.{◌≡◌, ℕ, suc, ◌+◌, ◌≤◌, Bool, true, false, List, [], ◌∷◌, ◌++◌, length, take, drop, map, Option, Some, None, inl, inr, refl, sym, ap, subst, ◌∙◌, arith}
 use mathlib.Core.List.{append-nil}
 use Rattle.std.specs.Prelude.{if◌then◌else◌, nat_lt, codes}
-use Rattle.std.specs.List.{list_any, onto_first, AllByRecursion}
+use Rattle.std.specs.List.{onto_first, AllByRecursion}
 use Rattle.std.specs.List.Sorted.{IsPermutation}
 use Rattle.std.proofs.lemmas.List.{take-append-drop, length-map}
 use Rattle.std.proofs.lemmas.List.Sorted.{IsPermutation-refl, IsPermutation-cons, IsPermutation-append_right}
