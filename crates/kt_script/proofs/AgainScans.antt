@@ -27,10 +27,11 @@ use Rattle.kt_script.specs.Reasons.{sound, reason_if, cell_or_null, cell_value}
 use Rattle.kt_script.specs.Columns.{counts_from, IsTable}
 use Rattle.kt_script.specs.Times.{most_time, time_in, late_no, time_no, time_or_zero, mark_no, mark_of, at_no}
 use Rattle.kt_script.specs.Writes.{is_sign, name_in, behind_name, column_named}
-use Rattle.kt_script.specs.Scans.{Asked, compared, null, not_null, PredLine, or_equal, signed, Taken, not_null_asked, is_asked, null_asked, asked_by, pred_at, behind_pred, preds_after, preds_in, ScanLine, with_preds, tests_in, where_line, select_line, Timed, given, timed, names_no, compared_reason, asked_no, preds_no, select_no, line_no, timed_no, scan_no, ids_of, test_of, pred_of, preds_of, scan_said, timed_scan, scan_of}
+use Rattle.kt_script.specs.Scans.{Asked, compared, null, not_null, PredLine, or_equal, signed, Taken, Asking, null_asked, asked_at, taken_of, pred_at, behind_pred, preds_after, preds_in, ScanLine, with_preds, tests_in, where_line, select_line, Timed, given, timed, names_no, compared_reason, asked_no, preds_no, select_no, line_no, timed_no, scan_no, ids_of, test_of, pred_of, preds_of, scan_said, timed_scan, scan_of}
 use Rattle.kt_script.specs.Fit.{column_of}
 use Rattle.kt_script.specs.Print.{joined, parted, name_of, test_words, words_under, pred_words, at_words, names_word, select_words, where_words, scan_words}
 use Rattle.kt_script.proofs.Cuts.{some_piece}
+use Rattle.kt_script.proofs.Preds.{null_is}
 use Rattle.kt_script.proofs.EachKind.{or_memory}
 use Rattle.kt_script.proofs.TimeWords.{unsigned}
 use Rattle.kt_script.proofs.Cells.{name_behind}
@@ -166,44 +167,26 @@ name_only word none = name_behind word ∙ (ap (λ x. name_in word ++ x) (behind
 abbrev taken_words : Taken → List (List ℕ)
 taken_words t = line_words t.0 ++ t.1
 
-not_null_said : (name : List ℕ) (ws : List (List ℕ)) (t : Taken) → not_null_asked name ws ≡ Some t → name ∷ codes "is" ∷ codes "not" ∷ ws ≡ taken_words t
-not_null_said name [] t e = absurd cc
-not_null_said name (w ∷ ws) t e = by (same w (codes "null")) refl e
-  where
-    by : (b : Bool) → same w (codes "null") ≡ b → (if b then Some (record { name = name; asked = not_null }, ws) else None) ≡ Some t → name ∷ codes "is" ∷ codes "not" ∷ w ∷ ws ≡ taken_words t
-    by true s g =
-        let is : ◌≡◌ {A = Taken} (record { name = name; asked = not_null }, ws) t = cc in
-        ap (λ x. name ∷ codes "is" ∷ codes "not" ∷ x ∷ ws) (same_text w (codes "null") s) ∙ ap taken_words is
-    by false s g = absurd cc
-
-is_said : (name w : List ℕ) (ws : List (List ℕ)) (t : Taken) → is_asked name w ws ≡ Some t → name ∷ codes "is" ∷ w ∷ ws ≡ taken_words t
-is_said name w ws t e = by (same w (codes "null")) (same w (codes "not")) refl refl e
-  where
-    by : (a b : Bool) → same w (codes "null") ≡ a → same w (codes "not") ≡ b → (if a then Some (record { name = name; asked = null }, ws) else (if b then not_null_asked name ws else None)) ≡ Some t → name ∷ codes "is" ∷ w ∷ ws ≡ taken_words t
-    by true b s n g =
-        let is : ◌≡◌ {A = Taken} (record { name = name; asked = null }, ws) t = cc in
-        ap (λ x. name ∷ codes "is" ∷ x ∷ ws) (same_text w (codes "null") s) ∙ ap taken_words is
-    by false true s n g = ap (λ x. name ∷ codes "is" ∷ x ∷ ws) (same_text w (codes "not") n) ∙ not_null_said name ws t g
-    by false false s n g = absurd cc
-
-null_said : (name : List ℕ) (ws : List (List ℕ)) (t : Taken) → null_asked name ws ≡ Some t → name ∷ ws ≡ taken_words t
-null_said name [] t e = absurd cc
-null_said name (v ∷ []) t e = absurd cc
-null_said name (v ∷ w ∷ ws) t e = by (same v (codes "is")) refl e
-  where
-    by : (b : Bool) → same v (codes "is") ≡ b → (if b then is_asked name w ws else None) ≡ Some t → name ∷ v ∷ w ∷ ws ≡ taken_words t
-    by true s g = ap (λ x. name ∷ x ∷ w ∷ ws) (same_text v (codes "is") s) ∙ is_said name w ws t g
-    by false s g = absurd cc
+null_said : (name : List ℕ) (ws : List (List ℕ)) (x : Asking) → null_asked ws ≡ Some x → name ∷ ws ≡ taken_words (taken_of name x)
+null_said name ws x e = null_is (λ vs y. name ∷ vs ≡ taken_words (taken_of name y)) ws x (λ vs. refl) (λ vs. refl) e
 
 pred_said : (ws : List (List ℕ)) (t : Taken) → pred_at ws ≡ Some t → ws ≡ taken_words t
 pred_said [] t e = absurd cc
 pred_said (word ∷ ws) t e = by (is_name (name_in word)) (signed (behind_name word)) refl e
   where
-    by : (b : Bool) (o : Option Asked) → signed (behind_name word) ≡ o → (if b then asked_by o (name_in word) ws else None) ≡ Some t → word ∷ ws ≡ taken_words t
-    by true None s g = ap (λ x. x ∷ ws) (name_only word s) ∙ null_said (name_in word) ws t g
-    by true (Some asked) s g =
-        let is : ◌≡◌ {A = Taken} (record { name = name_in word; asked = asked }, ws) t = cc in
-        ap (λ x. x ∷ ws) (name_behind word) ∙ (ap (λ x. x ++ ws) (signed_is (name_in word) (behind_name word) asked s) ∙ ap taken_words is)
+    name : List ℕ
+    name = name_in word
+
+    made : (x : Asking) → ◌≡◌ {A = Option Taken} (Some (taken_of name x)) (Some t) → taken_words (taken_of name x) ≡ taken_words t
+    made x g = let is : taken_of name x ≡ t = cc in ap taken_words is
+
+    asked : (o : Option Asking) → signed (behind_name word) ≡ None → null_asked ws ≡ o → option_map (taken_of name) o ≡ Some t → word ∷ ws ≡ taken_words t
+    asked None s i g = absurd cc
+    asked (Some x) s i g = ap (λ y. y ∷ ws) (name_only word s) ∙ (null_said name ws x i ∙ made x g)
+
+    by : (b : Bool) (o : Option Asked) → signed (behind_name word) ≡ o → (if b then option_map (taken_of name) (asked_at o ws) else None) ≡ Some t → word ∷ ws ≡ taken_words t
+    by true None s g = asked (null_asked ws) s refl g
+    by true (Some question) s g = ap (λ x. x ∷ ws) (name_behind word) ∙ (ap (λ x. x ++ ws) (signed_is name (behind_name word) question s) ∙ made (question, ws) g)
     by false o s g = absurd cc
 
 -- ---- the tests

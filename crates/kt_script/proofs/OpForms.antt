@@ -23,7 +23,7 @@ use Rattle.kt_script.specs.declared.forms.OpForm.TheVariants as form
 use Rattle.kt_script.specs.Reasons.{sound, reason_if, cell_no, cell_value}
 use Rattle.kt_script.specs.Columns.{IsTable}
 use Rattle.kt_script.specs.Texts.{literals}
-use Rattle.kt_script.specs.Writes.{name_in, cells_no, cells_of, key_len, key_of, key_no, under, must_be_named, left_out_no, is_empty, none_left_no, values_no, behind_no, cells_said, op_form, op_word, op_kinds, kind_no, op_kind, op_no, op_of, op_cells, kind_or_delete}
+use Rattle.kt_script.specs.Writes.{name_in, cells_no, cells_of, key_len, key_of, key_no, under, must_be_named, left_out_no, is_empty, none_left_no, rest_no, rest_cells, op_form, op_word, op_kinds, kind_no, op_kind, op_no, op_of, op_cells, kind_or_delete}
 use Rattle.kt_script.specs.Fit.{is_part, is_given, cells_fit, fits_column, OpFits}
 use Rattle.kt_script.specs.Print.{ColumnFits, cell_words, form_names, is_named, op_words, OpBytes}
 use Rattle.kt_script.specs.Alike.{of_name, behind_alike, kind_alike, op_alike}
@@ -176,25 +176,21 @@ key_words_read [] ws = (refl, refl)
 key_words_read (c ∷ keys) [] = (refl, refl)
 key_words_read (c ∷ keys) (w ∷ ws) = let more = key_words_read keys ws in (ap (min (cell_no c w)) more.0, ap (λ xs. cell_value c.kind w ∷ xs) more.1)
 
-values_read : (cs : List Column) (ws : List (List ℕ)) → (values_no cs ws ≡ each_no literal_of cs ws) × (cells_of cs ws ≡ each_value literal_of cs ws)
+values_read : (cs : List Column) (ws : List (List ℕ)) → (rest_no cs form.Literals ws ≡ each_no literal_of cs ws) × (cells_of cs ws ≡ each_value literal_of cs ws)
 values_read [] [] = (refl, refl)
 values_read [] (w ∷ ws) = (refl, refl)
 values_read (c ∷ cs) [] = (refl, refl)
 values_read (c ∷ cs) (w ∷ ws) = let more = values_read cs ws in let no = more.0 in (omega (arith, no), ap (λ xs. cell_value c.kind w ∷ xs) more.1)
 
-joined : (a b c : ℕ) → min (min a b) c ≡ min a (min b c)
-joined a b c = omega arith
-
 none_left_is : (ws : List (List ℕ)) → none_left_no ws ≡ nothing_no ws
 none_left_is [] = refl
 none_left_is (w ∷ ws) = refl
 
-behind_read : (columns : List Column) (f : OpForm) (ws : List (List ℕ)) → (behind_no columns f ws ≡ min (key_no columns ws) ((rest_form (other_columns columns) f).no (drop (key_len columns) ws)))
-    × (cells_said columns f ws ≡ (rest_form (other_columns columns) f).value (drop (key_len columns) ws))
-behind_read columns form.Literals ws = let v = values_read (other_columns columns) (drop (key_len columns) ws) in (ap (min (key_no columns ws)) v.0, ap (under (other_columns columns)) v.1)
-behind_read columns form.RowNames ws = (joined (key_no columns ws) _ _, refl)
-behind_read columns form.Names ws = (joined (key_no columns ws) _ _, refl)
-behind_read columns form.Key ws = (ap (min (key_no columns ws)) (none_left_is (drop (key_len columns) ws)), refl)
+rest_read : (others : List Column) (f : OpForm) (ws : List (List ℕ)) → (rest_no others f ws ≡ (rest_form others f).no ws) × (rest_cells others f ws ≡ (rest_form others f).value ws)
+rest_read others form.Literals ws = let v = values_read others ws in (v.0, ap (under others) v.1)
+rest_read others form.RowNames ws = (refl, refl)
+rest_read others form.Names ws = (refl, refl)
+rest_read others form.Key ws = (none_left_is ws, refl)
 
 pub op_read : (columns : List Column) (ws : List (List ℕ)) → (op_no columns ws ≡ (operation columns).no ws) × (sound ≤ op_no columns ws → op_of columns ws ≡ (operation columns).value ws)
 op_read columns [] = (refl, λ h. refl)
@@ -205,9 +201,9 @@ op_read columns (w ∷ ws) = by (op_kind w)
     by None = (refl, λ h. absurd (omega arith))
     by (Some k) =
         let key = key_words_read (key_columns columns) ws in
-        let rest = behind_read columns (op_form k) ws in
+        let rest = rest_read (other_columns columns) (op_form k) (drop (key_len columns) ws) in
         let no : key_no columns ws ≡ (key_form columns).no (take (key_len columns) ws) = ap (λ n. min n (long columns (cells_of (key_columns columns) ws))) key.0 ∙ ap (λ cells. min (each_no literal_of (key_columns columns) (take (key_len columns) ws)) (long columns cells)) key.1 in
-        (rest.0 ∙ ap (λ n. min n ((rest_form (other_columns columns) (op_form k)).no (drop (key_len columns) ws))) no, λ h. same_op k _ _ _ _ (ap (spelling (key_kinds columns)) key.1) rest.1)
+        (ap (min (key_no columns ws)) rest.0 ∙ ap (λ n. min n ((rest_form (other_columns columns) (op_form k)).no (drop (key_len columns) ws))) no, λ h. same_op k _ _ _ _ (ap (spelling (key_kinds columns)) key.1) rest.1)
 
 -- ---- what is printed
 

@@ -1,5 +1,5 @@
 -- What the words of operations say, a word at a time.
-use Rattle.std.proofs.Common.{◌≡◌, ℕ, suc, ◌+◌, ◌<◌, ◌≤◌, min, Bool, true, false, ◌||◌, List, [], ◌∷◌, ◌++◌, length, drop, map, inl, inr, refl, sym, ap, ◌∙◌, arith, append_assoc}
+use Rattle.std.proofs.Common.{◌≡◌, ℕ, suc, ◌+◌, ◌<◌, ◌≤◌, min, Bool, true, false, ◌||◌, List, [], ◌∷◌, ◌++◌, length, map, inl, inr, refl, sym, ap, ◌∙◌, arith, append_assoc}
 use Rattle.std.specs.Prelude.{◌⊎◌, if◌then◌else◌, nat_lt, codes}
 use Rattle.std.specs.List.{list_any, onto_first}
 use Rattle.std.proofs.lemmas.Bool.{cases_lt}
@@ -7,11 +7,10 @@ use Rattle.std.proofs.lemmas.Bool.Decides.{nat_tests}
 use Rattle.kt_base.specs.declared.cell.Cell.{Cell}
 use Rattle.kt_base.specs.Literals.{same}
 use Rattle.kt_schema.specs.declared.column.Column.{Column}
-use Rattle.kt_schema.specs.Columns.{other_columns}
 use Rattle.kt_history.specs.declared.operation.OpKind.{OpKind}
 use Rattle.kt_history.specs.declared.operation.RowOp.{RowOp}
 use Rattle.kt_script.specs.Reasons.{sound, reason_if}
-use Rattle.kt_script.specs.Writes.{name_in, left_out_no, must_be_named, all_named_no, upsert_no, twice, op_no, op_of, op_key, ops_no, many_no, write_no, cells_no, key_no, key_len, key_of, none_left_no, insert_no, ops_of, first_op, later_ops}
+use Rattle.kt_script.specs.Writes.{name_in, left_out_no, must_be_named, all_named_no, twice, op_no, op_of, op_key, ops_no, many_no, write_no, key_of, ops_of, first_op, later_ops}
 use Rattle.kt_script.proofs.Selections.{any_map}
 
 -- the first operation and those behind it
@@ -23,16 +22,6 @@ ops_split (w ∷ words) = by (same w (codes ";")) (ops_split words)
         → (if t then [] ∷ ops_of words else onto_first w (ops_of words)) ≡ (if t then [] else w ∷ first_op words) ∷ (if t then ops_of words else later_ops words)
     by true e = refl
     by false e = ap (onto_first w) e
-
--- what an insert's readers note, one after the other
-pub insert_least : (columns others : List Column) (words first second : List (List ℕ)) (old a b l m : ℕ) → others ≡ other_columns columns
-    → first ≡ drop (key_len columns) words → second ≡ drop (length others) first → a ≡ min old (key_no columns words) → b ≡ min a (cells_no others first) → l ≡ none_left_no second → m ≡ min b l
-    → m ≡ min old (insert_no columns words)
-insert_least columns others words first second old a b l m group behind_key behind_cells la lb ll lm =
-    let rest = drop (key_len columns) words in
-    let cells : cells_no others first ≡ cells_no (other_columns columns) rest = ap (λ cs. cells_no cs first) group ∙ ap (cells_no (other_columns columns)) behind_key in
-    let left : none_left_no second ≡ none_left_no (drop (length (other_columns columns)) rest) = ap none_left_no (behind_cells ∙ (ap (λ cs. drop (length cs) first) group ∙ ap (drop (length (other_columns columns))) behind_key)) in
-    omega (arith, la, lb, ll, lm, cells, left)
 
 pub same_op : (k : OpKind) (key other : List ℕ) (cells more : List (ℕ × Cell)) → key ≡ other → cells ≡ more → ◌≡◌ {A = RowOp} (record { kind = k; key = key; cells = cells }) (record { kind = k; key = other; cells = more })
 same_op k key other cells more e f = ap (λ (x : List ℕ). record { kind = k; key = x; cells = cells }) e ∙ ap (λ (x : List (ℕ × Cell)). record { kind = k; key = other; cells = x }) f
@@ -106,20 +95,16 @@ write_least columns words ops n m least kept last =
     by o k u t e alike read said most last (inl h) = let f = alike h in omega (arith, f)
     by o k u t e alike read said most last (inr h) = omega arith
 
--- the reason of an upsert, after its names
-pub upsert_least : (columns others : List Column) (words rest names : List (List ℕ)) (old a b m : ℕ) → others ≡ other_columns columns → rest ≡ drop (key_len columns) words
-    → a ≡ min old (key_no columns words) → b ≡ min a (all_named_no others [] rest) → (13 < b → names ≡ map name_in rest)
-    → m ≡ min b (reason_if (list_any (must_be_named names) others) 15) → m ≡ min old (upsert_no columns words)
-upsert_least columns others words rest names old a b m group behind la lb named last =
-    let R = drop (key_len columns) words in
-    let oc = other_columns columns in
-    let x : all_named_no others [] rest ≡ all_named_no oc [] R = ap (λ cs. all_named_no cs [] rest) group ∙ ap (all_named_no oc []) behind in
-    let y : (13 < b) → reason_if (list_any (must_be_named names) others) 15 ≡ left_out_no oc R = λ h. ap (λ ns. reason_if (list_any (must_be_named ns) others) 15) (named h ∙ ap (map name_in) behind) ∙ ap (λ cs. reason_if (list_any (must_be_named (map name_in R)) cs) 15) group in
-    by (key_no columns words) (all_named_no oc [] R) _ (left_out_no oc R) la (lb ∙ ap (min a) x) (late (list_any (must_be_named names) others) 15 (omega arith)).0 (late (list_any (must_be_named (map name_in R)) oc) 15 (omega arith)).0 y last (cases_lt 13 b)
+-- the reason of the names of an upsert
+pub row_names_least : (others : List Column) (rest names : List (List ℕ)) (old b m : ℕ) → b ≡ min old (all_named_no others [] rest) → (13 < b → names ≡ map name_in rest)
+    → m ≡ min b (reason_if (list_any (must_be_named names) others) 15) → m ≡ min old (min (all_named_no others [] rest) (left_out_no others rest))
+row_names_least others rest names old b m least named last =
+    by (all_named_no others [] rest) _ (left_out_no others rest) least (late (list_any (must_be_named names) others) 15 (omega arith)).0 (late (list_any (must_be_named (map name_in rest)) others) 15 (omega arith)).0
+    (λ h. ap (λ ns. reason_if (list_any (must_be_named ns) others) 15) (named h)) last (cases_lt 13 b)
   where
-    by : (k z u l : ℕ) → a ≡ min old k → b ≡ min a z → 15 ≤ u → 15 ≤ l → (13 < b → u ≡ l) → m ≡ min b u → (13 < b) ⊎ (b ≤ 13) → m ≡ min old (min (min k z) l)
-    by k z u l p q read said alike last (inl h) = let e = alike h in omega (arith, e)
-    by k z u l p q read said alike last (inr h) = omega arith
+    by : (z u l : ℕ) → b ≡ min old z → 15 ≤ u → 15 ≤ l → (13 < b → u ≡ l) → m ≡ min b u → (13 < b) ⊎ (b ≤ 13) → m ≡ min old (min z l)
+    by z u l q read said alike last (inl h) = let e = alike h in omega (arith, e)
+    by z u l q read said alike last (inr h) = omega arith
 
 -- whether one of some operations has the key of the one before them
 pub twice_more : (left : List RowOp) (o : RowOp) (behind : List RowOp) (key : List ℕ) (b : Bool) → left ≡ o ∷ behind → key ≡ o.key → list_any (λ (p : RowOp). same key p.key) behind ≡ b

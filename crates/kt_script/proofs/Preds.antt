@@ -2,9 +2,11 @@
 use Rattle.std.proofs.Common.{◌≡◌, ℕ, zero, suc, ◌<◌, ◌≤◌, Bool, true, false, List, [], ◌∷◌, ◌++◌, length, Option, Some, None, Result, Ok, Err, min, refl, sym, ap, subst, ◌∙◌, arith, append_assoc}
 use Rattle.std.specs.Prelude.{if◌then◌else◌, codes}
 use Rattle.std.specs.List.{filter_map}
-use Rattle.std.specs.Option.{option_map, option_map_or, option_to_list}
+use Rattle.std.specs.Option.{option_map, option_or, option_and_then, option_map_or, option_to_list}
+use Rattle.std.proofs.lemmas.Option.{option_and_then_some}
 use Rattle.std.proofs.lemmas.List.Elements.{filter_map-append}
 use Rattle.kt_base.specs.Literals.{same}
+use Rattle.kt_base.proofs.Decimals.{same_text}
 use Rattle.kt_schema.specs.Names.{is_name}
 use Rattle.kt_schema.specs.declared.column.Column.{Column}
 use Rattle.kt_history.specs.declared.scan.At.{At}
@@ -14,44 +16,50 @@ use Rattle.kt_script.specs.declared.columns.LineNo.{LineNo}
 use Rattle.kt_script.specs.declared.columns.LineNo.TheVariants as line
 use Rattle.kt_script.specs.Reasons.{sound}
 use Rattle.kt_script.specs.Writes.{name_in, behind_name, column_named}
-use Rattle.kt_script.specs.Scans.{Asked, null, not_null, PredLine, Taken, signed, not_null_asked, is_asked, null_asked, asked_by, pred_at, behind_pred, preds_after, preds_in, asked_no, preds_no, pred_of, preds_of, select_no, ids_of, with_preds, IsMade, ReadsPreds, ReadsLine}
+use Rattle.kt_script.specs.Scans.{Asked, null, not_null, PredLine, Taken, signed, behind_word, Asking, is_asked, null_asked, asked_at, taken_of, pred_at, behind_pred, preds_after, preds_in, asked_no, preds_no, pred_of, preds_of, select_no, ids_of, with_preds, IsMade, ReadsPreds, ReadsLine}
 
 -- the tests that some words say
 abbrev pub preds_from : List (List ℕ) → Option (List PredLine)
 preds_from words = preds_in (length words) words
 
-not_null_shorter : (name : List ℕ) (words : List (List ℕ)) (t : Taken) → not_null_asked name words ≡ Some t → length t.1 < length words
-not_null_shorter name [] t e = absurd cc
-not_null_shorter name (w ∷ ws) t e = by (same w (codes "null")) e
+-- the word that stands first
+word_is : (x : List ℕ) (words behind : List (List ℕ)) → behind_word x words ≡ Some behind → words ≡ x ∷ behind
+word_is x [] behind e = absurd cc
+word_is x (w ∷ words) behind e = by (same w x) refl e
   where
-    by : (b : Bool) → (if b then Some (record { name = name; asked = not_null }, ws) else None) ≡ Some t → length t.1 < length (w ∷ ws)
-    by true g = let is : ws ≡ t.1 = ap (λ o. option_map_or (λ (x : Taken). x.1) o []) g in omega (arith, ap length is)
-    by false g = absurd cc
+    by : (b : Bool) → same w x ≡ b → (if b then Some words else None) ≡ Some behind → w ∷ words ≡ x ∷ behind
+    by true s g = let is : words ≡ behind = cc in ap (λ y. y ∷ words) (same_text w x s) ∙ ap (λ ys. x ∷ ys) is
+    by false s g = absurd cc
 
-is_shorter : (name word : List ℕ) (words : List (List ℕ)) (t : Taken) → is_asked name word words ≡ Some t → length t.1 ≤ length words
-is_shorter name word words t e = by (same word (codes "null")) (same word (codes "not")) e
+-- what asks whether a column is null are the words "is null" or "is not null"
+pub null_is : (P : List (List ℕ) → Asking → Type 0) (words : List (List ℕ)) (x : Asking) → ((ws : List (List ℕ)) → P (codes "is" ∷ codes "null" ∷ ws) (null, ws)) → ((ws : List (List ℕ)) → P (codes "is" ∷ codes "not" ∷ codes "null" ∷ ws) (not_null, ws))
+    → null_asked words ≡ Some x → P words x
+null_is P words x first second e = option_and_then_some is_asked (behind_word (codes "is") words) x e (λ ws i f. by ws (word_is _ words ws i) (behind_word (codes "null") ws) (option_and_then (behind_word (codes "null")) (behind_word (codes "not") ws)) refl refl f)
   where
-    by : (a b : Bool) → (if a then Some (record { name = name; asked = null }, words) else (if b then not_null_asked name words else None)) ≡ Some t → length t.1 ≤ length words
-    by true b g = let is : words ≡ t.1 = ap (λ o. option_map_or (λ (x : Taken). x.1) o []) g in omega (arith, ap length is)
-    by false true g = let h : length t.1 < length words = not_null_shorter name words t g in omega arith
-    by false false g = absurd cc
+    made : (y : Asking) (vs : List (List ℕ)) → words ≡ vs → ◌≡◌ {A = Option Asking} (Some y) (Some x) → P vs y → P words x
+    made y vs i g p = let is : y ≡ x = cc in subst (P words) is (subst (λ us. P us y) (sym i) p)
 
-null_shorter : (name : List ℕ) (words : List (List ℕ)) (t : Taken) → null_asked name words ≡ Some t → length t.1 ≤ length words
-null_shorter name [] t e = absurd cc
-null_shorter name (is ∷ []) t e = absurd cc
-null_shorter name (is ∷ word ∷ words) t e = by (same is (codes "is")) e
-  where
-    by : (b : Bool) → (if b then is_asked name word words else None) ≡ Some t → length t.1 ≤ length (is ∷ word ∷ words)
-    by true g = let h : length t.1 ≤ length words = is_shorter name word words t g in omega arith
-    by false g = absurd cc
+    by : (ws : List (List ℕ)) → words ≡ codes "is" ∷ ws → (o p : Option (List (List ℕ))) → behind_word (codes "null") ws ≡ o → option_and_then (behind_word (codes "null")) (behind_word (codes "not") ws) ≡ p
+        → option_or (option_map (λ vs. (null, vs)) o) (option_map (λ vs. (not_null, vs)) p) ≡ Some x → P words x
+    by ws is (Some vs) p i j g = made (null, vs) _ (is ∙ ap (λ us. codes "is" ∷ us) (word_is _ ws vs i)) g (first vs)
+    by ws is None (Some vs) i j g = option_and_then_some (behind_word (codes "null")) (behind_word (codes "not") ws) vs j (λ us k l.
+        made (not_null, vs) _ (is ∙ (ap (λ us. codes "is" ∷ us) (word_is _ ws us k) ∙ ap (λ us. codes "is" ∷ codes "not" ∷ us) (word_is _ us vs l))) g (second vs))
+    by ws is None None i j g = absurd cc
 
 -- a test takes a word at least
 pub taken_shorter : (words : List (List ℕ)) (t : Taken) → pred_at words ≡ Some t → length t.1 < length words
 taken_shorter [] t e = absurd cc
 taken_shorter (word ∷ words) t e = by (is_name (name_in word)) (signed (behind_name word)) e
   where
-    by : (b : Bool) (o : Option Asked) → (if b then asked_by o (name_in word) words else None) ≡ Some t → length t.1 < length (word ∷ words)
-    by true None g = let h : length t.1 ≤ length words = null_shorter (name_in word) words t g in omega arith
+    made : (o : Option Asking) → asked_at None words ≡ o → option_map (taken_of (name_in word)) o ≡ Some t → length t.1 < length (word ∷ words)
+    made None i g = absurd cc
+    made (Some x) i g =
+        let shorter : length x.1 ≤ length words = null_is (λ ws y. length y.1 ≤ length ws) words x (λ ws. omega arith) (λ ws. omega arith) i in
+        let is : x.1 ≡ t.1 = ap (λ o. option_map_or (λ (y : Taken). y.1) o []) g in
+        omega (arith, shorter, ap length is)
+
+    by : (b : Bool) (o : Option Asked) → (if b then option_map (taken_of (name_in word)) (asked_at o words) else None) ≡ Some t → length t.1 < length (word ∷ words)
+    by true None g = made (null_asked words) refl g
     by true (Some asked) g = let is : words ≡ t.1 = ap (λ o. option_map_or (λ (x : Taken). x.1) o []) g in omega (arith, ap length is)
     by false o g = absurd cc
 

@@ -19,7 +19,7 @@ use Rattle.kt_script.specs.declared.asked.Sign.{Sign}
 use Rattle.kt_script.specs.declared.asked.Sign.TheVariants.{Equal, Below, AtMost, Above, AtLeast}
 use Rattle.kt_script.specs.Reasons.{sound, cell_or_null}
 use Rattle.kt_script.specs.Writes.{is_sign, name_in, behind_name, column_named}
-use Rattle.kt_script.specs.Scans.{Asked, compared, null, not_null, PredLine, or_equal, signed, asked_by, pred_at, preds_after, preds_in, with_preds, where_line, compared_reason, asked_no, preds_no, test_of, pred_of, preds_of}
+use Rattle.kt_script.specs.Scans.{Asked, compared, null, not_null, PredLine, or_equal, signed, null_asked, asked_at, taken_of, pred_at, preds_after, preds_in, with_preds, where_line, compared_reason, asked_no, preds_no, test_of, pred_of, preds_of}
 use Rattle.kt_script.specs.Fit.{column_of, test_fits, tests_column, pred_fits}
 use Rattle.kt_script.specs.Print.{ColumnFits, parted, test_words, words_under, pred_words, where_words, TestBytes}
 use Rattle.kt_script.proofs.PrintedWords.{name_is}
@@ -76,9 +76,9 @@ compared_read columns c x t b rest sign known again is_sign_b word ws_are asked_
     let behind : behind_name w ≡ b ∷ rest = behind_sign c.name b rest n is_sign_b in
     record {
       plain = subst (AllByRecursion Plain) (sym ws_are) (word, tt);
-      read = λ ws. ap (λ vs. pred_at (vs ++ ws)) ws_are ∙ (ap (λ m. if is_name m then asked_by (signed (behind_name w)) m ws else None) name
-          ∙ (ap (λ k. if k then asked_by (signed (behind_name w)) c.name ws else None) known.fit.name
-          ∙ (ap (λ z. asked_by (signed z) c.name ws) behind ∙ (ap (λ o. asked_by o c.name ws) signed_is ∙ ap (λ a. Some (record { name = c.name; asked = a }, ws)) (sym asked_is)))));
+      read = λ ws. ap (λ vs. pred_at (vs ++ ws)) ws_are ∙ (ap (λ m. if is_name m then option_map (taken_of m) (asked_at (signed (behind_name w)) ws) else None) name
+          ∙ (ap (λ k. if k then option_map (taken_of c.name) (asked_at (signed (behind_name w)) ws) else None) known.fit.name
+          ∙ (ap (λ z. option_map (taken_of c.name) (asked_at (signed z) ws)) behind ∙ (ap (λ o. option_map (taken_of c.name) (asked_at o ws)) signed_is ∙ ap (λ a. Some (taken_of c.name (a, ws))) (sym asked_is)))));
       no = ap (λ a. asked_no (column_named columns c.name) a) asked_is ∙ (ap (λ o. asked_no o (compared sign lit)) known.named ∙ ap compared_reason again.read);
       is = ap (λ a. pred_of (column_named columns c.name) a) asked_is ∙ (ap (λ o. pred_of o (compared sign lit)) known.named ∙ ap (λ u. Some (record { column = c.id; test = u })) test_is);
     }
@@ -87,12 +87,11 @@ value_again : (c : Column) (x : Cell) → ReadsAgain c.kind x → cell_or_null (
 value_again c x again = ap cell_or_null again.read
 
 -- a name alone, and words behind it
-name_read : (columns : List Column) (c : Column) (vs : List (List ℕ)) (asked : Asked) (ws : List (List ℕ)) → Known columns c → asked_by None c.name vs ≡ Some (record { name = c.name; asked = asked }, ws)
-    → pred_at (c.name ∷ vs) ≡ Some (record { name = c.name; asked = asked }, ws)
+name_read : (columns : List Column) (c : Column) (vs : List (List ℕ)) (asked : Asked) (ws : List (List ℕ)) → Known columns c → null_asked vs ≡ Some (asked, ws) → pred_at (c.name ∷ vs) ≡ Some (record { name = c.name; asked = asked }, ws)
 name_read columns c vs asked ws known h =
     let n = name_is c.name known.fit.name in
-    ap (λ m. if is_name m then asked_by (signed (behind_name c.name)) m vs else None) (name_alone c.name n)
-    ∙ (ap (λ k. if k then asked_by (signed (behind_name c.name)) c.name vs else None) known.fit.name ∙ (ap (λ z. asked_by (signed z) c.name vs) (behind_alone c.name n) ∙ h))
+    ap (λ m. if is_name m then option_map (taken_of m) (asked_at (signed (behind_name c.name)) vs) else None) (name_alone c.name n)
+    ∙ (ap (λ k. if k then option_map (taken_of c.name) (asked_at (signed (behind_name c.name)) vs) else None) known.fit.name ∙ (ap (λ z. option_map (taken_of c.name) (asked_at (signed z) vs)) (behind_alone c.name n) ∙ ap (option_map (taken_of c.name)) h))
 
 null_read : (columns : List Column) (c : Column) → Known columns c → TestRead columns c test.IsNull
 null_read columns c known = record {

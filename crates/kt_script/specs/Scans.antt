@@ -2,7 +2,7 @@
 use Rattle.std.specs.Prelude.{◌≡◌, ◌<◌, ℕ, zero, suc, min, not, is_some, List, [], ◌∷◌, ◌++◌, length, Option, Some, None, if◌then◌else◌, ◌==◌, Result, Ok, Err, codes}
 use Rattle.std.proofs.Common.{Bor}
 use Rattle.std.specs.List.{list_any, filter_map}
-use Rattle.std.specs.Option.{option_map}
+use Rattle.std.specs.Option.{option_map, option_or, option_and_then}
 use Rattle.kt_base.specs.declared.cell.Kind.TheVariants as kind
 use Rattle.kt_base.specs.declared.cell.Cell.{Cell}
 use Rattle.kt_base.specs.declared.literal.LiteralNo.{LiteralNo}
@@ -53,29 +53,34 @@ signed (b ∷ rest) = if b == 61 then Some (compared Equal rest) else (if b == 6
 abbrev pub Taken : Type 0
 Taken = PredLine × List (List ℕ)
 
--- behind "is not"
-abbrev pub not_null_asked : List ℕ → List (List ℕ) → Option Taken
-not_null_asked name [] = None
-not_null_asked name (word ∷ words) = if same word (codes "null") then Some (record { name = name; asked = not_null }, words) else None
+-- the words behind this one, if it stands first
+abbrev pub behind_word : List ℕ → List (List ℕ) → Option (List (List ℕ))
+behind_word first [] = None
+behind_word first (word ∷ words) = if same word first then Some words else None
 
--- behind "is"
-abbrev pub is_asked : List ℕ → List ℕ → List (List ℕ) → Option Taken
-is_asked name word words = if same word (codes "null") then Some (record { name = name; asked = null }, words) else (if same word (codes "not") then not_null_asked name words else None)
+-- what is asked, and the words behind it
+abbrev pub Asking : Type 0
+Asking = Asked × List (List ℕ)
 
--- NAME is null, or NAME is not null
-abbrev pub null_asked : List ℕ → List (List ℕ) → Option Taken
-null_asked name [] = None
-null_asked name (is ∷ []) = None
-null_asked name (is ∷ word ∷ words) = if same is (codes "is") then is_asked name word words else None
+-- behind "is": null, or not null
+abbrev pub is_asked : List (List ℕ) → Option Asking
+is_asked words = option_or (option_map (λ ws. (null, ws)) (behind_word (codes "null") words)) (option_map (λ ws. (not_null, ws)) (option_and_then (behind_word (codes "null")) (behind_word (codes "not") words)))
 
-abbrev pub asked_by : Option Asked → List ℕ → List (List ℕ) → Option Taken
-asked_by None name words = null_asked name words
-asked_by (Some asked) name words = Some (record { name = name; asked = asked }, words)
+abbrev pub null_asked : List (List ℕ) → Option Asking
+null_asked words = option_and_then is_asked (behind_word (codes "is") words)
+
+-- what is asked by a sign, or by the words behind the name
+abbrev pub asked_at : Option Asked → List (List ℕ) → Option Asking
+asked_at None words = null_asked words
+asked_at (Some asked) words = Some (asked, words)
+
+abbrev pub taken_of : List ℕ → Asking → Taken
+taken_of name x = (record { name = name; asked = x.0 }, x.1)
 
 -- the first test of some words
 abbrev pub pred_at : List (List ℕ) → Option Taken
 pred_at [] = None
-pred_at (word ∷ words) = if is_name (name_in word) then asked_by (signed (behind_name word)) (name_in word) words else None
+pred_at (word ∷ words) = if is_name (name_in word) then option_map (taken_of (name_in word)) (asked_at (signed (behind_name word)) words) else None
 
 -- a test and those behind it, with "and" between them
 abbrev pub behind_pred : (List (List ℕ) → Option (List PredLine)) → PredLine → List (List ℕ) → Option (List PredLine)
@@ -227,6 +232,10 @@ abbrev pub asked_view : Question → Asked
 asked_view (question.Compared sign literal) = compared sign literal.now
 asked_view question.Null = null
 asked_view question.NotNull = not_null
+
+-- a question and the words behind it, as they are read
+abbrev pub asking_view : Question × Option (Bor (List ℕ)) → Asking
+asking_view x = (asked_view x.0, words_in x.1)
 
 -- a test and the words behind it, as they are read
 abbrev pub taken_view : TakenTest → Taken

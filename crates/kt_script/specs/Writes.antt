@@ -102,31 +102,16 @@ must_be_named names c = (not c.nullable && not (is_some c.default)) && not (list
 abbrev pub left_out_no : List Column → List (List ℕ) → ℕ
 left_out_no others words = reason_if (list_any (must_be_named (map name_in words)) others) 15
 
--- a literal for each column, and no word more
-abbrev pub values_no : List Column → List (List ℕ) → ℕ
-values_no others words = min (cells_no others words) (none_left_no (drop (length others) words))
+-- why the words behind a key are refused, by the form of their operation
+abbrev pub rest_no : List Column → OpForm → List (List ℕ) → ℕ
+rest_no others form.Literals words = min (cells_no others words) (none_left_no (drop (length others) words))
+rest_no others form.RowNames words = min (all_named_no others [] words) (left_out_no others words)
+rest_no others form.Names words = min (all_named_no others [] words) (reason_if (is_empty words) 12)
+rest_no others form.Key words = none_left_no words
 
--- why an operation's words behind its first are refused, by their form
-abbrev pub insert_no : List Column → List (List ℕ) → ℕ
-insert_no columns words = min (key_no columns words) (values_no (other_columns columns) (drop (key_len columns) words))
-
-abbrev pub delete_no : List Column → List (List ℕ) → ℕ
-delete_no columns words = min (key_no columns words) (none_left_no (drop (key_len columns) words))
-
-abbrev pub changes_no : List Column → List (List ℕ) → ℕ
-changes_no columns words = min (key_no columns words) (all_named_no (other_columns columns) [] (drop (key_len columns) words))
-
-abbrev pub upsert_no : List Column → List (List ℕ) → ℕ
-upsert_no columns words = min (changes_no columns words) (left_out_no (other_columns columns) (drop (key_len columns) words))
-
-abbrev pub update_no : List Column → List (List ℕ) → ℕ
-update_no columns words = min (changes_no columns words) (reason_if (is_empty (drop (key_len columns) words)) 12)
-
+-- why an operation's words behind its first are refused
 abbrev pub behind_no : List Column → OpForm → List (List ℕ) → ℕ
-behind_no columns form.Literals words = insert_no columns words
-behind_no columns form.RowNames words = upsert_no columns words
-behind_no columns form.Names words = update_no columns words
-behind_no columns form.Key words = delete_no columns words
+behind_no columns f words = min (key_no columns words) (rest_no (other_columns columns) f (drop (key_len columns) words))
 
 -- the form of each kind of operation: one that ignores has that of its plain kind
 abbrev pub op_form : OpKind → OpForm
@@ -203,12 +188,16 @@ abbrev pub all_named : List Column → List (ℕ × Cell) → List (List ℕ) �
 all_named others cells [] = cells
 all_named others cells (word ∷ words) = all_named others (with_named (column_named others (name_in word)) (drop 1 (behind_name word)) cells) words
 
+-- the cells that the words behind a key say
+abbrev pub rest_cells : List Column → OpForm → List (List ℕ) → List (ℕ × Cell)
+rest_cells others form.Literals words = under others (cells_of others words)
+rest_cells others form.RowNames words = all_named others [] words
+rest_cells others form.Names words = all_named others [] words
+rest_cells others form.Key words = []
+
 -- the cells that the words behind an operation's first say
 abbrev pub cells_said : List Column → OpForm → List (List ℕ) → List (ℕ × Cell)
-cells_said columns form.Literals words = under (other_columns columns) (cells_of (other_columns columns) (drop (key_len columns) words))
-cells_said columns form.RowNames words = all_named (other_columns columns) [] (drop (key_len columns) words)
-cells_said columns form.Names words = all_named (other_columns columns) [] (drop (key_len columns) words)
-cells_said columns form.Key words = []
+cells_said columns f words = rest_cells (other_columns columns) f (drop (key_len columns) words)
 
 abbrev pub op_cells : List Column → Option OpKind → List (List ℕ) → List (ℕ × Cell)
 op_cells columns None words = []

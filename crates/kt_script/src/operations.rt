@@ -5,7 +5,7 @@ ghost use Rattle.kt_key.specs.Fit.{is_key};
 ghost use Rattle.kt_key.specs.Spelling.{spelling};
 ghost use Rattle.kt_schema.specs.Columns.{columns_no, key_columns, key_kinds};
 ghost use Rattle.kt_script.specs.Reasons.{no_of, reason_if};
-ghost use Rattle.kt_script.specs.Writes.{cells_no, cells_of, under, key_no, key_len, key_of, none_left_no, op_in, later_in, ops_in, IsOpCut};
+ghost use Rattle.kt_script.specs.Writes.{cells_no, cells_of, under, key_no, key_len, key_of, is_empty, none_left_no, op_in, later_in, ops_in, IsOpCut};
 
 use crate::least::{Least, read_cell};
 use crate::word::next_word;
@@ -70,6 +70,16 @@ pub fn left_no(rest: Option<&[u8]>) -> Option<u8>
     match next_op_word(rest) {
         Some(_) => Some(12),
         None => None,
+    }
+}
+
+/// Why an operation is refused in which no word is left.
+pub fn missing_no(rest: Option<&[u8]>) -> Option<u8>
+    ensures { no_of result ≡ reason_if (is_empty (op_in rest.entry)) 12 }
+{
+    match next_op_word(rest) {
+        Some(_) => None,
+        None => Some(12),
     }
 }
 

@@ -155,7 +155,7 @@ fn print_op_word(kind: OpKind, out: &mut Octets) -> Result<(), NoMemory>
 fn is_named(kind: OpKind) -> bool
     ensures { result ≡ is_named kind }
 {
-    op_form(kind) != OpForm::Literals
+    !matches!(op_form(kind), OpForm::Literals)
 }
 
 fn print_op(alloc: Global, schema: &Schema, op: &RowOp, out: &mut Octets) -> Result<(), NoMemory>

@@ -3,7 +3,6 @@
 ghost use Rattle.std.specs.Prelude.{◌≡◌, ◌≤◌, ◌+◌, ◌∷◌, length, ℕ, List, Some, IfOk, IfErr, true, false};
 ghost use Rattle.std.specs.List.{list_any};
 ghost use Rattle.kt_schema.specs.declared.column.Column.{Column};
-ghost use Rattle.kt_history.specs.declared.operation.OpKind.{OpKind};
 ghost use Rattle.kt_script.specs.declared.leads.Lead.TheVariants as lead;
 ghost use Rattle.kt_script.specs.declared.leads.Word.TheVariants as begins;
 ghost use Rattle.kt_script.specs.Pieces.{cut, words_of, words_in};
@@ -29,7 +28,7 @@ use kt_schema::Schema;
 use std::alloc::Global;
 
 /// What a script says: its table, and the commands of each session.
-#[derive(Debug, Drop)]
+#[derive(Drop)]
 pub struct Script {
     pub schema: Schema,
     pub plan: Plan,
@@ -75,24 +74,6 @@ fn push_command(sessions: &mut Sessions, command: Command) -> Result<(), LineNo>
     }
 }
 
-fn read_scan_command(alloc: Global, schema: &Schema, rest: Option<&[u8]>) -> Result<Command, LineNo>
-    ensures { (first : List ℕ) → ReadsCommand schema.now begins.Scan (first ∷ words_in rest.entry) result }
-{
-    match read_scan(alloc, schema, rest) {
-        Ok(scan) => Ok(Command::Scan(scan)),
-        Err(no) => Err(no),
-    }
-}
-
-fn read_mark_command(rest: Option<&[u8]>) -> Result<Command, LineNo>
-    ensures { (columns : List Column) (first : List ℕ) → ReadsCommand columns begins.Mark (first ∷ words_in rest.entry) result }
-{
-    match read_mark(rest) {
-        Ok(t) => Ok(Command::Mark(t)),
-        Err(no) => Err(no),
-    }
-}
-
 fn read_chore(chore: Chore, rest: Option<&[u8]>) -> Result<Command, LineNo>
     ensures { (columns : List Column) (first : List ℕ) → ReadsCommand columns (begins.Chore chore) (first ∷ words_in rest.entry) result }
 {
@@ -102,15 +83,6 @@ fn read_chore(chore: Chore, rest: Option<&[u8]>) -> Result<Command, LineNo>
     match next_word(rest) {
         Some(_) => Err(LineNo::Reason(12)),
         None => Ok(Command::Chore(chore)),
-    }
-}
-
-fn read_write_command(alloc: Global, schema: &Schema, line: &[u8]) -> Result<Command, LineNo>
-    ensures { (kind : OpKind) → ReadsCommand schema.now (begins.Op kind) (words_of line.now) result }
-{
-    match read_write(alloc, schema, Some(line)) {
-        Ok(write) => Ok(Command::Write(write)),
-        Err(no) => Err(no),
     }
 }
 
@@ -125,10 +97,10 @@ fn read_command(
     ensures { (first : List ℕ) → words_of line.now ≡ first ∷ words_in rest.entry → ReadsCommand schema.now word (words_of line.now) result }
 {
     match word {
-        Word::Scan => read_scan_command(alloc, schema, rest),
-        Word::Mark => read_mark_command(rest),
+        Word::Scan => Ok(Command::Scan(read_scan(alloc, schema, rest)?)),
+        Word::Mark => Ok(Command::Mark(read_mark(rest)?)),
         Word::Chore(chore) => read_chore(chore, rest),
-        Word::Op(_) => read_write_command(alloc, schema, line),
+        Word::Op(_) => Ok(Command::Write(read_write(alloc, schema, Some(line))?)),
     }
 }
 

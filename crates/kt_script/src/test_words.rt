@@ -5,7 +5,7 @@ ghost use Rattle.std.specs.List.{position};
 ghost use Rattle.std.specs.Option.{option_map};
 ghost use Rattle.kt_script.specs.Pieces.{words_in};
 ghost use Rattle.kt_script.specs.Writes.{is_sign, name_in, behind_name};
-ghost use Rattle.kt_script.specs.Scans.{taken_view, not_null_asked, is_asked, null_asked, pred_at};
+ghost use Rattle.kt_script.specs.Scans.{behind_word, asking_view, is_asked, null_asked, taken_view, pred_at};
 
 use crate::asked::{Question, signed};
 use crate::word::next_word;
@@ -39,47 +39,30 @@ pub fn cut_sign(word: &[u8]) -> (&[u8], &[u8])
     word.split_at(sign_at(word).unwrap_or(word.len()))
 }
 
-fn not_null_asked<'a>(name: &'a [u8], rest: Option<&'a [u8]>) -> Option<TakenTest<'a>>
-    ensures { option_map taken_view result ≡ not_null_asked name.now (words_in rest.entry) }
+// What is left behind this word, if it stands first.
+fn behind_word<'a>(rest: Option<&'a [u8]>, first: &[u8]) -> Option<Option<&'a [u8]>>
+    ensures { option_map words_in result ≡ behind_word first.now (words_in rest.entry) }
 {
-    let (word, rest) = next_word(rest)?;
-    if word == b"null".as_slice() {
-        Some(TakenTest {
-            name,
-            question: Question::NotNull,
-            rest,
-        })
-    } else {
-        None
-    }
+    let (word, behind) = next_word(rest)?;
+    if word == first { Some(behind) } else { None }
 }
 
-fn is_asked<'a>(name: &'a [u8], word: &'a [u8], rest: Option<&'a [u8]>) -> Option<TakenTest<'a>>
-    ensures { option_map taken_view result ≡ is_asked name.now word.now (words_in rest.entry) }
+// Behind `is`.
+fn is_asked(rest: Option<&[u8]>) -> Option<(Question<'_>, Option<&[u8]>)>
+    ensures { option_map asking_view result ≡ is_asked (words_in rest.entry) }
 {
-    if word == b"null".as_slice() {
-        Some(TakenTest {
-            name,
-            question: Question::Null,
-            rest,
-        })
-    } else if word == b"not".as_slice() {
-        not_null_asked(name, rest)
-    } else {
-        None
+    if let Some(behind) = behind_word(rest, b"null") {
+        return Some((Question::Null, behind));
     }
+    let rest = behind_word(rest, b"not")?;
+    let behind = behind_word(rest, b"null")?;
+    Some((Question::NotNull, behind))
 }
 
-fn null_asked<'a>(name: &'a [u8], rest: Option<&'a [u8]>) -> Option<TakenTest<'a>>
-    ensures { option_map taken_view result ≡ null_asked name.now (words_in rest.entry) }
+fn null_asked(rest: Option<&[u8]>) -> Option<(Question<'_>, Option<&[u8]>)>
+    ensures { option_map asking_view result ≡ null_asked (words_in rest.entry) }
 {
-    let (is, rest) = next_word(rest)?;
-    let (word, rest) = next_word(rest)?;
-    if is == b"is".as_slice() {
-        is_asked(name, word, rest)
-    } else {
-        None
-    }
+    is_asked(behind_word(rest, b"is")?)
 }
 
 /// The first test of what is left of a line.
@@ -91,12 +74,13 @@ pub fn next_test(rest: Option<&[u8]>) -> Option<TakenTest<'_>>
     if !is_name(name) {
         return None;
     }
-    match signed(behind) {
-        Some(question) => Some(TakenTest {
-            name,
-            question,
-            rest,
-        }),
-        None => null_asked(name, rest),
-    }
+    let (question, rest) = match signed(behind) {
+        Some(question) => (question, rest),
+        None => null_asked(rest)?,
+    };
+    Some(TakenTest {
+        name,
+        question,
+        rest,
+    })
 }

@@ -7,19 +7,19 @@ ghost use Rattle.kt_history.specs.declared.operation.RowOp.{RowOp};
 ghost use Rattle.kt_script.specs.declared.forms.OpForm.TheVariants as form;
 ghost use Rattle.kt_script.specs.Pieces.{words_in};
 ghost use Rattle.kt_script.specs.Reasons.{no_of, reason_if};
-ghost use Rattle.kt_script.specs.Writes.{insert_no, upsert_no, update_no, delete_no, behind_no, op_form, op_no, op_of, op_said, ops_of, ops_no, many_no, twice, op_in, later_in, ops_in, ReadsWrite};
+ghost use Rattle.kt_script.specs.Writes.{rest_no, rest_cells, behind_no, op_form, op_no, op_of, op_said, ops_of, ops_no, many_no, twice, op_in, later_in, ops_in, ReadsWrite};
 
 use crate::columns::LineNo;
 use crate::forms::{OpForm, op_form, op_kind};
 use crate::least::Least;
 use crate::named::{TakenNames, left_out_no, take_names};
 use crate::operations::{
-    TakenKey, TakenOthers, behind_op, left_no, next_op_word, take_key, take_others,
+    TakenKey, TakenOthers, behind_op, left_no, missing_no, next_op_word, take_key, take_others,
 };
 use kt_base::limits::OPERATIONS;
 use kt_base::{Cells, NoMemory, Octets};
 use kt_history::{OpKind, OpList, RowOp, Write};
-use kt_schema::Schema;
+use kt_schema::{Column, Schema};
 use std::alloc::Global;
 
 // An operation, and what is left behind its `;`, if it has one. It counts only where no reason up to 17 holds.
@@ -29,108 +29,76 @@ struct TakenOp<'a> {
     rest: Option<Option<&'a [u8]>>,
 }
 
-fn read_insert<'a>(
+// A literal for each column, and no word more.
+fn take_values<'a>(
     alloc: Global,
-    schema: &Schema,
-    kind: OpKind,
+    others: &[Column],
     rest: Option<&'a [u8]>,
     no: &mut Least,
-) -> Result<TakenOp<'a>, NoMemory>
-    ensures op { IfOk result (λ taken. 17 < no.new → taken.op ≡ op_said schema.now kind form.Literals (op_in rest.entry)) }
-    ensures later { IfOk result (λ taken. ops_in taken.rest ≡ later_in rest.entry) }
-    ensures least { OnOk result (no.new ≡ min no.old (insert_no schema.now (op_in rest.entry))) }
+) -> Result<TakenOthers<'a>, NoMemory>
+    ensures cells { IfOk result (λ taken. taken.cells.items ≡ rest_cells others.now form.Literals (op_in rest.entry)) }
+    ensures later { IfOk result (λ taken. later_in taken.rest ≡ later_in rest.entry) }
+    ensures least { OnOk result (no.new ≡ min no.old (rest_no others.now form.Literals (op_in rest.entry))) }
 {
-    let TakenKey { key, rest } = take_key(alloc, schema, rest, no)?;
-    let TakenOthers { cells, rest } = take_others(alloc, schema.other_columns(), rest, no)?;
-    no.note(left_no(rest));
-    let op = RowOp {
-        kind,
-        key,
-        cells: Cells::of(cells),
-    };
-    Ok(TakenOp {
-        op,
-        rest: behind_op(rest),
-    })
+    let taken = take_others(alloc, others, rest, no)?;
+    no.note(left_no(taken.rest));
+    Ok(taken)
 }
 
-fn read_upsert<'a>(
+// The named cells of a row, none of which has to be named and is not.
+fn take_row_names<'a>(
     alloc: Global,
-    schema: &Schema,
-    kind: OpKind,
+    others: &[Column],
     rest: Option<&'a [u8]>,
     no: &mut Least,
-) -> Result<TakenOp<'a>, NoMemory>
-    ensures op { IfOk result (λ taken. 17 < no.new → taken.op ≡ op_said schema.now kind form.RowNames (op_in rest.entry)) }
-    ensures later { IfOk result (λ taken. ops_in taken.rest ≡ later_in rest.entry) }
-    ensures least { OnOk result (no.new ≡ min no.old (upsert_no schema.now (op_in rest.entry))) }
+) -> Result<TakenOthers<'a>, NoMemory>
+    ensures cells { IfOk result (λ taken. 17 < no.new → taken.cells.items ≡ rest_cells others.now form.RowNames (op_in rest.entry)) }
+    ensures later { IfOk result (λ taken. later_in taken.rest ≡ later_in rest.entry) }
+    ensures least { OnOk result (no.new ≡ min no.old (rest_no others.now form.RowNames (op_in rest.entry))) }
 {
-    let others = schema.other_columns();
-    let TakenKey { key, rest } = take_key(alloc, schema, rest, no)?;
     let TakenNames { names, cells, rest } = take_names(alloc, others, rest, no)?;
     no.note(left_out_no(others, &names));
-    let op = RowOp {
-        kind,
-        key,
-        cells: Cells::of(cells),
-    };
-    Ok(TakenOp {
-        op,
-        rest: behind_op(rest),
-    })
+    Ok(TakenOthers { cells, rest })
 }
 
-fn read_update<'a>(
+// At least one named cell.
+fn take_some_names<'a>(
     alloc: Global,
-    schema: &Schema,
-    kind: OpKind,
+    others: &[Column],
     rest: Option<&'a [u8]>,
     no: &mut Least,
-) -> Result<TakenOp<'a>, NoMemory>
-    ensures op { IfOk result (λ taken. 17 < no.new → taken.op ≡ op_said schema.now kind form.Names (op_in rest.entry)) }
-    ensures later { IfOk result (λ taken. ops_in taken.rest ≡ later_in rest.entry) }
-    ensures least { OnOk result (no.new ≡ min no.old (update_no schema.now (op_in rest.entry))) }
+) -> Result<TakenOthers<'a>, NoMemory>
+    ensures cells { IfOk result (λ taken. 17 < no.new → taken.cells.items ≡ rest_cells others.now form.Names (op_in rest.entry)) }
+    ensures later { IfOk result (λ taken. later_in taken.rest ≡ later_in rest.entry) }
+    ensures least { OnOk result (no.new ≡ min no.old (rest_no others.now form.Names (op_in rest.entry))) }
 {
-    let TakenKey { key, rest } = take_key(alloc, schema, rest, no)?;
-    no.note(if next_op_word(rest).is_none() {
-        Some(12)
-    } else {
-        None
-    });
-    let TakenNames { cells, rest, .. } = take_names(alloc, schema.other_columns(), rest, no)?;
-    let op = RowOp {
-        kind,
-        key,
-        cells: Cells::of(cells),
-    };
-    Ok(TakenOp {
-        op,
-        rest: behind_op(rest),
-    })
+    no.note(missing_no(rest));
+    let TakenNames { cells, rest, .. } = take_names(alloc, others, rest, no)?;
+    Ok(TakenOthers { cells, rest })
 }
 
-fn read_delete<'a>(
+// The cells behind a key.
+fn take_rest<'a>(
     alloc: Global,
-    schema: &Schema,
-    kind: OpKind,
+    others: &[Column],
+    form: OpForm,
     rest: Option<&'a [u8]>,
     no: &mut Least,
-) -> Result<TakenOp<'a>, NoMemory>
-    ensures op { IfOk result (λ taken. 17 < no.new → taken.op ≡ op_said schema.now kind form.Key (op_in rest.entry)) }
-    ensures later { IfOk result (λ taken. ops_in taken.rest ≡ later_in rest.entry) }
-    ensures least { OnOk result (no.new ≡ min no.old (delete_no schema.now (op_in rest.entry))) }
+) -> Result<TakenOthers<'a>, NoMemory>
+    ensures cells { IfOk result (λ taken. 17 < no.new → taken.cells.items ≡ rest_cells others.now form (op_in rest.entry)) }
+    ensures later { IfOk result (λ taken. later_in taken.rest ≡ later_in rest.entry) }
+    ensures least { OnOk result (no.new ≡ min no.old (rest_no others.now form (op_in rest.entry))) }
 {
-    let TakenKey { key, rest } = take_key(alloc, schema, rest, no)?;
-    no.note(left_no(rest));
-    let op = RowOp {
-        kind,
-        key,
-        cells: Cells::of(Vec::new(alloc)),
-    };
-    Ok(TakenOp {
-        op,
-        rest: behind_op(rest),
-    })
+    match form {
+        OpForm::Literals => take_values(alloc, others, rest, no),
+        OpForm::RowNames => take_row_names(alloc, others, rest, no),
+        OpForm::Names => take_some_names(alloc, others, rest, no),
+        OpForm::Key => {
+            no.note(left_no(rest));
+            let cells = Vec::new(alloc);
+            Ok(TakenOthers { cells, rest })
+        }
+    }
 }
 
 // The words of an operation behind its first.
@@ -145,12 +113,13 @@ fn read_behind<'a>(
     ensures later { IfOk result (λ taken. ops_in taken.rest ≡ later_in rest.entry) }
     ensures least { OnOk result (no.new ≡ min no.old (behind_no schema.now (op_form kind) (op_in rest.entry))) }
 {
-    match op_form(kind) {
-        OpForm::Literals => read_insert(alloc, schema, kind, rest, no),
-        OpForm::RowNames => read_upsert(alloc, schema, kind, rest, no),
-        OpForm::Names => read_update(alloc, schema, kind, rest, no),
-        OpForm::Key => read_delete(alloc, schema, kind, rest, no),
-    }
+    let TakenKey { key, rest } = take_key(alloc, schema, rest, no)?;
+    let others = schema.other_columns();
+    let TakenOthers { cells, rest } = take_rest(alloc, others, op_form(kind), rest, no)?;
+    let cells = Cells::of(cells);
+    let op = RowOp { kind, key, cells };
+    let rest = behind_op(rest);
+    Ok(TakenOp { op, rest })
 }
 
 // What stands for an operation of no known kind.
