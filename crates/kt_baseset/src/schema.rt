@@ -13,7 +13,7 @@ pub struct ColumnShape {
 }
 
 /// The columns that are not part of the key, by rising id. Contracts see them as a list.
-#[derive(Drop)]
+#[derive(Debug, Drop)]
 pub struct Schema1 {
     columns: Vec<ColumnShape>,
 }

@@ -5,7 +5,7 @@ use std::alloc::{AllocError, AllocFailed};
 use thiserror::Error;
 
 /// Why bytes gave no block, or no column.
-#[derive(Clone, Copy, Debug, Error)]
+#[derive(Clone, Copy, Debug, PartialEq, Eq, Error)]
 pub enum CodecNo {
     /// No such spelling begins the bytes: the place of the first fault.
     #[error("the bytes are no column at offset {offset}")]

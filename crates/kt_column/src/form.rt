@@ -8,14 +8,14 @@ use kt_base::Kind;
 use kt_plain::{NumberWidth, Width};
 
 /// What a column holds: cells of one kind, or encoded keys.
-#[derive(Clone, Copy)]
+#[derive(Clone, Copy, Debug, PartialEq, Eq)]
 pub enum Form {
     Cells { kind: Kind, nullable: bool },
     Keys,
 }
 
 /// How the values of a block are written, with the number that stands in front of it.
-#[derive(Clone, Copy)]
+#[derive(Clone, Copy, Debug, PartialEq, Eq)]
 pub enum Encoding {
     Plain = 1,
     RunLength = 2,

@@ -8,12 +8,12 @@ use std::alloc::AllocError;
 use thiserror::Error;
 
 /// What the cells of a block are: a dictionary block holds byte strings alone.
-#[derive(Clone, Copy)]
+#[derive(Clone, Copy, Debug, PartialEq, Eq)]
 pub enum Width {
     Bytes,
 }
 
-#[derive(Clone, Copy, Debug, Error)]
+#[derive(Clone, Copy, Debug, PartialEq, Eq, Error)]
 pub enum CodecNo {
     /// The bytes spell no list: the place of the first fault.
     #[error("the bytes are no dictionary block at offset {offset}")]

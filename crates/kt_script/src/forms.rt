@@ -6,7 +6,7 @@ ghost use Rattle.kt_script.specs.Writes.{op_kind, op_form};
 use kt_history::OpKind;
 
 /// How the words of an operation stand behind its first.
-#[derive(Clone, Copy)]
+#[derive(Clone, Copy, PartialEq, Eq)]
 pub enum OpForm {
     /// A literal for each column.
     Literals,

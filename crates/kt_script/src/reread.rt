@@ -17,7 +17,7 @@ use std::alloc::Global;
 use thiserror::Error;
 
 /// What an output text tells.
-#[derive(Drop)]
+#[derive(Debug, Drop)]
 pub struct Output {
     pub replies: ReplyLines,
     pub events: EventList,

@@ -28,7 +28,7 @@ use kt_schema::Schema;
 use std::alloc::Global;
 
 /// What a script says: its table, and the commands of each session.
-#[derive(Drop)]
+#[derive(Debug, Drop)]
 pub struct Script {
     pub schema: Schema,
     pub plan: Plan,
