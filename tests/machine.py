@@ -124,8 +124,8 @@ def passes(tests, row):
 class Machine:
     """The tablet machine over the lines of a history."""
 
-    def __init__(self, script, before=None):
-        self.script, self.a = script, 0
+    def __init__(self, script, before=None, mark=0):
+        self.script, self.a = script, mark
         # of each key its rows by rising timestamp
         self.past = {key: list(rows) for key, rows in before.past.items()} if before else {}
         # the last write's timestamp, which is all that a log tells of the last one

@@ -4,9 +4,9 @@ use Rattle.std.specs.Prelude.{nat_lt, IfSome}
 use Rattle.std.proofs.lemmas.Bool.Decides.{nat_tests}
 use Rattle.kt_script.specs.Pieces.{cut}
 use Rattle.kt_script.specs.Scripts.{Said, Fault, script_of, fault_of, said_unless, said, above_end, start, most_bytes}
-use Rattle.kt_app.specs.Outside.{Reads}
+use Rattle.kt_streams.specs.Outside.{Reads}
 use Rattle.kt_app.specs.Crash.{IsSaid, IsFaultOf}
-use Rattle.kt_app.proofs.StreamLaws.{read_whole}
+use Rattle.kt_streams.proofs.StreamLaws.{read_whole}
 
 abbrev too_many : Option Fault
 too_many = Some (record { number = 0; reason = 1 })

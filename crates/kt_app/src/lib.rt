@@ -9,7 +9,6 @@ mod cells;
 mod kinds;
 pub mod laws;
 pub mod run;
-pub mod streams;
 pub mod text;
 pub mod top;
 

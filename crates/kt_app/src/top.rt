@@ -18,11 +18,10 @@ ghost use Rattle.kt_app.specs.Session.{IsCounted};
 ghost use Rattle.kt_seatlock.specs.Passes.{number, given, passes_of, IsVacant, IsPassOf};
 ghost use Rattle.kt_serve.specs.Scans.{IsOn};
 ghost use Rattle.kt_app.specs.Played.{IsFresh};
-ghost use Rattle.kt_app.specs.Outside.{Reads, WritesFront};
+ghost use Rattle.kt_streams.specs.Outside.{WritesFront};
 
 use crate::cells::cells_of;
 use crate::run::run_plan;
-use crate::streams::{ReadNo, read_all, write_all};
 use crate::text::Output;
 use kt_base::{Clock, NoMemory, Octets, Sink, Source};
 use kt_boot::{Closed, Why, open_tablet};
@@ -33,6 +32,7 @@ use kt_schema::Schema;
 use kt_script::number::print_number;
 use kt_script::{Script, ScriptNo, read_script};
 use kt_seatlock::{Pass, SeatLock};
+use kt_streams::{ReadNo, read_all, write_all};
 use std::alloc::Global;
 use std::sync::Wait;
 use std::thread::Threads;
@@ -58,6 +58,9 @@ pub enum SourceNo {
     Memory,
 }
 
+/// Reading stops after so many bytes, which is one more than a script may have.
+const MANY: usize = 67_108_865;
+
 // Reads a script.
 fn take_script<S: Source>(alloc: Global, source: &mut S) -> Result<Script, SourceNo>
     ensures said { IfOk result (λ s. IsSaid (S.left source.old) (record { columns = s.schema; plan = s.plan })) }
@@ -66,7 +69,7 @@ fn take_script<S: Source>(alloc: Global, source: &mut S) -> Result<Script, Sourc
     ensures not_taken { IfErr result (IsRefused (S.left source.old)) }
     ensures failed { IsErrOf result SourceNo.Failed → Rose (S.faults source.old) (S.faults source.new) }
 {
-    let bytes = match read_all(alloc, source) {
+    let bytes = match read_all(alloc, source, MANY) {
         Ok(bytes) => bytes,
         Err(ReadNo::Failed) => return Err(SourceNo::Failed),
         Err(ReadNo::Memory) => return Err(SourceNo::Memory),

@@ -1,9 +1,10 @@
-//! The program: a script on standard input, its output on standard output.
+//! The program: a script on standard input, its output on standard output; or a run on standard input, and what is said of it.
 //!
-//! The first words say where the tablet lives; the others go to the top call. With `memory` nothing outlives the
+//! The first word `check` asks for the checker of a run, which takes all words. Else the first words say where the tablet
+//! lives; the others go to the top call. With `memory` nothing outlives the
 //! program, and the clock counts 1, 2, 3 and so on, so that each run of a script prints the same. With `dirs LOG DATA`
-//! the devices are two folders that exist, and the clock is the machine's. The status of the top call is the program's;
-//! where the words cannot be read for want of memory it is 7. Nothing is written to standard error.
+//! the devices are two folders that exist, and the clock is the machine's. The status of the top call or the checker is the
+//! program's; where the words cannot be read for want of memory it is 7. Nothing is written to standard error.
 #![tactic(auto)]
 
 ghost use Rattle.std.specs.Prelude.{IsTrue};
@@ -13,6 +14,7 @@ use kt_app::tablet_main;
 use kt_base::Clock;
 use kt_disk::{Disk, MemDisk, PassGate};
 use kt_host::{DirDisk, MachineClock, Stdin, Stdout, Taken, Ticks};
+use kt_run_check::check_main;
 use std::alloc::AllocError;
 use std::io::ErrorKind;
 use std::process::ExitCode;
@@ -86,6 +88,13 @@ fn run_in_folders<R: Threads + Wait + Sync>(
     )
 }
 
+// Checks the run on standard input.
+fn check(rt: &HostRuntime, words: &[&str]) -> u8 {
+    let mut source = Stdin::new(rt.reader());
+    let mut sink = Stdout::new(io::writer(rt));
+    check_main(rt.alloc(), words, &mut source, &mut sink)
+}
+
 // The words behind the program's name, and none where one is no text.
 fn words_of(rt: &HostRuntime) -> Result<Vec<String>, AllocError> {
     let alloc = rt.alloc();
@@ -105,6 +114,7 @@ fn run_with_words<R: Threads + Wait + Sync>(
     Ok(match words.as_slice() {
         ["memory", rest @ ..] => run_in_memory(rt, threads, rest),
         ["dirs", log, data, rest @ ..] => run_in_folders(rt, threads, log, data, rest),
+        ["check", ..] => check(rt, &words),
         _ => run_in_memory(rt, threads, &[]),
     })
 }

@@ -1,14 +1,3 @@
-pub mod Decided
-pub mod Turns
-pub mod Works
-pub mod Machine
-pub mod Faults
-pub mod Walks
-pub mod Openings
-pub mod Tables
-pub mod Bare
-pub mod TableLaws
-pub mod Grown
-pub mod Verdicts
-pub mod Replied
-pub mod Wrong
+pub mod Words
+pub mod Sources
+pub mod Checks

@@ -1,37 +1,16 @@
-//! The judge of one run: whether an output is that of a run of a script from a listed opening, and else where it first
-//! is not.
+//! The checker of one run: it reads a script, an opening and an output, and says whether the output is that of a run of the
+//! script from the opening.
 //!
-//! For the layers above: `judge` gives the verdict on an output, exactly by `IsVerdict`: it is that of a run, or the first
-//! line of its history that is not allowed, the first reply that is not the run's, or that its last line is not. `first_fault`
-//! tells the first of these alone. It stands on the machine of kt_history, the scripts of kt_script and the scans of
-//! kt_scan, and on nothing of the engine.
+//! For the layers above: `check_main` takes the words of its command line, reads a source and writes its answer, whose status
+//! it returns. It stands on the judge of kt_judge, the openings of kt_opening and the scripts of kt_script.
 #![tactic(auto)]
 
-mod end;
-mod follow;
-mod grown;
-pub mod history;
-pub mod judging;
-mod keys;
-mod kinds;
-mod lists;
-mod machine;
-mod need;
-pub mod opening;
-mod replies;
-mod rows;
-mod table;
+pub mod answer;
+pub mod check;
 #[cfg(test)]
-mod tests;
-mod turn;
-pub mod verdict;
-mod versions;
-mod view;
-mod walk;
-mod writes;
-mod wrong;
+mod check_tests;
+mod pool;
+mod source;
 
-pub use history::first_fault;
-pub use judging::judge;
-pub use opening::{Opening, OpeningWrite};
-pub use verdict::Verdict;
+pub use answer::Answer;
+pub use check::{answer_to, check_main};

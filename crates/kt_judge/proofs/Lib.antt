@@ -1,0 +1,15 @@
+pub mod Steps
+pub mod Allowed
+pub mod Lines
+pub mod Sitting
+pub mod Taken
+pub mod Walked
+pub mod Worked
+pub mod Dated
+pub mod Placed
+pub mod Shown
+pub mod Barely
+pub mod Opened
+pub mod Growing
+pub mod Viewed
+pub mod Answering

@@ -1,5 +1,0 @@
-use Rattle.std.proofs.Common.{◌≡◌, ◌++◌, map, take}
-use Rattle.kt_run_check.proofs.kinds.add_kinds.Given as goal
-
-abbrev pub invariant-loop-column : goal.invariant-loop-column
-invariant-loop-column l = l.kinds.items ≡ l.fn.kinds.items ++ map (λ c. c.kind) (take l.column-index l.columns)

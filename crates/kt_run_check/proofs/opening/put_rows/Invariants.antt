@@ -1,7 +1,0 @@
-use Rattle.std.proofs.Common.{take}
-use Rattle.kt_run_check.specs.Bare.{HasRows}
-use Rattle.kt_run_check.proofs.opening.put_rows.Given as goal
-
--- the rows so far are inserted
-abbrev pub invariant-loop-key : goal.invariant-loop-key
-invariant-loop-key l = HasRows (take l.key-index l.rows) l.entries.items

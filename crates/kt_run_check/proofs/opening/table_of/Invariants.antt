@@ -1,6 +1,0 @@
-use Rattle.kt_run_check.proofs.Opened.{AreDone}
-use Rattle.kt_run_check.proofs.opening.table_of.Given as goal
-
--- the writes so far are done
-abbrev pub invariant-loop-write : goal.invariant-loop-write
-invariant-loop-write l = AreDone l.opening l.write-index l.entries.items

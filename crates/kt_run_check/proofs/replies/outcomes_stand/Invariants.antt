@@ -1,7 +1,0 @@
-use Rattle.std.proofs.Common.{◌≡◌, take}
-use Rattle.kt_run_check.specs.Replied.{outcomes_told}
-use Rattle.kt_run_check.proofs.replies.outcomes_stand.Given as goal
-
--- the outcomes so far are those of the operations so far
-abbrev pub invariant-loop-at : goal.invariant-loop-at
-invariant-loop-at l = take l.at l.printed ≡ outcomes_told l.table.entries.items l.t (take l.at l.ops)
