@@ -1,0 +1,23 @@
+use Rattle.std.proofs.Common.{◌∙◌, ◌+◌, ◌++◌, ◌∷◌, drop, ap, append_assoc, arith}
+use Rattle.kt_script.specs.Writes.{cells_of, under, op_in}
+use Rattle.kt_script.proofs.OpWords.{next_column}
+use Rattle.kt_script.proofs.operations.take_others.Goals as goal
+
+pub loop-column-preserved : goal.loop-column-preserved
+loop-column-preserved c =
+    let column = c.column-item.result in
+    let columns = c.args.columns.now in
+    let i = c.loop-column.column-index in
+    let more = drop (i + 1) columns in
+    let behind = op_in c.in-Some.behind in
+    let is = next_column columns i column (omega arith) c.column-item.is in
+    let before = c.loop-column.invariant in
+    let cut = c.in-Some.ensures.some in
+    let cells = rw (is, cut.0) at before.cells in
+    let least = rw (is, cut.0) at before.least in
+    record {
+      cells = ap (λ xs. xs ++ under more (cells_of more behind)) c.in_ok-push.ensures.items ∙ (append_assoc c.loop-column.cells.items _ _ ∙ (ap (λ x. c.loop-column.cells.items ++ ((column.id, x) ∷ under more (cells_of more behind))) c.in_ok-read_cell.ensures.cell ∙ cells));
+      behind = rw (is, cut.0) at before.behind;
+      later = cut.1 ∙ before.later;
+      least = omega (arith, least, c.in_ok-read_cell.ensures.least);
+    }
