@@ -1,10 +1,11 @@
 //! Whether the encoding in which values are held is the shortest, told without a list of the values.
 
-ghost use Rattle.std.specs.Prelude.{◌≡◌, ◌<◌, ◌≤◌, ◌^◌, ℕ, List, length, sum_by, IfOk};
+ghost use Rattle.std.specs.Prelude.{◌≡◌, ◌<◌, ◌≤◌, ◌+◌, ◌*◌, ◌^◌, ◌⊎◌, [], ℕ, List, length, get_or, sum_by, IfOk, OnOk};
 ghost use Rattle.std.specs.Bool.{OnTrue, OnFalse};
-ghost use Rattle.std.specs.List.{All};
+ghost use Rattle.std.specs.List.{All, flat_map};
 ghost use Rattle.kt_plain.specs.declared.items.Items.TheVariants.{Numbers, Texts};
 ghost use Rattle.kt_dict.specs.Spelling as dictionary;
+ghost use Rattle.kt_dict.specs.Writing.{text};
 ghost use Rattle.kt_front.specs.Spelling as prefix;
 ghost use Rattle.kt_column.specs.Forms.{MayUse};
 ghost use Rattle.kt_column.specs.Values.{AreValues, IsShortest, MayStand};
@@ -91,6 +92,32 @@ fn byte_len(items: &kt_front::Items) -> usize
     sum
 }
 
+/// Uses an item of a prefix block, by way of a copy of it in the room.
+fn use_item(
+    alloc: Global,
+    entries: &mut Entries,
+    items: &kt_front::Items,
+    i: usize,
+    room: &mut Octets,
+) -> Result<(), NoMemory>
+    requires few { length items.now ≤ 8192 }
+    requires within { i < length items.now }
+    requires small { length (flat_map text entries.old) + (4 + length (get_or items.now i [])) < 2 ^ 64 }
+    ensures { OnOk result (entries.new ≡ dictionary.with_entry entries.old (get_or items.now i [])) }
+{
+    items.item(i as u32).copy_into(room)?;
+    entries.add(alloc, room.as_slice())
+}
+
+/// Whether so many cells have no dictionary of these entries and so many bytes at most.
+fn are_over(entries: &Entries, cells: usize, most: usize) -> bool
+    requires { 2 + length (flat_map text entries.now) + 2 * cells < 2 ^ 64 }
+    ensures yes { OnTrue result ((4096 < length entries.now) ⊎ (most < 2 + length (flat_map text entries.now) + 2 * cells)) }
+    ensures no { OnFalse result (length entries.now ≤ 4096) }
+{
+    entries.len() > 4096 || entries.spelled_len(cells) > most
+}
+
 /// Whether the items of a prefix block have a dictionary of so many bytes at most. It holds no more
 /// than these and one item.
 fn has_dictionary(alloc: Global, items: &kt_front::Items, most: usize) -> Result<bool, NoMemory>
@@ -100,12 +127,11 @@ fn has_dictionary(alloc: Global, items: &kt_front::Items, most: usize) -> Result
     ensures no { IfOk result (λ b. OnFalse b (dictionary.Fits items.now → most < length (dictionary.spelling items.now))) }
 {
     let mut entries = Entries::new(alloc);
-    let mut text = Octets::new(alloc);
+    let mut room = Octets::new(alloc);
     let n = items.len();
     'items: for i in 0..n {
-        items.item(i as u32).copy_into(&mut text)?;
-        entries.add(alloc, text.as_slice())?;
-        if entries.len() > 4096 || entries.spelled_len(n) > most {
+        use_item(alloc, &mut entries, items, i, &mut room)?;
+        if are_over(&entries, n, most) {
             return Ok(false);
         }
     }
