@@ -1,5 +1,5 @@
-use Rattle.std.proofs.Common.{List, ℕ, length, ap, sym, ◌∙◌, ◌<◌, arith}
-use Rattle.kt_dict.specs.Spelling.{dictionary, spelling}
+use Rattle.std.proofs.Common.{List, ℕ, length, ap, ◌∙◌, arith}
+use Rattle.kt_dict.specs.Spelling.{dictionary}
 use Rattle.kt_dict.proofs.Words.{nows}
 use Rattle.kt_dict.proofs.Short.{no_longer, short_entries, short_keys, keys_count, spelled_by}
 use Rattle.kt_dict.proofs.writing.encode.Goals as goal
