@@ -1,9 +1,8 @@
-ghost use Rattle.std.specs.Prelude.{◌≡◌, IfOk};
+ghost use Rattle.std.specs.Prelude.{◌≡◌, ◌<◌, length, IfOk};
 
 use kt_base::{Cell, Cells, Kind, NoMemory, Octets};
 use kt_baseset::{BaseSet, CodecNo, ColumnShape, KeyedRow, KeyedRows, build, decode};
-use std::alloc::Global;
-use std::test::Fail;
+use std::alloc::{AllocError, Global};
 
 /// The keys a and b, and one column, of 5 and null.
 const TWO: [u8; 54] = [
@@ -31,11 +30,6 @@ fn wide(alloc: Global) -> Result<Octets, NoMemory> {
     bytes.extend(&FILTER)?;
     bytes.extend(&[1, 0, 0, 1, 0, 32, 1, 0, 64])?;
     Ok(bytes)
-}
-
-/// The base set that the bytes spell.
-fn read(alloc: Global, bytes: &[u8]) -> Result<BaseSet, Fail> {
-    Ok(decode(alloc, bytes).ok().ok_or("not read")?)
 }
 
 /// The rows of a base set.
@@ -68,12 +62,10 @@ fn fault(alloc: Global, bytes: &[u8]) -> Option<u64> {
 }
 
 #[test]
-fn two_rows_are_read_and_spelled(rt: HostRuntime) -> Result<(), Fail> {
-    let alloc = rt.alloc();
-    let set = read(alloc, &TWO)?;
-    let bytes = rebuilt(alloc, &set)?;
-    assert_eq!(rt; bytes.as_slice(), TWO.as_slice());
-    Ok(())
+fn two_rows_are_read_and_spelled(rt: HostRuntime) {
+    let set = decode(rt.alloc(), &TWO).expect(&rt, "a base file");
+    let bytes = rebuilt(rt.alloc(), &set).expect(&rt, "memory");
+    assert!(rt; bytes.as_slice() == TWO.as_slice());
 }
 
 /// Whether the row is the number under the column 2, or null there.
@@ -91,67 +83,99 @@ fn is_row(row: &Cells, number: Option<i64>) -> bool {
     }
 }
 
-#[test]
-fn a_row_is_put_together(rt: HostRuntime) -> Result<(), Fail> {
-    let alloc = rt.alloc();
-    let set = read(alloc, &TWO)?;
-    assert!(rt; set.rows() == 2);
-    let key = set.key(alloc, 1)?;
-    assert_eq!(rt; key.as_slice(), b"b".as_slice());
-    let first = set.row(alloc, 0)?;
-    assert!(rt; is_row(&first, Some(5)));
-    let second = set.row(alloc, 1)?;
-    assert!(rt; is_row(&second, None));
-    Ok(())
+fn has_row(alloc: Global, set: &BaseSet, i: u32, number: Option<i64>) -> bool
+    requires { i < length set.now.rows }
+{
+    match set.row(alloc, i) {
+        Ok(row) => is_row(&row, number),
+        Err(_) => false,
+    }
 }
 
 #[test]
-fn a_column_is_told(rt: HostRuntime) -> Result<(), Fail> {
-    let alloc = rt.alloc();
-    let schema = read(alloc, &TWO)?.schema(alloc)?;
+fn a_row_is_put_together(rt: HostRuntime) {
+    let set = decode(rt.alloc(), &TWO).expect(&rt, "a base file");
+    assert!(rt; set.rows() == 2);
+    let key = set.key(rt.alloc(), 1).expect(&rt, "memory");
+    assert!(rt; key.as_slice() == b"b".as_slice());
+    assert!(rt; has_row(rt.alloc(), &set, 0, Some(5)));
+    assert!(rt; has_row(rt.alloc(), &set, 1, None));
+}
+
+#[test]
+fn a_column_is_told(rt: HostRuntime) {
+    let set = decode(rt.alloc(), &TWO).expect(&rt, "a base file");
+    let schema = set.schema(rt.alloc()).expect(&rt, "memory");
     let (id, kind, nullable) = (2, Kind::Int8, true);
     let shape = ColumnShape { id, kind, nullable };
-    assert_eq!(rt; schema.as_slice(), [shape].as_slice());
-    Ok(())
+    assert!(rt; schema.as_slice() == [shape].as_slice());
+}
+
+/// The key with this number is found, and none beside it.
+fn is_found(set: &BaseSet, i: u8) -> bool
+    requires { i < 48 }
+{
+    set.ordinal(&[2 * i]) == Some(u32::from(i))
+        && set.ordinal(&[2 * i + 1]).is_none()
+        && set.ordinal(&[2 * i, 0]).is_none()
 }
 
 #[test]
-fn keys_are_found_where_they_stand(rt: HostRuntime) -> Result<(), Fail> {
-    let alloc = rt.alloc();
-    let bytes = wide(alloc)?;
-    let set = read(alloc, bytes.as_slice())?;
+fn keys_are_found_where_they_stand(rt: HostRuntime) {
+    let bytes = wide(rt.alloc()).expect(&rt, "memory");
+    let set = decode(rt.alloc(), bytes.as_slice()).expect(&rt, "a base file");
     for i in 0..48u8 {
-        assert_eq!(rt; set.ordinal(&[2 * i]), Some(u32::from(i)));
-        assert_eq!(rt; set.ordinal(&[2 * i + 1]), None);
-        assert_eq!(rt; set.ordinal(&[2 * i, 0]), None);
+        assert!(rt; is_found(&set, i));
     }
-    assert_eq!(rt; set.ordinal(b""), None);
-    Ok(())
+    assert!(rt; set.ordinal(b"").is_none());
 }
 
 #[test]
-fn an_index_of_three_entries_is_spelled(rt: HostRuntime) -> Result<(), Fail> {
-    let alloc = rt.alloc();
-    let bytes = wide(alloc)?;
-    let set = read(alloc, bytes.as_slice())?;
-    let again = rebuilt(alloc, &set)?;
-    assert_eq!(rt; again.as_slice(), bytes.as_slice());
-    Ok(())
+fn an_index_of_three_entries_is_spelled(rt: HostRuntime) {
+    let bytes = wide(rt.alloc()).expect(&rt, "memory");
+    let set = decode(rt.alloc(), bytes.as_slice()).expect(&rt, "a base file");
+    let again = rebuilt(rt.alloc(), &set).expect(&rt, "memory");
+    assert!(rt; again.as_slice() == bytes.as_slice());
 }
 
 #[test]
 fn a_cut_file_is_at_fault_at_its_end(rt: HostRuntime) {
     for len in 0..54 {
-        assert_eq!(rt; fault(rt.alloc(), &TWO[..len]), Some(len as u64));
+        assert!(rt; fault(rt.alloc(), &TWO[..len]) == Some(len as u64));
     }
 }
 
 #[test]
-fn bytes_behind_the_index_are_at_fault_at_the_first(rt: HostRuntime) -> Result<(), Fail> {
-    let mut bytes = TWO.to_vec(rt.alloc())?;
-    bytes.push(0)?;
-    assert_eq!(rt; fault(rt.alloc(), &bytes), Some(54));
-    Ok(())
+fn bytes_behind_the_index_are_at_fault_at_the_first(rt: HostRuntime) {
+    let mut bytes = TWO.to_vec(rt.alloc()).expect(&rt, "memory");
+    bytes.push(0).expect(&rt, "memory");
+    assert!(rt; fault(rt.alloc(), &bytes) == Some(54));
+}
+
+/// The file of two rows, whose second key falls.
+const FALLING: [u8; 54] = [
+    0x4b, 0x54, 0x42, 0x31, 2, 0, 0, 0, 4, 0x12, 0, 0, 0, 0, 0, 0, 0, 1, 0, 0, 0, 0x61, 0, 0, 0, 0,
+    1, 0, 0, 0, 0x60, 1, 0, 2, 0, 2, 1, 1, 2, 0, 0, 0, 2, 5, 3, 0, 0, 0, 0x54, 0xa1, 0x2a, 1, 0,
+    0x61,
+];
+
+/// A key that falls is at fault at its cell, before what is wrong behind it.
+#[test]
+fn a_key_that_falls_comes_first(rt: HostRuntime) {
+    for len in 31..54 {
+        assert!(rt; fault(rt.alloc(), &FALLING[..len]) == Some(22));
+    }
+    assert!(rt; fault(rt.alloc(), &FALLING[..30]) == Some(30));
+}
+
+/// A key of two bytes: the first of a stretch, or one that shares its first byte.
+fn put_key(bytes: &mut Octets, i: u16) -> Result<(), NoMemory> {
+    let [low, high] = i.to_le_bytes();
+    if i % 16 == 0 {
+        bytes.extend(&[0, 0, 0, 0, 2, 0, 0, 0, high, low])
+    } else {
+        bytes.extend(&[1, 0, 0, 0, 1, 0, 0, 0, low])
+    }
 }
 
 /// The letters, so many rows, and a block of 8,192 keys.
@@ -160,55 +184,49 @@ fn many_keys(alloc: Global, rows: u32) -> Result<Octets, NoMemory> {
     bytes.extend(&rows.to_le_bytes())?;
     bytes.extend(&[4, 0, 0x22, 1, 0])?;
     for i in 0..8192u16 {
-        let [low, high] = i.to_le_bytes();
-        if i % 16 == 0 {
-            bytes.extend(&[0, 0, 0, 0, 2, 0, 0, 0, high, low])?;
-        } else {
-            bytes.extend(&[1, 0, 0, 0, 1, 0, 0, 0, low])?;
-        }
+        put_key(&mut bytes, i)?;
     }
     Ok(bytes)
 }
 
-/// A key that falls is at fault at its cell, before what is wrong behind it, also as the first one of a block.
+/// So is the first key of a block.
 #[test]
-fn a_key_that_falls_comes_first(rt: HostRuntime) -> Result<(), Fail> {
-    let alloc = rt.alloc();
-    let mut cut = TWO;
-    cut[30] = 0x60;
-    for len in 31..54 {
-        assert_eq!(rt; fault(alloc, &cut[..len]), Some(22));
-    }
-    assert_eq!(rt; fault(alloc, &cut[..30]), Some(30));
-    let mut bytes = many_keys(alloc, 8193)?;
-    assert_eq!(rt; bytes.len(), 74_253);
-    bytes.extend(&[4, 10, 0, 0, 0, 0, 0, 0, 0, 2, 0, 0, 0, 0x1f, 0xff])?;
-    assert_eq!(rt; fault(alloc, bytes.as_slice()), Some(74_258));
-    Ok(())
+fn a_first_key_that_falls_comes_first(rt: HostRuntime) {
+    let mut bytes = many_keys(rt.alloc(), 8193).expect(&rt, "memory");
+    assert!(rt; bytes.len() == 74_253);
+    let block = [4, 10, 0, 0, 0, 0, 0, 0, 0, 2, 0, 0, 0, 0x1f, 0xff];
+    bytes.extend(&block).expect(&rt, "memory");
+    assert!(rt; fault(rt.alloc(), bytes.as_slice()) == Some(74_258));
 }
 
-/// The file of 8,192 keys and a column of one long string in each row, up to the filter.
-fn one_text(alloc: Global) -> Result<Octets, NoMemory> {
-    let mut bytes = many_keys(alloc, 8192)?;
-    bytes.extend(&[1, 0, 1, 0, 7, 0, 3, 6, 0x40, 1, 0, 1, 0, 0, 0, 1, 0])?;
-    for _ in 0..65_536u32 {
-        bytes.push(97)?;
-    }
-    for _ in 0..8192u32 {
-        bytes.extend(&[0, 0])?;
-    }
+/// Whether the file is read up to its end, where its filter is missing.
+fn is_read_to_its_end(alloc: Global, bytes: &Octets) -> bool {
+    fault(alloc, bytes.as_slice()) == Some(bytes.len() as u64)
+}
+
+/// The number of columns, and one of a long string in each of 8,192 rows.
+fn one_text(alloc: Global) -> Result<Vec<u8>, AllocError> {
+    let head = [1, 0, 1, 0, 7, 0, 3, 6, 0x40, 1, 0, 1, 0, 0, 0, 1, 0];
+    let mut bytes = Vec::from_slice(alloc, &head)?;
+    bytes.resize(65_553, 97)?;
+    bytes.resize(81_937, 0)?;
     Ok(bytes)
 }
 
-/// 156 KB that stand for half a gigabyte are read up to their end, where the filter is missing.
+/// 156 KB that stand for half a gigabyte are read up to their end.
 #[test]
-fn a_column_of_one_long_text_is_read(rt: HostRuntime) -> Result<(), Fail> {
-    let bytes = one_text(rt.alloc())?;
-    assert_eq!(rt;
-        fault(rt.alloc(), bytes.as_slice()),
-        Some(bytes.len() as u64)
-    );
-    Ok(())
+fn a_column_of_one_long_text_is_read(rt: HostRuntime) {
+    let mut bytes = many_keys(rt.alloc(), 8192).expect(&rt, "memory");
+    let column = one_text(rt.alloc()).expect(&rt, "memory");
+    bytes.extend(&column).expect(&rt, "memory");
+    assert!(rt; is_read_to_its_end(rt.alloc(), &bytes));
+}
+
+/// A column of these blocks.
+fn put_column(bytes: &mut Octets, id: u16, kind: [u8; 2], blocks: &[u8]) -> Result<(), NoMemory> {
+    bytes.extend(&id.to_le_bytes())?;
+    bytes.extend(&kind)?;
+    bytes.extend(blocks)
 }
 
 /// The file of 8,192 keys and so many columns of the same blocks, up to the filter.
@@ -216,50 +234,49 @@ fn columns_of(alloc: Global, count: u16, kind: [u8; 2], blocks: &[u8]) -> Result
     let mut bytes = many_keys(alloc, 8192)?;
     bytes.extend(&count.to_le_bytes())?;
     for id in 0..count {
-        bytes.extend(&id.to_le_bytes())?;
-        bytes.extend(&kind)?;
-        bytes.extend(blocks)?;
+        put_column(&mut bytes, id, kind, blocks)?;
     }
     Ok(bytes)
 }
 
 /// 246 KB whose 8,192 columns of one run each stand for half a gigabyte are read up to their end.
 #[test]
-fn columns_of_one_run_are_read(rt: HostRuntime) -> Result<(), Fail> {
+fn columns_of_one_run_are_read(rt: HostRuntime) {
     let run = b"\x02\x0c\0\0\0\0\x20\0\0\x09\0\0\0\0\0\0\0";
-    let bytes = columns_of(rt.alloc(), 8192, [5, 0], run)?;
-    assert_eq!(rt;
-        fault(rt.alloc(), bytes.as_slice()),
-        Some(bytes.len() as u64)
-    );
-    Ok(())
+    let bytes = columns_of(rt.alloc(), 8192, [5, 0], run).expect(&rt, "memory");
+    assert!(rt; is_read_to_its_end(rt.alloc(), &bytes));
+}
+
+/// A block of 8,192 cells that are null.
+fn nulls(alloc: Global) -> Result<Vec<u8>, AllocError> {
+    let mut block = Vec::from_slice(alloc, &[1, 0, 4, 0, 0])?;
+    block.resize(1029, 255)?;
+    Ok(block)
 }
 
 /// 265 KB whose 256 columns are null in each row are read up to their end.
 #[test]
-fn columns_of_nulls_are_read(rt: HostRuntime) -> Result<(), Fail> {
-    let mut block = Octets::from_slice(rt.alloc(), &[1, 0, 4, 0, 0])?;
-    for _ in 0..1024u32 {
-        block.push(255)?;
-    }
-    let bytes = columns_of(rt.alloc(), 256, [2, 1], block.as_slice())?;
-    assert_eq!(rt;
-        fault(rt.alloc(), bytes.as_slice()),
-        Some(bytes.len() as u64)
-    );
-    Ok(())
+fn columns_of_nulls_are_read(rt: HostRuntime) {
+    let block = nulls(rt.alloc()).expect(&rt, "memory");
+    let bytes = columns_of(rt.alloc(), 256, [2, 1], &block).expect(&rt, "memory");
+    assert!(rt; is_read_to_its_end(rt.alloc(), &bytes));
+}
+
+/// The place of the fault of the file of two rows and two columns, of which the first has this id.
+fn fault_with_id(alloc: Global, id: u16) -> Option<u64> {
+    let [low, high] = id.to_le_bytes();
+    let mut bytes = TWO;
+    bytes[31] = 2;
+    bytes[33] = low;
+    bytes[34] = high;
+    fault(alloc, &bytes)
 }
 
 /// Two columns stand in the file, of which the first has the last id, or the last but one.
 #[test]
 fn an_id_that_leaves_none_behind_it_is_at_fault_itself(rt: HostRuntime) {
-    let mut bytes = TWO;
-    bytes[31] = 2;
-    bytes[33] = 255;
-    bytes[34] = 255;
-    assert_eq!(rt; fault(rt.alloc(), &bytes), Some(33));
-    bytes[33] = 254;
-    assert_eq!(rt; fault(rt.alloc(), &bytes), Some(44));
+    assert!(rt; fault_with_id(rt.alloc(), 65_535) == Some(33));
+    assert!(rt; fault_with_id(rt.alloc(), 65_534) == Some(44));
 }
 
 /// The place of the fault of the file with one byte changed.
@@ -271,26 +288,27 @@ fn fault_with(alloc: Global, place: usize, byte: u8) -> Option<u64> {
     fault(alloc, &bytes)
 }
 
-#[test]
-fn faults_in_the_keys_are_found(rt: HostRuntime) {
+/// A byte that is put at a place, and the place of the fault.
+const FAULTS: [(usize, u8, u64); 11] = [
     // The letters, the number of rows, the keys' encoding, and a key that falls, at its cell.
-    for (place, byte, at) in [(3, 0x32, 0), (4, 0, 4), (8, 1, 8), (30, 0x60, 22)] {
-        assert_eq!(rt; fault_with(rt.alloc(), place, byte), Some(at));
-    }
-}
-
-#[test]
-fn faults_in_the_columns_are_found(rt: HostRuntime) {
+    (3, 0x32, 0),
+    (4, 0, 4),
+    (8, 1, 8),
+    (30, 0x60, 22),
     // A kind, whether the column may be null, and a second column where the filter stands.
-    for (place, byte, at) in [(35, 8, 35), (36, 2, 36), (31, 2, 46)] {
-        assert_eq!(rt; fault_with(rt.alloc(), place, byte), Some(at));
-    }
-}
+    (35, 8, 35),
+    (36, 2, 36),
+    (31, 2, 46),
+    // The filter's length and bytes, and the length and the byte of the index's key.
+    (44, 4, 44),
+    (48, 0x55, 48),
+    (51, 2, 51),
+    (53, 0x62, 53),
+];
 
 #[test]
-fn a_filter_and_an_index_of_other_keys_are_found(rt: HostRuntime) {
-    // The filter's length and bytes, and the length and the byte of the index's key.
-    for (place, byte, at) in [(44, 4, 44), (48, 0x55, 48), (51, 2, 51), (53, 0x62, 53)] {
-        assert_eq!(rt; fault_with(rt.alloc(), place, byte), Some(at));
+fn faults_are_found_at_their_places(rt: HostRuntime) {
+    for &(place, byte, at) in &FAULTS {
+        assert!(rt; fault_with(rt.alloc(), place, byte) == Some(at));
     }
 }

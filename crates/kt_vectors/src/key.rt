@@ -4,7 +4,6 @@ ghost use Rattle.kt_base.specs.declared.cell.Cell.TheVariants as cell;
 use kt_base::{Cell, Kind, NoMemory, Octets, Row};
 use kt_key::{decode_key, encode_key};
 use std::alloc::Global;
-use std::test::Fail;
 
 fn one(alloc: Global, number: i64) -> Result<Row, NoMemory>
     ensures { IfOk result (λ row. row ≡ cell.Int number ∷ []) }
@@ -24,37 +23,51 @@ fn two(alloc: Global, text: &[u8], number: i64) -> Result<Row, NoMemory>
 }
 
 #[test]
-fn a_number(rt: HostRuntime) -> Result<(), Fail> {
-    let key = encode_key(rt.alloc(), &[Kind::Int64], &one(rt.alloc(), 1)?)?;
-    assert_eq!(rt; key.as_slice(), [0x80, 0, 0, 0, 0, 0, 0, 1].as_slice());
-    Ok(())
+fn a_number(rt: HostRuntime) {
+    let row = one(rt.alloc(), 1).expect(&rt, "memory");
+    let key = encode_key(rt.alloc(), &[Kind::Int64], &row).expect(&rt, "memory");
+    assert!(rt; key.as_slice() == [0x80, 0, 0, 0, 0, 0, 0, 1].as_slice());
 }
 
 #[test]
-fn a_number_below_zero(rt: HostRuntime) -> Result<(), Fail> {
-    let key = encode_key(rt.alloc(), &[Kind::Int16], &one(rt.alloc(), -1)?)?;
-    assert_eq!(rt; key.as_slice(), [0x7f, 0xff].as_slice());
-    Ok(())
+fn a_number_below_zero(rt: HostRuntime) {
+    let row = one(rt.alloc(), -1).expect(&rt, "memory");
+    let key = encode_key(rt.alloc(), &[Kind::Int16], &row).expect(&rt, "memory");
+    assert!(rt; key.as_slice() == [0x7f, 0xff].as_slice());
 }
 
 #[test]
-fn a_text_and_a_number(rt: HostRuntime) -> Result<(), Fail> {
-    let alloc = rt.alloc();
-    let kinds = [Kind::String, Kind::Int8];
-    let escaped = encode_key(alloc, &kinds, &two(alloc, b"a\x00", -128)?)?;
-    assert_eq!(rt; escaped.as_slice(), [0x61, 0, 1, 0, 0, 0].as_slice());
-    let plain = encode_key(alloc, &kinds, &two(alloc, b"a", 127)?)?;
-    assert_eq!(rt; plain.as_slice(), [0x61, 0, 0, 0xff].as_slice());
-    Ok(())
+fn an_escaped_text_and_a_number(rt: HostRuntime) {
+    let row = two(rt.alloc(), b"a\x00", -128).expect(&rt, "memory");
+    let key = encode_key(rt.alloc(), &[Kind::String, Kind::Int8], &row).expect(&rt, "memory");
+    assert!(rt; key.as_slice() == [0x61, 0, 1, 0, 0, 0].as_slice());
 }
 
 #[test]
-fn keys_are_read(rt: HostRuntime) -> Result<(), Fail> {
-    let kinds = [Kind::String, Kind::Int8];
-    let row = decode_key(rt.alloc(), &kinds, &[0x61, 0, 1, 0, 0, 0])?;
-    assert_eq!(rt; row.is_some(), true);
-    assert!(rt; decode_key(rt.alloc(), &kinds, &[0x61, 0, 2, 0, 0, 0])?.is_none());
-    assert!(rt; decode_key(rt.alloc(), &kinds, &[0x61, 0, 0])?.is_none());
-    assert!(rt; decode_key(rt.alloc(), &kinds, &[0x61, 0, 0, 1, 1])?.is_none());
-    Ok(())
+fn a_text_and_a_number(rt: HostRuntime) {
+    let row = two(rt.alloc(), b"a", 127).expect(&rt, "memory");
+    let key = encode_key(rt.alloc(), &[Kind::String, Kind::Int8], &row).expect(&rt, "memory");
+    assert!(rt; key.as_slice() == [0x61, 0, 0, 0xff].as_slice());
+}
+
+/// Bytes, and whether they are the key of a text and a number.
+const KEYS: [(&[u8], bool); 4] = [
+    (&[0x61, 0, 1, 0, 0, 0], true),
+    (&[0x61, 0, 2, 0, 0, 0], false),
+    (&[0x61, 0, 0], false),
+    (&[0x61, 0, 0, 1, 1], false),
+];
+
+fn is_told(alloc: Global, bytes: &[u8], is_key: bool) -> bool {
+    match decode_key(alloc, &[Kind::String, Kind::Int8], bytes) {
+        Ok(row) => row.is_some() == is_key,
+        Err(_) => false,
+    }
+}
+
+#[test]
+fn keys_are_read(rt: HostRuntime) {
+    for &(bytes, is_key) in &KEYS {
+        assert!(rt; is_told(rt.alloc(), bytes, is_key));
+    }
 }
