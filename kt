@@ -9,6 +9,7 @@ The storage engine of one Kudu tablet: runs a script of writes and scans.
 
   ./kt memory run < SCRIPT           in memory: nothing outlives the run
   ./kt dirs LOG DATA run < SCRIPT    in two folders that exist: what was written is there at the next run
+  ./kt check [--pool CELLS] < RUN    says whether an output is that of a run of its script from its opening
   ./kt build                         proves the program and builds it
   ./kt --help                        this text
 
@@ -19,6 +20,7 @@ Status  0 each command was answered     4 a folder is not there, in use, or fail
         1 other words than these        5 the script could not be read
         2 the text is no script         6 the output could not be written
         3 the log is refused            7 memory ran out
+        8 what is checked is not the output of a run    9 what stands behind the script is at fault
        70 the program could be neither built nor tried: standard error says why
 
 docs/SCRIPT.md is the manual of scripts and outputs. README.md says what is proved.
