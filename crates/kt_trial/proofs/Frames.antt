@@ -1,5 +1,5 @@
 -- What an event of one session leaves of the turns and of the flying writes of the others.
-use Rattle.std.proofs.Common.{◌≡◌, ◌<◌, ℕ, zero, suc, ◌+◌, List, [], ◌∷◌, ◌++◌, length, map, Some, None, refl, sym, true, false, cond, ap, ◌∙◌, subst, arith, not, ◌||◌, drop}
+use Rattle.std.proofs.Common.{◌≡◌, ◌<◌, ℕ, zero, suc, List, [], ◌∷◌, ◌++◌, length, map, Some, None, refl, sym, true, false, cond, ap, ◌∙◌, subst, arith, not, ◌||◌, drop}
 use Rattle.std.specs.Prelude.{◌==◌, slice_get, slice_set}
 use Rattle.std.specs.List.{filter, list_any}
 use Rattle.std.proofs.lemmas.Bool.Decides.{nat_tests}

@@ -1,5 +1,5 @@
 -- Writes that are made one operation after another may be asked for.
-use Rattle.std.proofs.Common.{◌≡◌, ℕ, zero, suc, ◌+◌, ◌-◌, ◌*◌, ◌^◌, ◌<◌, ◌≤◌, List, [], ◌∷◌, ◌++◌, Option, Some, None, refl, true, false, Bool, ◌||◌, sym, ap, ◌∙◌, subst, arith, length, length-append, append_assoc}
+use Rattle.std.proofs.Common.{◌≡◌, ℕ, zero, suc, ◌-◌, ◌*◌, ◌^◌, ◌<◌, ◌≤◌, List, [], ◌∷◌, ◌++◌, Option, Some, None, refl, true, false, Bool, ◌||◌, sym, ap, ◌∙◌, subst, arith, length, length-append, append_assoc}
 use Rattle.std.specs.Prelude.{pos, slice_get}
 use Rattle.std.specs.List.{All, list_any, flat_map}
 use Rattle.std.specs.Ordering.{eq_by_cmp}
