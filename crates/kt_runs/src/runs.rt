@@ -72,44 +72,22 @@ fn failing(alloc: Global, change: u64) -> Result<FaultDisk<MemDisk>, Fail>
     }
 }
 
-// The log of a run that ends with this status and this text.
-fn ended<R: Threads + Wait + Sync, L: Disk + Send + Drop>(
-    rt: &R,
-    alloc: Global,
-    lines: &[u8],
-    log: L,
-    status: u8,
-    text: &[u8],
-) -> Result<L, Fail>
-    requires { IsTrue L.tells → CanOpen L.now L.leaves log }
-{
-    let (ended, sink, log) = run(rt, alloc, lines, log, &PassGate)?;
-    if ended == status && sink.bytes() == text {
-        Ok(log)
-    } else {
-        Err("another status or text".into())
-    }
-}
-
-// The clock goes back, and the timestamp goes on.
-const STOPPED: &[u8] =
-    b"session 1\nat 20480 ok\nstopped\nstopped\nhistory\nbegin 1 1 20480 5\nend 1 1 20480\nbegin 1 2 20481 3\nstop\ntablet stopped\n";
-
-const LEFT: &[u8] =
-    b"session 1\nrows 20481 1\n1 \"a\"\nhistory\nrows 1 1 20481\ntablet ahm 0 last 20481 rowsets 0\n";
-
-// What the seventh change of a log leaves of it, where it fails and the run stops.
-fn stopped<R: Threads + Wait + Sync>(rt: &R, alloc: Global) -> Result<MemDisk, Fail>
-    ensures { IfOk result (λ disk. disk.calls ≡ []) }
-{
-    let lines = b"session\ninsert 1 \"a\"\ninsert 2 \"b\"\nscan now\n";
-    let log = ended(rt, alloc, lines, failing(alloc, 7)?, 4, STOPPED)?.into_inner();
-    Ok(log.crash(alloc, log.moment(), &[])?)
-}
-
 #[test]
 fn a_device_that_fails_stops_the_run(rt: HostRuntime) -> Result<(), Fail> {
-    let log = stopped(&rt, rt.alloc())?;
-    ended(&rt, rt.alloc(), b"session\nscan at 20481\n", log, 0, LEFT)?;
+    let alloc = rt.alloc();
+    let lines = b"session\ninsert 1 \"a\"\ninsert 2 \"b\"\nscan now\n";
+    let (status, sink, log) = run(&rt, alloc, lines, failing(alloc, 7)?, &PassGate)?;
+    assert_eq!(rt; status, 4);
+    // The clock goes back, and the timestamp goes on.
+    let printed =
+        b"session 1\nat 20480 ok\nstopped\nstopped\nhistory\nbegin 1 1 20480 5\nend 1 1 20480\nbegin 1 2 20481 3\nstop\ntablet stopped\n";
+    assert_eq!(rt; sink.bytes(), printed.as_slice());
+    let log = log.into_inner();
+    let left = log.crash(alloc, log.moment(), &[])?;
+    let (again, sink, _) = run(&rt, alloc, b"session\nscan at 20481\n", left, &PassGate)?;
+    assert_eq!(rt; again, 0);
+    let printed =
+        b"session 1\nrows 20481 1\n1 \"a\"\nhistory\nrows 1 1 20481\ntablet ahm 0 last 20481 rowsets 0\n";
+    assert_eq!(rt; sink.bytes(), printed.as_slice());
     Ok(())
 }
