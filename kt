@@ -47,6 +47,12 @@ needed() {
         END { need("kt_main") }' "$top/crates.txt"
 }
 
+# Proves crates one after the other, each with those below it.
+chain() {
+    local name
+    for name; do rt ci "$name" || return; done
+}
+
 # Proves the program and what it stands on, side by side, in a copy without must-fail edits.
 build() {
     local log name begun
@@ -59,13 +65,21 @@ build() {
         cp -r "$top/crates/$name" "$room/crates" && grep "^$name[: ]" "$top/crates.txt" >>"$room/crates.txt"
         rm -rf "$room/crates/$name"/{out,must-fail}
     done
-    # Two chains at once, so that a crate that all others wait for gets the processors that are left.
-    if ! (cd "$room" && { rt ci kt_run_check >"$log.checker" & rt ci kt_app; wait; cat "$log.checker"; rt ci; }) >"$log" 2>&1; then
+    # Crate by crate along three chains at once, so that a crate that the others wait for gets all processors that are left.
+    if ! (
+        cd "$room" || exit
+        chain kt_script kt_judge kt_opening kt_run_check >"$room/texts" &
+        chain kt_loglaws kt_seatlock kt_scan kt_host >"$room/log" &
+        chain kt_tablet kt_engine kt_serve kt_app
+        wait
+        cat "$room/texts" "$room/log"
+        rt ci
+    ) >"$log" 2>&1; then
         tail -n 30 "$log" >&2
         exit 70
     fi
     mkdir -p "${program%/*}" && cp "$room/crates/kt_main/out/kt_main" "$program" && touch -d "@$begun" "$program" || exit 70
-    rm -f "$log" "$log.checker"
+    rm -f "$log"
 }
 
 # Runs an unproved build. What the toolchain says of it is shown only where it did not run.
