@@ -1,0 +1,9 @@
+mod Standing
+mod Places
+mod Pools
+mod Spelled
+mod Rows
+mod Lines
+mod Scripts
+mod Openings
+mod Sources
