@@ -214,7 +214,78 @@ def examples_are_runs(room):
             raise Wrong(f"{name} is answered {said}")
 
 
-ALL = [random_runs_are_judged, examples_are_runs]
+# A write is in the way of a scan, the mark rises past another scan, and a write needs 1,082 cells.
+LARGE = f'insert 1 "{"b" * 30_000}"'
+TWO = f'table\ncolumn id int64 key\ncolumn v string\nsession\ninsert 1 "a"\nscan now\nmark 4096\n{LARGE}\nsession\nscan at 4096\ninsert 1 "c"\nscan at 100\nscan at 4096\n'
+LINES = [
+    "begin 1 1 4096 1",
+    "busy 2 1 4096 4096",
+    "end 1 1 4096",
+    "begin 2 2 4097 0",
+    "look 1 2 8192 2",
+    "end 2 2 4097",
+    "rows 1 2 8192",
+    "mark 1 3 4096",
+    "ancient 2 3 100 4096",
+    "large 1 4 1082",
+    "rows 2 4 4096",
+    "stop",
+]
+FAULTS = [
+    (0, "begin 1 1 4097 1", 1),
+    (1, "busy 2 1 4096 4097", 2),
+    (1, "rows 2 1 4096", 2),
+    (1, "begin 2 2 4097 0", 2),
+    (2, "begin 2 2 4097 0", 3),
+    (4, "look 1 2 8191 2", 5),
+    (5, "end 2 2 4096", 6),
+    (6, "rows 1 2 8191", 7),
+    (7, "mark 1 3 8192", 8),
+    (8, "ancient 2 3 100 0", 9),
+    (9, "large 1 4 1083", 10),
+    (10, "stop", 12),
+]
+
+
+def each_kind_of_line_is_judged(room):
+    """A history with a line of each kind is a run, and with one line changed the first that is not allowed is told."""
+
+    def said(lines, cells):
+        return answer(room.program, "".join([TWO, NONE, "history\n", *(f"{it}\n" for it in lines), "tablet stopped\n"]), "--pool", str(cells))
+
+    changes = [(said(LINES, 1024), "no reply 1 0"), (said(LINES, 1082), "no event 10")]
+    changes += [(said([*LINES[:at], line, *LINES[at + 1 :]], 1024), f"no event {fault}") for at, line, fault in FAULTS]
+    for found, wanted in changes:
+        if found != (8, wanted):
+            raise Wrong(f"the answer is {found} and not {wanted}")
+
+
+# The output of an insert and a scan of the present.
+ONE = 'table\ncolumn id int64 key\ncolumn v string\nsession\ninsert 1 "a"\nscan now\n'
+OUTPUT = ["session 1", "at 4096 ok", "rows 8192 1", '1 "a"', "history", "begin 1 1 4096 1", "end 1 1 4096", "look 1 2 8192 2", "rows 1 2 8192", "tablet ahm 0 last 8192 rowsets 0"]
+WRONG = [
+    (1, 2, ["at 4096 present"], "no reply 1 1"),
+    (2, 4, ["rows 8192 0"], "no reply 1 2"),
+    (3, 4, ['1 "b"'], "no reply 1 2"),
+    (2, 4, ["stopped"], "no reply 1 2"),
+    (2, 4, [], "no reply 1 2"),
+    (4, 4, ["done"], "no reply 1 3"),
+    (4, 4, ["session 2"], "no reply 2 0"),
+    (5, 6, ["begin 1 1 4097 1"], "no event 1"),
+    (9, 10, ["tablet ahm 0 last 8193 rowsets 0"], "no end"),
+]
+
+
+def each_reply_is_judged(room):
+    """The output of a run with one reply, line or number in place of another is told where it is not the run's."""
+    for start, end, lines, wanted in WRONG:
+        output = "".join(f"{it}\n" for it in [*OUTPUT[:start], *lines, *OUTPUT[end:]])
+        found = answer(room.program, ONE + NONE + output)
+        if found != (8, wanted):
+            raise Wrong(f"the answer is {found} and not {wanted}")
+
+
+ALL = [random_runs_are_judged, examples_are_runs, each_kind_of_line_is_judged, each_reply_is_judged]
 
 
 def main():

@@ -19,8 +19,6 @@ pub mod opening;
 mod replies;
 mod rows;
 mod table;
-#[cfg(test)]
-mod tests;
 mod turn;
 pub mod verdict;
 mod versions;

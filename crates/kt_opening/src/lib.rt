@@ -10,7 +10,5 @@ mod live;
 mod opening_lines;
 mod opening_text;
 mod parts;
-#[cfg(test)]
-mod tests;
 
 pub use opening_text::{OpeningNo, Read, read_opening};

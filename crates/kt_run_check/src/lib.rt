@@ -7,8 +7,6 @@
 
 pub mod answer;
 pub mod check;
-#[cfg(test)]
-mod check_tests;
 mod pool;
 mod source;
 
