@@ -59,7 +59,7 @@ build() {
     is_built && return
     log=$(mktemp) && room=$(mktemp -d) && begun=$(date +%s.%N) || exit 70
     trap 'rm -rf "$room"' EXIT
-    echo "kt: proving and building takes a quarter of an hour on four idle processors where nothing is proved yet; $log tells how far it is" >&2
+    echo "kt: proving and building takes some 17 minutes on four idle processors where nothing is proved yet; $log tells how far it is" >&2
     mkdir "$room/crates" && cp "$top/HANDLES" "$room"
     for name in $(needed); do
         cp -r "$top/crates/$name" "$room/crates" && grep "^$name[: ]" "$top/crates.txt" >>"$room/crates.txt"
@@ -69,7 +69,7 @@ build() {
     if ! (
         cd "$room" || exit
         chain kt_script kt_judge kt_opening kt_run_check >"$room/texts" &
-        chain kt_loglaws kt_seatlock kt_scan kt_host >"$room/log" &
+        chain kt_loglaws kt_seatlock kt_scan kt_host kt_boot >"$room/log" &
         chain kt_tablet kt_engine kt_serve kt_app
         wait
         cat "$room/texts" "$room/log"
