@@ -1,6 +1,6 @@
 //! A list of byte strings in one buffer.
-ghost use Rattle.std.specs.Prelude.{◌≡◌, ◌+◌, ◌<◌, ◌≤◌, ◌==◌, [], ◌∷◌, ◌++◌, length, take, get_or, vec_len, OnOk, OnErr};
-ghost use Rattle.std.specs.List.{between, concat};
+ghost use Rattle.std.specs.Prelude.{◌≡◌, ◌+◌, ◌<◌, ◌≤◌, ◌==◌, [], ◌∷◌, ◌++◌, length, take, get_or, vec_len, IfOk, OnOk, OnErr};
+ghost use Rattle.std.specs.List.{between, concat, flat_map};
 ghost use Rattle.kt_bytes.specs.Cuts as spec;
 
 use crate::NoMemory;
@@ -39,6 +39,21 @@ fn append_behind(
     if let Err(e) = bytes.extend_from_slice(rest) {
         bytes.truncate(was);
         return Err(e);
+    }
+    Ok(())
+}
+
+// Adds parts, one behind the other.
+fn append_parts(bytes: &mut Vec<u8>, parts: &[&[u8]]) -> Result<(), AllocError>
+    ensures ok { OnOk result (bytes.new.items ≡ bytes.old.items ++ flat_map (λ p. p.now) parts.now) }
+    ensures err { OnErr result (bytes.new.items ≡ bytes.old.items) }
+{
+    let was = bytes.len();
+    'parts: for part in parts {
+        if let Err(e) = bytes.extend_from_slice(part) {
+            bytes.truncate(was);
+            return Err(e);
+        }
     }
     Ok(())
 }
@@ -144,6 +159,28 @@ impl Texts {
         let end = self.bytes.len();
         self.ends.push(end)?;
         Ok(())
+    }
+
+    /// Adds a string that is some parts, one behind the other. Without memory nothing is added.
+    pub fn push_parts(&mut self, parts: &[&[u8]]) -> Result<(), NoMemory>
+        ensures ok { OnOk result (self.new ≡ self.old ++ flat_map (λ p. p.now) parts.now ∷ []) }
+        ensures err { OnErr result (self.new ≡ self.old) }
+    {
+        self.ends.reserve(1)?;
+        append_parts(&mut self.bytes, parts)?;
+        let end = self.bytes.len();
+        self.ends.push(end)?;
+        Ok(())
+    }
+
+    /// A copy of the strings, which takes no more memory than they need.
+    pub fn copy(&self) -> Result<Texts, NoMemory>
+        ensures { IfOk result (λ copy. copy ≡ self.now) }
+    {
+        Ok(Texts {
+            bytes: self.bytes.clone()?,
+            ends: self.ends.clone()?,
+        })
     }
 
     /// Adds a string that begins as the last one does, for so many bytes. Without memory nothing is added.

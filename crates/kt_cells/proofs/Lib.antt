@@ -1,3 +1,4 @@
 pub mod Items
 pub mod Cells
 pub mod InPlace
+pub mod Spelled

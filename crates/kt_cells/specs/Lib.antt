@@ -4,3 +4,4 @@ pub mod Fields
 pub mod Reading
 pub mod Tail
 pub mod Borrowed
+pub mod Spelled
