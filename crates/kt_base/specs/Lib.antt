@@ -4,3 +4,4 @@ pub mod Causes
 pub mod Readings
 pub mod Listed
 pub mod Told
+pub mod Borrowed

@@ -5,6 +5,7 @@
 #![tactic(auto)]
 
 pub mod cell;
+pub mod cell_ref;
 pub mod chore;
 pub mod clock;
 pub mod key;
@@ -16,6 +17,7 @@ pub mod outside;
 pub mod refusal;
 
 pub use cell::{Cell, Cells, Kind, Row};
+pub use cell_ref::CellRef;
 pub use chore::Chore;
 pub use clock::MemClock;
 pub use kt_bytes::{NoMemory, Octets};

@@ -5,10 +5,11 @@ ghost use Rattle.std.specs.Int.{w64};
 ghost use Rattle.std.specs.List.{before_first, position, list_all};
 ghost use Rattle.std.specs.Fmt.{signed_decimal};
 ghost use Rattle.std.specs.Option.{option_map};
+ghost use Rattle.kt_base.specs.Borrowed.{cell_in as borrowed};
 ghost use Rattle.kt_base.specs.Literals.{hex, hex_digit, hex_value, is_hex, is_digit, is_count, is_escaped, string_byte, string_literal, binary_literal, literal, number_in, string_in, binary_in, pairs, unquoted, among, slashed, high, cell_in, cell_under, cell_or, truth, text as text_value, raw as raw_value, number as number_value, number_fits, short_bytes, Reads, IsNext, IsLineEnd, literals_are_read, literals_are_spelled};
 
 use crate::limits::CELL_LEN;
-use crate::{Cell, Kind, NoMemory, Octets};
+use crate::{Cell, CellRef, Kind, NoMemory, Octets};
 use itoa::Buffer;
 use memchr::memchr;
 use std::alloc::{AllocError, AllocFailed, Global};
@@ -137,17 +138,17 @@ fn print_binary(bytes: &[u8], out: &mut Octets) -> Result<(), NoMemory>
 }
 
 /// Appends the one spelling of a cell in a column of this kind. Without memory a part of it may stand at the end.
-pub fn append_literal(cell: &Cell, kind: Kind, out: &mut Octets) -> Result<(), NoMemory>
-    ensures ok { OnOk result (out.new ≡ out.old ++ literal kind cell.now) }
+pub fn append_literal(cell: CellRef<'_>, kind: Kind, out: &mut Octets) -> Result<(), NoMemory>
+    ensures ok { OnOk result (out.new ≡ out.old ++ literal kind (borrowed cell.entry)) }
 {
     match cell {
-        Cell::Null => out.extend(b"null"),
-        Cell::Int(number) => print_signed(*number, out),
-        Cell::Bool(true) => out.extend(b"true"),
-        Cell::Bool(false) => out.extend(b"false"),
-        Cell::Bytes(bytes) => match kind {
-            Kind::Binary => print_binary(bytes.as_slice(), out),
-            _ => print_string(bytes.as_slice(), out),
+        CellRef::Null => out.extend(b"null"),
+        CellRef::Int(number) => print_signed(number, out),
+        CellRef::Bool(true) => out.extend(b"true"),
+        CellRef::Bool(false) => out.extend(b"false"),
+        CellRef::Bytes(bytes) => match kind {
+            Kind::Binary => print_binary(bytes, out),
+            _ => print_string(bytes, out),
         },
     }
 }
@@ -163,7 +164,7 @@ pub fn print_literal(
     ensures err { OnErr result (out.new ≡ out.old) }
 {
     let mut text = Octets::new(alloc);
-    append_literal(cell, kind, &mut text)?;
+    append_literal(CellRef::of(cell), kind, &mut text)?;
     out.extend(text.as_slice())
 }
 

@@ -5,12 +5,12 @@ use Rattle.std.proofs.lemmas.List.{append_assoc, take-append-le, drop-append-le,
 use Rattle.std.proofs.lemmas.List.Folds.{drop_split}
 use Rattle.kt_bytes.specs.Cuts.{pieces, IsCut, start_at, ends_of, last}
 
-pub length-pieces : (from : ℕ) (ends bytes : List ℕ) → length (pieces from ends bytes) ≡ length ends
+pub length-pieces : {A : Type 0} (from : ℕ) (ends : List ℕ) (bytes : List A) → length (pieces from ends bytes) ≡ length ends
 length-pieces from [] bytes = refl
 length-pieces from (e ∷ ends) bytes = ap suc (length-pieces e ends bytes)
 
 -- item number i lies between its start and its end
-pub get_or-pieces : (from : ℕ) (ends bytes : List ℕ) (i : ℕ) → i < length ends → get_or (pieces from ends bytes) i [] ≡ between (start_at from ends i) (get_or ends i 0) bytes
+pub get_or-pieces : {A : Type 0} (from : ℕ) (ends : List ℕ) (bytes : List A) (i : ℕ) → i < length ends → get_or (pieces from ends bytes) i [] ≡ between (start_at from ends i) (get_or ends i 0) bytes
 get_or-pieces from [] bytes i h = absurd (omega arith)
 get_or-pieces from (e ∷ ends) bytes zero h = refl
 get_or-pieces from (e ∷ ends) bytes (suc zero) h = get_or-pieces e ends bytes zero (omega arith)
@@ -40,13 +40,13 @@ pub cut_push : (from : ℕ) (ends : List ℕ) (total more : ℕ) → IsCut from 
 cut_push from [] total more h = (omega arith, refl)
 cut_push from (e ∷ ends) total more h = (h.0, cut_push e ends total more h.1)
 
-between-append : (i j : ℕ) (xs ys : List ℕ) → i ≤ j → j ≤ length xs → between i j (xs ++ ys) ≡ between i j xs
+between-append : {A : Type 0} (i j : ℕ) (xs ys : List A) → i ≤ j → j ≤ length xs → between i j (xs ++ ys) ≡ between i j xs
 between-append i j xs ys le fits =
     let front : i ≤ length xs = omega arith in
     let room : j - i ≤ length (drop i xs) = omega (arith, length-drop i xs) in
     rw (drop-append-le i xs ys front) (take-append-le (j - i) (drop i xs) ys room)
 
-pub pieces_push : (from : ℕ) (ends bytes more : List ℕ) → IsCut from ends (length bytes) → pieces from (ends ++ (length bytes + length more) ∷ []) (bytes ++ more) ≡ pieces from ends bytes ++ more ∷ []
+pub pieces_push : {A : Type 0} (from : ℕ) (ends : List ℕ) (bytes more : List A) → IsCut from ends (length bytes) → pieces from (ends ++ (length bytes + length more) ∷ []) (bytes ++ more) ≡ pieces from ends bytes ++ more ∷ []
 pieces_push from [] bytes more h =
     let behind : drop from (bytes ++ more) ≡ more = drop_at bytes more from (sym h) in
     let all : take ((length bytes + length more) - from) more ≡ more = take_all _ more (omega arith) in
@@ -57,13 +57,13 @@ pieces_push from (e ∷ ends) bytes more h =
 
 -- ---- at a view that is known
 
-pub count_is : (ends bytes : List ℕ) (items : List (List ℕ)) → pieces 0 ends bytes ≡ items → length ends ≡ length items
+pub count_is : {A : Type 0} (ends : List ℕ) (bytes : List A) (items : List (List A)) → pieces 0 ends bytes ≡ items → length ends ≡ length items
 count_is ends bytes items e = sym (length-pieces 0 ends bytes) ∙ ap length e
 
-pub item_is : (ends bytes : List ℕ) (items : List (List ℕ)) (i : ℕ) → pieces 0 ends bytes ≡ items → i < length items → between (start_at 0 ends i) (get_or ends i 0) bytes ≡ get_or items i []
-item_is ends bytes items i e lt =
+pub item_is : {A : Type 0} (ends : List ℕ) (bytes : List A) (items : List (List A)) (i : ℕ) → pieces 0 ends bytes ≡ items → i < length items → between (start_at 0 ends i) (get_or ends i 0) bytes ≡ get_or items i []
+item_is {A} ends bytes items i e lt =
     let n = count_is ends bytes items e in
-    sym (get_or-pieces 0 ends bytes i (omega arith)) ∙ ap (λ (xs : List (List ℕ)). get_or xs i []) e
+    sym (get_or-pieces 0 ends bytes i (omega arith)) ∙ ap (λ (xs : List (List A)). get_or xs i []) e
 
 -- where the last item lies: from its start to where the bytes end
 pub last_from : (ends : List ℕ) (total : ℕ) → IsCut 0 ends total → start_at 0 ends (length ends - 1) ≤ total
@@ -97,17 +97,17 @@ pub last_len : (ends bytes : List ℕ) (items : List (List ℕ)) → pieces 0 en
 last_len ends bytes items e h = omega (arith, ap length (last_is ends bytes items e h), length-drop (start_at 0 ends (length ends - 1)) bytes, last_from ends (length bytes) h)
 
 -- one more item
-pub pushed_is : (ends bytes : List ℕ) (items : List (List ℕ)) (more : List ℕ) → pieces 0 ends bytes ≡ items → IsCut 0 ends (length bytes) → pieces 0 (ends ++ (length bytes + length more) ∷ []) (bytes ++ more) ≡ items ++ more ∷ []
-pushed_is ends bytes items more e h = pieces_push 0 ends bytes more h ∙ ap (λ (xs : List (List ℕ)). xs ++ more ∷ []) e
+pub pushed_is : {A : Type 0} (ends : List ℕ) (bytes : List A) (items : List (List A)) (more : List A) → pieces 0 ends bytes ≡ items → IsCut 0 ends (length bytes) → pieces 0 (ends ++ (length bytes + length more) ∷ []) (bytes ++ more) ≡ items ++ more ∷ []
+pushed_is {A} ends bytes items more e h = pieces_push 0 ends bytes more h ∙ ap (λ (xs : List (List A)). xs ++ more ∷ []) e
 
 -- the same from what the calls on the two vectors say
-pub pushed_cut : (ends bytes more : List ℕ) (ends' bytes' : List ℕ) (end : ℕ) → IsCut 0 ends (length bytes) → ends' ≡ ends ++ end ∷ [] → bytes' ≡ bytes ++ more → end ≡ length bytes' → IsCut 0 ends' (length bytes')
+pub pushed_cut : {A : Type 0} (ends : List ℕ) (bytes more : List A) (ends' : List ℕ) (bytes' : List A) (end : ℕ) → IsCut 0 ends (length bytes) → ends' ≡ ends ++ end ∷ [] → bytes' ≡ bytes ++ more → end ≡ length bytes' → IsCut 0 ends' (length bytes')
 pushed_cut ends bytes more ends' bytes' end h p q r =
     let len : length bytes' ≡ length bytes + length more = ap length q ∙ length-append bytes more in
     let at : end ≡ length bytes + length more = r ∙ len in
     rw (p, at, len) (cut_push 0 ends (length bytes) (length more) h)
 
-pub pushed_view : (ends bytes more : List ℕ) (ends' bytes' : List ℕ) (end : ℕ) (items : List (List ℕ)) (item : List ℕ) → pieces 0 ends bytes ≡ items → IsCut 0 ends (length bytes) → ends' ≡ ends ++ end ∷ [] → bytes' ≡ bytes ++ more → end ≡ length bytes' → more ≡ item → pieces 0 ends' bytes' ≡ items ++ item ∷ []
+pub pushed_view : {A : Type 0} (ends : List ℕ) (bytes more : List A) (ends' : List ℕ) (bytes' : List A) (end : ℕ) (items : List (List A)) (item : List A) → pieces 0 ends bytes ≡ items → IsCut 0 ends (length bytes) → ends' ≡ ends ++ end ∷ [] → bytes' ≡ bytes ++ more → end ≡ length bytes' → more ≡ item → pieces 0 ends' bytes' ≡ items ++ item ∷ []
 pushed_view ends bytes more ends' bytes' end items item e h p q r s =
     let at : end ≡ length bytes + length more = r ∙ (ap length q ∙ length-append bytes more) in
     rw (p, q, at, ← s) (pushed_is ends bytes items more e h)

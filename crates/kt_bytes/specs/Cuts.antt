@@ -1,11 +1,11 @@
--- A list of byte strings that lie end to end in one buffer, with where each one ends.
+-- Lists, as byte strings are, that lie end to end in one, with where each one ends.
 use Rattle.std.specs.Prelude.{◌≡◌, ℕ, zero, suc, ◌+◌, ◌-◌, ◌≤◌, List, [], ◌∷◌, length, get_or}
 use Rattle.std.specs.List.{between}
 
--- the strings from this place on, each up to its end
-abbrev pub pieces : ℕ → List ℕ → List ℕ → List (List ℕ)
-pieces from [] bytes = []
-pieces from (end ∷ ends) bytes = between from end bytes ∷ pieces end ends bytes
+-- the pieces from this place on, each up to its end
+abbrev pub pieces : {A : Type 0} → ℕ → List ℕ → List A → List (List A)
+pieces from [] items = []
+pieces from (end ∷ ends) items = between from end items ∷ pieces end ends items
 
 -- the ends never fall, and the last one is where the bytes end
 abbrev pub IsCut : ℕ → List ℕ → ℕ → Type 0

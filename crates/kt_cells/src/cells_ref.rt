@@ -4,11 +4,12 @@ ghost use Rattle.std.specs.Int.{w16, w32, w64};
 ghost use Rattle.std.specs.Option.{option_map};
 ghost use Rattle.kt_base.specs.declared.cell.Cell.{Cell as CellSpec};
 ghost use Rattle.kt_bytes.specs.Reading.{number_at, bytes_at, counted_at};
-ghost use Rattle.kt_cells.specs.Borrowed.{cell_in, cells_in_ref};
+ghost use Rattle.kt_base.specs.Borrowed.{cell_in};
+ghost use Rattle.kt_cells.specs.Borrowed.{cells_in_ref};
 ghost use Rattle.kt_cells.specs.Reading.{if_read, cell_at, next_cell_at, cells_at, cells_behind};
 
-use crate::CellRef;
 use byteorder::{ByteOrder, LittleEndian};
+use kt_base::CellRef;
 
 /// Cells as bytes spell them, read where they lie: as many as are left, from the front of the bytes on.
 #[derive(Clone, Copy, Debug)]

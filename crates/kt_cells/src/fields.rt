@@ -5,11 +5,10 @@
 ghost use Rattle.std.specs.Prelude.{◌≡◌};
 ghost use Rattle.std.specs.Int.{w32};
 ghost use Rattle.kt_bytes.specs.Reading.{Gives, counted_at};
-ghost use Rattle.kt_cells.specs.Borrowed.{cell_in};
+ghost use Rattle.kt_base.specs.Borrowed.{cell_in};
 ghost use Rattle.kt_cells.specs.Reading.{flag_at, cell_at};
 
-use crate::CellRef;
-use kt_base::Cell;
+use kt_base::{Cell, CellRef};
 use kt_bytes::Stop;
 use kt_bytes::fields::{front_of, u32_at, u64_at};
 use std::alloc::Global;

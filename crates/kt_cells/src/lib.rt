@@ -5,7 +5,6 @@
 //! it where it lies. It stands on kt_bytes and kt_base.
 #![tactic(auto)]
 
-mod cell_ref;
 mod cells_ref;
 pub mod fields;
 pub mod laws;
@@ -13,6 +12,5 @@ pub mod lists;
 mod tail;
 pub mod writing;
 
-pub use cell_ref::CellRef;
 pub use cells_ref::CellsRef;
 pub use tail::Tail;

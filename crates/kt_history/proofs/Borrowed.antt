@@ -5,8 +5,9 @@ use Rattle.kt_history.specs.Rows.{with_cells}
 use Rattle.std.specs.Ordering.{nat_cmp}
 use Rattle.std.specs.declared.cmp.Ordering.TheVariants.{Less, Equal, Greater}
 use Rattle.std.specs.FinMap.Entries.{by_order, put}
-use Rattle.kt_cells.specs.declared.cell_ref.CellRef.{CellRef}
-use Rattle.kt_cells.specs.Borrowed.{cell_in, cells_in}
+use Rattle.kt_base.specs.declared.cell_ref.CellRef.{CellRef}
+use Rattle.kt_base.specs.Borrowed.{cell_in}
+use Rattle.kt_cells.specs.Borrowed.{cells_in}
 
 -- a cell that is put in its place
 pub put_in : (id : ℕ) (cell : CellRef) (cells : List (ℕ × CellRef)) → cells_in (put nat_cmp id cell cells) ≡ put nat_cmp id (cell_in cell) (cells_in cells)

@@ -2,12 +2,13 @@
 ghost use Rattle.std.specs.Prelude.{◌≡◌, ◌∷◌, ◌++◌, [], OnOk};
 ghost use Rattle.std.specs.Ordering.{nat_cmp};
 ghost use Rattle.std.specs.FinMap.Entries.{put};
-ghost use Rattle.kt_cells.specs.Borrowed.{cell_in, cells_in, cells_in_ref};
+ghost use Rattle.kt_base.specs.Borrowed.{cell_in};
+ghost use Rattle.kt_cells.specs.Borrowed.{cells_in, cells_in_ref};
 ghost use Rattle.kt_history.specs.Rows.{with_cells};
 
 use crate::effect::place_of_id;
-use kt_base::{Cell, NoMemory};
-use kt_cells::{CellRef, CellsRef};
+use kt_base::{Cell, CellRef, NoMemory};
+use kt_cells::CellsRef;
 use std::alloc::Global;
 use std::marker::Model;
 

@@ -17,9 +17,9 @@ use Rattle.kt_scan.specs.declared.row.WholeRow.{WholeRow}
 use Rattle.kt_scan.specs.Encoded.{keys_of, ids_with}
 use Rattle.kt_scan.specs.Lines.{cut, line_of}
 use Rattle.kt_scan.specs.Whole.{whole_in, has_id, shows_key, reads_key}
-use Rattle.kt_cells.specs.declared.cell_ref.CellRef.{CellRef}
-use Rattle.kt_cells.specs.declared.cell_ref.CellRef.TheVariants as ref
-use Rattle.kt_cells.specs.Borrowed.{cell_in}
+use Rattle.kt_base.specs.declared.cell_ref.CellRef.{CellRef}
+use Rattle.kt_base.specs.declared.cell_ref.CellRef.TheVariants as ref
+use Rattle.kt_base.specs.Borrowed.{cell_in}
 use Rattle.std.specs.Option.{option_map}
 use Rattle.kt_scan.proofs.WholeRows.{whole_is}
 

@@ -4,13 +4,13 @@ ghost use Rattle.std.specs.List.{list_any};
 ghost use Rattle.std.specs.Option.{option_copied, option_map};
 ghost use Rattle.std.specs.Ordering.{nat_cmp};
 ghost use Rattle.std.specs.FinMap.Entries.{find};
-ghost use Rattle.kt_cells.specs.Borrowed.{cell_in, cells_in};
+ghost use Rattle.kt_base.specs.Borrowed.{cell_in};
+ghost use Rattle.kt_cells.specs.Borrowed.{cells_in};
 ghost use Rattle.kt_history.specs.Replies.{cell_of};
 ghost use Rattle.kt_scan.specs.Encoded.{ids_with};
 ghost use Rattle.kt_scan.specs.Whole.{whole_in};
 
-use kt_base::Cell;
-use kt_cells::CellRef;
+use kt_base::{Cell, CellRef};
 use kt_history::RowRef;
 use kt_schema::Column;
 use std::alloc::Global;

@@ -1,14 +1,14 @@
 //! The tests of a scan, and its selection.
 ghost use Rattle.std.specs.Prelude.{◌≡◌, ◌++◌, IfOk, OnOk, map};
-ghost use Rattle.kt_cells.specs.Borrowed.{cell_in, cells_in};
+ghost use Rattle.kt_base.specs.Borrowed.{cell_in};
+ghost use Rattle.kt_cells.specs.Borrowed.{cells_in};
 ghost use Rattle.kt_history.specs.Replies.{cell_cmp, is_null, passes, kept, selected, cell_of};
 ghost use Rattle.kt_scan.specs.Encoded.{ids_with};
 ghost use Rattle.kt_scan.specs.Lines.{cut};
 ghost use Rattle.kt_scan.specs.Whole.{whole_in};
 
 use crate::row::WholeRow;
-use kt_base::{Cell, NoMemory, Row};
-use kt_cells::CellRef;
+use kt_base::{Cell, CellRef, NoMemory, Row};
 use kt_history::{ColumnIds, Pred, Scan, Test};
 use kt_schema::Column;
 use std::alloc::Global;

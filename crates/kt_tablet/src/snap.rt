@@ -7,8 +7,7 @@ ghost use Rattle.kt_tablet.specs.Snaps.{rises, row_in, keys_in};
 ghost use Rattle.kt_tablet.specs.SnapLaws.{keys_in_rise, row_in_has_key};
 
 use crate::reading::{next_key, row_into};
-use kt_base::{Cells, NoMemory, Octets};
-use kt_cells::CellRef;
+use kt_base::{CellRef, Cells, NoMemory, Octets};
 use kt_history::{ChangeList, RowRef, View};
 use std::alloc::Global;
 use std::marker::Model;

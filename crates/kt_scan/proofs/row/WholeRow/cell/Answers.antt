@@ -4,7 +4,7 @@ use Rattle.std.specs.Ordering.{nat_cmp}
 use Rattle.std.specs.FinMap.Entries.{find}
 use Rattle.kt_base.specs.declared.cell.Cell.{Cell}
 use Rattle.kt_base.specs.declared.cell.Cell.TheVariants.{Null}
-use Rattle.kt_cells.specs.Borrowed.{cell_in}
+use Rattle.kt_base.specs.Borrowed.{cell_in}
 use Rattle.kt_scan.specs.Encoded.{ids_with}
 use Rattle.kt_scan.proofs.Named.{found_first, found_later, read_or_null}
 use Rattle.kt_scan.proofs.row.WholeRow.cell.Goals as goal

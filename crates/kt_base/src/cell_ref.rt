@@ -1,8 +1,8 @@
 //! A cell that borrows its text.
 ghost use Rattle.std.specs.Prelude.{◌≡◌, IfOk};
-ghost use Rattle.kt_cells.specs.Borrowed.{cell_in};
+ghost use Rattle.kt_base.specs.Borrowed.{cell_in};
 
-use kt_base::{Cell, NoMemory, Octets};
+use crate::{Cell, NoMemory, Octets};
 use std::alloc::Global;
 
 /// A cell that borrows its text, so that it is read without a copy.
