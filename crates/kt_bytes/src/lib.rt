@@ -11,4 +11,4 @@ pub mod texts;
 pub use fault::{CodecNo, Stop};
 pub use memory::NoMemory;
 pub use octets::Octets;
-pub use texts::Texts;
+pub use texts::{Texts, start_at};

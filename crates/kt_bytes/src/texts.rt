@@ -7,8 +7,8 @@ use crate::NoMemory;
 use std::alloc::{AllocError, Global};
 use std::marker::Model;
 
-// Where string `i` begins: where the one before it ends.
-fn start_at(ends: &[usize], i: usize) -> usize
+/// Where piece `i` begins: where the one before it ends.
+pub fn start_at(ends: &[usize], i: usize) -> usize
     requires { i ≤ length ends.now }
     ensures { result ≡ spec.start_at 0 ends.now i }
 {

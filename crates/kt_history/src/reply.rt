@@ -1,7 +1,7 @@
 ghost use Rattle.std.specs.Prelude.{◌≡◌};
 
 use crate::change::Outcome;
-use kt_base::Row;
+use crate::row_list::RowList;
 use std::marker::Model;
 
 /// What became of each operation of a write. Contracts see it as a list.
@@ -17,21 +17,6 @@ impl Model for OutcomeList {
     ghost Value = { List Outcome };
 
     ghost view = { λ l. l.outcomes.items };
-}
-
-/// The rows that a scan answers. Contracts see them as a list of lists of cells.
-#[derive(Debug, Drop)]
-pub struct RowList {
-    rows: Vec<Row>,
-}
-
-impl Model for RowList {
-    ghost use Rattle.std.specs.Prelude.{List};
-    ghost use Rattle.kt_base.specs.declared.cell.Cell.{Cell};
-
-    ghost Value = { List (List Cell) };
-
-    ghost view = { λ l. l.rows.items };
 }
 
 /// The answer to a command.
@@ -58,19 +43,5 @@ impl OutcomeList {
         ensures { result.now ≡ self.now }
     {
         &self.outcomes
-    }
-}
-
-impl RowList {
-    pub fn of(rows: Vec<Row>) -> RowList
-        ensures { result ≡ rows.items }
-    {
-        RowList { rows }
-    }
-
-    pub fn as_slice(&self) -> &[Row]
-        ensures { result.now ≡ self.now }
-    {
-        &self.rows
     }
 }

@@ -1,0 +1,57 @@
+-- Flat cells: more texts change none of them, one cell more, and those in front.
+use Rattle.std.proofs.Common.{◌≡◌, ℕ, zero, suc, ◌+◌, ◌<◌, ◌≤◌, List, [], ◌∷◌, ◌++◌, length, take, map, get_or, Result, Ok, Err, refl, sym, ap, ◌∙◌, subst, arith, length-append, append_assoc}
+use Rattle.std.specs.List.{All}
+use Rattle.std.proofs.lemmas.List.{map-append, take-map, take_at, get_or_append_left, get_or_at}
+use Rattle.std.proofs.lemmas.List.Elements.{All-push, All-take, All-head, All-tail, All-cons, All-weaker}
+use Rattle.kt_base.specs.declared.cell.Cell.{Cell}
+use Rattle.kt_base.specs.declared.cell.Cell.TheVariants.{Null, Int, Bool, Bytes}
+use Rattle.kt_base.specs.declared.cell_ref.CellRef.{CellRef}
+use Rattle.kt_base.specs.Borrowed.{cell_in}
+use Rattle.kt_history.specs.declared.row_list.Flat.{Flat}
+use Rattle.kt_history.specs.declared.row_list.Flat.TheVariants as flat
+use Rattle.kt_history.specs.Flat.{cell_among, IsAmong, AreFlat}
+
+-- ---- one text more
+
+still_among : (texts : List (List ℕ)) (text : List ℕ) (f : Flat) → IsAmong texts f → IsAmong (texts ++ text ∷ []) f
+still_among texts text flat.Null h = h
+still_among texts text (flat.Int n) h = h
+still_among texts text (flat.Bool b) h = h
+still_among texts text (flat.Bytes at) h = omega (arith, h, length-append texts (text ∷ []))
+
+still_is : (texts : List (List ℕ)) (text : List ℕ) (f : Flat) → IsAmong texts f → cell_among (texts ++ text ∷ []) f ≡ cell_among texts f
+still_is texts text flat.Null h = refl
+still_is texts text (flat.Int n) h = refl
+still_is texts text (flat.Bool b) h = refl
+still_is texts text (flat.Bytes at) h = ap Bytes (get_or_append_left texts (text ∷ []) [] at h)
+
+pub still_are : (texts : List (List ℕ)) (text : List ℕ) (flats : List Flat) → All (IsAmong texts) flats → map (cell_among (texts ++ text ∷ [])) flats ≡ map (cell_among texts) flats
+still_are texts text [] all = refl
+still_are texts text (f ∷ flats) all =
+    rw (still_is texts text f (All-head (IsAmong texts) f flats all), still_are texts text flats (All-tail (IsAmong texts) f flats all)) refl
+
+pub more_texts : (texts : List (List ℕ)) (text : List ℕ) (flats : List Flat) (row : List Cell) → AreFlat texts flats row → AreFlat (texts ++ text ∷ []) flats row
+more_texts texts text flats row flat = record {
+    among = All-weaker (IsAmong texts) (IsAmong (texts ++ text ∷ [])) (still_among texts text) flats flat.among;
+    are = still_are texts text flats flat.among ∙ flat.are
+  }
+
+-- ---- one cell more
+
+pub one_more : (texts : List (List ℕ)) (flats : List Flat) (f : Flat) (row : List Cell) → AreFlat texts flats row → IsAmong texts f → AreFlat texts (flats ++ f ∷ []) (row ++ cell_among texts f ∷ [])
+one_more texts flats f row flat among = record {
+    among = All-push (IsAmong texts) flats f flat.among among;
+    are = map-append (cell_among texts) flats (f ∷ []) ∙ ap (λ (cells : List Cell). cells ++ cell_among texts f ∷ []) flat.are
+  }
+
+-- ---- those in front
+
+pub in_front : (texts : List (List ℕ)) (flats : List Flat) (row more : List Cell) (n : ℕ) → AreFlat texts flats (row ++ more) → n ≡ length row → AreFlat texts (take n flats) row
+in_front texts flats row more n flat is = record {
+    among = All-take (IsAmong texts) n flats flat.among;
+    are = sym (take-map (cell_among texts) n flats) ∙ ap (take n) flat.are ∙ take_at row more n (sym is)
+  }
+
+-- the cell of a text that was just added
+pub last_text : (texts : List (List ℕ)) (text : List ℕ) (n : ℕ) → n ≡ length texts → (IsAmong (texts ++ text ∷ []) (flat.Bytes n)) × (cell_among (texts ++ text ∷ []) (flat.Bytes n) ≡ Bytes text)
+last_text texts text n is = (omega (arith, length-append texts (text ∷ [])), ap Bytes (get_or_at texts text [] [] n (sym is)))
