@@ -292,6 +292,7 @@ fn unquote(alloc: Global, inside: &[u8]) -> Result<Option<Octets>, NoMemory>
     ensures { IfOk result (λ read. read ≡ unquoted among inside.now) }
 {
     let mut bytes = Octets::new(alloc);
+    bytes.reserve(inside.len().saturating_sub(1))?;
     let mut rest = inside;
     'parts: loop {
         let (plain, special) = cut_plain(rest);

@@ -1,7 +1,7 @@
 -- Flat cells: more texts change none of them, one cell more, and those in front.
 use Rattle.std.proofs.Common.{◌≡◌, ℕ, zero, suc, ◌+◌, ◌<◌, ◌≤◌, List, [], ◌∷◌, ◌++◌, length, take, map, get_or, Result, Ok, Err, refl, sym, ap, ◌∙◌, subst, arith, length-append, append_assoc}
 use Rattle.std.specs.List.{All}
-use Rattle.std.proofs.lemmas.List.{map-append, take-map, take_at, get_or_append_left, get_or_at}
+use Rattle.std.proofs.lemmas.List.{map-append, take-map, length-map, take_at, get_or_append_left, get_or_at}
 use Rattle.std.proofs.lemmas.List.Elements.{All-push, All-take, All-head, All-tail, All-cons, All-weaker}
 use Rattle.kt_base.specs.declared.cell.Cell.{Cell}
 use Rattle.kt_base.specs.declared.cell.Cell.TheVariants.{Null, Int, Bool, Bytes}
@@ -9,6 +9,8 @@ use Rattle.kt_base.specs.declared.cell_ref.CellRef.{CellRef}
 use Rattle.kt_base.specs.Borrowed.{cell_in}
 use Rattle.kt_history.specs.declared.row_list.Flat.{Flat}
 use Rattle.kt_history.specs.declared.row_list.Flat.TheVariants as flat
+use Rattle.kt_bytes.specs.Cuts.{pieces, IsCut}
+use Rattle.kt_bytes.proofs.Cuts.{pushed_cut, pushed_view}
 use Rattle.kt_history.specs.Flat.{cell_among, IsAmong, AreFlat}
 
 -- ---- one text more
@@ -55,3 +57,44 @@ in_front texts flats row more n flat is = record {
 -- the cell of a text that was just added
 pub last_text : (texts : List (List ℕ)) (text : List ℕ) (n : ℕ) → n ≡ length texts → (IsAmong (texts ++ text ∷ []) (flat.Bytes n)) × (cell_among (texts ++ text ∷ []) (flat.Bytes n) ≡ Bytes text)
 last_text texts text n is = (omega (arith, length-append texts (text ∷ [])), ap Bytes (get_or_at texts text [] [] n (sym is)))
+
+-- ---- rows
+
+-- the invariant of a list of rows
+abbrev pub IsHeld : List ℕ → List Flat → List (List ℕ) → Type 0
+IsHeld ends flats texts = IsCut 0 ends (length flats) × All (IsAmong texts) flats
+
+module _ (ends : List ℕ) (flats : List Flat) (texts : List (List ℕ)) (flats' : List Flat) (texts' : List (List ℕ)) (items : List (List Cell)) (held : IsHeld ends flats texts) (view : pieces 0 ends (map (cell_among texts) flats) ≡ items) where
+  abbrev row : List Cell
+  row = map (cell_among texts) flats
+
+  flat : AreFlat texts flats row
+  flat = record { among = held.1; are = refl }
+
+  cut : IsCut 0 ends (length row)
+  cut = subst (IsCut 0 ends) (sym (length-map flats (cell_among texts))) held.0
+
+  -- a row more
+  module _ (more : List Cell) (ends' : List ℕ) (end : ℕ) (grown : (row : List Cell) → AreFlat texts flats row → AreFlat texts' flats' (row ++ more)) (at : ends' ≡ ends ++ end ∷ []) (is : end ≡ length flats') where
+    same : map (cell_among texts') flats' ≡ row ++ more
+    same = (grown row flat).are
+
+    is_end : end ≡ length (map (cell_among texts') flats')
+    is_end = is ∙ sym (length-map flats' (cell_among texts'))
+
+    pub held_more : IsHeld ends' flats' texts'
+    held_more = (subst (IsCut 0 ends') (length-map flats' (cell_among texts')) (pushed_cut ends row more ends' _ end cut at same is_end), (grown row flat).among)
+
+    pub view_more : pieces 0 ends' (map (cell_among texts') flats') ≡ items ++ more ∷ []
+    view_more = pushed_view ends row more ends' _ end items more view cut at same is_end refl
+
+  -- the same rows
+  module _ (kept : (row : List Cell) → AreFlat texts flats row → AreFlat texts' flats' row) where
+    same_cells : map (cell_among texts') flats' ≡ row
+    same_cells = (kept row flat).are
+
+    pub held_still : IsHeld ends flats' texts'
+    held_still = (subst (IsCut 0 ends) (ap length (sym same_cells) ∙ length-map flats' (cell_among texts')) cut, (kept row flat).among)
+
+    pub view_still : pieces 0 ends (map (cell_among texts') flats') ≡ items
+    view_still = ap (pieces 0 ends) same_cells ∙ view
