@@ -1,7 +1,7 @@
 -- Flat cells: more texts change none of them, one cell more, and those in front.
-use Rattle.std.proofs.Common.{◌≡◌, ℕ, zero, suc, ◌+◌, ◌<◌, ◌≤◌, List, [], ◌∷◌, ◌++◌, length, take, map, get_or, Result, Ok, Err, refl, sym, ap, ◌∙◌, subst, arith, length-append, append_assoc}
-use Rattle.std.specs.List.{All}
-use Rattle.std.proofs.lemmas.List.{map-append, take-map, length-map, take_at, get_or_append_left, get_or_at}
+use Rattle.std.proofs.Common.{◌≡◌, ℕ, zero, suc, ◌+◌, ◌-◌, ◌<◌, ◌≤◌, List, [], ◌∷◌, ◌++◌, length, take, drop, map, get_or, Result, Ok, Err, refl, sym, ap, ◌∙◌, subst, arith, length-append, append_assoc}
+use Rattle.std.specs.List.{All, between}
+use Rattle.std.proofs.lemmas.List.{map-append, take-map, drop-map, length-map, get_or_default, take_at, get_or_append_left, get_or_at}
 use Rattle.std.proofs.lemmas.List.Elements.{All-push, All-take, All-head, All-tail, All-cons, All-weaker}
 use Rattle.kt_base.specs.declared.cell.Cell.{Cell}
 use Rattle.kt_base.specs.declared.cell.Cell.TheVariants.{Null, Int, Bool, Bytes}
@@ -9,8 +9,8 @@ use Rattle.kt_base.specs.declared.cell_ref.CellRef.{CellRef}
 use Rattle.kt_base.specs.Borrowed.{cell_in}
 use Rattle.kt_history.specs.declared.row_list.Flat.{Flat}
 use Rattle.kt_history.specs.declared.row_list.Flat.TheVariants as flat
-use Rattle.kt_bytes.specs.Cuts.{pieces, IsCut}
-use Rattle.kt_bytes.proofs.Cuts.{pushed_cut, pushed_view}
+use Rattle.kt_bytes.specs.Cuts.{pieces, IsCut, start_at}
+use Rattle.kt_bytes.proofs.Cuts.{count_is, item_is, pushed_cut, pushed_view}
 use Rattle.kt_history.specs.Flat.{cell_among, IsAmong, AreFlat}
 
 -- ---- one text more
@@ -34,25 +34,25 @@ still_are texts text (f ∷ flats) all =
 
 pub more_texts : (texts : List (List ℕ)) (text : List ℕ) (flats : List Flat) (row : List Cell) → AreFlat texts flats row → AreFlat (texts ++ text ∷ []) flats row
 more_texts texts text flats row flat = record {
-    among = All-weaker (IsAmong texts) (IsAmong (texts ++ text ∷ [])) (still_among texts text) flats flat.among;
-    are = still_are texts text flats flat.among ∙ flat.are
-  }
+  among = All-weaker (IsAmong texts) (IsAmong (texts ++ text ∷ [])) (still_among texts text) flats flat.among;
+  are = still_are texts text flats flat.among ∙ flat.are;
+}
 
 -- ---- one cell more
 
 pub one_more : (texts : List (List ℕ)) (flats : List Flat) (f : Flat) (row : List Cell) → AreFlat texts flats row → IsAmong texts f → AreFlat texts (flats ++ f ∷ []) (row ++ cell_among texts f ∷ [])
 one_more texts flats f row flat among = record {
-    among = All-push (IsAmong texts) flats f flat.among among;
-    are = map-append (cell_among texts) flats (f ∷ []) ∙ ap (λ (cells : List Cell). cells ++ cell_among texts f ∷ []) flat.are
-  }
+  among = All-push (IsAmong texts) flats f flat.among among;
+  are = map-append (cell_among texts) flats (f ∷ []) ∙ ap (λ (cells : List Cell). cells ++ cell_among texts f ∷ []) flat.are;
+}
 
 -- ---- those in front
 
 pub in_front : (texts : List (List ℕ)) (flats : List Flat) (row more : List Cell) (n : ℕ) → AreFlat texts flats (row ++ more) → n ≡ length row → AreFlat texts (take n flats) row
 in_front texts flats row more n flat is = record {
-    among = All-take (IsAmong texts) n flats flat.among;
-    are = sym (take-map (cell_among texts) n flats) ∙ ap (take n) flat.are ∙ take_at row more n (sym is)
-  }
+  among = All-take (IsAmong texts) n flats flat.among;
+  are = sym (take-map (cell_among texts) n flats) ∙ ap (take n) flat.are ∙ take_at row more n (sym is);
+}
 
 -- the cell of a text that was just added
 pub last_text : (texts : List (List ℕ)) (text : List ℕ) (n : ℕ) → n ≡ length texts → (IsAmong (texts ++ text ∷ []) (flat.Bytes n)) × (cell_among (texts ++ text ∷ []) (flat.Bytes n) ≡ Bytes text)
@@ -68,8 +68,8 @@ module _ (ends : List ℕ) (flats : List Flat) (texts : List (List ℕ)) (flats'
   abbrev row : List Cell
   row = map (cell_among texts) flats
 
-  flat : AreFlat texts flats row
-  flat = record { among = held.1; are = refl }
+  are_flat : AreFlat texts flats row
+  are_flat = record { among = held.1; are = refl }
 
   cut : IsCut 0 ends (length row)
   cut = subst (IsCut 0 ends) (sym (length-map flats (cell_among texts))) held.0
@@ -77,13 +77,13 @@ module _ (ends : List ℕ) (flats : List Flat) (texts : List (List ℕ)) (flats'
   -- a row more
   module _ (more : List Cell) (ends' : List ℕ) (end : ℕ) (grown : (row : List Cell) → AreFlat texts flats row → AreFlat texts' flats' (row ++ more)) (at : ends' ≡ ends ++ end ∷ []) (is : end ≡ length flats') where
     same : map (cell_among texts') flats' ≡ row ++ more
-    same = (grown row flat).are
+    same = (grown row are_flat).are
 
     is_end : end ≡ length (map (cell_among texts') flats')
     is_end = is ∙ sym (length-map flats' (cell_among texts'))
 
     pub held_more : IsHeld ends' flats' texts'
-    held_more = (subst (IsCut 0 ends') (length-map flats' (cell_among texts')) (pushed_cut ends row more ends' _ end cut at same is_end), (grown row flat).among)
+    held_more = (subst (IsCut 0 ends') (length-map flats' (cell_among texts')) (pushed_cut ends row more ends' _ end cut at same is_end), (grown row are_flat).among)
 
     pub view_more : pieces 0 ends' (map (cell_among texts') flats') ≡ items ++ more ∷ []
     view_more = pushed_view ends row more ends' _ end items more view cut at same is_end refl
@@ -91,10 +91,27 @@ module _ (ends : List ℕ) (flats : List Flat) (texts : List (List ℕ)) (flats'
   -- the same rows
   module _ (kept : (row : List Cell) → AreFlat texts flats row → AreFlat texts' flats' row) where
     same_cells : map (cell_among texts') flats' ≡ row
-    same_cells = (kept row flat).are
+    same_cells = (kept row are_flat).are
 
     pub held_still : IsHeld ends flats' texts'
-    held_still = (subst (IsCut 0 ends) (ap length (sym same_cells) ∙ length-map flats' (cell_among texts')) cut, (kept row flat).among)
+    held_still = (subst (IsCut 0 ends) (ap length (sym same_cells) ∙ length-map flats' (cell_among texts')) cut, (kept row are_flat).among)
 
     pub view_still : pieces 0 ends (map (cell_among texts') flats') ≡ items
     view_still = ap (pieces 0 ends) same_cells ∙ view
+
+-- flat cells are as many as those that they stand for
+pub same_length : (texts : List (List ℕ)) (flats : List Flat) (row : List Cell) → AreFlat texts flats row → length flats ≡ length row
+same_length texts flats row flat = sym (length-map flats (cell_among texts)) ∙ ap length flat.are
+
+-- ---- one row
+
+map-between : {A B : Type 0} (f : A → B) (i j : ℕ) (xs : List A) → map f (between i j xs) ≡ between i j (map f xs)
+map-between f i j xs = sym (take-map f (j - i) (drop i xs)) ∙ ap (take (j - i)) (sym (drop-map f i xs))
+
+pub row_is : (ends : List ℕ) (flats : List Flat) (texts : List (List ℕ)) (items : List (List Cell)) (i : ℕ) (row : List Flat) → pieces 0 ends (map (cell_among texts) flats) ≡ items → i < length items → row ≡ between (start_at 0 ends i) (get_or ends i 0) flats → map (cell_among texts) row ≡ get_or items i (map (cell_among texts) row)
+row_is ends flats texts items i row view within is =
+    let found = ap (map (cell_among texts)) is ∙ (map-between (cell_among texts) (start_at 0 ends i) (get_or ends i 0) flats ∙ item_is ends (map (cell_among texts) flats) items i view within) in
+    found ∙ get_or_default items i [] (map (cell_among texts) row) within
+
+pub rows_are : (ends : List ℕ) (flats : List Flat) (texts : List (List ℕ)) (items : List (List Cell)) → pieces 0 ends (map (cell_among texts) flats) ≡ items → length ends ≡ length items
+rows_are ends flats texts items view = count_is ends (map (cell_among texts) flats) items view

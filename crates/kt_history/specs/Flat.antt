@@ -1,5 +1,5 @@
 -- Cells whose texts stand in a list of their own.
-use Rattle.std.specs.Prelude.{◌≡◌, ℕ, ◌<◌, List, [], length, map, get_or, Unit}
+use Rattle.std.specs.Prelude.{◌≡◌, ℕ, ◌<◌, List, [], length, map, get_or}
 use Rattle.std.specs.List.{All}
 use Rattle.kt_base.specs.declared.cell.Cell.{Cell}
 use Rattle.kt_base.specs.declared.cell.Cell.TheVariants.{Null, Int, Bool, Bytes}

@@ -1,7 +1,9 @@
 //! The rows that a scan answers, held flat.
-ghost use Rattle.std.specs.Prelude.{◌≡◌, ◌≤◌, ◌==◌, ◌<◌, ◌∷◌, ◌++◌, [], List, length, take, map, get_or, slice_get, OnOk, OnErr};
+ghost use Rattle.std.specs.Prelude.{◌≡◌, ◌≤◌, ◌==◌, ◌<◌, ◌∷◌, ◌++◌, [], List, length, take, map, get_or, IfOk, OnOk, OnErr};
+ghost use Rattle.std.specs.List.{between};
 ghost use Rattle.kt_base.specs.declared.cell.Cell.{Cell};
 ghost use Rattle.kt_base.specs.Borrowed.{cell_in};
+ghost use Rattle.kt_history.specs.declared.row_list.Flat.{Flat};
 ghost use Rattle.kt_history.specs.Flat.{cell_among, IsAmong, AreFlat};
 
 use kt_base::{CellRef, NoMemory};
@@ -61,21 +63,50 @@ impl<'l> Model for RowCells<'l> {
     ghost invariant = { λ r. All (IsAmong r.texts.now) r.cells.now };
 }
 
+// A cell whose text, if it has one, is added to the texts.
+fn flat_of(texts: &mut Texts, cell: CellRef<'_>) -> Result<Flat, NoMemory>
+    ensures flat { IfOk result (λ flat. IsAmong texts.new flat × (cell_among texts.new flat ≡ cell_in cell.entry)) }
+    ensures kept { (flats : List Flat) (row : List Cell) → AreFlat texts.old flats row → AreFlat texts.new flats row }
+{
+    match cell {
+        CellRef::Null => Ok(Flat::Null),
+        CellRef::Int(number) => Ok(Flat::Int(number)),
+        CellRef::Bool(truth) => Ok(Flat::Bool(truth)),
+        CellRef::Bytes(text) => {
+            let at = texts.len();
+            texts.push(text)?;
+            Ok(Flat::Bytes(at))
+        }
+    }
+}
+
+// The cell that a flat one stands for.
+fn cell_of(texts: &Texts, flat: Flat) -> CellRef<'_>
+    requires { IsAmong texts.now flat }
+    ensures { cell_in result ≡ cell_among texts.now flat }
+{
+    match flat {
+        Flat::Null => CellRef::Null,
+        Flat::Int(number) => CellRef::Int(number),
+        Flat::Bool(truth) => CellRef::Bool(truth),
+        Flat::Bytes(at) => CellRef::Bytes(texts.get(at)),
+    }
+}
+
+fn part(cells: &[Flat], start: usize, end: usize) -> &[Flat]
+    requires in_order { start ≤ end }
+    requires inside { end ≤ length cells.now }
+    ensures { result.now ≡ between start end cells.now }
+{
+    &cells[start..end]
+}
+
 // Adds a cell, and its text. Without memory no cell is added.
 fn push_flat(cells: &mut Vec<Flat>, texts: &mut Texts, cell: CellRef<'_>) -> Result<(), NoMemory>
     ensures ok { OnOk result ((row : List Cell) → AreFlat texts.old cells.old.items row → AreFlat texts.new cells.new.items (row ++ cell_in cell.entry ∷ [])) }
     ensures err { OnErr result ((row : List Cell) → AreFlat texts.old cells.old.items row → AreFlat texts.new cells.new.items row) }
 {
-    let flat = match cell {
-        CellRef::Null => Flat::Null,
-        CellRef::Int(number) => Flat::Int(number),
-        CellRef::Bool(truth) => Flat::Bool(truth),
-        CellRef::Bytes(text) => {
-            let at = texts.len();
-            texts.push(text)?;
-            Flat::Bytes(at)
-        }
-    };
+    let flat = flat_of(texts, cell)?;
     cells.push(flat)?;
     Ok(())
 }
@@ -128,7 +159,8 @@ impl RowList {
         requires { at < length self.now }
         ensures { result ≡ get_or self.now at result }
     {
-        let cells = &self.cells[start_at(&self.ends, at)..self.ends[at]];
+        let start = start_at(&self.ends, at);
+        let cells = part(&self.cells, start, self.ends[at]);
         let texts = &self.texts;
         RowCells { cells, texts }
     }
@@ -164,11 +196,6 @@ impl<'l> RowCells<'l> {
         requires { at < length self.now }
         ensures { cell_in result ≡ get_or self.now at (cell_in result) }
     {
-        match self.cells[at] {
-            Flat::Null => CellRef::Null,
-            Flat::Int(number) => CellRef::Int(number),
-            Flat::Bool(truth) => CellRef::Bool(truth),
-            Flat::Bytes(text) => CellRef::Bytes(self.texts.get(text)),
-        }
+        cell_of(self.texts, self.cells[at])
     }
 }
