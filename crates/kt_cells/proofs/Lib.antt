@@ -2,3 +2,4 @@ pub mod Items
 pub mod Cells
 pub mod InPlace
 pub mod Spelled
+pub mod Walked

@@ -1,5 +1,5 @@
 -- What is spelled is read back where it lies.
-use Rattle.std.proofs.Common.{◌≡◌, ℕ, List, [], ◌++◌, refl, sym, ap, ◌∙◌, subst}
+use Rattle.std.proofs.Common.{◌≡◌, ℕ, List, [], ◌++◌, sym, ap, ◌∙◌, subst}
 use Rattle.std.proofs.lemmas.List.{append-nil}
 use Rattle.kt_base.specs.declared.cell.Cell.{Cell}
 use Rattle.kt_cells.specs.Spelling.{cell_list}

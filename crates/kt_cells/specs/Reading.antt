@@ -27,9 +27,20 @@ cell_at (suc (suc (suc zero)) ∷ rest) = do
   Ok (cells.Bytes text.0, text.1)
 cell_at (suc (suc (suc (suc b))) ∷ rest) = Err (suc (length rest))
 
+-- an id that is not below least, and leaves ids for so many cells from its own on
+abbrev pub is_id : ℕ → ℕ → ℕ → Bool
+is_id left least id = nat_le least id && nat_le (id + left) (2 ^ 16)
+
+-- such an id, and its cell
+unfoldable pub id_cell_at : ℕ → ℕ → List ℕ → Result ((ℕ × Cell) × List ℕ) ℕ
+id_cell_at left least bytes = do
+  id ← checked_at w16 (is_id left least) bytes
+  c ← cell_at id.1
+  Ok ((id.0, c.0), c.1)
+
 -- an id of a list of n cells, above those before it, that leaves ids for the cells behind it
 abbrev pub is_next_id : ℕ → List (ℕ × Cell) → ℕ → Bool
-is_next_id n front id = nat_le (next_id front) id && nat_le (id + (n - length front)) (2 ^ 16)
+is_next_id n front id = is_id (n - length front) (next_id front) id
 
 -- such an id, and its cell
 unfoldable pub listed_cell_at : ℕ → List (ℕ × Cell) → List ℕ → Result ((ℕ × Cell) × List ℕ) ℕ
@@ -45,6 +56,10 @@ cells_at bytes = do
   many_at (listed_cell_at n.0) n.0 [] n.1
 
 -- ---- read where they lie
+
+-- what stands behind what is read
+abbrev pub rest_of : {X : Type 0} → Result (X × List ℕ) ℕ → Result (List ℕ) ℕ
+rest_of read = read >>= λ x. Ok x.1
 
 -- what was read, where nothing was at fault
 abbrev pub if_read : {X : Type 0} → Result X ℕ → Option X
