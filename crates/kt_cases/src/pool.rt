@@ -35,16 +35,16 @@ fn a_place_of_many_cells_is_changed_and_given_back(rt: HostRuntime) -> Result<()
 }
 
 #[test]
-fn blank_where_bytes_stood(rt: HostRuntime) -> Result<(), Fail> {
+fn two_pieces_where_bytes_stood(rt: HostRuntime) -> Result<(), Fail> {
     let mut pool = Pool::new(rt.alloc(), 2)?;
     pool.reserve(2)?;
-    let zeros = [0; 60];
-    let ones = [1; 60];
-    let first = pool.place(&ones);
+    let first = pool.place(&[1; 60]);
     pool.give_back(first);
     pool.reserve(2)?;
-    let place = pool.place_blank(60);
-    assert_eq!(rt; pool.compare(place, &zeros), Ordering::Equal);
+    let place = pool.place_two(&[2; 20], &[3; 40]);
+    let mut both = [2; 60];
+    both[20..].copy_from_slice(&[3; 40]);
+    assert_eq!(rt; pool.compare(place, &both), Ordering::Equal);
     assert_eq!(rt; pool.free(), 0);
     Ok(())
 }

@@ -3,7 +3,6 @@ pub mod Views
 pub mod Padded
 pub mod Along
 pub mod Placing
-pub mod Clearing
 pub mod Standing
 pub mod Changes
 pub mod Fresh

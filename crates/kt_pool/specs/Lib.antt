@@ -1,4 +1,3 @@
 pub mod Contents
 pub mod Cells
-pub mod Clearing
 pub mod Sound

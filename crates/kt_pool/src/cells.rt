@@ -6,9 +6,8 @@ ghost use Rattle.std.specs.Cmp.Lexicographic.{slice_cmp};
 ghost use Rattle.std.specs.Vec.{vec_capacity, vec_len};
 ghost use Rattle.kt_pool.specs.Contents.{cells_for};
 ghost use Rattle.kt_pool.specs.Cells.{KeepsChains, IsChain, IsFull, walk, len_at, load_at, byte_at, content, written, nothing, Fills, Frees};
-ghost use Rattle.kt_pool.specs.Clearing.{Clears};
 ghost use Rattle.kt_pool.specs.Sound.{IsSound, places_in, padded};
-ghost use Rattle.std.specs.Prelude.{min, max, slice_range, replicate};
+ghost use Rattle.std.specs.Prelude.{min, max, slice_range};
 
 use std::alloc::AllocError;
 use std::cmp::Ordering;
@@ -113,29 +112,17 @@ pub fn lengthen(cells: &mut Vec<Cell>, first: u32, spare: u32, count: u32) -> u3
     at
 }
 
-/// Makes the first `count` cells of a chain all 0, and says which cell comes after them.
-fn clear(cells: &mut [Cell], first: u32, count: usize) -> u32
-    requires chain { IsChain cells.old first count }
+/// Places two pieces, one behind the other, in the first cells of a chain, and says which cell comes after them.
+pub fn fill_two(cells: &mut [Cell], first: u32, front: &[u8], behind: &[u8]) -> u32
+    requires chain { IsChain cells.old first (cells_for (length (front.now ++ behind.now))) }
     requires full { IsFull cells.old }
-    ensures { Clears cells.old cells.new first count result }
+    requires small { length front.now < 56 }
+    requires short { length (front.now ++ behind.now) < nothing }
+    ensures { Fills cells.old cells.new first (front.now ++ behind.now) result }
 {
-    let mut at = first;
-    for _step in 0..count {
-        put(cells, at, 0, &[0; 56]);
-        at = cells[at as usize].next;
-    }
-    at
-}
-
-/// Places so many bytes, all 0, in the first cells of a chain, and says which cell comes after them.
-pub fn fill_blank(cells: &mut [Cell], first: u32, len: usize) -> u32
-    requires chain { IsChain cells.old first (cells_for len) }
-    requires full { IsFull cells.old }
-    requires short { len < nothing }
-    ensures { Fills cells.old cells.new first (replicate len 0) result }
-{
-    let after = clear(cells, first, cells_taken(len));
-    cells[first as usize].len = len as u32;
+    put(cells, first, 0, front);
+    let after = write(cells, first, front.len(), behind);
+    cells[first as usize].len = (front.len() + behind.len()) as u32;
     after
 }
 

@@ -7,7 +7,7 @@ ghost use Rattle.std.specs.Vec.{vec_capacity, vec_len};
 ghost use Rattle.kt_pool.specs.Contents.{Contents, cells_for, used, free, at_cell, Stands, bytes_at, with_place, with_reserved, overwritten};
 
 use crate::cells::{
-    Cell, append, byte, cells_taken, chunk, compare, fill, fill_blank, front, len_of, lengthen,
+    Cell, append, byte, cells_taken, chunk, compare, fill, fill_two, front, len_of, lengthen,
     release, write,
 };
 use crate::error::{Full, NoMemory};
@@ -126,17 +126,18 @@ impl Pool {
         Place { cell: first }
     }
 
-    /// Places so many bytes, all 0, in reserved cells, where no place stood.
-    pub fn place_blank(&mut self, len: usize) -> Place
-        requires { cells_for len ≤ self.old.reserved }
+    /// Places two pieces, one behind the other, in reserved cells, where no place stood. The first is shorter than a cell.
+    pub fn place_two(&mut self, front: &[u8], behind: &[u8]) -> Place
+        requires small { length front.now < 56 }
+        requires room { cells_for (length (front.now ++ behind.now)) ≤ self.old.reserved }
         ensures vacant { at_cell self.old result.cell ≡ None }
         ensures inside { result.cell < length self.old.places }
-        ensures placed { self.new ≡ with_place self.old result.cell (Some (replicate len 0)) (self.old.reserved - cells_for len) }
+        ensures placed { self.new ≡ with_place self.old result.cell (Some (front.now ++ behind.now)) (self.old.reserved - cells_for (length (front.now ++ behind.now))) }
     {
         let spare = self.spare;
-        let taken = cells_taken(len) as u32;
+        let taken = cells_taken(front.len() + behind.len()) as u32;
         let first = lengthen(&mut self.cells, self.first, spare, taken);
-        self.first = fill_blank(&mut self.cells, first, len);
+        self.first = fill_two(&mut self.cells, first, front, behind);
         self.spare = spare.saturating_sub(taken);
         self.reserved -= taken;
         Place { cell: first }
