@@ -2,5 +2,5 @@ pub mod Items
 pub mod Operations
 pub mod Commits
 pub mod Records
-pub mod Lengths
 pub mod Numbers
+pub mod Listed

@@ -1,7 +1,7 @@
 -- How the reader goes over a record, from left to right, up to the first fault. The fields of a record tell the place of
 -- a fault by themselves; these are the steps that find it. A fault is told by how many bytes stand from its place to the
 -- end: none where bytes are missing, and all from its first byte on where a field is wrong.
-use Rattle.std.specs.Prelude.{ℕ, zero, suc, ◌+◌, ◌-◌, ◌^◌, Bool, true, false, not, ◌&&◌, ◌||◌, List, [], ◌∷◌, length, Result, Ok, Err, nat_le, ◌==◌, if◌then◌else◌}
+use Rattle.std.specs.Prelude.{ℕ, zero, suc, Bool, not, ◌||◌, List, [], ◌∷◌, length, Result, Ok, Err, ◌==◌, if◌then◌else◌}
 use Rattle.std.specs.Int.{w16, w64}
 use Rattle.kt_base.specs.declared.cell.Cell.{Cell}
 use Rattle.kt_history.specs.declared.change.Outcome.{Outcome}

@@ -4,28 +4,13 @@ use Rattle.std.specs.List.{flat_map}
 use Rattle.std.specs.Int.{w16, w64, to_le_bytes}
 use Rattle.kt_history.specs.declared.change.Outcome.{Outcome}
 use Rattle.kt_history.specs.declared.change.Outcome.TheVariants.{Done, Present, Absent, Ignored}
-use Rattle.kt_history.specs.declared.operation.OpKind.{OpKind}
-use Rattle.kt_history.specs.declared.operation.OpKind.TheVariants.{Insert, Upsert, Update, Delete, InsertIgnore, UpdateIgnore, DeleteIgnore}
-use Rattle.kt_history.specs.declared.operation.RowOp.{RowOp}
 use Rattle.kt_history.specs.declared.target.Target.{Target}
 use Rattle.kt_history.specs.declared.target.Target.TheVariants as stores
 use Rattle.kt_records.specs.declared.entry.CommitRow.{CommitRow}
 use Rattle.kt_records.specs.declared.entry.Entry.{Entry}
 use Rattle.kt_records.specs.declared.entry.Entry.TheVariants.{Replicate, Commit}
 pub use Rattle.kt_cells.specs.Spelling.{flag, cell, listed_cell, cell_list}
-
-abbrev pub kind : OpKind → ℕ
-kind Insert = 1
-kind Upsert = 2
-kind Update = 3
-kind Delete = 4
-kind InsertIgnore = 5
-kind UpdateIgnore = 6
-kind DeleteIgnore = 7
-
--- an operation: its kind, its key behind the key's length, and its cells
-abbrev pub operation : RowOp → List ℕ
-operation op = kind op.kind ∷ (to_le_bytes w16 (length op.key) ++ op.key ++ cell_list op.cells)
+pub use Rattle.kt_history.specs.Spelled.{kind, operation}
 
 abbrev pub outcome : Outcome → ℕ
 outcome Done = 0

@@ -2,17 +2,15 @@
 //!
 //! Each function gives the field and the bytes after it, or `Stop::Left` with how many bytes stand from the fault to the
 //! end: none where bytes are missing, and all from the field's first byte on where the field is wrong.
-ghost use Rattle.std.specs.Prelude.{◌≡◌};
+ghost use Rattle.std.specs.Prelude.{◌≡◌, ◌<◌, ◌^◌, length, IfOk};
 ghost use Rattle.std.specs.Int.{w16};
 ghost use Rattle.kt_records.specs.Rules.{has_key};
 ghost use Rattle.kt_bytes.specs.Reading.{Gives, checked_at};
 ghost use Rattle.kt_records.specs.Reading.{kind_at, is_key_len, new_key_at, outcome_at, target_at};
 
-use kt_base::Octets;
 use kt_bytes::Stop;
 use kt_bytes::fields::{fault_at, front_of, u16_at, u64_at};
-use kt_history::{OpKind, Outcome, RowOp, Target};
-use std::alloc::Global;
+use kt_history::{OpKind, OpList, Outcome, Target};
 
 /// The byte of an operation's kind.
 #[tactic(auto, unfolding(crate::specs::Reading::kind_at))]
@@ -32,20 +30,27 @@ pub fn kind_of(bytes: &[u8]) -> Result<(OpKind, &[u8]), Stop>
     }
 }
 
-fn is_taken(ops: &[RowOp], key: &[u8]) -> bool
+/// Whether one of the operations has this key.
+fn is_taken(ops: &OpList, key: &[u8]) -> bool
     ensures { result ≡ has_key ops.now key.now }
 {
-    ops.iter().any(|op| op.key.as_slice().cmp(&key).is_eq())
+    'ops: for at in 0..ops.len() {
+        let op = ops.at(at);
+        if op.key().cmp(&key).is_eq() {
+            return true;
+        }
+    }
+    false
 }
 
 /// The length of a key that can stand behind these operations.
-fn is_key_len(front: &[RowOp], len: u16) -> bool
+fn is_key_len(front: &OpList, len: u16) -> bool
     ensures { result ≡ is_key_len front.now len }
 {
     len != 0 || !is_taken(front, &[])
 }
 
-fn key_len_of<'a>(front: &[RowOp], bytes: &'a [u8]) -> Result<(u16, &'a [u8]), Stop>
+fn key_len_of<'a>(front: &OpList, bytes: &'a [u8]) -> Result<(u16, &'a [u8]), Stop>
     ensures { Gives (λ x. (x.0, x.1.now)) result (checked_at w16 (is_key_len front.now) bytes.now) }
 {
     let (len, rest) = u16_at(bytes)?;
@@ -58,19 +63,16 @@ fn key_len_of<'a>(front: &[RowOp], bytes: &'a [u8]) -> Result<(u16, &'a [u8]), S
 
 /// A key behind its length, which none of the operations in front has.
 #[tactic(auto, unfolding(crate::specs::Reading::new_key_at))]
-pub fn new_key_of<'a>(
-    alloc: Global,
-    front: &[RowOp],
-    bytes: &'a [u8],
-) -> Result<(Octets, &'a [u8]), Stop>
-    ensures { Gives (λ x. (x.0, x.1.now)) result (new_key_at front.now bytes.now) }
+pub fn new_key_of<'a>(front: &OpList, bytes: &'a [u8]) -> Result<(&'a [u8], &'a [u8]), Stop>
+    ensures key { Gives (λ x. (x.0.now, x.1.now)) result (new_key_at front.now bytes.now) }
+    ensures short { IfOk result (λ x. length x.0.now < 2 ^ 16) }
 {
     let (len, rest) = key_len_of(front, bytes)?;
     let (key, after) = front_of(rest, len as usize)?;
     if is_taken(front, key) {
         return fault_at(rest);
     }
-    Ok((Octets::from_slice(alloc, key)?, after))
+    Ok((key, after))
 }
 
 /// The byte of an outcome.

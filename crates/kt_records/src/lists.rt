@@ -1,16 +1,17 @@
 //! Lists behind their counts, read from the front of some bytes.
-ghost use Rattle.std.specs.Prelude.{◌≡◌, ◌<◌, []};
+ghost use Rattle.std.specs.Prelude.{◌≡◌, ◌<◌, [], IfOk};
 ghost use Rattle.kt_records.specs.Rules.{may_list, may_change};
 ghost use Rattle.kt_bytes.specs.Reading.{Gives, many_at};
+ghost use Rattle.kt_cells.specs.Reading.{cells_behind};
+ghost use Rattle.kt_cells.specs.Spelled.{SpellsCells};
 ghost use Rattle.kt_records.specs.Reading.{cell_list_at, operation_at, target_at, target_list_at, commit_row_at};
 
 use crate::entry::{CommitRow, TargetList};
 use crate::fields::{kind_of, new_key_of, outcome_of, target_of};
-use kt_base::Cells;
 use kt_bytes::Stop;
 use kt_bytes::fields::{fault_at, u16_at};
-use kt_cells::lists::counted_cells_of;
-use kt_history::{OpKind, Outcome, RowOp};
+use kt_cells::lists::spelled_cells_of;
+use kt_history::{OpKind, OpList, OpRef, Outcome};
 use std::alloc::Global;
 
 fn lists(kind: OpKind, count: u16) -> bool
@@ -22,41 +23,39 @@ fn lists(kind: OpKind, count: u16) -> bool
     }
 }
 
+/// The bytes of the cells of an operation of this kind, behind their count.
 #[tactic(auto, unfolding(crate::specs::Reading::cell_list_at))]
-fn cell_list_of(alloc: Global, kind: OpKind, bytes: &[u8]) -> Result<(Cells, &[u8]), Stop>
-    ensures { Gives (λ x. (x.0, x.1.now)) result (cell_list_at kind bytes.now) }
+fn spelled_list_of(kind: OpKind, bytes: &[u8]) -> Result<(&[u8], &[u8]), Stop>
+    ensures cells { Gives (λ x. (cells_behind x.0.now, x.1.now)) result (cell_list_at kind bytes.now) }
+    ensures spelled { IfOk result (λ x. SpellsCells x.0.now) }
 {
-    let (count, rest) = u16_at(bytes)?;
+    let (count, _) = u16_at(bytes)?;
     if !lists(kind, count) {
         return fault_at(bytes);
     }
-    let (cells, rest) = counted_cells_of(alloc, count, rest)?;
-    Ok((Cells::of(cells), rest))
+    spelled_cells_of(bytes)
 }
 
+/// An operation, where it lies.
 #[tactic(auto, unfolding(crate::specs::Reading::operation_at))]
-fn operation_of<'a>(
-    alloc: Global,
-    front: &[RowOp],
-    bytes: &'a [u8],
-) -> Result<(RowOp, &'a [u8]), Stop>
+fn operation_of<'a>(front: &OpList, bytes: &'a [u8]) -> Result<(OpRef<'a>, &'a [u8]), Stop>
     ensures { Gives (λ x. (x.0, x.1.now)) result (operation_at front.now bytes.now) }
 {
     let (kind, rest) = kind_of(bytes)?;
-    let (key, rest) = new_key_of(alloc, front, rest)?;
-    let (cells, rest) = cell_list_of(alloc, kind, rest)?;
-    Ok((RowOp { kind, key, cells }, rest))
+    let (key, rest) = new_key_of(front, rest)?;
+    let (cells, rest) = spelled_list_of(kind, rest)?;
+    Ok((OpRef::of(kind, key, cells), rest))
 }
 
 /// So many operations on different keys.
-pub fn operations_of(alloc: Global, count: u16, bytes: &[u8]) -> Result<(Vec<RowOp>, &[u8]), Stop>
-    ensures { Gives (λ x. (x.0.items, x.1.now)) result (many_at operation_at count [] bytes.now) }
+pub fn operations_of(alloc: Global, count: u16, bytes: &[u8]) -> Result<(OpList, &[u8]), Stop>
+    ensures { Gives (λ x. (x.0, x.1.now)) result (many_at operation_at count [] bytes.now) }
 {
-    let mut ops = Vec::with_capacity(alloc, usize::from(count).min(bytes.len() / 5))?;
+    let mut ops = OpList::new(alloc);
     let mut rest = bytes;
     'ops: for _ in 0..count {
-        let (op, after) = operation_of(alloc, &ops, rest)?;
-        ops.push(op)?;
+        let (op, after) = operation_of(&ops, rest)?;
+        ops.push(&op)?;
         rest = after;
     }
     Ok((ops, rest))

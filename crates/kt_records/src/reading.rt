@@ -12,7 +12,6 @@ use crate::entry::{CommitRows, Entry};
 use crate::lists::{commit_rows_of, operations_of};
 use kt_bytes::fields::{fault_at, u16_at, u64_at};
 use kt_bytes::{CodecNo, Stop};
-use kt_history::OpList;
 use std::alloc::Global;
 
 fn holds(count: u16) -> bool
@@ -31,7 +30,6 @@ fn replicate_of(alloc: Global, bytes: &[u8]) -> Result<(Entry, &[u8]), Stop>
         return fault_at(after);
     }
     let (ops, rest) = operations_of(alloc, count, rest)?;
-    let ops = OpList::of(ops);
     Ok((Entry::Replicate { ts, ops }, rest))
 }
 

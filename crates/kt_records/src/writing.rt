@@ -2,61 +2,15 @@
 ghost use Rattle.std.specs.Prelude.{◌≡◌, ◌<◌, ◌^◌, ◌++◌, ◌∷◌, [], length, OnOk, OnErr};
 ghost use Rattle.std.specs.List.{flat_map};
 ghost use Rattle.std.specs.Int.{w16, w64, to_le_bytes};
-ghost use Rattle.kt_records.specs.Spelling.{kind as kind_number, operation, outcome as outcome_number, target as target_bytes, commit_row, spelling};
-ghost use Rattle.kt_records.specs.Rules.{EachAfter, CellsFit, FollowingOp, RowFits, KeepsRules};
+ghost use Rattle.kt_records.specs.Spelling.{outcome as outcome_number, target as target_bytes, commit_row, spelling};
+ghost use Rattle.kt_records.specs.Rules.{EachAfter, RowFits, KeepsRules};
 
 use crate::entry::{CommitRow, Entry};
 use kt_base::{NoMemory, Octets};
 use kt_cells::Tail;
-use kt_cells::writing::put_cell_list;
-use kt_history::{OpKind, Outcome, RowOp, Target};
+use kt_history::{Outcome, Target};
 use std::alloc::Global;
 use std::mem;
-
-fn number_of_kind(kind: OpKind) -> u8
-    ensures { result ≡ kind_number kind }
-{
-    match kind {
-        OpKind::Insert => 1,
-        OpKind::Upsert => 2,
-        OpKind::Update => 3,
-        OpKind::Delete => 4,
-        OpKind::InsertIgnore => 5,
-        OpKind::UpdateIgnore => 6,
-        OpKind::DeleteIgnore => 7,
-    }
-}
-
-fn put_key(out: &mut Tail, key: &Octets) -> Result<(), NoMemory>
-    requires { length key.now < 2 ^ 16 }
-    ensures front { out.new.front ≡ out.old.front }
-    ensures ok { OnOk result (out.new.added ≡ out.old.added ++ to_le_bytes w16 (length key.now) ++ key.now) }
-{
-    out.extend(&(key.len() as u16).to_le_bytes())?;
-    out.extend(key.as_slice())
-}
-
-fn put_operation(out: &mut Tail, op: &RowOp) -> Result<(), NoMemory>
-    requires key { length op.now.key < 2 ^ 16 }
-    requires cells { CellsFit op.now.kind op.now.cells }
-    ensures front { out.new.front ≡ out.old.front }
-    ensures ok { OnOk result (out.new.added ≡ out.old.added ++ operation op.now) }
-{
-    out.push(number_of_kind(op.kind))?;
-    put_key(out, &op.key)?;
-    put_cell_list(out, &op.cells)
-}
-
-fn put_operations(out: &mut Tail, ops: &[RowOp]) -> Result<(), NoMemory>
-    requires { EachAfter FollowingOp [] ops.now }
-    ensures front { out.new.front ≡ out.old.front }
-    ensures ok { OnOk result (out.new.added ≡ out.old.added ++ flat_map operation ops.now) }
-{
-    'ops: for op in ops {
-        put_operation(out, op)?;
-    }
-    Ok(())
-}
 
 fn number_of_outcome(outcome: Outcome) -> u8
     ensures { result ≡ outcome_number outcome }
@@ -137,7 +91,7 @@ fn put_entry(out: &mut Tail, entry: &Entry) -> Result<(), NoMemory>
     match entry {
         Entry::Replicate { ts, ops } => {
             put_head(out, 1, *ts, ops.len() as u16)?;
-            put_operations(out, ops.as_slice())
+            out.extend(ops.as_bytes())
         }
         Entry::Commit { ts, rows } => {
             put_head(out, 2, *ts, rows.len() as u16)?;

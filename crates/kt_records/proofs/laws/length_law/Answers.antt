@@ -1,4 +1,4 @@
-use Rattle.kt_records.proofs.Lengths.{length-operation}
+use Rattle.kt_history.proofs.Lengths.{length-operation}
 use Rattle.kt_records.proofs.laws.length_law.Goals as goal
 
 pub returns : goal.returns

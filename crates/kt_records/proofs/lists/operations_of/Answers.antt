@@ -7,11 +7,11 @@ use Rattle.kt_records.proofs.lists.operations_of.Goals as goal
 
 pub returns-in_err-op : goal.returns-in_err-op
 returns-in_err-op c =
-    let p = err_from_is_err_and c.from_residual-in_err-op.result c.from_residual-in_err-op.ensures.1 in
-    rw (p.1, p.2) (ends operation_at c.in_err-op.field-0.0 c.ops.ops.items c.args.count c.ops.counter c.ops.rest.now (many_at operation_at c.args.count [] c.args.bytes.now) c.ops-test.true (rw c.deref.ensures.value at c.in_err-op.ensures) c.ops.invariant)
+    let p = err_from_is_err_and c.from_residual.result c.from_residual.ensures.1 in
+    rw (p.1, p.2) (ends operation_at c.in_err-op.field-0.0 c.ops.ops c.args.count c.ops.counter c.ops.rest.now (many_at operation_at c.args.count [] c.args.bytes.now) c.ops-test.true c.in_err-op.ensures c.ops.invariant)
 
 pub ops-preserved : goal.ops-preserved
-ops-preserved c = rw c.in_ok-push.ensures.items (goes_on operation_at c.ops.ops.items c.args.count c.ops.counter c.ops.rest.now c.in_ok-op.op c.in_ok-op.after.now (many_at operation_at c.args.count [] c.args.bytes.now) c.ops-test.true (rw c.deref.ensures.value at c.in_ok-op.ensures) c.ops.invariant)
+ops-preserved c = rw c.in_ok-push.ensures.ok (goes_on operation_at c.ops.ops c.args.count c.ops.counter c.ops.rest.now c.in_ok-op.op c.in_ok-op.after.now (many_at operation_at c.args.count [] c.args.bytes.now) c.ops-test.true c.in_ok-op.ensures c.ops.invariant)
 
 pub returns : goal.returns
-returns c = is_done operation_at c.ops.ops.items c.args.count c.ops.counter c.ops.rest.now (many_at operation_at c.args.count [] c.args.bytes.now) c.ops-test.false c.ops.invariant
+returns c = is_done operation_at c.ops.ops c.args.count c.ops.counter c.ops.rest.now (many_at operation_at c.args.count [] c.args.bytes.now) c.ops-test.false c.ops.invariant
