@@ -19,7 +19,7 @@ use Rattle.kt_cells.proofs.Cells as listed
 use Rattle.kt_pool.specs.Contents.{Contents, bytes_at, overwritten}
 use Rattle.kt_tree.proofs.Places.{bytes_some}
 use Rattle.kt_memrowset.specs.declared.link.Head.{Head}
-use Rattle.kt_memrowset.specs.Links.{kind_byte, kind_of, Link, head_of, cells_read, link_at, body, spelling, CellsFit, HeadFits, IsLink}
+use Rattle.kt_memrowset.specs.Links.{kind_byte, kind_of, Link, head_of, cells_read, link_at, spelling, CellsFit, HeadFits, IsLink}
 
 kind_again : (k : Kindly) → kind_of (kind_byte k) ≡ k
 kind_again Ins = refl
@@ -51,9 +51,9 @@ head_front m bytes low =
 pub head_again : (h : Head) (cells : Row) → HeadFits h → head_of (spelling h cells) ≡ h
 head_again h cells f =
     same_head (head_of (spelling h cells)) h
-    (little_number-reads_back 4 h.next (little_bytes 4 h.last ++ (little_bytes 4 h.before ++ body h cells)) f.next)
-    (little_number-reads_back 4 h.last (little_bytes 4 h.before ++ body h cells) f.last)
-    (little_number-reads_back 4 h.before (body h cells) f.before)
+    (little_number-reads_back 4 h.next (little_bytes 4 h.last ++ (little_bytes 4 h.before ++ (little_bytes 8 h.ts ++ kind_byte h.kind ∷ cell_list cells))) f.next)
+    (little_number-reads_back 4 h.last (little_bytes 4 h.before ++ (little_bytes 8 h.ts ++ kind_byte h.kind ∷ cell_list cells)) f.last)
+    (little_number-reads_back 4 h.before (little_bytes 8 h.ts ++ kind_byte h.kind ∷ cell_list cells) f.before)
     (little_number-reads_back 8 h.ts (kind_byte h.kind ∷ cell_list cells) f.ts)
     (kind_again h.kind)
 

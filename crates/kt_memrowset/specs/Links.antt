@@ -59,13 +59,13 @@ cells_read (Err e) = []
 abbrev pub link_at : Contents → ℕ → Link
 link_at pool cell = record { cell = cell; head = head_of (bytes_at pool cell); cells = cells_read (cells_at (drop 21 (bytes_at pool cell))) }
 
--- the timestamp, the kind and the cells
-abbrev pub body : Head → Row → List ℕ
-body h cells = little_bytes 8 h.ts ++ (kind_byte h.kind ∷ cell_list cells)
+-- the bytes of a change in front of its cells
+abbrev pub front : Head → List ℕ
+front h = little_bytes 4 h.next ++ (little_bytes 4 h.last ++ (little_bytes 4 h.before ++ (little_bytes 8 h.ts ++ kind_byte h.kind ∷ [])))
 
 -- the bytes of a change
 abbrev pub spelling : Head → Row → List ℕ
-spelling h cells = little_bytes 4 h.next ++ (little_bytes 4 h.last ++ (little_bytes 4 h.before ++ body h cells))
+spelling h cells = front h ++ cell_list cells
 
 -- cells by rising id, fewer than their count can say
 pub record CellsFit (cells : Row) : Type 0 where

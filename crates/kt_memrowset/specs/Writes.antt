@@ -1,5 +1,5 @@
 -- Bytes written into a place, and what else stays.
-use Rattle.std.specs.Prelude.{◌≡◌, ◌≢◌, ℕ, ◌+◌, List, [], ◌∷◌, ◌++◌, length, take}
+use Rattle.std.specs.Prelude.{◌≡◌, ◌≢◌, ℕ, ◌+◌, List, [], ◌∷◌, ◌++◌, length}
 use Rattle.kt_pool.specs.Contents.{Contents, Stands, at_cell, bytes_at, used}
 use Rattle.kt_memrowset.specs.Links.{Link, nothing, IsLink, IsMarked, Chains, cells_of, times, steps_of, step_of, newest_kind}
 use Rattle.kt_memrowset.specs.Stores.{before_at}
@@ -12,12 +12,6 @@ pub record Keeps (old new : Contents) (cell : ℕ) : Type 0 where
   pub size : length new.places ≡ length old.places
   pub reserved : new.reserved ≡ old.reserved
   pub used : used new ≡ used old
-
--- these bytes stand now behind what stood up to `at`, and end at `after`
-pub record Puts (old new : Contents) (cell at : ℕ) (piece : List ℕ) (after : ℕ) : Type 0 where
-  pub ends : after ≡ at + length piece
-  pub taken : take after (bytes_at new cell) ≡ take at (bytes_at old cell) ++ piece
-  pub keeps : Keeps old new cell
 
 -- the place still leads to the one that the store took before it
 pub record LeadsOn (old new : Contents) (k : ℕ) : Type 0 where

@@ -5,14 +5,13 @@ ghost use Rattle.kt_pool.specs.Contents.{Contents, at_cell, used};
 ghost use Rattle.kt_histlaws.specs.Histories.{hist_in, row_of};
 ghost use Rattle.kt_histlaws.specs.Flights.{UpTo, Under};
 ghost use Rattle.kt_history.specs.Rows.{fits};
-ghost use Rattle.kt_memrowset.specs.Links.{CellsFit};
 
 use crate::chain::{is_live, octets_at, push_changes, read_into, release, row_at};
 use crate::link::{Head, NOTHING};
 use crate::taking::{Taken, kind_made};
 use crate::write::{extend, place};
 use kt_base::{Cells, NoMemory, Octets};
-use kt_history::{ChangeList, Kindly, RowOp, Target};
+use kt_history::{ChangeList, Kindly, OpRef, Target};
 use kt_pool::{Place, Pool};
 use kt_tree::Tree;
 use std::alloc::Global;
@@ -108,9 +107,14 @@ impl MemRowSet {
     }
 
     /// Takes the change of an operation, in reserved cells: half of what a write of the operation needs suffices.
-    pub fn apply_reserved(&mut self, pool: &mut Pool, ts: u64, op: &RowOp, change: Kindly) -> Target
+    pub fn apply_reserved(
+        &mut self,
+        pool: &mut Pool,
+        ts: u64,
+        op: &OpRef<'_>,
+        change: Kindly,
+    ) -> Target
         requires store { IsStore self.old pool.old }
-        requires cells { CellsFit op.now.cells }
         requires room { share op.now ≤ pool.old.reserved }
         requires later { Under ts (hist_in op.now.key (store_of self.old pool.old)).steps }
         requires fits { fits (change_by change op.now) (row_of ts (hist_in op.now.key (store_of self.old pool.old))) ≡ true }
@@ -118,15 +122,14 @@ impl MemRowSet {
         ensures joins { Joins self.old self.new pool.old pool.new op.now ts change }
         ensures target { result ≡ Target.Mem (number_of self.old) }
     {
-        let first = self.tree.get(pool, op.key.as_slice());
+        let first = self.tree.get(pool, op.key());
         self.join(pool, first, ts, op, change)
     }
 
     /// Takes the change of an operation, if it makes one, in reserved cells: half of what a write of the operation needs
     /// suffices. It looks for the row once.
-    pub fn take(&mut self, pool: &mut Pool, ts: u64, op: &RowOp) -> Taken
+    pub fn take(&mut self, pool: &mut Pool, ts: u64, op: &OpRef<'_>) -> Taken
         requires store { IsStore self.old pool.old }
-        requires cells { CellsFit op.now.cells }
         requires room { share op.now ≤ pool.old.reserved }
         requires later { Under ts (hist_in op.now.key (store_of self.old pool.old)).steps }
         requires thawed { is_frozen self.old ≡ false }
@@ -134,9 +137,9 @@ impl MemRowSet {
         ensures joins { JoinsIf self.old self.new pool.old pool.new op.now ts (kind_made op.now.kind result.there) }
         ensures target { result.target ≡ option_map (λ _. Target.Mem (number_of self.old)) (kind_made op.now.kind result.there) }
     {
-        let first = self.tree.get(pool, op.key.as_slice());
+        let first = self.tree.get(pool, op.key());
         let there = is_live(pool, first);
-        let Some(kind) = kind_made(op.kind, there) else {
+        let Some(kind) = kind_made(op.kind(), there) else {
             return Taken {
                 there,
                 target: None,
@@ -155,12 +158,11 @@ impl MemRowSet {
         pool: &mut Pool,
         first: Option<Place>,
         ts: u64,
-        op: &RowOp,
+        op: &OpRef<'_>,
         change: Kindly,
     ) -> Target
         requires store { IsStore self.old pool.old }
         requires found { first ≡ option_map place_at (value_of op.now.key (entries self.old.tree pool.old)) }
-        requires cells { CellsFit op.now.cells }
         requires room { share op.now ≤ pool.old.reserved }
         requires later { Under ts (hist_in op.now.key (store_of self.old pool.old)).steps }
         requires fits { fits (change_by change op.now) (row_of ts (hist_in op.now.key (store_of self.old pool.old))) ≡ true }
@@ -174,15 +176,13 @@ impl MemRowSet {
             ts,
             kind: change,
         };
-        let cells = op.cells.as_slice();
-        let key = op.key.as_slice();
-        let fresh = place(pool, head, cells);
+        let fresh = place(pool, head, op);
         self.newest = fresh;
         if let Some(first) = first {
             extend(pool, first.cell, fresh);
             return Target::Mem(self.id);
         }
-        self.tree.insert_new(pool, key, Place { cell: fresh });
+        self.tree.insert_new(pool, op.key(), Place { cell: fresh });
         Target::Mem(self.id)
     }
 

@@ -1,41 +1,45 @@
 use Rattle.std.proofs.Common.{◌≡◌, ℕ, List, refl, sym, ap, subst, ◌∙◌}
 use Rattle.kt_history.specs.Rows.{Row}
+use Rattle.kt_history.specs.declared.target.Kindly.{Kindly}
 use Rattle.kt_tree.specs.Entries.{value_of, put}
 use Rattle.kt_tree.specs.Takes.{Takes}
 use Rattle.kt_tree.specs.Trees.{entries, need}
-use Rattle.kt_memrowset.specs.Links.{Link, chain}
-use Rattle.kt_memrowset.specs.Stores.{link_need}
+use Rattle.kt_memrowset.specs.Links.{nothing, Link, chain}
 use Rattle.kt_memrowset.specs.Writes.{IsFresh, Extends}
 use Rattle.kt_memrowset.proofs.Links.{link_again}
 use Rattle.kt_memrowset.proofs.Rows.{row_there, row_alone}
 use Rattle.kt_memrowset.proofs.Applying.{store1, found1, lacks1, is_fresh, joins_there, joins_new}
 use Rattle.kt_memrowset.proofs.store.MemRowSet.join.Goals as goal
 
+-- the change with which the store is joined, which has none beside it yet
+abbrev alone : ℕ → ℕ → ℕ → Kindly → Row → Link
+alone cell before ts kind cells = record { cell = cell; head = record { next = nothing; last = nothing; before = before; ts = ts; kind = kind }; cells = cells }
+
 pub extend-requires-clause-row : goal.extend-requires-clause-row
-extend-requires-clause-row c = row_there c.args.self.now c.place-fresh.new.pool c.args.op.now.key c.in-Some.first.cell (store1 c.args.self.now c.args.pool.now c.place-fresh.new.pool (record { cell = c.place-fresh.result; head = record { next = 0xffff_ffff; last = 0xffff_ffff; before = c.args.self.now.newest; ts = c.args.ts; kind = c.args.change }; cells = c.as_slice-cells.result.now }) c.args.op.now c.requires.store c.place-fresh.ensures.vacant c.place-fresh.ensures.others c.place-fresh.ensures.link refl c.as_slice-cells.ensures (subst (λ (cells : Row). Takes c.args.pool.now c.place-fresh.new.pool (link_need cells)) c.as_slice-cells.ensures c.place-fresh.ensures.takes)) (found1 c.args.self.now c.args.pool.now c.place-fresh.new.pool (record { cell = c.place-fresh.result; head = record { next = 0xffff_ffff; last = 0xffff_ffff; before = c.args.self.now.newest; ts = c.args.ts; kind = c.args.change }; cells = c.as_slice-cells.result.now }) c.args.op.now c.requires.store c.place-fresh.ensures.vacant c.place-fresh.ensures.others c.place-fresh.ensures.link refl c.as_slice-cells.ensures (subst (λ (cells : Row). Takes c.args.pool.now c.place-fresh.new.pool (link_need cells)) c.as_slice-cells.ensures c.place-fresh.ensures.takes) c.in-Some.first (sym c.in-Some.is ∙ c.requires.found))
+extend-requires-clause-row c = row_there c.args.self.now c.place-fresh.new.pool c.args.op.now.key c.in-Some.first.cell (store1 c.args.self.now c.args.pool.now c.place-fresh.new.pool (alone c.place-fresh.result c.args.self.now.newest c.args.ts c.args.change c.args.op.now.cells) c.args.op.now c.requires.store c.place-fresh.ensures.vacant c.place-fresh.ensures.others c.place-fresh.ensures.link refl refl c.place-fresh.ensures.takes) (found1 c.args.self.now c.args.pool.now c.place-fresh.new.pool (alone c.place-fresh.result c.args.self.now.newest c.args.ts c.args.change c.args.op.now.cells) c.args.op.now c.requires.store c.place-fresh.ensures.vacant c.place-fresh.ensures.others c.place-fresh.ensures.link refl refl c.place-fresh.ensures.takes c.in-Some.first (sym c.in-Some.is ∙ c.requires.found))
 
 pub extend-requires-clause-alone : goal.extend-requires-clause-alone
-extend-requires-clause-alone c = row_alone c.args.self.now c.place-fresh.new.pool c.args.op.now.key c.in-Some.first.cell (store1 c.args.self.now c.args.pool.now c.place-fresh.new.pool (record { cell = c.place-fresh.result; head = record { next = 0xffff_ffff; last = 0xffff_ffff; before = c.args.self.now.newest; ts = c.args.ts; kind = c.args.change }; cells = c.as_slice-cells.result.now }) c.args.op.now c.requires.store c.place-fresh.ensures.vacant c.place-fresh.ensures.others c.place-fresh.ensures.link refl c.as_slice-cells.ensures (subst (λ (cells : Row). Takes c.args.pool.now c.place-fresh.new.pool (link_need cells)) c.as_slice-cells.ensures c.place-fresh.ensures.takes)) (found1 c.args.self.now c.args.pool.now c.place-fresh.new.pool (record { cell = c.place-fresh.result; head = record { next = 0xffff_ffff; last = 0xffff_ffff; before = c.args.self.now.newest; ts = c.args.ts; kind = c.args.change }; cells = c.as_slice-cells.result.now }) c.args.op.now c.requires.store c.place-fresh.ensures.vacant c.place-fresh.ensures.others c.place-fresh.ensures.link refl c.as_slice-cells.ensures (subst (λ (cells : Row). Takes c.args.pool.now c.place-fresh.new.pool (link_need cells)) c.as_slice-cells.ensures c.place-fresh.ensures.takes) c.in-Some.first (sym c.in-Some.is ∙ c.requires.found))
+extend-requires-clause-alone c = row_alone c.args.self.now c.place-fresh.new.pool c.args.op.now.key c.in-Some.first.cell (store1 c.args.self.now c.args.pool.now c.place-fresh.new.pool (alone c.place-fresh.result c.args.self.now.newest c.args.ts c.args.change c.args.op.now.cells) c.args.op.now c.requires.store c.place-fresh.ensures.vacant c.place-fresh.ensures.others c.place-fresh.ensures.link refl refl c.place-fresh.ensures.takes) (found1 c.args.self.now c.args.pool.now c.place-fresh.new.pool (alone c.place-fresh.result c.args.self.now.newest c.args.ts c.args.change c.args.op.now.cells) c.args.op.now c.requires.store c.place-fresh.ensures.vacant c.place-fresh.ensures.others c.place-fresh.ensures.link refl refl c.place-fresh.ensures.takes c.in-Some.first (sym c.in-Some.is ∙ c.requires.found))
 
 pub extend-requires-clause-link : goal.extend-requires-clause-link
 extend-requires-clause-link c =
-    subst (λ (l : Link). IsFresh c.place-fresh.new.pool (chain c.place-fresh.new.pool c.in-Some.first.cell) l) (sym (link_again c.place-fresh.new.pool (record { cell = c.place-fresh.result; head = record { next = 0xffff_ffff; last = 0xffff_ffff; before = c.args.self.now.newest; ts = c.args.ts; kind = c.args.change }; cells = c.as_slice-cells.result.now }) c.place-fresh.ensures.link))
-    (is_fresh c.args.self.now c.args.pool.now c.place-fresh.new.pool (record { cell = c.place-fresh.result; head = record { next = 0xffff_ffff; last = 0xffff_ffff; before = c.args.self.now.newest; ts = c.args.ts; kind = c.args.change }; cells = c.as_slice-cells.result.now }) c.args.op.now c.requires.store c.place-fresh.ensures.vacant c.place-fresh.ensures.others c.place-fresh.ensures.link refl c.as_slice-cells.ensures (subst (λ (cells : Row). Takes c.args.pool.now c.place-fresh.new.pool (link_need cells)) c.as_slice-cells.ensures c.place-fresh.ensures.takes) c.requires.later c.requires.fits refl refl c.in-Some.first.cell (found1 c.args.self.now c.args.pool.now c.place-fresh.new.pool (record { cell = c.place-fresh.result; head = record { next = 0xffff_ffff; last = 0xffff_ffff; before = c.args.self.now.newest; ts = c.args.ts; kind = c.args.change }; cells = c.as_slice-cells.result.now }) c.args.op.now c.requires.store c.place-fresh.ensures.vacant c.place-fresh.ensures.others c.place-fresh.ensures.link refl c.as_slice-cells.ensures (subst (λ (cells : Row). Takes c.args.pool.now c.place-fresh.new.pool (link_need cells)) c.as_slice-cells.ensures c.place-fresh.ensures.takes) c.in-Some.first (sym c.in-Some.is ∙ c.requires.found)))
+    subst (λ (l : Link). IsFresh c.place-fresh.new.pool (chain c.place-fresh.new.pool c.in-Some.first.cell) l) (sym (link_again c.place-fresh.new.pool (alone c.place-fresh.result c.args.self.now.newest c.args.ts c.args.change c.args.op.now.cells) c.place-fresh.ensures.link))
+    (is_fresh c.args.self.now c.args.pool.now c.place-fresh.new.pool (alone c.place-fresh.result c.args.self.now.newest c.args.ts c.args.change c.args.op.now.cells) c.args.op.now c.requires.store c.place-fresh.ensures.vacant c.place-fresh.ensures.others c.place-fresh.ensures.link refl refl c.place-fresh.ensures.takes c.requires.later c.requires.fits refl refl c.in-Some.first.cell (found1 c.args.self.now c.args.pool.now c.place-fresh.new.pool (alone c.place-fresh.result c.args.self.now.newest c.args.ts c.args.change c.args.op.now.cells) c.args.op.now c.requires.store c.place-fresh.ensures.vacant c.place-fresh.ensures.others c.place-fresh.ensures.link refl refl c.place-fresh.ensures.takes c.in-Some.first (sym c.in-Some.is ∙ c.requires.found)))
 
 pub returns-in-Some-clause-joins : goal.returns-in-Some-clause-joins
 returns-in-Some-clause-joins c =
-    joins_there c.args.self.now c.args.pool.now c.place-fresh.new.pool (record { cell = c.place-fresh.result; head = record { next = 0xffff_ffff; last = 0xffff_ffff; before = c.args.self.now.newest; ts = c.args.ts; kind = c.args.change }; cells = c.as_slice-cells.result.now }) c.args.op.now c.requires.store c.place-fresh.ensures.vacant c.place-fresh.ensures.others c.place-fresh.ensures.link refl c.as_slice-cells.ensures (subst (λ (cells : Row). Takes c.args.pool.now c.place-fresh.new.pool (link_need cells)) c.as_slice-cells.ensures c.place-fresh.ensures.takes) c.requires.later c.requires.fits refl refl c.in-Some.first.cell (found1 c.args.self.now c.args.pool.now c.place-fresh.new.pool (record { cell = c.place-fresh.result; head = record { next = 0xffff_ffff; last = 0xffff_ffff; before = c.args.self.now.newest; ts = c.args.ts; kind = c.args.change }; cells = c.as_slice-cells.result.now }) c.args.op.now c.requires.store c.place-fresh.ensures.vacant c.place-fresh.ensures.others c.place-fresh.ensures.link refl c.as_slice-cells.ensures (subst (λ (cells : Row). Takes c.args.pool.now c.place-fresh.new.pool (link_need cells)) c.as_slice-cells.ensures c.place-fresh.ensures.takes) c.in-Some.first (sym c.in-Some.is ∙ c.requires.found)) c.extend.new.pool
-    (subst (λ (l : Link). Extends c.place-fresh.new.pool c.extend.new.pool c.in-Some.first.cell (chain c.place-fresh.new.pool c.in-Some.first.cell) l) (link_again c.place-fresh.new.pool (record { cell = c.place-fresh.result; head = record { next = 0xffff_ffff; last = 0xffff_ffff; before = c.args.self.now.newest; ts = c.args.ts; kind = c.args.change }; cells = c.as_slice-cells.result.now }) c.place-fresh.ensures.link) c.extend.ensures)
+    joins_there c.args.self.now c.args.pool.now c.place-fresh.new.pool (alone c.place-fresh.result c.args.self.now.newest c.args.ts c.args.change c.args.op.now.cells) c.args.op.now c.requires.store c.place-fresh.ensures.vacant c.place-fresh.ensures.others c.place-fresh.ensures.link refl refl c.place-fresh.ensures.takes c.requires.later c.requires.fits refl refl c.in-Some.first.cell (found1 c.args.self.now c.args.pool.now c.place-fresh.new.pool (alone c.place-fresh.result c.args.self.now.newest c.args.ts c.args.change c.args.op.now.cells) c.args.op.now c.requires.store c.place-fresh.ensures.vacant c.place-fresh.ensures.others c.place-fresh.ensures.link refl refl c.place-fresh.ensures.takes c.in-Some.first (sym c.in-Some.is ∙ c.requires.found)) c.extend.new.pool
+    (subst (λ (l : Link). Extends c.place-fresh.new.pool c.extend.new.pool c.in-Some.first.cell (chain c.place-fresh.new.pool c.in-Some.first.cell) l) (link_again c.place-fresh.new.pool (alone c.place-fresh.result c.args.self.now.newest c.args.ts c.args.change c.args.op.now.cells) c.place-fresh.ensures.link) c.extend.ensures)
 
 pub insert_new-requires-clause-tree : goal.insert_new-requires-clause-tree
-insert_new-requires-clause-tree c = (store1 c.args.self.now c.args.pool.now c.place-fresh.new.pool (record { cell = c.place-fresh.result; head = record { next = 0xffff_ffff; last = 0xffff_ffff; before = c.args.self.now.newest; ts = c.args.ts; kind = c.args.change }; cells = c.as_slice-cells.result.now }) c.args.op.now c.requires.store c.place-fresh.ensures.vacant c.place-fresh.ensures.others c.place-fresh.ensures.link refl c.as_slice-cells.ensures (subst (λ (cells : Row). Takes c.args.pool.now c.place-fresh.new.pool (link_need cells)) c.as_slice-cells.ensures c.place-fresh.ensures.takes)).tree
+insert_new-requires-clause-tree c = (store1 c.args.self.now c.args.pool.now c.place-fresh.new.pool (alone c.place-fresh.result c.args.self.now.newest c.args.ts c.args.change c.args.op.now.cells) c.args.op.now c.requires.store c.place-fresh.ensures.vacant c.place-fresh.ensures.others c.place-fresh.ensures.link refl refl c.place-fresh.ensures.takes).tree
 
 pub returns-clause-joins : goal.returns-clause-joins
 returns-clause-joins c =
-    joins_new c.args.self.now c.args.pool.now c.place-fresh.new.pool (record { cell = c.place-fresh.result; head = record { next = 0xffff_ffff; last = 0xffff_ffff; before = c.args.self.now.newest; ts = c.args.ts; kind = c.args.change }; cells = c.as_slice-cells.result.now }) c.args.op.now c.requires.store c.place-fresh.ensures.vacant c.place-fresh.ensures.others c.place-fresh.ensures.link refl c.as_slice-cells.ensures (subst (λ (cells : Row). Takes c.args.pool.now c.place-fresh.new.pool (link_need cells)) c.as_slice-cells.ensures c.place-fresh.ensures.takes) c.requires.later c.requires.fits refl refl (lacks1 c.args.self.now c.args.pool.now c.place-fresh.new.pool (record { cell = c.place-fresh.result; head = record { next = 0xffff_ffff; last = 0xffff_ffff; before = c.args.self.now.newest; ts = c.args.ts; kind = c.args.change }; cells = c.as_slice-cells.result.now }) c.args.op.now c.requires.store c.place-fresh.ensures.vacant c.place-fresh.ensures.others c.place-fresh.ensures.link refl c.as_slice-cells.ensures (subst (λ (cells : Row). Takes c.args.pool.now c.place-fresh.new.pool (link_need cells)) c.as_slice-cells.ensures c.place-fresh.ensures.takes) (sym c.in_default.is ∙ c.requires.found)) c.insert_new.new.self c.insert_new.new.pool c.insert_new.ensures.tree
-    (subst (λ (k : List ℕ). entries c.insert_new.new.self c.insert_new.new.pool ≡ put k c.place-fresh.result (entries c.args.self.now.tree c.place-fresh.new.pool)) c.as_slice-key.ensures c.insert_new.ensures.put)
+    joins_new c.args.self.now c.args.pool.now c.place-fresh.new.pool (alone c.place-fresh.result c.args.self.now.newest c.args.ts c.args.change c.args.op.now.cells) c.args.op.now c.requires.store c.place-fresh.ensures.vacant c.place-fresh.ensures.others c.place-fresh.ensures.link refl refl c.place-fresh.ensures.takes c.requires.later c.requires.fits refl refl (lacks1 c.args.self.now c.args.pool.now c.place-fresh.new.pool (alone c.place-fresh.result c.args.self.now.newest c.args.ts c.args.change c.args.op.now.cells) c.args.op.now c.requires.store c.place-fresh.ensures.vacant c.place-fresh.ensures.others c.place-fresh.ensures.link refl refl c.place-fresh.ensures.takes (sym c.in_default.is ∙ c.requires.found)) c.insert_new.new.self c.insert_new.new.pool c.insert_new.ensures.tree
+    (subst (λ (k : List ℕ). entries c.insert_new.new.self c.insert_new.new.pool ≡ put k c.place-fresh.result (entries c.args.self.now.tree c.place-fresh.new.pool)) c.key.ensures c.insert_new.ensures.put)
     c.insert_new.ensures.keeps c.insert_new.ensures.grows c.insert_new.ensures.frame
-    (subst (λ (k : List ℕ). Takes c.place-fresh.new.pool c.insert_new.new.pool (need k)) c.as_slice-key.ensures c.insert_new.ensures.takes)
+    (subst (λ (k : List ℕ). Takes c.place-fresh.new.pool c.insert_new.new.pool (need k)) c.key.ensures c.insert_new.ensures.takes)
 
 pub insert_new-requires-clause-absent : goal.insert_new-requires-clause-absent
-insert_new-requires-clause-absent c = ap (λ (k : List ℕ). value_of k (entries c.args.self.now.tree c.place-fresh.new.pool)) c.as_slice-key.ensures ∙ lacks1 c.args.self.now c.args.pool.now c.place-fresh.new.pool (record { cell = c.place-fresh.result; head = record { next = 0xffff_ffff; last = 0xffff_ffff; before = c.args.self.now.newest; ts = c.args.ts; kind = c.args.change }; cells = c.as_slice-cells.result.now }) c.args.op.now c.requires.store c.place-fresh.ensures.vacant c.place-fresh.ensures.others c.place-fresh.ensures.link refl c.as_slice-cells.ensures (subst (λ (cells : Row). Takes c.args.pool.now c.place-fresh.new.pool (link_need cells)) c.as_slice-cells.ensures c.place-fresh.ensures.takes) (sym c.in_default.is ∙ c.requires.found)
+insert_new-requires-clause-absent c = ap (λ (k : List ℕ). value_of k (entries c.args.self.now.tree c.place-fresh.new.pool)) c.key.ensures ∙ lacks1 c.args.self.now c.args.pool.now c.place-fresh.new.pool (alone c.place-fresh.result c.args.self.now.newest c.args.ts c.args.change c.args.op.now.cells) c.args.op.now c.requires.store c.place-fresh.ensures.vacant c.place-fresh.ensures.others c.place-fresh.ensures.link refl refl c.place-fresh.ensures.takes (sym c.in_default.is ∙ c.requires.found)
