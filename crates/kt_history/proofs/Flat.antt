@@ -1,12 +1,10 @@
 -- Flat cells: more texts change none of them, one cell more, and those in front.
-use Rattle.std.proofs.Common.{◌≡◌, ℕ, zero, suc, ◌+◌, ◌-◌, ◌<◌, ◌≤◌, List, [], ◌∷◌, ◌++◌, length, take, drop, map, get_or, Result, Ok, Err, refl, sym, ap, ◌∙◌, subst, arith, length-append, append_assoc}
+use Rattle.std.proofs.Common.{◌≡◌, ℕ, ◌-◌, ◌<◌, List, [], ◌∷◌, ◌++◌, length, take, drop, map, get_or, refl, sym, ap, ◌∙◌, subst, arith, length-append}
 use Rattle.std.specs.List.{All, between}
 use Rattle.std.proofs.lemmas.List.{map-append, take-map, drop-map, length-map, get_or_default, take_at, get_or_append_left, get_or_at}
-use Rattle.std.proofs.lemmas.List.Elements.{All-push, All-take, All-head, All-tail, All-cons, All-weaker}
+use Rattle.std.proofs.lemmas.List.Elements.{All-push, All-take, All-head, All-tail, All-weaker}
 use Rattle.kt_base.specs.declared.cell.Cell.{Cell}
-use Rattle.kt_base.specs.declared.cell.Cell.TheVariants.{Null, Int, Bool, Bytes}
-use Rattle.kt_base.specs.declared.cell_ref.CellRef.{CellRef}
-use Rattle.kt_base.specs.Borrowed.{cell_in}
+use Rattle.kt_base.specs.declared.cell.Cell.TheVariants.{Bytes}
 use Rattle.kt_history.specs.declared.row_list.Flat.{Flat}
 use Rattle.kt_history.specs.declared.row_list.Flat.TheVariants as flat
 use Rattle.kt_bytes.specs.Cuts.{pieces, IsCut, start_at}

@@ -1,4 +1,4 @@
-use Rattle.std.proofs.Common.{sym, subst, ap}
+use Rattle.std.proofs.Common.{sym, subst}
 use Rattle.kt_history.specs.Flat.{AreFlat}
 use Rattle.kt_history.proofs.Flat.{more_texts}
 use Rattle.kt_history.proofs.row_list.flat_of.Goals as goal

@@ -1,4 +1,4 @@
-use Rattle.std.proofs.Common.{◌≡◌, ℕ, List, ◌++◌, ◌∷◌, [], ◌∙◌, sym, ap, subst, take, map, arith, ◌+◌}
+use Rattle.std.proofs.Common.{◌≡◌, ◌++◌, ◌∷◌, [], ◌∙◌, sym, ap, subst, take, map, arith, ◌+◌}
 use Rattle.std.proofs.lemmas.List.{take_more, take_all, map-append, append_assoc}
 use Rattle.kt_base.specs.Borrowed.{cell_in}
 use Rattle.kt_history.specs.Flat.{AreFlat}

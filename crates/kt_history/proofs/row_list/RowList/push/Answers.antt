@@ -1,4 +1,4 @@
-use Rattle.std.proofs.Common.{◌≡◌, List, ◌++◌, ◌∷◌, [], ◌∙◌, sym, ap, subst, map, arith}
+use Rattle.std.proofs.Common.{◌≡◌, ◌++◌, ◌∷◌, [], ◌∙◌, sym, ap, subst, map, arith}
 use Rattle.kt_base.specs.Borrowed.{cell_in}
 use Rattle.kt_history.proofs.AsBytes.{on_err}
 use Rattle.kt_history.proofs.Flat.{held_still, view_still, held_more, view_more, IsHeld}
