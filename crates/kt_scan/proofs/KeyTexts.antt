@@ -67,6 +67,11 @@ mark_short [] short = refl
 mark_short (x ∷ []) short = refl
 mark_short (x ∷ y ∷ xs) short = absurd (omega (arith, short))
 
+-- a text that ends at the first zero byte
+pub plain_end : (bytes text after behind : List ℕ) (n : ℕ) → IsFirstByte (is_byte 0) bytes (Some n) → text ≡ take n bytes → after ≡ drop n bytes → behind ≡ drop 2 after → text_and_rest after ≡ ([], drop 2 after) → text_and_rest bytes ≡ (text, behind)
+plain_end bytes text after behind n first text-is after-is behind-is ends =
+    up_to_zero bytes n first ∙ ap (prepend (take n bytes)) (ap text_and_rest (sym after-is) ∙ ends) ∙ ap (λ xs. (xs, drop 2 after)) (append-nil (take n bytes) ∙ sym text-is) ∙ ap (λ ys. (text, ys)) (sym behind-is)
+
 -- ---- the loop: what is read so far, and what is left
 
 pub record IsSplit (bytes text rest : List ℕ) : Type 0 where

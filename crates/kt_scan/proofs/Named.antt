@@ -1,5 +1,5 @@
 -- What a scan names: where it names no key column, the cells of the key do not matter.
-use Rattle.std.proofs.Common.{◌≡◌, ℕ, List, [], ◌∷◌, ◌++◌, ◌||◌, ◌&&◌, Bool, true, false, cond, Option, Some, None, refl, sym, ap, ◌∙◌, map}
+use Rattle.std.proofs.Common.{◌≡◌, ℕ, ◌+◌, ◌<◌, ◌≤◌, ◌==◌, length, get_or, drop, List, [], ◌∷◌, ◌++◌, ◌||◌, ◌&&◌, Bool, true, false, cond, Option, Some, None, refl, sym, ap, ◌∙◌, map}
 use Rattle.std.specs.Prelude.{unwrap_or}
 use Rattle.std.specs.List.{list_any}
 use Rattle.std.specs.Ordering.{nat_cmp, eq_by_cmp}
@@ -13,15 +13,18 @@ use Rattle.kt_history.specs.declared.scan.Scan.{Scan}
 use Rattle.kt_history.specs.declared.scan.Pred.{Pred}
 use Rattle.kt_history.specs.Rows.{Row}
 use Rattle.kt_history.specs.Replies.{cell_of, passes, kept, selected}
-use Rattle.kt_scan.specs.declared.row.WholeRow.{WholeRow}
 use Rattle.kt_scan.specs.Encoded.{keys_of, ids_with}
 use Rattle.kt_scan.specs.Lines.{cut, line_of}
-use Rattle.kt_scan.specs.Whole.{whole_in, has_id, shows_key, reads_key}
+use Rattle.kt_scan.specs.Whole.{has_id, shows_key, reads_key}
 use Rattle.kt_base.specs.declared.cell_ref.CellRef.{CellRef}
 use Rattle.kt_base.specs.declared.cell_ref.CellRef.TheVariants as ref
 use Rattle.kt_base.specs.Borrowed.{cell_in}
 use Rattle.std.specs.Option.{option_map}
-use Rattle.kt_scan.proofs.WholeRows.{whole_is}
+use Rattle.std.specs.Cmp.{unsigned_tied}
+use Rattle.std.proofs.Math.ListN.{drop_of_length-le}
+use Rattle.std.proofs.lemmas.List.{drop_more}
+use Rattle.std.proofs.lemmas.Bool.{eqb-true}
+use Rattle.kt_scan.proofs.WholeRows.{whole_is, none_under}
 
 -- ---- the first of two lists that has a column tells of it
 
@@ -40,6 +43,26 @@ found_later {X = X} id (c ∷ first) others d h =
       | true ↦ λ here. absurd cc
       | false ↦ λ later. found_later id first others d later
     ] h
+
+-- ---- a column among those of a key
+
+untied : (a b : ℕ) → (a ≡ b → ⊥) → eq_by_cmp nat_cmp a b ≡ false
+untied a b other = unsigned_tied a b ∙ by (a == b) refl
+  where
+    by : (v : Bool) → (a == b) ≡ v → (a == b) ≡ false
+    by true e = absurd (other (eqb-true a b e))
+    by false e = e
+
+-- where the first of them is another one, it is found among those behind
+pub found_behind : (id at : ℕ) (key : List CellRef) (rest behind : List Column) (c : Column) → at < length key → rest ≡ c ∷ behind → (c.id ≡ id → ⊥)
+    → find nat_cmp id (ids_with rest (map cell_in (drop at key))) ≡ find nat_cmp id (ids_with behind (map cell_in (drop (at + 1) key)))
+found_behind id at key rest behind c lt is other =
+    ap (λ (cs : List Column). find nat_cmp id (ids_with cs (map cell_in (drop at key)))) is
+    ∙ ap (λ (cells : List CellRef). find nat_cmp id (ids_with (c ∷ behind) (map cell_in cells))) (drop_more key at ref.Null lt)
+    ∙ ap (λ b. cond b (Some (cell_in (get_or key at ref.Null))) (find nat_cmp id (ids_with behind (map cell_in (drop (at + 1) key))))) (untied id c.id (λ e. other (sym e)))
+
+pub found_nowhere : (id at : ℕ) (key : List CellRef) (rest : List Column) → length key ≤ at → find nat_cmp id (ids_with rest (map cell_in (drop at key))) ≡ None
+found_nowhere id at key rest past = ap (λ (cells : List CellRef). find nat_cmp id (ids_with rest (map cell_in cells))) (drop_of_length-le key past) ∙ ap (find nat_cmp id) (none_under rest)
 
 -- a borrowed cell, or null, is read as the cell, or null
 pub read_or_null : (cell : Option CellRef) → cell_in (unwrap_or cell ref.Null) ≡ unwrap_or (option_map cell_in cell) Null
@@ -89,13 +112,13 @@ module _ (columns : List Column) (cells : List Cell) (others : Row) where
 
 -- ---- the line of a key whose cells are read, and of one whose cells do not matter
 
-module _ (columns : List Column) (scan : Scan) (key : List ℕ) (row : WholeRow) where
-  pub cut_read : row.key.items ≡ key_cells (key_kinds columns) key → cut scan (whole_in (key_columns columns) row) ≡ line_of (keys_of columns) scan key (Some row.others)
-  cut_read is = ap (cut scan) (whole_is columns row.key.items key row.others is)
+module _ (columns : List Column) (scan : Scan) (key : List ℕ) (cells : List Cell) (others : Row) where
+  pub cut_read : cells ≡ key_cells (key_kinds columns) key → cut scan (ids_with (key_columns columns) cells ++ others) ≡ line_of (keys_of columns) scan key (Some others)
+  cut_read is = ap (cut scan) (whole_is columns cells key others is)
 
-  pub cut_unread : reads_key (key_columns columns) scan ≡ false → cut scan (whole_in (key_columns columns) row) ≡ line_of (keys_of columns) scan key (Some row.others)
+  pub cut_unread : reads_key (key_columns columns) scan ≡ false → cut scan (ids_with (key_columns columns) cells ++ others) ≡ line_of (keys_of columns) scan key (Some others)
   cut_unread none =
       let read : List Cell = key_cells (key_kinds columns) key in
-      cut_without (key_columns columns) row.key.items row.others scan none
-      ∙ sym (cut_without (key_columns columns) read row.others scan none)
-      ∙ ap (cut scan) (whole_is columns read key row.others refl)
+      cut_without (key_columns columns) cells others scan none
+      ∙ sym (cut_without (key_columns columns) read others scan none)
+      ∙ ap (cut scan) (whole_is columns read key others refl)

@@ -5,6 +5,8 @@ use Rattle.std.proofs.Math.ListN.{drop_of_length-le}
 use Rattle.std.proofs.lemmas.List.{append-nil}
 use Rattle.kt_base.specs.declared.cell.Kind.{Kind}
 use Rattle.kt_base.specs.declared.cell.Cell.{Cell}
+use Rattle.kt_base.specs.declared.cell_ref.CellRef.{CellRef}
+use Rattle.kt_base.specs.Borrowed.{cell_in}
 use Rattle.kt_base.specs.Keys.{key_cells}
 use Rattle.kt_schema.specs.declared.column.Column.{Column}
 use Rattle.kt_schema.specs.Columns.{key_columns, key_kinds}
@@ -20,9 +22,9 @@ none_under [] = refl
 none_under (c ∷ columns) = refl
 
 -- where no cell of a key is left, all that stand under a column are there
-pub pushed_all : (cells whole : List Cell) (rest : List Column) (key : List Cell) (at : ℕ) → length key ≤ at → cells ++ map (λ (c : ℕ × Cell). c.1) (ids_with rest (drop at key)) ≡ whole → cells ≡ whole
+pub pushed_all : (cells whole : List Cell) (rest : List Column) (key : List CellRef) (at : ℕ) → length key ≤ at → cells ++ map (λ (c : ℕ × Cell). c.1) (ids_with rest (map cell_in (drop at key))) ≡ whole → cells ≡ whole
 pushed_all cells whole rest key at past so_far =
-    let none : ids_with rest (drop at key) ≡ [] = ap (ids_with rest) (drop_of_length-le key past) ∙ none_under rest in
+    let none : ids_with rest (map cell_in (drop at key)) ≡ [] = ap (λ (k : List CellRef). ids_with rest (map cell_in k)) (drop_of_length-le key past) ∙ none_under rest in
     sym (append-nil cells) ∙ ap (λ (xs : List (ℕ × Cell)). cells ++ map (λ c. c.1) xs) (sym none) ∙ so_far
 
 kinds_are : (columns : List Column) → map (λ k. k.1) (map both_of columns) ≡ map (λ c. c.kind) columns

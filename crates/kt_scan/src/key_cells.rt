@@ -1,10 +1,11 @@
 //! The cells that the bytes of a key spell, whatever bytes they are.
-ghost use Rattle.std.specs.Prelude.{◌≡◌, ◌-◌, ◌^◌, ◌≤◌, pos, ◌-ℤ◌, length, take, slice_index, IfOk, OnOk};
+ghost use Rattle.std.specs.Prelude.{◌≡◌, ◌-◌, ◌^◌, ◌≤◌, pos, ◌-ℤ◌, true, length, take, map, slice_index, IfOk, IfSome, OnOk};
 ghost use Rattle.std.specs.Int.{from_be_bytes, w16, w32, w64};
-ghost use Rattle.kt_base.specs.Keys.{width_of, number_of_key, last_cell, key_cells};
-ghost use Rattle.kt_scan.specs.Parts.{IsMark, IsTextAt, IsFirst};
+ghost use Rattle.kt_base.specs.Borrowed.{cell_in};
+ghost use Rattle.kt_base.specs.Keys.{width_of, number_of_key, first_cell, last_cell, after_first, key_cells};
+ghost use Rattle.kt_scan.specs.Parts.{IsMark, IsTextAt, IsFirst, text_and_rest};
 
-use kt_base::{Cell, Kind, NoMemory, Octets};
+use kt_base::{Cell, CellRef, Kind, NoMemory, Octets};
 use kt_key::length::width;
 use memchr::memchr;
 use std::alloc::Global;
@@ -201,4 +202,72 @@ pub fn read_key(
     }
     cells.push(last_cell(alloc, *last, rest)?)?;
     Ok(())
+}
+
+// The text at the front of some bytes, if it has no zero byte and an end, and the bytes behind that.
+fn plain_text(bytes: &[u8]) -> Option<(&[u8], &[u8])>
+    ensures { IfSome result (λ read. text_and_rest bytes.now ≡ (read.0.now, read.1.now)) }
+{
+    let Some(zero) = memchr(0, bytes) else {
+        return None;
+    };
+    let (text, after) = bytes.split_at(zero);
+    match mark_of(after) {
+        Mark::End => {
+            let (_, behind) = after.split_at(2);
+            Some((text, behind))
+        }
+        Mark::Zero | Mark::Short => None,
+    }
+}
+
+// As `first_cell`, where it lies, and the bytes behind it.
+fn first_plain(kind: Kind, bytes: &[u8]) -> Option<(CellRef<'_>, &[u8])>
+    ensures { IfSome result (λ read. (cell_in read.0 ≡ first_cell kind bytes.now) × (read.1.now ≡ after_first kind bytes.now)) }
+{
+    match kind {
+        Kind::String | Kind::Binary => {
+            let (text, behind) = plain_text(bytes)?;
+            Some((CellRef::Bytes(text), behind))
+        }
+        _ => {
+            let (_, behind) = bytes.split_at(front(bytes, width(kind)).len());
+            Some((CellRef::Int(number_at(kind, bytes)), behind))
+        }
+    }
+}
+
+// As `last_cell`, where it lies.
+fn last_plain(kind: Kind, bytes: &[u8]) -> CellRef<'_>
+    ensures { cell_in result ≡ last_cell kind bytes.now }
+{
+    match kind {
+        Kind::String | Kind::Binary => CellRef::Bytes(bytes),
+        _ => CellRef::Int(number_at(kind, bytes)),
+    }
+}
+
+/// As `read_key`, where the cells lie. Tells whether all of them lie there: a text that has a zero byte does not, unless it
+/// is the last.
+pub fn read_plain<'v>(
+    kinds: &[Kind],
+    bytes: &'v [u8],
+    cells: &mut Vec<CellRef<'v>>,
+) -> Result<bool, NoMemory>
+    ensures { IfOk result (λ plain. plain ≡ true → map cell_in cells.new.items ≡ key_cells kinds.now bytes.now) }
+{
+    cells.clear();
+    let Some((last, others)) = kinds.split_last() else {
+        return Ok(true);
+    };
+    let mut rest = bytes;
+    for kind in others {
+        let Some((cell, behind)) = first_plain(*kind, rest) else {
+            return Ok(false);
+        };
+        cells.push(cell)?;
+        rest = behind;
+    }
+    cells.push(last_plain(*last, rest))?;
+    Ok(true)
 }

@@ -4,6 +4,7 @@
 //! stands on the views of `kt_history`, the keys of `kt_key` and the columns of `kt_schema`.
 #![tactic(auto)]
 
+mod asked;
 mod key_cells;
 mod keys;
 mod kinds;

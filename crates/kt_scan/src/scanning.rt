@@ -1,104 +1,113 @@
 //! A scan over several views.
-ghost use Rattle.std.specs.Prelude.{◌≡◌, ◌≤◌, IfOk, OnOk};
-ghost use Rattle.std.specs.List.{All, list_any};
+ghost use Rattle.std.specs.Prelude.{◌≡◌, ◌≤◌, ◌++◌, map, true, Some, IfOk, OnOk};
+ghost use Rattle.std.specs.List.{All};
+ghost use Rattle.std.specs.Option.{option_to_list};
 ghost use Rattle.kt_schema.specs.Columns.{key_columns};
+ghost use Rattle.kt_base.specs.Borrowed.{cell_in};
+ghost use Rattle.kt_history.specs.Rows.{Row};
 ghost use Rattle.kt_history.specs.Replies.{shown};
-ghost use Rattle.kt_scan.specs.Encoded.{keys_of};
+ghost use Rattle.kt_scan.specs.Encoded.{keys_of, ids_with};
 ghost use Rattle.kt_scan.specs.Live.{row_in, live_rows};
 ghost use Rattle.kt_scan.specs.Lines.{line_of, cut};
-ghost use Rattle.kt_scan.specs.Whole.{whole_in, has_id, shows_key, reads_key};
+ghost use Rattle.kt_scan.specs.Whole.{whole_in};
 
-use crate::key_cells::read_key;
+use crate::asked::Asked;
+use crate::key_cells::{read_key, read_plain};
 use crate::keys::{Hints, next_key, row_into};
 use crate::row::WholeRow;
 use crate::tested::cut;
-use kt_base::{NoMemory, Row};
-use kt_history::{ColumnIds, Pred, RowList, Scan, View};
-use kt_schema::{Column, Schema};
+use kt_base::{Cell, CellRef, NoMemory};
+use kt_history::{RowList, Scan, View};
+use kt_schema::Schema;
 use std::alloc::Global;
 
-fn has_id(columns: &[Column], id: u16) -> bool
-    ensures { result ≡ has_id columns.now id }
-{
-    columns.iter().any(|column| column.id == id)
-}
-
-fn has_any(columns: &[Column], ids: &[u16]) -> bool
-    ensures { result ≡ list_any (has_id columns.now) ids.now }
-{
-    for id in ids {
-        if has_id(columns, *id) {
-            return true;
-        }
-    }
-    false
-}
-
-// Whether a selection shows a key column.
-fn shows_key(columns: &[Column], selection: &Option<ColumnIds>) -> bool
-    ensures { result ≡ shows_key columns.now selection.now }
-{
-    match selection {
-        None => true,
-        Some(ids) => has_any(columns, ids.as_slice()),
-    }
-}
-
-// Whether any test is of a key column.
-fn tests_key(columns: &[Column], preds: &[Pred]) -> bool
-    ensures { result ≡ list_any (λ p. has_id columns.now p.column) preds.now }
-{
-    for pred in preds {
-        if has_id(columns, pred.column) {
-            return true;
-        }
-    }
-    false
-}
-
-// Whether a scan shows or tests a key column.
-fn reads_key(columns: &[Column], scan: &Scan) -> bool
-    ensures { result ≡ reads_key columns.now scan.now }
-{
-    tests_key(columns, scan.preds.as_slice()) || shows_key(columns, &scan.columns)
-}
-
-// Reads the cells of a key, where the scan shows or tests any of them.
-fn read_for<'v>(
-    alloc: Global,
-    scan: &Scan,
-    schema: &Schema,
-    key: &[u8],
-    row: &mut WholeRow<'v>,
+// Adds what a scan shows of a whole row, if that passes the tests.
+fn push_cut<'v>(
+    asked: &Asked<'_>,
+    row: &WholeRow<'v>,
+    line: &mut Vec<CellRef<'v>>,
+    rows: &mut RowList,
 ) -> Result<(), NoMemory>
-    ensures { OnOk result (cut scan.now (whole_in (key_columns schema.now) row.new) ≡ line_of (keys_of schema.now) scan.now key.now (Some row.old.others)) }
+    ensures { OnOk result (rows.new ≡ rows.old ++ option_to_list (cut asked.now.scan.now (whole_in (key_columns asked.now.schema.now) row.now))) }
 {
-    if !reads_key(schema.key_columns(), scan) {
+    if !cut(asked.scan, asked.schema.key_columns(), row, line)? {
         return Ok(());
     }
-    read_key(alloc, schema.key_kinds(), key, &mut row.key)?;
+    rows.push(line)
+}
+
+// Reads the cells of a key where they lie, if the scan shows or tests any of them. Tells whether all of them lie there.
+fn read_for<'v>(
+    asked: &Asked<'_>,
+    key: &'v [u8],
+    cells: &mut Vec<CellRef<'v>>,
+) -> Result<bool, NoMemory>
+    ensures { IfOk result (λ read. read ≡ true → (others : Row)
+        → cut asked.now.scan.now (ids_with (key_columns asked.now.schema.now) (map cell_in cells.new.items) ++ others) ≡ line_of (keys_of asked.now.schema.now) asked.now.scan.now key.now (Some others)) }
+{
+    if !asked.with_key {
+        return Ok(true);
+    }
+    let lie = read_plain(asked.schema.key_kinds(), key, cells)?;
+    Ok(lie)
+}
+
+// Adds the same cells, borrowed.
+fn push_borrowed<'v>(cells: &'v [Cell], refs: &mut Vec<CellRef<'v>>) -> Result<(), NoMemory>
+    ensures { OnOk result (map cell_in refs.new.items ≡ map cell_in refs.old.items ++ cells.now) }
+{
+    for cell in cells {
+        refs.push(CellRef::of(cell))?;
+    }
     Ok(())
 }
 
-// What a scan shows of one key, if it has a row that passes the tests.
-fn line_of<'v, V: View>(
+// As `push_line`, of any key. The cells of the key are read into texts of their own, and the row once more.
+fn push_copied<V: View>(
+    alloc: Global,
+    views: &[V],
+    t: u64,
+    asked: &Asked<'_>,
+    key: &[u8],
+    hints: &mut Hints,
+    rows: &mut RowList,
+) -> Result<(), NoMemory>
+    requires { All (λ v. V.mark v ≤ t) views.now }
+    ensures { OnOk result (rows.new ≡ rows.old ++ option_to_list (line_of (keys_of asked.now.schema.now) asked.now.scan.now key.now (row_in V.row_of views.now key.now t))) }
+{
+    let mut cells = Vec::new(alloc);
+    read_key(alloc, asked.schema.key_kinds(), key, &mut cells)?;
+    let mut row = WholeRow::new(alloc);
+    push_borrowed(&cells, &mut row.key)?;
+    if !row_into(&*views, key, t, hints, &mut row.others)? {
+        return Ok(());
+    }
+    let mut line = Vec::new(alloc);
+    push_cut(asked, &row, &mut line, rows)
+}
+
+// Adds what a scan shows of one key, if that has a row that passes the tests.
+fn push_line<'v, V: View>(
     alloc: Global,
     views: &'v [V],
     t: u64,
-    scan: &Scan,
-    schema: &Schema,
-    key: &[u8],
+    asked: &Asked<'_>,
+    key: &'v [u8],
     hints: &mut Hints,
     row: &mut WholeRow<'v>,
-) -> Result<Option<Row>, NoMemory>
+    line: &mut Vec<CellRef<'v>>,
+    rows: &mut RowList,
+) -> Result<(), NoMemory>
     requires { All (λ v. V.mark v ≤ t) views.now }
-    ensures { IfOk result (λ line. line ≡ line_of (keys_of schema.now) scan.now key.now (row_in V.row_of views.now key.now t)) }
+    ensures { OnOk result (rows.new ≡ rows.old ++ option_to_list (line_of (keys_of asked.now.schema.now) asked.now.scan.now key.now (row_in V.row_of views.now key.now t))) }
 {
     if !row_into(views, key, t, hints, &mut row.others)? {
-        return Ok(None);
+        return Ok(());
     }
-    read_for(alloc, scan, schema, key, row)?;
-    cut(alloc, scan, schema.key_columns(), row)
+    if !read_for(asked, key, &mut row.key)? {
+        return push_copied(alloc, views, t, asked, key, hints, rows);
+    }
+    push_cut(asked, row, line, rows)
 }
 
 /// The rows at a time that pass the tests of a scan, cut to its selection, by rising key. The views tell their rows
@@ -115,15 +124,17 @@ pub fn run<V: View>(
     requires told { All (λ v. V.mark v ≤ a) views.now }
     ensures { IfOk result (λ rows. rows ≡ shown (keys_of schema.now) scan.now (live_rows V.keys V.row_of views.now t)) }
 {
+    let asked = Asked::of(scan, schema);
     let mut hints = Hints::new(alloc, views.len())?;
     let mut row = WholeRow::new(alloc);
-    let mut lines = Vec::new(alloc);
+    let mut line = Vec::new(alloc);
+    let mut rows = RowList::new(alloc);
     let mut after = None;
     while let Some(key) = next_key(views, after, &mut hints) {
-        if let Some(line) = line_of(alloc, views, t, scan, schema, key, &mut hints, &mut row)? {
-            lines.push(line)?;
-        }
+        push_line(
+            alloc, views, t, &asked, key, &mut hints, &mut row, &mut line, &mut rows,
+        )?;
         after = Some(key);
     }
-    Ok(RowList::of(lines))
+    Ok(rows)
 }

@@ -1,5 +1,5 @@
 //! The tests of a scan, and its selection.
-ghost use Rattle.std.specs.Prelude.{◌≡◌, ◌++◌, IfOk, OnOk, map};
+ghost use Rattle.std.specs.Prelude.{◌≡◌, ◌++◌, Some, None, IfOk, OnOk, map, if◌then◌else◌};
 ghost use Rattle.kt_base.specs.Borrowed.{cell_in};
 ghost use Rattle.kt_cells.specs.Borrowed.{cells_in};
 ghost use Rattle.kt_history.specs.Replies.{cell_cmp, is_null, passes, kept, selected, cell_of};
@@ -8,10 +8,9 @@ ghost use Rattle.kt_scan.specs.Lines.{cut};
 ghost use Rattle.kt_scan.specs.Whole.{whole_in};
 
 use crate::row::WholeRow;
-use kt_base::{Cell, CellRef, NoMemory, Row};
+use kt_base::{Cell, CellRef, NoMemory};
 use kt_history::{ColumnIds, Pred, Scan, Test};
 use kt_schema::Column;
-use std::alloc::Global;
 use std::cmp::Ordering;
 
 // How two cells of one kind compare. Null compares with nothing.
@@ -58,87 +57,84 @@ fn kept(preds: &[Pred], columns: &[Column], row: &WholeRow<'_>) -> bool
     true
 }
 
-// Appends the cells of a key that stand under its columns.
-fn push_key(cells: &mut Vec<Cell>, columns: &[Column], key: &[Cell]) -> Result<(), NoMemory>
-    ensures { OnOk result (cells.new.items ≡ cells.old.items ++ map (λ c. c.1) (ids_with columns.now key.now)) }
+// Adds the cells of a key that stand under its columns.
+fn push_key<'v>(
+    columns: &[Column],
+    key: &[CellRef<'v>],
+    cells: &mut Vec<CellRef<'v>>,
+) -> Result<(), NoMemory>
+    ensures { OnOk result (map cell_in cells.new.items ≡ map cell_in cells.old.items ++ map (λ c. c.1) (ids_with columns.now (map cell_in key.now))) }
 {
     let mut rest = columns;
     for cell in key {
         let Some((_, behind)) = rest.split_first() else {
             return Ok(());
         };
-        cells.push(cell.copy()?)?;
+        cells.push(*cell)?;
         rest = behind;
     }
     Ok(())
 }
 
-// Appends the other cells of a row.
-fn push_others(
-    alloc: Global,
-    cells: &mut Vec<Cell>,
-    others: &[(u16, CellRef<'_>)],
+// Adds the other cells of a row.
+fn push_others<'v>(
+    others: &[(u16, CellRef<'v>)],
+    cells: &mut Vec<CellRef<'v>>,
 ) -> Result<(), NoMemory>
-    ensures { OnOk result (cells.new.items ≡ cells.old.items ++ map (λ c. c.1) (cells_in others.now)) }
+    ensures { OnOk result (map cell_in cells.new.items ≡ map cell_in cells.old.items ++ map (λ c. c.1) (cells_in others.now)) }
 {
     for cell in others {
-        cells.push(cell.1.to_cell(alloc)?)?;
+        cells.push(cell.1)?;
     }
     Ok(())
 }
 
-fn all_cells(alloc: Global, columns: &[Column], row: &WholeRow<'_>) -> Result<Vec<Cell>, NoMemory>
-    ensures { IfOk result (λ cells. cells.items ≡ map (λ c. c.1) (whole_in columns.now row.now)) }
-{
-    let others = row.others.as_slice();
-    let mut cells = Vec::with_capacity(alloc, row.key.len().saturating_add(others.len()))?;
-    push_key(&mut cells, columns, &row.key)?;
-    push_others(alloc, &mut cells, others)?;
-    Ok(cells)
-}
-
-fn cells_of(
-    alloc: Global,
+// Adds the cells of these columns.
+fn push_under<'v>(
     ids: &[u16],
     columns: &[Column],
-    row: &WholeRow<'_>,
-) -> Result<Vec<Cell>, NoMemory>
-    ensures { IfOk result (λ cells. cells.items ≡ map (cell_of (whole_in columns.now row.now)) ids.now) }
+    row: &WholeRow<'v>,
+    cells: &mut Vec<CellRef<'v>>,
+) -> Result<(), NoMemory>
+    ensures { OnOk result (map cell_in cells.new.items ≡ map cell_in cells.old.items ++ map (cell_of (whole_in columns.now row.now)) ids.now) }
 {
-    let mut cells = Vec::with_capacity(alloc, ids.len())?;
     for id in ids {
-        cells.push(row.cell(columns, *id).to_cell(alloc)?)?;
+        cells.push(row.cell(columns, *id))?;
     }
-    Ok(cells)
+    Ok(())
 }
 
-// The selected cells of a whole row, in the order of the selection.
-fn selected(
-    alloc: Global,
+// The selected cells of a whole row, in the order of the selection, in place of the cells before.
+fn select<'v>(
     selection: &Option<ColumnIds>,
     columns: &[Column],
-    row: &WholeRow<'_>,
-) -> Result<Row, NoMemory>
-    ensures { IfOk result (λ cells. cells ≡ selected selection.now (whole_in columns.now row.now)) }
+    row: &WholeRow<'v>,
+    cells: &mut Vec<CellRef<'v>>,
+) -> Result<(), NoMemory>
+    ensures { OnOk result (map cell_in cells.new.items ≡ selected selection.now (whole_in columns.now row.now)) }
 {
+    cells.clear();
     match selection {
-        None => Ok(Row::of(all_cells(alloc, columns, row)?)),
-        Some(ids) => Ok(Row::of(cells_of(alloc, ids.as_slice(), columns, row)?)),
+        None => {
+            push_key(columns, &row.key, cells)?;
+            push_others(row.others.as_slice(), cells)
+        }
+        Some(ids) => push_under(ids.as_slice(), columns, row, cells),
     }
 }
 
-/// What a scan shows of a whole row, if the row passes its tests.
-pub fn cut(
-    alloc: Global,
+/// What a scan shows of a whole row, in place of the cells before. Tells whether the row passes the tests.
+pub fn cut<'v>(
     scan: &Scan,
     columns: &[Column],
-    row: &WholeRow<'_>,
-) -> Result<Option<Row>, NoMemory>
-    ensures { IfOk result (λ line. line ≡ cut scan.now (whole_in columns.now row.now)) }
+    row: &WholeRow<'v>,
+    cells: &mut Vec<CellRef<'v>>,
+) -> Result<bool, NoMemory>
+    ensures { IfOk result (λ kept. (if kept then Some (map cell_in cells.new.items) else None) ≡ cut scan.now (whole_in columns.now row.now)) }
 {
-    if kept(scan.preds.as_slice(), columns, row) {
-        Ok(Some(selected(alloc, &scan.columns, columns, row)?))
-    } else {
-        Ok(None)
+    if !kept(scan.preds.as_slice(), columns, row) {
+        return Ok(false);
     }
+    select(&scan.columns, columns, row, cells)?;
+    Ok(true)
 }

@@ -1,16 +1,12 @@
-use Rattle.std.proofs.Common.{sym, ap, ◌∙◌, List}
+use Rattle.std.proofs.Common.{sym, ap, ◌∙◌, map}
+use Rattle.kt_base.specs.Borrowed.{cell_in}
 use Rattle.kt_base.specs.Keys.{key_cells}
-use Rattle.kt_schema.specs.declared.column.Column.{Column}
-use Rattle.kt_scan.specs.Whole.{reads_key}
 use Rattle.kt_scan.proofs.Named.{cut_read, cut_unread}
 use Rattle.kt_scan.proofs.scanning.read_for.Goals as goal
 
-pub returns-then-not-reads_key : goal.returns-then-not-reads_key
-returns-then-not-reads_key c =
-    cut_unread c.args.schema.now c.args.scan.now c.args.key.now c.args.row.now
-    (sym (ap (λ (columns : List Column). reads_key columns c.args.scan.now) c.key_columns.ensures) ∙ sym c.reads_key.ensures ∙ c.if-not-reads_key.true)
+pub returns-then-not-asked : goal.returns-then-not-asked
+returns-then-not-asked c = λ _ others. cut_unread c.args.asked.now.schema.now c.args.asked.now.scan.now c.args.key.now _ others (sym c.args.asked.now.tells ∙ c.if-not-asked.true)
 
 pub returns : goal.returns
-returns c =
-    cut_read c.args.schema.now c.args.scan.now c.args.key.now (record c.args.row.now { key = c.read_key.new.cells })
-    (c.in_ok-read_key.ensures ∙ ap (λ kinds. key_cells kinds c.args.key.now) c.key_kinds.ensures)
+returns c = λ read others. cut_read c.args.asked.now.schema.now c.args.asked.now.scan.now c.args.key.now (map cell_in c.read_plain.new.cells.items) others
+    (c.in_ok-lie.ensures read ∙ ap (λ kinds. key_cells kinds c.args.key.now) c.key_kinds.ensures)

@@ -8,7 +8,7 @@ use Rattle.kt_scan.proofs.RowLines.{shown_of}
 use Rattle.kt_scan.proofs.scanning.run.Given as goal
 
 abbrev pub invariant-loop-key : goal.invariant-loop-key
-invariant-loop-key g l = l.lines.items ++ shown_of g.V.View.row_of l.views l.t (keys_of l.schema) l.scan (filter (is_above (option_copied l.after)) (all_keys g.V.View.keys l.views))
+invariant-loop-key g l = l.rows ++ shown_of g.V.View.row_of l.views l.t (keys_of l.schema) l.scan (filter (is_above (option_copied l.after)) (all_keys g.V.View.keys l.views))
     ≡ shown_of g.V.View.row_of l.views l.t (keys_of l.schema) l.scan (all_keys g.V.View.keys l.views)
 
 abbrev pub decreases-loop-key : goal.decreases-loop-key
