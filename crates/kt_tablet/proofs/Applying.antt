@@ -1,5 +1,5 @@
 -- What an operation does to the one store is what the engine's event says.
-use Rattle.std.proofs.Common.{◌≡◌, ℕ, zero, suc, ◌++◌, ◌+◌, ◌*◌, ◌/◌, List, [], ◌∷◌, Option, Some, None, refl, true, false, Bool, sym, ap, ◌∙◌, subst, arith, is_some, drop}
+use Rattle.std.proofs.Common.{◌≡◌, ℕ, zero, suc, ◌+◌, ◌*◌, ◌/◌, List, [], ◌∷◌, Option, Some, None, refl, true, false, Bool, sym, ap, ◌∙◌, subst, arith, is_some, drop}
 use Rattle.std.specs.Prelude.{slice_get}
 use Rattle.std.specs.Option.{option_map}
 use Rattle.std.specs.FinMap.Entries.{put}
@@ -10,9 +10,8 @@ use Rattle.kt_history.specs.declared.operation.OpKind.TheVariants.{Insert, Upser
 use Rattle.kt_history.specs.declared.operation.RowOp.{RowOp}
 use Rattle.kt_history.specs.declared.target.Target.{Target}
 use Rattle.kt_history.specs.Operations.{effect, outcome_of, need, op_len}
-use Rattle.kt_history.specs.Rows.{Row, key_cmp, fits}
+use Rattle.kt_history.specs.Rows.{Row, key_cmp}
 use Rattle.kt_history.proofs.Effects.{outcomes}
-use Rattle.kt_records.specs.Rules.{EachAfter, FollowingOp, CellsFit}
 use Rattle.kt_histlaws.specs.Histories.{Store, hist_in, push, row_of, or_else}
 use Rattle.kt_histlaws.specs.Flights.{Under, AllOps}
 use Rattle.kt_histlaws.specs.Core.{live}
@@ -129,11 +128,6 @@ pub op_at : (P : RowOp → Type 0) (ops : List RowOp) (n : ℕ) (op : RowOp) →
 op_at P [] n op all h = absurd (none_is_some op h)
 op_at P (x ∷ ops) zero op all h = subst P (some_is x op h) all.0
 op_at P (x ∷ ops) (suc n) op all h = op_at P ops n op all.1 h
-
-pub cells_at : (front ops : List RowOp) (n : ℕ) (op : RowOp) → EachAfter FollowingOp front ops → slice_get ops n ≡ Some op → CellsFit op.kind op.cells
-cells_at front [] n op each h = absurd (none_is_some op h)
-cells_at front (x ∷ ops) zero op each h = subst (λ o. CellsFit o.kind o.cells) (some_is x op h) each.0.cells
-cells_at front (x ∷ ops) (suc n) op each h = cells_at (front ++ x ∷ []) ops n op each.1 h
 
 -- what the rows from this one on need
 pub need_at : (ops : List RowOp) (n : ℕ) (op : RowOp) → slice_get ops n ≡ Some op → need (drop n ops) ≡ 2 * share op + need (drop (n + 1) ops)

@@ -22,13 +22,12 @@ use Rattle.kt_histlaws.proofs.Applied.{applies, apply_stands, outcome_told}
 use Rattle.kt_histlaws.proofs.Applying.{stores_under}
 use Rattle.kt_tablet.specs.declared.tablet.FlyingWrite.{FlyingWrite}
 use Rattle.kt_tablet.specs.Stores.{share}
-use Rattle.kt_records.specs.Rules.{CellsFit}
 use Rattle.std.specs.List.{list_any, position_or_len}
 use Rattle.kt_tablet.specs.Rows.{IsNoted, AreNoted, commit_row}
 use Rattle.kt_tablet.specs.Views.{View, IsSound, IsReady, IsProvided, AreTold, Opens, aloft_of, flier_of}
 use Rattle.kt_tablet.specs.Visits.{MayApply, HasApplied, IsRunOutcome, IsDone, flight_of}
 use Rattle.kt_tablet.proofs.Flights.{IsPlaceOf, of_another, placed_at, flying_one, owed_of, owed_at, flight_at, flight_on, next_at, within, owed_set, provided_set, provided_at, fliers_set, length_set, apart_set}
-use Rattle.kt_tablet.proofs.Applying.{need_at, cells_at}
+use Rattle.kt_tablet.proofs.Applying.{need_at}
 use Rattle.kt_tablet.proofs.Visits.{same_flight}
 
 -- everything that the store has of the key of the next row lies below the write
@@ -86,14 +85,14 @@ flight_is s j flights w flight flies place here = same_flight flight (aloft_of w
 pub more_at : (core : Core) (s at j : ℕ) (flights : List FlyingWrite) (w : FlyingWrite) → core.aloft ≡ map aloft_of flights → MayApply core s at → IsPlaceOf s flights j → w ≡ get_or flights j w → at < length w.ops
 more_at core s at j flights w flown may place here = subst (λ f. at < length f.ops) (flight_is s j flights w may.flight (ap (flight_of s) (sym flown) ∙ may.flies) place here) may.more
 
-pub applying : (core : Core) (s at j : ℕ) (flights : List FlyingWrite) (w : FlyingWrite) (op : RowOp) (ops : List RowOp) → core.aloft ≡ map aloft_of flights → MayApply core s at → IsPlaceOf s flights j → w ≡ get_or flights j w
-    → ops ≡ w.ops → op ≡ get_or ops at op → Applying flights s at j w op
-applying core s at j flights w op ops flown may place here shown is = record {
+pub applying : (core : Core) (s at j : ℕ) (flights : List FlyingWrite) (w : FlyingWrite) (op : RowOp) → core.aloft ≡ map aloft_of flights → MayApply core s at → IsPlaceOf s flights j → w ≡ get_or flights j w
+    → op ≡ get_or w.ops at op → Applying flights s at j w op
+applying core s at j flights w op flown may place here is = record {
   place = place;
   here = here;
   applied = sym (ap (λ f. f.applied) (flight_is s j flights w may.flight (ap (flight_of s) (sym flown) ∙ may.flies) place here)) ∙ may.next;
   more = more_at core s at j flights w flown may place here;
-  row = got w.ops at op (more_at core s at j flights w flown may place here) (is ∙ ap (λ os. get_or os at op) shown);
+  row = got w.ops at op (more_at core s at j flights w flown may place here) is;
 }
 
 pub next_here : (flights : List FlyingWrite) (s at j : ℕ) (w : FlyingWrite) (op : RowOp) → Applying flights s at j w op → IsNextOp j (map aloft_of flights) w.ts op
@@ -111,7 +110,6 @@ pub record HasRoom (fill : Row) (pool : Contents) (w : FlyingWrite) (op : RowOp)
   pub more : w.applied < length w.ops
   pub outcomes : vec_len w.outcomes < vec_capacity w.outcomes
   pub rows : vec_len w.rows < vec_capacity w.rows
-  pub cells : CellsFit op.kind op.cells
 
 pub has_room : (fill : Row) (stopped : Bool) (flights : List FlyingWrite) (flying : List Flier) (lines room : ℕ) (pool : Contents) (s at j : ℕ) (w : FlyingWrite) (op : RowOp) → IsReady fill stopped flights flying lines room pool → Applying flights s at j w op → HasRoom fill pool w op
 has_room fill stopped flights flying lines room pool s at j w op ready a =
@@ -123,7 +121,6 @@ has_room fill stopped flights flying lines room pool s at j w op ready a =
       more = more;
       outcomes = let n = p.noted.0 in let c = p.room.0 in omega (arith, n, c, more);
       rows = let n = p.noted.1 in let c = p.room.1 in omega (arith, n, c, more);
-      cells = cells_at [] w.ops at op p.each a.row;
     }
 
 pub has_applied : {C : Type 0} (view old : View C) (s at j : ℕ) (flights : List FlyingWrite) (w : FlyingWrite) (op : RowOp) (outcome : Outcome) (aloft : List Aloft) (stores : List Store) → view ≡ old

@@ -9,7 +9,7 @@ ghost use Rattle.kt_tablet.specs.StoreLaws.{is_grown};
 
 use crate::store::RowStore;
 use kt_base::NoMemory;
-use kt_history::{ChangeList, Kindly, RowOp, Target};
+use kt_history::{ChangeList, Kindly, OpRef, Target};
 use kt_memrowset::{MemRowSet, Taken};
 use kt_pool::Pool;
 use std::alloc::Global;
@@ -35,11 +35,17 @@ impl RowStore for MemRowSet {
         MemRowSet::changes(self, alloc, pool, upto)
     }
 
-    fn apply_reserved(&mut self, pool: &mut Pool, ts: u64, op: &RowOp, change: Kindly) -> Target {
+    fn apply_reserved(
+        &mut self,
+        pool: &mut Pool,
+        ts: u64,
+        op: &OpRef<'_>,
+        change: Kindly,
+    ) -> Target {
         MemRowSet::apply_reserved(self, pool, ts, op, change)
     }
 
-    fn take(&mut self, pool: &mut Pool, ts: u64, op: &RowOp) -> Taken {
+    fn take(&mut self, pool: &mut Pool, ts: u64, op: &OpRef<'_>) -> Taken {
         MemRowSet::take(self, pool, ts, op)
     }
 }

@@ -1,23 +1,16 @@
 //! How many cells of the pool a write needs.
-ghost use Rattle.std.specs.Prelude.{◌≡◌, ◌≤◌, ◌<◌, ◌*◌, ◌^◌, min, IfSome, IfNone};
+ghost use Rattle.std.specs.Prelude.{◌≡◌, ◌≤◌, ◌<◌, ◌*◌, ◌^◌, IfSome, IfNone};
 ghost use Rattle.kt_history.specs.Operations.{need};
 ghost use Rattle.kt_tablet.specs.Stores.{share};
 
-use kt_history::{OpList, RowOp, need as counted};
+use kt_history::{OpList, OpRef, need as counted};
 
 /// How many cells of the pool an operation needs: two shares.
-pub(crate) fn cells_of(op: &RowOp) -> u32
+pub(crate) fn cells_of(op: &OpRef<'_>) -> u32
     requires { 2 * share op.now < 2 ^ 32 }
     ensures { result ≡ 2 * share op.now }
 {
     counted::cells_of(op) as u32
-}
-
-/// How many cells of the pool a write needs, and no more than 2^32.
-pub fn cells_needed(ops: &OpList) -> u64
-    ensures { result ≡ min (need ops.now) (2 ^ 32) }
-{
-    counted::cells_needed(ops.as_slice())
 }
 
 /// How many cells of the pool a write needs, if they are a number of 32 bits.
@@ -25,5 +18,5 @@ pub fn need(ops: &OpList) -> Option<u32>
     ensures needs { IfSome result (λ n. n ≡ need ops.now) }
     ensures past { IfNone result (2 ^ 32 ≤ need ops.now) }
 {
-    u32::try_from(cells_needed(ops)).ok()
+    u32::try_from(counted::cells_needed(ops)).ok()
 }

@@ -2,9 +2,8 @@
 ghost use Rattle.std.specs.Prelude.{◌≡◌, ◌≤◌, ◌^◌, [], length, map, min, IfOk, vec_len, vec_capacity};
 ghost use Rattle.kt_history.specs.Operations.{need};
 
-use crate::need::cells_needed;
-use kt_base::NoMemory;
-use kt_history::{OpList, Outcome};
+use kt_base::{NoMemory, Octets};
+use kt_history::{OpList, Outcome, cells_needed};
 use kt_mvcc::KeyList;
 use kt_records::CommitRow;
 use std::alloc::Global;
@@ -30,10 +29,10 @@ pub struct NewWrite {
 fn keys_of(alloc: Global, ops: &OpList) -> Result<KeyList, NoMemory>
     ensures { IfOk result (λ keys. keys ≡ map (λ op. op.key) ops.now) }
 {
-    let mut keys = Vec::new(alloc);
-    keys.reserve(ops.len())?;
-    for op in ops.as_slice() {
-        keys.push(op.key.copy()?)?;
+    let mut keys = Vec::with_capacity(alloc, ops.len())?;
+    'ops: for at in 0..ops.len() {
+        let op = ops.at(at);
+        keys.push(Octets::from_slice(alloc, op.key())?)?;
     }
     Ok(KeyList::of(keys))
 }
@@ -61,7 +60,7 @@ impl NewWrite {
         ensures { result.ops ≡ [] }
     {
         NewWrite {
-            ops: OpList::of(Vec::new(alloc)),
+            ops: OpList::new(alloc),
             keys: KeyList::of(Vec::new(alloc)),
             outcomes: Vec::new(alloc),
             rows: Vec::new(alloc),

@@ -1,19 +1,18 @@
 //! A store of rows in the cells of a pool.
 
-ghost use Rattle.std.specs.Prelude.{◌≡◌, ◌≤◌, ◌<◌, ◌^◌, ◌⊎◌, ℕ, None, true, is_some, IfOk, length, []};
+ghost use Rattle.std.specs.Prelude.{◌≡◌, ◌≤◌, ◌⊎◌, ℕ, None, true, is_some, IfOk};
 ghost use Rattle.std.specs.Option.{option_map};
 ghost use Rattle.std.specs.FinMap.Entries.{put};
 ghost use Rattle.kt_pool.specs.Contents.{Contents, at_cell, with_reserved};
 ghost use Rattle.kt_history.specs.Rows.{key_cmp, fits};
 ghost use Rattle.kt_history.specs.declared.target.Target.{Target};
-ghost use Rattle.kt_records.specs.Rules.{EachAfter, FollowingCell};
 ghost use Rattle.kt_histlaws.specs.Histories.{Store, hist_in, push};
 ghost use Rattle.kt_histlaws.specs.Flights.{Under};
 ghost use Rattle.kt_memrowset.specs.Taking.{kind_made};
 ghost use Rattle.kt_tablet.specs.Stores.{change_of, change_by, is_there, last_row, with_change, share, changes_upto, TakesUpTo, IsGrown};
 
 use kt_base::NoMemory;
-use kt_history::{ChangeList, Kindly, RowOp, Target};
+use kt_history::{ChangeList, Kindly, OpRef, Target};
 use kt_memrowset::Taken;
 use kt_pool::Pool;
 use std::alloc::Global;
@@ -44,11 +43,9 @@ pub trait RowStore {
         ensures { IfOk result (λ list. list ≡ changes_upto upto (store self.now pool.now)) };
 
     /// Adds the change of an operation, in reserved cells. It tells the store that took it.
-    fn apply_reserved(&mut self, pool: &mut Pool, ts: u64, op: &RowOp, change: Kindly) -> Target
+    fn apply_reserved(&mut self, pool: &mut Pool, ts: u64, op: &OpRef<'_>, change: Kindly) -> Target
         requires stands { stands self.old pool.old }
         requires reserved { share op.now ≤ pool.old.reserved }
-        requires count { length op.now.cells < 2 ^ 16 }
-        requires cells { EachAfter FollowingCell [] op.now.cells }
         requires above { Under ts (hist_in op.now.key (store self.old pool.old)).steps }
         requires fits { fits (change_of change op.now.cells) (last_row (hist_in op.now.key (store self.old pool.old))) ≡ true }
         ensures stands { stands self.new pool.new }
@@ -61,11 +58,9 @@ pub trait RowStore {
 
     /// Adds the change of an operation, if it makes one, in reserved cells. It tells whether the row was there before, and
     /// the store that took the change.
-    fn take(&mut self, pool: &mut Pool, ts: u64, op: &RowOp) -> Taken
+    fn take(&mut self, pool: &mut Pool, ts: u64, op: &OpRef<'_>) -> Taken
         requires stands { stands self.old pool.old }
         requires reserved { share op.now ≤ pool.old.reserved }
-        requires count { length op.now.cells < 2 ^ 16 }
-        requires cells { EachAfter FollowingCell [] op.now.cells }
         requires above { Under ts (hist_in op.now.key (store self.old pool.old)).steps }
         ensures stands { stands self.new pool.new }
         ensures there { result.there ≡ is_there op.now (store self.old pool.old) }

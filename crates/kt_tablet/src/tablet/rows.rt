@@ -1,8 +1,7 @@
 //! The rows of a flying write, applied one by one, and its end.
-ghost use Rattle.std.specs.Prelude.{◌≡◌, ◌+◌, ◌*◌, ◌≤◌, ◌<◌, ◌^◌, ◌==◌, ◌++◌, ◌∷◌, [], length, true, vec_len, vec_capacity};
+ghost use Rattle.std.specs.Prelude.{◌≡◌, ◌+◌, ◌*◌, ◌≤◌, ◌<◌, ◌==◌, ◌++◌, ◌∷◌, [], length, true, vec_len, vec_capacity};
 ghost use Rattle.std.specs.List.{list_any, position, position_or_len};
 ghost use Rattle.kt_pool.specs.Contents.{used};
-ghost use Rattle.kt_records.specs.Rules.{EachAfter, FollowingCell};
 ghost use Rattle.kt_history.specs.Operations.{outcome_of};
 ghost use Rattle.kt_histlaws.specs.Histories.{hist_in};
 ghost use Rattle.kt_histlaws.specs.Flights.{Under};
@@ -14,7 +13,7 @@ use super::{FlyingWrite, Stopped, Tablet};
 use crate::need::cells_of;
 use crate::store::RowStore;
 use kt_base::Clock;
-use kt_history::{Event, OpList, Outcome, OutcomeList, RowOp, outcome};
+use kt_history::{Event, OpList, OpRef, Outcome, OutcomeList, outcome};
 use kt_mvcc::KeyList;
 use kt_pool::Pool;
 use kt_records::{CommitRow, CommitRows, TargetList};
@@ -32,11 +31,9 @@ pub struct WriteEnd {
 }
 
 // Makes the change of an operation, if it makes one, in reserved cells.
-fn change_store<S: RowStore>(store: &mut S, pool: &mut Pool, ts: u64, op: &RowOp) -> CommitRow
+fn change_store<S: RowStore>(store: &mut S, pool: &mut Pool, ts: u64, op: &OpRef<'_>) -> CommitRow
     requires stands { S.stands store.old pool.old }
     requires reserved { share op.now ≤ pool.old.reserved }
-    requires count { length op.now.cells < 2 ^ 16 }
-    requires cells { EachAfter FollowingCell [] op.now.cells }
     requires above { Under ts (hist_in op.now.key (S.store store.old pool.old)).steps }
     ensures stands { S.stands store.new pool.new }
     ensures changed { S.store store.new pool.new ≡ with_change op.now.key ts (change_by op.now (is_there op.now (S.store store.old pool.old))) (S.store store.old pool.old) }
@@ -46,7 +43,7 @@ fn change_store<S: RowStore>(store: &mut S, pool: &mut Pool, ts: u64, op: &RowOp
     ensures vacant { S.store store.new pool.new ≡ [] → used pool.new ≡ used pool.old }
 {
     let taken = store.take(pool, ts, op);
-    let outcome = outcome(op.kind, taken.there);
+    let outcome = outcome(op.kind(), taken.there);
     match taken.target {
         Some(target) => {
             let targets = TargetList::one(target);
@@ -60,11 +57,9 @@ fn change_store<S: RowStore>(store: &mut S, pool: &mut Pool, ts: u64, op: &RowOp
 }
 
 // An operation reaches a store in cells that are promised, and of those that it needs none stays promised.
-fn apply_op<S: RowStore>(store: &mut S, pool: &mut Pool, ts: u64, op: &RowOp) -> CommitRow
+fn apply_op<S: RowStore>(store: &mut S, pool: &mut Pool, ts: u64, op: &OpRef<'_>) -> CommitRow
     requires stands { S.stands store.old pool.old }
     requires reserved { 2 * share op.now ≤ pool.old.reserved }
-    requires count { length op.now.cells < 2 ^ 16 }
-    requires cells { EachAfter FollowingCell [] op.now.cells }
     requires above { Under ts (hist_in op.now.key (S.store store.old pool.old)).steps }
     ensures stands { S.stands store.new pool.new }
     ensures changed { S.store store.new pool.new ≡ with_change op.now.key ts (change_by op.now (is_there op.now (S.store store.old pool.old))) (S.store store.old pool.old) }
@@ -142,8 +137,8 @@ impl<S: RowStore, C: Clock> Tablet<S, C> {
         }
         let place = place_of(&self.flights, number);
         let write = &self.flights[place];
-        let op = &write.ops.as_slice()[at];
-        let row = apply_op(&mut self.store, &mut self.pool, write.ts, op);
+        let op = write.ops.at(at);
+        let row = apply_op(&mut self.store, &mut self.pool, write.ts, &op);
         Ok(note(&mut self.flights[place], row))
     }
 

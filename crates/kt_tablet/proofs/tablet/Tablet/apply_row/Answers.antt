@@ -22,53 +22,27 @@ index-write-requires g c =
     let lt : c.place_of-place.result < length c.self.inside.flights.items = within c.args.number c.self.inside.flights.items c.place_of-place.result place in
     search rules
 
-pub offset_bounds-as_slice-at : goal.offset_bounds-as_slice-at
-offset_bounds-as_slice-at g c =
+pub at-op-requires : goal.at-op-requires
+at-op-requires g c =
     let may = of_old (λ core. MayApply core c.args.number c.args.at) _ _ c.self.view_is c.requires c.if-self.false in
     let place = placed_is c.args.number c.place_of-place.result c.self.inside.flights.items c.deref.result.now may.flight may.flies c.deref.ensures.value c.place_of-place.ensures in
-    let more = more_at _ c.args.number c.args.at c.place_of-place.result c.self.inside.flights.items c.index-write.result.now refl may place c.index-write.ensures in
-    let lt : c.args.at < length c.as_slice.result.now = subst (λ os. c.args.at < length os) (sym c.as_slice.ensures) more in
-    search rules
-
-pub bounds-as_slice-at : goal.bounds-as_slice-at
-bounds-as_slice-at g c =
-    let may = of_old (λ core. MayApply core c.args.number c.args.at) _ _ c.self.view_is c.requires c.if-self.false in
-    let place = placed_is c.args.number c.place_of-place.result c.self.inside.flights.items c.deref.result.now may.flight may.flies c.deref.ensures.value c.place_of-place.ensures in
-    let more = more_at _ c.args.number c.args.at c.place_of-place.result c.self.inside.flights.items c.index-write.result.now refl may place c.index-write.ensures in
-    let lt : c.args.at < length c.as_slice.result.now = subst (λ os. c.args.at < length os) (sym c.as_slice.ensures) more in
-    lt
+    more_at _ c.args.number c.args.at c.place_of-place.result c.self.inside.flights.items c.index-write.result.now refl may place c.index-write.ensures
 
 pub apply_op-row-requires-clause-reserved : goal.apply_op-row-requires-clause-reserved
 apply_op-row-requires-clause-reserved g c =
     let may = of_old (λ core. MayApply core c.args.number c.args.at) _ _ c.self.view_is c.requires c.if-self.false in
     let place = placed_is c.args.number c.place_of-place.result c.self.inside.flights.items c.deref.result.now may.flight may.flies c.deref.ensures.value c.place_of-place.ensures in
-    let v = applying _ c.args.number c.args.at c.place_of-place.result c.self.inside.flights.items c.index-write.result.now c.index-as_slice-at.result c.as_slice.result.now refl may place c.index-write.ensures c.as_slice.ensures c.index-as_slice-at.is in
+    let v = applying _ c.args.number c.args.at c.place_of-place.result c.self.inside.flights.items c.index-write.result.now c.at-op.result refl may place c.index-write.ensures c.at-op.ensures in
     let room = has_room _ _ _ _ _ _ _ _ _ _ _ _ c.self.invariant.1 v in
     room.needs
-
-pub apply_op-row-requires-clause-count : goal.apply_op-row-requires-clause-count
-apply_op-row-requires-clause-count g c =
-    let may = of_old (λ core. MayApply core c.args.number c.args.at) _ _ c.self.view_is c.requires c.if-self.false in
-    let place = placed_is c.args.number c.place_of-place.result c.self.inside.flights.items c.deref.result.now may.flight may.flies c.deref.ensures.value c.place_of-place.ensures in
-    let v = applying _ c.args.number c.args.at c.place_of-place.result c.self.inside.flights.items c.index-write.result.now c.index-as_slice-at.result c.as_slice.result.now refl may place c.index-write.ensures c.as_slice.ensures c.index-as_slice-at.is in
-    let room = has_room _ _ _ _ _ _ _ _ _ _ _ _ c.self.invariant.1 v in
-    room.cells.count
-
-pub apply_op-row-requires-clause-cells : goal.apply_op-row-requires-clause-cells
-apply_op-row-requires-clause-cells g c =
-    let may = of_old (λ core. MayApply core c.args.number c.args.at) _ _ c.self.view_is c.requires c.if-self.false in
-    let place = placed_is c.args.number c.place_of-place.result c.self.inside.flights.items c.deref.result.now may.flight may.flies c.deref.ensures.value c.place_of-place.ensures in
-    let v = applying _ c.args.number c.args.at c.place_of-place.result c.self.inside.flights.items c.index-write.result.now c.index-as_slice-at.result c.as_slice.result.now refl may place c.index-write.ensures c.as_slice.ensures c.index-as_slice-at.is in
-    let room = has_room _ _ _ _ _ _ _ _ _ _ _ _ c.self.invariant.1 v in
-    room.cells.cells
 
 pub apply_op-row-requires-clause-above : goal.apply_op-row-requires-clause-above
 apply_op-row-requires-clause-above g c =
     let may = of_old (λ core. MayApply core c.args.number c.args.at) _ _ c.self.view_is c.requires c.if-self.false in
     let place = placed_is c.args.number c.place_of-place.result c.self.inside.flights.items c.deref.result.now may.flight may.flies c.deref.ensures.value c.place_of-place.ensures in
-    let v = applying _ c.args.number c.args.at c.place_of-place.result c.self.inside.flights.items c.index-write.result.now c.index-as_slice-at.result c.as_slice.result.now refl may place c.index-write.ensures c.as_slice.ensures c.index-as_slice-at.is in
-    under_store c.self.inside.fill c.index-as_slice-at.result.key c.index-write.result.now.ts (g.S.RowStore.store c.self.inside.store c.self.inside.pool)
-    (under_next g.C.Clock.readings _ c.place_of-place.result c.index-write.result.now.ts c.index-as_slice-at.result _ c.self.invariant.0 refl (next_here c.self.inside.flights.items c.args.number c.args.at c.place_of-place.result c.index-write.result.now c.index-as_slice-at.result v))
+    let v = applying _ c.args.number c.args.at c.place_of-place.result c.self.inside.flights.items c.index-write.result.now c.at-op.result refl may place c.index-write.ensures c.at-op.ensures in
+    under_store c.self.inside.fill c.at-op.result.key c.index-write.result.now.ts (g.S.RowStore.store c.self.inside.store c.self.inside.pool)
+    (under_next g.C.Clock.readings _ c.place_of-place.result c.index-write.result.now.ts c.at-op.result _ c.self.invariant.0 refl (next_here c.self.inside.flights.items c.args.number c.args.at c.place_of-place.result c.index-write.result.now c.at-op.result v))
 
 pub index_mut-requires : goal.index_mut-requires
 index_mut-requires g c =
@@ -81,9 +55,9 @@ pub note-requires-clause-more : goal.note-requires-clause-more
 note-requires-clause-more g c =
     let may = of_old (λ core. MayApply core c.args.number c.args.at) _ _ c.self.view_is c.requires c.if-self.false in
     let place = placed_is c.args.number c.place_of-place.result c.self.inside.flights.items c.deref.result.now may.flight may.flies c.deref.ensures.value c.place_of-place.ensures in
-    let v = applying _ c.args.number c.args.at c.place_of-place.result c.self.inside.flights.items c.index-write.result.now c.index-as_slice-at.result c.as_slice.result.now refl may place c.index-write.ensures c.as_slice.ensures c.index-as_slice-at.is in
+    let v = applying _ c.args.number c.args.at c.place_of-place.result c.self.inside.flights.items c.index-write.result.now c.at-op.result refl may place c.index-write.ensures c.at-op.ensures in
     let same = same_place c.self.inside.flights.items c.place_of-place.result c.index-write.result.now c.index_mut.result.now (within c.args.number c.self.inside.flights.items c.place_of-place.result place) c.index-write.ensures c.index_mut.ensures.value in
-    let a = subst (λ w. Applying c.self.inside.flights.items c.args.number c.args.at c.place_of-place.result w c.index-as_slice-at.result) same v in
+    let a = subst (λ w. Applying c.self.inside.flights.items c.args.number c.args.at c.place_of-place.result w c.at-op.result) same v in
     let room = has_room _ _ _ _ _ _ _ _ _ _ _ _ c.self.invariant.1 a in
     room.more
 
@@ -91,9 +65,9 @@ pub note-requires-clause-outcome_room : goal.note-requires-clause-outcome_room
 note-requires-clause-outcome_room g c =
     let may = of_old (λ core. MayApply core c.args.number c.args.at) _ _ c.self.view_is c.requires c.if-self.false in
     let place = placed_is c.args.number c.place_of-place.result c.self.inside.flights.items c.deref.result.now may.flight may.flies c.deref.ensures.value c.place_of-place.ensures in
-    let v = applying _ c.args.number c.args.at c.place_of-place.result c.self.inside.flights.items c.index-write.result.now c.index-as_slice-at.result c.as_slice.result.now refl may place c.index-write.ensures c.as_slice.ensures c.index-as_slice-at.is in
+    let v = applying _ c.args.number c.args.at c.place_of-place.result c.self.inside.flights.items c.index-write.result.now c.at-op.result refl may place c.index-write.ensures c.at-op.ensures in
     let same = same_place c.self.inside.flights.items c.place_of-place.result c.index-write.result.now c.index_mut.result.now (within c.args.number c.self.inside.flights.items c.place_of-place.result place) c.index-write.ensures c.index_mut.ensures.value in
-    let a = subst (λ w. Applying c.self.inside.flights.items c.args.number c.args.at c.place_of-place.result w c.index-as_slice-at.result) same v in
+    let a = subst (λ w. Applying c.self.inside.flights.items c.args.number c.args.at c.place_of-place.result w c.at-op.result) same v in
     let room = has_room _ _ _ _ _ _ _ _ _ _ _ _ c.self.invariant.1 a in
     room.outcomes
 
@@ -101,9 +75,9 @@ pub note-requires-clause-row_room : goal.note-requires-clause-row_room
 note-requires-clause-row_room g c =
     let may = of_old (λ core. MayApply core c.args.number c.args.at) _ _ c.self.view_is c.requires c.if-self.false in
     let place = placed_is c.args.number c.place_of-place.result c.self.inside.flights.items c.deref.result.now may.flight may.flies c.deref.ensures.value c.place_of-place.ensures in
-    let v = applying _ c.args.number c.args.at c.place_of-place.result c.self.inside.flights.items c.index-write.result.now c.index-as_slice-at.result c.as_slice.result.now refl may place c.index-write.ensures c.as_slice.ensures c.index-as_slice-at.is in
+    let v = applying _ c.args.number c.args.at c.place_of-place.result c.self.inside.flights.items c.index-write.result.now c.at-op.result refl may place c.index-write.ensures c.at-op.ensures in
     let same = same_place c.self.inside.flights.items c.place_of-place.result c.index-write.result.now c.index_mut.result.now (within c.args.number c.self.inside.flights.items c.place_of-place.result place) c.index-write.ensures c.index_mut.ensures.value in
-    let a = subst (λ w. Applying c.self.inside.flights.items c.args.number c.args.at c.place_of-place.result w c.index-as_slice-at.result) same v in
+    let a = subst (λ w. Applying c.self.inside.flights.items c.args.number c.args.at c.place_of-place.result w c.at-op.result) same v in
     let room = has_room _ _ _ _ _ _ _ _ _ _ _ _ c.self.invariant.1 a in
     room.rows
 
@@ -111,44 +85,44 @@ pub invariant_of-self : goal.invariant_of-self
 invariant_of-self g c =
     let may = of_old (λ core. MayApply core c.args.number c.args.at) _ _ c.self.view_is c.requires c.if-self.false in
     let place = placed_is c.args.number c.place_of-place.result c.self.inside.flights.items c.deref.result.now may.flight may.flies c.deref.ensures.value c.place_of-place.ensures in
-    let v = applying _ c.args.number c.args.at c.place_of-place.result c.self.inside.flights.items c.index-write.result.now c.index-as_slice-at.result c.as_slice.result.now refl may place c.index-write.ensures c.as_slice.ensures c.index-as_slice-at.is in
+    let v = applying _ c.args.number c.args.at c.place_of-place.result c.self.inside.flights.items c.index-write.result.now c.at-op.result refl may place c.index-write.ensures c.at-op.ensures in
     let same = same_place c.self.inside.flights.items c.place_of-place.result c.index-write.result.now c.index_mut.result.now (within c.args.number c.self.inside.flights.items c.place_of-place.result place) c.index-write.ensures c.index_mut.ensures.value in
-    let a = subst (λ w. Applying c.self.inside.flights.items c.args.number c.args.at c.place_of-place.result w c.index-as_slice-at.result) same v in
-    let under = under_next g.C.Clock.readings _ c.place_of-place.result c.index_mut.result.now.ts c.index-as_slice-at.result _ c.self.invariant.0 refl (next_here c.self.inside.flights.items c.args.number c.args.at c.place_of-place.result c.index_mut.result.now c.index-as_slice-at.result a) in
-    let changed = c.apply_op-row.ensures.changed ∙ ap (λ w. with_change c.index-as_slice-at.result.key w.ts (change_by c.index-as_slice-at.result (is_there c.index-as_slice-at.result (g.S.RowStore.store c.self.inside.store c.self.inside.pool))) (g.S.RowStore.store c.self.inside.store c.self.inside.pool)) same in
-    let stores = store_applied c.self.inside.fill c.index-as_slice-at.result c.index_mut.result.now.ts (g.S.RowStore.store c.self.inside.store c.self.inside.pool) _ under changed in
+    let a = subst (λ w. Applying c.self.inside.flights.items c.args.number c.args.at c.place_of-place.result w c.at-op.result) same v in
+    let under = under_next g.C.Clock.readings _ c.place_of-place.result c.index_mut.result.now.ts c.at-op.result _ c.self.invariant.0 refl (next_here c.self.inside.flights.items c.args.number c.args.at c.place_of-place.result c.index_mut.result.now c.at-op.result a) in
+    let changed = c.apply_op-row.ensures.changed ∙ ap (λ w. with_change c.at-op.result.key w.ts (change_by c.at-op.result (is_there c.at-op.result (g.S.RowStore.store c.self.inside.store c.self.inside.pool))) (g.S.RowStore.store c.self.inside.store c.self.inside.pool)) same in
+    let stores = store_applied c.self.inside.fill c.at-op.result c.index_mut.result.now.ts (g.S.RowStore.store c.self.inside.store c.self.inside.pool) _ under changed in
     let flies = aloft_set c.self.inside.flights.items c.place_of-place.result c.index_mut.result.now c.note.new.write a.here (ap aloft_of c.note.ensures.write) in
-    let outcome = ap (λ r. r.outcome) c.apply_op-row.ensures.row ∙ outcome_live c.self.inside.fill c.index-as_slice-at.result c.index_mut.result.now.ts (g.S.RowStore.store c.self.inside.store c.self.inside.pool) under in
+    let outcome = ap (λ r. r.outcome) c.apply_op-row.ensures.row ∙ outcome_live c.self.inside.fill c.at-op.result c.index_mut.result.now.ts (g.S.RowStore.store c.self.inside.store c.self.inside.pool) under in
     let written = c.apply_op-row.ensures.row ∙ ap (commit_row (g.S.RowStore.target c.self.inside.store)) (sym (ap (λ r. r.outcome) c.apply_op-row.ensures.row)) in (
-      apply_sound g.C.Clock.readings _ c.place_of-place.result c.index_mut.result.now.ts c.index-as_slice-at.result _ _ _ _ _ c.self.invariant.0 refl (next_here c.self.inside.flights.items c.args.number c.args.at c.place_of-place.result c.index_mut.result.now c.index-as_slice-at.result a) flies stores,
-      ready_applied _ _ _ _ _ _ _ _ c.args.number c.place_of-place.result c.args.at c.index_mut.result.now c.note.new.write c.index-as_slice-at.result
+      apply_sound g.C.Clock.readings _ c.place_of-place.result c.index_mut.result.now.ts c.at-op.result _ _ _ _ _ c.self.invariant.0 refl (next_here c.self.inside.flights.items c.args.number c.args.at c.place_of-place.result c.index_mut.result.now c.at-op.result a) flies stores,
+      ready_applied _ _ _ _ _ _ _ _ c.args.number c.place_of-place.result c.args.at c.index_mut.result.now c.note.new.write c.at-op.result
           c.self.invariant.1 a c.note.ensures.write c.note.ensures.outcome_room c.note.ensures.row_room c.apply_op-row.ensures.promised,
       c.apply_op-row.ensures.stands,
-      told_applied g.C.Clock.readings _ c.args.number c.args.at c.place_of-place.result c.self.inside.flights.items c.index_mut.result.now c.note.new.write c.index-as_slice-at.result c.apply_op-row.result.outcome c.apply_op-row.result _ c.self.invariant.0 refl a
+      told_applied g.C.Clock.readings _ c.args.number c.args.at c.place_of-place.result c.self.inside.flights.items c.index_mut.result.now c.note.new.write c.at-op.result c.apply_op-row.result.outcome c.apply_op-row.result _ c.self.invariant.0 refl a
           outcome c.note.ensures.write c.note.ensures.outcomes c.note.ensures.rows written c.apply_op-row.ensures.name c.self.invariant.3,
-      vacant_applied c.self.inside.fill c.index-as_slice-at.result.key c.index_mut.result.now.ts _ (g.S.RowStore.store c.self.inside.store c.self.inside.pool) _ c.self.inside.pool c.apply_op-row.new.pool changed c.apply_op-row.ensures.vacant c.self.invariant.4,
+      vacant_applied c.self.inside.fill c.at-op.result.key c.index_mut.result.now.ts _ (g.S.RowStore.store c.self.inside.store c.self.inside.pool) _ c.self.inside.pool c.apply_op-row.new.pool changed c.apply_op-row.ensures.vacant c.self.invariant.4,
     )
 
 pub returns-clause-applied : goal.returns-clause-applied
 returns-clause-applied g c =
     let may = of_old (λ core. MayApply core c.args.number c.args.at) _ _ c.self.view_is c.requires c.if-self.false in
     let place = placed_is c.args.number c.place_of-place.result c.self.inside.flights.items c.deref.result.now may.flight may.flies c.deref.ensures.value c.place_of-place.ensures in
-    let v = applying _ c.args.number c.args.at c.place_of-place.result c.self.inside.flights.items c.index-write.result.now c.index-as_slice-at.result c.as_slice.result.now refl may place c.index-write.ensures c.as_slice.ensures c.index-as_slice-at.is in
+    let v = applying _ c.args.number c.args.at c.place_of-place.result c.self.inside.flights.items c.index-write.result.now c.at-op.result refl may place c.index-write.ensures c.at-op.ensures in
     let same = same_place c.self.inside.flights.items c.place_of-place.result c.index-write.result.now c.index_mut.result.now (within c.args.number c.self.inside.flights.items c.place_of-place.result place) c.index-write.ensures c.index_mut.ensures.value in
-    let a = subst (λ w. Applying c.self.inside.flights.items c.args.number c.args.at c.place_of-place.result w c.index-as_slice-at.result) same v in
-    let under = under_next g.C.Clock.readings _ c.place_of-place.result c.index_mut.result.now.ts c.index-as_slice-at.result _ c.self.invariant.0 refl (next_here c.self.inside.flights.items c.args.number c.args.at c.place_of-place.result c.index_mut.result.now c.index-as_slice-at.result a) in
-    let changed = c.apply_op-row.ensures.changed ∙ ap (λ w. with_change c.index-as_slice-at.result.key w.ts (change_by c.index-as_slice-at.result (is_there c.index-as_slice-at.result (g.S.RowStore.store c.self.inside.store c.self.inside.pool))) (g.S.RowStore.store c.self.inside.store c.self.inside.pool)) same in
-    let stores = store_applied c.self.inside.fill c.index-as_slice-at.result c.index_mut.result.now.ts (g.S.RowStore.store c.self.inside.store c.self.inside.pool) _ under changed in
+    let a = subst (λ w. Applying c.self.inside.flights.items c.args.number c.args.at c.place_of-place.result w c.at-op.result) same v in
+    let under = under_next g.C.Clock.readings _ c.place_of-place.result c.index_mut.result.now.ts c.at-op.result _ c.self.invariant.0 refl (next_here c.self.inside.flights.items c.args.number c.args.at c.place_of-place.result c.index_mut.result.now c.at-op.result a) in
+    let changed = c.apply_op-row.ensures.changed ∙ ap (λ w. with_change c.at-op.result.key w.ts (change_by c.at-op.result (is_there c.at-op.result (g.S.RowStore.store c.self.inside.store c.self.inside.pool))) (g.S.RowStore.store c.self.inside.store c.self.inside.pool)) same in
+    let stores = store_applied c.self.inside.fill c.at-op.result c.index_mut.result.now.ts (g.S.RowStore.store c.self.inside.store c.self.inside.pool) _ under changed in
     let flies = aloft_set c.self.inside.flights.items c.place_of-place.result c.index_mut.result.now c.note.new.write a.here (ap aloft_of c.note.ensures.write) in
-    has_applied _ _ c.args.number c.args.at c.place_of-place.result c.self.inside.flights.items c.index_mut.result.now c.index-as_slice-at.result c.note.result _ _ c.self.view_is refl a flies stores
+    has_applied _ _ c.args.number c.args.at c.place_of-place.result c.self.inside.flights.items c.index_mut.result.now c.at-op.result c.note.result _ _ c.self.view_is refl a flies stores
 
 pub returns-clause-run : goal.returns-clause-run
 returns-clause-run g c =
     let may = of_old (λ core. MayApply core c.args.number c.args.at) _ _ c.self.view_is c.requires c.if-self.false in
     let place = placed_is c.args.number c.place_of-place.result c.self.inside.flights.items c.deref.result.now may.flight may.flies c.deref.ensures.value c.place_of-place.ensures in
-    let v = applying _ c.args.number c.args.at c.place_of-place.result c.self.inside.flights.items c.index-write.result.now c.index-as_slice-at.result c.as_slice.result.now refl may place c.index-write.ensures c.as_slice.ensures c.index-as_slice-at.is in
+    let v = applying _ c.args.number c.args.at c.place_of-place.result c.self.inside.flights.items c.index-write.result.now c.at-op.result refl may place c.index-write.ensures c.at-op.ensures in
     let same = same_place c.self.inside.flights.items c.place_of-place.result c.index-write.result.now c.index_mut.result.now (within c.args.number c.self.inside.flights.items c.place_of-place.result place) c.index-write.ensures c.index_mut.ensures.value in
-    let a = subst (λ w. Applying c.self.inside.flights.items c.args.number c.args.at c.place_of-place.result w c.index-as_slice-at.result) same v in
-    let under = under_next g.C.Clock.readings _ c.place_of-place.result c.index_mut.result.now.ts c.index-as_slice-at.result _ c.self.invariant.0 refl (next_here c.self.inside.flights.items c.args.number c.args.at c.place_of-place.result c.index_mut.result.now c.index-as_slice-at.result a) in
-    let outcome = ap (λ r. r.outcome) c.apply_op-row.ensures.row ∙ outcome_live c.self.inside.fill c.index-as_slice-at.result c.index_mut.result.now.ts (g.S.RowStore.store c.self.inside.store c.self.inside.pool) under in
-    run_outcome g.C.Clock.readings _ _ c.args.number c.args.at c.place_of-place.result c.self.inside.flights.items c.index_mut.result.now c.index-as_slice-at.result c.note.result c.self.view_is c.self.invariant.0 refl a (c.note.ensures.outcome ∙ outcome)
+    let a = subst (λ w. Applying c.self.inside.flights.items c.args.number c.args.at c.place_of-place.result w c.at-op.result) same v in
+    let under = under_next g.C.Clock.readings _ c.place_of-place.result c.index_mut.result.now.ts c.at-op.result _ c.self.invariant.0 refl (next_here c.self.inside.flights.items c.args.number c.args.at c.place_of-place.result c.index_mut.result.now c.at-op.result a) in
+    let outcome = ap (λ r. r.outcome) c.apply_op-row.ensures.row ∙ outcome_live c.self.inside.fill c.at-op.result c.index_mut.result.now.ts (g.S.RowStore.store c.self.inside.store c.self.inside.pool) under in
+    run_outcome g.C.Clock.readings _ _ c.args.number c.args.at c.place_of-place.result c.self.inside.flights.items c.index_mut.result.now c.at-op.result c.note.result c.self.view_is c.self.invariant.0 refl a (c.note.ensures.outcome ∙ outcome)

@@ -1,4 +1,6 @@
-use Rattle.std.proofs.Common.{◌≡◌, ◌∙◌, ap, sym}
+use Rattle.std.proofs.Common.{◌∙◌, ap, sym}
+use Rattle.kt_history.specs.declared.operation.OpKind.{OpKind}
+use Rattle.kt_history.specs.Operations.{outcome_of}
 use Rattle.kt_pool.specs.Contents.{used}
 use Rattle.kt_tablet.specs.Stores.{change_by, is_there, with_change}
 use Rattle.kt_tablet.proofs.Applying.{named_one, named_none, row_is}
@@ -14,13 +16,13 @@ returns-in-None-clause-changed g c = c.take-taken.ensures.changed ∙ ap (λ b. 
 pub returns-in-Some-clause-row : goal.returns-in-Some-clause-row
 returns-in-Some-clause-row g c =
     let store = g.S.RowStore.store c.args.store.now c.args.pool.now in
-    row_is c.args.op.now.kind c.take-taken.result.there (is_there c.args.op.now store) (g.S.RowStore.target c.args.store.now) _ _ c.take-taken.ensures.there c.outcome-outcome.ensures
+    row_is c.args.op.now.kind c.take-taken.result.there (is_there c.args.op.now store) (g.S.RowStore.target c.args.store.now) _ _ c.take-taken.ensures.there (c.outcome-outcome.ensures ∙ ap (λ (k : OpKind). outcome_of k c.take-taken.result.there) c.kind.ensures)
     (c.one-targets.ensures ∙ named_one c.args.op.now.kind c.take-taken.result.there (g.S.RowStore.target c.args.store.now) c.in-Some.target (sym c.in-Some.is ∙ c.take-taken.ensures.named))
 
 pub returns-in-None-clause-row : goal.returns-in-None-clause-row
 returns-in-None-clause-row g c =
     let store = g.S.RowStore.store c.args.store.now c.args.pool.now in
-    row_is c.args.op.now.kind c.take-taken.result.there (is_there c.args.op.now store) (g.S.RowStore.target c.args.store.now) _ _ c.take-taken.ensures.there c.outcome-outcome.ensures
+    row_is c.args.op.now.kind c.take-taken.result.there (is_there c.args.op.now store) (g.S.RowStore.target c.args.store.now) _ _ c.take-taken.ensures.there (c.outcome-outcome.ensures ∙ ap (λ (k : OpKind). outcome_of k c.take-taken.result.there) c.kind.ensures)
     (c.none-targets.ensures ∙ named_none c.args.op.now.kind c.take-taken.result.there (g.S.RowStore.target c.args.store.now) (sym c.in-None.is ∙ c.take-taken.ensures.named))
 
 pub returns-in-Some-clause-vacant : goal.returns-in-Some-clause-vacant
