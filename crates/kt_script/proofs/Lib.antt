@@ -58,5 +58,7 @@ pub mod Packed
 pub mod ByName
 pub mod NamedForm
 pub mod OpForms
+pub mod OpSpelled
+pub mod RisingKeys
 pub mod WriteLaws
 pub mod FirstWords

@@ -23,9 +23,13 @@ ops_split (w ∷ words) = by (same w (codes ";")) (ops_split words)
     by true e = refl
     by false e = ap (onto_first w) e
 
+-- what stands at a place, and what is behind it
+pub next_one : {A : Type 0} (xs : List A) (i : ℕ) (x : A) → i < length xs → x ≡ get_or xs i x → drop i xs ≡ x ∷ drop (i + 1) xs
+next_one xs i x h e = rw add-one (drop-cons xs i x h ∙ ap (λ y. y ∷ drop (suc i) xs) (sym e))
+
 -- the column at a place, and those behind it
 pub next_column : (columns : List Column) (i : ℕ) (c : Column) → i < length columns → c ≡ get_or columns i c → drop i columns ≡ c ∷ drop (i + 1) columns
-next_column columns i c h e = rw add-one (drop-cons columns i c h ∙ ap (λ x. x ∷ drop (suc i) columns) (sym e))
+next_column columns i c h e = next_one columns i c h e
 
 pub same_op : (k : OpKind) (key other : List ℕ) (cells more : List (ℕ × Cell)) → key ≡ other → cells ≡ more → ◌≡◌ {A = RowOp} (record { kind = k; key = key; cells = cells }) (record { kind = k; key = other; cells = more })
 same_op k key other cells more e f = ap (λ (x : List ℕ). record { kind = k; key = x; cells = cells }) e ∙ ap (λ (x : List (ℕ × Cell)). record { kind = k; key = other; cells = x }) f
@@ -54,15 +58,23 @@ counted kept new more n a b q o r x y few room la lb (inr f) (inl g) (inr h) = o
 counted kept new more n a b q o r x y few room la lb (inr f) (inr g) (inl h) = omega arith
 counted kept new more n a b q o r x y few room la lb (inr f) (inr g) (inr h) = omega arith
 
+-- once a reason up to 17 holds, the number of operations does not matter
+early : (n a b q o r x y : ℕ) → b ≤ 17 → a ≡ min n q → b ≡ min a r → 18 ≤ r → 18 ≤ x → 18 ≤ y → min b (min o x) ≡ min n (min (min q o) y)
+early n a b q o r x y low la lb lr lx ly = omega arith
+
 -- one more operation
 pub least_op : (columns : List Column) (words : List (List ℕ)) (rest : List (List (List ℕ))) (kept new n a b : ℕ) → rest ≡ later_ops words → kept ≤ 64
-    → a ≡ min n (op_no columns (first_op words)) → b ≡ min a (reason_if (nat_lt 63 kept) 18) → new ≡ min 64 (kept + 1)
+    → a ≡ min n (op_no columns (first_op words)) → b ≡ min a (reason_if (nat_lt 63 kept) 18) → (17 < b → new ≡ min 64 (kept + 1))
     → min b (min (ops_no columns rest) (many_no new rest)) ≡ min n (min (ops_no columns (ops_of words)) (many_no kept (ops_of words)))
 least_op columns words rest kept new n a b is few la lb room =
-    let later = later_ops words in
-    ap (λ ops. min b (min (ops_no columns ops) (many_no new ops))) is
-    ∙ (counted kept new (length later) n a b (op_no columns (first_op words)) (ops_no columns later) (reason_if (nat_lt 63 kept) 18) (many_no new later) (many_no kept (first_op words ∷ later)) few room la lb (limit 63 kept 18) (limit 64 (new + length later) 18) (limit 64 (kept + suc (length later)) 18)
-    ∙ ap (λ ops. min n (min (ops_no columns ops) (many_no kept ops))) (sym (ops_split words)))
+    ap (λ ops. min b (min (ops_no columns ops) (many_no new ops))) is ∙ (step ∙ ap (λ ops. min n (min (ops_no columns ops) (many_no kept ops))) (sym (ops_split words)))
+  where
+    step : min b (min (ops_no columns (later_ops words)) (many_no new (later_ops words))) ≡ min n (min (min (op_no columns (first_op words)) (ops_no columns (later_ops words))) (many_no kept (first_op words ∷ later_ops words)))
+    step = elim (cases_lt 17 b) [
+      | inl lt ↦ counted kept new (length (later_ops words)) n a b (op_no columns (first_op words)) (ops_no columns (later_ops words)) (reason_if (nat_lt 63 kept) 18) (many_no new (later_ops words)) (many_no kept (first_op words ∷ later_ops words)) few (room lt) la lb (limit 63 kept 18) (limit 64 (new + length (later_ops words)) 18) (limit 64 (kept + suc (length (later_ops words))) 18)
+      | inr past ↦ early n a b (op_no columns (first_op words)) (ops_no columns (later_ops words)) (reason_if (nat_lt 63 kept) 18) (many_no new (later_ops words)) (many_no kept (first_op words ∷ later_ops words)) past la lb
+          (late (nat_lt 63 kept) 18 (omega arith)).0 (late (nat_lt 64 (new + length (later_ops words))) 18 (omega arith)).0 (late (nat_lt 64 (kept + suc (length (later_ops words)))) 18 (omega arith)).0
+    ]
 
 pub ops_more : (columns : List Column) (words : List (List ℕ)) (left rest : List (List (List ℕ))) (kept new all : List RowOp) (o : RowOp) → left ≡ ops_of words → rest ≡ later_ops words → o ≡ op_of columns (first_op words)
     → new ≡ kept ++ o ∷ [] → kept ++ map (op_of columns) left ≡ all → new ++ map (op_of columns) rest ≡ all

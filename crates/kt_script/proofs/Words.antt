@@ -1,5 +1,5 @@
 -- Words with spaces between them, one more at the end.
-use Rattle.std.proofs.Common.{◌≡◌, ℕ, zero, suc, ◌+◌, ◌<◌, ◌≤◌, List, [], ◌∷◌, ◌++◌, refl, sym, ap, ◌∙◌, arith, length, take, get_or, map, append_assoc, add-one}
+use Rattle.std.proofs.Common.{◌≡◌, ℕ, zero, suc, ◌+◌, ◌<◌, ◌≤◌, List, [], ◌∷◌, ◌++◌, refl, sym, ap, ◌∙◌, arith, length, min, take, get_or, map, append_assoc, add-one}
 use Rattle.std.proofs.lemmas.List.{take_more, length-map, length-take}
 use Rattle.std.proofs.lemmas.Grind.{flat_map-append}
 use mathlib.Core.List.{map-append, append-nil}
@@ -56,11 +56,13 @@ row_more k c kinds cells at first out mid new h g is space_is new_is =
     rw (add-one, literals_more k c kinds cells at h g, new_is, space_is, is) (simp append_assoc)
 
 -- cells without a column are not printed
-pub literals_cut : (kinds : List Kind) (cells : List Cell) → literals kinds (take (length kinds) cells) ≡ literals kinds cells
-literals_cut [] [] = refl
-literals_cut [] (c ∷ cells) = refl
-literals_cut (k ∷ kinds) [] = refl
-literals_cut (k ∷ kinds) (c ∷ cells) = ap (λ rest. literal k c ∷ rest) (literals_cut kinds cells)
+pub literals_end : (kinds : List Kind) (cells : List Cell) (n : ℕ) → n ≤ length cells → min (length cells) (length kinds) ≤ n → literals kinds (take n cells) ≡ literals kinds cells
+literals_end kinds [] zero h g = refl
+literals_end kinds [] (suc n) h g = refl
+literals_end [] (c ∷ cells) zero h g = refl
+literals_end [] (c ∷ cells) (suc n) h g = refl
+literals_end (k ∷ kinds) (c ∷ cells) zero h g = absurd (omega arith)
+literals_end (k ∷ kinds) (c ∷ cells) (suc n) h g = ap (λ rest. literal k c ∷ rest) (literals_end kinds cells n (omega arith) (omega arith))
 
 -- one more session
 pub told_more : (k : ℕ) (xs : List (List ReplyLine)) (rs : List ReplyLine) → told_sessions k (xs ++ rs ∷ []) ≡ told_sessions k xs ++ told_session (k + length xs) rs

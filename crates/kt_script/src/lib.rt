@@ -7,7 +7,7 @@
 //! order of these names alone is read as that script too, and no other text is (`laws::order_law`). `print_output`
 //! appends the one text of the replies, the history and the last line, and `read_output` reads such a text again, with
 //! each row as its line, or tells the first byte at which no output's text goes on. The whole grammar stands in `specs/`
-//! as functions on lists of bytes. It stands on kt_base, kt_key, kt_schema and kt_history.
+//! as functions on lists of bytes. It stands on kt_base, kt_cells, kt_key, kt_schema and kt_history.
 #![tactic(auto)]
 
 pub mod asked;
@@ -42,7 +42,7 @@ pub mod writes;
 
 pub use head::{Table, read_table};
 pub use lists::{KindList, ReplyList, ReplyLists, ShownReply};
-pub use output::{LastLine, print_output};
+pub use output::{LastLine, print_output, print_row};
 pub use print::print_script;
 pub use refusal::ScriptNo;
 pub use replies::{LineList, ReplyLine, ReplyLineList, ReplyLines};

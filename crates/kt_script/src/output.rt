@@ -1,15 +1,15 @@
 //! The output of a run: the replies of each session, the history and the last line.
 
-ghost use Rattle.std.specs.Prelude.{◌≡◌, ◌≤◌, ◌+◌, ◌<◌, ◌++◌, ◌∷◌, [], OnOk, OnErr, length, map, codes};
+ghost use Rattle.std.specs.Prelude.{◌≡◌, ◌+◌, ◌<◌, ◌++◌, ◌∷◌, [], OnOk, OnErr, length, map, codes};
 ghost use Rattle.std.specs.List.{flat_map};
 ghost use Rattle.std.specs.Fmt.{decimal};
-ghost use Rattle.kt_script.specs.Texts.{line, words, literals, row_text, outcome_word, line_words, lines_text, told_session, told_sessions, event_line, last_text, seen, output_text};
+ghost use Rattle.kt_script.specs.Texts.{line, words, row_text, outcome_word, line_words, lines_text, told_session, told_sessions, event_line, last_text, seen, output_text};
 
 use crate::lists::{ReplyLists, ShownReply};
 use crate::number::print_number;
 use kt_base::literal::append_literal;
-use kt_base::{Cell, Kind, NoMemory, Octets, Row};
-use kt_history::{Event, EventList, Outcome, Reply};
+use kt_base::{Kind, NoMemory, Octets};
+use kt_history::{Event, EventList, Outcome, Reply, RowCells, RowList};
 use std::alloc::Global;
 
 /// The end of the output: the ancient history mark, the last timestamp and the count of disk rowsets, or that
@@ -87,43 +87,34 @@ fn print_last(last: &LastLine, out: &mut Octets) -> Result<(), NoMemory>
     }
 }
 
-fn print_cells(kinds: &[Kind], cells: &[Cell], out: &mut Octets) -> Result<(), NoMemory>
-    requires { length cells.now ≤ length kinds.now }
-    ensures ok { OnOk result (out.new ≡ out.old ++ row_text kinds.now cells.now) }
+/// Appends the text of a row under columns of these kinds, without a newline. Without memory a part of it may stand at
+/// the end.
+pub fn print_row(kinds: &[Kind], row: &RowCells<'_>, out: &mut Octets) -> Result<(), NoMemory>
+    ensures ok { OnOk result (out.new ≡ out.old ++ row_text kinds.now row.now) }
 {
-    for (at, cell) in cells.iter().enumerate() {
+    'cells: for at in 0..row.len().min(kinds.len()) {
         if at > 0 {
             out.push(b' ')?;
         }
+        let cell = row.at(at);
         append_literal(cell, kinds[at], out)?;
     }
     Ok(())
 }
 
-// The cells that have a column.
-fn fitting<'a>(kinds: &[Kind], cells: &'a [Cell]) -> &'a [Cell]
-    ensures short { length result.now ≤ length kinds.now }
-    ensures same { literals kinds.now result.now ≡ literals kinds.now cells.now }
-{
-    if cells.len() <= kinds.len() {
-        cells
-    } else {
-        &cells[..kinds.len()]
-    }
-}
-
-fn print_row(kinds: &[Kind], row: &Row, out: &mut Octets) -> Result<(), NoMemory>
+fn print_row_line(kinds: &[Kind], row: &RowCells<'_>, out: &mut Octets) -> Result<(), NoMemory>
     ensures ok { OnOk result (out.new ≡ out.old ++ line (row_text kinds.now row.now)) }
 {
-    print_cells(kinds, fitting(kinds, row.as_slice()), out)?;
+    print_row(kinds, row, out)?;
     out.push(b'\n')
 }
 
-fn print_rows(kinds: &[Kind], rows: &[Row], out: &mut Octets) -> Result<(), NoMemory>
+fn print_rows(kinds: &[Kind], rows: &RowList, out: &mut Octets) -> Result<(), NoMemory>
     ensures ok { OnOk result (out.new ≡ out.old ++ flat_map line (map (row_text kinds.now) rows.now)) }
 {
-    for row in rows {
-        print_row(kinds, row, out)?;
+    'rows: for at in 0..rows.len() {
+        let row = rows.at(at);
+        print_row_line(kinds, &row, out)?;
     }
     Ok(())
 }
@@ -155,7 +146,7 @@ fn print_first(shown: &ShownReply, out: &mut Octets) -> Result<(), NoMemory>
 {
     match &shown.reply {
         Reply::At { ts, outcomes } => print_at(*ts, outcomes.as_slice(), out),
-        Reply::Rows { t, rows } => print_line(b"rows", &[*t, rows.as_slice().len() as u64], out),
+        Reply::Rows { t, rows } => print_line(b"rows", &[*t, rows.len() as u64], out),
         Reply::Ancient { t, a } => print_line(b"ancient", &[*t, *a], out),
         Reply::Busy { t, f } => print_line(b"busy", &[*t, *f], out),
         Reply::Ahm { a } => print_line(b"ahm", &[*a], out),
@@ -170,7 +161,7 @@ fn print_reply(shown: &ShownReply, out: &mut Octets) -> Result<(), NoMemory>
 {
     print_first(shown, out)?;
     match &shown.reply {
-        Reply::Rows { rows, .. } => print_rows(shown.kinds.as_slice(), rows.as_slice(), out),
+        Reply::Rows { rows, .. } => print_rows(shown.kinds.as_slice(), rows, out),
         _ => Ok(()),
     }
 }
@@ -214,6 +205,26 @@ fn print_all(
     print_last(last, out)
 }
 
+// Prints into an empty text, which is empty again where memory runs out.
+fn print_whole(
+    sessions: &ReplyLists,
+    events: &EventList,
+    last: &LastLine,
+    out: &mut Octets,
+) -> Result<(), NoMemory>
+    requires { out.old ≡ [] }
+    ensures ok { OnOk result (out.new ≡ out.old ++ output_text sessions.now events.now last.now) }
+    ensures err { OnErr result (out.new ≡ out.old) }
+{
+    match print_all(sessions, events, last, out) {
+        Ok(()) => Ok(()),
+        Err(no) => {
+            out.clear();
+            Err(no)
+        }
+    }
+}
+
 /// Appends the output text. Without memory nothing is appended.
 pub fn print_output(
     alloc: Global,
@@ -225,6 +236,9 @@ pub fn print_output(
     ensures ok { OnOk result (out.new ≡ out.old ++ output_text sessions.now events.now last.now) }
     ensures err { OnErr result (out.new ≡ out.old) }
 {
+    if out.is_empty() {
+        return print_whole(sessions, events, last, out);
+    }
     let mut text = Octets::new(alloc);
     print_all(sessions, events, last, &mut text)?;
     out.extend(text.as_slice())

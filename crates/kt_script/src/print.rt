@@ -1,11 +1,13 @@
 //! The one text of a script: the names of each operation stand in schema order.
 
-ghost use Rattle.std.specs.Prelude.{◌≡◌, ◌++◌, ◌∷◌, [], OnOk, IfOk, map, codes, All};
+ghost use Rattle.std.specs.Prelude.{◌≡◌, ◌++◌, ◌∷◌, [], OnOk, IfOk, map, drop, codes, All};
 ghost use Rattle.std.specs.Fmt.{decimal};
 ghost use Rattle.std.specs.List.{flat_map};
 ghost use Rattle.std.specs.Option.{option_copied};
 ghost use Rattle.kt_script.specs.Texts.{spaced, words, literals};
+ghost use Rattle.kt_base.specs.Borrowed.{cell_in};
 ghost use Rattle.kt_base.specs.Literals.{literal};
+ghost use Rattle.kt_cells.specs.Borrowed.{cells_in_ref};
 ghost use Rattle.kt_script.specs.Columns.{kind_word};
 ghost use Rattle.kt_script.specs.Writes.{op_word};
 ghost use Rattle.kt_script.specs.Fit.{column_of, PlanFits};
@@ -16,8 +18,9 @@ use crate::leads::print_chore;
 use crate::number::print_number;
 use crate::script::Script;
 use kt_base::literal::append_literal;
-use kt_base::{Cell, Kind, NoMemory, Octets};
-use kt_history::{At, Command, OpKind, Plan, Pred, RowOp, Scan, Test};
+use kt_base::{Cell, CellRef, Kind, NoMemory, Octets};
+use kt_cells::CellsRef;
+use kt_history::{At, Command, OpKind, OpList, OpRef, Plan, Pred, Scan, Test};
 use kt_key::decode_key;
 use kt_schema::{Column, Schema};
 use std::alloc::Global;
@@ -42,7 +45,7 @@ fn print_default(column: &Column, out: &mut Octets) -> Result<(), NoMemory>
     match &column.default {
         Some(cell) => {
             out.extend(b" default ")?;
-            append_literal(cell, column.kind, out)
+            append_literal(CellRef::of(cell), column.kind, out)
         }
         None => Ok(()),
     }
@@ -89,7 +92,7 @@ fn print_literals(kinds: &[Kind], cells: &[Cell], out: &mut Octets) -> Result<()
             return Ok(());
         };
         out.push(b' ')?;
-        append_literal(cell, *kind, out)?;
+        append_literal(CellRef::of(cell), *kind, out)?;
         left = behind;
     }
     Ok(())
@@ -105,8 +108,13 @@ fn print_key(alloc: Global, schema: &Schema, key: &[u8], out: &mut Octets) -> Re
     print_literals(schema.key_kinds(), cells.as_slice(), out)
 }
 
-fn print_cell(named: bool, column: &Column, cell: &Cell, out: &mut Octets) -> Result<(), NoMemory>
-    ensures ok { OnOk result (out.new ≡ out.old ++ 32 ∷ cell_word named column.now cell.now) }
+fn print_cell(
+    named: bool,
+    column: &Column,
+    cell: CellRef<'_>,
+    out: &mut Octets,
+) -> Result<(), NoMemory>
+    ensures ok { OnOk result (out.new ≡ out.old ++ 32 ∷ cell_word named column.now (cell_in cell.entry)) }
 {
     out.push(b' ')?;
     if named {
@@ -120,18 +128,18 @@ fn print_cell(named: bool, column: &Column, cell: &Cell, out: &mut Octets) -> Re
 fn print_cells(
     named: bool,
     columns: &[Column],
-    cells: &[(u16, Cell)],
+    cells: CellsRef<'_>,
     out: &mut Octets,
 ) -> Result<(), NoMemory>
-    ensures ok { OnOk result (out.new ≡ out.old ++ flat_map spaced (cell_words named columns.now cells.now)) }
+    ensures ok { OnOk result (out.new ≡ out.old ++ flat_map spaced (cell_words named columns.now (cells_in_ref cells.entry))) }
 {
     let mut left = cells;
     for column in columns {
-        let Some((cell, behind)) = left.split_first() else {
+        let Some(((id, cell), behind)) = left.split_first() else {
             return Ok(());
         };
-        if column.id == cell.0 {
-            print_cell(named, column, &cell.1, out)?;
+        if column.id == id {
+            print_cell(named, column, cell, out)?;
             left = behind;
         }
     }
@@ -158,28 +166,35 @@ fn is_named(kind: OpKind) -> bool
     !matches!(op_form(kind), OpForm::Literals)
 }
 
-fn print_op(alloc: Global, schema: &Schema, op: &RowOp, out: &mut Octets) -> Result<(), NoMemory>
+fn print_op(
+    alloc: Global,
+    schema: &Schema,
+    op: &OpRef<'_>,
+    out: &mut Octets,
+) -> Result<(), NoMemory>
     requires { IsKey schema.now op.now.key }
     ensures ok { OnOk result (out.new ≡ out.old ++ words (op_words schema.now op.now)) }
 {
-    print_op_word(op.kind, out)?;
-    print_key(alloc, schema, op.key.as_slice(), out)?;
-    let named = is_named(op.kind);
-    print_cells(named, schema.other_columns(), op.cells.as_slice(), out)
+    let kind = op.kind();
+    print_op_word(kind, out)?;
+    print_key(alloc, schema, op.key(), out)?;
+    print_cells(is_named(kind), schema.other_columns(), op.cells(), out)
 }
 
+// Each operation behind the first, with a semicolon before it.
 fn print_more_ops(
     alloc: Global,
     schema: &Schema,
-    ops: &[RowOp],
+    ops: &OpList,
     out: &mut Octets,
 ) -> Result<(), NoMemory>
     requires { All (λ o. IsKey schema.now o.key) ops.now }
-    ensures ok { OnOk result (out.new ≡ out.old ++ flat_map spaced (flat_map (λ vs. codes ";" ∷ vs) (map (op_words schema.now) ops.now))) }
+    ensures ok { OnOk result (out.new ≡ out.old ++ flat_map spaced (flat_map (λ vs. codes ";" ∷ vs) (map (op_words schema.now) (drop 1 ops.now)))) }
 {
-    for op in ops {
+    'ops: for at in 1..ops.len() {
+        let op = ops.at(at);
         out.extend(b" ; ")?;
-        print_op(alloc, schema, op, out)?;
+        print_op(alloc, schema, &op, out)?;
     }
     Ok(())
 }
@@ -187,19 +202,18 @@ fn print_more_ops(
 fn print_write(
     alloc: Global,
     schema: &Schema,
-    ops: &[RowOp],
+    ops: &OpList,
     out: &mut Octets,
 ) -> Result<(), NoMemory>
     requires { All (λ o. IsKey schema.now o.key) ops.now }
     ensures ok { OnOk result (out.new ≡ out.old ++ words (write_words schema.now ops.now)) }
 {
-    match ops.split_first() {
-        Some((first, others)) => {
-            print_op(alloc, schema, first, out)?;
-            print_more_ops(alloc, schema, others, out)
-        }
-        None => Ok(()),
+    if ops.is_empty() {
+        return Ok(());
     }
+    let first = ops.at(0);
+    print_op(alloc, schema, &first, out)?;
+    print_more_ops(alloc, schema, ops, out)
 }
 
 // The column of an id.
@@ -260,7 +274,7 @@ fn print_compared(
     out.push(b' ')?;
     out.extend(column.name.as_slice())?;
     out.extend(sign)?;
-    append_literal(cell, column.kind, out)
+    append_literal(CellRef::of(cell), column.kind, out)
 }
 
 fn print_null(column: &Column, words: &[u8], out: &mut Octets) -> Result<(), NoMemory>
@@ -368,7 +382,7 @@ fn print_command(
     ensures ok { OnOk result (out.new ≡ out.old ++ command_text schema.now command.now) }
 {
     match command {
-        Command::Write(write) => print_write(alloc, schema, write.ops.as_slice(), out),
+        Command::Write(write) => print_write(alloc, schema, &write.ops, out),
         Command::Scan(scan) => print_scan(schema.columns(), scan, out),
         Command::Mark(t) => print_mark(*t, out),
         Command::Chore(chore) => print_chore(*chore, out),

@@ -94,6 +94,7 @@ fn read_command(
     line: &[u8],
     rest: Option<&[u8]>,
 ) -> Result<Command, LineNo>
+    requires { IsTable schema.now }
     ensures { (first : List ℕ) → words_of line.now ≡ first ∷ words_in rest.entry → ReadsCommand schema.now word (words_of line.now) result }
 {
     match word {
@@ -112,6 +113,7 @@ fn read_command_line(
     line: &[u8],
     rest: Option<&[u8]>,
 ) -> Result<(), LineNo>
+    requires { IsTable schema.now }
     ensures { (first : List ℕ) → words_of line.now ≡ first ∷ words_in rest.entry → ReadsLed schema.now sessions.old (Some (lead.Command word)) (words_of line.now) sessions.new result }
 {
     if !sessions.is_begun() {
@@ -131,6 +133,7 @@ fn read_line(
     sessions: &mut Sessions,
     line: &[u8],
 ) -> Result<(), LineNo>
+    requires { IsTable schema.now }
     ensures { ReadsBody schema.now sessions.old (words_of line.now) sessions.new result }
 {
     let (first, rest) = cut_word(line);

@@ -1,11 +1,17 @@
 //! Write lines.
 
-ghost use Rattle.std.specs.Prelude.{◌≡◌, ◌<◌, ◌≤◌, ◌+◌, ◌++◌, ◌∷◌, [], min, map, length, nat_lt, IfOk, OnOk};
+ghost use Rattle.std.specs.Prelude.{◌≡◌, ◌<◌, ◌≤◌, ◌+◌, ◌++◌, ◌∷◌, [], min, map, drop, length, nat_lt, IfOk, OnOk, IsTrue, false};
 ghost use Rattle.std.specs.List.{list_any};
+ghost use Rattle.std.specs.Ordering.{nat_cmp, is_lt};
+ghost use Rattle.std.specs.Cmp.Lexicographic.{slice_cmp};
 ghost use Rattle.kt_base.specs.Literals.{same};
+ghost use Rattle.kt_cells.specs.Rules.{CellListFits};
+ghost use Rattle.kt_cells.specs.Spelling.{cell_list};
 ghost use Rattle.kt_history.specs.declared.operation.RowOp.{RowOp};
+ghost use Rattle.kt_history.specs.Spelled.{OpFits};
 ghost use Rattle.kt_script.specs.declared.forms.OpForm.TheVariants as form;
 ghost use Rattle.kt_script.specs.Pieces.{words_in};
+ghost use Rattle.kt_script.specs.Columns.{IsTable};
 ghost use Rattle.kt_script.specs.Reasons.{no_of, reason_if};
 ghost use Rattle.kt_script.specs.Writes.{rest_no, rest_cells, behind_no, op_form, op_no, op_of, op_said, ops_of, ops_no, many_no, twice, op_in, later_in, ops_in, ReadsWrite};
 
@@ -18,7 +24,9 @@ use crate::operations::{
 };
 use kt_base::limits::OPERATIONS;
 use kt_base::{Cells, NoMemory, Octets};
-use kt_history::{OpKind, OpList, RowOp, Write};
+use kt_cells::Tail;
+use kt_cells::writing::put_cell_list;
+use kt_history::{OpKind, OpList, OpRef, RowOp, Write};
 use kt_schema::{Column, Schema};
 use std::alloc::Global;
 
@@ -160,20 +168,50 @@ fn read_op<'a>(
     }
 }
 
-// Keeps an operation, if there is room for it.
-fn keep_op(ops: &mut Vec<RowOp>, op: RowOp, no: &mut Least) -> Result<(), NoMemory>
-    requires { length ops.old.items ≤ 64 }
-    ensures least { OnOk result (no.new ≡ min no.old (reason_if (nat_lt 63 (length ops.old.items)) 18)) }
-    ensures kept { OnOk result (18 < no.new → ops.new.items ≡ ops.old.items ++ op ∷ []) }
-    ensures room { OnOk result (length ops.new.items ≡ min 64 (length ops.old.items + 1)) }
+// Cells as bytes spell them, in a buffer that is used again.
+fn spelled(buffer: Octets, cells: &Cells) -> Result<Octets, NoMemory>
+    requires { CellListFits cells.now }
+    ensures { IfOk result (λ spelled. spelled ≡ cell_list cells.now) }
+{
+    let mut buffer = buffer;
+    buffer.clear();
+    let mut tail = Tail::of(buffer);
+    put_cell_list(&mut tail, cells)?;
+    Ok(tail.whole())
+}
+
+// Adds an operation, whose cells are spelled in a buffer that is used again.
+fn push_op(ops: &mut OpList, op: &RowOp, buffer: Octets) -> Result<Octets, NoMemory>
+    requires { OpFits op.now }
+    ensures { OnOk result (ops.new ≡ ops.old ++ op.now ∷ []) }
+{
+    let cells = spelled(buffer, &op.cells)?;
+    let key = op.key.as_slice();
+    let bytes = cells.as_slice();
+    let spelled_op = OpRef::of(op.kind, key, bytes);
+    ops.push(&spelled_op)?;
+    Ok(cells)
+}
+
+// Keeps an operation, if there is room for it. One that a reason up to 17 refuses is not kept.
+fn keep_op(ops: &mut OpList, op: &RowOp, buffer: Octets, no: &mut Least) -> Result<Octets, NoMemory>
+    requires held { length ops.old ≤ 64 }
+    requires fits { 17 < no.old → OpFits op.now }
+    ensures least { OnOk result (no.new ≡ min no.old (reason_if (nat_lt 63 (length ops.old)) 18)) }
+    ensures kept { OnOk result (18 < no.new → ops.new ≡ ops.old ++ op.now ∷ []) }
+    ensures room { OnOk result (17 < no.new → length ops.new ≡ min 64 (length ops.old + 1)) }
+    ensures few { OnOk result (length ops.new ≤ 64) }
 {
     if ops.len() >= OPERATIONS {
         no.note(Some(18));
-    } else {
-        no.note(None);
-        ops.push(op)?;
+        return Ok(buffer);
     }
-    Ok(())
+    no.note(None);
+    if no.is_above(17) {
+        push_op(ops, op, buffer)
+    } else {
+        Ok(buffer)
+    }
 }
 
 // The operations of a line. They count only where no reason up to 18 holds.
@@ -182,49 +220,91 @@ fn read_ops(
     schema: &Schema,
     line: Option<&[u8]>,
     no: &mut Least,
-) -> Result<Vec<RowOp>, NoMemory>
-    ensures ops { IfOk result (λ ops. 18 < no.new → ops.items ≡ map (op_of schema.now) (ops_of (words_in line.entry))) }
+) -> Result<OpList, NoMemory>
+    requires { IsTable schema.now }
+    ensures ops { IfOk result (λ ops. 18 < no.new → ops ≡ map (op_of schema.now) (ops_of (words_in line.entry))) }
     ensures least { OnOk result (no.new ≡ min no.old (min (ops_no schema.now (ops_of (words_in line.entry))) (many_no 0 (ops_of (words_in line.entry))))) }
 {
-    let mut ops = Vec::new(alloc);
+    let mut ops = OpList::new(alloc);
+    let mut buffer = Octets::new(alloc);
     let mut left = Some(line);
     'ops: while let Some(rest) = left {
         let taken = read_op(alloc, schema, rest, no)?;
-        keep_op(&mut ops, taken.op, no)?;
+        buffer = keep_op(&mut ops, &taken.op, buffer, no)?;
         left = taken.rest;
     }
     no.note(None);
     Ok(ops)
 }
 
-fn has_key(ops: &[RowOp], key: &[u8]) -> bool
-    ensures { result ≡ list_any (λ (o : RowOp). same key.now o.key) ops.now }
+// Whether an operation from a place on has this key.
+fn has_key(ops: &OpList, from: usize, key: &[u8]) -> bool
+    ensures { result ≡ list_any (λ (o : RowOp). same key.now o.key) (drop from ops.now) }
 {
-    ops.iter().any(|op| key == op.key.as_slice())
-}
-
-// Whether two operations have one key.
-fn is_twice(ops: &[RowOp]) -> bool
-    ensures { result ≡ twice (map (λ (o : RowOp). o.key) ops.now) }
-{
-    let mut left = ops;
-    'ops: while let Some((op, behind)) = left.split_first() {
-        if has_key(behind, op.key.as_slice()) {
+    'ops: for at in from..ops.len() {
+        let op = ops.at(at);
+        if key == op.key() {
             return true;
         }
-        left = behind;
     }
     false
 }
 
-fn twice_no(ops: &[RowOp]) -> Option<u8>
+fn is_below(key: &[u8], next: &[u8]) -> bool
+    ensures { result ≡ is_lt (slice_cmp nat_cmp key.now next.now) }
+{
+    key.cmp(next).is_lt()
+}
+
+// Whether each key is above the one before it, so that none stands twice.
+fn are_rising(ops: &OpList) -> bool
+    ensures { IsTrue result → twice (map (λ (o : RowOp). o.key) ops.now) ≡ false }
+{
+    if ops.is_empty() {
+        return true;
+    }
+    let first = ops.at(0);
+    let mut last = first.key();
+    'ops: for at in 1..ops.len() {
+        let op = ops.at(at);
+        let key = op.key();
+        if !is_below(last, key) {
+            return false;
+        }
+        last = key;
+    }
+    true
+}
+
+// Whether two operations have one key, by each two of them.
+fn is_twice_among(ops: &OpList) -> bool
+    ensures { result ≡ twice (map (λ (o : RowOp). o.key) ops.now) }
+{
+    'ops: for at in 0..ops.len() {
+        let op = ops.at(at);
+        if has_key(ops, at + 1, op.key()) {
+            return true;
+        }
+    }
+    false
+}
+
+// Whether two operations have one key.
+fn is_twice(ops: &OpList) -> bool
+    ensures { result ≡ twice (map (λ (o : RowOp). o.key) ops.now) }
+{
+    !are_rising(ops) && is_twice_among(ops)
+}
+
+fn twice_no(ops: &OpList) -> Option<u8>
     ensures { no_of result ≡ reason_if (twice (map (λ (o : RowOp). o.key) ops.now)) 19 }
 {
     if is_twice(ops) { Some(19) } else { None }
 }
 
-/// The write of a line, from its first word on.
+/// The write of a line of a script, from its first word on.
 pub fn read_write(alloc: Global, schema: &Schema, line: Option<&[u8]>) -> Result<Write, LineNo>
+    requires { IsTable schema.now }
     ensures { ReadsWrite schema.now (words_in line.entry) result }
 {
     let mut no = Least::none();
@@ -234,8 +314,6 @@ pub fn read_write(alloc: Global, schema: &Schema, line: Option<&[u8]>) -> Result
     no.note(twice_no(&ops));
     match no.reason() {
         Some(reason) => Err(LineNo::Reason(reason)),
-        None => Ok(Write {
-            ops: OpList::of(ops),
-        }),
+        None => Ok(Write { ops }),
     }
 }

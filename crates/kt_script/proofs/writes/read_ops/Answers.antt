@@ -1,7 +1,9 @@
-use Rattle.std.proofs.Common.{◌≡◌, ◌∙◌, ◌++◌, min, suc, length, map, sym, ap, arith}
+use Rattle.std.proofs.Common.{◌≡◌, ◌∙◌, ◌++◌, min, suc, length, map, sym, ap, subst, arith}
 use mathlib.Core.List.{append-nil}
+use Rattle.kt_history.specs.Spelled.{OpFits}
 use Rattle.kt_script.specs.Pieces.{words_in}
-use Rattle.kt_script.specs.Writes.{op_of, ops_of, ops_no, many_no, later_ops, ops_in}
+use Rattle.kt_script.specs.Writes.{op_of, ops_of, ops_no, many_no, first_op, later_ops, ops_in}
+use Rattle.kt_script.proofs.OpSpelled.{op_spelled}
 use Rattle.kt_script.proofs.OpWords.{ops_split, least_op, ops_more, ops_end}
 use Rattle.kt_script.proofs.writes.read_ops.Goals as goal
 
@@ -12,26 +14,31 @@ ops-smaller c =
     let less : length (ops_in c.in_ok-taken.taken.rest) ≡ length (later_ops words) = ap length c.in_ok-taken.ensures.later in
     omega (arith, size, less)
 
+pub keep_op-requires-clause-fits : goal.keep_op-requires-clause-fits
+keep_op-requires-clause-fits c = λ h.
+    let taken = c.in_ok-taken.ensures in
+    subst OpFits (sym (taken.op h)) (op_spelled c.args.schema.now (first_op (words_in c.in-Some.rest)) c.requires (omega (arith, h, taken.least)))
+
 pub ops-preserved : goal.ops-preserved
 ops-preserved c =
     let columns = c.args.schema.now in
     let words = words_in c.in-Some.rest in
     let taken = c.in_ok-taken.ensures in
-    let kept = c.in_ok-keep_op.ensures in
+    let kept = c.in_ok-buffer.ensures in
     record {
-      ops = λ h. ops_more columns words (ops_in c.ops.left) (ops_in c.in_ok-taken.taken.rest) c.ops.ops.items c.keep_op.new.ops.items (map (op_of columns) (ops_of (words_in c.args.line))) c.in_ok-taken.taken.op
+      ops = λ h. ops_more columns words (ops_in c.ops.left) (ops_in c.in_ok-taken.taken.rest) c.ops.ops c.keep_op.new.ops (map (op_of columns) (ops_of (words_in c.args.line))) c.in_ok-taken.taken.op
           (ap ops_in c.in-Some.is) taken.later (taken.op (omega (arith, h, kept.least))) (kept.kept h) (c.ops.invariant.ops (omega (arith, h, kept.least, taken.least)));
-      few = omega (arith, kept.room);
-      least = least_op columns words (ops_in c.in_ok-taken.taken.rest) (length c.ops.ops.items) (length c.keep_op.new.ops.items) c.ops.no c.read_op.new.no c.keep_op.new.no taken.later c.ops.invariant.few taken.least kept.least kept.room
-          ∙ (ap (λ left. min c.ops.no (min (ops_no columns (ops_in left)) (many_no (length c.ops.ops.items) (ops_in left)))) (sym c.in-Some.is) ∙ c.ops.invariant.least);
+      few = kept.few;
+      least = least_op columns words (ops_in c.in_ok-taken.taken.rest) (length c.ops.ops) (length c.keep_op.new.ops) c.ops.no c.read_op.new.no c.keep_op.new.no taken.later c.ops.invariant.few taken.least kept.least kept.room
+          ∙ (ap (λ left. min c.ops.no (min (ops_no columns (ops_in left)) (many_no (length c.ops.ops) (ops_in left)))) (sym c.in-Some.is) ∙ c.ops.invariant.least);
     }
 
 pub returns-clause-ops : goal.returns-clause-ops
 returns-clause-ops c = λ h.
-    sym (append-nil c.ops.ops.items) ∙ (ap (λ left. c.ops.ops.items ++ map (op_of c.args.schema.now) (ops_in left)) (sym c.in_default.is) ∙ c.ops.invariant.ops (omega (arith, h, c.note.ensures)))
+    sym (append-nil c.ops.ops) ∙ (ap (λ left. c.ops.ops ++ map (op_of c.args.schema.now) (ops_in left)) (sym c.in_default.is) ∙ c.ops.invariant.ops (omega (arith, h, c.note.ensures)))
 
 pub returns-clause-least : goal.returns-clause-least
 returns-clause-least c =
     let columns = c.args.schema.now in
-    let n = length c.ops.ops.items in
+    let n = length c.ops.ops in
     c.note.ensures ∙ (sym (ops_end columns c.ops.no n c.ops.invariant.few) ∙ (ap (λ left. min c.ops.no (min (ops_no columns (ops_in left)) (many_no n (ops_in left)))) (sym c.in_default.is) ∙ c.ops.invariant.least))

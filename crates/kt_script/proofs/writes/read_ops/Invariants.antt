@@ -6,9 +6,9 @@ use Rattle.kt_script.proofs.writes.read_ops.Given as goal
 -- the operations so far, and those that are left
 abbrev pub invariant-ops : goal.invariant-ops
 invariant-ops l = record {
-  ops : 18 < l.no → l.ops.items ++ map (op_of l.schema) (ops_in l.left) ≡ map (op_of l.schema) (ops_of (words_in l.line));
-  few : length l.ops.items ≤ 64;
-  least : min l.no (min (ops_no l.schema (ops_in l.left)) (many_no (length l.ops.items) (ops_in l.left))) ≡ min l.fn.no (min (ops_no l.schema (ops_of (words_in l.line))) (many_no 0 (ops_of (words_in l.line))));
+  ops : 18 < l.no → l.ops ++ map (op_of l.schema) (ops_in l.left) ≡ map (op_of l.schema) (ops_of (words_in l.line));
+  few : length l.ops ≤ 64;
+  least : min l.no (min (ops_no l.schema (ops_in l.left)) (many_no (length l.ops) (ops_in l.left))) ≡ min l.fn.no (min (ops_no l.schema (ops_of (words_in l.line))) (many_no 0 (ops_of (words_in l.line))));
 }
 
 abbrev pub decreases-ops : goal.decreases-ops

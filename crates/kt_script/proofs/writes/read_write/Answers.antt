@@ -1,8 +1,6 @@
-use Rattle.std.proofs.Common.{◌<◌, ◌∙◌, min, map, ap, sym, arith}
-use Rattle.kt_history.specs.declared.operation.RowOp.{RowOp}
+use Rattle.std.proofs.Common.{◌<◌, ◌∙◌, min, ap, sym, arith}
 use Rattle.kt_script.specs.Pieces.{words_in}
-use Rattle.kt_script.specs.Reasons.{reason_if}
-use Rattle.kt_script.specs.Writes.{ops_of, ops_no, many_no, twice}
+use Rattle.kt_script.specs.Writes.{ops_of, ops_no, many_no}
 use Rattle.kt_script.proofs.OpWords.{write_least}
 use Rattle.kt_script.proofs.writes.read_write.Goals as goal
 
@@ -11,14 +9,14 @@ returns-in-Some c =
     let n = c.read_ops.new.no in
     let whole = ops_of (words_in c.args.line) in
     let read = c.in-Ok.ensures.least ∙ ap (λ k. min k (min (ops_no c.args.schema.now whole) (many_no 0 whole))) c.none-no.ensures in
-    let last = c.note.ensures ∙ ap (min n) (c.twice_no.ensures ∙ ap (λ os. reason_if (twice (map (λ (o : RowOp). o.key) os)) 19) c.deref.ensures.value) in
-    (write_least c.args.schema.now (words_in c.args.line) c.in-Ok.ops.items n c.note.new.self read c.in-Ok.ensures.ops last ∙ sym c.in-Some.ensures, omega arith)
+    let last = c.note.ensures ∙ ap (min n) c.twice_no.ensures in
+    (write_least c.args.schema.now (words_in c.args.line) c.in-Ok.ops n c.note.new.self read c.in-Ok.ensures.ops last ∙ sym c.in-Some.ensures, omega arith)
 
 pub returns-in-None : goal.returns-in-None
 returns-in-None c =
     let n = c.read_ops.new.no in
     let whole = ops_of (words_in c.args.line) in
     let read = c.in-Ok.ensures.least ∙ ap (λ k. min k (min (ops_no c.args.schema.now whole) (many_no 0 whole))) c.none-no.ensures in
-    let last = c.note.ensures ∙ ap (min n) (c.twice_no.ensures ∙ ap (λ os. reason_if (twice (map (λ (o : RowOp). o.key) os)) 19) c.deref.ensures.value) in
+    let last = c.note.ensures ∙ ap (min n) c.twice_no.ensures in
     let high : 18 < n = omega (arith, last, c.in-None.ensures) in
-    (write_least c.args.schema.now (words_in c.args.line) c.in-Ok.ops.items n c.note.new.self read c.in-Ok.ensures.ops last ∙ sym c.in-None.ensures, c.of.ensures ∙ c.in-Ok.ensures.ops high)
+    (write_least c.args.schema.now (words_in c.args.line) c.in-Ok.ops n c.note.new.self read c.in-Ok.ensures.ops last ∙ sym c.in-None.ensures, c.in-Ok.ensures.ops high)
