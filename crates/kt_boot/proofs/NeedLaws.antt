@@ -1,5 +1,5 @@
 -- What is left of the operations that are replayed.
-use Rattle.std.proofs.Common.{◌≡◌, ℕ, ◌+◌, ◌<◌, ◌≤◌, suc, List, [], ◌∷◌, ◌++◌, length, drop, get_or, Option, Some, None, Bool, true, false, cond, refl, sym, ap, ◌∙◌, subst, arith, append_assoc}
+use Rattle.std.proofs.Common.{◌≡◌, ℕ, ◌+◌, ◌<◌, ◌≤◌, zero, suc, List, [], ◌∷◌, ◌++◌, length, drop, get_or, Option, Some, None, Bool, true, false, cond, refl, sym, ap, ◌∙◌, subst, arith, append_assoc}
 use Rattle.std.specs.Prelude.{slice_get, is_some}
 use Rattle.std.proofs.lemmas.List.{drop_all}
 use Rattle.kt_history.specs.declared.operation.RowOp.{RowOp}
@@ -24,6 +24,12 @@ pub replayed_from : (ops : List RowOp) (commit : Option (List CommitRow)) (i j :
     → replayed (drop i ops) (dropped i commit) ≡ cond (is_replayed commit i) (op ∷ replayed (drop j ops) (dropped j commit)) (replayed (drop j ops) (dropped j commit))
 replayed_from ops None i j op lt is e = first_left ops i j op lt is e
 replayed_from ops (Some rows) i j op lt is e = let s : j ≡ suc i = omega arith in rw s (needed_from ops rows i op lt is)
+
+-- the operation at a place
+pub op_at : (ops : List RowOp) (i : ℕ) → i < length ops → (op : RowOp) × (op ≡ get_or ops i op)
+op_at [] i lt = absurd (omega arith)
+op_at (op ∷ ops) zero lt = (op, refl)
+op_at (op ∷ ops) (suc i) lt = op_at ops i (omega arith)
 
 module _ (ops : List RowOp) (commit : Option (List CommitRow)) (i j : ℕ) (op : RowOp) (lt : i < length ops) (is : op ≡ get_or ops i op) (next : j ≡ i + 1) where
   -- an operation that is replayed is needed, and another is not

@@ -7,12 +7,9 @@ use Rattle.std.specs.Ordering.{eq_by_cmp}
 use Rattle.std.specs.declared.cmp.Ordering.TheVariants.{Less, Equal, Greater}
 use Rattle.std.specs.FinMap.Entries.{by_order, find, put, find-put}
 use Rattle.std.proofs.lemmas.Cmp.{nat_list_cmp_total, eq_by_cmp_equiv}
-use Rattle.kt_history.specs.declared.operation.OpKind.{OpKind}
-use Rattle.kt_history.specs.declared.operation.OpKind.TheVariants.{Insert, Upsert, Update, Delete, InsertIgnore, UpdateIgnore, DeleteIgnore}
 use Rattle.kt_history.specs.declared.operation.RowOp.{RowOp}
 use Rattle.kt_history.specs.declared.target.Kindly.{Kindly}
-use Rattle.kt_history.specs.declared.target.Kindly.TheVariants.{Ins, Upd, Del}
-use Rattle.kt_history.specs.Rows.{Row, key_cmp, fits}
+use Rattle.kt_history.specs.Rows.{key_cmp}
 use Rattle.kt_history.specs.Operations.{op_len, need}
 use Rattle.kt_histlaws.specs.Histories.{Hist, Steps, Store, hist_in, never, push, row_of}
 use Rattle.kt_histlaws.specs.Flights.{Under, UpTo, AllOps}
@@ -20,7 +17,6 @@ use Rattle.kt_tablet.specs.Stores.{last_row}
 use Rattle.kt_tablet.proofs.Filling.{last_under}
 use Rattle.kt_pool.specs.Contents.{Contents, used, at_cell}
 use Rattle.kt_tree.specs.Trees.{need as tree_need}
-use Rattle.kt_memrowset.specs.Links.{change_of}
 use Rattle.kt_memrowset.specs.Stores.{IsStore, store_of, Owns, number_of, is_frozen, share, cells_taken, link_need, change_by, Joins}
 use Rattle.kt_memrowset.proofs.Applying.{share_covers}
 use Rattle.kt_memrowset.specs.declared.store.MemRowSet.{MemRowSet}

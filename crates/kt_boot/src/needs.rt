@@ -3,14 +3,14 @@ ghost use Rattle.std.specs.Prelude.{◌≡◌, ◌+◌, ◌∷◌, [], ℕ, IfOk
 ghost use Rattle.std.specs.Ordering.{nat_cmp};
 ghost use Rattle.std.specs.BTreeMap as tree;
 ghost use Rattle.std.specs.Option.{option_map};
-ghost use Rattle.kt_history.specs.Operations.{cell_len as len_of_cell, op_len as len_of_op, need};
+ghost use Rattle.kt_history.specs.Operations.{need};
 ghost use Rattle.kt_loglaws.specs.Replay.{commit_of, replayed};
 ghost use Rattle.kt_boot.specs.Commits.{commit_at, is_replayed};
 ghost use Rattle.kt_boot.specs.Reopening.{needs_of};
 
 use crate::replay::{commit_at, needs};
-use kt_base::{Cell, NoMemory};
-use kt_history::RowOp;
+use kt_base::NoMemory;
+use kt_history::{OpList, OpRef};
 use kt_records::{CommitRow, Entry};
 use std::collections::BTreeMap;
 
@@ -21,34 +21,10 @@ fn plus(a: u64, b: u64) -> Result<u64, NoMemory>
     a.checked_add(b).ok_or(NoMemory)
 }
 
-fn cell_len(cell: &Cell) -> Result<u64, NoMemory>
-    ensures { IfOk result (λ len. len ≡ len_of_cell cell.now) }
-{
-    match cell {
-        Cell::Null => Ok(1),
-        Cell::Bool(_) => Ok(2),
-        Cell::Int(_) => Ok(9),
-        Cell::Bytes(bytes) => plus(5, bytes.len() as u64),
-    }
-}
-
-fn op_len(op: &RowOp) -> Result<u64, NoMemory>
-    ensures { IfOk result (λ len. len ≡ len_of_op op.now) }
-{
-    let mut len = plus(5, op.key.len() as u64)?;
-    'cells: for listed in op.cells.as_slice() {
-        let cell = cell_len(&listed.1)?;
-        let listed_len = plus(2, cell)?;
-        len = plus(len, listed_len)?;
-    }
-    Ok(len)
-}
-
-fn op_need(op: &RowOp) -> Result<u64, NoMemory>
+fn op_need(op: &OpRef<'_>) -> Result<u64, NoMemory>
     ensures { IfOk result (λ cells. cells ≡ need (op.now ∷ [])) }
 {
-    let len = op_len(op)?;
-    let bytes = plus(len, 55)?;
+    let bytes = plus(op.len() as u64, 55)?;
     Ok(2 * (bytes / 56 + 4))
 }
 
@@ -62,13 +38,14 @@ fn is_replayed(commit: Option<&[CommitRow]>, at: usize) -> bool
     }
 }
 
-fn write_need(ops: &[RowOp], commit: Option<&[CommitRow]>) -> Result<u64, NoMemory>
+fn write_need(ops: &OpList, commit: Option<&[CommitRow]>) -> Result<u64, NoMemory>
     ensures { IfOk result (λ cells. cells ≡ need (replayed ops.now (option_map (λ rows. rows.now) commit.entry))) }
 {
     let mut sum = 0;
-    'ops: for (at, op) in ops.iter().enumerate() {
+    'ops: for at in 0..ops.len() {
         if is_replayed(commit, at) {
-            let cells = op_need(op)?;
+            let op = ops.at(at);
+            let cells = op_need(&op)?;
             sum = plus(sum, cells)?;
         }
     }
@@ -84,7 +61,7 @@ pub fn needs_of(records: &[Entry], places: &BTreeMap<u64, usize>) -> Result<u64,
     'records: for record in records {
         if let Entry::Replicate { ts, ops } = record {
             let commit = commit_at(records, places.get(ts).copied());
-            let cells = write_need(ops.as_slice(), commit)?;
+            let cells = write_need(ops, commit)?;
             sum = plus(sum, cells)?;
         }
     }

@@ -15,7 +15,7 @@ ghost use Rattle.kt_boot.specs.Rebuilding.{is_there, all_fit, all_told, told, fi
 
 use crate::replay::{ReplayNo, commit_at, needs};
 use kt_base::NoMemory;
-use kt_history::{OpKind, RowOp, Target, outcome};
+use kt_history::{OpKind, OpList, OpRef, Target, outcome};
 use kt_memrowset::MemRowSet;
 use kt_memrowset::taking::kind_made;
 use kt_pool::Pool;
@@ -59,7 +59,7 @@ pub fn mem_number(records: &[Entry]) -> u64
 }
 
 // Takes the change of an operation, if it makes one, and tells whether its key was present.
-fn take(mem: &mut MemRowSet, pool: &mut Pool, ts: u64, op: &RowOp) -> bool
+fn take(mem: &mut MemRowSet, pool: &mut Pool, ts: u64, op: &OpRef<'_>) -> bool
     requires store { IsStore mem.old pool.old }
     requires thawed { is_frozen mem.old ≡ false }
     requires may { MayTake ts (store_of mem.old pool.old) op.now }
@@ -75,7 +75,7 @@ fn take_needed(
     mem: &mut MemRowSet,
     pool: &mut Pool,
     ts: u64,
-    ops: &[RowOp],
+    ops: &OpList,
     rows: &[CommitRow],
 ) -> bool
     requires store { IsStore mem.old pool.old }
@@ -85,10 +85,11 @@ fn take_needed(
     ensures fit { result ≡ all_fit ts (needed_ops ops.now rows.now) (store_of mem.old pool.old) }
     ensures takes { IsTrue result → TakesAll mem.old mem.new pool.old pool.new ts (needed_ops ops.now rows.now) }
 {
-    'ops: for (at, op) in ops.iter().enumerate() {
+    'ops: for at in 0..ops.len() {
         if needs(rows, at) {
-            let present = take(mem, pool, ts, op);
-            if kind_made(op.kind, present).is_none() {
+            let op = ops.at(at);
+            let present = take(mem, pool, ts, &op);
+            if kind_made(op.kind(), present).is_none() {
                 return false;
             }
         }
@@ -115,7 +116,7 @@ fn take_all(
     mem: &mut MemRowSet,
     pool: &mut Pool,
     ts: u64,
-    ops: &[RowOp],
+    ops: &OpList,
 ) -> Result<CommitRows, NoMemory>
     requires store { IsStore mem.old pool.old }
     requires thawed { is_frozen mem.old ≡ false }
@@ -125,9 +126,10 @@ fn take_all(
     ensures takes { OnOk result (TakesAll mem.old mem.new pool.old pool.new ts ops.now) }
 {
     let mut rows = Vec::new(alloc);
-    'ops: for op in ops {
-        let present = take(mem, pool, ts, op);
-        rows.push(told(mem.id(), op.kind, present))?;
+    'ops: for at in 0..ops.len() {
+        let op = ops.at(at);
+        let present = take(mem, pool, ts, &op);
+        rows.push(told(mem.id(), op.kind(), present))?;
     }
     Ok(CommitRows::of(rows))
 }
@@ -145,7 +147,7 @@ fn take_write(
     mem: &mut MemRowSet,
     pool: &mut Pool,
     ts: u64,
-    ops: &[RowOp],
+    ops: &OpList,
     commit: Option<&[CommitRow]>,
     queued: &mut Vec<Entry>,
 ) -> Result<(), ReplayNo>
@@ -202,7 +204,7 @@ pub fn rebuild(
     'records: for record in records {
         if let Entry::Replicate { ts, ops } = record {
             let commit = commit_at(records, places.get(ts).copied());
-            take_write(alloc, mem, pool, *ts, ops.as_slice(), commit, &mut queued)?;
+            take_write(alloc, mem, pool, *ts, ops, commit, &mut queued)?;
         }
     }
     Ok(RecordList::of(queued))

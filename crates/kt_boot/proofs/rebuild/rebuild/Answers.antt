@@ -1,4 +1,4 @@
-use Rattle.std.proofs.Common.{◌≡◌, ◌+◌, ◌∷◌, drop, refl, sym, ap, ◌∙◌, subst}
+use Rattle.std.proofs.Common.{◌≡◌, ◌+◌, ◌∷◌, drop, refl, ap, ◌∙◌, subst}
 use Rattle.std.specs.Option.{option_map}
 use Rattle.kt_records.specs.declared.entry.Entry.{Entry}
 use Rattle.kt_records.specs.declared.entry.Entry.TheVariants.{Replicate, Commit}
@@ -14,10 +14,10 @@ take_write-requires-clause-may c =
     let records = c.args.records.now in
     let i = c.records.record-index in
     let ts = c.in-Replicate.ts in
-    let ops = c.as_slice.result.now in
+    let ops = c.in-Replicate.ops in
     let commit = option_map (λ rows. rows.now) c.commit_at-commit.result in
     let its : commit ≡ commit_of ts records = c.commit_at-commit.ensures ∙ ap (commit_at records) (c.copied.ensures ∙ c.get.ensures.value) ∙ c.requires.places ts in
-    let here : drop i records ≡ Replicate ts ops ∷ drop (i + 1) records = first_left records i (i + 1) c.record-item.result c.records-test.true c.record-item.is refl ∙ ap (λ (r : Entry). r ∷ drop (i + 1) records) (c.in-Replicate.is ∙ ap (λ ops. Replicate ts ops) (sym c.as_slice.ensures)) in
+    let here : drop i records ≡ Replicate ts ops ∷ drop (i + 1) records = first_left records i (i + 1) c.record-item.result c.records-test.true c.record-item.is refl ∙ ap (λ (r : Entry). r ∷ drop (i + 1) records) c.in-Replicate.is in
     may_write records c.args.mem.now c.records.mem c.args.pool.now c.records.pool c.records.queued.items ts ops (drop (i + 1) records) (subst (λ rest. Along records c.args.mem.now c.records.mem c.args.pool.now c.records.pool c.records.queued.items rest) here c.records.invariant) commit its
 
 pub take_write-requires-clause-room : goal.take_write-requires-clause-room
@@ -25,10 +25,10 @@ take_write-requires-clause-room c =
     let records = c.args.records.now in
     let i = c.records.record-index in
     let ts = c.in-Replicate.ts in
-    let ops = c.as_slice.result.now in
+    let ops = c.in-Replicate.ops in
     let commit = option_map (λ rows. rows.now) c.commit_at-commit.result in
     let its : commit ≡ commit_of ts records = c.commit_at-commit.ensures ∙ ap (commit_at records) (c.copied.ensures ∙ c.get.ensures.value) ∙ c.requires.places ts in
-    let here : drop i records ≡ Replicate ts ops ∷ drop (i + 1) records = first_left records i (i + 1) c.record-item.result c.records-test.true c.record-item.is refl ∙ ap (λ (r : Entry). r ∷ drop (i + 1) records) (c.in-Replicate.is ∙ ap (λ ops. Replicate ts ops) (sym c.as_slice.ensures)) in
+    let here : drop i records ≡ Replicate ts ops ∷ drop (i + 1) records = first_left records i (i + 1) c.record-item.result c.records-test.true c.record-item.is refl ∙ ap (λ (r : Entry). r ∷ drop (i + 1) records) c.in-Replicate.is in
     room_write records c.args.mem.now c.records.mem c.args.pool.now c.records.pool c.records.queued.items ts ops (drop (i + 1) records) (subst (λ rest. Along records c.args.mem.now c.records.mem c.args.pool.now c.records.pool c.records.queued.items rest) here c.records.invariant) commit its
 
 pub records-preserved : goal.records-preserved
@@ -39,10 +39,10 @@ records-preserved c =
     elim c.match-record.branch [
       | in-Replicate+in_ok-take_write w ↦
           let ts = w.in-Replicate.ts in
-          let ops = w.as_slice.result.now in
+          let ops = w.in-Replicate.ops in
           let commit = option_map (λ rows. rows.now) w.commit_at-commit.result in
           let its : commit ≡ commit_of ts records = w.commit_at-commit.ensures ∙ ap (commit_at records) (w.copied.ensures ∙ w.get.ensures.value) ∙ c.requires.places ts in
-          let here : drop i records ≡ Replicate ts ops ∷ drop (i + 1) records = left ∙ ap (λ (r : Entry). r ∷ drop (i + 1) records) (w.in-Replicate.is ∙ ap (λ ops. Replicate ts ops) (sym w.as_slice.ensures)) in
+          let here : drop i records ≡ Replicate ts ops ∷ drop (i + 1) records = left ∙ ap (λ (r : Entry). r ∷ drop (i + 1) records) w.in-Replicate.is in
           let along = subst (λ rest. Along records c.args.mem.now c.records.mem c.args.pool.now c.records.pool c.records.queued.items rest) here c.records.invariant in
           rw (w.mem-is, w.pool-is) (over_write records c.args.mem.now c.records.mem c.args.pool.now c.records.pool c.records.queued.items ts ops (drop (i + 1) records) along commit its
           w.take_write.new.mem w.take_write.new.pool c.match-record.queued.items w.in_ok-take_write.ensures.fits w.in_ok-take_write.ensures.takes (ap (λ q. q.items) w.queued-is ∙ w.in_ok-take_write.ensures.queued))
