@@ -122,6 +122,9 @@ fn raised_4(bytes: &[u8]) -> u32
 fn raised_8(bytes: &[u8]) -> u64
     ensures { result ≡ from_be_bytes w64 bytes.now }
 {
+    if let [a, b, c, d, e, f, g, h, ..] = bytes {
+        return u64::from_be_bytes([*a, *b, *c, *d, *e, *f, *g, *h]);
+    }
     u64::from_be_bytes([
         byte_at(bytes, 0),
         byte_at(bytes, 1),
