@@ -30,6 +30,9 @@ use kt_history::{OpKind, OpList, OpRef, RowOp, Write};
 use kt_schema::{Column, Schema};
 use std::alloc::Global;
 
+// The bytes for which room is made for each cell. A number under its id takes 11, a text 7 and its bytes.
+const CELL_ROOM: usize = 24;
+
 // An operation, and what is left behind its `;`, if it has one. It counts only where no reason up to 17 holds.
 #[derive(Drop)]
 struct TakenOp<'a> {
@@ -175,6 +178,7 @@ fn spelled(buffer: Octets, cells: &Cells) -> Result<Octets, NoMemory>
 {
     let mut buffer = buffer;
     buffer.clear();
+    buffer.reserve(2 + CELL_ROOM * cells.len())?;
     let mut tail = Tail::of(buffer);
     put_cell_list(&mut tail, cells)?;
     Ok(tail.whole())
