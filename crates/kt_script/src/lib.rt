@@ -49,4 +49,3 @@ pub use replies::{LineList, ReplyLine, ReplyLineList, ReplyLines};
 pub use reread::{CodecNo, Output, read_output};
 pub use scans::read_scan;
 pub use script::{Script, read_script};
-pub use writes::read_write;
