@@ -5,6 +5,7 @@
 #![tactic(auto)]
 
 mod behind;
+mod calls;
 mod crash;
 mod disk;
 mod event;

@@ -1,14 +1,17 @@
 //! A disk in memory, which keeps its calls.
-ghost use Rattle.std.specs.Prelude.{◌≡◌, ◌+◌, ◌≤◌, ◌==◌, ◌++◌, [], ◌∷◌, ℕ, true, length, IsErr, Some, None, if◌then◌else◌, IfOk, OnOk, OnErr};
+ghost use Rattle.std.specs.Prelude.{◌≡◌, ◌+◌, ◌-◌, ◌≤◌, ◌==◌, ◌++◌, [], ◌∷◌, ℕ, true, length, take, IsErr, Some, None, if◌then◌else◌, IfOk, OnOk, OnErr};
 ghost use Rattle.std.specs.Ordering.{nat_cmp};
 ghost use Rattle.std.specs.BTreeMap as tree;
 ghost use Rattle.kt_disk.specs.Disk.{bytes_of, put, shortened};
 ghost use Rattle.kt_base.specs.Causes.{HasCause};
 ghost use Rattle.kt_disk.specs.Memory.{MemView, listed, mem_seen, mem_now, mem_leaves};
 ghost use Rattle.kt_disk.specs.MemoryLaw.{reads_as_image, images_hold_bytes};
+ghost use Rattle.kt_disk.specs.declared.event.Change.TheVariants as Change;
+ghost use Rattle.kt_disk.specs.Noted.{change_of};
 
+use crate::calls::{CallList, Plain};
 use crate::crash::images_of;
-use crate::{Change, Disk, DiskNo, Event, FileBytes, FileBytesList, FileList};
+use crate::{Disk, DiskNo, FileBytes, FileBytesList, FileList};
 use kt_base::{Failed, NoMemory, Octets};
 use std::alloc::{AllocError, Global};
 use std::collections::BTreeMap;
@@ -20,7 +23,7 @@ pub struct MemDisk {
     alloc: Global,
     start: Vec<FileBytes>,
     files: BTreeMap<u64, Octets>,
-    calls: Vec<Event>,
+    calls: CallList,
     faults: u64,
 }
 
@@ -34,9 +37,9 @@ impl Model for MemDisk {
     ghost use Rattle.std.specs.BTreeMap as tree;
     ghost use Rattle.kt_disk.specs.Memory.{listed, contents};
 
-    ghost view = { λ d. record { start = d.start.items; calls = d.calls.items; faults = d.faults } };
+    ghost view = { λ d. record { start = d.start.items; calls = d.calls; faults = d.faults } };
 
-    ghost invariant = { λ d. (n : ℕ) → tree.get nat_cmp d.files n ≡ contents n (listed d.start.items n) (reverse d.calls.items) };
+    ghost invariant = { λ d. (n : ℕ) → tree.get nat_cmp d.files n ≡ contents n (listed d.start.items n) (reverse d.calls) };
 }
 
 impl MemDisk {
@@ -48,7 +51,7 @@ impl MemDisk {
             alloc,
             start: Vec::new(alloc),
             files: BTreeMap::new(alloc),
-            calls: Vec::new(alloc),
+            calls: CallList::new(alloc),
             faults: 0,
         }
     }
@@ -67,8 +70,8 @@ impl MemDisk {
         ensures image { IfOk result (λ disk. mem_leaves self.now moment (mem_seen disk)) }
         ensures fresh { IfOk result (λ disk. (disk.calls ≡ []) × (disk.faults ≡ 0)) }
     {
-        let calls = &self.calls.as_slice()[..moment as usize];
-        let images = images_of(alloc, self.start.as_slice(), calls, pick)?;
+        let calls = self.calls.events(alloc, moment as usize)?;
+        let images = images_of(alloc, self.start.as_slice(), calls.as_slice(), pick)?;
         MemDisk::of(alloc, &FileBytesList::of(images))
     }
 
@@ -82,7 +85,7 @@ impl MemDisk {
             alloc,
             start,
             files: held,
-            calls: Vec::new(alloc),
+            calls: CallList::new(alloc),
             faults: 0,
         })
     }
@@ -106,21 +109,19 @@ fn numbers(alloc: Global, files: &BTreeMap<u64, Octets>) -> Result<Vec<u64>, All
     files.keys().copied().collect(alloc)
 }
 
-// Notes a call and puts the new bytes of its file in place, or changes nothing.
+// Puts the new bytes of a file in place, or lets go of its call, which is the last.
 fn store(
     files: &mut BTreeMap<u64, Octets>,
-    calls: &mut Vec<Event>,
-    event: Event,
+    calls: &mut CallList,
+    file: u64,
     next: Octets,
 ) -> Result<(), NoMemory>
-    ensures files { OnOk result ((n : ℕ) → tree.get nat_cmp files.new n ≡ (if event.file == n then Some next else tree.get nat_cmp files.old n)) }
-    ensures calls { OnOk result (calls.new.items ≡ calls.old.items ++ event ∷ []) }
-    ensures err { OnErr result (((n : ℕ) → tree.get nat_cmp files.new n ≡ tree.get nat_cmp files.old n) × (calls.new.items ≡ calls.old.items)) }
+    ensures files { OnOk result ((n : ℕ) → tree.get nat_cmp files.new n ≡ (if file == n then Some next else tree.get nat_cmp files.old n)) }
+    ensures calls { OnOk result (calls.new ≡ calls.old) }
+    ensures err { OnErr result (((n : ℕ) → tree.get nat_cmp files.new n ≡ tree.get nat_cmp files.old n) × (calls.new ≡ take (length calls.old - 1) calls.old)) }
 {
-    let file = event.file;
-    calls.push(event)?;
     if files.insert(file, next).is_err() {
-        let _ = calls.pop();
+        calls.drop_last();
         return Err(NoMemory);
     }
     Ok(())
@@ -135,58 +136,50 @@ fn fault(faults: &mut u64) -> Result<(), Failed>
     Err(Failed)
 }
 
-// Notes a call, or counts a fault.
-fn note(calls: &mut Vec<Event>, faults: &mut u64, event: Event) -> Result<(), Failed>
-    ensures ok { OnOk result ((calls.new.items ≡ calls.old.items ++ event ∷ []) × (faults.new ≡ faults.old)) }
-    ensures err { OnErr result (calls.new.items ≡ calls.old.items) }
+// Notes a call that writes no bytes, or counts a fault.
+fn note(calls: &mut CallList, faults: &mut u64, file: u64, plain: Plain) -> Result<(), Failed>
+    ensures ok { OnOk result ((calls.new ≡ calls.old ++ (record { file = file; change = change_of plain }) ∷ []) × (faults.new ≡ faults.old)) }
+    ensures err { OnErr result (calls.new ≡ calls.old) }
     ensures cause { HasCause faults.old faults.new result }
 {
-    match calls.push(event) {
+    match calls.push(file, plain) {
         Ok(()) => Ok(()),
-        Err(_) => fault(faults),
+        Err(NoMemory) => fault(faults),
     }
 }
 
 // Notes that a file is looked at.
-fn look(calls: &mut Vec<Event>, faults: &mut u64, file: u64) -> Result<(), Failed>
-    ensures ok { OnOk result ((calls.new.items ≡ calls.old.items ++ (record { file = file; change = Change.Look }) ∷ []) × (faults.new ≡ faults.old)) }
-    ensures err { OnErr result (calls.new.items ≡ calls.old.items) }
+fn look(calls: &mut CallList, faults: &mut u64, file: u64) -> Result<(), Failed>
+    ensures ok { OnOk result ((calls.new ≡ calls.old ++ (record { file = file; change = Change.Look }) ∷ []) × (faults.new ≡ faults.old)) }
+    ensures err { OnErr result (calls.new ≡ calls.old) }
     ensures cause { HasCause faults.old faults.new result }
 {
-    note(
-        calls,
-        faults,
-        Event {
-            file,
-            change: Change::Look,
-        },
-    )
+    note(calls, faults, file, Plain::Look)
 }
 
+// Writes to a file, and makes it where there is none.
+#[tactic(auto, using(crate::proofs::Noted::all_but_last))]
 fn write(
     alloc: Global,
     files: &mut BTreeMap<u64, Octets>,
-    calls: &mut Vec<Event>,
+    calls: &mut CallList,
     file: u64,
     at: u64,
     bytes: &[u8],
 ) -> Result<(), NoMemory>
     requires { at ≤ length (bytes_of (tree.get nat_cmp files.old file)) }
     ensures files { OnOk result ((n : ℕ) → tree.get nat_cmp files.new n ≡ (if file == n then Some (put (bytes_of (tree.get nat_cmp files.old file)) at bytes.now) else tree.get nat_cmp files.old n)) }
-    ensures calls { OnOk result (calls.new.items ≡ calls.old.items ++ (record { file = file; change = Change.Write at bytes.now }) ∷ []) }
-    ensures err { OnErr result (((n : ℕ) → tree.get nat_cmp files.new n ≡ tree.get nat_cmp files.old n) × (calls.new.items ≡ calls.old.items)) }
+    ensures calls { OnOk result (calls.new ≡ calls.old ++ (record { file = file; change = Change.Write at bytes.now }) ∷ []) }
+    ensures err { OnErr result (((n : ℕ) → tree.get nat_cmp files.new n ≡ tree.get nat_cmp files.old n) × (calls.new ≡ calls.old)) }
 {
-    let noted = Octets::from_slice(alloc, bytes)?;
-    let event = Event {
-        file,
-        change: Change::Write(at, noted),
-    };
     let Some(octets) = files.get_mut(&file) else {
-        return store(files, calls, event, Octets::from_slice(alloc, bytes)?);
+        let next = Octets::from_slice(alloc, bytes)?;
+        calls.push_write(file, at, bytes)?;
+        return store(files, calls, file, next);
     };
-    calls.push(event)?;
+    calls.push_write(file, at, bytes)?;
     if octets.write_at(at as usize, bytes).is_err() {
-        let _ = calls.pop();
+        calls.drop_last();
         return Err(NoMemory);
     }
     Ok(())
@@ -194,27 +187,22 @@ fn write(
 
 // A file that is there is shortened.
 fn shorten(
-    alloc: Global,
     files: &mut BTreeMap<u64, Octets>,
-    calls: &mut Vec<Event>,
+    calls: &mut CallList,
     file: u64,
     to: u64,
 ) -> Result<(), NoMemory>
     requires { to ≤ length (bytes_of (tree.get nat_cmp files.old file)) }
     ensures files { OnOk result ((n : ℕ) → tree.get nat_cmp files.new n ≡ (if file == n then shortened to (tree.get nat_cmp files.old file) else tree.get nat_cmp files.old n)) }
-    ensures calls { OnOk result (calls.new.items ≡ calls.old.items ++ (record { file = file; change = Change.Cut to }) ∷ []) }
-    ensures err { OnErr result (((n : ℕ) → tree.get nat_cmp files.new n ≡ tree.get nat_cmp files.old n) × (calls.new.items ≡ calls.old.items)) }
+    ensures calls { OnOk result (calls.new ≡ calls.old ++ (record { file = file; change = Change.Cut to }) ∷ []) }
+    ensures err { OnErr result (((n : ℕ) → tree.get nat_cmp files.new n ≡ tree.get nat_cmp files.old n) × (calls.new ≡ calls.old)) }
 {
-    let event = Event {
-        file,
-        change: Change::Cut(to),
+    let Some(octets) = files.get_mut(&file) else {
+        return calls.push(file, Plain::Cut(to));
     };
-    let Some(octets) = files.get(&file) else {
-        calls.push(event)?;
-        return Ok(());
-    };
-    let next = Octets::from_slice(alloc, &octets.as_slice()[..to as usize])?;
-    store(files, calls, event, next)
+    calls.push(file, Plain::Cut(to))?;
+    octets.truncate(to as usize);
+    Ok(())
 }
 
 impl Disk for MemDisk {
@@ -260,27 +248,19 @@ impl Disk for MemDisk {
 
     fn cut(&mut self, file: u64, to: u64) -> Result<(), Failed> {
         let (files, calls) = (&mut self.files, &mut self.calls);
-        match shorten(self.alloc, files, calls, file, to) {
+        match shorten(files, calls, file, to) {
             Ok(()) => Ok(()),
             Err(NoMemory) => fault(&mut self.faults),
         }
     }
 
     fn sync(&mut self, file: u64) -> Result<(), Failed> {
-        let event = Event {
-            file,
-            change: Change::Sync,
-        };
-        note(&mut self.calls, &mut self.faults, event)?;
+        note(&mut self.calls, &mut self.faults, file, Plain::Sync)?;
         Ok(())
     }
 
     fn remove(&mut self, file: u64) -> Result<(), Failed> {
-        let event = Event {
-            file,
-            change: Change::Remove,
-        };
-        note(&mut self.calls, &mut self.faults, event)?;
+        note(&mut self.calls, &mut self.faults, file, Plain::Remove)?;
         let _ = self.files.remove(&file);
         Ok(())
     }

@@ -15,7 +15,7 @@ returns-in-Ok-clause-images c told =
 pub returns-in-Ok-clause-cut : goal.returns-in-Ok-clause-cut
 returns-in-Ok-clause-cut c told =
     let event : Event = record { file = c.args.file; change = change.Cut c.args.to } in
-    let after : MemView = record { start = c.self.inside.start.items; calls = c.shorten.new.calls.items; faults = c.self.inside.faults } in
+    let after : MemView = record { start = c.self.inside.start.items; calls = c.shorten.new.calls; faults = c.self.inside.faults } in
     seen_here c.args.self.now after event (ap (λ (v : MemView). v.start) c.self.view_is) (c.in-Ok.ensures.calls ∙ ap (λ (v : MemView). v.calls ++ event ∷ []) c.self.view_is)
     ∙ shortened_bytes c.args.to (stored c.args.self.now c.args.file)
 

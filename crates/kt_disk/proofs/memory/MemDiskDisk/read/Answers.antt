@@ -10,7 +10,7 @@ use Rattle.kt_disk.proofs.memory.MemDiskDisk.read.Goals as goal
 pub returns-clause-seen : goal.returns-clause-seen
 returns-clause-seen c told =
     let event : Event = record { file = c.args.file; change = change.Look } in
-    let after : MemView = record { start = c.self.inside.start.items; calls = c.look.new.calls.items; faults = c.look.new.faults } in
+    let after : MemView = record { start = c.self.inside.start.items; calls = c.look.new.calls; faults = c.look.new.faults } in
     look_seen c.args.self.now after c.args.file (ap (λ (v : MemView). v.start) c.self.view_is) (c.in_ok-look.ensures.ok.0 ∙ ap (λ (v : MemView). v.calls ++ event ∷ []) c.self.view_is)
 
 pub returns-in_err-look-clause-images : goal.returns-in_err-look-clause-images

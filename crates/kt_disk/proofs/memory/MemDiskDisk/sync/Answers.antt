@@ -17,5 +17,5 @@ returns-clause-images c told =
 pub returns-clause-stable : goal.returns-clause-stable
 returns-clause-stable c told =
     let event : Event = record { file = c.args.file; change = change.Sync } in
-    let after : MemView = record { start = c.self.inside.start.items; calls = c.note.new.calls.items; faults = c.note.new.faults } in
+    let after : MemView = record { start = c.self.inside.start.items; calls = c.note.new.calls; faults = c.note.new.faults } in
     synced c.args.self.now after c.args.file (ap (λ (v : MemView). v.start) c.self.view_is) (c.in_ok-note.ensures.ok.0 ∙ ap (λ (v : MemView). v.calls ++ event ∷ []) c.self.view_is)

@@ -15,7 +15,7 @@ returns-in-Ok-clause-images c told =
 pub returns-in-Ok-clause-written : goal.returns-in-Ok-clause-written
 returns-in-Ok-clause-written c told =
     let event : Event = record { file = c.args.file; change = change.Write c.args.at c.args.bytes.now } in
-    let after : MemView = record { start = c.self.inside.start.items; calls = c.write.new.calls.items; faults = c.self.inside.faults } in
+    let after : MemView = record { start = c.self.inside.start.items; calls = c.write.new.calls; faults = c.self.inside.faults } in
     seen_here c.args.self.now after event (ap (λ (v : MemView). v.start) c.self.view_is) (c.in-Ok.ensures.calls ∙ ap (λ (v : MemView). v.calls ++ event ∷ []) c.self.view_is)
     ∙ put_bytes (stored c.args.self.now c.args.file) c.args.at c.args.bytes.now (λ i. omega (arith, c.type_inv.bytes i))
 
