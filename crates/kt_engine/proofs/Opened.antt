@@ -82,10 +82,11 @@ is_opened tells seen now leaves faults tablet journal records queued store devic
     goes stops = let no : true ≡ false = sym stops ∙ stopped in cc
 
 -- the engine that was made of it
-pub as_opened : {L D C : Type 0} (tells : Bool) (seen : L → Files) (now : L → ℕ) (leaves : L → ℕ → Files → Type 0) (faults : L → ℕ) (tablet : View C) (journal : JournalView L) (records queued : List Entry) (store : D) (device : L) (log : SideView L) (places : List (ℕ × ℕ)) (found : List Entry)
-    → log ≡ record { home = Some journal; known = journal; holder = None; out = []; queued = queued; room = 0; whole = true } → places ≡ [] → found ≡ records
-    → IsEngine tells seen now leaves faults (opened_view tablet journal records queued store device) → IsEngine tells seen now leaves faults (record { tablet = tablet; log = log; places = places; records = found; device = device; store = store; running = [] })
-as_opened {L} {D} {C} tells seen now leaves faults tablet journal records queued store device log places found is_log is_places is_found e =
-    subst (λ (l : SideView L). IsEngine tells seen now leaves faults (record { tablet = tablet; log = l; places = places; records = found; device = device; store = store; running = [] })) (sym is_log)
+pub as_opened : {L D C : Type 0} (tells : Bool) (seen : L → Files) (now : L → ℕ) (leaves : L → ℕ → Files → Type 0) (faults : L → ℕ) (tablet : View C) (journal : JournalView L) (records queued : List Entry) (store : D) (device : L) (kept : View C) (log : SideView L) (places : List (ℕ × ℕ)) (found : List Entry)
+    → kept ≡ tablet → log ≡ record { home = Some journal; known = journal; holder = None; out = []; queued = queued; room = 0; whole = true } → places ≡ [] → found ≡ records
+    → IsEngine tells seen now leaves faults (opened_view tablet journal records queued store device) → IsEngine tells seen now leaves faults (record { tablet = kept; log = log; places = places; records = found; device = device; store = store; running = [] })
+as_opened {L} {D} {C} tells seen now leaves faults tablet journal records queued store device kept log places found is_tablet is_log is_places is_found e =
+    subst (λ (t : View C). IsEngine tells seen now leaves faults (record { tablet = t; log = log; places = places; records = found; device = device; store = store; running = [] })) (sym is_tablet)
+    (subst (λ (l : SideView L). IsEngine tells seen now leaves faults (record { tablet = tablet; log = l; places = places; records = found; device = device; store = store; running = [] })) (sym is_log)
     (subst (λ (ps : List (ℕ × ℕ)). IsEngine tells seen now leaves faults (record { tablet = tablet; log = record { home = Some journal; known = journal; holder = None; out = []; queued = queued; room = 0; whole = true }; places = ps; records = found; device = device; store = store; running = [] })) (sym is_places)
-    (subst (λ (es : List Entry). IsEngine tells seen now leaves faults (record { tablet = tablet; log = record { home = Some journal; known = journal; holder = None; out = []; queued = queued; room = 0; whole = true }; places = []; records = es; device = device; store = store; running = [] })) (sym is_found) e))
+    (subst (λ (es : List Entry). IsEngine tells seen now leaves faults (record { tablet = tablet; log = record { home = Some journal; known = journal; holder = None; out = []; queued = queued; room = 0; whole = true }; places = []; records = es; device = device; store = store; running = [] })) (sym is_found) e)))

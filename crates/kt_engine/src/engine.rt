@@ -27,11 +27,12 @@ use std::alloc::Global;
 use std::marker::Model;
 use std::snapshot::Snapshot;
 
-/// A tablet with its log. The store device is kept and not used yet.
+/// A tablet with its log. The store device is kept and not used yet. What is large is boxed, since a lock moves the engine
+/// at each visit.
 #[derive(Drop)]
 pub struct Engine<L: Disk, D, C: Clock> {
-    pub(crate) tablet: Tablet<MemRowSet, C>,
-    pub(crate) log: LogSide<L>,
+    pub(crate) tablet: Box<Tablet<MemRowSet, C>>,
+    pub(crate) log: Box<LogSide<L>>,
     pub(crate) store: D,
     // the session and the place of the REPLICATE of each flying write
     pub(crate) places: Vec<(u32, u64)>,
@@ -45,9 +46,9 @@ impl<L: Disk, D, C: Clock> Model for Engine<L, D, C> {
 
     ghost Value = { EngineView L D C };
 
-    ghost view = { λ e. record { tablet = e.tablet; log = e.log; places = e.places.items; records = e.records.value; device = e.device.value; store = e.store; running = e.running } };
+    ghost view = { λ e. record { tablet = e.tablet.value; log = e.log.value; places = e.places.items; records = e.records.value; device = e.device.value; store = e.store; running = e.running } };
 
-    ghost invariant = { λ e. IsEngine L.tells L.seen L.now L.leaves L.faults (record { tablet = e.tablet; log = e.log; places = e.places.items; records = e.records.value; device = e.device.value; store = e.store; running = e.running }) };
+    ghost invariant = { λ e. IsEngine L.tells L.seen L.now L.leaves L.faults (record { tablet = e.tablet.value; log = e.log.value; places = e.places.items; records = e.records.value; device = e.device.value; store = e.store; running = e.running }) };
 }
 
 /// What an engine is taken apart into.
@@ -57,6 +58,30 @@ pub struct Parts<L, D, C> {
     pub store: D,
     pub clock: C,
     pub trail: EventList,
+}
+
+// The log at home and what is queued for it, in a box of its own. For want of memory the log comes back.
+fn boxed_log<L: Disk>(
+    alloc: Global,
+    journal: Journal<L>,
+    queued: RecordList,
+) -> Result<Box<LogSide<L>>, Journal<L>>
+    requires usable { IsTrue journal.usable }
+    requires durable { IsTrue L.tells → Holds L.now L.leaves journal.disk (records_of (L.seen journal.disk)) }
+    ensures side { IfOk result (λ side. side.value ≡ record { home = Some journal; known = journal; holder = None; out = []; queued = queued; room = 0; whole = true }) }
+    ensures back { IfErr result (λ back. back ≡ journal) }
+{
+    let log = match LogSide::of(alloc, journal, queued) {
+        Ok(log) => log,
+        Err((journal, _)) => return Err(journal),
+    };
+    match Box::new(alloc, log) {
+        Ok(log) => Ok(log),
+        Err(no) => {
+            let (journal, _) = no.value.take_apart();
+            Err(journal)
+        }
+    }
 }
 
 impl<L: Disk, D, C: Clock> Engine<L, D, C> {
@@ -99,8 +124,12 @@ impl<L: Disk, D, C: Clock> Engine<L, D, C> {
         let Ok(running) = Running::new(alloc) else {
             return Err((tablet, journal, store));
         };
-        match LogSide::of(alloc, journal, queued) {
-            Ok(log) => Ok(Engine {
+        let log = match boxed_log(alloc, journal, queued) {
+            Ok(log) => log,
+            Err(journal) => return Err((tablet, journal, store)),
+        };
+        match Box::new(alloc, tablet) {
+            Ok(tablet) => Ok(Engine {
                 tablet,
                 log,
                 store,
@@ -109,7 +138,10 @@ impl<L: Disk, D, C: Clock> Engine<L, D, C> {
                 records: Snapshot::of(records),
                 device,
             }),
-            Err((journal, _)) => Err((tablet, journal, store)),
+            Err(no) => {
+                let (journal, _) = Box::into_inner(log).take_apart();
+                Err((no.value, journal, store))
+            }
         }
     }
 
@@ -182,8 +214,8 @@ impl<L: Disk, D, C: Clock> Engine<L, D, C> {
             records: _,
             device: _,
         } = self;
-        let (clock, trail) = tablet.take_apart();
-        let (journal, _) = log.take_apart();
+        let (clock, trail) = Box::into_inner(tablet).take_apart();
+        let (journal, _) = Box::into_inner(log).take_apart();
         Parts {
             log: journal.into_disk(),
             store,

@@ -15,7 +15,7 @@ ghost use Rattle.kt_engine.specs.Visits.{IsVisit};
 use crate::engine::Engine;
 use kt_base::{Clock, NoMemory};
 use kt_disk::Disk;
-use kt_history::{OpList, Outcome, OutcomeList, RowOp, Write};
+use kt_history::{OpList, Outcome, OutcomeList, Write};
 use kt_loglaws::LogSide;
 use kt_mvcc::KeyList;
 use kt_records::Entry;
@@ -40,22 +40,6 @@ pub struct Draft {
     pub write: NewWrite,
     pub logged: OpList,
     pub ghost alike: { logged ≡ write.ops },
-}
-
-// A copy of the operations of a write.
-fn copy_of(alloc: Global, ops: &OpList) -> Result<OpList, NoMemory>
-    ensures { IfOk result (λ copy. copy ≡ ops.now) }
-{
-    let mut copies = Vec::new(alloc);
-    copies.reserve(ops.len())?;
-    for op in ops.as_slice() {
-        copies.push(RowOp {
-            kind: op.kind,
-            key: op.key.copy()?,
-            cells: op.cells.copy()?,
-        })?;
-    }
-    Ok(OpList::of(copies))
 }
 
 // Makes room for the place of a write more, and for its REPLICATE and its COMMIT beside those of the flying writes.
@@ -87,8 +71,8 @@ impl Draft {
     pub fn of(alloc: Global, write: &Write) -> Result<Draft, NoMemory>
         ensures { IfOk result (λ draft. draft.write.ops ≡ write.now.ops) }
     {
-        let logged = copy_of(alloc, &write.ops)?;
-        let write = NewWrite::of(alloc, copy_of(alloc, &write.ops)?)?;
+        let logged = write.ops.copy()?;
+        let write = NewWrite::of(alloc, write.ops.copy()?)?;
         Ok(Draft { write, logged })
     }
 }
@@ -132,7 +116,7 @@ impl<L: Disk, D, C: Clock> Engine<L, D, C> {
         else {
             return Err(BeginNo::Memory);
         };
-        let logged = mem::replace(&mut draft.logged, OpList::of(Vec::new(alloc)));
+        let logged = mem::replace(&mut draft.logged, OpList::new(alloc));
         let place = self.log.push(Entry::Replicate { ts, ops: logged });
         self.places.push_reserved((number, place));
         Ok(ts)

@@ -3,8 +3,12 @@ use Rattle.kt_engine.proofs.Visiting.{visit_of, apply_visit}
 use Rattle.kt_engine.proofs.engine.Engine.apply_row.Goals as goal
 
 pub invariant_of-self : goal.invariant_of-self
-invariant_of-self g c = applied_or_not _ _ _ _ _ _
-    c.apply_row.new.self c.args.number c.args.at c.apply_row.result c.apply_row.ensures.applied c.apply_row.ensures.beside c.apply_row.ensures.same c.apply_row.ensures.stopped (rw (← c.self.view_is) at c.requires.durable) c.self.invariant
+invariant_of-self g c =
+    let is = c.deref_mut.ensures.value in
+    applied_or_not _ _ _ _ _ _
+    c.apply_row.new.self c.args.number c.args.at c.apply_row.result (rw is at c.apply_row.ensures.applied) (rw is at c.apply_row.ensures.beside) (rw is at c.apply_row.ensures.same) (rw is at c.apply_row.ensures.stopped) (rw (← c.self.view_is) at c.requires.durable) c.self.invariant
 
 pub returns-clause-visit : goal.returns-clause-visit
-returns-clause-visit g c = visit_of _ _ _ _ c.self.view_is (apply_visit c.args.number c.args.at _ c.apply_row.new.self c.apply_row.result c.apply_row.ensures.applied c.apply_row.ensures.beside c.apply_row.ensures.same)
+returns-clause-visit g c =
+    let is = c.deref_mut.ensures.value in
+    visit_of _ _ _ _ c.self.view_is (apply_visit c.args.number c.args.at _ c.apply_row.new.self c.apply_row.result (rw is at c.apply_row.ensures.applied) (rw is at c.apply_row.ensures.beside) (rw is at c.apply_row.ensures.same))

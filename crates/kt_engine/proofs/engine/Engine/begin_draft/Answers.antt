@@ -5,29 +5,40 @@ use Rattle.kt_engine.proofs.engine.Engine.begin_draft.Goals as goal
 
 pub invariant_of-self : goal.invariant_of-self
 invariant_of-self g c =
-    let beside = core_alone c.self.inside.tablet c.ask.new.self c.ask.ensures.beside in
-    left_alone _ _ _ _ _ _ c.ask.new.self c.args.number c.args.index c.in_err-ask.field-0.0 beside c.in_err-ask.ensures.left c.self.invariant
+    let is = c.deref_mut.ensures.value in
+    let beside = core_alone c.self.inside.tablet.value c.ask.new.self (rw is at c.ask.ensures.beside) in
+    left_alone _ _ _ _ _ _ c.ask.new.self c.args.number c.args.index c.in_err-ask.field-0.0 beside (rw is at c.in_err-ask.ensures.left) c.self.invariant
 
 pub invariant_of-self-in_default : goal.invariant_of-self-in_default
-invariant_of-self-in_default g c = roomed_on _ _ _ _ _ _ c.ask.new.self c.make_room.new.log c.make_room.new.places.items c.in_ok-ask.ensures.same c.make_room.ensures.log c.make_room.ensures.more c.make_room.ensures.places.0 c.self.invariant
+invariant_of-self-in_default g c =
+    let room = c.deref_mut-2.ensures.value in
+    roomed_on _ _ _ _ _ _ c.ask.new.self c.make_room.new.log c.make_room.new.places.items (rw c.deref_mut.ensures.value at c.in_ok-ask.ensures.same) (rw room at c.make_room.ensures.log) (rw room at c.make_room.ensures.more) c.make_room.ensures.places.0 c.self.invariant
 
 pub invariant_of-self-in_default-begin_free : goal.invariant_of-self-in_default-begin_free
 invariant_of-self-in_default-begin_free g c =
-    roomed_on _ _ _ _ _ _ c.begin_free.new.self c.make_room.new.log c.make_room.new.places.items (c.in_default-begin_free.ensures.same ∙ c.in_ok-ask.ensures.same) c.make_room.ensures.log c.make_room.ensures.more c.make_room.ensures.places.0 c.self.invariant
+    let room = c.deref_mut-2.ensures.value in
+    roomed_on _ _ _ _ _ _ c.begin_free.new.self c.make_room.new.log c.make_room.new.places.items (c.in_default-begin_free.ensures.same ∙ (c.deref_mut-3.ensures.value ∙ (rw c.deref_mut.ensures.value at c.in_ok-ask.ensures.same))) (rw room at c.make_room.ensures.log) (rw room at c.make_room.ensures.more) c.make_room.ensures.places.0 c.self.invariant
 
 pub invariant_of-self-2 : goal.invariant_of-self-2
 invariant_of-self-2 g c =
-    let before = roomed_on _ _ _ _ _ _ c.ask.new.self c.make_room.new.log c.make_room.new.places.items c.in_ok-ask.ensures.same c.make_room.ensures.log c.make_room.ensures.more c.make_room.ensures.places.0 c.self.invariant in
-    let goes : c.self.inside.tablet.core.stopped ≡ false = c.in_ok-ask.ensures.free.goes in
+    let is = c.deref_mut.ensures.value in
+    let room_is = c.deref_mut-2.ensures.value in
+    let free_is = c.deref_mut-3.ensures.value in
+    let log_is = c.deref_mut-4.ensures.value in
+    let same = rw is at c.in_ok-ask.ensures.same in
+    let before = roomed_on _ _ _ _ _ _ c.ask.new.self c.make_room.new.log c.make_room.new.places.items same (rw room_is at c.make_room.ensures.log) (rw room_is at c.make_room.ensures.more) c.make_room.ensures.places.0 c.self.invariant in
+    let goes : c.self.inside.tablet.value.core.stopped ≡ false = rw is at c.in_ok-ask.ensures.free.goes in
     let may = (rw (← c.self.view_is) at c.requires) goes in
     let fits : c.in-Ok-begin_free.ts < 2 ^ 64 = search rules in
     let room = subst (λ (ps : List (ℕ × ℕ)). length ps + 2 ≤ c.make_room.new.log.room) (sym c.make_room.ensures.places.0) c.in-Ok.ensures.room.0 in
     has_begun _ _ _ _ _ _
     c.begin_free.new.self c.push-place.new.self c.push_reserved.new.self.items c.args.number c.args.index c.in-Ok-begin_free.ts c.push-place.result c.args.draft.now.write.ops c.args.draft.now.write.ops c.replace-logged.result refl (c.replace-logged.ensures.value ∙ c.args.draft.now.alike)
-    c.begin_free.ensures.beside c.in-Ok-begin_free.ensures.begun c.push-place.ensures.queued c.push_reserved.ensures.items (may_on c.self.inside.tablet c.ask.new.self c.args.number c.args.index c.args.draft.now.write.ops c.in_ok-ask.ensures.same may.0) may.1 fits room c.push-place.ensures.place before
+    (rw free_is at c.begin_free.ensures.beside) (rw free_is at c.in-Ok-begin_free.ensures.begun) (rw log_is at c.push-place.ensures.queued) c.push_reserved.ensures.items (may_on c.self.inside.tablet.value c.ask.new.self c.args.number c.args.index c.args.draft.now.write.ops same may.0) may.1 fits room (rw log_is at c.push-place.ensures.place) before
 
 pub returns-clause-visit : goal.returns-clause-visit
-returns-clause-visit g c = visit_of _ _ _ _ c.self.view_is
-    (begun_visit_on c.args.number c.args.index c.in-Ok-begin_free.ts c.push-place.result c.args.draft.now.write.ops _ c.ask.new.self c.begin_free.new.self c.push-place.new.self c.push_reserved.new.self.items c.in_ok-ask.ensures.same c.in-Ok-begin_free.ensures.begun c.begin_free.ensures.beside
-    (ap lending c.push-place.ensures.queued ∙ ap lending c.make_room.ensures.log)
+returns-clause-visit g c =
+    let free_is = c.deref_mut-3.ensures.value in
+    visit_of _ _ _ _ c.self.view_is
+    (begun_visit_on c.args.number c.args.index c.in-Ok-begin_free.ts c.push-place.result c.args.draft.now.write.ops _ c.ask.new.self c.begin_free.new.self c.push-place.new.self c.push_reserved.new.self.items (rw c.deref_mut.ensures.value at c.in_ok-ask.ensures.same) (rw free_is at c.in-Ok-begin_free.ensures.begun) (rw free_is at c.begin_free.ensures.beside)
+    (ap lending (rw c.deref_mut-4.ensures.value at c.push-place.ensures.queued) ∙ ap lending (rw c.deref_mut-2.ensures.value at c.make_room.ensures.log))
     (c.push_reserved.ensures.items ∙ ap (λ ps. ps ++ (c.args.number, c.push-place.result) ∷ []) c.make_room.ensures.places.0))

@@ -6,20 +6,26 @@ use Rattle.kt_engine.proofs.Visiting.{visit_of, lending, ended_visit}
 use Rattle.kt_engine.proofs.engine.Engine.end.Goals as goal
 
 pub push-requires : goal.push-requires
-push-requires g c = has_room _ _ _ _ _ _ c.in_ok-ts.ensures.ended.flight c.args.number c.in_ok-ts.ensures.ended.flies c.self.invariant
+push-requires g c =
+    let ended = rw c.deref_mut.ensures.value at c.in_ok-ts.ensures.ended in
+    rw c.deref_mut-2.ensures.value (has_room _ _ _ _ _ _ ended.flight c.args.number ended.flies c.self.invariant)
 
 pub invariant_of-self-2 : goal.invariant_of-self-2
 invariant_of-self-2 g c =
-    let goes : c.self.inside.tablet.core.stopped ≡ false = not_true c.self.inside.tablet.core.stopped (λ is. c.in_ok-ts.ensures.stopped is) in
+    let is = c.deref_mut.ensures.value in
+    let stopped = rw is at c.in_ok-ts.ensures.stopped in
+    let goes : c.self.inside.tablet.value.core.stopped ≡ false = not_true c.self.inside.tablet.value.core.stopped (λ b. stopped b) in
     let may = (rw (← c.self.view_is) at c.requires) goes in
     has_ended _ _ _ _ _ _
     c.end.new.self c.push.new.self c.forget.new.places.items c.args.number c.in_ok-ts.field-0.index c.in_ok-ts.field-0.ts c.in_ok-ts.field-0.outcomes c.in_ok-ts.field-0.rows
-    c.end.ensures.beside c.in_ok-ts.ensures.ended c.push.ensures.queued c.forget.ensures may c.in_ok-ts.ensures.told c.self.invariant
+    (rw is at c.end.ensures.beside) (rw is at c.in_ok-ts.ensures.ended) (rw c.deref_mut-2.ensures.value at c.push.ensures.queued) c.forget.ensures may (rw is at c.in_ok-ts.ensures.told) c.self.invariant
 
 pub returns-clause-visit : goal.returns-clause-visit
-returns-clause-visit g c = visit_of _ _ _ _ c.self.view_is
-    (ended_visit c.args.number c.in_ok-ts.field-0.index c.in_ok-ts.field-0.ts _ c.end.new.self c.push.new.self c.forget.new.places.items c.in_ok-ts.ensures.ended c.end.ensures.beside
-    (ap lending c.push.ensures.queued) c.forget.ensures)
+returns-clause-visit g c =
+    let is = c.deref_mut.ensures.value in
+    visit_of _ _ _ _ c.self.view_is
+    (ended_visit c.args.number c.in_ok-ts.field-0.index c.in_ok-ts.field-0.ts _ c.end.new.self c.push.new.self c.forget.new.places.items (rw is at c.in_ok-ts.ensures.ended) (rw is at c.end.ensures.beside)
+    (ap lending (rw c.deref_mut-2.ensures.value at c.push.ensures.queued)) c.forget.ensures)
 
 pub returns-clause-held : goal.returns-clause-held
-returns-clause-held g c = subst (λ v. HeldBy v.tablet.core c.args.number c.in_ok-ts.field-0.ops c.in_ok-ts.field-0.keys) c.self.view_is c.in_ok-ts.ensures.held
+returns-clause-held g c = subst (λ v. HeldBy v.tablet.core c.args.number c.in_ok-ts.field-0.ops c.in_ok-ts.field-0.keys) c.self.view_is (rw c.deref_mut.ensures.value at c.in_ok-ts.ensures.held)

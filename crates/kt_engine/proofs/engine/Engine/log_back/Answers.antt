@@ -5,4 +5,4 @@ use Rattle.kt_engine.proofs.engine.Engine.log_back.Goals as goal
 pub invariant_of-self : goal.invariant_of-self
 invariant_of-self g c =
     let old = sym c.self.view_is in
-    comes_back g.L.Disk.tells g.L.Disk.seen g.L.Disk.now g.L.Disk.leaves g.L.Disk.faults _ c.log_back.new.self c.args.batch.journal c.args.number c.self.invariant (rw old at c.requires.out) (rw old at c.requires.journal) c.requires.opens c.log_back.ensures
+    comes_back g.L.Disk.tells g.L.Disk.seen g.L.Disk.now g.L.Disk.leaves g.L.Disk.faults _ c.log_back.new.self c.args.batch.journal c.args.number c.self.invariant (rw old at c.requires.out) (rw old at c.requires.journal) c.requires.opens (rw c.deref_mut.ensures.value at c.log_back.ensures)

@@ -28,19 +28,24 @@ told (Err e) sent why stopped holder is was goes out by = (
 pub returns-in_err-log_out-clause-out : goal.returns-in_err-log_out-clause-out
 returns-in_err-log_out-clause-out g c =
     let old = sym c.self.view_is in
-    rw old (told c.from_residual.result c.log_out.result c.in_err-log_out.field-0.0 c.self.inside.tablet.core.stopped c.self.inside.log.holder c.from_residual.ensures c.in_err-log_out.was (sym c.if-is_stopped.ensures) c.log_out.ensures.out)
+    rw old (told c.from_residual.result c.log_out.result c.in_err-log_out.field-0.0 c.self.inside.tablet.value.core.stopped c.self.inside.log.value.holder c.from_residual.ensures c.in_err-log_out.was (rw c.deref.ensures at (sym c.if-is_stopped.ensures)) (rw c.deref_mut.ensures.value at c.log_out.ensures.out))
 
 pub invariant_of-self-2 : goal.invariant_of-self-2
 invariant_of-self-2 g c =
-    lends g.L.Disk.tells g.L.Disk.seen g.L.Disk.now g.L.Disk.leaves g.L.Disk.faults _ c.log_out.new.self c.in_ok-log_out.field-0.journal c.args.number c.self.invariant (sym c.if-is_stopped.ensures) c.in_ok-log_out.ensures.lent.0 c.in_ok-log_out.ensures.known.0 c.in_ok-log_out.ensures.known.1 c.in_ok-log_out.ensures.lent.2
+    let is = c.deref_mut.ensures.value in
+    lends g.L.Disk.tells g.L.Disk.seen g.L.Disk.now g.L.Disk.leaves g.L.Disk.faults _ c.log_out.new.self c.in_ok-log_out.field-0.journal c.args.number c.self.invariant (rw c.deref.ensures at (sym c.if-is_stopped.ensures)) (rw is at c.in_ok-log_out.ensures.lent.0) (rw is at c.in_ok-log_out.ensures.known.0) (rw is at c.in_ok-log_out.ensures.known.1) (rw is at c.in_ok-log_out.ensures.lent.2)
 
 pub returns-clause-out : goal.returns-clause-out
 returns-clause-out g c =
     let old = sym c.self.view_is in
-    λ by. (λ h. absurd (cc), λ h. let k = rw old at h in let back = (c.in_ok-log_out.ensures.out by).1 k.1 in absurd (cc))
+    let out = rw c.deref_mut.ensures.value at c.in_ok-log_out.ensures.out in
+    λ by. (λ h. absurd (cc), λ h. let k = rw old at h in let back = (out by).1 k.1 in absurd (cc))
 
 pub returns-clause-visit : goal.returns-clause-visit
-returns-clause-visit g c = visit_of _ _ _ _ c.self.view_is
+returns-clause-visit g c =
+    let is = c.deref_mut.ensures.value in
+    let out = rw is at c.in_ok-log_out.ensures.out in
+    visit_of _ _ _ _ c.self.view_is
     (out_visit c.args.number _ c.log_out.new.self
-    (not_lent c.self.inside.log.holder (λ by h. let back = (c.in_ok-log_out.ensures.out by).1 h in cc))
-    (ap (λ l. l.holder) c.in_ok-log_out.ensures.lent.2))
+    (not_lent c.self.inside.log.value.holder (λ by h. let back = (out by).1 h in cc))
+    (ap (λ l. l.holder) (rw is at c.in_ok-log_out.ensures.lent.2)))

@@ -11,17 +11,17 @@ use Rattle.kt_engine.proofs.engine.Engine.standing.Goals as goal
 pub returns-clause-recovers : goal.returns-clause-recovers
 returns-clause-recovers g c =
     subst (λ (v : EngineView _ _ _). Recovers g.L.Disk.tells g.L.Disk.now g.L.Disk.leaves v) c.self.view_is
-    (recovers g.L.Disk.tells g.L.Disk.seen g.L.Disk.now g.L.Disk.leaves g.L.Disk.faults _ c.self.invariant c.standing.ensures.sound.stands c.durable.ensures.held)
+    (recovers g.L.Disk.tells g.L.Disk.seen g.L.Disk.now g.L.Disk.leaves g.L.Disk.faults _ c.self.invariant (rw c.deref.ensures at c.standing.ensures.sound.stands) (rw c.deref-2.ensures at c.durable.ensures.held))
 
 pub returns-clause-recovers_each : goal.returns-clause-recovers_each
 returns-clause-recovers_each g c =
     subst (λ (v : EngineView _ _ _). RecoversEach g.L.Disk.tells g.L.Disk.seen v) c.self.view_is
-    (recovers_each g.L.Disk.tells g.L.Disk.seen g.L.Disk.now g.L.Disk.leaves g.L.Disk.faults _ c.self.invariant c.standing.ensures.sound.stands)
+    (recovers_each g.L.Disk.tells g.L.Disk.seen g.L.Disk.now g.L.Disk.leaves g.L.Disk.faults _ c.self.invariant (rw c.deref.ensures at c.standing.ensures.sound.stands))
 
 pub returns-clause-recovers_all : goal.returns-clause-recovers_all
 returns-clause-recovers_all g c =
     subst (λ (v : EngineView _ _ _). RecoversAll g.L.Disk.tells g.L.Disk.now g.L.Disk.leaves v) c.self.view_is
-    (recovers_all g.L.Disk.tells g.L.Disk.seen g.L.Disk.now g.L.Disk.leaves g.L.Disk.faults _ c.self.invariant c.durable.ensures.held)
+    (recovers_all g.L.Disk.tells g.L.Disk.seen g.L.Disk.now g.L.Disk.leaves g.L.Disk.faults _ c.self.invariant (rw c.deref-2.ensures at c.durable.ensures.held))
 
 pub returns-clause-home : goal.returns-clause-home
 returns-clause-home g c = (subst (λ (v : EngineView _ _ _). IsEngine g.L.Disk.tells g.L.Disk.seen g.L.Disk.now g.L.Disk.leaves g.L.Disk.faults v) c.self.view_is c.self.invariant).home
@@ -41,4 +41,4 @@ returns-clause-logged g c = (subst (λ (v : EngineView _ _ _). IsEngine g.L.Disk
 
 pub returns-clause-at_home : goal.returns-clause-at_home
 returns-clause-at_home g c =
-    subst (λ (v : EngineView _ _ _). v.log.holder ≡ None → (journal : JournalView _) × (v.log.home ≡ Some journal)) c.self.view_is c.by.ensures.home
+    subst (λ (v : EngineView _ _ _). v.log.holder ≡ None → (journal : JournalView _) × (v.log.home ≡ Some journal)) c.self.view_is (rw c.deref-3.ensures at c.by.ensures.home)
