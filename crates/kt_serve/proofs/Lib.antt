@@ -2,6 +2,7 @@ pub mod Lines
 pub mod Flights
 pub mod Begins
 pub mod Stills
+pub mod Homes
 pub mod Applies
 pub mod Ends
 pub mod Commands

@@ -6,7 +6,7 @@ use denote.Struct.Struct.{Struct}
 use denote.Struct.Tuple.{TupleAt, type_at}
 use mathlib.Core.List.{[], ◌∷◌}
 use mir.Syntax.{Sym}
-use Rattle.std.proofs.Crossing.{crosses, Vec-send}
+use Rattle.std.proofs.Crossing.{crosses, Box-send, Vec-send}
 use Rattle.kt_base.specs.declared.outside.Clock as Clock
 use Rattle.kt_base.proofs.cell.Cells.TheSendSync as cells
 use Rattle.kt_mvcc.proofs.flight.Flight.TheSendSync as flight
@@ -71,7 +71,7 @@ module _ (L : RattleType) (g : Disk.Ghosts L.Denot) where
 module _ (L D C : RattleType) (g : Disk.Ghosts L.Denot) (h : Clock.Ghosts C.Denot) where
   pub engine_send : IsSend L → IsSend D → IsSend C → IsSend (Engine.the_row L D C g h)
   engine_send l d c = view_send (Within.the_row L D C g h) _ _ _ _ (recorded_send (Within.the_field L D C g h).row _ _ (Within.the_type L D C g h).to_one (struct_send (shape (Within.the_type L D C g h))
-      (tablet_send _ C ghosts h rows.the_send c, (side_send L g l, (d, (search (sendable, crosses) depth 20, (running.the_send, (search (sendable, crosses), (search (sendable, crosses), tt)))))))))
+      (Box-send _ (tablet_send _ C ghosts h rows.the_send c), (Box-send _ (side_send L g l), (d, (search (sendable, crosses) depth 20, (running.the_send, (search (sendable, crosses), (search (sendable, crosses), tt)))))))))
 
   pub shared_sync : IsSend L → IsSend D → IsSend C → IsSync (SharedTablet.the_row L D C g h)
   shared_sync l d c = recorded_sync (SharedTablet.the_field L D C g h).row _ _ (SharedTablet.the_type L D C g h).to_one (struct_sync (shape (SharedTablet.the_type L D C g h)) (lock.the_field_sync (Engine.the_row L D C g h) Event.the_row (Part.the_row L D C g h) _ (engine_send l d c), tt))

@@ -1,4 +1,5 @@
 pub mod Sessions
+pub mod Homes
 pub mod Scans
 pub mod Places
 pub mod Runs

@@ -2,6 +2,7 @@
 #![tactic(auto)]
 
 mod close;
+mod home;
 mod log;
 mod places;
 mod replies;

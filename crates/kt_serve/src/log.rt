@@ -1,17 +1,17 @@
 //! The log, taken out by a pass, appended to outside the lock, and brought home.
-ghost use Rattle.std.specs.Prelude.{◌≡◌, ◌≤◌, ℕ, [], Err, IsTrue, List, true, OnOk};
+ghost use Rattle.std.specs.Prelude.{◌≡◌, ◌≤◌, ℕ, Err, IsTrue, List, true, OnOk};
 ghost use Rattle.kt_history.specs.declared.operation.RowOp.{RowOp};
 ghost use Rattle.kt_seatlock.specs.Passes.{number, seen, part, MayEnter, IsBack};
 ghost use Rattle.kt_engine.specs.Engines.{IsLent};
 ghost use Rattle.kt_engine.specs.Visits.{IsVisit};
 ghost use Rattle.kt_serve.specs.Sessions.{Flies, LentBy, IsAloft, HasNoLog, HasLog, IsStill, AfterTurn, has_stop};
 
+use crate::home::{take_back, take_broken, take_home};
 use kt_base::Clock;
 use kt_disk::Disk;
-use kt_engine::{Broken, Engine, LogNo};
+use kt_engine::{Engine, LogNo};
 use kt_journal::AppendNo;
 use kt_loglaws::Batch;
-use kt_records::RecordList;
 use kt_seatlock::{Pass, SeatLock};
 use std::alloc::Global;
 use std::sync::Wait;
@@ -83,16 +83,7 @@ fn ask_log<L: Disk, D, C: Clock, R: Wait>(
     turn
 }
 
-// No record is left. The room that they had stays.
-fn emptied(records: RecordList) -> RecordList
-    ensures { result ≡ [] }
-{
-    let mut records = records.into_vec();
-    records.clear();
-    RecordList::of(records)
-}
-
-// Appends the batch, and brings the log home. Records that are not queued again are let go of before the visit.
+// Appends the batch, and brings the log home.
 fn bring_home<L: Disk, D, C: Clock, R: Wait>(
     rt: &R,
     alloc: Global,
@@ -108,27 +99,17 @@ fn bring_home<L: Disk, D, C: Clock, R: Wait>(
     ensures home { HasNoLog (part pass.new) }
     ensures stopped { result ≡ Err Halt.Stopped → has_stop (seen pass.new) ≡ true }
 {
-    let by = pass.number();
     match batch.journal.append_batch(alloc, &batch.records) {
         Ok(()) => {
-            batch.records = emptied(batch.records);
-            let mut engine = lock.enter(rt, pass);
-            engine.log_home(by, batch);
-            lock.leave(pass, engine);
+            take_home(rt, lock, pass, batch);
             Ok(())
         }
         Err(AppendNo::Memory) => {
-            let mut engine = lock.enter(rt, pass);
-            engine.log_back(by, batch);
-            lock.leave(pass, engine);
+            take_back(rt, lock, pass, batch);
             Err(Halt::Memory)
         }
         Err(AppendNo::Fault) => {
-            batch.records = emptied(batch.records);
-            let mut engine = lock.enter(rt, pass);
-            engine.standing();
-            engine.stop(by, Broken::Log(batch));
-            lock.leave(pass, engine);
+            take_broken(rt, lock, pass, batch);
             Err(Halt::Stopped)
         }
     }

@@ -9,7 +9,7 @@ use crate::log::{Halt, make_durable};
 use kt_base::Clock;
 use kt_disk::Disk;
 use kt_engine::{Engine, Stopped, WriteDone};
-use kt_history::{Reply, RowOp};
+use kt_history::{OpList, Reply};
 use kt_seatlock::{Pass, SeatLock};
 use std::alloc::Global;
 use std::sync::Wait;
@@ -97,7 +97,7 @@ pub fn apply_rows<L: Disk, D, C: Clock, R: Wait>(
     alloc: Global,
     lock: &SeatLock<Engine<L, D, C>>,
     pass: &mut Pass<Engine<L, D, C>>,
-    ops: &[RowOp],
+    ops: &OpList,
 ) -> Result<(), Halt>
     requires enters { MayEnter lock.now pass.old }
     requires aloft { (i ts : ℕ) × IsAloft (part pass.old) (number pass.old) i ts ops.now 0 }

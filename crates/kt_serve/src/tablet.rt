@@ -69,7 +69,7 @@ impl<L: Disk, D, C: Clock> SharedTablet<L, D, C> {
             None => {}
         }
         gate.at(Point::Begun { session, index });
-        match apply_rows(rt, alloc, &self.lock, pass, write.ops.as_slice()) {
+        match apply_rows(rt, alloc, &self.lock, pass, &write.ops) {
             Ok(()) => Ok(end_write(rt, &self.lock, pass)),
             Err(Halt::Stopped) => Ok(Reply::Stopped),
             Err(Halt::Memory) => Err(NoMemory),
