@@ -27,8 +27,8 @@ use Rattle.kt_history.specs.Rows.{key_cmp}
 use Rattle.kt_engine.specs.Logged.{IsShort}
 use Rattle.kt_history.specs.Operations.{cell_len, op_len, DifferentKeys}
 use Rattle.kt_records.specs.Rules.{EachAfter, CellFits, FollowingCell, next_id, FollowingOp, may_list, may_hold, has_key}
-use Rattle.kt_records.specs.Spelling.{operation}
-use Rattle.kt_records.proofs.Lengths.{length-operation}
+use Rattle.kt_history.specs.Spelled.{operation}
+use Rattle.kt_history.proofs.Lengths.{length-operation}
 use Rattle.kt_script.specs.Columns.{counts_from}
 use Rattle.kt_script.specs.declared.forms.OpForm.{OpForm}
 use Rattle.kt_script.specs.declared.forms.OpForm.TheVariants as form

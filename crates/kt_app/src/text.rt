@@ -32,7 +32,7 @@ fn reply_fits(reply: &Reply)
             let _ts = *ts;
         }
         Reply::Rows { t, rows } => {
-            let _numbers = (*t, rows.as_slice().len());
+            let _numbers = (*t, rows.len());
         }
         Reply::Ancient { t, a } => {
             let _numbers = (*t, *a);
