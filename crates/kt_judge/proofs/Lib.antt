@@ -1,6 +1,7 @@
 pub mod Steps
 pub mod Allowed
 pub mod Lines
+pub mod Made
 pub mod Sitting
 pub mod Taken
 pub mod Walked

@@ -7,6 +7,7 @@ use Rattle.std.specs.Ordering.{is_lt, is_eq, eq_by_cmp, ordering_reverse}
 use Rattle.std.specs.declared.cmp.Ordering.{Ordering}
 use Rattle.std.specs.declared.cmp.Ordering.TheVariants.{Less, Equal, Greater}
 use Rattle.std.specs.List.{AllByRecursion, insert}
+use Rattle.std.specs.FinMap.{nat_cmp-IsAntisymmetric, slice_cmp-IsAntisymmetric}
 use Rattle.std.specs.FinMap.Entries.{by_order, find, put, below_all, is_sorted, find-put, find_tied, is_sorted-put}
 use Rattle.std.proofs.lemmas.Cmp.{nat_list_cmp_total}
 use Rattle.std.proofs.lemmas.Bool.{and_parts, cases_eq}
@@ -15,7 +16,7 @@ use Rattle.kt_history.specs.declared.change.Change.{Change}
 use Rattle.kt_history.specs.Rows.{apply, key_cmp}
 use Rattle.kt_history.specs.Places.{place_of, one_later}
 use Rattle.kt_history.proofs.PlaceLaws.{Says, says_at}
-use Rattle.kt_judge.specs.Tables.{Versions, Entries, AreOrdered, AreUpTo, IsTable, IsTableUpTo, IsPut, versions_in, row_from, row_of}
+use Rattle.kt_judge.specs.Tables.{Versions, Entries, AreOrdered, AreUpTo, IsTable, IsTableUpTo, IsPut, versions_in, row_from, row_of, is_of_key}
 use Rattle.kt_judge.proofs.Dated.{IsChanged}
 
 -- ---- orders
@@ -90,6 +91,24 @@ place_gap q (x ∷ es) zero d lt h ge ne = ap (λ o. by_order o (Err 0) (Ok 0) (
 place_gap q (x ∷ es) (suc n) d lt h ge ne =
     ap (λ o. by_order o (Err 0) (Ok 0) (one_later (place_of key_cmp q es))) (greater x.0 q (h zero x (omega arith)))
     ∙ ap one_later (place_gap q es n d (omega arith) (λ k d below. h (suc k) d (omega arith)) ge ne)
+
+-- ---- a key whose entry is at a place
+
+pub entry_of : (q : List ℕ) (es : Entries) (n : ℕ) → is_of_key q (slice_get es n) ≡ true → (n < length es) × ((d : List ℕ × Versions) → key_cmp q (get_or es n d).0 ≡ Equal)
+entry_of q [] zero h = cc
+entry_of q [] (suc n) h = cc
+entry_of q (e ∷ es) zero h = (omega arith, λ d. equal _ h)
+entry_of q (e ∷ es) (suc n) h = let rest = entry_of q es n h in (omega (arith, rest.0), rest.1)
+
+pub place_known : (q : List ℕ) (es : Entries) (n : ℕ) → is_sorted key_cmp es ≡ true → is_of_key q (slice_get es n) ≡ true → place_of key_cmp q es ≡ Ok n
+place_known q [] n sorted h = absurd (omega (arith, (entry_of q [] n h).0))
+place_known q (x ∷ es) n sorted h = place_here q (x ∷ es) n x there.0 below (ap is_eq (there.1 x))
+  where
+    there : (n < length (x ∷ es)) × ((d : List ℕ × Versions) → key_cmp q (get_or (x ∷ es) n d).0 ≡ Equal)
+    there = entry_of q (x ∷ es) n h
+
+    below : (k : ℕ) (d : List ℕ × Versions) → k < n → is_lt (key_cmp (get_or (x ∷ es) k d).0 q) ≡ true
+    below k d lt = ap is_lt (subst (λ (p : List ℕ). key_cmp (get_or (x ∷ es) k d).0 p ≡ Less) (sym (slice_cmp-IsAntisymmetric nat_cmp-IsAntisymmetric q (get_or (x ∷ es) n d).0 (there.1 d))) (sorted_at (x ∷ es) k n d sorted lt there.0))
 
 -- ---- what the place says of the key
 

@@ -1,5 +1,5 @@
 -- The rows of a table by key: each key with what became of its row, by time.
-use Rattle.std.specs.Prelude.{◌≡◌, ℕ, ◌≤◌, ◌&&◌, true, List, [], ◌∷◌, map, Option, Some, None, if◌then◌else◌, nat_le}
+use Rattle.std.specs.Prelude.{◌≡◌, ℕ, ◌≤◌, ◌&&◌, Bool, true, false, List, [], ◌∷◌, map, Option, Some, None, if◌then◌else◌, nat_le}
 use Rattle.std.specs.List.{AllByRecursion}
 use Rattle.std.specs.List.Sorted.{IsNonDecreasingBy}
 use Rattle.std.specs.FinMap.Entries.{find, is_sorted}
@@ -46,6 +46,11 @@ Entries = List (List ℕ × Versions)
 
 abbrev pub keys_in : Entries → List (List ℕ)
 keys_in entries = map (λ (e : List ℕ × Versions). e.0) entries
+
+-- whether an entry, if there is one, is that of a key
+abbrev pub is_of_key : List ℕ → Option (List ℕ × Versions) → Bool
+is_of_key key None = false
+is_of_key key (Some e) = eq_by_cmp key_cmp key e.0
 
 -- the row of a key at t
 abbrev pub row_of : Entries → List ℕ → ℕ → Option Row

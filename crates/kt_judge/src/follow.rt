@@ -16,7 +16,7 @@ ghost use Rattle.kt_judge.specs.Machine.{write_in, ops_in, at_in, mark_in, Tells
 use crate::lists::nth;
 use crate::machine::{Flight, Machine, is_next_timestamp};
 use kt_base::NoMemory;
-use kt_history::{At, Command, Event, Plan, RowOp, cells_needed};
+use kt_history::{At, Command, Event, OpList, Plan, cells_needed};
 use kt_script::Script;
 
 pub(crate) fn command_at(plan: &Plan, s: u32, i: u32) -> Option<&Command>
@@ -28,23 +28,13 @@ pub(crate) fn command_at(plan: &Plan, s: u32, i: u32) -> Option<&Command>
     }
 }
 
-// The operations of a command that is a write.
-fn write_at(plan: &Plan, s: u32, i: u32) -> Option<&[RowOp]>
+/// The operations of a command that is a write.
+pub(crate) fn write_at(plan: &Plan, s: u32, i: u32) -> Option<&OpList>
     ensures { option_copied result ≡ write_in (command_of (nth plan.now s) i) }
 {
     match command_at(plan, s, i) {
-        Some(Command::Write(write)) => Some(write.ops.as_slice()),
+        Some(Command::Write(write)) => Some(&write.ops),
         _ => None,
-    }
-}
-
-// The operations of a command that is a write, and none of another.
-pub(crate) fn ops_at(plan: &Plan, s: u32, i: u32) -> &[RowOp]
-    ensures { result.now ≡ ops_in (write_in (command_of (nth plan.now s) i)) }
-{
-    match write_at(plan, s, i) {
-        Some(ops) => ops,
-        None => &[],
     }
 }
 
@@ -74,19 +64,25 @@ fn is_chore(plan: &Plan, s: u32, i: u32) -> bool
     matches!(command_at(plan, s, i), Some(Command::Chore(_)))
 }
 
-fn has_key(ops: &[RowOp], key: &[u8]) -> bool
+fn has_key(ops: &OpList, key: &[u8]) -> bool
     ensures { result ≡ list_any (λ other. eq_by_cmp key_cmp key.now other.key) ops.now }
 {
-    ops.iter()
-        .any(|other| key.cmp(&other.key.as_slice()).is_eq())
+    'ops: for at in 0..ops.len() {
+        let other = ops.at(at);
+        if key.cmp(&other.key()).is_eq() {
+            return true;
+        }
+    }
+    false
 }
 
 // Whether two writes share a key.
-fn share_key(ops: &[RowOp], others: &[RowOp]) -> bool
+fn share_key(ops: &OpList, others: &OpList) -> bool
     ensures { result ≡ share_key ops.now others.now }
 {
-    for op in ops {
-        if has_key(others, op.key.as_slice()) {
+    'ops: for at in 0..ops.len() {
+        let op = ops.at(at);
+        if has_key(others, op.key()) {
             return true;
         }
     }
@@ -94,12 +90,21 @@ fn share_key(ops: &[RowOp], others: &[RowOp]) -> bool
 }
 
 // Whether a flying write has a key of these operations.
-fn flies_key(flying: &[Flight], plan: &Plan, ops: &[RowOp]) -> bool
+fn flies_with(flight: Flight, plan: &Plan, ops: &OpList) -> bool
+    ensures { result ≡ share_key ops.now (ops_in (write_in (command_of (nth plan.now flight.s) flight.i))) }
+{
+    match write_at(plan, flight.s, flight.i) {
+        Some(others) => share_key(ops, others),
+        None => false,
+    }
+}
+
+// Whether any flying write has a key of these operations.
+fn flies_key(flying: &[Flight], plan: &Plan, ops: &OpList) -> bool
     ensures { result ≡ list_any (λ f. share_key ops.now (ops_in (write_in (command_of (nth plan.now f.s) f.i)))) flying.now }
 {
     for flight in flying {
-        let others = write_at(plan, flight.s, flight.i).unwrap_or(&[]);
-        if share_key(ops, others) {
+        if flies_with(*flight, plan, ops) {
             return true;
         }
     }

@@ -8,7 +8,7 @@ ghost use Rattle.kt_judge.specs.Tables.{IsTable, IsTableOf};
 ghost use Rattle.kt_judge.specs.Grown.{BeginsLater, Grows, end_of};
 ghost use Rattle.kt_schema.specs.Columns.{fill_of};
 
-use crate::follow::ops_at;
+use crate::follow::write_at;
 use crate::keys::run_keys;
 use crate::opening::{Opening, table_of};
 use crate::versions::Versions;
@@ -32,7 +32,7 @@ fn put_line(
     ensures { OnOk result ((cells : ℕ) → Grows (work_of cells script.now) event.now entries.old.items entries.new.items) }
 {
     if let Event::Begin { s, i, ts, .. } = *event {
-        put_write(alloc, entries, fill, ts, ops_at(&script.plan, s, i))?;
+        put_write(alloc, entries, fill, ts, write_at(&script.plan, s, i))?;
     }
     Ok(())
 }

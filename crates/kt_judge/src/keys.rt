@@ -1,9 +1,9 @@
 //! The keys that may come to have rows in a run.
 
-use crate::follow::ops_at;
+use crate::follow::write_at;
 use crate::opening::Opening;
 use kt_base::NoMemory;
-use kt_history::{Change, Event, OpKind, RowOp};
+use kt_history::{Change, Event, OpKind, OpList};
 use kt_script::Script;
 use std::alloc::Global;
 
@@ -23,11 +23,12 @@ fn add_opening<'a>(keys: &mut Vec<&'a [u8]>, opening: &'a Opening) -> Result<(),
 }
 
 // The keys of the operations that can insert a row.
-fn add_ops<'a>(keys: &mut Vec<&'a [u8]>, ops: &'a [RowOp]) -> Result<(), NoMemory> {
-    for op in ops {
-        match op.kind {
+fn add_ops<'a>(keys: &mut Vec<&'a [u8]>, ops: &'a OpList) -> Result<(), NoMemory> {
+    for at in 0..ops.len() {
+        let op = ops.at(at);
+        match op.kind() {
             OpKind::Insert | OpKind::Upsert | OpKind::InsertIgnore => {
-                keys.push(op.key.as_slice())?;
+                keys.push(op.key())?;
             }
             _ => {}
         }
@@ -47,7 +48,9 @@ pub(crate) fn run_keys<'a>(
     add_opening(&mut keys, opening)?;
     for event in events {
         if let Event::Begin { s, i, .. } = *event {
-            add_ops(&mut keys, ops_at(&script.plan, s, i))?;
+            if let Some(ops) = write_at(&script.plan, s, i) {
+                add_ops(&mut keys, ops)?;
+            }
         }
     }
     keys.sort_unstable();

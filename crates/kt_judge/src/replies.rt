@@ -9,14 +9,15 @@ ghost use Rattle.kt_script.specs.declared.replies.ReplyLine.TheVariants as reply
 ghost use Rattle.kt_script.specs.Texts.{row_text};
 ghost use Rattle.kt_judge.specs.Decided.{Decided};
 ghost use Rattle.kt_judge.specs.Works.{work_of};
+ghost use Rattle.kt_judge.specs.Machine.{ops_in};
 ghost use Rattle.kt_judge.specs.Verdicts.{kinds_shown, Prints, ReplyStands};
 ghost use Rattle.kt_judge.specs.Replied.{ShowsAt, ShowsPast, outcomes_told};
 
-use crate::follow::{command_at, ops_at};
+use crate::follow::{command_at, write_at};
 use crate::rows::rows_stand;
 use crate::view::Table;
-use kt_base::{Kind, NoMemory, Row};
-use kt_history::{Command, Event, Outcome, RowList, RowOp, Scan, outcome};
+use kt_base::{Kind, NoMemory};
+use kt_history::{Command, Event, OpList, Outcome, RowList, Scan, outcome};
 use kt_scan::laws::table_law;
 use kt_scan::run;
 use kt_script::{ReplyLine, Script};
@@ -30,14 +31,15 @@ fn is_outcome(printed: Outcome, told: Outcome) -> bool
 }
 
 // Whether these are the outcomes of some operations on the rows at a time.
-fn outcomes_stand(table: &Table, t: u64, ops: &[RowOp], printed: &[Outcome]) -> bool
+fn outcomes_stand(table: &Table, t: u64, ops: &OpList, printed: &[Outcome]) -> bool
     ensures { Decided result (printed.now ≡ outcomes_told table.now.entries.items t ops.now) }
 {
     if ops.len() != printed.len() {
         return false;
     }
-    for (at, op) in ops.iter().enumerate() {
-        let told = outcome(op.kind, table.has_row_at(op.key.as_slice(), t));
+    'ops: for at in 0..ops.len() {
+        let op = ops.at(at);
+        let told = outcome(op.kind(), table.has_row_at(op.key(), t));
         if !is_outcome(printed[at], told) {
             return false;
         }
@@ -45,15 +47,25 @@ fn outcomes_stand(table: &Table, t: u64, ops: &[RowOp], printed: &[Outcome]) -> 
     true
 }
 
-fn is_at(printed: &ReplyLine, table: &Table, ts: u64, ops: &[RowOp]) -> bool
-    ensures { Decided result (printed.now ≡ reply.At ts (outcomes_told table.now.entries.items (ts - 1) ops.now)) }
+// Whether these are the outcomes of the operations of a write, or none are where there is no write.
+fn are_outcomes(table: &Table, t: u64, ops: Option<&OpList>, printed: &[Outcome]) -> bool
+    ensures { Decided result (printed.now ≡ outcomes_told table.now.entries.items t (ops_in (option_copied ops.entry))) }
+{
+    match ops {
+        Some(ops) => outcomes_stand(table, t, ops, printed),
+        None => printed.is_empty(),
+    }
+}
+
+fn is_at(printed: &ReplyLine, table: &Table, ts: u64, ops: Option<&OpList>) -> bool
+    ensures { Decided result (printed.now ≡ reply.At ts (outcomes_told table.now.entries.items (ts - 1) (ops_in (option_copied ops.entry)))) }
 {
     match printed {
         ReplyLine::At {
             ts: shown,
             outcomes,
         } => {
-            (*shown == ts) & outcomes_stand(table, ts.saturating_sub(1), ops, outcomes.as_slice())
+            (*shown == ts) & are_outcomes(table, ts.saturating_sub(1), ops, outcomes.as_slice())
         }
         _ => false,
     }
@@ -137,7 +149,7 @@ fn shown_rows(
 {
     match command {
         Some(Command::Scan(scan)) => Ok(scan_rows(alloc, script, table, scan, t)?),
-        _ => Ok(RowList::of(Vec::new(alloc))),
+        _ => Ok(RowList::new(alloc)),
     }
 }
 
@@ -156,7 +168,7 @@ fn is_rows(
     printed: &ReplyLine,
     t: u64,
     kinds: &[Kind],
-    rows: &[Row],
+    rows: &RowList,
 ) -> Result<bool, NoMemory>
     ensures { IfOk result (λ is. Decided is (printed.now ≡ reply.Rows t (map (row_text kinds.now) rows.now))) }
 {
@@ -184,7 +196,7 @@ fn is_shown(
 {
     let rows = shown_rows(alloc, script, table, named, t)?;
     let kinds = kinds_shown(alloc, script, command)?;
-    let same = is_rows(alloc, printed, t, &kinds, rows.as_slice())?;
+    let same = is_rows(alloc, printed, t, &kinds, &rows)?;
     Ok(same)
 }
 
@@ -202,7 +214,7 @@ fn is_reply_of(
         → Decided is (Prints (kinds_shown (work_of cells script.now) command.now) stopped (reply_of (work_of cells script.now) whole line.now) printed.now)) }
 {
     match *line {
-        Event::End { s, i, ts } => Ok(is_at(printed, table, ts, ops_at(&script.plan, s, i))),
+        Event::End { s, i, ts } => Ok(is_at(printed, table, ts, write_at(&script.plan, s, i))),
         Event::Rows { s, i, t } => {
             let named = command_at(&script.plan, s, i);
             let same = is_shown(alloc, printed, script, table, command, named, t)?;

@@ -6,7 +6,7 @@ ghost use Rattle.std.specs.Ordering.{is_lt};
 ghost use Rattle.std.specs.FinMap.Entries.{find, is_sorted};
 ghost use Rattle.kt_history.specs.Places.{place_of};
 ghost use Rattle.kt_history.specs.Rows.{key_cmp};
-ghost use Rattle.kt_judge.specs.Tables.{row_of, IsTable, IsTableUpTo, IsPut};
+ghost use Rattle.kt_judge.specs.Tables.{row_of, is_of_key, IsTable, IsTableUpTo, IsPut};
 
 use crate::versions::Versions;
 use kt_base::{Cells, NoMemory, Octets};
@@ -45,12 +45,37 @@ pub(crate) fn entry_at(entries: &[(Octets, Versions)], at: usize) -> Option<&(Oc
     entries.get(at)
 }
 
-// What became of the row of a key, if anything did.
-fn versions_of<'a>(entries: &'a [(Octets, Versions)], key: &[u8]) -> Option<&'a Versions>
+/// Whether the entry at a place, if there is one, is that of a key.
+pub(crate) fn is_at(entries: &[(Octets, Versions)], key: &[u8], at: usize) -> bool
+    ensures { result ≡ is_of_key key.now (slice_get entries.now at) }
+{
+    match entry_at(entries, at) {
+        Some((other, _)) => key.cmp(&other.as_slice()).is_eq(),
+        None => false,
+    }
+}
+
+// As `place`. The hint is a place that is looked at first.
+fn place_from(entries: &[(Octets, Versions)], key: &[u8], hint: usize) -> Result<usize, usize>
+    requires { is_sorted key_cmp entries.now ≡ true }
+    ensures { result ≡ place_of key_cmp key.now entries.now }
+{
+    if is_at(entries, key, hint) {
+        return Ok(hint);
+    }
+    place(entries, key)
+}
+
+// What became of the row of a key, if anything did. The hint is a place that is looked at first.
+fn versions_of<'a>(
+    entries: &'a [(Octets, Versions)],
+    key: &[u8],
+    hint: usize,
+) -> Option<&'a Versions>
     requires { is_sorted key_cmp entries.now ≡ true }
     ensures { option_copied result ≡ find key_cmp key.now entries.now }
 {
-    match place(entries, key) {
+    match place_from(entries, key, hint) {
         Ok(at) => match entry_at(entries, at) {
             Some((_, versions)) => Some(versions),
             None => None,
@@ -68,23 +93,24 @@ pub(crate) fn row_at(
     requires { IsTable entries.now }
     ensures { IfOk result (λ row. row ≡ row_of entries.now key.now t) }
 {
-    match versions_of(entries, key) {
+    match versions_of(entries, key, entries.len()) {
         Some(versions) => versions.row_at(t),
         None => Ok(None),
     }
 }
 
-/// As `row_at`, in a row that borrows. Tells whether there is a row.
+/// As `row_at`, in a row that borrows. Tells whether there is a row. The hint is a place that is looked at first.
 pub(crate) fn row_into<'v>(
     entries: &'v [(Octets, Versions)],
     key: &[u8],
     t: u64,
+    hint: usize,
     row: &mut RowRef<'v>,
 ) -> Result<bool, NoMemory>
     requires { IsTable entries.now }
     ensures { IfOk result (λ is. (if is then Some row.new else None) ≡ row_of entries.now key.now t) }
 {
-    match versions_of(entries, key) {
+    match versions_of(entries, key, hint) {
         Some(versions) => versions.row_into(t, row),
         None => Ok(false),
     }
@@ -95,7 +121,7 @@ pub(crate) fn has_row_at(entries: &[(Octets, Versions)], key: &[u8], t: u64) -> 
     requires { IsTable entries.now }
     ensures { result ≡ is_some (row_of entries.now key.now t) }
 {
-    match versions_of(entries, key) {
+    match versions_of(entries, key, entries.len()) {
         Some(versions) => versions.has_row_at(t),
         None => false,
     }

@@ -9,7 +9,7 @@ ghost use Rattle.kt_history.specs.Views.{key_above};
 ghost use Rattle.kt_judge.specs.Tables.{IsTable, keys_in, row_of};
 ghost use Rattle.kt_judge.specs.TableLaws.{keys_rise, has_key};
 
-use crate::table::{entry_at, has_row_at, row_at, row_into};
+use crate::table::{entry_at, has_row_at, is_at, row_at, row_into};
 use crate::versions::Versions;
 use kt_base::{Cells, NoMemory, Octets};
 use kt_history::{RowRef, View};
@@ -65,14 +65,26 @@ fn borrowed_at(entries: &[(Octets, Versions)], at: usize) -> Option<&[u8]>
     }
 }
 
-// The least key above another, or the first of all, borrowed.
-fn next_above<'v>(entries: &'v [(Octets, Versions)], after: Option<&[u8]>) -> Option<&'v [u8]>
+// As `count_not_above`. The hint is a place that is looked at first for the key.
+fn count_from(entries: &[(Octets, Versions)], key: &[u8], hint: usize) -> usize
     requires { IsTable entries.now }
-    ensures { option_copied result ≡ key_above (option_copied after.entry) (keys_in entries.now) }
+    ensures bound { result ≤ length entries.now }
+    ensures parts { IsPartitionPoint (λ e. not (is_lt (key_cmp key.now e.0)) ≡ true) (λ e. not (is_lt (key_cmp key.now e.0)) ≡ false) entries.now result }
+{
+    if is_at(entries, key, hint) {
+        return hint + 1;
+    }
+    count_not_above(entries, key)
+}
+
+// Where the least key above another stands, or the first of all.
+fn place_after(entries: &[(Octets, Versions)], after: Option<&[u8]>, hint: usize) -> usize
+    requires { IsTable entries.now }
+    ensures { option_map (λ e. e.0) (slice_get entries.now result) ≡ key_above (option_copied after.entry) (keys_in entries.now) }
 {
     match after {
-        None => borrowed_at(entries, 0),
-        Some(after) => borrowed_at(entries, count_not_above(entries, after)),
+        None => 0,
+        Some(after) => count_from(entries, after, hint),
     }
 }
 
@@ -112,17 +124,18 @@ impl View for Table {
         least_above(&self.entries, after)
     }
 
-    fn next_key(&self, after: Option<&[u8]>, _hint: &mut usize) -> Option<&[u8]> {
-        next_above(&self.entries, after)
+    fn next_key(&self, after: Option<&[u8]>, hint: &mut usize) -> Option<&[u8]> {
+        *hint = place_after(&self.entries, after, *hint);
+        borrowed_at(&self.entries, *hint)
     }
 
     fn row_into<'v>(
         &'v self,
         key: &[u8],
         t: u64,
-        _hint: &mut usize,
+        hint: &mut usize,
         row: &mut RowRef<'v>,
     ) -> Result<bool, NoMemory> {
-        row_into(&self.entries, key, t, row)
+        row_into(&self.entries, key, t, *hint, row)
     }
 }

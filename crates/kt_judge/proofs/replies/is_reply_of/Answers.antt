@@ -1,4 +1,4 @@
-use Rattle.std.proofs.Common.{◌≡◌, List, Option, map, sym, subst}
+use Rattle.std.proofs.Common.{◌≡◌, List, Option, map, sym, ap, subst}
 use Rattle.kt_history.specs.declared.command.Command.{Command}
 use Rattle.kt_scan.specs.Encoded.{keys_of}
 use Rattle.kt_script.specs.Texts.{row_text}
@@ -10,6 +10,8 @@ use Rattle.kt_script.specs.declared.replies.ReplyLine.TheVariants as reply
 use Rattle.kt_judge.specs.Decided.{Decided}
 use Rattle.kt_judge.specs.Works.{work_of}
 use Rattle.kt_judge.specs.Verdicts.{kinds_shown, Prints}
+use Rattle.std.specs.Option.{option_copied}
+use Rattle.kt_judge.specs.Machine.{ops_in}
 use Rattle.kt_judge.proofs.Answering.{outcomes_at}
 use Rattle.kt_judge.proofs.replies.is_reply_of.Goals as goal
 
@@ -17,7 +19,7 @@ pub returns-in-End : goal.returns-in-End
 returns-in-End c = λ cells whole shows.
     let e = c.in-End in
     subst (λ (line : Event). Decided c.is_at.result (Prints (kinds_shown (work_of cells c.args.script.now) c.args.command.now) c.args.stopped (reply_of (work_of cells c.args.script.now) whole line) c.args.printed.now)) (sym e.is)
-    (subst (λ (os : List Outcome). Decided c.is_at.result (c.args.printed.now ≡ reply.At e.ts os)) (outcomes_at (work_of cells c.args.script.now) whole c.args.table.now.entries.items e.s e.i e.ts c.ops_at.result.now shows c.ops_at.ensures) c.is_at.ensures)
+    (subst (λ (os : List Outcome). Decided c.is_at.result (c.args.printed.now ≡ reply.At e.ts os)) (outcomes_at (work_of cells c.args.script.now) whole c.args.table.now.entries.items e.s e.i e.ts (ops_in (option_copied c.write_at.result)) shows (ap ops_in c.write_at.ensures)) c.is_at.ensures)
 
 pub returns-in_ok-same-in-Rows : goal.returns-in_ok-same-in-Rows
 returns-in_ok-same-in-Rows c = λ cells whole shows.

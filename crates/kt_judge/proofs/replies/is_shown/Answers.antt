@@ -10,5 +10,5 @@ use Rattle.kt_judge.proofs.replies.is_shown.Goals as goal
 
 pub returns : goal.returns
 returns c = λ cells rows shows.
-    subst (λ (shown : List (List Cell)). Decided c.in_ok-same.same (c.args.printed.now ≡ reply.Rows c.args.t (map (row_text (kinds_shown (work_of cells c.args.script.now) c.args.command.now)) shown))) (c.as_slice.ensures ∙ c.in_ok-rows.ensures rows shows)
-    (subst (λ (kinds : List Kind). Decided c.in_ok-same.same (c.args.printed.now ≡ reply.Rows c.args.t (map (row_text kinds) c.as_slice.result.now))) (c.deref.ensures.value ∙ c.in_ok-kinds.ensures cells) c.in_ok-same.ensures)
+    subst (λ (shown : List (List Cell)). Decided c.in_ok-same.same (c.args.printed.now ≡ reply.Rows c.args.t (map (row_text (kinds_shown (work_of cells c.args.script.now) c.args.command.now)) shown))) (c.in_ok-rows.ensures rows shows)
+    (subst (λ (kinds : List Kind). Decided c.in_ok-same.same (c.args.printed.now ≡ reply.Rows c.args.t (map (row_text kinds) c.in_ok-rows.rows))) (c.deref.ensures.value ∙ c.in_ok-kinds.ensures cells) c.in_ok-same.ensures)
