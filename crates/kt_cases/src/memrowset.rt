@@ -1,57 +1,56 @@
-ghost use Rattle.std.specs.Prelude.{◌≡◌, [], ◌≤◌, ◌<◌, ◌+◌, ℕ, List, Option, length, is_some, IfOk, OnOk, true, false};
+ghost use Rattle.std.specs.Prelude.{◌≡◌, [], ◌≤◌, ◌<◌, ◌+◌, ◌^◌, ℕ, List, Option, length, is_some, IfOk, OnOk, true, false};
+ghost use Rattle.kt_cells.specs.Rules.{EachAfter, FollowingCell};
+ghost use Rattle.kt_cells.specs.Spelled.{SpellsCells};
 ghost use Rattle.kt_history.specs.Rows.{Row, fits};
 ghost use Rattle.kt_history.specs.declared.operation.RowOp.{RowOp as RowOpSpec};
 ghost use Rattle.kt_histlaws.specs.Histories.{hist_in};
 ghost use Rattle.kt_histlaws.specs.Flights.{Under};
-ghost use Rattle.kt_memrowset.specs.Links.{CellsFit};
-ghost use Rattle.kt_memrowset.specs.Stores.{IsStore, store_of, is_frozen, share, change_by};
+ghost use Rattle.kt_memrowset.specs.Stores.{IsStore, store_of, is_frozen, change_by};
 
 use kt_base::{Cell, Cells, NoMemory, Octets};
-use kt_history::{ChangeList, Kindly, OpKind, RowOp, Target};
+use kt_cells::Tail;
+use kt_cells::laws::spelled_law;
+use kt_cells::writing::put_cell_list;
+use kt_history::{ChangeList, Kindly, OpKind, OpRef, Target};
 use kt_memrowset::MemRowSet;
 use kt_pool::Pool;
 use std::alloc::Global;
 use std::process::Abort;
 use std::test::Fail;
 
-/// An operation on the row of a key, which gives its column 1 a text.
-fn op_of(alloc: Global, kind: OpKind, key: &[u8], text: &[u8]) -> Result<RowOp, NoMemory>
-    requires { length key.now + length text.now ≤ 600 }
-    ensures cells { IfOk result (λ op. CellsFit op.cells) }
-    ensures room { IfOk result (λ op. share op ≤ 15) }
+/// Some cells, spelled behind their count.
+fn spelled(alloc: Global, cells: &Cells) -> Result<Octets, NoMemory>
+    requires count { length cells.now < 2 ^ 16 }
+    requires cells { EachAfter FollowingCell [] cells.now }
+    ensures { IfOk result (λ bytes. SpellsCells bytes) }
 {
-    let mut cells = Vec::new(alloc);
-    cells.push((1, Cell::Bytes(Octets::from_slice(alloc, text)?)))?;
-    Ok(RowOp {
-        kind,
-        key: Octets::from_slice(alloc, key)?,
-        cells: Cells::of(cells),
-    })
+    let mut out = Tail::of(Octets::new(alloc));
+    put_cell_list(&mut out, cells)?;
+    spelled_law();
+    Ok(out.whole())
 }
 
-/// A delete of the row of a key.
-fn delete_of(alloc: Global, key: &[u8]) -> Result<RowOp, NoMemory>
-    requires { length key.now ≤ 600 }
-    ensures cells { IfOk result (λ op. CellsFit op.cells) }
-    ensures room { IfOk result (λ op. share op ≤ 15) }
-{
-    Ok(RowOp {
-        kind: OpKind::Delete,
-        key: Octets::from_slice(alloc, key)?,
-        cells: Cells::of(Vec::new(alloc)),
-    })
-}
-
-/// The operation of a change.
-fn op_by(alloc: Global, change: Kindly, key: &[u8], text: &[u8]) -> Result<RowOp, NoMemory>
-    requires { length key.now + length text.now ≤ 600 }
-    ensures cells { IfOk result (λ op. CellsFit op.cells) }
-    ensures room { IfOk result (λ op. share op ≤ 15) }
+/// The cells of a change, spelled behind their count: a text for column 1, and none for a delete.
+fn cells_by(alloc: Global, change: Kindly, text: &[u8]) -> Result<Octets, NoMemory>
+    requires { length text.now ≤ 600 }
+    ensures { IfOk result (λ bytes. SpellsCells bytes) }
 {
     match change {
-        Kindly::Ins => op_of(alloc, OpKind::Insert, key, text),
-        Kindly::Upd => op_of(alloc, OpKind::Update, key, text),
-        Kindly::Del => delete_of(alloc, key),
+        Kindly::Ins | Kindly::Upd => {
+            let mut cells = Vec::new(alloc);
+            cells.push((1, Cell::Bytes(Octets::from_slice(alloc, text)?)))?;
+            spelled(alloc, &Cells::of(cells))
+        }
+        Kindly::Del => spelled(alloc, &Cells::of(Vec::new(alloc))),
+    }
+}
+
+/// A kind of operation that makes a change.
+fn kind_by(change: Kindly) -> OpKind {
+    match change {
+        Kindly::Ins => OpKind::Insert,
+        Kindly::Upd => OpKind::Update,
+        Kindly::Del => OpKind::Delete,
     }
 }
 
@@ -84,9 +83,10 @@ fn write(
     ensures later { OnOk result ((u : ℕ) → ts < u → (q : List ℕ) → Under u (hist_in q (store_of store.new pool.new)).steps) }
     ensures frozen { OnOk result (is_frozen store.new ≡ is_frozen store.old) }
 {
-    let op = op_by(alloc, change, key, text)?;
-    assert!(rt; pool.reserved() >= 15);
-    assert!(rt; suits(change, store.live(pool, op.key.as_slice())));
+    let cells = cells_by(alloc, change, text)?;
+    let op = OpRef::of(kind_by(change), key, cells.as_slice());
+    assert!(rt; op.len() <= 616 && pool.reserved() >= 15);
+    assert!(rt; suits(change, store.live(pool, key)));
     let target = store.apply_reserved(pool, ts, &op, change);
     assert!(rt; target == Target::Mem(7));
     Ok(())

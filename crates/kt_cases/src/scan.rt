@@ -2,7 +2,7 @@ ghost use Rattle.std.specs.Prelude.{◌&&◌, [], ◌∷◌};
 ghost use Rattle.std.specs.Ordering.{is_eq};
 ghost use Rattle.kt_scan.specs.Single.{single_row, single_has_key};
 
-use kt_base::{Cell, Cells, Kind, NoMemory, Octets};
+use kt_base::{Cell, CellRef, Cells, Kind, NoMemory, Octets};
 use kt_history::{At, ColumnIds, Pred, PredList, RowList, RowRef, Scan, Test, View};
 use kt_scan::run;
 use kt_schema::{Column, ColumnList, Schema};
@@ -120,13 +120,14 @@ fn row_at_100(alloc: Global, key: &[u8], from: u64, cpu: Cell) -> Result<Single,
 // The numbers and the texts of some rows, in order, with 0 for null and 1 for a truth value.
 fn cells_of(alloc: Global, rows: &RowList) -> Result<Vec<i64>, AllocError> {
     let mut cells = Vec::new(alloc);
-    for row in rows.as_slice() {
-        for cell in row.as_slice() {
-            cells.push(match cell {
-                Cell::Null => 0,
-                Cell::Bool(_) => 1,
-                Cell::Int(number) => *number,
-                Cell::Bytes(bytes) => i64::from(bytes.as_slice().first().copied().unwrap_or(0)),
+    for at in 0..rows.len() {
+        let row = rows.at(at);
+        for place in 0..row.len() {
+            cells.push(match row.at(place) {
+                CellRef::Null => 0,
+                CellRef::Bool(_) => 1,
+                CellRef::Int(number) => number,
+                CellRef::Bytes(bytes) => i64::from(bytes.first().copied().unwrap_or(0)),
             })?;
         }
     }
@@ -203,5 +204,17 @@ fn rows_come_by_key_filtered_and_cut(rt: HostRuntime) -> Result<(), Fail> {
     for (t, asked, wanted) in &SHOWN {
         assert!(rt; shows(rt.alloc(), &views, *t, asked, *wanted)?);
     }
+    Ok(())
+}
+
+// The host of the second row has a zero byte.
+#[test]
+fn a_text_with_a_zero_byte_is_shown(rt: HostRuntime) -> Result<(), Fail> {
+    let views = vec![in rt.alloc();
+        row_at_100(rt.alloc(), b"a\x00\x00\xe4", 10, Cell::Int(2))?,
+        row_at_100(rt.alloc(), b"c\x00\x01d\x00\x00\xe4", 10, Cell::Int(3))?,
+    ]?;
+    let wanted = [97, 100, 2, 1, 99, 100, 3, 1];
+    assert!(rt; shows(rt.alloc(), &views, 10, &Asked::All, &wanted)?);
     Ok(())
 }
