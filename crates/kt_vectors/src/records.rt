@@ -1,8 +1,14 @@
-ghost use Rattle.std.specs.Prelude.{IfOk};
+ghost use Rattle.std.specs.Prelude.{◌≡◌, ◌<◌, ◌^◌, [], length, IfOk};
+ghost use Rattle.kt_cells.specs.Rules.{EachAfter, FollowingCell};
+ghost use Rattle.kt_cells.specs.Spelling.{cell_list};
+ghost use Rattle.kt_cells.specs.Spelled.{SpellsCells};
 ghost use Rattle.kt_records.specs.Rules.{KeepsRules};
 
 use kt_base::{Cell, Cells, NoMemory, Octets};
-use kt_history::{OpKind, OpList, Outcome, RowOp, Target};
+use kt_cells::Tail;
+use kt_cells::laws::spelled_law;
+use kt_cells::writing::put_cell_list;
+use kt_history::{OpKind, OpList, OpRef, Outcome, Target};
 use kt_records::{CodecNo, CommitRow, CommitRows, Entry, TargetList, read_record, spell};
 use std::alloc::{AllocError, Global};
 use std::mem::size_of;
@@ -16,15 +22,28 @@ const COMMIT: [u8; 22] = [
     2, 0, 16, 0, 0, 0, 0, 0, 0, 1, 0, 0, 1, 1, 1, 0, 0, 0, 0, 0, 0, 0,
 ];
 
+/// Some cells, spelled behind their count.
+fn spelled(alloc: Global, cells: &Cells) -> Result<Octets, NoMemory>
+    requires count { length cells.now < 2 ^ 16 }
+    requires cells { EachAfter FollowingCell [] cells.now }
+    ensures { IfOk result (λ bytes. (bytes ≡ cell_list cells.now) × SpellsCells bytes) }
+{
+    let mut out = Tail::of(Octets::new(alloc));
+    put_cell_list(&mut out, cells)?;
+    spelled_law();
+    Ok(out.whole())
+}
+
 /// The record whose bytes are `REPLICATE`.
 fn replicate(alloc: Global) -> Result<Entry, NoMemory>
     ensures { IfOk result KeepsRules }
 {
-    let key = Octets::from_slice(alloc, &REPLICATE[14..22])?;
     let text = Octets::from_slice(alloc, b"a")?;
-    let cells = Cells::of(vec![in alloc; (2, Cell::Bytes(text))]?);
-    let kind = OpKind::Insert;
-    let ops = OpList::of(vec![in alloc; RowOp { kind, key, cells }]?);
+    let cells = spelled(alloc, &Cells::of(vec![in alloc; (2, Cell::Bytes(text))]?))?;
+    spelled_law();
+    let op = OpRef::of(OpKind::Insert, &REPLICATE[14..22], cells.as_slice());
+    let mut ops = OpList::new(alloc);
+    ops.push(&op)?;
     Ok(Entry::Replicate { ts: 4096, ops })
 }
 
@@ -183,9 +202,9 @@ fn records_are_refused(rt: HostRuntime) {
 /// Whether the write of one operation is read with this kind.
 fn has_kind(alloc: Global, bytes: &[u8], kind: OpKind) -> bool {
     match read_record(alloc, bytes) {
-        Ok(Entry::Replicate { ts: 4096, ops }) => match ops.as_slice() {
-            [op] => op.kind == kind,
-            _ => false,
+        Ok(Entry::Replicate { ts: 4096, ops }) => match ops.get(0) {
+            Some(op) => ops.len() == 1 && op.kind() == kind,
+            None => false,
         },
         _ => false,
     }
@@ -255,19 +274,15 @@ fn a_commit_is_held_in_thirty_two_times_its_bytes(rt: HostRuntime) {
     }
 }
 
-/// The room of some operations, with their keys and cells. A vector that grew has room for at most twice its items.
-fn room_of(ops: &[RowOp]) -> usize {
-    let mut items = ops.len().saturating_mul(size_of::<RowOp>());
-    for op in ops {
-        let cells = op.cells.len().saturating_mul(size_of::<(u16, Cell)>());
-        items = items.saturating_add(op.key.len()).saturating_add(cells);
-    }
-    items.saturating_mul(2)
+/// The room of some operations: their bytes, and where each ends. A vector that grew has room for at most twice its items.
+fn room_of(ops: &OpList) -> usize {
+    let ends = ops.len().saturating_mul(size_of::<usize>());
+    ops.as_bytes().len().saturating_add(ends).saturating_mul(2)
 }
 
 fn replicate_room(alloc: Global, bytes: &[u8]) -> Option<usize> {
     match read_record(alloc, bytes) {
-        Ok(Entry::Replicate { ops, .. }) => Some(room_of(ops.as_slice())),
+        Ok(Entry::Replicate { ops, .. }) => Some(room_of(&ops)),
         _ => None,
     }
 }
