@@ -15,7 +15,7 @@ use Rattle.kt_history.specs.declared.operation.RowOp.{RowOp}
 use Rattle.kt_history.specs.Machine.{Workload, HasDifferentKeys, nth, command_of, ops_of}
 use Rattle.kt_history.specs.Operations.{DifferentKeys}
 use Rattle.kt_history.specs.Rows.{Row, key_cmp}
-use Rattle.kt_records.proofs.Lengths.{length-operation}
+use Rattle.kt_history.proofs.Lengths.{length-operation}
 use Rattle.kt_records.specs.Rules.{EachAfter, FollowingOp, CellsFit, may_list, may_hold, has_key}
 use Rattle.kt_records.specs.Spelling.{operation}
 use Rattle.kt_tablet.specs.SnapLaws.{by_bool, same_key}

@@ -1,5 +1,5 @@
 -- Plans whose writes may be asked for.
-use Rattle.std.specs.Prelude.{◌≡◌, ◌≤◌, ◌+◌, ◌*◌, ℕ, true, false, List, [], ◌∷◌, length}
+use Rattle.std.specs.Prelude.{◌≡◌, ◌≤◌, ◌+◌, ◌*◌, ℕ, true, false, List, [], ◌∷◌, ◌++◌, length}
 use Rattle.std.specs.List.{All, flat_map, sum_by}
 use Rattle.kt_base.specs.declared.cell.Cell.{Cell}
 use Rattle.kt_history.specs.declared.command.Command.{Command}
@@ -21,6 +21,10 @@ pub record ArePlain (kind : OpKind) (cells : Row) : Type 0 where
 pub record IsPlain (op : RowOp) (key : ℕ) : Type 0 where
   pub key_is : op.key ≡ key ∷ []
   pub cells : ArePlain op.kind op.cells
+
+-- such an operation is added
+abbrev pub AddsPlain : List RowOp → List RowOp → ℕ → Type 0
+AddsPlain old new key = (op : RowOp) × (new ≡ old ++ op ∷ []) × IsPlain op key
 
 -- operations on different keys, all below this one
 pub record AreBelow (ops : List RowOp) (key : ℕ) : Type 0 where

@@ -1,6 +1,6 @@
 //! What the plain machine knows of an operation.
-use kt_base::{Cell, NoMemory};
-use kt_history::{OpKind, OpList, Outcome, RowOp};
+use kt_base::{CellRef, NoMemory};
+use kt_history::{OpKind, OpList, OpRef, Outcome};
 use std::alloc::Global;
 
 /// How many keys there are: the bytes below this number.
@@ -24,27 +24,32 @@ pub struct Op {
     pub cell: Option<(u16, i64)>,
 }
 
-fn op_of(op: &RowOp) -> Op {
-    let key = match op.key.as_slice() {
+// The number and the value of the first cell of an operation.
+fn cell_of(op: &OpRef<'_>) -> Option<(u16, i64)> {
+    let ((column, cell), _) = op.cells().split_first()?;
+    match cell {
+        CellRef::Int(value) => Some((column, value)),
+        _ => None,
+    }
+}
+
+fn op_of(op: &OpRef<'_>) -> Op {
+    let key = match op.key() {
         [key] => *key,
         _ => KEYS,
     };
-    let cell = match op.cells.as_slice() {
-        [(column, Cell::Int(value))] => Some((*column, *value)),
-        _ => None,
-    };
     Op {
-        kind: op.kind,
+        kind: op.kind(),
         key,
-        cell,
+        cell: cell_of(op),
     }
 }
 
 /// The operations of a write.
 pub fn ops_of(alloc: Global, ops: &OpList) -> Result<Vec<Op>, NoMemory> {
     let mut all = Vec::new(alloc);
-    for op in ops.as_slice() {
-        all.push(op_of(op))?;
+    for at in 0..ops.len() {
+        all.push(op_of(&ops.at(at)))?;
     }
     Ok(all)
 }

@@ -1,13 +1,19 @@
 //! Plans that are made from a seed.
-ghost use Rattle.std.specs.Prelude.{◌≡◌, ◌≤◌, ◌∷◌, [], ℕ, pos, IfOk, length};
+ghost use Rattle.std.specs.Prelude.{◌≡◌, ◌≤◌, ◌<◌, ◌^◌, ◌∷◌, [], ℕ, pos, IfOk, OnOk, length};
 ghost use Rattle.std.specs.List.{All};
 ghost use Rattle.kt_base.specs.declared.cell.Cell.TheVariants.{Int};
+ghost use Rattle.kt_cells.specs.Rules.{EachAfter, FollowingCell};
+ghost use Rattle.kt_cells.specs.Spelling.{cell_list};
+ghost use Rattle.kt_cells.specs.Spelled.{SpellsCells};
 ghost use Rattle.kt_records.specs.Rules.{may_list};
-ghost use Rattle.kt_trial.specs.Plans.{ArePlain, IsPlain, AreBelow, WriteFits, CommandFits, PlanFits};
+ghost use Rattle.kt_trial.specs.Plans.{ArePlain, AddsPlain, AreBelow, WriteFits, CommandFits, PlanFits};
 
 use crate::dice::Dice;
 use kt_base::{Cell, Cells, NoMemory, Octets};
-use kt_history::{At, Command, OpKind, OpList, Plan, PredList, RowOp, Scan, Session, Write};
+use kt_cells::Tail;
+use kt_cells::laws::spelled_law;
+use kt_cells::writing::put_cell_list;
+use kt_history::{At, Command, OpKind, OpList, OpRef, Plan, PredList, Scan, Session, Write};
 use std::alloc::Global;
 
 /// How many sessions a plan has.
@@ -56,16 +62,28 @@ fn kind_from(dice: &mut Dice) -> OpKind {
     }
 }
 
-// An operation on this key.
-fn operation(alloc: Global, dice: &mut Dice, key: u8) -> Result<RowOp, NoMemory>
-    ensures { IfOk result (λ op. IsPlain op key) }
+// Some cells, spelled behind their count.
+fn spelled(alloc: Global, cells: &Cells) -> Result<Octets, NoMemory>
+    requires count { length cells.now < 2 ^ 16 }
+    requires cells { EachAfter FollowingCell [] cells.now }
+    ensures { IfOk result (λ bytes. (bytes ≡ cell_list cells.now) × SpellsCells bytes) }
+{
+    let mut out = Tail::of(Octets::new(alloc));
+    put_cell_list(&mut out, cells)?;
+    spelled_law();
+    Ok(out.whole())
+}
+
+// Adds an operation on this key.
+fn push_operation(alloc: Global, dice: &mut Dice, key: u8, ops: &mut OpList) -> Result<(), NoMemory>
+    ensures { OnOk result (AddsPlain ops.old ops.new key) }
 {
     let kind = kind_from(dice);
-    Ok(RowOp {
-        kind,
-        key: Octets::from_slice(alloc, &[key])?,
-        cells: cells_for(alloc, dice, kind)?,
-    })
+    let held = cells_for(alloc, dice, kind)?;
+    let cells = spelled(alloc, &held)?;
+    spelled_law();
+    let key = [key];
+    ops.push(&OpRef::of(kind, &key, cells.as_slice()))
 }
 
 // So many operations, by rising keys.
@@ -75,12 +93,12 @@ fn operations(alloc: Global, dice: &mut Dice, count: u8) -> Result<OpList, NoMem
     ensures count { IfOk result (λ ops. length ops ≡ count) }
 {
     let first = dice.below(5) as u8;
-    let mut ops = Vec::new(alloc);
+    let mut ops = OpList::new(alloc);
     for i in 0..count {
         let key = first + 2 * i + dice.below(2) as u8;
-        ops.push(operation(alloc, dice, key)?)?;
+        push_operation(alloc, dice, key, &mut ops)?;
     }
-    Ok(OpList::of(ops))
+    Ok(ops)
 }
 
 // Mostly one to three operations, and now and then four, which are too many for the pool.

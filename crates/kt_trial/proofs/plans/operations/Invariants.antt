@@ -3,4 +3,4 @@ use Rattle.kt_trial.specs.Plans.{AreBelow}
 use Rattle.kt_trial.proofs.plans.operations.Given as goal
 
 abbrev pub invariant-loop-i : goal.invariant-loop-i
-invariant-loop-i l = record { below : AreBelow l.ops.items (l.first + 2 * l.i); count : length l.ops.items ≡ l.i }
+invariant-loop-i l = record { below : AreBelow l.ops (l.first + 2 * l.i); count : length l.ops ≡ l.i }
