@@ -12,14 +12,14 @@ use Rattle.kt_serve.proofs.tablet.SharedTablet.write.Goals as goal
 pub apply_rows-requires-clause-aloft : goal.apply_rows-requires-clause-aloft
 apply_rows-requires-clause-aloft g c =
     let began = rw c.in-None.is at c.in_ok-reply.ensures.begun in
-    (c.args.index, began.0.0, flies_for (number c.args.pass.now) (number c.begin_write.new.pass) c.args.index began.0.0 c.args.write.now.ops c.as_slice.result.now (part c.begin_write.new.pass) c.as_slice.ensures c.begin_write.ensures.pass.0.1 began.0.1)
+    (c.args.index, began.0.0, flies_for (number c.args.pass.now) (number c.begin_write.new.pass) c.args.index began.0.0 c.args.write.now.ops c.args.write.now.ops (part c.begin_write.new.pass) refl c.begin_write.ensures.pass.0.1 began.0.1)
 
 pub end_write-requires-clause-written : goal.end_write-requires-clause-written
 end_write-requires-clause-written g c =
     let began = rw c.in-None.is at c.in_ok-reply.ensures.begun in
     let going = going_after (number c.args.pass.now) (number c.begin_write.new.pass) (part c.args.pass.now) (part c.begin_write.new.pass) (part c.apply_rows.new.pass) (seen c.args.pass.now) (seen c.begin_write.new.pass) (seen c.apply_rows.new.pass) c.begin_write.ensures.pass.0.1 began.1 c.apply_rows.ensures.going in
     let its = command_after (number c.args.pass.now) (number c.apply_rows.new.pass) c.args.index (command.Write c.args.write.now) c.requires.next.part _ _ c.requires.next.is (c.apply_rows.ensures.pass.0.1 ∙ c.begin_write.ensures.pass.0.1) going.root c.requires.command in
-    let done = written (number c.args.pass.now) (number c.begin_write.new.pass) (number c.apply_rows.new.pass) c.args.index began.0.0 c.args.write.now c.as_slice.result.now (part c.begin_write.new.pass) (part c.apply_rows.new.pass) c.as_slice.ensures c.begin_write.ensures.pass.0.1 c.apply_rows.ensures.pass.0.1 began.0.1 c.in-Ok.ensures.aloft its c.requires.write.few in
+    let done = written (number c.args.pass.now) (number c.begin_write.new.pass) (number c.apply_rows.new.pass) c.args.index began.0.0 c.args.write.now c.args.write.now.ops (part c.begin_write.new.pass) (part c.apply_rows.new.pass) refl c.begin_write.ensures.pass.0.1 c.apply_rows.ensures.pass.0.1 began.0.1 c.in-Ok.ensures.aloft its c.requires.write.few in
     (c.args.index, done)
 
 pub returns-in-Ok-clause-root : goal.returns-in-Ok-clause-root
@@ -32,7 +32,7 @@ returns-in-Ok-clause-reply g c =
     let began = rw c.in-None.is at c.in_ok-reply.ensures.begun in
     let going = going_after (number c.args.pass.now) (number c.begin_write.new.pass) (part c.args.pass.now) (part c.begin_write.new.pass) (part c.apply_rows.new.pass) (seen c.args.pass.now) (seen c.begin_write.new.pass) (seen c.apply_rows.new.pass) c.begin_write.ensures.pass.0.1 began.1 c.apply_rows.ensures.going in
     let its = command_after (number c.args.pass.now) (number c.apply_rows.new.pass) c.args.index (command.Write c.args.write.now) c.requires.next.part _ _ c.requires.next.is (c.apply_rows.ensures.pass.0.1 ∙ c.begin_write.ensures.pass.0.1) going.root c.requires.command in
-    let done = written (number c.args.pass.now) (number c.begin_write.new.pass) (number c.apply_rows.new.pass) c.args.index began.0.0 c.args.write.now c.as_slice.result.now (part c.begin_write.new.pass) (part c.apply_rows.new.pass) c.as_slice.ensures c.begin_write.ensures.pass.0.1 c.apply_rows.ensures.pass.0.1 began.0.1 c.in-Ok.ensures.aloft its c.requires.write.few in
+    let done = written (number c.args.pass.now) (number c.begin_write.new.pass) (number c.apply_rows.new.pass) c.args.index began.0.0 c.args.write.now c.args.write.now.ops (part c.begin_write.new.pass) (part c.apply_rows.new.pass) refl c.begin_write.ensures.pass.0.1 c.apply_rows.ensures.pass.0.1 began.0.1 c.in-Ok.ensures.aloft its c.requires.write.few in
     after_going (number c.args.pass.now) (number c.apply_rows.new.pass) c.args.index c.end_write.result (part c.args.pass.now) (part c.apply_rows.new.pass) (part c.end_write.new.pass) (seen c.args.pass.now) (seen c.apply_rows.new.pass) (seen c.end_write.new.pass) (c.apply_rows.ensures.pass.0.1 ∙ c.begin_write.ensures.pass.0.1) going (c.end_write.ensures.reply c.args.index done)
 
 pub returns-in-Err-Stopped-clause-root : goal.returns-in-Err-Stopped-clause-root
