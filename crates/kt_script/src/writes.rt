@@ -307,7 +307,11 @@ fn twice_no(ops: &OpList) -> Option<u8>
 }
 
 /// The write of a line of a script, from its first word on.
-pub(crate) fn read_write(alloc: Global, schema: &Schema, line: Option<&[u8]>) -> Result<Write, LineNo>
+pub(crate) fn read_write(
+    alloc: Global,
+    schema: &Schema,
+    line: Option<&[u8]>,
+) -> Result<Write, LineNo>
     requires { IsTable schema.now }
     ensures { ReadsWrite schema.now (words_in line.entry) result }
 {
