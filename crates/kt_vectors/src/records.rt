@@ -1,8 +1,9 @@
 ghost use Rattle.std.specs.Prelude.{◌≡◌, ◌<◌, ◌^◌, [], length, IfOk};
+ghost use Rattle.kt_cells.specs.Reading.{cells_behind};
 ghost use Rattle.kt_cells.specs.Rules.{EachAfter, FollowingCell};
-ghost use Rattle.kt_cells.specs.Spelling.{cell_list};
 ghost use Rattle.kt_cells.specs.Spelled.{SpellsCells};
-ghost use Rattle.kt_records.specs.Rules.{KeepsRules};
+ghost use Rattle.kt_history.specs.declared.operation.OpKind.TheVariants.{Insert};
+ghost use Rattle.kt_records.specs.Rules.{CellsFit, KeepsRules};
 
 use kt_base::{Cell, Cells, NoMemory, Octets};
 use kt_cells::Tail;
@@ -26,7 +27,7 @@ const COMMIT: [u8; 22] = [
 fn spelled(alloc: Global, cells: &Cells) -> Result<Octets, NoMemory>
     requires count { length cells.now < 2 ^ 16 }
     requires cells { EachAfter FollowingCell [] cells.now }
-    ensures { IfOk result (λ bytes. (bytes ≡ cell_list cells.now) × SpellsCells bytes) }
+    ensures { IfOk result (λ bytes. (cells_behind bytes ≡ cells.now) × SpellsCells bytes) }
 {
     let mut out = Tail::of(Octets::new(alloc));
     put_cell_list(&mut out, cells)?;
@@ -34,13 +35,21 @@ fn spelled(alloc: Global, cells: &Cells) -> Result<Octets, NoMemory>
     Ok(out.whole())
 }
 
+/// The text that `REPLICATE` has for column 2, spelled behind the count of the cells.
+fn text_cells(alloc: Global) -> Result<Octets, NoMemory>
+    ensures { IfOk result (λ bytes. SpellsCells bytes × CellsFit Insert (cells_behind bytes)) }
+{
+    let text = Octets::from_slice(alloc, b"a")?;
+    let cells = Cells::of(vec![in alloc; (2, Cell::Bytes(text))]?);
+    let bytes = spelled(alloc, &cells)?;
+    Ok(bytes)
+}
+
 /// The record whose bytes are `REPLICATE`.
 fn replicate(alloc: Global) -> Result<Entry, NoMemory>
     ensures { IfOk result KeepsRules }
 {
-    let text = Octets::from_slice(alloc, b"a")?;
-    let cells = spelled(alloc, &Cells::of(vec![in alloc; (2, Cell::Bytes(text))]?))?;
-    spelled_law();
+    let cells = text_cells(alloc)?;
     let op = OpRef::of(OpKind::Insert, &REPLICATE[14..22], cells.as_slice());
     let mut ops = OpList::new(alloc);
     ops.push(&op)?;
