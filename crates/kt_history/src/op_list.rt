@@ -153,6 +153,17 @@ impl OpList {
         }
     }
 
+    /// No operations, with room for so many, of so many bytes together.
+    pub fn with_capacity(alloc: Global, ops: usize, bytes: usize) -> Result<OpList, NoMemory>
+        ensures { IfOk result (λ list. list ≡ []) }
+    {
+        let bytes = Vec::with_capacity(alloc, bytes)?;
+        let ends = Vec::with_capacity(alloc, ops)?;
+        Ok(OpList {
+            texts: Texts::cut(bytes, ends),
+        })
+    }
+
     pub fn len(&self) -> usize
         ensures { result ≡ length self.now }
     {
