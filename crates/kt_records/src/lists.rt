@@ -51,7 +51,8 @@ fn operation_of<'a>(front: &OpList, bytes: &'a [u8]) -> Result<(OpRef<'a>, &'a [
 pub fn operations_of(alloc: Global, count: u16, bytes: &[u8]) -> Result<(OpList, &[u8]), Stop>
     ensures { Gives (λ x. (x.0, x.1.now)) result (many_at operation_at count [] bytes.now) }
 {
-    let mut ops = OpList::new(alloc);
+    let room = usize::from(count).min(bytes.len() / 5);
+    let mut ops = OpList::with_capacity(alloc, room, bytes.len())?;
     let mut rest = bytes;
     'ops: for _ in 0..count {
         let (op, after) = operation_of(&ops, rest)?;

@@ -7,7 +7,7 @@ use Rattle.kt_records.proofs.lists.operations_of.Goals as goal
 
 pub returns-in_err-op : goal.returns-in_err-op
 returns-in_err-op c =
-    let p = err_from_is_err_and c.from_residual.result c.from_residual.ensures.1 in
+    let p = err_from_is_err_and c.from_residual-in_err-op.result c.from_residual-in_err-op.ensures.1 in
     rw (p.1, p.2) (ends operation_at c.in_err-op.field-0.0 c.ops.ops c.args.count c.ops.counter c.ops.rest.now (many_at operation_at c.args.count [] c.args.bytes.now) c.ops-test.true c.in_err-op.ensures c.ops.invariant)
 
 pub ops-preserved : goal.ops-preserved
