@@ -31,6 +31,14 @@ def in_delta(rowset, store):
     return struct.pack("<BQQ", 2, rowset, store)
 
 
+def of_another_table(ts, *operations):
+    """Of operations: kind, key, and cells as (id, text)."""
+    text = lambda it: struct.pack("<BI", 3, len(it)) + it
+    cells = lambda given: struct.pack("<H", len(given)) + b"".join(struct.pack("<H", id) + text(it) for id, it in given)
+    spelled = (bytes([kind]) + struct.pack("<H", len(key)) + key + cells(given) for kind, key, *given in operations)
+    return struct.pack("<BQH", 1, ts, len(operations)) + b"".join(spelled)
+
+
 def commit(ts, *rows):
     """Of rows: what became of each, and the store that it changed where it changed one."""
     return struct.pack("<BQH", 2, ts, len(rows)) + b"".join(bytes([it, len(to)]) + b"".join(to) for it, *to in rows)
@@ -182,6 +190,19 @@ def rows_stand_at_their_times(room):
         raise Wrong(f"status {status}\n{output}")
 
 
+def rows_of_another_table_stand_apart(room):
+    """A log whose rows this table cannot have is opened, and writes and scans of other rows go on over it."""
+    odd = of_another_table(4096, (INSERT, b"\0", (2, b"text"), (9, b"")), (UPSERT, b"", (300, b"x")), (INSERT, b"\xff" * 40))
+    again = of_another_table(8192, (UPSERT, b"\0", (2, b"other")))
+    for records in ([odd], [odd, again], [odd, commit(4096, *[(DONE, in_memory(3))] * 3), again]):
+        lines = ['insert "a" 1', 'insert "b" 2', 'scan now where k>="a" and k<="b"', 'delete "a"', 'scan now select n where k="b"']
+        for log, second in ((lambda: log_of(records), "ok"), (lambda: log_now(room), "present")):
+            status, output = run_over(room, log(), *lines)
+            wanted = f'session 1\nat T ok\nat T {second}\nrows T 2\n"a" 1\n"b" 2\nat T ok\nrows T 1\n2\nhistory\n'
+            if status or not re.sub(r"^(at|rows) \d+", r"\1 T", output, flags=re.M).startswith(wanted):
+                raise Wrong(f"status {status}\n{output}")
+
+
 ALL = [
     logs_open_with_what_they_owe,
     logs_at_fault_are_refused,
@@ -189,4 +210,5 @@ ALL = [
     a_log_ends_at_a_shut_gate,
     a_changed_byte_is_refused_at_its_frame,
     rows_stand_at_their_times,
+    rows_of_another_table_stand_apart,
 ]
