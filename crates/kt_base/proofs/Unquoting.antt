@@ -1,5 +1,6 @@
 -- Reading between the quotes of a literal.
 use Rattle.std.proofs.Common.{◌≡◌, ℕ, suc, ◌+◌, ◌<◌, List, [], ◌∷◌, ◌++◌, refl, sym, ap, subst, ◌∙◌, arith, length, Bool, true, false, cond, append_assoc, Option, Some, None, take}
+use mathlib.Core.List.{append-nil}
 use Rattle.std.specs.Prelude.{◌||◌, ◌==◌, nat_lt, nat_le, if◌then◌else◌, not}
 use Rattle.std.specs.List.{before_first, prefix_len, AllByRecursion}
 use Rattle.std.specs.Option.{option_map}
@@ -82,3 +83,9 @@ run_end inside rest plain special bytes new read so cut front next new_is =
     regroup : (o : Option (List ℕ)) → after_bytes bytes (after_bytes plain o) ≡ after_bytes (bytes ++ plain) o
     regroup None = refl
     regroup (Some t) = ap Some (sym (append_assoc bytes plain t))
+
+-- a run of bytes that stand for themselves, and the quote that ends them
+pub run_quoted : (inside plain special : List ℕ) → inside ≡ plain ++ special → plain ≡ before_first is_escaped inside → special ≡ 34 ∷ [] → unquoted among inside ≡ Some plain
+run_quoted inside plain special cut front quote =
+    let self : Plain plain = subst Plain (sym front) (front_plain inside) in
+    ap (unquoted among) (cut ∙ ap (λ x. plain ++ x) quote) ∙ (plain_read plain (34 ∷ []) self ∙ ap Some (append-nil plain))

@@ -1,12 +1,12 @@
 //! Literals: the one spelling of a cell, and reading it again.
 
-ghost use Rattle.std.specs.Prelude.{◌≡◌, ◌≢◌, ◌<◌, ◌++◌, [], ℤ, List, OnOk, OnErr, IfOk, IfSome, IfNone, All, is_some, false, true, ◌&&◌, IsTrue, drop, ◌+◌, ◌*◌, FitsSigned};
+ghost use Rattle.std.specs.Prelude.{◌≡◌, ◌≢◌, ◌<◌, ◌++◌, [], ℤ, List, Some, Ok, OnOk, OnErr, IfOk, IfSome, IfNone, All, is_some, false, true, ◌&&◌, IsTrue, drop, ◌+◌, ◌*◌, FitsSigned};
 ghost use Rattle.std.specs.Int.{w64};
 ghost use Rattle.std.specs.List.{before_first, position, list_all};
 ghost use Rattle.std.specs.Fmt.{signed_decimal};
 ghost use Rattle.std.specs.Option.{option_map};
 ghost use Rattle.kt_base.specs.Borrowed.{cell_in as borrowed};
-ghost use Rattle.kt_base.specs.Literals.{hex, hex_digit, hex_value, is_hex, is_digit, is_count, is_escaped, string_byte, string_literal, binary_literal, literal, number_in, string_in, binary_in, pairs, unquoted, among, slashed, high, cell_in, cell_under, cell_or, truth, text as text_value, raw as raw_value, number as number_value, number_fits, short_bytes, Reads, IsNext, IsLineEnd, literals_are_read, literals_are_spelled};
+ghost use Rattle.kt_base.specs.Literals.{below_zero, count_on, hex, hex_digit, hex_value, is_hex, is_digit, is_count, is_escaped, string_byte, string_literal, binary_literal, literal, number_in, string_in, binary_in, pairs, unquoted, among, slashed, high, cell_in, cell_under, cell_or, truth, text as text_value, raw as raw_value, number as number_value, number_fits, short_bytes, Reads, IsNext, IsLineEnd, literals_are_read, literals_are_spelled};
 
 use crate::limits::CELL_LEN;
 use crate::{Cell, CellRef, Kind, NoMemory, Octets};
@@ -43,6 +43,9 @@ impl From<NoMemory> for LiteralNo {
         LiteralNo::Memory
     }
 }
+
+// The most that a number of 64 bits may be before one more digit.
+const MOST_TENS: u64 = u64::MAX / 10 - 1;
 
 // What stands next between the quotes of a string literal, and the bytes behind it.
 #[derive(Clone, Copy)]
@@ -422,10 +425,122 @@ fn binary(kind: Kind, bytes: Octets) -> Result<Cell, LiteralNo>
     }
 }
 
+// The number of some digits. There is none where it may be past 64 bits, or a byte is no digit.
+fn plain_digits(digits: &[u8]) -> Option<u64>
+    ensures digits { IfSome result (λ n. list_all is_digit digits.now ≡ true) }
+    ensures value { IfSome result (λ n. n ≡ count_on 0 digits.now) }
+{
+    let mut number: u64 = 0;
+    let mut left = digits;
+    while let Some((digit, rest)) = left.split_first() {
+        if !is_digit(*digit) || number > MOST_TENS {
+            return None;
+        }
+        number = 10 * number + u64::from(*digit - b'0');
+        left = rest;
+    }
+    Some(number)
+}
+
+// A number below 0.
+fn below_zero(count: u64) -> Option<i64>
+    ensures some { IfSome result (λ n. 0 < count) }
+    ensures value { IfSome result (λ n. n ≡ below_zero count) }
+{
+    let number = i64::try_from(count).ok()?;
+    if number == 0 { None } else { Some(-number) }
+}
+
+// The number of digits without leading zeros.
+fn plain_count(digits: &[u8]) -> Option<u64>
+    ensures count { IfSome result (λ n. is_count digits.now ≡ true) }
+    ensures value { IfSome result (λ n. n ≡ count_on 0 digits.now) }
+{
+    match digits {
+        [] | [b'0', _, ..] => None,
+        _ => plain_digits(digits),
+    }
+}
+
+// The number that a text spells. There may be none where it has 19 digits.
+fn plain_number(text: &[u8]) -> Option<i64>
+    ensures { IfSome result (λ n. number_in text.now ≡ Some n) }
+{
+    match text {
+        [b'-', digits @ ..] => below_zero(plain_count(digits)?),
+        _ => i64::try_from(plain_count(text)?).ok(),
+    }
+}
+
+// The bytes of a string literal behind its first quote, if each stands for itself.
+fn plain_string(inside: &[u8]) -> Option<&[u8]>
+    ensures { IfSome result (λ bytes. unquoted among inside.now ≡ Some bytes.now) }
+{
+    let (plain, rest) = cut_plain(inside);
+    if rest == b"\"".as_slice() {
+        Some(plain)
+    } else {
+        None
+    }
+}
+
+fn plain_text(inside: &[u8], kind: Kind) -> Option<CellRef<'_>>
+    ensures { IfSome result (λ cell. cell_or kind (option_map text_value (unquoted among inside.now)) ≡ Ok (borrowed cell)) }
+{
+    let bytes = plain_string(inside)?;
+    if kind == Kind::String && bytes.len() <= CELL_LEN {
+        Some(CellRef::Bytes(bytes))
+    } else {
+        None
+    }
+}
+
+fn plain_truth(text: &[u8], kind: Kind) -> Option<CellRef<'_>>
+    ensures { IfSome result (λ cell. cell_in kind text.now ≡ Ok (borrowed cell)) }
+{
+    if kind != Kind::Bool {
+        return None;
+    }
+    if text == b"true".as_slice() {
+        return Some(CellRef::Bool(true));
+    }
+    if text == b"false".as_slice() {
+        return Some(CellRef::Bool(false));
+    }
+    None
+}
+
+fn plain_cell(text: &[u8], kind: Kind) -> Option<CellRef<'_>>
+    ensures { IfSome result (λ cell. cell_in kind text.now ≡ Ok (borrowed cell)) }
+{
+    let number = plain_number(text)?;
+    if in_range(kind, number) {
+        Some(CellRef::Int(number))
+    } else {
+        None
+    }
+}
+
+/// The cell that a text spells in a column of this kind, where it lies: a number, a truth value, or a string literal
+/// whose bytes stand for themselves. Where there is none, `read_literal` tells whether the text is a cell and which.
+pub fn plain_literal(text: &[u8], kind: Kind) -> Option<CellRef<'_>>
+    ensures { IfSome result (λ cell. cell_in kind text.now ≡ Ok (borrowed cell)) }
+{
+    match text {
+        [b'"', inside @ ..] => plain_text(inside, kind),
+        [b't' | b'f', ..] => plain_truth(text, kind),
+        [b'-' | b'0'..=b'9', ..] => plain_cell(text, kind),
+        _ => None,
+    }
+}
+
 /// The cell that a text spells in a column of this kind. `null` is a refusal of its own.
 pub fn read_literal(alloc: Global, text: &[u8], kind: Kind) -> Result<Cell, LiteralNo>
     ensures { Reads result (cell_in kind text.now) }
 {
+    if let Some(cell) = plain_literal(text, kind) {
+        return Ok(cell.to_cell(alloc)?);
+    }
     if text == b"null".as_slice() {
         return Err(LiteralNo::Null);
     }
