@@ -51,6 +51,21 @@ impl Tail {
         Ok(())
     }
 
+    /// The bytes that were added.
+    pub fn added(&self) -> &[u8]
+        ensures { result.now ≡ self.now.added }
+    {
+        &self.bytes[self.start..]
+    }
+
+    /// Takes the bytes back that were added, and keeps the room.
+    pub fn clear(&mut self)
+        ensures front { self.new.front ≡ self.old.front }
+        ensures added { self.new.added ≡ [] }
+    {
+        self.bytes.truncate(self.start);
+    }
+
     /// All of the bytes.
     pub fn whole(self) -> Octets
         ensures { result ≡ self.front ++ self.added }
