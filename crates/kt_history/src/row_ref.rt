@@ -1,9 +1,10 @@
 //! A row that borrows its texts, so that it is read without a copy.
-ghost use Rattle.std.specs.Prelude.{◌≡◌, ◌∷◌, ◌++◌, [], OnOk};
+ghost use Rattle.std.specs.Prelude.{◌≡◌, ◌+◌, ◌<◌, ◌≤◌, ◌∷◌, ◌++◌, [], true, length, IfOk, OnOk, MatchResult};
 ghost use Rattle.std.specs.Ordering.{nat_cmp};
 ghost use Rattle.std.specs.FinMap.Entries.{put};
 ghost use Rattle.kt_base.specs.Borrowed.{cell_in};
 ghost use Rattle.kt_cells.specs.Borrowed.{cells_in, cells_in_ref};
+ghost use Rattle.kt_history.specs.Places.{place_of, AreBelow, HasNumber};
 ghost use Rattle.kt_history.specs.Rows.{with_cells};
 
 use crate::effect::place_of_id;
@@ -16,7 +17,7 @@ use std::marker::Model;
 #[derive(Debug, Drop)]
 pub struct RowRef<'v> {
     cells: Vec<(u16, CellRef<'v>)>,
-    // The cells of a change, read before they are put in.
+    // The cells of a change whose columns do not rise, read before they are put in.
     read: Vec<(u16, CellRef<'v>)>,
 }
 
@@ -87,6 +88,9 @@ impl<'v> RowRef<'v> {
     pub fn set_read(&mut self, cells: CellsRef<'v>) -> Result<(), NoMemory>
         ensures { OnOk result (self.new ≡ with_cells (cells_in_ref cells.entry) self.old) }
     {
+        if put_rising(&mut self.cells, cells)? {
+            return Ok(());
+        }
         read_all(cells, &mut self.read)?;
         put_all(&mut self.cells, &self.read)
     }
@@ -120,6 +124,72 @@ fn put_ref<'v>(
             Ok(())
         }
     }
+}
+
+// The place of a column among entries by rising id, or the place where a new one goes. The entries before `from` are of columns
+// below it, and are not looked at.
+fn place_behind<X>(cells: &[(u16, X)], from: usize, id: u16) -> Result<usize, usize>
+    requires bound { from ≤ length cells.now }
+    requires below { AreBelow from id cells.now }
+    ensures place { result ≡ place_of nat_cmp id cells.now }
+    ensures below { MatchResult result (λ at. AreBelow at id cells.now) (λ at. AreBelow at id cells.now) }
+    ensures found { IfOk result (λ at. HasNumber at id cells.now) }
+{
+    let mut at = from;
+    'places: while at < cells.len() {
+        let here = cells[at].0;
+        if here >= id {
+            return if here == id { Ok(at) } else { Err(at) };
+        }
+        at += 1;
+    }
+    Err(at)
+}
+
+// Sets the cell of a column that is above those before `from`, and tells its place.
+fn put_behind<'v>(
+    cells: &mut Vec<(u16, CellRef<'v>)>,
+    from: usize,
+    id: u16,
+    cell: CellRef<'v>,
+) -> Result<usize, NoMemory>
+    requires bound { from ≤ length cells.old.items }
+    requires below { AreBelow from id cells.old.items }
+    ensures put { OnOk result (cells.new.items ≡ put nat_cmp id cell.entry cells.old.items) }
+    ensures bound { IfOk result (λ at. at < length cells.new.items) }
+    ensures below { IfOk result (λ at. AreBelow (at + 1) (id + 1) cells.new.items) }
+{
+    match place_behind(cells, from, id) {
+        Ok(at) => {
+            cells[at].1 = cell;
+            Ok(at)
+        }
+        Err(at) => {
+            cells.insert(at, (id, cell))?;
+            Ok(at)
+        }
+    }
+}
+
+// Sets cells that are read where they lie, as far as their columns rise. Tells whether these were all.
+fn put_rising<'v>(cells: &mut Vec<(u16, CellRef<'v>)>, more: CellsRef<'v>) -> Result<bool, NoMemory>
+    ensures all { IfOk result (λ all. all ≡ true → cells_in cells.new.items ≡ with_cells (cells_in_ref more.entry) (cells_in cells.old.items)) }
+    ensures some { OnOk result (with_cells (cells_in_ref more.entry) (cells_in cells.new.items) ≡ with_cells (cells_in_ref more.entry) (cells_in cells.old.items)) }
+{
+    let mut rest = more;
+    let mut from = 0;
+    let mut least = 0;
+    'cells: while let Some((cell, others)) = rest.split_first() {
+        let id = u32::from(cell.0);
+        if id < least {
+            return Ok(false);
+        }
+        let at = put_behind(cells, from, cell.0, cell.1)?;
+        from = at + 1;
+        least = id + 1;
+        rest = others;
+    }
+    Ok(true)
 }
 
 // Reads cells where they lie, one by one.
