@@ -1,6 +1,7 @@
 -- Changes held as bytes stay what they are as strings are added.
-use Rattle.std.proofs.Common.{◌≡◌, ℕ, ◌<◌, ◌≤◌, Bool, true, false, ◌&&◌, List, [], ◌∷◌, ◌++◌, length, get_or, Result, Ok, Err, refl, sym, ap, ◌∙◌, arith}
+use Rattle.std.proofs.Common.{◌≡◌, ℕ, zero, suc, ◌-◌, map, ◌<◌, ◌≤◌, Bool, true, false, ◌&&◌, List, [], ◌∷◌, ◌++◌, length, get_or, Result, Ok, Err, refl, sym, ap, ◌∙◌, arith, inl, inr, ◌⊎◌, ◌+◌}
 use Rattle.std.specs.Prelude.{OnErr}
+use Rattle.std.proofs.lemmas.Bool.{cases_lt}
 use Rattle.std.proofs.lemmas.List.{get_or_append_left, get_or_default, length_push, length-map}
 use Rattle.std.proofs.Math.Seq.{get_or-append_seam}
 use Rattle.std.proofs.Math.ListN.{get_or-map}
@@ -10,7 +11,7 @@ use Rattle.kt_history.specs.declared.changes.KeyChange.{KeyChange}
 use Rattle.kt_history.specs.declared.change_list.Head.{Head}
 use Rattle.kt_history.specs.declared.target.Kindly.{Kindly}
 use Rattle.kt_history.specs.declared.target.Kindly.TheVariants.{Ins}
-use Rattle.kt_history.specs.AsBytes.{change_with, change_at, changes_at, is_inside, are_inside}
+use Rattle.kt_history.specs.AsBytes.{change_with, change_at, changes_at, is_inside, are_inside, last_key, AreTold, IsToldNext}
 
 pub on_err : {A E P : Type 0} (r : Result A E) → P → OnErr r P
 on_err (Ok x) p = tt
@@ -63,6 +64,65 @@ pub with_key : (texts : List (List ℕ)) (heads : List Head) (at ts : ℕ) (kind
     → new ≡ now ++ (record { key = key; ts = ts; change = change_with kind (cells_behind cells) }) ∷ []
 with_key texts heads at ts kind key cells now new view is h = h ∙ rw (view, is) refl
 
+-- ---- the key of the last change
+
+key_inside : (n : ℕ) (heads : List Head) (k : ℕ) (d : Head) → are_inside n heads ≡ true → k < length heads → (get_or heads k d).key < n
+key_inside n [] k d e lt = absurd (omega arith)
+key_inside n (h ∷ heads) zero d e lt = (inside_at n h heads e).0
+key_inside n (h ∷ heads) (suc k) d e lt = key_inside n heads k d (inside_at n h heads e).2 (omega arith)
+
+pub last_is : (texts : List (List ℕ)) (heads : List Head) (h : Head) → 0 < length heads → h ≡ get_or heads (length heads - 1) h → are_inside (length texts) heads ≡ true → (h.key < length texts) × (get_or texts h.key [] ≡ last_key (changes_at texts heads))
+last_is texts heads h some is inside = (
+  omega (arith, key_inside (length texts) heads (length heads - 1) h inside (omega arith), ap (λ (h : Head). h.key) is),
+  sym (ap (λ (n : ℕ). get_or keys n []) (ap (λ (n : ℕ). n - 1) (length-map heads (change_at texts)))
+      ∙ get_or_default keys (length heads - 1) [] ((change_at texts h).key) (omega (arith, some, length-map (changes_at texts heads) (λ (c : KeyChange). c.key), length-map heads (change_at texts)))
+      ∙ get_or-map (λ (c : KeyChange). c.key) (changes_at texts heads) (length heads - 1) (change_at texts h)
+      ∙ ap (λ (c : KeyChange). c.key) (get_or-map (change_at texts) heads (length heads - 1) h ∙ ap (change_at texts) (sym is))),
+)
+  where
+    keys : List (List ℕ)
+    keys = map (λ (c : KeyChange). c.key) (changes_at texts heads)
+
+-- ---- neighbours that are told by the numbers of their keys
+
+module _ (texts : List (List ℕ)) (text : List ℕ) (heads : List Head) (inside : are_inside (length texts) heads ≡ true) where
+  key_stays : (k : ℕ) (d : Head) → k < length heads → get_or (texts ++ text ∷ []) (get_or heads k d).key [] ≡ get_or texts (get_or heads k d).key []
+  key_stays k d lt = get_or_append_left texts (text ∷ []) [] (get_or heads k d).key (key_inside (length texts) heads k d inside lt)
+
+  pub told_more : AreTold texts heads → AreTold (texts ++ text ∷ []) heads
+  told_more told = λ k d lt same. told k d lt (sym (key_stays k d (omega arith)) ∙ same ∙ key_stays (k + 1) d lt)
+
+  pub next_more : (at : ℕ) → at < length texts → IsToldNext texts heads at → IsToldNext (texts ++ text ∷ []) heads at
+  next_more at known next = λ d some same. next d some (sym (key_stays (length heads - 1) d (omega arith)) ∙ same ∙ get_or_append_left texts (text ∷ []) [] at known)
+
+  -- a string that is another one than the last key
+  pub next_new : (last : ℕ) → ((d : Head) → 0 < length heads → (get_or heads (length heads - 1) d).key ≡ last) → ((last < length texts) × (get_or texts last [] ≡ text) → ⊥) → IsToldNext (texts ++ text ∷ []) heads (length texts)
+  next_new last is other = λ d some same.
+      let number = is d some in
+      let known : last < length texts = omega (arith, number, key_inside (length texts) heads (length heads - 1) d inside (omega arith)) in
+      absurd (other (known, ap (λ (n : ℕ). get_or texts n []) (sym number) ∙ sym (key_stays (length heads - 1) d (omega arith)) ∙ same ∙ get_or-append_seam texts text [] []))
+
+pub told_added : (texts : List (List ℕ)) (heads : List Head) (h : Head) → AreTold texts heads → IsToldNext texts heads h.key → AreTold texts (heads ++ h ∷ [])
+told_added texts heads h told next = λ k d lt same. by k d lt same (cases_lt (k + 1) (length heads))
+  where
+    left : (k : ℕ) (d : Head) → k < length heads → get_or (heads ++ h ∷ []) k d ≡ get_or heads k d
+    left k d lt = get_or_append_left heads (h ∷ []) d k lt
+
+    here : (k : ℕ) (d : Head) → k ≡ length heads → get_or (heads ++ h ∷ []) k d ≡ h
+    here k d is = ap (λ (n : ℕ). get_or (heads ++ h ∷ []) n d) is ∙ get_or-append_seam heads h [] d
+
+    by : (k : ℕ) (d : Head) → k + 1 < length (heads ++ h ∷ []) → get_or texts (get_or (heads ++ h ∷ []) k d).key [] ≡ get_or texts (get_or (heads ++ h ∷ []) (k + 1) d).key [] → (k + 1 < length heads) ⊎ (length heads ≤ k + 1) → (get_or (heads ++ h ∷ []) k d).key ≡ (get_or (heads ++ h ∷ []) (k + 1) d).key
+    by k d lt same (inl within) =
+        let a = left k d (omega arith) in
+        let b = left (k + 1) d within in
+        ap (λ (h : Head). h.key) a ∙ told k d within (ap (λ (h : Head). get_or texts h.key []) (sym a) ∙ same ∙ ap (λ (h : Head). get_or texts h.key []) b) ∙ ap (λ (h : Head). h.key) (sym b)
+    by k d lt same (inr past) =
+        let n = length_push heads h in
+        let at : k ≡ length heads - 1 = omega arith in
+        let a = left k d (omega arith) ∙ ap (λ (n : ℕ). get_or heads n d) at in
+        let b = here (k + 1) d (omega arith) in
+        ap (λ (h : Head). h.key) a ∙ next d (omega arith) (ap (λ (h : Head). get_or texts h.key []) (sym a) ∙ same ∙ ap (λ (h : Head). get_or texts h.key []) b) ∙ ap (λ (h : Head). h.key) (sym b)
+
 -- ---- where a test ends to pass
 
 module _ (p : KeyChange → Bool) (texts : List (List ℕ)) (heads : List Head) where
@@ -84,7 +144,7 @@ module _ (p : KeyChange → Bool) (texts : List (List ℕ)) (heads : List Head) 
       read k d lt = get_or_default (changes_at texts heads) k d (change_at texts none) (omega (arith, lt, length-map heads (change_at texts))) ∙ read_at k none
 
       front : (k : ℕ) (d : KeyChange) → 0 ≤ k → k < n → p (get_or (changes_at texts heads) k d) ≡ true
-      front k d zero lt = ap p (read k d (omega (arith, lt, bound))) ∙ point.0 k none zero lt
+      front k d low lt = ap p (read k d (omega (arith, lt, bound))) ∙ point.0 k none low lt
 
       behind : (k : ℕ) (d : KeyChange) → n ≤ k → k < length (changes_at texts heads) → p (get_or (changes_at texts heads) k d) ≡ false
       behind k d le lt = let within : k < length heads = omega (arith, lt, length-map heads (change_at texts)) in ap p (read k d within) ∙ point.1 k none le within

@@ -1,5 +1,5 @@
 -- Changes whose keys and cells stand as byte strings in one list.
-use Rattle.std.specs.Prelude.{ℕ, Bool, ◌&&◌, List, [], map, get_or, nat_lt}
+use Rattle.std.specs.Prelude.{◌≡◌, ℕ, ◌+◌, ◌-◌, ◌<◌, Bool, ◌&&◌, List, [], length, map, get_or, nat_lt}
 use Rattle.std.specs.List.{list_all}
 use Rattle.kt_cells.specs.Reading.{cells_behind}
 use Rattle.kt_history.specs.declared.change.Change.{Change}
@@ -31,6 +31,18 @@ is_inside n h = nat_lt h.key n && nat_lt h.cells n
 
 abbrev pub are_inside : ℕ → List Head → Bool
 are_inside n heads = list_all (is_inside n) heads
+
+-- changes that stand one behind the other name one string for one key
+abbrev pub AreTold : List (List ℕ) → List Head → Type 0
+AreTold texts heads = (k : ℕ) (d : Head) → k + 1 < length heads → get_or texts (get_or heads k d).key [] ≡ get_or texts (get_or heads (k + 1) d).key [] → (get_or heads k d).key ≡ (get_or heads (k + 1) d).key
+
+-- a string is the key of the last change, or another one than that
+abbrev pub IsToldNext : List (List ℕ) → List Head → ℕ → Type 0
+IsToldNext texts heads at = (d : Head) → 0 < length heads → get_or texts (get_or heads (length heads - 1) d).key [] ≡ get_or texts at [] → (get_or heads (length heads - 1) d).key ≡ at
+
+-- the key of the last change, or nothing where there is none
+abbrev pub last_key : List KeyChange → List ℕ
+last_key changes = get_or (map (λ c. c.key) changes) (length changes - 1) []
 
 -- a change that is read where it lies, and one of a list, without its key
 abbrev pub step_in : ChangeRef → ℕ × Change
