@@ -1,9 +1,11 @@
 -- The changes of a store, one row after the other.
-use Rattle.std.proofs.Common.{◌≡◌, ◌≢◌, ℕ, ◌+◌, ◌≤◌, List, [], ◌∷◌, ◌++◌, length, map, drop, Some, None, cond, Bool, true, false, refl, sym, ap, subst, ◌∙◌, append_assoc, arith, length-append}
+use Rattle.std.proofs.Common.{◌≡◌, ◌≢◌, ℕ, ◌+◌, ◌-◌, ◌≤◌, get_or, List, [], ◌∷◌, ◌++◌, length, map, drop, Some, None, cond, Bool, true, false, refl, sym, ap, subst, ◌∙◌, append_assoc, arith, length-append}
 use Rattle.std.specs.Prelude.{nat_le}
 use Rattle.std.specs.List.{filter}
 use Rattle.kt_tree.proofs.Places.{bytes_some}
-use Rattle.std.proofs.lemmas.List.{append-nil, map-append}
+use Rattle.std.proofs.lemmas.List.{append-nil, map-append, length-map}
+use Rattle.std.proofs.Math.Seq.{get_or-append_seam}
+use Rattle.kt_memrowset.specs.Ending.{EndsIn}
 use Rattle.std.proofs.lemmas.List.Concat.{flat_map-cons}
 use Rattle.std.proofs.lemmas.Grind.{flat_map-append}
 use Rattle.kt_cells.specs.Reading.{cells_behind}
@@ -75,6 +77,16 @@ listed_link pool cell upto key bytes cells h s e behind read low =
     ap (λ (h : Head). record { key = key; ts = h.ts; change = change_with h.kind (cells_behind cells) } ∷ []) head
     ∙ ap (λ cells. record { key = key; ts = l.head.ts; change = change_with l.head.kind cells } ∷ []) is
     ∙ sym (ap (λ b. map (key_change key) (cond b (step_of l ∷ []) [])) at)
+
+-- a list ends in the key of what was added
+pub ends_in_added : (changes new : List KeyChange) (key : List ℕ) (c : KeyChange) → new ≡ changes ++ c ∷ [] → c.key ≡ key → EndsIn key new
+ends_in_added changes new key c e is =
+    let n : length new ≡ length changes + 1 = ap length e ∙ length-append changes (c ∷ []) in
+    let keys : map (λ (x : KeyChange). x.key) new ≡ map (λ (x : KeyChange). x.key) changes ++ c.key ∷ [] = ap (map (λ (x : KeyChange). x.key)) e ∙ map-append (λ (x : KeyChange). x.key) changes (c ∷ []) in
+    let at : length new - 1 ≡ length (map (λ (x : KeyChange). x.key) changes) = omega (arith, n, length-map changes (λ (x : KeyChange). x.key)) in (
+      omega (arith, n),
+      ap (λ (k : ℕ). get_or (map (λ (x : KeyChange). x.key) new) k []) at ∙ ap (λ (xs : List (List ℕ)). get_or xs (length (map (λ (x : KeyChange). x.key) changes)) []) keys ∙ get_or-append_seam (map (λ (x : KeyChange). x.key) changes) c.key [] [] ∙ is,
+    )
 
 -- and one above the time is not listed
 pub unlisted_link : (pool : Contents) (cell upto : ℕ) (key : List ℕ) (h : Head) → IsLink pool (link_at pool cell) → h ≡ head_of (bytes_at pool cell) → nat_le h.ts upto ≡ false → row_changes upto key (steps_of (link_at pool cell ∷ [])) ≡ []

@@ -3,3 +3,4 @@ pub mod Stores
 pub mod Taking
 pub mod Writes
 pub mod Laws
+pub mod Ending

@@ -1,20 +1,26 @@
 //! The changes of one row, in a chain.
-ghost use Rattle.std.specs.Prelude.{◌≡◌, ℕ, [], ◌∷◌, List, ◌++◌, None, is_some, length, IfOk, IfSome, OnOk};
+ghost use Rattle.std.specs.Prelude.{◌≡◌, ℕ, ◌≤◌, [], ◌∷◌, List, ◌++◌, None, true, is_some, length, drop, IfOk, IfSome, OnOk};
 ghost use Rattle.std.specs.Prelude.{◌==◌};
 ghost use Rattle.kt_histlaws.specs.Histories.{after_steps, row_of};
 ghost use Rattle.kt_histlaws.specs.Flights.{UpTo};
 ghost use Rattle.kt_memrowset.specs.Links.{Link, IsLink, IsChainAt, link_at, chain, newest, change_of, steps_of};
 ghost use Rattle.kt_memrowset.specs.Stores.{RowStands, hist_of, stays, trail_at, IsTrailAt, Releases, row_changes};
 ghost use Rattle.kt_memrowset.specs.Taking.{links_from};
+ghost use Rattle.kt_memrowset.specs.Ending.{EndsIn};
+ghost use Rattle.kt_cells.specs.Reading.{cells_behind};
+ghost use Rattle.kt_history.specs.AsBytes.{change_with};
 ghost use Rattle.kt_pool.specs.Contents.{Stands, bytes_at};
 
-use crate::link::{NOTHING, head_in};
+use crate::link::{Head, NOTHING, head_in};
 use kt_base::{Cells, NoMemory, Octets};
 use kt_bytes::Stop;
 use kt_cells::lists::cells_of;
 use kt_history::{Change, ChangeList, Kindly, apply};
 use kt_pool::{Place, Pool};
 use std::alloc::Global;
+
+// The most bytes that one cell of the pool has.
+const WHOLE: usize = 56;
 
 /// Whether there is a row after a change of this kind.
 pub fn stays(kind: Kindly) -> bool
@@ -154,28 +160,74 @@ pub fn read_into(pool: &Pool, cell: u32, buffer: &mut Vec<u8>) -> Result<(), NoM
     }
 }
 
-/// Lists the change in this cell, if it is at or below a time, as its bytes.
+// Adds a change of a key, told whether the last one of the list is of that key.
+fn push_next(
+    list: &mut ChangeList,
+    key: &[u8],
+    begun: bool,
+    head: Head,
+    cells: &[u8],
+) -> Result<(), NoMemory>
+    requires { begun ≡ true → EndsIn key.now list.old }
+    ensures { OnOk result (list.new ≡ list.old ++ (record { key = key.now; ts = head.ts; change = change_with head.kind (cells_behind cells.now) }) ∷ []) }
+{
+    if begun {
+        list.push_same(head.ts, head.kind, cells)
+    } else {
+        list.push(key, head.ts, head.kind, cells)
+    }
+}
+
+// Adds the change in this cell. Its cells are read where they lie, if one cell of the pool has them all, or else through a buffer.
+fn push_link(
+    pool: &Pool,
+    key: &[u8],
+    cell: u32,
+    begun: bool,
+    head: Head,
+    list: &mut ChangeList,
+    buffer: &mut Vec<u8>,
+) -> Result<(), NoMemory>
+    requires spelled { 23 ≤ length (bytes_at pool.now cell) }
+    requires begun { begun ≡ true → EndsIn key.now list.old }
+    ensures { OnOk result (list.new ≡ list.old ++ (record { key = key.now; ts = head.ts; change = change_with head.kind (cells_behind (drop 21 (bytes_at pool.now cell))) }) ∷ []) }
+{
+    let place = Place { cell };
+    let len = pool.len(place);
+    if len <= WHOLE {
+        let bytes = pool.front(place, len);
+        return push_next(list, key, begun, head, &bytes[21..]);
+    }
+    read_into(pool, cell, buffer)?;
+    push_next(list, key, begun, head, &buffer[21..])
+}
+
+/// Lists the change in this cell, if it is at or below a time, as its bytes. It is told, and tells, whether the last change of
+/// the list is of that key.
 fn push_change(
     pool: &Pool,
     key: &[u8],
     cell: u32,
     upto: u64,
+    begun: &mut bool,
     list: &mut ChangeList,
     buffer: &mut Vec<u8>,
 ) -> Result<u32, NoMemory>
-    requires { IsLink pool.now (link_at pool.now cell) }
+    requires link { IsLink pool.now (link_at pool.now cell) }
+    requires begun { begun.old ≡ true → EndsIn key.now list.old }
     ensures next { IfOk result (λ next. next ≡ (link_at pool.now cell).head.next) }
     ensures list { IfOk result (λ next. list.new ≡ list.old ++ row_changes upto key.now (steps_of (link_at pool.now cell ∷ []))) }
+    ensures begun { IfOk result (λ next. begun.new ≡ true → EndsIn key.now list.new) }
 {
     let head = head_in(pool, cell);
     if head.ts <= upto {
-        read_into(pool, cell, buffer)?;
-        list.push(key, head.ts, head.kind, &buffer[21..])?;
+        push_link(pool, key, cell, *begun, head, list, buffer)?;
+        *begun = true;
     }
     Ok(head.next)
 }
 
-/// Lists the changes of a row at or below a time. They are read through a buffer.
+/// Lists the changes of a row at or below a time. They are read through a buffer where they do not lie together.
 pub fn push_changes(
     pool: &Pool,
     key: &[u8],
@@ -188,8 +240,9 @@ pub fn push_changes(
     ensures { OnOk result (list.new ≡ list.old ++ row_changes upto key.now (steps_of (chain pool.now first))) }
 {
     let mut cell = first;
+    let mut begun = false;
     while cell != NOTHING {
-        cell = push_change(pool, key, cell, upto, list, buffer)?;
+        cell = push_change(pool, key, cell, upto, &mut begun, list, buffer)?;
     }
     Ok(())
 }
