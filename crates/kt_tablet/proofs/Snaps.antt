@@ -10,7 +10,8 @@ use Rattle.std.specs.declared.cmp.Ordering.TheVariants.{Less, Equal, Greater}
 use Rattle.std.proofs.lemmas.Bool.{false≢true, and_parts, cases_eq}
 use Rattle.std.proofs.Common.{inl, inr}
 use Rattle.kt_histlaws.specs.Histories.{after_steps}
-use Rattle.std.proofs.lemmas.Cmp.{upto, eq_by_cmp_equiv}
+use Rattle.std.proofs.lemmas.Cmp.{upto, eq_by_cmp_equiv, tied_itself}
+use Rattle.kt_history.specs.declared.change.Change.TheVariants.{Del}
 use Rattle.std.proofs.lemmas.List.Elements.{filter-append}
 use Rattle.kt_history.specs.declared.changes.KeyChange.{KeyChange}
 use Rattle.kt_history.specs.Rows.{Row, key_cmp}
@@ -188,10 +189,71 @@ reached_begin cs q at h le here before = point_at (λ c. is_lt (key_cmp c.key q)
     not_not true e = refl
     not_not false e = sym e
 
--- THE CHANGES OF A KEY, ONE BY ONE
+-- WHERE THE CHANGES OF A KEY BEGIN AND END
 some_is : {X : Type 0} (x y : X) → Some x ≡ Some y → x ≡ y
 some_is x y e = cc
 
+apart_less : (a b : List ℕ) → is_gt (key_cmp a b) ≡ false → (a ≡ b → ⊥) → is_lt (key_cmp a b) ≡ true
+apart_less a b le ne = less (key_cmp a b) le (by_bool (eq_by_cmp key_cmp a b) (λ e. absurd (ne (same_key a b e))) (λ e. e))
+  where
+    less : (o : Ordering) → is_gt o ≡ false → is_eq o ≡ false → is_lt o ≡ true
+    less Less g e = refl
+    less Equal g e = absurd (false≢true (sym e))
+    less Greater g e = absurd (false≢true (sym g))
+
+-- the key of a change that is there
+key_is : (cs : List KeyChange) (k : ℕ) (q : List ℕ) → key_at cs k ≡ Some q → (k < length cs) × ((d : KeyChange) → (get_or cs k d).key ≡ q)
+key_is [] k q e = absurd cc
+key_is (c ∷ cs) zero q e = (omega arith, λ d. some_is c.key q e)
+key_is (c ∷ cs) (suc k) q e = let rest = key_is cs k q e in (omega (arith, rest.0), rest.1)
+
+module _ (cs : List KeyChange) (q : List ℕ) (h : rises cs ≡ true) where
+  any_change : KeyChange
+  any_change = record { key = []; ts = 0; change = Del }
+
+  -- two neighbours of different keys
+  rise_between : (k : ℕ) (a b : List ℕ) → key_at cs k ≡ Some a → key_at cs (k + 1) ≡ Some b → (key_at cs k ≡ key_at cs (k + 1) → ⊥) → is_lt (key_cmp a b) ≡ true
+  rise_between k a b here behind other =
+      let one = key_is cs k a here in
+      let two = key_is cs (k + 1) b behind in
+      apart_less a b
+      (ap (λ x. is_gt (key_cmp x b)) (sym (one.1 any_change)) ∙ ap (λ x. is_gt (key_cmp (get_or cs k any_change).key x)) (sym (two.1 any_change)) ∙ rises_at cs k (k + 1) any_change h (omega arith) two.0)
+      (λ same. other (here ∙ ap Some same ∙ sym behind))
+
+  -- behind the last change of a key, those above it begin
+  pub above_next : (k : ℕ) → key_at cs k ≡ Some q → (key_at cs k ≡ key_at cs (k + 1) → ⊥) → is_above_at q (key_at cs (k + 1)) ≡ true
+  above_next k here other = by (key_at cs (k + 1)) refl
+    where
+      by : (o : Option (List ℕ)) → key_at cs (k + 1) ≡ o → is_above_at q o ≡ true
+      by None e = refl
+      by (Some b) e = rise_between k q b here e other
+
+  -- before the first change of a key, all are below it
+  pub below_before : (k : ℕ) → key_at cs (k + 1) ≡ Some q → (key_at cs k ≡ key_at cs (k + 1) → ⊥) → is_reached_at q (key_at cs k) ≡ false
+  below_before k here other =
+      let within = (key_is cs (k + 1) q here).0 in
+      let before : key_at cs k ≡ Some (get_or cs k any_change).key = ap (option_map (λ c. c.key)) (get_at cs k any_change (omega arith)) in
+      ap (is_reached_at q) before ∙ ap not (rise_between k (get_or cs k any_change).key q before here other)
+
+pub not_above_itself : (cs : List KeyChange) (q : List ℕ) (k : ℕ) → key_at cs k ≡ Some q → is_above_at q (key_at cs k) ≡ false
+not_above_itself cs q k here = ap (is_above_at q) here ∙ ap is_lt (tied_itself order q)
+
+pub reaches_itself : (cs : List KeyChange) (q : List ℕ) (k : ℕ) → key_at cs k ≡ Some q → is_reached_at q (key_at cs k) ≡ true
+reaches_itself cs q k here = ap (is_reached_at q) here ∙ ap (λ o. not (is_lt o)) (tied_itself order q)
+
+pub key_within : (cs : List KeyChange) (q : List ℕ) (k : ℕ) → key_at cs k ≡ Some q → k < length cs
+key_within cs q k here = (key_is cs k q here).0
+
+-- the change at a place is of a key, or it is not
+pub change_is : (q : List ℕ) (o : Option KeyChange) → option_map (λ c. c.key) o ≡ Some q → change_there q o ≡ o
+change_is q None e = absurd cc
+change_is q (Some x) e = ap (λ b. cond b (Some x) None) (ap (λ k. is_eq (key_cmp q k)) (some_is x.key q e) ∙ ap is_eq (tied_itself order q))
+
+pub change_is_not : (q : List ℕ) (o : Option KeyChange) → (option_map (λ c. c.key) o ≡ Some q → ⊥) → change_there q o ≡ None
+change_is_not q None other = refl
+change_is_not q (Some x) other = by_bool (eq_by_cmp key_cmp q x.key) (λ same. absurd (other (ap Some (sym (same_key q x.key same))))) (λ e. ap (λ b. cond b (Some x) None) e)
+
+-- THE CHANGES OF A KEY, ONE BY ONE
 got : {X : Type 0} (xs : List X) (k : ℕ) (x : X) → slice_get xs k ≡ Some x → (k < length xs) × (x ≡ get_or xs k x) × (drop k xs ≡ x ∷ drop (suc k) xs)
 got [] k x e = absurd cc
 got (y ∷ xs) zero x e = let is = some_is y x e in (omega arith, sym is, ap (λ z. z ∷ xs) is)
