@@ -5,6 +5,7 @@ pub mod Short
 pub mod Places
 pub mod Blocks
 pub mod Faults
+pub mod Steps
 pub mod Loop
 pub mod Sums
 pub mod Held

@@ -1,10 +1,13 @@
 -- Reading entries, and codes, one after the other, as a loop does.
-use Rattle.std.proofs.Common.{◌≡◌, ℕ, suc, ◌-◌, ◌+◌, ◌≤◌, ◌<◌, Bool, true, false, cond, List, [], ◌∷◌, ◌++◌, length, Result, Ok, Err, refl, sym, ◌∙◌, arith}
+use Rattle.std.proofs.Common.{◌≡◌, ℕ, zero, suc, ◌-◌, ◌+◌, ◌≤◌, ◌<◌, Bool, true, false, cond, List, [], ◌∷◌, ◌++◌, length, Result, Ok, Err, refl, sym, ap, ◌∙◌, arith}
 use Rattle.std.specs.Prelude.{nat_lt, not}
 use Rattle.std.proofs.lemmas.Bool.{ltb-false}
+use Rattle.std.proofs.lemmas.List.{length_push}
 use Rattle.kt_bytes.specs.declared.fault.Stop.{Stop}
 use Rattle.kt_bytes.specs.declared.fault.Stop.TheVariants as stops
-use Rattle.kt_bytes.specs.Reading.{Fails}
+use Rattle.kt_bytes.specs.Reading.{◌>>=◌, Fails}
+use Rattle.kt_bytes.proofs.Numbers.{then_is, bind_ok, ok_is, done}
+use Rattle.kt_dict.proofs.Steps.{stopped}
 use Rattle.kt_dict.specs.Spelling.{has, with_entry}
 use Rattle.kt_dict.specs.Walk.{text_at, entry_at, entries_at, code_at, codes_at, used_with}
 
@@ -15,29 +18,38 @@ Read = Result (List (List ℕ) × List ℕ) ℕ
 more_left : (count i : ℕ) → i < count → count - i ≡ suc (count - (i + 1))
 more_left count i lt = omega arith
 
-pub entry_goes : (most count i : ℕ) (known : List (List ℕ)) (bytes x after : List ℕ) (total : Read) → i < count → text_at most known bytes ≡ Ok (x, after) → has known x ≡ false
-    → entries_at most (count - i) known bytes ≡ total → entries_at most (count - (i + 1)) (known ++ x ∷ []) after ≡ total
+-- one entry that was read
+pub entry_is : (most : ℕ) (known : List (List ℕ)) (bytes x after : List ℕ) → text_at most known bytes ≡ Ok (x, after) → has known x ≡ false → entries_at most 1 known bytes ≡ Ok (known ++ x ∷ [], after)
 unfolding entries_at entry_at
-entry_goes most count i known bytes x after total lt h new so_far =
-    let k = more_left count i lt in
-    let one : entries_at most (count - i) known bytes ≡ entries_at most (count - (i + 1)) (known ++ x ∷ []) after = rw (k, h, new) refl in
-    sym one ∙ so_far
+entry_is most known bytes x after h new = rw (h, new) refl
 
-pub entry_stops : (most : ℕ) (e : Stop) (count i : ℕ) (known : List (List ℕ)) (bytes : List ℕ) (total : Read) → i < count → Fails e (text_at most known bytes) → entries_at most (count - i) known bytes ≡ total → Fails e total
+pub entry_stops : (most : ℕ) (e : Stop) (known : List (List ℕ)) (bytes : List ℕ) → Fails e (text_at most known bytes) → Fails e (entries_at most 1 known bytes)
 unfolding entries_at entry_at
-entry_stops most stops.Memory count i known bytes total lt h so_far = tt
-entry_stops most (stops.Left left) count i known bytes total lt h so_far =
-    let k = more_left count i lt in
-    let one : entries_at most (count - i) known bytes ≡ Err left = rw (k, h) refl in
-    sym so_far ∙ one
+entry_stops most stops.Memory known bytes h = tt
+entry_stops most (stops.Left left) known bytes h = rw h refl
 
-pub entry_repeats : (most count i : ℕ) (known : List (List ℕ)) (bytes x after : List ℕ) (total : Read) → i < count → text_at most known bytes ≡ Ok (x, after) → has known x ≡ true
-    → entries_at most (count - i) known bytes ≡ total → total ≡ Err (length x + length after)
+pub entry_repeats : (most : ℕ) (known : List (List ℕ)) (bytes x after : List ℕ) → text_at most known bytes ≡ Ok (x, after) → has known x ≡ true → entries_at most 1 known bytes ≡ Err (length x + length after)
 unfolding entries_at entry_at
-entry_repeats most count i known bytes x after total lt h old so_far =
-    let k = more_left count i lt in
-    let one : entries_at most (count - i) known bytes ≡ Err (length x + length after) = rw (k, h, old) refl in
-    sym so_far ∙ one
+entry_repeats most known bytes x after h old = rw (h, old) refl
+
+-- the first of several entries, and the others
+first_entry : (most n : ℕ) (known : List (List ℕ)) (bytes : List ℕ) → entries_at most (suc n) known bytes ≡ (entries_at most 1 known bytes >>= λ x. entries_at most n x.0 x.1)
+unfolding entries_at
+first_entry most n known bytes = go (entry_at most known bytes)
+  where
+    go : (r : Result (List ℕ × List ℕ) ℕ) → (r >>= λ x. entries_at most n (known ++ x.0 ∷ []) x.1) ≡ (r >>= (λ x. let y : List (List ℕ) × List ℕ = (known ++ x.0 ∷ [], x.1) in done y) >>= λ x. entries_at most n x.0 x.1)
+    go (Ok x) = refl
+    go (Err left) = refl
+
+pub entries_go : (most count i : ℕ) (known all : List (List ℕ)) (bytes after : List ℕ) (total : Read) → i < count → entries_at most 1 known bytes ≡ Ok (all, after)
+    → entries_at most (count - i) known bytes ≡ total → entries_at most (count - (i + 1)) all after ≡ total
+entries_go most count i known all bytes after total lt h so_far =
+    sym (ap (λ (k : ℕ). entries_at most k known bytes) (more_left count i lt) ∙ (first_entry most (count - (i + 1)) known bytes ∙ then_is (entries_at most 1 known bytes) (λ x. entries_at most (count - (i + 1)) x.0 x.1) (all, after) h)) ∙ so_far
+
+pub entries_stop : (most : ℕ) (e : Stop) (count i : ℕ) (known : List (List ℕ)) (bytes : List ℕ) (total : Read) → i < count → Fails e (entries_at most 1 known bytes) → entries_at most (count - i) known bytes ≡ total → Fails e total
+entries_stop most stops.Memory count i known bytes total lt h so_far = tt
+entries_stop most (stops.Left left) count i known bytes total lt h so_far =
+    sym so_far ∙ (ap (λ (k : ℕ). entries_at most k known bytes) (more_left count i lt) ∙ (first_entry most (count - (i + 1)) known bytes ∙ stopped (entries_at most 1 known bytes) (λ x. entries_at most (count - (i + 1)) x.0 x.1) left h))
 
 pub entries_done : (most count i : ℕ) (known : List (List ℕ)) (bytes : List ℕ) (total : Read) → count ≤ i → entries_at most (count - i) known bytes ≡ total → total ≡ Ok (known, bytes)
 unfolding entries_at
@@ -45,6 +57,14 @@ entries_done most count i known bytes total le so_far =
     let k : count - i ≡ 0 = omega arith in
     let one : entries_at most (count - i) known bytes ≡ Ok (known, bytes) = rw k refl in
     sym so_far ∙ one
+
+-- so many are added
+pub entries_count : (most n : ℕ) (known : List (List ℕ)) (bytes : List ℕ) (x : List (List ℕ) × List ℕ) → entries_at most n known bytes ≡ Ok x → length x.0 ≡ length known + n
+unfolding entries_at
+entries_count most zero known bytes x e = let none : length known ≡ length known + 0 = omega arith in sym (ap (λ (y : List (List ℕ) × List ℕ). length y.0) (ok_is (known, bytes) x e)) ∙ none
+entries_count most (suc n) known bytes x e =
+    let a = bind_ok (entry_at most known bytes) (λ y. entries_at most n (known ++ y.0 ∷ []) y.1) x e in
+    omega (arith, entries_count most n (known ++ a.0.0 ∷ []) a.0.1 x a.2, length_push known a.0.0)
 
 abbrev Codes : Type 0
 Codes = Result (List ℕ × List ℕ) ℕ

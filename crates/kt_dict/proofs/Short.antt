@@ -72,11 +72,15 @@ entries_more (x ∷ ks) (suc i) d lt =
     let n : suc i + 1 ≡ suc (i + 1) = omega arith in
     rw n (omega (arith, entries_more ks i d (omega arith), length-append (text x.now) (flat_map text (nows (take (i + 1) ks))), length-append (text x.now) (flat_map text (nows (take i ks)))))
 
--- ---- too many items, as soon as there are
+-- ---- one more item, and too many as soon as there are
+
+pub one_more : (items ds more : List (List ℕ)) (i : ℕ) → i < length items → entries_after ds (drop i items) ≡ dictionary items → more ≡ with_entry ds (get_or items i []) → entries_after more (drop (i + 1) items) ≡ dictionary items
+one_more items ds more i lt so_far is =
+    let at : i + 1 ≡ suc i = omega arith in
+    let rest : List (List ℕ) = drop (suc i) items in
+    ap (λ (k : ℕ). entries_after more (drop k items)) at ∙ (ap (λ es. entries_after es rest) is ∙ (sym (ap (entries_after ds) (drop-cons items i [] lt)) ∙ so_far))
 
 pub too_many : (items ds more : List (List ℕ)) (i : ℕ) → i < length items → entries_after ds (drop i items) ≡ dictionary items → more ≡ with_entry ds (get_or items i []) → 4096 < length more → 4096 < length (dictionary items)
 too_many items ds more i lt so_far is many =
-    let rest : List (List ℕ) = drop (suc i) items in
-    let all : entries_after more rest ≡ dictionary items = ap (λ es. entries_after es rest) is ∙ (sym (ap (entries_after ds) (drop-cons items i [] lt)) ∙ so_far) in
-    let g = after_grows more rest in
-    omega (arith, ap length all, ap length g.1, length-append more g.0)
+    let g = after_grows more (drop (i + 1) items) in
+    omega (arith, ap length (one_more items ds more i lt so_far is), ap length g.1, length-append more g.0)

@@ -18,7 +18,8 @@ pub const MOST: usize = 4096;
 
 #[tactic(auto, unfolding(crate::specs::Walk::count_at))]
 fn count_of(n: u32, bytes: &[u8]) -> Result<(usize, &[u8]), Stop>
-    ensures { Gives (λ x. (x.0, x.1.now)) result (count_at n bytes.now) }
+    ensures read { Gives (λ x. (x.0, x.1.now)) result (count_at n bytes.now) }
+    ensures few { IfOk result (λ x. x.0 ≤ 4096) }
 {
     let (count, rest) = u16_at(bytes)?;
     let count = count as usize;
@@ -45,26 +46,44 @@ fn text_of<'a>(
     front_of(rest, len as usize)
 }
 
-/// The entries, and the bytes behind them.
-#[derive(Drop)]
-struct Known<'a> {
-    entries: IndexSet<&'a [u8]>,
-    rest: &'a [u8],
+/// Adds the entry that stands here to those before it, and gives the bytes behind it.
+fn add_entry<'a>(
+    entries: &mut IndexSet<&'a [u8]>,
+    most: u32,
+    bytes: &'a [u8],
+) -> Result<&'a [u8], Stop>
+    ensures { Gives (λ rest. (map (λ k. k.now) entries.new.keys, rest.now)) result (entries_at most 1 (map (λ k. k.now) entries.old.keys) bytes.now) }
+{
+    let (text, rest) = text_of(entries, most, bytes)?;
+    if !use_item(entries, text)? {
+        return Err(Stop::Left(text.len() + rest.len()));
+    }
+    Ok(rest)
 }
 
-fn entries_of(alloc: Global, count: usize, most: u32, bytes: &[u8]) -> Result<Known<'_>, Stop>
-    ensures { Gives (λ x. (map (λ k. k.now) x.entries.keys, x.rest.now)) result (entries_at most count [] bytes.now) }
+/// Adds so many entries, and gives the bytes behind them.
+fn add_entries<'a>(
+    entries: &mut IndexSet<&'a [u8]>,
+    count: usize,
+    most: u32,
+    bytes: &'a [u8],
+) -> Result<&'a [u8], Stop>
+    ensures { Gives (λ rest. (map (λ k. k.now) entries.new.keys, rest.now)) result (entries_at most count (map (λ k. k.now) entries.old.keys) bytes.now) }
 {
-    let mut entries = IndexSet::new(alloc);
     let mut rest = bytes;
     for _ in 0..count {
-        let (text, after) = text_of(&entries, most, rest)?;
-        if !use_item(&mut entries, text)? {
-            return Err(Stop::Left(text.len() + after.len()));
-        }
-        rest = after;
+        rest = add_entry(entries, most, rest)?;
     }
-    Ok(Known { entries, rest })
+    Ok(rest)
+}
+
+/// The entries, and the bytes behind them.
+fn entries_of(alloc: Global, count: usize, most: u32, bytes: &[u8]) -> Result<(Texts, &[u8]), Stop>
+    ensures { Gives (λ x. (x.0, x.1.now)) result (entries_at most count [] bytes.now) }
+{
+    let mut entries = IndexSet::new(alloc);
+    let rest = add_entries(&mut entries, count, most, bytes)?;
+    Ok((texts_of(alloc, entries.as_slice())?, rest))
 }
 
 #[tactic(auto, unfolding(crate::specs::Walk::code_at))]
@@ -124,17 +143,15 @@ struct Parts {
     codes: Vec<u16>,
 }
 
-#[tactic(auto, unfolding(crate::specs::Walk::block_at))]
 fn block_of(alloc: Global, n: u32, most: u32, bytes: &[u8]) -> Result<Parts, Stop>
     ensures { Gives (λ x. (x.entries, x.codes.items)) result (block_at most n bytes.now) }
 {
     let (count, rest) = count_of(n, bytes)?;
-    let known = entries_of(alloc, count, most, rest)?;
-    let (codes, rest) = codes_of(alloc, n, known.entries.len(), known.rest)?;
+    let (entries, rest) = entries_of(alloc, count, most, rest)?;
+    let (codes, rest) = codes_of(alloc, n, entries.len(), rest)?;
     if !rest.is_empty() {
         return Err(Stop::Left(rest.len()));
     }
-    let entries = texts_of(alloc, known.entries.as_slice())?;
     Ok(Parts { entries, codes })
 }
 

@@ -29,8 +29,7 @@ fn put_entry(out: &mut Vec<u8>, bytes: &[u8]) -> Result<(), AllocError>
     ensures { OnOk result (out.new.items ≡ out.old.items ++ text bytes.now) }
 {
     out.extend_from_slice(&(bytes.len() as u32).to_le_bytes())?;
-    out.extend_from_slice(bytes)?;
-    Ok(())
+    out.extend_from_slice(bytes)
 }
 
 #[tactic(auto, unfolding(crate::specs::Spelling::short))]
@@ -38,8 +37,7 @@ pub(crate) fn put_short(out: &mut Vec<u8>, n: usize) -> Result<(), AllocError>
     requires { n < 2 ^ 16 }
     ensures { OnOk result (out.new.items ≡ out.old.items ++ short n) }
 {
-    out.extend_from_slice(&(n as u16).to_le_bytes())?;
-    Ok(())
+    out.extend_from_slice(&(n as u16).to_le_bytes())
 }
 
 fn put_entries(out: &mut Vec<u8>, entries: &[&[u8]]) -> Result<(), AllocError>

@@ -7,13 +7,16 @@ use Rattle.std.proofs.lemmas.Bool.{leb-true, le-ltb, lt-ltb}
 use Rattle.std.proofs.lemmas.List.{append-nil, take_at, length-drop, length_push, take-append-drop, drop_at}
 use Rattle.std.proofs.lemmas.List.Folds.{concat-append}
 use Rattle.kt_bytes.specs.Places.{Begins, GoesOn, Stands, Delimited}
-use Rattle.kt_bytes.specs.Reading.{◌>>=◌, number_at, checked_at, bytes_at}
+use Rattle.kt_bytes.specs.declared.fault.CodecNo.{CodecNo}
+use Rattle.kt_bytes.specs.declared.fault.Stop.{Stop}
+use Rattle.kt_bytes.specs.declared.fault.Stop.TheVariants as stops
+use Rattle.kt_bytes.specs.Reading.{◌>>=◌, Fails, IsAmong, number_at, checked_at, bytes_at}
 use Rattle.kt_bytes.proofs.Numbers.{IsBytes, IsBytes-take, IsBytes-drop, ok_is, bytes_takes}
 use Rattle.kt_bytes.proofs.Places.{goes_on, one_front, one_place as places_one}
 use Rattle.kt_bytes.proofs.Faults.{FaultLeft, bind_err, guard_err, pass_err, checked_fails, bytes_fail, number_long, is_missing, begins_of, never_err}
 use Rattle.kt_bytes.proofs.Fronts.{parts_push, no_bool}
 use Rattle.kt_front.specs.Spelling.{AreBytes, base, shared, number, cell, cells, cell_fields, fields, spelling, SpelledWithin}
-use Rattle.kt_front.specs.Reading.{IsFaultWithin, is_rest, SpellsWithin}
+use Rattle.kt_front.specs.Reading.{IsFaultWithin, IsCauseWithin, IsItems, is_rest, SpellsWithin}
 use Rattle.kt_front.specs.Walk.{begin_alike, is_shared, is_more, cell_at, items_at, behind_of, ended_of}
 use Rattle.kt_front.proofs.Shared.{shared-le, shared_apart, shared_front}
 use Rattle.kt_front.proofs.Fields.{length-number, number_one, number_again, shared_takes, upto_test, cell_takes, bytes_front, bytes_both}
@@ -409,3 +412,13 @@ one_place bytes most n a b room p q =
 
 pub no_fault : (most : ℕ) (bytes : List ℕ) (n : ℕ) (items : List (List ℕ)) (left : ℕ) → most < 2 ^ 32 → SpellsWithin most bytes n items → ended_of (behind_of (items_at most n 0 [] bytes)) ≡ Err left → ⊥
 no_fault most bytes n items left room s e = never_err 0 left (sym (spelled_behind most n bytes items room s) ∙ e)
+
+-- ---- the answer of a decoder whose reader stopped
+
+pub cause_among : (most n : ℕ) (bytes : List ℕ) (stop : Stop) (answer : CodecNo) → most < 2 ^ 32 → IsBytes bytes → Fails stop (ended_of (behind_of (items_at most n 0 [] bytes))) → IsAmong (length bytes) stop answer → IsCauseWithin most bytes n answer
+cause_among most n bytes stops.Memory answer room fits read is = subst (IsCauseWithin most bytes n) (sym is) tt
+cause_among most n bytes (stops.Left left) answer room fits read is = subst (IsCauseWithin most bytes n) (sym is) (block_fault most n bytes left room fits read)
+
+pub not_among : (most n : ℕ) (bytes : List ℕ) (items : List (List ℕ)) (stop : Stop) (answer : CodecNo) → most < 2 ^ 32 → SpellsWithin most bytes n items → Fails stop (ended_of (behind_of (items_at most n 0 [] bytes))) → IsAmong (length bytes) stop answer → IsItems (Err answer) items
+not_among most n bytes items stops.Memory answer room s read is = subst (λ (a : CodecNo). IsItems (Err a) items) (sym is) tt
+not_among most n bytes items (stops.Left left) answer room s read is = absurd (no_fault most bytes n items left room s read)

@@ -6,4 +6,5 @@ pub mod Blocks
 pub mod Places
 pub mod Faults
 pub mod Loop
+pub mod Steps
 pub mod Falls

@@ -1,8 +1,8 @@
 -- What is read from bytes.
 use Rattle.std.specs.Prelude.{◌≡◌, ℕ, ◌-◌, ◌%◌, ◌&&◌, ◌==◌, nat_lt, Bool, List, length, Result, Ok, Err, if◌then◌else◌}
 use Rattle.kt_bytes.specs.Places as places
-use Rattle.kt_front.specs.declared.error.CodecNo.{CodecNo}
-use Rattle.kt_front.specs.declared.error.CodecNo.TheVariants as answers
+use Rattle.kt_bytes.specs.declared.fault.CodecNo.{CodecNo}
+use Rattle.kt_bytes.specs.declared.fault.CodecNo.TheVariants as answers
 use Rattle.kt_front.specs.Spelling.{spelling, longest, FitsWithin, SpelledWithin}
 
 -- the bytes are the spelling of these items, of which there are n, none of more bytes

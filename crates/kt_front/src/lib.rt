@@ -10,7 +10,6 @@
 //! tells where items that are to rise stop doing so. `compare` and `compare_at` order an item of a block's bytes against a key.
 #![tactic(auto)]
 
-mod error;
 mod items;
 mod laws;
 mod prefix;
@@ -18,14 +17,15 @@ mod reading;
 mod rising;
 mod starts;
 mod walking;
+mod width;
 mod writing;
 
-pub use error::{CodecNo, Width};
 pub use items::{Item, Items, get};
-pub use kt_bytes::{NoMemory, Octets, Texts};
+pub use kt_bytes::{CodecNo, NoMemory, Octets, Texts};
 pub use laws::{fields_spell, one_place, one_value};
 pub use reading::{decode, decode_within};
 pub use rising::first_fall;
 pub use starts::{Starts, compare_at};
 pub use walking::compare;
+pub use width::Width;
 pub use writing::{cell_len, encode};

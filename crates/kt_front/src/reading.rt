@@ -6,13 +6,13 @@ ghost use Rattle.kt_bytes.specs.Reading.{checked_at, Gives};
 ghost use Rattle.kt_front.specs.Reading.{Spells, SpellsWithin, IsCause, IsCauseWithin, IsItems};
 ghost use Rattle.kt_front.specs.Walk.{behind_of, cell_at, ended_of, is_more, is_shared, items_at};
 
-use crate::error::{CodecNo, Width};
 use crate::items::Items;
 use crate::prefix::{base_of, begin_alike};
 use crate::starts::Starts;
 use crate::walking::Cell;
+use crate::width::Width;
 use kt_bytes::fields::{front_of, u32_at};
-use kt_bytes::{Octets, Stop};
+use kt_bytes::{CodecNo, Octets, Stop};
 use std::alloc::Global;
 
 /// How many bytes an item shares with this one, which has as many.
@@ -41,7 +41,7 @@ fn more_of(most: u32, shared: usize, bytes: &[u8]) -> Result<(usize, &[u8]), Sto
     Ok((len, rest))
 }
 
-#[tactic(auto, unfolding(crate::specs::Walk::cell_at))]
+/// The cell of an item of at most so many bytes, which may share bytes with this one.
 pub(crate) fn cell_of<'a>(with: &[u8], most: u32, bytes: &'a [u8]) -> Result<Cell<'a>, Stop>
     ensures read { Gives (λ x. (take x.shared with.now ++ x.rest.now, x.after.now)) result (cell_at most with.now bytes.now) }
     ensures there { IfOk result (λ x. x.shared ≤ length with.now) }
@@ -117,9 +117,6 @@ pub fn decode_within(
             let held = Octets::from_slice(alloc, bytes)?;
             Ok(Items::of(held, starts, n))
         }
-        Err(Stop::Memory) => Err(CodecNo::Memory),
-        Err(Stop::Left(left)) => Err(CodecNo::Place {
-            offset: bytes.len().saturating_sub(left) as u64,
-        }),
+        Err(stop) => Err(stop.among(bytes.len())),
     }
 }

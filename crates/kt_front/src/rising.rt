@@ -1,8 +1,9 @@
 //! Where the items of a block stop rising.
 
-ghost use Rattle.std.specs.Prelude.{◌≡◌, ◌<◌, ◌≤◌, ◌++◌, Bool, length, IfOk, MatchOption, OnOk};
+ghost use Rattle.std.specs.Prelude.{◌≡◌, ◌<◌, ◌≤◌, ◌++◌, ℕ, Ok, Err, Bool, length, IfOk, MatchOption, OnOk};
 ghost use Rattle.std.specs.Bool.{OnTrue, OnFalse};
 ghost use Rattle.std.specs.Option.{option_map};
+ghost use Rattle.kt_front.specs.Walk.{cell_at};
 ghost use Rattle.kt_front.specs.Order.{bound, IsAbove, IsFall, NoneFalls};
 
 use crate::prefix::base_of;
@@ -25,6 +26,26 @@ fn put(out: &mut Octets, front: &[u8], rest: &[u8]) -> Result<(), NoMemory>
     out.clear();
     out.extend(front)?;
     out.extend(rest)
+}
+
+/// Puts the next item in place of the bytes that are there, and gives the bytes behind it, or none where no item can
+/// be read.
+fn next_item<'a>(
+    base: &[u8],
+    most: u32,
+    bytes: &'a [u8],
+    out: &mut Octets,
+) -> Result<Option<&'a [u8]>, NoMemory>
+    ensures { IfOk result (λ after. MatchOption after ((left : ℕ) × (cell_at most base.now bytes.now ≡ Err left)) (λ rest. cell_at most base.now bytes.now ≡ Ok (out.new, rest.now))) }
+{
+    match cell_of(base, most, bytes) {
+        Ok(cell) => {
+            put(out, &base[..cell.shared], cell.rest)?;
+            Ok(Some(cell.after))
+        }
+        Err(Stop::Left(_)) => Ok(None),
+        Err(Stop::Memory) => Err(NoMemory),
+    }
 }
 
 /// Where the cell of the first item begins that is not above the one before it, among `n` items as far as they can be
@@ -60,18 +81,15 @@ fn fall_behind(
     let mut rest = bytes;
     'items: for i in 0..n {
         let base = base_of(i as usize, last.as_slice());
-        let cell = match cell_of(base, most, rest) {
-            Ok(cell) => cell,
-            Err(Stop::Memory) => return Err(NoMemory),
-            Err(Stop::Left(_)) => return Ok(None),
+        let Some(after) = next_item(base, most, rest, &mut item)? else {
+            return Ok(None);
         };
-        put(&mut item, &base[..cell.shared], cell.rest)?;
         if !is_above(known, last.as_slice(), item.as_slice()) {
             return Ok(Some(bytes.len() - rest.len()));
         }
         std::mem::swap(&mut last, &mut item);
         known = true;
-        rest = cell.after;
+        rest = after;
     }
     Ok(None)
 }

@@ -3,9 +3,9 @@
 ghost use Rattle.std.specs.Prelude.{◌≡◌, ◌<◌, ◌^◌, ◌++◌, length, sum_by, OnOk, IfOk, IfErr};
 ghost use Rattle.kt_front.specs.Spelling.{base, cell, spelling, Fits};
 
-use crate::error::{CodecNo, Width};
 use crate::prefix::{base_of, common_prefix};
-use kt_bytes::{Octets, Texts};
+use crate::width::Width;
+use kt_bytes::{CodecNo, Octets, Texts};
 use std::alloc::{AllocError, Global};
 
 #[tactic(auto, unfolding(crate::specs::Spelling::cell, crate::specs::Spelling::number))]
@@ -17,8 +17,7 @@ fn put_cell(out: &mut Vec<u8>, with: &[u8], item: &[u8]) -> Result<(), AllocErro
     let rest = &item[shared..];
     out.extend_from_slice(&(shared as u32).to_le_bytes())?;
     out.extend_from_slice(&(rest.len() as u32).to_le_bytes())?;
-    out.extend_from_slice(rest)?;
-    Ok(())
+    out.extend_from_slice(rest)
 }
 
 /// How many bytes cell `i` takes, behind this item.

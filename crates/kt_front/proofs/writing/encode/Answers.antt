@@ -1,5 +1,6 @@
-use Rattle.std.proofs.Common.{◌≡◌, ◌+◌, ◌-◌, [], get_or, take, ap, sym, ◌∙◌, arith}
+use Rattle.std.proofs.Common.{◌≡◌, ◌+◌, ◌-◌, [], length, get_or, take, ap, sym, ◌∙◌, arith}
 use Rattle.std.proofs.lemmas.List.{take_all}
+use Rattle.std.proofs.lemmas.List.Sums.{get_or-le-sum_by}
 use Rattle.kt_front.specs.Spelling.{spelling}
 use Rattle.kt_front.proofs.Cells.{spelling_more, spelling_nil, fits_together}
 use Rattle.kt_front.proofs.writing.encode.Goals as goal
@@ -20,3 +21,6 @@ pub returns-clause-ok : goal.returns-clause-ok
 returns-clause-ok c =
     let all : take c.loop-i.i c.args.cells.now ≡ c.args.cells.now = take_all c.loop-i.i c.args.cells.now (omega arith) in
     (c.of.ensures ∙ (c.loop-i.invariant.so_far ∙ ap spelling all), fits_together c.args.cells.now c.requires)
+
+pub put_cell-requires : goal.put_cell-requires
+put_cell-requires c = omega (arith, get_or-le-sum_by length c.args.cells.now c.loop-i.i [] (omega arith), ap length c.get-item.ensures)
