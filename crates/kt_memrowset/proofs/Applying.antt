@@ -8,8 +8,7 @@ use Rattle.std.specs.FinMap.Entries.{find as find_key, put as put_key}
 use Rattle.std.proofs.lemmas.Bool.{cases_lt, cases_eq, false≢true}
 use Rattle.kt_history.specs.Rows.{key_cmp, fits}
 use Rattle.kt_history.specs.declared.operation.RowOp.{RowOp}
-use Rattle.kt_histlaws.specs.Histories.{Hist, push, hist_in, row_of}
-use Rattle.kt_histlaws.specs.Flights.{Under}
+use Rattle.kt_histlaws.specs.Histories.{Hist, push, hist_in}
 use Rattle.kt_pool.specs.Contents.{Contents, Stands, at_cell, bytes_at, cells_for}
 use Rattle.kt_pool.specs.declared.place.Place.{Place}
 use Rattle.kt_tree.specs.Entries.{Entry, value_of, put}
@@ -20,7 +19,7 @@ use Rattle.kt_tree.proofs.Callers.{owned, still_tree, still_entries, still_owns,
 use Rattle.kt_tree.proofs.Places.{stands_some, one_same, one_other}
 use Rattle.kt_memrowset.specs.declared.store.MemRowSet.{MemRowSet}
 use Rattle.kt_memrowset.specs.Links.{nothing, change_of, Link, IsLink, spelling, chain, cells_of, times, step_of, steps_of}
-use Rattle.kt_memrowset.specs.Stores.{hist_of, row_at, store_of, in_rows, trail, cells_at, cells_had, Owns, IsStore, link_need, share, cells_taken, change_by, Joins}
+use Rattle.kt_memrowset.specs.Stores.{hist_of, row_at, store_of, last_row, in_rows, trail, cells_at, cells_had, Owns, IsStore, link_need, share, cells_taken, change_by, Joins}
 use Rattle.kt_memrowset.specs.Writes.{IsFresh, Extends}
 use Rattle.kt_memrowset.proofs.Links.{link_bytes, length-spelling, length-cells}
 use Rattle.kt_memrowset.proofs.Chains.{link_kept}
@@ -148,7 +147,7 @@ module _ (s : MemRowSet) (p0 p1 : Contents) (fresh : Link) (op : RowOp) (st : Is
     }
 
   -- what the history of the key is
-  module _ (under : Under fresh.head.ts (hist_in op.key (store_of s p0)).steps) (fit : fits (change_by fresh.head.kind op) (row_of fresh.head.ts (hist_in op.key (store_of s p0))) ≡ true) (ends : fresh.head.next ≡ nothing) (alone : fresh.head.last ≡ nothing) where
+  module _ (fit : fits (change_by fresh.head.kind op) (last_row (hist_in op.key (store_of s p0))) ≡ true) (ends : fresh.head.next ≡ nothing) (alone : fresh.head.last ≡ nothing) where
     step_is : step_of fresh ≡ (fresh.head.ts, change_by fresh.head.kind op)
     step_is = ap (λ cells. (fresh.head.ts, change_of fresh.head.kind cells)) same_cells
 
@@ -156,11 +155,8 @@ module _ (s : MemRowSet) (p0 p1 : Contents) (fresh : Link) (op : RowOp) (st : Is
       hist0 : hist_in op.key (store_of s p0) ≡ h
       hist0 = ap (hist_in op.key) (sym rows1) ∙ hist_is
 
-      under1 : Under fresh.head.ts h.steps
-      under1 = subst (λ (h : Hist). Under fresh.head.ts h.steps) hist0 under
-
-      fit1 : fits (change_of fresh.head.kind fresh.cells) (row_of fresh.head.ts h) ≡ true
-      fit1 = ap (λ cells. fits (change_of fresh.head.kind cells) (row_of fresh.head.ts h)) same_cells ∙ ap (λ h. fits (change_by fresh.head.kind op) (row_of fresh.head.ts h)) (sym hist0) ∙ fit
+      fit1 : fits (change_of fresh.head.kind fresh.cells) (last_row h) ≡ true
+      fit1 = ap (λ cells. fits (change_of fresh.head.kind cells) (last_row h)) same_cells ∙ ap (λ h. fits (change_by fresh.head.kind op) (last_row h)) (sym hist0) ∙ fit
 
     -- the key is there
     module _ (first : ℕ) (f : value_of op.key (trees.entries s.tree p1) ≡ Some first) where
@@ -196,7 +192,7 @@ module _ (s : MemRowSet) (p0 p1 : Contents) (fresh : Link) (op : RowOp) (st : Is
           newest = refl;
           chains = x.stands;
           marked = x.marked;
-          told = told_by x.longer (steps_of (chain p1 first)) fresh x.steps x.kind (under1 (hist_of (chain p1 first)) hist_first) (fit1 (hist_of (chain p1 first)) hist_first);
+          told = told_by x.longer (steps_of (chain p1 first)) fresh x.steps x.kind (fit1 (hist_of (chain p1 first)) hist_first);
           cells = λ k. let e = x.cells k in omega arith;
           kept = λ k low. x.others k (let c = counted k in omega arith);
           leads = λ k low. x.leads k;
@@ -259,7 +255,7 @@ module _ (s : MemRowSet) (p0 p1 : Contents) (fresh : Link) (op : RowOp) (st : Is
         newest = refl;
         chains = (refl, here2, ends);
         marked = alone;
-        told = told_by (fresh ∷ []) [] fresh refl refl (under1 (record { first = None; steps = [] }) hist_none) (fit1 (record { first = None; steps = [] }) hist_none);
+        told = told_by (fresh ∷ []) [] fresh refl refl (fit1 (record { first = None; steps = [] }) hist_none);
         cells = λ k. omega arith;
         kept = λ k low. tree_frame k (trail_away k (let c = counted2 k in omega arith));
         leads = λ k low. leads_same p1 p2 k (tree_frame k (trail_away k low));

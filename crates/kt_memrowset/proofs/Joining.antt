@@ -1,16 +1,12 @@
 -- A store with one change more.
 use Rattle.std.proofs.Common.{◌≡◌, ℕ, ◌+◌, ◌<◌, ◌≤◌, inl, inr, true, cond, List, [], ◌∷◌, ◌++◌, map, Some, None, Option, refl, sym, ap, subst, ◌∙◌, arith}
-use Rattle.std.specs.Prelude.{is_some, nat_le}
+use Rattle.std.specs.Prelude.{is_some}
 use Rattle.std.proofs.lemmas.Bool.{cases_eq, false≢true}
-use Rattle.std.proofs.lemmas.Bool.Decides.{nat_tests}
 use Rattle.std.proofs.lemmas.List.{map-append}
 use Rattle.kt_history.specs.Rows.{Row, apply, fits}
-use Rattle.kt_history.specs.declared.change.Change.{Change}
 use Rattle.kt_history.specs.declared.target.Kindly.{Kindly}
 use Rattle.kt_history.specs.declared.target.Kindly.TheVariants.{Ins, Upd, Del}
-use Rattle.kt_histlaws.specs.Histories.{Steps, after_steps}
-use Rattle.kt_histlaws.specs.Flights.{UpTo, Under}
-use Rattle.kt_histlaws.proofs.OneKey.{after_steps-append}
+use Rattle.kt_histlaws.specs.Histories.{Steps}
 use Rattle.kt_pool.specs.Contents.{Contents, at_cell}
 use Rattle.kt_tree.specs.Entries.{Entry}
 use Rattle.kt_tree.specs.Trees as trees
@@ -18,7 +14,7 @@ use Rattle.kt_tree.proofs.Places.{one_other}
 use Rattle.kt_memrowset.specs.declared.link.Head.{Head}
 use Rattle.kt_memrowset.specs.declared.store.MemRowSet.{MemRowSet}
 use Rattle.kt_memrowset.specs.Links.{change_of, Link, IsLink, Chains, chain, cells_of, times, newest_kind, IsMarked, step_of, steps_of}
-use Rattle.kt_memrowset.specs.Stores.{hist_of, row_at, store_of, stays, IsTold, RowStands, in_rows, before_at, Trails, trail, IsStore}
+use Rattle.kt_memrowset.specs.Stores.{hist_of, row_at, store_of, apply_all, stays, IsTold, RowStands, in_rows, before_at, Trails, trail, IsStore}
 use Rattle.kt_memrowset.specs.Writes.{LeadsOn}
 use Rattle.kt_memrowset.proofs.Links.{link_head}
 use Rattle.kt_memrowset.proofs.Chains.{chain_is}
@@ -36,31 +32,14 @@ fitted Upd cells None e = absurd (false≢true e)
 fitted Upd cells (Some row) e = refl
 fitted Del cells row e = refl
 
-test_le : (a b : ℕ) → a ≤ b → nat_le a b ≡ true
-test_le a b h = grind (arith, nat_tests)
+apply_all-append : (steps more : Steps) (row : Option Row) → apply_all (steps ++ more) row ≡ apply_all more (apply_all steps row)
+apply_all-append [] more row = refl
+apply_all-append (c ∷ steps) more row = apply_all-append steps more (apply c.1 row)
 
--- above all changes the row is the same
-same_after : (ts t : ℕ) (steps : Steps) (row : Option Row) → Under ts steps → ts ≤ t → after_steps t steps row ≡ after_steps ts steps row
-same_after ts t [] row u low = refl
-same_after ts t (c ∷ steps) row u low =
-    ap (λ b. after_steps t steps (cond b (apply c.1 row) row)) (test_le c.0 t (let x = u.0 in omega arith)) ∙ same_after ts t steps (apply c.1 row) u.1 low
-    ∙ ap (λ b. after_steps ts steps (cond b (apply c.1 row) row)) (sym (test_le c.0 ts (let x = u.0 in omega arith)))
-
-up_to_last : (t ts : ℕ) (steps : Steps) (c : Change) → UpTo t (steps ++ (ts, c) ∷ []) → ts ≤ t
-up_to_last t ts [] c u = u.0
-up_to_last t ts (d ∷ steps) c u = up_to_last t ts steps c u.1
-
-told_pushed : (steps : Steps) (ts : ℕ) (kind : Kindly) (cells : Row) → Under ts steps → fits (change_of kind cells) (after_steps ts steps None) ≡ true → (t : ℕ) → UpTo t (steps ++ (ts, change_of kind cells) ∷ []) → is_some (after_steps t (steps ++ (ts, change_of kind cells) ∷ []) None) ≡ stays kind
-told_pushed steps ts kind cells under fit t up =
-    let low = up_to_last t ts steps (change_of kind cells) up in
-    ap is_some (after_steps-append t steps ((ts, change_of kind cells) ∷ []) None)
-    ∙ ap (λ b. is_some (cond b (apply (change_of kind cells) (after_steps t steps None)) (after_steps t steps None))) (test_le ts t low)
-    ∙ ap (λ row. is_some (apply (change_of kind cells) row)) (same_after ts t steps None under low) ∙ fitted kind cells (after_steps ts steps None) fit
-
-pub told_by : (links : List Link) (steps : Steps) (fresh : Link) → steps_of links ≡ steps ++ step_of fresh ∷ [] → newest_kind links ≡ fresh.head.kind → Under fresh.head.ts steps → fits (change_of fresh.head.kind fresh.cells) (after_steps fresh.head.ts steps None) ≡ true → IsTold links
-told_by [] steps fresh e k under fit = tt
-told_by (l ∷ links) steps fresh e k under fit = λ t up.
-    ap (λ steps. is_some (after_steps t steps None)) e ∙ told_pushed steps fresh.head.ts fresh.head.kind fresh.cells under fit t (subst (UpTo t) e up) ∙ ap stays (sym k)
+pub told_by : (links : List Link) (steps : Steps) (fresh : Link) → steps_of links ≡ steps ++ step_of fresh ∷ [] → newest_kind links ≡ fresh.head.kind → fits (change_of fresh.head.kind fresh.cells) (apply_all steps None) ≡ true → IsTold links
+told_by [] steps fresh e k fit = tt
+told_by (l ∷ links) steps fresh e k fit =
+    ap (λ steps. is_some (apply_all steps None)) e ∙ ap is_some (apply_all-append steps (step_of fresh ∷ []) None) ∙ fitted fresh.head.kind fresh.cells (apply_all steps None) fit ∙ ap stays (sym k)
 
 -- ---- the store that has grown
 

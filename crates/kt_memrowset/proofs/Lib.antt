@@ -11,3 +11,4 @@ pub mod Joining
 pub mod Applying
 pub mod Releasing
 pub mod Listing
+pub mod Last

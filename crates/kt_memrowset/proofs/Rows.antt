@@ -14,8 +14,7 @@ use Rattle.kt_history.specs.declared.operation.OpKind.{OpKind}
 use Rattle.kt_history.specs.declared.operation.OpKind.TheVariants.{Insert, Upsert, Update, Delete, InsertIgnore, UpdateIgnore, DeleteIgnore}
 use Rattle.kt_history.specs.declared.operation.RowOp.{RowOp}
 use Rattle.kt_history.specs.declared.target.Kindly.{Kindly}
-use Rattle.kt_histlaws.specs.Histories.{Hist, Steps, never, hist_in, row_of, after_steps}
-use Rattle.kt_histlaws.specs.Flights.{UpTo, Under}
+use Rattle.kt_histlaws.specs.Histories.{Hist, never, hist_in, after_steps}
 use Rattle.kt_histlaws.proofs.OneKey.{after_steps-append}
 use Rattle.kt_pool.specs.Contents.{Contents, bytes_at}
 use Rattle.kt_pool.specs.declared.place.Place.{Place}
@@ -24,7 +23,7 @@ use Rattle.kt_tree.specs.Trees.{place_at, entries}
 use Rattle.kt_memrowset.specs.declared.link.Head.{Head}
 use Rattle.kt_cells.specs.Reading.{cells_at}
 use Rattle.kt_memrowset.specs.Links.{nothing, change_of, Link, IsLink, link_at, head_of, Chains, chain, cells_of, times, newest, IsChainAt, step_of, steps_of}
-use Rattle.kt_memrowset.specs.Stores.{hist_of, row_at, store_of, change_by, stays, RowStands, EachValue, in_rows, IsStore, Leads}
+use Rattle.kt_memrowset.specs.Stores.{hist_of, row_at, store_of, last_row, change_by, stays, RowStands, EachValue, in_rows, IsStore, Leads}
 use Rattle.kt_memrowset.specs.Taking.{kind_made, links_from}
 use Rattle.kt_memrowset.specs.declared.store.MemRowSet.{MemRowSet}
 use Rattle.kt_memrowset.proofs.Links.{link_bytes, length-spelling, link_head, link_cells, link_again}
@@ -97,18 +96,17 @@ last_alone pool cell l (m ∷ links) r e =
     absurd (omega arith)
 
 pub live_is : (pool : Contents) (v last : ℕ) (h : Hist) (kind : Kindly) → RowStands pool v (chain pool v) → h ≡ hist_of (chain pool v) → ((l : Link) (links : List Link) → chain pool v ≡ l ∷ links → last ≡ (newest l links).cell) → kind ≡ (head_of (bytes_at pool last)).kind
-    → (t : ℕ) → UpTo t h.steps → stays kind ≡ is_some (row_of t h)
-live_is pool v last h kind r same ends read t up = by (chain pool v) refl
+    → stays kind ≡ is_some (last_row h)
+live_is pool v last h kind r same ends read = by (chain pool v) refl
   where
-    by : (links : List Link) → chain pool v ≡ links → stays kind ≡ is_some (row_of t h)
+    by : (links : List Link) → chain pool v ≡ links → stays kind ≡ is_some (last_row h)
     by [] e = absurd (subst (RowStands pool v) e r).marked
     by (l ∷ links) e =
         let s = subst (RowStands pool v) e r in
         let hist : h ≡ hist_of (l ∷ links) = same ∙ ap hist_of e in
         let tail = ends l links e in
         let head = ap (λ c. head_of (bytes_at pool c)) tail ∙ link_head pool (newest l links) (newest_stands pool v l links s.chains) in
-        let told = s.told t (subst (λ (h : Hist). UpTo t h.steps) hist up) in
-        ap stays (read ∙ ap (λ (h : Head). h.kind) head) ∙ sym told ∙ ap (λ h. is_some (row_of t h)) (sym hist)
+        ap stays (read ∙ ap (λ (h : Head). h.kind) head) ∙ sym s.told ∙ ap (λ h. is_some (last_row h)) (sym hist)
 
 pub last_stands : (pool : Contents) (v last : ℕ) → RowStands pool v (chain pool v) → ((l : Link) (links : List Link) → chain pool v ≡ l ∷ links → last ≡ (newest l links).cell) → IsLink pool (link_at pool last)
 last_stands pool v last r ends = by (chain pool v) refl
@@ -200,15 +198,9 @@ found_hist s pool key None e = hist_lacking pool key (entries s.tree pool) (get_
 found_hist s pool key (Some first) e = hist_there pool key (entries s.tree pool) first.cell (get_some (value_of key (entries s.tree pool)) first e)
 
 -- whether it is there
-pub found_live : (s : MemRowSet) (pool : Contents) (key : List ℕ) (first : Option Place) (live : Bool) → first ≡ option_map place_at (value_of key (entries s.tree pool)) → ((t : ℕ) → UpTo t (steps_of (links_from pool first)) → live ≡ is_some (row_of t (hist_of (links_from pool first))))
-    → (t : ℕ) → UpTo t (hist_in key (store_of s pool)).steps → live ≡ is_some (row_of t (hist_in key (store_of s pool)))
-found_live s pool key first live e told t up =
-    let h = found_hist s pool key first e in
-    told t (subst (λ (h : Hist). UpTo t h.steps) h up) ∙ ap (λ (h : Hist). is_some (row_of t h)) (sym h)
-
-pub up_to : (t : ℕ) (steps : Steps) → Under t steps → UpTo t steps
-up_to t [] under = tt
-up_to t (c ∷ steps) under = (let low = under.0 in omega arith, up_to t steps under.1)
+pub found_live : (s : MemRowSet) (pool : Contents) (key : List ℕ) (first : Option Place) (live : Bool) → first ≡ option_map place_at (value_of key (entries s.tree pool)) → live ≡ is_some (last_row (hist_of (links_from pool first)))
+    → live ≡ is_some (last_row (hist_in key (store_of s pool)))
+found_live s pool key first live e told = told ∙ ap (λ (h : Hist). is_some (last_row h)) (sym (found_hist s pool key first e))
 
 -- the kind of change that an operation makes fits its row
 pub made_fits : (op : RowOp) (kind : Kindly) (row : Option Row) → kind_made op.kind (is_some row) ≡ Some kind → fits (change_by kind op) row ≡ true

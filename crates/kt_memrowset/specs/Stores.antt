@@ -10,11 +10,10 @@ use Rattle.kt_history.specs.declared.changes.KeyChange.{KeyChange}
 use Rattle.kt_history.specs.declared.operation.RowOp.{RowOp}
 use Rattle.kt_history.specs.declared.target.Kindly.{Kindly}
 use Rattle.kt_history.specs.declared.target.Kindly.TheVariants.{Ins, Upd, Del}
-use Rattle.kt_history.specs.Rows.{Row, key_cmp}
+use Rattle.kt_history.specs.Rows.{Row, apply, key_cmp}
 use Rattle.std.specs.FinMap.Entries.{find, put}
 use Rattle.kt_history.specs.Operations.{op_len, cell_len}
-use Rattle.kt_histlaws.specs.Histories.{Hist, Store, Steps, row_of, after_steps, push, hist_in}
-use Rattle.kt_histlaws.specs.Flights.{UpTo}
+use Rattle.kt_histlaws.specs.Histories.{Hist, Store, Steps, after_steps, push, hist_in}
 use Rattle.kt_pool.specs.Contents.{Contents, at_cell, bytes_at, cells_for, used}
 use Rattle.kt_tree.specs.Entries.{Entry, is_past}
 use Rattle.kt_tree.specs.Takes.{Takes}
@@ -44,16 +43,24 @@ row_at pool e = (e.key, hist_of (chain pool e.value))
 abbrev pub store_of : MemRowSet → Contents → Store
 store_of s pool = map (row_at pool) (trees.entries s.tree pool)
 
+-- the row after all changes, whatever their times
+abbrev pub apply_all : Steps → Option Row → Option Row
+apply_all [] row = row
+apply_all (c ∷ steps) row = apply_all steps (apply c.1 row)
+
+abbrev pub last_row : Hist → Option Row
+last_row h = apply_all h.steps h.first
+
 -- whether there is a row after a change of this kind
 abbrev pub stays : Kindly → Bool
 stays Ins = true
 stays Upd = true
 stays Del = false
 
--- the last change tells whether there is a row
+-- the last change tells whether there is a row after all of them
 abbrev pub IsTold : List Link → Type 0
 IsTold [] = Unit {0}
-IsTold (l ∷ links) = (t : ℕ) → UpTo t (steps_of (l ∷ links)) → is_some (row_of t (hist_of (l ∷ links))) ≡ stays (newest l links).head.kind
+IsTold (l ∷ links) = is_some (last_row (hist_of (l ∷ links))) ≡ stays (newest l links).head.kind
 
 -- the changes of a row stand
 pub record RowStands (pool : Contents) (cell : ℕ) (links : List Link) : Type 0 where

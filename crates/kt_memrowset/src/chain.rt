@@ -1,10 +1,9 @@
 //! The changes of one row, in a chain.
 ghost use Rattle.std.specs.Prelude.{◌≡◌, ℕ, ◌≤◌, [], ◌∷◌, List, ◌++◌, None, true, is_some, length, drop, IfOk, IfSome, OnOk};
 ghost use Rattle.std.specs.Prelude.{◌==◌};
-ghost use Rattle.kt_histlaws.specs.Histories.{after_steps, row_of};
-ghost use Rattle.kt_histlaws.specs.Flights.{UpTo};
+ghost use Rattle.kt_histlaws.specs.Histories.{after_steps};
 ghost use Rattle.kt_memrowset.specs.Links.{Link, IsLink, IsChainAt, link_at, chain, newest, change_of, steps_of};
-ghost use Rattle.kt_memrowset.specs.Stores.{RowStands, hist_of, stays, trail_at, IsTrailAt, Releases, row_changes};
+ghost use Rattle.kt_memrowset.specs.Stores.{RowStands, hist_of, last_row, stays, trail_at, IsTrailAt, Releases, row_changes};
 ghost use Rattle.kt_memrowset.specs.Taking.{links_from};
 ghost use Rattle.kt_memrowset.specs.Ending.{EndsIn};
 ghost use Rattle.kt_cells.specs.Reading.{cells_behind};
@@ -48,7 +47,7 @@ pub fn last_of(pool: &Pool, first: u32) -> u32
 /// Whether a row is there after all its changes, of which the first is placed here, if it has any.
 pub fn is_live(pool: &Pool, first: Option<Place>) -> bool
     requires { IfSome first (λ first. RowStands pool.now first.cell (chain pool.now first.cell)) }
-    ensures { (t : ℕ) → UpTo t (steps_of (links_from pool.now first)) → result ≡ is_some (row_of t (hist_of (links_from pool.now first))) }
+    ensures { result ≡ is_some (last_row (hist_of (links_from pool.now first))) }
 {
     match first {
         Some(first) => stays(head_in(pool, last_of(pool, first.cell)).kind),

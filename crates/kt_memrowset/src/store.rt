@@ -3,7 +3,6 @@ ghost use Rattle.std.specs.Prelude.{◌≡◌, ◌↔◌, ◌+◌, ◌≤◌, �
 ghost use Rattle.std.specs.Option.{option_copied};
 ghost use Rattle.kt_pool.specs.Contents.{Contents, at_cell, used};
 ghost use Rattle.kt_histlaws.specs.Histories.{hist_in, row_of};
-ghost use Rattle.kt_histlaws.specs.Flights.{UpTo, Under};
 ghost use Rattle.kt_history.specs.Rows.{fits};
 
 use crate::chain::{is_live, octets_at, push_changes, read_into, release, row_at};
@@ -30,7 +29,7 @@ impl MemRowSet {
     ghost use Rattle.kt_tree.specs.Entries.{value_of};
     ghost use Rattle.kt_tree.specs.Trees.{entries, place_at};
     ghost use Rattle.kt_memrowset.specs.Taking.{JoinsIf, kind_made};
-    ghost use Rattle.kt_memrowset.specs.Stores.{IsStore, store_of, Owns, cells_had, number_of, is_frozen, share, change_by, Joins, key_past, changes_upto};
+    ghost use Rattle.kt_memrowset.specs.Stores.{IsStore, store_of, last_row, Owns, cells_had, number_of, is_frozen, share, change_by, Joins, key_past, changes_upto};
 
     /// A store with no row. It takes no cell.
     pub fn new(id: u64) -> MemRowSet
@@ -84,7 +83,7 @@ impl MemRowSet {
     /// Whether the row of a key is there after all its changes.
     pub fn live(&self, pool: &Pool, key: &[u8]) -> bool
         requires { IsStore self.now pool.now }
-        ensures { (t : ℕ) → UpTo t (hist_in key.now (store_of self.now pool.now)).steps → result ≡ is_some (row_of t (hist_in key.now (store_of self.now pool.now))) }
+        ensures { result ≡ is_some (last_row (hist_in key.now (store_of self.now pool.now))) }
     {
         is_live(pool, self.tree.get(pool, key))
     }
@@ -106,7 +105,8 @@ impl MemRowSet {
         }
     }
 
-    /// Takes the change of an operation, in reserved cells: half of what a write of the operation needs suffices.
+    /// Takes the change of an operation, which fits the row after all its changes, in reserved cells: half of what a write
+    /// of the operation needs suffices.
     pub fn apply_reserved(
         &mut self,
         pool: &mut Pool,
@@ -116,8 +116,7 @@ impl MemRowSet {
     ) -> Target
         requires store { IsStore self.old pool.old }
         requires room { share op.now ≤ pool.old.reserved }
-        requires later { Under ts (hist_in op.now.key (store_of self.old pool.old)).steps }
-        requires fits { fits (change_by change op.now) (row_of ts (hist_in op.now.key (store_of self.old pool.old))) ≡ true }
+        requires fits { fits (change_by change op.now) (last_row (hist_in op.now.key (store_of self.old pool.old))) ≡ true }
         requires thawed { change ≡ Kindly.Ins → is_frozen self.old ≡ false }
         ensures joins { Joins self.old self.new pool.old pool.new op.now ts change }
         ensures target { result ≡ Target.Mem (number_of self.old) }
@@ -131,9 +130,8 @@ impl MemRowSet {
     pub fn take(&mut self, pool: &mut Pool, ts: u64, op: &OpRef<'_>) -> Taken
         requires store { IsStore self.old pool.old }
         requires room { share op.now ≤ pool.old.reserved }
-        requires later { Under ts (hist_in op.now.key (store_of self.old pool.old)).steps }
         requires thawed { is_frozen self.old ≡ false }
-        ensures there { (t : ℕ) → UpTo t (hist_in op.now.key (store_of self.old pool.old)).steps → result.there ≡ is_some (row_of t (hist_in op.now.key (store_of self.old pool.old))) }
+        ensures there { result.there ≡ is_some (last_row (hist_in op.now.key (store_of self.old pool.old))) }
         ensures joins { JoinsIf self.old self.new pool.old pool.new op.now ts (kind_made op.now.kind result.there) }
         ensures target { result.target ≡ option_map (λ _. Target.Mem (number_of self.old)) (kind_made op.now.kind result.there) }
     {
@@ -164,8 +162,7 @@ impl MemRowSet {
         requires store { IsStore self.old pool.old }
         requires found { first ≡ option_map place_at (value_of op.now.key (entries self.old.tree pool.old)) }
         requires room { share op.now ≤ pool.old.reserved }
-        requires later { Under ts (hist_in op.now.key (store_of self.old pool.old)).steps }
-        requires fits { fits (change_by change op.now) (row_of ts (hist_in op.now.key (store_of self.old pool.old))) ≡ true }
+        requires fits { fits (change_by change op.now) (last_row (hist_in op.now.key (store_of self.old pool.old))) ≡ true }
         ensures joins { Joins self.old self.new pool.old pool.new op.now ts change }
         ensures target { result ≡ Target.Mem (number_of self.old) }
     {

@@ -1,11 +1,9 @@
-use Rattle.std.proofs.Common.{◌≡◌, ℕ, ap, refl, sym, subst, ◌∙◌, Option}
+use Rattle.std.proofs.Common.{◌≡◌, ap, refl, sym, subst, ◌∙◌, Option}
 use Rattle.std.specs.Prelude.{IfSome, is_some}
-use Rattle.kt_histlaws.specs.Flights.{UpTo}
-use Rattle.kt_histlaws.specs.Histories.{row_of}
 use Rattle.kt_pool.specs.declared.place.Place.{Place}
 use Rattle.kt_memrowset.specs.declared.link.Head.{Head}
-use Rattle.kt_memrowset.specs.Links.{chain, steps_of}
-use Rattle.kt_memrowset.specs.Stores.{RowStands, hist_of}
+use Rattle.kt_memrowset.specs.Links.{chain}
+use Rattle.kt_memrowset.specs.Stores.{RowStands, hist_of, last_row}
 use Rattle.kt_memrowset.specs.Taking.{links_from}
 use Rattle.kt_memrowset.proofs.Rows.{last_stands, link_long, live_is}
 use Rattle.kt_memrowset.proofs.chain.is_live.Goals as goal
@@ -18,5 +16,5 @@ head_in-requires c =
 pub returns-in-Some : goal.returns-in-Some
 returns-in-Some c =
     let row = subst (λ (o : Option Place). IfSome o (λ first. RowStands c.args.pool.now first.cell (chain c.args.pool.now first.cell))) c.in-Some.is c.requires in
-    subst (λ (o : Option Place). (t : ℕ) → UpTo t (steps_of (links_from c.args.pool.now o)) → c.stays.result ≡ is_some (row_of t (hist_of (links_from c.args.pool.now o)))) (sym c.in-Some.is) (λ t up.
-    c.stays.ensures ∙ live_is c.args.pool.now c.in-Some.first.cell c.last_of.result (hist_of (chain c.args.pool.now c.in-Some.first.cell)) c.head_in.result.kind row refl c.last_of.ensures (ap (λ (x : Head). x.kind) c.head_in.ensures) t up)
+    subst (λ (o : Option Place). c.stays.result ≡ is_some (last_row (hist_of (links_from c.args.pool.now o)))) (sym c.in-Some.is) (
+    c.stays.ensures ∙ live_is c.args.pool.now c.in-Some.first.cell c.last_of.result (hist_of (chain c.args.pool.now c.in-Some.first.cell)) c.head_in.result.kind row refl c.last_of.ensures (ap (λ (x : Head). x.kind) c.head_in.ensures))

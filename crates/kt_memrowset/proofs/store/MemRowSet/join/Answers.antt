@@ -24,11 +24,11 @@ extend-requires-clause-alone c = row_alone c.args.self.now c.place-fresh.new.poo
 pub extend-requires-clause-link : goal.extend-requires-clause-link
 extend-requires-clause-link c =
     subst (λ (l : Link). IsFresh c.place-fresh.new.pool (chain c.place-fresh.new.pool c.in-Some.first.cell) l) (sym (link_again c.place-fresh.new.pool (alone c.place-fresh.result c.args.self.now.newest c.args.ts c.args.change c.args.op.now.cells) c.place-fresh.ensures.link))
-    (is_fresh c.args.self.now c.args.pool.now c.place-fresh.new.pool (alone c.place-fresh.result c.args.self.now.newest c.args.ts c.args.change c.args.op.now.cells) c.args.op.now c.requires.store c.place-fresh.ensures.vacant c.place-fresh.ensures.others c.place-fresh.ensures.link refl refl c.place-fresh.ensures.takes c.requires.later c.requires.fits refl refl c.in-Some.first.cell (found1 c.args.self.now c.args.pool.now c.place-fresh.new.pool (alone c.place-fresh.result c.args.self.now.newest c.args.ts c.args.change c.args.op.now.cells) c.args.op.now c.requires.store c.place-fresh.ensures.vacant c.place-fresh.ensures.others c.place-fresh.ensures.link refl refl c.place-fresh.ensures.takes c.in-Some.first (sym c.in-Some.is ∙ c.requires.found)))
+    (is_fresh c.args.self.now c.args.pool.now c.place-fresh.new.pool (alone c.place-fresh.result c.args.self.now.newest c.args.ts c.args.change c.args.op.now.cells) c.args.op.now c.requires.store c.place-fresh.ensures.vacant c.place-fresh.ensures.others c.place-fresh.ensures.link refl refl c.place-fresh.ensures.takes c.requires.fits refl refl c.in-Some.first.cell (found1 c.args.self.now c.args.pool.now c.place-fresh.new.pool (alone c.place-fresh.result c.args.self.now.newest c.args.ts c.args.change c.args.op.now.cells) c.args.op.now c.requires.store c.place-fresh.ensures.vacant c.place-fresh.ensures.others c.place-fresh.ensures.link refl refl c.place-fresh.ensures.takes c.in-Some.first (sym c.in-Some.is ∙ c.requires.found)))
 
 pub returns-in-Some-clause-joins : goal.returns-in-Some-clause-joins
 returns-in-Some-clause-joins c =
-    joins_there c.args.self.now c.args.pool.now c.place-fresh.new.pool (alone c.place-fresh.result c.args.self.now.newest c.args.ts c.args.change c.args.op.now.cells) c.args.op.now c.requires.store c.place-fresh.ensures.vacant c.place-fresh.ensures.others c.place-fresh.ensures.link refl refl c.place-fresh.ensures.takes c.requires.later c.requires.fits refl refl c.in-Some.first.cell (found1 c.args.self.now c.args.pool.now c.place-fresh.new.pool (alone c.place-fresh.result c.args.self.now.newest c.args.ts c.args.change c.args.op.now.cells) c.args.op.now c.requires.store c.place-fresh.ensures.vacant c.place-fresh.ensures.others c.place-fresh.ensures.link refl refl c.place-fresh.ensures.takes c.in-Some.first (sym c.in-Some.is ∙ c.requires.found)) c.extend.new.pool
+    joins_there c.args.self.now c.args.pool.now c.place-fresh.new.pool (alone c.place-fresh.result c.args.self.now.newest c.args.ts c.args.change c.args.op.now.cells) c.args.op.now c.requires.store c.place-fresh.ensures.vacant c.place-fresh.ensures.others c.place-fresh.ensures.link refl refl c.place-fresh.ensures.takes c.requires.fits refl refl c.in-Some.first.cell (found1 c.args.self.now c.args.pool.now c.place-fresh.new.pool (alone c.place-fresh.result c.args.self.now.newest c.args.ts c.args.change c.args.op.now.cells) c.args.op.now c.requires.store c.place-fresh.ensures.vacant c.place-fresh.ensures.others c.place-fresh.ensures.link refl refl c.place-fresh.ensures.takes c.in-Some.first (sym c.in-Some.is ∙ c.requires.found)) c.extend.new.pool
     (subst (λ (l : Link). Extends c.place-fresh.new.pool c.extend.new.pool c.in-Some.first.cell (chain c.place-fresh.new.pool c.in-Some.first.cell) l) (link_again c.place-fresh.new.pool (alone c.place-fresh.result c.args.self.now.newest c.args.ts c.args.change c.args.op.now.cells) c.place-fresh.ensures.link) c.extend.ensures)
 
 pub insert_new-requires-clause-tree : goal.insert_new-requires-clause-tree
@@ -36,7 +36,7 @@ insert_new-requires-clause-tree c = (store1 c.args.self.now c.args.pool.now c.pl
 
 pub returns-clause-joins : goal.returns-clause-joins
 returns-clause-joins c =
-    joins_new c.args.self.now c.args.pool.now c.place-fresh.new.pool (alone c.place-fresh.result c.args.self.now.newest c.args.ts c.args.change c.args.op.now.cells) c.args.op.now c.requires.store c.place-fresh.ensures.vacant c.place-fresh.ensures.others c.place-fresh.ensures.link refl refl c.place-fresh.ensures.takes c.requires.later c.requires.fits refl refl (lacks1 c.args.self.now c.args.pool.now c.place-fresh.new.pool (alone c.place-fresh.result c.args.self.now.newest c.args.ts c.args.change c.args.op.now.cells) c.args.op.now c.requires.store c.place-fresh.ensures.vacant c.place-fresh.ensures.others c.place-fresh.ensures.link refl refl c.place-fresh.ensures.takes (sym c.in_default.is ∙ c.requires.found)) c.insert_new.new.self c.insert_new.new.pool c.insert_new.ensures.tree
+    joins_new c.args.self.now c.args.pool.now c.place-fresh.new.pool (alone c.place-fresh.result c.args.self.now.newest c.args.ts c.args.change c.args.op.now.cells) c.args.op.now c.requires.store c.place-fresh.ensures.vacant c.place-fresh.ensures.others c.place-fresh.ensures.link refl refl c.place-fresh.ensures.takes c.requires.fits refl refl (lacks1 c.args.self.now c.args.pool.now c.place-fresh.new.pool (alone c.place-fresh.result c.args.self.now.newest c.args.ts c.args.change c.args.op.now.cells) c.args.op.now c.requires.store c.place-fresh.ensures.vacant c.place-fresh.ensures.others c.place-fresh.ensures.link refl refl c.place-fresh.ensures.takes (sym c.in_default.is ∙ c.requires.found)) c.insert_new.new.self c.insert_new.new.pool c.insert_new.ensures.tree
     (subst (λ (k : List ℕ). entries c.insert_new.new.self c.insert_new.new.pool ≡ put k c.place-fresh.result (entries c.args.self.now.tree c.place-fresh.new.pool)) c.key.ensures c.insert_new.ensures.put)
     c.insert_new.ensures.keeps c.insert_new.ensures.grows c.insert_new.ensures.frame
     (subst (λ (k : List ℕ). Takes c.place-fresh.new.pool c.insert_new.new.pool (need k)) c.key.ensures c.insert_new.ensures.takes)

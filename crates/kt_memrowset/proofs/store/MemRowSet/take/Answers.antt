@@ -1,12 +1,12 @@
 use Rattle.std.proofs.Common.{◌∙◌, List, ℕ, ap, sym}
 use Rattle.std.specs.Option.{option_map}
 use Rattle.kt_history.specs.declared.operation.OpKind.{OpKind}
-use Rattle.kt_histlaws.specs.Histories.{row_of, hist_in}
+use Rattle.kt_histlaws.specs.Histories.{hist_in}
 use Rattle.kt_tree.specs.Entries.{value_of}
 use Rattle.kt_tree.specs.Trees.{entries, place_at}
-use Rattle.kt_memrowset.specs.Stores.{store_of}
+use Rattle.kt_memrowset.specs.Stores.{store_of, last_row}
 use Rattle.kt_memrowset.specs.Taking.{kind_made}
-use Rattle.kt_memrowset.proofs.Rows.{found_stands, found_live, up_to, made_fits}
+use Rattle.kt_memrowset.proofs.Rows.{found_stands, found_live, made_fits}
 use Rattle.kt_memrowset.proofs.store.MemRowSet.take.Goals as goal
 
 pub is_live-there-requires : goal.is_live-there-requires
@@ -17,8 +17,8 @@ join-target-requires-clause-found c = (c.get-first.ensures ∙ ap (λ (k : List 
 
 pub join-target-requires-clause-fits : goal.join-target-requires-clause-fits
 join-target-requires-clause-fits c =
-    let there = (found_live c.args.self.now c.args.pool.now c.args.op.now.key c.get-first.result c.is_live-there.result (c.get-first.ensures ∙ ap (λ (k : List ℕ). option_map place_at (value_of k (entries c.args.self.now.tree c.args.pool.now))) c.key.ensures) c.is_live-there.ensures) c.args.ts (up_to c.args.ts (hist_in c.args.op.now.key (store_of c.args.self.now c.args.pool.now)).steps c.requires.later) in
-    made_fits c.args.op.now c.in-Some.kind (row_of c.args.ts (hist_in c.args.op.now.key (store_of c.args.self.now c.args.pool.now))) (ap (kind_made c.args.op.now.kind) (sym there) ∙ ap (λ (k : OpKind). kind_made k c.is_live-there.result) (sym c.kind.ensures) ∙ sym c.in-Some.ensures)
+    let there = (found_live c.args.self.now c.args.pool.now c.args.op.now.key c.get-first.result c.is_live-there.result (c.get-first.ensures ∙ ap (λ (k : List ℕ). option_map place_at (value_of k (entries c.args.self.now.tree c.args.pool.now))) c.key.ensures) c.is_live-there.ensures) in
+    made_fits c.args.op.now c.in-Some.kind (last_row (hist_in c.args.op.now.key (store_of c.args.self.now c.args.pool.now))) (ap (kind_made c.args.op.now.kind) (sym there) ∙ ap (λ (k : OpKind). kind_made k c.is_live-there.result) (sym c.kind.ensures) ∙ sym c.in-Some.ensures)
 
 pub returns-clause-there : goal.returns-clause-there
 returns-clause-there c = (found_live c.args.self.now c.args.pool.now c.args.op.now.key c.get-first.result c.is_live-there.result (c.get-first.ensures ∙ ap (λ (k : List ℕ). option_map place_at (value_of k (entries c.args.self.now.tree c.args.pool.now))) c.key.ensures) c.is_live-there.ensures)
