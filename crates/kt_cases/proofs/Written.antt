@@ -1,20 +1,16 @@
 -- A MemRowSet that takes one change more.
 use Rattle.std.proofs.Common.{◌≡◌, ℕ, ◌<◌, List, [], ◌∷◌, ◌++◌, Bool, true, false, cond, Option, Some, sym, ap, ◌∙◌, subst, arith}
-use Rattle.std.specs.Prelude.{is_some, unwrap_or}
+use Rattle.std.specs.Prelude.{unwrap_or}
 use Rattle.std.specs.Ordering.{eq_by_cmp}
 use Rattle.std.specs.FinMap.Entries.{find, put, find-put}
 use Rattle.std.proofs.lemmas.Cmp.{nat_list_cmp_total}
 use Rattle.kt_history.specs.declared.change.Change.{Change}
 use Rattle.kt_history.specs.Rows.{key_cmp}
-use Rattle.kt_histlaws.specs.Histories.{Steps, Store, Hist, push, hist_in, never, row_of}
-use Rattle.kt_histlaws.specs.Flights.{UpTo, Under}
+use Rattle.kt_histlaws.specs.Histories.{Steps, Store, Hist, push, hist_in, never}
+use Rattle.kt_histlaws.specs.Flights.{Under}
 use Rattle.kt_pool.specs.Contents.{Contents}
 use Rattle.kt_memrowset.specs.declared.store.MemRowSet.{MemRowSet}
 use Rattle.kt_memrowset.specs.Stores.{IsStore, store_of, is_frozen}
-
-up_to : (ts : ℕ) (steps : Steps) → Under ts steps → UpTo ts steps
-up_to ts [] u = _
-up_to ts (c ∷ steps) u = (omega (arith, u.0), up_to ts steps u.1)
 
 one_more : (ts u : ℕ) (c : Change) (steps : Steps) → Under ts steps → ts < u → Under u (steps ++ (ts, c) ∷ [])
 one_more ts u c [] h low = (low, _)
@@ -34,12 +30,6 @@ later_on ts u c key s t e under low q =
     let P : Option Hist → Type 0 = λ o. Under u (unwrap_or o never).steps in
     let is = ap (find key_cmp q) e ∙ find-put key_cmp nat_list_cmp_total q key (push ts c (hist_in key s)) s in
     subst P (sym is) (either u (eq_by_cmp key_cmp q key) (push ts c (hist_in key s)) (find key_cmp q s) (one_more ts u c (hist_in key s).steps (under key) low) (weaker ts u (hist_in q s).steps (under q) low))
-
--- whether there is a row at a time above all changes of the store
-pub told : (ts : ℕ) (key k : List ℕ) (s : Store) (live : Bool) → ((t : ℕ) → UpTo t (hist_in key s).steps → live ≡ is_some (row_of t (hist_in key s))) → key ≡ k → ((q : List ℕ) → Under ts (hist_in q s).steps) → live ≡ is_some (row_of ts (hist_in k s))
-told ts key k s live h e under =
-    let P : List ℕ → Type 0 = λ x. live ≡ is_some (row_of ts (hist_in x s)) in
-    subst P e (h ts (up_to ts (hist_in key s).steps (under key)))
 
 -- the same store, and one with no change
 pub same_under : (ts : ℕ) (s t : Store) → t ≡ s → ((q : List ℕ) → Under ts (hist_in q s).steps) → (q : List ℕ) → Under ts (hist_in q t).steps
