@@ -44,7 +44,7 @@ with_applied : {L D C : Type 0} (tells : Bool) (seen : L → Files) (now : L →
 with_applied tells seen now leaves faults old s j place f op new e flies next at low =
     let core = old.tablet.core in
     let log = old.records ++ e.logged.run in
-    let known = e.logged.keeps e.found.0 e.found.1 in
+    let known = e.logged.stands in
     let wf = all_found (Waits log old.places) (λ w. w.s == s) core.aloft f flies known.flying in
     let own : f.s ≡ s = is_session f.s s (found_passes (λ w. w.s == s) core.aloft f flies) in
     let own_place : place_of s old.places ≡ Some (suc wf.n) = ap (λ t. place_of t old.places) (sym own) ∙ wf.place in
@@ -56,13 +56,12 @@ with_applied tells seen now leaves faults old s j place f op new e flies next at
         all = e.logged.all;
         count = e.logged.count;
         begins = e.logged.begins;
-        keeps = λ first is. let k = e.logged.keeps first (record { opens = is.opens; recalls = is.recalls }) in record {
-          log = k.log;
-          told = k.told;
-          writes = k.writes;
-          last = k.last;
-          flying = advanced_all (Waits log old.places) j core.aloft (λ w h. record { up = h.up; waits = h.waits; ops = h.ops; n = h.n; place = h.place; there = h.there }) k.flying;
+        stands = record {
+          log = known.log;
+          last = known.last;
+          flying = advanced_all (Waits log old.places) j core.aloft (λ w h. record { up = h.up; waits = h.waits; ops = h.ops; n = h.n; place = h.place; there = h.there }) known.flying;
         };
+        keeps = λ first is. let k = e.logged.keeps first (record { opens = is.opens; recalls = is.recalls }) in record { told = k.told; writes = k.writes };
         names = e.logged.names;
         framed = e.logged.framed;
         durable = λ t.

@@ -23,7 +23,7 @@ use Rattle.kt_tablet.specs.Views.{View}
 use Rattle.kt_tablet.specs.declared.tablet.write.BeginNo.{BeginNo}
 use Rattle.kt_tablet.specs.declared.tablet.write.BeginNo.TheVariants as no
 use Rattle.kt_tablet.specs.Visits.{MayBegin, HasBegun, Leaves}
-use Rattle.kt_engine.specs.Logged.{Waits, IsDurable, KeepsRun, NamesOnly, IsShort, place_of}
+use Rattle.kt_engine.specs.Logged.{Waits, IsDurable, LogStands, KeepsRun, NamesOnly, IsShort, place_of}
 use Rattle.kt_engine.specs.Engines.{EngineView, core_from, IsEngine}
 use Rattle.kt_engine.proofs.Lists.{all_each, all_more, get_end}
 use Rattle.kt_engine.proofs.Places.{place-new, any_session, apart_more}
@@ -39,6 +39,7 @@ with_room tells seen now leaves faults old room more e = record {
     all = e.logged.all;
     count = e.logged.count;
     begins = e.logged.begins;
+    stands = e.logged.stands;
     keeps = λ first is. e.logged.keeps first (record { opens = is.opens; recalls = is.recalls });
     names = e.logged.names;
     framed = e.logged.framed;
@@ -63,12 +64,10 @@ with_large tells seen now leaves faults old s i n new e = record {
     all = e.logged.all;
     count = e.logged.count;
     begins = e.logged.begins;
+    stands = record { log = e.logged.stands.log; last = e.logged.stands.last; flying = e.logged.stands.flying };
     keeps = λ first is. let k = e.logged.keeps first (record { opens = is.opens; recalls = is.recalls }) in record {
-      log = k.log;
       told = k.told;
       writes = k.writes ∙ sym (past_line (core_from old first) (Large s i n));
-      last = k.last;
-      flying = k.flying;
     };
     names = e.logged.names;
     framed = e.logged.framed;
@@ -83,15 +82,14 @@ with_large tells seen now leaves faults old s i n new e = record {
   placed = e.placed;
 }
 
--- the run and a REPLICATE more
-begun_run : (core : Core) (records : List Entry) (places : List (ℕ × ℕ)) (run : List Entry) (s i ts m place : ℕ) (ops : List RowOp) → core.c < ts → IsFramed (Replicate ts ops) → IfWrite (command_at core.work s i) (λ written. written ≡ ops)
-    → place ≡ suc (length (records ++ run)) → list_any (λ t. t == s) (map (λ p. p.0) places) ≡ false → KeepsRun core records places run → KeepsRun (begun core s i ts m ops) records (places ++ (s, place) ∷ []) (run ++ Replicate ts ops ∷ [])
-begun_run core records places run s i ts m place ops above framed is at rests k =
+-- the log and a REPLICATE more
+begun_log : (core : Core) (records : List Entry) (places : List (ℕ × ℕ)) (run : List Entry) (s i ts m place : ℕ) (ops : List RowOp) → core.c < ts → IsFramed (Replicate ts ops)
+    → place ≡ suc (length (records ++ run)) → list_any (λ t. t == s) (map (λ p. p.0) places) ≡ false → LogStands core records places run → LogStands (begun core s i ts m ops) records (places ++ (s, place) ∷ []) (run ++ Replicate ts ops ∷ [])
+begun_log core records places run s i ts m place ops above framed at rests k =
     let log = records ++ run in
     let more : last_of log < ts = (let low = k.last in omega arith) in
     let joined : log ++ Replicate ts ops ∷ [] ≡ records ++ (run ++ Replicate ts ops ∷ []) = append_assoc records run (Replicate ts ops ∷ []) in
     let up : 0 < ts = omega arith in
-    let told = replicate_more core.work.fill records core.first run ts ops k.told up in
     let whole : IsLog (log ++ Replicate ts ops ∷ []) = order_more [] log (Replicate ts ops) k.log framed (above_log [] log ts refl more) in
     let fly : All (Waits (log ++ Replicate ts ops ∷ []) (places ++ (s, place) ∷ [])) (core.aloft ++ record { s = s; i = i; ts = ts; ops = ops; applied = 0 } ∷ []) = all_more (Waits (log ++ Replicate ts ops ∷ []) (places ++ (s, place) ∷ [])) core.aloft (record { s = s; i = i; ts = ts; ops = ops; applied = 0 })
     (all_each (Waits log places) (Waits (log ++ Replicate ts ops ∷ []) (places ++ (s, place) ∷ [])) core.aloft (λ w. waits_on log places w ts ops (s, place) more) k.flying)
@@ -105,11 +103,15 @@ begun_run core records places run s i ts m place ops above framed is at rests k 
     }) in
     record {
       log = subst (λ (l : List Entry). IsLog l) joined whole;
-      told = told.0;
-      writes = told.1 ∙ ap (λ p. with_ops core.work.fill p ts ops) k.writes ∙ sym (past_begun core s i ts m ops is);
       last = subst (λ (l : List Entry). last_of l ≤ ts) joined (let e = last_of-replicate log ts ops in omega arith);
       flying = subst (λ (l : List Entry). All (Waits l (places ++ (s, place) ∷ [])) (core.aloft ++ record { s = s; i = i; ts = ts; ops = ops; applied = 0 } ∷ [])) joined fly;
     }
+
+-- and the run with it
+begun_run : (core : Core) (records run : List Entry) (s i ts m : ℕ) (ops : List RowOp) → 0 < ts → IfWrite (command_at core.work s i) (λ written. written ≡ ops) → KeepsRun core records run → KeepsRun (begun core s i ts m ops) records (run ++ Replicate ts ops ∷ [])
+begun_run core records run s i ts m ops up is k =
+    let told = replicate_more core.work.fill records core.first run ts ops k.told up in
+    record { told = told.0; writes = told.1 ∙ ap (λ p. with_ops core.work.fill p ts ops) k.writes ∙ sym (past_begun core s i ts m ops is) }
 
 -- a write begins, in the room that was made for it
 pub with_begun : {L D C : Type 0} (tells : Bool) (seen : L → Files) (now : L → ℕ) (leaves : L → ℕ → Files → Type 0) (faults : L → ℕ) (old : EngineView L D C) (s i ts m place : ℕ) (ops : List RowOp) (new : View C) → IsEngine tells seen now leaves faults old
@@ -123,7 +125,7 @@ with_begun tells seen now leaves faults old s i ts m place ops new e may short n
     let parts = length-append old.log.out old.log.queued in
     let there : place ≡ suc (length (old.records ++ e.logged.run)) = (let n = e.logged.count in omega arith) in
     let rests : list_any (λ t. t == s) (map (λ p. p.0) old.places) ≡ false = ap (list_any (λ t. t == s)) e.placed ∙ sym (any_session s core.aloft) ∙ may.at.rests in
-    let known = e.logged.keeps e.found.0 e.found.1 in
+    let known = e.logged.stands in
     let low : All (λ (v : Aloft). v.ts < ts) core.aloft = all_each (Waits (old.records ++ e.logged.run) old.places) (λ v. v.ts < ts) core.aloft (λ v h. let b = below_last (old.records ++ e.logged.run) h.n v.ts v.ops h.there in let l = known.last in omega arith) known.flying in
     record {
       found = (e.found.0, record { opens = e.found.1.opens; recalls = e.found.1.recalls });
@@ -132,7 +134,8 @@ with_begun tells seen now leaves faults old s i ts m place ops new e may short n
         all = λ t. all_parts old.records e.logged.run (records_of (seen old.log.known.disk)) old.log.out old.log.queued (Replicate ts ops) (e.logged.all t);
         count = count_parts old.records e.logged.run old.log.out old.log.queued (Replicate ts ops) old.log.known.count e.logged.count;
         begins = e.logged.begins;
-        keeps = λ first is. begun_run (core_from old first) old.records old.places e.logged.run s i ts m place ops above framed may.write there rests (e.logged.keeps first (record { opens = is.opens; recalls = is.recalls }));
+        stands = begun_log core old.records old.places e.logged.run s i ts m place ops above framed there rests known;
+        keeps = λ first is. begun_run (core_from old first) old.records e.logged.run s i ts m ops (omega arith) may.write (e.logged.keeps first (record { opens = is.opens; recalls = is.recalls }));
         names = all_more (NamesOnly old.tablet.target) e.logged.run (Replicate ts ops) e.logged.names tt;
         framed = framed_parts old.log.out old.log.queued (Replicate ts ops) e.logged.framed framed;
         durable = λ t. all_more (IsDurable (records_of (seen old.log.known.disk))) core.aloft (record { s = s; i = i; ts = ts; ops = ops; applied = 0 }) (e.logged.durable t) (λ lt. absurd (omega arith));

@@ -116,32 +116,32 @@ level run first opened l c low high all same =
     sym less ∙ ap (upto c) (all ∙ same) ∙ more ∙ sym (all ∙ same)
 
 -- what the run's records tell over the raised past they tell over the whole one, which the log held
-whole_told : (core : Core) (records run : List Entry) (places : List (ℕ × ℕ)) → KeepsRun core records places run → (recalls : Recalls core.work.fill records core.first) → AllTold core.work.fill records recalls.0 run
-whole_told core records run places keeps recalls =
-    told_raised core.work.fill records recalls.0 run (only_first core.work.fill records recalls.0 (log_front [] records run keeps.log) recalls.1) (subst (λ (p : Past). AllTold core.work.fill records p run) recalls.2 keeps.told)
+whole_told : (core : Core) (records run : List Entry) → IsLog (records ++ run) → KeepsRun core records run → (recalls : Recalls core.work.fill records core.first) → AllTold core.work.fill records recalls.0 run
+whole_told core records run log keeps recalls =
+    told_raised core.work.fill records recalls.0 run (only_first core.work.fill records recalls.0 (log_front [] records run log) recalls.1) (subst (λ (p : Past). AllTold core.work.fill records p run) recalls.2 keeps.told)
 
 -- and the run's past is what all records hold, raised
-whole_past : (core : Core) (records run : List Entry) (places : List (ℕ × ℕ)) → KeepsRun core records places run → (recalls : Recalls core.work.fill records core.first) → run_past core ≡ raise (with_records core.work.fill recalls.0 run) 0
-whole_past core records run places keeps recalls =
-    let only = only_first core.work.fill records recalls.0 (log_front [] records run keeps.log) recalls.1 in
-    let up = told_up core.work.fill records recalls.0 run (whole_told core records run places keeps recalls) in
+whole_past : (core : Core) (records run : List Entry) → IsLog (records ++ run) → KeepsRun core records run → (recalls : Recalls core.work.fill records core.first) → run_past core ≡ raise (with_records core.work.fill recalls.0 run) 0
+whole_past core records run log keeps recalls =
+    let only = only_first core.work.fill records recalls.0 (log_front [] records run log) recalls.1 in
+    let up = told_up core.work.fill records recalls.0 run (whole_told core records run log keeps recalls) in
     sym keeps.writes ∙ ap (λ (p : Past). with_records core.work.fill p run) recalls.2 ∙ records_raised core.work.fill recalls.0 run only up
 
 -- a front of the records, as a crash may leave it
-front_holds : (core : Core) (records durable rest : List Entry) (target : Target) (places : List (ℕ × ℕ)) (image : Files)
-    → KeepsRun core records places (durable ++ rest) → Recalls core.work.fill records core.first → IsPastUpTo core.opened core.first → IsRun core.work core.first core.opened core.trail
+front_holds : (core : Core) (records durable rest : List Entry) (target : Target) (image : Files)
+    → IsLog (records ++ (durable ++ rest)) → last_of (records ++ (durable ++ rest)) ≤ core.c → KeepsRun core records (durable ++ rest) → Recalls core.work.fill records core.first → IsPastUpTo core.opened core.first → IsRun core.work core.first core.opened core.trail
     → AcknowledgedIn (records ++ durable) core.trail → All (NamesOnly target) (durable ++ rest) → log_of image ≡ Ok (records ++ durable) → HoldsFront core records target image
-front_holds core records durable rest target places image keeps recalls ends is_run acknowledged names reads =
+front_holds core records durable rest target image log high keeps recalls ends is_run acknowledged names reads =
     let fill = core.work.fill in
     let whole = recalls.0 in
     let run = durable ++ rest in
     let c = last_of (records ++ durable) in
     let l = last_of records in
     let t = max c core.opened in
-    let told = whole_told core records run places keeps recalls in
-    let all = whole_past core records run places keeps recalls in
-    let holds = front fill records durable rest whole keeps.log recalls.1 told in
-    let none = front fill records [] run whole keeps.log recalls.1 told in
+    let told = whole_told core records run log keeps recalls in
+    let all = whole_past core records run log keeps recalls in
+    let holds = front fill records durable rest whole log recalls.1 told in
+    let none = front fill records [] run whole log recalls.1 told in
     let whole_is : whole ≡ upto l (with_records fill whole run) = held_once fill records whole (upto l (with_records fill whole run)) recalls.1 (subst (λ (x : List Entry). LogHolds fill x (upto (last_of x) (with_records fill whole run))) (append-nil records) none) in
     let first_is : core.first ≡ upto l (run_past core) = recalls.2 ∙ ap (λ (p : Past). raise p 0) whole_is ∙ upto_raised l (with_records fill whole run) ∙ ap (upto l) (sym all) in
     let opened_is : upto core.opened (run_past core) ≡ core.first =
@@ -162,19 +162,19 @@ front_holds core records durable rest target places image keeps recalls ends is_
       acknowledged = acknowledged_by (records ++ durable) t core.trail (omega arith) acknowledged;
       holds = (upto c (with_records fill whole run), holds, sym same ∙ ap (upto c) all ∙ sym (upto_raised c (with_records fill whole run)));
       last = omega arith;
-      within = omega (arith, last_of-front (records ++ durable) rest, ap last_of (append_assoc records durable rest), keeps.last);
+      within = omega (arith, last_of-front (records ++ durable) rest, ap last_of (append_assoc records durable rest), high);
     }
 
 -- all of the records
-all_holds : (core : Core) (records run : List Entry) (target : Target) (places : List (ℕ × ℕ)) (image : Files) → KeepsRun core records places run → Recalls core.work.fill records core.first → All (NamesOnly target) run → log_of image ≡ Ok (records ++ run) → HoldsRun core records target image
-all_holds core records run target places image keeps recalls names reads = record {
+all_holds : (core : Core) (records run : List Entry) (target : Target) (image : Files) → IsLog (records ++ run) → last_of (records ++ run) ≤ core.c → KeepsRun core records run → Recalls core.work.fill records core.first → All (NamesOnly target) run → log_of image ≡ Ok (records ++ run) → HoldsRun core records target image
+all_holds core records run target image log high keeps recalls names reads = record {
   records = records ++ run;
   reads = reads;
   run = run;
   front = refl;
   names = names;
-  holds = (with_records core.work.fill recalls.0 run, goes_on core.work.fill records run recalls.0 keeps.log recalls.1 (whole_told core records run places keeps recalls), whole_past core records run places keeps recalls);
-  last = keeps.last;
+  holds = (with_records core.work.fill recalls.0 run, goes_on core.work.fill records run recalls.0 log recalls.1 (whole_told core records run log keeps recalls), whole_past core records run log keeps recalls);
+  last = high;
 }
 
 -- a front of the engine's records holds its run up to a time
@@ -182,8 +182,9 @@ engine_front : {L D C : Type 0} (tells : Bool) (seen : L → Files) (now : L →
     → ((first : Past) → Opens view.tablet.opening view.tablet.mark view.tablet.core.opened first → Stands (record view.tablet.core { first = first })) → IsContent view first
     → (is : IsEngine tells seen now leaves faults view) → is.logged.run ≡ durable ++ rest → AcknowledgedIn (view.records ++ durable) view.tablet.core.trail → log_of image ≡ Ok (view.records ++ durable) → HoldsFront (core_from view first) view.records view.tablet.target image
 engine_front tells seen now leaves faults view first durable rest image sound content is run acknowledged reads =
-    front_holds (core_from view first) view.records durable rest view.tablet.target view.places image
-    (subst (λ (r : List Entry). KeepsRun (core_from view first) view.records view.places r) run (is.logged.keeps first content)) content.recalls content.opens.ends (sound first content.opens).run.is_run acknowledged (subst (All (NamesOnly view.tablet.target)) run is.logged.names) reads
+    front_holds (core_from view first) view.records durable rest view.tablet.target image
+    (subst (λ (r : List Entry). IsLog (view.records ++ r)) run is.logged.stands.log) (subst (λ (r : List Entry). last_of (view.records ++ r) ≤ view.tablet.core.c) run is.logged.stands.last)
+    (subst (λ (r : List Entry). KeepsRun (core_from view first) view.records r) run (is.logged.keeps first content)) content.recalls content.opens.ends (sound first content.opens).run.is_run acknowledged (subst (All (NamesOnly view.tablet.target)) run is.logged.names) reads
 
 -- An image with what is durable and some records more has the run's writes up to a time, each acknowledged one among them.
 pub recovers_each : {L D C : Type 0} (tells : Bool) (seen : L → Files) (now : L → ℕ) (leaves : L → ℕ → Files → Type 0) (faults : L → ℕ) (view : EngineView L D C)
@@ -225,5 +226,5 @@ recovers_all {L} {D} {C} tells seen now leaves faults view is held first content
     let none : view.log.out ++ view.log.queued ≡ [] = ap (λ (l : List Entry). l ++ view.log.queued) known.1 ∙ empty in
     let all : records_of (seen view.log.known.disk) ≡ view.records ++ is.logged.run =
     sym (append-nil (records_of (seen view.log.known.disk))) ∙ ap (λ (l : List Entry). records_of (seen view.log.known.disk) ++ l) (sym none) ∙ sym (is.logged.all t) in
-    all_holds (core_from view first) view.records is.logged.run view.tablet.target view.places image (is.logged.keeps first content) content.recalls is.logged.names
+    all_holds (core_from view first) view.records is.logged.run view.tablet.target image is.logged.stands.log is.logged.stands.last (is.logged.keeps first content) content.recalls is.logged.names
     (held t image (subst (λ (j : JournalView L). leaves j.disk (now j.disk) image) known.0 left) ∙ ap Ok all)

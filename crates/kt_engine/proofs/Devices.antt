@@ -57,6 +57,7 @@ lends {L} {D} {C} tells seen now leaves faults view log journal number is goes a
         all = λ t. is.logged.all t ∙ ap (λ (l : List Entry). records_of (seen view.log.known.disk) ++ l) same;
         count = is.logged.count ∙ ap (λ (l : List Entry). view.log.known.count + length l) same;
         begins = is.logged.begins;
+        stands = is.logged.stands;
         keeps = λ first h. is.logged.keeps first (record { opens = h.opens; recalls = h.recalls });
         names = is.logged.names;
         framed = subst (λ (l : List Entry). All IsFramed l) same is.logged.framed;
@@ -90,6 +91,7 @@ comes_home {L} {D} {C} tells seen now leaves faults view log journal number is h
         all = λ t. is.logged.all t ∙ sym (append_assoc (records_of (seen view.log.known.disk)) view.log.out view.log.queued) ∙ ap (λ (l : List Entry). l ++ view.log.queued) (sym (reads t));
         count = is.logged.count ∙ lengths;
         begins = λ t. let at = is.logged.begins t in (at.0 ++ view.log.out, reads t ∙ ap (λ (l : List Entry). l ++ view.log.out) at.1 ∙ append_assoc view.records at.0 view.log.out);
+        stands = is.logged.stands;
         keeps = λ first h. is.logged.keeps first (record { opens = h.opens; recalls = h.recalls });
         names = is.logged.names;
         framed = all_behind IsFramed view.log.out view.log.queued is.logged.framed;
@@ -129,6 +131,7 @@ comes_back {L} {D} {C} tells seen now leaves faults view log journal number is h
         all = is.logged.all;
         count = is.logged.count;
         begins = is.logged.begins;
+        stands = is.logged.stands;
         keeps = λ first h. is.logged.keeps first (record { opens = h.opens; recalls = h.recalls });
         names = is.logged.names;
         framed = is.logged.framed;
@@ -173,6 +176,7 @@ breaks {L} {D} {C} tells seen now leaves faults view tablet log journal number i
         all = logged.all;
         count = logged.count;
         begins = logged.begins;
+        stands = logged.stands;
         keeps = λ first h. logged.keeps first (record { opens = h.opens; recalls = h.recalls });
         names = logged.names;
         framed = logged.framed;

@@ -27,7 +27,7 @@ use Rattle.kt_histlaws.specs.Events.{ended, IsOver}
 use Rattle.kt_tablet.specs.Views.{View, Opens}
 use Rattle.kt_tablet.specs.Visits.{MayEnd, HasEnded, IsDone}
 use Rattle.kt_tablet.specs.Rows.{commit_row}
-use Rattle.kt_engine.specs.Logged.{Waits, IsDurable, KeepsRun, NamesOnly}
+use Rattle.kt_engine.specs.Logged.{Waits, IsDurable, LogStands, KeepsRun, NamesOnly}
 use Rattle.kt_engine.specs.Engines.{EngineView, IsContent, core_from, IsEngine}
 use Rattle.kt_engine.proofs.Lists.{all_more, all_passing, all_found, fewer, map-filter}
 use Rattle.kt_engine.proofs.Places.{place-kept, others_apart, turned, apart_fewer, over_found, is_other}
@@ -42,20 +42,16 @@ is_rows core number s f outcomes rows flies done =
     done.told ∙ ap (map (commit_row (Mem number))) (done.each ∙ ap (λ (w : Aloft). outcomes_on core.work.fill (rows_at (run_past core) (w.ts - 1)) w.ops) is)
 
 -- the flying write's own REPLICATE keeps the rules
-own_framed : (core : Core) (records : List Entry) (places : List (ℕ × ℕ)) (run : List Entry) (s : ℕ) (f : Aloft) → find (λ w. w.s == s) core.aloft ≡ Some f → KeepsRun core records places run → IsFramed (Replicate f.ts f.ops)
+own_framed : (core : Core) (records : List Entry) (places : List (ℕ × ℕ)) (run : List Entry) (s : ℕ) (f : Aloft) → find (λ w. w.s == s) core.aloft ≡ Some f → LogStands core records places run → IsFramed (Replicate f.ts f.ops)
 own_framed core records places run s f flies k =
     let wf = all_found (Waits (records ++ run) places) (λ w. w.s == s) core.aloft f flies k.flying in
     framed_at [] (records ++ run) wf.n (Replicate f.ts f.ops) k.log wf.there
 
--- its COMMIT keeps them too
-own_commit : (core : Core) (records : List Entry) (places : List (ℕ × ℕ)) (run : List Entry) (number s : ℕ) (f : Aloft) (rows : List CommitRow) → number < 2 ^ 64 → find (λ w. w.s == s) core.aloft ≡ Some f
-    → rows ≡ map (commit_row (Mem number)) (outcomes_on core.work.fill (rows_at (run_past core) (f.ts - 1)) f.ops) → KeepsRun core records places run → IsFramed (Commit f.ts rows)
-own_commit core records places run number s f rows fits flies is k =
-    let framed = own_framed core records places run s f flies k in
+-- its COMMIT, with a row for each operation, keeps them too
+own_commit : (number : ℕ) (f : Aloft) (outcomes : List Outcome) (rows : List CommitRow) → number < 2 ^ 64 → rows ≡ map (commit_row (Mem number)) outcomes → length outcomes ≡ length f.ops → IsFramed (Replicate f.ts f.ops) → IsFramed (Commit f.ts rows)
+own_commit number f outcomes rows fits is count framed =
     let few = (held_few (length f.ops) framed.keeps.count).1 in
-    let os = outcomes_on core.work.fill (rows_at (run_past core) (f.ts - 1)) f.ops in
-    let n : length os ≡ length f.ops = length-map f.ops (λ op. (effect_on core.work.fill (rows_at (run_past core) (f.ts - 1)) op).1) in
-    subst (λ (rs : List CommitRow). IsFramed (Commit f.ts rs)) (sym is) (commit_framed number fits f.ts framed.keeps.ts os (omega arith))
+    subst (λ (rs : List CommitRow). IsFramed (Commit f.ts rs)) (sym is) (commit_framed number fits f.ts framed.keeps.ts outcomes (omega arith))
 
 -- the flying writes of other sessions still wait
 others_wait : (log : List Entry) (places : List (ℕ × ℕ)) (s : ℕ) (aloft : List Aloft) (f : Aloft) (rows : List CommitRow) → find (λ w. w.s == s) aloft ≡ Some f → (λ (ws : List Aloft). All (Waits log places) ws) aloft
@@ -67,43 +63,46 @@ others_wait log places s aloft f rows flies waits apart =
     let w = get_or (filter (λ (v : Aloft). not (v.s == s)) aloft) n d in
     waits_behind log places kept w f.ts rows (turned w.ts f.ts (apart n d lt)) (place-kept w.s s places (both n d lt).1) (both n d lt).0
 
--- the run and a COMMIT more
-ended_run : (core : Core) (records : List Entry) (places : List (ℕ × ℕ)) (run : List Entry) (number s i : ℕ) (f : Aloft) (rows : List CommitRow) → 0 < number → number < 2 ^ 64 → find (λ w. w.s == s) core.aloft ≡ Some f
-    → rows ≡ map (commit_row (Mem number)) (outcomes_on core.work.fill (rows_at (run_past core) (f.ts - 1)) f.ops) → All (λ v. (v.ts == f.ts) ≡ false) (filter (λ w. not (w.s == s)) core.aloft)
-    → KeepsRun core records places run → KeepsRun (ended core s i f.ts) records (filter (λ p. not (p.0 == s)) places) (run ++ Commit f.ts rows ∷ [])
-ended_run core records places run number s i f rows above fits flies is apart k =
+-- the log and a COMMIT more
+ended_log : (core : Core) (records : List Entry) (places : List (ℕ × ℕ)) (run : List Entry) (s i : ℕ) (f : Aloft) (rows : List CommitRow) → find (λ w. w.s == s) core.aloft ≡ Some f → length rows ≡ length f.ops → IsFramed (Commit f.ts rows)
+    → All (λ v. (v.ts == f.ts) ≡ false) (filter (λ w. not (w.s == s)) core.aloft) → LogStands core records places run → LogStands (ended core s i f.ts) records (filter (λ p. not (p.0 == s)) places) (run ++ Commit f.ts rows ∷ [])
+ended_log core records places run s i f rows flies count framed apart k =
     let log = records ++ run in
     let wf = all_found (Waits log places) (λ w. w.s == s) core.aloft f flies k.flying in
-    let os = outcomes_on core.work.fill (rows_at (run_past core) (f.ts - 1)) f.ops in
-    let count : length rows ≡ length f.ops = ap length is ∙ length-map os (commit_row (Mem number)) ∙ length-map f.ops (λ op. (effect_on core.work.fill (rows_at (run_past core) (f.ts - 1)) op).1) in
     let may : is_count (waiting f.ts (newest_first [] log)) (length rows) ≡ true = ap (λ o. is_count o (length rows)) wf.waits ∙ ap (λ n. length f.ops == n) count ∙ same (length f.ops) in
     let joined : log ++ Commit f.ts rows ∷ [] ≡ records ++ (run ++ Commit f.ts rows ∷ []) = append_assoc records run (Commit f.ts rows ∷ []) in
-    let whole : IsLog (log ++ Commit f.ts rows ∷ []) = order_more [] log (Commit f.ts rows) k.log (own_commit core records places run number s f rows fits flies is k) may in
-    let tells : Tells core.work.fill (rows_at (run_past core) (f.ts - 1)) f.ops rows = subst (λ (rs : List CommitRow). Tells core.work.fill (rows_at (run_past core) (f.ts - 1)) f.ops rs) (sym is) (rows_tell number above core.work.fill (rows_at (run_past core) (f.ts - 1)) f.ops) in
-    let is_told : IsTold core.work.fill log (with_records core.work.fill core.first run) f.ts rows = record { up = wf.up; ops = f.ops; stands = wf.ops; tells = subst (λ (p : Past). Tells core.work.fill (rows_at p (f.ts - 1)) f.ops rows) (sym k.writes) tells } in
-    let told = commit_is_told core.work.fill records core.first run f.ts rows k.told is_told in
+    let whole : IsLog (log ++ Commit f.ts rows ∷ []) = order_more [] log (Commit f.ts rows) k.log framed may in
     record {
       log = subst (λ (l : List Entry). IsLog l) joined whole;
-      told = told.0;
-      writes = told.1 ∙ k.writes ∙ sym (past_line core (End s i f.ts));
       last = subst (λ (l : List Entry). last_of l ≤ core.c) joined (let e = last_of-commit log f.ts rows in let low = k.last in omega arith);
       flying = subst (λ (l : List Entry). All (Waits l (filter (λ p. not (p.0 == s)) places)) (filter (λ w. not (w.s == s)) core.aloft)) joined (others_wait log places s core.aloft f rows flies k.flying apart);
     }
+
+-- and the run with it
+ended_run : (core : Core) (records : List Entry) (places : List (ℕ × ℕ)) (run : List Entry) (number s i : ℕ) (f : Aloft) (rows : List CommitRow) → 0 < number → rows ≡ map (commit_row (Mem number)) (outcomes_on core.work.fill (rows_at (run_past core) (f.ts - 1)) f.ops)
+    → Waits (records ++ run) places f → KeepsRun core records run → KeepsRun (ended core s i f.ts) records (run ++ Commit f.ts rows ∷ [])
+ended_run core records places run number s i f rows above is wf k =
+    let tells : Tells core.work.fill (rows_at (run_past core) (f.ts - 1)) f.ops rows = subst (λ (rs : List CommitRow). Tells core.work.fill (rows_at (run_past core) (f.ts - 1)) f.ops rs) (sym is) (rows_tell number above core.work.fill (rows_at (run_past core) (f.ts - 1)) f.ops) in
+    let is_told : IsTold core.work.fill (records ++ run) (with_records core.work.fill core.first run) f.ts rows = record { up = wf.up; ops = f.ops; stands = wf.ops; tells = subst (λ (p : Past). Tells core.work.fill (rows_at p (f.ts - 1)) f.ops rows) (sym k.writes) tells } in
+    let told = commit_is_told core.work.fill records core.first run f.ts rows k.told is_told in
+    record { told = told.0; writes = told.1 ∙ k.writes ∙ sym (past_line core (End s i f.ts)) }
 
 -- a write whose rows are all applied has one that is
 some_applied : (f : Aloft) → 0 < length f.ops → drop f.applied f.ops ≡ [] → 0 < f.applied
 some_applied f more none = let a = length-drop f.applied f.ops in let b = ap length none in omega arith
 
-with_ended : {L D C : Type 0} (tells : Bool) (seen : L → Files) (now : L → ℕ) (leaves : L → ℕ → Files → Type 0) (faults : L → ℕ) (old : EngineView L D C) (s i : ℕ) (f : Aloft) (rows : List CommitRow) → IsEngine tells seen now leaves faults old
-    → find (λ w. w.s == s) old.tablet.core.aloft ≡ Some f → IsOver s old.tablet.core.aloft
+with_ended : {L D C : Type 0} (tells : Bool) (seen : L → Files) (now : L → ℕ) (leaves : L → ℕ → Files → Type 0) (faults : L → ℕ) (old : EngineView L D C) (s i : ℕ) (f : Aloft) (outcomes : List Outcome) (rows : List CommitRow) → IsEngine tells seen now leaves faults old
+    → find (λ w. w.s == s) old.tablet.core.aloft ≡ Some f → IsOver s old.tablet.core.aloft → length outcomes ≡ length f.ops → rows ≡ map (commit_row old.tablet.target) outcomes
     → ((number : ℕ) → old.tablet.target ≡ Mem number → (first : Past) → IsContent old first → rows ≡ map (commit_row (Mem number)) (outcomes_on old.tablet.core.work.fill (rows_at (run_past (core_from old first)) (f.ts - 1)) f.ops))
     → IsEngine tells seen now leaves faults (record old { tablet = record old.tablet { core = ended old.tablet.core s i f.ts }; log = record old.log { queued = old.log.queued ++ Commit f.ts rows ∷ []; room = old.log.room - 1 }; places = filter (λ p. not (p.0 == s)) old.places })
-with_ended tells seen now leaves faults old s i f rows e flies over told =
+with_ended tells seen now leaves faults old s i f outcomes rows e flies over each is told =
     let core = old.tablet.core in
     let content = told e.ready.number e.ready.target in
-    let k = e.logged.keeps e.found.0 e.found.1 in
-    let framed = own_framed (core_from old e.found.0) old.records old.places e.logged.run s f flies k in
-    let commit = own_commit (core_from old e.found.0) old.records old.places e.logged.run e.ready.number s f rows e.ready.fits flies (content e.found.0 e.found.1) k in
+    let k = e.logged.stands in
+    let wf = all_found (Waits (old.records ++ e.logged.run) old.places) (λ w. w.s == s) core.aloft f flies k.flying in
+    let framed = own_framed core old.records old.places e.logged.run s f flies k in
+    let commit = own_commit e.ready.number f outcomes rows e.ready.fits (is ∙ ap (λ (t : Target). map (commit_row t) outcomes) e.ready.target) each framed in
+    let count : length rows ≡ length f.ops = ap length is ∙ length-map outcomes (commit_row old.tablet.target) ∙ each in
     let apart = others_apart s core.aloft f flies e.ready.apart in
     let some : 0 < length f.ops = (held_few (length f.ops) framed.keeps.count).0 in
     record {
@@ -113,9 +112,9 @@ with_ended tells seen now leaves faults old s i f rows e flies over told =
         all = λ t. all_parts old.records e.logged.run (records_of (seen old.log.known.disk)) old.log.out old.log.queued (Commit f.ts rows) (e.logged.all t);
         count = count_parts old.records e.logged.run old.log.out old.log.queued (Commit f.ts rows) old.log.known.count e.logged.count;
         begins = e.logged.begins;
-        keeps = λ first is. let before : IsContent old first = record { opens = is.opens; recalls = is.recalls } in ended_run (core_from old first) old.records old.places e.logged.run e.ready.number s i f rows e.ready.above e.ready.fits flies (content first before) apart (e.logged.keeps first before);
-        names = all_more (NamesOnly old.tablet.target) e.logged.run (Commit f.ts rows) e.logged.names (subst (λ (t : Target). NamesOnly t (Commit f.ts rows)) (sym e.ready.target)
-            (subst (λ (rs : List CommitRow). NamesOnly (Mem e.ready.number) (Commit f.ts rs)) (sym (content e.found.0 e.found.1)) (commit_names (Mem e.ready.number) f.ts (outcomes_on core.work.fill (rows_at (run_past (core_from old e.found.0)) (f.ts - 1)) f.ops))));
+        stands = ended_log core old.records old.places e.logged.run s i f rows flies count commit apart k;
+        keeps = λ first is. let before : IsContent old first = record { opens = is.opens; recalls = is.recalls } in ended_run (core_from old first) old.records old.places e.logged.run e.ready.number s i f rows e.ready.above (content first before) wf (e.logged.keeps first before);
+        names = all_more (NamesOnly old.tablet.target) e.logged.run (Commit f.ts rows) e.logged.names (subst (λ (rs : List CommitRow). NamesOnly old.tablet.target (Commit f.ts rs)) (sym is) (commit_names old.tablet.target f.ts outcomes));
         framed = framed_parts old.log.out old.log.queued (Commit f.ts rows) e.logged.framed commit;
         durable = λ t. all_passing (IsDurable (records_of (seen old.log.known.disk))) (IsDurable (records_of (seen old.log.known.disk))) (λ w. not (w.s == s)) core.aloft (λ w passes h. h) (e.logged.durable t);
         acknowledged = λ t. acknowledged_more (records_of (seen old.log.known.disk)) core.trail (End s i f.ts) (e.logged.acknowledged t)
@@ -144,12 +143,15 @@ pub has_ended : {L D C : Type 0} (tells : Bool) (seen : L → Files) (now : L �
 has_ended {L} {D} {C} tells seen now leaves faults old tablet log places s i ts outcomes rows beside h is_log is_places may done e =
     let core = old.tablet.core in
     let f = h.flight in
+    let d = done e.found.0 e.found.1.opens in
+    let is : d.flight ≡ f = (let other = d.flies in let own = h.flies in cc) in
+    let count : length outcomes ≡ length f.ops = ap length d.each ∙ length-map d.flight.ops (λ op. (effect_on core.work.fill (rows_at (run_past (core_from old e.found.0)) (d.flight.ts - 1)) op).1) ∙ ap (λ (w : Aloft). length w.ops) is in
     let is_core : tablet.core ≡ ended core s i f.ts = h.core ∙ ap (λ t. ended core s i t) h.time in
     let is_log' : log ≡ record old.log { queued = old.log.queued ++ Commit f.ts rows ∷ []; room = old.log.room - 1 } = is_log ∙ ap (λ t. record old.log { queued = old.log.queued ++ Commit t rows ∷ []; room = old.log.room - 1 }) h.time in
     subst (λ (t : View C). IsEngine tells seen now leaves faults (record old { tablet = t; log = log; places = places })) (sym (beside ∙ ap (λ (k : Core). record old.tablet { core = k }) is_core))
     (subst (λ (l : SideView L). IsEngine tells seen now leaves faults (record old { tablet = record old.tablet { core = ended core s i f.ts }; log = l; places = places })) (sym is_log')
     (subst (λ (ps : List (ℕ × ℕ)). IsEngine tells seen now leaves faults (record old { tablet = record old.tablet { core = ended core s i f.ts }; log = record old.log { queued = old.log.queued ++ Commit f.ts rows ∷ []; room = old.log.room - 1 }; places = ps })) (sym is_places)
-    (with_ended tells seen now leaves faults old s i f rows e h.flies may.over (λ number target first is. is_rows (core_from old first) number s f outcomes rows h.flies (subst (λ (t : Target). IsDone (core_from old first) t s outcomes rows) target (done first is.opens))))))
+    (with_ended tells seen now leaves faults old s i f outcomes rows e h.flies may.over count d.told (λ number target first is. is_rows (core_from old first) number s f outcomes rows h.flies (subst (λ (t : Target). IsDone (core_from old first) t s outcomes rows) target (done first is.opens))))))
 
 -- there is room for the COMMIT of a write that flies
 pub has_room : {L D C : Type 0} (tells : Bool) (seen : L → Files) (now : L → ℕ) (leaves : L → ℕ → Files → Type 0) (faults : L → ℕ) (old : EngineView L D C) (f : Aloft) (s : ℕ) → find (λ w. w.s == s) old.tablet.core.aloft ≡ Some f → IsEngine tells seen now leaves faults old → 0 < old.log.room

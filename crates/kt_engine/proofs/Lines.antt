@@ -63,17 +63,11 @@ line_logged tells seen view e a c turns stopped clock is quiet up = record {
   all = is.all;
   count = is.count;
   begins = is.begins;
+  stands = record { log = is.stands.log; last = (let low = is.stands.last in omega arith); flying = is.stands.flying };
   keeps = λ first h.
       let keeps = is.keeps first (record { opens = h.opens; recalls = h.recalls }) in
       let core = core_from view first in
-      let low = keeps.last in
-      record {
-        log = keeps.log;
-        told = keeps.told;
-        writes = keeps.writes ∙ sym (past_line core e ∙ past_after core.work (state_after core.work (start core.work first core.opened) core.trail) e quiet);
-        last = omega arith;
-        flying = keeps.flying;
-      };
+      record { told = keeps.told; writes = keeps.writes ∙ sym (past_line core e ∙ past_after core.work (state_after core.work (start core.work first core.opened) core.trail) e quiet) };
   names = is.names;
   framed = is.framed;
   durable = is.durable;

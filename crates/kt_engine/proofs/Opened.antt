@@ -51,12 +51,14 @@ is_opened tells seen now leaves faults tablet journal records queued store devic
     all = λ t. ap (λ l. l ++ queued) (sym (reads t));
     count = omega (arith, length-append records queued);
     begins = λ t. ([], reads t ∙ sym (append-nil records));
-    keeps = λ past is. let t = told past is.opens is.recalls in record {
+    stands = record {
       log = log;
-      told = t.0;
-      writes = t.1 ∙ ap (λ (es : List Event). (state_after tablet.core.work (start tablet.core.work past tablet.core.opened) es).past) (sym trail);
       last = last;
       flying = subst (λ (ws : List Aloft). All (Waits (records ++ queued) []) ws) (sym aloft) (all_none (Waits (records ++ queued) []));
+    };
+    keeps = λ past is. let t = told past is.opens is.recalls in record {
+      told = t.0;
+      writes = t.1 ∙ ap (λ (es : List Event). (state_after tablet.core.work (start tablet.core.work past tablet.core.opened) es).past) (sym trail);
     };
     names = names;
     framed = framed_all (newest_first [] records) queued (order_rest [] records queued log);

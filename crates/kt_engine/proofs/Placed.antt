@@ -18,7 +18,7 @@ pub placed_among : {L D C : Type 0} (tells : Bool) (seen : L → Files) (now : L
     → All (IsPlaced (view.log.known.count + length (view.log.out ++ view.log.queued)) view.places) view.tablet.core.aloft
 placed_among tells seen now leaves faults view e =
     let logged = e.logged in
-    let each = (logged.keeps e.found.0 e.found.1).flying in
+    let each = logged.stands.flying in
     all_each (Waits (view.records ++ logged.run) view.places) (IsPlaced (view.log.known.count + length (view.log.out ++ view.log.queued)) view.places) view.tablet.core.aloft
     (λ w waits. record { place = suc waits.n; at = waits.place; among = subst (λ many. suc waits.n ≤ many) logged.count (within (view.records ++ logged.run) waits.n _ waits.there) }) each
 
@@ -27,7 +27,7 @@ pub placed_there : {L D C : Type 0} (tells : Bool) (seen : L → Files) (now : L
     → All (IsThere (all_of seen view.log) view.places) view.tablet.core.aloft
 placed_there tells seen now leaves faults view e told =
     let logged = e.logged in
-    let each = (logged.keeps e.found.0 e.found.1).flying in
+    let each = logged.stands.flying in
     subst (λ records. All (IsThere records view.places) view.tablet.core.aloft) (logged.all told)
     (all_each (Waits (view.records ++ logged.run) view.places) (IsThere (view.records ++ logged.run) view.places) view.tablet.core.aloft
     (λ w waits. record { n = waits.n; place = waits.place; there = waits.there }) each)

@@ -25,14 +25,12 @@ plan_keeps {L} {D} {C} tells seen now leaves faults view tablet plan is fresh ne
         all = is.logged.all;
         count = is.logged.count;
         begins = is.logged.begins;
+        stands = record { log = is.logged.stands.log; last = is.logged.stands.last; flying = is.logged.stands.flying };
         keeps = λ first h.
             let keeps = is.logged.keeps first (record { opens = h.opens; recalls = h.recalls }) in
             record {
-              log = keeps.log;
               told = keeps.told;
               writes = keeps.writes ∙ past_at_first view.tablet.core.work first view.tablet.core.opened view.tablet.core.trail fresh ∙ sym (past_at_first work first view.tablet.core.opened view.tablet.core.trail fresh);
-              last = keeps.last;
-              flying = keeps.flying;
             };
         names = is.logged.names;
         framed = is.logged.framed;

@@ -16,6 +16,7 @@ running_keeps tells seen now leaves faults view running is = record {
     all = is.logged.all;
     count = is.logged.count;
     begins = is.logged.begins;
+    stands = is.logged.stands;
     keeps = λ first h. is.logged.keeps first (record { opens = h.opens; recalls = h.recalls });
     names = is.logged.names;
     framed = is.logged.framed;

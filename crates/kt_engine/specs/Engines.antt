@@ -16,7 +16,7 @@ use Rattle.kt_loglaws.specs.declared.side.LogNo.{LogNo as SideNo}
 use Rattle.kt_loglaws.specs.declared.side.LogNo.TheVariants as side
 use Rattle.kt_engine.specs.declared.log.LogNo.{LogNo}
 use Rattle.kt_engine.specs.declared.log.LogNo.TheVariants as no
-use Rattle.kt_engine.specs.Logged.{Recalls, KeepsRun, AreApart, IsDurable, AcknowledgedIn, NamesOnly, HoldsFront, HoldsRun}
+use Rattle.kt_engine.specs.Logged.{Recalls, LogStands, KeepsRun, AreApart, IsDurable, AcknowledgedIn, NamesOnly, HoldsFront, HoldsRun}
 
 -- the tablet, its log, the places of the REPLICATEs of flying writes, the records that opening found, and the log's device as it was
 -- handed in; the store device; and the numbers of the sessions that run
@@ -38,14 +38,15 @@ pub record IsContent {L D C : Type 0} (view : EngineView L D C) (first : Past) :
 abbrev pub core_from : {L D C : Type 0} → EngineView L D C → Past → Core
 core_from view first = record view.tablet.core { first = first }
 
--- the log keeps the run: where its device tells, what is durable, out and queued are the records, and what opening found is durable. The
--- run's COMMITs name the engine's store alone
+-- the log stands, and keeps the run for each past that opening found: where its device tells, what is durable, out and queued are the
+-- records, and what opening found is durable. The run's COMMITs name the engine's store alone
 pub record IsLogged {L D C : Type 0} (tells : Bool) (seen : L → Files) (view : EngineView L D C) : Type 0 where
   pub run : List Entry
   pub all : IsTrue tells → view.records ++ run ≡ all_of seen view.log
   pub count : length (view.records ++ run) ≡ view.log.known.count + length (view.log.out ++ view.log.queued)
   pub begins : IsTrue tells → (durable : List Entry) × (records_of (seen view.log.known.disk) ≡ view.records ++ durable)
-  pub keeps : (first : Past) → IsContent view first → KeepsRun (core_from view first) view.records view.places run
+  pub stands : LogStands view.tablet.core view.records view.places run
+  pub keeps : (first : Past) → IsContent view first → KeepsRun (core_from view first) view.records run
   pub names : All (NamesOnly view.tablet.target) run
   pub framed : All IsFramed (view.log.out ++ view.log.queued)
   pub durable : IsTrue tells → All (IsDurable (records_of (seen view.log.known.disk))) view.tablet.core.aloft

@@ -79,14 +79,17 @@ abbrev pub NamesOnly : Target → Entry → Type 0
 NamesOnly target (Replicate ts ops) = Unit {0}
 NamesOnly target (Commit ts rows) = All (λ row. All (λ named. named ≡ target) row.targets) rows
 
--- The records of an engine: those that opening found, and behind them those of the run. They are a log that holds the run's
--- past, each COMMIT tells what became of its write, and each write that flies waits for its own.
-pub record KeepsRun (core : Core) (records : List Entry) (places : List (ℕ × ℕ)) (run : List Entry) : Type 0 where
+-- The records of an engine, whatever opening found: those that it found, and behind them those of the run, are a log; no record is
+-- later than the last timestamp; and each write that flies waits for its COMMIT.
+pub record LogStands (core : Core) (records : List Entry) (places : List (ℕ × ℕ)) (run : List Entry) : Type 0 where
   pub log : IsLog (records ++ run)
-  pub told : AllTold core.work.fill records core.first run
-  pub writes : with_records core.work.fill core.first run ≡ run_past core
   pub last : last_of (records ++ run) ≤ core.c
   pub flying : All (Waits (records ++ run) places) core.aloft
+
+-- And for a past that it found: each COMMIT of the run tells what became of its write, and the records hold the run's past.
+pub record KeepsRun (core : Core) (records : List Entry) (run : List Entry) : Type 0 where
+  pub told : AllTold core.work.fill records core.first run
+  pub writes : with_records core.work.fill core.first run ≡ run_past core
 
 -- A crash left this image: the records that opening found and some of the run, whose COMMITs name the engine's store alone. It holds the
 -- opened past with the run's writes up to some time, each acknowledged one among them, and nothing later than the run's last timestamp.
