@@ -19,6 +19,7 @@ use Rattle.kt_tablet.specs.Visits.{HasApplied}
 use Rattle.kt_engine.specs.Logged.{Waits, IsDurable, place_of}
 use Rattle.kt_engine.specs.Engines.{EngineView, IsEngine}
 use Rattle.kt_engine.proofs.Lists.{all_head, all_tail, all_cons, all_found, found_passes, get_among}
+use Rattle.kt_engine.proofs.Runs.{not_true}
 use Rattle.kt_engine.proofs.Places.{advanced_sessions, advanced_length, advanced_all, advanced_apart, is_session}
 
 -- a row more of a write whose REPLICATE is durable
@@ -74,6 +75,7 @@ with_applied tells seen now leaves faults old s j place f op new e flies next at
       others = e.others;
       lent = e.lent;
       whole = e.whole;
+      stops = record { goes = e.stops.goes; stopped = e.stops.stopped };
       ready = record { room = subst (λ (n : ℕ). n ≤ old.log.room) (sym (advanced_length j core.aloft)) e.ready.room; apart = advanced_apart j core.aloft e.ready.apart; number = e.ready.number; target = e.ready.target; above = e.ready.above; fits = e.ready.fits };
       placed = e.placed ∙ sym (advanced_sessions j core.aloft);
     }
@@ -84,11 +86,6 @@ pub has_applied : {L D C : Type 0} (tells : Bool) (seen : L → Files) (now : L 
     → IsEngine tells seen now leaves faults old → IsEngine tells seen now leaves faults (record old { tablet = tablet })
 has_applied {L} {D} {C} tells seen now leaves faults old tablet s at place outcome beside h is low e =
     subst (λ (t : View C). IsEngine tells seen now leaves faults (record old { tablet = t })) (sym (beside ∙ ap (λ (k : Core). record old.tablet { core = k; pool = tablet.pool }) h.core)) (with_applied tells seen now leaves faults old s h.j place h.flight h.op tablet e h.flies h.next is low)
-
--- what would make an answer of another kind is not so
-pub not_true : (b : Bool) → (b ≡ true → false ≡ true) → b ≡ false
-not_true true h = sym (h refl)
-not_true false h = refl
 
 -- a row that has been applied, or not, where the tablet has stopped
 pub applied_or_not : {L D C : Type 0} (tells : Bool) (seen : L → Files) (now : L → ℕ) (leaves : L → ℕ → Files → Type 0) (faults : L → ℕ) (old : EngineView L D C) (tablet : View C) (s at : ℕ) (result : Result Outcome Stopped)

@@ -1,10 +1,10 @@
 -- What the beginning of a write keeps of an engine.
-use Rattle.std.proofs.Common.{◌≡◌, ℕ, suc, ◌+◌, ◌-◌, ◌<◌, ◌≤◌, ◌^◌, List, [], ◌∷◌, ◌++◌, length, map, Some, refl, sym, false, Bool, cond, ap, ◌∙◌, subst, arith, append_assoc, length-append}
-use Rattle.std.specs.Prelude.{◌==◌}
+use Rattle.std.proofs.Common.{◌≡◌, ℕ, suc, ◌+◌, ◌-◌, ◌<◌, ◌≤◌, ◌^◌, List, [], ◌∷◌, ◌++◌, length, map, Some, refl, sym, true, false, Bool, cond, ap, ◌∙◌, subst, arith, append_assoc, length-append}
+use Rattle.std.specs.Prelude.{◌==◌, Result, Err}
 use Rattle.std.specs.List.{All, list_any}
 use Rattle.std.proofs.lemmas.List.{map-append, length-map}
 use Rattle.kt_disk.specs.Disk.{Files}
-use Rattle.kt_history.specs.declared.event.Event.TheVariants.{Begin, Large}
+use Rattle.kt_history.specs.declared.event.Event.TheVariants.{Begin, Large, Stop}
 use Rattle.kt_history.specs.declared.operation.RowOp.{RowOp}
 use Rattle.kt_history.specs.Machine.{IfWrite, command_at, next_timestamp}
 use Rattle.kt_records.specs.declared.entry.Entry.{Entry}
@@ -28,7 +28,7 @@ use Rattle.kt_engine.specs.Engines.{EngineView, core_from, IsEngine}
 use Rattle.kt_engine.proofs.Lists.{all_each, all_more, get_end}
 use Rattle.kt_engine.proofs.Places.{place-new, any_session, apart_more}
 use Rattle.kt_engine.proofs.Records.{newest-append, order_more, last_of-replicate, below_last, above_log, ops_of-new, waits_on, all_parts, count_parts, framed_parts}
-use Rattle.kt_engine.proofs.Runs.{past_line, past_begun, acknowledged_more}
+use Rattle.kt_engine.proofs.Runs.{past_line, past_begun, acknowledged_more, stop_line, goes_still, err_is}
 
 -- more room
 pub with_room : {L D C : Type 0} (tells : Bool) (seen : L → Files) (now : L → ℕ) (leaves : L → ℕ → Files → Type 0) (faults : L → ℕ) (old : EngineView L D C) (room : ℕ) → old.log.room ≤ room → IsEngine tells seen now leaves faults old → IsEngine tells seen now leaves faults (record old { log = record old.log { room = room } })
@@ -50,14 +50,15 @@ with_room tells seen now leaves faults old room more e = record {
   others = e.others;
   lent = e.lent;
   whole = e.whole;
+  stops = e.stops;
   ready = record { room = (let low = e.ready.room in omega arith); apart = e.ready.apart; number = e.ready.number; target = e.ready.target; above = e.ready.above; fits = e.ready.fits };
   placed = e.placed;
 }
 
 -- a write that is too large leaves its line
-pub with_large : {L D C : Type 0} (tells : Bool) (seen : L → Files) (now : L → ℕ) (leaves : L → ℕ → Files → Type 0) (faults : L → ℕ) (old : EngineView L D C) (s i n : ℕ) (new : View C) → IsEngine tells seen now leaves faults old
+pub with_large : {L D C : Type 0} (tells : Bool) (seen : L → Files) (now : L → ℕ) (leaves : L → ℕ → Files → Type 0) (faults : L → ℕ) (old : EngineView L D C) (s i n : ℕ) (new : View C) → IsEngine tells seen now leaves faults old → old.tablet.core.stopped ≡ false
     → IsEngine tells seen now leaves faults (record old { tablet = record old.tablet { core = answered old.tablet.core s i (Large s i n); clock = new.clock; pool = new.pool } })
-with_large tells seen now leaves faults old s i n new e = record {
+with_large tells seen now leaves faults old s i n new e goes = record {
   found = (e.found.0, record { opens = e.found.1.opens; recalls = e.found.1.recalls });
   logged = record {
     run = e.logged.run;
@@ -78,6 +79,7 @@ with_large tells seen now leaves faults old s i n new e = record {
   others = e.others;
   lent = e.lent;
   whole = e.whole;
+  stops = stop_line old.tablet.core (answered old.tablet.core s i (Large s i n)) (Large s i n) e.stops goes (λ is. let no : Large s i n ≡ Stop = is in cc) refl refl;
   ready = record { room = e.ready.room; apart = e.ready.apart; number = e.ready.number; target = e.ready.target; above = e.ready.above; fits = e.ready.fits };
   placed = e.placed;
 }
@@ -115,10 +117,10 @@ begun_run core records run s i ts m ops up is k =
 
 -- a write begins, in the room that was made for it
 pub with_begun : {L D C : Type 0} (tells : Bool) (seen : L → Files) (now : L → ℕ) (leaves : L → ℕ → Files → Type 0) (faults : L → ℕ) (old : EngineView L D C) (s i ts m place : ℕ) (ops : List RowOp) (new : View C) → IsEngine tells seen now leaves faults old
-    → MayBegin old.tablet.core s i ops → IsShort ops → ts ≡ next_timestamp old.tablet.core.c m → ts < 2 ^ 64 → length old.places + 2 ≤ old.log.room
+    → old.tablet.core.stopped ≡ false → MayBegin old.tablet.core s i ops → IsShort ops → ts ≡ next_timestamp old.tablet.core.c m → ts < 2 ^ 64 → length old.places + 2 ≤ old.log.room
     → place ≡ old.log.known.count + length old.log.out + length old.log.queued + 1
     → IsEngine tells seen now leaves faults (record old { tablet = record old.tablet { core = begun old.tablet.core s i ts m ops; clock = new.clock; pool = new.pool }; log = record old.log { queued = old.log.queued ++ Replicate ts ops ∷ []; room = old.log.room - 1 }; places = old.places ++ (s, place) ∷ [] })
-with_begun tells seen now leaves faults old s i ts m place ops new e may short next fits room at =
+with_begun tells seen now leaves faults old s i ts m place ops new e goes may short next fits room at =
     let core = old.tablet.core in
     let above : core.c < ts = omega arith in
     let framed : IsFramed (Replicate ts ops) = record { keeps = record { ts = fits; count = may.count; ops = may.each }; short = short ts } in
@@ -145,6 +147,7 @@ with_begun tells seen now leaves faults old s i ts m place ops new e may short n
       others = e.others;
       lent = e.lent;
       whole = e.whole;
+      stops = stop_line core (begun core s i ts m ops) (Begin s i ts m) e.stops goes (λ is. let no : Begin s i ts m ≡ Stop = is in cc) refl refl;
       ready = record {
         room =
             let a = length-append core.aloft (record { s = s; i = i; ts = ts; ops = ops; applied = 0 } ∷ []) in
@@ -180,25 +183,25 @@ pub may_on : {C : Type 0} (old tablet : View C) (s i : ℕ) (ops : List RowOp) �
 may_on {C} old tablet s i ops same may = subst (λ (t : View C). MayBegin t.core s i ops) (sym same) may
 
 -- a write that does not begin
-pub left_alone : {L D C : Type 0} (tells : Bool) (seen : L → Files) (now : L → ℕ) (leaves : L → ℕ → Files → Type 0) (faults : L → ℕ) (old : EngineView L D C) (tablet : View C) (s i : ℕ) (why : BeginNo)
-    → tablet ≡ record old.tablet { core = tablet.core; clock = tablet.clock; pool = tablet.pool } → Leaves old.tablet tablet s i why → IsEngine tells seen now leaves faults old → IsEngine tells seen now leaves faults (record old { tablet = tablet })
-left_alone {L} {D} {C} tells seen now leaves faults old tablet s i no.Stopped beside h e = subst (λ (t : View C). IsEngine tells seen now leaves faults (record old { tablet = t })) (sym h) e
-left_alone {L} {D} {C} tells seen now leaves faults old tablet s i (no.Large n) beside h e =
-    subst (λ (t : View C). IsEngine tells seen now leaves faults (record old { tablet = t })) (sym (beside ∙ ap (λ (k : Core). record old.tablet { core = k; clock = tablet.clock; pool = tablet.pool }) h)) (with_large tells seen now leaves faults old s i n tablet e)
-left_alone {L} {D} {C} tells seen now leaves faults old tablet s i (no.Wait ts) beside h e = subst (λ (t : View C). IsEngine tells seen now leaves faults (record old { tablet = t })) (sym h) e
-left_alone {L} {D} {C} tells seen now leaves faults old tablet s i (no.Room n left) beside h e = subst (λ (t : View C). IsEngine tells seen now leaves faults (record old { tablet = t })) (sym h) e
-left_alone {L} {D} {C} tells seen now leaves faults old tablet s i no.Memory beside h e = subst (λ (t : View C). IsEngine tells seen now leaves faults (record old { tablet = t })) (sym h) e
+pub left_alone : {L D C T : Type 0} (tells : Bool) (seen : L → Files) (now : L → ℕ) (leaves : L → ℕ → Files → Type 0) (faults : L → ℕ) (old : EngineView L D C) (tablet : View C) (s i : ℕ) (r : Result T BeginNo) (why : BeginNo)
+    → r ≡ Err why → (old.tablet.core.stopped ≡ true → r ≡ Err no.Stopped) → tablet ≡ record old.tablet { core = tablet.core; clock = tablet.clock; pool = tablet.pool } → Leaves old.tablet tablet s i why → IsEngine tells seen now leaves faults old → IsEngine tells seen now leaves faults (record old { tablet = tablet })
+left_alone {L} {D} {C} tells seen now leaves faults old tablet s i r no.Stopped was stops beside h e = subst (λ (t : View C). IsEngine tells seen now leaves faults (record old { tablet = t })) (sym h) e
+left_alone {L} {D} {C} tells seen now leaves faults old tablet s i r (no.Large n) was stops beside h e =
+    subst (λ (t : View C). IsEngine tells seen now leaves faults (record old { tablet = t })) (sym (beside ∙ ap (λ (k : Core). record old.tablet { core = k; clock = tablet.clock; pool = tablet.pool }) h)) (with_large tells seen now leaves faults old s i n tablet e (goes_still old.tablet.core.stopped r no.Stopped stops (λ k. let other : no.Large n ≡ no.Stopped = err_is (no.Large n) no.Stopped r was k in cc)))
+left_alone {L} {D} {C} tells seen now leaves faults old tablet s i r (no.Wait ts) was stops beside h e = subst (λ (t : View C). IsEngine tells seen now leaves faults (record old { tablet = t })) (sym h) e
+left_alone {L} {D} {C} tells seen now leaves faults old tablet s i r (no.Room n left) was stops beside h e = subst (λ (t : View C). IsEngine tells seen now leaves faults (record old { tablet = t })) (sym h) e
+left_alone {L} {D} {C} tells seen now leaves faults old tablet s i r no.Memory was stops beside h e = subst (λ (t : View C). IsEngine tells seen now leaves faults (record old { tablet = t })) (sym h) e
 
 -- a write that has begun, with a copy of its operations in the tablet and one in the log
 pub has_begun : {L D C : Type 0} (tells : Bool) (seen : L → Files) (now : L → ℕ) (leaves : L → ℕ → Files → Type 0) (faults : L → ℕ) (old : EngineView L D C) (tablet : View C) (log : SideView L) (places : List (ℕ × ℕ)) (s i ts place : ℕ) (ops held logged : List RowOp)
     → held ≡ ops → logged ≡ ops → tablet ≡ record old.tablet { core = tablet.core; clock = tablet.clock; pool = tablet.pool } → HasBegun old.tablet.core tablet.core s i held ts → log ≡ record old.log { queued = old.log.queued ++ Replicate ts logged ∷ []; room = old.log.room - 1 }
-    → places ≡ old.places ++ (s, place) ∷ [] → MayBegin old.tablet.core s i ops → IsShort ops → ts < 2 ^ 64 → length old.places + 2 ≤ old.log.room → place ≡ old.log.known.count + length old.log.out + length old.log.queued + 1
+    → places ≡ old.places ++ (s, place) ∷ [] → old.tablet.core.stopped ≡ false → MayBegin old.tablet.core s i ops → IsShort ops → ts < 2 ^ 64 → length old.places + 2 ≤ old.log.room → place ≡ old.log.known.count + length old.log.out + length old.log.queued + 1
     → IsEngine tells seen now leaves faults old → IsEngine tells seen now leaves faults (record old { tablet = tablet; log = log; places = places })
-has_begun {L} {D} {C} tells seen now leaves faults old tablet log places s i ts place ops held logged same_held same_logged beside begins is_log is_places may short fits room at e =
+has_begun {L} {D} {C} tells seen now leaves faults old tablet log places s i ts place ops held logged same_held same_logged beside begins is_log is_places goes may short fits room at e =
     let is_core : tablet.core ≡ begun old.tablet.core s i ts begins.m ops = begins.core ∙ ap (λ (o : List RowOp). begun old.tablet.core s i ts begins.m o) same_held in
     let is_tablet : tablet ≡ record old.tablet { core = begun old.tablet.core s i ts begins.m ops; clock = tablet.clock; pool = tablet.pool } = beside ∙ ap (λ (k : Core). record old.tablet { core = k; clock = tablet.clock; pool = tablet.pool }) is_core in
     let is_log' : log ≡ record old.log { queued = old.log.queued ++ Replicate ts ops ∷ []; room = old.log.room - 1 } = is_log ∙ ap (λ (o : List RowOp). record old.log { queued = old.log.queued ++ Replicate ts o ∷ []; room = old.log.room - 1 }) same_logged in
     subst (λ (t : View C). IsEngine tells seen now leaves faults (record old { tablet = t; log = log; places = places })) (sym is_tablet)
     (subst (λ (l : SideView L). IsEngine tells seen now leaves faults (record old { tablet = record old.tablet { core = begun old.tablet.core s i ts begins.m ops; clock = tablet.clock; pool = tablet.pool }; log = l; places = places })) (sym is_log')
     (subst (λ (ps : List (ℕ × ℕ)). IsEngine tells seen now leaves faults (record old { tablet = record old.tablet { core = begun old.tablet.core s i ts begins.m ops; clock = tablet.clock; pool = tablet.pool }; log = record old.log { queued = old.log.queued ++ Replicate ts ops ∷ []; room = old.log.room - 1 }; places = ps })) (sym is_places)
-    (with_begun tells seen now leaves faults old s i ts begins.m place ops tablet e may short begins.time fits room at)))
+    (with_begun tells seen now leaves faults old s i ts begins.m place ops tablet e goes may short begins.time fits room at)))

@@ -1,5 +1,5 @@
 -- What a crash leaves of the run.
-use Rattle.std.proofs.Common.{◌≡◌, ℕ, ◌-◌, ◌<◌, ◌≤◌, zero, suc, max, List, [], ◌∷◌, ◌++◌, length, Ok, refl, sym, true, false, Bool, ◌&&◌, ap, ◌∙◌, arith, subst, get_or, inl, inr, append_assoc}
+use Rattle.std.proofs.Common.{◌≡◌, ℕ, ◌-◌, ◌<◌, ◌≤◌, zero, suc, max, List, [], ◌∷◌, ◌++◌, length, Some, Ok, refl, sym, true, false, Bool, ◌&&◌, ap, ◌∙◌, arith, subst, get_or, inl, inr, append_assoc}
 use Rattle.std.specs.Prelude.{IsTrue, nat_le, take, drop}
 use Rattle.std.specs.List.{All, filter}
 use Rattle.std.proofs.lemmas.Bool.{cases_lt}
@@ -27,8 +27,8 @@ use Rattle.kt_loglaws.specs.Fronts.{with_records, AllTold, upto}
 use Rattle.kt_loglaws.proofs.Fronts.{goes_on, fronts_hold}
 use Rattle.kt_histlaws.specs.Core.{Core, run_past, Stands}
 use Rattle.kt_tablet.specs.Views.{Opens}
-use Rattle.kt_engine.specs.Logged.{Recalls, KeepsRun, AcknowledgedIn, AcknowledgedBy, NamesOnly, HoldsFront, HoldsRun}
-use Rattle.kt_engine.specs.Engines.{EngineView, IsContent, IsEngine, Recovers, RecoversEach, RecoversAll, core_from}
+use Rattle.kt_engine.specs.Logged.{Recalls, KeepsRun, AcknowledgedIn, AcknowledgedBy, NamesOnly, HoldsRecords, HoldsFront, HoldsRun}
+use Rattle.kt_engine.specs.Engines.{EngineView, IsContent, IsLogged, IsEngine, LeavesRecords, Recovers, RecoversEach, RecoversAll, core_from}
 use Rattle.kt_engine.proofs.Devices.{acknowledged_longer}
 use Rattle.kt_engine.proofs.Lists.{all_front}
 use Rattle.kt_engine.proofs.Raised.{only_first, records_raised, told_raised, told_up, upto_less, upto_more, upto_raised, not_le}
@@ -186,36 +186,74 @@ engine_front tells seen now leaves faults view first durable rest image sound co
     (subst (λ (r : List Entry). IsLog (view.records ++ r)) run is.logged.stands.log) (subst (λ (r : List Entry). last_of (view.records ++ r) ≤ view.tablet.core.c) run is.logged.stands.last)
     (subst (λ (r : List Entry). KeepsRun (core_from view first) view.records r) run (is.logged.keeps first content)) content.recalls content.opens.ends (sound first content.opens).run.is_run acknowledged (subst (All (NamesOnly view.tablet.target)) run is.logged.names) reads
 
--- An image with what is durable and some records more has the run's writes up to a time, each acknowledged one among them.
+-- what is durable and some records more: those that opening found, and a front of the run
+record IsFront {L D C : Type 0} (seen : L → Files) (view : EngineView L D C) (run : List Entry) (n : ℕ) : Type 0 where
+  durable : List Entry
+  rest : List Entry
+  run_is : run ≡ durable ++ rest
+  records : records_of (seen view.log.known.disk) ++ take n (view.log.out ++ view.log.queued) ≡ view.records ++ durable
+
+front_at : {L D C : Type 0} (tells : Bool) (seen : L → Files) (view : EngineView L D C) (is : IsLogged tells seen view) → IsTrue tells → (n : ℕ) → IsFront seen view is.run n
+front_at tells seen view is t n =
+    let rest = view.log.out ++ view.log.queued in
+    let begins = is.begins t in
+    let durable = begins.0 in
+    let moved : view.records ++ is.run ≡ view.records ++ (durable ++ rest) = is.all t ∙ ap (λ (l : List Entry). l ++ rest) begins.1 ∙ append_assoc view.records durable rest in
+    record {
+      durable = durable ++ take n rest;
+      rest = drop n rest;
+      run_is = append_cancel_left view.records is.run (durable ++ rest) moved ∙ ap (λ (l : List Entry). durable ++ l) (sym (take-append-drop n rest)) ∙ sym (append_assoc durable (take n rest) (drop n rest));
+      records = ap (λ (l : List Entry). l ++ take n rest) begins.1 ∙ append_assoc view.records durable (take n rest);
+    }
+
+-- An image with what is durable and some records more has those that opening found and some of the run.
+records_each : {L D C : Type 0} (tells : Bool) (seen : L → Files) (view : EngineView L D C) (is : IsLogged tells seen view) → IsTrue tells → (n : ℕ) (image : Files)
+    → log_of image ≡ Ok (records_of (seen view.log.known.disk) ++ take n (view.log.out ++ view.log.queued)) → HoldsRecords view.records view.tablet.target image
+records_each tells seen view is t n image reads =
+    let at = front_at tells seen view is t n in
+    record { run = at.durable; reads = reads ∙ ap Ok at.records; names = all_front (NamesOnly view.tablet.target) at.durable at.rest (subst (All (NamesOnly view.tablet.target)) at.run_is is.names) }
+
+-- And it has the run's writes up to a time, each acknowledged one among them.
 pub recovers_each : {L D C : Type 0} (tells : Bool) (seen : L → Files) (now : L → ℕ) (leaves : L → ℕ → Files → Type 0) (faults : L → ℕ) (view : EngineView L D C)
     → IsEngine tells seen now leaves faults view → ((first : Past) → Opens view.tablet.opening view.tablet.mark view.tablet.core.opened first → Stands (record view.tablet.core { first = first }))
     → RecoversEach tells seen view
 recovers_each {L} {D} {C} tells seen now leaves faults view is sound first content t n image reads =
-    let known = records_of (seen view.log.known.disk) in
-    let rest = view.log.out ++ view.log.queued in
-    let begins = is.logged.begins t in
-    let durable = begins.0 in
-    let moved : view.records ++ is.logged.run ≡ view.records ++ (durable ++ rest) = is.logged.all t ∙ ap (λ (l : List Entry). l ++ rest) begins.1 ∙ append_assoc view.records durable rest in
-    let run : is.logged.run ≡ durable ++ rest = append_cancel_left view.records is.logged.run (durable ++ rest) moved in
-    let cut : durable ++ rest ≡ (durable ++ take n rest) ++ drop n rest = ap (λ (l : List Entry). durable ++ l) (sym (take-append-drop n rest)) ∙ sym (append_assoc durable (take n rest) (drop n rest)) in
-    let longer : known ++ take n rest ≡ view.records ++ (durable ++ take n rest) = ap (λ (l : List Entry). l ++ take n rest) begins.1 ∙ append_assoc view.records durable (take n rest) in
-    engine_front tells seen now leaves faults view first (durable ++ take n rest) (drop n rest) image sound content is (run ∙ cut)
-    (subst (λ (l : List Entry). AcknowledgedIn l view.tablet.core.trail) longer (acknowledged_longer known (take n rest) view.tablet.core.trail (is.logged.acknowledged t))) (reads ∙ ap Ok longer)
+    let at = front_at tells seen view is.logged t n in
+    engine_front tells seen now leaves faults view first at.durable at.rest image sound content is at.run_is
+    (subst (λ (l : List Entry). AcknowledgedIn l view.tablet.core.trail) at.records (acknowledged_longer (records_of (seen view.log.known.disk)) (take n (view.log.out ++ view.log.queued)) view.tablet.core.trail (is.logged.acknowledged t))) (reads ∙ ap Ok at.records)
 
--- A crash leaves the run's writes up to a time, each acknowledged one among them.
-pub recovers : {L D C : Type 0} (tells : Bool) (seen : L → Files) (now : L → ℕ) (leaves : L → ℕ → Files → Type 0) (faults : L → ℕ) (view : EngineView L D C)
-    → IsEngine tells seen now leaves faults view → ((first : Past) → Opens view.tablet.opening view.tablet.mark view.tablet.core.opened first → Stands (record view.tablet.core { first = first }))
-    → (IsTrue tells → Holds now leaves view.log.known.disk (records_of (seen view.log.known.disk))) → Recovers tells now leaves view
-recovers {L} {D} {C} tells seen now leaves faults view is sound held first content t journal at image left =
+-- an image has what is durable, and some records more
+abbrev HasSome : {L D C : Type 0} → (L → Files) → EngineView L D C → Files → Type 0
+HasSome seen view image = (n : ℕ) × (log_of image ≡ Ok (records_of (seen view.log.known.disk) ++ take n (view.log.out ++ view.log.queued)))
+
+-- so has each that a crash may leave now
+leaves_some : {L D C : Type 0} (tells : Bool) (seen : L → Files) (now : L → ℕ) (leaves : L → ℕ → Files → Type 0) (faults : L → ℕ) (view : EngineView L D C)
+    → IsEngine tells seen now leaves faults view → (IsTrue tells → Holds now leaves view.log.known.disk (records_of (seen view.log.known.disk)))
+    → IsTrue tells → (journal : JournalView L) → view.log.home ≡ Some journal → (image : Files) → leaves journal.disk (now journal.disk) image → HasSome seen view image
+leaves_some {L} {D} {C} tells seen now leaves faults view is held t journal at image left =
     let known = records_of (seen view.log.known.disk) in
-    let each = recovers_each tells seen now leaves faults view is sound first content t in
-    let old = λ (reads : log_of image ≡ Ok known). each 0 image (reads ∙ ap Ok (sym (append-nil known))) in
-    let both = λ (reads : log_of image ≡ Ok (known ++ view.log.out)). each (length view.log.out) image (reads ∙ ap (λ (l : List Entry). Ok (known ++ l)) (sym (take-append_seam view.log.out view.log.queued))) in
+    let old : log_of image ≡ Ok known → HasSome seen view image = λ reads. (0, reads ∙ ap Ok (sym (append-nil known))) in
+    let both : log_of image ≡ Ok (known ++ view.log.out) → HasSome seen view image = λ reads. (length view.log.out, reads ∙ ap (λ (l : List Entry). Ok (known ++ l)) (sym (take-append_seam view.log.out view.log.queued))) in
     let home = is.home journal at in
-    elim view.tablet.core.stopped as (λ b. view.tablet.core.stopped ≡ b → HoldsFront (core_from view first) view.records view.tablet.target image) [
+    elim view.tablet.core.stopped as (λ b. view.tablet.core.stopped ≡ b → HasSome seen view image) [
       | false ↦ λ goes. old (held t image (subst (λ (j : JournalView L). leaves j.disk (now j.disk) image) (home.known goes).0 left))
       | true ↦ λ stopped. elim (home.images stopped t image left).1 [ inl reads ↦ old reads | inr reads ↦ both reads ]
     ] refl
+
+-- A crash leaves the records that opening found and some of the run.
+pub leaves_records : {L D C : Type 0} (tells : Bool) (seen : L → Files) (now : L → ℕ) (leaves : L → ℕ → Files → Type 0) (faults : L → ℕ) (view : EngineView L D C)
+    → IsEngine tells seen now leaves faults view → (IsTrue tells → Holds now leaves view.log.known.disk (records_of (seen view.log.known.disk))) → LeavesRecords tells now leaves view
+leaves_records tells seen now leaves faults view is held t journal at image left =
+    let some = leaves_some tells seen now leaves faults view is held t journal at image left in
+    records_each tells seen view is.logged t some.0 image some.1
+
+-- It leaves the run's writes up to a time, each acknowledged one among them.
+pub recovers : {L D C : Type 0} (tells : Bool) (seen : L → Files) (now : L → ℕ) (leaves : L → ℕ → Files → Type 0) (faults : L → ℕ) (view : EngineView L D C)
+    → IsEngine tells seen now leaves faults view → ((first : Past) → Opens view.tablet.opening view.tablet.mark view.tablet.core.opened first → Stands (record view.tablet.core { first = first }))
+    → (IsTrue tells → Holds now leaves view.log.known.disk (records_of (seen view.log.known.disk))) → Recovers tells now leaves view
+recovers tells seen now leaves faults view is sound held first content t journal at image left =
+    let some = leaves_some tells seen now leaves faults view is held t journal at image left in
+    recovers_each tells seen now leaves faults view is sound first content t some.0 image some.1
 
 -- And all of them, where nothing waits and nothing has stopped it.
 pub recovers_all : {L D C : Type 0} (tells : Bool) (seen : L → Files) (now : L → ℕ) (leaves : L → ℕ → Files → Type 0) (faults : L → ℕ) (view : EngineView L D C)

@@ -68,6 +68,7 @@ lends {L} {D} {C} tells seen now leaves faults view log journal number is goes a
       others = is.others;
       lent = λ by h. (low, goes);
       whole = is.whole;
+      stops = is.stops;
       ready = record { room = is.ready.room; apart = is.ready.apart; number = is.ready.number; target = is.ready.target; above = is.ready.above; fits = is.ready.fits };
       placed = is.placed;
     })
@@ -111,6 +112,7 @@ comes_home {L} {D} {C} tells seen now leaves faults view log journal number is h
       others = kept;
       lent = λ by h. absurd (let none : None ≡ Some by = h in cc);
       whole = is.whole;
+      stops = is.stops;
       ready = record { room = is.ready.room; apart = is.ready.apart; number = is.ready.number; target = is.ready.target; above = is.ready.above; fits = is.ready.fits };
       placed = is.placed;
     })
@@ -151,6 +153,7 @@ comes_back {L} {D} {C} tells seen now leaves faults view log journal number is h
       others = is.others;
       lent = λ by h. absurd (let none : None ≡ Some by = h in cc);
       whole = is.whole;
+      stops = is.stops;
       ready = record { room = is.ready.room; apart = is.ready.apart; number = is.ready.number; target = is.ready.target; above = is.ready.above; fits = is.ready.fits };
       placed = is.placed;
     })
@@ -196,6 +199,7 @@ breaks {L} {D} {C} tells seen now leaves faults view tablet log journal number i
       others = is.others;
       lent = λ by h. absurd (let none : None ≡ Some by = h in cc);
       whole = (λ k. absurd (let a : true ≡ false = k in cc), λ k. absurd (let a : false ≡ true = k in cc));
+      stops = record { goes = λ k. absurd (let a : true ≡ false = k in cc); stopped = λ k. (view.tablet.core.trail, refl) };
       ready = record { room = is.ready.room; apart = is.ready.apart; number = is.ready.number; target = is.ready.target; above = is.ready.above; fits = is.ready.fits };
       placed = is.placed;
     } in

@@ -1,11 +1,11 @@
 -- What the end of a write keeps of an engine.
-use Rattle.std.proofs.Common.{◌≡◌, ℕ, ◌-◌, ◌<◌, ◌≤◌, ◌^◌, List, [], ◌∷◌, ◌++◌, length, map, Some, sym, true, false, Bool, ap, ◌∙◌, subst, arith, not, get_or, append_assoc, length-drop, drop}
+use Rattle.std.proofs.Common.{◌≡◌, ℕ, ◌-◌, ◌<◌, ◌≤◌, ◌^◌, List, [], ◌∷◌, ◌++◌, length, map, Some, refl, sym, true, false, Bool, ap, ◌∙◌, subst, arith, not, get_or, append_assoc, length-drop, drop}
 use Rattle.std.specs.Prelude.{◌==◌}
 use Rattle.std.specs.List.{All, find, filter}
 use Rattle.std.proofs.lemmas.List.{length-map}
 use Rattle.kt_disk.specs.Disk.{Files}
 use Rattle.kt_history.specs.declared.change.Outcome.{Outcome}
-use Rattle.kt_history.specs.declared.event.Event.TheVariants.{End}
+use Rattle.kt_history.specs.declared.event.Event.TheVariants.{End, Stop}
 use Rattle.kt_history.specs.declared.target.Target.{Target}
 use Rattle.kt_history.specs.declared.target.Target.TheVariants.{Mem}
 use Rattle.kt_history.specs.History.{Past, rows_at}
@@ -33,7 +33,7 @@ use Rattle.kt_engine.proofs.Lists.{all_more, all_passing, all_found, fewer, map-
 use Rattle.kt_engine.proofs.Places.{place-kept, others_apart, turned, apart_fewer, over_found, is_other}
 use Rattle.kt_engine.proofs.Records.{order_more, framed_at, last_of-commit, waits_behind, all_parts, count_parts, framed_parts}
 use Rattle.kt_engine.proofs.Commits.{rows_tell, held_few, commit_framed, commit_names}
-use Rattle.kt_engine.proofs.Runs.{past_line, acknowledged_more}
+use Rattle.kt_engine.proofs.Runs.{past_line, acknowledged_more, stop_line}
 
 -- what the rows of a COMMIT are, of the write that flies
 is_rows : (core : Core) (number s : ℕ) (f : Aloft) (outcomes : List Outcome) (rows : List CommitRow) → find (λ w. w.s == s) core.aloft ≡ Some f → IsDone core (Mem number) s outcomes rows → rows ≡ map (commit_row (Mem number)) (outcomes_on core.work.fill (rows_at (run_past core) (f.ts - 1)) f.ops)
@@ -92,10 +92,10 @@ some_applied : (f : Aloft) → 0 < length f.ops → drop f.applied f.ops ≡ [] 
 some_applied f more none = let a = length-drop f.applied f.ops in let b = ap length none in omega arith
 
 with_ended : {L D C : Type 0} (tells : Bool) (seen : L → Files) (now : L → ℕ) (leaves : L → ℕ → Files → Type 0) (faults : L → ℕ) (old : EngineView L D C) (s i : ℕ) (f : Aloft) (outcomes : List Outcome) (rows : List CommitRow) → IsEngine tells seen now leaves faults old
-    → find (λ w. w.s == s) old.tablet.core.aloft ≡ Some f → IsOver s old.tablet.core.aloft → length outcomes ≡ length f.ops → rows ≡ map (commit_row old.tablet.target) outcomes
+    → old.tablet.core.stopped ≡ false → find (λ w. w.s == s) old.tablet.core.aloft ≡ Some f → IsOver s old.tablet.core.aloft → length outcomes ≡ length f.ops → rows ≡ map (commit_row old.tablet.target) outcomes
     → ((number : ℕ) → old.tablet.target ≡ Mem number → (first : Past) → IsContent old first → rows ≡ map (commit_row (Mem number)) (outcomes_on old.tablet.core.work.fill (rows_at (run_past (core_from old first)) (f.ts - 1)) f.ops))
     → IsEngine tells seen now leaves faults (record old { tablet = record old.tablet { core = ended old.tablet.core s i f.ts }; log = record old.log { queued = old.log.queued ++ Commit f.ts rows ∷ []; room = old.log.room - 1 }; places = filter (λ p. not (p.0 == s)) old.places })
-with_ended tells seen now leaves faults old s i f outcomes rows e flies over each is told =
+with_ended tells seen now leaves faults old s i f outcomes rows e goes flies over each is told =
     let core = old.tablet.core in
     let content = told e.ready.number e.ready.target in
     let k = e.logged.stands in
@@ -124,6 +124,7 @@ with_ended tells seen now leaves faults old s i f outcomes rows e flies over eac
       others = e.others;
       lent = e.lent;
       whole = e.whole;
+      stops = stop_line core (ended core s i f.ts) (End s i f.ts) e.stops goes (λ is. let no : End s i f.ts ≡ Stop = is in cc) refl refl;
       ready = record {
         room = (let less = fewer (λ (w : Aloft). w.s == s) core.aloft f flies in let low = e.ready.room in omega arith);
         apart = apart_fewer (λ w. not (w.s == s)) core.aloft e.ready.apart;
@@ -138,9 +139,9 @@ with_ended tells seen now leaves faults old s i f outcomes rows e flies over eac
 -- a write that has ended
 pub has_ended : {L D C : Type 0} (tells : Bool) (seen : L → Files) (now : L → ℕ) (leaves : L → ℕ → Files → Type 0) (faults : L → ℕ) (old : EngineView L D C) (tablet : View C) (log : SideView L) (places : List (ℕ × ℕ)) (s i ts : ℕ) (outcomes : List Outcome) (rows : List CommitRow)
     → tablet ≡ record old.tablet { core = tablet.core } → HasEnded old.tablet.core tablet.core s i ts → log ≡ record old.log { queued = old.log.queued ++ Commit ts rows ∷ []; room = old.log.room - 1 } → places ≡ filter (λ p. not (p.0 == s)) old.places
-    → MayEnd old.tablet.core s → ((first : Past) → Opens old.tablet.opening old.tablet.mark old.tablet.core.opened first → IsDone (record old.tablet.core { first = first }) old.tablet.target s outcomes rows)
+    → old.tablet.core.stopped ≡ false → MayEnd old.tablet.core s → ((first : Past) → Opens old.tablet.opening old.tablet.mark old.tablet.core.opened first → IsDone (record old.tablet.core { first = first }) old.tablet.target s outcomes rows)
     → IsEngine tells seen now leaves faults old → IsEngine tells seen now leaves faults (record old { tablet = tablet; log = log; places = places })
-has_ended {L} {D} {C} tells seen now leaves faults old tablet log places s i ts outcomes rows beside h is_log is_places may done e =
+has_ended {L} {D} {C} tells seen now leaves faults old tablet log places s i ts outcomes rows beside h is_log is_places goes may done e =
     let core = old.tablet.core in
     let f = h.flight in
     let d = done e.found.0 e.found.1.opens in
@@ -151,7 +152,7 @@ has_ended {L} {D} {C} tells seen now leaves faults old tablet log places s i ts 
     subst (λ (t : View C). IsEngine tells seen now leaves faults (record old { tablet = t; log = log; places = places })) (sym (beside ∙ ap (λ (k : Core). record old.tablet { core = k }) is_core))
     (subst (λ (l : SideView L). IsEngine tells seen now leaves faults (record old { tablet = record old.tablet { core = ended core s i f.ts }; log = l; places = places })) (sym is_log')
     (subst (λ (ps : List (ℕ × ℕ)). IsEngine tells seen now leaves faults (record old { tablet = record old.tablet { core = ended core s i f.ts }; log = record old.log { queued = old.log.queued ++ Commit f.ts rows ∷ []; room = old.log.room - 1 }; places = ps })) (sym is_places)
-    (with_ended tells seen now leaves faults old s i f outcomes rows e h.flies may.over count d.told (λ number target first is. is_rows (core_from old first) number s f outcomes rows h.flies (subst (λ (t : Target). IsDone (core_from old first) t s outcomes rows) target (done first is.opens))))))
+    (with_ended tells seen now leaves faults old s i f outcomes rows e goes h.flies may.over count d.told (λ number target first is. is_rows (core_from old first) number s f outcomes rows h.flies (subst (λ (t : Target). IsDone (core_from old first) t s outcomes rows) target (done first is.opens))))))
 
 -- there is room for the COMMIT of a write that flies
 pub has_room : {L D C : Type 0} (tells : Bool) (seen : L → Files) (now : L → ℕ) (leaves : L → ℕ → Files → Type 0) (faults : L → ℕ) (old : EngineView L D C) (f : Aloft) (s : ℕ) → find (λ w. w.s == s) old.tablet.core.aloft ≡ Some f → IsEngine tells seen now leaves faults old → 0 < old.log.room

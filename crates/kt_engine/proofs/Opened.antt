@@ -1,11 +1,12 @@
 -- An engine as it is opened.
-use Rattle.std.proofs.Common.{◌≡◌, ℕ, ◌<◌, ◌≤◌, ◌^◌, List, [], ◌++◌, length, map, Some, None, refl, sym, true, false, Bool, ap, ◌∙◌, subst, arith, length-append}
+use Rattle.std.proofs.Common.{◌≡◌, ◌≢◌, ℕ, ◌<◌, ◌≤◌, ◌^◌, List, [], ◌++◌, length, map, Some, None, refl, sym, true, false, Bool, ap, ◌∙◌, subst, arith, length-append}
 use Rattle.std.specs.Prelude.{IsTrue}
 use Rattle.std.specs.List.{All}
 use Rattle.std.proofs.lemmas.List.{append-nil}
 use Rattle.kt_disk.specs.Disk.{Files}
 use Rattle.kt_history.specs.declared.target.Target.TheVariants.{Mem}
 use Rattle.kt_history.specs.declared.event.Event.{Event}
+use Rattle.kt_history.specs.declared.event.Event.TheVariants.{Stop}
 use Rattle.kt_history.specs.History.{Past}
 use Rattle.kt_history.specs.Machine.{start, state_after}
 use Rattle.kt_records.specs.declared.entry.Entry.{Entry}
@@ -69,6 +70,7 @@ is_opened tells seen now leaves faults tablet journal records queued store devic
   others = others;
   lent = λ by out. absurd (let no : None ≡ Some by = out in cc);
   whole = ((λ goes_on. refl), (λ whole. stopped));
+  stops = record { goes = λ k. subst (λ (es : List Event). All (λ e. e ≢ Stop) es) (sym trail) (all_none (λ e. e ≢ Stop)); stopped = λ stops. absurd (goes stops) };
   ready = record {
     room = subst (λ (ws : List Aloft). length ws ≤ 0) (sym aloft) (omega arith);
     apart = subst AreApart (sym aloft) tt;

@@ -43,6 +43,7 @@ plan_keeps {L} {D} {C} tells seen now leaves faults view tablet plan is fresh ne
       others = is.others;
       lent = is.lent;
       whole = is.whole;
+      stops = record { goes = is.stops.goes; stopped = is.stops.stopped };
       ready = record { room = is.ready.room; apart = is.ready.apart; number = is.ready.number; target = is.ready.target; above = is.ready.above; fits = is.ready.fits };
       placed = is.placed;
     })

@@ -29,6 +29,7 @@ running_keeps tells seen now leaves faults view running is = record {
   others = is.others;
   lent = is.lent;
   whole = is.whole;
+  stops = is.stops;
   ready = record { room = is.ready.room; apart = is.ready.apart; number = is.ready.number; target = is.ready.target; above = is.ready.above; fits = is.ready.fits };
   placed = is.placed;
 }

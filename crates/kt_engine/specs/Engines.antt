@@ -1,8 +1,10 @@
 -- What a clause sees of an engine, and what it keeps.
-use Rattle.std.specs.Prelude.{◌≡◌, ◌<◌, ◌≤◌, ◌+◌, ◌^◌, ℕ, length, Bool, IsTrue, false, true, List, [], ◌∷◌, ◌++◌, map, take, Some, Ok}
+use Rattle.std.specs.Prelude.{◌≡◌, ◌≢◌, ◌<◌, ◌≤◌, ◌+◌, ◌^◌, ℕ, length, Bool, IsTrue, false, true, List, [], ◌∷◌, ◌++◌, map, take, Some, Ok}
 use Rattle.std.specs.List.{All}
 use Rattle.kt_base.specs.Causes.{Rose}
 use Rattle.kt_disk.specs.Disk.{Files, ButFiles}
+use Rattle.kt_history.specs.declared.event.Event.{Event}
+use Rattle.kt_history.specs.declared.event.Event.TheVariants.{Stop}
 use Rattle.kt_history.specs.declared.target.Target.TheVariants.{Mem}
 use Rattle.kt_history.specs.History.{Past}
 use Rattle.kt_records.specs.declared.entry.Entry.{Entry}
@@ -16,7 +18,7 @@ use Rattle.kt_loglaws.specs.declared.side.LogNo.{LogNo as SideNo}
 use Rattle.kt_loglaws.specs.declared.side.LogNo.TheVariants as side
 use Rattle.kt_engine.specs.declared.log.LogNo.{LogNo}
 use Rattle.kt_engine.specs.declared.log.LogNo.TheVariants as no
-use Rattle.kt_engine.specs.Logged.{Recalls, LogStands, KeepsRun, AreApart, IsDurable, AcknowledgedIn, NamesOnly, HoldsFront, HoldsRun}
+use Rattle.kt_engine.specs.Logged.{Recalls, LogStands, KeepsRun, AreApart, IsDurable, AcknowledgedIn, NamesOnly, HoldsRecords, HoldsFront, HoldsRun}
 
 -- the tablet, its log, the places of the REPLICATEs of flying writes, the records that opening found, and the log's device as it was
 -- handed in; the store device; and the numbers of the sessions that run
@@ -66,6 +68,11 @@ pub record IsHome {L D C : Type 0} (tells : Bool) (seen : L → Files) (now : L 
   pub rose : view.tablet.core.stopped ≡ true → Rose (faults view.device) (faults journal.disk)
   pub images : view.tablet.core.stopped ≡ true → IsTrue tells → (image : Files) → leaves journal.disk (now journal.disk) image → IsOldOrBoth (records_of (seen view.log.known.disk)) view.log.out (image 1)
 
+-- the lines tell whether the tablet has stopped: one that goes on has no `stop` line, and one that has stopped has it last
+pub record TellsStop (core : Core) : Type 0 where
+  pub goes : core.stopped ≡ false → All (λ e. e ≢ Stop) core.trail
+  pub stopped : core.stopped ≡ true → (before : List Event) × (core.trail ≡ before ++ Stop ∷ [])
+
 -- There is room for the COMMIT of each flying write, no two of these have one timestamp, and their rows go to a MemRowSet.
 pub record IsReady {L D C : Type 0} (view : EngineView L D C) : Type 0 where
   pub room : length view.tablet.core.aloft ≤ view.log.room
@@ -83,8 +90,13 @@ pub record IsEngine {L D C : Type 0} (tells : Bool) (seen : L → Files) (now : 
   pub others : IsTrue tells → KeepsOthers now leaves view.device view.log.known.disk
   pub lent : (by : ℕ) → view.log.holder ≡ Some by → (faults view.device ≤ faults view.log.known.disk) × (view.tablet.core.stopped ≡ false)
   pub whole : (view.tablet.core.stopped ≡ false → IsTrue view.log.whole) × (IsTrue view.log.whole → view.tablet.core.stopped ≡ false)
+  pub stops : TellsStop view.tablet.core
   pub ready : IsReady view
   pub placed : map (λ p. p.0) view.places ≡ map (λ w. w.s) view.tablet.core.aloft
+
+-- A crash now leaves the records that opening found, and behind them some of the run, whose COMMITs name the engine's store alone.
+abbrev pub LeavesRecords : {L D C : Type 0} → Bool → (L → ℕ) → (L → ℕ → Files → Type 0) → EngineView L D C → Type 0
+LeavesRecords tells now leaves view = IsTrue tells → (journal : JournalView _) → view.log.home ≡ Some journal → (image : Files) → leaves journal.disk (now journal.disk) image → HoldsRecords view.records view.tablet.target image
 
 -- A crash now leaves the opened past with the run's writes up to a time, each acknowledged one among them.
 abbrev pub Recovers : {L D C : Type 0} → Bool → (L → ℕ) → (L → ℕ → Files → Type 0) → EngineView L D C → Type 0

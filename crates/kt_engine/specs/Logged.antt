@@ -91,6 +91,12 @@ pub record KeepsRun (core : Core) (records : List Entry) (run : List Entry) : Ty
   pub told : AllTold core.work.fill records core.first run
   pub writes : with_records core.work.fill core.first run ≡ run_past core
 
+-- A crash left this image: the records that opening found and some of the run, whose COMMITs name the engine's store alone.
+pub record HoldsRecords (found : List Entry) (target : Target) (image : Files) : Type 0 where
+  pub run : List Entry
+  pub reads : log_of image ≡ Ok (found ++ run)
+  pub names : All (NamesOnly target) run
+
 -- A crash left this image: the records that opening found and some of the run, whose COMMITs name the engine's store alone. It holds the
 -- opened past with the run's writes up to some time, each acknowledged one among them, and nothing later than the run's last timestamp.
 pub record HoldsFront (core : Core) (found : List Entry) (target : Target) (image : Files) : Type 0 where

@@ -12,7 +12,7 @@ ghost use Rattle.std.specs.List.{All};
 ghost use Rattle.kt_loglaws.specs.Side.{all_of};
 ghost use Rattle.kt_engine.specs.Sessions.{numbers_of};
 ghost use Rattle.kt_engine.specs.Logged.{Recalls, IsPlaced, IsThere, NamesOnly};
-ghost use Rattle.kt_engine.specs.Engines.{EngineView, IsContent, IsEngine, IsLogged, IsHome, KeepsOthers, Recovers, RecoversEach, RecoversAll};
+ghost use Rattle.kt_engine.specs.Engines.{EngineView, IsContent, IsEngine, IsLogged, IsHome, KeepsOthers, TellsStop, LeavesRecords, Recovers, RecoversEach, RecoversAll};
 
 use crate::running::Running;
 use kt_base::Clock;
@@ -180,6 +180,8 @@ impl<L: Disk, D, C: Clock> Engine<L, D, C> {
         ensures sound { IsSound C.readings self.now.tablet }
         ensures exact { IsExact self.now.tablet.core.aloft self.now.tablet.core.stores self.now.tablet.pool }
         ensures logged { IsLogged L.tells L.seen self.now }
+        ensures stops { TellsStop self.now.tablet.core }
+        ensures leaves { LeavesRecords L.tells L.now L.leaves self.now }
         ensures recovers { Recovers L.tells L.now L.leaves self.now }
         ensures recovers_each { RecoversEach L.tells L.seen self.now }
         ensures recovers_all { RecoversAll L.tells L.now L.leaves self.now }

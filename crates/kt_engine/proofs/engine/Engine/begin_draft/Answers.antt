@@ -7,7 +7,7 @@ pub invariant_of-self : goal.invariant_of-self
 invariant_of-self g c =
     let is = c.deref_mut.ensures.value in
     let beside = core_alone c.self.inside.tablet.value c.ask.new.self (rw is at c.ask.ensures.beside) in
-    left_alone _ _ _ _ _ _ c.ask.new.self c.args.number c.args.index c.in_err-ask.field-0.0 beside (rw is at c.in_err-ask.ensures.left) c.self.invariant
+    left_alone _ _ _ _ _ _ c.ask.new.self c.args.number c.args.index c.ask.result c.in_err-ask.field-0.0 c.in_err-ask.was (rw is at c.ask.ensures.stopped) beside (rw is at c.in_err-ask.ensures.left) c.self.invariant
 
 pub invariant_of-self-in_default : goal.invariant_of-self-in_default
 invariant_of-self-in_default g c =
@@ -33,7 +33,7 @@ invariant_of-self-2 g c =
     let room = subst (λ (ps : List (ℕ × ℕ)). length ps + 2 ≤ c.make_room.new.log.room) (sym c.make_room.ensures.places.0) c.in-Ok.ensures.room.0 in
     has_begun _ _ _ _ _ _
     c.begin_free.new.self c.push-place.new.self c.push_reserved.new.self.items c.args.number c.args.index c.in-Ok-begin_free.ts c.push-place.result c.args.draft.now.write.ops c.args.draft.now.write.ops c.replace-logged.result refl (c.replace-logged.ensures.value ∙ c.args.draft.now.alike)
-    (rw free_is at c.begin_free.ensures.beside) (rw free_is at c.in-Ok-begin_free.ensures.begun) (rw log_is at c.push-place.ensures.queued) c.push_reserved.ensures.items (may_on c.self.inside.tablet.value c.ask.new.self c.args.number c.args.index c.args.draft.now.write.ops same may.0) may.1 fits room (rw log_is at c.push-place.ensures.place) before
+    (rw free_is at c.begin_free.ensures.beside) (rw free_is at c.in-Ok-begin_free.ensures.begun) (rw log_is at c.push-place.ensures.queued) c.push_reserved.ensures.items (ap (λ t. t.core.stopped) same ∙ goes) (may_on c.self.inside.tablet.value c.ask.new.self c.args.number c.args.index c.args.draft.now.write.ops same may.0) may.1 fits room (rw log_is at c.push-place.ensures.place) before
 
 pub returns-clause-visit : goal.returns-clause-visit
 returns-clause-visit g c =

@@ -3,8 +3,8 @@ use Rattle.std.specs.List.{All}
 use Rattle.kt_journal.specs.Open.{JournalView}
 use Rattle.kt_loglaws.specs.Side.{all_of}
 use Rattle.kt_engine.specs.Logged.{IsPlaced, IsThere}
-use Rattle.kt_engine.specs.Engines.{EngineView, IsEngine, Recovers, RecoversEach, RecoversAll}
-use Rattle.kt_engine.proofs.Crashes.{recovers, recovers_each, recovers_all}
+use Rattle.kt_engine.specs.Engines.{EngineView, IsEngine, LeavesRecords, Recovers, RecoversEach, RecoversAll}
+use Rattle.kt_engine.proofs.Crashes.{leaves_records, recovers, recovers_each, recovers_all}
 use Rattle.kt_engine.proofs.Placed.{placed_among, placed_there}
 use Rattle.kt_engine.proofs.engine.Engine.standing.Goals as goal
 
@@ -12,6 +12,14 @@ pub returns-clause-recovers : goal.returns-clause-recovers
 returns-clause-recovers g c =
     subst (λ (v : EngineView _ _ _). Recovers g.L.Disk.tells g.L.Disk.now g.L.Disk.leaves v) c.self.view_is
     (recovers g.L.Disk.tells g.L.Disk.seen g.L.Disk.now g.L.Disk.leaves g.L.Disk.faults _ c.self.invariant (rw c.deref.ensures at c.standing.ensures.sound.stands) (rw c.deref-2.ensures at c.durable.ensures.held))
+
+pub returns-clause-leaves : goal.returns-clause-leaves
+returns-clause-leaves g c =
+    subst (λ (v : EngineView _ _ _). LeavesRecords g.L.Disk.tells g.L.Disk.now g.L.Disk.leaves v) c.self.view_is
+    (leaves_records g.L.Disk.tells g.L.Disk.seen g.L.Disk.now g.L.Disk.leaves g.L.Disk.faults _ c.self.invariant (rw c.deref-2.ensures at c.durable.ensures.held))
+
+pub returns-clause-stops : goal.returns-clause-stops
+returns-clause-stops g c = (subst (λ (v : EngineView _ _ _). IsEngine g.L.Disk.tells g.L.Disk.seen g.L.Disk.now g.L.Disk.leaves g.L.Disk.faults v) c.self.view_is c.self.invariant).stops
 
 pub returns-clause-recovers_each : goal.returns-clause-recovers_each
 returns-clause-recovers_each g c =
