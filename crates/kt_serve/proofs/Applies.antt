@@ -7,20 +7,19 @@ use Rattle.kt_history.specs.declared.command.Command.TheVariants as command
 use Rattle.kt_history.specs.declared.operation.RowOp.{RowOp}
 use Rattle.kt_history.specs.declared.operation.Write.{Write}
 use Rattle.kt_history.specs.declared.change.Outcome.{Outcome}
-use Rattle.kt_history.specs.History.{Past}
 use Rattle.kt_history.specs.Machine.{nth}
 use Rattle.kt_histlaws.specs.Core.{Core}
-use Rattle.kt_tablet.specs.Views.{IsSound}
 use Rattle.kt_tablet.specs.Visits.{MayApply, HasApplied}
 use Rattle.kt_serve.specs.declared.rows.RowTurn.{RowTurn}
 use Rattle.kt_serve.specs.declared.rows.RowTurn.TheVariants as row
 use Rattle.kt_seatlock.specs.Trails.{Follows}
-use Rattle.kt_engine.specs.Engines.{EngineView, IsContent}
+use Rattle.kt_engine.specs.Engines.{EngineView, TellsStop}
 use Rattle.kt_engine.specs.Visits.{PartView, part_in, session_of, out_of, IsVisit}
 use Rattle.kt_serve.specs.Sessions.{OwnFlight, Advances, AppliedBy, AfterApply, IsAloft, IsWritten, IsCommand, IsStill, HasNoLog, has_stop}
 use Rattle.kt_serve.proofs.Lines.{follows_quiet, quiet_self, quiet_then}
 use Rattle.kt_serve.proofs.Flights.{found_flight, advanced}
-use Rattle.kt_serve.proofs.Begins.{some_is, stop_seen, same_root}
+use Rattle.kt_serve.proofs.Begins.{some_is, same_root}
+use Rattle.kt_serve.proofs.Stops.{stop_seen}
 use Rattle.kt_serve.proofs.Stills.{still_tablet, still_aloft}
 
 pub may_apply : {L D C : Type 0} (x : EngineView L D C) (s i ts at : ℕ) (ops : List RowOp) → OwnFlight x s i ts ops at → at < length ops → MayApply x.tablet.core s at
@@ -46,10 +45,10 @@ module _ {L D C : Type 0} where
   own_home told x s is h = sym (ap (λ (p : PartView L D C). p.pass.out) (some_is h.part (part_in x s) (sym h.is ∙ is))) ∙ h.home
 
   -- what a visit leaves that may apply a row
-  pub after_apply : (told told' : Option (PartView L D C)) (seen seen' : List Event) (x y : EngineView L D C) (n n' by at : ℕ) (readings : C → Option (List ℕ)) (r : RowTurn)
+  pub after_apply : (told told' : Option (PartView L D C)) (seen seen' : List Event) (x y : EngineView L D C) (n n' by at : ℕ) (r : RowTurn)
       → told ≡ Some (part_in x n) → told' ≡ Some (part_in y n') → n' ≡ n → by ≡ n → Follows session_of n seen x.tablet.core.trail → seen' ≡ y.tablet.core.trail
-      → (first : Past) × IsContent x first → IsSound readings x.tablet → IsVisit by x y → AppliedBy x y by r → AfterApply told told' seen seen' n at r
-  after_apply told told' seen seen' x y n n' by at readings row.Applied was is same me follows sees found sound keeps applied = (
+      → TellsStop x.tablet.core → IsVisit by x y → AppliedBy x y by r → AfterApply told told' seen seen' n at r
+  after_apply told told' seen seen' x y n n' by at row.Applied was is same me follows sees stops keeps applied = (
     record {
       root = same_root told told' x y by n n' was is keeps;
       quiet = λ root h. quiet_then root n seen x.tablet.core.trail seen' (follows_quiet root n seen x.tablet.core.trail follows) (quiet_self root n x.tablet.core.trail seen' (sees ∙ applied.trail));
@@ -62,9 +61,9 @@ module _ {L D C : Type 0} where
       turn = ap (λ l. nth l n) applied.turns ∙ own_turn told x n i ts at ops was a;
     },
   )
-  after_apply told told' seen seen' x y n n' by at readings row.Early was is same me follows sees found sound keeps applied = still_tablet told told' seen seen' x y by n n' was is same follows sees keeps (ap (λ v. v.tablet) applied)
-  after_apply told told' seen seen' x y n n' by at readings row.Stopped was is same me follows sees found sound keeps applied =
-      (still_tablet told told' seen seen' x y by n n' was is same follows sees keeps (ap (λ v. v.tablet) applied.0), ap has_stop (sees ∙ ap (λ v. v.tablet.core.trail) applied.0) ∙ stop_seen x readings found sound applied.1)
+  after_apply told told' seen seen' x y n n' by at row.Early was is same me follows sees stops keeps applied = still_tablet told told' seen seen' x y by n n' was is same follows sees keeps (ap (λ v. v.tablet) applied)
+  after_apply told told' seen seen' x y n n' by at row.Stopped was is same me follows sees stops keeps applied =
+      (still_tablet told told' seen seen' x y by n n' was is same follows sees keeps (ap (λ v. v.tablet) applied.0), ap has_stop (sees ∙ ap (λ v. v.tablet.core.trail) applied.0) ∙ stop_seen x stops applied.1)
 
   -- the log is where it was
   pub log_after : (told told' : Option (PartView L D C)) (x y : EngineView L D C) (n n' by : ℕ) (r : RowTurn) → told ≡ Some (part_in x n) → told' ≡ Some (part_in y n') → n' ≡ n → HasNoLog told → AppliedBy x y by r → HasNoLog told'

@@ -1,4 +1,4 @@
--- A run answers the commands of its plan alone, and no line follows its `stop` line.
+-- A run answers the commands of its plan alone.
 use Rattle.std.proofs.Common.{◌≡◌, ◌⊎◌, inl, inr, ℕ, List, [], ◌∷◌, ◌++◌, Option, Some, None, true, false, Bool, ◌||◌, cond, refl, sym, ap, ◌∙◌}
 use Rattle.std.specs.Prelude.{◌==◌, ◌&&◌, not}
 use Rattle.std.specs.List.{list_any, filter}
@@ -11,7 +11,6 @@ use Rattle.kt_history.specs.declared.reply.Reply.{Reply}
 use Rattle.kt_history.specs.declared.scan.At.{At}
 use Rattle.kt_history.specs.Machine.{Workload, State, Flying, command_at, IfWrite, IfScan, IfMark, IsChore, Allowed, after, state_after, IsRunFrom}
 use Rattle.kt_history.specs.Replies.{told, answers, is_of, reply_of}
-use Rattle.kt_serve.specs.Sessions.{has_stop}
 
 -- ---- answers are to commands
 
@@ -108,59 +107,3 @@ told_asked work st (e ∷ lines) j k r run all h =
       | true ↦ λ its _. line_asked work st e j k run.0 all its
       | false ↦ λ _ rest. told_asked work (after work st e) lines j k r run.1 (after_asked work st e run.0 all) rest
     ] refl h
-
--- ---- the `stop` line
-
-goes : (work : Workload) (st : State) (e : Event) → Allowed work st e → st.stopped ≡ false
-goes work st (event.Begin s i ts m) may = may.0
-goes work st (event.End s i ts) may = may.0
-goes work st (event.Look s i t m) may = may.0
-goes work st (event.Rows s i t) may = may.0
-goes work st (event.Ancient s i t a) may = may.0
-goes work st (event.Busy s i t f) may = may.0
-goes work st (event.Mark s i a) may = may.0
-goes work st (event.Chore s i) may = may.0
-goes work st (event.Large s i n) may = may.0
-goes work st event.Stop may = may
-
-none_after : (work : Workload) (st : State) (lines : List Event) → st.stopped ≡ true → IsRunFrom work st lines → lines ≡ []
-none_after work st [] stopped run = refl
-none_after work st (e ∷ lines) stopped run = let going = goes work st e run.0 in absurd cc
-
--- a line is the `stop` line, or leaves the question to those behind it, and the tablet as far from being stopped
-is_stop_or : (work : Workload) (st : State) (e : Event) (lines : List Event) → (e ≡ event.Stop) ⊎ ((has_stop (e ∷ lines) ≡ has_stop lines) × ((after work st e).stopped ≡ st.stopped))
-is_stop_or work st (event.Begin s i ts m) lines = inr (refl, refl)
-is_stop_or work st (event.End s i ts) lines = inr (refl, refl)
-is_stop_or work st (event.Look s i t m) lines = inr (refl, refl)
-is_stop_or work st (event.Rows s i t) lines = inr (refl, refl)
-is_stop_or work st (event.Ancient s i t a) lines = inr (refl, refl)
-is_stop_or work st (event.Busy s i t f) lines = inr (refl, refl)
-is_stop_or work st (event.Mark s i a) lines = inr (refl, refl)
-is_stop_or work st (event.Chore s i) lines = inr (refl, refl)
-is_stop_or work st (event.Large s i n) lines = inr (refl, refl)
-is_stop_or work st event.Stop lines = inl refl
-
-pub stop_last : (work : Workload) (st : State) (lines : List Event) → IsRunFrom work st lines → has_stop lines ≡ true → (before : List Event) × (lines ≡ before ++ event.Stop ∷ [])
-stop_last work st [] run h = absurd cc
-stop_last work st (e ∷ lines) run h = elim (is_stop_or work st e lines) as (λ _. (before : List Event) × (e ∷ lines ≡ before ++ event.Stop ∷ [])) [
-  | inl is ↦
-      let none : lines ≡ [] = none_after work (after work st e) lines (ap (λ x. (after work st x).stopped) is) run.1 in
-      ([], (λ t. is t ∷ none t))
-  | inr rest ↦ let found = stop_last work (after work st e) lines run.1 (sym rest.0 ∙ h) in (e ∷ found.0, ap (λ xs. e ∷ xs) found.1)
-]
-
-pub stop_stops_it : (work : Workload) (st : State) (lines : List Event) → IsRunFrom work st lines → has_stop lines ≡ true → (state_after work st lines).stopped ≡ true
-stop_stops_it work st [] run h = absurd cc
-stop_stops_it work st (e ∷ lines) run h = elim (is_stop_or work st e lines) as (λ _. (state_after work (after work st e) lines).stopped ≡ true) [
-  | inl is ↦
-      let stopped : (after work st e).stopped ≡ true = ap (λ x. (after work st x).stopped) is in
-      ap (λ xs. (state_after work (after work st e) xs).stopped) (none_after work (after work st e) lines stopped run.1) ∙ stopped
-  | inr rest ↦ stop_stops_it work (after work st e) lines run.1 (sym rest.0 ∙ h)
-]
-
-pub stopped_has_stop : (work : Workload) (st : State) (lines : List Event) → st.stopped ≡ false → (state_after work st lines).stopped ≡ true → has_stop lines ≡ true
-stopped_has_stop work st [] going h = absurd cc
-stopped_has_stop work st (e ∷ lines) going h = elim (is_stop_or work st e lines) as (λ _. has_stop (e ∷ lines) ≡ true) [
-  | inl is ↦ ap (λ x. has_stop (x ∷ lines)) is
-  | inr rest ↦ rest.0 ∙ stopped_has_stop work (after work st e) lines (rest.1 ∙ going) h
-]

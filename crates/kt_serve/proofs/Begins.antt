@@ -12,20 +12,19 @@ use Rattle.kt_history.specs.declared.reply.Reply.TheVariants as reply
 use Rattle.kt_history.specs.Replies.{answers, reply_of}
 use Rattle.kt_records.specs.declared.entry.Entry.TheVariants.{Replicate}
 use Rattle.kt_history.specs.History.{Past}
-use Rattle.kt_history.specs.Machine.{nth, set_nth, command_at, IfWrite, start}
+use Rattle.kt_history.specs.Machine.{nth, set_nth, command_at, IfWrite}
 use Rattle.kt_histlaws.specs.Core.{Core, run_past}
 use Rattle.kt_histlaws.specs.Events.{begun, answered}
-use Rattle.kt_tablet.specs.Views.{IsSound}
 use Rattle.kt_tablet.specs.Visits.{MayBegin, HasBegun, Leaves, IsRefused}
 use Rattle.kt_tablet.specs.declared.tablet.write.BeginNo.{BeginNo}
 use Rattle.kt_tablet.specs.declared.tablet.write.BeginNo.TheVariants as no
 use Rattle.kt_seatlock.specs.Trails.{Follows}
-use Rattle.kt_engine.specs.Engines.{EngineView, IsContent, core_from}
+use Rattle.kt_engine.specs.Engines.{EngineView, IsContent, TellsStop, core_from}
 use Rattle.kt_engine.specs.Logged.{IsShort}
 use Rattle.kt_engine.proofs.Visiting.{root_stays}
 use Rattle.kt_engine.specs.Visits.{Root, root_of, PartView, part_in, session_of, out_of, IsVisit}
 use Rattle.kt_serve.specs.Sessions.{Found, HasRoot, SameRoot, OnRoot, IsFree, IsAloft, HasNoLog, IsCommand, IsWrite, IsQuiet, AnswersOne, has_stop, AfterBegin}
-use Rattle.kt_serve.proofs.Asked.{stopped_has_stop}
+use Rattle.kt_serve.proofs.Stops.{stop_seen}
 use Rattle.kt_serve.proofs.Lines.{follows_quiet, quiet_self, quiet_then, quiet_line, answers_line, then_answers, is_mine}
 use Rattle.kt_serve.proofs.Flights.{none_flies, one_more, nth_set}
 
@@ -99,12 +98,6 @@ module _ {L D C : Type 0} where
     λ root h. quiet_then root n seen x.tablet.core.trail seen' (follows_quiet root n seen x.tablet.core.trail follows) (quiet_self root n x.tablet.core.trail seen' (sees ∙ ap (λ (c : Core). c.trail) core)),
   )
 
-  -- where the engine is stopped its history says so
-  pub stop_seen : (x : EngineView L D C) (readings : C → Option (List ℕ)) → (first : Past) × IsContent x first → IsSound readings x.tablet → x.tablet.core.stopped ≡ true → has_stop x.tablet.core.trail ≡ true
-  stop_seen x readings found sound h =
-      let st = sound.stands found.0 found.1.opens in
-      stopped_has_stop x.tablet.core.work (start x.tablet.core.work found.0 x.tablet.core.opened) x.tablet.core.trail refl (ap (λ s. s.stopped) st.run.state ∙ h)
-
   -- the write flies
   begun_aloft : (told told' : Option (PartView L D C)) (seen seen' : List Event) (x y : EngineView L D C) (n i ts : ℕ) (ops : List RowOp) → told ≡ Some (part_in x n) → told' ≡ Some (part_in y n) → IsFree told i → Follows session_of n seen x.tablet.core.trail → seen' ≡ y.tablet.core.trail
       → HasBegun x.tablet.core y.tablet.core n i ops ts → y.log.holder ≡ x.log.holder → y.log.out ≡ x.log.out → IsAloft told' n i ts ops 0 × HasNoLog told' × OnRoot told (λ root. IsQuiet root n seen seen')
@@ -149,24 +142,24 @@ module _ {L D C : Type 0} where
       (λ none. let both : Some (record { next = i; look = None }) ≡ None = sym (free_turn told i x n f was) ∙ none in cc)
       ((λ t. out_of (holds t) (out t) n) ∙ free_home told i x n f was) (ap (λ (c : Core). c.turns) is_core ∙ turns) (ap (λ (c : Core). c.trail) is_core ∙ line) mine replies
 
-  pub begun_after : (told told' : Option (PartView L D C)) (seen seen' : List Event) (x y : EngineView L D C) (n n' by i : ℕ) (ops : List RowOp) (readings : C → Option (List ℕ)) (r : Result ℕ BeginNo)
+  pub begun_after : (told told' : Option (PartView L D C)) (seen seen' : List Event) (x y : EngineView L D C) (n n' by i : ℕ) (ops : List RowOp) (r : Result ℕ BeginNo)
       → told ≡ Some (part_in x n) → told' ≡ Some (part_in y n') → n' ≡ n → by ≡ n → IsFree told i → Follows session_of n seen x.tablet.core.trail → seen' ≡ y.tablet.core.trail
-      → (first : Past) × IsContent x first → IsSound readings x.tablet
+      → TellsStop x.tablet.core
       → IfOk r (λ ts. HasBegun x.tablet.core y.tablet.core by i ops ts)
       → IfOk r (λ ts. y.log ≡ record x.log { queued = x.log.queued ++ Replicate ts ops ∷ []; room = y.log.room })
       → IfErr r (Leaves x.tablet y.tablet by i) → IfErr r (IsRefused x.tablet ops) → OnErr r ((y.places ≡ x.places) × (y.log ≡ record x.log { room = y.log.room }))
       → AfterBegin told told' seen seen' n i ops r
-  begun_after told told' seen seen' x y n n' by i ops readings (Ok ts) was is same me f follows sees found sound begun queued left refused waits =
+  begun_after told told' seen seen' x y n n' by i ops (Ok ts) was is same me f follows sees stops begun queued left refused waits =
       begun_aloft told told' seen seen' x y n i ts ops was (is ∙ ap (λ k. Some (part_in y k)) same) f follows sees (subst (λ k. HasBegun x.tablet.core y.tablet.core k i ops ts) me begun) (ap (λ l. l.holder) queued) (ap (λ l. l.out) queued)
-  begun_after told told' seen seen' x y n n' by i ops readings (Err no.Stopped) was is same me f follows sees found sound begun queued left refused waits =
+  begun_after told told' seen seen' x y n n' by i ops (Err no.Stopped) was is same me f follows sees stops begun queued left refused waits =
       let s = stays told told' seen seen' x y n i was (is ∙ ap (λ k. Some (part_in y k)) same) f follows sees (ap (λ t. t.core) left) (ap (λ l. l.holder) waits.1) (ap (λ l. l.out) waits.1) in
-      (s.0, s.1, ap has_stop (sees ∙ ap (λ t. t.core.trail) left) ∙ stop_seen x readings found sound refused)
-  begun_after told told' seen seen' x y n n' by i ops readings (Err (no.Large m)) was is same me f follows sees found sound begun queued left refused waits =
+      (s.0, s.1, ap has_stop (sees ∙ ap (λ t. t.core.trail) left) ∙ stop_seen x stops refused)
+  begun_after told told' seen seen' x y n n' by i ops (Err (no.Large m)) was is same me f follows sees stops begun queued left refused waits =
       free_answers told told' seen seen' x y n i (event.Large n i m) (reply.Large m) (answered x.tablet.core n i (event.Large n i m)) was (is ∙ ap (λ k. Some (part_in y k)) same) f follows sees (left ∙ ap (λ k. answered x.tablet.core k i (event.Large k i m)) me) refl refl refl (ap (λ l. l.holder) waits.1) (ap (λ l. l.out) waits.1)
       (λ k. is_mine n k i) (λ first content. refl)
-  begun_after told told' seen seen' x y n n' by i ops readings (Err (no.Wait ts)) was is same me f follows sees found sound begun queued left refused waits =
+  begun_after told told' seen seen' x y n n' by i ops (Err (no.Wait ts)) was is same me f follows sees stops begun queued left refused waits =
       stays told told' seen seen' x y n i was (is ∙ ap (λ k. Some (part_in y k)) same) f follows sees (ap (λ t. t.core) left) (ap (λ l. l.holder) waits.1) (ap (λ l. l.out) waits.1)
-  begun_after told told' seen seen' x y n n' by i ops readings (Err (no.Room m b)) was is same me f follows sees found sound begun queued left refused waits =
+  begun_after told told' seen seen' x y n n' by i ops (Err (no.Room m b)) was is same me f follows sees stops begun queued left refused waits =
       stays told told' seen seen' x y n i was (is ∙ ap (λ k. Some (part_in y k)) same) f follows sees (ap (λ t. t.core) left) (ap (λ l. l.holder) waits.1) (ap (λ l. l.out) waits.1)
-  begun_after told told' seen seen' x y n n' by i ops readings (Err no.Memory) was is same me f follows sees found sound begun queued left refused waits =
+  begun_after told told' seen seen' x y n n' by i ops (Err no.Memory) was is same me f follows sees stops begun queued left refused waits =
       stays told told' seen seen' x y n i was (is ∙ ap (λ k. Some (part_in y k)) same) f follows sees (ap (λ t. t.core) left) (ap (λ l. l.holder) waits.1) (ap (λ l. l.out) waits.1)

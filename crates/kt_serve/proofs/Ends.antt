@@ -19,16 +19,16 @@ use Rattle.kt_histlaws.specs.Events.{ended}
 use Rattle.kt_histlaws.specs.Pending.{Aloft}
 use Rattle.kt_tablet.specs.Visits.{MayEnd, HasEnded, IsDone, flight_of}
 use Rattle.kt_seatlock.specs.Trails.{Follows}
-use Rattle.kt_engine.specs.Engines.{EngineView, IsContent, core_from}
+use Rattle.kt_engine.specs.Engines.{EngineView, IsContent, TellsStop, core_from}
 use Rattle.kt_engine.specs.Sessions.{runs}
 use Rattle.kt_engine.proofs.Sessions.{runs_none}
 use Rattle.kt_engine.specs.Visits.{PartView, part_in, session_of, out_of, root_of, IsVisit}
 use Rattle.kt_serve.specs.Sessions.{IsAloft, HasNoLog, HasLeft, IsCommand, IsFree, OnRoot, AnswersOne, IsQuiet, has_stop}
 use Rattle.kt_serve.proofs.Lines.{is_mine}
 use Rattle.kt_serve.proofs.Flights.{found_flight, none_left, is_over}
-use Rattle.kt_serve.proofs.Begins.{has_root, line_answers, some_is, stop_seen}
+use Rattle.kt_serve.proofs.Begins.{has_root, line_answers, some_is}
+use Rattle.kt_serve.proofs.Stops.{stop_seen}
 use Rattle.kt_serve.proofs.Stills.{still_tablet}
-use Rattle.kt_tablet.specs.Views.{IsSound}
 use Rattle.kt_serve.proofs.Applies.{own_flight, own_turn, own_home}
 
 abbrev pub flown : ℕ → ℕ → ℕ → List RowOp → ℕ → Aloft
@@ -87,8 +87,8 @@ module _ {L D C : Type 0} where
   pub has_left : (told : Option (PartView L D C)) (x y : EngineView L D C) (by n : ℕ) → told ≡ Some (part_in y n) → n ≡ by → y.running ≡ filter (λ k. not (k == by)) x.running → HasLeft told
   has_left told x y by n is me fewer = record { part = part_in y n; is = is; over = (λ t. runs (me t) (fewer t)) ∙ runs_none x.running by }
 
-  pub after_stop : (told told' : Option (PartView L D C)) (seen seen' : List Event) (x y : EngineView L D C) (m n n' : ℕ) (readings : C → Option (List ℕ)) → told ≡ Some (part_in x n) → told' ≡ Some (part_in y n') → n' ≡ n → Follows session_of n seen x.tablet.core.trail → seen' ≡ y.tablet.core.trail
-      → (first : Past) × IsContent x first → IsSound readings x.tablet → IsVisit m x y → y ≡ x → x.tablet.core.stopped ≡ true → (has_stop seen' ≡ true) × OnRoot told (λ root. IsQuiet root n seen seen')
-  after_stop told told' seen seen' x y m n n' readings was is same follows sees found sound keeps e stopped =
+  pub after_stop : (told told' : Option (PartView L D C)) (seen seen' : List Event) (x y : EngineView L D C) (m n n' : ℕ) → told ≡ Some (part_in x n) → told' ≡ Some (part_in y n') → n' ≡ n → Follows session_of n seen x.tablet.core.trail → seen' ≡ y.tablet.core.trail
+      → TellsStop x.tablet.core → IsVisit m x y → y ≡ x → x.tablet.core.stopped ≡ true → (has_stop seen' ≡ true) × OnRoot told (λ root. IsQuiet root n seen seen')
+  after_stop told told' seen seen' x y m n n' was is same follows sees stops keeps e stopped =
       let still = still_tablet told told' seen seen' x y m n n' was is same follows sees keeps (ap (λ v. v.tablet) e) in
-      (ap has_stop (sees ∙ ap (λ v. v.tablet.core.trail) e) ∙ stop_seen x readings found sound stopped, λ root h. still.quiet root h)
+      (ap has_stop (sees ∙ ap (λ v. v.tablet.core.trail) e) ∙ stop_seen x stops stopped, λ root h. still.quiet root h)

@@ -1,5 +1,6 @@
 pub mod Lines
 pub mod Flights
+pub mod Stops
 pub mod Begins
 pub mod Stills
 pub mod Homes

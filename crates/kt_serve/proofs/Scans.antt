@@ -24,7 +24,7 @@ use Rattle.kt_scan.specs.Encoded.{keys_of}
 use Rattle.kt_scan.specs.Live.{AreRowsOf, row_in}
 use Rattle.kt_tablet.specs.Views.{IsSound}
 use Rattle.kt_tablet.specs.Visits.{MayLook, HasLooked}
-use Rattle.kt_tablet.specs.Reads.{MaySnapshot, HasRead, ShowsRun, IsNoRead, LeavesRead, view_row}
+use Rattle.kt_tablet.specs.Reads.{MaySnapshot, HasRead, ShowsRun, IsCopied, IsNoRead, LeavesRead, view_row}
 use Rattle.kt_tablet.specs.declared.snap.Snap.{Snap}
 use Rattle.kt_tablet.specs.declared.snap.SnapView.{SnapView}
 use Rattle.kt_tablet.specs.declared.tablet.LookNo.{LookNo}
@@ -32,13 +32,14 @@ use Rattle.kt_tablet.specs.declared.tablet.LookNo.TheVariants as look
 use Rattle.kt_tablet.specs.declared.tablet.scan.SnapNo.{SnapNo}
 use Rattle.kt_tablet.specs.declared.tablet.scan.SnapNo.TheVariants as no
 use Rattle.kt_seatlock.specs.Trails.{Follows}
-use Rattle.kt_engine.specs.Engines.{EngineView, IsContent, core_from}
+use Rattle.kt_engine.specs.Engines.{EngineView, IsContent, TellsStop, core_from}
 use Rattle.kt_engine.specs.Visits.{Root, root_of, PartView, part_in, session_of, out_of}
 use Rattle.kt_serve.specs.Sessions.{told_by, SameRoot, OnRoot, IsFree, HasNoLog, IsCommand, IsQuiet, AnswersOne, IsGoing, TellsOwn, has_stop}
 use Rattle.kt_serve.specs.Scans.{IsOn, ScansAt, IsLooking, AfterLook, past_by, snap_row, ShowsRows, AnswersRows, HasSnapped, turn_of_read, AfterRead, IsQuietBut, LacksReply, TellsBut}
 use Rattle.kt_serve.proofs.Lines.{told_more, or_none, follows_quiet, quiet_self, quiet_then, quiet_line, is_mine}
 use Rattle.kt_serve.proofs.Flights.{none_flies, nth_set}
-use Rattle.kt_serve.proofs.Begins.{some_is, root_at, has_root, content_of, free_calm, free_turn, free_home, line_answers, stop_seen}
+use Rattle.kt_serve.proofs.Begins.{some_is, root_at, has_root, content_of, free_calm, free_turn, free_home, line_answers}
+use Rattle.kt_serve.proofs.Stops.{stop_seen}
 use Rattle.kt_serve.proofs.Viewed.{rows_of_run}
 
 -- ---- lines
@@ -137,16 +138,16 @@ module _ {L D C : Type 0} where
         (quiet_line root n x.tablet.core.trail seen' (event.Look n i t h.m) (sees ∙ ap (λ (c : Core). c.trail) h.core) (λ k. refl)),
   )
 
-  pub after_look : (told told' : Option (PartView L D C)) (seen seen' : List Event) (x y : EngineView L D C) (n n' by i : ℕ) (readings : C → Option (List ℕ)) (r : Result ℕ LookNo)
+  pub after_look : (told told' : Option (PartView L D C)) (seen seen' : List Event) (x y : EngineView L D C) (n n' by i : ℕ) (r : Result ℕ LookNo)
       → told ≡ Some (part_in x n) → told' ≡ Some (part_in y n') → n' ≡ n → by ≡ n → IsFree told i → Follows session_of n seen x.tablet.core.trail → seen' ≡ y.tablet.core.trail
-      → (first : Past) × IsContent x first → IsSound readings x.tablet
+      → TellsStop x.tablet.core
       → IfOk r (λ t. HasLooked x.tablet.core y.tablet.core by i t) → y.log ≡ x.log → OnErr r (y ≡ x) → (r ≡ Err look.Stopped → x.tablet.core.stopped ≡ true)
       → AfterLook told told' seen seen' n i r
-  after_look told told' seen seen' x y n n' by i readings (Ok t) was is same me f follows sees found sound looks log stays goes =
+  after_look told told' seen seen' x y n n' by i (Ok t) was is same me f follows sees stops looks log stays goes =
       looked_after told told' seen seen' x y n i t was (is ∙ ap (λ k. Some (part_in y k)) same) f follows sees (subst (λ k. HasLooked x.tablet.core y.tablet.core k i t) me looks) log
-  after_look told told' seen seen' x y n n' by i readings (Err look.Stopped) was is same me f follows sees found sound looks log stays goes =
-      (ap has_stop (sees ∙ ap (λ v. v.tablet.core.trail) stays) ∙ stop_seen x readings found sound (goes refl), quiet_same told n seen seen' x y follows sees (ap (λ v. v.tablet.core) stays))
-  after_look told told' seen seen' x y n n' by i readings (Err look.Memory) was is same me f follows sees found sound looks log stays goes =
+  after_look told told' seen seen' x y n n' by i (Err look.Stopped) was is same me f follows sees stops looks log stays goes =
+      (ap has_stop (sees ∙ ap (λ v. v.tablet.core.trail) stays) ∙ stop_seen x stops (goes refl), quiet_same told n seen seen' x y follows sees (ap (λ v. v.tablet.core) stays))
+  after_look told told' seen seen' x y n n' by i (Err look.Memory) was is same me f follows sees stops looks log stays goes =
       quiet_same told n seen seen' x y follows sees (ap (λ v. v.tablet.core) stays)
 
   -- ---- the visit that reads
@@ -199,9 +200,9 @@ module _ {L D C : Type 0} where
 
   -- a scan that is answered by rows
   read_after : (told told' : Option (PartView L D C)) (seen seen' : List Event) (x y : EngineView L D C) (n i : ℕ) (at : At) (readings : C → Option (List ℕ)) (snap : Snap) → told ≡ Some (part_in x n) → told' ≡ Some (part_in y n) → IsLooking told i at → Follows session_of n seen x.tablet.core.trail → seen' ≡ y.tablet.core.trail
-      → (first : Past) × IsContent x first → IsSound readings x.tablet → HasRead x.tablet.core y.tablet.core n i at snap.t → snap.mark ≡ x.tablet.core.a → ((first : Past) → IsContent x first → ShowsRun (core_from x first) snap) → y.log ≡ x.log
+      → IsSound readings x.tablet → HasRead x.tablet.core y.tablet.core n i at snap.t → snap.mark ≡ x.tablet.core.a → IsCopied snap → ((first : Past) → IsContent x first → ShowsRun (core_from x first) snap) → y.log ≡ x.log
       → IsFree told' (i + 1) × HasSnapped told seen seen' n i snap
-  read_after told told' seen seen' x y n i at readings snap was is f follows sees found sound read mark shows log =
+  read_after told told' seen seen' x y n i at readings snap was is f follows sees sound read mark copied shows log =
       let since : snap.mark ≤ snap.t = subst (λ m. m ≤ snap.t) (sym mark) read.since in
       let line : seen' ≡ x.tablet.core.trail ++ event.Rows n i snap.t ∷ [] = sees ∙ ap (λ (c : Core). c.trail) read.core in (
         record {
@@ -213,7 +214,7 @@ module _ {L D C : Type 0} where
         },
         record {
           since = since;
-          marks = (shows found.0 found.1).marks;
+          marks = λ k d lt. let e = copied.since k d lt in omega arith;
           shows = λ root h. subst (λ (ro : Root L D C). ShowsRows ro snap seen') (root_at root told x n h was) (shows_run x snap n i seen' readings sound line since shows);
           answers = λ root h.
               then_rows root n i snap.t seen x.tablet.core.trail seen' (follows_quiet root n seen x.tablet.core.trail follows) (rows_line root n i snap.t x.tablet.core.trail seen' line);
@@ -222,21 +223,21 @@ module _ {L D C : Type 0} where
 
   pub after_read : (told told' : Option (PartView L D C)) (seen seen' : List Event) (x y : EngineView L D C) (n n' by i : ℕ) (at : At) (readings : C → Option (List ℕ)) (r : Result Snap SnapNo)
       → told ≡ Some (part_in x n) → told' ≡ Some (part_in y n') → n' ≡ n → by ≡ n → IsLooking told i at → Follows session_of n seen x.tablet.core.trail → seen' ≡ y.tablet.core.trail
-      → (first : Past) × IsContent x first → IsSound readings x.tablet
-      → IfOk r (λ snap. HasRead x.tablet.core y.tablet.core by i at snap.t) → IfOk r (λ snap. snap.mark ≡ x.tablet.core.a) → IfOk r (λ snap. (first : Past) → IsContent x first → ShowsRun (core_from x first) snap)
+      → TellsStop x.tablet.core → IsSound readings x.tablet
+      → IfOk r (λ snap. HasRead x.tablet.core y.tablet.core by i at snap.t) → IfOk r (λ snap. snap.mark ≡ x.tablet.core.a) → IfOk r IsCopied → IfOk r (λ snap. (first : Past) → IsContent x first → ShowsRun (core_from x first) snap)
       → y.log ≡ x.log → IfErr r (IsNoRead x.tablet.core by at) → IfErr r (LeavesRead x.tablet y.tablet by i)
       → AfterRead told told' seen seen' n i at (turn_of_read r)
-  after_read told told' seen seen' x y n n' by i at readings (Ok snap) was is same me f follows sees found sound read mark shows log refused left =
-      read_after told told' seen seen' x y n i at readings snap was (is ∙ ap (λ k. Some (part_in y k)) same) f follows sees found sound (subst (λ k. HasRead x.tablet.core y.tablet.core k i at snap.t) me read) mark shows log
-  after_read told told' seen seen' x y n n' by i at readings (Err no.Stopped) was is same me f follows sees found sound read mark shows log refused left =
-      (ap has_stop (sees ∙ ap (λ t. t.core.trail) left) ∙ stop_seen x readings found sound refused, quiet_same told n seen seen' x y follows sees (ap (λ t. t.core) left))
-  after_read told told' seen seen' x y n n' by i at readings (Err (no.Ancient t a)) was is same me f follows sees found sound read mark shows log refused left =
+  after_read told told' seen seen' x y n n' by i at readings (Ok snap) was is same me f follows sees stops sound read mark copied shows log refused left =
+      read_after told told' seen seen' x y n i at readings snap was (is ∙ ap (λ k. Some (part_in y k)) same) f follows sees sound (subst (λ k. HasRead x.tablet.core y.tablet.core k i at snap.t) me read) mark copied shows log
+  after_read told told' seen seen' x y n n' by i at readings (Err no.Stopped) was is same me f follows sees stops sound read mark copied shows log refused left =
+      (ap has_stop (sees ∙ ap (λ t. t.core.trail) left) ∙ stop_seen x stops refused, quiet_same told n seen seen' x y follows sees (ap (λ t. t.core) left))
+  after_read told told' seen seen' x y n n' by i at readings (Err (no.Ancient t a)) was is same me f follows sees stops sound read mark copied shows log refused left =
       refused_after told told' seen seen' x y n i at (event.Ancient n i t a) (reply.Ancient t a) was (is ∙ ap (λ k. Some (part_in y k)) same) f follows sees (left ∙ ap (λ k. answered x.tablet.core k i (event.Ancient k i t a)) me) log (λ k. is_mine n k i) (λ first content. refl)
-  after_read told told' seen seen' x y n n' by i at readings (Err (no.Busy t g)) was is same me f follows sees found sound read mark shows log refused left =
+  after_read told told' seen seen' x y n n' by i at readings (Err (no.Busy t g)) was is same me f follows sees stops sound read mark copied shows log refused left =
       refused_after told told' seen seen' x y n i at (event.Busy n i t g) (reply.Busy t g) was (is ∙ ap (λ k. Some (part_in y k)) same) f follows sees (left ∙ ap (λ k. answered x.tablet.core k i (event.Busy k i t g)) me) log (λ k. is_mine n k i) (λ first content. refl)
-  after_read told told' seen seen' x y n n' by i at readings (Err (no.NotYet g)) was is same me f follows sees found sound read mark shows log refused left =
+  after_read told told' seen seen' x y n n' by i at readings (Err (no.NotYet g)) was is same me f follows sees stops sound read mark copied shows log refused left =
       waits_on told told' seen seen' x y n i at was (is ∙ ap (λ k. Some (part_in y k)) same) f follows sees (ap (λ t. t.core) left) log
-  after_read told told' seen seen' x y n n' by i at readings (Err no.Memory) was is same me f follows sees found sound read mark shows log refused left =
+  after_read told told' seen seen' x y n n' by i at readings (Err no.Memory) was is same me f follows sees stops sound read mark copied shows log refused left =
       quiet_same told n seen seen' x y follows sees (ap (λ t. t.core) left)
 
   -- ---- a scan from its visits

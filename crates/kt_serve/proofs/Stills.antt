@@ -9,19 +9,17 @@ use Rattle.kt_histlaws.specs.Parts.{part}
 use Rattle.kt_histlaws.specs.Events.{halted}
 use Rattle.kt_tablet.specs.Views.{View}
 use Rattle.kt_seatlock.specs.Trails.{Follows}
-use Rattle.kt_engine.specs.Engines.{EngineView}
+use Rattle.kt_engine.specs.Engines.{EngineView, TellsStop}
 use Rattle.kt_engine.proofs.Visiting.{root_stays}
 use Rattle.kt_engine.specs.Visits.{Root, PartView, part_in, session_of, out_of, lent_of, IsVisit}
 use Rattle.std.specs.List.{filter}
 use Rattle.kt_history.specs.declared.operation.RowOp.{RowOp}
-use Rattle.kt_history.specs.History.{Past}
-use Rattle.kt_tablet.specs.Views.{IsSound}
-use Rattle.kt_engine.specs.Engines.{IsContent}
 use Rattle.kt_serve.specs.declared.log.LogTurn.{LogTurn}
 use Rattle.kt_serve.specs.declared.log.LogTurn.TheVariants as turn
 use Rattle.kt_serve.specs.Sessions.{AfterTurn, LentBy, Flies, HasRoot, IsQuiet, HasNoLog, HasLog, IsGoing, IsStill, IsAloft, has_stop}
 use Rattle.kt_serve.proofs.Lines.{follows_quiet, quiet_self, quiet_then, quiet_line}
-use Rattle.kt_serve.proofs.Begins.{some_is, stop_seen}
+use Rattle.kt_serve.proofs.Stops.{has_stop-end, has_stop-more, stop_seen}
+use Rattle.kt_serve.proofs.Begins.{some_is}
 
 -- a line of nobody's
 abbrev pub AddsStop : List Event → List Event → Type 0
@@ -118,33 +116,6 @@ module _ {L D C : Type 0} where
   pub still_root : (root : Root L D C) (s : ℕ) (a b : Option (PartView L D C)) (xs ys : List Event) → IsStill s a b xs ys → HasRoot root a → HasRoot root b
   still_root root s a b xs ys f h = let one = f.session h.part h.is in record { part = one.0; is = one.1; root_is = one.3 ∙ h.root_is }
 
-has_stop-end : (lines : List Event) → has_stop (lines ++ event.Stop ∷ []) ≡ true
-has_stop-end [] = refl
-has_stop-end (event.Begin s i ts m ∷ lines) = has_stop-end lines
-has_stop-end (event.End s i ts ∷ lines) = has_stop-end lines
-has_stop-end (event.Look s i t m ∷ lines) = has_stop-end lines
-has_stop-end (event.Rows s i t ∷ lines) = has_stop-end lines
-has_stop-end (event.Ancient s i t a ∷ lines) = has_stop-end lines
-has_stop-end (event.Busy s i t f ∷ lines) = has_stop-end lines
-has_stop-end (event.Mark s i a ∷ lines) = has_stop-end lines
-has_stop-end (event.Chore s i ∷ lines) = has_stop-end lines
-has_stop-end (event.Large s i n ∷ lines) = has_stop-end lines
-has_stop-end (event.Stop ∷ lines) = refl
-
--- a `stop` line stays
-has_stop-more : (lines more : List Event) → has_stop lines ≡ true → has_stop (lines ++ more) ≡ true
-has_stop-more [] more h = absurd cc
-has_stop-more (event.Begin s i ts m ∷ lines) more h = has_stop-more lines more h
-has_stop-more (event.End s i ts ∷ lines) more h = has_stop-more lines more h
-has_stop-more (event.Look s i t m ∷ lines) more h = has_stop-more lines more h
-has_stop-more (event.Rows s i t ∷ lines) more h = has_stop-more lines more h
-has_stop-more (event.Ancient s i t a ∷ lines) more h = has_stop-more lines more h
-has_stop-more (event.Busy s i t f ∷ lines) more h = has_stop-more lines more h
-has_stop-more (event.Mark s i a ∷ lines) more h = has_stop-more lines more h
-has_stop-more (event.Chore s i ∷ lines) more h = has_stop-more lines more h
-has_stop-more (event.Large s i n ∷ lines) more h = has_stop-more lines more h
-has_stop-more (event.Stop ∷ lines) more h = refl
-
 pub stop_later : (n : ℕ) (seen trail seen' : List Event) → Follows session_of n seen trail → seen' ≡ trail → has_stop seen ≡ true → has_stop seen' ≡ true
 stop_later n seen trail seen' follows sees h = ap has_stop (sees ∙ follows.1) ∙ has_stop-more seen follows.0 h
 
@@ -153,15 +124,15 @@ stop_added {C} old new seen sees e = ap has_stop (sees ∙ ap (λ (t : View C). 
 
 -- what a visit leaves that asks for the log
 module _ {L D C : Type 0} (Ready : JournalView L → List Entry → Type 0) where
-  pub after_turn : (told told' : Option (PartView L D C)) (seen' : List Event) (x y : EngineView L D C) (n n' by : ℕ) (readings : C → Option (List ℕ)) (r : LogTurn L) → told ≡ Some (part_in x n) → told' ≡ Some (part_in y n') → n' ≡ n → by ≡ n → seen' ≡ y.tablet.core.trail
-      → (first : Past) × IsContent x first → IsSound readings x.tablet → HasNoLog told → LentBy Ready x y by r → AfterTurn Ready told' seen' r
-  after_turn told told' seen' x y n n' by readings turn.Durable was is same me sees found sound home lent = no_log_same told told' x y n n' was is same lent home
-  after_turn told told' seen' x y n n' by readings (turn.Append batch) was is same me sees found sound home lent =
+  pub after_turn : (told told' : Option (PartView L D C)) (seen' : List Event) (x y : EngineView L D C) (n n' by : ℕ) (r : LogTurn L) → told ≡ Some (part_in x n) → told' ≡ Some (part_in y n') → n' ≡ n → by ≡ n → seen' ≡ y.tablet.core.trail
+      → TellsStop x.tablet.core → HasNoLog told → LentBy Ready x y by r → AfterTurn Ready told' seen' r
+  after_turn told told' seen' x y n n' by turn.Durable was is same me sees stops home lent = no_log_same told told' x y n n' was is same lent home
+  after_turn told told' seen' x y n n' by (turn.Append batch) was is same me sees stops home lent =
       (has_log told' x y n' by batch.journal batch.records is (same ∙ sym me) lent.0 lent.1 lent.2, lent.3)
-  after_turn told told' seen' x y n n' by readings turn.Wait was is same me sees found sound home lent = no_log_same told told' x y n n' was is same lent home
-  after_turn told told' seen' x y n n' by readings turn.Stopped was is same me sees found sound home lent =
-      (no_log_same told told' x y n n' was is same lent.0 home, ap has_stop (sees ∙ ap (λ v. v.tablet.core.trail) lent.0) ∙ stop_seen x readings found sound lent.1)
-  after_turn told told' seen' x y n n' by readings turn.Memory was is same me sees found sound home lent = no_log_same told told' x y n n' was is same lent home
+  after_turn told told' seen' x y n n' by turn.Wait was is same me sees stops home lent = no_log_same told told' x y n n' was is same lent home
+  after_turn told told' seen' x y n n' by turn.Stopped was is same me sees stops home lent =
+      (no_log_same told told' x y n n' was is same lent.0 home, ap has_stop (sees ∙ ap (λ v. v.tablet.core.trail) lent.0) ∙ stop_seen x stops lent.1)
+  after_turn told told' seen' x y n n' by turn.Memory was is same me sees stops home lent = no_log_same told told' x y n n' was is same lent home
 
 pub aloft_flies : {L D C : Type 0} (told : Option (PartView L D C)) (x : EngineView L D C) (s by i ts n : ℕ) (ops : List RowOp) → told ≡ Some (part_in x s) → by ≡ s → IsAloft told s i ts ops n → Flies x by
 aloft_flies {L} {D} {C} told x s by i ts n ops is me a = (

@@ -1,7 +1,8 @@
 use Rattle.std.proofs.Common.{rules, ◌≡◌, Err, false, ap, subst, ◌∙◌, sym}
 use Rattle.kt_serve.specs.Sessions.{has_stop}
 use Rattle.kt_serve.specs.Closing.{IsDone}
-use Rattle.kt_serve.proofs.Closing.{at_stop, no_stop, none_some}
+use Rattle.kt_serve.proofs.Stops.{no_stop}
+use Rattle.kt_serve.proofs.Closing.{at_stop, none_some}
 use Rattle.kt_serve.proofs.close.finish.Goals as goal
 
 pub unreachable-requires-in-Err-Out : goal.unreachable-requires-in-Err-Out
@@ -11,29 +12,25 @@ unreachable-requires-in-Err-Out g c =
 
 pub returns-then-is_stopped-clause-ends : goal.returns-then-is_stopped-clause-ends
 returns-then-is_stopped-clause-ends g c =
-    let found = c.standing.ensures.sound.found in
-    at_stop c.args.engine.now found.0 (c.standing.ensures.sound.stands found.0 found.1) (search rules)
+    at_stop c.args.engine.now c.standing.ensures.stops (search rules)
 
 pub append_last-requires-clause-none : goal.append_last-requires-clause-none
 append_last-requires-clause-none g c =
-    let found = c.standing.ensures.sound.found in
-    ap (λ v. has_stop v.tablet.core.trail) c.in-Ok.ensures.lent.2 ∙ no_stop c.args.engine.now found.0 (c.standing.ensures.sound.stands found.0 found.1) (search rules)
+    ap (λ v. has_stop v.tablet.core.trail) c.in-Ok.ensures.lent.2 ∙ no_stop c.args.engine.now c.standing.ensures.stops (search rules)
 
 -- nothing was out where the log is at home
 pub returns-in-Err-Empty-clause-ends : goal.returns-in-Err-Empty-clause-ends
 returns-in-Err-Empty-clause-ends g c =
-    let found = c.standing.ensures.sound.found in
     let goes : c.args.engine.now.tablet.core.stopped ≡ false = search rules in
     let at = c.standing.ensures.at_home c.requires.home in
     subst IsDone (sym c.in-Err-Empty.ensures.stays) record {
       goes = goes;
-      none = no_stop c.args.engine.now found.0 (c.standing.ensures.sound.stands found.0 found.1) goes;
+      none = no_stop c.args.engine.now c.standing.ensures.stops goes;
       queued = (c.log_out.ensures.empty.0 (c.in-Err-Empty.is ∙ ap Err c.in-Err-Empty.field-0-is)).2;
       out = ((c.standing.ensures.home at.0 at.1).known goes).1;
     }
 
 pub returns-in-Err-Memory-clause-ends : goal.returns-in-Err-Memory-clause-ends
 returns-in-Err-Memory-clause-ends g c =
-    let found = c.standing.ensures.sound.found in
     let goes : c.args.engine.now.tablet.core.stopped ≡ false = search rules in
-    (ap (λ v. v.tablet.core.stopped) c.in-Err-Memory.ensures.stays ∙ goes, ap (λ v. has_stop v.tablet.core.trail) c.in-Err-Memory.ensures.stays ∙ no_stop c.args.engine.now found.0 (c.standing.ensures.sound.stands found.0 found.1) goes)
+    (ap (λ v. v.tablet.core.stopped) c.in-Err-Memory.ensures.stays ∙ goes, ap (λ v. has_stop v.tablet.core.trail) c.in-Err-Memory.ensures.stays ∙ no_stop c.args.engine.now c.standing.ensures.stops goes)

@@ -10,5 +10,5 @@ pub returns-clause-still : goal.returns-clause-still
 returns-clause-still g c = still_tablet _ _ _ _ c.enter-engine.result c.lend-turn.new.engine c.number-by.result _ _ c.enter-engine.ensures.part.0 c.leave.ensures.told.1 (c.leave.ensures.pass.0.1 ∙ c.enter-engine.ensures.pass.0.1) c.enter-engine.ensures.trail c.leave.ensures.told.0 c.lend-turn.ensures.visit c.lend-turn.ensures.tablet
 
 pub returns-clause-turn : goal.returns-clause-turn
-returns-clause-turn g c = after_turn (IsLent g.L.Disk.tells g.L.Disk.seen g.L.Disk.now g.L.Disk.leaves) _ _ _ c.enter-engine.result c.lend-turn.new.engine _ _ c.number-by.result g.C.Clock.readings c.lend-turn.result c.enter-engine.ensures.part.0 c.leave.ensures.told.1 (c.leave.ensures.pass.0.1 ∙ c.enter-engine.ensures.pass.0.1) c.number-by.ensures c.leave.ensures.told.0
-    c.standing.ensures.found c.standing.ensures.sound c.requires.home c.lend-turn.ensures.turn
+returns-clause-turn g c = after_turn (IsLent g.L.Disk.tells g.L.Disk.seen g.L.Disk.now g.L.Disk.leaves) _ _ _ c.enter-engine.result c.lend-turn.new.engine _ _ c.number-by.result c.lend-turn.result c.enter-engine.ensures.part.0 c.leave.ensures.told.1 (c.leave.ensures.pass.0.1 ∙ c.enter-engine.ensures.pass.0.1) c.number-by.ensures c.leave.ensures.told.0
+    c.standing.ensures.stops c.requires.home c.lend-turn.ensures.turn

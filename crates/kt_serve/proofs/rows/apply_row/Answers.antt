@@ -10,5 +10,5 @@ pub returns-clause-home : goal.returns-clause-home
 returns-clause-home g c = log_after _ _ c.enter-engine.result c.apply_next-applied.new.engine _ _ c.number-by.result c.apply_next-applied.result c.enter-engine.ensures.part.0 c.leave.ensures.told.1 (c.leave.ensures.pass.0.1 ∙ c.enter-engine.ensures.pass.0.1) c.requires.home c.apply_next-applied.ensures.applied
 
 pub returns-clause-applied : goal.returns-clause-applied
-returns-clause-applied g c = after_apply _ _ _ _ c.enter-engine.result c.apply_next-applied.new.engine _ _ c.number-by.result c.args.at g.C.Clock.readings c.apply_next-applied.result c.enter-engine.ensures.part.0 c.leave.ensures.told.1 (c.leave.ensures.pass.0.1 ∙ c.enter-engine.ensures.pass.0.1) c.number-by.ensures c.enter-engine.ensures.trail c.leave.ensures.told.0
-    c.standing.ensures.found c.standing.ensures.sound c.apply_next-applied.ensures.visit c.apply_next-applied.ensures.applied
+returns-clause-applied g c = after_apply _ _ _ _ c.enter-engine.result c.apply_next-applied.new.engine _ _ c.number-by.result c.args.at c.apply_next-applied.result c.enter-engine.ensures.part.0 c.leave.ensures.told.1 (c.leave.ensures.pass.0.1 ∙ c.enter-engine.ensures.pass.0.1) c.number-by.ensures c.enter-engine.ensures.trail c.leave.ensures.told.0
+    c.standing.ensures.stops c.apply_next-applied.ensures.visit c.apply_next-applied.ensures.applied

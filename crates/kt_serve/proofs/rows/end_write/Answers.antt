@@ -17,5 +17,5 @@ pub returns-in-Ok-clause-root : goal.returns-in-Ok-clause-root
 returns-in-Ok-clause-root g c = same_root _ _ c.enter-engine.result c.end-ended.new.self c.number-by.result _ _ c.enter-engine.ensures.part.0 c.leave.ensures.told.1 c.end-ended.ensures.visit
 
 pub returns-clause-reply : goal.returns-clause-reply
-returns-clause-reply g c = λ i w. after_stop _ _ _ _ c.enter-engine.result c.end-ended.new.self c.number-by.result _ _ g.C.Clock.readings c.enter-engine.ensures.part.0 c.leave.ensures.told.1 (c.leave.ensures.pass.0.1 ∙ c.enter-engine.ensures.pass.0.1) c.enter-engine.ensures.trail c.leave.ensures.told.0
-    c.standing.ensures.found c.standing.ensures.sound c.end-ended.ensures.visit c.in-Err.ensures.same (stopped_by c.enter-engine.result.tablet.core.stopped c.end-ended.result c.in-Err.field-0 c.end-ended.ensures.goes c.in-Err.is)
+returns-clause-reply g c = λ i w. after_stop _ _ _ _ c.enter-engine.result c.end-ended.new.self c.number-by.result _ _ c.enter-engine.ensures.part.0 c.leave.ensures.told.1 (c.leave.ensures.pass.0.1 ∙ c.enter-engine.ensures.pass.0.1) c.enter-engine.ensures.trail c.leave.ensures.told.0
+    c.standing.ensures.stops c.end-ended.ensures.visit c.in-Err.ensures.same (stopped_by c.enter-engine.result.tablet.core.stopped c.end-ended.result c.in-Err.field-0 c.end-ended.ensures.goes c.in-Err.is)

@@ -15,6 +15,6 @@ pub returns-clause-root : goal.returns-clause-root
 returns-clause-root g c = same_root _ _ c.enter-engine.result c.look-looked.new.self c.number-by.result _ _ c.enter-engine.ensures.part.0 c.leave.ensures.told.1 c.look-looked.ensures.visit
 
 pub returns-clause-looked : goal.returns-clause-looked
-returns-clause-looked g c = after_look _ _ _ _ c.enter-engine.result c.look-looked.new.self _ _ c.number-by.result c.args.index g.C.Clock.readings c.look-looked.result
+returns-clause-looked g c = after_look _ _ _ _ c.enter-engine.result c.look-looked.new.self _ _ c.number-by.result c.args.index c.look-looked.result
     c.enter-engine.ensures.part.0 c.leave.ensures.told.1 (c.leave.ensures.pass.0.1 ∙ c.enter-engine.ensures.pass.0.1) c.number-by.ensures c.requires.next c.enter-engine.ensures.trail c.leave.ensures.told.0
-    c.standing.ensures.found c.standing.ensures.sound c.look-looked.ensures.looked (ap (λ v. v.log) c.look-looked.ensures.beside) c.look-looked.ensures.same c.look-looked.ensures.goes
+    c.standing.ensures.stops c.look-looked.ensures.looked (ap (λ v. v.log) c.look-looked.ensures.beside) c.look-looked.ensures.same c.look-looked.ensures.goes

@@ -20,7 +20,7 @@ pub returns-clause-read : goal.returns-clause-read
 returns-clause-read g c = subst (λ r. AfterRead (part c.args.pass.now) (part c.leave.new.pass) (seen c.args.pass.now) (seen c.leave.new.pass) (number c.args.pass.now) c.args.index c.args.at r) (sym c.turn_of.ensures)
     (after_read _ _ _ _ c.enter-engine.result c.snapshot-read.new.self _ _ c.number-by.result c.args.index c.args.at g.C.Clock.readings c.snapshot-read.result
     c.enter-engine.ensures.part.0 c.leave.ensures.told.1 (c.leave.ensures.pass.0.1 ∙ c.enter-engine.ensures.pass.0.1) c.number-by.ensures c.requires.next c.enter-engine.ensures.trail c.leave.ensures.told.0
-    c.standing.ensures.found c.standing.ensures.sound c.snapshot-read.ensures.read c.snapshot-read.ensures.mark c.snapshot-read.ensures.shows (ap (λ v. v.log) c.snapshot-read.ensures.beside) c.snapshot-read.ensures.refused c.snapshot-read.ensures.left)
+    c.standing.ensures.stops c.standing.ensures.sound c.snapshot-read.ensures.read c.snapshot-read.ensures.mark c.snapshot-read.ensures.copied c.snapshot-read.ensures.shows (ap (λ v. v.log) c.snapshot-read.ensures.beside) c.snapshot-read.ensures.refused c.snapshot-read.ensures.left)
 
 pub returns-clause-open : goal.returns-clause-open
 returns-clause-open g c = is_open _ c.enter-engine.result _ c.args.index c.requires.next.look _ g.C.Clock.readings c.enter-engine.ensures.part.0 (look_turn _ c.args.index c.args.at c.enter-engine.result _ c.requires.next c.enter-engine.ensures.part.0) c.enter-engine.ensures.trail c.standing.ensures.sound

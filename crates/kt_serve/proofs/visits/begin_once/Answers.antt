@@ -10,9 +10,9 @@ pub returns-clause-root : goal.returns-clause-root
 returns-clause-root g c = same_root _ _ c.enter-engine.result c.begin_draft-begun.new.self c.number-by.result _ _ c.enter-engine.ensures.part.0 c.leave.ensures.told.1 c.begin_draft-begun.ensures.visit
 
 pub returns-clause-begun : goal.returns-clause-begun
-returns-clause-begun g c = begun_after _ _ _ _ c.enter-engine.result c.begin_draft-begun.new.self _ _ c.number-by.result c.args.index c.args.draft.now.write.ops g.C.Clock.readings c.begin_draft-begun.result
+returns-clause-begun g c = begun_after _ _ _ _ c.enter-engine.result c.begin_draft-begun.new.self _ _ c.number-by.result c.args.index c.args.draft.now.write.ops c.begin_draft-begun.result
     c.enter-engine.ensures.part.0 c.leave.ensures.told.1 (c.leave.ensures.pass.0.1 ∙ c.enter-engine.ensures.pass.0.1) c.number-by.ensures c.requires.next c.enter-engine.ensures.trail c.leave.ensures.told.0
-    c.standing.ensures.found c.standing.ensures.sound c.begin_draft-begun.ensures.begun c.begin_draft-begun.ensures.queued c.begin_draft-begun.ensures.left c.begin_draft-begun.ensures.refused c.begin_draft-begun.ensures.waits
+    c.standing.ensures.stops c.begin_draft-begun.ensures.begun c.begin_draft-begun.ensures.queued c.begin_draft-begun.ensures.left c.begin_draft-begun.ensures.refused c.begin_draft-begun.ensures.waits
 
 pub returns-clause-open : goal.returns-clause-open
 returns-clause-open g c = is_open _ c.enter-engine.result _ c.args.index None _ g.C.Clock.readings c.enter-engine.ensures.part.0 (free_turn _ _ c.enter-engine.result _ c.requires.next c.enter-engine.ensures.part.0) c.enter-engine.ensures.trail c.standing.ensures.sound

@@ -23,8 +23,8 @@ pub returns-in-Err-Stopped-clause-home : goal.returns-in-Err-Stopped-clause-home
 returns-in-Err-Stopped-clause-home g c = log_stays _ _ c.enter-engine.result c.mark-marked.new.self _ _ c.enter-engine.ensures.part.0 c.leave.ensures.told.1 (c.leave.ensures.pass.0.1 ∙ c.enter-engine.ensures.pass.0.1) (free_log _ _ c.requires.next) (ap (λ v. v.log.holder) c.mark-marked.ensures.beside) (ap (λ v. v.log.out) c.mark-marked.ensures.beside)
 
 pub returns-in-Err-Stopped-clause-reply : goal.returns-in-Err-Stopped-clause-reply
-returns-in-Err-Stopped-clause-reply g c = after_stop _ _ _ _ c.enter-engine.result c.mark-marked.new.self c.number-by.result _ _ g.C.Clock.readings c.enter-engine.ensures.part.0 c.leave.ensures.told.1 (c.leave.ensures.pass.0.1 ∙ c.enter-engine.ensures.pass.0.1) c.enter-engine.ensures.trail c.leave.ensures.told.0
-    c.standing.ensures.found c.standing.ensures.sound c.mark-marked.ensures.visit (rw c.in-Err-Stopped.is at c.mark-marked.ensures.same) (c.mark-marked.ensures.goes (search rules))
+returns-in-Err-Stopped-clause-reply g c = after_stop _ _ _ _ c.enter-engine.result c.mark-marked.new.self c.number-by.result _ _ c.enter-engine.ensures.part.0 c.leave.ensures.told.1 (c.leave.ensures.pass.0.1 ∙ c.enter-engine.ensures.pass.0.1) c.enter-engine.ensures.trail c.leave.ensures.told.0
+    c.standing.ensures.stops c.mark-marked.ensures.visit (rw c.in-Err-Stopped.is at c.mark-marked.ensures.same) (c.mark-marked.ensures.goes (search rules))
 
 pub returns-in-Err-Memory-clause-home : goal.returns-in-Err-Memory-clause-home
 returns-in-Err-Memory-clause-home g c = log_stays _ _ c.enter-engine.result c.mark-marked.new.self _ _ c.enter-engine.ensures.part.0 c.leave.ensures.told.1 (c.leave.ensures.pass.0.1 ∙ c.enter-engine.ensures.pass.0.1) (free_log _ _ c.requires.next) (ap (λ v. v.log.holder) c.mark-marked.ensures.beside) (ap (λ v. v.log.out) c.mark-marked.ensures.beside)
