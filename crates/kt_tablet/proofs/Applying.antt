@@ -16,13 +16,15 @@ use Rattle.kt_histlaws.specs.Histories.{Store, hist_in, push, row_of, or_else}
 use Rattle.kt_histlaws.specs.Flights.{Under, AllOps}
 use Rattle.kt_histlaws.specs.Core.{live}
 use Rattle.kt_histlaws.specs.Events.{pushed_if}
-use Rattle.kt_tablet.specs.Stores.{last_row, change_of, change_by, is_there, with_change, share}
+use Rattle.kt_tablet.specs.Stores.{change_of, change_by, is_there, with_change, share}
 use Rattle.kt_tablet.specs.Filling.{filled, filled_change}
+use Rattle.kt_memrowset.specs.Stores.{last_row}
 use Rattle.kt_memrowset.specs.Taking.{kind_made}
+use Rattle.kt_memrowset.proofs.Last.{last_under}
 use Rattle.kt_records.specs.declared.entry.CommitRow.{CommitRow}
 use Rattle.kt_history.specs.declared.change.Outcome.{Outcome}
 use Rattle.kt_tablet.specs.Rows.{targets_of, commit_row}
-use Rattle.kt_tablet.proofs.Filling.{last_alike, last_under, find-filled, push-filled, put-filled, under-filled}
+use Rattle.kt_tablet.proofs.Filling.{last_alike, find-filled, push-filled, put-filled, under-filled}
 
 none_is_some : (op : RowOp) → None ≡ Some op → ⊥
 none_is_some op e = cc
@@ -99,7 +101,7 @@ change_filled fill q ts (Some c) store = ap (λ s. s ∷ []) (
     ∙ ap (λ h. put key_cmp q (push ts (filled_change fill c) h) (filled fill store)) (sym (find-filled fill q store)))
 
 -- below every later change, the live row is there exactly where the last one is
-pub under_store : (fill : Row) (q : List ℕ) (ts : ℕ) (store : Store) → Under ts (hist_in q (filled fill store)).steps → Under ts (hist_in q store).steps
+under_store : (fill : Row) (q : List ℕ) (ts : ℕ) (store : Store) → Under ts (hist_in q (filled fill store)).steps → Under ts (hist_in q store).steps
 under_store fill q ts store under = under-filled fill ts (hist_in q store).steps (subst (λ h. Under ts h.steps) (find-filled fill q store) under)
 
 live_one : (q : List ℕ) (ts : ℕ) (store : Store) → live (store ∷ []) q ts ≡ row_of ts (hist_in q store)
@@ -111,13 +113,13 @@ live_one q ts store = one (row_of ts (hist_in q store))
 
 pub there_live : (fill : Row) (op : RowOp) (ts : ℕ) (store : Store) → Under ts (hist_in op.key (filled fill store)).steps → is_there op store ≡ is_some (live (filled fill store ∷ []) op.key ts)
 there_live fill op ts store under = sym (
-    ap is_some (live_one op.key ts (filled fill store) ∙ last_under ts (hist_in op.key (filled fill store)).steps (hist_in op.key (filled fill store)).first under)
+    ap is_some (live_one op.key ts (filled fill store) ∙ sym (last_under ts (hist_in op.key (filled fill store)) under))
     ∙ ap (λ h. is_some (last_row h)) (find-filled fill op.key store) ∙ last_alike fill (hist_in op.key store))
 
-pub store_applied : (fill : Row) (op : RowOp) (ts : ℕ) (store new : Store) → Under ts (hist_in op.key (filled fill store)).steps → new ≡ with_change op.key ts (change_by op (is_there op store)) store
+pub store_applied : (fill : Row) (op : RowOp) (ts : ℕ) (store new : Store) → Under ts (hist_in op.key (filled fill store)).steps → (Under ts (hist_in op.key store).steps → new ≡ with_change op.key ts (change_by op (is_there op store)) store)
     → filled fill new ∷ [] ≡ pushed_if 0 op.key ts (effect fill op.kind op.cells (live (filled fill store ∷ []) op.key ts)).0 (filled fill store ∷ [])
 store_applied fill op ts store new under is =
-    ap (λ s. filled fill s ∷ []) is ∙ change_filled fill op.key ts (change_by op (is_there op store)) store
+    ap (λ s. filled fill s ∷ []) (is (under_store fill op.key ts store under)) ∙ change_filled fill op.key ts (change_by op (is_there op store)) store
     ∙ ap (λ o. pushed_if 0 op.key ts o (filled fill store ∷ [])) (ap (λ b. option_map (filled_change fill) (change_by op b)) (there_live fill op ts store under) ∙ change_alike fill op (live (filled fill store ∷ []) op.key ts))
 
 pub outcome_live : (fill : Row) (op : RowOp) (ts : ℕ) (store : Store) → Under ts (hist_in op.key (filled fill store)).steps → outcome_of op.kind (is_there op store) ≡ (effect fill op.kind op.cells (live (filled fill store ∷ []) op.key ts)).1

@@ -106,7 +106,6 @@ pub begin_sound : {C : Type 0} (readings : C → Option (List ℕ)) (view : View
     → trail ≡ view.core.trail ++ Begin s i ts m ∷ [] → a ≡ view.core.a → c ≡ ts → aloft ≡ view.core.aloft ++ record { s = s; i = i; ts = ts; ops = ops; applied = 0 } ∷ []
     → IsSound readings (record view { core = record view.core { trail = trail; a = a; c = c; aloft = aloft; stores = stores }; clock = clock; pool = pool })
 begin_sound readings view clock s i ts m ops needs trail a c aloft stores pool sound kept may time free more lines stays last fly = record {
-  found = sound.found;
   stands = λ first told. subst Stands (sym (new_begun (record view.core { first = first }) s i ts m ops trail a c aloft stores kept lines stays last fly))
       (subst (λ os. Stands (begun (record view.core { first = first }) s i ts m os)) (the_ops (command_at view.core.work s i) ops may.may.write)
       (begin_stands (record view.core { first = first }) s i ts m (sound.stands first told) (

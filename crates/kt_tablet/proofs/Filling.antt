@@ -1,16 +1,14 @@
 -- Filling the inserts of a store keeps which rows are there, and commutes with what an operation adds.
-use Rattle.std.proofs.Common.{◌≡◌, ℕ, List, [], ◌∷◌, Some, None, Option, refl, true, sym, ap, ◌∙◌, arith, map, is_some}
-use Rattle.std.specs.Prelude.{nat_le, if◌then◌else◌}
+use Rattle.std.proofs.Common.{◌≡◌, ℕ, List, [], ◌∷◌, Some, None, Option, refl, sym, ap, map, is_some}
 use Rattle.std.specs.FinMap.Entries.{put}
 use Rattle.std.specs.declared.cmp.Ordering.TheVariants.{Less, Equal, Greater}
 use Rattle.std.proofs.lemmas.List.{map-append}
-use Rattle.std.proofs.lemmas.Bool.Decides.{nat_tests}
 use Rattle.kt_history.specs.declared.change.Change.{Change}
 use Rattle.kt_history.specs.declared.change.Change.TheVariants.{Ins, Upd, Del}
 use Rattle.kt_history.specs.Rows.{Row, apply, key_cmp}
-use Rattle.kt_histlaws.specs.Histories.{Steps, Hist, Store, after_steps, push, hist_in}
+use Rattle.kt_histlaws.specs.Histories.{Steps, Hist, Store, push, hist_in}
 use Rattle.kt_histlaws.specs.Flights.{Under}
-use Rattle.kt_tablet.specs.Stores.{apply_all, last_row}
+use Rattle.kt_memrowset.specs.Stores.{apply_all, last_row}
 use Rattle.kt_tablet.specs.Filling.{filled_change, filled_hist, filled}
 
 -- a change makes a row there or not, whatever the cells are
@@ -31,12 +29,6 @@ all_alike fill (c ∷ steps) x y e = all_alike fill steps (apply (filled_change 
 
 pub last_alike : (fill : Row) (h : Hist) → is_some (last_row (filled_hist fill h)) ≡ is_some (last_row h)
 last_alike fill h = all_alike fill h.steps h.first h.first refl
-
--- below every later change, the row at a time is the last one
-pub last_under : (t : ℕ) (steps : Steps) (row : Option Row) → Under t steps → after_steps t steps row ≡ apply_all steps row
-last_under t [] row under = refl
-last_under t (c ∷ steps) row under = let below : nat_le c.0 t ≡ true = grind (arith, nat_tests, under.0) in
-    ap (λ b. after_steps t steps (if b then apply c.1 row else row)) below ∙ last_under t steps (apply c.1 row) under.1
 
 -- the histories of a key
 pub find-filled : (fill : Row) (q : List ℕ) (store : Store) → hist_in q (filled fill store) ≡ filled_hist fill (hist_in q store)

@@ -4,6 +4,7 @@ pub mod Exact
 pub mod Filling
 pub mod MemRows
 pub mod Told
+pub mod Written
 pub mod Flights
 pub mod Applying
 pub mod Rows
@@ -11,4 +12,3 @@ pub mod Plans
 pub mod Places
 pub mod Snaps
 pub mod Scans
-pub mod Empty

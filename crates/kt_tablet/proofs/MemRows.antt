@@ -1,49 +1,21 @@
--- A MemRowSet as a store: the row after all changes, and the cells that an operation takes.
-use Rattle.std.proofs.Common.{◌≡◌, ℕ, ◌+◌, ◌≤◌, ◌⊎◌, inl, [], ◌∷◌, Bool, true, false, cond, Option, Some, None, refl, sym, subst, ap, ◌∙◌, arith, is_some, max}
+-- A MemRowSet as a store: what it does with an operation, and the cells that this takes.
+use Rattle.std.proofs.Common.{◌≡◌, ℕ, ◌+◌, ◌≤◌, ◌⊎◌, inl, [], true, false, cond, Option, Some, None, refl, sym, subst, ap, ◌∙◌, arith, is_some}
 use Rattle.std.specs.Option.{option_map}
-use Rattle.std.specs.Prelude.{nat_le, if◌then◌else◌}
 use Rattle.std.specs.FinMap.Entries.{find}
-use Rattle.std.proofs.lemmas.Bool.Decides.{nat_tests}
 use Rattle.kt_history.specs.declared.operation.RowOp.{RowOp}
 use Rattle.kt_history.specs.declared.target.Kindly.{Kindly}
 use Rattle.kt_history.specs.declared.target.Target.{Target}
-use Rattle.kt_history.specs.Rows.{Row, apply, fits, key_cmp}
-use Rattle.kt_histlaws.specs.Histories.{Steps, Hist, Store, after_steps, row_of}
-use Rattle.kt_histlaws.specs.Flights.{UpTo, Under}
+use Rattle.kt_history.specs.Rows.{key_cmp}
+use Rattle.kt_histlaws.specs.Histories.{Store, push, hist_in}
 use Rattle.kt_pool.specs.Contents.{Contents, at_cell}
 use Rattle.kt_tree.specs.Takes.{Takes}
 use Rattle.kt_tree.specs.Trees.{need}
 use Rattle.kt_memrowset.specs.declared.store.MemRowSet.{MemRowSet}
-use Rattle.kt_memrowset.specs.Stores.{store_of, number_of, Owns, change_by, cells_taken, link_need}
+use Rattle.kt_memrowset.specs.Stores.{store_of, number_of, Owns, cells_taken, link_need}
 use Rattle.kt_memrowset.specs.Taking.{JoinsIf}
 use Rattle.kt_memrowset.proofs.Applying.{share_covers}
-use Rattle.kt_tablet.specs.Stores.{apply_all, last_row, share, change_of, with_change, IsOpenStore, TakesUpTo}
-use Rattle.kt_tablet.proofs.Filling.{last_under}
-
--- a time that no change lies above
-top : Steps → ℕ
-top [] = 0
-top (c ∷ steps) = max c.0 (top steps)
-
-up_to_more : (t u : ℕ) (steps : Steps) → t ≤ u → UpTo t steps → UpTo u steps
-up_to_more t u [] le up = tt
-up_to_more t u (c ∷ steps) le up = (let low = up.0 in omega arith, up_to_more t u steps le up.1)
-
-up_to_top : (steps : Steps) → UpTo (top steps) steps
-unfolding top
-up_to_top [] = tt
-up_to_top (c ∷ steps) = (omega arith, up_to_more (top steps) (max c.0 (top steps)) steps (omega arith) (up_to_top steps))
-
-last_up_to : (t : ℕ) (steps : Steps) (row : Option Row) → UpTo t steps → after_steps t steps row ≡ apply_all steps row
-last_up_to t [] row up = refl
-last_up_to t (c ∷ steps) row up = let below : nat_le c.0 t ≡ true = grind (arith, nat_tests, up.0) in
-    ap (λ b. after_steps t steps (if b then apply c.1 row else row)) below ∙ last_up_to t steps (apply c.1 row) up.1
-
-pub live_last : (h : Hist) (b : Bool) → ((t : ℕ) → UpTo t h.steps → b ≡ is_some (row_of t h)) → b ≡ is_some (last_row h)
-live_last h b told = told (top h.steps) (up_to_top h.steps) ∙ ap is_some (last_up_to (top h.steps) h.steps h.first (up_to_top h.steps))
-
-pub fits_last : (kind : Kindly) (op : RowOp) (ts : ℕ) (h : Hist) → Under ts h.steps → fits (change_of kind op.cells) (last_row h) ≡ true → fits (change_by kind op) (row_of ts h) ≡ true
-fits_last kind op ts h under fit = ap (fits (change_by kind op)) (last_under ts h.steps h.first under) ∙ fit
+use Rattle.kt_tablet.specs.Stores.{share, change_of, with_change, IsOpenStore, TakesUpTo}
+use Rattle.kt_tablet.proofs.Exact.{put_some}
 
 few_taken : (op : RowOp) (store : Store) → cells_taken op store ≤ share op
 few_taken op store = elim (is_some (find key_cmp op.key store)) as (λ b. link_need op.cells + cond b 0 (need op.key) ≤ share op) [
@@ -64,6 +36,7 @@ takes_share op store old new takes room = let few = few_taken op store in record
 pub record Took (s t : MemRowSet) (old new : Contents) (op : RowOp) (ts : ℕ) (kind : Option Kindly) : Type 0 where
   pub stands : IsOpenStore t new
   pub changed : store_of t new ≡ with_change op.key ts (option_map (λ kind. change_of kind op.cells) kind) (store_of s old)
+  pub has_row : store_of t new ≡ [] → kind ≡ None
   pub name : number_of t ≡ number_of s
   pub takes : TakesUpTo (share op) old new
   pub idle : kind ≡ None → (t ≡ s) × (new ≡ old)
@@ -74,6 +47,7 @@ pub took : (s t : MemRowSet) (old new : Contents) (op : RowOp) (ts : ℕ) (kind 
 took s t old new op ts None st room j = subst (λ (t : MemRowSet). Took s t old new op ts None) (sym j.0) (subst (λ (new : Contents). Took s s old new op ts None) (sym j.1) (record {
   stands = st;
   changed = refl;
+  has_row = λ none. refl;
   name = refl;
   takes = record { cells = 0; few = omega arith; used = omega arith; reserved = omega arith; size = refl };
   idle = λ e. (refl, refl);
@@ -83,6 +57,7 @@ took s t old new op ts None st room j = subst (λ (t : MemRowSet). Took s t old 
 took s t old new op ts (Some kind) st room j = record {
   stands = record { stands = j.stands; thawed = j.frozen ∙ st.thawed };
   changed = j.joined;
+  has_row = λ none. absurd (put_some op.key (push ts (change_of kind op.cells) (hist_in op.key (store_of s old))) (store_of s old) (sym j.joined ∙ none));
   name = j.number;
   takes = takes_share op (store_of s old) old new j.takes room;
   idle = λ e. absurd (some_none kind e);
@@ -97,3 +72,7 @@ took s t old new op ts (Some kind) st room j = record {
 pub none_made : (mine : Target) (kind : Option Kindly) (target : Option Target) → target ≡ option_map (λ _. mine) kind → target ≡ None → kind ≡ None
 none_made mine None target e none = refl
 none_made mine (Some kind) target e none = let f : Some mine ≡ None = sym e ∙ none in cc
+
+-- and where none was made, no store took one
+pub none_taken : (mine : Target) (kind : Option Kindly) (target : Option Target) → target ≡ option_map (λ _. mine) kind → kind ≡ None → target ≡ None
+none_taken mine kind target e none = e ∙ ap (option_map (λ _. mine)) none

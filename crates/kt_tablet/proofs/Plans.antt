@@ -40,7 +40,6 @@ pub plan_sound : {C : Type 0} (readings : C → Option (List ℕ)) (view old : V
     → (old.core.trail ≡ []) × (old.core.aloft ≡ []) × (old.core.stopped ≡ false) → HasDifferentKeys (record old.core.work { plan = plan }) → kept ≡ plan → turns ≡ first_turns plan
     → IsSound readings (record view { core = record view.core { work = record view.core.work { plan = kept }; turns = turns } })
 plan_sound readings view old plan kept turns sound same fresh planned taken places = record {
-  found = sound.found;
   stands = λ first told.
       let core : Core = record view.core { first = first } in
       let st = sound.stands first told in

@@ -1,7 +1,6 @@
 -- A row of a flying write is applied, and the write ends, as the goals of the events say it.
-use Rattle.std.proofs.Common.{◌≡◌, ℕ, zero, suc, ◌+◌, ◌-◌, ◌*◌, ◌<◌, ◌≤◌, List, [], ◌∷◌, ◌++◌, Option, Some, true, Bool, refl, sym, ap, ◌∙◌, subst, arith, map, length, take, drop, get_or}
+use Rattle.std.proofs.Common.{◌≡◌, ℕ, zero, suc, ◌+◌, ◌-◌, ◌*◌, ◌<◌, ◌≤◌, List, [], ◌∷◌, ◌++◌, Option, Some, true, Bool, refl, sym, ap, ◌∙◌, subst, arith, map, length, take, drop, length-drop, get_or}
 use Rattle.std.specs.Prelude.{◌==◌, slice_get, slice_set, vec_len, vec_capacity}
-use Rattle.std.proofs.lemmas.List.{map-append}
 use Rattle.kt_history.specs.declared.change.Outcome.{Outcome}
 use Rattle.kt_history.specs.declared.operation.RowOp.{RowOp}
 use Rattle.kt_history.specs.declared.target.Target.{Target}
@@ -23,19 +22,20 @@ use Rattle.kt_histlaws.proofs.Applying.{stores_under}
 use Rattle.kt_tablet.specs.declared.tablet.FlyingWrite.{FlyingWrite}
 use Rattle.kt_tablet.specs.Stores.{share}
 use Rattle.std.specs.List.{list_any, position_or_len}
-use Rattle.kt_tablet.specs.Rows.{IsNoted, AreNoted, commit_row}
-use Rattle.kt_tablet.specs.Views.{View, IsSound, IsReady, IsProvided, AreTold, Opens, aloft_of, flier_of}
-use Rattle.kt_tablet.specs.Visits.{MayApply, HasApplied, IsRunOutcome, IsDone, flight_of}
+use Rattle.kt_tablet.specs.Rows.{IsNoted, AreNoted, AreWritten, commit_row}
+use Rattle.kt_tablet.specs.Views.{View, IsSound, IsReady, IsProvided, AreProvided, AreTold, Opens, aloft_of, flier_of}
+use Rattle.kt_tablet.specs.Visits.{MayApply, HasApplied, IsRunOutcome, IsDone, IsWritten, flight_of}
 use Rattle.kt_tablet.proofs.Flights.{IsPlaceOf, of_another, placed_at, flying_one, owed_of, owed_at, flight_at, flight_on, next_at, within, owed_set, provided_set, provided_at, fliers_set, length_set, apart_set}
 use Rattle.kt_tablet.proofs.Applying.{need_at}
+use Rattle.kt_tablet.proofs.Written.{written_at}
 use Rattle.kt_tablet.proofs.Visits.{same_flight}
 
--- everything that the store has of the key of the next row lies below the write
+-- everything that the store has of the key of the next row lies below the write, in each past that opening found
 pub under_next : {C : Type 0} (readings : C → Option (List ℕ)) (view : View C) (j ts : ℕ) (op : RowOp) (store : Store) → IsSound readings view → view.core.stores ≡ store ∷ [] → IsNextOp j view.core.aloft ts op
-    → Under ts (hist_in op.key store).steps
-under_next readings view j ts op store sound one next =
-    let core = record view.core { first = sound.found.0 } in
-    let st = sound.stands sound.found.0 sound.found.1 in
+    → (first : Past) → Opens view.opening view.mark view.core.opened first → Under ts (hist_in op.key store).steps
+under_next readings view j ts op store sound one next first opens =
+    let core = record view.core { first = first } in
+    let st = sound.stands first opens in
     let g = applies core st j ts op next in
     (subst (λ ss. AllUnder ts (hists op.key ss)) one (stores_under view.core.stores view.core.aloft (on_nth j advance view.core.aloft) st.past view.core.a op.key ts st.stores.same g.above g.goes g.awaits)).0
 
@@ -51,11 +51,10 @@ alone_one stores store q ts one = subst (λ ss. Alone 0 (map (row_of ts) (hists 
 
 pub apply_sound : {C : Type 0} (readings : C → Option (List ℕ)) (view : View C) (j ts : ℕ) (op : RowOp) (store : Store) (aloft : List Aloft) (stores : List Store) (target : Target) (pool : Contents)
     → IsSound readings view → view.core.stores ≡ store ∷ [] → IsNextOp j view.core.aloft ts op → aloft ≡ on_nth j advance view.core.aloft
-    → stores ≡ pushed_if 0 op.key ts (effect view.core.work.fill op.kind op.cells (live view.core.stores op.key ts)).0 view.core.stores
+    → ((first : Past) → Opens view.opening view.mark view.core.opened first → stores ≡ pushed_if 0 op.key ts (effect view.core.work.fill op.kind op.cells (live view.core.stores op.key ts)).0 view.core.stores)
     → IsSound readings (record view { core = record view.core { aloft = aloft; stores = stores }; target = target; pool = pool })
 apply_sound readings view j ts op store aloft stores target pool sound one next flies kept = record {
-  found = sound.found;
-  stands = λ first told. subst Stands (sym (new_applied (record view.core { first = first }) j ts op aloft stores flies kept))
+  stands = λ first told. subst Stands (sym (new_applied (record view.core { first = first }) j ts op aloft stores flies (kept first told)))
       (apply_stands (record view.core { first = first }) (sound.stands first told) j 0 ts op next (in_list view.core.stores store one) (alone_one view.core.stores store op.key ts one));
   clock = sound.clock;
 }
@@ -125,16 +124,18 @@ has_room fill stopped flights flying lines room pool s at j w op ready a =
 
 pub has_applied : {C : Type 0} (view old : View C) (s at j : ℕ) (flights : List FlyingWrite) (w : FlyingWrite) (op : RowOp) (outcome : Outcome) (aloft : List Aloft) (stores : List Store) → view ≡ old
     → view.core.aloft ≡ map aloft_of flights → Applying flights s at j w op → aloft ≡ on_nth j advance view.core.aloft
-    → stores ≡ pushed_if 0 op.key w.ts (effect view.core.work.fill op.kind op.cells (live view.core.stores op.key w.ts)).0 view.core.stores
+    → (AllUnder w.ts (hists op.key view.core.stores) → stores ≡ pushed_if 0 op.key w.ts (effect view.core.work.fill op.kind op.cells (live view.core.stores op.key w.ts)).0 view.core.stores) → length stores ≡ length view.core.stores
     → HasApplied old.core (record view.core { aloft = aloft; stores = stores }) s at outcome
-has_applied view old s at j flights w op outcome aloft stores e flown a flies kept = subst (λ v. HasApplied v.core (record view.core { aloft = aloft; stores = stores }) s at outcome) e (record {
+has_applied view old s at j flights w op outcome aloft stores e flown a flies kept many = subst (λ v. HasApplied v.core (record view.core { aloft = aloft; stores = stores }) s at outcome) e (record {
   j = j;
   flight = aloft_of w;
   flies = ap (flight_of s) flown ∙ flight_at s flights j w a.place a.here;
   op = op;
   next = subst (λ fs. IsNextOp j fs w.ts op) (sym flown) (next_at flights j w op (within s flights j a.place) a.here (ap (slice_get w.ops) a.applied ∙ a.row));
   row = a.row;
-  core = new_applied view.core j w.ts op aloft stores flies kept;
+  core = λ k. record view.core { aloft = flies k; stores = stores };
+  stores = λ under. new_applied view.core j w.ts op aloft stores flies (kept under);
+  many = many;
   now = ap (flight_of s) (flies ∙ ap (on_nth j advance) flown) ∙ flight_on s flights j w a.place a.here;
   own = λ k ne. subst (λ fs. IsOfAnother j fs k) (sym flown) (of_another s flights j a.place k ne);
 })
@@ -142,7 +143,7 @@ has_applied view old s at j flights w op outcome aloft stores e flown a flies ke
 -- its outcome is the run's
 pub run_outcome : {C : Type 0} (readings : C → Option (List ℕ)) (view old : View C) (s at j : ℕ) (flights : List FlyingWrite) (w : FlyingWrite) (op : RowOp) (outcome : Outcome) → view ≡ old → IsSound readings view
     → view.core.aloft ≡ map aloft_of flights → Applying flights s at j w op
-    → outcome ≡ (effect view.core.work.fill op.kind op.cells (live view.core.stores op.key w.ts)).1
+    → ((first : Past) → Opens view.opening view.mark view.core.opened first → outcome ≡ (effect view.core.work.fill op.kind op.cells (live view.core.stores op.key w.ts)).1)
     → (first : Past) → Opens old.opening old.mark old.core.opened first → IsRunOutcome (record old.core { first = first }) s at outcome
 run_outcome readings view old s at j flights w op outcome e sound flown a is =
     subst (λ v. (first : Past) → Opens v.opening v.mark v.core.opened first → IsRunOutcome (record v.core { first = first }) s at outcome) e (λ first opens. record {
@@ -150,7 +151,7 @@ run_outcome readings view old s at j flights w op outcome e sound flown a is =
       flies = ap (flight_of s) flown ∙ flight_at s flights j w a.place a.here;
       op = op;
       row = a.row;
-      outcome_is = is ∙ outcome_told (record view.core { first = first }) (sound.stands first opens) j w.ts op
+      outcome_is = is first opens ∙ outcome_told (record view.core { first = first }) (sound.stands first opens) j w.ts op
           (subst (λ fs. IsNextOp j fs w.ts op) (sym flown) (next_at flights j w op (within s flights j a.place) a.here (ap (slice_get w.ops) a.applied ∙ a.row)));
     })
 
@@ -163,44 +164,39 @@ take_more f (x ∷ ops) zero op h = ap (λ o. f o ∷ []) (one x op h)
     one x op e = cc
 take_more f (x ∷ ops) (suc n) op h = let e : suc n + 1 ≡ suc (n + 1) = omega arith in ap (λ m. take m (f x ∷ map f ops)) e ∙ ap (λ os. f x ∷ os) (take_more f ops n op h)
 
-noted_one : (fill : Row) (past : Past) (target : Target) (w x : FlyingWrite) (op : RowOp) (outcome : Outcome) (row : CommitRow) → IsNoted fill past target w
+noted_one : (fill : Row) (past : Past) (w x : FlyingWrite) (op : RowOp) (outcome : Outcome) → IsNoted fill past w
     → x ≡ record w { applied = w.applied + 1; outcomes = x.outcomes; rows = x.rows } → slice_get w.ops w.applied ≡ Some op
-    → x.outcomes.items ≡ w.outcomes.items ++ outcome ∷ [] → x.rows.items ≡ w.rows.items ++ row ∷ [] → row ≡ commit_row target outcome
-    → outcome ≡ (effect_on fill (rows_at past (w.ts - 1)) op).1 → IsNoted fill past target x
-noted_one fill past target w x op outcome row noted is at outcomes rows written run =
-    subst (IsNoted fill past target) (sym is) (record {
+    → x.outcomes.items ≡ w.outcomes.items ++ outcome ∷ [] → outcome ≡ (effect_on fill (rows_at past (w.ts - 1)) op).1 → IsNoted fill past x
+noted_one fill past w x op outcome noted is at outcomes run =
+    subst (IsNoted fill past) (sym is) (record {
       outcomes = outcomes ∙ ap (λ os. os ++ outcome ∷ []) noted.outcomes ∙ ap (λ o. take w.applied (outcomes_on fill (rows_at past (w.ts - 1)) w.ops) ++ o ∷ []) run
           ∙ sym (take_more (λ o. (effect_on fill (rows_at past (w.ts - 1)) o).1) w.ops w.applied op at);
-      rows = rows ∙ ap (λ rs. rs ++ row ∷ []) noted.rows ∙ ap (λ r. map (commit_row target) w.outcomes.items ++ r ∷ []) written
-          ∙ sym (map-append (commit_row target) w.outcomes.items (outcome ∷ [])) ∙ ap (map (commit_row target)) (sym outcomes);
     })
 
-noted_set : (fill : Row) (past : Past) (target : Target) (flights : List FlyingWrite) (j : ℕ) (x : FlyingWrite) → AreNoted fill past target flights → IsNoted fill past target x → AreNoted fill past target (slice_set flights j x)
-noted_set fill past target [] j x all one = tt
-noted_set fill past target (v ∷ flights) zero x all one = (one, all.1)
-noted_set fill past target (v ∷ flights) (suc j) x all one = (all.0, noted_set fill past target flights j x all.1 one)
+noted_set : (fill : Row) (past : Past) (flights : List FlyingWrite) (j : ℕ) (x : FlyingWrite) → AreNoted fill past flights → IsNoted fill past x → AreNoted fill past (slice_set flights j x)
+noted_set fill past [] j x all one = tt
+noted_set fill past (v ∷ flights) zero x all one = (one, all.1)
+noted_set fill past (v ∷ flights) (suc j) x all one = (all.0, noted_set fill past flights j x all.1 one)
 
-noted_at : (fill : Row) (past : Past) (target : Target) (flights : List FlyingWrite) (j : ℕ) (w : FlyingWrite) → AreNoted fill past target flights → j < length flights → w ≡ get_or flights j w → IsNoted fill past target w
-noted_at fill past target [] j w all lt is = absurd (omega (arith, lt))
-noted_at fill past target (v ∷ flights) zero w all lt is = subst (IsNoted fill past target) (sym is) all.0
-noted_at fill past target (v ∷ flights) (suc j) w all lt is = noted_at fill past target flights j w all.1 (omega (arith, lt)) is
+noted_at : (fill : Row) (past : Past) (flights : List FlyingWrite) (j : ℕ) (w : FlyingWrite) → AreNoted fill past flights → j < length flights → w ≡ get_or flights j w → IsNoted fill past w
+noted_at fill past [] j w all lt is = absurd (omega (arith, lt))
+noted_at fill past (v ∷ flights) zero w all lt is = subst (IsNoted fill past) (sym is) all.0
+noted_at fill past (v ∷ flights) (suc j) w all lt is = noted_at fill past flights j w all.1 (omega (arith, lt)) is
 
-pub told_applied : {C : Type 0} (readings : C → Option (List ℕ)) (view : View C) (s at j : ℕ) (flights : List FlyingWrite) (w x : FlyingWrite) (op : RowOp) (outcome : Outcome) (row : CommitRow) (target : Target) → IsSound readings view
+pub told_applied : {C : Type 0} (readings : C → Option (List ℕ)) (view : View C) (s at j : ℕ) (flights : List FlyingWrite) (w x : FlyingWrite) (op : RowOp) (outcome : Outcome) → IsSound readings view
     → view.core.aloft ≡ map aloft_of flights → Applying flights s at j w op
-    → outcome ≡ (effect view.core.work.fill op.kind op.cells (live view.core.stores op.key w.ts)).1
-    → x ≡ record w { applied = w.applied + 1; outcomes = x.outcomes; rows = x.rows }
-    → x.outcomes.items ≡ w.outcomes.items ++ outcome ∷ [] → x.rows.items ≡ w.rows.items ++ row ∷ [] → row ≡ commit_row view.target outcome → target ≡ view.target
-    → AreTold view.core.work view.opening view.mark view.core.opened view.core.trail view.target flights
-    → AreTold view.core.work view.opening view.mark view.core.opened view.core.trail target (slice_set flights j x)
-told_applied readings view s at j flights w x op outcome row target sound flown a is more outcomes rows written same told =
-    subst (λ t. AreTold view.core.work view.opening view.mark view.core.opened view.core.trail t (slice_set flights j x)) (sym same) (λ first opens.
+    → ((first : Past) → Opens view.opening view.mark view.core.opened first → outcome ≡ (effect view.core.work.fill op.kind op.cells (live view.core.stores op.key w.ts)).1)
+    → x ≡ record w { applied = w.applied + 1; outcomes = x.outcomes; rows = x.rows } → x.outcomes.items ≡ w.outcomes.items ++ outcome ∷ []
+    → AreTold view.core.work view.opening view.mark view.core.opened view.core.trail flights
+    → AreTold view.core.work view.opening view.mark view.core.opened view.core.trail (slice_set flights j x)
+told_applied readings view s at j flights w x op outcome sound flown a is more outcomes told = λ first opens.
     let past = (state_after view.core.work (start view.core.work first view.core.opened) view.core.trail).past in
     let next = next_at flights j w op (within s flights j a.place) a.here (ap (slice_get w.ops) a.applied ∙ a.row) in
-    let run = is ∙ outcome_told (record view.core { first = first }) (sound.stands first opens) j w.ts op (subst (λ fs. IsNextOp j fs w.ts op) (sym flown) next) in
-    noted_set view.core.work.fill past view.target flights j x (told first opens)
-    (noted_one view.core.work.fill past view.target w x op outcome row
-    (noted_at view.core.work.fill past view.target flights j w (told first opens) (within s flights j a.place) a.here)
-    more (ap (slice_get w.ops) a.applied ∙ a.row) outcomes rows written run))
+    let run = is first opens ∙ outcome_told (record view.core { first = first }) (sound.stands first opens) j w.ts op (subst (λ fs. IsNextOp j fs w.ts op) (sym flown) next) in
+    noted_set view.core.work.fill past flights j x (told first opens)
+    (noted_one view.core.work.fill past w x op outcome
+    (noted_at view.core.work.fill past flights j w (told first opens) (within s flights j a.place) a.here)
+    more (ap (slice_get w.ops) a.applied ∙ a.row) outcomes run)
 
 -- what is promised is there still
 provided_one : (fill : Row) (w x : FlyingWrite) → IsProvided fill w → x ≡ record w { applied = w.applied + 1; outcomes = x.outcomes; rows = x.rows }
@@ -244,15 +240,34 @@ over_at s (v ∷ flights) (suc j) w over place is = over_at s flights j w over.1
 
 pub is_done : {C : Type 0} (view old : View C) (s j : ℕ) (flights : List FlyingWrite) (w : FlyingWrite) (outcomes : List Outcome) (rows : List CommitRow) → view ≡ old → view.core.aloft ≡ map aloft_of flights → IsPlaceOf s flights j → w ≡ get_or flights j w
     → IsOver s view.core.aloft → outcomes ≡ w.outcomes.items → rows ≡ w.rows.items
-    → AreTold view.core.work view.opening view.mark view.core.opened view.core.trail view.target flights
+    → AreTold view.core.work view.opening view.mark view.core.opened view.core.trail flights → AreWritten view.target flights
     → (first : Past) → Opens old.opening old.mark old.core.opened first → IsDone (record old.core { first = first }) old.target s outcomes rows
-is_done view old s j flights w outcomes rows e flown place here over outcomes_are rows_are told =
+is_done view old s j flights w outcomes rows e flown place here over outcomes_are rows_are told written =
     subst (λ v. (first : Past) → Opens v.opening v.mark v.core.opened first → IsDone (record v.core { first = first }) v.target s outcomes rows) e (λ first opens.
     let past = (state_after view.core.work (start view.core.work first view.core.opened) view.core.trail).past in
-    let noted = noted_at view.core.work.fill past view.target flights j w (told first opens) (within s flights j place) here in
+    let noted = noted_at view.core.work.fill past flights j w (told first opens) (within s flights j place) here in
     record {
       flight = aloft_of w;
       flies = ap (flight_of s) flown ∙ flight_at s flights j w place here;
       each = outcomes_are ∙ noted.outcomes ∙ all_taken (λ o. (effect_on view.core.work.fill (rows_at past (w.ts - 1)) o).1) w.ops w.applied (over_at s flights j w (subst (IsOver s) flown over) place here);
-      told = rows_are ∙ noted.rows ∙ ap (map (commit_row view.target)) (sym outcomes_are);
+      told = rows_are ∙ (written_at view.target flights j w written (within s flights j place) here).rows ∙ ap (map (commit_row view.target)) (sym outcomes_are);
+    })
+
+-- and so whatever opening found
+pub is_written : {C : Type 0} (view old : View C) (fill : Row) (s j : ℕ) (flights : List FlyingWrite) (w : FlyingWrite) (outcomes : List Outcome) (rows : List CommitRow) → view ≡ old → view.core.aloft ≡ map aloft_of flights → IsPlaceOf s flights j → w ≡ get_or flights j w
+    → IsOver s view.core.aloft → outcomes ≡ w.outcomes.items → rows ≡ w.rows.items → AreProvided fill flights → AreWritten view.target flights
+    → IsWritten old.core old.target s outcomes rows
+is_written view old fill s j flights w outcomes rows e flown place here over outcomes_are rows_are provided all =
+    let lt = within s flights j place in
+    let written = written_at view.target flights j w all lt here in
+    let none = ap length (over_at s flights j w (subst (IsOver s) flown over) place here) in
+    let noted = (provided_at fill flights j w provided lt here).noted.0 in
+    let long = w.outcomes.ok.0 in
+    let few = written.few in
+    let same = ap length outcomes_are in
+    subst (λ v. IsWritten v.core v.target s outcomes rows) e (record {
+      flight = aloft_of w;
+      flies = ap (flight_of s) flown ∙ flight_at s flights j w place here;
+      count = omega (arith, length-drop w.applied w.ops, none, noted, long, few, same);
+      told = rows_are ∙ written.rows ∙ ap (map (commit_row view.target)) (sym outcomes_are);
     })

@@ -242,7 +242,6 @@ pub ancient_sound : {C : Type 0} (readings : C → Option (List ℕ)) (view : Vi
     → trail ≡ view.core.trail ++ Ancient s i t a ∷ [] → turns ≡ set_nth view.core.turns s (record { next = i + 1; look = None })
     → IsSound readings (record view { core = record view.core { trail = trail; turns = turns } })
 ancient_sound readings view s i at t a trail turns sound is lines places = record {
-  found = sound.found;
   stands = λ first told. let st = sound.stands first told in subst Stands (sym (new_answered (record view.core { first = first }) s i (Ancient s i t a) trail turns lines places))
       (ancient_stands (record view.core { first = first }) s i t a st (is.goes, may_read (record view.core { first = first }) st.past s i t at (may_first view.core first s i at is.may) is.time, is.below, is.mark));
   clock = told_still readings view.opened view.clock view.core.trail trail (Ancient s i t a) sound.clock refl lines;
@@ -253,7 +252,6 @@ pub busy_sound : {C : Type 0} (readings : C → Option (List ℕ)) (view : View 
     → trail ≡ view.core.trail ++ Busy s i t f ∷ [] → turns ≡ set_nth view.core.turns s (record { next = i + 1; look = None })
     → IsSound readings (record view { core = record view.core { trail = trail; turns = turns } })
 busy_sound readings view s i t f trail turns sound is lines places = record {
-  found = sound.found;
   stands = λ first told. let st = sound.stands first told in subst Stands (sym (new_answered (record view.core { first = first }) s i (Busy s i t f) trail turns lines places))
       (busy_stands (record view.core { first = first }) s i t f st (
         is.goes,
@@ -275,7 +273,6 @@ pub rows_sound : {C : Type 0} (readings : C → Option (List ℕ)) (view : View 
     → trail ≡ view.core.trail ++ Rows s i t ∷ [] → a ≡ view.core.a → c ≡ max view.core.c t → turns ≡ set_nth view.core.turns s (record { next = i + 1; look = None })
     → IsSound readings (record view { core = record view.core { trail = trail; a = a; c = c; turns = turns } })
 rows_sound readings view s i at t trail a c turns sound may lines stays last places = record {
-  found = sound.found;
   stands = λ first told. let st = sound.stands first told in subst Stands (sym (new_read (record view.core { first = first }) s i t trail a c turns lines stays last places))
       (rows_stands (record view.core { first = first }) s i t st (may.goes, may_read (record view.core { first = first }) st.past s i t at (may_first view.core first s i at may.may) may.time, may.since, may.settled));
   clock = told_still readings view.opened view.clock view.core.trail trail (Rows s i t) sound.clock refl lines;

@@ -13,7 +13,7 @@ use Rattle.kt_history.specs.declared.event.Event.TheVariants.{Begin, End, Look, 
 use Rattle.kt_history.specs.Machine.{Turn, nth, set_nth, next_timestamp, readings_of, IfMark, command_at, least, clean_below, first_turns, HasDifferentKeys}
 use Rattle.kt_history.specs.Rows.{Row}
 use Rattle.kt_pool.specs.Contents.{Contents}
-use Rattle.kt_histlaws.specs.Histories.{Store, Shows, hists}
+use Rattle.kt_histlaws.specs.Histories.{Shows, hists}
 use Rattle.kt_histlaws.specs.Fitting.{AreSound}
 use Rattle.kt_mvcc.specs.declared.flier.Flier.{Flier}
 use Rattle.kt_mvcc.specs.Flying.{least_of}
@@ -22,8 +22,7 @@ use Rattle.kt_histlaws.specs.Events.{looked, marked, raised, answered, halted, e
 use Rattle.kt_histlaws.specs.Pending.{Aloft}
 use Rattle.kt_histlaws.proofs.Events.{look_stands, mark_stands, open_stands, chore_stands, large_stands, stop_stands, end_stands}
 use Rattle.kt_tablet.specs.declared.tablet.FlyingWrite.{FlyingWrite}
-use Rattle.kt_history.specs.History.{Past}
-use Rattle.kt_tablet.specs.Views.{View, IsSound, Opens, IsReady, aloft_of, flier_of, owed, AreProvided}
+use Rattle.kt_tablet.specs.Views.{View, IsSound, IsReady, aloft_of, flier_of, owed, AreProvided}
 use Rattle.kt_tablet.specs.Visits.{MayLook, HasLooked, MayMark, HasMarked, MayAnswerChore, MayEnd, HasEnded, IsLarge, flight_of}
 use Rattle.kt_tablet.proofs.Flights.{apart-filter}
 use Rattle.std.proofs.lemmas.Bool.Decides.{nat_tests}
@@ -80,7 +79,6 @@ pub look_sound : {C : Type 0} (readings : C → Option (List ℕ)) (view : View 
     → trail ≡ view.core.trail ++ Look s i t m ∷ [] → a ≡ view.core.a → c ≡ t → turns ≡ set_nth view.core.turns s (record { next = i; look = Some t })
     → IsSound readings (record view { core = record view.core { trail = trail; a = a; c = c; turns = turns }; clock = clock })
 look_sound readings view clock s i t m trail a c turns sound goes may time more lines stays last places = record {
-  found = sound.found;
   stands = λ first told. subst Stands (sym (new_looked (record view.core { first = first }) s i t m trail a c turns lines stays last places))
       (look_stands (record view.core { first = first }) s i t m (sound.stands first told) (goes, record { next = may.at.next; rests = may.at.rests }, may.scan, time));
   clock = told_line readings view.opened view.clock clock view.core.trail trail (Look s i t m) sound.clock more lines;
@@ -122,7 +120,6 @@ pub mark_sound : {C : Type 0} (readings : C → Option (List ℕ)) (view : View 
     → trail ≡ view.core.trail ++ Mark s i value ∷ [] → a ≡ value → c ≡ view.core.c → turns ≡ set_nth view.core.turns s (record { next = i + 1; look = None })
     → IsSound readings (record view { core = record view.core { trail = trail; a = a; c = c; turns = turns } })
 mark_sound readings view s i to value trail a c turns sound goes may is lines up stays places = record {
-  found = sound.found;
   stands = λ first told. subst Stands (sym (new_marked (record view.core { first = first }) s i value trail a c turns lines up stays places))
       (mark_stands (record view.core { first = first }) s i value (sound.stands first told)
       (goes, record { next = may.at.next; rests = may.at.rests }, if_mark (command_at view.core.work s i) to (λ t. value ≡ max view.core.a (min t (clean_below (least (map flown_by view.core.aloft)) view.core.c))) may.command is));
@@ -137,16 +134,12 @@ has_marked view old s i to value trail a c turns e is lines up stays places =
 
 -- OF
 pub of_sound : {C : Type 0} (readings : C → Option (List ℕ)) (view : View C) → view.core.trail ≡ [] → view.core.aloft ≡ [] → view.core.a ≡ view.mark → view.core.c ≡ view.core.opened → view.core.stopped ≡ false
-    → view.core.turns ≡ first_turns view.core.work.plan → view.opening ≡ view.core.stores → view.opened ≡ view.clock → HasDifferentKeys view.core.work → (first : Past) × Opens view.opening view.mark view.core.opened first → IsSound readings view
-of_sound readings view lines flies a c goes turns same told planned found = record {
-  found = found;
+    → view.core.turns ≡ first_turns view.core.work.plan → view.opening ≡ view.core.stores → view.opened ≡ view.clock → HasDifferentKeys view.core.work → IsSound readings view
+of_sound readings view lines flies a c goes turns same told planned = record {
   stands = λ first o. open_stands (record view.core { first = first }) lines flies (a ∙ sym o.mark_is) c goes turns o.ends
       (subst (λ ss. Shows first.mark ss first) same o.shows) (λ q. subst (λ ss. AreSound first.mark (hists q ss)) same (o.sound q)) planned;
   clock = subst (λ l. Grows (readings view.opened) (readings view.clock) (readings_of l)) (sym lines) (subst (λ x. Grows (readings x) (readings view.clock) []) (sym told) (grows_none (readings view.clock)));
 }
-
-pub of_found : (opening stores : List Store) (mark last : ℕ) → (first : Past) × Opens stores mark last first → opening ≡ stores → (first : Past) × Opens opening mark last first
-of_found opening stores mark last found same = subst (λ ss. (first : Past) × Opens ss mark last first) (sym same) found
 
 pub ready_first : (fill : Row) (flights : List FlyingWrite) (flying : List Flier) (lines room : ℕ) (pool : Contents) → flights ≡ [] → flying ≡ [] → pool.reserved ≡ 0 → lines + 1 ≤ room → IsReady fill false flights flying lines room pool
 ready_first fill flights flying lines room pool none rests unpromised fits = subst (λ fs. IsReady fill false fs flying lines room pool) (sym none) (record { held = rests; cells = unpromised; provided = tt; apart = tt; end = λ goes. omega (arith, fits) })
@@ -161,7 +154,6 @@ pub chore_sound : {C : Type 0} (readings : C → Option (List ℕ)) (view : View
     → trail ≡ view.core.trail ++ Chore s i ∷ [] → turns ≡ set_nth view.core.turns s (record { next = i + 1; look = None })
     → IsSound readings (record view { core = record view.core { trail = trail; turns = turns } })
 chore_sound readings view s i trail turns sound goes may lines places = record {
-  found = sound.found;
   stands = λ first told. subst Stands (sym (new_answered (record view.core { first = first }) s i (Chore s i) trail turns lines places))
       (chore_stands (record view.core { first = first }) s i (sound.stands first told) (goes, record { next = may.at.next; rests = may.at.rests }, may.chore));
   clock = told_still readings view.opened view.clock view.core.trail trail (Chore s i) sound.clock refl lines;
@@ -179,7 +171,6 @@ new_halted core trail lines = λ k. record core { trail = lines k; stopped = tru
 pub stop_sound : {C : Type 0} (readings : C → Option (List ℕ)) (view : View C) (trail : List Event) → IsSound readings view → view.core.stopped ≡ false → trail ≡ view.core.trail ++ Stop ∷ []
     → IsSound readings (record view { core = record view.core { trail = trail; stopped = true } })
 stop_sound readings view trail sound goes lines = record {
-  found = sound.found;
   stands = λ first told. subst Stands (sym (new_halted (record view.core { first = first }) trail lines)) (stop_stands (record view.core { first = first }) (sound.stands first told) goes);
   clock = told_still readings view.opened view.clock view.core.trail trail Stop sound.clock refl lines;
 }
@@ -253,7 +244,6 @@ pub end_sound : {C : Type 0} (readings : C → Option (List ℕ)) (view : View C
     → trail ≡ view.core.trail ++ End s w.index w.ts ∷ [] → a ≡ view.core.a → c ≡ view.core.c → aloft ≡ filter (λ w. not (w.s == s)) view.core.aloft → turns ≡ set_nth view.core.turns s (record { next = w.index + 1; look = None })
     → IsSound readings (record view { core = record view.core { trail = trail; a = a; c = c; aloft = aloft; turns = turns } })
 end_sound readings view s w trail a c aloft turns sound goes ends lines stays last flies places = record {
-  found = sound.found;
   stands = λ first told. subst Stands (sym (new_ended (record view.core { first = first }) s w.index w.ts trail a c aloft turns lines stays last flies places))
       (end_stands (record view.core { first = first }) s w.index w.ts (sound.stands first told) (goes, flies_so s w.index w.ts view.core.aloft (aloft_of w) ends.flies refl refl) ends.over);
   clock = told_still readings view.opened view.clock view.core.trail trail (End s w.index w.ts) sound.clock refl lines;
@@ -327,7 +317,6 @@ pub large_sound : {C : Type 0} (readings : C → Option (List ℕ)) (view : View
     → trail ≡ view.core.trail ++ Large s i n ∷ [] → turns ≡ set_nth view.core.turns s (record { next = i + 1; look = None })
     → IsSound readings (record view { core = record view.core { trail = trail; turns = turns } })
 large_sound readings view s i n trail turns sound may lines places = record {
-  found = sound.found;
   stands = λ first told. subst Stands (sym (new_answered (record view.core { first = first }) s i (Large s i n) trail turns lines places))
       (large_stands (record view.core { first = first }) s i n (sound.stands first told) (may.goes, record { next = may.at.next; rests = may.at.rests }, may.write));
   clock = told_still readings view.opened view.clock view.core.trail trail (Large s i n) sound.clock refl lines;

@@ -10,11 +10,11 @@ use Rattle.kt_history.specs.declared.target.Kindly.{Kindly}
 use Rattle.kt_history.specs.declared.target.Kindly.TheVariants as kindly
 use Rattle.kt_history.specs.Operations.{op_len}
 use Rattle.std.specs.FinMap.Entries.{is_sorted, put}
-use Rattle.kt_history.specs.Rows.{Row, apply, key_cmp}
+use Rattle.kt_history.specs.Rows.{Row, key_cmp}
 use Rattle.kt_pool.specs.Contents.{Contents, used}
-use Rattle.kt_histlaws.specs.Histories.{Store, Hist, Steps, push, hist_in}
+use Rattle.kt_histlaws.specs.Histories.{Store, push, hist_in}
 use Rattle.kt_memrowset.specs.declared.store.MemRowSet.{MemRowSet}
-use Rattle.kt_memrowset.specs.Stores.{IsStore, is_frozen}
+use Rattle.kt_memrowset.specs.Stores.{IsStore, is_frozen, last_row}
 use Rattle.kt_memrowset.specs.Taking.{kind_made}
 
 -- the change of this kind, with the operation's own cells
@@ -22,14 +22,6 @@ abbrev pub change_of : Kindly → Row → Change
 change_of kindly.Ins cells = Ins cells
 change_of kindly.Upd cells = Upd cells
 change_of kindly.Del cells = Del
-
--- the row after all changes
-abbrev pub apply_all : Steps → Option Row → Option Row
-apply_all [] row = row
-apply_all (c ∷ steps) row = apply_all steps (apply c.1 row)
-
-abbrev pub last_row : Hist → Option Row
-last_row h = apply_all h.steps h.first
 
 -- the change that an operation makes to a row that is there, or is not
 abbrev pub change_by : RowOp → Bool → Option Change

@@ -56,9 +56,8 @@ pub record Opens (opening : List Store) (mark last : ℕ) (first : Past) : Type 
   pub shows : Shows first.mark opening first
   pub sound : (q : List ℕ) → AreSound first.mark (hists q opening)
 
--- opening found a past, it stands for a run from each such, and its lines show what the clock gave
+-- it stands for a run from each past that opening found, and its lines show what the clock gave
 pub record IsSound {C : Type 0} (readings : C → Option (List ℕ)) (view : View C) : Type 0 where
-  pub found : (first : Past) × Opens view.opening view.mark view.core.opened first
   pub stands : (first : Past) → Opens view.opening view.mark view.core.opened first → Stands (record view.core { first = first })
   pub clock : Grows (readings view.opened) (readings view.clock) (readings_of view.core.trail)
 
@@ -102,5 +101,5 @@ pub record IsReady (fill : Row) (stopped : Bool) (flights : List FlyingWrite) (f
   pub end : stopped ≡ false → lines + length flights + 1 ≤ room
 
 -- what flying writes have noted is what a run from each past that opening found says
-abbrev pub AreTold : Workload → List Store → ℕ → ℕ → List Event → Target → List FlyingWrite → Type 0
-AreTold work opening mark opened trail target flights = (first : Past) → Opens opening mark opened first → AreNoted work.fill (state_after work (start work first opened) trail).past target flights
+abbrev pub AreTold : Workload → List Store → ℕ → ℕ → List Event → List FlyingWrite → Type 0
+AreTold work opening mark opened trail flights = (first : Past) → Opens opening mark opened first → AreNoted work.fill (state_after work (start work first opened) trail).past flights

@@ -11,6 +11,8 @@ use Rattle.kt_records.specs.Rules.{may_hold, EachAfter, FollowingOp}
 use Rattle.kt_tablet.specs.declared.tablet.write.BeginNo.{BeginNo}
 use Rattle.kt_tablet.specs.declared.tablet.write.BeginNo.TheVariants as no
 use Rattle.kt_tablet.specs.Rows.{commit_row}
+use Rattle.kt_histlaws.specs.Histories.{hists, on_nth}
+use Rattle.kt_histlaws.specs.Flights.{AllUnder}
 use Rattle.kt_histlaws.specs.Parts.{IsOfAnother}
 use Rattle.kt_histlaws.specs.Pending.{Aloft}
 use Rattle.kt_tablet.specs.Views.{View, unpromised}
@@ -64,7 +66,8 @@ pub record MayApply (core : Core) (s at : ℕ) : Type 0 where
   pub next : flight.applied ≡ at
   pub more : at < length flight.ops
 
--- it is applied: its change, if any, in the one store
+-- it is applied: nothing changes but that write and the stores; and where all that these have of the key lies below the write, its
+-- change, if any, is in the one store
 pub record HasApplied (old new : Core) (s at : ℕ) (outcome : Outcome) : Type 0 where
   pub j : ℕ
   pub flight : Aloft
@@ -72,7 +75,9 @@ pub record HasApplied (old new : Core) (s at : ℕ) (outcome : Outcome) : Type 0
   pub op : RowOp
   pub next : IsNextOp j old.aloft flight.ts op
   pub row : slice_get flight.ops at ≡ Some op
-  pub core : new ≡ applied old j 0 flight.ts op
+  pub core : new ≡ record old { aloft = on_nth j advance old.aloft; stores = new.stores }
+  pub stores : AllUnder flight.ts (hists op.key old.stores) → new ≡ applied old j 0 flight.ts op
+  pub many : length new.stores ≡ length old.stores
   pub now : flight_of s new.aloft ≡ Some (advance flight)
   pub own : (k : ℕ) → k ≢ s → IsOfAnother j old.aloft k
 
@@ -109,6 +114,13 @@ pub record IsDone (core : Core) (target : Target) (s : ℕ) (outcomes : List Out
   pub flight : Aloft
   pub flies : flight_of s core.aloft ≡ Some flight
   pub each : outcomes ≡ outcomes_on core.work.fill (rows_at (run_past core) (flight.ts - 1)) flight.ops
+  pub told : rows ≡ map (commit_row target) outcomes
+
+-- what is told of it, whatever opening found: an outcome for each operation, and for the log each with the store that was changed
+pub record IsWritten (core : Core) (target : Target) (s : ℕ) (outcomes : List Outcome) (rows : List CommitRow) : Type 0 where
+  pub flight : Aloft
+  pub flies : flight_of s core.aloft ≡ Some flight
+  pub count : length outcomes ≡ length flight.ops
   pub told : rows ≡ map (commit_row target) outcomes
 
 -- this write may begin, unless something stands in its way

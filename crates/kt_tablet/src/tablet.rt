@@ -61,6 +61,7 @@ impl<S: RowStore, C: Clock> Model for Tablet<S, C> {
     ghost use Rattle.std.specs.Prelude.{map, ◌≡◌, ◌∷◌, [], vec_capacity, vec_len};
     ghost use Rattle.kt_tablet.specs.Filling.{filled};
     ghost use Rattle.kt_pool.specs.Contents.{used};
+    ghost use Rattle.kt_tablet.specs.Rows.{AreWritten};
     ghost use Rattle.kt_tablet.specs.Views.{View, IsSound, IsReady, AreTold, AreVacant, aloft_of, work_of, empty};
 
     ghost Value = { View C };
@@ -105,7 +106,7 @@ impl<S: RowStore, C: Clock> Model for Tablet<S, C> {
       mark = e.mark;
       target = S.target e.store;
       pool = e.pool;
-    }) × IsReady e.fill e.stopped e.flights.items e.flight.flying (vec_len e.trail) (vec_capacity e.trail) e.pool × S.stands e.store e.pool × AreTold (work_of e.schema.value e.plan.value e.cells e.fill) (filled e.fill (S.store e.opening.value e.opening_pool.value) ∷ []) e.mark e.last e.trail.items (S.target e.store) e.flights.items × (AreVacant (filled e.fill (S.store e.store e.pool) ∷ []) → used e.pool ≡ 0) };
+    }) × IsReady e.fill e.stopped e.flights.items e.flight.flying (vec_len e.trail) (vec_capacity e.trail) e.pool × S.stands e.store e.pool × AreTold (work_of e.schema.value e.plan.value e.cells e.fill) (filled e.fill (S.store e.opening.value e.opening_pool.value) ∷ []) e.mark e.last e.trail.items e.flights.items × (AreVacant (filled e.fill (S.store e.store e.pool) ∷ []) → used e.pool ≡ 0) × AreWritten (S.target e.store) e.flights.items };
 }
 
 /// Why a scan of the present draws no time, or the mark does not rise.
@@ -141,13 +142,13 @@ fn first_parts(alloc: Global, schema: &Schema) -> Result<(Cells, Turns, Vec<Even
 impl<S: RowStore, C: Clock> Tablet<S, C> {
     ghost use Rattle.std.specs.Prelude.{◌≡◌, IfOk, IfErr, [], ◌∷◌, false};
     ghost use Rattle.kt_schema.specs.Columns.{fill_of};
-    ghost use Rattle.kt_history.specs.History.{Past};
     ghost use Rattle.kt_tablet.specs.Filling.{filled};
     ghost use Rattle.kt_pool.specs.Contents.{used};
-    ghost use Rattle.kt_tablet.specs.Views.{work_of, Opens};
+    ghost use Rattle.kt_tablet.specs.Views.{work_of};
 
     /// A tablet in which nothing has happened yet, over the store that opening made. No session has a plan yet. A write
-    /// that needs more cells than are given here is too large.
+    /// that needs more cells than are given here is too large. The store may show no past: then the tablet goes on as well,
+    /// and stands for no run.
     pub fn of(
         alloc: Global,
         store: S,
@@ -159,7 +160,6 @@ impl<S: RowStore, C: Clock> Tablet<S, C> {
         mark: u64,
     ) -> Result<Tablet<S, C>, (S, Pool, C)>
         requires stands { S.stands store pool }
-        requires found { (first : Past) × Opens (filled (fill_of schema.now) (S.store store pool) ∷ []) mark last first }
         requires unpromised { pool.reserved ≡ 0 }
         requires vacant { S.store store pool ≡ [] → used pool ≡ 0 }
         ensures lines { IfOk result (λ tablet. tablet.core.trail ≡ []) }

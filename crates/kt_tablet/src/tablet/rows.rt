@@ -34,13 +34,12 @@ pub struct WriteEnd {
 fn change_store<S: RowStore>(store: &mut S, pool: &mut Pool, ts: u64, op: &OpRef<'_>) -> CommitRow
     requires stands { S.stands store.old pool.old }
     requires reserved { share op.now ≤ pool.old.reserved }
-    requires above { Under ts (hist_in op.now.key (S.store store.old pool.old)).steps }
     ensures stands { S.stands store.new pool.new }
-    ensures changed { S.store store.new pool.new ≡ with_change op.now.key ts (change_by op.now (is_there op.now (S.store store.old pool.old))) (S.store store.old pool.old) }
+    ensures changed { Under ts (hist_in op.now.key (S.store store.old pool.old)).steps → S.store store.new pool.new ≡ with_change op.now.key ts (change_by op.now (is_there op.now (S.store store.old pool.old))) (S.store store.old pool.old) }
     ensures row { result ≡ commit_row (S.target store.old) (outcome_of op.now.kind (is_there op.now (S.store store.old pool.old))) }
     ensures name { S.target store.new ≡ S.target store.old }
     ensures takes { TakesUpTo (share op.now) pool.old pool.new }
-    ensures vacant { S.store store.new pool.new ≡ [] → used pool.new ≡ used pool.old }
+    ensures vacant { S.store store.new pool.new ≡ [] → (S.store store.old pool.old ≡ []) × (used pool.new ≡ used pool.old) }
 {
     let taken = store.take(pool, ts, op);
     let outcome = outcome(op.kind(), taken.there);
@@ -60,14 +59,13 @@ fn change_store<S: RowStore>(store: &mut S, pool: &mut Pool, ts: u64, op: &OpRef
 fn apply_op<S: RowStore>(store: &mut S, pool: &mut Pool, ts: u64, op: &OpRef<'_>) -> CommitRow
     requires stands { S.stands store.old pool.old }
     requires reserved { 2 * share op.now ≤ pool.old.reserved }
-    requires above { Under ts (hist_in op.now.key (S.store store.old pool.old)).steps }
     ensures stands { S.stands store.new pool.new }
-    ensures changed { S.store store.new pool.new ≡ with_change op.now.key ts (change_by op.now (is_there op.now (S.store store.old pool.old))) (S.store store.old pool.old) }
+    ensures changed { Under ts (hist_in op.now.key (S.store store.old pool.old)).steps → S.store store.new pool.new ≡ with_change op.now.key ts (change_by op.now (is_there op.now (S.store store.old pool.old))) (S.store store.old pool.old) }
     ensures row { result ≡ commit_row (S.target store.old) (outcome_of op.now.kind (is_there op.now (S.store store.old pool.old))) }
     ensures name { S.target store.new ≡ S.target store.old }
     ensures promised { pool.new.reserved + 2 * share op.now ≡ pool.old.reserved }
     ensures room { unpromised pool.old ≤ unpromised pool.new }
-    ensures vacant { S.store store.new pool.new ≡ [] → used pool.new ≡ used pool.old }
+    ensures vacant { S.store store.new pool.new ≡ [] → (S.store store.old pool.old ≡ []) × (used pool.new ≡ used pool.old) }
 {
     let before = pool.reserved();
     let needs = cells_of(op);
@@ -119,7 +117,7 @@ impl<S: RowStore, C: Clock> Tablet<S, C> {
     ghost use Rattle.std.specs.Prelude.{IfOk, OnErr, IsOk, IsErr, false};
     ghost use Rattle.kt_history.specs.History.{Past};
     ghost use Rattle.kt_tablet.specs.Views.{Opens};
-    ghost use Rattle.kt_tablet.specs.Visits.{MayApply, HasApplied, IsRunOutcome, MayEnd, HasEnded, IsDone, HeldBy};
+    ghost use Rattle.kt_tablet.specs.Visits.{MayApply, HasApplied, IsRunOutcome, MayEnd, HasEnded, IsDone, IsWritten, HeldBy};
 
     /// Applies the next row of the flying write of a session. It takes no memory, and no cell that was not promised.
     pub fn apply_row(&mut self, number: u32, at: usize) -> Result<Outcome, Stopped>
@@ -147,6 +145,7 @@ impl<S: RowStore, C: Clock> Tablet<S, C> {
         requires { self.old.core.stopped ≡ false → MayEnd self.old.core number }
         ensures ended { IfOk result (λ done. HasEnded self.old.core self.new.core number done.index done.ts) }
         ensures told { IfOk result (λ done. (first : Past) → Opens self.old.opening self.old.mark self.old.core.opened first → IsDone (record self.old.core { first = first }) self.old.target number done.outcomes done.rows) }
+        ensures written { IfOk result (λ done. IsWritten self.old.core self.old.target number done.outcomes done.rows) }
         ensures held { IfOk result (λ done. HeldBy self.old.core number done.ops done.keys) }
         ensures beside { self.new ≡ record self.old { core = self.new.core } }
         ensures same { OnErr result (self.new ≡ self.old) }

@@ -1,17 +1,17 @@
 use Rattle.std.proofs.Common.{ap}
 use Rattle.kt_history.specs.declared.target.Target.TheVariants.{Mem}
 use Rattle.kt_memrowset.specs.Taking.{kind_made}
-use Rattle.kt_tablet.proofs.MemRows.{live_last, took, none_made}
+use Rattle.kt_tablet.proofs.MemRows.{took, none_made, none_taken}
 use Rattle.kt_tablet.proofs.memrowset.MemRowSetRowStore.take.Goals as goal
-
-pub returns-clause-there : goal.returns-clause-there
-returns-clause-there c = live_last _ _ c.take.ensures.there
 
 pub returns-clause-stands : goal.returns-clause-stands
 returns-clause-stands c = (took c.args.self.now c.take.new.self c.args.pool.now c.take.new.pool c.args.op.now c.args.ts (kind_made c.args.op.now.kind c.take.result.there) c.requires.stands c.requires.reserved c.take.ensures.joins).stands
 
 pub returns-clause-changed : goal.returns-clause-changed
-returns-clause-changed c = (took c.args.self.now c.take.new.self c.args.pool.now c.take.new.pool c.args.op.now c.args.ts (kind_made c.args.op.now.kind c.take.result.there) c.requires.stands c.requires.reserved c.take.ensures.joins).changed
+returns-clause-changed c = λ under. (took c.args.self.now c.take.new.self c.args.pool.now c.take.new.pool c.args.op.now c.args.ts (kind_made c.args.op.now.kind c.take.result.there) c.requires.stands c.requires.reserved c.take.ensures.joins).changed
+
+pub returns-clause-has_row : goal.returns-clause-has_row
+returns-clause-has_row c = λ none. none_taken _ (kind_made c.args.op.now.kind c.take.result.there) c.take.result.target c.take.ensures.target ((took c.args.self.now c.take.new.self c.args.pool.now c.take.new.pool c.args.op.now c.args.ts (kind_made c.args.op.now.kind c.take.result.there) c.requires.stands c.requires.reserved c.take.ensures.joins).has_row none)
 
 pub returns-clause-takes : goal.returns-clause-takes
 returns-clause-takes c = (took c.args.self.now c.take.new.self c.args.pool.now c.take.new.pool c.args.op.now c.args.ts (kind_made c.args.op.now.kind c.take.result.there) c.requires.stands c.requires.reserved c.take.ensures.joins).takes

@@ -1,13 +1,16 @@
-use Rattle.std.proofs.Common.{◌<◌, length, refl, sym, ap, ◌∙◌, subst, rules}
+use Rattle.std.proofs.Common.{◌≡◌, ◌<◌, length, refl, sym, ap, ◌∙◌, subst, rules}
+use Rattle.kt_histlaws.specs.Flights.{Under}
+use Rattle.kt_histlaws.specs.Histories.{hist_in}
 use Rattle.kt_tablet.specs.Stores.{with_change, change_by, is_there}
 use Rattle.kt_tablet.specs.Rows.{commit_row}
 use Rattle.kt_tablet.specs.Views.{aloft_of}
 use Rattle.kt_tablet.specs.Visits.{MayApply}
-use Rattle.kt_tablet.proofs.Applying.{under_store, store_applied, outcome_live}
+use Rattle.kt_tablet.proofs.Applying.{store_applied, outcome_live}
 use Rattle.kt_tablet.proofs.Exact.{vacant_applied}
 use Rattle.kt_tablet.proofs.Flights.{within, aloft_set}
 use Rattle.kt_tablet.proofs.Rows.{Applying, applying, placed_is, any_shown, more_at, same_place, has_room, next_here, under_next, apply_sound, ready_applied, told_applied, has_applied, run_outcome}
 use Rattle.kt_tablet.proofs.Visits.{of_old}
+use Rattle.kt_tablet.proofs.Written.{written_applied}
 use Rattle.kt_tablet.proofs.tablet.Tablet.apply_row.Goals as goal
 
 pub place_of-place-requires : goal.place_of-place-requires
@@ -35,14 +38,6 @@ apply_op-row-requires-clause-reserved g c =
     let v = applying _ c.args.number c.args.at c.place_of-place.result c.self.inside.flights.items c.index-write.result.now c.at-op.result refl may place c.index-write.ensures c.at-op.ensures in
     let room = has_room _ _ _ _ _ _ _ _ _ _ _ _ c.self.invariant.1 v in
     room.needs
-
-pub apply_op-row-requires-clause-above : goal.apply_op-row-requires-clause-above
-apply_op-row-requires-clause-above g c =
-    let may = of_old (λ core. MayApply core c.args.number c.args.at) _ _ c.self.view_is c.requires c.if-self.false in
-    let place = placed_is c.args.number c.place_of-place.result c.self.inside.flights.items c.deref.result.now may.flight may.flies c.deref.ensures.value c.place_of-place.ensures in
-    let v = applying _ c.args.number c.args.at c.place_of-place.result c.self.inside.flights.items c.index-write.result.now c.at-op.result refl may place c.index-write.ensures c.at-op.ensures in
-    under_store c.self.inside.fill c.at-op.result.key c.index-write.result.now.ts (g.S.RowStore.store c.self.inside.store c.self.inside.pool)
-    (under_next g.C.Clock.readings _ c.place_of-place.result c.index-write.result.now.ts c.at-op.result _ c.self.invariant.0 refl (next_here c.self.inside.flights.items c.args.number c.args.at c.place_of-place.result c.index-write.result.now c.at-op.result v))
 
 pub index_mut-requires : goal.index_mut-requires
 index_mut-requires g c =
@@ -89,18 +84,20 @@ invariant_of-self g c =
     let same = same_place c.self.inside.flights.items c.place_of-place.result c.index-write.result.now c.index_mut.result.now (within c.args.number c.self.inside.flights.items c.place_of-place.result place) c.index-write.ensures c.index_mut.ensures.value in
     let a = subst (λ w. Applying c.self.inside.flights.items c.args.number c.args.at c.place_of-place.result w c.at-op.result) same v in
     let under = under_next g.C.Clock.readings _ c.place_of-place.result c.index_mut.result.now.ts c.at-op.result _ c.self.invariant.0 refl (next_here c.self.inside.flights.items c.args.number c.args.at c.place_of-place.result c.index_mut.result.now c.at-op.result a) in
-    let changed = c.apply_op-row.ensures.changed ∙ ap (λ w. with_change c.at-op.result.key w.ts (change_by c.at-op.result (is_there c.at-op.result (g.S.RowStore.store c.self.inside.store c.self.inside.pool))) (g.S.RowStore.store c.self.inside.store c.self.inside.pool)) same in
-    let stores = store_applied c.self.inside.fill c.at-op.result c.index_mut.result.now.ts (g.S.RowStore.store c.self.inside.store c.self.inside.pool) _ under changed in
+    let changed = subst (λ w. Under w.ts (hist_in c.at-op.result.key (g.S.RowStore.store c.self.inside.store c.self.inside.pool)).steps → g.S.RowStore.store c.apply_op-row.new.store c.apply_op-row.new.pool ≡ with_change c.at-op.result.key w.ts (change_by c.at-op.result (is_there c.at-op.result (g.S.RowStore.store c.self.inside.store c.self.inside.pool))) (g.S.RowStore.store c.self.inside.store c.self.inside.pool)) same c.apply_op-row.ensures.changed in
     let flies = aloft_set c.self.inside.flights.items c.place_of-place.result c.index_mut.result.now c.note.new.write a.here (ap aloft_of c.note.ensures.write) in
-    let outcome = ap (λ r. r.outcome) c.apply_op-row.ensures.row ∙ outcome_live c.self.inside.fill c.at-op.result c.index_mut.result.now.ts (g.S.RowStore.store c.self.inside.store c.self.inside.pool) under in
     let written = c.apply_op-row.ensures.row ∙ ap (commit_row (g.S.RowStore.target c.self.inside.store)) (sym (ap (λ r. r.outcome) c.apply_op-row.ensures.row)) in (
-      apply_sound g.C.Clock.readings _ c.place_of-place.result c.index_mut.result.now.ts c.at-op.result _ _ _ _ _ c.self.invariant.0 refl (next_here c.self.inside.flights.items c.args.number c.args.at c.place_of-place.result c.index_mut.result.now c.at-op.result a) flies stores,
+      apply_sound g.C.Clock.readings _ c.place_of-place.result c.index_mut.result.now.ts c.at-op.result _ _ _ _ _ c.self.invariant.0 refl (next_here c.self.inside.flights.items c.args.number c.args.at c.place_of-place.result c.index_mut.result.now c.at-op.result a) flies
+          (λ first opens. store_applied c.self.inside.fill c.at-op.result c.index_mut.result.now.ts (g.S.RowStore.store c.self.inside.store c.self.inside.pool) _ (under first opens) changed),
       ready_applied _ _ _ _ _ _ _ _ c.args.number c.place_of-place.result c.args.at c.index_mut.result.now c.note.new.write c.at-op.result
           c.self.invariant.1 a c.note.ensures.write c.note.ensures.outcome_room c.note.ensures.row_room c.apply_op-row.ensures.promised,
       c.apply_op-row.ensures.stands,
-      told_applied g.C.Clock.readings _ c.args.number c.args.at c.place_of-place.result c.self.inside.flights.items c.index_mut.result.now c.note.new.write c.at-op.result c.apply_op-row.result.outcome c.apply_op-row.result _ c.self.invariant.0 refl a
-          outcome c.note.ensures.write c.note.ensures.outcomes c.note.ensures.rows written c.apply_op-row.ensures.name c.self.invariant.3,
-      vacant_applied c.self.inside.fill c.at-op.result.key c.index_mut.result.now.ts _ (g.S.RowStore.store c.self.inside.store c.self.inside.pool) _ c.self.inside.pool c.apply_op-row.new.pool changed c.apply_op-row.ensures.vacant c.self.invariant.4,
+      told_applied g.C.Clock.readings _ c.args.number c.args.at c.place_of-place.result c.self.inside.flights.items c.index_mut.result.now c.note.new.write c.at-op.result c.apply_op-row.result.outcome c.self.invariant.0 refl a
+          (λ first opens. ap (λ r. r.outcome) c.apply_op-row.ensures.row ∙ outcome_live c.self.inside.fill c.at-op.result c.index_mut.result.now.ts (g.S.RowStore.store c.self.inside.store c.self.inside.pool) (under first opens))
+          c.note.ensures.write c.note.ensures.outcomes c.self.invariant.3,
+      vacant_applied c.self.inside.fill (g.S.RowStore.store c.self.inside.store c.self.inside.pool) _ c.self.inside.pool c.apply_op-row.new.pool c.apply_op-row.ensures.vacant c.self.invariant.4,
+      written_applied (g.S.RowStore.target c.self.inside.store) _ c.self.inside.flights.items c.place_of-place.result c.index_mut.result.now c.note.new.write c.apply_op-row.result.outcome c.apply_op-row.result c.self.invariant.5 (within c.args.number c.self.inside.flights.items c.place_of-place.result place) a.here
+          c.note.ensures.write (subst (λ n. n < length c.index_mut.result.now.ops) (sym a.applied) a.more) c.note.ensures.outcomes c.note.ensures.rows written c.apply_op-row.ensures.name,
     )
 
 pub returns-clause-applied : goal.returns-clause-applied
@@ -110,11 +107,11 @@ returns-clause-applied g c =
     let v = applying _ c.args.number c.args.at c.place_of-place.result c.self.inside.flights.items c.index-write.result.now c.at-op.result refl may place c.index-write.ensures c.at-op.ensures in
     let same = same_place c.self.inside.flights.items c.place_of-place.result c.index-write.result.now c.index_mut.result.now (within c.args.number c.self.inside.flights.items c.place_of-place.result place) c.index-write.ensures c.index_mut.ensures.value in
     let a = subst (λ w. Applying c.self.inside.flights.items c.args.number c.args.at c.place_of-place.result w c.at-op.result) same v in
-    let under = under_next g.C.Clock.readings _ c.place_of-place.result c.index_mut.result.now.ts c.at-op.result _ c.self.invariant.0 refl (next_here c.self.inside.flights.items c.args.number c.args.at c.place_of-place.result c.index_mut.result.now c.at-op.result a) in
-    let changed = c.apply_op-row.ensures.changed ∙ ap (λ w. with_change c.at-op.result.key w.ts (change_by c.at-op.result (is_there c.at-op.result (g.S.RowStore.store c.self.inside.store c.self.inside.pool))) (g.S.RowStore.store c.self.inside.store c.self.inside.pool)) same in
-    let stores = store_applied c.self.inside.fill c.at-op.result c.index_mut.result.now.ts (g.S.RowStore.store c.self.inside.store c.self.inside.pool) _ under changed in
+    let changed = subst (λ w. Under w.ts (hist_in c.at-op.result.key (g.S.RowStore.store c.self.inside.store c.self.inside.pool)).steps → g.S.RowStore.store c.apply_op-row.new.store c.apply_op-row.new.pool ≡ with_change c.at-op.result.key w.ts (change_by c.at-op.result (is_there c.at-op.result (g.S.RowStore.store c.self.inside.store c.self.inside.pool))) (g.S.RowStore.store c.self.inside.store c.self.inside.pool)) same c.apply_op-row.ensures.changed in
     let flies = aloft_set c.self.inside.flights.items c.place_of-place.result c.index_mut.result.now c.note.new.write a.here (ap aloft_of c.note.ensures.write) in
-    has_applied _ _ c.args.number c.args.at c.place_of-place.result c.self.inside.flights.items c.index_mut.result.now c.at-op.result c.note.result _ _ c.self.view_is refl a flies stores
+    has_applied _ _ c.args.number c.args.at c.place_of-place.result c.self.inside.flights.items c.index_mut.result.now c.at-op.result c.note.result _ _ c.self.view_is refl a flies
+    (λ all. store_applied c.self.inside.fill c.at-op.result c.index_mut.result.now.ts (g.S.RowStore.store c.self.inside.store c.self.inside.pool) _ all.0 changed)
+    refl
 
 pub returns-clause-run : goal.returns-clause-run
 returns-clause-run g c =
@@ -124,5 +121,5 @@ returns-clause-run g c =
     let same = same_place c.self.inside.flights.items c.place_of-place.result c.index-write.result.now c.index_mut.result.now (within c.args.number c.self.inside.flights.items c.place_of-place.result place) c.index-write.ensures c.index_mut.ensures.value in
     let a = subst (λ w. Applying c.self.inside.flights.items c.args.number c.args.at c.place_of-place.result w c.at-op.result) same v in
     let under = under_next g.C.Clock.readings _ c.place_of-place.result c.index_mut.result.now.ts c.at-op.result _ c.self.invariant.0 refl (next_here c.self.inside.flights.items c.args.number c.args.at c.place_of-place.result c.index_mut.result.now c.at-op.result a) in
-    let outcome = ap (λ r. r.outcome) c.apply_op-row.ensures.row ∙ outcome_live c.self.inside.fill c.at-op.result c.index_mut.result.now.ts (g.S.RowStore.store c.self.inside.store c.self.inside.pool) under in
-    run_outcome g.C.Clock.readings _ _ c.args.number c.args.at c.place_of-place.result c.self.inside.flights.items c.index_mut.result.now c.at-op.result c.note.result c.self.view_is c.self.invariant.0 refl a (c.note.ensures.outcome ∙ outcome)
+    run_outcome g.C.Clock.readings _ _ c.args.number c.args.at c.place_of-place.result c.self.inside.flights.items c.index_mut.result.now c.at-op.result c.note.result c.self.view_is c.self.invariant.0 refl a
+    (λ first opens. c.note.ensures.outcome ∙ ap (λ r. r.outcome) c.apply_op-row.ensures.row ∙ outcome_live c.self.inside.fill c.at-op.result c.index_mut.result.now.ts (g.S.RowStore.store c.self.inside.store c.self.inside.pool) (under first opens))

@@ -11,6 +11,7 @@ use Rattle.kt_tablet.proofs.Visits.{one_line}
 use Rattle.kt_tablet.proofs.Begins.{may_begin, begins_as, begun_as, in_the_way, apart, rests, one_flight, begin_sound, has_begun, ready_begun, promised_alike, promised_placed, way_old}
 use Rattle.kt_tablet.proofs.Exact.{vacant_still}
 use Rattle.kt_tablet.proofs.Told.{told_on, told_begun}
+use Rattle.kt_tablet.proofs.Written.{written_begun}
 use Rattle.kt_tablet.proofs.tablet.Tablet.begin_free.Goals as goal
 
 pub begin_free-ts-requires-clause-rests : goal.begin_free-ts-requires-clause-rests
@@ -56,10 +57,11 @@ invariant_of-self-2 g c =
           (c.begin_free-ts.ensures.flying ∙ (λ k. (c.make_room.ensures.flight k).flying ++ record { who = c.args.number; ts = c.begin_free-ts.result; keys = c.replace-ops.result.keyed k } ∷ []))
           may.cells promised room,
       promised_placed g.S.RowStore.stands g.S.RowStore.store c.self.inside.store c.self.inside.pool c.reserve.new.self (c.self.inside.pool.reserved + need c.replace-ops.result.ops) g.met.S.RowStore.looks c.self.invariant.2 promised,
-      told_begun (work_of c.self.inside.schema.value c.self.inside.plan.value c.self.inside.cells c.self.inside.fill) _ _ _ c.push_reserved.new.self.items (g.S.RowStore.target c.self.inside.store) _ _ _ _
+      told_begun (work_of c.self.inside.schema.value c.self.inside.plan.value c.self.inside.cells c.self.inside.fill) _ _ _ c.push_reserved.new.self.items _ _ _ _
           (told_on g.C.Clock.readings _ _ _ _ _ _ _ _ _ _ _ _ c.self.invariant.0 sound refl lines c.self.invariant.3)
-          c.push_reserved-2.ensures.items c.make_room.ensures.flights refl c.replace-ops.result.empty.0 c.replace-ops.result.empty.1,
+          c.push_reserved-2.ensures.items c.make_room.ensures.flights refl c.replace-ops.result.empty.0,
       vacant_still _ _ c.self.inside.pool c.reserve.new.self (ap (λ s. filled c.self.inside.fill s ∷ []) (promised_alike g.S.RowStore.stands g.S.RowStore.store c.self.inside.store c.self.inside.pool c.reserve.new.self (c.self.inside.pool.reserved + need c.replace-ops.result.ops) g.met.S.RowStore.looks c.self.invariant.2 promised)) (ap used promised) c.self.invariant.4,
+      written_begun (g.S.RowStore.target c.self.inside.store) c.self.inside.flights.items _ _ _ c.self.invariant.5 c.push_reserved-2.ensures.items c.make_room.ensures.flights refl c.replace-ops.result.empty.0 c.replace-ops.result.empty.1,
     )
 
 pub returns-clause-begun : goal.returns-clause-begun

@@ -4,8 +4,9 @@ use Rattle.std.specs.List.{find}
 use Rattle.kt_tablet.specs.Views.{aloft_of, flier_of, work_of}
 use Rattle.kt_tablet.specs.Visits.{MayEnd, flight_of}
 use Rattle.kt_tablet.proofs.Flights.{within, flight_at, flier_at, same_aloft, removed}
-use Rattle.kt_tablet.proofs.Rows.{any_shown, placed_is, is_done}
+use Rattle.kt_tablet.proofs.Rows.{any_shown, placed_is, is_done, is_written}
 use Rattle.kt_tablet.proofs.Told.{told_on, told_ended}
+use Rattle.kt_tablet.proofs.Written.{written_ended}
 use Rattle.kt_tablet.proofs.Visits.{of_old, ends_as, end_sound, has_ended, ended_flights, ready_ended, who_flies, flies_so, has_turn}
 use Rattle.kt_tablet.proofs.tablet.Tablet.end.Goals as goal
 
@@ -56,8 +57,9 @@ invariant_of-self g c =
       ready_ended c.args.number c.remove-write.result.index c.remove-write.result.ts _ _ _ _ _ _ _ _ _ _ _ c.self.invariant.1 c.if-self.false ends.over (flies_so c.args.number c.remove-write.result.index c.remove-write.result.ts _ (aloft_of c.remove-write.result) ends.flies refl refl)
           filtered c.take-keys.ensures.flying c.push_reserved.ensures.len c.push_reserved.ensures.capacity,
       c.self.invariant.2,
-      told_ended (work_of c.self.inside.schema.value c.self.inside.plan.value c.self.inside.cells c.self.inside.fill) _ _ _ c.push_reserved.new.self.items (g.S.RowStore.target c.self.inside.store) _ _ _ (told_on g.C.Clock.readings _ _ _ _ _ _ _ _ _ _ _ c.self.inside.flights.items c.self.invariant.0 sound refl lines c.self.invariant.3) filtered,
+      told_ended (work_of c.self.inside.schema.value c.self.inside.plan.value c.self.inside.cells c.self.inside.fill) _ _ _ c.push_reserved.new.self.items _ _ _ (told_on g.C.Clock.readings _ _ _ _ _ _ _ _ _ _ _ c.self.inside.flights.items c.self.invariant.0 sound refl lines c.self.invariant.3) filtered,
       c.self.invariant.4,
+      written_ended (g.S.RowStore.target c.self.inside.store) _ _ _ c.self.invariant.5 filtered,
     )
 
 pub returns-clause-ended : goal.returns-clause-ended
@@ -74,7 +76,13 @@ returns-clause-told g c =
     let may = of_old (λ core. MayEnd core c.args.number) _ _ c.self.view_is c.requires c.if-self.false in
     let place = placed_is c.args.number c.place_of-place.result c.self.inside.flights.items c.deref.result.now may.flight may.flies c.deref.ensures.value c.place_of-place.ensures in
     let ends = ends_as _ c.args.number c.remove-write.result may (flight_at c.args.number c.self.inside.flights.items c.place_of-place.result c.remove-write.result place c.remove-write.ensures.value) in
-    is_done _ _ c.args.number c.place_of-place.result c.self.inside.flights.items c.remove-write.result _ _ c.self.view_is refl place c.remove-write.ensures.value ends.over c.of.ensures c.of-2.ensures c.self.invariant.3
+    is_done _ _ c.args.number c.place_of-place.result c.self.inside.flights.items c.remove-write.result _ _ c.self.view_is refl place c.remove-write.ensures.value ends.over c.of.ensures c.of-2.ensures c.self.invariant.3 c.self.invariant.5
+
+pub returns-clause-written : goal.returns-clause-written
+returns-clause-written g c =
+    let may = of_old (λ core. MayEnd core c.args.number) _ _ c.self.view_is c.requires c.if-self.false in
+    let place = placed_is c.args.number c.place_of-place.result c.self.inside.flights.items c.deref.result.now may.flight may.flies c.deref.ensures.value c.place_of-place.ensures in
+    is_written _ _ c.self.inside.fill c.args.number c.place_of-place.result c.self.inside.flights.items c.remove-write.result _ _ c.self.view_is refl place c.remove-write.ensures.value may.over c.of.ensures c.of-2.ensures c.self.invariant.1.provided c.self.invariant.5
 
 pub returns-clause-held : goal.returns-clause-held
 returns-clause-held g c = λ flight found.

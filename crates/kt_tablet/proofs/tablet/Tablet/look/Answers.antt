@@ -25,6 +25,7 @@ invariant_of-self-2 g c =
       c.self.invariant.2,
       told_on g.C.Clock.readings _ _ _ _ _ _ _ _ _ _ _ _ c.self.invariant.0 sound refl lines c.self.invariant.3,
       c.self.invariant.4,
+      c.self.invariant.5,
     )
 
 pub returns-clause-looked : goal.returns-clause-looked

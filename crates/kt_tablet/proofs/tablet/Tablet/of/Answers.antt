@@ -2,8 +2,9 @@ use Rattle.std.proofs.Common.{◌≡◌, ◌∷◌, [], ◌∙◌, ap, sym, map,
 use Rattle.kt_history.specs.Machine.{first_turns}
 use Rattle.kt_tablet.specs.Filling.{filled}
 use Rattle.kt_tablet.specs.Views.{aloft_of, work_of}
-use Rattle.kt_tablet.proofs.Visits.{of_sound, of_found, ready_first}
+use Rattle.kt_tablet.proofs.Visits.{of_sound, ready_first}
 use Rattle.kt_tablet.proofs.Told.{told_none}
+use Rattle.kt_tablet.proofs.Written.{written_none}
 use Rattle.kt_tablet.proofs.Exact.{filled_none}
 use Rattle.kt_tablet.proofs.Plans.{none_planned}
 use Rattle.kt_tablet.proofs.tablet.Tablet.of.Goals as goal
@@ -15,10 +16,10 @@ invariant_of-result g c =
           (c.in-Ok.ensures.turns ∙ ap first_turns (sym none))
           (λ k. filled c.in-Ok.fill (g.S.RowStore.store (c.of-opening.ensures k) (c.of-opening_pool.ensures k)) ∷ [])
           c.of-opened.ensures
-          (none_planned (work_of c.of-2.result.value c.of.result.value c.args.cells c.in-Ok.fill) none)
-          (of_found _ _ c.args.mark c.args.last c.requires.found (λ k. filled (c.in-Ok.ensures.fill k) (g.S.RowStore.store (c.of-opening.ensures k) (c.of-opening_pool.ensures k)) ∷ [])),
+          (none_planned (work_of c.of-2.result.value c.of.result.value c.args.cells c.in-Ok.fill) none),
       ready_first _ _ _ _ _ _ c.new-3.ensures.items c.new-2.ensures.rests c.requires.unpromised c.in-Ok.ensures.room,
       c.requires.stands,
-      told_none (work_of c.of-2.result.value c.of.result.value c.args.cells c.in-Ok.fill) _ _ _ c.in-Ok.trail.items (g.S.RowStore.target c.args.store) _ c.new-3.ensures.items,
+      told_none (work_of c.of-2.result.value c.of.result.value c.args.cells c.in-Ok.fill) _ _ _ c.in-Ok.trail.items _ c.new-3.ensures.items,
       λ none. c.requires.vacant (filled_none c.in-Ok.fill (g.S.RowStore.store c.args.store c.args.pool) none.0),
+      written_none (g.S.RowStore.target c.args.store) _ c.new-3.ensures.items,
     )

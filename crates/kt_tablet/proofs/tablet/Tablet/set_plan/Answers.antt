@@ -9,8 +9,9 @@ invariant_of-self g c = (
   plan_sound g.C.Clock.readings _ _ c.args.plan.now c.of.result.value c.begin.new.self c.self.invariant.0 c.self.view_is c.requires.fresh c.requires.planned c.of.ensures c.begin.ensures,
   c.self.invariant.1,
   c.self.invariant.2,
-  told_none (work_of c.self.inside.schema.value c.of.result.value c.self.inside.cells c.self.inside.fill) _ _ _ c.self.inside.trail.items (g.S.RowStore.target c.self.inside.store) c.self.inside.flights.items (no_flights c.self.inside.flights.items (ap (λ v. v.core.aloft) c.self.view_is ∙ c.requires.fresh.1)),
+  told_none (work_of c.self.inside.schema.value c.of.result.value c.self.inside.cells c.self.inside.fill) _ _ _ c.self.inside.trail.items c.self.inside.flights.items (no_flights c.self.inside.flights.items (ap (λ v. v.core.aloft) c.self.view_is ∙ c.requires.fresh.1)),
   c.self.invariant.4,
+  c.self.invariant.5,
 )
 
 pub returns : goal.returns
