@@ -1,10 +1,6 @@
 use Rattle.kt_tablet.proofs.Exact.{none_used}
-use Rattle.kt_tablet.proofs.Empty.{found_empty}
 use Rattle.kt_trial.proofs.Planned.{planned}
 use Rattle.kt_trial.proofs.opening.tablet.Goals as goal
-
-pub of-requires-2-clause-found : goal.of-requires-2-clause-found
-of-requires-2-clause-found c = found_empty _ _ (c.new-store.ensures.empty c.in-Ok.pool)
 
 pub set_plan-requires-clause-planned : goal.set_plan-requires-clause-planned
 set_plan-requires-clause-planned c = planned (record c.in-Ok-of.tablet.core.work { plan = c.args.plan.now }) c.requires.fits
