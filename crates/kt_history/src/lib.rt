@@ -19,6 +19,7 @@ pub mod reply;
 pub mod row_list;
 pub mod row_ref;
 pub mod scan;
+mod shared_texts;
 pub mod target;
 pub mod view;
 

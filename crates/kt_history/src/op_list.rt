@@ -9,6 +9,7 @@ ghost use Rattle.kt_history.specs.Operations.{op_len};
 ghost use Rattle.kt_history.specs.Spelled.{kind as number_of_kind, kind_of, op_in, operation, OpFits, SpellsOp};
 
 use crate::OpKind;
+use crate::shared_texts::SharedTexts;
 use kt_base::NoMemory;
 use kt_bytes::Texts;
 use kt_cells::CellsRef;
@@ -124,10 +125,11 @@ fn op_of(bytes: &[u8]) -> OpRef<'_>
     }
 }
 
-/// The operations of a write, as the log spells them, one behind the other. Contracts see them as a list.
+/// The operations of a write, as the log spells them, one behind the other. Several lists may share the bytes. Contracts
+/// see each as a list.
 #[derive(Debug, Drop)]
 pub struct OpList {
-    texts: Texts,
+    texts: SharedTexts,
 }
 
 impl Model for OpList {
@@ -149,7 +151,7 @@ impl OpList {
         ensures { result ≡ [] }
     {
         OpList {
-            texts: Texts::new(alloc),
+            texts: SharedTexts::of(Texts::new(alloc)),
         }
     }
 
@@ -160,7 +162,7 @@ impl OpList {
         let bytes = Vec::with_capacity(alloc, bytes)?;
         let ends = Vec::with_capacity(alloc, ops)?;
         Ok(OpList {
-            texts: Texts::cut(bytes, ends),
+            texts: SharedTexts::of(Texts::cut(bytes, ends)),
         })
     }
 
@@ -201,7 +203,7 @@ impl OpList {
         self.texts.as_bytes()
     }
 
-    /// Adds an operation. Without memory nothing is added.
+    /// Adds an operation. Without memory nothing is added. Where the bytes are shared, an own copy is taken first.
     pub fn push(&mut self, op: &OpRef<'_>) -> Result<(), NoMemory>
         ensures ok { OnOk result (self.new ≡ self.old ++ op.now ∷ []) }
         ensures err { OnErr result (self.new ≡ self.old) }
@@ -211,7 +213,16 @@ impl OpList {
         self.texts.push_parts(&[&number, &len, op.key, op.cells])
     }
 
-    /// A copy, which takes no more memory than it needs.
+    /// The same list, of which a copy takes no memory.
+    pub fn shared(self, alloc: Global) -> Result<OpList, NoMemory>
+        ensures { IfOk result (λ list. list ≡ self) }
+    {
+        Ok(OpList {
+            texts: self.texts.shared(alloc)?,
+        })
+    }
+
+    /// Another owner of a shared list's bytes, which takes no memory, and else a copy, which takes no more than it needs.
     pub fn copy(&self) -> Result<OpList, NoMemory>
         ensures { IfOk result (λ copy. copy ≡ self.now) }
     {

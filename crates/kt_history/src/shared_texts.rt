@@ -1,0 +1,144 @@
+//! Byte strings that one list owns, or several share.
+ghost use Rattle.std.specs.Prelude.{◌≡◌, ◌<◌, ◌==◌, [], ◌∷◌, ◌++◌, length, get_or, IfOk, OnOk, OnErr};
+ghost use Rattle.std.specs.List.{concat, flat_map};
+ghost use Rattle.kt_history.specs.Shared.{held_texts};
+
+use kt_base::NoMemory;
+use kt_bytes::Texts;
+use std::alloc::Global;
+use std::marker::Model;
+use std::sync::Arc;
+
+#[derive(Debug, Drop)]
+enum Held {
+    Own(Texts),
+    Shared(Arc<Texts>),
+}
+
+fn texts_of(held: &Held) -> &Texts
+    ensures { result.now ≡ held_texts held.now }
+{
+    match held {
+        Held::Own(texts) => texts,
+        Held::Shared(texts) => texts,
+    }
+}
+
+// The same strings, of which a copy is then another owner.
+fn shared(alloc: Global, held: Held) -> Result<Held, NoMemory>
+    ensures { IfOk result (λ shared. held_texts shared ≡ held_texts held) }
+{
+    match held {
+        Held::Own(texts) => match Arc::new(alloc, texts) {
+            Ok(texts) => Ok(Held::Shared(texts)),
+            Err(_) => Err(NoMemory),
+        },
+        Held::Shared(texts) => Ok(Held::Shared(texts)),
+    }
+}
+
+fn copy(held: &Held) -> Result<Held, NoMemory>
+    ensures { IfOk result (λ copy. held_texts copy ≡ held_texts held.now) }
+{
+    match held {
+        Held::Own(texts) => Ok(Held::Own(texts.copy()?)),
+        Held::Shared(texts) => Ok(Held::Shared(Arc::try_clone(texts)?)),
+    }
+}
+
+// Adds a string that is some parts, to an own copy where the strings are shared.
+fn push_parts(held: &mut Held, parts: &[&[u8]]) -> Result<(), NoMemory>
+    ensures ok { OnOk result (held_texts held.new ≡ held_texts held.old ++ flat_map (λ p. p.now) parts.now ∷ []) }
+    ensures err { OnErr result (held_texts held.new ≡ held_texts held.old) }
+{
+    match held {
+        Held::Own(texts) => texts.push_parts(parts),
+        Held::Shared(texts) => {
+            let mut own = texts.copy()?;
+            own.push_parts(parts)?;
+            *held = Held::Own(own);
+            Ok(())
+        }
+    }
+}
+
+/// Byte strings in one buffer. While they are shared, a copy is another owner of the buffer. Contracts see them as a list.
+#[derive(Debug, Drop)]
+pub struct SharedTexts {
+    held: Held,
+}
+
+impl Model for SharedTexts {
+    ghost use Rattle.std.specs.Prelude.{List, ℕ};
+    ghost use Rattle.kt_history.specs.Shared.{held_texts};
+
+    ghost Value = { List (List ℕ) };
+
+    ghost view = { λ t. held_texts t.held };
+}
+
+impl SharedTexts {
+    /// These strings, which nothing shares yet.
+    pub fn of(texts: Texts) -> SharedTexts
+        ensures { result ≡ texts }
+    {
+        SharedTexts {
+            held: Held::Own(texts),
+        }
+    }
+
+    /// The same strings, of which a copy takes no memory.
+    pub fn shared(self, alloc: Global) -> Result<SharedTexts, NoMemory>
+        ensures { IfOk result (λ texts. texts ≡ self) }
+    {
+        Ok(SharedTexts {
+            held: shared(alloc, self.held)?,
+        })
+    }
+
+    /// How many strings there are.
+    pub fn len(&self) -> usize
+        ensures { result ≡ length self.now }
+    {
+        texts_of(&self.held).len()
+    }
+
+    pub fn is_empty(&self) -> bool
+        ensures { result ≡ (length self.now == 0) }
+    {
+        texts_of(&self.held).is_empty()
+    }
+
+    /// The string at this place, where it lies.
+    pub fn get(&self, at: usize) -> &[u8]
+        requires { at < length self.now }
+        ensures { result.now ≡ get_or self.now at [] }
+    {
+        texts_of(&self.held).get(at)
+    }
+
+    /// The bytes of all strings.
+    pub fn as_bytes(&self) -> &[u8]
+        ensures { result.now ≡ concat self.now }
+    {
+        texts_of(&self.held).as_bytes()
+    }
+
+    /// Adds a string that is some parts, one behind the other. Without memory nothing is added. Where the strings are
+    /// shared, an own copy is taken first.
+    pub fn push_parts(&mut self, parts: &[&[u8]]) -> Result<(), NoMemory>
+        ensures ok { OnOk result (self.new ≡ self.old ++ flat_map (λ p. p.now) parts.now ∷ []) }
+        ensures err { OnErr result (self.new ≡ self.old) }
+    {
+        push_parts(&mut self.held, parts)
+    }
+
+    /// Another owner of shared strings, which takes no memory, and else a copy, which takes no more than it needs.
+    pub fn copy(&self) -> Result<SharedTexts, NoMemory>
+        ensures { IfOk result (λ copy. copy ≡ self.now) }
+    {
+        Ok(SharedTexts {
+            held: copy(&self.held)?,
+        })
+    }
+}
