@@ -1,6 +1,8 @@
 -- The shortest encoding of a block's values.
 use Rattle.std.proofs.Common.{◌≡◌, ◌<◌, ◌≤◌, ◌-◌, ◌⊎◌, inl, inr, ℕ, List, length, Option, Some, None, arith, refl, sym, subst, ap, lit≤}
-use Rattle.std.proofs.lemmas.Bool.{cases_lt}
+use Rattle.std.proofs.Common.{true, false, eqb}
+use Rattle.std.specs.Bool.{OnTrue, OnFalse}
+use Rattle.std.proofs.lemmas.Bool.{cases_lt, eqb-true, eqb-false}
 use Rattle.kt_plain.specs.declared.widths.Width.{Width}
 use Rattle.kt_plain.specs.declared.items.Items.{Items}
 use Rattle.kt_plain.specs.declared.items.Items.TheVariants.{Numbers, Texts}
@@ -136,3 +138,10 @@ shortest_of_code form items e f b p h q = shortest_again form items e f p.0 b p.
 
 pub not_of_code : (form : Form) (items : Items) (e f : Encoding) (b : List ℕ) → ((a : List ℕ) × IsShortest form items e a) → (code e ≡ code f → ⊥) → ¬ IsShortest form items f b
 not_of_code form items e f b p h q = h (ap code (one_shortest form items e f p.0 b p.1 q))
+
+-- what follows from a test of two numbers
+pub if_same : (P : Type 0) (a b : ℕ) → (a ≡ b → P) → OnTrue (eqb a b) P
+if_same P a b then = (elim (eqb a b) as (λ t. eqb a b ≡ t → OnTrue t P) [ true ↦ λ e. then (eqb-true a b e) | false ↦ λ e. tt ]) refl
+
+pub if_not_same : (P : Type 0) (a b : ℕ) → ((a ≡ b → ⊥) → P) → OnFalse (eqb a b) P
+if_not_same P a b then = (elim (eqb a b) as (λ t. eqb a b ≡ t → OnFalse t P) [ true ↦ λ e. tt | false ↦ λ e. then (eqb-false a b e) ]) refl

@@ -1,14 +1,17 @@
 -- The first fields of a block, and what is behind them.
 use Rattle.std.proofs.Common.{◌≡◌, ◌<◌, ◌+◌, inl, inr, ℕ, List, ◌∷◌, ◌++◌, length, take, drop, get_or, refl, sym, ap, ◌∙◌, subst, arith, append_assoc, length-append, ◌^◌}
 use Rattle.std.specs.Int.{w32, to_le_bytes, from_le_bytes}
-use Rattle.std.proofs.lemmas.Nat.{from_le_bytes-to_le_bytes_4}
+use Rattle.std.proofs.Common.{◌≤◌, ◌-◌, []}
+use Rattle.std.proofs.lemmas.Nat.{from_le_bytes-to_le_bytes_4, le_bytes_4}
+use Rattle.std.proofs.lemmas.List.{take_rest, take-append-drop, length-take}
+use Rattle.kt_bytes.proofs.Numbers.{IsBytes, IsBytes-take, IsBytes-drop}
 use Rattle.std.proofs.Math.Seq.{take-append_seam}
 use Rattle.kt_base.specs.declared.cell.Cell.{Cell}
 use Rattle.kt_column.specs.declared.errors.Stop.{Stop}
 use Rattle.kt_column.specs.declared.errors.Stop.TheVariants.{Memory, Fault}
 use Rattle.kt_column.specs.declared.form.Form.{Form}
 use Rattle.kt_column.specs.declared.form.Encoding.{Encoding}
-use Rattle.kt_column.specs.Forms.{code}
+use Rattle.kt_column.specs.Forms.{MayUse, code}
 use Rattle.kt_column.specs.Nulls.{null_bytes}
 use Rattle.kt_column.specs.Blocks.{nulls_in, values_in, SpellsBlock, block_bytes}
 use Rattle.kt_column.specs.Faults.{IsHead, IsHeadStop, IsBody}
@@ -85,3 +88,17 @@ body_of form cs front rest bytes n e len r b count is h =
       subst (λ x. IsBody form x n len r cs) codes (subst (λ k. IsBody form b.block.encoding n k r cs) rests.0 (subst (λ x. IsBody form b.block.encoding n (length (null_bytes (nulls_in form cs) ++ b.block.values)) x cs) rests.1 body)),
       (let whole = block_len form cs front b in omega (arith, whole, rests.0)),
     )
+
+-- the encoding and the length that were read
+pub head_read : (form : Form) (bytes after front rest : List ℕ) (e : Encoding) (len : ℕ) → 1 ≤ length bytes → after ≡ take (length bytes - 1) (drop 1 bytes) → MayUse form e × (get_or bytes 0 0 ≡ code e) → front ≡ take 4 after → rest ≡ drop 4 after → 4 ≤ length after → ((i : ℕ) → get_or bytes i 0 < 256) → len ≡ from_le_bytes w32 front → len < 2 ^ 32 → IsHead form bytes e len rest
+head_read form bytes after front rest e len some is open_ at_front at_rest long fits len_is room =
+    let behind : after ≡ drop 1 bytes = is ∙ take_rest bytes 1 in
+    let four : length front ≡ 4 = omega (arith, ap length at_front, length-take 4 after) in
+    let small : (i : ℕ) → get_or front i 0 < 256 = subst (λ (xs : List ℕ). (i : ℕ) → get_or xs i 0 < 256) (sym at_front) (IsBytes-take 4 after (subst IsBytes (sym behind) (IsBytes-drop 1 bytes fits))) in
+    let number : to_le_bytes w32 len ≡ front = le_bytes_4 front len four small len_is in
+    let split : after ≡ to_le_bytes w32 len ++ rest = sym (take-append-drop 4 after) ∙ (ap (λ (t : List ℕ). t ++ drop 4 after) (sym at_front ∙ sym number) ∙ ap (λ (t : List ℕ). to_le_bytes w32 len ++ t) (sym at_rest)) in
+    record { open_ = open_.0; room = room; parts = first bytes some ∙ (ap (λ (b : ℕ). b ∷ drop 1 bytes) open_.1 ∙ ap (λ (t : List ℕ). code e ∷ t) (sym behind ∙ split)) }
+  where
+    first : (bytes : List ℕ) → 1 ≤ length bytes → bytes ≡ get_or bytes 0 0 ∷ drop 1 bytes
+    first [] some = absurd (omega arith)
+    first (b ∷ bytes) some = refl

@@ -16,3 +16,4 @@ pub mod Progress
 pub mod Once
 pub mod KeyFalls
 pub mod OnePlace
+pub mod Bodies

@@ -1,5 +1,5 @@
 -- What the codecs read, as values of a block.
-use Rattle.std.proofs.Common.{◌≡◌, ◌<◌, ◌≤◌, ◌^◌, ℕ, ℤ, List, [], ◌∷◌, length, All, arith, sym, subst, lit≤}
+use Rattle.std.proofs.Common.{◌≡◌, ◌<◌, ◌≤◌, ◌^◌, ℕ, ℤ, List, [], ◌∷◌, length, All, arith, refl, sym, subst, lit≤}
 use Rattle.std.specs.List.{concat, flat_map}
 use Rattle.std.proofs.lemmas.List.Elements.{All-nil, All-append, All-replicate, All-from_recursion, recursion_from_All}
 use Rattle.std.proofs.lemmas.List.Sums.{sum_by-le}
@@ -89,3 +89,17 @@ prefix_read form n bytes ts w few s =
 
 pub prefix_spelled : (form : Form) (n : ℕ) (bytes : List ℕ) (ts : List (List ℕ)) → Reads form Prefix n bytes (Texts ts) → prefix.SpellsWithin (limit form) bytes n ts
 prefix_spelled form n bytes ts r = record { count = r.counted; fits = record { each = recursion_from_All (λ t. length t ≤ limit form) ts r.values.short }; parts = r.encoded.1 }
+
+-- only numbers are read as runs
+pub as_runs : {Q : Type 0} (form : Form) (n : ℕ) (bytes : List ℕ) (items : Items) → Reads form RunLength n bytes items → ((zs : List ℤ) → Numbers zs ≡ items → runs.Spells (run_width (width form)) n zs bytes → Q) → Q
+as_runs form n bytes (Numbers zs) r then = then zs refl (subst (λ k. runs.Spells (run_width (width form)) k zs bytes) r.counted r.encoded)
+as_runs form n bytes (Texts ts) r then = absurd r.encoded
+
+-- and only byte lists are read from a dictionary or from prefixes
+pub as_dictionary : {Q : Type 0} (form : Form) (n : ℕ) (bytes : List ℕ) (items : Items) → Reads form Dictionary n bytes items → ((ts : List (List ℕ)) → Texts ts ≡ items → dictionary.SpellsWithin (limit form) bytes n ts → Q) → Q
+as_dictionary form n bytes (Numbers zs) r then = absurd r.encoded
+as_dictionary form n bytes (Texts ts) r then = then ts refl (dictionary_spelled form n bytes ts r)
+
+pub as_prefixes : {Q : Type 0} (form : Form) (n : ℕ) (bytes : List ℕ) (items : Items) → Reads form Prefix n bytes items → ((ts : List (List ℕ)) → Texts ts ≡ items → prefix.SpellsWithin (limit form) bytes n ts → Q) → Q
+as_prefixes form n bytes (Numbers zs) r then = absurd r.encoded
+as_prefixes form n bytes (Texts ts) r then = then ts refl (prefix_spelled form n bytes ts r)

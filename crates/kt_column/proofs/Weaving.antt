@@ -142,6 +142,17 @@ text_step cs i c ts new all lt at e so_far =
     let split : drop i cs ≡ c ∷ drop (i + 1) cs = drop_more cs i c lt ∙ ap (λ x. x ∷ drop (i + 1) cs) (sym at) in
     rw (e, append_assoc) (ap (λ r. ts ++ r) (sym (ap texts_in split ∙ texts_split c (drop (i + 1) cs))) ∙ so_far)
 
+numbers_split : (c : Cell) (cs : List Cell) → numbers_in (c ∷ cs) ≡ numbers_in (c ∷ []) ++ numbers_in cs
+numbers_split Null cs = refl
+numbers_split (Int z) cs = refl
+numbers_split (Bit_ b) cs = refl
+numbers_split (Bytes t) cs = refl
+
+pub number_step : (cs : List Cell) (i : ℕ) (c : Cell) (zs new all : List ℤ) → i < length cs → c ≡ get_or cs i c → new ≡ zs ++ numbers_in (c ∷ []) → zs ++ numbers_in (drop i cs) ≡ all → new ++ numbers_in (drop (i + 1) cs) ≡ all
+number_step cs i c zs new all lt at e so_far =
+    let split : drop i cs ≡ c ∷ drop (i + 1) cs = drop_more cs i c lt ∙ ap (λ x. x ∷ drop (i + 1) cs) (sym at) in
+    rw (e, append_assoc) (ap (λ r. zs ++ r) (sym (ap numbers_in split ∙ numbers_split c (drop (i + 1) cs))) ∙ so_far)
+
 pub text_len : (c : Cell) (ts new : List (List ℕ)) → new ≡ ts ++ texts_in (c ∷ []) → length (concat new) ≡ length (concat ts) + cell_len c
 text_len c ts new e = ap (λ r. length (concat r)) e ∙ one_text c ts
 

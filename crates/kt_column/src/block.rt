@@ -62,17 +62,26 @@ fn nulls_of(alloc: Global, form: Form, cells: &[Cell]) -> Result<Nulls, AllocErr
     Ok(nulls)
 }
 
+/// Adds the cell where it is a number.
+fn push_number(numbers: &mut Vec<i64>, cell: &Cell) -> Result<(), NoMemory>
+    ensures { OnOk result (numbers.new.items ≡ numbers.old.items ++ numbers_in (cell.now ∷ [])) }
+{
+    let number = match cell {
+        Cell::Int(number) => *number,
+        Cell::Bool(bit) => i64::from(*bit),
+        Cell::Null | Cell::Bytes(_) => return Ok(()),
+    };
+    numbers.push(number)?;
+    Ok(())
+}
+
 /// The numbers among the cells.
 fn numbers_of(alloc: Global, cells: &[Cell]) -> Result<Vec<i64>, NoMemory>
     ensures { IfOk result (λ v. v.items ≡ numbers_in cells.now) }
 {
     let mut numbers = Vec::new(alloc);
     for cell in cells {
-        match cell {
-            Cell::Int(number) => numbers.push(*number)?,
-            Cell::Bool(bit) => numbers.push(i64::from(*bit))?,
-            Cell::Null | Cell::Bytes(_) => {}
-        }
+        push_number(&mut numbers, cell)?;
     }
     Ok(numbers)
 }
@@ -163,7 +172,7 @@ fn spelled(alloc: Global, form: Form, nulls: &Nulls, values: &Values) -> Result<
         return Err(NoMemory);
     };
     let mut out = Vec::new(alloc);
-    out.push(chosen.encoding as u8)?;
+    out.push(chosen.encoding.code())?;
     out.extend_from_slice(&len.to_le_bytes())?;
     out.extend_from_slice(&content)?;
     Ok(out)

@@ -1,10 +1,10 @@
 //! From the bytes of a block to its cells.
 
-ghost use Rattle.std.specs.Prelude.{◌≡◌, ◌<◌, ◌≤◌, ◌+◌, ◌^◌, ◌++◌, ℕ, List, length, take, drop, IfOk, IfErr, MatchResult};
+ghost use Rattle.std.specs.Prelude.{◌≡◌, ◌<◌, ◌≤◌, ◌+◌, ◌^◌, ◌++◌, ◌⊎◌, ℕ, List, length, take, drop, IfOk, IfErr, MatchResult};
 ghost use Rattle.kt_column.specs.declared.errors.Stop.TheVariants as stops;
 ghost use Rattle.std.specs.Bool.{OnTrue, OnFalse};
 ghost use Rattle.kt_column.specs.Blocks.{Held, SpellsBlock, values_in};
-ghost use Rattle.kt_column.specs.Held.{items_of, encoding_of, cells_of};
+ghost use Rattle.kt_column.specs.Held.{items_of, encoding_of, cells_of, IsChosen};
 ghost use Rattle.kt_column.specs.Values.{IsShortest, MayStand};
 ghost use Rattle.kt_base.specs.declared.cell.Cell.{Cell};
 ghost use Rattle.kt_plain.specs.declared.items.Items.{Items};
@@ -194,14 +194,16 @@ fn content_stop(
     }
 }
 
-/// The block behind its first fields.
-fn body(alloc: Global, form: Form, n: u32, head: Head<'_>) -> Result<Block, Stop>
+/// The nulls and values behind the first fields, as long as those say, or the first fault.
+fn content_of(alloc: Global, form: Form, n: u32, head: Head<'_>) -> Result<Content, Stop>
     requires few { n ≤ 8192 }
     requires open { MayUse form head.encoding }
     requires room { 5 + length head.rest.now < 2 ^ 64 }
-    ensures form { IfOk result (λ block. block.form ≡ form) }
-    ensures found { IfOk result (λ block. IsBody form head.entry.encoding n head.entry.len head.entry.rest.now block.cells) }
-    ensures only { (cs : List Cell) → IsBody form head.entry.encoding n head.entry.len head.entry.rest.now cs → IsOrMemory result (record { form = form; cells = cs }) }
+    ensures held { IfOk result (λ c. Held form c.nulls (items_of c.values) (cells_of form c.nulls c.values)) }
+    ensures own { IfOk result (λ c. encoding_of c.values ≡ head.entry.encoding) }
+    ensures within { IfOk result (λ _. head.entry.len ≤ length head.entry.rest.now) }
+    ensures found { IfOk result (λ c. ReadsContent form head.entry.encoding n (take head.entry.len head.entry.rest.now) (cells_of form c.nulls c.values)) }
+    ensures only { (cs : List Cell) → head.entry.len ≤ length head.entry.rest.now → ReadsContent form head.entry.encoding n (take head.entry.len head.entry.rest.now) cs → MatchResult result (λ c. cells_of form c.nulls c.values ≡ cs) (λ e. e ≡ stops.Memory) }
     ensures stop { IfErr result (IsBodyStop form head.entry.encoding n head.entry.len head.entry.rest.now) }
 {
     let read = match read_content(alloc, form, head.encoding, n, front_of(head.rest, head.len)) {
@@ -215,10 +217,61 @@ fn body(alloc: Global, form: Form, n: u32, head: Head<'_>) -> Result<Block, Stop
     if head.rest.len() < head.len {
         return Err(Stop::Fault { at: 1 });
     }
-    match is_least(alloc, form, head.encoding, &read) {
-        Ok(true) => Ok(Block::of(form, read.nulls, read.values)),
+    Ok(read)
+}
+
+/// The fault where another encoding is shorter.
+fn check_least(alloc: Global, form: Form, encoding: Encoding, content: &Content) -> Result<(), Stop>
+    requires held { Held form content.now.nulls (items_of content.now.values) (cells_of form content.now.nulls content.now.values) }
+    requires own { encoding_of content.now.values ≡ encoding }
+    requires open { MayUse form encoding }
+    ensures yes { IfOk result (λ _. (bytes : List ℕ) → MayStand form (values_in form (cells_of form content.now.nulls content.now.values)) encoding bytes → IsShortest form (values_in form (cells_of form content.now.nulls content.now.values)) encoding bytes) }
+    ensures no { IfErr result (λ e. (e ≡ stops.Memory) ⊎ ((e ≡ stops.Fault 0) × ((bytes : List ℕ) → ¬ IsShortest form (values_in form (cells_of form content.now.nulls content.now.values)) encoding bytes))) }
+{
+    match is_least(alloc, form, encoding, content) {
+        Ok(true) => Ok(()),
         Ok(false) => Err(Stop::Fault { at: 0 }),
         Err(NoMemory) => Err(Stop::Memory),
+    }
+}
+
+fn as_block(form: Form, read: Content) -> Block
+    requires held { Held form read.nulls (items_of read.values) (cells_of form read.nulls read.values) }
+    requires chosen { IsChosen form read.values }
+    ensures { result ≡ record { form = form; cells = cells_of form read.nulls read.values } }
+{
+    Block::of(form, read.nulls, read.values)
+}
+
+/// The block of content that was read, if its encoding is the shortest.
+fn block_of(alloc: Global, form: Form, encoding: Encoding, read: Content) -> Result<Block, Stop>
+    requires held { Held form read.nulls (items_of read.values) (cells_of form read.nulls read.values) }
+    requires own { encoding_of read.values ≡ encoding }
+    requires open { MayUse form encoding }
+    requires stands { (bytes : List ℕ) × MayStand form (values_in form (cells_of form read.nulls read.values)) encoding bytes }
+    ensures found { IfOk result (λ block. block ≡ record { form = form; cells = cells_of form read.nulls read.values }) }
+    ensures yes { IfOk result (λ _. (bytes : List ℕ) → MayStand form (values_in form (cells_of form read.nulls read.values)) encoding bytes → IsShortest form (values_in form (cells_of form read.nulls read.values)) encoding bytes) }
+    ensures no { IfErr result (λ e. (e ≡ stops.Memory) ⊎ ((e ≡ stops.Fault 0) × ((bytes : List ℕ) → ¬ IsShortest form (values_in form (cells_of form read.nulls read.values)) encoding bytes))) }
+{
+    match check_least(alloc, form, encoding, &read) {
+        Ok(()) => Ok(as_block(form, read)),
+        Err(stop) => Err(stop),
+    }
+}
+
+/// The block behind its first fields.
+fn body(alloc: Global, form: Form, n: u32, head: Head<'_>) -> Result<Block, Stop>
+    requires few { n ≤ 8192 }
+    requires open { MayUse form head.encoding }
+    requires room { 5 + length head.rest.now < 2 ^ 64 }
+    ensures form { IfOk result (λ block. block.form ≡ form) }
+    ensures found { IfOk result (λ block. IsBody form head.entry.encoding n head.entry.len head.entry.rest.now block.cells) }
+    ensures only { (cs : List Cell) → IsBody form head.entry.encoding n head.entry.len head.entry.rest.now cs → IsOrMemory result (record { form = form; cells = cs }) }
+    ensures stop { IfErr result (IsBodyStop form head.entry.encoding n head.entry.len head.entry.rest.now) }
+{
+    match content_of(alloc, form, n, head) {
+        Ok(read) => block_of(alloc, form, head.encoding, read),
+        Err(stop) => Err(stop),
     }
 }
 

@@ -74,6 +74,13 @@ impl Form {
 }
 
 impl Encoding {
+    /// The number of the encoding.
+    pub fn code(self) -> u8
+        ensures { result ≡ forms.code self }
+    {
+        self as u8
+    }
+
     /// Whether values of the width have such an encoding.
     fn suits(self, width: Width) -> bool
         ensures yes { OnTrue result (forms.Suits width self) }

@@ -60,7 +60,6 @@ fn plain_cell(alloc: Global, form: Form, items: &Items, i: u32) -> Result<Cell, 
 }
 
 /// A value as a cell: a copy of that one.
-#[tactic(auto, using(crate::proofs::HeldValues::text_at))]
 pub fn cell_of(alloc: Global, form: Form, values: &Values, i: u32) -> Result<Cell, NoMemory>
     requires { i < count (items_of values.now) }
     ensures { IfOk result (λ cell. cell ≡ get_or (value_cells (width form) (items_of values.now)) i cells.Null) }

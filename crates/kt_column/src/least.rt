@@ -21,7 +21,6 @@ use kt_plain::Items;
 use std::alloc::Global;
 
 /// Whether plain values are the shortest in an encoding.
-#[tactic(auto, using(crate::proofs::Chosen::shortest_of_code, crate::proofs::Chosen::not_of_code))]
 fn are_items_shortest(
     alloc: Global,
     form: Form,
@@ -33,7 +32,7 @@ fn are_items_shortest(
     ensures no { IfOk result (λ b. OnFalse b ((bytes : List ℕ) → ¬ IsShortest form items.now encoding bytes)) }
 {
     let chosen = shortest_encoding(alloc, form, items)?;
-    Ok(chosen as u8 == encoding as u8)
+    Ok(chosen.code() == encoding.code())
 }
 
 /// Whether runs are shorter than the numbers one after another.
@@ -118,6 +117,30 @@ fn are_over(entries: &Entries, cells: usize, most: usize) -> bool
     entries.len() > 4096 || entries.spelled_len(cells) > most
 }
 
+/// Whether the items of a prefix block have a dictionary of so many bytes at most, which is made of the entries.
+fn are_within(
+    alloc: Global,
+    items: &kt_front::Items,
+    most: usize,
+    entries: &mut Entries,
+    room: &mut Octets,
+) -> Result<bool, NoMemory>
+    requires few { length items.now ≤ 8192 }
+    requires short { All (λ t. length t ≤ 65536) items.now }
+    requires none { entries.old ≡ [] }
+    ensures yes { IfOk result (λ b. OnTrue b (dictionary.Fits items.now × (length (dictionary.spelling items.now) ≤ most))) }
+    ensures no { IfOk result (λ b. OnFalse b (dictionary.Fits items.now → most < length (dictionary.spelling items.now))) }
+{
+    let n = items.len();
+    'items: for i in 0..n {
+        use_item(alloc, entries, items, i, room)?;
+        if are_over(entries, n, most) {
+            return Ok(false);
+        }
+    }
+    Ok(entries.spelled_len(n) <= most)
+}
+
 /// Whether the items of a prefix block have a dictionary of so many bytes at most. It holds no more
 /// than these and one item.
 fn has_dictionary(alloc: Global, items: &kt_front::Items, most: usize) -> Result<bool, NoMemory>
@@ -128,14 +151,7 @@ fn has_dictionary(alloc: Global, items: &kt_front::Items, most: usize) -> Result
 {
     let mut entries = Entries::new(alloc);
     let mut room = Octets::new(alloc);
-    let n = items.len();
-    'items: for i in 0..n {
-        use_item(alloc, &mut entries, items, i, &mut room)?;
-        if are_over(&entries, n, most) {
-            return Ok(false);
-        }
-    }
-    Ok(entries.spelled_len(n) <= most)
+    are_within(alloc, items, most, &mut entries, &mut room)
 }
 
 /// Whether prefixes are the shortest, which they are where no other encoding may be used.

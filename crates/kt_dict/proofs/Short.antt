@@ -74,13 +74,17 @@ entries_more (x ∷ ks) (suc i) d lt =
 
 -- ---- one more item, and too many as soon as there are
 
-pub one_more : (items ds more : List (List ℕ)) (i : ℕ) → i < length items → entries_after ds (drop i items) ≡ dictionary items → more ≡ with_entry ds (get_or items i []) → entries_after more (drop (i + 1) items) ≡ dictionary items
-one_more items ds more i lt so_far is =
+pub one_more : (items ds more total : List (List ℕ)) (i : ℕ) → i < length items → entries_after ds (drop i items) ≡ total → more ≡ with_entry ds (get_or items i []) → entries_after more (drop (i + 1) items) ≡ total
+one_more items ds more total i lt so_far is =
     let at : i + 1 ≡ suc i = omega arith in
     let rest : List (List ℕ) = drop (suc i) items in
     ap (λ (k : ℕ). entries_after more (drop k items)) at ∙ (ap (λ es. entries_after es rest) is ∙ (sym (ap (entries_after ds) (drop-cons items i [] lt)) ∙ so_far))
 
-pub too_many : (items ds more : List (List ℕ)) (i : ℕ) → i < length items → entries_after ds (drop i items) ≡ dictionary items → more ≡ with_entry ds (get_or items i []) → 4096 < length more → 4096 < length (dictionary items)
-too_many items ds more i lt so_far is many =
+pub too_many : (items ds more total : List (List ℕ)) (i : ℕ) → i < length items → entries_after ds (drop i items) ≡ total → more ≡ with_entry ds (get_or items i []) → 4096 < length more → 4096 < length total
+too_many items ds more total i lt so_far is many =
     let g = after_grows more (drop (i + 1) items) in
-    omega (arith, ap length (one_more items ds more i lt so_far is), ap length g.1, length-append more g.0)
+    omega (arith, ap length (one_more items ds more total i lt so_far is), ap length g.1, length-append more g.0)
+
+-- the table that is made of nothing
+pub whole_table : (items : List (List ℕ)) (start keys : List (Bor (List ℕ))) → start ≡ [] → nows keys ≡ entries_after (nows start) items → nows keys ≡ dictionary items
+whole_table items start keys none is = is ∙ ap (λ ks. entries_after (nows ks) items) none

@@ -1,8 +1,9 @@
 //! From a list to its block.
 
 ghost use Rattle.std.specs.Prelude.{◌≡◌, ◌<◌, ◌≤◌, ◌^◌, ◌++◌, length, map, sum_by, OnOk, IfOk, IfErr, MatchOption};
+ghost use Rattle.std.specs.Bool.{OnTrue, OnFalse};
 ghost use Rattle.std.specs.List.{All, AllByRecursion, concat, flat_map};
-ghost use Rattle.kt_dict.specs.Spelling.{block, code, dictionary, short, spelling, Fits};
+ghost use Rattle.kt_dict.specs.Spelling.{block, code, entries_after, short, spelling, Fits};
 ghost use Rattle.kt_dict.specs.Writing.{text, IsRefusal};
 
 use crate::error::{CodecNo, Width};
@@ -12,15 +13,14 @@ use indexmap::IndexSet;
 use kt_bytes::{NoMemory, Octets, Texts};
 use std::alloc::{AllocError, Global};
 
-/// The different items, in the order of their first use.
-fn table_of(alloc: Global, cells: &Texts) -> Result<IndexSet<&[u8]>, NoMemory>
-    ensures { IfOk result (λ table. map (λ k. k.now) table.keys ≡ dictionary cells.now) }
+/// Uses the items, one after the other.
+fn use_items<'a>(table: &mut IndexSet<&'a [u8]>, cells: &'a Texts) -> Result<(), NoMemory>
+    ensures { OnOk result (map (λ k. k.now) table.new.keys ≡ entries_after (map (λ k. k.now) table.old.keys) cells.now) }
 {
-    let mut table = IndexSet::new(alloc);
     for i in 0..cells.len() {
-        use_item(&mut table, cells.get(i))?;
+        use_item(table, cells.get(i))?;
     }
-    Ok(table)
+    Ok(())
 }
 
 #[tactic(auto, unfolding(crate::specs::Writing::text, crate::specs::Spelling::number))]
@@ -108,18 +108,19 @@ fn entries_len(entries: &[&[u8]]) -> usize
     len
 }
 
-/// The different items, or none where there are too many.
-fn small_table(alloc: Global, cells: &Texts) -> Result<Option<IndexSet<&[u8]>>, NoMemory>
-    ensures { IfOk result (λ found. MatchOption found (4096 < length (dictionary cells.now)) (λ table. (map (λ k. k.now) table.keys ≡ dictionary cells.now) × (length (dictionary cells.now) ≤ 4096))) }
+/// Uses the items, one after the other, and says whether there were not too many different ones for all of them.
+fn use_few<'a>(table: &mut IndexSet<&'a [u8]>, cells: &'a Texts) -> Result<bool, NoMemory>
+    requires { length (map (λ k. k.now) table.old.keys) ≤ 4096 }
+    ensures all { IfOk result (λ all. OnTrue all ((map (λ k. k.now) table.new.keys ≡ entries_after (map (λ k. k.now) table.old.keys) cells.now) × (length (map (λ k. k.now) table.new.keys) ≤ 4096))) }
+    ensures over { IfOk result (λ all. OnFalse all (4096 < length (entries_after (map (λ k. k.now) table.old.keys) cells.now))) }
 {
-    let mut table = IndexSet::new(alloc);
     for i in 0..cells.len() {
-        use_item(&mut table, cells.get(i))?;
+        use_item(table, cells.get(i))?;
         if table.len() > MOST {
-            return Ok(None);
+            return Ok(false);
         }
     }
-    Ok(Some(table))
+    Ok(true)
 }
 
 /// How many bytes the spelling of the list takes, or none where there are too many different items.
@@ -128,10 +129,11 @@ pub fn encoded_len(alloc: Global, cells: &Texts) -> Result<Option<usize>, NoMemo
     requires small { sum_by length cells.now < 2 ^ 32 }
     ensures { IfOk result (λ len. MatchOption len (¬ Fits cells.now) (λ n. Fits cells.now × (n ≡ length (spelling cells.now)))) }
 {
-    match small_table(alloc, cells)? {
-        Some(table) => Ok(Some(2 + entries_len(table.as_slice()) + 2 * cells.len())),
-        None => Ok(None),
+    let mut table = IndexSet::new(alloc);
+    if !use_few(&mut table, cells)? {
+        return Ok(None);
     }
+    Ok(Some(2 + entries_len(table.as_slice()) + 2 * cells.len()))
 }
 
 /// The one spelling of the list.
@@ -143,7 +145,8 @@ pub fn encode(alloc: Global, cells: &Texts, width: Width) -> Result<Octets, Code
     ensures refused { IfErr result (λ e. IsRefusal cells.now e) }
 {
     let Width::Bytes = width;
-    let table = table_of(alloc, cells)?;
+    let mut table = IndexSet::new(alloc);
+    use_items(&mut table, cells)?;
     let count = table.len();
     if count > MOST {
         return Err(CodecNo::TooMany {

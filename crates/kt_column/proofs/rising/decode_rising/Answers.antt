@@ -1,11 +1,36 @@
-use Rattle.std.proofs.Common.{◌≡◌, ◌<◌, ◌-◌, inl, length, min, sym, ap, ◌∙◌, subst, arith}
+use Rattle.std.proofs.Common.{◌≡◌, ◌<◌, ◌-◌, inl, length, min, sym, ap, ◌∙◌, subst, arith, length-append}
 use Rattle.std.proofs.lemmas.List.{take_rest, length-drop}
 use Rattle.kt_column.specs.declared.form.Form.TheVariants.{Keys}
 use Rattle.kt_column.specs.Columns.{ColumnValue}
 use Rattle.kt_column.specs.Keys.{AreRising, IsRisingRefusal}
-use Rattle.kt_column.proofs.Progress.{one_more, all_only, no_only}
+use Rattle.kt_column.proofs.Progress.{at_start, one_more, all_found, all_only, no_only, refusal_shifts}
 use Rattle.kt_column.proofs.KeyFalls.{column_keys, fall_within, fall_only, rises_more, next_fault, next_refused}
 use Rattle.kt_column.proofs.rising.decode_rising.Goals as goal
+
+pub parts-init : goal.parts-init
+parts-init c = record {
+  read = at_start Keys c.args.rows c.args.bytes.now c.new-column.result c.new-column.ensures;
+  rise = subst (λ (v : ColumnValue). AreRising v.cells) (sym c.new-column.ensures) tt;
+}
+
+pub push-requires-clause-form : goal.push-requires-clause-form
+push-requires-clause-form c = c.in-Ok.ensures.form ∙ sym c.parts.invariant.read.is
+
+pub push-requires-clause-full : goal.push-requires-clause-full
+push-requires-clause-full c = c.parts.invariant.read.full (omega (arith, c.parts-test.true, c.len.ensures))
+
+pub parts-smaller : goal.parts-smaller
+parts-smaller c =
+    let more = ap (λ (v : ColumnValue). length v.cells) c.in_ok-push-in-Ok.ensures in
+    omega (arith, more, c.in-Ok.ensures.found.counted, c.min-n.ensures, c.len.ensures, c.len-in-parts.ensures, c.parts-test.true, length-append c.parts.column.cells c.in-Ok.found.block.cells)
+
+pub behind-requires : goal.behind-requires
+behind-requires c =
+    let part = ap length (take_rest c.args.bytes.now c.parts.used) in
+    refusal_shifts Keys c.min-n.result c.parts.used _ c.in-Err.no (omega (arith, part, length-drop c.parts.used c.args.bytes.now, c.parts.invariant.read.found.within)) c.in-Err.ensures.place
+
+pub returns-clause-found : goal.returns-clause-found
+returns-clause-found c = (c.parts.invariant.read.is, all_found Keys c.args.rows c.parts.used c.args.bytes.now c.parts.column c.parts.invariant.read (λ lt. absurd (omega (arith, lt, c.parts-test.false, c.len.ensures))), c.parts.invariant.rise)
 
 pub fall_behind-requires : goal.fall_behind-requires
 fall_behind-requires c = column_keys _ c.parts.used c.args.bytes.now c.parts.column.cells c.parts.invariant.read.found

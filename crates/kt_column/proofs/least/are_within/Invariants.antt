@@ -2,7 +2,7 @@ use Rattle.std.proofs.Common.{◌≡◌, ◌≤◌, ◌*◌, length, drop}
 use Rattle.std.specs.List.{flat_map}
 use Rattle.kt_dict.specs.Spelling.{entries_after, dictionary}
 use Rattle.kt_dict.specs.Writing.{text}
-use Rattle.kt_column.proofs.least.has_dictionary.Given as goal
+use Rattle.kt_column.proofs.least.are_within.Given as goal
 
 abbrev pub invariant-items : goal.invariant-items
 invariant-items l = record {

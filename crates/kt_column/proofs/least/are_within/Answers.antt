@@ -5,7 +5,10 @@ use Rattle.std.proofs.lemmas.Bool.{OnTrue_from, OnFalse_from, leb-true, leb-fals
 use Rattle.kt_dict.specs.Spelling.{entries_after, dictionary, spelling, Fits}
 use Rattle.kt_dict.specs.Writing.{text}
 use Rattle.kt_column.proofs.ShortestHeld.{used_more, used_next, used_too_much, used_up, used_end, few_bytes}
-use Rattle.kt_column.proofs.least.has_dictionary.Goals as goal
+use Rattle.kt_column.proofs.least.are_within.Goals as goal
+
+pub items-init : goal.items-init
+items-init c = record { so_far = ap (λ es. entries_after es c.args.items.now) c.requires.none; few = rw c.requires.none (omega arith); small = rw c.requires.none (omega arith) }
 
 pub use_item-requires-clause-small : goal.use_item-requires-clause-small
 use_item-requires-clause-small c =
