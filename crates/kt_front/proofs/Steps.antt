@@ -1,5 +1,5 @@
 -- Reading a cell, field after field.
-use Rattle.std.proofs.Common.{◌≡◌, ℕ, Bool, true, false, cond, List, ◌++◌, length, take, drop, Result, Ok, Err, ap, ◌∙◌}
+use Rattle.std.proofs.Common.{◌≡◌, ℕ, Bool, cond, List, ◌++◌, length, take, drop, Result, Ok, Err, ap, ◌∙◌}
 use Rattle.std.specs.Int.{w32}
 use Rattle.kt_bytes.specs.declared.fault.Stop.{Stop}
 use Rattle.kt_bytes.specs.declared.fault.Stop.TheVariants as stops

@@ -1,4 +1,4 @@
-use Rattle.std.proofs.Common.{◌++◌, ◌∙◌, List, ℕ, [], ap, arith}
+use Rattle.std.proofs.Common.{◌++◌, ◌∙◌, ℕ, [], ap, arith}
 use Rattle.std.proofs.lemmas.List.{take_more}
 use Rattle.kt_dict.specs.Spelling.{short, place, code}
 use Rattle.kt_dict.proofs.Words.{nows, place-le}

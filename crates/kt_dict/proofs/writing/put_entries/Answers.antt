@@ -1,4 +1,4 @@
-use Rattle.std.proofs.Common.{◌∙◌, List, ℕ, [], ap}
+use Rattle.std.proofs.Common.{List, ℕ, []}
 use Rattle.std.specs.Borrow.{Bor}
 use Rattle.std.proofs.lemmas.List.{map_more}
 use Rattle.kt_dict.specs.Writing.{text}

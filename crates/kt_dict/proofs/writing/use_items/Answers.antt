@@ -1,4 +1,4 @@
-use Rattle.std.proofs.Common.{◌∙◌, [], ap, arith}
+use Rattle.std.proofs.Common.{◌∙◌, ap, arith}
 use Rattle.kt_dict.specs.Spelling.{with_entry}
 use Rattle.kt_dict.proofs.Words.{nows}
 use Rattle.kt_dict.proofs.Short.{one_more}

@@ -1,4 +1,4 @@
-use Rattle.std.proofs.Common.{◌≡◌, ◌∙◌, ap, arith}
+use Rattle.std.proofs.Common.{◌∙◌, ap, arith}
 use Rattle.kt_bytes.proofs.Numbers.{IsBytes}
 use Rattle.kt_front.specs.Items.{items_in}
 use Rattle.kt_front.proofs.Blocks.{whole_read, items_are, spells_any, held}

@@ -1,4 +1,4 @@
-use Rattle.std.proofs.Common.{◌≡◌, ◌<◌, ◌∙◌, List, ℕ, length, get_or, [], sym, ap, arith}
+use Rattle.std.proofs.Common.{◌<◌, ◌∙◌, List, ℕ, length, get_or, [], sym, ap, arith}
 use Rattle.std.proofs.lemmas.List.{length-map, get_or-map, get_or_read}
 use Rattle.kt_dict.proofs.items.Items.item.Goals as goal
 

@@ -1,5 +1,5 @@
-use Rattle.std.proofs.Common.{◌≡◌, ◌+◌, ◌-◌, ◌∙◌, ℕ, List, ap, length, drop, refl, arith}
-use Rattle.std.proofs.lemmas.List.{take_rest, length-drop}
+use Rattle.std.proofs.Common.{◌+◌, ◌∙◌, ℕ, ap, refl, arith}
+use Rattle.std.proofs.lemmas.List.{take_rest}
 use Rattle.kt_front.specs.Spelling.{shared}
 use Rattle.kt_front.specs.Walking.{order}
 use Rattle.kt_front.proofs.walking.Meeting.next.Goals as goal
