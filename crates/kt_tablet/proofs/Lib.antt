@@ -11,4 +11,5 @@ pub mod Rows
 pub mod Plans
 pub mod Places
 pub mod Snaps
+pub mod Merged
 pub mod Scans
