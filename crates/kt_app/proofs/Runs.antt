@@ -29,7 +29,7 @@ use Rattle.kt_histlaws.specs.Core.{Core, Stands, run_past}
 use Rattle.kt_boot.specs.Opening.{content_in, content_of, found_or_late}
 use Rattle.kt_tablet.specs.Views.{IsSound, Opens, work_of}
 use Rattle.kt_engine.specs.Logged as logged
-use Rattle.kt_engine.specs.Engines.{EngineView, IsContent, KeepsOthers, IsHome, core_from, Recovers, RecoversAll}
+use Rattle.kt_engine.specs.Engines.{EngineView, IsContent, KeepsOthers, IsHome, core_from, LeavesRecords, Recovers, RecoversAll}
 use Rattle.kt_loglaws.specs.Fronts.{upto}
 use Rattle.kt_app.specs.Headline.{IsOutput, IsAnswered, AreAnswered, shown_from, all_shown, replies_in, end_line, end_of}
 use Rattle.kt_app.specs.Crash.{Image, CrashLeaves, NamesMore, Ran, Kept, HoldsPrefix, HoldsAll}
@@ -273,10 +273,10 @@ module _ {L D C : Type 0} {tells : Bool} {seen : L → Files} {now : L → ℕ} 
   pub keeps_others : IsTrue tells → KeepsOthers now leaves old.device disk
   keeps_others told = subst (KeepsOthers now leaves old.device) (sym home.2) (subst (λ d. KeepsOthers now leaves d home.0.disk) device_is ((at_home home.0 home.1).others told))
 
-  pub names_more : Recovers tells now leaves view → (first : Past) → IsContent view first → (image : Image) → CrashLeaves tells now leaves disk image → NamesMore old.records old.tablet.target image
-  names_more front first content image left =
-      let h = front first content left.0 home.0 home.1 image (subst (λ d. leaves d (now d) image) home.2 left.1) in
-      let more : NamesMore view.records view.tablet.target image = record { run = h.run; reads = h.reads ∙ ap Ok h.front; names = h.names } in
+  pub names_more : LeavesRecords tells now leaves view → (image : Image) → CrashLeaves tells now leaves disk image → NamesMore old.records old.tablet.target image
+  names_more front image left =
+      let h = front left.0 home.0 home.1 image (subst (λ d. leaves d (now d) image) home.2 left.1) in
+      let more : NamesMore view.records view.tablet.target image = record { run = h.run; reads = h.reads; names = h.names } in
       subst (λ (r : Root L D C). NamesMore r.records r.target image) root more
 
   pub no_fault_less : faults old.device ≤ faults disk

@@ -73,7 +73,7 @@ returns-in-Ok-clause-others g c = keeps_others c.args.engine c.play-played.resul
 pub returns-in-Ok-clause-named : goal.returns-in-Ok-clause-named
 returns-in-Ok-clause-named g c =
     names_more c.args.engine c.play-played.result.1 c.args.plan.now c.take_apart-parts.result.log (c.play-played.ensures.root ∙ ap root_of c.set_plan.ensures) c.standing.ensures.home c.take_apart-parts.ensures.log
-    c.standing.ensures.recovers c.standing.ensures.found.0 c.standing.ensures.found.1
+    c.standing.ensures.leaves
 
 pub returns-in-Err-clause-others : goal.returns-in-Err-clause-others
 returns-in-Err-clause-others g c = keeps_others c.args.engine c.play-played.result.1 c.args.plan.now c.take_apart-parts.result.log (c.play-played.ensures.root ∙ ap root_of c.set_plan.ensures) c.standing.ensures.home c.take_apart-parts.ensures.log
@@ -81,4 +81,4 @@ returns-in-Err-clause-others g c = keeps_others c.args.engine c.play-played.resu
 pub returns-in-Err-clause-named : goal.returns-in-Err-clause-named
 returns-in-Err-clause-named g c =
     names_more c.args.engine c.play-played.result.1 c.args.plan.now c.take_apart-parts.result.log (c.play-played.ensures.root ∙ ap root_of c.set_plan.ensures) c.standing.ensures.home c.take_apart-parts.ensures.log
-    c.standing.ensures.recovers c.standing.ensures.found.0 c.standing.ensures.found.1
+    c.standing.ensures.leaves
