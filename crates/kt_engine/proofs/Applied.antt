@@ -12,7 +12,7 @@ use Rattle.kt_loglaws.specs.Fronts.{ops_of}
 use Rattle.kt_histlaws.specs.Pending.{Aloft}
 use Rattle.kt_histlaws.specs.Histories.{on_nth}
 use Rattle.kt_histlaws.specs.Core.{Core}
-use Rattle.kt_histlaws.specs.Events.{applied, advance, IsNextOp}
+use Rattle.kt_histlaws.specs.Events.{advance, IsNextOp}
 use Rattle.kt_tablet.specs.declared.tablet.Stopped.{Stopped}
 use Rattle.kt_tablet.specs.Views.{View}
 use Rattle.kt_tablet.specs.Visits.{HasApplied}
@@ -41,7 +41,7 @@ counted whole known rest count is n = let a = length-append known rest in let b 
 
 with_applied : {L D C : Type 0} (tells : Bool) (seen : L → Files) (now : L → ℕ) (leaves : L → ℕ → Files → Type 0) (faults : L → ℕ) (old : EngineView L D C) (s j place : ℕ) (f : Aloft) (op : RowOp) (new : View C) → IsEngine tells seen now leaves faults old
     → find (λ w. w.s == s) old.tablet.core.aloft ≡ Some f → IsNextOp j old.tablet.core.aloft f.ts op → place_of s old.places ≡ Some place → place ≤ old.log.known.count
-    → IsEngine tells seen now leaves faults (record old { tablet = record old.tablet { core = applied old.tablet.core j 0 f.ts op; pool = new.pool } })
+    → IsEngine tells seen now leaves faults (record old { tablet = record old.tablet { core = record old.tablet.core { aloft = on_nth j advance old.tablet.core.aloft; stores = new.core.stores }; pool = new.pool } })
 with_applied tells seen now leaves faults old s j place f op new e flies next at low =
     let core = old.tablet.core in
     let log = old.records ++ e.logged.run in
@@ -51,7 +51,6 @@ with_applied tells seen now leaves faults old s j place f op new e flies next at
     let own_place : place_of s old.places ≡ Some (suc wf.n) = ap (λ t. place_of t old.places) (sym own) ∙ wf.place in
     let is_place : place ≡ suc wf.n = cc in
     record {
-      found = (e.found.0, record { opens = e.found.1.opens; recalls = e.found.1.recalls });
       logged = record {
         run = e.logged.run;
         all = e.logged.all;

@@ -33,7 +33,6 @@ use Rattle.kt_engine.proofs.Runs.{past_line, past_begun, acknowledged_more, stop
 -- more room
 pub with_room : {L D C : Type 0} (tells : Bool) (seen : L → Files) (now : L → ℕ) (leaves : L → ℕ → Files → Type 0) (faults : L → ℕ) (old : EngineView L D C) (room : ℕ) → old.log.room ≤ room → IsEngine tells seen now leaves faults old → IsEngine tells seen now leaves faults (record old { log = record old.log { room = room } })
 with_room tells seen now leaves faults old room more e = record {
-  found = (e.found.0, record { opens = e.found.1.opens; recalls = e.found.1.recalls });
   logged = record {
     run = e.logged.run;
     all = e.logged.all;
@@ -59,7 +58,6 @@ with_room tells seen now leaves faults old room more e = record {
 pub with_large : {L D C : Type 0} (tells : Bool) (seen : L → Files) (now : L → ℕ) (leaves : L → ℕ → Files → Type 0) (faults : L → ℕ) (old : EngineView L D C) (s i n : ℕ) (new : View C) → IsEngine tells seen now leaves faults old → old.tablet.core.stopped ≡ false
     → IsEngine tells seen now leaves faults (record old { tablet = record old.tablet { core = answered old.tablet.core s i (Large s i n); clock = new.clock; pool = new.pool } })
 with_large tells seen now leaves faults old s i n new e goes = record {
-  found = (e.found.0, record { opens = e.found.1.opens; recalls = e.found.1.recalls });
   logged = record {
     run = e.logged.run;
     all = e.logged.all;
@@ -130,7 +128,6 @@ with_begun tells seen now leaves faults old s i ts m place ops new e goes may sh
     let known = e.logged.stands in
     let low : All (λ (v : Aloft). v.ts < ts) core.aloft = all_each (Waits (old.records ++ e.logged.run) old.places) (λ v. v.ts < ts) core.aloft (λ v h. let b = below_last (old.records ++ e.logged.run) h.n v.ts v.ops h.there in let l = known.last in omega arith) known.flying in
     record {
-      found = (e.found.0, record { opens = e.found.1.opens; recalls = e.found.1.recalls });
       logged = record {
         run = e.logged.run ++ Replicate ts ops ∷ [];
         all = λ t. all_parts old.records e.logged.run (records_of (seen old.log.known.disk)) old.log.out old.log.queued (Replicate ts ops) (e.logged.all t);

@@ -51,7 +51,6 @@ lends {L} {D} {C} tells seen now leaves faults view log journal number is goes a
     let same : view.log.out ++ view.log.queued ≡ view.log.queued ++ [] = ap (λ (l : List Entry). l ++ view.log.queued) out ∙ sym (append-nil view.log.queued) in
     let low : faults view.device ≤ faults view.log.known.disk = subst (λ (j : JournalView L). faults view.device ≤ faults j.disk) known (is.home journal at).later in
     subst (λ (l : SideView L). IsEngine tells seen now leaves faults (record view { log = l })) (sym e) (record {
-      found = (is.found.0, record { opens = is.found.1.opens; recalls = is.found.1.recalls });
       logged = record {
         run = is.logged.run;
         all = λ t. is.logged.all t ∙ ap (λ (l : List Entry). records_of (seen view.log.known.disk) ++ l) same;
@@ -86,7 +85,6 @@ comes_home {L} {D} {C} tells seen now leaves faults view log journal number is h
     let kept : IsTrue tells → KeepsOthers now leaves view.device journal.disk = λ t. keeps_on now leaves view.device view.log.known.disk journal.disk (is.others t) (others t) in
     let lengths : view.log.known.count + length (view.log.out ++ view.log.queued) ≡ journal.count + length view.log.queued = omega (arith, length-append view.log.out view.log.queued) in
     subst (λ (l : SideView L). IsEngine tells seen now leaves faults (record view { log = l })) (sym e) (record {
-      found = (is.found.0, record { opens = is.found.1.opens; recalls = is.found.1.recalls });
       logged = record {
         run = is.logged.run;
         all = λ t. is.logged.all t ∙ sym (append_assoc (records_of (seen view.log.known.disk)) view.log.out view.log.queued) ∙ ap (λ (l : List Entry). l ++ view.log.queued) (sym (reads t));
@@ -127,7 +125,6 @@ comes_back {L} {D} {C} tells seen now leaves faults view log journal number is h
     let goes = out.1 in
     let up : faults view.device ≤ faults journal.disk = subst (λ (j : JournalView L). faults view.device ≤ faults j.disk) (sym known) out.0 in
     subst (λ (l : SideView L). IsEngine tells seen now leaves faults (record view { log = l })) (sym e) (record {
-      found = (is.found.0, record { opens = is.found.1.opens; recalls = is.found.1.recalls });
       logged = record {
         run = is.logged.run;
         all = is.logged.all;
@@ -173,7 +170,6 @@ breaks {L} {D} {C} tells seen now leaves faults view tablet log journal number i
     let side : SideView L = record view.log { home = Some journal; holder = None; whole = false } in
     let logged = line_logged tells seen view event.Stop view.tablet.core.a view.tablet.core.c view.tablet.core.turns true view.tablet.clock is.logged tt (omega arith) in
     let there : IsEngine tells seen now leaves faults (record view { tablet = end; log = side }) = record {
-      found = (is.found.0, record { opens = is.found.1.opens; recalls = is.found.1.recalls });
       logged = record {
         run = logged.run;
         all = logged.all;

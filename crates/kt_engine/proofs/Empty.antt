@@ -5,15 +5,10 @@ use Rattle.kt_history.specs.History.{Past}
 use Rattle.kt_history.specs.Rows.{Row}
 use Rattle.kt_records.specs.declared.entry.Entry.{Entry}
 use Rattle.kt_journal.specs.Log.{IsLog}
-use Rattle.kt_loglaws.specs.Replay.{empty, last_of}
+use Rattle.kt_loglaws.specs.Replay.{last_of}
 use Rattle.kt_loglaws.specs.Fronts.{AllTold, with_records}
-use Rattle.kt_engine.specs.Logged.{Recalls}
 
--- a log with no record recalls it
-pub recalls_none : (fill : Row) (records : List Entry) → records ≡ [] → Recalls fill records empty
-recalls_none fill records none = subst (λ (l : List Entry). Recalls fill l empty) (sym none) (empty, refl, refl)
-
--- and where none is queued, none is to be told
+-- where none is queued, none is to be told
 pub told_none : (fill : Row) (records queued : List Entry) (first : Past) → queued ≡ [] → AllTold fill records first queued × (with_records fill first queued ≡ first)
 told_none fill records queued first none = subst (λ (l : List Entry). AllTold fill records first l × (with_records fill first l ≡ first)) (sym none) (tt, refl)
 

@@ -25,7 +25,7 @@ use Rattle.kt_histlaws.specs.Pending.{Aloft}
 use Rattle.kt_histlaws.specs.Core.{Core, run_past}
 use Rattle.kt_histlaws.specs.Events.{ended, IsOver}
 use Rattle.kt_tablet.specs.Views.{View, Opens}
-use Rattle.kt_tablet.specs.Visits.{MayEnd, HasEnded, IsDone}
+use Rattle.kt_tablet.specs.Visits.{MayEnd, HasEnded, IsWritten, IsDone}
 use Rattle.kt_tablet.specs.Rows.{commit_row}
 use Rattle.kt_engine.specs.Logged.{Waits, IsDurable, LogStands, KeepsRun, NamesOnly}
 use Rattle.kt_engine.specs.Engines.{EngineView, IsContent, core_from, IsEngine}
@@ -106,7 +106,6 @@ with_ended tells seen now leaves faults old s i f outcomes rows e goes flies ove
     let apart = others_apart s core.aloft f flies e.ready.apart in
     let some : 0 < length f.ops = (held_few (length f.ops) framed.keeps.count).0 in
     record {
-      found = (e.found.0, record { opens = e.found.1.opens; recalls = e.found.1.recalls });
       logged = record {
         run = e.logged.run ++ Commit f.ts rows ∷ [];
         all = λ t. all_parts old.records e.logged.run (records_of (seen old.log.known.disk)) old.log.out old.log.queued (Commit f.ts rows) (e.logged.all t);
@@ -139,20 +138,19 @@ with_ended tells seen now leaves faults old s i f outcomes rows e goes flies ove
 -- a write that has ended
 pub has_ended : {L D C : Type 0} (tells : Bool) (seen : L → Files) (now : L → ℕ) (leaves : L → ℕ → Files → Type 0) (faults : L → ℕ) (old : EngineView L D C) (tablet : View C) (log : SideView L) (places : List (ℕ × ℕ)) (s i ts : ℕ) (outcomes : List Outcome) (rows : List CommitRow)
     → tablet ≡ record old.tablet { core = tablet.core } → HasEnded old.tablet.core tablet.core s i ts → log ≡ record old.log { queued = old.log.queued ++ Commit ts rows ∷ []; room = old.log.room - 1 } → places ≡ filter (λ p. not (p.0 == s)) old.places
-    → old.tablet.core.stopped ≡ false → MayEnd old.tablet.core s → ((first : Past) → Opens old.tablet.opening old.tablet.mark old.tablet.core.opened first → IsDone (record old.tablet.core { first = first }) old.tablet.target s outcomes rows)
+    → old.tablet.core.stopped ≡ false → MayEnd old.tablet.core s → IsWritten old.tablet.core old.tablet.target s outcomes rows → ((first : Past) → Opens old.tablet.opening old.tablet.mark old.tablet.core.opened first → IsDone (record old.tablet.core { first = first }) old.tablet.target s outcomes rows)
     → IsEngine tells seen now leaves faults old → IsEngine tells seen now leaves faults (record old { tablet = tablet; log = log; places = places })
-has_ended {L} {D} {C} tells seen now leaves faults old tablet log places s i ts outcomes rows beside h is_log is_places goes may done e =
+has_ended {L} {D} {C} tells seen now leaves faults old tablet log places s i ts outcomes rows beside h is_log is_places goes may written done e =
     let core = old.tablet.core in
     let f = h.flight in
-    let d = done e.found.0 e.found.1.opens in
-    let is : d.flight ≡ f = (let other = d.flies in let own = h.flies in cc) in
-    let count : length outcomes ≡ length f.ops = ap length d.each ∙ length-map d.flight.ops (λ op. (effect_on core.work.fill (rows_at (run_past (core_from old e.found.0)) (d.flight.ts - 1)) op).1) ∙ ap (λ (w : Aloft). length w.ops) is in
+    let is : written.flight ≡ f = (let other = written.flies in let own = h.flies in cc) in
+    let count : length outcomes ≡ length f.ops = written.count ∙ ap (λ (w : Aloft). length w.ops) is in
     let is_core : tablet.core ≡ ended core s i f.ts = h.core ∙ ap (λ t. ended core s i t) h.time in
     let is_log' : log ≡ record old.log { queued = old.log.queued ++ Commit f.ts rows ∷ []; room = old.log.room - 1 } = is_log ∙ ap (λ t. record old.log { queued = old.log.queued ++ Commit t rows ∷ []; room = old.log.room - 1 }) h.time in
     subst (λ (t : View C). IsEngine tells seen now leaves faults (record old { tablet = t; log = log; places = places })) (sym (beside ∙ ap (λ (k : Core). record old.tablet { core = k }) is_core))
     (subst (λ (l : SideView L). IsEngine tells seen now leaves faults (record old { tablet = record old.tablet { core = ended core s i f.ts }; log = l; places = places })) (sym is_log')
     (subst (λ (ps : List (ℕ × ℕ)). IsEngine tells seen now leaves faults (record old { tablet = record old.tablet { core = ended core s i f.ts }; log = record old.log { queued = old.log.queued ++ Commit f.ts rows ∷ []; room = old.log.room - 1 }; places = ps })) (sym is_places)
-    (with_ended tells seen now leaves faults old s i f outcomes rows e goes h.flies may.over count d.told (λ number target first is. is_rows (core_from old first) number s f outcomes rows h.flies (subst (λ (t : Target). IsDone (core_from old first) t s outcomes rows) target (done first is.opens))))))
+    (with_ended tells seen now leaves faults old s i f outcomes rows e goes h.flies may.over count written.told (λ number target first is. is_rows (core_from old first) number s f outcomes rows h.flies (subst (λ (t : Target). IsDone (core_from old first) t s outcomes rows) target (done first is.opens))))))
 
 -- there is room for the COMMIT of a write that flies
 pub has_room : {L D C : Type 0} (tells : Bool) (seen : L → Files) (now : L → ℕ) (leaves : L → ℕ → Files → Type 0) (faults : L → ℕ) (old : EngineView L D C) (f : Aloft) (s : ℕ) → find (λ w. w.s == s) old.tablet.core.aloft ≡ Some f → IsEngine tells seen now leaves faults old → 0 < old.log.room

@@ -81,7 +81,6 @@ line_keeps : {L D C : Type 0} (tells : Bool) (seen : L → Files) (now : L → �
     → IsEngine tells seen now leaves faults (record view { tablet = tablet })
 line_keeps {L} {D} {C} tells seen now leaves faults view tablet e a c turns clock is goes quiet other up new =
     subst (λ (t : View C). IsEngine tells seen now leaves faults (record view { tablet = t })) (sym new) (record {
-      found = (is.found.0, record { opens = is.found.1.opens; recalls = is.found.1.recalls });
       logged = line_logged tells seen view e a c turns view.tablet.core.stopped clock is.logged quiet up;
       home = λ journal h.
           let home = is.home journal h in

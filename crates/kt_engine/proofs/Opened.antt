@@ -38,15 +38,13 @@ opened_view tablet journal records queued store device = record {
 pub is_opened : {L D C : Type 0} (tells : Bool) (seen : L → Files) (now : L → ℕ) (leaves : L → ℕ → Files → Type 0) (faults : L → ℕ) (tablet : View C) (journal : JournalView L) (records queued : List Entry) (store : D) (device : L)
     → tablet.core.trail ≡ [] → tablet.core.aloft ≡ [] → tablet.core.stopped ≡ false
     → (number : ℕ) → tablet.target ≡ Mem number → 0 < number → number < 2 ^ 64
-    → (first : Past) → Opens tablet.opening tablet.mark tablet.core.opened first → Recalls tablet.core.work.fill records first
     → IsLog (records ++ queued)
     → ((past : Past) → Opens tablet.opening tablet.mark tablet.core.opened past → Recalls tablet.core.work.fill records past → AllTold tablet.core.work.fill records past queued × (with_records tablet.core.work.fill past queued ≡ past))
     → last_of (records ++ queued) ≤ tablet.core.c → All (NamesOnly tablet.target) queued → journal.count ≡ length records
     → (IsTrue tells → records_of (seen journal.disk) ≡ records)
     → (IsTrue tells → CanOpen now leaves journal.disk) → (IsTrue tells → KeepsOthers now leaves device journal.disk) → faults device ≤ faults journal.disk
     → IsEngine tells seen now leaves faults (opened_view tablet journal records queued store device)
-is_opened tells seen now leaves faults tablet journal records queued store device trail aloft stopped number target above fits first opens recalls log told last names count reads openable others later = record {
-  found = (first, record { opens = opens; recalls = recalls });
+is_opened tells seen now leaves faults tablet journal records queued store device trail aloft stopped number target above fits log told last names count reads openable others later = record {
   logged = record {
     run = queued;
     all = λ t. ap (λ l. l ++ queued) (sym (reads t));

@@ -19,7 +19,6 @@ pub plan_keeps : {L D C : Type 0} (tells : Bool) (seen : L → Files) (now : L �
 plan_keeps {L} {D} {C} tells seen now leaves faults view tablet plan is fresh new =
     let work : Workload = record view.tablet.core.work { plan = plan } in
     subst (λ (t : View C). IsEngine tells seen now leaves faults (record view { tablet = t })) (sym new) (record {
-      found = (is.found.0, record { opens = is.found.1.opens; recalls = is.found.1.recalls });
       logged = record {
         run = is.logged.run;
         all = is.logged.all;

@@ -10,7 +10,6 @@ use Rattle.kt_engine.specs.Sessions.{runs}
 pub running_keeps : {L D C : Type 0} (tells : Bool) (seen : L → Files) (now : L → ℕ) (leaves : L → ℕ → Files → Type 0) (faults : L → ℕ) (view : EngineView L D C) (running : List ℕ)
     → IsEngine tells seen now leaves faults view → IsEngine tells seen now leaves faults (record view { running = running })
 running_keeps tells seen now leaves faults view running is = record {
-  found = (is.found.0, record { opens = is.found.1.opens; recalls = is.found.1.recalls });
   logged = record {
     run = is.logged.run;
     all = is.logged.all;

@@ -84,7 +84,6 @@ pub record IsReady {L D C : Type 0} (view : EngineView L D C) : Type 0 where
 
 -- The engine stands. While a pass has the log out the tablet goes on, and the log went out with no fewer faults than were handed in.
 pub record IsEngine {L D C : Type 0} (tells : Bool) (seen : L → Files) (now : L → ℕ) (leaves : L → ℕ → Files → Type 0) (faults : L → ℕ) (view : EngineView L D C) : Type 0 where
-  pub found : (first : Past) × IsContent view first
   pub logged : IsLogged tells seen view
   pub home : (journal : JournalView L) → view.log.home ≡ Some journal → IsHome tells seen now leaves faults view journal
   pub others : IsTrue tells → KeepsOthers now leaves view.device view.log.known.disk

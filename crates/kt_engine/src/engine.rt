@@ -97,7 +97,6 @@ impl<L: Disk, D, C: Clock> Engine<L, D, C> {
     ) -> Result<Engine<L, D, C>, (Tablet<MemRowSet, C>, Journal<L>, D)>
         requires fresh { (tablet.core.trail ≡ []) × (tablet.core.aloft ≡ []) × (tablet.core.stopped ≡ false) }
         requires target { (number : ℕ) × (tablet.target ≡ Mem number) × (0 < number) × (number < 2 ^ 64) }
-        requires found { (first : Past) × Opens tablet.opening tablet.mark tablet.core.opened first × Recalls tablet.core.work.fill records.now first }
         requires log { IsLog (records.now ++ queued) }
         requires told { (first : Past) → Opens tablet.opening tablet.mark tablet.core.opened first → Recalls tablet.core.work.fill records.now first
             → AllTold tablet.core.work.fill records.now first queued × (with_records tablet.core.work.fill first queued ≡ first) }
@@ -176,7 +175,6 @@ impl<L: Disk, D, C: Clock> Engine<L, D, C> {
     /// the log out. What the pool has promised is what flying writes still need, and the REPLICATE of each is at its place
     /// among the records that are durable, out or queued. The log is at home where no pass has it out.
     pub fn standing(&self)
-        ensures found { (first : Past) × IsContent self.now first }
         ensures sound { IsSound C.readings self.now.tablet }
         ensures exact { IsExact self.now.tablet.core.aloft self.now.tablet.core.stores self.now.tablet.pool }
         ensures logged { IsLogged L.tells L.seen self.now }
