@@ -1,5 +1,5 @@
 -- What a row that is applied keeps of an engine.
-use Rattle.std.proofs.Common.{◌≡◌, ℕ, suc, zero, ◌+◌, ◌≤◌, List, [], ◌∷◌, ◌++◌, length, Some, refl, sym, true, false, Bool, ap, ◌∙◌, subst, arith, length-append}
+use Rattle.std.proofs.Common.{◌≡◌, ℕ, suc, zero, ◌+◌, ◌≤◌, List, [], ◌∷◌, ◌++◌, length, Some, sym, true, false, Bool, ap, ◌∙◌, subst, arith, length-append}
 use Rattle.std.specs.Prelude.{◌==◌, slice_get, Result, Ok, Err, IfOk, OnErr, IsErr}
 use Rattle.std.specs.List.{All, Contains, find}
 use Rattle.kt_disk.specs.Disk.{Files}

@@ -9,7 +9,7 @@ use Rattle.kt_history.specs.declared.event.Event.TheVariants.{End, Stop}
 use Rattle.kt_history.specs.declared.target.Target.{Target}
 use Rattle.kt_history.specs.declared.target.Target.TheVariants.{Mem}
 use Rattle.kt_history.specs.History.{Past, rows_at}
-use Rattle.kt_history.specs.Operations.{outcomes_on, effect_on}
+use Rattle.kt_history.specs.Operations.{outcomes_on}
 use Rattle.kt_records.specs.declared.entry.Entry.{Entry}
 use Rattle.kt_records.specs.declared.entry.Entry.TheVariants.{Replicate, Commit}
 use Rattle.kt_records.specs.declared.entry.CommitRow.{CommitRow}

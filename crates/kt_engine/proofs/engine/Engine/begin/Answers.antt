@@ -1,4 +1,4 @@
-use Rattle.std.proofs.Common.{◌≡◌, sym, subst}
+use Rattle.std.proofs.Common.{sym, subst}
 use Rattle.kt_tablet.specs.Visits.{MayBegin}
 use Rattle.kt_engine.specs.Logged.{IsShort}
 use Rattle.kt_engine.proofs.engine.Engine.begin.Goals as goal
