@@ -53,12 +53,14 @@ pub mod OrderTests
 pub mod WordForms
 pub mod FormLaws
 pub mod Cells
+pub mod CellSpelled
 pub mod KeyCells
 pub mod Packed
 pub mod ByName
 pub mod NamedForm
 pub mod OpForms
 pub mod OpSpelled
+pub mod Buffers
 pub mod RisingKeys
 pub mod WriteLaws
 pub mod FirstWords

@@ -53,7 +53,7 @@ abbrev values : List (ℕ × Cell) → List Cell
 values cells = map (λ (x : ℕ × Cell). x.1) cells
 
 -- the cells behind a key
-abbrev rest_form : List Column → OpForm → Form (List (ℕ × Cell))
+abbrev pub rest_form : List Column → OpForm → Form (List (ℕ × Cell))
 rest_form others form.Literals = mapped (under others) values (each literal_of others)
 rest_form others form.RowNames = ruled (left_out_no others) (λ cells. list_all (is_given cells) others ≡ true) (named others)
 rest_form others form.Names = ruled (λ ws. reason_if (is_empty ws) 12) (λ cells. not (length cells == 0) ≡ true) (named others)
@@ -136,7 +136,7 @@ module _ (columns : List Column) (table : IsTable columns) where
   names_law : Lawful (named other_ones)
   names_law = named_law other_ones (others_rising columns table) (others_apart columns table)
 
-  rest_law : (f : OpForm) → Lawful (rest_form other_ones f)
+  pub rest_law : (f : OpForm) → Lawful (rest_form other_ones f)
   rest_law form.Literals = mapped_law (under other_ones) values (each literal_of other_ones) (each_law literal_of literal_law other_ones) (under_values other_ones)
   rest_law form.RowNames = ruled_law (left_out_no other_ones) (λ cells. list_all (is_given cells) other_ones ≡ true) (named other_ones) names_law tie
     where
@@ -186,7 +186,7 @@ none_left_is : (ws : List (List ℕ)) → none_left_no ws ≡ nothing_no ws
 none_left_is [] = refl
 none_left_is (w ∷ ws) = refl
 
-rest_read : (others : List Column) (f : OpForm) (ws : List (List ℕ)) → (rest_no others f ws ≡ (rest_form others f).no ws) × (rest_cells others f ws ≡ (rest_form others f).value ws)
+pub rest_read : (others : List Column) (f : OpForm) (ws : List (List ℕ)) → (rest_no others f ws ≡ (rest_form others f).no ws) × (rest_cells others f ws ≡ (rest_form others f).value ws)
 rest_read others form.Literals ws = let v = values_read others ws in (v.0, ap (under others) v.1)
 rest_read others form.RowNames ws = (refl, refl)
 rest_read others form.Names ws = (refl, refl)
@@ -283,7 +283,7 @@ inserted (c ∷ cs) (x ∷ xs) k =
     let more = inserted cs xs k.1 in
     (ap (λ b. if b then fits_column c x && is_part cs (under cs xs) else is_part cs ((c.id, x) ∷ under cs xs)) (same_id c.id) ∙ both _ _ k.0.0 more.0, ap suc more.1)
 
-rest_fits : (others : List Column) (f : OpForm) (cells : List (ℕ × Cell)) → Rising others → (rest_form others f).keeps cells → cells_fit others f cells ≡ true
+pub rest_fits : (others : List Column) (f : OpForm) (cells : List (ℕ × Cell)) → Rising others → (rest_form others f).keeps cells → cells_fit others f cells ≡ true
 rest_fits others form.Literals cells r k =
     let full = inserted others (values cells) k.0 in
     subst (λ xs. cells_fit others form.Literals xs ≡ true) k.1 (both _ _ full.0 (ap (λ m. m == length others) full.1 ∙ same_id (length others)))

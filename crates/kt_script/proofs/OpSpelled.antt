@@ -21,7 +21,7 @@ use Rattle.kt_cells.proofs.Cells.{next_id-push}
 use Rattle.kt_cells.proofs.Spelled.{read_back}
 use Rattle.kt_key.specs.Fit.{has_kind, in_range, is_number}
 use Rattle.kt_schema.specs.Names.{is_name}
-use Rattle.kt_schema.specs.Columns.{key_columns, other_columns, key_kinds}
+use Rattle.kt_schema.specs.Columns.{key_columns, other_columns}
 use Rattle.kt_schema.specs.declared.column.Column.{Column}
 use Rattle.kt_history.specs.declared.operation.OpKind.{OpKind}
 use Rattle.kt_history.specs.declared.operation.RowOp.{RowOp}
@@ -30,9 +30,9 @@ use Rattle.kt_script.specs.declared.forms.OpForm.{OpForm}
 use Rattle.kt_script.specs.declared.forms.OpForm.TheVariants as form
 use Rattle.kt_script.specs.Reasons.{sound, reason_if, cell_reason, form_reason, form_no}
 use Rattle.kt_script.specs.Columns.{counts_from, IsTable}
-use Rattle.kt_script.specs.Writes.{name_in, behind_name, column_named, cells_no, under_no, given_no, all_named_no, rest_no, key_len, op_form, op_kind, kind_no, op_no, op_of}
+use Rattle.kt_script.specs.Writes.{name_in, behind_name, column_named, cells_no, under_no, given_no, all_named_no, rest_no, rest_cells, key_len, op_form, op_kind, kind_no, op_no, op_of}
 use Rattle.kt_script.specs.Fit.{fits_column, is_part, cells_fit, OpFits as FitsTable}
-use Rattle.kt_script.proofs.OpForms.{operation, operation_law, op_read, op_fits}
+use Rattle.kt_script.proofs.OpForms.{operation, operation_law, op_read, op_fits, rest_form, rest_law, rest_read, rest_fits, others_rising}
 use Rattle.kt_script.proofs.OpWords.{same_op}
 
 -- ---- ids of columns
@@ -132,13 +132,22 @@ is_some_part others form.RowNames cells h = (both_true _ _ h).0
 is_some_part others form.Names cells h = (both_true _ _ h).0
 is_some_part others form.Key cells h = let none = none_cells cells h in rw none refl
 
+-- a table has fewer columns than a count of cells can say
+pub few_others : (columns : List Column) → IsTable columns → length (other_columns columns) < 2 ^ 16
+few_others columns table = let few = some_few (λ c. not c.key) columns in omega (arith, few, table.few)
+
+-- cells that fit the columns of a table have a spelling
+cells_spelled : (columns : List Column) (f : OpForm) (cells : List (ℕ × Cell)) → IsTable columns → cells_fit (other_columns columns) f cells ≡ true → CellListFits cells
+cells_spelled columns f cells table fit =
+    let others = other_columns columns in
+    let few = few_others columns table in
+    let part = part_of 301 1 others [] cells (omega arith) (some_rise (λ c. not c.key) 1 301 columns table.ids (omega (arith, table.few))) (omega arith) (is_some_part others f cells fit) in
+    record { count = omega (arith, part.few, few); each = part.follows }
+
 -- an operation that fits the columns of a table has a spelling
 pub has_spelling : (columns : List Column) (o : RowOp) → IsTable columns → FitsTable columns o → OpFits o
 has_spelling columns o table fits =
-    let others = other_columns columns in
-    let few = some_few (λ c. not c.key) columns in
-    let part = part_of 301 1 others [] o.cells (omega arith) (some_rise (λ c. not c.key) 1 301 columns table.ids (omega (arith, table.few))) (omega arith) (is_some_part others (op_form o.kind) o.cells fits.cells) in
-    record { key = omega (arith, fits.short); cells = record { count = omega (arith, part.few, few, table.few); each = part.follows } }
+    record { key = omega (arith, fits.short); cells = cells_spelled columns (op_form o.kind) o.cells table fits.cells }
 
 -- ---- each reason of an operation is 17 at most
 
@@ -207,6 +216,20 @@ low_op columns (w ∷ words) = by (op_kind w)
     by (Some k) = low_min _ _ (low_min _ _ (low_cells (key_columns columns) words) (low_if _ 17 (omega arith))) (low_rest (other_columns columns) (op_form k) (drop (key_len columns) words))
 
 -- ---- an operation that is taken
+
+-- the cells behind a key
+pub rest_spelled : (columns : List Column) (f : OpForm) (words : List (List ℕ)) → IsTable columns → 17 < rest_no (other_columns columns) f words → CellListFits (rest_cells (other_columns columns) f words)
+rest_spelled columns f words table h =
+    let others = other_columns columns in
+    let read = rest_read others f words in
+    let said = (rest_law columns table f).said words (subst (λ n. sound ≤ n) read.0 none) in
+    cells_spelled columns f (rest_cells others f words) table (rest_fits others f (rest_cells others f words) (others_rising columns table) (subst (rest_form others f).keeps (sym read.1) said.0))
+  where
+    none : sound ≤ rest_no (other_columns columns) f words
+    none = elim (low_rest (other_columns columns) f words) [
+      | inl low ↦ absurd (omega (arith, h, low))
+      | inr high ↦ high
+    ]
 
 pub op_spelled : (columns : List Column) (words : List (List ℕ)) → IsTable columns → 17 < op_no columns words → OpFits (op_of columns words)
 op_spelled columns words table h =

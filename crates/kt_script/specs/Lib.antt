@@ -5,6 +5,7 @@ pub mod Reasons
 pub mod Kinds
 pub mod Columns
 pub mod Writes
+pub mod Buffers
 pub mod Times
 pub mod Leads
 pub mod Scans

@@ -1,10 +1,13 @@
 //! The least reason that was found in a line so far.
 
-ghost use Rattle.std.specs.Prelude.{◌≡◌, ◌<◌, ◌↔◌, min, IfOk, OnOk, IsTrue};
+ghost use Rattle.std.specs.Prelude.{◌≡◌, ◌<◌, ◌↔◌, ◌++◌, min, IfOk, OnOk, IsTrue};
+ghost use Rattle.kt_cells.specs.Spelling.{listed_cell};
 ghost use Rattle.kt_script.specs.Reasons.{sound, no_of, cell_reason, cell_no, cell_value, form_no};
 
-use kt_base::literal::{LiteralNo, read_literal};
-use kt_base::{Cell, Kind, NoMemory};
+use kt_base::literal::{LiteralNo, plain_literal, read_literal};
+use kt_base::{Cell, CellRef, Kind, NoMemory};
+use kt_cells::Tail;
+use kt_cells::writing::put_listed_cell;
 use kt_schema::Column;
 use std::alloc::Global;
 use std::marker::Model;
@@ -101,6 +104,25 @@ pub fn read_cell(
             Cell::Null,
         ),
     }
+}
+
+/// Adds the cell of a literal under a column, behind the column's id, or null in place of one that is refused.
+pub fn put_cell_read(
+    alloc: Global,
+    column: &Column,
+    text: &[u8],
+    out: &mut Tail,
+    no: &mut Least,
+) -> Result<(), NoMemory>
+    ensures cell { OnOk result (out.new.added ≡ out.old.added ++ listed_cell (column.now.id, cell_value column.now.kind text.now)) }
+    ensures least { OnOk result (no.new ≡ min no.old (cell_no column.now text.now)) }
+{
+    if let Some(cell) = plain_literal(text, column.kind) {
+        no.note(None);
+        return put_listed_cell(out, column.id, cell);
+    }
+    let cell = read_cell(alloc, column, text, no)?;
+    put_listed_cell(out, column.id, CellRef::of(&cell))
 }
 
 /// Notes a text that is no literal of any kind.

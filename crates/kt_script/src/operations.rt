@@ -1,26 +1,21 @@
 //! The words of one operation, and the cells and the key that its first words spell.
 
-ghost use Rattle.std.specs.Prelude.{◌≡◌, ◌<◌, [], min, length, drop, ◌&&◌, nat_lt, true, IfOk, OnOk, IfSome, IfNone, None};
+ghost use Rattle.std.specs.Prelude.{◌≡◌, ◌<◌, ◌^◌, ◌++◌, [], min, length, drop, ◌&&◌, nat_lt, true, IfOk, OnOk, IfSome, IfNone, None};
+ghost use Rattle.kt_cells.specs.Spelling.{cell_list};
 ghost use Rattle.kt_key.specs.Fit.{is_key};
 ghost use Rattle.kt_key.specs.Spelling.{spelling};
 ghost use Rattle.kt_schema.specs.Columns.{columns_no, key_columns, key_kinds};
 ghost use Rattle.kt_script.specs.Reasons.{no_of, reason_if};
 ghost use Rattle.kt_script.specs.Writes.{cells_no, cells_of, under, key_no, key_len, key_of, is_empty, none_left_no, op_in, later_in, ops_in, IsOpCut};
 
-use crate::least::{Least, read_cell};
+use crate::least::{Least, put_cell_read, read_cell};
 use crate::word::next_word;
 use kt_base::limits::KEY_LEN;
-use kt_base::{Cell, NoMemory, Octets, Row};
-use kt_key::encode_key;
+use kt_base::{Cell, NoMemory, Octets};
+use kt_cells::Tail;
+use kt_key::encode_key_into;
 use kt_schema::{Column, Schema};
 use std::alloc::Global;
-
-/// Cells that are read, and what is left of the line behind them.
-#[derive(Drop)]
-pub struct TakenCells<'a> {
-    pub cells: Vec<Cell>,
-    pub rest: Option<&'a [u8]>,
-}
 
 /// Cells with the ids of their columns, and what is left of the line behind them.
 #[derive(Drop)]
@@ -83,30 +78,31 @@ pub fn missing_no(rest: Option<&[u8]>) -> Option<u8>
     }
 }
 
-/// A cell for each column.
-pub fn take_cells<'a>(
+/// Reads a cell for each column in place of the cells of a vector, and gives what is left of the line behind them.
+fn take_cells<'a>(
     alloc: Global,
     columns: &[Column],
     rest: Option<&'a [u8]>,
+    cells: &mut Vec<Cell>,
     no: &mut Least,
-) -> Result<TakenCells<'a>, NoMemory>
-    ensures cells { IfOk result (λ taken. taken.cells.items ≡ cells_of columns.now (op_in rest.entry)) }
-    ensures behind { IfOk result (λ taken. op_in taken.rest ≡ drop (length columns.now) (op_in rest.entry)) }
-    ensures later { IfOk result (λ taken. later_in taken.rest ≡ later_in rest.entry) }
+) -> Result<Option<&'a [u8]>, NoMemory>
+    ensures cells { OnOk result (cells.new.items ≡ cells_of columns.now (op_in rest.entry)) }
+    ensures behind { IfOk result (λ left. op_in left ≡ drop (length columns.now) (op_in rest.entry)) }
+    ensures later { IfOk result (λ left. later_in left ≡ later_in rest.entry) }
     ensures least { OnOk result (no.new ≡ min no.old (cells_no columns.now (op_in rest.entry))) }
 {
-    let mut cells = Vec::with_capacity(alloc, columns.len())?;
+    cells.clear();
     let mut left = rest;
     for column in columns {
         let Some((word, behind)) = next_op_word(left) else {
             no.note(Some(12));
-            return Ok(TakenCells { cells, rest: left });
+            return Ok(left);
         };
         cells.push(read_cell(alloc, column, word, no)?)?;
         left = behind;
     }
     no.note(None);
-    Ok(TakenCells { cells, rest: left })
+    Ok(left)
 }
 
 /// A cell for each column, with the column's id.
@@ -135,6 +131,35 @@ pub fn take_others<'a>(
     Ok(TakenOthers { cells, rest: left })
 }
 
+/// Adds a cell for each column, behind their count, and gives what is left of the line behind them. What is added counts
+/// only where no reason up to 12 holds.
+pub fn put_others<'a>(
+    alloc: Global,
+    columns: &[Column],
+    rest: Option<&'a [u8]>,
+    out: &mut Tail,
+    no: &mut Least,
+) -> Result<Option<&'a [u8]>, NoMemory>
+    requires { length columns.now < 2 ^ 16 }
+    ensures cells { OnOk result (12 < no.new → out.new.added ≡ out.old.added ++ cell_list (under columns.now (cells_of columns.now (op_in rest.entry)))) }
+    ensures behind { IfOk result (λ left. op_in left ≡ drop (length columns.now) (op_in rest.entry)) }
+    ensures later { IfOk result (λ left. later_in left ≡ later_in rest.entry) }
+    ensures least { OnOk result (no.new ≡ min no.old (cells_no columns.now (op_in rest.entry))) }
+{
+    out.extend(&(columns.len() as u16).to_le_bytes())?;
+    let mut left = rest;
+    for column in columns {
+        let Some((word, behind)) = next_op_word(left) else {
+            no.note(Some(12));
+            return Ok(left);
+        };
+        put_cell_read(alloc, column, word, out, no)?;
+        left = behind;
+    }
+    no.note(None);
+    Ok(left)
+}
+
 // The key columns, which stand first.
 fn key_columns(schema: &Schema) -> &[Column]
     ensures value { result.now ≡ key_columns schema.now }
@@ -144,23 +169,46 @@ fn key_columns(schema: &Schema) -> &[Column]
     keys
 }
 
-// The encoded key of some cells, unless a reason holds already that a long key would not change.
+// Encodes the key of some cells in place of the bytes of a buffer, unless a reason holds already that a long key would
+// not change.
 fn spell_key(
-    alloc: Global,
     schema: &Schema,
-    cells: &Row,
+    cells: &[Cell],
+    key: &mut Octets,
     no: &mut Least,
-) -> Result<Octets, NoMemory>
+) -> Result<(), NoMemory>
     requires { 17 < no.old → is_key (key_kinds schema.now) cells.now ≡ true }
-    ensures key { IfOk result (λ key. 17 < no.new → key ≡ spelling (key_kinds schema.now) cells.now) }
+    ensures key { OnOk result (17 < no.new → key.new ≡ spelling (key_kinds schema.now) cells.now) }
     ensures least { OnOk result (no.new ≡ min no.old (reason_if (is_key (key_kinds schema.now) cells.now && nat_lt 16384 (length (spelling (key_kinds schema.now) cells.now))) 17)) }
 {
     if !no.is_above(17) {
-        return Ok(Octets::new(alloc));
+        return Ok(());
     }
-    let key = encode_key(alloc, schema.key_kinds(), cells)?;
+    key.clear();
+    encode_key_into(schema.key_kinds(), cells, key)?;
     no.note(if key.len() > KEY_LEN { Some(17) } else { None });
-    Ok(key)
+    Ok(())
+}
+
+/// Reads the key that an operation begins with: its cells in place of those of a vector, and the encoded key in place of
+/// the bytes of a buffer. Gives what is left of the line behind them.
+pub fn take_key_into<'a>(
+    alloc: Global,
+    schema: &Schema,
+    rest: Option<&'a [u8]>,
+    cells: &mut Vec<Cell>,
+    key: &mut Octets,
+    no: &mut Least,
+) -> Result<Option<&'a [u8]>, NoMemory>
+    ensures fit { OnOk result (columns_no schema.now ≡ None) }
+    ensures key { OnOk result (17 < no.new → key.new ≡ key_of schema.now (op_in rest.entry)) }
+    ensures behind { IfOk result (λ left. op_in left ≡ drop (key_len schema.now) (op_in rest.entry)) }
+    ensures later { IfOk result (λ left. later_in left ≡ later_in rest.entry) }
+    ensures least { OnOk result (no.new ≡ min no.old (key_no schema.now (op_in rest.entry))) }
+{
+    let left = take_cells(alloc, key_columns(schema), rest, cells, no)?;
+    spell_key(schema, cells, key, no)?;
+    Ok(left)
 }
 
 /// The key that an operation begins with.
@@ -176,7 +224,8 @@ pub fn take_key<'a>(
     ensures later { IfOk result (λ taken. later_in taken.rest ≡ later_in rest.entry) }
     ensures least { OnOk result (no.new ≡ min no.old (key_no schema.now (op_in rest.entry))) }
 {
-    let TakenCells { cells, rest } = take_cells(alloc, key_columns(schema), rest, no)?;
-    let key = spell_key(alloc, schema, &Row::of(cells), no)?;
+    let mut cells = Vec::with_capacity(alloc, schema.key_kinds().len())?;
+    let mut key = Octets::new(alloc);
+    let rest = take_key_into(alloc, schema, rest, &mut cells, &mut key, no)?;
     Ok(TakenKey { key, rest })
 }

@@ -8,213 +8,223 @@ ghost use Rattle.kt_base.specs.Literals.{same};
 ghost use Rattle.kt_cells.specs.Rules.{CellListFits};
 ghost use Rattle.kt_cells.specs.Spelling.{cell_list};
 ghost use Rattle.kt_history.specs.declared.operation.RowOp.{RowOp};
-ghost use Rattle.kt_history.specs.Spelled.{OpFits};
+ghost use Rattle.kt_schema.specs.Columns.{other_columns};
 ghost use Rattle.kt_script.specs.declared.forms.OpForm.TheVariants as form;
 ghost use Rattle.kt_script.specs.Pieces.{words_in};
 ghost use Rattle.kt_script.specs.Columns.{IsTable};
 ghost use Rattle.kt_script.specs.Reasons.{no_of, reason_if};
+ghost use Rattle.kt_script.specs.Buffers.{Spells, HasSpelling, spelled_op};
 ghost use Rattle.kt_script.specs.Writes.{rest_no, rest_cells, behind_no, op_form, op_no, op_of, op_said, ops_of, ops_no, many_no, twice, op_in, later_in, ops_in, ReadsWrite};
 
 use crate::columns::LineNo;
 use crate::forms::{OpForm, op_form, op_kind};
 use crate::least::Least;
 use crate::named::{TakenNames, left_out_no, take_names};
-use crate::operations::{
-    TakenKey, TakenOthers, behind_op, left_no, missing_no, next_op_word, take_key, take_others,
-};
+use crate::operations::{behind_op, left_no, missing_no, next_op_word, put_others, take_key_into};
 use kt_base::limits::OPERATIONS;
-use kt_base::{Cells, NoMemory, Octets};
+use kt_base::{Cell, Cells, NoMemory, Octets};
 use kt_cells::Tail;
 use kt_cells::writing::put_cell_list;
-use kt_history::{OpKind, OpList, OpRef, RowOp, Write};
-use kt_schema::{Column, Schema};
+use kt_history::{OpKind, OpList, OpRef, Write};
+use kt_schema::Schema;
 use std::alloc::Global;
 
 // The bytes for which room is made for each cell. A number under its id takes 11, a text 7 and its bytes.
 const CELL_ROOM: usize = 24;
 
-// An operation, and what is left behind its `;`, if it has one. It counts only where no reason up to 17 holds.
+// An operation as bytes spell it, in buffers that are filled anew for each operation of a line: the cells of its key, the
+// encoded key, and its other cells behind their count.
 #[derive(Drop)]
-struct TakenOp<'a> {
-    op: RowOp,
-    rest: Option<Option<&'a [u8]>>,
+struct SpelledOp {
+    kind: OpKind,
+    key_cells: Vec<Cell>,
+    key: Octets,
+    cells: Tail,
+}
+
+impl SpelledOp {
+    // Buffers with room for the operations of a table.
+    fn of(alloc: Global, schema: &Schema) -> Result<SpelledOp, NoMemory> {
+        let key_cells = Vec::with_capacity(alloc, schema.key_kinds().len())?;
+        let mut cells = Octets::new(alloc);
+        cells.reserve(2 + CELL_ROOM * schema.other_columns().len())?;
+        Ok(SpelledOp {
+            kind: OpKind::Delete,
+            key_cells,
+            key: Octets::new(alloc),
+            cells: Tail::of(cells),
+        })
+    }
+}
+
+// Adds named cells behind their count, unless a reason holds for which they do not count.
+fn put_named(cells: Vec<(u16, Cell)>, out: &mut Tail, no: &Least) -> Result<(), NoMemory>
+    requires { 17 < no.now → CellListFits cells.items }
+    ensures { OnOk result (17 < no.now → out.new.added ≡ out.old.added ++ cell_list cells.items) }
+{
+    if no.is_above(17) {
+        put_cell_list(out, &Cells::of(cells))?;
+    }
+    Ok(())
 }
 
 // A literal for each column, and no word more.
 fn take_values<'a>(
     alloc: Global,
-    others: &[Column],
+    schema: &Schema,
     rest: Option<&'a [u8]>,
+    out: &mut Tail,
     no: &mut Least,
-) -> Result<TakenOthers<'a>, NoMemory>
-    ensures cells { IfOk result (λ taken. taken.cells.items ≡ rest_cells others.now form.Literals (op_in rest.entry)) }
-    ensures later { IfOk result (λ taken. later_in taken.rest ≡ later_in rest.entry) }
-    ensures least { OnOk result (no.new ≡ min no.old (rest_no others.now form.Literals (op_in rest.entry))) }
+) -> Result<Option<&'a [u8]>, NoMemory>
+    requires { IsTable schema.now }
+    ensures cells { OnOk result (17 < no.new → out.new.added ≡ out.old.added ++ cell_list (rest_cells (other_columns schema.now) form.Literals (op_in rest.entry))) }
+    ensures later { IfOk result (λ left. later_in left ≡ later_in rest.entry) }
+    ensures least { OnOk result (no.new ≡ min no.old (rest_no (other_columns schema.now) form.Literals (op_in rest.entry))) }
 {
-    let taken = take_others(alloc, others, rest, no)?;
-    no.note(left_no(taken.rest));
-    Ok(taken)
+    let left = put_others(alloc, schema.other_columns(), rest, out, no)?;
+    no.note(left_no(left));
+    Ok(left)
 }
 
 // The named cells of a row, none of which has to be named and is not.
 fn take_row_names<'a>(
     alloc: Global,
-    others: &[Column],
+    schema: &Schema,
     rest: Option<&'a [u8]>,
+    out: &mut Tail,
     no: &mut Least,
-) -> Result<TakenOthers<'a>, NoMemory>
-    ensures cells { IfOk result (λ taken. 17 < no.new → taken.cells.items ≡ rest_cells others.now form.RowNames (op_in rest.entry)) }
-    ensures later { IfOk result (λ taken. later_in taken.rest ≡ later_in rest.entry) }
-    ensures least { OnOk result (no.new ≡ min no.old (rest_no others.now form.RowNames (op_in rest.entry))) }
+) -> Result<Option<&'a [u8]>, NoMemory>
+    requires { IsTable schema.now }
+    ensures cells { OnOk result (17 < no.new → out.new.added ≡ out.old.added ++ cell_list (rest_cells (other_columns schema.now) form.RowNames (op_in rest.entry))) }
+    ensures later { IfOk result (λ left. later_in left ≡ later_in rest.entry) }
+    ensures least { OnOk result (no.new ≡ min no.old (rest_no (other_columns schema.now) form.RowNames (op_in rest.entry))) }
 {
+    let others = schema.other_columns();
     let TakenNames { names, cells, rest } = take_names(alloc, others, rest, no)?;
     no.note(left_out_no(others, &names));
-    Ok(TakenOthers { cells, rest })
+    put_named(cells, out, no)?;
+    Ok(rest)
 }
 
 // At least one named cell.
 fn take_some_names<'a>(
     alloc: Global,
-    others: &[Column],
+    schema: &Schema,
     rest: Option<&'a [u8]>,
+    out: &mut Tail,
     no: &mut Least,
-) -> Result<TakenOthers<'a>, NoMemory>
-    ensures cells { IfOk result (λ taken. 17 < no.new → taken.cells.items ≡ rest_cells others.now form.Names (op_in rest.entry)) }
-    ensures later { IfOk result (λ taken. later_in taken.rest ≡ later_in rest.entry) }
-    ensures least { OnOk result (no.new ≡ min no.old (rest_no others.now form.Names (op_in rest.entry))) }
+) -> Result<Option<&'a [u8]>, NoMemory>
+    requires { IsTable schema.now }
+    ensures cells { OnOk result (17 < no.new → out.new.added ≡ out.old.added ++ cell_list (rest_cells (other_columns schema.now) form.Names (op_in rest.entry))) }
+    ensures later { IfOk result (λ left. later_in left ≡ later_in rest.entry) }
+    ensures least { OnOk result (no.new ≡ min no.old (rest_no (other_columns schema.now) form.Names (op_in rest.entry))) }
 {
     no.note(missing_no(rest));
-    let TakenNames { cells, rest, .. } = take_names(alloc, others, rest, no)?;
-    Ok(TakenOthers { cells, rest })
+    let TakenNames { cells, rest, .. } = take_names(alloc, schema.other_columns(), rest, no)?;
+    put_named(cells, out, no)?;
+    Ok(rest)
 }
 
-// The cells behind a key.
+// Adds the cells behind a key. They count only where no reason up to 17 holds.
 fn take_rest<'a>(
     alloc: Global,
-    others: &[Column],
+    schema: &Schema,
     form: OpForm,
     rest: Option<&'a [u8]>,
+    out: &mut Tail,
     no: &mut Least,
-) -> Result<TakenOthers<'a>, NoMemory>
-    ensures cells { IfOk result (λ taken. 17 < no.new → taken.cells.items ≡ rest_cells others.now form (op_in rest.entry)) }
-    ensures later { IfOk result (λ taken. later_in taken.rest ≡ later_in rest.entry) }
-    ensures least { OnOk result (no.new ≡ min no.old (rest_no others.now form (op_in rest.entry))) }
+) -> Result<Option<&'a [u8]>, NoMemory>
+    requires { IsTable schema.now }
+    ensures cells { OnOk result (17 < no.new → out.new.added ≡ out.old.added ++ cell_list (rest_cells (other_columns schema.now) form (op_in rest.entry))) }
+    ensures later { IfOk result (λ left. later_in left ≡ later_in rest.entry) }
+    ensures least { OnOk result (no.new ≡ min no.old (rest_no (other_columns schema.now) form (op_in rest.entry))) }
 {
     match form {
-        OpForm::Literals => take_values(alloc, others, rest, no),
-        OpForm::RowNames => take_row_names(alloc, others, rest, no),
-        OpForm::Names => take_some_names(alloc, others, rest, no),
+        OpForm::Literals => take_values(alloc, schema, rest, out, no),
+        OpForm::RowNames => take_row_names(alloc, schema, rest, out, no),
+        OpForm::Names => take_some_names(alloc, schema, rest, out, no),
         OpForm::Key => {
             no.note(left_no(rest));
-            let cells = Vec::new(alloc);
-            Ok(TakenOthers { cells, rest })
+            out.extend(&[0, 0])?;
+            Ok(rest)
         }
     }
 }
 
-// The words of an operation behind its first.
+// The words of an operation behind its first. What is left behind its `;` is given, if it has one.
 fn read_behind<'a>(
     alloc: Global,
     schema: &Schema,
     kind: OpKind,
     rest: Option<&'a [u8]>,
+    op: &mut SpelledOp,
     no: &mut Least,
-) -> Result<TakenOp<'a>, NoMemory>
-    ensures op { IfOk result (λ taken. 17 < no.new → taken.op ≡ op_said schema.now kind (op_form kind) (op_in rest.entry)) }
-    ensures later { IfOk result (λ taken. ops_in taken.rest ≡ later_in rest.entry) }
+) -> Result<Option<Option<&'a [u8]>>, NoMemory>
+    requires { IsTable schema.now }
+    ensures op { OnOk result (17 < no.new → Spells op.new (op_said schema.now kind (op_form kind) (op_in rest.entry))) }
+    ensures later { IfOk result (λ left. ops_in left ≡ later_in rest.entry) }
     ensures least { OnOk result (no.new ≡ min no.old (behind_no schema.now (op_form kind) (op_in rest.entry))) }
 {
-    let TakenKey { key, rest } = take_key(alloc, schema, rest, no)?;
-    let others = schema.other_columns();
-    let TakenOthers { cells, rest } = take_rest(alloc, others, op_form(kind), rest, no)?;
-    let cells = Cells::of(cells);
-    let op = RowOp { kind, key, cells };
-    let rest = behind_op(rest);
-    Ok(TakenOp { op, rest })
+    op.kind = kind;
+    op.cells.clear();
+    let behind_key = take_key_into(alloc, schema, rest, &mut op.key_cells, &mut op.key, no)?;
+    let left = take_rest(alloc, schema, op_form(kind), behind_key, &mut op.cells, no)?;
+    Ok(behind_op(left))
 }
 
-// What stands for an operation of no known kind.
-fn no_op(alloc: Global, rest: Option<&[u8]>) -> TakenOp<'_>
-    ensures { ops_in result.rest ≡ later_in rest.entry }
-{
-    let op = RowOp {
-        kind: OpKind::Delete,
-        key: Octets::new(alloc),
-        cells: Cells::of(Vec::new(alloc)),
-    };
-    TakenOp {
-        op,
-        rest: behind_op(rest),
-    }
-}
-
+// An operation. What is left behind its `;` is given, if it has one.
 fn read_op<'a>(
     alloc: Global,
     schema: &Schema,
     rest: Option<&'a [u8]>,
+    op: &mut SpelledOp,
     no: &mut Least,
-) -> Result<TakenOp<'a>, NoMemory>
-    ensures op { IfOk result (λ taken. 17 < no.new → taken.op ≡ op_of schema.now (op_in rest.entry)) }
-    ensures later { IfOk result (λ taken. ops_in taken.rest ≡ later_in rest.entry) }
+) -> Result<Option<Option<&'a [u8]>>, NoMemory>
+    requires { IsTable schema.now }
+    ensures op { OnOk result (17 < no.new → Spells op.new (op_of schema.now (op_in rest.entry))) }
+    ensures later { IfOk result (λ left. ops_in left ≡ later_in rest.entry) }
     ensures least { OnOk result (no.new ≡ min no.old (op_no schema.now (op_in rest.entry))) }
 {
     let Some((word, behind)) = next_op_word(rest) else {
         no.note(Some(12));
-        return Ok(no_op(alloc, rest));
+        return Ok(behind_op(rest));
     };
     match op_kind(word) {
-        Some(kind) => read_behind(alloc, schema, kind, behind, no),
+        Some(kind) => read_behind(alloc, schema, kind, behind, op, no),
         None => {
             no.note(Some(12));
-            Ok(no_op(alloc, behind))
+            Ok(behind_op(behind))
         }
     }
 }
 
-// Cells as bytes spell them, in a buffer that is used again.
-fn spelled(buffer: Octets, cells: &Cells) -> Result<Octets, NoMemory>
-    requires { CellListFits cells.now }
-    ensures { IfOk result (λ spelled. spelled ≡ cell_list cells.now) }
+// Adds an operation as it is spelled.
+fn push_op(ops: &mut OpList, op: &SpelledOp) -> Result<(), NoMemory>
+    requires { HasSpelling op.now }
+    ensures { OnOk result (ops.new ≡ ops.old ++ spelled_op op.now ∷ []) }
 {
-    let mut buffer = buffer;
-    buffer.clear();
-    buffer.reserve(2 + CELL_ROOM * cells.len())?;
-    let mut tail = Tail::of(buffer);
-    put_cell_list(&mut tail, cells)?;
-    Ok(tail.whole())
-}
-
-// Adds an operation, whose cells are spelled in a buffer that is used again.
-fn push_op(ops: &mut OpList, op: &RowOp, buffer: Octets) -> Result<Octets, NoMemory>
-    requires { OpFits op.now }
-    ensures { OnOk result (ops.new ≡ ops.old ++ op.now ∷ []) }
-{
-    let cells = spelled(buffer, &op.cells)?;
-    let key = op.key.as_slice();
-    let bytes = cells.as_slice();
-    let spelled_op = OpRef::of(op.kind, key, bytes);
-    ops.push(&spelled_op)?;
-    Ok(cells)
+    let spelled = OpRef::of(op.kind, op.key.as_slice(), op.cells.added());
+    ops.push(&spelled)
 }
 
 // Keeps an operation, if there is room for it. One that a reason up to 17 refuses is not kept.
-fn keep_op(ops: &mut OpList, op: &RowOp, buffer: Octets, no: &mut Least) -> Result<Octets, NoMemory>
+fn keep_op(ops: &mut OpList, op: &SpelledOp, no: &mut Least) -> Result<(), NoMemory>
     requires held { length ops.old ≤ 64 }
-    requires fits { 17 < no.old → OpFits op.now }
+    requires fits { 17 < no.old → HasSpelling op.now }
     ensures least { OnOk result (no.new ≡ min no.old (reason_if (nat_lt 63 (length ops.old)) 18)) }
-    ensures kept { OnOk result (18 < no.new → ops.new ≡ ops.old ++ op.now ∷ []) }
+    ensures kept { OnOk result (18 < no.new → ops.new ≡ ops.old ++ spelled_op op.now ∷ []) }
     ensures room { OnOk result (17 < no.new → length ops.new ≡ min 64 (length ops.old + 1)) }
     ensures few { OnOk result (length ops.new ≤ 64) }
 {
     if ops.len() >= OPERATIONS {
         no.note(Some(18));
-        return Ok(buffer);
+        return Ok(());
     }
     no.note(None);
     if no.is_above(17) {
-        push_op(ops, op, buffer)
+        push_op(ops, op)
     } else {
-        Ok(buffer)
+        Ok(())
     }
 }
 
@@ -230,12 +240,11 @@ fn read_ops(
     ensures least { OnOk result (no.new ≡ min no.old (min (ops_no schema.now (ops_of (words_in line.entry))) (many_no 0 (ops_of (words_in line.entry))))) }
 {
     let mut ops = OpList::new(alloc);
-    let mut buffer = Octets::new(alloc);
+    let mut op = SpelledOp::of(alloc, schema)?;
     let mut left = Some(line);
     'ops: while let Some(rest) = left {
-        let taken = read_op(alloc, schema, rest, no)?;
-        buffer = keep_op(&mut ops, &taken.op, buffer, no)?;
-        left = taken.rest;
+        left = read_op(alloc, schema, rest, &mut op, no)?;
+        keep_op(&mut ops, &op, no)?;
     }
     no.note(None);
     Ok(ops)

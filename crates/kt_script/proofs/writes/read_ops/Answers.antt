@@ -1,8 +1,9 @@
-use Rattle.std.proofs.Common.{◌≡◌, ◌∙◌, ◌++◌, min, suc, length, map, sym, ap, subst, arith}
+use Rattle.std.proofs.Common.{◌≡◌, ◌∙◌, ◌<◌, ◌++◌, min, suc, length, map, sym, ap, arith}
 use mathlib.Core.List.{append-nil}
-use Rattle.kt_history.specs.Spelled.{OpFits}
+use Rattle.kt_script.specs.Buffers.{spelled_op}
 use Rattle.kt_script.specs.Pieces.{words_in}
 use Rattle.kt_script.specs.Writes.{op_of, ops_of, ops_no, many_no, first_op, later_ops, ops_in}
+use Rattle.kt_script.proofs.Buffers.{is_spelled, read_again}
 use Rattle.kt_script.proofs.OpSpelled.{op_spelled}
 use Rattle.kt_script.proofs.OpWords.{ops_split, least_op, ops_more, ops_end}
 use Rattle.kt_script.proofs.writes.read_ops.Goals as goal
@@ -11,25 +12,30 @@ pub ops-smaller : goal.ops-smaller
 ops-smaller c =
     let words = words_in c.in-Some.rest in
     let size : length (ops_in c.ops.left) ≡ suc (length (later_ops words)) = ap length (ap ops_in c.in-Some.is ∙ ops_split words) in
-    let less : length (ops_in c.in_ok-taken.taken.rest) ≡ length (later_ops words) = ap length c.in_ok-taken.ensures.later in
+    let less : length (ops_in c.in_ok-left.left) ≡ length (later_ops words) = ap length c.in_ok-left.ensures.later in
     omega (arith, size, less)
 
 pub keep_op-requires-clause-fits : goal.keep_op-requires-clause-fits
 keep_op-requires-clause-fits c = λ h.
-    let taken = c.in_ok-taken.ensures in
-    subst OpFits (sym (taken.op h)) (op_spelled c.args.schema.now (first_op (words_in c.in-Some.rest)) c.requires (omega (arith, h, taken.least)))
+    let columns = c.args.schema.now in
+    let words = first_op (words_in c.in-Some.rest) in
+    let read = c.in_ok-left.ensures in
+    is_spelled c.read_op.new.op (op_of columns words) (op_spelled columns words c.requires (omega (arith, h, read.least))) (read.op h)
 
 pub ops-preserved : goal.ops-preserved
 ops-preserved c =
     let columns = c.args.schema.now in
     let words = words_in c.in-Some.rest in
-    let taken = c.in_ok-taken.ensures in
-    let kept = c.in_ok-buffer.ensures in
+    let read = c.in_ok-left.ensures in
+    let kept = c.in_ok-keep_op.ensures in
     record {
-      ops = λ h. ops_more columns words (ops_in c.ops.left) (ops_in c.in_ok-taken.taken.rest) c.ops.ops c.keep_op.new.ops (map (op_of columns) (ops_of (words_in c.args.line))) c.in_ok-taken.taken.op
-          (ap ops_in c.in-Some.is) taken.later (taken.op (omega (arith, h, kept.least))) (kept.kept h) (c.ops.invariant.ops (omega (arith, h, kept.least, taken.least)));
+      ops = λ h.
+          let taken : 17 < c.read_op.new.no = omega (arith, h, kept.least) in
+          let fits = op_spelled columns (first_op words) c.requires (omega (arith, taken, read.least)) in
+          ops_more columns words (ops_in c.ops.left) (ops_in c.in_ok-left.left) c.ops.ops c.keep_op.new.ops (map (op_of columns) (ops_of (words_in c.args.line))) (spelled_op c.read_op.new.op)
+          (ap ops_in c.in-Some.is) read.later (read_again c.read_op.new.op (op_of columns (first_op words)) fits (read.op taken)) (kept.kept h) (c.ops.invariant.ops (omega (arith, h, kept.least, read.least)));
       few = kept.few;
-      least = least_op columns words (ops_in c.in_ok-taken.taken.rest) (length c.ops.ops) (length c.keep_op.new.ops) c.ops.no c.read_op.new.no c.keep_op.new.no taken.later c.ops.invariant.few taken.least kept.least kept.room
+      least = least_op columns words (ops_in c.in_ok-left.left) (length c.ops.ops) (length c.keep_op.new.ops) c.ops.no c.read_op.new.no c.keep_op.new.no read.later c.ops.invariant.few read.least kept.least kept.room
           ∙ (ap (λ left. min c.ops.no (min (ops_no columns (ops_in left)) (many_no (length c.ops.ops) (ops_in left)))) (sym c.in-Some.is) ∙ c.ops.invariant.least);
     }
 

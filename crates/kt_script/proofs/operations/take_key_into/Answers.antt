@@ -1,0 +1,12 @@
+use Rattle.std.proofs.Common.{◌∙◌, ap, arith}
+use Rattle.kt_key.specs.Fit.{is_key}
+use Rattle.kt_schema.specs.Columns.{key_kinds}
+use Rattle.kt_script.specs.Writes.{op_in}
+use Rattle.kt_script.proofs.KeyCells.{key_fits}
+use Rattle.kt_script.proofs.operations.take_key_into.Goals as goal
+
+pub spell_key-requires : goal.spell_key-requires
+spell_key-requires c = λ h.
+    let least = rw c.key_columns.ensures.value at c.in_ok-left.ensures.least in
+    let cells = rw c.key_columns.ensures.value at c.in_ok-left.ensures.cells in
+    ap (is_key (key_kinds c.args.schema.now)) (c.deref.ensures.value ∙ cells) ∙ key_fits c.args.schema.now (op_in c.args.rest) c.key_columns.ensures.fit (omega (arith, h, least))
