@@ -77,13 +77,27 @@ fn add_entries<'a>(
     Ok(rest)
 }
 
+/// A copy of the entries, which come into the table, and the bytes behind them.
+fn entries_by<'a>(
+    alloc: Global,
+    table: &mut IndexSet<&'a [u8]>,
+    count: usize,
+    most: u32,
+    bytes: &'a [u8],
+) -> Result<(Texts, &'a [u8]), Stop>
+    requires { table.old.keys ≡ [] }
+    ensures { Gives (λ x. (x.0, x.1.now)) result (entries_at most count [] bytes.now) }
+{
+    let rest = add_entries(table, count, most, bytes)?;
+    Ok((texts_of(alloc, table.as_slice())?, rest))
+}
+
 /// The entries, and the bytes behind them.
 fn entries_of(alloc: Global, count: usize, most: u32, bytes: &[u8]) -> Result<(Texts, &[u8]), Stop>
     ensures { Gives (λ x. (x.0, x.1.now)) result (entries_at most count [] bytes.now) }
 {
-    let mut entries = IndexSet::new(alloc);
-    let rest = add_entries(&mut entries, count, most, bytes)?;
-    Ok((texts_of(alloc, entries.as_slice())?, rest))
+    let mut table = IndexSet::new(alloc);
+    entries_by(alloc, &mut table, count, most, bytes)
 }
 
 #[tactic(auto, unfolding(crate::specs::Walk::code_at))]

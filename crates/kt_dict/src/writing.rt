@@ -1,6 +1,6 @@
 //! From a list to its block.
 
-ghost use Rattle.std.specs.Prelude.{◌≡◌, ◌<◌, ◌≤◌, ◌^◌, ◌++◌, length, map, sum_by, OnOk, IfOk, IfErr, MatchOption};
+ghost use Rattle.std.specs.Prelude.{◌≡◌, ◌<◌, ◌≤◌, ◌^◌, ◌++◌, [], length, map, sum_by, OnOk, IfOk, IfErr, MatchOption};
 ghost use Rattle.std.specs.Bool.{OnTrue, OnFalse};
 ghost use Rattle.std.specs.List.{All, AllByRecursion, concat, flat_map};
 ghost use Rattle.kt_dict.specs.Spelling.{block, code, entries_after, short, spelling, Fits};
@@ -123,6 +123,23 @@ fn use_few<'a>(table: &mut IndexSet<&'a [u8]>, cells: &'a Texts) -> Result<bool,
     Ok(true)
 }
 
+/// How many bytes the spelling of the list takes, whose different items come into the table, or none where there are too
+/// many of them.
+fn len_by<'a>(
+    table: &mut IndexSet<&'a [u8]>,
+    cells: &'a Texts,
+) -> Result<Option<usize>, NoMemory>
+    requires none { table.old.keys ≡ [] }
+    requires few { length cells.now < 2 ^ 32 }
+    requires small { sum_by length cells.now < 2 ^ 32 }
+    ensures { IfOk result (λ len. MatchOption len (¬ Fits cells.now) (λ n. Fits cells.now × (n ≡ length (spelling cells.now)))) }
+{
+    if !use_few(table, cells)? {
+        return Ok(None);
+    }
+    Ok(Some(2 + entries_len(table.as_slice()) + 2 * cells.len()))
+}
+
 /// How many bytes the spelling of the list takes, or none where there are too many different items.
 pub fn encoded_len(alloc: Global, cells: &Texts) -> Result<Option<usize>, NoMemory>
     requires few { length cells.now < 2 ^ 32 }
@@ -130,10 +147,29 @@ pub fn encoded_len(alloc: Global, cells: &Texts) -> Result<Option<usize>, NoMemo
     ensures { IfOk result (λ len. MatchOption len (¬ Fits cells.now) (λ n. Fits cells.now × (n ≡ length (spelling cells.now)))) }
 {
     let mut table = IndexSet::new(alloc);
-    if !use_few(&mut table, cells)? {
-        return Ok(None);
+    len_by(&mut table, cells)
+}
+
+/// The one spelling of the list, whose different items come into the table.
+fn encode_by<'a>(
+    alloc: Global,
+    table: &mut IndexSet<&'a [u8]>,
+    cells: &'a Texts,
+) -> Result<Octets, CodecNo>
+    requires none { table.old.keys ≡ [] }
+    requires few { length cells.now < 2 ^ 32 }
+    requires small { sum_by length cells.now < 2 ^ 32 }
+    ensures ok { IfOk result (λ bytes. (bytes ≡ spelling cells.now) × Fits cells.now) }
+    ensures refused { IfErr result (λ e. IsRefusal cells.now e) }
+{
+    use_items(table, cells)?;
+    let count = table.len();
+    if count > MOST {
+        return Err(CodecNo::TooMany {
+            count: count as u32,
+        });
     }
-    Ok(Some(2 + entries_len(table.as_slice()) + 2 * cells.len()))
+    Ok(Octets::of(written(alloc, table, cells)?))
 }
 
 /// The one spelling of the list.
@@ -146,12 +182,5 @@ pub fn encode(alloc: Global, cells: &Texts, width: Width) -> Result<Octets, Code
 {
     let Width::Bytes = width;
     let mut table = IndexSet::new(alloc);
-    use_items(&mut table, cells)?;
-    let count = table.len();
-    if count > MOST {
-        return Err(CodecNo::TooMany {
-            count: count as u32,
-        });
-    }
-    Ok(Octets::of(written(alloc, &table, cells)?))
+    encode_by(alloc, &mut table, cells)
 }
