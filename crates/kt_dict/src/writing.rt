@@ -125,10 +125,7 @@ fn use_few<'a>(table: &mut IndexSet<&'a [u8]>, cells: &'a Texts) -> Result<bool,
 
 /// How many bytes the spelling of the list takes, whose different items come into the table, or none where there are too
 /// many of them.
-fn len_by<'a>(
-    table: &mut IndexSet<&'a [u8]>,
-    cells: &'a Texts,
-) -> Result<Option<usize>, NoMemory>
+fn len_by<'a>(table: &mut IndexSet<&'a [u8]>, cells: &'a Texts) -> Result<Option<usize>, NoMemory>
     requires none { table.old.keys ≡ [] }
     requires few { length cells.now < 2 ^ 32 }
     requires small { sum_by length cells.now < 2 ^ 32 }

@@ -1,6 +1,6 @@
 //! From a block to its list.
 
-ghost use Rattle.std.specs.Prelude.{◌<◌, ◌≤◌, ◌^◌, ◌++◌, [], List, ℕ, length, take, IfOk, IfErr};
+ghost use Rattle.std.specs.Prelude.{◌≡◌, ◌<◌, ◌≤◌, ◌^◌, ◌++◌, [], List, ℕ, length, take, IfOk, IfErr};
 ghost use Rattle.std.specs.Int.{w32};
 ghost use Rattle.kt_bytes.specs.Reading.{checked_at, Gives};
 ghost use Rattle.kt_front.specs.Reading.{Spells, SpellsWithin, IsCause, IsCauseWithin, IsItems};
@@ -59,11 +59,11 @@ pub(crate) fn cell_of<'a>(with: &[u8], most: u32, bytes: &'a [u8]) -> Result<Cel
     })
 }
 
-/// The bytes behind `n` items. No more than one item is written out at a time.
-fn behind_items(alloc: Global, n: u32, most: u32, bytes: &[u8]) -> Result<&[u8], Stop>
+/// The bytes behind `n` items, each of which is written over the one before it.
+fn pass_items<'a>(item: &mut Octets, n: u32, most: u32, bytes: &'a [u8]) -> Result<&'a [u8], Stop>
+    requires { item.old ≡ [] }
     ensures { Gives (λ rest. rest.now) result (behind_of (items_at most n 0 [] bytes.now)) }
 {
-    let mut item = Octets::new(alloc);
     let mut rest = bytes;
     for i in 0..n {
         let cell = cell_of(base_of(i as usize, item.as_slice()), most, rest)?;
@@ -72,6 +72,14 @@ fn behind_items(alloc: Global, n: u32, most: u32, bytes: &[u8]) -> Result<&[u8],
         rest = cell.after;
     }
     Ok(rest)
+}
+
+/// The bytes behind `n` items. No more than one item is written out at a time.
+fn behind_items(alloc: Global, n: u32, most: u32, bytes: &[u8]) -> Result<&[u8], Stop>
+    ensures { Gives (λ rest. rest.now) result (behind_of (items_at most n 0 [] bytes.now)) }
+{
+    let mut item = Octets::new(alloc);
+    pass_items(&mut item, n, most, bytes)
 }
 
 /// All of the bytes are `n` items.

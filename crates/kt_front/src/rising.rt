@@ -65,6 +65,34 @@ pub fn first_fall(
     }
 }
 
+/// The same behind the last item, if it is known, with room for the next one.
+fn fall_among(
+    bytes: &[u8],
+    n: u32,
+    most: u32,
+    some: bool,
+    last: &mut Octets,
+    item: &mut Octets,
+) -> Result<Option<usize>, NoMemory>
+    ensures { IfOk result (λ found. MatchOption found (NoneFalls most n (bound some last.old) bytes.now) (IsFall most n (bound some last.old) bytes.now)) }
+{
+    let mut known = some;
+    let mut rest = bytes;
+    'items: for i in 0..n {
+        let base = base_of(i as usize, last.as_slice());
+        let Some(after) = next_item(base, most, rest, item)? else {
+            return Ok(None);
+        };
+        if !is_above(known, last.as_slice(), item.as_slice()) {
+            return Ok(Some(bytes.len() - rest.len()));
+        }
+        std::mem::swap(last, item);
+        known = true;
+        rest = after;
+    }
+    Ok(None)
+}
+
 fn fall_behind(
     alloc: Global,
     bytes: &[u8],
@@ -76,20 +104,6 @@ fn fall_behind(
     ensures { IfOk result (λ found. MatchOption found (NoneFalls most n (bound some before.now) bytes.now) (IsFall most n (bound some before.now) bytes.now)) }
 {
     let mut last = Octets::from_slice(alloc, before)?;
-    let mut known = some;
     let mut item = Octets::new(alloc);
-    let mut rest = bytes;
-    'items: for i in 0..n {
-        let base = base_of(i as usize, last.as_slice());
-        let Some(after) = next_item(base, most, rest, &mut item)? else {
-            return Ok(None);
-        };
-        if !is_above(known, last.as_slice(), item.as_slice()) {
-            return Ok(Some(bytes.len() - rest.len()));
-        }
-        std::mem::swap(&mut last, &mut item);
-        known = true;
-        rest = after;
-    }
-    Ok(None)
+    fall_among(bytes, n, most, some, &mut last, &mut item)
 }

@@ -5,7 +5,7 @@ use Rattle.kt_front.specs.Spelling.{base}
 use Rattle.kt_front.specs.Walk.{items_at, behind_of, cell_at}
 use Rattle.kt_front.proofs.Cells.{take-base}
 use Rattle.kt_front.proofs.Loop.{goes_on, ends, is_done}
-use Rattle.kt_front.proofs.reading.behind_items.Goals as goal
+use Rattle.kt_front.proofs.reading.pass_items.Goals as goal
 
 pub returns-in_err-cell : goal.returns-in_err-cell
 returns-in_err-cell c =
