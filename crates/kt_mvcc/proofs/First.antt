@@ -1,5 +1,5 @@
 -- The first element of a list that passes a test, and the list without it.
-use Rattle.std.proofs.Common.{◌≡◌, ℕ, zero, suc, ◌<◌, ◌+◌, ◌||◌, List, [], ◌∷◌, Some, None, Bool, true, false, cond, not, length, get_or, refl, sym, ap, ◌∙◌, arith}
+use Rattle.std.proofs.Common.{◌≡◌, ℕ, zero, suc, ◌<◌, ◌+◌, ◌||◌, List, [], ◌∷◌, Some, None, Bool, true, false, cond, not, length, get_or, sym, ap, ◌∙◌, arith}
 use Rattle.std.specs.List.{filter, find, list_any, position, position_or_len, remove}
 use Rattle.std.specs.Prelude.{nat_lt}
 use Rattle.std.proofs.lemmas.Bool.Decides.{nat_tests}

@@ -1,50 +1,45 @@
 //! Writes that fly.
-ghost use Rattle.std.specs.Prelude.{◌≡◌, length};
+ghost use Rattle.std.specs.Prelude.{◌≡◌, ◌<◌, length, get_or, map};
 ghost use Rattle.std.specs.List.{list_any};
 ghost use Rattle.kt_mvcc.specs.Keys.{same_key};
 
-use kt_base::Octets;
+use kt_history::OpList;
 use std::marker::Model;
 
-/// Encoded keys. Contracts see them as a list.
+/// The encoded keys of a write, as its operations have them. Contracts see them as a list.
 #[derive(Debug, Drop)]
 pub struct KeyList {
-    keys: Vec<Octets>,
+    ops: OpList,
 }
 
 impl Model for KeyList {
-    ghost use Rattle.std.specs.Prelude.{List, ℕ};
+    ghost use Rattle.std.specs.Prelude.{List, ℕ, map};
 
     ghost Value = { List (List ℕ) };
 
-    ghost view = { λ l. l.keys.items };
+    ghost view = { λ l. map (λ op. op.key) l.ops };
 }
 
 impl KeyList {
-    /// The keys of a vector, which takes no memory.
-    pub fn of(keys: Vec<Octets>) -> KeyList
-        ensures { result ≡ keys.items }
+    /// The keys of operations, which takes no memory.
+    pub fn of_ops(ops: OpList) -> KeyList
+        ensures { result ≡ map (λ op. op.key) ops }
     {
-        KeyList { keys }
-    }
-
-    /// The keys as a vector, which takes no memory.
-    pub fn into_vec(self) -> Vec<Octets>
-        ensures { result.items ≡ self }
-    {
-        self.keys
+        KeyList { ops }
     }
 
     pub fn len(&self) -> usize
         ensures { result ≡ length self.now }
     {
-        self.keys.len()
+        self.ops.len()
     }
 
-    pub fn as_slice(&self) -> &[Octets]
-        ensures { result.now ≡ self.now }
+    /// The key at a place.
+    pub fn at(&self, at: usize) -> &[u8]
+        requires { at < length self.now }
+        ensures { result.now ≡ get_or self.now at result.now }
     {
-        &self.keys
+        self.ops.at(at).key()
     }
 }
 
@@ -57,19 +52,23 @@ pub struct Flier {
 }
 
 // Whether a key is among those that are held.
-fn is_held(held: &[Octets], key: &Octets) -> bool
+fn is_held(held: &KeyList, key: &[u8]) -> bool
     ensures { result ≡ list_any (λ other. same_key key.now other) held.now }
 {
-    let key = key.as_slice();
-    held.iter().any(|other| key.cmp(&other.as_slice()).is_eq())
+    'held: for at in 0..held.len() {
+        if key.cmp(&held.at(at)).is_eq() {
+            return true;
+        }
+    }
+    false
 }
 
 /// Whether one of the keys is among those that are held.
-pub fn share_key(keys: &[Octets], held: &[Octets]) -> bool
+pub fn share_key(keys: &KeyList, held: &KeyList) -> bool
     ensures { result ≡ list_any (λ key. list_any (λ other. same_key key other) held.now) keys.now }
 {
-    for key in keys {
-        if is_held(held, key) {
+    'keys: for at in 0..keys.len() {
+        if is_held(held, keys.at(at)) {
             return true;
         }
     }

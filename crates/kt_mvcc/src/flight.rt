@@ -83,7 +83,7 @@ fn find_holder(flying: &[Flier], keys: &KeyList) -> Option<u64>
 {
     let mut found = None;
     for flier in flying {
-        if share_key(keys.as_slice(), flier.keys.as_slice()) {
+        if share_key(keys, &flier.keys) {
             found = Some(lesser(found, flier.ts));
         }
     }
@@ -95,7 +95,7 @@ fn holder(held: &Held, flying: &[Flier], keys: &KeyList) -> Option<u64>
     requires { Tells held.now flying.now }
     ensures { result ≡ holder keys.now flying.now }
 {
-    if held.is_free(keys.as_slice()) {
+    if held.is_free(keys) {
         return None;
     }
     find_holder(flying, keys)
@@ -109,7 +109,7 @@ fn release_one(held: &mut Held, flier: &Flier, who: u32)
     ensures left { HasLeft held.new who flier.now }
 {
     if flier.who == who {
-        held.release(who, flier.keys.as_slice());
+        held.release(who, &flier.keys);
     }
 }
 
@@ -241,7 +241,7 @@ impl Flight {
         ensures mark { self.new.a ≡ self.old.a }
     {
         let ts = next(self.c, m);
-        self.held.hold(who, keys.as_slice());
+        self.held.hold(who, &keys);
         self.flying.push_reserved(Flier { who, ts, keys });
         self.c = ts;
         ts

@@ -4,8 +4,8 @@ ghost use Rattle.std.specs.List.{All};
 ghost use Rattle.std.specs.HashMap.{get, spare, IsEmpty};
 ghost use Rattle.kt_mvcc.specs.Held.{hash_of, Keeps, KeepsOthers, Lacks, Stood, StoodElsewhere, Tells, IsFree};
 
-use crate::flier::Flier;
-use kt_base::{NoMemory, Octets};
+use crate::flier::{Flier, KeyList};
+use kt_base::NoMemory;
 use std::alloc::Global;
 use std::collections::HashMap;
 
@@ -49,14 +49,19 @@ impl Held {
     }
 
     /// Whether none of the keys is held, as far as the hashes tell.
-    pub fn is_free(&self, keys: &[Octets]) -> bool
+    pub fn is_free(&self, keys: &KeyList) -> bool
         ensures free { result ≡ true → IsFree self.now keys.now }
         ensures held { IsFree self.now keys.now → result ≡ true }
     {
-        self.whole
-            && keys
-                .iter()
-                .all(|key| !self.writers.contains_key(&hash_of(key.as_slice())))
+        if !self.whole {
+            return false;
+        }
+        'keys: for at in 0..keys.len() {
+            if self.writers.contains_key(&hash_of(keys.at(at))) {
+                return false;
+            }
+        }
+        true
     }
 
     fn put(&mut self, hash: u64, who: u32)
@@ -72,13 +77,13 @@ impl Held {
     }
 
     /// Writes down that a writer holds these keys.
-    pub fn hold(&mut self, who: u32, keys: &[Octets])
+    pub fn hold(&mut self, who: u32, keys: &KeyList)
         ensures keeps { self.new.whole ≡ true → Keeps self.old self.new }
         ensures held { self.new.whole ≡ true → All (λ key. get nat_eq self.new.writers (hash_of key) ≡ Some who) keys.now }
         ensures stood { StoodElsewhere keys.now self.old self.new }
     {
-        for key in keys {
-            self.put(hash_of(key.as_slice()), who);
+        'keys: for at in 0..keys.len() {
+            self.put(hash_of(keys.at(at)), who);
         }
     }
 
@@ -94,14 +99,14 @@ impl Held {
     }
 
     /// Lets go of these keys of a writer.
-    pub fn release(&mut self, who: u32, keys: &[Octets])
+    pub fn release(&mut self, who: u32, keys: &KeyList)
         ensures keeps { KeepsOthers who self.old self.new }
         ensures stood { Stood self.old self.new }
         ensures gone { All (λ key. get nat_eq self.new.writers (hash_of key) ≢ Some who) keys.now }
         ensures others { Lacks who self.old self.new }
     {
-        for key in keys {
-            self.take(hash_of(key.as_slice()), who);
+        'keys: for at in 0..keys.len() {
+            self.take(hash_of(keys.at(at)), who);
         }
     }
 

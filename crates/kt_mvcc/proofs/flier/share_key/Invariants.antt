@@ -3,5 +3,5 @@ use Rattle.std.specs.List.{list_any}
 use Rattle.kt_mvcc.specs.Keys.{same_key}
 use Rattle.kt_mvcc.proofs.flier.share_key.Given as goal
 
-abbrev pub invariant-loop-key : goal.invariant-loop-key
-invariant-loop-key l = list_any (λ key. list_any (λ other. same_key key other) l.held) (take l.key-index l.keys) ≡ false
+abbrev pub invariant-keys : goal.invariant-keys
+invariant-keys l = list_any (λ key. list_any (λ other. same_key key other) l.held) (take l.at l.keys) ≡ false

@@ -10,7 +10,7 @@ loop-flier-preserved c =
     let keys = c.args.keys.now in
     let i = c.loop-flier.flier-index in
     let f = c.flier-item.result in
-    let shares : c.share_key.result ≡ holds_one keys f = rw (c.as_slice.ensures, c.as_slice-in-loop-flier.ensures) at c.share_key.ensures in
+    let shares : c.share_key.result ≡ holds_one keys f = c.share_key.ensures in
     elim c.if-share_key.branch [
       | then-share_key w ↦ ap (λ o. merged o (holder keys (drop (i + 1) flying))) (w.found-is ∙ ap Some w.lesser.ensures)
           ∙ holder_more keys c.loop-flier.found flying i f (holder keys flying) (omega arith) c.flier-item.is (sym shares ∙ w.if-share_key.true) c.loop-flier.invariant

@@ -5,5 +5,5 @@ use Rattle.kt_mvcc.proofs.flight.holder.Goals as goal
 
 pub returns-then-is_free : goal.returns-then-is_free
 returns-then-is_free c =
-    let free : IsFree c.args.held.now c.as_slice.result.now = c.is_free.ensures.free c.if-is_free.true in
-    sym (free_none c.args.held.now c.args.flying.now c.args.keys.now c.requires (rw c.as_slice.ensures at free))
+    let free : IsFree c.args.held.now c.args.keys.now = c.is_free.ensures.free c.if-is_free.true in
+    sym (free_none c.args.held.now c.args.flying.now c.args.keys.now c.requires free)

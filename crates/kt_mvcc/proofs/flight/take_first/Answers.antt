@@ -1,5 +1,5 @@
-use Rattle.std.proofs.Common.{◌≡◌, ◌==◌, not, ap, sym, ◌∙◌}
-use Rattle.std.specs.List.{position, filter}
+use Rattle.std.proofs.Common.{◌==◌, not, ap, sym, ◌∙◌}
+use Rattle.std.specs.List.{filter}
 use Rattle.kt_mvcc.proofs.First.{found_first, others_stay, place_within, not_missing}
 use Rattle.kt_mvcc.proofs.flight.take_first.Goals as goal
 

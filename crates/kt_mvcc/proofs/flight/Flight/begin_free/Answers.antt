@@ -3,7 +3,5 @@ use Rattle.kt_mvcc.proofs.flight.Flight.begin_free.Goals as goal
 
 pub invariant_of-self : goal.invariant_of-self
 invariant_of-self c =
-    let held = rw c.as_slice.ensures at c.hold.ensures.held in
-    let stood = rw c.as_slice.ensures at c.hold.ensures.stood in
     rw c.push_reserved.ensures.items
-    (tells_more c.self.inside.held c.hold.new.self c.self.inside.flying.items (record { who = c.args.who; ts = c.next-ts.result; keys = c.args.keys }) c.hold.ensures.keeps held stood c.self.invariant)
+    (tells_more c.self.inside.held c.hold.new.self c.self.inside.flying.items (record { who = c.args.who; ts = c.next-ts.result; keys = c.args.keys }) c.hold.ensures.keeps c.hold.ensures.held c.hold.ensures.stood c.self.invariant)
