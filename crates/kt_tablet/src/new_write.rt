@@ -2,7 +2,7 @@
 ghost use Rattle.std.specs.Prelude.{◌≡◌, ◌≤◌, ◌^◌, [], length, map, min, IfOk, vec_len, vec_capacity};
 ghost use Rattle.kt_history.specs.Operations.{need};
 
-use kt_base::{NoMemory, Octets};
+use kt_base::NoMemory;
 use kt_history::{OpList, Outcome, cells_needed};
 use kt_mvcc::KeyList;
 use kt_records::CommitRow;
@@ -25,24 +25,12 @@ pub struct NewWrite {
     pub ghost needs: { cells ≡ min (need ops) (2 ^ 32) },
 }
 
-// The keys of a write, copied.
-fn keys_of(alloc: Global, ops: &OpList) -> Result<KeyList, NoMemory>
-    ensures { IfOk result (λ keys. keys ≡ map (λ op. op.key) ops.now) }
-{
-    let mut keys = Vec::with_capacity(alloc, ops.len())?;
-    'ops: for at in 0..ops.len() {
-        let op = ops.at(at);
-        keys.push(Octets::from_slice(alloc, op.key())?)?;
-    }
-    Ok(KeyList::of(keys))
-}
-
 impl NewWrite {
     /// A write of these operations.
     pub fn of(alloc: Global, ops: OpList) -> Result<NewWrite, NoMemory>
         ensures { IfOk result (λ write. write.ops ≡ ops) }
     {
-        let keys = keys_of(alloc, &ops)?;
+        let keys = KeyList::of_ops(ops.copy()?);
         let outcomes = Vec::with_capacity(alloc, ops.len())?;
         let rows = Vec::with_capacity(alloc, ops.len())?;
         let cells = cells_needed(&ops);
@@ -61,7 +49,7 @@ impl NewWrite {
     {
         NewWrite {
             ops: OpList::new(alloc),
-            keys: KeyList::of(Vec::new(alloc)),
+            keys: KeyList::of_ops(OpList::new(alloc)),
             outcomes: Vec::new(alloc),
             rows: Vec::new(alloc),
             cells: 0,
