@@ -19,7 +19,7 @@ use std::process::Abort;
 use std::test::Fail;
 
 /// Some cells, spelled behind their count.
-fn spelled(alloc: Global, cells: &Cells) -> Result<Octets, NoMemory>
+pub(crate) fn spelled(alloc: Global, cells: &Cells) -> Result<Octets, NoMemory>
     requires count { length cells.now < 2 ^ 16 }
     requires cells { EachAfter FollowingCell [] cells.now }
     ensures { IfOk result (λ bytes. SpellsCells bytes) }

@@ -1,6 +1,8 @@
 ghost use Rattle.std.specs.Prelude.{◌-◌, ◌^◌, ◌<◌};
 
-use kt_base::{NoMemory, Octets};
+use crate::memrowset::spelled;
+use kt_base::{Cells, NoMemory};
+use kt_history::{OpKind, OpList, OpRef};
 use kt_mvcc::{Flight, KeyList};
 use std::alloc::Global;
 use std::test::Fail;
@@ -31,10 +33,12 @@ fn readings_of_the_clock(rt: HostRuntime) {
     }
 }
 
+// The key of a write of one delete.
 fn key(alloc: Global) -> Result<KeyList, NoMemory> {
-    let mut keys = Vec::new(alloc);
-    keys.push(Octets::from_slice(alloc, b"k")?)?;
-    Ok(KeyList::of(keys))
+    let cells = spelled(alloc, &Cells::of(Vec::new(alloc)))?;
+    let mut ops = OpList::new(alloc);
+    ops.push(&OpRef::of(OpKind::Delete, b"k", cells.as_slice()))?;
+    Ok(KeyList::of_ops(ops))
 }
 
 // The timestamp of the write that holds a key, the least of a flying write, 0 where there is none, and the greatest below all of these.
