@@ -228,7 +228,7 @@ fn keep_op(ops: &mut OpList, op: &SpelledOp, no: &mut Least) -> Result<(), NoMem
     }
 }
 
-// The operations of a line. They count only where no reason up to 18 holds.
+// The operations of a line, of which a copy takes no memory. They count only where no reason up to 18 holds.
 fn read_ops(
     alloc: Global,
     schema: &Schema,
@@ -247,7 +247,7 @@ fn read_ops(
         keep_op(&mut ops, &op, no)?;
     }
     no.note(None);
-    Ok(ops)
+    Ok(ops.shared(alloc)?)
 }
 
 // Whether an operation from a place on has this key.

@@ -41,7 +41,7 @@ ops-preserved c =
 
 pub returns-clause-ops : goal.returns-clause-ops
 returns-clause-ops c = λ h.
-    sym (append-nil c.ops.ops) ∙ (ap (λ left. c.ops.ops ++ map (op_of c.args.schema.now) (ops_in left)) (sym c.in_default.is) ∙ c.ops.invariant.ops (omega (arith, h, c.note.ensures)))
+    c.in_ok-shared.ensures ∙ sym (append-nil c.ops.ops) ∙ (ap (λ left. c.ops.ops ++ map (op_of c.args.schema.now) (ops_in left)) (sym c.in_default.is) ∙ c.ops.invariant.ops (omega (arith, h, c.note.ensures)))
 
 pub returns-clause-least : goal.returns-clause-least
 returns-clause-least c =
