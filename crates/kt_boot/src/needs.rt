@@ -1,7 +1,6 @@
 //! What the replayed operations of a log need of a pool.
-ghost use Rattle.std.specs.Prelude.{◌≡◌, ◌+◌, ◌∷◌, [], ℕ, IfOk, true};
-ghost use Rattle.std.specs.Ordering.{nat_cmp};
-ghost use Rattle.std.specs.BTreeMap as tree;
+ghost use Rattle.std.specs.Prelude.{nat_eq, ◌≡◌, ◌+◌, ◌∷◌, [], ℕ, IfOk, true};
+ghost use Rattle.std.specs.HashMap.{get};
 ghost use Rattle.std.specs.Option.{option_map};
 ghost use Rattle.kt_history.specs.Operations.{need};
 ghost use Rattle.kt_loglaws.specs.Replay.{commit_of, replayed};
@@ -12,7 +11,7 @@ use crate::replay::{commit_at, needs};
 use kt_base::NoMemory;
 use kt_history::{OpList, OpRef};
 use kt_records::{CommitRow, Entry};
-use std::collections::BTreeMap;
+use std::collections::HashMap;
 
 // No log is so long that a sum does not fit.
 fn plus(a: u64, b: u64) -> Result<u64, NoMemory>
@@ -53,8 +52,8 @@ fn write_need(ops: &OpList, commit: Option<&[CommitRow]>) -> Result<u64, NoMemor
 }
 
 /// What the replayed operations of a log need, by the places of its COMMITs.
-pub fn needs_of(records: &[Entry], places: &BTreeMap<u64, usize>) -> Result<u64, NoMemory>
-    requires { (ts : ℕ) → commit_at records.now (tree.get nat_cmp places.now ts) ≡ commit_of ts records.now }
+pub fn needs_of(records: &[Entry], places: &HashMap<u64, usize>) -> Result<u64, NoMemory>
+    requires { (ts : ℕ) → commit_at records.now (get nat_eq places.now ts) ≡ commit_of ts records.now }
     ensures { IfOk result (λ cells. cells ≡ needs_of records.now records.now) }
 {
     let mut sum = 0;

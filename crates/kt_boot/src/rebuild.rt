@@ -1,7 +1,6 @@
 //! The writes of a log, taken into a MemRowSet one by one.
-ghost use Rattle.std.specs.Prelude.{◌≡◌, ◌≤◌, ◌+◌, ◌++◌, ◌∷◌, [], ℕ, length, Ok, Err, IfOk, OnOk, IsTrue, true, false};
-ghost use Rattle.std.specs.Ordering.{nat_cmp};
-ghost use Rattle.std.specs.BTreeMap as tree;
+ghost use Rattle.std.specs.Prelude.{nat_eq, ◌≡◌, ◌≤◌, ◌+◌, ◌++◌, ◌∷◌, [], ℕ, length, Ok, Err, IfOk, OnOk, IsTrue, true, false};
+ghost use Rattle.std.specs.HashMap.{get};
 ghost use Rattle.std.specs.Option.{option_map};
 ghost use Rattle.kt_history.specs.Operations.{need};
 ghost use Rattle.kt_records.specs.declared.entry.Entry.TheVariants.{Commit};
@@ -21,7 +20,7 @@ use kt_memrowset::taking::kind_made;
 use kt_pool::Pool;
 use kt_records::{CommitRow, CommitRows, Entry, RecordList, TargetList};
 use std::alloc::Global;
-use std::collections::BTreeMap;
+use std::collections::HashMap;
 
 fn greatest(targets: &[Target]) -> u64
     ensures { result ≡ greatest targets.now }
@@ -180,12 +179,12 @@ fn take_write(
 pub fn rebuild(
     alloc: Global,
     records: &[Entry],
-    places: &BTreeMap<u64, usize>,
+    places: &HashMap<u64, usize>,
     mem: &mut MemRowSet,
     pool: &mut Pool,
 ) -> Result<RecordList, ReplayNo>
     requires log { IsLog records.now }
-    requires places { (ts : ℕ) → commit_at records.now (tree.get nat_cmp places.now ts) ≡ commit_of ts records.now }
+    requires places { (ts : ℕ) → commit_at records.now (get nat_eq places.now ts) ≡ commit_of ts records.now }
     requires store { IsStore mem.old pool.old }
     requires thawed { is_frozen mem.old ≡ false }
     requires bare { store_of mem.old pool.old ≡ [] }

@@ -1,7 +1,6 @@
 //! The COMMITs of a log, by timestamp.
-ghost use Rattle.std.specs.Prelude.{◌≡◌, ℕ, slice_get, IfOk, option_map};
-ghost use Rattle.std.specs.Ordering.{nat_cmp};
-ghost use Rattle.std.specs.BTreeMap as tree;
+ghost use Rattle.std.specs.Prelude.{nat_eq, ◌≡◌, ℕ, slice_get, IfOk, option_map};
+ghost use Rattle.std.specs.HashMap.{get};
 ghost use Rattle.kt_loglaws.specs.Replay.{is_in_memory, is_needed, commit_of};
 ghost use Rattle.kt_boot.specs.Commits.{commit_at, needs};
 
@@ -9,7 +8,7 @@ use kt_base::NoMemory;
 use kt_history::Target;
 use kt_records::{CommitRow, Entry};
 use std::alloc::Global;
-use std::collections::BTreeMap;
+use std::collections::HashMap;
 use thiserror::Error;
 
 /// Why records make no table.
@@ -64,10 +63,10 @@ pub(crate) fn needs(rows: &[CommitRow], at: usize) -> bool
 pub(crate) fn commit_places(
     alloc: Global,
     records: &[Entry],
-) -> Result<BTreeMap<u64, usize>, NoMemory>
-    ensures { IfOk result (λ places. (ts : ℕ) → commit_at records.now (tree.get nat_cmp places ts) ≡ commit_of ts records.now) }
+) -> Result<HashMap<u64, usize>, NoMemory>
+    ensures { IfOk result (λ places. (ts : ℕ) → commit_at records.now (get nat_eq places ts) ≡ commit_of ts records.now) }
 {
-    let mut places = BTreeMap::new(alloc);
+    let mut places = HashMap::with_capacity(alloc, records.len() / 2)?;
     let mut at = records.len();
     'records: while at > 0 {
         at -= 1;

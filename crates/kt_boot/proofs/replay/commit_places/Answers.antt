@@ -1,6 +1,6 @@
 use Rattle.std.proofs.Common.{◌-◌, ◌<◌, length, arith}
-use Rattle.std.specs.Ordering.{nat_cmp}
-use Rattle.std.specs.BTreeMap as tree
+use Rattle.std.specs.Prelude.{nat_eq}
+use Rattle.std.specs.HashMap.{get}
 use Rattle.kt_boot.proofs.Replayed.{placed}
 use Rattle.kt_boot.proofs.replay.commit_places.Goals as goal
 
@@ -15,5 +15,5 @@ records-preserved-in_ok-insert c =
       within = omega arith;
       each = λ ts.
           placed records (at - 1) at c.in-Commit.ts c.in-Commit.rows c.index-records-at.result lt (omega arith) c.index-records-at.is c.in-Commit.is
-          (tree.get nat_cmp c.records.places ts) (tree.get nat_cmp c.insert.new.self ts) ts (c.in_ok-insert.ensures.updates.0 ts) (c.records.invariant.each ts);
+          (get nat_eq c.records.places ts) (get nat_eq c.insert.new.self ts) ts (c.in_ok-insert.ensures.updates.0 ts) (c.records.invariant.each ts);
     }
