@@ -4,6 +4,7 @@ pub mod InLine
 pub mod Outputs
 pub mod ScriptTests
 pub mod Pieces
+pub mod Runs
 pub mod Faults
 pub mod Tables
 pub mod Printing

@@ -1,6 +1,7 @@
 pub mod Texts
 pub mod Laws
 pub mod Pieces
+pub mod Runs
 pub mod Reasons
 pub mod Kinds
 pub mod Columns

@@ -1,7 +1,11 @@
 //! Cutting a text into lines, and a line into words.
 
-ghost use Rattle.std.specs.Prelude.{◌≡◌, [], IfSome, IfNone, ◌<◌};
+ghost use Rattle.std.specs.Prelude.{◌≡◌, ◌<◌, ◌≤◌, ℕ, [], false, length, slice_index, IfSome, IfNone};
+ghost use Rattle.memchr.specs.Find.{is_byte2};
 ghost use Rattle.kt_script.specs.Pieces.{side_after, ends_word, words_of, words_in, IsCut};
+ghost use Rattle.kt_script.specs.Runs.{Quiet};
+
+use memchr::memchr2;
 
 /// Where a byte of a line stands.
 #[derive(Clone, Copy)]
@@ -34,18 +38,51 @@ fn ends_word(side: Side, byte: u8) -> bool
     }
 }
 
+// The place of the first of two bytes from a place on, or the length of the text.
+fn next_of(first: u8, second: u8, text: &[u8], from: usize) -> usize
+    requires { from ≤ length text.now }
+    ensures behind { from ≤ result }
+    ensures within { result ≤ length text.now }
+    ensures none { (k : ℕ) → from ≤ k → k < result → is_byte2 first second (slice_index text.now k) ≡ false }
+{
+    match memchr2(first, second, &text[from..]) {
+        Some(at) => from + at,
+        None => text.len(),
+    }
+}
+
+// The first place from one on whose byte may end the word or change the side, or the length of the text.
+fn run_end(side: Side, text: &[u8], from: usize) -> usize
+    requires { from ≤ length text.now }
+    ensures behind { from ≤ result }
+    ensures within { result ≤ length text.now }
+    ensures quiet { (k : ℕ) → from ≤ k → k < result → Quiet side (slice_index text.now k) }
+{
+    match side {
+        Side::Outside => next_of(b' ', b'"', text, from),
+        Side::Inside => next_of(b'"', b'\\', text, from),
+        Side::Slashed => from,
+    }
+}
+
 /// The first word of a line, and what is left behind the space after it. Spaces between quotes end no word.
 pub fn cut_word(text: &[u8]) -> (&[u8], Option<&[u8]>)
     ensures { IsCut (words_of text.now) result.0.now result.1 }
 {
     let mut side = Side::Outside;
-    for (at, byte) in text.iter().enumerate() {
-        if ends_word(side, *byte) {
+    let mut from = 0;
+    'bytes: loop {
+        let at = run_end(side, text, from);
+        if at == text.len() {
+            return (text, None);
+        }
+        let byte = text[at];
+        if ends_word(side, byte) {
             return (&text[..at], Some(&text[at + 1..]));
         }
-        side = side_after(side, *byte);
+        side = side_after(side, byte);
+        from = at + 1;
     }
-    (text, None)
 }
 
 /// The next word of what is left of a line.
