@@ -16,7 +16,7 @@ use Rattle.kt_histlaws.specs.Fitting.{AreSound, IfFits}
 use Rattle.kt_histlaws.proofs.Fitting.{sound_push}
 use Rattle.kt_memrowset.specs.Links.{change_of}
 use Rattle.kt_tablet.specs.Filling.{filled_change}
-use Rattle.kt_tablet.specs.Stores.{apply_all}
+use Rattle.kt_memrowset.specs.Stores.{apply_all}
 use Rattle.kt_boot.specs.Reopening.{row_told}
 use Rattle.kt_memrowset.specs.Taking.{kind_made}
 use Rattle.kt_boot.specs.Rebuilding.{told}

@@ -15,9 +15,8 @@ use Rattle.kt_histlaws.specs.Histories.{Steps, Hist, Store, hist_in, push, or_el
 use Rattle.kt_histlaws.specs.Flights.{Under}
 use Rattle.kt_histlaws.specs.Fitting.{AreSound}
 use Rattle.kt_histlaws.proofs.Pending.{same_key, itself}
-use Rattle.kt_memrowset.specs.Stores.{change_by}
-use Rattle.kt_tablet.specs.Stores.{apply_all}
-use Rattle.kt_tablet.proofs.Filling.{last_under}
+use Rattle.kt_memrowset.specs.Stores.{apply_all, change_by}
+use Rattle.kt_memrowset.proofs.Last.{last_under}
 use Rattle.kt_boot.specs.Reopening.{row_told}
 use Rattle.kt_memrowset.specs.Taking.{kind_made}
 use Rattle.kt_boot.specs.Rebuilding.{is_there, kind_in, taken_as, taken, told}
@@ -105,7 +104,7 @@ module _ (fill : Row) (table : Rows) (writes : List PastWrite) (ts : ℕ) (store
       ap (λ steps. apply_all steps None) line_more ∙ apply_all-push ts c (timeline op.key writes) None ∙ ap (apply c) rows_here ∙ ap (λ o. row_after o (find key_cmp op.key table)) (sym find_here),
       subst (λ steps. AreSound 0 (hist steps ∷ [])) (sym line_more)
           (sound_step ts fill op.kind op.cells c (timeline op.key writes) (subst (λ steps. AreSound 0 (hist steps ∷ [])) line_here (at.sound op.key)) under
-          (ap (λ (r : Option Row). (effect fill op.kind op.cells r).0) (last_under ts (timeline op.key writes) None under ∙ rows_here) ∙ is)),
+          (ap (λ (r : Option Row). (effect fill op.kind op.cells r).0) (sym (last_under ts (hist (timeline op.key writes)) under) ∙ rows_here) ∙ is)),
     )
 
     key_other : (q : List ℕ) → eq_by_cmp key_cmp q op.key ≡ false → Key q (hist_in q store)

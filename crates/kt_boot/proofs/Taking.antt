@@ -11,10 +11,8 @@ use Rattle.kt_history.specs.declared.operation.RowOp.{RowOp}
 use Rattle.kt_history.specs.declared.target.Kindly.{Kindly}
 use Rattle.kt_history.specs.Rows.{key_cmp}
 use Rattle.kt_history.specs.Operations.{op_len, need}
-use Rattle.kt_histlaws.specs.Histories.{Hist, Steps, Store, hist_in, never, push, row_of}
-use Rattle.kt_histlaws.specs.Flights.{Under, UpTo, AllOps}
-use Rattle.kt_tablet.specs.Stores.{last_row}
-use Rattle.kt_tablet.proofs.Filling.{last_under}
+use Rattle.kt_histlaws.specs.Histories.{Hist, Store, hist_in, never, push}
+use Rattle.kt_histlaws.specs.Flights.{Under, AllOps}
 use Rattle.kt_pool.specs.Contents.{Contents, used, at_cell}
 use Rattle.kt_tree.specs.Trees.{need as tree_need}
 use Rattle.kt_memrowset.specs.Stores.{IsStore, store_of, Owns, number_of, is_frozen, share, cells_taken, link_need, change_by, Joins}
@@ -83,14 +81,6 @@ need-first op ops = sum_by-cons (λ (op : RowOp). 2 * ((op_len op + 55) / 56 + 4
   where
     one : (op : RowOp) → need (op ∷ []) ≡ 2 * ((op_len op + 55) / 56 + 4)
     one op = omega (arith, sum_by-cons (λ (op : RowOp). 2 * ((op_len op + 55) / 56 + 4)) op [])
-
--- the row that is there at the time of a change is the last
-pub last_is : (ts : ℕ) (h : Hist) → Under ts h.steps → row_of ts h ≡ last_row h
-last_is ts h under = last_under ts h.steps h.first under
-
-pub up_to : (ts : ℕ) (steps : Steps) → Under ts steps → UpTo ts steps
-up_to ts [] under = tt
-up_to ts (c ∷ steps) under = (omega (arith, under.0), up_to ts steps under.1)
 
 taken_covered : (op : RowOp) (store : Store) → cells_taken op store ≤ share op
 taken_covered op store = let all = share_covers op in elim (is_some (find key_cmp op.key store)) as (λ b. link_need op.cells + cond b 0 (tree_need op.key) ≤ share op) [ true ↦ omega arith | false ↦ omega arith ]
@@ -175,12 +165,6 @@ taking_next s t u old mid new ts ops op rest g one = record {
 -- the first of what is left
 pub room_first : (s t : MemRowSet) (old new : Contents) (ts : ℕ) (ops : List RowOp) (op : RowOp) (rest : List RowOp) → Taking s t old new ts ops (op ∷ rest) → need (op ∷ []) ≤ new.reserved
 room_first s t old new ts ops op rest g = let all = g.enough in let e = need-first op rest in omega arith
-
--- whether the key was present, as the store told it
-pub present_is : (ts : ℕ) (op : RowOp) (store : Store) (key : List ℕ) (b : Bool) → key ≡ op.key → MayTake ts store op → ((t : ℕ) → UpTo t (hist_in key store).steps → b ≡ is_some (row_of t (hist_in key store))) → b ≡ is_there op.key store
-present_is ts op store key b e may live =
-    let told : (t : ℕ) → UpTo t (hist_in op.key store).steps → b ≡ is_some (row_of t (hist_in op.key store)) = subst (λ k. (t : ℕ) → UpTo t (hist_in k store).steps → b ≡ is_some (row_of t (hist_in k store))) e live in
-    told ts (up_to ts (hist_in op.key store).steps may.under) ∙ ap is_some (last_is ts (hist_in op.key store) may.under)
 
 pub kind_is : (op : RowOp) (store : Store) (b : Bool) (o : Option Kindly) → b ≡ is_there op.key store → o ≡ kind_made op.kind b → kind_in op store ≡ o
 kind_is op store b o e is = ap (kind_made op.kind) (sym e) ∙ sym is

@@ -15,11 +15,10 @@ use Rattle.kt_records.specs.declared.entry.Entry.TheVariants.{Replicate, Commit}
 use Rattle.kt_records.specs.declared.entry.CommitRow.{CommitRow}
 use Rattle.kt_loglaws.specs.Replay.{commit_of, replayed, needed_ops}
 use Rattle.kt_memrowset.specs.Links.{CellsFit}
-use Rattle.kt_memrowset.specs.Stores.{IsStore, store_of, Owns, number_of, is_frozen, change_by}
+use Rattle.kt_memrowset.specs.Stores.{IsStore, store_of, last_row, Owns, number_of, is_frozen, change_by}
 use Rattle.kt_memrowset.specs.Taking.{kind_made}
 use Rattle.kt_memrowset.specs.declared.store.MemRowSet.{MemRowSet}
 use Rattle.kt_pool.specs.Contents.{Contents, used, at_cell}
-use Rattle.kt_tablet.specs.Stores.{last_row}
 use Rattle.kt_boot.specs.Reopening.{unless_told}
 
 -- whether the row of a key is there
