@@ -1,5 +1,5 @@
 -- A run answers the commands of its plan alone.
-use Rattle.std.proofs.Common.{◌≡◌, ◌⊎◌, inl, inr, ℕ, List, [], ◌∷◌, ◌++◌, Option, Some, None, true, false, Bool, ◌||◌, cond, refl, sym, ap, ◌∙◌}
+use Rattle.std.proofs.Common.{◌≡◌, ℕ, List, [], ◌∷◌, ◌++◌, Option, Some, None, true, false, Bool, ◌||◌, cond, refl, sym, ap, ◌∙◌}
 use Rattle.std.specs.Prelude.{◌==◌, ◌&&◌, not}
 use Rattle.std.specs.List.{list_any, filter}
 use Rattle.std.proofs.lemmas.Bool.{eqb-true}
@@ -9,7 +9,7 @@ use Rattle.kt_history.specs.declared.event.Event.TheVariants as event
 use Rattle.kt_history.specs.declared.operation.RowOp.{RowOp}
 use Rattle.kt_history.specs.declared.reply.Reply.{Reply}
 use Rattle.kt_history.specs.declared.scan.At.{At}
-use Rattle.kt_history.specs.Machine.{Workload, State, Flying, command_at, IfWrite, IfScan, IfMark, IsChore, Allowed, after, state_after, IsRunFrom}
+use Rattle.kt_history.specs.Machine.{Workload, State, Flying, command_at, IfWrite, IfScan, IfMark, IsChore, Allowed, after, IsRunFrom}
 use Rattle.kt_history.specs.Replies.{told, answers, is_of, reply_of}
 
 -- ---- answers are to commands

@@ -1,5 +1,5 @@
 -- What a visit leaves that may begin a write.
-use Rattle.std.proofs.Common.{◌≡◌, ◌≢◌, ℕ, ◌+◌, List, [], ◌∷◌, ◌++◌, Option, Some, None, true, refl, sym, ap, ◌∙◌, subst, Result, Ok, Err}
+use Rattle.std.proofs.Common.{◌≡◌, ◌≢◌, ℕ, ◌+◌, List, [], ◌∷◌, ◌++◌, Option, Some, None, refl, sym, ap, ◌∙◌, subst, Result, Ok, Err}
 use Rattle.std.specs.Prelude.{◌==◌, IfOk, IfErr, OnErr}
 use Rattle.std.specs.List.{filter}
 use Rattle.kt_history.specs.declared.command.Command.TheVariants as command

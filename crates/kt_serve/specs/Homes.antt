@@ -5,7 +5,6 @@ use Rattle.kt_disk.specs.Disk.{Files}
 use Rattle.kt_records.specs.declared.entry.Entry.{Entry}
 use Rattle.kt_journal.specs.Log.{records_of, Holds, IsOldOrBoth, CanOpen}
 use Rattle.kt_journal.specs.Open.{JournalView}
-use Rattle.kt_loglaws.specs.declared.side.Batch.{Batch}
 use Rattle.kt_engine.specs.Engines.{KeepsOthers}
 use Rattle.kt_engine.specs.Visits.{PartView}
 use Rattle.kt_serve.specs.Sessions.{HasLog}
