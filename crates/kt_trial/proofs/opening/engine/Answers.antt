@@ -5,11 +5,10 @@ use Rattle.kt_disk.specs.Memory.{MemView, mem_now, mem_leaves, mem_seen}
 use Rattle.kt_records.specs.declared.entry.Entry.{Entry}
 use Rattle.kt_journal.specs.Log.{Holds, log_of}
 use Rattle.kt_journal.proofs.Fresh.{fresh_opens, fresh_log}
-use Rattle.kt_loglaws.specs.Replay.{empty}
 use Rattle.kt_engine.specs.Logged.{NamesOnly}
 use Rattle.kt_engine.specs.Engines.{KeepsOthers}
 use Rattle.kt_engine.proofs.Others.{opened_others}
-use Rattle.kt_engine.proofs.Empty.{recalls_none, told_none, log_none, last_none}
+use Rattle.kt_engine.proofs.Empty.{told_none, log_none, last_none}
 use Rattle.kt_trial.proofs.opening.engine.Goals as goal
 
 pub open_journal-requires : goal.open_journal-requires
@@ -21,9 +20,6 @@ no_record disk found is reads = let same = sym (fresh_log disk is) ∙ reads in 
 
 pub of-requires-clause-target : goal.of-requires-clause-target
 of-requires-clause-target c = (7, c.in_ok-tablet.ensures.target, lit< tt, lit< tt)
-
-pub of-requires-clause-found : goal.of-requires-clause-found
-of-requires-clause-found c = (empty, c.in_ok-tablet.ensures.opens, recalls_none _ _ (no_record c.new-disk.result c.in-Ok.records c.new-disk.ensures (c.in-Ok.ensures.records refl)))
 
 pub of-requires-clause-log : goal.of-requires-clause-log
 of-requires-clause-log c = log_none c.in-Ok.records c.no_records-none.result c.no_records-none.ensures c.in-Ok.ensures.sound
