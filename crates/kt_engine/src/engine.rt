@@ -172,8 +172,9 @@ impl<L: Disk, D, C: Clock> Engine<L, D, C> {
 
     /// What it stands for: a run from each past that opening found, in which the lines show what the clock gave; the log
     /// keeps that run, and a crash now leaves its writes up to a time, each acknowledged one among them, also while a pass has
-    /// the log out. What the pool has promised is what flying writes still need, and the REPLICATE of each is at its place
-    /// among the records that are durable, out or queued. The log is at home where no pass has it out.
+    /// the log out. Whatever opening found, its lines tell whether it has stopped, and a crash now leaves the records that
+    /// opening found and some of the run. What the pool has promised is what flying writes still need, and the REPLICATE of
+    /// each is at its place among the records that are durable, out or queued. The log is at home where no pass has it out.
     pub fn standing(&self)
         ensures sound { IsSound C.readings self.now.tablet }
         ensures exact { IsExact self.now.tablet.core.aloft self.now.tablet.core.stores self.now.tablet.pool }
