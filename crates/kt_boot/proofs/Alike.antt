@@ -10,15 +10,12 @@ use Rattle.kt_history.specs.declared.target.Kindly.{Kindly}
 use Rattle.kt_history.specs.declared.target.Kindly.TheVariants as kindly
 use Rattle.kt_history.specs.Rows.{Row, apply, with_cells}
 use Rattle.kt_history.specs.Operations.{effect}
-use Rattle.kt_histlaws.specs.Histories.{Steps, Hist, row_of, step_at, first_some}
-use Rattle.kt_histlaws.specs.Flights.{Under}
+use Rattle.kt_histlaws.specs.Histories.{first_some}
+use Rattle.kt_history.specs.Stores.{Steps, Hist, row_of, step_at, Under, apply_all, kind_made, change_of}
 use Rattle.kt_histlaws.specs.Fitting.{AreSound, IfFits}
 use Rattle.kt_histlaws.proofs.Fitting.{sound_push}
-use Rattle.kt_memrowset.specs.Links.{change_of}
 use Rattle.kt_tablet.specs.Filling.{filled_change}
-use Rattle.kt_memrowset.specs.Stores.{apply_all}
 use Rattle.kt_boot.specs.Reopening.{row_told}
-use Rattle.kt_memrowset.specs.Taking.{kind_made}
 use Rattle.kt_boot.specs.Rebuilding.{told}
 
 -- a store's change and the past's, which it is once an insert is filled

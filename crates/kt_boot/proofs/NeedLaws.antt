@@ -10,7 +10,7 @@ use Rattle.kt_boot.specs.Commits.{needs, is_replayed}
 use Rattle.kt_boot.specs.Rebuilding.{kind_in, is_there, taken, all_fit, all_told, told, TakesAll}
 use Rattle.kt_boot.proofs.Replayed.{first_left, needed_from, needed_here, needed_not}
 use Rattle.kt_boot.proofs.Taking.{need-first, Taking, fit_first, unfit_first, taken_last}
-use Rattle.kt_histlaws.specs.Histories.{Store}
+use Rattle.kt_history.specs.Stores.{Store}
 use Rattle.kt_pool.specs.Contents.{Contents}
 use Rattle.kt_memrowset.specs.Stores.{store_of}
 use Rattle.kt_memrowset.specs.declared.store.MemRowSet.{MemRowSet}

@@ -9,7 +9,8 @@ use Rattle.kt_history.specs.declared.change.Change.{Change}
 use Rattle.kt_history.specs.Rows.{Row, Rows, apply, changed, key_cmp}
 use Rattle.kt_history.specs.History.{Past, PastWrite, IsUpTo, Rise, replay, row_after, rows_at, raise}
 use Rattle.kt_history.proofs.KeyLaws.{find-changed}
-use Rattle.kt_histlaws.specs.Histories.{Steps, Hist, Store, hist_in, row_of, after_steps, step_of, step_at, or_else, AtMostOne, ShowsKey, joined, timeline, past_hist}
+use Rattle.kt_histlaws.specs.Histories.{or_else, AtMostOne, ShowsKey, joined, timeline, past_hist}
+use Rattle.kt_history.specs.Stores.{Steps, Hist, Store, hist_in, row_of, after_steps, step_of, step_at}
 use Rattle.kt_histlaws.specs.Fitting.{AreSound}
 use Rattle.kt_histlaws.proofs.Content.{sorted-replay}
 use Rattle.kt_tablet.specs.Filling.{filled}

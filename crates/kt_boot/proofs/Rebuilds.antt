@@ -8,8 +8,8 @@ use Rattle.kt_history.specs.declared.change.Change.{Change}
 use Rattle.kt_history.specs.declared.operation.RowOp.{RowOp}
 use Rattle.kt_history.specs.Rows.{key_cmp}
 use Rattle.kt_history.specs.Operations.{need}
-use Rattle.kt_histlaws.specs.Histories.{Hist, Steps, Store, hist_in, push}
-use Rattle.kt_histlaws.specs.Flights.{Under, AllOps}
+use Rattle.kt_history.specs.Stores.{Hist, Steps, Store, hist_in, push, Under}
+use Rattle.kt_histlaws.specs.Flights.{AllOps}
 use Rattle.kt_records.specs.declared.entry.Entry.{Entry}
 use Rattle.kt_records.specs.declared.entry.Entry.TheVariants.{Replicate, Commit}
 use Rattle.kt_records.specs.declared.entry.CommitRow.{CommitRow}

@@ -5,7 +5,7 @@ use Rattle.std.proofs.lemmas.List.{append-nil}
 use Rattle.std.proofs.lemmas.Bool.Decides.{nat_tests}
 use Rattle.kt_history.specs.Rows.{Row}
 use Rattle.kt_history.specs.History.{Past, raise}
-use Rattle.kt_histlaws.specs.Histories.{Store}
+use Rattle.kt_history.specs.Stores.{Store}
 use Rattle.kt_records.specs.declared.entry.Entry.{Entry}
 use Rattle.kt_journal.specs.Log.{IsLog}
 use Rattle.kt_pool.specs.Contents.{Contents, at_cell, with_reserved}

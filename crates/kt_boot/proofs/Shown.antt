@@ -11,14 +11,13 @@ use Rattle.kt_history.specs.declared.target.Kindly.{Kindly}
 use Rattle.kt_history.specs.Rows.{Row, Rows, Changes, apply, key_cmp}
 use Rattle.kt_history.specs.History.{PastWrite, row_after}
 use Rattle.kt_history.specs.Operations.{effect, effect_on, keyed, changes_on}
-use Rattle.kt_histlaws.specs.Histories.{Steps, Hist, Store, hist_in, push, or_else, joined, timeline}
-use Rattle.kt_histlaws.specs.Flights.{Under}
+use Rattle.kt_histlaws.specs.Histories.{or_else, joined, timeline}
+use Rattle.kt_history.specs.Stores.{Steps, Hist, Store, hist_in, push, Under, apply_all, kind_made}
 use Rattle.kt_histlaws.specs.Fitting.{AreSound}
 use Rattle.kt_histlaws.proofs.Pending.{same_key, itself}
-use Rattle.kt_memrowset.specs.Stores.{apply_all, change_by}
+use Rattle.kt_memrowset.specs.Stores.{change_by}
 use Rattle.kt_memrowset.proofs.Last.{last_under}
 use Rattle.kt_boot.specs.Reopening.{row_told}
-use Rattle.kt_memrowset.specs.Taking.{kind_made}
 use Rattle.kt_boot.specs.Rebuilding.{is_there, kind_in, taken_as, taken, told}
 use Rattle.kt_boot.proofs.Taking.{hist_in-put}
 use Rattle.kt_boot.proofs.Alike.{AreAlike, IsAlike, last_alike, alike_push, effect_alike, effect_none, effect_some, effect_told, hist, sound_step}

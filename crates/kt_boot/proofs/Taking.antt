@@ -11,14 +11,14 @@ use Rattle.kt_history.specs.declared.operation.RowOp.{RowOp}
 use Rattle.kt_history.specs.declared.target.Kindly.{Kindly}
 use Rattle.kt_history.specs.Rows.{key_cmp}
 use Rattle.kt_history.specs.Operations.{op_len, need}
-use Rattle.kt_histlaws.specs.Histories.{Hist, Store, hist_in, never, push}
-use Rattle.kt_histlaws.specs.Flights.{Under, AllOps}
+use Rattle.kt_history.specs.Stores.{Hist, Store, hist_in, never, push, Under, share, kind_made}
+use Rattle.kt_histlaws.specs.Flights.{AllOps}
 use Rattle.kt_pool.specs.Contents.{Contents, used, at_cell}
 use Rattle.kt_tree.specs.Trees.{need as tree_need}
-use Rattle.kt_memrowset.specs.Stores.{IsStore, store_of, Owns, number_of, is_frozen, share, cells_taken, link_need, change_by, Joins}
+use Rattle.kt_memrowset.specs.Stores.{IsStore, store_of, Owns, number_of, is_frozen, cells_taken, link_need, change_by, Joins}
 use Rattle.kt_memrowset.proofs.Applying.{share_covers}
 use Rattle.kt_memrowset.specs.declared.store.MemRowSet.{MemRowSet}
-use Rattle.kt_memrowset.specs.Taking.{kind_made, JoinsIf}
+use Rattle.kt_memrowset.specs.Taking.{JoinsIf}
 use Rattle.kt_boot.specs.Rebuilding.{is_there, kind_in, taken_as, taken, all_taken, all_fit, MayTake, MayTakeAll, TakesAll}
 
 -- what a store has of a key after another key, or the same, was put

@@ -14,8 +14,9 @@ use Rattle.kt_history.specs.Operations.{effect_on, changes_on, DifferentKeys}
 use Rattle.kt_history.proofs.KeyLaws.{find-changed}
 use Rattle.kt_history.proofs.PastLaws.{apart-changes_on}
 use Rattle.kt_history.proofs.RowLaws.{rows_at-with_write_from, rows_at-with_write_below}
-use Rattle.kt_histlaws.specs.Histories.{Store, joined, timeline}
-use Rattle.kt_histlaws.specs.Flights.{Under, AllOps}
+use Rattle.kt_histlaws.specs.Histories.{joined, timeline}
+use Rattle.kt_history.specs.Stores.{Store, Under}
+use Rattle.kt_histlaws.specs.Flights.{AllOps}
 use Rattle.kt_histlaws.proofs.Flown.{timeline-with_write}
 use Rattle.kt_records.specs.declared.entry.Entry.{Entry}
 use Rattle.kt_records.specs.declared.entry.Entry.TheVariants.{Replicate, Commit}

@@ -8,15 +8,14 @@ use Rattle.kt_history.specs.declared.target.Target.{Target}
 use Rattle.kt_history.specs.declared.target.Target.TheVariants.{Mem}
 use Rattle.kt_history.specs.Rows.{key_cmp}
 use Rattle.kt_history.specs.Operations.{outcome_of, need, DifferentKeys}
-use Rattle.kt_histlaws.specs.Histories.{Store, hist_in, push}
-use Rattle.kt_histlaws.specs.Flights.{Under, AllOps}
+use Rattle.kt_history.specs.Stores.{Store, hist_in, push, Under, last_row, kind_made}
+use Rattle.kt_histlaws.specs.Flights.{AllOps}
 use Rattle.kt_records.specs.declared.entry.Entry.{Entry}
 use Rattle.kt_records.specs.declared.entry.Entry.TheVariants.{Replicate, Commit}
 use Rattle.kt_records.specs.declared.entry.CommitRow.{CommitRow}
 use Rattle.kt_loglaws.specs.Replay.{commit_of, replayed, needed_ops}
 use Rattle.kt_memrowset.specs.Links.{CellsFit}
-use Rattle.kt_memrowset.specs.Stores.{IsStore, store_of, last_row, Owns, number_of, is_frozen, change_by}
-use Rattle.kt_memrowset.specs.Taking.{kind_made}
+use Rattle.kt_memrowset.specs.Stores.{IsStore, store_of, Owns, number_of, is_frozen, change_by}
 use Rattle.kt_memrowset.specs.declared.store.MemRowSet.{MemRowSet}
 use Rattle.kt_pool.specs.Contents.{Contents, used, at_cell}
 use Rattle.kt_boot.specs.Reopening.{unless_told}

@@ -8,7 +8,7 @@ use Rattle.kt_history.specs.declared.target.Target.TheVariants.{Mem, Delta}
 use Rattle.kt_history.specs.Rows.{Row, Rows}
 use Rattle.kt_history.specs.History.{Past, rows_at, raise}
 use Rattle.kt_history.specs.Operations.{effect_on, need}
-use Rattle.kt_histlaws.specs.Histories.{Store}
+use Rattle.kt_history.specs.Stores.{Store}
 use Rattle.kt_records.specs.declared.entry.Entry.{Entry}
 use Rattle.kt_records.specs.declared.entry.Entry.TheVariants.{Replicate, Commit}
 use Rattle.kt_records.specs.declared.entry.CommitRow.{CommitRow}

@@ -14,9 +14,8 @@ ghost use Rattle.kt_boot.specs.Rebuilding.{is_there, all_fit, all_told, told, fi
 
 use crate::replay::{ReplayNo, commit_at, needs};
 use kt_base::NoMemory;
-use kt_history::{OpKind, OpList, OpRef, Target, outcome};
+use kt_history::{OpKind, OpList, OpRef, Target, kind_made, outcome};
 use kt_memrowset::MemRowSet;
-use kt_memrowset::taking::kind_made;
 use kt_pool::Pool;
 use kt_records::{CommitRow, CommitRows, Entry, RecordList, TargetList};
 use std::alloc::Global;

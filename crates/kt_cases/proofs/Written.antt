@@ -6,8 +6,7 @@ use Rattle.std.specs.FinMap.Entries.{find, put, find-put}
 use Rattle.std.proofs.lemmas.Cmp.{nat_list_cmp_total}
 use Rattle.kt_history.specs.declared.change.Change.{Change}
 use Rattle.kt_history.specs.Rows.{key_cmp}
-use Rattle.kt_histlaws.specs.Histories.{Steps, Store, Hist, push, hist_in, never}
-use Rattle.kt_histlaws.specs.Flights.{Under}
+use Rattle.kt_history.specs.Stores.{Steps, Store, Hist, push, hist_in, never, Under}
 use Rattle.kt_pool.specs.Contents.{Contents}
 use Rattle.kt_memrowset.specs.declared.store.MemRowSet.{MemRowSet}
 use Rattle.kt_memrowset.specs.Stores.{IsStore, store_of, is_frozen}

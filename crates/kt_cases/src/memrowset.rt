@@ -3,8 +3,7 @@ ghost use Rattle.kt_cells.specs.Rules.{EachAfter, FollowingCell};
 ghost use Rattle.kt_cells.specs.Spelled.{SpellsCells};
 ghost use Rattle.kt_history.specs.Rows.{Row, fits};
 ghost use Rattle.kt_history.specs.declared.operation.RowOp.{RowOp as RowOpSpec};
-ghost use Rattle.kt_histlaws.specs.Histories.{hist_in};
-ghost use Rattle.kt_histlaws.specs.Flights.{Under};
+ghost use Rattle.kt_history.specs.Stores.{hist_in, Under};
 ghost use Rattle.kt_memrowset.specs.Stores.{IsStore, store_of, is_frozen, change_by};
 
 use kt_base::{Cell, Cells, NoMemory, Octets};

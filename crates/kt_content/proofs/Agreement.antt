@@ -1,7 +1,7 @@
 -- What is played is what agrees in the end.
 use Rattle.std.proofs.Common.{◌≡◌, ◌≤◌, ℕ, zero, suc, List, [], ◌∷◌, Some, None, Ok, refl, sym, ap, ◌∙◌, arith, cond, true, false}
 use Rattle.kt_history.specs.declared.change.Change.{Change}
-use Rattle.kt_histlaws.specs.Histories.{Hist, push}
+use Rattle.kt_history.specs.Stores.{Hist, push}
 use Rattle.kt_histlaws.proofs.OneKey.{row-push_below}
 use Rattle.kt_content.specs.Places.{Place, Held, Moves, same_place, row_before, standing, joined_in, moved}
 use Rattle.kt_content.specs.KeyOps.{KeyOp, decided, played, if_fits}

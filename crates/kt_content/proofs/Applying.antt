@@ -5,8 +5,9 @@ use Rattle.kt_history.specs.declared.change.Change.{Change}
 use Rattle.kt_history.specs.declared.operation.RowOp.{RowOp}
 use Rattle.kt_history.specs.Rows.{Row}
 use Rattle.kt_history.specs.Operations.{effect}
-use Rattle.kt_histlaws.specs.Histories.{Hist, row_of, step_of, first_some, AtMostOne, Alone, nth_option}
-use Rattle.kt_histlaws.specs.Flights.{Under, AllUnder}
+use Rattle.kt_histlaws.specs.Histories.{first_some, AtMostOne, Alone, nth_option}
+use Rattle.kt_history.specs.Stores.{Hist, row_of, step_of, Under}
+use Rattle.kt_histlaws.specs.Flights.{AllUnder}
 use Rattle.kt_histlaws.proofs.OneKey.{alone_of_one, alone_of_none, length_map, none_left, none_right}
 use Rattle.kt_histlaws.proofs.Applying.{all_under, none_under, rows-settled}
 use Rattle.kt_content.specs.Places.{Super, Place, memory, same_place, Held, Moves, held_in, standing, live_in, or_live, row_before, moved}

@@ -16,7 +16,8 @@ use Rattle.kt_records.specs.declared.entry.Entry.{Entry}
 use Rattle.kt_records.specs.declared.entry.Entry.TheVariants.{Replicate, Commit}
 use Rattle.kt_records.specs.declared.entry.CommitRow.{CommitRow}
 use Rattle.kt_journal.specs.Order.{InOrder, last_ts, is_above}
-use Rattle.kt_histlaws.specs.Histories.{Hist, past_hist, timeline, row_of, step_of}
+use Rattle.kt_histlaws.specs.Histories.{past_hist, timeline}
+use Rattle.kt_history.specs.Stores.{Hist, row_of, step_of}
 use Rattle.kt_histlaws.specs.Pending.{has_key}
 use Rattle.kt_histlaws.specs.Flights.{AllOps}
 use Rattle.kt_histlaws.proofs.Applying.{row-past}

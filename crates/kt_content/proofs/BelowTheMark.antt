@@ -2,7 +2,8 @@
 use Rattle.std.proofs.Common.{◌≡◌, ◌≤◌, ◌<◌, ◌-◌, ℕ, List, [], ◌∷◌, None, Option, refl, sym, ap, ◌∙◌, subst, arith, cond, map, inl, inr}
 use Rattle.std.proofs.lemmas.Bool.{cases_lt, le-leb, lt-leb, lt-ltb, le-ltb, ne_eqb}
 use Rattle.kt_history.specs.Rows.{Row, apply}
-use Rattle.kt_histlaws.specs.Histories.{Steps, Hist, after_steps, row_of, step_at, step_of, first_some, AtMostOne}
+use Rattle.kt_histlaws.specs.Histories.{first_some, AtMostOne}
+use Rattle.kt_history.specs.Stores.{Steps, Hist, after_steps, row_of, step_at, step_of}
 use Rattle.kt_histlaws.specs.Fitting.{AllFit, IfFits, Rises, RiseAbove, steps_above}
 use Rattle.kt_content.specs.BelowTheMark.{LacksBetween, EachLacksBetween, alike_from_the_last_change, sound_from_the_last_change}
 

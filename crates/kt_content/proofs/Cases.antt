@@ -5,7 +5,7 @@ use Rattle.std.proofs.lemmas.Bool.{le-leb, ne_eqb}
 use Rattle.std.proofs.lemmas.Bool.Decides.{nat_tests}
 use Rattle.kt_history.specs.declared.change.Change.TheVariants.{Ins, Upd, Del}
 use Rattle.kt_history.specs.declared.operation.OpKind.TheVariants.{Insert, Update, Delete}
-use Rattle.kt_histlaws.specs.Histories.{Hist, row_of, step_of, push, never}
+use Rattle.kt_history.specs.Stores.{Hist, row_of, step_of, push, never}
 use Rattle.kt_histlaws.specs.Fitting.{AreSound}
 use Rattle.kt_histlaws.specs.Jobs.{AreAlike, push_all}
 use Rattle.kt_histlaws.proofs.Fitting.{sound_push}

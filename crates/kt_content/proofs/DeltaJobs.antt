@@ -4,7 +4,8 @@ use Rattle.std.specs.Prelude.{nat_le, nat_lt, ◌==◌}
 use Rattle.std.proofs.lemmas.List.Elements.{filter-append}
 use Rattle.kt_history.specs.declared.change.Change.{Change}
 use Rattle.kt_history.specs.Rows.{Row, apply}
-use Rattle.kt_histlaws.specs.Histories.{Steps, Hist, after_steps, row_of, step_at, step_of, or_else}
+use Rattle.kt_histlaws.specs.Histories.{or_else}
+use Rattle.kt_history.specs.Stores.{Steps, Hist, after_steps, row_of, step_at, step_of}
 use Rattle.kt_histlaws.specs.Fitting.{AreSound, IfFits, Rises, steps_above}
 use Rattle.kt_histlaws.specs.Jobs.{AreAlike, push_all}
 use Rattle.kt_content.specs.Places.{Super, Place, Held, at_first, held_in}

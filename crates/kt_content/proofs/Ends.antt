@@ -12,7 +12,8 @@ use Rattle.kt_records.specs.declared.entry.Entry.{Entry}
 use Rattle.kt_records.specs.declared.entry.Entry.TheVariants.{Replicate, Commit}
 use Rattle.kt_records.specs.declared.entry.CommitRow.{CommitRow}
 use Rattle.kt_journal.specs.Log.{IsLog}
-use Rattle.kt_histlaws.specs.Histories.{Hist, past_hist}
+use Rattle.kt_histlaws.specs.Histories.{past_hist}
+use Rattle.kt_history.specs.Stores.{Hist}
 use Rattle.kt_loglaws.specs.Replay.{commit_of, last_of}
 use Rattle.kt_loglaws.specs.Fronts.{with_records}
 use Rattle.kt_loglaws.proofs.LogOrder.{Lacks, lacks_before, lacks_around, above_behind}

@@ -11,7 +11,8 @@ use Rattle.kt_history.specs.History.{raise}
 use Rattle.kt_records.specs.declared.entry.Entry.{Entry}
 use Rattle.kt_records.specs.declared.entry.Entry.TheVariants.{Replicate}
 use Rattle.kt_records.specs.declared.entry.CommitRow.{CommitRow}
-use Rattle.kt_histlaws.specs.Histories.{never, past_hist}
+use Rattle.kt_histlaws.specs.Histories.{past_hist}
+use Rattle.kt_history.specs.Stores.{never}
 use Rattle.kt_journal.specs.Log.{IsLog}
 use Rattle.kt_loglaws.specs.Replay.{empty}
 use Rattle.kt_loglaws.specs.Fronts.{with_records}

@@ -7,9 +7,10 @@ use Rattle.kt_history.specs.declared.change.Change.{Change}
 use Rattle.kt_history.specs.declared.operation.RowOp.{RowOp}
 use Rattle.kt_history.specs.Rows.{Row}
 use Rattle.kt_history.specs.Operations.{effect}
-use Rattle.kt_histlaws.specs.Histories.{Steps, Hist, row_of, step_of, step_at, push, on_nth, first_some, or_else, AtMostOne, ShowsKey}
+use Rattle.kt_histlaws.specs.Histories.{on_nth, first_some, or_else, AtMostOne, ShowsKey}
+use Rattle.kt_history.specs.Stores.{Steps, Hist, row_of, step_of, step_at, push, Under}
 use Rattle.kt_histlaws.specs.Fitting.{AreSound, AllFit, IfFits, RiseAbove, Rises, steps_above}
-use Rattle.kt_histlaws.specs.Flights.{Under, AllUnder}
+use Rattle.kt_histlaws.specs.Flights.{AllUnder}
 use Rattle.kt_histlaws.proofs.OneKey.{none_left, none_right, map-on_nth_still, row-push_below, step-push_other, step-push_at, length_map}
 use Rattle.kt_histlaws.proofs.Applying.{all_under, none_under, rows-settled, row-settled}
 use Rattle.kt_content.specs.Places.{Place, memory, Held, Moves, same_place, row_before, standing, live_in, moved, held_in}

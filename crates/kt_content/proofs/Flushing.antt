@@ -17,7 +17,8 @@ use Rattle.kt_history.specs.declared.change.Change.{Change}
 use Rattle.kt_history.specs.declared.change.Change.TheVariants.{Ins, Upd, Del}
 use Rattle.kt_history.specs.Rows.{Row, IsRow, apply, undo, fits, has_columns, with_cells, cells_under}
 use Rattle.kt_history.proofs.Undo.{leads_back}
-use Rattle.kt_histlaws.specs.Histories.{Steps, after_steps, row_of, step_at, or_else}
+use Rattle.kt_histlaws.specs.Histories.{or_else}
+use Rattle.kt_history.specs.Stores.{Steps, after_steps, row_of, step_at}
 use Rattle.kt_histlaws.specs.Disks.{before_all, led_over}
 use Rattle.kt_histlaws.specs.Fitting.{steps_above}
 use Rattle.kt_content.specs.Flushing.{after_all, undone, cut, EachAbove, InOrderAt, AllUndone, IsChange, a_change_that_fits_is_undone, a_written_row_keeps_its_changes, a_deleted_row_keeps_its_changes, a_cut_history_is_alike, a_dropped_row_is_alike}

@@ -1,6 +1,7 @@
 -- A fresh tablet.
 use Rattle.std.proofs.Common.{ℕ, List, [], ◌∷◌, refl, arith}
-use Rattle.kt_histlaws.specs.Histories.{past_hist, never}
+use Rattle.kt_histlaws.specs.Histories.{past_hist}
+use Rattle.kt_history.specs.Stores.{never}
 use Rattle.kt_loglaws.specs.Replay.{empty}
 use Rattle.kt_content.specs.Places.{memory}
 use Rattle.kt_content.specs.Content.{Shown, a_fresh_tablet_is_empty}

@@ -4,7 +4,8 @@ use Rattle.std.specs.Prelude.{is_some, not}
 use Rattle.std.proofs.lemmas.Bool.Decides.{nat_tests}
 use Rattle.kt_history.specs.declared.change.Change.{Change}
 use Rattle.kt_history.specs.Rows.{Row}
-use Rattle.kt_histlaws.specs.Histories.{Hist, row_of, step_of, push, never, on_nth, first_some, or_else, AtMostOne}
+use Rattle.kt_histlaws.specs.Histories.{on_nth, first_some, or_else, AtMostOne}
+use Rattle.kt_history.specs.Stores.{Hist, row_of, step_of, push, never}
 use Rattle.kt_histlaws.specs.Jobs.{AreAlike}
 use Rattle.kt_histlaws.proofs.OneKey.{none_left, none_right}
 use Rattle.kt_histlaws.proofs.Jobs.{both_alike}

@@ -5,7 +5,8 @@ use Rattle.std.proofs.lemmas.List.{append-nil}
 use Rattle.kt_history.specs.declared.target.Target.{Target}
 use Rattle.kt_history.specs.Rows.{Row}
 use Rattle.kt_history.specs.Operations.{effect}
-use Rattle.kt_histlaws.specs.Histories.{Hist, push, on_nth}
+use Rattle.kt_histlaws.specs.Histories.{on_nth}
+use Rattle.kt_history.specs.Stores.{Hist, push}
 use Rattle.kt_history.specs.declared.change.Change.{Change}
 use Rattle.kt_histlaws.proofs.Fitting.{sound_push}
 use Rattle.kt_histlaws.proofs.Jobs.{both_alike}

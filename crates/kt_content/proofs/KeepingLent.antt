@@ -5,8 +5,9 @@ use Rattle.kt_history.specs.declared.target.Target.{Target}
 use Rattle.kt_history.specs.Rows.{Row}
 use Rattle.kt_history.specs.History.{raise}
 use Rattle.kt_records.specs.declared.entry.Entry.{Entry}
-use Rattle.kt_histlaws.specs.Histories.{Hist, past_hist}
-use Rattle.kt_histlaws.specs.Flights.{Under, UpTo}
+use Rattle.kt_histlaws.specs.Histories.{past_hist}
+use Rattle.kt_history.specs.Stores.{Hist, Under}
+use Rattle.kt_histlaws.specs.Flights.{UpTo}
 use Rattle.kt_disk.specs.Disk.{Files}
 use Rattle.kt_journal.specs.Log.{IsLog}
 use Rattle.kt_loglaws.specs.Replay.{last_of}

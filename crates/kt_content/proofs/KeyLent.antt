@@ -5,7 +5,8 @@ use Rattle.kt_history.specs.declared.operation.RowOp.{RowOp}
 use Rattle.kt_history.specs.declared.target.Target.{Target}
 use Rattle.kt_history.specs.Rows.{Row}
 use Rattle.kt_history.specs.Operations.{effect}
-use Rattle.kt_histlaws.specs.Histories.{Hist, first_some, AtMostOne}
+use Rattle.kt_histlaws.specs.Histories.{first_some, AtMostOne}
+use Rattle.kt_history.specs.Stores.{Hist}
 use Rattle.kt_histlaws.proofs.Fitting.{sound_raised}
 use Rattle.kt_content.specs.Places.{Super, Place, memory, disk, Held, Moves, held_in, at_first, standing, row_there, row_before, needed_in, live_in, moved, OneLive}
 use Rattle.kt_content.specs.KeyOps.{KeyOp, seen, played, decided, may_join, with_move, to_each, to_live}

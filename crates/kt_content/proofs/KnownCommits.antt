@@ -11,7 +11,7 @@ use Rattle.kt_history.specs.Operations.{DifferentKeys}
 use Rattle.kt_records.specs.declared.entry.Entry.{Entry}
 use Rattle.kt_records.specs.declared.entry.Entry.TheVariants.{Replicate, Commit}
 use Rattle.kt_records.specs.declared.entry.CommitRow.{CommitRow}
-use Rattle.kt_histlaws.specs.Histories.{Hist}
+use Rattle.kt_history.specs.Stores.{Hist}
 use Rattle.kt_histlaws.proofs.Pending.{same_key, itself}
 use Rattle.kt_journal.specs.Log.{IsLog}
 use Rattle.kt_loglaws.specs.Replay.{commit_of}

@@ -9,7 +9,7 @@ use Rattle.kt_history.specs.declared.target.Target.{Target}
 use Rattle.kt_history.specs.declared.target.Target.TheVariants.{Mem, Delta}
 use Rattle.kt_history.specs.Rows.{Row}
 use Rattle.kt_history.specs.Operations.{effect}
-use Rattle.kt_histlaws.specs.Histories.{Hist, row_of, step_of, never}
+use Rattle.kt_history.specs.Stores.{Hist, row_of, step_of, never}
 use Rattle.kt_histlaws.specs.Fitting.{AreSound}
 use Rattle.kt_histlaws.proofs.Fitting.{sound_raised}
 use Rattle.kt_histlaws.specs.Jobs.{AreAlike, push_all}

@@ -4,7 +4,8 @@ use Rattle.std.specs.Prelude.{nat_lt, ◌==◌}
 use Rattle.std.proofs.lemmas.Bool.{cases_lt, cases_eq, ltb-false, ne_eqb, eq-eqb}
 use Rattle.std.proofs.lemmas.Bool.Decides.{nat_tests}
 use Rattle.kt_history.specs.declared.change.Change.{Change}
-use Rattle.kt_histlaws.specs.Histories.{Steps, Hist, after_steps, row_of, step_at, step_of, first_some, or_else, AtMostOne}
+use Rattle.kt_histlaws.specs.Histories.{first_some, or_else, AtMostOne}
+use Rattle.kt_history.specs.Stores.{Steps, Hist, after_steps, row_of, step_at, step_of}
 use Rattle.kt_histlaws.specs.Fitting.{RiseAbove, Rises, steps_above}
 use Rattle.kt_histlaws.proofs.OneKey.{step_at-append}
 use Rattle.kt_content.specs.Files.{put_rising, rising}

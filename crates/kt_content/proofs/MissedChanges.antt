@@ -10,9 +10,10 @@ use Rattle.kt_history.specs.declared.operation.OpKind.{OpKind}
 use Rattle.kt_history.specs.declared.operation.OpKind.TheVariants.{Insert, Update, Delete}
 use Rattle.kt_history.specs.Rows.{Row, apply}
 use Rattle.kt_history.specs.Operations.{effect}
-use Rattle.kt_histlaws.specs.Histories.{Steps, Hist, row_of, push, on_nth, first_some, Alone}
+use Rattle.kt_histlaws.specs.Histories.{on_nth, first_some, Alone}
+use Rattle.kt_history.specs.Stores.{Steps, Hist, row_of, push, Under}
 use Rattle.kt_histlaws.specs.Disks.{led_over, before_all}
-use Rattle.kt_histlaws.specs.Flights.{UpTo, Under, AllUnder}
+use Rattle.kt_histlaws.specs.Flights.{UpTo, AllUnder}
 use Rattle.kt_histlaws.specs.Fitting.{AreSound, Rises}
 use Rattle.kt_histlaws.specs.Jobs.{AreAlike, push_all}
 use Rattle.kt_histlaws.proofs.OneKey.{first-on_nth, map-on_nth, row-push_from}

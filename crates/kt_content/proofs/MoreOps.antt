@@ -6,9 +6,10 @@ use Rattle.kt_history.specs.declared.change.Change.{Change}
 use Rattle.kt_history.specs.declared.operation.RowOp.{RowOp}
 use Rattle.kt_history.specs.Rows.{Row}
 use Rattle.kt_history.specs.Operations.{effect}
-use Rattle.kt_histlaws.specs.Histories.{Hist, row_of, push, on_nth, first_some, or_else, AtMostOne, Alone, nth_option, ShowsKey}
+use Rattle.kt_histlaws.specs.Histories.{on_nth, first_some, or_else, AtMostOne, Alone, nth_option, ShowsKey}
+use Rattle.kt_history.specs.Stores.{Hist, row_of, push, Under}
 use Rattle.kt_histlaws.specs.Fitting.{AreSound}
-use Rattle.kt_histlaws.specs.Flights.{Under, AllUnder}
+use Rattle.kt_histlaws.specs.Flights.{AllUnder}
 use Rattle.kt_histlaws.proofs.OneKey.{shows-push, alone_of_one, alone_of_none, length_map}
 use Rattle.kt_histlaws.proofs.Applying.{all_under, none_under, rows-settled}
 use Rattle.kt_histlaws.proofs.Fitting.{sound_push}

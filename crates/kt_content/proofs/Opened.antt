@@ -7,7 +7,8 @@ use Rattle.std.proofs.lemmas.Bool.{lt-ltb, lt-leb}
 use Rattle.kt_history.specs.Rows.{Row, Rows}
 use Rattle.kt_history.specs.History.{Past, PastWrite, IsPast, Rise, replay, raise}
 use Rattle.kt_records.specs.declared.entry.Entry.{Entry}
-use Rattle.kt_histlaws.specs.Histories.{Hist, past_hist}
+use Rattle.kt_histlaws.specs.Histories.{past_hist}
+use Rattle.kt_history.specs.Stores.{Hist}
 use Rattle.kt_histlaws.specs.Jobs.{AreAlike}
 use Rattle.kt_histlaws.proofs.Pending.{timeline-up_to}
 use Rattle.kt_journal.specs.Log.{IsLog}

@@ -12,7 +12,7 @@ use Rattle.kt_history.specs.Rows.{Row, key_cmp}
 use Rattle.kt_history.specs.Operations.{DifferentKeys}
 use Rattle.kt_records.specs.declared.entry.Entry.TheVariants.{Replicate, Commit}
 use Rattle.kt_records.specs.declared.entry.CommitRow.{CommitRow}
-use Rattle.kt_histlaws.specs.Histories.{Hist, Store, hist_in, push, never}
+use Rattle.kt_history.specs.Stores.{Hist, Store, hist_in, push, never}
 use Rattle.kt_histlaws.proofs.Pending.{same_key, itself}
 use Rattle.kt_loglaws.specs.Replay.{commit_of}
 use Rattle.kt_content.specs.Places.{Super, Place, same_place, Moves, standing, joined_in, moved}

@@ -7,7 +7,8 @@ use Rattle.kt_history.specs.declared.operation.RowOp.{RowOp}
 use Rattle.kt_history.specs.declared.target.Target.{Target}
 use Rattle.kt_history.specs.Rows.{Row}
 use Rattle.kt_history.specs.Operations.{effect}
-use Rattle.kt_histlaws.specs.Histories.{Hist, row_of, step_of, push, first_some, AtMostOne, ShowsKey}
+use Rattle.kt_histlaws.specs.Histories.{first_some, AtMostOne, ShowsKey}
+use Rattle.kt_history.specs.Stores.{Hist, row_of, step_of, push}
 use Rattle.kt_histlaws.specs.Fitting.{AllFit, RiseAbove}
 use Rattle.kt_histlaws.proofs.OneKey.{none_left, none_right}
 use Rattle.kt_histlaws.proofs.Jobs.{finish_shows}

@@ -17,9 +17,10 @@ use Rattle.kt_records.specs.declared.entry.Entry.TheVariants.{Replicate, Commit}
 use Rattle.kt_records.specs.declared.entry.CommitRow.{CommitRow}
 use Rattle.kt_journal.specs.Order.{InOrder}
 use Rattle.kt_journal.specs.Log.{IsLog}
-use Rattle.kt_histlaws.specs.Histories.{Steps, past_hist, timeline, joined}
+use Rattle.kt_histlaws.specs.Histories.{past_hist, timeline, joined}
+use Rattle.kt_history.specs.Stores.{Steps, Under}
 use Rattle.kt_histlaws.specs.Pending.{has_key}
-use Rattle.kt_histlaws.specs.Flights.{Under, UpTo, AllOps}
+use Rattle.kt_histlaws.specs.Flights.{UpTo, AllOps}
 use Rattle.kt_histlaws.proofs.Pending.{same_key, timeline-up_to}
 use Rattle.kt_histlaws.proofs.Flown.{timeline-with_write, each_op, find-none}
 use Rattle.kt_histlaws.proofs.Applying.{row-past}

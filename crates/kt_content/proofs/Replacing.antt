@@ -15,7 +15,8 @@ use Rattle.kt_history.proofs.RowLaws.{rows_at-raise, rows_at-with_write_below}
 use Rattle.kt_history.proofs.PastLaws.{ends_with_write, apart-changes_on}
 use Rattle.kt_records.specs.declared.entry.Entry.{Entry}
 use Rattle.kt_records.specs.declared.entry.Entry.TheVariants.{Replicate, Commit}
-use Rattle.kt_histlaws.specs.Histories.{Steps, step_at, joined, timeline, past_hist}
+use Rattle.kt_histlaws.specs.Histories.{joined, timeline, past_hist}
+use Rattle.kt_history.specs.Stores.{Steps, step_at}
 use Rattle.kt_histlaws.specs.Fitting.{AreSound}
 use Rattle.kt_histlaws.specs.Jobs.{AreAlike}
 use Rattle.kt_histlaws.proofs.Applying.{row-past}

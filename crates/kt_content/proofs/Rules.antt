@@ -14,7 +14,7 @@ use Rattle.kt_history.specs.Operations.{effect}
 use Rattle.kt_records.specs.declared.entry.Entry.{Entry}
 use Rattle.kt_records.specs.declared.entry.Entry.TheVariants.{Replicate, Commit}
 use Rattle.kt_records.specs.declared.entry.CommitRow.{CommitRow}
-use Rattle.kt_histlaws.specs.Histories.{Steps, after_steps, push}
+use Rattle.kt_history.specs.Stores.{Steps, after_steps, push}
 use Rattle.kt_histlaws.specs.Disks.{before_all, led_over}
 use Rattle.kt_histlaws.proofs.Pending.{same_key}
 use Rattle.kt_loglaws.specs.Replay.{commit_of}

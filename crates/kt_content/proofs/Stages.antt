@@ -10,7 +10,8 @@ use Rattle.kt_history.specs.Rows.{Row, apply, key_cmp}
 use Rattle.kt_history.specs.Operations.{effect}
 use Rattle.kt_records.specs.declared.entry.Entry.{Entry}
 use Rattle.kt_records.specs.declared.entry.CommitRow.{CommitRow}
-use Rattle.kt_histlaws.specs.Histories.{Steps, Hist, row_of, step_of, push, or_else}
+use Rattle.kt_histlaws.specs.Histories.{or_else}
+use Rattle.kt_history.specs.Stores.{Steps, Hist, row_of, step_of, push}
 use Rattle.kt_histlaws.specs.Flights.{UpTo}
 use Rattle.kt_histlaws.proofs.OneKey.{row-push_below, row-push_from, step-push_other, step-push_at}
 use Rattle.kt_histlaws.proofs.Pending.{itself}

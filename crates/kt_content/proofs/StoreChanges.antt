@@ -7,7 +7,8 @@ use Rattle.kt_history.specs.declared.change.Change.{Change}
 use Rattle.kt_history.specs.declared.operation.RowOp.{RowOp}
 use Rattle.kt_history.specs.Rows.{Row, fits}
 use Rattle.kt_history.specs.Operations.{effect}
-use Rattle.kt_histlaws.specs.Histories.{Steps, Hist, row_of, step_of, step_at, push, first_some, AtMostOne}
+use Rattle.kt_histlaws.specs.Histories.{first_some, AtMostOne}
+use Rattle.kt_history.specs.Stores.{Steps, Hist, row_of, step_of, step_at, push}
 use Rattle.kt_histlaws.specs.Fitting.{AreSound, AllFit, IfFits, Rises, steps_above}
 use Rattle.kt_histlaws.specs.Jobs.{push_all}
 use Rattle.kt_content.specs.Places.{Place, memory, same_place, Held, held_in, Moves, joined_in, moved, standing, row_there, row_before, live_in}

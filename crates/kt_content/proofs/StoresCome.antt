@@ -1,7 +1,8 @@
 -- Stores that come, change and go keep what can be recovered.
 use Rattle.std.proofs.Common.{◌≡◌, ℕ, List, [], ◌∷◌, ◌++◌, None, Option, refl, sym, ap, ◌∙◌, arith, cond, true, false, Bool, map}
 use Rattle.kt_history.specs.History.{raise}
-use Rattle.kt_histlaws.specs.Histories.{Hist, row_of, step_of, never, first_some, or_else, past_hist}
+use Rattle.kt_histlaws.specs.Histories.{first_some, or_else, past_hist}
+use Rattle.kt_history.specs.Stores.{Hist, row_of, step_of, never}
 use Rattle.kt_loglaws.specs.Fronts.{with_records}
 use Rattle.kt_content.specs.Places.{Super, fresh, Place, disk, Held, memory}
 use Rattle.kt_content.specs.KeyOps.{seen}

@@ -10,7 +10,7 @@ use Rattle.kt_history.specs.declared.target.Target.TheVariants.{Mem, Delta}
 use Rattle.kt_history.specs.Rows.{key_cmp}
 use Rattle.kt_records.specs.declared.entry.Entry.TheVariants.{Replicate, Commit}
 use Rattle.kt_records.specs.declared.entry.CommitRow.{CommitRow}
-use Rattle.kt_histlaws.specs.Histories.{never}
+use Rattle.kt_history.specs.Stores.{never}
 use Rattle.kt_loglaws.specs.Replay.{commit_of}
 use Rattle.kt_content.specs.Files.{DiskRowset, hist_in_files}
 use Rattle.kt_content.specs.Places.{Super, Place, memory, disk, same_place, needs, newer, last_dms_of, and_place, needed_in, in_files}

@@ -6,7 +6,7 @@ use Rattle.kt_history.specs.declared.operation.RowOp.{RowOp}
 use Rattle.kt_history.specs.declared.target.Target.{Target}
 use Rattle.kt_history.specs.Rows.{Row}
 use Rattle.kt_history.specs.Operations.{effect}
-use Rattle.kt_histlaws.specs.Histories.{Hist, step_of}
+use Rattle.kt_history.specs.Stores.{Hist, step_of}
 use Rattle.kt_histlaws.specs.Fitting.{AreSound, RiseAbove, Rises, steps_above}
 use Rattle.kt_histlaws.proofs.Fitting.{sound_raised}
 use Rattle.kt_content.specs.Places.{Super, Place, Held, Moves, same_place, held_in, at_first, standing, row_there, needed_in, OneLive}

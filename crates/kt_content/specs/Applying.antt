@@ -4,8 +4,8 @@ use Rattle.kt_history.specs.declared.change.Change.{Change}
 use Rattle.kt_history.specs.declared.operation.RowOp.{RowOp}
 use Rattle.kt_history.specs.Rows.{Row}
 use Rattle.kt_history.specs.Operations.{effect}
-use Rattle.kt_histlaws.specs.Histories.{Hist, row_of, AtMostOne}
-use Rattle.kt_histlaws.specs.Flights.{Under}
+use Rattle.kt_histlaws.specs.Histories.{AtMostOne}
+use Rattle.kt_history.specs.Stores.{Hist, row_of, Under}
 use Rattle.kt_content.specs.Places.{Super, Place, memory, Held, standing, live_in, row_before, moved}
 use Rattle.kt_content.specs.KeyOps.{to_live}
 use Rattle.kt_content.specs.Content.{Shown}

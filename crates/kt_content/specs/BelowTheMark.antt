@@ -1,6 +1,6 @@
 -- Outputs below a job's mark.
 use Rattle.std.specs.Prelude.{◌<◌, ◌≤◌, ◌⊎◌, ℕ, List, [], ◌∷◌}
-use Rattle.kt_histlaws.specs.Histories.{Steps, Hist}
+use Rattle.kt_history.specs.Stores.{Steps, Hist}
 use Rattle.kt_histlaws.specs.Fitting.{AreSound}
 use Rattle.kt_histlaws.specs.Jobs.{AreAlike}
 

@@ -3,7 +3,8 @@ use Rattle.std.specs.Prelude.{◌≡◌, ◌==◌, ℕ, max, true, false, is_som
 use Rattle.kt_history.specs.Rows.{Row}
 use Rattle.kt_history.specs.History.{Past, IsPastUpTo}
 use Rattle.kt_records.specs.declared.entry.Entry.{Entry}
-use Rattle.kt_histlaws.specs.Histories.{Hist, past_hist, ShowsKey, row_of, step_of}
+use Rattle.kt_histlaws.specs.Histories.{past_hist, ShowsKey}
+use Rattle.kt_history.specs.Stores.{Hist, row_of, step_of}
 use Rattle.kt_histlaws.specs.Fitting.{AreSound}
 use Rattle.kt_loglaws.specs.Replay.{last_of, empty}
 use Rattle.kt_content.specs.Files.{DiskRowset}

@@ -1,7 +1,7 @@
 -- A job on the deltas of one rowset: a delta flush, a minor or a major compaction.
 use Rattle.std.specs.Prelude.{◌≡◌, ◌⊎◌, ℕ, Bool, List, [], ◌∷◌}
 use Rattle.kt_history.specs.Rows.{Row}
-use Rattle.kt_histlaws.specs.Histories.{Hist}
+use Rattle.kt_history.specs.Stores.{Hist}
 use Rattle.kt_histlaws.specs.Fitting.{AreSound}
 use Rattle.kt_histlaws.specs.Jobs.{push_all}
 use Rattle.kt_content.specs.Places.{Super, Place, Moves, at_first}

@@ -8,8 +8,7 @@ use Rattle.kt_records.specs.declared.entry.Entry.{Entry}
 use Rattle.kt_records.specs.declared.entry.Entry.TheVariants.{Replicate, Commit}
 use Rattle.kt_records.specs.declared.entry.CommitRow.{CommitRow}
 use Rattle.kt_journal.specs.Log.{IsLog}
-use Rattle.kt_histlaws.specs.Histories.{Hist}
-use Rattle.kt_histlaws.specs.Flights.{Under}
+use Rattle.kt_history.specs.Stores.{Hist, Under}
 use Rattle.kt_loglaws.specs.Replay.{last_of}
 use Rattle.kt_loglaws.specs.Laws.{with_ops}
 use Rattle.kt_content.specs.Places.{Super, Held}

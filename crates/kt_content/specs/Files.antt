@@ -4,7 +4,7 @@ use Rattle.std.specs.Ordering.{eq_by_cmp}
 use Rattle.kt_history.specs.declared.change.Change.{Change}
 use Rattle.kt_history.specs.declared.changes.Delta.{Delta}
 use Rattle.kt_history.specs.Rows.{Row, Rows, key_cmp}
-use Rattle.kt_histlaws.specs.Histories.{Steps, Hist, never}
+use Rattle.kt_history.specs.Stores.{Steps, Hist, never}
 use Rattle.kt_histlaws.specs.Disks.{hist_of}
 
 -- a disk rowset as its files tell it: its number, the last of its DeltaMemStores that they hold, its base rows by rising key, and

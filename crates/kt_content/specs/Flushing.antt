@@ -5,7 +5,7 @@ use Rattle.std.specs.FinMap.Entries.{is_sorted}
 use Rattle.kt_history.specs.declared.change.Change.{Change}
 use Rattle.kt_history.specs.declared.change.Change.TheVariants.{Ins, Upd, Del}
 use Rattle.kt_history.specs.Rows.{Row, IsRow, apply, undo, fits, has_columns}
-use Rattle.kt_histlaws.specs.Histories.{Steps, Hist, row_of, never}
+use Rattle.kt_history.specs.Stores.{Steps, Hist, row_of, never}
 use Rattle.kt_histlaws.specs.Disks.{DiskRow, hist_of}
 use Rattle.kt_histlaws.specs.Fitting.{steps_above}
 use Rattle.kt_histlaws.specs.Jobs.{AreAlike}

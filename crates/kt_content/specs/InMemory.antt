@@ -2,7 +2,8 @@
 use Rattle.std.specs.Prelude.{◌≡◌, ◌<◌, ◌≤◌, ◌⊎◌, ℕ, suc, ◌==◌, Bool, true, false, is_some, List, [], ◌∷◌, ◌++◌, map, Option, Some, None, if◌then◌else◌}
 use Rattle.kt_history.specs.declared.change.Change.{Change}
 use Rattle.kt_history.specs.Rows.{Row}
-use Rattle.kt_histlaws.specs.Histories.{Hist, row_of, step_of, push, never, first_some, Alone}
+use Rattle.kt_histlaws.specs.Histories.{first_some, Alone}
+use Rattle.kt_history.specs.Stores.{Hist, row_of, step_of, push, never}
 use Rattle.kt_histlaws.specs.Jobs.{AreAlike}
 use Rattle.kt_content.specs.Places.{Super, Place, memory, disk, same_place, Held, held_in, newer, last_dms_of, joined_in, standing, row_before, live_in}
 use Rattle.kt_content.specs.Content.{Shown}

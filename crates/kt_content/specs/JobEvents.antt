@@ -5,7 +5,8 @@ use Rattle.kt_history.specs.Rows.{Row}
 use Rattle.kt_history.specs.declared.change.Change.{Change}
 use Rattle.kt_history.specs.declared.operation.RowOp.{RowOp}
 use Rattle.kt_history.specs.Operations.{effect}
-use Rattle.kt_histlaws.specs.Histories.{Hist, row_of, step_of, push, on_nth, first_some, Alone}
+use Rattle.kt_histlaws.specs.Histories.{on_nth, first_some, Alone}
+use Rattle.kt_history.specs.Stores.{Hist, row_of, step_of, push}
 use Rattle.kt_histlaws.specs.Flights.{AllUnder}
 use Rattle.kt_histlaws.specs.Fitting.{AreSound}
 use Rattle.kt_histlaws.specs.Jobs.{AreAlike, push_all}

@@ -11,7 +11,8 @@ use Rattle.kt_history.specs.Operations.{effect, DifferentKeys}
 use Rattle.kt_records.specs.declared.entry.Entry.{Entry}
 use Rattle.kt_records.specs.declared.entry.Entry.TheVariants.{Replicate, Commit}
 use Rattle.kt_records.specs.declared.entry.CommitRow.{CommitRow}
-use Rattle.kt_histlaws.specs.Histories.{Hist, row_of, step_of, first_some, never, past_hist, AtMostOne}
+use Rattle.kt_histlaws.specs.Histories.{first_some, past_hist, AtMostOne}
+use Rattle.kt_history.specs.Stores.{Hist, row_of, step_of, never}
 use Rattle.kt_disk.specs.Disk.{Files}
 use Rattle.kt_journal.specs.Log.{IsLog}
 use Rattle.kt_loglaws.specs.Replay.{empty}

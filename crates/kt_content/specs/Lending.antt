@@ -2,8 +2,8 @@
 use Rattle.std.specs.Prelude.{◌-◌, ◌≡◌, ◌<◌, ◌≤◌, ◌⊎◌, ℕ, Bool, true, false, List, [], ◌∷◌, ◌++◌, map, Some, None, Ok}
 use Rattle.kt_history.specs.declared.operation.RowOp.{RowOp}
 use Rattle.kt_history.specs.History.{Past, raise}
-use Rattle.kt_histlaws.specs.Histories.{row_of, first_some, AtMostOne, past_hist}
-use Rattle.kt_histlaws.specs.Flights.{Under}
+use Rattle.kt_histlaws.specs.Histories.{first_some, AtMostOne, past_hist}
+use Rattle.kt_history.specs.Stores.{row_of, Under, Hist}
 use Rattle.kt_records.specs.declared.entry.Entry.{Entry}
 use Rattle.kt_journal.specs.Log.{IsLog}
 use Rattle.kt_loglaws.specs.Fronts.{ops_of, with_records}
@@ -13,7 +13,6 @@ use Rattle.kt_history.specs.Operations.{effect}
 use Rattle.kt_history.specs.declared.change.Change.{Change}
 use Rattle.kt_history.specs.declared.target.Target.{Target}
 use Rattle.kt_history.specs.Rows.{Row}
-use Rattle.kt_histlaws.specs.Histories.{Hist}
 use Rattle.kt_histlaws.specs.Fitting.{AreSound}
 use Rattle.kt_histlaws.specs.Jobs.{AreAlike, push_all}
 use Rattle.kt_content.specs.Places.{Super, Place, memory, disk, Held, Moves, held_in, at_first, standing, row_there, live_in, row_before, needed_in, AboveRedos, places_of}

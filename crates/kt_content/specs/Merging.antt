@@ -1,6 +1,7 @@
 -- The histories of one key in several stores, joined to one.
 use Rattle.std.specs.Prelude.{ℕ, List, [], ◌∷◌, ◌++◌, map}
-use Rattle.kt_histlaws.specs.Histories.{Steps, Hist, row_of, first_some, ShowsKey}
+use Rattle.kt_histlaws.specs.Histories.{first_some, ShowsKey}
+use Rattle.kt_history.specs.Stores.{Steps, Hist, row_of}
 use Rattle.kt_histlaws.specs.Fitting.{RiseAbove, steps_above}
 use Rattle.kt_histlaws.specs.Jobs.{AreAlike}
 use Rattle.kt_content.specs.Files.{rising}

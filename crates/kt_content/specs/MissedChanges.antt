@@ -4,7 +4,8 @@ use Rattle.kt_history.specs.declared.change.Change.{Change}
 use Rattle.kt_history.specs.declared.change.Change.TheVariants.{Ins, Upd, Del}
 use Rattle.kt_history.specs.declared.changes.Delta.{Delta}
 use Rattle.kt_history.specs.Rows.{Row, apply}
-use Rattle.kt_histlaws.specs.Histories.{Steps, Hist, row_of, step_of, on_nth, first_some, Alone}
+use Rattle.kt_histlaws.specs.Histories.{on_nth, first_some, Alone}
+use Rattle.kt_history.specs.Stores.{Steps, Hist, row_of, step_of}
 use Rattle.kt_histlaws.specs.Flights.{UpTo, AllUnder}
 use Rattle.kt_histlaws.specs.Fitting.{AreSound, Rises}
 use Rattle.kt_histlaws.specs.Jobs.{AreAlike, IsFilled, push_all}

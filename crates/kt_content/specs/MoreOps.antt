@@ -5,8 +5,7 @@ use Rattle.kt_history.specs.declared.operation.RowOp.{RowOp}
 use Rattle.kt_history.specs.declared.target.Target.{Target}
 use Rattle.kt_history.specs.Rows.{Row}
 use Rattle.kt_history.specs.Operations.{effect}
-use Rattle.kt_histlaws.specs.Histories.{Hist, push}
-use Rattle.kt_histlaws.specs.Flights.{Under}
+use Rattle.kt_history.specs.Stores.{Hist, push, Under}
 use Rattle.kt_content.specs.Places.{Super, Place, memory, same_place, Held, standing, live_in, row_before, needed_in, OneLive, places_of}
 use Rattle.kt_content.specs.KeyOps.{KeyOp, decided, to_live, played}
 use Rattle.kt_content.specs.Content.{Shown, UntoldLiveOnce}

@@ -9,7 +9,7 @@ use Rattle.kt_history.specs.Operations.{DifferentKeys}
 use Rattle.kt_records.specs.declared.entry.Entry.{Entry}
 use Rattle.kt_records.specs.declared.entry.Entry.TheVariants.{Replicate, Commit}
 use Rattle.kt_records.specs.declared.entry.CommitRow.{CommitRow}
-use Rattle.kt_histlaws.specs.Histories.{Store, hist_in, push}
+use Rattle.kt_history.specs.Stores.{Store, hist_in, push}
 use Rattle.kt_journal.specs.Log.{IsLog}
 use Rattle.kt_loglaws.specs.Replay.{commit_of}
 use Rattle.kt_content.specs.Places.{Super, Place, same_place, Held, Moves, standing}

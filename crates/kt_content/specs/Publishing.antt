@@ -5,7 +5,7 @@ use Rattle.kt_history.specs.declared.change.Change.{Change}
 use Rattle.kt_history.specs.declared.target.Target.{Target}
 use Rattle.kt_history.specs.Rows.{Row}
 use Rattle.kt_history.specs.Operations.{effect}
-use Rattle.kt_histlaws.specs.Histories.{Hist}
+use Rattle.kt_history.specs.Stores.{Hist}
 use Rattle.kt_histlaws.specs.Fitting.{AreSound}
 use Rattle.kt_histlaws.specs.Jobs.{AreAlike}
 use Rattle.kt_content.specs.Places.{Super, Place, Held, Moves, held_in, standing, row_there, live_in, needed_in}

@@ -8,8 +8,9 @@ use Rattle.kt_history.specs.Rows.{Row, key_cmp}
 use Rattle.kt_history.specs.History.{Past, raise}
 use Rattle.kt_records.specs.declared.entry.Entry.{Entry}
 use Rattle.kt_records.specs.declared.entry.CommitRow.{CommitRow}
-use Rattle.kt_histlaws.specs.Histories.{Hist, past_hist}
-use Rattle.kt_histlaws.specs.Flights.{Under, UpTo}
+use Rattle.kt_histlaws.specs.Histories.{past_hist}
+use Rattle.kt_history.specs.Stores.{Hist, Under}
+use Rattle.kt_histlaws.specs.Flights.{UpTo}
 use Rattle.kt_disk.specs.Disk.{Files}
 use Rattle.kt_loglaws.specs.Fronts.{with_records}
 use Rattle.kt_content.specs.Rules.{Rules}

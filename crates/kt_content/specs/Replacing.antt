@@ -3,7 +3,8 @@ use Rattle.std.specs.Prelude.{◌≡◌, ◌≤◌, ◌<◌, ℕ, Bool, max, Lis
 use Rattle.kt_history.specs.Rows.{Row}
 use Rattle.kt_history.specs.History.{Past, IsPast, IsPastUpTo, raise}
 use Rattle.kt_records.specs.declared.entry.Entry.{Entry}
-use Rattle.kt_histlaws.specs.Histories.{Hist, past_hist, ShowsKey}
+use Rattle.kt_histlaws.specs.Histories.{past_hist, ShowsKey}
+use Rattle.kt_history.specs.Stores.{Hist, Under}
 use Rattle.kt_histlaws.specs.Fitting.{AreSound}
 use Rattle.kt_histlaws.specs.Jobs.{AreAlike}
 use Rattle.kt_journal.specs.Log.{IsLog}
@@ -16,7 +17,6 @@ use Rattle.kt_content.specs.Agreement.{Agree, all_moved}
 use Rattle.kt_content.specs.Publishing.{kept, gone, AllCarried, AllCarry}
 use Rattle.kt_content.specs.Records.{AllTold}
 use Rattle.kt_content.specs.MoreOps.{PlacesDiffer, BeginsInMemory, untold, with_op}
-use Rattle.kt_histlaws.specs.Flights.{Under}
 use Rattle.kt_history.specs.declared.operation.RowOp.{RowOp}
 use Rattle.kt_content.specs.Rules.{Rules, RowsetsPass}
 

@@ -9,7 +9,7 @@ use Rattle.kt_history.specs.Rows.{Row, Rows, with_cells, cells_under}
 use Rattle.kt_history.specs.Operations.{effect}
 use Rattle.kt_records.specs.declared.entry.Entry.{Entry}
 use Rattle.kt_records.specs.declared.entry.Entry.TheVariants.{Replicate, Commit}
-use Rattle.kt_histlaws.specs.Histories.{Steps, Hist, row_of, never}
+use Rattle.kt_history.specs.Stores.{Steps, Hist, row_of, never}
 use Rattle.kt_histlaws.specs.Flights.{AllOps}
 use Rattle.kt_content.specs.Files.{DiskRowset}
 

@@ -4,7 +4,7 @@ use Rattle.kt_history.specs.declared.change.Change.{Change}
 use Rattle.kt_history.specs.declared.operation.RowOp.{RowOp}
 use Rattle.kt_history.specs.Rows.{Row}
 use Rattle.kt_history.specs.Operations.{effect}
-use Rattle.kt_histlaws.specs.Histories.{Steps, Hist, step_of}
+use Rattle.kt_history.specs.Stores.{Steps, Hist, step_of}
 use Rattle.kt_histlaws.specs.Fitting.{AreSound, Rises, steps_above}
 use Rattle.kt_histlaws.specs.Jobs.{push_all}
 use Rattle.kt_content.specs.Places.{Place, memory, same_place, Held, held_in, Moves, standing, row_there, row_before, live_in}

@@ -7,7 +7,7 @@ use Rattle.kt_seatlock.specs.Trails.{Adds, KeepsParts}
 use Rattle.kt_history.specs.declared.target.Target.{Target}
 use Rattle.kt_history.specs.Machine.{Workload}
 use Rattle.kt_journal.specs.Open.{JournalView}
-use Rattle.kt_histlaws.specs.Histories.{Store}
+use Rattle.kt_history.specs.Stores.{Store}
 use Rattle.kt_histlaws.specs.Parts.{SessionPart, part}
 use Rattle.kt_engine.specs.Logged.{place_of}
 use Rattle.kt_engine.specs.Engines.{EngineView}

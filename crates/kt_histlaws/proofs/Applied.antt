@@ -8,7 +8,8 @@ use Rattle.kt_history.specs.declared.operation.RowOp.{RowOp}
 use Rattle.kt_history.specs.Rows.{key_cmp}
 use Rattle.kt_history.specs.History.{rows_at}
 use Rattle.kt_history.specs.Operations.{effect, effect_on}
-use Rattle.kt_histlaws.specs.Histories.{hists, row_of, step_at, timeline, Alone, pushed, on_nth}
+use Rattle.kt_histlaws.specs.Histories.{hists, timeline, Alone, pushed, on_nth}
+use Rattle.kt_history.specs.Stores.{row_of, step_at}
 use Rattle.kt_histlaws.specs.Pending.{Aloft}
 use Rattle.kt_histlaws.specs.Flights.{OpFlies}
 use Rattle.kt_histlaws.specs.Core.{Core, flown_by, IsFlown, Stands, live, run_past}

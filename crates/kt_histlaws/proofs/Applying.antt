@@ -9,9 +9,10 @@ use Rattle.kt_history.specs.declared.change.Change.{Change}
 use Rattle.kt_history.specs.Rows.{Row, apply, key_cmp}
 use Rattle.kt_history.specs.History.{Past, PastWrite, IsPast, IsUpTo, Rise, replay_row, row_after, rows_at}
 use Rattle.kt_history.proofs.KeyLaws.{find-rows_at}
-use Rattle.kt_histlaws.specs.Histories.{Steps, Hist, Store, after_steps, row_of, step_at, step_of, push, hist_in, hists, on_nth, pushed, first_some, Alone, ShowsKey, joined, timeline, past_hist}
+use Rattle.kt_histlaws.specs.Histories.{hists, on_nth, pushed, first_some, Alone, ShowsKey, joined, timeline, past_hist}
+use Rattle.kt_history.specs.Stores.{Steps, Hist, Store, after_steps, row_of, step_at, step_of, push, hist_in, Under}
 use Rattle.kt_histlaws.specs.Pending.{Aloft, is_pending, done_writes, done, Same}
-use Rattle.kt_histlaws.specs.Flights.{UpTo, Under, AllUnder}
+use Rattle.kt_histlaws.specs.Flights.{UpTo, AllUnder}
 use Rattle.kt_histlaws.specs.Fitting.{Rises}
 use Rattle.kt_histlaws.proofs.OneKey.{shows-push, none_left, none_right, length_map}
 use Rattle.kt_histlaws.proofs.Pending.{same_key, hists-pushed_same, hists-pushed_other, timeline-done, filter-agree, shows_alike, timeline-up_to}

@@ -7,7 +7,8 @@ use Rattle.std.specs.FinMap.Entries.{find, is_sorted, is_sorted-put, is_sorted-w
 use Rattle.std.proofs.lemmas.Cmp.{nat_list_cmp_total}
 use Rattle.kt_history.specs.Rows.{Row, Rows, Changes, apply, set_row, changed, key_cmp}
 use Rattle.kt_history.specs.History.{Past, PastWrite, IsPast, replay, rows_at}
-use Rattle.kt_histlaws.specs.Histories.{Store, Shows}
+use Rattle.kt_histlaws.specs.Histories.{Shows}
+use Rattle.kt_history.specs.Stores.{Store}
 use Rattle.kt_histlaws.specs.Laws.{stores_show_one_change}
 use Rattle.kt_histlaws.proofs.Applying.{row-past}
 

@@ -5,7 +5,7 @@ use Rattle.std.proofs.lemmas.Bool.{cases_lt, le-leb, lt-leb, lt-ltb, le-ltb}
 use Rattle.kt_base.specs.declared.cell.Cell.TheVariants as cell
 use Rattle.kt_history.specs.declared.change.Change.TheVariants.{Ins, Upd, Del}
 use Rattle.kt_history.specs.Rows.{Row, apply, undo}
-use Rattle.kt_histlaws.specs.Histories.{Steps, after_steps, row_of}
+use Rattle.kt_history.specs.Stores.{Steps, after_steps, row_of}
 use Rattle.kt_histlaws.specs.Disks.{DiskRow, back, disk_row_at, before_all, led_over, hist_of, AreUndos}
 use Rattle.kt_histlaws.proofs.OneKey.{after_steps-append}
 

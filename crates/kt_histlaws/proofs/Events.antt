@@ -12,7 +12,8 @@ use Rattle.kt_history.specs.Operations.{changes_on}
 use Rattle.kt_history.specs.Machine.{HasDifferentKeys, Allowed, MayBegin, after, start, state_after, IsRun, ops_of, command_at, set_nth, least, clean_below, IfMark, Turn, first_turns}
 use Rattle.kt_history.proofs.Runs.{of_write, IsRunFrom-append, state_after-append, begins_above, c_rises}
 use Rattle.kt_history.proofs.PastLaws.{ends_after}
-use Rattle.kt_histlaws.specs.Histories.{Steps, Shows, hists, timeline}
+use Rattle.kt_histlaws.specs.Histories.{Shows, hists, timeline}
+use Rattle.kt_history.specs.Stores.{Steps}
 use Rattle.kt_histlaws.specs.Pending.{Aloft, Same, done, has_key, is_pending}
 use Rattle.kt_histlaws.specs.Flights.{AllFly, AreDisjoint, SharesNone}
 use Rattle.kt_histlaws.specs.Core.{Core, flown_by, now, IsFlown, Stands}

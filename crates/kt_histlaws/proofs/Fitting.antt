@@ -8,8 +8,9 @@ use Rattle.kt_history.specs.declared.operation.OpKind.{OpKind}
 use Rattle.kt_history.specs.declared.operation.OpKind.TheVariants.{Insert, Upsert, Update, Delete, InsertIgnore, UpdateIgnore, DeleteIgnore}
 use Rattle.kt_history.specs.Rows.{Row, fits}
 use Rattle.kt_history.specs.Operations.{effect}
-use Rattle.kt_histlaws.specs.Histories.{Steps, Hist, row_of, step_of, push, on_nth, or_else, first_some, Alone, nth_option}
-use Rattle.kt_histlaws.specs.Flights.{Under, AllUnder}
+use Rattle.kt_histlaws.specs.Histories.{on_nth, or_else, first_some, Alone, nth_option}
+use Rattle.kt_history.specs.Stores.{Steps, Hist, row_of, step_of, push, Under}
+use Rattle.kt_histlaws.specs.Flights.{AllUnder}
 use Rattle.kt_histlaws.specs.Fitting.{IfFits, AllFit, FitAbove, steps_above, Rises, RiseAbove, AreSound}
 use Rattle.kt_histlaws.proofs.OneKey.{row-push_below, step-push_other, step-push_at}
 use Rattle.kt_histlaws.proofs.Applying.{none_under, row-settled}

@@ -14,7 +14,8 @@ use Rattle.kt_history.specs.History.{Past, IsUpTo, rows_at, with_write}
 use Rattle.kt_history.specs.Operations.{effect_on, changes_on, share_key, keyed, DifferentKeys}
 use Rattle.kt_history.specs.Machine.{Flying, least, clean_below}
 use Rattle.kt_history.proofs.RowLaws.{rows_at-with_write_below}
-use Rattle.kt_histlaws.specs.Histories.{Steps, step_at, joined, timeline, or_else}
+use Rattle.kt_histlaws.specs.Histories.{joined, timeline, or_else}
+use Rattle.kt_history.specs.Stores.{Steps, step_at}
 use Rattle.kt_histlaws.specs.Pending.{has_key}
 use Rattle.kt_histlaws.specs.Flights.{UpTo, OpFlies, AllOps, AllFly, SharesNone, AreDisjoint}
 use Rattle.kt_histlaws.proofs.OneKey.{step_at-append}

@@ -4,7 +4,8 @@ use Rattle.std.proofs.lemmas.Bool.{cases_lt, cases_eq}
 use Rattle.std.proofs.lemmas.List.{map-append, append-nil}
 use Rattle.kt_history.specs.declared.change.Change.{Change}
 use Rattle.kt_history.specs.Rows.{apply}
-use Rattle.kt_histlaws.specs.Histories.{Steps, Hist, row_of, step_of, push, on_nth, or_else, first_some, AtMostOne, Alone, ShowsKey}
+use Rattle.kt_histlaws.specs.Histories.{on_nth, or_else, first_some, AtMostOne, Alone, ShowsKey}
+use Rattle.kt_history.specs.Stores.{Steps, Hist, row_of, step_of, push}
 use Rattle.kt_histlaws.specs.Jobs.{AreAlike, IsFilled, push_all}
 use Rattle.kt_histlaws.specs.Fitting.{Rises}
 use Rattle.kt_histlaws.proofs.OneKey.{first-on_nth, one-on_nth, alone_of_none, map-on_nth, map-on_nth_still, row-push_below, row-push_from, step-push_other, step-push_at, length_map}

@@ -5,7 +5,8 @@ use Rattle.std.proofs.lemmas.Bool.{cases_lt, cases_eq, eq-eqb, ne_eqb, le-leb, l
 use Rattle.std.proofs.Common.{inl, inr}
 use Rattle.kt_history.specs.declared.change.Change.{Change}
 use Rattle.kt_history.specs.Rows.{Row, apply}
-use Rattle.kt_histlaws.specs.Histories.{Steps, Hist, after_steps, row_of, step_at, step_of, push, on_nth, or_else, first_some, AtMostOne, Alone, nth_option, ShowsKey}
+use Rattle.kt_histlaws.specs.Histories.{on_nth, or_else, first_some, AtMostOne, Alone, nth_option, ShowsKey}
+use Rattle.kt_history.specs.Stores.{Steps, Hist, after_steps, row_of, step_at, step_of, push}
 
 -- lists of options
 

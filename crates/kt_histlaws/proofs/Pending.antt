@@ -16,7 +16,8 @@ use Rattle.kt_history.specs.declared.change.Change.{Change}
 use Rattle.kt_history.specs.declared.operation.RowOp.{RowOp}
 use Rattle.kt_history.specs.Rows.{Changes, key_cmp}
 use Rattle.kt_history.specs.History.{Past, PastWrite, IsUpTo, with_write}
-use Rattle.kt_histlaws.specs.Histories.{Steps, Store, push, never, hist_in, hists, on_nth, pushed, ShowsKey, Shows, joined, timeline}
+use Rattle.kt_histlaws.specs.Histories.{hists, on_nth, pushed, ShowsKey, Shows, joined, timeline}
+use Rattle.kt_history.specs.Stores.{Steps, Store, push, never, hist_in}
 use Rattle.kt_histlaws.specs.Pending.{Aloft, has_key, is_pending, keep_write, done_writes, done, Same}
 use Rattle.kt_histlaws.specs.Flights.{UpTo}
 use Rattle.kt_histlaws.proofs.OneKey.{map-on_nth, map-on_nth_still}

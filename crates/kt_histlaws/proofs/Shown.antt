@@ -8,9 +8,10 @@ use Rattle.std.proofs.lemmas.Bool.{ne_eqb, and_parts, ltb-true, eqb-true}
 use Rattle.kt_history.specs.declared.operation.RowOp.{RowOp}
 use Rattle.kt_history.specs.Rows.{Row, key_cmp}
 use Rattle.kt_history.specs.History.{Past, rows_at}
-use Rattle.kt_histlaws.specs.Histories.{Steps, hists, row_of, step_at, timeline, AtMostOne, Alone, nth_option}
+use Rattle.kt_histlaws.specs.Histories.{hists, timeline, AtMostOne, Alone, nth_option}
+use Rattle.kt_history.specs.Stores.{Steps, row_of, step_at, Under}
 use Rattle.kt_histlaws.specs.Pending.{Aloft, has_key, is_pending}
-use Rattle.kt_histlaws.specs.Flights.{AllOps, AllFly, OpFlies, UpTo, Under}
+use Rattle.kt_histlaws.specs.Flights.{AllOps, AllFly, OpFlies, UpTo}
 use Rattle.kt_histlaws.specs.Core.{Core, flown_by, ChangesLieInOrder, Stands, live, run_past}
 use Rattle.kt_histlaws.proofs.OneKey.{alone_of_one}
 use Rattle.kt_histlaws.proofs.Pending.{same_key, timeline-done}

@@ -4,7 +4,8 @@ use Rattle.kt_history.specs.declared.event.Event.{Event}
 use Rattle.kt_history.specs.Rows.{Row}
 use Rattle.kt_history.specs.History.{Past, IsPastUpTo}
 use Rattle.kt_history.specs.Machine.{Workload, HasDifferentKeys, State, Flying, Turn, start, state_after, IsRun}
-use Rattle.kt_histlaws.specs.Histories.{Store, hists, row_of, first_some}
+use Rattle.kt_histlaws.specs.Histories.{hists, first_some}
+use Rattle.kt_history.specs.Stores.{Store, row_of}
 use Rattle.kt_histlaws.specs.Pending.{Aloft, Same, is_pending}
 use Rattle.kt_histlaws.specs.Flights.{AllFly, AreDisjoint, AllUnder}
 use Rattle.kt_histlaws.specs.Fitting.{AreSound}

@@ -1,7 +1,7 @@
 -- A row of a disk rowset: its base row, its UNDO records from the newest, its REDO changes from the oldest.
 use Rattle.std.specs.Prelude.{◌≡◌, ◌<◌, ℕ, [], ◌∷◌, ◌++◌, Option, Some, nat_lt, if◌then◌else◌}
 use Rattle.kt_history.specs.Rows.{Row, apply, undo}
-use Rattle.kt_histlaws.specs.Histories.{Steps, Hist, after_steps}
+use Rattle.kt_history.specs.Stores.{Steps, Hist, after_steps}
 
 pub record DiskRow : Type 0 where
   pub base : Row

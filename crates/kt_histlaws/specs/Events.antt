@@ -7,7 +7,8 @@ use Rattle.kt_history.specs.declared.event.Event.{Event}
 use Rattle.kt_history.specs.declared.event.Event.TheVariants as event
 use Rattle.kt_history.specs.Operations.{effect}
 use Rattle.kt_history.specs.Machine.{Turn, set_nth, least, clean_below}
-use Rattle.kt_histlaws.specs.Histories.{Store, pushed, on_nth}
+use Rattle.kt_histlaws.specs.Histories.{pushed, on_nth}
+use Rattle.kt_history.specs.Stores.{Store}
 use Rattle.kt_histlaws.specs.Pending.{Aloft}
 use Rattle.kt_histlaws.specs.Core.{Core, flown_by, live}
 

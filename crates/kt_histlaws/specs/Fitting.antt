@@ -3,7 +3,7 @@ use Rattle.std.specs.Prelude.{◌≡◌, ◌<◌, ◌-◌, ℕ, true, List, [], 
 use Rattle.std.specs.List.{filter}
 use Rattle.kt_history.specs.declared.change.Change.{Change}
 use Rattle.kt_history.specs.Rows.{Row, fits}
-use Rattle.kt_histlaws.specs.Histories.{Steps, Hist, row_of, step_of}
+use Rattle.kt_history.specs.Stores.{Steps, Hist, row_of, step_of}
 
 abbrev pub IfFits : Option Change → Option Row → Type 0
 IfFits None row = Unit {0}

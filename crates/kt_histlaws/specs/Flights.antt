@@ -5,17 +5,13 @@ use Rattle.kt_history.specs.Rows.{Row}
 use Rattle.kt_history.specs.History.{Past, rows_at}
 use Rattle.kt_history.specs.Operations.{effect_on, share_key, DifferentKeys}
 use Rattle.kt_history.specs.Machine.{Flying}
-use Rattle.kt_histlaws.specs.Histories.{Steps, Hist, step_at, timeline}
+use Rattle.kt_histlaws.specs.Histories.{timeline}
+use Rattle.kt_history.specs.Stores.{Steps, Hist, step_at, Under}
 
 -- nothing above u
 abbrev pub UpTo : ℕ → Steps → Type 0
 UpTo u [] = Unit {0}
 UpTo u (c ∷ steps) = (c.0 ≤ u) × UpTo u steps
-
--- every change lies below
-abbrev pub Under : ℕ → Steps → Type 0
-Under ts [] = Unit {0}
-Under ts (c ∷ steps) = (c.0 < ts) × Under ts steps
 
 abbrev pub AllUnder : ℕ → List Hist → Type 0
 AllUnder ts [] = Unit {0}

@@ -4,49 +4,7 @@ use Rattle.std.specs.FinMap.Entries.{find, put}
 use Rattle.kt_history.specs.declared.change.Change.{Change}
 use Rattle.kt_history.specs.Rows.{Row, apply, key_cmp}
 use Rattle.kt_history.specs.History.{Past, PastWrite}
-
--- changes of one row, by rising timestamp
-abbrev pub Steps : Type 0
-Steps = List (ℕ × Change)
-
--- a row: what it was before its changes, and these
-pub record Hist : Type 0 where
-  pub first : Option Row
-  pub steps : Steps
-
--- the row after the changes at or below t
-abbrev pub after_steps : ℕ → Steps → Option Row → Option Row
-after_steps t [] row = row
-after_steps t (c ∷ steps) row = after_steps t steps (if nat_le c.0 t then apply c.1 row else row)
-
--- the row at t
-abbrev pub row_of : ℕ → Hist → Option Row
-row_of t h = after_steps t h.steps h.first
-
--- the change at t, the first where there are two
-abbrev pub step_at : ℕ → Steps → Option Change
-step_at t [] = None
-step_at t (c ∷ steps) = if c.0 == t then Some c.1 else step_at t steps
-
--- its change at t
-abbrev pub step_of : ℕ → Hist → Option Change
-step_of t h = step_at t h.steps
-
--- with one change more
-abbrev pub push : ℕ → Change → Hist → Hist
-push ts c h = record h { steps = h.steps ++ (ts, c) ∷ [] }
-
--- what a store has of a key that it lacks
-abbrev pub never : Hist
-never = record { first = None; steps = [] }
-
--- a store: the histories of its rows, by key
-abbrev pub Store : Type 0
-Store = List (List ℕ × Hist)
-
--- what a store has of a key
-abbrev pub hist_in : List ℕ → Store → Hist
-hist_in q store = unwrap_or (find key_cmp q store) never
+use Rattle.kt_history.specs.Stores.{Steps, Hist, row_of, step_of, push, Store, hist_in}
 
 -- what each store has of a key
 abbrev pub hists : List ℕ → List Store → List Hist

@@ -1,6 +1,7 @@
 -- A job's outputs beside its inputs, for one key.
 use Rattle.std.specs.Prelude.{◌≡◌, ◌<◌, ◌≤◌, ℕ, List, ◌++◌, map}
-use Rattle.kt_histlaws.specs.Histories.{Steps, Hist, row_of, step_of, first_some, AtMostOne}
+use Rattle.kt_histlaws.specs.Histories.{first_some, AtMostOne}
+use Rattle.kt_history.specs.Stores.{Steps, Hist, row_of, step_of}
 
 -- two lists of histories show the same from a on
 pub record AreAlike (a : ℕ) (xs ys : List Hist) : Type 0 where

@@ -9,7 +9,8 @@ use Rattle.kt_history.specs.Rows.{key_cmp}
 use Rattle.kt_history.specs.History.{Past, IsPast, IsPastUpTo, rows_at}
 use Rattle.kt_history.specs.Operations.{effect, effect_on}
 use Rattle.kt_history.specs.Machine.{HasDifferentKeys, Allowed, ops_of, command_at, none_flies, first_turns}
-use Rattle.kt_histlaws.specs.Histories.{Steps, Hist, Store, hists, row_of, step_of, push, on_nth, first_some, AtMostOne, Alone, nth_option, step_at, timeline, ShowsKey, Shows}
+use Rattle.kt_histlaws.specs.Histories.{hists, on_nth, first_some, AtMostOne, Alone, nth_option, timeline, ShowsKey, Shows}
+use Rattle.kt_history.specs.Stores.{Steps, Hist, Store, row_of, step_of, push, step_at}
 use Rattle.kt_histlaws.specs.Fitting.{AreSound, Rises}
 use Rattle.kt_histlaws.specs.Core.{Core, ChangesLieInOrder, Stands, now, flown_by, live, run_past}
 use Rattle.kt_histlaws.specs.Events.{IsNextOp, IsOver, begun, applied, ended, looked, answered_rows, marked, answered, halted}

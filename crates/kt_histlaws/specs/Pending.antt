@@ -5,7 +5,8 @@ use Rattle.std.specs.Ordering.{eq_by_cmp}
 use Rattle.kt_history.specs.declared.operation.RowOp.{RowOp}
 use Rattle.kt_history.specs.Rows.{Changes, key_cmp}
 use Rattle.kt_history.specs.History.{Past, PastWrite}
-use Rattle.kt_histlaws.specs.Histories.{Store, Shows}
+use Rattle.kt_histlaws.specs.Histories.{Shows}
+use Rattle.kt_history.specs.Stores.{Store}
 
 -- a flying write, of which the first rows are applied
 pub record Aloft : Type 0 where

@@ -1,8 +1,8 @@
 //! The tablet as a machine: what changes do to rows, what a history is, which lines may come next, and the
 //! reply that each line gives. The types are the plain values that contracts speak of.
 //!
-//! For the layers above: the definitions in `specs/`, and the laws of `laws` over them. It stands on kt_base and
-//! kt_cells.
+//! For the layers above: the definitions in `specs/`, the laws of `laws` over them, and what a store of rows is. It
+//! stands on kt_base, kt_cells and kt_pool.
 #![tactic(auto)]
 
 pub mod change;
@@ -18,6 +18,7 @@ pub mod operation;
 pub mod reply;
 pub mod row_list;
 pub mod row_ref;
+pub mod row_store;
 pub mod scan;
 mod shared_texts;
 pub mod target;
@@ -35,6 +36,7 @@ pub use operation::{OpKind, RowOp, Write};
 pub use reply::{OutcomeList, Reply};
 pub use row_list::{RowCells, RowList};
 pub use row_ref::RowRef;
+pub use row_store::{RowStore, Taken, kind_made};
 pub use scan::{At, ColumnIds, Pred, PredList, Scan, Test};
 pub use target::{Kindly, Target};
 pub use view::View;

@@ -8,7 +8,7 @@ use Rattle.std.specs.FinMap.Entries.{find as find_key, put as put_key}
 use Rattle.std.proofs.lemmas.Bool.{cases_lt, cases_eq, false≢true}
 use Rattle.kt_history.specs.Rows.{key_cmp, fits}
 use Rattle.kt_history.specs.declared.operation.RowOp.{RowOp}
-use Rattle.kt_histlaws.specs.Histories.{Hist, push, hist_in}
+use Rattle.kt_history.specs.Stores.{Hist, push, hist_in, last_row, share, change_of}
 use Rattle.kt_pool.specs.Contents.{Contents, Stands, at_cell, bytes_at, cells_for}
 use Rattle.kt_pool.specs.declared.place.Place.{Place}
 use Rattle.kt_tree.specs.Entries.{Entry, value_of, put}
@@ -18,8 +18,8 @@ use Rattle.kt_tree.specs.declared.tree.Tree.{Tree}
 use Rattle.kt_tree.proofs.Callers.{owned, still_tree, still_entries, still_owns, owns_still}
 use Rattle.kt_tree.proofs.Places.{stands_some, one_same, one_other}
 use Rattle.kt_memrowset.specs.declared.store.MemRowSet.{MemRowSet}
-use Rattle.kt_memrowset.specs.Links.{nothing, change_of, Link, IsLink, spelling, chain, cells_of, times, step_of, steps_of}
-use Rattle.kt_memrowset.specs.Stores.{hist_of, row_at, store_of, last_row, in_rows, trail, cells_at, cells_had, Owns, IsStore, link_need, share, cells_taken, change_by, Joins}
+use Rattle.kt_memrowset.specs.Links.{nothing, Link, IsLink, spelling, chain, cells_of, times, step_of, steps_of}
+use Rattle.kt_memrowset.specs.Stores.{hist_of, row_at, store_of, in_rows, trail, cells_at, cells_had, Owns, IsStore, link_need, cells_taken, change_by, Joins}
 use Rattle.kt_memrowset.specs.Writes.{IsFresh, Extends}
 use Rattle.kt_memrowset.proofs.Links.{link_bytes, length-spelling, length-cells}
 use Rattle.kt_memrowset.proofs.Chains.{link_kept}

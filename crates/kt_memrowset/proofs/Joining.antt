@@ -6,15 +6,15 @@ use Rattle.std.proofs.lemmas.List.{map-append}
 use Rattle.kt_history.specs.Rows.{Row, apply, fits}
 use Rattle.kt_history.specs.declared.target.Kindly.{Kindly}
 use Rattle.kt_history.specs.declared.target.Kindly.TheVariants.{Ins, Upd, Del}
-use Rattle.kt_histlaws.specs.Histories.{Steps}
+use Rattle.kt_history.specs.Stores.{Steps, apply_all, change_of}
 use Rattle.kt_pool.specs.Contents.{Contents, at_cell}
 use Rattle.kt_tree.specs.Entries.{Entry}
 use Rattle.kt_tree.specs.Trees as trees
 use Rattle.kt_tree.proofs.Places.{one_other}
 use Rattle.kt_memrowset.specs.declared.link.Head.{Head}
 use Rattle.kt_memrowset.specs.declared.store.MemRowSet.{MemRowSet}
-use Rattle.kt_memrowset.specs.Links.{change_of, Link, IsLink, Chains, chain, cells_of, times, newest_kind, IsMarked, step_of, steps_of}
-use Rattle.kt_memrowset.specs.Stores.{hist_of, row_at, store_of, apply_all, stays, IsTold, RowStands, in_rows, before_at, Trails, trail, IsStore}
+use Rattle.kt_memrowset.specs.Links.{Link, IsLink, Chains, chain, cells_of, times, newest_kind, IsMarked, step_of, steps_of}
+use Rattle.kt_memrowset.specs.Stores.{hist_of, row_at, store_of, stays, IsTold, RowStands, in_rows, before_at, Trails, trail, IsStore}
 use Rattle.kt_memrowset.specs.Writes.{LeadsOn}
 use Rattle.kt_memrowset.proofs.Links.{link_head}
 use Rattle.kt_memrowset.proofs.Chains.{chain_is}

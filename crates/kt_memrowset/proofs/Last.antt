@@ -3,9 +3,8 @@ use Rattle.std.proofs.Common.{◌≡◌, ℕ, ◌≤◌, true, cond, [], ◌∷�
 use Rattle.std.specs.Prelude.{nat_le}
 use Rattle.std.proofs.lemmas.Bool.Decides.{nat_tests}
 use Rattle.kt_history.specs.Rows.{Row, apply}
-use Rattle.kt_histlaws.specs.Histories.{Hist, Steps, row_of, after_steps}
-use Rattle.kt_histlaws.specs.Flights.{UpTo, Under}
-use Rattle.kt_memrowset.specs.Stores.{apply_all, last_row}
+use Rattle.kt_history.specs.Stores.{Hist, Steps, row_of, after_steps, Under, apply_all, last_row}
+use Rattle.kt_histlaws.specs.Flights.{UpTo}
 
 test_le : (a b : ℕ) → a ≤ b → nat_le a b ≡ true
 test_le a b h = grind (arith, nat_tests)

@@ -12,3 +12,4 @@ pub mod Applying
 pub mod Releasing
 pub mod Listing
 pub mod Last
+pub mod RowStores

@@ -13,7 +13,7 @@ use Rattle.kt_cells.proofs.InPlace.{whole_behind}
 use Rattle.kt_history.specs.AsBytes.{change_with}
 use Rattle.kt_history.specs.declared.change.Change.{Change}
 use Rattle.kt_history.specs.declared.changes.KeyChange.{KeyChange}
-use Rattle.kt_histlaws.specs.Histories.{Steps}
+use Rattle.kt_history.specs.Stores.{Steps, changes_upto, key_change, row_changes}
 use Rattle.kt_pool.specs.Contents.{Contents, bytes_at}
 use Rattle.kt_tree.specs.Entries.{Entry}
 use Rattle.kt_tree.specs.InOrder.{IsWalk, IsFirst, to_come}
@@ -23,7 +23,7 @@ use Rattle.kt_tree.specs.declared.walk.Walk.{Walk}
 use Rattle.kt_memrowset.specs.declared.link.Head.{Head}
 use Rattle.kt_memrowset.specs.declared.store.MemRowSet.{MemRowSet}
 use Rattle.kt_memrowset.specs.Links.{nothing, Link, IsLink, link_at, head_of, Chains, chain, IsChainAt, step_of, steps_of}
-use Rattle.kt_memrowset.specs.Stores.{row_at, store_of, in_rows, IsStore, key_change, row_changes, changes_upto, Lists, Walks}
+use Rattle.kt_memrowset.specs.Stores.{row_at, store_of, in_rows, IsStore, Lists, Walks}
 use Rattle.kt_memrowset.proofs.Links.{link_again, link_head, link_cells}
 use Rattle.kt_memrowset.proofs.Rows.{next_chain}
 use Rattle.kt_memrowset.proofs.Frames.{RowsStand, in_rows-append, rows_right}

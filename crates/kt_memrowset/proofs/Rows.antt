@@ -14,7 +14,7 @@ use Rattle.kt_history.specs.declared.operation.OpKind.{OpKind}
 use Rattle.kt_history.specs.declared.operation.OpKind.TheVariants.{Insert, Upsert, Update, Delete, InsertIgnore, UpdateIgnore, DeleteIgnore}
 use Rattle.kt_history.specs.declared.operation.RowOp.{RowOp}
 use Rattle.kt_history.specs.declared.target.Kindly.{Kindly}
-use Rattle.kt_histlaws.specs.Histories.{Hist, never, hist_in, after_steps}
+use Rattle.kt_history.specs.Stores.{Hist, never, hist_in, after_steps, last_row, kind_made, change_of}
 use Rattle.kt_histlaws.proofs.OneKey.{after_steps-append}
 use Rattle.kt_pool.specs.Contents.{Contents, bytes_at}
 use Rattle.kt_pool.specs.declared.place.Place.{Place}
@@ -22,9 +22,9 @@ use Rattle.kt_tree.specs.Entries.{Entry, order, is_at, value_of}
 use Rattle.kt_tree.specs.Trees.{place_at, entries}
 use Rattle.kt_memrowset.specs.declared.link.Head.{Head}
 use Rattle.kt_cells.specs.Reading.{cells_at}
-use Rattle.kt_memrowset.specs.Links.{nothing, change_of, Link, IsLink, link_at, head_of, Chains, chain, cells_of, times, newest, IsChainAt, step_of, steps_of}
-use Rattle.kt_memrowset.specs.Stores.{hist_of, row_at, store_of, last_row, change_by, stays, RowStands, EachValue, in_rows, IsStore, Leads}
-use Rattle.kt_memrowset.specs.Taking.{kind_made, links_from}
+use Rattle.kt_memrowset.specs.Links.{nothing, Link, IsLink, link_at, head_of, Chains, chain, cells_of, times, newest, IsChainAt, step_of, steps_of}
+use Rattle.kt_memrowset.specs.Stores.{hist_of, row_at, store_of, change_by, stays, RowStands, EachValue, in_rows, IsStore, Leads}
+use Rattle.kt_memrowset.specs.Taking.{links_from}
 use Rattle.kt_memrowset.specs.declared.store.MemRowSet.{MemRowSet}
 use Rattle.kt_memrowset.proofs.Links.{link_bytes, length-spelling, link_head, link_cells, link_again}
 use Rattle.kt_memrowset.proofs.Chains.{chain_is, newest_stands}

@@ -9,7 +9,7 @@ use Rattle.std.specs.declared.cmp.Ordering.{Ordering}
 use Rattle.std.specs.declared.cmp.Ordering.TheVariants.{Less, Equal, Greater}
 use Rattle.std.specs.FinMap.Entries.{by_order, put as put_key}
 use Rattle.kt_history.specs.Rows.{key_cmp}
-use Rattle.kt_histlaws.specs.Histories.{Hist}
+use Rattle.kt_history.specs.Stores.{Hist}
 use Rattle.kt_histlaws.proofs.Pending.{tied_keys, itself}
 use Rattle.kt_pool.specs.Contents.{Contents}
 use Rattle.kt_tree.specs.Entries.{Entry, order, AreBelow, AreAbove, IsRising, is_at, value_of, put_at, put}

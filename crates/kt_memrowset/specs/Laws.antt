@@ -4,7 +4,8 @@ use Rattle.kt_history.specs.declared.operation.RowOp.{RowOp}
 use Rattle.kt_pool.specs.Contents.{Contents, at_cell}
 use Rattle.kt_tree.specs.Trees.{need}
 use Rattle.kt_memrowset.specs.declared.store.MemRowSet.{MemRowSet}
-use Rattle.kt_memrowset.specs.Stores.{IsStore, store_of, Owns, cells_had, link_need, share}
+use Rattle.kt_memrowset.specs.Stores.{IsStore, store_of, Owns, cells_had, link_need}
+use Rattle.kt_history.specs.Stores.{share}
 
 -- the store stands at both, with the same rows in the same places and as many cells
 pub record StaysSo (s : MemRowSet) (old new : Contents) : Type 0 where

@@ -6,7 +6,7 @@ use Rattle.kt_history.specs.declared.change.Change.TheVariants as change
 use Rattle.kt_history.specs.declared.target.Kindly.{Kindly}
 use Rattle.kt_history.specs.declared.target.Kindly.TheVariants.{Ins, Upd, Del}
 use Rattle.kt_history.specs.Rows.{Row}
-use Rattle.kt_histlaws.specs.Histories.{Steps}
+use Rattle.kt_history.specs.Stores.{Steps, change_of}
 use Rattle.kt_cells.specs.Spelling.{cell_list}
 use Rattle.kt_cells.specs.Rules.{EachAfter, FollowingCell}
 use Rattle.kt_cells.specs.Reading.{cells_at}
@@ -16,12 +16,6 @@ use Rattle.kt_memrowset.specs.declared.link.Head.{Head}
 -- the cell of no change
 abbrev pub nothing : ℕ
 nothing = 0xffff_ffff
-
--- the change of this kind, whose cells are these
-abbrev pub change_of : Kindly → Row → Change
-change_of Ins cells = change.Ins cells
-change_of Upd cells = change.Upd cells
-change_of Del cells = change.Del
 
 abbrev pub kind_byte : Kindly → ℕ
 kind_byte Ins = 1

@@ -13,12 +13,12 @@ use Rattle.kt_history.specs.declared.target.Kindly.TheVariants.{Ins, Upd, Del}
 use Rattle.kt_history.specs.Rows.{Row, apply, key_cmp}
 use Rattle.std.specs.FinMap.Entries.{find, put}
 use Rattle.kt_history.specs.Operations.{op_len, cell_len}
-use Rattle.kt_histlaws.specs.Histories.{Hist, Store, Steps, after_steps, push, hist_in}
+use Rattle.kt_history.specs.Stores.{Hist, Store, Steps, after_steps, push, hist_in, last_row, row_changes, changes_upto, change_of}
 use Rattle.kt_pool.specs.Contents.{Contents, at_cell, bytes_at, cells_for, used}
 use Rattle.kt_tree.specs.Entries.{Entry, is_past}
 use Rattle.kt_tree.specs.Takes.{Takes}
 use Rattle.kt_tree.specs.Trees as trees
-use Rattle.kt_memrowset.specs.Links.{nothing, change_of, Link, Chains, chain, cells_of, times, newest, IsMarked, IsChainAt, steps_of}
+use Rattle.kt_memrowset.specs.Links.{nothing, Link, Chains, chain, cells_of, times, newest, IsMarked, IsChainAt, steps_of}
 use Rattle.kt_tree.specs.InOrder.{IsWalk, to_come}
 use Rattle.kt_tree.specs.declared.walk.Walk.{Walk}
 use Rattle.kt_memrowset.specs.declared.store.MemRowSet.{MemRowSet}
@@ -42,14 +42,6 @@ row_at pool e = (e.key, hist_of (chain pool e.value))
 -- the store: its rows by rising key
 abbrev pub store_of : MemRowSet → Contents → Store
 store_of s pool = map (row_at pool) (trees.entries s.tree pool)
-
--- the row after all changes, whatever their times
-abbrev pub apply_all : Steps → Option Row → Option Row
-apply_all [] row = row
-apply_all (c ∷ steps) row = apply_all steps (apply c.1 row)
-
-abbrev pub last_row : Hist → Option Row
-last_row h = apply_all h.steps h.first
 
 -- whether there is a row after a change of this kind
 abbrev pub stays : Kindly → Bool
@@ -159,10 +151,6 @@ pub record Leads (pool : Contents) (first cell t : ℕ) (row : Option Row) : Typ
   pub stand : IsChainAt pool cell links
   pub same : after_steps t (steps_of links) row ≡ after_steps t (steps_of (chain pool first)) None
 
--- half of what a write of this operation needs of the pool
-abbrev pub share : RowOp → ℕ
-share op = (op_len op + 55) / 56 + 4
-
 -- the cells that the change of an operation takes of this store: its own, and those of a new key
 abbrev pub cells_taken : RowOp → Store → ℕ
 cells_taken op store = link_need op.cells + cond (is_some (find key_cmp op.key store)) 0 (trees.need op.key)
@@ -183,18 +171,6 @@ pub record Joins (s t : MemRowSet) (old new : Contents) (op : RowOp) (ts : ℕ) 
   pub frame : (k : ℕ) → ¬ Owns t new k → at_cell new k ≡ at_cell old k
   pub number : number_of t ≡ number_of s
   pub frozen : is_frozen t ≡ is_frozen s
-
--- a change of a key, as lists of changes have it
-abbrev pub key_change : List ℕ → ℕ × Change → KeyChange
-key_change key c = record { key = key; ts = c.0; change = c.1 }
-
--- the changes of a key's row at or below a time, as they were made
-abbrev pub row_changes : ℕ → List ℕ → Steps → List KeyChange
-row_changes upto key steps = map (key_change key) (filter (λ (c : ℕ × Change). nat_le c.0 upto) steps)
-
--- the changes of all rows at or below a time, by rising key
-abbrev pub changes_upto : ℕ → Store → List KeyChange
-changes_upto upto store = flat_map (λ row. row_changes upto row.0 row.1.steps) store
 
 -- the changes from this cell on are still to be listed behind these
 pub record Lists (pool : Contents) (first cell upto : ℕ) (key : List ℕ) (old now : List KeyChange) : Type 0 where

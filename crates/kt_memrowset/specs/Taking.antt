@@ -11,23 +11,6 @@ use Rattle.kt_memrowset.specs.Links.{Link, chain}
 use Rattle.kt_memrowset.specs.Stores.{Joins}
 use Rattle.kt_memrowset.specs.declared.store.MemRowSet.{MemRowSet}
 
--- the kind of change that an operation makes to a row that is there, or is not
-abbrev pub kind_made : OpKind → Bool → Option Kindly
-kind_made Insert false = Some Ins
-kind_made Insert true = None
-kind_made Upsert false = Some Ins
-kind_made Upsert true = Some Upd
-kind_made Update false = None
-kind_made Update true = Some Upd
-kind_made Delete false = None
-kind_made Delete true = Some Del
-kind_made InsertIgnore false = Some Ins
-kind_made InsertIgnore true = None
-kind_made UpdateIgnore false = None
-kind_made UpdateIgnore true = Some Upd
-kind_made DeleteIgnore false = None
-kind_made DeleteIgnore true = Some Del
-
 -- the changes of a row whose first one is placed here, if it has any
 abbrev pub links_from : Contents → Option Place → List Link
 links_from pool None = []

@@ -1,9 +1,9 @@
 //! The changes of one row, in a chain.
 ghost use Rattle.std.specs.Prelude.{◌≡◌, ℕ, ◌≤◌, [], ◌∷◌, List, ◌++◌, None, true, is_some, length, drop, IfOk, IfSome, OnOk};
 ghost use Rattle.std.specs.Prelude.{◌==◌};
-ghost use Rattle.kt_histlaws.specs.Histories.{after_steps};
-ghost use Rattle.kt_memrowset.specs.Links.{Link, IsLink, IsChainAt, link_at, chain, newest, change_of, steps_of};
-ghost use Rattle.kt_memrowset.specs.Stores.{RowStands, hist_of, last_row, stays, trail_at, IsTrailAt, Releases, row_changes};
+ghost use Rattle.kt_history.specs.Stores.{after_steps, last_row, change_of, row_changes};
+ghost use Rattle.kt_memrowset.specs.Links.{Link, IsLink, IsChainAt, link_at, chain, newest, steps_of};
+ghost use Rattle.kt_memrowset.specs.Stores.{RowStands, hist_of, stays, trail_at, IsTrailAt, Releases};
 ghost use Rattle.kt_memrowset.specs.Taking.{links_from};
 ghost use Rattle.kt_memrowset.specs.Ending.{EndsIn};
 ghost use Rattle.kt_cells.specs.Reading.{cells_behind};

@@ -9,9 +9,8 @@
 pub mod chain;
 pub mod laws;
 pub mod link;
+mod row_store;
 pub mod store;
-pub mod taking;
 pub mod write;
 
 pub use store::MemRowSet;
-pub use taking::Taken;

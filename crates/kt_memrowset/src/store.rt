@@ -2,15 +2,14 @@
 ghost use Rattle.std.specs.Prelude.{◌≡◌, ◌↔◌, ◌+◌, ◌≤◌, ℕ, [], length, is_some, None, IfOk, true, false};
 ghost use Rattle.std.specs.Option.{option_copied};
 ghost use Rattle.kt_pool.specs.Contents.{Contents, at_cell, used};
-ghost use Rattle.kt_histlaws.specs.Histories.{hist_in, row_of};
+ghost use Rattle.kt_history.specs.Stores.{hist_in, row_of};
 ghost use Rattle.kt_history.specs.Rows.{fits};
 
 use crate::chain::{is_live, octets_at, push_changes, read_into, release, row_at};
 use crate::link::{Head, NOTHING};
-use crate::taking::{Taken, kind_made};
 use crate::write::{extend, place};
 use kt_base::{Cells, NoMemory, Octets};
-use kt_history::{ChangeList, Kindly, OpRef, Target};
+use kt_history::{ChangeList, Kindly, OpRef, Taken, Target, kind_made};
 use kt_pool::{Place, Pool};
 use kt_tree::Tree;
 use std::alloc::Global;
@@ -28,8 +27,9 @@ impl MemRowSet {
     ghost use Rattle.std.specs.Option.{option_map};
     ghost use Rattle.kt_tree.specs.Entries.{value_of};
     ghost use Rattle.kt_tree.specs.Trees.{entries, place_at};
-    ghost use Rattle.kt_memrowset.specs.Taking.{JoinsIf, kind_made};
-    ghost use Rattle.kt_memrowset.specs.Stores.{IsStore, store_of, last_row, Owns, cells_had, number_of, is_frozen, share, change_by, Joins, key_past, changes_upto};
+    ghost use Rattle.kt_memrowset.specs.Taking.{JoinsIf};
+    ghost use Rattle.kt_history.specs.Stores.{kind_made, last_row, share, changes_upto};
+    ghost use Rattle.kt_memrowset.specs.Stores.{IsStore, store_of, Owns, cells_had, number_of, is_frozen, change_by, Joins, key_past};
 
     /// A store with no row. It takes no cell.
     pub fn new(id: u64) -> MemRowSet
@@ -130,7 +130,7 @@ impl MemRowSet {
     pub fn take(&mut self, pool: &mut Pool, ts: u64, op: &OpRef<'_>) -> Taken
         requires store { IsStore self.old pool.old }
         requires room { share op.now ≤ pool.old.reserved }
-        requires thawed { is_frozen self.old ≡ false }
+        requires thawed { is_there op.now (store_of self.old pool.old) ≡ false → is_frozen self.old ≡ false }
         ensures there { result.there ≡ is_some (last_row (hist_in op.now.key (store_of self.old pool.old))) }
         ensures joins { JoinsIf self.old self.new pool.old pool.new op.now ts (kind_made op.now.kind result.there) }
         ensures target { result.target ≡ option_map (λ _. Target.Mem (number_of self.old)) (kind_made op.now.kind result.there) }

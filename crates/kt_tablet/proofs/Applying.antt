@@ -12,14 +12,12 @@ use Rattle.kt_history.specs.declared.target.Target.{Target}
 use Rattle.kt_history.specs.Operations.{effect, outcome_of, need, op_len}
 use Rattle.kt_history.specs.Rows.{Row, key_cmp}
 use Rattle.kt_history.proofs.Effects.{outcomes}
-use Rattle.kt_histlaws.specs.Histories.{Store, hist_in, push, row_of, or_else}
-use Rattle.kt_histlaws.specs.Flights.{Under, AllOps}
+use Rattle.kt_histlaws.specs.Histories.{or_else}
+use Rattle.kt_history.specs.Stores.{Store, hist_in, push, row_of, Under, change_of, change_by, is_there, with_change, share, last_row, kind_made}
+use Rattle.kt_histlaws.specs.Flights.{AllOps}
 use Rattle.kt_histlaws.specs.Core.{live}
 use Rattle.kt_histlaws.specs.Events.{pushed_if}
-use Rattle.kt_tablet.specs.Stores.{change_of, change_by, is_there, with_change, share}
 use Rattle.kt_tablet.specs.Filling.{filled, filled_change}
-use Rattle.kt_memrowset.specs.Stores.{last_row}
-use Rattle.kt_memrowset.specs.Taking.{kind_made}
 use Rattle.kt_memrowset.proofs.Last.{last_under}
 use Rattle.kt_records.specs.declared.entry.CommitRow.{CommitRow}
 use Rattle.kt_history.specs.declared.change.Outcome.{Outcome}

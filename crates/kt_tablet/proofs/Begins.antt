@@ -18,7 +18,7 @@ use Rattle.kt_mvcc.specs.Keys.{same_key}
 use Rattle.kt_mvcc.specs.Flying.{least_of, holds_one, holder, flies}
 use Rattle.kt_pool.specs.Contents.{Contents, with_reserved}
 use Rattle.kt_histlaws.specs.Pending.{Aloft}
-use Rattle.kt_histlaws.specs.Histories.{Store}
+use Rattle.kt_history.specs.Stores.{Store}
 use Rattle.kt_histlaws.specs.Core.{Core, Stands, flown_by}
 use Rattle.kt_histlaws.specs.Events.{begun}
 use Rattle.kt_histlaws.proofs.Events.{begin_stands}
@@ -157,13 +157,13 @@ ready_begun fill stopped w flights new mid flying more_flying lines room more mo
     })
 
 -- a promise changes nothing of the store
-pub promised_alike : {X : Type 0} (stands : X → Contents → Type 0) (store : X → Contents → Store) (s : X) (pool new : Contents) (n : ℕ)
-    → ((s : X) (pool : Contents) (n : ℕ) → stands s pool → stands s (with_reserved pool n) × (store s (with_reserved pool n) ≡ store s pool)) → stands s pool → new ≡ with_reserved pool n → store s new ≡ store s pool
-promised_alike stands store s pool new n looks here e = ap (store s) e ∙ (looks s pool n here).1
+pub promised_alike : {X : Type 0} (store : X → Contents → Store) (s : X) (pool new : Contents) (n : ℕ)
+    → store s (with_reserved pool n) ≡ store s pool → new ≡ with_reserved pool n → store s new ≡ store s pool
+promised_alike store s pool new n same e = ap (store s) e ∙ same
 
-pub promised_placed : {X : Type 0} (stands : X → Contents → Type 0) (store : X → Contents → Store) (s : X) (pool new : Contents) (n : ℕ)
-    → ((s : X) (pool : Contents) (n : ℕ) → stands s pool → stands s (with_reserved pool n) × (store s (with_reserved pool n) ≡ store s pool)) → stands s pool → new ≡ with_reserved pool n → stands s new
-promised_placed stands store s pool new n looks here e = subst (stands s) (sym e) (looks s pool n here).0
+pub promised_placed : {X : Type 0} (stands : X → Contents → Type 0) (s : X) (pool new : Contents) (n : ℕ)
+    → stands s (with_reserved pool n) → new ≡ with_reserved pool n → stands s new
+promised_placed stands s pool new n here e = subst (stands s) (sym e) here
 
 pub way_old : {C : Type 0} (view old : View C) (ops : List RowOp) (found : Option ℕ) → view ≡ old → least (filter (λ w. share_key ops w.ops) (map flown_by view.core.aloft)) ≡ found → least (filter (λ w. share_key ops w.ops) (map flown_by old.core.aloft)) ≡ found
 way_old view old ops found e h = subst (λ v. least (filter (λ w. share_key ops w.ops) (map flown_by v.core.aloft)) ≡ found) e h

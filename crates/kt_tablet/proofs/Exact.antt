@@ -9,7 +9,7 @@ use Rattle.std.specs.declared.cmp.Ordering.TheVariants.{Less, Equal, Greater}
 use Rattle.kt_history.specs.declared.target.Target.{Target}
 use Rattle.kt_history.specs.Rows.{Row, key_cmp}
 use Rattle.kt_pool.specs.Contents.{Contents, used, cells_of}
-use Rattle.kt_histlaws.specs.Histories.{Store, Hist}
+use Rattle.kt_history.specs.Stores.{Store, Hist}
 use Rattle.kt_tablet.specs.Filling.{filled}
 use Rattle.kt_tablet.specs.Views.{AreVacant}
 
@@ -24,16 +24,6 @@ none_used pool n fresh = ap (sum_by cells_of) fresh ∙ all_none n
 pub filled_none : (fill : Row) (store : Store) → filled fill store ≡ [] → store ≡ []
 filled_none fill [] none = none
 filled_none fill (r ∷ store) none = cc
-
--- a store that has taken a change has a row
-pub put_some : (q : List ℕ) (h : Hist) (store : Store) → put key_cmp q h store ≡ [] → ⊥
-put_some q h [] none = cc
-put_some q h (r ∷ store) none = by (key_cmp q r.0) none
-  where
-    by : (o : Ordering) → by_order o ((q, h) ∷ r ∷ store) ((r.0, h) ∷ store) (r ∷ put key_cmp q h store) ≡ [] → ⊥
-    by Less e = cc
-    by Equal e = cc
-    by Greater e = cc
 
 -- what is used stays where the stores do
 pub vacant_still : (old new : List Store) (pool after : Contents) → new ≡ old → used after ≡ used pool → (AreVacant old → used pool ≡ 0) → AreVacant new → used after ≡ 0

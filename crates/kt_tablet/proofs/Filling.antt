@@ -6,9 +6,7 @@ use Rattle.std.proofs.lemmas.List.{map-append}
 use Rattle.kt_history.specs.declared.change.Change.{Change}
 use Rattle.kt_history.specs.declared.change.Change.TheVariants.{Ins, Upd, Del}
 use Rattle.kt_history.specs.Rows.{Row, apply, key_cmp}
-use Rattle.kt_histlaws.specs.Histories.{Steps, Hist, Store, push, hist_in}
-use Rattle.kt_histlaws.specs.Flights.{Under}
-use Rattle.kt_memrowset.specs.Stores.{apply_all, last_row}
+use Rattle.kt_history.specs.Stores.{Steps, Hist, Store, push, hist_in, Under, apply_all, last_row}
 use Rattle.kt_tablet.specs.Filling.{filled_change, filled_hist, filled}
 
 -- a change makes a row there or not, whatever the cells are

@@ -2,7 +2,6 @@ pub mod Visits
 pub mod Begins
 pub mod Exact
 pub mod Filling
-pub mod MemRows
 pub mod Told
 pub mod Written
 pub mod Flights

@@ -6,7 +6,8 @@ use Rattle.kt_history.specs.declared.command.Command.{Command}
 use Rattle.kt_history.specs.History.{Past}
 use Rattle.kt_history.specs.Operations.{DifferentKeys}
 use Rattle.kt_history.specs.Machine.{Workload, Turn, HasDifferentKeys, first_turns, start, state_after, command_at, ops_of}
-use Rattle.kt_histlaws.specs.Histories.{Steps, Store, Shows, hists, timeline}
+use Rattle.kt_histlaws.specs.Histories.{Shows, hists, timeline}
+use Rattle.kt_history.specs.Stores.{Steps, Store}
 use Rattle.kt_histlaws.specs.Pending.{Aloft, Same, done, is_pending}
 use Rattle.kt_histlaws.specs.Fitting.{AreSound}
 use Rattle.kt_histlaws.specs.Core.{Core, Stands, now}

@@ -11,8 +11,9 @@ use Rattle.kt_history.specs.Rows.{Row}
 use Rattle.kt_mvcc.specs.declared.flier.Flier.{Flier}
 use Rattle.kt_pool.specs.Contents.{Contents}
 use Rattle.kt_records.specs.declared.entry.CommitRow.{CommitRow}
-use Rattle.kt_histlaws.specs.Histories.{Store, hists, hist_in, row_of, on_nth, Alone}
-use Rattle.kt_histlaws.specs.Flights.{Under, AllUnder}
+use Rattle.kt_histlaws.specs.Histories.{hists, on_nth, Alone}
+use Rattle.kt_history.specs.Stores.{Store, hist_in, row_of, Under, share}
+use Rattle.kt_histlaws.specs.Flights.{AllUnder}
 use Rattle.kt_histlaws.specs.Parts.{IsOfAnother}
 use Rattle.kt_histlaws.specs.Pending.{Aloft}
 use Rattle.kt_histlaws.specs.Core.{Core, Stands, live}
@@ -20,7 +21,6 @@ use Rattle.kt_histlaws.specs.Events.{IsNextOp, IsOver, advance, applied, pushed_
 use Rattle.kt_histlaws.proofs.Applied.{applies, apply_stands, outcome_told}
 use Rattle.kt_histlaws.proofs.Applying.{stores_under}
 use Rattle.kt_tablet.specs.declared.tablet.FlyingWrite.{FlyingWrite}
-use Rattle.kt_tablet.specs.Stores.{share}
 use Rattle.std.specs.List.{list_any, position_or_len}
 use Rattle.kt_tablet.specs.Rows.{IsNoted, AreNoted, AreWritten, commit_row}
 use Rattle.kt_tablet.specs.Views.{View, IsSound, IsReady, IsProvided, AreProvided, AreTold, Opens, aloft_of, flier_of}

@@ -15,13 +15,14 @@ use Rattle.kt_history.specs.declared.changes.KeyChange.{KeyChange}
 use Rattle.kt_history.specs.Rows.{Row, apply, key_cmp}
 use Rattle.kt_history.specs.Machine.{Flying, none_flies, least}
 use Rattle.kt_mvcc.specs.Waits.{lesser_of}
-use Rattle.kt_histlaws.specs.Histories.{Steps, Hist, Store, after_steps, row_of, hist_in, hists, first_some, or_else, AtMostOne}
+use Rattle.kt_histlaws.specs.Histories.{hists, first_some, or_else, AtMostOne}
+use Rattle.kt_history.specs.Stores.{Steps, Hist, Store, after_steps, row_of, hist_in, changes_upto}
 use Rattle.kt_histlaws.specs.Core.{Core, Stands, flown_by}
 use Rattle.kt_histlaws.proofs.Shown.{snapshot_told, at_most_one}
 use Rattle.kt_tablet.specs.declared.snap.SnapView.{SnapView}
 use Rattle.kt_tablet.specs.declared.snap.Snap.{Snap}
 use Rattle.kt_tablet.specs.Filling.{filled_change, filled_hist, filled}
-use Rattle.kt_tablet.specs.Stores.{changes_upto, IsGrown, AllBare}
+use Rattle.kt_tablet.specs.Stores.{IsGrown, AllBare}
 use Rattle.kt_tablet.specs.Snaps.{rises, changes_of, step_in, row_in}
 use Rattle.kt_tablet.specs.SnapLaws.{order, by_bool, same_key}
 use Rattle.kt_mvcc.specs.declared.flier.Flier.{Flier}

@@ -9,7 +9,7 @@ use Rattle.std.specs.declared.cmp.Ordering.{Ordering}
 use Rattle.std.specs.declared.cmp.Ordering.TheVariants.{Less, Equal, Greater}
 use Rattle.std.proofs.lemmas.Bool.{false≢true, and_parts, cases_eq}
 use Rattle.std.proofs.Common.{inl, inr}
-use Rattle.kt_histlaws.specs.Histories.{after_steps}
+use Rattle.kt_history.specs.Stores.{after_steps}
 use Rattle.std.proofs.lemmas.Cmp.{upto, eq_by_cmp_equiv, tied_itself}
 use Rattle.kt_history.specs.declared.change.Change.TheVariants.{Del}
 use Rattle.std.proofs.lemmas.List.Elements.{filter-append}

@@ -9,7 +9,7 @@ use Rattle.kt_history.specs.Operations.{outcomes_on}
 use Rattle.kt_history.specs.Rows.{Row}
 use Rattle.kt_history.proofs.Runs.{state_after-append, rows_stay}
 use Rattle.kt_pool.specs.Contents.{Contents}
-use Rattle.kt_histlaws.specs.Histories.{Store}
+use Rattle.kt_history.specs.Stores.{Store}
 use Rattle.kt_histlaws.specs.Flights.{AllFly}
 use Rattle.kt_histlaws.specs.Core.{flown_by}
 use Rattle.kt_histlaws.specs.Pending.{Aloft}

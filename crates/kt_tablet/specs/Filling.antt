@@ -3,7 +3,7 @@ use Rattle.std.specs.Prelude.{ℕ, List, map}
 use Rattle.kt_history.specs.declared.change.Change.{Change}
 use Rattle.kt_history.specs.declared.change.Change.TheVariants.{Ins, Upd, Del}
 use Rattle.kt_history.specs.Rows.{Row, with_cells}
-use Rattle.kt_histlaws.specs.Histories.{Store, Hist}
+use Rattle.kt_history.specs.Stores.{Store, Hist}
 
 abbrev pub filled_change : Row → Change → Change
 filled_change fill (Ins cells) = Ins (with_cells cells fill)

@@ -13,7 +13,7 @@ use Rattle.std.specs.FinMap.{nat_cmp-IsAntisymmetric, slice_cmp-IsAntisymmetric}
 use Rattle.kt_history.specs.declared.changes.KeyChange.{KeyChange}
 use Rattle.kt_history.specs.Rows.{Row, key_cmp}
 use Rattle.kt_history.specs.Views.{AreRising}
-use Rattle.kt_histlaws.specs.Histories.{after_steps}
+use Rattle.kt_history.specs.Stores.{after_steps}
 use Rattle.kt_tablet.specs.Snaps.{rises, keys_in, changes_of, step_in, row_in}
 
 pub order : IsTotalOrder key_cmp

@@ -5,7 +5,7 @@ use Rattle.std.specs.Ordering.{is_gt, is_lt, eq_by_cmp}
 use Rattle.kt_history.specs.declared.change.Change.{Change}
 use Rattle.kt_history.specs.declared.changes.KeyChange.{KeyChange}
 use Rattle.kt_history.specs.Rows.{Row, key_cmp}
-use Rattle.kt_histlaws.specs.Histories.{after_steps}
+use Rattle.kt_history.specs.Stores.{after_steps}
 use Rattle.kt_tablet.specs.Filling.{filled_change}
 
 -- no change comes after one of a greater key

@@ -13,7 +13,8 @@ use Rattle.kt_schema.specs.declared.column.Column.{Column}
 use Rattle.kt_schema.specs.Columns.{key_columns, other_columns}
 use Rattle.kt_mvcc.specs.declared.flier.Flier.{Flier}
 use Rattle.kt_records.specs.Rules.{may_hold, EachAfter, FollowingOp}
-use Rattle.kt_histlaws.specs.Histories.{Store, Shows, hists}
+use Rattle.kt_histlaws.specs.Histories.{Shows, hists}
+use Rattle.kt_history.specs.Stores.{Store}
 use Rattle.kt_histlaws.specs.Pending.{Aloft}
 use Rattle.kt_histlaws.specs.Fitting.{AreSound}
 use Rattle.kt_histlaws.specs.Core.{Core, Stands}

@@ -6,7 +6,6 @@
 #![tactic(auto)]
 
 mod amend;
-mod memrowset;
 pub mod need;
 pub mod new_write;
 mod reading;
@@ -17,7 +16,7 @@ mod turns;
 
 pub use new_write::NewWrite;
 pub use snap::{Snap, SnapList, SnapView};
-pub use store::RowStore;
+pub use store::ChangeStore;
 pub use tablet::rows::WriteEnd;
 pub use tablet::scan::SnapNo;
 pub use tablet::write::BeginNo;

@@ -1,7 +1,7 @@
 //! How many cells of the pool a write needs.
 ghost use Rattle.std.specs.Prelude.{◌≡◌, ◌≤◌, ◌<◌, ◌*◌, ◌^◌, IfSome, IfNone};
 ghost use Rattle.kt_history.specs.Operations.{need};
-ghost use Rattle.kt_tablet.specs.Stores.{share};
+ghost use Rattle.kt_history.specs.Stores.{share};
 
 use kt_history::{OpList, OpRef, need as counted};
 

@@ -6,7 +6,7 @@ ghost use Rattle.std.specs.Ordering.{is_lt};
 ghost use Rattle.kt_history.specs.AsBytes.{step_in as step_read, step_of};
 ghost use Rattle.kt_history.specs.Rows.{key_cmp};
 ghost use Rattle.kt_history.specs.Views.{key_above};
-ghost use Rattle.kt_histlaws.specs.Histories.{after_steps};
+ghost use Rattle.kt_history.specs.Stores.{after_steps};
 ghost use Rattle.kt_tablet.specs.Filling.{filled_change};
 ghost use Rattle.kt_tablet.specs.Snaps.{rises, row_in, keys_in, is_above_at, is_reached_at};
 

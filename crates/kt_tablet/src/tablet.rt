@@ -7,7 +7,7 @@ pub mod write;
 ghost use Rattle.std.specs.Prelude.{◌≡◌, ◌+◌, ◌≤◌, IfOk, [], vec_len, vec_capacity};
 ghost use Rattle.kt_schema.specs.Columns.{fill_of};
 
-use crate::store::RowStore;
+use crate::store::ChangeStore;
 use crate::turns::Turns;
 use kt_base::{Cells, Clock, NoMemory};
 use kt_history::{Event, OpList, Outcome, Plan};
@@ -37,7 +37,7 @@ pub struct FlyingWrite {
 /// A tablet: the rows of its store in the cells of its pool, the clock, the writes that fly, the lines of its history
 /// and where each session stands.
 #[derive(Drop)]
-pub struct Tablet<S: RowStore, C: Clock> {
+pub struct Tablet<S: ChangeStore, C: Clock> {
     store: S,
     pool: Pool,
     clock: C,
@@ -57,8 +57,8 @@ pub struct Tablet<S: RowStore, C: Clock> {
     mark: u64,
 }
 
-impl<S: RowStore, C: Clock> Model for Tablet<S, C> {
-    ghost use Rattle.std.specs.Prelude.{map, ◌≡◌, ◌∷◌, [], vec_capacity, vec_len};
+impl<S: ChangeStore, C: Clock> Model for Tablet<S, C> {
+    ghost use Rattle.std.specs.Prelude.{map, ◌≡◌, ◌∷◌, [], false, vec_capacity, vec_len};
     ghost use Rattle.kt_tablet.specs.Filling.{filled};
     ghost use Rattle.kt_pool.specs.Contents.{used};
     ghost use Rattle.kt_tablet.specs.Rows.{AreWritten};
@@ -106,7 +106,7 @@ impl<S: RowStore, C: Clock> Model for Tablet<S, C> {
       mark = e.mark;
       target = S.target e.store;
       pool = e.pool;
-    }) × IsReady e.fill e.stopped e.flights.items e.flight.flying (vec_len e.trail) (vec_capacity e.trail) e.pool × S.stands e.store e.pool × AreTold (work_of e.schema.value e.plan.value e.cells e.fill) (filled e.fill (S.store e.opening.value e.opening_pool.value) ∷ []) e.mark e.last e.trail.items e.flights.items × (AreVacant (filled e.fill (S.store e.store e.pool) ∷ []) → used e.pool ≡ 0) × AreWritten (S.target e.store) e.flights.items };
+    }) × IsReady e.fill e.stopped e.flights.items e.flight.flying (vec_len e.trail) (vec_capacity e.trail) e.pool × S.stands e.store e.pool × AreTold (work_of e.schema.value e.plan.value e.cells e.fill) (filled e.fill (S.store e.opening.value e.opening_pool.value) ∷ []) e.mark e.last e.trail.items e.flights.items × (AreVacant (filled e.fill (S.store e.store e.pool) ∷ []) → used e.pool ≡ 0) × AreWritten (S.target e.store) e.flights.items × (S.is_closed e.store ≡ false) };
 }
 
 /// Why a scan of the present draws no time, or the mark does not rise.
@@ -139,7 +139,7 @@ fn first_parts(alloc: Global, schema: &Schema) -> Result<(Cells, Turns, Vec<Even
     Ok((fill, turns, trail))
 }
 
-impl<S: RowStore, C: Clock> Tablet<S, C> {
+impl<S: ChangeStore, C: Clock> Tablet<S, C> {
     ghost use Rattle.std.specs.Prelude.{◌≡◌, IfOk, IfErr, [], ◌∷◌, false};
     ghost use Rattle.kt_schema.specs.Columns.{fill_of};
     ghost use Rattle.kt_tablet.specs.Filling.{filled};
@@ -160,6 +160,7 @@ impl<S: RowStore, C: Clock> Tablet<S, C> {
         mark: u64,
     ) -> Result<Tablet<S, C>, (S, Pool, C)>
         requires stands { S.stands store pool }
+        requires thawed { S.is_closed store ≡ false }
         requires unpromised { pool.reserved ≡ 0 }
         requires vacant { S.store store pool ≡ [] → used pool ≡ 0 }
         ensures lines { IfOk result (λ tablet. tablet.core.trail ≡ []) }
@@ -204,7 +205,7 @@ impl<S: RowStore, C: Clock> Tablet<S, C> {
     }
 }
 
-impl<S: RowStore, C: Clock> Tablet<S, C> {
+impl<S: ChangeStore, C: Clock> Tablet<S, C> {
     ghost use Rattle.kt_tablet.specs.Views.{IsSound, IsExact};
     ghost use Rattle.std.specs.Prelude.{◌≡◌, OnErr, IfOk, Err, true, false};
     ghost use Rattle.kt_tablet.specs.Visits.{MayLook, HasLooked, MayMark, HasMarked, MayAnswerChore};

@@ -5,7 +5,7 @@ use Rattle.kt_history.specs.declared.command.Command.{Command}
 use Rattle.kt_history.specs.declared.target.Target.TheVariants.{Mem}
 use Rattle.kt_history.specs.Machine.{first_turns}
 use Rattle.kt_history.specs.Rows.{Row}
-use Rattle.kt_histlaws.specs.Histories.{Store}
+use Rattle.kt_history.specs.Stores.{Store}
 use Rattle.kt_loglaws.specs.Replay.{empty}
 use Rattle.kt_tablet.specs.Filling.{filled}
 use Rattle.kt_tablet.specs.Views.{View, Opens}

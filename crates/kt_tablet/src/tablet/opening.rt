@@ -3,12 +3,12 @@ ghost use Rattle.std.specs.Prelude.{◌≡◌, ◌≤◌, length, [], false};
 ghost use Rattle.kt_history.specs.Machine.{HasDifferentKeys, first_turns};
 
 use super::Tablet;
-use crate::store::RowStore;
+use crate::store::ChangeStore;
 use kt_base::Clock;
 use kt_history::{EventList, Plan};
 use std::snapshot::Snapshot;
 
-impl<S: RowStore, C: Clock> Tablet<S, C> {
+impl<S: ChangeStore, C: Clock> Tablet<S, C> {
     /// Takes the plan of the run. It takes no memory.
     pub fn set_plan(&mut self, plan: &Plan)
         requires fresh { (self.old.core.trail ≡ []) × (self.old.core.aloft ≡ []) × (self.old.core.stopped ≡ false) }
@@ -21,7 +21,7 @@ impl<S: RowStore, C: Clock> Tablet<S, C> {
     }
 }
 
-impl<S: RowStore + Drop, C: Clock> Tablet<S, C> {
+impl<S: ChangeStore + Drop, C: Clock> Tablet<S, C> {
     /// The clock and the history, once all is over.
     pub fn take_apart(self) -> (C, EventList)
         ensures { (result.0 ≡ self.clock) × (result.1 ≡ self.core.trail) }

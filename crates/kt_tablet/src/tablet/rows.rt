@@ -1,17 +1,15 @@
 //! The rows of a flying write, applied one by one, and its end.
-ghost use Rattle.std.specs.Prelude.{◌≡◌, ◌+◌, ◌*◌, ◌≤◌, ◌<◌, ◌==◌, ◌++◌, ◌∷◌, [], length, true, vec_len, vec_capacity};
+ghost use Rattle.std.specs.Prelude.{◌≡◌, ◌+◌, ◌*◌, ◌≤◌, ◌<◌, ◌==◌, ◌++◌, ◌∷◌, [], length, true, false, vec_len, vec_capacity};
 ghost use Rattle.std.specs.List.{list_any, position, position_or_len};
 ghost use Rattle.kt_pool.specs.Contents.{used};
 ghost use Rattle.kt_history.specs.Operations.{outcome_of};
-ghost use Rattle.kt_histlaws.specs.Histories.{hist_in};
-ghost use Rattle.kt_histlaws.specs.Flights.{Under};
-ghost use Rattle.kt_tablet.specs.Stores.{share, change_by, is_there, with_change, TakesUpTo};
+ghost use Rattle.kt_history.specs.Stores.{hist_in, Under, share, change_by, is_there, with_change, TakesUpTo};
 ghost use Rattle.kt_tablet.specs.Rows.{commit_row};
 ghost use Rattle.kt_tablet.specs.Views.{unpromised};
 
 use super::{FlyingWrite, Stopped, Tablet};
 use crate::need::cells_of;
-use crate::store::RowStore;
+use crate::store::ChangeStore;
 use kt_base::Clock;
 use kt_history::{Event, OpList, OpRef, Outcome, OutcomeList, outcome};
 use kt_mvcc::KeyList;
@@ -31,13 +29,15 @@ pub struct WriteEnd {
 }
 
 // Makes the change of an operation, if it makes one, in reserved cells.
-fn change_store<S: RowStore>(store: &mut S, pool: &mut Pool, ts: u64, op: &OpRef<'_>) -> CommitRow
+fn change_store<S: ChangeStore>(store: &mut S, pool: &mut Pool, ts: u64, op: &OpRef<'_>) -> CommitRow
     requires stands { S.stands store.old pool.old }
+    requires thawed { S.is_closed store.old ≡ false }
     requires reserved { share op.now ≤ pool.old.reserved }
     ensures stands { S.stands store.new pool.new }
     ensures changed { Under ts (hist_in op.now.key (S.store store.old pool.old)).steps → S.store store.new pool.new ≡ with_change op.now.key ts (change_by op.now (is_there op.now (S.store store.old pool.old))) (S.store store.old pool.old) }
     ensures row { result ≡ commit_row (S.target store.old) (outcome_of op.now.kind (is_there op.now (S.store store.old pool.old))) }
     ensures name { S.target store.new ≡ S.target store.old }
+    ensures closed { S.is_closed store.new ≡ S.is_closed store.old }
     ensures takes { TakesUpTo (share op.now) pool.old pool.new }
     ensures vacant { S.store store.new pool.new ≡ [] → (S.store store.old pool.old ≡ []) × (used pool.new ≡ used pool.old) }
 {
@@ -56,13 +56,15 @@ fn change_store<S: RowStore>(store: &mut S, pool: &mut Pool, ts: u64, op: &OpRef
 }
 
 // An operation reaches a store in cells that are promised, and of those that it needs none stays promised.
-fn apply_op<S: RowStore>(store: &mut S, pool: &mut Pool, ts: u64, op: &OpRef<'_>) -> CommitRow
+fn apply_op<S: ChangeStore>(store: &mut S, pool: &mut Pool, ts: u64, op: &OpRef<'_>) -> CommitRow
     requires stands { S.stands store.old pool.old }
+    requires thawed { S.is_closed store.old ≡ false }
     requires reserved { 2 * share op.now ≤ pool.old.reserved }
     ensures stands { S.stands store.new pool.new }
     ensures changed { Under ts (hist_in op.now.key (S.store store.old pool.old)).steps → S.store store.new pool.new ≡ with_change op.now.key ts (change_by op.now (is_there op.now (S.store store.old pool.old))) (S.store store.old pool.old) }
     ensures row { result ≡ commit_row (S.target store.old) (outcome_of op.now.kind (is_there op.now (S.store store.old pool.old))) }
     ensures name { S.target store.new ≡ S.target store.old }
+    ensures closed { S.is_closed store.new ≡ S.is_closed store.old }
     ensures promised { pool.new.reserved + 2 * share op.now ≡ pool.old.reserved }
     ensures room { unpromised pool.old ≤ unpromised pool.new }
     ensures vacant { S.store store.new pool.new ≡ [] → (S.store store.old pool.old ≡ []) × (used pool.new ≡ used pool.old) }
@@ -113,7 +115,7 @@ fn note(write: &mut FlyingWrite, row: CommitRow) -> Outcome
     outcome
 }
 
-impl<S: RowStore, C: Clock> Tablet<S, C> {
+impl<S: ChangeStore, C: Clock> Tablet<S, C> {
     ghost use Rattle.std.specs.Prelude.{IfOk, OnErr, IsOk, IsErr, false};
     ghost use Rattle.kt_history.specs.History.{Past};
     ghost use Rattle.kt_tablet.specs.Views.{Opens};

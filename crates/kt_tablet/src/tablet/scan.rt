@@ -6,7 +6,7 @@ ghost use Rattle.kt_histlaws.specs.Core.{flown_by};
 
 use super::Tablet;
 use crate::snap::{Snap, SnapList, SnapView};
-use crate::store::RowStore;
+use crate::store::ChangeStore;
 use kt_base::{Clock, NoMemory};
 use kt_history::{At, Event};
 use std::alloc::Global;
@@ -32,7 +32,7 @@ pub enum SnapNo {
     Memory,
 }
 
-impl<S: RowStore, C: Clock> Tablet<S, C> {
+impl<S: ChangeStore, C: Clock> Tablet<S, C> {
     ghost use Rattle.kt_history.specs.declared.event.Event.TheVariants.{Ancient, Busy};
     ghost use Rattle.kt_histlaws.specs.Events.{answered};
     ghost use Rattle.kt_tablet.specs.Views.{Opens};

@@ -3,7 +3,7 @@ ghost use Rattle.std.specs.Prelude.{◌≡◌, ◌≢◌, ◌+◌, ◌-◌, ◌^
 
 use super::{FlyingWrite, Tablet};
 use crate::new_write::NewWrite;
-use crate::store::RowStore;
+use crate::store::ChangeStore;
 use kt_base::{Clock, NoMemory};
 use kt_history::{Event, OpList};
 use kt_mvcc::Flight;
@@ -58,7 +58,7 @@ fn make_room(
     Ok(())
 }
 
-impl<S: RowStore, C: Clock> Tablet<S, C> {
+impl<S: ChangeStore, C: Clock> Tablet<S, C> {
     ghost use Rattle.std.specs.Prelude.{OnErr, IfErr, Err, false, true};
     ghost use Rattle.kt_pool.specs.Contents.{with_reserved};
     ghost use Rattle.kt_history.specs.Operations.{need};

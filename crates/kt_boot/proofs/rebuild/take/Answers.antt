@@ -1,5 +1,5 @@
 use Rattle.std.proofs.Common.{sym, ap}
-use Rattle.kt_memrowset.specs.Taking.{kind_made}
+use Rattle.kt_history.specs.Stores.{kind_made}
 use Rattle.kt_boot.proofs.Taking.{takes_by}
 use Rattle.kt_boot.proofs.rebuild.take.Goals as goal
 

@@ -1,7 +1,7 @@
 use Rattle.std.proofs.Common.{◌+◌, drop, sym, ap, ◌∙◌, arith}
 use Rattle.std.specs.Prelude.{is_some, not}
 use Rattle.kt_memrowset.specs.Stores.{store_of}
-use Rattle.kt_memrowset.specs.Taking.{kind_made}
+use Rattle.kt_history.specs.Stores.{kind_made}
 use Rattle.kt_loglaws.specs.Replay.{needed_ops}
 use Rattle.kt_boot.specs.Rebuilding.{all_fit}
 use Rattle.kt_boot.proofs.NeedLaws.{op_at, taking_first_left, taking_passed, fit_passed, fit_next, fit_never, taken_at_end}

@@ -1,5 +1,5 @@
 use Rattle.std.proofs.Common.{[], sym, ap, ◌∙◌, arith, Ok, Err}
-use Rattle.kt_histlaws.specs.Histories.{Store}
+use Rattle.kt_history.specs.Stores.{Store}
 use Rattle.kt_schema.specs.Columns.{fill_of}
 use Rattle.kt_memrowset.specs.Stores.{store_of, number_of}
 use Rattle.kt_loglaws.specs.Replay.{gate_of}

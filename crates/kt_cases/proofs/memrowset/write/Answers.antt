@@ -1,8 +1,8 @@
 use Rattle.std.proofs.Common.{◌≡◌, ◌∙◌, true, sym, ap}
 use Rattle.std.specs.Prelude.{is_some}
 use Rattle.kt_history.specs.declared.operation.RowOp.{RowOp}
-use Rattle.kt_histlaws.specs.Histories.{hist_in}
-use Rattle.kt_memrowset.specs.Stores.{store_of, last_row}
+use Rattle.kt_history.specs.Stores.{hist_in, last_row}
+use Rattle.kt_memrowset.specs.Stores.{store_of}
 use Rattle.kt_cases.proofs.Written.{later_on}
 use Rattle.kt_cases.proofs.memrowset.write.Goals as goal
 

@@ -3,7 +3,8 @@ use Rattle.std.specs.Prelude.{IfSome, is_some}
 use Rattle.kt_pool.specs.declared.place.Place.{Place}
 use Rattle.kt_memrowset.specs.declared.link.Head.{Head}
 use Rattle.kt_memrowset.specs.Links.{chain}
-use Rattle.kt_memrowset.specs.Stores.{RowStands, hist_of, last_row}
+use Rattle.kt_memrowset.specs.Stores.{RowStands, hist_of}
+use Rattle.kt_history.specs.Stores.{last_row}
 use Rattle.kt_memrowset.specs.Taking.{links_from}
 use Rattle.kt_memrowset.proofs.Rows.{last_stands, link_long, live_is}
 use Rattle.kt_memrowset.proofs.chain.is_live.Goals as goal

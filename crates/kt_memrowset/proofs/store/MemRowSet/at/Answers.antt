@@ -1,6 +1,6 @@
 use Rattle.std.proofs.Common.{◌≡◌, sym, ap, subst}
 use Rattle.std.specs.Prelude.{IfOk}
-use Rattle.kt_histlaws.specs.Histories.{Hist, row_of}
+use Rattle.kt_history.specs.Stores.{Hist, row_of}
 use Rattle.kt_tree.specs.Entries.{value_of}
 use Rattle.kt_tree.specs.Trees.{entries}
 use Rattle.kt_memrowset.proofs.Rows.{get_some, get_none, row_alone, hist_there, hist_lacking}

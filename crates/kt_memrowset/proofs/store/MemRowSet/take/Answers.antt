@@ -1,11 +1,10 @@
 use Rattle.std.proofs.Common.{◌∙◌, List, ℕ, ap, sym}
 use Rattle.std.specs.Option.{option_map}
 use Rattle.kt_history.specs.declared.operation.OpKind.{OpKind}
-use Rattle.kt_histlaws.specs.Histories.{hist_in}
+use Rattle.kt_history.specs.Stores.{hist_in, last_row, kind_made}
 use Rattle.kt_tree.specs.Entries.{value_of}
 use Rattle.kt_tree.specs.Trees.{entries, place_at}
-use Rattle.kt_memrowset.specs.Stores.{store_of, last_row}
-use Rattle.kt_memrowset.specs.Taking.{kind_made}
+use Rattle.kt_memrowset.specs.Stores.{store_of}
 use Rattle.kt_memrowset.proofs.Rows.{found_stands, found_live, made_fits}
 use Rattle.kt_memrowset.proofs.store.MemRowSet.take.Goals as goal
 

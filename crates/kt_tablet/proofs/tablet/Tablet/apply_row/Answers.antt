@@ -1,7 +1,5 @@
 use Rattle.std.proofs.Common.{◌≡◌, ◌<◌, length, refl, sym, ap, ◌∙◌, subst, rules}
-use Rattle.kt_histlaws.specs.Flights.{Under}
-use Rattle.kt_histlaws.specs.Histories.{hist_in}
-use Rattle.kt_tablet.specs.Stores.{with_change, change_by, is_there}
+use Rattle.kt_history.specs.Stores.{Under, hist_in, with_change, change_by, is_there}
 use Rattle.kt_tablet.specs.Rows.{commit_row}
 use Rattle.kt_tablet.specs.Views.{aloft_of}
 use Rattle.kt_tablet.specs.Visits.{MayApply}
@@ -98,6 +96,7 @@ invariant_of-self g c =
       vacant_applied c.self.inside.fill (g.S.RowStore.store c.self.inside.store c.self.inside.pool) _ c.self.inside.pool c.apply_op-row.new.pool c.apply_op-row.ensures.vacant c.self.invariant.4,
       written_applied (g.S.RowStore.target c.self.inside.store) _ c.self.inside.flights.items c.place_of-place.result c.index_mut.result.now c.note.new.write c.apply_op-row.result.outcome c.apply_op-row.result c.self.invariant.5 (within c.args.number c.self.inside.flights.items c.place_of-place.result place) a.here
           c.note.ensures.write (subst (λ n. n < length c.index_mut.result.now.ops) (sym a.applied) a.more) c.note.ensures.outcomes c.note.ensures.rows written c.apply_op-row.ensures.name,
+      c.apply_op-row.ensures.closed ∙ c.self.invariant.6,
     )
 
 pub returns-clause-applied : goal.returns-clause-applied

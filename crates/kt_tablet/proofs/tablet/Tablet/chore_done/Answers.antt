@@ -25,6 +25,7 @@ invariant_of-self-2 g c =
       told_on g.C.Clock.readings _ _ _ _ _ _ _ _ _ _ _ _ c.self.invariant.0 sound refl lines c.self.invariant.3,
       c.self.invariant.4,
       c.self.invariant.5,
+      c.self.invariant.6,
     )
 
 pub returns-clause-answered : goal.returns-clause-answered

@@ -60,6 +60,7 @@ invariant_of-self g c =
       told_ended (work_of c.self.inside.schema.value c.self.inside.plan.value c.self.inside.cells c.self.inside.fill) _ _ _ c.push_reserved.new.self.items _ _ _ (told_on g.C.Clock.readings _ _ _ _ _ _ _ _ _ _ _ c.self.inside.flights.items c.self.invariant.0 sound refl lines c.self.invariant.3) filtered,
       c.self.invariant.4,
       written_ended (g.S.RowStore.target c.self.inside.store) _ _ _ c.self.invariant.5 filtered,
+      c.self.invariant.6,
     )
 
 pub returns-clause-ended : goal.returns-clause-ended

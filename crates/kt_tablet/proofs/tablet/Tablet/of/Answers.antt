@@ -22,4 +22,5 @@ invariant_of-result g c =
       told_none (work_of c.of-2.result.value c.of.result.value c.args.cells c.in-Ok.fill) _ _ _ c.in-Ok.trail.items _ c.new-3.ensures.items,
       λ none. c.requires.vacant (filled_none c.in-Ok.fill (g.S.RowStore.store c.args.store c.args.pool) none.0),
       written_none (g.S.RowStore.target c.args.store) _ c.new-3.ensures.items,
+      c.requires.thawed,
     )

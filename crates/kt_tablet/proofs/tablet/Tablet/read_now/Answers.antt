@@ -19,4 +19,5 @@ invariant_of-self-2 g c =
       told_on g.C.Clock.readings _ _ _ _ _ _ _ _ _ _ _ _ c.self.invariant.0 sound refl lines c.self.invariant.3,
       c.self.invariant.4,
       c.self.invariant.5,
+      c.self.invariant.6,
     )

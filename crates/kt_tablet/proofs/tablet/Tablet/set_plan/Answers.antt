@@ -12,6 +12,7 @@ invariant_of-self g c = (
   told_none (work_of c.self.inside.schema.value c.of.result.value c.self.inside.cells c.self.inside.fill) _ _ _ c.self.inside.trail.items c.self.inside.flights.items (no_flights c.self.inside.flights.items (ap (λ v. v.core.aloft) c.self.view_is ∙ c.requires.fresh.1)),
   c.self.invariant.4,
   c.self.invariant.5,
+  c.self.invariant.6,
 )
 
 pub returns : goal.returns

@@ -2,7 +2,7 @@ use Rattle.std.proofs.Common.{◌∙◌, ap, sym}
 use Rattle.kt_history.specs.declared.operation.OpKind.{OpKind}
 use Rattle.kt_history.specs.Operations.{outcome_of}
 use Rattle.kt_pool.specs.Contents.{used}
-use Rattle.kt_tablet.specs.Stores.{change_by, is_there, with_change}
+use Rattle.kt_history.specs.Stores.{change_by, is_there, with_change}
 use Rattle.kt_tablet.proofs.Applying.{named_one, named_none, row_is}
 use Rattle.kt_tablet.proofs.Exact.{took_some}
 use Rattle.kt_tablet.proofs.tablet.rows.change_store.Goals as goal

@@ -1,31 +1,29 @@
-//! A MemRowSet as a store, as long as it takes inserts.
+//! A MemRowSet as a store of rows.
 ghost use Rattle.std.specs.Prelude.{refl};
-ghost use Rattle.kt_pool.specs.Contents.{with_reserved};
 ghost use Rattle.kt_history.specs.declared.target.Target.TheVariants.{Mem};
-ghost use Rattle.kt_memrowset.specs.Stores.{store_of, number_of, Owns};
-ghost use Rattle.kt_memrowset.proofs.Frames.{is_still, store_still};
-ghost use Rattle.kt_tablet.specs.Stores.{IsOpenStore};
-ghost use Rattle.kt_tablet.specs.StoreLaws.{is_grown};
+ghost use Rattle.kt_memrowset.specs.Stores.{IsStore, store_of, number_of, is_frozen, Owns, cells_had};
+ghost use Rattle.kt_memrowset.proofs.Frames.{is_still, store_still, had_still, owns_back, owns_on};
 
-use crate::store::RowStore;
+use crate::store::MemRowSet;
 use kt_base::NoMemory;
-use kt_history::{ChangeList, Kindly, OpRef, Target};
-use kt_memrowset::{MemRowSet, Taken};
+use kt_history::{ChangeList, Kindly, OpRef, RowStore, Taken, Target};
 use kt_pool::Pool;
 use std::alloc::Global;
 
 impl RowStore for MemRowSet {
-    ghost stands = { IsOpenStore };
+    ghost stands = { IsStore };
 
     ghost store = { store_of };
 
     ghost owns = { Owns };
 
+    ghost cells = { cells_had };
+
+    ghost is_closed = { is_frozen };
+
     ghost target = { λ s. Mem (number_of s) };
 
-    ghost looks = { λ s pool n here. (record { stands = is_still s pool (with_reserved pool n) here.stands (λ k own. refl); thawed = here.thawed }, store_still s pool (with_reserved pool n) here.stands (λ k own. refl)) };
-
-    ghost grown = { λ s pool here. is_grown s pool here.stands };
+    ghost stays = { λ s old new here same. (is_still s old new here same, (store_still s old new here same, (had_still s old new here same, λ k. (owns_back s old new here same k, owns_on s old new here same k)))) };
 
     fn live(&self, pool: &Pool, key: &[u8]) -> bool {
         MemRowSet::live(self, pool, key)

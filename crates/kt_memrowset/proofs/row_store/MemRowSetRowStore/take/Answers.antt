@@ -1,8 +1,8 @@
 use Rattle.std.proofs.Common.{ap}
 use Rattle.kt_history.specs.declared.target.Target.TheVariants.{Mem}
-use Rattle.kt_memrowset.specs.Taking.{kind_made}
-use Rattle.kt_tablet.proofs.MemRows.{took, none_made, none_taken}
-use Rattle.kt_tablet.proofs.memrowset.MemRowSetRowStore.take.Goals as goal
+use Rattle.kt_history.specs.Stores.{kind_made}
+use Rattle.kt_memrowset.proofs.RowStores.{took, none_made, none_taken}
+use Rattle.kt_memrowset.proofs.row_store.MemRowSetRowStore.take.Goals as goal
 
 pub returns-clause-stands : goal.returns-clause-stands
 returns-clause-stands c = (took c.args.self.now c.take.new.self c.args.pool.now c.take.new.pool c.args.op.now c.args.ts (kind_made c.args.op.now.kind c.take.result.there) c.requires.stands c.requires.reserved c.take.ensures.joins).stands
@@ -27,3 +27,12 @@ returns-clause-name c = ap (λ n. Mem n) (took c.args.self.now c.take.new.self c
 
 pub returns-clause-idle : goal.returns-clause-idle
 returns-clause-idle c = λ none. (took c.args.self.now c.take.new.self c.args.pool.now c.take.new.pool c.args.op.now c.args.ts (kind_made c.args.op.now.kind c.take.result.there) c.requires.stands c.requires.reserved c.take.ensures.joins).idle (none_made _ (kind_made c.args.op.now.kind c.take.result.there) c.take.result.target c.take.ensures.target none)
+
+pub returns-clause-more : goal.returns-clause-more
+returns-clause-more c = (took c.args.self.now c.take.new.self c.args.pool.now c.take.new.pool c.args.op.now c.args.ts (kind_made c.args.op.now.kind c.take.result.there) c.requires.stands c.requires.reserved c.take.ensures.joins).more
+
+pub returns-clause-keeps : goal.returns-clause-keeps
+returns-clause-keeps c = (took c.args.self.now c.take.new.self c.args.pool.now c.take.new.pool c.args.op.now c.args.ts (kind_made c.args.op.now.kind c.take.result.there) c.requires.stands c.requires.reserved c.take.ensures.joins).keeps
+
+pub returns-clause-closed : goal.returns-clause-closed
+returns-clause-closed c = (took c.args.self.now c.take.new.self c.args.pool.now c.take.new.pool c.args.op.now c.args.ts (kind_made c.args.op.now.kind c.take.result.there) c.requires.stands c.requires.reserved c.take.ensures.joins).frozen
