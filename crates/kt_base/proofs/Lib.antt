@@ -2,6 +2,7 @@ pub mod Grows
 pub mod Doubles
 pub mod LiteralTests
 pub mod Strings
+pub mod Lanes
 pub mod Decimals
 pub mod Unquoting
 pub mod Values

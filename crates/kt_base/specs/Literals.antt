@@ -1,5 +1,5 @@
 -- Literals: the one spelling of a cell, and what a text is read as.
-use Rattle.std.specs.Prelude.{◌≡◌, ◌≢◌, ◌<◌, ◌≤◌, All, slice_get, slice_range, ℕ, ◌+◌, ◌-◌, ◌*◌, ◌/◌, ◌%◌, ℤ, pos, negsuc, Bool, false, true, not, ◌&&◌, ◌||◌, List, [], ◌∷◌, ◌++◌, length, Option, Some, None, Result, Ok, Err, if◌then◌else◌, ◌==◌, nat_eq, nat_lt, nat_le, codes}
+use Rattle.std.specs.Prelude.{◌≡◌, ◌≢◌, ◌<◌, ◌≤◌, All, slice_get, slice_index, slice_range, ℕ, ◌+◌, ◌-◌, ◌*◌, ◌/◌, ◌%◌, ℤ, pos, negsuc, Bool, false, true, not, ◌&&◌, ◌||◌, List, [], ◌∷◌, ◌++◌, length, Option, Some, None, Result, Ok, Err, if◌then◌else◌, ◌==◌, nat_eq, nat_lt, nat_le, codes}
 use Rattle.std.specs.Fmt.{signed_decimal}
 use Rattle.std.specs.List.{flat_map, list_all, AllByRecursion}
 use Rattle.std.specs.Option.{option_map, option_or}
@@ -24,6 +24,10 @@ hex b = hex_digit (b / 16) ∷ hex_digit (b % 16) ∷ []
 -- what does not stand for itself in a string literal: a byte that is escaped, or a number that is no byte
 abbrev pub is_escaped : ℕ → Bool
 is_escaped b = ((b == 34) || (b == 92)) || ((nat_lt b 32 || (b == 127)) || nat_le 256 b)
+
+-- none of the bytes between two places is escaped
+abbrev pub PlainBetween : List ℕ → ℕ → ℕ → Type 0
+PlainBetween bytes from to = (k : ℕ) → from ≤ k → k < to → is_escaped (slice_index bytes k) ≡ false
 
 -- a byte in a string literal
 abbrev pub string_byte : ℕ → List ℕ

@@ -14,6 +14,7 @@ pub mod lists;
 pub mod literal;
 pub mod memory;
 pub mod outside;
+mod plain;
 pub mod refusal;
 
 pub use cell::{Cell, Cells, Kind, Row};

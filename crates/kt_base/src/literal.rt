@@ -2,13 +2,14 @@
 
 ghost use Rattle.std.specs.Prelude.{◌≡◌, ◌≢◌, ◌<◌, ◌++◌, [], ℤ, List, Some, Ok, OnOk, OnErr, IfOk, IfSome, IfNone, All, is_some, false, true, ◌&&◌, IsTrue, drop, ◌+◌, ◌*◌, FitsSigned};
 ghost use Rattle.std.specs.Int.{w64};
-ghost use Rattle.std.specs.List.{before_first, position, list_all};
+ghost use Rattle.std.specs.List.{before_first, list_all};
 ghost use Rattle.std.specs.Fmt.{signed_decimal};
 ghost use Rattle.std.specs.Option.{option_map};
 ghost use Rattle.kt_base.specs.Borrowed.{cell_in as borrowed};
 ghost use Rattle.kt_base.specs.Literals.{below_zero, count_on, hex, hex_digit, hex_value, is_hex, is_digit, is_count, is_escaped, string_byte, string_literal, binary_literal, literal, number_in, string_in, binary_in, pairs, unquoted, among, slashed, high, cell_in, cell_under, cell_or, truth, text as text_value, raw as raw_value, number as number_value, number_fits, short_bytes, Reads, IsNext, IsLineEnd, literals_are_read, literals_are_spelled};
 
 use crate::limits::CELL_LEN;
+use crate::plain::{is_escaped, plain_len};
 use crate::{Cell, CellRef, Kind, NoMemory, Octets};
 use itoa::Buffer;
 use memchr::memchr;
@@ -80,25 +81,12 @@ fn print_hex(byte: u8, out: &mut Octets) -> Result<(), NoMemory>
     out.extend(&[hex_digit(byte / 16), hex_digit(byte % 16)])
 }
 
-fn is_escaped(byte: u8) -> bool
-    ensures { result ≡ is_escaped byte }
-{
-    byte == b'"' || byte == b'\\' || byte < b' ' || byte == 127
-}
-
-// The place of the first byte that is escaped.
-fn escaped_at(bytes: &[u8]) -> Option<usize>
-    ensures { result ≡ position is_escaped bytes.now }
-{
-    bytes.iter().position(|b| is_escaped(*b))
-}
-
 // The bytes before the first one that is escaped, and those from it on.
 fn cut_plain(bytes: &[u8]) -> (&[u8], &[u8])
     ensures cut { bytes.now ≡ result.0.now ++ result.1.now }
     ensures plain { result.0.now ≡ before_first is_escaped bytes.now }
 {
-    bytes.split_at(escaped_at(bytes).unwrap_or(bytes.len()))
+    bytes.split_at(plain_len(bytes))
 }
 
 fn print_byte(byte: u8, out: &mut Octets) -> Result<(), NoMemory>
