@@ -53,6 +53,12 @@ chain() {
     for name; do rt ci "$name" || return; done
 }
 
+# The same where no other chain can use the processors.
+chain_beside() {
+    renice -n 10 "$BASHPID" >/dev/null 2>&1
+    chain "$@"
+}
+
 # Proves the program and what it stands on, side by side, in a copy without must-fail edits.
 build() {
     local log name begun
@@ -65,11 +71,11 @@ build() {
         cp -r "$top/crates/$name" "$room/crates" && grep "^$name[: ]" "$top/crates.txt" >>"$room/crates.txt"
         rm -rf "$room/crates/$name"/{out,must-fail}
     done
-    # Crate by crate along three chains at once, so that a crate that the others wait for gets all processors that are left.
+    # Crate by crate along three chains at once. The last of them is the longest, and goes first wherever processors are short.
     if ! (
         cd "$room" || exit
-        chain kt_script kt_judge kt_opening kt_run_check >"$room/texts" &
-        chain kt_loglaws kt_seatlock kt_scan kt_host kt_boot >"$room/log" &
+        chain_beside kt_script kt_judge kt_opening kt_run_check >"$room/texts" &
+        chain_beside kt_loglaws kt_seatlock kt_scan kt_host kt_boot >"$room/log" &
         chain kt_tablet kt_engine kt_serve kt_app
         wait
         cat "$room/texts" "$room/log"
