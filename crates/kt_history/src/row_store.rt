@@ -103,6 +103,7 @@ pub trait RowStore {
         ensures grows { (k : ℕ) → owns self.new pool.new k → owns self.old pool.old k ⊎ (at_cell pool.old k ≡ None) }
         ensures frame { (k : ℕ) → ¬ owns self.new pool.new k → at_cell pool.new k ≡ at_cell pool.old k };
 
-    /// It stands as it was where no place of its own has changed, whatever else the pool has and promises.
-    ghost stays: { (s : Self) (old new : Contents) → stands s old → ((k : ℕ) → owns s old k → at_cell new k ≡ at_cell old k) → stands s new × (store s new ≡ store s old) × (cells s new ≡ cells s old) × ((k : ℕ) → owns s new k ↔ owns s old k) };
+    /// A store stands as it was where no place of its own has changed, whatever else the pool has and promises.
+    fn frame_law()
+        ensures { (s : Self) (old new : Contents) → stands s old → ((k : ℕ) → owns s old k → at_cell new k ≡ at_cell old k) → stands s new × (store s new ≡ store s old) × (cells s new ≡ cells s old) × ((k : ℕ) → owns s new k ↔ owns s old k) };
 }

@@ -1,9 +1,8 @@
 //! A MemRowSet as a store of rows.
-ghost use Rattle.std.specs.Prelude.{refl};
 ghost use Rattle.kt_history.specs.declared.target.Target.TheVariants.{Mem};
 ghost use Rattle.kt_memrowset.specs.Stores.{IsStore, store_of, number_of, is_frozen, Owns, cells_had};
-ghost use Rattle.kt_memrowset.proofs.Frames.{is_still, store_still, had_still, owns_back, owns_on};
 
+use crate::laws;
 use crate::store::MemRowSet;
 use kt_base::NoMemory;
 use kt_history::{ChangeList, Kindly, OpRef, RowStore, Taken, Target};
@@ -22,8 +21,6 @@ impl RowStore for MemRowSet {
     ghost is_closed = { is_frozen };
 
     ghost target = { λ s. Mem (number_of s) };
-
-    ghost stays = { λ s old new here same. (is_still s old new here same, (store_still s old new here same, (had_still s old new here same, λ k. (owns_back s old new here same k, owns_on s old new here same k)))) };
 
     fn live(&self, pool: &Pool, key: &[u8]) -> bool {
         MemRowSet::live(self, pool, key)
@@ -45,5 +42,9 @@ impl RowStore for MemRowSet {
 
     fn take(&mut self, pool: &mut Pool, ts: u64, op: &OpRef<'_>) -> Taken {
         MemRowSet::take(self, pool, ts, op)
+    }
+
+    fn frame_law() {
+        laws::frame_law();
     }
 }

@@ -28,7 +28,7 @@ impl MemRowSet {
     ghost use Rattle.kt_tree.specs.Entries.{value_of};
     ghost use Rattle.kt_tree.specs.Trees.{entries, place_at};
     ghost use Rattle.kt_memrowset.specs.Taking.{JoinsIf};
-    ghost use Rattle.kt_history.specs.Stores.{kind_made, last_row, share, changes_upto};
+    ghost use Rattle.kt_history.specs.Stores.{kind_made, is_there, last_row, share, changes_upto};
     ghost use Rattle.kt_memrowset.specs.Stores.{IsStore, store_of, Owns, cells_had, number_of, is_frozen, change_by, Joins, key_past};
 
     /// A store with no row. It takes no cell.

@@ -159,6 +159,8 @@ impl<S: ChangeStore, C: Clock> Tablet<S, C> {
             &mut self.flight,
             write.ops.len(),
         )?;
+        // What the pool promises changes nothing of the store.
+        S::frame_law();
         match self.pool.reserve(needs) {
             Ok(()) => {}
             Err(_) => unreachable!(),

@@ -34,7 +34,7 @@ invariant_of-self-2 g c =
     let lines = one_line _ _ _ _ c.push_reserved.ensures.items c.make_room.ensures.lines in
     let sound = begin_sound g.C.Clock.readings _ c.now-reading.new.self c.args.number c.args.index c.begin_free-ts.result c.now-reading.result c.replace-ops.result.ops (need c.replace-ops.result.ops) _ _ _ _ _ _
     c.self.invariant.0
-    (ap (λ s. filled c.self.inside.fill s ∷ []) (promised_alike g.S.RowStore.store c.self.inside.store c.self.inside.pool c.reserve.new.self (c.self.inside.pool.reserved + need c.replace-ops.result.ops) (g.met.S.RowStore.stays c.self.inside.store c.self.inside.pool (with_reserved c.self.inside.pool (c.self.inside.pool.reserved + need c.replace-ops.result.ops)) c.self.invariant.2 (λ k own. refl)).1 promised))
+    (ap (λ s. filled c.self.inside.fill s ∷ []) (promised_alike g.S.RowStore.store c.self.inside.store c.self.inside.pool c.reserve.new.self (c.self.inside.pool.reserved + need c.replace-ops.result.ops) (c.frame_law.ensures c.self.inside.store c.self.inside.pool (with_reserved c.self.inside.pool (c.self.inside.pool.reserved + need c.replace-ops.result.ops)) c.self.invariant.2 (λ k own. refl)).1 promised))
     may
     (c.begin_free-ts.ensures.ts.0 ∙ ap (λ f. next_timestamp f.c c.now-reading.result) c.make_room.ensures.flight)
     (apart c.replace-ops.result.ops c.self.inside.flights.items
@@ -56,11 +56,11 @@ invariant_of-self-2 g c =
           may.may.at.rests c.push_reserved-2.ensures.items c.make_room.ensures.flights
           (c.begin_free-ts.ensures.flying ∙ (λ k. (c.make_room.ensures.flight k).flying ++ record { who = c.args.number; ts = c.begin_free-ts.result; keys = c.replace-ops.result.keyed k } ∷ []))
           may.cells promised room,
-      promised_placed g.S.RowStore.stands c.self.inside.store c.self.inside.pool c.reserve.new.self (c.self.inside.pool.reserved + need c.replace-ops.result.ops) (g.met.S.RowStore.stays c.self.inside.store c.self.inside.pool (with_reserved c.self.inside.pool (c.self.inside.pool.reserved + need c.replace-ops.result.ops)) c.self.invariant.2 (λ k own. refl)).0 promised,
+      promised_placed g.S.RowStore.stands c.self.inside.store c.self.inside.pool c.reserve.new.self (c.self.inside.pool.reserved + need c.replace-ops.result.ops) (c.frame_law.ensures c.self.inside.store c.self.inside.pool (with_reserved c.self.inside.pool (c.self.inside.pool.reserved + need c.replace-ops.result.ops)) c.self.invariant.2 (λ k own. refl)).0 promised,
       told_begun (work_of c.self.inside.schema.value c.self.inside.plan.value c.self.inside.cells c.self.inside.fill) _ _ _ c.push_reserved.new.self.items _ _ _ _
           (told_on g.C.Clock.readings _ _ _ _ _ _ _ _ _ _ _ _ c.self.invariant.0 sound refl lines c.self.invariant.3)
           c.push_reserved-2.ensures.items c.make_room.ensures.flights refl c.replace-ops.result.empty.0,
-      vacant_still _ _ c.self.inside.pool c.reserve.new.self (ap (λ s. filled c.self.inside.fill s ∷ []) (promised_alike g.S.RowStore.store c.self.inside.store c.self.inside.pool c.reserve.new.self (c.self.inside.pool.reserved + need c.replace-ops.result.ops) (g.met.S.RowStore.stays c.self.inside.store c.self.inside.pool (with_reserved c.self.inside.pool (c.self.inside.pool.reserved + need c.replace-ops.result.ops)) c.self.invariant.2 (λ k own. refl)).1 promised)) (ap used promised) c.self.invariant.4,
+      vacant_still _ _ c.self.inside.pool c.reserve.new.self (ap (λ s. filled c.self.inside.fill s ∷ []) (promised_alike g.S.RowStore.store c.self.inside.store c.self.inside.pool c.reserve.new.self (c.self.inside.pool.reserved + need c.replace-ops.result.ops) (c.frame_law.ensures c.self.inside.store c.self.inside.pool (with_reserved c.self.inside.pool (c.self.inside.pool.reserved + need c.replace-ops.result.ops)) c.self.invariant.2 (λ k own. refl)).1 promised)) (ap used promised) c.self.invariant.4,
       written_begun (g.S.RowStore.target c.self.inside.store) c.self.inside.flights.items _ _ _ c.self.invariant.5 c.push_reserved-2.ensures.items c.make_room.ensures.flights refl c.replace-ops.result.empty.0 c.replace-ops.result.empty.1,
       c.self.invariant.6,
     )
@@ -70,7 +70,7 @@ returns-clause-begun g c =
     let promised : c.reserve.new.self ≡ with_reserved c.self.inside.pool (c.self.inside.pool.reserved + need c.replace-ops.result.ops) = search rules in
     let same : c.replace-ops.result.ops ≡ c.args.write.now.ops = ap (λ w. w.ops) c.replace-ops.ensures.value in
     begun_as _ _ c.args.number c.args.index c.begin_free-ts.result c.args.write.now.ops c.replace-ops.result.ops same (has_begun _ _ c.args.number c.args.index c.begin_free-ts.result c.now-reading.result c.replace-ops.result.ops _ _ _ _ _ c.self.view_is
-    (ap (λ s. filled c.self.inside.fill s ∷ []) (promised_alike g.S.RowStore.store c.self.inside.store c.self.inside.pool c.reserve.new.self (c.self.inside.pool.reserved + need c.replace-ops.result.ops) (g.met.S.RowStore.stays c.self.inside.store c.self.inside.pool (with_reserved c.self.inside.pool (c.self.inside.pool.reserved + need c.replace-ops.result.ops)) c.self.invariant.2 (λ k own. refl)).1 promised))
+    (ap (λ s. filled c.self.inside.fill s ∷ []) (promised_alike g.S.RowStore.store c.self.inside.store c.self.inside.pool c.reserve.new.self (c.self.inside.pool.reserved + need c.replace-ops.result.ops) (c.frame_law.ensures c.self.inside.store c.self.inside.pool (with_reserved c.self.inside.pool (c.self.inside.pool.reserved + need c.replace-ops.result.ops)) c.self.invariant.2 (λ k own. refl)).1 promised))
     (c.begin_free-ts.ensures.ts.0 ∙ ap (λ f. next_timestamp f.c c.now-reading.result) c.make_room.ensures.flight)
     (one_line _ _ _ _ c.push_reserved.ensures.items c.make_room.ensures.lines)
     (c.begin_free-ts.ensures.mark ∙ ap (λ f. f.a) c.make_room.ensures.flight)
