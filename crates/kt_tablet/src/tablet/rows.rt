@@ -72,6 +72,8 @@ fn apply_op<S: ChangeStore>(store: &mut S, pool: &mut Pool, ts: u64, op: &OpRef<
     let before = pool.reserved();
     let needs = cells_of(op);
     let row = change_store(store, pool, ts, op);
+    // What is given back changes nothing of the store.
+    S::frame_law();
     let taken = before - pool.reserved();
     pool.release(needs - taken);
     row
