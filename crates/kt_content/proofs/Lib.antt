@@ -45,3 +45,4 @@ pub mod Ends
 pub mod StoresCome
 pub mod Opened
 pub mod KeepingLent
+pub mod OneContent

@@ -1,7 +1,8 @@
 -- What a superblock and the records of a log hold together.
 use Rattle.std.specs.Prelude.{◌≡◌, ◌==◌, ℕ, max, true, false, is_some, List, [], ◌∷◌, Result, Ok, ◌≤◌, length, ◌<◌, Option, Some, None}
 use Rattle.kt_history.specs.Rows.{Row}
-use Rattle.kt_history.specs.History.{Past, IsPastUpTo}
+use Rattle.kt_history.specs.History.{Past, IsPast, IsPastUpTo}
+use Rattle.kt_history.specs.SamePasts.{ShowTheSame}
 use Rattle.kt_records.specs.declared.entry.Entry.{Entry}
 use Rattle.kt_histlaws.specs.Histories.{past_hist, ShowsKey}
 use Rattle.kt_history.specs.Stores.{Hist, row_of, step_of}
@@ -97,3 +98,12 @@ EachPasses rules q (h ∷ held) = HistPasses rules q h.1 × EachPasses rules q h
 abbrev pub what_stores_have_passes : Type 0
 what_stores_have_passes = (rules : Rules) (fill : Row) (super : Super) (records : List Entry) (c : ℕ) (past : Past) (q : List ℕ) (held : Held) → AreRules rules
     → IsContent rules fill super records c past → content_at fill super records q ≡ Ok held → EachPasses rules q held
+
+-- pasts of one mark of which each key has the same history from there on show the same, so that no run tells them apart
+abbrev pub same_histories_show_the_same : Type 0
+same_histories_show_the_same = (p q : Past) → IsPast p → IsPast q → q.mark ≡ p.mark → ((k : List ℕ) → SameFrom p.mark (past_hist k p) (past_hist k q)) → ShowTheSame p q
+
+-- and so do all pasts that a superblock and records hold
+abbrev pub contents_show_the_same : Type 0
+contents_show_the_same = (rules : Rules) (fill : Row) (super : Super) (records : List Entry) (c d : ℕ) (p q : Past) → IsContent rules fill super records c p
+    → IsContent rules fill super records d q → (c ≡ d) × ShowTheSame p q

@@ -1,5 +1,5 @@
 //! Laws of content: what the stores of an opening make of a log, key by key.
-ghost use Rattle.kt_content.specs.Content.{a_fresh_tablet_is_empty, what_stores_have_passes};
+ghost use Rattle.kt_content.specs.Content.{a_fresh_tablet_is_empty, what_stores_have_passes, same_histories_show_the_same, contents_show_the_same};
 ghost use Rattle.kt_content.specs.Rules.{rows_of_a_history_pass};
 ghost use Rattle.kt_content.specs.BareLog.{the_bare_log_is_the_empty_superblock, the_empty_superblock_is_the_bare_log};
 ghost use Rattle.kt_content.specs.Agreement.{moves_that_agree_are_played, what_is_played_agrees};
@@ -37,4 +37,14 @@ pub fn passes_law()
 /// And so they take its row at each time, also without some of its changes.
 pub fn rows_pass_law()
     ensures { rows_of_a_history_pass }
+{}
+
+/// Pasts of which each key has the same history show the same, so that no run tells them apart.
+pub fn same_law()
+    ensures { same_histories_show_the_same }
+{}
+
+/// And so do all pasts that a superblock and records hold: there is one content at most.
+pub fn one_content_law()
+    ensures { contents_show_the_same }
 {}
