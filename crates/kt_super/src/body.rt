@@ -37,7 +37,7 @@ pub fn slot_for(number: u64) -> u64
 fn format_at(bytes: &[u8]) -> Result<(u16, &[u8]), Stop>
     ensures { Gives (λ x. (x.0, x.1.now)) result (checked_at w16 is_format bytes.now) }
 {
-    let (format, rest) = u16_at(bytes)?;
+    let (format, rest) = tri!(u16_at(bytes));
     if format == 1 {
         Ok((format, rest))
     } else {
@@ -48,7 +48,7 @@ fn format_at(bytes: &[u8]) -> Result<(u16, &[u8]), Stop>
 fn meta_number_at(slot: u64, bytes: &[u8]) -> Result<(u64, &[u8]), Stop>
     ensures { Gives (λ x. (x.0, x.1.now)) result (checked_at w64 (is_number slot) bytes.now) }
 {
-    let (number, rest) = u64_at(bytes)?;
+    let (number, rest) = tri!(u64_at(bytes));
     if 1 <= number && number < SMALL && slot_for(number) == slot {
         Ok((number, rest))
     } else {
@@ -59,7 +59,7 @@ fn meta_number_at(slot: u64, bytes: &[u8]) -> Result<(u64, &[u8]), Stop>
 fn next_file_at(bytes: &[u8]) -> Result<(u64, &[u8]), Stop>
     ensures { Gives (λ x. (x.0, x.1.now)) result (checked_at w64 is_next_file bytes.now) }
 {
-    let (number, rest) = u64_at(bytes)?;
+    let (number, rest) = tri!(u64_at(bytes));
     if 3 <= number && number < SMALL {
         Ok((number, rest))
     } else {
@@ -71,7 +71,7 @@ fn next_file_at(bytes: &[u8]) -> Result<(u64, &[u8]), Stop>
 fn next_column_at(bytes: &[u8]) -> Result<(u16, &[u8]), Stop>
     ensures { Gives (λ x. (x.0, x.1.now)) result (checked_at w16 is_next_column bytes.now) }
 {
-    let (number, rest) = u16_at(bytes)?;
+    let (number, rest) = tri!(u16_at(bytes));
     if 1 <= number {
         Ok((number, rest))
     } else {
@@ -83,15 +83,15 @@ fn next_column_at(bytes: &[u8]) -> Result<(u16, &[u8]), Stop>
 fn head_of(slot: u64, bytes: &[u8]) -> Result<(Head, &[u8]), Stop>
     ensures { Gives (λ x. (x.0, x.1.now)) result (head_at slot bytes.now) }
 {
-    let (_, rest) = format_at(bytes)?;
-    let (number, rest) = meta_number_at(slot, rest)?;
-    let (a, rest) = u64_at(rest)?;
-    let (c, rest) = u64_at(rest)?;
-    let (need, rest) = small_at(rest)?;
-    let (last_mem, rest) = small_at(rest)?;
-    let (next_rowset, rest) = small_at(rest)?;
-    let (next_file, rest) = next_file_at(rest)?;
-    let (next_column, rest) = next_column_at(rest)?;
+    let (_, rest) = tri!(format_at(bytes));
+    let (number, rest) = tri!(meta_number_at(slot, rest));
+    let (a, rest) = tri!(u64_at(rest));
+    let (c, rest) = tri!(u64_at(rest));
+    let (need, rest) = tri!(small_at(rest));
+    let (last_mem, rest) = tri!(small_at(rest));
+    let (next_rowset, rest) = tri!(small_at(rest));
+    let (next_file, rest) = tri!(next_file_at(rest));
+    let (next_column, rest) = tri!(next_column_at(rest));
     let head = Head {
         number,
         a,
@@ -135,13 +135,13 @@ fn schema_of(alloc: Global, next: u16, bytes: &[u8]) -> Result<(Schema, &[u8]), 
 pub fn body_of(alloc: Global, slot: u64, bytes: &[u8]) -> Result<(Meta, &[u8]), Stop>
     ensures { Gives (λ x. (x.0, x.1.now)) result (body_at slot bytes.now) }
 {
-    let (head, rest) = head_of(slot, bytes)?;
-    let (schema, rest) = schema_of(alloc, head.next_column, rest)?;
+    let (head, rest) = tri!(head_of(slot, bytes));
+    let (schema, rest) = tri!(schema_of(alloc, head.next_column, rest));
     let next = Next {
         rowset: head.next_rowset,
         file: head.next_file,
     };
-    let (rowsets, rest) = counted_rowsets_of(alloc, next, rest)?;
+    let (rowsets, rest) = tri!(counted_rowsets_of(alloc, next, rest));
     let meta = Meta {
         number: head.number,
         a: head.a,

@@ -45,7 +45,7 @@ fn may_stand(earlier: &[Column], kind: Kind, key: bool, nullable: bool) -> bool
 fn id_at<'a>(next: u16, earlier: &[Column], bytes: &'a [u8]) -> Result<(u16, &'a [u8]), Stop>
     ensures { Gives (λ x. (x.0, x.1.now)) result (checked_at w16 (is_free_id next earlier.now) bytes.now) }
 {
-    let (id, rest) = u16_at(bytes)?;
+    let (id, rest) = tri!(u16_at(bytes));
     if id < next && !has_id(earlier, id) {
         Ok((id, rest))
     } else {
@@ -74,7 +74,7 @@ fn has_free_name(earlier: &[Column], len: u8) -> bool
 fn name_len_at<'a>(earlier: &[Column], bytes: &'a [u8]) -> Result<(u8, &'a [u8]), Stop>
     ensures { Gives (λ x. (x.0, x.1.now)) result (checked_at w8 (has_free_name earlier.now) bytes.now) }
 {
-    let (len, rest) = u8_at(bytes)?;
+    let (len, rest) = tri!(u8_at(bytes));
     if has_free_name(earlier, len) {
         Ok((len, rest))
     } else {
@@ -90,8 +90,8 @@ fn name_of<'a>(
 ) -> Result<(Octets, &'a [u8]), Stop>
     ensures { Gives (λ x. (x.0, x.1.now)) result (name_at earlier.now bytes.now) }
 {
-    let (len, from) = name_len_at(earlier, bytes)?;
-    let (name, rest) = front_of(from, len as usize)?;
+    let (len, from) = tri!(name_len_at(earlier, bytes));
+    let (name, rest) = tri!(front_of(from, len as usize));
     if has_name(earlier, name) {
         return fault_at(from);
     }
@@ -108,7 +108,7 @@ fn may_be(earlier: &[Column], number: u8) -> bool
 fn kind_number_at<'a>(earlier: &[Column], bytes: &'a [u8]) -> Result<(u8, &'a [u8]), Stop>
     ensures { Gives (λ x. (x.0, x.1.now)) result (checked_at w8 (may_be earlier.now) bytes.now) }
 {
-    let (number, rest) = u8_at(bytes)?;
+    let (number, rest) = tri!(u8_at(bytes));
     if may_be(earlier, number) {
         Ok((number, rest))
     } else {
@@ -133,7 +133,7 @@ fn kind_of(number: u8) -> Kind
 fn flags_at<'a>(earlier: &[Column], kind: Kind, bytes: &'a [u8]) -> Result<(u8, &'a [u8]), Stop>
     ensures { Gives (λ x. (x.0, x.1.now)) result (checked_at w8 (are_flags earlier.now kind) bytes.now) }
 {
-    let (flags, rest) = u8_at(bytes)?;
+    let (flags, rest) = tri!(u8_at(bytes));
     if flags < 8 && may_stand(earlier, kind, flags % 2 == 1, flags / 2 % 2 == 1) {
         Ok((flags, rest))
     } else {
@@ -144,7 +144,7 @@ fn flags_at<'a>(earlier: &[Column], kind: Kind, bytes: &'a [u8]) -> Result<(u8, 
 fn tag_at(bytes: &[u8]) -> Result<(u8, &[u8]), Stop>
     ensures { Gives (λ x. (x.0, x.1.now)) result (checked_at w8 is_tag bytes.now) }
 {
-    let (tag, rest) = u8_at(bytes)?;
+    let (tag, rest) = tri!(u8_at(bytes));
     if tag < 4 {
         Ok((tag, rest))
     } else {
@@ -155,7 +155,7 @@ fn tag_at(bytes: &[u8]) -> Result<(u8, &[u8]), Stop>
 fn bit_at(bytes: &[u8]) -> Result<(u8, &[u8]), Stop>
     ensures { Gives (λ x. (x.0, x.1.now)) result (checked_at w8 is_bit bytes.now) }
 {
-    let (bit, rest) = u8_at(bytes)?;
+    let (bit, rest) = tri!(u8_at(bytes));
     if bit < 2 {
         Ok((bit, rest))
     } else {
@@ -167,8 +167,8 @@ fn bit_at(bytes: &[u8]) -> Result<(u8, &[u8]), Stop>
 fn text_of(alloc: Global, bytes: &[u8]) -> Result<(Octets, &[u8]), Stop>
     ensures { Gives (λ x. (x.0, x.1.now)) result (text_at bytes.now) }
 {
-    let (len, rest) = u32_at(bytes)?;
-    let (text, rest) = front_of(rest, len as usize)?;
+    let (len, rest) = tri!(u32_at(bytes));
+    let (text, rest) = tri!(front_of(rest, len as usize));
     Ok((Octets::from_slice(alloc, text)?, rest))
 }
 
@@ -179,15 +179,15 @@ fn cell_by(alloc: Global, tag: u8, bytes: &[u8]) -> Result<(Cell, &[u8]), Stop>
     match tag {
         0 => Ok((Cell::Null, bytes)),
         1 => {
-            let (bit, rest) = bit_at(bytes)?;
+            let (bit, rest) = tri!(bit_at(bytes));
             Ok((Cell::Bool(bit == 1), rest))
         }
         2 => {
-            let (number, rest) = u64_at(bytes)?;
+            let (number, rest) = tri!(u64_at(bytes));
             Ok((Cell::Int(number.cast_signed()), rest))
         }
         _ => {
-            let (text, rest) = text_of(alloc, bytes)?;
+            let (text, rest) = tri!(text_of(alloc, bytes));
             Ok((Cell::Bytes(text), rest))
         }
     }
@@ -197,7 +197,7 @@ fn cell_by(alloc: Global, tag: u8, bytes: &[u8]) -> Result<(Cell, &[u8]), Stop>
 fn cell_of(alloc: Global, bytes: &[u8]) -> Result<(Cell, &[u8]), Stop>
     ensures { Gives (λ x. (x.0, x.1.now)) result (cell_at bytes.now) }
 {
-    let (tag, rest) = tag_at(bytes)?;
+    let (tag, rest) = tri!(tag_at(bytes));
     cell_by(alloc, tag, rest)
 }
 
@@ -206,7 +206,7 @@ fn default_of(alloc: Global, flags: u8, bytes: &[u8]) -> Result<(Option<Cell>, &
     ensures { Gives (λ x. (x.0, x.1.now)) result (default_at flags bytes.now) }
 {
     if flags / 4 == 1 {
-        let (cell, rest) = cell_of(alloc, bytes)?;
+        let (cell, rest) = tri!(cell_of(alloc, bytes));
         return Ok((Some(cell), rest));
     }
     Ok((None, bytes))
@@ -221,12 +221,12 @@ fn column_of<'a>(
 ) -> Result<(Column, &'a [u8]), Stop>
     ensures { Gives (λ x. (x.0, x.1.now)) result (column_at next earlier.now bytes.now) }
 {
-    let (id, rest) = id_at(next, earlier, bytes)?;
-    let (name, rest) = name_of(alloc, earlier, rest)?;
-    let (number, rest) = kind_number_at(earlier, rest)?;
+    let (id, rest) = tri!(id_at(next, earlier, bytes));
+    let (name, rest) = tri!(name_of(alloc, earlier, rest));
+    let (number, rest) = tri!(kind_number_at(earlier, rest));
     let kind = kind_of(number);
-    let (flags, rest) = flags_at(earlier, kind, rest)?;
-    let (default, rest) = default_of(alloc, flags, rest)?;
+    let (flags, rest) = tri!(flags_at(earlier, kind, rest));
+    let (default, rest) = tri!(default_of(alloc, flags, rest));
     let column = Column {
         id,
         name,
@@ -259,7 +259,7 @@ fn columns_of(
 fn count_at(next: u16, bytes: &[u8]) -> Result<(u16, &[u8]), Stop>
     ensures { Gives (λ x. (x.0, x.1.now)) result (checked_at w16 (may_have next) bytes.now) }
 {
-    let (count, rest) = u16_at(bytes)?;
+    let (count, rest) = tri!(u16_at(bytes));
     if 1 <= count && count as usize <= COLUMNS && count <= next {
         Ok((count, rest))
     } else {
@@ -276,6 +276,6 @@ pub fn counted_columns_of(
 ) -> Result<(Vec<Column>, &[u8]), Stop>
     ensures { Gives (λ x. (x.0.items, x.1.now)) result (counted_columns_at next bytes.now) }
 {
-    let (count, rest) = count_at(next, bytes)?;
+    let (count, rest) = tri!(count_at(next, bytes));
     columns_of(alloc, count, next, rest)
 }

@@ -5,6 +5,16 @@
 //! but the slot as they were. It stands on kt_bytes, kt_disk and kt_schema.
 #![tactic(auto)]
 
+// What `?` gives where the error stays as it is, with no conversion to be proved.
+macro_rules! tri {
+    ($result:expr) => {
+        match $result {
+            Ok(value) => value,
+            Err(error) => return Err(error),
+        }
+    };
+}
+
 mod body;
 mod columns;
 mod gate;

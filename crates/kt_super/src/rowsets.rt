@@ -16,7 +16,7 @@ pub const SMALL: u64 = 1 << 62;
 pub fn small_at(bytes: &[u8]) -> Result<(u64, &[u8]), Stop>
     ensures { Gives (λ x. (x.0, x.1.now)) result (checked_at w64 is_small bytes.now) }
 {
-    let (number, rest) = u64_at(bytes)?;
+    let (number, rest) = tri!(u64_at(bytes));
     if number < SMALL {
         Ok((number, rest))
     } else {
@@ -27,7 +27,7 @@ pub fn small_at(bytes: &[u8]) -> Result<(u64, &[u8]), Stop>
 fn file_number_at<'a>(next: u64, taken: &Taken, bytes: &'a [u8]) -> Result<(u64, &'a [u8]), Stop>
     ensures { Gives (λ x. (x.0, x.1.now)) result (checked_at w64 (is_free next taken.now) bytes.now) }
 {
-    let (number, rest) = u64_at(bytes)?;
+    let (number, rest) = tri!(u64_at(bytes));
     if 3 <= number && number < next && !taken.has(number) {
         Ok((number, rest))
     } else {
@@ -39,8 +39,8 @@ fn file_number_at<'a>(next: u64, taken: &Taken, bytes: &'a [u8]) -> Result<(u64,
 fn file_of<'a>(next: u64, taken: &Taken, bytes: &'a [u8]) -> Result<(FileRef, &'a [u8]), Stop>
     ensures { Gives (λ x. (x.0, x.1.now)) result (file_at next taken.now bytes.now) }
 {
-    let (file, rest) = file_number_at(next, taken, bytes)?;
-    let (len, rest) = small_at(rest)?;
+    let (file, rest) = tri!(file_number_at(next, taken, bytes));
+    let (len, rest) = tri!(small_at(rest));
     Ok((FileRef { file, len }, rest))
 }
 
@@ -60,7 +60,7 @@ fn file_count_at<'a>(
 ) -> Result<(u32, &'a [u8]), Stop>
     ensures { Gives (λ x. (x.0, x.1.now)) result (checked_at w32 (has_room next taken.now behind) bytes.now) }
 {
-    let (count, rest) = u32_at(bytes)?;
+    let (count, rest) = tri!(u32_at(bytes));
     if u64::from(count) + u64::from(behind) <= free_numbers(next, taken) {
         Ok((count, rest))
     } else {
@@ -100,8 +100,8 @@ fn counted_files_of<'a>(
     ensures files { Gives (λ x. (x.0, x.1.now)) result (counted_files_at next taken.old behind bytes.now) }
     ensures taken { IfOk result (λ x. taken.new ≡ taken.old ++ numbers_of x.0) }
 {
-    let (count, rest) = file_count_at(next, taken, behind, bytes)?;
-    let (files, rest) = files_of(alloc, count, next, taken, rest)?;
+    let (count, rest) = tri!(file_count_at(next, taken, behind, bytes));
+    let (files, rest) = tri!(files_of(alloc, count, next, taken, rest));
     Ok((FileRefs::of(files), rest))
 }
 
@@ -109,7 +109,7 @@ fn rowset_number_at(least: u64, next: u64, behind: u32, bytes: &[u8]) -> Result<
     ensures number { Gives (λ x. (x.0, x.1.now)) result (checked_at w64 (is_next_rowset least next behind) bytes.now) }
     ensures below { IfOk result (λ x. x.0 < next) }
 {
-    let (number, rest) = u64_at(bytes)?;
+    let (number, rest) = tri!(u64_at(bytes));
     if least <= number && u64::from(behind) < next.saturating_sub(number) {
         Ok((number, rest))
     } else {
@@ -138,12 +138,12 @@ fn rowset_of<'a>(
     ensures taken { IfOk result (λ x. taken.new ≡ taken_by taken.old x.0) }
     ensures below { IfOk result (λ x. x.0.rowset < next.rowset) }
 {
-    let (rowset, rest) = rowset_number_at(least, next.rowset, behind, bytes)?;
-    let (last_dms, rest) = small_at(rest)?;
-    let (base, rest) = file_of(next.file, taken, rest)?;
+    let (rowset, rest) = tri!(rowset_number_at(least, next.rowset, behind, bytes));
+    let (last_dms, rest) = tri!(small_at(rest));
+    let (base, rest) = tri!(file_of(next.file, taken, rest));
     taken.push(base.file)?;
-    let (undo, rest) = counted_files_of(alloc, next.file, taken, behind, rest)?;
-    let (redo, rest) = counted_files_of(alloc, next.file, taken, behind, rest)?;
+    let (undo, rest) = tri!(counted_files_of(alloc, next.file, taken, behind, rest));
+    let (redo, rest) = tri!(counted_files_of(alloc, next.file, taken, behind, rest));
     let read = MetaRowset {
         rowset,
         last_dms,
@@ -179,7 +179,7 @@ fn rowsets_of(
 fn rowset_count_at(next: Next, bytes: &[u8]) -> Result<(u32, &[u8]), Stop>
     ensures { Gives (λ x. (x.0, x.1.now)) result (checked_at w32 (may_have next.rowset next.file) bytes.now) }
 {
-    let (count, rest) = u32_at(bytes)?;
+    let (count, rest) = tri!(u32_at(bytes));
     if u64::from(count) <= next.rowset && u64::from(count) <= next.file.saturating_sub(3) {
         Ok((count, rest))
     } else {
@@ -196,7 +196,7 @@ pub fn counted_rowsets_of(
 ) -> Result<(MetaRowsets, &[u8]), Stop>
     ensures { Gives (λ x. (x.0, x.1.now)) result (counted_rowsets_at next.rowset next.file bytes.now) }
 {
-    let (count, rest) = rowset_count_at(next, bytes)?;
-    let (rowsets, rest) = rowsets_of(alloc, count, next, rest)?;
+    let (count, rest) = tri!(rowset_count_at(next, bytes));
+    let (rowsets, rest) = tri!(rowsets_of(alloc, count, next, rest));
     Ok((MetaRowsets::of(rowsets), rest))
 }

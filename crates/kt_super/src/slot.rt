@@ -11,14 +11,14 @@ use kt_bytes::Stop;
 use std::alloc::Global;
 
 /// Why a slot tells no superblock.
-#[derive(Clone, Copy, Debug, PartialEq, Eq)]
+#[derive(Clone, Copy)]
 pub enum SlotNo {
     Memory,
     At(u64),
 }
 
 /// How a slot begins.
-#[derive(Clone, Copy, Debug, PartialEq, Eq)]
+#[derive(Clone, Copy)]
 pub enum Head {
     /// Its gate is closed.
     Closed,

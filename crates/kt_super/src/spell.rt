@@ -43,16 +43,16 @@ fn put_count(out: &mut Octets, count: usize) -> Result<(), NoMemory>
 fn put_file(out: &mut Octets, file: &FileRef) -> Result<(), NoMemory>
     ensures { OnOk result (out.new ≡ out.old ++ spelled_file file.now) }
 {
-    put_u64(out, file.file)?;
+    tri!(put_u64(out, file.file));
     put_u64(out, file.len)
 }
 
 fn put_files(out: &mut Octets, files: &[FileRef]) -> Result<(), NoMemory>
     ensures { OnOk result (out.new ≡ out.old ++ spelled_files files.now) }
 {
-    put_count(out, files.len())?;
+    tri!(put_count(out, files.len()));
     for file in files {
-        put_file(out, file)?;
+        tri!(put_file(out, file));
     }
     Ok(())
 }
@@ -60,19 +60,19 @@ fn put_files(out: &mut Octets, files: &[FileRef]) -> Result<(), NoMemory>
 fn put_rowset(out: &mut Octets, rowset: &MetaRowset) -> Result<(), NoMemory>
     ensures { OnOk result (out.new ≡ out.old ++ spelled_rowset rowset.now) }
 {
-    put_u64(out, rowset.rowset)?;
-    put_u64(out, rowset.last_dms)?;
-    put_file(out, &rowset.base)?;
-    put_files(out, rowset.undo.as_slice())?;
+    tri!(put_u64(out, rowset.rowset));
+    tri!(put_u64(out, rowset.last_dms));
+    tri!(put_file(out, &rowset.base));
+    tri!(put_files(out, rowset.undo.as_slice()));
     put_files(out, rowset.redo.as_slice())
 }
 
 fn put_rowsets(out: &mut Octets, rowsets: &[MetaRowset]) -> Result<(), NoMemory>
     ensures { OnOk result (out.new ≡ out.old ++ spelled_rowsets rowsets.now) }
 {
-    put_count(out, rowsets.len())?;
+    tri!(put_count(out, rowsets.len()));
     for rowset in rowsets {
-        put_rowset(out, rowset)?;
+        tri!(put_rowset(out, rowset));
     }
     Ok(())
 }
@@ -110,16 +110,16 @@ fn put_cell(out: &mut Octets, cell: &Cell) -> Result<(), NoMemory>
     match cell {
         Cell::Null => put_u8(out, 0),
         Cell::Bool(set) => {
-            put_u8(out, 1)?;
+            tri!(put_u8(out, 1));
             put_u8(out, bit(*set))
         }
         Cell::Int(number) => {
-            put_u8(out, 2)?;
+            tri!(put_u8(out, 2));
             put_u64(out, number.cast_unsigned())
         }
         Cell::Bytes(bytes) => {
-            put_u8(out, 3)?;
-            put_count(out, bytes.len())?;
+            tri!(put_u8(out, 3));
+            tri!(put_count(out, bytes.len()));
             out.extend(bytes.as_slice())
         }
     }
@@ -141,17 +141,17 @@ fn put_name(out: &mut Octets, name: &[u8]) -> Result<(), NoMemory>
     let Ok(len) = u8::try_from(name.len()) else {
         return Err(NoMemory);
     };
-    put_u8(out, len)?;
+    tri!(put_u8(out, len));
     out.extend(name)
 }
 
 fn put_column(out: &mut Octets, column: &Column) -> Result<(), NoMemory>
     ensures { OnOk result (out.new ≡ out.old ++ spelled_column column.now) }
 {
-    put_u16(out, column.id)?;
-    put_name(out, column.name.as_slice())?;
-    put_u8(out, kind_number(column.kind))?;
-    put_u8(out, flags_of(column))?;
+    tri!(put_u16(out, column.id));
+    tri!(put_name(out, column.name.as_slice()));
+    tri!(put_u8(out, kind_number(column.kind)));
+    tri!(put_u8(out, flags_of(column)));
     put_default(out, &column.default)
 }
 
@@ -161,9 +161,9 @@ fn put_columns(out: &mut Octets, columns: &[Column]) -> Result<(), NoMemory>
     let Ok(count) = u16::try_from(columns.len()) else {
         return Err(NoMemory);
     };
-    put_u16(out, count)?;
+    tri!(put_u16(out, count));
     for column in columns {
-        put_column(out, column)?;
+        tri!(put_column(out, column));
     }
     Ok(())
 }
@@ -171,22 +171,22 @@ fn put_columns(out: &mut Octets, columns: &[Column]) -> Result<(), NoMemory>
 fn put_head(out: &mut Octets, meta: &Meta) -> Result<(), NoMemory>
     ensures { OnOk result (out.new ≡ out.old ++ spelled_head (head_of meta.now)) }
 {
-    put_u16(out, 1)?;
-    put_u64(out, meta.number)?;
-    put_u64(out, meta.a)?;
-    put_u64(out, meta.c)?;
-    put_u64(out, meta.need)?;
-    put_u64(out, meta.last_mem)?;
-    put_u64(out, meta.next_rowset)?;
-    put_u64(out, meta.next_file)?;
+    tri!(put_u16(out, 1));
+    tri!(put_u64(out, meta.number));
+    tri!(put_u64(out, meta.a));
+    tri!(put_u64(out, meta.c));
+    tri!(put_u64(out, meta.need));
+    tri!(put_u64(out, meta.last_mem));
+    tri!(put_u64(out, meta.next_rowset));
+    tri!(put_u64(out, meta.next_file));
     put_u16(out, meta.next_column)
 }
 
 fn put_body(out: &mut Octets, meta: &Meta) -> Result<(), NoMemory>
     ensures { OnOk result (out.new ≡ out.old ++ spelled_body meta.now) }
 {
-    put_head(out, meta)?;
-    put_columns(out, meta.schema.columns())?;
+    tri!(put_head(out, meta));
+    tri!(put_columns(out, meta.schema.columns()));
     put_rowsets(out, meta.rowsets.as_slice())
 }
 
@@ -196,10 +196,10 @@ pub fn spelled(alloc: Global, meta: &Meta) -> Result<Octets, NoMemory>
     ensures fits { OnOk result (length (spelled_body meta.now) < 2 ^ 32) }
 {
     let mut body = Octets::new(alloc);
-    put_body(&mut body, meta)?;
+    tri!(put_body(&mut body, meta));
     let mut bytes = Octets::new(alloc);
-    bytes.reserve(body.len().saturating_add(4))?;
-    put_count(&mut bytes, body.len())?;
-    bytes.extend(body.as_slice())?;
+    tri!(bytes.reserve(body.len().saturating_add(4)));
+    tri!(put_count(&mut bytes, body.len()));
+    tri!(bytes.extend(body.as_slice()));
     Ok(bytes)
 }

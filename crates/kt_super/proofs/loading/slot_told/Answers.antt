@@ -1,11 +1,25 @@
 use Rattle.std.proofs.Common.{◌≡◌, ◌∙◌, subst, drop, take}
 use Rattle.kt_disk.specs.Disk.{Files, held}
+use Rattle.kt_disk.proofs.Moments.{turns_then}
 use Rattle.kt_super.specs.declared.slot.Head.{Head}
-use Rattle.kt_super.specs.declared.slot.Head.TheVariants.{Body}
-use Rattle.kt_super.specs.Slots.{IsHead}
+use Rattle.kt_super.specs.declared.slot.Head.TheVariants.{Closed, Short, Body}
+use Rattle.kt_super.specs.Slots.{IsHead, slot_at, of_length}
 use Rattle.kt_super.specs.Faults.{IsFaultBehind}
-use Rattle.kt_super.proofs.SlotParts.{fault_with_body}
+use Rattle.kt_super.specs.Told.{TellsOf}
+use Rattle.kt_super.proofs.SlotParts.{closed_slot, slot_with_body, fault_with_body}
 use Rattle.kt_super.proofs.loading.slot_told.Goals as goal
+
+pub returns-in_err-slot_head-clause-images : goal.returns-in_err-slot_head-clause-images
+returns-in_err-slot_head-clause-images g c told = turns_then _ _ _ _ _ (c.len.ensures.images told) (c.slot_head.ensures.images told)
+
+pub returns-in-Closed-clause-images : goal.returns-in-Closed-clause-images
+returns-in-Closed-clause-images g c told = turns_then _ _ _ _ _ (c.len.ensures.images told) (c.slot_head.ensures.images told)
+
+pub returns-in-Short-clause-images : goal.returns-in-Short-clause-images
+returns-in-Short-clause-images g c told = turns_then _ _ _ _ _ (c.len.ensures.images told) (c.slot_head.ensures.images told)
+
+pub returns-in-Body-clause-images : goal.returns-in-Body-clause-images
+returns-in-Body-clause-images g c told = turns_then _ _ _ _ _ (turns_then _ _ _ _ _ (c.len.ensures.images told) (c.slot_head.ensures.images told)) (c.slot_body.ensures.images told)
 
 pub returns-in-Body-clause-place : goal.returns-in-Body-clause-place
 returns-in-Body-clause-place g c at offset e told is =
