@@ -9,6 +9,16 @@
 //! gone over one by one.
 #![tactic(auto)]
 
+// What `?` gives where the error stays as it is, with no conversion to be proved.
+macro_rules! tri {
+    ($result:expr) => {
+        match $result {
+            Ok(value) => value,
+            Err(error) => return Err(error),
+        }
+    };
+}
+
 mod entries;
 mod error;
 mod items;

@@ -3,6 +3,7 @@
 ghost use Rattle.std.specs.Prelude.{◌≡◌, ◌≤◌, ◌<◌, ◌^◌, [], List, ℕ, map, IfOk, IfErr, IsTrue};
 ghost use Rattle.kt_bytes.specs.Reading.{Gives};
 ghost use Rattle.kt_dict.specs.Reading.{Spells, SpellsWithin, IsCause, IsCauseWithin, IsItems};
+ghost use Rattle.kt_dict.specs.Walk as spec;
 ghost use Rattle.kt_dict.specs.Walk.{is_code, count_at, text_at, entries_at, code_at, used_with, codes_at, block_at};
 
 use crate::error::{CodecNo, Width};
@@ -16,18 +17,25 @@ use std::alloc::Global;
 /// The most entries that a dictionary has.
 pub const MOST: usize = 4096;
 
+/// So many cells can have so many entries.
+fn is_count(cells: usize, count: usize) -> bool
+    ensures value { result ≡ spec.is_count cells count }
+    ensures few { IsTrue result → count ≤ 4096 }
+{
+    count <= MOST && count <= cells && (0 < count || cells == 0)
+}
+
 #[tactic(auto, unfolding(crate::specs::Walk::count_at))]
 fn count_of(n: u32, bytes: &[u8]) -> Result<(usize, &[u8]), Stop>
     ensures read { Gives (λ x. (x.0, x.1.now)) result (count_at n bytes.now) }
     ensures few { IfOk result (λ x. x.0 ≤ 4096) }
 {
-    let (count, rest) = u16_at(bytes)?;
+    let (count, rest) = tri!(u16_at(bytes));
     let count = count as usize;
-    let cells = n as usize;
-    if count <= MOST && count <= cells && (0 < count || cells == 0) {
-        return Ok((count, rest));
+    if !is_count(n as usize, count) {
+        return Err(Stop::Left(bytes.len()));
     }
-    Err(Stop::Left(bytes.len()))
+    Ok((count, rest))
 }
 
 /// The bytes of an entry behind these.
@@ -39,7 +47,7 @@ fn text_of<'a>(
 ) -> Result<(&'a [u8], &'a [u8]), Stop>
     ensures { Gives (λ x. (x.0.now, x.1.now)) result (text_at most (map (λ k. k.now) entries.now.keys) bytes.now) }
 {
-    let (len, rest) = u32_at(bytes)?;
+    let (len, rest) = tri!(u32_at(bytes));
     if len > most || !can_stand(entries, len as usize) {
         return Err(Stop::Left(bytes.len()));
     }
@@ -54,7 +62,7 @@ fn add_entry<'a>(
 ) -> Result<&'a [u8], Stop>
     ensures { Gives (λ rest. (map (λ k. k.now) entries.new.keys, rest.now)) result (entries_at most 1 (map (λ k. k.now) entries.old.keys) bytes.now) }
 {
-    let (text, rest) = text_of(entries, most, bytes)?;
+    let (text, rest) = tri!(text_of(entries, most, bytes));
     if !use_item(entries, text)? {
         return Err(Stop::Left(text.len() + rest.len()));
     }
@@ -72,7 +80,7 @@ fn add_entries<'a>(
 {
     let mut rest = bytes;
     for _ in 0..count {
-        rest = add_entry(entries, most, rest)?;
+        rest = tri!(add_entry(entries, most, rest));
     }
     Ok(rest)
 }
@@ -88,7 +96,7 @@ fn entries_by<'a>(
     requires { table.old.keys ≡ [] }
     ensures { Gives (λ x. (x.0, x.1.now)) result (entries_at most count [] bytes.now) }
 {
-    let rest = add_entries(table, count, most, bytes)?;
+    let rest = tri!(add_entries(table, count, most, bytes));
     Ok((texts_of(alloc, table.as_slice())?, rest))
 }
 
@@ -106,7 +114,7 @@ fn code_of(after: usize, count: usize, used: usize, bytes: &[u8]) -> Result<(u16
     ensures read { Gives (λ x. (x.0, x.1.now)) result (code_at after count used bytes.now) }
     ensures within { IfOk result (λ x. x.0 < count) }
 {
-    let (code, rest) = u16_at(bytes)?;
+    let (code, rest) = tri!(u16_at(bytes));
     if !stands(after, count, used, code as usize) {
         return Err(Stop::Left(bytes.len()));
     }
@@ -142,7 +150,7 @@ fn codes_of(alloc: Global, n: u32, count: usize, bytes: &[u8]) -> Result<(Vec<u1
     let mut rest = bytes;
     let mut used = 0;
     for i in 0..n {
-        let (code, after) = code_of((n - i - 1) as usize, count, used, rest)?;
+        let (code, after) = tri!(code_of((n - i - 1) as usize, count, used, rest));
         codes.push(code)?;
         used = next_used(used, code as usize);
         rest = after;
@@ -160,9 +168,9 @@ struct Parts {
 fn block_of(alloc: Global, n: u32, most: u32, bytes: &[u8]) -> Result<Parts, Stop>
     ensures { Gives (λ x. (x.entries, x.codes.items)) result (block_at most n bytes.now) }
 {
-    let (count, rest) = count_of(n, bytes)?;
-    let (entries, rest) = entries_of(alloc, count, most, rest)?;
-    let (codes, rest) = codes_of(alloc, n, entries.len(), rest)?;
+    let (count, rest) = tri!(count_of(n, bytes));
+    let (entries, rest) = tri!(entries_of(alloc, count, most, rest));
+    let (codes, rest) = tri!(codes_of(alloc, n, entries.len(), rest));
     if !rest.is_empty() {
         return Err(Stop::Left(rest.len()));
     }

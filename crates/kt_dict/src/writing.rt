@@ -18,7 +18,7 @@ fn use_items<'a>(table: &mut IndexSet<&'a [u8]>, cells: &'a Texts) -> Result<(),
     ensures { OnOk result (map (λ k. k.now) table.new.keys ≡ entries_after (map (λ k. k.now) table.old.keys) cells.now) }
 {
     for i in 0..cells.len() {
-        use_item(table, cells.get(i))?;
+        tri!(use_item(table, cells.get(i)));
     }
     Ok(())
 }
@@ -28,7 +28,7 @@ fn put_entry(out: &mut Vec<u8>, bytes: &[u8]) -> Result<(), AllocError>
     requires { length bytes.now < 2 ^ 32 }
     ensures { OnOk result (out.new.items ≡ out.old.items ++ text bytes.now) }
 {
-    out.extend_from_slice(&(bytes.len() as u32).to_le_bytes())?;
+    tri!(out.extend_from_slice(&(bytes.len() as u32).to_le_bytes()));
     out.extend_from_slice(bytes)
 }
 
@@ -45,7 +45,7 @@ fn put_entries(out: &mut Vec<u8>, entries: &[&[u8]]) -> Result<(), AllocError>
     ensures { OnOk result (out.new.items ≡ out.old.items ++ flat_map text (map (λ k. k.now) entries.now)) }
 {
     for bytes in entries {
-        put_entry(out, bytes)?;
+        tri!(put_entry(out, bytes));
     }
     Ok(())
 }
@@ -56,7 +56,7 @@ pub(crate) fn put_texts(out: &mut Vec<u8>, entries: &Texts) -> Result<(), AllocE
     ensures { OnOk result (out.new.items ≡ out.old.items ++ flat_map text entries.now) }
 {
     for i in 0..entries.len() {
-        put_entry(out, entries.get(i))?;
+        tri!(put_entry(out, entries.get(i)));
     }
     Ok(())
 }
@@ -66,7 +66,7 @@ pub(crate) fn put_places(out: &mut Vec<u8>, codes: &[u16]) -> Result<(), AllocEr
     ensures { OnOk result (out.new.items ≡ out.old.items ++ flat_map short codes.now) }
 {
     for code in codes {
-        put_short(out, *code as usize)?;
+        tri!(put_short(out, *code as usize));
     }
     Ok(())
 }
@@ -76,7 +76,7 @@ fn put_codes(out: &mut Vec<u8>, table: &IndexSet<&[u8]>, cells: &Texts) -> Resul
     ensures { OnOk result (out.new.items ≡ out.old.items ++ flat_map (code (map (λ k. k.now) table.now.keys)) cells.now) }
 {
     for i in 0..cells.len() {
-        put_short(out, place_of(table, cells.get(i)))?;
+        tri!(put_short(out, place_of(table, cells.get(i))));
     }
     Ok(())
 }
@@ -88,9 +88,9 @@ fn written(alloc: Global, table: &IndexSet<&[u8]>, cells: &Texts) -> Result<Vec<
     ensures { IfOk result (λ bytes. bytes.items ≡ concat (block (map (λ k. k.now) table.now.keys) cells.now)) }
 {
     let mut out = Vec::new(alloc);
-    put_short(&mut out, table.len())?;
-    put_entries(&mut out, table.as_slice())?;
-    put_codes(&mut out, table, cells)?;
+    tri!(put_short(&mut out, table.len()));
+    tri!(put_entries(&mut out, table.as_slice()));
+    tri!(put_codes(&mut out, table, cells));
     Ok(out)
 }
 
@@ -115,7 +115,7 @@ fn use_few<'a>(table: &mut IndexSet<&'a [u8]>, cells: &'a Texts) -> Result<bool,
     ensures over { IfOk result (λ all. OnFalse all (4096 < length (entries_after (map (λ k. k.now) table.old.keys) cells.now))) }
 {
     for i in 0..cells.len() {
-        use_item(table, cells.get(i))?;
+        tri!(use_item(table, cells.get(i)));
         if table.len() > MOST {
             return Ok(false);
         }

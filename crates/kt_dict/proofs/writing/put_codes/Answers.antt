@@ -11,4 +11,4 @@ put_short-requires c = omega (arith, c.requires, c.place_of.ensures, place-le (n
 pub loop-i-preserved : goal.loop-i-preserved
 loop-i-preserved c =
     let entries = nows c.args.table.now.keys in
-    written_more (code entries) _ _ _ _ _ _ (take_more c.args.cells.now c.loop-i.i [] (omega arith)) c.loop-i.invariant (c.in_ok-put_short.ensures ∙ ap (λ (k : ℕ). c.loop-i.out.items ++ short k) (c.place_of.ensures ∙ ap (place entries) c.get.ensures))
+    written_more (code entries) _ _ _ _ _ _ (take_more c.args.cells.now c.loop-i.i [] (omega arith)) c.loop-i.invariant (c.in-Ok.ensures ∙ ap (λ (k : ℕ). c.loop-i.out.items ++ short k) (c.place_of.ensures ∙ ap (place entries) c.get.ensures))

@@ -10,4 +10,4 @@ put_entry-requires c = c.requires c.loop-bytes.bytes-index (record { ref_ptr = (
 
 pub loop-bytes-preserved : goal.loop-bytes-preserved
 loop-bytes-preserved c =
-    written_more text _ _ _ _ _ _ (map_more (λ (k : Bor (List ℕ)). k.now) c.args.entries.now c.loop-bytes.bytes-index (record { ref_ptr = (0, 0); now = [] }) c.loop-bytes-test.true) c.loop-bytes.invariant c.in_ok-put_entry.ensures
+    written_more text _ _ _ _ _ _ (map_more (λ (k : Bor (List ℕ)). k.now) c.args.entries.now c.loop-bytes.bytes-index (record { ref_ptr = (0, 0); now = [] }) c.loop-bytes-test.true) c.loop-bytes.invariant c.in-Ok.ensures

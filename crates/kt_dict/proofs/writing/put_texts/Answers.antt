@@ -8,4 +8,4 @@ pub put_entry-requires : goal.put_entry-requires
 put_entry-requires c = rw c.get.ensures (entry_short c.args.entries.now c.loop-i.i c.requires (omega arith))
 
 pub loop-i-preserved : goal.loop-i-preserved
-loop-i-preserved c = written_more text _ _ _ _ _ _ (take_more c.args.entries.now c.loop-i.i [] (omega arith)) c.loop-i.invariant (c.in_ok-put_entry.ensures ∙ ap (λ (t : List ℕ). c.loop-i.out.items ++ text t) c.get.ensures)
+loop-i-preserved c = written_more text _ _ _ _ _ _ (take_more c.args.entries.now c.loop-i.i [] (omega arith)) c.loop-i.invariant (c.in-Ok.ensures ∙ ap (λ (t : List ℕ). c.loop-i.out.items ++ text t) c.get.ensures)

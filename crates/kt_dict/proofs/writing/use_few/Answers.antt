@@ -10,7 +10,7 @@ pub returns-then-len-gt-MOST-clause-over : goal.returns-then-len-gt-MOST-clause-
 returns-then-len-gt-MOST-clause-over c =
     let keys = c.use_item.new.entries.keys in
     let known = nows c.loop-i.table.keys in
-    let is : nows keys ≡ with_entry known (get_or c.args.cells.now c.loop-i.i []) = c.in_ok-use_item.ensures.entries ∙ ap (with_entry known) c.get.ensures in
+    let is : nows keys ≡ with_entry known (get_or c.args.cells.now c.loop-i.i []) = c.in-Ok.ensures.entries ∙ ap (with_entry known) c.get.ensures in
     let many : 4096 < length (nows keys) = omega (arith, c.if-len-gt-MOST.true, c.len.ensures.len, length-map keys (λ (k : Bor (List ℕ)). k.now)) in
     too_many c.args.cells.now known (nows keys) _ c.loop-i.i (omega arith) c.loop-i.invariant.so_far is many
 
@@ -19,6 +19,6 @@ loop-i-preserved c =
     let keys = c.use_item.new.entries.keys in
     let known = nows c.loop-i.table.keys in
     record {
-      so_far = one_more c.args.cells.now known (nows keys) _ c.loop-i.i (omega arith) c.loop-i.invariant.so_far (c.in_ok-use_item.ensures.entries ∙ ap (with_entry known) c.get.ensures);
+      so_far = one_more c.args.cells.now known (nows keys) _ c.loop-i.i (omega arith) c.loop-i.invariant.so_far (c.in-Ok.ensures.entries ∙ ap (with_entry known) c.get.ensures);
       few = omega (arith, c.if-len-gt-MOST.false, c.len.ensures.len, length-map keys (λ (k : Bor (List ℕ)). k.now));
     }

@@ -7,4 +7,4 @@ use Rattle.kt_dict.proofs.writing.use_items.Goals as goal
 pub loop-i-preserved : goal.loop-i-preserved
 loop-i-preserved c =
     let keys = nows c.loop-i.table.keys in
-    one_more c.args.cells.now keys (nows c.use_item.new.entries.keys) _ c.loop-i.i (omega arith) c.loop-i.invariant (c.in_ok-use_item.ensures.entries ∙ ap (with_entry keys) c.get.ensures)
+    one_more c.args.cells.now keys (nows c.use_item.new.entries.keys) _ c.loop-i.i (omega arith) c.loop-i.invariant (c.in-Ok.ensures.entries ∙ ap (with_entry keys) c.get.ensures)

@@ -19,6 +19,6 @@ returns c =
     let known : List (List ℕ) = nows c.args.table.now.keys in
     let items : List (List ℕ) = c.args.cells.now in
     let count : c.len.result ≡ length known = c.len.ensures.len ∙ sym (length-map c.args.table.now.keys (λ (k : Bor (List ℕ)). k.now)) in
-    let first : c.put_short.new.out.items ≡ short (length known) = c.in_ok-put_short.ensures ∙ (ap (λ (t : List ℕ). t ++ short c.len.result) c.new-out.ensures.items ∙ ap short count) in
-    let second : c.put_entries.new.out.items ≡ short (length known) ++ flat_map text known = c.in_ok-put_entries.ensures ∙ (ap (λ (t : List ℕ). t ++ flat_map text (nows c.as_slice.result.now)) first ∙ ap (λ ks. short (length known) ++ flat_map text (nows ks)) c.as_slice.ensures.keys) in
-    c.in_ok-put_codes.ensures ∙ (ap (λ (t : List ℕ). t ++ flat_map (code known) items) second ∙ sym (concat_block known items))
+    let first : c.put_short.new.out.items ≡ short (length known) = c.in-Ok.ensures ∙ (ap (λ (t : List ℕ). t ++ short c.len.result) c.new-out.ensures.items ∙ ap short count) in
+    let second : c.put_entries.new.out.items ≡ short (length known) ++ flat_map text known = c.in-Ok-put_entries.ensures ∙ (ap (λ (t : List ℕ). t ++ flat_map text (nows c.as_slice.result.now)) first ∙ ap (λ ks. short (length known) ++ flat_map text (nows ks)) c.as_slice.ensures.keys) in
+    c.in-Ok-put_codes.ensures ∙ (ap (λ (t : List ℕ). t ++ flat_map (code known) items) second ∙ sym (concat_block known items))
