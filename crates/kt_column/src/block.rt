@@ -7,12 +7,13 @@ ghost use Rattle.std.specs.Cmp.Lexicographic.{slice_cmp};
 ghost use Rattle.kt_base.specs.declared.cell.Cell.TheVariants as cells;
 ghost use Rattle.kt_plain.specs.Items.{count};
 ghost use Rattle.kt_column.specs.Forms.{is_nullable};
+ghost use Rattle.kt_column.specs.Nulls.{null_bytes};
 ghost use Rattle.kt_column.specs.Blocks as spec;
-ghost use Rattle.kt_column.specs.Blocks.{AreCells, cell_len, numbers_in, texts_in, nulls_in, values_in, AreNullsOf, Held, IsBlock, SpellsBlock};
+ghost use Rattle.kt_column.specs.Blocks.{AreCells, cell_len, numbers_in, texts_in, nulls_in, values_in, AreNullsOf, Held, IsBlock, SpellsBlock, block_bytes};
 ghost use Rattle.kt_column.specs.Held.{items_of, cells_of, IsChosen};
 ghost use Rattle.kt_column.specs.Values.{AreValues};
 
-use crate::form::Form;
+use crate::form::{Encoding, Form};
 use crate::held::{self, Values, cell_of, order_of};
 use crate::nulls::Nulls;
 use crate::values::spell_values;
@@ -81,7 +82,7 @@ fn numbers_of(alloc: Global, cells: &[Cell]) -> Result<Vec<i64>, NoMemory>
 {
     let mut numbers = Vec::new(alloc);
     for cell in cells {
-        push_number(&mut numbers, cell)?;
+        tri!(push_number(&mut numbers, cell));
     }
     Ok(numbers)
 }
@@ -104,7 +105,7 @@ fn texts_of(alloc: Global, form: Form, cells: &[Cell]) -> Result<Texts, NoMemory
 {
     let mut texts = Texts::new(alloc);
     for cell in cells {
-        push_text(&mut texts, cell)?;
+        tri!(push_text(&mut texts, cell));
     }
     Ok(texts)
 }
@@ -115,9 +116,9 @@ fn values_of(alloc: Global, form: Form, cells: &[Cell]) -> Result<Items, NoMemor
     ensures { IfOk result (λ items. items ≡ values_in form cells.now) }
 {
     match form.width() {
-        Width::Bytes => Ok(Items::Texts(texts_of(alloc, form, cells)?)),
+        Width::Bytes => Ok(Items::Texts(tri!(texts_of(alloc, form, cells)))),
         Width::Numbers(width) => {
-            let numbers = numbers_of(alloc, cells)?;
+            let numbers = tri!(numbers_of(alloc, cells));
             Ok(Items::Numbers(Numbers::of(alloc, &numbers, width)?))
         }
     }
@@ -158,24 +159,60 @@ fn cell_in(
     }
 }
 
+/// Adds the nulls, and the bytes of the values.
+fn put_content(out: &mut Vec<u8>, nulls: &Nulls, values: &[u8]) -> Result<(), AllocError>
+    ensures { OnOk result (out.new.items ≡ out.old.items ++ (null_bytes nulls.now ++ values.now)) }
+{
+    tri!(nulls.spell(out));
+    out.extend_from_slice(values)
+}
+
+/// The nulls, and the bytes of the values.
+fn content_of(alloc: Global, nulls: &Nulls, values: &[u8]) -> Result<Vec<u8>, AllocError>
+    ensures { IfOk result (λ content. content.items ≡ null_bytes nulls.now ++ values.now) }
+{
+    let mut content = Vec::new(alloc);
+    tri!(put_content(&mut content, nulls, values));
+    Ok(content)
+}
+
+/// Adds the number of an encoding, a length and the content.
+fn put_block(
+    out: &mut Vec<u8>,
+    encoding: Encoding,
+    len: u32,
+    content: &[u8],
+) -> Result<(), AllocError>
+    requires { len ≡ length content.now }
+    ensures { OnOk result (out.new.items ≡ out.old.items ++ block_bytes encoding content.now) }
+{
+    out.push(encoding.code())?;
+    tri!(out.extend_from_slice(&len.to_le_bytes()));
+    out.extend_from_slice(content)
+}
+
+/// The bytes of a block with this content.
+fn framed(alloc: Global, encoding: Encoding, content: &[u8]) -> Result<Vec<u8>, NoMemory>
+    ensures room { OnOk result (length content.now < 2 ^ 32) }
+    ensures bytes { IfOk result (λ bytes. bytes.items ≡ block_bytes encoding content.now) }
+{
+    let Ok(len) = u32::try_from(content.len()) else {
+        return Err(NoMemory);
+    };
+    let mut out = Vec::new(alloc);
+    put_block(&mut out, encoding, len, content)?;
+    Ok(out)
+}
+
 /// The bytes of nulls and values.
 fn spelled(alloc: Global, form: Form, nulls: &Nulls, values: &Values) -> Result<Vec<u8>, NoMemory>
     requires values { AreValues form (items_of values.now) }
     requires chosen { IsChosen form values.now }
     ensures { IfOk result (λ bytes. IsBlock form nulls.now (items_of values.now) bytes.items) }
 {
-    let chosen = spell_values(alloc, form, values)?;
-    let mut content = Vec::new(alloc);
-    nulls.spell(&mut content)?;
-    content.extend_from_slice(&chosen.bytes)?;
-    let Ok(len) = u32::try_from(content.len()) else {
-        return Err(NoMemory);
-    };
-    let mut out = Vec::new(alloc);
-    out.push(chosen.encoding.code())?;
-    out.extend_from_slice(&len.to_le_bytes())?;
-    out.extend_from_slice(&content)?;
-    Ok(out)
+    let chosen = tri!(spell_values(alloc, form, values));
+    let content = content_of(alloc, nulls, &chosen.bytes)?;
+    framed(alloc, chosen.encoding, &content)
 }
 
 impl Block {
@@ -198,7 +235,7 @@ impl Block {
         ensures { IfOk result (λ block. block ≡ record { form = form; cells = cells.now }) }
     {
         let nulls = nulls_of(alloc, form, cells)?;
-        let items = values_of(alloc, form, cells)?;
+        let items = tri!(values_of(alloc, form, cells));
         Ok(Block {
             form,
             nulls,
@@ -232,7 +269,7 @@ impl Block {
     pub fn spell(&self, alloc: Global) -> Result<Octets, NoMemory>
         ensures { IfOk result (SpellsBlock self.now.form self.now.cells) }
     {
-        Ok(Octets::of(spelled(alloc, self.form, &self.nulls, &self.values)?))
+        Ok(Octets::of(tri!(spelled(alloc, self.form, &self.nulls, &self.values))))
     }
 
     /// The order of a cell's bytes and the key, where no cell is null: one comparison of the two.

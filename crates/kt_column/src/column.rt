@@ -100,11 +100,28 @@ impl ColumnData {
     {
         let mut out = Vec::new(alloc);
         for block in &self.blocks {
-            let bytes = block.spell(alloc)?;
+            let bytes = tri!(block.spell(alloc));
             out.extend_from_slice(bytes.as_slice())?;
         }
         Ok(Octets::of(out))
     }
+}
+
+/// Adds these cells to the column without a cell, 8,192 to a block.
+fn fill(alloc: Global, form: Form, column: &mut ColumnData, cells: &[Cell]) -> Result<(), NoMemory>
+    requires none { column.old ≡ record { form = form; cells = [] } }
+    requires each { All (IsCell form) cells.now }
+    requires few { length cells.now < 2 ^ 32 }
+    ensures { OnOk result (column.new ≡ record { form = form; cells = cells.now }) }
+{
+    let mut rest = cells;
+    while !rest.is_empty() {
+        let (front, after) = rest.split_at(rest.len().min(8192));
+        let block = tri!(Block::build(alloc, form, front));
+        tri!(column.push(block));
+        rest = after;
+    }
+    Ok(())
 }
 
 /// The column of these cells, 8,192 to a block.
@@ -114,12 +131,7 @@ fn blocks_of(alloc: Global, form: Form, cells: &[Cell]) -> Result<ColumnData, No
     ensures { IfOk result (λ column. column ≡ record { form = form; cells = cells.now }) }
 {
     let mut column = ColumnData::new(alloc, form);
-    let mut rest = cells;
-    while !rest.is_empty() {
-        let (front, after) = rest.split_at(rest.len().min(8192));
-        column.push(Block::build(alloc, form, front)?)?;
-        rest = after;
-    }
+    tri!(fill(alloc, form, &mut column, cells));
     Ok(column)
 }
 

@@ -55,7 +55,7 @@ fn plain_cell(alloc: Global, form: Form, items: &Items, i: u32) -> Result<Cell, 
 {
     match get(items, i) {
         Item::Number(number) => Ok(number_as(form.width(), number)),
-        Item::Bytes(bytes) => Ok(Cell::Bytes(Octets::from_slice(alloc, bytes)?)),
+        Item::Bytes(bytes) => Ok(Cell::Bytes(tri!(Octets::from_slice(alloc, bytes)))),
     }
 }
 
@@ -68,10 +68,13 @@ pub fn cell_of(alloc: Global, form: Form, values: &Values, i: u32) -> Result<Cel
         Values::Plain(items) => plain_cell(alloc, form, items, i),
         Values::Runs(runs) => Ok(number_as(form.width(), kt_rle::get(runs, i))),
         Values::Dictionary(items) => {
-            let bytes = Octets::from_slice(alloc, kt_dict::get(items, i))?;
+            let bytes = tri!(Octets::from_slice(alloc, kt_dict::get(items, i)));
             Ok(Cell::Bytes(bytes))
         }
-        Values::Prefixes(items) => Ok(Cell::Bytes(kt_front::get(items, i).to_octets(alloc)?)),
+        Values::Prefixes(items) => {
+            let bytes = tri!(kt_front::get(items, i).to_octets(alloc));
+            Ok(Cell::Bytes(bytes))
+        }
     }
 }
 

@@ -31,7 +31,7 @@ fn are_items_shortest(
     ensures yes { IfOk result (λ b. OnTrue b ((bytes : List ℕ) → MayStand form items.now encoding bytes → IsShortest form items.now encoding bytes)) }
     ensures no { IfOk result (λ b. OnFalse b ((bytes : List ℕ) → ¬ IsShortest form items.now encoding bytes)) }
 {
-    let chosen = shortest_encoding(alloc, form, items)?;
+    let chosen = tri!(shortest_encoding(alloc, form, items));
     Ok(chosen.code() == encoding.code())
 }
 
@@ -104,7 +104,7 @@ fn use_item(
     requires small { length (flat_map text entries.old) + (4 + length (get_or items.now i [])) < 2 ^ 64 }
     ensures { OnOk result (entries.new ≡ dictionary.with_entry entries.old (get_or items.now i [])) }
 {
-    items.item(i as u32).copy_into(room)?;
+    tri!(items.item(i as u32).copy_into(room));
     entries.add(alloc, room.as_slice())
 }
 
@@ -133,7 +133,7 @@ fn are_within(
 {
     let n = items.len();
     'items: for i in 0..n {
-        use_item(alloc, entries, items, i, room)?;
+        tri!(use_item(alloc, entries, items, i, room));
         if are_over(entries, n, most) {
             return Ok(false);
         }
@@ -172,7 +172,7 @@ fn are_prefixes_shortest(
     if 4 * items.len() + byte_len(items) <= len {
         return Ok(false);
     }
-    Ok(!has_dictionary(alloc, items, len)?)
+    Ok(!tri!(has_dictionary(alloc, items, len)))
 }
 
 /// Whether values are held in the shortest encoding that the column may use, the lowest number among

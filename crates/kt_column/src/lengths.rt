@@ -91,7 +91,7 @@ fn try_next(
     requires before { IsBestUpTo form items.now (code encoding - 1) best }
     ensures { IfOk result (IsBestUpTo form items.now (code encoding)) }
 {
-    match encoded_len(alloc, form, encoding, items)? {
+    match tri!(encoded_len(alloc, form, encoding, items)) {
         Some(len) => Ok(Some(shorter(best, Measured { encoding, len }))),
         None => Ok(best),
     }
@@ -102,10 +102,10 @@ pub fn shortest_encoding(alloc: Global, form: Form, items: &Items) -> Result<Enc
     requires { AreValues form items.now }
     ensures { IfOk result (λ encoding. (bytes : List ℕ) × IsShortest form items.now encoding bytes) }
 {
-    let best = try_next(alloc, form, items, None, Encoding::Plain)?;
-    let best = try_next(alloc, form, items, best, Encoding::RunLength)?;
-    let best = try_next(alloc, form, items, best, Encoding::Dictionary)?;
-    match try_next(alloc, form, items, best, Encoding::Prefix)? {
+    let best = tri!(try_next(alloc, form, items, None, Encoding::Plain));
+    let best = tri!(try_next(alloc, form, items, best, Encoding::RunLength));
+    let best = tri!(try_next(alloc, form, items, best, Encoding::Dictionary));
+    match tri!(try_next(alloc, form, items, best, Encoding::Prefix)) {
         Some(best) => Ok(best.encoding),
         None => unreachable!(),
     }

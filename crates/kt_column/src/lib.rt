@@ -15,6 +15,16 @@
 //! fault at its first byte, the number of its encoding: that is a rule on the block as a whole.
 #![tactic(auto)]
 
+// What `?` gives where the error stays as it is, with no conversion to be proved.
+macro_rules! tri {
+    ($result:expr) => {
+        match $result {
+            Ok(value) => value,
+            Err(error) => return Err(error),
+        }
+    };
+}
+
 mod block;
 mod cells;
 mod column;

@@ -152,7 +152,7 @@ fn push_bits(nulls: &mut Nulls, byte: u8, n: usize) -> Result<(), AllocError>
 {
     let mut left = byte;
     'bits: for i in 0..n {
-        nulls.push(left % 2 == 1)?;
+        tri!(nulls.push(left % 2 == 1));
         left /= 2;
     }
     Ok(())
@@ -164,11 +164,11 @@ fn unpacked(alloc: Global, bytes: &[u8], n: usize) -> Result<Nulls, AllocError>
     requires whole { length bytes.now ≡ byte_len n }
     ensures { IfOk result (λ nulls. nulls ≡ spec.bits_in n bytes.now) }
 {
-    let mut nulls = Nulls::with_room(alloc, n)?;
+    let mut nulls = tri!(Nulls::with_room(alloc, n));
     let mut left = n;
     'bytes: for byte in bytes {
         let here = left.min(8);
-        push_bits(&mut nulls, *byte, here)?;
+        tri!(push_bits(&mut nulls, *byte, here));
         left -= here;
     }
     Ok(nulls)

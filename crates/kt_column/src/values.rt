@@ -57,7 +57,7 @@ fn run_lengths(alloc: Global, width: Width, numbers: &Numbers) -> Result<Vec<u8>
     requires { run_length.Fits (run_width width) numbers.now }
     ensures { IfOk result (λ bytes. run_length.Spells (run_width width) (length numbers.now) numbers.now bytes.items) }
 {
-    let runs = kt_rle::Items::of(alloc, numbers)?;
+    let runs = tri!(kt_rle::Items::of(alloc, numbers));
     runs_spelled(alloc, width, &runs)
 }
 
@@ -98,12 +98,12 @@ fn encoded(
         return Ok(None);
     }
     match (encoding, items) {
-        (Encoding::Plain, _) => Ok(Some(plain(alloc, form, items)?)),
+        (Encoding::Plain, _) => Ok(Some(tri!(plain(alloc, form, items)))),
         (Encoding::RunLength, Items::Numbers(numbers)) => {
-            Ok(Some(run_lengths(alloc, form.width(), numbers)?))
+            Ok(Some(tri!(run_lengths(alloc, form.width(), numbers))))
         }
         (Encoding::Dictionary, Items::Texts(texts)) => dictionary(alloc, texts),
-        (Encoding::Prefix, Items::Texts(texts)) => Ok(Some(prefixes(alloc, texts)?)),
+        (Encoding::Prefix, Items::Texts(texts)) => Ok(Some(tri!(prefixes(alloc, texts)))),
         _ => Ok(None),
     }
 }
@@ -113,8 +113,8 @@ fn shortest(alloc: Global, form: Form, items: &Items) -> Result<Chosen, NoMemory
     requires { AreValues form items.now }
     ensures { IfOk result (λ chosen. IsShortest form items.now chosen.encoding chosen.bytes.items) }
 {
-    let encoding = shortest_encoding(alloc, form, items)?;
-    match encoded(alloc, form, encoding, items)? {
+    let encoding = tri!(shortest_encoding(alloc, form, items));
+    match tri!(encoded(alloc, form, encoding, items)) {
         Some(bytes) => Ok(Chosen { encoding, bytes }),
         None => unreachable!(),
     }
@@ -131,11 +131,11 @@ pub fn spell_values(alloc: Global, form: Form, values: &Values) -> Result<Chosen
         Values::Plain(items) => shortest(alloc, form, items),
         Values::Runs(runs) => Ok(Chosen {
             encoding: Encoding::RunLength,
-            bytes: runs_spelled(alloc, form.width(), runs)?,
+            bytes: tri!(runs_spelled(alloc, form.width(), runs)),
         }),
         Values::Dictionary(items) => Ok(Chosen {
             encoding: Encoding::Dictionary,
-            bytes: items.spell(alloc)?.into_vec(),
+            bytes: tri!(items.spell(alloc)).into_vec(),
         }),
         Values::Prefixes(items) => Ok(Chosen {
             encoding: Encoding::Prefix,

@@ -21,9 +21,9 @@ pub returns-clause-yes : goal.returns-clause-yes
 returns-clause-yes c =
     let ts = c.args.items.now in
     let own = ap length c.as_bytes-len.ensures.spelled in
-    let h : not c.in_ok-has_dictionary.field-0 ≡ true → (bytes : List ℕ) → MayStand c.args.form (Texts ts) Prefix bytes → IsShortest c.args.form (Texts ts) Prefix bytes =
+    let h : not c.in-Ok.value ≡ true → (bytes : List ℕ) → MayStand c.args.form (Texts ts) Prefix bytes → IsShortest c.args.form (Texts ts) Prefix bytes =
     λ e bytes stands.
-    let none = OnFalse_at (not-true _ e) c.in_ok-has_dictionary.ensures.no in
+    let none = OnFalse_at (not-true _ e) c.in-Ok.ensures.no in
     prefixes_shortest c.args.form ts bytes (λ may. omega (arith, c.if-len-byte_len.false, c.len.ensures, c.byte_len.ensures, own)) (λ may fits. omega (arith, none fits, own)) stands in
     OnTrue_from _ _ h
 
@@ -31,8 +31,8 @@ pub returns-clause-no : goal.returns-clause-no
 returns-clause-no c =
     let ts = c.args.items.now in
     let own = ap length c.as_bytes-len.ensures.spelled in
-    let h : not c.in_ok-has_dictionary.field-0 ≡ false → (bytes : List ℕ) → ¬ IsShortest c.args.form (Texts ts) Prefix bytes =
+    let h : not c.in-Ok.value ≡ false → (bytes : List ℕ) → ¬ IsShortest c.args.form (Texts ts) Prefix bytes =
     λ e bytes p.
-    let some = OnTrue_at (not-false _ e) c.in_ok-has_dictionary.ensures.yes in
+    let some = OnTrue_at (not-false _ e) c.in-Ok.ensures.yes in
     dictionary_before_prefixes c.args.form ts bytes (dictionary_beside_prefix c.args.form c.if-not-may_use.ensures.yes c.requires.open) (some.0, omega (arith, some.1, own)) p in
     OnFalse_from _ _ h

@@ -19,12 +19,12 @@ pub are_over-requires : goal.are_over-requires
 are_over-requires c =
     let item : List ℕ = get_or c.args.items.now c.items.i [] in
     let short : length item ≤ 65536 = c.requires.short c.items.i [] (omega arith) in
-    omega (arith, ap (λ (es : List (List ℕ)). length (flat_map text es)) c.in_ok-use_item.ensures, used_more c.items.entries item, short, c.items.invariant.small, c.requires.few, c.len-n.ensures, c.items-test.true)
+    omega (arith, ap (λ (es : List (List ℕ)). length (flat_map text es)) c.in-Ok.ensures, used_more c.items.entries item, short, c.items.invariant.small, c.requires.few, c.len-n.ensures, c.items-test.true)
 
 pub returns-then-are_over-clause-no : goal.returns-then-are_over-clause-no
 returns-then-are_over-clause-no c = λ fits.
     let items : List (List ℕ) = c.args.items.now in
-    let so_far : entries_after c.use_item.new.entries (drop (c.items.i + 1) items) ≡ dictionary items = ap (λ es. entries_after es (drop (c.items.i + 1) items)) c.in_ok-use_item.ensures ∙ used_next items c.items.entries c.items.i (omega arith) c.items.invariant.so_far in
+    let so_far : entries_after c.use_item.new.entries (drop (c.items.i + 1) items) ≡ dictionary items = ap (λ es. entries_after es (drop (c.items.i + 1) items)) c.in-Ok.ensures ∙ used_next items c.items.entries c.items.i (omega arith) c.items.invariant.so_far in
     elim c.if-are_over.ensures.yes [
       | inl many ↦ used_too_much items c.use_item.new.entries (drop (c.items.i + 1) items) c.args.most so_far (inl (λ le. omega arith)) fits
       | inr long ↦ used_too_much items c.use_item.new.entries (drop (c.items.i + 1) items) c.args.most so_far (inr (omega (arith, long, c.len-n.ensures))) fits
@@ -36,9 +36,9 @@ items-preserved c =
     let item : List ℕ = get_or items c.items.i [] in
     let short : length item ≤ 65536 = c.requires.short c.items.i [] (omega arith) in
     record {
-      so_far = ap (λ es. entries_after es (drop (c.items.i + 1) items)) c.in_ok-use_item.ensures ∙ used_next items c.items.entries c.items.i (omega arith) c.items.invariant.so_far;
+      so_far = ap (λ es. entries_after es (drop (c.items.i + 1) items)) c.in-Ok.ensures ∙ used_next items c.items.entries c.items.i (omega arith) c.items.invariant.so_far;
       few = c.if-are_over.ensures.no;
-      small = omega (arith, ap (λ (es : List (List ℕ)). length (flat_map text es)) c.in_ok-use_item.ensures, used_more c.items.entries item, short, c.items.invariant.small);
+      small = omega (arith, ap (λ (es : List (List ℕ)). length (flat_map text es)) c.in-Ok.ensures, used_more c.items.entries item, short, c.items.invariant.small);
     }
 
 pub returns-clause-yes : goal.returns-clause-yes

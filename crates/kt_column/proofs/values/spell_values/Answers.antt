@@ -4,8 +4,8 @@ use Rattle.kt_column.specs.Values.{run_width}
 use Rattle.kt_column.proofs.HeldValues.{runs_chosen}
 use Rattle.kt_column.proofs.values.spell_values.Goals as goal
 
-pub returns-in_ok-runs_spelled-in-Runs : goal.returns-in_ok-runs_spelled-in-Runs
-returns-in_ok-runs_spelled-in-Runs c =
+pub returns-in-Ok : goal.returns-in-Ok
+returns-in-Ok c =
     let zs = c.in-Runs.runs in
-    let bytes = c.in_ok-runs_spelled-in-Runs.field-0.items in
-    runs_chosen c.args.form c.args.values.now zs bytes c.in-Runs.is c.requires.chosen (subst (λ w. Spells (run_width w) (length zs) zs bytes) c.width.ensures c.in_ok-runs_spelled-in-Runs.ensures)
+    let bytes = c.in-Ok.value.items in
+    runs_chosen c.args.form c.args.values.now zs bytes c.in-Runs.is c.requires.chosen (subst (λ w. Spells (run_width w) (length zs) zs bytes) c.width.ensures c.in-Ok.ensures)

@@ -9,6 +9,6 @@ spelled-requires-clause-values c = held_values c.self.inside.form c.self.inside.
 
 pub returns : goal.returns
 returns c =
-    let block : SpellsBlock c.self.inside.form (cells_of c.self.inside.form c.self.inside.nulls c.self.inside.values) c.in_ok-spelled.field-0.items = held_block c.self.inside.form c.self.inside.nulls (items_of c.self.inside.values) _ _ c.self.invariant.0 c.in_ok-spelled.ensures in
+    let block : SpellsBlock c.self.inside.form (cells_of c.self.inside.form c.self.inside.nulls c.self.inside.values) c.in-Ok.value.items = held_block c.self.inside.form c.self.inside.nulls (items_of c.self.inside.values) _ _ c.self.invariant.0 c.in-Ok.ensures in
     subst (λ (b : List ℕ). SpellsBlock c.args.self.now.form c.args.self.now.cells b) (sym c.of.ensures)
-    (subst (λ (v : BlockValue). SpellsBlock v.form v.cells c.in_ok-spelled.field-0.items) c.self.view_is block)
+    (subst (λ (v : BlockValue). SpellsBlock v.form v.cells c.in-Ok.value.items) c.self.view_is block)

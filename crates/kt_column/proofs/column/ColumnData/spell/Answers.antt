@@ -13,7 +13,7 @@ loop-block-preserved c =
     let form-is : c.self.inside.form ≡ c.args.self.now.form = ap (λ (v : ColumnValue). v.form) c.self.view_is in
     let parts : AreParts c.args.self.now.form c.deref-block-items.result.now = subst (λ f. AreParts f c.deref-block-items.result.now) form-is (subst (λ (bs : List BlockValue). AreParts c.self.inside.form bs) (sym c.deref-block-items.ensures.value) c.self.invariant.0) in
     spelled_more c.args.self.now.form c.deref-block-items.result.now c.loop-block.block-index c.block-item.result c.loop-block.out.items c.as_slice.result.now c.extend_from_slice.new.self.items parts c.loop-block-test.true c.block-item.is c.loop-block.invariant
-    (subst (λ l. SpellsBlock c.block-item.result.form c.block-item.result.cells l) (sym c.as_slice.ensures) c.in_ok-bytes.ensures) c.in_ok-extend_from_slice.ensures.items
+    (subst (λ l. SpellsBlock c.block-item.result.form c.block-item.result.cells l) (sym c.as_slice.ensures) c.in-Ok.ensures) c.in_ok-extend_from_slice.ensures.items
 
 pub returns : goal.returns
 returns c =

@@ -1,6 +1,6 @@
 use Rattle.std.proofs.Common.{length}
 use Rattle.kt_column.proofs.Columns.{IsCut}
-use Rattle.kt_column.proofs.column.blocks_of.Given as goal
+use Rattle.kt_column.proofs.column.fill.Given as goal
 
 abbrev pub invariant-loop-rest : goal.invariant-loop-rest
 invariant-loop-rest l = IsCut l.form l.cells l.column l.rest
