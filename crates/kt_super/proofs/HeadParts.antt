@@ -26,7 +26,7 @@ pub record HeadFits (slot : ℕ) (h : Head) : Type 0 where
   pub next_column : is_next_column h.next_column ≡ true
   pub column_fits : h.next_column < 2 ^ 16
 
-abbrev made : ℕ → ℕ → ℕ → ℕ → ℕ → ℕ → ℕ → ℕ → Head
+abbrev pub made : ℕ → ℕ → ℕ → ℕ → ℕ → ℕ → ℕ → ℕ → Head
 made number a c need last_mem next_rowset next_file next_column = record { number = number; a = a; c = c; need = need; last_mem = last_mem; next_rowset = next_rowset; next_file = next_file; next_column = next_column }
 
 abbrev Any : ℕ → Type 0
@@ -64,25 +64,25 @@ Lasts number a h = Any h.c × Needs number a h.c h
 abbrev Marks : ℕ → Head → Type 0
 Marks number h = Any h.a × Lasts number h.a h
 
-abbrev column_step : ℕ → ℕ → ℕ → ℕ → ℕ → ℕ → ℕ → List ℕ → Result (Head × List ℕ) ℕ
+abbrev pub column_step : ℕ → ℕ → ℕ → ℕ → ℕ → ℕ → ℕ → List ℕ → Result (Head × List ℕ) ℕ
 column_step number a c need last_mem next_rowset next_file = made_at (checked_at w16 is_next_column) (made number a c need last_mem next_rowset next_file)
 
-abbrev file_step : ℕ → ℕ → ℕ → ℕ → ℕ → ℕ → List ℕ → Result (Head × List ℕ) ℕ
+abbrev pub file_step : ℕ → ℕ → ℕ → ℕ → ℕ → ℕ → List ℕ → Result (Head × List ℕ) ℕ
 file_step number a c need last_mem next_rowset bytes = checked_at w64 is_next_file bytes >>= λ n. column_step number a c need last_mem next_rowset n.0 n.1
 
-abbrev rowset_step : ℕ → ℕ → ℕ → ℕ → ℕ → List ℕ → Result (Head × List ℕ) ℕ
+abbrev pub rowset_step : ℕ → ℕ → ℕ → ℕ → ℕ → List ℕ → Result (Head × List ℕ) ℕ
 rowset_step number a c need last_mem bytes = checked_at w64 is_small bytes >>= λ n. file_step number a c need last_mem n.0 n.1
 
-abbrev mem_step : ℕ → ℕ → ℕ → ℕ → List ℕ → Result (Head × List ℕ) ℕ
+abbrev pub mem_step : ℕ → ℕ → ℕ → ℕ → List ℕ → Result (Head × List ℕ) ℕ
 mem_step number a c need bytes = checked_at w64 is_small bytes >>= λ n. rowset_step number a c need n.0 n.1
 
-abbrev need_step : ℕ → ℕ → ℕ → List ℕ → Result (Head × List ℕ) ℕ
+abbrev pub need_step : ℕ → ℕ → ℕ → List ℕ → Result (Head × List ℕ) ℕ
 need_step number a c bytes = checked_at w64 is_small bytes >>= λ n. mem_step number a c n.0 n.1
 
-abbrev last_step : ℕ → ℕ → List ℕ → Result (Head × List ℕ) ℕ
+abbrev pub last_step : ℕ → ℕ → List ℕ → Result (Head × List ℕ) ℕ
 last_step number a bytes = number_at w64 bytes >>= λ n. need_step number a n.0 n.1
 
-abbrev mark_step : ℕ → List ℕ → Result (Head × List ℕ) ℕ
+abbrev pub mark_step : ℕ → List ℕ → Result (Head × List ℕ) ℕ
 mark_step number bytes = number_at w64 bytes >>= λ n. last_step number n.0 n.1
 
 abbrev column_fields : Head → List (List ℕ)

@@ -8,6 +8,7 @@ pub mod SchemaOf
 pub mod RowsetParts
 pub mod RowsetLists
 pub mod HeadParts
+pub mod HeadSteps
 pub mod BodyParts
 pub mod Loops
 pub mod SlotLaws

@@ -79,7 +79,6 @@ fn next_column_at(bytes: &[u8]) -> Result<(u16, &[u8]), Stop>
     }
 }
 
-#[tactic(auto, unfolding(crate::specs::Body::head_at))]
 fn head_of(slot: u64, bytes: &[u8]) -> Result<(Head, &[u8]), Stop>
     ensures { Gives (λ x. (x.0, x.1.now)) result (head_at slot bytes.now) }
 {

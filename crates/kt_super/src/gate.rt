@@ -24,7 +24,7 @@ pub fn open_gate<D: Disk>(disk: &mut D, prepared: Prepared) -> Result<(), Failed
 
     ensures cause { HasCause (D.faults disk.old) (D.faults disk.new) result }
 {
-    disk.write_at(prepared.slot, 0, &[1])?;
-    disk.sync(prepared.slot)?;
+    tri!(disk.write_at(prepared.slot, 0, &[1]));
+    tri!(disk.sync(prepared.slot));
     Ok(())
 }

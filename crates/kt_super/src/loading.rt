@@ -21,8 +21,8 @@ fn steady<D: Disk>(disk: &mut D) -> Result<(), Failed>
     ensures images { IsTrue D.tells → Turns D.now D.leaves Same disk.old disk.new }
     ensures cause { HasCause (D.faults disk.old) (D.faults disk.new) result }
 {
-    disk.sync(1)?;
-    disk.sync(2)?;
+    tri!(disk.sync(1));
+    tri!(disk.sync(2));
     Ok(())
 }
 
@@ -47,7 +47,9 @@ fn slot_body<D: Disk>(
 {
     let len = u64::from(len);
     let mut body = vec![in alloc; 0; len.min(left) as usize]?;
-    disk.read(slot, 5, body.as_mut_slice())?;
+    let Ok(()) = disk.read(slot, 5, body.as_mut_slice()) else {
+        return Err(SuperNo::Fault);
+    };
     match body_told(alloc, slot, len, left, body.as_slice()) {
         Ok(found) => Ok(found),
         Err(SlotNo::Memory) => Err(SuperNo::Memory),
@@ -66,7 +68,7 @@ fn slot_head<D: Disk>(disk: &mut D, slot: u64, len: u64) -> Result<Head, Failed>
 {
     let mut bytes = [0; 5];
     let front = &mut bytes[..len.min(5) as usize];
-    disk.read(slot, 0, front)?;
+    tri!(disk.read(slot, 0, front));
     Ok(head_of(front))
 }
 
@@ -80,8 +82,13 @@ fn slot_told<D: Disk>(alloc: Global, disk: &mut D, slot: u64) -> Result<Option<M
     ensures fault { result ≡ Err SuperNo.Fault → Rose (D.faults disk.old) (D.faults disk.new) }
     ensures faults { D.faults disk.old ≤ D.faults disk.new }
 {
-    let len = disk.len(slot)?;
-    match slot_head(disk, slot, len)? {
+    let Ok(len) = disk.len(slot) else {
+        return Err(SuperNo::Fault);
+    };
+    let Ok(head) = slot_head(disk, slot, len) else {
+        return Err(SuperNo::Fault);
+    };
+    match head {
         Head::Closed => Ok(None),
         Head::Short => Err(SuperNo::Place { slot, offset: len }),
         Head::Body(size) => slot_body(alloc, disk, slot, size, len - 5),
@@ -130,8 +137,10 @@ pub fn load<D: Disk>(alloc: Global, disk: &mut D) -> Result<Option<Meta>, SuperN
     ensures fault { result ≡ Err SuperNo.Fault → Rose (D.faults disk.old) (D.faults disk.new) }
     ensures faults { D.faults disk.old ≤ D.faults disk.new }
 {
-    steady(disk)?;
-    let one = slot_told(alloc, disk, 1)?;
-    let two = slot_told(alloc, disk, 2)?;
+    let Ok(()) = steady(disk) else {
+        return Err(SuperNo::Fault);
+    };
+    let one = tri!(slot_told(alloc, disk, 1));
+    let two = tri!(slot_told(alloc, disk, 2));
     Ok(newer(one, two))
 }

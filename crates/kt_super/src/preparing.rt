@@ -20,11 +20,11 @@ fn is_shut<D: Disk>(disk: &mut D, slot: u64) -> Result<bool, Failed>
     ensures images { IsTrue D.tells → Turns D.now D.leaves Same disk.old disk.new }
     ensures cause { HasCause (D.faults disk.old) (D.faults disk.new) result }
 {
-    if disk.len(slot)? == 0 {
+    if tri!(disk.len(slot)) == 0 {
         return Ok(false);
     }
     let mut gate = [0];
-    disk.read(slot, 0, &mut gate)?;
+    tri!(disk.read(slot, 0, &mut gate));
     Ok(gate[0] != 1)
 }
 
@@ -39,11 +39,11 @@ fn shut<D: Disk>(disk: &mut D, slot: u64) -> Result<(), Failed>
     ensures any_moment { IsTrue D.tells → LeavesOnly D.now D.leaves (Tells D.now D.leaves disk.old slot (IsOldOrNone (slot_at slot (held (D.seen disk.old) slot)))) disk.old disk.new }
     ensures cause { HasCause (D.faults disk.old) (D.faults disk.new) result }
 {
-    if is_shut(disk, slot)? {
+    if tri!(is_shut(disk, slot)) {
         return Ok(());
     }
-    disk.write_at(slot, 0, &[0])?;
-    disk.sync(slot)?;
+    tri!(disk.write_at(slot, 0, &[0]));
+    tri!(disk.sync(slot));
     Ok(())
 }
 
@@ -59,9 +59,9 @@ fn place<D: Disk>(disk: &mut D, slot: u64, rest: &[u8]) -> Result<(), Failed>
     ensures any_moment { IsTrue D.tells → LeavesOnly D.now D.leaves (Tells D.now D.leaves disk.old slot (IsOldOrNone (slot_at slot (held (D.seen disk.old) slot)))) disk.old disk.new }
     ensures cause { HasCause (D.faults disk.old) (D.faults disk.new) result }
 {
-    shut(disk, slot)?;
-    disk.write_at(slot, 1, rest)?;
-    disk.sync(slot)?;
+    tri!(shut(disk, slot));
+    tri!(disk.write_at(slot, 1, rest));
+    tri!(disk.sync(slot));
     Ok(())
 }
 

@@ -190,6 +190,26 @@ fn put_body(out: &mut Octets, meta: &Meta) -> Result<(), NoMemory>
     put_rowsets(out, meta.rowsets.as_slice())
 }
 
+// Puts the length of a body, and the body.
+fn put_framed(out: &mut Octets, body: &[u8]) -> Result<(), NoMemory>
+    ensures put { OnOk result (out.new ≡ out.old ++ (to_le_bytes w32 (length body.now) ++ body.now)) }
+    ensures fits { OnOk result (length body.now < 2 ^ 32) }
+{
+    tri!(out.reserve(body.len().saturating_add(4)));
+    tri!(put_count(out, body.len()));
+    out.extend(body)
+}
+
+// The length of a body, and the body.
+fn framed(alloc: Global, body: &[u8]) -> Result<Octets, NoMemory>
+    ensures bytes { IfOk result (λ bytes. bytes ≡ to_le_bytes w32 (length body.now) ++ body.now) }
+    ensures fits { OnOk result (length body.now < 2 ^ 32) }
+{
+    let mut bytes = Octets::new(alloc);
+    tri!(put_framed(&mut bytes, body));
+    Ok(bytes)
+}
+
 /// What stands behind the gate of a slot with this superblock.
 pub fn spelled(alloc: Global, meta: &Meta) -> Result<Octets, NoMemory>
     ensures spelled { IfOk result (λ bytes. bytes ≡ spelled_slot meta.now) }
@@ -197,9 +217,5 @@ pub fn spelled(alloc: Global, meta: &Meta) -> Result<Octets, NoMemory>
 {
     let mut body = Octets::new(alloc);
     tri!(put_body(&mut body, meta));
-    let mut bytes = Octets::new(alloc);
-    tri!(bytes.reserve(body.len().saturating_add(4)));
-    tri!(put_count(&mut bytes, body.len()));
-    tri!(bytes.extend(body.as_slice()));
-    Ok(bytes)
+    framed(alloc, body.as_slice())
 }

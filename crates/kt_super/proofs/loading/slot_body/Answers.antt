@@ -13,7 +13,7 @@ returns-clause-place g c at offset e told is =
     let size : length c.in_ok-body.body.items ≡ c.in_ok-body.body.len = sym (ap (λ (l : List ℕ). length l) c.as_mut_slice.ensures.value) ∙ c.as_mut_slice.ensures.len in
     let least : c.in_ok-body.body.len ≡ min c.args.len c.args.left = c.in_ok-body.ensures.len ∙ c.min.ensures ∙ ap (λ (k : ℕ). min k c.args.left) c.from-len.ensures in
     let body_is = read_is c.args.len c.args.left c.in_ok-body.body.len rest c.read.new.into c.in_ok-body.body.items body c.as_slice.ensures.value
-    (c.in_ok-read.ensures.read told ∙ ap (λ (l : List ℕ). take (length l) rest) c.as_mut_slice.ensures.value) size least (c.requires.left told) in
+    (c.in-Ok.ensures.read told ∙ ap (λ (l : List ℕ). take (length l) rest) c.as_mut_slice.ensures.value) size least (c.requires.left told) in
     let own : settled (leb c.args.len c.args.left) (5 + c.args.left) (length body) (body_at c.args.slot body) ≡ Err c.in-Err-At.offset = rw (c.in-Err-At.field-0-is, c.from-len.ensures) at c.in-Err-At.ensures.told in
     let same : c.in-Err-At.offset ≡ offset = cc in
     subst (λ (p : ℕ). IsFaultBehind c.args.slot c.args.len rest p) same
