@@ -129,3 +129,8 @@ abbrev pub IsBodyRead : List Column → ℕ → List ℕ → Result Plan ScriptN
 IsBodyRead columns number text (Ok plan) = (fault_from (head columns) number (cut 10 text) ≡ None) × (said (above_end (head columns) (cut 10 text)) ≡ record { columns = columns; plan = plan }) × PlanFits columns plan
 IsBodyRead columns number text (Err (why.Line n reason)) = fault_from (head columns) number (cut 10 text) ≡ at n reason
 IsBodyRead columns number text (Err why.Memory) = Unit {0}
+
+-- the commands that are read below these columns are these, or a fault
+abbrev pub AreLinesRead : {A : Type 0} → List Column → ℕ → List ℕ → List (List Command) → Result A ScriptNo → Type 0
+AreLinesRead columns number text commands (Ok done) = IsBodyRead columns number text (Ok commands)
+AreLinesRead columns number text commands (Err refusal) = IsBodyRead columns number text (Err refusal)

@@ -10,7 +10,7 @@ ghost use Rattle.kt_script.specs.Reasons.{no_of};
 ghost use Rattle.kt_script.specs.Columns.{kind_of, with_default, as_key, marked, column_line, line_view, place_no, ReadsDefault, ReadsColumn};
 
 use crate::least::least_of;
-use crate::word::next_word;
+use crate::word::{is_word, next_word};
 use kt_base::limits::COLUMNS;
 use kt_base::literal::{LiteralNo, read_literal};
 use kt_base::{Cell, Kind, Octets};
@@ -40,19 +40,19 @@ pub struct Line<'a> {
 fn kind_of(word: &[u8]) -> Option<Kind>
     ensures { result ≡ kind_of word.now }
 {
-    if word == b"bool".as_slice() {
+    if is_word(word, b"bool") {
         Some(Kind::Bool)
-    } else if word == b"int8".as_slice() {
+    } else if is_word(word, b"int8") {
         Some(Kind::Int8)
-    } else if word == b"int16".as_slice() {
+    } else if is_word(word, b"int16") {
         Some(Kind::Int16)
-    } else if word == b"int32".as_slice() {
+    } else if is_word(word, b"int32") {
         Some(Kind::Int32)
-    } else if word == b"int64".as_slice() {
+    } else if is_word(word, b"int64") {
         Some(Kind::Int64)
-    } else if word == b"string".as_slice() {
+    } else if is_word(word, b"string") {
         Some(Kind::String)
-    } else if word == b"binary".as_slice() {
+    } else if is_word(word, b"binary") {
         Some(Kind::Binary)
     } else {
         None
@@ -79,7 +79,7 @@ fn with_default<'a>(
         return Some(line);
     };
     let (literal, rest) = next_word(rest)?;
-    if next_word(rest).is_some() || word != b"default".as_slice() {
+    if next_word(rest).is_some() || !is_word(word, b"default") {
         return None;
     }
     Some(Line {
@@ -113,9 +113,9 @@ fn marked<'a>(name: &'a [u8], kind: Kind, rest: Option<&'a [u8]>) -> Option<Line
     let Some((word, behind)) = next_word(rest) else {
         return with_default(name, kind, false, None);
     };
-    if word == b"key".as_slice() {
+    if is_word(word, b"key") {
         as_key(name, kind, behind)
-    } else if word == b"nullable".as_slice() {
+    } else if is_word(word, b"nullable") {
         with_default(name, kind, true, behind)
     } else {
         with_default(name, kind, false, rest)
@@ -128,7 +128,7 @@ fn column_line(line: &[u8]) -> Option<Line<'_>>
     let (first, rest) = next_word(Some(line))?;
     let (name, rest) = next_word(rest)?;
     let (kind, rest) = next_word(rest)?;
-    if first != b"column".as_slice() || !is_name(name) {
+    if !is_word(first, b"column") || !is_name(name) {
         return None;
     }
     let kind = kind_of(kind)?;

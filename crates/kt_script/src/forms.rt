@@ -3,6 +3,7 @@
 ghost use Rattle.std.specs.Prelude.{◌≡◌};
 ghost use Rattle.kt_script.specs.Writes.{op_kind, op_form};
 
+use crate::word::is_word;
 use kt_history::OpKind;
 
 /// How the words of an operation stand behind its first.
@@ -22,19 +23,19 @@ pub enum OpForm {
 pub fn op_kind(word: &[u8]) -> Option<OpKind>
     ensures { result ≡ op_kind word.now }
 {
-    if word == b"insert".as_slice() {
+    if is_word(word, b"insert") {
         Some(OpKind::Insert)
-    } else if word == b"upsert".as_slice() {
+    } else if is_word(word, b"upsert") {
         Some(OpKind::Upsert)
-    } else if word == b"update".as_slice() {
+    } else if is_word(word, b"update") {
         Some(OpKind::Update)
-    } else if word == b"delete".as_slice() {
+    } else if is_word(word, b"delete") {
         Some(OpKind::Delete)
-    } else if word == b"insert-ignore".as_slice() {
+    } else if is_word(word, b"insert-ignore") {
         Some(OpKind::InsertIgnore)
-    } else if word == b"update-ignore".as_slice() {
+    } else if is_word(word, b"update-ignore") {
         Some(OpKind::UpdateIgnore)
-    } else if word == b"delete-ignore".as_slice() {
+    } else if is_word(word, b"delete-ignore") {
         Some(OpKind::DeleteIgnore)
     } else {
         None

@@ -9,6 +9,8 @@ ghost use Rattle.kt_script.specs.Scripts.{IsHead, IsColumns, IsLineCut, IsTableR
 use crate::columns::{LineNo, read_column};
 use crate::refusal::ScriptNo;
 use crate::split::cut_at;
+use crate::vector::push;
+use crate::word::is_word;
 use kt_base::NoMemory;
 use kt_schema::{Column, ColumnList, Schema, SchemaNo};
 use std::alloc::Global;
@@ -47,14 +49,7 @@ pub fn located(number: u64, no: LineNo) -> ScriptNo
 fn begins_column(line: &[u8]) -> bool
     ensures { result ≡ begins_column line.now }
 {
-    line.len() >= 7 && &line[..7] == b"column ".as_slice()
-}
-
-fn push_column(columns: &mut Vec<Column>, column: Column) -> Result<(), NoMemory>
-    ensures { OnOk result (columns.new.items ≡ columns.old.items ++ column ∷ []) }
-{
-    columns.push(column)?;
-    Ok(())
+    line.len() >= 7 && is_word(&line[..7], b"column ")
 }
 
 // The columns below the first line.
@@ -72,7 +67,7 @@ fn read_columns(alloc: Global, text: &[u8]) -> Result<Head<'_>, ScriptNo>
             Ok(column) => column,
             Err(no) => return Err(located(number, no)),
         };
-        push_column(&mut columns, column)?;
+        push(&mut columns, column)?;
         rest = behind;
     }
     Ok(Head { columns, rest })
@@ -86,7 +81,7 @@ pub fn read_head(alloc: Global, text: &[u8]) -> Result<Head<'_>, ScriptNo>
         let reason = if text.is_empty() { 3 } else { 2 };
         return Err(ScriptNo::Line { number: 1, reason });
     };
-    if line == b"table".as_slice() {
+    if is_word(line, b"table") {
         read_columns(alloc, behind)
     } else {
         Err(ScriptNo::Line {

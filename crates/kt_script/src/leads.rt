@@ -4,6 +4,7 @@ ghost use Rattle.std.specs.Prelude.{◌≡◌, ◌++◌, OnOk};
 ghost use Rattle.kt_script.specs.Leads.{chore_word, chore_in, command_in, lead_in};
 
 use crate::forms::op_kind;
+use crate::word::is_word;
 use kt_base::{Chore, NoMemory, Octets};
 use kt_history::OpKind;
 
@@ -31,15 +32,15 @@ pub enum Lead {
 pub fn chore_in(text: &[u8]) -> Option<Chore>
     ensures { result ≡ chore_in text.now }
 {
-    if text == b"flush".as_slice() {
+    if is_word(text, b"flush") {
         Some(Chore::Flush)
-    } else if text == b"flush-deltas".as_slice() {
+    } else if is_word(text, b"flush-deltas") {
         Some(Chore::FlushDeltas)
-    } else if text == b"minor".as_slice() {
+    } else if is_word(text, b"minor") {
         Some(Chore::Minor)
-    } else if text == b"major".as_slice() {
+    } else if is_word(text, b"major") {
         Some(Chore::Major)
-    } else if text == b"compact".as_slice() {
+    } else if is_word(text, b"compact") {
         Some(Chore::Compact)
     } else {
         None
@@ -62,10 +63,10 @@ pub fn print_chore(chore: Chore, out: &mut Octets) -> Result<(), NoMemory>
 fn command_in(text: &[u8]) -> Option<Word>
     ensures { result ≡ command_in text.now }
 {
-    if text == b"scan".as_slice() {
+    if is_word(text, b"scan") {
         return Some(Word::Scan);
     }
-    if text == b"mark".as_slice() {
+    if is_word(text, b"mark") {
         return Some(Word::Mark);
     }
     match chore_in(text) {
@@ -81,7 +82,7 @@ fn command_in(text: &[u8]) -> Option<Word>
 pub fn lead_in(text: &[u8]) -> Option<Lead>
     ensures { result ≡ lead_in text.now }
 {
-    if text == b"session".as_slice() {
+    if is_word(text, b"session") {
         return Some(Lead::Session);
     }
     match command_in(text) {

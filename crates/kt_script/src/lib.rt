@@ -37,6 +37,7 @@ pub mod sessions;
 pub mod split;
 pub mod test_words;
 pub mod times;
+mod vector;
 pub mod word;
 pub mod writes;
 

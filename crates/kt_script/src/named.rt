@@ -2,14 +2,17 @@
 
 ghost use Rattle.std.specs.Prelude.{◌≡◌, ◌<◌, ◌++◌, ◌∷◌, [], not, ◌&&◌, min, map, drop, IfOk, OnOk};
 ghost use Rattle.std.specs.List.{list_any};
+ghost use Rattle.std.specs.Ordering.{nat_cmp};
+ghost use Rattle.std.specs.FinMap.Entries.{put};
 ghost use Rattle.kt_base.specs.Literals.{same};
 ghost use Rattle.kt_script.specs.Reasons.{no_of, reason_if};
-ghost use Rattle.kt_script.specs.Writes.{name_in, behind_name, column_named, named_no, all_named_no, with_named, all_named, must_be_named, op_in, later_in, names_now, again_no, IsGiven};
+ghost use Rattle.kt_script.specs.Writes.{name_in, behind_name, column_named, named_no, all_named_no, under_no, with_named, all_named, must_be_named, op_in, later_in, names_now, again_no, IsGiven};
 
 use crate::least::{Least, note_form, read_cell};
 use crate::names::find_column;
 use crate::operations::next_op_word;
 use crate::test_words::cut_sign;
+use crate::vector::push;
 use kt_base::{Cell, NoMemory};
 use kt_history::put_cell;
 use kt_schema::{Column, is_name};
@@ -52,6 +55,47 @@ fn given<'a>(name: &[u8], behind: &'a [u8]) -> Option<&'a [u8]>
     }
 }
 
+// Keeps a named cell, unless a reason holds that no later word can change.
+fn keep_named<'a>(
+    id: u16,
+    name: &'a [u8],
+    cell: Cell,
+    names: &mut Vec<&'a [u8]>,
+    cells: &mut Vec<(u16, Cell)>,
+    no: &Least,
+) -> Result<(), NoMemory>
+    ensures names { OnOk result (13 < no.now → names_now names.new.items ≡ names_now names.old.items ++ name.now ∷ []) }
+    ensures cells { OnOk result (13 < no.now → cells.new.items ≡ put nat_cmp id cell cells.old.items) }
+{
+    if !no.is_above(13) {
+        return Ok(());
+    }
+    put_cell(cells, id, cell)?;
+    push(names, name)
+}
+
+// The cell of a literal under a name.
+fn read_under<'a>(
+    alloc: Global,
+    others: &[Column],
+    name: &'a [u8],
+    literal: &[u8],
+    names: &mut Vec<&'a [u8]>,
+    cells: &mut Vec<(u16, Cell)>,
+    no: &mut Least,
+) -> Result<(), NoMemory>
+    ensures names { OnOk result (13 < no.new → names_now names.new.items ≡ names_now names.old.items ++ name.now ∷ []) }
+    ensures cells { OnOk result (13 < no.new → cells.new.items ≡ with_named (column_named others.now name.now) literal.now cells.old.items) }
+    ensures least { OnOk result (no.new ≡ min no.old (under_no (column_named others.now name.now) literal.now)) }
+{
+    let Some(column) = find_column(others, name) else {
+        no.note(Some(13));
+        return note_form(alloc, literal, no);
+    };
+    let cell = read_cell(alloc, column, literal, no)?;
+    keep_named(column.id, name, cell, names, cells, no)
+}
+
 // One more named cell. Nothing is kept once a reason holds that no later word can change.
 fn read_named<'a>(
     alloc: Global,
@@ -67,20 +111,13 @@ fn read_named<'a>(
 {
     let (name, behind) = cut_sign(word);
     no.note(again_no(names, name));
-    let Some(literal) = given(name, behind) else {
-        no.note(Some(12));
-        return Ok(());
-    };
-    let Some(column) = find_column(others, name) else {
-        no.note(Some(13));
-        return note_form(alloc, literal, no);
-    };
-    let cell = read_cell(alloc, column, literal, no)?;
-    if no.is_above(13) {
-        names.push(name)?;
-        put_cell(cells, column.id, cell)?;
+    match given(name, behind) {
+        Some(literal) => read_under(alloc, others, name, literal, names, cells, no),
+        None => {
+            no.note(Some(12));
+            Ok(())
+        }
     }
-    Ok(())
 }
 
 /// The named cells at the end of an operation. They count only where no reason up to 13 holds.

@@ -11,6 +11,8 @@ use crate::number::read_number;
 use crate::output::LastLine;
 use crate::replies::{LineList, ReplyLine};
 use crate::split::{after, cut_at};
+use crate::vector::push;
+use crate::word::is_word;
 use itoa::Buffer;
 use kt_base::NoMemory;
 use kt_history::{Event, Outcome, OutcomeList};
@@ -54,7 +56,7 @@ fn read_numbers(rest: Option<&[u8]>, numbers: &mut Vec<u64>) -> Result<bool, NoM
         let Some(number) = read_number(word) else {
             return Ok(false);
         };
-        numbers.push(number)?;
+        push(numbers, number)?;
         left = behind;
     }
     Ok(true)
@@ -64,32 +66,33 @@ fn read_numbers(rest: Option<&[u8]>, numbers: &mut Vec<u64>) -> Result<bool, NoM
 pub fn outcome_of(word: &[u8]) -> Option<Outcome>
     ensures { result ≡ outcome_in word.now }
 {
-    if word == b"ok".as_slice() {
+    if is_word(word, b"ok") {
         Some(Outcome::Done)
-    } else if word == b"present".as_slice() {
+    } else if is_word(word, b"present") {
         Some(Outcome::Present)
-    } else if word == b"absent".as_slice() {
+    } else if is_word(word, b"absent") {
         Some(Outcome::Absent)
-    } else if word == b"ignored".as_slice() {
+    } else if is_word(word, b"ignored") {
         Some(Outcome::Ignored)
     } else {
         None
     }
 }
 
-fn read_outcomes(alloc: Global, rest: Option<&[u8]>) -> Result<Option<Vec<Outcome>>, NoMemory>
-    ensures { IfOk result (λ read. option_map (λ os. os.items) read ≡ outcomes_in (pieces_in rest.entry)) }
+// Whether all words that are left are outcomes, which are put in place of those in the vector.
+fn read_outcomes(rest: Option<&[u8]>, outcomes: &mut Vec<Outcome>) -> Result<bool, NoMemory>
+    ensures { IfOk result (λ read. outcomes_in (pieces_in rest.entry) ≡ (if read then Some outcomes.new.items else None)) }
 {
-    let mut outcomes = Vec::new(alloc);
+    outcomes.clear();
     let mut left = rest;
     'words: while let Some((word, behind)) = next_piece(left) {
         let Some(outcome) = outcome_of(word) else {
-            return Ok(None);
+            return Ok(false);
         };
-        outcomes.push(outcome)?;
+        push(outcomes, outcome)?;
         left = behind;
     }
-    Ok(Some(outcomes))
+    Ok(true)
 }
 
 fn first(reply: ReplyLine) -> Option<FirstLine>
@@ -101,13 +104,13 @@ fn first(reply: ReplyLine) -> Option<FirstLine>
 fn first_of_one(word: &[u8], a: u64) -> Option<FirstLine>
     ensures { result ≡ first_from word.now (a ∷ []) }
 {
-    if word == b"ahm".as_slice() {
+    if is_word(word, b"ahm") {
         return first(ReplyLine::Ahm { a });
     }
     let Ok(n) = u32::try_from(a) else {
         return None;
     };
-    if word == b"large".as_slice() {
+    if is_word(word, b"large") {
         first(ReplyLine::Large { n })
     } else {
         None
@@ -117,15 +120,15 @@ fn first_of_one(word: &[u8], a: u64) -> Option<FirstLine>
 fn first_of_two(alloc: Global, word: &[u8], t: u64, a: u64) -> Option<FirstLine>
     ensures { result ≡ first_from word.now (t ∷ a ∷ []) }
 {
-    if word == b"rows".as_slice() {
+    if is_word(word, b"rows") {
         let lines = LineList::of(Vec::new(alloc));
         Some(FirstLine {
             reply: ReplyLine::Rows { t, lines },
             due: a,
         })
-    } else if word == b"ancient".as_slice() {
+    } else if is_word(word, b"ancient") {
         first(ReplyLine::Ancient { t, a })
-    } else if word == b"busy".as_slice() {
+    } else if is_word(word, b"busy") {
         first(ReplyLine::Busy { t, f: a })
     } else {
         None
@@ -138,9 +141,9 @@ fn first_from(alloc: Global, word: &[u8], numbers: &[u64]) -> Option<FirstLine>
 {
     match numbers {
         [] => {
-            if word == b"done".as_slice() {
+            if is_word(word, b"done") {
                 first(ReplyLine::Done)
-            } else if word == b"stopped".as_slice() {
+            } else if is_word(word, b"stopped") {
                 first(ReplyLine::Stopped)
             } else {
                 None
@@ -162,12 +165,14 @@ fn at_of(alloc: Global, rest: Option<&[u8]>) -> Result<Option<FirstLine>, NoMemo
     let Some(ts) = read_number(word) else {
         return Ok(None);
     };
-    match read_outcomes(alloc, behind)? {
-        Some(outcomes) => Ok(first(ReplyLine::At {
+    let mut outcomes = Vec::new(alloc);
+    if read_outcomes(behind, &mut outcomes)? {
+        Ok(first(ReplyLine::At {
             ts,
             outcomes: OutcomeList::of(outcomes),
-        })),
-        None => Ok(None),
+        }))
+    } else {
+        Ok(None)
     }
 }
 
@@ -180,7 +185,7 @@ pub fn first_of(
     ensures { IfOk result (λ read. read ≡ first_in line.now) }
 {
     let (word, rest) = cut_space(line);
-    if word == b"at".as_slice() {
+    if is_word(word, b"at") {
         return at_of(alloc, rest);
     }
     if read_numbers(rest, numbers)? {
@@ -193,19 +198,19 @@ pub fn first_of(
 fn event_of_three(word: &[u8], s: u32, i: u32, t: u64) -> Option<Event>
     ensures { result ≡ event_at word.now s i (t ∷ []) }
 {
-    if word == b"end".as_slice() {
+    if is_word(word, b"end") {
         return Some(Event::End { s, i, ts: t });
     }
-    if word == b"rows".as_slice() {
+    if is_word(word, b"rows") {
         return Some(Event::Rows { s, i, t });
     }
-    if word == b"mark".as_slice() {
+    if is_word(word, b"mark") {
         return Some(Event::Mark { s, i, a: t });
     }
     let Ok(n) = u32::try_from(t) else {
         return None;
     };
-    if word == b"large".as_slice() {
+    if is_word(word, b"large") {
         Some(Event::Large { s, i, n })
     } else {
         None
@@ -215,13 +220,13 @@ fn event_of_three(word: &[u8], s: u32, i: u32, t: u64) -> Option<Event>
 fn event_of_four(word: &[u8], s: u32, i: u32, t: u64, m: u64) -> Option<Event>
     ensures { result ≡ event_at word.now s i (t ∷ m ∷ []) }
 {
-    if word == b"begin".as_slice() {
+    if is_word(word, b"begin") {
         Some(Event::Begin { s, i, ts: t, m })
-    } else if word == b"look".as_slice() {
+    } else if is_word(word, b"look") {
         Some(Event::Look { s, i, t, m })
-    } else if word == b"ancient".as_slice() {
+    } else if is_word(word, b"ancient") {
         Some(Event::Ancient { s, i, t, a: m })
-    } else if word == b"busy".as_slice() {
+    } else if is_word(word, b"busy") {
         Some(Event::Busy { s, i, t, f: m })
     } else {
         None
@@ -233,7 +238,7 @@ fn event_at(word: &[u8], s: u32, i: u32, more: &[u64]) -> Option<Event>
 {
     match more {
         [] => {
-            if word == b"chore".as_slice() {
+            if is_word(word, b"chore") {
                 Some(Event::Chore { s, i })
             } else {
                 None
@@ -251,7 +256,7 @@ fn event_from(word: &[u8], numbers: &[u64]) -> Option<Event>
 {
     match numbers {
         [] => {
-            if word == b"stop".as_slice() {
+            if is_word(word, b"stop") {
                 Some(Event::Stop)
             } else {
                 None
@@ -311,11 +316,11 @@ fn last_numbers(rest: Option<&[u8]>) -> Option<LastLine>
 pub fn last_of(line: &[u8]) -> Option<LastLine>
     ensures { result ≡ last_in line.now }
 {
-    if line == b"tablet stopped".as_slice() {
+    if is_word(line, b"tablet stopped") {
         return Some(LastLine::Stopped);
     }
     let (tablet, rest) = cut_space(line);
-    if tablet == b"tablet".as_slice() {
+    if is_word(tablet, b"tablet") {
         last_numbers(rest)
     } else {
         None

@@ -11,6 +11,8 @@ use crate::out_lines::{FirstLine, event_of, first_of, is_session, last_of};
 use crate::output::LastLine;
 use crate::replies::{LineList, ReplyLine, ReplyLineList, ReplyLines};
 use crate::split::cut_at;
+use crate::vector::push;
+use crate::word::is_word;
 use kt_base::{NoMemory, Octets};
 use kt_history::{Event, EventList};
 use std::alloc::Global;
@@ -93,13 +95,6 @@ fn fault(at: usize) -> CodecNo
     CodecNo::Place { offset: at as u64 }
 }
 
-fn push<T: Drop>(list: &mut Vec<T>, item: T) -> Result<(), NoMemory>
-    ensures { OnOk result (list.new.items ≡ list.old.items ++ item ∷ []) }
-{
-    list.push(item)?;
-    Ok(())
-}
-
 fn read_rows(alloc: Global, text: &[u8], start: usize, due: u64) -> Result<Rows, CodecNo>
     requires { start ≤ length text.now }
     ensures { AreRowsRead text.now start due result }
@@ -178,7 +173,7 @@ fn read_sessions(alloc: Global, text: &[u8], numbers: &mut Vec<u64>) -> Result<S
             };
             push(&mut sessions, ReplyLineList::of(replies))?;
             at = behind;
-        } else if line == b"history".as_slice() {
+        } else if is_word(line, b"history") {
             return Ok(Sessions {
                 sessions,
                 at: below,

@@ -16,7 +16,8 @@ use crate::named::again_no;
 use crate::names::{cut_name, find_column};
 use crate::test_words::next_test;
 use crate::times::{Time, read_time};
-use crate::word::next_word;
+use crate::vector::push;
+use crate::word::{is_word, next_word};
 use kt_base::literal::{LiteralNo, read_literal};
 use kt_base::{Kind, NoMemory};
 use kt_history::{At, ColumnIds, Pred, PredList, Scan};
@@ -64,11 +65,13 @@ fn read_pred(
         return note_missing(alloc, question, no);
     };
     let test = read_test(alloc, column, question, no)?;
-    preds.push(Pred {
-        column: column.id,
-        test,
-    })?;
-    Ok(())
+    push(
+        preds,
+        Pred {
+            column: column.id,
+            test,
+        },
+    )
 }
 
 // The tests that all words say, with `and` between them.
@@ -88,7 +91,7 @@ fn read_preds(
         let Some((word, behind)) = next_word(taken.rest) else {
             return Ok(Some(PredList::of(preds)));
         };
-        if word != b"and".as_slice() {
+        if !is_word(word, b"and") {
             return Ok(None);
         }
         rest = behind;
@@ -109,7 +112,7 @@ fn read_tests(
     let Some((word, rest)) = next_word(line) else {
         return Ok(Some(PredList::of(Vec::new(alloc))));
     };
-    if word == b"where".as_slice() {
+    if is_word(word, b"where") {
         read_preds(alloc, columns, rest, no)
     } else {
         Ok(None)
@@ -138,8 +141,8 @@ fn read_name<'a>(
         return Ok(());
     };
     if no.is_above(13) {
-        seen.push(name)?;
-        ids.push(column.id)?;
+        push(seen, name)?;
+        push(ids, column.id)?;
     }
     Ok(())
 }
@@ -231,7 +234,7 @@ fn read_select(
     let Some((word, behind)) = next_word(rest) else {
         return read_whole(alloc, columns, at, None);
     };
-    if word != b"select".as_slice() {
+    if !is_word(word, b"select") {
         return read_whole(alloc, columns, at, rest);
     }
     let Some((names, behind)) = next_word(behind) else {
@@ -265,9 +268,9 @@ pub fn read_scan(alloc: Global, schema: &Schema, line: Option<&[u8]>) -> Result<
     let Some((word, rest)) = next_word(line) else {
         return Err(LineNo::Reason(12));
     };
-    if word == b"now".as_slice() {
+    if is_word(word, b"now") {
         read_select(alloc, schema.columns(), At::Looked, rest)
-    } else if word == b"at".as_slice() {
+    } else if is_word(word, b"at") {
         read_given(alloc, schema.columns(), rest)
     } else {
         Err(LineNo::Reason(12))

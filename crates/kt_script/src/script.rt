@@ -1,6 +1,6 @@
 //! Whole scripts.
 
-ghost use Rattle.std.specs.Prelude.{◌≡◌, ◌≤◌, ◌+◌, ◌∷◌, length, ℕ, List, Some, IfOk, IfErr, true, false};
+ghost use Rattle.std.specs.Prelude.{◌≡◌, ◌≤◌, ◌+◌, ◌∷◌, [], length, ℕ, List, Some, IfOk, IfErr, true, false};
 ghost use Rattle.std.specs.List.{list_any};
 ghost use Rattle.kt_schema.specs.declared.column.Column.{Column};
 ghost use Rattle.kt_script.specs.declared.leads.Lead.TheVariants as lead;
@@ -9,7 +9,7 @@ ghost use Rattle.kt_script.specs.Pieces.{cut, words_of, words_in};
 ghost use Rattle.kt_script.specs.Reasons.{no_of};
 ghost use Rattle.kt_script.specs.Columns.{begins_column, IsTable};
 ghost use Rattle.kt_script.specs.Scripts.{full_no, is_begun, most_bytes, first_piece, script_of, ReadsCommand, ReadsLed, ReadsBody, IsPushed, IsFirstFault};
-ghost use Rattle.kt_script.specs.Fit.{PlanFits, IsBodyRead};
+ghost use Rattle.kt_script.specs.Fit.{PlanFits, IsBodyRead, AreLinesRead};
 
 use crate::columns::LineNo;
 use crate::head::{Table, cut_line, located, read_table};
@@ -20,7 +20,7 @@ use crate::scans::read_scan;
 use crate::sessions::Sessions;
 use crate::times::read_mark;
 use crate::word::{cut_word, next_word};
-use crate::writes::read_write;
+use crate::writes::{SpelledOp, read_write};
 use kt_base::Chore;
 use kt_base::limits::{COMMANDS, SCRIPT_BYTES, SESSIONS};
 use kt_history::{Command, Plan};
@@ -93,6 +93,7 @@ fn read_command(
     word: Word,
     line: &[u8],
     rest: Option<&[u8]>,
+    op: &mut SpelledOp,
 ) -> Result<Command, LineNo>
     requires { IsTable schema.now }
     ensures { (first : List ℕ) → words_of line.now ≡ first ∷ words_in rest.entry → ReadsCommand schema.now word (words_of line.now) result }
@@ -101,7 +102,7 @@ fn read_command(
         Word::Scan => Ok(Command::Scan(read_scan(alloc, schema, rest)?)),
         Word::Mark => Ok(Command::Mark(read_mark(rest)?)),
         Word::Chore(chore) => read_chore(chore, rest),
-        Word::Op(_) => Ok(Command::Write(read_write(alloc, schema, Some(line))?)),
+        Word::Op(_) => Ok(Command::Write(read_write(alloc, schema, Some(line), op)?)),
     }
 }
 
@@ -112,6 +113,7 @@ fn read_command_line(
     word: Word,
     line: &[u8],
     rest: Option<&[u8]>,
+    op: &mut SpelledOp,
 ) -> Result<(), LineNo>
     requires { IsTable schema.now }
     ensures { (first : List ℕ) → words_of line.now ≡ first ∷ words_in rest.entry → ReadsLed schema.now sessions.old (Some (lead.Command word)) (words_of line.now) sessions.new result }
@@ -119,7 +121,7 @@ fn read_command_line(
     if !sessions.is_begun() {
         return Err(LineNo::Reason(11));
     }
-    match read_command(alloc, schema, word, line, rest) {
+    match read_command(alloc, schema, word, line, rest, op) {
         Ok(command) => push_command(sessions, command),
         Err(LineNo::Reason(reason)) => { Err(LineNo::Reason(least_of(reason, full_no(sessions)))) }
         Err(LineNo::Memory) => Err(LineNo::Memory),
@@ -132,6 +134,7 @@ fn read_line(
     schema: &Schema,
     sessions: &mut Sessions,
     line: &[u8],
+    op: &mut SpelledOp,
 ) -> Result<(), LineNo>
     requires { IsTable schema.now }
     ensures { ReadsBody schema.now sessions.old (words_of line.now) sessions.new result }
@@ -140,9 +143,40 @@ fn read_line(
     match lead_in(first) {
         Some(Lead::Session) => begin_session(alloc, sessions, rest),
         Some(Lead::Command(word)) => {
-            read_command_line(alloc, schema, sessions, word, line, rest)
+            read_command_line(alloc, schema, sessions, word, line, rest, op)
         }
         None => Err(LineNo::Reason(11)),
+    }
+}
+
+// Adds the commands of the lines below the columns. The buffers are for the operations of a line.
+fn read_lines(
+    alloc: Global,
+    schema: &Schema,
+    text: &[u8],
+    sessions: &mut Sessions,
+    op: &mut SpelledOp,
+) -> Result<(), ScriptNo>
+    requires short { length text.now ≤ most_bytes }
+    requires table { IsTable schema.now }
+    requires key { list_any (λ c. c.key) schema.now ≡ true }
+    requires first { begins_column (first_piece (cut 10 text.now)) ≡ false }
+    requires none { sessions.old ≡ [] }
+    ensures { AreLinesRead schema.now (length schema.now + 2) text.now sessions.new result }
+{
+    let mut number = schema.columns().len() as u64 + 2;
+    let mut rest = text;
+    'lines: while let Some((line, behind)) = cut_line(rest) {
+        if let Err(no) = read_line(alloc, schema, sessions, line, op) {
+            return Err(located(number, no));
+        }
+        number += 1;
+        rest = behind;
+    }
+    if rest.is_empty() {
+        Ok(())
+    } else {
+        Err(ScriptNo::Line { number, reason: 2 })
     }
 }
 
@@ -154,21 +188,10 @@ fn read_body(alloc: Global, schema: &Schema, text: &[u8]) -> Result<Plan, Script
     requires first { begins_column (first_piece (cut 10 text.now)) ≡ false }
     ensures { IsBodyRead schema.now (length schema.now + 2) text.now result }
 {
+    let mut op = SpelledOp::of(alloc, schema)?;
     let mut sessions = Sessions::none(alloc);
-    let mut number = schema.columns().len() as u64 + 2;
-    let mut rest = text;
-    'lines: while let Some((line, behind)) = cut_line(rest) {
-        if let Err(no) = read_line(alloc, schema, &mut sessions, line) {
-            return Err(located(number, no));
-        }
-        number += 1;
-        rest = behind;
-    }
-    if rest.is_empty() {
-        Ok(sessions.into_plan()?)
-    } else {
-        Err(ScriptNo::Line { number, reason: 2 })
-    }
+    read_lines(alloc, schema, text, &mut sessions, &mut op)?;
+    Ok(sessions.into_plan()?)
 }
 
 /// What a text says, if it is a script, or its first fault.

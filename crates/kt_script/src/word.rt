@@ -2,6 +2,7 @@
 
 ghost use Rattle.std.specs.Prelude.{◌≡◌, ◌<◌, ◌≤◌, ℕ, [], false, length, slice_index, IfSome, IfNone};
 ghost use Rattle.memchr.specs.Find.{is_byte2};
+ghost use Rattle.kt_base.specs.Literals.{same};
 ghost use Rattle.kt_script.specs.Pieces.{side_after, ends_word, words_of, words_in, IsCut};
 ghost use Rattle.kt_script.specs.Runs.{Quiet};
 
@@ -63,6 +64,13 @@ fn run_end(side: Side, text: &[u8], from: usize) -> usize
         Side::Inside => next_of(b'"', b'\\', text, from),
         Side::Slashed => from,
     }
+}
+
+/// Whether a word is this one.
+pub fn is_word(word: &[u8], text: &[u8]) -> bool
+    ensures { result ≡ same word.now text.now }
+{
+    word == text
 }
 
 /// The first word of a line, and what is left behind the space after it. Spaces between quotes end no word.

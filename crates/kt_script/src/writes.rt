@@ -32,10 +32,10 @@ use std::alloc::Global;
 // The bytes for which room is made for each cell. A number under its id takes 11, a text 7 and its bytes.
 const CELL_ROOM: usize = 24;
 
-// An operation as bytes spell it, in buffers that are filled anew for each operation of a line: the cells of its key, the
-// encoded key, and its other cells behind their count.
+/// An operation as bytes spell it, in buffers that are filled anew for each operation of a script: the cells of its key,
+/// the encoded key, and its other cells behind their count.
 #[derive(Drop)]
-struct SpelledOp {
+pub(crate) struct SpelledOp {
     kind: OpKind,
     key_cells: Vec<Cell>,
     key: Octets,
@@ -43,8 +43,8 @@ struct SpelledOp {
 }
 
 impl SpelledOp {
-    // Buffers with room for the operations of a table.
-    fn of(alloc: Global, schema: &Schema) -> Result<SpelledOp, NoMemory> {
+    /// Buffers with room for the operations of a table.
+    pub(crate) fn of(alloc: Global, schema: &Schema) -> Result<SpelledOp, NoMemory> {
         let key_cells = Vec::with_capacity(alloc, schema.key_kinds().len())?;
         let mut cells = Octets::new(alloc);
         cells.reserve(2 + CELL_ROOM * schema.other_columns().len())?;
@@ -198,17 +198,34 @@ fn read_op<'a>(
     }
 }
 
-// Adds an operation as it is spelled.
-fn push_op(ops: &mut OpList, op: &SpelledOp) -> Result<(), NoMemory>
+// Room for so many operations of so many bytes, where there are none yet.
+fn make_room(alloc: Global, ops: &mut OpList, count: usize, bytes: usize) -> Result<(), NoMemory>
+    ensures { OnOk result (ops.new ≡ ops.old) }
+{
+    if ops.is_empty() {
+        *ops = OpList::with_capacity(alloc, count, bytes)?;
+    }
+    Ok(())
+}
+
+// Adds an operation as it is spelled. For the first one room is made for so many that are as long.
+fn push_op(alloc: Global, ops: &mut OpList, op: &SpelledOp, count: usize) -> Result<(), NoMemory>
     requires { HasSpelling op.now }
     ensures { OnOk result (ops.new ≡ ops.old ++ spelled_op op.now ∷ []) }
 {
     let spelled = OpRef::of(op.kind, op.key.as_slice(), op.cells.added());
+    make_room(alloc, ops, count, count.saturating_mul(spelled.len()))?;
     ops.push(&spelled)
 }
 
 // Keeps an operation, if there is room for it. One that a reason up to 17 refuses is not kept.
-fn keep_op(ops: &mut OpList, op: &SpelledOp, no: &mut Least) -> Result<(), NoMemory>
+fn keep_op(
+    alloc: Global,
+    ops: &mut OpList,
+    op: &SpelledOp,
+    count: usize,
+    no: &mut Least,
+) -> Result<(), NoMemory>
     requires held { length ops.old ≤ 64 }
     requires fits { 17 < no.old → HasSpelling op.now }
     ensures least { OnOk result (no.new ≡ min no.old (reason_if (nat_lt 63 (length ops.old)) 18)) }
@@ -222,10 +239,50 @@ fn keep_op(ops: &mut OpList, op: &SpelledOp, no: &mut Least) -> Result<(), NoMem
     }
     no.note(None);
     if no.is_above(17) {
-        push_op(ops, op)
+        push_op(alloc, ops, op, count)
     } else {
         Ok(())
     }
+}
+
+fn len_of(rest: Option<&[u8]>) -> usize {
+    match rest {
+        Some(text) => text.len(),
+        None => 0,
+    }
+}
+
+// How many operations like the one in front of what is left there may be, one at least.
+fn like_first(line: Option<&[u8]>, left: Option<Option<&[u8]>>) -> usize {
+    let Some(rest) = left else {
+        return 1;
+    };
+    let more = len_of(rest);
+    let first = len_of(line).saturating_sub(more).max(1);
+    1 + (more / first).min(OPERATIONS)
+}
+
+// Adds the operations of a line. They count only where no reason up to 18 holds.
+fn add_ops(
+    alloc: Global,
+    schema: &Schema,
+    line: Option<&[u8]>,
+    op: &mut SpelledOp,
+    ops: &mut OpList,
+    no: &mut Least,
+) -> Result<(), NoMemory>
+    requires table { IsTable schema.now }
+    requires none { ops.old ≡ [] }
+    ensures ops { OnOk result (18 < no.new → ops.new ≡ map (op_of schema.now) (ops_of (words_in line.entry))) }
+    ensures least { OnOk result (no.new ≡ min no.old (min (ops_no schema.now (ops_of (words_in line.entry))) (many_no 0 (ops_of (words_in line.entry))))) }
+{
+    let mut left = Some(line);
+    'ops: while let Some(rest) = left {
+        left = read_op(alloc, schema, rest, op, no)?;
+        keep_op(alloc, ops, op, like_first(rest, left), no)?;
+    }
+    no.note(None);
+    Ok(())
 }
 
 // The operations of a line, of which a copy takes no memory. They count only where no reason up to 18 holds.
@@ -233,21 +290,16 @@ fn read_ops(
     alloc: Global,
     schema: &Schema,
     line: Option<&[u8]>,
+    op: &mut SpelledOp,
     no: &mut Least,
 ) -> Result<OpList, NoMemory>
     requires { IsTable schema.now }
     ensures ops { IfOk result (λ ops. 18 < no.new → ops ≡ map (op_of schema.now) (ops_of (words_in line.entry))) }
-    ensures least { OnOk result (no.new ≡ min no.old (min (ops_no schema.now (ops_of (words_in line.entry))) (many_no 0 (ops_of (words_in line.entry))))) }
+    ensures least { IfOk result (λ ops. no.new ≡ min no.old (min (ops_no schema.now (ops_of (words_in line.entry))) (many_no 0 (ops_of (words_in line.entry))))) }
 {
     let mut ops = OpList::new(alloc);
-    let mut op = SpelledOp::of(alloc, schema)?;
-    let mut left = Some(line);
-    'ops: while let Some(rest) = left {
-        left = read_op(alloc, schema, rest, &mut op, no)?;
-        keep_op(&mut ops, &op, no)?;
-    }
-    no.note(None);
-    Ok(ops.shared(alloc)?)
+    add_ops(alloc, schema, line, op, &mut ops, no)?;
+    ops.shared(alloc)
 }
 
 // Whether an operation from a place on has this key.
@@ -315,17 +367,18 @@ fn twice_no(ops: &OpList) -> Option<u8>
     if is_twice(ops) { Some(19) } else { None }
 }
 
-/// The write of a line of a script, from its first word on.
+/// The write of a line of a script, from its first word on. The buffers are for its operations.
 pub(crate) fn read_write(
     alloc: Global,
     schema: &Schema,
     line: Option<&[u8]>,
+    op: &mut SpelledOp,
 ) -> Result<Write, LineNo>
     requires { IsTable schema.now }
     ensures { ReadsWrite schema.now (words_in line.entry) result }
 {
     let mut no = Least::none();
-    let Ok(ops) = read_ops(alloc, schema, line, &mut no) else {
+    let Ok(ops) = read_ops(alloc, schema, line, op, &mut no) else {
         return Err(LineNo::Memory);
     };
     no.note(twice_no(&ops));

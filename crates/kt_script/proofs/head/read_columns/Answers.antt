@@ -16,9 +16,9 @@ pub lines-preserved : goal.lines-preserved
 lines-preserved c =
     let columns = c.lines.columns.items in
     let reads = subst (λ xs. ReadsColumn xs c.in-Some.line.now (Ok c.in-Ok.column)) c.deref.ensures.value c.in-Ok.ensures in
-    let next = column_read columns c.push_column.new.columns.items c.lines.rest.now c.in-Some.line.now c.in-Some.behind.now c.in-Ok.column c.in-Some.ensures.0 (sym c.begins_column.ensures ∙ c.if-not-begins_column.false) reads c.in_ok-push_column.ensures in
+    let next = column_read columns c.push.new.list.items c.lines.rest.now c.in-Some.line.now c.in-Some.behind.now c.in-Ok.column c.in-Some.ensures.0 (sym c.begins_column.ensures ∙ c.if-not-begins_column.false) reads c.in_ok-push.ensures in
     let fits = column_fits columns c.in-Some.line.now c.in-Ok.column (omega (arith, reads.0)) reads.1 in
-    record { fault = c.lines.invariant.fault ∙ next.0; table = rw c.in_ok-push_column.ensures (table_more columns c.in-Ok.column c.lines.invariant.table fits); end = c.lines.invariant.end ∙ next.1; size = omega (arith, c.lines.invariant.size, c.in-Some.ensures.1) }
+    record { fault = c.lines.invariant.fault ∙ next.0; table = rw c.in_ok-push.ensures (table_more columns c.in-Ok.column c.lines.invariant.table fits); end = c.lines.invariant.end ∙ next.1; size = omega (arith, c.lines.invariant.size, c.in-Some.ensures.1) }
 
 pub lines-init : goal.lines-init
 lines-init c = rw c.new-columns.ensures.items (record { fault = refl; table = table_none; end = refl; size = omega arith })

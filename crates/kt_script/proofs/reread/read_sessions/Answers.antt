@@ -40,23 +40,23 @@ sessions-preserved c =
       replies = all_more (AllByRecursion LineHolds) c.sessions.sessions.items rs new pushed c.sessions.invariant.replies c.in-Ok.ensures.2;
     }
 
-pub returns-then-eq : goal.returns-then-eq
-returns-then-eq c =
+pub returns-then-is_word : goal.returns-then-is_word
+returns-then-is_word c =
     let n = length c.sessions.sessions.items in
     let l = c.in-Some.line.now in
     let number : c.len.result + 1 ≡ suc n = omega (arith, c.len.ensures, c.sessions.sessions.ok.0) in
     let other : same l (session_line (suc n)) ≡ false = ap (λ k. same l (session_line k)) (sym number) ∙ sym c.if-is_session.ensures in
-    let is : same l (codes "history") ≡ true = sym (ap (same l) c.as_slice.ensures) ∙ sym c.if-eq.ensures in
+    let is : same l (codes "history") ≡ true = sym c.if-is_word.ensures in
     (history_first c.args.text.now n c.sessions.at c.sessions.sessions.items refl c.sessions.invariant.moves c.sessions.invariant.no_reply l c.in-Some.ensures (omega arith) other is (same_text l (codes "history") is), c.sessions.invariant.replies)
 
-pub returns-else-eq : goal.returns-else-eq
-returns-else-eq c =
+pub returns-else-is_word : goal.returns-else-is_word
+returns-else-is_word c =
     let n = length c.sessions.sessions.items in
     let l = c.in-Some.line.now in
     let number : c.len.result + 1 ≡ suc n = omega (arith, c.len.ensures, c.sessions.sessions.ok.0) in
     let other : same l (session_line (suc n)) ≡ false = ap (λ k. same l (session_line k)) (sym number) ∙ sym c.if-is_session.ensures in
-    let is : same l (codes "history") ≡ false = sym (ap (same l) c.as_slice.ensures) ∙ sym c.if-eq.ensures in
-    let above : c.len-else-eq.result ≡ n = omega (arith, c.len-else-eq.ensures, c.sessions.sessions.ok.0) in
+    let is : same l (codes "history") ≡ false = sym c.if-is_word.ensures in
+    let above : c.len-else-is_word.result ≡ n = omega (arith, c.len-else-is_word.ensures, c.sessions.sessions.ok.0) in
     rw c.fault.ensures (neither_refused c.args.text.now n c.sessions.at c.sessions.sessions.items refl c.sessions.invariant.moves c.sessions.invariant.no_reply l c.in-Some.ensures c.sessions_front.result (omega arith) other is (subst (λ k. IsFault (MayStand (sessions k 0)) l c.sessions_front.result) above c.sessions_front.ensures))
 
 pub returns : goal.returns

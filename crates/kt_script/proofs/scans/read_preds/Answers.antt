@@ -1,4 +1,4 @@
-use Rattle.std.proofs.Common.{◌≡◌, ap, sym, ◌∙◌, Bool, true, false, not, refl}
+use Rattle.std.proofs.Common.{◌≡◌, sym, ◌∙◌, true}
 use Rattle.std.specs.Prelude.{codes}
 use Rattle.kt_base.specs.Literals.{same}
 use Rattle.kt_script.specs.Pieces.{words_in}
@@ -13,11 +13,7 @@ pub returns-in_default-next_word : goal.returns-in_default-next_word
 returns-in_default-next_word c =
     all_read (taken_view c.in-Some.taken) c.tests.invariant (sym c.in-Some.ensures) c.in_default-next_word.ensures.none (c.of.ensures ∙ c.in_ok-read_pred.ensures.preds) c.in_ok-read_pred.ensures.least
 
-not_false : (b : Bool) → not b ≡ false → b ≡ true
-not_false true h = refl
-not_false false h = absurd cc
-
 pub tests-preserved : goal.tests-preserved
 tests-preserved c =
-    let joined : same c.in-Some-next_word.word.now (codes "and") ≡ true = ap (same c.in-Some-next_word.word.now) (sym c.as_slice.ensures) ∙ not_false _ (sym c.ne.ensures ∙ c.if-ne.false) in
+    let joined : same c.in-Some-next_word.word.now (codes "and") ≡ true = sym c.is_word.ensures ∙ c.if-not-is_word.false in
     more_read (taken_view c.in-Some.taken) c.in-Some-next_word.word.now (words_in c.in-Some-next_word.behind) c.tests.invariant (sym c.in-Some.ensures) c.in-Some-next_word.ensures.some joined c.in_ok-read_pred.ensures.preds c.in_ok-read_pred.ensures.least

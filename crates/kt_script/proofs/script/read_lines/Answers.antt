@@ -1,6 +1,6 @@
 use Rattle.kt_script.proofs.WriteLaws.{write_fits}
 use Rattle.kt_script.proofs.Bodies.{body_refused, body_read}
-use Rattle.kt_script.proofs.script.read_body.Goals as goal
+use Rattle.kt_script.proofs.script.read_lines.Goals as goal
 
 pub returns-in-Err : goal.returns-in-Err
 returns-in-Err c = rw c.located.ensures (body_refused (Unit {0}) c.read_line.new.sessions c.in-Some.line.now c.in-Some.behind.now c.in-Err.no c.lines.invariant c.in-Some.ensures.0 c.in-Err.ensures)

@@ -6,7 +6,7 @@ use Rattle.kt_script.specs.Writes.{op_of, ops_of, ops_no, many_no, first_op, lat
 use Rattle.kt_script.proofs.Buffers.{is_spelled, read_again}
 use Rattle.kt_script.proofs.OpSpelled.{op_spelled}
 use Rattle.kt_script.proofs.OpWords.{ops_split, least_op, ops_more, ops_end}
-use Rattle.kt_script.proofs.writes.read_ops.Goals as goal
+use Rattle.kt_script.proofs.writes.add_ops.Goals as goal
 
 pub ops-smaller : goal.ops-smaller
 ops-smaller c =
@@ -20,7 +20,7 @@ keep_op-requires-clause-fits c = λ h.
     let columns = c.args.schema.now in
     let words = first_op (words_in c.in-Some.rest) in
     let read = c.in_ok-left.ensures in
-    is_spelled c.read_op.new.op (op_of columns words) (op_spelled columns words c.requires (omega (arith, h, read.least))) (read.op h)
+    is_spelled c.read_op.new.op (op_of columns words) (op_spelled columns words c.requires.table (omega (arith, h, read.least))) (read.op h)
 
 pub ops-preserved : goal.ops-preserved
 ops-preserved c =
@@ -31,7 +31,7 @@ ops-preserved c =
     record {
       ops = λ h.
           let taken : 17 < c.read_op.new.no = omega (arith, h, kept.least) in
-          let fits = op_spelled columns (first_op words) c.requires (omega (arith, taken, read.least)) in
+          let fits = op_spelled columns (first_op words) c.requires.table (omega (arith, taken, read.least)) in
           ops_more columns words (ops_in c.ops.left) (ops_in c.in_ok-left.left) c.ops.ops c.keep_op.new.ops (map (op_of columns) (ops_of (words_in c.args.line))) (spelled_op c.read_op.new.op)
           (ap ops_in c.in-Some.is) read.later (read_again c.read_op.new.op (op_of columns (first_op words)) fits (read.op taken)) (kept.kept h) (c.ops.invariant.ops (omega (arith, h, kept.least, read.least)));
       few = kept.few;
@@ -41,7 +41,7 @@ ops-preserved c =
 
 pub returns-clause-ops : goal.returns-clause-ops
 returns-clause-ops c = λ h.
-    c.in_ok-shared.ensures ∙ sym (append-nil c.ops.ops) ∙ (ap (λ left. c.ops.ops ++ map (op_of c.args.schema.now) (ops_in left)) (sym c.in_default.is) ∙ c.ops.invariant.ops (omega (arith, h, c.note.ensures)))
+    sym (append-nil c.ops.ops) ∙ (ap (λ left. c.ops.ops ++ map (op_of c.args.schema.now) (ops_in left)) (sym c.in_default.is) ∙ c.ops.invariant.ops (omega (arith, h, c.note.ensures)))
 
 pub returns-clause-least : goal.returns-clause-least
 returns-clause-least c =

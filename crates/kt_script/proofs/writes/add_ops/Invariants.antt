@@ -1,7 +1,7 @@
 use Rattle.std.proofs.Common.{◌≡◌, ◌<◌, ◌≤◌, ◌++◌, min, length, map}
 use Rattle.kt_script.specs.Pieces.{words_in}
 use Rattle.kt_script.specs.Writes.{op_of, ops_of, ops_no, many_no, ops_in}
-use Rattle.kt_script.proofs.writes.read_ops.Given as goal
+use Rattle.kt_script.proofs.writes.add_ops.Given as goal
 
 -- the operations so far, and those that are left
 abbrev pub invariant-ops : goal.invariant-ops
