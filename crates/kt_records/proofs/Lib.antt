@@ -4,3 +4,4 @@ pub mod Commits
 pub mod Records
 pub mod Numbers
 pub mod Listed
+pub mod Shared

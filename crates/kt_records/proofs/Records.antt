@@ -239,7 +239,7 @@ offset_ok total (Ok x) e is = is
 offset_ok total (Err left) e is = absurd cc
 
 -- what is read keeps the rules and is spelled so
-record_takes : (bytes : List ℕ) (e : Entry) → IsBytes bytes → record_of bytes ≡ Ok e → KeepsRules e × (bytes ≡ spelling e)
+pub record_takes : (bytes : List ℕ) (e : Entry) → IsBytes bytes → record_of bytes ≡ Ok e → KeepsRules e × (bytes ≡ spelling e)
 unfolding whole_at
 record_takes bytes e fits is =
     let f = found entry_at record_fields KeepsRules entry_part bytes e fits (offset_ok (length bytes) (whole_at bytes) e is) in

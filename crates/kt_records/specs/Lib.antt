@@ -3,4 +3,5 @@ pub mod Rules
 pub mod Fields
 pub mod Numbers
 pub mod Reading
+pub mod Shared
 pub mod Laws

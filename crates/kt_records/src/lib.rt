@@ -10,10 +10,12 @@ pub mod entry;
 pub mod fields;
 pub mod laws;
 mod lists;
+pub mod log_records;
 mod reading;
 mod writing;
 
 pub use entry::{CommitRow, CommitRows, Entry, RecordList, TargetList};
 pub use kt_bytes::CodecNo;
+pub use log_records::{LogRecords, OpsRef, RecordRef};
 pub use reading::read_record;
 pub use writing::spell;

@@ -1,5 +1,5 @@
 //! Lists behind their counts, read from the front of some bytes.
-ghost use Rattle.std.specs.Prelude.{◌≡◌, ◌<◌, [], IfOk};
+ghost use Rattle.std.specs.Prelude.{◌≡◌, ◌<◌, ◌≤◌, ◌++◌, [], length, drop, IfOk};
 ghost use Rattle.kt_records.specs.Rules.{may_list, may_change};
 ghost use Rattle.kt_bytes.specs.Reading.{Gives, many_at};
 ghost use Rattle.kt_cells.specs.Reading.{cells_behind};
@@ -8,11 +8,11 @@ ghost use Rattle.kt_records.specs.Reading.{cell_list_at, operation_at, target_at
 
 use crate::entry::{CommitRow, TargetList};
 use crate::fields::{kind_of, new_key_of, outcome_of, target_of};
+use crate::log_records::OpsRef;
 use kt_bytes::Stop;
 use kt_bytes::fields::{fault_at, u16_at};
 use kt_cells::lists::spelled_cells_of;
 use kt_history::{OpKind, OpList, OpRef, Outcome};
-use std::alloc::Global;
 
 fn lists(kind: OpKind, count: u16) -> bool
     ensures { result ≡ may_list kind count }
@@ -38,7 +38,7 @@ fn spelled_list_of(kind: OpKind, bytes: &[u8]) -> Result<(&[u8], &[u8]), Stop>
 
 /// An operation, where it lies.
 #[tactic(auto, unfolding(crate::specs::Reading::operation_at))]
-fn operation_of<'a>(front: &OpList, bytes: &'a [u8]) -> Result<(OpRef<'a>, &'a [u8]), Stop>
+fn operation_of<'a>(front: &OpsRef<'_>, bytes: &'a [u8]) -> Result<(OpRef<'a>, &'a [u8]), Stop>
     ensures { Gives (λ x. (x.0, x.1.now)) result (operation_at front.now bytes.now) }
 {
     let (kind, rest) = kind_of(bytes)?;
@@ -47,19 +47,32 @@ fn operation_of<'a>(front: &OpList, bytes: &'a [u8]) -> Result<(OpRef<'a>, &'a [
     Ok((OpRef::of(kind, key, cells), rest))
 }
 
-/// So many operations on different keys.
-pub fn operations_of(alloc: Global, count: u16, bytes: &[u8]) -> Result<(OpList, &[u8]), Stop>
-    ensures { Gives (λ x. (x.0, x.1.now)) result (many_at operation_at count [] bytes.now) }
+// An operation, where it lies, on a key that none of those from `first` on has.
+fn operation_behind<'a>(
+    ops: &OpList,
+    first: usize,
+    bytes: &'a [u8],
+) -> Result<(OpRef<'a>, &'a [u8]), Stop>
+    requires { first ≤ length ops.now }
+    ensures { Gives (λ x. (x.0, x.1.now)) result (operation_at (drop first ops.now) bytes.now) }
 {
-    let room = usize::from(count).min(bytes.len() / 5);
-    let mut ops = OpList::with_capacity(alloc, room, bytes.len())?;
+    let front = OpsRef::behind(ops, first);
+    operation_of(&front, bytes)
+}
+
+/// Adds so many operations on different keys behind others, and gives the bytes after them.
+pub fn operations_into<'a>(ops: &mut OpList, count: u16, bytes: &'a [u8]) -> Result<&'a [u8], Stop>
+    ensures read { Gives (λ rest. (drop (length ops.old) ops.new, rest.now)) result (many_at operation_at count [] bytes.now) }
+    ensures front { ops.new ≡ ops.old ++ drop (length ops.old) ops.new }
+{
+    let first = ops.len();
     let mut rest = bytes;
     'ops: for _ in 0..count {
-        let (op, after) = operation_of(&ops, rest)?;
+        let (op, after) = operation_behind(ops, first, rest)?;
         ops.push(&op)?;
         rest = after;
     }
-    Ok((ops, rest))
+    Ok(rest)
 }
 
 fn changes(outcome: Outcome, count: u8) -> bool
@@ -111,20 +124,20 @@ fn commit_row_of(bytes: &[u8]) -> Result<(CommitRow, &[u8]), Stop>
     Ok((CommitRow { outcome, targets }, rest))
 }
 
-/// So many rows of a COMMIT.
-pub fn commit_rows_of(
-    alloc: Global,
+/// Adds so many rows of a COMMIT behind others, and gives the bytes after them.
+pub fn commit_rows_into<'a>(
+    rows: &mut Vec<CommitRow>,
     count: u16,
-    bytes: &[u8],
-) -> Result<(Vec<CommitRow>, &[u8]), Stop>
-    ensures { Gives (λ x. (x.0.items, x.1.now)) result (many_at (λ front. commit_row_at) count [] bytes.now) }
+    bytes: &'a [u8],
+) -> Result<&'a [u8], Stop>
+    ensures read { Gives (λ rest. (drop (length rows.old.items) rows.new.items, rest.now)) result (many_at (λ front. commit_row_at) count [] bytes.now) }
+    ensures front { rows.new.items ≡ rows.old.items ++ drop (length rows.old.items) rows.new.items }
 {
-    let mut rows = Vec::with_capacity(alloc, usize::from(count).min(bytes.len() / 2))?;
     let mut rest = bytes;
     'rows: for _ in 0..count {
         let (row, after) = commit_row_of(rest)?;
         rows.push(row)?;
         rest = after;
     }
-    Ok((rows, rest))
+    Ok(rest)
 }
