@@ -1,7 +1,6 @@
 -- What holds of the frames of a log holds of its records.
 use Rattle.std.proofs.Common.{◌≡◌, ℕ, List, [], ◌++◌, map, Bool, IsTrue, Option, Result, Ok, Err, inl, inr, sym, ap, ◌∙◌, subst, arith}
 use Rattle.std.specs.Prelude.{IfOk, OnOk}
-use Rattle.std.specs.Global.{Vec}
 use Rattle.std.proofs.lemmas.List.{map-append}
 use Rattle.kt_disk.specs.Disk.{Files, held, bytes_of, LeavesOnly}
 use Rattle.kt_disk.proofs.Moments.{weaker}
@@ -72,17 +71,17 @@ module _ {D : Type 0} (seen : D → Files) (now : D → ℕ) (leaves : D → ℕ
   appended_holds (Err why) tells new P stands = tt
 
   -- what opening answers
-  pub opened_reads : (r : Result (ℕ × Vec Entry) JournalNo) (tells : Bool) (bytes : List ℕ) → IfOk r (λ o. IsLog o.1.items) → IfOk r (λ o. IsTrue tells → frames_in bytes ≡ sound (map spelling o.1.items)) → IfOk r (λ o. IsTrue tells → log_in bytes ≡ Ok o.1.items)
-  opened_reads (Ok o) tells bytes ordered reads = λ told. sound_log bytes o.1.items (reads told) ordered
+  pub opened_reads : (r : Result (ℕ × List Entry) JournalNo) (tells : Bool) (bytes : List ℕ) → IfOk r (λ o. IsLog o.1) → IfOk r (λ o. IsTrue tells → frames_in bytes ≡ sound (map spelling o.1)) → IfOk r (λ o. IsTrue tells → log_in bytes ≡ Ok o.1)
+  opened_reads (Ok o) tells bytes ordered reads = λ told. sound_log bytes o.1 (reads told) ordered
   opened_reads (Err why) tells bytes ordered reads = tt
 
-  pub opened_stands : (r : Result (ℕ × Vec Entry) JournalNo) (tells : Bool) (new : D) → IfOk r (λ o. IsLog o.1.items)
-      → IfOk r (λ o. IsTrue tells → Settled seen now leaves 1 new o.0 × (payloads_of 1 (seen new) ≡ map spelling o.1.items))
-      → IfOk r (λ o. IsTrue tells → Stands seen now leaves new o.0 (records_of (seen new)) × (records_of (seen new) ≡ o.1.items))
-  opened_stands (Ok o) tells new ordered settled = λ told. stands_of new o.0 o.1.items (settled told).0 (settled told).1 ordered
+  pub opened_stands : (r : Result (ℕ × List Entry) JournalNo) (tells : Bool) (new : D) → IfOk r (λ o. IsLog o.1)
+      → IfOk r (λ o. IsTrue tells → Settled seen now leaves 1 new o.0 × (payloads_of 1 (seen new) ≡ map spelling o.1))
+      → IfOk r (λ o. IsTrue tells → Stands seen now leaves new o.0 (records_of (seen new)) × (records_of (seen new) ≡ o.1))
+  opened_stands (Ok o) tells new ordered settled = λ told. stands_of new o.0 o.1 (settled told).0 (settled told).1 ordered
   opened_stands (Err why) tells new ordered settled = tt
 
-  pub opened_holds : (r : Result (ℕ × Vec Entry) JournalNo) (tells : Bool) (new : D)
-      → IfOk r (λ o. IsTrue tells → Stands seen now leaves new o.0 (records_of (seen new)) × (records_of (seen new) ≡ o.1.items)) → IfOk r (λ o. IsTrue tells → Holds now leaves new o.1.items)
+  pub opened_holds : (r : Result (ℕ × List Entry) JournalNo) (tells : Bool) (new : D)
+      → IfOk r (λ o. IsTrue tells → Stands seen now leaves new o.0 (records_of (seen new)) × (records_of (seen new) ≡ o.1)) → IfOk r (λ o. IsTrue tells → Holds now leaves new o.1)
   opened_holds (Ok o) tells new stands = λ told. subst (λ (r : List Entry). Holds now leaves new r) (stands told).1 (stands_holds new o.0 (records_of (seen new)) (stands told).0)
   opened_holds (Err why) tells new stands = tt

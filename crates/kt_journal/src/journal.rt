@@ -11,7 +11,7 @@ use crate::append::append;
 use crate::opening::open_log;
 use crate::refusal::{AppendNo, JournalNo};
 use kt_disk::Disk;
-use kt_records::RecordList;
+use kt_records::{LogRecords, RecordList};
 use std::alloc::Global;
 use std::marker::Model;
 
@@ -101,7 +101,7 @@ impl<L: Disk> Journal<L> {
 pub fn open_journal<L: Disk>(
     alloc: Global,
     mut disk: L,
-) -> Result<(Journal<L>, RecordList), (L, JournalNo)>
+) -> Result<(Journal<L>, LogRecords), (L, JournalNo)>
     requires openable { IsTrue L.tells → CanOpen L.now L.leaves disk }
 
     ensures usable { IfOk result (λ opened. IsTrue opened.0.usable × (opened.0.count ≡ length opened.1)) }
@@ -140,7 +140,7 @@ pub fn open_journal<L: Disk>(
                 count,
                 usable: true,
             };
-            Ok((journal, RecordList::of(records)))
+            Ok((journal, records))
         }
         Err(no) => Err((disk, no)),
     }

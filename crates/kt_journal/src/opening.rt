@@ -13,7 +13,7 @@ use crate::reading::read_log;
 use crate::refusal::JournalNo;
 use kt_base::Failed;
 use kt_disk::Disk;
-use kt_records::Entry;
+use kt_records::LogRecords;
 use std::alloc::Global;
 
 // Makes the log's file stable where it is there.
@@ -90,13 +90,13 @@ fn open_frames<L: Disk>(
     alloc: Global,
     disk: &mut L,
     file: u64,
-) -> Result<(u64, Vec<Entry>), JournalNo>
+) -> Result<(u64, LogRecords), JournalNo>
     requires absent { IsTrue L.tells → L.seen disk.old file ≡ None → (c : Files) → L.leaves disk.old (L.now disk.old) c → length (held c file) ≤ 1 }
     ensures room { IfOk result (λ opened. opened.0 + 1 < 2 ^ 64) }
-    ensures below { IfOk result (λ opened. length opened.1.items ≤ opened.0) }
-    ensures sound { IfOk result (λ opened. IsLog opened.1.items) }
-    ensures reads { IfOk result (λ opened. IsTrue L.tells → frames_of file (L.seen disk.old) ≡ sound (map spelling opened.1.items)) }
-    ensures settled { IfOk result (λ opened. IsTrue L.tells → Settled L.seen L.now L.leaves file disk.new opened.0 × (payloads_of file (L.seen disk.new) ≡ map spelling opened.1.items)) }
+    ensures below { IfOk result (λ opened. length opened.1 ≤ opened.0) }
+    ensures sound { IfOk result (λ opened. IsLog opened.1) }
+    ensures reads { IfOk result (λ opened. IsTrue L.tells → frames_of file (L.seen disk.old) ≡ sound (map spelling opened.1)) }
+    ensures settled { IfOk result (λ opened. IsTrue L.tells → Settled L.seen L.now L.leaves file disk.new opened.0 × (payloads_of file (L.seen disk.new) ≡ map spelling opened.1)) }
 
     ensures openable { IsTrue L.tells → CanOpenFile L.now L.leaves file disk.old → CanOpenFile L.now L.leaves file disk.new }
     ensures others { IsTrue L.tells → (n : ℕ) → n ≢ file → L.seen disk.new n ≡ L.seen disk.old n }
@@ -114,14 +114,14 @@ fn open_frames<L: Disk>(
 }
 
 /// Opens the log of a device: its records, and where they end.
-pub fn open_log<L: Disk>(alloc: Global, disk: &mut L) -> Result<(u64, Vec<Entry>), JournalNo>
+pub fn open_log<L: Disk>(alloc: Global, disk: &mut L) -> Result<(u64, LogRecords), JournalNo>
     requires absent { IsTrue L.tells → L.seen disk.old 1 ≡ None → (c : Files) → L.leaves disk.old (L.now disk.old) c → length (held c 1) ≤ 1 }
     ensures room { IfOk result (λ opened. opened.0 + 1 < 2 ^ 64) }
-    ensures below { IfOk result (λ opened. length opened.1.items ≤ opened.0) }
-    ensures sound { IfOk result (λ opened. IsLog opened.1.items) }
-    ensures reads { IfOk result (λ opened. IsTrue L.tells → log_of (L.seen disk.old) ≡ Ok opened.1.items) }
-    ensures stands { IfOk result (λ opened. IsTrue L.tells → Stands L.seen L.now L.leaves disk.new opened.0 (records_of (L.seen disk.new)) × (records_of (L.seen disk.new) ≡ opened.1.items)) }
-    ensures holds { IfOk result (λ opened. IsTrue L.tells → Holds L.now L.leaves disk.new opened.1.items) }
+    ensures below { IfOk result (λ opened. length opened.1 ≤ opened.0) }
+    ensures sound { IfOk result (λ opened. IsLog opened.1) }
+    ensures reads { IfOk result (λ opened. IsTrue L.tells → log_of (L.seen disk.old) ≡ Ok opened.1) }
+    ensures stands { IfOk result (λ opened. IsTrue L.tells → Stands L.seen L.now L.leaves disk.new opened.0 (records_of (L.seen disk.new)) × (records_of (L.seen disk.new) ≡ opened.1)) }
+    ensures holds { IfOk result (λ opened. IsTrue L.tells → Holds L.now L.leaves disk.new opened.1) }
 
     ensures openable { IsTrue L.tells → CanOpen L.now L.leaves disk.old → CanOpen L.now L.leaves disk.new }
     ensures others { IsTrue L.tells → (n : ℕ) → n ≢ 1 → L.seen disk.new n ≡ L.seen disk.old n }

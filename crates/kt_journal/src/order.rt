@@ -1,11 +1,12 @@
 //! The order of a log's records.
 ghost use Rattle.std.specs.Prelude.{◌≡◌, true, [], ◌∷◌, List, IfOk};
 ghost use Rattle.kt_records.specs.declared.entry.Entry.{Entry};
+ghost use Rattle.kt_records.specs.Shared.{entry_of};
 ghost use Rattle.kt_journal.specs.Order.{is_above, is_count, follows};
 ghost use Rattle.kt_journal.specs.Tracks.{Tracks};
 
 use kt_base::NoMemory;
-use kt_records::Entry;
+use kt_records::RecordRef;
 use std::alloc::Global;
 use std::collections::BTreeMap;
 
@@ -45,11 +46,11 @@ impl Order {
     }
 
     /// Adds a record, where it may follow. Where it may not, the order is of no more use.
-    pub fn add(&mut self, entry: &Entry) -> Result<bool, NoMemory>
-        ensures { (before : List Entry) → Tracks self.old before → IfOk result (λ ok. (ok ≡ follows before entry.now) × (ok ≡ true → Tracks self.new (entry.now ∷ before))) }
+    pub fn add(&mut self, added: &RecordRef<'_>) -> Result<bool, NoMemory>
+        ensures { (before : List Entry) → Tracks self.old before → IfOk result (λ ok. (ok ≡ follows before (entry_of added.now)) × (ok ≡ true → Tracks self.new (entry_of added.now ∷ before))) }
     {
-        match entry {
-            Entry::Replicate { ts, ops } => {
+        match added {
+            RecordRef::Replicate { ts, ops } => {
                 if !above(self.last, *ts) {
                     return Ok(false);
                 }
@@ -57,7 +58,7 @@ impl Order {
                 self.last = Some(*ts);
                 Ok(true)
             }
-            Entry::Commit { ts, rows } => {
+            RecordRef::Commit { ts, rows } => {
                 let waiting = self.waiting.remove(ts);
                 Ok(counts(waiting, rows.len()))
             }

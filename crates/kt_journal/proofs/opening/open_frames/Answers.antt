@@ -21,12 +21,12 @@ shut_log-requires-clause-ends g c told =
     let same = c.log_bytes.ensures.seen told in
     let bytes : List ℕ = held (g.L.Disk.seen c.log_bytes.new.disk) c.args.file in
     let read : c.as_slice.result.now ≡ bytes = c.as_slice.ensures.value ∙ c.in_ok-bytes.ensures.bytes told ∙ ap (λ (f : Files). held f c.args.file) (sym same) in
-    let ends : EndsAt bytes (map spelling c.in_ok-records.records.items) c.in_ok-records.place = subst (λ (l : List ℕ). EndsAt l (map spelling c.in_ok-records.records.items) c.in_ok-records.place) read c.in_ok-records.ensures.found in
+    let ends : EndsAt bytes (map spelling c.in_ok-records.records) c.in_ok-records.place = subst (λ (l : List ℕ). EndsAt l (map spelling c.in_ok-records.records) c.in_ok-records.place) read c.in_ok-records.ensures.found in
     let steady = steady_kept g.L.Disk.seen _ _ _ _ _ (c.in_ok-steady.ensures.steady told) (c.log_bytes.ensures.images told) same in
     subst (λ (r : List (List ℕ)). EndsAt bytes r c.in_ok-records.place) (sym (stands g.L.Disk.seen _ _ _ _ _ _ ends steady)) ends
 
 pub returns-clause-below : goal.returns-clause-below
-returns-clause-below g c = omega (arith, count_le (map spelling c.in_ok-records.records.items), length-map c.in_ok-records.records.items spelling, c.in_ok-records.ensures.found.place_is)
+returns-clause-below g c = omega (arith, count_le (map spelling c.in_ok-records.records), length-map c.in_ok-records.records spelling, c.in_ok-records.ensures.found.place_is)
 
 pub returns-clause-reads : goal.returns-clause-reads
 returns-clause-reads g c told =
@@ -38,7 +38,7 @@ returns-clause-settled g c told =
     let same = c.log_bytes.ensures.seen told in
     let bytes : List ℕ = held (g.L.Disk.seen c.log_bytes.new.disk) c.args.file in
     let read : c.as_slice.result.now ≡ bytes = c.as_slice.ensures.value ∙ c.in_ok-bytes.ensures.bytes told ∙ ap (λ (f : Files). held f c.args.file) (sym same) in
-    let ends : EndsAt bytes (map spelling c.in_ok-records.records.items) c.in_ok-records.place = subst (λ (l : List ℕ). EndsAt l (map spelling c.in_ok-records.records.items) c.in_ok-records.place) read c.in_ok-records.ensures.found in
+    let ends : EndsAt bytes (map spelling c.in_ok-records.records) c.in_ok-records.place = subst (λ (l : List ℕ). EndsAt l (map spelling c.in_ok-records.records) c.in_ok-records.place) read c.in_ok-records.ensures.found in
     let steady = steady_kept g.L.Disk.seen _ _ _ _ _ (c.in_ok-steady.ensures.steady told) (c.log_bytes.ensures.images told) same in
     let kept = c.in_ok-shut_log.ensures.settled told in
     (kept.0, kept.1 ∙ stands g.L.Disk.seen _ _ _ _ _ _ ends steady)

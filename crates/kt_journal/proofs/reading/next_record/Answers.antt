@@ -1,14 +1,14 @@
-use Rattle.std.proofs.Common.{◌≡◌, None, Some, inr, sym, ap, ◌∙◌}
+use Rattle.std.proofs.Common.{◌≡◌, None, Some, inr, ap, ◌∙◌}
 use Rattle.kt_records.specs.Reading.{record_of}
 use Rattle.kt_journal.specs.Frames.{body_at}
 use Rattle.kt_journal.specs.Log.{following}
 use Rattle.kt_journal.proofs.Frames.{body_again}
 use Rattle.kt_journal.proofs.reading.next_record.Goals as goal
 
-pub returns-in-None : goal.returns-in-None
-returns-in-None c = λ before tracks.
+pub returns-else-branch : goal.returns-else-branch
+returns-else-branch c = λ before tracks.
     let payload = c.in-Some.payload.now in
     let rest = c.in-Some.field-0-1.now in
     let some : body_at c.args.bytes.now ≡ Some (payload, rest) = ap body_at c.in-Some.ensures.found.0 ∙ body_again payload rest c.in-Some.ensures.found.1 in
-    let none : following before (record_of payload) ≡ None = sym (c.in_ok-entry.ensures before tracks).0 ∙ c.in-None.is in
+    let none : following before (record_of payload) ≡ None = rw c.if-branch.false at (c.in_ok-following_record.ensures before tracks) in
     inr (payload, rest, some, none)

@@ -17,36 +17,36 @@ pub returns-in-None-clause-place : goal.returns-in-None-clause-place
 returns-in-None-clause-place c offset is =
     let bytes = c.args.bytes.now in
     let end = c.frames.end in
-    let before = newest_first [] c.frames.records.items in
+    let before = newest_first [] c.frames.records in
     let opened : is_open (drop end bytes) ≡ true = ap is_open (sym (take_rest bytes end)) ∙ sym c.gate_is_open.ensures ∙ c.frames-test.true in
-    let faulty = none_found _ _ _ (c.in_ok-next.ensures before c.frames.invariant.tracks) c.in-None.is in
+    let faulty = none_found _ _ _ (c.in_ok-len.ensures before c.frames.invariant.tracks) c.in-None.is in
     let here : IsFaulty before (drop (end + 1) bytes) = subst (λ (l : List ℕ). IsFaulty before l) (take_rest bytes (end + 1)) faulty in
     let same : end ≡ offset = cc in
-    subst (λ (n : ℕ). log_in bytes ≡ Err n) same (faulty_log bytes c.frames.records.items end c.frames.invariant.whole c.frames.invariant.place_is c.frames.invariant.ordered opened here)
+    subst (λ (n : ℕ). log_in bytes ≡ Err n) same (faulty_log bytes c.frames.records end c.frames.invariant.whole c.frames.invariant.place_is c.frames.invariant.ordered opened here)
 
 pub frames-preserved : goal.frames-preserved
 frames-preserved c =
     let bytes = c.args.bytes.now in
     let end = c.frames.end in
-    let records = c.frames.records.items in
+    let records = c.frames.records in
     let before = newest_first [] records in
-    let both = some_found _ _ _ c.in-Some.next (c.in_ok-next.ensures before c.frames.invariant.tracks) c.in-Some.is in
-    let entry : Entry = c.in-Some.next.entry in
-    let len : ℕ = c.in-Some.next.len in
-    let next = both.0 in
+    let len : ℕ = c.in-Some.len in
+    let found = some_found _ _ _ len (c.in_ok-len.ensures before c.frames.invariant.tracks) c.in-Some.is in
+    let entry : Entry = found.entry in
+    let next = found.next in
     let opened : is_open (drop end bytes) ≡ true = ap is_open (sym (take_rest bytes end)) ∙ sym c.gate_is_open.ensures ∙ c.frames-test.true in
     let behind : drop (end + 1) bytes ≡ body (spelling entry) ++ next.rest = sym (take_rest bytes (end + 1)) ∙ next.parts in
     let more = one_more bytes (map spelling records) end (spelling entry) next.rest c.frames.invariant.whole c.frames.invariant.place_is opened behind in
-    let pushed : c.push.new.self.items ≡ records ++ entry ∷ [] = c.in_ok-push-in-Some.ensures.items in
-    let spelled : map spelling c.push.new.self.items ≡ map spelling records ++ spelling entry ∷ [] = ap (map spelling) pushed ∙ map-append spelling records (entry ∷ []) in
+    let pushed : c.next_record.new.records ≡ records ++ entry ∷ [] = found.added in
+    let spelled : map spelling c.next_record.new.records ≡ map spelling records ++ spelling entry ∷ [] = ap (map spelling) pushed ∙ map-append spelling records (entry ∷ []) in
     let wide : More bytes (map spelling records ++ spelling entry ∷ []) (end + (5 + len)) = subst (λ (k : ℕ). More bytes (map spelling records ++ spelling entry ∷ []) (end + (5 + k))) (sym next.len_is) more in
-    let kept : More bytes (map spelling c.push.new.self.items) (end + (5 + len)) = subst (λ (l : List (List ℕ)). More bytes l (end + (5 + len))) (sym spelled) wide in
+    let kept : More bytes (map spelling c.next_record.new.records) (end + (5 + len)) = subst (λ (l : List (List ℕ)). More bytes l (end + (5 + len))) (sym spelled) wide in
     record {
       whole = kept.whole;
       within = kept.within;
       place_is = kept.place_is;
       ordered = subst (λ (rs : List Entry). InOrder [] rs) (sym pushed) (order_push [] records entry c.frames.invariant.ordered next.framed next.may);
-      tracks = subst (λ (rs : List Entry). Tracks c.next_record.new.order (newest_first [] rs)) (sym pushed) (subst (λ (b : List Entry). Tracks c.next_record.new.order b) (sym (newest_push [] records entry)) both.1);
+      tracks = subst (λ (rs : List Entry). Tracks c.next_record.new.order (newest_first [] rs)) (sym pushed) (subst (λ (b : List Entry). Tracks c.next_record.new.order b) (sym (newest_push [] records entry)) found.tracks);
     }
 
 pub returns-clause-found : goal.returns-clause-found
@@ -54,6 +54,6 @@ returns-clause-found c = record {
   whole = c.frames.invariant.whole;
   within = c.frames.invariant.within;
   place_is = c.frames.invariant.place_is;
-  fit = order_fit [] c.frames.records.items c.frames.invariant.ordered;
+  fit = order_fit [] c.frames.records c.frames.invariant.ordered;
   shut = ap is_open (sym (take_rest c.args.bytes.now c.frames.end)) ∙ sym c.gate_is_open.ensures ∙ c.frames-test.false;
 }

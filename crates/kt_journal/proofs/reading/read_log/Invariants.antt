@@ -8,11 +8,11 @@ use Rattle.kt_journal.proofs.reading.read_log.Given as goal
 
 abbrev pub invariant-frames : goal.invariant-frames
 invariant-frames l = record {
-  whole : l.bytes ≡ flat_map frame (map spelling l.records.items) ++ drop l.end l.bytes;
+  whole : l.bytes ≡ flat_map frame (map spelling l.records) ++ drop l.end l.bytes;
   within : l.end ≤ length l.bytes;
-  place_is : l.end ≡ length (flat_map frame (map spelling l.records.items));
-  ordered : InOrder [] l.records.items;
-  tracks : Tracks l.order (newest_first [] l.records.items);
+  place_is : l.end ≡ length (flat_map frame (map spelling l.records));
+  ordered : InOrder [] l.records;
+  tracks : Tracks l.order (newest_first [] l.records);
 }
 
 abbrev pub decreases-frames : goal.decreases-frames
