@@ -11,8 +11,8 @@ ghost use Rattle.kt_journal.specs.Open.{Stands};
 
 use crate::LOG;
 use crate::refusal::AppendNo;
-use crate::spell::spelled;
-use kt_base::Failed;
+use crate::spell::spell_batch;
+use kt_base::{Failed, Octets};
 use kt_disk::Disk;
 use kt_records::Entry;
 use std::alloc::Global;
@@ -44,9 +44,10 @@ fn place_after(place: u64, len: usize) -> Option<u64>
     if end == u64::MAX { None } else { Some(end) }
 }
 
-// Adds the frames of these records to those that end at `end`, and says where they end then.
+// Adds the frames of these records to those that end at `end`, and says where they end then. They are spelled in the buffer.
 fn append_frames<L: Disk>(
     alloc: Global,
+    buffer: &mut Octets,
     disk: &mut L,
     file: u64,
     end: u64,
@@ -69,8 +70,8 @@ fn append_frames<L: Disk>(
     if records.is_empty() {
         return Ok(end);
     }
-    let whole = spelled(alloc, records)?;
-    let batch = &whole.as_slice()[1..];
+    spell_batch(alloc, buffer, records)?;
+    let batch = &buffer.as_slice()[1..];
     let Some(next) = place_after(end, batch.len()) else {
         return Err(AppendNo::Memory);
     };
@@ -80,9 +81,10 @@ fn append_frames<L: Disk>(
     }
 }
 
-/// Adds these records to the log that ends at `end`, and says where it ends then.
+/// Adds these records to the log that ends at `end`, and says where it ends then. They are spelled in the buffer.
 pub fn append<L: Disk>(
     alloc: Global,
+    buffer: &mut Octets,
     disk: &mut L,
     end: u64,
     records: &[Entry],
@@ -104,5 +106,5 @@ pub fn append<L: Disk>(
     ensures fault { result ≡ Err AppendNo.Fault → Rose (L.faults disk.old) (L.faults disk.new) }
     ensures faults { L.faults disk.old ≤ L.faults disk.new }
 {
-    append_frames(alloc, disk, LOG, end, records)
+    append_frames(alloc, buffer, disk, LOG, end, records)
 }

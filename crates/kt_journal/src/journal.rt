@@ -10,6 +10,7 @@ ghost use Rattle.kt_journal.specs.Log.{log_of, records_of, IsLog, Holds, IsOldOr
 use crate::append::append;
 use crate::opening::open_log;
 use crate::refusal::{AppendNo, JournalNo};
+use kt_base::Octets;
 use kt_disk::Disk;
 use kt_records::{LogRecords, RecordList};
 use std::alloc::Global;
@@ -18,6 +19,8 @@ use std::marker::Model;
 /// The log on its device, with all that was appended made durable.
 #[derive(Drop)]
 pub struct Journal<L: Disk> {
+    // where a batch is spelled
+    buffer: Octets,
     disk: L,
     end: u64,
     count: u64,
@@ -62,7 +65,13 @@ impl<L: Disk> Journal<L> {
         ensures fault { result ≡ Err AppendNo.Fault → Rose (L.faults self.old.disk) (L.faults self.new.disk) }
         ensures faults { L.faults self.old.disk ≤ L.faults self.new.disk }
     {
-        match append(alloc, &mut self.disk, self.end, records.as_slice()) {
+        match append(
+            alloc,
+            &mut self.buffer,
+            &mut self.disk,
+            self.end,
+            records.as_slice(),
+        ) {
             Ok(end) => {
                 self.end = end;
                 self.count += records.len() as u64;
@@ -88,6 +97,7 @@ impl<L: Disk> Journal<L> {
         ensures { result ≡ self.disk }
     {
         let Journal {
+            buffer: _,
             disk,
             end: _,
             count: _,
@@ -135,6 +145,7 @@ pub fn open_journal<L: Disk>(
         Ok((end, records)) => {
             let count = records.len() as u64;
             let journal = Journal {
+                buffer: Octets::new(alloc),
                 disk,
                 end,
                 count,

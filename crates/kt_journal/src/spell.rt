@@ -1,5 +1,5 @@
 //! The bytes of a batch.
-ghost use Rattle.std.specs.Prelude.{◌≡◌, ◌+◌, ◌/◌, ◌%◌, ◌≤◌, ◌++◌, ◌<◌, [], ◌∷◌, map, length, slice_set, IfOk, OnOk};
+ghost use Rattle.std.specs.Prelude.{◌≡◌, ◌+◌, ◌/◌, ◌%◌, ◌≤◌, ◌++◌, ◌<◌, [], ◌∷◌, map, length, slice_set, OnOk};
 ghost use Rattle.std.specs.List.{flat_map, All};
 ghost use Rattle.kt_records.specs.Spelling.{spelling};
 ghost use Rattle.kt_journal.specs.Frames.{frame};
@@ -39,16 +39,15 @@ fn put_frame(alloc: Global, out: &mut Octets, entry: &Entry) -> Result<(), NoMem
     Ok(())
 }
 
-/// The frames of these records, and a closed gate.
-pub fn spelled(alloc: Global, records: &[Entry]) -> Result<Octets, NoMemory>
+/// Writes the frames of these records, and a closed gate, over what a buffer held.
+pub fn spell_batch(alloc: Global, out: &mut Octets, records: &[Entry]) -> Result<(), NoMemory>
     requires { All IsFramed records.now }
-    ensures { IfOk result (λ bytes. bytes ≡ flat_map frame (map spelling records.now) ++ 0 ∷ []) }
+    ensures { OnOk result (out.new ≡ flat_map frame (map spelling records.now) ++ 0 ∷ []) }
 {
-    let mut out = Octets::new(alloc);
+    out.clear();
     out.reserve(records.len().saturating_mul(FRAME_USUAL))?;
     'records: for entry in records {
-        put_frame(alloc, &mut out, entry)?;
+        put_frame(alloc, out, entry)?;
     }
-    out.push(0)?;
-    Ok(out)
+    out.push(0)
 }
