@@ -9,8 +9,8 @@ ghost use Rattle.kt_boot.specs.Reopening.{needs_of};
 
 use crate::replay::{commit_at, needs};
 use kt_base::NoMemory;
-use kt_history::{OpList, OpRef};
-use kt_records::{CommitRow, Entry};
+use kt_history::OpRef;
+use kt_records::{CommitRow, LogRecords, OpsRef, RecordRef};
 use std::collections::HashMap;
 
 // No log is so long that a sum does not fit.
@@ -37,7 +37,7 @@ fn is_replayed(commit: Option<&[CommitRow]>, at: usize) -> bool
     }
 }
 
-fn write_need(ops: &OpList, commit: Option<&[CommitRow]>) -> Result<u64, NoMemory>
+fn write_need(ops: &OpsRef<'_>, commit: Option<&[CommitRow]>) -> Result<u64, NoMemory>
     ensures { IfOk result (λ cells. cells ≡ need (replayed ops.now (option_map (λ rows. rows.now) commit.entry))) }
 {
     let mut sum = 0;
@@ -52,15 +52,15 @@ fn write_need(ops: &OpList, commit: Option<&[CommitRow]>) -> Result<u64, NoMemor
 }
 
 /// What the replayed operations of a log need, by the places of its COMMITs.
-pub fn needs_of(records: &[Entry], places: &HashMap<u64, usize>) -> Result<u64, NoMemory>
+pub fn needs_of(records: &LogRecords, places: &HashMap<u64, usize>) -> Result<u64, NoMemory>
     requires { (ts : ℕ) → commit_at records.now (get nat_eq places.now ts) ≡ commit_of ts records.now }
     ensures { IfOk result (λ cells. cells ≡ needs_of records.now records.now) }
 {
     let mut sum = 0;
-    'records: for record in records {
-        if let Entry::Replicate { ts, ops } = record {
-            let commit = commit_at(records, places.get(ts).copied());
-            let cells = write_need(ops, commit)?;
+    'records: for at in 0..records.len() {
+        if let RecordRef::Replicate { ts, ops } = records.at(at) {
+            let commit = commit_at(records, places.get(&ts).copied());
+            let cells = write_need(&ops, commit)?;
             sum = plus(sum, cells)?;
         }
     }

@@ -1,14 +1,11 @@
 //! What a log tells of itself, and why one is refused.
-ghost use Rattle.std.specs.Prelude.{◌≡◌, ◌+◌, length, IfOk};
-ghost use Rattle.kt_records.specs.Rules.{KeepsRules};
-ghost use Rattle.kt_records.specs.Spelling.{spelling};
-ghost use Rattle.kt_journal.specs.Log.{IsLog};
+ghost use Rattle.std.specs.Prelude.{◌≡◌, ◌+◌, IfOk};
+ghost use Rattle.kt_records.specs.Shared.{entry_of};
 ghost use Rattle.kt_loglaws.specs.Replay.{last_of, gate_of};
 ghost use Rattle.kt_boot.specs.Commits.{is_commit_of};
 
-use kt_base::{NoMemory, Octets};
-use kt_records::{Entry, spell};
-use std::alloc::Global;
+use kt_base::NoMemory;
+use kt_records::{LogRecords, RecordRef};
 use thiserror::Error;
 
 /// Why a tablet is not opened.
@@ -41,35 +38,26 @@ impl From<NoMemory> for Why {
 // Timestamps from here on are refused.
 pub(crate) const LAST_MOST: u64 = (1 << 63) - (1 << 21);
 
-pub(crate) fn last_of(records: &[Entry]) -> u64
+pub(crate) fn last_of(records: &LogRecords) -> u64
     ensures { result ≡ last_of records.now }
 {
     let mut last = 0;
-    'records: for record in records {
-        if let Entry::Replicate { ts, ops: _ } = record {
-            last = last.max(*ts);
+    'records: for at in 0..records.len() {
+        if let RecordRef::Replicate { ts, ops: _ } = records.at(at) {
+            last = last.max(ts);
         }
     }
     last
 }
 
 // Whether it is the COMMIT of this timestamp.
-fn is_commit_of(entry: &Entry, ts: u64) -> bool
-    ensures { result ≡ is_commit_of ts entry.now }
+fn is_commit_of(logged: &RecordRef<'_>, ts: u64) -> bool
+    ensures { result ≡ is_commit_of ts (entry_of logged.now) }
 {
-    match entry {
-        Entry::Commit { ts: t, rows: _ } => *t == ts,
-        Entry::Replicate { .. } => false,
+    match logged {
+        RecordRef::Commit { ts: t, rows: _ } => *t == ts,
+        RecordRef::Replicate { .. } => false,
     }
-}
-
-fn spelled_len(alloc: Global, entry: &Entry) -> Result<u64, NoMemory>
-    requires { KeepsRules entry.now }
-    ensures { IfOk result (λ len. len ≡ length (spelling entry.now)) }
-{
-    let mut bytes = Octets::new(alloc);
-    spell(alloc, entry, &mut bytes)?;
-    Ok(bytes.len() as u64)
 }
 
 // No log is so long that the offset does not fit.
@@ -83,16 +71,16 @@ fn behind(gate: u64, len: u64) -> Result<u64, NoMemory>
 }
 
 // The offset of the gate of a timestamp's COMMIT.
-pub(crate) fn gate_of(alloc: Global, ts: u64, records: &[Entry]) -> Result<u64, NoMemory>
-    requires { IsLog records.now }
+pub(crate) fn gate_of(ts: u64, records: &LogRecords) -> Result<u64, NoMemory>
     ensures { IfOk result (λ gate. gate ≡ gate_of ts records.now) }
 {
     let mut gate = 0;
-    'records: for record in records {
-        if is_commit_of(record, ts) {
+    'records: for at in 0..records.len() {
+        let record = records.at(at);
+        if is_commit_of(&record, ts) {
             return Ok(gate);
         }
-        gate = behind(gate, spelled_len(alloc, record)?)?;
+        gate = behind(gate, records.spelled_len(at) as u64)?;
     }
     Ok(gate)
 }

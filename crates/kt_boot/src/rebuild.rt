@@ -14,10 +14,12 @@ ghost use Rattle.kt_boot.specs.Rebuilding.{is_there, all_fit, all_told, told, fi
 
 use crate::replay::{ReplayNo, commit_at, needs};
 use kt_base::NoMemory;
-use kt_history::{OpKind, OpList, OpRef, Target, kind_made, outcome};
+use kt_history::{OpKind, OpRef, Target, kind_made, outcome};
 use kt_memrowset::MemRowSet;
 use kt_pool::Pool;
-use kt_records::{CommitRow, CommitRows, Entry, RecordList, TargetList};
+use kt_records::{
+    CommitRow, CommitRows, Entry, LogRecords, OpsRef, RecordList, RecordRef, TargetList,
+};
 use std::alloc::Global;
 use std::collections::HashMap;
 
@@ -44,13 +46,13 @@ fn greatest_of(rows: &[CommitRow]) -> u64
 }
 
 /// The greatest number of a MemRowSet that a COMMIT names, and at least 1.
-pub fn mem_number(records: &[Entry]) -> u64
+pub fn mem_number(records: &LogRecords) -> u64
     ensures { result ≡ mem_number records.now }
 {
     let mut number = 1;
-    'commits: for record in records {
-        if let Entry::Commit { ts: _, rows } = record {
-            number = number.max(greatest_of(rows.as_slice()));
+    'commits: for at in 0..records.len() {
+        if let RecordRef::Commit { ts: _, rows } = records.at(at) {
+            number = number.max(greatest_of(rows));
         }
     }
     number
@@ -73,7 +75,7 @@ fn take_needed(
     mem: &mut MemRowSet,
     pool: &mut Pool,
     ts: u64,
-    ops: &OpList,
+    ops: &OpsRef<'_>,
     rows: &[CommitRow],
 ) -> bool
     requires store { IsStore mem.old pool.old }
@@ -114,7 +116,7 @@ fn take_all(
     mem: &mut MemRowSet,
     pool: &mut Pool,
     ts: u64,
-    ops: &OpList,
+    ops: &OpsRef<'_>,
 ) -> Result<CommitRows, NoMemory>
     requires store { IsStore mem.old pool.old }
     requires thawed { is_frozen mem.old ≡ false }
@@ -145,7 +147,7 @@ fn take_write(
     mem: &mut MemRowSet,
     pool: &mut Pool,
     ts: u64,
-    ops: &OpList,
+    ops: &OpsRef<'_>,
     commit: Option<&[CommitRow]>,
     queued: &mut Vec<Entry>,
 ) -> Result<(), ReplayNo>
@@ -177,7 +179,7 @@ fn take_write(
 /// Takes the writes of a log into a MemRowSet that has no row yet, and gives the COMMITs that are owed.
 pub fn rebuild(
     alloc: Global,
-    records: &[Entry],
+    records: &LogRecords,
     places: &HashMap<u64, usize>,
     mem: &mut MemRowSet,
     pool: &mut Pool,
@@ -199,10 +201,10 @@ pub fn rebuild(
     ensures late { (ts : ℕ) → result ≡ Err (ReplayNo.Late ts) → rebuilt records.now [] records.now ≡ Err ts }
 {
     let mut queued = Vec::new(alloc);
-    'records: for record in records {
-        if let Entry::Replicate { ts, ops } = record {
-            let commit = commit_at(records, places.get(ts).copied());
-            take_write(alloc, mem, pool, *ts, ops, commit, &mut queued)?;
+    'records: for at in 0..records.len() {
+        if let RecordRef::Replicate { ts, ops } = records.at(at) {
+            let commit = commit_at(records, places.get(&ts).copied());
+            take_write(alloc, mem, pool, ts, &ops, commit, &mut queued)?;
         }
     }
     Ok(RecordList::of(queued))

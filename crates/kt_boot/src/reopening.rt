@@ -15,7 +15,7 @@ use crate::replay::{ReplayNo, commit_places};
 use kt_base::NoMemory;
 use kt_memrowset::MemRowSet;
 use kt_pool::Pool;
-use kt_records::{Entry, RecordList};
+use kt_records::{LogRecords, RecordList};
 use kt_schema::Schema;
 use std::alloc::Global;
 
@@ -52,7 +52,7 @@ fn pool_of(alloc: Global, cells: u32, needs: u64) -> Result<Pool, NoMemory>
 /// Replays the records of a log. The pool has so many cells beside those that the replayed operations need.
 pub fn reopen(
     alloc: Global,
-    records: &[Entry],
+    records: &LogRecords,
     schema: &Schema,
     cells: u32,
 ) -> Result<Reopened, Why>
@@ -97,7 +97,7 @@ pub fn reopen(
             })
         }
         Err(ReplayNo::Late { ts }) => Err(Why::B3 {
-            offset: gate_of(alloc, ts, records)?,
+            offset: gate_of(ts, records)?,
         }),
         Err(ReplayNo::Memory) => Err(Why::Memory),
     }

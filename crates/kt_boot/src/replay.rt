@@ -6,7 +6,7 @@ ghost use Rattle.kt_boot.specs.Commits.{commit_at, needs};
 
 use kt_base::NoMemory;
 use kt_history::Target;
-use kt_records::{CommitRow, Entry};
+use kt_records::{CommitRow, LogRecords, RecordRef};
 use std::alloc::Global;
 use std::collections::HashMap;
 use thiserror::Error;
@@ -62,7 +62,7 @@ pub(crate) fn needs(rows: &[CommitRow], at: usize) -> bool
 // Where the COMMIT of each timestamp stands.
 pub(crate) fn commit_places(
     alloc: Global,
-    records: &[Entry],
+    records: &LogRecords,
 ) -> Result<HashMap<u64, usize>, NoMemory>
     ensures { IfOk result (λ places. (ts : ℕ) → commit_at records.now (get nat_eq places ts) ≡ commit_of ts records.now) }
 {
@@ -70,18 +70,22 @@ pub(crate) fn commit_places(
     let mut at = records.len();
     'records: while at > 0 {
         at -= 1;
-        if let Entry::Commit { ts, rows: _ } = &records[at] {
-            places.insert(*ts, at)?;
+        if let RecordRef::Commit { ts, rows: _ } = records.at(at) {
+            places.insert(ts, at)?;
         }
     }
     Ok(places)
 }
 
-pub(crate) fn commit_at(records: &[Entry], place: Option<usize>) -> Option<&[CommitRow]>
+pub(crate) fn commit_at(records: &LogRecords, place: Option<usize>) -> Option<&[CommitRow]>
     ensures { option_map (λ rows. rows.now) result ≡ commit_at records.now place }
 {
-    match records.get(place?) {
-        Some(Entry::Commit { ts: _, rows }) => Some(rows.as_slice()),
-        _ => None,
+    let place = place?;
+    if place >= records.len() {
+        return None;
+    }
+    match records.at(place) {
+        RecordRef::Commit { ts: _, rows } => Some(rows),
+        RecordRef::Replicate { .. } => None,
     }
 }

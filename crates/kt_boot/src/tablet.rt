@@ -128,7 +128,7 @@ pub fn open_tablet<L: Disk, D, C: Clock>(
         pool,
         last,
         queued,
-    } = match reopen(alloc, records.as_slice(), schema, cells) {
+    } = match reopen(alloc, &records, schema, cells) {
         Ok(reopened) => reopened,
         Err(why) => return Err(given_up(why, journal, store, clock)),
     };

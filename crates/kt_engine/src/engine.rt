@@ -21,7 +21,7 @@ use kt_history::{EventList, Plan};
 use kt_journal::Journal;
 use kt_loglaws::LogSide;
 use kt_memrowset::MemRowSet;
-use kt_records::RecordList;
+use kt_records::{LogRecords, RecordList};
 use kt_tablet::Tablet;
 use std::alloc::Global;
 use std::marker::Model;
@@ -37,7 +37,7 @@ pub struct Engine<L: Disk, D, C: Clock> {
     // the session and the place of the REPLICATE of each flying write
     pub(crate) places: Vec<(u32, u64)>,
     pub(crate) running: Running,
-    pub(crate) records: Snapshot<RecordList>,
+    pub(crate) records: Snapshot<LogRecords>,
     pub(crate) device: Snapshot<L>,
 }
 
@@ -90,7 +90,7 @@ impl<L: Disk, D, C: Clock> Engine<L, D, C> {
         alloc: Global,
         tablet: Tablet<MemRowSet, C>,
         journal: Journal<L>,
-        records: &RecordList,
+        records: &LogRecords,
         queued: RecordList,
         store: D,
         device: Snapshot<L>,

@@ -3,4 +3,4 @@ use Rattle.kt_boot.specs.Reopening.{greatest_in, mem_number}
 use Rattle.kt_boot.proofs.rebuild.mem_number.Given as goal
 
 abbrev pub invariant-commits : goal.invariant-commits
-invariant-commits l = max l.number (greatest_in (drop l.record-index l.records)) ≡ mem_number l.records
+invariant-commits l = max l.number (greatest_in (drop l.at l.records)) ≡ mem_number l.records

@@ -1,6 +1,6 @@
-use Rattle.std.proofs.Common.{◌≡◌, ◌+◌, ◌∷◌, drop, refl, ap, ◌∙◌, subst}
+use Rattle.std.proofs.Common.{◌≡◌, ◌+◌, ◌∷◌, drop, refl, ap, ◌∙◌, subst, arith}
 use Rattle.std.specs.Option.{option_map}
-use Rattle.kt_records.specs.declared.entry.Entry.{Entry}
+use Rattle.kt_records.specs.Shared.{entry_of}
 use Rattle.kt_records.specs.declared.entry.Entry.TheVariants.{Replicate, Commit}
 use Rattle.kt_loglaws.specs.Replay.{commit_of}
 use Rattle.kt_boot.specs.Commits.{commit_at}
@@ -12,42 +12,42 @@ use Rattle.kt_boot.proofs.rebuild.rebuild.Goals.{in-Replicate+in_ok-take_write, 
 pub take_write-requires-clause-may : goal.take_write-requires-clause-may
 take_write-requires-clause-may c =
     let records = c.args.records.now in
-    let i = c.records.record-index in
+    let i = c.records.at in
     let ts = c.in-Replicate.ts in
     let ops = c.in-Replicate.ops in
     let commit = option_map (λ rows. rows.now) c.commit_at-commit.result in
     let its : commit ≡ commit_of ts records = c.commit_at-commit.ensures ∙ ap (commit_at records) (c.copied.ensures ∙ c.get.ensures.value) ∙ c.requires.places ts in
-    let here : drop i records ≡ Replicate ts ops ∷ drop (i + 1) records = first_left records i (i + 1) c.record-item.result c.records-test.true c.record-item.is refl ∙ ap (λ (r : Entry). r ∷ drop (i + 1) records) c.in-Replicate.is in
+    let here : drop i records ≡ Replicate ts ops ∷ drop (i + 1) records = first_left records i (i + 1) (entry_of c.at.result) (omega arith) c.at.ensures refl ∙ ap (λ r. entry_of r ∷ drop (i + 1) records) c.in-Replicate.is in
     may_write records c.args.mem.now c.records.mem c.args.pool.now c.records.pool c.records.queued.items ts ops (drop (i + 1) records) (subst (λ rest. Along records c.args.mem.now c.records.mem c.args.pool.now c.records.pool c.records.queued.items rest) here c.records.invariant) commit its
 
 pub take_write-requires-clause-room : goal.take_write-requires-clause-room
 take_write-requires-clause-room c =
     let records = c.args.records.now in
-    let i = c.records.record-index in
+    let i = c.records.at in
     let ts = c.in-Replicate.ts in
     let ops = c.in-Replicate.ops in
     let commit = option_map (λ rows. rows.now) c.commit_at-commit.result in
     let its : commit ≡ commit_of ts records = c.commit_at-commit.ensures ∙ ap (commit_at records) (c.copied.ensures ∙ c.get.ensures.value) ∙ c.requires.places ts in
-    let here : drop i records ≡ Replicate ts ops ∷ drop (i + 1) records = first_left records i (i + 1) c.record-item.result c.records-test.true c.record-item.is refl ∙ ap (λ (r : Entry). r ∷ drop (i + 1) records) c.in-Replicate.is in
+    let here : drop i records ≡ Replicate ts ops ∷ drop (i + 1) records = first_left records i (i + 1) (entry_of c.at.result) (omega arith) c.at.ensures refl ∙ ap (λ r. entry_of r ∷ drop (i + 1) records) c.in-Replicate.is in
     room_write records c.args.mem.now c.records.mem c.args.pool.now c.records.pool c.records.queued.items ts ops (drop (i + 1) records) (subst (λ rest. Along records c.args.mem.now c.records.mem c.args.pool.now c.records.pool c.records.queued.items rest) here c.records.invariant) commit its
 
 pub records-preserved : goal.records-preserved
 records-preserved c =
     let records = c.args.records.now in
-    let i = c.records.record-index in
-    let left : drop i records ≡ c.record-item.result ∷ drop (i + 1) records = first_left records i (i + 1) c.record-item.result c.records-test.true c.record-item.is refl in
-    elim c.match-record.branch [
+    let i = c.records.at in
+    let left : drop i records ≡ entry_of c.at.result ∷ drop (i + 1) records = first_left records i (i + 1) (entry_of c.at.result) (omega arith) c.at.ensures refl in
+    elim c.match-at.branch [
       | in-Replicate+in_ok-take_write w ↦
           let ts = w.in-Replicate.ts in
           let ops = w.in-Replicate.ops in
           let commit = option_map (λ rows. rows.now) w.commit_at-commit.result in
           let its : commit ≡ commit_of ts records = w.commit_at-commit.ensures ∙ ap (commit_at records) (w.copied.ensures ∙ w.get.ensures.value) ∙ c.requires.places ts in
-          let here : drop i records ≡ Replicate ts ops ∷ drop (i + 1) records = left ∙ ap (λ (r : Entry). r ∷ drop (i + 1) records) w.in-Replicate.is in
+          let here : drop i records ≡ Replicate ts ops ∷ drop (i + 1) records = left ∙ ap (λ r. entry_of r ∷ drop (i + 1) records) w.in-Replicate.is in
           let along = subst (λ rest. Along records c.args.mem.now c.records.mem c.args.pool.now c.records.pool c.records.queued.items rest) here c.records.invariant in
           rw (w.mem-is, w.pool-is) (over_write records c.args.mem.now c.records.mem c.args.pool.now c.records.pool c.records.queued.items ts ops (drop (i + 1) records) along commit its
-          w.take_write.new.mem w.take_write.new.pool c.match-record.queued.items w.in_ok-take_write.ensures.fits w.in_ok-take_write.ensures.takes (ap (λ q. q.items) w.queued-is ∙ w.in_ok-take_write.ensures.queued))
+          w.take_write.new.mem w.take_write.new.pool c.match-at.queued.items w.in_ok-take_write.ensures.fits w.in_ok-take_write.ensures.takes (ap (λ q. q.items) w.queued-is ∙ w.in_ok-take_write.ensures.queued))
       | in_default w ↦
-          let here : drop i records ≡ Commit w.in_default.field-0 w.in_default.field-1 ∷ drop (i + 1) records = left ∙ ap (λ (r : Entry). r ∷ drop (i + 1) records) w.in_default.is in
+          let here : drop i records ≡ Commit w.in_default.field-0 w.in_default.field-1.now ∷ drop (i + 1) records = left ∙ ap (λ r. entry_of r ∷ drop (i + 1) records) w.in_default.is in
           let along = subst (λ rest. Along records c.args.mem.now c.records.mem c.args.pool.now c.records.pool c.records.queued.items rest) here c.records.invariant in
-          rw (w.mem-is, w.pool-is, w.queued-is) (over_commit records c.args.mem.now c.records.mem c.args.pool.now c.records.pool c.records.queued.items w.in_default.field-0 w.in_default.field-1 (drop (i + 1) records) along)
+          rw (w.mem-is, w.pool-is, w.queued-is) (over_commit records c.args.mem.now c.records.mem c.args.pool.now c.records.pool c.records.queued.items w.in_default.field-0 w.in_default.field-1.now (drop (i + 1) records) along)
     ]

@@ -1,4 +1,5 @@
-use Rattle.std.proofs.Common.{◌-◌, ◌<◌, length, arith}
+use Rattle.std.proofs.Common.{◌-◌, ◌<◌, length, ap, arith}
+use Rattle.kt_records.specs.Shared.{entry_of}
 use Rattle.std.specs.Prelude.{nat_eq}
 use Rattle.std.specs.HashMap.{get}
 use Rattle.kt_boot.proofs.Replayed.{placed}
@@ -14,6 +15,6 @@ records-preserved-in_ok-insert c =
     record {
       within = omega arith;
       each = λ ts.
-          placed records (at - 1) at c.in-Commit.ts c.in-Commit.rows c.index-records-at.result lt (omega arith) c.index-records-at.is c.in-Commit.is
+          placed records (at - 1) at c.in-Commit.ts c.in-Commit.rows.now (entry_of c.at.result) lt (omega arith) c.at.ensures (ap entry_of c.in-Commit.is)
           (get nat_eq c.records.places ts) (get nat_eq c.insert.new.self ts) ts (c.in_ok-insert.ensures.updates.0 ts) (c.records.invariant.each ts);
     }

@@ -25,7 +25,7 @@ returns-clause-openable g c = λ told.
 pub returns-in-Ok-of-2-clause-owes : goal.returns-in-Ok-of-2-clause-owes
 returns-in-Ok-of-2-clause-owes g c =
     let view = c.in-Ok-of-2.ensures.view in
-    still_owed _ _ _ _ _ _ _ _ c.in-Ok-reopen.ensures.found.0 c.in-Ok-reopen.ensures.found.1 c.in-Ok-reopen.ensures.number (ap (λ e. e.records) view ∙ sym c.as_slice.ensures) (ap (λ e. e.log.queued) view)
+    still_owed _ _ _ _ _ _ _ _ c.in-Ok-reopen.ensures.found.0 c.in-Ok-reopen.ensures.found.1 c.in-Ok-reopen.ensures.number (ap (λ e. e.records) view) (ap (λ e. e.log.queued) view)
 
 pub returns-in-Ok-of-2-clause-number : goal.returns-in-Ok-of-2-clause-number
 returns-in-Ok-of-2-clause-number g c = λ bound up each. number_up_to bound c.in-Ok-of-2.engine.records up each
