@@ -1,0 +1,9 @@
+pub mod Beside
+pub mod Either
+pub mod Ordered
+pub mod Standing
+pub mod Seeking
+pub mod Lifting
+pub mod Taking
+pub mod Finding
+pub mod Took

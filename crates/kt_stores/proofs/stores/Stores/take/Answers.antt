@@ -1,0 +1,45 @@
+use Rattle.std.proofs.Common.{◌≡◌, sym, ap, subst, ◌∙◌, arith, length}
+use Rattle.kt_stores.specs.Shelf.{StoresView, stores_of, place_of}
+use Rattle.kt_stores.specs.Parts.{kept, shelved, stands_by, owns_by, read_by, shelf_of, MayTakeAt, HasTakenAt}
+use Rattle.kt_stores.proofs.Either.{placed_by}
+use Rattle.kt_stores.proofs.Standing.{stay}
+use Rattle.kt_stores.proofs.Taking.{may_take, kept_after}
+use Rattle.kt_stores.proofs.Took.{Took, at_place, written_back, kept_along, took_along}
+use Rattle.kt_stores.proofs.stores.Stores.take.Goals as goal
+
+pub take_at-requires-clause-may : goal.take_at-requires-clause-may
+take_at-requires-clause-may g c =
+    let r = g.R.RowStore in
+    let i = c.self.inside in
+    let e = c.place-at.ensures.place ∙ ap (λ q. place_of q (stores_of c.args.self.now)) c.key.ensures ∙ ap (λ (v : StoresView). place_of c.args.op.now.key (stores_of v)) (sym c.self.view_is) in
+    let may = may_take (read_by (shelved r.target r.store r.is_closed r.cells)) c.place-at.result (kept i.active i.frozen.items i.rowsets.items) i.pool c.args.op.now e c.self.invariant.0.first in
+    let same : kept i.active i.frozen.items i.rowsets.items ≡ kept i.active c.deref_mut.result.now c.deref_mut-2.result.now = λ k. kept i.active (sym c.deref_mut.ensures.value k) (sym c.deref_mut-2.ensures.value k) in
+    subst (λ xs. MayTakeAt (read_by (shelved r.target r.store r.is_closed r.cells)) c.place-at.result xs i.pool c.args.op.now) same may
+
+pub invariant_of-self : goal.invariant_of-self
+invariant_of-self g c =
+    let r = g.R.RowStore in
+    let i = c.self.inside in
+    let same : kept i.active c.deref_mut.result.now c.deref_mut-2.result.now ≡ kept i.active i.frozen.items i.rowsets.items = λ k. kept i.active (c.deref_mut.ensures.value k) (c.deref_mut-2.ensures.value k) in
+    let t = subst (λ xs. HasTakenAt (stands_by r.stands) (owns_by r.owns) (read_by (shelved r.target r.store r.is_closed r.cells)) c.place-at.result xs (kept c.take_at.new.active c.take_at.new.frozen c.take_at.new.rowsets) i.pool c.take_at.new.pool c.args.ts c.args.op.now c.take_at.result) same c.take_at.ensures in
+    let after = kept_after (stands_by r.stands) (owns_by r.owns) (read_by (shelved r.target r.store r.is_closed r.cells)) (stay r.stands r.owns r.target r.store r.is_closed r.cells c.frame_law.ensures g.met.R.ShelfStore.placed) (placed_by r.stands r.owns (shelved r.target r.store r.is_closed r.cells) g.met.R.ShelfStore.placed)
+    c.place-at.result (kept i.active i.frozen.items i.rowsets.items) (kept c.take_at.new.active c.take_at.new.frozen c.take_at.new.rowsets) i.pool c.take_at.new.pool c.args.ts c.args.op.now c.take_at.result c.self.invariant.0 t in
+    let many = ap length c.deref_mut-2.ensures.value in
+    let frozen = written_back i.frozen.items i.frozen.len c.take_at.new.frozen (omega (arith, i.frozen.ok)) (let e = ap length c.deref_mut.ensures.value in omega (arith, c.take_at.auto.frozen)) in
+    let rowsets = written_back i.rowsets.items i.rowsets.len c.take_at.new.rowsets (omega (arith, i.rowsets.ok)) (omega (arith, c.take_at.auto.rowsets)) in
+    (kept_along r.stands r.owns (shelved r.target r.store r.is_closed r.cells) c.take_at.new.active c.take_at.new.frozen _ c.take_at.new.rowsets _ c.take_at.new.pool frozen rowsets after, let e = ap length rowsets in let few = c.self.invariant.1 in omega (arith, c.take_at.auto.rowsets))
+
+pub returns : goal.returns
+returns g c =
+    let r = g.R.RowStore in
+    let i = c.self.inside in
+    let same : kept i.active c.deref_mut.result.now c.deref_mut-2.result.now ≡ kept i.active i.frozen.items i.rowsets.items = λ k. kept i.active (c.deref_mut.ensures.value k) (c.deref_mut-2.ensures.value k) in
+    let t = subst (λ xs. HasTakenAt (stands_by r.stands) (owns_by r.owns) (read_by (shelved r.target r.store r.is_closed r.cells)) c.place-at.result xs (kept c.take_at.new.active c.take_at.new.frozen c.take_at.new.rowsets) i.pool c.take_at.new.pool c.args.ts c.args.op.now c.take_at.result) same c.take_at.ensures in
+    let e = c.place-at.ensures.place ∙ ap (λ q. place_of q (stores_of c.args.self.now)) c.key.ensures ∙ ap (λ (v : StoresView). place_of c.args.op.now.key (stores_of v)) (sym c.self.view_is) in
+    let took = at_place (stands_by r.stands) (owns_by r.owns) (read_by (shelved r.target r.store r.is_closed r.cells)) (stay r.stands r.owns r.target r.store r.is_closed r.cells c.frame_law.ensures g.met.R.ShelfStore.placed) (placed_by r.stands r.owns (shelved r.target r.store r.is_closed r.cells) g.met.R.ShelfStore.placed)
+    c.place-at.result (kept i.active i.frozen.items i.rowsets.items) (kept c.take_at.new.active c.take_at.new.frozen c.take_at.new.rowsets) i.pool c.take_at.new.pool c.args.ts c.args.op.now c.take_at.result c.self.invariant.0 t e in
+    let frozen = written_back i.frozen.items i.frozen.len c.take_at.new.frozen (omega (arith, i.frozen.ok)) (let e = ap length c.deref_mut.ensures.value in omega (arith, c.take_at.auto.frozen)) in
+    let rowsets = written_back i.rowsets.items i.rowsets.len c.take_at.new.rowsets (omega (arith, i.rowsets.ok)) (let e = ap length c.deref_mut-2.ensures.value in omega (arith, c.take_at.auto.rowsets)) in
+    let now = subst (λ (v : StoresView). Took v (record { pool = c.take_at.new.pool; shelf = shelf_of (read_by (shelved r.target r.store r.is_closed r.cells)) c.take_at.new.pool (kept c.take_at.new.active c.take_at.new.frozen c.take_at.new.rowsets) }) c.args.ts c.args.op.now c.take_at.result) c.self.view_is took in
+    let told = took_along r.stands r.owns (shelved r.target r.store r.is_closed r.cells) c.take_at.new.active c.take_at.new.frozen _ c.take_at.new.rowsets _ c.take_at.new.pool frozen rowsets c.args.self.now c.args.ts c.args.op.now c.take_at.result now in
+    record { there = told.there; changed = told.changed; others = told.others; named = told.named; idle = told.idle }

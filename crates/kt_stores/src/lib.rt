@@ -1,0 +1,12 @@
+//! The stores of a tablet in one pool: the MemRowSet that takes inserts, the frozen ones, and the disk rowsets.
+//!
+//! For the layer above: an operation goes to the store that has its row, or else to the one that takes inserts, and no
+//! other store changes. All cells of the pool that are used are the stores'. It stands on the pool, the MemRowSet, and on
+//! what a store of rows is.
+#![tactic(auto)]
+
+mod shelf_store;
+pub mod stores;
+
+pub use shelf_store::ShelfStore;
+pub use stores::Stores;
