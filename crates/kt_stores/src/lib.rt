@@ -7,6 +7,8 @@
 
 mod shelf_store;
 pub mod stores;
+#[cfg(test)]
+mod tests;
 
 pub use shelf_store::ShelfStore;
 pub use stores::Stores;
