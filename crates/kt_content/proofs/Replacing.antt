@@ -20,7 +20,7 @@ use Rattle.kt_history.specs.Stores.{Steps, step_at}
 use Rattle.kt_histlaws.specs.Fitting.{AreSound}
 use Rattle.kt_histlaws.specs.Jobs.{AreAlike}
 use Rattle.kt_histlaws.proofs.Applying.{row-past}
-use Rattle.kt_histlaws.proofs.Content.{sorted-replay}
+use Rattle.kt_history.proofs.RowLaws.{sorted-replay}
 use Rattle.kt_loglaws.specs.Laws.{with_ops}
 use Rattle.kt_loglaws.specs.Fronts.{with_records}
 use Rattle.kt_content.specs.Places.{Super, Held, held_in, at_first, Place}

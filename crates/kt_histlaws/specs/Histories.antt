@@ -1,8 +1,8 @@
 -- What stores keep of their rows: the history of each. And the one past that they show.
-use Rattle.std.specs.Prelude.{◌≡◌, ◌<◌, ◌≤◌, ℕ, zero, suc, List, [], ◌∷◌, ◌++◌, map, Option, Some, None, unwrap_or, nat_le, ◌==◌, if◌then◌else◌}
+use Rattle.std.specs.Prelude.{◌≡◌, ◌<◌, ◌≤◌, ℕ, zero, suc, List, [], ◌∷◌, map, Option, Some, None}
 use Rattle.std.specs.FinMap.Entries.{find, put}
 use Rattle.kt_history.specs.declared.change.Change.{Change}
-use Rattle.kt_history.specs.Rows.{Row, apply, key_cmp}
+use Rattle.kt_history.specs.Rows.{key_cmp}
 use Rattle.kt_history.specs.History.{Past, PastWrite}
 use Rattle.kt_history.specs.Stores.{Steps, Hist, row_of, step_of, push, Store, hist_in}
 

@@ -1,5 +1,5 @@
 -- In a run the past stays one: its timestamps rise, and none is above the last timestamp.
-use Rattle.std.proofs.Common.{◌≡◌, ◌≢◌, ℕ, ◌-◌, ◌<◌, ◌≤◌, List, [], ◌∷◌, ◌++◌, refl, true, false, Bool, ◌&&◌, arith, max, Some, None, cond, ap, ◌∙◌}
+use Rattle.std.proofs.Common.{◌≡◌, ◌≢◌, ℕ, ◌-◌, ◌<◌, ◌≤◌, List, [], ◌∷◌, ◌++◌, refl, true, false, Bool, arith, max, Some, None, cond, ap, ◌∙◌}
 use Rattle.std.specs.Prelude.{nat_le, ◌||◌}
 use Rattle.std.specs.List.{list_any, cons_option}
 use Rattle.std.specs.Ordering.{eq_by_cmp}
@@ -12,19 +12,7 @@ use Rattle.kt_history.specs.Rows.{Row, Rows as TableRows, Changes, AreApart, key
 use Rattle.kt_history.specs.History.{Past, PastWrite, IsPastUpTo, IsUpTo, Rise, rows_at, with_write}
 use Rattle.kt_history.specs.Operations.{changes_on, effect_on, keyed, DifferentKeys}
 use Rattle.kt_history.specs.Machine.{Workload, State, Allowed, after, state_after, IsRunFrom, HasDifferentKeys, command_at, ops_of}
-use Rattle.kt_history.proofs.Runs.{begins_above, c_rises}
-
-both : (a b : Bool) → a ≡ true → b ≡ true → (a && b) ≡ true
-both true b p q = q
-both false b p q = p
-
-left : (a b : Bool) → (a && b) ≡ true → a ≡ true
-left true b h = refl
-left false b h = h
-
-right : (a b : Bool) → (a && b) ≡ true → b ≡ true
-right true b h = h
-right false b h = cc
+use Rattle.kt_history.proofs.Runs.{begins_above, c_rises, both, left, right}
 
 is_le : (a b : ℕ) → a ≤ b → nat_le a b ≡ true
 is_le a b h = grind (arith, nat_tests)

@@ -77,16 +77,16 @@ rows_stay_all work st (e ∷ es) t h le =
 abbrev pub FliesUpTo : ℕ → List Flying → Type 0
 FliesUpTo c flying = list_all (λ w. nat_le w.ts c) flying ≡ true
 
-both : (a b : Bool) → a ≡ true → b ≡ true → (a && b) ≡ true
+pub both : (a b : Bool) → a ≡ true → b ≡ true → (a && b) ≡ true
 both true true p q = refl
 both true false p q = q
 both false b p q = p
 
-left : (a b : Bool) → (a && b) ≡ true → a ≡ true
+pub left : (a b : Bool) → (a && b) ≡ true → a ≡ true
 left true b h = refl
 left false b h = h
 
-right : (a b : Bool) → (a && b) ≡ true → b ≡ true
+pub right : (a b : Bool) → (a && b) ≡ true → b ≡ true
 right true b h = h
 right false b h = cc
 
@@ -123,7 +123,7 @@ flies_after work st Stop h f = f
 le_of_eq : (a b c : ℕ) → (a == b) ≡ true → nat_le a c ≡ true → b ≤ c
 le_of_eq a b c e h = grind (arith, nat_tests)
 
-last_of : (a b c : Bool) → (a && b && c) ≡ true → c ≡ true
+pub last_of : (a b c : Bool) → (a && b && c) ≡ true → c ≡ true
 last_of a b c h = right (a && b) c h
 
 -- a write that flies is not above the last timestamp

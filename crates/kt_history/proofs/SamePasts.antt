@@ -14,10 +14,10 @@ use Rattle.kt_history.specs.Rows.{Changes, changed}
 use Rattle.kt_history.specs.History.{Past, rows_at, with_write}
 use Rattle.kt_history.specs.Operations.{changes_on, outcomes_on}
 use Rattle.kt_history.specs.Machine.{Workload, State, Flying, Allowed, after, state_after, IsRunFrom, command_at, ops_of, start, IsNext, MayBegin, MayRead, ReadsAt, look_for, IfWrite, IfScan, IfMark, least, clean_below}
-use Rattle.kt_history.specs.Replies.{reply_of, answers, answer, shown_by, told, past_after}
+use Rattle.kt_history.specs.Replies.{reply_of, answers, shown_by, told}
 use Rattle.kt_history.specs.SamePasts.{ShowTheSame, no_run_tells_them_apart}
 use Rattle.kt_history.proofs.RowLaws.{rows_at-with_write_below, rows_at-with_write_from}
-use Rattle.kt_history.proofs.Runs.{begins_above, c_rises, answer_is_told}
+use Rattle.kt_history.proofs.Runs.{begins_above, c_rises, answer_is_told, both, left, right, last_of}
 
 mark_stays : (p : Past) (ts : ℕ) (changes : Changes) → (with_write p ts changes).mark ≡ p.mark
 mark_stays p ts [] = refl
@@ -49,18 +49,6 @@ record Alike (st : State) (q : Past) : Type 0 where
   last : st.past.mark ≤ st.c
   flies : FliesAbove st.past.mark st.flying
 
-both : (a b : Bool) → a ≡ true → b ≡ true → (a && b) ≡ true
-both true b p q = q
-both false b p q = p
-
-left : (a b : Bool) → (a && b) ≡ true → a ≡ true
-left true b h = refl
-left false b h = h
-
-right : (a b : Bool) → (a && b) ≡ true → b ≡ true
-right true b h = h
-right false b h = cc
-
 one_more : (mark : ℕ) (flying : List Flying) (w : Flying) → FliesAbove mark flying → mark < w.ts → FliesAbove mark (flying ++ w ∷ [])
 one_more mark [] w h lt = both _ _ (grind (arith, nat_tests)) refl
 one_more mark (v ∷ flying) w h lt = both _ _ (left _ _ h) (one_more mark flying w (right _ _ h) lt)
@@ -72,9 +60,6 @@ fewer mark p (w ∷ flying) h =
 
 lt_of_eq : (a b mark : ℕ) → (a == b) ≡ true → nat_lt mark a ≡ true → mark < b
 lt_of_eq a b mark e h = grind (arith, nat_tests)
-
-last_of : (a b c : Bool) → (a && b && c) ≡ true → c ≡ true
-last_of a b c h = right (a && b) c h
 
 -- a write that flies is above the mark
 is_above : (mark s i ts : ℕ) (flying : List Flying) → FliesAbove mark flying → list_any (λ w. (w.s == s) && (w.i == i) && (w.ts == ts)) flying ≡ true → mark < ts

@@ -2,7 +2,7 @@
 use Rattle.std.specs.Prelude.{◌≡◌, ◌≤◌, ◌<◌, ◌+◌, ◌/◌, ℕ, Bool, true, false, is_some, List, [], ◌∷◌, ◌++◌, map, length, Option, Some, None, unwrap_or, nat_le, ◌==◌, if◌then◌else◌}
 use Rattle.std.specs.Option.{option_map}
 use Rattle.std.specs.List.{filter, flat_map}
-use Rattle.std.specs.FinMap.Entries.{find, put, is_sorted}
+use Rattle.std.specs.FinMap.Entries.{find, put}
 use Rattle.kt_pool.specs.Contents.{Contents, used}
 use Rattle.kt_history.specs.declared.change.Change.{Change}
 use Rattle.kt_history.specs.declared.change.Change.TheVariants as change

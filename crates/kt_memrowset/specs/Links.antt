@@ -2,7 +2,6 @@
 use Rattle.std.specs.Prelude.{◌≡◌, ℕ, zero, suc, ◌+◌, ◌^◌, ◌<◌, ◌≤◌, ◌==◌, cond, List, [], ◌∷◌, ◌++◌, map, length, drop, slice_index, Some, Result, Ok, Err}
 use Rattle.byteorder.specs.Endian.{little_number, little_bytes}
 use Rattle.kt_history.specs.declared.change.Change.{Change}
-use Rattle.kt_history.specs.declared.change.Change.TheVariants as change
 use Rattle.kt_history.specs.declared.target.Kindly.{Kindly}
 use Rattle.kt_history.specs.declared.target.Kindly.TheVariants.{Ins, Upd, Del}
 use Rattle.kt_history.specs.Rows.{Row}

@@ -1,6 +1,6 @@
 -- What a MemRowSet is to its callers, read with its pool.
-use Rattle.std.specs.Prelude.{◌≡◌, ℕ, zero, suc, ◌+◌, ◌/◌, ◌<◌, ◌≤◌, ◌==◌, ◌⊎◌, Bool, true, false, cond, is_some, List, [], ◌∷◌, ◌++◌, map, length, drop, Option, None, nat_le}
-use Rattle.std.specs.List.{filter, flat_map, sum_by}
+use Rattle.std.specs.Prelude.{◌≡◌, ℕ, zero, suc, ◌+◌, ◌<◌, ◌≤◌, ◌==◌, ◌⊎◌, Bool, true, false, cond, is_some, List, [], ◌∷◌, ◌++◌, map, length, drop, Option, None}
+use Rattle.std.specs.List.{sum_by}
 use Rattle.std.specs.List.{find as find_first}
 use Rattle.std.specs.Option.{option_map}
 use Rattle.byteorder.specs.Endian.{little_number}
@@ -10,10 +10,10 @@ use Rattle.kt_history.specs.declared.changes.KeyChange.{KeyChange}
 use Rattle.kt_history.specs.declared.operation.RowOp.{RowOp}
 use Rattle.kt_history.specs.declared.target.Kindly.{Kindly}
 use Rattle.kt_history.specs.declared.target.Kindly.TheVariants.{Ins, Upd, Del}
-use Rattle.kt_history.specs.Rows.{Row, apply, key_cmp}
+use Rattle.kt_history.specs.Rows.{Row, key_cmp}
 use Rattle.std.specs.FinMap.Entries.{find, put}
-use Rattle.kt_history.specs.Operations.{op_len, cell_len}
-use Rattle.kt_history.specs.Stores.{Hist, Store, Steps, after_steps, push, hist_in, last_row, row_changes, changes_upto, change_of}
+use Rattle.kt_history.specs.Operations.{cell_len}
+use Rattle.kt_history.specs.Stores.{Hist, Store, after_steps, push, hist_in, last_row, row_changes, changes_upto, change_of}
 use Rattle.kt_pool.specs.Contents.{Contents, at_cell, bytes_at, cells_for, used}
 use Rattle.kt_tree.specs.Entries.{Entry, is_past}
 use Rattle.kt_tree.specs.Takes.{Takes}

@@ -1,10 +1,7 @@
 -- What a store does with an operation, by its kind and whether its row is there.
-use Rattle.std.specs.Prelude.{◌≡◌, ℕ, Bool, true, false, List, [], Option, Some, None}
-use Rattle.kt_history.specs.declared.operation.OpKind.{OpKind}
-use Rattle.kt_history.specs.declared.operation.OpKind.TheVariants.{Insert, Upsert, Update, Delete, InsertIgnore, UpdateIgnore, DeleteIgnore}
+use Rattle.std.specs.Prelude.{◌≡◌, ℕ, List, [], Option, Some, None}
 use Rattle.kt_history.specs.declared.operation.RowOp.{RowOp}
 use Rattle.kt_history.specs.declared.target.Kindly.{Kindly}
-use Rattle.kt_history.specs.declared.target.Kindly.TheVariants.{Ins, Upd, Del}
 use Rattle.kt_pool.specs.Contents.{Contents}
 use Rattle.kt_pool.specs.declared.place.Place.{Place}
 use Rattle.kt_memrowset.specs.Links.{Link, chain}

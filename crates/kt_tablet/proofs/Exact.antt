@@ -3,13 +3,10 @@ use Rattle.std.proofs.Common.{◌≡◌, ℕ, zero, suc, List, [], ◌∷◌, So
 use Rattle.std.specs.Prelude.{replicate}
 use Rattle.std.specs.List.{sum_by}
 use Rattle.std.proofs.lemmas.List.Sums.{sum_by-cons}
-use Rattle.std.specs.FinMap.Entries.{put, by_order}
-use Rattle.std.specs.declared.cmp.Ordering.{Ordering}
-use Rattle.std.specs.declared.cmp.Ordering.TheVariants.{Less, Equal, Greater}
 use Rattle.kt_history.specs.declared.target.Target.{Target}
-use Rattle.kt_history.specs.Rows.{Row, key_cmp}
+use Rattle.kt_history.specs.Rows.{Row}
 use Rattle.kt_pool.specs.Contents.{Contents, used, cells_of}
-use Rattle.kt_history.specs.Stores.{Store, Hist}
+use Rattle.kt_history.specs.Stores.{Store}
 use Rattle.kt_tablet.specs.Filling.{filled}
 use Rattle.kt_tablet.specs.Views.{AreVacant}
 

@@ -1,5 +1,5 @@
 -- What a store of changes alone is.
-use Rattle.std.specs.Prelude.{◌≡◌, true, List, [], ◌∷◌, None}
+use Rattle.std.specs.Prelude.{◌≡◌, true, [], ◌∷◌, None}
 use Rattle.std.specs.FinMap.Entries.{is_sorted}
 use Rattle.kt_history.specs.Rows.{key_cmp}
 use Rattle.kt_history.specs.Stores.{Store}

@@ -29,7 +29,12 @@ pub struct WriteEnd {
 }
 
 // Makes the change of an operation, if it makes one, in reserved cells.
-fn change_store<S: ChangeStore>(store: &mut S, pool: &mut Pool, ts: u64, op: &OpRef<'_>) -> CommitRow
+fn change_store<S: ChangeStore>(
+    store: &mut S,
+    pool: &mut Pool,
+    ts: u64,
+    op: &OpRef<'_>,
+) -> CommitRow
     requires stands { S.stands store.old pool.old }
     requires thawed { S.is_closed store.old ≡ false }
     requires reserved { share op.now ≤ pool.old.reserved }
