@@ -1,10 +1,9 @@
 -- Reading the head of a body, number by number: so far as it goes, and where it stops.
-use Rattle.std.proofs.Common.{◌≡◌, ℕ, List, Result, Ok, Err, refl, sym, ap, subst, ◌∙◌}
+use Rattle.std.proofs.Common.{◌≡◌, ℕ, List, Result, Ok, sym, ap, subst, ◌∙◌}
 use Rattle.std.specs.Int.{w16, w64}
 use Rattle.kt_bytes.specs.declared.fault.Stop.{Stop}
 use Rattle.kt_bytes.specs.declared.fault.Stop.TheVariants as no
 use Rattle.kt_bytes.specs.Reading.{◌>>=◌, Fails, number_at, checked_at}
-use Rattle.kt_super.specs.declared.body.Head.{Head}
 use Rattle.kt_super.specs.Rowsets.{is_small}
 use Rattle.kt_super.specs.Body.{is_number, is_next_file, is_next_column, is_format, head_at}
 use Rattle.kt_super.proofs.HeadParts.{made, number_step, mark_step, last_step, need_step, mem_step, rowset_step, file_step, column_step}

@@ -205,6 +205,11 @@ read_is len left n rest into items body is read size least all =
     ] in
     is ∙ take_at into (drop (length into) items) n here ∙ read ∙ ap (λ (k : ℕ). take k rest) size ∙ few
 
+-- what was read tells what stands in the slot
+pub read_told : (slot len left : ℕ) (rest body : List ℕ) → body ≡ take len rest → left ≡ length rest → of_length slot len rest ≡ settled (leb len left) (5 + left) (length body) (body_at slot body)
+read_told slot len left rest body body_is left_is =
+    sym (ap (λ (k : ℕ). settled (leb len k) (5 + k) (length body) (body_at slot body)) left_is ∙ ap (λ (b : List ℕ). settled (leb len (length rest)) (5 + length rest) (length b) (body_at slot b)) body_is)
+
 -- what was read is at fault as what stands in the slot is
 pub read_place : (slot len left : ℕ) (rest body : List ℕ) (place : ℕ) → IsSlot slot → IsBytes body → body ≡ take len rest → left ≡ length rest → settled (leb len left) (5 + left) (length body) (body_at slot body) ≡ Err place → IsFaultBehind slot len rest place
 read_place slot len left rest body place is fits body_is left_is e =

@@ -140,7 +140,13 @@ pub fn body_of(alloc: Global, slot: u64, bytes: &[u8]) -> Result<(Meta, &[u8]), 
         rowset: head.next_rowset,
         file: head.next_file,
     };
-    let (rowsets, rest) = tri!(counted_rowsets_of(alloc, next, rest));
+    let (rowsets, rest) = match counted_rowsets_of(alloc, next, rest) {
+        Ok(read) => read,
+        Err(stop) => {
+            drop(schema);
+            return Err(stop);
+        }
+    };
     let meta = Meta {
         number: head.number,
         a: head.a,

@@ -106,8 +106,10 @@ fn newer(one: Option<Meta>, two: Option<Meta>) -> Option<Meta>
         (Some(one), None) => Some(one),
         (Some(one), Some(two)) => {
             if one.number < two.number {
+                drop(one);
                 Some(two)
             } else {
+                drop(two);
                 Some(one)
             }
         }
@@ -141,6 +143,11 @@ pub fn load<D: Disk>(alloc: Global, disk: &mut D) -> Result<Option<Meta>, SuperN
         return Err(SuperNo::Fault);
     };
     let one = tri!(slot_told(alloc, disk, 1));
-    let two = tri!(slot_told(alloc, disk, 2));
-    Ok(newer(one, two))
+    match slot_told(alloc, disk, 2) {
+        Ok(two) => Ok(newer(one, two)),
+        Err(no) => {
+            drop(one);
+            Err(no)
+        }
+    }
 }

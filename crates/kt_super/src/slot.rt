@@ -70,6 +70,7 @@ pub fn body_told(
             if there && behind.is_empty() {
                 Ok(Some(meta))
             } else {
+                drop(meta);
                 Err(SlotNo::At(misfit))
             }
         }

@@ -2,11 +2,10 @@ use Rattle.std.proofs.Common.{◌≡◌, ◌∙◌, subst, drop, take}
 use Rattle.kt_disk.specs.Disk.{Files, held}
 use Rattle.kt_disk.proofs.Moments.{turns_then}
 use Rattle.kt_super.specs.declared.slot.Head.{Head}
-use Rattle.kt_super.specs.declared.slot.Head.TheVariants.{Closed, Short, Body}
-use Rattle.kt_super.specs.Slots.{IsHead, slot_at, of_length}
+use Rattle.kt_super.specs.declared.slot.Head.TheVariants.{Body}
+use Rattle.kt_super.specs.Slots.{IsHead}
 use Rattle.kt_super.specs.Faults.{IsFaultBehind}
-use Rattle.kt_super.specs.Told.{TellsOf}
-use Rattle.kt_super.proofs.SlotParts.{closed_slot, slot_with_body, fault_with_body}
+use Rattle.kt_super.proofs.SlotParts.{fault_with_body}
 use Rattle.kt_super.proofs.loading.slot_told.Goals as goal
 
 pub returns-in-Closed-clause-images : goal.returns-in-Closed-clause-images
