@@ -159,10 +159,11 @@ fn check_content(
     ensures only { (cs : List Cell) → ReadsContent form encoding n part.now cs → IfErr result (λ e. e ≡ stops.Memory) }
     ensures stop { IfErr result (IsContentStop form encoding n part.now) }
 {
-    let _read = match read_content(alloc, form, encoding, n, part) {
+    let read = match read_content(alloc, form, encoding, n, part) {
         Ok(read) => read,
         Err(stop) => return Err(stop),
     };
+    drop(read);
     Ok(())
 }
 
@@ -215,6 +216,7 @@ fn content_of(alloc: Global, form: Form, n: u32, head: Head<'_>) -> Result<Conte
         }
     };
     if head.rest.len() < head.len {
+        drop(read);
         return Err(Stop::Fault { at: 1 });
     }
     Ok(read)
@@ -255,7 +257,10 @@ fn block_of(alloc: Global, form: Form, encoding: Encoding, read: Content) -> Res
 {
     match check_least(alloc, form, encoding, &read) {
         Ok(()) => Ok(as_block(form, read)),
-        Err(stop) => Err(stop),
+        Err(stop) => {
+            drop(read);
+            Err(stop)
+        }
     }
 }
 
