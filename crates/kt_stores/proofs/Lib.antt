@@ -7,3 +7,4 @@ pub mod Lifting
 pub mod Taking
 pub mod Finding
 pub mod Took
+pub mod Emptying

@@ -1,5 +1,5 @@
 -- What the stores of a tablet are to their callers.
-use Rattle.std.specs.Prelude.{◌≡◌, ℕ, ◌+◌, Bool, true, false, is_some, List, [], ◌∷◌, map, Option, unwrap_or, slice_get}
+use Rattle.std.specs.Prelude.{◌≡◌, ℕ, ◌+◌, Bool, true, false, is_some, List, [], ◌∷◌, map, Option, unwrap_or, slice_get, drop}
 use Rattle.std.specs.List.{position, sum_by}
 use Rattle.std.specs.Option.{option_map}
 use Rattle.kt_history.specs.declared.target.Target.{Target}
@@ -16,10 +16,11 @@ pub record Shelved : Type 0 where
   pub closed : Bool
   pub cells : ℕ
 
--- the stores of a tablet and their pool: first the one that takes inserts, then the frozen ones, the newest first, and then the disk rowsets
+-- the stores of a tablet and their pool: first the one that takes inserts, then so many frozen ones, the newest first, and then the disk rowsets
 pub record StoresView : Type 0 where
   pub pool : Contents
   pub shelf : List Shelved
+  pub frozen : ℕ
 
 -- what each store holds
 abbrev pub stores_of : StoresView → List Store
@@ -51,6 +52,7 @@ pub record TakesAt (i most : ℕ) (old new : StoresView) : Type 0 where
   pub takes : TakesUpTo most old.pool new.pool
   pub holds : Store
   pub shelf : new.shelf ≡ on_nth i (holding holds takes.cells) old.shelf
+  pub frozen : new.frozen ≡ old.frozen
 
 -- a store in memory with no row, which takes inserts
 abbrev pub empty_mem : ℕ → Shelved
@@ -60,6 +62,11 @@ empty_mem number = record { name = Mem number; store = []; closed = false; cells
 abbrev pub frozen_behind : ℕ → List Shelved → List Shelved
 frozen_behind number [] = []
 frozen_behind number (s ∷ shelf) = empty_mem number ∷ (record s { closed = true }) ∷ shelf
+
+-- the shelf without the so many stores behind the first
+abbrev pub without_frozen : ℕ → List Shelved → List Shelved
+without_frozen n [] = []
+without_frozen n (s ∷ shelf) = s ∷ drop n shelf
 
 -- none takes inserts
 abbrev pub AreClosed : List Shelved → Type 0

@@ -1,5 +1,5 @@
 //! The stores and their pool as one value.
-pub mod freezing;
+pub mod flushing;
 pub mod taking;
 
 ghost use Rattle.std.specs.Prelude.{◌≡◌, ◌<◌, ◌^◌, ◌+◌, ◌-◌, ◌≤◌, ◌↔◌, length, slice_get, Some, IfOk, IsOk, OnOk, OnErr, MatchResult};
@@ -36,6 +36,7 @@ impl<R: ShelfStore> Model for Stores<R> {
     ghost view = { λ s. record {
       pool = s.pool;
       shelf = shelf_of (read_by (shelved R.target R.store R.is_closed R.cells)) s.pool (kept s.active s.frozen.items s.rowsets.items);
+      frozen = length s.frozen.items;
     } };
 
     ghost invariant = { λ s. AreKept (stands_by R.stands) (owns_by R.owns) (read_by (shelved R.target R.store R.is_closed R.cells)) (kept s.active s.frozen.items s.rowsets.items) s.pool × (length s.rowsets.items < 2 ^ 32) };
@@ -52,6 +53,7 @@ impl<R: ShelfStore> Stores<R> {
         requires few { length rowsets.items < 2 ^ 32 }
         ensures pool { result.pool ≡ pool }
         ensures shelf { result.shelf ≡ shelf_of (read_by (shelved R.target R.store R.is_closed R.cells)) pool (kept active [] rowsets.items) }
+        ensures frozen { result.frozen ≡ 0 }
     {
         Stores {
             pool,
@@ -66,6 +68,7 @@ impl<R: ShelfStore> Stores<R> {
         requires { used pool ≡ 0 }
         ensures pool { result.pool ≡ pool }
         ensures shelf { result.shelf ≡ empty_mem number ∷ [] }
+        ensures frozen { result.frozen ≡ 0 }
     {
         Stores::of(alloc, pool, MemRowSet::new(number), Vec::new(alloc))
     }

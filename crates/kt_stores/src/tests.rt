@@ -114,3 +114,22 @@ fn each_store_lists_its_own_changes(rt: HostRuntime) -> Result<(), Fail> {
     assert_eq!(rt; stores.changes(alloc, 1, 11)?.len(), 1);
     Ok(())
 }
+
+#[test]
+fn frozen_stores_leave_with_their_cells(rt: HostRuntime) -> Result<(), Fail> {
+    let alloc = rt.alloc();
+    let mut stores = first_stores(&rt, alloc)?;
+    take(&rt, alloc, &mut stores, 10, OpKind::Insert, b"ant")?;
+    stores.freeze(2)?;
+    take(&rt, alloc, &mut stores, 11, OpKind::Insert, b"bee")?;
+    let mut rowset = MemRowSet::new(9);
+    rowset.freeze();
+    stores.put(rowset)?;
+    assert_eq!(rt; stores.len(), 3);
+    let free = stores.free();
+    stores.drop_frozen();
+    assert_eq!(rt; stores.len(), 2);
+    assert!(rt; free < stores.free());
+    assert!(rt; !stores.live(b"ant") && stores.live(b"bee"));
+    Ok(())
+}
