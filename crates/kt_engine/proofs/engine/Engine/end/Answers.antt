@@ -1,4 +1,4 @@
-use Rattle.std.proofs.Common.{◌≡◌, ap, subst, false}
+use Rattle.std.proofs.Common.{◌≡◌, ◌∙◌, length, ap, sym, subst, false}
 use Rattle.kt_tablet.specs.Visits.{HeldBy}
 use Rattle.kt_engine.proofs.Runs.{not_true}
 use Rattle.kt_engine.proofs.Ended.{has_ended, has_room}
@@ -29,3 +29,8 @@ returns-clause-visit g c =
 
 pub returns-clause-held : goal.returns-clause-held
 returns-clause-held g c = subst (λ v. HeldBy v.tablet.core c.args.number c.in_ok-ts.field-0.ops c.in_ok-ts.field-0.keys) c.self.view_is (rw c.deref_mut.ensures.value at c.in_ok-ts.ensures.held)
+
+pub returns-clause-written : goal.returns-clause-written
+returns-clause-written g c =
+    let written = c.in_ok-ts.ensures.written in
+    written.count ∙ ap length (sym (c.in_ok-ts.ensures.held written.flight written.flies).0)
