@@ -1,4 +1,5 @@
 pub mod Replayed
+pub mod Placing
 pub mod Gates
 pub mod Keys
 pub mod Taking

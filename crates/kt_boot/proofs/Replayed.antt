@@ -1,6 +1,6 @@
 -- One record more of a log that is replayed.
 use Rattle.std.proofs.Common.{◌≡◌, ℕ, ◌+◌, ◌-◌, ◌<◌, ◌≤◌, suc, zero, List, [], ◌∷◌, ◌++◌, length, drop, get_or, Option, Some, None, true, false, cond, refl, sym, ap, ◌∙◌, arith}
-use Rattle.std.specs.Prelude.{unwrap_or, ◌==◌, slice_get}
+use Rattle.std.specs.Prelude.{unwrap_or, slice_get}
 use Rattle.std.specs.List.{cons_option}
 use Rattle.std.proofs.lemmas.Bool.Decides.{nat_tests}
 use Rattle.std.proofs.lemmas.List.{drop_more}
@@ -9,24 +9,18 @@ use Rattle.kt_history.specs.declared.operation.RowOp.{RowOp}
 use Rattle.kt_history.specs.Rows.{Row, Rows}
 use Rattle.kt_history.specs.Operations.{effect_on, changes_on, keyed}
 use Rattle.kt_records.specs.declared.entry.Entry.{Entry}
-use Rattle.kt_records.specs.declared.entry.Entry.TheVariants.{Commit}
 use Rattle.kt_records.specs.declared.entry.CommitRow.{CommitRow}
 use Rattle.kt_journal.specs.Order.{last_ts, is_above}
-use Rattle.kt_loglaws.specs.Replay.{needed_ops, commit_of}
-use Rattle.kt_boot.specs.Commits.{commit_at, needs}
+use Rattle.kt_loglaws.specs.Replay.{needed_ops}
+use Rattle.kt_boot.specs.Commits.{needs}
 
 -- the first of what is left of a list
 pub first_left : {A : Type 0} (xs : List A) (i j : ℕ) (x : A) → i < length xs → x ≡ get_or xs i x → j ≡ i + 1 → drop i xs ≡ x ∷ drop j xs
 first_left xs i j x lt is e = drop_more xs i x lt ∙ ap (λ y. y ∷ drop (i + 1) xs) (sym is) ∙ ap (λ k. x ∷ drop k xs) (sym e)
 
--- a map of places that has one COMMIT more
-pub placed : (records : List Entry) (k at t : ℕ) (rows : List CommitRow) (item : Entry) → k < length records → at ≡ k + 1 → item ≡ get_or records k item → item ≡ Commit t rows
-    → (old new : Option ℕ) (ts : ℕ) → new ≡ cond (t == ts) (Some k) old → commit_at records old ≡ commit_of ts (drop at records) → commit_at records new ≡ commit_of ts (drop k records)
-placed records k at t rows item lt next is here old new ts put was =
-    let left : drop k records ≡ Commit t rows ∷ drop at records = first_left records k at item lt is next ∙ ap (λ r. r ∷ drop at records) here in
-    let read : slice_get records k ≡ Some (Commit t rows) = slice_get_read records (length records) k item refl lt is ∙ ap Some here in
-    let at_k : commit_at records (Some k) ≡ Some rows = rw read refl in
-    rw (put, left) (elim (t == ts) as (λ b. commit_at records (cond b (Some k) old) ≡ cond b (Some rows) (commit_of ts (drop at records))) [ true ↦ at_k | false ↦ was ])
+-- an element as it is read
+pub here_is : {A : Type 0} (xs : List A) (i : ℕ) (x : A) {y : A} → i < length xs → x ≡ get_or xs i x → x ≡ y → slice_get xs i ≡ Some y
+here_is xs i x lt is e = slice_get_read xs (length xs) i x refl lt is ∙ ap Some e
 
 no_rows : (ops : List RowOp) → needed_ops ops [] ≡ []
 no_rows [] = refl

@@ -1,17 +1,15 @@
 //! What the replayed operations of a log need of a pool.
-ghost use Rattle.std.specs.Prelude.{nat_eq, ◌≡◌, ◌+◌, ◌∷◌, [], ℕ, IfOk, true};
-ghost use Rattle.std.specs.HashMap.{get};
+ghost use Rattle.std.specs.Prelude.{◌≡◌, ◌+◌, ◌∷◌, [], IfOk, true};
 ghost use Rattle.std.specs.Option.{option_map};
 ghost use Rattle.kt_history.specs.Operations.{need};
-ghost use Rattle.kt_loglaws.specs.Replay.{commit_of, replayed};
-ghost use Rattle.kt_boot.specs.Commits.{commit_at, is_replayed};
+ghost use Rattle.kt_loglaws.specs.Replay.{replayed};
+ghost use Rattle.kt_boot.specs.Commits.{is_replayed, HasPlaces};
 ghost use Rattle.kt_boot.specs.Reopening.{needs_of};
 
-use crate::replay::{commit_at, needs};
+use crate::replay::{needs, own_commit};
 use kt_base::NoMemory;
 use kt_history::OpRef;
 use kt_records::{CommitRow, LogRecords, OpsRef, RecordRef};
-use std::collections::HashMap;
 
 // No log is so long that a sum does not fit.
 fn plus(a: u64, b: u64) -> Result<u64, NoMemory>
@@ -52,14 +50,14 @@ fn write_need(ops: &OpsRef<'_>, commit: Option<&[CommitRow]>) -> Result<u64, NoM
 }
 
 /// What the replayed operations of a log need, by the places of its COMMITs.
-pub fn needs_of(records: &LogRecords, places: &HashMap<u64, usize>) -> Result<u64, NoMemory>
-    requires { (ts : ℕ) → commit_at records.now (get nat_eq places.now ts) ≡ commit_of ts records.now }
+pub fn needs_of(records: &LogRecords, places: &[Option<usize>]) -> Result<u64, NoMemory>
+    requires { HasPlaces records.now places.now }
     ensures { IfOk result (λ cells. cells ≡ needs_of records.now records.now) }
 {
     let mut sum = 0;
     'records: for at in 0..records.len() {
-        if let RecordRef::Replicate { ts, ops } = records.at(at) {
-            let commit = commit_at(records, places.get(&ts).copied());
+        if let RecordRef::Replicate { ts: _, ops } = records.at(at) {
+            let commit = own_commit(records, places, at);
             let cells = write_need(&ops, commit)?;
             sum = plus(sum, cells)?;
         }

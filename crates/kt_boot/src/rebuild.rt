@@ -1,18 +1,17 @@
 //! The writes of a log, taken into a MemRowSet one by one.
-ghost use Rattle.std.specs.Prelude.{nat_eq, ◌≡◌, ◌≤◌, ◌+◌, ◌++◌, ◌∷◌, [], ℕ, length, Ok, Err, IfOk, OnOk, IsTrue, true, false};
-ghost use Rattle.std.specs.HashMap.{get};
+ghost use Rattle.std.specs.Prelude.{◌≡◌, ◌≤◌, ◌+◌, ◌++◌, ◌∷◌, [], ℕ, length, Ok, Err, IfOk, OnOk, IsTrue, true, false};
 ghost use Rattle.std.specs.Option.{option_map};
 ghost use Rattle.kt_history.specs.Operations.{need};
 ghost use Rattle.kt_records.specs.declared.entry.Entry.TheVariants.{Commit};
 ghost use Rattle.kt_journal.specs.Log.{IsLog};
-ghost use Rattle.kt_loglaws.specs.Replay.{commit_of, needed_ops, replayed};
+ghost use Rattle.kt_loglaws.specs.Replay.{needed_ops, replayed};
 ghost use Rattle.kt_pool.specs.Contents.{at_cell, used};
 ghost use Rattle.kt_memrowset.specs.Stores.{IsStore, store_of, Owns, number_of, is_frozen};
-ghost use Rattle.kt_boot.specs.Commits.{commit_at};
+ghost use Rattle.kt_boot.specs.Commits.{HasPlaces};
 ghost use Rattle.kt_boot.specs.Reopening.{greatest, greatest_of, mem_number, needs_of, unless_told};
 ghost use Rattle.kt_boot.specs.Rebuilding.{is_there, all_fit, all_told, told, fits_store, rebuilt, owed_by, MayTake, MayTakeAll, TakesAll};
 
-use crate::replay::{ReplayNo, commit_at, needs};
+use crate::replay::{ReplayNo, needs, own_commit};
 use kt_base::NoMemory;
 use kt_history::{OpKind, OpRef, Target, kind_made, outcome};
 use kt_memrowset::MemRowSet;
@@ -21,7 +20,6 @@ use kt_records::{
     CommitRow, CommitRows, Entry, LogRecords, OpsRef, RecordList, RecordRef, TargetList,
 };
 use std::alloc::Global;
-use std::collections::HashMap;
 
 fn greatest(targets: &[Target]) -> u64
     ensures { result ≡ greatest targets.now }
@@ -180,12 +178,12 @@ fn take_write(
 pub fn rebuild(
     alloc: Global,
     records: &LogRecords,
-    places: &HashMap<u64, usize>,
+    places: &[Option<usize>],
     mem: &mut MemRowSet,
     pool: &mut Pool,
 ) -> Result<RecordList, ReplayNo>
     requires log { IsLog records.now }
-    requires places { (ts : ℕ) → commit_at records.now (get nat_eq places.now ts) ≡ commit_of ts records.now }
+    requires places { HasPlaces records.now places.now }
     requires store { IsStore mem.old pool.old }
     requires thawed { is_frozen mem.old ≡ false }
     requires bare { store_of mem.old pool.old ≡ [] }
@@ -203,7 +201,7 @@ pub fn rebuild(
     let mut queued = Vec::new(alloc);
     'records: for at in 0..records.len() {
         if let RecordRef::Replicate { ts, ops } = records.at(at) {
-            let commit = commit_at(records, places.get(&ts).copied());
+            let commit = own_commit(records, places, at);
             take_write(alloc, mem, pool, ts, &ops, commit, &mut queued)?;
         }
     }

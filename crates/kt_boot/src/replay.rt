@@ -1,14 +1,16 @@
 //! The COMMITs of a log, by timestamp.
-ghost use Rattle.std.specs.Prelude.{nat_eq, ◌≡◌, ℕ, slice_get, IfOk, option_map};
-ghost use Rattle.std.specs.HashMap.{get};
+ghost use Rattle.std.specs.Prelude.{◌≡◌, ◌<◌, ℕ, List, length, Some, slice_get, IfOk, option_map};
+ghost use Rattle.kt_history.specs.declared.operation.RowOp.{RowOp};
+ghost use Rattle.kt_records.specs.declared.entry.Entry.TheVariants.{Replicate};
+ghost use Rattle.kt_journal.specs.Log.{IsLog};
 ghost use Rattle.kt_loglaws.specs.Replay.{is_in_memory, is_needed, commit_of};
-ghost use Rattle.kt_boot.specs.Commits.{commit_at, needs};
+ghost use Rattle.kt_boot.specs.Commits.{commit_at, needs, HasPlaces};
 
 use kt_base::NoMemory;
 use kt_history::Target;
 use kt_records::{CommitRow, LogRecords, RecordRef};
 use std::alloc::Global;
-use std::collections::HashMap;
+use std::collections::BTreeMap;
 use thiserror::Error;
 
 /// Why records make no table.
@@ -59,25 +61,31 @@ pub(crate) fn needs(rows: &[CommitRow], at: usize) -> bool
     }
 }
 
-// Where the COMMIT of each timestamp stands.
+// Where the COMMIT of each write stands, by the place of its REPLICATE. The log is gone through from its end, so that at a
+// time few COMMITs wait for their REPLICATE.
 pub(crate) fn commit_places(
     alloc: Global,
     records: &LogRecords,
-) -> Result<HashMap<u64, usize>, NoMemory>
-    ensures { IfOk result (λ places. (ts : ℕ) → commit_at records.now (get nat_eq places ts) ≡ commit_of ts records.now) }
+) -> Result<Vec<Option<usize>>, NoMemory>
+    requires { IsLog records.now }
+    ensures { IfOk result (λ places. HasPlaces records.now places.items) }
 {
-    let mut places = HashMap::with_capacity(alloc, records.len() / 2)?;
+    let mut places = vec![in alloc; None; records.len()]?;
+    let mut waiting = BTreeMap::new(alloc);
     let mut at = records.len();
     'records: while at > 0 {
         at -= 1;
-        if let RecordRef::Commit { ts, rows: _ } = records.at(at) {
-            places.insert(ts, at)?;
+        match records.at(at) {
+            RecordRef::Replicate { ts, ops: _ } => places[at] = waiting.remove(&ts),
+            RecordRef::Commit { ts, rows: _ } => {
+                waiting.insert(ts, at)?;
+            }
         }
     }
     Ok(places)
 }
 
-pub(crate) fn commit_at(records: &LogRecords, place: Option<usize>) -> Option<&[CommitRow]>
+fn commit_at(records: &LogRecords, place: Option<usize>) -> Option<&[CommitRow]>
     ensures { option_map (λ rows. rows.now) result ≡ commit_at records.now place }
 {
     let place = place?;
@@ -88,4 +96,17 @@ pub(crate) fn commit_at(records: &LogRecords, place: Option<usize>) -> Option<&[
         RecordRef::Commit { ts: _, rows } => Some(rows),
         RecordRef::Replicate { .. } => None,
     }
+}
+
+// The rows of the COMMIT of the write at a place.
+pub(crate) fn own_commit<'a>(
+    records: &'a LogRecords,
+    places: &[Option<usize>],
+    at: usize,
+) -> Option<&'a [CommitRow]>
+    requires places { HasPlaces records.now places.now }
+    requires there { at < length records.now }
+    ensures { (ts : ℕ) (ops : List RowOp) → slice_get records.now at ≡ Some (Replicate ts ops) → option_map (λ rows. rows.now) result ≡ commit_of ts records.now }
+{
+    commit_at(records, places[at])
 }

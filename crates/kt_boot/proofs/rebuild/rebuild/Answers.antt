@@ -1,11 +1,12 @@
-use Rattle.std.proofs.Common.{◌≡◌, ◌+◌, ◌∷◌, drop, refl, ap, ◌∙◌, subst, arith}
+use Rattle.std.proofs.Common.{◌≡◌, ◌+◌, ◌∷◌, drop, Err, refl, sym, ap, ◌∙◌, subst, arith}
 use Rattle.std.specs.Option.{option_map}
 use Rattle.kt_records.specs.Shared.{entry_of}
 use Rattle.kt_records.specs.declared.entry.Entry.TheVariants.{Replicate, Commit}
 use Rattle.kt_loglaws.specs.Replay.{commit_of}
-use Rattle.kt_boot.specs.Commits.{commit_at}
-use Rattle.kt_boot.proofs.Replayed.{first_left}
-use Rattle.kt_boot.proofs.Rebuilds.{Along, over_commit, over_write, may_write, room_write}
+use Rattle.kt_boot.proofs.Replayed.{first_left, here_is}
+use Rattle.kt_boot.specs.declared.replay.ReplayNo.TheVariants.{Late}
+use Rattle.kt_boot.proofs.Rebuilds.{Along, over_commit, over_write, may_write, room_write, late_write}
+use Rattle.std.proofs.lemmas.Result.{err_from_is_err_and}
 use Rattle.kt_boot.proofs.rebuild.rebuild.Goals as goal
 use Rattle.kt_boot.proofs.rebuild.rebuild.Goals.{in-Replicate+in_ok-take_write, in_default}
 
@@ -15,8 +16,8 @@ take_write-requires-clause-may c =
     let i = c.records.at in
     let ts = c.in-Replicate.ts in
     let ops = c.in-Replicate.ops in
-    let commit = option_map (λ rows. rows.now) c.commit_at-commit.result in
-    let its : commit ≡ commit_of ts records = c.commit_at-commit.ensures ∙ ap (commit_at records) (c.copied.ensures ∙ c.get.ensures.value) ∙ c.requires.places ts in
+    let commit = option_map (λ rows. rows.now) c.own_commit-commit.result in
+    let its : commit ≡ commit_of ts records = c.own_commit-commit.ensures ts ops (here_is records i (entry_of c.at.result) (omega arith) c.at.ensures (ap entry_of c.in-Replicate.is)) in
     let here : drop i records ≡ Replicate ts ops ∷ drop (i + 1) records = first_left records i (i + 1) (entry_of c.at.result) (omega arith) c.at.ensures refl ∙ ap (λ r. entry_of r ∷ drop (i + 1) records) c.in-Replicate.is in
     may_write records c.args.mem.now c.records.mem c.args.pool.now c.records.pool c.records.queued.items ts ops (drop (i + 1) records) (subst (λ rest. Along records c.args.mem.now c.records.mem c.args.pool.now c.records.pool c.records.queued.items rest) here c.records.invariant) commit its
 
@@ -26,8 +27,8 @@ take_write-requires-clause-room c =
     let i = c.records.at in
     let ts = c.in-Replicate.ts in
     let ops = c.in-Replicate.ops in
-    let commit = option_map (λ rows. rows.now) c.commit_at-commit.result in
-    let its : commit ≡ commit_of ts records = c.commit_at-commit.ensures ∙ ap (commit_at records) (c.copied.ensures ∙ c.get.ensures.value) ∙ c.requires.places ts in
+    let commit = option_map (λ rows. rows.now) c.own_commit-commit.result in
+    let its : commit ≡ commit_of ts records = c.own_commit-commit.ensures ts ops (here_is records i (entry_of c.at.result) (omega arith) c.at.ensures (ap entry_of c.in-Replicate.is)) in
     let here : drop i records ≡ Replicate ts ops ∷ drop (i + 1) records = first_left records i (i + 1) (entry_of c.at.result) (omega arith) c.at.ensures refl ∙ ap (λ r. entry_of r ∷ drop (i + 1) records) c.in-Replicate.is in
     room_write records c.args.mem.now c.records.mem c.args.pool.now c.records.pool c.records.queued.items ts ops (drop (i + 1) records) (subst (λ rest. Along records c.args.mem.now c.records.mem c.args.pool.now c.records.pool c.records.queued.items rest) here c.records.invariant) commit its
 
@@ -40,8 +41,8 @@ records-preserved c =
       | in-Replicate+in_ok-take_write w ↦
           let ts = w.in-Replicate.ts in
           let ops = w.in-Replicate.ops in
-          let commit = option_map (λ rows. rows.now) w.commit_at-commit.result in
-          let its : commit ≡ commit_of ts records = w.commit_at-commit.ensures ∙ ap (commit_at records) (w.copied.ensures ∙ w.get.ensures.value) ∙ c.requires.places ts in
+          let commit = option_map (λ rows. rows.now) w.own_commit-commit.result in
+          let its : commit ≡ commit_of ts records = w.own_commit-commit.ensures ts ops (here_is records i (entry_of c.at.result) (omega arith) c.at.ensures (ap entry_of w.in-Replicate.is)) in
           let here : drop i records ≡ Replicate ts ops ∷ drop (i + 1) records = left ∙ ap (λ r. entry_of r ∷ drop (i + 1) records) w.in-Replicate.is in
           let along = subst (λ rest. Along records c.args.mem.now c.records.mem c.args.pool.now c.records.pool c.records.queued.items rest) here c.records.invariant in
           rw (w.mem-is, w.pool-is) (over_write records c.args.mem.now c.records.mem c.args.pool.now c.records.pool c.records.queued.items ts ops (drop (i + 1) records) along commit its
@@ -51,3 +52,18 @@ records-preserved c =
           let along = subst (λ rest. Along records c.args.mem.now c.records.mem c.args.pool.now c.records.pool c.records.queued.items rest) here c.records.invariant in
           rw (w.mem-is, w.pool-is, w.queued-is) (over_commit records c.args.mem.now c.records.mem c.args.pool.now c.records.pool c.records.queued.items w.in_default.field-0 w.in_default.field-1.now (drop (i + 1) records) along)
     ]
+
+pub returns-in_err-take_write-clause-late : goal.returns-in_err-take_write-clause-late
+returns-in_err-take_write-clause-late c t is =
+    let records = c.args.records.now in
+    let i = c.records.at in
+    let ts = c.in-Replicate.ts in
+    let ops = c.in-Replicate.ops in
+    let commit = option_map (λ rows. rows.now) c.own_commit-commit.result in
+    let its : commit ≡ commit_of ts records = c.own_commit-commit.ensures ts ops (here_is records i (entry_of c.at.result) (omega arith) c.at.ensures (ap entry_of c.in-Replicate.is)) in
+    let here : drop i records ≡ Replicate ts ops ∷ drop (i + 1) records = first_left records i (i + 1) (entry_of c.at.result) (omega arith) c.at.ensures refl ∙ ap (λ r. entry_of r ∷ drop (i + 1) records) c.in-Replicate.is in
+    let along = subst (λ rest. Along records c.args.mem.now c.records.mem c.args.pool.now c.records.pool c.records.queued.items rest) here c.records.invariant in
+    let p = err_from_is_err_and c.from_residual.result c.from_residual.ensures.1 in
+    let same : c.in_err-take_write.field-0.0 ≡ Late t = cc in
+    let both = c.in_err-take_write.ensures.late t (ap (λ e. Err e) same) in
+    late_write records c.args.mem.now c.records.mem c.args.pool.now c.records.pool c.records.queued.items ts ops (drop (i + 1) records) along commit its both.1 ∙ ap (λ n. Err n) (sym both.0)
