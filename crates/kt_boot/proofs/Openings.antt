@@ -12,7 +12,7 @@ use Rattle.kt_history.proofs.KeyLaws.{find-changed}
 use Rattle.kt_histlaws.specs.Histories.{or_else, AtMostOne, ShowsKey, joined, timeline, past_hist}
 use Rattle.kt_history.specs.Stores.{Steps, Hist, Store, hist_in, row_of, after_steps, step_of, step_at}
 use Rattle.kt_histlaws.specs.Fitting.{AreSound}
-use Rattle.kt_histlaws.proofs.Content.{sorted-replay}
+use Rattle.kt_history.proofs.RowLaws.{sorted-replay}
 use Rattle.kt_tablet.specs.Filling.{filled}
 use Rattle.kt_tablet.proofs.Filling.{find-filled}
 use Rattle.kt_tablet.specs.Views.{Opens}
