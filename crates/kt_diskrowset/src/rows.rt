@@ -1,0 +1,64 @@
+//! Rows in files.
+ghost use Rattle.std.specs.Prelude.{◌≡◌, IfOk, OnOk};
+ghost use Rattle.kt_histlaws.specs.Disks.{disk_row_at};
+ghost use Rattle.kt_rowfiles.specs.Files.{records_for, records_in, rising, falling};
+ghost use Rattle.kt_rowfiles.specs.Reading.{steps_in};
+ghost use Rattle.kt_diskrowset.specs.Files.{lists_of, row_with_files};
+
+use crate::files::{FileHeld, FileLists};
+use kt_base::{Cells, NoMemory};
+use kt_deltafile::DeltaFile;
+use kt_history::Delta;
+use kt_rowfiles::RowRecords;
+use std::alloc::Global;
+
+/// The records of a row in one file.
+fn records_of(file: &DeltaFile, ordinal: u32) -> &[Delta]
+    ensures { steps_in result.now ≡ records_for ordinal file.now.list }
+{
+    let (start, end) = file.of_row(ordinal);
+    &file.list().as_slice()[start as usize..end as usize]
+}
+
+/// The records of a row in UNDO files, from the newest.
+fn undos_of(alloc: Global, files: &[FileHeld], ordinal: u32) -> Result<RowRecords<'_>, NoMemory>
+    ensures { IfOk result (λ records. records ≡ falling (records_in ordinal (lists_of files.now))) }
+{
+    let mut records = RowRecords::new(alloc);
+    let mut at = files.len();
+    'files: while at > 0 {
+        at -= 1;
+        records.put_undos(records_of(&files[at].deltas, ordinal))?;
+    }
+    Ok(records)
+}
+
+/// The records of a row in REDO files, from the oldest.
+fn redos_of(alloc: Global, files: &[FileHeld], ordinal: u32) -> Result<RowRecords<'_>, NoMemory>
+    ensures { IfOk result (λ records. records ≡ rising (records_in ordinal (lists_of files.now))) }
+{
+    let mut records = RowRecords::new(alloc);
+    let mut at = files.len();
+    'files: while at > 0 {
+        at -= 1;
+        records.put_redos(records_of(&files[at].deltas, ordinal))?;
+    }
+    Ok(records)
+}
+
+/// The row with this ordinal at a time, told its base row.
+pub fn row_at(
+    alloc: Global,
+    undo: &FileLists,
+    redo: &FileLists,
+    ordinal: u32,
+    base: Cells,
+    t: u64,
+) -> Result<Option<Cells>, NoMemory>
+    ensures { IfOk result (λ row. row ≡ disk_row_at t (row_with_files undo.now redo.now ordinal base)) }
+{
+    let mut row = Some(base);
+    undos_of(alloc, undo.as_slice(), ordinal)?.go_back(t, &mut row)?;
+    redos_of(alloc, redo.as_slice(), ordinal)?.go_on(t, &mut row)?;
+    Ok(row)
+}
