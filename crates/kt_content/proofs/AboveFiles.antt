@@ -11,7 +11,7 @@ use Rattle.kt_history.specs.Stores.{Steps, Hist, push, Under}
 use Rattle.kt_histlaws.specs.Disks.{led_over}
 use Rattle.kt_histlaws.specs.Flights.{AllUnder}
 use Rattle.kt_histlaws.proofs.Applying.{all_under, none_under}
-use Rattle.kt_content.specs.Files.{DiskRowset, row_under, row_with, redos_with, records_in, rising, falling}
+use Rattle.kt_rowfiles.specs.Files.{DiskRowset, row_under, row_with, redos_with, records_in, rising, falling}
 use Rattle.kt_content.specs.Places.{Super, Place, memory, disk, same_place, Held, Moves, Standing, held_in, at_first, in_files, standing, row_there, joined_in, moved, places_of, needed_in, redos_in, AboveRedos}
 use Rattle.kt_content.specs.KeyOps.{KeyOp, may_join, with_move, to_each, played, decided, if_fits}
 use Rattle.kt_content.specs.Content.{Shown, AreTold, changed_in, AboveFiles}

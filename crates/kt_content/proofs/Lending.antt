@@ -13,7 +13,7 @@ use Rattle.kt_history.specs.Stores.{Hist, row_of, step_of, never}
 use Rattle.kt_histlaws.specs.Fitting.{AreSound}
 use Rattle.kt_histlaws.proofs.Fitting.{sound_raised}
 use Rattle.kt_histlaws.specs.Jobs.{AreAlike, push_all}
-use Rattle.kt_content.specs.Files.{DiskRowset}
+use Rattle.kt_rowfiles.specs.Files.{DiskRowset}
 use Rattle.kt_content.specs.Places.{Super, Place, memory, disk, same_place, Held, Moves, held_in, at_first, in_files, standing, row_there, row_before, last_dms_of, newer, needs, and_place, needed_in, joined_in, moved, Standing}
 use Rattle.kt_content.specs.KeyOps.{KeyOp, decided, may_join, with_move, to_each}
 use Rattle.kt_content.specs.Content.{Shown}

@@ -8,7 +8,7 @@ use Rattle.kt_histlaws.specs.Histories.{first_some, or_else, AtMostOne}
 use Rattle.kt_history.specs.Stores.{Steps, Hist, after_steps, row_of, step_at, step_of}
 use Rattle.kt_histlaws.specs.Fitting.{RiseAbove, Rises, steps_above}
 use Rattle.kt_histlaws.proofs.OneKey.{step_at-append}
-use Rattle.kt_content.specs.Files.{put_rising, rising}
+use Rattle.kt_rowfiles.specs.Files.{put_rising, rising}
 use Rattle.kt_content.specs.Flushing.{EachAbove}
 use Rattle.kt_content.specs.Merging.{all_above, joined_history, a_joined_history_is_alike}
 use Rattle.kt_content.proofs.Flushing.{cut_rows, cut_steps}

@@ -20,7 +20,7 @@ use Rattle.kt_histlaws.proofs.OneKey.{first-on_nth, map-on_nth, row-push_from}
 use Rattle.kt_histlaws.proofs.Applying.{rows-settled}
 use Rattle.kt_histlaws.proofs.Fitting.{sound_push}
 use Rattle.kt_histlaws.proofs.Jobs.{swap_alike, filled_push, alone-on_nth, length-on_nth, joined_pushes, no_pushes}
-use Rattle.kt_content.specs.Files.{records_for, records_in, put_rising, rising, falling, row_with}
+use Rattle.kt_rowfiles.specs.Files.{records_for, records_in, put_rising, rising, falling, row_with}
 use Rattle.kt_content.specs.InMemory.{same_name, joined_name}
 use Rattle.kt_content.specs.MissedChanges.{is_insert, FitInTurn, missed_changes_are_put_in, a_swap_makes_a_job_that_duplicates, AreFilled, a_change_leaves_what_is_missed, a_file_has_the_missed_changes}
 use Rattle.kt_content.specs.MissedChanges.PutIn.{nothing, changes}

@@ -18,7 +18,7 @@ use Rattle.kt_history.specs.Stores.{Steps, after_steps, push}
 use Rattle.kt_histlaws.specs.Disks.{before_all, led_over}
 use Rattle.kt_histlaws.proofs.Pending.{same_key}
 use Rattle.kt_loglaws.specs.Replay.{commit_of}
-use Rattle.kt_content.specs.Files.{DiskRowset, row_under, records_for, records_in, put_rising, rising, put_falling, falling, row_with}
+use Rattle.kt_rowfiles.specs.Files.{DiskRowset, row_under, records_for, records_in, put_rising, rising, put_falling, falling, row_with}
 use Rattle.kt_content.specs.Rules.{Rules, AreRules, no_rules, RowPasses, ChangePasses, EffectPasses, OpPasses, OpsPass, RecordsPass, BasePasses, FilePasses, FilesPass, RowsetPasses, RowsetsPass, StepsPass, HistPasses, rows_of_a_history_pass}
 use Rattle.kt_content.specs.Places.{Super, Place, memory, disk, same_place, Held, Moves, Standing, in_files, at_first, joined_in, moved, standing, row_there, live_in, needed_in}
 use Rattle.kt_content.specs.KeyOps.{KeyOp, op_on, seen, may_join, with_move, to_each, to_place, to_live, decided, if_fits, played}

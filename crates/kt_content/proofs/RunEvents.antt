@@ -16,7 +16,7 @@ use Rattle.kt_histlaws.specs.Pending.{Aloft, is_pending}
 use Rattle.kt_journal.specs.Log.{IsLog}
 use Rattle.kt_loglaws.specs.Laws.{with_ops}
 use Rattle.kt_loglaws.proofs.LogOrder.{AllAbove, above_behind}
-use Rattle.kt_content.specs.Files.{DiskRowset}
+use Rattle.kt_rowfiles.specs.Files.{DiskRowset}
 use Rattle.kt_content.specs.Places.{Super, Place, memory, disk, fresh, Held, newer, last_dms_of, standing}
 use Rattle.kt_content.specs.KeyOps.{KeyOp, seen}
 use Rattle.kt_content.specs.Content.{IsContent, content_at}

@@ -11,7 +11,7 @@ use Rattle.kt_records.specs.declared.entry.CommitRow.{CommitRow}
 use Rattle.kt_journal.specs.Order.{InOrder, last_ts, is_above}
 use Rattle.kt_loglaws.specs.Replay.{commit_of}
 use Rattle.kt_loglaws.proofs.LogOrder.{Lacks}
-use Rattle.kt_content.specs.Files.{DiskRowset}
+use Rattle.kt_rowfiles.specs.Files.{DiskRowset}
 use Rattle.kt_content.specs.Places.{Super, memory, disk, at_first, in_files}
 use Rattle.kt_content.specs.KeyOps.{KeyOp, op_on, seen}
 use Rattle.kt_content.specs.Content.{LacksNumber, NumbersDiffer}

@@ -12,7 +12,7 @@ use Rattle.kt_records.specs.declared.entry.Entry.TheVariants.{Replicate, Commit}
 use Rattle.kt_records.specs.declared.entry.CommitRow.{CommitRow}
 use Rattle.kt_history.specs.Stores.{never}
 use Rattle.kt_loglaws.specs.Replay.{commit_of}
-use Rattle.kt_content.specs.Files.{DiskRowset, hist_in_files}
+use Rattle.kt_rowfiles.specs.Files.{DiskRowset, hist_in_files}
 use Rattle.kt_content.specs.Places.{Super, Place, memory, disk, same_place, needs, newer, last_dms_of, and_place, needed_in, in_files}
 use Rattle.kt_content.specs.KeyOps.{KeyOp, op_on, seen}
 use Rattle.kt_content.specs.MoreOps.{told}

@@ -16,7 +16,7 @@ use Rattle.kt_records.specs.declared.entry.Entry.{Entry}
 use Rattle.kt_records.specs.declared.entry.Entry.TheVariants.{Replicate, Commit}
 use Rattle.kt_histlaws.specs.Histories.{first_some}
 use Rattle.kt_history.specs.Stores.{row_of}
-use Rattle.kt_content.specs.Files.{DiskRowset}
+use Rattle.kt_rowfiles.specs.Files.{DiskRowset}
 use Rattle.kt_content.specs.Places.{Super, memory, disk, Held, fresh, held_in, OneLive, standing}
 use Rattle.kt_history.specs.History.{Past}
 use Rattle.kt_content.specs.Content.{content_at, IsContent}

@@ -8,7 +8,7 @@ use Rattle.kt_histlaws.specs.Histories.{past_hist, ShowsKey}
 use Rattle.kt_history.specs.Stores.{Hist, row_of, step_of}
 use Rattle.kt_histlaws.specs.Fitting.{AreSound}
 use Rattle.kt_loglaws.specs.Replay.{last_of, empty}
-use Rattle.kt_content.specs.Files.{DiskRowset}
+use Rattle.kt_rowfiles.specs.Files.{DiskRowset}
 use Rattle.kt_content.specs.Places.{Super, Held, fresh, held_in, at_first, OneLive, standing, Place, Standing, places_of, live_in, needed_in, AboveRedos}
 use Rattle.kt_content.specs.KeyOps.{KeyOp, seen, played, to_live}
 use Rattle.kt_history.specs.declared.operation.RowOp.{RowOp}

@@ -17,7 +17,7 @@ use Rattle.kt_disk.specs.Disk.{Files}
 use Rattle.kt_journal.specs.Log.{IsLog}
 use Rattle.kt_loglaws.specs.Replay.{empty}
 use Rattle.kt_loglaws.specs.Fronts.{ops_of, with_records}
-use Rattle.kt_content.specs.Files.{DiskRowset}
+use Rattle.kt_rowfiles.specs.Files.{DiskRowset}
 use Rattle.kt_content.specs.Rules.{Rules, OpsPass}
 use Rattle.kt_content.specs.Places.{Super, fresh, Place, Held, Moves, memory, disk, row_before, needed_in}
 use Rattle.kt_content.specs.KeyOps.{KeyOp, seen}

@@ -1,4 +1,3 @@
-pub mod Files
 pub mod Rules
 pub mod Places
 pub mod KeyOps

@@ -9,7 +9,7 @@ use Rattle.kt_history.specs.Stores.{Steps, Hist, row_of, step_of}
 use Rattle.kt_histlaws.specs.Flights.{UpTo, AllUnder}
 use Rattle.kt_histlaws.specs.Fitting.{AreSound, Rises}
 use Rattle.kt_histlaws.specs.Jobs.{AreAlike, IsFilled, push_all}
-use Rattle.kt_content.specs.Files.{DiskRowset, row_under, records_for, records_in, hist_in_files}
+use Rattle.kt_rowfiles.specs.Files.{DiskRowset, row_under, records_for, records_in, hist_in_files}
 use Rattle.kt_content.specs.Places.{Super, Place, Moves, at_first}
 use Rattle.kt_content.specs.KeyOps.{KeyOp}
 use Rattle.kt_content.specs.Publishing.{gone}

@@ -7,7 +7,7 @@ use Rattle.kt_history.specs.declared.target.Target.TheVariants.{Mem, Delta}
 use Rattle.kt_history.specs.Rows.{Row}
 use Rattle.kt_histlaws.specs.Histories.{AtMostOne}
 use Rattle.kt_history.specs.Stores.{Hist, row_of, push, never, Steps, Under}
-use Rattle.kt_content.specs.Files.{DiskRowset, hist_in_files, redos_with, row_under}
+use Rattle.kt_rowfiles.specs.Files.{DiskRowset, hist_in_files, redos_with, row_under}
 
 -- what a superblock says: its mark, its last timestamp, how many records of the log it needs, the last MemRowSet that its files
 -- hold, and its disk rowsets

@@ -11,7 +11,7 @@ use Rattle.kt_records.specs.declared.entry.Entry.{Entry}
 use Rattle.kt_records.specs.declared.entry.Entry.TheVariants.{Replicate, Commit}
 use Rattle.kt_history.specs.Stores.{Steps, Hist, row_of, never}
 use Rattle.kt_histlaws.specs.Flights.{AllOps}
-use Rattle.kt_content.specs.Files.{DiskRowset}
+use Rattle.kt_rowfiles.specs.Files.{DiskRowset}
 
 -- the keys that are the one spelling of key cells, the rows that the columns take, and the cells that a row may have in some of its columns
 pub record Rules : Type 0 where

@@ -12,7 +12,7 @@ use Rattle.kt_records.specs.declared.entry.CommitRow.{CommitRow}
 use Rattle.kt_histlaws.specs.Pending.{Aloft, is_pending}
 use Rattle.kt_journal.specs.Log.{IsLog}
 use Rattle.kt_loglaws.specs.Fronts.{ops_of}
-use Rattle.kt_content.specs.Files.{DiskRowset}
+use Rattle.kt_rowfiles.specs.Files.{DiskRowset}
 use Rattle.kt_content.specs.Places.{Super, memory, needs, last_dms_of}
 use Rattle.kt_content.specs.KeyOps.{KeyOp, op_on, seen}
 use Rattle.kt_content.specs.Content.{IsContent}

@@ -7,7 +7,7 @@ use Rattle.kt_records.specs.declared.entry.Entry.{Entry}
 use Rattle.kt_records.specs.declared.entry.Entry.TheVariants.{Replicate, Commit}
 use Rattle.kt_records.specs.declared.entry.CommitRow.{CommitRow}
 use Rattle.kt_loglaws.specs.Replay.{commit_of}
-use Rattle.kt_content.specs.Files.{DiskRowset}
+use Rattle.kt_rowfiles.specs.Files.{DiskRowset}
 use Rattle.kt_content.specs.Places.{Super, Place, memory, disk, needs, at_first, Held}
 use Rattle.kt_content.specs.KeyOps.{seen, KeyOp}
 use Rattle.kt_content.specs.Publishing.{kept, AllCarried}

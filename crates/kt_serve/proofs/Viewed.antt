@@ -6,7 +6,7 @@ use Rattle.kt_history.specs.Rows.{Row, key_cmp}
 use Rattle.kt_history.specs.History.{rows_at}
 use Rattle.kt_histlaws.specs.Histories.{or_else, first_some}
 use Rattle.kt_histlaws.specs.Core.{Core, Stands, run_past}
-use Rattle.kt_histlaws.proofs.Content.{sorted-replay}
+use Rattle.kt_history.proofs.RowLaws.{sorted-replay}
 use Rattle.kt_scan.specs.Live.{row_in, AreRowsOf}
 
 first_is : (a b : Option Row) → option_or a b ≡ or_else a b
