@@ -122,7 +122,7 @@ fn no_memory(no: SchemaNo) -> Stop
 fn schema_of(alloc: Global, next: u16, bytes: &[u8]) -> Result<(Schema, &[u8]), Stop>
     ensures { Gives (λ x. (x.0, x.1.now)) result (counted_columns_at next bytes.now) }
 {
-    let (columns, rest) = counted_columns_of(alloc, next, bytes)?;
+    let (columns, rest) = tri!(counted_columns_of(alloc, next, bytes));
     match Schema::new(alloc, ColumnList::of(columns)) {
         Ok(schema) => Ok((schema, rest)),
         Err(no) => Err(no_memory(no)),

@@ -249,7 +249,7 @@ fn columns_of(
     let mut columns = Vec::new(alloc);
     let mut rest = bytes;
     for _ in 0..count {
-        let (column, after) = column_of(alloc, next, columns.as_slice(), rest)?;
+        let (column, after) = tri!(column_of(alloc, next, columns.as_slice(), rest));
         columns.push(column)?;
         rest = after;
     }

@@ -81,7 +81,7 @@ fn files_of<'a>(
     let mut files = Vec::new(alloc);
     let mut rest = bytes;
     for _ in 0..count {
-        let (file, after) = file_of(next, taken, rest)?;
+        let (file, after) = tri!(file_of(next, taken, rest));
         taken.push(file.file)?;
         files.push(file)?;
         rest = after;
@@ -167,7 +167,7 @@ fn rowsets_of(
     let mut least = 0;
     let mut rest = bytes;
     for i in 0..count {
-        let (rowset, after) = rowset_of(alloc, next, count - i - 1, least, &mut taken, rest)?;
+        let (rowset, after) = tri!(rowset_of(alloc, next, count - i - 1, least, &mut taken, rest));
         least = rowset.rowset + 1;
         rowsets.push(rowset)?;
         rest = after;
