@@ -19,7 +19,7 @@ use std::alloc::Global;
 use thiserror::Error;
 
 /// Why a line is not read: the least reason that holds in it, or want of memory.
-#[derive(Clone, Copy, Debug, PartialEq, Eq, Error)]
+#[derive(Clone, Copy, Debug, Error)]
 pub enum LineNo {
     #[error("the line is refused for reason {0}")]
     Reason(u8),

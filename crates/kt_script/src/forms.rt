@@ -7,7 +7,7 @@ use crate::word::is_word;
 use kt_history::OpKind;
 
 /// How the words of an operation stand behind its first.
-#[derive(Clone, Copy, PartialEq, Eq)]
+#[derive(Clone, Copy)]
 pub enum OpForm {
     /// A literal for each column.
     Literals,

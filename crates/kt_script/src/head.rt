@@ -16,14 +16,14 @@ use kt_schema::{Column, ColumnList, Schema, SchemaNo};
 use std::alloc::Global;
 
 /// The columns of a script, and the text below their lines. They stand from line 2 on.
-#[derive(Debug, Drop)]
+#[derive(Drop)]
 pub struct Head<'a> {
     pub columns: Vec<Column>,
     pub rest: &'a [u8],
 }
 
 /// The schema of a script, and the text below its columns. They stand from line 2 on.
-#[derive(Debug, Drop)]
+#[derive(Drop)]
 pub struct Table<'a> {
     pub schema: Schema,
     pub rest: &'a [u8],

@@ -6,7 +6,7 @@ use kt_history::Reply;
 use std::marker::Model;
 
 /// The kinds of the columns that a scan shows. Contracts see it as a list.
-#[derive(Debug, Drop)]
+#[derive(Drop)]
 pub struct KindList {
     kinds: Vec<Kind>,
 }
@@ -36,14 +36,14 @@ impl KindList {
 }
 
 /// A reply, and the kinds of the columns under which its rows are printed.
-#[derive(Debug, Drop)]
+#[derive(Drop)]
 pub struct ShownReply {
     pub kinds: KindList,
     pub reply: Reply,
 }
 
 /// The replies of one session. Contracts see them as a list.
-#[derive(Debug, Drop)]
+#[derive(Drop)]
 pub struct ReplyList {
     replies: Vec<ShownReply>,
 }
@@ -73,7 +73,7 @@ impl ReplyList {
 }
 
 /// The replies of every session. Contracts see them as one list of replies per session.
-#[derive(Debug, Drop)]
+#[derive(Drop)]
 pub struct ReplyLists {
     sessions: Vec<ReplyList>,
 }

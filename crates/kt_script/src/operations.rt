@@ -9,7 +9,6 @@ ghost use Rattle.kt_script.specs.Reasons.{no_of, reason_if};
 ghost use Rattle.kt_script.specs.Writes.{cells_no, cells_of, under, key_no, key_len, key_of, is_empty, none_left_no, op_in, later_in, ops_in, IsOpCut};
 
 use crate::least::{Least, put_cell_read, read_cell};
-use crate::vector::push;
 use crate::word::{is_word, next_word};
 use kt_base::limits::KEY_LEN;
 use kt_base::{Cell, NoMemory, Octets};
@@ -99,36 +98,7 @@ fn take_cells<'a>(
             no.note(Some(12));
             return Ok(left);
         };
-        let cell = read_cell(alloc, column, word, no)?;
-        push(cells, cell)?;
-        left = behind;
-    }
-    no.note(None);
-    Ok(left)
-}
-
-// Adds a cell for each column, with the column's id, and gives what is left of the line behind them.
-fn add_others<'a>(
-    alloc: Global,
-    columns: &[Column],
-    rest: Option<&'a [u8]>,
-    cells: &mut Vec<(u16, Cell)>,
-    no: &mut Least,
-) -> Result<Option<&'a [u8]>, NoMemory>
-    requires { cells.old.items ≡ [] }
-    ensures cells { OnOk result (cells.new.items ≡ under columns.now (cells_of columns.now (op_in rest.entry))) }
-    ensures behind { IfOk result (λ left. op_in left ≡ drop (length columns.now) (op_in rest.entry)) }
-    ensures later { IfOk result (λ left. later_in left ≡ later_in rest.entry) }
-    ensures least { OnOk result (no.new ≡ min no.old (cells_no columns.now (op_in rest.entry))) }
-{
-    let mut left = rest;
-    for column in columns {
-        let Some((word, behind)) = next_op_word(left) else {
-            no.note(Some(12));
-            return Ok(left);
-        };
-        let cell = read_cell(alloc, column, word, no)?;
-        push(cells, (column.id, cell))?;
+        cells.push(read_cell(alloc, column, word, no)?)?;
         left = behind;
     }
     no.note(None);
@@ -148,8 +118,17 @@ pub fn take_others<'a>(
     ensures least { OnOk result (no.new ≡ min no.old (cells_no columns.now (op_in rest.entry))) }
 {
     let mut cells = Vec::with_capacity(alloc, columns.len())?;
-    let rest = add_others(alloc, columns, rest, &mut cells, no)?;
-    Ok(TakenOthers { cells, rest })
+    let mut left = rest;
+    for column in columns {
+        let Some((word, behind)) = next_op_word(left) else {
+            no.note(Some(12));
+            return Ok(TakenOthers { cells, rest: left });
+        };
+        cells.push((column.id, read_cell(alloc, column, word, no)?))?;
+        left = behind;
+    }
+    no.note(None);
+    Ok(TakenOthers { cells, rest: left })
 }
 
 /// Adds a cell for each column, behind their count, and gives what is left of the line behind them. What is added counts

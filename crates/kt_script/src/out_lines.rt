@@ -293,7 +293,7 @@ fn counted<'a>(rest: Option<&'a [u8]>, name: &[u8]) -> Option<(u64, Option<&'a [
 {
     let (word, behind) = next_piece(rest)?;
     let (digits, more) = next_piece(behind)?;
-    if word != name {
+    if !is_word(word, name) {
         return None;
     }
     let number = read_number(digits)?;

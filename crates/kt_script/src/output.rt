@@ -3,7 +3,7 @@
 ghost use Rattle.std.specs.Prelude.{◌≡◌, ◌+◌, ◌<◌, ◌++◌, ◌∷◌, [], OnOk, OnErr, length, map, codes};
 ghost use Rattle.std.specs.List.{flat_map};
 ghost use Rattle.std.specs.Fmt.{decimal};
-ghost use Rattle.kt_script.specs.Texts.{line, spaced, words, row_text, outcome_word, line_words, lines_text, told_session, told_sessions, event_line, last_text, seen, output_text};
+ghost use Rattle.kt_script.specs.Texts.{line, words, row_text, outcome_word, line_words, lines_text, told_session, told_sessions, event_line, last_text, seen, output_text};
 
 use crate::lists::{ReplyLists, ShownReply};
 use crate::number::print_number;
@@ -14,28 +14,21 @@ use std::alloc::Global;
 
 /// The end of the output: the ancient history mark, the last timestamp and the count of disk rowsets, or that
 /// the run was stopped.
-#[derive(Clone, Copy, Debug, PartialEq, Eq)]
+#[derive(Clone, Copy)]
 pub enum LastLine {
     Numbers { a: u64, c: u64, rowsets: u64 },
     Stopped,
-}
-
-// A space and a number for each of these.
-fn print_numbers(numbers: &[u64], out: &mut Octets) -> Result<(), NoMemory>
-    ensures ok { OnOk result (out.new ≡ out.old ++ flat_map spaced (map decimal numbers.now)) }
-{
-    for number in numbers {
-        out.push(b' ')?;
-        print_number(*number, out)?;
-    }
-    Ok(())
 }
 
 fn print_words(word: &[u8], numbers: &[u64], out: &mut Octets) -> Result<(), NoMemory>
     ensures ok { OnOk result (out.new ≡ out.old ++ words (word.now ∷ map decimal numbers.now)) }
 {
     out.extend(word)?;
-    print_numbers(numbers, out)
+    for number in numbers {
+        out.push(b' ')?;
+        print_number(*number, out)?;
+    }
+    Ok(())
 }
 
 fn print_line(word: &[u8], numbers: &[u64], out: &mut Octets) -> Result<(), NoMemory>
@@ -45,55 +38,30 @@ fn print_line(word: &[u8], numbers: &[u64], out: &mut Octets) -> Result<(), NoMe
     out.push(b'\n')
 }
 
-// A line of a word and one number.
-fn print_one(word: &[u8], number: u64, out: &mut Octets) -> Result<(), NoMemory>
-    ensures ok { OnOk result (out.new ≡ out.old ++ line (words (word.now ∷ decimal number ∷ []))) }
-{
-    print_line(word, &[number], out)
-}
-
-// A line of a word and two numbers.
-fn print_two(word: &[u8], first: u64, second: u64, out: &mut Octets) -> Result<(), NoMemory>
-    ensures ok { OnOk result (out.new ≡ out.old ++ line (words (word.now ∷ decimal first ∷ decimal second ∷ []))) }
-{
-    print_line(word, &[first, second], out)
-}
-
-// The line of an event that has a number beside its session and its command.
-fn print_told(word: &[u8], s: u32, i: u32, number: u64, out: &mut Octets) -> Result<(), NoMemory>
-    ensures ok { OnOk result (out.new ≡ out.old ++ line (words (word.now ∷ decimal s ∷ decimal i ∷ decimal number ∷ []))) }
-{
-    print_line(word, &[u64::from(s), u64::from(i), number], out)
-}
-
-// The line of an event that has two.
-fn print_both(
-    word: &[u8],
-    s: u32,
-    i: u32,
-    first: u64,
-    second: u64,
-    out: &mut Octets,
-) -> Result<(), NoMemory>
-    ensures ok { OnOk result (out.new ≡ out.old ++ line (words (word.now ∷ decimal s ∷ decimal i ∷ decimal first ∷ decimal second ∷ []))) }
-{
-    print_line(word, &[u64::from(s), u64::from(i), first, second], out)
-}
-
 fn print_event(event: &Event, out: &mut Octets) -> Result<(), NoMemory>
     ensures ok { OnOk result (out.new ≡ out.old ++ event_line event.now) }
 {
     match *event {
-        Event::Begin { s, i, ts, m } => print_both(b"begin", s, i, ts, m, out),
-        Event::End { s, i, ts } => print_told(b"end", s, i, ts, out),
-        Event::Look { s, i, t, m } => print_both(b"look", s, i, t, m, out),
-        Event::Rows { s, i, t } => print_told(b"rows", s, i, t, out),
-        Event::Ancient { s, i, t, a } => print_both(b"ancient", s, i, t, a, out),
-        Event::Busy { s, i, t, f } => print_both(b"busy", s, i, t, f, out),
-        Event::Mark { s, i, a } => print_told(b"mark", s, i, a, out),
-        Event::Chore { s, i } => print_two(b"chore", u64::from(s), u64::from(i), out),
-        Event::Large { s, i, n } => print_told(b"large", s, i, u64::from(n), out),
-        Event::Stop => out.extend(b"stop\n"),
+        Event::Begin { s, i, ts, m } => {
+            print_line(b"begin", &[u64::from(s), u64::from(i), ts, m], out)
+        }
+        Event::End { s, i, ts } => print_line(b"end", &[u64::from(s), u64::from(i), ts], out),
+        Event::Look { s, i, t, m } => {
+            print_line(b"look", &[u64::from(s), u64::from(i), t, m], out)
+        }
+        Event::Rows { s, i, t } => print_line(b"rows", &[u64::from(s), u64::from(i), t], out),
+        Event::Ancient { s, i, t, a } => {
+            print_line(b"ancient", &[u64::from(s), u64::from(i), t, a], out)
+        }
+        Event::Busy { s, i, t, f } => {
+            print_line(b"busy", &[u64::from(s), u64::from(i), t, f], out)
+        }
+        Event::Mark { s, i, a } => print_line(b"mark", &[u64::from(s), u64::from(i), a], out),
+        Event::Chore { s, i } => print_line(b"chore", &[u64::from(s), u64::from(i)], out),
+        Event::Large { s, i, n } => {
+            print_line(b"large", &[u64::from(s), u64::from(i), u64::from(n)], out)
+        }
+        Event::Stop => print_line(b"stop", &[], out),
     }
 }
 
@@ -113,7 +81,7 @@ fn print_last(last: &LastLine, out: &mut Octets) -> Result<(), NoMemory>
         LastLine::Numbers { a, c, rowsets } => {
             print_words(b"tablet ahm", &[a], out)?;
             print_words(b" last", &[c], out)?;
-            print_one(b" rowsets", rowsets, out)
+            print_line(b" rowsets", &[rowsets], out)
         }
         LastLine::Stopped => out.extend(b"tablet stopped\n"),
     }
@@ -178,13 +146,13 @@ fn print_first(shown: &ShownReply, out: &mut Octets) -> Result<(), NoMemory>
 {
     match &shown.reply {
         Reply::At { ts, outcomes } => print_at(*ts, outcomes.as_slice(), out),
-        Reply::Rows { t, rows } => print_two(b"rows", *t, rows.len() as u64, out),
-        Reply::Ancient { t, a } => print_two(b"ancient", *t, *a, out),
-        Reply::Busy { t, f } => print_two(b"busy", *t, *f, out),
-        Reply::Ahm { a } => print_one(b"ahm", *a, out),
-        Reply::Done => out.extend(b"done\n"),
-        Reply::Large { n } => print_one(b"large", u64::from(*n), out),
-        Reply::Stopped => out.extend(b"stopped\n"),
+        Reply::Rows { t, rows } => print_line(b"rows", &[*t, rows.len() as u64], out),
+        Reply::Ancient { t, a } => print_line(b"ancient", &[*t, *a], out),
+        Reply::Busy { t, f } => print_line(b"busy", &[*t, *f], out),
+        Reply::Ahm { a } => print_line(b"ahm", &[*a], out),
+        Reply::Done => print_line(b"done", &[], out),
+        Reply::Large { n } => print_line(b"large", &[u64::from(*n)], out),
+        Reply::Stopped => print_line(b"stopped", &[], out),
     }
 }
 
@@ -210,7 +178,7 @@ fn print_replies(replies: &[ShownReply], out: &mut Octets) -> Result<(), NoMemor
 fn print_session(number: u64, replies: &[ShownReply], out: &mut Octets) -> Result<(), NoMemory>
     ensures ok { OnOk result (out.new ≡ out.old ++ told_session number (map seen replies.now)) }
 {
-    print_one(b"session", number, out)?;
+    print_line(b"session", &[number], out)?;
     print_replies(replies, out)
 }
 

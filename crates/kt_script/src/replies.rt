@@ -6,7 +6,7 @@ use kt_history::OutcomeList;
 use std::marker::Model;
 
 /// Lines, without their newlines. Contracts see them as a list of byte lists.
-#[derive(Debug, Drop)]
+#[derive(Drop)]
 pub struct LineList {
     lines: Vec<Octets>,
 }
@@ -35,7 +35,7 @@ impl LineList {
 }
 
 /// The answer to a command. A scan's rows are their lines.
-#[derive(Debug, Drop)]
+#[derive(Drop)]
 pub enum ReplyLine {
     At { ts: u64, outcomes: OutcomeList },
     Rows { t: u64, lines: LineList },
@@ -48,7 +48,7 @@ pub enum ReplyLine {
 }
 
 /// The replies of one session. Contracts see them as a list.
-#[derive(Debug, Drop)]
+#[derive(Drop)]
 pub struct ReplyLineList {
     replies: Vec<ReplyLine>,
 }
@@ -78,7 +78,7 @@ impl ReplyLineList {
 }
 
 /// The replies of every session. Contracts see them as one list of replies per session.
-#[derive(Debug, Drop)]
+#[derive(Drop)]
 pub struct ReplyLines {
     sessions: Vec<ReplyLineList>,
 }

@@ -19,7 +19,7 @@ use std::alloc::Global;
 use thiserror::Error;
 
 /// What an output text tells.
-#[derive(Debug, Drop)]
+#[derive(Drop)]
 pub struct Output {
     pub replies: ReplyLines,
     pub events: EventList,

@@ -141,8 +141,8 @@ fn read_name<'a>(
         return Ok(());
     };
     if no.is_above(13) {
-        push(seen, name)?;
-        push(ids, column.id)?;
+        seen.push(name)?;
+        ids.push(column.id)?;
     }
     Ok(())
 }

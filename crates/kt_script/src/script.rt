@@ -28,7 +28,7 @@ use kt_schema::Schema;
 use std::alloc::Global;
 
 /// What a script says: its table, and the commands of each session.
-#[derive(Debug, Drop)]
+#[derive(Drop)]
 pub struct Script {
     pub schema: Schema,
     pub plan: Plan,
@@ -180,17 +180,21 @@ fn read_lines(
     }
 }
 
-// The lines below the columns.
-fn read_body(alloc: Global, schema: &Schema, text: &[u8]) -> Result<Plan, ScriptNo>
+// The lines below the columns. The buffers are for the operations of a line.
+fn read_body(
+    alloc: Global,
+    schema: &Schema,
+    text: &[u8],
+    op: &mut SpelledOp,
+) -> Result<Plan, ScriptNo>
     requires short { length text.now ≤ most_bytes }
     requires table { IsTable schema.now }
     requires key { list_any (λ c. c.key) schema.now ≡ true }
     requires first { begins_column (first_piece (cut 10 text.now)) ≡ false }
     ensures { IsBodyRead schema.now (length schema.now + 2) text.now result }
 {
-    let mut op = SpelledOp::of(alloc, schema)?;
     let mut sessions = Sessions::none(alloc);
-    read_lines(alloc, schema, text, &mut sessions, &mut op)?;
+    read_lines(alloc, schema, text, &mut sessions, op)?;
     Ok(sessions.into_plan()?)
 }
 
@@ -207,6 +211,7 @@ pub fn read_script(alloc: Global, text: &[u8]) -> Result<Script, ScriptNo>
         });
     }
     let Table { schema, rest } = read_table(alloc, text)?;
-    let plan = read_body(alloc, &schema, rest)?;
+    let mut op = SpelledOp::new(alloc);
+    let plan = read_body(alloc, &schema, rest, &mut op)?;
     Ok(Script { schema, plan })
 }

@@ -8,7 +8,7 @@ ghost use Rattle.kt_script.specs.Writes.{is_sign, name_in, behind_name};
 ghost use Rattle.kt_script.specs.Scans.{behind_word, asking_view, is_asked, null_asked, taken_view, pred_at};
 
 use crate::asked::{Question, signed};
-use crate::word::next_word;
+use crate::word::{is_word, next_word};
 use kt_schema::is_name;
 
 /// A test, and what is left of the line behind it.
@@ -44,7 +44,11 @@ fn behind_word<'a>(rest: Option<&'a [u8]>, first: &[u8]) -> Option<Option<&'a [u
     ensures { option_map words_in result ≡ behind_word first.now (words_in rest.entry) }
 {
     let (word, behind) = next_word(rest)?;
-    if word == first { Some(behind) } else { None }
+    if is_word(word, first) {
+        Some(behind)
+    } else {
+        None
+    }
 }
 
 // Behind `is`.

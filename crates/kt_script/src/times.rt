@@ -7,6 +7,7 @@ ghost use Rattle.kt_script.specs.Pieces.{words_in};
 ghost use Rattle.kt_script.specs.Times.{IsTime, ReadsMark};
 
 use crate::columns::LineNo;
+use crate::lex::is_digit;
 use crate::number::read_number;
 use crate::word::next_word;
 use kt_base::limits::TIME_MOST;
@@ -19,12 +20,6 @@ pub enum Time {
     /// A number above the latest time that may be named.
     TooLate,
     NoTime,
-}
-
-fn is_digit(byte: u8) -> bool
-    ensures { result ≡ is_digit byte }
-{
-    b'0' <= byte && byte <= b'9'
 }
 
 fn are_digits(bytes: &[u8]) -> bool

@@ -29,9 +29,6 @@ use kt_history::{OpKind, OpList, OpRef, Write};
 use kt_schema::Schema;
 use std::alloc::Global;
 
-// The bytes for which room is made for each cell. A number under its id takes 11, a text 7 and its bytes.
-const CELL_ROOM: usize = 24;
-
 /// An operation as bytes spell it, in buffers that are filled anew for each operation of a script: the cells of its key,
 /// the encoded key, and its other cells behind their count.
 #[derive(Drop)]
@@ -43,17 +40,14 @@ pub(crate) struct SpelledOp {
 }
 
 impl SpelledOp {
-    /// Buffers with room for the operations of a table.
-    pub(crate) fn of(alloc: Global, schema: &Schema) -> Result<SpelledOp, NoMemory> {
-        let key_cells = Vec::with_capacity(alloc, schema.key_kinds().len())?;
-        let mut cells = Octets::new(alloc);
-        cells.reserve(2 + CELL_ROOM * schema.other_columns().len())?;
-        Ok(SpelledOp {
+    /// Empty buffers, which take no memory yet.
+    pub(crate) fn new(alloc: Global) -> SpelledOp {
+        SpelledOp {
             kind: OpKind::Delete,
-            key_cells,
+            key_cells: Vec::new(alloc),
             key: Octets::new(alloc),
-            cells: Tail::of(cells),
-        })
+            cells: Tail::of(Octets::new(alloc)),
+        }
     }
 }
 
@@ -198,34 +192,28 @@ fn read_op<'a>(
     }
 }
 
-// Room for so many operations of so many bytes, where there are none yet.
-fn make_room(alloc: Global, ops: &mut OpList, count: usize, bytes: usize) -> Result<(), NoMemory>
+// Room for one operation of so many bytes, where there is none yet.
+fn make_room(alloc: Global, ops: &mut OpList, bytes: usize) -> Result<(), NoMemory>
     ensures { OnOk result (ops.new ≡ ops.old) }
 {
     if ops.is_empty() {
-        *ops = OpList::with_capacity(alloc, count, bytes)?;
+        *ops = OpList::with_capacity(alloc, 1, bytes)?;
     }
     Ok(())
 }
 
-// Adds an operation as it is spelled. For the first one room is made for so many that are as long.
-fn push_op(alloc: Global, ops: &mut OpList, op: &SpelledOp, count: usize) -> Result<(), NoMemory>
+// Adds an operation as it is spelled.
+fn push_op(alloc: Global, ops: &mut OpList, op: &SpelledOp) -> Result<(), NoMemory>
     requires { HasSpelling op.now }
     ensures { OnOk result (ops.new ≡ ops.old ++ spelled_op op.now ∷ []) }
 {
     let spelled = OpRef::of(op.kind, op.key.as_slice(), op.cells.added());
-    make_room(alloc, ops, count, count.saturating_mul(spelled.len()))?;
+    make_room(alloc, ops, spelled.len())?;
     ops.push(&spelled)
 }
 
 // Keeps an operation, if there is room for it. One that a reason up to 17 refuses is not kept.
-fn keep_op(
-    alloc: Global,
-    ops: &mut OpList,
-    op: &SpelledOp,
-    count: usize,
-    no: &mut Least,
-) -> Result<(), NoMemory>
+fn keep_op(alloc: Global, ops: &mut OpList, op: &SpelledOp, no: &mut Least) -> Result<(), NoMemory>
     requires held { length ops.old ≤ 64 }
     requires fits { 17 < no.old → HasSpelling op.now }
     ensures least { OnOk result (no.new ≡ min no.old (reason_if (nat_lt 63 (length ops.old)) 18)) }
@@ -239,27 +227,10 @@ fn keep_op(
     }
     no.note(None);
     if no.is_above(17) {
-        push_op(alloc, ops, op, count)
+        push_op(alloc, ops, op)
     } else {
         Ok(())
     }
-}
-
-fn len_of(rest: Option<&[u8]>) -> usize {
-    match rest {
-        Some(text) => text.len(),
-        None => 0,
-    }
-}
-
-// How many operations like the one in front of what is left there may be, one at least.
-fn like_first(line: Option<&[u8]>, left: Option<Option<&[u8]>>) -> usize {
-    let Some(rest) = left else {
-        return 1;
-    };
-    let more = len_of(rest);
-    let first = len_of(line).saturating_sub(more).max(1);
-    1 + (more / first).min(OPERATIONS)
 }
 
 // Adds the operations of a line. They count only where no reason up to 18 holds.
@@ -279,7 +250,7 @@ fn add_ops(
     let mut left = Some(line);
     'ops: while let Some(rest) = left {
         left = read_op(alloc, schema, rest, op, no)?;
-        keep_op(alloc, ops, op, like_first(rest, left), no)?;
+        keep_op(alloc, ops, op, no)?;
     }
     no.note(None);
     Ok(())

@@ -14,8 +14,8 @@ loop-column-preserved c =
     let cells = rw (is, cut.0) at before.cells in
     let least = rw (is, cut.0) at before.least in
     record {
-      cells = ap (λ xs. xs ++ later) c.in_ok-push.ensures ∙ (append_assoc c.loop-column.cells.items _ _ ∙ (ap (λ x. c.loop-column.cells.items ++ (x ∷ later)) c.in_ok-cell.ensures.cell ∙ cells));
+      cells = ap (λ xs. xs ++ later) c.in_ok-push.ensures.items ∙ (append_assoc c.loop-column.cells.items _ _ ∙ (ap (λ x. c.loop-column.cells.items ++ (x ∷ later)) c.in_ok-read_cell.ensures.cell ∙ cells));
       behind = rw (is, cut.0) at before.behind;
       later = cut.1 ∙ before.later;
-      least = omega (arith, least, c.in_ok-cell.ensures.least);
+      least = omega (arith, least, c.in_ok-read_cell.ensures.least);
     }

@@ -1,6 +1,6 @@
 use Rattle.std.proofs.Common.{◌≡◌, ◌++◌, min, length, drop}
 use Rattle.kt_script.specs.Writes.{cells_no, cells_of, under, op_in, later_in}
-use Rattle.kt_script.proofs.operations.add_others.Given as goal
+use Rattle.kt_script.proofs.operations.take_others.Given as goal
 
 -- what the columns that are left find in the words that are left
 abbrev pub invariant-loop-column : goal.invariant-loop-column

@@ -1,7 +1,7 @@
 use Rattle.std.proofs.Common.{◌∙◌, ◌+◌, ◌++◌, ◌∷◌, drop, ap, append_assoc, arith}
 use Rattle.kt_script.specs.Writes.{cells_of, under, op_in}
 use Rattle.kt_script.proofs.OpWords.{next_column}
-use Rattle.kt_script.proofs.operations.add_others.Goals as goal
+use Rattle.kt_script.proofs.operations.take_others.Goals as goal
 
 pub loop-column-preserved : goal.loop-column-preserved
 loop-column-preserved c =
@@ -16,8 +16,8 @@ loop-column-preserved c =
     let cells = rw (is, cut.0) at before.cells in
     let least = rw (is, cut.0) at before.least in
     record {
-      cells = ap (λ xs. xs ++ under more (cells_of more behind)) c.in_ok-push.ensures ∙ (append_assoc c.loop-column.cells.items _ _ ∙ (ap (λ x. c.loop-column.cells.items ++ ((column.id, x) ∷ under more (cells_of more behind))) c.in_ok-cell.ensures.cell ∙ cells));
+      cells = ap (λ xs. xs ++ under more (cells_of more behind)) c.in_ok-push.ensures.items ∙ (append_assoc c.loop-column.cells.items _ _ ∙ (ap (λ x. c.loop-column.cells.items ++ ((column.id, x) ∷ under more (cells_of more behind))) c.in_ok-read_cell.ensures.cell ∙ cells));
       behind = rw (is, cut.0) at before.behind;
       later = cut.1 ∙ before.later;
-      least = omega (arith, least, c.in_ok-cell.ensures.least);
+      least = omega (arith, least, c.in_ok-read_cell.ensures.least);
     }
