@@ -9,7 +9,7 @@ use Rattle.kt_pool.specs.Contents.{Contents, at_cell}
 use Rattle.kt_stores.specs.Shelf.{Shelved}
 use Rattle.kt_stores.specs.Parts.{shelved, shelved_mem, stands_by, owns_by, read_by}
 use Rattle.kt_stores.proofs.Beside.{Stays, IsPlaced}
-use Rattle.kt_stores.specs.Placed.{is_placed}
+use Rattle.kt_stores.proofs.Placed.{is_placed}
 
 pub stays_of : {R : Type 0} (stands : R → Contents → Type 0) (owns : R → Contents → ℕ → Type 0) (target : R → Target) (store : R → Contents → Store) (closed : R → Bool) (cells : R → Contents → ℕ)
     → ((s : R) (old new : Contents) → stands s old → ((k : ℕ) → owns s old k → at_cell new k ≡ at_cell old k) → stands s new × (store s new ≡ store s old) × (cells s new ≡ cells s old) × ((k : ℕ) → owns s new k ↔ owns s old k))

@@ -8,7 +8,7 @@ use Rattle.kt_memrowset.specs.Stores.{IsStore, Owns, cells_had}
 use Rattle.kt_pool.specs.Contents.{Contents, at_cell, used}
 use Rattle.kt_stores.specs.Shelf.{Shelved, AreClosed, AreExact, FirstIsOpen, cells_in, without_frozen}
 use Rattle.kt_stores.specs.Parts.{kept, stands_by, owns_by, read_by, shelved_mem, shelf_of, AllStand, OwnedBy, AreApart, AreKept, AreEmptied}
-use Rattle.kt_stores.specs.Placed.{is_placed}
+use Rattle.kt_stores.proofs.Placed.{is_placed}
 use Rattle.kt_stores.proofs.Beside.{Stays, IsPlaced, all_stay}
 use Rattle.kt_stores.proofs.Either.{mem_stays}
 

@@ -1,3 +1,4 @@
+pub mod Placed
 pub mod Beside
 pub mod Either
 pub mod Ordered

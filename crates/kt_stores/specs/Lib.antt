@@ -1,3 +1,2 @@
 pub mod Shelf
 pub mod Parts
-pub mod Placed

@@ -128,6 +128,7 @@ impl<R: ShelfStore> Stores<R> {
         ensures says { MatchResult result (λ _. Unit {0}) (λ e. (e.need ≡ n) × (e.free ≡ free self.old.pool - self.old.pool.reserved)) }
     {
         R::frame_law();
+        R::placed_law();
         self.pool.reserve(n)
     }
 
@@ -137,6 +138,7 @@ impl<R: ShelfStore> Stores<R> {
         ensures { self.new ≡ record self.old { pool = with_reserved self.old.pool (self.old.pool.reserved - n) } }
     {
         R::frame_law();
+        R::placed_law();
         self.pool.release(n);
     }
 

@@ -49,6 +49,7 @@ impl<R: ShelfStore> Stores<R> {
         ensures size { length self.new.pool.places ≡ length self.old.pool.places }
     {
         R::frame_law();
+        R::placed_law();
         empty_all(&mut self.frozen, &mut self.pool);
     }
 }

@@ -114,6 +114,7 @@ impl<R: ShelfStore> Stores<R> {
         ensures idle { result.target ≡ None → self.new ≡ self.old }
     {
         R::frame_law();
+        R::placed_law();
         let at = self.place(op.key());
         take_at(
             &mut self.active,

@@ -23,7 +23,7 @@ pub invariant_of-self : goal.invariant_of-self
 invariant_of-self g c =
     let r = g.R.RowStore in
     let i = c.self.inside in
-    let without = kept_without r.stands r.owns (shelved r.target r.store r.is_closed r.cells) (stay r.stands r.owns r.target r.store r.is_closed r.cells c.frame_law.ensures g.met.R.ShelfStore.placed) (placed_by r.stands r.owns (shelved r.target r.store r.is_closed r.cells) g.met.R.ShelfStore.placed)
+    let without = kept_without r.stands r.owns (shelved r.target r.store r.is_closed r.cells) (stay r.stands r.owns r.target r.store r.is_closed r.cells c.frame_law.ensures c.placed_law.ensures) (placed_by r.stands r.owns (shelved r.target r.store r.is_closed r.cells) c.placed_law.ensures)
     i.active i.frozen.items i.rowsets.items i.pool c.empty_all.new.pool c.self.invariant.0 c.empty_all.ensures.emptied in
     (kept_along r.stands r.owns (shelved r.target r.store r.is_closed r.cells) i.active [] c.empty_all.new.stores.items i.rowsets.items i.rowsets.items c.empty_all.new.pool (sym c.empty_all.ensures.none) refl without.0, c.self.invariant.1)
 
@@ -31,6 +31,6 @@ pub returns-clause-shelf : goal.returns-clause-shelf
 returns-clause-shelf g c =
     let r = g.R.RowStore in
     let i = c.self.inside in
-    let without = kept_without r.stands r.owns (shelved r.target r.store r.is_closed r.cells) (stay r.stands r.owns r.target r.store r.is_closed r.cells c.frame_law.ensures g.met.R.ShelfStore.placed) (placed_by r.stands r.owns (shelved r.target r.store r.is_closed r.cells) g.met.R.ShelfStore.placed)
+    let without = kept_without r.stands r.owns (shelved r.target r.store r.is_closed r.cells) (stay r.stands r.owns r.target r.store r.is_closed r.cells c.frame_law.ensures c.placed_law.ensures) (placed_by r.stands r.owns (shelved r.target r.store r.is_closed r.cells) c.placed_law.ensures)
     i.active i.frozen.items i.rowsets.items i.pool c.empty_all.new.pool c.self.invariant.0 c.empty_all.ensures.emptied in
     ap (λ fs. shelf_of (read_by (shelved r.target r.store r.is_closed r.cells)) c.empty_all.new.pool (kept i.active fs i.rowsets.items)) c.empty_all.ensures.none ∙ without.1 ∙ ap (λ (v : StoresView). without_frozen v.frozen v.shelf) c.self.view_is

@@ -9,12 +9,12 @@ invariant_of-self g c =
     let r = g.R.RowStore in
     let i = c.self.inside in
     let same = ap (λ (p : Contents). p.places) c.release.ensures in
-    ((pool_same r.stands r.owns r.target r.store r.is_closed r.cells c.frame_law.ensures g.met.R.ShelfStore.placed i.active i.frozen.items i.rowsets.items i.pool c.release.new.self c.self.invariant.0 same).0, c.self.invariant.1)
+    ((pool_same r.stands r.owns r.target r.store r.is_closed r.cells c.frame_law.ensures c.placed_law.ensures i.active i.frozen.items i.rowsets.items i.pool c.release.new.self c.self.invariant.0 same).0, c.self.invariant.1)
 
 pub returns : goal.returns
 returns g c =
     let r = g.R.RowStore in
     let i = c.self.inside in
     let same = ap (λ (p : Contents). p.places) c.release.ensures in
-    let shelf = (pool_same r.stands r.owns r.target r.store r.is_closed r.cells c.frame_law.ensures g.met.R.ShelfStore.placed i.active i.frozen.items i.rowsets.items i.pool c.release.new.self c.self.invariant.0 same).1 in
+    let shelf = (pool_same r.stands r.owns r.target r.store r.is_closed r.cells c.frame_law.ensures c.placed_law.ensures i.active i.frozen.items i.rowsets.items i.pool c.release.new.self c.self.invariant.0 same).1 in
     (λ k. record { pool = c.release.ensures k; shelf = shelf k; frozen = length i.frozen.items }) ∙ ap (λ (v : StoresView). record { pool = with_reserved v.pool (v.pool.reserved - c.args.n); shelf = v.shelf; frozen = v.frozen }) c.self.view_is

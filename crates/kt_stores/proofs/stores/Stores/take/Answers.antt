@@ -22,7 +22,7 @@ invariant_of-self g c =
     let i = c.self.inside in
     let same : kept i.active c.deref_mut.result.now c.deref_mut-2.result.now ≡ kept i.active i.frozen.items i.rowsets.items = λ k. kept i.active (c.deref_mut.ensures.value k) (c.deref_mut-2.ensures.value k) in
     let t = subst (λ xs. HasTakenAt (stands_by r.stands) (owns_by r.owns) (read_by (shelved r.target r.store r.is_closed r.cells)) c.place-at.result xs (kept c.take_at.new.active c.take_at.new.frozen c.take_at.new.rowsets) i.pool c.take_at.new.pool c.args.ts c.args.op.now c.take_at.result) same c.take_at.ensures in
-    let after = kept_after (stands_by r.stands) (owns_by r.owns) (read_by (shelved r.target r.store r.is_closed r.cells)) (stay r.stands r.owns r.target r.store r.is_closed r.cells c.frame_law.ensures g.met.R.ShelfStore.placed) (placed_by r.stands r.owns (shelved r.target r.store r.is_closed r.cells) g.met.R.ShelfStore.placed)
+    let after = kept_after (stands_by r.stands) (owns_by r.owns) (read_by (shelved r.target r.store r.is_closed r.cells)) (stay r.stands r.owns r.target r.store r.is_closed r.cells c.frame_law.ensures c.placed_law.ensures) (placed_by r.stands r.owns (shelved r.target r.store r.is_closed r.cells) c.placed_law.ensures)
     c.place-at.result (kept i.active i.frozen.items i.rowsets.items) (kept c.take_at.new.active c.take_at.new.frozen c.take_at.new.rowsets) i.pool c.take_at.new.pool c.args.ts c.args.op.now c.take_at.result c.self.invariant.0 t in
     let many = ap length c.deref_mut-2.ensures.value in
     let frozen = written_back i.frozen.items i.frozen.len c.take_at.new.frozen (omega (arith, i.frozen.ok)) (let e = ap length c.deref_mut.ensures.value in omega (arith, c.take_at.auto.frozen)) in
@@ -36,7 +36,7 @@ returns g c =
     let same : kept i.active c.deref_mut.result.now c.deref_mut-2.result.now ≡ kept i.active i.frozen.items i.rowsets.items = λ k. kept i.active (c.deref_mut.ensures.value k) (c.deref_mut-2.ensures.value k) in
     let t = subst (λ xs. HasTakenAt (stands_by r.stands) (owns_by r.owns) (read_by (shelved r.target r.store r.is_closed r.cells)) c.place-at.result xs (kept c.take_at.new.active c.take_at.new.frozen c.take_at.new.rowsets) i.pool c.take_at.new.pool c.args.ts c.args.op.now c.take_at.result) same c.take_at.ensures in
     let e = c.place-at.ensures.place ∙ ap (λ q. place_of q (stores_of c.args.self.now)) c.key.ensures ∙ ap (λ (v : StoresView). place_of c.args.op.now.key (stores_of v)) (sym c.self.view_is) in
-    let took = at_place (stands_by r.stands) (owns_by r.owns) (read_by (shelved r.target r.store r.is_closed r.cells)) (stay r.stands r.owns r.target r.store r.is_closed r.cells c.frame_law.ensures g.met.R.ShelfStore.placed) (placed_by r.stands r.owns (shelved r.target r.store r.is_closed r.cells) g.met.R.ShelfStore.placed)
+    let took = at_place (stands_by r.stands) (owns_by r.owns) (read_by (shelved r.target r.store r.is_closed r.cells)) (stay r.stands r.owns r.target r.store r.is_closed r.cells c.frame_law.ensures c.placed_law.ensures) (placed_by r.stands r.owns (shelved r.target r.store r.is_closed r.cells) c.placed_law.ensures)
     (length i.frozen.items) c.place-at.result (kept i.active i.frozen.items i.rowsets.items) (kept c.take_at.new.active c.take_at.new.frozen c.take_at.new.rowsets) i.pool c.take_at.new.pool c.args.ts c.args.op.now c.take_at.result c.self.invariant.0 t e in
     let frozen = written_back i.frozen.items i.frozen.len c.take_at.new.frozen (omega (arith, i.frozen.ok)) (let e = ap length c.deref_mut.ensures.value in omega (arith, c.take_at.auto.frozen)) in
     let rowsets = written_back i.rowsets.items i.rowsets.len c.take_at.new.rowsets (omega (arith, i.rowsets.ok)) (let e = ap length c.deref_mut-2.ensures.value in omega (arith, c.take_at.auto.rowsets)) in
