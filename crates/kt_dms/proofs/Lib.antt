@@ -5,3 +5,4 @@ pub mod Joining
 pub mod Releasing
 pub mod Listing
 pub mod Spelling
+pub mod RowsJoined
