@@ -2,8 +2,8 @@
 //! which says what became of each operation and which stores it changed.
 //!
 //! For the layers above: `spell` appends the one spelling of a record, and `read_record` answers a record exactly
-//! where its bytes are that spelling, or the place of the first fault. It stands on kt_bytes, kt_base, kt_cells and
-//! kt_history.
+//! where its bytes are that spelling, or the place of the first fault. `LogRecords` are records that were read, which share
+//! their lists. It stands on kt_bytes, kt_base, kt_cells and kt_history.
 #![tactic(auto)]
 
 pub mod entry;
