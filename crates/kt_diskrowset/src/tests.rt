@@ -1,7 +1,9 @@
 //! A row that was inserted, updated, flushed, updated again and deleted, read from its files.
-use crate::{FileHeld, FileLists, row_at};
+use crate::{FileHeld, FileLists, is_live_after, row_after, row_at};
 use kt_base::{Cell, Cells, Octets};
 use kt_deltafile::decode;
+use kt_dms::DeltaMem;
+use kt_pool::Pool;
 use std::alloc::Global;
 use std::sync::Arc;
 use std::test::Fail;
@@ -86,5 +88,17 @@ fn a_row_is_read_from_its_files(rt: HostRuntime) -> Result<(), Fail> {
         let row = row_at(alloc, &undo, &redo, ordinal, base_of(alloc)?, t)?;
         assert!(rt; is_text(row.as_ref(), text), "row {ordinal} at {t}");
     }
+    Ok(())
+}
+
+#[test]
+fn a_row_with_no_change_in_memory_is_as_before(rt: HostRuntime) -> Result<(), Fail> {
+    let alloc = rt.alloc();
+    let pool = Pool::new(alloc, 4)?;
+    let mems = [DeltaMem::new(1), DeltaMem::new(2)];
+    let row = row_after(alloc, &pool, &mems, 1, Some(base_of(alloc)?), 8192)?;
+    assert!(rt; is_text(row.as_ref(), Some(b"b")));
+    assert!(rt; is_live_after(&pool, &mems, 1, true));
+    assert!(rt; !is_live_after(&pool, &mems, 1, false));
     Ok(())
 }
