@@ -12,7 +12,7 @@ use Rattle.kt_base.proofs.cell.Cells.TheSendSync as cells
 use Rattle.kt_mvcc.proofs.flight.Flight.TheSendSync as flight
 use Rattle.kt_records.proofs.entry.Entry.TheSendSync as entry
 use Rattle.kt_journal.proofs.journal.Journal.TheSendSync as journal
-use Rattle.kt_tablet.specs.declared.store.ChangeStore as ChangeStore
+use Rattle.kt_history.specs.declared.row_store.RowStore as RowStore
 use Rattle.kt_disk.specs.declared.disk.Disk as Disk
 use Rattle.kt_tablet.specs.contracts.tablet.Tablet as Tablet
 use Rattle.kt_tablet.specs.contracts.tablet.Tablet.TheInside as Inside
@@ -27,9 +27,9 @@ use Rattle.kt_seatlock.proofs.lock.SeatLock.TheSendSync as lock
 use Rattle.kt_history.specs.contracts.event.Event as Event
 use Rattle.kt_engine.specs.contracts.shared.Part as Part
 use Rattle.kt_serve.specs.contracts.tablet.SharedTablet as SharedTablet
-use Rattle.kt_tablet.specs.contracts.store.MemRowSetChangeStore.TheImpl.{ghosts}
+use Rattle.kt_memrowset.specs.contracts.row_store.MemRowSetRowStore.TheImpl.{ghosts}
 
-module _ (S C : RattleType) (g : ChangeStore.Ghosts S.Denot) (h : Clock.Ghosts C.Denot) where
+module _ (S C : RattleType) (g : RowStore.Ghosts S.Denot) (h : Clock.Ghosts C.Denot) where
   pub tablet_send : IsSend S → IsSend C → IsSend (Tablet.the_row S C g h)
   tablet_send s c = view_send (Inside.the_row S C g h) _ _ _ _ (recorded_send (Inside.the_field S C g h).row _ _ (Inside.the_type S C g h).to_one (struct_send (shape (Inside.the_type S C g h)) (
     s,
