@@ -53,6 +53,7 @@ fn commit_into<'a>(rows: &mut Vec<CommitRow>, bytes: &'a [u8]) -> Result<(Head, 
     let (ts, rest) = u64_at(bytes)?;
     let (count, rest) = u16_at(rest)?;
     let first = rows.len();
+    rows.reserve(usize::from(count).min(rest.len() / 2))?;
     let rest = commit_rows_into(rows, count, rest)?;
     let count = rows.len() - first;
     Ok((Head::Commit { ts, first, count }, rest))
