@@ -17,7 +17,7 @@ pub enum Kind {
 }
 
 /// What stands in a row under one column.
-#[derive(Clone, Debug, Drop)]
+#[derive(Clone, Drop)]
 pub enum Cell {
     Null,
     Int(i64),
@@ -26,7 +26,7 @@ pub enum Cell {
 }
 
 /// Cells by rising column id. Contracts see them as a list of ids and cells.
-#[derive(Clone, Debug, Drop)]
+#[derive(Clone, Drop)]
 pub struct Cells {
     cells: Vec<(u16, Cell)>,
 }
@@ -41,7 +41,7 @@ impl Model for Cells {
 }
 
 /// The cells of a line of rows, or of a key. Contracts see them as a list.
-#[derive(Clone, Debug, Drop)]
+#[derive(Clone, Drop)]
 pub struct Row {
     cells: Vec<Cell>,
 }

@@ -6,7 +6,7 @@ use crate::{Cell, NoMemory, Octets};
 use std::alloc::Global;
 
 /// A cell that borrows its text, so that it is read without a copy.
-#[derive(Clone, Copy, Debug)]
+#[derive(Clone, Copy)]
 pub enum CellRef<'v> {
     Null,
     Int(i64),

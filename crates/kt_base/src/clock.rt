@@ -7,7 +7,7 @@ use crate::{Clock, ReadingList};
 /// Gives the readings of a list in turn, and then the last one again and again. Without one it reads 0.
 ///
 /// It tells its readings until the count of them ends.
-#[derive(Debug, Drop)]
+#[derive(Drop)]
 pub struct MemClock {
     readings: ReadingList,
     given: u64,

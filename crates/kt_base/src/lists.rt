@@ -4,7 +4,7 @@ ghost use Rattle.std.specs.Prelude.{◌≡◌};
 use std::marker::Model;
 
 /// The numbers of calls, counted from 1. Contracts see it as a list.
-#[derive(Debug, Drop)]
+#[derive(Drop)]
 pub struct CallList {
     calls: Vec<u64>,
 }
@@ -33,7 +33,7 @@ impl CallList {
 }
 
 /// Readings of a clock. Contracts see it as a list.
-#[derive(Debug, Drop)]
+#[derive(Drop)]
 pub struct ReadingList {
     readings: Vec<u64>,
 }

@@ -8,7 +8,7 @@ use crate::{CallList, Failed, NoMemory, Octets, Sink, Source};
 use std::alloc::Global;
 
 /// Counts the calls of something that fails at those which are listed.
-#[derive(Debug, Drop)]
+#[derive(Drop)]
 pub struct Fails {
     listed: CallList,
     calls: u64,
@@ -51,7 +51,7 @@ impl Fails {
 }
 
 /// A source over bytes in memory.
-#[derive(Debug, Drop)]
+#[derive(Drop)]
 pub struct MemSource {
     bytes: Octets,
     at: usize,
@@ -111,7 +111,7 @@ impl Source for MemSource {
 }
 
 /// A sink that keeps its bytes in memory.
-#[derive(Debug, Drop)]
+#[derive(Drop)]
 pub struct MemSink {
     bytes: Vec<u8>,
     room: usize,

@@ -5,14 +5,14 @@ use kt_base::{Cells, Octets};
 use std::marker::Model;
 
 /// A row: its encoded key, and its cells under the columns that are not the key's.
-#[derive(Debug, Drop)]
+#[derive(Drop)]
 pub struct KeyedRow {
     pub key: Octets,
     pub cells: Cells,
 }
 
 /// Rows by rising key. Contracts see them as a list.
-#[derive(Debug, Drop)]
+#[derive(Drop)]
 pub struct KeyedRows {
     rows: Vec<KeyedRow>,
 }

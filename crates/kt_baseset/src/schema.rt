@@ -5,7 +5,7 @@ use kt_base::Kind;
 use std::marker::Model;
 
 /// A column that is not part of the key.
-#[derive(Clone, Copy, Debug, PartialEq, Eq)]
+#[derive(Clone, Copy, PartialEq, Eq)]
 pub struct ColumnShape {
     pub id: u16,
     pub kind: Kind,
@@ -13,7 +13,7 @@ pub struct ColumnShape {
 }
 
 /// The columns that are not part of the key, by rising id. Contracts see them as a list.
-#[derive(Debug, Drop)]
+#[derive(Drop)]
 pub struct Schema1 {
     columns: Vec<ColumnShape>,
 }

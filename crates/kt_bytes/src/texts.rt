@@ -59,7 +59,7 @@ fn append_parts(bytes: &mut Vec<u8>, parts: &[&[u8]]) -> Result<(), AllocError>
 }
 
 /// A list of byte strings: the bytes of all of them in one buffer, and where each one ends. Contracts see it as the list.
-#[derive(Debug, Drop)]
+#[derive(Drop)]
 pub struct Texts {
     bytes: Vec<u8>,
     ends: Vec<usize>,

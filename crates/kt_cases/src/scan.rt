@@ -10,7 +10,7 @@ use std::alloc::{AllocError, Global};
 use std::test::Fail;
 
 // A view of one row, which lives from a time on.
-#[derive(Debug, Drop)]
+#[derive(Drop)]
 struct Single {
     key: Octets,
     from: u64,

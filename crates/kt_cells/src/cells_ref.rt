@@ -12,7 +12,7 @@ use byteorder::{ByteOrder, LittleEndian};
 use kt_base::CellRef;
 
 /// Cells as bytes spell them, read where they lie: as many as are left, from the front of the bytes on.
-#[derive(Clone, Copy, Debug)]
+#[derive(Clone, Copy)]
 pub struct CellsRef<'v> {
     left: u16,
     bytes: &'v [u8],

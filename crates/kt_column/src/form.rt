@@ -15,7 +15,7 @@ pub enum Form {
 }
 
 /// How the values of a block are written, with the number that stands in front of it.
-#[derive(Clone, Copy, Debug, PartialEq, Eq)]
+#[derive(Clone, Copy, PartialEq, Eq)]
 pub enum Encoding {
     Plain = 1,
     RunLength = 2,

@@ -7,7 +7,7 @@ use kt_history::{Delta, DeltaList};
 use std::marker::Model;
 
 /// Which way the records of a file lead: forward from the base file's rows, or backward.
-#[derive(Clone, Copy, Debug, PartialEq, Eq)]
+#[derive(Clone, Copy, PartialEq, Eq)]
 pub enum Way {
     /// By rising timestamp. No record is an insert.
     Redo,

@@ -9,7 +9,7 @@ use std::alloc::Global;
 use std::marker::Model;
 
 /// What a call did to its file that wrote no bytes.
-#[derive(Clone, Copy, Debug)]
+#[derive(Clone, Copy)]
 pub enum Plain {
     Cut(u64),
     Sync,
@@ -19,21 +19,21 @@ pub enum Plain {
 }
 
 /// What a call did to its file. What it wrote stands among the bytes of all writes.
-#[derive(Clone, Copy, Debug)]
+#[derive(Clone, Copy)]
 pub enum Deed {
     Write { at: u64, from: usize, len: usize },
     Plain(Plain),
 }
 
 /// A call on a file.
-#[derive(Clone, Copy, Debug)]
+#[derive(Clone, Copy)]
 pub struct Call {
     file: u64,
     deed: Deed,
 }
 
 /// Calls, the oldest first. Contracts see them as a list of events.
-#[derive(Debug, Drop)]
+#[derive(Drop)]
 pub struct CallList {
     calls: Vec<Call>,
     bytes: Vec<u8>,

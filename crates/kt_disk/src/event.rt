@@ -2,7 +2,7 @@
 use kt_base::Octets;
 
 /// What a call did to its file.
-#[derive(Debug, Drop)]
+#[derive(Drop)]
 pub enum Change {
     Write(u64, Octets),
     Cut(u64),
@@ -13,7 +13,7 @@ pub enum Change {
 }
 
 /// A call on a file.
-#[derive(Debug, Drop)]
+#[derive(Drop)]
 pub struct Event {
     pub file: u64,
     pub change: Change,

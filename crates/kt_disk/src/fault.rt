@@ -9,7 +9,7 @@ use kt_base::Failed;
 use std::alloc::Global;
 
 /// The calls that are to fail, and the calls so far.
-#[derive(Debug, Drop)]
+#[derive(Drop)]
 pub struct Plan {
     fails: FailList,
     calls: u64,

@@ -1,7 +1,7 @@
 //! Points at which a test may hold a run.
 
 /// A point that a run comes to.
-#[derive(Clone, Copy, Debug, PartialEq, Eq)]
+#[derive(Clone, Copy, PartialEq, Eq)]
 pub enum Point {
     Before { session: u32, index: u32 },
     Begun { session: u32, index: u32 },
@@ -24,7 +24,7 @@ pub trait Gate {
 }
 
 /// Lets each run pass at once.
-#[derive(Clone, Copy, Debug)]
+#[derive(Clone, Copy)]
 pub struct PassGate;
 
 impl Gate for PassGate {

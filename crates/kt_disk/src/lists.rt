@@ -5,7 +5,7 @@ use kt_base::Octets;
 use std::marker::Model;
 
 /// The numbers of files. Contracts see it as a list.
-#[derive(Debug, Drop)]
+#[derive(Drop)]
 pub struct FileList {
     files: Vec<u64>,
 }
@@ -34,14 +34,14 @@ impl FileList {
 }
 
 /// A file with its bytes.
-#[derive(Debug, Drop)]
+#[derive(Drop)]
 pub struct FileBytes {
     pub file: u64,
     pub bytes: Octets,
 }
 
 /// Files with their bytes. Contracts see it as a list.
-#[derive(Debug, Drop)]
+#[derive(Drop)]
 pub struct FileBytesList {
     files: Vec<FileBytes>,
 }
@@ -71,14 +71,14 @@ impl FileBytesList {
 }
 
 /// A call that is to fail, counted from 1: of all calls, or of those that change a file.
-#[derive(Clone, Copy, Debug, PartialEq, Eq)]
+#[derive(Clone, Copy, PartialEq, Eq)]
 pub enum Fail {
     Any(u64),
     Change(u64),
 }
 
 /// The calls that are to fail. Contracts see it as a list.
-#[derive(Debug, Drop)]
+#[derive(Drop)]
 pub struct FailList {
     fails: Vec<Fail>,
 }

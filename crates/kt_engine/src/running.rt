@@ -12,7 +12,7 @@ use std::marker::Model;
 const MOST_SESSIONS: usize = 64;
 
 /// The numbers of the sessions that run, with room for 64 of them. Contracts see them as a list.
-#[derive(Debug, Drop)]
+#[derive(Drop)]
 pub struct Running {
     numbers: Vec<u32>,
 }

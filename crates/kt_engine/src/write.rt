@@ -25,7 +25,7 @@ use std::mem;
 
 /// A write that has ended: its timestamp, and what became of its operations. What it held comes back beside that, so that
 /// its memory is freed once the engine is put back.
-#[derive(Debug, Drop)]
+#[derive(Drop)]
 pub struct WriteDone {
     pub ts: u64,
     pub outcomes: OutcomeList,
@@ -35,7 +35,7 @@ pub struct WriteDone {
 
 /// A write made ready before a visit, so that the visit copies nothing: what the tablet takes, and the operations once
 /// more for the log.
-#[derive(Debug, Drop)]
+#[derive(Drop)]
 pub struct Draft {
     pub write: NewWrite,
     pub logged: OpList,

@@ -1,7 +1,7 @@
 //! What the cells of a block are.
 
 /// What the cells of a block are: a prefix block holds byte strings alone.
-#[derive(Clone, Copy, Debug, PartialEq, Eq)]
+#[derive(Clone, Copy, PartialEq, Eq)]
 pub enum Width {
     Bytes,
 }

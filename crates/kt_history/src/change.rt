@@ -2,7 +2,7 @@
 use kt_base::Cells;
 
 /// What a write does to the row of one key. An insert lists every column that is no key.
-#[derive(Debug, Drop)]
+#[derive(Drop)]
 pub enum Change {
     Ins(Cells),
     Upd(Cells),

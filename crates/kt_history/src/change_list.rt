@@ -16,7 +16,7 @@ use std::alloc::Global;
 use std::marker::Model;
 
 // Which strings are the key and the cells of a change, with its timestamp and kind.
-#[derive(Clone, Copy, Debug)]
+#[derive(Clone, Copy)]
 struct Head {
     key: usize,
     cells: usize,
@@ -25,7 +25,7 @@ struct Head {
 }
 
 /// A change, whose cells are read where they lie.
-#[derive(Clone, Copy, Debug)]
+#[derive(Clone, Copy)]
 pub struct ChangeRef<'v> {
     pub ts: u64,
     pub kind: Kindly,
@@ -33,7 +33,7 @@ pub struct ChangeRef<'v> {
 }
 
 /// Changes by rising key, then timestamp, as bytes. Contracts see them as a list.
-#[derive(Debug, Drop)]
+#[derive(Drop)]
 pub struct ChangeList {
     texts: Texts,
     heads: Vec<Head>,

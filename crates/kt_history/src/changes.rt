@@ -6,7 +6,7 @@ use kt_base::Octets;
 use std::marker::Model;
 
 /// A change of a key's row at a timestamp.
-#[derive(Debug, Drop)]
+#[derive(Drop)]
 pub struct KeyChange {
     pub key: Octets,
     pub ts: u64,
@@ -14,7 +14,7 @@ pub struct KeyChange {
 }
 
 /// A change of the row with this ordinal at a timestamp.
-#[derive(Debug, Drop)]
+#[derive(Drop)]
 pub struct Delta {
     pub ordinal: u32,
     pub ts: u64,
@@ -22,7 +22,7 @@ pub struct Delta {
 }
 
 /// Changes by ordinal, then timestamp. Contracts see them as a list.
-#[derive(Debug, Drop)]
+#[derive(Drop)]
 pub struct DeltaList {
     deltas: Vec<Delta>,
 }

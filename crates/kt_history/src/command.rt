@@ -6,7 +6,7 @@ use kt_base::Chore;
 use std::marker::Model;
 
 /// What a session asks for.
-#[derive(Debug, Drop)]
+#[derive(Drop)]
 pub enum Command {
     Write(Write),
     Scan(Scan),
@@ -16,7 +16,7 @@ pub enum Command {
 }
 
 /// The commands of one session. Contracts see them as a list.
-#[derive(Debug, Drop)]
+#[derive(Drop)]
 pub struct Session {
     commands: Vec<Command>,
 }
@@ -58,7 +58,7 @@ impl Session {
 }
 
 /// The commands of every session. Contracts see them as one list of commands per session.
-#[derive(Debug, Drop)]
+#[derive(Drop)]
 pub struct Plan {
     sessions: Vec<Session>,
 }

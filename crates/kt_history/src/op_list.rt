@@ -17,7 +17,7 @@ use std::alloc::Global;
 use std::marker::Model;
 
 /// An operation that is read where it lies. Contracts see it as a `RowOp`.
-#[derive(Debug, Drop)]
+#[derive(Drop)]
 pub struct OpRef<'v> {
     kind: OpKind,
     key: &'v [u8],
@@ -127,7 +127,7 @@ fn op_of(bytes: &[u8]) -> OpRef<'_>
 
 /// The operations of a write, as the log spells them, one behind the other. Several lists may share the bytes. Contracts
 /// see each as a list.
-#[derive(Debug, Drop)]
+#[derive(Drop)]
 pub struct OpList {
     texts: SharedTexts,
 }

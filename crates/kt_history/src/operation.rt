@@ -16,7 +16,7 @@ pub enum OpKind {
 
 /// An operation on one key, taken apart. An insert lists every column that is no key, upsert and update list the named ones,
 /// and a delete lists none; one that ignores lists what its plain kind does.
-#[derive(Debug, Drop)]
+#[derive(Drop)]
 pub struct RowOp {
     pub kind: OpKind,
     pub key: Octets,
@@ -24,7 +24,7 @@ pub struct RowOp {
 }
 
 /// Operations on different keys, which are done at one timestamp.
-#[derive(Debug, Drop)]
+#[derive(Drop)]
 pub struct Write {
     pub ops: OpList,
 }

@@ -5,7 +5,7 @@ use crate::row_list::RowList;
 use std::marker::Model;
 
 /// What became of each operation of a write. Contracts see it as a list.
-#[derive(Debug, Drop)]
+#[derive(Drop)]
 pub struct OutcomeList {
     outcomes: Vec<Outcome>,
 }
@@ -20,7 +20,7 @@ impl Model for OutcomeList {
 }
 
 /// The answer to a command.
-#[derive(Debug, Drop)]
+#[derive(Drop)]
 pub enum Reply {
     At { ts: u64, outcomes: OutcomeList },
     Rows { t: u64, rows: RowList },

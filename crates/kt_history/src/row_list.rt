@@ -12,7 +12,7 @@ use std::alloc::Global;
 use std::marker::Model;
 
 /// A cell of a list: a text is named by its place among the list's texts.
-#[derive(Clone, Copy, Debug)]
+#[derive(Clone, Copy)]
 pub enum Flat {
     Null,
     Int(i64),
@@ -22,7 +22,7 @@ pub enum Flat {
 
 /// The rows that a scan answers: all cells in one list, all texts in another. Contracts see them as a list of lists of
 /// cells.
-#[derive(Debug, Drop)]
+#[derive(Drop)]
 pub struct RowList {
     cells: Vec<Flat>,
     ends: Vec<usize>,
@@ -44,7 +44,7 @@ impl Model for RowList {
 }
 
 /// A row of a list, read where it lies. Contracts see it as a list of cells.
-#[derive(Debug, Drop)]
+#[derive(Drop)]
 pub struct RowCells<'l> {
     cells: &'l [Flat],
     texts: &'l Texts,

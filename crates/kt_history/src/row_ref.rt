@@ -14,7 +14,7 @@ use std::alloc::Global;
 use std::marker::Model;
 
 /// A row that borrows its texts, and may be used again for another. Contracts see it as a list of ids and cells.
-#[derive(Debug, Drop)]
+#[derive(Drop)]
 pub struct RowRef<'v> {
     cells: Vec<(u16, CellRef<'v>)>,
     // The cells of a change whose columns do not rise, read before they are put in.

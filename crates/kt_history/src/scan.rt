@@ -12,7 +12,7 @@ pub enum At {
 }
 
 /// A test of one cell. A comparison with null is false.
-#[derive(Debug, Drop)]
+#[derive(Drop)]
 pub enum Test {
     Eq(Cell),
     Lt(Cell),
@@ -24,14 +24,14 @@ pub enum Test {
 }
 
 /// A test of the cell in one column.
-#[derive(Debug, Drop)]
+#[derive(Drop)]
 pub struct Pred {
     pub column: u16,
     pub test: Test,
 }
 
 /// The tests of a scan, all of which a row passes. Contracts see them as a list.
-#[derive(Debug, Drop)]
+#[derive(Drop)]
 pub struct PredList {
     preds: Vec<Pred>,
 }
@@ -73,7 +73,7 @@ impl PredList {
 }
 
 /// The ids of selected columns, in the order of the selection. Contracts see them as a list.
-#[derive(Debug, Drop)]
+#[derive(Drop)]
 pub struct ColumnIds {
     ids: Vec<u16>,
 }
@@ -102,7 +102,7 @@ impl ColumnIds {
 }
 
 /// What is read, which columns of it are shown, and which rows. Without a selection every column is shown.
-#[derive(Debug, Drop)]
+#[derive(Drop)]
 pub struct Scan {
     pub at: At,
     pub columns: Option<ColumnIds>,

@@ -9,7 +9,7 @@ use std::alloc::Global;
 use std::marker::Model;
 use std::sync::Arc;
 
-#[derive(Debug, Drop)]
+#[derive(Drop)]
 enum Held {
     Own(Texts),
     Shared(Arc<Texts>),
@@ -63,7 +63,7 @@ fn push_parts(held: &mut Held, parts: &[&[u8]]) -> Result<(), NoMemory>
 }
 
 /// Byte strings in one buffer. While they are shared, a copy is another owner of the buffer. Contracts see them as a list.
-#[derive(Debug, Drop)]
+#[derive(Drop)]
 pub struct SharedTexts {
     held: Held,
 }

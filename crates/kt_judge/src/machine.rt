@@ -13,7 +13,7 @@ use kt_base::NoMemory;
 use kt_history::Event;
 
 /// A write that has begun and not ended.
-#[derive(Clone, Copy, Debug)]
+#[derive(Clone, Copy)]
 pub(crate) struct Flight {
     pub(crate) s: u32,
     pub(crate) i: u32,
@@ -21,7 +21,7 @@ pub(crate) struct Flight {
 }
 
 /// The machine after some lines: `a` is the ancient history mark, `c` the last timestamp.
-#[derive(Debug, Drop)]
+#[derive(Drop)]
 pub(crate) struct Machine {
     pub(crate) a: u64,
     pub(crate) c: u64,

@@ -13,7 +13,7 @@ use kt_history::Change;
 use std::alloc::Global;
 
 /// A write that an opening lists: its timestamp, and the change of each of its keys.
-#[derive(Debug, Drop)]
+#[derive(Drop)]
 pub struct OpeningWrite {
     pub ts: u64,
     pub changes: Vec<(Octets, Change)>,
@@ -21,7 +21,7 @@ pub struct OpeningWrite {
 
 /// The ancient history mark `a` and the last timestamp `c` of a tablet, its rows at the mark by rising encoded key, and its
 /// writes above the mark by rising timestamp. Contracts say by `IsOpening` which values are a tablet's.
-#[derive(Debug, Drop)]
+#[derive(Drop)]
 pub struct Opening {
     pub a: u64,
     pub c: u64,

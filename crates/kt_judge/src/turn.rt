@@ -9,7 +9,7 @@ use std::alloc::Global;
 use std::marker::Model;
 
 /// The lines that answered a session's commands so far, and the timestamp that a scan of the present has drawn.
-#[derive(Debug, Drop)]
+#[derive(Drop)]
 pub(crate) struct Turn {
     answered: Vec<Event>,
     look: Option<u64>,

@@ -2,7 +2,7 @@
 
 /// Whether an output is that of a run of a script from an opening, and else the first of what it is not. Contracts say what
 /// each verdict means by `IsVerdict`.
-#[derive(Clone, Copy, Debug, PartialEq, Eq)]
+#[derive(Clone, Copy, PartialEq, Eq)]
 pub enum Verdict {
     /// It is.
     Yes,

@@ -11,7 +11,7 @@ use std::alloc::Global;
 use std::marker::Model;
 
 /// What became of a row.
-#[derive(Debug, Drop)]
+#[derive(Drop)]
 pub(crate) enum Version {
     /// This is the row, or there is none.
     Whole(Option<Cells>),
@@ -22,7 +22,7 @@ pub(crate) enum Version {
 /// What became of the row of one key, by time. A long row with short updates is whole only now and then, as soon as the
 /// updates since are as long as it: so all of it is about as long as the changes, and no row is far from a whole one.
 /// Contracts see it as a list.
-#[derive(Debug, Drop)]
+#[derive(Drop)]
 pub(crate) struct Versions {
     list: Vec<(u64, Version)>,
     /// How many bytes of updates may still follow the last whole row.

@@ -16,7 +16,7 @@ use kt_history::{RowRef, View};
 use std::alloc::Global;
 
 /// The rows of a table at each time.
-#[derive(Debug, Drop)]
+#[derive(Drop)]
 pub(crate) struct Table {
     entries: Vec<(Octets, Versions)>,
     ghost table: { IsTable entries.items } by { Prim.hlevel props },

@@ -16,7 +16,7 @@ use kt_script::Script;
 use std::alloc::Global;
 
 /// What came of a walk.
-#[derive(Debug, Drop)]
+#[derive(Drop)]
 pub(crate) enum Walk {
     /// The history is a run, and this is the machine behind it.
     Run(Machine),

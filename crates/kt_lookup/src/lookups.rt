@@ -17,7 +17,7 @@ use std::marker::Model;
 use std::sync::ledger::Ledger;
 
 /// The filter and the index of a file's keys.
-#[derive(Debug, Drop)]
+#[derive(Drop)]
 pub struct Lookup {
     filter: Vec<u8>,
     index: Texts,

@@ -8,7 +8,7 @@ use kt_bytes::{NoMemory, Octets, Texts};
 use std::alloc::Global;
 
 /// Bytes that are not the ones wanted: the offset of the first field that is another or is cut off.
-#[derive(Clone, Copy, Debug, PartialEq, Eq)]
+#[derive(Clone, Copy, PartialEq, Eq)]
 pub struct Differs {
     pub offset: u64,
 }

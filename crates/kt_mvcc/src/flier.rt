@@ -7,7 +7,7 @@ use kt_history::OpList;
 use std::marker::Model;
 
 /// The encoded keys of a write, as its operations have them. Contracts see them as a list.
-#[derive(Debug, Drop)]
+#[derive(Drop)]
 pub struct KeyList {
     ops: OpList,
 }
@@ -44,7 +44,7 @@ impl KeyList {
 }
 
 /// A write that flies, and the keys that it holds.
-#[derive(Debug, Drop)]
+#[derive(Drop)]
 pub struct Flier {
     pub who: u32,
     pub ts: u64,

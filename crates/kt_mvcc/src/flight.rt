@@ -18,7 +18,7 @@ use thiserror::Error;
 
 /// The last timestamp, the ancient history mark, and the writes that fly with the keys that they hold.
 /// A key that no write holds is found by its hash, whatever flies; where one is held, the writes are looked at in turn.
-#[derive(Debug, Drop)]
+#[derive(Drop)]
 pub struct Flight {
     c: u64,
     a: u64,

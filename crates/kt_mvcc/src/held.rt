@@ -10,7 +10,7 @@ use std::alloc::Global;
 use std::collections::HashMap;
 
 /// The writer of each held key, by the key's hash. Where two writers' keys have one hash, it is not whole.
-#[derive(Debug, Drop)]
+#[derive(Drop)]
 pub struct Held {
     pub writers: HashMap<u64, u32>,
     pub whole: bool,

@@ -7,7 +7,7 @@ use kt_script::split::cut_at;
 
 /// What is due at a line of an opening: its first or its second line, a row, a write between two timestamps or the end, or a
 /// change of a write.
-#[derive(Clone, Copy, Debug, PartialEq, Eq)]
+#[derive(Clone, Copy, PartialEq, Eq)]
 pub(crate) enum Due {
     Head,
     Count,
@@ -17,7 +17,7 @@ pub(crate) enum Due {
 }
 
 /// Where the first line begins that may not stand, and what is due there.
-#[derive(Clone, Copy, Debug, PartialEq, Eq)]
+#[derive(Clone, Copy, PartialEq, Eq)]
 pub(crate) struct Stop {
     pub(crate) at: usize,
     pub(crate) due: Due,

@@ -15,7 +15,7 @@ use std::alloc::Global;
 use thiserror::Error;
 
 /// An opening, and the place of the text behind it.
-#[derive(Debug, Drop)]
+#[derive(Drop)]
 pub struct Read {
     pub opening: Opening,
     pub at: usize,

@@ -17,7 +17,7 @@ use kt_schema::Schema;
 use std::alloc::Global;
 
 /// Why a part is not read.
-#[derive(Clone, Copy, Debug, PartialEq, Eq)]
+#[derive(Clone, Copy, PartialEq, Eq)]
 pub(crate) enum PartNo {
     At(Stop),
     Memory,

@@ -4,7 +4,7 @@ ghost use Rattle.std.specs.Prelude.{◌≡◌};
 ghost use Rattle.kt_plain.specs.Widths.{field_len};
 
 /// How wide a number is: a bit of one byte, or so many bytes.
-#[derive(Clone, Copy, Debug, PartialEq, Eq)]
+#[derive(Clone, Copy, PartialEq, Eq)]
 pub enum NumberWidth {
     /// Bools: the numbers 0 and 1, a byte each.
     Bit,
@@ -15,7 +15,7 @@ pub enum NumberWidth {
 }
 
 /// What the items of a block are.
-#[derive(Clone, Copy, Debug, PartialEq, Eq)]
+#[derive(Clone, Copy, PartialEq, Eq)]
 pub enum Width {
     /// Numbers of one width.
     Numbers(NumberWidth),

@@ -7,7 +7,7 @@ use std::marker::Model;
 
 /// A rowset: the ranks of its least and greatest key among the keys of all candidates, and its size in units of the
 /// budget.
-#[derive(Clone, Copy, Debug, Default, PartialEq, Eq)]
+#[derive(Clone, Copy, Default, PartialEq, Eq)]
 pub struct Candidate {
     pub rowset: u64,
     pub least: u32,
@@ -42,7 +42,7 @@ impl Candidate {
 }
 
 /// Rowsets that may be compacted. Contracts see them as a list.
-#[derive(Debug, Drop)]
+#[derive(Drop)]
 pub struct CandidateList {
     candidates: Vec<Candidate>,
 }
@@ -79,7 +79,7 @@ impl CandidateList {
 }
 
 /// Rowset numbers. Contracts see them as a list.
-#[derive(Debug, Drop)]
+#[derive(Drop)]
 pub struct IdList {
     ids: Vec<u64>,
 }

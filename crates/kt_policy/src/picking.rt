@@ -13,7 +13,7 @@ use kt_base::NoMemory;
 use std::alloc::Global;
 
 /// A best set by rising rowset number, what it gains, and the table of sums that shows that none gains more.
-#[derive(Debug, Drop)]
+#[derive(Drop)]
 pub struct Picked {
     pub set: IdList,
     pub gain: u64,

@@ -4,7 +4,7 @@ ghost use Rattle.std.specs.Prelude.{◌≡◌};
 use std::marker::Model;
 
 /// Sums of widths, by cost from 0 on. Contracts see them as a list.
-#[derive(Debug, Drop)]
+#[derive(Drop)]
 pub struct Sums {
     sums: Vec<u32>,
 }
@@ -40,7 +40,7 @@ impl Sums {
 }
 
 /// The sums of one left bound, by the number of candidates from 0 on. Contracts see them as a list of rows.
-#[derive(Debug, Drop)]
+#[derive(Drop)]
 pub struct Part {
     rows: Vec<Sums>,
 }
@@ -76,7 +76,7 @@ impl Part {
 }
 
 /// The sums of each left bound. Contracts see them as a list of parts.
-#[derive(Debug, Drop)]
+#[derive(Drop)]
 pub struct Table {
     parts: Vec<Part>,
 }

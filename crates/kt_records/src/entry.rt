@@ -5,7 +5,7 @@ use kt_history::{OpList, Outcome, Target};
 use std::marker::Model;
 
 /// A record of the log.
-#[derive(Debug, Drop)]
+#[derive(Drop)]
 pub enum Entry {
     /// A write, before any of its operations is applied.
     Replicate { ts: u64, ops: OpList },
@@ -14,14 +14,14 @@ pub enum Entry {
 }
 
 /// What became of an operation, and the stores that it changed.
-#[derive(Debug, Drop)]
+#[derive(Drop)]
 pub struct CommitRow {
     pub outcome: Outcome,
     pub targets: TargetList,
 }
 
 /// The stores that an operation changed, two at most, kept in place. Contracts see them as a list.
-#[derive(Debug, Drop)]
+#[derive(Drop)]
 pub struct TargetList {
     len: usize,
     targets: [Target; 2],
@@ -89,7 +89,7 @@ impl TargetList {
 }
 
 /// The rows of a COMMIT. Contracts see them as a list.
-#[derive(Debug, Drop)]
+#[derive(Drop)]
 pub struct CommitRows {
     rows: Vec<CommitRow>,
 }
@@ -138,7 +138,7 @@ impl CommitRows {
 }
 
 /// Records in the order of the log. Contracts see them as a list.
-#[derive(Debug, Drop)]
+#[derive(Drop)]
 pub struct RecordList {
     records: Vec<Entry>,
 }

@@ -9,7 +9,7 @@ use std::alloc::Global;
 use std::marker::Model;
 
 /// The operations of a REPLICATE where they lie. Contracts see them as a list.
-#[derive(Debug, Drop)]
+#[derive(Drop)]
 pub struct OpsRef<'v> {
     ops: &'v OpList,
     first: usize,
@@ -69,7 +69,7 @@ impl<'v> OpsRef<'v> {
 }
 
 /// A record of a log where it lies.
-#[derive(Debug, Drop)]
+#[derive(Drop)]
 pub enum RecordRef<'v> {
     /// A write, before any of its operations is applied.
     Replicate { ts: u64, ops: OpsRef<'v> },
@@ -78,21 +78,21 @@ pub enum RecordRef<'v> {
 }
 
 // A record: which it is, its timestamp, and which of all operations or of all rows are its own.
-#[derive(Clone, Copy, Debug)]
+#[derive(Clone, Copy)]
 pub(crate) enum Head {
     Replicate { ts: u64, first: usize, count: usize },
     Commit { ts: u64, first: usize, count: usize },
 }
 
 // A record, and how long its spelling is.
-#[derive(Clone, Copy, Debug)]
+#[derive(Clone, Copy)]
 pub(crate) struct Kept {
     pub(crate) head: Head,
     pub(crate) len: usize,
 }
 
 /// The records of a log in their order. Contracts see them as a list.
-#[derive(Debug, Drop)]
+#[derive(Drop)]
 pub struct LogRecords {
     pub(crate) kept: Vec<Kept>,
     pub(crate) ops: OpList,

@@ -6,7 +6,7 @@ use kt_bytes::{NoMemory, Octets};
 use std::marker::Model;
 
 /// The keys that a rowset covers: from `least` to `greatest`, both included.
-#[derive(Debug, Drop)]
+#[derive(Drop)]
 pub struct Range {
     pub rowset: u64,
     pub least: Octets,
@@ -28,7 +28,7 @@ impl Range {
 }
 
 /// A list of ranges.
-#[derive(Debug, Drop)]
+#[derive(Drop)]
 pub struct RangeList {
     ranges: Vec<Range>,
 }
@@ -64,7 +64,7 @@ impl RangeList {
 }
 
 /// A list of rowset numbers, with room for some.
-#[derive(Debug, Drop)]
+#[derive(Drop)]
 pub struct IdList {
     ids: Vec<u64>,
 }

@@ -10,7 +10,7 @@ use kt_script::number::print_number;
 use std::alloc::Global;
 
 /// What is said of a source. Contracts say what each answer means by `IsAnswer`.
-#[derive(Clone, Copy, Debug, PartialEq, Eq)]
+#[derive(Clone, Copy, PartialEq, Eq)]
 pub enum Answer {
     /// The first faulty line of its script, and the least reason that holds in it.
     Line { number: u64, reason: u8 },

@@ -8,7 +8,7 @@ use kt_history::{ColumnIds, Pred, Scan};
 use kt_schema::{Column, Schema};
 
 /// A scan of a table with the columns of a schema.
-#[derive(Clone, Copy, Debug)]
+#[derive(Clone, Copy)]
 pub struct Asked<'s> {
     pub scan: &'s Scan,
     pub schema: &'s Schema,

@@ -10,7 +10,7 @@ use kt_history::{RowRef, View};
 use std::alloc::Global;
 
 /// A place for each view, where it is looked at first. The places tell nothing: they only save a search.
-#[derive(Debug, Drop)]
+#[derive(Drop)]
 pub struct Hints {
     places: Vec<usize>,
 }

@@ -15,7 +15,7 @@ use kt_schema::Column;
 use std::alloc::Global;
 
 /// A whole row where its cells lie, used again for each key. The cells of its key stand under the key columns, in order.
-#[derive(Debug, Drop)]
+#[derive(Drop)]
 pub struct WholeRow<'v> {
     pub key: Vec<CellRef<'v>>,
     pub others: RowRef<'v>,

@@ -6,7 +6,7 @@ use std::marker::Model;
 use thiserror::Error;
 
 /// A column of a table. Its id stays with it, whatever becomes of the columns around it.
-#[derive(Clone, Debug, Drop)]
+#[derive(Clone, Drop)]
 pub struct Column {
     pub id: u16,
     pub name: Octets,
@@ -18,7 +18,7 @@ pub struct Column {
 }
 
 /// Columns in order. Contracts see them as a list.
-#[derive(Clone, Debug, Drop)]
+#[derive(Clone, Drop)]
 pub struct ColumnList {
     columns: Vec<Column>,
 }

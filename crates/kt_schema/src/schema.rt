@@ -10,7 +10,7 @@ use std::alloc::Global;
 use std::marker::Model;
 
 /// The columns of a table. Contracts see them as a list, for which none of the refusals S1 to S5 holds.
-#[derive(Debug, Drop)]
+#[derive(Drop)]
 pub struct Schema {
     columns: Vec<Column>,
     // The kinds of the key columns, in order.

@@ -13,7 +13,7 @@ use kt_loglaws::Batch;
 use std::alloc::Global;
 
 /// How a run ended.
-#[derive(Clone, Copy, Debug, PartialEq, Eq)]
+#[derive(Clone, Copy, PartialEq, Eq)]
 pub enum End {
     /// Nothing waits for the log.
     Done,

@@ -17,7 +17,7 @@ use std::alloc::Global;
 use std::sync::Wait;
 
 /// Why a command has no reply.
-#[derive(Clone, Copy, Debug, PartialEq, Eq)]
+#[derive(Clone, Copy, PartialEq, Eq)]
 pub enum Halt {
     /// A device has failed.
     Stopped,

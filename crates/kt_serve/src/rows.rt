@@ -15,7 +15,7 @@ use std::alloc::Global;
 use std::sync::Wait;
 
 /// What became of the next row of a write.
-#[derive(Clone, Copy, Debug, PartialEq, Eq)]
+#[derive(Clone, Copy, PartialEq, Eq)]
 pub enum RowTurn {
     Applied,
     /// The REPLICATE is not durable yet.

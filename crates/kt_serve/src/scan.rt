@@ -21,7 +21,7 @@ use std::alloc::Global;
 use std::sync::Wait;
 
 /// What became of a scan that would read.
-#[derive(Debug, Drop)]
+#[derive(Drop)]
 pub enum ScanTurn {
     /// A line answers it by the rows of this snapshot.
     Read(Snap),

@@ -5,14 +5,14 @@ use kt_schema::Schema;
 use std::marker::Model;
 
 /// A data file that stands as it is, with its length.
-#[derive(Clone, Copy, Debug, PartialEq, Eq)]
+#[derive(Clone, Copy, PartialEq, Eq)]
 pub struct FileRef {
     pub file: u64,
     pub len: u64,
 }
 
 /// Files in order. Contracts see them as a list.
-#[derive(Debug, Drop)]
+#[derive(Drop)]
 pub struct FileRefs {
     files: Vec<FileRef>,
 }
@@ -42,7 +42,7 @@ impl FileRefs {
 }
 
 /// A disk rowset: its files, and its last DeltaMemStore that they hold.
-#[derive(Debug, Drop)]
+#[derive(Drop)]
 pub struct MetaRowset {
     pub rowset: u64,
     pub last_dms: u64,
@@ -52,7 +52,7 @@ pub struct MetaRowset {
 }
 
 /// Disk rowsets by rising number. Contracts see them as a list.
-#[derive(Debug, Drop)]
+#[derive(Drop)]
 pub struct MetaRowsets {
     rowsets: Vec<MetaRowset>,
 }
@@ -82,7 +82,7 @@ impl MetaRowsets {
 }
 
 /// The value of a superblock.
-#[derive(Debug, Drop)]
+#[derive(Drop)]
 pub struct Meta {
     /// Which superblock it is, from 1.
     pub number: u64,
@@ -102,7 +102,7 @@ pub struct Meta {
 }
 
 /// A slot that holds a superblock behind a closed gate.
-#[derive(Clone, Copy, Debug, PartialEq, Eq)]
+#[derive(Clone, Copy, PartialEq, Eq)]
 pub struct Prepared {
     pub slot: u64,
     pub number: u64,

@@ -10,7 +10,7 @@ use std::alloc::Global;
 
 /// A write that is to begin: its operations with their keys, room for what becomes of them, and how many cells it needs.
 /// All of this is made before the tablet is visited, so that the visit copies nothing and a second one neither.
-#[derive(Debug, Drop)]
+#[derive(Drop)]
 pub struct NewWrite {
     pub ops: OpList,
     pub keys: KeyList,

@@ -13,7 +13,7 @@ use std::alloc::Global;
 use std::marker::Model;
 
 /// The changes of one store up to the time of a scan, by rising key. It tells rows from its mark on.
-#[derive(Debug, Drop)]
+#[derive(Drop)]
 pub struct SnapView {
     since: u64,
     changes: ChangeList,
@@ -22,7 +22,7 @@ pub struct SnapView {
 }
 
 /// Views of stores. Contracts see them as a list.
-#[derive(Debug, Drop)]
+#[derive(Drop)]
 pub struct SnapList {
     views: Vec<SnapView>,
 }
@@ -37,7 +37,7 @@ impl Model for SnapList {
 }
 
 /// What a scan reads at its time. Its mark is that of the tablet then.
-#[derive(Debug, Drop)]
+#[derive(Drop)]
 pub struct Snap {
     pub t: u64,
     pub mark: u64,

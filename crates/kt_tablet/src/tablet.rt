@@ -21,7 +21,7 @@ use std::snapshot::Snapshot;
 use thiserror::Error;
 
 /// A write that flies, of which the first rows are applied.
-#[derive(Debug, Drop)]
+#[derive(Drop)]
 pub struct FlyingWrite {
     pub who: u32,
     pub index: u32,

@@ -18,7 +18,7 @@ pub struct Place {
 }
 
 /// Where each session stands, with room for 64 of them. Contracts see them as the turns of the tablet machine.
-#[derive(Debug, Drop)]
+#[derive(Drop)]
 pub struct Turns {
     places: Vec<Place>,
 }

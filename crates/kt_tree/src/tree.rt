@@ -17,7 +17,7 @@ use std::alloc::Global;
 use std::cmp::Ordering;
 
 /// A key's place, and that of its value.
-#[derive(Clone, Copy, Debug, PartialEq, Eq)]
+#[derive(Clone, Copy, PartialEq, Eq)]
 pub struct Pair {
     pub key: Place,
     pub value: Place,

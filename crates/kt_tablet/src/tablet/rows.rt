@@ -18,7 +18,7 @@ use kt_records::{CommitRow, CommitRows, TargetList};
 
 /// What became of a write that has ended: the outcomes of its rows, and the same for the log. What it held comes back
 /// beside that, so that the caller chooses when its memory is freed.
-#[derive(Debug, Drop)]
+#[derive(Drop)]
 pub struct WriteEnd {
     pub index: u32,
     pub ts: u64,
