@@ -72,11 +72,12 @@ build() {
         rm -rf "$room/crates/$name"/{out,must-fail}
     done
     # Crate by crate along three chains at once. The last of them is the longest, and goes first wherever processors are short.
+    # The others begin with what does not stand on kt_history, for which much has to wait.
     if ! (
         cd "$room" || exit
-        chain_beside kt_script kt_judge kt_opening kt_run_check >"$room/texts" &
-        chain_beside kt_loglaws kt_seatlock kt_scan kt_host kt_boot >"$room/log" &
-        chain kt_tablet kt_engine kt_serve kt_app
+        chain_beside kt_streams kt_script kt_judge kt_opening kt_run_check >"$room/texts" &
+        chain_beside kt_seatlock kt_host kt_content kt_scan kt_boot >"$room/log" &
+        chain kt_history kt_memrowset kt_tablet kt_engine kt_serve kt_app
         wait
         cat "$room/texts" "$room/log"
         rt ci
