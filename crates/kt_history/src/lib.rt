@@ -7,6 +7,7 @@
 
 pub mod change;
 pub mod change_list;
+pub mod change_store;
 pub mod changes;
 pub mod command;
 pub mod effect;
@@ -26,6 +27,7 @@ pub mod view;
 
 pub use change::{Change, Outcome};
 pub use change_list::{ChangeList, ChangeRef};
+pub use change_store::ChangeStore;
 pub use changes::{Delta, DeltaList, KeyChange};
 pub use command::{Command, Plan, Session};
 pub use effect::{apply, outcome, put_cell, undo_of, with_cells};

@@ -1,19 +1,16 @@
 //! Stores of rows in the cells of a pool.
-ghost use Rattle.std.specs.Prelude.{◌≡◌, ◌≤◌, ◌↔◌, ◌⊎◌, ◌+◌, ℕ, Bool, [], None, true, false, is_some, IfOk};
+ghost use Rattle.std.specs.Prelude.{◌≡◌, ◌≤◌, ◌↔◌, ◌⊎◌, ◌+◌, ℕ, Bool, [], None, true, false, is_some};
 ghost use Rattle.std.specs.Option.{option_map};
 ghost use Rattle.std.specs.FinMap.Entries.{put};
-ghost use Rattle.kt_pool.specs.Contents.{Contents, at_cell, used};
+ghost use Rattle.kt_pool.specs.Contents.{Contents, Stands, at_cell, used};
 ghost use Rattle.kt_history.specs.Rows.{key_cmp, fits};
 ghost use Rattle.kt_history.specs.declared.target.Target.{Target};
-ghost use Rattle.kt_history.specs.Stores.{Store, Under, hist_in, last_row, push, kind_made, change_of, change_by, is_there, with_change, share, changes_upto, TakesUpTo};
+ghost use Rattle.kt_history.specs.Stores.{Store, Under, hist_in, last_row, push, kind_made, change_of, change_by, is_there, with_change, share, TakesUpTo};
 
-use crate::change_list::ChangeList;
 use crate::op_list::OpRef;
 use crate::operation::OpKind;
 use crate::target::{Kindly, Target};
-use kt_base::NoMemory;
 use kt_pool::Pool;
-use std::alloc::Global;
 
 /// What a store did with an operation: whether its row was there before, and who took its change, if it made one.
 #[derive(Clone, Copy, Debug, PartialEq, Eq)]
@@ -60,11 +57,6 @@ pub trait RowStore {
         requires { stands self.now pool.now }
         ensures { result ≡ is_some (last_row (hist_in key.now (store self.now pool.now))) };
 
-    /// The changes at or below a time, by rising key, then timestamp.
-    fn changes(&self, alloc: Global, pool: &Pool, upto: u64) -> Result<ChangeList, NoMemory>
-        requires { stands self.now pool.now }
-        ensures { IfOk result (λ list. list ≡ changes_upto upto (store self.now pool.now)) };
-
     /// Adds the change of an operation, which fits the row after all changes, in reserved cells. It tells the store that took
     /// it. Where all that the store has of the key lies below the change, the store is as before, with this change more.
     fn apply_reserved(&mut self, pool: &mut Pool, ts: u64, op: &OpRef<'_>, change: Kindly) -> Target
@@ -106,4 +98,8 @@ pub trait RowStore {
     /// A store stands as it was where no place of its own has changed, whatever else the pool has and promises.
     fn frame_law()
         ensures { (s : Self) (old new : Contents) → stands s old → ((k : ℕ) → owns s old k → at_cell new k ≡ at_cell old k) → stands s new × (store s new ≡ store s old) × (cells s new ≡ cells s old) × ((k : ℕ) → owns s new k ↔ owns s old k) };
+
+    /// At each cell that a store owns a place stands, so that the places which another store takes are never its own.
+    fn placed_law()
+        ensures { (s : Self) (pool : Contents) (k : ℕ) → stands s pool → owns s pool k → Stands pool k };
 }
