@@ -13,3 +13,5 @@ pub mod Releasing
 pub mod Listing
 pub mod Last
 pub mod RowStores
+pub mod Placed
+pub mod Grown

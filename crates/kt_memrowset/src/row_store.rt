@@ -1,11 +1,11 @@
-//! A MemRowSet as a store of rows.
+//! A MemRowSet as a store of rows, of which each is nothing but its changes.
 ghost use Rattle.kt_history.specs.declared.target.Target.TheVariants.{Mem};
 ghost use Rattle.kt_memrowset.specs.Stores.{IsStore, store_of, number_of, is_frozen, Owns, cells_had};
 
 use crate::laws;
 use crate::store::MemRowSet;
 use kt_base::NoMemory;
-use kt_history::{ChangeList, Kindly, OpRef, RowStore, Taken, Target};
+use kt_history::{ChangeList, ChangeStore, Kindly, OpRef, RowStore, Taken, Target};
 use kt_pool::Pool;
 use std::alloc::Global;
 
@@ -26,10 +26,6 @@ impl RowStore for MemRowSet {
         MemRowSet::live(self, pool, key)
     }
 
-    fn changes(&self, alloc: Global, pool: &Pool, upto: u64) -> Result<ChangeList, NoMemory> {
-        MemRowSet::changes(self, alloc, pool, upto)
-    }
-
     fn apply_reserved(
         &mut self,
         pool: &mut Pool,
@@ -46,5 +42,19 @@ impl RowStore for MemRowSet {
 
     fn frame_law() {
         laws::frame_law();
+    }
+
+    fn placed_law() {
+        laws::placed_law();
+    }
+}
+
+impl ChangeStore for MemRowSet {
+    fn changes(&self, alloc: Global, pool: &Pool, upto: u64) -> Result<ChangeList, NoMemory> {
+        MemRowSet::changes(self, alloc, pool, upto)
+    }
+
+    fn grown_law() {
+        laws::grown_law();
     }
 }
