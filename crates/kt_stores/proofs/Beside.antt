@@ -1,26 +1,13 @@
 -- Stores beside each other in a pool: where one changes, the others stand as they were.
-use Rattle.std.proofs.Common.{◌≡◌, ◌⊎◌, ◌↔◌, ℕ, zero, suc, ◌+◌, List, [], ◌∷◌, map, Option, Some, None, is_some, refl, true, sym, ap, subst, ◌∙◌, inl, inr, arith}
+use Rattle.std.proofs.Common.{◌≡◌, ◌⊎◌, ℕ, zero, suc, ◌+◌, List, [], ◌∷◌, map, Option, Some, None, refl, sym, ap, subst, ◌∙◌, inl, inr, arith}
 use Rattle.std.specs.Prelude.{slice_get}
 use Rattle.std.proofs.lemmas.List.Sums.{sum_by-cons}
+use Rattle.kt_history.specs.Beside.{AllStand, OwnedBy, AreApart}
+use Rattle.kt_history.proofs.Beside.{Stays, IsPlaced, vacant, all_placed, all_stay}
 use Rattle.kt_histlaws.specs.Histories.{on_nth}
-use Rattle.kt_pool.specs.Contents.{Contents, Stands, at_cell, used}
+use Rattle.kt_pool.specs.Contents.{Contents, at_cell, used}
 use Rattle.kt_stores.specs.Shelf.{Shelved, FirstIsOpen, AreClosed, AreExact, cells_in}
-use Rattle.kt_stores.specs.Parts.{shelf_of, AllStand, OwnedBy, AreApart, AreKept, HasGrown}
-
--- a store stands as it was where no place of its own has changed
-abbrev pub Stays : {X : Type 0} → (X → Contents → Type 0) → (X → Contents → ℕ → Type 0) → (X → Contents → Shelved) → Type 0
-Stays {X} stands owns read = (x : X) (old new : Contents) → stands x old → ((k : ℕ) → owns x old k → at_cell new k ≡ at_cell old k) → stands x new × (read x new ≡ read x old) × ((k : ℕ) → owns x new k ↔ owns x old k)
-
--- it owns no vacant cell
-abbrev pub IsPlaced : {X : Type 0} → (X → Contents → Type 0) → (X → Contents → ℕ → Type 0) → Type 0
-IsPlaced {X} stands owns = (x : X) (pool : Contents) (k : ℕ) → stands x pool → owns x pool k → Stands pool k
-
--- these stores stand at both, with the same rows in the same places
-pub record AllStay {X : Type 0} (stands : X → Contents → Type 0) (owns : X → Contents → ℕ → Type 0) (read : X → Contents → Shelved) (old new : Contents) (xs : List X) : Type 0 where
-  pub stand : AllStand stands new xs
-  pub shelf : shelf_of read new xs ≡ shelf_of read old xs
-  pub owned : (k : ℕ) → OwnedBy owns new xs k → OwnedBy owns old xs k
-  pub apart : AreApart owns old xs → AreApart owns new xs
+use Rattle.kt_stores.specs.Parts.{shelf_of, AreKept, HasGrown}
 
 -- store i is another one now, which has grown, and the others stand as they were
 pub record OneGrew {X : Type 0} (stands : X → Contents → Type 0) (owns : X → Contents → ℕ → Type 0) (read : X → Contents → Shelved) (old new : Contents) (y : X) (i : ℕ) (xs : List X) : Type 0 where
@@ -29,13 +16,6 @@ pub record OneGrew {X : Type 0} (stands : X → Contents → Type 0) (owns : X �
   pub shelf : shelf_of read new (on_nth i (λ _. y) xs) ≡ on_nth i (λ _. read y new) (shelf_of read old xs)
   pub owned : (k : ℕ) → OwnedBy owns new (on_nth i (λ _. y) xs) k → OwnedBy owns old xs k ⊎ (at_cell old k ≡ None)
 
-vacant : (pool : Contents) (k : ℕ) → at_cell pool k ≡ None → Stands pool k → ⊥
-vacant pool k none there = by (at_cell pool k) none there
-  where
-    by : (o : Option (List ℕ)) → o ≡ None → is_some o ≡ true → ⊥
-    by None none there = cc
-    by (Some bytes) none there = cc
-
 pub some_is : {X : Type 0} (x y : X) → Some x ≡ Some y → x ≡ y
 some_is x y e = cc
 
@@ -43,24 +23,6 @@ pub none_some : {X : Type 0} {G : Type 0} (y : X) → None ≡ Some y → G
 none_some y e = cc
 
 module _ {X : Type 0} (stands : X → Contents → Type 0) (owns : X → Contents → ℕ → Type 0) (read : X → Contents → Shelved) (stays : Stays stands owns read) (placed : IsPlaced stands owns) where
-  -- what stores own stands
-  pub all_placed : (pool : Contents) (xs : List X) (k : ℕ) → AllStand stands pool xs → OwnedBy owns pool xs k → Stands pool k
-  all_placed pool [] k st own = absurd own
-  all_placed pool (x ∷ xs) k st own = elim own [ inl mine ↦ placed x pool k st.0 mine | inr more ↦ all_placed pool xs k st.1 more ]
-
-  -- where no place of theirs has changed, they stand as they were
-  pub all_stay : (old new : Contents) (xs : List X) → AllStand stands old xs → ((k : ℕ) → OwnedBy owns old xs k → at_cell new k ≡ at_cell old k) → AllStay stands owns read old new xs
-  all_stay old new [] st same = record { stand = tt; shelf = refl; owned = λ k own. own; apart = λ apart. tt }
-  all_stay old new (x ∷ xs) st same =
-      let here = stays x old new st.0 (λ k own. same k (inl own)) in
-      let more = all_stay old new xs st.1 (λ k own. same k (inr own)) in
-      record {
-        stand = (here.0, more.stand);
-        shelf = ap (λ s. s ∷ shelf_of read new xs) here.1 ∙ ap (λ shelf. read x old ∷ shelf) more.shelf;
-        owned = λ k own. elim own [ inl mine ↦ inl ((here.2 k).0 mine) | inr other ↦ inr (more.owned k other) ];
-        apart = λ apart. ((λ k mine other. apart.0 k ((here.2 k).0 mine) (more.owned k other)), more.apart apart.1);
-      }
-
   nth_owned : (pool : Contents) (x : X) (i : ℕ) (xs : List X) (k : ℕ) → slice_get xs i ≡ Some x → owns x pool k → OwnedBy owns pool xs k
   nth_owned pool x i [] k at own = none_some x at
   nth_owned pool x zero (z ∷ xs) k at own = inl (subst (λ z. owns z pool k) (sym (some_is z x at)) own)
@@ -69,24 +31,24 @@ module _ {X : Type 0} (stands : X → Contents → Type 0) (owns : X → Content
   module _ (old new : Contents) (x y : X) (grew : HasGrown stands owns x y old new) where
     -- a place of stores that own none of the first one's has not changed
     others_same : (xs : List X) → AllStand stands old xs → ((k : ℕ) → owns x old k → ¬ OwnedBy owns old xs k) → (k : ℕ) → OwnedBy owns old xs k → at_cell new k ≡ at_cell old k
-    others_same xs st apart k own = grew.frame k (λ mine. elim (grew.grows k mine) [ inl was ↦ apart k was own | inr none ↦ vacant old k none (all_placed old xs k st own) ])
+    others_same xs st apart k own = grew.frame k (λ mine. elim (grew.grows k mine) [ inl was ↦ apart k was own | inr none ↦ vacant old k none (all_placed stands owns placed old xs k st own) ])
 
     pub one_grew : (i : ℕ) (xs : List X) → slice_get xs i ≡ Some x → AllStand stands old xs → AreApart owns old xs → OneGrew stands owns read old new y i xs
     one_grew i [] at st apart = none_some x at
     one_grew zero (z ∷ xs) at st apart =
         let same = some_is z x at in
         let mine : (k : ℕ) → owns x old k → ¬ OwnedBy owns old xs k = subst (λ z. (k : ℕ) → owns z old k → ¬ OwnedBy owns old xs k) same apart.0 in
-        let more = all_stay old new xs st.1 (others_same xs st.1 mine) in
+        let more = all_stay stands owns read stays old new xs st.1 (others_same xs st.1 mine) in
         record {
           stand = (grew.here, more.stand);
           apart = (
-            (λ k own other. elim (grew.grows k own) [ inl was ↦ mine k was (more.owned k other) | inr none ↦ vacant old k none (all_placed old xs k st.1 (more.owned k other)) ]),
+            (λ k own other. elim (grew.grows k own) [ inl was ↦ mine k was (more.back k other) | inr none ↦ vacant old k none (all_placed stands owns placed old xs k st.1 (more.back k other)) ]),
             more.apart apart.1,
           );
-          shelf = ap (λ shelf. read y new ∷ shelf) more.shelf;
+          shelf = ap (λ shelf. read y new ∷ shelf) more.same;
           owned = λ k own. elim own [
             | inl is ↦ elim (grew.grows k is) [ inl was ↦ inl (inl (subst (λ z. owns z old k) (sym same) was)) | inr none ↦ inr none ]
-            | inr other ↦ inl (inr (more.owned k other))
+            | inr other ↦ inl (inr (more.back k other))
           ];
         }
     one_grew (suc i) (z ∷ xs) at st apart =
@@ -169,15 +131,15 @@ module _ {X : Type 0} (stands : X → Contents → Type 0) (owns : X → Content
   -- stores are kept where the pool's places are the same
   pub kept_same : (old new : Contents) (xs : List X) → AreKept stands owns read xs old → new.places ≡ old.places → AreKept stands owns read xs new × (shelf_of read new xs ≡ shelf_of read old xs)
   kept_same old new xs kept same =
-      let still = all_stay stands owns read stays placed old new xs kept.stand (λ k own. ap (λ places. at_cell (record { places = places; reserved = 0 }) k) same) in (
+      let still = all_stay stands owns read stays old new xs kept.stand (λ k own. ap (λ places. at_cell (record { places = places; reserved = 0 }) k) same) in (
         record {
           stand = still.stand;
           apart = still.apart kept.apart;
-          counted = ap (λ places. used (record { places = places; reserved = 0 })) same ∙ kept.counted ∙ ap cells_in (sym still.shelf);
-          first = subst FirstIsOpen (sym still.shelf) kept.first;
-          exact = subst AreExact (sym still.shelf) kept.exact;
+          counted = ap (λ places. used (record { places = places; reserved = 0 })) same ∙ kept.counted ∙ ap cells_in (sym still.same);
+          first = subst FirstIsOpen (sym still.same) kept.first;
+          exact = subst AreExact (sym still.same) kept.exact;
         },
-        still.shelf,
+        still.same,
       )
 
   -- and where one of them has grown

@@ -1,15 +1,15 @@
 -- MemRowSets and disk rowsets together: each stands as it was where no place of its own has changed, and owns no vacant cell.
 use Rattle.std.proofs.Common.{◌≡◌, ◌↔◌, ℕ, Bool, inl, inr}
+use Rattle.kt_history.proofs.Beside.{Stays, IsPlaced}
 use Rattle.kt_history.specs.declared.target.Target.{Target}
 use Rattle.kt_history.specs.declared.target.Target.TheVariants.{Mem}
 use Rattle.kt_history.specs.Stores.{Store}
 use Rattle.kt_memrowset.specs.Stores.{IsStore, Owns, number_of, is_frozen}
+use Rattle.kt_memrowset.proofs.Placed.{is_placed}
 use Rattle.kt_memrowset.proofs.Frames.{is_still, store_still, had_still, owns_back, owns_on}
 use Rattle.kt_pool.specs.Contents.{Contents, at_cell}
 use Rattle.kt_stores.specs.Shelf.{Shelved}
 use Rattle.kt_stores.specs.Parts.{shelved, shelved_mem, stands_by, owns_by, read_by}
-use Rattle.kt_stores.proofs.Beside.{Stays, IsPlaced}
-use Rattle.kt_stores.proofs.Placed.{is_placed}
 
 pub stays_of : {R : Type 0} (stands : R → Contents → Type 0) (owns : R → Contents → ℕ → Type 0) (target : R → Target) (store : R → Contents → Store) (closed : R → Bool) (cells : R → Contents → ℕ)
     → ((s : R) (old new : Contents) → stands s old → ((k : ℕ) → owns s old k → at_cell new k ≡ at_cell old k) → stands s new × (store s new ≡ store s old) × (cells s new ≡ cells s old) × ((k : ℕ) → owns s new k ↔ owns s old k))

@@ -3,45 +3,15 @@ use Rattle.std.proofs.Common.{◌≡◌, ◌⊎◌, ℕ, ◌+◌, ◌<◌, Bool,
 use Rattle.std.specs.Prelude.{if◌then◌else◌}
 use Rattle.std.proofs.lemmas.List.{map-append}
 use Rattle.std.proofs.lemmas.List.Sums.{sum_by-append, sum_by-cons}
+use Rattle.kt_history.specs.Beside.{AllStand, OwnedBy, AreApart}
+use Rattle.kt_history.proofs.Beside.{Stays, IsPlaced, all_stay, stand_left, stand_right, owned_left, owned_right, apart_left, apart_right, apart_between}
+use Rattle.kt_memrowset.proofs.Placed.{is_placed}
 use Rattle.kt_memrowset.specs.declared.store.MemRowSet.{MemRowSet}
 use Rattle.kt_memrowset.specs.Stores.{IsStore, Owns, cells_had}
 use Rattle.kt_pool.specs.Contents.{Contents, at_cell, used}
 use Rattle.kt_stores.specs.Shelf.{Shelved, AreClosed, AreExact, FirstIsOpen, cells_in, without_frozen}
-use Rattle.kt_stores.specs.Parts.{kept, stands_by, owns_by, read_by, shelved_mem, shelf_of, AllStand, OwnedBy, AreApart, AreKept, AreEmptied}
-use Rattle.kt_stores.proofs.Placed.{is_placed}
-use Rattle.kt_stores.proofs.Beside.{Stays, IsPlaced, all_stay}
+use Rattle.kt_stores.specs.Parts.{kept, stands_by, owns_by, read_by, shelved_mem, shelf_of, AreKept, AreEmptied}
 use Rattle.kt_stores.proofs.Either.{mem_stays}
-
--- ---- lists of stores, cut in two
-
-module _ {X : Type 0} (stands : X → Contents → Type 0) (owns : X → Contents → ℕ → Type 0) (pool : Contents) where
-  pub stand_left : (xs ys : List X) → AllStand stands pool (xs ++ ys) → AllStand stands pool xs
-  stand_left [] ys h = tt
-  stand_left (x ∷ xs) ys h = (h.0, stand_left xs ys h.1)
-
-  pub stand_right : (xs ys : List X) → AllStand stands pool (xs ++ ys) → AllStand stands pool ys
-  stand_right [] ys h = h
-  stand_right (x ∷ xs) ys h = stand_right xs ys h.1
-
-  pub owned_left : (xs ys : List X) (k : ℕ) → OwnedBy owns pool xs k → OwnedBy owns pool (xs ++ ys) k
-  owned_left [] ys k own = absurd own
-  owned_left (x ∷ xs) ys k own = elim own [ inl here ↦ inl here | inr more ↦ inr (owned_left xs ys k more) ]
-
-  pub owned_right : (xs ys : List X) (k : ℕ) → OwnedBy owns pool ys k → OwnedBy owns pool (xs ++ ys) k
-  owned_right [] ys k own = own
-  owned_right (x ∷ xs) ys k own = inr (owned_right xs ys k own)
-
-  pub apart_left : (xs ys : List X) → AreApart owns pool (xs ++ ys) → AreApart owns pool xs
-  apart_left [] ys h = tt
-  apart_left (x ∷ xs) ys h = ((λ k here other. h.0 k here (owned_left xs ys k other)), apart_left xs ys h.1)
-
-  pub apart_right : (xs ys : List X) → AreApart owns pool (xs ++ ys) → AreApart owns pool ys
-  apart_right [] ys h = h
-  apart_right (x ∷ xs) ys h = apart_right xs ys h.1
-
-  pub apart_between : (xs ys : List X) (k : ℕ) → AreApart owns pool (xs ++ ys) → OwnedBy owns pool xs k → ¬ OwnedBy owns pool ys k
-  apart_between [] ys k h own = absurd own
-  apart_between (x ∷ xs) ys k h own = elim own [ inl here ↦ λ other. h.0 k here (owned_right xs ys k other) | inr more ↦ apart_between xs ys k h.1 more ]
 
 cells-append : (xs ys : List Shelved) → cells_in (xs ++ ys) ≡ cells_in xs + cells_in ys
 cells-append xs ys = sum_by-append (λ (s : Shelved). s.cells) xs ys
@@ -68,15 +38,15 @@ pub one_emptied : (all left rest : List MemRowSet) (s : MemRowSet) (old now new 
     → used new + cells_had s now ≡ used now → new.reserved ≡ now.reserved → length new.places ≡ length now.places → Emptying all rest old new
 one_emptied all left rest s old now new h0 is frame fewer reserved size =
     let h = subst (λ left. Emptying all left old now) is h0 in
-    let still = all_stay IsStore Owns shelved_mem mem_stays is_placed now new rest (stand_left IsStore Owns now rest (s ∷ []) h.stand) (λ k own. frame k (λ mine. apart_between IsStore Owns now rest (s ∷ []) k h.apart own (inl mine))) in
+    let still = all_stay IsStore Owns shelved_mem mem_stays now new rest (stand_left IsStore now rest (s ∷ []) h.stand) (λ k own. frame k (λ mine. apart_between Owns now rest (s ∷ []) k h.apart own (inl mine))) in
     let cells = ap cells_in (shelf-append shelved_mem now rest (s ∷ [])) ∙ cells-append (shelf_of shelved_mem now rest) (shelf_of shelved_mem now (s ∷ [])) in
     let one = sum_by-cons (λ (s : Shelved). s.cells) (shelved_mem s now) [] in
-    let same = ap cells_in still.shelf in
+    let same = ap cells_in still.same in
     record {
       stand = still.stand;
-      apart = still.apart (apart_left IsStore Owns now rest (s ∷ []) h.apart);
-      owned = λ k own. h.owned k (owned_left IsStore Owns now rest (s ∷ []) k (still.owned k own));
-      frame = λ k none. frame k (λ mine. none (h.owned k (owned_right IsStore Owns now rest (s ∷ []) k (inl mine)))) ∙ h.frame k none;
+      apart = still.apart (apart_left Owns now rest (s ∷ []) h.apart);
+      owned = λ k own. h.owned k (owned_left Owns now rest (s ∷ []) k (still.back k own));
+      frame = λ k none. frame k (λ mine. none (h.owned k (owned_right Owns now rest (s ∷ []) k (inl mine)))) ∙ h.frame k none;
       fewer = let was = h.fewer in omega arith;
       reserved = reserved ∙ h.reserved;
       size = size ∙ h.size;
@@ -116,30 +86,30 @@ module _ {R : Type 0} (stands : R → Contents → Type 0) (owns : R → Content
 
   pub frozen_apart : (pool : Contents) (frozen : List MemRowSet) (zs : List (MemRowSet ⊎ R)) → AreApart (owns_by owns) pool (map inl frozen ++ zs) → AreApart Owns pool frozen
   frozen_apart pool [] zs h = tt
-  frozen_apart pool (s ∷ frozen) zs h = ((λ k here other. h.0 k here (owned_left (stands_by stands) (owns_by owns) pool (map inl frozen) zs k (owned_in pool frozen k other))), frozen_apart pool frozen zs h.1)
+  frozen_apart pool (s ∷ frozen) zs h = ((λ k here other. h.0 k here (owned_left (owns_by owns) pool (map inl frozen) zs k (owned_in pool frozen k other))), frozen_apart pool frozen zs h.1)
 
   module _ (stays : Stays (stands_by stands) (owns_by owns) (read_by read)) (placed : IsPlaced (stands_by stands) (owns_by owns)) (active : MemRowSet) (frozen : List MemRowSet) (rowsets : List R) (old new : Contents)
       (h : AreKept (stands_by stands) (owns_by owns) (read_by read) (kept active frozen rowsets) old) (e : AreEmptied frozen old new) where
     pub kept_without : AreKept (stands_by stands) (owns_by owns) (read_by read) (kept active [] rowsets) new × (shelf_of (read_by read) new (kept active [] rowsets) ≡ without_frozen (length frozen) (shelf_of (read_by read) old (kept active frozen rowsets)))
     kept_without =
         let keep = λ (k : ℕ) (own : OwnedBy (owns_by owns) old (inl active ∷ map inr rowsets) k). e.frame k (λ mine. elim own [
-          | inl here ↦ h.apart.0 k here (owned_left (stands_by stands) (owns_by owns) old (map inl frozen) (map inr rowsets) k (owned_in old frozen k mine))
-          | inr other ↦ apart_between (stands_by stands) (owns_by owns) old (map inl frozen) (map inr rowsets) k h.apart.1 (owned_in old frozen k mine) other
+          | inl here ↦ h.apart.0 k here (owned_left (owns_by owns) old (map inl frozen) (map inr rowsets) k (owned_in old frozen k mine))
+          | inr other ↦ apart_between (owns_by owns) old (map inl frozen) (map inr rowsets) k h.apart.1 (owned_in old frozen k mine) other
         ]) in
-        let still = all_stay (stands_by stands) (owns_by owns) (read_by read) stays placed old new (inl active ∷ map inr rowsets) (h.stand.0, stand_right (stands_by stands) (owns_by owns) old (map inl frozen) (map inr rowsets) h.stand.1) keep in
+        let still = all_stay (stands_by stands) (owns_by owns) (read_by read) stays old new (inl active ∷ map inr rowsets) (h.stand.0, stand_right (stands_by stands) old (map inl frozen) (map inr rowsets) h.stand.1) keep in
         let a = sum_by-cons (λ (s : Shelved). s.cells) (shelved_mem active old) (shelf_of (read_by read) old (map inl frozen ++ map inr rowsets)) in
         let b = ap cells_in (shelf-append (read_by read) old (map inl frozen) (map inr rowsets)) ∙ cells-append (shelf_of (read_by read) old (map inl frozen)) (shelf_of (read_by read) old (map inr rowsets)) in
         let f = ap cells_in (shelf_in old frozen) in
         let d = sum_by-cons (λ (s : Shelved). s.cells) (shelved_mem active old) (shelf_of (read_by read) old (map inr rowsets)) in
-        let same = ap cells_in still.shelf in (
+        let same = ap cells_in still.same in (
           record {
             stand = still.stand;
-            apart = still.apart ((λ k here other. h.apart.0 k here (owned_right (stands_by stands) (owns_by owns) old (map inl frozen) (map inr rowsets) k other)), apart_right (stands_by stands) (owns_by owns) old (map inl frozen) (map inr rowsets) h.apart.1);
+            apart = still.apart ((λ k here other. h.apart.0 k here (owned_right (owns_by owns) old (map inl frozen) (map inr rowsets) k other)), apart_right (owns_by owns) old (map inl frozen) (map inr rowsets) h.apart.1);
             counted = let was = h.counted in let fewer = e.fewer in omega arith;
-            first = subst FirstIsOpen (sym still.shelf) (h.first.0, closed_in old frozen (map inr rowsets) h.first.1);
-            exact = subst AreExact (sym still.shelf) (h.exact.0, exact_in old frozen (map inr rowsets) h.exact.1);
+            first = subst FirstIsOpen (sym still.same) (h.first.0, closed_in old frozen (map inr rowsets) h.first.1);
+            exact = subst AreExact (sym still.same) (h.exact.0, exact_in old frozen (map inr rowsets) h.exact.1);
           },
-          still.shelf ∙ ap (λ shelf. shelved_mem active old ∷ shelf) (sym (drop_in old frozen (map inr rowsets))),
+          still.same ∙ ap (λ shelf. shelved_mem active old ∷ shelf) (sym (drop_in old frozen (map inr rowsets))),
         )
 
 -- ---- a store more

@@ -1,4 +1,3 @@
-pub mod Placed
 pub mod Beside
 pub mod Either
 pub mod Ordered
@@ -9,3 +8,4 @@ pub mod Taking
 pub mod Finding
 pub mod Took
 pub mod Emptying
+pub mod Grown

@@ -3,12 +3,13 @@ use Rattle.std.proofs.Common.{◌≡◌, ◌⊎◌, ℕ, zero, suc, ◌+◌, ◌
 use Rattle.std.specs.Prelude.{slice_get, set}
 use Rattle.std.specs.List.{All}
 use Rattle.std.proofs.lemmas.List.{length-map}
+use Rattle.kt_history.specs.Beside.{AllStand}
 use Rattle.kt_histlaws.specs.Histories.{on_nth}
 use Rattle.kt_memrowset.specs.declared.store.MemRowSet.{MemRowSet}
 use Rattle.kt_memrowset.specs.Stores.{IsStore}
 use Rattle.kt_pool.specs.Contents.{Contents}
 use Rattle.kt_stores.specs.Shelf.{Shelved}
-use Rattle.kt_stores.specs.Parts.{kept, stands_by, shelf_of, AllStand}
+use Rattle.kt_stores.specs.Parts.{kept, stands_by, shelf_of}
 use Rattle.kt_stores.proofs.Beside.{none_some, some_is, map-on_nth, map_at}
 
 -- ---- lists

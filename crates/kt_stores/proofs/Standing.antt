@@ -1,12 +1,13 @@
 -- The stores of a tablet where their pool alone has changed.
 use Rattle.std.proofs.Common.{◌≡◌, ◌↔◌, ℕ, Bool, List, Result, Ok, Err, ap}
 use Rattle.std.specs.Prelude.{OnOk, OnErr, IfOk}
+use Rattle.kt_history.proofs.Beside.{Stays, IsPlaced}
 use Rattle.kt_history.specs.declared.target.Target.{Target}
 use Rattle.kt_history.specs.Stores.{Store}
 use Rattle.kt_memrowset.specs.declared.store.MemRowSet.{MemRowSet}
 use Rattle.kt_pool.specs.Contents.{Contents, at_cell, with_reserved}
 use Rattle.kt_stores.specs.Parts.{kept, shelved, stands_by, owns_by, read_by, shelf_of, AreKept}
-use Rattle.kt_stores.proofs.Beside.{Stays, IsPlaced, kept_same}
+use Rattle.kt_stores.proofs.Beside.{kept_same}
 use Rattle.kt_stores.proofs.Either.{stays_of, stays_by, placed_by}
 
 module _ {R : Type 0} (stands : R → Contents → Type 0) (owns : R → Contents → ℕ → Type 0) (target : R → Target) (store : R → Contents → Store) (closed : R → Bool) (cells : R → Contents → ℕ)

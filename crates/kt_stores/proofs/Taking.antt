@@ -2,6 +2,7 @@
 use Rattle.std.proofs.Common.{◌≡◌, ℕ, zero, suc, ◌+◌, Bool, true, false, List, [], ◌∷◌, map, Option, Some, None, is_some, refl, sym, ap, subst, ◌∙◌, arith}
 use Rattle.std.specs.Prelude.{slice_get, unwrap_or, if◌then◌else◌}
 use Rattle.std.specs.Option.{option_map}
+use Rattle.kt_history.proofs.Beside.{Stays, IsPlaced}
 use Rattle.kt_history.specs.declared.operation.RowOp.{RowOp}
 use Rattle.kt_history.specs.declared.row_store.Taken.{Taken}
 use Rattle.kt_history.specs.declared.target.Kindly.{Kindly}
@@ -13,7 +14,7 @@ use Rattle.kt_histlaws.specs.Histories.{hists, or_else, on_nth}
 use Rattle.kt_pool.specs.Contents.{Contents}
 use Rattle.kt_stores.specs.Shelf.{Shelved, has_live, last_live, place_of, name_at, holding, FirstIsOpen}
 use Rattle.kt_stores.specs.Parts.{shelf_of, AreKept, HasTakenAt, MayTakeAt}
-use Rattle.kt_stores.proofs.Beside.{Stays, IsPlaced, none_some, some_is, read_at, exact_at, on_nth_at, on_nth_same, map-on_nth, map_at, kept_grown}
+use Rattle.kt_stores.proofs.Beside.{none_some, some_is, read_at, exact_at, on_nth_at, on_nth_same, map-on_nth, map_at, kept_grown}
 use Rattle.kt_stores.proofs.Seeking.{seek, position_is, seek_at, seek_none, some_suc}
 
 -- what each store of a shelf holds

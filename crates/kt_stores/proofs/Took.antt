@@ -2,6 +2,7 @@
 use Rattle.std.proofs.Common.{◌≡◌, ℕ, List, ◌++◌, length, take, drop, None, is_some, sym, ap, subst, ◌∙◌, arith}
 use Rattle.std.specs.Prelude.{if◌then◌else◌}
 use Rattle.std.proofs.lemmas.List.{append-nil, take_all, drop_all}
+use Rattle.kt_history.proofs.Beside.{Stays, IsPlaced}
 use Rattle.kt_history.specs.declared.operation.RowOp.{RowOp}
 use Rattle.kt_history.specs.declared.row_store.Taken.{Taken}
 use Rattle.kt_history.specs.Stores.{kind_made, change_by, with_change, share}
@@ -11,7 +12,6 @@ use Rattle.kt_memrowset.specs.declared.store.MemRowSet.{MemRowSet}
 use Rattle.kt_pool.specs.Contents.{Contents}
 use Rattle.kt_stores.specs.Shelf.{Shelved, StoresView, stores_of, last_live, place_of, name_at, holding, TakesAt}
 use Rattle.kt_stores.specs.Parts.{kept, stands_by, owns_by, read_by, shelf_of, AreKept, HasTakenAt}
-use Rattle.kt_stores.proofs.Beside.{Stays, IsPlaced}
 use Rattle.kt_stores.proofs.Taking.{held, shelf_after, stores_after, named_after, idle_after, there_after}
 
 pub record Took (old new : StoresView) (ts : ℕ) (op : RowOp) (taken : Taken) : Type 0 where

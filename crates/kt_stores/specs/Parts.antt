@@ -2,6 +2,7 @@
 use Rattle.std.specs.Prelude.{◌≡◌, ◌+◌, ℕ, Bool, false, List, [], ◌∷◌, ◌++◌, map, Some, None, length, slice_get, ◌⊎◌}
 use Rattle.std.specs.Option.{option_map}
 use Rattle.std.proofs.Common.{inl, inr}
+use Rattle.kt_history.specs.Beside.{AllStand, OwnedBy, AreApart}
 use Rattle.kt_history.specs.declared.operation.RowOp.{RowOp}
 use Rattle.kt_history.specs.declared.row_store.Taken.{Taken}
 use Rattle.kt_history.specs.declared.target.Target.{Target}
@@ -40,21 +41,6 @@ read_by read (inr s) pool = read s pool
 -- stores as they stand in a pool
 abbrev pub shelf_of : {X : Type 0} → (X → Contents → Shelved) → Contents → List X → List Shelved
 shelf_of read pool xs = map (λ x. read x pool) xs
-
--- each stands
-abbrev pub AllStand : {X : Type 0} → (X → Contents → Type 0) → Contents → List X → Type 0
-AllStand stands pool [] = Unit {0}
-AllStand stands pool (x ∷ xs) = stands x pool × AllStand stands pool xs
-
--- one of them owns the cell
-abbrev pub OwnedBy : {X : Type 0} → (X → Contents → ℕ → Type 0) → Contents → List X → ℕ → Type 0
-OwnedBy owns pool [] k = ⊥
-OwnedBy owns pool (x ∷ xs) k = owns x pool k ⊎ OwnedBy owns pool xs k
-
--- no cell is owned by two
-abbrev pub AreApart : {X : Type 0} → (X → Contents → ℕ → Type 0) → Contents → List X → Type 0
-AreApart owns pool [] = Unit {0}
-AreApart owns pool (x ∷ xs) = ((k : ℕ) → owns x pool k → ¬ OwnedBy owns pool xs k) × AreApart owns pool xs
 
 -- the stores stand, no cell is owned by two, all cells that are used are theirs, the first alone takes inserts, and one without a row has no cell
 pub record AreKept {X : Type 0} (stands : X → Contents → Type 0) (owns : X → Contents → ℕ → Type 0) (read : X → Contents → Shelved) (xs : List X) (pool : Contents) : Type 0 where

@@ -38,6 +38,10 @@ last_live q stores = first_some (map last_row (hists q stores))
 abbrev pub place_of : List ℕ → List Store → ℕ
 place_of q stores = unwrap_or (position (has_live q) stores) 0
 
+-- the name of each
+abbrev pub names_of : List Shelved → List Target
+names_of shelf = map (λ (s : Shelved). s.name) shelf
+
 -- the name of store i
 abbrev pub name_at : ℕ → List Shelved → Option Target
 name_at i shelf = option_map (λ (s : Shelved). s.name) (slice_get shelf i)

@@ -5,10 +5,8 @@
 //! what a store of rows is.
 #![tactic(auto)]
 
-mod shelf_store;
 pub mod stores;
 #[cfg(test)]
 mod tests;
 
-pub use shelf_store::ShelfStore;
 pub use stores::Stores;

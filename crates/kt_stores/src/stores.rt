@@ -7,9 +7,8 @@ ghost use Rattle.std.specs.Option.{option_map};
 ghost use Rattle.kt_history.specs.Stores.{changes_upto};
 ghost use Rattle.kt_pool.specs.Contents.{used, free, with_reserved};
 
-use crate::shelf_store::ShelfStore;
 use kt_base::NoMemory;
-use kt_history::ChangeList;
+use kt_history::{ChangeList, ChangeStore, RowStore};
 use kt_memrowset::MemRowSet;
 use kt_pool::{Full, Pool};
 use std::alloc::Global;
@@ -18,14 +17,14 @@ use std::marker::Model;
 /// The stores of a tablet in one pool: the MemRowSet that takes inserts, the frozen ones, the newest first, and the disk
 /// rowsets. Contracts see the stores as a list in this order, and count places in it.
 #[derive(Drop)]
-pub struct Stores<R: ShelfStore> {
+pub struct Stores<R: RowStore> {
     pool: Pool,
     active: MemRowSet,
     frozen: Vec<MemRowSet>,
     rowsets: Vec<R>,
 }
 
-impl<R: ShelfStore> Model for Stores<R> {
+impl<R: RowStore> Model for Stores<R> {
     ghost use Rattle.std.specs.Prelude.{length, ◌<◌, ◌^◌};
     ghost use Rattle.kt_stores.specs.Shelf.{StoresView};
 
@@ -42,8 +41,9 @@ impl<R: ShelfStore> Model for Stores<R> {
     ghost invariant = { λ s. AreKept (stands_by R.stands) (owns_by R.owns) (read_by (shelved R.target R.store R.is_closed R.cells)) (kept s.active s.frozen.items s.rowsets.items) s.pool × (length s.rowsets.items < 2 ^ 32) };
 }
 
-impl<R: ShelfStore> Stores<R> {
-    ghost use Rattle.std.specs.Prelude.{[], ◌∷◌};
+impl<R: RowStore> Stores<R> {
+    ghost use Rattle.std.specs.Prelude.{[], ◌∷◌, take};
+    ghost use Rattle.kt_history.specs.Grown.{AllGrown};
     ghost use Rattle.kt_stores.specs.Shelf.{stores_of, cells_in, empty_mem, FirstIsOpen, AreExact};
     ghost use Rattle.kt_stores.specs.Parts.{kept, shelved, stands_by, owns_by, read_by, shelf_of, AreKept};
 
@@ -73,12 +73,13 @@ impl<R: ShelfStore> Stores<R> {
         Stores::of(alloc, pool, MemRowSet::new(number), Vec::new(alloc))
     }
 
-    /// What always holds of them: all cells that are used are theirs, the first alone takes inserts, and one without a row
-    /// has no cell.
+    /// What always holds of them: all cells that are used are theirs, the first alone takes inserts, one without a row has
+    /// no cell, and of a row in memory there is nothing but its changes.
     pub fn standing(&self)
         ensures used { used self.now.pool ≡ cells_in self.now.shelf }
         ensures first { FirstIsOpen self.now.shelf }
         ensures exact { AreExact self.now.shelf }
+        ensures memory { AllGrown (take (1 + self.now.frozen) (stores_of self.now)) }
     {
         let _ = &self.active;
     }
@@ -95,6 +96,13 @@ impl<R: ShelfStore> Stores<R> {
         ensures { result ≡ length self.now.shelf }
     {
         1 + self.frozen.len() + self.rowsets.len()
+    }
+
+    /// How many of them are frozen MemRowSets.
+    pub fn frozen(&self) -> usize
+        ensures { result ≡ self.now.frozen }
+    {
+        self.frozen.len()
     }
 
     /// How many cells the pool has.
@@ -142,20 +150,41 @@ impl<R: ShelfStore> Stores<R> {
         self.pool.release(n);
     }
 
-    /// The changes of a store at or below a time, by rising key, then timestamp.
+    /// The changes of a store in memory at or below a time, by rising key, then timestamp.
     pub fn changes(&self, alloc: Global, at: usize, upto: u64) -> Result<ChangeList, NoMemory>
-        requires { at < length self.now.shelf }
+        requires { at ≤ self.now.frozen }
         ensures { IfOk result (λ list. option_map (changes_upto upto) (slice_get (stores_of self.now) at) ≡ Some list) }
     {
         if at == 0 {
-            return self.active.changes(alloc, &self.pool, upto);
-        }
-        let at = at - 1;
-        let frozen = self.frozen.len();
-        if at < frozen {
-            self.frozen[at].changes(alloc, &self.pool, upto)
+            self.active.changes(alloc, &self.pool, upto)
         } else {
-            self.rowsets[at - frozen].changes(alloc, &self.pool, upto)
+            self.frozen[at - 1].changes(alloc, &self.pool, upto)
+        }
+    }
+}
+
+impl<R: ChangeStore> Stores<R> {
+    ghost use Rattle.kt_history.specs.Grown.{AllGrown};
+    ghost use Rattle.kt_stores.specs.Shelf.{stores_of};
+
+    /// All that each has of a row are its changes.
+    pub fn grown(&self)
+        ensures { AllGrown (stores_of self.now) }
+    {
+        R::grown_law();
+        let _ = &self.active;
+    }
+
+    /// The changes of any store at or below a time, by rising key, then timestamp.
+    pub fn changes_at(&self, alloc: Global, at: usize, upto: u64) -> Result<ChangeList, NoMemory>
+        requires { at < length self.now.shelf }
+        ensures { IfOk result (λ list. option_map (changes_upto upto) (slice_get (stores_of self.now) at) ≡ Some list) }
+    {
+        let memory = self.frozen.len();
+        if at <= memory {
+            self.changes(alloc, at, upto)
+        } else {
+            self.rowsets[at - 1 - memory].changes(alloc, &self.pool, upto)
         }
     }
 }

@@ -2,11 +2,12 @@
 //! frozen ones.
 ghost use Rattle.std.specs.Prelude.{◌≡◌, ◌+◌, ◌∷◌, ◌++◌, [], ℕ, true, length, OnOk, OnErr};
 ghost use Rattle.kt_memrowset.specs.Stores.{IsStore, Owns};
-ghost use Rattle.kt_stores.specs.Parts.{AllStand, AreApart, AreEmptied};
+ghost use Rattle.kt_history.specs.Beside.{AllStand, AreApart};
+ghost use Rattle.kt_stores.specs.Parts.{AreEmptied};
 
 use super::Stores;
-use crate::shelf_store::ShelfStore;
 use kt_base::NoMemory;
+use kt_history::RowStore;
 use kt_memrowset::MemRowSet;
 use kt_pool::Pool;
 use std::mem;
@@ -23,7 +24,7 @@ fn empty_all(stores: &mut Vec<MemRowSet>, pool: &mut Pool)
     }
 }
 
-impl<R: ShelfStore> Stores<R> {
+impl<R: RowStore> Stores<R> {
     ghost use Rattle.kt_stores.specs.Shelf.{frozen_behind, without_frozen};
 
     /// Freezes the store that takes inserts. It stands first among the frozen ones then, and a new one of this number,
@@ -54,7 +55,7 @@ impl<R: ShelfStore> Stores<R> {
     }
 }
 
-impl<R: ShelfStore + Drop> Stores<R> {
+impl<R: RowStore + Drop> Stores<R> {
     ghost use Rattle.kt_stores.specs.Parts.{shelved};
 
     /// A rowset comes in behind the others. It stands in the pool and has no cell there yet. Without memory nothing changes.

@@ -1,14 +1,14 @@
 //! Operations, each for the store that has its row.
 ghost use Rattle.std.specs.Prelude.{◌≡◌, ◌<◌, ◌≤◌, length, [], None, false, is_some, if◌then◌else◌};
 ghost use Rattle.std.specs.List.{All, position};
+ghost use Rattle.kt_history.specs.Beside.{AllStand};
 ghost use Rattle.kt_history.specs.Stores.{kind_made, change_by, is_there, with_change, share};
 ghost use Rattle.kt_histlaws.specs.Histories.{hists, on_nth};
 ghost use Rattle.kt_histlaws.specs.Flights.{AllUnder};
-ghost use Rattle.kt_stores.specs.Parts.{kept, shelved, stands_by, owns_by, read_by, AllStand, HasTaken, HasTakenAt, MayTakeAt};
+ghost use Rattle.kt_stores.specs.Parts.{kept, shelved, stands_by, owns_by, read_by, HasTaken, HasTakenAt, MayTakeAt};
 ghost use Rattle.kt_stores.specs.Shelf.{has_live};
 
 use super::Stores;
-use crate::shelf_store::ShelfStore;
 use kt_history::{OpRef, RowStore, Taken};
 use kt_memrowset::MemRowSet;
 use kt_pool::Pool;
@@ -37,7 +37,7 @@ fn take_in<S: RowStore>(store: &mut S, pool: &mut Pool, ts: u64, op: &OpRef<'_>)
 }
 
 // An operation reaches the store at a place.
-fn take_at<R: ShelfStore>(
+fn take_at<R: RowStore>(
     active: &mut MemRowSet,
     frozen: &mut [MemRowSet],
     rowsets: &mut [R],
@@ -64,7 +64,7 @@ fn take_at<R: ShelfStore>(
     }
 }
 
-impl<R: ShelfStore> Stores<R> {
+impl<R: RowStore> Stores<R> {
     ghost use Rattle.kt_stores.specs.Shelf.{stores_of, last_live, place_of, name_at, TakesAt};
 
     // The place of the first store that has the row of a key after all changes.
