@@ -10,6 +10,8 @@ use Rattle.kt_history.specs.declared.command.Command.TheVariants as command
 use Rattle.kt_history.specs.declared.event.Event.{Event}
 use Rattle.kt_history.specs.declared.event.Event.TheVariants.{Begin}
 use Rattle.kt_history.specs.declared.operation.RowOp.{RowOp}
+use Rattle.kt_history.specs.declared.target.Target.{Target}
+use Rattle.kt_records.specs.declared.entry.CommitRow.{CommitRow}
 use Rattle.kt_history.specs.Operations.{need, share_key}
 use Rattle.kt_history.specs.Rows.{Row, key_cmp}
 use Rattle.kt_history.specs.Machine.{Flying, next_timestamp, IfWrite, ops_of, command_at, least}
@@ -23,7 +25,7 @@ use Rattle.kt_histlaws.specs.Core.{Core, Stands, flown_by}
 use Rattle.kt_histlaws.specs.Events.{begun}
 use Rattle.kt_histlaws.proofs.Events.{begin_stands}
 use Rattle.kt_tablet.specs.declared.tablet.FlyingWrite.{FlyingWrite}
-use Rattle.kt_tablet.specs.Views.{View, IsSound, IsReady, IsProvided, AreProvided, owed, aloft_of, flier_of}
+use Rattle.kt_tablet.specs.Views.{View, IsSound, IsReady, IsProvided, AreProvided, owed, rows_of, placed_of, aloft_of, flier_of}
 use Rattle.kt_tablet.specs.Visits.{MayBeginNow, HasBegun}
 use Rattle.kt_tablet.proofs.Visits.{told_line}
 use Rattle.kt_tablet.proofs.Flights.{apart-append, rests_here}
@@ -101,11 +103,11 @@ new_begun : (core : Core) (s i ts m : ℕ) (ops : List RowOp) (trail : List Even
     → record core { trail = trail; a = a; c = c; aloft = aloft; stores = stores } ≡ begun core s i ts m ops
 new_begun core s i ts m ops trail a c aloft stores kept lines stays last fly = λ k. record core { trail = lines k; a = stays k; c = last k; aloft = fly k; stores = kept k }
 
-pub begin_sound : {C : Type 0} (readings : C → Option (List ℕ)) (view : View C) (clock : C) (s i ts m : ℕ) (ops : List RowOp) (needs : ℕ) (trail : List Event) (a c : ℕ) (aloft : List Aloft) (stores : List Store) (pool : Contents)
+pub begin_sound : {C : Type 0} (readings : C → Option (List ℕ)) (view : View C) (clock : C) (s i ts m : ℕ) (ops : List RowOp) (needs : ℕ) (trail : List Event) (a c : ℕ) (aloft : List Aloft) (stores : List Store) (names : List Target) (notes : List (List CommitRow)) (places : List (ℕ × ℕ)) (pool : Contents)
     → IsSound readings view → stores ≡ view.core.stores → MayBeginNow view.core s i ops needs → ts ≡ next_timestamp view.core.c m → list_any (λ w. share_key ops w.ops) (map flown_by view.core.aloft) ≡ false → Grows (readings view.clock) (readings clock) (m ∷ [])
     → trail ≡ view.core.trail ++ Begin s i ts m ∷ [] → a ≡ view.core.a → c ≡ ts → aloft ≡ view.core.aloft ++ record { s = s; i = i; ts = ts; ops = ops; applied = 0 } ∷ []
-    → IsSound readings (record view { core = record view.core { trail = trail; a = a; c = c; aloft = aloft; stores = stores }; clock = clock; pool = pool })
-begin_sound readings view clock s i ts m ops needs trail a c aloft stores pool sound kept may time free more lines stays last fly = record {
+    → IsSound readings (record view { core = record view.core { trail = trail; a = a; c = c; aloft = aloft; stores = stores }; clock = clock; names = names; notes = notes; places = places; pool = pool })
+begin_sound readings view clock s i ts m ops needs trail a c aloft stores names notes places pool sound kept may time free more lines stays last fly = record {
   stands = λ first told. subst Stands (sym (new_begun (record view.core { first = first }) s i ts m ops trail a c aloft stores kept lines stays last fly))
       (subst (λ os. Stands (begun (record view.core { first = first }) s i ts m os)) (the_ops (command_at view.core.work s i) ops may.may.write)
       (begin_stands (record view.core { first = first }) s i ts m (sound.stands first told) (
@@ -114,6 +116,7 @@ begin_sound readings view clock s i ts m ops needs trail a c aloft stores pool s
         if_write (command_at view.core.work s i) ops _ may.may.write (record { room = subst (λ n. n ≤ view.core.work.cells) may.cells may.fits; apart = free; next = time }),
       )));
   clock = told_line readings view.opened view.clock clock view.core.trail trail (Begin s i ts m) sound.clock more lines;
+  plan = sound.plan;
 }
 
 pub has_begun : {C : Type 0} (view old : View C) (s i ts m : ℕ) (ops : List RowOp) (trail : List Event) (a c : ℕ) (aloft : List Aloft) (stores : List Store) → view ≡ old → stores ≡ view.core.stores → ts ≡ next_timestamp view.core.c m
@@ -121,6 +124,14 @@ pub has_begun : {C : Type 0} (view old : View C) (s i ts m : ℕ) (ops : List Ro
     → HasBegun old.core (record view.core { trail = trail; a = a; c = c; aloft = aloft; stores = stores }) s i ops ts
 has_begun view old s i ts m ops trail a c aloft stores e kept time lines stays last fly =
     subst (λ v. HasBegun v.core (record view.core { trail = trail; a = a; c = c; aloft = aloft; stores = stores }) s i ops ts) e (record { m = m; time = time; core = new_begun view.core s i ts m ops trail a c aloft stores kept lines stays last fly })
+
+-- nothing is written of it yet
+pub one_note : (new mid old : List FlyingWrite) (f : FlyingWrite) → new ≡ mid ++ f ∷ [] → mid ≡ old → f.rows.items ≡ [] → map rows_of new ≡ map rows_of old ++ [] ∷ []
+one_note new mid old f h k none = ap (map rows_of) (h ∙ ap (λ l. l ++ f ∷ []) k) ∙ map-append rows_of old (f ∷ []) ∙ ap (λ rows. map rows_of old ++ rows ∷ []) none
+
+-- and it has its place
+pub one_place : (new mid old : List FlyingWrite) (f : FlyingWrite) → new ≡ mid ++ f ∷ [] → mid ≡ old → map placed_of new ≡ map placed_of old ++ placed_of f ∷ []
+one_place new mid old f h k = ap (map placed_of) (h ∙ ap (λ l. l ++ f ∷ []) k) ∙ map-append placed_of old (f ∷ [])
 
 -- whichever list of these operations is named
 pub begins_as : (core : Core) (s i : ℕ) (ops others : List RowOp) → others ≡ ops → MayBeginNow core s i ops (need ops) → MayBeginNow core s i others (need others)
@@ -157,13 +168,9 @@ ready_begun fill stopped w flights new mid flying more_flying lines room more mo
     })
 
 -- a promise changes nothing of the store
-pub promised_alike : {X : Type 0} (store : X → Contents → Store) (s : X) (pool new : Contents) (n : ℕ)
-    → store s (with_reserved pool n) ≡ store s pool → new ≡ with_reserved pool n → store s new ≡ store s pool
-promised_alike store s pool new n same e = ap (store s) e ∙ same
-
-pub promised_placed : {X : Type 0} (stands : X → Contents → Type 0) (s : X) (pool new : Contents) (n : ℕ)
-    → stands s (with_reserved pool n) → new ≡ with_reserved pool n → stands s new
-promised_placed stands s pool new n here e = subst (stands s) (sym e) here
-
 pub way_old : {C : Type 0} (view old : View C) (ops : List RowOp) (found : Option ℕ) → view ≡ old → least (filter (λ w. share_key ops w.ops) (map flown_by view.core.aloft)) ≡ found → least (filter (λ w. share_key ops w.ops) (map flown_by old.core.aloft)) ≡ found
 way_old view old ops found e h = subst (λ v. least (filter (λ w. share_key ops w.ops) (map flown_by v.core.aloft)) ≡ found) e h
+
+-- nothing else has changed where the names are the same
+pub beside_names : {C : Type 0} (view old : View C) (core : Core) (clock : C) (names : List Target) (notes : List (List CommitRow)) (places : List (ℕ × ℕ)) (pool : Contents) → view ≡ old → names ≡ view.names → record view { core = core; clock = clock; names = names; notes = notes; places = places; pool = pool } ≡ record old { core = core; clock = clock; notes = notes; places = places; pool = pool }
+beside_names view old core clock names notes places pool e same = let f = same ∙ ap (λ v. v.names) e in λ k. record (e k) { core = core; clock = clock; names = f k; notes = notes; places = places; pool = pool }

@@ -11,9 +11,10 @@ use Rattle.kt_histlaws.specs.Parts.{IsOfAnother}
 use Rattle.kt_histlaws.specs.Pending.{Aloft}
 use Rattle.kt_histlaws.specs.Core.{flown_by}
 use Rattle.kt_histlaws.specs.Events.{IsNextOp, advance}
+use Rattle.kt_records.specs.declared.entry.CommitRow.{CommitRow}
 use Rattle.kt_tablet.specs.declared.tablet.FlyingWrite.{FlyingWrite}
 use Rattle.kt_tablet.specs.Rows.{OneOfEach}
-use Rattle.kt_tablet.specs.Views.{aloft_of, flier_of, owed, IsProvided, AreProvided}
+use Rattle.kt_tablet.specs.Views.{rows_of, placed_of, place_at, aloft_of, flier_of, owed, IsProvided, AreProvided}
 use Rattle.kt_tablet.specs.Visits.{flight_of}
 
 -- the first flying write of session s is at place j
@@ -195,3 +196,60 @@ pub of_another : (s : ℕ) (flights : List FlyingWrite) (j : ℕ) → IsPlaceOf 
 of_another s [] j h k ne = tt
 of_another s (w ∷ flights) zero h k ne = λ e. ne (sym e ∙ same_who w.who s h)
 of_another s (w ∷ flights) (suc j) h k ne = of_another s flights j h.1 k ne
+
+-- ---- what they have written for the log
+
+pub place_own : (s : ℕ) (flights : List FlyingWrite) (j : ℕ) (w : FlyingWrite) → IsPlaceOf s flights j → w ≡ get_or flights j w → w.who ≡ s
+place_own s [] j w h is = absurd h
+place_own s (v ∷ flights) zero w h is = ap (λ y. y.who) is ∙ same_who v.who s h
+place_own s (v ∷ flights) (suc j) w h is = place_own s flights j w h.1 is
+
+pub aloft_there : (flights : List FlyingWrite) (j : ℕ) (w : FlyingWrite) → j < length flights → w ≡ get_or flights j w → slice_get (map aloft_of flights) j ≡ Some (aloft_of w)
+aloft_there [] j w lt is = absurd (omega (arith, lt))
+aloft_there (v ∷ flights) zero w lt is = ap (λ x. Some (aloft_of x)) (sym is)
+aloft_there (v ∷ flights) (suc j) w lt is = aloft_there flights j w (omega (arith, lt)) is
+
+pub notes_there : (flights : List FlyingWrite) (j : ℕ) (w : FlyingWrite) → j < length flights → w ≡ get_or flights j w → slice_get (map rows_of flights) j ≡ Some w.rows.items
+notes_there [] j w lt is = absurd (omega (arith, lt))
+notes_there (v ∷ flights) zero w lt is = ap (λ x. Some (rows_of x)) (sym is)
+notes_there (v ∷ flights) (suc j) w lt is = notes_there flights j w (omega (arith, lt)) is
+
+pub notes_set : (flights : List FlyingWrite) (j : ℕ) (w x : FlyingWrite) (row : CommitRow) → w ≡ get_or flights j w → x.rows.items ≡ w.rows.items ++ row ∷ [] → map rows_of (slice_set flights j x) ≡ on_nth j (λ rows. rows ++ row ∷ []) (map rows_of flights)
+notes_set [] j w x row is e = refl
+notes_set (v ∷ flights) zero w x row is e = ap (λ rows. rows ∷ map rows_of flights) (e ∙ ap (λ y. rows_of y ++ row ∷ []) is)
+notes_set (v ∷ flights) (suc j) w x row is e = ap (λ notes. rows_of v ∷ notes) (notes_set flights j w x row is e)
+
+pub notes_removed : (flights : List FlyingWrite) (j : ℕ) → map rows_of (remove flights j) ≡ remove (map rows_of flights) j
+notes_removed [] zero = refl
+notes_removed [] (suc j) = refl
+notes_removed (w ∷ flights) zero = refl
+notes_removed (w ∷ flights) (suc j) = ap (λ notes. rows_of w ∷ notes) (notes_removed flights j)
+
+-- ---- the places of their REPLICATEs
+
+pub places_set : (flights : List FlyingWrite) (j : ℕ) (w x : FlyingWrite) → w ≡ get_or flights j w → placed_of x ≡ placed_of w → map placed_of (slice_set flights j x) ≡ map placed_of flights
+places_set [] j w x is e = refl
+places_set (v ∷ flights) zero w x is e = ap (λ y. y ∷ map placed_of flights) (e ∙ ap placed_of is)
+places_set (v ∷ flights) (suc j) w x is e = ap (λ y. placed_of v ∷ y) (places_set flights j w x is e)
+
+-- each is of the write's session
+pub places_own : (flights : List FlyingWrite) → map (λ p. p.0) (map placed_of flights) ≡ map (λ w. w.s) (map aloft_of flights)
+places_own [] = refl
+places_own (w ∷ flights) = ap (λ ss. w.who ∷ ss) (places_own flights)
+
+-- a session that has one has a flying write
+pub place_flies : (s : ℕ) (flights : List FlyingWrite) (place : ℕ) → place_at s (map placed_of flights) ≡ Some place → list_any (λ f. f.who == s) flights ≡ true
+place_flies s [] place h = cc
+place_flies s (w ∷ flights) place h = elim (w.who == s) as (λ b. cond b (Some w.place) (place_at s (map placed_of flights)) ≡ Some place → (b || list_any (λ f. f.who == s) flights) ≡ true) [
+  | true ↦ λ e. refl
+  | false ↦ λ e. place_flies s flights place e
+] h
+
+-- and it is that write's
+pub place_here : (s : ℕ) (flights : List FlyingWrite) (j : ℕ) (w : FlyingWrite) → IsPlaceOf s flights j → w ≡ get_or flights j w → place_at s (map placed_of flights) ≡ Some w.place
+place_here s [] j w h is = absurd h
+place_here s (v ∷ flights) zero w h is = ap (λ b. cond b (Some v.place) (place_at s (map placed_of flights))) h ∙ ap (λ x. Some x.place) (sym is)
+place_here s (v ∷ flights) (suc j) w h is = ap (λ b. cond b (Some v.place) (place_at s (map placed_of flights))) h.0 ∙ place_here s flights j w h.1 is
+
+pub place_shown : (s j : ℕ) (flights shown : List FlyingWrite) (place : ℕ) → place_at s (map placed_of flights) ≡ Some place → shown ≡ flights → j ≡ position_or_len (λ f. f.who == s) shown → IsPlaceOf s flights j
+place_shown s j flights shown place h same is = subst (IsPlaceOf s flights) (sym (is ∙ ap (position_or_len (λ f. f.who == s)) same)) (placed_at s flights (place_flies s flights place h))

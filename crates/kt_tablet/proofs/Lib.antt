@@ -1,3 +1,4 @@
+pub mod Keeps
 pub mod Visits
 pub mod Begins
 pub mod Exact
@@ -6,6 +7,7 @@ pub mod Told
 pub mod Written
 pub mod Flights
 pub mod Applying
+pub mod Several
 pub mod Rows
 pub mod Plans
 pub mod Places

@@ -14,15 +14,9 @@ use Rattle.kt_histlaws.specs.Core.{Core, Stands, now}
 use Rattle.kt_histlaws.proofs.Events.{open_stands}
 use Rattle.kt_histlaws.proofs.Pending.{shows_alike, timeline-done}
 use Rattle.kt_tablet.specs.declared.tablet.FlyingWrite.{FlyingWrite}
+use Rattle.kt_tablet.specs.Plans.{PlanKeeps}
 use Rattle.kt_tablet.specs.Views.{aloft_of, View, IsSound}
-
--- no session has a write on a key twice where there is none
-pub none_planned : (work : Workload) → work.plan ≡ [] → HasDifferentKeys work
-none_planned work none s i = subst (λ p. DifferentKeys (ops_of (command_at (record work { plan = p }) s i))) (sym none) (none_at s)
-  where
-    none_at : (s : ℕ) → DifferentKeys (ops_of (command_at (record work { plan = [] }) s i))
-    none_at zero = tt
-    none_at (suc k) = tt
+use Rattle.kt_tablet.proofs.Keeps.{keys_differ}
 
 -- while nothing flies, what is done is all
 all_kept : (steps : Steps) → filter (λ x. not (is_pending [] [] x.0)) steps ≡ steps
@@ -38,22 +32,24 @@ first_state core st lines = sym (ap (state_after core.work (start core.work core
 
 -- so that it stands for another plan too
 pub plan_sound : {C : Type 0} (readings : C → Option (List ℕ)) (view old : View C) (plan kept : List (List Command)) (turns : List Turn) → IsSound readings view → view ≡ old
-    → (old.core.trail ≡ []) × (old.core.aloft ≡ []) × (old.core.stopped ≡ false) → HasDifferentKeys (record old.core.work { plan = plan }) → kept ≡ plan → turns ≡ first_turns plan
+    → (old.core.trail ≡ []) × (old.core.aloft ≡ []) × (old.core.stopped ≡ false) → PlanKeeps (record old.core.work { plan = plan }) → kept ≡ plan → turns ≡ first_turns plan
     → IsSound readings (record view { core = record view.core { work = record view.core.work { plan = kept }; turns = turns } })
-plan_sound readings view old plan kept turns sound same fresh planned taken places = record {
-  stands = λ first told.
-      let core : Core = record view.core { first = first } in
-      let st = sound.stands first told in
-      let is = first_state core st (ap (λ v. v.core.trail) same ∙ fresh.0) in
-      let past : first ≡ st.past = ap (λ s. s.past) is in
-      let mark : first.mark ≡ view.core.a = ap (λ s. s.a) is in
-      open_stands (record core { work = record core.work { plan = kept }; turns = turns }) (ap (λ v. v.core.trail) same ∙ fresh.0) (ap (λ v. v.core.aloft) same ∙ fresh.1)
-      (sym mark) (sym (ap (λ s. s.c) is)) (ap (λ v. v.core.stopped) same ∙ fresh.2) (places ∙ ap first_turns (sym taken)) told.ends
-      (subst (λ p. Shows first.mark core.stores p) (sym past) (subst (λ n. Shows n core.stores st.past) (sym mark) (all_shown core.stores core.aloft st.past core.a (ap (λ v. v.core.aloft) same ∙ fresh.1) st.stores.same)))
-      (λ q. subst (λ n. AreSound n (hists q core.stores)) (sym mark) (st.stores.sound q))
-      (subst (λ p. HasDifferentKeys (record view.core.work { plan = p })) (sym taken) (subst (λ v. HasDifferentKeys (record v.core.work { plan = plan })) (sym same) planned));
-  clock = sound.clock;
-}
+plan_sound readings view old plan kept turns sound same fresh keeps taken places =
+    let kept_to = subst (λ p. PlanKeeps (record view.core.work { plan = p })) (sym taken) (subst (λ v. PlanKeeps (record v.core.work { plan = plan })) (sym same) keeps) in record {
+      stands = λ first told.
+          let core : Core = record view.core { first = first } in
+          let st = sound.stands first told in
+          let is = first_state core st (ap (λ v. v.core.trail) same ∙ fresh.0) in
+          let past : first ≡ st.past = ap (λ s. s.past) is in
+          let mark : first.mark ≡ view.core.a = ap (λ s. s.a) is in
+          open_stands (record core { work = record core.work { plan = kept }; turns = turns }) (ap (λ v. v.core.trail) same ∙ fresh.0) (ap (λ v. v.core.aloft) same ∙ fresh.1)
+          (sym mark) (sym (ap (λ s. s.c) is)) (ap (λ v. v.core.stopped) same ∙ fresh.2) (places ∙ ap first_turns (sym taken)) told.ends
+          (subst (λ p. Shows first.mark core.stores p) (sym past) (subst (λ n. Shows n core.stores st.past) (sym mark) (all_shown core.stores core.aloft st.past core.a (ap (λ v. v.core.aloft) same ∙ fresh.1) st.stores.same)))
+          (λ q. subst (λ n. AreSound n (hists q core.stores)) (sym mark) (st.stores.sound q))
+          (keys_differ (record view.core.work { plan = kept }) kept_to);
+      clock = sound.clock;
+      plan = kept_to;
+    }
 
 pub taken : {C : Type 0} (view old : View C) (plan kept : List (List Command)) (turns : List Turn) → view ≡ old → kept ≡ plan → turns ≡ first_turns plan
     → record view { core = record view.core { work = record view.core.work { plan = kept }; turns = turns } } ≡ record old { core = record old.core { work = record old.core.work { plan = plan }; turns = first_turns plan } }

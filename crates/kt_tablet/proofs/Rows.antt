@@ -11,8 +11,8 @@ use Rattle.kt_history.specs.Rows.{Row}
 use Rattle.kt_mvcc.specs.declared.flier.Flier.{Flier}
 use Rattle.kt_pool.specs.Contents.{Contents}
 use Rattle.kt_records.specs.declared.entry.CommitRow.{CommitRow}
-use Rattle.kt_histlaws.specs.Histories.{hists, on_nth, Alone}
-use Rattle.kt_history.specs.Stores.{Store, hist_in, row_of, Under, share}
+use Rattle.kt_histlaws.specs.Histories.{hists, on_nth, Alone, AtMostOne}
+use Rattle.kt_history.specs.Stores.{Store, row_of, share}
 use Rattle.kt_histlaws.specs.Flights.{AllUnder}
 use Rattle.kt_histlaws.specs.Parts.{IsOfAnother}
 use Rattle.kt_histlaws.specs.Pending.{Aloft}
@@ -20,43 +20,54 @@ use Rattle.kt_histlaws.specs.Core.{Core, Stands, live}
 use Rattle.kt_histlaws.specs.Events.{IsNextOp, IsOver, advance, applied, pushed_if}
 use Rattle.kt_histlaws.proofs.Applied.{applies, apply_stands, outcome_told}
 use Rattle.kt_histlaws.proofs.Applying.{stores_under}
+use Rattle.kt_histlaws.proofs.Shown.{at_most_one}
+use Rattle.kt_stores.specs.Shelf.{place_of}
+use Rattle.kt_tablet.specs.Filling.{filled}
 use Rattle.kt_tablet.specs.declared.tablet.FlyingWrite.{FlyingWrite}
-use Rattle.std.specs.List.{list_any, position_or_len}
-use Rattle.kt_tablet.specs.Rows.{IsNoted, AreNoted, AreWritten, commit_row}
-use Rattle.kt_tablet.specs.Views.{View, IsSound, IsReady, IsProvided, AreProvided, AreTold, Opens, aloft_of, flier_of}
-use Rattle.kt_tablet.specs.Visits.{MayApply, HasApplied, IsRunOutcome, IsDone, IsWritten, flight_of}
-use Rattle.kt_tablet.proofs.Flights.{IsPlaceOf, of_another, placed_at, flying_one, owed_of, owed_at, flight_at, flight_on, next_at, within, owed_set, provided_set, provided_at, fliers_set, length_set, apart_set}
+use Rattle.std.specs.List.{list_any, position_or_len, remove}
+use Rattle.kt_tablet.specs.Rows.{IsNoted, AreNoted, commit_row, AreRecorded, AreWritten}
+use Rattle.kt_tablet.specs.Views.{View, IsSound, IsReady, IsProvided, AreProvided, AreTold, Opens, rows_of, aloft_of, flier_of}
+use Rattle.kt_tablet.specs.Visits.{MayApply, HasApplied, HasNoted, IsRunOutcome, IsDone, IsWritten, HasHandedOut, flight_of}
+use Rattle.kt_tablet.proofs.Flights.{IsPlaceOf, of_another, placed_at, flying_one, owed_of, owed_at, flight_at, flight_on, next_at, within, owed_set, provided_set, provided_at, fliers_set, length_set, apart_set, place_own, aloft_there, notes_there, notes_set, notes_removed}
 use Rattle.kt_tablet.proofs.Applying.{need_at}
+use Rattle.kt_tablet.proofs.Several.{alone_at_place, place_filled}
 use Rattle.kt_tablet.proofs.Written.{written_at}
 use Rattle.kt_tablet.proofs.Visits.{same_flight}
 
--- everything that the store has of the key of the next row lies below the write, in each past that opening found
-pub under_next : {C : Type 0} (readings : C → Option (List ℕ)) (view : View C) (j ts : ℕ) (op : RowOp) (store : Store) → IsSound readings view → view.core.stores ≡ store ∷ [] → IsNextOp j view.core.aloft ts op
-    → (first : Past) → Opens view.opening view.mark view.core.opened first → Under ts (hist_in op.key store).steps
-under_next readings view j ts op store sound one next first opens =
+-- everything that the stores have of the key of the next row lies below the write, in each past that opening found
+pub under_next : {C : Type 0} (readings : C → Option (List ℕ)) (view : View C) (j ts : ℕ) (op : RowOp) → IsSound readings view → IsNextOp j view.core.aloft ts op
+    → (first : Past) → Opens view.opening view.mark view.core.opened first → AllUnder ts (hists op.key view.core.stores)
+under_next readings view j ts op sound next first opens =
     let core = record view.core { first = first } in
     let st = sound.stands first opens in
     let g = applies core st j ts op next in
-    (subst (λ ss. AllUnder ts (hists op.key ss)) one (stores_under view.core.stores view.core.aloft (on_nth j advance view.core.aloft) st.past view.core.a op.key ts st.stores.same g.above g.goes g.awaits)).0
+    stores_under view.core.stores view.core.aloft (on_nth j advance view.core.aloft) st.past view.core.a op.key ts st.stores.same g.above g.goes g.awaits
 
-new_applied : (core : Core) (j ts : ℕ) (op : RowOp) (aloft : List Aloft) (stores : List Store) → aloft ≡ on_nth j advance core.aloft → stores ≡ pushed_if 0 op.key ts (effect core.work.fill op.kind op.cells (live core.stores op.key ts)).0 core.stores
-    → record core { aloft = aloft; stores = stores } ≡ applied core j 0 ts op
-new_applied core j ts op aloft stores flies kept = λ k. record core { aloft = flies k; stores = kept k }
+-- and but for the store that the row goes to none has it
+pub alone_next : {C : Type 0} (readings : C → Option (List ℕ)) (view : View C) (j ts : ℕ) (op : RowOp) (fill : Row) (stores : List Store) → IsSound readings view → view.core.stores ≡ map (filled fill) stores → IsNextOp j view.core.aloft ts op → place_of op.key stores < length stores
+    → (first : Past) → Opens view.opening view.mark view.core.opened first → Alone (place_of op.key stores) (map (row_of ts) (hists op.key view.core.stores))
+alone_next readings view j ts op fill stores sound same next low first opens =
+    let core = record view.core { first = first } in
+    let st = sound.stands first opens in
+    let above = (applies core st j ts op next).above in
+    let one = at_most_one core st ts op.key (omega (arith, above)) in
+    subst (λ ss. Alone (place_of op.key stores) (map (row_of ts) (hists op.key ss))) (sym same)
+    (alone_at_place fill op.key ts stores (subst (λ ss. AllUnder ts (hists op.key ss)) same (under_next readings view j ts op sound next first opens)) (omega (arith, low)) (subst (λ ss. AtMostOne (map (row_of ts) (hists op.key ss))) same one))
 
-in_list : (stores : List Store) (store : Store) → stores ≡ store ∷ [] → 0 < length stores
-in_list stores store one = subst (λ ss. 0 < length ss) (sym one) (omega arith)
+new_applied : (core : Core) (j i ts : ℕ) (op : RowOp) (aloft : List Aloft) (stores : List Store) → aloft ≡ on_nth j advance core.aloft → stores ≡ pushed_if i op.key ts (effect core.work.fill op.kind op.cells (live core.stores op.key ts)).0 core.stores
+    → record core { aloft = aloft; stores = stores } ≡ applied core j i ts op
+new_applied core j i ts op aloft stores flies kept = λ k. record core { aloft = flies k; stores = kept k }
 
-alone_one : (stores : List Store) (store : Store) (q : List ℕ) (ts : ℕ) → stores ≡ store ∷ [] → Alone 0 (map (row_of ts) (hists q stores))
-alone_one stores store q ts one = subst (λ ss. Alone 0 (map (row_of ts) (hists q ss))) (sym one) refl
-
-pub apply_sound : {C : Type 0} (readings : C → Option (List ℕ)) (view : View C) (j ts : ℕ) (op : RowOp) (store : Store) (aloft : List Aloft) (stores : List Store) (target : Target) (pool : Contents)
-    → IsSound readings view → view.core.stores ≡ store ∷ [] → IsNextOp j view.core.aloft ts op → aloft ≡ on_nth j advance view.core.aloft
-    → ((first : Past) → Opens view.opening view.mark view.core.opened first → stores ≡ pushed_if 0 op.key ts (effect view.core.work.fill op.kind op.cells (live view.core.stores op.key ts)).0 view.core.stores)
-    → IsSound readings (record view { core = record view.core { aloft = aloft; stores = stores }; target = target; pool = pool })
-apply_sound readings view j ts op store aloft stores target pool sound one next flies kept = record {
-  stands = λ first told. subst Stands (sym (new_applied (record view.core { first = first }) j ts op aloft stores flies (kept first told)))
-      (apply_stands (record view.core { first = first }) (sound.stands first told) j 0 ts op next (in_list view.core.stores store one) (alone_one view.core.stores store op.key ts one));
+pub apply_sound : {C : Type 0} (readings : C → Option (List ℕ)) (view : View C) (j i ts : ℕ) (op : RowOp) (aloft : List Aloft) (stores : List Store) (names : List Target) (notes : List (List CommitRow)) (places : List (ℕ × ℕ)) (pool : Contents)
+    → IsSound readings view → IsNextOp j view.core.aloft ts op → aloft ≡ on_nth j advance view.core.aloft → i < length view.core.stores
+    → ((first : Past) → Opens view.opening view.mark view.core.opened first → Alone i (map (row_of ts) (hists op.key view.core.stores)))
+    → ((first : Past) → Opens view.opening view.mark view.core.opened first → stores ≡ pushed_if i op.key ts (effect view.core.work.fill op.kind op.cells (live view.core.stores op.key ts)).0 view.core.stores)
+    → IsSound readings (record view { core = record view.core { aloft = aloft; stores = stores }; names = names; notes = notes; places = places; pool = pool })
+apply_sound readings view j i ts op aloft stores names notes places pool sound next flies low alone kept = record {
+  stands = λ first told. subst Stands (sym (new_applied (record view.core { first = first }) j i ts op aloft stores flies (kept first told)))
+      (apply_stands (record view.core { first = first }) (sound.stands first told) j i ts op next low (alone first told));
   clock = sound.clock;
+  plan = sound.plan;
 }
 
 -- the flying write at its place, and its next row
@@ -124,7 +135,7 @@ has_room fill stopped flights flying lines room pool s at j w op ready a =
 
 pub has_applied : {C : Type 0} (view old : View C) (s at j : ℕ) (flights : List FlyingWrite) (w : FlyingWrite) (op : RowOp) (outcome : Outcome) (aloft : List Aloft) (stores : List Store) → view ≡ old
     → view.core.aloft ≡ map aloft_of flights → Applying flights s at j w op → aloft ≡ on_nth j advance view.core.aloft
-    → (AllUnder w.ts (hists op.key view.core.stores) → stores ≡ pushed_if 0 op.key w.ts (effect view.core.work.fill op.kind op.cells (live view.core.stores op.key w.ts)).0 view.core.stores) → length stores ≡ length view.core.stores
+    → (AllUnder w.ts (hists op.key view.core.stores) → stores ≡ pushed_if (place_of op.key view.core.stores) op.key w.ts (effect view.core.work.fill op.kind op.cells (live view.core.stores op.key w.ts)).0 view.core.stores) → length stores ≡ length view.core.stores
     → HasApplied old.core (record view.core { aloft = aloft; stores = stores }) s at outcome
 has_applied view old s at j flights w op outcome aloft stores e flown a flies kept many = subst (λ v. HasApplied v.core (record view.core { aloft = aloft; stores = stores }) s at outcome) e (record {
   j = j;
@@ -134,7 +145,7 @@ has_applied view old s at j flights w op outcome aloft stores e flown a flies ke
   next = subst (λ fs. IsNextOp j fs w.ts op) (sym flown) (next_at flights j w op (within s flights j a.place) a.here (ap (slice_get w.ops) a.applied ∙ a.row));
   row = a.row;
   core = λ k. record view.core { aloft = flies k; stores = stores };
-  stores = λ under. new_applied view.core j w.ts op aloft stores flies (kept under);
+  stores = λ under. new_applied view.core j (place_of op.key view.core.stores) w.ts op aloft stores flies (kept under);
   many = many;
   now = ap (flight_of s) (flies ∙ ap (on_nth j advance) flown) ∙ flight_on s flights j w a.place a.here;
   own = λ k ne. subst (λ fs. IsOfAnother j fs k) (sym flown) (of_another s flights j a.place k ne);
@@ -205,6 +216,7 @@ provided_one : (fill : Row) (w x : FlyingWrite) → IsProvided fill w → x ≡ 
 provided_one fill w x p is outcomes rows = subst (IsProvided fill) (sym is) (record {
   count = p.count;
   each = p.each;
+  few = p.few;
   noted = (let e = outcomes.0 in let n = p.noted.0 in omega (arith, e, n), let e = rows.0 in let n = p.noted.1 in omega (arith, e, n));
   room = (let e = outcomes.1 in let n = p.room.0 in omega (arith, e, n), let e = rows.1 in let n = p.room.1 in omega (arith, e, n));
 })
@@ -238,36 +250,75 @@ over_at s [] j w over place is = absurd place
 over_at s (v ∷ flights) zero w over place is = ap (λ y. drop y.applied y.ops) is ∙ over.0 place
 over_at s (v ∷ flights) (suc j) w over place is = over_at s flights j w over.1 place.1 is
 
+recorded_as : (names : List Target) (os outcomes : List Outcome) (rs rows : List CommitRow) → outcomes ≡ os → rows ≡ rs → AreRecorded names os rs → AreRecorded names outcomes rows
+recorded_as names os outcomes rs rows e f all = subst (λ os. AreRecorded names os rows) (sym e) (subst (AreRecorded names os) (sym f) all)
+
 pub is_done : {C : Type 0} (view old : View C) (s j : ℕ) (flights : List FlyingWrite) (w : FlyingWrite) (outcomes : List Outcome) (rows : List CommitRow) → view ≡ old → view.core.aloft ≡ map aloft_of flights → IsPlaceOf s flights j → w ≡ get_or flights j w
     → IsOver s view.core.aloft → outcomes ≡ w.outcomes.items → rows ≡ w.rows.items
-    → AreTold view.core.work view.opening view.mark view.core.opened view.core.trail flights → AreWritten view.target flights
-    → (first : Past) → Opens old.opening old.mark old.core.opened first → IsDone (record old.core { first = first }) old.target s outcomes rows
+    → AreTold view.core.work view.opening view.mark view.core.opened view.core.trail flights → AreWritten view.names flights
+    → (first : Past) → Opens old.opening old.mark old.core.opened first → IsDone (record old.core { first = first }) old.names s outcomes rows
 is_done view old s j flights w outcomes rows e flown place here over outcomes_are rows_are told written =
-    subst (λ v. (first : Past) → Opens v.opening v.mark v.core.opened first → IsDone (record v.core { first = first }) v.target s outcomes rows) e (λ first opens.
+    subst (λ v. (first : Past) → Opens v.opening v.mark v.core.opened first → IsDone (record v.core { first = first }) v.names s outcomes rows) e (λ first opens.
     let past = (state_after view.core.work (start view.core.work first view.core.opened) view.core.trail).past in
     let noted = noted_at view.core.work.fill past flights j w (told first opens) (within s flights j place) here in
     record {
       flight = aloft_of w;
       flies = ap (flight_of s) flown ∙ flight_at s flights j w place here;
       each = outcomes_are ∙ noted.outcomes ∙ all_taken (λ o. (effect_on view.core.work.fill (rows_at past (w.ts - 1)) o).1) w.ops w.applied (over_at s flights j w (subst (IsOver s) flown over) place here);
-      told = rows_are ∙ (written_at view.target flights j w written (within s flights j place) here).rows ∙ ap (map (commit_row view.target)) (sym outcomes_are);
+      told = recorded_as view.names w.outcomes.items outcomes w.rows.items rows outcomes_are rows_are (written_at view.names flights j w written (within s flights j place) here).rows;
     })
 
 -- and so whatever opening found
 pub is_written : {C : Type 0} (view old : View C) (fill : Row) (s j : ℕ) (flights : List FlyingWrite) (w : FlyingWrite) (outcomes : List Outcome) (rows : List CommitRow) → view ≡ old → view.core.aloft ≡ map aloft_of flights → IsPlaceOf s flights j → w ≡ get_or flights j w
-    → IsOver s view.core.aloft → outcomes ≡ w.outcomes.items → rows ≡ w.rows.items → AreProvided fill flights → AreWritten view.target flights
-    → IsWritten old.core old.target s outcomes rows
+    → IsOver s view.core.aloft → outcomes ≡ w.outcomes.items → rows ≡ w.rows.items → AreProvided fill flights → AreWritten view.names flights
+    → IsWritten old.core old.names s outcomes rows
 is_written view old fill s j flights w outcomes rows e flown place here over outcomes_are rows_are provided all =
     let lt = within s flights j place in
-    let written = written_at view.target flights j w all lt here in
+    let written = written_at view.names flights j w all lt here in
     let none = ap length (over_at s flights j w (subst (IsOver s) flown over) place here) in
     let noted = (provided_at fill flights j w provided lt here).noted.0 in
     let long = w.outcomes.ok.0 in
     let few = written.few in
     let same = ap length outcomes_are in
-    subst (λ v. IsWritten v.core v.target s outcomes rows) e (record {
+    subst (λ v. IsWritten v.core v.names s outcomes rows) e (record {
       flight = aloft_of w;
       flies = ap (flight_of s) flown ∙ flight_at s flights j w place here;
       count = omega (arith, length-drop w.applied w.ops, none, noted, long, few, same);
-      told = rows_are ∙ written.rows ∙ ap (map (commit_row view.target)) (sym outcomes_are);
+      told = recorded_as view.names w.outcomes.items outcomes w.rows.items rows outcomes_are rows_are written.rows;
     })
+
+-- nothing else has changed where the names and the places are the same
+pub applied_beside : {C : Type 0} (view old : View C) (core : Core) (names : List Target) (notes : List (List CommitRow)) (places : List (ℕ × ℕ)) (pool : Contents) → view ≡ old → names ≡ view.names → places ≡ view.places
+    → record view { core = core; names = names; notes = notes; places = places; pool = pool } ≡ record old { core = core; notes = notes; pool = pool }
+applied_beside view old core names notes places pool e same kept =
+    let f = same ∙ ap (λ v. v.names) e in
+    let p = kept ∙ ap (λ v. v.places) e in
+    λ k. record (e k) { core = core; names = f k; notes = notes; places = p k; pool = pool }
+
+-- what was written of the row
+pub has_noted : {C : Type 0} (view old new : View C) (s at j : ℕ) (flights : List FlyingWrite) (w x : FlyingWrite) (op : RowOp) (outcome : Outcome) (row : CommitRow) (fill : Row) (stores : List Store) (name : Target) → view ≡ old
+    → view.core.aloft ≡ map aloft_of flights → view.notes ≡ map rows_of flights → view.core.stores ≡ map (filled fill) stores → Applying flights s at j w op
+    → slice_get view.names (place_of op.key stores) ≡ Some name → row ≡ commit_row name outcome → x.rows.items ≡ w.rows.items ++ row ∷ [] → new.notes ≡ map rows_of (slice_set flights j x) → HasNoted old new s at outcome
+has_noted view old new s at j flights w x op outcome row fill stores name e flown noted same a named row_is rows now = subst (λ v. HasNoted v new s at outcome) e (record {
+  j = j;
+  flight = aloft_of w;
+  flies = ap (λ ws. slice_get ws j) flown ∙ aloft_there flights j w (within s flights j a.place) a.here;
+  own = place_own s flights j w a.place a.here;
+  op = op;
+  row = a.row;
+  name = name;
+  named = ap (λ ss. slice_get view.names (place_of op.key ss)) same ∙ ap (slice_get view.names) (place_filled fill op.key stores) ∙ named;
+  notes = now ∙ notes_set flights j w x row a.here rows ∙ ap (λ r. on_nth j (λ rs. rs ++ r ∷ []) (map rows_of flights)) row_is ∙ ap (on_nth j (λ rs. rs ++ commit_row name outcome ∷ [])) (sym noted);
+})
+
+-- and what is handed out in the end
+pub is_handed : {C : Type 0} (view old new : View C) (s j : ℕ) (flights : List FlyingWrite) (w : FlyingWrite) (rows : List CommitRow) → view ≡ old → view.core.aloft ≡ map aloft_of flights → view.notes ≡ map rows_of flights → IsPlaceOf s flights j → w ≡ get_or flights j w
+    → rows ≡ w.rows.items → new.notes ≡ map rows_of (remove flights j) → HasHandedOut old new s rows
+is_handed view old new s j flights w rows e flown noted place here rows_are now = subst (λ v. HasHandedOut v new s rows) e (record {
+  j = j;
+  flight = aloft_of w;
+  flies = ap (λ ws. slice_get ws j) flown ∙ aloft_there flights j w (within s flights j place) here;
+  own = place_own s flights j w place here;
+  rows_are = ap (λ ns. slice_get ns j) noted ∙ notes_there flights j w (within s flights j place) here ∙ ap Some (sym rows_are);
+  notes = now ∙ notes_removed flights j ∙ ap (λ ns. remove ns j) (sym noted);
+})

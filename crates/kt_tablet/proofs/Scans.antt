@@ -1,6 +1,7 @@
 -- What a scan is answered with, and what stands in its way.
-use Rattle.std.proofs.Common.{◌≡◌, ℕ, zero, suc, ◌+◌, ◌<◌, ◌≤◌, List, [], ◌∷◌, ◌++◌, Some, None, Option, refl, true, false, Bool, ◌&&◌, cond, sym, ap, ◌∙◌, subst, arith, map, length, min, max, get_or}
-use Rattle.std.specs.Prelude.{not, nat_lt, nat_le, IsSome, unwrap_or, if◌then◌else◌}
+use Rattle.std.proofs.Common.{◌≡◌, ℕ, zero, suc, ◌+◌, ◌<◌, ◌≤◌, List, [], ◌∷◌, ◌++◌, Some, None, Option, refl, true, false, Bool, ◌&&◌, cond, sym, ap, ◌∙◌, subst, arith, map, take, min, max}
+use Rattle.std.specs.Prelude.{not, nat_lt, nat_le, IsSome, slice_get, unwrap_or, if◌then◌else◌}
+use Rattle.std.specs.Option.{option_map}
 use Rattle.std.specs.List.{filter, list_all, All}
 use Rattle.std.specs.Ordering.{is_lt, is_gt, is_eq, eq_by_cmp}
 use Rattle.std.specs.FinMap.Entries.{find, is_sorted, below_all}
@@ -15,21 +16,22 @@ use Rattle.kt_history.specs.declared.changes.KeyChange.{KeyChange}
 use Rattle.kt_history.specs.Rows.{Row, apply, key_cmp}
 use Rattle.kt_history.specs.Machine.{Flying, none_flies, least}
 use Rattle.kt_mvcc.specs.Waits.{lesser_of}
-use Rattle.kt_histlaws.specs.Histories.{hists, first_some, or_else, AtMostOne}
+use Rattle.kt_histlaws.specs.Histories.{hists, first_some, AtMostOne}
 use Rattle.kt_history.specs.Stores.{Steps, Hist, Store, after_steps, row_of, hist_in, changes_upto}
 use Rattle.kt_histlaws.specs.Core.{Core, Stands, flown_by}
 use Rattle.kt_histlaws.proofs.Shown.{snapshot_told, at_most_one}
 use Rattle.kt_tablet.specs.declared.snap.SnapView.{SnapView}
 use Rattle.kt_tablet.specs.declared.snap.Snap.{Snap}
 use Rattle.kt_tablet.specs.Filling.{filled_change, filled_hist, filled}
-use Rattle.kt_tablet.specs.Stores.{IsGrown, AllBare}
+use Rattle.kt_history.specs.Grown.{IsGrown, AllBare, AllGrown}
+use Rattle.kt_stores.proofs.Beside.{some_is, none_some}
 use Rattle.kt_tablet.specs.Snaps.{rises, changes_of, step_in, row_in}
 use Rattle.kt_tablet.specs.SnapLaws.{order, by_bool, same_key}
 use Rattle.kt_mvcc.specs.declared.flier.Flier.{Flier}
 use Rattle.kt_mvcc.specs.Flying.{least_of}
 use Rattle.kt_tablet.specs.declared.tablet.FlyingWrite.{FlyingWrite}
 use Rattle.kt_tablet.specs.Views.{View, IsSound, Opens, aloft_of, flier_of}
-use Rattle.kt_tablet.specs.Reads.{view_row, ShowsRun, none_later, IsCopied, HasDrawn, MaySnapshot, look_of, time_in, time_of, IsAncient, IsBusy, MayReadNow, HasRead}
+use Rattle.kt_tablet.specs.Reads.{IsViewOf, AreViews, view_row, ShowsRun, none_later, IsCopied, HasDrawn, MaySnapshot, look_of, time_in, time_of, IsAncient, IsBusy, MayReadNow, HasRead}
 use Rattle.kt_tablet.proofs.Visits.{new_answered, told_still, least_alike}
 use Rattle.kt_histlaws.specs.Core.{now}
 use Rattle.kt_histlaws.specs.Events.{answered_rows}
@@ -168,31 +170,57 @@ pub least_is : {C : Type 0} (view old : View C) (flights : List FlyingWrite) (fl
 least_is view old flights flying found e aloft held is = ap (λ v. least (map flown_by v.core.aloft)) (sym e) ∙ ap (λ fs. least (map flown_by fs)) aloft ∙ sym (least_alike flights) ∙ ap least_of (sym held) ∙ sym is
 
 -- WHAT IS SHOWN
-pub shows_run : (core : Core) (st : Stands core) (view : SnapView) (snap : Snap) (store : Store) (fill : Row) (t most : ℕ) → t ≤ most → core.stores ≡ filled fill store ∷ [] → IsGrown store → snap.t ≡ t → snap.mark ≡ core.a → snap.views ≡ view ∷ []
-    → view.since ≡ core.a → view.changes ≡ changes_upto most store → view.fill ≡ fill → none_flies t (map flown_by core.aloft) ≡ true → ShowsRun core snap
-shows_run core st view snap store fill t most wide stores grown time mark views since changes fills settled = record {
-  marks = subst (λ vs. All (λ v. v.since ≤ snap.mark) vs) (sym views) (λ k d lt. one_mark k d lt);
-  rows = λ u key lo hi. ap (λ vs. first_some (map (view_row key u) vs)) views ∙ ap (λ o. or_else o None) (row_is u key (omega (arith, time, hi)))
-      ∙ ap (λ ss. first_some (map (row_of u) (hists key ss))) (sym stores) ∙ snapshot_told core st t u key settled (omega (arith, mark, lo)) (omega (arith, time, hi));
-  one = λ u key lo hi. subst (λ vs. AtMostOne (map (view_row key u) vs)) (sym views) (subst (λ o. AtMostOne (o ∷ [])) (sym (row_is u key (omega (arith, time, hi))))
-      (subst (λ ss. AtMostOne (map (row_of u) (hists key ss))) stores (at_most_one core st u key (omega (arith, mark, lo)))));
+-- the rows of views are those of their stores
+row_is : (fill : Row) (since t u : ℕ) (key : List ℕ) (store : Store) (view : SnapView) → u ≤ t → IsGrown store → IsViewOf since t fill store view → view_row key u view ≡ row_of u (hist_in key (filled fill store))
+row_is fill since t u key store view le grown is = (λ k. row_in (is.fill_is k) (is.changes k) key u) ∙ upto_tells fill t u key store grown.sorted grown.bare le
+
+rows_are : (fill : Row) (since t u : ℕ) (key : List ℕ) (stores : List Store) (views : List SnapView) → u ≤ t → AllGrown stores → AreViews since t fill stores views → map (view_row key u) views ≡ map (row_of u) (hists key (map (filled fill) stores))
+rows_are fill since t u key [] [] le grown are = refl
+rows_are fill since t u key [] (v ∷ views) le grown are = absurd are
+rows_are fill since t u key (s ∷ stores) [] le grown are = absurd are
+rows_are fill since t u key (s ∷ stores) (v ∷ views) le grown are = λ k. row_is fill since t u key s v le grown.0 are.0 k ∷ rows_are fill since t u key stores views le grown.1 are.1 k
+
+all_views : (P : SnapView → Type 0) (fill : Row) (since t : ℕ) (stores : List Store) (views : List SnapView) → ((s : Store) (v : SnapView) → IsViewOf since t fill s v → P v) → AreViews since t fill stores views → All P views
+all_views P fill since t [] [] each are = All-nil P
+all_views P fill since t [] (v ∷ views) each are = absurd are
+all_views P fill since t (s ∷ stores) [] each are = absurd are
+all_views P fill since t (s ∷ stores) (v ∷ views) each are = All-cons P v views (each s v are.0) (all_views P fill since t stores views each are.1)
+
+pub shows_run : (core : Core) (st : Stands core) (snap : Snap) (stores : List Store) (fill : Row) → core.stores ≡ map (filled fill) stores → AllGrown stores → snap.mark ≡ core.a → AreViews snap.mark snap.t fill stores snap.views
+    → none_flies snap.t (map flown_by core.aloft) ≡ true → ShowsRun core snap
+shows_run core st snap stores fill same grown mark are settled = record {
+  marks = all_views (λ v. v.since ≤ snap.mark) fill snap.mark snap.t stores snap.views (λ s v is. let e = is.since_is in omega (arith, e)) are;
+  rows = λ u key lo hi. ap first_some (rows_are fill snap.mark snap.t u key stores snap.views hi grown are) ∙ ap (λ ss. first_some (map (row_of u) (hists key ss))) (sym same) ∙ snapshot_told core st snap.t u key settled (omega (arith, mark, lo)) hi;
+  one = λ u key lo hi. subst AtMostOne (sym (rows_are fill snap.mark snap.t u key stores snap.views hi grown are)) (subst (λ ss. AtMostOne (map (row_of u) (hists key ss))) same (at_most_one core st u key (omega (arith, mark, lo))));
 }
-  where
-    row_is : (u : ℕ) (key : List ℕ) → u ≤ t → view_row key u view ≡ row_of u (hist_in key (filled fill store))
-    row_is u key le = (λ k. row_in (fills k) (changes k) key u) ∙ upto_tells fill most u key store grown.sorted grown.bare (omega (arith, wide, le))
 
-    one_mark : (k : ℕ) (d : SnapView) → k < length (view ∷ []) → (get_or (view ∷ []) k d).since ≤ snap.mark
-    one_mark zero d lt = omega (arith, since, mark)
-    one_mark (suc k) d lt = absurd (omega arith)
-
-pub shows_view : {C : Type 0} (readings : C → Option (List ℕ)) (view old : View C) (one : SnapView) (snap : Snap) (store : Store) (fill : Row) (t most : ℕ) → t ≤ most → view ≡ old → IsSound readings view
-    → view.core.stores ≡ filled fill store ∷ [] → IsGrown store → snap.t ≡ t → snap.mark ≡ view.core.a → snap.views ≡ one ∷ []
-    → one.since ≡ view.core.a → one.changes ≡ changes_upto most store → one.fill ≡ fill → none_flies t (map flown_by old.core.aloft) ≡ true
+pub shows_views : {C : Type 0} (readings : C → Option (List ℕ)) (view old : View C) (snap : Snap) (stores : List Store) (fill : Row) → view ≡ old → IsSound readings view
+    → view.core.stores ≡ map (filled fill) stores → AllGrown stores → snap.mark ≡ view.core.a → AreViews snap.mark snap.t fill stores snap.views → none_flies snap.t (map flown_by old.core.aloft) ≡ true
     → (first : Past) → Opens old.opening old.mark old.core.opened first → ShowsRun (record old.core { first = first }) snap
-shows_view readings view old one snap store fill t most wide e sound stores grown time mark views since changes fills settled first told =
+shows_views readings view old snap stores fill e sound same grown mark are settled first told =
     subst (λ v. ShowsRun (record v.core { first = first }) snap) e
-    (shows_run (record view.core { first = first }) (sound.stands first (subst (λ v. Opens v.opening v.mark v.core.opened first) (sym e) told)) one snap store fill t most wide stores grown time mark views since changes fills
-    (subst (λ v. none_flies t (map flown_by v.core.aloft) ≡ true) (sym e) settled))
+    (shows_run (record view.core { first = first }) (sound.stands first (subst (λ v. Opens v.opening v.mark v.core.opened first) (sym e) told)) snap stores fill same grown mark are
+    (subst (λ v. none_flies snap.t (map flown_by v.core.aloft) ≡ true) (sym e) settled))
+
+-- one view more
+pub views_more : (fill : Row) (since t : ℕ) (stores : List Store) (at : ℕ) (views : List SnapView) (s : Store) (v : SnapView) → slice_get stores at ≡ Some s → IsViewOf since t fill s v → AreViews since t fill (take at stores) views → AreViews since t fill (take (at + 1) stores) (views ++ v ∷ [])
+views_more fill since t [] at views s v here is all = none_some s here
+views_more fill since t (x ∷ stores) zero [] s v here is all = (subst (λ x. IsViewOf since t fill x v) (sym (some_is x s here)) is, tt)
+views_more fill since t (x ∷ stores) zero (w ∷ views) s v here is all = absurd all
+views_more fill since t (x ∷ stores) (suc at) [] s v here is all = absurd all
+views_more fill since t (x ∷ stores) (suc at) (w ∷ views) s v here is all =
+    let e : suc (at + 1) ≡ suc at + 1 = omega arith in
+    subst (λ n. AreViews since t fill (take n (x ∷ stores)) (w ∷ views ++ v ∷ [])) e (all.0, views_more fill since t stores at views s v here is all.1)
+
+-- the store whose changes these are
+pub store_of_changes : (t : ℕ) (o : Option Store) (list : List KeyChange) → option_map (changes_upto t) o ≡ Some list → (s : Store) × (o ≡ Some s) × (list ≡ changes_upto t s)
+store_of_changes t None list e = cc
+store_of_changes t (Some s) list e = (s, refl, sym (some_is (changes_upto t s) list e))
+
+pub grown_at : (stores : List Store) (at : ℕ) (s : Store) → AllGrown stores → slice_get stores at ≡ Some s → IsGrown s
+grown_at [] at s grown here = none_some s here
+grown_at (x ∷ stores) zero s grown here = subst IsGrown (some_is x s here) grown.0
+grown_at (x ∷ stores) (suc at) s grown here = grown_at stores at s grown.1 here
 
 -- a change that is copied up to a time is not later
 stamped : (key : List ℕ) (t : ℕ) (steps : Steps) → none_later t (map (λ (c : ℕ × Change). record { key = key; ts = c.0; change = c.1 }) (filter (λ c. nat_le c.0 t) steps)) ≡ true
@@ -207,10 +235,10 @@ upto_stamped t [] = refl
 upto_stamped t (r ∷ store) = list_all-append (λ (d : KeyChange). nat_le d.ts t) (map (λ (c : ℕ × Change). record { key = r.0; ts = c.0; change = c.1 }) (filter (λ c. nat_le c.0 t) r.1.steps)) (changes_upto t store)
     ∙ ap (λ b. b && none_later t (changes_upto t store)) (stamped r.0 t r.1.steps) ∙ upto_stamped t store
 
-pub copied : (one : SnapView) (snap : Snap) (store : Store) → snap.views ≡ one ∷ [] → one.changes ≡ changes_upto snap.t store → one.since ≡ snap.mark → IsCopied snap
-copied one snap store views changes since = record {
-  upto = subst (All (λ v. none_later snap.t v.changes ≡ true)) (sym views) (All-cons (λ (v : SnapView). none_later snap.t v.changes ≡ true) one [] (ap (none_later snap.t) changes ∙ upto_stamped snap.t store) (All-nil (λ (v : SnapView). none_later snap.t v.changes ≡ true)));
-  since = subst (All (λ v. v.since ≡ snap.mark)) (sym views) (All-cons (λ (v : SnapView). v.since ≡ snap.mark) one [] since (All-nil (λ (v : SnapView). v.since ≡ snap.mark)));
+pub copied : (snap : Snap) (stores : List Store) (fill : Row) → AreViews snap.mark snap.t fill stores snap.views → IsCopied snap
+copied snap stores fill are = record {
+  upto = all_views (λ v. none_later snap.t v.changes ≡ true) fill snap.mark snap.t stores snap.views (λ s v is. ap (none_later snap.t) is.changes ∙ upto_stamped snap.t s) are;
+  since = all_views (λ v. v.since ≡ snap.mark) fill snap.mark snap.t stores snap.views (λ s v is. is.since_is) are;
 }
 
 -- THE EVENTS
@@ -236,7 +264,7 @@ may_read core past s i t at may time =
     if_scan (command_at core.work s i) at (λ w. ReadsAt w t × IsNext (now core past) s i (look_for w t)) may.scan (look.0, record { next = look.1; rests = may.rests })
 
 may_first : (core : Core) (first : Past) (s i : ℕ) (at : At) → MaySnapshot core s i at → MaySnapshot (record core { first = first }) s i at
-may_first core first s i at may = record { look = may.look; next = may.next; drawn = may.drawn; rests = may.rests; scan = may.scan; few = may.few }
+may_first core first s i at may = record { look = may.look; next = may.next; drawn = may.drawn; rests = may.rests; scan = may.scan }
 
 pub ancient_sound : {C : Type 0} (readings : C → Option (List ℕ)) (view : View C) (s i : ℕ) (at : At) (t a : ℕ) (trail : List Event) (turns : List Turn)
     → IsSound readings view → IsAncient view.core s i at t a
@@ -246,6 +274,7 @@ ancient_sound readings view s i at t a trail turns sound is lines places = recor
   stands = λ first told. let st = sound.stands first told in subst Stands (sym (new_answered (record view.core { first = first }) s i (Ancient s i t a) trail turns lines places))
       (ancient_stands (record view.core { first = first }) s i t a st (is.goes, may_read (record view.core { first = first }) st.past s i t at (may_first view.core first s i at is.may) is.time, is.below, is.mark));
   clock = told_still readings view.opened view.clock view.core.trail trail (Ancient s i t a) sound.clock refl lines;
+  plan = sound.plan;
 }
 
 pub busy_sound : {C : Type 0} (readings : C → Option (List ℕ)) (view : View C) (s i t f : ℕ) (trail : List Event) (turns : List Turn)
@@ -263,6 +292,7 @@ busy_sound readings view s i t f trail turns sound is lines places = record {
         is.flies.1,
       ));
   clock = told_still readings view.opened view.clock view.core.trail trail (Busy s i t f) sound.clock refl lines;
+  plan = sound.plan;
 }
 
 new_read : (core : Core) (s i t : ℕ) (trail : List Event) (a c : ℕ) (turns : List Turn) → trail ≡ core.trail ++ Rows s i t ∷ [] → a ≡ core.a → c ≡ max core.c t → turns ≡ set_nth core.turns s (record { next = i + 1; look = None })
@@ -277,6 +307,7 @@ rows_sound readings view s i at t trail a c turns sound may lines stays last pla
   stands = λ first told. let st = sound.stands first told in subst Stands (sym (new_read (record view.core { first = first }) s i t trail a c turns lines stays last places))
       (rows_stands (record view.core { first = first }) s i t st (may.goes, may_read (record view.core { first = first }) st.past s i t at (may_first view.core first s i at may.may) may.time, may.since, may.settled));
   clock = told_still readings view.opened view.clock view.core.trail trail (Rows s i t) sound.clock refl lines;
+  plan = sound.plan;
 }
 
 pub has_read : {C : Type 0} (view old : View C) (s i : ℕ) (at : At) (t told : ℕ) (trail : List Event) (a c : ℕ) (turns : List Turn) → view ≡ old → told ≡ t → MayReadNow old.core s i at t

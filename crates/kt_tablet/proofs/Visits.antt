@@ -10,9 +10,10 @@ use Rattle.kt_history.specs.Operations.{need}
 use Rattle.kt_history.specs.declared.command.Command.TheVariants as command
 use Rattle.kt_history.specs.declared.event.Event.{Event}
 use Rattle.kt_history.specs.declared.event.Event.TheVariants.{Begin, End, Look, Rows, Ancient, Busy, Mark, Chore, Large, Stop}
-use Rattle.kt_history.specs.Machine.{Turn, nth, set_nth, next_timestamp, readings_of, IfMark, command_at, least, clean_below, first_turns, HasDifferentKeys}
+use Rattle.kt_history.specs.Machine.{Turn, nth, set_nth, next_timestamp, readings_of, IfMark, command_at, least, clean_below, first_turns}
 use Rattle.kt_history.specs.Rows.{Row}
 use Rattle.kt_pool.specs.Contents.{Contents}
+use Rattle.kt_records.specs.declared.entry.CommitRow.{CommitRow}
 use Rattle.kt_histlaws.specs.Histories.{Shows, hists}
 use Rattle.kt_histlaws.specs.Fitting.{AreSound}
 use Rattle.kt_mvcc.specs.declared.flier.Flier.{Flier}
@@ -22,8 +23,10 @@ use Rattle.kt_histlaws.specs.Events.{looked, marked, raised, answered, halted, e
 use Rattle.kt_histlaws.specs.Pending.{Aloft}
 use Rattle.kt_histlaws.proofs.Events.{look_stands, mark_stands, open_stands, chore_stands, large_stands, stop_stands, end_stands}
 use Rattle.kt_tablet.specs.declared.tablet.FlyingWrite.{FlyingWrite}
-use Rattle.kt_tablet.specs.Views.{View, IsSound, IsReady, aloft_of, flier_of, owed, AreProvided}
+use Rattle.kt_tablet.specs.Plans.{PlanKeeps}
+use Rattle.kt_tablet.specs.Views.{View, IsSound, IsReady, placed_of, aloft_of, flier_of, owed, AreProvided}
 use Rattle.kt_tablet.specs.Visits.{MayLook, HasLooked, MayMark, HasMarked, MayAnswerChore, MayEnd, HasEnded, IsLarge, flight_of}
+use Rattle.kt_tablet.proofs.Keeps.{keys_differ}
 use Rattle.kt_tablet.proofs.Flights.{apart-filter}
 use Rattle.std.proofs.lemmas.Bool.Decides.{nat_tests}
 
@@ -82,6 +85,7 @@ look_sound readings view clock s i t m trail a c turns sound goes may time more 
   stands = λ first told. subst Stands (sym (new_looked (record view.core { first = first }) s i t m trail a c turns lines stays last places))
       (look_stands (record view.core { first = first }) s i t m (sound.stands first told) (goes, record { next = may.at.next; rests = may.at.rests }, may.scan, time));
   clock = told_line readings view.opened view.clock clock view.core.trail trail (Look s i t m) sound.clock more lines;
+  plan = sound.plan;
 }
 
 pub has_looked : {C : Type 0} (view old : View C) (s i t m : ℕ) (trail : List Event) (a c : ℕ) (turns : List Turn) → view ≡ old → t ≡ next_timestamp view.core.c m
@@ -124,6 +128,7 @@ mark_sound readings view s i to value trail a c turns sound goes may is lines up
       (mark_stands (record view.core { first = first }) s i value (sound.stands first told)
       (goes, record { next = may.at.next; rests = may.at.rests }, if_mark (command_at view.core.work s i) to (λ t. value ≡ max view.core.a (min t (clean_below (least (map flown_by view.core.aloft)) view.core.c))) may.command is));
   clock = told_still readings view.opened view.clock view.core.trail trail (Mark s i value) sound.clock refl lines;
+  plan = sound.plan;
 }
 
 pub has_marked : {C : Type 0} (view old : View C) (s i to value : ℕ) (trail : List Event) (a c : ℕ) (turns : List Turn) → view ≡ old → value ≡ raised view.core to
@@ -134,11 +139,12 @@ has_marked view old s i to value trail a c turns e is lines up stays places =
 
 -- OF
 pub of_sound : {C : Type 0} (readings : C → Option (List ℕ)) (view : View C) → view.core.trail ≡ [] → view.core.aloft ≡ [] → view.core.a ≡ view.mark → view.core.c ≡ view.core.opened → view.core.stopped ≡ false
-    → view.core.turns ≡ first_turns view.core.work.plan → view.opening ≡ view.core.stores → view.opened ≡ view.clock → HasDifferentKeys view.core.work → IsSound readings view
-of_sound readings view lines flies a c goes turns same told planned = record {
+    → view.core.turns ≡ first_turns view.core.work.plan → view.opening ≡ view.core.stores → view.opened ≡ view.clock → PlanKeeps view.core.work → IsSound readings view
+of_sound readings view lines flies a c goes turns same told keeps = record {
   stands = λ first o. open_stands (record view.core { first = first }) lines flies (a ∙ sym o.mark_is) c goes turns o.ends
-      (subst (λ ss. Shows first.mark ss first) same o.shows) (λ q. subst (λ ss. AreSound first.mark (hists q ss)) same (o.sound q)) planned;
+      (subst (λ ss. Shows first.mark ss first) same o.shows) (λ q. subst (λ ss. AreSound first.mark (hists q ss)) same (o.sound q)) (keys_differ view.core.work keeps);
   clock = subst (λ l. Grows (readings view.opened) (readings view.clock) (readings_of l)) (sym lines) (subst (λ x. Grows (readings x) (readings view.clock) []) (sym told) (grows_none (readings view.clock)));
+  plan = keeps;
 }
 
 pub ready_first : (fill : Row) (flights : List FlyingWrite) (flying : List Flier) (lines room : ℕ) (pool : Contents) → flights ≡ [] → flying ≡ [] → pool.reserved ≡ 0 → lines + 1 ≤ room → IsReady fill false flights flying lines room pool
@@ -157,6 +163,7 @@ chore_sound readings view s i trail turns sound goes may lines places = record {
   stands = λ first told. subst Stands (sym (new_answered (record view.core { first = first }) s i (Chore s i) trail turns lines places))
       (chore_stands (record view.core { first = first }) s i (sound.stands first told) (goes, record { next = may.at.next; rests = may.at.rests }, may.chore));
   clock = told_still readings view.opened view.clock view.core.trail trail (Chore s i) sound.clock refl lines;
+  plan = sound.plan;
 }
 
 pub has_answered : {C : Type 0} (view old : View C) (s i : ℕ) (e : Event) (trail : List Event) (turns : List Turn) → view ≡ old
@@ -173,6 +180,7 @@ pub stop_sound : {C : Type 0} (readings : C → Option (List ℕ)) (view : View 
 stop_sound readings view trail sound goes lines = record {
   stands = λ first told. subst Stands (sym (new_halted (record view.core { first = first }) trail lines)) (stop_stands (record view.core { first = first }) (sound.stands first told) goes);
   clock = told_still readings view.opened view.clock view.core.trail trail Stop sound.clock refl lines;
+  plan = sound.plan;
 }
 
 pub has_halted : {C : Type 0} (view old : View C) (trail : List Event) → view ≡ old → trail ≡ view.core.trail ++ Stop ∷ [] → record view.core { trail = trail; stopped = true } ≡ halted old.core
@@ -199,6 +207,16 @@ filter_flier p (f ∷ flights) = elim (p f.who) as (λ b. map flier_of (cond b (
   | false ↦ filter_flier p flights
 ]
 
+pub ended_places : (p : ℕ → Bool) (new flights : List FlyingWrite) → new ≡ filter (λ f. p f.who) flights → map placed_of new ≡ filter (λ x. p x.0) (map placed_of flights)
+ended_places p new flights is = ap (map placed_of) is ∙ by flights
+  where
+    by : (flights : List FlyingWrite) → map placed_of (filter (λ f. p f.who) flights) ≡ filter (λ x. p x.0) (map placed_of flights)
+    by [] = refl
+    by (f ∷ flights) = elim (p f.who) as (λ b. map placed_of (cond b (f ∷ filter (λ f. p f.who) flights) (filter (λ f. p f.who) flights)) ≡ cond b (placed_of f ∷ filter (λ x. p x.0) (map placed_of flights)) (filter (λ x. p x.0) (map placed_of flights))) [
+      | true ↦ ap (λ r. placed_of f ∷ r) (by flights)
+      | false ↦ by flights
+    ]
+
 pub ended_flights : (s : ℕ) (new old : List FlyingWrite) → new ≡ filter (λ f. not (f.who == s)) old → map aloft_of new ≡ filter (λ w. not (w.s == s)) (map aloft_of old)
 ended_flights s new old h = ap (map aloft_of) h ∙ filter_aloft (λ n. not (n == s)) old
 
@@ -212,7 +230,6 @@ pub record EndsAs (core : Core) (s : ℕ) (w : FlyingWrite) : Type 0 where
   pub flies : flight_of s core.aloft ≡ Some (aloft_of w)
   pub turn : nth core.turns s ≡ Some (record { next = w.index; look = None })
   pub over : IsOver s core.aloft
-  pub few : w.index + 1 < 2 ^ 32
 
 pub same_flight : (x y : Aloft) → Some x ≡ Some y → x ≡ y
 same_flight x y e = cc
@@ -222,7 +239,6 @@ ends_as core s w may flies = let same = same_flight may.flight (aloft_of w) (sym
   flies = flies;
   turn = may.turn ∙ ap (λ f. Some (record { next = f.i; look = None })) same;
   over = may.over;
-  few = subst (λ f. f.i + 1 < 2 ^ 32) same may.few;
 }
 
 itself : (n : ℕ) → (n == n) ≡ true
@@ -239,14 +255,15 @@ flies_so s i ts (w ∷ aloft) flight h here time = elim (w.s == s) as (λ b. con
   | false ↦ λ e. flies_so s i ts aloft flight e here time
 ] h
 
-pub end_sound : {C : Type 0} (readings : C → Option (List ℕ)) (view : View C) (s : ℕ) (w : FlyingWrite) (trail : List Event) (a c : ℕ) (aloft : List Aloft) (turns : List Turn)
+pub end_sound : {C : Type 0} (readings : C → Option (List ℕ)) (view : View C) (s : ℕ) (w : FlyingWrite) (trail : List Event) (a c : ℕ) (aloft : List Aloft) (turns : List Turn) (notes : List (List CommitRow)) (places : List (ℕ × ℕ))
     → IsSound readings view → view.core.stopped ≡ false → EndsAs view.core s w
     → trail ≡ view.core.trail ++ End s w.index w.ts ∷ [] → a ≡ view.core.a → c ≡ view.core.c → aloft ≡ filter (λ w. not (w.s == s)) view.core.aloft → turns ≡ set_nth view.core.turns s (record { next = w.index + 1; look = None })
-    → IsSound readings (record view { core = record view.core { trail = trail; a = a; c = c; aloft = aloft; turns = turns } })
-end_sound readings view s w trail a c aloft turns sound goes ends lines stays last flies places = record {
-  stands = λ first told. subst Stands (sym (new_ended (record view.core { first = first }) s w.index w.ts trail a c aloft turns lines stays last flies places))
+    → IsSound readings (record view { core = record view.core { trail = trail; a = a; c = c; aloft = aloft; turns = turns }; notes = notes; places = places })
+end_sound readings view s w trail a c aloft turns notes places sound goes ends lines stays last flies turned = record {
+  stands = λ first told. subst Stands (sym (new_ended (record view.core { first = first }) s w.index w.ts trail a c aloft turns lines stays last flies turned))
       (end_stands (record view.core { first = first }) s w.index w.ts (sound.stands first told) (goes, flies_so s w.index w.ts view.core.aloft (aloft_of w) ends.flies refl refl) ends.over);
   clock = told_still readings view.opened view.clock view.core.trail trail (End s w.index w.ts) sound.clock refl lines;
+  plan = sound.plan;
 }
 
 pub has_ended : {C : Type 0} (view old : View C) (s : ℕ) (w : FlyingWrite) (trail : List Event) (a c : ℕ) (aloft : List Aloft) (turns : List Turn) → view ≡ old → EndsAs view.core s w
@@ -320,6 +337,7 @@ large_sound readings view s i n trail turns sound may lines places = record {
   stands = λ first told. subst Stands (sym (new_answered (record view.core { first = first }) s i (Large s i n) trail turns lines places))
       (large_stands (record view.core { first = first }) s i n (sound.stands first told) (may.goes, record { next = may.at.next; rests = may.at.rests }, may.write));
   clock = told_still readings view.opened view.clock view.core.trail trail (Large s i n) sound.clock refl lines;
+  plan = sound.plan;
 }
 
 pub is_large : {C : Type 0} (view old : View C) (s i n : ℕ) → view ≡ old → IsLarge old.core s i n → IsLarge view.core s i n

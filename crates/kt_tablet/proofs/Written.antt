@@ -1,58 +1,65 @@
 -- What flying writes have written for the log, as rows are applied and writes begin and end.
-use Rattle.std.proofs.Common.{◌≡◌, ℕ, zero, suc, ◌+◌, ◌<◌, List, [], ◌∷◌, ◌++◌, true, false, Bool, cond, sym, ap, ◌∙◌, subst, arith, map, length, get_or}
+use Rattle.std.proofs.Common.{◌≡◌, ℕ, zero, suc, ◌+◌, ◌<◌, List, [], ◌∷◌, ◌++◌, true, false, Bool, cond, sym, ap, ◌∙◌, subst, arith, length, get_or}
 use Rattle.std.specs.Prelude.{slice_set}
 use Rattle.std.specs.List.{filter}
-use Rattle.std.proofs.lemmas.List.{map-append}
 use Rattle.kt_history.specs.declared.change.Outcome.{Outcome}
 use Rattle.kt_history.specs.declared.target.Target.{Target}
 use Rattle.kt_records.specs.declared.entry.CommitRow.{CommitRow}
 use Rattle.kt_tablet.specs.declared.tablet.FlyingWrite.{FlyingWrite}
-use Rattle.kt_tablet.specs.Rows.{HasWritten, AreWritten, commit_row}
+use Rattle.kt_tablet.specs.Rows.{IsRecorded, AreRecorded, HasWritten, AreWritten}
+
+recorded_more : (names : List Target) (os : List Outcome) (rows : List CommitRow) (o : Outcome) (row : CommitRow) → AreRecorded names os rows → IsRecorded names o row → AreRecorded names (os ++ o ∷ []) (rows ++ row ∷ [])
+recorded_more names [] [] o row all one = (one, tt)
+recorded_more names [] (r ∷ rows) o row all one = absurd all
+recorded_more names (x ∷ os) [] o row all one = absurd all
+recorded_more names (x ∷ os) (r ∷ rows) o row all one = (all.0, recorded_more names os rows o row all.1 one)
 
 -- a write at its place
-pub written_at : (target : Target) (flights : List FlyingWrite) (j : ℕ) (w : FlyingWrite) → AreWritten target flights → j < length flights → w ≡ get_or flights j w → HasWritten target w
-written_at target [] j w all lt is = absurd (omega (arith, lt))
-written_at target (v ∷ flights) zero w all lt is = subst (HasWritten target) (sym is) all.0
-written_at target (v ∷ flights) (suc j) w all lt is = written_at target flights j w all.1 (omega (arith, lt)) is
+pub written_at : (names : List Target) (flights : List FlyingWrite) (j : ℕ) (w : FlyingWrite) → AreWritten names flights → j < length flights → w ≡ get_or flights j w → HasWritten names w
+written_at names [] j w all lt is = absurd (omega (arith, lt))
+written_at names (v ∷ flights) zero w all lt is = subst (HasWritten names) (sym is) all.0
+written_at names (v ∷ flights) (suc j) w all lt is = written_at names flights j w all.1 (omega (arith, lt)) is
 
-written_set : (target : Target) (flights : List FlyingWrite) (j : ℕ) (x : FlyingWrite) → AreWritten target flights → HasWritten target x → AreWritten target (slice_set flights j x)
-written_set target [] j x all one = tt
-written_set target (v ∷ flights) zero x all one = (one, all.1)
-written_set target (v ∷ flights) (suc j) x all one = (all.0, written_set target flights j x all.1 one)
+written_set : (names : List Target) (flights : List FlyingWrite) (j : ℕ) (x : FlyingWrite) → AreWritten names flights → HasWritten names x → AreWritten names (slice_set flights j x)
+written_set names [] j x all one = tt
+written_set names (v ∷ flights) zero x all one = (one, all.1)
+written_set names (v ∷ flights) (suc j) x all one = (all.0, written_set names flights j x all.1 one)
 
 -- a row more
-written_one : (target : Target) (w x : FlyingWrite) (outcome : Outcome) (row : CommitRow) → HasWritten target w → x ≡ record w { applied = w.applied + 1; outcomes = x.outcomes; rows = x.rows } → w.applied < length w.ops
-    → x.outcomes.items ≡ w.outcomes.items ++ outcome ∷ [] → x.rows.items ≡ w.rows.items ++ row ∷ [] → row ≡ commit_row target outcome → HasWritten target x
-written_one target w x outcome row was is more outcomes rows row_is = subst (HasWritten target) (sym is) (record {
+written_one : (names : List Target) (w x : FlyingWrite) (outcome : Outcome) (row : CommitRow) → HasWritten names w → x ≡ record w { applied = w.applied + 1; outcomes = x.outcomes; rows = x.rows } → w.applied < length w.ops
+    → x.outcomes.items ≡ w.outcomes.items ++ outcome ∷ [] → x.rows.items ≡ w.rows.items ++ row ∷ [] → IsRecorded names outcome row → HasWritten names x
+written_one names w x outcome row was is more outcomes rows one = subst (HasWritten names) (sym is) (record {
   few = omega (arith, more);
-  rows = rows ∙ ap (λ rs. rs ++ row ∷ []) was.rows ∙ ap (λ r. map (commit_row target) w.outcomes.items ++ r ∷ []) row_is
-      ∙ sym (map-append (commit_row target) w.outcomes.items (outcome ∷ [])) ∙ ap (map (commit_row target)) (sym outcomes);
+  rows = subst (λ os. AreRecorded names os x.rows.items) (sym outcomes) (subst (AreRecorded names (w.outcomes.items ++ outcome ∷ [])) (sym rows) (recorded_more names w.outcomes.items w.rows.items outcome row was.rows one));
 })
 
-pub written_applied : (mine target : Target) (flights : List FlyingWrite) (j : ℕ) (w x : FlyingWrite) (outcome : Outcome) (row : CommitRow) → AreWritten mine flights → j < length flights → w ≡ get_or flights j w
+pub written_applied : (old names : List Target) (flights : List FlyingWrite) (j : ℕ) (w x : FlyingWrite) (outcome : Outcome) (row : CommitRow) → AreWritten old flights → j < length flights → w ≡ get_or flights j w
     → x ≡ record w { applied = w.applied + 1; outcomes = x.outcomes; rows = x.rows } → w.applied < length w.ops
-    → x.outcomes.items ≡ w.outcomes.items ++ outcome ∷ [] → x.rows.items ≡ w.rows.items ++ row ∷ [] → row ≡ commit_row mine outcome → target ≡ mine → AreWritten target (slice_set flights j x)
-written_applied mine target flights j w x outcome row all lt here is more outcomes rows row_is same =
-    subst (λ t. AreWritten t (slice_set flights j x)) (sym same) (written_set mine flights j x all (written_one mine w x outcome row (written_at mine flights j w all lt here) is more outcomes rows row_is))
+    → x.outcomes.items ≡ w.outcomes.items ++ outcome ∷ [] → x.rows.items ≡ w.rows.items ++ row ∷ [] → IsRecorded old outcome row → names ≡ old → AreWritten names (slice_set flights j x)
+written_applied old names flights j w x outcome row all lt here is more outcomes rows one same =
+    subst (λ t. AreWritten t (slice_set flights j x)) (sym same) (written_set old flights j x all (written_one old w x outcome row (written_at old flights j w all lt here) is more outcomes rows one))
 
 -- one write more, and fewer
-written-append : (target : Target) (flights : List FlyingWrite) (w : FlyingWrite) → AreWritten target flights → HasWritten target w → AreWritten target (flights ++ w ∷ [])
-written-append target [] w all one = (one, tt)
-written-append target (v ∷ flights) w all one = (all.0, written-append target flights w all.1 one)
+written-append : (names : List Target) (flights : List FlyingWrite) (w : FlyingWrite) → AreWritten names flights → HasWritten names w → AreWritten names (flights ++ w ∷ [])
+written-append names [] w all one = (one, tt)
+written-append names (v ∷ flights) w all one = (all.0, written-append names flights w all.1 one)
 
-pub written_begun : (target : Target) (flights new mid : List FlyingWrite) (w : FlyingWrite) → AreWritten target flights → new ≡ mid ++ w ∷ [] → mid ≡ flights → w.applied ≡ 0 → w.outcomes.items ≡ [] → w.rows.items ≡ [] → AreWritten target new
-written_begun target flights new mid w all pushed same none outcomes rows = subst (AreWritten target) (sym (pushed ∙ ap (λ l. l ++ w ∷ []) same))
-    (written-append target flights w all (record { few = omega (arith, none); rows = rows ∙ ap (map (commit_row target)) (sym outcomes) }))
+nothing_written : (names : List Target) (os : List Outcome) (rows : List CommitRow) → os ≡ [] → rows ≡ [] → AreRecorded names os rows
+nothing_written names os rows e f = subst (λ os. AreRecorded names os rows) (sym e) (subst (AreRecorded names []) (sym f) tt)
 
-written-filter : (target : Target) (p : FlyingWrite → Bool) (flights : List FlyingWrite) → AreWritten target flights → AreWritten target (filter p flights)
-written-filter target p [] all = tt
-written-filter target p (w ∷ flights) all = elim (p w) as (λ b. AreWritten target (cond b (w ∷ filter p flights) (filter p flights))) [
-  | true ↦ (all.0, written-filter target p flights all.1)
-  | false ↦ written-filter target p flights all.1
+pub written_begun : (old names : List Target) (flights new mid : List FlyingWrite) (w : FlyingWrite) → AreWritten old flights → new ≡ mid ++ w ∷ [] → mid ≡ flights → w.applied ≡ 0 → w.outcomes.items ≡ [] → w.rows.items ≡ [] → names ≡ old → AreWritten names new
+written_begun old names flights new mid w all pushed same none outcomes rows e = subst (λ ns. AreWritten ns new) (sym e) (subst (AreWritten old) (sym (pushed ∙ ap (λ l. l ++ w ∷ []) same))
+    (written-append old flights w all (record { few = omega (arith, none); rows = nothing_written old w.outcomes.items w.rows.items outcomes rows })))
+
+written-filter : (names : List Target) (p : FlyingWrite → Bool) (flights : List FlyingWrite) → AreWritten names flights → AreWritten names (filter p flights)
+written-filter names p [] all = tt
+written-filter names p (w ∷ flights) all = elim (p w) as (λ b. AreWritten names (cond b (w ∷ filter p flights) (filter p flights))) [
+  | true ↦ (all.0, written-filter names p flights all.1)
+  | false ↦ written-filter names p flights all.1
 ]
 
-pub written_ended : (target : Target) (p : FlyingWrite → Bool) (flights new : List FlyingWrite) → AreWritten target flights → new ≡ filter p flights → AreWritten target new
-written_ended target p flights new all filtered = subst (AreWritten target) (sym filtered) (written-filter target p flights all)
+pub written_ended : (names : List Target) (p : FlyingWrite → Bool) (flights new : List FlyingWrite) → AreWritten names flights → new ≡ filter p flights → AreWritten names new
+written_ended names p flights new all filtered = subst (AreWritten names) (sym filtered) (written-filter names p flights all)
 
-pub written_none : (target : Target) (flights : List FlyingWrite) → flights ≡ [] → AreWritten target flights
-written_none target flights none = subst (AreWritten target) (sym none) tt
+pub written_none : (names : List Target) (flights : List FlyingWrite) → flights ≡ [] → AreWritten names flights
+written_none names flights none = subst (AreWritten names) (sym none) tt

@@ -14,6 +14,6 @@ filled_change fill Del = Del
 abbrev pub filled_hist : Row → Hist → Hist
 filled_hist fill h = record h { steps = map (λ (c : ℕ × Change). (c.0, filled_change fill c.1)) h.steps }
 
--- every row's
+-- every row's. A whole row, which was there before its changes, stays as it is
 abbrev pub filled : Row → Store → Store
 filled fill store = map (λ (r : List ℕ × Hist). (r.0, filled_hist fill r.1)) store

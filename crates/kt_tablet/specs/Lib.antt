@@ -1,10 +1,9 @@
 pub mod Filling
 pub mod Places
+pub mod Plans
 pub mod Views
 pub mod Visits
-pub mod Stores
 pub mod Rows
 pub mod Snaps
 pub mod SnapLaws
 pub mod Reads
-pub mod StoreLaws

@@ -1,5 +1,5 @@
 -- When a scan may be answered, what stands in its way, and what it shows.
-use Rattle.std.specs.Prelude.{◌≡◌, ◌<◌, ◌≤◌, ℕ, ◌+◌, ◌^◌, ◌==◌, nat_le, Bool, true, false, List, map, Option, Some, None, IsSome, unwrap_or}
+use Rattle.std.specs.Prelude.{◌≡◌, ◌<◌, ◌≤◌, ℕ, ◌==◌, nat_le, Bool, true, false, List, [], ◌∷◌, map, Option, Some, None, IsSome, unwrap_or}
 use Rattle.std.specs.List.{list_any, list_all, All}
 use Rattle.std.specs.FinMap.Entries.{find}
 use Rattle.kt_history.specs.declared.scan.At.{At}
@@ -8,6 +8,7 @@ use Rattle.kt_history.specs.declared.event.Event.TheVariants as event
 use Rattle.kt_history.specs.declared.changes.KeyChange.{KeyChange}
 use Rattle.kt_history.specs.Rows.{Row, key_cmp}
 use Rattle.kt_history.specs.History.{rows_at}
+use Rattle.kt_history.specs.Stores.{Store, changes_upto}
 use Rattle.kt_history.specs.Machine.{Turn, nth, command_at, IfScan, none_flies, least}
 use Rattle.kt_histlaws.specs.Histories.{first_some, AtMostOne}
 use Rattle.kt_histlaws.specs.Core.{Core, flown_by, run_past}
@@ -31,7 +32,6 @@ pub record MaySnapshot (core : Core) (s i : ℕ) (at : At) : Type 0 where
   pub drawn : HasDrawn at look
   pub rests : list_any (λ w. w.s == s) (map flown_by core.aloft) ≡ false
   pub scan : IfScan (command_at core.work s i) (λ w. w ≡ at)
-  pub few : i + 1 < 2 ^ 32
 
 -- the time that a session has drawn
 abbrev pub look_of : Option Turn → Option ℕ
@@ -96,6 +96,19 @@ LeavesRead old new s i (no.Ancient t a) = new.core ≡ answered old.core s i (ev
 LeavesRead old new s i (no.Busy t f) = new.core ≡ answered old.core s i (event.Busy s i t f)
 LeavesRead old new s i (no.NotYet f) = new ≡ old
 LeavesRead old new s i no.Memory = new ≡ old
+
+-- a view of a store up to a time, which tells rows from a mark on
+pub record IsViewOf (since t : ℕ) (fill : Row) (store : Store) (view : SnapView) : Type 0 where
+  pub since_is : view.since ≡ since
+  pub changes : view.changes ≡ changes_upto t store
+  pub fill_is : view.fill ≡ fill
+
+-- one of each store
+abbrev pub AreViews : ℕ → ℕ → Row → List Store → List SnapView → Type 0
+AreViews since t fill [] [] = Unit {0}
+AreViews since t fill [] (v ∷ views) = ⊥
+AreViews since t fill (s ∷ stores) [] = ⊥
+AreViews since t fill (s ∷ stores) (v ∷ views) = IsViewOf since t fill s v × AreViews since t fill stores views
 
 -- the row of a key that a view has
 abbrev pub view_row : List ℕ → ℕ → SnapView → Option Row

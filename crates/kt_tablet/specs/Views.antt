@@ -1,5 +1,5 @@
 -- What a tablet's fields mean, and what it keeps.
-use Rattle.std.specs.Prelude.{◌≡◌, ◌≤◌, ℕ, ◌+◌, ◌-◌, Bool, true, false, List, [], ◌∷◌, map, length, Option, drop, vec_len, vec_capacity}
+use Rattle.std.specs.Prelude.{◌≡◌, ◌<◌, ◌≤◌, ℕ, ◌+◌, ◌-◌, ◌^◌, Bool, true, false, ◌==◌, if◌then◌else◌, List, [], ◌∷◌, map, length, Option, Some, None, drop, vec_len, vec_capacity}
 use Rattle.kt_base.specs.declared.cell.Kind.{Kind}
 use Rattle.kt_base.specs.Causes.{Grows}
 use Rattle.kt_history.specs.declared.command.Command.{Command}
@@ -12,6 +12,7 @@ use Rattle.kt_pool.specs.Contents.{Contents, free, used}
 use Rattle.kt_schema.specs.declared.column.Column.{Column}
 use Rattle.kt_schema.specs.Columns.{key_columns, other_columns}
 use Rattle.kt_mvcc.specs.declared.flier.Flier.{Flier}
+use Rattle.kt_records.specs.declared.entry.CommitRow.{CommitRow}
 use Rattle.kt_records.specs.Rules.{may_hold, EachAfter, FollowingOp}
 use Rattle.kt_histlaws.specs.Histories.{Shows, hists}
 use Rattle.kt_history.specs.Stores.{Store}
@@ -20,17 +21,21 @@ use Rattle.kt_histlaws.specs.Fitting.{AreSound}
 use Rattle.kt_histlaws.specs.Core.{Core, Stands}
 use Rattle.kt_tablet.specs.declared.tablet.FlyingWrite.{FlyingWrite}
 use Rattle.kt_history.specs.declared.event.Event.{Event}
+use Rattle.kt_tablet.specs.Plans.{PlanKeeps}
 use Rattle.kt_tablet.specs.Rows.{AreNoted, OneOfEach}
 
 -- what a clause sees of a tablet: the engine, whose first past is left open; its clock, now and at opening; the stores and the
--- mark that opening found; the name of the store; and the pool
+-- mark that opening found; the names of the stores; what each flying write has written for the log so far; where the REPLICATE of each stands;
+-- and the pool of the stores
 pub record View (C : Type 0) : Type 0 where
   pub core : Core
   pub clock : C
   pub opened : C
   pub opening : List Store
   pub mark : ℕ
-  pub target : Target
+  pub names : List Target
+  pub notes : List (List CommitRow)
+  pub places : List (ℕ × ℕ)
   pub pool : Contents
 
 abbrev pub empty : Past
@@ -42,6 +47,19 @@ id_and_kind c = (c.id, c.kind)
 -- what is to be run on a table of these columns
 abbrev pub work_of : List Column → List (List Command) → ℕ → Row → Workload
 work_of columns plan cells fill = record { plan = plan; cells = cells; keys = map id_and_kind (key_columns columns); others = map id_and_kind (other_columns columns); fill = fill }
+
+-- what a flying write has written for the log so far
+abbrev pub rows_of : FlyingWrite → List CommitRow
+rows_of w = w.rows.items
+
+-- its session, and the place of its REPLICATE among all records, counted from 1
+abbrev pub placed_of : FlyingWrite → ℕ × ℕ
+placed_of w = (w.who, w.place)
+
+-- the place of the REPLICATE of the flying write of a session
+abbrev pub place_at : ℕ → List (ℕ × ℕ) → Option ℕ
+place_at s [] = None
+place_at s (p ∷ places) = if p.0 == s then Some p.1 else place_at s places
 
 abbrev pub aloft_of : FlyingWrite → Aloft
 aloft_of w = record { s = w.who; i = w.index; ts = w.ts; ops = w.ops; applied = w.applied }
@@ -57,10 +75,11 @@ pub record Opens (opening : List Store) (mark last : ℕ) (first : Past) : Type 
   pub shows : Shows first.mark opening first
   pub sound : (q : List ℕ) → AreSound first.mark (hists q opening)
 
--- it stands for a run from each past that opening found, and its lines show what the clock gave
+-- it stands for a run from each past that opening found, its lines show what the clock gave, and its plan keeps the rules
 pub record IsSound {C : Type 0} (readings : C → Option (List ℕ)) (view : View C) : Type 0 where
   pub stands : (first : Past) → Opens view.opening view.mark view.core.opened first → Stands (record view.core { first = first })
   pub clock : Grows (readings view.opened) (readings view.clock) (readings_of view.core.trail)
+  pub plan : PlanKeeps view.core.work
 
 -- the cells that are free and not promised
 abbrev pub unpromised : Contents → ℕ
@@ -81,10 +100,11 @@ pub record IsExact (aloft : List Aloft) (stores : List Store) (pool : Contents) 
   pub promised : pool.reserved ≡ owed aloft
   pub vacant : AreVacant stores → used pool ≡ 0
 
--- a flying write's operations are as they are recorded, and what becomes of them has room
+-- a flying write's operations are as they are recorded, its session goes on, and what becomes of them has room
 pub record IsProvided (fill : Row) (w : FlyingWrite) : Type 0 where
   pub count : may_hold (length w.ops) ≡ true
   pub each : EachAfter FollowingOp [] w.ops
+  pub few : w.index + 1 < 2 ^ 32
   pub noted : (vec_len w.outcomes ≡ w.applied) × (vec_len w.rows ≡ w.applied)
   pub room : (length w.ops ≤ vec_capacity w.outcomes) × (length w.ops ≤ vec_capacity w.rows)
 

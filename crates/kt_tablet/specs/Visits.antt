@@ -1,19 +1,19 @@
 -- When an event may come, and what it did.
-use Rattle.std.specs.Prelude.{◌-◌, ◌≡◌, ◌≢◌, ◌<◌, ◌≤◌, ℕ, ◌^◌, ◌+◌, ◌==◌, true, false, List, [], length, map, slice_get, Option, Some, None}
-use Rattle.std.specs.List.{list_any, filter, find}
+use Rattle.std.specs.Prelude.{◌-◌, ◌≡◌, ◌≢◌, ◌<◌, ◌≤◌, ℕ, ◌==◌, true, false, List, [], ◌∷◌, ◌++◌, length, map, slice_get, Option, Some, None}
+use Rattle.std.specs.List.{list_any, filter, find, remove}
 use Rattle.kt_history.specs.declared.operation.RowOp.{RowOp}
 use Rattle.kt_history.specs.declared.change.Outcome.{Outcome}
 use Rattle.kt_history.specs.declared.target.Target.{Target}
 use Rattle.kt_history.specs.History.{rows_at}
 use Rattle.kt_history.specs.Operations.{need, share_key, effect_on, outcomes_on}
 use Rattle.kt_records.specs.declared.entry.CommitRow.{CommitRow}
-use Rattle.kt_records.specs.Rules.{may_hold, EachAfter, FollowingOp}
 use Rattle.kt_tablet.specs.declared.tablet.write.BeginNo.{BeginNo}
 use Rattle.kt_tablet.specs.declared.tablet.write.BeginNo.TheVariants as no
-use Rattle.kt_tablet.specs.Rows.{commit_row}
+use Rattle.kt_tablet.specs.Rows.{commit_row, AreRecorded}
 use Rattle.kt_histlaws.specs.Histories.{hists, on_nth}
 use Rattle.kt_histlaws.specs.Flights.{AllUnder}
 use Rattle.kt_histlaws.specs.Parts.{IsOfAnother}
+use Rattle.kt_stores.specs.Shelf.{place_of}
 use Rattle.kt_histlaws.specs.Pending.{Aloft}
 use Rattle.kt_tablet.specs.Views.{View, unpromised}
 use Rattle.kt_history.specs.declared.scan.At.TheVariants.{Looked}
@@ -42,7 +42,6 @@ pub record HasLooked (old new : Core) (s i t : ℕ) : Type 0 where
 pub record MayMark (core : Core) (s i to : ℕ) : Type 0 where
   pub at : IsAt core s i
   pub command : IfMark (command_at core.work s i) (λ t. t ≡ to)
-  pub few : i + 1 < 2 ^ 32
 
 -- it has risen to a, as far as it may
 pub record HasMarked (old new : Core) (s i to a : ℕ) : Type 0 where
@@ -53,7 +52,6 @@ pub record HasMarked (old new : Core) (s i to a : ℕ) : Type 0 where
 pub record MayAnswerChore (core : Core) (s i : ℕ) : Type 0 where
   pub at : IsAt core s i
   pub chore : IsChore (command_at core.work s i)
-  pub few : i + 1 < 2 ^ 32
 
 -- the flying write of a session
 abbrev pub flight_of : ℕ → List Aloft → Option Aloft
@@ -67,7 +65,7 @@ pub record MayApply (core : Core) (s at : ℕ) : Type 0 where
   pub more : at < length flight.ops
 
 -- it is applied: nothing changes but that write and the stores; and where all that these have of the key lies below the write, its
--- change, if any, is in the one store
+-- change, if any, is in the first store that has the row, or else in the first of all
 pub record HasApplied (old new : Core) (s at : ℕ) (outcome : Outcome) : Type 0 where
   pub j : ℕ
   pub flight : Aloft
@@ -76,10 +74,23 @@ pub record HasApplied (old new : Core) (s at : ℕ) (outcome : Outcome) : Type 0
   pub next : IsNextOp j old.aloft flight.ts op
   pub row : slice_get flight.ops at ≡ Some op
   pub core : new ≡ record old { aloft = on_nth j advance old.aloft; stores = new.stores }
-  pub stores : AllUnder flight.ts (hists op.key old.stores) → new ≡ applied old j 0 flight.ts op
+  pub stores : AllUnder flight.ts (hists op.key old.stores) → new ≡ applied old j (place_of op.key old.stores) flight.ts op
   pub many : length new.stores ≡ length old.stores
   pub now : flight_of s new.aloft ≡ Some (advance flight)
   pub own : (k : ℕ) → k ≢ s → IsOfAnother j old.aloft k
+
+-- and what is written of it for the log is its outcome, and the name of the store to which the operation goes: the first that has the
+-- row, or else the first of all
+pub record HasNoted {C : Type 0} (old new : View C) (s at : ℕ) (outcome : Outcome) : Type 0 where
+  pub j : ℕ
+  pub flight : Aloft
+  pub flies : slice_get old.core.aloft j ≡ Some flight
+  pub own : flight.s ≡ s
+  pub op : RowOp
+  pub row : slice_get flight.ops at ≡ Some op
+  pub name : Target
+  pub named : slice_get old.names (place_of op.key old.core.stores) ≡ Some name
+  pub notes : new.notes ≡ on_nth j (λ rows. rows ++ commit_row name outcome ∷ []) old.notes
 
 -- the outcome is the run's: what the operation does to the rows just before the write
 pub record IsRunOutcome (core : Core) (s at : ℕ) (outcome : Outcome) : Type 0 where
@@ -95,7 +106,6 @@ pub record MayEnd (core : Core) (s : ℕ) : Type 0 where
   pub flies : flight_of s core.aloft ≡ Some flight
   pub turn : nth core.turns s ≡ Some (record { next = flight.i; look = None })
   pub over : IsOver s core.aloft
-  pub few : flight.i + 1 < 2 ^ 32
 
 -- it has ended, as command i at ts
 pub record HasEnded (old new : Core) (s i ts : ℕ) : Type 0 where
@@ -110,26 +120,32 @@ abbrev pub HeldBy : Core → ℕ → List RowOp → List (List ℕ) → Type 0
 HeldBy core s ops keys = (flight : Aloft) → flight_of s core.aloft ≡ Some flight → (ops ≡ flight.ops) × (keys ≡ map (λ op. op.key) flight.ops)
 
 -- what is told of it: the outcomes that the run says, and for the log each with the store that was changed
-pub record IsDone (core : Core) (target : Target) (s : ℕ) (outcomes : List Outcome) (rows : List CommitRow) : Type 0 where
+pub record IsDone (core : Core) (names : List Target) (s : ℕ) (outcomes : List Outcome) (rows : List CommitRow) : Type 0 where
   pub flight : Aloft
   pub flies : flight_of s core.aloft ≡ Some flight
   pub each : outcomes ≡ outcomes_on core.work.fill (rows_at (run_past core) (flight.ts - 1)) flight.ops
-  pub told : rows ≡ map (commit_row target) outcomes
+  pub told : AreRecorded names outcomes rows
 
 -- what is told of it, whatever opening found: an outcome for each operation, and for the log each with the store that was changed
-pub record IsWritten (core : Core) (target : Target) (s : ℕ) (outcomes : List Outcome) (rows : List CommitRow) : Type 0 where
+pub record IsWritten (core : Core) (names : List Target) (s : ℕ) (outcomes : List Outcome) (rows : List CommitRow) : Type 0 where
   pub flight : Aloft
   pub flies : flight_of s core.aloft ≡ Some flight
   pub count : length outcomes ≡ length flight.ops
-  pub told : rows ≡ map (commit_row target) outcomes
+  pub told : AreRecorded names outcomes rows
+
+-- what was written of the session's flying write row by row is handed out, and is not kept
+pub record HasHandedOut {C : Type 0} (old new : View C) (s : ℕ) (rows : List CommitRow) : Type 0 where
+  pub j : ℕ
+  pub flight : Aloft
+  pub flies : slice_get old.core.aloft j ≡ Some flight
+  pub own : flight.s ≡ s
+  pub rows_are : slice_get old.notes j ≡ Some rows
+  pub notes : new.notes ≡ remove old.notes j
 
 -- this write may begin, unless something stands in its way
 pub record MayBegin (core : Core) (s i : ℕ) (ops : List RowOp) : Type 0 where
   pub at : IsAt core s i
   pub write : IfWrite (command_at core.work s i) (λ written. written ≡ ops)
-  pub count : may_hold (length ops) ≡ true
-  pub each : EachAfter FollowingOp [] ops
-  pub few : i + 1 < 2 ^ 32
 
 -- and it needs so many cells of the pool, which are not too many
 pub record MayBeginNow (core : Core) (s i : ℕ) (ops : List RowOp) (needs : ℕ) : Type 0 where
@@ -178,7 +194,6 @@ pub record IsLarge (core : Core) (s i needs : ℕ) : Type 0 where
   pub at : IsAt core s i
   pub goes : core.stopped ≡ false
   pub write : IfWrite (command_at core.work s i) (λ ops. (needs ≡ need ops) × (core.work.cells < needs))
-  pub few : i + 1 < 2 ^ 32
 
 -- a write that is too large leaves its line, and every other that does not begin leaves nothing
 abbrev pub Leaves : {C : Type 0} → View C → View C → ℕ → ℕ → BeginNo → Type 0

@@ -1,4 +1,4 @@
-//! The tablet as one value: its rows and their pool, its clock, the writes that fly, its history and where each
+//! The tablet as one value: its stores of rows and their pool, its clock, the writes that fly, its history and where each
 //! session stands.
 //!
 //! For the layers above: a tablet is the engine of `kt_histlaws`, which stands for a run of its workload. Each event
@@ -10,13 +10,11 @@ pub mod need;
 pub mod new_write;
 mod reading;
 pub mod snap;
-pub mod store;
 pub mod tablet;
 mod turns;
 
 pub use new_write::NewWrite;
 pub use snap::{Snap, SnapList, SnapView};
-pub use store::ChangeStore;
 pub use tablet::rows::WriteEnd;
 pub use tablet::scan::SnapNo;
 pub use tablet::write::BeginNo;

@@ -45,13 +45,11 @@ pub struct Snap {
 }
 
 impl SnapList {
-    /// One view alone.
-    pub fn one(alloc: Global, view: SnapView) -> Result<SnapList, NoMemory>
-        ensures { IfOk result (λ list. list ≡ view ∷ []) }
+    /// These views.
+    pub fn of(views: Vec<SnapView>) -> SnapList
+        ensures { result ≡ views.items }
     {
-        let mut views = Vec::new(alloc);
-        views.push(view)?;
-        Ok(SnapList { views })
+        SnapList { views }
     }
 
     pub fn as_slice(&self) -> &[SnapView]

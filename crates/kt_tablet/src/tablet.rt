@@ -4,17 +4,16 @@ pub mod rows;
 pub mod scan;
 pub mod write;
 
-ghost use Rattle.std.specs.Prelude.{◌≡◌, ◌+◌, ◌≤◌, IfOk, [], vec_len, vec_capacity};
+ghost use Rattle.std.specs.Prelude.{◌≡◌, ◌+◌, ◌≤◌, IfOk, [], map, vec_len, vec_capacity};
 ghost use Rattle.kt_schema.specs.Columns.{fill_of};
 
-use crate::store::ChangeStore;
 use crate::turns::Turns;
 use kt_base::{Cells, Clock, NoMemory};
-use kt_history::{Event, OpList, Outcome, Plan};
+use kt_history::{ChangeStore, Event, OpList, Outcome, Plan};
 use kt_mvcc::Flight;
-use kt_pool::Pool;
 use kt_records::CommitRow;
 use kt_schema::Schema;
+use kt_stores::Stores;
 use std::alloc::Global;
 use std::marker::Model;
 use std::snapshot::Snapshot;
@@ -28,18 +27,19 @@ pub struct FlyingWrite {
     pub ts: u64,
     pub ops: OpList,
     pub applied: usize,
+    /// Where its REPLICATE stands among all records, counted from 1.
+    pub place: u64,
     /// What became of the rows applied so far.
     pub outcomes: Vec<Outcome>,
     /// The same for the log, with the stores that were changed.
     pub rows: Vec<CommitRow>,
 }
 
-/// A tablet: the rows of its store in the cells of its pool, the clock, the writes that fly, the lines of its history
+/// A tablet: the rows of its stores in the cells of their pool, the clock, the writes that fly, the lines of its history
 /// and where each session stands.
 #[derive(Drop)]
-pub struct Tablet<S: ChangeStore, C: Clock> {
-    store: S,
-    pool: Pool,
+pub struct Tablet<R: ChangeStore, C: Clock> {
+    stores: Stores<R>,
     clock: C,
     flight: Flight,
     flights: Vec<FlyingWrite>,
@@ -51,21 +51,21 @@ pub struct Tablet<S: ChangeStore, C: Clock> {
     plan: Snapshot<Plan>,
     schema: Snapshot<Schema>,
     opened: Snapshot<C>,
-    opening: Snapshot<S>,
-    opening_pool: Snapshot<Pool>,
+    opening: Snapshot<Stores<R>>,
     last: u64,
     mark: u64,
 }
 
-impl<S: ChangeStore, C: Clock> Model for Tablet<S, C> {
-    ghost use Rattle.std.specs.Prelude.{map, ◌≡◌, ◌∷◌, [], false, vec_capacity, vec_len};
+impl<R: ChangeStore, C: Clock> Model for Tablet<R, C> {
+    ghost use Rattle.std.specs.Prelude.{map, vec_capacity, vec_len};
+    ghost use Rattle.kt_stores.specs.Shelf.{stores_of, names_of};
     ghost use Rattle.kt_tablet.specs.Filling.{filled};
-    ghost use Rattle.kt_pool.specs.Contents.{used};
     ghost use Rattle.kt_tablet.specs.Rows.{AreWritten};
-    ghost use Rattle.kt_tablet.specs.Views.{View, IsSound, IsReady, AreTold, AreVacant, aloft_of, work_of, empty};
+    ghost use Rattle.kt_tablet.specs.Views.{View, IsSound, IsReady, AreTold, rows_of, placed_of, aloft_of, work_of, empty};
 
     ghost Value = { View C };
 
+    // An insert of a store is filled by the defaults. A whole row, which an earlier flush or compaction has written, is so already.
     ghost view = { λ e. record {
       core = record {
         work = work_of e.schema.value e.plan.value e.cells e.fill;
@@ -77,14 +77,16 @@ impl<S: ChangeStore, C: Clock> Model for Tablet<S, C> {
         aloft = map aloft_of e.flights.items;
         turns = e.turns;
         stopped = e.stopped;
-        stores = filled e.fill (S.store e.store e.pool) ∷ [];
+        stores = map (filled e.fill) (stores_of e.stores);
       };
       clock = e.clock;
       opened = e.opened.value;
-      opening = filled e.fill (S.store e.opening.value e.opening_pool.value) ∷ [];
+      opening = map (filled e.fill) (stores_of e.opening.value);
       mark = e.mark;
-      target = S.target e.store;
-      pool = e.pool;
+      names = names_of e.stores.shelf;
+      notes = map rows_of e.flights.items;
+      places = map placed_of e.flights.items;
+      pool = e.stores.pool;
     } };
 
     ghost invariant = { λ e. IsSound C.readings (record {
@@ -98,15 +100,17 @@ impl<S: ChangeStore, C: Clock> Model for Tablet<S, C> {
         aloft = map aloft_of e.flights.items;
         turns = e.turns;
         stopped = e.stopped;
-        stores = filled e.fill (S.store e.store e.pool) ∷ [];
+        stores = map (filled e.fill) (stores_of e.stores);
       };
       clock = e.clock;
       opened = e.opened.value;
-      opening = filled e.fill (S.store e.opening.value e.opening_pool.value) ∷ [];
+      opening = map (filled e.fill) (stores_of e.opening.value);
       mark = e.mark;
-      target = S.target e.store;
-      pool = e.pool;
-    }) × IsReady e.fill e.stopped e.flights.items e.flight.flying (vec_len e.trail) (vec_capacity e.trail) e.pool × S.stands e.store e.pool × AreTold (work_of e.schema.value e.plan.value e.cells e.fill) (filled e.fill (S.store e.opening.value e.opening_pool.value) ∷ []) e.mark e.last e.trail.items e.flights.items × (AreVacant (filled e.fill (S.store e.store e.pool) ∷ []) → used e.pool ≡ 0) × AreWritten (S.target e.store) e.flights.items × (S.is_closed e.store ≡ false) };
+      names = names_of e.stores.shelf;
+      notes = map rows_of e.flights.items;
+      places = map placed_of e.flights.items;
+      pool = e.stores.pool;
+    }) × IsReady e.fill e.stopped e.flights.items e.flight.flying (vec_len e.trail) (vec_capacity e.trail) e.stores.pool × AreTold (work_of e.schema.value e.plan.value e.cells e.fill) (map (filled e.fill) (stores_of e.opening.value)) e.mark e.last e.trail.items e.flights.items × AreWritten (names_of e.stores.shelf) e.flights.items };
 }
 
 /// Why a scan of the present draws no time, or the mark does not rise.
@@ -139,53 +143,48 @@ fn first_parts(alloc: Global, schema: &Schema) -> Result<(Cells, Turns, Vec<Even
     Ok((fill, turns, trail))
 }
 
-impl<S: ChangeStore, C: Clock> Tablet<S, C> {
-    ghost use Rattle.std.specs.Prelude.{◌≡◌, IfOk, IfErr, [], ◌∷◌, false};
-    ghost use Rattle.kt_schema.specs.Columns.{fill_of};
+impl<R: ChangeStore, C: Clock> Tablet<R, C> {
+    ghost use Rattle.std.specs.Prelude.{IfErr, false};
+    ghost use Rattle.kt_stores.specs.Shelf.{stores_of, names_of};
     ghost use Rattle.kt_tablet.specs.Filling.{filled};
-    ghost use Rattle.kt_pool.specs.Contents.{used};
     ghost use Rattle.kt_tablet.specs.Views.{work_of};
 
-    /// A tablet in which nothing has happened yet, over the store that opening made. No session has a plan yet. A write
-    /// that needs more cells than are given here is too large. The store may show no past: then the tablet goes on as well,
+    /// A tablet in which nothing has happened yet, over the stores that opening made. No session has a plan yet. A write
+    /// that needs more cells than are given here is too large. The stores may show no past: then the tablet goes on as well,
     /// and stands for no run.
     pub fn of(
         alloc: Global,
-        store: S,
-        pool: Pool,
+        stores: Stores<R>,
         clock: C,
         schema: &Schema,
         cells: u32,
         last: u64,
         mark: u64,
-    ) -> Result<Tablet<S, C>, (S, Pool, C)>
-        requires stands { S.stands store pool }
-        requires thawed { S.is_closed store ≡ false }
-        requires unpromised { pool.reserved ≡ 0 }
-        requires vacant { S.store store pool ≡ [] → used pool ≡ 0 }
+    ) -> Result<Tablet<R, C>, (Stores<R>, C)>
+        requires { stores.pool.reserved ≡ 0 }
         ensures lines { IfOk result (λ tablet. tablet.core.trail ≡ []) }
         ensures work { IfOk result (λ tablet. tablet.core.work ≡ work_of schema.now [] cells (fill_of schema.now)) }
         ensures turns { IfOk result (λ tablet. tablet.core.turns ≡ []) }
         ensures goes { IfOk result (λ tablet. tablet.core.stopped ≡ false) }
         ensures rests { IfOk result (λ tablet. tablet.core.aloft ≡ []) }
         ensures times { IfOk result (λ tablet. (tablet.core.a ≡ mark) × (tablet.core.c ≡ last)) }
-        ensures found { IfOk result (λ tablet. (tablet.mark ≡ mark) × (tablet.core.opened ≡ last) × (tablet.opening ≡ filled (fill_of schema.now) (S.store store pool) ∷ [])) }
+        ensures found { IfOk result (λ tablet. (tablet.mark ≡ mark) × (tablet.core.opened ≡ last) × (tablet.opening ≡ map (filled (fill_of schema.now)) (stores_of stores))) }
         ensures clock { IfOk result (λ tablet. (tablet.clock ≡ clock) × (tablet.opened ≡ clock)) }
-        ensures target { IfOk result (λ tablet. tablet.target ≡ S.target store) }
-        ensures pool { IfOk result (λ tablet. tablet.pool ≡ pool) }
+        ensures names { IfOk result (λ tablet. tablet.names ≡ names_of stores.shelf) }
+        ensures notes { IfOk result (λ tablet. tablet.notes ≡ []) }
+        ensures places { IfOk result (λ tablet. tablet.places ≡ []) }
+        ensures pool { IfOk result (λ tablet. tablet.pool ≡ stores.pool) }
         ensures stores { IfOk result (λ tablet. tablet.core.stores ≡ tablet.opening) }
-        ensures back { IfErr result (λ e. (e.0 ≡ store) × (e.1 ≡ pool) × (e.2 ≡ clock)) }
+        ensures back { IfErr result (λ e. (e.0 ≡ stores) × (e.1 ≡ clock)) }
     {
         let opened = Snapshot::of(&clock);
-        let opening = Snapshot::of(&store);
-        let opening_pool = Snapshot::of(&pool);
+        let opening = Snapshot::of(&stores);
         let Ok((fill, turns, trail)) = first_parts(alloc, schema) else {
-            return Err((store, pool, clock));
+            return Err((stores, clock));
         };
         let plan = Plan::of(Vec::new(alloc));
         Ok(Tablet {
-            store,
-            pool,
+            stores,
             clock,
             flight: Flight::new(alloc, last, mark),
             flights: Vec::new(alloc),
@@ -198,14 +197,13 @@ impl<S: ChangeStore, C: Clock> Tablet<S, C> {
             schema: Snapshot::of(schema),
             opened,
             opening,
-            opening_pool,
             last,
             mark,
         })
     }
 }
 
-impl<S: ChangeStore, C: Clock> Tablet<S, C> {
+impl<R: ChangeStore, C: Clock> Tablet<R, C> {
     ghost use Rattle.kt_tablet.specs.Views.{IsSound, IsExact};
     ghost use Rattle.std.specs.Prelude.{◌≡◌, OnErr, IfOk, Err, true, false};
     ghost use Rattle.kt_tablet.specs.Visits.{MayLook, HasLooked, MayMark, HasMarked, MayAnswerChore};
@@ -235,13 +233,22 @@ impl<S: ChangeStore, C: Clock> Tablet<S, C> {
         self.trail.len() as u64
     }
 
-    /// What it stands for: a run from each past that opening found, in which the lines show what the clock gave. What its
-    /// pool has promised is what flying writes still need.
+    /// How many writes fly.
+    pub fn flying(&self) -> usize
+        ensures { result ≡ length self.now.core.aloft }
+    {
+        self.flights.len()
+    }
+
+    /// What it stands for: a run from each past that opening found, in which the lines show what the clock gave, of a plan
+    /// that keeps the rules. What its pool has promised is what flying writes still need, where no store has a row no cell
+    /// is used, and each flying write has a place in the log.
     pub fn standing(&self)
         ensures sound { IsSound C.readings self.now }
         ensures exact { IsExact self.now.core.aloft self.now.core.stores self.now.pool }
+        ensures placed { map (λ p. p.0) self.now.places ≡ map (λ w. w.s) self.now.core.aloft }
     {
-        let _ = &self.store;
+        self.stores.standing();
     }
 
     /// Draws the time of a scan of the present.

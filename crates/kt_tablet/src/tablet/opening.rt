@@ -1,19 +1,19 @@
 //! The plan of a run, and what is left once it is over.
 ghost use Rattle.std.specs.Prelude.{◌≡◌, ◌≤◌, length, [], false};
-ghost use Rattle.kt_history.specs.Machine.{HasDifferentKeys, first_turns};
+ghost use Rattle.kt_history.specs.Machine.{first_turns};
+ghost use Rattle.kt_tablet.specs.Plans.{PlanKeeps};
 
 use super::Tablet;
-use crate::store::ChangeStore;
 use kt_base::Clock;
-use kt_history::{EventList, Plan};
+use kt_history::{ChangeStore, EventList, Plan};
 use std::snapshot::Snapshot;
 
-impl<S: ChangeStore, C: Clock> Tablet<S, C> {
-    /// Takes the plan of the run. It takes no memory.
+impl<R: ChangeStore, C: Clock> Tablet<R, C> {
+    /// Takes the plan of the run, which keeps the rules: no event asks for that again. It takes no memory.
     pub fn set_plan(&mut self, plan: &Plan)
         requires fresh { (self.old.core.trail ≡ []) × (self.old.core.aloft ≡ []) × (self.old.core.stopped ≡ false) }
         requires few { length plan.now ≤ 64 }
-        requires planned { HasDifferentKeys (record self.old.core.work { plan = plan.now }) }
+        requires keeps { PlanKeeps (record self.old.core.work { plan = plan.now }) }
         ensures { self.new ≡ record self.old { core = record self.old.core { work = record self.old.core.work { plan = plan.now }; turns = first_turns plan.now } } }
     {
         self.turns.begin(plan);
@@ -21,7 +21,7 @@ impl<S: ChangeStore, C: Clock> Tablet<S, C> {
     }
 }
 
-impl<S: ChangeStore + Drop, C: Clock> Tablet<S, C> {
+impl<R: ChangeStore + Drop, C: Clock> Tablet<R, C> {
     /// The clock and the history, once all is over.
     pub fn take_apart(self) -> (C, EventList)
         ensures { (result.0 ≡ self.clock) × (result.1 ≡ self.core.trail) }

@@ -1,20 +1,22 @@
 //! The rows of a flying write, applied one by one, and its end.
-ghost use Rattle.std.specs.Prelude.{◌≡◌, ◌+◌, ◌*◌, ◌≤◌, ◌<◌, ◌==◌, ◌++◌, ◌∷◌, [], length, true, false, vec_len, vec_capacity};
+ghost use Rattle.std.specs.Prelude.{◌≡◌, ◌+◌, ◌*◌, ◌≤◌, ◌<◌, ◌==◌, ◌++◌, ◌∷◌, [], length, slice_get, is_some, Some, true, false, vec_len, vec_capacity};
 ghost use Rattle.std.specs.List.{list_any, position, position_or_len};
-ghost use Rattle.kt_pool.specs.Contents.{used};
+ghost use Rattle.kt_history.specs.declared.target.Target.{Target};
 ghost use Rattle.kt_history.specs.Operations.{outcome_of};
-ghost use Rattle.kt_history.specs.Stores.{hist_in, Under, share, change_by, is_there, with_change, TakesUpTo};
-ghost use Rattle.kt_tablet.specs.Rows.{commit_row};
+ghost use Rattle.kt_history.specs.Stores.{share, change_by, with_change};
+ghost use Rattle.kt_histlaws.specs.Histories.{hists, on_nth};
+ghost use Rattle.kt_histlaws.specs.Flights.{AllUnder};
+ghost use Rattle.kt_stores.specs.Shelf.{stores_of, names_of, last_live, place_of};
+ghost use Rattle.kt_tablet.specs.Rows.{commit_row, recorded};
 ghost use Rattle.kt_tablet.specs.Views.{unpromised};
 
 use super::{FlyingWrite, Stopped, Tablet};
 use crate::need::cells_of;
-use crate::store::ChangeStore;
 use kt_base::Clock;
-use kt_history::{Event, OpList, OpRef, Outcome, OutcomeList, outcome};
+use kt_history::{ChangeStore, Event, OpKind, OpList, OpRef, Outcome, OutcomeList, Taken, outcome};
 use kt_mvcc::KeyList;
-use kt_pool::Pool;
 use kt_records::{CommitRow, CommitRows, TargetList};
+use kt_stores::Stores;
 
 /// What became of a write that has ended: the outcomes of its rows, and the same for the log. What it held comes back
 /// beside that, so that the caller chooses when its memory is freed.
@@ -28,60 +30,41 @@ pub struct WriteEnd {
     pub keys: KeyList,
 }
 
-// Makes the change of an operation, if it makes one, in reserved cells.
-fn change_store<S: ChangeStore>(
-    store: &mut S,
-    pool: &mut Pool,
-    ts: u64,
-    op: &OpRef<'_>,
-) -> CommitRow
-    requires stands { S.stands store.old pool.old }
-    requires thawed { S.is_closed store.old ≡ false }
-    requires reserved { share op.now ≤ pool.old.reserved }
-    ensures stands { S.stands store.new pool.new }
-    ensures changed { Under ts (hist_in op.now.key (S.store store.old pool.old)).steps → S.store store.new pool.new ≡ with_change op.now.key ts (change_by op.now (is_there op.now (S.store store.old pool.old))) (S.store store.old pool.old) }
-    ensures row { result ≡ commit_row (S.target store.old) (outcome_of op.now.kind (is_there op.now (S.store store.old pool.old))) }
-    ensures name { S.target store.new ≡ S.target store.old }
-    ensures closed { S.is_closed store.new ≡ S.is_closed store.old }
-    ensures takes { TakesUpTo (share op.now) pool.old pool.new }
-    ensures vacant { S.store store.new pool.new ≡ [] → (S.store store.old pool.old ≡ []) × (used pool.new ≡ used pool.old) }
+// What is recorded of an operation that stores have taken: whether it was done, and the store that has its change.
+fn recorded(kind: OpKind, taken: Taken) -> CommitRow
+    ensures { result ≡ recorded kind taken }
 {
-    let taken = store.take(pool, ts, op);
-    let outcome = outcome(op.kind(), taken.there);
+    let outcome = outcome(kind, taken.there);
     match taken.target {
-        Some(target) => {
-            let targets = TargetList::one(target);
-            CommitRow { outcome, targets }
-        }
-        None => {
-            let targets = TargetList::none();
-            CommitRow { outcome, targets }
-        }
+        Some(target) => CommitRow {
+            outcome,
+            targets: TargetList::one(target),
+        },
+        None => CommitRow {
+            outcome,
+            targets: TargetList::none(),
+        },
     }
 }
 
-// An operation reaches a store in cells that are promised, and of those that it needs none stays promised.
-fn apply_op<S: ChangeStore>(store: &mut S, pool: &mut Pool, ts: u64, op: &OpRef<'_>) -> CommitRow
-    requires stands { S.stands store.old pool.old }
-    requires thawed { S.is_closed store.old ≡ false }
-    requires reserved { 2 * share op.now ≤ pool.old.reserved }
-    ensures stands { S.stands store.new pool.new }
-    ensures changed { Under ts (hist_in op.now.key (S.store store.old pool.old)).steps → S.store store.new pool.new ≡ with_change op.now.key ts (change_by op.now (is_there op.now (S.store store.old pool.old))) (S.store store.old pool.old) }
-    ensures row { result ≡ commit_row (S.target store.old) (outcome_of op.now.kind (is_there op.now (S.store store.old pool.old))) }
-    ensures name { S.target store.new ≡ S.target store.old }
-    ensures closed { S.is_closed store.new ≡ S.is_closed store.old }
-    ensures promised { pool.new.reserved + 2 * share op.now ≡ pool.old.reserved }
-    ensures room { unpromised pool.old ≤ unpromised pool.new }
-    ensures vacant { S.store store.new pool.new ≡ [] → (S.store store.old pool.old ≡ []) × (used pool.new ≡ used pool.old) }
+// An operation reaches the stores in cells that are promised, and of those that it needs none stays promised.
+fn apply_op<R: ChangeStore>(stores: &mut Stores<R>, ts: u64, op: &OpRef<'_>) -> CommitRow
+    requires { 2 * share op.now ≤ stores.old.pool.reserved }
+    ensures bound { place_of op.now.key (stores_of stores.old) < length (stores_of stores.old) }
+    ensures changed { AllUnder ts (hists op.now.key (stores_of stores.old)) → stores_of stores.new ≡ on_nth (place_of op.now.key (stores_of stores.old)) (with_change op.now.key ts (change_by op.now (is_some (last_live op.now.key (stores_of stores.old))))) (stores_of stores.old) }
+    ensures outcome { result.outcome ≡ outcome_of op.now.kind (is_some (last_live op.now.key (stores_of stores.old))) }
+    ensures row { (name : Target) × (slice_get (names_of stores.old.shelf) (place_of op.now.key (stores_of stores.old)) ≡ Some name) × (result ≡ commit_row name result.outcome) }
+    ensures names { names_of stores.new.shelf ≡ names_of stores.old.shelf }
+    ensures promised { stores.new.pool.reserved + 2 * share op.now ≡ stores.old.pool.reserved }
+    ensures room { unpromised stores.old.pool ≤ unpromised stores.new.pool }
 {
-    let before = pool.reserved();
+    stores.standing();
+    let before = stores.reserved();
     let needs = cells_of(op);
-    let row = change_store(store, pool, ts, op);
-    // What is given back changes nothing of the store.
-    S::frame_law();
-    let taken = before - pool.reserved();
-    pool.release(needs - taken);
-    row
+    let taken = stores.take(ts, op);
+    let had = before - stores.reserved();
+    stores.release(needs - had);
+    recorded(op.kind(), taken)
 }
 
 // Where a flying write of a session stands first, if there is one.
@@ -122,11 +105,21 @@ fn note(write: &mut FlyingWrite, row: CommitRow) -> Outcome
     outcome
 }
 
-impl<S: ChangeStore, C: Clock> Tablet<S, C> {
-    ghost use Rattle.std.specs.Prelude.{IfOk, OnErr, IsOk, IsErr, false};
+impl<R: ChangeStore, C: Clock> Tablet<R, C> {
+    ghost use Rattle.std.specs.Prelude.{IfOk, OnOk, OnErr, IsOk, IsErr, false, not, ℕ};
+    ghost use Rattle.std.specs.List.{filter};
     ghost use Rattle.kt_history.specs.History.{Past};
-    ghost use Rattle.kt_tablet.specs.Views.{Opens};
-    ghost use Rattle.kt_tablet.specs.Visits.{MayApply, HasApplied, IsRunOutcome, MayEnd, HasEnded, IsDone, IsWritten, HeldBy};
+    ghost use Rattle.kt_tablet.specs.Views.{Opens, place_at};
+    ghost use Rattle.kt_tablet.specs.Visits.{MayApply, HasApplied, HasNoted, IsRunOutcome, MayEnd, HasEnded, IsDone, IsWritten, HasHandedOut, HeldBy};
+
+    /// The place of the REPLICATE of the flying write of a session among all records, counted from 1: that with which it
+    /// began.
+    pub fn place(&self, number: u32) -> u64
+        requires { (place : ℕ) × (place_at number self.now.places ≡ Some place) }
+        ensures { place_at number self.now.places ≡ Some result }
+    {
+        self.flights[place_of(&self.flights, number)].place
+    }
 
     /// Applies the next row of the flying write of a session. It takes no memory, and no cell that was not promised.
     pub fn apply_row(&mut self, number: u32, at: usize) -> Result<Outcome, Stopped>
@@ -134,7 +127,8 @@ impl<S: ChangeStore, C: Clock> Tablet<S, C> {
         ensures applied { IfOk result (λ outcome. HasApplied self.old.core self.new.core number at outcome) }
         ensures run { IfOk result (λ outcome. (first : Past) → Opens self.old.opening self.old.mark self.old.core.opened first → IsRunOutcome (record self.old.core { first = first }) number at outcome) }
         ensures room { unpromised self.old.pool ≤ unpromised self.new.pool }
-        ensures beside { self.new ≡ record self.old { core = self.new.core; pool = self.new.pool } }
+        ensures noted { IfOk result (λ outcome. HasNoted self.old self.new number at outcome) }
+        ensures beside { self.new ≡ record self.old { core = self.new.core; notes = self.new.notes; pool = self.new.pool } }
         ensures same { OnErr result (self.new ≡ self.old) }
         ensures stopped { self.old.core.stopped ≡ true → IsErr result }
         ensures goes { self.old.core.stopped ≡ false → IsOk result }
@@ -145,7 +139,7 @@ impl<S: ChangeStore, C: Clock> Tablet<S, C> {
         let place = place_of(&self.flights, number);
         let write = &self.flights[place];
         let op = write.ops.at(at);
-        let row = apply_op(&mut self.store, &mut self.pool, write.ts, &op);
+        let row = apply_op(&mut self.stores, write.ts, &op);
         Ok(note(&mut self.flights[place], row))
     }
 
@@ -153,10 +147,12 @@ impl<S: ChangeStore, C: Clock> Tablet<S, C> {
     pub fn end(&mut self, number: u32) -> Result<WriteEnd, Stopped>
         requires { self.old.core.stopped ≡ false → MayEnd self.old.core number }
         ensures ended { IfOk result (λ done. HasEnded self.old.core self.new.core number done.index done.ts) }
-        ensures told { IfOk result (λ done. (first : Past) → Opens self.old.opening self.old.mark self.old.core.opened first → IsDone (record self.old.core { first = first }) self.old.target number done.outcomes done.rows) }
-        ensures written { IfOk result (λ done. IsWritten self.old.core self.old.target number done.outcomes done.rows) }
+        ensures told { IfOk result (λ done. (first : Past) → Opens self.old.opening self.old.mark self.old.core.opened first → IsDone (record self.old.core { first = first }) self.old.names number done.outcomes done.rows) }
+        ensures written { IfOk result (λ done. IsWritten self.old.core self.old.names number done.outcomes done.rows) }
         ensures held { IfOk result (λ done. HeldBy self.old.core number done.ops done.keys) }
-        ensures beside { self.new ≡ record self.old { core = self.new.core } }
+        ensures handed { IfOk result (λ done. HasHandedOut self.old self.new number done.rows) }
+        ensures forgets { OnOk result (self.new.places ≡ filter (λ p. not (p.0 == number)) self.old.places) }
+        ensures beside { self.new ≡ record self.old { core = self.new.core; notes = self.new.notes; places = self.new.places } }
         ensures same { OnErr result (self.new ≡ self.old) }
         ensures stopped { self.old.core.stopped ≡ true → IsErr result }
         ensures goes { self.old.core.stopped ≡ false → IsOk result }

@@ -1,14 +1,17 @@
-//! Scans: each is answered by a copy of what the store holds up to its time, unless something stands in its way.
+//! Scans: each is answered by a copy of what the stores hold up to its time, unless something stands in its way.
 ghost use Rattle.std.specs.Prelude.{◌≡◌, ◌<◌, map, true, false, Some, IsSome, IfSome, IfNone, IfOk, IfErr, OnOk, OnErr, Err};
 ghost use Rattle.kt_history.specs.History.{Past};
 ghost use Rattle.kt_history.specs.Machine.{nth, none_flies};
 ghost use Rattle.kt_histlaws.specs.Core.{flown_by};
+ghost use Rattle.kt_history.specs.Grown.{AllGrown};
+ghost use Rattle.kt_stores.specs.Shelf.{stores_of};
+ghost use Rattle.kt_tablet.specs.Reads.{AreViews};
 
 use super::Tablet;
 use crate::snap::{Snap, SnapList, SnapView};
-use crate::store::ChangeStore;
-use kt_base::{Clock, NoMemory};
-use kt_history::{At, Event};
+use kt_base::{Cells, Clock, NoMemory};
+use kt_history::{At, ChangeStore, Event};
+use kt_stores::Stores;
 use std::alloc::Global;
 use thiserror::Error;
 
@@ -32,7 +35,27 @@ pub enum SnapNo {
     Memory,
 }
 
-impl<S: ChangeStore, C: Clock> Tablet<S, C> {
+// A view of each store: its changes up to a time.
+fn views_of<R: ChangeStore>(
+    alloc: Global,
+    stores: &Stores<R>,
+    fill: &Cells,
+    since: u64,
+    t: u64,
+) -> Result<SnapList, NoMemory>
+    requires { AllGrown (stores_of stores.now) }
+    ensures { IfOk result (λ views. AreViews since t fill.now (stores_of stores.now) views) }
+{
+    let count = stores.len();
+    let mut views = Vec::with_capacity(alloc, count)?;
+    'stores: for at in 0..count {
+        let changes = stores.changes_at(alloc, at, t)?;
+        views.push(SnapView::of(since, changes, fill.copy()?))?;
+    }
+    Ok(SnapList::of(views))
+}
+
+impl<R: ChangeStore, C: Clock> Tablet<R, C> {
     ghost use Rattle.kt_history.specs.declared.event.Event.TheVariants.{Ancient, Busy};
     ghost use Rattle.kt_histlaws.specs.Events.{answered};
     ghost use Rattle.kt_tablet.specs.Views.{Opens};
@@ -103,17 +126,16 @@ impl<S: ChangeStore, C: Clock> Tablet<S, C> {
         Ok(())
     }
 
-    // A copy of what the store holds up to a time.
+    // A copy of what the stores hold up to a time.
     fn copy(&self, alloc: Global, t: u64) -> Result<Snap, NoMemory>
         requires { none_flies t (map flown_by self.now.core.aloft) ≡ true }
         ensures time { IfOk result (λ snap. (snap.t ≡ t) × (snap.mark ≡ self.now.core.a)) }
         ensures copied { IfOk result IsCopied }
         ensures shows { IfOk result (λ snap. (first : Past) → Opens self.now.opening self.now.mark self.now.core.opened first → ShowsRun (record self.now.core { first = first }) snap) }
     {
+        self.stores.grown();
         let mark = self.flight.mark();
-        let changes = self.store.changes(alloc, &self.pool, t)?;
-        let fill = self.fill.copy()?;
-        let views = SnapList::one(alloc, SnapView::of(mark, changes, fill))?;
+        let views = views_of(alloc, &self.stores, &self.fill, mark, t)?;
         Ok(Snap { t, mark, views })
     }
 
@@ -146,7 +168,7 @@ impl<S: ChangeStore, C: Clock> Tablet<S, C> {
         Ok(snap)
     }
 
-    /// Answers a scan: what the store holds up to the time that it reads, copied.
+    /// Answers a scan: what the stores hold up to the time that it reads, copied.
     pub fn snapshot(
         &mut self,
         alloc: Global,

@@ -1,11 +1,10 @@
 //! Writes that begin: each with its keys held, its cells promised, and room for the line of its end.
-ghost use Rattle.std.specs.Prelude.{◌≡◌, ◌≢◌, ◌+◌, ◌-◌, ◌^◌, ◌≤◌, ◌<◌, [], length, IfOk, OnOk, vec_len, vec_capacity};
+ghost use Rattle.std.specs.Prelude.{◌≡◌, ◌≢◌, ◌+◌, ◌-◌, ◌^◌, ◌≤◌, ◌<◌, [], ◌∷◌, ◌++◌, length, IfOk, OnOk, vec_len, vec_capacity};
 
 use super::{FlyingWrite, Tablet};
 use crate::new_write::NewWrite;
-use crate::store::ChangeStore;
 use kt_base::{Clock, NoMemory};
-use kt_history::{Event, OpList};
+use kt_history::{ChangeStore, Event};
 use kt_mvcc::Flight;
 use std::alloc::Global;
 use std::mem;
@@ -58,7 +57,7 @@ fn make_room(
     Ok(())
 }
 
-impl<S: ChangeStore, C: Clock> Tablet<S, C> {
+impl<R: ChangeStore, C: Clock> Tablet<R, C> {
     ghost use Rattle.std.specs.Prelude.{OnErr, IfErr, Err, false, true};
     ghost use Rattle.kt_pool.specs.Contents.{with_reserved};
     ghost use Rattle.kt_history.specs.Operations.{need};
@@ -95,7 +94,7 @@ impl<S: ChangeStore, C: Clock> Tablet<S, C> {
         if let Err(ts) = self.flight.try_keys(&write.keys) {
             return Err(BeginNo::Wait { ts });
         }
-        let free = self.pool.free() - self.pool.reserved();
+        let free = self.stores.free() - self.stores.reserved();
         if needs > free {
             return Err(BeginNo::Room { need: needs, free });
         }
@@ -130,21 +129,25 @@ impl<S: ChangeStore, C: Clock> Tablet<S, C> {
         self.refusal(write, needs)
     }
 
-    /// Begins a write in whose way nothing stands, and takes what was made ready for it. Once it has begun it holds its
-    /// keys, its cells and the line of its end, so that it is not refused any more: the pool has promised exactly the
-    /// cells that it needs. Where there is no room for a line or a place more, the write stays as it was.
+    /// Begins a write in whose way nothing stands, and takes what was made ready for it. It is told the place of its
+    /// REPLICATE among all records, counted from 1. Once it has begun it holds its keys, its cells and the line of its end,
+    /// so that it is not refused any more: the pool has promised exactly the cells that it needs. Where there is no room for
+    /// a line or a flying write more, the write stays as it was.
     pub fn begin_free(
         &mut self,
         alloc: Global,
         number: u32,
         index: u32,
         write: &mut NewWrite,
+        place: u64,
     ) -> Result<u64, NoMemory>
         requires may { MayBegin self.old.core number index write.old.ops }
         requires free { IsUnhindered self.old write.old.ops }
         ensures begun { IfOk result (λ ts. HasBegun self.old.core self.new.core number index write.old.ops ts) }
         ensures promised { OnOk result (self.new.pool ≡ with_reserved self.old.pool (self.old.pool.reserved + need write.old.ops)) }
-        ensures beside { self.new ≡ record self.old { core = self.new.core; clock = self.new.clock; pool = self.new.pool } }
+        ensures noted { OnOk result (self.new.notes ≡ self.old.notes ++ [] ∷ []) }
+        ensures placed { OnOk result (self.new.places ≡ self.old.places ++ (number, place) ∷ []) }
+        ensures beside { self.new ≡ record self.old { core = self.new.core; clock = self.new.clock; notes = self.new.notes; places = self.new.places; pool = self.new.pool } }
         ensures taken { OnOk result (write.new.ops ≡ []) }
         ensures same { OnErr result (self.new ≡ self.old) }
         ensures kept { OnErr result (write.new.ops ≡ write.old.ops) }
@@ -159,9 +162,7 @@ impl<S: ChangeStore, C: Clock> Tablet<S, C> {
             &mut self.flight,
             write.ops.len(),
         )?;
-        // What the pool promises changes nothing of the store.
-        S::frame_law();
-        match self.pool.reserve(needs) {
+        match self.stores.reserve(needs) {
             Ok(()) => {}
             Err(_) => unreachable!(),
         }
@@ -186,41 +187,11 @@ impl<S: ChangeStore, C: Clock> Tablet<S, C> {
             ts,
             ops,
             applied: 0,
+            place,
             outcomes,
             rows,
         });
         Ok(ts)
-    }
-
-    /// Begins a write, unless something stands in its way.
-    pub fn begin(
-        &mut self,
-        alloc: Global,
-        number: u32,
-        index: u32,
-        ops: OpList,
-    ) -> Result<u64, BeginNo>
-        requires { self.old.core.stopped ≡ false → MayBegin self.old.core number index ops }
-        ensures begun { IfOk result (λ ts. HasBegun self.old.core self.new.core number index ops ts) }
-        ensures free { OnOk result (IsUnhindered self.old ops) }
-        ensures promised { OnOk result (self.new.pool ≡ with_reserved self.old.pool (self.old.pool.reserved + need ops)) }
-        ensures beside { self.new ≡ record self.old { core = self.new.core; clock = self.new.clock; pool = self.new.pool } }
-        ensures stopped { self.old.core.stopped ≡ true → result ≡ Err BeginNo.Stopped }
-        ensures refused { IfErr result (IsRefused self.old ops) }
-        ensures left { IfErr result (Leaves self.old self.new number index) }
-        ensures untouched { IfErr result (λ _. self.new ≡ record self.old { core = self.new.core }) }
-    {
-        if self.is_stopped() {
-            return Err(BeginNo::Stopped);
-        }
-        let Ok(mut write) = NewWrite::of(alloc, ops) else {
-            return Err(BeginNo::Memory);
-        };
-        self.ask(number, index, &write)?;
-        match self.begin_free(alloc, number, index, &mut write) {
-            Ok(ts) => Ok(ts),
-            Err(_) => Err(BeginNo::Memory),
-        }
     }
 
     // The most cells that a write may need.

@@ -1,8 +1,9 @@
-use Rattle.std.proofs.Common.{◌≤◌, ◌+◌, length, refl, rules}
+use Rattle.std.proofs.Common.{◌^◌, ◌<◌, ◌≤◌, ◌+◌, length, refl, rules}
 use Rattle.std.specs.Vec.{vec_len, vec_capacity}
 use Rattle.kt_history.specs.declared.event.Event.TheVariants.{Chore}
 use Rattle.kt_tablet.specs.Visits.{MayAnswerChore}
 use Rattle.kt_tablet.proofs.Visits.{chore_sound, has_answered, of_old, one_line, has_turn, ready_line}
+use Rattle.kt_tablet.proofs.Keeps.{chore_few}
 use Rattle.kt_tablet.proofs.Told.{told_on}
 use Rattle.kt_tablet.proofs.tablet.Tablet.chore_done.Goals as goal
 
@@ -10,6 +11,12 @@ pub set-requires : goal.set-requires
 set-requires g c =
     let may = of_old (λ core. MayAnswerChore core c.args.number c.args.index) _ _ c.self.view_is c.requires c.if-self.false in
     has_turn _ c.args.number _ may.at.next
+
+pub overflow_add-index : goal.overflow_add-index
+overflow_add-index g c =
+    let may = of_old (λ core. MayAnswerChore core c.args.number c.args.index) _ _ c.self.view_is c.requires c.if-self.false in
+    let few : c.args.index + 1 < 2 ^ 32 = chore_few c.self.invariant.0 c.args.number c.args.index may.chore in
+    search rules
 
 pub invariant_of-self-2 : goal.invariant_of-self-2
 invariant_of-self-2 g c =
@@ -21,11 +28,8 @@ invariant_of-self-2 g c =
     c.set.ensures in (
       sound,
       ready_line _ _ _ _ _ _ _ _ _ _ c.self.invariant.1 refl room,
-      c.self.invariant.2,
-      told_on g.C.Clock.readings _ _ _ _ _ _ _ _ _ _ _ _ c.self.invariant.0 sound refl lines c.self.invariant.3,
-      c.self.invariant.4,
-      c.self.invariant.5,
-      c.self.invariant.6,
+      told_on g.C.Clock.readings _ _ _ _ _ _ _ _ _ _ _ _ _ _ _ c.self.invariant.0 sound refl lines c.self.invariant.2,
+      c.self.invariant.3,
     )
 
 pub returns-clause-answered : goal.returns-clause-answered

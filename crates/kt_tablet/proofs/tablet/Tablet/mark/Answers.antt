@@ -1,7 +1,8 @@
-use Rattle.std.proofs.Common.{◌≤◌, ◌+◌, length, refl, ap, rules}
+use Rattle.std.proofs.Common.{◌^◌, ◌<◌, ◌≤◌, ◌+◌, length, refl, ap, rules}
 use Rattle.std.specs.Vec.{vec_len, vec_capacity}
 use Rattle.kt_tablet.specs.Visits.{MayMark}
 use Rattle.kt_tablet.proofs.Visits.{mark_sound, has_marked, raised_is, of_old, one_line, has_turn, ready_line}
+use Rattle.kt_tablet.proofs.Keeps.{mark_few}
 use Rattle.kt_tablet.proofs.Told.{told_on}
 use Rattle.kt_tablet.proofs.tablet.Tablet.mark.Goals as goal
 
@@ -9,6 +10,12 @@ pub set-requires : goal.set-requires
 set-requires g c =
     let may = of_old (λ core. MayMark core c.args.number c.args.index c.args.to) _ _ c.self.view_is c.requires c.if-self.false in
     has_turn _ c.args.number _ may.at.next
+
+pub overflow_add-index : goal.overflow_add-index
+overflow_add-index g c =
+    let may = of_old (λ core. MayMark core c.args.number c.args.index c.args.to) _ _ c.self.view_is c.requires c.if-self.false in
+    let few : c.args.index + 1 < 2 ^ 32 = mark_few c.self.invariant.0 c.args.number c.args.index _ may.command in
+    search rules
 
 pub invariant_of-self-2 : goal.invariant_of-self-2
 invariant_of-self-2 g c =
@@ -23,11 +30,8 @@ invariant_of-self-2 g c =
     c.set.ensures in (
       sound,
       ready_line _ _ _ _ _ _ _ _ _ _ c.self.invariant.1 (ap (λ f. f.flying) c.raise_mark-mark.ensures.after) room,
-      c.self.invariant.2,
-      told_on g.C.Clock.readings _ _ _ _ _ _ _ _ _ _ _ _ c.self.invariant.0 sound refl lines c.self.invariant.3,
-      c.self.invariant.4,
-      c.self.invariant.5,
-      c.self.invariant.6,
+      told_on g.C.Clock.readings _ _ _ _ _ _ _ _ _ _ _ _ _ _ _ c.self.invariant.0 sound refl lines c.self.invariant.2,
+      c.self.invariant.3,
     )
 
 pub returns-clause-marked : goal.returns-clause-marked

@@ -28,6 +28,6 @@ returns-clause-free g c = record {
   apart = way_old _ _ c.args.write.now.ops _ c.self.view_is
       (in_the_way c.args.write.now.ops c.args.write.now.keys c.self.inside.flights.items c.self.inside.flight.flying None c.args.write.now.keyed c.self.invariant.1.held c.in_default.ensures);
   room =
-      let room : c.args.needs ≤ unpromised c.self.inside.pool = subst (λ n. c.args.needs ≤ n) (λ k. c.free.ensures.free k - c.reserved.ensures.reserved k) c.if-needs-free.false in
-      subst (λ v. need c.args.write.now.ops ≤ unpromised v.pool) c.self.view_is (subst (λ n. n ≤ unpromised c.self.inside.pool) c.requires.fits.0 room);
+      let room : c.args.needs ≤ unpromised c.self.inside.stores.pool = subst (λ n. c.args.needs ≤ n) (λ k. c.free.ensures.free k - c.reserved.ensures.reserved k) c.if-needs-free.false in
+      subst (λ v. need c.args.write.now.ops ≤ unpromised v.pool) c.self.view_is (subst (λ n. n ≤ unpromised c.self.inside.stores.pool) c.requires.fits.0 room);
 }
