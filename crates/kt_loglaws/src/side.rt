@@ -189,6 +189,14 @@ impl<L: Disk> LogSide<L> {
         Ok(())
     }
 
+    /// The place that the next record will have among all records, counted from 1.
+    pub fn next_place(&self) -> u64
+        requires { 0 < self.now.room }
+        ensures { result ≡ self.now.known.count + length self.now.out + length self.now.queued + 1 }
+    {
+        self.durable + self.out as u64 + self.queue.len() as u64 + 1
+    }
+
     /// Queues a record in reserved room, and gives its place among all records, counted from 1.
     pub fn push(&mut self, entry: Entry) -> u64
         requires { 0 < self.old.room }
