@@ -29,10 +29,8 @@ use Rattle.kt_content.specs.KeyOps.{KeyOp, op_on, seen, may_join, with_move, to_
 use Rattle.kt_content.specs.Content.{Shown, UntoldLiveOnce, AboveFiles, changed_in}
 use Rattle.kt_content.specs.MoreOps.{untold, told, with_change, with_op}
 use Rattle.kt_content.specs.Opening.{AreWrites}
-use Rattle.kt_content.specs.BareLog.{AboveZero, the_bare_log_is_the_empty_superblock, the_empty_superblock_is_the_bare_log}
 use Rattle.kt_content.proofs.MoreOps.{operation_more, before_is}
 use Rattle.kt_content.proofs.Records.{KeyOf, key_of, up_to_under, none_grown, op_grown, each_grown, ends_grown, ends_later, mark_stays}
-use Rattle.kt_content.proofs.Writes.{writes_have_rows}
 use Rattle.kt_content.proofs.Fresh.{fresh_empty, nothing_shown}
 use Rattle.kt_content.proofs.AboveFiles.{all_above}
 use Rattle.kt_content.proofs.Options.{one_alone, or_none, two_oks, is_there}
@@ -103,7 +101,7 @@ replayed_differ ops None d = d
 replayed_differ ops (Some rows) d = needed_differ ops rows d
 
 -- what a COMMIT says of a key
-data Part (q : List ℕ) (ts : ℕ) (ops : List RowOp) (rows : List CommitRow) : Type 1 where
+pub data Part (q : List ℕ) (ts : ℕ) (ops : List RowOp) (rows : List CommitRow) : Type 1 where
   nothing : op_on q ts ops (Some rows) ≡ [] → has_key q (needed_ops ops rows) ≡ false → Part q ts ops rows
   covered : (op : RowOp) (targets : List Target) → op_on q ts ops (Some rows) ≡ told ts op targets ∷ [] → list_any is_in_memory targets ≡ false → has_key q (needed_ops ops rows) ≡ false → Part q ts ops rows
   needed : (op : RowOp) (targets : List Target) → op.key ≡ q → op_on q ts ops (Some rows) ≡ told ts op targets ∷ [] → list_any is_in_memory targets ≡ true
@@ -117,7 +115,7 @@ every_more : (op : RowOp) (ops : List RowOp) (b : Bool) (P : RowOp → Type 0) �
 every_more op ops true P all = all.1
 every_more op ops false P all = all
 
-part : (q : List ℕ) (ts : ℕ) (ops : List RowOp) (rows : List CommitRow) → DifferentKeys ops → Part q ts ops rows
+pub part : (q : List ℕ) (ts : ℕ) (ops : List RowOp) (rows : List CommitRow) → DifferentKeys ops → Part q ts ops rows
 part q ts [] rows d = Part.nothing refl refl
 part q ts (op ∷ ops) [] d = Part.nothing refl refl
 part q ts (op ∷ ops) (row ∷ rows) d = elim (eq_by_cmp key_cmp q op.key) as (λ b. eq_by_cmp key_cmp q op.key ≡ b → Part q ts (op ∷ ops) (row ∷ rows)) [
@@ -136,7 +134,7 @@ part q ts (op ∷ ops) (row ∷ rows) d = elim (eq_by_cmp key_cmp q op.key) as (
 
 -- each of them fits
 
-each_is : (f : RowOp → Bool) (ops : List RowOp) → list_all f ops ≡ true → AllOps (λ op. f op ≡ true) ops
+pub each_is : (f : RowOp → Bool) (ops : List RowOp) → list_all f ops ≡ true → AllOps (λ op. f op ≡ true) ops
 each_is f [] h = tt
 each_is f (op ∷ ops) h = ((and_parts (f op) (list_all f ops) h).0, each_is f ops (and_parts (f op) (list_all f ops) h).1)
 
@@ -193,28 +191,26 @@ module _ (fill : Row) (past : Past) (low ts : ℕ) (ops : List RowOp) (ends : Is
 
 -- the writes of a log rise
 
-abbrev RiseFrom : ℕ → List Entry → Type 0
+abbrev pub RiseFrom : ℕ → List Entry → Type 0
 RiseFrom low [] = Unit {0}
 RiseFrom low (Replicate ts ops ∷ records) = (low < ts) × RiseFrom ts records
 RiseFrom low (Commit ts rows ∷ records) = RiseFrom low records
 
-log_rises : (low : ℕ) (before records : List Entry) → (low ≡ 0) ⊎ (last_ts before ≡ Some low) → InOrder before records → AboveZero records → RiseFrom low records
-log_rises low before [] at h up = tt
-log_rises low before (Replicate ts ops ∷ records) at h up = (first at, log_rises ts (Replicate ts ops ∷ before) records (inr refl) h.2 up.1)
-  where
-    first : (low ≡ 0) ⊎ (last_ts before ≡ Some low) → low < ts
-    first (inl zero_is) = let z = up.0 in omega arith
-    first (inr is) = let above : is_above (Some low) ts ≡ true = ap (λ o. is_above o ts) (sym is) ∙ h.1 in let lt : nat_lt low ts ≡ true = above in grind (arith, nat_tests)
-log_rises low before (Commit ts rows ∷ records) at h up = log_rises low (Commit ts rows ∷ before) records at h.2 up
+pub log_rises : (low : ℕ) (before records : List Entry) → last_ts before ≡ Some low → InOrder before records → RiseFrom low records
+log_rises low before [] is h = tt
+log_rises low before (Replicate ts ops ∷ records) is h =
+    let above : is_above (Some low) ts ≡ true = ap (λ o. is_above o ts) (sym is) ∙ h.1 in
+    let lt : nat_lt low ts ≡ true = above in (grind (arith, nat_tests), log_rises ts (Replicate ts ops ∷ before) records refl h.2)
+log_rises low before (Commit ts rows ∷ records) is h = log_rises low (Commit ts rows ∷ before) records is h.2
 
 -- a whole log
 
-record Replayed (fill : Row) (all : List Entry) (past final : Past) (low : ℕ) (records : List Entry) : Type 0 where
-  ends : IsPastUpTo (max low (last_of records)) final
-  mark : final.mark ≡ past.mark
-  keys : (q : List ℕ) → (played fill fresh (alone_in (past_hist q past)) (seen q all records) ≡ Ok (alone_in (past_hist q final))) × Shown 0 (alone_in (past_hist q final)) (past_hist q final)
+pub record Replayed (fill : Row) (all : List Entry) (past final : Past) (low : ℕ) (records : List Entry) : Type 0 where
+  pub ends : IsPastUpTo (max low (last_of records)) final
+  pub mark : final.mark ≡ past.mark
+  pub keys : (q : List ℕ) → (played fill fresh (alone_in (past_hist q past)) (seen q all records) ≡ Ok (alone_in (past_hist q final))) × Shown 0 (alone_in (past_hist q final)) (past_hist q final)
 
-replays : (fill : Row) (all : List Entry) (past final : Past) (low : ℕ) (records : List Entry) → AreWrites all records → RiseFrom low records → IsPastUpTo low past
+pub replays : (fill : Row) (all : List Entry) (past final : Past) (low : ℕ) (records : List Entry) → AreWrites all records → RiseFrom low records → IsPastUpTo low past
     → ((q : List ℕ) → Shown 0 (alone_in (past_hist q past)) (past_hist q past)) → replay fill all past records ≡ Ok final → Replayed fill all past final low records
 replays fill all past final low [] w r ends shown h =
     let same : past ≡ final = cc in
@@ -238,33 +234,17 @@ replays fill all past final low (Replicate ts ops ∷ records) w r ends shown h 
       | false ↦ λ fit h. absurd (cc)
     ] refl h
 
-once_alone : (h : Hist) (xs : List KeyOp) → UntoldLiveOnce (alone_in h) xs
+pub once_alone : (h : Hist) (xs : List KeyOp) → UntoldLiveOnce (alone_in h) xs
 once_alone h [] = tt
 once_alone h (x ∷ xs) = (λ none. one_alone (row_before x.ts h), once_alone h xs)
 
-above_none : (fill : Row) (q : List ℕ) (held : Held) (xs : List KeyOp) → AboveFiles fill q fresh held xs
+pub above_none : (fill : Row) (q : List ℕ) (held : Held) (xs : List KeyOp) → AboveFiles fill q fresh held xs
 above_none fill q held [] = tt
 above_none fill q held (x ∷ xs) = (all_above q fresh x.ts (λ r. tt) (changed_in fill fresh (standing x.ts held) x.op x.told), above_none fill q held xs)
 
-pub bare_log : the_bare_log_is_the_empty_superblock
-bare_log rules fill records past log up turns takes is =
-    let none = fresh_empty rules fill in
-    let whole = replays fill records empty past 0 records (writes_have_rows records log) (log_rises 0 [] records (inl refl) log up) none.ends nothing_shown is in
-    record {
-      enough = omega arith;
-      numbers = tt;
-      mark = whole.mark;
-      last = omega arith;
-      ends = subst (λ n. IsPastUpTo n past) (omega arith) whole.ends;
-      turns = turns;
-      passes = takes;
-      files = tt;
-      keys = λ q. record { held = alone_in (past_hist q past); is = (whole.keys q).0; shown = (whole.keys q).1; once = once_alone (past_hist q past) (seen q records records); above = above_none fill q (alone_in (past_hist q past)) (seen q records records) };
-    }
-
 -- and back: what fits each key fits the write
 
-module _ (fill : Row) (past : Past) (low ts : ℕ) (ends : IsPastUpTo low past) (lt : low < ts) (more : List ℕ → List KeyOp) where
+module _ (fill : Row) (past : Past) (ts : ℕ) (row_then : (q : List ℕ) → row_before ts (past_hist q past) ≡ find key_cmp q (rows_at past (ts - 1))) (more : List ℕ → List KeyOp) where
   abbrev Fits : List RowOp → List CommitRow → Type 0
   Fits ops rows = (q : List ℕ) → has_key q ops ≡ true → (held : Held) × (played fill fresh (alone_in (past_hist q past)) (op_on q ts ops (Some rows) ++ more q) ≡ Ok held)
 
@@ -273,7 +253,7 @@ module _ (fill : Row) (past : Past) (low ts : ℕ) (ends : IsPastUpTo low past) 
       → played fill fresh (alone_in (past_hist op.key past)) (told ts op targets ∷ more op.key) ≡ Ok held → is_some (effect_on fill (rows_at past (ts - 1)) op).0 ≡ true
   changes_row op targets held need is =
       let h = past_hist op.key past in
-      let row : row_before ts h ≡ find key_cmp op.key (rows_at past (ts - 1)) = before_is ts h (omega arith) ∙ row-past (ts - 1) op.key past ends.is in
+      let row : row_before ts h ≡ find key_cmp op.key (rows_at past (ts - 1)) = row_then op.key in
       let goes : Moves → Result Held ℕ = λ moves. played fill fresh (moved ts moves (alone_in h)) (more op.key) in
       let made : if_fits ts goes (with_move memory (may_join memory (effect fill op.kind op.cells (row_before ts h)).0) (Some [])) ≡ Ok held =
       ap (λ p. if_fits ts goes (to_each fill op (standing ts (alone_in h)) p)) (sym (needed_fresh targets ∙ ap (λ b. cond b (memory ∷ []) []) need)) ∙ is in
@@ -315,7 +295,7 @@ module _ (fill : Row) (past : Past) (low ts : ℕ) (ends : IsPastUpTo low past) 
   write_fits ops None d f = refl
   write_fits ops (Some rows) d f = all_fit ops rows d (λ q has. f q)
 
-replay_ends : (fill : Row) (all : List Entry) (past : Past) (low : ℕ) (records : List Entry) → AreWrites all records → RiseFrom low records → IsPastUpTo low past
+pub replay_ends : (fill : Row) (all : List Entry) (past : Past) (low : ℕ) (records : List Entry) → AreWrites all records → RiseFrom low records → IsPastUpTo low past
     → ((q : List ℕ) → Shown 0 (alone_in (past_hist q past)) (past_hist q past))
     → ((q : List ℕ) → (held : Held) × (played fill fresh (alone_in (past_hist q past)) (seen q all records) ≡ Ok held)) → (final : Past) × (replay fill all past records ≡ Ok final)
 replay_ends fill all past low [] w r ends shown f = (past, refl)
@@ -323,25 +303,9 @@ replay_ends fill all past low (Commit ts rows ∷ records) w r ends shown f = re
 replay_ends fill all past low (Replicate ts ops ∷ records) w r ends shown f =
     let o = commit_of ts all in
     let next = with_ops fill past ts (replayed ops o) in
-    let fit : is_fitting fill (rows_at past (ts - 1)) ops o ≡ true = write_fits fill past low ts ends r.0 (λ q. seen q all records) ops o w.0 f in
+    let fit : is_fitting fill (rows_at past (ts - 1)) ops o ≡ true = write_fits fill past ts (λ q. before_is ts (past_hist q past) (omega (arith, r.0)) ∙ row-past (ts - 1) q past ends.is) (λ q. seen q all records) ops o w.0 f in
     let goes : (q : List ℕ) → (played fill fresh (alone_in (past_hist q past)) (op_on q ts ops o ++ seen q all records) ≡ played fill fresh (alone_in (past_hist q next)) (seen q all records))
     × Shown 0 (alone_in (past_hist q next)) (past_hist q next) =
     λ q. write_goes fill past low ts ops ends r.0 q (shown q) o (seen q all records) w.0 fit in
     let rest = replay_ends fill all next ts records w.2 r.1 (ends_grown fill past low ts (replayed ops o) ends r.0 (replayed_differ ops o w.0)) (λ q. (goes q).1) (λ q. ((f q).0, sym (goes q).0 ∙ (f q).1)) in
     (rest.0, ap (λ b. cond b (replay fill all next records) (Err ts)) fit ∙ rest.1)
-
-pub log_alone : the_empty_superblock_is_the_bare_log
-log_alone rules fill records c past log up is =
-    let none = fresh_empty rules fill in
-    let writes = writes_have_rows records log in
-    let rises = log_rises 0 [] records (inl refl) log up in
-    let end = replay_ends fill records empty 0 records writes rises none.ends nothing_shown (λ q. ((is.keys q).held, (is.keys q).is)) in
-    let whole = replays fill records empty end.0 0 records writes rises none.ends nothing_shown end.1 in (
-      end.0,
-      end.1,
-      λ q. (
-          let key = is.keys q in
-          let same : key.held ≡ alone_in (past_hist q end.0) = two_oks (played fill fresh (at_first q fresh) (seen q records records)) key.held (alone_in (past_hist q end.0)) key.is (whole.keys q).0 in
-          let shows : Shown 0 (alone_in (past_hist q end.0)) (past_hist q past) = subst (λ (l : Held). Shown 0 l (past_hist q past)) same key.shown in
-          record { rows = λ t le. sym (or_none (row_of t (past_hist q end.0))) ∙ shows.shows.rows t le; steps = λ t lt. sym (or_none (step_of t (past_hist q end.0))) ∙ shows.shows.steps t lt }),
-    )

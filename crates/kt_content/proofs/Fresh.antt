@@ -20,7 +20,6 @@ fresh_empty rules fill = record {
   mark = refl;
   last = refl;
   ends = record { is = record { rows = refl; writes = tt }; mark = omega arith; writes = refl };
-  turns = λ q. tt;
   passes = tt;
   files = tt;
   keys = λ q. record { held = (memory, never) ∷ []; is = refl; shown = nothing_shown q; once = tt; above = tt };

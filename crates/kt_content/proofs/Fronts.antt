@@ -20,13 +20,12 @@ use Rattle.kt_loglaws.specs.Fronts.{ops_of}
 use Rattle.kt_loglaws.proofs.LogOrder.{last_of-alike}
 use Rattle.kt_content.specs.Places.{Super, Held, at_first}
 use Rattle.kt_content.specs.KeyOps.{op_on, seen, played}
-use Rattle.kt_content.specs.Content.{Shown, HoldsKey, IsContent, content_at, OnlyLastUntold, UntoldLiveOnce, AboveFiles}
+use Rattle.kt_content.specs.Content.{Shown, HoldsKey, IsContent, content_at, AreTold, UntoldLiveOnce, AboveFiles}
 use Rattle.kt_content.specs.Agreement.{OpsRise}
 use Rattle.kt_content.specs.MoreOps.{untold, told}
-use Rattle.kt_content.specs.Records.{RowsTell, IsTold}
+use Rattle.kt_content.specs.Records.{RowsTell, IsTold, KeysAreTold}
 use Rattle.kt_content.specs.FewerRecords.{a_replicate_less_takes_its_write, a_commit_less_changes_nothing}
 use Rattle.kt_content.proofs.MoreOps.{true_names}
-use Rattle.kt_content.proofs.LastUntold.{last_front, told_before}
 use Rattle.kt_content.proofs.Seen.{seen_rise, first_differ}
 use Rattle.kt_content.proofs.Records.{sees_more, KeyOf, key_of, up_to_under, none_grown, op_grown, each_grown, ends_later, stands_at, order_front, RowOf, row_of_key, sees_long, sees_short}
 use Rattle.kt_content.proofs.FewerRecords.{operation_less}
@@ -43,8 +42,8 @@ module _ (rules : Rules) (fill : Row) (super : Super) (records : List Entry) (c 
   sees_all : (q : List ℕ) → seen q all all ≡ seen q records records ++ op_on q ts ops None
   sees_all q = sees_more q records ts ops log
 
-  pub key_less : (q : List ℕ) → KeyOf q ts ops → HoldsKey fill super records q (past_hist q past)
-  key_less q (KeyOf.not_there lacks none) =
+  pub key_less : KeysAreTold ops records → (q : List ℕ) → KeyOf q ts ops → HoldsKey fill super records q (past_hist q past)
+  key_less each q (KeyOf.not_there lacks none) =
       let was = is.keys q in
       record {
         held = was.held;
@@ -53,7 +52,7 @@ module _ (rules : Rules) (fill : Row) (super : Super) (records : List Entry) (c 
         once = subst (UntoldLiveOnce was.held) (sees_all q ∙ ap (λ l. seen q records records ++ l) none ∙ append-nil (seen q records records)) was.once;
         above = subst (AboveFiles fill q super was.held) (sees_all q ∙ ap (λ l. seen q records records ++ l) none ∙ append-nil (seen q records records)) was.above;
       }
-  key_less q (KeyOf.there op key one every) = subst (λ (k : List ℕ). HoldsKey fill super records k (past_hist k past)) key
+  key_less each q (KeyOf.there op key one every) = subst (λ (k : List ℕ). HoldsKey fill super records k (past_hist k past)) key
       (let was = is.keys op.key in
       let above : super.a < ts = let m = ends.mark in omega (arith, mark) in
       let grown = op_grown fill past low ts ops ends lt keys op (every (λ o. find key_cmp o.key (changes_on fill (rows_at past (ts - 1)) ops) ≡ (effect_on fill (rows_at past (ts - 1)) o).0) (each_grown fill past low ts ops ends lt keys)) in
@@ -62,20 +61,19 @@ module _ (rules : Rules) (fill : Row) (super : Super) (records : List Entry) (c 
       (ap (played fill super (at_first op.key super)) (sym seen_is) ∙ was.is) (subst (Shown super.a was.held) grown was.shown) (up_to_under low ts (timeline op.key past.writes) (timeline-up_to op.key low past.writes ends.writes) lt) above in
       let kept_above : AboveFiles fill op.key super was.held (seen op.key records records) =
       front_above fill op.key super was.held (seen op.key records records) (untold ts op ∷ []) (subst (AboveFiles fill op.key super was.held) seen_is was.above) in
-      let first = told_before (seen op.key records records) (untold ts op) (subst OnlyLastUntold seen_is (is.turns op.key)) in
+      let first = every (λ (o : RowOp). AreTold (seen o.key records records)) each in
       record { held = less.0; is = less.1; shown = less.2; once = all_told_once less.0 (seen op.key records records) first; above = told_above fill op.key super was.held less.0 (seen op.key records records) first kept_above })
 
 pub replicate_less : a_replicate_less_takes_its_write
-replicate_less rules fill super records c low past ts ops log is ends lt up mark keys enough = record {
+replicate_less rules fill super records c low past ts ops log is ends lt up mark keys each enough = record {
   enough = enough;
   numbers = is.numbers;
   mark = mark;
   last = refl;
   ends = ends_later low (max super.c (last_of records)) past up ends;
-  turns = λ q. last_front (seen q records records) (op_on q ts ops None) (subst OnlyLastUntold (sees_all rules fill super records c low past ts ops log is ends lt mark keys q) (is.turns q));
   passes = pass_front rules fill records (Replicate ts ops ∷ []) is.passes;
   files = is.files;
-  keys = λ q. key_less rules fill super records c low past ts ops log is ends lt mark keys q (key_of q ts ops);
+  keys = λ q. key_less rules fill super records c low past ts ops log is ends lt mark keys each q (key_of q ts ops);
 }
 
 module _ (fill : Row) (super : Super) (xs : List Entry) (ts : ℕ) (ops : List RowOp) (ys : List Entry) (rows : List CommitRow)
@@ -120,14 +118,13 @@ module _ (fill : Row) (super : Super) (xs : List Entry) (ts : ℕ) (ops : List R
       subst (AboveFiles fill q super held) (sym here)
       (above_untold fill q super held ts op row.targets tells (seen q short xs) (seen q short ys) (subst (AboveFiles fill q super held) there above))
 
-  pub all_forget : (rules : Rules) (c : ℕ) (past : Past) → ((q : List ℕ) → OnlyLastUntold (seen q short short)) → super.need ≤ length short → IsContent rules fill super long c past → IsContent rules fill super short c past
-  all_forget rules c past turns enough is = record {
+  pub all_forget : (rules : Rules) (c : ℕ) (past : Past) → super.need ≤ length short → IsContent rules fill super long c past → IsContent rules fill super short c past
+  all_forget rules c past enough is = record {
     enough = enough;
     numbers = is.numbers;
     mark = is.mark;
     last = is.last ∙ ap (max super.c) (last_of-alike xs (Replicate ts ops ∷ (ys ++ Commit ts rows ∷ [])) (Replicate ts ops ∷ ys) (ap (λ n. max ts n) (last_of-alike ys (Commit ts rows ∷ []) [] refl ∙ ap last_of (append-nil ys))));
     ends = is.ends;
-    turns = turns;
     passes = let parts = pass_behind rules fill xs (Replicate ts ops ∷ (ys ++ Commit ts rows ∷ [])) is.passes in pass_join rules fill xs (Replicate ts ops ∷ ys) (pass_front rules fill xs (Replicate ts ops ∷ (ys ++ Commit ts rows ∷ [])) is.passes) (parts.0, pass_front rules fill ys (Commit ts rows ∷ []) parts.1);
     files = is.files;
     keys = λ q. let was = is.keys q in record { held = was.held; is = key_forgets q was.held (row_of_key fill super long q ts ops rows tells) was.is; shown = was.shown; once = once_forgets q was.held (row_of_key fill super long q ts ops rows tells) was.is was.once; above = above_forgets q was.held (row_of_key fill super long q ts ops rows tells) was.is was.above };
@@ -139,12 +136,12 @@ same_ops ts (Replicate u ops ∷ xs) t rows = ap (cond (u == ts) (Some ops)) (sa
 same_ops ts (Commit u r ∷ xs) t rows = same_ops ts xs t rows
 
 pub commit_less : a_commit_less_changes_nothing
-commit_less rules fill super records c past ts rows log is told turns enough =
+commit_less rules fill super records c past ts rows log is told enough =
     let at = stands_at ts told.ops records (sym (same_ops ts records ts rows) ∙ told.stands) in
     let place : records ++ Commit ts rows ∷ [] ≡ at.0 ++ Replicate ts told.ops ∷ (at.1 ++ Commit ts rows ∷ []) = ap (λ (l : List Entry). l ++ Commit ts rows ∷ []) at.2 ∙ append_assoc at.0 (Replicate ts told.ops ∷ at.1) (Commit ts rows ∷ []) in
     subst (λ (l : List Entry). IsContent rules fill super l c past) (sym at.2)
     (all_forget fill super at.0 ts told.ops at.1 rows (subst (λ (l : List Entry). IsLog l) place log) (subst (λ (l : List Entry). RowsTell fill super l ts told.ops rows) place told.tells) rules c past
-    (subst (λ (l : List Entry). (q : List ℕ) → OnlyLastUntold (seen q l l)) at.2 turns) (subst (λ (l : List Entry). super.need ≤ length l) at.2 enough) (subst (λ (l : List Entry). IsContent rules fill super l c past) place is))
+    (subst (λ (l : List Entry). super.need ≤ length l) at.2 enough) (subst (λ (l : List Entry). IsContent rules fill super l c past) place is))
 
 -- and so of each key
 pub commit_key_less : (fill : Row) (super : Super) (records : List Entry) (ts : ℕ) (rows : List CommitRow) (q : List ℕ) (held : Held) → IsLog (records ++ Commit ts rows ∷ []) → IsTold fill super (records ++ Commit ts rows ∷ []) ts rows

@@ -37,7 +37,6 @@ use Rattle.kt_content.proofs.RunEvents.{last_above, told_is_true}
 use Rattle.kt_content.proofs.LentParts.{was as was_all, follows, same_is_recovered}
 use Rattle.kt_content.proofs.Publishing.{shows_later}
 use Rattle.kt_content.proofs.InMemory.{row_there_is}
-use Rattle.kt_content.proofs.LastUntold.{front_told}
 use Rattle.kt_content.proofs.LiveOnce.{once_more, shown_once, all_told_once}
 use Rattle.kt_content.proofs.Effects.{none_joins}
 use Rattle.kt_content.proofs.Lending.{dheld, goes_over, next}
@@ -59,6 +58,10 @@ fates_told fill keep old new j outs (x ∷ xs) (m ∷ ms) (n ∷ ns) f = (one f.
     one (covered targets told g e now) = ap is_some told
     one (doubled targets p c row told g e k lt made now) = ap is_some told
     one (stays targets p c told g e k made now) = ap is_some told
+
+front_told : (xs ys : List KeyOp) → AreTold (xs ++ ys) → AreTold xs
+front_told [] ys t = tt
+front_told (x ∷ xs) ys t = (t.0, front_told xs ys t.1)
 
 agree_at : (fill : Row) (super : Super) (final : Held) (xs : List KeyOp) (x : KeyOp) (ys : List KeyOp) (ms : List Moves) → Agree fill super final (xs ++ x ∷ ys) ms → (m : Moves) × (decided fill super (standing x.ts final) x.op x.told ≡ Some m)
 agree_at fill super final [] x ys [] a = absurd a

@@ -72,7 +72,7 @@ module _ (rules : Rules) (fill : Row) (old new : Super) (durable run : List Entr
   lent is t =
       let same : raise (raise whole old.a) new.a ≡ with_records fill (raise past new.a) run = raise_twice whole old.a new.a ends.is l.mark ∙ sym (true_raised fill new all high durable past new.a run t l.ends later l.marked) in
       let back = recovered rules fill new durable run (max new.c (last_of all)) high (raise past new.a) log (subst (λ (p : Past). IsContent rules fill new all (max new.c (last_of all)) p) same is)
-      (raised_is_one past high new.a l.ends later l.marked) refl (let u = l.up in omega arith) t r.content.turns l.enough in
+      (raised_is_one past high new.a l.ends later l.marked) refl (let u = l.up in omega arith) t l.enough in
       record { content = back.0; told = back.1; ends = l.ends; marked = later; low_enough = l.marked; passes = r.passes }
 
 pub lent_is_recovered : a_lent_superblock_is_recovered

@@ -19,6 +19,7 @@ pub mod Successors
 pub mod Recovering
 pub mod Fresh
 pub mod BareLog
+pub mod AtZero
 pub mod LentParts
 pub mod StoreChanges
 pub mod TwoPhases
@@ -30,7 +31,6 @@ pub mod Writes
 pub mod Lending
 pub mod NamesTell
 pub mod KeyLent
-pub mod LastUntold
 pub mod LiveOnce
 pub mod AboveFiles
 pub mod JobEvents

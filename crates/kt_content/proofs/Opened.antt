@@ -15,7 +15,7 @@ use Rattle.kt_journal.specs.Log.{IsLog}
 use Rattle.kt_loglaws.specs.Replay.{last_of}
 use Rattle.kt_content.specs.Places.{Super, Place, same_place, Held, at_first}
 use Rattle.kt_content.specs.KeyOps.{seen, played}
-use Rattle.kt_content.specs.Content.{SameFrom, OnlyLastUntold, IsContent}
+use Rattle.kt_content.specs.Content.{SameFrom, IsContent}
 use Rattle.kt_content.specs.Rules.{Rules}
 use Rattle.kt_content.specs.RunEvents.{NamesAreTrue, NumbersAreFresh}
 use Rattle.kt_content.specs.Agreement.{OpsRise}
@@ -27,7 +27,6 @@ use Rattle.kt_content.specs.Keeping.{opened_name, opened_stores, EachStands, ope
 use Rattle.kt_content.specs.Keeping.IsOwed.{not_owed, owed}
 use Rattle.kt_content.proofs.MoreOps.{is_same, true_names}
 use Rattle.kt_content.proofs.Seen.{seen_rise}
-use Rattle.kt_content.proofs.LastUntold.{told_before}
 use Rattle.kt_content.proofs.Lending.{alike_itself, alike_to_never}
 
 -- stores that are opened
@@ -55,15 +54,15 @@ opened_mirror a super active held d e p = grouped super p active held a d e
 
 -- a past told from its own mark on is the same
 
-none_replayed : (mark low : ℕ) (ws : List PastWrite) (rows : Rows) → mark ≤ low → Rise low ws → replay mark ws rows ≡ rows
+pub none_replayed : (mark low : ℕ) (ws : List PastWrite) (rows : Rows) → mark ≤ low → Rise low ws → replay mark ws rows ≡ rows
 none_replayed mark low [] rows le r = refl
 none_replayed mark low (w ∷ ws) rows le r = rw (lt-leb w.ts mark (omega (arith, r.0))) (none_replayed mark w.ts ws rows (omega (arith, r.0)) r.3)
 
-all_kept : (mark low : ℕ) (ws : List PastWrite) → mark ≤ low → Rise low ws → filter (λ (w : PastWrite). nat_lt mark w.ts) ws ≡ ws
+pub all_kept : (mark low : ℕ) (ws : List PastWrite) → mark ≤ low → Rise low ws → filter (λ (w : PastWrite). nat_lt mark w.ts) ws ≡ ws
 all_kept mark low [] le r = refl
 all_kept mark low (w ∷ ws) le r = rw (lt-ltb mark w.ts (omega (arith, r.0))) (ap (λ l. w ∷ l) (all_kept mark w.ts ws (omega (arith, r.0)) r.3))
 
-raise_itself : (past : Past) → IsPast past → raise past past.mark ≡ past
+pub raise_itself : (past : Past) → IsPast past → raise past past.mark ≡ past
 raise_itself past is =
     ap (λ (b : Rows). record { mark = past.mark; base = b; writes = filter (λ (w : PastWrite). nat_lt past.mark w.ts) past.writes }) (none_replayed past.mark past.mark past.writes past.base (omega arith) is.writes)
     ∙ ap (λ (ws : List PastWrite). record { mark = past.mark; base = past.base; writes = ws }) (all_kept past.mark past.mark past.writes (omega arith) is.writes)
@@ -90,7 +89,7 @@ module _ (rules : Rules) (fill : Row) (super : Super) (records : List Entry) (pa
         up = timeline-up_to q live.last past.writes is.ends.writes;
         stage = rests refl told (same_hist q);
       }
-  key_opened q mirrors (owed front ts op targets last up at some tells) =
+  key_opened q mirrors (owed front ts op targets last before up at some tells) =
       let k = is.keys q in
       let rise : OpsRise 0 (front ++ untold ts op ∷ []) = subst (OpsRise 0) last (seen_rise q records [] records log) in
       record {
@@ -103,7 +102,7 @@ module _ (rules : Rules) (fill : Row) (super : Super) (records : List Entry) (pa
         shown = k.shown;
         mirrors = mirrors;
         up = timeline-up_to q live.last past.writes is.ends.writes;
-        stage = applied front ts op targets last refl (told_before front (untold ts op) (subst OnlyLastUntold last (is.turns q))) up up at some tells (same_hist q);
+        stage = applied front ts op targets last refl before up up at some tells (same_hist q);
       }
 
 pub opened_stands : an_opened_tablet_stands

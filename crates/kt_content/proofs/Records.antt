@@ -30,12 +30,11 @@ use Rattle.kt_loglaws.specs.Fronts.{ops_of, with_records}
 use Rattle.kt_loglaws.proofs.LogOrder.{same, equal, no_commit_yet, commit_of-append, commit_of-after, commit_of-alike, last_of-ends, last_of-alike, Lacks, AllAbove, lacks_before, above_behind, order_behind, one_commit, lacks_around}
 use Rattle.kt_content.specs.Places.{Super, Held, at_first, standing}
 use Rattle.kt_content.specs.KeyOps.{KeyOp, op_on, seen, played}
-use Rattle.kt_content.specs.Content.{Shown, HoldsKey, IsContent, content_at, OnlyLastUntold, AreTold, UntoldLiveOnce, AboveFiles, changed_in}
+use Rattle.kt_content.specs.Content.{Shown, HoldsKey, IsContent, content_at, AreTold, UntoldLiveOnce, AboveFiles, changed_in}
 use Rattle.kt_content.specs.Agreement.{OpsRise}
 use Rattle.kt_content.specs.MoreOps.{with_op, with_change, untold, told, TellsOne}
 use Rattle.kt_content.specs.Records.{RowsTell, IsTold, KeysAreTold, AllTold, a_replicate_adds_its_write, a_commit_changes_nothing, a_run_goes_on, each_front_holds_its_writes}
 use Rattle.kt_content.proofs.MoreOps.{operation_more, true_names, before_is}
-use Rattle.kt_content.proofs.LastUntold.{last_more, last_told}
 use Rattle.kt_content.proofs.LiveOnce.{once_more, once_told, shown_once}
 use Rattle.kt_content.proofs.Seen.{first_differ, seen-alike, seen-apart, seen-append, seen_rise}
 use Rattle.kt_content.proofs.AboveFiles.{told_above, more_above, later_above, above_told}
@@ -143,13 +142,6 @@ module _ (rules : Rules) (fill : Row) (super : Super) (records : List Entry) (c 
             (up_to_under low ts (timeline op.key past.writes) (timeline-up_to op.key low past.writes ends.writes) lt) above (changed_in fill super (standing ts next.0) op None)));
       })
 
--- and where the others of its keys have their COMMITs, an operation without one is the last of its key
-turns_key : (fill : Row) (super : Super) (records : List Entry) (ts : ℕ) (ops : List RowOp) (q : List ℕ) → KeyOf q ts ops → OnlyLastUntold (seen q records records) → KeysAreTold ops records → OnlyLastUntold (seen q records records ++ op_on q ts ops None)
-turns_key fill super records ts ops q (KeyOf.not_there lacks none) last each = subst OnlyLastUntold (sym (ap (λ l. seen q records records ++ l) none ∙ append-nil (seen q records records))) last
-turns_key fill super records ts ops q (KeyOf.there op key one every) last each =
-    subst OnlyLastUntold (sym (ap (λ l. seen q records records ++ l) one))
-    (last_more (seen q records records) (untold ts op) (subst (λ (k : List ℕ). AreTold (seen k records records)) key (every (λ (o : RowOp). AreTold (seen o.key records records)) each)))
-
 up_to_later : (c d : ℕ) (ws : List PastWrite) → IsUpTo c ws → c ≤ d → IsUpTo d ws
 up_to_later c d [] h le = refl
 up_to_later c d (w ∷ ws) h le = let low : w.ts ≤ c = leb-true w.ts c (and_parts _ _ h).0 in and_from _ _ (le-leb w.ts d (omega arith)) (up_to_later c d ws (and_parts _ _ h).1 le)
@@ -165,7 +157,6 @@ replicate_more rules fill super records c low past ts ops log is ends lt keys ea
     mark = mark_stays fill past ts ops ∙ is.mark;
     last = let e : last_of (records ++ Replicate ts ops ∷ []) ≡ ts = last_of-ends [] records ts ops [] refl log in omega arith;
     ends = ends_later ts (max super.c ts) (with_ops fill past ts ops) (omega arith) (ends_grown fill past low ts ops ends lt keys);
-    turns = λ q. subst OnlyLastUntold (sym (sees rules fill super records c past ts ops low log is ends lt keys q)) (turns_key fill super records ts ops q (key_of q ts ops) (is.turns q) each);
     passes = pass_join rules fill records (Replicate ts ops ∷ []) is.passes (takes, tt);
     files = is.files;
     keys = λ q. key_more rules fill super records c past ts ops low log is ends lt keys each q (key_of q ts ops);
@@ -267,13 +258,6 @@ module _ (fill : Row) (super : Super) (xs : List Entry) (ts : ℕ) (ops : List R
       ap (played fill super (at_first q super)) (sees_long q ∙ ap (λ l. seen q short xs ++ (l ++ seen q short ys)) is_some)
       ∙ (true_names fill super 0 (at_first q super) held (seen q short xs) ts op row.targets (seen q short ys) rise (tell held (subst (λ (k : List ℕ). content_at fill super short k ≡ Ok held) (sym key) was)).0).0 old
 
-  pub turns_same : (q : List ℕ) (records : List Entry) → RowOf fill super records q ts ops rows → OnlyLastUntold (seen q short short) → OnlyLastUntold (seen q long long)
-  turns_same q records (RowOf.nothing is_none is_some) last =
-      subst OnlyLastUntold (sees_short q ∙ ap (λ l. seen q short xs ++ (l ++ seen q short ys)) (is_none ∙ sym is_some) ∙ sym (sees_long q)) last
-  turns_same q records (RowOf.one op row key is_none is_some tell) last =
-      subst OnlyLastUntold (sym (sees_long q ∙ ap (λ l. seen q short xs ++ (l ++ seen q short ys)) is_some))
-      (last_told (seen q short xs) ts op row.targets (seen q short ys) (subst OnlyLastUntold (sees_short q ∙ ap (λ l. seen q short xs ++ (l ++ seen q short ys)) is_none) last))
-
   once_same : (q : List ℕ) (held : Held) → RowOf fill super short q ts ops rows → UntoldLiveOnce held (seen q short short) → UntoldLiveOnce held (seen q long long)
   once_same q held (RowOf.nothing is_none is_some) once =
       subst (UntoldLiveOnce held) (sees_short q ∙ ap (λ l. seen q short xs ++ (l ++ seen q short ys)) (is_none ∙ sym is_some) ∙ sym (sees_long q)) once
@@ -301,7 +285,6 @@ module _ (fill : Row) (super : Super) (xs : List Entry) (ts : ℕ) (ops : List R
     mark = is.mark;
     last = is.last ∙ ap (max super.c) (sym (last_of-alike xs (Replicate ts ops ∷ (ys ++ Commit ts rows ∷ [])) (Replicate ts ops ∷ ys) (ap (λ n. max ts n) (last_of-alike ys (Commit ts rows ∷ []) [] refl ∙ ap last_of (append-nil ys)))));
     ends = is.ends;
-    turns = λ q. turns_same q short (row_of_key fill super short q ts ops rows tells) (is.turns q);
     passes = let parts = pass_behind rules fill xs (Replicate ts ops ∷ ys) is.passes in pass_join rules fill xs (Replicate ts ops ∷ (ys ++ Commit ts rows ∷ [])) (pass_front rules fill xs (Replicate ts ops ∷ ys) is.passes) (parts.0, pass_join rules fill ys (Commit ts rows ∷ []) parts.1 tt);
     files = is.files;
     keys = λ q. let was = is.keys q in record { held = was.held; is = key_same q was.held (row_of_key fill super short q ts ops rows tells) was.is; shown = was.shown; once = once_same q was.held (row_of_key fill super short q ts ops rows tells) was.once; above = above_same q was.held (row_of_key fill super short q ts ops rows tells) was.is was.above };
@@ -317,19 +300,6 @@ commit_key fill super records ts rows q held log told is =
     (key_same fill super at.0 ts told.ops at.1 rows (subst (λ (l : List Entry). IsLog l) place log) q held
     (row_of_key fill super (at.0 ++ Replicate ts told.ops ∷ at.1) q ts told.ops rows (subst (λ (l : List Entry). RowsTell fill super l ts told.ops rows) at.2 told.tells))
     (subst (λ (l : List Entry). content_at fill super l q ≡ Ok held) at.2 is))
-
--- a COMMIT more leaves the operations without one the last of their keys
-pub turns_commit : (fill : Row) (super : Super) (records all : List Entry) (ts : ℕ) (ops : List RowOp) (rows : List CommitRow) (q : List ℕ) → IsLog (records ++ Commit ts rows ∷ []) → ops_of ts records ≡ Some ops → RowsTell fill super all ts ops rows
-    → OnlyLastUntold (seen q records records) → OnlyLastUntold (seen q (records ++ Commit ts rows ∷ []) (records ++ Commit ts rows ∷ []))
-turns_commit fill super records all ts ops rows q log stands tells last =
-    let at = stands_at ts ops records stands in
-    let place : records ++ Commit ts rows ∷ [] ≡ at.0 ++ Replicate ts ops ∷ (at.1 ++ Commit ts rows ∷ []) = ap (λ (l : List Entry). l ++ Commit ts rows ∷ []) at.2 ∙ append_assoc at.0 (Replicate ts ops ∷ at.1) (Commit ts rows ∷ []) in
-    subst (λ (l : List Entry). OnlyLastUntold (seen q l l)) (sym place)
-    (turns_same fill super at.0 ts ops at.1 rows (subst (λ (l : List Entry). IsLog l) place log) q all (row_of_key fill super all q ts ops rows tells) (subst (λ (l : List Entry). OnlyLastUntold (seen q l l)) at.2 last))
-
-pub turns_replicate : (fill : Row) (super : Super) (records : List Entry) (ts : ℕ) (ops : List RowOp) (q : List ℕ) → IsLog (records ++ Replicate ts ops ∷ []) → OnlyLastUntold (seen q records records) → KeysAreTold ops records
-    → OnlyLastUntold (seen q (records ++ Replicate ts ops ∷ []) (records ++ Replicate ts ops ∷ []))
-turns_replicate fill super records ts ops q log last each = subst OnlyLastUntold (sym (sees_more q records ts ops log)) (turns_key fill super records ts ops q (key_of q ts ops) last each)
 
 pub commit_more : a_commit_changes_nothing
 commit_more rules fill super records c past ts rows log is told =

@@ -24,7 +24,7 @@ use Rattle.kt_content.specs.Records.{RowsTell, IsTold, AllTold}
 use Rattle.kt_content.specs.Recovering.{AllTrue, IsRecovered, a_content_is_recovered, each_front_is_recovered, low_after, a_replicate_more_is_recovered, a_commit_more_is_recovered, records_become_durable}
 use Rattle.kt_content.proofs.Agreement.{standing-moved}
 use Rattle.kt_content.proofs.MoreOps.{played-append, then_played}
-use Rattle.kt_content.proofs.Records.{sees_more, KeyOf, key_of, stands_at, order_front, fronts_hold, commit_key, told_front, turns_commit, turns_replicate}
+use Rattle.kt_content.proofs.Records.{sees_more, KeyOf, key_of, stands_at, order_front, fronts_hold, commit_key, told_front}
 use Rattle.kt_content.proofs.Replacing.{records_raised, mark_kept, raised_is_one}
 use Rattle.kt_content.proofs.Fronts.{replicate_less, commit_less, commit_key_less, same_ops}
 use Rattle.kt_content.proofs.Rules.{pass_join, pass_behind}
@@ -96,9 +96,9 @@ true_regrouped : (fill : Row) (super : Super) (a b : List Entry) (low : ℕ) (lo
 true_regrouped fill super a b low log run e t = subst (λ (l : List Entry). AllTrue fill super l low log run) e t
 
 pub recovered : a_content_is_recovered
-recovered rules fill super base [] c low past log is ends mark up t turns enough =
+recovered rules fill super base [] c low past log is ends mark up t enough =
     (subst (λ (l : List Entry). IsContent rules fill super l (max super.c (last_of l)) past) (append-nil base) (subst (λ n. IsContent rules fill super (base ++ []) n past) is.last is), tt)
-recovered rules fill super base (Replicate ts ops ∷ run) c low past log is ends mark up t turns enough =
+recovered rules fill super base (Replicate ts ops ∷ run) c low past log is ends mark up t enough =
     let same = regroup base (Replicate ts ops) run in
     let log' : IsLog ((base ++ Replicate ts ops ∷ []) ++ run) = subst (λ (l : List Entry). IsLog l) same log in
     let front = order_front [] (base ++ Replicate ts ops ∷ []) run log' in
@@ -106,16 +106,16 @@ recovered rules fill super base (Replicate ts ops ∷ run) c low past log is end
     let next = ends_with_write low ts past changes ends t.0 (apart-changes_on fill (rows_at past (ts - 1)) ops t.1) in
     let last : last_of (base ++ Replicate ts ops ∷ []) ≡ ts = last_of-ends [] base ts ops [] refl front in
     let rest = recovered rules fill super (base ++ Replicate ts ops ∷ []) run c ts (with_ops fill past ts ops) log' (subst (λ (l : List Entry). IsContent rules fill super l c (with_records fill (with_ops fill past ts ops) run)) same is) next (mark_kept past ts changes ∙ mark)
-    (omega (arith, last)) (true_regrouped fill super (base ++ Replicate ts ops ∷ run) ((base ++ Replicate ts ops ∷ []) ++ run) ts (base ++ Replicate ts ops ∷ []) run same t.3) (λ q. turns_replicate fill super base ts ops q front (turns q) t.2)
+    (omega (arith, last)) (true_regrouped fill super (base ++ Replicate ts ops ∷ run) ((base ++ Replicate ts ops ∷ []) ++ run) ts (base ++ Replicate ts ops ∷ []) run same t.3)
     (omega (arith, enough, length-append base (Replicate ts ops ∷ []))) in
-    (replicate_less rules fill super base (max super.c (last_of (base ++ Replicate ts ops ∷ []))) low past ts ops front rest.0 ends t.0 up mark t.1 enough, (t.0, t.1, t.2, rest.1))
-recovered rules fill super base (Commit ts rows ∷ run) c low past log is ends mark up t turns enough =
+    (replicate_less rules fill super base (max super.c (last_of (base ++ Replicate ts ops ∷ []))) low past ts ops front rest.0 ends t.0 up mark t.1 t.2 enough, (t.0, t.1, t.2, rest.1))
+recovered rules fill super base (Commit ts rows ∷ run) c low past log is ends mark up t enough =
     let same = regroup base (Commit ts rows) run in
     let log' : IsLog ((base ++ Commit ts rows ∷ []) ++ run) = subst (λ (l : List Entry). IsLog l) same log in
     let front = order_front [] (base ++ Commit ts rows ∷ []) run log' in
     let last : last_of (base ++ Commit ts rows ∷ []) ≡ last_of base = last_of-alike base (Commit ts rows ∷ []) [] refl ∙ ap last_of (append-nil base) in
     let rest = recovered rules fill super (base ++ Commit ts rows ∷ []) run c low past log' (subst (λ (l : List Entry). IsContent rules fill super l c (with_records fill past run)) same is) ends mark
-    (omega (arith, last, up)) (true_regrouped fill super (base ++ Commit ts rows ∷ run) ((base ++ Commit ts rows ∷ []) ++ run) low (base ++ Commit ts rows ∷ []) run same t.1) (λ q. turns_commit fill super base (base ++ Commit ts rows ∷ run) ts t.0.ops rows q front t.0.stands t.0.tells (turns q))
+    (omega (arith, last, up)) (true_regrouped fill super (base ++ Commit ts rows ∷ run) ((base ++ Commit ts rows ∷ []) ++ run) low (base ++ Commit ts rows ∷ []) run same t.1)
     (omega (arith, enough, length-append base (Commit ts rows ∷ []))) in
     let at = stands_at ts t.0.ops base t.0.stands in
     let above : AllAbove ts run =
@@ -124,7 +124,7 @@ recovered rules fill super base (Commit ts rows ∷ run) c low past log is ends 
     let tells : RowsTell fill super (base ++ Commit ts rows ∷ []) ts t.0.ops rows =
     tell_through fill super low (base ++ Commit ts rows ∷ []) run ts t.0.ops rows log' rest.1 above (subst (λ (l : List Entry). RowsTell fill super l ts t.0.ops rows) same t.0.tells) in
     let told : IsTold fill super (base ++ Commit ts rows ∷ []) ts rows = record { ops = t.0.ops; stands = same_ops ts base ts rows ∙ t.0.stands; tells = tells } in
-    let less = commit_less rules fill super base (max super.c (last_of (base ++ Commit ts rows ∷ []))) past ts rows front rest.0 told turns enough in
+    let less = commit_less rules fill super base (max super.c (last_of (base ++ Commit ts rows ∷ []))) past ts rows front rest.0 told enough in
     let here : RowsTell fill super base ts t.0.ops rows = tell_same fill super (base ++ Commit ts rows ∷ []) base ts t.0.ops rows
     (λ q held e. (let k = rest.0.keys q in
     let found = commit_key_less fill super base ts rows q k.held front told k.is in

@@ -138,7 +138,6 @@ module _ (rules : Rules) (fill : Row) (old new : Super) (records : List Entry) (
     mark = refl;
     last = f.last;
     ends = raised_is_one past d new.a (ends_later c d past f.up is.ends) later f.marked;
-    turns = is.turns;
     passes = is.passes;
     files = files;
     keys = λ q. let k = keys q in record { held = k.held; is = k.is; shown = record { shows = raised_is_shown past new.a q _ is.ends.is later k.shown.shows; sound = k.shown.sound }; once = k.once; above = k.above };

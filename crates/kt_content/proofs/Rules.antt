@@ -56,7 +56,7 @@ pub ops_pass_none : (fill : Row) (ops : List RowOp) → OpsPass no_rules fill op
 ops_pass_none fill [] = tt
 ops_pass_none fill (op ∷ ops) = ((refl, λ row. effect_passes_none (effect fill op.kind op.cells row).0), ops_pass_none fill ops)
 
-records_pass_none : (fill : Row) (records : List Entry) → RecordsPass no_rules fill records
+pub records_pass_none : (fill : Row) (records : List Entry) → RecordsPass no_rules fill records
 records_pass_none fill [] = tt
 records_pass_none fill (Replicate ts ops ∷ records) = (ops_pass_none fill ops, records_pass_none fill records)
 records_pass_none fill (Commit ts rows ∷ records) = records_pass_none fill records
@@ -84,7 +84,6 @@ without_rules rules fill super records c past is = record {
   mark = is.mark;
   last = is.last;
   ends = is.ends;
-  turns = is.turns;
   passes = records_pass_none fill records;
   files = rowsets_pass_none super.rowsets;
   keys = is.keys;

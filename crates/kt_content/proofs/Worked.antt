@@ -278,10 +278,6 @@ faulty_before = refl
 faulty_after : content_at [] (faulty_super [] 16384) faulty_log k ≡ Err 9000
 faulty_after = refl
 
--- and so it has none before: the insert has no COMMIT, and is not the last of its key
-faulty_has_none : (c : ℕ) (past : Past) → IsContent no_rules [] (faulty_super ((record { ordinal = 0; ts = 12288; change = Del } ∷ []) ∷ []) 0) faulty_log c past → ⊥
-faulty_has_none c past is = let h : false ≡ true = (is.turns k).0 in cc
-
 -- An operation without COMMIT at or below the mark, before which two rowsets have the key live: rowset 2 deletes it later. To which of them it goes
 -- is told by their order in the superblock alone, and so is the content.
 abbrev first_live : DiskRowset

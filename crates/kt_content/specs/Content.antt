@@ -61,12 +61,6 @@ abbrev pub NumbersDiffer : List DiskRowset → Type 0
 NumbersDiffer [] = Unit {0}
 NumbersDiffer (d ∷ rowsets) = LacksNumber d.rowset rowsets × NumbersDiffer rowsets
 
--- an operation without a COMMIT is the last of its key, as in each log that this engine writes
-abbrev pub OnlyLastUntold : List KeyOp → Type 0
-OnlyLastUntold [] = Unit {0}
-OnlyLastUntold (x ∷ []) = Unit {0}
-OnlyLastUntold (x ∷ y ∷ xs) = (is_some x.told ≡ true) × OnlyLastUntold (y ∷ xs)
-
 -- each has its COMMIT
 abbrev pub AreTold : List KeyOp → Type 0
 AreTold [] = Unit {0}
@@ -80,7 +74,6 @@ pub record IsContent (rules : Rules) (fill : Row) (super : Super) (records : Lis
   pub mark : past.mark ≡ super.a
   pub last : c ≡ max super.c (last_of records)
   pub ends : IsPastUpTo c past
-  pub turns : (q : List ℕ) → OnlyLastUntold (seen q records records)
   pub passes : RecordsPass rules fill records
   pub files : RowsetsPass rules super.rowsets
   pub keys : (q : List ℕ) → HoldsKey fill super records q (past_hist q past)

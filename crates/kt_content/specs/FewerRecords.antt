@@ -12,10 +12,10 @@ use Rattle.kt_history.specs.Stores.{Hist, Under}
 use Rattle.kt_loglaws.specs.Replay.{last_of}
 use Rattle.kt_loglaws.specs.Laws.{with_ops}
 use Rattle.kt_content.specs.Places.{Super, Held}
-use Rattle.kt_content.specs.KeyOps.{KeyOp, seen, played}
-use Rattle.kt_content.specs.Content.{Shown, OnlyLastUntold, IsContent}
+use Rattle.kt_content.specs.KeyOps.{KeyOp, played}
+use Rattle.kt_content.specs.Content.{Shown, IsContent}
 use Rattle.kt_content.specs.MoreOps.{PlacesDiffer, BeginsInMemory, untold, with_op}
-use Rattle.kt_content.specs.Records.{IsTold}
+use Rattle.kt_content.specs.Records.{IsTold, KeysAreTold}
 use Rattle.kt_content.specs.Rules.{Rules}
 
 -- stores that show a history with an operation above all that is there have shown the history without it
@@ -25,16 +25,17 @@ an_operation_less_is_shown = (fill : Row) (super : Super) (a ts : ℕ) (held nex
     → Under ts whole.steps → a < ts
     → (final : Held) × (played fill super held xs ≡ Ok final) × Shown a final whole
 
--- without the REPLICATE of the last write, the content is without that write
+-- without the REPLICATE of the last write, whose keys wait for no COMMIT, the content is without that write
 abbrev pub a_replicate_less_takes_its_write : Type 0
 a_replicate_less_takes_its_write = (rules : Rules) (fill : Row) (super : Super) (records : List Entry) (c low : ℕ) (past : Past) (ts : ℕ) (ops : List RowOp)
     → IsLog (records ++ Replicate ts ops ∷ []) → IsContent rules fill super (records ++ Replicate ts ops ∷ []) c (with_ops fill past ts ops) → IsPastUpTo low past
-    → low < ts → low ≤ max super.c (last_of records) → past.mark ≡ super.a → DifferentKeys ops → super.need ≤ length records
+    → low < ts → low ≤ max super.c (last_of records) → past.mark ≡ super.a → DifferentKeys ops → KeysAreTold ops records
+    → super.need ≤ length records
     → IsContent rules fill super records (max super.c (last_of records)) past
 
--- without a COMMIT that tells what became of its write, the content is the same, where the write is then the last on each of its keys
+-- without a COMMIT that tells what became of its write, the content is the same
 abbrev pub a_commit_less_changes_nothing : Type 0
 a_commit_less_changes_nothing = (rules : Rules) (fill : Row) (super : Super) (records : List Entry) (c : ℕ) (past : Past) (ts : ℕ) (rows : List CommitRow)
     → IsLog (records ++ Commit ts rows ∷ []) → IsContent rules fill super (records ++ Commit ts rows ∷ []) c past
     → IsTold fill super (records ++ Commit ts rows ∷ []) ts rows
-    → ((q : List ℕ) → OnlyLastUntold (seen q records records)) → super.need ≤ length records → IsContent rules fill super records c past
+    → super.need ≤ length records → IsContent rules fill super records c past

@@ -55,11 +55,12 @@ abbrev pub opened_stores_mirror : Type 0
 opened_stores_mirror = (a : ℕ) (super : Super) (active : ℕ) (held : Held) → PlacesDiffer held → EachStands super active held
     → Mirrors a super (opened_stores active held) held
 
--- Of a key: each operation has its COMMIT, or the last one has none. That one lies above the mark, and is applied: its COMMIT, which is owed, is going to say
+-- Of a key: each operation has its COMMIT, or the last one alone has none. That one lies above the mark, and is applied: its COMMIT, which is owed, is going to say
 -- which stores took it.
 pub data IsOwed (fill : Row) (super : Super) (live : Resident) (q : List ℕ) (held : Held) (logged : List KeyOp) : Type 0 where
   not_owed : AreTold logged → IsOwed fill super live q held logged
-  owed : (front : List KeyOp) (ts : ℕ) (op : RowOp) (targets : List Target) → logged ≡ front ++ untold ts op ∷ [] → super.a < ts → ts ≤ live.last
+  owed : (front : List KeyOp) (ts : ℕ) (op : RowOp) (targets : List Target) → logged ≡ front ++ untold ts op ∷ [] → AreTold front → super.a < ts
+      → ts ≤ live.last
       → names_of live.named q ts ≡ Some targets → TellsPlace fill super held ts op targets → IsOwed fill super live q held logged
 
 abbrev pub an_opened_tablet_stands : Type 0

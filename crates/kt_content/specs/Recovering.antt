@@ -11,8 +11,7 @@ use Rattle.kt_journal.specs.Log.{IsLog}
 use Rattle.kt_loglaws.specs.Replay.{last_of}
 use Rattle.kt_loglaws.specs.Fronts.{ops_of, with_records}
 use Rattle.kt_content.specs.Places.{Super, Place}
-use Rattle.kt_content.specs.KeyOps.{seen}
-use Rattle.kt_content.specs.Content.{OnlyLastUntold, IsContent}
+use Rattle.kt_content.specs.Content.{IsContent}
 use Rattle.kt_content.specs.Records.{RowsTell, IsTold, KeysAreTold, AllTold}
 use Rattle.kt_content.specs.Replacing.{ReplacesAtOnce, Replaces}
 use Rattle.kt_content.specs.Rules.{Rules, OpsPass, RecordsPass}
@@ -33,7 +32,7 @@ AllTrue fill super all low log (Commit ts rows ∷ run) = IsTrueIn fill super al
 abbrev pub a_content_is_recovered : Type 0
 a_content_is_recovered = (rules : Rules) (fill : Row) (super : Super) (base run : List Entry) (c low : ℕ) (past : Past)
     → IsLog (base ++ run) → IsContent rules fill super (base ++ run) c (with_records fill past run) → IsPastUpTo low past → past.mark ≡ super.a
-    → low ≤ max super.c (last_of base) → AllTrue fill super (base ++ run) low base run → ((q : List ℕ) → OnlyLastUntold (seen q base base))
+    → low ≤ max super.c (last_of base) → AllTrue fill super (base ++ run) low base run
     → super.need ≤ length base
     → IsContent rules fill super base (max super.c (last_of base)) past × AllTold fill super low base run
 

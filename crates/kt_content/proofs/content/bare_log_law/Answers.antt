@@ -1,4 +1,4 @@
-use Rattle.kt_content.proofs.BareLog.{bare_log}
+use Rattle.kt_content.proofs.AtZero.{bare_log}
 use Rattle.kt_content.proofs.content.bare_log_law.Goals as goal
 
 pub returns : goal.returns
