@@ -1,33 +1,46 @@
 -- What the beginning of a write keeps of an engine.
-use Rattle.std.proofs.Common.{◌≡◌, ℕ, suc, ◌+◌, ◌-◌, ◌<◌, ◌≤◌, ◌^◌, List, [], ◌∷◌, ◌++◌, length, map, Some, refl, sym, true, false, Bool, cond, ap, ◌∙◌, subst, arith, append_assoc, length-append}
+use Rattle.std.proofs.Common.{◌≡◌, ℕ, suc, ◌+◌, ◌-◌, ◌<◌, ◌≤◌, ◌^◌, List, [], ◌∷◌, ◌++◌, length, map, Option, Some, None, refl, sym, true, false, Bool, cond, ap, ◌∙◌, subst, arith, append_assoc, length-append}
 use Rattle.std.specs.Prelude.{◌==◌, Result, Err}
 use Rattle.std.specs.List.{All, list_any}
-use Rattle.std.proofs.lemmas.List.{map-append, length-map}
+use Rattle.std.proofs.lemmas.List.{map-append}
 use Rattle.kt_disk.specs.Disk.{Files}
 use Rattle.kt_history.specs.declared.event.Event.TheVariants.{Begin, Large, Stop}
+use Rattle.kt_history.specs.declared.command.Command.{Command}
+use Rattle.kt_history.specs.declared.command.Command.TheVariants as command
 use Rattle.kt_history.specs.declared.operation.RowOp.{RowOp}
 use Rattle.kt_history.specs.Machine.{IfWrite, command_at, next_timestamp}
 use Rattle.kt_records.specs.declared.entry.Entry.{Entry}
-use Rattle.kt_records.specs.declared.entry.Entry.TheVariants.{Replicate}
+use Rattle.kt_records.specs.declared.entry.Entry.TheVariants.{Replicate, Commit}
 use Rattle.kt_journal.specs.Order.{IsFramed, waiting, newest_first}
 use Rattle.kt_journal.specs.Log.{records_of, IsLog}
 use Rattle.kt_loglaws.specs.Replay.{last_of}
 use Rattle.kt_loglaws.specs.Laws.{with_ops}
 use Rattle.kt_loglaws.specs.Side.{SideView}
 use Rattle.kt_loglaws.proofs.LogOrder.{same}
-use Rattle.kt_loglaws.proofs.Fronts.{replicate_more}
 use Rattle.kt_histlaws.specs.Pending.{Aloft}
 use Rattle.kt_histlaws.specs.Core.{Core}
 use Rattle.kt_histlaws.specs.Events.{begun, answered}
-use Rattle.kt_tablet.specs.Views.{View}
+use Rattle.kt_tablet.specs.Views.{View, place_at}
 use Rattle.kt_tablet.specs.declared.tablet.write.BeginNo.{BeginNo}
 use Rattle.kt_tablet.specs.declared.tablet.write.BeginNo.TheVariants as no
-use Rattle.kt_tablet.specs.Visits.{MayBegin, HasBegun, Leaves}
-use Rattle.kt_engine.specs.Logged.{Waits, IsDurable, LogStands, KeepsRun, NamesOnly, IsShort, place_of}
-use Rattle.kt_engine.specs.Engines.{EngineView, core_from, IsEngine}
+use Rattle.kt_tablet.specs.Plans.{WriteKeeps, CommandKeeps, PlanKeeps}
+use Rattle.kt_tablet.specs.Visits.{MayBegin, HasBegun, Leaves, holder_of}
+use Rattle.kt_history.specs.Operations.{DifferentKeys, share_key}
+use Rattle.kt_history.proofs.Runs.{of_write}
+use Rattle.kt_content.specs.Places.{Super}
+use Rattle.kt_content.specs.Rules.{Rules, OpsPass}
+use Rattle.kt_content.specs.Opening.{AreWrites}
+use Rattle.kt_content.specs.Recovering.{low_after}
+use Rattle.kt_content.proofs.Keeping.{with_records-append}
+use Rattle.kt_content.proofs.Recovering.{replicate_recovered}
+use Rattle.kt_content.proofs.Writes.{writes_have_rows}
+use Rattle.kt_engine.specs.Logged.{PlanPasses, Waits, UntoldFly, IsDurable, LogStands, KeepsRun, NamesOnly}
+use Rattle.kt_engine.specs.Engines.{EngineView, IsContent, core_from, super_of, IsEngine}
 use Rattle.kt_engine.proofs.Lists.{all_each, all_more, get_end}
 use Rattle.kt_engine.proofs.Places.{place-new, any_session, apart_more}
 use Rattle.kt_engine.proofs.Records.{newest-append, order_more, last_of-replicate, below_last, above_log, ops_of-new, waits_on, all_parts, count_parts, framed_parts}
+use Rattle.kt_engine.proofs.Fronts.{low_below, last_of-append}
+use Rattle.kt_engine.proofs.Waiting.{untold_begun, keys_told, none_holds}
 use Rattle.kt_engine.proofs.Runs.{past_line, past_begun, acknowledged_more, stop_line, goes_still, err_is}
 
 -- more room
@@ -39,7 +52,7 @@ with_room tells seen now leaves faults old room more e = record {
     count = e.logged.count;
     begins = e.logged.begins;
     stands = e.logged.stands;
-    keeps = λ first is. e.logged.keeps first (record { opens = is.opens; recalls = is.recalls });
+    keeps = λ rules first is plan. e.logged.keeps rules first (record { opens = is.opens; holds = is.holds }) plan;
     names = e.logged.names;
     framed = e.logged.framed;
     durable = e.logged.durable;
@@ -50,22 +63,22 @@ with_room tells seen now leaves faults old room more e = record {
   lent = e.lent;
   whole = e.whole;
   stops = e.stops;
-  ready = record { room = (let low = e.ready.room in omega arith); apart = e.ready.apart; number = e.ready.number; target = e.ready.target; above = e.ready.above; fits = e.ready.fits };
+  ready = record { room = (let low = e.ready.room in omega arith); apart = e.ready.apart; mems = e.ready.mems };
   placed = e.placed;
 }
 
 -- a write that is too large leaves its line
 pub with_large : {L D C : Type 0} (tells : Bool) (seen : L → Files) (now : L → ℕ) (leaves : L → ℕ → Files → Type 0) (faults : L → ℕ) (old : EngineView L D C) (s i n : ℕ) (new : View C) → IsEngine tells seen now leaves faults old → old.tablet.core.stopped ≡ false
-    → IsEngine tells seen now leaves faults (record old { tablet = record old.tablet { core = answered old.tablet.core s i (Large s i n); clock = new.clock; pool = new.pool } })
+    → IsEngine tells seen now leaves faults (record old { tablet = record old.tablet { core = answered old.tablet.core s i (Large s i n); clock = new.clock; notes = new.notes; pool = new.pool } })
 with_large tells seen now leaves faults old s i n new e goes = record {
   logged = record {
     run = e.logged.run;
     all = e.logged.all;
     count = e.logged.count;
     begins = e.logged.begins;
-    stands = record { log = e.logged.stands.log; last = e.logged.stands.last; flying = e.logged.stands.flying };
-    keeps = λ first is. let k = e.logged.keeps first (record { opens = is.opens; recalls = is.recalls }) in record {
-      told = k.told;
+    stands = record { log = e.logged.stands.log; since = e.logged.stands.since; last = e.logged.stands.last; flying = e.logged.stands.flying; untold = e.logged.stands.untold };
+    keeps = λ rules first is plan. let k = e.logged.keeps rules first (record { opens = is.opens; holds = is.holds }) plan in record {
+      recovered = k.recovered;
       writes = k.writes ∙ sym (past_line (core_from old first) (Large s i n));
     };
     names = e.logged.names;
@@ -78,7 +91,7 @@ with_large tells seen now leaves faults old s i n new e goes = record {
   lent = e.lent;
   whole = e.whole;
   stops = stop_line old.tablet.core (answered old.tablet.core s i (Large s i n)) (Large s i n) e.stops goes (λ is. let no : Large s i n ≡ Stop = is in cc) refl refl;
-  ready = record { room = e.ready.room; apart = e.ready.apart; number = e.ready.number; target = e.ready.target; above = e.ready.above; fits = e.ready.fits };
+  ready = record { room = e.ready.room; apart = e.ready.apart; mems = e.ready.mems };
   placed = e.placed;
 }
 
@@ -98,44 +111,66 @@ begun_log core records places run s i ts m place ops above framed at rests k =
       waits = ap (waiting ts) (newest-append [] log (Replicate ts ops)) ∙ ap (λ b. cond b (Some (length ops)) (waiting ts (newest_first [] log))) (same ts);
       ops = ops_of-new ts log ops more;
       n = length log;
-      place = ap (λ n. place_of s (places ++ (s, n) ∷ [])) at ∙ place-new s places (suc (length log)) rests ∙ refl;
+      place = ap (λ n. place_at s (places ++ (s, n) ∷ [])) at ∙ place-new s places (suc (length log)) rests ∙ refl;
       there = get_end log (Replicate ts ops);
     }) in
     record {
       log = subst (λ (l : List Entry). IsLog l) joined whole;
+      since = omega (arith, k.since);
       last = subst (λ (l : List Entry). last_of l ≤ ts) joined (let e = last_of-replicate log ts ops in omega arith);
       flying = subst (λ (l : List Entry). All (Waits l (places ++ (s, place) ∷ [])) (core.aloft ++ record { s = s; i = i; ts = ts; ops = ops; applied = 0 } ∷ [])) joined fly;
+      untold = subst (λ (l : List Entry). UntoldFly l (core.aloft ++ record { s = s; i = i; ts = ts; ops = ops; applied = 0 } ∷ [])) joined (untold_begun log core.aloft (record { s = s; i = i; ts = ts; ops = ops; applied = 0 }) ops k.untold);
     }
 
+-- its keys are different ones
+last_differs : (all xs : List Entry) (ts : ℕ) (ops : List RowOp) → AreWrites all (xs ++ Replicate ts ops ∷ []) → DifferentKeys ops
+last_differs all [] ts ops w = w.0
+last_differs all (Replicate t o ∷ xs) ts ops w = last_differs all xs ts ops w.2
+last_differs all (Commit t rows ∷ xs) ts ops w = last_differs all xs ts ops w
+
 -- and the run with it
-begun_run : (core : Core) (records run : List Entry) (s i ts m : ℕ) (ops : List RowOp) → 0 < ts → IfWrite (command_at core.work s i) (λ written. written ≡ ops) → KeepsRun core records run → KeepsRun (begun core s i ts m ops) records (run ++ Replicate ts ops ∷ [])
-begun_run core records run s i ts m ops up is k =
-    let told = replicate_more core.work.fill records core.first run ts ops k.told up in
-    record { told = told.0; writes = told.1 ∙ ap (λ p. with_ops core.work.fill p ts ops) k.writes ∙ sym (past_begun core s i ts m ops is) }
+begun_run : (rules : Rules) (core : Core) (super : Super) (records : List Entry) (places : List (ℕ × ℕ)) (run : List Entry) (s i ts m : ℕ) (ops : List RowOp) → core.c < ts → IsFramed (Replicate ts ops)
+    → IfWrite (command_at core.work s i) (λ written. written ≡ ops) → PlanPasses rules core.work → All (λ (w : Aloft). share_key ops w.ops ≡ false) core.aloft
+    → LogStands core records places run → KeepsRun rules core super records run → KeepsRun rules (begun core s i ts m ops) super records (run ++ Replicate ts ops ∷ [])
+begun_run rules core super records places run s i ts m ops above framed is plan apart log k =
+    let fill = core.work.fill in
+    let all = records ++ run in
+    let last : last_of run ≤ core.c = (let parts = last_of-append records run in let low = log.last in omega arith) in
+    let low : low_after core.opened run < ts = (let le = low_below core.opened core.c run log.since last in omega arith) in
+    let more : last_of all < ts = (let le = log.last in omega arith) in
+    let whole : IsLog (all ++ Replicate ts ops ∷ []) = order_more [] all (Replicate ts ops) log.log framed (above_log [] all ts refl more) in
+    let keys : DifferentKeys ops = last_differs (all ++ Replicate ts ops ∷ []) all ts ops (writes_have_rows (all ++ Replicate ts ops ∷ []) whole) in
+    let passes : OpsPass rules fill ops = subst (OpsPass rules fill) (of_write (command_at core.work s i) (λ written. written ≡ ops) is) (plan s i) in
+    record {
+      recovered = replicate_recovered rules fill super records run core.opened core.first ts ops k.recovered low keys (keys_told all places core.aloft ops log.log log.flying log.untold apart) passes;
+      writes = with_records-append fill core.first run (Replicate ts ops ∷ []) ∙ ap (λ p. with_ops fill p ts ops) k.writes ∙ sym (past_begun core s i ts m ops is);
+    }
 
 -- a write begins, in the room that was made for it
 pub with_begun : {L D C : Type 0} (tells : Bool) (seen : L → Files) (now : L → ℕ) (leaves : L → ℕ → Files → Type 0) (faults : L → ℕ) (old : EngineView L D C) (s i ts m place : ℕ) (ops : List RowOp) (new : View C) → IsEngine tells seen now leaves faults old
-    → old.tablet.core.stopped ≡ false → MayBegin old.tablet.core s i ops → IsShort ops → ts ≡ next_timestamp old.tablet.core.c m → ts < 2 ^ 64 → length old.places + 2 ≤ old.log.room
+    → old.tablet.core.stopped ≡ false → MayBegin old.tablet.core s i ops → holder_of old.tablet.core ops ≡ None → WriteKeeps ops → ts ≡ next_timestamp old.tablet.core.c m → ts < 2 ^ 64 → length old.tablet.core.aloft + 2 ≤ old.log.room
     → place ≡ old.log.known.count + length old.log.out + length old.log.queued + 1
-    → IsEngine tells seen now leaves faults (record old { tablet = record old.tablet { core = begun old.tablet.core s i ts m ops; clock = new.clock; pool = new.pool }; log = record old.log { queued = old.log.queued ++ Replicate ts ops ∷ []; room = old.log.room - 1 }; places = old.places ++ (s, place) ∷ [] })
-with_begun tells seen now leaves faults old s i ts m place ops new e goes may short next fits room at =
+    → IsEngine tells seen now leaves faults (record old { tablet = record old.tablet { core = begun old.tablet.core s i ts m ops; clock = new.clock; notes = new.notes; places = old.tablet.places ++ (s, place) ∷ []; pool = new.pool }; log = record old.log { queued = old.log.queued ++ Replicate ts ops ∷ []; room = old.log.room - 1 } })
+with_begun tells seen now leaves faults old s i ts m place ops new e goes may free keeps next fits room at =
     let core = old.tablet.core in
     let above : core.c < ts = omega arith in
-    let framed : IsFramed (Replicate ts ops) = record { keeps = record { ts = fits; count = may.count; ops = may.each }; short = short ts } in
+    let framed : IsFramed (Replicate ts ops) = record { keeps = record { ts = fits; count = keeps.count; ops = keeps.each }; short = keeps.short ts } in
     let parts = length-append old.log.out old.log.queued in
     let there : place ≡ suc (length (old.records ++ e.logged.run)) = (let n = e.logged.count in omega arith) in
-    let rests : list_any (λ t. t == s) (map (λ p. p.0) old.places) ≡ false = ap (list_any (λ t. t == s)) e.placed ∙ sym (any_session s core.aloft) ∙ may.at.rests in
+    let rests : list_any (λ t. t == s) (map (λ p. p.0) old.tablet.places) ≡ false = ap (list_any (λ t. t == s)) e.placed ∙ sym (any_session s core.aloft) ∙ may.at.rests in
     let known = e.logged.stands in
-    let low : All (λ (v : Aloft). v.ts < ts) core.aloft = all_each (Waits (old.records ++ e.logged.run) old.places) (λ v. v.ts < ts) core.aloft (λ v h. let b = below_last (old.records ++ e.logged.run) h.n v.ts v.ops h.there in let l = known.last in omega arith) known.flying in
+    let low : All (λ (v : Aloft). v.ts < ts) core.aloft = all_each (Waits (old.records ++ e.logged.run) old.tablet.places) (λ v. v.ts < ts) core.aloft (λ v h. let b = below_last (old.records ++ e.logged.run) h.n v.ts v.ops h.there in let l = known.last in omega arith) known.flying in
     record {
       logged = record {
         run = e.logged.run ++ Replicate ts ops ∷ [];
         all = λ t. all_parts old.records e.logged.run (records_of (seen old.log.known.disk)) old.log.out old.log.queued (Replicate ts ops) (e.logged.all t);
         count = count_parts old.records e.logged.run old.log.out old.log.queued (Replicate ts ops) old.log.known.count e.logged.count;
         begins = e.logged.begins;
-        stands = begun_log core old.records old.places e.logged.run s i ts m place ops above framed there rests known;
-        keeps = λ first is. begun_run (core_from old first) old.records e.logged.run s i ts m ops (omega arith) may.write (e.logged.keeps first (record { opens = is.opens; recalls = is.recalls }));
-        names = all_more (NamesOnly old.tablet.target) e.logged.run (Replicate ts ops) e.logged.names tt;
+        stands = begun_log core old.records old.tablet.places e.logged.run s i ts m place ops above framed there rests known;
+        keeps = λ rules first is plan. let before : IsContent rules old first = record { opens = is.opens; holds = is.holds } in
+            begun_run rules (core_from old first) (super_of old) old.records old.tablet.places e.logged.run s i ts m ops above framed may.write plan (none_holds ops core.aloft free)
+            (record { log = known.log; since = known.since; last = known.last; flying = known.flying; untold = known.untold }) (e.logged.keeps rules first before plan);
+        names = all_more (NamesOnly old.tablet.names) e.logged.run (Replicate ts ops) e.logged.names tt;
         framed = framed_parts old.log.out old.log.queued (Replicate ts ops) e.logged.framed framed;
         durable = λ t. all_more (IsDurable (records_of (seen old.log.known.disk))) core.aloft (record { s = s; i = i; ts = ts; ops = ops; applied = 0 }) (e.logged.durable t) (λ lt. absurd (omega arith));
         acknowledged = λ t. acknowledged_more (records_of (seen old.log.known.disk)) core.trail (Begin s i ts m) (e.logged.acknowledged t) tt;
@@ -148,57 +183,65 @@ with_begun tells seen now leaves faults old s i ts m place ops new e goes may sh
       ready = record {
         room =
             let a = length-append core.aloft (record { s = s; i = i; ts = ts; ops = ops; applied = 0 } ∷ []) in
-            let b : length old.places ≡ length core.aloft = sym (length-map old.places (λ p. p.0)) ∙ ap length e.placed ∙ length-map core.aloft (λ w. w.s) in
             omega arith;
         apart = apart_more core.aloft (record { s = s; i = i; ts = ts; ops = ops; applied = 0 }) e.ready.apart low;
-        number = e.ready.number;
-        target = e.ready.target;
-        above = e.ready.above;
-        fits = e.ready.fits;
+        mems = e.ready.mems;
       };
-      placed = map-append (λ p. p.0) old.places ((s, place) ∷ []) ∙ ap (λ l. l ++ s ∷ []) e.placed ∙ sym (map-append (λ w. w.s) core.aloft (record { s = s; i = i; ts = ts; ops = ops; applied = 0 } ∷ []));
+      placed = map-append (λ p. p.0) old.tablet.places ((s, place) ∷ []) ∙ ap (λ l. l ++ s ∷ []) e.placed ∙ sym (map-append (λ w. w.s) core.aloft (record { s = s; i = i; ts = ts; ops = ops; applied = 0 } ∷ []));
     }
 
--- the engine with this log and these places, where only room was made
-pub roomed : {L D C : Type 0} (tells : Bool) (seen : L → Files) (now : L → ℕ) (leaves : L → ℕ → Files → Type 0) (faults : L → ℕ) (old : EngineView L D C) (log : SideView L) (places : List (ℕ × ℕ)) → log ≡ record old.log { room = log.room } → old.log.room ≤ log.room → places ≡ old.places
-    → IsEngine tells seen now leaves faults old → IsEngine tells seen now leaves faults (record old { log = log; places = places })
-roomed {L} {D} {C} tells seen now leaves faults old log places is more same_places e =
-    subst (λ (l : SideView L). IsEngine tells seen now leaves faults (record old { log = l; places = places })) (sym is)
-    (subst (λ (ps : List (ℕ × ℕ)). IsEngine tells seen now leaves faults (record old { log = record old.log { room = log.room }; places = ps })) (sym same_places) (with_room tells seen now leaves faults old log.room more e))
+-- the engine with this log, where only room was made
+pub roomed : {L D C : Type 0} (tells : Bool) (seen : L → Files) (now : L → ℕ) (leaves : L → ℕ → Files → Type 0) (faults : L → ℕ) (old : EngineView L D C) (log : SideView L) → log ≡ record old.log { room = log.room } → old.log.room ≤ log.room
+    → IsEngine tells seen now leaves faults old → IsEngine tells seen now leaves faults (record old { log = log })
+roomed {L} {D} {C} tells seen now leaves faults old log is more e =
+    subst (λ (l : SideView L). IsEngine tells seen now leaves faults (record old { log = l })) (sym is) (with_room tells seen now leaves faults old log.room more e)
 
 -- and this tablet, which is as it was
-pub roomed_on : {L D C : Type 0} (tells : Bool) (seen : L → Files) (now : L → ℕ) (leaves : L → ℕ → Files → Type 0) (faults : L → ℕ) (old : EngineView L D C) (tablet : View C) (log : SideView L) (places : List (ℕ × ℕ)) → tablet ≡ old.tablet → log ≡ record old.log { room = log.room } → old.log.room ≤ log.room → places ≡ old.places
-    → IsEngine tells seen now leaves faults old → IsEngine tells seen now leaves faults (record old { tablet = tablet; log = log; places = places })
-roomed_on {L} {D} {C} tells seen now leaves faults old tablet log places same is more same_places e =
-    subst (λ (t : View C). IsEngine tells seen now leaves faults (record old { tablet = t; log = log; places = places })) (sym same) (roomed tells seen now leaves faults old log places is more same_places e)
+pub roomed_on : {L D C : Type 0} (tells : Bool) (seen : L → Files) (now : L → ℕ) (leaves : L → ℕ → Files → Type 0) (faults : L → ℕ) (old : EngineView L D C) (tablet : View C) (log : SideView L) → tablet ≡ old.tablet → log ≡ record old.log { room = log.room } → old.log.room ≤ log.room
+    → IsEngine tells seen now leaves faults old → IsEngine tells seen now leaves faults (record old { tablet = tablet; log = log })
+roomed_on {L} {D} {C} tells seen now leaves faults old tablet log same is more e =
+    subst (λ (t : View C). IsEngine tells seen now leaves faults (record old { tablet = t; log = log })) (sym same) (roomed tells seen now leaves faults old log is more e)
 
 -- where the core alone has changed
-pub core_alone : {C : Type 0} (old tablet : View C) → tablet ≡ record old { core = tablet.core } → tablet ≡ record old { core = tablet.core; clock = tablet.clock; pool = tablet.pool }
-core_alone old tablet e = e ∙ (λ k. record old { core = tablet.core; clock = (sym e k).clock; pool = (sym e k).pool })
+pub core_alone : {C : Type 0} (old tablet : View C) → tablet ≡ record old { core = tablet.core } → tablet ≡ record old { core = tablet.core; clock = tablet.clock; notes = tablet.notes; pool = tablet.pool }
+core_alone old tablet e = e ∙ (λ k. record old { core = tablet.core; clock = (sym e k).clock; notes = (sym e k).notes; pool = (sym e k).pool })
+
+-- a write of the plan keeps its rules
+write_kept : (i : ℕ) (ops : List RowOp) (o : Option Command) → IfWrite o (λ written. written ≡ ops) → ((command : Command) → o ≡ Some command → (i + 1 < 2 ^ 32) × CommandKeeps command) → WriteKeeps ops
+write_kept i ops None is keeps = absurd is
+write_kept i ops (Some (command.Write w)) is keeps = subst WriteKeeps is (keeps (command.Write w) refl).1
+write_kept i ops (Some (command.Scan scan)) is keeps = absurd is
+write_kept i ops (Some (command.Mark t)) is keeps = absurd is
+write_kept i ops (Some (command.Chore chore)) is keeps = absurd is
+
+pub plan_kept : (core : Core) (s i : ℕ) (ops : List RowOp) → PlanKeeps core.work → MayBegin core s i ops → WriteKeeps ops
+plan_kept core s i ops keeps may = write_kept i ops (command_at core.work s i) may.write (keeps s i)
 
 pub may_on : {C : Type 0} (old tablet : View C) (s i : ℕ) (ops : List RowOp) → tablet ≡ old → MayBegin old.core s i ops → MayBegin tablet.core s i ops
 may_on {C} old tablet s i ops same may = subst (λ (t : View C). MayBegin t.core s i ops) (sym same) may
 
 -- a write that does not begin
 pub left_alone : {L D C T : Type 0} (tells : Bool) (seen : L → Files) (now : L → ℕ) (leaves : L → ℕ → Files → Type 0) (faults : L → ℕ) (old : EngineView L D C) (tablet : View C) (s i : ℕ) (r : Result T BeginNo) (why : BeginNo)
-    → r ≡ Err why → (old.tablet.core.stopped ≡ true → r ≡ Err no.Stopped) → tablet ≡ record old.tablet { core = tablet.core; clock = tablet.clock; pool = tablet.pool } → Leaves old.tablet tablet s i why → IsEngine tells seen now leaves faults old → IsEngine tells seen now leaves faults (record old { tablet = tablet })
+    → r ≡ Err why → (old.tablet.core.stopped ≡ true → r ≡ Err no.Stopped) → tablet ≡ record old.tablet { core = tablet.core; clock = tablet.clock; notes = tablet.notes; pool = tablet.pool } → Leaves old.tablet tablet s i why → IsEngine tells seen now leaves faults old → IsEngine tells seen now leaves faults (record old { tablet = tablet })
 left_alone {L} {D} {C} tells seen now leaves faults old tablet s i r no.Stopped was stops beside h e = subst (λ (t : View C). IsEngine tells seen now leaves faults (record old { tablet = t })) (sym h) e
 left_alone {L} {D} {C} tells seen now leaves faults old tablet s i r (no.Large n) was stops beside h e =
-    subst (λ (t : View C). IsEngine tells seen now leaves faults (record old { tablet = t })) (sym (beside ∙ ap (λ (k : Core). record old.tablet { core = k; clock = tablet.clock; pool = tablet.pool }) h)) (with_large tells seen now leaves faults old s i n tablet e (goes_still old.tablet.core.stopped r no.Stopped stops (λ k. let other : no.Large n ≡ no.Stopped = err_is (no.Large n) no.Stopped r was k in cc)))
+    subst (λ (t : View C). IsEngine tells seen now leaves faults (record old { tablet = t })) (sym (beside ∙ ap (λ (k : Core). record old.tablet { core = k; clock = tablet.clock; notes = tablet.notes; pool = tablet.pool }) h)) (with_large tells seen now leaves faults old s i n tablet e (goes_still old.tablet.core.stopped r no.Stopped stops (λ k. let other : no.Large n ≡ no.Stopped = err_is (no.Large n) no.Stopped r was k in cc)))
 left_alone {L} {D} {C} tells seen now leaves faults old tablet s i r (no.Wait ts) was stops beside h e = subst (λ (t : View C). IsEngine tells seen now leaves faults (record old { tablet = t })) (sym h) e
 left_alone {L} {D} {C} tells seen now leaves faults old tablet s i r (no.Room n left) was stops beside h e = subst (λ (t : View C). IsEngine tells seen now leaves faults (record old { tablet = t })) (sym h) e
 left_alone {L} {D} {C} tells seen now leaves faults old tablet s i r no.Memory was stops beside h e = subst (λ (t : View C). IsEngine tells seen now leaves faults (record old { tablet = t })) (sym h) e
 
 -- a write that has begun, with a copy of its operations in the tablet and one in the log
-pub has_begun : {L D C : Type 0} (tells : Bool) (seen : L → Files) (now : L → ℕ) (leaves : L → ℕ → Files → Type 0) (faults : L → ℕ) (old : EngineView L D C) (tablet : View C) (log : SideView L) (places : List (ℕ × ℕ)) (s i ts place : ℕ) (ops held logged : List RowOp)
-    → held ≡ ops → logged ≡ ops → tablet ≡ record old.tablet { core = tablet.core; clock = tablet.clock; pool = tablet.pool } → HasBegun old.tablet.core tablet.core s i held ts → log ≡ record old.log { queued = old.log.queued ++ Replicate ts logged ∷ []; room = old.log.room - 1 }
-    → places ≡ old.places ++ (s, place) ∷ [] → old.tablet.core.stopped ≡ false → MayBegin old.tablet.core s i ops → IsShort ops → ts < 2 ^ 64 → length old.places + 2 ≤ old.log.room → place ≡ old.log.known.count + length old.log.out + length old.log.queued + 1
-    → IsEngine tells seen now leaves faults old → IsEngine tells seen now leaves faults (record old { tablet = tablet; log = log; places = places })
-has_begun {L} {D} {C} tells seen now leaves faults old tablet log places s i ts place ops held logged same_held same_logged beside begins is_log is_places goes may short fits room at e =
+pub has_begun : {L D C : Type 0} (tells : Bool) (seen : L → Files) (now : L → ℕ) (leaves : L → ℕ → Files → Type 0) (faults : L → ℕ) (old : EngineView L D C) (tablet : View C) (log : SideView L) (s i ts place : ℕ) (ops held logged : List RowOp)
+    → held ≡ ops → logged ≡ ops → tablet ≡ record old.tablet { core = tablet.core; clock = tablet.clock; notes = tablet.notes; places = tablet.places; pool = tablet.pool } → tablet.places ≡ old.tablet.places ++ (s, place) ∷ []
+    → HasBegun old.tablet.core tablet.core s i held ts → log ≡ record old.log { queued = old.log.queued ++ Replicate ts logged ∷ []; room = old.log.room - 1 }
+    → old.tablet.core.stopped ≡ false → MayBegin old.tablet.core s i ops → holder_of old.tablet.core ops ≡ None → WriteKeeps ops → ts < 2 ^ 64 → length old.tablet.core.aloft + 2 ≤ old.log.room → place ≡ old.log.known.count + length old.log.out + length old.log.queued + 1
+    → IsEngine tells seen now leaves faults old → IsEngine tells seen now leaves faults (record old { tablet = tablet; log = log })
+has_begun {L} {D} {C} tells seen now leaves faults old tablet log s i ts place ops held logged same_held same_logged beside is_places begins is_log goes may free keeps fits room at e =
     let is_core : tablet.core ≡ begun old.tablet.core s i ts begins.m ops = begins.core ∙ ap (λ (o : List RowOp). begun old.tablet.core s i ts begins.m o) same_held in
-    let is_tablet : tablet ≡ record old.tablet { core = begun old.tablet.core s i ts begins.m ops; clock = tablet.clock; pool = tablet.pool } = beside ∙ ap (λ (k : Core). record old.tablet { core = k; clock = tablet.clock; pool = tablet.pool }) is_core in
+    let is_tablet : tablet ≡ record old.tablet { core = begun old.tablet.core s i ts begins.m ops; clock = tablet.clock; notes = tablet.notes; places = old.tablet.places ++ (s, place) ∷ []; pool = tablet.pool } =
+    beside ∙ ap (λ (k : Core). record old.tablet { core = k; clock = tablet.clock; notes = tablet.notes; places = tablet.places; pool = tablet.pool }) is_core
+    ∙ ap (λ (ps : List (ℕ × ℕ)). record old.tablet { core = begun old.tablet.core s i ts begins.m ops; clock = tablet.clock; notes = tablet.notes; places = ps; pool = tablet.pool }) is_places in
     let is_log' : log ≡ record old.log { queued = old.log.queued ++ Replicate ts ops ∷ []; room = old.log.room - 1 } = is_log ∙ ap (λ (o : List RowOp). record old.log { queued = old.log.queued ++ Replicate ts o ∷ []; room = old.log.room - 1 }) same_logged in
-    subst (λ (t : View C). IsEngine tells seen now leaves faults (record old { tablet = t; log = log; places = places })) (sym is_tablet)
-    (subst (λ (l : SideView L). IsEngine tells seen now leaves faults (record old { tablet = record old.tablet { core = begun old.tablet.core s i ts begins.m ops; clock = tablet.clock; pool = tablet.pool }; log = l; places = places })) (sym is_log')
-    (subst (λ (ps : List (ℕ × ℕ)). IsEngine tells seen now leaves faults (record old { tablet = record old.tablet { core = begun old.tablet.core s i ts begins.m ops; clock = tablet.clock; pool = tablet.pool }; log = record old.log { queued = old.log.queued ++ Replicate ts ops ∷ []; room = old.log.room - 1 }; places = ps })) (sym is_places)
-    (with_begun tells seen now leaves faults old s i ts begins.m place ops tablet e goes may short begins.time fits room at)))
+    subst (λ (t : View C). IsEngine tells seen now leaves faults (record old { tablet = t; log = log })) (sym is_tablet)
+    (subst (λ (l : SideView L). IsEngine tells seen now leaves faults (record old { tablet = record old.tablet { core = begun old.tablet.core s i ts begins.m ops; clock = tablet.clock; notes = tablet.notes; places = old.tablet.places ++ (s, place) ∷ []; pool = tablet.pool }; log = l })) (sym is_log')
+    (with_begun tells seen now leaves faults old s i ts begins.m place ops tablet e goes may free keeps begins.time fits room at))

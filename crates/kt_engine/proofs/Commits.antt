@@ -1,106 +1,92 @@
 -- The COMMIT of a write whose rows are all applied.
-use Rattle.std.proofs.Common.{◌≡◌, ℕ, ◌*◌, ◌<◌, ◌≤◌, ◌^◌, List, [], ◌∷◌, ◌++◌, length, map, Some, None, Option, refl, true, false, ap, arith, ◌||◌, length-append}
-use Rattle.std.specs.Prelude.{is_some}
-use Rattle.std.specs.List.{All, flat_map}
+use Rattle.std.proofs.Common.{◌≡◌, ℕ, suc, ◌*◌, ◌<◌, ◌≤◌, ◌^◌, List, [], ◌∷◌, ◌++◌, length, refl, true, sym, ap, subst, arith, length-append}
+use Rattle.std.specs.List.{All, Contains, flat_map}
 use Rattle.std.specs.Int.{w16, w64, to_le_bytes}
-use Rattle.std.specs.FinMap.Entries.{find}
 use Rattle.std.proofs.lemmas.Bool.Decides.{nat_tests}
-use Rattle.std.proofs.lemmas.List.{length-map}
 use Rattle.std.proofs.lemmas.List.Concat.{flat_map-cons}
 use Rattle.kt_history.specs.declared.change.Outcome.{Outcome}
 use Rattle.kt_history.specs.declared.change.Outcome.TheVariants.{Done, Present, Absent, Ignored}
-use Rattle.kt_history.specs.declared.operation.OpKind.{OpKind}
-use Rattle.kt_history.specs.declared.operation.OpKind.TheVariants.{Insert, Upsert, Update, Delete, InsertIgnore, UpdateIgnore, DeleteIgnore}
-use Rattle.kt_history.specs.declared.operation.RowOp.{RowOp}
 use Rattle.kt_history.specs.declared.target.Target.{Target}
-use Rattle.kt_history.specs.declared.target.Target.TheVariants.{Mem}
-use Rattle.kt_history.specs.Rows.{Row, Rows, key_cmp}
-use Rattle.kt_history.specs.Operations.{effect, outcomes_on}
+use Rattle.kt_history.specs.declared.target.Target.TheVariants.{Mem, Delta}
 use Rattle.kt_records.specs.declared.entry.Entry.TheVariants.{Commit}
 use Rattle.kt_records.specs.declared.entry.CommitRow.{CommitRow}
 use Rattle.kt_records.specs.Rules.{EachAfter, RowFits, may_hold}
 use Rattle.kt_records.specs.Spelling.{commit_row as row_bytes}
 use Rattle.kt_journal.specs.Order.{IsFramed}
-use Rattle.kt_loglaws.specs.Replay.{is_needed}
-use Rattle.kt_loglaws.specs.Laws.{Tells}
-use Rattle.kt_loglaws.specs.Laws.Tells.{nothing, and_one}
-use Rattle.kt_tablet.specs.Rows.{commit_row}
-use Rattle.kt_engine.specs.Logged.{NamesOnly}
+use Rattle.kt_tablet.specs.Rows.{commit_row, AreRecorded}
+use Rattle.kt_engine.specs.Logged.{IsMem, NamesOnly}
 use Rattle.kt_engine.proofs.Lists.{all_none, all_one, all_cons}
-use Rattle.kt_engine.proofs.Records.{lt_test}
 
--- a row that went to a MemRowSet is needed
-done_is_needed : (number : ℕ) → 0 < number → is_needed (commit_row (Mem number) Done) ≡ true
-done_is_needed number up = ap (λ b. b || false) (lt_test 0 number up)
+-- a name among others is as they all are
+pub of_each : (P : Target → Type 0) (names : List Target) (name : Target) → All P names → Contains names name → P name
+of_each P names name all has = subst P has.2 (all has.0 name has.1)
 
--- a row of the COMMIT calls needed exactly the operation that changed something
-one_tells : (number : ℕ) → 0 < number → (fill : Row) (kind : OpKind) (cells : Row) (row : Option Row) → is_needed (commit_row (Mem number) (effect fill kind cells row).1) ≡ is_some (effect fill kind cells row).0
-one_tells number up fill Insert cells None = done_is_needed number up
-one_tells number up fill Insert cells (Some row) = refl
-one_tells number up fill Upsert cells None = done_is_needed number up
-one_tells number up fill Upsert cells (Some row) = done_is_needed number up
-one_tells number up fill Update cells None = refl
-one_tells number up fill Update cells (Some row) = done_is_needed number up
-one_tells number up fill Delete cells None = refl
-one_tells number up fill Delete cells (Some row) = done_is_needed number up
-one_tells number up fill InsertIgnore cells None = done_is_needed number up
-one_tells number up fill InsertIgnore cells (Some row) = refl
-one_tells number up fill UpdateIgnore cells None = refl
-one_tells number up fill UpdateIgnore cells (Some row) = done_is_needed number up
-one_tells number up fill DeleteIgnore cells None = refl
-one_tells number up fill DeleteIgnore cells (Some row) = done_is_needed number up
+row_fits : (name : Target) → IsMem name → (o : Outcome) → RowFits (commit_row name o)
+row_fits (Mem number) mem Done = record { count = refl; targets = (mem.1, tt) }
+row_fits (Delta rowset dms) mem Done = absurd mem
+row_fits name mem Present = record { count = refl; targets = tt }
+row_fits name mem Absent = record { count = refl; targets = tt }
+row_fits name mem Ignored = record { count = refl; targets = tt }
 
-pub rows_tell : (number : ℕ) → 0 < number → (fill : Row) (rows : Rows) (ops : List RowOp) → Tells fill rows ops (map (commit_row (Mem number)) (outcomes_on fill rows ops))
-rows_tell number up fill rows [] = nothing
-rows_tell number up fill rows (op ∷ ops) = and_one (one_tells number up fill op.kind op.cells (find key_cmp op.key rows)) (rows_tell number up fill rows ops)
+row_length : (name : Target) → IsMem name → (o : Outcome) → length (row_bytes (commit_row name o)) ≤ 11
+row_length (Mem number) mem Done = omega arith
+row_length (Delta rowset dms) mem Done = absurd mem
+row_length name mem Present = omega arith
+row_length name mem Absent = omega arith
+row_length name mem Ignored = omega arith
 
-row_fits : (number : ℕ) → number < 2 ^ 64 → (o : Outcome) → RowFits (commit_row (Mem number) o)
-row_fits number low Done = record { count = refl; targets = (low, tt) }
-row_fits number low Present = record { count = refl; targets = tt }
-row_fits number low Absent = record { count = refl; targets = tt }
-row_fits number low Ignored = record { count = refl; targets = tt }
+module _ (names : List Target) (mems : All IsMem names) where
+  rows_fit : (front : List CommitRow) (os : List Outcome) (rows : List CommitRow) → AreRecorded names os rows → EachAfter (λ before row. RowFits row) front rows
+  rows_fit front [] [] are = tt
+  rows_fit front [] (row ∷ rows) are = absurd are
+  rows_fit front (o ∷ os) [] are = absurd are
+  rows_fit front (o ∷ os) (row ∷ rows) are =
+      let one = are.0 in
+      (subst RowFits (sym one.2) (row_fits one.0 (of_each IsMem names one.0 mems one.1) o), rows_fit (front ++ row ∷ []) os rows are.1)
 
-rows_fit : (number : ℕ) → number < 2 ^ 64 → (front : List CommitRow) (os : List Outcome) → EachAfter (λ before row. RowFits row) front (map (commit_row (Mem number)) os)
-rows_fit number low front [] = tt
-rows_fit number low front (o ∷ os) = (row_fits number low o, rows_fit number low (front ++ commit_row (Mem number) o ∷ []) os)
+  rows_length : (os : List Outcome) (rows : List CommitRow) → AreRecorded names os rows → length (flat_map row_bytes rows) ≤ 11 * length os
+  rows_length [] [] are = omega arith
+  rows_length [] (row ∷ rows) are = absurd are
+  rows_length (o ∷ os) [] are = absurd are
+  rows_length (o ∷ os) (row ∷ rows) are =
+      let one = are.0 in
+      let e = ap length (flat_map-cons row_bytes row rows) in
+      let a = length-append (row_bytes row) (flat_map row_bytes rows) in
+      let b = subst (λ (r : CommitRow). length (row_bytes r) ≤ 11) (sym one.2) (row_length one.0 (of_each IsMem names one.0 mems one.1) o) in
+      let ih = rows_length os rows are.1 in
+      omega arith
 
-row_length : (number : ℕ) (o : Outcome) → length (row_bytes (commit_row (Mem number) o)) ≤ 11
-row_length number Done = omega arith
-row_length number Present = omega arith
-row_length number Absent = omega arith
-row_length number Ignored = omega arith
-
-rows_length : (number : ℕ) (os : List Outcome) → length (flat_map row_bytes (map (commit_row (Mem number)) os)) ≤ 11 * length os
-rows_length number [] = omega arith
-rows_length number (o ∷ os) =
-    let e = ap length (flat_map-cons row_bytes (commit_row (Mem number) o) (map (commit_row (Mem number)) os)) in
-    let a = length-append (row_bytes (commit_row (Mem number) o)) (flat_map row_bytes (map (commit_row (Mem number)) os)) in
-    let b = row_length number o in
-    let ih = rows_length number os in
-    omega arith
+pub recorded_count : (names : List Target) (os : List Outcome) (rows : List CommitRow) → AreRecorded names os rows → length rows ≡ length os
+recorded_count names [] [] are = refl
+recorded_count names [] (row ∷ rows) are = absurd are
+recorded_count names (o ∷ os) [] are = absurd are
+recorded_count names (o ∷ os) (row ∷ rows) are = ap suc (recorded_count names os rows are.1)
 
 pub held_few : (n : ℕ) → may_hold n ≡ true → (0 < n) × (n ≤ 64)
 held_few n h = (grind (arith, nat_tests), grind (arith, nat_tests))
 
 -- the COMMIT of at most 64 operations keeps the rules and fits a frame
-pub commit_framed : (number : ℕ) → number < 2 ^ 64 → (ts : ℕ) → ts < 2 ^ 64 → (os : List Outcome) → length os ≤ 64 → IsFramed (Commit ts (map (commit_row (Mem number)) os))
-commit_framed number low ts fits os few = record {
-  keeps = record { ts = fits; count = (let e = length-map os (commit_row (Mem number)) in omega arith); rows = rows_fit number low [] os };
+pub commit_framed : (names : List Target) → All IsMem names → (ts : ℕ) → ts < 2 ^ 64 → (os : List Outcome) (rows : List CommitRow) → AreRecorded names os rows → length os ≤ 64 → IsFramed (Commit ts rows)
+commit_framed names mems ts fits os rows are few = record {
+  keeps = record { ts = fits; count = (let e = recorded_count names os rows are in omega arith); rows = rows_fit names mems [] os rows are };
   short =
-      let rows = map (commit_row (Mem number)) os in
       let a = length-append (to_le_bytes w64 ts ++ to_le_bytes w16 (length rows)) (flat_map row_bytes rows) in
       let b = length-append (to_le_bytes w64 ts) (to_le_bytes w16 (length rows)) in
-      let c = rows_length number os in
+      let c = rows_length names mems os rows are in
       omega arith;
 }
 
--- the COMMIT of these outcomes names the store alone
-pub commit_names : (target : Target) (ts : ℕ) (outcomes : List Outcome) → NamesOnly target (Commit ts (map (commit_row target) outcomes))
-commit_names target ts [] = all_none (λ (row : CommitRow). All (λ named. named ≡ target) row.targets)
-commit_names target ts (o ∷ outcomes) = all_cons (λ (row : CommitRow). All (λ named. named ≡ target) row.targets) (commit_row target o) (map (commit_row target) outcomes) (own o) (commit_names target ts outcomes)
+-- the COMMIT of these outcomes names these stores alone
+pub commit_names : (names : List Target) (ts : ℕ) (outcomes : List Outcome) (rows : List CommitRow) → AreRecorded names outcomes rows → NamesOnly names (Commit ts rows)
+commit_names names ts [] [] are = all_none (λ (row : CommitRow). All (Contains names) row.targets)
+commit_names names ts [] (row ∷ rows) are = absurd are
+commit_names names ts (o ∷ outcomes) [] are = absurd are
+commit_names names ts (o ∷ outcomes) (row ∷ rows) are =
+    let one = are.0 in
+    all_cons (λ (row : CommitRow). All (Contains names) row.targets) row rows (subst (λ (r : CommitRow). All (Contains names) r.targets) (sym one.2) (own one.0 one.1 o)) (commit_names names ts outcomes rows are.1)
   where
-    own : (o : Outcome) → All (λ named. named ≡ target) (commit_row target o).targets
-    own Done = all_one (λ named. named ≡ target) target refl
-    own Present = all_none (λ named. named ≡ target)
-    own Absent = all_none (λ named. named ≡ target)
-    own Ignored = all_none (λ named. named ≡ target)
+    own : (name : Target) → Contains names name → (o : Outcome) → All (Contains names) (commit_row name o).targets
+    own name has Done = all_one (Contains names) name has
+    own name has Present = all_none (Contains names)
+    own name has Absent = all_none (Contains names)
+    own name has Ignored = all_none (Contains names)

@@ -57,7 +57,7 @@ lends {L} {D} {C} tells seen now leaves faults view log journal number is goes a
         count = is.logged.count ∙ ap (λ (l : List Entry). view.log.known.count + length l) same;
         begins = is.logged.begins;
         stands = is.logged.stands;
-        keeps = λ first h. is.logged.keeps first (record { opens = h.opens; recalls = h.recalls });
+        keeps = λ rules first h plan. is.logged.keeps rules first (record { opens = h.opens; holds = h.holds }) plan;
         names = is.logged.names;
         framed = subst (λ (l : List Entry). All IsFramed l) same is.logged.framed;
         durable = is.logged.durable;
@@ -68,7 +68,7 @@ lends {L} {D} {C} tells seen now leaves faults view log journal number is goes a
       lent = λ by h. (low, goes);
       whole = is.whole;
       stops = is.stops;
-      ready = record { room = is.ready.room; apart = is.ready.apart; number = is.ready.number; target = is.ready.target; above = is.ready.above; fits = is.ready.fits };
+      ready = record { room = is.ready.room; apart = is.ready.apart; mems = is.ready.mems };
       placed = is.placed;
     })
 
@@ -91,7 +91,7 @@ comes_home {L} {D} {C} tells seen now leaves faults view log journal number is h
         count = is.logged.count ∙ lengths;
         begins = λ t. let at = is.logged.begins t in (at.0 ++ view.log.out, reads t ∙ ap (λ (l : List Entry). l ++ view.log.out) at.1 ∙ append_assoc view.records at.0 view.log.out);
         stands = is.logged.stands;
-        keeps = λ first h. is.logged.keeps first (record { opens = h.opens; recalls = h.recalls });
+        keeps = λ rules first h plan. is.logged.keeps rules first (record { opens = h.opens; holds = h.holds }) plan;
         names = is.logged.names;
         framed = all_behind IsFramed view.log.out view.log.queued is.logged.framed;
         durable = λ t. subst (λ (l : List Entry). All (IsDurable l) view.tablet.core.aloft) (sym (reads t)) (durable_more (records_of (seen view.log.known.disk)) view.log.out view.tablet.core.aloft (is.logged.durable t));
@@ -111,7 +111,7 @@ comes_home {L} {D} {C} tells seen now leaves faults view log journal number is h
       lent = λ by h. absurd (let none : None ≡ Some by = h in cc);
       whole = is.whole;
       stops = is.stops;
-      ready = record { room = is.ready.room; apart = is.ready.apart; number = is.ready.number; target = is.ready.target; above = is.ready.above; fits = is.ready.fits };
+      ready = record { room = is.ready.room; apart = is.ready.apart; mems = is.ready.mems };
       placed = is.placed;
     })
 
@@ -131,7 +131,7 @@ comes_back {L} {D} {C} tells seen now leaves faults view log journal number is h
         count = is.logged.count;
         begins = is.logged.begins;
         stands = is.logged.stands;
-        keeps = λ first h. is.logged.keeps first (record { opens = h.opens; recalls = h.recalls });
+        keeps = λ rules first h plan. is.logged.keeps rules first (record { opens = h.opens; holds = h.holds }) plan;
         names = is.logged.names;
         framed = is.logged.framed;
         durable = is.logged.durable;
@@ -151,7 +151,7 @@ comes_back {L} {D} {C} tells seen now leaves faults view log journal number is h
       lent = λ by h. absurd (let none : None ≡ Some by = h in cc);
       whole = is.whole;
       stops = is.stops;
-      ready = record { room = is.ready.room; apart = is.ready.apart; number = is.ready.number; target = is.ready.target; above = is.ready.above; fits = is.ready.fits };
+      ready = record { room = is.ready.room; apart = is.ready.apart; mems = is.ready.mems };
       placed = is.placed;
     })
 
@@ -176,7 +176,7 @@ breaks {L} {D} {C} tells seen now leaves faults view tablet log journal number i
         count = logged.count;
         begins = logged.begins;
         stands = logged.stands;
-        keeps = λ first h. logged.keeps first (record { opens = h.opens; recalls = h.recalls });
+        keeps = λ rules first h plan. logged.keeps rules first (record { opens = h.opens; holds = h.holds }) plan;
         names = logged.names;
         framed = logged.framed;
         durable = logged.durable;
@@ -196,7 +196,7 @@ breaks {L} {D} {C} tells seen now leaves faults view tablet log journal number i
       lent = λ by h. absurd (let none : None ≡ Some by = h in cc);
       whole = (λ k. absurd (let a : true ≡ false = k in cc), λ k. absurd (let a : false ≡ true = k in cc));
       stops = record { goes = λ k. absurd (let a : true ≡ false = k in cc); stopped = λ k. (view.tablet.core.trail, refl) };
-      ready = record { room = is.ready.room; apart = is.ready.apart; number = is.ready.number; target = is.ready.target; above = is.ready.above; fits = is.ready.fits };
+      ready = record { room = is.ready.room; apart = is.ready.apart; mems = is.ready.mems };
       placed = is.placed;
     } in
     subst (λ (l : SideView L). IsEngine tells seen now leaves faults (record view { tablet = tablet; log = l })) (sym e) (subst (λ (t : View C). IsEngine tells seen now leaves faults (record view { tablet = t; log = side })) (sym stops) there)

@@ -1,16 +1,22 @@
 -- A log with no record.
-use Rattle.std.proofs.Common.{◌≡◌, ℕ, ◌≤◌, List, [], ◌++◌, refl, sym, subst, arith}
+use Rattle.std.proofs.Common.{◌≡◌, ℕ, ◌≤◌, List, [], ◌++◌, Some, None, sym, subst, arith}
 use Rattle.std.proofs.lemmas.List.{append-nil}
-use Rattle.kt_history.specs.History.{Past}
+use Rattle.kt_history.specs.declared.target.Target.{Target}
 use Rattle.kt_history.specs.Rows.{Row}
+use Rattle.kt_history.specs.History.{Past}
 use Rattle.kt_records.specs.declared.entry.Entry.{Entry}
 use Rattle.kt_journal.specs.Log.{IsLog}
 use Rattle.kt_loglaws.specs.Replay.{last_of}
-use Rattle.kt_loglaws.specs.Fronts.{AllTold, with_records}
+use Rattle.kt_histlaws.specs.Pending.{Aloft}
+use Rattle.kt_engine.specs.Logged.{AreDue, UntoldFly}
 
--- where none is queued, none is to be told
-pub told_none : (fill : Row) (records queued : List Entry) (first : Past) → queued ≡ [] → AllTold fill records first queued × (with_records fill first queued ≡ first)
-told_none fill records queued first none = subst (λ (l : List Entry). AllTold fill records first l × (with_records fill first l ≡ first)) (sym none) (tt, refl)
+-- where none is queued, none is due
+pub due_none : (fill : Row) (names : List Target) (records queued : List Entry) (past : Past) → queued ≡ [] → AreDue fill names past records queued
+due_none fill names records queued past none = subst (λ (l : List Entry). AreDue fill names past records l) (sym none) tt
+
+-- and no write is without its COMMIT where there is no record
+pub untold_none : (records queued : List Entry) (aloft : List Aloft) → records ≡ [] → queued ≡ [] → UntoldFly (records ++ queued) aloft
+untold_none records queued aloft found none = subst (λ (l : List Entry). UntoldFly (l ++ queued) aloft) (sym found) (subst (λ (l : List Entry). UntoldFly l aloft) (sym none) (λ ts ops has none. absurd (let no : None ≡ Some ops = has in cc)))
 
 -- what is queued goes on with a log where none is
 pub log_none : (records queued : List Entry) → queued ≡ [] → IsLog records → IsLog (records ++ queued)

@@ -1,7 +1,11 @@
+pub mod Raised
 pub mod Lists
 pub mod Places
 pub mod Records
+pub mod Fronts
 pub mod Commits
+pub mod Told
+pub mod Waiting
 pub mod Runs
 pub mod Opened
 pub mod Begun
@@ -10,7 +14,6 @@ pub mod Ended
 pub mod Lines
 pub mod Plans
 pub mod Devices
-pub mod Raised
 pub mod Crashes
 pub mod Empty
 pub mod Others

@@ -64,11 +64,11 @@ line_logged tells seen view e a c turns stopped clock is quiet up = record {
   all = is.all;
   count = is.count;
   begins = is.begins;
-  stands = record { log = is.stands.log; last = (let low = is.stands.last in omega arith); flying = is.stands.flying };
-  keeps = λ first h.
-      let keeps = is.keeps first (record { opens = h.opens; recalls = h.recalls }) in
+  stands = record { log = is.stands.log; since = (let low = is.stands.since in omega arith); last = (let low = is.stands.last in omega arith); flying = is.stands.flying; untold = is.stands.untold };
+  keeps = λ rules first h plan.
+      let keeps = is.keeps rules first (record { opens = h.opens; holds = h.holds }) plan in
       let core = core_from view first in
-      record { told = keeps.told; writes = keeps.writes ∙ sym (past_line core e ∙ past_after core.work (state_after core.work (start core.work first core.opened) core.trail) e quiet) };
+      record { recovered = keeps.recovered; writes = keeps.writes ∙ sym (past_line core e ∙ past_after core.work (state_after core.work (start core.work first core.opened) core.trail) e quiet) };
   names = is.names;
   framed = is.framed;
   durable = is.durable;
@@ -89,7 +89,7 @@ line_keeps {L} {D} {C} tells seen now leaves faults view tablet e a c turns cloc
       lent = is.lent;
       whole = is.whole;
       stops = stop_line view.tablet.core (with_line view.tablet e a c turns view.tablet.core.stopped clock).core e is.stops goes other refl refl;
-      ready = record { room = is.ready.room; apart = is.ready.apart; number = is.ready.number; target = is.ready.target; above = is.ready.above; fits = is.ready.fits };
+      ready = record { room = is.ready.room; apart = is.ready.apart; mems = is.ready.mems };
       placed = is.placed;
     })
 

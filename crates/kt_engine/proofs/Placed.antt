@@ -15,19 +15,19 @@ within (y ∷ xs) (suc n) x h = let more = within xs n x h in omega arith
 
 -- each is placed among those that are durable, out or queued
 pub placed_among : {L D C : Type 0} (tells : Bool) (seen : L → Files) (now : L → ℕ) (leaves : L → ℕ → Files → Type 0) (faults : L → ℕ) (view : EngineView L D C) → IsEngine tells seen now leaves faults view
-    → All (IsPlaced (view.log.known.count + length (view.log.out ++ view.log.queued)) view.places) view.tablet.core.aloft
+    → All (IsPlaced (view.log.known.count + length (view.log.out ++ view.log.queued)) view.tablet.places) view.tablet.core.aloft
 placed_among tells seen now leaves faults view e =
     let logged = e.logged in
     let each = logged.stands.flying in
-    all_each (Waits (view.records ++ logged.run) view.places) (IsPlaced (view.log.known.count + length (view.log.out ++ view.log.queued)) view.places) view.tablet.core.aloft
+    all_each (Waits (view.records ++ logged.run) view.tablet.places) (IsPlaced (view.log.known.count + length (view.log.out ++ view.log.queued)) view.tablet.places) view.tablet.core.aloft
     (λ w waits. record { place = suc waits.n; at = waits.place; among = subst (λ many. suc waits.n ≤ many) logged.count (within (view.records ++ logged.run) waits.n _ waits.there) }) each
 
 -- and is there
 pub placed_there : {L D C : Type 0} (tells : Bool) (seen : L → Files) (now : L → ℕ) (leaves : L → ℕ → Files → Type 0) (faults : L → ℕ) (view : EngineView L D C) → IsEngine tells seen now leaves faults view → IsTrue tells
-    → All (IsThere (all_of seen view.log) view.places) view.tablet.core.aloft
+    → All (IsThere (all_of seen view.log) view.tablet.places) view.tablet.core.aloft
 placed_there tells seen now leaves faults view e told =
     let logged = e.logged in
     let each = logged.stands.flying in
-    subst (λ records. All (IsThere records view.places) view.tablet.core.aloft) (logged.all told)
-    (all_each (Waits (view.records ++ logged.run) view.places) (IsThere (view.records ++ logged.run) view.places) view.tablet.core.aloft
+    subst (λ records. All (IsThere records view.tablet.places) view.tablet.core.aloft) (logged.all told)
+    (all_each (Waits (view.records ++ logged.run) view.tablet.places) (IsThere (view.records ++ logged.run) view.tablet.places) view.tablet.core.aloft
     (λ w waits. record { n = waits.n; place = waits.place; there = waits.there }) each)

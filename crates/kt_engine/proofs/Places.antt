@@ -9,21 +9,22 @@ use Rattle.kt_histlaws.specs.Pending.{Aloft}
 use Rattle.kt_histlaws.specs.Histories.{on_nth}
 use Rattle.kt_histlaws.specs.Core.{flown_by}
 use Rattle.kt_histlaws.specs.Events.{advance, IsOver}
-use Rattle.kt_engine.specs.Logged.{place_of, AreApart}
+use Rattle.kt_tablet.specs.Views.{place_at}
+use Rattle.kt_engine.specs.Logged.{AreApart}
 use Rattle.kt_engine.proofs.Lists.{all_none, all_head, all_tail, all_cons, all_more, all_found}
 
 -- a place more leaves those before it
-pub place-front : (s : ℕ) (places : List (ℕ × ℕ)) (p : ℕ × ℕ) (n : ℕ) → place_of s places ≡ Some n → place_of s (places ++ p ∷ []) ≡ Some n
+pub place-front : (s : ℕ) (places : List (ℕ × ℕ)) (p : ℕ × ℕ) (n : ℕ) → place_at s places ≡ Some n → place_at s (places ++ p ∷ []) ≡ Some n
 place-front s [] p n h = absurd (let e : None ≡ Some n = h in cc)
-place-front s (q ∷ places) p n h = elim (q.0 == s) as (λ b. cond b (Some q.1) (place_of s places) ≡ Some n → cond b (Some q.1) (place_of s (places ++ p ∷ [])) ≡ Some n) [
+place-front s (q ∷ places) p n h = elim (q.0 == s) as (λ b. cond b (Some q.1) (place_at s places) ≡ Some n → cond b (Some q.1) (place_at s (places ++ p ∷ [])) ≡ Some n) [
   | true ↦ λ e. e
   | false ↦ λ e. place-front s places p n e
 ] h
 
 -- the place of a session that had none
-pub place-new : (s : ℕ) (places : List (ℕ × ℕ)) (n : ℕ) → list_any (λ t. t == s) (map (λ p. p.0) places) ≡ false → place_of s (places ++ (s, n) ∷ []) ≡ Some n
+pub place-new : (s : ℕ) (places : List (ℕ × ℕ)) (n : ℕ) → list_any (λ t. t == s) (map (λ p. p.0) places) ≡ false → place_at s (places ++ (s, n) ∷ []) ≡ Some n
 place-new s [] n h = ap (λ b. cond b (Some n) None) (same s)
-place-new s (q ∷ places) n h = elim (q.0 == s) as (λ b. (b || list_any (λ t. t == s) (map (λ p. p.0) places)) ≡ false → cond b (Some q.1) (place_of s (places ++ (s, n) ∷ [])) ≡ Some n) [
+place-new s (q ∷ places) n h = elim (q.0 == s) as (λ b. (b || list_any (λ t. t == s) (map (λ p. p.0) places)) ≡ false → cond b (Some q.1) (place_at s (places ++ (s, n) ∷ [])) ≡ Some n) [
   | true ↦ λ e. absurd (let no : true ≡ false = e in cc)
   | false ↦ λ e. place-new s places n e
 ] h
@@ -32,10 +33,10 @@ other : (a s t : ℕ) → (a == s) ≡ true → (t == s) ≡ false → (a == t) 
 other a s t h k = grind (arith, nat_tests)
 
 -- the places of the other sessions stay
-pub place-kept : (t s : ℕ) (places : List (ℕ × ℕ)) → (t == s) ≡ false → place_of t (filter (λ p. not (p.0 == s)) places) ≡ place_of t places
+pub place-kept : (t s : ℕ) (places : List (ℕ × ℕ)) → (t == s) ≡ false → place_at t (filter (λ p. not (p.0 == s)) places) ≡ place_at t places
 place-kept t s [] h = refl
-place-kept t s (p ∷ places) h = elim (p.0 == s) as (λ b. (p.0 == s) ≡ b → place_of t (cond (not b) (p ∷ filter (λ q. not (q.0 == s)) places) (filter (λ q. not (q.0 == s)) places)) ≡ cond (p.0 == t) (Some p.1) (place_of t places)) [
-  | true ↦ λ e. place-kept t s places h ∙ sym (ap (λ b. cond b (Some p.1) (place_of t places)) (other p.0 s t e h))
+place-kept t s (p ∷ places) h = elim (p.0 == s) as (λ b. (p.0 == s) ≡ b → place_at t (cond (not b) (p ∷ filter (λ q. not (q.0 == s)) places) (filter (λ q. not (q.0 == s)) places)) ≡ cond (p.0 == t) (Some p.1) (place_at t places)) [
+  | true ↦ λ e. place-kept t s places h ∙ sym (ap (λ b. cond b (Some p.1) (place_at t places)) (other p.0 s t e h))
   | false ↦ λ e. ap (λ o. cond (p.0 == t) (Some p.1) o) (place-kept t s places h)
 ] refl
 

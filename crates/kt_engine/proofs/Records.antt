@@ -12,7 +12,8 @@ use Rattle.kt_loglaws.specs.Replay.{last_of}
 use Rattle.kt_loglaws.specs.Fronts.{ops_of}
 use Rattle.kt_loglaws.proofs.LogOrder.{same, differs, differs_down}
 use Rattle.kt_histlaws.specs.Pending.{Aloft}
-use Rattle.kt_engine.specs.Logged.{Waits, place_of}
+use Rattle.kt_tablet.specs.Views.{place_at}
+use Rattle.kt_engine.specs.Logged.{Waits}
 use Rattle.kt_engine.proofs.Lists.{all_none, all_cons, all_more, get_front}
 use Rattle.kt_engine.proofs.Places.{place-front}
 
@@ -92,7 +93,7 @@ waits_on records places w ts ops p lt h = record {
 }
 
 -- and behind the COMMIT of another one
-pub waits_behind : (records : List Entry) (places kept : List (ℕ × ℕ)) (w : Aloft) (ts : ℕ) (rows : List CommitRow) → (ts == w.ts) ≡ false → place_of w.s kept ≡ place_of w.s places → Waits records places w → Waits (records ++ Commit ts rows ∷ []) kept w
+pub waits_behind : (records : List Entry) (places kept : List (ℕ × ℕ)) (w : Aloft) (ts : ℕ) (rows : List CommitRow) → (ts == w.ts) ≡ false → place_at w.s kept ≡ place_at w.s places → Waits records places w → Waits (records ++ Commit ts rows ∷ []) kept w
 waits_behind records places kept w ts rows apart stays h = record {
   up = h.up;
   waits = ap (waiting w.ts) (newest-append [] records (Commit ts rows)) ∙ ap (λ b. cond b None (waiting w.ts (newest_first [] records))) apart ∙ h.waits;

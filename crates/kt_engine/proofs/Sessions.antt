@@ -16,7 +16,7 @@ running_keeps tells seen now leaves faults view running is = record {
     count = is.logged.count;
     begins = is.logged.begins;
     stands = is.logged.stands;
-    keeps = λ first h. is.logged.keeps first (record { opens = h.opens; recalls = h.recalls });
+    keeps = λ rules first h plan. is.logged.keeps rules first (record { opens = h.opens; holds = h.holds }) plan;
     names = is.logged.names;
     framed = is.logged.framed;
     durable = is.logged.durable;
@@ -29,7 +29,7 @@ running_keeps tells seen now leaves faults view running is = record {
   lent = is.lent;
   whole = is.whole;
   stops = is.stops;
-  ready = record { room = is.ready.room; apart = is.ready.apart; number = is.ready.number; target = is.ready.target; above = is.ready.above; fits = is.ready.fits };
+  ready = record { room = is.ready.room; apart = is.ready.apart; mems = is.ready.mems };
   placed = is.placed;
 }
 

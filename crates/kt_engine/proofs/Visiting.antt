@@ -14,11 +14,10 @@ use Rattle.kt_histlaws.specs.Events.{begun, ended}
 use Rattle.kt_histlaws.specs.Parts.{part}
 use Rattle.kt_histlaws.proofs.Parts.{begin_keeps_parts, end_keeps_parts, apply_keeps_parts}
 use Rattle.kt_loglaws.specs.Side.{SideView}
-use Rattle.kt_tablet.specs.Views.{View}
+use Rattle.kt_tablet.specs.Views.{View, place_at}
 use Rattle.kt_tablet.specs.Visits.{HasBegun, HasApplied, HasEnded}
 use Rattle.kt_tablet.specs.declared.tablet.Stopped.{Stopped}
 use Rattle.kt_journal.specs.Open.{JournalView}
-use Rattle.kt_engine.specs.Logged.{place_of}
 use Rattle.kt_engine.specs.Engines.{EngineView}
 use Rattle.kt_engine.specs.Sessions.{runs}
 use Rattle.kt_engine.proofs.Sessions.{runs_fewer}
@@ -47,12 +46,12 @@ abbrev core_root : {L D C : Type 0} → EngineView L D C → Core → Root L D C
 core_root v core = tablet_root v (record v.tablet { core = core })
 
 -- the tablet alone has changed
-core_visit : {L D C : Type 0} (n : ℕ) (v : EngineView L D C) (tablet : View C) → Adds session_of n v.tablet.core.trail tablet.core.trail → ((k : ℕ) → (k ≡ n → ⊥) → part tablet.core k ≡ part v.tablet.core k) → tablet_root v tablet ≡ root_of v
-    → IsVisit n v (record v { tablet = tablet })
-core_visit n v tablet line parts root = record {
+core_visit : {L D C : Type 0} (n : ℕ) (v : EngineView L D C) (tablet : View C) → Adds session_of n v.tablet.core.trail tablet.core.trail → ((k : ℕ) → (k ≡ n → ⊥) → part tablet.core k ≡ part v.tablet.core k) → ((k : ℕ) → (k ≡ n → ⊥) → place_at k tablet.places ≡ place_at k v.tablet.places)
+    → tablet_root v tablet ≡ root_of v → IsVisit n v (record v { tablet = tablet })
+core_visit n v tablet line parts places root = record {
   line = line;
   parts = λ k ne i. record {
-    pass = record { session = parts k ne i; place = place_of k v.places; out = out_of v.log.holder v.log.out k; runs = runs k v.running };
+    pass = record { session = parts k ne i; place = places k ne i; out = out_of v.log.holder v.log.out k; runs = runs k v.running };
     lent = lent_of v.log.holder v.log.known k;
     root = root i;
   };
@@ -60,19 +59,19 @@ core_visit n v tablet line parts root = record {
 
 -- nothing has
 no_visit : {L D C : Type 0} (n : ℕ) (v : EngineView L D C) (tablet : View C) → tablet ≡ v.tablet → IsVisit n v (record v { tablet = tablet })
-no_visit n v tablet same = core_visit n v tablet (inl (ap (λ t. t.core.trail) same)) (λ k ne. ap (λ t. part t.core k) same) (ap (tablet_root v) same)
+no_visit n v tablet same = core_visit n v tablet (inl (ap (λ t. t.core.trail) same)) (λ k ne. ap (λ t. part t.core k) same) (λ k ne. ap (λ t. place_at k t.places) same) (ap (tablet_root v) same)
 
 -- a line of the session, by what it makes of the core
 line_visit : {L D C : Type 0} (n : ℕ) (v : EngineView L D C) (tablet : View C) (e : Event) (core : Core) → tablet.core ≡ core → core.trail ≡ v.tablet.core.trail ++ e ∷ [] → session_of e ≡ Some n → ((k : ℕ) → (k ≡ n → ⊥) → part core k ≡ part v.tablet.core k)
-    → tablet_root v tablet ≡ core_root v tablet.core → core_root v core ≡ root_of v → IsVisit n v (record v { tablet = tablet })
-line_visit n v tablet e core is line of parts beside root =
-    core_visit n v tablet (own_line n v.tablet.core.trail tablet.core.trail e (ap (λ c. c.trail) is ∙ line) of) (λ k ne. ap (λ c. part c k) is ∙ parts k ne) (beside ∙ ap (core_root v) is ∙ root)
+    → ((k : ℕ) → (k ≡ n → ⊥) → place_at k tablet.places ≡ place_at k v.tablet.places) → tablet_root v tablet ≡ core_root v tablet.core → core_root v core ≡ root_of v → IsVisit n v (record v { tablet = tablet })
+line_visit n v tablet e core is line of parts places beside root =
+    core_visit n v tablet (own_line n v.tablet.core.trail tablet.core.trail e (ap (λ c. c.trail) is ∙ line) of) (λ k ne. ap (λ c. part c k) is ∙ parts k ne) places (beside ∙ ap (core_root v) is ∙ root)
 
 -- a row that is applied
-pub apply_visit : {L D C : Type 0} (s at : ℕ) (v : EngineView L D C) (tablet : View C) (r : Result Outcome Stopped) → IfOk r (λ o. HasApplied v.tablet.core tablet.core s at o) → tablet ≡ record v.tablet { core = tablet.core; pool = tablet.pool } → OnErr r (tablet ≡ v.tablet)
+pub apply_visit : {L D C : Type 0} (s at : ℕ) (v : EngineView L D C) (tablet : View C) (r : Result Outcome Stopped) → IfOk r (λ o. HasApplied v.tablet.core tablet.core s at o) → tablet ≡ record v.tablet { core = tablet.core; notes = tablet.notes; pool = tablet.pool } → OnErr r (tablet ≡ v.tablet)
     → IsVisit s v (record v { tablet = tablet })
 apply_visit s at v tablet (Ok o) h beside same =
-    core_visit s v tablet (inl (ap (λ c. c.trail) h.core)) (λ k ne. ap (λ c. part c k) h.core ∙ apply_keeps_parts v.tablet.core h.j 0 h.flight.ts h.op k (h.own k ne)) (ap (tablet_root v) beside ∙ ap (core_root v) h.core)
+    core_visit s v tablet (inl (ap (λ c. c.trail) h.core)) (λ k ne. ap (λ c. part c k) h.core ∙ apply_keeps_parts v.tablet.core h.j 0 h.flight.ts h.op k (h.own k ne)) (λ k ne. ap (λ t. place_at k t.places) beside) (ap (tablet_root v) beside ∙ ap (core_root v) h.core)
 apply_visit s at v tablet (Err e) h beside same = no_visit s v tablet same
 
 -- ---- the log beside it
@@ -81,50 +80,48 @@ apply_visit s at v tablet (Err e) h beside same = no_visit s v tablet same
 abbrev pub lending : {L : Type 0} → SideView L → Option ℕ × List Entry × JournalView L
 lending log = (log.holder, log.out, log.known)
 
-beside_visit : {L D C : Type 0} (n : ℕ) (v : EngineView L D C) (tablet : View C) (log : SideView L) (places : List (ℕ × ℕ)) → IsVisit n v (record v { tablet = tablet }) → lending log ≡ lending v.log
-    → ((k : ℕ) → (k ≡ n → ⊥) → place_of k places ≡ place_of k v.places) → IsVisit n v (record v { tablet = tablet; log = log; places = places })
-beside_visit n v tablet log places a lent others = record {
+beside_visit : {L D C : Type 0} (n : ℕ) (v : EngineView L D C) (tablet : View C) (log : SideView L) → IsVisit n v (record v { tablet = tablet }) → lending log ≡ lending v.log → IsVisit n v (record v { tablet = tablet; log = log })
+beside_visit n v tablet log a lent = record {
   line = a.line;
   parts = λ k ne i. let p = a.parts k ne i in record {
-    pass = record { session = p.pass.session; place = others k ne i; out = out_of (lent i).0 (lent i).1 k; runs = p.pass.runs };
+    pass = record { session = p.pass.session; place = p.pass.place; out = out_of (lent i).0 (lent i).1 k; runs = p.pass.runs };
     lent = lent_of (lent i).0 (lent i).2 k;
     root = p.root;
   };
 }
 
-place_more : (places : List (ℕ × ℕ)) (s k place : ℕ) → (k ≡ s → ⊥) → place_of k (places ++ (s, place) ∷ []) ≡ place_of k places
+place_more : (places : List (ℕ × ℕ)) (s k place : ℕ) → (k ≡ s → ⊥) → place_at k (places ++ (s, place) ∷ []) ≡ place_at k places
 place_more [] s k place ne = ap (λ b. cond b (Some place) None) (ne_eqb s k (turned s k ne))
 place_more (p ∷ places) s k place ne = ap (λ o. cond (p.0 == k) (Some p.1) o) (place_more places s k place ne)
 
-place_fewer : (places : List (ℕ × ℕ)) (s k : ℕ) → (k ≡ s → ⊥) → place_of k (filter (λ p. not (p.0 == s)) places) ≡ place_of k places
+place_fewer : (places : List (ℕ × ℕ)) (s k : ℕ) → (k ≡ s → ⊥) → place_at k (filter (λ p. not (p.0 == s)) places) ≡ place_at k places
 place_fewer [] s k ne = refl
 place_fewer (p ∷ places) s k ne =
-    elim (p.0 == s) as (λ b. p.0 == s ≡ b → place_of k (cond (not b) (p ∷ filter (λ q. not (q.0 == s)) places) (filter (λ q. not (q.0 == s)) places)) ≡ cond (p.0 == k) (Some p.1) (place_of k places)) [
-      | true ↦ λ is. place_fewer places s k ne ∙ sym (ap (λ b. cond b (Some p.1) (place_of k places)) (ne_eqb p.0 k (λ e. ne (sym e ∙ eqb-true p.0 s is))))
+    elim (p.0 == s) as (λ b. p.0 == s ≡ b → place_at k (cond (not b) (p ∷ filter (λ q. not (q.0 == s)) places) (filter (λ q. not (q.0 == s)) places)) ≡ cond (p.0 == k) (Some p.1) (place_at k places)) [
+      | true ↦ λ is. place_fewer places s k ne ∙ sym (ap (λ b. cond b (Some p.1) (place_at k places)) (ne_eqb p.0 k (λ e. ne (sym e ∙ eqb-true p.0 s is))))
       | false ↦ λ is. ap (λ o. cond (p.0 == k) (Some p.1) o) (place_fewer places s k ne)
     ] refl
 
 -- a write that begins
-pub begun_visit : {L D C : Type 0} (s i ts place : ℕ) (ops : List RowOp) (v : EngineView L D C) (tablet : View C) (log : SideView L) (places : List (ℕ × ℕ)) → HasBegun v.tablet.core tablet.core s i ops ts
-    → tablet ≡ record v.tablet { core = tablet.core; clock = tablet.clock; pool = tablet.pool } → lending log ≡ lending v.log → places ≡ v.places ++ (s, place) ∷ [] → IsVisit s v (record v { tablet = tablet; log = log; places = places })
-begun_visit s i ts place ops v tablet log places h beside lent more =
-    beside_visit s v tablet log places
-    (line_visit s v tablet (event.Begin s i ts h.m) (begun v.tablet.core s i ts h.m ops) h.core refl refl (λ k ne. begin_keeps_parts v.tablet.core s i ts h.m ops k (turned s k ne)) (ap (tablet_root v) beside) refl) lent
-    (λ k ne. ap (place_of k) more ∙ place_more v.places s k place ne)
+pub begun_visit : {L D C : Type 0} (s i ts place : ℕ) (ops : List RowOp) (v : EngineView L D C) (tablet : View C) (log : SideView L) → HasBegun v.tablet.core tablet.core s i ops ts
+    → tablet ≡ record v.tablet { core = tablet.core; clock = tablet.clock; notes = tablet.notes; places = tablet.places; pool = tablet.pool } → lending log ≡ lending v.log → tablet.places ≡ v.tablet.places ++ (s, place) ∷ [] → IsVisit s v (record v { tablet = tablet; log = log })
+begun_visit s i ts place ops v tablet log h beside lent more =
+    beside_visit s v tablet log
+    (line_visit s v tablet (event.Begin s i ts h.m) (begun v.tablet.core s i ts h.m ops) h.core refl refl (λ k ne. begin_keeps_parts v.tablet.core s i ts h.m ops k (turned s k ne)) (λ k ne. ap (place_at k) more ∙ place_more v.tablet.places s k place ne) (ap (tablet_root v) beside) refl) lent
 
 -- over a tablet that was asked before, and is as it was
-pub begun_visit_on : {L D C : Type 0} (s i ts place : ℕ) (ops : List RowOp) (v : EngineView L D C) (mid tablet : View C) (log : SideView L) (places : List (ℕ × ℕ)) → mid ≡ v.tablet → HasBegun mid.core tablet.core s i ops ts
-    → tablet ≡ record mid { core = tablet.core; clock = tablet.clock; pool = tablet.pool } → lending log ≡ lending v.log → places ≡ v.places ++ (s, place) ∷ [] → IsVisit s v (record v { tablet = tablet; log = log; places = places })
-begun_visit_on {L} {D} {C} s i ts place ops v mid tablet log places same h beside =
-    begun_visit s i ts place ops v tablet log places (subst (λ (m : View C). HasBegun m.core tablet.core s i ops ts) same h) (subst (λ (m : View C). tablet ≡ record m { core = tablet.core; clock = tablet.clock; pool = tablet.pool }) same beside)
+pub begun_visit_on : {L D C : Type 0} (s i ts place : ℕ) (ops : List RowOp) (v : EngineView L D C) (mid tablet : View C) (log : SideView L) → mid ≡ v.tablet → HasBegun mid.core tablet.core s i ops ts
+    → tablet ≡ record mid { core = tablet.core; clock = tablet.clock; notes = tablet.notes; places = tablet.places; pool = tablet.pool } → lending log ≡ lending v.log → tablet.places ≡ mid.places ++ (s, place) ∷ [] → IsVisit s v (record v { tablet = tablet; log = log })
+begun_visit_on {L} {D} {C} s i ts place ops v mid tablet log same h beside lent more =
+    begun_visit s i ts place ops v tablet log (subst (λ (m : View C). HasBegun m.core tablet.core s i ops ts) same h) (subst (λ (m : View C). tablet ≡ record m { core = tablet.core; clock = tablet.clock; notes = tablet.notes; places = tablet.places; pool = tablet.pool }) same beside)
+    lent (more ∙ ap (λ (m : View C). m.places ++ (s, place) ∷ []) same)
 
 -- a write that ends
-pub ended_visit : {L D C : Type 0} (s i ts : ℕ) (v : EngineView L D C) (tablet : View C) (log : SideView L) (places : List (ℕ × ℕ)) → HasEnded v.tablet.core tablet.core s i ts
-    → tablet ≡ record v.tablet { core = tablet.core } → lending log ≡ lending v.log → places ≡ filter (λ p. not (p.0 == s)) v.places → IsVisit s v (record v { tablet = tablet; log = log; places = places })
-ended_visit s i ts v tablet log places h beside lent fewer =
-    beside_visit s v tablet log places
-    (line_visit s v tablet (event.End s i ts) (ended v.tablet.core s i ts) h.core refl refl (λ k ne. end_keeps_parts v.tablet.core s i ts k (turned s k ne)) (ap (tablet_root v) beside) refl) lent
-    (λ k ne. ap (place_of k) fewer ∙ place_fewer v.places s k ne)
+pub ended_visit : {L D C : Type 0} (s i ts : ℕ) (v : EngineView L D C) (tablet : View C) (log : SideView L) → HasEnded v.tablet.core tablet.core s i ts
+    → tablet ≡ record v.tablet { core = tablet.core; notes = tablet.notes; places = tablet.places } → lending log ≡ lending v.log → tablet.places ≡ filter (λ p. not (p.0 == s)) v.tablet.places → IsVisit s v (record v { tablet = tablet; log = log })
+ended_visit s i ts v tablet log h beside lent fewer =
+    beside_visit s v tablet log
+    (line_visit s v tablet (event.End s i ts) (ended v.tablet.core s i ts) h.core refl refl (λ k ne. end_keeps_parts v.tablet.core s i ts k (turned s k ne)) (λ k ne. ap (place_at k) fewer ∙ place_fewer v.tablet.places s k ne) (ap (tablet_root v) beside) refl) lent
 
 -- ---- the sessions that run
 
@@ -133,7 +130,7 @@ pub over_visit : {L D C : Type 0} (n : ℕ) (v : EngineView L D C) (running : Li
 over_visit n v running fewer = record {
   line = inl refl;
   parts = λ k ne i. record {
-    pass = record { session = part v.tablet.core k; place = place_of k v.places; out = out_of v.log.holder v.log.out k; runs = (ap (runs k) fewer ∙ runs_fewer v.running n k ne) i };
+    pass = record { session = part v.tablet.core k; place = place_at k v.tablet.places; out = out_of v.log.holder v.log.out k; runs = (ap (runs k) fewer ∙ runs_fewer v.running n k ne) i };
     lent = lent_of v.log.holder v.log.known k;
     root = root_of v;
   };
@@ -158,5 +155,5 @@ out_visit n v log home lent = record {
   parts = λ k ne.
       let out = ap (λ h. out_of h log.out k) lent ∙ none_out n k log.out ne ∙ sym (ap (λ h. out_of h v.log.out k) home) in
       let known = ap (λ h. lent_of h log.known k) lent ∙ none_lent n k log.known ne ∙ sym (ap (λ h. lent_of h v.log.known k) home) in
-      λ i. record { pass = record { session = part v.tablet.core k; place = place_of k v.places; out = out i; runs = runs k v.running }; lent = known i; root = root_of v };
+      λ i. record { pass = record { session = part v.tablet.core k; place = place_at k v.tablet.places; out = out i; runs = runs k v.running }; lent = known i; root = root_of v };
 }

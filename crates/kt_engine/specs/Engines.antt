@@ -1,11 +1,10 @@
 -- What a clause sees of an engine, and what it keeps.
-use Rattle.std.specs.Prelude.{◌≡◌, ◌≢◌, ◌<◌, ◌≤◌, ◌+◌, ◌^◌, ℕ, length, Bool, IsTrue, false, true, List, [], ◌∷◌, ◌++◌, map, take, Some, Ok}
+use Rattle.std.specs.Prelude.{◌≡◌, ◌≢◌, ◌≤◌, ◌+◌, ℕ, length, Bool, IsTrue, false, true, List, [], ◌∷◌, ◌++◌, map, take, Some, Ok}
 use Rattle.std.specs.List.{All}
 use Rattle.kt_base.specs.Causes.{Rose}
 use Rattle.kt_disk.specs.Disk.{Files, ButFiles}
 use Rattle.kt_history.specs.declared.event.Event.{Event}
 use Rattle.kt_history.specs.declared.event.Event.TheVariants.{Stop}
-use Rattle.kt_history.specs.declared.target.Target.TheVariants.{Mem}
 use Rattle.kt_history.specs.History.{Past}
 use Rattle.kt_records.specs.declared.entry.Entry.{Entry}
 use Rattle.kt_journal.specs.Order.{IsFramed}
@@ -13,43 +12,53 @@ use Rattle.kt_journal.specs.Log.{log_of, records_of, Holds, IsLog, IsOldOrBoth, 
 use Rattle.kt_journal.specs.Open.{JournalView}
 use Rattle.kt_loglaws.specs.Side.{SideView, all_of}
 use Rattle.kt_histlaws.specs.Core.{Core}
+use Rattle.kt_content.specs.Places.{Super, fresh}
+use Rattle.kt_content.specs.Rules.{Rules}
+use Rattle.kt_content.specs.Content.{IsContent as HoldsPast}
 use Rattle.kt_tablet.specs.Views.{View, Opens}
 use Rattle.kt_loglaws.specs.declared.side.LogNo.{LogNo as SideNo}
 use Rattle.kt_loglaws.specs.declared.side.LogNo.TheVariants as side
 use Rattle.kt_engine.specs.declared.log.LogNo.{LogNo}
 use Rattle.kt_engine.specs.declared.log.LogNo.TheVariants as no
-use Rattle.kt_engine.specs.Logged.{Recalls, LogStands, KeepsRun, AreApart, IsDurable, AcknowledgedIn, NamesOnly, HoldsRecords, HoldsFront, HoldsRun}
+use Rattle.kt_engine.specs.Logged.{PlanPasses, LogStands, KeepsRun, AreApart, IsDurable, AcknowledgedIn, IsMem, NamesOnly, HoldsRecords, HoldsFront, HoldsRun}
 
--- the tablet, its log, the places of the REPLICATEs of flying writes, the records that opening found, and the log's device as it was
--- handed in; the store device; and the numbers of the sessions that run
+-- the tablet, its log, the records that opening found, and the log's device as it was handed in; the store device; and the numbers of
+-- the sessions that run
 pub record EngineView (L D C : Type 0) : Type 0 where
   pub tablet : View C
   pub log : SideView L
-  pub places : List (ℕ × ℕ)
   pub records : List Entry
   pub device : L
   pub store : D
   pub running : List ℕ
 
--- opening found this past: its store shows it, and the log held it
-pub record IsContent {L D C : Type 0} (view : EngineView L D C) (first : Past) : Type 0 where
-  pub opens : Opens view.tablet.opening view.tablet.mark view.tablet.core.opened first
-  pub recalls : Recalls view.tablet.core.work.fill view.records first
+-- the superblock that opening read: that of a fresh tablet, as long as the store device is not used
+abbrev pub super_of : {L D C : Type 0} → EngineView L D C → Super
+super_of view = fresh
+
+-- opening found this past: its store shows it
+abbrev pub IsFound : {L D C : Type 0} → EngineView L D C → Past → Type 0
+IsFound view first = Opens view.tablet.opening view.tablet.mark view.tablet.core.opened first
+
+-- and by these rules of the table the superblock and the log held it
+pub record IsContent {L D C : Type 0} (rules : Rules) (view : EngineView L D C) (first : Past) : Type 0 where
+  pub opens : IsFound view first
+  pub holds : HoldsPast rules view.tablet.core.work.fill (super_of view) view.records view.tablet.core.opened first
 
 -- the engine's core, for a past that opening found
 abbrev pub core_from : {L D C : Type 0} → EngineView L D C → Past → Core
 core_from view first = record view.tablet.core { first = first }
 
 -- the log stands, and keeps the run for each past that opening found: where its device tells, what is durable, out and queued are the
--- records, and what opening found is durable. The run's COMMITs name the engine's store alone
+-- records, and what opening found is durable. The run's COMMITs name the engine's stores alone
 pub record IsLogged {L D C : Type 0} (tells : Bool) (seen : L → Files) (view : EngineView L D C) : Type 0 where
   pub run : List Entry
   pub all : IsTrue tells → view.records ++ run ≡ all_of seen view.log
   pub count : length (view.records ++ run) ≡ view.log.known.count + length (view.log.out ++ view.log.queued)
   pub begins : IsTrue tells → (durable : List Entry) × (records_of (seen view.log.known.disk) ≡ view.records ++ durable)
-  pub stands : LogStands view.tablet.core view.records view.places run
-  pub keeps : (first : Past) → IsContent view first → KeepsRun (core_from view first) view.records run
-  pub names : All (NamesOnly view.tablet.target) run
+  pub stands : LogStands view.tablet.core view.records view.tablet.places run
+  pub keeps : (rules : Rules) (first : Past) → IsContent rules view first → PlanPasses rules view.tablet.core.work → KeepsRun rules (core_from view first) (super_of view) view.records run
+  pub names : All (NamesOnly view.tablet.names) run
   pub framed : All IsFramed (view.log.out ++ view.log.queued)
   pub durable : IsTrue tells → All (IsDurable (records_of (seen view.log.known.disk))) view.tablet.core.aloft
   pub acknowledged : IsTrue tells → AcknowledgedIn (records_of (seen view.log.known.disk)) view.tablet.core.trail
@@ -73,14 +82,11 @@ pub record TellsStop (core : Core) : Type 0 where
   pub goes : core.stopped ≡ false → All (λ e. e ≢ Stop) core.trail
   pub stopped : core.stopped ≡ true → (before : List Event) × (core.trail ≡ before ++ Stop ∷ [])
 
--- There is room for the COMMIT of each flying write, no two of these have one timestamp, and their rows go to a MemRowSet.
+-- There is room for the COMMIT of each flying write, no two of these have one timestamp, and their rows go to MemRowSets.
 pub record IsReady {L D C : Type 0} (view : EngineView L D C) : Type 0 where
   pub room : length view.tablet.core.aloft ≤ view.log.room
   pub apart : AreApart view.tablet.core.aloft
-  pub number : ℕ
-  pub target : view.tablet.target ≡ Mem number
-  pub above : 0 < number
-  pub fits : number < 2 ^ 64
+  pub mems : All IsMem view.tablet.names
 
 -- The engine stands. While a pass has the log out the tablet goes on, and the log went out with no fewer faults than were handed in.
 pub record IsEngine {L D C : Type 0} (tells : Bool) (seen : L → Files) (now : L → ℕ) (leaves : L → ℕ → Files → Type 0) (faults : L → ℕ) (view : EngineView L D C) : Type 0 where
@@ -91,27 +97,27 @@ pub record IsEngine {L D C : Type 0} (tells : Bool) (seen : L → Files) (now : 
   pub whole : (view.tablet.core.stopped ≡ false → IsTrue view.log.whole) × (IsTrue view.log.whole → view.tablet.core.stopped ≡ false)
   pub stops : TellsStop view.tablet.core
   pub ready : IsReady view
-  pub placed : map (λ p. p.0) view.places ≡ map (λ w. w.s) view.tablet.core.aloft
+  pub placed : map (λ p. p.0) view.tablet.places ≡ map (λ w. w.s) view.tablet.core.aloft
 
--- A crash now leaves the records that opening found, and behind them some of the run, whose COMMITs name the engine's store alone.
+-- A crash now leaves the records that opening found, and behind them some of the run, whose COMMITs name the engine's stores alone.
 abbrev pub LeavesRecords : {L D C : Type 0} → Bool → (L → ℕ) → (L → ℕ → Files → Type 0) → EngineView L D C → Type 0
-LeavesRecords tells now leaves view = IsTrue tells → (journal : JournalView _) → view.log.home ≡ Some journal → (image : Files) → leaves journal.disk (now journal.disk) image → HoldsRecords view.records view.tablet.target image
+LeavesRecords tells now leaves view = IsTrue tells → (journal : JournalView _) → view.log.home ≡ Some journal → (image : Files) → leaves journal.disk (now journal.disk) image → HoldsRecords view.records view.tablet.names image
 
 -- A crash now leaves the opened past with the run's writes up to a time, each acknowledged one among them.
 abbrev pub Recovers : {L D C : Type 0} → Bool → (L → ℕ) → (L → ℕ → Files → Type 0) → EngineView L D C → Type 0
-Recovers tells now leaves view = (first : Past) → IsContent view first → IsTrue tells → (journal : JournalView _) → view.log.home ≡ Some journal
-    → (image : Files) → leaves journal.disk (now journal.disk) image → HoldsFront (core_from view first) view.records view.tablet.target image
+Recovers tells now leaves view = (rules : Rules) (first : Past) → IsContent rules view first → PlanPasses rules view.tablet.core.work → IsTrue tells → (journal : JournalView _) → view.log.home ≡ Some journal
+    → (image : Files) → leaves journal.disk (now journal.disk) image → HoldsFront rules (core_from view first) (super_of view) view.records view.tablet.names image
 
 -- So does an image that has what is durable and, in their order, some of the records that are out and queued: what a crash leaves while a
 -- pass has the log out.
 abbrev pub RecoversEach : {L D C : Type 0} → Bool → (L → Files) → EngineView L D C → Type 0
-RecoversEach tells seen view = (first : Past) → IsContent view first → IsTrue tells → (n : ℕ) (image : Files)
-    → log_of image ≡ Ok (records_of (seen view.log.known.disk) ++ take n (view.log.out ++ view.log.queued)) → HoldsFront (core_from view first) view.records view.tablet.target image
+RecoversEach tells seen view = (rules : Rules) (first : Past) → IsContent rules view first → PlanPasses rules view.tablet.core.work → IsTrue tells → (n : ℕ) (image : Files)
+    → log_of image ≡ Ok (records_of (seen view.log.known.disk) ++ take n (view.log.out ++ view.log.queued)) → HoldsFront rules (core_from view first) (super_of view) view.records view.tablet.names image
 
 -- And with all of them, where nothing waits for the log and nothing has stopped it.
 abbrev pub RecoversAll : {L D C : Type 0} → Bool → (L → ℕ) → (L → ℕ → Files → Type 0) → EngineView L D C → Type 0
-RecoversAll tells now leaves view = (first : Past) → IsContent view first → view.tablet.core.stopped ≡ false → view.log.queued ≡ [] → IsTrue tells → (journal : JournalView _) → view.log.home ≡ Some journal
-    → (image : Files) → leaves journal.disk (now journal.disk) image → HoldsRun (core_from view first) view.records view.tablet.target image
+RecoversAll tells now leaves view = (rules : Rules) (first : Past) → IsContent rules view first → PlanPasses rules view.tablet.core.work → view.tablet.core.stopped ≡ false → view.log.queued ≡ [] → IsTrue tells → (journal : JournalView _) → view.log.home ≡ Some journal
+    → (image : Files) → leaves journal.disk (now journal.disk) image → HoldsRun rules (core_from view first) (super_of view) view.records view.tablet.names image
 
 -- what a pass may do with the log that it has out: append its records
 pub record IsLent {L : Type 0} (tells : Bool) (seen : L → Files) (now : L → ℕ) (leaves : L → ℕ → Files → Type 0) (journal : JournalView L) (records : List Entry) : Type 0 where

@@ -1,36 +1,35 @@
--- The log of an engine: the past that opening found in it, the records of this run behind those, and what a crash leaves of both.
-use Rattle.std.specs.Prelude.{◌≡◌, ◌≤◌, ◌<◌, ◌^◌, ◌==◌, ℕ, suc, false, if◌then◌else◌, List, [], ◌∷◌, ◌++◌, length, Option, Some, None, Ok, slice_get}
-use Rattle.std.specs.List.{All, Contains}
+-- The log of an engine: the past that opening found, the records of this run behind those that it found, and what a crash leaves of both.
+use Rattle.std.specs.Prelude.{◌≡◌, ◌≤◌, ◌<◌, ◌^◌, ◌==◌, ℕ, zero, suc, max, true, false, List, [], ◌∷◌, ◌++◌, length, Some, None, Ok, slice_get}
+use Rattle.std.specs.List.{All, Contains, list_any}
 use Rattle.kt_disk.specs.Disk.{Files}
 use Rattle.kt_history.specs.declared.event.Event.{Event}
 use Rattle.kt_history.specs.declared.event.Event.TheVariants as event
 use Rattle.kt_history.specs.declared.operation.RowOp.{RowOp}
 use Rattle.kt_history.specs.declared.target.Target.{Target}
-use Rattle.kt_history.specs.Rows.{Row}
-use Rattle.kt_history.specs.History.{Past, raise}
+use Rattle.kt_history.specs.declared.target.Target.TheVariants.{Mem, Delta}
+use Rattle.kt_history.specs.Rows.{Row, Rows}
+use Rattle.kt_history.specs.History.{Past, rows_at}
+use Rattle.kt_history.specs.Operations.{outcomes_on}
+use Rattle.kt_history.specs.Machine.{Workload, command_at}
+use Rattle.kt_history.specs.Machine as machine
 use Rattle.kt_records.specs.declared.entry.Entry.{Entry}
 use Rattle.kt_records.specs.declared.entry.Entry.TheVariants.{Replicate, Commit}
-use Rattle.kt_records.specs.Spelling.{spelling}
 use Rattle.kt_journal.specs.Order.{waiting, newest_first}
 use Rattle.kt_journal.specs.Log.{log_of, IsLog}
-use Rattle.kt_loglaws.specs.Replay.{last_of}
-use Rattle.kt_loglaws.specs.Laws.{LogHolds}
-use Rattle.kt_loglaws.specs.Fronts.{with_records, AllTold, ops_of, upto}
+use Rattle.kt_loglaws.specs.Replay.{last_of, commit_of}
+use Rattle.kt_loglaws.specs.Fronts.{with_records, ops_of, upto}
+use Rattle.kt_content.specs.Places.{Super}
+use Rattle.kt_content.specs.Rules.{Rules, OpsPass}
+use Rattle.kt_content.specs.Content.{IsContent as HoldsPast}
+use Rattle.kt_content.specs.Recovering.{IsRecovered}
 use Rattle.kt_histlaws.specs.Pending.{Aloft}
 use Rattle.kt_histlaws.specs.Core.{Core, run_past}
+use Rattle.kt_tablet.specs.Rows.{AreRecorded}
+use Rattle.kt_tablet.specs.Views.{place_at}
 
--- a log of these records holds this past, told from the mark 0 on
-abbrev pub Recalls : Row → List Entry → Past → Type 0
-Recalls fill records past = (whole : Past) × LogHolds fill records whole × (past ≡ raise whole 0)
-
--- a record of the write of these operations fits a frame, whatever its timestamp
-abbrev pub IsShort : List RowOp → Type 0
-IsShort ops = (ts : ℕ) → length (spelling (Replicate ts ops)) < 2 ^ 32
-
--- the place of the REPLICATE of the flying write of a session, among all records, counted from 1
-abbrev pub place_of : ℕ → List (ℕ × ℕ) → Option ℕ
-place_of s [] = None
-place_of s (p ∷ places) = if p.0 == s then Some p.1 else place_of s places
+-- the rules of the table take each write of the plan
+abbrev pub PlanPasses : Rules → Workload → Type 0
+PlanPasses rules work = (s i : ℕ) → OpsPass rules work.fill (machine.ops_of (command_at work s i))
 
 -- a flying write waits for its COMMIT in this log
 pub record Waits (records : List Entry) (places : List (ℕ × ℕ)) (w : Aloft) : Type 0 where
@@ -38,19 +37,19 @@ pub record Waits (records : List Entry) (places : List (ℕ × ℕ)) (w : Aloft)
   pub waits : waiting w.ts (newest_first [] records) ≡ Some (length w.ops)
   pub ops : ops_of w.ts records ≡ Some w.ops
   pub n : ℕ
-  pub place : place_of w.s places ≡ Some (suc n)
+  pub place : place_at w.s places ≡ Some (suc n)
   pub there : slice_get records n ≡ Some (Replicate w.ts w.ops)
 
 -- the REPLICATE of a flying write is placed among so many records
 pub record IsPlaced (many : ℕ) (places : List (ℕ × ℕ)) (w : Aloft) : Type 0 where
   pub place : ℕ
-  pub at : place_of w.s places ≡ Some place
+  pub at : place_at w.s places ≡ Some place
   pub among : place ≤ many
 
 -- it is at its place among these records, counted from 1
 pub record IsThere (records : List Entry) (places : List (ℕ × ℕ)) (w : Aloft) : Type 0 where
   pub n : ℕ
-  pub place : place_of w.s places ≡ Some (suc n)
+  pub place : place_at w.s places ≡ Some (suc n)
   pub there : slice_get records n ≡ Some (Replicate w.ts w.ops)
 
 -- no two flying writes have one timestamp
@@ -74,50 +73,76 @@ AcknowledgedIn records (_ ∷ events) = AcknowledgedIn records events
 abbrev pub IsDurable : List Entry → Aloft → Type 0
 IsDurable records w = 0 < w.applied → Contains records (Replicate w.ts w.ops)
 
--- a COMMIT names no store but this one
-abbrev pub NamesOnly : Target → Entry → Type 0
-NamesOnly target (Replicate ts ops) = Unit {0}
-NamesOnly target (Commit ts rows) = All (λ row. All (λ named. named ≡ target) row.targets) rows
+-- the name of a MemRowSet, as a COMMIT spells it
+abbrev pub IsMem : Target → Type 0
+IsMem (Mem number) = (0 < number) × (number < 2 ^ 64)
+IsMem (Delta rowset dms) = ⊥
+
+-- each write of these records without a COMMIT flies
+abbrev pub UntoldFly : List Entry → List Aloft → Type 0
+UntoldFly records aloft = (ts : ℕ) (ops : List RowOp) → ops_of ts records ≡ Some ops → commit_of ts records ≡ None → list_any (λ w. w.ts == ts) aloft ≡ true
+
+-- the rows just before a write, of which a log may have one at 0
+abbrev pub rows_before : ℕ → Past → Rows
+rows_before zero past = []
+rows_before (suc t) past = rows_at past t
+
+-- COMMITs of writes of these records: each says what its operations did to the rows just before it in this past, and names stores of these
+abbrev pub AreDue : Row → List Target → Past → List Entry → List Entry → Type 0
+AreDue fill stores past records [] = Unit {0}
+AreDue fill stores past records (Replicate ts ops ∷ queued) = ⊥
+AreDue fill stores past records (Commit ts rows ∷ queued) =
+    ((ops : List RowOp) × (ops_of ts records ≡ Some ops) × AreRecorded stores (outcomes_on fill (rows_before ts past) ops) rows) × AreDue fill stores past records queued
+
+-- a COMMIT names no store but these
+abbrev pub NamesOnly : List Target → Entry → Type 0
+NamesOnly stores (Replicate ts ops) = Unit {0}
+NamesOnly stores (Commit ts rows) = All (λ row. All (Contains stores) row.targets) rows
 
 -- The records of an engine, whatever opening found: those that it found, and behind them those of the run, are a log; no record is
--- later than the last timestamp; and each write that flies waits for its COMMIT.
+-- later than the last timestamp; each write that flies waits for its COMMIT, and none else does.
 pub record LogStands (core : Core) (records : List Entry) (places : List (ℕ × ℕ)) (run : List Entry) : Type 0 where
   pub log : IsLog (records ++ run)
+  pub since : core.opened ≤ core.c
   pub last : last_of (records ++ run) ≤ core.c
   pub flying : All (Waits (records ++ run) places) core.aloft
+  pub untold : UntoldFly (records ++ run) core.aloft
 
--- And for a past that it found: each COMMIT of the run tells what became of its write, and the records hold the run's past.
-pub record KeepsRun (core : Core) (records : List Entry) (run : List Entry) : Type 0 where
-  pub told : AllTold core.work.fill records core.first run
+-- And for a past that it found under this superblock: each front of the records from those on holds it with the writes of the front, and all of
+-- them are those of the run.
+pub record KeepsRun (rules : Rules) (core : Core) (super : Super) (records : List Entry) (run : List Entry) : Type 0 where
+  pub recovered : IsRecovered rules core.work.fill super records run core.opened core.first
   pub writes : with_records core.work.fill core.first run ≡ run_past core
 
--- A crash left this image: the records that opening found and some of the run, whose COMMITs name the engine's store alone.
-pub record HoldsRecords (found : List Entry) (target : Target) (image : Files) : Type 0 where
+-- A crash left this image: the records that opening found and some of the run, whose COMMITs name the engine's stores alone.
+pub record HoldsRecords (found : List Entry) (stores : List Target) (image : Files) : Type 0 where
   pub run : List Entry
   pub reads : log_of image ≡ Ok (found ++ run)
-  pub names : All (NamesOnly target) run
+  pub names : All (NamesOnly stores) run
 
--- A crash left this image: the records that opening found and some of the run, whose COMMITs name the engine's store alone. It holds the
--- opened past with the run's writes up to some time, each acknowledged one among them, and nothing later than the run's last timestamp.
-pub record HoldsFront (core : Core) (found : List Entry) (target : Target) (image : Files) : Type 0 where
+-- A crash left this image: the records that opening found and some of the run, whose COMMITs name the engine's stores alone. With the superblock it holds
+-- the opened past with the run's writes up to some time, each acknowledged one among them, and nothing later than the run's last timestamp.
+pub record HoldsFront (rules : Rules) (core : Core) (super : Super) (found : List Entry) (stores : List Target) (image : Files) : Type 0 where
   pub records : List Entry
   pub reads : log_of image ≡ Ok records
+  pub log : IsLog records
   pub run : List Entry
   pub front : records ≡ found ++ run
-  pub names : All (NamesOnly target) run
+  pub names : All (NamesOnly stores) run
   pub t : ℕ
   pub after_opening : core.opened ≤ t
   pub acknowledged : AcknowledgedBy t core.trail
-  pub holds : Recalls core.work.fill records (upto t (run_past core))
+  pub holds : HoldsPast rules core.work.fill super records (max super.c (last_of records)) (upto t (run_past core))
   pub last : last_of records ≤ t
   pub within : last_of records ≤ core.c
 
 -- It holds the opened past with all writes of the run.
-pub record HoldsRun (core : Core) (found : List Entry) (target : Target) (image : Files) : Type 0 where
+pub record HoldsRun (rules : Rules) (core : Core) (super : Super) (found : List Entry) (stores : List Target) (image : Files) : Type 0 where
   pub records : List Entry
   pub reads : log_of image ≡ Ok records
+  pub log : IsLog records
   pub run : List Entry
   pub front : records ≡ found ++ run
-  pub names : All (NamesOnly target) run
-  pub holds : Recalls core.work.fill records (run_past core)
+  pub names : All (NamesOnly stores) run
+  pub holds : HoldsPast rules core.work.fill super records (max super.c (last_of records)) (run_past core)
   pub last : last_of records ≤ core.c

@@ -9,7 +9,7 @@ use Rattle.kt_history.specs.Machine.{Workload}
 use Rattle.kt_journal.specs.Open.{JournalView}
 use Rattle.kt_history.specs.Stores.{Store}
 use Rattle.kt_histlaws.specs.Parts.{SessionPart, part}
-use Rattle.kt_engine.specs.Logged.{place_of}
+use Rattle.kt_tablet.specs.Views.{place_at}
 use Rattle.kt_engine.specs.Engines.{EngineView}
 use Rattle.kt_engine.specs.Sessions.{runs}
 
@@ -40,7 +40,7 @@ pub record PassPart : Type 0 where
   pub runs : Bool
 
 abbrev pub part_of : {L D C : Type 0} → EngineView L D C → ℕ → PassPart
-part_of view n = record { session = part view.tablet.core n; place = place_of n view.places; out = out_of view.log.holder view.log.out n; runs = runs n view.running }
+part_of view n = record { session = part view.tablet.core n; place = place_at n view.tablet.places; out = out_of view.log.holder view.log.out n; runs = runs n view.running }
 
 -- What is alike in every part and never changes while passes visit: what is to be run, and what opening found.
 pub record Root (L D C : Type 0) : Type 0 where
@@ -49,7 +49,7 @@ pub record Root (L D C : Type 0) : Type 0 where
   pub opening : List Store
   pub mark : ℕ
   pub records : List Entry
-  pub target : Target
+  pub names : List Target
   pub began : C
   pub device : L
   pub store : D
@@ -61,7 +61,7 @@ root_of view = record {
   opening = view.tablet.opening;
   mark = view.tablet.mark;
   records = view.records;
-  target = view.tablet.target;
+  names = view.tablet.names;
   began = view.tablet.opened;
   device = view.device;
   store = view.store;

@@ -1,18 +1,17 @@
 //! The engine, as it is opened and taken apart.
 ghost use Rattle.std.specs.Prelude.{map, ◌≡◌, ◌<◌, ◌≤◌, ◌^◌, ℕ, IsTrue, IfOk, IfErr, Some, None, false, true, [], ◌++◌, ◌+◌, length};
 ghost use Rattle.kt_history.specs.History.{Past};
-ghost use Rattle.kt_history.specs.declared.target.Target.TheVariants.{Mem};
-ghost use Rattle.kt_history.specs.Machine.{HasDifferentKeys, first_turns};
+ghost use Rattle.kt_history.specs.Machine.{first_turns};
 ghost use Rattle.kt_journal.specs.Open.{JournalView};
 ghost use Rattle.kt_journal.specs.Log.{records_of, Holds, IsLog, CanOpen};
 ghost use Rattle.kt_loglaws.specs.Replay.{last_of};
-ghost use Rattle.kt_loglaws.specs.Fronts.{AllTold, with_records};
+ghost use Rattle.kt_tablet.specs.Plans.{PlanKeeps};
 ghost use Rattle.kt_tablet.specs.Views.{IsSound, IsExact, Opens};
 ghost use Rattle.std.specs.List.{All};
 ghost use Rattle.kt_loglaws.specs.Side.{all_of};
 ghost use Rattle.kt_engine.specs.Sessions.{numbers_of};
-ghost use Rattle.kt_engine.specs.Logged.{Recalls, IsPlaced, IsThere, NamesOnly};
-ghost use Rattle.kt_engine.specs.Engines.{EngineView, IsContent, IsEngine, IsLogged, IsHome, KeepsOthers, TellsStop, LeavesRecords, Recovers, RecoversEach, RecoversAll};
+ghost use Rattle.kt_engine.specs.Logged.{AreDue, UntoldFly, IsPlaced, IsThere, IsMem, NamesOnly};
+ghost use Rattle.kt_engine.specs.Engines.{EngineView, IsEngine, IsLogged, IsHome, KeepsOthers, TellsStop, LeavesRecords, Recovers, RecoversEach, RecoversAll};
 
 use crate::running::Running;
 use kt_base::Clock;
@@ -34,8 +33,6 @@ pub struct Engine<L: Disk, D, C: Clock> {
     pub(crate) tablet: Box<Tablet<MemRowSet, C>>,
     pub(crate) log: Box<LogSide<L>>,
     pub(crate) store: D,
-    // the session and the place of the REPLICATE of each flying write
-    pub(crate) places: Vec<(u32, u64)>,
     pub(crate) running: Running,
     pub(crate) records: Snapshot<LogRecords>,
     pub(crate) device: Snapshot<L>,
@@ -46,9 +43,9 @@ impl<L: Disk, D, C: Clock> Model for Engine<L, D, C> {
 
     ghost Value = { EngineView L D C };
 
-    ghost view = { λ e. record { tablet = e.tablet.value; log = e.log.value; places = e.places.items; records = e.records.value; device = e.device.value; store = e.store; running = e.running } };
+    ghost view = { λ e. record { tablet = e.tablet.value; log = e.log.value; records = e.records.value; device = e.device.value; store = e.store; running = e.running } };
 
-    ghost invariant = { λ e. IsEngine L.tells L.seen L.now L.leaves L.faults (record { tablet = e.tablet.value; log = e.log.value; places = e.places.items; records = e.records.value; device = e.device.value; store = e.store; running = e.running }) };
+    ghost invariant = { λ e. IsEngine L.tells L.seen L.now L.leaves L.faults (record { tablet = e.tablet.value; log = e.log.value; records = e.records.value; device = e.device.value; store = e.store; running = e.running }) };
 }
 
 /// What an engine is taken apart into.
@@ -85,7 +82,8 @@ fn boxed_log<L: Disk>(
 }
 
 impl<L: Disk, D, C: Clock> Engine<L, D, C> {
-    /// A tablet in which nothing has happened yet, with the log that holds what opening found and with what is queued for it.
+    /// A tablet in which nothing has happened yet, with the log that holds what opening found and with what is queued for it: the COMMIT of each
+    /// write that had none.
     pub fn of(
         alloc: Global,
         tablet: Tablet<MemRowSet, C>,
@@ -96,12 +94,13 @@ impl<L: Disk, D, C: Clock> Engine<L, D, C> {
         device: Snapshot<L>,
     ) -> Result<Engine<L, D, C>, (Tablet<MemRowSet, C>, Journal<L>, D)>
         requires fresh { (tablet.core.trail ≡ []) × (tablet.core.aloft ≡ []) × (tablet.core.stopped ≡ false) }
-        requires target { (number : ℕ) × (tablet.target ≡ Mem number) × (0 < number) × (number < 2 ^ 64) }
+        requires mems { All IsMem tablet.names }
         requires log { IsLog (records.now ++ queued) }
-        requires told { (first : Past) → Opens tablet.opening tablet.mark tablet.core.opened first → Recalls tablet.core.work.fill records.now first
-            → AllTold tablet.core.work.fill records.now first queued × (with_records tablet.core.work.fill first queued ≡ first) }
+        requires due { (first : Past) → Opens tablet.opening tablet.mark tablet.core.opened first → AreDue tablet.core.work.fill tablet.names first records.now queued }
+        requires untold { UntoldFly (records.now ++ queued) tablet.core.aloft }
+        requires since { tablet.core.opened ≤ tablet.core.c }
         requires last { last_of (records.now ++ queued) ≤ tablet.core.c }
-        requires names { All (NamesOnly tablet.target) queued }
+        requires names { All (NamesOnly tablet.names) queued }
         requires usable { IsTrue journal.usable }
         requires count { journal.count ≡ length records.now }
         requires reads { IsTrue L.tells → records_of (L.seen journal.disk) ≡ records.now }
@@ -112,7 +111,6 @@ impl<L: Disk, D, C: Clock> Engine<L, D, C> {
         ensures view { IfOk result (λ engine. engine ≡ record {
           tablet = tablet;
           log = record { home = Some journal; known = journal; holder = None; out = []; queued = queued; room = 0; whole = true };
-          places = [];
           records = records.now;
           device = device.value;
           store = store;
@@ -120,6 +118,7 @@ impl<L: Disk, D, C: Clock> Engine<L, D, C> {
         }) }
         ensures back { IfErr result (λ e. (e.0 ≡ tablet) × (e.1 ≡ journal) × (e.2 ≡ store)) }
     {
+        tablet.standing();
         let Ok(running) = Running::new(alloc) else {
             return Err((tablet, journal, store));
         };
@@ -132,7 +131,6 @@ impl<L: Disk, D, C: Clock> Engine<L, D, C> {
                 tablet,
                 log,
                 store,
-                places: Vec::new(alloc),
                 running,
                 records: Snapshot::of(records),
                 device,
@@ -144,11 +142,12 @@ impl<L: Disk, D, C: Clock> Engine<L, D, C> {
         }
     }
 
-    /// Takes the plan of the run: all of its sessions run. It takes no memory.
+    /// Takes the plan of the run, which keeps the rules and limits of a plan: all of its sessions run. It takes no memory.
     pub fn set_plan(&mut self, plan: &Plan)
         requires fresh { (self.old.tablet.core.trail ≡ []) × (self.old.tablet.core.aloft ≡ []) × (self.old.tablet.core.stopped ≡ false) }
+        requires unplanned { self.old.tablet.core.work.plan ≡ [] }
         requires few { length plan.now ≤ 64 }
-        requires planned { HasDifferentKeys (record self.old.tablet.core.work { plan = plan.now }) }
+        requires keeps { PlanKeeps (record self.old.tablet.core.work { plan = plan.now }) }
         ensures { self.new ≡ record self.old { tablet = record self.old.tablet { core = record self.old.tablet.core { work = record self.old.tablet.core.work { plan = plan.now }; turns = first_turns plan.now } }; running = numbers_of plan.now } }
     {
         self.tablet.set_plan(plan);
@@ -170,9 +169,9 @@ impl<L: Disk, D, C: Clock> Engine<L, D, C> {
         self.tablet.times()
     }
 
-    /// What it stands for: a run from each past that opening found, in which the lines show what the clock gave; the log
-    /// keeps that run, and a crash now leaves its writes up to a time, each acknowledged one among them, also while a pass has
-    /// the log out. Whatever opening found, its lines tell whether it has stopped, and a crash now leaves the records that
+    /// What it stands for: a run from each past that opening found, in which the lines show what the clock gave; where the log
+    /// held that past, by rules of the table that take each write of the plan, the log keeps the run, and a crash now leaves its writes
+    /// up to a time, each acknowledged one among them, also while a pass has the log out. Whatever opening found, its lines tell whether it has stopped, and a crash now leaves the records that
     /// opening found and some of the run. What the pool has promised is what flying writes still need, and the REPLICATE of
     /// each is at its place among the records that are durable, out or queued. The log is at home where no pass has it out.
     pub fn standing(&self)
@@ -187,10 +186,10 @@ impl<L: Disk, D, C: Clock> Engine<L, D, C> {
         ensures at_home { self.now.log.holder ≡ None → (journal : JournalView L) × (self.now.log.home ≡ Some journal) }
         ensures home { (journal : _) → self.now.log.home ≡ Some journal → IsHome L.tells L.seen L.now L.leaves L.faults self.now journal }
         ensures lent { (by : ℕ) → self.now.log.holder ≡ Some by → (L.faults self.now.device ≤ L.faults self.now.log.known.disk) × (self.now.tablet.core.stopped ≡ false) }
-        ensures placed { map (λ p. p.0) self.now.places ≡ map (λ w. w.s) self.now.tablet.core.aloft }
-        ensures at_rest { self.now.tablet.core.aloft ≡ [] → self.now.places ≡ [] }
-        ensures among { All (IsPlaced (self.now.log.known.count + length (self.now.log.out ++ self.now.log.queued)) self.now.places) self.now.tablet.core.aloft }
-        ensures there { IsTrue L.tells → All (IsThere (all_of L.seen self.now.log) self.now.places) self.now.tablet.core.aloft }
+        ensures placed { map (λ p. p.0) self.now.tablet.places ≡ map (λ w. w.s) self.now.tablet.core.aloft }
+        ensures at_rest { self.now.tablet.core.aloft ≡ [] → self.now.tablet.places ≡ [] }
+        ensures among { All (IsPlaced (self.now.log.known.count + length (self.now.log.out ++ self.now.log.queued)) self.now.tablet.places) self.now.tablet.core.aloft }
+        ensures there { IsTrue L.tells → All (IsThere (all_of L.seen self.now.log) self.now.tablet.places) self.now.tablet.core.aloft }
     {
         self.tablet.standing();
         // What is durable is what a crash leaves, and the log is at home where no pass has it.
@@ -210,7 +209,6 @@ impl<L: Disk, D, C: Clock> Engine<L, D, C> {
             tablet,
             log,
             store,
-            places: _,
             running: _,
             records: _,
             device: _,

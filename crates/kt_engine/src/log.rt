@@ -4,7 +4,7 @@ ghost use Rattle.kt_base.specs.Causes.{Rose};
 ghost use Rattle.kt_disk.specs.Disk.{Files};
 ghost use Rattle.kt_journal.specs.Log.{records_of, Holds, IsOldOrBoth, CanOpen};
 ghost use Rattle.kt_histlaws.specs.Events.{halted};
-ghost use Rattle.kt_engine.specs.Logged.{place_of};
+ghost use Rattle.kt_tablet.specs.Views.{place_at};
 ghost use Rattle.kt_engine.specs.Engines.{IsLent, KeepsOthers};
 ghost use Rattle.kt_engine.specs.Visits.{IsVisit};
 
@@ -47,18 +47,6 @@ impl From<SideNo> for LogNo {
     }
 }
 
-// The place of the REPLICATE of the write of this session.
-fn place_of(places: &[(u32, u64)], number: u32) -> Option<u64>
-    ensures { result ≡ place_of number places.now }
-{
-    for (who, place) in places {
-        if *who == number {
-            return Some(*place);
-        }
-    }
-    None
-}
-
 /// A device that failed, as it comes home.
 #[derive(Drop)]
 pub enum Broken<L: Disk> {
@@ -85,13 +73,10 @@ impl<L: Disk, D, C: Clock> Engine<L, D, C> {
 
     /// The place of the REPLICATE of the flying write of a session, among all records, counted from 1.
     pub fn place(&self, number: u32) -> u64
-        requires { (place : ℕ) × (place_of number self.now.places ≡ Some place) }
-        ensures { place_of number self.now.places ≡ Some result }
+        requires { (place : ℕ) × (place_at number self.now.tablet.places ≡ Some place) }
+        ensures { place_at number self.now.tablet.places ≡ Some result }
     {
-        match place_of(&self.places, number) {
-            Some(place) => place,
-            None => unreachable!(),
-        }
+        self.tablet.place(number)
     }
 
     /// Lends the log and all that is queued to a pass.

@@ -5,7 +5,7 @@ ghost use Rattle.kt_history.specs.History.{Past};
 ghost use Rattle.kt_histlaws.specs.Events.{answered};
 ghost use Rattle.kt_tablet.specs.Visits.{MayLook, HasLooked, MayMark, HasMarked, MayAnswerChore};
 ghost use Rattle.kt_tablet.specs.Reads.{MaySnapshot, HasRead, ShowsRun, IsCopied, IsNoRead, LeavesRead};
-ghost use Rattle.kt_engine.specs.Engines.{IsContent, core_from};
+ghost use Rattle.kt_engine.specs.Engines.{IsFound, core_from};
 ghost use Rattle.kt_engine.specs.Visits.{IsVisit};
 
 use crate::engine::Engine;
@@ -42,7 +42,7 @@ impl<L: Disk, D, C: Clock> Engine<L, D, C> {
         ensures read { IfOk result (λ snap. HasRead self.old.tablet.core self.new.tablet.core number index at snap.t) }
         ensures mark { IfOk result (λ snap. snap.mark ≡ self.old.tablet.core.a) }
         ensures copied { IfOk result IsCopied }
-        ensures shows { IfOk result (λ snap. (first : Past) → IsContent self.old first → ShowsRun (core_from self.old first) snap) }
+        ensures shows { IfOk result (λ snap. (first : Past) → IsFound self.old first → ShowsRun (core_from self.old first) snap) }
         ensures beside { self.new ≡ record self.old { tablet = record self.old.tablet { core = self.new.tablet.core } } }
         ensures stopped { self.old.tablet.core.stopped ≡ true → result ≡ Err SnapNo.Stopped }
         ensures refused { IfErr result (IsNoRead self.old.tablet.core number at) }

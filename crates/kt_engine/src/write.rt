@@ -5,11 +5,10 @@ ghost use Rattle.kt_history.specs.History.{Past};
 ghost use Rattle.kt_records.specs.declared.entry.CommitRow.{CommitRow};
 ghost use Rattle.kt_pool.specs.Contents.{with_reserved};
 ghost use Rattle.kt_history.specs.Operations.{need};
-ghost use Rattle.kt_tablet.specs.Rows.{commit_row};
-ghost use Rattle.kt_tablet.specs.Views.{unpromised};
-ghost use Rattle.kt_tablet.specs.Visits.{MayBegin, HasBegun, IsUnhindered, IsRefused, Leaves, MayApply, HasApplied, IsRunOutcome, MayEnd, HasEnded, IsDone, HeldBy};
-ghost use Rattle.kt_engine.specs.Logged.{IsShort, place_of};
-ghost use Rattle.kt_engine.specs.Engines.{IsContent, core_from};
+ghost use Rattle.kt_tablet.specs.Rows.{AreRecorded};
+ghost use Rattle.kt_tablet.specs.Views.{unpromised, place_at};
+ghost use Rattle.kt_tablet.specs.Visits.{MayBegin, HasBegun, IsUnhindered, IsRefused, Leaves, MayApply, HasApplied, HasNoted, IsRunOutcome, MayEnd, HasEnded, IsDone, HasHandedOut, HeldBy};
+ghost use Rattle.kt_engine.specs.Engines.{IsFound, core_from};
 ghost use Rattle.kt_engine.specs.Visits.{IsVisit};
 
 use crate::engine::Engine;
@@ -42,28 +41,19 @@ pub struct Draft {
     pub ghost alike: { logged ≡ write.ops },
 }
 
-// Makes room for the place of a write more, and for its REPLICATE and its COMMIT beside those of the flying writes.
-fn make_room<L: Disk>(log: &mut LogSide<L>, places: &mut Vec<(u32, u64)>) -> Result<(), NoMemory>
+// Makes room for the REPLICATE and the COMMIT of a write more beside those of so many flying writes.
+fn make_room<L: Disk>(log: &mut LogSide<L>, flying: usize) -> Result<(), NoMemory>
     ensures log { log.new ≡ record log.old { room = log.new.room } }
     ensures more { log.old.room ≤ log.new.room }
-    ensures places { (places.new.items ≡ places.old.items) × (vec_len places.new ≡ vec_len places.old) }
-    ensures bound { log.new.room ≤ max log.old.room (length places.old.items + 2) }
-    ensures room { OnOk result ((length places.old.items + 2 ≤ log.new.room) × (vec_len places.new < vec_capacity places.new)) }
+    ensures bound { log.new.room ≤ max log.old.room (flying + 2) }
+    ensures room { OnOk result (flying + 2 ≤ log.new.room) }
 {
-    places.reserve(1)?;
-    let wanted = places.len() + 2;
+    let wanted = flying.checked_add(2).ok_or(NoMemory)?;
     let room = log.room();
     if room < wanted {
         log.reserve(wanted - room)?;
     }
     Ok(())
-}
-
-// Lets go of the place of the write of a session.
-fn forget(places: &mut Vec<(u32, u64)>, number: u32)
-    ensures { places.new.items ≡ filter (λ p. not (p.0 == number)) places.old.items }
-{
-    places.retain(|place| place.0 != number);
 }
 
 impl Draft {
@@ -89,36 +79,39 @@ impl<L: Disk, D, C: Clock> Engine<L, D, C> {
         index: u32,
         draft: &mut Draft,
     ) -> Result<u64, BeginNo>
-        requires { self.old.tablet.core.stopped ≡ false → MayBegin self.old.tablet.core number index draft.old.write.ops × IsShort draft.old.write.ops }
+        requires { self.old.tablet.core.stopped ≡ false → MayBegin self.old.tablet.core number index draft.old.write.ops }
         ensures visit { IsVisit number self.old self.new }
         ensures begun { IfOk result (λ ts. HasBegun self.old.tablet.core self.new.tablet.core number index draft.old.write.ops ts) }
         ensures free { OnOk result (IsUnhindered self.old.tablet draft.old.write.ops) }
         ensures promised { OnOk result (self.new.tablet.pool ≡ with_reserved self.old.tablet.pool (self.old.tablet.pool.reserved + need draft.old.write.ops)) }
         ensures queued { IfOk result (λ ts. self.new.log ≡ record self.old.log { queued = self.old.log.queued ++ Entry.Replicate ts draft.old.write.ops ∷ []; room = self.new.log.room }) }
-        ensures clock { self.new.tablet ≡ record self.old.tablet { core = self.new.tablet.core; clock = self.new.tablet.clock; pool = self.new.tablet.pool } }
-        ensures beside { self.new ≡ record self.old { tablet = self.new.tablet; log = self.new.log; places = self.new.places } }
-        ensures bound { self.new.log.room ≤ max self.old.log.room (length self.old.places + 2) }
+        ensures clock { self.new.tablet ≡ record self.old.tablet { core = self.new.tablet.core; clock = self.new.tablet.clock; notes = self.new.tablet.notes; places = self.new.tablet.places; pool = self.new.tablet.pool } }
+        ensures beside { self.new ≡ record self.old { tablet = self.new.tablet; log = self.new.log } }
+        ensures bound { self.new.log.room ≤ max self.old.log.room (length self.old.tablet.core.aloft + 2) }
         ensures stopped { self.old.tablet.core.stopped ≡ true → result ≡ Err BeginNo.Stopped }
         ensures refused { IfErr result (IsRefused self.old.tablet draft.old.write.ops) }
         ensures left { IfErr result (Leaves self.old.tablet self.new.tablet number index) }
         ensures untouched { IfErr result (λ _. self.new.tablet ≡ record self.old.tablet { core = self.new.tablet.core }) }
-        ensures waits { OnErr result ((self.new.places ≡ self.old.places) × (self.new.log ≡ record self.old.log { room = self.new.log.room })) }
+        ensures waits { OnErr result (self.new.log ≡ record self.old.log { room = self.new.log.room }) }
         ensures kept { OnErr result (draft.new.write.ops ≡ draft.old.write.ops) }
         ensures memory { result ≡ Err BeginNo.Memory → (self.old.tablet.core.work.cells < need draft.old.write.ops) ⊎ IsUnhindered self.old.tablet draft.old.write.ops }
     {
+        // Each write of the plan fits a record.
+        self.tablet.standing();
         self.tablet.ask(number, index, &draft.write)?;
-        let Ok(()) = make_room(&mut self.log, &mut self.places) else {
+        let flying = self.tablet.flying();
+        let Ok(()) = make_room(&mut self.log, flying) else {
             return Err(BeginNo::Memory);
         };
+        let place = self.log.next_place();
         let Ok(ts) = self
             .tablet
-            .begin_free(alloc, number, index, &mut draft.write)
+            .begin_free(alloc, number, index, &mut draft.write, place)
         else {
             return Err(BeginNo::Memory);
         };
         let logged = mem::replace(&mut draft.logged, OpList::new(alloc));
-        let place = self.log.push(Entry::Replicate { ts, ops: logged });
-        self.places.push_reserved((number, place));
+        self.log.push(Entry::Replicate { ts, ops: logged });
         Ok(ts)
     }
 
@@ -130,20 +123,20 @@ impl<L: Disk, D, C: Clock> Engine<L, D, C> {
         index: u32,
         write: &Write,
     ) -> Result<u64, BeginNo>
-        requires { self.old.tablet.core.stopped ≡ false → MayBegin self.old.tablet.core number index write.now.ops × IsShort write.now.ops }
+        requires { self.old.tablet.core.stopped ≡ false → MayBegin self.old.tablet.core number index write.now.ops }
         ensures visit { IsVisit number self.old self.new }
         ensures begun { IfOk result (λ ts. HasBegun self.old.tablet.core self.new.tablet.core number index write.now.ops ts) }
         ensures free { OnOk result (IsUnhindered self.old.tablet write.now.ops) }
         ensures promised { OnOk result (self.new.tablet.pool ≡ with_reserved self.old.tablet.pool (self.old.tablet.pool.reserved + need write.now.ops)) }
         ensures queued { IfOk result (λ ts. self.new.log ≡ record self.old.log { queued = self.old.log.queued ++ Entry.Replicate ts write.now.ops ∷ []; room = self.new.log.room }) }
-        ensures clock { self.new.tablet ≡ record self.old.tablet { core = self.new.tablet.core; clock = self.new.tablet.clock; pool = self.new.tablet.pool } }
-        ensures beside { self.new ≡ record self.old { tablet = self.new.tablet; log = self.new.log; places = self.new.places } }
-        ensures bound { self.new.log.room ≤ max self.old.log.room (length self.old.places + 2) }
+        ensures clock { self.new.tablet ≡ record self.old.tablet { core = self.new.tablet.core; clock = self.new.tablet.clock; notes = self.new.tablet.notes; places = self.new.tablet.places; pool = self.new.tablet.pool } }
+        ensures beside { self.new ≡ record self.old { tablet = self.new.tablet; log = self.new.log } }
+        ensures bound { self.new.log.room ≤ max self.old.log.room (length self.old.tablet.core.aloft + 2) }
         ensures stopped { self.old.tablet.core.stopped ≡ true → result ≡ Err BeginNo.Stopped }
         ensures refused { IfErr result (IsRefused self.old.tablet write.now.ops) }
         ensures left { IfErr result (Leaves self.old.tablet self.new.tablet number index) }
         ensures untouched { IfErr result (λ _. self.new.tablet ≡ record self.old.tablet { core = self.new.tablet.core }) }
-        ensures waits { OnErr result ((self.new.places ≡ self.old.places) × (self.new.log ≡ record self.old.log { room = self.new.log.room })) }
+        ensures waits { OnErr result (self.new.log ≡ record self.old.log { room = self.new.log.room }) }
     {
         if self.tablet.is_stopped() {
             return Err(BeginNo::Stopped);
@@ -158,12 +151,13 @@ impl<L: Disk, D, C: Clock> Engine<L, D, C> {
     /// of the pool that was not promised.
     pub fn apply_row(&mut self, number: u32, at: usize) -> Result<Outcome, Stopped>
         requires next { self.old.tablet.core.stopped ≡ false → MayApply self.old.tablet.core number at }
-        requires durable { self.old.tablet.core.stopped ≡ false → (place : ℕ) × (place_of number self.old.places ≡ Some place) × (place ≤ self.old.log.known.count) }
+        requires durable { self.old.tablet.core.stopped ≡ false → (place : ℕ) × (place_at number self.old.tablet.places ≡ Some place) × (place ≤ self.old.log.known.count) }
         ensures visit { IsVisit number self.old self.new }
         ensures applied { IfOk result (λ outcome. HasApplied self.old.tablet.core self.new.tablet.core number at outcome) }
-        ensures run { IfOk result (λ outcome. (first : Past) → IsContent self.old first → IsRunOutcome (core_from self.old first) number at outcome) }
+        ensures run { IfOk result (λ outcome. (first : Past) → IsFound self.old first → IsRunOutcome (core_from self.old first) number at outcome) }
+        ensures noted { IfOk result (λ outcome. HasNoted self.old.tablet self.new.tablet number at outcome) }
         ensures room { unpromised self.old.tablet.pool ≤ unpromised self.new.tablet.pool }
-        ensures beside { self.new ≡ record self.old { tablet = record self.old.tablet { core = self.new.tablet.core; pool = self.new.tablet.pool } } }
+        ensures beside { self.new ≡ record self.old { tablet = record self.old.tablet { core = self.new.tablet.core; notes = self.new.tablet.notes; pool = self.new.tablet.pool } } }
         ensures same { OnErr result (self.new ≡ self.old) }
         ensures stopped { self.old.tablet.core.stopped ≡ true → IsErr result }
         ensures goes { self.old.tablet.core.stopped ≡ false → IsOk result }
@@ -177,12 +171,12 @@ impl<L: Disk, D, C: Clock> Engine<L, D, C> {
         requires { self.old.tablet.core.stopped ≡ false → MayEnd self.old.tablet.core number }
         ensures visit { IsVisit number self.old self.new }
         ensures ended { IfOk result (λ done. (index : ℕ) × HasEnded self.old.tablet.core self.new.tablet.core number index done.ts) }
-        ensures told { IfOk result (λ done. (first : Past) → IsContent self.old first → (rows : List CommitRow) × IsDone (core_from self.old first) self.old.tablet.target number done.outcomes rows) }
+        ensures told { IfOk result (λ done. (first : Past) → IsFound self.old first → (rows : List CommitRow) × IsDone (core_from self.old first) self.old.tablet.names number done.outcomes rows) }
         ensures written { IfOk result (λ done. length done.outcomes ≡ length done.ops) }
         ensures held { IfOk result (λ done. HeldBy self.old.tablet.core number done.ops done.keys) }
-        ensures queued { IfOk result (λ done. self.new.log ≡ record self.old.log { queued = self.old.log.queued ++ Entry.Commit done.ts (map (commit_row self.old.tablet.target) done.outcomes) ∷ []; room = self.new.log.room }) }
-        ensures clock { self.new.tablet ≡ record self.old.tablet { core = self.new.tablet.core } }
-        ensures beside { self.new ≡ record self.old { tablet = self.new.tablet; log = self.new.log; places = self.new.places } }
+        ensures queued { IfOk result (λ done. (rows : List CommitRow) × HasHandedOut self.old.tablet self.new.tablet number rows × AreRecorded self.old.tablet.names done.outcomes rows × (self.new.log ≡ record self.old.log { queued = self.old.log.queued ++ Entry.Commit done.ts rows ∷ []; room = self.new.log.room })) }
+        ensures clock { self.new.tablet ≡ record self.old.tablet { core = self.new.tablet.core; notes = self.new.tablet.notes; places = self.new.tablet.places } }
+        ensures beside { self.new ≡ record self.old { tablet = self.new.tablet; log = self.new.log } }
         ensures same { OnErr result (self.new ≡ self.old) }
         ensures stopped { self.old.tablet.core.stopped ≡ true → IsErr result }
         ensures goes { self.old.tablet.core.stopped ≡ false → IsOk result }
@@ -196,7 +190,6 @@ impl<L: Disk, D, C: Clock> Engine<L, D, C> {
             keys,
         } = self.tablet.end(number)?;
         self.log.push(Entry::Commit { ts, rows });
-        forget(&mut self.places, number);
         Ok(WriteDone {
             ts,
             outcomes,

@@ -6,9 +6,9 @@ use Rattle.kt_engine.proofs.engine.Engine.of.Goals as goal
 pub invariant_of-result : goal.invariant_of-result
 invariant_of-result g c =
     let r = c.requires in
-    running_keeps g.L.Disk.tells g.L.Disk.seen g.L.Disk.now g.L.Disk.leaves g.L.Disk.faults _ c.in-Ok.running (as_opened g.L.Disk.tells g.L.Disk.seen g.L.Disk.now g.L.Disk.leaves g.L.Disk.faults c.args.tablet c.args.journal c.args.records.now c.args.queued c.args.store c.args.device.value c.in-Ok-new.tablet.value c.in-Ok-boxed_log.log.value c.new-in-Ok-new.result.items c.of.result.value c.in-Ok-new.ensures.ok c.in-Ok-boxed_log.ensures.side c.new-in-Ok-new.ensures.items c.of.ensures
+    running_keeps g.L.Disk.tells g.L.Disk.seen g.L.Disk.now g.L.Disk.leaves g.L.Disk.faults _ c.in-Ok.running (as_opened g.L.Disk.tells g.L.Disk.seen g.L.Disk.now g.L.Disk.leaves g.L.Disk.faults c.args.tablet c.args.journal c.args.records.now c.args.queued c.args.store c.args.device.value c.in-Ok-new.tablet.value c.in-Ok-boxed_log.log.value c.of.result.value c.in-Ok-new.ensures.ok c.in-Ok-boxed_log.ensures.side c.of.ensures
     (is_opened g.L.Disk.tells g.L.Disk.seen g.L.Disk.now g.L.Disk.leaves g.L.Disk.faults c.args.tablet c.args.journal c.args.records.now c.args.queued c.args.store c.args.device.value
-    r.fresh.0 r.fresh.1 r.fresh.2 r.target.0 r.target.1 r.target.2 r.target.3 r.log r.told r.last r.names r.count r.reads r.openable r.others r.faults))
+    r.fresh.0 r.fresh.1 r.fresh.2 c.standing.ensures.placed r.mems r.log r.due r.untold r.since r.last r.names r.count r.reads r.openable r.others r.faults))
 
 pub boxed_log-requires : goal.boxed_log-requires
 boxed_log-requires g c = record { usable = c.requires.usable; durable = c.requires.durable }
@@ -18,7 +18,7 @@ take_apart-journal-requires g c = record { home = ap (λ l. l.holder) (c.into_in
 
 pub returns-in-Ok-new : goal.returns-in-Ok-new
 returns-in-Ok-new g c = record {
-  view = λ k. record { tablet = c.in-Ok-new.ensures.ok k; log = c.in-Ok-boxed_log.ensures.side k; places = c.new-in-Ok-new.ensures.items k; records = c.of.ensures k; device = c.args.device.value; store = c.args.store; running = c.in-Ok.ensures k };
+  view = λ k. record { tablet = c.in-Ok-new.ensures.ok k; log = c.in-Ok-boxed_log.ensures.side k; records = c.of.ensures k; device = c.args.device.value; store = c.args.store; running = c.in-Ok.ensures k };
   back = tt;
 }
 

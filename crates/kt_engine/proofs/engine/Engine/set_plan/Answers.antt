@@ -7,4 +7,4 @@ pub invariant_of-self : goal.invariant_of-self
 invariant_of-self g c =
     let old = sym c.self.view_is in
     running_keeps g.L.Disk.tells g.L.Disk.seen g.L.Disk.now g.L.Disk.leaves g.L.Disk.faults _ _
-    (plan_keeps g.L.Disk.tells g.L.Disk.seen g.L.Disk.now g.L.Disk.leaves g.L.Disk.faults _ c.set_plan.new.self c.args.plan.now c.self.invariant (rw old at c.requires.fresh.0) (rw c.deref_mut.ensures.value at c.set_plan.ensures))
+    (plan_keeps g.L.Disk.tells g.L.Disk.seen g.L.Disk.now g.L.Disk.leaves g.L.Disk.faults _ c.set_plan.new.self c.args.plan.now c.self.invariant (rw old at c.requires.fresh.0) (rw old at c.requires.unplanned) (rw c.deref_mut.ensures.value at c.set_plan.ensures))

@@ -11,7 +11,7 @@ use Rattle.kt_engine.proofs.engine.Engine.standing.Goals as goal
 pub returns-clause-recovers : goal.returns-clause-recovers
 returns-clause-recovers g c =
     subst (λ (v : EngineView _ _ _). Recovers g.L.Disk.tells g.L.Disk.now g.L.Disk.leaves v) c.self.view_is
-    (recovers g.L.Disk.tells g.L.Disk.seen g.L.Disk.now g.L.Disk.leaves g.L.Disk.faults _ c.self.invariant (rw c.deref.ensures at c.standing.ensures.sound.stands) (rw c.deref-2.ensures at c.durable.ensures.held))
+    (recovers g.L.Disk.tells g.L.Disk.seen g.L.Disk.now g.L.Disk.leaves g.L.Disk.faults _ c.self.invariant (rw c.deref-2.ensures at c.durable.ensures.held))
 
 pub returns-clause-leaves : goal.returns-clause-leaves
 returns-clause-leaves g c =
@@ -24,7 +24,7 @@ returns-clause-stops g c = (subst (λ (v : EngineView _ _ _). IsEngine g.L.Disk.
 pub returns-clause-recovers_each : goal.returns-clause-recovers_each
 returns-clause-recovers_each g c =
     subst (λ (v : EngineView _ _ _). RecoversEach g.L.Disk.tells g.L.Disk.seen v) c.self.view_is
-    (recovers_each g.L.Disk.tells g.L.Disk.seen g.L.Disk.now g.L.Disk.leaves g.L.Disk.faults _ c.self.invariant (rw c.deref.ensures at c.standing.ensures.sound.stands))
+    (recovers_each g.L.Disk.tells g.L.Disk.seen g.L.Disk.now g.L.Disk.leaves g.L.Disk.faults _ c.self.invariant)
 
 pub returns-clause-recovers_all : goal.returns-clause-recovers_all
 returns-clause-recovers_all g c =
@@ -36,12 +36,12 @@ returns-clause-home g c = (subst (λ (v : EngineView _ _ _). IsEngine g.L.Disk.t
 
 pub returns-clause-among : goal.returns-clause-among
 returns-clause-among g c =
-    subst (λ (v : EngineView _ _ _). All (IsPlaced (v.log.known.count + length (v.log.out ++ v.log.queued)) v.places) v.tablet.core.aloft) c.self.view_is
+    subst (λ (v : EngineView _ _ _). All (IsPlaced (v.log.known.count + length (v.log.out ++ v.log.queued)) v.tablet.places) v.tablet.core.aloft) c.self.view_is
     (placed_among g.L.Disk.tells g.L.Disk.seen g.L.Disk.now g.L.Disk.leaves g.L.Disk.faults _ c.self.invariant)
 
 pub returns-clause-there : goal.returns-clause-there
 returns-clause-there g c told =
-    subst (λ (v : EngineView _ _ _). All (IsThere (all_of g.L.Disk.seen v.log) v.places) v.tablet.core.aloft) c.self.view_is
+    subst (λ (v : EngineView _ _ _). All (IsThere (all_of g.L.Disk.seen v.log) v.tablet.places) v.tablet.core.aloft) c.self.view_is
     (placed_there g.L.Disk.tells g.L.Disk.seen g.L.Disk.now g.L.Disk.leaves g.L.Disk.faults _ c.self.invariant told)
 
 pub returns-clause-logged : goal.returns-clause-logged
