@@ -11,7 +11,7 @@ use Rattle.kt_histlaws.specs.Events.{advance, IsOver}
 use Rattle.kt_histlaws.specs.Histories.{on_nth}
 use Rattle.kt_histlaws.specs.Pending.{Aloft}
 use Rattle.kt_tablet.specs.Visits.{flight_of}
-use Rattle.kt_engine.specs.Logged.{place_of}
+use Rattle.kt_tablet.specs.Views.{place_at}
 use Rattle.kt_trial.specs.Seats.{flown}
 
 pub same : (n : ℕ) → (n == n) ≡ true
@@ -169,16 +169,16 @@ ended_other s r (v ∷ aloft) apart = elim (v.s == s) as (λ b. (v.s == s) ≡ b
 
 -- ---- the places in the log
 
-some_place : (s : ℕ) (places : List (ℕ × ℕ)) (aloft : List Aloft) (w : Aloft) → map (λ p. p.0) places ≡ map (λ v. v.s) aloft → flight_of s aloft ≡ Some w → (place : ℕ) × (place_of s places ≡ Some place)
+some_place : (s : ℕ) (places : List (ℕ × ℕ)) (aloft : List Aloft) (w : Aloft) → map (λ p. p.0) places ≡ map (λ v. v.s) aloft → flight_of s aloft ≡ Some w → (place : ℕ) × (place_at s places ≡ Some place)
 some_place s places [] w placed flies = absurd (let e : None ≡ Some w = flies in cc)
 some_place s [] (v ∷ aloft) w placed flies = absurd (let e : [] ≡ v.s ∷ map (λ x. x.s) aloft = placed in cc)
 some_place s (p ∷ places) (v ∷ aloft) w placed flies =
     let who : p.0 ≡ v.s = cc in
     let rest : map (λ q. q.0) places ≡ map (λ x. x.s) aloft = cc in
-    elim (p.0 == s) as (λ b. (p.0 == s) ≡ b → (place : ℕ) × (cond b (Some p.1) (place_of s places) ≡ Some place)) [
+    elim (p.0 == s) as (λ b. (p.0 == s) ≡ b → (place : ℕ) × (cond b (Some p.1) (place_at s places) ≡ Some place)) [
       | true ↦ λ here. (p.1, refl)
       | false ↦ λ here. some_place s places aloft w rest (sym (ap (λ b. cond b (Some v) (flight_of s aloft)) (ap (λ n. n == s) (sym who) ∙ here)) ∙ flies)
     ] refl
 
-pub has_place : (s : ℕ) (places : List (ℕ × ℕ)) (aloft : List Aloft) (w : Aloft) → map (λ p. p.0) places ≡ map (λ v. v.s) aloft → flown s aloft ≡ w ∷ [] → (place : ℕ) × (place_of s places ≡ Some place)
+pub has_place : (s : ℕ) (places : List (ℕ × ℕ)) (aloft : List Aloft) (w : Aloft) → map (λ p. p.0) places ≡ map (λ v. v.s) aloft → flown s aloft ≡ w ∷ [] → (place : ℕ) × (place_at s places ≡ Some place)
 has_place s places aloft w placed own = some_place s places aloft w placed (found s aloft w own)

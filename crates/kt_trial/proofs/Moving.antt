@@ -17,11 +17,9 @@ use Rattle.kt_histlaws.specs.Pending.{Aloft}
 use Rattle.kt_tablet.specs.Reads.{MaySnapshot, HasDrawn, HasRead}
 use Rattle.kt_tablet.specs.Views.{View}
 use Rattle.kt_tablet.specs.Visits.{flight_of, IsAt, MayBegin, HasBegun, MayApply, HasApplied, MayEnd, HasEnded, MayLook, HasLooked, MayMark, HasMarked}
-use Rattle.kt_engine.specs.Logged.{IsShort}
 use Rattle.kt_trial.specs.declared.seats.Seat.{Seat}
 use Rattle.kt_trial.specs.declared.seats.Seat.TheVariants.{Ready, Drawn, Flying}
 use Rattle.kt_trial.specs.Openings.{IsAtStart}
-use Rattle.kt_trial.specs.Plans.{WriteFits}
 use Rattle.kt_trial.specs.Seats.{next_of, turn_of, Asks, flights_of, flown, Sits, AreSeated, Moves}
 use Rattle.kt_trial.proofs.Frames.{same, is_same, set_nth_same, map_set, nth_map, get_set_same, nth_set_other, found, rests, over, begun_own, begun_other, applied_own, applied_other, ended_own, ended_other}
 
@@ -136,13 +134,12 @@ none_left [] (suc n) le = refl
 none_left (op ∷ ops) zero le = absurd (omega (arith, le))
 none_left (op ∷ ops) (suc n) le = none_left ops n (omega (arith, le))
 
-pub may_end : (core : Core) (s i ts applied : ℕ) → Sits core s (Flying i ts applied) → length (ops_of (command_at core.work s i)) ≤ applied → i + 1 < 2 ^ 32 → MayEnd core s
-may_end core s i ts applied sits all few = record {
+pub may_end : (core : Core) (s i ts applied : ℕ) → Sits core s (Flying i ts applied) → length (ops_of (command_at core.work s i)) ≤ applied → MayEnd core s
+may_end core s i ts applied sits all = record {
   flight = aloft_at core s i ts applied;
   flies = found s core.aloft (aloft_at core s i ts applied) sits.flights;
   turn = sits.turn;
   over = over s core.aloft (aloft_at core s i ts applied) sits.flights (none_left (ops_of (command_at core.work s i)) applied all);
-  few = few;
 }
 
 pub moves_ended : (old new : Core) (s i ts applied index time : ℕ) → Sits old s (Flying i ts applied) → HasEnded old new s index time → Moves old new s (Ready (i + 1))
@@ -159,17 +156,11 @@ moves_ended old new s i ts applied index time sits has =
     })
 
 -- a write is asked for
-pub may_begin : (core : Core) (s i : ℕ) (w : Write) → Sits core s (Ready i) → command_at core.work s i ≡ Some (command.Write w) → WriteFits w.ops → i + 1 < 2 ^ 32 → MayBegin core s i w.ops × IsShort w.ops
-may_begin core s i w sits asked fits few = (
-  record {
-    at = is_at core s i sits;
-    write = subst (λ (o : Option Command). IfWrite o (λ written. written ≡ w.ops)) (sym asked) refl;
-    count = fits.count;
-    each = fits.each;
-    few = few;
-  },
-  fits.short,
-)
+pub may_begin : (core : Core) (s i : ℕ) (w : Write) → Sits core s (Ready i) → command_at core.work s i ≡ Some (command.Write w) → MayBegin core s i w.ops
+may_begin core s i w sits asked = record {
+  at = is_at core s i sits;
+  write = subst (λ (o : Option Command). IfWrite o (λ written. written ≡ w.ops)) (sym asked) refl;
+}
 
 -- an answer moves a session that has no flying write to its next command
 pub moves_answered : (old new : Core) (s i : ℕ) (e : Event) → Sits old s (Ready i) → new ≡ answered old s i e → Moves old new s (Ready (i + 1))
@@ -186,11 +177,10 @@ pub moves_looked : (old new : Core) (s i t : ℕ) → Sits old s (Ready i) → H
 moves_looked old new s i t sits has = subst (λ (k : Core). Moves old k s (Drawn i t)) (sym has.core) (moves_beside old (looked old s i t has.m) s (Ready i) (Drawn i t) sits refl refl refl refl refl)
 
 -- the mark
-pub may_mark : (core : Core) (s i to : ℕ) → Sits core s (Ready i) → command_at core.work s i ≡ Some (command.Mark to) → i + 1 < 2 ^ 32 → MayMark core s i to
-may_mark core s i to sits asked few = record {
+pub may_mark : (core : Core) (s i to : ℕ) → Sits core s (Ready i) → command_at core.work s i ≡ Some (command.Mark to) → MayMark core s i to
+may_mark core s i to sits asked = record {
   at = is_at core s i sits;
   command = subst (λ (o : Option Command). IfMark o (λ t. t ≡ to)) (sym asked) refl;
-  few = few;
 }
 
 pub moves_marked : (old new : Core) (s i to a : ℕ) → Sits old s (Ready i) → HasMarked old new s i to a → Moves old new s (Ready (i + 1))
@@ -219,14 +209,13 @@ grounded work s (Ready next) at asks = refl
 grounded work s (Drawn next t) at asks = refl
 grounded work s (Flying next ts applied) at asks = absurd asks
 
-pub may_snapshot : (core : Core) (s : ℕ) (seat : Seat) (scan : Scan) → Sits core s seat → Asks seat scan.at → command_at core.work s (next_of seat) ≡ Some (command.Scan scan) → next_of seat + 1 < 2 ^ 32 → MaySnapshot core s (next_of seat) scan.at
-may_snapshot core s seat scan sits asks asked few = record {
+pub may_snapshot : (core : Core) (s : ℕ) (seat : Seat) (scan : Scan) → Sits core s seat → Asks seat scan.at → command_at core.work s (next_of seat) ≡ Some (command.Scan scan) → MaySnapshot core s (next_of seat) scan.at
+may_snapshot core s seat scan sits asks asked = record {
   look = look_in seat;
   next = sits.turn ∙ ap Some (turn_in seat);
   drawn = has_drawn seat scan.at asks;
   rests = rests s core.aloft (sits.flights ∙ grounded core.work s seat scan.at asks);
   scan = subst (λ (o : Option Command). IfScan o (λ w. w ≡ scan.at)) (sym asked) refl;
-  few = few;
 }
 
 pub moves_told : (old new : Core) (s : ℕ) (seat : Seat) (at : At) (e : Event) → Sits old s seat → Asks seat at → new ≡ answered old s (next_of seat) e → Moves old new s (Ready (next_of seat + 1))

@@ -1,5 +1,5 @@
 -- Writes that are made one operation after another may be asked for.
-use Rattle.std.proofs.Common.{◌≡◌, ℕ, zero, suc, ◌-◌, ◌*◌, ◌^◌, ◌<◌, ◌≤◌, List, [], ◌∷◌, ◌++◌, Option, Some, None, refl, true, false, Bool, ◌||◌, sym, ap, ◌∙◌, subst, arith, length, length-append, append_assoc}
+use Rattle.std.proofs.Common.{◌≡◌, ℕ, zero, suc, ◌+◌, ◌-◌, ◌*◌, ◌^◌, ◌<◌, ◌≤◌, List, [], ◌∷◌, ◌++◌, Option, Some, None, refl, true, false, Bool, ◌||◌, sym, ap, ◌∙◌, subst, arith, length, length-append, append_assoc}
 use Rattle.std.specs.Prelude.{pos, slice_get}
 use Rattle.std.specs.List.{All, list_any, flat_map}
 use Rattle.std.specs.Ordering.{eq_by_cmp}
@@ -19,9 +19,9 @@ use Rattle.kt_history.proofs.Lengths.{length-operation}
 use Rattle.kt_records.specs.Rules.{EachAfter, FollowingOp, CellsFit, may_list, may_hold, has_key}
 use Rattle.kt_records.specs.Spelling.{operation}
 use Rattle.kt_tablet.specs.SnapLaws.{by_bool, same_key}
-use Rattle.kt_engine.specs.Logged.{IsShort}
+use Rattle.kt_tablet.specs.Plans.{IsShort, WriteKeeps, CommandKeeps, PlanKeeps}
 use Rattle.kt_engine.proofs.Lists.{all_head, all_tail}
-use Rattle.kt_trial.specs.Plans.{ArePlain, IsPlain, AreBelow, WriteFits, CommandFits, PlanFits}
+use Rattle.kt_trial.specs.Plans.{ArePlain, IsPlain, AreBelow, SessionFits, PlanFits}
 
 -- no cell
 pub none_plain : (kind : OpKind) → ArePlain kind []
@@ -95,11 +95,11 @@ held n low high = grind (arith, nat_tests)
 few_short : (ops : List RowOp) → length (flat_map operation ops) ≤ 32 * length ops → length ops ≤ 4 → IsShort ops
 few_short ops short few ts = omega (arith, short, few)
 
-pub write_fits : (ops : List RowOp) (key : ℕ) → AreBelow ops key → 1 ≤ length ops → length ops ≤ 4 → WriteFits ops
+pub write_fits : (ops : List RowOp) (key : ℕ) → AreBelow ops key → 1 ≤ length ops → length ops ≤ 4 → WriteKeeps ops
 write_fits ops key below some few = record {
   count = held (length ops) some (omega (arith, few));
   each = below.each;
-  apart = below.apart;
+  keys = below.apart;
   short = few_short ops below.short few;
 }
 
@@ -114,29 +114,25 @@ at_nth : {A : Type 0} (P : A → Type 0) (xs : List A) (s : ℕ) (x : A) → All
 at_nth P xs zero x all is = absurd (let e : None ≡ Some x = is in cc)
 at_nth P xs (suc k) x all is = at_place P xs k x all is
 
-pub fits_in : (commands : List Command) (i : ℕ) (x : Command) → All CommandFits commands → nth commands i ≡ Some x → CommandFits x
-fits_in commands i x all is = at_nth CommandFits commands i x all is
+-- a command that is there has a number up to the count
+nth_within : {A : Type 0} (xs : List A) (i : ℕ) (x : A) → nth xs i ≡ Some x → i ≤ length xs
+nth_within xs zero x is = omega arith
+nth_within xs (suc k) x is = place_within xs k x is
+  where
+    place_within : {A : Type 0} (xs : List A) (k : ℕ) (x : A) → slice_get xs k ≡ Some x → suc k ≤ length xs
+    place_within [] k x is = absurd (let e : None ≡ Some x = is in cc)
+    place_within (y ∷ xs) zero x is = omega arith
+    place_within (y ∷ xs) (suc k) x is = let more = place_within xs k x is in omega arith
 
-pub session_fits : (plan : List (List Command)) (s : ℕ) (commands : List Command) → PlanFits plan → nth plan s ≡ Some commands → All CommandFits commands
-session_fits plan s commands all is = at_nth (All CommandFits) plan s commands all is
+command_kept : (plan : List (List Command)) (s i : ℕ) (o : Option (List Command)) (c : Command) → PlanFits plan → nth plan s ≡ o → command_of o i ≡ Some c → (i + 1 < 2 ^ 32) × CommandKeeps c
+command_kept plan s i None c all at is = absurd (let e : None ≡ Some c = is in cc)
+command_kept plan s i (Some commands) c all at is =
+    let fits = at_nth SessionFits plan s commands all at in
+    (omega (arith, fits.few, nth_within commands i c is), at_nth CommandKeeps commands i c fits.each is)
 
-apart_in : (c : Command) → CommandFits c → DifferentKeys (ops_of (Some c))
-apart_in (command.Write w) fits = fits.apart
-apart_in (command.Scan scan) fits = tt
-apart_in (command.Mark t) fits = tt
-apart_in (command.Chore chore) fits = tt
-
-apart_at : (commands : List Command) (i : ℕ) (o : Option Command) → All CommandFits commands → nth commands i ≡ o → DifferentKeys (ops_of o)
-apart_at commands i None all is = tt
-apart_at commands i (Some c) all is = apart_in c (fits_in commands i c all is)
-
-apart_of : (plan : List (List Command)) (s i : ℕ) (o : Option (List Command)) → PlanFits plan → nth plan s ≡ o → DifferentKeys (ops_of (command_of o i))
-apart_of plan s i None all is = tt
-apart_of plan s i (Some commands) all is = apart_at commands i (nth commands i) (session_fits plan s commands all is) refl
-
--- no write of the plan has a key twice
-pub planned : (work : Workload) → PlanFits work.plan → HasDifferentKeys work
-planned work all s i = apart_of work.plan s i (nth work.plan s) all refl
+-- each command of the plan keeps to the rules
+pub planned : (work : Workload) → PlanFits work.plan → PlanKeeps work
+planned work all s i c is = command_kept work.plan s i (nth work.plan s) c all refl is
 
 -- what is found by its number
 pub nth_read : {A : Type 0} (xs : List A) (n : ℕ) (x : A) → 0 < n → slice_get xs (n - 1) ≡ Some x → nth xs n ≡ Some x

@@ -1,5 +1,5 @@
 -- A tablet and an engine in which nothing has happened yet.
-use Rattle.std.specs.Prelude.{◌≡◌, false, List, []}
+use Rattle.std.specs.Prelude.{◌≡◌, ◌≤◌, false, List, [], ◌∷◌}
 use Rattle.kt_history.specs.declared.command.Command.{Command}
 use Rattle.kt_history.specs.declared.target.Target.TheVariants.{Mem}
 use Rattle.kt_history.specs.Machine.{first_turns}
@@ -14,9 +14,10 @@ pub record IsAtStart (core : Core) (plan : List (List Command)) : Type 0 where
   pub turns : core.turns ≡ first_turns plan
   pub goes : core.stopped ≡ false
 
--- a tablet at the start of a plan, over a store with no row
+-- a tablet at the start of a plan, over one MemRowSet with no row
 pub record IsNew {C : Type 0} (view : View C) (plan : List (List Command)) : Type 0 where
   pub starts : IsAtStart view.core plan
   pub trail : view.core.trail ≡ []
-  pub target : view.target ≡ Mem 7
+  pub names : view.names ≡ Mem 7 ∷ []
+  pub since : view.core.opened ≤ view.core.c
   pub opens : Opens view.opening view.mark view.core.opened empty

@@ -3,14 +3,13 @@ use Rattle.std.specs.Prelude.{◌≡◌, ◌≤◌, ◌+◌, ◌*◌, ℕ, true,
 use Rattle.std.specs.List.{All, flat_map, sum_by}
 use Rattle.kt_base.specs.declared.cell.Cell.{Cell}
 use Rattle.kt_history.specs.declared.command.Command.{Command}
-use Rattle.kt_history.specs.declared.command.Command.TheVariants as command
 use Rattle.kt_history.specs.declared.operation.OpKind.{OpKind}
 use Rattle.kt_history.specs.declared.operation.RowOp.{RowOp}
 use Rattle.kt_history.specs.Rows.{Row}
 use Rattle.kt_history.specs.Operations.{cell_len, DifferentKeys}
-use Rattle.kt_records.specs.Rules.{may_hold, EachAfter, FollowingOp, CellsFit, has_key}
+use Rattle.kt_records.specs.Rules.{EachAfter, FollowingOp, CellsFit, has_key}
 use Rattle.kt_records.specs.Spelling.{operation}
-use Rattle.kt_engine.specs.Logged.{IsShort}
+use Rattle.kt_tablet.specs.Plans.{CommandKeeps}
 
 -- cells that an operation of this kind may list, which take few bytes in the log
 pub record ArePlain (kind : OpKind) (cells : Row) : Type 0 where
@@ -33,18 +32,10 @@ pub record AreBelow (ops : List RowOp) (key : ℕ) : Type 0 where
   pub below : (q : ℕ) → key ≤ q → has_key ops (q ∷ []) ≡ false
   pub short : length (flat_map operation ops) ≤ 32 * length ops
 
--- a write that may be asked for: few operations on different keys, which fit a record
-pub record WriteFits (ops : List RowOp) : Type 0 where
-  pub count : may_hold (length ops) ≡ true
-  pub each : EachAfter FollowingOp [] ops
-  pub apart : DifferentKeys ops
-  pub short : IsShort ops
-
-abbrev pub CommandFits : Command → Type 0
-CommandFits (command.Write w) = WriteFits w.ops
-CommandFits (command.Scan scan) = Unit {0}
-CommandFits (command.Mark t) = Unit {0}
-CommandFits (command.Chore chore) = Unit {0}
+-- a session that may be asked for: few commands, each of which keeps to the rules of a plan
+pub record SessionFits (commands : List Command) : Type 0 where
+  pub few : length commands ≤ 6
+  pub each : All CommandKeeps commands
 
 abbrev pub PlanFits : List (List Command) → Type 0
-PlanFits plan = All (All CommandFits) plan
+PlanFits plan = All SessionFits plan

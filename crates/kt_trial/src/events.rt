@@ -3,7 +3,6 @@ ghost use Rattle.std.specs.Prelude.{◌≡◌, ◌<◌, ◌≤◌, ◌+◌, ◌^
 ghost use Rattle.kt_history.specs.declared.command.Command.TheVariants.{Write as AWrite, Scan as AScan, Mark as AMark};
 ghost use Rattle.kt_history.specs.declared.scan.At.TheVariants.{Looked};
 ghost use Rattle.kt_history.specs.Machine.{command_at, ops_of};
-ghost use Rattle.kt_trial.specs.Plans.{WriteFits};
 ghost use Rattle.kt_trial.specs.Seats.{Sits, Moves, Asks, next_of};
 
 use crate::machine::{Begins, Machine, Reads};
@@ -26,7 +25,6 @@ pub fn begin(
 ) -> Result<Seat, Miss>
     requires sits { Sits engine.old.tablet.core number (Seat.Ready next) }
     requires command { command_at engine.old.tablet.core.work number next ≡ Some (AWrite write.now) }
-    requires fits { WriteFits write.now.ops }
     requires few { next + 1 < 2 ^ 32 }
     ensures { IfOk result (Moves engine.old.tablet.core engine.new.tablet.core number) }
 {

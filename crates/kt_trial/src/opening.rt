@@ -14,6 +14,7 @@ use kt_memrowset::MemRowSet;
 use kt_pool::Pool;
 use kt_records::RecordList;
 use kt_schema::{Column, ColumnList, Schema};
+use kt_stores::Stores;
 use kt_tablet::Tablet;
 use std::alloc::Global;
 use std::snapshot::Snapshot;
@@ -73,8 +74,8 @@ fn tablet(
         return Err(Miss::Memory);
     };
     let clock = MemClock::of(ReadingList::of(readings));
-    let store = MemRowSet::new(7);
-    let Ok(mut tablet) = Tablet::of(alloc, store, pool, clock, schema, cells, 0, 0) else {
+    let stores = Stores::new(alloc, pool, 7);
+    let Ok(mut tablet) = Tablet::of(alloc, stores, clock, schema, cells, 0, 0) else {
         return Err(Miss::Memory);
     };
     tablet.set_plan(plan);

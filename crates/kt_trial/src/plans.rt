@@ -6,7 +6,8 @@ ghost use Rattle.kt_cells.specs.Rules.{EachAfter, FollowingCell};
 ghost use Rattle.kt_cells.specs.Spelling.{cell_list};
 ghost use Rattle.kt_cells.specs.Spelled.{SpellsCells};
 ghost use Rattle.kt_records.specs.Rules.{may_list};
-ghost use Rattle.kt_trial.specs.Plans.{ArePlain, AddsPlain, AreBelow, WriteFits, CommandFits, PlanFits};
+ghost use Rattle.kt_tablet.specs.Plans.{WriteKeeps, CommandKeeps};
+ghost use Rattle.kt_trial.specs.Plans.{ArePlain, AddsPlain, AreBelow, SessionFits, PlanFits};
 
 use crate::dice::Dice;
 use kt_base::{Cell, Cells, NoMemory, Octets};
@@ -114,7 +115,7 @@ fn count_from(dice: &mut Dice) -> u8
 }
 
 fn write(alloc: Global, dice: &mut Dice) -> Result<Write, NoMemory>
-    ensures { IfOk result (λ write. WriteFits write.ops) }
+    ensures { IfOk result (λ write. WriteKeeps write.ops) }
 {
     let count = count_from(dice);
     let ops = operations(alloc, dice, count)?;
@@ -127,7 +128,7 @@ fn time(dice: &mut Dice) -> u64 {
 }
 
 fn scan(alloc: Global, at: At) -> Command
-    ensures { CommandFits result }
+    ensures { CommandKeeps result }
 {
     Command::Scan(Scan {
         at,
@@ -137,7 +138,7 @@ fn scan(alloc: Global, at: At) -> Command
 }
 
 fn command(alloc: Global, dice: &mut Dice) -> Result<Command, NoMemory>
-    ensures { IfOk result (λ command. CommandFits command) }
+    ensures { IfOk result (λ command. CommandKeeps command) }
 {
     match dice.below(8) {
         0 => Ok(Command::Mark(time(dice))),
@@ -149,10 +150,11 @@ fn command(alloc: Global, dice: &mut Dice) -> Result<Command, NoMemory>
 
 // Three to six commands.
 fn session(alloc: Global, dice: &mut Dice) -> Result<Session, NoMemory>
-    ensures { IfOk result (λ session. All CommandFits session) }
+    ensures { IfOk result (λ session. SessionFits session) }
 {
     let mut commands = Vec::new(alloc);
-    for _ in 0..3 + dice.below(4) {
+    let count = 3 + dice.below(4);
+    for _i in 0..count {
         commands.push(command(alloc, dice)?)?;
     }
     Ok(Session::of(commands))

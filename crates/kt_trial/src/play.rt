@@ -3,7 +3,7 @@ ghost use Rattle.std.specs.Prelude.{◌≡◌, ◌<◌, ◌+◌, ◌^◌, Some, 
 ghost use Rattle.kt_history.specs.declared.command.Command.TheVariants.{Write as AWrite, Scan as AScan, Mark as AMark};
 ghost use Rattle.kt_history.specs.Machine.{nth, command_at, command_of};
 ghost use Rattle.kt_trial.specs.Openings.{IsAtStart};
-ghost use Rattle.kt_trial.specs.Plans.{WriteFits, CommandFits, PlanFits};
+ghost use Rattle.kt_trial.specs.Plans.{PlanFits};
 ghost use Rattle.kt_trial.specs.Seats.{next_of, Sits, AreSeated, Moves};
 
 use crate::dice::Dice;
@@ -44,9 +44,7 @@ fn command_in(commands: &[Command], next: u32) -> Option<&Command>
 
 /// The command of a session that has this number, if it has so many.
 pub fn next_command(plan: &Plan, number: u32, next: u32) -> Option<&Command>
-    requires { PlanFits plan.now }
-    ensures found { IfSome result (λ command. command_of (nth plan.now number) next ≡ Some command.now) }
-    ensures fits { IfSome result (λ command. CommandFits command.now) }
+    ensures { IfSome result (λ command. command_of (nth plan.now number) next ≡ Some command.now) }
 {
     let Some(session) = session_of(plan.as_slice(), number) else {
         return None;
@@ -68,7 +66,6 @@ fn write_on(
 ) -> Result<Seat, Miss>
     requires sits { Sits engine.old.tablet.core number seat }
     requires command { command_at engine.old.tablet.core.work number (next_of seat) ≡ Some (AWrite write.now) }
-    requires fits { WriteFits write.now.ops }
     requires few { next_of seat + 1 < 2 ^ 32 }
     ensures { IfOk result (Moves engine.old.tablet.core engine.new.tablet.core number) }
 {
@@ -143,7 +140,6 @@ fn take_on(
 ) -> Result<Seat, Miss>
     requires sits { Sits engine.old.tablet.core number seat }
     requires command { command_at engine.old.tablet.core.work number (next_of seat) ≡ Some command.now }
-    requires fits { CommandFits command.now }
     requires few { next_of seat + 1 < 2 ^ 32 }
     ensures { IfOk result (Moves engine.old.tablet.core engine.new.tablet.core number) }
 {
@@ -166,7 +162,6 @@ fn go_on(
 ) -> Result<Seat, Miss>
     requires sits { Sits engine.old.tablet.core number seat }
     requires planned { engine.old.tablet.core.work.plan ≡ plan.now }
-    requires fits { PlanFits plan.now }
     ensures { IfOk result (Moves engine.old.tablet.core engine.new.tablet.core number) }
 {
     let next = seat.next();
@@ -198,7 +193,6 @@ fn sit_on(
     requires within { (at < length seats.old) × (at < 64) }
     requires seated { AreSeated engine.old.tablet.core seats.old }
     requires planned { engine.old.tablet.core.work.plan ≡ plan.now }
-    requires fits { PlanFits plan.now }
     ensures seated { OnOk result (AreSeated engine.new.tablet.core seats.new) }
     ensures planned { OnOk result (engine.new.tablet.core.work.plan ≡ plan.now) }
 {
@@ -219,7 +213,6 @@ fn step(
 ) -> Result<(), Miss>
     requires seated { AreSeated engine.old.tablet.core seats.old }
     requires planned { engine.old.tablet.core.work.plan ≡ plan.now }
-    requires fits { PlanFits plan.now }
     ensures seated { OnOk result (AreSeated engine.new.tablet.core seats.new) }
     ensures planned { OnOk result (engine.new.tablet.core.work.plan ≡ plan.now) }
 {
@@ -244,7 +237,6 @@ fn steps(
 ) -> Result<(), Miss>
     requires seated { AreSeated engine.old.tablet.core seats.old }
     requires planned { engine.old.tablet.core.work.plan ≡ plan.now }
-    requires fits { PlanFits plan.now }
 {
     for _ in 0..STEPS {
         step(alloc, dice, engine, machine, plan, seats)?;
@@ -275,7 +267,6 @@ fn play_on(
     plan: &Plan,
 ) -> Result<(), Miss>
     requires starts { IsAtStart engine.old.tablet.core plan.now }
-    requires fits { PlanFits plan.now }
 {
     let mut seats = first_seats(alloc, plan)?;
     steps(alloc, dice, engine, machine, plan, &mut seats)

@@ -6,7 +6,7 @@ use Rattle.kt_trial.proofs.Moving.{aloft_at, seat_is, may_apply, moves_applied, 
 use Rattle.kt_trial.proofs.events.apply.Goals as goal
 
 pub place-requires : goal.place-requires
-place-requires c = has_place c.args.number c.args.engine.now.places c.args.engine.now.tablet.core.aloft (aloft_at c.args.engine.now.tablet.core c.args.number c.args.next c.args.ts c.args.applied) c.standing.ensures.placed c.requires.sits.flights
+place-requires c = has_place c.args.number c.args.engine.now.tablet.places c.args.engine.now.tablet.core.aloft (aloft_at c.args.engine.now.tablet.core c.args.number c.args.next c.args.ts c.args.applied) c.standing.ensures.placed c.requires.sits.flights
 
 pub apply_row-requires-clause-next : goal.apply_row-requires-clause-next
 apply_row-requires-clause-next c = λ goes. may_apply c.args.engine.now.tablet.core c.args.number c.args.next c.args.ts c.args.applied c.requires.sits c.requires.more

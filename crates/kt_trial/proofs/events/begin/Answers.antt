@@ -6,7 +6,7 @@ use Rattle.kt_trial.proofs.Moving.{seat_is, may_begin, moves_begun, moves_still}
 use Rattle.kt_trial.proofs.events.begin.Goals as goal
 
 pub begin-requires : goal.begin-requires
-begin-requires c = λ goes. may_begin c.args.engine.now.tablet.core c.args.number c.args.next c.args.write.now c.requires.sits c.requires.command c.requires.fits c.requires.few
+begin-requires c = λ goes. may_begin c.args.engine.now.tablet.core c.args.number c.args.next c.args.write.now c.requires.sits c.requires.command
 
 pub returns-in-Ok : goal.returns-in-Ok
 returns-in-Ok c = seat_is (Moves c.args.engine.now.tablet.core c.begin.new.self.tablet.core c.args.number) c.seat_if.result (Flying c.args.next c.in-Ok.ts 0) c.seat_if.ensures

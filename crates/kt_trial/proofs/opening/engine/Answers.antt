@@ -1,14 +1,15 @@
 use Rattle.std.proofs.Common.{◌≡◌, List, [], Ok, ap, sym, subst, refl, lit<, ◌∙◌}
 use Rattle.std.specs.List.{All}
-use Rattle.std.proofs.lemmas.List.Elements.{All-nil}
+use Rattle.std.proofs.lemmas.List.Elements.{All-nil, All-cons}
+use Rattle.kt_history.specs.declared.target.Target.TheVariants.{Mem}
 use Rattle.kt_disk.specs.Memory.{MemView, mem_now, mem_leaves, mem_seen}
 use Rattle.kt_records.specs.declared.entry.Entry.{Entry}
 use Rattle.kt_journal.specs.Log.{Holds, log_of}
 use Rattle.kt_journal.proofs.Fresh.{fresh_opens, fresh_log}
-use Rattle.kt_engine.specs.Logged.{NamesOnly}
+use Rattle.kt_engine.specs.Logged.{IsMem, NamesOnly}
 use Rattle.kt_engine.specs.Engines.{KeepsOthers}
 use Rattle.kt_engine.proofs.Others.{opened_others}
-use Rattle.kt_engine.proofs.Empty.{told_none, log_none, last_none}
+use Rattle.kt_engine.proofs.Empty.{due_none, untold_none, log_none, last_none}
 use Rattle.kt_trial.proofs.opening.engine.Goals as goal
 
 pub open_journal-requires : goal.open_journal-requires
@@ -18,14 +19,17 @@ open_journal-requires c = record { openable = λ told. fresh_opens c.new-disk.re
 no_record : (disk : MemView) (found : List Entry) → disk ≡ record { start = []; calls = []; faults = 0 } → log_of (mem_seen disk) ≡ Ok found → found ≡ []
 no_record disk found is reads = let same = sym (fresh_log disk is) ∙ reads in cc
 
-pub of-requires-clause-target : goal.of-requires-clause-target
-of-requires-clause-target c = (7, c.in_ok-tablet.ensures.target, lit< tt, lit< tt)
+pub of-requires-clause-mems : goal.of-requires-clause-mems
+of-requires-clause-mems c = subst (All IsMem) (sym c.in_ok-tablet.ensures.names) (All-cons IsMem (Mem 7) [] (lit< tt, lit< tt) (All-nil IsMem))
 
 pub of-requires-clause-log : goal.of-requires-clause-log
 of-requires-clause-log c = log_none c.in-Ok.records c.no_records-none.result c.no_records-none.ensures c.in-Ok.ensures.sound
 
-pub of-requires-clause-told : goal.of-requires-clause-told
-of-requires-clause-told c = λ first opens recalls. told_none _ _ c.no_records-none.result first c.no_records-none.ensures
+pub of-requires-clause-due : goal.of-requires-clause-due
+of-requires-clause-due c = λ first opens. due_none _ _ c.in-Ok.records c.no_records-none.result first c.no_records-none.ensures
+
+pub of-requires-clause-untold : goal.of-requires-clause-untold
+of-requires-clause-untold c = untold_none c.in-Ok.records c.no_records-none.result _ (no_record c.new-disk.result c.in-Ok.records c.new-disk.ensures (c.in-Ok.ensures.records refl)) c.no_records-none.ensures
 
 pub of-requires-clause-last : goal.of-requires-clause-last
 of-requires-clause-last c = last_none c.in-Ok.records c.no_records-none.result _ (no_record c.new-disk.result c.in-Ok.records c.new-disk.ensures (c.in-Ok.ensures.records refl)) c.no_records-none.ensures
@@ -34,7 +38,7 @@ pub of-requires-clause-durable : goal.of-requires-clause-durable
 of-requires-clause-durable c = λ told. subst (λ (l : List Entry). Holds mem_now mem_leaves c.in-Ok.journal.disk l) (sym (c.in-Ok.ensures.reads told)) (c.in-Ok.ensures.durable told)
 
 pub of-requires-clause-names : goal.of-requires-clause-names
-of-requires-clause-names c = subst (All (NamesOnly c.in_ok-tablet.tablet.target)) (sym c.no_records-none.ensures) (All-nil (NamesOnly c.in_ok-tablet.tablet.target))
+of-requires-clause-names c = subst (All (NamesOnly c.in_ok-tablet.tablet.names)) (sym c.no_records-none.ensures) (All-nil (NamesOnly c.in_ok-tablet.tablet.names))
 
 pub of-requires-clause-others : goal.of-requires-clause-others
 of-requires-clause-others c = λ told. subst (λ (d : MemView). KeepsOthers mem_now mem_leaves d c.in-Ok.journal.disk) (sym c.of-device.ensures) (opened_others mem_now mem_leaves c.new-disk.result c.in-Ok.journal.disk (c.in-Ok.ensures.frames told))
