@@ -77,7 +77,7 @@ OPENED = [
     ([A, AGAIN, AGAIN_PRESENT], {"a": 5}, [A_DONE]),
     ([A, AGAIN], {"a": 5}, [A_DONE, AGAIN_PRESENT]),
     ([A, LAST], {"a": 5, "b": 7}, [A_DONE, commit(EDGE - 1, (DONE, in_memory(1)))]),
-    ([replicate(0, (INSERT, b"a", 5))], {"a": 5}, []),
+    ([replicate(0, (INSERT, b"a", 5))], {"a": 5}, [commit(0, (DONE, in_memory(1)))]),
     ([A, AGAIN, C, commit(12288, (DONE, in_memory(7)))], {"a": 5, "c": 7}, [commit(4096, (DONE, in_memory(7))), AGAIN_PRESENT]),
     ([A, A_DONE, IGNORING], {"a": 5}, [ALL_IGNORED]),
     ([A, A_DONE, IGNORING, ALL_IGNORED], {"a": 5}, []),

@@ -15,3 +15,4 @@ pub mod Rooms
 pub mod Numbers
 pub mod Contents
 pub mod Tablets
+pub mod Held

@@ -1,7 +1,7 @@
 -- What a log owes may stand behind it, and tells of its past.
-use Rattle.std.proofs.Common.{◌≡◌, ℕ, zero, suc, max, ◌-◌, ◌*◌, ◌^◌, ◌<◌, ◌≤◌, List, [], ◌∷◌, ◌++◌, length, Some, None, Option, Bool, refl, true, false, ◌||◌, cond, sym, ap, ◌∙◌, subst, arith, append_assoc, length-append}
-use Rattle.std.specs.Prelude.{◌==◌, nat_lt, is_some}
-use Rattle.std.specs.List.{flat_map, list_any}
+use Rattle.std.proofs.Common.{◌≡◌, ℕ, max, ◌*◌, ◌^◌, ◌<◌, ◌≤◌, List, [], ◌∷◌, ◌++◌, length, map, Some, None, Option, Bool, refl, true, false, cond, sym, ap, ◌∙◌, subst, arith, append_assoc, length-append}
+use Rattle.std.specs.Prelude.{◌==◌, nat_lt}
+use Rattle.std.specs.List.{flat_map}
 use Rattle.std.proofs.lemmas.List.{append-nil, length-map}
 use Rattle.std.proofs.lemmas.List.Concat.{flat_map-cons}
 use Rattle.std.proofs.lemmas.Bool.Decides.{nat_tests}
@@ -9,8 +9,9 @@ use Rattle.kt_history.specs.declared.operation.OpKind.{OpKind}
 use Rattle.kt_history.specs.declared.operation.OpKind.TheVariants.{Insert, Upsert, Update, Delete, InsertIgnore, UpdateIgnore, DeleteIgnore}
 use Rattle.kt_history.specs.declared.operation.RowOp.{RowOp}
 use Rattle.kt_history.specs.Rows.{Row, Rows, key_cmp}
-use Rattle.kt_history.specs.History.{Past, rows_at}
-use Rattle.kt_history.specs.Operations.{effect, effect_on}
+use Rattle.kt_history.specs.declared.target.Target.TheVariants.{Mem}
+use Rattle.kt_history.specs.History.{Past}
+use Rattle.kt_history.specs.Operations.{effect, effect_on, outcomes_on}
 use Rattle.std.specs.FinMap.Entries.{find}
 use Rattle.kt_records.specs.declared.entry.Entry.{Entry}
 use Rattle.kt_records.specs.declared.entry.Entry.TheVariants.{Replicate, Commit}
@@ -20,12 +21,13 @@ use Rattle.kt_records.specs.Spelling as spelled
 use Rattle.kt_journal.specs.Order.{last_ts, is_above, is_count, waiting, follows, newest_first, IsFramed, InOrder}
 use Rattle.kt_journal.specs.Log.{IsLog}
 use Rattle.kt_journal.proofs.Framed.{order_push}
-use Rattle.kt_loglaws.specs.Replay.{commit_of, is_in_memory, is_needed, last_of}
-use Rattle.kt_loglaws.specs.Laws.{Tells}
-use Rattle.kt_loglaws.specs.Laws.Tells.{nothing, and_one}
-use Rattle.kt_loglaws.specs.Fronts.{ops_of, with_records, AllTold}
-use Rattle.kt_loglaws.proofs.LogOrder.{AllAbove, above_behind, Lacks, lacks_before, same, differs, differs_down}
-use Rattle.kt_boot.specs.Reopening.{stores_of, row_told, rows_told, rows_before, unless_told, owed}
+use Rattle.kt_loglaws.specs.Replay.{commit_of, last_of}
+use Rattle.kt_loglaws.specs.Fronts.{ops_of}
+use Rattle.kt_loglaws.proofs.LogOrder.{AllAbove, above_behind, is_found, Lacks, lacks_before, same, differs, differs_down}
+use Rattle.kt_content.proofs.Records.{stands_at}
+use Rattle.kt_tablet.specs.Rows.{commit_row, AreRecorded}
+use Rattle.kt_engine.specs.Logged.{rows_before, AreDue, UntoldFly}
+use Rattle.kt_boot.specs.Reopening.{row_told, rows_told, unless_told, owed}
 
 -- ---- a COMMIT is framed
 
@@ -180,83 +182,95 @@ module _ (fill : Row) (number : ℕ) (fits : number < 2 ^ 64) (all : List Entry)
       let next : all ≡ (front ++ Replicate ts ops ∷ []) ++ rest = is ∙ sym (one_more front (Replicate ts ops) rest) in
       let low = under ts order.1 in
       let newer : (n : ℕ) → is_above (last_ts (newest_first [] (front ++ Replicate ts ops ∷ []))) n ≡ true → ts < n = λ n up. from_test ts n (ap (λ l. is_above (last_ts l) n) (sym (newest_last front (Replicate ts ops))) ∙ up) in
-      elim (commit_of ts all) as (λ o. commit_of ts all ≡ o → IsLog (all ++ (cs ++ unless_told ts o (Commit ts (rows_told fill number (rows_before ts past) ops)) (owed fill number all past rest)))) [
+      elim (commit_of ts all) as (λ o. commit_of ts all ≡ o → IsLog (all ++ (cs ++ unless_told o (Commit ts (rows_told fill number (rows_before ts past) ops)) (owed fill number all past rest)))) [
         | Some rows ↦ λ e. owed_log rest (front ++ Replicate ts ops ∷ []) cs next (λ n up. under_later ts n cs (newer n up) low) is_log
         | None ↦ λ e.
             let commit = Commit ts (rows_told fill number (rows_before ts past) ops) in
             let counts : follows (newest_first [] (all ++ cs)) commit ≡ true = (λ i. is_count (waits front ts ops rest cs is low e i) (as_many fill number (rows_before ts past) ops i)) ∙ same (length ops) in
             let longer : IsLog (all ++ (cs ++ commit ∷ [])) = subst IsLog (append_assoc all cs (commit ∷ [])) (order_push [] (all ++ cs) commit is_log (told_framed fill number ts (rows_before ts past) ops fits order.0) counts) in
-            elim (nat_lt 0 ts) as (λ b. IsLog (all ++ (cs ++ cond b (commit ∷ owed fill number all past rest) (owed fill number all past rest)))) [
-              | true ↦ subst (λ l. IsLog (all ++ l)) (one_more cs commit (owed fill number all past rest))
-                  (owed_log rest (front ++ Replicate ts ops ∷ []) (cs ++ commit ∷ []) next (λ n up. under_push ts n (rows_told fill number (rows_before ts past) ops) cs (newer n up) (under_later ts n cs (newer n up) low)) longer)
-              | false ↦ owed_log rest (front ++ Replicate ts ops ∷ []) cs next (λ n up. under_later ts n cs (newer n up) low) is_log
-            ]
+            subst (λ l. IsLog (all ++ l)) (one_more cs commit (owed fill number all past rest))
+            (owed_log rest (front ++ Replicate ts ops ∷ []) (cs ++ commit ∷ []) next (λ n up. under_push ts n (rows_told fill number (rows_before ts past) ops) cs (newer n up) (under_later ts n cs (newer n up) low)) longer)
       ] refl
 
 -- ---- it tells what became of its write
 
-needed_is : (number : ℕ) (fill : Row) (k : OpKind) (cells : Row) (row : Option Row) → 0 < number → is_needed (row_told number (effect fill k cells row)) ≡ is_some (effect fill k cells row).0
-needed_is number fill k cells row up = elim (effect fill k cells row).0 as (λ o. list_any is_in_memory (stores_of number o) ≡ is_some o) [
-  | None ↦ refl
-  | Some change ↦ let above : nat_lt 0 number ≡ true = is_lt 0 number up in or_false (nat_lt 0 number) ∙ above
-]
-  where
-    is_lt : (a b : ℕ) → a < b → nat_lt a b ≡ true
-    is_lt a b h = grind (arith, nat_tests)
+row_same : (number : ℕ) (fill : Row) (k : OpKind) (cells : Row) (row : Option Row) → row_told number (effect fill k cells row) ≡ commit_row (Mem number) (effect fill k cells row).1
+row_same number fill Insert cells None = refl
+row_same number fill Insert cells (Some row) = refl
+row_same number fill Upsert cells None = refl
+row_same number fill Upsert cells (Some row) = refl
+row_same number fill Update cells None = refl
+row_same number fill Update cells (Some row) = refl
+row_same number fill Delete cells None = refl
+row_same number fill Delete cells (Some row) = refl
+row_same number fill InsertIgnore cells None = refl
+row_same number fill InsertIgnore cells (Some row) = refl
+row_same number fill UpdateIgnore cells None = refl
+row_same number fill UpdateIgnore cells (Some row) = refl
+row_same number fill DeleteIgnore cells None = refl
+row_same number fill DeleteIgnore cells (Some row) = refl
 
-    or_false : (b : Bool) → (b || false) ≡ b
-    or_false true = refl
-    or_false false = refl
-
-tells_rows : (fill : Row) (number : ℕ) (rows : Rows) (ops : List RowOp) → 0 < number → Tells fill rows ops (rows_told fill number rows ops)
-tells_rows fill number rows [] up = nothing
-tells_rows fill number rows (op ∷ ops) up = and_one (needed_is number fill op.kind op.cells (find key_cmp op.key rows) up) (tells_rows fill number rows ops up)
-
-tells_before : (fill : Row) (number ts : ℕ) (past : Past) (ops : List RowOp) → 0 < number → 0 < ts → Tells fill (rows_at past (ts - 1)) ops (rows_told fill number (rows_before ts past) ops)
-tells_before fill number zero past ops up lt = absurd (omega arith)
-tells_before fill number (suc t) past ops up lt = let e : suc t - 1 ≡ t = omega arith in subst (λ n. Tells fill (rows_at past n) ops (rows_told fill number (rows_at past t) ops)) (sym e) (tells_rows fill number (rows_at past t) ops up)
+rows_recorded : (fill : Row) (number : ℕ) (rows : Rows) (ops : List RowOp) → AreRecorded (Mem number ∷ []) (outcomes_on fill rows ops) (rows_told fill number rows ops)
+rows_recorded fill number rows [] = tt
+rows_recorded fill number rows (op ∷ ops) = ((Mem number, (0, omega arith, refl), row_same number fill op.kind op.cells (find key_cmp op.key rows)), rows_recorded fill number rows ops)
 
 ops_found : (ts : ℕ) (front : List Entry) (ops : List RowOp) (rest : List Entry) → Lacks ts front → ops_of ts (front ++ Replicate ts ops ∷ rest) ≡ Some ops
 ops_found ts [] ops rest lacks = ap (λ b. cond b (Some ops) (ops_of ts rest)) (same ts)
 ops_found ts (Replicate t o ∷ front) ops rest lacks = ap (λ b. cond b (Some o) (ops_of ts (front ++ Replicate ts ops ∷ rest))) lacks.0 ∙ ops_found ts front ops rest lacks.1
 ops_found ts (Commit t rows ∷ front) ops rest lacks = ops_found ts front ops rest lacks
 
-module _ (fill : Row) (number : ℕ) (counted : 0 < number) (all : List Entry) (log : IsLog all) (past seen : Past) (alike : (t : ℕ) → rows_at seen t ≡ rows_at past t) where
+module _ (fill : Row) (number : ℕ) (all : List Entry) (log : IsLog all) (past first : Past) (alike : (ts : ℕ) → rows_before ts past ≡ rows_before ts first) where
   -- over each past with the same rows
-  pub owed_told : (rest front cs : List Entry) → all ≡ front ++ rest → AllTold fill (all ++ cs) seen (owed fill number all past rest)
-  owed_told [] front cs is = tt
-  owed_told (Commit t rows ∷ rest) front cs is = owed_told rest (front ++ Commit t rows ∷ []) cs (is ∙ sym (one_more front (Commit t rows) rest))
-  owed_told (Replicate ts ops ∷ rest) front cs is =
-      let commit = Commit ts (rows_told fill number (rows_before ts past) ops) in
-      let next : all ≡ (front ++ Replicate ts ops ∷ []) ++ rest = is ∙ sym (one_more front (Replicate ts ops) rest) in
-      let split : all ++ cs ≡ front ++ Replicate ts ops ∷ (rest ++ cs) = ap (λ l. l ++ cs) is ∙ append_assoc front (Replicate ts ops ∷ rest) cs in
-      elim (commit_of ts all) as (λ o. AllTold fill (all ++ cs) seen (unless_told ts o commit (owed fill number all past rest))) [
-        | Some rows ↦ owed_told rest (front ++ Replicate ts ops ∷ []) cs next
-        | None ↦ elim (nat_lt 0 ts) as (λ b. nat_lt 0 ts ≡ b → AllTold fill (all ++ cs) seen (cond b (commit ∷ owed fill number all past rest) (owed fill number all past rest))) [
-          | true ↦ λ up. (
-            record {
-              up = from_test 0 ts up;
-              ops = ops;
-              stands = ap (ops_of ts) split ∙ ops_found ts front ops (rest ++ cs) (lacks_before [] front ts ops rest (subst IsLog is log));
-              tells = subst (λ (r : Rows). Tells fill r ops (rows_told fill number (rows_before ts past) ops)) (sym (alike (ts - 1))) (tells_before fill number ts past ops counted (from_test 0 ts up));
-            },
-            subst (λ l. AllTold fill l seen (owed fill number all past rest)) (sym (append_assoc all cs (commit ∷ []))) (owed_told rest (front ++ Replicate ts ops ∷ []) (cs ++ commit ∷ []) next),
-          )
-          | false ↦ λ low. owed_told rest (front ++ Replicate ts ops ∷ []) cs next
-        ] refl
+  pub owed_due : (rest front : List Entry) → all ≡ front ++ rest → AreDue fill (Mem number ∷ []) first all (owed fill number all past rest)
+  owed_due [] front is = tt
+  owed_due (Commit t rows ∷ rest) front is = owed_due rest (front ++ Commit t rows ∷ []) (is ∙ sym (one_more front (Commit t rows) rest))
+  owed_due (Replicate ts ops ∷ rest) front is =
+      let more = owed_due rest (front ++ Replicate ts ops ∷ []) (is ∙ sym (one_more front (Replicate ts ops) rest)) in
+      elim (commit_of ts all) as (λ o. AreDue fill (Mem number ∷ []) first all (unless_told o (Commit ts (rows_told fill number (rows_before ts past) ops)) (owed fill number all past rest))) [
+        | Some rows ↦ more
+        | None ↦ (
+          (
+            ops,
+            ap (ops_of ts) is ∙ ops_found ts front ops rest (lacks_before [] front ts ops rest (subst IsLog is log)),
+            subst (λ (r : Rows). AreRecorded (Mem number ∷ []) (outcomes_on fill r ops) (rows_told fill number (rows_before ts past) ops)) (alike ts) (rows_recorded fill number (rows_before ts past) ops),
+          ),
+          more,
+        )
       ]
 
--- and changes nothing
-pub owed_same : (fill : Row) (number : ℕ) (all : List Entry) (past final : Past) (rest : List Entry) → with_records fill past (owed fill number all final rest) ≡ past
-owed_same fill number all past final [] = refl
-owed_same fill number all past final (Commit t rows ∷ rest) = owed_same fill number all past final rest
-owed_same fill number all past final (Replicate ts ops ∷ rest) =
-    let more = owed_same fill number all past final rest in
-    let commit = Commit ts (rows_told fill number (rows_before ts final) ops) in
-    elim (commit_of ts all) as (λ o. with_records fill past (unless_told ts o commit (owed fill number all final rest)) ≡ past) [
-      | None ↦ elim (nat_lt 0 ts) as (λ b. with_records fill past (cond b (commit ∷ owed fill number all final rest) (owed fill number all final rest)) ≡ past) [ true ↦ more | false ↦ more ]
-      | Some rows ↦ more
-    ]
+-- ---- so each write has its COMMIT
+
+none_front : (ts : ℕ) (xs ys : List Entry) → commit_of ts (xs ++ ys) ≡ None → commit_of ts xs ≡ None
+none_front ts [] ys h = refl
+none_front ts (Replicate t ops ∷ xs) ys h = none_front ts xs ys h
+none_front ts (Commit t rows ∷ xs) ys h = let parts = some_none (t == ts) rows (commit_of ts (xs ++ ys)) h in ap (λ b. cond b (Some rows) (commit_of ts xs)) parts.0 ∙ none_front ts xs ys parts.1
+
+front_ops : (ts : ℕ) (xs ys : List Entry) → ops_of ts ys ≡ None → ops_of ts (xs ++ ys) ≡ ops_of ts xs
+front_ops ts [] ys h = h
+front_ops ts (Replicate t ops ∷ xs) ys h = ap (cond (t == ts) (Some ops)) (front_ops ts xs ys h)
+front_ops ts (Commit t rows ∷ xs) ys h = front_ops ts xs ys h
+
+module _ (fill : Row) (number : ℕ) (all : List Entry) (past : Past) where
+  no_write : (ts : ℕ) (rest : List Entry) → ops_of ts (owed fill number all past rest) ≡ None
+  no_write ts [] = refl
+  no_write ts (Commit t rows ∷ rest) = no_write ts rest
+  no_write ts (Replicate t ops ∷ rest) = elim (commit_of t all) as (λ o. ops_of ts (unless_told o (Commit t (rows_told fill number (rows_before t past) ops)) (owed fill number all past rest)) ≡ None) [ Some rows ↦ no_write ts rest | None ↦ no_write ts rest ]
+
+  owed_has : (ts : ℕ) (ops : List RowOp) (xs ys : List Entry) → commit_of ts all ≡ None → commit_of ts (owed fill number all past (xs ++ Replicate ts ops ∷ ys)) ≡ None → ⊥
+  owed_has ts ops [] ys none h =
+      is_found ts [] (rows_told fill number (rows_before ts past) ops) (owed fill number all past ys)
+      (subst (λ o. commit_of ts (unless_told o (Commit ts (rows_told fill number (rows_before ts past) ops)) (owed fill number all past ys)) ≡ None) none h)
+  owed_has ts ops (Commit t rows ∷ xs) ys none h = owed_has ts ops xs ys none h
+  owed_has ts ops (Replicate t o ∷ xs) ys none h =
+      elim (commit_of t all) as (λ c. commit_of ts (unless_told c (Commit t (rows_told fill number (rows_before t past) o)) (owed fill number all past (xs ++ Replicate ts ops ∷ ys))) ≡ None → ⊥) [
+        | Some rows ↦ λ e. owed_has ts ops xs ys none e
+        | None ↦ λ e. owed_has ts ops xs ys none (none_behind ts (Commit t (rows_told fill number (rows_before t past) o) ∷ []) (owed fill number all past (xs ++ Replicate ts ops ∷ ys)) e)
+      ] h
+
+  pub owed_untold : UntoldFly (all ++ owed fill number all past all) []
+  owed_untold ts ops has none =
+      let at = stands_at ts ops all (sym (front_ops ts all (owed fill number all past all) (no_write ts all)) ∙ has) in
+      absurd (owed_has ts ops at.0 at.1 (none_front ts all (owed fill number all past all) none) (subst (λ (l : List Entry). commit_of ts (owed fill number all past l) ≡ None) at.2 (none_behind ts all (owed fill number all past all) none)))
 
 -- ---- it is COMMITs, which leave the last timestamp
 
@@ -266,8 +280,8 @@ owed_none fill number all past (Commit t rows ∷ rest) = owed_none fill number 
 owed_none fill number all past (Replicate ts ops ∷ rest) =
     let more = owed_none fill number all past rest in
     let commit = Commit ts (rows_told fill number (rows_before ts past) ops) in
-    elim (commit_of ts all) as (λ o. last_of (unless_told ts o commit (owed fill number all past rest)) ≡ 0) [
-      | None ↦ elim (nat_lt 0 ts) as (λ b. last_of (cond b (commit ∷ owed fill number all past rest) (owed fill number all past rest)) ≡ 0) [ true ↦ more | false ↦ more ]
+    elim (commit_of ts all) as (λ o. last_of (unless_told o commit (owed fill number all past rest)) ≡ 0) [
+      | None ↦ more
       | Some rows ↦ more
     ]
 

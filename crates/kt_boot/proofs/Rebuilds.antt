@@ -16,7 +16,7 @@ use Rattle.kt_records.specs.declared.entry.CommitRow.{CommitRow}
 use Rattle.kt_records.specs.Rules.{EachAfter, FollowingOp}
 use Rattle.kt_journal.specs.Order.{last_ts, is_above, InOrder}
 use Rattle.kt_pool.specs.Contents.{Contents, used, at_cell}
-use Rattle.kt_memrowset.specs.Stores.{IsStore, store_of, Owns, number_of, is_frozen, change_by}
+use Rattle.kt_memrowset.specs.Stores.{IsStore, store_of, Owns, number_of, is_frozen, cells_had, change_by}
 use Rattle.kt_memrowset.specs.declared.store.MemRowSet.{MemRowSet}
 use Rattle.kt_loglaws.specs.Replay.{commit_of, is_needed, needed_ops, replayed}
 use Rattle.kt_boot.specs.Reopening.{needs_of, unless_told}
@@ -83,6 +83,7 @@ pub record Along (all : List Entry) (s t : MemRowSet) (old new : Contents) (queu
   pub owed : queued ++ owed_by (number_of s) all (store_of t new) rest ≡ owed_by (number_of s) all [] all
   pub even : used new + new.reserved ≡ used old + old.reserved
   pub vacant : store_of t new ≡ [] → used new ≡ used old
+  pub more : cells_had t new + used old ≡ cells_had s old + used new
   pub frame : (k : ℕ) → ¬ Owns t new k → at_cell new k ≡ at_cell old k
 
 pub along_first : (all : List Entry) (s : MemRowSet) (old : Contents) (queued : List Entry) → InOrder [] all → IsStore s old → is_frozen s ≡ false → store_of s old ≡ [] → needs_of all all ≤ old.reserved → queued ≡ [] → Along all s s old old queued all
@@ -99,6 +100,7 @@ along_first all s old queued order st thawed bare room none = record {
   owed = (λ i. none i ++ owed_by (number_of s) all (bare i) all);
   even = refl;
   vacant = λ e. refl;
+  more = refl;
   frame = λ k o. refl;
 }
 
@@ -116,18 +118,16 @@ over_commit all s t old new queued ts rows rest a = record {
   owed = a.owed;
   even = a.even;
   vacant = a.vacant;
+  more = a.more;
   frame = a.frame;
 }
 
 from_test : (a b : ℕ) → nat_lt a b ≡ true → a < b
 from_test a b h = grind (arith, nat_tests)
 
-told_more : (ts : ℕ) (commit : Option (List CommitRow)) (r : Entry) (queued rest : List Entry) → (queued ++ unless_told ts commit r []) ++ rest ≡ queued ++ unless_told ts commit r rest
-told_more ts None r queued rest = elim (nat_lt 0 ts) as (λ b. (queued ++ cond b (r ∷ []) []) ++ rest ≡ queued ++ cond b (r ∷ rest) rest) [
-  | true ↦ append_assoc queued (r ∷ []) rest
-  | false ↦ ap (λ q. q ++ rest) (append-nil queued)
-]
-told_more ts (Some rows) r queued rest = ap (λ q. q ++ rest) (append-nil queued)
+told_more : (commit : Option (List CommitRow)) (r : Entry) (queued rest : List Entry) → (queued ++ unless_told commit r []) ++ rest ≡ queued ++ unless_told commit r rest
+told_more None r queued rest = append_assoc queued (r ∷ []) rest
+told_more (Some rows) r queued rest = ap (λ q. q ++ rest) (append-nil queued)
 
 module _ (all : List Entry) (s t : MemRowSet) (old mid : Contents) (queued : List Entry) (ts : ℕ) (ops : List RowOp) (rest : List Entry) (a : Along all s t old mid queued (Replicate ts ops ∷ rest)) (commit : Option (List CommitRow)) (its : commit ≡ commit_of ts all) where
   -- the operations of the write may be taken
@@ -147,7 +147,7 @@ module _ (all : List Entry) (s t : MemRowSet) (old mid : Contents) (queued : Lis
   rebuilt_here = sym a.store ∙ ap (λ o. cond (fits_store ts ops o (store_of t mid)) (rebuilt all (all_taken ts (replayed ops o) (store_of t mid)) rest) (Err ts)) (sym its)
 
   pub over_write : (u : MemRowSet) (new : Contents) (more : List Entry) → fits_store ts ops commit (store_of t mid) ≡ true → TakesAll t u mid new ts (replayed ops commit)
-      → more ≡ queued ++ unless_told ts commit (Commit ts (all_told (number_of t) ts ops (store_of t mid))) [] → Along all s u old new more rest
+      → more ≡ queued ++ unless_told commit (Commit ts (all_told (number_of t) ts ops (store_of t mid))) [] → Along all s u old new more rest
   over_write u new more fits takes adds = record {
     before = Replicate ts ops ∷ a.before;
     order = a.order.2;
@@ -160,12 +160,13 @@ module _ (all : List Entry) (s t : MemRowSet) (old mid : Contents) (queued : Lis
     room = takes.room (needs_of all rest) needs_all;
     owed =
         ap (λ q. q ++ owed_by (number_of s) all (store_of u new) rest) adds
-        ∙ told_more ts commit (Commit ts (all_told (number_of t) ts ops (store_of t mid))) queued (owed_by (number_of s) all (store_of u new) rest)
-        ∙ (λ i. queued ++ unless_told ts (its i) (Commit ts (all_told (a.number i) ts ops (store_of t mid))) (owed_by (number_of s) all (takes.store i) rest))
-        ∙ ap (λ o. queued ++ unless_told ts (commit_of ts all) (Commit ts (all_told (number_of s) ts ops (store_of t mid))) (owed_by (number_of s) all (all_taken ts (replayed ops o) (store_of t mid)) rest)) its
+        ∙ told_more commit (Commit ts (all_told (number_of t) ts ops (store_of t mid))) queued (owed_by (number_of s) all (store_of u new) rest)
+        ∙ (λ i. queued ++ unless_told (its i) (Commit ts (all_told (a.number i) ts ops (store_of t mid))) (owed_by (number_of s) all (takes.store i) rest))
+        ∙ ap (λ o. queued ++ unless_told (commit_of ts all) (Commit ts (all_told (number_of s) ts ops (store_of t mid))) (owed_by (number_of s) all (all_taken ts (replayed ops o) (store_of t mid)) rest)) its
         ∙ a.owed;
     even = takes.even ∙ a.even;
     vacant = λ e. takes.vacant e ∙ a.vacant (bare_before_all ts (replayed ops commit) (store_of t mid) (sym takes.store ∙ e));
+    more = (let one = takes.more in let before = a.more in omega arith);
     frame = λ k o. takes.frame k o ∙ a.frame k (λ own. o (takes.keeps k own));
   }
 

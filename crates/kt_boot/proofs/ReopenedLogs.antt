@@ -15,14 +15,14 @@ use Rattle.kt_tablet.specs.Filling.{filled}
 use Rattle.kt_memrowset.proofs.Frames.{is_still, store_still}
 use Rattle.kt_memrowset.specs.declared.store.MemRowSet.{MemRowSet}
 use Rattle.kt_loglaws.specs.Replay.{replay, empty, last_of, gate_of}
-use Rattle.kt_loglaws.specs.Fronts.{with_records, AllTold}
+use Rattle.kt_engine.specs.Logged.{UntoldFly}
 use Rattle.kt_boot.specs.declared.opening.Why.TheVariants.{B3}
 use Rattle.kt_boot.specs.Opening.{opening_in, found_or_late, last_most}
-use Rattle.kt_boot.specs.Reopening.{mem_number, owed, IsReopened}
+use Rattle.kt_boot.specs.Reopening.{owed, IsReopened}
 use Rattle.kt_boot.specs.Rebuilding.{rebuilt, owed_by}
 use Rattle.kt_boot.proofs.Walks.{Meets, Ends, meets, owed_alike, walk_first}
 use Rattle.kt_boot.proofs.Openings.{found_past, found_late, opens, rows_told}
-use Rattle.kt_boot.proofs.Owing.{owed_log, owed_told, owed_same, owed_last}
+use Rattle.kt_boot.proofs.Owing.{owed_log, owed_untold, owed_last}
 
 not_most : (last : ℕ) → last < last_most → nat_le last_most last ≡ false
 not_most last h = grind (arith, nat_tests)
@@ -42,8 +42,8 @@ module _ (fill : Row) (records : List Entry) (log : IsLog records) (low : last_o
   owes_it : (number : ℕ) (past : Past) → replay fill records empty records ≡ Ok past → owed_by number records [] records ≡ owed fill number records past records
   owes_it number past is = owed_alike fill records number records [] [] empty past [] log (walk_first fill) is
 
-  pub reopened : (store : Store) (last number : ℕ) (queued : List Entry) → last ≡ last_of records → 0 < number → rebuilt records [] records ≡ Ok store → queued ≡ owed_by number records [] records → (past : Past) × IsReopened fill records store last number queued past
-  reopened store last number queued last_is counted is queues =
+  pub reopened : (store : Store) (last number : ℕ) (queued : List Entry) → last ≡ last_of records → rebuilt records [] records ≡ Ok store → queued ≡ owed_by number records [] records → (past : Past) × IsReopened fill records store last number queued past
+  reopened store last number queued last_is is queues =
       let found = past_found store is in
       let whole = found.0 in
       let past = raise whole 0 in
@@ -56,8 +56,8 @@ module _ (fill : Row) (records : List Entry) (log : IsLog records) (low : last_o
           found = opened_is fill records low ∙ ap (found_or_late records) found.1 ∙ ap (λ n. Ok (record { past = past; last = n })) (sym last_is);
           opens = subst (λ n. Opens (filled fill store ∷ []) 0 n past) (sym last_is) (opens fill (last_of records) store whole found.2);
           owes = owes;
-          told = subst (AllTold fill records past) (sym owes) (subst (λ l. AllTold fill l past (owed fill number records whole records)) (append-nil records) (owed_told fill number counted records log whole past (λ t. rows_told whole t found.2.bare.0 found.2.starts) records [] [] refl));
-          same = ap (with_records fill past) owes ∙ owed_same fill number records past whole records;
+          rows = λ t. rows_told whole t found.2.bare.0 found.2.starts;
+          untold = subst (λ (q : List Entry). UntoldFly (records ++ q) []) (sym owes) (owed_untold fill number records whole);
           ends = ap (λ q. last_of (records ++ q)) owes ∙ owed_last fill number whole records ∙ sym last_is;
         },
       )
@@ -71,9 +71,6 @@ module _ (fill : Row) (records : List Entry) (log : IsLog records) (low : last_o
   pub reopened_late : (ts gate : ℕ) → rebuilt records [] records ≡ Err ts → gate ≡ gate_of ts records → opening_in fill (Ok records) ≡ Err (B3 gate)
   reopened_late ts gate is gate_is =
       opened_is fill records low ∙ ap (found_or_late records) (found_late fill (last_of records) ts (rebuilt records [] records) (replay fill records empty records) (both_meet fill records log) is) ∙ ap (λ g. Err (B3 g)) (sym gate_is)
-
-pub at_least_one : (records : List Entry) (number : ℕ) → number ≡ mem_number records → 0 < number
-at_least_one records number e = omega arith
 
 -- a promise that is taken back changes nothing of the store
 pub still : (s : MemRowSet) (old new : Contents) (n : ℕ) → new ≡ with_reserved old n → IsStore s old → IsStore s new

@@ -15,7 +15,7 @@ use Rattle.kt_history.specs.Stores.{Hist, Store, hist_in, never, push, Under, sh
 use Rattle.kt_histlaws.specs.Flights.{AllOps}
 use Rattle.kt_pool.specs.Contents.{Contents, used, at_cell}
 use Rattle.kt_tree.specs.Trees.{need as tree_need}
-use Rattle.kt_memrowset.specs.Stores.{IsStore, store_of, Owns, number_of, is_frozen, cells_taken, link_need, change_by, Joins}
+use Rattle.kt_memrowset.specs.Stores.{IsStore, store_of, Owns, number_of, is_frozen, cells_had, cells_taken, link_need, change_by, Joins}
 use Rattle.kt_memrowset.proofs.Applying.{share_covers}
 use Rattle.kt_memrowset.specs.declared.store.MemRowSet.{MemRowSet}
 use Rattle.kt_memrowset.specs.Taking.{JoinsIf}
@@ -101,6 +101,7 @@ module _ (s : MemRowSet) (old : Contents) (ts : ℕ) (op : RowOp) where
     room = λ n h. omega arith;
     even = refl;
     vacant = λ e. refl;
+    more = refl;
     keeps = λ k o. o;
     frame = λ k o. refl;
   }
@@ -116,6 +117,7 @@ module _ (s : MemRowSet) (old : Contents) (ts : ℕ) (op : RowOp) where
     room = λ n h. let few = taken_covered op (store_of s old) in let left = share_left op n old.reserved h in let went = joins.takes.reserved in omega arith;
     even = let few = taken_covered op (store_of s old) in let left = share_left op 0 old.reserved (omega arith) in let went = joins.takes.reserved in let came = joins.takes.used in omega arith;
     vacant = λ e. absurd (not_bare op.key (push ts (change_by kind op) (hist_in op.key (store_of s old))) (store_of s old) (sym joins.joined ∙ e));
+    more = (let had = joins.had in let came = joins.takes.used in omega arith);
     keeps = joins.keeps;
     frame = joins.frame;
   }
@@ -137,14 +139,15 @@ pub record Taking (s t : MemRowSet) (old new : Contents) (ts : ℕ) (ops rest : 
   pub room : (n : ℕ) → need ops + n ≤ old.reserved → need rest + n ≤ new.reserved
   pub even : used new + new.reserved ≡ used old + old.reserved
   pub vacant : store_of t new ≡ [] → used new ≡ used old
+  pub more : cells_had t new + used old ≡ cells_had s old + used new
   pub keeps : (k : ℕ) → Owns s old k → Owns t new k
   pub frame : (k : ℕ) → ¬ Owns t new k → at_cell new k ≡ at_cell old k
 
 pub taking_first : (s : MemRowSet) (old : Contents) (ts : ℕ) (ops : List RowOp) → IsStore s old → MayTakeAll ts (store_of s old) ops → need ops ≤ old.reserved → Taking s s old old ts ops ops
-taking_first s old ts ops st may enough = record { stands = st; store = refl; may = may; number = refl; frozen = refl; size = refl; enough = enough; room = λ n h. h; even = refl; vacant = λ e. refl; keeps = λ k o. o; frame = λ k o. refl }
+taking_first s old ts ops st may enough = record { stands = st; store = refl; may = may; number = refl; frozen = refl; size = refl; enough = enough; room = λ n h. h; even = refl; vacant = λ e. refl; more = refl; keeps = λ k o. o; frame = λ k o. refl }
 
 pub taken_last : (s t : MemRowSet) (old new : Contents) (ts : ℕ) (ops : List RowOp) → Taking s t old new ts ops [] → TakesAll s t old new ts ops
-taken_last s t old new ts ops g = record { stands = g.stands; store = g.store; number = g.number; frozen = g.frozen; size = g.size; room = λ n h. let left = g.room n h in omega arith; even = g.even; vacant = g.vacant; keeps = g.keeps; frame = g.frame }
+taken_last s t old new ts ops g = record { stands = g.stands; store = g.store; number = g.number; frozen = g.frozen; size = g.size; room = λ n h. let left = g.room n h in omega arith; even = g.even; vacant = g.vacant; more = g.more; keeps = g.keeps; frame = g.frame }
 
 pub taking_next : (s t u : MemRowSet) (old mid new : Contents) (ts : ℕ) (ops : List RowOp) (op : RowOp) (rest : List RowOp) → Taking s t old mid ts ops (op ∷ rest) → TakesAll t u mid new ts (op ∷ []) → Taking s u old new ts ops rest
 taking_next s t u old mid new ts ops op rest g one = record {
@@ -158,6 +161,7 @@ taking_next s t u old mid new ts ops op rest g one = record {
   room = λ n h. one.room (need rest + n) (let all = g.room n h in let e = need-first op rest in omega arith);
   even = one.even ∙ g.even;
   vacant = λ e. one.vacant e ∙ g.vacant (bare_before ts op (store_of t mid) (sym one.store ∙ e));
+  more = (let a = one.more in let b = g.more in omega arith);
   keeps = λ k o. one.keeps k (g.keeps k o);
   frame = λ k o. one.frame k o ∙ g.frame k (λ own. o (one.keeps k own));
 }

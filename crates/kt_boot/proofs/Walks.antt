@@ -25,7 +25,8 @@ use Rattle.kt_journal.specs.Order.{last_ts, is_above, InOrder}
 use Rattle.kt_loglaws.specs.Replay.{commit_of, needed_ops, replayed, all_change, is_fitting, replay, last_of}
 use Rattle.kt_loglaws.proofs.LogOrder.{above_behind}
 use Rattle.kt_loglaws.proofs.Replays.{rows_stay}
-use Rattle.kt_boot.specs.Reopening.{rows_before, rows_told, owed, unless_told}
+use Rattle.kt_engine.specs.Logged.{rows_before}
+use Rattle.kt_boot.specs.Reopening.{rows_told, owed, unless_told}
 use Rattle.kt_boot.specs.Rebuilding.{taken, all_taken, all_fit, all_told, fits_store, rebuilt, owed_by}
 use Rattle.kt_boot.proofs.Keys.{different, different_replayed}
 use Rattle.kt_boot.proofs.Replayed.{changes_first, last_before, below}
@@ -249,7 +250,7 @@ module _ (fill : Row) (all : List Entry) where
       let more = owed_alike number rest (Replicate ts ops ∷ before) (all_taken ts (replayed ops (commit_of ts all)) store) (with_write past ts (changes_on fill table (replayed ops (commit_of ts all)))) final (changed (changes_on fill table (replayed ops (commit_of ts all))) table) order.2 (next_walk before store past table walk ts ops rest order)
       (subst (λ t. replay fill all (with_write past ts (changes_on fill t (replayed ops (commit_of ts all)))) rest ≡ Ok final) (sym here) going) in
       let told_is : all_told number ts ops store ≡ rows_told fill number (rows_before ts final) ops = same_told before store past table walk ts ops rest order number ∙ ap (λ t. rows_told fill number t ops) (sym (before_write before store past final table ts ops rest walk order going)) in
-      λ i. unless_told ts (commit_of ts all) (Commit ts (told_is i)) (more i)
+      λ i. unless_told (commit_of ts all) (Commit ts (told_is i)) (more i)
     where
       went : (b : Bool) (r : Result Past ℕ) (ts : ℕ) (final : Past) → cond b r (Err ts) ≡ Ok final → r ≡ Ok final
       went true r ts final e = e

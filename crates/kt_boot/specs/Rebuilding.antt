@@ -15,7 +15,7 @@ use Rattle.kt_records.specs.declared.entry.Entry.TheVariants.{Replicate, Commit}
 use Rattle.kt_records.specs.declared.entry.CommitRow.{CommitRow}
 use Rattle.kt_loglaws.specs.Replay.{commit_of, replayed, needed_ops}
 use Rattle.kt_memrowset.specs.Links.{CellsFit}
-use Rattle.kt_memrowset.specs.Stores.{IsStore, store_of, Owns, number_of, is_frozen, change_by}
+use Rattle.kt_memrowset.specs.Stores.{IsStore, store_of, Owns, number_of, is_frozen, cells_had, change_by}
 use Rattle.kt_memrowset.specs.declared.store.MemRowSet.{MemRowSet}
 use Rattle.kt_pool.specs.Contents.{Contents, used, at_cell}
 use Rattle.kt_boot.specs.Reopening.{unless_told}
@@ -75,7 +75,7 @@ rebuilt all store (Replicate ts ops ∷ records) = if fits_store ts ops (commit_
 abbrev pub owed_by : ℕ → List Entry → Store → List Entry → List Entry
 owed_by number all store [] = []
 owed_by number all store (Commit ts rows ∷ records) = owed_by number all store records
-owed_by number all store (Replicate ts ops ∷ records) = unless_told ts (commit_of ts all) (Commit ts (all_told number ts ops store)) (owed_by number all (all_taken ts (replayed ops (commit_of ts all)) store) records)
+owed_by number all store (Replicate ts ops ∷ records) = unless_told (commit_of ts all) (Commit ts (all_told number ts ops store)) (owed_by number all (all_taken ts (replayed ops (commit_of ts all)) store) records)
 
 -- every change of the key of an operation lies below, and its cells have a spelling
 pub record MayTake (ts : ℕ) (store : Store) (op : RowOp) : Type 0 where
@@ -88,7 +88,7 @@ pub record MayTakeAll (ts : ℕ) (store : Store) (ops : List RowOp) : Type 0 whe
   pub keys : DifferentKeys ops
 
 -- the operations have joined the store in its pool, each in reserved cells that it needs. Each cell that they took had
--- been reserved, a store that still has no row has taken none, and the new places are the store's own
+-- been reserved, a store that still has no row has taken none, those that it has taken are its own, and so are the new places
 pub record TakesAll (s t : MemRowSet) (old new : Contents) (ts : ℕ) (ops : List RowOp) : Type 0 where
   pub stands : IsStore t new
   pub store : store_of t new ≡ all_taken ts ops (store_of s old)
@@ -98,5 +98,6 @@ pub record TakesAll (s t : MemRowSet) (old new : Contents) (ts : ℕ) (ops : Lis
   pub room : (n : ℕ) → need ops + n ≤ old.reserved → n ≤ new.reserved
   pub even : used new + new.reserved ≡ used old + old.reserved
   pub vacant : store_of t new ≡ [] → used new ≡ used old
+  pub more : cells_had t new + used old ≡ cells_had s old + used new
   pub keeps : (k : ℕ) → Owns s old k → Owns t new k
   pub frame : (k : ℕ) → ¬ Owns t new k → at_cell new k ≡ at_cell old k

@@ -1,5 +1,5 @@
 -- What opening makes of the records of a log: a MemRowSet, the size of its pool, and the COMMITs that are still owed.
-use Rattle.std.specs.Prelude.{◌≡◌, Ok, ℕ, zero, suc, ◌+◌, max, nat_lt, List, [], ◌∷◌, ◌++◌, map, Option, Some, None, if◌then◌else◌}
+use Rattle.std.specs.Prelude.{◌≡◌, Ok, ℕ, ◌+◌, max, List, [], ◌∷◌, ◌++◌, map, Option, Some, None}
 use Rattle.kt_history.specs.declared.change.Change.{Change}
 use Rattle.kt_history.specs.declared.change.Outcome.{Outcome}
 use Rattle.kt_history.specs.declared.operation.RowOp.{RowOp}
@@ -14,9 +14,9 @@ use Rattle.kt_records.specs.declared.entry.Entry.TheVariants.{Replicate, Commit}
 use Rattle.kt_records.specs.declared.entry.CommitRow.{CommitRow}
 use Rattle.kt_loglaws.specs.Replay.{commit_of, replayed, last_of}
 use Rattle.kt_loglaws.specs.Laws.{LogHolds}
-use Rattle.kt_loglaws.specs.Fronts.{with_records, AllTold}
 use Rattle.kt_tablet.specs.Filling.{filled}
 use Rattle.kt_tablet.specs.Views.{Opens}
+use Rattle.kt_engine.specs.Logged.{rows_before, UntoldFly}
 use Rattle.kt_boot.specs.Opening.{opening_in}
 
 -- the greatest number of a MemRowSet among these stores, or 0
@@ -44,11 +44,6 @@ needs_of all [] = 0
 needs_of all (Replicate ts ops ∷ records) = need (replayed ops (commit_of ts all)) + needs_of all records
 needs_of all (Commit ts rows ∷ records) = needs_of all records
 
--- the rows just before a timestamp
-abbrev pub rows_before : ℕ → Past → Rows
-rows_before zero past = []
-rows_before (suc t) past = rows_at past t
-
 -- the stores that a change went to: this MemRowSet, where there is a change
 abbrev pub stores_of : ℕ → Option Change → List Target
 stores_of number None = []
@@ -62,26 +57,26 @@ row_told number effect = record { outcome = effect.1; targets = stores_of number
 abbrev pub rows_told : Row → ℕ → Rows → List RowOp → List CommitRow
 rows_told fill number rows ops = map (λ op. row_told number (effect_on fill rows op)) ops
 
--- the COMMIT of a write at this timestamp is owed where there is none. A write at 0 lies at the mark, and owes none
-abbrev pub unless_told : ℕ → Option (List CommitRow) → Entry → List Entry → List Entry
-unless_told ts None commit rest = if nat_lt 0 ts then commit ∷ rest else rest
-unless_told ts (Some rows) commit rest = rest
+-- the COMMIT of a write is owed where there is none
+abbrev pub unless_told : Option (List CommitRow) → Entry → List Entry → List Entry
+unless_told None commit rest = commit ∷ rest
+unless_told (Some rows) commit rest = rest
 
--- the COMMIT of each write above 0 among these records that has none in the log that holds all
+-- the COMMIT of each write among these records that has none in the log that holds all
 abbrev pub owed : Row → ℕ → List Entry → Past → List Entry → List Entry
 owed fill number all past [] = []
 owed fill number all past (Commit ts rows ∷ records) = owed fill number all past records
-owed fill number all past (Replicate ts ops ∷ records) = unless_told ts (commit_of ts all) (Commit ts (rows_told fill number (rows_before ts past) ops)) (owed fill number all past records)
+owed fill number all past (Replicate ts ops ∷ records) = unless_told (commit_of ts all) (Commit ts (rows_told fill number (rows_before ts past) ops)) (owed fill number all past records)
 
--- What opening makes of a log that holds this past, told from the mark 0 on: the store shows it, and what is queued is owed.
--- That tells of it, and changes nothing of it, nor of the last timestamp. The whole past of the log may have a write at 0.
+-- What opening makes of a log that holds this past, told from the mark 0 on: the store shows it, and what is queued is owed, so that each write has
+-- its COMMIT. The whole past of the log may have a write at 0.
 pub record IsReopened (fill : Row) (records : List Entry) (store : Store) (last number : ℕ) (queued : List Entry) (past : Past) : Type 0 where
   pub whole : Past
   pub holds : LogHolds fill records whole
   pub raised : past ≡ raise whole 0
+  pub rows : (t : ℕ) → rows_at past t ≡ rows_at whole t
   pub found : opening_in fill (Ok records) ≡ Ok (record { past = past; last = last })
   pub opens : Opens (filled fill store ∷ []) 0 last past
   pub owes : queued ≡ owed fill number records whole records
-  pub told : AllTold fill records past queued
-  pub same : with_records fill past queued ≡ past
+  pub untold : UntoldFly (records ++ queued) []
   pub ends : last_of (records ++ queued) ≡ last

@@ -6,7 +6,7 @@ ghost use Rattle.kt_records.specs.declared.entry.Entry.TheVariants.{Commit};
 ghost use Rattle.kt_journal.specs.Log.{IsLog};
 ghost use Rattle.kt_loglaws.specs.Replay.{needed_ops, replayed};
 ghost use Rattle.kt_pool.specs.Contents.{at_cell, used};
-ghost use Rattle.kt_memrowset.specs.Stores.{IsStore, store_of, Owns, number_of, is_frozen};
+ghost use Rattle.kt_memrowset.specs.Stores.{IsStore, store_of, Owns, number_of, is_frozen, cells_had};
 ghost use Rattle.kt_boot.specs.Commits.{HasPlaces};
 ghost use Rattle.kt_boot.specs.Reopening.{greatest, greatest_of, mem_number, needs_of, unless_told};
 ghost use Rattle.kt_boot.specs.Rebuilding.{is_there, all_fit, all_told, told, fits_store, rebuilt, owed_by, MayTake, MayTakeAll, TakesAll};
@@ -139,7 +139,7 @@ fn queue(queued: &mut Vec<Entry>, entry: Entry) -> Result<(), NoMemory>
     Ok(())
 }
 
-// Takes the replayed operations of a write, and queues its COMMIT where it has none and is above 0.
+// Takes the replayed operations of a write, and queues its COMMIT where it has none.
 fn take_write(
     alloc: Global,
     mem: &mut MemRowSet,
@@ -155,7 +155,7 @@ fn take_write(
     requires room { need (replayed ops.now (option_map (λ rows. rows.now) commit)) ≤ pool.old.reserved }
     ensures fits { OnOk result (fits_store ts ops.now (option_map (λ rows. rows.now) commit.entry) (store_of mem.old pool.old) ≡ true) }
     ensures takes { OnOk result (TakesAll mem.old mem.new pool.old pool.new ts (replayed ops.now (option_map (λ rows. rows.now) commit.entry))) }
-    ensures queued { OnOk result (queued.new.items ≡ queued.old.items ++ unless_told ts (option_map (λ rows. rows.now) commit.entry) (Commit ts (all_told (number_of mem.old) ts ops.now (store_of mem.old pool.old))) []) }
+    ensures queued { OnOk result (queued.new.items ≡ queued.old.items ++ unless_told (option_map (λ rows. rows.now) commit.entry) (Commit ts (all_told (number_of mem.old) ts ops.now (store_of mem.old pool.old))) []) }
     ensures late { (t : ℕ) → result ≡ Err (ReplayNo.Late t) → (t ≡ ts) × (fits_store ts ops.now (option_map (λ rows. rows.now) commit.entry) (store_of mem.old pool.old) ≡ false) }
 {
     match commit {
@@ -166,9 +166,7 @@ fn take_write(
         }
         None => {
             let rows = take_all(alloc, mem, pool, ts, ops)?;
-            if ts > 0 {
-                queue(queued, Entry::Commit { ts, rows })?;
-            }
+            queue(queued, Entry::Commit { ts, rows })?;
         }
     }
     Ok(())
@@ -194,6 +192,7 @@ pub fn rebuild(
     ensures size { OnOk result (length pool.new.places ≡ length pool.old.places) }
     ensures even { OnOk result (used pool.new + pool.new.reserved ≡ used pool.old + pool.old.reserved) }
     ensures vacant { OnOk result (store_of mem.new pool.new ≡ [] → used pool.new ≡ used pool.old) }
+    ensures more { OnOk result (cells_had mem.new pool.new + used pool.old ≡ cells_had mem.old pool.old + used pool.new) }
     ensures frame { OnOk result ((k : ℕ) → ¬ Owns mem.new pool.new k → at_cell pool.new k ≡ at_cell pool.old k) }
     ensures owed { IfOk result (λ queued. queued ≡ owed_by (number_of mem.old) records.now [] records.now) }
     ensures late { (ts : ℕ) → result ≡ Err (ReplayNo.Late ts) → rebuilt records.now [] records.now ≡ Err ts }

@@ -4,7 +4,7 @@ ghost use Rattle.kt_history.specs.History.{Past};
 ghost use Rattle.kt_journal.specs.Log.{IsLog};
 ghost use Rattle.kt_schema.specs.Columns.{fill_of};
 ghost use Rattle.kt_pool.specs.Contents.{at_cell, used, free};
-ghost use Rattle.kt_memrowset.specs.Stores.{IsStore, store_of, Owns, number_of, is_frozen};
+ghost use Rattle.kt_memrowset.specs.Stores.{IsStore, store_of, Owns, number_of, is_frozen, cells_had};
 ghost use Rattle.kt_boot.specs.Opening.{opening_in};
 ghost use Rattle.kt_boot.specs.Reopening.{mem_number, needs_of, IsReopened};
 
@@ -58,7 +58,7 @@ pub fn reopen(
 ) -> Result<Reopened, Why>
     requires { IsLog records.now }
 
-    // The store opens the past that the log holds, and a COMMIT is queued for each write above 0 without one.
+    // The store opens the past that the log holds, and a COMMIT is queued for each write without one.
     ensures found { IfOk result (λ r. (past : Past) × IsReopened (fill_of schema.now) records.now (store_of r.mem r.pool) r.last (number_of r.mem) r.queued past) }
     ensures stands { IfOk result (λ r. IsStore r.mem r.pool × (is_frozen r.mem ≡ false)) }
     ensures number { IfOk result (λ r. number_of r.mem ≡ mem_number records.now) }
@@ -66,9 +66,10 @@ pub fn reopen(
     ensures unpromised { IfOk result (λ r. r.pool.reserved ≡ 0) }
     ensures size { IfOk result (λ r. length r.pool.places ≡ cells + needs_of records.now records.now) }
 
-    // So many cells are free, where the store has no row all are, and each place in the pool is the store's own.
+    // So many cells are free, where the store has no row all are, and those that are used are the store's own.
     ensures room { IfOk result (λ r. cells ≤ free r.pool) }
     ensures vacant { IfOk result (λ r. store_of r.mem r.pool ≡ [] → used r.pool ≡ 0) }
+    ensures had { IfOk result (λ r. used r.pool ≡ cells_had r.mem r.pool) }
     ensures owned { IfOk result (λ r. (k : ℕ) → ¬ Owns r.mem r.pool k → at_cell r.pool k ≡ None) }
 
     // The log goes on with what is queued.

@@ -1,18 +1,23 @@
 //! Opening a tablet.
-ghost use Rattle.std.specs.Prelude.{◌≡◌, ◌≢◌, ◌≤◌, ◌<◌, ◌+◌, ◌^◌, ℕ, length, IsTrue, false, Ok, Err, IfOk, IfErr, None, []};
+ghost use Rattle.std.specs.Prelude.{◌≡◌, ◌≢◌, ◌≤◌, ◌<◌, ◌+◌, ◌^◌, ℕ, length, IsTrue, false, Ok, Err, IfOk, IfErr, None, [], ◌∷◌};
 ghost use Rattle.std.specs.List.{Contains};
 ghost use Rattle.kt_base.specs.Causes.{Rose};
 ghost use Rattle.kt_disk.specs.Disk.{LeavesOnly};
 ghost use Rattle.kt_records.specs.Numbers.{all_numbers};
 ghost use Rattle.kt_journal.specs.Frames.{IsFrom};
-ghost use Rattle.kt_journal.specs.Log.{log_of, CanOpen};
+ghost use Rattle.kt_journal.specs.Log.{log_of, IsLog, CanOpen};
 ghost use Rattle.kt_schema.specs.Columns.{fill_of};
 ghost use Rattle.kt_history.specs.History.{Past};
 ghost use Rattle.kt_history.specs.declared.target.Target.TheVariants.{Mem};
 ghost use Rattle.kt_loglaws.specs.Laws.{LogHolds};
-ghost use Rattle.kt_pool.specs.Contents.{free};
+ghost use Rattle.kt_pool.specs.Contents.{free, used};
+ghost use Rattle.kt_memrowset.specs.Stores.{IsStore, store_of, number_of, is_frozen, cells_had};
+ghost use Rattle.kt_stores.specs.Shelf.{stores_of, names_of};
 ghost use Rattle.kt_tablet.specs.Views.{work_of};
-ghost use Rattle.kt_engine.specs.Engines.{IsContent};
+ghost use Rattle.kt_content.specs.Places.{fresh};
+ghost use Rattle.kt_content.specs.Rules.{Rules, RecordsPass};
+ghost use Rattle.kt_content.specs.Content.{IsContent as HoldsPast};
+ghost use Rattle.kt_engine.specs.Engines.{IsFound, IsContent};
 ghost use Rattle.kt_boot.specs.Opening.{opening_of, HasContentOf};
 ghost use Rattle.kt_boot.specs.Refusal.{refusal_of};
 ghost use Rattle.kt_boot.specs.Reopening.{mem_number, needs_of, owed};
@@ -23,7 +28,10 @@ use kt_base::Clock;
 use kt_disk::Disk;
 use kt_engine::Engine;
 use kt_journal::{Journal, JournalNo, open_journal};
+use kt_memrowset::MemRowSet;
+use kt_pool::Pool;
 use kt_schema::Schema;
+use kt_stores::Stores;
 use kt_tablet::Tablet;
 use std::alloc::Global;
 use std::snapshot::Snapshot;
@@ -61,6 +69,19 @@ fn given_up<L: Disk, D, C>(why: Why, journal: Journal<L>, store: D, clock: C) ->
     }
 }
 
+// The stores of a tablet of which one MemRowSet has all.
+fn stores_of(alloc: Global, mem: MemRowSet, pool: Pool) -> Stores<MemRowSet>
+    requires stands { IsStore mem pool }
+    requires thawed { is_frozen mem ≡ false }
+    requires had { used pool ≡ cells_had mem pool }
+    requires vacant { store_of mem pool ≡ [] → used pool ≡ 0 }
+    ensures pool { result.pool ≡ pool }
+    ensures stores { stores_of result ≡ store_of mem pool ∷ [] }
+    ensures names { names_of result.shelf ≡ Mem (number_of mem) ∷ [] }
+{
+    Stores::of(alloc, pool, mem, Vec::new(alloc))
+}
+
 /// Opens a tablet. Its pool has so many cells beside those that the rows of the log need.
 pub fn open_tablet<L: Disk, D, C: Clock>(
     alloc: Global,
@@ -72,8 +93,11 @@ pub fn open_tablet<L: Disk, D, C: Clock>(
 ) -> Result<Engine<L, D, C>, Closed<L, D, C>>
     requires openable { IsTrue L.tells → CanOpen L.now L.leaves log }
 
-    // What the log holds is what the engine goes on from.
-    ensures found { IfOk result (λ engine. (past : Past) × IsContent engine past × (IsTrue L.tells → opening_of (fill_of schema.now) (L.seen log) ≡ Ok (record { past = past; last = engine.tablet.core.opened }))) }
+    // What the log holds is what the engine goes on from, and it is a content of the log by any rules that take its records. Each content of the log,
+    // by any rules, is shown by its store.
+    ensures found { IfOk result (λ engine. (past : Past) × IsFound engine past × (IsTrue L.tells → opening_of (fill_of schema.now) (L.seen log) ≡ Ok (record { past = past; last = engine.tablet.core.opened }))
+        × ((rules : Rules) → RecordsPass rules (fill_of schema.now) engine.records → HoldsPast rules (fill_of schema.now) fresh engine.records engine.tablet.core.opened past)) }
+    ensures content { IfOk result (λ engine. (rules : Rules) (past : Past) → HoldsPast rules (fill_of schema.now) fresh engine.records engine.tablet.core.opened past → IsContent rules engine past) }
     ensures low { IfOk result (λ engine. engine.tablet.core.opened < 2 ^ 63) }
 
     // Nothing has happened yet.
@@ -86,10 +110,11 @@ pub fn open_tablet<L: Disk, D, C: Clock>(
     // Its records are those of the log. Its MemRowSet has the greatest number of one that a COMMIT of them names, and at least 1, so
     // whatever bounds the numbers that they name bounds it.
     ensures records { IfOk result (λ engine. IsTrue L.tells → log_of (L.seen log) ≡ Ok engine.records) }
-    ensures target { IfOk result (λ engine. engine.tablet.target ≡ Mem (mem_number engine.records)) }
+    ensures sound { IfOk result (λ engine. IsLog engine.records) }
+    ensures names { IfOk result (λ engine. engine.tablet.names ≡ Mem (mem_number engine.records) ∷ []) }
     ensures number { IfOk result (λ engine. (bound : ℕ) → 1 ≤ bound → ((n : ℕ) → Contains (all_numbers engine.records) n → n ≤ bound) → mem_number engine.records ≤ bound) }
 
-    // A COMMIT waits for the log for each write above 0 without one. So many cells are free beside those of the rows.
+    // A COMMIT waits for the log for each write without one. So many cells are free beside those of the rows.
     ensures owes { IfOk result (λ engine. (whole : Past) × LogHolds (fill_of schema.now) engine.records whole × (engine.log.queued ≡ owed (fill_of schema.now) (mem_number engine.records) engine.records whole engine.records)) }
     ensures room { IfOk result (λ engine. (length engine.tablet.pool.places ≡ cells + needs_of engine.records engine.records) × (engine.tablet.pool.reserved ≡ 0) × (cells ≤ free engine.tablet.pool)) }
 
@@ -132,9 +157,10 @@ pub fn open_tablet<L: Disk, D, C: Clock>(
         Ok(reopened) => reopened,
         Err(why) => return Err(given_up(why, journal, store, clock)),
     };
-    let tablet = match Tablet::of(alloc, mem, pool, clock, schema, cells, last, 0) {
+    let stores = stores_of(alloc, mem, pool);
+    let tablet = match Tablet::of(alloc, stores, clock, schema, cells, last, 0) {
         Ok(tablet) => tablet,
-        Err((_, _, clock)) => return Err(given_up(Why::Memory, journal, store, clock)),
+        Err((_, clock)) => return Err(given_up(Why::Memory, journal, store, clock)),
     };
     match Engine::of(alloc, tablet, journal, &records, queued, store, device) {
         Ok(engine) => Ok(engine),

@@ -5,8 +5,8 @@ use Rattle.kt_memrowset.specs.Stores.{store_of, number_of}
 use Rattle.kt_loglaws.specs.Replay.{gate_of}
 use Rattle.kt_boot.specs.Reopening.{needs_of}
 use Rattle.kt_boot.specs.Rebuilding.{owed_by}
-use Rattle.kt_boot.proofs.ReopenedLogs.{reopened, reopened_log, reopened_late, at_least_one, still, still_shows}
-use Rattle.kt_boot.proofs.Rooms.{none_used, no_place, still_free, still_vacant, still_owned}
+use Rattle.kt_boot.proofs.ReopenedLogs.{reopened, reopened_log, reopened_late, still, still_shows}
+use Rattle.kt_boot.proofs.Rooms.{none_used, no_place, still_free, still_vacant, still_had, still_owned}
 use Rattle.kt_boot.proofs.reopening.reopen.Goals as goal
 
 pub returns-in-Ok-clause-found : goal.returns-in-Ok-clause-found
@@ -15,7 +15,6 @@ returns-in-Ok-clause-found c =
     let number = number_of c.rebuild.new.mem in
     let same = still_shows c.rebuild.new.mem c.rebuild.new.pool c.release.new.self _ c.release.ensures c.in-Ok.ensures.stands.0 in
     reopened (fill_of c.args.schema.now) records c.requires (let le = c.if-last-ge-LAST_MOST.false in let e = c.last_of-last.ensures in omega arith) (store_of c.rebuild.new.mem c.release.new.self) c.last_of-last.result number c.in-Ok.queued c.last_of-last.ensures
-    (at_least_one records number (c.in-Ok.ensures.number ∙ c.new-mem.ensures.number ∙ c.mem_number.ensures))
     (c.in-Ok.ensures.store ∙ ap (λ (s : Store). Ok s) (sym same)) (c.in-Ok.ensures.owed ∙ ap (λ n. owed_by n records [] records) (sym c.in-Ok.ensures.number))
 
 pub returns-in-Ok-clause-stands : goal.returns-in-Ok-clause-stands
@@ -32,6 +31,10 @@ returns-in-Ok-clause-room c =
 pub returns-in-Ok-clause-vacant : goal.returns-in-Ok-clause-vacant
 returns-in-Ok-clause-vacant c =
     still_vacant c.in_ok-pool.pool c.rebuild.new.pool c.release.new.self _ (none_used _ c.in_ok-pool.pool c.in_ok-pool.ensures.bare) c.release.ensures c.rebuild.new.mem c.in-Ok.ensures.stands.0 c.in-Ok.ensures.vacant
+
+pub returns-in-Ok-clause-had : goal.returns-in-Ok-clause-had
+returns-in-Ok-clause-had c =
+    still_had c.in_ok-pool.pool c.rebuild.new.pool c.release.new.self _ (none_used _ c.in_ok-pool.pool c.in_ok-pool.ensures.bare) c.release.ensures c.new-mem.result c.rebuild.new.mem c.in-Ok.ensures.stands.0 (c.new-mem.ensures.none c.in_ok-pool.pool) c.in-Ok.ensures.more
 
 pub returns-in-Ok-clause-owned : goal.returns-in-Ok-clause-owned
 returns-in-Ok-clause-owned c =

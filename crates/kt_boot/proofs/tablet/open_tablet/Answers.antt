@@ -1,16 +1,55 @@
-use Rattle.std.proofs.Common.{Ok, sym, ap, ◌∙◌, subst}
+use Rattle.std.proofs.Common.{Ok, map, sym, ap, ◌∙◌, subst}
+use Rattle.kt_tablet.specs.Filling.{filled}
+use Rattle.kt_disk.specs.Disk.{LeavesOnly}
 use Rattle.kt_journal.specs.Log.{CanOpen}
+use Rattle.kt_schema.specs.Columns.{fill_of}
 use Rattle.kt_engine.specs.Engines.{KeepsOthers}
 use Rattle.kt_engine.proofs.Others.{opened_others}
+use Rattle.kt_boot.specs.Opening.{HasContentOf, opening_in}
+use Rattle.kt_boot.proofs.Contents.{contents_of_frames}
 use Rattle.kt_boot.proofs.Numbers.{number_up_to}
-use Rattle.kt_boot.proofs.Tablets.{still_owed, queued_names}
+use Rattle.kt_history.specs.Rows.{Row}
+use Rattle.kt_content.specs.Places.{fresh}
+use Rattle.kt_content.specs.Content.{IsContent as HoldsPast}
+use Rattle.kt_boot.proofs.Held.{content_shown, found_holds, found_shown}
+use Rattle.kt_boot.proofs.Tablets.{still_owed, queued_names, queued_due, queued_fly}
 use Rattle.kt_boot.proofs.tablet.open_tablet.Goals as goal
 
 pub of-requires-2-clause-durable : goal.of-requires-2-clause-durable
 of-requires-2-clause-durable g c = λ told image left. c.in-Ok.ensures.durable told image left ∙ ap Ok (sym (c.in-Ok.ensures.reads told))
 
+pub of-requires-2-clause-due : goal.of-requires-2-clause-due
+of-requires-2-clause-due g c =
+    queued_due _ _ _ _ _ _ _ c.in-Ok.ensures.sound c.in-Ok-reopen.ensures.found.1 _ _ _ _ _ (ap (λ w. w.fill) c.in-Ok-of.ensures.work) (c.in-Ok-of.ensures.names ∙ c.stores_of-stores.ensures.names) (c.in-Ok-of.ensures.found.2 ∙ ap (map (filled (fill_of c.args.schema.now))) c.stores_of-stores.ensures.stores) c.in-Ok-of.ensures.found.0 c.in-Ok-of.ensures.found.1
+
+pub of-requires-2-clause-untold : goal.of-requires-2-clause-untold
+of-requires-2-clause-untold g c = queued_fly _ _ _ _ _ _ _ c.in-Ok.ensures.sound c.in-Ok-reopen.ensures.found.1 _ c.in-Ok-of.ensures.rests
+
+pub returns-in-Ok-of-2-clause-found : goal.returns-in-Ok-of-2-clause-found
+returns-in-Ok-of-2-clause-found g c =
+    let view = c.in-Ok-of-2.ensures.view in
+    let tablet = ap (λ e. e.tablet) view in
+    let past = c.in-Ok-reopen.ensures.found.0 in
+    let is = c.in-Ok-reopen.ensures.found.1 in
+    let last = ap (λ t. t.core.opened) tablet ∙ c.in-Ok-of.ensures.found.1 in (
+      past,
+      found_shown _ _ _ _ _ _ _ is _ _ _ (ap (λ t. t.opening) tablet ∙ c.in-Ok-of.ensures.found.2 ∙ ap (map (filled (fill_of c.args.schema.now))) c.stores_of-stores.ensures.stores) (ap (λ t. t.mark) tablet ∙ c.in-Ok-of.ensures.found.0) last,
+      (λ told. ap (opening_in (fill_of c.args.schema.now)) (c.in-Ok.ensures.records told) ∙ is.found ∙ ap (λ n. Ok (record { past = past; last = n })) (sym last)),
+      λ rules takes. found_holds rules _ _ _ _ _ _ _ c.in-Ok.ensures.sound is _ _ last (ap (λ e. e.records) view) takes,
+    )
+
+pub returns-in-Ok-of-2-clause-content : goal.returns-in-Ok-of-2-clause-content
+returns-in-Ok-of-2-clause-content g c = λ rules past holds.
+    let view = c.in-Ok-of-2.ensures.view in
+    let records = ap (λ e. e.records) view in
+    let tablet = ap (λ e. e.tablet) view in
+    record {
+      opens = content_shown rules _ _ _ _ _ _ _ c.in-Ok.ensures.sound c.in-Ok-reopen.ensures.found.1 _ _ _ _ _ (ap (λ t. t.core.work.fill) tablet ∙ ap (λ w. w.fill) c.in-Ok-of.ensures.work) (ap (λ t. t.opening) tablet ∙ c.in-Ok-of.ensures.found.2 ∙ ap (map (filled (fill_of c.args.schema.now))) c.stores_of-stores.ensures.stores) (ap (λ t. t.mark) tablet ∙ c.in-Ok-of.ensures.found.0) (ap (λ t. t.core.opened) tablet ∙ c.in-Ok-of.ensures.found.1) records past holds;
+      holds = subst (λ (f : Row). HoldsPast rules f fresh c.in-Ok-of-2.engine.records c.in-Ok-of-2.engine.tablet.core.opened past) (sym (ap (λ t. t.core.work.fill) tablet ∙ ap (λ w. w.fill) c.in-Ok-of.ensures.work)) holds;
+    }
+
 pub of-requires-2-clause-names : goal.of-requires-2-clause-names
-of-requires-2-clause-names g c = queued_names _ _ _ _ _ _ c.in-Ok-reopen.ensures.found.0 _ c.in-Ok-reopen.ensures.found.1 c.in-Ok-of.ensures.target
+of-requires-2-clause-names g c = queued_names _ _ _ _ _ _ c.in-Ok-reopen.ensures.found.0 _ c.in-Ok-reopen.ensures.found.1 (c.in-Ok-of.ensures.names ∙ c.stores_of-stores.ensures.names)
 
 pub of-requires-2-clause-others : goal.of-requires-2-clause-others
 of-requires-2-clause-others g c = λ told. subst (λ d. KeepsOthers g.L.Disk.now g.L.Disk.leaves d c.in-Ok.opened.0.disk) (sym c.of-device.ensures) (opened_others g.L.Disk.now g.L.Disk.leaves c.args.log c.in-Ok.opened.0.disk (c.in-Ok.ensures.frames told))
@@ -29,3 +68,8 @@ returns-in-Ok-of-2-clause-owes g c =
 
 pub returns-in-Ok-of-2-clause-number : goal.returns-in-Ok-of-2-clause-number
 returns-in-Ok-of-2-clause-number g c = λ bound up each. number_up_to bound c.in-Ok-of-2.engine.records up each
+
+pub returns-clause-any_moment : goal.returns-clause-any_moment
+returns-clause-any_moment g c = λ told.
+    subst (λ d. LeavesOnly g.L.Disk.now g.L.Disk.leaves (HasContentOf g.L.Disk.now g.L.Disk.leaves (fill_of c.args.schema.now) c.args.log) c.args.log d) (sym (c.given_up-in-Err-of-2.ensures.log ∙ ap (λ j. j.disk) c.in-Err-of-2.ensures.back.1))
+    (contents_of_frames g.L.Disk.now g.L.Disk.leaves (fill_of c.args.schema.now) c.args.log c.in-Ok.opened.0.disk (c.in-Ok.ensures.frames told))
