@@ -19,8 +19,8 @@ use Rattle.kt_tablet.specs.Visits.{MayBegin, HasBegun, Leaves, IsRefused}
 use Rattle.kt_tablet.specs.declared.tablet.write.BeginNo.{BeginNo}
 use Rattle.kt_tablet.specs.declared.tablet.write.BeginNo.TheVariants as no
 use Rattle.kt_seatlock.specs.Trails.{Follows}
-use Rattle.kt_engine.specs.Engines.{EngineView, IsContent, TellsStop, core_from}
-use Rattle.kt_engine.specs.Logged.{IsShort}
+use Rattle.kt_engine.specs.Engines.{EngineView, IsFound, TellsStop, core_from}
+use Rattle.kt_tablet.specs.Plans.{IsShort}
 use Rattle.kt_engine.proofs.Visiting.{root_stays}
 use Rattle.kt_engine.specs.Visits.{Root, root_of, PartView, part_in, session_of, out_of, IsVisit}
 use Rattle.kt_serve.specs.Sessions.{Found, HasRoot, SameRoot, OnRoot, IsFree, IsAloft, HasNoLog, IsCommand, IsWrite, IsQuiet, AnswersOne, has_stop, AfterBegin}
@@ -45,8 +45,8 @@ module _ {L D C : Type 0} where
   pub same_root : (old new : Option (PartView L D C)) (x y : EngineView L D C) (m n n' : ℕ) → old ≡ Some (part_in x n) → new ≡ Some (part_in y n') → IsVisit m x y → SameRoot old new
   same_root old new x y m n n' was is keeps root h = record { part = part_in y n'; is = is; root_is = root_stays m x y keeps ∙ root_at root old x n h was }
 
-  pub content_of : (x : EngineView L D C) (first : Past) → Found (root_of x) first → IsContent x first
-  content_of x first f = record { opens = f.opens; recalls = f.recalls }
+  pub content_of : (x : EngineView L D C) (first : Past) → Found (root_of x) first → IsFound x first
+  content_of x first f = f.opens
 
   -- ---- the session's own
 
@@ -64,20 +64,14 @@ module _ {L D C : Type 0} where
 
   -- a write may begin
   pub may_begin : (told : Option (PartView L D C)) (x : EngineView L D C) (n by i : ℕ) (w : Write) → told ≡ Some (part_in x n) → by ≡ n → IsFree told i → IsCommand told n i (command.Write w) → IsWrite i w.ops
-      → MayBegin x.tablet.core by i w.ops × IsShort w.ops
-  may_begin told x n by i w is me f its ok = (
-    record {
-      at = record {
-        next = ap (nth x.tablet.core.turns) me ∙ free_turn told i x n f is;
-        rests = none_flies by x.tablet.core.aloft (ap (λ k. filter (λ v. v.s == k) x.tablet.core.aloft) me ∙ free_calm told i x n f is);
-      };
-      write = subst (λ c. IfWrite c (λ written. written ≡ w.ops)) (sym (its (root_of x) (has_root told x n is)) ∙ ap (λ k. command_at x.tablet.core.work k i) (sym me)) refl;
-      count = ok.count;
-      each = ok.each;
-      few = ok.few;
-    },
-    ok.short,
-  )
+      → MayBegin x.tablet.core by i w.ops
+  may_begin told x n by i w is me f its ok = record {
+    at = record {
+      next = ap (nth x.tablet.core.turns) me ∙ free_turn told i x n f is;
+      rests = none_flies by x.tablet.core.aloft (ap (λ k. filter (λ v. v.s == k) x.tablet.core.aloft) me ∙ free_calm told i x n f is);
+    };
+    write = subst (λ c. IfWrite c (λ written. written ≡ w.ops)) (sym (its (root_of x) (has_root told x n is)) ∙ ap (λ k. command_at x.tablet.core.work k i) (sym me)) refl;
+  }
 
   -- what stays of a free session
   stays_free : (told told' : Option (PartView L D C)) (x y : EngineView L D C) (n i : ℕ) → told ≡ Some (part_in x n) → told' ≡ Some (part_in y n) → IsFree told i
@@ -117,7 +111,7 @@ module _ {L D C : Type 0} where
   pub line_answers : (told told' : Option (PartView L D C)) (seen seen' : List Event) (x y : EngineView L D C) (n i : ℕ) (e : Event) (r : Reply) → told ≡ Some (part_in x n) → told' ≡ Some (part_in y n) → Follows session_of n seen x.tablet.core.trail → seen' ≡ y.tablet.core.trail
       → filter (λ w. w.s == n) y.tablet.core.aloft ≡ [] → nth x.tablet.core.turns n ≢ None → out_of y.log.holder y.log.out n ≡ None
       → y.tablet.core.turns ≡ set_nth x.tablet.core.turns n (record { next = i + 1; look = None }) → y.tablet.core.trail ≡ x.tablet.core.trail ++ e ∷ []
-      → ((k : ℕ) → answers n k e ≡ (k == i)) → ((first : Past) → IsContent x first → reply_of x.tablet.core.work (run_past (core_from x first)) e ≡ Some r)
+      → ((k : ℕ) → answers n k e ≡ (k == i)) → ((first : Past) → IsFound x first → reply_of x.tablet.core.work (run_past (core_from x first)) e ≡ Some r)
       → IsFree told' (i + 1) × OnRoot told (λ root. AnswersOne root n i r seen seen')
   line_answers told told' seen seen' x y n i e r was is follows sees calm some home turns line mine replies = (
     record {
@@ -135,7 +129,7 @@ module _ {L D C : Type 0} where
   -- the same of a session of which no write flies
   pub free_answers : (told told' : Option (PartView L D C)) (seen seen' : List Event) (x y : EngineView L D C) (n i : ℕ) (e : Event) (r : Reply) (core : Core) → told ≡ Some (part_in x n) → told' ≡ Some (part_in y n) → IsFree told i → Follows session_of n seen x.tablet.core.trail → seen' ≡ y.tablet.core.trail
       → y.tablet.core ≡ core → core.aloft ≡ x.tablet.core.aloft → core.turns ≡ set_nth x.tablet.core.turns n (record { next = i + 1; look = None }) → core.trail ≡ x.tablet.core.trail ++ e ∷ []
-      → y.log.holder ≡ x.log.holder → y.log.out ≡ x.log.out → ((k : ℕ) → answers n k e ≡ (k == i)) → ((first : Past) → IsContent x first → reply_of x.tablet.core.work (run_past (core_from x first)) e ≡ Some r)
+      → y.log.holder ≡ x.log.holder → y.log.out ≡ x.log.out → ((k : ℕ) → answers n k e ≡ (k == i)) → ((first : Past) → IsFound x first → reply_of x.tablet.core.work (run_past (core_from x first)) e ≡ Some r)
       → IsFree told' (i + 1) × OnRoot told (λ root. AnswersOne root n i r seen seen')
   free_answers told told' seen seen' x y n i e r core was is f follows sees is_core aloft turns line holds out mine replies =
       line_answers told told' seen seen' x y n i e r was is follows sees (ap (λ (c : Core). filter (λ w. w.s == n) c.aloft) is_core ∙ ap (filter (λ w. w.s == n)) aloft ∙ free_calm told i x n f was)
@@ -147,19 +141,19 @@ module _ {L D C : Type 0} where
       → TellsStop x.tablet.core
       → IfOk r (λ ts. HasBegun x.tablet.core y.tablet.core by i ops ts)
       → IfOk r (λ ts. y.log ≡ record x.log { queued = x.log.queued ++ Replicate ts ops ∷ []; room = y.log.room })
-      → IfErr r (Leaves x.tablet y.tablet by i) → IfErr r (IsRefused x.tablet ops) → OnErr r ((y.places ≡ x.places) × (y.log ≡ record x.log { room = y.log.room }))
+      → IfErr r (Leaves x.tablet y.tablet by i) → IfErr r (IsRefused x.tablet ops) → OnErr r (y.log ≡ record x.log { room = y.log.room })
       → AfterBegin told told' seen seen' n i ops r
   begun_after told told' seen seen' x y n n' by i ops (Ok ts) was is same me f follows sees stops begun queued left refused waits =
       begun_aloft told told' seen seen' x y n i ts ops was (is ∙ ap (λ k. Some (part_in y k)) same) f follows sees (subst (λ k. HasBegun x.tablet.core y.tablet.core k i ops ts) me begun) (ap (λ l. l.holder) queued) (ap (λ l. l.out) queued)
   begun_after told told' seen seen' x y n n' by i ops (Err no.Stopped) was is same me f follows sees stops begun queued left refused waits =
-      let s = stays told told' seen seen' x y n i was (is ∙ ap (λ k. Some (part_in y k)) same) f follows sees (ap (λ t. t.core) left) (ap (λ l. l.holder) waits.1) (ap (λ l. l.out) waits.1) in
+      let s = stays told told' seen seen' x y n i was (is ∙ ap (λ k. Some (part_in y k)) same) f follows sees (ap (λ t. t.core) left) (ap (λ l. l.holder) waits) (ap (λ l. l.out) waits) in
       (s.0, s.1, ap has_stop (sees ∙ ap (λ t. t.core.trail) left) ∙ stop_seen x stops refused)
   begun_after told told' seen seen' x y n n' by i ops (Err (no.Large m)) was is same me f follows sees stops begun queued left refused waits =
-      free_answers told told' seen seen' x y n i (event.Large n i m) (reply.Large m) (answered x.tablet.core n i (event.Large n i m)) was (is ∙ ap (λ k. Some (part_in y k)) same) f follows sees (left ∙ ap (λ k. answered x.tablet.core k i (event.Large k i m)) me) refl refl refl (ap (λ l. l.holder) waits.1) (ap (λ l. l.out) waits.1)
+      free_answers told told' seen seen' x y n i (event.Large n i m) (reply.Large m) (answered x.tablet.core n i (event.Large n i m)) was (is ∙ ap (λ k. Some (part_in y k)) same) f follows sees (left ∙ ap (λ k. answered x.tablet.core k i (event.Large k i m)) me) refl refl refl (ap (λ l. l.holder) waits) (ap (λ l. l.out) waits)
       (λ k. is_mine n k i) (λ first content. refl)
   begun_after told told' seen seen' x y n n' by i ops (Err (no.Wait ts)) was is same me f follows sees stops begun queued left refused waits =
-      stays told told' seen seen' x y n i was (is ∙ ap (λ k. Some (part_in y k)) same) f follows sees (ap (λ t. t.core) left) (ap (λ l. l.holder) waits.1) (ap (λ l. l.out) waits.1)
+      stays told told' seen seen' x y n i was (is ∙ ap (λ k. Some (part_in y k)) same) f follows sees (ap (λ t. t.core) left) (ap (λ l. l.holder) waits) (ap (λ l. l.out) waits)
   begun_after told told' seen seen' x y n n' by i ops (Err (no.Room m b)) was is same me f follows sees stops begun queued left refused waits =
-      stays told told' seen seen' x y n i was (is ∙ ap (λ k. Some (part_in y k)) same) f follows sees (ap (λ t. t.core) left) (ap (λ l. l.holder) waits.1) (ap (λ l. l.out) waits.1)
+      stays told told' seen seen' x y n i was (is ∙ ap (λ k. Some (part_in y k)) same) f follows sees (ap (λ t. t.core) left) (ap (λ l. l.holder) waits) (ap (λ l. l.out) waits)
   begun_after told told' seen seen' x y n n' by i ops (Err no.Memory) was is same me f follows sees stops begun queued left refused waits =
-      stays told told' seen seen' x y n i was (is ∙ ap (λ k. Some (part_in y k)) same) f follows sees (ap (λ t. t.core) left) (ap (λ l. l.holder) waits.1) (ap (λ l. l.out) waits.1)
+      stays told told' seen seen' x y n i was (is ∙ ap (λ k. Some (part_in y k)) same) f follows sees (ap (λ t. t.core) left) (ap (λ l. l.holder) waits) (ap (λ l. l.out) waits)

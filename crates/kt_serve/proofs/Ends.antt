@@ -19,7 +19,7 @@ use Rattle.kt_histlaws.specs.Events.{ended}
 use Rattle.kt_histlaws.specs.Pending.{Aloft}
 use Rattle.kt_tablet.specs.Visits.{MayEnd, HasEnded, IsDone, flight_of}
 use Rattle.kt_seatlock.specs.Trails.{Follows}
-use Rattle.kt_engine.specs.Engines.{EngineView, IsContent, TellsStop, core_from}
+use Rattle.kt_engine.specs.Engines.{EngineView, IsFound, TellsStop, core_from}
 use Rattle.kt_engine.specs.Sessions.{runs}
 use Rattle.kt_engine.proofs.Sessions.{runs_none}
 use Rattle.kt_engine.specs.Visits.{PartView, part_in, session_of, out_of, root_of, IsVisit}
@@ -47,7 +47,6 @@ module _ {L D C : Type 0} where
     flies = found_flight n x.tablet.core.aloft _ [] (own_flight told x n i ts (length ops) ops is a);
     turn = own_turn told x n i ts (length ops) ops is a;
     over = is_over n x.tablet.core.aloft (flown n i ts ops (length ops)) (own_flight told x n i ts (length ops) ops is a) (drop-length ops);
-    few = few;
   })
 
   -- the flight that is found is the session's
@@ -57,7 +56,7 @@ module _ {L D C : Type 0} where
   pub ended_answers : (told told' : Option (PartView L D C)) (seen seen' : List Event) (x y : EngineView L D C) (n n' by i ts : ℕ) (w : Write) (done : ℕ) (outcomes : List Outcome)
       → told ≡ Some (part_in x n) → told' ≡ Some (part_in y n') → n' ≡ n → by ≡ n → Follows session_of n seen x.tablet.core.trail → seen' ≡ y.tablet.core.trail
       → IsAloft told n i ts w.ops (length w.ops) → HasNoLog told → IsCommand told n i (command.Write w) → (index : ℕ) × HasEnded x.tablet.core y.tablet.core by index done
-      → ((first : Past) → IsContent x first → (rows : List CommitRow) × IsDone (core_from x first) x.tablet.target by outcomes rows) → y.log.holder ≡ x.log.holder → y.log.out ≡ x.log.out
+      → ((first : Past) → IsFound x first → (rows : List CommitRow) × IsDone (core_from x first) x.tablet.names by outcomes rows) → y.log.holder ≡ x.log.holder → y.log.out ≡ x.log.out
       → IsFree told' (i + 1) × OnRoot told (λ root. AnswersOne root n i (reply.At done outcomes) seen seen')
   ended_answers told told' seen seen' x y n n' by i ts w done outcomes was is same me follows sees a home its (index, h') done_so holds out =
       let h = subst (λ k. HasEnded x.tablet.core y.tablet.core k index done) me h' in
@@ -71,7 +70,7 @@ module _ {L D C : Type 0} where
       ((λ t. out_of (holds t) (out t) n) ∙ own_home told x n was home)
       (ap (λ (c : Core). c.turns) core) (ap (λ (c : Core). c.trail) core) (λ k. is_mine n k i)
       (λ first content.
-      let d = subst (λ k. IsDone (core_from x first) x.tablet.target k outcomes (done_so first content).0) me (done_so first content).1 in
+      let d = subst (λ k. IsDone (core_from x first) x.tablet.names k outcomes (done_so first content).0) me (done_so first content).1 in
       let found = flight_is told x n i ts w.ops d.flight was a d.flies in
       let ops_are : ops_of (command_at x.tablet.core.work n i) ≡ w.ops = ap ops_of (its (root_of x) (has_root told x n was)) in
       ap (λ ops. Some (reply.At done (outcomes_on x.tablet.core.work.fill (rows_at (run_past (core_from x first)) (done - 1)) ops))) ops_are

@@ -12,7 +12,8 @@ use Rattle.kt_histlaws.specs.Histories.{on_nth}
 use Rattle.kt_histlaws.specs.Parts.{IsOfAnother}
 use Rattle.kt_history.specs.declared.operation.RowOp.{RowOp}
 use Rattle.kt_tablet.specs.Visits.{flight_of}
-use Rattle.kt_engine.specs.Logged.{place_of, IsPlaced}
+use Rattle.kt_tablet.specs.Views.{place_at}
+use Rattle.kt_engine.specs.Logged.{IsPlaced}
 
 -- where none is found, none flies
 pub none_flies : (s : ℕ) (aloft : List Aloft) → filter (λ w. w.s == s) aloft ≡ [] → list_any (λ w. w.s == s) (map flown_by aloft) ≡ false
@@ -53,13 +54,13 @@ nth_set_nth xs zero x y h = cc
 nth_set_nth xs (suc k) x y h = get_set xs k x y h
 
 -- a flying write has its place
-pub place_there : (s : ℕ) (places : List (ℕ × ℕ)) (aloft : List Aloft) (w : Aloft) (rest : List Aloft) → map (λ p. p.0) places ≡ map (λ v. v.s) aloft → filter (λ v. v.s == s) aloft ≡ w ∷ rest → (place : ℕ) × (place_of s places ≡ Some place)
+pub place_there : (s : ℕ) (places : List (ℕ × ℕ)) (aloft : List Aloft) (w : Aloft) (rest : List Aloft) → map (λ p. p.0) places ≡ map (λ v. v.s) aloft → filter (λ v. v.s == s) aloft ≡ w ∷ rest → (place : ℕ) × (place_at s places ≡ Some place)
 place_there s places [] w rest e h = absurd (cc)
 place_there s [] (v ∷ aloft) w rest e h = absurd (cc)
 place_there s (p ∷ places) (v ∷ aloft) w rest e h =
     let one : p.0 ≡ v.s = cc in
     let others : map (λ p. p.0) places ≡ map (λ v. v.s) aloft = cc in
-    elim (p.0 == s) as (λ b. p.0 == s ≡ b → (place : ℕ) × (cond b (Some p.1) (place_of s places) ≡ Some place)) [
+    elim (p.0 == s) as (λ b. p.0 == s ≡ b → (place : ℕ) × (cond b (Some p.1) (place_at s places) ≡ Some place)) [
       | true ↦ λ is. (p.1, refl)
       | false ↦ λ is. place_there s places aloft w rest others (subst (λ b. cond b (v ∷ filter (λ x. x.s == s) aloft) (filter (λ x. x.s == s) aloft) ≡ w ∷ rest) (ap (λ k. k == s) (sym one) ∙ is) h)
     ] refl
@@ -74,10 +75,10 @@ own_of P s (v ∷ aloft) w rest all h =
     ] refl h
 
 -- its REPLICATE is placed among the records that there are
-pub placed_within : (many s place : ℕ) (places : List (ℕ × ℕ)) (aloft : List Aloft) (w : Aloft) (rest : List Aloft) → All (IsPlaced many places) aloft → filter (λ v. v.s == s) aloft ≡ w ∷ rest → place_of s places ≡ Some place → place ≤ many
+pub placed_within : (many s place : ℕ) (places : List (ℕ × ℕ)) (aloft : List Aloft) (w : Aloft) (rest : List Aloft) → All (IsPlaced many places) aloft → filter (λ v. v.s == s) aloft ≡ w ∷ rest → place_at s places ≡ Some place → place ≤ many
 placed_within many s place places aloft w rest all h at =
     let own = own_of (IsPlaced many places) s aloft w rest (recursion_from_All (IsPlaced many places) aloft all) h in
-    let both : Some own.0.place ≡ Some place = sym own.0.at ∙ ap (λ k. place_of k places) own.1 ∙ at in
+    let both : Some own.0.place ≡ Some place = sym own.0.at ∙ ap (λ k. place_at k places) own.1 ∙ at in
     let same : own.0.place ≡ place = cc in
     subst (λ k. k ≤ many) same own.0.among
 

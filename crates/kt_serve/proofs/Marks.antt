@@ -25,7 +25,6 @@ module _ {L D C : Type 0} where
       rests = none_flies by x.tablet.core.aloft (ap (λ k. filter (λ v. v.s == k) x.tablet.core.aloft) me ∙ free_calm told i x n f is);
     };
     command = subst (λ c. IfMark c (λ t. t ≡ to)) (sym (its (root_of x) (has_root told x n is)) ∙ ap (λ k. command_at x.tablet.core.work k i) (sym me)) refl;
-    few = few;
   }
 
   pub after_mark : (told told' : Option (PartView L D C)) (seen seen' : List Event) (x y : EngineView L D C) (n n' by i to a : ℕ) → told ≡ Some (part_in x n) → told' ≡ Some (part_in y n') → n' ≡ n → by ≡ n → IsFree told i → Follows session_of n seen x.tablet.core.trail → seen' ≡ y.tablet.core.trail

@@ -32,7 +32,7 @@ use Rattle.kt_tablet.specs.declared.tablet.LookNo.TheVariants as look
 use Rattle.kt_tablet.specs.declared.tablet.scan.SnapNo.{SnapNo}
 use Rattle.kt_tablet.specs.declared.tablet.scan.SnapNo.TheVariants as no
 use Rattle.kt_seatlock.specs.Trails.{Follows}
-use Rattle.kt_engine.specs.Engines.{EngineView, IsContent, TellsStop, core_from}
+use Rattle.kt_engine.specs.Engines.{EngineView, IsFound, TellsStop, core_from}
 use Rattle.kt_engine.specs.Visits.{Root, root_of, PartView, part_in, session_of, out_of}
 use Rattle.kt_serve.specs.Sessions.{told_by, SameRoot, OnRoot, IsFree, HasNoLog, IsCommand, IsQuiet, AnswersOne, IsGoing, TellsOwn, has_stop}
 use Rattle.kt_serve.specs.Scans.{IsOn, ScansAt, IsLooking, AfterLook, past_by, snap_row, ShowsRows, AnswersRows, HasSnapped, turn_of_read, AfterRead, IsQuietBut, LacksReply, TellsBut}
@@ -159,7 +159,6 @@ module _ {L D C : Type 0} where
     drawn = f.drawn;
     rests = none_flies by x.tablet.core.aloft (ap (λ k. filter (λ v. v.s == k) x.tablet.core.aloft) me ∙ look_calm told i at x n f is);
     scan = subst (λ k. IfScan (command_at x.tablet.core.work k i) (λ w. w ≡ at)) (sym me) (its (root_of x) (has_root told x n is));
-    few = few;
   }
 
   -- the log is where it was
@@ -184,7 +183,7 @@ module _ {L D C : Type 0} where
 
   -- a scan that is answered otherwise than by rows
   refused_after : (told told' : Option (PartView L D C)) (seen seen' : List Event) (x y : EngineView L D C) (n i : ℕ) (at : At) (e : Event) (r : Reply) → told ≡ Some (part_in x n) → told' ≡ Some (part_in y n) → IsLooking told i at → Follows session_of n seen x.tablet.core.trail → seen' ≡ y.tablet.core.trail
-      → y.tablet.core ≡ answered x.tablet.core n i e → y.log ≡ x.log → ((k : ℕ) → answers n k e ≡ (k == i)) → ((first : Past) → IsContent x first → reply_of x.tablet.core.work (run_past (core_from x first)) e ≡ Some r)
+      → y.tablet.core ≡ answered x.tablet.core n i e → y.log ≡ x.log → ((k : ℕ) → answers n k e ≡ (k == i)) → ((first : Past) → IsFound x first → reply_of x.tablet.core.work (run_past (core_from x first)) e ≡ Some r)
       → IsFree told' (i + 1) × OnRoot told (λ root. AnswersOne root n i r seen seen')
   refused_after told told' seen seen' x y n i at e r was is f follows sees core log mine replies =
       line_answers told told' seen seen' x y n i e r was is follows sees (ap (λ (c : Core). filter (λ w. w.s == n) c.aloft) core ∙ look_calm told i at x n f was) (look_some told i at x n f was)
@@ -192,15 +191,15 @@ module _ {L D C : Type 0} where
 
   -- a snapshot shows the rows of the run
   shows_run : (x : EngineView L D C) (snap : Snap) (s i : ℕ) (seen' : List Event) (readings : C → Option (List ℕ)) → IsSound readings x.tablet → seen' ≡ x.tablet.core.trail ++ event.Rows s i snap.t ∷ [] → snap.mark ≤ snap.t
-      → ((first : Past) → IsContent x first → ShowsRun (core_from x first) snap) → ShowsRows (root_of x) snap seen'
+      → ((first : Past) → IsFound x first → ShowsRun (core_from x first) snap) → ShowsRows (root_of x) snap seen'
   shows_run x snap s i seen' readings sound line since shows first found =
       let content = content_of x first found in
       subst (λ p. AreRowsOf (snap_row snap) (rows_at p snap.t)) (sym (past_more (root_of x) first s i snap.t x.tablet.core.trail seen' line))
-      (rows_of_run (λ v k t. view_row k t v) (core_from x first) snap.t snap.views (sound.stands first content.opens) (λ key. (shows first content).rows snap.t key since (omega arith)))
+      (rows_of_run (λ v k t. view_row k t v) (core_from x first) snap.t snap.views (sound.stands first content) (λ key. (shows first content).rows snap.t key since (omega arith)))
 
   -- a scan that is answered by rows
   read_after : (told told' : Option (PartView L D C)) (seen seen' : List Event) (x y : EngineView L D C) (n i : ℕ) (at : At) (readings : C → Option (List ℕ)) (snap : Snap) → told ≡ Some (part_in x n) → told' ≡ Some (part_in y n) → IsLooking told i at → Follows session_of n seen x.tablet.core.trail → seen' ≡ y.tablet.core.trail
-      → IsSound readings x.tablet → HasRead x.tablet.core y.tablet.core n i at snap.t → snap.mark ≡ x.tablet.core.a → IsCopied snap → ((first : Past) → IsContent x first → ShowsRun (core_from x first) snap) → y.log ≡ x.log
+      → IsSound readings x.tablet → HasRead x.tablet.core y.tablet.core n i at snap.t → snap.mark ≡ x.tablet.core.a → IsCopied snap → ((first : Past) → IsFound x first → ShowsRun (core_from x first) snap) → y.log ≡ x.log
       → IsFree told' (i + 1) × HasSnapped told seen seen' n i snap
   read_after told told' seen seen' x y n i at readings snap was is f follows sees sound read mark copied shows log =
       let since : snap.mark ≤ snap.t = subst (λ m. m ≤ snap.t) (sym mark) read.since in
@@ -224,7 +223,7 @@ module _ {L D C : Type 0} where
   pub after_read : (told told' : Option (PartView L D C)) (seen seen' : List Event) (x y : EngineView L D C) (n n' by i : ℕ) (at : At) (readings : C → Option (List ℕ)) (r : Result Snap SnapNo)
       → told ≡ Some (part_in x n) → told' ≡ Some (part_in y n') → n' ≡ n → by ≡ n → IsLooking told i at → Follows session_of n seen x.tablet.core.trail → seen' ≡ y.tablet.core.trail
       → TellsStop x.tablet.core → IsSound readings x.tablet
-      → IfOk r (λ snap. HasRead x.tablet.core y.tablet.core by i at snap.t) → IfOk r (λ snap. snap.mark ≡ x.tablet.core.a) → IfOk r IsCopied → IfOk r (λ snap. (first : Past) → IsContent x first → ShowsRun (core_from x first) snap)
+      → IfOk r (λ snap. HasRead x.tablet.core y.tablet.core by i at snap.t) → IfOk r (λ snap. snap.mark ≡ x.tablet.core.a) → IfOk r IsCopied → IfOk r (λ snap. (first : Past) → IsFound x first → ShowsRun (core_from x first) snap)
       → y.log ≡ x.log → IfErr r (IsNoRead x.tablet.core by at) → IfErr r (LeavesRead x.tablet y.tablet by i)
       → AfterRead told told' seen seen' n i at (turn_of_read r)
   after_read told told' seen seen' x y n n' by i at readings (Ok snap) was is same me f follows sees stops sound read mark copied shows log refused left =

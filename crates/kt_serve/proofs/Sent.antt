@@ -23,36 +23,39 @@ use Rattle.kt_engine.specs.contracts.engine.Engine as Engine
 use Rattle.kt_engine.specs.contracts.engine.Engine.TheInside as Within
 use Rattle.kt_engine.proofs.running.Running.TheSendSync as running
 use Rattle.kt_memrowset.proofs.store.MemRowSet.TheSendSync as rows
+use Rattle.kt_stores.specs.contracts.stores.Stores as Stores
+use Rattle.kt_stores.specs.contracts.stores.Stores.TheInside as Shelf
 use Rattle.kt_seatlock.proofs.lock.SeatLock.TheSendSync as lock
 use Rattle.kt_history.specs.contracts.event.Event as Event
 use Rattle.kt_engine.specs.contracts.shared.Part as Part
 use Rattle.kt_serve.specs.contracts.tablet.SharedTablet as SharedTablet
 use Rattle.kt_memrowset.specs.contracts.row_store.MemRowSetRowStore.TheImpl.{ghosts}
 
+module _ (R : RattleType) (g : RowStore.Ghosts R.Denot) where
+  pub stores_send : IsSend R → IsSend (Stores.the_row R g)
+  stores_send r = view_send (Shelf.the_row R g) _ _ _ _ (recorded_send (Shelf.the_field R g).row _ _ (Shelf.the_type R g).to_one (struct_send (shape (Shelf.the_type R g)) (search (sendable, crosses) depth 20, (search (sendable, crosses, rows.the_send) depth 20, (search (sendable, crosses, rows.the_send) depth 20, (Vec-send _ r, tt))))))
+
 module _ (S C : RattleType) (g : RowStore.Ghosts S.Denot) (h : Clock.Ghosts C.Denot) where
   pub tablet_send : IsSend S → IsSend C → IsSend (Tablet.the_row S C g h)
   tablet_send s c = view_send (Inside.the_row S C g h) _ _ _ _ (recorded_send (Inside.the_field S C g h).row _ _ (Inside.the_type S C g h).to_one (struct_send (shape (Inside.the_type S C g h)) (
-    s,
+    stores_send S g s,
     (
-      search (sendable, crosses) depth 20,
+      c,
       (
-        c,
+        flight.the_send,
         (
-          flight.the_send,
+          Vec-send _ flying.the_send,
           (
-            Vec-send _ flying.the_send,
+            search (sendable, crosses) depth 20,
             (
               search (sendable, crosses) depth 20,
               (
-                search (sendable, crosses) depth 20,
+                plain_send _ _ _ _ _,
                 (
                   plain_send _ _ _ _ _,
                   (
-                    plain_send _ _ _ _ _,
-                    (
-                      cells.the_send,
-                      (search (sendable, crosses), (search (sendable, crosses), (search (sendable, crosses), (search (sendable, crosses), (search (sendable, crosses), (plain_send _ _ _ _ _, (plain_send _ _ _ _ _, tt))))))),
-                    ),
+                    cells.the_send,
+                    (search (sendable, crosses), (search (sendable, crosses), (search (sendable, crosses), (search (sendable, crosses), (plain_send _ _ _ _ _, (plain_send _ _ _ _ _, tt)))))),
                   ),
                 ),
               ),
@@ -71,7 +74,7 @@ module _ (L : RattleType) (g : Disk.Ghosts L.Denot) where
 module _ (L D C : RattleType) (g : Disk.Ghosts L.Denot) (h : Clock.Ghosts C.Denot) where
   pub engine_send : IsSend L → IsSend D → IsSend C → IsSend (Engine.the_row L D C g h)
   engine_send l d c = view_send (Within.the_row L D C g h) _ _ _ _ (recorded_send (Within.the_field L D C g h).row _ _ (Within.the_type L D C g h).to_one (struct_send (shape (Within.the_type L D C g h))
-      (Box-send _ (tablet_send _ C ghosts h rows.the_send c), (Box-send _ (side_send L g l), (d, (search (sendable, crosses) depth 20, (running.the_send, (search (sendable, crosses), (search (sendable, crosses), tt)))))))))
+      (Box-send _ (tablet_send _ C ghosts h rows.the_send c), (Box-send _ (side_send L g l), (d, (running.the_send, (search (sendable, crosses), (search (sendable, crosses), tt))))))))
 
   pub shared_sync : IsSend L → IsSend D → IsSend C → IsSync (SharedTablet.the_row L D C g h)
   shared_sync l d c = recorded_sync (SharedTablet.the_field L D C g h).row _ _ (SharedTablet.the_type L D C g h).to_one (struct_sync (shape (SharedTablet.the_type L D C g h)) (lock.the_field_sync (Engine.the_row L D C g h) Event.the_row (Part.the_row L D C g h) _ (engine_send l d c), tt))

@@ -25,15 +25,14 @@ use Rattle.kt_engine.specs.Engines.{EngineView}
 use Rattle.kt_tablet.specs.Views.{Opens}
 use Rattle.kt_tablet.specs.declared.tablet.write.BeginNo.{BeginNo}
 use Rattle.kt_tablet.specs.declared.tablet.write.BeginNo.TheVariants as no
-use Rattle.kt_engine.specs.Logged.{Recalls, IsShort}
+use Rattle.kt_tablet.specs.Plans.{IsShort}
 use Rattle.kt_engine.specs.Visits.{Root, PartView}
 use Rattle.kt_serve.specs.declared.log.LogTurn.{LogTurn}
 use Rattle.kt_serve.specs.declared.log.LogTurn.TheVariants as turn
 
--- opening found this past: its store shows it, and the log held it
+-- opening found this past: its store shows it
 pub record Found {L D C : Type 0} (root : Root L D C) (first : Past) : Type 0 where
   pub opens : Opens root.opening root.mark root.opened first
-  pub recalls : Recalls root.work.fill root.records first
 
 -- the reply that these lines tell for a command, behind what opening found
 abbrev pub told_by : {L D C : Type 0} → Root L D C → Past → List Event → ℕ → ℕ → Option Reply

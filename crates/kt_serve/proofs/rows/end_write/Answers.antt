@@ -8,10 +8,10 @@ end-ended-requires g c = let w = c.requires.written.1 in λ _. may_end _ c.enter
 
 pub returns-in-Ok-clause-reply : goal.returns-in-Ok-clause-reply
 returns-in-Ok-clause-reply g c = λ i w. ended_answers _ _ _ _ c.enter-engine.result c.end-ended.new.self _ _ c.number-by.result i w.ts w.write _ _ c.enter-engine.ensures.part.0 c.leave.ensures.told.1 (c.leave.ensures.pass.0.1 ∙ c.enter-engine.ensures.pass.0.1) c.number-by.ensures c.enter-engine.ensures.trail c.leave.ensures.told.0
-    w.aloft c.requires.home w.command_is c.in-Ok.ensures.ended c.in-Ok.ensures.told (ap (λ l. l.holder) c.in-Ok.ensures.queued) (ap (λ l. l.out) c.in-Ok.ensures.queued)
+    w.aloft c.requires.home w.command_is c.in-Ok.ensures.ended c.in-Ok.ensures.told (ap (λ l. l.holder) c.in-Ok.ensures.queued.3) (ap (λ l. l.out) c.in-Ok.ensures.queued.3)
 
 pub returns-in-Ok-clause-home : goal.returns-in-Ok-clause-home
-returns-in-Ok-clause-home g c = log_stays _ _ c.enter-engine.result c.end-ended.new.self _ _ c.enter-engine.ensures.part.0 c.leave.ensures.told.1 (c.leave.ensures.pass.0.1 ∙ c.enter-engine.ensures.pass.0.1) c.requires.home (ap (λ l. l.holder) c.in-Ok.ensures.queued) (ap (λ l. l.out) c.in-Ok.ensures.queued)
+returns-in-Ok-clause-home g c = log_stays _ _ c.enter-engine.result c.end-ended.new.self _ _ c.enter-engine.ensures.part.0 c.leave.ensures.told.1 (c.leave.ensures.pass.0.1 ∙ c.enter-engine.ensures.pass.0.1) c.requires.home (ap (λ l. l.holder) c.in-Ok.ensures.queued.3) (ap (λ l. l.out) c.in-Ok.ensures.queued.3)
 
 pub returns-in-Ok-clause-root : goal.returns-in-Ok-clause-root
 returns-in-Ok-clause-root g c = same_root _ _ c.enter-engine.result c.end-ended.new.self c.number-by.result _ _ c.enter-engine.ensures.part.0 c.leave.ensures.told.1 c.end-ended.ensures.visit
