@@ -24,7 +24,7 @@ use Rattle.kt_history.specs.declared.operation.OpKind.{OpKind}
 use Rattle.kt_history.specs.declared.operation.OpKind.TheVariants as op
 use Rattle.kt_history.specs.declared.operation.RowOp.{RowOp}
 use Rattle.kt_history.specs.Rows.{key_cmp}
-use Rattle.kt_engine.specs.Logged.{IsShort}
+use Rattle.kt_tablet.specs.Plans.{IsShort}
 use Rattle.kt_history.specs.Operations.{cell_len, op_len, DifferentKeys}
 use Rattle.kt_records.specs.Rules.{EachAfter, CellFits, FollowingCell, next_id, FollowingOp, may_list, may_hold, has_key}
 use Rattle.kt_history.specs.Spelled.{operation}

@@ -6,7 +6,7 @@ use Rattle.kt_history.specs.declared.command.Command.{Command}
 use Rattle.kt_history.specs.declared.reply.Reply.{Reply}
 use Rattle.kt_history.specs.History.{Past}
 use Rattle.kt_history.specs.Machine.{nth}
-use Rattle.kt_engine.specs.Engines.{EngineView, IsContent, core_from}
+use Rattle.kt_engine.specs.Engines.{EngineView, IsFound, core_from}
 use Rattle.kt_engine.specs.Visits.{root_of}
 use Rattle.kt_serve.specs.declared.log.Halt.TheVariants as halt
 use Rattle.kt_serve.specs.declared.session.SessionEnd.{SessionEnd}
@@ -49,13 +49,13 @@ module _ {L D C : Type 0} (came : ℕ → ℕ → Reply → Type 0) (view : Engi
   abbrev replies : List (List Reply)
   replies = map (λ (e : SessionEnd). e.replies) ends
 
-  told_as : (first : Past) → IsContent view first → (j k : ℕ) (o : Option (List Command)) → nth plan j ≡ o → told_in (core_from view first) view.tablet.core.trail j k ≡ given replies j k
+  told_as : (first : Past) → IsFound view first → (j k : ℕ) (o : Option (List Command)) → nth plan j ≡ o → told_in (core_from view first) view.tablet.core.trail j k ≡ given replies j k
   told_as first content j k (Some commands) is =
       let e = ended.each j commands is in
-      e.2.tells (nth_all IsWhole ends j e.0 e.1 whole) first (record { opens = content.opens; recalls = content.recalls }) k
+      e.2.tells (nth_all IsWhole ends j e.0 e.1 whole) first (record { opens = content }) k
       ∙ sym (ap (λ o. reply_in o k) (nth_map (λ (x : SessionEnd). x.replies) ends j e.0 e.1))
   told_as first content j k None is =
-      ended.others j is first (record { opens = content.opens; recalls = content.recalls }) k
+      ended.others j is first (record { opens = content }) k
       ∙ none_here k
       ∙ sym (ap (λ o. reply_in o k) (nth_none (λ (x : SessionEnd). x.replies) plan ends j ended.count is))
 

@@ -1,3 +1,4 @@
+pub mod TableRules
 pub mod Crash
 pub mod Headline
 pub mod Session

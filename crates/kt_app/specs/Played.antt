@@ -5,12 +5,14 @@ use Rattle.kt_history.specs.declared.event.Event.{Event}
 use Rattle.kt_history.specs.declared.event.Event.TheVariants.{Stop}
 use Rattle.kt_history.specs.declared.reply.Reply.{Reply}
 use Rattle.kt_history.specs.History.{Past}
-use Rattle.kt_history.specs.Machine.{nth, start}
+use Rattle.kt_history.specs.Machine.{Workload, nth, start}
+use Rattle.kt_content.specs.Rules.{Rules}
+use Rattle.kt_engine.specs.Logged.{PlanPasses}
 use Rattle.kt_history.specs.Replies.{told}
 use Rattle.kt_script.specs.declared.output.LastLine.{LastLine}
 use Rattle.kt_script.specs.declared.output.LastLine.TheVariants.{Numbers, Stopped}
 use Rattle.kt_histlaws.specs.Core.{Core}
-use Rattle.kt_engine.specs.Engines.{EngineView, IsContent, core_from}
+use Rattle.kt_engine.specs.Engines.{EngineView, IsFound, IsContent, core_from}
 use Rattle.kt_serve.specs.declared.log.Halt.TheVariants as halt
 use Rattle.kt_serve.specs.declared.session.SessionEnd.{SessionEnd}
 
@@ -25,6 +27,12 @@ pub record IsFresh {L D C : Type 0} (view : EngineView L D C) : Type 0 where
   pub goes : view.tablet.core.stopped ≡ false
   pub home : view.log.holder ≡ None
   pub clock : view.tablet.clock ≡ view.tablet.opened
+  pub unplanned : view.tablet.core.work.plan ≡ []
+
+-- Rules of the table that take each write of a workload, and by which an engine's log held this past.
+pub record HeldBy {L D C : Type 0} (view : EngineView L D C) (work : Workload) (past : Past) (rules : Rules) : Type 0 where
+  pub plan : PlanPasses rules work
+  pub content : IsContent rules view past
 
 abbrev pub reply_in : Option (List Reply) → ℕ → Option Reply
 reply_in None i = None
@@ -36,7 +44,7 @@ given replies s i = reply_in (nth replies s) i
 
 -- the lines tell these replies and no other
 abbrev pub Tells : {L D C : Type 0} → EngineView L D C → List (List Reply) → Type 0
-Tells view replies = (first : Past) → IsContent view first → (j k : ℕ) → told_in (core_from view first) view.tablet.core.trail j k ≡ given replies j k
+Tells view replies = (first : Past) → IsFound view first → (j k : ℕ) → told_in (core_from view first) view.tablet.core.trail j k ≡ given replies j k
 
 -- want of memory has not halted the session
 abbrev pub IsWhole : SessionEnd → Type 0

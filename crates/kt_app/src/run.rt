@@ -6,14 +6,14 @@ ghost use Rattle.kt_history.specs.History.{Past};
 ghost use Rattle.kt_history.specs.Machine.{first_turns};
 ghost use Rattle.kt_script.specs.Fit.{PlanFits};
 ghost use Rattle.kt_script.specs.Scripts.{workload};
-ghost use Rattle.kt_engine.specs.Engines.{IsContent, KeepsOthers};
+ghost use Rattle.kt_engine.specs.Engines.{IsFound, KeepsOthers};
 ghost use Rattle.kt_engine.specs.Visits.{root_of};
 ghost use Rattle.kt_serve.specs.declared.session.SessionEnd.{SessionEnd};
 ghost use Rattle.kt_seatlock.specs.Passes.{number, given, passes_of, IsVacant, IsPassOf};
 ghost use Rattle.kt_serve.specs.Scans.{IsOn};
-ghost use Rattle.kt_app.specs.Crash.{Image, CrashLeaves, NamesMore, Ran, Kept};
+ghost use Rattle.kt_app.specs.Crash.{Image, CrashLeaves, NamesMore, RanBy, KeptBy};
 ghost use Rattle.kt_app.specs.Session.{IsCounted};
-ghost use Rattle.kt_app.specs.Played.{IsFresh, IsWhole, HasPlayed};
+ghost use Rattle.kt_app.specs.Played.{IsFresh, HeldBy, IsWhole, HasPlayed};
 
 use crate::text::{Output, output_of};
 use kt_base::{Clock, NoMemory};
@@ -133,18 +133,19 @@ pub fn run_plan<L: Disk + Send, D: Send, C: Clock + Send, G: Gate + Sync, R: Thr
     requires work { IsOn schema.now engine.tablet.core.work }
 
     // What was printed is the output text of a run of the plan from what opening found, in which the clock gave what it gave
-    // in this call, and a crash now leaves what the run made of that.
-    ensures run { IfSome result.0 (λ out. (first : Past) → IsContent engine first
-        → Ran (Grows (C.readings engine.tablet.clock) (C.readings result.1.clock)) (CrashLeaves L.tells L.now L.leaves result.1.log) (workload engine.tablet.core.work.cells (record { columns = schema.now; plan = plan.now })) first engine.tablet.core.opened result.1.trail out.stopped out.text) }
+    // in this call. By rules of the table that take each write of the plan, and by which its log held what opening found, a crash now leaves what
+    // the run made of that.
+    ensures run { IfSome result.0 (λ out. (first : Past) → IsFound engine first
+        → RanBy (Grows (C.readings engine.tablet.clock) (C.readings result.1.clock)) (HeldBy engine (workload engine.tablet.core.work.cells (record { columns = schema.now; plan = plan.now })) first) (CrashLeaves L.tells L.now L.leaves result.1.log) (workload engine.tablet.core.work.cells (record { columns = schema.now; plan = plan.now })) first engine.tablet.core.opened result.1.trail out.stopped out.text) }
 
     // Whatever became of its text, the lines that are handed back are a run, and a crash now leaves the first of its writes.
-    ensures kept { (first : Past) → IsContent engine first
-        → Kept (Grows (C.readings engine.tablet.clock) (C.readings result.1.clock)) (CrashLeaves L.tells L.now L.leaves result.1.log) (workload engine.tablet.core.work.cells (record { columns = schema.now; plan = plan.now })) first engine.tablet.core.opened result.1.trail }
+    ensures kept { (first : Past) → IsFound engine first
+        → KeptBy (Grows (C.readings engine.tablet.clock) (C.readings result.1.clock)) (HeldBy engine (workload engine.tablet.core.work.cells (record { columns = schema.now; plan = plan.now })) first) (CrashLeaves L.tells L.now L.leaves result.1.log) (workload engine.tablet.core.work.cells (record { columns = schema.now; plan = plan.now })) first engine.tablet.core.opened result.1.trail }
 
     // It leaves all files but the log's as they were handed in, and behind the records that opening found those whose COMMITs
-    // name the engine's store alone.
+    // name the engine's stores alone.
     ensures others { IsTrue L.tells → KeepsOthers L.now L.leaves engine.device result.1.log }
-    ensures named { (image : Image) → CrashLeaves L.tells L.now L.leaves result.1.log image → NamesMore engine.records engine.tablet.target image }
+    ensures named { (image : Image) → CrashLeaves L.tells L.now L.leaves result.1.log image → NamesMore engine.records engine.tablet.names image }
     ensures store { result.1.store ≡ engine.store }
     ensures openable { IsTrue L.tells → CanOpen L.now L.leaves result.1.log }
     ensures faults { L.faults engine.device ≤ L.faults result.1.log }

@@ -11,13 +11,14 @@ ghost use Rattle.kt_script.specs.Fit.{PlanFits};
 ghost use Rattle.kt_script.specs.Scripts.{Said, Fault, script_of};
 ghost use Rattle.kt_boot.specs.Opening.{Found, opening_of};
 ghost use Rattle.kt_app.specs.Headline.{IsNoScript, AreRun};
-ghost use Rattle.kt_app.specs.Crash.{Image, CrashLeaves, IsRead, KeepsFiles, NamesMore, work_of, pool_of, Ran, Refuses, RunsPlan, RunsScript, IsSaid, IsFaultOf, IsRefused, fault_text, refusal_text, IsRefusal, LeavesAsBefore, Kept, LeavesFirst};
-ghost use Rattle.kt_engine.specs.Engines.{IsContent, KeepsOthers};
+ghost use Rattle.kt_app.specs.TableRules.{rules_of};
+ghost use Rattle.kt_app.specs.Crash.{Image, CrashLeaves, IsRead, KeepsFiles, NamesMore, work_of, pool_of, RanBy, Refuses, RunsPlan, RunsScript, IsSaid, IsFaultOf, IsRefused, fault_text, refusal_text, IsRefusal, LeavesAsBefore, KeptBy, LeavesFirst};
+ghost use Rattle.kt_engine.specs.Engines.{IsFound, KeepsOthers};
 ghost use Rattle.kt_journal.specs.Numbers.{AreNear};
 ghost use Rattle.kt_app.specs.Session.{IsCounted};
 ghost use Rattle.kt_seatlock.specs.Passes.{number, given, passes_of, IsVacant, IsPassOf};
 ghost use Rattle.kt_serve.specs.Scans.{IsOn};
-ghost use Rattle.kt_app.specs.Played.{IsFresh};
+ghost use Rattle.kt_app.specs.Played.{IsFresh, HeldBy};
 ghost use Rattle.kt_streams.specs.Outside.{WritesFront};
 
 use crate::cells::cells_of;
@@ -209,21 +210,21 @@ fn run_and_write<
     requires passes { length plan.now < passes_of lock }
     requires fresh { IsFresh engine }
     requires work { IsOn schema.now engine.tablet.core.work × (engine.tablet.core.work.cells ≡ pool_of plan.now) }
-    ensures printed { result.0 ≡ 0 → (first : Past) → IsContent engine first
-        → (text : List ℕ) × Ran (Grows (C.readings engine.tablet.clock) (C.readings result.1.clock)) (CrashLeaves L.tells L.now L.leaves result.1.log) (work_of (record { columns = schema.now; plan = plan.now })) first engine.tablet.core.opened result.1.trail false text × Appends (K.written sink.old) (K.written sink.new) text }
-    ensures stopped { result.0 ≡ 4 → (first : Past) → IsContent engine first
-        → (text : List ℕ) × Ran (Grows (C.readings engine.tablet.clock) (C.readings result.1.clock)) (CrashLeaves L.tells L.now L.leaves result.1.log) (work_of (record { columns = schema.now; plan = plan.now })) first engine.tablet.core.opened result.1.trail true text × Appends (K.written sink.old) (K.written sink.new) text }
+    ensures printed { result.0 ≡ 0 → (first : Past) → IsFound engine first
+        → (text : List ℕ) × RanBy (Grows (C.readings engine.tablet.clock) (C.readings result.1.clock)) (HeldBy engine (work_of (record { columns = schema.now; plan = plan.now })) first) (CrashLeaves L.tells L.now L.leaves result.1.log) (work_of (record { columns = schema.now; plan = plan.now })) first engine.tablet.core.opened result.1.trail false text × Appends (K.written sink.old) (K.written sink.new) text }
+    ensures stopped { result.0 ≡ 4 → (first : Past) → IsFound engine first
+        → (text : List ℕ) × RanBy (Grows (C.readings engine.tablet.clock) (C.readings result.1.clock)) (HeldBy engine (work_of (record { columns = schema.now; plan = plan.now })) first) (CrashLeaves L.tells L.now L.leaves result.1.log) (work_of (record { columns = schema.now; plan = plan.now })) first engine.tablet.core.opened result.1.trail true text × Appends (K.written sink.old) (K.written sink.new) text }
     ensures fault { result.0 ≡ 4 → Rose (L.faults engine.device) (L.faults result.1.log) }
-    ensures cut { result.0 ≡ 6 → (first : Past) → IsContent engine first
-        → (text : List ℕ) × (stopped : Bool) × Ran (Grows (C.readings engine.tablet.clock) (C.readings result.1.clock)) (CrashLeaves L.tells L.now L.leaves result.1.log) (work_of (record { columns = schema.now; plan = plan.now })) first engine.tablet.core.opened result.1.trail stopped text
+    ensures cut { result.0 ≡ 6 → (first : Past) → IsFound engine first
+        → (text : List ℕ) × (stopped : Bool) × RanBy (Grows (C.readings engine.tablet.clock) (C.readings result.1.clock)) (HeldBy engine (work_of (record { columns = schema.now; plan = plan.now })) first) (CrashLeaves L.tells L.now L.leaves result.1.log) (work_of (record { columns = schema.now; plan = plan.now })) first engine.tablet.core.opened result.1.trail stopped text
         × (stopped ≡ true → Rose (L.faults engine.device) (L.faults result.1.log)) × WritesFront (K.written sink.old) (K.written sink.new) text }
     ensures sink_fault { result.0 ≡ 6 → Rose (K.faults sink.old) (K.faults sink.new) }
     ensures memory { result.0 ≡ 7 → Appends (K.written sink.old) (K.written sink.new) [] }
     ensures statuses { (result.0 ≡ 0) ⊎ (result.0 ≡ 4) ⊎ (result.0 ≡ 6) ⊎ (result.0 ≡ 7) }
-    ensures kept { (first : Past) → IsContent engine first
-        → Kept (Grows (C.readings engine.tablet.clock) (C.readings result.1.clock)) (CrashLeaves L.tells L.now L.leaves result.1.log) (work_of (record { columns = schema.now; plan = plan.now })) first engine.tablet.core.opened result.1.trail }
+    ensures kept { (first : Past) → IsFound engine first
+        → KeptBy (Grows (C.readings engine.tablet.clock) (C.readings result.1.clock)) (HeldBy engine (work_of (record { columns = schema.now; plan = plan.now })) first) (CrashLeaves L.tells L.now L.leaves result.1.log) (work_of (record { columns = schema.now; plan = plan.now })) first engine.tablet.core.opened result.1.trail }
     ensures others { IsTrue L.tells → KeepsOthers L.now L.leaves engine.device result.1.log }
-    ensures named { (image : Image) → CrashLeaves L.tells L.now L.leaves result.1.log image → NamesMore engine.records engine.tablet.target image }
+    ensures named { (image : Image) → CrashLeaves L.tells L.now L.leaves result.1.log image → NamesMore engine.records engine.tablet.names image }
     ensures store { result.1.store ≡ engine.store }
     ensures openable { IsTrue L.tells → CanOpen L.now L.leaves result.1.log }
 {
@@ -275,18 +276,18 @@ fn open_and_run<
     requires counted { IsCounted schema.now }
     requires fits { PlanFits schema.now plan.now }
     requires openable { IsTrue L.tells → CanOpen L.now L.leaves log }
-    ensures printed { result.status ≡ 0 → (text : List ℕ) × RunsPlan (Grows (C.readings clock) (C.readings result.clock)) (IsRead L.tells L.seen log) (CrashLeaves L.tells L.now L.leaves result.log) (work_of (record { columns = schema.now; plan = plan.now })) false text × Appends (K.written sink.old) (K.written sink.new) text }
+    ensures printed { result.status ≡ 0 → (text : List ℕ) × RunsPlan (Grows (C.readings clock) (C.readings result.clock)) (rules_of schema.now) (IsRead L.tells L.seen log) (CrashLeaves L.tells L.now L.leaves result.log) (work_of (record { columns = schema.now; plan = plan.now })) false text × Appends (K.written sink.old) (K.written sink.new) text }
     ensures refused { result.status ≡ 3 → (no : Why) × IsRefusal no × Refuses (fill_of schema.now) (IsRead L.tells L.seen log) no × Appends (K.written sink.old) (K.written sink.new) (refusal_text no) }
     ensures refuses { (no : Why) → IsTrue L.tells → opening_of (fill_of schema.now) (L.seen log) ≡ Err no → (3 ≤ result.status) }
     ensures stopped { result.status ≡ 4 → Rose (L.faults log) (L.faults result.log)
         × (Appends (K.written sink.old) (K.written sink.new) STOPPED_OPENING.now × (result.clock ≡ clock) × LeavesAsBefore (CrashLeaves L.tells L.now L.leaves log) (CrashLeaves L.tells L.now L.leaves result.log)
-        ⊎ ((text : List ℕ) × RunsPlan (Grows (C.readings clock) (C.readings result.clock)) (IsRead L.tells L.seen log) (CrashLeaves L.tells L.now L.leaves result.log) (work_of (record { columns = schema.now; plan = plan.now })) true text × Appends (K.written sink.old) (K.written sink.new) text)) }
+        ⊎ ((text : List ℕ) × RunsPlan (Grows (C.readings clock) (C.readings result.clock)) (rules_of schema.now) (IsRead L.tells L.seen log) (CrashLeaves L.tells L.now L.leaves result.log) (work_of (record { columns = schema.now; plan = plan.now })) true text × Appends (K.written sink.old) (K.written sink.new) text)) }
     ensures untouched { result.status ≡ 3 → (result.clock ≡ clock) × LeavesAsBefore (CrashLeaves L.tells L.now L.leaves log) (CrashLeaves L.tells L.now L.leaves result.log) }
     ensures sink_fault { result.status ≡ 6 → Rose (K.faults sink.old) (K.faults sink.new) }
     ensures cut { result.status ≡ 6 → (text : List ℕ) × WritesFront (K.written sink.old) (K.written sink.new) text
         × ((((no : Why) × IsRefusal no × Refuses (fill_of schema.now) (IsRead L.tells L.seen log) no × (text ≡ refusal_text no)) ⊎ ((text ≡ STOPPED_OPENING.now) × Rose (L.faults log) (L.faults result.log)))
         × (result.clock ≡ clock) × LeavesAsBefore (CrashLeaves L.tells L.now L.leaves log) (CrashLeaves L.tells L.now L.leaves result.log)
-        ⊎ ((stopped : Bool) × RunsPlan (Grows (C.readings clock) (C.readings result.clock)) (IsRead L.tells L.seen log) (CrashLeaves L.tells L.now L.leaves result.log) (work_of (record { columns = schema.now; plan = plan.now })) stopped text × (stopped ≡ true → Rose (L.faults log) (L.faults result.log)))) }
+        ⊎ ((stopped : Bool) × RunsPlan (Grows (C.readings clock) (C.readings result.clock)) (rules_of schema.now) (IsRead L.tells L.seen log) (CrashLeaves L.tells L.now L.leaves result.log) (work_of (record { columns = schema.now; plan = plan.now })) stopped text × (stopped ≡ true → Rose (L.faults log) (L.faults result.log)))) }
     ensures memory { result.status ≡ 7 → Appends (K.written sink.old) (K.written sink.new) [] }
     ensures statuses { (result.status ≡ 0) ⊎ (result.status ≡ 3) ⊎ (result.status ≡ 4) ⊎ (result.status ≡ 6) ⊎ (result.status ≡ 7) }
     ensures crash { LeavesFirst (Grows (C.readings clock) (C.readings result.clock)) (IsRead L.tells L.seen log) (CrashLeaves L.tells L.now L.leaves log) (CrashLeaves L.tells L.now L.leaves result.log) (record { columns = schema.now; plan = plan.now }) }
@@ -344,7 +345,7 @@ pub fn tablet_main<
 
     // On status 0 what was written is the output text of a run of the script that all bytes of the source spell, over what
     // the log held: each printed reply is that run's, the readings in its history are those that the clock gave in this
-    // call, and whatever a crash now leaves of the log holds all its writes.
+    // call, and whatever a crash now leaves of the log holds all its writes, by the rules of the script's table too where the log kept them.
     ensures printed { result.status ≡ 0 → IfSome (S.left source.old) (λ script. (text : List ℕ)
         × RunsScript (Grows (C.readings clock) (C.readings result.clock)) (IsRead L.tells L.seen log) (CrashLeaves L.tells L.now L.leaves result.log) false script text × Appends (K.written sink.old) (K.written sink.new) text) }
 

@@ -2,7 +2,7 @@ use Rattle.std.proofs.Common.{◌≡◌, ◌∙◌, sym, ap, subst, Option, Resu
 use Rattle.std.specs.Prelude.{IfOk, IfSome}
 use Rattle.std.specs.Result.{result_ok}
 use Rattle.kt_engine.specs.Visits.{root_of}
-use Rattle.kt_app.proofs.Planned.{planned}
+use Rattle.kt_app.proofs.Runnable.{plan_keeps}
 use Rattle.kt_app.proofs.RunLaws.{ran_as}
 use Rattle.kt_app.proofs.Runs.{kept_of, ran_of, keeps_others, names_more, opens_again, no_fault_less, fault_more}
 use Rattle.kt_app.proofs.run.run_plan.Goals as goal
@@ -20,8 +20,8 @@ of_three : {A E : Type 0} (r : Result A E) (P Q R S : A → Type 0) → ((x : A)
 of_three (Ok x) P Q R S f p q s = f x p q s
 of_three (Err x) P Q R S f p q s = tt
 
-pub set_plan-requires-clause-planned : goal.set_plan-requires-clause-planned
-set_plan-requires-clause-planned g c = planned c.args.schema.now (record c.args.engine.tablet.core.work { plan = c.args.plan.now }) c.requires.fits.each
+pub set_plan-requires-clause-keeps : goal.set_plan-requires-clause-keeps
+set_plan-requires-clause-keeps g c = plan_keeps c.args.schema.now c.requires.counted (record c.args.engine.tablet.core.work { plan = c.args.plan.now }) c.requires.fits
 
 pub returns-in-Ok-clause-run : goal.returns-in-Ok-clause-run
 returns-in-Ok-clause-run g c =

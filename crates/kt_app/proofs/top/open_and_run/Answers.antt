@@ -7,6 +7,8 @@ use Rattle.kt_engine.specs.Engines.{KeepsOthers}
 use Rattle.kt_app.specs.Crash.{CrashLeaves, KeepsFiles, work_of, refusal_text}
 use Rattle.kt_app.proofs.Numbers.{as_before_near, still_near, as_before_files, keeps_files, ran_near}
 use Rattle.kt_app.proofs.SourceLaws.{either}
+use Rattle.kt_app.specs.TableRules.{rules_of}
+use Rattle.kt_app.proofs.TableRules.{takes_plan}
 use Rattle.kt_app.proofs.RunLaws.{is_on, was_read, was_refused, refusal_not, as_before, runs_over, kept_over}
 use Rattle.kt_app.proofs.top.open_and_run.Goals as goal
 
@@ -34,8 +36,8 @@ returns-in-Ok-open_tablet-clause-stopped g c = λ e.
           (subst (λ x. Rose (g.L.Disk.faults x) (g.L.Disk.faults parts.log)) opened.devices.1 (c.run_and_write-status.ensures.fault four)),
       inr (
         run.0,
-        runs_over g.C.Clock.readings _ c.args.clock _ _ g.L.Disk.tells g.L.Disk.seen g.L.Disk.now g.L.Disk.leaves c.args.log _ _ (work_of (record { columns = c.args.schema.now; plan = c.args.plan.now })) opened.found.0 _ _ true run.0
-            opened.found.2 opened.clock.0 (sym is.3) (sym is.1) run.1,
+        runs_over g.C.Clock.readings _ c.args.clock _ _ g.L.Disk.tells g.L.Disk.seen g.L.Disk.now g.L.Disk.leaves c.args.log _ _ c.in-Ok-open_tablet.engine (work_of (record { columns = c.args.schema.now; plan = c.args.plan.now })) opened.found.0 _
+            (rules_of c.args.schema.now) (takes_plan c.args.schema.now c.requires.counted c.args.plan.now c.requires.fits) opened.found.1 (ap (λ (w : Workload). w.fill) opened.work) opened.records opened.found.3 opened.clock.0 (sym is.3) (sym is.1) true run.0 opened.found.2 run.1,
         run.2,
       ),
     )
@@ -49,8 +51,8 @@ returns-in-Ok-open_tablet-clause-crash g c =
       c.in-Ok-open_tablet.engine.tablet.core.opened,
       was_read g.L.Disk.tells g.L.Disk.seen c.args.log _ opened.found.0 _ opened.found.2,
       c.run_and_write-status.result.1.trail,
-      kept_over g.C.Clock.readings _ c.args.clock _ _ g.L.Disk.tells g.L.Disk.now g.L.Disk.leaves _ _ (work_of (record { columns = c.args.schema.now; plan = c.args.plan.now })) opened.found.0 _ _
-          opened.clock.0 (sym is.3) (sym is.1) (c.run_and_write-status.ensures.kept opened.found.0 opened.found.1),
+      kept_over g.C.Clock.readings _ c.args.clock _ _ g.L.Disk.tells g.L.Disk.seen g.L.Disk.now g.L.Disk.leaves c.args.log _ _ c.in-Ok-open_tablet.engine (work_of (record { columns = c.args.schema.now; plan = c.args.plan.now })) opened.found.0 _
+          (rules_of c.args.schema.now) (takes_plan c.args.schema.now c.requires.counted c.args.plan.now c.requires.fits) opened.found.1 (ap (λ (w : Workload). w.fill) opened.work) opened.records opened.found.3 opened.clock.0 (sym is.3) (sym is.1) (c.run_and_write-status.ensures.kept opened.found.0 opened.found.1),
     )
 
 pub returns-in-Ok-open_tablet-clause-printed : goal.returns-in-Ok-open_tablet-clause-printed
@@ -59,8 +61,8 @@ returns-in-Ok-open_tablet-clause-printed g c = λ e.
     let opened = c.in-Ok-open_tablet.ensures in
     let run = c.run_and_write-status.ensures.printed (sym is.0 ∙ e) opened.found.0 opened.found.1 in (
       run.0,
-      runs_over g.C.Clock.readings _ c.args.clock _ _ g.L.Disk.tells g.L.Disk.seen g.L.Disk.now g.L.Disk.leaves c.args.log _ _ (work_of (record { columns = c.args.schema.now; plan = c.args.plan.now })) opened.found.0 _ _ false run.0
-          opened.found.2 opened.clock.0 (sym is.3) (sym is.1) run.1,
+      runs_over g.C.Clock.readings _ c.args.clock _ _ g.L.Disk.tells g.L.Disk.seen g.L.Disk.now g.L.Disk.leaves c.args.log _ _ c.in-Ok-open_tablet.engine (work_of (record { columns = c.args.schema.now; plan = c.args.plan.now })) opened.found.0 _
+          (rules_of c.args.schema.now) (takes_plan c.args.schema.now c.requires.counted c.args.plan.now c.requires.fits) opened.found.1 (ap (λ (w : Workload). w.fill) opened.work) opened.records opened.found.3 opened.clock.0 (sym is.3) (sym is.1) false run.0 opened.found.2 run.1,
       run.2,
     )
 
@@ -74,8 +76,8 @@ returns-in-Ok-open_tablet-clause-cut g c = λ e.
       run.4,
       inr (
         run.1,
-        runs_over g.C.Clock.readings _ c.args.clock _ _ g.L.Disk.tells g.L.Disk.seen g.L.Disk.now g.L.Disk.leaves c.args.log _ _ (work_of (record { columns = c.args.schema.now; plan = c.args.plan.now })) opened.found.0 _ _ run.1 run.0
-            opened.found.2 opened.clock.0 (sym is.3) (sym is.1) run.2,
+        runs_over g.C.Clock.readings _ c.args.clock _ _ g.L.Disk.tells g.L.Disk.seen g.L.Disk.now g.L.Disk.leaves c.args.log _ _ c.in-Ok-open_tablet.engine (work_of (record { columns = c.args.schema.now; plan = c.args.plan.now })) opened.found.0 _
+            (rules_of c.args.schema.now) (takes_plan c.args.schema.now c.requires.counted c.args.plan.now c.requires.fits) opened.found.1 (ap (λ (w : Workload). w.fill) opened.work) opened.records opened.found.3 opened.clock.0 (sym is.3) (sym is.1) run.1 run.0 opened.found.2 run.2,
         (λ stopped. subst (λ x. Rose (g.L.Disk.faults c.args.log) (g.L.Disk.faults x)) (sym is.1) (subst (λ x. Rose (g.L.Disk.faults x) (g.L.Disk.faults parts.log)) opened.devices.1 (run.3 stopped))),
       ),
     )
@@ -130,8 +132,8 @@ returns-in-Ok-open_tablet-clause-near g c =
     let opened = c.in-Ok-open_tablet.ensures in
     let run = c.run_and_write-status.ensures in
     subst (λ x. AreNear (CrashLeaves g.L.Disk.tells g.L.Disk.now g.L.Disk.leaves c.args.log) (CrashLeaves g.L.Disk.tells g.L.Disk.now g.L.Disk.leaves x)) (sym is.1)
-    (ran_near (CrashLeaves g.L.Disk.tells g.L.Disk.now g.L.Disk.leaves c.args.log) (CrashLeaves g.L.Disk.tells g.L.Disk.now g.L.Disk.leaves c.run_and_write-status.result.1.log) c.in-Ok-open_tablet.engine.records c.in-Ok-open_tablet.engine.tablet.target _
-    opened.target (λ image left. (g.L.Disk.seen c.args.log, (left.0, (g.met.L.Disk g.world.𝓛 g.world.𝓜 g.world.𝓡 ((λ s x. x), (λ x. x), (λ x. x), λ x. x)).reads_as_image c.args.log left.0), opened.records left.0)) opened.number run.named
+    (ran_near (CrashLeaves g.L.Disk.tells g.L.Disk.now g.L.Disk.leaves c.args.log) (CrashLeaves g.L.Disk.tells g.L.Disk.now g.L.Disk.leaves c.run_and_write-status.result.1.log) c.in-Ok-open_tablet.engine.records c.in-Ok-open_tablet.engine.tablet.names _
+    opened.names (λ image left. (g.L.Disk.seen c.args.log, (left.0, (g.met.L.Disk g.world.𝓛 g.world.𝓜 g.world.𝓡 ((λ s x. x), (λ x. x), (λ x. x), λ x. x)).reads_as_image c.args.log left.0), opened.records left.0)) opened.number run.named
     (keeps_files g.L.Disk.tells g.L.Disk.now g.L.Disk.leaves c.args.log _ (subst (λ d. IsTrue g.L.Disk.tells → KeepsOthers g.L.Disk.now g.L.Disk.leaves d c.run_and_write-status.result.1.log) opened.devices.1 run.others)))
 
 pub returns-in-Err-clause-others : goal.returns-in-Err-clause-others

@@ -3,6 +3,7 @@ use Rattle.std.specs.Io.KnownBytes.{Appends}
 use Rattle.kt_base.specs.Causes.{Grows, Rose}
 use Rattle.kt_script.specs.Scripts.{Said}
 use Rattle.kt_app.specs.Headline.{AreRun}
+use Rattle.kt_app.specs.TableRules.{rules_of}
 use Rattle.kt_app.specs.Crash.{CrashLeaves, IsRead, RunsPlan, work_of}
 use Rattle.kt_app.proofs.Numbers.{still_near}
 use Rattle.kt_app.proofs.SourceLaws.{runs_script, stops_script, either}
@@ -15,7 +16,7 @@ returns-in-Ok-clause-stopped g c = λ e.
     let known = c.in-Ok.ensures.said in (
       o.0,
       either (λ failed. inl (failed.0, failed.1, (s, known, failed.2)))
-          (λ run. inr (runs_script _ s (λ text said. RunsPlan (Grows (g.C.Clock.readings c.args.clock) (g.C.Clock.readings c.open_and_run.result.clock)) (IsRead g.L.Disk.tells g.L.Disk.seen c.args.log) (CrashLeaves g.L.Disk.tells g.L.Disk.now g.L.Disk.leaves c.open_and_run.result.log) (work_of said) true text)
+          (λ run. inr (runs_script _ s (λ text said. RunsPlan (Grows (g.C.Clock.readings c.args.clock) (g.C.Clock.readings c.open_and_run.result.clock)) (rules_of said.columns) (IsRead g.L.Disk.tells g.L.Disk.seen c.args.log) (CrashLeaves g.L.Disk.tells g.L.Disk.now g.L.Disk.leaves c.open_and_run.result.log) (work_of said) true text)
           (λ text. Appends (g.K.Sink.written c.args.sink.now) (g.K.Sink.written c.open_and_run.new.sink) text) known run)) o.1,
     )
 
@@ -30,7 +31,7 @@ returns-in-Ok-clause-cut g c = λ e.
       either (λ shut. inr (inl (s, form, known, shut.0, shut.1, shut.2)))
           (λ run. inr (inr (
             form,
-            stops_script _ s (λ stopped said. RunsPlan (Grows (g.C.Clock.readings c.args.clock) (g.C.Clock.readings c.open_and_run.result.clock)) (IsRead g.L.Disk.tells g.L.Disk.seen c.args.log) (CrashLeaves g.L.Disk.tells g.L.Disk.now g.L.Disk.leaves c.open_and_run.result.log) (work_of said) stopped o.0)
+            stops_script _ s (λ stopped said. RunsPlan (Grows (g.C.Clock.readings c.args.clock) (g.C.Clock.readings c.open_and_run.result.clock)) (rules_of said.columns) (IsRead g.L.Disk.tells g.L.Disk.seen c.args.log) (CrashLeaves g.L.Disk.tells g.L.Disk.now g.L.Disk.leaves c.open_and_run.result.log) (work_of said) stopped o.0)
                 (λ stopped. stopped ≡ true → Rose (g.L.Disk.faults c.args.log) (g.L.Disk.faults c.open_and_run.result.log)) known run,
           ))) o.2,
     )
