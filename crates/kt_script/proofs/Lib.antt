@@ -1,9 +1,11 @@
 pub mod Words
+pub mod WrittenNumbers
 pub mod Cuts
 pub mod InLine
 pub mod Outputs
 pub mod ScriptTests
 pub mod Pieces
+pub mod Lanes
 pub mod Runs
 pub mod Faults
 pub mod Tables

@@ -2,7 +2,7 @@
 use Rattle.std.proofs.Common.{◌≡◌, ℕ, zero, suc, ◌+◌, ◌-◌, ◌<◌, ◌≤◌, List, [], ◌∷◌, refl, sym, ap, subst, ◌∙◌, arith, length, length-drop, take, drop, get_or, Bool, true, false}
 use Rattle.std.specs.Prelude.{◌||◌, ◌==◌, if◌then◌else◌}
 use mathlib.Core.List.{append-nil}
-use Rattle.std.proofs.lemmas.List.{drop_all, take_all, get_or-drop}
+use Rattle.std.proofs.lemmas.List.{drop_all, take_all}
 use Rattle.memchr.specs.Find.{is_byte2}
 use Rattle.kt_script.specs.declared.word.Side.{Side}
 use Rattle.kt_script.specs.declared.word.Side.TheVariants.{Outside, Inside, Slashed}
@@ -10,25 +10,9 @@ use Rattle.kt_script.specs.Pieces.{words_from, words_of}
 use Rattle.kt_script.specs.Runs.{Quiet}
 use Rattle.kt_script.proofs.Pieces.{onto_front, cut_more}
 
-not_true : (t : Bool) → (t ≡ true → ⊥) → t ≡ false
-not_true true h = absurd (h refl)
-not_true false h = refl
-
 -- the rest of a text, as a slice gives it
 pub rest_is : (from : ℕ) (text : List ℕ) → take (length text - from) (drop from text) ≡ drop from text
 rest_is from text = take_all (length text - from) (drop from text) (omega (arith, length-drop from text))
-
--- what no place of the rest of a text passes, no place of the text from there on passes
-pub none_behind : (test : ℕ → Bool) (text rest : List ℕ) (from n : ℕ) → rest ≡ drop from text → ((k : ℕ) → 0 ≤ k → k < n → test (get_or rest k 0) ≡ true → ⊥) → (k : ℕ) → from ≤ k → k < from + n → test (get_or text k 0) ≡ false
-none_behind test text rest from n whole none k low high =
-    let is : from + (k - from) ≡ k = omega arith in
-    let same : get_or rest (k - from) 0 ≡ get_or text k 0 = ap (λ xs. get_or xs (k - from) 0) whole ∙ (get_or-drop from text (k - from) 0 ∙ ap (λ j. get_or text j 0) is) in
-    subst (λ b. test b ≡ false) same (not_true _ (none (k - from) (omega arith) (omega arith)))
-
-pub none_to_end : (test : ℕ → Bool) (text rest : List ℕ) (from : ℕ) → rest ≡ drop from text → ((k : ℕ) → 0 ≤ k → k < length rest → test (get_or rest k 0) ≡ true → ⊥) → (k : ℕ) → from ≤ k → k < length text → test (get_or text k 0) ≡ false
-none_to_end test text rest from whole none k low high =
-    let size = ap length whole in
-    none_behind test text rest from (length rest) whole none k low (omega (arith, size, low, high, length-drop from text))
 
 pub quiet_outside : (b : ℕ) → is_byte2 32 34 b ≡ false → Quiet Outside b
 quiet_outside b h = by (b == 32) (b == 34) h

@@ -242,6 +242,16 @@ abbrev pub ops_in : Option (Option (Bor (List ℕ))) → List (List (List ℕ))
 ops_in None = []
 ops_in (Some rest) = ops_of (words_in rest)
 
+-- the words of a line that is cut behind its first word, and none where nothing is left of it
+abbrev pub words_cut : Option (Bor (List ℕ) × Option (Bor (List ℕ))) → List (List ℕ)
+words_cut None = []
+words_cut (Some cut) = cut.0.now ∷ words_in cut.1
+
+-- the operations of such a line, if any are left
+abbrev pub ops_cut : Option (Option (Bor (List ℕ) × Option (Bor (List ℕ)))) → List (List (List ℕ))
+ops_cut None = []
+ops_cut (Some cut) = ops_of (words_cut cut)
+
 -- a word of an operation, and what is left behind it
 abbrev pub IsOpCut : Option (Bor (List ℕ)) → List ℕ → Option (Bor (List ℕ)) → Type 0
 IsOpCut rest word behind = (op_in rest ≡ word ∷ op_in behind) × (later_in behind ≡ later_in rest)

@@ -1,12 +1,12 @@
 //! The words of one operation, and the cells and the key that its first words spell.
 
-ghost use Rattle.std.specs.Prelude.{◌≡◌, ◌<◌, ◌^◌, ◌++◌, [], min, length, drop, ◌&&◌, nat_lt, true, IfOk, OnOk, IfSome, IfNone, None};
+ghost use Rattle.std.specs.Prelude.{◌≡◌, ◌<◌, ◌^◌, ◌++◌, ◌∷◌, [], min, length, drop, ◌&&◌, nat_lt, true, IfOk, OnOk, IfSome, IfNone, None};
 ghost use Rattle.kt_cells.specs.Spelling.{cell_list};
 ghost use Rattle.kt_key.specs.Fit.{is_key};
 ghost use Rattle.kt_key.specs.Spelling.{spelling};
 ghost use Rattle.kt_schema.specs.Columns.{columns_no, key_columns, key_kinds};
 ghost use Rattle.kt_script.specs.Reasons.{no_of, reason_if};
-ghost use Rattle.kt_script.specs.Writes.{cells_no, cells_of, under, key_no, key_len, key_of, is_empty, none_left_no, op_in, later_in, ops_in, IsOpCut};
+ghost use Rattle.kt_script.specs.Writes.{cells_no, cells_of, under, key_no, key_len, key_of, is_empty, none_left_no, first_op, later_ops, words_cut, op_in, later_in, ops_in, IsOpCut};
 
 use crate::least::{Least, put_cell_read, read_cell};
 use crate::word::{is_word, next_word};
@@ -31,17 +31,39 @@ pub struct TakenKey<'a> {
     pub rest: Option<&'a [u8]>,
 }
 
-/// The next word of an operation. It ends before a word `;`.
-pub fn next_op_word(rest: Option<&[u8]>) -> Option<(&[u8], Option<&[u8]>)>
-    ensures some { IfSome result (λ cut. IsOpCut rest.entry cut.0.now cut.1) }
-    ensures none { IfNone result (op_in rest.entry ≡ []) }
+/// The first word of an operation, whose line is cut behind its first word. It has none where that is `;`.
+pub fn first_op_word<'a>(
+    cut: Option<(&'a [u8], Option<&'a [u8]>)>,
+) -> Option<(&'a [u8], Option<&'a [u8]>)>
+    ensures some { IfSome result (λ c. first_op (words_cut cut.entry) ≡ c.0.now ∷ op_in c.1) }
+    ensures later { IfSome result (λ c. later_in c.1 ≡ later_ops (words_cut cut.entry)) }
+    ensures none { IfNone result (first_op (words_cut cut.entry) ≡ []) }
 {
-    let (word, behind) = next_word(rest)?;
+    let (word, behind) = cut?;
     if is_word(word, b";") {
         None
     } else {
         Some((word, behind))
     }
+}
+
+/// What is left behind an operation without words, whose line is cut in the same way, if it ends with a word `;`.
+pub fn behind_none<'a>(cut: Option<(&'a [u8], Option<&'a [u8]>)>) -> Option<Option<&'a [u8]>>
+    requires { first_op (words_cut cut) ≡ [] }
+    ensures { ops_in result ≡ later_ops (words_cut cut.entry) }
+{
+    match cut {
+        Some((_, behind)) => Some(behind),
+        None => None,
+    }
+}
+
+/// The next word of an operation. It ends before a word `;`.
+pub fn next_op_word(rest: Option<&[u8]>) -> Option<(&[u8], Option<&[u8]>)>
+    ensures some { IfSome result (λ cut. IsOpCut rest.entry cut.0.now cut.1) }
+    ensures none { IfNone result (op_in rest.entry ≡ []) }
+{
+    first_op_word(next_word(rest))
 }
 
 /// What is left behind an operation, if it ends with a word `;`.

@@ -1,16 +1,19 @@
 //! The output of a run: the replies of each session, the history and the last line.
 
-ghost use Rattle.std.specs.Prelude.{◌≡◌, ◌+◌, ◌<◌, ◌++◌, ◌∷◌, [], OnOk, OnErr, length, map, codes};
+ghost use Rattle.std.specs.Prelude.{◌≡◌, ◌+◌, ◌<◌, ◌≤◌, ◌++◌, ◌∷◌, [], OnOk, OnErr, length, map, codes};
 ghost use Rattle.std.specs.List.{flat_map};
 ghost use Rattle.std.specs.Fmt.{decimal};
 ghost use Rattle.kt_script.specs.Texts.{line, words, row_text, outcome_word, line_words, lines_text, told_session, told_sessions, event_line, last_text, seen, output_text};
 
 use crate::lists::{ReplyLists, ShownReply};
-use crate::number::print_number;
+use crate::number::write_numbers;
 use kt_base::literal::append_literal;
 use kt_base::{Kind, NoMemory, Octets};
 use kt_history::{Event, EventList, Outcome, Reply, RowCells, RowList};
 use std::alloc::Global;
+
+// The most bytes of four numbers, with a space before each.
+const NUMBERS_LEN: usize = 84;
 
 /// The end of the output: the ancient history mark, the last timestamp and the count of disk rowsets, or that
 /// the run was stopped.
@@ -20,22 +23,26 @@ pub enum LastLine {
     Stopped,
 }
 
+// Up to four numbers behind a word.
 fn print_words(word: &[u8], numbers: &[u64], out: &mut Octets) -> Result<(), NoMemory>
+    requires { length numbers.now ≤ 4 }
     ensures ok { OnOk result (out.new ≡ out.old ++ words (word.now ∷ map decimal numbers.now)) }
 {
+    let mut text = [0; NUMBERS_LEN];
+    let start = write_numbers(numbers, &mut text, NUMBERS_LEN);
     out.extend(word)?;
-    for number in numbers {
-        out.push(b' ')?;
-        print_number(*number, out)?;
-    }
-    Ok(())
+    out.extend(&text[start..])
 }
 
+// A line of up to four numbers behind a word.
 fn print_line(word: &[u8], numbers: &[u64], out: &mut Octets) -> Result<(), NoMemory>
+    requires { length numbers.now ≤ 4 }
     ensures ok { OnOk result (out.new ≡ out.old ++ line (words (word.now ∷ map decimal numbers.now))) }
 {
-    print_words(word, numbers, out)?;
-    out.push(b'\n')
+    let mut text = [b'\n'; NUMBERS_LEN + 1];
+    let start = write_numbers(numbers, &mut text, NUMBERS_LEN);
+    out.extend(word)?;
+    out.extend(&text[start..])
 }
 
 fn print_event(event: &Event, out: &mut Octets) -> Result<(), NoMemory>

@@ -86,23 +86,23 @@ fn read_chore(chore: Chore, rest: Option<&[u8]>) -> Result<Command, LineNo>
     }
 }
 
-// The command of a line, of which `rest` stands behind its first word.
+// The command of a line, by its first word and what is left behind it.
 fn read_command(
     alloc: Global,
     schema: &Schema,
     word: Word,
-    line: &[u8],
+    first: &[u8],
     rest: Option<&[u8]>,
     op: &mut SpelledOp,
 ) -> Result<Command, LineNo>
     requires { IsTable schema.now }
-    ensures { (first : List ℕ) → words_of line.now ≡ first ∷ words_in rest.entry → ReadsCommand schema.now word (words_of line.now) result }
+    ensures { ReadsCommand schema.now word (first.now ∷ words_in rest.entry) result }
 {
     match word {
         Word::Scan => Ok(Command::Scan(read_scan(alloc, schema, rest)?)),
         Word::Mark => Ok(Command::Mark(read_mark(rest)?)),
         Word::Chore(chore) => read_chore(chore, rest),
-        Word::Op(_) => Ok(Command::Write(read_write(alloc, schema, Some(line), op)?)),
+        Word::Op(_) => Ok(Command::Write(read_write(alloc, schema, Some((first, rest)), op)?)),
     }
 }
 
@@ -111,17 +111,17 @@ fn read_command_line(
     schema: &Schema,
     sessions: &mut Sessions,
     word: Word,
-    line: &[u8],
+    first: &[u8],
     rest: Option<&[u8]>,
     op: &mut SpelledOp,
 ) -> Result<(), LineNo>
     requires { IsTable schema.now }
-    ensures { (first : List ℕ) → words_of line.now ≡ first ∷ words_in rest.entry → ReadsLed schema.now sessions.old (Some (lead.Command word)) (words_of line.now) sessions.new result }
+    ensures { ReadsLed schema.now sessions.old (Some (lead.Command word)) (first.now ∷ words_in rest.entry) sessions.new result }
 {
     if !sessions.is_begun() {
         return Err(LineNo::Reason(11));
     }
-    match read_command(alloc, schema, word, line, rest, op) {
+    match read_command(alloc, schema, word, first, rest, op) {
         Ok(command) => push_command(sessions, command),
         Err(LineNo::Reason(reason)) => { Err(LineNo::Reason(least_of(reason, full_no(sessions)))) }
         Err(LineNo::Memory) => Err(LineNo::Memory),
@@ -143,7 +143,7 @@ fn read_line(
     match lead_in(first) {
         Some(Lead::Session) => begin_session(alloc, sessions, rest),
         Some(Lead::Command(word)) => {
-            read_command_line(alloc, schema, sessions, word, line, rest, op)
+            read_command_line(alloc, schema, sessions, word, first, rest, op)
         }
         None => Err(LineNo::Reason(11)),
     }

@@ -1,12 +1,15 @@
 //! Cutting a text into lines, and a line into words.
 
-ghost use Rattle.std.specs.Prelude.{◌≡◌, ◌<◌, ◌≤◌, ℕ, [], false, length, slice_index, IfSome, IfNone};
+ghost use Rattle.std.specs.Prelude.{◌≡◌, ◌+◌, ◌<◌, ◌≤◌, ℕ, [], false, length, slice_index, IfSome, IfNone};
 ghost use Rattle.memchr.specs.Find.{is_byte2};
 ghost use Rattle.kt_base.specs.Literals.{same};
 ghost use Rattle.kt_script.specs.Pieces.{side_after, ends_word, words_of, words_in, IsCut};
 ghost use Rattle.kt_script.specs.Runs.{Quiet};
 
-use memchr::memchr2;
+use std::simd::prelude::*;
+
+// How many bytes are looked at together.
+const LANES: usize = 16;
 
 /// Where a byte of a line stands.
 #[derive(Clone, Copy)]
@@ -39,17 +42,58 @@ fn ends_word(side: Side, byte: u8) -> bool
     }
 }
 
+// How many of the sixteen bytes at a place stand before the first of two.
+#[inline(always)]
+fn run_at(first: u8, second: u8, text: &[u8], at: usize) -> usize
+    requires { at + LANES ≤ length text.now }
+    ensures within { result ≤ LANES }
+    ensures none { (k : ℕ) → at ≤ k → k < at + result → is_byte2 first second (slice_index text.now k) ≡ false }
+{
+    let lanes = u8x16::from_slice(&text[at..]);
+    let marks = (lanes.simd_eq(u8x16::splat(first))
+        | lanes.simd_eq(u8x16::splat(second))).to_bitmask();
+    if marks == 0 {
+        LANES
+    } else {
+        marks.trailing_zeros() as usize
+    }
+}
+
+// As `next_of`, byte by byte.
+fn next_in_rest(first: u8, second: u8, text: &[u8], from: usize) -> usize
+    requires { from ≤ length text.now }
+    ensures behind { from ≤ result }
+    ensures within { result ≤ length text.now }
+    ensures none { (k : ℕ) → from ≤ k → k < result → is_byte2 first second (slice_index text.now k) ≡ false }
+{
+    let mut at = from;
+    'bytes: while at < text.len() {
+        let byte = text[at];
+        if byte == first || byte == second {
+            return at;
+        }
+        at += 1;
+    }
+    at
+}
+
 // The place of the first of two bytes from a place on, or the length of the text.
+#[inline(always)]
 fn next_of(first: u8, second: u8, text: &[u8], from: usize) -> usize
     requires { from ≤ length text.now }
     ensures behind { from ≤ result }
     ensures within { result ≤ length text.now }
     ensures none { (k : ℕ) → from ≤ k → k < result → is_byte2 first second (slice_index text.now k) ≡ false }
 {
-    match memchr2(first, second, &text[from..]) {
-        Some(at) => from + at,
-        None => text.len(),
+    let mut at = from;
+    'lanes: while text.len() - at >= LANES {
+        let run = run_at(first, second, text, at);
+        at += run;
+        if run < LANES {
+            return at;
+        }
     }
+    next_in_rest(first, second, text, at)
 }
 
 // The first place from one on whose byte may end the word or change the side, or the length of the text.

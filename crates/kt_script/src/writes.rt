@@ -10,17 +10,19 @@ ghost use Rattle.kt_cells.specs.Spelling.{cell_list};
 ghost use Rattle.kt_history.specs.declared.operation.RowOp.{RowOp};
 ghost use Rattle.kt_schema.specs.Columns.{other_columns};
 ghost use Rattle.kt_script.specs.declared.forms.OpForm.TheVariants as form;
-ghost use Rattle.kt_script.specs.Pieces.{words_in};
 ghost use Rattle.kt_script.specs.Columns.{IsTable};
 ghost use Rattle.kt_script.specs.Reasons.{no_of, reason_if};
 ghost use Rattle.kt_script.specs.Buffers.{Spells, HasSpelling, spelled_op};
-ghost use Rattle.kt_script.specs.Writes.{rest_no, rest_cells, behind_no, op_form, op_no, op_of, op_said, ops_of, ops_no, many_no, twice, op_in, later_in, ops_in, ReadsWrite};
+ghost use Rattle.kt_script.specs.Writes.{rest_no, rest_cells, behind_no, op_form, op_no, op_of, op_said, ops_of, ops_no, many_no, twice, first_op, later_ops, words_cut, ops_cut, op_in, later_in, ops_in, ReadsWrite};
 
 use crate::columns::LineNo;
 use crate::forms::{OpForm, op_form, op_kind};
 use crate::least::Least;
 use crate::named::{TakenNames, left_out_no, take_names};
-use crate::operations::{behind_op, left_no, missing_no, next_op_word, put_others, take_key_into};
+use crate::operations::{
+    behind_none, behind_op, first_op_word, left_no, missing_no, put_others, take_key_into,
+};
+use crate::word::next_word;
 use kt_base::limits::OPERATIONS;
 use kt_base::{Cell, Cells, NoMemory, Octets};
 use kt_cells::Tail;
@@ -166,22 +168,22 @@ fn read_behind<'a>(
     Ok(behind_op(left))
 }
 
-// An operation. What is left behind its `;` is given, if it has one.
+// An operation, whose line is cut behind its first word. What is left behind its `;` is given, if it has one.
 fn read_op<'a>(
     alloc: Global,
     schema: &Schema,
-    rest: Option<&'a [u8]>,
+    cut: Option<(&'a [u8], Option<&'a [u8]>)>,
     op: &mut SpelledOp,
     no: &mut Least,
 ) -> Result<Option<Option<&'a [u8]>>, NoMemory>
     requires { IsTable schema.now }
-    ensures op { OnOk result (17 < no.new → Spells op.new (op_of schema.now (op_in rest.entry))) }
-    ensures later { IfOk result (λ left. ops_in left ≡ later_in rest.entry) }
-    ensures least { OnOk result (no.new ≡ min no.old (op_no schema.now (op_in rest.entry))) }
+    ensures op { OnOk result (17 < no.new → Spells op.new (op_of schema.now (first_op (words_cut cut.entry)))) }
+    ensures later { IfOk result (λ left. ops_in left ≡ later_ops (words_cut cut.entry)) }
+    ensures least { OnOk result (no.new ≡ min no.old (op_no schema.now (first_op (words_cut cut.entry)))) }
 {
-    let Some((word, behind)) = next_op_word(rest) else {
+    let Some((word, behind)) = first_op_word(cut) else {
         no.note(Some(12));
-        return Ok(behind_op(rest));
+        return Ok(behind_none(cut));
     };
     match op_kind(word) {
         Some(kind) => read_behind(alloc, schema, kind, behind, op, no),
@@ -192,28 +194,75 @@ fn read_op<'a>(
     }
 }
 
-// Room for one operation of so many bytes, where there is none yet.
-fn make_room(alloc: Global, ops: &mut OpList, bytes: usize) -> Result<(), NoMemory>
+// The same operations, with their line cut behind its first word.
+fn cut_ops(left: Option<Option<&[u8]>>) -> Option<Option<(&[u8], Option<&[u8]>)>>
+    ensures { ops_cut result ≡ ops_in left.entry }
+{
+    match left {
+        Some(rest) => Some(next_word(rest)),
+        None => None,
+    }
+}
+
+// How many bytes of a line are of one operation, and how many are left behind it. They tell nothing: only a guess at the
+// room for all rests on them.
+#[derive(Clone, Copy)]
+struct Share {
+    own: usize,
+    behind: usize,
+}
+
+impl Share {
+    // Of an operation behind its first word, behind which another may be left.
+    fn of(cut: Option<(&[u8], Option<&[u8]>)>, left: Option<Option<&[u8]>>) -> Share {
+        let behind = match left {
+            Some(Some(text)) => text.len(),
+            _ => 0,
+        };
+        let own = match cut {
+            Some((_, Some(text))) => text.len().saturating_sub(behind),
+            _ => 0,
+        };
+        Share { own, behind }
+    }
+
+    // About how many operations stand from this one on, where all are as long.
+    fn ops_about(self) -> usize {
+        (self.behind / self.own.max(1))
+            .saturating_add(1)
+            .min(OPERATIONS)
+    }
+}
+
+// Room for the operations of a line, where there is none yet: its first one has so many bytes.
+fn make_room(alloc: Global, ops: &mut OpList, bytes: usize, share: Share) -> Result<(), NoMemory>
     ensures { OnOk result (ops.new ≡ ops.old) }
 {
     if ops.is_empty() {
-        *ops = OpList::with_capacity(alloc, 1, bytes)?;
+        let about = share.ops_about();
+        *ops = OpList::with_capacity(alloc, about, bytes.saturating_mul(about))?;
     }
     Ok(())
 }
 
 // Adds an operation as it is spelled.
-fn push_op(alloc: Global, ops: &mut OpList, op: &SpelledOp) -> Result<(), NoMemory>
+fn push_op(alloc: Global, ops: &mut OpList, op: &SpelledOp, share: Share) -> Result<(), NoMemory>
     requires { HasSpelling op.now }
     ensures { OnOk result (ops.new ≡ ops.old ++ spelled_op op.now ∷ []) }
 {
     let spelled = OpRef::of(op.kind, op.key.as_slice(), op.cells.added());
-    make_room(alloc, ops, spelled.len())?;
+    make_room(alloc, ops, spelled.len(), share)?;
     ops.push(&spelled)
 }
 
 // Keeps an operation, if there is room for it. One that a reason up to 17 refuses is not kept.
-fn keep_op(alloc: Global, ops: &mut OpList, op: &SpelledOp, no: &mut Least) -> Result<(), NoMemory>
+fn keep_op(
+    alloc: Global,
+    ops: &mut OpList,
+    op: &SpelledOp,
+    share: Share,
+    no: &mut Least,
+) -> Result<(), NoMemory>
     requires held { length ops.old ≤ 64 }
     requires fits { 17 < no.old → HasSpelling op.now }
     ensures least { OnOk result (no.new ≡ min no.old (reason_if (nat_lt 63 (length ops.old)) 18)) }
@@ -227,49 +276,50 @@ fn keep_op(alloc: Global, ops: &mut OpList, op: &SpelledOp, no: &mut Least) -> R
     }
     no.note(None);
     if no.is_above(17) {
-        push_op(alloc, ops, op)
+        push_op(alloc, ops, op, share)
     } else {
         Ok(())
     }
 }
 
-// Adds the operations of a line. They count only where no reason up to 18 holds.
+// Adds the operations of a line that is cut behind its first word. They count only where no reason up to 18 holds.
 fn add_ops(
     alloc: Global,
     schema: &Schema,
-    line: Option<&[u8]>,
+    first: Option<(&[u8], Option<&[u8]>)>,
     op: &mut SpelledOp,
     ops: &mut OpList,
     no: &mut Least,
 ) -> Result<(), NoMemory>
     requires table { IsTable schema.now }
     requires none { ops.old ≡ [] }
-    ensures ops { OnOk result (18 < no.new → ops.new ≡ map (op_of schema.now) (ops_of (words_in line.entry))) }
-    ensures least { OnOk result (no.new ≡ min no.old (min (ops_no schema.now (ops_of (words_in line.entry))) (many_no 0 (ops_of (words_in line.entry))))) }
+    ensures ops { OnOk result (18 < no.new → ops.new ≡ map (op_of schema.now) (ops_of (words_cut first.entry))) }
+    ensures least { OnOk result (no.new ≡ min no.old (min (ops_no schema.now (ops_of (words_cut first.entry))) (many_no 0 (ops_of (words_cut first.entry))))) }
 {
-    let mut left = Some(line);
-    'ops: while let Some(rest) = left {
-        left = read_op(alloc, schema, rest, op, no)?;
-        keep_op(alloc, ops, op, no)?;
+    let mut left = Some(first);
+    'ops: while let Some(cut) = left {
+        let rest = read_op(alloc, schema, cut, op, no)?;
+        keep_op(alloc, ops, op, Share::of(cut, rest), no)?;
+        left = cut_ops(rest);
     }
     no.note(None);
     Ok(())
 }
 
-// The operations of a line, of which a copy takes no memory. They count only where no reason up to 18 holds.
+// The operations of such a line, of which a copy takes no memory. They count only where no reason up to 18 holds.
 fn read_ops(
     alloc: Global,
     schema: &Schema,
-    line: Option<&[u8]>,
+    first: Option<(&[u8], Option<&[u8]>)>,
     op: &mut SpelledOp,
     no: &mut Least,
 ) -> Result<OpList, NoMemory>
     requires { IsTable schema.now }
-    ensures ops { IfOk result (λ ops. 18 < no.new → ops ≡ map (op_of schema.now) (ops_of (words_in line.entry))) }
-    ensures least { IfOk result (λ ops. no.new ≡ min no.old (min (ops_no schema.now (ops_of (words_in line.entry))) (many_no 0 (ops_of (words_in line.entry))))) }
+    ensures ops { IfOk result (λ ops. 18 < no.new → ops ≡ map (op_of schema.now) (ops_of (words_cut first.entry))) }
+    ensures least { IfOk result (λ ops. no.new ≡ min no.old (min (ops_no schema.now (ops_of (words_cut first.entry))) (many_no 0 (ops_of (words_cut first.entry))))) }
 {
     let mut ops = OpList::new(alloc);
-    add_ops(alloc, schema, line, op, &mut ops, no)?;
+    add_ops(alloc, schema, first, op, &mut ops, no)?;
     ops.shared(alloc)
 }
 
@@ -338,18 +388,18 @@ fn twice_no(ops: &OpList) -> Option<u8>
     if is_twice(ops) { Some(19) } else { None }
 }
 
-/// The write of a line of a script, from its first word on. The buffers are for its operations.
+/// The write of a line of a script, cut behind its first word. The buffers are for its operations.
 pub(crate) fn read_write(
     alloc: Global,
     schema: &Schema,
-    line: Option<&[u8]>,
+    first: Option<(&[u8], Option<&[u8]>)>,
     op: &mut SpelledOp,
 ) -> Result<Write, LineNo>
     requires { IsTable schema.now }
-    ensures { ReadsWrite schema.now (words_in line.entry) result }
+    ensures { ReadsWrite schema.now (words_cut first.entry) result }
 {
     let mut no = Least::none();
-    let Ok(ops) = read_ops(alloc, schema, line, op, &mut no) else {
+    let Ok(ops) = read_ops(alloc, schema, first, op, &mut no) else {
         return Err(LineNo::Memory);
     };
     no.note(twice_no(&ops));

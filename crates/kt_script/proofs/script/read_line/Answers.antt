@@ -15,5 +15,6 @@ returns-in-Some-Session c =
 pub returns-in-Some-Command : goal.returns-in-Some-Command
 returns-in-Some-Command c =
     let first = c.cut_word.result.0.now in
+    let led = subst (λ ws. ReadsLed c.args.schema.now c.args.sessions.now (Some (lead.Command c.in-Some-Command.word)) ws c.read_command_line.new.sessions c.read_command_line.result) (sym c.cut_word.ensures) c.read_command_line.ensures in
     body_led c.args.schema.now c.args.sessions.now c.read_command_line.new.sessions c.read_command_line.result (words_of c.args.line.now) first (words_in c.cut_word.result.1) (Some (lead.Command c.in-Some-Command.word)) c.cut_word.ensures
-    (sym (rw c.in-Some-Command.field-0-is at c.in-Some-Command.ensures)) (c.read_command_line.ensures first c.cut_word.ensures)
+    (sym (rw c.in-Some-Command.field-0-is at c.in-Some-Command.ensures)) led
