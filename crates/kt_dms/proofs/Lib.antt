@@ -4,5 +4,6 @@ pub mod Frames
 pub mod Joining
 pub mod Releasing
 pub mod Listing
+pub mod Missed
 pub mod Spelling
 pub mod RowsJoined

@@ -261,7 +261,7 @@ module _ (tree : Tree) (pool : Contents) (o : ℕ) (st : IsHeld tree pool) (afte
     pub next_spells : SpellsChange (bytes_at pool p.cell)
     next_spells = found_in (λ (p : Placed). SpellsChange (bytes_at pool p.cell)) (is_later after) placed p (each_placed pool o (trees.entries tree pool) st.each) (sym found)
 
-    next_rest : later after placed ≡ p ∷ later (Some p.ts) placed
+    pub next_rest : later after placed ≡ p ∷ later (Some p.ts) placed
     next_rest = later_next after placed p (placed_rise pool o (trees.entries tree pool) st.tree.rising st.each) (sym found)
 
     pub next_fewer : length (later (Some p.ts) placed) < length (later after placed)
@@ -290,7 +290,7 @@ module _ (tree : Tree) (pool : Contents) (o : ℕ) (st : IsHeld tree pool) (afte
     live_next now whole e = sym (ap (λ ps. apply_all (steps_at_places pool ps) now) next_rest) ∙ e
 
   module _ (over : find (is_later after) placed ≡ None) where
-    nothing_left : later after placed ≡ []
+    pub nothing_left : later after placed ≡ []
     nothing_left = later_none after placed over
 
     pub row_done : (t : ℕ) (row whole : Option Row) → after_steps t (steps_at_places pool (later after placed)) row ≡ whole → row ≡ whole

@@ -1,6 +1,7 @@
 -- What a DeltaMemStore is to its callers, read with its pool.
 use Rattle.std.specs.Prelude.{◌≡◌, ℕ, ◌+◌, ◌<◌, ◌≤◌, ◌==◌, ◌&&◌, ◌||◌, ◌⊎◌, Bool, true, List, [], ◌∷◌, map, length, nat_lt, nat_le, None, if◌then◌else◌}
 use Rattle.std.specs.List.{filter, sum_by, AllByRecursion}
+use Rattle.kt_history.specs.declared.change.Change.{Change}
 use Rattle.kt_history.specs.declared.changes.Delta.{Delta}
 use Rattle.kt_history.specs.declared.operation.RowOp.{RowOp}
 use Rattle.kt_history.specs.declared.target.Kindly.{Kindly}
@@ -39,6 +40,10 @@ steps_for n (d ∷ deltas) = if d.ordinal == n then (d.ts, d.change) ∷ steps_f
 -- the changes at or below a time
 abbrev pub deltas_upto : ℕ → List Delta → List Delta
 deltas_upto upto deltas = filter (λ (d : Delta). nat_le d.ts upto) deltas
+
+-- changes of a row above a time
+abbrev pub steps_above : ℕ → Steps → Steps
+steps_above above steps = filter (λ (c : ℕ × Change). nat_lt above c.0) steps
 
 -- whether a change stands before another: that of a lesser ordinal, or of the same one and a lesser timestamp
 abbrev pub is_before : Delta → Delta → Bool

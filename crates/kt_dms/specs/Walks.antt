@@ -46,13 +46,13 @@ step_at_place pool p = (p.ts, change_in (bytes_at pool p.cell))
 abbrev pub steps_at_places : Contents → List Placed → Steps
 steps_at_places pool placed = map (step_at_place pool) placed
 
--- the changes of so many entries are listed, and the walk comes to the others
-pub record Walks (tree : Tree) (pool : Contents) (upto : ℕ) (walk : Walk) (n : ℕ) (now : List Delta) : Type 0 where
+-- the changes of so many entries are listed behind those that were, and the walk comes to the others
+pub record Walks (tree : Tree) (pool : Contents) (upto : ℕ) (walk : Walk) (n : ℕ) (old now : List Delta) : Type 0 where
   pub stands : IsWalk walk pool
   pub front : List Entry
   pub is : trees.entries tree pool ≡ front ++ to_come walk pool
   pub count : length front ≡ n
-  pub listed : now ≡ deltas_upto upto (map (delta_at pool) front)
+  pub listed : now ≡ old ++ deltas_upto upto (map (delta_at pool) front)
 
 -- the first of some entries
 abbrev pub first_of : List Entry → Option Entry

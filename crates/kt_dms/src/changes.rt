@@ -1,9 +1,9 @@
 //! Changes in places of the pool.
-ghost use Rattle.std.specs.Prelude.{◌≡◌, ◌≢◌, ◌≤◌, ◌<◌, ℕ, None, Option, length, slice_index, is_some, IfOk, OnOk};
+ghost use Rattle.std.specs.Prelude.{◌≡◌, ◌≢◌, ◌≤◌, ◌<◌, ◌++◌, ◌∷◌, [], ℕ, None, Option, drop, length, slice_index, is_some, IfOk, OnOk};
 ghost use Rattle.kt_cells.specs.Reading.{cells_behind};
 ghost use Rattle.kt_cells.specs.Spelled.{SpellsCells};
 ghost use Rattle.kt_history.specs.Rows.{Row, apply};
-ghost use Rattle.kt_history.specs.Stores.{change_of};
+ghost use Rattle.kt_history.specs.Stores.{change_of, key_change};
 ghost use Rattle.kt_pool.specs.Contents.{Stands, at_cell, bytes_at, cells_for};
 ghost use Rattle.kt_tree.specs.Takes.{Takes};
 ghost use Rattle.kt_dms.specs.Changes.{kind_byte as number_of_kind, kind_of, change_in, change_len, SpellsChange};
@@ -11,7 +11,7 @@ ghost use Rattle.kt_dms.specs.Changes.{kind_byte as number_of_kind, kind_of, cha
 use kt_base::{Cells, NoMemory};
 use kt_bytes::Stop;
 use kt_cells::lists::cells_of;
-use kt_history::{Change, Kindly, OpRef};
+use kt_history::{Change, ChangeList, Kindly, OpRef};
 use kt_pool::{Place, Pool};
 use std::alloc::Global;
 
@@ -114,6 +114,43 @@ pub fn change_at(
     }
     read_into(pool, cell, buffer)?;
     change_in(alloc, buffer)
+}
+
+// The cells of a change, spelled behind their count.
+fn spelled_in(bytes: &[u8]) -> &[u8]
+    requires { SpellsChange bytes.now }
+    ensures { result.now ≡ drop 1 bytes.now }
+{
+    &bytes[1..]
+}
+
+// Adds the change that some bytes say to a list.
+fn push_bytes(bytes: &[u8], key: &[u8], ts: u64, list: &mut ChangeList) -> Result<(), NoMemory>
+    requires { SpellsChange bytes.now }
+    ensures { OnOk result (list.new ≡ list.old ++ key_change key.now (ts, change_in bytes.now) ∷ []) }
+{
+    list.push(key, ts, kind_in(bytes), spelled_in(bytes))
+}
+
+/// Adds the change in this cell to a list, of a key and at a time. It is read as `change_at` reads it.
+pub fn push_at(
+    pool: &Pool,
+    cell: u32,
+    key: &[u8],
+    ts: u64,
+    list: &mut ChangeList,
+    buffer: &mut Vec<u8>,
+) -> Result<(), NoMemory>
+    requires { SpellsChange (bytes_at pool.now cell) }
+    ensures { OnOk result (list.new ≡ list.old ++ key_change key.now (ts, change_in (bytes_at pool.now cell)) ∷ []) }
+{
+    let place = Place { cell };
+    let len = pool.len(place);
+    if len <= WHOLE {
+        return push_bytes(pool.front(place, len), key, ts, list);
+    }
+    read_into(pool, cell, buffer)?;
+    push_bytes(buffer, key, ts, list)
 }
 
 /// What becomes of a row's being there by the change in this cell.

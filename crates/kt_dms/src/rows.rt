@@ -1,19 +1,20 @@
 //! The changes of one row, and all changes, one after the other.
-ghost use Rattle.std.specs.Prelude.{◌≡◌, ◌++◌, ◌∷◌, [], Option, Some, length, is_some, IfOk, OnOk};
+ghost use Rattle.std.specs.Prelude.{◌≡◌, ◌++◌, ◌∷◌, [], Option, Some, length, map, nat_le, is_some, IfOk, OnOk};
+ghost use Rattle.std.specs.Option.{option_map};
 ghost use Rattle.std.specs.List.{find};
 ghost use Rattle.kt_history.specs.Rows.{Row, apply};
-ghost use Rattle.kt_history.specs.Stores.{after_steps, apply_all};
+ghost use Rattle.kt_history.specs.Stores.{after_steps, apply_all, key_change};
 ghost use Rattle.kt_pool.specs.Contents.{bytes_at};
 ghost use Rattle.kt_tree.specs.Trees.{IsPairOf, entries};
-ghost use Rattle.kt_dms.specs.Keys.{IsKey};
+ghost use Rattle.kt_dms.specs.Keys.{IsKey, ordinal_of as ordinal_in};
 ghost use Rattle.kt_dms.specs.Changes.{SpellsChange, change_in};
-ghost use Rattle.kt_dms.specs.Stores.{IsHeld, steps_for, delta_at, deltas_in, deltas_upto};
+ghost use Rattle.kt_dms.specs.Stores.{IsHeld, steps_for, steps_above, delta_at, deltas_in, deltas_upto};
 ghost use Rattle.kt_dms.specs.Walks.{placed_for, placed_if, is_behind, is_later, Released};
 
-use crate::changes::{change_at, stays};
+use crate::changes::{change_at, push_at, stays};
 use crate::keys::{KEY_LEN, front_of, key_of, ordinal_of, ts_of};
 use kt_base::{Cells, NoMemory};
-use kt_history::{Delta, apply};
+use kt_history::{ChangeList, Delta, apply};
 use kt_pool::{Place, Pool};
 use kt_tree::{Pair, Tree};
 use std::alloc::Global;
@@ -137,6 +138,46 @@ pub fn push_change(
             ts,
             change,
         })?;
+    }
+    Ok(())
+}
+
+// The row of an entry.
+fn row_of(pool: &Pool, pair: Pair) -> u32
+    requires { IsKey (bytes_at pool.now pair.key.cell) }
+    ensures { result ≡ ordinal_in (bytes_at pool.now pair.key.cell) }
+{
+    ordinal_of(pool.front(pair.key, KEY_LEN))
+}
+
+/// The row of the first change that is of a row or of a later one, if there is one.
+pub fn next_row(tree: &Tree, pool: &Pool, from: u32) -> Option<u32>
+    requires { IsHeld tree.now pool.now }
+    ensures { result ≡ option_map (λ d. d.ordinal) (find (λ d. nat_le from d.ordinal) (deltas_in tree.now pool.now)) }
+{
+    match pair_behind(tree, pool, from, None) {
+        Some(pair) => Some(row_of(pool, pair)),
+        None => None,
+    }
+}
+
+/// Adds the changes of a row above a time to a list under a key, the oldest first.
+pub fn push_above(
+    tree: &Tree,
+    pool: &Pool,
+    ordinal: u32,
+    above: u64,
+    key: &[u8],
+    list: &mut ChangeList,
+    buffer: &mut Vec<u8>,
+) -> Result<(), NoMemory>
+    requires { IsHeld tree.now pool.now }
+    ensures { OnOk result (list.new ≡ list.old ++ map (key_change key.now) (steps_above above (steps_for ordinal (deltas_in tree.now pool.now)))) }
+{
+    let mut after = Some(above);
+    'changes: while let Some(placed) = next_of(tree, pool, ordinal, after) {
+        push_at(pool, placed.cell, key, placed.ts, list, buffer)?;
+        after = Some(placed.ts);
     }
     Ok(())
 }

@@ -1,14 +1,16 @@
 //! The store.
-ghost use Rattle.std.specs.Prelude.{◌≡◌, ◌+◌, ◌≤◌, ℕ, [], Option, None, length, is_some, IfOk, MatchOption};
+ghost use Rattle.std.specs.Prelude.{◌≡◌, ◌+◌, ◌++◌, ◌≤◌, ℕ, [], Option, None, length, map, nat_le, is_some, IfOk, OnOk, MatchOption};
+ghost use Rattle.std.specs.List.{find};
+ghost use Rattle.std.specs.Option.{option_map};
 ghost use Rattle.kt_history.specs.Rows.{Row};
-ghost use Rattle.kt_history.specs.Stores.{after_steps, apply_all, share, step_at};
+ghost use Rattle.kt_history.specs.Stores.{after_steps, apply_all, key_change, share, step_at};
 ghost use Rattle.kt_pool.specs.Contents.{Contents, at_cell, used};
 
 use crate::changes::place;
 use crate::keys::key_of;
-use crate::rows::{is_live, push_change, release, row_at};
+use crate::rows::{is_live, next_row, push_above, push_change, release, row_at};
 use kt_base::{Cells, NoMemory};
-use kt_history::{DeltaList, Kindly, OpRef};
+use kt_history::{ChangeList, Delta, DeltaList, Kindly, OpRef};
 use kt_pool::Pool;
 use kt_tree::Tree;
 use std::alloc::Global;
@@ -21,7 +23,7 @@ pub struct DeltaMem {
 }
 
 impl DeltaMem {
-    ghost use Rattle.kt_dms.specs.Stores.{IsStore, deltas_of, steps_for, deltas_upto, Owns, cells_had, number_of, Joins};
+    ghost use Rattle.kt_dms.specs.Stores.{IsStore, deltas_of, steps_for, steps_above, deltas_upto, Owns, cells_had, number_of, Joins};
 
     /// A store with no change. It takes no cell.
     pub fn new(id: u64) -> DeltaMem
@@ -97,12 +99,17 @@ impl DeltaMem {
         is_live(&self.tree, pool, ordinal, before)
     }
 
-    /// All changes at or below a time, by ordinal, then timestamp.
-    pub fn changes(&self, alloc: Global, pool: &Pool, upto: u64) -> Result<DeltaList, NoMemory>
+    /// Lists all changes at or below a time behind others, by ordinal, then timestamp.
+    pub fn list_changes(
+        &self,
+        alloc: Global,
+        pool: &Pool,
+        upto: u64,
+        list: &mut Vec<Delta>,
+    ) -> Result<(), NoMemory>
         requires { IsStore self.now pool.now }
-        ensures { IfOk result (λ list. list ≡ deltas_upto upto (deltas_of self.now pool.now)) }
+        ensures { OnOk result (list.new.items ≡ list.old.items ++ deltas_upto upto (deltas_of self.now pool.now)) }
     {
-        let mut list = Vec::new(alloc);
         let mut buffer = Vec::new(alloc);
         let mut walk = self.tree.walk(alloc);
         'changes: for _ in 0..self.tree.len() {
@@ -112,9 +119,44 @@ impl DeltaMem {
             let Some(pair) = next else {
                 break;
             };
-            push_change(alloc, pool, pair, upto, &mut list, &mut buffer)?;
+            push_change(alloc, pool, pair, upto, list, &mut buffer)?;
         }
+        Ok(())
+    }
+
+    /// All changes at or below a time, by ordinal, then timestamp.
+    pub fn changes(&self, alloc: Global, pool: &Pool, upto: u64) -> Result<DeltaList, NoMemory>
+        requires { IsStore self.now pool.now }
+        ensures { IfOk result (λ list. list ≡ deltas_upto upto (deltas_of self.now pool.now)) }
+    {
+        let mut list = Vec::new(alloc);
+        self.list_changes(alloc, pool, upto, &mut list)?;
         Ok(DeltaList::of(list))
+    }
+
+    /// The row of the first change that is of a row or of a later one, if there is one.
+    pub fn next_row(&self, pool: &Pool, from: u32) -> Option<u32>
+        requires { IsStore self.now pool.now }
+        ensures { result ≡ option_map (λ d. d.ordinal) (find (λ d. nat_le from d.ordinal) (deltas_of self.now pool.now)) }
+    {
+        next_row(&self.tree, pool, from)
+    }
+
+    /// Adds the changes of a row above a time to a list under a key, the oldest first. They are read through a buffer where they
+    /// do not lie together.
+    pub fn push_above(
+        &self,
+        pool: &Pool,
+        ordinal: u32,
+        above: u64,
+        key: &[u8],
+        list: &mut ChangeList,
+        buffer: &mut Vec<u8>,
+    ) -> Result<(), NoMemory>
+        requires { IsStore self.now pool.now }
+        ensures { OnOk result (list.new ≡ list.old ++ map (key_change key.now) (steps_above above (steps_for ordinal (deltas_of self.now pool.now)))) }
+    {
+        push_above(&self.tree, pool, ordinal, above, key, list, buffer)
     }
 
     /// Gives back the cells of all nodes, keys and changes.

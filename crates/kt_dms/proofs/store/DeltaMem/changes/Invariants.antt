@@ -1,5 +1,0 @@
-use Rattle.kt_dms.specs.Walks.{Walks}
-use Rattle.kt_dms.proofs.store.DeltaMem.changes.Given as goal
-
-abbrev pub invariant-changes : goal.invariant-changes
-invariant-changes l = Walks l.self.tree l.pool l.upto l.walk l.counter l.list.items
