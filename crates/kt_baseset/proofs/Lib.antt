@@ -4,6 +4,7 @@ pub mod Spelled
 pub mod Fronts
 pub mod Each
 pub mod Found
+pub mod Above
 pub mod Whole
 pub mod Once
 pub mod OnePlace

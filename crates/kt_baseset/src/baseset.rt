@@ -167,6 +167,27 @@ fn search(keys: &ColumnData, lookup: &Lookup, key: &[u8]) -> Option<u32>
     find(keys, start, end, key)
 }
 
+/// The place of the first key above another, or the count of the keys.
+fn first_above(keys: &ColumnData, key: &[u8]) -> u32
+    requires texts { tables.AreTexts keys.now }
+    requires rise { Rises (keys_of keys.now.cells) }
+    ensures within { result ≤ length keys.now.cells }
+    ensures before { (i : ℕ) → i < result → ¬ IsBelow key.now (slice_index_or (keys_of keys.now.cells) i []) }
+    ensures above { (i : ℕ) → result ≤ i → i < length keys.now.cells → IsBelow key.now (slice_index_or (keys_of keys.now.cells) i []) }
+{
+    let mut low = 0;
+    let mut high = keys.len();
+    'halves: while low < high {
+        let mid = low + (high - low) / 2;
+        if keys.compare(mid, key).is_gt() {
+            high = mid;
+        } else {
+            low = mid + 1;
+        }
+    }
+    low
+}
+
 impl BaseSet {
     /// The base set of what was read.
     pub(crate) fn of(keys: ColumnData, columns: Vec<HeldColumn>, lookup: Lookup) -> BaseSet
@@ -204,6 +225,16 @@ impl BaseSet {
         ensures none { IfNone result ((i : ℕ) → i < length self.now.rows → key_at self.now.rows i ≢ key.now) }
     {
         search(&self.keys, &self.lookup, key)
+    }
+
+    /// The place of the first key above another, or how many rows there are. Half of the keys that are left is passed by each
+    /// comparison.
+    pub fn first_above(&self, key: &[u8]) -> u32
+        ensures within { result ≤ length self.now.rows }
+        ensures before { (i : ℕ) → i < result → ¬ IsBelow key.now (key_at self.now.rows i) }
+        ensures above { (i : ℕ) → result ≤ i → i < length self.now.rows → IsBelow key.now (key_at self.now.rows i) }
+    {
+        first_above(&self.keys, key)
     }
 
     /// The cells of a row.
