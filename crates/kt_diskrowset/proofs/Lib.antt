@@ -1,2 +1,11 @@
 pub mod OneRow
+pub mod Plain
 pub mod MemsInTurn
+pub mod Verdicts
+pub mod Histories
+pub mod Beside
+pub mod Rowsets
+pub mod Copying
+pub mod MissedRows
+pub mod Leaving
+pub mod NewFiles

@@ -33,7 +33,7 @@ module _ (pool : Contents) (n : ℕ) (mems : List DeltaMem) (i : ℕ) where
   live_over row whole past so = sym (ap (λ ms. apply_all (steps_in_mems pool n ms) row) (drop_all i mems past)) ∙ so
 
   module _ (low : i < length mems) where
-    rest_is : drop i mems ≡ store_at mems i ∷ drop (i + 1) mems
+    pub rest_is : drop i mems ≡ store_at mems i ∷ drop (i + 1) mems
     rest_is = drop-cons mems i blank low ∙ (let e : suc i ≡ i + 1 = omega arith in ap (λ k. store_at mems i ∷ drop k mems) e)
 
     pub row_more : (t : ℕ) (row row2 whole : Option Row) → row2 ≡ after_steps t (steps_for n (deltas_of (store_at mems i) pool)) row → after_steps t (steps_in_mems pool n (drop i mems)) row ≡ whole → after_steps t (steps_in_mems pool n (drop (i + 1) mems)) row2 ≡ whole

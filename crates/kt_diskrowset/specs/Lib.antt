@@ -1,2 +1,10 @@
 pub mod Files
 pub mod Mems
+pub mod Rows
+pub mod Alive
+pub mod Rowset
+pub mod Joining
+pub mod Data
+pub mod Jobs
+pub mod Missed
+pub mod Laws

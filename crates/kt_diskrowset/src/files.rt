@@ -1,5 +1,6 @@
 //! Delta files that several owners share.
 ghost use Rattle.std.specs.Prelude.{◌≡◌, ◌==◌, length, IfOk};
+ghost use Rattle.kt_diskrowset.specs.Files.{as_files};
 
 use kt_base::NoMemory;
 use kt_deltafile::DeltaFile;
@@ -31,6 +32,17 @@ impl FileHeld {
     }
 }
 
+// Other owners of the same files.
+fn copies(alloc: Global, files: &[FileHeld]) -> Result<Vec<FileHeld>, NoMemory>
+    ensures { IfOk result (λ copies. as_files copies.items ≡ as_files files.now) }
+{
+    let mut copies = Vec::new(alloc);
+    'files: for file in files {
+        copies.push(file.copy()?)?;
+    }
+    Ok(copies)
+}
+
 /// The UNDO files or the REDO files of a disk rowset. Contracts see them as a list.
 #[derive(Drop)]
 pub struct FileLists {
@@ -47,6 +59,15 @@ impl Model for FileLists {
 }
 
 impl FileLists {
+    /// Other owners of the same files.
+    pub fn copy(&self, alloc: Global) -> Result<FileLists, NoMemory>
+        ensures { IfOk result (λ copy. as_files copy ≡ as_files self.now) }
+    {
+        Ok(FileLists {
+            files: copies(alloc, &self.files)?,
+        })
+    }
+
     /// The files of a vector, which takes no memory.
     pub fn of(files: Vec<FileHeld>) -> FileLists
         ensures { result ≡ files.items }

@@ -13,7 +13,7 @@ use kt_rowfiles::RowRecords;
 use std::alloc::Global;
 
 /// The records of a row in one file.
-fn records_of(file: &DeltaFile, ordinal: u32) -> &[Delta]
+pub(crate) fn records_of(file: &DeltaFile, ordinal: u32) -> &[Delta]
     ensures { steps_in result.now ≡ records_for ordinal file.now.list }
 {
     let (start, end) = file.of_row(ordinal);

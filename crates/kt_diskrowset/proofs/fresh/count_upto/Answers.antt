@@ -1,0 +1,9 @@
+use Rattle.std.proofs.Common.{rules}
+use Rattle.std.specs.Prelude.{nat_le}
+use Rattle.std.proofs.lemmas.List.Sorted.{IsPartitionPoint-from_clause, IsPartitionedBy-leb}
+use Rattle.kt_history.specs.declared.changes.Delta.{Delta}
+use Rattle.kt_diskrowset.proofs.fresh.count_upto.Goals as goal
+
+pub returns-clause-parts : goal.returns-clause-parts
+returns-clause-parts c =
+    IsPartitionPoint-from_clause (λ (d : Delta). nat_le d.ordinal c.args.ordinal) _ _ c.partition_point.ensures.partitioned (IsPartitionedBy-leb (λ (d : Delta). d.ordinal) c.args.changes.now c.args.ordinal c.requires) (λ a r q k. search rules)

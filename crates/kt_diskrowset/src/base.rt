@@ -1,0 +1,111 @@
+//! A base file that several owners share.
+ghost use Rattle.std.specs.Prelude.{◌≡◌, ◌<◌, length, slice_get, None, Some, IfOk, MatchOption};
+ghost use Rattle.std.specs.Option.{option_copied};
+ghost use Rattle.kt_history.specs.Views.{key_above, AreRising};
+ghost use Rattle.kt_baseset.specs.Rows.{keys_in};
+ghost use Rattle.kt_baseset.specs.Tables.{key_at, cells_in};
+ghost use Rattle.kt_rowfiles.specs.Files.{row_under};
+ghost use Rattle.kt_diskrowset.specs.Rows.{rows_of};
+
+use kt_base::{Cells, NoMemory, Octets};
+use kt_baseset::BaseSet;
+use std::alloc::Global;
+use std::sync::Arc;
+
+/// A base file: its number, how many bytes it has, and its rows. One that is not written yet has the number 0.
+#[derive(Drop)]
+pub struct BaseHeld {
+    pub file: u64,
+    pub len: u64,
+    pub set: Arc<BaseSet>,
+}
+
+// The place of a key's row: the filter is asked first, then the index, and then keys are compared.
+fn place_of(set: &BaseSet, key: &[u8]) -> Option<u32>
+    ensures rise { AreRising (keys_in set.now.rows) }
+    ensures row { MatchOption result (row_under key.now 0 (rows_of set.now.rows) ≡ None) (λ i. (i < length set.now.rows) × (row_under key.now 0 (rows_of set.now.rows) ≡ Some (i, cells_in set.now.rows i))) }
+{
+    let _rows = set.rows();
+    set.ordinal(key)
+}
+
+// The place of the first key above another, or of the first of all. It is the number of rows where there is none.
+fn place_above(set: &BaseSet, after: Option<&[u8]>) -> u32
+    ensures { slice_get (keys_in set.now.rows) result ≡ key_above (option_copied after.entry) (keys_in set.now.rows) }
+{
+    match after {
+        Some(key) => set.first_above(key),
+        None => 0,
+    }
+}
+
+// The least key above another, or the least of all.
+fn key_above_in(
+    alloc: Global,
+    set: &BaseSet,
+    after: Option<&[u8]>,
+) -> Result<Option<Octets>, NoMemory>
+    ensures rise { AreRising (keys_in set.now.rows) }
+    ensures found { IfOk result (λ found. found ≡ key_above (option_copied after.entry) (keys_in set.now.rows)) }
+{
+    let at = place_above(set, after);
+    if at >= set.rows() {
+        return Ok(None);
+    }
+    Ok(Some(set.key(alloc, at)?))
+}
+
+impl BaseHeld {
+    /// Another owner of the same file.
+    pub fn copy(&self) -> Result<BaseHeld, NoMemory>
+        ensures { IfOk result (λ copy. (copy.file ≡ self.now.file) × (copy.len ≡ self.now.len) × (copy.set.value ≡ self.now.set.value)) }
+    {
+        match Arc::try_clone(&self.set) {
+            Ok(set) => Ok(BaseHeld {
+                file: self.file,
+                len: self.len,
+                set,
+            }),
+            Err(_) => Err(NoMemory),
+        }
+    }
+
+    /// The place of a key's row, if it has one. The keys of the rows rise.
+    pub fn ordinal(&self, key: &[u8]) -> Option<u32>
+        ensures rise { AreRising (keys_in self.now.set.value.rows) }
+        ensures row { MatchOption result (row_under key.now 0 (rows_of self.now.set.value.rows) ≡ None) (λ i. (i < length self.now.set.value.rows) × (row_under key.now 0 (rows_of self.now.set.value.rows) ≡ Some (i, cells_in self.now.set.value.rows i))) }
+    {
+        place_of(&self.set, key)
+    }
+
+    /// The least key above another, or the least of all. The keys of the rows rise.
+    pub fn key_after(&self, alloc: Global, after: Option<&[u8]>) -> Result<Option<Octets>, NoMemory>
+        ensures rise { AreRising (keys_in self.now.set.value.rows) }
+        ensures found { IfOk result (λ found. found ≡ key_above (option_copied after.entry) (keys_in self.now.set.value.rows)) }
+    {
+        key_above_in(alloc, &self.set, after)
+    }
+
+    /// How many rows there are.
+    pub fn rows(&self) -> u32
+        ensures { result ≡ length self.now.set.value.rows }
+    {
+        self.set.rows()
+    }
+
+    /// The key of the row at a place.
+    pub fn key(&self, alloc: Global, ordinal: u32) -> Result<Octets, NoMemory>
+        requires { ordinal < length self.now.set.value.rows }
+        ensures { IfOk result (λ key. key ≡ key_at self.now.set.value.rows ordinal) }
+    {
+        self.set.key(alloc, ordinal)
+    }
+
+    /// The row at a place.
+    pub fn row(&self, alloc: Global, ordinal: u32) -> Result<Cells, NoMemory>
+        requires { ordinal < length self.now.set.value.rows }
+        ensures { IfOk result (λ row. row ≡ cells_in self.now.set.value.rows ordinal) }
+    {
+        self.set.row(alloc, ordinal)
+    }
+}
