@@ -1,9 +1,10 @@
 -- What callers of a tree know of it when they change other places of its pool.
-use Rattle.std.proofs.Common.{◌≡◌, ℕ, ap, arith}
+use Rattle.std.proofs.Common.{◌≡◌, ℕ, List, Some, ap, arith}
 use Rattle.kt_pool.specs.Contents.{Contents, Stands, at_cell}
-use Rattle.kt_tree.specs.Shapes.{leaf, count, flat, IsTreeAt, nothing}
-use Rattle.kt_tree.specs.Trees.{IsTree, shape_of, entries, Owns}
+use Rattle.kt_tree.specs.Shapes.{leaf, count, flat, key_cells, IsTreeAt, nothing}
+use Rattle.kt_tree.specs.Trees.{IsTree, shape_of, entries, key_places, place_of, Owns}
 use Rattle.kt_tree.specs.declared.tree.Tree.{Tree}
+use Rattle.kt_tree.proofs.Keys.{place_stands}
 use Rattle.kt_tree.proofs.Shapes.{kept, spelled_is}
 use Rattle.kt_tree.proofs.Trees.{tree_is, owned_stands}
 
@@ -20,6 +21,10 @@ bare_owns tree pool e k o =
 pub owned : (tree : Tree) (pool : Contents) (k : ℕ) → IsTree tree pool → Owns tree pool k → Stands pool k
 owned tree pool k t o = owned_stands pool (shape_of tree pool) k t.stands.holds o
 
+-- the bytes of a key stand at its place
+pub key_there : (tree : Tree) (pool : Contents) (key : List ℕ) (place : ℕ) → IsTree tree pool → place_of key tree pool ≡ Some place → at_cell pool place ≡ Some key
+key_there tree pool key place t is = place_stands pool (shape_of tree pool) key place t.stands.holds is
+
 -- where a call changes no place of a tree, the tree stands with the same entries and the same places
 module _ (tree : Tree) (old new : Contents) (t : IsTree tree old) (same : (k : ℕ) → Owns tree old k → at_cell new k ≡ at_cell old k) where
   form_new : IsTreeAt new tree.root (shape_of tree old)
@@ -30,6 +35,9 @@ module _ (tree : Tree) (old new : Contents) (t : IsTree tree old) (same : (k : �
 
   pub still_entries : entries tree new ≡ entries tree old
   still_entries = ap flat (spelled_is new tree.root (shape_of tree old) form_new)
+
+  pub still_places : key_places tree new ≡ key_places tree old
+  still_places = ap key_cells (spelled_is new tree.root (shape_of tree old) form_new)
 
   pub still_owns : (k : ℕ) → Owns tree new k → Owns tree old k
   still_owns k o = let e = ap (λ s. count s k) (spelled_is new tree.root (shape_of tree old) form_new) in omega arith

@@ -1,14 +1,13 @@
 -- A walk through a tree in the order of its keys.
-use Rattle.std.proofs.Common.{◌≡◌, ◌≢◌, ℕ, ◌<◌, List, [], ◌∷◌, ◌++◌, length, refl, sym, ap, ◌∙◌, append_assoc, arith, subst, Some, None}
+use Rattle.std.proofs.Common.{◌≡◌, ◌≢◌, ℕ, List, [], ◌∷◌, ◌++◌, length, sym, ap, ◌∙◌, append_assoc, subst, Some}
 use Rattle.std.proofs.lemmas.List.{append-nil}
 use Rattle.kt_pool.specs.Contents.{Contents, Stands, at_cell, bytes_at}
 use Rattle.kt_tree.specs.Entries.{Entry}
-use Rattle.kt_tree.specs.Shapes.{nothing, node_of, Shape, leaf, node, root_of, flat, IsTreeAt}
-use Rattle.kt_tree.specs.Trees.{IsTree, entries, place_at, shape_of}
+use Rattle.kt_tree.specs.Shapes.{nothing, node_of, Shape, leaf, node, flat, IsTreeAt}
+use Rattle.kt_tree.specs.Trees.{IsTree, entries, place_at}
 use Rattle.kt_tree.specs.InOrder.{form_at, from_root, from_each, to_come, IsOpen, AreOpen, IsWalk, IsPlaced, IsFirst}
 use Rattle.kt_tree.specs.declared.node.Node.{Node}
 use Rattle.kt_tree.specs.declared.tree.Tree.{Tree}
-use Rattle.kt_tree.specs.declared.tree.Pair.{Pair}
 use Rattle.kt_tree.specs.declared.walk.Walk.{Walk}
 use Rattle.kt_tree.proofs.Joining.{node_says, tree_right, tree_left}
 use Rattle.kt_tree.proofs.Places.{stands_some}

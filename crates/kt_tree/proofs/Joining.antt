@@ -5,7 +5,7 @@ use Rattle.std.specs.Ordering.{is_eq}
 use Rattle.std.specs.declared.cmp.Ordering.TheVariants.{Equal, Greater}
 use Rattle.kt_pool.specs.Contents.{Contents, at_cell, bytes_at}
 use Rattle.kt_tree.specs.Entries.{Entry, order, IsBelow, IsRising, is_at}
-use Rattle.kt_tree.specs.Shapes.{node_of, head_of, IsNode, Shape, node, root_of, flat, one_at, count, IsTreeAt, Rewrites}
+use Rattle.kt_tree.specs.Shapes.{node_of, head_of, IsNode, Shape, node, root_of, flat, key_cells, one_at, count, IsTreeAt, Rewrites}
 use Rattle.kt_tree.specs.Changes.{Becomes}
 use Rattle.kt_tree.specs.declared.node.Node.{Node}
 use Rattle.kt_tree.proofs.Orders.{below_weaker, above_weaker, rising_below, rising_above, find_past, find_in, find_first, find_next, none_below, none_above, above_is, below_same}
@@ -44,11 +44,11 @@ module _ (old : Contents) (root : ℕ) (key : List ℕ) (n : Node) (read : n ≡
   pub is_root : (k : ℕ) → one_at root k ≡ one_at cell k
   is_root k = ap (λ c. one_at c k) t.root
 
-  module _ (mid new : Contents) (child : ℕ) (es : List Entry) (below extra all : ℕ → ℕ) (b : Becomes old mid child es below) (free : (k : ℕ) → count (node cell l own place value r) k + extra k ≤ 1) (all_is : (k : ℕ) → all k ≡ count (node cell l own place value r) k + extra k) (ot : Rewrites mid new (one_at root)) where
+  module _ (mid new : Contents) (child : ℕ) (es ks : List Entry) (below extra all : ℕ → ℕ) (b : Becomes old mid child es ks below) (free : (k : ℕ) → count (node cell l own place value r) k + extra k ≤ 1) (all_is : (k : ℕ) → all k ≡ count (node cell l own place value r) k + extra k) (ot : Rewrites mid new (one_at root)) where
     same_at : (k : ℕ) → one_at root k ≡ 0 → below k ≡ 0 → at_cell new k ≡ at_cell old k
     same_at k a c = ot.frame k a ∙ b.rewrites.frame k c
 
-    pub joined_right : (is : (k : ℕ) → below k ≡ count r k + extra k) → IsNode new root (to_node n.left child n.key n.value n.head) → Becomes old new root (flat l ++ record { key = own; value = value } ∷ es) all
+    pub joined_right : (is : (k : ℕ) → below k ≡ count r k + extra k) → IsNode new root (to_node n.left child n.key n.value n.head) → Becomes old new root (flat l ++ record { key = own; value = value } ∷ es) (key_cells l ++ record { key = own; value = place } ∷ ks) all
     joined_right is nd =
         let P : Node → Type 0 = λ m. IsNode new cell m in
         let as_node : to_node n.left child n.key n.value n.head ≡ to_node (root_of l) (root_of b.form) place value (head_of own) =
@@ -65,6 +65,7 @@ module _ (old : Contents) (root : ℕ) (key : List ℕ) (n : Node) (read : n ≡
             t.holds.4,
           );
           same = ap (λ es. flat l ++ record { key = own; value = value } ∷ es) b.same;
+          same_keys = ap (λ ks. key_cells l ++ record { key = own; value = place } ∷ ks) b.same_keys;
           places = λ k. let a = all_is k in let i = is k in let p = b.places k in omega arith;
           rewrites = record {
             size = ot.size ∙ b.rewrites.size;
@@ -74,7 +75,7 @@ module _ (old : Contents) (root : ℕ) (key : List ℕ) (n : Node) (read : n ≡
           };
         }
 
-    pub joined_left : (is : (k : ℕ) → below k ≡ count l k + extra k) → IsNode new root (to_node child n.right n.key n.value n.head) → Becomes old new root (es ++ record { key = own; value = value } ∷ flat r) all
+    pub joined_left : (is : (k : ℕ) → below k ≡ count l k + extra k) → IsNode new root (to_node child n.right n.key n.value n.head) → Becomes old new root (es ++ record { key = own; value = value } ∷ flat r) (ks ++ record { key = own; value = place } ∷ key_cells r) all
     joined_left is nd =
         let P : Node → Type 0 = λ m. IsNode new cell m in
         let as_node : to_node child n.right n.key n.value n.head ≡ to_node (root_of b.form) (root_of r) place value (head_of own) =
@@ -91,6 +92,7 @@ module _ (old : Contents) (root : ℕ) (key : List ℕ) (n : Node) (read : n ≡
             t.holds.4,
           );
           same = ap (λ es. es ++ record { key = own; value = value } ∷ flat r) b.same;
+          same_keys = ap (λ ks. ks ++ record { key = own; value = place } ∷ key_cells r) b.same_keys;
           places = λ k. let a = all_is k in let i = is k in let p = b.places k in omega arith;
           rewrites = record {
             size = ot.size ∙ b.rewrites.size;
@@ -101,7 +103,7 @@ module _ (old : Contents) (root : ℕ) (key : List ℕ) (n : Node) (read : n ≡
         }
 
   -- a value that is written over
-  pub written_here : (new : Contents) (v : ℕ) → IsNode new root (to_node n.left n.right n.key v n.head) → Rewrites old new (one_at root) → Becomes old new root (flat l ++ record { key = own; value = v } ∷ flat r) (count (node cell l own place value r))
+  pub written_here : (new : Contents) (v : ℕ) → IsNode new root (to_node n.left n.right n.key v n.head) → Rewrites old new (one_at root) → Becomes old new root (flat l ++ record { key = own; value = v } ∷ flat r) (key_cells (node cell l own place value r)) (count (node cell l own place value r))
   written_here new v nd ot =
       let P : Node → Type 0 = λ m. IsNode new cell m in
       let as_node : to_node n.left n.right n.key v n.head ≡ to_node (root_of l) (root_of r) place v (head_of own) = ap (λ (m : Node). to_node m.left m.right m.key v m.head) node_says in
@@ -117,6 +119,7 @@ module _ (old : Contents) (root : ℕ) (key : List ℕ) (n : Node) (read : n ≡
           t.holds.4,
         );
         same = refl;
+        same_keys = refl;
         places = λ k. refl;
         rewrites = record {
           size = ot.size;

@@ -1,6 +1,7 @@
 pub mod Orders
 pub mod Heads
 pub mod Places
+pub mod Keys
 pub mod Shapes
 pub mod Splitting
 pub mod Joining

@@ -5,7 +5,7 @@ use Rattle.std.specs.declared.cmp.Ordering.{Ordering}
 use Rattle.std.specs.declared.cmp.Ordering.TheVariants.{Less, Equal, Greater}
 use Rattle.kt_pool.specs.Contents.{Contents, Stands, bytes_at}
 use Rattle.kt_tree.specs.Entries.{order, IsBelow, is_at}
-use Rattle.kt_tree.specs.Shapes.{nothing, node_of, head_of, IsNode, Shape, leaf, node, root_of, flat, one_at, count, IsTreeAt, Rewrites}
+use Rattle.kt_tree.specs.Shapes.{nothing, node_of, head_of, IsNode, Shape, leaf, node, root_of, flat, key_cells, one_at, count, IsTreeAt, Rewrites}
 use Rattle.kt_tree.specs.Changes.{Lacks, Splits}
 use Rattle.kt_tree.specs.declared.node.Head.{Head}
 use Rattle.kt_tree.specs.declared.node.Node.{Node}
@@ -42,6 +42,7 @@ split_none pool root key s e h =
       low_holds = tt;
       high_holds = tt;
       same = sym (ap flat is);
+      same_keys = sym (ap key_cells is);
       same_places = λ k. sym (ap (λ s. count s k) is);
       below = tt;
       above = tt;
@@ -105,6 +106,7 @@ module _ (old : Contents) (root : ℕ) (key : List ℕ) (n : Node) (read : n ≡
             );
             high_holds = kept mid new sp.high sp.high_holds (λ k low. let a = t.apart k in let b = is_root k in let c = sp.same_places k in ot.frame k (omega arith));
             same = append_assoc (flat l) (record { key = own; value = value } ∷ flat sp.low) (flat sp.high) ∙ ap (λ es. flat l ++ record { key = own; value = value } ∷ es) sp.same;
+            same_keys = append_assoc (key_cells l) (record { key = own; value = place } ∷ key_cells sp.low) (key_cells sp.high) ∙ ap (λ es. key_cells l ++ record { key = own; value = place } ∷ es) sp.same_keys;
             same_places = λ k. let c = sp.same_places k in omega arith;
             below = below_append key (flat l) (record { key = own; value = value } ∷ flat sp.low) (below_weaker own key (flat l) is_below (rising_below (flat l) (record { key = own; value = value }) (flat r) h.rising)) (is_below, sp.below);
             above = sp.above;
@@ -141,6 +143,7 @@ module _ (old : Contents) (root : ℕ) (key : List ℕ) (n : Node) (read : n ≡
               t.holds.4,
             );
             same = sym (append_assoc (flat sp.low) (flat sp.high) (record { key = own; value = value } ∷ flat r)) ∙ ap (λ es. es ++ record { key = own; value = value } ∷ flat r) sp.same;
+            same_keys = sym (append_assoc (key_cells sp.low) (key_cells sp.high) (record { key = own; value = place } ∷ key_cells r)) ∙ ap (λ es. es ++ record { key = own; value = place } ∷ key_cells r) sp.same_keys;
             same_places = λ k. let c = sp.same_places k in omega arith;
             below = sp.below;
             above = above_append key (flat sp.high) (record { key = own; value = value } ∷ flat r) sp.above (is_above, above_weaker own key (flat r) is_above (rising_above (flat l) (record { key = own; value = value }) (flat r) h.rising));

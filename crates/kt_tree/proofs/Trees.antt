@@ -7,15 +7,16 @@ use Rattle.std.proofs.lemmas.Bool.{cases_lt, cases_eq, false≢true}
 use Rattle.kt_pool.specs.Contents.{Contents, Stands, at_cell, used, cells_of, cells_for, with_place}
 use Rattle.kt_pool.proofs.Callers.{at_same, at_other, size_same, reserved_after}
 use Rattle.kt_tree.specs.Entries.{Entry, IsRising, is_at, value_of, put}
-use Rattle.kt_tree.specs.Shapes.{nothing, head_of, AreBytes, IsNode, Shape, leaf, node, flat, size, count, Holds, IsTreeAt}
+use Rattle.kt_tree.specs.Shapes.{nothing, head_of, AreBytes, IsNode, Shape, leaf, node, flat, key_cells, size, count, Holds, IsTreeAt}
 use Rattle.kt_tree.specs.Takes.{Takes}
-use Rattle.kt_tree.specs.Trees.{shape_of, entries, Owns, IsTree, need}
+use Rattle.kt_tree.specs.Trees.{shape_of, entries, key_places, place_of, Owns, IsTree, IsNewlyPlaced, need}
 use Rattle.kt_tree.specs.Changes.{IsAbsent, Becomes, alone, StandsBy}
 use Rattle.kt_tree.specs.declared.tree.Tree.{Tree}
 use Rattle.kt_tree.proofs.Orders.{rising_put, length-put_new, length-put_old}
 use Rattle.kt_tree.proofs.Places.{one_same, one_other, stands_some, used_after}
 use Rattle.kt_tree.proofs.Shapes.{kept, spelled_is, size_small}
 use Rattle.kt_tree.proofs.Hanging.{both}
+use Rattle.kt_tree.proofs.Keys.{same_keys, none_by, value_stays, value_put}
 
 -- ---- a tree by its form
 
@@ -36,7 +37,7 @@ tree_is tree pool s t rising counted =
 
 -- ---- a tree that has become another
 
-module _ (old new : Contents) (tree : Tree) (es : List Entry) (own : ℕ → ℕ) (b : Becomes old new tree.root es own) (once : (k : ℕ) → own k ≤ 1) where
+module _ (old new : Contents) (tree : Tree) (es ks : List Entry) (own : ℕ → ℕ) (b : Becomes old new tree.root es ks own) (once : (k : ℕ) → own k ≤ 1) where
   pub new_form : IsTreeAt new tree.root b.form
   new_form = record { root = b.root_is; holds = b.holds; apart = λ k. let p = b.places k in let o = once k in omega arith }
 
@@ -45,6 +46,9 @@ module _ (old new : Contents) (tree : Tree) (es : List Entry) (own : ℕ → ℕ
 
   pub new_entries : entries tree new ≡ es
   new_entries = ap flat (spelled_is new tree.root b.form new_form) ∙ b.same
+
+  pub new_places : key_places tree new ≡ ks
+  new_places = ap key_cells (spelled_is new tree.root b.form new_form) ∙ b.same_keys
 
   pub new_count : (k : ℕ) → count (shape_of tree new) k ≡ own k
   new_count k = ap (λ s. count s k) (spelled_is new tree.root b.form new_form) ∙ b.places k
@@ -55,18 +59,25 @@ some_of : (o : Option Entry) (v : ℕ) → option_map (λ (e : Entry). e.value) 
 some_of None v h = cc
 some_of (Some e) v h = (e, refl)
 
-module _ (tree : Tree) (old new : Contents) (key : List ℕ) (v was : ℕ) (t : IsTree tree old) (found : value_of key (entries tree old) ≡ Some was) (b : Becomes old new tree.root (put key v (entries tree old)) (count (shape_of tree old))) where
+module _ (tree : Tree) (old new : Contents) (key : List ℕ) (v was : ℕ) (t : IsTree tree old) (found : value_of key (entries tree old) ≡ Some was) (b : Becomes old new tree.root (put key v (entries tree old)) (key_places tree old) (count (shape_of tree old))) where
   pub over_tree : IsTree tree new
   over_tree =
       let e = some_of (find (is_at key) (entries tree old)) was found in
-      new_tree old new tree (put key v (entries tree old)) (count (shape_of tree old)) b t.stands.apart (rising_put key v (entries tree old) t.rising)
+      new_tree old new tree (put key v (entries tree old)) (key_places tree old) (count (shape_of tree old)) b t.stands.apart (rising_put key v (entries tree old) t.rising)
       (t.counted ∙ sym (length-put_old key v (entries tree old) e.0 t.rising e.1))
 
   pub over_entries : entries tree new ≡ put key v (entries tree old)
-  over_entries = new_entries old new tree (put key v (entries tree old)) (count (shape_of tree old)) b t.stands.apart
+  over_entries = new_entries old new tree (put key v (entries tree old)) (key_places tree old) (count (shape_of tree old)) b t.stands.apart
+
+  pub over_places : key_places tree new ≡ key_places tree old
+  over_places = new_places old new tree (put key v (entries tree old)) (key_places tree old) (count (shape_of tree old)) b t.stands.apart
+
+  -- each key keeps its place
+  pub over_stays : (k : List ℕ) (place : ℕ) → place_of k tree old ≡ Some place → place_of k tree new ≡ Some place
+  over_stays k place h = ap (value_of k) over_places ∙ h
 
   over_count : (k : ℕ) → count (shape_of tree new) k ≡ count (shape_of tree old) k
-  over_count k = new_count old new tree (put key v (entries tree old)) (count (shape_of tree old)) b t.stands.apart k
+  over_count k = new_count old new tree (put key v (entries tree old)) (key_places tree old) (count (shape_of tree old)) b t.stands.apart k
 
   pub over_takes : Takes old new 0
   over_takes = let r = b.rewrites in record { size = r.size; reserved = let x = r.reserved in omega arith; used = let x = r.used in omega arith }
@@ -157,11 +168,11 @@ module _ (old p0 p1 p2 : Contents) (tree : Tree) (key : List ℕ) (v at fresh : 
     apart = alone_apart;
   }
 
-  module _ (p3 : Contents) (after : Tree) (b : Becomes p2 p3 after.root (put key v (entries tree old)) (both (shape_of tree old) fresh key at v)) where
+  module _ (p3 : Contents) (after : Tree) (b : Becomes p2 p3 after.root (put key v (entries tree old)) (put key at (key_places tree old)) (both (shape_of tree old) fresh key at v)) where
     -- there are more cells than keys
     pub fewer_keys : tree.count < length p3.places
     fewer_keys =
-        let f = new_form p2 p3 after (put key v (entries tree old)) (both (shape_of tree old) fresh key at v) b alone_apart in
+        let f = new_form p2 p3 after (put key v (entries tree old)) (put key at (key_places tree old)) (both (shape_of tree old) fresh key at v) b alone_apart in
         let n = size_small p3 after.root b.form f in
         let l = length-flat b.form in
         let m : length (flat b.form) ≡ length (put key v (entries tree old)) = ap length b.same in
@@ -173,13 +184,26 @@ module _ (old p0 p1 p2 : Contents) (tree : Tree) (key : List ℕ) (v at fresh : 
     grown_tree e =
         let one = length-put_new key v (entries tree old) absent in
         let c = t.counted in
-        new_tree p2 p3 after (put key v (entries tree old)) (both (shape_of tree old) fresh key at v) b alone_apart (rising_put key v (entries tree old) t.rising) (omega arith)
+        new_tree p2 p3 after (put key v (entries tree old)) (put key at (key_places tree old)) (both (shape_of tree old) fresh key at v) b alone_apart (rising_put key v (entries tree old) t.rising) (omega arith)
 
     pub grown_entries : entries after p3 ≡ put key v (entries tree old)
-    grown_entries = new_entries p2 p3 after (put key v (entries tree old)) (both (shape_of tree old) fresh key at v) b alone_apart
+    grown_entries = new_entries p2 p3 after (put key v (entries tree old)) (put key at (key_places tree old)) (both (shape_of tree old) fresh key at v) b alone_apart
+
+    grown_places : key_places after p3 ≡ put key at (key_places tree old)
+    grown_places = new_places p2 p3 after (put key v (entries tree old)) (put key at (key_places tree old)) (both (shape_of tree old) fresh key at v) b alone_apart
+
+    -- each key keeps its place
+    pub grown_stays : (k : List ℕ) (place : ℕ) → place_of k tree old ≡ Some place → place_of k after p3 ≡ Some place
+    grown_stays k place h =
+        ap (value_of k) grown_places
+        ∙ value_stays key k at place (key_places tree old) (none_by key (key_places tree old) (entries tree old) (same_keys (shape_of tree old)) absent) h
+
+    -- and the new one has its own
+    pub grown_placed : IsNewlyPlaced old (place_of key after p3)
+    grown_placed = record { cell = at; is = ap (value_of key) grown_places ∙ value_put key at (key_places tree old); vacant = at_was }
 
     grown_count : (k : ℕ) → count (shape_of after p3) k ≡ both (shape_of tree old) fresh key at v k
-    grown_count k = new_count p2 p3 after (put key v (entries tree old)) (both (shape_of tree old) fresh key at v) b alone_apart k
+    grown_count k = new_count p2 p3 after (put key v (entries tree old)) (put key at (key_places tree old)) (both (shape_of tree old) fresh key at v) b alone_apart k
 
     pub grown_takes : Takes old p3 (need key)
     grown_takes =

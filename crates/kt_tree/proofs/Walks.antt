@@ -8,13 +8,14 @@ use Rattle.std.specs.declared.cmp.Ordering.TheVariants.{Less, Equal, Greater}
 use Rattle.std.proofs.lemmas.Bool.{false≢true}
 use Rattle.kt_pool.specs.Contents.{Contents, at_cell, bytes_at}
 use Rattle.kt_tree.specs.Entries.{Entry, order, AreBelow, IsRising, is_at, value_of, is_past, is_after}
-use Rattle.kt_tree.specs.Shapes.{nothing, node_of, Shape, leaf, node, root_of, flat, count, IsTreeAt}
+use Rattle.kt_tree.specs.Shapes.{nothing, node_of, Shape, leaf, node, root_of, flat, key_cells, count, IsTreeAt}
 use Rattle.kt_tree.specs.Trees.{IsTree, entries, place_at, shape_of}
 use Rattle.kt_tree.specs.Walks.{Seeks, SeeksAfter, or_else}
 use Rattle.kt_tree.specs.declared.node.Node.{Node}
 use Rattle.kt_tree.specs.declared.tree.Tree.{Tree}
 use Rattle.kt_tree.specs.declared.tree.Pair.{Pair}
 use Rattle.kt_tree.proofs.Orders.{below_weaker, below_same, rising_right, rising_left, rising_below, find_past, find_in, find_first, find_next, none_after}
+use Rattle.kt_tree.proofs.Keys.{same_keys, rising_by, found_of, value_found, found_behind, tie}
 use Rattle.kt_tree.proofs.Places.{one_same}
 use Rattle.kt_tree.proofs.Shapes.{key_is}
 use Rattle.kt_tree.proofs.Joining.{node_says, node_order, tree_right, tree_left, find_right, find_lefts, find_here}
@@ -77,6 +78,23 @@ none_past (Some key) own es fails h = by (order own key) refl fails
     by Equal e f = none_after key es (below_same own key es e h)
     by Greater e f = absurd (false≢true (sym f))
 
+-- the place of a key in a part of a tree is that in the tree
+in_left : (l : Shape) (own : List ℕ) (place : ℕ) (r : Shape) (k : List ℕ) (c : ℕ) → value_of k (key_cells l) ≡ Some c → value_of k (key_cells l ++ record { key = own; value = place } ∷ key_cells r) ≡ Some c
+in_left l own place r k c h =
+    let f = found_of k (key_cells l) c h in
+    value_found k (key_cells l ++ record { key = own; value = place } ∷ key_cells r) f.0 c (find_in (is_at k) (key_cells l) (record { key = own; value = place } ∷ key_cells r) f.0 f.1) f.2
+
+in_right : (l : Shape) (own : List ℕ) (place : ℕ) (r : Shape) (k : List ℕ) (c : ℕ) → IsRising (key_cells l ++ record { key = own; value = place } ∷ key_cells r) → value_of k (key_cells r) ≡ Some c → value_of k (key_cells l ++ record { key = own; value = place } ∷ key_cells r) ≡ Some c
+in_right l own place r k c rising h =
+    let f = found_of k (key_cells r) c h in
+    let behind = found_behind k (record { key = own; value = place } ∷ []) (key_cells r) f.0 (rising_right (key_cells l) (record { key = own; value = place } ∷ key_cells r) rising) f.1 in
+    value_found k (key_cells l ++ record { key = own; value = place } ∷ key_cells r) f.0 c (found_behind k (key_cells l) (record { key = own; value = place } ∷ key_cells r) f.0 rising behind) f.2
+
+here : (l : Shape) (own : List ℕ) (place : ℕ) (r : Shape) (c : ℕ) → IsRising (key_cells l ++ record { key = own; value = place } ∷ key_cells r) → place ≡ c → value_of own (key_cells l ++ record { key = own; value = place } ∷ key_cells r) ≡ Some c
+here l own place r c rising is =
+    let e : Entry = record { key = own; value = place } in
+    value_found own (key_cells l ++ e ∷ key_cells r) e c (found_behind own (key_cells l) (e ∷ key_cells r) e rising (find_first (is_at own) e (key_cells r) (tie own))) is
+
 module _ (tree : Tree) (pool : Contents) (cell : ℕ) (key : Option (List ℕ)) (n : Node) (read : n ≡ node_of (bytes_at pool cell)) (ne : cell ≢ nothing) (best : Option Pair) where
   past_right : is_past key (bytes_at pool n.key) ≡ false → (h : SeeksAfter tree pool cell key best) → (s : Shape) → h.form ≡ s → SeeksAfter tree pool n.right key best
   past_right fails h leaf is = absurd (ne (h.stands.root ∙ ap root_of is))
@@ -91,6 +109,7 @@ module _ (tree : Tree) (pool : Contents) (cell : ℕ) (key : Option (List ℕ)) 
         stands = tree_right pool cell [] n read at l own place value r t;
         rising = (rising_right (flat l) (record { key = own; value = value } ∷ flat r) rising).1;
         part = λ k. let p = h.part k in let e = ap (λ s. count s k) is in omega arith;
+        places = λ k c at_r. h.places k c (ap (λ s. value_of k (key_cells s)) is ∙ in_right l own place r k c (rising_by (key_cells (node at l own place value r)) (flat (node at l own place value r)) (same_keys (node at l own place value r)) rising) at_r);
         found = h.found;
         is_best = h.is_best;
         same = h.same ∙ ap (λ s. or_else (find (is_after key) (flat s)) h.found) is
@@ -110,9 +129,11 @@ module _ (tree : Tree) (pool : Contents) (cell : ℕ) (key : Option (List ℕ)) 
         stands = tree_left pool cell [] n read at l own place value r t;
         rising = rising_left (flat l) (record { key = own; value = value } ∷ flat r) rising;
         part = λ k. let p = h.part k in let e = ap (λ s. count s k) is in omega arith;
+        places = λ k c at_l. h.places k c (ap (λ s. value_of k (key_cells s)) is ∙ in_left l own place r k c at_l);
         found = Some (record { key = own; value = value });
         is_best = record {
           key = ap (λ (m : Node). at_cell pool m.key) says ∙ t.holds.1;
+          place = h.places own n.key (ap (λ s. value_of own (key_cells s)) is ∙ here l own place r n.key (rising_by (key_cells (node at l own place value r)) (flat (node at l own place value r)) (same_keys (node at l own place value r)) rising) (sym (ap (λ (m : Node). m.key) says)));
           owned = let p = h.part n.key in let e = ap (λ s. count s n.key) is in let one = one_same place n.key (sym (ap (λ (m : Node). m.key) says)) in omega arith;
           value = ap (λ (m : Node). m.value) says;
         };
@@ -138,6 +159,7 @@ after_first tree pool key t = record {
   stands = t.stands;
   rising = t.rising;
   part = λ k. omega arith;
+  places = λ k place h. h;
   found = None;
   is_best = tt;
   same = else_none (find (is_after key) (entries tree pool));

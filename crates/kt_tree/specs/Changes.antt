@@ -3,7 +3,7 @@ use Rattle.std.specs.Prelude.{◌≡◌, ℕ, ◌+◌, ◌<◌, ◌≤◌, List,
 use Rattle.std.specs.List.{find, sum_by}
 use Rattle.kt_pool.specs.Contents.{Contents, at_cell, used}
 use Rattle.kt_tree.specs.Entries.{Entry, AreBelow, AreAbove, IsRising, is_at}
-use Rattle.kt_tree.specs.Shapes.{Shape, leaf, node, IsTreeAt, Holds, root_of, flat, count, Rewrites}
+use Rattle.kt_tree.specs.Shapes.{Shape, leaf, node, IsTreeAt, Holds, root_of, flat, key_cells, count, Rewrites}
 use Rattle.kt_tree.specs.Trees.{need}
 
 -- the key is not among these
@@ -25,17 +25,20 @@ pub record Splits (old new : Contents) (s : Shape) (key : List ℕ) (left right 
   pub low_holds : Holds new low
   pub high_holds : Holds new high
   pub same : flat low ++ flat high ≡ flat s
+  pub same_keys : key_cells low ++ key_cells high ≡ key_cells s
   pub same_places : (k : ℕ) → count low k + count high k ≡ count s k
   pub below : AreBelow key (flat low)
   pub above : AreAbove key (flat high)
   pub rewrites : Rewrites old new (count s)
 
--- from this cell on there is now a tree with these entries, which has the places that are counted here
-pub record Becomes (old new : Contents) (root : ℕ) (es : List Entry) (own : ℕ → ℕ) : Type 0 where
+-- from this cell on there is now a tree with these entries and these places of their keys, which has the places that are
+-- counted here
+pub record Becomes (old new : Contents) (root : ℕ) (es ks : List Entry) (own : ℕ → ℕ) : Type 0 where
   pub form : Shape
   pub root_is : root ≡ root_of form
   pub holds : Holds new form
   pub same : flat form ≡ es
+  pub same_keys : key_cells form ≡ ks
   pub places : (k : ℕ) → count form k ≡ own k
   pub rewrites : Rewrites old new own
 

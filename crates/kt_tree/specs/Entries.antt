@@ -7,7 +7,7 @@ use Rattle.std.specs.declared.cmp.Ordering.TheVariants.{Less, Equal, Greater}
 use Rattle.std.specs.Ordering.{nat_cmp, is_eq, is_gt}
 use Rattle.std.specs.Cmp.Lexicographic.{slice_cmp}
 
--- a key, and the cell at which its value is placed
+-- a key, and a cell: that at which its value is placed, or in a list of the keys' own places that of the key
 pub record Entry : Type 0 where
   pub key : List ℕ
   pub value : ℕ

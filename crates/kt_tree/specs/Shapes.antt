@@ -56,6 +56,11 @@ abbrev pub flat : Shape → List Entry
 flat leaf = []
 flat (node cell left key place value right) = flat left ++ record { key = key; value = value } ∷ flat right
 
+-- its keys and where they are placed, from left to right
+abbrev pub key_cells : Shape → List Entry
+key_cells leaf = []
+key_cells (node cell left key place value right) = key_cells left ++ record { key = key; value = place } ∷ key_cells right
+
 -- how many nodes it has
 abbrev pub size : Shape → ℕ
 size leaf = 0

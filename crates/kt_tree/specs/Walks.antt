@@ -2,9 +2,9 @@
 use Rattle.std.specs.Prelude.{◌≡◌, ℕ, ◌≤◌, List, Option, None, Some}
 use Rattle.std.specs.List.{find}
 use Rattle.kt_pool.specs.Contents.{Contents}
-use Rattle.kt_tree.specs.Entries.{Entry, IsRising, is_at, is_after}
-use Rattle.kt_tree.specs.Shapes.{Shape, IsTreeAt, flat, count}
-use Rattle.kt_tree.specs.Trees.{entries, shape_of, IsPairOf}
+use Rattle.kt_tree.specs.Entries.{Entry, IsRising, is_at, is_after, value_of}
+use Rattle.kt_tree.specs.Shapes.{Shape, IsTreeAt, flat, key_cells, count}
+use Rattle.kt_tree.specs.Trees.{entries, place_of, shape_of, IsPairOf}
 use Rattle.kt_tree.specs.declared.tree.Tree.{Tree}
 use Rattle.kt_tree.specs.declared.tree.Pair.{Pair}
 
@@ -25,6 +25,7 @@ pub record SeeksAfter (tree : Tree) (pool : Contents) (cell : ℕ) (key : Option
   pub stands : IsTreeAt pool cell form
   pub rising : IsRising (flat form)
   pub part : (k : ℕ) → count form k ≤ count (shape_of tree pool) k
+  pub places : (k : List ℕ) (place : ℕ) → value_of k (key_cells form) ≡ Some place → place_of k tree pool ≡ Some place
   pub found : Option Entry
   pub is_best : IsPairOf tree pool best found
   pub same : find (is_after key) (entries tree pool) ≡ or_else (find (is_after key) (flat form)) found

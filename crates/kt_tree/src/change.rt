@@ -1,7 +1,7 @@
 //! Trees that are cut and joined.
 ghost use Rattle.std.specs.Prelude.{◌≡◌, ◌<◌, ◌+◌, ℕ, Some, None, MatchOption};
 ghost use Rattle.kt_tree.specs.Entries.{IsRising, value_of, put};
-ghost use Rattle.kt_tree.specs.Shapes.{Shape, IsNode, IsTreeAt, HasTree, Rewrites, flat, count, one_at};
+ghost use Rattle.kt_tree.specs.Shapes.{Shape, IsNode, IsTreeAt, HasTree, Rewrites, flat, key_cells, count, one_at};
 ghost use Rattle.kt_tree.specs.Changes.{IsAbsent, Lacks, Splits, Becomes, alone, StandsBy, Clears};
 
 use crate::node::{NOTHING, Node, node_in, order, write};
@@ -78,7 +78,7 @@ fn set_right(pool: &mut Pool, cell: u32, node: Node, right: u32)
 /// Hangs a node that stands alone into a tree without its key, and says where the tree begins now.
 pub fn hang(pool: &mut Pool, root: u32, fresh: u32, key: &[u8]) -> u32
     requires { (s : Shape) × (place : ℕ) × (value : ℕ) × StandsBy pool.old root fresh key.now s place value }
-    ensures { (s : Shape) (place value : ℕ) → StandsBy pool.old root fresh key.now s place value → Becomes pool.old pool.new result (put key.now value (flat s)) (λ k. count s k + count (alone fresh key.now place value) k) }
+    ensures { (s : Shape) (place value : ℕ) → StandsBy pool.old root fresh key.now s place value → Becomes pool.old pool.new result (put key.now value (flat s)) (put key.now place (key_cells s)) (λ k. count s k + count (alone fresh key.now place value) k) }
 {
     if root == NOTHING {
         return fresh;
@@ -106,7 +106,7 @@ pub fn hang(pool: &mut Pool, root: u32, fresh: u32, key: &[u8]) -> u32
 /// Writes another value at a key, and says which was there, if the tree has the key.
 pub fn overwrite(pool: &mut Pool, root: u32, key: &[u8], value: u32) -> Option<u32>
     requires { HasTree pool.old root }
-    ensures { (s : Shape) → IsTreeAt pool.old root s → IsRising (flat s) → MatchOption result (IsAbsent key.now (flat s) × (pool.new ≡ pool.old)) (λ old. (value_of key.now (flat s) ≡ Some old) × Becomes pool.old pool.new root (put key.now value (flat s)) (count s)) }
+    ensures { (s : Shape) → IsTreeAt pool.old root s → IsRising (flat s) → MatchOption result (IsAbsent key.now (flat s) × (pool.new ≡ pool.old)) (λ old. (value_of key.now (flat s) ≡ Some old) × Becomes pool.old pool.new root (put key.now value (flat s)) (key_cells s) (count s)) }
 {
     if root == NOTHING {
         return None;

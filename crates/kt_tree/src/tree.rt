@@ -1,5 +1,5 @@
 //! The sorted map.
-ghost use Rattle.std.specs.Prelude.{◌≡◌, ◌≤◌, ◌+◌, ◌⊎◌, ℕ, [], length, IfSome, None, is_some, if◌then◌else◌};
+ghost use Rattle.std.specs.Prelude.{◌≡◌, ◌≤◌, ◌+◌, ◌⊎◌, ℕ, List, [], length, IfSome, None, Some, is_some, MatchOption, if◌then◌else◌};
 ghost use Rattle.std.specs.Option.{option_map, option_copied};
 ghost use Rattle.std.specs.List.{sum_by};
 ghost use Rattle.kt_pool.specs.Contents.{Contents, Stands, at_cell, bytes_at, used};
@@ -7,7 +7,7 @@ ghost use Rattle.kt_tree.specs.Entries.{Entry, value_of, is_past, next, put};
 ghost use Rattle.kt_tree.specs.Shapes.{head_of, AreBytes};
 ghost use Rattle.kt_tree.specs.InOrder.{IsWalk, to_come};
 ghost use Rattle.kt_tree.specs.Takes.{Takes};
-ghost use Rattle.kt_tree.specs.Trees.{IsTree, IsPairOf, entries, Owns, need, place_at};
+ghost use Rattle.kt_tree.specs.Trees.{IsTree, IsPairOf, IsNewlyPlaced, entries, place_of, Owns, need, place_at};
 
 use crate::change::{give_back, hang, overwrite};
 use crate::node::{NOTHING, Node, head_of, node_in, order, place};
@@ -72,6 +72,9 @@ impl Tree {
         ensures put { entries self.new pool.new ≡ put key.now value.cell (entries self.old pool.old) }
         ensures old { result ≡ option_map place_at (value_of key.now (entries self.old pool.old)) }
         ensures takes { Takes pool.old pool.new (if is_some result then 0 else need key.now) }
+        // Each key that was there keeps its place, and one that was not there has a new one.
+        ensures stays { (k : List ℕ) (place : ℕ) → place_of k self.old pool.old ≡ Some place → place_of k self.new pool.new ≡ Some place }
+        ensures placed { MatchOption result (IsNewlyPlaced pool.old (place_of key.now self.new pool.new)) (λ _. Unit {0}) }
         // Its new places are vacant before, and every other place keeps its bytes.
         ensures keeps { (k : ℕ) → Owns self.old pool.old k → Owns self.new pool.new k }
         ensures grows { (k : ℕ) → Owns self.new pool.new k → Owns self.old pool.old k ⊎ (at_cell pool.old k ≡ None) }
@@ -92,6 +95,9 @@ impl Tree {
         ensures tree { IsTree self.new pool.new }
         ensures put { entries self.new pool.new ≡ put key.now value.cell (entries self.old pool.old) }
         ensures takes { Takes pool.old pool.new (need key.now) }
+        // Each key that was there keeps its place, and this one has a new one.
+        ensures stays { (k : List ℕ) (place : ℕ) → place_of k self.old pool.old ≡ Some place → place_of k self.new pool.new ≡ Some place }
+        ensures placed { IsNewlyPlaced pool.old (place_of key.now self.new pool.new) }
         // Its new places are vacant before, and every other place keeps its bytes.
         ensures keeps { (k : ℕ) → Owns self.old pool.old k → Owns self.new pool.new k }
         ensures grows { (k : ℕ) → Owns self.new pool.new k → Owns self.old pool.old k ⊎ (at_cell pool.old k ≡ None) }

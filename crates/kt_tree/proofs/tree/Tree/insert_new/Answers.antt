@@ -7,7 +7,7 @@ use Rattle.kt_tree.specs.Entries.{Entry, is_at, value_of}
 use Rattle.kt_tree.specs.Trees.{shape_of, entries}
 use Rattle.kt_tree.specs.Changes.{IsAbsent}
 use Rattle.kt_tree.specs.declared.node.Head.{Head}
-use Rattle.kt_tree.proofs.Trees.{stands_by, fewer_keys, grown_tree, grown_entries, grown_takes, grown_keeps, grown_grows, grown_frame}
+use Rattle.kt_tree.proofs.Trees.{stands_by, fewer_keys, grown_tree, grown_entries, grown_takes, grown_stays, grown_placed, grown_keeps, grown_grows, grown_frame}
 use Rattle.kt_tree.proofs.tree.Tree.insert_new.Goals as goal
 
 -- no entry has the key
@@ -45,3 +45,9 @@ returns-clause-grows c = grown_grows c.args.pool.now c.args.pool.now c.place-at.
 
 pub returns-clause-frame : goal.returns-clause-frame
 returns-clause-frame c = grown_frame c.args.pool.now c.args.pool.now c.place-at.new.self c.place-fresh.new.pool c.args.self.now c.args.key.now c.args.value.cell c.place-at.result.cell c.place-fresh.result c.requires.tree (absent c.args.key.now (entries c.args.self.now c.args.pool.now) c.requires.absent) refl c.place-at.ensures.vacant c.place-at.ensures.inside c.place-at.ensures.placed c.place-fresh.ensures.vacant c.place-fresh.ensures.others c.place-fresh.ensures.takes (headed c.place-fresh.new.pool c.place-fresh.result c.place-at.result.cell c.args.value.cell c.head_of.result c.args.key.now c.head_of.ensures c.place-fresh.ensures.node) (λ i. omega (arith, c.type_inv.key i)) c.hang-self.new.pool (record { root = c.hang-self.result; count = c.args.self.now.count + 1 }) (c.hang-self.ensures (shape_of c.args.self.now c.args.pool.now) c.place-at.result.cell c.args.value.cell (stands_by c.args.pool.now c.args.pool.now c.place-at.new.self c.place-fresh.new.pool c.args.self.now c.args.key.now c.args.value.cell c.place-at.result.cell c.place-fresh.result c.requires.tree (absent c.args.key.now (entries c.args.self.now c.args.pool.now) c.requires.absent) refl c.place-at.ensures.vacant c.place-at.ensures.inside c.place-at.ensures.placed c.place-fresh.ensures.vacant c.place-fresh.ensures.others c.place-fresh.ensures.takes (headed c.place-fresh.new.pool c.place-fresh.result c.place-at.result.cell c.args.value.cell c.head_of.result c.args.key.now c.head_of.ensures c.place-fresh.ensures.node) (λ i. omega (arith, c.type_inv.key i))))
+
+pub returns-clause-stays : goal.returns-clause-stays
+returns-clause-stays c = grown_stays c.args.pool.now c.args.pool.now c.place-at.new.self c.place-fresh.new.pool c.args.self.now c.args.key.now c.args.value.cell c.place-at.result.cell c.place-fresh.result c.requires.tree (absent c.args.key.now (entries c.args.self.now c.args.pool.now) c.requires.absent) refl c.place-at.ensures.vacant c.place-at.ensures.inside c.place-at.ensures.placed c.place-fresh.ensures.vacant c.place-fresh.ensures.others c.place-fresh.ensures.takes (headed c.place-fresh.new.pool c.place-fresh.result c.place-at.result.cell c.args.value.cell c.head_of.result c.args.key.now c.head_of.ensures c.place-fresh.ensures.node) (λ i. omega (arith, c.type_inv.key i)) c.hang-self.new.pool (record { root = c.hang-self.result; count = c.args.self.now.count + 1 }) (c.hang-self.ensures (shape_of c.args.self.now c.args.pool.now) c.place-at.result.cell c.args.value.cell (stands_by c.args.pool.now c.args.pool.now c.place-at.new.self c.place-fresh.new.pool c.args.self.now c.args.key.now c.args.value.cell c.place-at.result.cell c.place-fresh.result c.requires.tree (absent c.args.key.now (entries c.args.self.now c.args.pool.now) c.requires.absent) refl c.place-at.ensures.vacant c.place-at.ensures.inside c.place-at.ensures.placed c.place-fresh.ensures.vacant c.place-fresh.ensures.others c.place-fresh.ensures.takes (headed c.place-fresh.new.pool c.place-fresh.result c.place-at.result.cell c.args.value.cell c.head_of.result c.args.key.now c.head_of.ensures c.place-fresh.ensures.node) (λ i. omega (arith, c.type_inv.key i))))
+
+pub returns-clause-placed : goal.returns-clause-placed
+returns-clause-placed c = grown_placed c.args.pool.now c.args.pool.now c.place-at.new.self c.place-fresh.new.pool c.args.self.now c.args.key.now c.args.value.cell c.place-at.result.cell c.place-fresh.result c.requires.tree (absent c.args.key.now (entries c.args.self.now c.args.pool.now) c.requires.absent) refl c.place-at.ensures.vacant c.place-at.ensures.inside c.place-at.ensures.placed c.place-fresh.ensures.vacant c.place-fresh.ensures.others c.place-fresh.ensures.takes (headed c.place-fresh.new.pool c.place-fresh.result c.place-at.result.cell c.args.value.cell c.head_of.result c.args.key.now c.head_of.ensures c.place-fresh.ensures.node) (λ i. omega (arith, c.type_inv.key i)) c.hang-self.new.pool (record { root = c.hang-self.result; count = c.args.self.now.count + 1 }) (c.hang-self.ensures (shape_of c.args.self.now c.args.pool.now) c.place-at.result.cell c.args.value.cell (stands_by c.args.pool.now c.args.pool.now c.place-at.new.self c.place-fresh.new.pool c.args.self.now c.args.key.now c.args.value.cell c.place-at.result.cell c.place-fresh.result c.requires.tree (absent c.args.key.now (entries c.args.self.now c.args.pool.now) c.requires.absent) refl c.place-at.ensures.vacant c.place-at.ensures.inside c.place-at.ensures.placed c.place-fresh.ensures.vacant c.place-fresh.ensures.others c.place-fresh.ensures.takes (headed c.place-fresh.new.pool c.place-fresh.result c.place-at.result.cell c.args.value.cell c.head_of.result c.args.key.now c.head_of.ensures c.place-fresh.ensures.node) (λ i. omega (arith, c.type_inv.key i))))

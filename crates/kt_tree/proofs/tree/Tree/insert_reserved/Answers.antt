@@ -5,7 +5,7 @@ use Rattle.kt_tree.specs.Entries.{IsRising}
 use Rattle.kt_tree.specs.Trees.{IsTree, shape_of, entries}
 use Rattle.kt_tree.specs.Changes.{IsAbsent}
 use Rattle.kt_tree.specs.declared.tree.Tree.{Tree}
-use Rattle.kt_tree.proofs.Trees.{over_tree, over_entries, over_keeps, over_grows, over_frame}
+use Rattle.kt_tree.proofs.Trees.{over_tree, over_entries, over_stays, over_keeps, over_grows, over_frame}
 use Rattle.kt_tree.proofs.tree.Tree.insert_reserved.Goals as goal
 
 -- the key was not there, and nothing has changed yet
@@ -26,3 +26,6 @@ returns-in-Some-clause-grows c = over_grows c.args.self.now c.args.pool.now c.ov
 
 pub returns-in-Some-clause-frame : goal.returns-in-Some-clause-frame
 returns-in-Some-clause-frame c = over_frame c.args.self.now c.args.pool.now c.overwrite.new.pool c.args.key.now c.args.value.cell c.in-Some.old c.requires.tree (c.in-Some.ensures (shape_of c.args.self.now c.args.pool.now) c.requires.tree.stands c.requires.tree.rising).0 (c.in-Some.ensures (shape_of c.args.self.now c.args.pool.now) c.requires.tree.stands c.requires.tree.rising).1
+
+pub returns-in-Some-clause-stays : goal.returns-in-Some-clause-stays
+returns-in-Some-clause-stays c = over_stays c.args.self.now c.args.pool.now c.overwrite.new.pool c.args.key.now c.args.value.cell c.in-Some.old c.requires.tree (c.in-Some.ensures (shape_of c.args.self.now c.args.pool.now) c.requires.tree.stands c.requires.tree.rising).0 (c.in-Some.ensures (shape_of c.args.self.now c.args.pool.now) c.requires.tree.stands c.requires.tree.rising).1
