@@ -1,7 +1,8 @@
 -- The rowsets found along a list of ranges.
-use Rattle.std.proofs.Common.{◌≡◌, ℕ, zero, suc, ◌+◌, ◌-◌, ◌<◌, ◌≤◌, Bool, true, false, ◌&&◌, cond, List, [], ◌∷◌, ◌++◌, map, reverse, length, take, drop, get_or, refl, sym, ap, ◌∙◌, arith, length-append, length-take-le, inl, inr, Result, Ok, Err}
+use Rattle.std.proofs.Common.{◌≡◌, ℕ, zero, suc, ◌+◌, ◌-◌, ◌<◌, ◌≤◌, Bool, true, false, ◌&&◌, cond, List, [], ◌∷◌, ◌++◌, map, reverse, length, take, drop, get_or, refl, sym, ap, ◌∙◌, arith, subst, length-append, length-take-le, inl, inr, Result, Ok, Err}
 use Rattle.std.specs.List.{filter}
-use Rattle.std.proofs.lemmas.List.{drop_more, take-append-drop, get_or-take, get_or-drop, length-reverse, length-drop, get_or_read, append-nil, reverse-append}
+use Rattle.std.proofs.Math.Seq.{get_or-append_seam}
+use Rattle.std.proofs.lemmas.List.{get_or_append_left, drop_more, take-append-drop, get_or-take, get_or-drop, length-reverse, length-drop, get_or_read, append-nil, reverse-append}
 use Rattle.std.proofs.lemmas.Bool.{false≢true, cases_lt}
 use Rattle.std.specs.Result.{is_ok, OnErr}
 use Rattle.kt_rowtree.specs.Ranges.{is_upto, holds, holders_of, IsByLeast, EndsLast, AreSkips}
@@ -146,3 +147,21 @@ found_all ranges key p above out at zero_at found =
 pub push_fits : {A B : Type 0} (r : Result A B) (was more now : List ℕ) (len cap : ℕ) → now ≡ cond (is_ok r) more was → OnErr r (cap ≤ len) → len < cap → now ≡ more
 push_fits (Ok x) was more now len cap e full room = e
 push_fits (Err x) was more now len cap e full room = absurd (omega arith)
+
+-- one number more
+pub skips_more : (ranges : List Range) (skips new : List ℕ) (skip at : ℕ) → AreSkips ranges skips → length skips ≡ at → at < length ranges → new ≡ skips ++ skip ∷ [] → skip ≤ at → EndsLast ranges skip at → AreSkips ranges new
+skips_more ranges skips new skip at s all low is back last =
+    let long : length new ≡ at + 1 = ap length is ∙ length-append skips (skip ∷ []) ∙ omega arith in
+    let before = λ (k : ℕ) (in_old : k < length skips). ap (λ xs. get_or xs k 0) is ∙ get_or_append_left skips (skip ∷ []) 0 k in_old in
+    let here : get_or new at 0 ≡ skip = ap (λ xs. get_or xs at 0) is ∙ ap (λ n. get_or (skips ++ skip ∷ []) n 0) (sym all) ∙ get_or-append_seam skips skip [] 0 in
+    record {
+      count = omega arith;
+      back = λ k inside. elim (cases_lt k at) [
+        | inl old ↦ let e = before k (omega arith) in let b = s.back k (omega arith) in omega arith
+        | inr other ↦ let e : k ≡ at = omega arith in subst (λ n. get_or new n 0 ≤ n) (sym e) (let h = here in omega arith)
+      ];
+      last = λ k inside. elim (cases_lt k at) [
+        | inl old ↦ subst (λ n. EndsLast ranges n k) (sym (before k (omega arith))) (s.last k (omega arith))
+        | inr other ↦ let e : k ≡ at = omega arith in subst (λ n. EndsLast ranges (get_or new n 0) n) (sym e) (subst (λ n. EndsLast ranges n at) (sym here) last)
+      ];
+    }

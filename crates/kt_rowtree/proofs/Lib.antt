@@ -1,3 +1,4 @@
 pub mod Upto
 pub mod Found
 pub mod Deep
+pub mod Changing

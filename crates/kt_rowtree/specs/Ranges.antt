@@ -1,7 +1,6 @@
 -- Which rowsets hold a key.
-use Rattle.std.specs.Prelude.{◌≡◌, ℕ, ◌<◌, ◌≤◌, Bool, true, ◌&&◌, List, [], map, length, get_or, Option, MatchOption}
-use Rattle.kt_rowtree.specs.Ids.{Ids}
-use Rattle.std.specs.List.{filter, All}
+use Rattle.std.specs.Prelude.{◌≡◌, ℕ, ◌<◌, ◌≤◌, ◌==◌, Bool, true, not, ◌&&◌, List, map, length, get_or}
+use Rattle.std.specs.List.{filter, list_any, All}
 use Rattle.std.specs.List.Sorted.{IsPermutation, IsSorted}
 use Rattle.std.specs.Ordering.{nat_cmp, is_le}
 use Rattle.std.specs.Cmp.Lexicographic.{slice_cmp}
@@ -49,9 +48,25 @@ pub record AreSkips (ranges : List Range) (skips : List ℕ) : Type 0 where
   pub back : (k : ℕ) → k < length skips → get_or skips k 0 ≤ k
   pub last : (k : ℕ) → k < length skips → EndsLast ranges (get_or skips k 0) k
 
+-- these ranges but those of the rowsets that are listed
+abbrev pub without : List ℕ → List Range → List Range
+without out ranges = filter (λ (r : Range). not (list_any (λ n. n == r.rowset) out)) ranges
+
+-- a row tree as callers see it: its ranges in some order, and how many it can hold without more memory
+pub record Tree : Type 0 where
+  pub ranges : List Range
+  pub room : ℕ
+
 -- what a row tree keeps of its ranges
-pub record IsRowTree (ranges : List Range) (skips : List ℕ) (stack : Option Ids) : Type 0 where
+pub record IsRowTree (ranges : List Range) (skips stack : List ℕ) : Type 0 where
+  pub orderly : IsOrderly ranges
   pub by_least : IsByLeast ranges
   pub are_skips : AreSkips ranges skips
   pub all : length skips ≡ length ranges
-  pub stack_is : MatchOption stack (ranges ≡ []) (λ s. IsDeepest ranges s.ids)
+  pub deepest : 0 < length ranges → IsDeepest ranges stack
+
+-- each of its lists has this room
+pub record HasRoom (room ranges skips stack : ℕ) : Type 0 where
+  pub in_ranges : room ≤ ranges
+  pub in_skips : room ≤ skips
+  pub in_stack : room ≤ stack

@@ -1,8 +1,10 @@
-ghost use Rattle.std.specs.Prelude.{◌≡◌, ◌≤◌, length, IfOk};
+ghost use Rattle.std.specs.Prelude.{◌≡◌, ◌<◌, ◌≤◌, length, IfOk, OnOk};
 ghost use Rattle.std.specs.Vec.{vec_capacity};
 
 use crate::search::gather;
+use crate::stack::gather_deepest;
 use kt_bytes::{NoMemory, Octets};
+use std::alloc::Global;
 use std::marker::Model;
 
 /// The keys that a rowset covers: from `least` to `greatest`, both included.
@@ -61,6 +63,17 @@ impl RangeList {
     {
         self.ranges.as_slice()
     }
+
+    pub fn copy(&self, alloc: Global) -> Result<RangeList, NoMemory>
+        ensures { IfOk result (λ copy. copy ≡ self.now) }
+    {
+        let ranges = self.as_slice();
+        let mut copies = Vec::with_capacity(alloc, ranges.len())?;
+        for range in ranges {
+            copies.push(range.copy()?)?;
+        }
+        Ok(RangeList { ranges: copies })
+    }
 }
 
 /// A list of rowset numbers, with room for some.
@@ -79,7 +92,7 @@ impl Model for IdList {
 }
 
 impl IdList {
-    ghost use Rattle.kt_rowtree.specs.Ranges.{holders_of, AreHolders, IsByLeast, AreSkips};
+    ghost use Rattle.kt_rowtree.specs.Ranges.{holders_of, AreHolders, IsDeepest, IsOrderly, IsByLeast, AreSkips};
 
     pub fn from_vec(ids: Vec<u64>) -> IdList
         ensures ids { result.ids ≡ ids.items }
@@ -112,5 +125,28 @@ impl IdList {
         ensures room { self.old.room ≤ self.new.room }
     {
         gather(ranges, skips, key, &mut self.ids);
+    }
+
+    /// Puts the rowsets of the deepest stack into the list, by number, in place of what is there; of no range, none.
+    pub(crate) fn hold_deepest(&mut self, ranges: &[Range], skips: &[usize])
+        requires by_least { IsByLeast ranges.now }
+        requires skips { AreSkips ranges.now skips.now }
+        requires all { length skips.now ≡ length ranges.now }
+        requires orderly { IsOrderly ranges.now }
+        requires room { length ranges.now ≤ self.old.room }
+        ensures deepest { 0 < length ranges.now → IsDeepest ranges.now self.new.ids }
+        ensures room { self.old.room ≤ self.new.room }
+    {
+        gather_deepest(ranges, skips, &mut self.ids);
+    }
+
+    /// Makes room for so many numbers in all.
+    pub(crate) fn make_room(&mut self, total: usize) -> Result<(), NoMemory>
+        ensures ids { self.new.ids ≡ self.old.ids }
+        ensures room { OnOk result (total ≤ self.new.room) }
+        ensures kept { self.old.room ≤ self.new.room }
+    {
+        self.ids.reserve(total.saturating_sub(self.ids.len()))?;
+        Ok(())
     }
 }
