@@ -13,12 +13,12 @@ use Rattle.kt_content.specs.Agreement.{all_moved}
 use Rattle.kt_content.specs.Publishing.{gone}
 use Rattle.kt_content.specs.InMemory.{Name, Stores, stands_for, is_at, group, groups, hist_at, HasPlace}
 use Rattle.kt_content.specs.StoreChanges.{steps_to}
-use Rattle.kt_content.specs.Flushing.{cut, InOrderAt}
+use Rattle.kt_rowfiles.specs.Flushing.{cut, InOrderAt}
 use Rattle.kt_content.specs.Lending.{with_changes}
 use Rattle.kt_content.specs.DeltaJobs.{a_delta_job_goes_over}
 use Rattle.kt_content.proofs.MoreOps.{is_same}
 use Rattle.kt_content.proofs.TwoPhases.{has-gone}
-use Rattle.kt_content.proofs.Flushing.{cut_alike}
+use Rattle.kt_rowfiles.proofs.Flushing.{cut_alike}
 use Rattle.kt_content.proofs.Lending.{alike_itself, outs_are}
 use Rattle.kt_content.proofs.Options.{or_none, one_alone}
 

@@ -24,8 +24,6 @@ pub mod LentParts
 pub mod StoreChanges
 pub mod TwoPhases
 pub mod BelowTheMark
-pub mod Flushing
-pub mod Merging
 pub mod Applying
 pub mod Writes
 pub mod Lending

@@ -10,7 +10,7 @@ use Rattle.kt_content.specs.MoreOps.{PlacesDiffer}
 use Rattle.kt_content.specs.Publishing.{gone}
 use Rattle.kt_content.specs.InMemory.{Stores, group, hist_at}
 use Rattle.kt_content.specs.StoreChanges.{steps_to}
-use Rattle.kt_content.specs.Flushing.{cut, InOrderAt}
+use Rattle.kt_rowfiles.specs.Flushing.{cut, InOrderAt}
 use Rattle.kt_content.specs.Lending.{AllFates, with_changes, GoesOver}
 
 -- Of a key. One place is the job's, under both superblocks, and one store in memory stands for it. It has what the job read, which are the old files and

@@ -12,8 +12,6 @@ pub mod InMemory
 pub mod StoreChanges
 pub mod Applying
 pub mod BelowTheMark
-pub mod Flushing
-pub mod Merging
 pub mod Publishing
 pub mod TwoPhases
 pub mod Replacing

@@ -1,2 +1,5 @@
 pub mod Ordered
 pub mod Places
+pub mod Options
+pub mod Flushing
+pub mod Merging

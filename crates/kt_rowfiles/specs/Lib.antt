@@ -2,3 +2,5 @@ pub mod Files
 pub mod Reading
 pub mod Laws
 pub mod Records
+pub mod Flushing
+pub mod Merging

@@ -1,13 +1,14 @@
 //! What the files of a disk rowset have of each row: its base row, and its records in UNDO and REDO files, put in order
-//! whatever file they stand in.
+//! whatever file they stand in; and what of a history is written to them.
 //!
-//! For the layers above: the definitions in `specs/`, and `RowRecords`, which gathers the records of one row where they lie and
-//! does them to a row. It stands on the definitions of changes and of histories.
+//! For the layers above: the definitions in `specs/` with their laws, and `RowRecords`, which gathers the records of one row where
+//! they lie and does them to a row. It stands on the definitions of changes and of histories.
 #![tactic(auto)]
 
 pub mod laws;
 pub mod records;
 #[cfg(test)]
 mod tests;
+pub mod writing;
 
 pub use records::RowRecords;

@@ -5,7 +5,7 @@ use Rattle.kt_history.specs.Stores.{Steps, Hist, row_of}
 use Rattle.kt_histlaws.specs.Fitting.{RiseAbove, steps_above}
 use Rattle.kt_histlaws.specs.Jobs.{AreAlike}
 use Rattle.kt_rowfiles.specs.Files.{rising}
-use Rattle.kt_content.specs.Flushing.{InOrderAt}
+use Rattle.kt_rowfiles.specs.Flushing.{InOrderAt}
 
 -- all changes above j
 abbrev pub all_above : ℕ → List Hist → Steps

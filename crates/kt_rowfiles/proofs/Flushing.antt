@@ -1,5 +1,5 @@
 -- The row that a flush writes.
-use Rattle.std.proofs.Common.{◌≡◌, ◌≤◌, ◌<◌, ℕ, [], ◌∷◌, ◌++◌, Some, None, Option, refl, sym, ap, ◌∙◌, arith, cond, true, false, Bool, ◌&&◌, T, append_assoc}
+use Rattle.std.proofs.Common.{◌≡◌, ◌≤◌, ◌<◌, ℕ, [], ◌∷◌, ◌++◌, Some, None, Option, refl, sym, ap, ◌∙◌, arith, cond, true, false, Bool, ◌&&◌, T, append_assoc, subst}
 use Rattle.std.specs.Prelude.{nat_lt, nat_le, is_some, ◌==◌}
 use Rattle.std.specs.List.{list_all}
 use Rattle.std.specs.Ordering.{nat_cmp, eq_by_cmp, is_eq}
@@ -18,11 +18,11 @@ use Rattle.kt_history.specs.declared.change.Change.TheVariants.{Ins, Upd, Del}
 use Rattle.kt_history.specs.Rows.{Row, IsRow, apply, undo, fits, has_columns, with_cells, cells_under}
 use Rattle.kt_history.proofs.Undo.{leads_back}
 use Rattle.kt_histlaws.specs.Histories.{or_else}
-use Rattle.kt_history.specs.Stores.{Steps, after_steps, row_of, step_at}
-use Rattle.kt_histlaws.specs.Disks.{before_all, led_over}
-use Rattle.kt_histlaws.specs.Fitting.{steps_above}
-use Rattle.kt_content.specs.Flushing.{after_all, undone, cut, EachAbove, InOrderAt, AllUndone, IsChange, a_change_that_fits_is_undone, a_written_row_keeps_its_changes, a_deleted_row_keeps_its_changes, a_cut_history_is_alike, a_dropped_row_is_alike}
-use Rattle.kt_content.proofs.Options.{one_alone, as_T}
+use Rattle.kt_history.specs.Stores.{Steps, Under, after_steps, row_of, step_at}
+use Rattle.kt_histlaws.specs.Disks.{AreUndos, before_all, led_over}
+use Rattle.kt_histlaws.specs.Fitting.{Rises, steps_above}
+use Rattle.kt_rowfiles.specs.Flushing.{after_all, undone, cut, EachAbove, InOrderAt, AllUndone, IsChange, IsUndone, a_change_that_fits_is_undone, a_written_row_keeps_its_changes, a_deleted_row_keeps_its_changes, a_written_row_leads_back, a_cut_history_is_alike, a_dropped_row_is_alike}
+use Rattle.kt_rowfiles.proofs.Options.{one_alone, as_T}
 
 -- changes above j, each with its undo record
 module _ (j : ℕ) where
@@ -64,6 +64,31 @@ module _ (j : ℕ) where
             (rest.0, rest.1 ∙ ap (λ b. after_steps j steps (cond b (apply c.1 row) row)) (sym (le-leb c.0 j down)))
       ] refl
 
+  -- the undo record of a change leads back
+  leads : (c : Change) (row : Option Row) → IsUndone c row → apply (undo (undo c row) (apply c row)) (apply (undo c row) (apply c row)) ≡ apply c row
+  leads c row u = ap (λ (x : Change). apply x (apply (undo c row) (apply c row))) u.over ∙ ap (apply c) u.back
+
+  -- changes above j, behind those whose undo records lead back
+  lead_on : (steps : Steps) (row : Option Row) (made : Steps) (low top : ℕ) → EachAbove j steps → Rises low steps → AllUndone steps row
+      → ((b : ℕ) → low < b → AreUndos b made row) → low < top → Under top steps → AreUndos top (undone j steps row made) (after_all steps row)
+  lead_on [] row made low top above rise all so lt under = so top lt
+  lead_on (c ∷ steps) row made low top above rise all so lt under =
+      subst (λ (b : Bool). AreUndos top (undone j steps (apply c.1 row) (cond b ((c.0, undo c.1 row) ∷ made) made)) (after_all steps (apply c.1 row))) (sym (lt-ltb j c.0 above.0))
+      (lead_on steps (apply c.1 row) ((c.0, undo c.1 row) ∷ made) c.0 top above.1 rise.1 all.1
+      (λ b up. (up, leads c.1 row all.0, subst (AreUndos c.0 made) (sym all.0.back) (so c.0 rise.0)))
+      under.0 under.1)
+
+  lead_all : (steps : Steps) (row : Option Row) (top : ℕ) → InOrderAt j steps → Rises j (steps_above j steps) → AllUndone steps row → j < top → Under top steps
+      → AreUndos top (undone j steps row []) (after_all steps row)
+  lead_all [] row top order rise all lt under = tt
+  lead_all (c ∷ steps) row top order rise all lt under = elim (nat_lt j c.0) as (λ b. nat_lt j c.0 ≡ b → Rises j (cond b (c ∷ steps_above j steps) (steps_above j steps))
+      → AreUndos top (undone j steps (apply c.1 row) (cond b ((c.0, undo c.1 row) ∷ []) [])) (after_all steps (apply c.1 row))) [
+        | true ↦ λ e r.
+            let later = order.0 e in
+            lead_on steps (apply c.1 row) ((c.0, undo c.1 row) ∷ []) c.0 top later (subst (Rises c.0) (all_above steps later) r.1) all.1 (λ b up. (up, leads c.1 row all.0, tt)) under.0 under.1
+        | false ↦ λ e r. lead_all steps (apply c.1 row) top order.1 r all.1 lt under.1
+      ] refl rise
+
   -- from j on the changes at or below it are the row at j
   pub cut_rows : (t : ℕ) (steps : Steps) (row : Option Row) → j ≤ t → InOrderAt j steps → after_steps t (steps_above j steps) (after_steps j steps row) ≡ after_steps t steps row
   cut_rows t [] row le order = refl
@@ -102,6 +127,9 @@ deleted_keeps j ts h base order all is lt =
     ∙ ap (λ f. record { first = f; steps = led_over made (after_all h.steps h.first) ++ (ts, Del) ∷ [] }) w.1
     ∙ ap (λ s. record { first = row_of j h; steps = s }) (ap (λ l. l ++ (ts, Del) ∷ []) w.0
     ∙ sym (filter-append (λ (x : ℕ × Change). nat_lt j x.0) h.steps ((ts, Del) ∷ []) ∙ ap (λ b. steps_above j h.steps ++ cond b ((ts, Del) ∷ []) []) (lt-ltb j ts lt)))
+
+pub written_leads : a_written_row_leads_back
+written_leads j top h base order rise all is lt under = subst (AreUndos top (undone j h.steps h.first [])) is (lead_all j h.steps h.first top order rise all lt under)
 
 pub one_option : {A : Type 0} (x y : Option A) → x ≡ y → or_else x None ≡ or_else y None
 one_option x y e = ap (λ o. or_else o None) e

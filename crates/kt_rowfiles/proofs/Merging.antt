@@ -9,10 +9,10 @@ use Rattle.kt_history.specs.Stores.{Steps, Hist, after_steps, row_of, step_at, s
 use Rattle.kt_histlaws.specs.Fitting.{RiseAbove, Rises, steps_above}
 use Rattle.kt_histlaws.proofs.OneKey.{step_at-append}
 use Rattle.kt_rowfiles.specs.Files.{put_rising, rising}
-use Rattle.kt_content.specs.Flushing.{EachAbove}
-use Rattle.kt_content.specs.Merging.{all_above, joined_history, a_joined_history_is_alike}
-use Rattle.kt_content.proofs.Flushing.{cut_rows, cut_steps}
-use Rattle.kt_content.proofs.Options.{or_none, one_alone, at_most_rest}
+use Rattle.kt_rowfiles.specs.Flushing.{EachAbove}
+use Rattle.kt_rowfiles.specs.Merging.{all_above, joined_history, a_joined_history_is_alike}
+use Rattle.kt_rowfiles.proofs.Flushing.{cut_rows, cut_steps}
+use Rattle.kt_rowfiles.proofs.Options.{or_none, one_alone, at_most_rest}
 
 -- what is put by its timestamp is found there
 step-put : (t : ℕ) (c : ℕ × Change) (steps : Steps) → step_at t (put_rising c steps) ≡ cond (c.0 == t) (Some c.1) (step_at t steps)
@@ -28,7 +28,7 @@ step-put t c (d ∷ steps) = elim (nat_lt d.0 c.0) as (λ b. nat_lt d.0 c.0 ≡ 
   | false ↦ λ e. refl
 ] refl
 
-step-rising : (t : ℕ) (steps : Steps) → step_at t (rising steps) ≡ step_at t steps
+pub step-rising : (t : ℕ) (steps : Steps) → step_at t (rising steps) ≡ step_at t steps
 step-rising t [] = refl
 step-rising t (c ∷ steps) = step-put t c (rising steps) ∙ ap (cond (c.0 == t) (Some c.1)) (step-rising t steps)
 

@@ -5,9 +5,9 @@ use Rattle.std.specs.FinMap.Entries.{is_sorted}
 use Rattle.kt_history.specs.declared.change.Change.{Change}
 use Rattle.kt_history.specs.declared.change.Change.TheVariants.{Ins, Upd, Del}
 use Rattle.kt_history.specs.Rows.{Row, IsRow, apply, undo, fits, has_columns}
-use Rattle.kt_history.specs.Stores.{Steps, Hist, row_of, never}
-use Rattle.kt_histlaws.specs.Disks.{DiskRow, hist_of}
-use Rattle.kt_histlaws.specs.Fitting.{steps_above}
+use Rattle.kt_history.specs.Stores.{Steps, Hist, Under, row_of, never}
+use Rattle.kt_histlaws.specs.Disks.{DiskRow, AreUndos, hist_of}
+use Rattle.kt_histlaws.specs.Fitting.{Rises, steps_above}
 use Rattle.kt_histlaws.specs.Jobs.{AreAlike}
 
 -- the row after all changes
@@ -69,7 +69,12 @@ a_deleted_row_keeps_its_changes = (j ts : ℕ) (h : Hist) (base : Row) → InOrd
     → j < ts
     → hist_of (written_deleted j h ts base) ≡ record { first = row_of j h; steps = steps_above j (h.steps ++ (ts, Del) ∷ []) }
 
--- which is alike from j on
+-- its UNDO records lead back and their timestamps fall, below any time that no change reaches
+abbrev pub a_written_row_leads_back : Type 0
+a_written_row_leads_back = (j top : ℕ) (h : Hist) (base : Row) → InOrderAt j h.steps → Rises j (steps_above j h.steps) → AllUndone h.steps h.first → after_all h.steps h.first ≡ Some base
+    → j < top → Under top h.steps → AreUndos top (written j h base).undos (Some base)
+
+-- it is alike from j on
 abbrev pub a_cut_history_is_alike : Type 0
 a_cut_history_is_alike = (j : ℕ) (h : Hist) → InOrderAt j h.steps → AreAlike j (h ∷ []) (cut j h ∷ [])
 

@@ -1,5 +1,0 @@
-use Rattle.kt_content.proofs.Flushing.{fit_is_undone}
-use Rattle.kt_content.proofs.writing.undone_law.Goals as goal
-
-pub returns : goal.returns
-returns c = fit_is_undone
