@@ -1,0 +1,10 @@
+//! Laws of the definitions.
+ghost use Rattle.kt_merge.specs.Laws.{a_row_written_is_the_history, a_row_written_leads_back, a_row_not_written_is_not_there};
+
+/// A row that is written has the row at the mark and the changes above it, and its UNDO records lead back. Where none is
+/// written there is neither.
+pub fn row_law()
+    ensures kept { a_row_written_is_the_history }
+    ensures led { a_row_written_leads_back }
+    ensures dropped { a_row_not_written_is_not_there }
+{}
