@@ -1,4 +1,5 @@
 pub mod Upto
 pub mod Found
+pub mod Counted
 pub mod Deep
 pub mod Changing

@@ -1,6 +1,7 @@
 -- The order of byte strings.
 use Rattle.std.proofs.Common.{◌≡◌, ℕ, Bool, true, false, List, refl, sym, ap, ◌∙◌}
-use Rattle.std.specs.Ordering.{nat_cmp, is_le, is_ge, ordering_reverse}
+use Rattle.std.specs.Ordering.{nat_cmp, is_lt, is_le, is_ge, ordering_reverse}
+use Rattle.std.specs.Prelude.{not}
 use Rattle.std.specs.declared.cmp.Ordering.{Ordering}
 use Rattle.std.specs.declared.cmp.Ordering.TheVariants.{Less, Equal, Greater}
 use Rattle.std.specs.Cmp.Lexicographic.{slice_cmp, nat_list_cmp_total}
@@ -41,3 +42,21 @@ trans_by a b c Greater p e f g h = absurd (false≢true g)
 
 pub upto_trans : (a b c : List ℕ) → is_upto a b ≡ true → is_upto b c ≡ true → is_upto a c ≡ true
 upto_trans a b c g h = trans_by a b c (slice_cmp nat_cmp a b) (slice_cmp nat_cmp b c) refl refl g h
+
+upto_by : (o : Ordering) → is_lt o ≡ false → is_le (ordering_reverse o) ≡ true
+upto_by Less e = absurd (false≢true (sym e))
+upto_by Equal e = refl
+upto_by Greater e = refl
+
+-- what another does not come before is at it or before it
+pub not_before : (a b : List ℕ) → is_lt (slice_cmp nat_cmp b a) ≡ false → is_upto a b ≡ true
+not_before a b e = ap is_le (nat_list_cmp_total.antisymm a b) ∙ upto_by (slice_cmp nat_cmp b a) e
+
+past_by : (o : Ordering) → is_lt o ≡ not (is_le (ordering_reverse o))
+past_by Less = refl
+past_by Equal = refl
+past_by Greater = refl
+
+-- what is before a key is not at or after it
+pub lt_past : (a b : List ℕ) → is_lt (slice_cmp nat_cmp a b) ≡ not (is_upto b a)
+lt_past a b = past_by (slice_cmp nat_cmp a b) ∙ ap (λ o. not (is_le o)) (sym (nat_list_cmp_total.antisymm b a))

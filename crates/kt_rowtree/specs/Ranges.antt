@@ -1,5 +1,5 @@
 -- Which rowsets hold a key.
-use Rattle.std.specs.Prelude.{◌≡◌, ℕ, ◌<◌, ◌≤◌, ◌==◌, Bool, true, not, ◌&&◌, List, map, length, get_or}
+use Rattle.std.specs.Prelude.{◌≡◌, ℕ, ◌<◌, ◌≤◌, ◌==◌, Bool, true, not, ◌&&◌, List, [], map, length, get_or}
 use Rattle.std.specs.List.{filter, list_any, All}
 use Rattle.std.specs.List.Sorted.{IsPermutation, IsSorted}
 use Rattle.std.specs.Ordering.{nat_cmp, is_le}
@@ -47,6 +47,15 @@ pub record AreSkips (ranges : List Range) (skips : List ℕ) : Type 0 where
   pub count : length skips ≤ length ranges
   pub back : (k : ℕ) → k < length skips → get_or skips k 0 ≤ k
   pub last : (k : ℕ) → k < length skips → EndsLast ranges (get_or skips k 0) k
+
+-- the greatest key of the range at this place
+abbrev pub end_at : List Range → ℕ → List ℕ
+end_at ranges place = (get_or ranges place (record { rowset = 0; least = []; greatest = [] })).greatest
+
+-- these are the places of the ranges, by their greatest keys
+pub record AreEnds (ranges : List Range) (places : List ℕ) : Type 0 where
+  pub all : IsPermutation (map (λ (r : Range). r.greatest) ranges) (map (end_at ranges) places)
+  pub by_greatest : (j k : ℕ) → j ≤ k → k < length places → is_upto (end_at ranges (get_or places j 0)) (end_at ranges (get_or places k 0)) ≡ true
 
 -- these ranges but those of the rowsets that are listed
 abbrev pub without : List ℕ → List Range → List Range

@@ -1,42 +1,88 @@
 //! The deepest stack of ranges that stand by their least keys.
-ghost use Rattle.std.specs.Prelude.{◌≡◌, ◌<◌, ◌≤◌, ℕ, length, get_or};
+ghost use Rattle.std.specs.Prelude.{◌≡◌, ◌<◌, ◌≤◌, ℕ, length, get_or, map, not};
+ghost use Rattle.std.specs.List.{count_by};
 ghost use Rattle.std.specs.Vec.{vec_capacity};
-ghost use Rattle.kt_rowtree.specs.Ranges.{holders_of, IsDeepest, IsOrderly, IsByLeast, AreSkips};
+ghost use Rattle.kt_rowtree.specs.Ranges.{is_upto, holders_of, end_at, AreEnds, IsDeepest, IsOrderly, IsByLeast, AreSkips};
 
 use crate::lists::Range;
-use crate::search::{collect, gather};
+use crate::search::{gather, reach};
 
-/// How many ranges hold the key at which the range at `at` begins.
-fn depth(ranges: &[Range], skips: &[usize], at: usize, found: &mut Vec<u64>) -> usize
-    requires by_least { IsByLeast ranges.now }
-    requires skips { AreSkips ranges.now skips.now }
-    requires all { length skips.now ≡ length ranges.now }
-    requires inside { at < length ranges.now }
-    requires room { length ranges.now ≤ vec_capacity found.old }
-    ensures depth { (d : Range) → result ≡ length (holders_of (get_or ranges.now at d).least ranges.now) }
-    ensures room { vec_capacity found.old ≤ vec_capacity found.new }
+/// The greatest key of the range at this place; there is none past the last.
+fn end_of(ranges: &[Range], place: u64) -> &[u8]
+    ensures { result.now ≡ end_at ranges.now place }
 {
-    found.clear();
-    collect(ranges, skips, ranges[at].least.as_slice(), found);
-    found.len()
+    match ranges.get(place as usize) {
+        Some(range) => range.greatest.as_slice(),
+        None => &[],
+    }
+}
+
+/// Appends the place of each range.
+fn list_places(ranges: &[Range], places: &mut Vec<u64>)
+    requires { length ranges.now ≤ vec_capacity places.old }
+    ensures all { map (end_at ranges.now) places.new.items ≡ map (λ r. r.greatest) ranges.now }
+    ensures room { vec_capacity places.old ≤ vec_capacity places.new }
+{
+    places.clear();
+    for place in 0..ranges.len() {
+        let _ = places.push(place as u64);
+    }
+}
+
+/// Lists the places of the ranges by their greatest keys, in place of what is there.
+fn list_ends(ranges: &[Range], ends: &mut Vec<u64>)
+    requires { length ranges.now ≤ vec_capacity ends.old }
+    ensures ends { AreEnds ranges.now ends.new.items }
+    ensures room { vec_capacity ends.old ≤ vec_capacity ends.new }
+{
+    list_places(ranges, ends);
+    ends.sort_unstable_by(|a, b| end_of(ranges, *a).cmp(end_of(ranges, *b)));
+}
+
+/// How many ranges end before the key.
+fn ended(ranges: &[Range], ends: &[u64], key: &[u8]) -> usize
+    requires { AreEnds ranges.now ends.now }
+    ensures { result ≡ count_by (λ r. not (is_upto key.now r.greatest)) ranges.now }
+{
+    let mut low = 0;
+    let mut high = ends.len();
+    while low < high {
+        let mid = low + (high - low) / 2;
+        if end_of(ranges, ends[mid]).cmp(key).is_lt() {
+            low = mid + 1;
+        } else {
+            high = mid;
+        }
+    }
+    low
+}
+
+/// How many ranges hold the key at which the range at `at` begins: those that begin by it, without those that end before.
+fn depth(ranges: &[Range], ends: &[u64], at: usize) -> usize
+    requires by_least { IsByLeast ranges.now }
+    requires orderly { IsOrderly ranges.now }
+    requires ends { AreEnds ranges.now ends.now }
+    requires inside { at < length ranges.now }
+    ensures { (d : Range) → result ≡ length (holders_of (get_or ranges.now at d).least ranges.now) }
+{
+    let least = ranges[at].least.as_slice();
+    reach(ranges, least) - ended(ranges, ends, least)
 }
 
 /// The range whose least key is the least of those that lie in the most ranges.
-fn deepest(ranges: &[Range], skips: &[usize], found: &mut Vec<u64>) -> usize
+fn deepest(ranges: &[Range], ends: &[u64]) -> usize
     requires by_least { IsByLeast ranges.now }
-    requires skips { AreSkips ranges.now skips.now }
-    requires all { length skips.now ≡ length ranges.now }
+    requires orderly { IsOrderly ranges.now }
+    requires ends { AreEnds ranges.now ends.now }
     requires some { 0 < length ranges.now }
-    requires room { length ranges.now ≤ vec_capacity found.old }
     ensures inside { result < length ranges.now }
     ensures most { (j : ℕ) (d : Range) → j < length ranges.now → length (holders_of (get_or ranges.now j d).least ranges.now) ≤ length (holders_of (get_or ranges.now result d).least ranges.now) }
     ensures first { (j : ℕ) (d : Range) → j < result → length (holders_of (get_or ranges.now j d).least ranges.now) < length (holders_of (get_or ranges.now result d).least ranges.now) }
-    ensures room { vec_capacity found.old ≤ vec_capacity found.new }
 {
     let mut best = 0;
-    let mut most = depth(ranges, skips, 0, found);
+    let mut most = depth(ranges, ends, 0);
     for at in 1..ranges.len() {
-        let here = depth(ranges, skips, at, found);
+        let here = depth(ranges, ends, at);
         if here > most {
             best = at;
             most = here;
@@ -59,6 +105,7 @@ pub fn gather_deepest(ranges: &[Range], skips: &[usize], out: &mut Vec<u64>)
         out.clear();
         return;
     }
-    let best = deepest(ranges, skips, out);
+    list_ends(ranges, out);
+    let best = deepest(ranges, out);
     gather(ranges, skips, ranges[best].least.as_slice(), out);
 }

@@ -3,7 +3,7 @@ use Rattle.kt_rowtree.proofs.Deep.{length-holders, deepest_is}
 use Rattle.kt_rowtree.proofs.stack.gather_deepest.Goals as goal
 
 pub gather-requires-clause-room : goal.gather-requires-clause-room
-gather-requires-clause-room c = let q = c.requires.room in omega (arith, length-holders c.as_slice.result.now c.args.ranges.now, c.deepest-best.ensures.room)
+gather-requires-clause-room c = let q = c.requires.room in omega (arith, length-holders c.as_slice.result.now c.args.ranges.now, c.list_ends.ensures.room)
 
 pub returns-clause-deepest : goal.returns-clause-deepest
 returns-clause-deepest c = λ some.
