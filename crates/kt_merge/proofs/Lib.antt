@@ -1,2 +1,6 @@
 pub mod Going
 pub mod Written
+pub mod InOrder
+pub mod EachRow
+pub mod Copying
+pub mod OneFile

@@ -5,6 +5,8 @@
 #![tactic(auto)]
 
 pub mod laws;
+pub mod minor;
 pub mod row;
 
+pub use minor::merge_files;
 pub use row::{RowWritten, write_row};
