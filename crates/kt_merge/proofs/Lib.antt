@@ -1,5 +1,6 @@
 pub mod Going
 pub mod Written
+pub mod Folded
 pub mod InOrder
 pub mod EachRow
 pub mod Copying

@@ -33,7 +33,7 @@ is_delete ts (Some (t, Del)) e = ap (λ (n : ℕ). Some (n, Del)) (same t ts e)
     same : (a b : ℕ) → Some a ≡ Some b → a ≡ b
     same a b h = cc
 
-ends_with : (steps : Steps) (ts : ℕ) → deleted_at steps ≡ Some ts → steps ≡ but_last steps ++ (ts, Del) ∷ []
+pub ends_with : (steps : Steps) (ts : ℕ) → deleted_at steps ≡ Some ts → steps ≡ but_last steps ++ (ts, Del) ∷ []
 ends_with [] ts e = cc
 ends_with (x ∷ steps) ts e =
     let last : length (x ∷ steps) - 1 ≡ length steps = omega arith in
@@ -41,7 +41,7 @@ ends_with (x ∷ steps) ts e =
     ∙ ap (λ (n : ℕ). take n (x ∷ steps) ++ (ts, Del) ∷ []) (sym last)
 
 -- a front of changes
-front_order : (j : ℕ) (xs ys : Steps) → InOrderAt j (xs ++ ys) → InOrderAt j xs
+pub front_order : (j : ℕ) (xs ys : Steps) → InOrderAt j (xs ++ ys) → InOrderAt j xs
 front_order j [] ys h = tt
 front_order j (c ∷ xs) ys h = (λ e. front_above xs ys (h.0 e), front_order j xs ys h.1)
   where
@@ -49,7 +49,7 @@ front_order j (c ∷ xs) ys h = (λ e. front_above xs ys (h.0 e), front_order j 
     front_above [] more k = tt
     front_above (a ∷ some) more k = (k.0, front_above some more k.1)
 
-front_undone : (xs ys : Steps) (row : Option Row) → AllUndone (xs ++ ys) row → AllUndone xs row
+pub front_undone : (xs ys : Steps) (row : Option Row) → AllUndone (xs ++ ys) row → AllUndone xs row
 front_undone [] ys row h = tt
 front_undone (c ∷ xs) ys row h = (h.0, front_undone xs ys (apply c.1 row) h.1)
 
@@ -59,18 +59,18 @@ without_later j ts [] row lt = ap (λ (b : Bool). cond b (apply Del row) row) (l
 without_later j ts (c ∷ xs) row lt = without_later j ts xs (cond (nat_le c.0 j) (apply c.1 row) row) lt
 
 -- what an option that is mapped came from
-came_from : {A B : Type 0} (f : A → B) (o : Option A) (b : B) → option_map f o ≡ Some b → (a : A) × (o ≡ Some a) × (f a ≡ b)
+pub came_from : {A B : Type 0} (f : A → B) (o : Option A) (b : B) → option_map f o ≡ Some b → (a : A) × (o ≡ Some a) × (f a ≡ b)
 came_from f None b e = cc
 came_from f (Some a) b e = (a, refl, some_is (f a) b e)
   where
     some_is : {C : Type 0} (x y : C) → Some x ≡ Some y → x ≡ y
     some_is x y h = cc
 
-came_none : {A B : Type 0} (f : A → B) (o : Option A) → option_map f o ≡ None → o ≡ None
+pub came_none : {A B : Type 0} (f : A → B) (o : Option A) → option_map f o ≡ None → o ≡ None
 came_none f None e = refl
 came_none f (Some a) e = cc
 
-is_kept : (j : ℕ) (h : Hist) (d : DiskRow) → InOrderAt j h.steps → AllUndone h.steps h.first → (o : Option ℕ) → deleted_at h.steps ≡ o → written_by j h o ≡ Some d → hist_of d ≡ cut j h
+pub is_kept : (j : ℕ) (h : Hist) (d : DiskRow) → InOrderAt j h.steps → AllUndone h.steps h.first → (o : Option ℕ) → deleted_at h.steps ≡ o → written_by j h o ≡ Some d → hist_of d ≡ cut j h
 is_kept j h d order all None at is =
     let from = came_from (written j h) (after_all h.steps h.first) d is in
     sym (ap hist_of from.2) ∙ written_keeps j h from.0 order all from.1
@@ -101,7 +101,7 @@ each_above j [] above = refl
 each_above j (c ∷ xs) above = rw (lt-ltb j c.0 above.0) (ap (λ (l : Steps). c ∷ l) (each_above j xs above.1))
 
 -- a last change at or below the mark has none above it before it
-none_above : (j ts : ℕ) (xs : Steps) → ts ≤ j → InOrderAt j (xs ++ (ts, Del) ∷ []) → steps_above j (xs ++ (ts, Del) ∷ []) ≡ []
+pub none_above : (j ts : ℕ) (xs : Steps) → ts ≤ j → InOrderAt j (xs ++ (ts, Del) ∷ []) → steps_above j (xs ++ (ts, Del) ∷ []) ≡ []
 none_above j ts [] le h = ap (λ (b : Bool). cond b ((ts, Del) ∷ []) []) (is_low (nat_lt j ts) refl)
   where
     is_low : (b : Bool) → nat_lt j ts ≡ b → nat_lt j ts ≡ false
@@ -127,12 +127,12 @@ none_above j ts (c ∷ xs) le h = low (none_above j ts xs le h.1) (nat_lt j c.0)
         no_both k = omega arith
 
 -- a last delete at or below the mark leaves no row there
-gone_at : (j ts : ℕ) (xs : Steps) (row : Option Row) → ts ≤ j → after_steps j (xs ++ (ts, Del) ∷ []) row ≡ None
+pub gone_at : (j ts : ℕ) (xs : Steps) (row : Option Row) → ts ≤ j → after_steps j (xs ++ (ts, Del) ∷ []) row ≡ None
 gone_at j ts [] row le = ap (λ (b : Bool). cond b (apply Del row) row) (le-leb ts j le)
 gone_at j ts (c ∷ xs) row le = gone_at j ts xs (cond (nat_le c.0 j) (apply c.1 row) row) le
 
 -- before a delete that fits there is a row
-there_before : (ts : ℕ) (xs : Steps) (row : Option Row) → EachFits (xs ++ (ts, Del) ∷ []) row → after_all xs row ≡ None → ⊥
+pub there_before : (ts : ℕ) (xs : Steps) (row : Option Row) → EachFits (xs ++ (ts, Del) ∷ []) row → after_all xs row ≡ None → ⊥
 there_before ts [] None h e = no h.0
   where
     no : false ≡ true → ⊥
@@ -144,7 +144,7 @@ there_before ts [] (Some row) h e = no e
 there_before ts (c ∷ xs) row h e = there_before ts xs (apply c.1 row) h.1 e
 
 -- after changes of which the last deletes nothing there is a row
-there_after : (x : ℕ × Change) (steps : Steps) (row : Option Row) → EachFits (x ∷ steps) row → deleted_at (x ∷ steps) ≡ None → after_all (x ∷ steps) row ≡ None → ⊥
+pub there_after : (x : ℕ × Change) (steps : Steps) (row : Option Row) → EachFits (x ∷ steps) row → deleted_at (x ∷ steps) ≡ None → after_all (x ∷ steps) row ≡ None → ⊥
 there_after (ts, Ins r) [] None h at e = no e
   where
     no : Some r ≡ None → ⊥

@@ -1,3 +1,4 @@
 pub mod Rows
 pub mod Laws
+pub mod Folding
 pub mod Minor

@@ -1,4 +1,5 @@
 //! Laws of the definitions.
+ghost use Rattle.kt_merge.specs.Folding.{a_row_folded_is_alike, changes_that_fit_leave_a_row};
 ghost use Rattle.kt_merge.specs.Laws.{a_row_written_is_the_history, a_row_written_leads_back, a_row_not_written_is_not_there};
 
 /// A row that is written has the row at the mark and the changes above it, and its UNDO records lead back. Where none is
@@ -7,4 +8,11 @@ pub fn row_law()
     ensures kept { a_row_written_is_the_history }
     ensures led { a_row_written_leads_back }
     ensures dropped { a_row_not_written_is_not_there }
+{}
+
+/// A row that is folded has the same row at each time from the mark on and the same changes above it, and changes that fit
+/// leave one.
+pub fn fold_law()
+    ensures alike { a_row_folded_is_alike }
+    ensures left { changes_that_fit_leave_a_row }
 {}

@@ -9,4 +9,4 @@ pub mod minor;
 pub mod row;
 
 pub use minor::merge_files;
-pub use row::{RowWritten, write_row};
+pub use row::{RowWritten, fold_row, write_row};

@@ -5,6 +5,7 @@ ghost use Rattle.std.specs.Option.{option_map};
 ghost use Rattle.kt_history.specs.Rows.{fits, apply, undo};
 ghost use Rattle.kt_rowfiles.specs.Reading.{steps_in};
 ghost use Rattle.kt_rowfiles.specs.Flushing.{after_all, undone};
+ghost use Rattle.kt_merge.specs.Folding.{row_folded};
 ghost use Rattle.kt_merge.specs.Rows.{deleted_at, but_last, redos_of, row_written, disk_row_of};
 
 use kt_base::{Cells, NoMemory};
@@ -147,5 +148,24 @@ pub fn write_row(
         None => row_of(alloc, mark, ordinal, first, steps, None),
         Some(ts) if ts > mark => { row_of(alloc, mark, ordinal, first, but_last(steps), Some(ts)) }
         Some(_) => Ok(None),
+    }
+}
+
+/// What a base row and its REDO records are folded to as of a mark, as the row with this ordinal: nothing where the changes
+/// leave no row, which none do that fit. A row that a last change deletes stays with its last cells, wherever that change lies.
+pub fn fold_row(
+    alloc: Global,
+    mark: u64,
+    ordinal: u32,
+    base: Cells,
+    redos: &[Delta],
+) -> Result<Option<RowWritten>, NoMemory>
+    ensures row { IfOk result (λ folded. option_map disk_row_of folded ≡ row_folded mark base (steps_in redos.now)) }
+    // Its UNDO records name it.
+    ensures ordinals { IfOk result (λ folded. IfSome folded (λ w. All (λ d. d.ordinal ≡ ordinal) w.undos.items)) }
+{
+    match deleted_at(redos) {
+        None => row_of(alloc, mark, ordinal, Some(base), redos, None),
+        Some(ts) => row_of(alloc, mark, ordinal, Some(base), but_last(redos), Some(ts)),
     }
 }

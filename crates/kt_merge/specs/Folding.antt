@@ -1,0 +1,31 @@
+-- The row that a base row and its REDO records are folded to, as of a mark.
+use Rattle.std.specs.Prelude.{◌≡◌, ◌≢◌, ℕ, Option, Some, None, [], ◌∷◌}
+use Rattle.std.specs.Option.{option_map}
+use Rattle.kt_history.specs.Rows.{Row}
+use Rattle.kt_history.specs.Stores.{Steps, Hist}
+use Rattle.kt_histlaws.specs.Disks.{DiskRow, hist_of}
+use Rattle.kt_histlaws.specs.Jobs.{AreAlike}
+use Rattle.kt_rowfiles.specs.Flushing.{InOrderAt, AllUndone, after_all, written, written_deleted}
+use Rattle.kt_merge.specs.Rows.{deleted_at, before_last}
+use Rattle.kt_merge.specs.Laws.{EachFits}
+
+-- the history of the REDO records alone
+abbrev pub on_base : Row → Steps → Hist
+on_base base redos = record { first = Some base; steps = redos }
+
+-- a row that a last change deletes stays with its last cells, wherever that change lies
+abbrev pub folded_by : ℕ → Hist → Option ℕ → Option DiskRow
+folded_by j h None = option_map (written j h) (after_all h.steps h.first)
+folded_by j h (Some ts) = option_map (written_deleted j (before_last h) ts) (after_all (before_last h).steps h.first)
+
+-- the row that is left, where the changes leave one
+abbrev pub row_folded : ℕ → Row → Steps → Option DiskRow
+row_folded j base redos = folded_by j (on_base base redos) (deleted_at redos)
+
+-- it has the same row at each time from the mark on, and the same changes above it
+abbrev pub a_row_folded_is_alike : Type 0
+a_row_folded_is_alike = (j : ℕ) (base : Row) (redos : Steps) (d : DiskRow) → InOrderAt j redos → AllUndone redos (Some base) → row_folded j base redos ≡ Some d → AreAlike j (on_base base redos ∷ []) (hist_of d ∷ [])
+
+-- and changes that fit leave one
+abbrev pub changes_that_fit_leave_a_row : Type 0
+changes_that_fit_leave_a_row = (j : ℕ) (base : Row) (redos : Steps) → EachFits redos (Some base) → row_folded j base redos ≢ None
