@@ -43,3 +43,22 @@ fn the_deepest_stack(rt: HostRuntime) -> Result<(), Fail> {
     assert!(rt; none.stack().is_none());
     Ok(())
 }
+
+#[test]
+#[tactic(auto, using(kt_rowtree::proofs::Changing::fits_beside))]
+fn rowsets_take_the_place_of_others(rt: HostRuntime) -> Result<(), Fail> {
+    let alloc = rt.alloc();
+    let mut ranges = Vec::new(alloc);
+    ranges.push(between(alloc, 9, b"a", b"m")?)?;
+    ranges.push(between(alloc, 4, b"k", b"z")?)?;
+    let mut tree = RowTree::build(alloc, &RangeList::from_vec(ranges))?;
+    let before = tree.stack().ok_or("no stack")?;
+    assert_eq!(rt; before.as_slice(), [4, 9].as_slice());
+    tree.reserve(1)?;
+    let mut flushed = Vec::new(alloc);
+    flushed.push(between(alloc, 7, b"a", b"c")?)?;
+    tree.replace(&[9], RangeList::from_vec(flushed));
+    let after = tree.stack().ok_or("no stack")?;
+    assert_eq!(rt; after.as_slice(), [7].as_slice());
+    Ok(())
+}
