@@ -1,9 +1,9 @@
 -- Operations held as the bytes that spell them.
-use Rattle.std.proofs.Common.{◌≡◌, ℕ, ◌+◌, ◌≤◌, List, [], ◌∷◌, ◌++◌, length, take, drop, get_or, Result, Ok, Err, length-append, refl, sym, ap, ◌∙◌, subst, append_assoc, arith}
+use Rattle.std.proofs.Common.{◌≡◌, ℕ, ◌+◌, ◌-◌, ◌≤◌, List, [], ◌∷◌, ◌++◌, length, take, drop, get_or, Result, Ok, Err, length-append, refl, sym, ap, ◌∙◌, subst, append_assoc, arith}
 use Rattle.std.specs.Prelude.{OnOk, OnErr}
-use Rattle.std.specs.List.{concat, flat_map, All}
-use Rattle.std.proofs.lemmas.List.{take_at, drop_at, take_all, length-drop, drop-drop, map-append, append-nil}
-use Rattle.std.proofs.lemmas.List.Elements.{All-head, All-tail, All-push}
+use Rattle.std.specs.List.{between, concat, flat_map, All}
+use Rattle.std.proofs.lemmas.List.{take_at, drop_at, take_all, length-drop, drop-drop, map-append, append-nil, take-map, drop-map}
+use Rattle.std.proofs.lemmas.List.Elements.{All-head, All-tail, All-push, All-take, All-drop}
 use Rattle.std.specs.Int.{w16, to_le_bytes, from_le_bytes}
 use Rattle.kt_cells.specs.Spelling.{cell_list}
 use Rattle.kt_cells.specs.Reading.{cells_behind}
@@ -128,3 +128,11 @@ view_pushed (Err e) old new op ops ok fits view = tt
 pub bytes_are : (texts : List (List ℕ)) → All SpellsOp texts → concat texts ≡ flat_map operation (ops_in texts)
 bytes_are [] all = refl
 bytes_are (t ∷ texts) all = rw (sym (bytes_are texts (All-tail SpellsOp t texts all))) (ap (λ (xs : List ℕ). xs ++ concat texts) (All-head SpellsOp t texts all).is)
+
+-- ---- a part of a list
+
+pub all_of_part : (texts : List (List ℕ)) (first end : ℕ) → All SpellsOp texts → All SpellsOp (between first end texts)
+all_of_part texts first end all = All-take SpellsOp (end - first) (drop first texts) (All-drop SpellsOp first texts all)
+
+pub ops_of_part : (texts : List (List ℕ)) (ops : List RowOp) (first end : ℕ) → ops_in texts ≡ ops → ops_in (between first end texts) ≡ between first end ops
+ops_of_part texts ops first end view = sym (take-map op_in (end - first) (drop first texts)) ∙ ap (take (end - first)) (sym (drop-map op_in first texts)) ∙ ap (between first end) view

@@ -23,6 +23,7 @@ pub mod row_store;
 pub mod scan;
 mod shared_texts;
 pub mod target;
+mod text_part;
 pub mod view;
 
 pub use change::{Change, Outcome};

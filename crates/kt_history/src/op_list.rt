@@ -1,6 +1,6 @@
 //! The operations of a write, held as the bytes that spell them, so that they are copied, logged and placed as they lie.
-ghost use Rattle.std.specs.Prelude.{◌≡◌, ◌==◌, ◌<◌, ◌^◌, ◌∷◌, ◌++◌, [], length, get_or, slice_get, IfOk, OnOk, OnErr};
-ghost use Rattle.std.specs.List.{flat_map};
+ghost use Rattle.std.specs.Prelude.{◌≡◌, ◌==◌, ◌<◌, ◌≤◌, ◌+◌, ◌^◌, ◌∷◌, ◌++◌, [], length, get_or, slice_get, IfOk, OnOk, OnErr};
+ghost use Rattle.std.specs.List.{between, flat_map};
 ghost use Rattle.kt_cells.specs.Spelling.{cell_list};
 ghost use Rattle.kt_cells.specs.Reading.{cells_behind};
 ghost use Rattle.kt_cells.specs.Spelled.{SpellsCells};
@@ -228,6 +228,17 @@ impl OpList {
     {
         Ok(OpList {
             texts: self.texts.copy()?,
+        })
+    }
+
+    /// So many of the operations, from a place on: another owner of a shared list's bytes, which takes no memory, and else
+    /// a copy.
+    pub fn part(&self, alloc: Global, first: usize, len: usize) -> Result<OpList, NoMemory>
+        requires { first + len ≤ length self.now }
+        ensures { IfOk result (λ part. part ≡ between first (first + len) self.now) }
+    {
+        Ok(OpList {
+            texts: self.texts.part(alloc, first, len)?,
         })
     }
 }

@@ -1,27 +1,18 @@
 //! Byte strings that one list owns, or several share.
-ghost use Rattle.std.specs.Prelude.{◌≡◌, ◌<◌, ◌==◌, [], ◌∷◌, ◌++◌, length, get_or, IfOk, OnOk, OnErr};
-ghost use Rattle.std.specs.List.{concat, flat_map};
+ghost use Rattle.std.specs.Prelude.{◌≡◌, ◌<◌, ◌≤◌, ◌+◌, ◌==◌, [], ◌∷◌, ◌++◌, length, get_or, IfOk, OnOk, OnErr};
+ghost use Rattle.std.specs.List.{between, concat, flat_map};
 ghost use Rattle.kt_history.specs.Shared.{held_texts};
 
+use crate::text_part::TextPart;
 use kt_base::NoMemory;
 use kt_bytes::Texts;
 use std::alloc::Global;
 use std::marker::Model;
-use std::sync::Arc;
 
 #[derive(Drop)]
 enum Held {
     Own(Texts),
-    Shared(Arc<Texts>),
-}
-
-fn texts_of(held: &Held) -> &Texts
-    ensures { result.now ≡ held_texts held.now }
-{
-    match held {
-        Held::Own(texts) => texts,
-        Held::Shared(texts) => texts,
-    }
+    Shared(TextPart),
 }
 
 // The same strings, of which a copy is then another owner.
@@ -29,11 +20,8 @@ fn shared(alloc: Global, held: Held) -> Result<Held, NoMemory>
     ensures { IfOk result (λ shared. held_texts shared ≡ held_texts held) }
 {
     match held {
-        Held::Own(texts) => match Arc::new(alloc, texts) {
-            Ok(texts) => Ok(Held::Shared(texts)),
-            Err(_) => Err(NoMemory),
-        },
-        Held::Shared(texts) => Ok(Held::Shared(texts)),
+        Held::Own(texts) => Ok(Held::Shared(TextPart::whole(alloc, texts)?)),
+        Held::Shared(part) => Ok(Held::Shared(part)),
     }
 }
 
@@ -42,7 +30,34 @@ fn copy(held: &Held) -> Result<Held, NoMemory>
 {
     match held {
         Held::Own(texts) => Ok(Held::Own(texts.copy()?)),
-        Held::Shared(texts) => Ok(Held::Shared(Arc::try_clone(texts)?)),
+        Held::Shared(part) => Ok(Held::Shared(part.part(0, part.len())?)),
+    }
+}
+
+// The strings from a place on and before another, copied.
+fn copied(alloc: Global, texts: &Texts, first: usize, end: usize) -> Result<Texts, NoMemory>
+    requires in_order { first ≤ end }
+    requires within { end ≤ length texts.now }
+    ensures { IfOk result (λ own. own ≡ between first end texts.now) }
+{
+    let mut own = Texts::new(alloc);
+    'texts: for at in first..end {
+        own.push(texts.get(at))?;
+    }
+    Ok(own)
+}
+
+// So many of the strings, from a place on.
+fn part(alloc: Global, held: &Held, first: usize, len: usize) -> Result<Held, NoMemory>
+    requires { first + len ≤ length (held_texts held.now) }
+    ensures { IfOk result (λ part. held_texts part ≡ between first (first + len) (held_texts held.now)) }
+{
+    match held {
+        Held::Own(texts) => {
+            prove!(first <= texts.len());
+            Ok(Held::Own(copied(alloc, texts, first, first + len)?))
+        }
+        Held::Shared(texts) => Ok(Held::Shared(texts.part(first, len)?)),
     }
 }
 
@@ -53,8 +68,8 @@ fn push_parts(held: &mut Held, parts: &[&[u8]]) -> Result<(), NoMemory>
 {
     match held {
         Held::Own(texts) => texts.push_parts(parts),
-        Held::Shared(texts) => {
-            let mut own = texts.copy()?;
+        Held::Shared(part) => {
+            let mut own = part.own()?;
             own.push_parts(parts)?;
             *held = Held::Own(own);
             Ok(())
@@ -100,13 +115,16 @@ impl SharedTexts {
     pub fn len(&self) -> usize
         ensures { result ≡ length self.now }
     {
-        texts_of(&self.held).len()
+        match &self.held {
+            Held::Own(texts) => texts.len(),
+            Held::Shared(part) => part.len(),
+        }
     }
 
     pub fn is_empty(&self) -> bool
         ensures { result ≡ (length self.now == 0) }
     {
-        texts_of(&self.held).is_empty()
+        self.len() == 0
     }
 
     /// The string at this place, where it lies.
@@ -114,14 +132,20 @@ impl SharedTexts {
         requires { at < length self.now }
         ensures { result.now ≡ get_or self.now at [] }
     {
-        texts_of(&self.held).get(at)
+        match &self.held {
+            Held::Own(texts) => texts.get(at),
+            Held::Shared(part) => part.get(at),
+        }
     }
 
     /// The bytes of all strings.
     pub fn as_bytes(&self) -> &[u8]
         ensures { result.now ≡ concat self.now }
     {
-        texts_of(&self.held).as_bytes()
+        match &self.held {
+            Held::Own(texts) => texts.as_bytes(),
+            Held::Shared(part) => part.as_bytes(),
+        }
     }
 
     /// Adds a string that is some parts, one behind the other. Without memory nothing is added. Where the strings are
@@ -139,6 +163,16 @@ impl SharedTexts {
     {
         Ok(SharedTexts {
             held: copy(&self.held)?,
+        })
+    }
+
+    /// So many of the strings, from a place on: another owner of shared strings, which takes no memory, and else a copy.
+    pub fn part(&self, alloc: Global, first: usize, len: usize) -> Result<SharedTexts, NoMemory>
+        requires { first + len ≤ length self.now }
+        ensures { IfOk result (λ part. part ≡ between first (first + len) self.now) }
+    {
+        Ok(SharedTexts {
+            held: part(alloc, &self.held, first, len)?,
         })
     }
 }
