@@ -10,6 +10,8 @@ mod host;
 #[cfg(test)]
 mod memrowset;
 #[cfg(test)]
+mod merging;
+#[cfg(test)]
 mod mvcc;
 #[cfg(test)]
 mod policy;
