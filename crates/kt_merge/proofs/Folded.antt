@@ -1,25 +1,25 @@
 -- What a row that is folded keeps of its history.
-use Rattle.std.proofs.Common.{◌≡◌, ◌≢◌, ◌≤◌, ◌<◌, ℕ, List, [], ◌∷◌, ◌++◌, Option, Some, None, Bool, true, false, refl, sym, ap, ◌∙◌, subst, arith, cond}
+use Rattle.std.proofs.Common.{◌≡◌, ◌≢◌, ◌≤◌, ◌<◌, ℕ, List, [], ◌∷◌, ◌++◌, Option, Some, None, Bool, true, false, refl, sym, ap, ◌∙◌, subst, arith, cond, append_assoc}
 use Rattle.std.specs.Prelude.{nat_lt, nat_le}
 use Rattle.std.specs.Option.{option_map}
-use Rattle.std.proofs.lemmas.Bool.{lt-leb, le-leb, ltb-false, ne_eqb}
+use Rattle.std.proofs.lemmas.Bool.{lt-leb, lt-ltb, ltb-false, ne_eqb}
 use Rattle.std.proofs.lemmas.Bool.Decides.{nat_tests}
 use Rattle.std.proofs.lemmas.List.{append-nil}
 use Rattle.std.proofs.lemmas.List.Elements.{filter-append}
 use Rattle.kt_history.specs.declared.change.Change.{Change}
 use Rattle.kt_history.specs.declared.change.Change.TheVariants.{Ins, Upd, Del}
-use Rattle.kt_history.specs.Rows.{Row, apply}
+use Rattle.kt_history.specs.Rows.{Row, apply, undo}
 use Rattle.kt_history.specs.Stores.{Steps, Hist, after_steps, row_of, step_at}
 use Rattle.kt_histlaws.specs.Disks.{DiskRow, before_all, led_over, hist_of}
 use Rattle.kt_histlaws.specs.Fitting.{steps_above}
 use Rattle.kt_histlaws.specs.Jobs.{AreAlike}
-use Rattle.kt_rowfiles.specs.Flushing.{after_all, undone, written, written_deleted, cut, InOrderAt, AllUndone}
+use Rattle.kt_rowfiles.specs.Flushing.{after_all, undone, written, written_deleted, cut, EachAbove, InOrderAt, AllUndone}
 use Rattle.kt_rowfiles.proofs.Flushing.{written_keeps, deleted_keeps, cut_alike, cut_steps, one_option}
 use Rattle.kt_rowfiles.proofs.Options.{one_alone}
 use Rattle.kt_merge.specs.Rows.{deleted_at, before_last}
 use Rattle.kt_merge.specs.Laws.{EachFits}
-use Rattle.kt_merge.specs.Folding.{on_base, folded_by, row_folded, a_row_folded_is_alike, changes_that_fit_leave_a_row}
-use Rattle.kt_merge.proofs.Written.{came_from, came_none, ends_with, front_order, front_undone, none_above, gone_at, is_kept, there_before, there_after}
+use Rattle.kt_merge.specs.Folding.{on_base, folded_by, row_folded, with_older, a_row_folded_is_alike, a_row_folded_whole_is_the_same, changes_that_fit_leave_a_row}
+use Rattle.kt_merge.proofs.Written.{came_from, came_none, ends_with, front_order, front_undone, none_above, gone_at, each_above, is_kept, there_before, there_after}
 
 -- a history that ends in a delete at or below the mark
 gone_alike : (j ts : ℕ) (xs : Steps) (first row : Option Row) → ts ≤ j → InOrderAt j (xs ++ (ts, Del) ∷ []) → AreAlike j (record { first = first; steps = xs ++ (ts, Del) ∷ [] } ∷ []) (record { first = row; steps = (ts, Del) ∷ [] } ∷ [])
@@ -88,3 +88,47 @@ is_left j h row there fit (Some ts) at is = there_before ts (before_last h).step
 
 pub folded_left : changes_that_fit_leave_a_row
 folded_left j base redos fit is = is_left j (on_base base redos) base refl fit (deleted_at redos) refl is
+
+-- ---- changes that all lie above the mark
+
+above_order : (j : ℕ) (xs : Steps) → EachAbove j xs → InOrderAt j xs
+above_order j [] above = tt
+above_order j (c ∷ xs) above = (λ e. above.1, above_order j xs above.1)
+
+above_row : (j : ℕ) (xs : Steps) (row : Option Row) → EachAbove j xs → after_steps j xs row ≡ row
+above_row j [] row above = refl
+above_row j (c ∷ xs) row above = ap (λ (b : Bool). after_steps j xs (cond b (apply c.1 row) row)) (lt-leb c.0 j above.0) ∙ above_row j xs row above.1
+
+above_last : (j ts : ℕ) (xs : Steps) → EachAbove j (xs ++ (ts, Del) ∷ []) → j < ts
+above_last j ts [] above = above.0
+above_last j ts (c ∷ xs) above = above_last j ts xs above.1
+
+kept_whole : (j : ℕ) (h : Hist) (e : DiskRow) → EachAbove j h.steps → AllUndone h.steps h.first → (o : Option ℕ) → deleted_at h.steps ≡ o → folded_by j h o ≡ Some e → hist_of e ≡ h
+kept_whole j h e above all o at is = by o at is ∙ ap (λ (s : Steps). record { first = row_of j h; steps = s }) (each_above j h.steps above) ∙ ap (λ (r : Option Row). record { first = r; steps = h.steps }) (above_row j h.steps h.first above)
+  where
+    by : (o : Option ℕ) → deleted_at h.steps ≡ o → folded_by j h o ≡ Some e → hist_of e ≡ cut j h
+    by None at is = is_kept j h e (above_order j h.steps above) all None at is
+    by (Some ts) at is =
+        let up = above_last j ts (before_last h).steps (subst (EachAbove j) (ends_with h.steps ts at) above) in
+        is_kept j h e (above_order j h.steps above) all (Some ts) at (ap (λ (b : Bool). cond b (option_map (written_deleted j (before_last h) ts) (after_all (before_last h).steps h.first)) None) (lt-ltb j ts up) ∙ is)
+
+-- the history of a row with older UNDO records behind its own
+abbrev behind : Steps → Hist → Hist
+behind undos h = record { first = before_all undos h.first; steps = led_over undos h.first ++ h.steps }
+
+before-append : (xs ys : Steps) (row : Option Row) → before_all (xs ++ ys) row ≡ before_all ys (before_all xs row)
+before-append [] ys row = refl
+before-append (x ∷ xs) ys row = before-append xs ys (apply x.1 row)
+
+led-append : (xs ys : Steps) (row : Option Row) → led_over (xs ++ ys) row ≡ led_over ys (before_all xs row) ++ led_over xs row
+led-append [] ys row = sym (append-nil (led_over ys row))
+led-append (x ∷ xs) ys row = ap (λ (l : Steps). l ++ (x.0, undo x.1 row) ∷ []) (led-append xs ys (apply x.1 row)) ∙ append_assoc (led_over ys (before_all xs (apply x.1 row))) (led_over xs (apply x.1 row)) ((x.0, undo x.1 row) ∷ [])
+
+with_older_is : (undos : Steps) (e : DiskRow) → hist_of (with_older undos e) ≡ behind undos (hist_of e)
+with_older_is undos e =
+    ap (λ (r : Option Row). record { first = r; steps = led_over (e.undos ++ undos) (Some e.base) ++ e.redos }) (before-append e.undos undos (Some e.base))
+    ∙ ap (λ (l : Steps). record { first = before_all undos (before_all e.undos (Some e.base)); steps = l })
+    (ap (λ (l : Steps). l ++ e.redos) (led-append e.undos undos (Some e.base)) ∙ append_assoc (led_over undos (before_all e.undos (Some e.base))) (led_over e.undos (Some e.base)) e.redos)
+
+pub folded_whole : a_row_folded_whole_is_the_same
+folded_whole j d e above all is = with_older_is d.undos e ∙ ap (behind d.undos) (kept_whole j (on_base d.base d.redos) e above all (deleted_at d.redos) refl is)

@@ -96,7 +96,7 @@ pub kept : a_row_written_is_the_history
 kept j h d order all is = is_kept j h d order all (deleted_at h.steps) refl is
 
 -- changes that all lie above the mark are those above it
-each_above : (j : ℕ) (xs : Steps) → EachAbove j xs → steps_above j xs ≡ xs
+pub each_above : (j : ℕ) (xs : Steps) → EachAbove j xs → steps_above j xs ≡ xs
 each_above j [] above = refl
 each_above j (c ∷ xs) above = rw (lt-ltb j c.0 above.0) (ap (λ (l : Steps). c ∷ l) (each_above j xs above.1))
 

@@ -1,11 +1,11 @@
 -- The row that a base row and its REDO records are folded to, as of a mark.
-use Rattle.std.specs.Prelude.{◌≡◌, ◌≢◌, ℕ, Option, Some, None, [], ◌∷◌}
+use Rattle.std.specs.Prelude.{◌≡◌, ◌≢◌, ℕ, Option, Some, None, [], ◌∷◌, ◌++◌}
 use Rattle.std.specs.Option.{option_map}
 use Rattle.kt_history.specs.Rows.{Row}
 use Rattle.kt_history.specs.Stores.{Steps, Hist}
 use Rattle.kt_histlaws.specs.Disks.{DiskRow, hist_of}
 use Rattle.kt_histlaws.specs.Jobs.{AreAlike}
-use Rattle.kt_rowfiles.specs.Flushing.{InOrderAt, AllUndone, after_all, written, written_deleted}
+use Rattle.kt_rowfiles.specs.Flushing.{InOrderAt, EachAbove, AllUndone, after_all, written, written_deleted}
 use Rattle.kt_merge.specs.Rows.{deleted_at, before_last}
 use Rattle.kt_merge.specs.Laws.{EachFits}
 
@@ -25,6 +25,14 @@ row_folded j base redos = folded_by j (on_base base redos) (deleted_at redos)
 -- it has the same row at each time from the mark on, and the same changes above it
 abbrev pub a_row_folded_is_alike : Type 0
 a_row_folded_is_alike = (j : ℕ) (base : Row) (redos : Steps) (d : DiskRow) → InOrderAt j redos → AllUndone redos (Some base) → row_folded j base redos ≡ Some d → AreAlike j (on_base base redos ∷ []) (hist_of d ∷ [])
+
+-- the row with older UNDO records behind its own
+abbrev pub with_older : Steps → DiskRow → DiskRow
+with_older undos d = record d { undos = d.undos ++ undos }
+
+-- where all REDO records lie above the mark, the row with its older UNDO records has the very same history
+abbrev pub a_row_folded_whole_is_the_same : Type 0
+a_row_folded_whole_is_the_same = (j : ℕ) (d e : DiskRow) → EachAbove j d.redos → AllUndone d.redos (Some d.base) → row_folded j d.base d.redos ≡ Some e → hist_of (with_older d.undos e) ≡ hist_of d
 
 -- and changes that fit leave one
 abbrev pub changes_that_fit_leave_a_row : Type 0
