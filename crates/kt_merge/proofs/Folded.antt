@@ -9,17 +9,17 @@ use Rattle.std.proofs.lemmas.List.Elements.{filter-append}
 use Rattle.kt_history.specs.declared.change.Change.{Change}
 use Rattle.kt_history.specs.declared.change.Change.TheVariants.{Ins, Upd, Del}
 use Rattle.kt_history.specs.Rows.{Row, apply, undo}
-use Rattle.kt_history.specs.Stores.{Steps, Hist, after_steps, row_of, step_at}
-use Rattle.kt_histlaws.specs.Disks.{DiskRow, before_all, led_over, hist_of}
-use Rattle.kt_histlaws.specs.Fitting.{steps_above}
+use Rattle.kt_history.specs.Stores.{Steps, Hist, Under, after_steps, row_of, step_at}
+use Rattle.kt_histlaws.specs.Disks.{DiskRow, AreUndos, before_all, led_over, hist_of}
+use Rattle.kt_histlaws.specs.Fitting.{Rises, steps_above}
 use Rattle.kt_histlaws.specs.Jobs.{AreAlike}
 use Rattle.kt_rowfiles.specs.Flushing.{after_all, undone, written, written_deleted, cut, EachAbove, InOrderAt, AllUndone}
 use Rattle.kt_rowfiles.proofs.Flushing.{written_keeps, deleted_keeps, cut_alike, cut_steps, one_option}
 use Rattle.kt_rowfiles.proofs.Options.{one_alone}
-use Rattle.kt_merge.specs.Rows.{deleted_at, before_last}
-use Rattle.kt_merge.specs.Laws.{EachFits}
-use Rattle.kt_merge.specs.Folding.{on_base, folded_by, row_folded, with_older, a_row_folded_is_alike, a_row_folded_whole_is_the_same, changes_that_fit_leave_a_row}
-use Rattle.kt_merge.proofs.Written.{came_from, came_none, ends_with, front_order, front_undone, none_above, gone_at, each_above, is_kept, there_before, there_after}
+use Rattle.kt_merge.specs.Rows.{deleted_at, before_last, written_by}
+use Rattle.kt_merge.specs.Laws.{EachFits, before_redos}
+use Rattle.kt_merge.specs.Folding.{on_base, folded_by, row_folded, with_older, a_row_folded_is_alike, a_row_folded_whole_is_the_same, a_row_folded_whole_leads_back, changes_that_fit_leave_a_row}
+use Rattle.kt_merge.proofs.Written.{came_from, came_none, ends_with, front_order, front_undone, none_above, gone_at, each_above, is_kept, is_led, there_before, there_after}
 
 -- a history that ends in a delete at or below the mark
 gone_alike : (j ts : ℕ) (xs : Steps) (first row : Option Row) → ts ≤ j → InOrderAt j (xs ++ (ts, Del) ∷ []) → AreAlike j (record { first = first; steps = xs ++ (ts, Del) ∷ [] } ∷ []) (record { first = row; steps = (ts, Del) ∷ [] } ∷ [])
@@ -132,3 +132,61 @@ with_older_is undos e =
 
 pub folded_whole : a_row_folded_whole_is_the_same
 folded_whole j d e above all is = with_older_is d.undos e ∙ ap (behind d.undos) (kept_whole j (on_base d.base d.redos) e above all (deleted_at d.redos) refl is)
+
+-- ---- all UNDO records of a row
+
+-- the timestamp of the last UNDO record, or the time where there is none
+abbrev lowest : ℕ → Steps → ℕ
+lowest top [] = top
+lowest top (u ∷ undos) = lowest u.0 undos
+
+undos-append : (top : ℕ) (xs ys : Steps) (row : Option Row) → AreUndos top xs row → AreUndos (lowest top xs) ys (before_all xs row) → AreUndos top (xs ++ ys) row
+undos-append top [] ys row one two = two
+undos-append top (x ∷ xs) ys row one two = (one.0, one.1, undos-append x.0 xs ys (apply x.1 row) one.2 two)
+
+lowest_made : (j top : ℕ) (steps : Steps) (row : Option Row) (x : ℕ × Change) (made : Steps) → EachAbove j steps → lowest top (undone j steps row (x ∷ made)) ≡ lowest x.0 made
+lowest_made j top [] row x made above = refl
+lowest_made j top (c ∷ steps) row x made above =
+    ap (λ (b : Bool). lowest top (undone j steps (apply c.1 row) (cond b ((c.0, undo c.1 row) ∷ x ∷ made) (x ∷ made)))) (lt-ltb j c.0 above.0) ∙ lowest_made j top steps (apply c.1 row) (c.0, undo c.1 row) (x ∷ made) above.1
+
+-- the last UNDO record made is that of the first change
+lowest_is : (j top : ℕ) (steps : Steps) (row : Option Row) → EachAbove j steps → lowest top (undone j steps row []) ≡ before_redos top steps
+lowest_is j top [] row above = refl
+lowest_is j top (c ∷ steps) row above =
+    ap (λ (b : Bool). lowest top (undone j steps (apply c.1 row) (cond b ((c.0, undo c.1 row) ∷ []) []))) (lt-ltb j c.0 above.0) ∙ lowest_made j top steps (apply c.1 row) (c.0, undo c.1 row) [] above.1
+
+front_above : (j : ℕ) (xs ys : Steps) → EachAbove j (xs ++ ys) → EachAbove j xs
+front_above j [] ys above = tt
+front_above j (c ∷ xs) ys above = (above.0, front_above j xs ys above.1)
+
+before-front : (top ts : ℕ) (xs : Steps) → before_redos ts xs ≡ before_redos top (xs ++ (ts, Del) ∷ [])
+before-front top ts [] = refl
+before-front top ts (c ∷ xs) = refl
+
+lowest_folded : (j top : ℕ) (h : Hist) (e : DiskRow) → EachAbove j h.steps → (o : Option ℕ) → deleted_at h.steps ≡ o → folded_by j h o ≡ Some e → lowest (before_redos top e.redos) e.undos ≡ before_redos top h.steps
+lowest_folded j top h e above None at is =
+    let from = came_from (written j h) (after_all h.steps h.first) e is in
+    subst (λ (x : DiskRow). lowest (before_redos top x.redos) x.undos ≡ before_redos top h.steps) from.2 (lowest_is j top h.steps h.first above)
+lowest_folded j top h e above (Some ts) at is =
+    let ends = ends_with h.steps ts at in
+    let from = came_from (written_deleted j (before_last h) ts) (after_all (before_last h).steps h.first) e is in
+    subst (λ (x : DiskRow). lowest (before_redos top x.redos) x.undos ≡ before_redos top h.steps) from.2
+    (lowest_is j ts (before_last h).steps h.first (front_above j (before_last h).steps ((ts, Del) ∷ []) (subst (EachAbove j) ends above)) ∙ before-front top ts (before_last h).steps ∙ ap (before_redos top) (sym ends))
+
+-- what is folded is what is written, where all changes lie above the mark
+as_written : (j : ℕ) (h : Hist) (e : DiskRow) → EachAbove j h.steps → (o : Option ℕ) → deleted_at h.steps ≡ o → folded_by j h o ≡ Some e → written_by j h o ≡ Some e
+as_written j h e above None at is = is
+as_written j h e above (Some ts) at is =
+    let up = above_last j ts (before_last h).steps (subst (EachAbove j) (ends_with h.steps ts at) above) in
+    ap (λ (b : Bool). cond b (option_map (written_deleted j (before_last h) ts) (after_all (before_last h).steps h.first)) None) (lt-ltb j ts up) ∙ is
+
+leads_whole : (j top : ℕ) (h : Hist) (undos : Steps) (e : DiskRow) → EachAbove j h.steps → Rises j h.steps → AllUndone h.steps h.first → j < top → Under top h.steps → AreUndos (before_redos top h.steps) undos h.first
+    → (o : Option ℕ) → deleted_at h.steps ≡ o → folded_by j h o ≡ Some e → AreUndos (before_redos top e.redos) (e.undos ++ undos) (Some e.base)
+leads_whole j top h undos e above rise all lt under older o at is =
+    let own = is_led j top h e (above_order j h.steps above) (subst (Rises j) (sym (each_above j h.steps above)) rise) all lt under o at (as_written j h e above o at is) in
+    let first : before_all e.undos (Some e.base) ≡ h.first = ap (λ (x : Hist). x.first) (kept_whole j h e above all o at is) in
+    undos-append (before_redos top e.redos) e.undos undos (Some e.base) own
+    (subst (λ (n : ℕ). AreUndos n undos (before_all e.undos (Some e.base))) (sym (lowest_folded j top h e above o at is)) (subst (AreUndos (before_redos top h.steps) undos) (sym first) older))
+
+pub folded_leads : a_row_folded_whole_leads_back
+folded_leads j top d e above rise all lt under older is = leads_whole j top (on_base d.base d.redos) d.undos e above rise all lt under older (deleted_at d.redos) refl is

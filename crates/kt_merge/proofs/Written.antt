@@ -218,7 +218,7 @@ front_rises j low ts (c ∷ xs) r = by (front_rises j c.0 ts xs) (front_rises j 
     by up down true k = (k.0, up k.1)
     by up down false k = down k
 
-is_led : (j top : ℕ) (h : Hist) (d : DiskRow) → InOrderAt j h.steps → Rises j (steps_above j h.steps) → AllUndone h.steps h.first → j < top → Under top h.steps
+pub is_led : (j top : ℕ) (h : Hist) (d : DiskRow) → InOrderAt j h.steps → Rises j (steps_above j h.steps) → AllUndone h.steps h.first → j < top → Under top h.steps
     → (o : Option ℕ) → deleted_at h.steps ≡ o → written_by j h o ≡ Some d → AreUndos (before_redos top d.redos) d.undos (Some d.base)
 is_led j top h d order rise all lt under None at is =
     let from = came_from (written j h) (after_all h.steps h.first) d is in

@@ -1,5 +1,5 @@
 //! Laws of the definitions.
-ghost use Rattle.kt_merge.specs.Folding.{a_row_folded_is_alike, a_row_folded_whole_is_the_same, changes_that_fit_leave_a_row};
+ghost use Rattle.kt_merge.specs.Folding.{a_row_folded_is_alike, a_row_folded_whole_is_the_same, a_row_folded_whole_leads_back, changes_that_fit_leave_a_row};
 ghost use Rattle.kt_merge.specs.Laws.{a_row_written_is_the_history, a_row_written_leads_back, a_row_not_written_is_not_there};
 
 /// A row that is written has the row at the mark and the changes above it, and its UNDO records lead back. Where none is
@@ -15,5 +15,6 @@ pub fn row_law()
 pub fn fold_law()
     ensures alike { a_row_folded_is_alike }
     ensures whole { a_row_folded_whole_is_the_same }
+    ensures led { a_row_folded_whole_leads_back }
     ensures left { changes_that_fit_leave_a_row }
 {}
