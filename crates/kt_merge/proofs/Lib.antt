@@ -5,3 +5,4 @@ pub mod InOrder
 pub mod EachRow
 pub mod Copying
 pub mod OneFile
+pub mod Merged
