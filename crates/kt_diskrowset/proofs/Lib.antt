@@ -7,5 +7,6 @@ pub mod Beside
 pub mod Rowsets
 pub mod Copying
 pub mod MissedRows
+pub mod Pages
 pub mod Leaving
 pub mod NewFiles

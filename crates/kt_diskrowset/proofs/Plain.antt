@@ -86,16 +86,16 @@ find_at test (k ∷ keys) (suc n) within no_ here =
     find_at test keys n (omega arith) (λ i low. no_ (suc i) (omega arith)) (λ low. here (omega arith))
     ∙ sym (ap (λ b. cond b (Some k) (find test keys)) (no_ 0 (omega arith)))
 
-keys_count : (rows : List KeyedRow) → length (keys_in rows) ≡ length rows
+pub keys_count : (rows : List KeyedRow) → length (keys_in rows) ≡ length rows
 keys_count [] = refl
 keys_count (r ∷ rows) = ap suc (keys_count rows)
 
-key_in : (rows : List KeyedRow) (i : ℕ) → get_or (keys_in rows) i [] ≡ key_at rows i
+pub key_in : (rows : List KeyedRow) (i : ℕ) → get_or (keys_in rows) i [] ≡ key_at rows i
 key_in [] i = refl
 key_in (r ∷ rows) zero = refl
 key_in (r ∷ rows) (suc i) = key_in rows i
 
-not_below : (a b : List ℕ) → ¬ IsBelow a b → is_lt (key_cmp a b) ≡ false
+pub not_below : (a b : List ℕ) → ¬ IsBelow a b → is_lt (key_cmp a b) ≡ false
 not_below a b h = by (key_cmp a b) h
   where
     by : (o : Ordering) → ¬ (o ≡ Less) → is_lt o ≡ false

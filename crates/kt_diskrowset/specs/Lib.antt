@@ -5,6 +5,7 @@ pub mod Alive
 pub mod Rowset
 pub mod Joining
 pub mod Data
+pub mod Page
 pub mod Jobs
 pub mod Missed
 pub mod Laws

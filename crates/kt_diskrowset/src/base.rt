@@ -1,7 +1,8 @@
 //! A base file that several owners share.
-ghost use Rattle.std.specs.Prelude.{◌≡◌, ◌<◌, length, slice_get, None, Some, IfOk, MatchOption};
+ghost use Rattle.std.specs.Prelude.{◌≡◌, ◌<◌, ◌≤◌, drop, length, slice_get, None, Some, IfOk, MatchOption};
+ghost use Rattle.std.specs.List.{filter};
 ghost use Rattle.std.specs.Option.{option_copied};
-ghost use Rattle.kt_history.specs.Views.{key_above, AreRising};
+ghost use Rattle.kt_history.specs.Views.{is_above, key_above, AreRising};
 ghost use Rattle.kt_baseset.specs.Rows.{keys_in};
 ghost use Rattle.kt_baseset.specs.Tables.{key_at, cells_in};
 ghost use Rattle.kt_rowfiles.specs.Files.{row_under};
@@ -31,8 +32,12 @@ fn place_of(set: &BaseSet, key: &[u8]) -> Option<u32>
 
 // The place of the first key above another, or of the first of all. It is the number of rows where there is none.
 fn place_above(set: &BaseSet, after: Option<&[u8]>) -> u32
-    ensures { slice_get (keys_in set.now.rows) result ≡ key_above (option_copied after.entry) (keys_in set.now.rows) }
+    ensures rise { AreRising (keys_in set.now.rows) }
+    ensures within { result ≤ length set.now.rows }
+    ensures behind { drop result (keys_in set.now.rows) ≡ filter (is_above (option_copied after.entry)) (keys_in set.now.rows) }
+    ensures first { slice_get (keys_in set.now.rows) result ≡ key_above (option_copied after.entry) (keys_in set.now.rows) }
 {
+    let _rows = set.rows();
     match after {
         Some(key) => set.first_above(key),
         None => 0,
@@ -76,6 +81,16 @@ impl BaseHeld {
         ensures row { MatchOption result (row_under key.now 0 (rows_of self.now.set.value.rows) ≡ None) (λ i. (i < length self.now.set.value.rows) × (row_under key.now 0 (rows_of self.now.set.value.rows) ≡ Some (i, cells_in self.now.set.value.rows i))) }
     {
         place_of(&self.set, key)
+    }
+
+    /// The place of the first key above another, or of the first of all. It is the number of rows where there is none. The keys of
+    /// the rows rise.
+    pub fn place_above(&self, after: Option<&[u8]>) -> u32
+        ensures rise { AreRising (keys_in self.now.set.value.rows) }
+        ensures within { result ≤ length self.now.set.value.rows }
+        ensures behind { drop result (keys_in self.now.set.value.rows) ≡ filter (is_above (option_copied after.entry)) (keys_in self.now.set.value.rows) }
+    {
+        place_above(&self.set, after)
     }
 
     /// The least key above another, or the least of all. The keys of the rows rise.

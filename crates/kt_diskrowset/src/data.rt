@@ -30,8 +30,8 @@ pub struct RowSetData {
 impl RowSetData {
     ghost use Rattle.kt_diskrowset.specs.Data.{files_in, fresh_in, store_in, keys_of};
 
-    // The row at a place at a time.
-    fn row(&self, alloc: Global, ordinal: u32, t: u64) -> Result<Option<Cells>, NoMemory>
+    /// The row at a place at a time.
+    pub(crate) fn row(&self, alloc: Global, ordinal: u32, t: u64) -> Result<Option<Cells>, NoMemory>
         requires order { IsNonDecreasingBy (λ d. d.ordinal) self.now.fresh }
         requires inside { ordinal < length self.now.base.set.value.rows }
         ensures { IfOk result (λ row. row ≡ after_steps t (fresh_in self.now ordinal) (disk_row_at t (row_with_files self.now.undo self.now.redo ordinal (cells_in self.now.base.set.value.rows ordinal)))) }

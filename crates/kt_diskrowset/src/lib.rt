@@ -3,8 +3,8 @@
 //! For the layer above: a row at a time is its base row, with every UNDO record above the time taken back from the newest, and
 //! then every REDO record at or below it done from the oldest; and behind these the changes of its DeltaMemStores, the
 //! oldest first. Read with its pool, a disk rowset is a list of histories by key, and so a store of rows, which takes no insert.
-//! As plain data it tells its rows at a time, and its keys. It stands on base files, delta files, DeltaMemStores and the
-//! definitions of rows in files.
+//! As plain data it tells its rows at a time, one by one or in pages, and its keys. It stands on base files, delta files,
+//! DeltaMemStores and the definitions of rows in files.
 #![tactic(auto)]
 
 pub mod alive;
@@ -16,16 +16,20 @@ pub mod laws;
 #[cfg(test)]
 mod life;
 pub mod mems;
+pub mod page;
 mod row_store;
 pub mod rows;
 pub mod rowset;
 #[cfg(test)]
 mod tests;
+pub mod view;
 
 pub use alive::is_alive;
 pub use base::BaseHeld;
 pub use data::RowSetData;
 pub use files::{FileHeld, FileLists};
 pub use mems::{is_live_after, row_after};
+pub use page::Page;
 pub use rows::row_at;
 pub use rowset::DiskRowSet;
+pub use view::RowSetView;

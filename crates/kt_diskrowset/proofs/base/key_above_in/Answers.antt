@@ -14,7 +14,7 @@ pub returns-in_err-key-clause-rise : goal.returns-in_err-key-clause-rise
 returns-in_err-key-clause-rise c = are_rising (keys_in c.args.set.now.rows) c.rows.ensures.base.keys.rise
 
 pub returns-then-at-rows-clause-found : goal.returns-then-at-rows-clause-found
-returns-then-at-rows-clause-found c = sym (no_key c.args.set.now.rows c.place_above-at.result (omega (arith, c.rows.ensures.count))) ∙ c.place_above-at.ensures
+returns-then-at-rows-clause-found c = sym (no_key c.args.set.now.rows c.place_above-at.result (omega (arith, c.rows.ensures.count))) ∙ c.place_above-at.ensures.first
 
 pub returns-clause-found : goal.returns-clause-found
-returns-clause-found c = ap Some c.in_ok-key.ensures ∙ sym (key_got c.args.set.now.rows c.place_above-at.result (omega (arith, c.rows.ensures.count))) ∙ c.place_above-at.ensures
+returns-clause-found c = ap Some c.in_ok-key.ensures ∙ sym (key_got c.args.set.now.rows c.place_above-at.result (omega (arith, c.rows.ensures.count))) ∙ c.place_above-at.ensures.first

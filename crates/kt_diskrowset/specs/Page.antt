@@ -1,0 +1,50 @@
+-- A page: the rows of a disk rowset at a time, for some keys in turn, cut to some columns.
+use Rattle.std.specs.Prelude.{◌≡◌, ◌≤◌, ℕ, true, false, List, [], ◌∷◌, ◌++◌, length, map, Option, unwrap_or}
+use Rattle.std.specs.List.{filter, filter_map}
+use Rattle.std.specs.Option.{option_map}
+use Rattle.std.specs.Ordering.{nat_cmp}
+use Rattle.std.specs.FinMap.Entries.{find}
+use Rattle.kt_base.specs.declared.cell.Cell.{Cell}
+use Rattle.kt_history.specs.Rows.{Row, Rows}
+use Rattle.kt_history.specs.Stores.{hist_in, row_of}
+use Rattle.kt_history.specs.Views.{is_above}
+use Rattle.kt_diskrowset.specs.declared.data.RowSetData.{RowSetData}
+use Rattle.kt_diskrowset.specs.declared.page.Page.{Page}
+use Rattle.kt_diskrowset.specs.Data.{store_in}
+
+-- the row that a disk rowset tells of a key at a time
+abbrev pub told_at : ℕ → RowSetData → List ℕ → Option Row
+told_at t d key = row_of t (hist_in key (store_in d))
+
+-- those of the keys that have a row, with it
+abbrev pub rows_under : (List ℕ → Option Row) → List (List ℕ) → Rows
+rows_under row keys = filter_map (λ key. option_map (λ r. (key, r)) (row key)) keys
+
+-- a row's cell in a column, and where it has none the one that is named with the column
+abbrev pub cell_asked : Row → ℕ × Cell → Cell
+cell_asked row column = unwrap_or (find nat_cmp column.0 row) column.1
+
+-- its cells in these columns, in their order
+abbrev pub cells_asked : Row → Row → List Cell
+cells_asked columns row = map (cell_asked row) columns
+
+-- the page has these rows, cut to these columns, each under its key
+pub record Shows (columns : Row) (rows : Rows) (page : Page) : Type 0 where
+  pub keys : page.keys ≡ map (λ (r : List ℕ × Row). r.0) rows
+  pub rows : page.rows ≡ map (λ (r : List ℕ × Row). cells_asked columns r.1) rows
+
+-- this key is the last of some
+pub record IsLast (key : List ℕ) (keys : List (List ℕ)) : Type 0 where
+  pub before : List (List ℕ)
+  pub are : keys ≡ before ++ key ∷ []
+
+-- Of the keys above one, the page has the rows of the first so many, and tells whether keys are left. Then it names the last key
+-- that it has gone over, which may have no row: from there the next page goes on
+pub record IsPage (row : List ℕ → Option Row) (keys : List (List ℕ)) (after : Option (List ℕ)) (columns : Row) (page : Page) : Type 0 where
+  pub front : List (List ℕ)
+  pub rest : List (List ℕ)
+  pub parts : filter (is_above after) keys ≡ front ++ rest
+  pub shows : Shows columns (rows_under row front) page
+  pub few : length front ≤ 1024
+  pub ends : page.more ≡ false → rest ≡ []
+  pub goes_on : page.more ≡ true → IsLast page.last front
