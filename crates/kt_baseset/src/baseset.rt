@@ -1,12 +1,14 @@
 //! A base set: keys, columns, filter and index as one value.
-ghost use Rattle.std.specs.Prelude.{◌≡◌, ◌≢◌, ◌<◌, ◌≤◌, ◌^◌, ◌+◌, ◌*◌, ◌-◌, [], ℕ, All, length, IfOk, IfSome, IfNone, slice_index_or};
+ghost use Rattle.std.specs.Prelude.{◌≡◌, ◌≢◌, ◌<◌, ◌≤◌, ◌^◌, ◌+◌, ◌*◌, ◌-◌, ◌++◌, [], ℕ, All, length, IfOk, OnOk, IfSome, IfNone, slice_index_or};
 ghost use Rattle.kt_lookup.specs.Index.{IsBelow, Rises};
 ghost use Rattle.kt_lookup.specs.Tables.{Tables};
+ghost use Rattle.kt_baseset.specs.Asked.{cells_asked};
 ghost use Rattle.kt_baseset.specs.Rows.{AreKeys, AllFit, IdsRise, IsBase, keys_in};
 ghost use Rattle.kt_baseset.specs.Tables as tables;
 ghost use Rattle.kt_baseset.specs.Tables.{BaseValue, bytes_of, key_at, cells_in, keys_of, HasCells};
 ghost use Rattle.kt_baseset.specs.Spelling.{SpellsBase};
 
+use crate::asked::push_asked;
 use crate::columns::columns_of;
 use crate::held::HeldColumn;
 use crate::keys::{column_of, list_of};
@@ -243,6 +245,21 @@ impl BaseSet {
         ensures { IfOk result (λ row. row ≡ cells_in self.now.rows ordinal) }
     {
         row_of(alloc, &self.columns, ordinal)
+    }
+
+    /// Appends the cells of a row in these columns, in their order, and decodes no others. With each column stands the cell that is
+    /// taken where the row has none.
+    pub fn push_asked(
+        &self,
+        alloc: Global,
+        ordinal: u32,
+        columns: &[(u16, Cell)],
+        cells: &mut Vec<Cell>,
+    ) -> Result<(), NoMemory>
+        requires { ordinal < length self.now.rows }
+        ensures { OnOk result (cells.new.items ≡ cells.old.items ++ cells_asked columns.now (cells_in self.now.rows ordinal)) }
+    {
+        push_asked(alloc, &self.columns, ordinal, columns, cells)
     }
 
     /// The key of a row.

@@ -11,6 +11,7 @@
 //! the filter and the index, and on kt_cells, whose definition says how a flag is read.
 #![tactic(auto)]
 
+mod asked;
 mod baseset;
 mod columns;
 mod decoding;
