@@ -1,28 +1,35 @@
 -- Pages: the keys behind a place, and the rows of some keys in turn.
-use Rattle.std.proofs.Common.{◌≡◌, ◌≤◌, ◌<◌, ◌-◌, ◌+◌, ℕ, zero, suc, true, false, cond, List, [], ◌∷◌, ◌++◌, map, take, drop, length, get_or, Option, Some, None, refl, sym, ap, subst, ◌∙◌, arith}
-use Rattle.std.specs.Prelude.{Bool}
-use Rattle.std.specs.List.{filter, filter_map, cons_option, between}
+use Rattle.std.proofs.Common.{◌≡◌, ◌≤◌, ◌<◌, ◌-◌, ◌+◌, ℕ, zero, suc, true, false, cond, List, [], ◌∷◌, ◌++◌, append_assoc, map, take, drop, drop-cons, length, length-append, get_or, Option, Some, None, refl, sym, ap, subst, ◌∙◌, arith}
+use Rattle.std.specs.Prelude.{Bool, ◌==◌}
+use Rattle.std.specs.List.{filter, filter_map, flat_map, cons_option, between}
 use Rattle.std.specs.Option.{option_map}
 use Rattle.std.specs.Ordering.{is_lt}
-use Rattle.std.proofs.lemmas.List.{take-append-drop, drop-drop, drop_all, map-append}
+use Rattle.std.proofs.lemmas.Grind.{flat_map-append}
+use Rattle.std.proofs.lemmas.List.{append-nil, take-append-drop, take_at, drop_at, drop-drop, drop_all, length-map, map-append}
 use Rattle.std.proofs.lemmas.List.Edits.{between_more, length-between}
 use Rattle.std.proofs.lemmas.List.Elements.{filter_map-append}
 use Rattle.kt_base.specs.declared.cell.Cell.{Cell}
+use Rattle.kt_history.specs.declared.changes.Delta.{Delta}
 use Rattle.kt_history.specs.Rows.{Row, Rows, key_cmp}
-use Rattle.kt_history.specs.Stores.{row_of, after_steps}
+use Rattle.kt_history.specs.Stores.{Steps, row_of, after_steps}
 use Rattle.kt_history.specs.Views.{is_above, AreRising}
 use Rattle.kt_histlaws.specs.Disks.{disk_row_at}
 use Rattle.kt_lookup.specs.Index.{IsBelow}
 use Rattle.kt_baseset.specs.declared.rows.KeyedRow.{KeyedRow}
+use Rattle.kt_baseset.specs.Asked.{cell_asked, cells_asked}
 use Rattle.kt_baseset.specs.Rows.{keys_in}
 use Rattle.kt_baseset.specs.Tables.{key_at, cells_in}
-use Rattle.kt_rowfiles.specs.Files.{row_under}
+use Rattle.kt_rowfiles.specs.Files.{row_under, records_for, records_in, rising, falling}
+use Rattle.kt_rowfiles.specs.Reading.{steps_in}
 use Rattle.kt_diskrowset.specs.declared.data.RowSetData.{RowSetData}
+use Rattle.kt_diskrowset.specs.declared.files.FileHeld.{FileHeld}
+use Rattle.kt_diskrowset.specs.declared.page.Gathered.{Gathered}
 use Rattle.kt_diskrowset.specs.declared.page.Page.{Page}
 use Rattle.kt_diskrowset.specs.Data.{files_in, fresh_in, keys_of}
-use Rattle.kt_diskrowset.specs.Files.{row_with_files}
+use Rattle.kt_diskrowset.specs.Files.{lists_of, row_with_files}
+use Rattle.kt_diskrowset.specs.Gathered.{Holds, pieces_of, HasPieces}
 use Rattle.kt_diskrowset.specs.Rows.{rows_of, hist_found, UndosLeadBack}
-use Rattle.kt_diskrowset.specs.Page.{told_at, rows_under, cells_asked, Shows, IsLast, IsPage}
+use Rattle.kt_diskrowset.specs.Page.{told_at, rows_under, Shows, IsPage}
 use Rattle.kt_diskrowset.proofs.Histories.{found_there, hist_is}
 use Rattle.kt_diskrowset.proofs.Plain.{keys_count, key_in, not_below}
 use Rattle.kt_diskrowset.proofs.Rowsets.{row_is}
@@ -71,13 +78,37 @@ row_here row key r e = ap (λ (o : Option Row). cons_option (option_map (λ x. (
 pub no_row_here : (row : List ℕ → Option Row) (key : List ℕ) → row key ≡ None → rows_under row (key ∷ []) ≡ []
 no_row_here row key e = ap (λ (o : Option Row). cons_option (option_map (λ x. (key, x)) o) []) e
 
--- ---- one row more
+-- ---- a row without records
 
-pub shows_more : (columns : Row) (rows : Rows) (key : List ℕ) (r : Row) (line : List Cell) (old new : Page) → new.keys ≡ old.keys ++ key ∷ [] → new.rows ≡ old.rows ++ line ∷ [] → line ≡ cells_asked columns r → Shows columns rows old
-    → Shows columns (rows ++ (key, r) ∷ []) new
-shows_more columns rows key r line old new keys lines is shows = record {
-  keys = keys ∙ ap (λ ks. ks ++ key ∷ []) shows.keys ∙ sym (map-append (λ (r : List ℕ × Row). r.0) rows ((key, r) ∷ []));
-  rows = lines ∙ ap (λ ls. ls ++ line ∷ []) shows.rows ∙ ap (λ l. map (λ (r : List ℕ × Row). cells_asked columns r.1) rows ++ l ∷ []) is ∙ sym (map-append (λ (r : List ℕ × Row). cells_asked columns r.1) rows ((key, r) ∷ []));
+pub untouched : (d : RowSetData) (t n : ℕ) (base : Row) → records_in n (lists_of d.undo) ≡ [] → records_in n (lists_of d.redo) ≡ [] → records_for n d.fresh ≡ []
+    → after_steps t (fresh_in d n) (disk_row_at t (row_with_files d.undo d.redo n base)) ≡ Some base
+untouched d t n base undo redo fresh =
+    ap (λ steps. after_steps t steps (disk_row_at t (row_with_files d.undo d.redo n base))) fresh
+    ∙ ap (λ undos. disk_row_at t (record { base = base; undos = falling undos; redos = rising (records_in n (lists_of d.redo)) })) undo
+    ∙ ap (λ redos. disk_row_at t (record { base = base; undos = []; redos = rising redos })) redo
+
+pub none_there : (deltas : List Delta) → (length deltas == 0) ≡ true → steps_in deltas ≡ []
+none_there [] e = refl
+none_there (d ∷ deltas) e = cc
+
+module _ (n : ℕ) (files : List FileHeld) (i : ℕ) (whole : Steps) (so : records_in n (lists_of (drop i files)) ≡ whole) where
+  pub records_left : (f : FileHeld) → i < length files → f ≡ get_or files i f → records_for n f.deltas.value.list ≡ [] → records_in n (lists_of (drop (i + 1) files)) ≡ whole
+  records_left f low is none =
+      let rest : drop i files ≡ f ∷ drop (i + 1) files = drop-cons files i f low ∙ ap (λ g. g ∷ drop (suc i) files) (sym is) ∙ (let e : suc i ≡ i + 1 = omega arith in ap (λ k. f ∷ drop k files) e) in
+      sym (ap (λ steps. steps ++ records_in n (lists_of (drop (i + 1) files))) none) ∙ sym (ap (λ fs. records_in n (lists_of fs)) rest) ∙ so
+
+  pub records_over : length files ≤ i → whole ≡ []
+  records_over past = sym so ∙ ap (λ fs. records_in n (lists_of fs)) (drop_all i files past)
+
+-- ---- rows on their way into a page
+
+pub holds_more : (columns : Row) (told : Rows) (key : List ℕ) (r : Row) (old new : Gathered) → new.keys ≡ old.keys ++ key ∷ [] → new.cells.items ≡ old.cells.items ++ cells_asked columns r → Holds columns told old
+    → Holds columns (told ++ (key, r) ∷ []) new
+holds_more columns told key r old new keys cells holds = record {
+  keys = keys ∙ ap (λ ks. ks ++ key ∷ []) holds.keys ∙ sym (map-append (λ (r : List ℕ × Row). r.0) told ((key, r) ∷ []));
+  cells =
+      cells ∙ ap (λ cs. cs ++ cells_asked columns r) holds.cells ∙ ap (λ cs. flat_map (λ (r : List ℕ × Row). cells_asked columns r.1) told ++ cs) (sym (append-nil (cells_asked columns r)))
+      ∙ sym (flat_map-append (λ (r : List ℕ × Row). cells_asked columns r.1) told ((key, r) ∷ []));
 }
 
 -- and the rows of one key more
@@ -87,42 +118,83 @@ rows_more row rows i j le low =
     ap (rows_under row) (between_more (keys_in rows) i j [] le (omega arith) ∙ ap (λ k. between i j (keys_in rows) ++ k ∷ []) (key_in rows j))
     ∙ filter_map-append (λ key. option_map (λ (r : Row). (key, r)) (row key)) (between i j (keys_in rows)) (key_at rows j ∷ [])
 
+-- ---- pieces of one width
+
+pub pieces_left : (w n : ℕ) (cells : List Cell) → 0 < n → HasPieces w n cells → HasPieces w (n - 1) (drop w cells)
+pieces_left w zero cells some h = absurd (omega arith)
+pieces_left w (suc n) cells some h = let e : suc n - 1 ≡ n = omega arith in subst (λ k. HasPieces w k (drop w cells)) (sym e) h.1
+
+pieces_next : (w n : ℕ) (cells : List Cell) → 0 < n → pieces_of w n cells ≡ take w cells ∷ pieces_of w (n - 1) (drop w cells)
+pieces_next w zero cells some = absurd (omega arith)
+pieces_next w (suc n) cells some = let e : suc n - 1 ≡ n = omega arith in ap (λ k. take w cells ∷ pieces_of w k (drop w cells)) (sym e)
+
+pub pieces_more : (w n : ℕ) (cells rest front : List Cell) (rows more whole : List (List Cell)) → 0 < n → front ≡ take w cells → rest ≡ drop w cells → more ≡ rows ++ front ∷ [] → rows ++ pieces_of w n cells ≡ whole → more ++ pieces_of w (n - 1) rest ≡ whole
+pieces_more w n cells rest front rows more whole some front_is rest_is more_is so =
+    ap (λ rs. rs ++ pieces_of w (n - 1) rest) more_is ∙ append_assoc rows (front ∷ []) (pieces_of w (n - 1) rest)
+    ∙ ap (λ f. rows ++ f ∷ pieces_of w (n - 1) rest) front_is ∙ ap (λ cs. rows ++ take w cells ∷ pieces_of w (n - 1) cs) rest_is
+    ∙ ap (λ ps. rows ++ ps) (sym (pieces_next w n cells some)) ∙ so
+
+-- the cells of some rows are so many pieces
+module _ (columns : Row) where
+  abbrev line : List ℕ × Row → List Cell
+  line r = cells_asked columns r.1
+
+  width : (r : List ℕ × Row) → length (line r) ≡ length columns
+  width r = length-map columns (cell_asked r.1)
+
+  pieces_there : (told : Rows) → HasPieces (length columns) (length told) (flat_map line told)
+  pieces_there [] = tt
+  pieces_there (r ∷ told) = (
+    (let w = width r in omega (arith, length-append (line r) (flat_map line told))),
+    subst (HasPieces (length columns) (length told)) (sym (drop_at (line r) (flat_map line told) (length columns) (width r))) (pieces_there told),
+  )
+
+  pieces_are : (told : Rows) → pieces_of (length columns) (length told) (flat_map line told) ≡ map line told
+  pieces_are [] = refl
+  pieces_are (r ∷ told) =
+      ap (λ p. p ∷ pieces_of (length columns) (length told) (drop (length columns) (line r ++ flat_map line told))) (take_at (line r) (flat_map line told) (length columns) (width r))
+      ∙ ap (λ cs. line r ∷ pieces_of (length columns) (length told) cs) (drop_at (line r) (flat_map line told) (length columns) (width r))
+      ∙ ap (λ ps. line r ∷ ps) (pieces_are told)
+
+  module _ (told : Rows) (g : Gathered) (w n : ℕ) (cells : List Cell) (holds : Holds columns told g) (w_is : w ≡ length columns) (n_is : n ≡ length g.keys) (cells_are : cells ≡ g.cells.items) where
+    count : length told ≡ n
+    count = sym (length-map told (λ (r : List ℕ × Row). r.0)) ∙ sym (ap length holds.keys) ∙ sym n_is
+
+    pub held_pieces : HasPieces w n cells
+    held_pieces =
+        subst (HasPieces w n) (sym (cells_are ∙ holds.cells)) (
+        subst (λ k. HasPieces w k (flat_map line told)) count (subst (λ v. HasPieces v (length told) (flat_map line told)) (sym w_is) (pieces_there told))
+        )
+
+    pub held_shows : (page : Page) → page.keys ≡ g.keys → page.rows ≡ pieces_of w n cells → Shows columns told page
+    held_shows page keys rows = record {
+      keys = keys ∙ holds.keys;
+      rows =
+          rows ∙ ap (λ v. pieces_of v n cells) w_is ∙ sym (ap (λ k. pieces_of (length columns) k cells) count) ∙ ap (pieces_of (length columns) (length told)) (cells_are ∙ holds.cells)
+          ∙ pieces_are told;
+    }
+
 -- ---- a page
 
-module _ (d : RowSetData) (t : ℕ) (after : Option (List ℕ)) (columns : Row) (start end : ℕ) (page : Page) (upto : start ≤ end) (few : end ≤ start + 1024)
-    (behind : drop start (keys_of d) ≡ filter (is_above after) (keys_of d)) (within : end ≤ length d.base.set.value.rows) where
-  abbrev rows : List KeyedRow
-  rows = d.base.set.value.rows
-
-  short : length (between start end (keys_of d)) ≤ 1024
-  short = let count = keys_count rows in omega (arith, length-between (keys_of d) start end (omega arith))
-
-  -- with no key left
-  pub page_ends : length rows ≤ end → page.more ≡ false → Shows columns (rows_under (told_at t d) (between start end (keys_of d))) page → IsPage (told_at t d) (keys_of d) after columns page
-  page_ends over no_more shows = record {
-    front = between start end (keys_of d);
-    rest = drop end (keys_of d);
-    parts = sym behind ∙ cut_behind (keys_of d) start end upto;
-    shows = shows;
-    few = short;
-    ends = λ e. let count = keys_count rows in drop_all end (keys_of d) (omega arith);
-    goes_on = λ e. let f : false ≡ true = sym no_more ∙ e in cc;
-  }
-
-  -- and with some
-  pub page_goes_on : start < end → page.more ≡ true → page.last ≡ key_at rows (end - 1) → Shows columns (rows_under (told_at t d) (between start end (keys_of d))) page → IsPage (told_at t d) (keys_of d) after columns page
-  page_goes_on some more last shows =
-      let count = keys_count rows in
-      let is : (end - 1) + 1 ≡ end = omega arith in
-      record {
-        front = between start end (keys_of d);
-        rest = drop end (keys_of d);
-        parts = sym behind ∙ cut_behind (keys_of d) start end upto;
-        shows = shows;
-        few = short;
-        ends = λ e. let f : true ≡ false = sym more ∙ e in cc;
-        goes_on = λ e. record {
-          before = between start (end - 1) (keys_of d);
-          are = ap (λ k. between start k (keys_of d)) (sym is) ∙ between_more (keys_of d) start (end - 1) [] (omega arith) (omega arith) ∙ ap (λ k. between start (end - 1) (keys_of d) ++ k ∷ []) (key_in rows (end - 1) ∙ sym last);
-        };
-      }
+pub page_is : (d : RowSetData) (t : ℕ) (after : Option (List ℕ)) (columns : Row) (start end : ℕ) (page : Page) → start ≤ end → end ≤ start + 1024 → drop start (keys_of d) ≡ filter (is_above after) (keys_of d) → end ≤ length d.base.set.value.rows
+    → (page.more ≡ false → length d.base.set.value.rows ≤ end) → (page.more ≡ true → (start < end) × (page.last ≡ key_at d.base.set.value.rows (end - 1)))
+    → Shows columns (rows_under (told_at t d) (between start end (keys_of d))) page → IsPage (told_at t d) (keys_of d) after columns page
+page_is d t after columns start end page upto few behind within over some shows =
+    let rows = d.base.set.value.rows in
+    let count = keys_count rows in
+    record {
+      front = between start end (keys_of d);
+      rest = drop end (keys_of d);
+      parts = sym behind ∙ cut_behind (keys_of d) start end upto;
+      shows = shows;
+      few = omega (arith, length-between (keys_of d) start end (omega arith));
+      ends = λ e. let o = over e in drop_all end (keys_of d) (omega arith);
+      goes_on = λ e.
+          let s = some e in
+          let low = s.0 in
+          let is : (end - 1) + 1 ≡ end = omega arith in
+          record {
+            before = between start (end - 1) (keys_of d);
+            are = ap (λ k. between start k (keys_of d)) (sym is) ∙ between_more (keys_of d) start (end - 1) [] (omega arith) (omega arith) ∙ ap (λ k. between start (end - 1) (keys_of d) ++ k ∷ []) (key_in rows (end - 1) ∙ sym s.1);
+          };
+    }

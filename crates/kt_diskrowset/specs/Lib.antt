@@ -6,6 +6,7 @@ pub mod Rowset
 pub mod Joining
 pub mod Data
 pub mod Page
+pub mod Gathered
 pub mod Jobs
 pub mod Missed
 pub mod Laws

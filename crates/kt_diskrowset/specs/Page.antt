@@ -1,10 +1,8 @@
 -- A page: the rows of a disk rowset at a time, for some keys in turn, cut to some columns.
-use Rattle.std.specs.Prelude.{◌≡◌, ◌≤◌, ℕ, true, false, List, [], ◌∷◌, ◌++◌, length, map, Option, unwrap_or}
+use Rattle.std.specs.Prelude.{◌≡◌, ◌≤◌, ℕ, true, false, List, [], ◌∷◌, ◌++◌, length, map, Option}
 use Rattle.std.specs.List.{filter, filter_map}
 use Rattle.std.specs.Option.{option_map}
-use Rattle.std.specs.Ordering.{nat_cmp}
-use Rattle.std.specs.FinMap.Entries.{find}
-use Rattle.kt_base.specs.declared.cell.Cell.{Cell}
+use Rattle.kt_baseset.specs.Asked.{cells_asked}
 use Rattle.kt_history.specs.Rows.{Row, Rows}
 use Rattle.kt_history.specs.Stores.{hist_in, row_of}
 use Rattle.kt_history.specs.Views.{is_above}
@@ -20,18 +18,10 @@ told_at t d key = row_of t (hist_in key (store_in d))
 abbrev pub rows_under : (List ℕ → Option Row) → List (List ℕ) → Rows
 rows_under row keys = filter_map (λ key. option_map (λ r. (key, r)) (row key)) keys
 
--- a row's cell in a column, and where it has none the one that is named with the column
-abbrev pub cell_asked : Row → ℕ × Cell → Cell
-cell_asked row column = unwrap_or (find nat_cmp column.0 row) column.1
-
--- its cells in these columns, in their order
-abbrev pub cells_asked : Row → Row → List Cell
-cells_asked columns row = map (cell_asked row) columns
-
 -- the page has these rows, cut to these columns, each under its key
-pub record Shows (columns : Row) (rows : Rows) (page : Page) : Type 0 where
-  pub keys : page.keys ≡ map (λ (r : List ℕ × Row). r.0) rows
-  pub rows : page.rows ≡ map (λ (r : List ℕ × Row). cells_asked columns r.1) rows
+pub record Shows (columns : Row) (told : Rows) (page : Page) : Type 0 where
+  pub keys : page.keys ≡ map (λ (r : List ℕ × Row). r.0) told
+  pub rows : page.rows ≡ map (λ (r : List ℕ × Row). cells_asked columns r.1) told
 
 -- this key is the last of some
 pub record IsLast (key : List ℕ) (keys : List (List ℕ)) : Type 0 where

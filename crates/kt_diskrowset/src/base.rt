@@ -1,14 +1,15 @@
 //! A base file that several owners share.
-ghost use Rattle.std.specs.Prelude.{◌≡◌, ◌<◌, ◌≤◌, drop, length, slice_get, None, Some, IfOk, MatchOption};
+ghost use Rattle.std.specs.Prelude.{◌≡◌, ◌<◌, ◌≤◌, ◌++◌, drop, length, slice_get, None, Some, IfOk, OnOk, MatchOption};
 ghost use Rattle.std.specs.List.{filter};
 ghost use Rattle.std.specs.Option.{option_copied};
 ghost use Rattle.kt_history.specs.Views.{is_above, key_above, AreRising};
+ghost use Rattle.kt_baseset.specs.Asked.{cells_asked};
 ghost use Rattle.kt_baseset.specs.Rows.{keys_in};
 ghost use Rattle.kt_baseset.specs.Tables.{key_at, cells_in};
 ghost use Rattle.kt_rowfiles.specs.Files.{row_under};
 ghost use Rattle.kt_diskrowset.specs.Rows.{rows_of};
 
-use kt_base::{Cells, NoMemory, Octets};
+use kt_base::{Cell, Cells, NoMemory, Octets};
 use kt_baseset::BaseSet;
 use std::alloc::Global;
 use std::sync::Arc;
@@ -114,6 +115,21 @@ impl BaseHeld {
         ensures { IfOk result (λ key. key ≡ key_at self.now.set.value.rows ordinal) }
     {
         self.set.key(alloc, ordinal)
+    }
+
+    /// Appends the cells of the row at a place in these columns, in their order, and decodes no others. With each column stands
+    /// the cell that is taken where the row has none.
+    pub fn push_asked(
+        &self,
+        alloc: Global,
+        ordinal: u32,
+        columns: &[(u16, Cell)],
+        cells: &mut Vec<Cell>,
+    ) -> Result<(), NoMemory>
+        requires { ordinal < length self.now.set.value.rows }
+        ensures { OnOk result (cells.new.items ≡ cells.old.items ++ cells_asked columns.now (cells_in self.now.set.value.rows ordinal)) }
+    {
+        self.set.push_asked(alloc, ordinal, columns, cells)
     }
 
     /// The row at a place.

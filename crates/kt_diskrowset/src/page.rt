@@ -1,16 +1,26 @@
 //! Pages of a disk rowset: its rows at a time, for some keys in turn, cut to the columns that are wanted.
-ghost use Rattle.std.specs.Prelude.{◌≡◌, ◌<◌, ◌≤◌, ◌∷◌, ◌++◌, [], length, map, IfOk, OnOk};
+ghost use Rattle.std.specs.Prelude.{◌≡◌, ◌<◌, ◌≤◌, ◌-◌, ◌∷◌, ◌++◌, [], ℕ, true, false, Some, length, map, IfOk, OnOk};
 ghost use Rattle.std.specs.List.{between};
 ghost use Rattle.std.specs.List.Sorted.{IsNonDecreasingBy};
 ghost use Rattle.std.specs.Option.{option_copied};
 ghost use Rattle.kt_base.specs.Borrowed.{cell_in};
-ghost use Rattle.kt_history.specs.Rows.{Rows};
+ghost use Rattle.kt_history.specs.Rows.{Row, Rows};
+ghost use Rattle.kt_history.specs.Stores.{after_steps};
 ghost use Rattle.kt_history.specs.Views.{AreRising};
-ghost use Rattle.kt_baseset.specs.Tables.{key_at};
+ghost use Rattle.kt_histlaws.specs.Disks.{disk_row_at};
+ghost use Rattle.kt_rowfiles.specs.Files.{records_in};
+ghost use Rattle.kt_baseset.specs.Asked.{cell_asked, cells_asked};
+ghost use Rattle.kt_baseset.specs.Tables.{key_at, cells_in};
+ghost use Rattle.kt_diskrowset.specs.Files.{lists_of, row_with_files};
 ghost use Rattle.kt_diskrowset.specs.Rows.{UndosLeadBack};
-ghost use Rattle.kt_diskrowset.specs.Page.{told_at, rows_under, cell_asked, cells_asked, Shows, IsPage};
+ghost use Rattle.kt_diskrowset.specs.Page.{told_at, rows_under, IsPage};
+ghost use Rattle.kt_diskrowset.specs.Gathered.{Holds, pieces_of, HasPieces};
 
+use crate::base::BaseHeld;
 use crate::data::RowSetData;
+use crate::files::FileHeld;
+use crate::fresh::changes_of;
+use crate::rows::records_of;
 use kt_base::{Cell, CellRef, NoMemory, Octets};
 use kt_bytes::Texts;
 use kt_history::RowList;
@@ -32,64 +42,141 @@ pub struct Page {
     pub more: bool,
 }
 
+/// Rows on their way into a page: their keys, and the cells of all of them, one row behind the other.
+#[derive(Drop)]
+struct Gathered {
+    keys: Texts,
+    cells: Vec<Cell>,
+}
+
 // The cell of a row in a column, and the one that is named with the column where the row has none.
-fn asked_of<'r>(row: &'r [(u16, Cell)], column: &'r (u16, Cell)) -> CellRef<'r>
-    ensures { cell_in result ≡ cell_asked row.now column.now }
+fn asked_of<'r>(row: &'r [(u16, Cell)], column: &'r (u16, Cell)) -> &'r Cell
+    ensures { result.now ≡ cell_asked row.now column.now }
 {
     'cells: for cell in row {
         if cell.0 == column.0 {
-            return CellRef::of(&cell.1);
+            return &cell.1;
         }
     }
-    CellRef::of(&column.1)
+    &column.1
 }
 
-// The cells of a row in these columns, where they lie.
-fn line_of<'r>(
-    alloc: Global,
-    row: &'r [(u16, Cell)],
-    columns: &'r [(u16, Cell)],
-) -> Result<Vec<CellRef<'r>>, NoMemory>
-    ensures { IfOk result (λ line. map cell_in line.items ≡ cells_asked columns.now row.now) }
+// Appends copies of the cells of a row in these columns.
+fn push_copies(
+    row: &[(u16, Cell)],
+    columns: &[(u16, Cell)],
+    cells: &mut Vec<Cell>,
+) -> Result<(), NoMemory>
+    ensures { OnOk result (cells.new.items ≡ cells.old.items ++ cells_asked columns.now row.now) }
 {
-    let mut line = Vec::with_capacity(alloc, columns.len())?;
     'columns: for column in columns {
-        line.push(asked_of(row, column))?;
+        cells.push(asked_of(row, column).copy()?)?;
     }
-    Ok(line)
+    Ok(())
 }
 
-impl Page {
+// These cells, where they lie, in place of those that are there.
+fn put_refs<'c>(line: &mut Vec<CellRef<'c>>, cells: &'c [Cell]) -> Result<(), NoMemory>
+    ensures { OnOk result (map cell_in line.new.items ≡ cells.now) }
+{
+    line.clear();
+    'cells: for cell in cells {
+        line.push(CellRef::of(cell))?;
+    }
+    Ok(())
+}
+
+// So many rows of one width, whose cells stand one row behind the other.
+fn lines_of(alloc: Global, count: usize, width: usize, cells: &[Cell]) -> Result<RowList, NoMemory>
+    requires { HasPieces width count cells.now }
+    ensures { IfOk result (λ rows. rows ≡ pieces_of width count cells.now) }
+{
+    let mut rows = RowList::new(alloc);
+    let mut line = Vec::with_capacity(alloc, width)?;
+    let mut rest = cells;
+    let mut left = count;
+    'lines: while left > 0 {
+        let (front, behind) = rest.split_at(width);
+        put_refs(&mut line, front)?;
+        rows.push(&line)?;
+        rest = behind;
+        left -= 1;
+    }
+    Ok(rows)
+}
+
+// Whether a row has a record in one of these files.
+fn has_records(files: &[FileHeld], ordinal: u32) -> bool
+    ensures { result ≡ false → records_in ordinal (lists_of files.now) ≡ [] }
+{
+    'files: for file in files {
+        if !records_of(&file.deltas, ordinal).is_empty() {
+            return true;
+        }
+    }
+    false
+}
+
+impl Gathered {
     // No rows.
-    fn new(alloc: Global) -> Page
-        ensures { (result.keys ≡ []) × (result.rows ≡ []) }
+    fn new(alloc: Global) -> Gathered
+        ensures { (result.keys ≡ []) × (result.cells.items ≡ []) }
     {
-        Page {
+        Gathered {
             keys: Texts::new(alloc),
-            rows: RowList::new(alloc),
-            last: Octets::new(alloc),
-            more: false,
+            cells: Vec::new(alloc),
         }
     }
 
-    // Adds a row.
+    // Adds a row under the key of a place.
     fn push(
         &mut self,
         alloc: Global,
-        key: &[u8],
+        base: &BaseHeld,
+        ordinal: u32,
         row: &[(u16, Cell)],
         columns: &[(u16, Cell)],
     ) -> Result<(), NoMemory>
-        ensures { OnOk result ((rows : Rows) → Shows columns.now rows self.old → Shows columns.now (rows ++ (key.now, row.now) ∷ []) self.new) }
+        requires { ordinal < length base.now.set.value.rows }
+        ensures { OnOk result ((rows : Rows) → Holds columns.now rows self.old → Holds columns.now (rows ++ (key_at base.now.set.value.rows ordinal, row.now) ∷ []) self.new) }
     {
-        let line = line_of(alloc, row, columns)?;
-        self.keys.push(key)?;
-        self.rows.push(&line)
+        let key = base.key(alloc, ordinal)?;
+        self.keys.push(key.as_slice())?;
+        push_copies(row, columns, &mut self.cells)
+    }
+
+    // Adds the base row of a place, of which no other columns are decoded.
+    fn push_base(
+        &mut self,
+        alloc: Global,
+        base: &BaseHeld,
+        ordinal: u32,
+        columns: &[(u16, Cell)],
+    ) -> Result<(), NoMemory>
+        requires { ordinal < length base.now.set.value.rows }
+        ensures { OnOk result ((rows : Rows) → Holds columns.now rows self.old → Holds columns.now (rows ++ (key_at base.now.set.value.rows ordinal, cells_in base.now.set.value.rows ordinal) ∷ []) self.new) }
+    {
+        let key = base.key(alloc, ordinal)?;
+        self.keys.push(key.as_slice())?;
+        base.push_asked(alloc, ordinal, columns, &mut self.cells)
     }
 }
 
 impl RowSetData {
-    ghost use Rattle.kt_diskrowset.specs.Data.{files_in, keys_of};
+    ghost use Rattle.kt_diskrowset.specs.Data.{files_in, fresh_in, keys_of};
+
+    // Whether the row at a place is its base row at every time.
+    fn is_untouched(&self, ordinal: u32) -> bool
+        requires { IsNonDecreasingBy (λ d. d.ordinal) self.now.fresh }
+        ensures { result ≡ true → (t : ℕ) (base : Row) → after_steps t (fresh_in self.now ordinal) (disk_row_at t (row_with_files self.now.undo self.now.redo ordinal base)) ≡ Some base }
+    {
+        if has_records(self.undo.as_slice(), ordinal)
+            || has_records(self.redo.as_slice(), ordinal)
+        {
+            return false;
+        }
+        changes_of(self.fresh.as_slice(), ordinal).is_empty()
+    }
 
     // Adds the row at a place at a time, if it is there.
     fn push_row(
@@ -98,19 +185,21 @@ impl RowSetData {
         ordinal: u32,
         t: u64,
         columns: &[(u16, Cell)],
-        page: &mut Page,
+        gathered: &mut Gathered,
     ) -> Result<(), NoMemory>
         requires lead { UndosLeadBack (files_in self.now) }
         requires order { IsNonDecreasingBy (λ d. d.ordinal) self.now.fresh }
         requires rise { AreRising (keys_of self.now) }
         requires inside { ordinal < length self.now.base.set.value.rows }
-        ensures { OnOk result ((rows : Rows) → Shows columns.now rows page.old → Shows columns.now (rows ++ rows_under (told_at t self.now) (key_at self.now.base.set.value.rows ordinal ∷ [])) page.new) }
+        ensures { OnOk result ((rows : Rows) → Holds columns.now rows gathered.old → Holds columns.now (rows ++ rows_under (told_at t self.now) (key_at self.now.base.set.value.rows ordinal ∷ [])) gathered.new) }
     {
-        let Some(row) = self.row(alloc, ordinal, t)? else {
-            return Ok(());
-        };
-        let key = self.base.key(alloc, ordinal)?;
-        page.push(alloc, key.as_slice(), row.as_slice(), columns)
+        if self.is_untouched(ordinal) {
+            return gathered.push_base(alloc, &self.base, ordinal, columns);
+        }
+        match self.row(alloc, ordinal, t)? {
+            Some(row) => gathered.push(alloc, &self.base, ordinal, row.as_slice(), columns),
+            None => Ok(()),
+        }
     }
 
     // The rows between two places.
@@ -121,19 +210,32 @@ impl RowSetData {
         end: u32,
         t: u64,
         columns: &[(u16, Cell)],
-    ) -> Result<Page, NoMemory>
+    ) -> Result<Gathered, NoMemory>
         requires lead { UndosLeadBack (files_in self.now) }
         requires order { IsNonDecreasingBy (λ d. d.ordinal) self.now.fresh }
         requires rise { AreRising (keys_of self.now) }
         requires upto { start ≤ end }
         requires inside { end ≤ length self.now.base.set.value.rows }
-        ensures { IfOk result (Shows columns.now (rows_under (told_at t self.now) (between start end (keys_of self.now)))) }
+        ensures { IfOk result (Holds columns.now (rows_under (told_at t self.now) (between start end (keys_of self.now)))) }
     {
-        let mut page = Page::new(alloc);
+        let mut gathered = Gathered::new(alloc);
         'rows: for ordinal in start..end {
-            self.push_row(alloc, ordinal, t, columns, &mut page)?;
+            self.push_row(alloc, ordinal, t, columns, &mut gathered)?;
         }
-        Ok(page)
+        Ok(gathered)
+    }
+
+    // The last key before a place, if it is wanted.
+    fn last_before(&self, alloc: Global, end: u32, wanted: bool) -> Result<Octets, NoMemory>
+        requires inside { end ≤ length self.now.base.set.value.rows }
+        requires some { wanted ≡ true → 0 < end }
+        ensures { IfOk result (λ last. wanted ≡ true → last ≡ key_at self.now.base.set.value.rows (end - 1)) }
+    {
+        if wanted {
+            self.base.key(alloc, end - 1)
+        } else {
+            Ok(Octets::new(alloc))
+        }
     }
 
     /// The rows at a time of the next keys above one, or of the first keys, cut to some columns. With each column stands the cell
@@ -150,13 +252,17 @@ impl RowSetData {
         ensures { IfOk result (IsPage (told_at t self.now) (keys_of self.now) (option_copied after.entry) columns.now) }
     {
         let start = self.base.place_above(after);
-        let rows = self.base.rows();
-        let end = start + MOST.min(rows - start);
-        let mut page = self.rows_between(alloc, start, end, t, columns)?;
-        if end < rows {
-            page.last = self.base.key(alloc, end - 1)?;
-            page.more = true;
-        }
-        Ok(page)
+        let count = self.base.rows();
+        let end = start + MOST.min(count - start);
+        let more = end < count;
+        let gathered = self.rows_between(alloc, start, end, t, columns)?;
+        let rows = lines_of(alloc, gathered.keys.len(), columns.len(), &gathered.cells)?;
+        let last = self.last_before(alloc, end, more)?;
+        Ok(Page {
+            keys: gathered.keys,
+            rows,
+            last,
+            more,
+        })
     }
 }
