@@ -1,17 +1,15 @@
 -- Pages: the keys behind a place, and the rows of some keys in turn.
-use Rattle.std.proofs.Common.{◌≡◌, ◌≤◌, ◌<◌, ◌-◌, ◌+◌, ℕ, zero, suc, true, false, cond, List, [], ◌∷◌, ◌++◌, append_assoc, map, take, drop, drop-cons, length, length-append, get_or, Option, Some, None, refl, sym, ap, subst, ◌∙◌, arith}
-use Rattle.std.specs.Prelude.{Bool, ◌==◌}
+use Rattle.std.proofs.Common.{◌≡◌, ◌≤◌, ◌<◌, ◌-◌, ◌+◌, ℕ, zero, suc, true, false, cond, List, [], ◌∷◌, ◌++◌, append_assoc, map, take, drop, length, length-append, get_or, Option, Some, None, refl, sym, ap, subst, ◌∙◌, arith}
+use Rattle.std.specs.Prelude.{Bool}
 use Rattle.std.specs.List.{filter, filter_map, flat_map, cons_option, between}
 use Rattle.std.specs.Option.{option_map}
 use Rattle.std.specs.Ordering.{is_lt}
-use Rattle.std.proofs.lemmas.Grind.{flat_map-append}
-use Rattle.std.proofs.lemmas.List.{append-nil, take-append-drop, take_at, drop_at, drop-drop, drop_all, length-map, map-append}
+use Rattle.std.proofs.lemmas.List.{take-append-drop, take_at, drop_at, drop-drop, drop_all, length-map}
 use Rattle.std.proofs.lemmas.List.Edits.{between_more, length-between}
 use Rattle.std.proofs.lemmas.List.Elements.{filter_map-append}
 use Rattle.kt_base.specs.declared.cell.Cell.{Cell}
-use Rattle.kt_history.specs.declared.changes.Delta.{Delta}
 use Rattle.kt_history.specs.Rows.{Row, Rows, key_cmp}
-use Rattle.kt_history.specs.Stores.{Steps, row_of, after_steps}
+use Rattle.kt_history.specs.Stores.{row_of, after_steps}
 use Rattle.kt_history.specs.Views.{is_above, AreRising}
 use Rattle.kt_histlaws.specs.Disks.{disk_row_at}
 use Rattle.kt_lookup.specs.Index.{IsBelow}
@@ -19,14 +17,12 @@ use Rattle.kt_baseset.specs.declared.rows.KeyedRow.{KeyedRow}
 use Rattle.kt_baseset.specs.Asked.{cell_asked, cells_asked}
 use Rattle.kt_baseset.specs.Rows.{keys_in}
 use Rattle.kt_baseset.specs.Tables.{key_at, cells_in}
-use Rattle.kt_rowfiles.specs.Files.{row_under, records_for, records_in, rising, falling}
-use Rattle.kt_rowfiles.specs.Reading.{steps_in}
+use Rattle.kt_rowfiles.specs.Files.{row_under}
 use Rattle.kt_diskrowset.specs.declared.data.RowSetData.{RowSetData}
-use Rattle.kt_diskrowset.specs.declared.files.FileHeld.{FileHeld}
 use Rattle.kt_diskrowset.specs.declared.page.Gathered.{Gathered}
 use Rattle.kt_diskrowset.specs.declared.page.Page.{Page}
 use Rattle.kt_diskrowset.specs.Data.{files_in, fresh_in, keys_of}
-use Rattle.kt_diskrowset.specs.Files.{lists_of, row_with_files}
+use Rattle.kt_diskrowset.specs.Files.{row_with_files}
 use Rattle.kt_diskrowset.specs.Gathered.{Holds, pieces_of, HasPieces}
 use Rattle.kt_diskrowset.specs.Rows.{rows_of, hist_found, UndosLeadBack}
 use Rattle.kt_diskrowset.specs.Page.{told_at, rows_under, Shows, IsPage}
@@ -78,40 +74,8 @@ row_here row key r e = ap (λ (o : Option Row). cons_option (option_map (λ x. (
 pub no_row_here : (row : List ℕ → Option Row) (key : List ℕ) → row key ≡ None → rows_under row (key ∷ []) ≡ []
 no_row_here row key e = ap (λ (o : Option Row). cons_option (option_map (λ x. (key, x)) o) []) e
 
--- ---- a row without records
+-- ---- the rows of one key more
 
-pub untouched : (d : RowSetData) (t n : ℕ) (base : Row) → records_in n (lists_of d.undo) ≡ [] → records_in n (lists_of d.redo) ≡ [] → records_for n d.fresh ≡ []
-    → after_steps t (fresh_in d n) (disk_row_at t (row_with_files d.undo d.redo n base)) ≡ Some base
-untouched d t n base undo redo fresh =
-    ap (λ steps. after_steps t steps (disk_row_at t (row_with_files d.undo d.redo n base))) fresh
-    ∙ ap (λ undos. disk_row_at t (record { base = base; undos = falling undos; redos = rising (records_in n (lists_of d.redo)) })) undo
-    ∙ ap (λ redos. disk_row_at t (record { base = base; undos = []; redos = rising redos })) redo
-
-pub none_there : (deltas : List Delta) → (length deltas == 0) ≡ true → steps_in deltas ≡ []
-none_there [] e = refl
-none_there (d ∷ deltas) e = cc
-
-module _ (n : ℕ) (files : List FileHeld) (i : ℕ) (whole : Steps) (so : records_in n (lists_of (drop i files)) ≡ whole) where
-  pub records_left : (f : FileHeld) → i < length files → f ≡ get_or files i f → records_for n f.deltas.value.list ≡ [] → records_in n (lists_of (drop (i + 1) files)) ≡ whole
-  records_left f low is none =
-      let rest : drop i files ≡ f ∷ drop (i + 1) files = drop-cons files i f low ∙ ap (λ g. g ∷ drop (suc i) files) (sym is) ∙ (let e : suc i ≡ i + 1 = omega arith in ap (λ k. f ∷ drop k files) e) in
-      sym (ap (λ steps. steps ++ records_in n (lists_of (drop (i + 1) files))) none) ∙ sym (ap (λ fs. records_in n (lists_of fs)) rest) ∙ so
-
-  pub records_over : length files ≤ i → whole ≡ []
-  records_over past = sym so ∙ ap (λ fs. records_in n (lists_of fs)) (drop_all i files past)
-
--- ---- rows on their way into a page
-
-pub holds_more : (columns : Row) (told : Rows) (key : List ℕ) (r : Row) (old new : Gathered) → new.keys ≡ old.keys ++ key ∷ [] → new.cells.items ≡ old.cells.items ++ cells_asked columns r → Holds columns told old
-    → Holds columns (told ++ (key, r) ∷ []) new
-holds_more columns told key r old new keys cells holds = record {
-  keys = keys ∙ ap (λ ks. ks ++ key ∷ []) holds.keys ∙ sym (map-append (λ (r : List ℕ × Row). r.0) told ((key, r) ∷ []));
-  cells =
-      cells ∙ ap (λ cs. cs ++ cells_asked columns r) holds.cells ∙ ap (λ cs. flat_map (λ (r : List ℕ × Row). cells_asked columns r.1) told ++ cs) (sym (append-nil (cells_asked columns r)))
-      ∙ sym (flat_map-append (λ (r : List ℕ × Row). cells_asked columns r.1) told ((key, r) ∷ []));
-}
-
--- and the rows of one key more
 pub rows_more : (row : List ℕ → Option Row) (rows : List KeyedRow) (i j : ℕ) → i ≤ j → j < length rows → rows_under row (between i (j + 1) (keys_in rows)) ≡ rows_under row (between i j (keys_in rows)) ++ rows_under row (key_at rows j ∷ [])
 rows_more row rows i j le low =
     let count = keys_count rows in

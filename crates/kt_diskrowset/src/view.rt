@@ -2,7 +2,7 @@
 ghost use Rattle.std.specs.Prelude.{◌≡◌, IfOk};
 ghost use Rattle.std.specs.List.Sorted.{IsNonDecreasingBy};
 ghost use Rattle.std.specs.Option.{option_copied};
-ghost use Rattle.kt_history.specs.Views.{key_above, AreRising};
+ghost use Rattle.kt_history.specs.Views.{key_above};
 ghost use Rattle.kt_diskrowset.specs.Data.{files_in, keys_of};
 ghost use Rattle.kt_diskrowset.specs.Rows.{UndosLeadBack};
 ghost use Rattle.kt_diskrowset.specs.Page.{told_at, IsPage};
@@ -11,15 +11,26 @@ use crate::data::RowSetData;
 use crate::page::Page;
 use kt_base::{Cell, Cells, NoMemory, Octets};
 use std::alloc::Global;
+use std::marker::Model;
 
 /// A disk rowset whose rows can be told at any time: each UNDO record leads back, and its changes in memory stand in the order
-/// of their rows.
+/// of their rows. Contracts see it as its plain data.
 #[derive(Drop)]
 pub struct RowSetView {
     rowset: RowSetData,
-    ghost lead: { UndosLeadBack (files_in rowset) },
-    ghost order: { IsNonDecreasingBy (λ d. d.ordinal) rowset.fresh },
-    ghost rise: { AreRising (keys_of rowset) },
+}
+
+impl Model for RowSetView {
+    ghost use Rattle.std.specs.List.Sorted.{IsNonDecreasingBy};
+    ghost use Rattle.kt_diskrowset.specs.declared.data.RowSetData.{RowSetData};
+    ghost use Rattle.kt_diskrowset.specs.Data.{files_in};
+    ghost use Rattle.kt_diskrowset.specs.Rows.{UndosLeadBack};
+
+    ghost Value = { RowSetData };
+
+    ghost view = { λ v. v.rowset };
+
+    ghost invariant = { λ v. UndosLeadBack (files_in v.rowset) × IsNonDecreasingBy (λ d. d.ordinal) v.rowset.fresh };
 }
 
 impl RowSetView {
@@ -27,22 +38,21 @@ impl RowSetView {
     pub fn of(rowset: RowSetData) -> RowSetView
         requires lead { UndosLeadBack (files_in rowset) }
         requires order { IsNonDecreasingBy (λ d. d.ordinal) rowset.fresh }
-        ensures { result.rowset ≡ rowset }
+        ensures { result ≡ rowset }
     {
-        let _first = rowset.base.place_above(None);
         RowSetView { rowset }
     }
 
     /// The row of a key at a time.
     pub fn row_at(&self, alloc: Global, key: &[u8], t: u64) -> Result<Option<Cells>, NoMemory>
-        ensures { IfOk result (λ row. row ≡ told_at t self.now.rowset key.now) }
+        ensures { IfOk result (λ row. row ≡ told_at t self.now key.now) }
     {
         self.rowset.row_at(alloc, key, t)
     }
 
     /// The least key above another, or the least of all, those of deleted rows too.
     pub fn key_after(&self, alloc: Global, after: Option<&[u8]>) -> Result<Option<Octets>, NoMemory>
-        ensures { IfOk result (λ found. found ≡ key_above (option_copied after.entry) (keys_of self.now.rowset)) }
+        ensures { IfOk result (λ found. found ≡ key_above (option_copied after.entry) (keys_of self.now)) }
     {
         self.rowset.key_after(alloc, after)
     }
@@ -56,7 +66,7 @@ impl RowSetView {
         t: u64,
         columns: &[(u16, Cell)],
     ) -> Result<Page, NoMemory>
-        ensures { IfOk result (IsPage (told_at t self.now.rowset) (keys_of self.now.rowset) (option_copied after.entry) columns.now) }
+        ensures { IfOk result (IsPage (told_at t self.now) (keys_of self.now) (option_copied after.entry) columns.now) }
     {
         self.rowset.page(alloc, after, t, columns)
     }
