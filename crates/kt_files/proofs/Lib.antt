@@ -1,0 +1,4 @@
+pub mod Names
+pub mod Removals
+pub mod Lists
+pub mod Contents

@@ -1,0 +1,14 @@
+-- What was read.
+use Rattle.std.specs.Prelude.{◌≡◌, ℕ, List, []}
+use Rattle.std.specs.List.{AllByRecursion}
+use Rattle.kt_baseset.specs.Tables.{BaseValue}
+use Rattle.kt_diskrowset.specs.declared.base.BaseHeld.{BaseHeld}
+use Rattle.kt_diskrowset.specs.declared.data.RowSetData.{RowSetData}
+
+-- a base file, whoever owns it
+abbrev pub base_in : BaseHeld → ℕ × ℕ × BaseValue
+base_in b = (b.file, b.len, b.set.value)
+
+-- no change stands in memory
+abbrev pub AreFresh : List RowSetData → Type 0
+AreFresh rowsets = AllByRecursion (λ (d : RowSetData). d.fresh ≡ []) rowsets

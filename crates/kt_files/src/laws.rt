@@ -1,0 +1,7 @@
+//! Laws of the definitions.
+ghost use Rattle.kt_files.specs.Laws.{rowsets_tell_their_files};
+
+/// What a superblock and its files say of a rowset is what these files tell, behind the last DeltaMemStore that they hold.
+pub fn content_law()
+    ensures { rowsets_tell_their_files }
+{}
