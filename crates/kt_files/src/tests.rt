@@ -131,6 +131,6 @@ fn files_that_are_not_named_are_removed(rt: HostRuntime) -> Result<(), Fail> {
     let Ok(left) = disk.files(alloc) else {
         return Err("not listed".into());
     };
-    assert!(rt; left.as_slice() == [1, 2, 3, 4, 5]);
+    assert!(rt; left.as_slice() == [1, 2, 3, 4, 5].as_slice());
     Ok(())
 }
