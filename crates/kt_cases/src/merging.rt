@@ -37,7 +37,11 @@ fn is_written(written: Option<&RowWritten>, times: Option<&[u64]>) -> bool {
             row.deleted == Some(12_288)
                 && row.base.len() == 1
                 && row.undos.iter().all(|undo| undo.ordinal == 7)
-                && row.undos.iter().map(|undo| undo.ts).eq(times.iter().copied())
+                && row
+                    .undos
+                    .iter()
+                    .map(|undo| undo.ts)
+                    .eq(times.iter().copied())
         }
         (written, times) => written.is_none() && times.is_none(),
     }
@@ -59,10 +63,12 @@ fn a_deleted_row_is_written(rt: HostRuntime) -> Result<(), Fail> {
 }
 
 /// A REDO file of deletes: of row 0 at 2, and of row 3 at 9.
-const OLDER: &[u8] = b"KTD1\x01\x02\0\0\0\0\0\0\0\x02\0\0\0\0\0\0\0\x03\x03\0\0\0\x09\0\0\0\0\0\0\0\x03";
+const OLDER: &[u8] =
+    b"KTD1\x01\x02\0\0\0\0\0\0\0\x02\0\0\0\0\0\0\0\x03\x03\0\0\0\x09\0\0\0\0\0\0\0\x03";
 
 /// And one of row 0 at 5, and of row 1 at 4.
-const NEWER: &[u8] = b"KTD1\x01\x02\0\0\0\0\0\0\0\x05\0\0\0\0\0\0\0\x03\x01\0\0\0\x04\0\0\0\0\0\0\0\x03";
+const NEWER: &[u8] =
+    b"KTD1\x01\x02\0\0\0\0\0\0\0\x05\0\0\0\0\0\0\0\x03\x01\0\0\0\x04\0\0\0\0\0\0\0\x03";
 
 /// Ordinals and timestamps of both.
 const BOTH: [(u32, u64); 4] = [(0, 2), (0, 5), (1, 4), (3, 9)];
