@@ -67,3 +67,4 @@ pub mod Buffers
 pub mod RisingKeys
 pub mod WriteLaws
 pub mod FirstWords
+pub mod Drafts

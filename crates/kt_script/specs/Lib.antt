@@ -10,6 +10,7 @@ pub mod Buffers
 pub mod Times
 pub mod Leads
 pub mod Scans
+pub mod Drafts
 pub mod Sessions
 pub mod Scripts
 pub mod Fit

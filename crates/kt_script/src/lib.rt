@@ -12,6 +12,7 @@
 
 pub mod asked;
 pub mod columns;
+mod draft;
 pub mod forms;
 pub mod fronts;
 pub mod head;

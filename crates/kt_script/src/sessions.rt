@@ -3,6 +3,7 @@
 ghost use Rattle.std.specs.Prelude.{◌≡◌, ◌<◌, ◌++◌, ◌∷◌, [], length, IfOk, OnOk, true};
 ghost use Rattle.kt_script.specs.Scripts.{most_commands, is_begun, commands_in, push_last};
 
+use crate::draft::Draft;
 use kt_base::NoMemory;
 use kt_history::{Command, Plan, Session};
 use std::alloc::Global;
@@ -13,22 +14,21 @@ use std::marker::Model;
 #[derive(Drop)]
 pub struct Sessions {
     ended: Vec<Session>,
-    last: Option<Vec<Command>>,
+    last: Option<Draft>,
     // How many commands the ended sessions have.
     count: usize,
 }
 
 impl Model for Sessions {
     ghost use Rattle.std.specs.Prelude.{List};
-    ghost use Rattle.std.specs.Option.{option_map};
     ghost use Rattle.kt_history.specs.declared.command.Command.{Command};
     ghost use Rattle.kt_script.specs.Sessions.{plan_of, Kept};
 
     ghost Value = { List (List Command) };
 
-    ghost view = { λ s. plan_of s.ended.items (option_map (λ v. v.items) s.last) };
+    ghost view = { λ s. plan_of s.ended.items s.last };
 
-    ghost invariant = { λ s. Kept s.ended.items (option_map (λ v. v.items) s.last) s.count };
+    ghost invariant = { λ s. Kept s.ended.items s.last s.count };
 }
 
 impl Sessions {
@@ -72,9 +72,9 @@ impl Sessions {
     pub fn begin(&mut self, alloc: Global) -> Result<(), NoMemory>
         ensures { OnOk result (self.new ≡ self.old ++ [] ∷ []) }
     {
-        if let Some(last) = self.last.replace(Vec::new(alloc)) {
+        if let Some(last) = self.last.replace(Draft::new(alloc)) {
             let count = self.count + last.len();
-            self.ended.push(Session::of(last))?;
+            self.ended.push(last.into_session()?)?;
             self.count = count;
         }
         Ok(())
@@ -102,7 +102,7 @@ impl Sessions {
             ..
         } = self;
         if let Some(last) = last {
-            ended.push(Session::of(last))?;
+            ended.push(last.into_session()?)?;
         }
         Ok(Plan::of(ended))
     }

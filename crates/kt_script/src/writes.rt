@@ -306,7 +306,7 @@ fn add_ops(
     Ok(())
 }
 
-// The operations of such a line, of which a copy takes no memory. They count only where no reason up to 18 holds.
+// The operations of such a line. They count only where no reason up to 18 holds.
 fn read_ops(
     alloc: Global,
     schema: &Schema,
@@ -320,7 +320,7 @@ fn read_ops(
 {
     let mut ops = OpList::new(alloc);
     add_ops(alloc, schema, first, op, &mut ops, no)?;
-    ops.shared(alloc)
+    Ok(ops)
 }
 
 // Whether an operation from a place on has this key.

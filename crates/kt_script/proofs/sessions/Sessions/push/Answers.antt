@@ -6,7 +6,7 @@ use Rattle.kt_script.proofs.sessions.Sessions.push.Goals as goal
 pub returns : goal.returns
 returns c =
     let ended = c.self.inside.ended.items in
-    let last = c.in-Some.last.items in
-    let more : c.push.new.self.items ≡ last ++ c.args.command ∷ [] = c.in_ok-push.ensures.items in
+    let last = c.in-Some.last in
+    let more : c.push.new.self ≡ last ++ c.args.command ∷ [] = c.in_ok-push.ensures.ok in
     let whole : ended ++ last ∷ [] ≡ c.args.self.now = rw c.in-Some.is at c.self.view_is in
     ap (λ items. ended ++ items ∷ []) more ∙ (sym (push_is c.args.command ended last) ∙ ap (push_last c.args.command) whole)

@@ -1,0 +1,23 @@
+use Rattle.std.proofs.Common.{Result, Ok, Err, map, ap, ◌∙◌}
+use Rattle.std.specs.Prelude.{OnErr}
+use Rattle.kt_script.specs.Drafts.{command_in}
+use Rattle.kt_script.proofs.Drafts.{same_view, pushed_view}
+use Rattle.kt_script.proofs.draft.Draft.push.Goals as goal
+
+on_err : {A E : Type 0} (r : Result A E) {P : Type 0} → P → OnErr r P
+on_err (Ok x) p = tt
+on_err (Err e) p = p
+
+pub returns-in_err-entry-clause-err : goal.returns-in_err-entry-clause-err
+returns-in_err-entry-clause-err c =
+    on_err c.from_residual.result (same_view c.self.inside.ops c.entry_of.new.ops c.entry_of.ensures.front c.self.inside.entries.items c.args.self.now c.self.invariant c.self.view_is)
+
+pub returns-in_err-push_back-clause-err : goal.returns-in_err-push_back-clause-err
+returns-in_err-push_back-clause-err c =
+    on_err c.from_residual-in_err-push_back.result
+    (ap (map (command_in c.entry_of.new.ops)) c.in_err-push_back.ensures.items ∙ same_view c.self.inside.ops c.entry_of.new.ops c.entry_of.ensures.front c.self.inside.entries.items c.args.self.now c.self.invariant c.self.view_is)
+
+pub returns-clause-ok : goal.returns-clause-ok
+returns-clause-ok c =
+    ap (map (command_in c.entry_of.new.ops)) c.in_ok-push_back.ensures.items
+    ∙ pushed_view c.self.inside.ops c.entry_of.new.ops c.entry_of.ensures.front c.self.inside.entries.items c.in_ok-entry.entry c.args.command c.args.self.now c.self.invariant c.self.view_is c.in_ok-entry.ensures.command

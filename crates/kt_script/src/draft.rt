@@ -1,0 +1,174 @@
+//! The commands of a session as they are read.
+
+ghost use Rattle.std.specs.Prelude.{◌≡◌, ◌++◌, ◌∷◌, [], List, length, take, map, IfOk, OnOk, OnErr};
+ghost use Rattle.std.specs.List.{All};
+ghost use Rattle.kt_history.specs.declared.command.Command.TheVariants as command;
+ghost use Rattle.kt_history.specs.declared.operation.RowOp.{RowOp};
+ghost use Rattle.kt_script.specs.Drafts.{command_in, IsInside};
+
+use kt_base::NoMemory;
+use kt_history::{Command, OpList, Session, Write};
+use std::alloc::Global;
+use std::collections::VecDeque;
+use std::marker::Model;
+
+// The most operations of a write that stand in the list of all. A write of more has a list of its own.
+const FEW: usize = 4;
+
+// So many operations of a list, from a place on.
+#[derive(Clone, Copy)]
+struct Part {
+    first: usize,
+    len: usize,
+}
+
+// A write of few operations, or another command.
+#[derive(Drop)]
+enum Entry {
+    Few(Part),
+    Other(Box<Command>),
+}
+
+/// The commands of a session. The operations of small writes stand in one list, of which each owns a part in the end.
+/// Contracts see the commands.
+#[derive(Drop)]
+pub(crate) struct Draft {
+    alloc: Global,
+    ops: OpList,
+    entries: VecDeque<Entry>,
+}
+
+impl Model for Draft {
+    ghost use Rattle.std.specs.Prelude.{List, map};
+    ghost use Rattle.std.specs.List.{All};
+    ghost use Rattle.kt_history.specs.declared.command.Command.{Command};
+    ghost use Rattle.kt_script.specs.Drafts.{command_in, IsInside};
+
+    ghost Value = { List Command };
+
+    ghost view = { λ d. map (command_in d.ops) d.entries.items };
+
+    ghost invariant = { λ d. All (IsInside d.ops) d.entries.items };
+}
+
+// Adds operations. Those before stay, also where there is no memory for all.
+fn append(ops: &mut OpList, more: &OpList) -> Result<(), NoMemory>
+    ensures ok { OnOk result (ops.new ≡ ops.old ++ more.now) }
+    ensures front { take (length ops.old) ops.new ≡ ops.old }
+{
+    'ops: for at in 0..more.len() {
+        let op = more.at(at);
+        ops.push(&op)?;
+    }
+    Ok(())
+}
+
+fn other(alloc: Global, command: Command) -> Result<Entry, NoMemory>
+    ensures inside { IfOk result (λ entry. (ops : List RowOp) → IsInside ops entry) }
+    ensures command { IfOk result (λ entry. (ops : List RowOp) → command_in ops entry ≡ command) }
+{
+    match Box::new(alloc, command) {
+        Ok(command) => Ok(Entry::Other(command)),
+        Err(_) => Err(NoMemory),
+    }
+}
+
+// The entry of a write, whose operations are added to the list, if they are few.
+fn written(alloc: Global, ops: &mut OpList, write: Write) -> Result<Entry, NoMemory>
+    ensures inside { IfOk result (λ entry. IsInside ops.new entry) }
+    ensures command { IfOk result (λ entry. command_in ops.new entry ≡ command.Write write) }
+    ensures front { take (length ops.old) ops.new ≡ ops.old }
+{
+    let first = ops.len();
+    let len = write.ops.len();
+    if len > FEW {
+        let ops = write.ops.shared(alloc)?;
+        return other(alloc, Command::Write(Write { ops }));
+    }
+    append(ops, &write.ops)?;
+    Ok(Entry::Few(Part { first, len }))
+}
+
+// The entry of a command.
+fn entry_of(alloc: Global, ops: &mut OpList, command: Command) -> Result<Entry, NoMemory>
+    ensures inside { IfOk result (λ entry. IsInside ops.new entry) }
+    ensures command { IfOk result (λ entry. command_in ops.new entry ≡ command) }
+    ensures front { take (length ops.old) ops.new ≡ ops.old }
+{
+    match command {
+        Command::Write(write) => written(alloc, ops, write),
+        command => other(alloc, command),
+    }
+}
+
+fn command_of(alloc: Global, ops: &OpList, entry: Entry) -> Result<Command, NoMemory>
+    requires { IsInside ops.now entry }
+    ensures { IfOk result (λ command. command ≡ command_in ops.now entry) }
+{
+    match entry {
+        Entry::Few(part) => {
+            let ops = ops.part(alloc, part.first, part.len)?;
+            Ok(Command::Write(Write { ops }))
+        }
+        Entry::Other(command) => Ok(Box::into_inner(command)),
+    }
+}
+
+// The commands of some entries.
+fn commands_of(
+    alloc: Global,
+    ops: &OpList,
+    entries: VecDeque<Entry>,
+) -> Result<Vec<Command>, NoMemory>
+    requires { All (IsInside ops.now) entries.items }
+    ensures { IfOk result (λ commands. commands.items ≡ map (command_in ops.now) entries.items) }
+{
+    let mut left = entries;
+    let mut commands = Vec::with_capacity(alloc, left.len())?;
+    'entries: while let Some(entry) = left.pop_front() {
+        commands.push(command_of(alloc, ops, entry)?)?;
+    }
+    Ok(commands)
+}
+
+impl Draft {
+    /// No commands.
+    pub(crate) fn new(alloc: Global) -> Draft
+        ensures { result ≡ [] }
+    {
+        Draft {
+            alloc,
+            ops: OpList::new(alloc),
+            entries: VecDeque::new(alloc),
+        }
+    }
+
+    pub(crate) fn len(&self) -> usize
+        ensures { result ≡ length self.now }
+    {
+        self.entries.len()
+    }
+
+    /// One command more. Without memory nothing is added.
+    pub(crate) fn push(&mut self, command: Command) -> Result<(), NoMemory>
+        ensures ok { OnOk result (self.new ≡ self.old ++ command ∷ []) }
+        ensures err { OnErr result (self.new ≡ self.old) }
+    {
+        let entry = entry_of(self.alloc, &mut self.ops, command)?;
+        self.entries.push_back(entry)?;
+        Ok(())
+    }
+
+    pub(crate) fn into_session(self) -> Result<Session, NoMemory>
+        ensures { IfOk result (λ session. session ≡ self) }
+    {
+        let Draft {
+            alloc,
+            ops,
+            entries,
+        } = self;
+        let shared = ops.shared(alloc)?;
+        let commands = commands_of(alloc, &shared, entries)?;
+        Ok(Session::of(commands))
+    }
+}
