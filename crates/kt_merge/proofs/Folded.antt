@@ -1,24 +1,23 @@
 -- What a row that is folded keeps of its history.
-use Rattle.std.proofs.Common.{◌≡◌, ◌≢◌, ◌≤◌, ◌<◌, ℕ, List, [], ◌∷◌, ◌++◌, Option, Some, None, Bool, true, false, refl, sym, ap, ◌∙◌, subst, arith, cond, append_assoc}
-use Rattle.std.specs.Prelude.{nat_lt, nat_le}
+use Rattle.std.proofs.Common.{◌≡◌, ◌≤◌, ◌<◌, ℕ, [], ◌∷◌, ◌++◌, Option, Some, None, Bool, true, false, refl, sym, ap, ◌∙◌, subst, arith, cond, append_assoc}
+use Rattle.std.specs.Prelude.{nat_lt}
 use Rattle.std.specs.Option.{option_map}
 use Rattle.std.proofs.lemmas.Bool.{lt-leb, lt-ltb, ltb-false, ne_eqb}
-use Rattle.std.proofs.lemmas.Bool.Decides.{nat_tests}
 use Rattle.std.proofs.lemmas.List.{append-nil}
 use Rattle.std.proofs.lemmas.List.Elements.{filter-append}
 use Rattle.kt_history.specs.declared.change.Change.{Change}
-use Rattle.kt_history.specs.declared.change.Change.TheVariants.{Ins, Upd, Del}
+use Rattle.kt_history.specs.declared.change.Change.TheVariants.{Del}
 use Rattle.kt_history.specs.Rows.{Row, apply, undo}
 use Rattle.kt_history.specs.Stores.{Steps, Hist, Under, after_steps, row_of, step_at}
 use Rattle.kt_histlaws.specs.Disks.{DiskRow, AreUndos, before_all, led_over, hist_of}
 use Rattle.kt_histlaws.specs.Fitting.{Rises, steps_above}
 use Rattle.kt_histlaws.specs.Jobs.{AreAlike}
 use Rattle.kt_rowfiles.specs.Flushing.{after_all, undone, written, written_deleted, cut, EachAbove, InOrderAt, AllUndone}
-use Rattle.kt_rowfiles.proofs.Flushing.{written_keeps, deleted_keeps, cut_alike, cut_steps, one_option}
+use Rattle.kt_rowfiles.proofs.Flushing.{written_keeps, cut_alike, cut_steps, one_option}
 use Rattle.kt_rowfiles.proofs.Options.{one_alone}
 use Rattle.kt_merge.specs.Rows.{deleted_at, before_last, written_by}
 use Rattle.kt_merge.specs.Laws.{EachFits, before_redos}
-use Rattle.kt_merge.specs.Folding.{on_base, folded_by, row_folded, with_older, a_row_folded_is_alike, a_row_folded_whole_is_the_same, a_row_folded_whole_leads_back, changes_that_fit_leave_a_row}
+use Rattle.kt_merge.specs.Folding.{on_base, folded_by, with_older, a_row_folded_is_alike, a_row_folded_whole_is_the_same, a_row_folded_whole_leads_back, changes_that_fit_leave_a_row}
 use Rattle.kt_merge.proofs.Written.{came_from, came_none, ends_with, front_order, front_undone, none_above, gone_at, each_above, is_kept, is_led, there_before, there_after}
 
 -- a history that ends in a delete at or below the mark

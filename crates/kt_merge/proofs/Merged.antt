@@ -1,15 +1,14 @@
 -- REDO files that were merged tell the same.
-use Rattle.std.proofs.Common.{◌≡◌, ◌≤◌, ◌<◌, ℕ, List, [], ◌∷◌, ◌++◌, Option, Some, None, Bool, true, false, refl, sym, ap, ◌∙◌, arith, cond}
+use Rattle.std.proofs.Common.{◌≡◌, ◌≤◌, ◌<◌, ℕ, [], ◌∷◌, Option, Some, None, Bool, true, false, refl, ap, ◌∙◌, arith, cond}
 use Rattle.std.specs.Prelude.{nat_lt}
 use Rattle.std.proofs.lemmas.Bool.{le-ltb, ltb-false}
 use Rattle.std.proofs.lemmas.Bool.Decides.{nat_tests}
 use Rattle.std.proofs.lemmas.List.{append-nil}
 use Rattle.kt_history.specs.declared.change.Change.{Change}
-use Rattle.kt_history.specs.declared.changes.Delta.{Delta}
 use Rattle.kt_history.specs.Rows.{Row}
-use Rattle.kt_history.specs.Stores.{Steps, Hist}
+use Rattle.kt_history.specs.Stores.{Steps}
 use Rattle.kt_histlaws.specs.Disks.{hist_of}
-use Rattle.kt_rowfiles.specs.Files.{DiskRowset, row_under, row_with, records_for, records_in, put_rising, rising, falling}
+use Rattle.kt_rowfiles.specs.Files.{row_under, row_with, records_for, records_in, put_rising, rising, falling}
 use Rattle.kt_merge.specs.Minor.{merged_files_tell_the_same}
 
 -- changes of which none lies below the one before it

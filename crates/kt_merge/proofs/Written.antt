@@ -1,18 +1,18 @@
 -- What a row that is written keeps of its history.
-use Rattle.std.proofs.Common.{◌≡◌, ◌≤◌, ◌<◌, ◌-◌, ℕ, suc, List, [], ◌∷◌, ◌++◌, take, length, Option, Some, None, Bool, true, false, refl, sym, ap, ◌∙◌, subst, arith, cond}
+use Rattle.std.proofs.Common.{◌≡◌, ◌≤◌, ◌<◌, ◌-◌, ℕ, suc, [], ◌∷◌, ◌++◌, take, length, Option, Some, None, Bool, true, false, refl, sym, ap, ◌∙◌, subst, arith, cond}
 use Rattle.std.specs.Prelude.{nat_lt, nat_le, slice_get}
 use Rattle.std.specs.Option.{option_map}
 use Rattle.std.proofs.lemmas.Bool.{lt-ltb, lt-leb, le-leb, ltb-false}
 use Rattle.std.proofs.lemmas.Bool.Decides.{nat_tests}
 use Rattle.kt_history.specs.declared.change.Change.{Change}
 use Rattle.kt_history.specs.declared.change.Change.TheVariants.{Ins, Upd, Del}
-use Rattle.kt_history.specs.Rows.{Row, apply, fits}
+use Rattle.kt_history.specs.Rows.{Row, apply}
 use Rattle.kt_history.specs.Stores.{Steps, Hist, Under, after_steps, row_of}
 use Rattle.kt_histlaws.specs.Disks.{DiskRow, AreUndos, hist_of}
 use Rattle.kt_histlaws.specs.Fitting.{Rises, steps_above}
-use Rattle.kt_rowfiles.specs.Flushing.{after_all, written, written_deleted, cut, EachAbove, InOrderAt, IsUndone, AllUndone}
+use Rattle.kt_rowfiles.specs.Flushing.{after_all, written, written_deleted, cut, EachAbove, InOrderAt, AllUndone}
 use Rattle.kt_rowfiles.proofs.Flushing.{written_keeps, deleted_keeps, written_leads}
-use Rattle.kt_merge.specs.Rows.{deleted_by, deleted_at, but_last, before_last, written_by, row_written}
+use Rattle.kt_merge.specs.Rows.{deleted_by, deleted_at, but_last, before_last, written_by}
 use Rattle.kt_merge.specs.Laws.{EachFits, before_redos, a_row_written_is_the_history, a_row_written_leads_back, a_row_not_written_is_not_there}
 
 -- a list that has a last element
