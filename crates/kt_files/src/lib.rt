@@ -23,8 +23,6 @@ pub mod laws;
 pub mod refusal;
 mod removing;
 pub mod rowsets;
-#[cfg(test)]
-mod tests;
 mod writing;
 
 pub use refusal::{FilesNo, RemoveNo};
