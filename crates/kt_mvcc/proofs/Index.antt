@@ -1,5 +1,5 @@
 -- What the hashes of held keys tell of the writes that fly.
-use Rattle.std.proofs.Common.{◌≢◌, ◌&&◌, rules, ◌≡◌, ℕ, ◌+◌, ◌<◌, length, take, get_or, ◌++◌, Bool, true, false, cond, not, arith, ◌||◌, List, [], ◌∷◌, Option, Some, None, refl, sym, ap, ◌∙◌, subst, ◌==◌, nat_eq}
+use Rattle.std.proofs.Common.{◌≢◌, ◌&&◌, rules, ◌≡◌, ℕ, ◌+◌, ◌<◌, length, take, get_or, ◌++◌, Bool, true, false, cond, not, arith, ◌||◌, suc, List, [], ◌∷◌, Option, Some, None, refl, sym, ap, ◌∙◌, subst, ◌==◌, nat_eq}
 use Rattle.std.specs.List.{All, filter, list_any}
 use Rattle.std.specs.HashMap.{get, IsEmpty}
 use Rattle.std.specs.Map.{lookup}
@@ -7,7 +7,7 @@ use Rattle.std.proofs.lemmas.List.Folds.{list_any-append, list_any_more}
 use Rattle.std.proofs.lemmas.List.Elements.{All-nil, All-cons, All-head, All-tail, All-append, All-weaker, All-more}
 use Rattle.std.proofs.lemmas.Map.Text.{is_eq-slice_cmp}
 use Rattle.std.proofs.lemmas.Slice.Eq.{bytes_eq-Decides}
-use Rattle.std.proofs.lemmas.Bool.{eqb-false, eqb-true}
+use Rattle.std.proofs.lemmas.Bool.{eqb-false, eqb-true, false≢true}
 use Rattle.std.proofs.lemmas.Bool.Decides.{Decides-eqb}
 use Rattle.kt_mvcc.specs.declared.flier.Flier.{Flier}
 use Rattle.kt_mvcc.specs.declared.held.Held.{Held}
@@ -67,6 +67,20 @@ tells_none held flying empty none whole =
   where
     none_at : {who : ℕ} → None ≡ Some who → ⊥
     none_at e = search rules
+
+-- nor where the only one ends
+none_left : (who : ℕ) (flying : List Flier) → length flying ≡ 1 → list_any (λ f. f.who == who) flying ≡ true → length (filter (λ f. not (f.who == who)) flying) ≡ 0
+none_left who [] one any = refl
+none_left who (f ∷ []) one any = elim (f.who == who) as (λ b. (b || false) ≡ true → length (cond (not b) (f ∷ []) []) ≡ 0) [ true ↦ λ here. refl | false ↦ λ other. absurd (false≢true other) ] any
+none_left who (f ∷ g ∷ flying) one any = absurd (omega (arith, one))
+
+pub tells_alone : (held : Held) (who : ℕ) (flying : List Flier) → IsEmpty held.writers → length flying ≡ 1 → list_any (λ f. f.who == who) flying ≡ true → Tells held (filter (λ f. not (f.who == who)) flying)
+tells_alone held who flying empty one any = tells_none held (filter (λ f. not (f.who == who)) flying) empty (none_left who flying one any)
+
+-- where nothing flies, no write holds a key
+pub none_holds : (keys : List (List ℕ)) (flying : List Flier) → (length flying == 0) ≡ true → None ≡ holder keys flying
+none_holds keys [] none = refl
+none_holds keys (f ∷ flying) none = absurd (omega (arith, eqb-true (suc (length flying)) 0 none))
 
 -- at the hash of one of a writer's keys stands that writer
 at_hash : (held : Held) (who hash : ℕ) (keys : List (List ℕ)) → All (Has held who) keys → has_hash hash keys ≡ true → get nat_eq held.writers hash ≡ Some who

@@ -95,6 +95,9 @@ fn holder(held: &Held, flying: &[Flier], keys: &KeyList) -> Option<u64>
     requires { Tells held.now flying.now }
     ensures { result ≡ holder keys.now flying.now }
 {
+    if flying.is_empty() {
+        return None;
+    }
     if held.is_free(keys) {
         return None;
     }
@@ -122,6 +125,20 @@ fn release(held: &mut Held, flying: &[Flier], who: u32)
     for flier in flying {
         release_one(held, flier, who);
     }
+}
+
+// Lets go of the keys of a writer that ends. Where no write flies but its own, all keys are let go of at once.
+fn let_go(held: &mut Held, flying: &[Flier], who: u32)
+    requires tells { Tells held.old flying.now }
+    requires flies { flies who flying.now ≡ true }
+    ensures { Tells held.new (filter (λ f. not (f.who == who)) flying.now) }
+{
+    let alone = flying.len() == 1;
+    if alone {
+        held.clear();
+        return;
+    }
+    release(held, flying, who);
 }
 
 // Where a flying write of a writer stands first, if there is one.
@@ -265,12 +282,9 @@ impl Flight {
         ensures flying { self.new.flying ≡ filter (λ f. not (f.who == who)) self.old.flying }
         ensures keys { (f : Flier) → find (λ f. f.who == who) self.old.flying ≡ Some f → result ≡ f.keys }
     {
-        release(&mut self.held, &self.flying, who);
+        let_go(&mut self.held, &self.flying, who);
         let flier = take_first(&mut self.flying, who);
         self.flying.retain(|flier| flier.who != who);
-        if self.flying.is_empty() {
-            self.held.clear();
-        }
         flier.keys
     }
 
