@@ -245,3 +245,29 @@ pub fn push_changes(
     }
     Ok(())
 }
+
+/// As `push_changes`, under the key that is placed in a cell. The key is read where it lies, if one cell of the pool has it, or
+/// else through a buffer.
+pub fn push_row(
+    pool: &Pool,
+    key: Place,
+    first: u32,
+    upto: u64,
+    list: &mut ChangeList,
+    keys: &mut Vec<u8>,
+    buffer: &mut Vec<u8>,
+) -> Result<(), NoMemory>
+    requires key { Stands pool.now key.cell }
+    requires row { IsChainAt pool.now first (chain pool.now first) }
+    ensures { OnOk result (list.new ≡ list.old ++ row_changes upto (bytes_at pool.now key.cell) (steps_of (chain pool.now first))) }
+{
+    let len = pool.len(key);
+    if len == 0 || len > WHOLE {
+        read_into(pool, key.cell, keys)?;
+        push_changes(pool, keys, first, upto, list, buffer)?;
+        return Ok(());
+    }
+    let bytes = pool.front(key, len);
+    push_changes(pool, bytes, first, upto, list, buffer)?;
+    Ok(())
+}

@@ -5,7 +5,7 @@ ghost use Rattle.kt_pool.specs.Contents.{Contents, at_cell, used};
 ghost use Rattle.kt_history.specs.Stores.{hist_in, row_of};
 ghost use Rattle.kt_history.specs.Rows.{fits};
 
-use crate::chain::{is_live, octets_at, push_changes, read_into, release, row_at};
+use crate::chain::{is_live, octets_at, push_row, release, row_at};
 use crate::link::{Head, NOTHING};
 use crate::write::{extend, place};
 use kt_base::{Cells, NoMemory, Octets};
@@ -205,7 +205,7 @@ impl MemRowSet {
         ensures { IfOk result (λ list. list ≡ changes_upto upto (store_of self.now pool.now)) }
     {
         let mut list = ChangeList::new(alloc);
-        let mut key = Vec::new(alloc);
+        let mut keys = Vec::new(alloc);
         let mut buffer = Vec::new(alloc);
         let mut walk = self.tree.walk(alloc);
         'rows: for _ in 0..self.tree.len() {
@@ -215,8 +215,15 @@ impl MemRowSet {
             let Some(pair) = next else {
                 break;
             };
-            read_into(pool, pair.key.cell, &mut key)?;
-            push_changes(pool, &key, pair.value.cell, upto, &mut list, &mut buffer)?;
+            push_row(
+                pool,
+                pair.key,
+                pair.value.cell,
+                upto,
+                &mut list,
+                &mut keys,
+                &mut buffer,
+            )?;
         }
         Ok(list)
     }
