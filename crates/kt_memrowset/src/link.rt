@@ -45,10 +45,13 @@ fn head_from(bytes: &[u8]) -> Head
     }
 }
 
+// So many bytes each change has at least: its first fields, and the count of its cells. One cell of the pool has them.
+const HEAD_READ: usize = 23;
+
 /// The first fields of the change in this cell.
 pub fn head_in(pool: &Pool, cell: u32) -> Head
     requires { 23 ≤ length (bytes_at pool.now cell) }
     ensures { result ≡ head_of (bytes_at pool.now cell) }
 {
-    head_from(pool.chunk(Place { cell }, 0))
+    head_from(pool.front(Place { cell }, HEAD_READ))
 }
