@@ -5,7 +5,6 @@ use Rattle.std.proofs.lemmas.List.{map-append}
 use Rattle.std.proofs.lemmas.List.Sums.{sum_by-append, sum_by-cons}
 use Rattle.kt_history.specs.Beside.{AllStand, OwnedBy, AreApart}
 use Rattle.kt_history.proofs.Beside.{Stays, IsPlaced, all_stay, stand_left, stand_right, owned_left, owned_right, apart_left, apart_right, apart_between}
-use Rattle.kt_memrowset.proofs.Placed.{is_placed}
 use Rattle.kt_memrowset.specs.declared.store.MemRowSet.{MemRowSet}
 use Rattle.kt_memrowset.specs.Stores.{IsStore, Owns, cells_had}
 use Rattle.kt_pool.specs.Contents.{Contents, at_cell, used}

@@ -1,7 +1,7 @@
 -- Of the stores of a tablet those in memory are stores of changes alone.
-use Rattle.std.proofs.Common.{◌≡◌, ◌⊎◌, ℕ, suc, ◌+◌, List, [], ◌∷◌, ◌++◌, map, length, take, subst, inl, inr, arith}
+use Rattle.std.proofs.Common.{◌≡◌, suc, ◌+◌, List, [], ◌∷◌, ◌++◌, map, length, take, subst, inl, inr, arith}
 use Rattle.kt_history.specs.Beside.{AllStand}
-use Rattle.kt_history.specs.Grown.{IsGrown, AllGrown}
+use Rattle.kt_history.specs.Grown.{AllGrown}
 use Rattle.kt_memrowset.proofs.Grown.{is_grown}
 use Rattle.kt_memrowset.specs.declared.store.MemRowSet.{MemRowSet}
 use Rattle.kt_pool.specs.Contents.{Contents}
@@ -18,14 +18,3 @@ module _ {R : Type 0} (stands : R → Contents → Type 0) (read : R → Content
   memory_grown active fs rs st =
       let e : suc (length fs) ≡ 1 + length fs = omega arith in
       subst (λ n. AllGrown (take n (held (shelf_of (read_by read) pool (kept active fs rs))))) e (is_grown active pool st.0, frozen_grown fs rs st.1)
-
-  rowsets_grown : ((r : R) → stands r pool → IsGrown (read r pool).store) → (rs : List R) → AllStand (stands_by stands) pool (map inr rs) → AllGrown (held (shelf_of (read_by read) pool (map inr rs)))
-  rowsets_grown law [] st = tt
-  rowsets_grown law (r ∷ rs) st = (law r st.0, rowsets_grown law rs st.1)
-
-  tail_grown : ((r : R) → stands r pool → IsGrown (read r pool).store) → (fs : List MemRowSet) (rs : List R) → AllStand (stands_by stands) pool (map inl fs ++ map inr rs) → AllGrown (held (shelf_of (read_by read) pool (map inl fs ++ map inr rs)))
-  tail_grown law [] rs st = rowsets_grown law rs st
-  tail_grown law (f ∷ fs) rs st = (is_grown f pool st.0, tail_grown law fs rs st.1)
-
-  pub all_grown : ((r : R) → stands r pool → IsGrown (read r pool).store) → (active : MemRowSet) (fs : List MemRowSet) (rs : List R) → AllStand (stands_by stands) pool (kept active fs rs) → AllGrown (held (shelf_of (read_by read) pool (kept active fs rs)))
-  all_grown law active fs rs st = (is_grown active pool st.0, tail_grown law fs rs st.1)

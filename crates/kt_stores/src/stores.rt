@@ -8,9 +8,10 @@ ghost use Rattle.kt_history.specs.Stores.{changes_upto};
 ghost use Rattle.kt_pool.specs.Contents.{used, free, with_reserved};
 
 use kt_base::NoMemory;
-use kt_history::{ChangeList, ChangeStore, RowStore};
+use kt_history::{ChangeList, RowStore};
 use kt_memrowset::MemRowSet;
 use kt_pool::{Full, Pool};
+use kt_views::ViewStore;
 use std::alloc::Global;
 use std::marker::Model;
 
@@ -163,28 +164,18 @@ impl<R: RowStore> Stores<R> {
     }
 }
 
-impl<R: ChangeStore> Stores<R> {
-    ghost use Rattle.kt_history.specs.Grown.{AllGrown};
+impl<R: ViewStore> Stores<R> {
+    ghost use Rattle.kt_history.specs.Stores.{Store};
+    ghost use Rattle.kt_views.specs.Told.{TellsUpTo};
     ghost use Rattle.kt_stores.specs.Shelf.{stores_of};
 
-    /// All that each has of a row are its changes.
-    pub fn grown(&self)
-        ensures { AllGrown (stores_of self.now) }
+    /// What tells the rows of the disk rowset at a place up to a time.
+    pub fn read_at(&self, alloc: Global, at: usize, upto: u64) -> Result<R::Read, NoMemory>
+        requires behind { self.now.frozen < at }
+        requires within { at < length self.now.shelf }
+        ensures { IfOk result (λ read. (store : Store) → slice_get (stores_of self.now) at ≡ Some store → TellsUpTo R.Read.row_of upto store read) }
     {
-        R::grown_law();
-        let _ = &self.active;
-    }
-
-    /// The changes of any store at or below a time, by rising key, then timestamp.
-    pub fn changes_at(&self, alloc: Global, at: usize, upto: u64) -> Result<ChangeList, NoMemory>
-        requires { at < length self.now.shelf }
-        ensures { IfOk result (λ list. option_map (changes_upto upto) (slice_get (stores_of self.now) at) ≡ Some list) }
-    {
-        let memory = self.frozen.len();
-        if at <= memory {
-            self.changes(alloc, at, upto)
-        } else {
-            self.rowsets[at - 1 - memory].changes(alloc, &self.pool, upto)
-        }
+        let memory = self.frozen();
+        self.rowsets[at - 1 - memory].read(alloc, &self.pool, upto)
     }
 }

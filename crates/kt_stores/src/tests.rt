@@ -112,7 +112,7 @@ fn each_store_lists_its_own_changes(rt: HostRuntime) -> Result<(), Fail> {
     assert_eq!(rt; stores.frozen(), 1);
     assert_eq!(rt; stores.changes(alloc, 0, 99)?.len(), 1);
     assert_eq!(rt; stores.changes(alloc, 1, 99)?.len(), 2);
-    assert_eq!(rt; stores.changes_at(alloc, 1, 11)?.len(), 1);
+    assert_eq!(rt; stores.changes(alloc, 1, 11)?.len(), 1);
     Ok(())
 }
 

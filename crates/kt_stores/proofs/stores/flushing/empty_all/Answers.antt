@@ -1,7 +1,7 @@
 use Rattle.std.proofs.Common.{[], ◌∷◌, subst}
 use Rattle.kt_history.specs.Beside.{AllStand}
 use Rattle.kt_history.proofs.Beside.{stand_right}
-use Rattle.kt_memrowset.specs.Stores.{IsStore, Owns}
+use Rattle.kt_memrowset.specs.Stores.{IsStore}
 use Rattle.kt_stores.proofs.Emptying.{one_emptied}
 use Rattle.kt_stores.proofs.stores.flushing.empty_all.Goals as goal
 
