@@ -3,3 +3,4 @@ pub mod Places
 pub mod Options
 pub mod Flushing
 pub mod Merging
+pub mod TakenSteps

@@ -4,12 +4,13 @@ use Rattle.std.specs.Prelude.{nat_lt, ◌==◌}
 use Rattle.std.proofs.lemmas.Bool.{cases_lt, cases_eq, ltb-false, ne_eqb, eq-eqb}
 use Rattle.std.proofs.lemmas.Bool.Decides.{nat_tests}
 use Rattle.kt_history.specs.declared.change.Change.{Change}
-use Rattle.kt_histlaws.specs.Histories.{first_some, or_else, AtMostOne}
+use Rattle.kt_history.specs.Rows.{Row}
+use Rattle.kt_histlaws.specs.Histories.{first_some, or_else, AtMostOne, ShowsKey}
 use Rattle.kt_history.specs.Stores.{Steps, Hist, after_steps, row_of, step_at, step_of}
 use Rattle.kt_histlaws.specs.Fitting.{RiseAbove, Rises, steps_above}
 use Rattle.kt_histlaws.proofs.OneKey.{step_at-append}
 use Rattle.kt_rowfiles.specs.Files.{put_rising, rising}
-use Rattle.kt_rowfiles.specs.Flushing.{EachAbove}
+use Rattle.kt_rowfiles.specs.Flushing.{EachAbove, cut}
 use Rattle.kt_rowfiles.specs.Merging.{all_above, joined_history, a_joined_history_is_alike}
 use Rattle.kt_rowfiles.proofs.Flushing.{cut_rows, cut_steps}
 use Rattle.kt_rowfiles.proofs.Options.{or_none, one_alone, at_most_rest}
@@ -130,12 +131,21 @@ all_once j (h ∷ hs) r one =
       each_append j (steps_above j h.steps) (all_above j hs) first.1 rest.1,
     )
 
+-- where the stores show one history from j on, the joined one is that history as it is told from j on
+pub joined_steps : (j : ℕ) (hs : List Hist) (whole : Hist) → ShowsKey j hs whole → RiseAbove j hs → RiseAbove j (whole ∷ []) → rising (all_above j hs) ≡ steps_above j whole.steps
+joined_steps j hs whole s rise whole_rises =
+    let once = all_once j hs rise s.one_step in
+    same_rising j (rising (all_above j hs)) (steps_above j whole.steps) (rising_rises j (all_above j hs) once.0 once.1) whole_rises.0
+    (λ t lt. step-rising t (all_above j hs) ∙ step-all j t hs lt ∙ s.steps t lt ∙ sym (cut_steps j t whole.steps lt))
+
+pub joined_cut : (j : ℕ) (hs : List Hist) (whole : Hist) → ShowsKey j hs whole → RiseAbove j hs → RiseAbove j (whole ∷ []) → joined_history j hs ≡ cut j whole
+joined_cut j hs whole s rise whole_rises =
+    ap (λ (first : Option Row). record { first = first; steps = rising (all_above j hs) }) (s.rows j (omega arith))
+    ∙ ap (λ (steps : Steps). record { first = row_of j whole; steps = steps }) (joined_steps j hs whole s rise whole_rises)
+
 pub joined_alike : a_joined_history_is_alike
 joined_alike j hs whole s rise whole_rises order =
-    let once = all_once j hs rise s.one_step in
-    let rises : Rises j (rising (all_above j hs)) = rising_rises j (all_above j hs) once.0 once.1 in
-    let same : rising (all_above j hs) ≡ steps_above j whole.steps = same_rising j (rising (all_above j hs)) (steps_above j whole.steps) rises whole_rises.0
-    (λ t lt. step-rising t (all_above j hs) ∙ step-all j t hs lt ∙ s.steps t lt ∙ sym (cut_steps j t whole.steps lt)) in
+    let same = joined_steps j hs whole s rise whole_rises in
     record {
       rows = λ t le. s.rows t le ∙ sym (or_none (row_of t (joined_history j hs)) ∙ ap (λ l. after_steps t l (first_some (map (row_of j) hs))) same
           ∙ ap (after_steps t (steps_above j whole.steps)) (s.rows j (omega arith)) ∙ cut_rows j t whole.steps whole.first le order);

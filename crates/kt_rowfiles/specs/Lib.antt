@@ -4,3 +4,4 @@ pub mod Laws
 pub mod Records
 pub mod Flushing
 pub mod Merging
+pub mod Taking

@@ -2,13 +2,15 @@
 //! whatever file they stand in; and what of a history is written to them.
 //!
 //! For the layers above: the definitions in `specs/` with their laws, and `RowRecords`, which gathers the records of one row where
-//! they lie and does them to a row. It stands on the definitions of changes and of histories.
+//! they lie, does them to a row and takes those that a job wants. It stands on the definitions of changes and of histories.
 #![tactic(auto)]
 
 pub mod laws;
 pub mod records;
+pub mod taking;
 #[cfg(test)]
 mod tests;
 pub mod writing;
 
 pub use records::RowRecords;
+pub use taking::{Span, back_over, copy_of, take_change, take_record, take_records};
