@@ -4,3 +4,4 @@ pub mod Options
 pub mod Flushing
 pub mod Merging
 pub mod TakenSteps
+pub mod Fitting

@@ -1,5 +1,6 @@
 pub mod Files
 pub mod Reading
+pub mod Fitting
 pub mod Laws
 pub mod Records
 pub mod Flushing

@@ -10,6 +10,7 @@ pub mod records;
 pub mod taking;
 #[cfg(test)]
 mod tests;
+mod undo_fit;
 pub mod writing;
 
 pub use records::RowRecords;
