@@ -81,12 +81,12 @@ last_none ts [] x h = h.0
 last_none ts (y ∷ front) x h = last_none ts front x h.1
 
 -- an operation without a COMMIT is the last, where those before the last have theirs
-record IsLast (xs : List KeyOp) (x : KeyOp) (ys front : List KeyOp) (y : KeyOp) : Type 0 where
-  front_is : xs ≡ front
-  none_behind : ys ≡ []
-  same : x ≡ y
+pub record IsLast (xs : List KeyOp) (x : KeyOp) (ys front : List KeyOp) (y : KeyOp) : Type 0 where
+  pub front_is : xs ≡ front
+  pub none_behind : ys ≡ []
+  pub same : x ≡ y
 
-only_last : (xs : List KeyOp) (ts : ℕ) (op : RowOp) (ys front : List KeyOp) (y : KeyOp) → xs ++ untold ts op ∷ ys ≡ front ++ y ∷ [] → AreTold front → IsLast xs (untold ts op) ys front y
+pub only_last : (xs : List KeyOp) (ts : ℕ) (op : RowOp) (ys front : List KeyOp) (y : KeyOp) → xs ++ untold ts op ∷ ys ≡ front ++ y ∷ [] → AreTold front → IsLast xs (untold ts op) ys front y
 only_last [] ts op ys [] y e t = record { front_is = refl; none_behind = cc; same = cc }
 only_last [] ts op ys (z ∷ front) y e t = absurd (let head : untold ts op ≡ z = cc in let f : true ≡ false = sym t.0 ∙ ap (λ (x : KeyOp). is_some x.told) (sym head) in cc)
 only_last (x ∷ []) ts op ys [] y e t = absurd (cc)

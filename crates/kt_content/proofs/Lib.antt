@@ -40,7 +40,9 @@ pub mod FreshNumbers
 pub mod Stages
 pub mod Keeping
 pub mod Ends
+pub mod NextOp
 pub mod StoresCome
 pub mod Opened
+pub mod OwedQueued
 pub mod KeepingLent
 pub mod OneContent
