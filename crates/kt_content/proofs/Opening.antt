@@ -21,7 +21,7 @@ use Rattle.kt_content.specs.Opening.{Placed, held_of, joined_store, moved_stores
 use Rattle.kt_content.proofs.MoreOps.{played-append, then_played}
 use Rattle.std.proofs.lemmas.Bool.{or_parts}
 
-hist_in-put : (q k : List ℕ) (h : Hist) (store : Store) → hist_in q (put key_cmp k h store) ≡ cond (eq_by_cmp key_cmp q k) h (hist_in q store)
+pub hist_in-put : (q k : List ℕ) (h : Hist) (store : Store) → hist_in q (put key_cmp k h store) ≡ cond (eq_by_cmp key_cmp q k) h (hist_in q store)
 hist_in-put q k h store = ap (λ o. unwrap_or o never) (find-put key_cmp nat_list_cmp_total q k h store)
     ∙ elim (eq_by_cmp key_cmp q k) as (λ b. unwrap_or (cond b (Some h) (find key_cmp q store)) never ≡ cond b h (hist_in q store)) [ true ↦ refl | false ↦ refl ]
 
@@ -39,11 +39,11 @@ other_joined p ts q k c (s ∷ stores) other = elim (same_place p s.0) as (λ b.
   | false ↦ ap (λ l. (s.0, hist_in k s.1) ∷ l) (other_joined p ts q k c stores other)
 ]
 
-same_moved : (ts : ℕ) (q : List ℕ) (ms : Moves) (stores : Placed) → held_of q (moved_stores ts q ms stores) ≡ moved ts ms (held_of q stores)
+pub same_moved : (ts : ℕ) (q : List ℕ) (ms : Moves) (stores : Placed) → held_of q (moved_stores ts q ms stores) ≡ moved ts ms (held_of q stores)
 same_moved ts q [] stores = refl
 same_moved ts q (m ∷ ms) stores = same_moved ts q ms (joined_store m.0 ts q m.1 stores) ∙ ap (moved ts ms) (same_joined m.0 ts q m.1 stores)
 
-other_moved : (ts : ℕ) (q k : List ℕ) (ms : Moves) (stores : Placed) → eq_by_cmp key_cmp k q ≡ false → held_of k (moved_stores ts q ms stores) ≡ held_of k stores
+pub other_moved : (ts : ℕ) (q k : List ℕ) (ms : Moves) (stores : Placed) → eq_by_cmp key_cmp k q ≡ false → held_of k (moved_stores ts q ms stores) ≡ held_of k stores
 other_moved ts q k [] stores other = refl
 other_moved ts q k (m ∷ ms) stores other = other_moved ts q k ms (joined_store m.0 ts q m.1 stores) other ∙ other_joined m.0 ts q k m.1 stores other
 

@@ -73,9 +73,9 @@ files_pass_none : (files : List (List Delta)) → FilesPass no_rules files
 files_pass_none [] = tt
 files_pass_none (file ∷ files) = (file_passes_none file, files_pass_none files)
 
-rowsets_pass_none : (rowsets : List DiskRowset) → RowsetsPass no_rules rowsets
-rowsets_pass_none [] = tt
-rowsets_pass_none (d ∷ rowsets) = (record { base = base_passes_none d.base; undos = files_pass_none d.undos; redos = files_pass_none d.redos }, rowsets_pass_none rowsets)
+rowsets_pass_none : (rules : Rules) (rowsets : List DiskRowset) → RowsetsPass rules rowsets → RowsetsPass no_rules rowsets
+rowsets_pass_none rules [] h = tt
+rowsets_pass_none rules (d ∷ rowsets) h = (record { base = base_passes_none d.base; undos = files_pass_none d.undos; redos = files_pass_none d.redos; fits = h.0.fits }, rowsets_pass_none rules rowsets h.1)
 
 pub without_rules : (rules : Rules) (fill : Row) (super : Super) (records : List Entry) (c : ℕ) (past : Past) → IsContent rules fill super records c past → IsContent no_rules fill super records c past
 without_rules rules fill super records c past is = record {
@@ -85,7 +85,7 @@ without_rules rules fill super records c past is = record {
   last = is.last;
   ends = is.ends;
   passes = records_pass_none fill records;
-  files = rowsets_pass_none super.rowsets;
+  files = rowsets_pass_none rules super.rowsets is.files;
   keys = is.keys;
 }
 

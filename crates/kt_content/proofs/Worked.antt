@@ -72,7 +72,7 @@ rowset_flushed = record { rowset = 1; last_dms = 0; base = (k, a) ∷ []; undos 
 abbrev pub super_flushed : Super
 super_flushed = record { a = 0; c = 4096; need = 2; last_mem = 1; rowsets = rowset_flushed ∷ [] }
 
-abbrev log_updated : List Entry
+abbrev pub log_updated : List Entry
 log_updated = Replicate 4096 (insert a) ∷ commit 4096 (Mem 1 ∷ []) ∷ Replicate 8192 (update b) ∷ commit 8192 (Delta 1 1 ∷ []) ∷ []
 
 abbrev pub held_updated : Held

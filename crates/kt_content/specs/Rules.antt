@@ -12,6 +12,7 @@ use Rattle.kt_records.specs.declared.entry.Entry.TheVariants.{Replicate, Commit}
 use Rattle.kt_history.specs.Stores.{Steps, Hist, row_of, never}
 use Rattle.kt_histlaws.specs.Flights.{AllOps}
 use Rattle.kt_rowfiles.specs.Files.{DiskRowset}
+use Rattle.kt_rowfiles.specs.Fitting.{undos_fit}
 
 -- the keys that are the one spelling of key cells, the rows that the columns take, and the cells that a row may have in some of its columns
 pub record Rules : Type 0 where
@@ -67,10 +68,12 @@ abbrev pub FilesPass : Rules → List (List Delta) → Type 0
 FilesPass rules [] = Unit {0}
 FilesPass rules (file ∷ files) = FilePasses rules file × FilesPass rules files
 
+-- a rowset of such rows and records, of which the UNDO records fit the rows from which they lead back
 pub record RowsetPasses (rules : Rules) (d : DiskRowset) : Type 0 where
   pub base : BasePasses rules d.base
   pub undos : FilesPass rules d.undos
   pub redos : FilesPass rules d.redos
+  pub fits : undos_fit d ≡ true
 
 abbrev pub RowsetsPass : Rules → List DiskRowset → Type 0
 RowsetsPass rules [] = Unit {0}
