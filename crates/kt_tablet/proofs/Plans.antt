@@ -1,11 +1,10 @@
 -- The plan of a run is taken before anything has happened.
-use Rattle.std.proofs.Common.{◌≡◌, ℕ, zero, suc, List, [], ◌∷◌, Option, refl, false, sym, ap, ◌∙◌, subst, map}
+use Rattle.std.proofs.Common.{◌≡◌, ℕ, List, [], ◌∷◌, Option, refl, false, sym, ap, ◌∙◌, subst, map}
 use Rattle.std.specs.Prelude.{not}
 use Rattle.std.specs.List.{filter}
 use Rattle.kt_history.specs.declared.command.Command.{Command}
 use Rattle.kt_history.specs.History.{Past}
-use Rattle.kt_history.specs.Operations.{DifferentKeys}
-use Rattle.kt_history.specs.Machine.{Workload, Turn, HasDifferentKeys, first_turns, start, state_after, command_at, ops_of}
+use Rattle.kt_history.specs.Machine.{Turn, first_turns, start, state_after}
 use Rattle.kt_histlaws.specs.Histories.{Shows, hists, timeline}
 use Rattle.kt_history.specs.Stores.{Steps, Store}
 use Rattle.kt_histlaws.specs.Pending.{Aloft, Same, done, is_pending}

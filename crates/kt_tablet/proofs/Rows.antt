@@ -22,7 +22,7 @@ use Rattle.kt_histlaws.proofs.Applied.{applies, apply_stands, outcome_told}
 use Rattle.kt_histlaws.proofs.Applying.{stores_under}
 use Rattle.kt_histlaws.proofs.Shown.{at_most_one}
 use Rattle.kt_stores.specs.Shelf.{place_of}
-use Rattle.kt_tablet.specs.Filling.{filled}
+use Rattle.kt_tablet.specs.Filling.{all_told}
 use Rattle.kt_tablet.specs.declared.tablet.FlyingWrite.{FlyingWrite}
 use Rattle.std.specs.List.{list_any, position_or_len, remove}
 use Rattle.kt_tablet.specs.Rows.{IsNoted, AreNoted, commit_row, AreRecorded, AreWritten}
@@ -30,7 +30,7 @@ use Rattle.kt_tablet.specs.Views.{View, IsSound, IsReady, IsProvided, AreProvide
 use Rattle.kt_tablet.specs.Visits.{MayApply, HasApplied, HasNoted, IsRunOutcome, IsDone, IsWritten, HasHandedOut, flight_of}
 use Rattle.kt_tablet.proofs.Flights.{IsPlaceOf, of_another, placed_at, flying_one, owed_of, owed_at, flight_at, flight_on, next_at, within, owed_set, provided_set, provided_at, fliers_set, length_set, apart_set, place_own, aloft_there, notes_there, notes_set, notes_removed}
 use Rattle.kt_tablet.proofs.Applying.{need_at}
-use Rattle.kt_tablet.proofs.Several.{alone_at_place, place_filled}
+use Rattle.kt_tablet.proofs.Several.{alone_at_place, place_told}
 use Rattle.kt_tablet.proofs.Written.{written_at}
 use Rattle.kt_tablet.proofs.Visits.{same_flight}
 
@@ -44,15 +44,15 @@ under_next readings view j ts op sound next first opens =
     stores_under view.core.stores view.core.aloft (on_nth j advance view.core.aloft) st.past view.core.a op.key ts st.stores.same g.above g.goes g.awaits
 
 -- and but for the store that the row goes to none has it
-pub alone_next : {C : Type 0} (readings : C → Option (List ℕ)) (view : View C) (j ts : ℕ) (op : RowOp) (fill : Row) (stores : List Store) → IsSound readings view → view.core.stores ≡ map (filled fill) stores → IsNextOp j view.core.aloft ts op → place_of op.key stores < length stores
+pub alone_next : {C : Type 0} (readings : C → Option (List ℕ)) (view : View C) (j ts : ℕ) (op : RowOp) (fill : Row) (memory : ℕ) (stores : List Store) → IsSound readings view → view.core.stores ≡ all_told fill memory stores → IsNextOp j view.core.aloft ts op → place_of op.key stores < length stores
     → (first : Past) → Opens view.opening view.mark view.core.opened first → Alone (place_of op.key stores) (map (row_of ts) (hists op.key view.core.stores))
-alone_next readings view j ts op fill stores sound same next low first opens =
+alone_next readings view j ts op fill memory stores sound same next low first opens =
     let core = record view.core { first = first } in
     let st = sound.stands first opens in
     let above = (applies core st j ts op next).above in
     let one = at_most_one core st ts op.key (omega (arith, above)) in
     subst (λ ss. Alone (place_of op.key stores) (map (row_of ts) (hists op.key ss))) (sym same)
-    (alone_at_place fill op.key ts stores (subst (λ ss. AllUnder ts (hists op.key ss)) same (under_next readings view j ts op sound next first opens)) (omega (arith, low)) (subst (λ ss. AtMostOne (map (row_of ts) (hists op.key ss))) same one))
+    (alone_at_place fill memory op.key ts stores (subst (λ ss. AllUnder ts (hists op.key ss)) same (under_next readings view j ts op sound next first opens)) (omega (arith, low)) (subst (λ ss. AtMostOne (map (row_of ts) (hists op.key ss))) same one))
 
 new_applied : (core : Core) (j i ts : ℕ) (op : RowOp) (aloft : List Aloft) (stores : List Store) → aloft ≡ on_nth j advance core.aloft → stores ≡ pushed_if i op.key ts (effect core.work.fill op.kind op.cells (live core.stores op.key ts)).0 core.stores
     → record core { aloft = aloft; stores = stores } ≡ applied core j i ts op
@@ -296,10 +296,10 @@ applied_beside view old core names notes places pool e same kept =
     λ k. record (e k) { core = core; names = f k; notes = notes; places = p k; pool = pool }
 
 -- what was written of the row
-pub has_noted : {C : Type 0} (view old new : View C) (s at j : ℕ) (flights : List FlyingWrite) (w x : FlyingWrite) (op : RowOp) (outcome : Outcome) (row : CommitRow) (fill : Row) (stores : List Store) (name : Target) → view ≡ old
-    → view.core.aloft ≡ map aloft_of flights → view.notes ≡ map rows_of flights → view.core.stores ≡ map (filled fill) stores → Applying flights s at j w op
+pub has_noted : {C : Type 0} (view old new : View C) (s at j : ℕ) (flights : List FlyingWrite) (w x : FlyingWrite) (op : RowOp) (outcome : Outcome) (row : CommitRow) (fill : Row) (memory : ℕ) (stores : List Store) (name : Target) → view ≡ old
+    → view.core.aloft ≡ map aloft_of flights → view.notes ≡ map rows_of flights → view.core.stores ≡ all_told fill memory stores → Applying flights s at j w op
     → slice_get view.names (place_of op.key stores) ≡ Some name → row ≡ commit_row name outcome → x.rows.items ≡ w.rows.items ++ row ∷ [] → new.notes ≡ map rows_of (slice_set flights j x) → HasNoted old new s at outcome
-has_noted view old new s at j flights w x op outcome row fill stores name e flown noted same a named row_is rows now = subst (λ v. HasNoted v new s at outcome) e (record {
+has_noted view old new s at j flights w x op outcome row fill memory stores name e flown noted same a named row_is rows now = subst (λ v. HasNoted v new s at outcome) e (record {
   j = j;
   flight = aloft_of w;
   flies = ap (λ ws. slice_get ws j) flown ∙ aloft_there flights j w (within s flights j a.place) a.here;
@@ -307,7 +307,7 @@ has_noted view old new s at j flights w x op outcome row fill stores name e flow
   op = op;
   row = a.row;
   name = name;
-  named = ap (λ ss. slice_get view.names (place_of op.key ss)) same ∙ ap (slice_get view.names) (place_filled fill op.key stores) ∙ named;
+  named = ap (λ ss. slice_get view.names (place_of op.key ss)) same ∙ ap (slice_get view.names) (place_told fill memory op.key stores) ∙ named;
   notes = now ∙ notes_set flights j w x row a.here rows ∙ ap (λ r. on_nth j (λ rs. rs ++ r ∷ []) (map rows_of flights)) row_is ∙ ap (on_nth j (λ rs. rs ++ commit_row name outcome ∷ [])) (sym noted);
 })
 

@@ -1,5 +1,5 @@
 -- What a scan is answered with, and what stands in its way.
-use Rattle.std.proofs.Common.{◌≡◌, ℕ, zero, suc, ◌+◌, ◌<◌, ◌≤◌, List, [], ◌∷◌, ◌++◌, Some, None, Option, refl, true, false, Bool, ◌&&◌, cond, sym, ap, ◌∙◌, subst, arith, map, take, min, max}
+use Rattle.std.proofs.Common.{◌≡◌, ℕ, zero, suc, ◌+◌, ◌-◌, ◌<◌, ◌≤◌, List, [], ◌∷◌, ◌++◌, Some, None, Option, refl, true, false, Bool, ◌&&◌, cond, sym, ap, ◌∙◌, subst, arith, map, take, get_or, min, max}
 use Rattle.std.specs.Prelude.{not, nat_lt, nat_le, IsSome, slice_get, unwrap_or, if◌then◌else◌}
 use Rattle.std.specs.Option.{option_map}
 use Rattle.std.specs.List.{filter, list_all, All}
@@ -18,11 +18,15 @@ use Rattle.kt_history.specs.Machine.{Flying, none_flies, least}
 use Rattle.kt_mvcc.specs.Waits.{lesser_of}
 use Rattle.kt_histlaws.specs.Histories.{hists, first_some, AtMostOne}
 use Rattle.kt_history.specs.Stores.{Steps, Hist, Store, after_steps, row_of, hist_in, changes_upto}
+use Rattle.kt_views.specs.Told.{TellsUpTo}
 use Rattle.kt_histlaws.specs.Core.{Core, Stands, flown_by}
 use Rattle.kt_histlaws.proofs.Shown.{snapshot_told, at_most_one}
-use Rattle.kt_tablet.specs.declared.snap.SnapView.{SnapView}
+use Rattle.kt_tablet.specs.declared.snap.Copied.{Copied}
+use Rattle.kt_tablet.specs.declared.snap.Copied.TheVariants as copied
+use Rattle.kt_tablet.specs.declared.snap_view.SnapView.{SnapView}
+use Rattle.kt_tablet.specs.Copies.{mark_of, copied_row}
 use Rattle.kt_tablet.specs.declared.snap.Snap.{Snap}
-use Rattle.kt_tablet.specs.Filling.{filled_change, filled_hist, filled}
+use Rattle.kt_tablet.specs.Filling.{filled_change, filled_hist, filled, as_told, all_told}
 use Rattle.kt_history.specs.Grown.{IsGrown, AllBare, AllGrown}
 use Rattle.kt_stores.proofs.Beside.{some_is, none_some}
 use Rattle.kt_tablet.specs.Snaps.{rises, changes_of, step_in, row_in}
@@ -31,7 +35,7 @@ use Rattle.kt_mvcc.specs.declared.flier.Flier.{Flier}
 use Rattle.kt_mvcc.specs.Flying.{least_of}
 use Rattle.kt_tablet.specs.declared.tablet.FlyingWrite.{FlyingWrite}
 use Rattle.kt_tablet.specs.Views.{View, IsSound, Opens, aloft_of, flier_of}
-use Rattle.kt_tablet.specs.Reads.{IsViewOf, AreViews, view_row, ShowsRun, none_later, IsCopied, HasDrawn, MaySnapshot, look_of, time_in, time_of, IsAncient, IsBusy, MayReadNow, HasRead}
+use Rattle.kt_tablet.specs.Reads.{IsViewOf, IsCopyOf, AreCopies, ShowsRun, none_later, HoldsUpTo, TellsFrom, IsCopied, HasDrawn, MaySnapshot, look_of, time_in, time_of, IsAncient, IsBusy, MayReadNow, HasRead}
 use Rattle.kt_tablet.proofs.Visits.{new_answered, told_still, least_alike}
 use Rattle.kt_histlaws.specs.Core.{now}
 use Rattle.kt_histlaws.specs.Events.{answered_rows}
@@ -170,47 +174,102 @@ pub least_is : {C : Type 0} (view old : View C) (flights : List FlyingWrite) (fl
 least_is view old flights flying found e aloft held is = ap (λ v. least (map flown_by v.core.aloft)) (sym e) ∙ ap (λ fs. least (map flown_by fs)) aloft ∙ sym (least_alike flights) ∙ ap least_of (sym held) ∙ sym is
 
 -- WHAT IS SHOWN
--- the rows of views are those of their stores
-row_is : (fill : Row) (since t u : ℕ) (key : List ℕ) (store : Store) (view : SnapView) → u ≤ t → IsGrown store → IsViewOf since t fill store view → view_row key u view ≡ row_of u (hist_in key (filled fill store))
-row_is fill since t u key store view le grown is = (λ k. row_in (is.fill_is k) (is.changes k) key u) ∙ upto_tells fill t u key store grown.sorted grown.bare le
+-- a store in memory is nothing but its changes
+abbrev GrownIf : ℕ → Store → Type 0
+GrownIf zero store = Unit {0}
+GrownIf (suc memory) store = IsGrown store
 
-rows_are : (fill : Row) (since t u : ℕ) (key : List ℕ) (stores : List Store) (views : List SnapView) → u ≤ t → AllGrown stores → AreViews since t fill stores views → map (view_row key u) views ≡ map (row_of u) (hists key (map (filled fill) stores))
-rows_are fill since t u key [] [] le grown are = refl
-rows_are fill since t u key [] (v ∷ views) le grown are = absurd are
-rows_are fill since t u key (s ∷ stores) [] le grown are = absurd are
-rows_are fill since t u key (s ∷ stores) (v ∷ views) le grown are = λ k. row_is fill since t u key s v le grown.0 are.0 k ∷ rows_are fill since t u key stores views le grown.1 are.1 k
+first_grown : (memory : ℕ) (s : Store) (stores : List Store) → AllGrown (take memory (s ∷ stores)) → GrownIf memory s
+first_grown zero s stores grown = tt
+first_grown (suc memory) s stores grown = grown.0
 
-all_views : (P : SnapView → Type 0) (fill : Row) (since t : ℕ) (stores : List Store) (views : List SnapView) → ((s : Store) (v : SnapView) → IsViewOf since t fill s v → P v) → AreViews since t fill stores views → All P views
-all_views P fill since t [] [] each are = All-nil P
-all_views P fill since t [] (v ∷ views) each are = absurd are
-all_views P fill since t (s ∷ stores) [] each are = absurd are
-all_views P fill since t (s ∷ stores) (v ∷ views) each are = All-cons P v views (each s v are.0) (all_views P fill since t stores views each are.1)
+rest_grown : (memory : ℕ) (s : Store) (stores : List Store) → AllGrown (take memory (s ∷ stores)) → AllGrown (take (memory - 1) stores)
+rest_grown zero s stores grown = let e : 0 ≡ 0 - 1 = omega arith in subst (λ n. AllGrown (take n stores)) e tt
+rest_grown (suc memory) s stores grown = let e : memory ≡ suc memory - 1 = omega arith in subst (λ n. AllGrown (take n stores)) e grown.1
 
-pub shows_run : (core : Core) (st : Stands core) (snap : Snap) (stores : List Store) (fill : Row) → core.stores ≡ map (filled fill) stores → AllGrown stores → snap.mark ≡ core.a → AreViews snap.mark snap.t fill stores snap.views
-    → none_flies snap.t (map flown_by core.aloft) ≡ true → ShowsRun core snap
-shows_run core st snap stores fill same grown mark are settled = record {
-  marks = all_views (λ v. v.since ≤ snap.mark) fill snap.mark snap.t stores snap.views (λ s v is. let e = is.since_is in omega (arith, e)) are;
-  rows = λ u key lo hi. ap first_some (rows_are fill snap.mark snap.t u key stores snap.views hi grown are) ∙ ap (λ ss. first_some (map (row_of u) (hists key ss))) (sym same) ∙ snapshot_told core st snap.t u key settled (omega (arith, mark, lo)) hi;
-  one = λ u key lo hi. subst AtMostOne (sym (rows_are fill snap.mark snap.t u key stores snap.views hi grown are)) (subst (λ ss. AtMostOne (map (row_of u) (hists key ss))) same (at_most_one core st u key (omega (arith, mark, lo))));
+none_low : (n : ℕ) → 0 ≤ n
+none_low n = omega arith
+
+same_low : (m n : ℕ) → m ≡ n → m ≤ n
+same_low m n e = omega (arith, e)
+
+-- the rows of copies are those of their stores
+module _ {V : Type 0} (row : V → List ℕ → ℕ → Option Row) (fill : Row) (since t : ℕ) where
+  row_is : (u memory : ℕ) (key : List ℕ) (store : Store) (view : Copied V) → u ≤ t → GrownIf memory store → IsCopyOf row since t fill memory store view → copied_row row key u view ≡ row_of u (hist_in key (as_told memory fill store))
+  row_is u zero key store (copied.Memory v) le grown is = absurd is
+  row_is u zero key store (copied.Rowset v) le grown is = is key u le
+  row_is u (suc memory) key store (copied.Memory v) le grown is = (λ k. row_in (is.fill_is k) (is.changes k) key u) ∙ upto_tells fill t u key store grown.sorted grown.bare le
+  row_is u (suc memory) key store (copied.Rowset v) le grown is = absurd is
+
+  rows_are : (u : ℕ) (key : List ℕ) (memory : ℕ) (stores : List Store) (views : List (Copied V)) → u ≤ t → AllGrown (take memory stores) → AreCopies row since t fill memory stores views
+      → map (copied_row row key u) views ≡ map (row_of u) (hists key (all_told fill memory stores))
+  rows_are u key memory [] [] le grown are = refl
+  rows_are u key memory [] (v ∷ views) le grown are = absurd are
+  rows_are u key memory (s ∷ stores) [] le grown are = absurd are
+  rows_are u key memory (s ∷ stores) (v ∷ views) le grown are =
+      let here = row_is u memory key s v le (first_grown memory s stores grown) are.0 in
+      let rest = rows_are u key (memory - 1) stores views le (rest_grown memory s stores grown) are.1 in
+      λ k. here k ∷ rest k
+
+  all_copies : (P : Copied V → Type 0) (memory : ℕ) (stores : List Store) (views : List (Copied V)) → ((n : ℕ) (s : Store) (v : Copied V) → IsCopyOf row since t fill n s v → P v) → AreCopies row since t fill memory stores views → All P views
+  all_copies P memory [] [] each are = All-nil P
+  all_copies P memory [] (v ∷ views) each are = absurd are
+  all_copies P memory (s ∷ stores) [] each are = absurd are
+  all_copies P memory (s ∷ stores) (v ∷ views) each are = All-cons P v views (each memory s v are.0) (all_copies P (memory - 1) stores views each are.1)
+
+  marked : (memory : ℕ) (s : Store) (v : Copied V) → IsCopyOf row since t fill memory s v → mark_of v ≤ since
+  marked zero s (copied.Memory v) is = absurd is
+  marked zero s (copied.Rowset v) is = none_low since
+  marked (suc memory) s (copied.Memory v) is = same_low v.since since is.since_is
+  marked (suc memory) s (copied.Rowset v) is = absurd is
+
+  -- one copy more
+  pub views_more : (memory : ℕ) (stores : List Store) (at : ℕ) (views : List (Copied V)) (s : Store) (v : Copied V) → slice_get stores at ≡ Some s → IsCopyOf row since t fill (memory - at) s v
+      → AreCopies row since t fill memory (take at stores) views → AreCopies row since t fill memory (take (at + 1) stores) (views ++ v ∷ [])
+  views_more memory [] at views s v here is all = none_some s here
+  views_more memory (x ∷ stores) zero [] s v here is all =
+      let e : memory - 0 ≡ memory = omega arith in
+      (subst (λ n. IsCopyOf row since t fill n x v) e (subst (λ x. IsCopyOf row since t fill (memory - 0) x v) (sym (some_is x s here)) is), tt)
+  views_more memory (x ∷ stores) zero (w ∷ views) s v here is all = absurd all
+  views_more memory (x ∷ stores) (suc at) [] s v here is all = absurd all
+  views_more memory (x ∷ stores) (suc at) (w ∷ views) s v here is all =
+      let e : suc (at + 1) ≡ suc at + 1 = omega arith in
+      let m : memory - suc at ≡ (memory - 1) - at = omega arith in
+      subst (λ n. AreCopies row since t fill memory (take n (x ∷ stores)) (w ∷ views ++ v ∷ [])) e (all.0, views_more (memory - 1) stores at views s v here (subst (λ n. IsCopyOf row since t fill n s v) m is) all.1)
+
+  -- what is copied of a store in memory, and of a disk rowset
+  pub memory_copied : (frozen at : ℕ) (s store : Store) (v : SnapView) → at ≤ frozen → s ≡ store → IsViewOf since t fill s v → IsCopyOf row since t fill (suc frozen - at) store (copied.Memory v)
+  memory_copied frozen at s store v low same is =
+      let e : suc (frozen - at) ≡ suc frozen - at = omega (arith, low) in
+      subst (λ n. IsCopyOf row since t fill n store (copied.Memory v)) e (subst (λ x. IsViewOf since t fill x v) same is)
+
+  pub rowset_copied : (frozen at : ℕ) (store : Store) (v : V) → frozen < at → TellsUpTo row t store v → IsCopyOf row since t fill (suc frozen - at) store (copied.Rowset v)
+  rowset_copied frozen at store v behind is = let e : 0 ≡ suc frozen - at = omega (arith, behind) in subst (λ n. IsCopyOf row since t fill n store (copied.Rowset v)) e is
+
+pub shows_run : {V : Type 0} (row : V → List ℕ → ℕ → Option Row) (core : Core) (st : Stands core) (snap : Snap V) (memory : ℕ) (stores : List Store) (fill : Row) → core.stores ≡ all_told fill memory stores → AllGrown (take memory stores) → snap.mark ≡ core.a
+    → AreCopies row snap.mark snap.t fill memory stores snap.views → none_flies snap.t (map flown_by core.aloft) ≡ true → ShowsRun row core snap
+shows_run row core st snap memory stores fill same grown mark are settled = record {
+  marks = all_copies row fill snap.mark snap.t (λ v. mark_of v ≤ snap.mark) memory stores snap.views (marked row fill snap.mark snap.t) are;
+  rows = λ u key lo hi.
+      ap first_some (rows_are row fill snap.mark snap.t u key memory stores snap.views hi grown are) ∙ ap (λ ss. first_some (map (row_of u) (hists key ss))) (sym same) ∙ snapshot_told core st snap.t u key settled (omega (arith, mark, lo)) hi;
+  one = λ u key lo hi. subst AtMostOne (sym (rows_are row fill snap.mark snap.t u key memory stores snap.views hi grown are)) (subst (λ ss. AtMostOne (map (row_of u) (hists key ss))) same (at_most_one core st u key (omega (arith, mark, lo))));
 }
 
-pub shows_views : {C : Type 0} (readings : C → Option (List ℕ)) (view old : View C) (snap : Snap) (stores : List Store) (fill : Row) → view ≡ old → IsSound readings view
-    → view.core.stores ≡ map (filled fill) stores → AllGrown stores → snap.mark ≡ view.core.a → AreViews snap.mark snap.t fill stores snap.views → none_flies snap.t (map flown_by old.core.aloft) ≡ true
-    → (first : Past) → Opens old.opening old.mark old.core.opened first → ShowsRun (record old.core { first = first }) snap
-shows_views readings view old snap stores fill e sound same grown mark are settled first told =
-    subst (λ v. ShowsRun (record v.core { first = first }) snap) e
-    (shows_run (record view.core { first = first }) (sound.stands first (subst (λ v. Opens v.opening v.mark v.core.opened first) (sym e) told)) snap stores fill same grown mark are
+pub shows_views : {C V : Type 0} (row : V → List ℕ → ℕ → Option Row) (readings : C → Option (List ℕ)) (view old : View C) (snap : Snap V) (frozen : ℕ) (stores : List Store) (fill : Row) → view ≡ old → IsSound readings view
+    → view.core.stores ≡ all_told fill (suc frozen) stores → AllGrown (take (1 + frozen) stores) → snap.mark ≡ view.core.a → AreCopies row snap.mark snap.t fill (suc frozen) stores snap.views → none_flies snap.t (map flown_by old.core.aloft) ≡ true
+    → (first : Past) → Opens old.opening old.mark old.core.opened first → ShowsRun row (record old.core { first = first }) snap
+shows_views row readings view old snap frozen stores fill e sound same grown mark are settled first told =
+    let n : 1 + frozen ≡ suc frozen = omega arith in
+    subst (λ v. ShowsRun row (record v.core { first = first }) snap) e
+    (shows_run row (record view.core { first = first }) (sound.stands first (subst (λ v. Opens v.opening v.mark v.core.opened first) (sym e) told)) snap (suc frozen) stores fill same (subst (λ m. AllGrown (take m stores)) n grown) mark are
     (subst (λ v. none_flies snap.t (map flown_by v.core.aloft) ≡ true) (sym e) settled))
 
--- one view more
-pub views_more : (fill : Row) (since t : ℕ) (stores : List Store) (at : ℕ) (views : List SnapView) (s : Store) (v : SnapView) → slice_get stores at ≡ Some s → IsViewOf since t fill s v → AreViews since t fill (take at stores) views → AreViews since t fill (take (at + 1) stores) (views ++ v ∷ [])
-views_more fill since t [] at views s v here is all = none_some s here
-views_more fill since t (x ∷ stores) zero [] s v here is all = (subst (λ x. IsViewOf since t fill x v) (sym (some_is x s here)) is, tt)
-views_more fill since t (x ∷ stores) zero (w ∷ views) s v here is all = absurd all
-views_more fill since t (x ∷ stores) (suc at) [] s v here is all = absurd all
-views_more fill since t (x ∷ stores) (suc at) (w ∷ views) s v here is all =
-    let e : suc (at + 1) ≡ suc at + 1 = omega arith in
-    subst (λ n. AreViews since t fill (take n (x ∷ stores)) (w ∷ views ++ v ∷ [])) e (all.0, views_more fill since t stores at views s v here is all.1)
+-- a store of the first so many
+pub get_take : (stores : List Store) (n at : ℕ) (s : Store) → at < n → slice_get stores at ≡ Some s → slice_get (take n stores) at ≡ Some s
+get_take [] n at s low here = none_some s here
+get_take (x ∷ stores) zero at s low here = absurd (omega (arith, low))
+get_take (x ∷ stores) (suc n) zero s low here = here
+get_take (x ∷ stores) (suc n) (suc at) s low here = get_take stores n at s (omega (arith, low)) here
 
 -- the store whose changes these are
 pub store_of_changes : (t : ℕ) (o : Option Store) (list : List KeyChange) → option_map (changes_upto t) o ≡ Some list → (s : Store) × (o ≡ Some s) × (list ≡ changes_upto t s)
@@ -235,11 +294,32 @@ upto_stamped t [] = refl
 upto_stamped t (r ∷ store) = list_all-append (λ (d : KeyChange). nat_le d.ts t) (map (λ (c : ℕ × Change). record { key = r.0; ts = c.0; change = c.1 }) (filter (λ c. nat_le c.0 t) r.1.steps)) (changes_upto t store)
     ∙ ap (λ b. b && none_later t (changes_upto t store)) (stamped r.0 t r.1.steps) ∙ upto_stamped t store
 
-pub copied : (snap : Snap) (stores : List Store) (fill : Row) → AreViews snap.mark snap.t fill stores snap.views → IsCopied snap
-copied snap stores fill are = record {
-  upto = all_views (λ v. none_later snap.t v.changes ≡ true) fill snap.mark snap.t stores snap.views (λ s v is. ap (none_later snap.t) is.changes ∙ upto_stamped snap.t s) are;
-  since = all_views (λ v. v.since ≡ snap.mark) fill snap.mark snap.t stores snap.views (λ s v is. is.since_is) are;
+module _ {V : Type 0} (row : V → List ℕ → ℕ → Option Row) (fill : Row) (since t : ℕ) where
+  holds_upto : (memory : ℕ) (s : Store) (v : Copied V) → IsCopyOf row since t fill memory s v → HoldsUpTo t v
+  holds_upto zero s (copied.Memory v) is = absurd is
+  holds_upto zero s (copied.Rowset v) is = tt
+  holds_upto (suc memory) s (copied.Memory v) is = ap (none_later t) is.changes ∙ upto_stamped t s
+  holds_upto (suc memory) s (copied.Rowset v) is = absurd is
+
+  tells_from : (memory : ℕ) (s : Store) (v : Copied V) → IsCopyOf row since t fill memory s v → TellsFrom since v
+  tells_from zero s (copied.Memory v) is = absurd is
+  tells_from zero s (copied.Rowset v) is = tt
+  tells_from (suc memory) s (copied.Memory v) is = is.since_is
+  tells_from (suc memory) s (copied.Rowset v) is = absurd is
+
+pub are_copied : {V : Type 0} (row : V → List ℕ → ℕ → Option Row) (snap : Snap V) (memory : ℕ) (stores : List Store) (fill : Row) → AreCopies row snap.mark snap.t fill memory stores snap.views → IsCopied snap
+are_copied row snap memory stores fill are = record {
+  upto = all_copies row fill snap.mark snap.t (HoldsUpTo snap.t) memory stores snap.views (holds_upto row fill snap.mark snap.t) are;
+  since = all_copies row fill snap.mark snap.t (TellsFrom snap.mark) memory stores snap.views (tells_from row fill snap.mark snap.t) are;
 }
+
+-- so each copy tells rows from the mark on
+from_mark : {V : Type 0} (mark : ℕ) (v : Copied V) → TellsFrom mark v → mark_of v ≤ mark
+from_mark mark (copied.Memory v) e = same_low v.since mark e
+from_mark mark (copied.Rowset v) e = none_low mark
+
+pub all_marked : {V : Type 0} (snap : Snap V) → IsCopied snap → All (λ v. mark_of v ≤ snap.mark) snap.views
+all_marked snap is k d low = from_mark snap.mark (get_or snap.views k d) (is.since k d low)
 
 -- THE EVENTS
 -- a scan that stands in the plan

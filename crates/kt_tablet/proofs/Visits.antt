@@ -1,5 +1,5 @@
 -- What an event leaves is sound, as its goals say it.
-use Rattle.std.proofs.Common.{◌≡◌, ℕ, suc, ◌+◌, ◌<◌, ◌≤◌, ◌^◌, List, [], ◌∷◌, ◌++◌, Some, None, Option, refl, true, false, Bool, sym, ap, ◌∙◌, subst, arith, map, length, drop}
+use Rattle.std.proofs.Common.{◌≡◌, ℕ, suc, ◌+◌, ◌≤◌, List, [], ◌∷◌, ◌++◌, Some, None, Option, refl, true, false, Bool, sym, ap, ◌∙◌, subst, arith, map, length, drop}
 use Rattle.std.specs.Prelude.{IsSome, is_some, max, min, ◌==◌, ◌&&◌, ◌||◌, not, cond}
 use Rattle.std.specs.List.{filter, list_any}
 use Rattle.std.proofs.lemmas.List.{append-nil}

@@ -6,4 +6,5 @@ pub mod Visits
 pub mod Rows
 pub mod Snaps
 pub mod SnapLaws
+pub mod Copies
 pub mod Reads

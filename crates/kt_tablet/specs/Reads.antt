@@ -1,5 +1,5 @@
 -- When a scan may be answered, what stands in its way, and what it shows.
-use Rattle.std.specs.Prelude.{◌≡◌, ◌<◌, ◌≤◌, ℕ, ◌==◌, nat_le, Bool, true, false, List, [], ◌∷◌, map, Option, Some, None, IsSome, unwrap_or}
+use Rattle.std.specs.Prelude.{◌≡◌, ◌<◌, ◌≤◌, ◌-◌, ℕ, zero, suc, ◌==◌, nat_le, Bool, true, false, List, [], ◌∷◌, map, Option, Some, None, IsSome, unwrap_or}
 use Rattle.std.specs.List.{list_any, list_all, All}
 use Rattle.std.specs.FinMap.Entries.{find}
 use Rattle.kt_history.specs.declared.scan.At.{At}
@@ -9,15 +9,18 @@ use Rattle.kt_history.specs.declared.changes.KeyChange.{KeyChange}
 use Rattle.kt_history.specs.Rows.{Row, key_cmp}
 use Rattle.kt_history.specs.History.{rows_at}
 use Rattle.kt_history.specs.Stores.{Store, changes_upto}
+use Rattle.kt_views.specs.Told.{TellsUpTo}
 use Rattle.kt_history.specs.Machine.{Turn, nth, command_at, IfScan, none_flies, least}
 use Rattle.kt_histlaws.specs.Histories.{first_some, AtMostOne}
 use Rattle.kt_histlaws.specs.Core.{Core, flown_by, run_past}
 use Rattle.kt_histlaws.specs.Events.{answered, answered_rows}
-use Rattle.kt_tablet.specs.declared.snap.SnapView.{SnapView}
+use Rattle.kt_tablet.specs.declared.snap_view.SnapView.{SnapView}
 use Rattle.kt_tablet.specs.declared.snap.Snap.{Snap}
 use Rattle.kt_tablet.specs.declared.tablet.scan.SnapNo.{SnapNo}
 use Rattle.kt_tablet.specs.declared.tablet.scan.SnapNo.TheVariants as no
-use Rattle.kt_tablet.specs.Snaps.{row_in}
+use Rattle.kt_tablet.specs.declared.snap.Copied.{Copied}
+use Rattle.kt_tablet.specs.declared.snap.Copied.TheVariants as copied
+use Rattle.kt_tablet.specs.Copies.{mark_of, copied_row}
 use Rattle.kt_tablet.specs.Views.{View}
 
 -- a scan of the present has drawn its time, and another has not
@@ -103,28 +106,42 @@ pub record IsViewOf (since t : ℕ) (fill : Row) (store : Store) (view : SnapVie
   pub changes : view.changes ≡ changes_upto t store
   pub fill_is : view.fill ≡ fill
 
--- one of each store
-abbrev pub AreViews : ℕ → ℕ → Row → List Store → List SnapView → Type 0
-AreViews since t fill [] [] = Unit {0}
-AreViews since t fill [] (v ∷ views) = ⊥
-AreViews since t fill (s ∷ stores) [] = ⊥
-AreViews since t fill (s ∷ stores) (v ∷ views) = IsViewOf since t fill s v × AreViews since t fill stores views
+-- what is copied of a store: of one in memory such a view, and of a disk rowset what tells its rows up to the time. So many stores from this one on lie in
+-- memory
+abbrev pub IsCopyOf : {V : Type 0} → (V → List ℕ → ℕ → Option Row) → ℕ → ℕ → Row → ℕ → Store → Copied V → Type 0
+IsCopyOf row since t fill zero store (copied.Memory v) = ⊥
+IsCopyOf row since t fill zero store (copied.Rowset v) = TellsUpTo row t store v
+IsCopyOf row since t fill (suc memory) store (copied.Memory v) = IsViewOf since t fill store v
+IsCopyOf row since t fill (suc memory) store (copied.Rowset v) = ⊥
 
--- the row of a key that a view has
-abbrev pub view_row : List ℕ → ℕ → SnapView → Option Row
-view_row key t v = row_in v.fill v.changes key t
+-- one of each store, of which the first so many lie in memory
+abbrev pub AreCopies : {V : Type 0} → (V → List ℕ → ℕ → Option Row) → ℕ → ℕ → Row → ℕ → List Store → List (Copied V) → Type 0
+AreCopies row since t fill memory [] [] = Unit {0}
+AreCopies row since t fill memory [] (v ∷ views) = ⊥
+AreCopies row since t fill memory (s ∷ stores) [] = ⊥
+AreCopies row since t fill memory (s ∷ stores) (v ∷ views) = IsCopyOf row since t fill memory s v × AreCopies row since t fill (memory - 1) stores views
 
--- at each time from the mark to that of the scan, the views together have the run's row of each key, and no two of them have one
-pub record ShowsRun (core : Core) (snap : Snap) : Type 0 where
-  pub marks : All (λ v. v.since ≤ snap.mark) snap.views
-  pub rows : (u : ℕ) (key : List ℕ) → snap.mark ≤ u → u ≤ snap.t → first_some (map (view_row key u) snap.views) ≡ find key_cmp key (rows_at (run_past core) u)
-  pub one : (u : ℕ) (key : List ℕ) → snap.mark ≤ u → u ≤ snap.t → AtMostOne (map (view_row key u) snap.views)
+-- at each time from the mark to that of the scan, the copies together have the run's row of each key, and no two of them have one
+pub record ShowsRun {V : Type 0} (row : V → List ℕ → ℕ → Option Row) (core : Core) (snap : Snap V) : Type 0 where
+  pub marks : All (λ v. mark_of v ≤ snap.mark) snap.views
+  pub rows : (u : ℕ) (key : List ℕ) → snap.mark ≤ u → u ≤ snap.t → first_some (map (copied_row row key u) snap.views) ≡ find key_cmp key (rows_at (run_past core) u)
+  pub one : (u : ℕ) (key : List ℕ) → snap.mark ≤ u → u ≤ snap.t → AtMostOne (map (copied_row row key u) snap.views)
 
 -- no change is later than a time
 abbrev pub none_later : ℕ → List KeyChange → Bool
 none_later t changes = list_all (λ c. nat_le c.ts t) changes
 
--- its views hold no change later than the scan's time, and tell rows from the mark on, and not from before it
-pub record IsCopied (snap : Snap) : Type 0 where
-  pub upto : All (λ v. none_later snap.t v.changes ≡ true) snap.views
-  pub since : All (λ v. v.since ≡ snap.mark) snap.views
+-- a copy of a store in memory holds no change later than a time
+abbrev pub HoldsUpTo : {V : Type 0} → ℕ → Copied V → Type 0
+HoldsUpTo t (copied.Memory v) = none_later t v.changes ≡ true
+HoldsUpTo t (copied.Rowset v) = Unit {0}
+
+-- and it tells rows from a mark on, and not from before it
+abbrev pub TellsFrom : {V : Type 0} → ℕ → Copied V → Type 0
+TellsFrom mark (copied.Memory v) = v.since ≡ mark
+TellsFrom mark (copied.Rowset v) = Unit {0}
+
+-- what is copied of stores in memory holds no change later than the scan's time, and tells rows from the mark on
+pub record IsCopied {V : Type 0} (snap : Snap V) : Type 0 where
+  pub upto : All (HoldsUpTo snap.t) snap.views
+  pub since : All (TellsFrom snap.mark) snap.views

@@ -10,11 +10,13 @@ pub mod need;
 pub mod new_write;
 mod reading;
 pub mod snap;
+pub mod snap_view;
 pub mod tablet;
 mod turns;
 
 pub use new_write::NewWrite;
-pub use snap::{Snap, SnapList, SnapView};
+pub use snap::{Copied, ReadView, Snap, SnapList};
+pub use snap_view::SnapView;
 pub use tablet::rows::WriteEnd;
 pub use tablet::scan::SnapNo;
 pub use tablet::write::BeginNo;

@@ -1,153 +1,154 @@
-//! What a scan reads: copies of what stores hold up to its time.
-ghost use Rattle.std.specs.Prelude.{◌≡◌, ◌∷◌, [], true, map, Some, None, IfOk};
-ghost use Rattle.std.specs.Option.{option_copied};
-ghost use Rattle.kt_cells.specs.Borrowed.{cells_in};
-ghost use Rattle.kt_history.specs.Views.{key_above};
-ghost use Rattle.kt_tablet.specs.Snaps.{rises, row_in, keys_in};
-ghost use Rattle.kt_tablet.specs.SnapLaws.{keys_in_rise, row_in_has_key};
+//! What a scan reads: copies of what stores hold up to its time, and the views that are made of them.
+ghost use Rattle.std.specs.Prelude.{◌≡◌, ◌≤◌, map, IfOk};
+ghost use Rattle.kt_tablet.specs.Copies.{mark_of, copied_row, copied_rows, read_mark, read_keys, read_row, read_rows, read_keys_rise, read_has_key};
 
-use crate::reading::{next_key, row_into};
-use kt_base::{CellRef, Cells, NoMemory, Octets};
-use kt_history::{ChangeList, RowRef, View};
+use crate::snap_view::SnapView;
+use kt_base::{Cells, NoMemory, Octets};
+use kt_history::{RowRef, View};
+use kt_views::{StoreRows, Table};
 use std::alloc::Global;
 use std::marker::Model;
 
-/// The changes of one store up to the time of a scan, by rising key. It tells rows from its mark on.
+/// What is copied of one store up to the time of a scan.
 #[derive(Drop)]
-pub struct SnapView {
-    since: u64,
-    changes: ChangeList,
-    fill: Cells,
-    ghost rising: { rises changes ≡ true },
+pub enum Copied<V> {
+    /// The changes of a store in memory.
+    Memory(SnapView),
+    /// What tells the rows of a disk rowset.
+    Rowset(V),
 }
 
-/// Views of stores. Contracts see them as a list.
+/// What is copied of several stores. Contracts see it as a list.
 #[derive(Drop)]
-pub struct SnapList {
-    views: Vec<SnapView>,
+pub struct SnapList<V> {
+    views: Vec<Copied<V>>,
 }
 
-impl Model for SnapList {
+impl<V> Model for SnapList<V> {
     ghost use Rattle.std.specs.Prelude.{List};
-    ghost use Rattle.kt_tablet.specs.declared.snap.SnapView.{SnapView};
+    ghost use Rattle.kt_tablet.specs.declared.snap.Copied.{Copied};
 
-    ghost Value = { List SnapView };
+    ghost Value = { List (Copied V) };
 
     ghost view = { λ l. l.views.items };
 }
 
 /// What a scan reads at its time. Its mark is that of the tablet then.
 #[derive(Drop)]
-pub struct Snap {
+pub struct Snap<V> {
     pub t: u64,
     pub mark: u64,
-    pub views: SnapList,
+    pub views: SnapList<V>,
 }
 
-impl SnapList {
-    /// These views.
-    pub fn of(views: Vec<SnapView>) -> SnapList
+/// What a scan reads of one store at its time.
+#[derive(Drop)]
+pub enum ReadView<'s> {
+    /// The changes of a store in memory.
+    Changes(&'s SnapView),
+    /// The rows of a disk rowset at the time.
+    Rows(Table),
+}
+
+impl<V> SnapList<V> {
+    /// These copies.
+    pub fn of(views: Vec<Copied<V>>) -> SnapList<V>
         ensures { result ≡ views.items }
     {
         SnapList { views }
     }
 
-    pub fn as_slice(&self) -> &[SnapView]
+    pub fn as_slice(&self) -> &[Copied<V>]
         ensures { result.now ≡ self.now }
     {
         &self.views
     }
 }
 
-// A row with texts of its own.
-fn owned(alloc: Global, row: &[(u16, CellRef<'_>)]) -> Result<Cells, NoMemory>
-    ensures { IfOk result (λ cells. cells ≡ cells_in row.now) }
-{
-    let mut cells = Vec::with_capacity(alloc, row.len())?;
-    for cell in row {
-        cells.push((cell.0, cell.1.to_cell(alloc)?))?;
-    }
-    Ok(Cells::of(cells))
-}
-
-// The row of a key, with texts of its own.
-fn row_of(
-    alloc: Global,
-    fill: &Cells,
-    changes: &ChangeList,
-    key: &[u8],
-    t: u64,
-) -> Result<Option<Cells>, NoMemory>
-    requires { rises changes.now ≡ true }
-    ensures { IfOk result (λ row. row ≡ row_in fill.now changes.now key.now t) }
-{
-    let mut row = RowRef::new(alloc);
-    let mut hint = changes.len();
-    if row_into(fill, changes, key, t, &mut hint, &mut row)? {
-        Ok(Some(owned(alloc, row.as_slice())?))
-    } else {
-        Ok(None)
-    }
-}
-
-// A key with bytes of its own.
-fn copied(alloc: Global, key: Option<&[u8]>) -> Result<Option<Octets>, NoMemory>
-    ensures { IfOk result (λ copy. copy ≡ option_copied key.entry) }
-{
-    match key {
-        Some(key) => Ok(Some(Octets::from_slice(alloc, key)?)),
-        None => Ok(None),
-    }
-}
-
-// The least key above another, or the first of all, with bytes of its own.
-fn least_above(
-    alloc: Global,
-    changes: &ChangeList,
-    after: Option<&[u8]>,
-) -> Result<Option<Octets>, NoMemory>
-    requires { rises changes.now ≡ true }
-    ensures { IfOk result (λ found. found ≡ key_above (option_copied after.entry) (keys_in changes.now)) }
-{
-    let mut hint = changes.len();
-    Ok(copied(alloc, next_key(changes, after, &mut hint))?)
-}
-
-impl SnapView {
-    /// The changes of a store, and what its inserts leave out.
-    pub fn of(since: u64, changes: ChangeList, fill: Cells) -> SnapView
-        requires { rises changes ≡ true }
-        ensures { (result.since ≡ since) × (result.changes ≡ changes) × (result.fill ≡ fill) }
+impl<V: StoreRows> Copied<V> {
+    /// The row of a key at a time.
+    pub fn row_at(&self, alloc: Global, key: &[u8], t: u64) -> Result<Option<Cells>, NoMemory>
+        ensures { IfOk result (λ row. mark_of self.now ≤ t → row ≡ copied_row V.row_of key.now t self.now) }
     {
-        SnapView {
-            since,
-            changes,
-            fill,
+        match self {
+            Copied::Memory(view) => view.row_at(alloc, key, t),
+            Copied::Rowset(rows) => rows.row_at(alloc, key, t),
+        }
+    }
+
+    // The view of it at a time.
+    fn read(&self, alloc: Global, t: u64) -> Result<ReadView<'_>, NoMemory>
+        ensures mark { IfOk result (λ view. read_mark view ≡ mark_of self.now) }
+        ensures rows { IfOk result (λ view. read_rows t view ≡ copied_rows V.row_of t self.now) }
+    {
+        match self {
+            Copied::Memory(view) => Ok(ReadView::Changes(view)),
+            Copied::Rowset(rows) => {
+                let table = rows.table(alloc, t)?;
+                Ok(ReadView::Rows(table))
+            }
         }
     }
 }
 
-impl View for SnapView {
-    ghost mark = { λ v. v.since };
+// The views of these copies at a time.
+fn read_all<V: StoreRows>(
+    alloc: Global,
+    copies: &[Copied<V>],
+    t: u64,
+) -> Result<Vec<ReadView<'_>>, NoMemory>
+    ensures marks { IfOk result (λ views. map read_mark views.items ≡ map mark_of copies.now) }
+    ensures rows { IfOk result (λ views. map (read_rows t) views.items ≡ map (copied_rows V.row_of t) copies.now) }
+{
+    let mut views = Vec::with_capacity(alloc, copies.len())?;
+    'copies: for copy in copies {
+        let view = copy.read(alloc, t)?;
+        views.push(view)?;
+    }
+    Ok(views)
+}
 
-    ghost keys = { λ v. keys_in v.changes };
+impl<V: StoreRows> Snap<V> {
+    /// The views of its stores at its time. The rows of each disk rowset are put together here, and so not in the visit that
+    /// copied it.
+    pub fn read(&self, alloc: Global) -> Result<Vec<ReadView<'_>>, NoMemory>
+        ensures marks { IfOk result (λ views. map read_mark views.items ≡ map mark_of self.now.views) }
+        ensures rows { IfOk result (λ views. map (read_rows self.now.t) views.items ≡ map (copied_rows V.row_of self.now.t) self.now.views) }
+    {
+        read_all(alloc, self.views.as_slice(), self.t)
+    }
+}
 
-    ghost row_of = { λ v key t. row_in v.fill v.changes key t };
+impl<'s> View for ReadView<'s> {
+    ghost mark = { read_mark };
 
-    ghost keys_rise = { λ v. keys_in_rise v.changes v.rising };
+    ghost keys = { read_keys };
 
-    ghost rows_have_keys = { λ v key t told some. row_in_has_key v.fill v.changes key t some };
+    ghost row_of = { λ v key t. read_row key t v };
+
+    ghost keys_rise = { read_keys_rise };
+
+    ghost rows_have_keys = { λ v key t told some. read_has_key v key t some };
 
     fn row_at(&self, alloc: Global, key: &[u8], t: u64) -> Result<Option<Cells>, NoMemory> {
-        row_of(alloc, &self.fill, &self.changes, key, t)
+        match self {
+            ReadView::Changes(view) => view.row_at(alloc, key, t),
+            ReadView::Rows(table) => table.row_at(alloc, key, t),
+        }
     }
 
     fn key_after(&self, alloc: Global, after: Option<&[u8]>) -> Result<Option<Octets>, NoMemory> {
-        least_above(alloc, &self.changes, after)
+        match self {
+            ReadView::Changes(view) => view.key_after(alloc, after),
+            ReadView::Rows(table) => table.key_after(alloc, after),
+        }
     }
 
     fn next_key(&self, after: Option<&[u8]>, hint: &mut usize) -> Option<&[u8]> {
-        next_key(&self.changes, after, hint)
+        match self {
+            ReadView::Changes(view) => view.next_key(after, hint),
+            ReadView::Rows(table) => table.next_key(after, hint),
+        }
     }
 
     fn row_into<'v>(
@@ -157,6 +158,9 @@ impl View for SnapView {
         hint: &mut usize,
         row: &mut RowRef<'v>,
     ) -> Result<bool, NoMemory> {
-        row_into(&self.fill, &self.changes, key, t, hint, row)
+        match self {
+            ReadView::Changes(view) => view.row_into(key, t, hint, row),
+            ReadView::Rows(table) => table.row_into(key, t, hint, row),
+        }
     }
 }

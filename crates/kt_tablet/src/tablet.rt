@@ -9,7 +9,7 @@ ghost use Rattle.kt_schema.specs.Columns.{fill_of};
 
 use crate::turns::Turns;
 use kt_base::{Cells, Clock, NoMemory};
-use kt_history::{ChangeStore, Event, OpList, Outcome, Plan};
+use kt_history::{Event, OpList, Outcome, Plan, RowStore};
 use kt_mvcc::Flight;
 use kt_records::CommitRow;
 use kt_schema::Schema;
@@ -38,7 +38,7 @@ pub struct FlyingWrite {
 /// A tablet: the rows of its stores in the cells of their pool, the clock, the writes that fly, the lines of its history
 /// and where each session stands.
 #[derive(Drop)]
-pub struct Tablet<R: ChangeStore, C: Clock> {
+pub struct Tablet<R: RowStore, C: Clock> {
     stores: Stores<R>,
     clock: C,
     flight: Flight,
@@ -56,16 +56,16 @@ pub struct Tablet<R: ChangeStore, C: Clock> {
     mark: u64,
 }
 
-impl<R: ChangeStore, C: Clock> Model for Tablet<R, C> {
+impl<R: RowStore, C: Clock> Model for Tablet<R, C> {
     ghost use Rattle.std.specs.Prelude.{map, vec_capacity, vec_len};
-    ghost use Rattle.kt_stores.specs.Shelf.{stores_of, names_of};
-    ghost use Rattle.kt_tablet.specs.Filling.{filled};
+    ghost use Rattle.kt_stores.specs.Shelf.{names_of};
+    ghost use Rattle.kt_tablet.specs.Filling.{told_stores};
     ghost use Rattle.kt_tablet.specs.Rows.{AreWritten};
     ghost use Rattle.kt_tablet.specs.Views.{View, IsSound, IsReady, AreTold, rows_of, placed_of, aloft_of, work_of, empty};
 
     ghost Value = { View C };
 
-    // An insert of a store is filled by the defaults. A whole row, which an earlier flush or compaction has written, is so already.
+    // An insert of a store in memory is filled by the defaults. The rows of a disk rowset are whole.
     ghost view = { λ e. record {
       core = record {
         work = work_of e.schema.value e.plan.value e.cells e.fill;
@@ -77,11 +77,11 @@ impl<R: ChangeStore, C: Clock> Model for Tablet<R, C> {
         aloft = map aloft_of e.flights.items;
         turns = e.turns;
         stopped = e.stopped;
-        stores = map (filled e.fill) (stores_of e.stores);
+        stores = told_stores e.fill e.stores;
       };
       clock = e.clock;
       opened = e.opened.value;
-      opening = map (filled e.fill) (stores_of e.opening.value);
+      opening = told_stores e.fill e.opening.value;
       mark = e.mark;
       names = names_of e.stores.shelf;
       notes = map rows_of e.flights.items;
@@ -100,17 +100,17 @@ impl<R: ChangeStore, C: Clock> Model for Tablet<R, C> {
         aloft = map aloft_of e.flights.items;
         turns = e.turns;
         stopped = e.stopped;
-        stores = map (filled e.fill) (stores_of e.stores);
+        stores = told_stores e.fill e.stores;
       };
       clock = e.clock;
       opened = e.opened.value;
-      opening = map (filled e.fill) (stores_of e.opening.value);
+      opening = told_stores e.fill e.opening.value;
       mark = e.mark;
       names = names_of e.stores.shelf;
       notes = map rows_of e.flights.items;
       places = map placed_of e.flights.items;
       pool = e.stores.pool;
-    }) × IsReady e.fill e.stopped e.flights.items e.flight.flying (vec_len e.trail) (vec_capacity e.trail) e.stores.pool × AreTold (work_of e.schema.value e.plan.value e.cells e.fill) (map (filled e.fill) (stores_of e.opening.value)) e.mark e.last e.trail.items e.flights.items × AreWritten (names_of e.stores.shelf) e.flights.items };
+    }) × IsReady e.fill e.stopped e.flights.items e.flight.flying (vec_len e.trail) (vec_capacity e.trail) e.stores.pool × AreTold (work_of e.schema.value e.plan.value e.cells e.fill) (told_stores e.fill e.opening.value) e.mark e.last e.trail.items e.flights.items × AreWritten (names_of e.stores.shelf) e.flights.items };
 }
 
 /// Why a scan of the present draws no time, or the mark does not rise.
@@ -143,10 +143,10 @@ fn first_parts(alloc: Global, schema: &Schema) -> Result<(Cells, Turns, Vec<Even
     Ok((fill, turns, trail))
 }
 
-impl<R: ChangeStore, C: Clock> Tablet<R, C> {
+impl<R: RowStore, C: Clock> Tablet<R, C> {
     ghost use Rattle.std.specs.Prelude.{IfErr, false};
-    ghost use Rattle.kt_stores.specs.Shelf.{stores_of, names_of};
-    ghost use Rattle.kt_tablet.specs.Filling.{filled};
+    ghost use Rattle.kt_stores.specs.Shelf.{names_of};
+    ghost use Rattle.kt_tablet.specs.Filling.{told_stores};
     ghost use Rattle.kt_tablet.specs.Views.{work_of};
 
     /// A tablet in which nothing has happened yet, over the stores that opening made. No session has a plan yet. A write
@@ -168,7 +168,7 @@ impl<R: ChangeStore, C: Clock> Tablet<R, C> {
         ensures goes { IfOk result (λ tablet. tablet.core.stopped ≡ false) }
         ensures rests { IfOk result (λ tablet. tablet.core.aloft ≡ []) }
         ensures times { IfOk result (λ tablet. (tablet.core.a ≡ mark) × (tablet.core.c ≡ last)) }
-        ensures found { IfOk result (λ tablet. (tablet.mark ≡ mark) × (tablet.core.opened ≡ last) × (tablet.opening ≡ map (filled (fill_of schema.now)) (stores_of stores))) }
+        ensures found { IfOk result (λ tablet. (tablet.mark ≡ mark) × (tablet.core.opened ≡ last) × (tablet.opening ≡ told_stores (fill_of schema.now) stores)) }
         ensures clock { IfOk result (λ tablet. (tablet.clock ≡ clock) × (tablet.opened ≡ clock)) }
         ensures names { IfOk result (λ tablet. tablet.names ≡ names_of stores.shelf) }
         ensures notes { IfOk result (λ tablet. tablet.notes ≡ []) }
@@ -203,7 +203,7 @@ impl<R: ChangeStore, C: Clock> Tablet<R, C> {
     }
 }
 
-impl<R: ChangeStore, C: Clock> Tablet<R, C> {
+impl<R: RowStore, C: Clock> Tablet<R, C> {
     ghost use Rattle.kt_tablet.specs.Views.{IsSound, IsExact};
     ghost use Rattle.std.specs.Prelude.{◌≡◌, OnErr, IfOk, Err, true, false};
     ghost use Rattle.kt_tablet.specs.Visits.{MayLook, HasLooked, MayMark, HasMarked, MayAnswerChore};

@@ -1,17 +1,20 @@
 //! Scans: each is answered by a copy of what the stores hold up to its time, unless something stands in its way.
-ghost use Rattle.std.specs.Prelude.{◌≡◌, ◌<◌, map, true, false, Some, IsSome, IfSome, IfNone, IfOk, IfErr, OnOk, OnErr, Err};
+ghost use Rattle.std.specs.Prelude.{◌≡◌, ◌<◌, ◌+◌, ◌-◌, suc, map, take, length, slice_get, true, false, Some, IsSome, IfSome, IfNone, IfOk, IfErr, OnOk, OnErr, Err};
 ghost use Rattle.kt_history.specs.History.{Past};
 ghost use Rattle.kt_history.specs.Machine.{nth, none_flies};
 ghost use Rattle.kt_histlaws.specs.Core.{flown_by};
 ghost use Rattle.kt_history.specs.Grown.{AllGrown};
+ghost use Rattle.kt_history.specs.Stores.{Store};
 ghost use Rattle.kt_stores.specs.Shelf.{stores_of};
-ghost use Rattle.kt_tablet.specs.Reads.{AreViews};
+ghost use Rattle.kt_tablet.specs.Reads.{IsCopyOf, AreCopies};
 
 use super::Tablet;
-use crate::snap::{Snap, SnapList, SnapView};
+use crate::snap::{Copied, Snap, SnapList};
+use crate::snap_view::SnapView;
 use kt_base::{Cells, Clock, NoMemory};
-use kt_history::{At, ChangeStore, Event};
+use kt_history::{At, Event};
 use kt_stores::Stores;
+use kt_views::ViewStore;
 use std::alloc::Global;
 use thiserror::Error;
 
@@ -35,27 +38,48 @@ pub enum SnapNo {
     Memory,
 }
 
-// A view of each store: its changes up to a time.
-fn views_of<R: ChangeStore>(
+// What is copied of the store at a place: its changes up to a time, or what tells the rows of a disk rowset.
+fn copy_of<R: ViewStore>(
     alloc: Global,
     stores: &Stores<R>,
     fill: &Cells,
     since: u64,
     t: u64,
-) -> Result<SnapList, NoMemory>
-    requires { AllGrown (stores_of stores.now) }
-    ensures { IfOk result (λ views. AreViews since t fill.now (stores_of stores.now) views) }
+    at: usize,
+) -> Result<Copied<R::Read>, NoMemory>
+    requires grown { AllGrown (take (1 + stores.now.frozen) (stores_of stores.now)) }
+    requires within { at < length stores.now.shelf }
+    ensures { IfOk result (λ copy. (store : Store) → slice_get (stores_of stores.now) at ≡ Some store → IsCopyOf R.Read.row_of since t fill.now (suc stores.now.frozen - at) store copy) }
+{
+    if at <= stores.frozen() {
+        let changes = stores.changes(alloc, at, t)?;
+        return Ok(Copied::Memory(SnapView::of(since, changes, fill.copy()?)));
+    }
+    let read = stores.read_at(alloc, at, t)?;
+    Ok(Copied::Rowset(read))
+}
+
+// What is copied of each store up to a time.
+fn views_of<R: ViewStore>(
+    alloc: Global,
+    stores: &Stores<R>,
+    fill: &Cells,
+    since: u64,
+    t: u64,
+) -> Result<SnapList<R::Read>, NoMemory>
+    requires { AllGrown (take (1 + stores.now.frozen) (stores_of stores.now)) }
+    ensures { IfOk result (λ views. AreCopies R.Read.row_of since t fill.now (suc stores.now.frozen) (stores_of stores.now) views) }
 {
     let count = stores.len();
     let mut views = Vec::with_capacity(alloc, count)?;
     'stores: for at in 0..count {
-        let changes = stores.changes_at(alloc, at, t)?;
-        views.push(SnapView::of(since, changes, fill.copy()?))?;
+        let copy = copy_of(alloc, stores, fill, since, t, at)?;
+        views.push(copy)?;
     }
     Ok(SnapList::of(views))
 }
 
-impl<R: ChangeStore, C: Clock> Tablet<R, C> {
+impl<R: ViewStore, C: Clock> Tablet<R, C> {
     ghost use Rattle.kt_history.specs.declared.event.Event.TheVariants.{Ancient, Busy};
     ghost use Rattle.kt_histlaws.specs.Events.{answered};
     ghost use Rattle.kt_tablet.specs.Views.{Opens};
@@ -127,13 +151,13 @@ impl<R: ChangeStore, C: Clock> Tablet<R, C> {
     }
 
     // A copy of what the stores hold up to a time.
-    fn copy(&self, alloc: Global, t: u64) -> Result<Snap, NoMemory>
+    fn copy(&self, alloc: Global, t: u64) -> Result<Snap<R::Read>, NoMemory>
         requires { none_flies t (map flown_by self.now.core.aloft) ≡ true }
         ensures time { IfOk result (λ snap. (snap.t ≡ t) × (snap.mark ≡ self.now.core.a)) }
         ensures copied { IfOk result IsCopied }
-        ensures shows { IfOk result (λ snap. (first : Past) → Opens self.now.opening self.now.mark self.now.core.opened first → ShowsRun (record self.now.core { first = first }) snap) }
+        ensures shows { IfOk result (λ snap. (first : Past) → Opens self.now.opening self.now.mark self.now.core.opened first → ShowsRun R.Read.row_of (record self.now.core { first = first }) snap) }
     {
-        self.stores.grown();
+        self.stores.standing();
         let mark = self.flight.mark();
         let views = views_of(alloc, &self.stores, &self.fill, mark, t)?;
         Ok(Snap { t, mark, views })
@@ -147,12 +171,12 @@ impl<R: ChangeStore, C: Clock> Tablet<R, C> {
         index: u32,
         at: At,
         t: u64,
-    ) -> Result<Snap, NoMemory>
+    ) -> Result<Snap<R::Read>, NoMemory>
         requires { MayReadNow self.old.core number index at t }
         ensures read { IfOk result (λ snap. HasRead self.old.core self.new.core number index at snap.t) }
         ensures mark { IfOk result (λ snap. snap.mark ≡ self.old.core.a) }
         ensures copied { IfOk result IsCopied }
-        ensures shows { IfOk result (λ snap. (first : Past) → Opens self.old.opening self.old.mark self.old.core.opened first → ShowsRun (record self.old.core { first = first }) snap) }
+        ensures shows { IfOk result (λ snap. (first : Past) → Opens self.old.opening self.old.mark self.old.core.opened first → ShowsRun R.Read.row_of (record self.old.core { first = first }) snap) }
         ensures same { OnErr result (self.new ≡ self.old) }
         ensures beside { record self.new { core = self.old.core } ≡ self.old }
     {
@@ -168,19 +192,20 @@ impl<R: ChangeStore, C: Clock> Tablet<R, C> {
         Ok(snap)
     }
 
-    /// Answers a scan: what the stores hold up to the time that it reads, copied.
+    /// Answers a scan: what the stores in memory hold up to the time that it reads, copied, and what tells the rows of the disk
+    /// rowsets up to it, of which no row is put together yet.
     pub fn snapshot(
         &mut self,
         alloc: Global,
         number: u32,
         index: u32,
         at: At,
-    ) -> Result<Snap, SnapNo>
+    ) -> Result<Snap<R::Read>, SnapNo>
         requires { self.old.core.stopped ≡ false → MaySnapshot self.old.core number index at }
         ensures read { IfOk result (λ snap. HasRead self.old.core self.new.core number index at snap.t) }
         ensures mark { IfOk result (λ snap. snap.mark ≡ self.old.core.a) }
         ensures copied { IfOk result IsCopied }
-        ensures shows { IfOk result (λ snap. (first : Past) → Opens self.old.opening self.old.mark self.old.core.opened first → ShowsRun (record self.old.core { first = first }) snap) }
+        ensures shows { IfOk result (λ snap. (first : Past) → Opens self.old.opening self.old.mark self.old.core.opened first → ShowsRun R.Read.row_of (record self.old.core { first = first }) snap) }
         ensures stopped { self.old.core.stopped ≡ true → result ≡ Err SnapNo.Stopped }
         ensures refused { IfErr result (IsNoRead self.old.core number at) }
         ensures left { IfErr result (LeavesRead self.old self.new number index) }

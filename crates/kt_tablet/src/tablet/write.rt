@@ -4,7 +4,7 @@ ghost use Rattle.std.specs.Prelude.{◌≡◌, ◌≢◌, ◌+◌, ◌-◌, ◌^
 use super::{FlyingWrite, Tablet};
 use crate::new_write::NewWrite;
 use kt_base::{Clock, NoMemory};
-use kt_history::{ChangeStore, Event};
+use kt_history::{Event, RowStore};
 use kt_mvcc::Flight;
 use std::alloc::Global;
 use std::mem;
@@ -57,7 +57,7 @@ fn make_room(
     Ok(())
 }
 
-impl<R: ChangeStore, C: Clock> Tablet<R, C> {
+impl<R: RowStore, C: Clock> Tablet<R, C> {
     ghost use Rattle.std.specs.Prelude.{OnErr, IfErr, Err, false, true};
     ghost use Rattle.kt_pool.specs.Contents.{with_reserved};
     ghost use Rattle.kt_history.specs.Operations.{need};

@@ -1,10 +1,10 @@
-use Rattle.std.proofs.Common.{◌≡◌, ◌≤◌, ◌+◌, ◌++◌, ◌∷◌, [], length, map, None, refl, ◌∙◌, ap, sym, rules}
+use Rattle.std.proofs.Common.{◌≡◌, ◌≤◌, ◌+◌, ◌++◌, ◌∷◌, [], length, None, refl, ◌∙◌, ap, sym, rules}
 use Rattle.std.specs.Vec.{vec_len, vec_capacity}
 use Rattle.kt_history.specs.Machine.{next_timestamp}
 use Rattle.kt_mvcc.specs.Flying.{holder}
 use Rattle.kt_pool.specs.Contents.{with_reserved}
-use Rattle.kt_stores.specs.Shelf.{stores_of, names_of}
-use Rattle.kt_tablet.specs.Filling.{filled}
+use Rattle.kt_stores.specs.Shelf.{names_of}
+use Rattle.kt_tablet.specs.Filling.{told_stores}
 use Rattle.kt_history.specs.Operations.{need}
 use Rattle.kt_tablet.specs.Views.{work_of}
 use Rattle.kt_tablet.specs.Visits.{MayBeginNow, holder_of}
@@ -36,7 +36,7 @@ invariant_of-self-2 g c =
     let lines = one_line _ _ _ _ c.push_reserved.ensures.items c.make_room.ensures.lines in
     let sound = begin_sound g.C.Clock.readings _ c.now-reading.new.self c.args.number c.args.index c.begin_free-ts.result c.now-reading.result c.replace-ops.result.ops (need c.replace-ops.result.ops) _ _ _ _ _ _ _ _ _
     c.self.invariant.0
-    (ap (λ v. map (filled c.self.inside.fill) (stores_of v)) promised)
+    (ap (λ v. told_stores c.self.inside.fill v) promised)
     may
     (c.begin_free-ts.ensures.ts.0 ∙ ap (λ f. next_timestamp f.c c.now-reading.result) c.make_room.ensures.flight)
     (apart c.replace-ops.result.ops c.self.inside.flights.items
@@ -70,7 +70,7 @@ returns-clause-begun g c =
     let promised : c.reserve.new.self ≡ record c.self.inside.stores { pool = with_reserved c.self.inside.stores.pool (c.self.inside.stores.pool.reserved + need c.replace-ops.result.ops) } = search rules in
     let same : c.replace-ops.result.ops ≡ c.args.write.now.ops = ap (λ w. w.ops) c.replace-ops.ensures.value in
     begun_as _ _ c.args.number c.args.index c.begin_free-ts.result c.args.write.now.ops c.replace-ops.result.ops same (has_begun _ _ c.args.number c.args.index c.begin_free-ts.result c.now-reading.result c.replace-ops.result.ops _ _ _ _ _ c.self.view_is
-    (ap (λ v. map (filled c.self.inside.fill) (stores_of v)) promised)
+    (ap (λ v. told_stores c.self.inside.fill v) promised)
     (c.begin_free-ts.ensures.ts.0 ∙ ap (λ f. next_timestamp f.c c.now-reading.result) c.make_room.ensures.flight)
     (one_line _ _ _ _ c.push_reserved.ensures.items c.make_room.ensures.lines)
     (c.begin_free-ts.ensures.mark ∙ ap (λ f. f.a) c.make_room.ensures.flight)

@@ -31,3 +31,6 @@ pub returns-clause-names : goal.returns-clause-names
 returns-clause-names g c =
     let t = c.take-taken.ensures.others in
     ap (λ (v : StoresView). names_of v.shelf) c.release.ensures ∙ same_names (place_of c.args.op.now.key (stores_of c.args.stores.now)) t.holds t.takes.cells c.args.stores.now.shelf _ t.shelf
+
+pub returns-clause-frozen : goal.returns-clause-frozen
+returns-clause-frozen g c = ap (λ (v : StoresView). v.frozen) c.release.ensures ∙ c.take-taken.ensures.others.frozen
