@@ -8,6 +8,7 @@ pub mod Written
 pub mod Flights
 pub mod Applying
 pub mod Several
+pub mod Targets
 pub mod Rows
 pub mod Plans
 pub mod Places

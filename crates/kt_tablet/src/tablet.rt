@@ -242,11 +242,13 @@ impl<R: RowStore, C: Clock> Tablet<R, C> {
 
     /// What it stands for: a run from each past that opening found, in which the lines show what the clock gave, of a plan
     /// that keeps the rules. What its pool has promised is what flying writes still need, where no store has a row no cell
-    /// is used, and each flying write has a place in the log.
+    /// is used, each store has a name, and each flying write a place in the log and what it has written for the log so far.
     pub fn standing(&self)
         ensures sound { IsSound C.readings self.now }
         ensures exact { IsExact self.now.core.aloft self.now.core.stores self.now.pool }
         ensures placed { map (λ p. p.0) self.now.places ≡ map (λ w. w.s) self.now.core.aloft }
+        ensures named { length self.now.names ≡ length self.now.core.stores }
+        ensures noted { length self.now.notes ≡ length self.now.core.aloft }
     {
         self.stores.standing();
     }

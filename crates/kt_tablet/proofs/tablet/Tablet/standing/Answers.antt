@@ -1,7 +1,9 @@
-use Rattle.std.proofs.Common.{◌≡◌, map, subst}
-use Rattle.kt_tablet.specs.Views.{IsExact}
+use Rattle.std.proofs.Common.{◌≡◌, ◌∙◌, length, map, subst, sym}
+use Rattle.std.proofs.lemmas.List.{length-map}
+use Rattle.kt_tablet.specs.Views.{IsExact, rows_of, aloft_of}
 use Rattle.kt_tablet.proofs.Flights.{places_own}
 use Rattle.kt_tablet.proofs.Exact.{vacant_stores}
+use Rattle.kt_tablet.proofs.Targets.{each_named}
 use Rattle.kt_tablet.proofs.tablet.Tablet.standing.Goals as goal
 
 pub returns-clause-exact : goal.returns-clause-exact
@@ -12,3 +14,10 @@ returns-clause-exact g c = subst (λ v. IsExact v.core.aloft v.core.stores v.poo
 
 pub returns-clause-placed : goal.returns-clause-placed
 returns-clause-placed g c = subst (λ v. map (λ p. p.0) v.places ≡ map (λ w. w.s) v.core.aloft) c.self.view_is (places_own c.self.inside.flights.items)
+
+pub returns-clause-named : goal.returns-clause-named
+returns-clause-named g c = subst (λ v. length v.names ≡ length v.core.stores) c.self.view_is (each_named c.self.inside.fill c.self.inside.stores.shelf)
+
+pub returns-clause-noted : goal.returns-clause-noted
+returns-clause-noted g c = subst (λ v. length v.notes ≡ length v.core.aloft) c.self.view_is
+    (length-map c.self.inside.flights.items rows_of ∙ sym (length-map c.self.inside.flights.items aloft_of))
