@@ -8,9 +8,11 @@ use Rattle.kt_history.specs.declared.event.Event.TheVariants.{Begin, Large, Stop
 use Rattle.kt_history.specs.declared.command.Command.{Command}
 use Rattle.kt_history.specs.declared.command.Command.TheVariants as command
 use Rattle.kt_history.specs.declared.operation.RowOp.{RowOp}
+use Rattle.kt_history.specs.declared.target.Target.{Target}
 use Rattle.kt_history.specs.Machine.{IfWrite, command_at, next_timestamp}
 use Rattle.kt_records.specs.declared.entry.Entry.{Entry}
 use Rattle.kt_records.specs.declared.entry.Entry.TheVariants.{Replicate, Commit}
+use Rattle.kt_records.specs.declared.entry.CommitRow.{CommitRow}
 use Rattle.kt_journal.specs.Order.{IsFramed, waiting, newest_first}
 use Rattle.kt_journal.specs.Log.{records_of, IsLog}
 use Rattle.kt_loglaws.specs.Replay.{last_of}
@@ -19,6 +21,7 @@ use Rattle.kt_loglaws.specs.Side.{SideView}
 use Rattle.kt_loglaws.proofs.LogOrder.{same}
 use Rattle.kt_histlaws.specs.Pending.{Aloft}
 use Rattle.kt_histlaws.specs.Core.{Core}
+use Rattle.kt_histlaws.specs.Histories.{hists}
 use Rattle.kt_histlaws.specs.Events.{begun, answered}
 use Rattle.kt_tablet.specs.Views.{View, place_at}
 use Rattle.kt_tablet.specs.declared.tablet.write.BeginNo.{BeginNo}
@@ -31,11 +34,15 @@ use Rattle.kt_content.specs.Places.{Super}
 use Rattle.kt_content.specs.Rules.{Rules, OpsPass}
 use Rattle.kt_content.specs.Opening.{AreWrites}
 use Rattle.kt_content.specs.Recovering.{low_after}
-use Rattle.kt_content.proofs.Keeping.{with_records-append}
+use Rattle.kt_content.specs.RunEvents.{Named}
+use Rattle.kt_content.specs.Recoverable.{SuperStands}
+use Rattle.kt_content.proofs.Keeping.{with_records-append, begin_keeps}
 use Rattle.kt_content.proofs.Recovering.{replicate_recovered}
 use Rattle.kt_content.proofs.Writes.{writes_have_rows}
+use Rattle.kt_engine.specs.Memory.{name_of, by_name, resident}
 use Rattle.kt_engine.specs.Logged.{PlanPasses, Waits, UntoldFly, IsDurable, LogStands, KeepsRun, NamesOnly}
 use Rattle.kt_engine.specs.Engines.{EngineView, IsContent, core_from, super_of, IsEngine}
+use Rattle.kt_engine.proofs.Memory.{named_begun}
 use Rattle.kt_engine.proofs.Lists.{all_each, all_more, get_end}
 use Rattle.kt_engine.proofs.Places.{place-new, any_session, apart_more}
 use Rattle.kt_engine.proofs.Records.{newest-append, order_more, last_of-replicate, below_last, above_log, ops_of-new, waits_on, all_parts, count_parts, framed_parts}
@@ -63,14 +70,14 @@ with_room tells seen now leaves faults old room more e = record {
   lent = e.lent;
   whole = e.whole;
   stops = e.stops;
-  ready = record { room = (let low = e.ready.room in omega arith); apart = e.ready.apart; mems = e.ready.mems };
+  ready = record { room = (let low = e.ready.room in omega arith); apart = e.ready.apart; named = e.ready.named };
   placed = e.placed;
 }
 
 -- a write that is too large leaves its line
-pub with_large : {L D C : Type 0} (tells : Bool) (seen : L → Files) (now : L → ℕ) (leaves : L → ℕ → Files → Type 0) (faults : L → ℕ) (old : EngineView L D C) (s i n : ℕ) (new : View C) → IsEngine tells seen now leaves faults old → old.tablet.core.stopped ≡ false
-    → IsEngine tells seen now leaves faults (record old { tablet = record old.tablet { core = answered old.tablet.core s i (Large s i n); clock = new.clock; notes = new.notes; pool = new.pool } })
-with_large tells seen now leaves faults old s i n new e goes = record {
+pub with_large : {L D C : Type 0} (tells : Bool) (seen : L → Files) (now : L → ℕ) (leaves : L → ℕ → Files → Type 0) (faults : L → ℕ) (old : EngineView L D C) (s i n : ℕ) → IsEngine tells seen now leaves faults old → old.tablet.core.stopped ≡ false
+    → IsEngine tells seen now leaves faults (record old { tablet = record old.tablet { core = answered old.tablet.core s i (Large s i n) } })
+with_large tells seen now leaves faults old s i n e goes = record {
   logged = record {
     run = e.logged.run;
     all = e.logged.all;
@@ -80,6 +87,8 @@ with_large tells seen now leaves faults old s i n new e goes = record {
     keeps = λ rules first is plan. let k = e.logged.keeps rules first (record { opens = is.opens; holds = is.holds }) plan in record {
       recovered = k.recovered;
       writes = k.writes ∙ sym (past_line (core_from old first) (Large s i n));
+      numbers = k.numbers;
+      stands = k.stands;
     };
     names = e.logged.names;
     framed = e.logged.framed;
@@ -91,7 +100,7 @@ with_large tells seen now leaves faults old s i n new e goes = record {
   lent = e.lent;
   whole = e.whole;
   stops = stop_line old.tablet.core (answered old.tablet.core s i (Large s i n)) (Large s i n) e.stops goes (λ is. let no : Large s i n ≡ Stop = is in cc) refl refl;
-  ready = record { room = e.ready.room; apart = e.ready.apart; mems = e.ready.mems };
+  ready = record { room = e.ready.room; apart = e.ready.apart; named = e.ready.named };
   placed = e.placed;
 }
 
@@ -129,10 +138,10 @@ last_differs all (Replicate t o ∷ xs) ts ops w = last_differs all xs ts ops w.
 last_differs all (Commit t rows ∷ xs) ts ops w = last_differs all xs ts ops w
 
 -- and the run with it
-begun_run : (rules : Rules) (core : Core) (super : Super) (records : List Entry) (places : List (ℕ × ℕ)) (run : List Entry) (s i ts m : ℕ) (ops : List RowOp) → core.c < ts → IsFramed (Replicate ts ops)
-    → IfWrite (command_at core.work s i) (λ written. written ≡ ops) → PlanPasses rules core.work → All (λ (w : Aloft). share_key ops w.ops ≡ false) core.aloft
-    → LogStands core records places run → KeepsRun rules core super records run → KeepsRun rules (begun core s i ts m ops) super records (run ++ Replicate ts ops ∷ [])
-begun_run rules core super records places run s i ts m ops above framed is plan apart log k =
+begun_run : (rules : Rules) (core : Core) (super : Super) (names : List Target) (notes : List (List CommitRow)) (records : List Entry) (places : List (ℕ × ℕ)) (run : List Entry) (s i ts m : ℕ) (ops : List RowOp) → core.c < ts → IsFramed (Replicate ts ops)
+    → IfWrite (command_at core.work s i) (λ written. written ≡ ops) → PlanPasses rules core.work → All (λ (w : Aloft). share_key ops w.ops ≡ false) core.aloft → length notes ≡ length core.aloft
+    → LogStands core records places run → KeepsRun rules core super names notes records run → KeepsRun rules (begun core s i ts m ops) super names (notes ++ [] ∷ []) records (run ++ Replicate ts ops ∷ [])
+begun_run rules core super names notes records places run s i ts m ops above framed is plan apart noted log k =
     let fill = core.work.fill in
     let all = records ++ run in
     let last : last_of run ≤ core.c = (let parts = last_of-append records run in let low = log.last in omega arith) in
@@ -141,17 +150,23 @@ begun_run rules core super records places run s i ts m ops above framed is plan 
     let whole : IsLog (all ++ Replicate ts ops ∷ []) = order_more [] all (Replicate ts ops) log.log framed (above_log [] all ts refl more) in
     let keys : DifferentKeys ops = last_differs (all ++ Replicate ts ops ∷ []) all ts ops (writes_have_rows (all ++ Replicate ts ops ∷ []) whole) in
     let passes : OpsPass rules fill ops = subst (OpsPass rules fill) (of_write (command_at core.work s i) (λ written. written ≡ ops) is) (plan s i) in
+    let told = keys_told all places core.aloft ops log.log log.flying log.untold apart in
+    let w : Aloft = record { s = s; i = i; ts = ts; ops = ops; applied = 0 } in
+    let longer : IsLog (records ++ (run ++ Replicate ts ops ∷ [])) = subst (λ (l : List Entry). IsLog l) (append_assoc records run (Replicate ts ops ∷ [])) whole in
     record {
-      recovered = replicate_recovered rules fill super records run core.opened core.first ts ops k.recovered low keys (keys_told all places core.aloft ops log.log log.flying log.untold apart) passes;
+      recovered = replicate_recovered rules fill super records run core.opened core.first ts ops k.recovered low keys told passes;
       writes = with_records-append fill core.first run (Replicate ts ops ∷ []) ∙ ap (λ p. with_ops fill p ts ops) k.writes ∙ sym (past_begun core s i ts m ops is);
+      numbers = k.numbers;
+      stands = subst (λ (ns : List Named). SuperStands rules fill super records (run ++ Replicate ts ops ∷ []) core.first (record { last = ts; named = ns; stores = λ q. by_name names (hists q core.stores); names = map name_of names; numbers = k.numbers }))
+          (sym (named_begun core.aloft notes w noted refl)) (begin_keeps rules fill super records run core.first (resident core names notes k.numbers) ts ops longer k.stands above keys told passes);
     }
 
 -- a write begins, in the room that was made for it
 pub with_begun : {L D C : Type 0} (tells : Bool) (seen : L → Files) (now : L → ℕ) (leaves : L → ℕ → Files → Type 0) (faults : L → ℕ) (old : EngineView L D C) (s i ts m place : ℕ) (ops : List RowOp) (new : View C) → IsEngine tells seen now leaves faults old
     → old.tablet.core.stopped ≡ false → MayBegin old.tablet.core s i ops → holder_of old.tablet.core ops ≡ None → WriteKeeps ops → ts ≡ next_timestamp old.tablet.core.c m → ts < 2 ^ 64 → length old.tablet.core.aloft + 2 ≤ old.log.room
-    → place ≡ old.log.known.count + length old.log.out + length old.log.queued + 1
-    → IsEngine tells seen now leaves faults (record old { tablet = record old.tablet { core = begun old.tablet.core s i ts m ops; clock = new.clock; notes = new.notes; places = old.tablet.places ++ (s, place) ∷ []; pool = new.pool }; log = record old.log { queued = old.log.queued ++ Replicate ts ops ∷ []; room = old.log.room - 1 } })
-with_begun tells seen now leaves faults old s i ts m place ops new e goes may free keeps next fits room at =
+    → place ≡ old.log.known.count + length old.log.out + length old.log.queued + 1 → length old.tablet.notes ≡ length old.tablet.core.aloft
+    → IsEngine tells seen now leaves faults (record old { tablet = record old.tablet { core = begun old.tablet.core s i ts m ops; clock = new.clock; notes = old.tablet.notes ++ [] ∷ []; places = old.tablet.places ++ (s, place) ∷ []; pool = new.pool }; log = record old.log { queued = old.log.queued ++ Replicate ts ops ∷ []; room = old.log.room - 1 } })
+with_begun tells seen now leaves faults old s i ts m place ops new e goes may free keeps next fits room at noted =
     let core = old.tablet.core in
     let above : core.c < ts = omega arith in
     let framed : IsFramed (Replicate ts ops) = record { keeps = record { ts = fits; count = keeps.count; ops = keeps.each }; short = keeps.short ts } in
@@ -168,7 +183,7 @@ with_begun tells seen now leaves faults old s i ts m place ops new e goes may fr
         begins = e.logged.begins;
         stands = begun_log core old.records old.tablet.places e.logged.run s i ts m place ops above framed there rests known;
         keeps = λ rules first is plan. let before : IsContent rules old first = record { opens = is.opens; holds = is.holds } in
-            begun_run rules (core_from old first) (super_of old) old.records old.tablet.places e.logged.run s i ts m ops above framed may.write plan (none_holds ops core.aloft free)
+            begun_run rules (core_from old first) (super_of old) old.tablet.names old.tablet.notes old.records old.tablet.places e.logged.run s i ts m ops above framed may.write plan (none_holds ops core.aloft free) noted
             (record { log = known.log; since = known.since; last = known.last; flying = known.flying; untold = known.untold }) (e.logged.keeps rules first before plan);
         names = all_more (NamesOnly old.tablet.names) e.logged.run (Replicate ts ops) e.logged.names tt;
         framed = framed_parts old.log.out old.log.queued (Replicate ts ops) e.logged.framed framed;
@@ -185,7 +200,7 @@ with_begun tells seen now leaves faults old s i ts m place ops new e goes may fr
             let a = length-append core.aloft (record { s = s; i = i; ts = ts; ops = ops; applied = 0 } ∷ []) in
             omega arith;
         apart = apart_more core.aloft (record { s = s; i = i; ts = ts; ops = ops; applied = 0 }) e.ready.apart low;
-        mems = e.ready.mems;
+        named = e.ready.named;
       };
       placed = map-append (λ p. p.0) old.tablet.places ((s, place) ∷ []) ∙ ap (λ l. l ++ s ∷ []) e.placed ∙ sym (map-append (λ w. w.s) core.aloft (record { s = s; i = i; ts = ts; ops = ops; applied = 0 } ∷ []));
     }
@@ -201,10 +216,6 @@ pub roomed_on : {L D C : Type 0} (tells : Bool) (seen : L → Files) (now : L �
     → IsEngine tells seen now leaves faults old → IsEngine tells seen now leaves faults (record old { tablet = tablet; log = log })
 roomed_on {L} {D} {C} tells seen now leaves faults old tablet log same is more e =
     subst (λ (t : View C). IsEngine tells seen now leaves faults (record old { tablet = t; log = log })) (sym same) (roomed tells seen now leaves faults old log is more e)
-
--- where the core alone has changed
-pub core_alone : {C : Type 0} (old tablet : View C) → tablet ≡ record old { core = tablet.core } → tablet ≡ record old { core = tablet.core; clock = tablet.clock; notes = tablet.notes; pool = tablet.pool }
-core_alone old tablet e = e ∙ (λ k. record old { core = tablet.core; clock = (sym e k).clock; notes = (sym e k).notes; pool = (sym e k).pool })
 
 -- a write of the plan keeps its rules
 write_kept : (i : ℕ) (ops : List RowOp) (o : Option Command) → IfWrite o (λ written. written ≡ ops) → ((command : Command) → o ≡ Some command → (i + 1 < 2 ^ 32) × CommandKeeps command) → WriteKeeps ops
@@ -222,26 +233,27 @@ may_on {C} old tablet s i ops same may = subst (λ (t : View C). MayBegin t.core
 
 -- a write that does not begin
 pub left_alone : {L D C T : Type 0} (tells : Bool) (seen : L → Files) (now : L → ℕ) (leaves : L → ℕ → Files → Type 0) (faults : L → ℕ) (old : EngineView L D C) (tablet : View C) (s i : ℕ) (r : Result T BeginNo) (why : BeginNo)
-    → r ≡ Err why → (old.tablet.core.stopped ≡ true → r ≡ Err no.Stopped) → tablet ≡ record old.tablet { core = tablet.core; clock = tablet.clock; notes = tablet.notes; pool = tablet.pool } → Leaves old.tablet tablet s i why → IsEngine tells seen now leaves faults old → IsEngine tells seen now leaves faults (record old { tablet = tablet })
+    → r ≡ Err why → (old.tablet.core.stopped ≡ true → r ≡ Err no.Stopped) → tablet ≡ record old.tablet { core = tablet.core } → Leaves old.tablet tablet s i why → IsEngine tells seen now leaves faults old → IsEngine tells seen now leaves faults (record old { tablet = tablet })
 left_alone {L} {D} {C} tells seen now leaves faults old tablet s i r no.Stopped was stops beside h e = subst (λ (t : View C). IsEngine tells seen now leaves faults (record old { tablet = t })) (sym h) e
 left_alone {L} {D} {C} tells seen now leaves faults old tablet s i r (no.Large n) was stops beside h e =
-    subst (λ (t : View C). IsEngine tells seen now leaves faults (record old { tablet = t })) (sym (beside ∙ ap (λ (k : Core). record old.tablet { core = k; clock = tablet.clock; notes = tablet.notes; pool = tablet.pool }) h)) (with_large tells seen now leaves faults old s i n tablet e (goes_still old.tablet.core.stopped r no.Stopped stops (λ k. let other : no.Large n ≡ no.Stopped = err_is (no.Large n) no.Stopped r was k in cc)))
+    subst (λ (t : View C). IsEngine tells seen now leaves faults (record old { tablet = t })) (sym (beside ∙ ap (λ (k : Core). record old.tablet { core = k }) h)) (with_large tells seen now leaves faults old s i n e (goes_still old.tablet.core.stopped r no.Stopped stops (λ k. let other : no.Large n ≡ no.Stopped = err_is (no.Large n) no.Stopped r was k in cc)))
 left_alone {L} {D} {C} tells seen now leaves faults old tablet s i r (no.Wait ts) was stops beside h e = subst (λ (t : View C). IsEngine tells seen now leaves faults (record old { tablet = t })) (sym h) e
 left_alone {L} {D} {C} tells seen now leaves faults old tablet s i r (no.Room n left) was stops beside h e = subst (λ (t : View C). IsEngine tells seen now leaves faults (record old { tablet = t })) (sym h) e
 left_alone {L} {D} {C} tells seen now leaves faults old tablet s i r no.Memory was stops beside h e = subst (λ (t : View C). IsEngine tells seen now leaves faults (record old { tablet = t })) (sym h) e
 
 -- a write that has begun, with a copy of its operations in the tablet and one in the log
 pub has_begun : {L D C : Type 0} (tells : Bool) (seen : L → Files) (now : L → ℕ) (leaves : L → ℕ → Files → Type 0) (faults : L → ℕ) (old : EngineView L D C) (tablet : View C) (log : SideView L) (s i ts place : ℕ) (ops held logged : List RowOp)
-    → held ≡ ops → logged ≡ ops → tablet ≡ record old.tablet { core = tablet.core; clock = tablet.clock; notes = tablet.notes; places = tablet.places; pool = tablet.pool } → tablet.places ≡ old.tablet.places ++ (s, place) ∷ []
+    → held ≡ ops → logged ≡ ops → tablet ≡ record old.tablet { core = tablet.core; clock = tablet.clock; notes = tablet.notes; places = tablet.places; pool = tablet.pool } → tablet.notes ≡ old.tablet.notes ++ [] ∷ [] → tablet.places ≡ old.tablet.places ++ (s, place) ∷ []
     → HasBegun old.tablet.core tablet.core s i held ts → log ≡ record old.log { queued = old.log.queued ++ Replicate ts logged ∷ []; room = old.log.room - 1 }
     → old.tablet.core.stopped ≡ false → MayBegin old.tablet.core s i ops → holder_of old.tablet.core ops ≡ None → WriteKeeps ops → ts < 2 ^ 64 → length old.tablet.core.aloft + 2 ≤ old.log.room → place ≡ old.log.known.count + length old.log.out + length old.log.queued + 1
-    → IsEngine tells seen now leaves faults old → IsEngine tells seen now leaves faults (record old { tablet = tablet; log = log })
-has_begun {L} {D} {C} tells seen now leaves faults old tablet log s i ts place ops held logged same_held same_logged beside is_places begins is_log goes may free keeps fits room at e =
+    → length old.tablet.notes ≡ length old.tablet.core.aloft → IsEngine tells seen now leaves faults old → IsEngine tells seen now leaves faults (record old { tablet = tablet; log = log })
+has_begun {L} {D} {C} tells seen now leaves faults old tablet log s i ts place ops held logged same_held same_logged beside is_notes is_places begins is_log goes may free keeps fits room at noted e =
     let is_core : tablet.core ≡ begun old.tablet.core s i ts begins.m ops = begins.core ∙ ap (λ (o : List RowOp). begun old.tablet.core s i ts begins.m o) same_held in
-    let is_tablet : tablet ≡ record old.tablet { core = begun old.tablet.core s i ts begins.m ops; clock = tablet.clock; notes = tablet.notes; places = old.tablet.places ++ (s, place) ∷ []; pool = tablet.pool } =
+    let is_tablet : tablet ≡ record old.tablet { core = begun old.tablet.core s i ts begins.m ops; clock = tablet.clock; notes = old.tablet.notes ++ [] ∷ []; places = old.tablet.places ++ (s, place) ∷ []; pool = tablet.pool } =
     beside ∙ ap (λ (k : Core). record old.tablet { core = k; clock = tablet.clock; notes = tablet.notes; places = tablet.places; pool = tablet.pool }) is_core
-    ∙ ap (λ (ps : List (ℕ × ℕ)). record old.tablet { core = begun old.tablet.core s i ts begins.m ops; clock = tablet.clock; notes = tablet.notes; places = ps; pool = tablet.pool }) is_places in
+    ∙ ap (λ (ns : List (List CommitRow)). record old.tablet { core = begun old.tablet.core s i ts begins.m ops; clock = tablet.clock; notes = ns; places = tablet.places; pool = tablet.pool }) is_notes
+    ∙ ap (λ (ps : List (ℕ × ℕ)). record old.tablet { core = begun old.tablet.core s i ts begins.m ops; clock = tablet.clock; notes = old.tablet.notes ++ [] ∷ []; places = ps; pool = tablet.pool }) is_places in
     let is_log' : log ≡ record old.log { queued = old.log.queued ++ Replicate ts ops ∷ []; room = old.log.room - 1 } = is_log ∙ ap (λ (o : List RowOp). record old.log { queued = old.log.queued ++ Replicate ts o ∷ []; room = old.log.room - 1 }) same_logged in
     subst (λ (t : View C). IsEngine tells seen now leaves faults (record old { tablet = t; log = log })) (sym is_tablet)
-    (subst (λ (l : SideView L). IsEngine tells seen now leaves faults (record old { tablet = record old.tablet { core = begun old.tablet.core s i ts begins.m ops; clock = tablet.clock; notes = tablet.notes; places = old.tablet.places ++ (s, place) ∷ []; pool = tablet.pool }; log = l })) (sym is_log')
-    (with_begun tells seen now leaves faults old s i ts begins.m place ops tablet e goes may free keeps begins.time fits room at))
+    (subst (λ (l : SideView L). IsEngine tells seen now leaves faults (record old { tablet = record old.tablet { core = begun old.tablet.core s i ts begins.m ops; clock = tablet.clock; notes = old.tablet.notes ++ [] ∷ []; places = old.tablet.places ++ (s, place) ∷ []; pool = tablet.pool }; log = l })) (sym is_log')
+    (with_begun tells seen now leaves faults old s i ts begins.m place ops tablet e goes may free keeps begins.time fits room at noted))

@@ -12,6 +12,7 @@ use Rattle.kt_history.specs.History.{Past, raise}
 use Rattle.kt_history.specs.declared.target.Target.{Target}
 use Rattle.kt_records.specs.declared.entry.Entry.{Entry}
 use Rattle.kt_records.specs.declared.entry.Entry.TheVariants.{Replicate, Commit}
+use Rattle.kt_records.specs.declared.entry.CommitRow.{CommitRow}
 use Rattle.kt_journal.specs.Log.{log_of, records_of, IsLog, Holds}
 use Rattle.kt_journal.specs.Open.{JournalView}
 use Rattle.kt_loglaws.specs.Replay.{last_of}
@@ -49,8 +50,8 @@ acknowledged_by records t (event.End s i ts ∷ trail) le h = (let low = at_most
 acknowledged_by records t (_ ∷ trail) le h = acknowledged_by records t trail le h
 
 -- a front of the records, as a crash may leave it
-front_holds : (rules : Rules) (core : Core) (super : Super) (records durable rest : List Entry) (stores : List Target) (image : Files)
-    → IsLog (records ++ (durable ++ rest)) → last_of (records ++ (durable ++ rest)) ≤ core.c → KeepsRun rules core super records (durable ++ rest) → last_of records ≤ core.opened → core.first.mark ≡ super.a
+front_holds : {notes : List (List CommitRow)} (rules : Rules) (core : Core) (super : Super) (records durable rest : List Entry) (stores : List Target) (image : Files)
+    → IsLog (records ++ (durable ++ rest)) → last_of (records ++ (durable ++ rest)) ≤ core.c → KeepsRun rules core super stores notes records (durable ++ rest) → last_of records ≤ core.opened → core.first.mark ≡ super.a
     → AcknowledgedIn (records ++ durable) core.trail → All (NamesOnly stores) (durable ++ rest) → log_of image ≡ Ok (records ++ durable) → HoldsFront rules core super records stores image
 front_holds rules core super records durable rest stores image log high keeps since mark acknowledged names reads =
     let fill = core.work.fill in
@@ -78,7 +79,7 @@ front_holds rules core super records durable rest stores image log high keeps si
     }
 
 -- all of the records
-all_holds : (rules : Rules) (core : Core) (super : Super) (records run : List Entry) (stores : List Target) (image : Files) → IsLog (records ++ run) → last_of (records ++ run) ≤ core.c → KeepsRun rules core super records run → core.first.mark ≡ super.a
+all_holds : {notes : List (List CommitRow)} (rules : Rules) (core : Core) (super : Super) (records run : List Entry) (stores : List Target) (image : Files) → IsLog (records ++ run) → last_of (records ++ run) ≤ core.c → KeepsRun rules core super stores notes records run → core.first.mark ≡ super.a
     → All (NamesOnly stores) run → log_of image ≡ Ok (records ++ run) → HoldsRun rules core super records stores image
 all_holds rules core super records run stores image log high keeps mark names reads =
     let fill = core.work.fill in
@@ -104,7 +105,7 @@ engine_front : {L D C : Type 0} (tells : Bool) (seen : L → Files) (now : L →
 engine_front tells seen now leaves faults view rules first durable rest image content plan is run acknowledged reads =
     front_holds rules (core_from view first) (super_of view) view.records durable rest view.tablet.names image
     (subst (λ (r : List Entry). IsLog (view.records ++ r)) run is.logged.stands.log) (subst (λ (r : List Entry). last_of (view.records ++ r) ≤ view.tablet.core.c) run is.logged.stands.last)
-    (subst (λ (r : List Entry). KeepsRun rules (core_from view first) (super_of view) view.records r) run (is.logged.keeps rules first content plan)) (omega (arith, content.holds.last)) content.holds.mark acknowledged (subst (All (NamesOnly view.tablet.names)) run is.logged.names) reads
+    (subst (λ (r : List Entry). KeepsRun rules (core_from view first) (super_of view) view.tablet.names view.tablet.notes view.records r) run (is.logged.keeps rules first content plan)) (omega (arith, content.holds.last)) content.holds.mark acknowledged (subst (All (NamesOnly view.tablet.names)) run is.logged.names) reads
 
 -- what is durable and some records more: those that opening found, and a front of the run
 record IsFront {L D C : Type 0} (seen : L → Files) (view : EngineView L D C) (run : List Entry) (n : ℕ) : Type 0 where

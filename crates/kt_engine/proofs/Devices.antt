@@ -68,7 +68,7 @@ lends {L} {D} {C} tells seen now leaves faults view log journal number is goes a
       lent = λ by h. (low, goes);
       whole = is.whole;
       stops = is.stops;
-      ready = record { room = is.ready.room; apart = is.ready.apart; mems = is.ready.mems };
+      ready = record { room = is.ready.room; apart = is.ready.apart; named = is.ready.named };
       placed = is.placed;
     })
 
@@ -111,7 +111,7 @@ comes_home {L} {D} {C} tells seen now leaves faults view log journal number is h
       lent = λ by h. absurd (let none : None ≡ Some by = h in cc);
       whole = is.whole;
       stops = is.stops;
-      ready = record { room = is.ready.room; apart = is.ready.apart; mems = is.ready.mems };
+      ready = record { room = is.ready.room; apart = is.ready.apart; named = is.ready.named };
       placed = is.placed;
     })
 
@@ -151,7 +151,7 @@ comes_back {L} {D} {C} tells seen now leaves faults view log journal number is h
       lent = λ by h. absurd (let none : None ≡ Some by = h in cc);
       whole = is.whole;
       stops = is.stops;
-      ready = record { room = is.ready.room; apart = is.ready.apart; mems = is.ready.mems };
+      ready = record { room = is.ready.room; apart = is.ready.apart; named = is.ready.named };
       placed = is.placed;
     })
 
@@ -196,7 +196,7 @@ breaks {L} {D} {C} tells seen now leaves faults view tablet log journal number i
       lent = λ by h. absurd (let none : None ≡ Some by = h in cc);
       whole = (λ k. absurd (let a : true ≡ false = k in cc), λ k. absurd (let a : false ≡ true = k in cc));
       stops = record { goes = λ k. absurd (let a : true ≡ false = k in cc); stopped = λ k. (view.tablet.core.trail, refl) };
-      ready = record { room = is.ready.room; apart = is.ready.apart; mems = is.ready.mems };
+      ready = record { room = is.ready.room; apart = is.ready.apart; named = is.ready.named };
       placed = is.placed;
     } in
     subst (λ (l : SideView L). IsEngine tells seen now leaves faults (record view { tablet = tablet; log = l })) (sym e) (subst (λ (t : View C). IsEngine tells seen now leaves faults (record view { tablet = t; log = side })) (sym stops) there)

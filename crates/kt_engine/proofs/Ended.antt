@@ -1,51 +1,52 @@
 -- What the end of a write keeps of an engine.
-use Rattle.std.proofs.Common.{◌≡◌, ℕ, ◌-◌, ◌<◌, ◌≤◌, List, [], ◌∷◌, ◌++◌, length, Some, refl, sym, true, false, Bool, ap, ◌∙◌, subst, arith, not, get_or, append_assoc, length-drop, drop}
-use Rattle.std.specs.Prelude.{◌==◌}
-use Rattle.std.specs.List.{All, find, filter}
+use Rattle.std.proofs.Common.{◌≡◌, ℕ, ◌-◌, ◌<◌, ◌≤◌, List, [], ◌∷◌, ◌++◌, length, map, Some, refl, sym, true, false, Bool, ap, ◌∙◌, subst, arith, not, get_or, append_assoc, length-drop, drop}
+use Rattle.std.specs.Prelude.{◌==◌, slice_get, take}
+use Rattle.std.specs.List.{All, find, filter, remove}
+use Rattle.std.proofs.lemmas.List.{append-nil, take-append-drop}
 use Rattle.kt_disk.specs.Disk.{Files}
 use Rattle.kt_history.specs.declared.change.Outcome.{Outcome}
+use Rattle.kt_history.specs.declared.change.Outcome.TheVariants.{Done, Present, Absent, Ignored}
 use Rattle.kt_history.specs.declared.event.Event.TheVariants.{End, Stop}
+use Rattle.kt_history.specs.declared.operation.RowOp.{RowOp}
 use Rattle.kt_history.specs.declared.target.Target.{Target}
-use Rattle.kt_history.specs.Rows.{Rows}
-use Rattle.kt_history.specs.History.{Past, IsPast, rows_at, raise}
-use Rattle.kt_history.proofs.RowLaws.{rows_at-raise}
-use Rattle.kt_history.specs.Operations.{outcomes_on}
+use Rattle.kt_history.specs.declared.target.Target.TheVariants.{Mem, Delta}
 use Rattle.kt_records.specs.declared.entry.Entry.{Entry}
 use Rattle.kt_records.specs.declared.entry.Entry.TheVariants.{Replicate, Commit}
 use Rattle.kt_records.specs.declared.entry.CommitRow.{CommitRow}
 use Rattle.kt_journal.specs.Order.{IsFramed, is_count, waiting, newest_first}
 use Rattle.kt_journal.specs.Log.{records_of, IsLog}
 use Rattle.kt_loglaws.specs.Replay.{last_of}
-use Rattle.kt_loglaws.specs.Fronts.{with_records}
+use Rattle.kt_records.specs.Rules.{TargetFits}
+use Rattle.kt_loglaws.specs.Fronts.{ops_of}
 use Rattle.kt_loglaws.specs.Side.{SideView}
 use Rattle.kt_loglaws.proofs.LogOrder.{same}
 use Rattle.kt_histlaws.specs.Pending.{Aloft}
-use Rattle.kt_histlaws.specs.Core.{Core, run_past}
+use Rattle.kt_histlaws.specs.Core.{Core}
+use Rattle.kt_histlaws.specs.Histories.{hists}
 use Rattle.kt_histlaws.specs.Events.{ended, IsOver}
-use Rattle.kt_content.specs.Places.{fresh}
+use Rattle.kt_content.specs.Places.{Super}
 use Rattle.kt_content.specs.Rules.{Rules}
 use Rattle.kt_content.specs.Records.{RowsTell}
+use Rattle.kt_content.specs.RunEvents.{Named, Numbers, IsBelow, TargetsBelow, RowsBelow, StoresBelow}
+use Rattle.kt_content.specs.Recoverable.{named_at, SuperStands}
+use Rattle.kt_content.specs.Keeping.{without}
+use Rattle.kt_content.proofs.Ends.{end_keeps}
+use Rattle.kt_content.proofs.Stages.{found_true}
 use Rattle.kt_content.proofs.Keeping.{with_records-append}
-use Rattle.kt_content.proofs.Recovering.{runs_up, commit_recovered, all_hold}
-use Rattle.kt_content.proofs.Replacing.{is_past_raised}
-use Rattle.kt_tablet.specs.Views.{View, Opens}
-use Rattle.kt_tablet.specs.Visits.{MayEnd, HasEnded, IsWritten, IsDone}
-use Rattle.kt_tablet.specs.Rows.{AreRecorded}
-use Rattle.kt_engine.specs.Logged.{Waits, UntoldFly, IsDurable, LogStands, KeepsRun, IsMem, NamesOnly}
-use Rattle.kt_engine.specs.Engines.{EngineView, IsFound, IsContent, core_from, IsEngine}
-use Rattle.kt_engine.proofs.Lists.{all_more, all_passing, all_found, fewer, map-filter}
-use Rattle.kt_engine.proofs.Places.{place-kept, others_apart, turned, apart_fewer, over_found, is_other}
+use Rattle.kt_content.proofs.Recovering.{commit_recovered}
+use Rattle.kt_tablet.specs.Views.{View}
+use Rattle.kt_tablet.specs.Visits.{MayEnd, HasEnded, IsWritten, HasHandedOut}
+use Rattle.kt_tablet.specs.Rows.{commit_row, AreRecorded}
+use Rattle.kt_engine.specs.Memory.{name_of, by_name, named_write, named_writes, resident}
+use Rattle.kt_engine.specs.Logged.{Waits, UntoldFly, AreApart, IsDurable, LogStands, KeepsRun, NamesOnly}
+use Rattle.kt_engine.specs.Engines.{EngineView, IsContent, core_from, super_of, IsEngine}
+use Rattle.kt_engine.proofs.Lists.{all_none, all_cons, all_each, all_at, all_more, all_passing, all_found, found_passes, found_place, fewer, map-filter}
+use Rattle.kt_engine.proofs.Memory.{IsOwn, named_there, named_ended, one_place}
+use Rattle.kt_engine.proofs.Places.{place-kept, others_apart, turned, apart_fewer, over_found, is_other, is_session}
 use Rattle.kt_engine.proofs.Records.{order_more, framed_at, last_of-commit, waits_behind, all_parts, count_parts, framed_parts}
-use Rattle.kt_engine.proofs.Commits.{held_few, commit_framed, commit_names, recorded_count}
-use Rattle.kt_engine.proofs.Told.{rows_tell, rows_held}
-use Rattle.kt_engine.proofs.Waiting.{untold_ended}
+use Rattle.kt_engine.proofs.Commits.{of_each, all_fit, held_few, commit_framed, commit_names, recorded_count}
+use Rattle.kt_engine.proofs.Waiting.{one_session, untold_ended}
 use Rattle.kt_engine.proofs.Runs.{past_line, acknowledged_more, stop_line}
-
--- what the rows of a COMMIT are, of the write that flies
-is_rows : (core : Core) (names : List Target) (s : ℕ) (f : Aloft) (outcomes : List Outcome) (rows : List CommitRow) → find (λ w. w.s == s) core.aloft ≡ Some f → IsDone core names s outcomes rows → AreRecorded names (outcomes_on core.work.fill (rows_at (run_past core) (f.ts - 1)) f.ops) rows
-is_rows core names s f outcomes rows flies done =
-    let is : done.flight ≡ f = (let other = done.flies in cc) in
-    subst (λ os. AreRecorded names os rows) (done.each ∙ ap (λ (w : Aloft). outcomes_on core.work.fill (rows_at (run_past core) (w.ts - 1)) w.ops) is) done.told
 
 -- the flying write's own REPLICATE keeps the rules
 own_framed : (core : Core) (records : List Entry) (places : List (ℕ × ℕ)) (run : List Entry) (s : ℕ) (f : Aloft) → find (λ w. w.s == s) core.aloft ≡ Some f → LogStands core records places run → IsFramed (Replicate f.ts f.ops)
@@ -54,10 +55,10 @@ own_framed core records places run s f flies k =
     framed_at [] (records ++ run) wf.n (Replicate f.ts f.ops) k.log wf.there
 
 -- its COMMIT, with a row for each operation, keeps them too
-own_commit : (names : List Target) → All IsMem names → (f : Aloft) (outcomes : List Outcome) (rows : List CommitRow) → AreRecorded names outcomes rows → length outcomes ≡ length f.ops → IsFramed (Replicate f.ts f.ops) → IsFramed (Commit f.ts rows)
-own_commit names mems f outcomes rows are count framed =
+own_commit : (names : List Target) → All TargetFits names → (f : Aloft) (outcomes : List Outcome) (rows : List CommitRow) → AreRecorded names outcomes rows → length outcomes ≡ length f.ops → IsFramed (Replicate f.ts f.ops) → IsFramed (Commit f.ts rows)
+own_commit names fits f outcomes rows are count framed =
     let few = (held_few (length f.ops) framed.keeps.count).1 in
-    commit_framed names mems f.ts framed.keeps.ts outcomes rows are (omega arith)
+    commit_framed names fits f.ts framed.keeps.ts outcomes rows are (omega arith)
 
 -- the flying writes of other sessions still wait
 others_wait : (log : List Entry) (places : List (ℕ × ℕ)) (s : ℕ) (aloft : List Aloft) (f : Aloft) (rows : List CommitRow) → find (λ w. w.s == s) aloft ≡ Some f → (λ (ws : List Aloft). All (Waits log places) ws) aloft
@@ -86,55 +87,93 @@ ended_log core records places run s i f rows flies count framed apart k =
       untold = subst (λ (l : List Entry). UntoldFly l (filter (λ w. not (w.s == s)) core.aloft)) joined (untold_ended log places core.aloft s f rows flies k.flying k.untold);
     }
 
--- what all records hold, told from the superblock's mark on, has just before a later write the rows of the run
-its_rows : (core : Core) (past : Past) (mark : ℕ) (f : Aloft) → run_past core ≡ past → IsPast past → mark < f.ts → rows_at (run_past core) (f.ts - 1) ≡ rows_at (raise past mark) (f.ts - 1)
-its_rows core past mark f same is lt = ap (λ (p : Past). rows_at p (f.ts - 1)) same ∙ sym (rows_at-raise past mark (f.ts - 1) is (omega arith))
+-- each name of a COMMIT is one of the stores, so that its number was given
+each_below : (numbers : Numbers) (names : List Target) → StoresBelow numbers (map name_of names) → All (IsBelow numbers) names
+each_below numbers [] below = all_none (IsBelow numbers)
+each_below numbers (Mem n ∷ names) below = all_cons (IsBelow numbers) (Mem n) names below.0 (each_below numbers names below.1)
+each_below numbers (Delta r n ∷ names) below = all_cons (IsBelow numbers) (Delta r n) names below.0 (each_below numbers names below.1)
 
--- and the run with it
-ended_run : (rules : Rules) (core : Core) (records : List Entry) (places : List (ℕ × ℕ)) (run : List Entry) (names : List Target) (s i : ℕ) (f : Aloft) (rows : List CommitRow) → All IsMem names → AreRecorded names (outcomes_on core.work.fill (rows_at (run_past core) (f.ts - 1)) f.ops) rows
-    → IsLog (records ++ run) → Waits (records ++ run) places f → KeepsRun rules core fresh records run → KeepsRun rules (ended core s i f.ts) fresh records (run ++ Commit f.ts rows ∷ [])
-ended_run rules core records places run names s i f rows mems are log wf k =
+rows_below : (numbers : Numbers) (names : List Target) (os : List Outcome) (rows : List CommitRow) → All (IsBelow numbers) names → AreRecorded names os rows → RowsBelow numbers rows
+rows_below numbers names [] [] below are = tt
+rows_below numbers names [] (row ∷ rows) below are = absurd are
+rows_below numbers names (o ∷ os) [] below are = absurd are
+rows_below numbers names (o ∷ os) (row ∷ rows) below are =
+    let one = are.0 in
+    (subst (λ (r : CommitRow). TargetsBelow numbers r.targets) (sym one.2) (own one.0 (of_each (IsBelow numbers) names one.0 below one.1) o), rows_below numbers names os rows below are.1)
+  where
+    own : (name : Target) → IsBelow numbers name → (o : Outcome) → TargetsBelow numbers (commit_row name o).targets
+    own name is Done = (is, tt)
+    own name is Present = tt
+    own name is Absent = tt
+    own name is Ignored = tt
+
+all_applied : (n : ℕ) (ops : List RowOp) → drop n ops ≡ [] → take n ops ≡ ops
+all_applied n ops none = sym (append-nil (take n ops)) ∙ ap (λ (l : List RowOp). take n ops ++ l) (sym none) ∙ take-append-drop n ops
+
+-- what is handed out was noted at the place of the write that is found
+at_its_place : {C : Type 0} (old new : View C) (log : List Entry) (s : ℕ) (f : Aloft) (rows : List CommitRow) → All (Waits log old.places) old.core.aloft → AreApart old.core.aloft → find (λ w. w.s == s) old.core.aloft ≡ Some f
+    → (h : HasHandedOut old new s rows) → slice_get old.core.aloft h.j ≡ Some f
+at_its_place old new log s f rows waits apart flies h =
+    let wf = all_found (Waits log old.places) (λ w. w.s == s) old.core.aloft f flies waits in
+    let wh = all_at (Waits log old.places) old.core.aloft h.j h.flight h.flies waits in
+    let own : f.s ≡ s = is_session f.s s (found_passes (λ w. w.s == s) old.core.aloft f flies) in
+    let time : f.ts ≡ h.flight.ts = one_session log old.places f h.flight (own ∙ sym h.own) wf wh in
+    let there = found_place (λ (w : Aloft). w.s == s) old.core.aloft f flies in
+    ap (slice_get old.core.aloft) (sym (one_place old.core.aloft there.0 h.j f h.flight apart there.1 h.flies time)) ∙ there.1
+
+-- and the run with it: what was noted of its rows is true, so that its COMMIT tells what became of them
+ended_run : (rules : Rules) (core : Core) (super : Super) (names : List Target) (notes later : List (List CommitRow)) (records : List Entry) (places : List (ℕ × ℕ)) (run : List Entry) (s i j : ℕ) (f : Aloft) (outcomes : List Outcome) (rows : List CommitRow)
+    → IsLog (records ++ (run ++ Commit f.ts rows ∷ [])) → All (Waits (records ++ run) places) core.aloft → AreApart core.aloft → slice_get core.aloft j ≡ Some f → f.s ≡ s → drop f.applied f.ops ≡ []
+    → slice_get notes j ≡ Some rows → later ≡ remove notes j → AreRecorded names outcomes rows → KeepsRun rules core super names notes records run → KeepsRun rules (ended core s i f.ts) super names later records (run ++ Commit f.ts rows ∷ [])
+ended_run rules core super names notes later records places run s i j f outcomes rows log waits apart at own over here later_is are k =
     let fill = core.work.fill in
-    let all = records ++ run in
-    let past = with_records fill core.first run in
-    let ends = (runs_up fill fresh core.opened records core.first run k.recovered.told k.recovered.ends).0 in
-    let mark = (runs_up fill fresh core.opened records core.first run k.recovered.told k.recovered.ends).2 in
-    let content = all_hold rules fill fresh records run core.opened core.first log k.recovered in
-    let is_past : IsPast (raise past 0) = is_past_raised past 0 ends.is (omega (arith, mark, k.recovered.marked)) in
-    let before : rows_at (run_past core) (f.ts - 1) ≡ rows_at (raise past 0) (f.ts - 1) = its_rows core past 0 f (sym k.writes) ends.is wf.up in
-    let tells : RowsTell fill fresh all f.ts f.ops rows = rows_tell names mems fill all f.ts (rows_at (raise past 0) (f.ts - 1)) f.ops rows
-    (rows_held fill all f.ts (raise past 0) wf.up is_past content.keys) (subst (λ (rs : Rows). AreRecorded names (outcomes_on fill rs f.ops) rows) before are) in
+    let live = resident core names notes k.numbers in
+    let wf = all_at (Waits (records ++ run) places) core.aloft j f at waits in
+    let flying : Named = named_write f rows in
+    let flies : named_at f.ts live.named ≡ Some flying = named_there j core.aloft notes f rows apart at here in
+    let stands : ops_of f.ts (records ++ run) ≡ Some flying.ops = wf.ops ∙ ap Some (sym (all_applied f.applied f.ops over)) in
+    let tells : RowsTell fill super (records ++ run) f.ts flying.ops rows = found_true fill super (records ++ run) live.named f.ts flying k.stands.names flies in
+    let below = rows_below k.numbers names outcomes rows (each_below k.numbers names k.stands.numbers.stores) are in
+    let alone : All (IsOwn s f.ts) core.aloft = all_each (Waits (records ++ run) places) (IsOwn s f.ts) core.aloft (λ v h is. one_session (records ++ run) places v f (is_session v.s s is ∙ sym own) h wf) waits in
+    let named : named_writes (filter (λ (w : Aloft). not (w.s == s)) core.aloft) later ≡ without f.ts (named_writes core.aloft notes) =
+    ap (named_writes (filter (λ (w : Aloft). not (w.s == s)) core.aloft)) later_is ∙ named_ended j s core.aloft notes f rows apart alone at own here in
     record {
-      recovered = commit_recovered rules fill fresh records run core.opened core.first f.ts rows k.recovered (record { ops = f.ops; stands = wf.ops; tells = tells });
+      recovered = commit_recovered rules fill super records run core.opened core.first f.ts rows k.recovered (record { ops = flying.ops; stands = stands; tells = tells });
       writes = with_records-append fill core.first run (Commit f.ts rows ∷ []) ∙ k.writes ∙ sym (past_line core (End s i f.ts));
+      numbers = k.numbers;
+      stands = subst (λ (ns : List Named). SuperStands rules fill super records (run ++ Commit f.ts rows ∷ []) core.first (record { last = core.c; named = ns; stores = λ q. by_name names (hists q core.stores); names = map name_of names; numbers = k.numbers }))
+          (sym named) (end_keeps rules fill super records run core.first live f.ts flying log k.stands flies stands below);
     }
 
 -- a write whose rows are all applied has one that is
 some_applied : (f : Aloft) → 0 < length f.ops → drop f.applied f.ops ≡ [] → 0 < f.applied
 some_applied f more none = let a = length-drop f.applied f.ops in let b = ap length none in omega arith
 
-with_ended : {L D C : Type 0} (tells : Bool) (seen : L → Files) (now : L → ℕ) (leaves : L → ℕ → Files → Type 0) (faults : L → ℕ) (old : EngineView L D C) (s i : ℕ) (f : Aloft) (outcomes : List Outcome) (rows : List CommitRow) (notes : List (List CommitRow)) → IsEngine tells seen now leaves faults old
-    → old.tablet.core.stopped ≡ false → find (λ w. w.s == s) old.tablet.core.aloft ≡ Some f → IsOver s old.tablet.core.aloft → length outcomes ≡ length f.ops → AreRecorded old.tablet.names outcomes rows
-    → ((first : Past) → IsFound old first → AreRecorded old.tablet.names (outcomes_on old.tablet.core.work.fill (rows_at (run_past (core_from old first)) (f.ts - 1)) f.ops) rows)
-    → IsEngine tells seen now leaves faults (record old { tablet = record old.tablet { core = ended old.tablet.core s i f.ts; notes = notes; places = filter (λ p. not (p.0 == s)) old.tablet.places }; log = record old.log { queued = old.log.queued ++ Commit f.ts rows ∷ []; room = old.log.room - 1 } })
-with_ended tells seen now leaves faults old s i f outcomes rows notes e goes flies over each are told =
+with_ended : {L D C : Type 0} (tells : Bool) (seen : L → Files) (now : L → ℕ) (leaves : L → ℕ → Files → Type 0) (faults : L → ℕ) (old : EngineView L D C) (s i : ℕ) (f : Aloft) (outcomes : List Outcome) (rows : List CommitRow) (tablet : View C) → IsEngine tells seen now leaves faults old
+    → old.tablet.core.stopped ≡ false → find (λ w. w.s == s) old.tablet.core.aloft ≡ Some f → IsOver s old.tablet.core.aloft → length outcomes ≡ length f.ops → AreRecorded old.tablet.names outcomes rows → HasHandedOut old.tablet tablet s rows
+    → IsEngine tells seen now leaves faults (record old { tablet = record old.tablet { core = ended old.tablet.core s i f.ts; notes = tablet.notes; places = filter (λ p. not (p.0 == s)) old.tablet.places }; log = record old.log { queued = old.log.queued ++ Commit f.ts rows ∷ []; room = old.log.room - 1 } })
+with_ended tells seen now leaves faults old s i f outcomes rows tablet e goes flies over each are handed =
     let core = old.tablet.core in
     let k = e.logged.stands in
     let wf = all_found (Waits (old.records ++ e.logged.run) old.tablet.places) (λ w. w.s == s) core.aloft f flies k.flying in
     let framed = own_framed core old.records old.tablet.places e.logged.run s f flies k in
-    let commit = own_commit old.tablet.names e.ready.mems f outcomes rows are each framed in
+    let commit = own_commit old.tablet.names (all_fit (super_of old) old.tablet.names e.ready.named.each) f outcomes rows are each framed in
     let count : length rows ≡ length f.ops = recorded_count old.tablet.names outcomes rows are ∙ each in
     let apart = others_apart s core.aloft f flies e.ready.apart in
     let some : 0 < length f.ops = (held_few (length f.ops) framed.keeps.count).0 in
+    let own : f.s ≡ s = is_session f.s s (found_passes (λ w. w.s == s) core.aloft f flies) in
+    let at = at_its_place old.tablet tablet (old.records ++ e.logged.run) s f rows k.flying e.ready.apart flies handed in
+    let stands = ended_log core old.records old.tablet.places e.logged.run s i f rows flies count commit apart k in
     record {
       logged = record {
         run = e.logged.run ++ Commit f.ts rows ∷ [];
         all = λ t. all_parts old.records e.logged.run (records_of (seen old.log.known.disk)) old.log.out old.log.queued (Commit f.ts rows) (e.logged.all t);
         count = count_parts old.records e.logged.run old.log.out old.log.queued (Commit f.ts rows) old.log.known.count e.logged.count;
         begins = e.logged.begins;
-        stands = ended_log core old.records old.tablet.places e.logged.run s i f rows flies count commit apart k;
+        stands = stands;
         keeps = λ rules first is plan. let before : IsContent rules old first = record { opens = is.opens; holds = is.holds } in
-            ended_run rules (core_from old first) old.records old.tablet.places e.logged.run old.tablet.names s i f rows e.ready.mems (told first is.opens) k.log wf (e.logged.keeps rules first before plan);
+            ended_run rules (core_from old first) (super_of old) old.tablet.names old.tablet.notes tablet.notes old.records old.tablet.places e.logged.run s i handed.j f outcomes rows stands.log k.flying e.ready.apart at own (over_found s core.aloft f flies over)
+            handed.rows_are handed.notes are (e.logged.keeps rules first before plan);
         names = all_more (NamesOnly old.tablet.names) e.logged.run (Commit f.ts rows) e.logged.names (commit_names old.tablet.names f.ts outcomes rows are);
         framed = framed_parts old.log.out old.log.queued (Commit f.ts rows) e.logged.framed commit;
         durable = λ t. all_passing (IsDurable (records_of (seen old.log.known.disk))) (IsDurable (records_of (seen old.log.known.disk))) (λ w. not (w.s == s)) core.aloft (λ w passes h. h) (e.logged.durable t);
@@ -149,7 +188,7 @@ with_ended tells seen now leaves faults old s i f outcomes rows notes e goes fli
       ready = record {
         room = (let less = fewer (λ (w : Aloft). w.s == s) core.aloft f flies in let low = e.ready.room in omega arith);
         apart = apart_fewer (λ w. not (w.s == s)) core.aloft e.ready.apart;
-        mems = e.ready.mems;
+        named = e.ready.named;
       };
       placed = map-filter (λ (p : ℕ × ℕ). p.0) (λ n. not (n == s)) old.tablet.places ∙ ap (filter (λ n. not (n == s))) e.placed ∙ sym (map-filter (λ (w : Aloft). w.s) (λ n. not (n == s)) core.aloft);
     }
@@ -157,9 +196,9 @@ with_ended tells seen now leaves faults old s i f outcomes rows notes e goes fli
 -- a write that has ended
 pub has_ended : {L D C : Type 0} (tells : Bool) (seen : L → Files) (now : L → ℕ) (leaves : L → ℕ → Files → Type 0) (faults : L → ℕ) (old : EngineView L D C) (tablet : View C) (log : SideView L) (s i ts : ℕ) (outcomes : List Outcome) (rows : List CommitRow)
     → tablet ≡ record old.tablet { core = tablet.core; notes = tablet.notes; places = tablet.places } → tablet.places ≡ filter (λ p. not (p.0 == s)) old.tablet.places → HasEnded old.tablet.core tablet.core s i ts → log ≡ record old.log { queued = old.log.queued ++ Commit ts rows ∷ []; room = old.log.room - 1 }
-    → old.tablet.core.stopped ≡ false → MayEnd old.tablet.core s → IsWritten old.tablet.core old.tablet.names s outcomes rows → ((first : Past) → Opens old.tablet.opening old.tablet.mark old.tablet.core.opened first → IsDone (record old.tablet.core { first = first }) old.tablet.names s outcomes rows)
+    → old.tablet.core.stopped ≡ false → MayEnd old.tablet.core s → IsWritten old.tablet.core old.tablet.names s outcomes rows → HasHandedOut old.tablet tablet s rows
     → IsEngine tells seen now leaves faults old → IsEngine tells seen now leaves faults (record old { tablet = tablet; log = log })
-has_ended {L} {D} {C} tells seen now leaves faults old tablet log s i ts outcomes rows beside is_places h is_log goes may written done e =
+has_ended {L} {D} {C} tells seen now leaves faults old tablet log s i ts outcomes rows beside is_places h is_log goes may written handed e =
     let core = old.tablet.core in
     let f = h.flight in
     let is : written.flight ≡ f = (let other = written.flies in let own = h.flies in cc) in
@@ -170,7 +209,7 @@ has_ended {L} {D} {C} tells seen now leaves faults old tablet log s i ts outcome
     let is_log' : log ≡ record old.log { queued = old.log.queued ++ Commit f.ts rows ∷ []; room = old.log.room - 1 } = is_log ∙ ap (λ t. record old.log { queued = old.log.queued ++ Commit t rows ∷ []; room = old.log.room - 1 }) h.time in
     subst (λ (t : View C). IsEngine tells seen now leaves faults (record old { tablet = t; log = log })) (sym is_tablet)
     (subst (λ (l : SideView L). IsEngine tells seen now leaves faults (record old { tablet = record old.tablet { core = ended core s i f.ts; notes = tablet.notes; places = filter (λ p. not (p.0 == s)) old.tablet.places }; log = l })) (sym is_log')
-    (with_ended tells seen now leaves faults old s i f outcomes rows tablet.notes e goes h.flies may.over count written.told (λ first is. is_rows (core_from old first) old.tablet.names s f outcomes rows h.flies (done first is))))
+    (with_ended tells seen now leaves faults old s i f outcomes rows tablet e goes h.flies may.over count written.told handed))
 
 -- there is room for the COMMIT of a write that flies
 pub has_room : {L D C : Type 0} (tells : Bool) (seen : L → Files) (now : L → ℕ) (leaves : L → ℕ → Files → Type 0) (faults : L → ℕ) (old : EngineView L D C) (f : Aloft) (s : ℕ) → find (λ w. w.s == s) old.tablet.core.aloft ≡ Some f → IsEngine tells seen now leaves faults old → 0 < old.log.room

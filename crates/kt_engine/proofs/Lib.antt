@@ -6,7 +6,11 @@ pub mod Fronts
 pub mod Commits
 pub mod Told
 pub mod Waiting
+pub mod Memory
+pub mod Next
 pub mod Runs
+pub mod Bare
+pub mod Numbering
 pub mod Opened
 pub mod Begun
 pub mod Applied

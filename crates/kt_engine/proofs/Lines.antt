@@ -10,6 +10,7 @@ use Rattle.kt_records.specs.declared.entry.Entry.{Entry}
 use Rattle.kt_journal.specs.Log.{records_of}
 use Rattle.kt_histlaws.specs.Core.{Core}
 use Rattle.kt_histlaws.specs.Events.{looked, answered_rows, marked, answered}
+use Rattle.kt_content.proofs.Keeping.{look_keeps as a_look_keeps}
 use Rattle.kt_tablet.specs.declared.tablet.scan.SnapNo.{SnapNo}
 use Rattle.kt_tablet.specs.declared.tablet.scan.SnapNo.TheVariants as no
 use Rattle.kt_tablet.specs.declared.tablet.LookNo.{LookNo}
@@ -18,7 +19,8 @@ use Rattle.kt_tablet.specs.Views.{View}
 use Rattle.kt_tablet.specs.Visits.{HasLooked, HasMarked}
 use Rattle.kt_tablet.specs.Reads.{HasRead, LeavesRead}
 use Rattle.kt_engine.specs.Logged.{AcknowledgedIn}
-use Rattle.kt_engine.specs.Engines.{EngineView, IsLogged, IsEngine, core_from}
+use Rattle.kt_engine.specs.Memory.{resident}
+use Rattle.kt_engine.specs.Engines.{EngineView, IsLogged, IsEngine, core_from, super_of}
 use Rattle.kt_engine.proofs.Runs.{past_line, acknowledged_more, stop_line, goes_still, ok_no, err_is}
 
 -- a line that neither begins nor ends a write
@@ -68,7 +70,12 @@ line_logged tells seen view e a c turns stopped clock is quiet up = record {
   keeps = λ rules first h plan.
       let keeps = is.keeps rules first (record { opens = h.opens; holds = h.holds }) plan in
       let core = core_from view first in
-      record { recovered = keeps.recovered; writes = keeps.writes ∙ sym (past_line core e ∙ past_after core.work (state_after core.work (start core.work first core.opened) core.trail) e quiet) };
+      record {
+        recovered = keeps.recovered;
+        writes = keeps.writes ∙ sym (past_line core e ∙ past_after core.work (state_after core.work (start core.work first core.opened) core.trail) e quiet);
+        numbers = keeps.numbers;
+        stands = a_look_keeps rules core.work.fill (super_of view) view.records is.run first (resident core view.tablet.names view.tablet.notes keeps.numbers) c keeps.stands up;
+      };
   names = is.names;
   framed = is.framed;
   durable = is.durable;
@@ -89,7 +96,7 @@ line_keeps {L} {D} {C} tells seen now leaves faults view tablet e a c turns cloc
       lent = is.lent;
       whole = is.whole;
       stops = stop_line view.tablet.core (with_line view.tablet e a c turns view.tablet.core.stopped clock).core e is.stops goes other refl refl;
-      ready = record { room = is.ready.room; apart = is.ready.apart; mems = is.ready.mems };
+      ready = record { room = is.ready.room; apart = is.ready.apart; named = is.ready.named };
       placed = is.placed;
     })
 

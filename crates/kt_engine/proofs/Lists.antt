@@ -88,3 +88,27 @@ pub get_among : {A : Type 0} (xs ys : List A) (n : ℕ) (x : A) → slice_get (x
 get_among [] ys n x h lt = absurd (omega arith)
 get_among (y ∷ xs) ys zero x h lt = (0, omega arith, let e : y ≡ x = cc in e)
 get_among (y ∷ xs) ys (suc n) x h lt = let r = get_among xs ys n x h (omega arith) in (suc r.0, let low = r.1 in omega arith, r.2)
+
+-- what holds of each holds of the one at a place
+pub all_at : {A : Type 0} (P : A → Type 0) (xs : List A) (n : ℕ) (x : A) → slice_get xs n ≡ Some x → All P xs → P x
+all_at P [] n x at h = absurd (let e : None ≡ Some x = at in cc)
+all_at P (y ∷ ys) zero x at h = let e : y ≡ x = cc in subst P e (all_head P y ys h)
+all_at P (y ∷ ys) (suc n) x at h = all_at P ys n x at (all_tail P y ys h)
+
+-- of two lists of one length the second has an element where the first has
+pub beside_it : {A B : Type 0} (xs : List A) (ys : List B) (n : ℕ) (x : A) → length ys ≡ length xs → slice_get xs n ≡ Some x → (y : B) × (slice_get ys n ≡ Some y)
+beside_it [] ys n x many at = absurd (let e : None ≡ Some x = at in cc)
+beside_it (z ∷ xs) [] n x many at = absurd (let e : 0 ≡ suc (length xs) = many in omega arith)
+beside_it (z ∷ xs) (y ∷ ys) zero x many at = (y, refl)
+beside_it (z ∷ xs) (y ∷ ys) (suc n) x many at = beside_it xs ys n x (let e : suc (length ys) ≡ suc (length xs) = many in omega arith) at
+
+pub some_one : {A : Type 0} (x y : A) → Some x ≡ Some y → x ≡ y
+some_one x y e = cc
+
+-- the one that is found has a place
+pub found_place : {A : Type 0} (t : A → Bool) (xs : List A) (x : A) → find t xs ≡ Some x → (n : ℕ) × (slice_get xs n ≡ Some x)
+found_place t [] x h = absurd (let e : None ≡ Some x = h in cc)
+found_place t (y ∷ ys) x h = elim (t y) as (λ b. cond b (Some y) (find t ys) ≡ Some x → (n : ℕ) × (slice_get (y ∷ ys) n ≡ Some x)) [
+  | true ↦ λ e. (0, e)
+  | false ↦ λ e. let rest = found_place t ys x e in (suc rest.0, rest.1)
+] h

@@ -2,16 +2,20 @@
 use Rattle.std.proofs.Common.{◌≡◌, ◌≢◌, ℕ, ◌≤◌, max, List, [], ◌∷◌, ◌++◌, length, map, Some, None, refl, sym, true, false, Bool, ap, ◌∙◌, subst, arith, length-append}
 use Rattle.std.specs.Prelude.{IsTrue}
 use Rattle.std.specs.List.{All}
-use Rattle.std.proofs.lemmas.List.{append-nil}
+use Rattle.std.proofs.lemmas.List.{append-nil, length-map}
 use Rattle.kt_disk.specs.Disk.{Files}
+use Rattle.kt_history.specs.declared.operation.OpKind.TheVariants.{Insert}
 use Rattle.kt_history.specs.declared.target.Target.{Target}
 use Rattle.kt_history.specs.declared.event.Event.{Event}
 use Rattle.kt_history.specs.declared.event.Event.TheVariants.{Stop}
-use Rattle.kt_history.specs.History.{Past}
+use Rattle.kt_history.specs.History.{Past, IsPastUpTo, raise}
+use Rattle.kt_history.specs.Operations.{share_key}
+use Rattle.kt_history.specs.Stores.{hist_in}
 use Rattle.kt_history.specs.Machine.{start, state_after}
 use Rattle.kt_history.specs.Rows.{Row}
 use Rattle.kt_records.specs.declared.entry.Entry.{Entry}
 use Rattle.kt_records.specs.declared.entry.Entry.TheVariants.{Replicate, Commit}
+use Rattle.kt_records.specs.declared.entry.CommitRow.{CommitRow}
 use Rattle.kt_journal.specs.Log.{records_of, IsLog, CanOpen}
 use Rattle.kt_journal.specs.Order.{newest_first}
 use Rattle.kt_journal.specs.Open.{JournalView}
@@ -19,27 +23,105 @@ use Rattle.kt_loglaws.specs.Replay.{last_of}
 use Rattle.kt_loglaws.specs.Fronts.{with_records}
 use Rattle.kt_loglaws.specs.Side.{SideView}
 use Rattle.kt_histlaws.specs.Pending.{Aloft}
-use Rattle.kt_content.specs.Places.{fresh}
+use Rattle.kt_histlaws.specs.Core.{Core, Stands}
+use Rattle.kt_histlaws.specs.Histories.{hists, past_hist, ShowsKey}
+use Rattle.kt_content.specs.Places.{Super, fresh}
 use Rattle.kt_content.specs.Rules.{Rules, RecordsPass}
-use Rattle.kt_content.specs.Content.{IsContent as HoldsPast}
+use Rattle.kt_content.specs.KeyOps.{seen}
+use Rattle.kt_content.specs.Content.{AreTold, HoldsKey, IsContent as HoldsPast}
+use Rattle.kt_content.specs.Records.{AllTold}
+use Rattle.kt_content.specs.InMemory.{Mirrors}
+use Rattle.kt_content.specs.Recovering.{IsRecovered, low_after}
+use Rattle.kt_content.specs.RunEvents.{Numbers, NumbersAreFresh}
+use Rattle.kt_content.proofs.OwedQueued.{queued_stands}
+use Rattle.kt_content.proofs.Recovering.{all_hold}
 use Rattle.kt_tablet.specs.Views.{View, Opens}
-use Rattle.kt_engine.specs.Logged.{Waits, UntoldFly, AreDue, AreApart, AcknowledgedIn, IsDurable, IsMem, NamesOnly}
+use Rattle.kt_engine.specs.Memory.{name_of, by_name, named_writes, resident, NamesDiffer}
+use Rattle.kt_engine.specs.Logged.{Waits, UntoldFly, AreDue, AreApart, AcknowledgedIn, IsDurable, IsMem, NamesOnly, KeepsRun}
 use Rattle.kt_engine.specs.Engines.{EngineView, KeepsOthers, IsHome, IsEngine}
 use Rattle.kt_engine.proofs.Lists.{all_none}
 use Rattle.kt_engine.proofs.Raised.{raise_at}
+use Rattle.kt_engine.proofs.Bare.{shows_first, mems_named, bare_mirrors}
+use Rattle.kt_engine.proofs.Numbering.{numbers_above, numbers_fresh}
 use Rattle.kt_engine.proofs.Told.{due_told}
+use Rattle.kt_engine.proofs.Waiting.{keys_told}
 use Rattle.kt_engine.proofs.Records.{order_rest, framed_all}
 
--- COMMITs add no write, and no operation that rules would have to take
-commits_write : (fill : Row) (names : List Target) (past : Past) (records queued : List Entry) → AreDue fill names past records queued → with_records fill past queued ≡ past
-commits_write fill names past records [] h = refl
-commits_write fill names past records (Replicate ts ops ∷ queued) h = absurd h
-commits_write fill names past records (Commit ts rows ∷ queued) h = commits_write fill names past records queued h.1
+-- COMMITs alone: they add no write, no operation that rules would have to take, and no timestamp
+abbrev pub AreCommits : List Entry → Type 0
+AreCommits [] = Unit {0}
+AreCommits (Replicate ts ops ∷ records) = ⊥
+AreCommits (Commit ts rows ∷ records) = AreCommits records
 
-commits_pass : (rules : Rules) (fill : Row) (names : List Target) (past : Past) (records queued : List Entry) → AreDue fill names past records queued → RecordsPass rules fill queued
-commits_pass rules fill names past records [] h = tt
-commits_pass rules fill names past records (Replicate ts ops ∷ queued) h = absurd h
-commits_pass rules fill names past records (Commit ts rows ∷ queued) h = commits_pass rules fill names past records queued h.1
+due_commits : (fill : Row) (names : List Target) (past : Past) (records queued : List Entry) → AreDue fill names past records queued → AreCommits queued
+due_commits fill names past records [] h = tt
+due_commits fill names past records (Replicate ts ops ∷ queued) h = absurd h
+due_commits fill names past records (Commit ts rows ∷ queued) h = due_commits fill names past records queued h.1
+
+commits_write : (fill : Row) (past : Past) (queued : List Entry) → AreCommits queued → with_records fill past queued ≡ past
+commits_write fill past [] h = refl
+commits_write fill past (Replicate ts ops ∷ queued) h = absurd h
+commits_write fill past (Commit ts rows ∷ queued) h = commits_write fill past queued h
+
+commits_pass : (rules : Rules) (fill : Row) (queued : List Entry) → AreCommits queued → RecordsPass rules fill queued
+commits_pass rules fill [] h = tt
+commits_pass rules fill (Replicate ts ops ∷ queued) h = absurd h
+commits_pass rules fill (Commit ts rows ∷ queued) h = commits_pass rules fill queued h
+
+commits_up : (low : ℕ) (queued : List Entry) → AreCommits queued → low_after low queued ≡ low
+commits_up low [] h = refl
+commits_up low (Replicate ts ops ∷ queued) h = absurd h
+commits_up low (Commit ts rows ∷ queued) h = commits_up low queued h
+
+-- with the COMMITs that it owed each write of the log has its own
+all_told : (all : List Entry) (q : List ℕ) → IsLog all → UntoldFly all [] → AreTold (seen q all all)
+all_told all q log untold = (keys_told all [] [] (record { kind = Insert; key = q; cells = [] } ∷ []) log (all_none (Waits all [])) untold (all_none (λ (w : Aloft). share_key (record { kind = Insert; key = q; cells = [] } ∷ []) w.ops ≡ false))).0
+
+-- It keeps the run of each past that a superblock and the records hold, where the COMMITs that it owed are told and its stores mirror what both hold.
+pub keeps_opened : (rules : Rules) (core : Core) (super : Super) (names : List Target) (notes : List (List CommitRow)) (records queued : List Entry) (numbers : Numbers) → core.trail ≡ [] → core.aloft ≡ []
+    → IsLog (records ++ queued) → UntoldFly (records ++ queued) [] → core.opened ≤ core.c → last_of (records ++ queued) ≤ core.c → AreCommits queued
+    → IsPastUpTo core.opened core.first → HoldsPast rules core.work.fill super records core.opened core.first → AllTold core.work.fill super core.opened records queued
+    → ((q : List ℕ) → (h : HoldsKey core.work.fill super (records ++ queued) q (past_hist q core.first)) → Mirrors super.a super (by_name names (hists q core.stores)) h.held)
+    → NumbersAreFresh super (records ++ queued) (map name_of names) numbers → KeepsRun rules core super names notes records queued
+keeps_opened rules core super names notes records queued numbers trail aloft log untold since last commits ends holds told mirrors above =
+    let fill = core.work.fill in
+    let past = core.first in
+    let low = core.opened in
+    let none = commits_write fill past queued commits in
+    let itself : raise past super.a ≡ past = raise_at past super.a holds.mark holds.ends.is in
+    let recovered : IsRecovered rules fill super records queued low past = record {
+      content = subst (λ (p : Past). HoldsPast rules fill super records (max super.c (last_of records)) p) (sym itself) (subst (λ (c : ℕ). HoldsPast rules fill super records c past) holds.last holds);
+      told = told;
+      ends = ends;
+      marked = omega (arith, holds.mark);
+      low_enough = let m = ends.mark in omega (arith, holds.mark);
+      passes = commits_pass rules fill queued commits;
+    } in
+    let is : HoldsPast rules fill super (records ++ queued) (max super.c (last_of (records ++ queued))) past =
+    subst (λ (p : Past). HoldsPast rules fill super (records ++ queued) (max super.c (last_of (records ++ queued))) p) (ap (λ (p : Past). raise p super.a) none ∙ itself) (all_hold rules fill super records queued low past log recovered) in
+    let le : max super.c (last_of (records ++ queued)) ≤ core.c = let l = holds.last in omega arith in
+    let up : low_after low queued ≤ core.c = subst (λ (n : ℕ). n ≤ core.c) (sym (commits_up low queued commits)) since in
+    record {
+      recovered = recovered;
+      writes = none ∙ ap (λ (es : List Event). (state_after core.work (start core.work past low) es).past) (sym trail);
+      numbers = numbers;
+      stands = queued_stands rules fill super records queued (max super.c (last_of (records ++ queued))) low past (resident core names notes numbers) is recovered none le up
+          (ap (λ (ws : List Aloft). named_writes ws notes) aloft) (λ q. mirrors q (is.keys q)) (λ q. all_told (records ++ queued) q log untold) above;
+    }
+
+-- So it does where it read no rowset: the COMMITs say what became of their writes, and the stores show what the log alone holds.
+opened_run : (rules : Rules) (core : Core) (names : List Target) (notes : List (List CommitRow)) (records queued : List Entry) → Stands core → core.trail ≡ [] → core.aloft ≡ [] → All IsMem names → length names ≡ length core.stores
+    → IsLog (records ++ queued) → UntoldFly (records ++ queued) [] → core.opened ≤ core.c → last_of (records ++ queued) ≤ core.c → AreDue core.work.fill names core.first records queued
+    → IsPastUpTo core.opened core.first → HoldsPast rules core.work.fill fresh records core.opened core.first → KeepsRun rules core fresh names notes records queued
+opened_run rules core names notes records queued st trail aloft mems stored log untold since last due ends holds =
+    let fill = core.work.fill in
+    let past = core.first in
+    keeps_opened rules core fresh names notes records queued (numbers_above (records ++ queued) names) trail aloft log untold since last (due_commits fill names past records queued due) ends holds
+    (due_told rules fill names core.opened core.opened past records mems records queued (λ ts. refl) log holds due)
+    (λ q h.
+    let shows : ShowsKey 0 (hists q core.stores) (past_hist q past) = subst (λ (a : ℕ). ShowsKey a (hists q core.stores) (past_hist q past)) holds.mark (shows_first core st trail aloft q) in
+    bare_mirrors fill 0 names (hists q core.stores) (seen q (records ++ queued) (records ++ queued)) h.held (past_hist q past) mems (stored ∙ sym (length-map core.stores (hist_in q))) shows h.is h.shown.shows)
+    (numbers_fresh (records ++ queued) names)
 
 -- what an engine is opened of, where nothing has happened yet
 abbrev pub opened_view : {L D C : Type 0} → View C → JournalView L → List Entry → List Entry → D → L → EngineView L D C
@@ -54,14 +136,15 @@ opened_view tablet journal records queued store device = record {
 
 pub is_opened : {L D C : Type 0} (tells : Bool) (seen : L → Files) (now : L → ℕ) (leaves : L → ℕ → Files → Type 0) (faults : L → ℕ) (tablet : View C) (journal : JournalView L) (records queued : List Entry) (store : D) (device : L)
     → tablet.core.trail ≡ [] → tablet.core.aloft ≡ [] → tablet.core.stopped ≡ false → map (λ p. p.0) tablet.places ≡ map (λ w. w.s) tablet.core.aloft
-    → All IsMem tablet.names
+    → All IsMem tablet.names → NamesDiffer tablet.names → length tablet.names ≡ length tablet.core.stores
+    → ((past : Past) → Opens tablet.opening tablet.mark tablet.core.opened past → Stands (record tablet.core { first = past }))
     → IsLog (records ++ queued)
     → ((past : Past) → Opens tablet.opening tablet.mark tablet.core.opened past → AreDue tablet.core.work.fill tablet.names past records queued) → UntoldFly (records ++ queued) tablet.core.aloft → tablet.core.opened ≤ tablet.core.c
     → last_of (records ++ queued) ≤ tablet.core.c → All (NamesOnly tablet.names) queued → journal.count ≡ length records
     → (IsTrue tells → records_of (seen journal.disk) ≡ records)
     → (IsTrue tells → CanOpen now leaves journal.disk) → (IsTrue tells → KeepsOthers now leaves device journal.disk) → faults device ≤ faults journal.disk
     → IsEngine tells seen now leaves faults (opened_view tablet journal records queued store device)
-is_opened tells seen now leaves faults tablet journal records queued store device trail aloft stopped placed mems log due untold since last names count reads openable others later = record {
+is_opened tells seen now leaves faults tablet journal records queued store device trail aloft stopped placed mems differ stored shown log due untold since last names count reads openable others later = record {
   logged = record {
     run = queued;
     all = λ t. ap (λ l. l ++ queued) (sym (reads t));
@@ -74,17 +157,9 @@ is_opened tells seen now leaves faults tablet journal records queued store devic
       flying = subst (λ (ws : List Aloft). All (Waits (records ++ queued) tablet.places) ws) (sym aloft) (all_none (Waits (records ++ queued) tablet.places));
       untold = untold;
     };
-    keeps = λ rules past is plan. record {
-      recovered = record {
-        content = subst (λ (p : Past). HoldsPast rules tablet.core.work.fill fresh records (max 0 (last_of records)) p) (sym (raise_at past 0 is.holds.mark is.holds.ends.is)) (subst (λ c. HoldsPast rules tablet.core.work.fill fresh records c past) is.holds.last is.holds);
-        told = due_told rules tablet.core.work.fill tablet.names tablet.core.opened tablet.core.opened past records mems records queued (λ ts. refl) log is.holds (due past is.opens);
-        ends = is.opens.ends;
-        marked = omega (arith, is.holds.mark);
-        low_enough = omega arith;
-        passes = commits_pass rules tablet.core.work.fill tablet.names past records queued (due past is.opens);
-      };
-      writes = commits_write tablet.core.work.fill tablet.names past records queued (due past is.opens) ∙ ap (λ (es : List Event). (state_after tablet.core.work (start tablet.core.work past tablet.core.opened) es).past) (sym trail);
-    };
+    keeps = λ rules past is plan.
+        let none : UntoldFly (records ++ queued) [] = subst (λ (ws : List Aloft). UntoldFly (records ++ queued) ws) aloft untold in
+        opened_run rules (record tablet.core { first = past }) tablet.names tablet.notes records queued (shown past is.opens) trail aloft mems stored log none since last (due past is.opens) is.opens.ends is.holds;
     names = names;
     framed = framed_all (newest_first [] records) queued (order_rest [] records queued log);
     durable = λ t. subst (λ (ws : List Aloft). All (IsDurable (records_of (seen journal.disk))) ws) (sym aloft) (all_none (IsDurable (records_of (seen journal.disk))));
@@ -98,7 +173,7 @@ is_opened tells seen now leaves faults tablet journal records queued store devic
   ready = record {
     room = subst (λ (ws : List Aloft). length ws ≤ 0) (sym aloft) (omega arith);
     apart = subst AreApart (sym aloft) tt;
-    mems = mems;
+    named = mems_named tablet.names mems differ;
   };
   placed = placed;
 }

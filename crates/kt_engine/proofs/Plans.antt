@@ -41,6 +41,8 @@ plan_keeps {L} {D} {C} tells seen now leaves faults view tablet plan is fresh no
             record {
               recovered = keeps.recovered;
               writes = keeps.writes ∙ past_at_first view.tablet.core.work first view.tablet.core.opened view.tablet.core.trail fresh ∙ sym (past_at_first work first view.tablet.core.opened view.tablet.core.trail fresh);
+              numbers = keeps.numbers;
+              stands = keeps.stands;
             };
         names = is.logged.names;
         framed = is.logged.framed;
@@ -54,6 +56,6 @@ plan_keeps {L} {D} {C} tells seen now leaves faults view tablet plan is fresh no
       lent = is.lent;
       whole = is.whole;
       stops = record { goes = is.stops.goes; stopped = is.stops.stopped };
-      ready = record { room = is.ready.room; apart = is.ready.apart; mems = is.ready.mems };
+      ready = record { room = is.ready.room; apart = is.ready.apart; named = is.ready.named };
       placed = is.placed;
     })

@@ -29,7 +29,7 @@ running_keeps tells seen now leaves faults view running is = record {
   lent = is.lent;
   whole = is.whole;
   stops = is.stops;
-  ready = record { room = is.ready.room; apart = is.ready.apart; mems = is.ready.mems };
+  ready = record { room = is.ready.room; apart = is.ready.apart; named = is.ready.named };
   placed = is.placed;
 }
 

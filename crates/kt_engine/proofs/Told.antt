@@ -1,4 +1,4 @@
--- What a COMMIT names, and that it tells what became of its write.
+-- What the COMMITs that opening owes name, where it reads no rowset: that they tell what became of their writes.
 use Rattle.std.proofs.Common.{◌≡◌, ℕ, zero, suc, ◌-◌, ◌<◌, List, [], ◌∷◌, ◌++◌, Some, None, Option, Ok, refl, sym, true, false, cond, ap, ◌∙◌, subst, arith}
 use Rattle.std.specs.FinMap.Entries.{find}
 use Rattle.std.specs.List.{All}
@@ -48,7 +48,7 @@ alone_moved ts (m ∷ ms) h = elim (same_place m.0 memory) as (λ b. (g : Hist) 
   | false ↦ alone_moved ts ms h
 ]
 
-alone_played : (fill : Row) (h : Hist) (xs : List KeyOp) (held : Held) → played fill fresh (alone_in h) xs ≡ Ok held → (g : Hist) × (held ≡ alone_in g) × (g.first ≡ h.first)
+pub alone_played : (fill : Row) (h : Hist) (xs : List KeyOp) (held : Held) → played fill fresh (alone_in h) xs ≡ Ok held → (g : Hist) × (held ≡ alone_in g) × (g.first ≡ h.first)
 alone_played fill h [] held e = (h, (let is : alone_in h ≡ held = cc in sym is), refl)
 alone_played fill h (x ∷ xs) held e = elim (decided fill fresh (standing x.ts (alone_in h)) x.op x.told) as (λ o. if_fits x.ts (λ moves. played fill fresh (moved x.ts moves (alone_in h)) xs) o ≡ Ok held → (g : Hist) × (held ≡ alone_in g) × (g.first ≡ h.first)) [
   | None ↦ λ e. absurd (cc)
@@ -93,7 +93,7 @@ one_tells name mem fill records ts rows op before held found =
     subst (λ (l : Held). TellsOne fill fresh l ts op targets) (sym a.1) (names_tell fill fresh (alone_in a.0) ts op targets (tt, tt) named, one_alone (row_before ts a.0))
 
 -- and so are those of a write, each of a store of these
-pub rows_tell : (names : List Target) → All IsMem names → (fill : Row) (records : List Entry) (ts : ℕ) (rows : Rows) (ops : List RowOp) (told : List CommitRow) → AreBefore fill records ts rows → AreRecorded names (outcomes_on fill rows ops) told → RowsTell fill fresh records ts ops told
+rows_tell : (names : List Target) → All IsMem names → (fill : Row) (records : List Entry) (ts : ℕ) (rows : Rows) (ops : List RowOp) (told : List CommitRow) → AreBefore fill records ts rows → AreRecorded names (outcomes_on fill rows ops) told → RowsTell fill fresh records ts ops told
 rows_tell names mems fill records ts rows [] [] before are = tt
 rows_tell names mems fill records ts rows [] (row ∷ told) before are = absurd are
 rows_tell names mems fill records ts rows (op ∷ ops) [] before are = absurd are
@@ -103,7 +103,7 @@ rows_tell names mems fill records ts rows (op ∷ ops) (row ∷ told) before are
     (subst (λ (r : CommitRow). TellsIn fill fresh records ts op r.targets) (sym one.2) own, rows_tell names mems fill records ts rows ops told before are.1)
 
 -- a past that the log holds has such rows just before a write above the mark
-pub rows_held : (fill : Row) (records : List Entry) (ts : ℕ) (past : Past) → 0 < ts → IsPast past → ((q : List ℕ) → HoldsKey fill fresh records q (past_hist q past)) → AreBefore fill records ts (rows_at past (ts - 1))
+rows_held : (fill : Row) (records : List Entry) (ts : ℕ) (past : Past) → 0 < ts → IsPast past → ((q : List ℕ) → HoldsKey fill fresh records q (past_hist q past)) → AreBefore fill records ts (rows_at past (ts - 1))
 rows_held fill records ts past above is keys q h none found =
     let same : (keys q).held ≡ alone_in h = two_oks (content_at fill fresh records q) (keys q).held (alone_in h) (keys q).is found in
     let shown : Shown 0 (alone_in h) (past_hist q past) = subst (λ (l : Held). Shown 0 l (past_hist q past)) same (keys q).shown in

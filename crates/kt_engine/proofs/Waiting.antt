@@ -35,7 +35,7 @@ true_or : (a b : Bool) → a ≡ true → (a || b) ≡ true
 true_or true b h = refl
 true_or false b h = cc
 
-or_true : (a b : Bool) → b ≡ true → (a || b) ≡ true
+pub or_true : (a b : Bool) → b ≡ true → (a || b) ≡ true
 or_true true b h = refl
 or_true false b h = h
 
@@ -103,7 +103,7 @@ untold_begun records aloft w ops fly ts os has none = elim (w.ts == ts) as (λ b
 ] refl
 
 -- two that fly for one session are one write
-one_session : (records : List Entry) (places : List (ℕ × ℕ)) (v w : Aloft) → v.s ≡ w.s → Waits records places v → Waits records places w → v.ts ≡ w.ts
+pub one_session : (records : List Entry) (places : List (ℕ × ℕ)) (v w : Aloft) → v.s ≡ w.s → Waits records places v → Waits records places w → v.ts ≡ w.ts
 one_session records places v w e a b =
     let places_are : Some (suc a.n) ≡ Some (suc b.n) = sym a.place ∙ ap (λ s. place_at s places) e ∙ b.place in
     let n : a.n ≡ b.n = cc in

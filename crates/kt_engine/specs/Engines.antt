@@ -20,7 +20,8 @@ use Rattle.kt_loglaws.specs.declared.side.LogNo.{LogNo as SideNo}
 use Rattle.kt_loglaws.specs.declared.side.LogNo.TheVariants as side
 use Rattle.kt_engine.specs.declared.log.LogNo.{LogNo}
 use Rattle.kt_engine.specs.declared.log.LogNo.TheVariants as no
-use Rattle.kt_engine.specs.Logged.{PlanPasses, LogStands, KeepsRun, AreApart, IsDurable, AcknowledgedIn, IsMem, NamesOnly, HoldsRecords, HoldsFront, HoldsRun}
+use Rattle.kt_engine.specs.Memory.{AreNamed}
+use Rattle.kt_engine.specs.Logged.{PlanPasses, LogStands, KeepsRun, AreApart, IsDurable, AcknowledgedIn, NamesOnly, HoldsRecords, HoldsFront, HoldsRun}
 
 -- the tablet, its log, the records that opening found, and the log's device as it was handed in; the store device; and the numbers of
 -- the sessions that run
@@ -57,7 +58,7 @@ pub record IsLogged {L D C : Type 0} (tells : Bool) (seen : L → Files) (view :
   pub count : length (view.records ++ run) ≡ view.log.known.count + length (view.log.out ++ view.log.queued)
   pub begins : IsTrue tells → (durable : List Entry) × (records_of (seen view.log.known.disk) ≡ view.records ++ durable)
   pub stands : LogStands view.tablet.core view.records view.tablet.places run
-  pub keeps : (rules : Rules) (first : Past) → IsContent rules view first → PlanPasses rules view.tablet.core.work → KeepsRun rules (core_from view first) (super_of view) view.records run
+  pub keeps : (rules : Rules) (first : Past) → IsContent rules view first → PlanPasses rules view.tablet.core.work → KeepsRun rules (core_from view first) (super_of view) view.tablet.names view.tablet.notes view.records run
   pub names : All (NamesOnly view.tablet.names) run
   pub framed : All IsFramed (view.log.out ++ view.log.queued)
   pub durable : IsTrue tells → All (IsDurable (records_of (seen view.log.known.disk))) view.tablet.core.aloft
@@ -82,11 +83,11 @@ pub record TellsStop (core : Core) : Type 0 where
   pub goes : core.stopped ≡ false → All (λ e. e ≢ Stop) core.trail
   pub stopped : core.stopped ≡ true → (before : List Event) × (core.trail ≡ before ++ Stop ∷ [])
 
--- There is room for the COMMIT of each flying write, no two of these have one timestamp, and their rows go to MemRowSets.
+-- There is room for the COMMIT of each flying write, no two of these have one timestamp, and their rows go to stores that stand for places of an opening.
 pub record IsReady {L D C : Type 0} (view : EngineView L D C) : Type 0 where
   pub room : length view.tablet.core.aloft ≤ view.log.room
   pub apart : AreApart view.tablet.core.aloft
-  pub mems : All IsMem view.tablet.names
+  pub named : AreNamed (super_of view) view.tablet.names
 
 -- The engine stands. While a pass has the log out the tablet goes on, and the log went out with no fewer faults than were handed in.
 pub record IsEngine {L D C : Type 0} (tells : Bool) (seen : L → Files) (now : L → ℕ) (leaves : L → ℕ → Files → Type 0) (faults : L → ℕ) (view : EngineView L D C) : Type 0 where

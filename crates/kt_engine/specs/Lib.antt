@@ -1,3 +1,4 @@
+pub mod Memory
 pub mod Logged
 pub mod Engines
 pub mod Sessions

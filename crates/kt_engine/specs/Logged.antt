@@ -14,6 +14,7 @@ use Rattle.kt_history.specs.Machine.{Workload, command_at}
 use Rattle.kt_history.specs.Machine as machine
 use Rattle.kt_records.specs.declared.entry.Entry.{Entry}
 use Rattle.kt_records.specs.declared.entry.Entry.TheVariants.{Replicate, Commit}
+use Rattle.kt_records.specs.declared.entry.CommitRow.{CommitRow}
 use Rattle.kt_journal.specs.Order.{waiting, newest_first}
 use Rattle.kt_journal.specs.Log.{log_of, IsLog}
 use Rattle.kt_loglaws.specs.Replay.{last_of, commit_of}
@@ -22,10 +23,13 @@ use Rattle.kt_content.specs.Places.{Super}
 use Rattle.kt_content.specs.Rules.{Rules, OpsPass}
 use Rattle.kt_content.specs.Content.{IsContent as HoldsPast}
 use Rattle.kt_content.specs.Recovering.{IsRecovered}
+use Rattle.kt_content.specs.RunEvents.{Numbers}
+use Rattle.kt_content.specs.Recoverable.{SuperStands}
 use Rattle.kt_histlaws.specs.Pending.{Aloft}
 use Rattle.kt_histlaws.specs.Core.{Core, run_past}
 use Rattle.kt_tablet.specs.Rows.{AreRecorded}
 use Rattle.kt_tablet.specs.Views.{place_at}
+use Rattle.kt_engine.specs.Memory.{resident}
 
 -- the rules of the table take each write of the plan
 abbrev pub PlanPasses : Rules → Workload → Type 0
@@ -109,10 +113,13 @@ pub record LogStands (core : Core) (records : List Entry) (places : List (ℕ ×
   pub untold : UntoldFly (records ++ run) core.aloft
 
 -- And for a past that it found under this superblock: each front of the records from those on holds it with the writes of the front, and all of
--- them are those of the run.
-pub record KeepsRun (rules : Rules) (core : Core) (super : Super) (records : List Entry) (run : List Entry) : Type 0 where
+-- them are those of the run. The stores in memory mirror of each key what all records hold, without what is still to be applied, and what is noted of the
+-- rows that are applied is true; so a COMMIT that says it changes nothing of what the records hold.
+pub record KeepsRun (rules : Rules) (core : Core) (super : Super) (names : List Target) (notes : List (List CommitRow)) (records : List Entry) (run : List Entry) : Type 0 where
   pub recovered : IsRecovered rules core.work.fill super records run core.opened core.first
   pub writes : with_records core.work.fill core.first run ≡ run_past core
+  pub numbers : Numbers
+  pub stands : SuperStands rules core.work.fill super records run core.first (resident core names notes numbers)
 
 -- A crash left this image: the records that opening found and some of the run, whose COMMITs name the engine's stores alone.
 pub record HoldsRecords (found : List Entry) (stores : List Target) (image : Files) : Type 0 where

@@ -10,6 +10,7 @@ ghost use Rattle.kt_tablet.specs.Views.{IsSound, IsExact, Opens};
 ghost use Rattle.std.specs.List.{All};
 ghost use Rattle.kt_loglaws.specs.Side.{all_of};
 ghost use Rattle.kt_engine.specs.Sessions.{numbers_of};
+ghost use Rattle.kt_engine.specs.Memory.{NamesDiffer};
 ghost use Rattle.kt_engine.specs.Logged.{AreDue, UntoldFly, IsPlaced, IsThere, IsMem, NamesOnly};
 ghost use Rattle.kt_engine.specs.Engines.{EngineView, IsEngine, IsLogged, IsHome, KeepsOthers, TellsStop, LeavesRecords, Recovers, RecoversEach, RecoversAll};
 
@@ -95,6 +96,7 @@ impl<L: Disk, D, C: Clock> Engine<L, D, C> {
     ) -> Result<Engine<L, D, C>, (Tablet<MemRowSet, C>, Journal<L>, D)>
         requires fresh { (tablet.core.trail ≡ []) × (tablet.core.aloft ≡ []) × (tablet.core.stopped ≡ false) }
         requires mems { All IsMem tablet.names }
+        requires differ { NamesDiffer tablet.names }
         requires log { IsLog (records.now ++ queued) }
         requires due { (first : Past) → Opens tablet.opening tablet.mark tablet.core.opened first → AreDue tablet.core.work.fill tablet.names first records.now queued }
         requires untold { UntoldFly (records.now ++ queued) tablet.core.aloft }
@@ -170,7 +172,7 @@ impl<L: Disk, D, C: Clock> Engine<L, D, C> {
     }
 
     /// What it stands for: a run from each past that opening found, in which the lines show what the clock gave; where the log
-    /// held that past, by rules of the table that take each write of the plan, the log keeps the run, and a crash now leaves its writes
+    /// held that past, by rules of the table that take each write of the plan, the log keeps the run, the stores mirror what it holds, and a crash now leaves its writes
     /// up to a time, each acknowledged one among them, also while a pass has the log out. Whatever opening found, its lines tell whether it has stopped, and a crash now leaves the records that
     /// opening found and some of the run. What the pool has promised is what flying writes still need, and the REPLICATE of
     /// each is at its place among the records that are durable, out or queued. The log is at home where no pass has it out.

@@ -162,6 +162,8 @@ impl<L: Disk, D, C: Clock> Engine<L, D, C> {
         ensures stopped { self.old.tablet.core.stopped ≡ true → IsErr result }
         ensures goes { self.old.tablet.core.stopped ≡ false → IsOk result }
     {
+        // Each store has a name, and the stores show what is done of the run.
+        self.tablet.standing();
         self.tablet.apply_row(number, at)
     }
 

@@ -9,7 +9,8 @@ pub invariant_of-self : goal.invariant_of-self
 invariant_of-self g c =
     let is = c.deref_mut.ensures.value in
     applied_or_not _ _ _ _ _ _
-    c.apply_row.new.self c.args.number c.args.at c.apply_row.result (rw is at c.apply_row.ensures.applied) (rw is at c.apply_row.ensures.beside) (rw is at c.apply_row.ensures.same) (rw is at c.apply_row.ensures.stopped) (rw (← c.self.view_is) at c.requires.durable) c.self.invariant
+    c.apply_row.new.self c.args.number c.args.at c.apply_row.result (rw is at c.apply_row.ensures.applied) (rw is at c.apply_row.ensures.noted) (rw is at c.apply_row.ensures.run)
+    (rw c.deref.ensures at c.standing.ensures.sound.stands) (rw c.deref.ensures at c.standing.ensures.named) (rw c.deref.ensures at c.standing.ensures.noted) (rw is at c.apply_row.ensures.beside) (rw is at c.apply_row.ensures.same) (rw is at c.apply_row.ensures.stopped) (rw (← c.self.view_is) at c.requires.durable) c.self.invariant
 
 pub returns-clause-visit : goal.returns-clause-visit
 returns-clause-visit g c =

@@ -1,14 +1,13 @@
-use Rattle.std.proofs.Common.{◌≡◌, ◌<◌, ◌≤◌, ◌+◌, ◌^◌, length, ap, ◌∙◌, refl, subst, rules, false, None}
+use Rattle.std.proofs.Common.{◌≡◌, ◌<◌, ◌≤◌, ◌+◌, ◌^◌, length, ap, ◌∙◌, refl, sym, subst, rules, false, None}
 use Rattle.kt_tablet.specs.Visits.{holder_of}
-use Rattle.kt_engine.proofs.Begun.{roomed_on, core_alone, plan_kept, may_on, left_alone, has_begun}
+use Rattle.kt_engine.proofs.Begun.{roomed_on, plan_kept, may_on, left_alone, has_begun}
 use Rattle.kt_engine.proofs.Visiting.{visit_of, lending, begun_visit_on}
 use Rattle.kt_engine.proofs.engine.Engine.begin_draft.Goals as goal
 
 pub invariant_of-self : goal.invariant_of-self
 invariant_of-self g c =
     let is = c.deref_mut.ensures.value in
-    let beside = core_alone c.self.inside.tablet.value c.ask.new.self (rw is at c.ask.ensures.beside) in
-    left_alone _ _ _ _ _ _ c.ask.new.self c.args.number c.args.index c.ask.result c.in_err-ask.field-0.0 c.in_err-ask.was (rw is at c.ask.ensures.stopped) beside (rw is at c.in_err-ask.ensures.left) c.self.invariant
+    left_alone _ _ _ _ _ _ c.ask.new.self c.args.number c.args.index c.ask.result c.in_err-ask.field-0.0 c.in_err-ask.was (rw is at c.ask.ensures.stopped) (rw is at c.ask.ensures.beside) (rw is at c.in_err-ask.ensures.left) c.self.invariant
 
 pub invariant_of-self-in_default : goal.invariant_of-self-in_default
 invariant_of-self-in_default g c =
@@ -35,7 +34,8 @@ invariant_of-self-2 g c =
     let room : length c.ask.new.self.core.aloft + 2 ≤ c.make_room.new.log.room = rw c.deref-2.ensures at (subst (λ n. n + 2 ≤ c.make_room.new.log.room) c.flying-flying.ensures c.in-Ok.ensures.room) in
     has_begun _ _ _ _ _ _
     c.begin_free.new.self c.push.new.self c.args.number c.args.index c.in-Ok-begin_free.ts c.next_place-place.result c.args.draft.now.write.ops c.args.draft.now.write.ops c.replace-logged.result refl (c.replace-logged.ensures.value ∙ c.args.draft.now.alike)
-    (rw free_is at c.begin_free.ensures.beside) (rw free_is at c.in-Ok-begin_free.ensures.placed) (rw free_is at c.in-Ok-begin_free.ensures.begun) (rw log_is at c.push.ensures.queued) (ap (λ t. t.core.stopped) same ∙ goes) (may_on c.self.inside.tablet.value c.ask.new.self c.args.number c.args.index c.args.draft.now.write.ops same may) free (plan_kept c.self.inside.tablet.value.core c.args.number c.args.index c.args.draft.now.write.ops (rw c.deref.ensures at c.standing.ensures.sound.plan) may) fits room (rw c.deref-3.ensures at c.next_place-place.ensures) before
+    (rw free_is at c.begin_free.ensures.beside) (rw free_is at c.in-Ok-begin_free.ensures.noted) (rw free_is at c.in-Ok-begin_free.ensures.placed) (rw free_is at c.in-Ok-begin_free.ensures.begun) (rw log_is at c.push.ensures.queued) (ap (λ t. t.core.stopped) same ∙ goes) (may_on c.self.inside.tablet.value c.ask.new.self c.args.number c.args.index c.args.draft.now.write.ops same may) free (plan_kept c.self.inside.tablet.value.core c.args.number c.args.index c.args.draft.now.write.ops (rw c.deref.ensures at c.standing.ensures.sound.plan) may) fits room (rw c.deref-3.ensures at c.next_place-place.ensures)
+    (ap (λ t. length t.notes) same ∙ (rw c.deref.ensures at c.standing.ensures.noted) ∙ sym (ap (λ t. length t.core.aloft) same)) before
 
 pub returns-clause-visit : goal.returns-clause-visit
 returns-clause-visit g c =

@@ -20,7 +20,7 @@ invariant_of-self-2 g c =
     let may = (rw (← c.self.view_is) at c.requires) goes in
     has_ended _ _ _ _ _ _
     c.end.new.self c.push.new.self c.args.number c.in_ok-ts.field-0.index c.in_ok-ts.field-0.ts c.in_ok-ts.field-0.outcomes c.in_ok-ts.field-0.rows
-    (rw is at c.end.ensures.beside) (rw is at c.in_ok-ts.ensures.forgets) (rw is at c.in_ok-ts.ensures.ended) (rw c.deref_mut-2.ensures.value at c.push.ensures.queued) goes may (rw is at c.in_ok-ts.ensures.written) (rw is at c.in_ok-ts.ensures.told) c.self.invariant
+    (rw is at c.end.ensures.beside) (rw is at c.in_ok-ts.ensures.forgets) (rw is at c.in_ok-ts.ensures.ended) (rw c.deref_mut-2.ensures.value at c.push.ensures.queued) goes may (rw is at c.in_ok-ts.ensures.written) (rw is at c.in_ok-ts.ensures.handed) c.self.invariant
 
 pub returns-clause-visit : goal.returns-clause-visit
 returns-clause-visit g c =

@@ -8,7 +8,7 @@ invariant_of-result g c =
     let r = c.requires in
     running_keeps g.L.Disk.tells g.L.Disk.seen g.L.Disk.now g.L.Disk.leaves g.L.Disk.faults _ c.in-Ok.running (as_opened g.L.Disk.tells g.L.Disk.seen g.L.Disk.now g.L.Disk.leaves g.L.Disk.faults c.args.tablet c.args.journal c.args.records.now c.args.queued c.args.store c.args.device.value c.in-Ok-new.tablet.value c.in-Ok-boxed_log.log.value c.of.result.value c.in-Ok-new.ensures.ok c.in-Ok-boxed_log.ensures.side c.of.ensures
     (is_opened g.L.Disk.tells g.L.Disk.seen g.L.Disk.now g.L.Disk.leaves g.L.Disk.faults c.args.tablet c.args.journal c.args.records.now c.args.queued c.args.store c.args.device.value
-    r.fresh.0 r.fresh.1 r.fresh.2 c.standing.ensures.placed r.mems r.log r.due r.untold r.since r.last r.names r.count r.reads r.openable r.others r.faults))
+    r.fresh.0 r.fresh.1 r.fresh.2 c.standing.ensures.placed r.mems r.differ c.standing.ensures.named c.standing.ensures.sound.stands r.log r.due r.untold r.since r.last r.names r.count r.reads r.openable r.others r.faults))
 
 pub boxed_log-requires : goal.boxed_log-requires
 boxed_log-requires g c = record { usable = c.requires.usable; durable = c.requires.durable }
