@@ -1,0 +1,4 @@
+pub mod Lists
+pub mod Split
+pub mod Missed
+pub mod Sides

@@ -1,0 +1,4 @@
+pub mod Split
+pub mod Sides
+pub mod Missed
+pub mod Laws
