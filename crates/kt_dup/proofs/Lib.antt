@@ -2,3 +2,4 @@ pub mod Lists
 pub mod Split
 pub mod Missed
 pub mod Sides
+pub mod Pair

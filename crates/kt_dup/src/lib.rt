@@ -14,6 +14,8 @@
 #![tactic(auto)]
 
 pub mod both;
+pub mod dup;
 pub mod laws;
 
 pub use both::apply_to_both;
+pub use dup::Dup;
