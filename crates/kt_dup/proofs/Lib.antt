@@ -1,5 +1,5 @@
 pub mod Lists
 pub mod Split
-pub mod Missed
+pub mod Between
 pub mod Sides
 pub mod Pair

@@ -1,6 +1,7 @@
 -- The changes that went to an input alone.
-use Rattle.std.specs.Prelude.{ℕ, Bool, true, List, [], ◌∷◌, Option, Some, None, map, nat_lt}
-use Rattle.std.specs.List.{filter, flat_map}
+use Rattle.std.specs.Prelude.{ℕ, ◌<◌, Bool, true, List, [], ◌∷◌, Option, Some, None, map, length, get_or, nat_lt}
+use Rattle.std.specs.List.{All, filter, flat_map}
+use Rattle.kt_history.specs.declared.change.Change.TheVariants.{Del}
 use Rattle.kt_history.specs.declared.changes.KeyChange.{KeyChange}
 use Rattle.kt_history.specs.Stores.{Steps, Store, hist_in, key_change}
 use Rattle.kt_histlaws.specs.Fitting.{steps_above}
@@ -34,3 +35,13 @@ is_missed bound outs c = is_before c.ts (first_above bound (hist_in c.key outs).
 -- and of all keys
 abbrev pub missed_in : ℕ → Store → Store → List KeyChange
 missed_in bound ins outs = filter (is_missed bound outs) (changes_over bound ins)
+
+-- the changes of a list at these places
+abbrev pub no_change : KeyChange
+no_change = record { key = []; ts = 0; change = Del }
+
+abbrev pub picked : List KeyChange → List ℕ → List KeyChange
+picked changes places = map (λ at. get_or changes at no_change) places
+
+abbrev pub AreInside : List KeyChange → List ℕ → Type 0
+AreInside changes places = All (λ at. at < length changes) places

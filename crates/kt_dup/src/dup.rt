@@ -1,5 +1,5 @@
 //! One input beside one output.
-ghost use Rattle.std.specs.Prelude.{◌≡◌, ◌≢◌, ◌≤◌, ◌<◌, ◌+◌, ◌⊎◌, ◌∷◌, [], ℕ, List, None, true};
+ghost use Rattle.std.specs.Prelude.{◌≡◌, ◌≢◌, ◌≤◌, ◌<◌, ◌+◌, ◌⊎◌, ℕ, List, None, true, IfOk};
 ghost use Rattle.kt_pool.specs.Contents.{at_cell, used};
 ghost use Rattle.kt_history.specs.Rows.{fits};
 ghost use Rattle.kt_history.specs.Stores.{Steps, Under, hist_in, last_row, change_of, share, TakesUpTo};
@@ -7,8 +7,11 @@ ghost use Rattle.kt_dup.specs.Sides.{HasOneMore};
 ghost use Rattle.kt_dup.specs.Split.{AreSplit};
 
 use crate::both::apply_to_both;
+use crate::missed::{FirstAbove, ListsAbove, MissedChanges, missed_changes};
+use kt_base::NoMemory;
 use kt_history::{Kindly, OpRef, RowStore, Target};
 use kt_pool::Pool;
+use std::alloc::Global;
 
 /// An input and an output of a job, from its swap to its end, with the bound up to which the output's files have what the input
 /// has.
@@ -83,5 +86,21 @@ impl<I: RowStore, O: RowStore> Dup<I, O> {
         ensures output { result.1 ≡ self.output }
     {
         (self.input, self.output)
+    }
+}
+
+impl<I: ListsAbove, O: FirstAbove> Dup<I, O> {
+    ghost use Rattle.kt_dup.specs.Missed.{missed_in};
+
+    /// The changes above the bound that went to the input alone: those before the first one there that the output has of their
+    /// key. All that either side has above the bound is in memory.
+    pub fn missed(&self, alloc: Global, pool: &Pool) -> Result<MissedChanges, NoMemory>
+        requires input { I.stands self.now.input pool.now }
+        requires output { O.stands self.now.output pool.now }
+        requires settled_input { I.settled self.now.input self.now.bound }
+        requires settled_output { O.settled self.now.output self.now.bound }
+        ensures { IfOk result (λ list. list ≡ missed_in self.now.bound (I.store self.now.input pool.now) (O.store self.now.output pool.now)) }
+    {
+        missed_changes(alloc, pool, &self.input, &self.output, self.bound)
     }
 }

@@ -16,6 +16,8 @@
 pub mod both;
 pub mod dup;
 pub mod laws;
+pub mod missed;
 
 pub use both::apply_to_both;
 pub use dup::Dup;
+pub use missed::{FirstAbove, ListsAbove, MissedChanges, missed_changes};

@@ -1,4 +1,4 @@
-use Rattle.kt_dup.proofs.Missed.{told_by_split}
+use Rattle.kt_dup.proofs.Between.{told_by_split}
 use Rattle.kt_dup.proofs.laws.missed_law.Goals as goal
 
 pub returns : goal.returns
