@@ -1,5 +1,5 @@
 -- What a job's stores have of one key between its swap and its end.
-use Rattle.std.specs.Prelude.{◌≡◌, ℕ, false, List, [], ◌∷◌, ◌++◌, None}
+use Rattle.std.specs.Prelude.{◌≡◌, ℕ, false, List, [], ◌∷◌, ◌++◌, map, None}
 use Rattle.kt_history.specs.declared.change.Change.{Change}
 use Rattle.kt_history.specs.Rows.{fits}
 use Rattle.kt_history.specs.Stores.{Steps, Hist, Store, hist_in}
@@ -19,6 +19,10 @@ abbrev pub AllLack : ℕ → List Steps → List Hist → List Hist → Type 0
 AllLack bound [] [] [] = Unit {0}
 AllLack bound (m ∷ missed) (out ∷ outs) (h ∷ full) = Lacks bound m out h × AllLack bound missed outs full
 AllLack bound _ _ _ = ⊥
+
+-- nothing is missed
+abbrev pub none_missed : List Hist → List Steps
+none_missed outs = map (λ _. []) outs
 
 -- a change of a row that is there, so no insert
 abbrev pub IsOfRow : Change → Type 0
