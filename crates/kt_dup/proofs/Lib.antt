@@ -3,3 +3,4 @@ pub mod Split
 pub mod Between
 pub mod Sides
 pub mod Pair
+pub mod Told

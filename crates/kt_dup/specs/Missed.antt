@@ -36,6 +36,10 @@ is_missed bound outs c = is_before c.ts (first_above bound (hist_in c.key outs).
 abbrev pub missed_in : ℕ → Store → Store → List KeyChange
 missed_in bound ins outs = filter (is_missed bound outs) (changes_over bound ins)
 
+-- what is missed of each key, by rising key
+abbrev pub listed : (List ℕ → Steps) → Store → List KeyChange
+listed missed store = flat_map (λ row. map (key_change row.0) (missed row.0)) store
+
 -- the changes of a list at these places
 abbrev pub no_change : KeyChange
 no_change = record { key = []; ts = 0; change = Del }

@@ -1,8 +1,9 @@
 //! One input beside one output.
-ghost use Rattle.std.specs.Prelude.{◌≡◌, ◌≢◌, ◌≤◌, ◌<◌, ◌+◌, ◌⊎◌, ℕ, List, None, true, IfOk};
-ghost use Rattle.kt_pool.specs.Contents.{at_cell, used};
+ghost use Rattle.std.specs.Prelude.{◌≡◌, ◌≢◌, ◌≤◌, ◌<◌, ◌+◌, ◌⊎◌, ◌∷◌, [], ℕ, List, None, true, IfOk};
+ghost use Rattle.kt_pool.specs.Contents.{Contents, at_cell, used};
 ghost use Rattle.kt_history.specs.Rows.{fits};
 ghost use Rattle.kt_history.specs.Stores.{Steps, Under, hist_in, last_row, change_of, share, TakesUpTo};
+ghost use Rattle.kt_histlaws.specs.Jobs.{AreAlike};
 ghost use Rattle.kt_dup.specs.Sides.{HasOneMore};
 ghost use Rattle.kt_dup.specs.Split.{AreSplit};
 
@@ -72,10 +73,12 @@ impl<I: RowStore, O: RowStore> Dup<I, O> {
         apply_to_both(&mut self.input, &mut self.output, pool, ts, op, change)
     }
 
-    /// Both sides, as the job ends: the output takes the place of the input.
+    /// Both sides, as the job ends: the output takes the place of the input. Where nothing is missed any more, it shows from the
+    /// job's mark on what the input showed.
     pub fn finish(self) -> (I, O)
         ensures input { result.0 ≡ self.input }
         ensures output { result.1 ≡ self.output }
+        ensures alike { (j : ℕ) (pool : Contents) → AreSplit j self.bound (λ _. []) (I.store self.input pool) (O.store self.output pool) → (q : List ℕ) → AreAlike j (hist_in q (I.store result.0 pool) ∷ []) (hist_in q (O.store result.1 pool) ∷ []) }
     {
         (self.input, self.output)
     }
@@ -90,16 +93,19 @@ impl<I: RowStore, O: RowStore> Dup<I, O> {
 }
 
 impl<I: ListsAbove, O: FirstAbove> Dup<I, O> {
-    ghost use Rattle.kt_dup.specs.Missed.{missed_in};
+    ghost use Rattle.std.specs.FinMap.Entries.{is_sorted};
+    ghost use Rattle.kt_history.specs.Rows.{key_cmp};
+    ghost use Rattle.kt_dup.specs.Missed.{listed, missed_in};
 
     /// The changes above the bound that went to the input alone: those before the first one there that the output has of their
-    /// key. All that either side has above the bound is in memory.
+    /// key. All that either side has above the bound is in memory. Where the sides are split, they are the missed changes.
     pub fn missed(&self, alloc: Global, pool: &Pool) -> Result<MissedChanges, NoMemory>
         requires input { I.stands self.now.input pool.now }
         requires output { O.stands self.now.output pool.now }
         requires settled_input { I.settled self.now.input self.now.bound }
         requires settled_output { O.settled self.now.output self.now.bound }
-        ensures { IfOk result (λ list. list ≡ missed_in self.now.bound (I.store self.now.input pool.now) (O.store self.now.output pool.now)) }
+        ensures list { IfOk result (λ list. list ≡ missed_in self.now.bound (I.store self.now.input pool.now) (O.store self.now.output pool.now)) }
+        ensures split { IfOk result (λ list. (j : ℕ) (missed : List ℕ → Steps) → j ≤ self.now.bound → is_sorted key_cmp (I.store self.now.input pool.now) ≡ true → AreSplit j self.now.bound missed (I.store self.now.input pool.now) (O.store self.now.output pool.now) → list ≡ listed missed (I.store self.now.input pool.now)) }
     {
         missed_changes(alloc, pool, &self.input, &self.output, self.bound)
     }

@@ -1,10 +1,13 @@
 //! The changes that went to an input alone.
-ghost use Rattle.std.specs.Prelude.{◌≡◌, ◌<◌, ℕ, List, length, get_or, slice_get, IfOk, take};
+ghost use Rattle.std.specs.Prelude.{◌≡◌, ◌<◌, ◌≤◌, ℕ, true, List, length, get_or, slice_get, IfOk, take};
 ghost use Rattle.std.specs.List.{filter};
+ghost use Rattle.std.specs.FinMap.Entries.{is_sorted};
 ghost use Rattle.std.specs.Option.{option_copied, option_map};
 ghost use Rattle.kt_history.specs.AsBytes.{step_in, step_of};
-ghost use Rattle.kt_history.specs.Stores.{hist_in};
-ghost use Rattle.kt_dup.specs.Missed.{changes_over, first_above, is_before, is_missed, missed_in, no_change, picked, AreInside};
+ghost use Rattle.kt_history.specs.Rows.{key_cmp};
+ghost use Rattle.kt_history.specs.Stores.{Steps, hist_in};
+ghost use Rattle.kt_dup.specs.Missed.{changes_over, first_above, is_before, is_missed, listed, missed_in, no_change, picked, AreInside};
+ghost use Rattle.kt_dup.specs.Split.{AreSplit};
 
 use kt_base::NoMemory;
 use kt_history::{ChangeList, ChangeRef, RowStore};
@@ -134,6 +137,7 @@ fn missed_places<O: FirstAbove>(
 }
 
 /// The changes above the bound that went to an input alone: those before the first one there that the output has of their key.
+/// Where the two are split, they are the missed changes.
 pub fn missed_changes<I: ListsAbove, O: FirstAbove>(
     alloc: Global,
     pool: &Pool,
@@ -145,7 +149,8 @@ pub fn missed_changes<I: ListsAbove, O: FirstAbove>(
     requires output { O.stands output.now pool.now }
     requires settled_input { I.settled input.now bound }
     requires settled_output { O.settled output.now bound }
-    ensures { IfOk result (λ list. list ≡ missed_in bound (I.store input.now pool.now) (O.store output.now pool.now)) }
+    ensures list { IfOk result (λ list. list ≡ missed_in bound (I.store input.now pool.now) (O.store output.now pool.now)) }
+    ensures split { IfOk result (λ list. (j : ℕ) (missed : List ℕ → Steps) → j ≤ bound → is_sorted key_cmp (I.store input.now pool.now) ≡ true → AreSplit j bound missed (I.store input.now pool.now) (O.store output.now pool.now) → list ≡ listed missed (I.store input.now pool.now)) }
 {
     let changes = input.changes_above(alloc, pool, bound)?;
     let places = missed_places(alloc, &changes, pool, output, bound)?;
