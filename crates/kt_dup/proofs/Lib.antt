@@ -4,3 +4,4 @@ pub mod Between
 pub mod Sides
 pub mod Pair
 pub mod Told
+pub mod Worked

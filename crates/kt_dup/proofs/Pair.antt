@@ -35,7 +35,7 @@ one_there : (o : Option Row) → is_some o ≡ true → is_some (or_else o None)
 one_there None there = there
 one_there (Some row) there = refl
 
-single : (bound t : ℕ) (missed : Steps) (out : Hist) (full : List Hist) → AllLack bound (missed ∷ []) (out ∷ []) full → Alone 0 (map (row_of t) full)
+pub single : (bound t : ℕ) (missed : Steps) (out : Hist) (full : List Hist) → AllLack bound (missed ∷ []) (out ∷ []) full → Alone 0 (map (row_of t) full)
 single bound t missed out [] l = absurd l
 single bound t missed out (h ∷ []) l = refl
 single bound t missed out (h ∷ g ∷ full) l = absurd l.1
