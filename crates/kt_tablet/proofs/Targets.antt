@@ -12,7 +12,8 @@ use Rattle.kt_stores.specs.Shelf.{Shelved, has_live, last_live, place_of, names_
 use Rattle.kt_stores.proofs.Beside.{some_is, none_some}
 use Rattle.kt_stores.proofs.Seeking.{seek, seek_at}
 use Rattle.kt_stores.proofs.Taking.{live_some, place_is}
-use Rattle.kt_tablet.specs.Filling.{filled}
+use Rattle.kt_tablet.specs.Filling.{all_told}
+use Rattle.kt_tablet.proofs.Several.{length-told}
 
 -- the rows after all changes are those at a time above them
 lasts_under : (ts : ℕ) (hs : List Hist) → AllUnder ts hs → map last_row hs ≡ map (row_of ts) hs
@@ -50,6 +51,6 @@ taken_live q ts stores h under at = by (seek (has_live q) stores) refl
         inl (ap is_some (sym (under_at ts (hists q stores) i h under here)) ∙ ap (λ (x : Hist). is_some (last_row x)) (sym s.2) ∙ lives)
 
 -- each store has a name
-pub each_named : (fill : Row) (shelf : List Shelved) → length (names_of shelf) ≡ length (map (filled fill) (map (λ (s : Shelved). s.store) shelf))
-each_named fill shelf =
-    length-map shelf (λ (s : Shelved). s.name) ∙ sym (length-map (map (λ (s : Shelved). s.store) shelf) (filled fill) ∙ length-map shelf (λ (s : Shelved). s.store))
+pub each_named : (fill : Row) (memory : ℕ) (shelf : List Shelved) → length (names_of shelf) ≡ length (all_told fill memory (map (λ (s : Shelved). s.store) shelf))
+each_named fill memory shelf =
+    length-map shelf (λ (s : Shelved). s.name) ∙ sym (length-told fill memory (map (λ (s : Shelved). s.store) shelf) ∙ length-map shelf (λ (s : Shelved). s.store))

@@ -1,4 +1,4 @@
-use Rattle.std.proofs.Common.{◌≡◌, ◌∙◌, length, map, subst, sym}
+use Rattle.std.proofs.Common.{◌≡◌, ◌∙◌, suc, length, map, subst, sym}
 use Rattle.std.proofs.lemmas.List.{length-map}
 use Rattle.kt_tablet.specs.Views.{IsExact, rows_of, aloft_of}
 use Rattle.kt_tablet.proofs.Flights.{places_own}
@@ -16,7 +16,7 @@ pub returns-clause-placed : goal.returns-clause-placed
 returns-clause-placed g c = subst (λ v. map (λ p. p.0) v.places ≡ map (λ w. w.s) v.core.aloft) c.self.view_is (places_own c.self.inside.flights.items)
 
 pub returns-clause-named : goal.returns-clause-named
-returns-clause-named g c = subst (λ v. length v.names ≡ length v.core.stores) c.self.view_is (each_named c.self.inside.fill c.self.inside.stores.shelf)
+returns-clause-named g c = subst (λ v. length v.names ≡ length v.core.stores) c.self.view_is (each_named c.self.inside.fill (suc c.self.inside.stores.frozen) c.self.inside.stores.shelf)
 
 pub returns-clause-noted : goal.returns-clause-noted
 returns-clause-noted g c = subst (λ v. length v.notes ≡ length v.core.aloft) c.self.view_is
