@@ -4,6 +4,7 @@ use Rattle.kt_disk.specs.Disk.{LeavesOnly}
 use Rattle.kt_journal.specs.Log.{CanOpen}
 use Rattle.kt_schema.specs.Columns.{fill_of}
 use Rattle.kt_engine.specs.Engines.{KeepsOthers}
+use Rattle.kt_engine.specs.Memory.{NamesDiffer}
 use Rattle.kt_engine.proofs.Others.{opened_others}
 use Rattle.kt_boot.specs.Opening.{HasContentOf, opening_in}
 use Rattle.kt_boot.proofs.Contents.{contents_of_frames}
@@ -21,6 +22,9 @@ of-requires-2-clause-durable g c = λ told image left. c.in-Ok.ensures.durable t
 pub of-requires-2-clause-due : goal.of-requires-2-clause-due
 of-requires-2-clause-due g c =
     queued_due _ _ _ _ _ _ _ c.in-Ok.ensures.sound c.in-Ok-reopen.ensures.found.1 _ _ _ _ _ (ap (λ w. w.fill) c.in-Ok-of.ensures.work) (c.in-Ok-of.ensures.names ∙ c.stores_of-stores.ensures.names) (c.in-Ok-of.ensures.found.2 ∙ ap (map (filled (fill_of c.args.schema.now))) c.stores_of-stores.ensures.stores) c.in-Ok-of.ensures.found.0 c.in-Ok-of.ensures.found.1
+
+pub of-requires-2-clause-differ : goal.of-requires-2-clause-differ
+of-requires-2-clause-differ g c = subst NamesDiffer (sym (c.in-Ok-of.ensures.names ∙ c.stores_of-stores.ensures.names)) (tt, tt)
 
 pub of-requires-2-clause-untold : goal.of-requires-2-clause-untold
 of-requires-2-clause-untold g c = queued_fly _ _ _ _ _ _ _ c.in-Ok.ensures.sound c.in-Ok-reopen.ensures.found.1 _ c.in-Ok-of.ensures.rests
