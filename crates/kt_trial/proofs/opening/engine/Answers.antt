@@ -6,6 +6,7 @@ use Rattle.kt_disk.specs.Memory.{MemView, mem_now, mem_leaves, mem_seen}
 use Rattle.kt_records.specs.declared.entry.Entry.{Entry}
 use Rattle.kt_journal.specs.Log.{Holds, log_of}
 use Rattle.kt_journal.proofs.Fresh.{fresh_opens, fresh_log}
+use Rattle.kt_engine.specs.Memory.{NamesDiffer}
 use Rattle.kt_engine.specs.Logged.{IsMem, NamesOnly}
 use Rattle.kt_engine.specs.Engines.{KeepsOthers}
 use Rattle.kt_engine.proofs.Others.{opened_others}
@@ -21,6 +22,9 @@ no_record disk found is reads = let same = sym (fresh_log disk is) ∙ reads in 
 
 pub of-requires-clause-mems : goal.of-requires-clause-mems
 of-requires-clause-mems c = subst (All IsMem) (sym c.in_ok-tablet.ensures.names) (All-cons IsMem (Mem 7) [] (lit< tt, lit< tt) (All-nil IsMem))
+
+pub of-requires-clause-differ : goal.of-requires-clause-differ
+of-requires-clause-differ c = subst NamesDiffer (sym c.in_ok-tablet.ensures.names) (tt, tt)
 
 pub of-requires-clause-log : goal.of-requires-clause-log
 of-requires-clause-log c = log_none c.in-Ok.records c.no_records-none.result c.no_records-none.ensures c.in-Ok.ensures.sound
