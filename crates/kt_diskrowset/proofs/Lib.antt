@@ -10,3 +10,5 @@ pub mod MissedRows
 pub mod Pages
 pub mod Leaving
 pub mod NewFiles
+pub mod Reading
+pub mod Tables

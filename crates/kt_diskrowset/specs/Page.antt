@@ -14,6 +14,10 @@ use Rattle.kt_diskrowset.specs.Data.{store_in}
 abbrev pub told_at : ℕ → RowSetData → List ℕ → Option Row
 told_at t d key = row_of t (hist_in key (store_in d))
 
+-- the same, as what is told of each key at each time
+abbrev pub row_told : RowSetData → List ℕ → ℕ → Option Row
+row_told d key t = told_at t d key
+
 -- those of the keys that have a row, with it
 abbrev pub rows_under : (List ℕ → Option Row) → List (List ℕ) → Rows
 rows_under row keys = filter_map (λ key. option_map (λ r. (key, r)) (row key)) keys

@@ -45,6 +45,13 @@ fn place_above(set: &BaseSet, after: Option<&[u8]>) -> u32
     }
 }
 
+// The keys of the rows rise.
+fn keys_rise(set: &BaseSet)
+    ensures { AreRising (keys_in set.now.rows) }
+{
+    let _rows = set.rows();
+}
+
 // The least key above another, or the least of all.
 fn key_above_in(
     alloc: Global,
@@ -100,6 +107,13 @@ impl BaseHeld {
         ensures found { IfOk result (λ found. found ≡ key_above (option_copied after.entry) (keys_in self.now.set.value.rows)) }
     {
         key_above_in(alloc, &self.set, after)
+    }
+
+    /// What always holds of it: the keys of its rows rise.
+    pub fn standing(&self)
+        ensures { AreRising (keys_in self.now.set.value.rows) }
+    {
+        keys_rise(&self.set);
     }
 
     /// How many rows there are.

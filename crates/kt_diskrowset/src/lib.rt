@@ -3,7 +3,8 @@
 //! For the layer above: a row at a time is its base row, with every UNDO record above the time taken back from the newest, and
 //! then every REDO record at or below it done from the oldest; and behind these the changes of its DeltaMemStores, the
 //! oldest first. Read with its pool, a disk rowset is a list of histories by key, and so a store of rows, which takes no insert.
-//! As plain data it tells its rows at a time, one by one or in pages, and its keys. It stands on base files, delta files,
+//! As plain data it tells its rows at a time, one by one, in pages or all of them, and its keys; and so does what a scan reads of it,
+//! which holds its files and its changes up to a time (`ViewStore`). It stands on base files, delta files,
 //! DeltaMemStores and the definitions of rows in files.
 #![tactic(auto)]
 
@@ -20,6 +21,7 @@ pub mod page;
 mod row_store;
 pub mod rows;
 pub mod rowset;
+pub mod table;
 #[cfg(test)]
 mod tests;
 pub mod view;

@@ -3,9 +3,11 @@ ghost use Rattle.std.specs.Prelude.{◌≡◌, []};
 ghost use Rattle.kt_diskrowset.specs.Data.{files_in};
 ghost use Rattle.kt_diskrowset.specs.Rows.{UndosLeadBack};
 
-use crate::{BaseHeld, FileHeld, FileLists, RowSetData};
+use crate::{BaseHeld, DiskRowSet, FileHeld, FileLists, RowSetData};
 use kt_base::{Cell, Cells, NoMemory};
-use kt_history::DeltaList;
+use kt_history::{DeltaList, View};
+use kt_pool::Pool;
+use kt_views::{StoreRows, Table, ViewStore};
 use std::alloc::Global;
 use std::sync::Arc;
 use std::test::Fail;
@@ -94,5 +96,41 @@ fn plain_data_tells_rows_and_keys(rt: HostRuntime) -> Result<(), Fail> {
     assert!(rt; is_next(alloc, &rowset, Some(b"a"), Some(b"b"))?);
     assert!(rt; is_next(alloc, &rowset, Some(b"ab"), Some(b"b"))?);
     assert!(rt; is_next(alloc, &rowset, Some(b"b"), None)?);
+    Ok(())
+}
+
+/// All rows of a store at a time, told by what a scan reads of it.
+fn table_of<S: ViewStore>(alloc: Global, store: &S, pool: &Pool, t: u64) -> Result<Table, NoMemory>
+    requires { S.stands store.now pool.now }
+{
+    let read = store.read(alloc, pool, t)?;
+    read.table(alloc, t)
+}
+
+/// Whether this is the key above another one, or the least one, and its number.
+fn goes_on(
+    alloc: Global,
+    table: &Table,
+    after: Option<&[u8]>,
+    key: &[u8],
+    number: Option<i64>,
+) -> Result<bool, NoMemory> {
+    let mut hint = 0;
+    let row = table.row_at(alloc, key, 0)?;
+    Ok(table.next_key(after, &mut hint) == Some(key) && number_in(row.as_ref()) == Some(number))
+}
+
+#[test]
+fn what_a_scan_reads_tells_all_rows(rt: HostRuntime) -> Result<(), Fail> {
+    let alloc = rt.alloc();
+    let rowset = DiskRowSet::of(alloc, data_of(alloc, base_of(alloc)?, redo_of(alloc)?), 1);
+    let Ok(pool) = Pool::new(alloc, 64) else {
+        return Err("no pool".into());
+    };
+    let early = table_of(alloc, &rowset, &pool, 4095)?;
+    assert!(rt; goes_on(alloc, &early, None, b"a", Some(5))?);
+    let late = table_of(alloc, &rowset, &pool, 4096)?;
+    assert!(rt; goes_on(alloc, &late, None, b"a", Some(6))?);
+    assert!(rt; goes_on(alloc, &late, Some(b"a"), b"b", None)?);
     Ok(())
 }

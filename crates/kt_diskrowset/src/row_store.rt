@@ -1,11 +1,15 @@
-//! A disk rowset as a store of rows.
+//! A disk rowset as a store of rows, which a scan reads.
 ghost use Rattle.std.specs.Prelude.{true};
 ghost use Rattle.kt_diskrowset.specs.Rowset.{IsStore, store_of, Owns, cells_had, name_of};
 
 use crate::laws;
 use crate::rowset::DiskRowSet;
+use crate::view::RowSetView;
+use kt_base::NoMemory;
 use kt_history::{Kindly, OpRef, RowStore, Taken, Target};
 use kt_pool::Pool;
+use kt_views::ViewStore;
+use std::alloc::Global;
 
 impl RowStore for DiskRowSet {
     ghost stands = { IsStore };
@@ -44,5 +48,13 @@ impl RowStore for DiskRowSet {
 
     fn placed_law() {
         laws::placed_law();
+    }
+}
+
+impl ViewStore for DiskRowSet {
+    type Read = RowSetView;
+
+    fn read(&self, alloc: Global, pool: &Pool, upto: u64) -> Result<RowSetView, NoMemory> {
+        DiskRowSet::read(self, alloc, pool, upto)
     }
 }

@@ -1,6 +1,7 @@
 //! A disk rowset in memory.
 pub mod jobs;
 pub mod missed;
+pub mod reading;
 
 ghost use Rattle.std.specs.Prelude.{◌≡◌, ◌≢◌, ◌+◌, ◌<◌, ◌≤◌, ◌⊎◌, ◌∷◌, ℕ, List, [], length, None, Some, true, is_some, IfOk, OnOk, OnErr};
 ghost use Rattle.std.specs.Option.{option_map};

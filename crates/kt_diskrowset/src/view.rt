@@ -3,13 +3,15 @@ ghost use Rattle.std.specs.Prelude.{◌≡◌, IfOk};
 ghost use Rattle.std.specs.List.Sorted.{IsNonDecreasingBy};
 ghost use Rattle.std.specs.Option.{option_copied};
 ghost use Rattle.kt_history.specs.Views.{key_above};
+ghost use Rattle.kt_views.specs.Tables.{HasRowsOf};
 ghost use Rattle.kt_diskrowset.specs.Data.{files_in, keys_of};
 ghost use Rattle.kt_diskrowset.specs.Rows.{UndosLeadBack};
-ghost use Rattle.kt_diskrowset.specs.Page.{told_at, IsPage};
+ghost use Rattle.kt_diskrowset.specs.Page.{told_at, row_told, IsPage};
 
 use crate::data::RowSetData;
 use crate::page::Page;
 use kt_base::{Cell, Cells, NoMemory, Octets};
+use kt_views::{StoreRows, Table};
 use std::alloc::Global;
 use std::marker::Model;
 
@@ -69,5 +71,24 @@ impl RowSetView {
         ensures { IfOk result (IsPage (told_at t self.now) (keys_of self.now) (option_copied after.entry) columns.now) }
     {
         self.rowset.page(alloc, after, t, columns)
+    }
+
+    /// All rows at a time.
+    pub fn table(&self, alloc: Global, t: u64) -> Result<Table, NoMemory>
+        ensures { IfOk result (HasRowsOf (told_at t self.now)) }
+    {
+        self.rowset.table(alloc, t)
+    }
+}
+
+impl StoreRows for RowSetView {
+    ghost row_of = { row_told };
+
+    fn row_at(&self, alloc: Global, key: &[u8], t: u64) -> Result<Option<Cells>, NoMemory> {
+        RowSetView::row_at(self, alloc, key, t)
+    }
+
+    fn table(&self, alloc: Global, t: u64) -> Result<Table, NoMemory> {
+        RowSetView::table(self, alloc, t)
     }
 }

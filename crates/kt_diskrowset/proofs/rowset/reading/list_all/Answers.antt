@@ -1,0 +1,19 @@
+use Rattle.std.proofs.Common.{◌∙◌, ◌++◌, List, ap, sym, take}
+use Rattle.kt_dms.specs.declared.store.DeltaMem.{DeltaMem}
+use Rattle.kt_rowfiles.specs.Files.{records_for}
+use Rattle.kt_diskrowset.proofs.Copying.{take_more}
+use Rattle.kt_diskrowset.proofs.MemsInTurn.{blank, store_at, store_stands}
+use Rattle.kt_diskrowset.proofs.Reading.{upto_in, one_read, next_read}
+use Rattle.kt_diskrowset.proofs.rowset.reading.list_all.Goals as goal
+
+pub list_changes-requires : goal.list_changes-requires
+list_changes-requires c = store_stands c.args.pool.now c.args.mems.now c.mems.mem-index c.requires c.mems-test.true
+
+pub mems-preserved : goal.mems-preserved
+mems-preserved c = λ n.
+    let mems = c.args.mems.now in
+    let i = c.mems.mem-index in
+    let pool = c.args.pool.now in
+    next_read pool c.args.upto n (take i mems) (store_at mems i) c.args.list.now.items c.mems.list.items c.list_changes.new.list.items (c.mems.invariant n)
+    (one_read pool c.args.upto n (store_at mems i) c.mems.list.items c.list_changes.new.list.items c.in_ok-list_changes.ensures)
+    ∙ ap (λ (ms : List DeltaMem). records_for n c.args.list.now.items ++ upto_in pool n c.args.upto ms) (sym (take_more mems i blank c.mems-test.true))
