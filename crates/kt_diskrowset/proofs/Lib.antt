@@ -12,3 +12,4 @@ pub mod Leaving
 pub mod NewFiles
 pub mod Reading
 pub mod Tables
+pub mod TakenRows

@@ -13,6 +13,7 @@ pub mod base;
 pub mod data;
 pub mod files;
 mod fresh;
+pub mod inputs;
 pub mod laws;
 #[cfg(test)]
 mod life;
@@ -22,6 +23,7 @@ mod row_store;
 pub mod rows;
 pub mod rowset;
 pub mod table;
+mod taking;
 #[cfg(test)]
 mod tests;
 pub mod view;
@@ -30,6 +32,7 @@ pub use alive::is_alive;
 pub use base::BaseHeld;
 pub use data::RowSetData;
 pub use files::{FileHeld, FileLists};
+pub use inputs::{ChangeLists, Inputs, Missed, Outputs, RowSetList};
 pub use mems::{is_live_after, row_after};
 pub use page::Page;
 pub use rows::row_at;

@@ -21,7 +21,11 @@ pub(crate) fn records_of(file: &DeltaFile, ordinal: u32) -> &[Delta]
 }
 
 /// The records of a row in UNDO files, from the newest.
-fn undos_of(alloc: Global, files: &[FileHeld], ordinal: u32) -> Result<RowRecords<'_>, NoMemory>
+pub(crate) fn undos_of(
+    alloc: Global,
+    files: &[FileHeld],
+    ordinal: u32,
+) -> Result<RowRecords<'_>, NoMemory>
     ensures { IfOk result (λ records. records ≡ falling (records_in ordinal (lists_of files.now))) }
 {
     let mut records = RowRecords::new(alloc);
@@ -34,7 +38,11 @@ fn undos_of(alloc: Global, files: &[FileHeld], ordinal: u32) -> Result<RowRecord
 }
 
 /// The records of a row in REDO files, from the oldest.
-fn redos_of(alloc: Global, files: &[FileHeld], ordinal: u32) -> Result<RowRecords<'_>, NoMemory>
+pub(crate) fn redos_of(
+    alloc: Global,
+    files: &[FileHeld],
+    ordinal: u32,
+) -> Result<RowRecords<'_>, NoMemory>
     ensures { IfOk result (λ records. records ≡ rising (records_in ordinal (lists_of files.now))) }
 {
     let mut records = RowRecords::new(alloc);

@@ -1,4 +1,4 @@
-use Rattle.std.proofs.Common.{◌≡◌, ◌∙◌, suc, length, map, subst, sym}
+use Rattle.std.proofs.Common.{◌≡◌, ◌∙◌, length, map, subst, suc, sym}
 use Rattle.std.proofs.lemmas.List.{length-map}
 use Rattle.kt_tablet.specs.Views.{IsExact, rows_of, aloft_of}
 use Rattle.kt_tablet.proofs.Flights.{places_own}
