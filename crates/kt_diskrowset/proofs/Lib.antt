@@ -13,3 +13,5 @@ pub mod NewFiles
 pub mod Reading
 pub mod Tables
 pub mod TakenRows
+pub mod Replaying
+pub mod UndosFit

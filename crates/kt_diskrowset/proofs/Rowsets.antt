@@ -30,7 +30,7 @@ use Rattle.kt_diskrowset.specs.Files.{lists_of, row_with_files}
 use Rattle.kt_diskrowset.specs.Mems.{AllStand, AreApart, steps_in_mems, told_by, OwnedBy, cells_in}
 use Rattle.kt_diskrowset.specs.Rows.{Fresh, hist_at, hist_found, store_with, UndosLeadBack}
 use Rattle.kt_diskrowset.specs.Rowset.{mems_of, held_of, files_of, fresh_of, store_of, IsStore, Owns, cells_had, name_of}
-use Rattle.kt_diskrowset.specs.Joining.{Joined, IsFrozen}
+use Rattle.kt_diskrowset.specs.Joining.{Joined, IsFrozen, KeyUnder}
 use Rattle.kt_diskrowset.proofs.Beside.{HasGrown, last_grew, last_stands, all_stay, all_placed, told_same, stand_both, apart_both, owned_either, owned_front, cells-append, steps-append}
 use Rattle.kt_diskrowset.proofs.Histories.{keys_under, hist_is, hists_same, pushed_in}
 
@@ -177,16 +177,23 @@ fits_there Ins cells row no_ h = absurd (no_ refl)
 fits_there Upd cells row no_ h = h
 fits_there Del cells row no_ h = h
 
--- the change stands behind the history of its key, and every other is as before
+-- the change stands behind the history of its key, whatever the times of what its files have, and every other is as before
+pub store_rejoined : (s t : DiskRowSet) (old new : Contents) (ordinal ts : ℕ) (op : RowOp) (kind : Kindly) (row : Row) → Joined s t old new ordinal ts op kind → AreRising (keys_under (files_of s).base)
+    → row_under op.key 0 (files_of s).base ≡ Some (ordinal, row) → Under ts (fresh_of s old ordinal)
+    → store_of t new ≡ put key_cmp op.key (push ts (change_of kind op.cells) (hist_in op.key (store_of s old))) (store_of s old)
+store_rejoined s t old new ordinal ts op kind row j rise at low =
+    let is : hist_in op.key (store_of s old) ≡ hist_at (files_of s) (fresh_of s old) (ordinal, row) = hist_is (files_of s) (fresh_of s old) op.key ∙ ap (hist_found (files_of s) (fresh_of s old)) at in
+    ap (λ (d : DiskRowset). store_with d (fresh_of t new)) j.files
+    ∙ pushed_in (files_of s) (fresh_of s old) (fresh_of t new) op.key ts (change_of kind op.cells) 0 (files_of s).base (ordinal, row) rise at (j.row low) (j.rest low)
+    ∙ ap (λ (h : Hist). put key_cmp op.key (push ts (change_of kind op.cells) h) (store_of s old)) (sym is)
+
+-- so it does where all that the rowset has of the key lies below it
 pub store_joined : (s t : DiskRowSet) (old new : Contents) (ordinal ts : ℕ) (op : RowOp) (kind : Kindly) (row : Row) → Joined s t old new ordinal ts op kind → AreRising (keys_under (files_of s).base)
     → row_under op.key 0 (files_of s).base ≡ Some (ordinal, row) → Under ts (hist_in op.key (store_of s old)).steps
     → store_of t new ≡ put key_cmp op.key (push ts (change_of kind op.cells) (hist_in op.key (store_of s old))) (store_of s old)
 store_joined s t old new ordinal ts op kind row j rise at under =
     let is : hist_in op.key (store_of s old) ≡ hist_at (files_of s) (fresh_of s old) (ordinal, row) = hist_is (files_of s) (fresh_of s old) op.key ∙ ap (hist_found (files_of s) (fresh_of s old)) at in
-    let low = under_back ts (row_with (files_of s) (Some (ordinal, row))).steps (fresh_of s old ordinal) (subst (λ (h : Hist). Under ts h.steps) is under) in
-    ap (λ (d : DiskRowset). store_with d (fresh_of t new)) j.files
-    ∙ pushed_in (files_of s) (fresh_of s old) (fresh_of t new) op.key ts (change_of kind op.cells) 0 (files_of s).base (ordinal, row) rise at (j.row low) (j.rest low)
-    ∙ ap (λ (h : Hist). put key_cmp op.key (push ts (change_of kind op.cells) h) (store_of s old)) (sym is)
+    store_rejoined s t old new ordinal ts op kind row j rise at (under_back ts (row_with (files_of s) (Some (ordinal, row))).steps (fresh_of s old ordinal) (subst (λ (h : Hist). Under ts h.steps) is under))
 
 -- ---- where no place of its own has changed
 
@@ -198,6 +205,23 @@ stays s old new st same = let still = all_stay old new (mems_of s) st.stand same
   still.cells,
   (λ k. (still.back k, still.on k)),
 )
+
+-- and what lies in memory below a time does so still
+pub under_stays : (s : DiskRowSet) (old new : Contents) (ts : ℕ) (q : List ℕ) → IsStore s old → ((k : ℕ) → Owns s old k → at_cell new k ≡ at_cell old k) → KeyUnder ts q s old → KeyUnder ts q s new
+under_stays s old new ts q st same under found at = subst (Under ts) (sym ((all_stay old new (mems_of s) st.stand same).steps found.0)) (under found at)
+
+abbrev first_deltas : List (ℕ × List Delta) → List Delta
+first_deltas [] = []
+first_deltas (told ∷ rest) = told.1
+
+-- where nothing is told of them, they have no change of any row
+steps_told : (pool : Contents) (n : ℕ) (xs : List DeltaMem) (number : ℕ) → told_by pool xs ≡ (number, []) ∷ [] → steps_in_mems pool n xs ≡ []
+steps_told pool n [] number e = refl
+steps_told pool n (x ∷ []) number e = let none : deltas_of x pool ≡ [] = ap first_deltas e in ap (λ (deltas : List Delta). steps_for n deltas ++ []) none
+steps_told pool n (x ∷ y ∷ xs) number e = absurd (cc)
+
+pub under_told : (s : DiskRowSet) (number : ℕ) (pool : Contents) → told_by pool (mems_of s) ≡ (number, []) ∷ [] → (ts : ℕ) (q : List ℕ) → KeyUnder ts q s pool
+under_told s number pool told ts q found at = subst (Under ts) (sym (steps_told pool found.0 (mems_of s) number told)) tt
 
 pub is_placed : (s : DiskRowSet) (pool : Contents) (k : ℕ) → IsStore s pool → Owns s pool k → Stands pool k
 is_placed s pool k st own = all_placed pool (mems_of s) k st.stand own

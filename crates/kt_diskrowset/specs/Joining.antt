@@ -1,11 +1,14 @@
 -- What a disk rowset is after a change, and after its DeltaMemStore is frozen.
-use Rattle.std.specs.Prelude.{◌≡◌, ◌≢◌, ◌+◌, ◌⊎◌, ◌↔◌, ℕ, [], ◌∷◌, ◌++◌, None}
+use Rattle.std.specs.Prelude.{◌≡◌, ◌≢◌, ◌+◌, ◌<◌, ◌⊎◌, ◌↔◌, ℕ, List, [], ◌∷◌, ◌++◌, Some, None}
+use Rattle.std.specs.FinMap.Entries.{put}
 use Rattle.kt_history.specs.declared.operation.RowOp.{RowOp}
 use Rattle.kt_history.specs.declared.target.Kindly.{Kindly}
 use Rattle.kt_history.specs.declared.target.Target.TheVariants.{Delta}
-use Rattle.kt_history.specs.Stores.{Under, change_of, share, TakesUpTo}
+use Rattle.kt_history.specs.Rows.{Row, key_cmp}
+use Rattle.kt_history.specs.Stores.{Under, hist_in, push, change_of, share, TakesUpTo}
 use Rattle.kt_pool.specs.Contents.{Contents, at_cell, used}
 use Rattle.kt_diskrowset.specs.declared.rowset.DiskRowSet.{DiskRowSet}
+use Rattle.kt_rowfiles.specs.Files.{row_under}
 use Rattle.kt_diskrowset.specs.Mems.{told_by}
 use Rattle.kt_diskrowset.specs.Rowset.{frozen_of, mems_of, held_of, files_of, fresh_of, store_of, IsStore, Owns, cells_had, name_of}
 
@@ -41,3 +44,21 @@ pub record IsSame (s t : DiskRowSet) : Type 0 where
   pub files : files_of t ≡ files_of s
   pub mems : mems_of t ≡ mems_of s
   pub name : name_of t ≡ name_of s
+
+-- all that it has in memory of the row of a key lies below a time
+abbrev pub KeyUnder : ℕ → List ℕ → DiskRowSet → Contents → Type 0
+KeyUnder ts q s pool = (found : ℕ × Row) → row_under q 0 (files_of s).base ≡ Some found → Under ts (fresh_of s pool found.0)
+
+-- The change of an operation has come behind all that it has of the key, whatever the times of that, and every other key is as before: what it
+-- has in memory of that lies below the time of the change if it did, and later times lie above the change
+pub record Rejoined (s t : DiskRowSet) (old new : Contents) (ts : ℕ) (op : RowOp) (kind : Kindly) : Type 0 where
+  pub stands : IsStore t new
+  pub store : store_of t new ≡ put key_cmp op.key (push ts (change_of kind op.cells) (hist_in op.key (store_of s old))) (store_of s old)
+  pub apart : (q : List ℕ) → q ≢ op.key → KeyUnder ts q s old → KeyUnder ts q t new
+  pub later : (later : ℕ) → ts < later → ((q : List ℕ) → KeyUnder later q s old) → (q : List ℕ) → KeyUnder later q t new
+  pub held : held_of t ≡ held_of s
+  pub name : name_of t ≡ name_of s
+  pub takes : TakesUpTo (share op) old new
+  pub more : cells_had t new + used old ≡ cells_had s old + used new
+  pub grows : (k : ℕ) → Owns t new k → Owns s old k ⊎ (at_cell old k ≡ None)
+  pub frame : (k : ℕ) → ¬ Owns t new k → at_cell new k ≡ at_cell old k

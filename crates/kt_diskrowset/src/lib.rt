@@ -12,6 +12,7 @@ pub mod alive;
 pub mod base;
 pub mod data;
 pub mod files;
+mod fitting;
 mod fresh;
 pub mod inputs;
 pub mod laws;

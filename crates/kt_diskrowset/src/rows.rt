@@ -1,6 +1,6 @@
 //! Rows in files.
-ghost use Rattle.std.specs.Prelude.{◌≡◌, IfOk, OnOk};
-ghost use Rattle.kt_histlaws.specs.Disks.{disk_row_at};
+ghost use Rattle.std.specs.Prelude.{◌≡◌, IfOk, OnOk, Some};
+ghost use Rattle.kt_histlaws.specs.Disks.{before_all, disk_row_at};
 ghost use Rattle.kt_rowfiles.specs.Files.{records_for, records_in, rising, falling};
 ghost use Rattle.kt_rowfiles.specs.Reading.{steps_in};
 ghost use Rattle.kt_diskrowset.specs.Files.{lists_of, row_with_files};
@@ -68,5 +68,19 @@ pub fn row_at(
     let mut row = Some(base);
     undos_of(alloc, undo.as_slice(), ordinal)?.go_back(t, &mut row)?;
     redos_of(alloc, redo.as_slice(), ordinal)?.go_on(t, &mut row)?;
+    Ok(row)
+}
+
+/// The row with this ordinal before all its changes, told its base row.
+pub(crate) fn first_row(
+    alloc: Global,
+    undo: &FileLists,
+    ordinal: u32,
+    base: Cells,
+) -> Result<Option<Cells>, NoMemory>
+    ensures { IfOk result (λ row. row ≡ before_all (falling (records_in ordinal (lists_of undo.now))) (Some base)) }
+{
+    let mut row = Some(base);
+    undos_of(alloc, undo.as_slice(), ordinal)?.go_first(&mut row)?;
     Ok(row)
 }
