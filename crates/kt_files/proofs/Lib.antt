@@ -2,3 +2,4 @@ pub mod Names
 pub mod Removals
 pub mod Lists
 pub mod Contents
+pub mod OneHolding

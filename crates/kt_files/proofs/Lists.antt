@@ -1,7 +1,7 @@
 -- Files and rowsets that are read one after another.
 use Rattle.std.proofs.Common.{◌≡◌, ◌<◌, ◌+◌, ℕ, List, [], ◌∷◌, ◌++◌, length, map, take, drop, get_or, suc, sym, ap, subst, ◌∙◌, add-one, arith}
 use Rattle.std.proofs.Math.Seq.{split_at}
-use Rattle.std.proofs.lemmas.List.{take_more, map_push}
+use Rattle.std.proofs.lemmas.List.{take_more, map_push, map-append}
 use Rattle.kt_disk.specs.Disk.{Files, Same, Turns}
 use Rattle.kt_super.specs.declared.meta.FileRef.{FileRef}
 use Rattle.kt_super.specs.declared.meta.MetaRowset.{MetaRowset}
@@ -15,7 +15,7 @@ use Rattle.kt_diskrowset.specs.Files.{as_file, as_files}
 use Rattle.kt_diskrowset.specs.Rowset.{HeldFiles}
 use Rattle.kt_diskrowset.specs.Data.{held_in}
 use Rattle.kt_files.specs.Reading.{HoldsBase, HoldsDeltas, HoldEach, IsDeltasFault, IsListFault, HoldsRowset, HoldAll, IsRowsetFault, in_undo, in_redo, IsFirstFault}
-use Rattle.kt_files.specs.Held.{base_in, AreFresh}
+use Rattle.kt_files.specs.Held.{base_in, AreFresh, numbers_in, numbers_named}
 
 -- ---- a disk that was not yet called
 
@@ -120,3 +120,10 @@ fresh_end (x ∷ held) h all one = (all.0, fresh_end held h all.1 one)
 
 pub fresh_more : (held held1 : List RowSetData) (h : RowSetData) → AreFresh held → held1 ≡ held ++ h ∷ [] → h.fresh ≡ [] → AreFresh held1
 fresh_more held held1 h all added one = subst (λ (l : List RowSetData). AreFresh l) (sym added) (fresh_end held h all one)
+
+pub numbers_more : (list : List MetaRowset) (i : ℕ) (r : MetaRowset) (held held1 : List RowSetData) (h : RowSetData) → i < length list → get_or list i r ≡ r → numbers_in held ≡ numbers_named (take i list) → held1 ≡ held ++ h ∷ [] → h.number ≡ r.rowset
+    → numbers_in held1 ≡ numbers_named (take (i + 1) list)
+numbers_more list i r held held1 h lt is so added one =
+    ap numbers_in added ∙ map-append (λ (d : RowSetData). d.number) held (h ∷ [])
+    ∙ (λ k. so k ++ one k ∷ [])
+    ∙ sym (ap numbers_named (take_more list i r lt ∙ ap (λ (x : MetaRowset). take i list ++ x ∷ []) is) ∙ map-append (λ (x : MetaRowset). x.rowset) (take i list) (r ∷ []))

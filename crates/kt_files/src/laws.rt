@@ -1,7 +1,12 @@
 //! Laws of the definitions.
-ghost use Rattle.kt_files.specs.Laws.{rowsets_tell_their_files};
+ghost use Rattle.kt_files.specs.Laws.{rowsets_tell_their_files, files_hold_one};
 
 /// What a superblock and its files say of a rowset is what these files tell, behind the last DeltaMemStore that they hold.
 pub fn content_law()
     ensures { rowsets_tell_their_files }
+{}
+
+/// The files that a superblock names hold one thing.
+pub fn holding_law()
+    ensures { files_hold_one }
 {}

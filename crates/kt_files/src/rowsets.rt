@@ -4,7 +4,7 @@ ghost use Rattle.kt_base.specs.Causes.{Rose};
 ghost use Rattle.kt_disk.specs.Disk.{Same, Turns};
 ghost use Rattle.kt_diskrowset.specs.Data.{held_in};
 ghost use Rattle.kt_files.specs.Reading.{HoldsRowset, IsRowsetFault, HoldAll, IsFirstFault};
-ghost use Rattle.kt_files.specs.Held.{AreFresh};
+ghost use Rattle.kt_files.specs.Held.{AreFresh, numbers_in, numbers_named};
 
 use crate::bases::read_base;
 use crate::deltas::read_list;
@@ -55,6 +55,7 @@ fn read_rowset<D: Disk>(
 ) -> Result<RowSetData, FilesNo>
     ensures holds { IfOk result (λ held. IsTrue D.tells → HoldsRowset (D.seen disk.old) rowset.now (held_in held)) }
     ensures fresh { IfOk result (λ held. held.fresh ≡ []) }
+    ensures number { IfOk result (λ held. held.number ≡ rowset.now.rowset) }
     ensures place { (file offset : ℕ) → result ≡ Err (FilesNo.Place file offset) → IsTrue D.tells → IsRowsetFault (D.seen disk.old) rowset.now file offset }
     ensures seen { IsTrue D.tells → D.seen disk.new ≡ D.seen disk.old }
     ensures images { IsTrue D.tells → Turns D.now D.leaves Same disk.old disk.new }
@@ -81,6 +82,7 @@ pub fn read_rowsets<D: Disk>(alloc: Global, disk: &mut D, meta: &Meta) -> Result
     ensures hold { IfOk result (λ rowsets. IsTrue D.tells → HoldAll (D.seen disk.old) meta.now.rowsets (map held_in rowsets)) }
 
     ensures fresh { IfOk result AreFresh }
+    ensures numbers { IfOk result (λ rowsets. numbers_in rowsets ≡ numbers_named meta.now.rowsets) }
 
     // The first file that is shorter than its length or not in its grammar, and its first fault.
     ensures place { (file offset : ℕ) → result ≡ Err (FilesNo.Place file offset) → IsTrue D.tells → IsFirstFault (D.seen disk.old) meta.now.rowsets file offset }
