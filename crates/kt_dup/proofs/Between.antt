@@ -1,5 +1,5 @@
 -- What the split tells of the missed changes.
-use Rattle.std.proofs.Common.{◌≡◌, ℕ, ◌<◌, ◌≤◌, List, [], ◌∷◌, ◌++◌, Some, None, Option, refl, true, false, cond, sym, ap, ◌∙◌, subst, arith, map, append_assoc}
+use Rattle.std.proofs.Common.{◌≡◌, ℕ, ◌<◌, ◌≤◌, List, [], ◌∷◌, ◌++◌, Some, None, Option, refl, cond, sym, ap, ◌∙◌, arith, map, append_assoc}
 use Rattle.std.specs.Prelude.{nat_lt}
 use Rattle.std.specs.List.{filter}
 use Rattle.std.proofs.lemmas.Bool.{lt-ltb, le-ltb}
@@ -10,9 +10,9 @@ use Rattle.kt_history.specs.Stores.{Steps, Hist, step_at, step_of}
 use Rattle.kt_histlaws.specs.Fitting.{Rises, steps_above}
 use Rattle.kt_histlaws.specs.Histories.{or_else, first_some}
 use Rattle.kt_dup.specs.Laws.{a_split_tells_what_is_missed}
-use Rattle.kt_dup.specs.Missed.{first_time, first_above, is_before, missed_of}
-use Rattle.kt_dup.specs.Split.{AllLack, IsSplit}
-use Rattle.kt_dup.proofs.Lists.{rises_behind, rises_lower, all_stay, none_stays, step_above, same_changes}
+use Rattle.kt_dup.specs.Missed.{first_time, is_before, missed_of}
+use Rattle.kt_dup.specs.Split.{AllLack}
+use Rattle.kt_dup.proofs.Lists.{rises_behind, all_stay, none_stays, step_above, same_changes}
 
 one_some : {A : Type 0} (x : Option A) → or_else x None ≡ x
 one_some None = refl

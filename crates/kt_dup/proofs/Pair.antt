@@ -1,18 +1,16 @@
 -- One input beside one output.
-use Rattle.std.proofs.Common.{◌≡◌, ◌≢◌, ℕ, suc, zero, ◌+◌, ◌<◌, ◌≤◌, List, [], ◌∷◌, Some, None, Option, refl, true, false, Bool, cond, sym, ap, ◌∙◌, subst, arith, map}
-use Rattle.std.specs.Prelude.{is_some, nat_le}
+use Rattle.std.proofs.Common.{◌≡◌, ◌≢◌, ℕ, ◌<◌, ◌≤◌, List, [], ◌∷◌, Some, None, Option, refl, true, false, Bool, cond, sym, ap, ◌∙◌, subst, arith, map}
+use Rattle.std.specs.Prelude.{is_some}
 use Rattle.std.specs.FinMap.Entries.{put}
 use Rattle.std.specs.Ordering.{eq_by_cmp}
 use Rattle.std.proofs.lemmas.Bool.{le-leb}
 use Rattle.kt_history.specs.declared.change.Change.{Change}
-use Rattle.kt_history.specs.declared.change.Change.TheVariants as change
 use Rattle.kt_history.specs.declared.target.Kindly.{Kindly}
 use Rattle.kt_history.specs.declared.target.Kindly.TheVariants.{Ins, Upd, Del}
 use Rattle.kt_history.specs.Rows.{Row, apply, fits, key_cmp}
 use Rattle.kt_history.specs.Stores.{Steps, Hist, Store, row_of, after_steps, apply_all, last_row, push, Under, hist_in, change_of}
-use Rattle.kt_histlaws.specs.Histories.{or_else, first_some, Alone, hists}
+use Rattle.kt_histlaws.specs.Histories.{or_else, Alone, hists}
 use Rattle.kt_histlaws.proofs.Pending.{hists-pushed_same, hists-pushed_other, same_key}
-use Rattle.kt_dup.specs.Sides.{HasOneMore}
 use Rattle.kt_dup.specs.Split.{AllLack, IsOfRow, IsSplit, AreSplit}
 use Rattle.kt_dup.proofs.Split.{both_keep}
 

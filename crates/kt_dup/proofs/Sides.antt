@@ -1,5 +1,5 @@
 -- Two stores beside each other, of which one grows.
-use Rattle.std.proofs.Common.{◌≡◌, ℕ, ◌+◌, ◌≤◌, Option, Some, None, IsSome, inl, inr, ◌⊎◌, arith, sym, ap, ◌∙◌, subst}
+use Rattle.std.proofs.Common.{◌≡◌, ℕ, ◌+◌, Option, Some, None, IsSome, inl, inr, ◌⊎◌, arith, ◌∙◌}
 use Rattle.kt_pool.specs.Contents.{Contents, Stands, at_cell}
 use Rattle.kt_history.specs.Stores.{TakesUpTo}
 

@@ -8,7 +8,7 @@ use Rattle.kt_history.specs.declared.change.Change.{Change}
 use Rattle.kt_history.specs.declared.change.Change.TheVariants.{Ins, Upd, Del}
 use Rattle.kt_history.specs.declared.operation.OpKind.{OpKind}
 use Rattle.kt_history.specs.declared.operation.OpKind.TheVariants.{Insert, Update, Delete}
-use Rattle.kt_history.specs.Rows.{Row, fits}
+use Rattle.kt_history.specs.Rows.{Row}
 use Rattle.kt_history.specs.Operations.{effect}
 use Rattle.kt_history.specs.Stores.{Steps, Hist, row_of, step_of, push, Under}
 use Rattle.kt_histlaws.specs.Fitting.{AreSound, Rises, RiseAbove, steps_above}

@@ -1,13 +1,13 @@
 -- Worked: a row that is inserted at 5 and written by a job with bound 10, updated at 12 before the swap, and deleted at 15 after it.
-use Rattle.std.proofs.Common.{◌≡◌, ℕ, suc, ◌<◌, ◌≤◌, List, [], ◌∷◌, ◌++◌, length, Some, None, Option, refl, sym, ap, ◌∙◌, subst, arith, cond, map}
+use Rattle.std.proofs.Common.{◌≡◌, ℕ, [], ◌∷◌, Some, None, refl, ap, arith, cond}
 use Rattle.std.specs.Prelude.{pos}
 use Rattle.std.proofs.lemmas.Bool.{le-leb, ne_eqb}
 use Rattle.kt_base.specs.declared.cell.Cell.TheVariants.{Int}
 use Rattle.kt_history.specs.declared.change.Change.{Change}
 use Rattle.kt_history.specs.declared.change.Change.TheVariants.{Ins, Upd, Del}
 use Rattle.kt_history.specs.declared.changes.KeyChange.{KeyChange}
-use Rattle.kt_history.specs.Rows.{Row, apply}
-use Rattle.kt_history.specs.Stores.{Steps, Hist, Store, key_change}
+use Rattle.kt_history.specs.Rows.{Row}
+use Rattle.kt_history.specs.Stores.{Hist, key_change}
 use Rattle.kt_histlaws.specs.Fitting.{AreSound}
 use Rattle.kt_histlaws.specs.Histories.{or_else}
 use Rattle.kt_histlaws.specs.Jobs.{AreAlike}

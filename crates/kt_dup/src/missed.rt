@@ -1,5 +1,5 @@
 //! The changes that went to an input alone.
-ghost use Rattle.std.specs.Prelude.{◌≡◌, ◌<◌, ◌≤◌, ℕ, true, List, length, get_or, slice_get, IfOk, take};
+ghost use Rattle.std.specs.Prelude.{◌≡◌, ◌==◌, ◌<◌, ◌≤◌, ℕ, true, List, length, get_or, slice_get, IfOk, take};
 ghost use Rattle.std.specs.List.{filter};
 ghost use Rattle.std.specs.FinMap.Entries.{is_sorted};
 ghost use Rattle.std.specs.Option.{option_copied, option_map};
@@ -63,6 +63,12 @@ impl MissedChanges {
         ensures { result ≡ length self.now }
     {
         self.places.len()
+    }
+
+    pub fn is_empty(&self) -> bool
+        ensures { result ≡ (length self.now == 0) }
+    {
+        self.places.is_empty()
     }
 
     /// The key of the change at a place, if there is one.
