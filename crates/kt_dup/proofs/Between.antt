@@ -43,7 +43,7 @@ cut_at bound missed (d ∷ doubled) r =
     filter-append (λ (x : ℕ × Change). is_before x.0 (Some d.0)) missed (d ∷ doubled)
     ∙ ap (λ xs. xs ++ filter (λ x. is_before x.0 (Some d.0)) (d ∷ doubled)) (before_first bound d.0 d.1 missed doubled r)
     ∙ ap (λ xs. missed ++ xs) (ap (λ b. cond b (d ∷ filter (λ x. is_before x.0 (Some d.0)) doubled) (filter (λ x. is_before x.0 (Some d.0)) doubled)) (le-ltb d.0 d.0 (omega arith))
-        ∙ none_before d.0 d.0 doubled (omega arith) (rises_behind bound missed (d ∷ doubled) r).1)
+    ∙ none_before d.0 d.0 doubled (omega arith) (rises_behind bound missed (d ∷ doubled) r).1)
     ∙ append-nil missed
 
 pub told_by_split : a_split_tells_what_is_missed
@@ -57,14 +57,14 @@ told_by_split j bound missed into out le s = one s.full s.lack s.alike.steps
         let f = l.0.filled in
         let later : steps_above bound (missed ++ f.doubled) ≡ missed ++ f.doubled = all_stay bound bound (missed ++ f.doubled) (omega arith) l.0.later in
         let full_above : steps_above bound full.steps ≡ missed ++ f.doubled =
-            ap (steps_above bound) (f.full_is ∙ append_assoc f.written missed f.doubled) ∙ filter-append (λ (x : ℕ × Change). nat_lt bound x.0) f.written (missed ++ f.doubled)
-            ∙ ap (λ xs. xs ++ steps_above bound (missed ++ f.doubled)) (none_stays bound f.written l.0.written) ∙ later in
+        ap (steps_above bound) (f.full_is ∙ append_assoc f.written missed f.doubled) ∙ filter-append (λ (x : ℕ × Change). nat_lt bound x.0) f.written (missed ++ f.doubled)
+        ∙ ap (λ xs. xs ++ steps_above bound (missed ++ f.doubled)) (none_stays bound f.written l.0.written) ∙ later in
         let out_above : steps_above bound out.steps ≡ f.doubled =
-            ap (steps_above bound) f.out_is ∙ filter-append (λ (x : ℕ × Change). nat_lt bound x.0) f.written f.doubled
-            ∙ ap (λ xs. xs ++ steps_above bound f.doubled) (none_stays bound f.written l.0.written)
-            ∙ all_stay bound bound f.doubled (omega arith) (rises_behind bound missed f.doubled l.0.later) in
+        ap (steps_above bound) f.out_is ∙ filter-append (λ (x : ℕ × Change). nat_lt bound x.0) f.written f.doubled
+        ∙ ap (λ xs. xs ++ steps_above bound f.doubled) (none_stays bound f.written l.0.written)
+        ∙ all_stay bound bound f.doubled (omega arith) (rises_behind bound missed f.doubled l.0.later) in
         let in_above : steps_above bound into.steps ≡ missed ++ f.doubled =
-            same_changes bound (steps_above bound into.steps) (missed ++ f.doubled) s.rise.0 l.0.later
-            (λ t lt. step_above bound t into.steps lt ∙ sym (one_some (step_at t into.steps)) ∙ same t (omega arith) ∙ one_some (step_at t full.steps) ∙ sym (step_above bound t full.steps lt) ∙ ap (step_at t) full_above) in
+        same_changes bound (steps_above bound into.steps) (missed ++ f.doubled) s.rise.0 l.0.later
+        (λ t lt. step_above bound t into.steps lt ∙ sym (one_some (step_at t into.steps)) ∙ same t (omega arith) ∙ one_some (step_at t full.steps) ∙ sym (step_above bound t full.steps lt) ∙ ap (step_at t) full_above) in
         ap (λ o. filter (λ (c : ℕ × Change). is_before c.0 (first_time o)) (steps_above bound into.steps)) out_above
         ∙ ap (filter (λ (c : ℕ × Change). is_before c.0 (first_time f.doubled))) in_above ∙ cut_at bound missed f.doubled l.0.later

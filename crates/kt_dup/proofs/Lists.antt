@@ -80,5 +80,5 @@ same_changes low (x ∷ xs) (y ∷ ys) rx ry same = elim (cases_lt x.0 y.0) [
     both e go =
         let one : x.1 ≡ y.1 = the_change x.1 y.1 (sym (at_first x xs) ∙ same x.0 rx.0 ∙ ap (λ t. step_at t (y ∷ ys)) e ∙ at_first y ys) in
         let rest : xs ≡ ys = go (subst (λ n. Rises n ys) (sym e) ry.1)
-            (λ t lt. sym (behind t x xs lt) ∙ same t (omega (arith, rx.0)) ∙ behind t y ys (omega arith)) in
+        (λ t lt. sym (behind t x xs lt) ∙ same t (omega (arith, rx.0)) ∙ behind t y ys (omega arith)) in
         λ k. (e k, one k) ∷ rest k

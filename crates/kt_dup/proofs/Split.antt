@@ -59,7 +59,7 @@ under_right ts (x ∷ xs) ys un = under_right ts xs ys un.1
 lacks_push : (bound ts : ℕ) (c : Change) (missed : Steps) (out full : Hist) → bound < ts → Under ts full.steps → Lacks bound missed out full → Lacks bound missed (push ts c out) (push ts c full)
 lacks_push bound ts c missed out full lt un l =
     let under : Under ts (missed ++ l.filled.doubled) = under_right ts l.filled.written (missed ++ l.filled.doubled)
-        (subst (Under ts) (l.filled.full_is ∙ append_assoc l.filled.written missed l.filled.doubled) un) in
+    (subst (Under ts) (l.filled.full_is ∙ append_assoc l.filled.written missed l.filled.doubled) un) in
     record {
       filled = record {
         written = l.filled.written;

@@ -62,7 +62,7 @@ told_rows : (j bound : ℕ) (missed : List ℕ → Steps) (ins outs rows : Store
 told_rows j bound missed ins outs [] le s found = refl
 told_rows j bound missed ins outs (r ∷ rows) le s found =
     let here : missed_of bound r.1.steps (hist_in r.0 outs).steps ≡ missed r.0 =
-        ap (λ (h : Hist). missed_of bound h.steps (hist_in r.0 outs).steps) (sym found.0) ∙ told_by_split j bound (missed r.0) (hist_in r.0 ins) (hist_in r.0 outs) le (s r.0) in
+    ap (λ (h : Hist). missed_of bound h.steps (hist_in r.0 outs).steps) (sym found.0) ∙ told_by_split j bound (missed r.0) (hist_in r.0 ins) (hist_in r.0 outs) le (s r.0) in
     filter-append (is_missed bound outs) (map (key_change r.0) (steps_above bound r.1.steps)) (changes_over bound rows)
     ∙ ap (λ l. l ++ filter (is_missed bound outs) (changes_over bound rows)) (filter_keyed bound outs r.0 (steps_above bound r.1.steps) ∙ ap (map (key_change r.0)) here)
     ∙ ap (λ l. map (key_change r.0) (missed r.0) ++ l) (told_rows j bound missed ins outs rows le s found.1)

@@ -3,13 +3,44 @@ ghost use Rattle.std.specs.Prelude.{◌≡◌, ◌≢◌, ◌≤◌, ◌+◌, �
 ghost use Rattle.kt_pool.specs.Contents.{at_cell, used};
 ghost use Rattle.kt_history.specs.Rows.{fits};
 ghost use Rattle.kt_history.specs.Stores.{Under, hist_in, last_row, change_of, share, TakesUpTo};
-ghost use Rattle.kt_dup.specs.Sides.{HasOneMore};
+ghost use Rattle.kt_dup.specs.Sides.{HasOneMore, StaysBeside};
 
 use kt_history::{Kindly, OpRef, RowStore, Target};
 use kt_pool::Pool;
 
+// Adds the change of an operation to a store. Another store beside it is as before.
+fn apply_beside<S: RowStore, B: RowStore>(
+    store: &mut S,
+    other: &B,
+    pool: &mut Pool,
+    ts: u64,
+    op: &OpRef<'_>,
+    change: Kindly,
+) -> Target
+    requires stands { S.stands store.old pool.old }
+    requires beside { B.stands other.now pool.old }
+    requires apart { (k : ℕ) → S.owns store.old pool.old k → ¬ B.owns other.now pool.old k }
+    requires reserved { share op.now ≤ pool.old.reserved }
+    requires no_insert { change ≢ Kindly.Ins }
+    requires fits { fits (change_of change op.now.cells) (last_row (hist_in op.now.key (S.store store.old pool.old))) ≡ true }
+    requires above { Under ts (hist_in op.now.key (S.store store.old pool.old)).steps }
+    ensures more { HasOneMore S.stands S.store S.target S.is_closed store.old store.new pool.old pool.new op.now.key ts (change_of change op.now.cells) result }
+    ensures beside { StaysBeside B.stands B.store B.cells B.owns other.now pool.old pool.new }
+    ensures apart { (k : ℕ) → S.owns store.new pool.new k → ¬ B.owns other.now pool.new k }
+    ensures takes { TakesUpTo (share op.now) pool.old pool.new }
+    ensures cells { S.cells store.new pool.new + used pool.old ≡ S.cells store.old pool.old + used pool.new }
+    ensures keeps { (k : ℕ) → S.owns store.old pool.old k → S.owns store.new pool.new k }
+    ensures grows { (k : ℕ) → S.owns store.new pool.new k → S.owns store.old pool.old k ⊎ (at_cell pool.old k ≡ None) }
+    ensures frame { (k : ℕ) → ¬ S.owns store.new pool.new k → at_cell pool.new k ≡ at_cell pool.old k }
+{
+    B::frame_law();
+    B::placed_law();
+    store.apply_reserved(pool, ts, op, change)
+}
+
 /// Adds the change of an operation to an input and to an output of a job, in reserved cells. It is no insert, it fits the row after
 /// all changes on both sides, and all that either has of the key lies below it. It tells the two stores that took it.
+#[tactic(auto, using(crate::proofs::Sides::taken_twice))]
 pub fn apply_to_both<I: RowStore, O: RowStore>(
     input: &mut I,
     output: &mut O,
@@ -38,11 +69,7 @@ pub fn apply_to_both<I: RowStore, O: RowStore>(
     ensures grows_output { (k : ℕ) → O.owns output.new pool.new k → O.owns output.old pool.old k ⊎ (at_cell pool.old k ≡ None) }
     ensures frame { (k : ℕ) → ¬ I.owns input.new pool.new k → ¬ O.owns output.new pool.new k → at_cell pool.new k ≡ at_cell pool.old k }
 {
-    I::frame_law();
-    I::placed_law();
-    O::frame_law();
-    O::placed_law();
-    let input = input.apply_reserved(pool, ts, op, change);
-    let output = output.apply_reserved(pool, ts, op, change);
-    (input, output)
+    let told_input = apply_beside(input, output, pool, ts, op, change);
+    let told_output = apply_beside(output, input, pool, ts, op, change);
+    (told_input, told_output)
 }
