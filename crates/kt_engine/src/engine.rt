@@ -17,10 +17,10 @@ ghost use Rattle.kt_engine.specs.Engines.{EngineView, IsEngine, IsLogged, IsHome
 use crate::running::Running;
 use kt_base::Clock;
 use kt_disk::Disk;
+use kt_diskrowset::DiskRowSet;
 use kt_history::{EventList, Plan};
 use kt_journal::Journal;
 use kt_loglaws::LogSide;
-use kt_memrowset::MemRowSet;
 use kt_records::{LogRecords, RecordList};
 use kt_tablet::Tablet;
 use std::alloc::Global;
@@ -31,7 +31,7 @@ use std::snapshot::Snapshot;
 /// at each visit.
 #[derive(Drop)]
 pub struct Engine<L: Disk, D, C: Clock> {
-    pub(crate) tablet: Box<Tablet<MemRowSet, C>>,
+    pub(crate) tablet: Box<Tablet<DiskRowSet, C>>,
     pub(crate) log: Box<LogSide<L>>,
     pub(crate) store: D,
     pub(crate) running: Running,
@@ -87,13 +87,13 @@ impl<L: Disk, D, C: Clock> Engine<L, D, C> {
     /// write that had none.
     pub fn of(
         alloc: Global,
-        tablet: Tablet<MemRowSet, C>,
+        tablet: Tablet<DiskRowSet, C>,
         journal: Journal<L>,
         records: &LogRecords,
         queued: RecordList,
         store: D,
         device: Snapshot<L>,
-    ) -> Result<Engine<L, D, C>, (Tablet<MemRowSet, C>, Journal<L>, D)>
+    ) -> Result<Engine<L, D, C>, (Tablet<DiskRowSet, C>, Journal<L>, D)>
         requires fresh { (tablet.core.trail ≡ []) × (tablet.core.aloft ≡ []) × (tablet.core.stopped ≡ false) }
         requires mems { All IsMem tablet.names }
         requires differ { NamesDiffer tablet.names }

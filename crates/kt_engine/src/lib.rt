@@ -13,7 +13,7 @@ pub mod shared;
 pub mod write;
 
 pub use engine::{Engine, Parts};
-pub use kt_tablet::{BeginNo, LookNo, Snap, SnapNo, SnapView, Stopped};
+pub use kt_tablet::{BeginNo, Copied, LookNo, ReadView, Snap, SnapNo, Stopped};
 pub use log::{Broken, LogNo};
 pub use shared::Part;
 pub use write::{Draft, WriteDone};

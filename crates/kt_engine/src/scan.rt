@@ -2,6 +2,7 @@
 ghost use Rattle.std.specs.Prelude.{◌≡◌, IfOk, IfErr, OnErr, OnOk, Err, false, true};
 ghost use Rattle.kt_history.specs.declared.event.Event.TheVariants.{Chore};
 ghost use Rattle.kt_history.specs.History.{Past};
+ghost use Rattle.kt_diskrowset.specs.Page.{row_told};
 ghost use Rattle.kt_histlaws.specs.Events.{answered};
 ghost use Rattle.kt_tablet.specs.Visits.{MayLook, HasLooked, MayMark, HasMarked, MayAnswerChore};
 ghost use Rattle.kt_tablet.specs.Reads.{MaySnapshot, HasRead, ShowsRun, IsCopied, IsNoRead, LeavesRead};
@@ -11,6 +12,7 @@ ghost use Rattle.kt_engine.specs.Visits.{IsVisit};
 use crate::engine::Engine;
 use kt_base::Clock;
 use kt_disk::Disk;
+use kt_diskrowset::RowSetView;
 use kt_history::At;
 use kt_tablet::{LookNo, Snap, SnapNo};
 use std::alloc::Global;
@@ -29,20 +31,21 @@ impl<L: Disk, D, C: Clock> Engine<L, D, C> {
         self.tablet.look(number, index)
     }
 
-    /// Answers a scan: what the stores in memory hold up to the time that it reads, copied.
+    /// Answers a scan: what the stores in memory hold up to the time that it reads, copied, and what tells the rows of the disk
+    /// rowsets up to it.
     pub fn snapshot(
         &mut self,
         alloc: Global,
         number: u32,
         index: u32,
         at: At,
-    ) -> Result<Snap, SnapNo>
+    ) -> Result<Snap<RowSetView>, SnapNo>
         requires { self.old.tablet.core.stopped ≡ false → MaySnapshot self.old.tablet.core number index at }
         ensures visit { IsVisit number self.old self.new }
         ensures read { IfOk result (λ snap. HasRead self.old.tablet.core self.new.tablet.core number index at snap.t) }
         ensures mark { IfOk result (λ snap. snap.mark ≡ self.old.tablet.core.a) }
         ensures copied { IfOk result IsCopied }
-        ensures shows { IfOk result (λ snap. (first : Past) → IsFound self.old first → ShowsRun (core_from self.old first) snap) }
+        ensures shows { IfOk result (λ snap. (first : Past) → IsFound self.old first → ShowsRun row_told (core_from self.old first) snap) }
         ensures beside { self.new ≡ record self.old { tablet = record self.old.tablet { core = self.new.tablet.core } } }
         ensures stopped { self.old.tablet.core.stopped ≡ true → result ≡ Err SnapNo.Stopped }
         ensures refused { IfErr result (IsNoRead self.old.tablet.core number at) }
