@@ -26,6 +26,7 @@ use crate::opening::Why;
 use crate::reopening::{Reopened, reopen};
 use kt_base::Clock;
 use kt_disk::Disk;
+use kt_diskrowset::DiskRowSet;
 use kt_engine::Engine;
 use kt_journal::{Journal, JournalNo, open_journal};
 use kt_memrowset::MemRowSet;
@@ -69,8 +70,8 @@ fn given_up<L: Disk, D, C>(why: Why, journal: Journal<L>, store: D, clock: C) ->
     }
 }
 
-// The stores of a tablet of which one MemRowSet has all.
-fn stores_of(alloc: Global, mem: MemRowSet, pool: Pool) -> Stores<MemRowSet>
+// The stores of a tablet of which one MemRowSet has all. There is no disk rowset yet.
+fn stores_of(alloc: Global, mem: MemRowSet, pool: Pool) -> Stores<DiskRowSet>
     requires stands { IsStore mem pool }
     requires thawed { is_frozen mem ≡ false }
     requires had { used pool ≡ cells_had mem pool }

@@ -1,5 +1,5 @@
-use Rattle.std.proofs.Common.{Ok, map, sym, ap, ◌∙◌, subst}
-use Rattle.kt_tablet.specs.Filling.{filled}
+use Rattle.std.proofs.Common.{Ok, suc, sym, ap, ◌∙◌, subst}
+use Rattle.kt_tablet.specs.Filling.{all_told}
 use Rattle.kt_disk.specs.Disk.{LeavesOnly}
 use Rattle.kt_journal.specs.Log.{CanOpen}
 use Rattle.kt_schema.specs.Columns.{fill_of}
@@ -21,7 +21,7 @@ of-requires-2-clause-durable g c = λ told image left. c.in-Ok.ensures.durable t
 
 pub of-requires-2-clause-due : goal.of-requires-2-clause-due
 of-requires-2-clause-due g c =
-    queued_due _ _ _ _ _ _ _ c.in-Ok.ensures.sound c.in-Ok-reopen.ensures.found.1 _ _ _ _ _ (ap (λ w. w.fill) c.in-Ok-of.ensures.work) (c.in-Ok-of.ensures.names ∙ c.stores_of-stores.ensures.names) (c.in-Ok-of.ensures.found.2 ∙ ap (map (filled (fill_of c.args.schema.now))) c.stores_of-stores.ensures.stores) c.in-Ok-of.ensures.found.0 c.in-Ok-of.ensures.found.1
+    queued_due _ _ _ _ _ _ _ c.in-Ok.ensures.sound c.in-Ok-reopen.ensures.found.1 _ _ _ _ _ (ap (λ w. w.fill) c.in-Ok-of.ensures.work) (c.in-Ok-of.ensures.names ∙ c.stores_of-stores.ensures.names) (c.in-Ok-of.ensures.found.2 ∙ ap (all_told (fill_of c.args.schema.now) (suc c.stores_of-stores.result.frozen)) c.stores_of-stores.ensures.stores) c.in-Ok-of.ensures.found.0 c.in-Ok-of.ensures.found.1
 
 pub of-requires-2-clause-differ : goal.of-requires-2-clause-differ
 of-requires-2-clause-differ g c = subst NamesDiffer (sym (c.in-Ok-of.ensures.names ∙ c.stores_of-stores.ensures.names)) (tt, tt)
@@ -37,7 +37,7 @@ returns-in-Ok-of-2-clause-found g c =
     let is = c.in-Ok-reopen.ensures.found.1 in
     let last = ap (λ t. t.core.opened) tablet ∙ c.in-Ok-of.ensures.found.1 in (
       past,
-      found_shown _ _ _ _ _ _ _ is _ _ _ (ap (λ t. t.opening) tablet ∙ c.in-Ok-of.ensures.found.2 ∙ ap (map (filled (fill_of c.args.schema.now))) c.stores_of-stores.ensures.stores) (ap (λ t. t.mark) tablet ∙ c.in-Ok-of.ensures.found.0) last,
+      found_shown _ _ _ _ _ _ _ is _ _ _ (ap (λ t. t.opening) tablet ∙ c.in-Ok-of.ensures.found.2 ∙ ap (all_told (fill_of c.args.schema.now) (suc c.stores_of-stores.result.frozen)) c.stores_of-stores.ensures.stores) (ap (λ t. t.mark) tablet ∙ c.in-Ok-of.ensures.found.0) last,
       (λ told. ap (opening_in (fill_of c.args.schema.now)) (c.in-Ok.ensures.records told) ∙ is.found ∙ ap (λ n. Ok (record { past = past; last = n })) (sym last)),
       λ rules takes. found_holds rules _ _ _ _ _ _ _ c.in-Ok.ensures.sound is _ _ last (ap (λ e. e.records) view) takes,
     )
@@ -48,7 +48,7 @@ returns-in-Ok-of-2-clause-content g c = λ rules past holds.
     let records = ap (λ e. e.records) view in
     let tablet = ap (λ e. e.tablet) view in
     record {
-      opens = content_shown rules _ _ _ _ _ _ _ c.in-Ok.ensures.sound c.in-Ok-reopen.ensures.found.1 _ _ _ _ _ (ap (λ t. t.core.work.fill) tablet ∙ ap (λ w. w.fill) c.in-Ok-of.ensures.work) (ap (λ t. t.opening) tablet ∙ c.in-Ok-of.ensures.found.2 ∙ ap (map (filled (fill_of c.args.schema.now))) c.stores_of-stores.ensures.stores) (ap (λ t. t.mark) tablet ∙ c.in-Ok-of.ensures.found.0) (ap (λ t. t.core.opened) tablet ∙ c.in-Ok-of.ensures.found.1) records past holds;
+      opens = content_shown rules _ _ _ _ _ _ _ c.in-Ok.ensures.sound c.in-Ok-reopen.ensures.found.1 _ _ _ _ _ (ap (λ t. t.core.work.fill) tablet ∙ ap (λ w. w.fill) c.in-Ok-of.ensures.work) (ap (λ t. t.opening) tablet ∙ c.in-Ok-of.ensures.found.2 ∙ ap (all_told (fill_of c.args.schema.now) (suc c.stores_of-stores.result.frozen)) c.stores_of-stores.ensures.stores) (ap (λ t. t.mark) tablet ∙ c.in-Ok-of.ensures.found.0) (ap (λ t. t.core.opened) tablet ∙ c.in-Ok-of.ensures.found.1) records past holds;
       holds = subst (λ (f : Row). HoldsPast rules f fresh c.in-Ok-of-2.engine.records c.in-Ok-of-2.engine.tablet.core.opened past) (sym (ap (λ t. t.core.work.fill) tablet ∙ ap (λ w. w.fill) c.in-Ok-of.ensures.work)) holds;
     }
 
