@@ -1,0 +1,17 @@
+pub mod Replayed
+pub mod Placing
+pub mod Gates
+pub mod Firsts
+pub mod Held
+pub mod Still
+pub mod Naming
+pub mod OwedTold
+pub mod OwedOrder
+pub mod FreshNumbers
+pub mod Few
+pub mod NeedLaws
+pub mod Needing
+pub mod Adding
+pub mod Publishing
+pub mod Alike
+pub mod Worked

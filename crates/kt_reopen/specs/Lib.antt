@@ -1,0 +1,12 @@
+pub mod Tables
+pub mod Both
+pub mod Holding
+pub mod Numbers
+pub mod Naming
+pub mod Bare
+pub mod Needed
+pub mod Owed
+pub mod Commits
+pub mod Opened
+pub mod Refusal
+pub mod Laws
