@@ -13,7 +13,7 @@ use Rattle.kt_cells.proofs.InPlace.{whole_behind}
 use Rattle.kt_history.specs.AsBytes.{change_with}
 use Rattle.kt_history.specs.declared.change.Change.{Change}
 use Rattle.kt_history.specs.declared.changes.KeyChange.{KeyChange}
-use Rattle.kt_history.specs.Stores.{Steps, changes_upto, key_change, row_changes}
+use Rattle.kt_history.specs.Stores.{Steps, key_change}
 use Rattle.kt_pool.specs.Contents.{Contents, bytes_at}
 use Rattle.kt_tree.specs.Entries.{Entry}
 use Rattle.kt_tree.specs.InOrder.{IsWalk, IsFirst, to_come}
@@ -23,6 +23,8 @@ use Rattle.kt_tree.specs.declared.walk.Walk.{Walk}
 use Rattle.kt_memrowset.specs.declared.link.Head.{Head}
 use Rattle.kt_memrowset.specs.declared.store.MemRowSet.{MemRowSet}
 use Rattle.kt_memrowset.specs.Links.{nothing, Link, IsLink, link_at, head_of, Chains, chain, IsChainAt, step_of, steps_of}
+use Rattle.kt_memrowset.specs.declared.times.Times.{Times}
+use Rattle.kt_memrowset.specs.Times.{in_times, changes_of, changes_in}
 use Rattle.kt_memrowset.specs.Stores.{row_at, store_of, in_rows, IsStore, Lists, Walks}
 use Rattle.kt_memrowset.proofs.Links.{link_again, link_head, link_cells}
 use Rattle.kt_memrowset.proofs.Rows.{next_chain}
@@ -30,18 +32,18 @@ use Rattle.kt_memrowset.proofs.Frames.{RowsStand, in_rows-append, rows_right}
 
 -- ---- the changes of a row
 
-changes_one : (upto : ℕ) (key : List ℕ) (c : ℕ × Change) (steps : Steps) → row_changes upto key (c ∷ steps) ≡ row_changes upto key (c ∷ []) ++ row_changes upto key steps
-changes_one upto key c steps = by (nat_le c.0 upto)
+changes_one : (times : Times) (key : List ℕ) (c : ℕ × Change) (steps : Steps) → changes_of times key (c ∷ steps) ≡ changes_of times key (c ∷ []) ++ changes_of times key steps
+changes_one times key c steps = by (in_times times c.0)
   where
-    by : (b : Bool) → map (key_change key) (cond b (c ∷ filter (λ (c : ℕ × Change). nat_le c.0 upto) steps) (filter (λ (c : ℕ × Change). nat_le c.0 upto) steps)) ≡ map (key_change key) (cond b (c ∷ []) []) ++ row_changes upto key steps
+    by : (b : Bool) → map (key_change key) (cond b (c ∷ filter (λ (c : ℕ × Change). in_times times c.0) steps) (filter (λ (c : ℕ × Change). in_times times c.0) steps)) ≡ map (key_change key) (cond b (c ∷ []) []) ++ changes_of times key steps
     by true = refl
     by false = refl
 
-pub lists_first : (pool : Contents) (first upto : ℕ) (key : List ℕ) (old : List KeyChange) → IsChainAt pool first (chain pool first) → Lists pool first first upto key old old
-lists_first pool first upto key old s = record { links = chain pool first; stand = s; same = refl }
+pub lists_first : (pool : Contents) (first : ℕ) (times : Times) (key : List ℕ) (old : List KeyChange) → IsChainAt pool first (chain pool first) → Lists pool first first times key old old
+lists_first pool first times key old s = record { links = chain pool first; stand = s; same = refl }
 
-module _ (pool : Contents) (cell next : ℕ) (ne : cell ≢ nothing) (goes : next ≡ (link_at pool cell).head.next) (first upto : ℕ) (key : List ℕ) (old now now2 : List KeyChange) (e : now2 ≡ now ++ row_changes upto key (steps_of (link_at pool cell ∷ []))) where
-  lists_by : (links : List Link) → IsChainAt pool cell links → now ++ row_changes upto key (steps_of links) ≡ old ++ row_changes upto key (steps_of (chain pool first)) → Lists pool first next upto key old now2
+module _ (pool : Contents) (cell next : ℕ) (ne : cell ≢ nothing) (goes : next ≡ (link_at pool cell).head.next) (first : ℕ) (times : Times) (key : List ℕ) (old now now2 : List KeyChange) (e : now2 ≡ now ++ changes_of times key (steps_of (link_at pool cell ∷ []))) where
+  lists_by : (links : List Link) → IsChainAt pool cell links → now ++ changes_of times key (steps_of links) ≡ old ++ changes_of times key (steps_of (chain pool first)) → Lists pool first next times key old now2
   lists_by [] s same = absurd (ne s.chains)
   lists_by (l ∷ links) s same =
       let here : link_at pool cell ≡ l = ap (link_at pool) s.chains.0 ∙ link_again pool l s.chains.1 in
@@ -49,31 +51,31 @@ module _ (pool : Contents) (cell next : ℕ) (ne : cell ≢ nothing) (goes : nex
         links = links;
         stand = next_chain pool cell next ne goes l links s;
         same =
-            ap (λ xs. xs ++ row_changes upto key (steps_of links)) (e ∙ ap (λ l. now ++ row_changes upto key (steps_of (l ∷ []))) here)
-            ∙ append_assoc now (row_changes upto key (steps_of (l ∷ []))) (row_changes upto key (steps_of links))
-            ∙ ap (λ xs. now ++ xs) (sym (changes_one upto key (step_of l) (steps_of links))) ∙ same;
+            ap (λ xs. xs ++ changes_of times key (steps_of links)) (e ∙ ap (λ l. now ++ changes_of times key (steps_of (l ∷ []))) here)
+            ∙ append_assoc now (changes_of times key (steps_of (l ∷ []))) (changes_of times key (steps_of links))
+            ∙ ap (λ xs. now ++ xs) (sym (changes_one times key (step_of l) (steps_of links))) ∙ same;
       }
 
-  pub lists_next : Lists pool first cell upto key old now → Lists pool first next upto key old now2
+  pub lists_next : Lists pool first cell times key old now → Lists pool first next times key old now2
   lists_next h = lists_by h.links h.stand h.same
 
 no_links : (pool : Contents) (cell : ℕ) (links : List Link) → Chains pool cell links → cell ≡ nothing → links ≡ []
 no_links pool cell [] h e = refl
 no_links pool cell (l ∷ links) h e = let i = h.1.inside in let c = h.0 in absurd (omega arith)
 
-pub lists_done : (pool : Contents) (first cell upto : ℕ) (key : List ℕ) (old now : List KeyChange) → cell ≡ nothing → Lists pool first cell upto key old now → now ≡ old ++ row_changes upto key (steps_of (chain pool first))
-lists_done pool first cell upto key old now e h =
-    sym (append-nil now) ∙ ap (λ links. now ++ row_changes upto key (steps_of links)) (sym (no_links pool cell h.links h.stand.chains e)) ∙ h.same
+pub lists_done : (pool : Contents) (first cell : ℕ) (times : Times) (key : List ℕ) (old now : List KeyChange) → cell ≡ nothing → Lists pool first cell times key old now → now ≡ old ++ changes_of times key (steps_of (chain pool first))
+lists_done pool first cell times key old now e h =
+    sym (append-nil now) ∙ ap (λ links. now ++ changes_of times key (steps_of links)) (sym (no_links pool cell h.links h.stand.chains e)) ∙ h.same
 
 -- the change that a place spells, as the bytes behind its first fields
-pub listed_link : (pool : Contents) (cell upto : ℕ) (key bytes cells : List ℕ) (h : Head) → IsLink pool (link_at pool cell) → bytes ≡ bytes_at pool cell → cells ≡ drop 21 bytes → h ≡ head_of (bytes_at pool cell) → nat_le h.ts upto ≡ true
-    → record { key = key; ts = h.ts; change = change_with h.kind (cells_behind cells) } ∷ [] ≡ row_changes upto key (steps_of (link_at pool cell ∷ []))
-listed_link pool cell upto key bytes cells h s e behind read low =
+pub listed_link : (pool : Contents) (cell : ℕ) (times : Times) (key bytes cells : List ℕ) (h : Head) → IsLink pool (link_at pool cell) → bytes ≡ bytes_at pool cell → cells ≡ drop 21 bytes → h ≡ head_of (bytes_at pool cell) → in_times times h.ts ≡ true
+    → record { key = key; ts = h.ts; change = change_with h.kind (cells_behind cells) } ∷ [] ≡ changes_of times key (steps_of (link_at pool cell ∷ []))
+listed_link pool cell times key bytes cells h s e behind read low =
     let l = link_at pool cell in
     let head : h ≡ l.head = read ∙ link_head pool l s in
     let same : cells ≡ drop 21 (bytes_at pool cell) = behind ∙ ap (drop 21) e in
     let is : cells_behind cells ≡ l.cells = ap cells_behind same ∙ sym (whole_behind (drop 21 (bytes_at pool cell)) l.cells [] (link_cells pool l s)) in
-    let at : nat_le l.head.ts upto ≡ true = ap (λ (h : Head). nat_le h.ts upto) (sym head) ∙ low in
+    let at : in_times times l.head.ts ≡ true = ap (λ (h : Head). in_times times h.ts) (sym head) ∙ low in
     ap (λ (h : Head). record { key = key; ts = h.ts; change = change_with h.kind (cells_behind cells) } ∷ []) head
     ∙ ap (λ cells. record { key = key; ts = l.head.ts; change = change_with l.head.kind cells } ∷ []) is
     ∙ sym (ap (λ b. map (key_change key) (cond b (step_of l ∷ []) [])) at)
@@ -89,23 +91,23 @@ ends_in_added changes new key c e is =
     )
 
 -- and one above the time is not listed
-pub unlisted_link : (pool : Contents) (cell upto : ℕ) (key : List ℕ) (h : Head) → IsLink pool (link_at pool cell) → h ≡ head_of (bytes_at pool cell) → nat_le h.ts upto ≡ false → row_changes upto key (steps_of (link_at pool cell ∷ [])) ≡ []
-unlisted_link pool cell upto key h s read high =
+pub unlisted_link : (pool : Contents) (cell : ℕ) (times : Times) (key : List ℕ) (h : Head) → IsLink pool (link_at pool cell) → h ≡ head_of (bytes_at pool cell) → in_times times h.ts ≡ false → changes_of times key (steps_of (link_at pool cell ∷ [])) ≡ []
+unlisted_link pool cell times key h s read high =
     let l = link_at pool cell in
     let head : h ≡ l.head = read ∙ link_head pool l s in
-    ap (λ b. map (key_change key) (cond b (step_of l ∷ []) [])) (ap (λ (h : Head). nat_le h.ts upto) (sym head) ∙ high)
+    ap (λ b. map (key_change key) (cond b (step_of l ∷ []) [])) (ap (λ (h : Head). in_times times h.ts) (sym head) ∙ high)
 
 -- ---- the rows
 
-pub walk_starts : (s : MemRowSet) (pool : Contents) (upto : ℕ) (walk : Walk) → IsWalk walk pool → to_come walk pool ≡ trees.entries s.tree pool → Walks s pool upto walk 0 []
-walk_starts s pool upto walk w all = record { stands = w; front = []; is = sym all; count = refl; listed = refl }
+pub walk_starts : (s : MemRowSet) (pool : Contents) (times : Times) (walk : Walk) → IsWalk walk pool → to_come walk pool ≡ trees.entries s.tree pool → Walks s pool times walk 0 []
+walk_starts s pool times walk w all = record { stands = w; front = []; is = sym all; count = refl; listed = refl }
 
-more_rows : (upto : ℕ) (pool : Contents) (front : List Entry) (e : Entry) → changes_upto upto (map (row_at pool) (front ++ e ∷ [])) ≡ changes_upto upto (map (row_at pool) front) ++ row_changes upto e.key (steps_of (chain pool e.value))
-more_rows upto pool front e =
-    ap (changes_upto upto) (map-append (row_at pool) front (e ∷ [])) ∙ flat_map-append (λ row. row_changes upto row.0 row.1.steps) (map (row_at pool) front) (row_at pool e ∷ [])
-    ∙ ap (λ xs. changes_upto upto (map (row_at pool) front) ++ xs) (flat_map-cons (λ row. row_changes upto row.0 row.1.steps) (row_at pool e) [] ∙ append-nil (row_changes upto e.key (steps_of (chain pool e.value))))
+more_rows : (times : Times) (pool : Contents) (front : List Entry) (e : Entry) → changes_in times (map (row_at pool) (front ++ e ∷ [])) ≡ changes_in times (map (row_at pool) front) ++ changes_of times e.key (steps_of (chain pool e.value))
+more_rows times pool front e =
+    ap (changes_in times) (map-append (row_at pool) front (e ∷ [])) ∙ flat_map-append (λ row. changes_of times row.0 row.1.steps) (map (row_at pool) front) (row_at pool e ∷ [])
+    ∙ ap (λ xs. changes_in times (map (row_at pool) front) ++ xs) (flat_map-cons (λ row. changes_of times row.0 row.1.steps) (row_at pool e) [] ∙ append-nil (changes_of times e.key (steps_of (chain pool e.value))))
 
-module _ (s : MemRowSet) (pool : Contents) (st : IsStore s pool) (upto n : ℕ) (p : Pair) (walk new : Walk) (first : IsFirst pool (Some p) (to_come walk pool) (to_come new pool)) (now : List KeyChange) (w : Walks s pool upto walk n now) where
+module _ (s : MemRowSet) (pool : Contents) (st : IsStore s pool) (times : Times) (n : ℕ) (p : Pair) (walk new : Walk) (first : IsFirst pool (Some p) (to_come walk pool) (to_come new pool)) (now : List KeyChange) (w : Walks s pool times walk n now) where
   entries_are : trees.entries s.tree pool ≡ w.front ++ first.0 ∷ to_come new pool
   entries_are = w.is ∙ ap (λ rest. w.front ++ rest) first.1
 
@@ -118,8 +120,8 @@ module _ (s : MemRowSet) (pool : Contents) (st : IsStore s pool) (upto n : ℕ) 
         once = λ k. let a = ap (λ es. in_rows pool es k) entries_are in let b = in_rows-append pool w.front rest k in let i = st.within k in let o = st.once k in omega arith;
       })
 
-  module _ (stands : IsWalk new pool) (key : List ℕ) (key_is : key ≡ bytes_at pool p.key.cell) (now2 : List KeyChange) (more : now2 ≡ now ++ row_changes upto key (steps_of (chain pool p.value.cell))) where
-    pub walk_next : Walks s pool upto new (n + 1) now2
+  module _ (stands : IsWalk new pool) (key : List ℕ) (key_is : key ≡ bytes_at pool p.key.cell) (now2 : List KeyChange) (more : now2 ≡ now ++ changes_of times key (steps_of (chain pool p.value.cell))) where
+    pub walk_next : Walks s pool times new (n + 1) now2
     walk_next =
         let k : key ≡ first.0.key = key_is ∙ bytes_some pool p.key.cell first.0.key first.2.key in
         let count = w.count in
@@ -128,20 +130,20 @@ module _ (s : MemRowSet) (pool : Contents) (st : IsStore s pool) (upto n : ℕ) 
           front = w.front ++ first.0 ∷ [];
           is = entries_are ∙ sym (append_assoc w.front (first.0 ∷ []) (to_come new pool));
           count = omega (arith, length-append w.front (first.0 ∷ []));
-          listed = more ∙ ap (λ xs. xs ++ row_changes upto key (steps_of (chain pool p.value.cell))) w.listed ∙ ap (λ k. changes_upto upto (map (row_at pool) w.front) ++ row_changes upto k (steps_of (chain pool p.value.cell))) k
-              ∙ ap (λ v. changes_upto upto (map (row_at pool) w.front) ++ row_changes upto first.0.key (steps_of (chain pool v))) first.2.value ∙ sym (more_rows upto pool w.front first.0);
+          listed = more ∙ ap (λ xs. xs ++ changes_of times key (steps_of (chain pool p.value.cell))) w.listed ∙ ap (λ k. changes_in times (map (row_at pool) w.front) ++ changes_of times k (steps_of (chain pool p.value.cell))) k
+              ∙ ap (λ v. changes_in times (map (row_at pool) w.front) ++ changes_of times first.0.key (steps_of (chain pool v))) first.2.value ∙ sym (more_rows times pool w.front first.0);
         }
 
-module _ (s : MemRowSet) (pool : Contents) (upto n : ℕ) (walk : Walk) (now : List KeyChange) (w : Walks s pool upto walk n now) where
-  all_by : to_come walk pool ≡ [] → now ≡ changes_upto upto (store_of s pool)
-  all_by none = w.listed ∙ ap (λ es. changes_upto upto (map (row_at pool) es)) (sym (append-nil w.front) ∙ ap (λ rest. w.front ++ rest) (sym none) ∙ sym w.is)
+module _ (s : MemRowSet) (pool : Contents) (times : Times) (n : ℕ) (walk : Walk) (now : List KeyChange) (w : Walks s pool times walk n now) where
+  all_by : to_come walk pool ≡ [] → now ≡ changes_in times (store_of s pool)
+  all_by none = w.listed ∙ ap (λ es. changes_in times (map (row_at pool) es)) (sym (append-nil w.front) ∙ ap (λ rest. w.front ++ rest) (sym none) ∙ sym w.is)
 
   nil_of : (rest : List Entry) → length rest ≡ 0 → rest ≡ []
   nil_of [] h = refl
   nil_of (e ∷ es) h = absurd (omega arith)
 
-  pub walk_breaks : (new : Walk) → IsFirst pool None (to_come walk pool) (to_come new pool) → now ≡ changes_upto upto (store_of s pool)
+  pub walk_breaks : (new : Walk) → IsFirst pool None (to_come walk pool) (to_come new pool) → now ≡ changes_in times (store_of s pool)
   walk_breaks new first = all_by first.0
 
-  pub walk_ends : (len : ℕ) → len ≡ length (trees.entries s.tree pool) → len ≤ n → now ≡ changes_upto upto (store_of s pool)
+  pub walk_ends : (len : ℕ) → len ≡ length (trees.entries s.tree pool) → len ≤ n → now ≡ changes_in times (store_of s pool)
   walk_ends len e low = all_by (nil_of (to_come walk pool) (let a = ap length w.is in let c = w.count in omega (arith, length-append w.front (to_come walk pool))))

@@ -1,4 +1,5 @@
 pub mod Links
+pub mod Times
 pub mod Stores
 pub mod Taking
 pub mod Writes

@@ -13,7 +13,7 @@ use Rattle.kt_history.specs.declared.target.Kindly.TheVariants.{Ins, Upd, Del}
 use Rattle.kt_history.specs.Rows.{Row, key_cmp}
 use Rattle.std.specs.FinMap.Entries.{find, put}
 use Rattle.kt_history.specs.Operations.{cell_len}
-use Rattle.kt_history.specs.Stores.{Hist, Store, after_steps, push, hist_in, last_row, row_changes, changes_upto, change_of}
+use Rattle.kt_history.specs.Stores.{Hist, Store, after_steps, push, hist_in, last_row, change_of}
 use Rattle.kt_pool.specs.Contents.{Contents, at_cell, bytes_at, cells_for, used}
 use Rattle.kt_tree.specs.Entries.{Entry, is_past}
 use Rattle.kt_tree.specs.Takes.{Takes}
@@ -22,6 +22,8 @@ use Rattle.kt_memrowset.specs.Links.{nothing, Link, Chains, chain, cells_of, tim
 use Rattle.kt_tree.specs.InOrder.{IsWalk, to_come}
 use Rattle.kt_tree.specs.declared.walk.Walk.{Walk}
 use Rattle.kt_memrowset.specs.declared.store.MemRowSet.{MemRowSet}
+use Rattle.kt_memrowset.specs.declared.times.Times.{Times}
+use Rattle.kt_memrowset.specs.Times.{changes_of, changes_in}
 
 -- its number
 abbrev pub number_of : MemRowSet → ℕ
@@ -173,15 +175,15 @@ pub record Joins (s t : MemRowSet) (old new : Contents) (op : RowOp) (ts : ℕ) 
   pub frozen : is_frozen t ≡ is_frozen s
 
 -- the changes from this cell on are still to be listed behind these
-pub record Lists (pool : Contents) (first cell upto : ℕ) (key : List ℕ) (old now : List KeyChange) : Type 0 where
+pub record Lists (pool : Contents) (first cell : ℕ) (times : Times) (key : List ℕ) (old now : List KeyChange) : Type 0 where
   pub links : List Link
   pub stand : IsChainAt pool cell links
-  pub same : now ++ row_changes upto key (steps_of links) ≡ old ++ row_changes upto key (steps_of (chain pool first))
+  pub same : now ++ changes_of times key (steps_of links) ≡ old ++ changes_of times key (steps_of (chain pool first))
 
 -- the changes of so many rows are listed, and the walk comes to the others
-pub record Walks (s : MemRowSet) (pool : Contents) (upto : ℕ) (walk : Walk) (n : ℕ) (now : List KeyChange) : Type 0 where
+pub record Walks (s : MemRowSet) (pool : Contents) (times : Times) (walk : Walk) (n : ℕ) (now : List KeyChange) : Type 0 where
   pub stands : IsWalk walk pool
   pub front : List Entry
   pub is : trees.entries s.tree pool ≡ front ++ to_come walk pool
   pub count : length front ≡ n
-  pub listed : now ≡ changes_upto upto (map (row_at pool) front)
+  pub listed : now ≡ changes_in times (map (row_at pool) front)

@@ -1,9 +1,10 @@
 //! The changes of one row, in a chain.
 ghost use Rattle.std.specs.Prelude.{◌≡◌, ℕ, ◌≤◌, [], ◌∷◌, List, ◌++◌, None, true, is_some, length, drop, IfOk, IfSome, OnOk};
 ghost use Rattle.std.specs.Prelude.{◌==◌};
-ghost use Rattle.kt_history.specs.Stores.{after_steps, last_row, change_of, row_changes};
+ghost use Rattle.kt_history.specs.Stores.{after_steps, last_row, change_of};
 ghost use Rattle.kt_memrowset.specs.Links.{Link, IsLink, IsChainAt, link_at, chain, newest, steps_of};
 ghost use Rattle.kt_memrowset.specs.Stores.{RowStands, hist_of, stays, trail_at, IsTrailAt, Releases};
+ghost use Rattle.kt_memrowset.specs.Times.{changes_of};
 ghost use Rattle.kt_memrowset.specs.Taking.{links_from};
 ghost use Rattle.kt_memrowset.specs.Ending.{EndsIn};
 ghost use Rattle.kt_cells.specs.Reading.{cells_behind};
@@ -11,6 +12,7 @@ ghost use Rattle.kt_history.specs.AsBytes.{change_with};
 ghost use Rattle.kt_pool.specs.Contents.{Stands, bytes_at};
 
 use crate::link::{Head, NOTHING, head_in};
+use crate::times::Times;
 use kt_base::{Cells, NoMemory, Octets};
 use kt_bytes::Stop;
 use kt_cells::lists::cells_of;
@@ -201,13 +203,13 @@ fn push_link(
     push_next(list, key, begun, head, &buffer[21..])
 }
 
-/// Lists the change in this cell, if it is at or below a time, as its bytes. It is told, and tells, whether the last change of
+/// Lists the change in this cell, if it is at one of these times, as its bytes. It is told, and tells, whether the last change of
 /// the list is of that key.
 fn push_change(
     pool: &Pool,
     key: &[u8],
     cell: u32,
-    upto: u64,
+    times: Times,
     begun: &mut bool,
     list: &mut ChangeList,
     buffer: &mut Vec<u8>,
@@ -215,33 +217,33 @@ fn push_change(
     requires link { IsLink pool.now (link_at pool.now cell) }
     requires begun { begun.old ≡ true → EndsIn key.now list.old }
     ensures next { IfOk result (λ next. next ≡ (link_at pool.now cell).head.next) }
-    ensures list { IfOk result (λ next. list.new ≡ list.old ++ row_changes upto key.now (steps_of (link_at pool.now cell ∷ []))) }
+    ensures list { IfOk result (λ next. list.new ≡ list.old ++ changes_of times key.now (steps_of (link_at pool.now cell ∷ []))) }
     ensures begun { IfOk result (λ next. begun.new ≡ true → EndsIn key.now list.new) }
 {
     let head = head_in(pool, cell);
-    if head.ts <= upto {
+    if times.has(head.ts) {
         push_link(pool, key, cell, *begun, head, list, buffer)?;
         *begun = true;
     }
     Ok(head.next)
 }
 
-/// Lists the changes of a row at or below a time. They are read through a buffer where they do not lie together.
+/// Lists the changes of a row at these times. They are read through a buffer where they do not lie together.
 pub fn push_changes(
     pool: &Pool,
     key: &[u8],
     first: u32,
-    upto: u64,
+    times: Times,
     list: &mut ChangeList,
     buffer: &mut Vec<u8>,
 ) -> Result<(), NoMemory>
     requires { IsChainAt pool.now first (chain pool.now first) }
-    ensures { OnOk result (list.new ≡ list.old ++ row_changes upto key.now (steps_of (chain pool.now first))) }
+    ensures { OnOk result (list.new ≡ list.old ++ changes_of times key.now (steps_of (chain pool.now first))) }
 {
     let mut cell = first;
     let mut begun = false;
     while cell != NOTHING {
-        cell = push_change(pool, key, cell, upto, &mut begun, list, buffer)?;
+        cell = push_change(pool, key, cell, times, &mut begun, list, buffer)?;
     }
     Ok(())
 }
@@ -252,22 +254,22 @@ pub fn push_row(
     pool: &Pool,
     key: Place,
     first: u32,
-    upto: u64,
+    times: Times,
     list: &mut ChangeList,
     keys: &mut Vec<u8>,
     buffer: &mut Vec<u8>,
 ) -> Result<(), NoMemory>
     requires key { Stands pool.now key.cell }
     requires row { IsChainAt pool.now first (chain pool.now first) }
-    ensures { OnOk result (list.new ≡ list.old ++ row_changes upto (bytes_at pool.now key.cell) (steps_of (chain pool.now first))) }
+    ensures { OnOk result (list.new ≡ list.old ++ changes_of times (bytes_at pool.now key.cell) (steps_of (chain pool.now first))) }
 {
     let len = pool.len(key);
     if len == 0 || len > WHOLE {
         read_into(pool, key.cell, keys)?;
-        push_changes(pool, keys, first, upto, list, buffer)?;
+        push_changes(pool, keys, first, times, list, buffer)?;
         return Ok(());
     }
     let bytes = pool.front(key, len);
-    push_changes(pool, bytes, first, upto, list, buffer)?;
+    push_changes(pool, bytes, first, times, list, buffer)?;
     Ok(())
 }

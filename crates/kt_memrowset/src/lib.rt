@@ -11,6 +11,7 @@ pub mod laws;
 pub mod link;
 mod row_store;
 pub mod store;
+pub mod times;
 pub mod write;
 
 pub use store::MemRowSet;

@@ -7,6 +7,7 @@ ghost use Rattle.kt_history.specs.Rows.{fits};
 
 use crate::chain::{is_live, octets_at, push_row, release, row_at};
 use crate::link::{Head, NOTHING};
+use crate::times::Times;
 use crate::write::{extend, place};
 use kt_base::{Cells, NoMemory, Octets};
 use kt_history::{ChangeList, Kindly, OpRef, Taken, Target, kind_made};
@@ -28,6 +29,7 @@ impl MemRowSet {
     ghost use Rattle.kt_tree.specs.Entries.{value_of};
     ghost use Rattle.kt_tree.specs.Trees.{entries, place_at};
     ghost use Rattle.kt_memrowset.specs.Taking.{JoinsIf};
+    ghost use Rattle.kt_memrowset.specs.Times.{changes_in, changes_over};
     ghost use Rattle.kt_history.specs.Stores.{kind_made, is_there, last_row, share, changes_upto};
     ghost use Rattle.kt_memrowset.specs.Stores.{IsStore, store_of, Owns, cells_had, number_of, is_frozen, change_by, Joins, key_past};
 
@@ -204,6 +206,27 @@ impl MemRowSet {
         requires { IsStore self.now pool.now }
         ensures { IfOk result (λ list. list ≡ changes_upto upto (store_of self.now pool.now)) }
     {
+        self.list(alloc, pool, Times::UpTo(upto))
+    }
+
+    /// All changes above a time, by rising key and then as they were made.
+    pub fn changes_above(
+        &self,
+        alloc: Global,
+        pool: &Pool,
+        above: u64,
+    ) -> Result<ChangeList, NoMemory>
+        requires { IsStore self.now pool.now }
+        ensures { IfOk result (λ list. list ≡ changes_over above (store_of self.now pool.now)) }
+    {
+        self.list(alloc, pool, Times::Above(above))
+    }
+
+    // All changes at these times, by rising key and then as they were made.
+    fn list(&self, alloc: Global, pool: &Pool, times: Times) -> Result<ChangeList, NoMemory>
+        requires { IsStore self.now pool.now }
+        ensures { IfOk result (λ list. list ≡ changes_in times (store_of self.now pool.now)) }
+    {
         let mut list = ChangeList::new(alloc);
         let mut keys = Vec::new(alloc);
         let mut buffer = Vec::new(alloc);
@@ -219,7 +242,7 @@ impl MemRowSet {
                 pool,
                 pair.key,
                 pair.value.cell,
-                upto,
+                times,
                 &mut list,
                 &mut keys,
                 &mut buffer,

@@ -1,5 +1,0 @@
-use Rattle.kt_memrowset.specs.Stores.{Walks}
-use Rattle.kt_memrowset.proofs.store.MemRowSet.changes.Given as goal
-
-abbrev pub invariant-rows : goal.invariant-rows
-invariant-rows l = Walks l.self l.pool l.upto l.walk l.counter l.list
