@@ -1,6 +1,5 @@
 -- The changes of a store, one row after the other.
 use Rattle.std.proofs.Common.{◌≡◌, ◌≢◌, ℕ, ◌+◌, ◌-◌, ◌≤◌, get_or, List, [], ◌∷◌, ◌++◌, length, map, drop, Some, None, cond, Bool, true, false, refl, sym, ap, subst, ◌∙◌, append_assoc, arith, length-append}
-use Rattle.std.specs.Prelude.{nat_le}
 use Rattle.std.specs.List.{filter}
 use Rattle.kt_tree.proofs.Places.{bytes_some}
 use Rattle.std.proofs.lemmas.List.{append-nil, map-append, length-map}

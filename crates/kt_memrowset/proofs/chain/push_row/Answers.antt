@@ -1,4 +1,4 @@
-use Rattle.std.proofs.Common.{◌≡◌, ◌++◌, List, ℕ, arith, ap, ◌∙◌}
+use Rattle.std.proofs.Common.{◌++◌, List, ℕ, arith, ap, ◌∙◌}
 use Rattle.std.proofs.lemmas.List.{take_all}
 use Rattle.kt_pool.specs.Contents.{bytes_at}
 use Rattle.kt_memrowset.specs.Times.{changes_of}
