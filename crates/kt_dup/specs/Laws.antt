@@ -22,8 +22,8 @@ a_change_to_the_input_is_missed = (j bound ts i k : ℕ) (c : Change) (missed : 
     → is_some (first_some (map (row_of ts) ins)) ≡ true
     → IsSplit j bound (on_nth k (λ m. m ++ (ts, c) ∷ []) missed) (on_nth i (push ts c) ins) outs
 
--- From the swap on a change of a row, above the bound and above all that the inputs have of its key, goes to the input and to the output that have the row: they stay split,
--- and what is missed stays the same.
+-- From the swap on a change of a row, above the bound and above all that the inputs have of its key, goes to the input and to the output that have
+-- the row: they stay split, and what is missed stays the same.
 abbrev pub a_change_to_both_keeps_the_split : Type 0
 a_change_to_both_keeps_the_split = (j bound ts i k : ℕ) (c : Change) (missed : List Steps) (ins outs : List Hist) (s : IsSplit j bound missed ins outs)
     → j ≤ bound → bound < ts → IsOfRow c → i < length ins → k < length outs → AllUnder ts ins

@@ -40,12 +40,14 @@ missed_in bound ins outs = filter (is_missed bound outs) (changes_over bound ins
 abbrev pub listed : (List ℕ → Steps) → Store → List KeyChange
 listed missed store = flat_map (λ row. map (key_change row.0) (missed row.0)) store
 
--- the changes of a list at these places
+-- what is read where a list has no change
 abbrev pub no_change : KeyChange
 no_change = record { key = []; ts = 0; change = Del }
 
+-- the changes of a list at these places
 abbrev pub picked : List KeyChange → List ℕ → List KeyChange
 picked changes places = map (λ at. get_or changes at no_change) places
 
+-- and it has one at each of them
 abbrev pub AreInside : List KeyChange → List ℕ → Type 0
 AreInside changes places = All (λ at. at < length changes) places

@@ -1,5 +1,5 @@
 //! The changes that went to an input alone.
-ghost use Rattle.std.specs.Prelude.{◌≡◌, ◌==◌, ◌<◌, ◌≤◌, ℕ, true, List, length, get_or, slice_get, IfOk, take};
+ghost use Rattle.std.specs.Prelude.{◌≡◌, ◌==◌, ◌<◌, ◌≤◌, ℕ, true, List, length, get_or, slice_get, IfOk};
 ghost use Rattle.std.specs.List.{filter};
 ghost use Rattle.std.specs.FinMap.Entries.{is_sorted};
 ghost use Rattle.std.specs.Option.{option_copied, option_map};
@@ -39,7 +39,8 @@ pub trait FirstAbove: RowStore {
         ensures { result ≡ first_above above (hist_in key.now (Self.store self.now pool.now)).steps };
 }
 
-/// Some changes of a list, which stay where they lie. Contracts see them as a list.
+/// The changes of an input that its output lacks, by rising key, and those of one key as they were made. They stay in the list of
+/// all that the input took. Contracts see them as a list.
 #[derive(Drop)]
 pub struct MissedChanges {
     changes: ChangeList,
@@ -59,12 +60,14 @@ impl Model for MissedChanges {
 }
 
 impl MissedChanges {
+    /// How many there are.
     pub fn len(&self) -> usize
         ensures { result ≡ length self.now }
     {
         self.places.len()
     }
 
+    /// Whether nothing was missed.
     pub fn is_empty(&self) -> bool
         ensures { result ≡ (length self.now == 0) }
     {
