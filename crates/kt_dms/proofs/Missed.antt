@@ -5,6 +5,7 @@ use Rattle.std.specs.List.{find, filter, AllByRecursion}
 use Rattle.std.specs.Option.{option_map}
 use Rattle.std.proofs.lemmas.List.{append-nil}
 use Rattle.kt_cells.specs.Reading.{cells_behind}
+use Rattle.kt_history.specs.declared.change.Change.{Change}
 use Rattle.kt_history.specs.declared.changes.Delta.{Delta}
 use Rattle.kt_history.specs.declared.changes.KeyChange.{KeyChange}
 use Rattle.kt_history.specs.declared.target.Kindly.{Kindly}
@@ -38,6 +39,22 @@ above_placed pool t (p ∷ ps) = by (nat_lt t p.ts) (above_placed pool t ps)
         → steps_at_places pool (cond b (p ∷ later (Some t) ps) (later (Some t) ps)) ≡ cond b (step_at_place pool p ∷ steps_above t (steps_at_places pool ps)) (steps_above t (steps_at_places pool ps))
     by true h = ap (λ steps. step_at_place pool p ∷ steps) h
     by false h = h
+
+-- the time of the first of them
+first_placed : (pool : Contents) (t : ℕ) (ps : List Placed) → option_map (λ (p : Placed). p.ts) (find (is_later (Some t)) ps) ≡ option_map (λ (c : ℕ × Change). c.0) (find (λ (c : ℕ × Change). nat_lt t c.0) (steps_at_places pool ps))
+first_placed pool t [] = refl
+first_placed pool t (p ∷ ps) = by (nat_lt t p.ts) (first_placed pool t ps)
+  where
+    by : (b : Bool) → option_map (λ (p : Placed). p.ts) (find (is_later (Some t)) ps) ≡ option_map (λ (c : ℕ × Change). c.0) (find (λ (c : ℕ × Change). nat_lt t c.0) (steps_at_places pool ps))
+        → option_map (λ (p : Placed). p.ts) (cond b (Some p) (find (is_later (Some t)) ps)) ≡ option_map (λ (c : ℕ × Change). c.0) (cond b (Some (step_at_place pool p)) (find (λ (c : ℕ × Change). nat_lt t c.0) (steps_at_places pool ps)))
+    by true h = refl
+    by false h = h
+
+pub first_is : (tree : Tree) (pool : Contents) (o t : ℕ) (placed : Option Placed) → placed ≡ find (is_later (Some t)) (placed_for o (trees.entries tree pool))
+    → option_map (λ (p : Placed). p.ts) placed ≡ option_map (λ (c : ℕ × Change). c.0) (find (λ (c : ℕ × Change). nat_lt t c.0) (steps_for o (deltas_in tree pool)))
+first_is tree pool o t placed found =
+    ap (option_map (λ (p : Placed). p.ts)) found ∙ first_placed pool t (placed_for o (trees.entries tree pool))
+    ∙ ap (λ (steps : Steps). option_map (λ (c : ℕ × Change). c.0) (find (λ (c : ℕ × Change). nat_lt t c.0) steps)) (sym (steps_placed pool o (trees.entries tree pool)))
 
 -- the changes that are to come, under a key
 abbrev pub under_key : Tree → Contents → ℕ → List ℕ → Option ℕ → List KeyChange

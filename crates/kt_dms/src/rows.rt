@@ -1,5 +1,5 @@
 //! The changes of one row, and all changes, one after the other.
-ghost use Rattle.std.specs.Prelude.{◌≡◌, ◌++◌, ◌∷◌, [], Option, Some, length, map, nat_le, is_some, IfOk, OnOk};
+ghost use Rattle.std.specs.Prelude.{◌≡◌, ◌++◌, ◌∷◌, [], Option, Some, length, map, nat_le, nat_lt, is_some, IfOk, OnOk};
 ghost use Rattle.std.specs.Option.{option_map};
 ghost use Rattle.std.specs.List.{find};
 ghost use Rattle.kt_history.specs.Rows.{Row, apply};
@@ -157,6 +157,17 @@ pub fn next_row(tree: &Tree, pool: &Pool, from: u32) -> Option<u32>
 {
     match pair_behind(tree, pool, from, None) {
         Some(pair) => Some(row_of(pool, pair)),
+        None => None,
+    }
+}
+
+/// When a row changed first above a time, if it did.
+pub fn first_above(tree: &Tree, pool: &Pool, ordinal: u32, above: u64) -> Option<u64>
+    requires { IsHeld tree.now pool.now }
+    ensures { result ≡ option_map (λ c. c.0) (find (λ c. nat_lt above c.0) (steps_for ordinal (deltas_in tree.now pool.now))) }
+{
+    match next_of(tree, pool, ordinal, Some(above)) {
+        Some(placed) => Some(placed.ts),
         None => None,
     }
 }

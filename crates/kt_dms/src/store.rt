@@ -1,5 +1,5 @@
 //! The store.
-ghost use Rattle.std.specs.Prelude.{◌≡◌, ◌+◌, ◌++◌, ◌≤◌, ℕ, [], Option, None, length, map, nat_le, is_some, IfOk, OnOk, MatchOption};
+ghost use Rattle.std.specs.Prelude.{◌≡◌, ◌+◌, ◌++◌, ◌≤◌, ℕ, [], Option, None, length, map, nat_le, nat_lt, is_some, IfOk, OnOk, MatchOption};
 ghost use Rattle.std.specs.List.{find};
 ghost use Rattle.std.specs.Option.{option_map};
 ghost use Rattle.kt_history.specs.Rows.{Row};
@@ -8,7 +8,7 @@ ghost use Rattle.kt_pool.specs.Contents.{Contents, at_cell, used};
 
 use crate::changes::place;
 use crate::keys::key_of;
-use crate::rows::{is_live, next_row, push_above, push_change, release, row_at};
+use crate::rows::{first_above, is_live, next_row, push_above, push_change, release, row_at};
 use kt_base::{Cells, NoMemory};
 use kt_history::{ChangeList, Delta, DeltaList, Kindly, OpRef};
 use kt_pool::Pool;
@@ -140,6 +140,14 @@ impl DeltaMem {
         ensures { result ≡ option_map (λ d. d.ordinal) (find (λ d. nat_le from d.ordinal) (deltas_of self.now pool.now)) }
     {
         next_row(&self.tree, pool, from)
+    }
+
+    /// When a row changed first above a time, if it did.
+    pub fn first_above(&self, pool: &Pool, ordinal: u32, above: u64) -> Option<u64>
+        requires { IsStore self.now pool.now }
+        ensures { result ≡ option_map (λ c. c.0) (find (λ c. nat_lt above c.0) (steps_for ordinal (deltas_of self.now pool.now))) }
+    {
+        first_above(&self.tree, pool, ordinal, above)
     }
 
     /// Adds the changes of a row above a time to a list under a key, the oldest first. They are read through a buffer where they
