@@ -1,0 +1,4 @@
+pub mod Named
+pub mod Standing
+pub mod Sides
+pub mod Gates

@@ -1,0 +1,128 @@
+-- What keeps the store of an engine standing: it goes out, it comes home, and it comes home after a fault.
+use Rattle.std.proofs.Common.{◌≡◌, ℕ, ◌≤◌, Bool, IsTrue, true, false, Option, Some, None, refl, sym, subst, ◌∙◌, arith, inl, inr}
+use Rattle.std.specs.Prelude.{Ok}
+use Rattle.kt_base.specs.Causes.{Rose}
+use Rattle.kt_disk.specs.Disk.{Files}
+use Rattle.kt_super.specs.declared.meta.Meta.{Meta}
+use Rattle.kt_super.specs.Body.{IsMeta}
+use Rattle.kt_super.specs.Slots.{super_of, AreStable}
+use Rattle.kt_storeside.specs.Supers.{FilesStand, Publishes, HasSuper}
+use Rattle.kt_storeside.specs.Turns.{IsTurn, HasOneOf}
+use Rattle.kt_storeside.specs.Sides.{StoreView, known_in, lent_in, holder_in, published_in, side_of, HasEither, MayBeLent, IsSide}
+use Rattle.kt_storeside.proofs.Named.{first_file}
+use Rattle.kt_storeside.proofs.Standing.{left_above, image_has, still_stand}
+
+module _ {D : Type 0} (tells : Bool) (seen : D → Files) (now : D → ℕ) (leaves : D → ℕ → Files → Type 0) (faults : D → ℕ) where
+  abbrev Stands : StoreView D → Type 0
+  Stands v = IsSide tells seen now leaves faults v
+
+  -- a device at home is the known one, and its images have its superblock
+  pub home_is_known : (v : StoreView D) (home : Option D) (whole : Bool) (went : D) (by : ℕ) (meta : Meta) (lent : Option Meta) (nr nf : ℕ) → side_of home whole went by meta lent nr nf ≡ v
+      → IsTrue v.whole → (disk : D) → v.home ≡ Some disk → disk ≡ v.known
+  home_is_known v home whole went by meta lent nr nf e is disk at =
+      subst (λ (w : StoreView D). IsTrue w.whole → w.home ≡ Some disk → disk ≡ w.known) e (known home whole) is at
+    where
+      known : (h : Option D) (w : Bool) → IsTrue w → h ≡ Some disk → disk ≡ known_in h w went
+      known None w is at = absurd cc
+      known (Some d) true is at = cc
+      known (Some d) false is at = absurd cc
+
+  pub home_has_super : (v : StoreView D) → Stands v → (disk : D) → disk ≡ v.known → IsTrue tells → (c : Files) → leaves disk (now disk) c → HasSuper (seen disk) v.meta c
+  home_has_super v s disk e t c left = subst (λ (d : D). leaves d (now d) c → HasSuper (seen d) v.meta c) (sym e) (λ l. record {
+    superblock = superblock l;
+    named_are = λ n is. p.files c l n is;
+  }) left
+    where
+      p : Publishes seen now leaves v.meta v.known
+      p = s.publishes t
+
+      superblock : leaves v.known (now v.known) c → super_of c ≡ Ok (Some v.meta)
+      superblock l = same_slots (seen v.known) c (p.slots 1 (inl refl) c l) (p.slots 2 (inr refl) c l) ∙ p.superblock
+        where
+          same_slots : (f g : Files) → g 1 ≡ f 1 → g 2 ≡ f 2 → super_of g ≡ super_of f
+          same_slots f g one two = cc
+
+  -- it goes out
+  pub out_stands : (home : Option D) (whole : Bool) (went : D) (by : ℕ) (meta : Meta) (lent : Option Meta) (nr nf : ℕ) (disk : D) (number : ℕ) (later : Option Meta)
+      → Stands (side_of home whole went by meta lent nr nf) → home ≡ Some disk → IsTrue whole
+      → ((m : Meta) → later ≡ Some m → MayBeLent tells seen now leaves (side_of home whole went by meta lent nr nf) m) → Stands (side_of None whole disk number meta later nr nf)
+  out_stands None whole went by meta lent nr nf disk number later s at is may = absurd cc
+  out_stands (Some d) false went by meta lent nr nf disk number later s at is may = absurd cc
+  out_stands (Some d) true went by meta lent nr nf disk number later s at is may = subst (λ (k : D). Stands (side_of None true k number meta later nr nf)) same (record {
+    rules = s.rules;
+    rowsets = s.rowsets;
+    files = s.files;
+    publishes = s.publishes;
+    vacant = s.vacant;
+    lent_is = λ m e. record { next = (may m e).next; files = (may m e).files };
+    broken = λ un other out. absurd cc;
+    rose = λ un other out. absurd cc;
+  })
+    where
+      same : d ≡ disk
+      same = cc
+
+  -- which superblock is published once it is home, and what holds of it
+  record IsKept (m : Meta) (nr nf : ℕ) (went : D) : Type 0 where
+    rules : IsMeta m
+    rowsets : m.next_rowset ≤ nr
+    files : m.next_file ≤ nf
+    stand : IsTrue tells → FilesStand seen now leaves m went
+
+  kept : (published : Bool) (went : D) (by : ℕ) (meta : Meta) (lent : Option Meta) (nr nf : ℕ) → Stands (side_of None true went by meta lent nr nf) → IsKept (published_in published lent meta) nr nf went
+  kept true went by meta None nr nf s = record { rules = s.rules; rowsets = s.rowsets; files = s.files; stand = λ t. (s.publishes t).files }
+  kept true went by meta (Some m) nr nf s = let may = s.lent_is m refl in record { rules = may.next.rules; rowsets = may.next.rowsets; files = may.next.files; stand = may.files }
+  kept false went by meta lent nr nf s = record { rules = s.rules; rowsets = s.rowsets; files = s.files; stand = λ t. (s.publishes t).files }
+
+  -- it comes home
+  pub home_stands : (home : Option D) (whole : Bool) (went : D) (by : ℕ) (meta : Meta) (lent : Option Meta) (nr nf : ℕ) (disk : D) (number : ℕ) (published : Bool) (given : Option Meta) (nr' nf' : ℕ)
+      → Stands (side_of home whole went by meta lent nr nf) → holder_in home by ≡ Some number → IsTrue whole → given ≡ lent_in home whole lent → nr ≤ nr' → nf ≤ nf' → (IsTrue tells → IsTurn seen now leaves nf nf' (known_in home whole went) disk)
+      → (IsTrue tells → super_of (seen disk) ≡ Ok (Some (published_in published given meta))) → (IsTrue tells → AreStable seen now leaves disk)
+      → Stands (side_of (Some disk) whole went by (published_in published given meta) lent nr' nf')
+  home_stands (Some d) whole went by meta lent nr nf disk number published given nr' nf' s out is same le le' turn superblock slots = absurd cc
+  home_stands None false went by meta lent nr nf disk number published given nr' nf' s out is same le le' turn superblock slots = absurd cc
+  home_stands None true went by meta lent nr nf disk number published given nr' nf' s out is same le le' turn superblock slots = record {
+    rules = k.rules;
+    rowsets = omega (arith, k.rowsets, le);
+    files = omega (arith, k.files, le');
+    publishes = λ t. record { superblock = superblock t; slots = slots t; files = still_stand seen now leaves nf nf' went disk (turn t) (published_in published given meta) k.rules k.files (k.stand t) };
+    vacant = λ t n above. (turn t).reads n (left_above nf nf' n (omega (arith, first_file meta s.rules, s.files)) le' above) ∙ s.vacant t n (omega (arith, le', above));
+    lent_is = λ m e. absurd cc;
+    broken = λ un d at. absurd cc;
+    rose = λ un d at. absurd cc;
+  }
+    where
+      k : IsKept (published_in published given meta) nr nf went
+      k = subst (λ (o : Option Meta). IsKept (published_in published o meta) nr nf went) (sym same) (kept published went by meta lent nr nf s)
+
+  -- it comes home after a fault
+  pub broken_stands : (home : Option D) (whole : Bool) (went : D) (by : ℕ) (meta : Meta) (lent : Option Meta) (nr nf : ℕ) (disk : D) (number nf' : ℕ)
+      → Stands (side_of home whole went by meta lent nr nf) → holder_in home by ≡ Some number → nf ≤ nf' → (IsTrue tells → IsTurn seen now leaves nf nf' (known_in home whole went) disk)
+      → (IsTrue tells → HasOneOf now leaves meta (published_in true (lent_in home whole lent) meta) disk) → Rose (faults (known_in home whole went)) (faults disk) → Stands (side_of (Some disk) false went by meta lent nr nf)
+  broken_stands (Some d) whole went by meta lent nr nf disk number nf' s out le turn one rose = absurd cc
+  broken_stands None whole went by meta lent nr nf disk number nf' s out le turn one rose = record {
+    rules = s.rules;
+    rowsets = s.rowsets;
+    files = s.files;
+    publishes = s.publishes;
+    vacant = s.vacant;
+    lent_is = λ m e. record { next = (s.lent_is m e).next; files = (s.lent_is m e).files };
+    broken = λ no d at t c is. subst (λ (k : D). leaves k (now k) c → HasEither seen (side_of (Some disk) false went by meta lent nr nf) c) (same d at) (either t c) is;
+    rose = λ un d at. subst (λ (k : D). Rose (faults went) (faults k)) (same d at) rose;
+  }
+    where
+      same : (d : D) → Some disk ≡ Some d → disk ≡ d
+      same d at = cc
+
+      has : IsTrue tells → (m : Meta) → IsMeta m → m.next_file ≤ nf → FilesStand seen now leaves m went → (c : Files) → leaves disk (now disk) c → super_of c ≡ Ok (Some m) → HasSuper (seen went) m c
+      has t m rules given stand c is e = record { superblock = e; named_are = image_has seen now leaves nf nf' went disk (turn t) m rules given stand c is }
+
+      of_lent : (o : Option Meta) → lent ≡ o → IsTrue tells → (c : Files) → leaves disk (now disk) c → super_of c ≡ Ok (Some (published_in true o meta)) → HasEither seen (side_of (Some disk) false went by meta lent nr nf) c
+      of_lent None e t c is told = inl (has t meta s.rules s.files ((s.publishes t).files) c is told)
+      of_lent (Some m) e t c is told = let may = s.lent_is m e in inr (m, e, has t m may.next.rules may.next.files (may.files t) c is told)
+
+      either : IsTrue tells → (c : Files) → leaves disk (now disk) c → HasEither seen (side_of (Some disk) false went by meta lent nr nf) c
+      either t c is = elim (one t c is) [
+        | inl old ↦ inl (has t meta s.rules s.files ((s.publishes t).files) c is old)
+        | inr new ↦ of_lent lent refl t c is new
+      ]

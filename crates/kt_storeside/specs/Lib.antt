@@ -1,0 +1,3 @@
+pub mod Supers
+pub mod Turns
+pub mod Sides

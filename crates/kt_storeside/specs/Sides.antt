@@ -1,0 +1,70 @@
+-- What a contract sees of the store of an engine.
+use Rattle.std.specs.Prelude.{◌≡◌, ◌⊎◌, ℕ, ◌≤◌, Bool, true, false, IsTrue, Option, Some, None}
+use Rattle.kt_base.specs.Causes.{Rose}
+use Rattle.kt_disk.specs.Disk.{Files}
+use Rattle.kt_super.specs.declared.meta.Meta.{Meta}
+use Rattle.kt_super.specs.Body.{IsMeta}
+use Rattle.kt_storeside.specs.Supers.{FilesStand, Publishes, HasSuper, IsSuccessor}
+
+-- known is the device as it is, or as it last went out; home is the device where it is at home; holder is the pass that has it out. meta is the
+-- superblock that is published, and lent the one that went out to be. The next numbers have not been given yet. After a fault it is no longer whole.
+pub record StoreView (D : Type 0) : Type 0 where
+  pub home : Option D
+  pub known : D
+  pub holder : Option ℕ
+  pub meta : Meta
+  pub lent : Option Meta
+  pub next_rowset : ℕ
+  pub next_file : ℕ
+  pub whole : Bool
+
+-- the device as it is, where it is at home and whole, and else as it went out
+abbrev pub known_in : {D : Type 0} → Option D → Bool → D → D
+known_in None whole went = went
+known_in (Some disk) true went = disk
+known_in (Some disk) false went = went
+
+-- the superblock that went out, unless the device is at home and whole
+abbrev pub lent_in : {D : Type 0} → Option D → Bool → Option Meta → Option Meta
+lent_in None whole lent = lent
+lent_in (Some disk) true lent = None
+lent_in (Some disk) false lent = lent
+
+abbrev pub holder_in : {D : Type 0} → Option D → ℕ → Option ℕ
+holder_in None by = Some by
+holder_in (Some disk) by = None
+
+-- the store as its parts are: the device where it is at home, the pass that has it out otherwise, and the device and the superblock as they last went out
+abbrev pub side_of : {D : Type 0} → Option D → Bool → D → ℕ → Meta → Option Meta → ℕ → ℕ → StoreView D
+side_of home whole went by meta lent next_rowset next_file = record { home = home; known = known_in home whole went; holder = holder_in home by; meta = meta; lent = lent_in home whole lent; next_rowset = next_rowset; next_file = next_file; whole = whole }
+
+-- the superblock that is published once the device is home
+abbrev pub published_in : Bool → Option Meta → Meta → Meta
+published_in true (Some lent) meta = lent
+published_in true None meta = meta
+published_in false lent meta = meta
+
+-- An image has the published superblock or the one that was lent, and the data files that it names as the known device reads
+abbrev pub HasEither : {D : Type 0} → (D → Files) → StoreView D → Files → Type 0
+HasEither seen v c = HasSuper (seen v.known) v.meta c ⊎ ((m : Meta) × (v.lent ≡ Some m) × HasSuper (seen v.known) m c)
+
+-- so does each image of a device
+abbrev pub LeavesEither : {D : Type 0} → (D → Files) → (D → ℕ) → (D → ℕ → Files → Type 0) → StoreView D → D → Type 0
+LeavesEither seen now leaves v disk = (c : Files) → leaves disk (now disk) c → HasEither seen v c
+
+-- a superblock may be lent: it is a successor, and the data files that it names stand
+pub record MayBeLent {D : Type 0} (tells : Bool) (seen : D → Files) (now : D → ℕ) (leaves : D → ℕ → Files → Type 0) (v : StoreView D) (m : Meta) : Type 0 where
+  pub next : IsSuccessor v.meta v.next_rowset v.next_file m
+  pub files : IsTrue tells → FilesStand seen now leaves m v.known
+
+-- The store stands: the known device publishes its superblock, no file has a number that is still to be given, and what was lent may be. After
+-- a fault each image has one of both superblocks.
+pub record IsSide {D : Type 0} (tells : Bool) (seen : D → Files) (now : D → ℕ) (leaves : D → ℕ → Files → Type 0) (faults : D → ℕ) (v : StoreView D) : Type 0 where
+  pub rules : IsMeta v.meta
+  pub rowsets : v.meta.next_rowset ≤ v.next_rowset
+  pub files : v.meta.next_file ≤ v.next_file
+  pub publishes : IsTrue tells → Publishes seen now leaves v.meta v.known
+  pub vacant : IsTrue tells → (n : ℕ) → v.next_file ≤ n → seen v.known n ≡ None
+  pub lent_is : (m : Meta) → v.lent ≡ Some m → MayBeLent tells seen now leaves v m
+  pub broken : v.whole ≡ false → (disk : D) → v.home ≡ Some disk → IsTrue tells → LeavesEither seen now leaves v disk
+  pub rose : v.whole ≡ false → (disk : D) → v.home ≡ Some disk → Rose (faults v.known) (faults disk)
