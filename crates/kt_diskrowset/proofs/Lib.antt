@@ -15,3 +15,4 @@ pub mod Tables
 pub mod TakenRows
 pub mod Replaying
 pub mod UndosFit
+pub mod Firsts

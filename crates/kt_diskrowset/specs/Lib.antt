@@ -9,4 +9,5 @@ pub mod Page
 pub mod Gathered
 pub mod Jobs
 pub mod Missed
+pub mod First
 pub mod Laws
