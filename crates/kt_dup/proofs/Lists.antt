@@ -1,11 +1,14 @@
 -- Changes of one key, as lists by rising time.
-use Rattle.std.proofs.Common.{◌≡◌, ℕ, ◌<◌, ◌≤◌, [], ◌∷◌, ◌++◌, Some, None, refl, cond, sym, ap, ◌∙◌, subst, arith, inl, inr}
-use Rattle.std.specs.Prelude.{◌==◌}
+use Rattle.std.proofs.Common.{◌≡◌, ℕ, ◌<◌, ◌≤◌, [], ◌∷◌, ◌++◌, Some, None, refl, Bool, true, false, cond, sym, ap, ◌∙◌, subst, arith, inl, inr}
+use Rattle.std.specs.Prelude.{◌==◌, nat_lt}
 use Rattle.std.proofs.lemmas.Bool.{cases_lt, eq-eqb, ne_eqb, lt-ltb, le-ltb}
 use Rattle.kt_history.specs.declared.change.Change.{Change}
 use Rattle.kt_history.specs.Stores.{Steps, step_at, Under}
 use Rattle.kt_histlaws.specs.Fitting.{Rises, steps_above}
 use Rattle.kt_histlaws.specs.Flights.{UpTo}
+use Rattle.std.specs.List.{find}
+use Rattle.std.specs.Option.{option_map}
+use Rattle.kt_dup.specs.Missed.{first_time, first_above}
 
 -- from a lower time on they rise too
 pub rises_lower : (low high : ℕ) (steps : Steps) → low ≤ high → Rises high steps → Rises low steps
@@ -82,3 +85,13 @@ same_changes low (x ∷ xs) (y ∷ ys) rx ry same = elim (cases_lt x.0 y.0) [
         let rest : xs ≡ ys = go (subst (λ n. Rises n ys) (sym e) ry.1)
         (λ t lt. sym (behind t x xs lt) ∙ same t (omega (arith, rx.0)) ∙ behind t y ys (omega arith)) in
         λ k. (e k, one k) ∷ rest k
+
+-- the first change above a time is found, or is the first of those above it
+pub first_found : (above : ℕ) (steps : Steps) → option_map (λ (c : ℕ × Change). c.0) (find (λ (c : ℕ × Change). nat_lt above c.0) steps) ≡ first_above above steps
+first_found above [] = refl
+first_found above (c ∷ steps) = by (nat_lt above c.0) (first_found above steps)
+  where
+    by : (b : Bool) → option_map (λ (c : ℕ × Change). c.0) (find (λ (c : ℕ × Change). nat_lt above c.0) steps) ≡ first_above above steps
+        → option_map (λ (c : ℕ × Change). c.0) (cond b (Some c) (find (λ (c : ℕ × Change). nat_lt above c.0) steps)) ≡ first_time (cond b (c ∷ steps_above above steps) (steps_above above steps))
+    by true h = refl
+    by false h = h

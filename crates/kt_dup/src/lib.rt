@@ -10,14 +10,14 @@
 //! output: so `apply_to_both` is handed these two, and the law of the split says what that does to all of them. What was
 //! missed is asked of each input, with the outputs as one store that looks for a key in the output of its range.
 //!
-//! It stands on histories of rows and on what a store of rows is, and on the MemRowSet, which is an input of a flush.
+//! It stands on histories of rows and on what a store of rows is, and on the stores of a job, the MemRowSet and the disk rowset.
 #![tactic(auto)]
 
 pub mod both;
 pub mod dup;
-mod in_memory;
 pub mod laws;
 pub mod missed;
+mod stores;
 
 pub use both::apply_to_both;
 pub use dup::Dup;
