@@ -9,6 +9,7 @@ use Rattle.kt_rowfiles.specs.Reading.{step_in, steps_in}
 use Rattle.kt_rowfiles.specs.Flushing.{after_all, undone}
 use Rattle.std.specs.Option.{option_map}
 use Rattle.kt_histlaws.specs.Disks.{DiskRow}
+use Rattle.kt_rowfiles.proofs.TakenSteps.{steps-reverse}
 use Rattle.kt_merge.specs.Rows.{but_last, redos_of}
 
 rest_is : {X : Type 0} (xs : List X) (i : ℕ) (x : X) → i < length xs → x ≡ get_or xs i x → drop i xs ≡ x ∷ drop (i + 1) xs
@@ -44,11 +45,6 @@ steps-take (suc n) (x ∷ xs) = ap (λ (l : Steps). step_in x ∷ l) (steps-take
 
 pub front_is : (xs : List Delta) (n : ℕ) → n ≡ length xs - 1 → steps_in (take n xs) ≡ but_last (steps_in xs)
 front_is xs n e = steps-take n xs ∙ (let long : length (steps_in xs) ≡ length xs = length-map xs step_in in let same : n ≡ length (steps_in xs) - 1 = omega arith in ap (λ (k : ℕ). take k (steps_in xs)) same)
-
-steps-reverse : (xs : List Delta) → steps_in (reverse xs) ≡ reverse (steps_in xs)
-steps-reverse [] = refl
-steps-reverse (x ∷ xs) =
-    ap steps_in (reverse-append (x ∷ []) xs) ∙ map-append step_in (reverse xs) (x ∷ []) ∙ ap (λ (l : Steps). l ++ step_in x ∷ []) (steps-reverse xs) ∙ sym (reverse-append (step_in x ∷ []) (steps_in xs))
 
 -- a row that is there after all changes, with its UNDO records
 abbrev pub told : Option ℕ → Steps → Row → DiskRow

@@ -2,3 +2,10 @@ pub mod Rows
 pub mod Laws
 pub mod Folding
 pub mod Minor
+pub mod OneKey
+pub mod Fitting
+pub mod Told
+pub mod Changes
+pub mod Heads
+pub mod Merge
+pub mod Major

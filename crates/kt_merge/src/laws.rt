@@ -1,6 +1,9 @@
 //! Laws of the definitions.
 ghost use Rattle.kt_merge.specs.Minor.{merged_files_tell_the_same};
 ghost use Rattle.kt_merge.specs.Folding.{a_row_folded_is_alike, a_row_folded_whole_is_the_same, a_row_folded_whole_leads_back, changes_that_fit_leave_a_row};
+ghost use Rattle.kt_merge.specs.Major.{a_folded_rowset_tells_the_same};
+ghost use Rattle.kt_merge.specs.Merge.{outputs_are_alike, outputs_are_sound, outputs_lead_back};
+ghost use Rattle.kt_merge.specs.OneKey.{a_key_written_is_alike, a_key_written_is_sound, a_key_written_leads_back, a_key_written_fits_files};
 ghost use Rattle.kt_merge.specs.Laws.{a_row_written_is_the_history, a_row_written_leads_back, a_row_not_written_is_not_there};
 
 /// A row that is written has the row at the mark and the changes above it, and its UNDO records lead back. Where none is
@@ -23,4 +26,27 @@ pub fn fold_law()
 /// A file that has for each row its records of all REDO files tells the same history of each key.
 pub fn merge_law()
     ensures { merged_files_tell_the_same }
+{}
+
+/// The histories of one key in several stores, written as one row, are told the same from the mark on. Its changes fit, its UNDO
+/// records lead back, and files can hold it.
+pub fn key_law()
+    ensures alike { a_key_written_is_alike }
+    ensures sound { a_key_written_is_sound }
+    ensures led { a_key_written_leads_back }
+    ensures held { a_key_written_fits_files }
+{}
+
+/// A rowset whose REDO records all lie above the mark tells the same history of each key once they are folded in, with its older
+/// UNDO files beside the new one.
+pub fn folded_law()
+    ensures { a_folded_rowset_tells_the_same }
+{}
+
+/// Disk rowsets that have of each key what is written of it are told the same from the mark on as the inputs. Their changes fit, and
+/// their UNDO records lead back.
+pub fn outputs_law()
+    ensures alike { outputs_are_alike }
+    ensures sound { outputs_are_sound }
+    ensures led { outputs_lead_back }
 {}

@@ -1,12 +1,23 @@
 //! What maintenance writes: histories of rows as the rows and records of new files, and the records of several files as one.
 //!
-//! For the layer above: what is written of a history as of a mark keeps the row at the mark and the changes above it, and merged
-//! REDO files keep all their records. It stands on the definitions of changes, of histories and of delta files.
+//! For the layer above: `merge_rows` writes of each key of its inputs one row, which has the row at a mark and the changes above it up
+//! to a bound; `major` folds a rowset's REDO records into its base rows, which then tell the same; `minor` makes one REDO file of
+//! several, with all their records. It stands on disk rowsets as plain data, on base files and delta files, and on the definitions of
+//! changes and of histories.
 #![tactic(auto)]
 
+pub mod changes;
+pub mod fitting;
+pub mod folding;
+pub mod heads;
 pub mod laws;
-pub mod minor;
+pub mod merge;
+pub mod output;
+pub mod outputs;
+pub mod redo;
 pub mod row;
 
-pub use minor::merge_files;
+pub use folding::{Folded, major};
+pub use merge::merge_rows;
+pub use redo::{merge_files, minor};
 pub use row::{RowWritten, fold_row, write_row};

@@ -2,14 +2,15 @@
 ghost use Rattle.std.specs.Prelude.{◌≡◌, [], ◌∷◌, OnOk, IfOk, IfSome, reverse, nat_lt, if◌then◌else◌};
 ghost use Rattle.std.specs.List.{All};
 ghost use Rattle.std.specs.Option.{option_map};
-ghost use Rattle.kt_history.specs.Rows.{fits, apply, undo};
+ghost use Rattle.kt_history.specs.Rows.{apply, undo};
 ghost use Rattle.kt_rowfiles.specs.Reading.{steps_in};
 ghost use Rattle.kt_rowfiles.specs.Flushing.{after_all, undone};
 ghost use Rattle.kt_merge.specs.Folding.{row_folded};
 ghost use Rattle.kt_merge.specs.Rows.{deleted_at, but_last, redos_of, row_written, disk_row_of};
 
 use kt_base::{Cells, NoMemory};
-use kt_history::{Change, Delta, apply, undo_of};
+use kt_history::{Change, Delta, apply};
+use kt_rowfiles::back_over;
 use std::alloc::Global;
 
 /// What is written of a row: its base row, its UNDO records from the newest on, and the timestamp of a last change that
@@ -19,27 +20,6 @@ pub struct RowWritten {
     pub base: Cells,
     pub undos: Vec<Delta>,
     pub deleted: Option<u64>,
-}
-
-// Whether a change fits the row before it.
-fn is_fit(change: &Change, row: &Option<Cells>) -> bool
-    ensures { result ≡ fits change.now row.now }
-{
-    match change {
-        Change::Ins(_) => row.is_none(),
-        Change::Upd(_) | Change::Del => row.is_some(),
-    }
-}
-
-// The change that leads back over another one. One that fits no row is led back over by a delete.
-fn back_over(alloc: Global, change: &Change, row: &Option<Cells>) -> Result<Change, NoMemory>
-    ensures { IfOk result (λ back. back ≡ undo change.now row.now) }
-{
-    if is_fit(change, row) {
-        undo_of(alloc, change, row)
-    } else {
-        Ok(Change::Del)
-    }
 }
 
 // Does a change to a row, and adds an UNDO record with this ordinal if it lies above the mark.

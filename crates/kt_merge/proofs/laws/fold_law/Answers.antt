@@ -1,4 +1,4 @@
-use Rattle.kt_merge.proofs.Folded.{folded_alike, folded_whole, folded_leads, folded_left}
+use Rattle.kt_merge.proofs.FoldedRow.{folded_alike, folded_whole, folded_leads, folded_left}
 use Rattle.kt_merge.proofs.laws.fold_law.Goals as goal
 
 pub returns-clause-alike : goal.returns-clause-alike
