@@ -31,7 +31,7 @@ use Rattle.kt_tablet.specs.Views.{View, place_at}
 use Rattle.kt_tablet.specs.Visits.{HasApplied, HasNoted, IsRunOutcome}
 use Rattle.kt_engine.specs.Logged.{Waits, IsDurable, AreApart, LogStands, KeepsRun}
 use Rattle.kt_engine.specs.Memory.{resident, AreNamed}
-use Rattle.kt_engine.specs.Engines.{EngineView, IsEngine, IsFound, core_from, super_of}
+use Rattle.kt_engine.specs.Engines.{EngineView, IsEngine, IsFound, core_from}
 use Rattle.kt_engine.proofs.Lists.{all_head, all_tail, all_cons, all_at, all_found, found_passes, get_among, some_one}
 use Rattle.kt_engine.proofs.Memory.{one_place}
 use Rattle.kt_engine.proofs.Next.{goes_on, row_stands}
@@ -138,7 +138,7 @@ with_applied tells seen now leaves faults old s at_row place outcome new e h not
         };
         keeps = λ rules first is plan.
             let k = e.logged.keeps rules first (record { opens = is.opens; holds = is.holds }) plan in
-            applied_run rules (core_from old first) (super_of old) old.tablet.names old.tablet.notes new.notes old.records e.logged.run old.tablet.places (core_from (record old { tablet = new }) first) s at_row outcome (stands first is.opens)
+            applied_run rules (core_from old first) old.super old.tablet.names old.tablet.notes new.notes old.records e.logged.run old.tablet.places (core_from (record old { tablet = new }) first) s at_row outcome (stands first is.opens)
             (record { log = known.log; since = known.since; last = known.last; flying = known.flying; untold = known.untold }) e.ready.named e.ready.apart stored noted j f op h.flies h.next h.row
             (λ under. ap (λ (c : Core). record c { first = first }) (h.stores under)) (record { name = here.name; there = here.there; is = here.is }) (run_outcome first is.opens) k;
         names = e.logged.names;

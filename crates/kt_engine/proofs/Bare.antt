@@ -1,6 +1,7 @@
 -- A tablet that is opened without rowsets: what its stores show of a key is what the log alone makes of it.
-use Rattle.std.proofs.Common.{◌≡◌, ℕ, List, [], ◌∷◌, length, Some, None, Ok, refl, sym, cond, ap, ◌∙◌, subst, arith, not}
+use Rattle.std.proofs.Common.{◌≡◌, ℕ, List, [], ◌∷◌, ◌++◌, length, map, Some, None, Ok, refl, sym, cond, ap, ◌∙◌, subst, arith, not}
 use Rattle.std.specs.List.{All, filter}
+use Rattle.std.proofs.lemmas.List.{length-map}
 use Rattle.kt_history.specs.declared.change.Change.{Change}
 use Rattle.kt_history.specs.declared.event.Event.{Event}
 use Rattle.kt_history.specs.declared.target.Target.{Target}
@@ -8,21 +9,29 @@ use Rattle.kt_history.specs.declared.target.Target.TheVariants.{Mem, Delta}
 use Rattle.kt_history.specs.Rows.{Row}
 use Rattle.kt_history.specs.History.{Past}
 use Rattle.kt_history.specs.Machine.{State, start, state_after}
-use Rattle.kt_history.specs.Stores.{Steps, Hist, never}
+use Rattle.kt_history.specs.Stores.{Steps, Hist, never, hist_in}
+use Rattle.kt_records.specs.declared.entry.Entry.{Entry}
+use Rattle.kt_records.specs.declared.entry.Entry.TheVariants.{Replicate, Commit}
+use Rattle.kt_journal.specs.Log.{IsLog}
 use Rattle.kt_histlaws.specs.Core.{Core, Stands, now}
 use Rattle.kt_histlaws.specs.Histories.{hists, past_hist, ShowsKey, timeline}
 use Rattle.kt_histlaws.specs.Jobs.{AreAlike}
 use Rattle.kt_histlaws.specs.Pending.{Aloft, is_pending, done}
 use Rattle.kt_histlaws.proofs.Pending.{timeline-done, shows_alike}
-use Rattle.kt_content.specs.Places.{Place, memory, disk, fresh, Held, held_in}
-use Rattle.kt_content.specs.KeyOps.{KeyOp, played}
+use Rattle.kt_content.specs.Places.{Super, Place, memory, disk, fresh, Held, held_in}
+use Rattle.kt_content.specs.Rules.{Rules}
+use Rattle.kt_content.specs.Content.{IsContent as HoldsPast}
+use Rattle.kt_content.specs.RunEvents.{Numbers, NumbersAreFresh}
+use Rattle.kt_content.specs.KeyOps.{KeyOp, played, seen}
 use Rattle.kt_content.specs.InMemory.{is_at, group, hist_at, Mirrors}
 use Rattle.kt_content.proofs.Lending.{alike_to_never}
-use Rattle.kt_engine.specs.Logged.{IsMem}
-use Rattle.kt_engine.specs.Memory.{by_name, IsNamed, FirstIsMem, NamesDiffer, AreNamed}
+use Rattle.kt_tablet.specs.Views.{View, Opens}
+use Rattle.kt_engine.specs.Logged.{IsMem, AreDue, AreCommits, TakesUp}
+use Rattle.kt_engine.specs.Memory.{name_of, by_name, IsNamed, FirstIsMem, NamesDiffer, AreNamed}
+use Rattle.kt_engine.proofs.Numbering.{numbers_above, numbers_fresh}
 use Rattle.kt_engine.proofs.Lists.{all_head, all_tail, all_each}
 use Rattle.kt_engine.proofs.Records.{lt_test}
-use Rattle.kt_engine.proofs.Told.{alone_in, alone_played}
+use Rattle.kt_engine.proofs.Told.{alone_in, alone_played, due_told}
 
 -- ---- the stores of an engine in which nothing has happened
 
@@ -55,7 +64,7 @@ first_mem [] mems = tt
 first_mem (Mem n ∷ names) mems = tt
 first_mem (Delta r n ∷ names) mems = absurd (all_head IsMem (Delta r n) names mems)
 
-pub mems_named : (names : List Target) → All IsMem names → NamesDiffer names → AreNamed fresh names
+mems_named : (names : List Target) → All IsMem names → NamesDiffer names → AreNamed fresh names
 mems_named names mems differ = record { each = all_each IsMem (IsNamed fresh) names mem_named mems; first = first_mem names mems; differ = differ }
 
 in_memory : (names : List Target) (hs : List Hist) → All IsMem names → length names ≡ length hs → group fresh memory (by_name names hs) ≡ hs
@@ -86,8 +95,44 @@ alone_mirrors a names hs g whole mems many shows held memory = subst (λ (l : Li
 alone_mirrors a names hs g whole mems many shows held (disk r) = subst (λ (l : List Hist). AreAlike a l (never ∷ [])) (sym (none_on_disk r names hs mems)) (alike_to_never a)
 
 -- so stores that show the same history as the log alone mirror what that has
-pub bare_mirrors : (fill : Row) (a : ℕ) (names : List Target) (hs : List Hist) (xs : List KeyOp) (held : Held) (whole : Hist) → All IsMem names → length names ≡ length hs → ShowsKey a hs whole
+bare_mirrors : (fill : Row) (a : ℕ) (names : List Target) (hs : List Hist) (xs : List KeyOp) (held : Held) (whole : Hist) → All IsMem names → length names ≡ length hs → ShowsKey a hs whole
     → played fill fresh (alone_in never) xs ≡ Ok held → ShowsKey a (held_in held) whole → Mirrors a fresh (by_name names hs) held
 bare_mirrors fill a names hs xs held whole mems many shows plays shown =
     let one = alone_played fill never xs held plays in
     subst (λ (l : Held). Mirrors a fresh (by_name names hs) l) (sym one.1) (alone_mirrors a names hs one.0 whole mems many shows (subst (λ (l : Held). ShowsKey a (held_in l) whole) one.1 shown))
+
+-- ---- so such a tablet can be taken up, whatever the superblock of a fresh tablet is called
+
+pub due_commits : (fill : Row) (names : List Target) (past : Past) (records queued : List Entry) → AreDue fill names past records queued → AreCommits queued
+due_commits fill names past records [] h = tt
+due_commits fill names past records (Replicate ts ops ∷ queued) h = absurd h
+due_commits fill names past records (Commit ts rows ∷ queued) h = due_commits fill names past records queued h.1
+
+takes_up : (rules : Rules) (core : Core) (names : List Target) (records queued : List Entry) → Stands core → core.trail ≡ [] → core.aloft ≡ [] → All IsMem names → length names ≡ length core.stores
+    → IsLog (records ++ queued) → AreDue core.work.fill names core.first records queued → HoldsPast rules core.work.fill fresh records core.opened core.first
+    → TakesUp core.work.fill fresh names core.stores records queued core.opened core.first
+takes_up rules core names records queued st trail aloft mems stored log due holds =
+    let fill = core.work.fill in
+    let past = core.first in
+    record {
+      told = due_told rules fill names core.opened core.opened past records mems records queued (λ ts. refl) log holds due;
+      mirrors = λ q h.
+          let shows : ShowsKey 0 (hists q core.stores) (past_hist q past) = subst (λ (a : ℕ). ShowsKey a (hists q core.stores) (past_hist q past)) holds.mark (shows_first core st trail aloft q) in
+          bare_mirrors fill 0 names (hists q core.stores) (seen q (records ++ queued) (records ++ queued)) h.held (past_hist q past) mems (stored ∙ sym (length-map core.stores (hist_in q))) shows h.is h.shown.shows;
+    }
+
+pub bare_takes_up : {C : Type 0} (tablet : View C) (super : Super) (records queued : List Entry) → super ≡ fresh → tablet.core.trail ≡ [] → tablet.core.aloft ≡ [] → All IsMem tablet.names → length tablet.names ≡ length tablet.core.stores
+    → ((first : Past) → Opens tablet.opening tablet.mark tablet.core.opened first → Stands (record tablet.core { first = first })) → IsLog (records ++ queued)
+    → ((first : Past) → Opens tablet.opening tablet.mark tablet.core.opened first → AreDue tablet.core.work.fill tablet.names first records queued)
+    → (rules : Rules) (first : Past) → Opens tablet.opening tablet.mark tablet.core.opened first → HoldsPast rules tablet.core.work.fill super records tablet.core.opened first
+    → TakesUp tablet.core.work.fill super tablet.names tablet.core.stores records queued tablet.core.opened first
+bare_takes_up tablet super records queued is trail aloft mems stored stands log due rules first opens holds =
+    subst (λ (s : Super). TakesUp tablet.core.work.fill s tablet.names tablet.core.stores records queued tablet.core.opened first) (sym is)
+    (takes_up rules (record tablet.core { first = first }) tablet.names records queued (stands first opens) trail aloft mems stored log (due first opens)
+    (subst (λ (s : Super). HoldsPast rules tablet.core.work.fill s records tablet.core.opened first) is holds))
+
+pub bare_named : (super : Super) (names : List Target) → super ≡ fresh → All IsMem names → NamesDiffer names → AreNamed super names
+bare_named super names is mems differ = subst (λ (s : Super). AreNamed s names) (sym is) (mems_named names mems differ)
+
+pub bare_numbers : (super : Super) (records : List Entry) (names : List Target) → super ≡ fresh → (numbers : Numbers) × NumbersAreFresh super records (map name_of names) numbers
+bare_numbers super records names is = (numbers_above records names, subst (λ (s : Super). NumbersAreFresh s records (map name_of names) (numbers_above records names)) (sym is) (numbers_fresh records names))

@@ -41,7 +41,7 @@ use Rattle.kt_content.proofs.Recovering.{replicate_recovered}
 use Rattle.kt_content.proofs.Writes.{writes_have_rows}
 use Rattle.kt_engine.specs.Memory.{name_of, by_name, resident}
 use Rattle.kt_engine.specs.Logged.{PlanPasses, Waits, UntoldFly, IsDurable, LogStands, KeepsRun, NamesOnly}
-use Rattle.kt_engine.specs.Engines.{EngineView, IsContent, core_from, super_of, IsEngine}
+use Rattle.kt_engine.specs.Engines.{EngineView, IsContent, core_from, IsEngine}
 use Rattle.kt_engine.proofs.Memory.{named_begun}
 use Rattle.kt_engine.proofs.Lists.{all_each, all_more, get_end}
 use Rattle.kt_engine.proofs.Places.{place-new, any_session, apart_more}
@@ -183,7 +183,7 @@ with_begun tells seen now leaves faults old s i ts m place ops new e goes may fr
         begins = e.logged.begins;
         stands = begun_log core old.records old.tablet.places e.logged.run s i ts m place ops above framed there rests known;
         keeps = λ rules first is plan. let before : IsContent rules old first = record { opens = is.opens; holds = is.holds } in
-            begun_run rules (core_from old first) (super_of old) old.tablet.names old.tablet.notes old.records old.tablet.places e.logged.run s i ts m ops above framed may.write plan (none_holds ops core.aloft free) noted
+            begun_run rules (core_from old first) old.super old.tablet.names old.tablet.notes old.records old.tablet.places e.logged.run s i ts m ops above framed may.write plan (none_holds ops core.aloft free) noted
             (record { log = known.log; since = known.since; last = known.last; flying = known.flying; untold = known.untold }) (e.logged.keeps rules first before plan);
         names = all_more (NamesOnly old.tablet.names) e.logged.run (Replicate ts ops) e.logged.names tt;
         framed = framed_parts old.log.out old.log.queued (Replicate ts ops) e.logged.framed framed;

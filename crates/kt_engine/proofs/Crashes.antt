@@ -25,7 +25,7 @@ use Rattle.kt_content.specs.Recovering.{low_after}
 use Rattle.kt_content.proofs.Records.{told_front, order_front}
 use Rattle.kt_content.proofs.Recovering.{runs_up, take_all, each_front, all_hold}
 use Rattle.kt_engine.specs.Logged.{PlanPasses, KeepsRun, AcknowledgedIn, AcknowledgedBy, NamesOnly, HoldsRecords, HoldsFront, HoldsRun}
-use Rattle.kt_engine.specs.Engines.{EngineView, IsContent, IsLogged, IsEngine, LeavesRecords, Recovers, RecoversEach, RecoversAll, core_from, super_of}
+use Rattle.kt_engine.specs.Engines.{EngineView, IsContent, IsLogged, IsEngine, LeavesRecords, Recovers, RecoversEach, RecoversAll, core_from}
 use Rattle.kt_engine.proofs.Devices.{acknowledged_longer}
 use Rattle.kt_engine.proofs.Lists.{all_front}
 use Rattle.kt_engine.proofs.Raised.{raise_at}
@@ -101,11 +101,11 @@ all_holds rules core super records run stores image log high keeps mark names re
 engine_front : {L D C : Type 0} (tells : Bool) (seen : L → Files) (now : L → ℕ) (leaves : L → ℕ → Files → Type 0) (faults : L → ℕ) (view : EngineView L D C) (rules : Rules) (first : Past) (durable rest : List Entry) (image : Files)
     → IsContent rules view first → PlanPasses rules view.tablet.core.work
     → (is : IsEngine tells seen now leaves faults view) → is.logged.run ≡ durable ++ rest → AcknowledgedIn (view.records ++ durable) view.tablet.core.trail → log_of image ≡ Ok (view.records ++ durable)
-    → HoldsFront rules (core_from view first) (super_of view) view.records view.tablet.names image
+    → HoldsFront rules (core_from view first) view.super view.records view.tablet.names image
 engine_front tells seen now leaves faults view rules first durable rest image content plan is run acknowledged reads =
-    front_holds rules (core_from view first) (super_of view) view.records durable rest view.tablet.names image
+    front_holds rules (core_from view first) view.super view.records durable rest view.tablet.names image
     (subst (λ (r : List Entry). IsLog (view.records ++ r)) run is.logged.stands.log) (subst (λ (r : List Entry). last_of (view.records ++ r) ≤ view.tablet.core.c) run is.logged.stands.last)
-    (subst (λ (r : List Entry). KeepsRun rules (core_from view first) (super_of view) view.tablet.names view.tablet.notes view.records r) run (is.logged.keeps rules first content plan)) (omega (arith, content.holds.last)) content.holds.mark acknowledged (subst (All (NamesOnly view.tablet.names)) run is.logged.names) reads
+    (subst (λ (r : List Entry). KeepsRun rules (core_from view first) view.super view.tablet.names view.tablet.notes view.records r) run (is.logged.keeps rules first content plan)) (omega (arith, content.holds.last)) content.holds.mark acknowledged (subst (All (NamesOnly view.tablet.names)) run is.logged.names) reads
 
 -- what is durable and some records more: those that opening found, and a front of the run
 record IsFront {L D C : Type 0} (seen : L → Files) (view : EngineView L D C) (run : List Entry) (n : ℕ) : Type 0 where
@@ -185,5 +185,5 @@ recovers_all {L} {D} {C} tells seen now leaves faults view is held rules first c
     let none : view.log.out ++ view.log.queued ≡ [] = ap (λ (l : List Entry). l ++ view.log.queued) known.1 ∙ empty in
     let all : records_of (seen view.log.known.disk) ≡ view.records ++ is.logged.run =
     sym (append-nil (records_of (seen view.log.known.disk))) ∙ ap (λ (l : List Entry). records_of (seen view.log.known.disk) ++ l) (sym none) ∙ sym (is.logged.all t) in
-    all_holds rules (core_from view first) (super_of view) view.records is.logged.run view.tablet.names image is.logged.stands.log is.logged.stands.last (is.logged.keeps rules first content plan) content.holds.mark is.logged.names
+    all_holds rules (core_from view first) view.super view.records is.logged.run view.tablet.names image is.logged.stands.log is.logged.stands.last (is.logged.keeps rules first content plan) content.holds.mark is.logged.names
     (held t image (subst (λ (j : JournalView L). leaves j.disk (now j.disk) image) known.0 left) ∙ ap Ok all)

@@ -39,7 +39,7 @@ use Rattle.kt_tablet.specs.Visits.{MayEnd, HasEnded, IsWritten, HasHandedOut}
 use Rattle.kt_tablet.specs.Rows.{commit_row, AreRecorded}
 use Rattle.kt_engine.specs.Memory.{name_of, by_name, named_write, named_writes, resident}
 use Rattle.kt_engine.specs.Logged.{Waits, UntoldFly, AreApart, IsDurable, LogStands, KeepsRun, NamesOnly}
-use Rattle.kt_engine.specs.Engines.{EngineView, IsContent, core_from, super_of, IsEngine}
+use Rattle.kt_engine.specs.Engines.{EngineView, IsContent, core_from, IsEngine}
 use Rattle.kt_engine.proofs.Lists.{all_none, all_cons, all_each, all_at, all_more, all_passing, all_found, found_passes, found_place, fewer, map-filter}
 use Rattle.kt_engine.proofs.Memory.{IsOwn, named_there, named_ended, one_place}
 use Rattle.kt_engine.proofs.Places.{place-kept, others_apart, turned, apart_fewer, over_found, is_other, is_session}
@@ -157,7 +157,7 @@ with_ended tells seen now leaves faults old s i f outcomes rows tablet e goes fl
     let k = e.logged.stands in
     let wf = all_found (Waits (old.records ++ e.logged.run) old.tablet.places) (λ w. w.s == s) core.aloft f flies k.flying in
     let framed = own_framed core old.records old.tablet.places e.logged.run s f flies k in
-    let commit = own_commit old.tablet.names (all_fit (super_of old) old.tablet.names e.ready.named.each) f outcomes rows are each framed in
+    let commit = own_commit old.tablet.names (all_fit old.super old.tablet.names e.ready.named.each) f outcomes rows are each framed in
     let count : length rows ≡ length f.ops = recorded_count old.tablet.names outcomes rows are ∙ each in
     let apart = others_apart s core.aloft f flies e.ready.apart in
     let some : 0 < length f.ops = (held_few (length f.ops) framed.keeps.count).0 in
@@ -172,7 +172,7 @@ with_ended tells seen now leaves faults old s i f outcomes rows tablet e goes fl
         begins = e.logged.begins;
         stands = stands;
         keeps = λ rules first is plan. let before : IsContent rules old first = record { opens = is.opens; holds = is.holds } in
-            ended_run rules (core_from old first) (super_of old) old.tablet.names old.tablet.notes tablet.notes old.records old.tablet.places e.logged.run s i handed.j f outcomes rows stands.log k.flying e.ready.apart at own (over_found s core.aloft f flies over)
+            ended_run rules (core_from old first) old.super old.tablet.names old.tablet.notes tablet.notes old.records old.tablet.places e.logged.run s i handed.j f outcomes rows stands.log k.flying e.ready.apart at own (over_found s core.aloft f flies over)
             handed.rows_are handed.notes are (e.logged.keeps rules first before plan);
         names = all_more (NamesOnly old.tablet.names) e.logged.run (Commit f.ts rows) e.logged.names (commit_names old.tablet.names f.ts outcomes rows are);
         framed = framed_parts old.log.out old.log.queued (Commit f.ts rows) e.logged.framed commit;

@@ -20,7 +20,7 @@ use Rattle.kt_tablet.specs.Visits.{HasLooked, HasMarked}
 use Rattle.kt_tablet.specs.Reads.{HasRead, LeavesRead}
 use Rattle.kt_engine.specs.Logged.{AcknowledgedIn}
 use Rattle.kt_engine.specs.Memory.{resident}
-use Rattle.kt_engine.specs.Engines.{EngineView, IsLogged, IsEngine, core_from, super_of}
+use Rattle.kt_engine.specs.Engines.{EngineView, IsLogged, IsEngine, core_from}
 use Rattle.kt_engine.proofs.Runs.{past_line, acknowledged_more, stop_line, goes_still, ok_no, err_is}
 
 -- a line that neither begins nor ends a write
@@ -74,7 +74,7 @@ line_logged tells seen view e a c turns stopped clock is quiet up = record {
         recovered = keeps.recovered;
         writes = keeps.writes ∙ sym (past_line core e ∙ past_after core.work (state_after core.work (start core.work first core.opened) core.trail) e quiet);
         numbers = keeps.numbers;
-        stands = a_look_keeps rules core.work.fill (super_of view) view.records is.run first (resident core view.tablet.names view.tablet.notes keeps.numbers) c keeps.stands up;
+        stands = a_look_keeps rules core.work.fill view.super view.records is.run first (resident core view.tablet.names view.tablet.notes keeps.numbers) c keeps.stands up;
       };
   names = is.names;
   framed = is.framed;

@@ -2,7 +2,7 @@
 use Rattle.std.proofs.Common.{◌≡◌, ◌≢◌, ℕ, ◌≤◌, max, List, [], ◌∷◌, ◌++◌, length, map, Some, None, refl, sym, true, false, Bool, ap, ◌∙◌, subst, arith, length-append}
 use Rattle.std.specs.Prelude.{IsTrue}
 use Rattle.std.specs.List.{All}
-use Rattle.std.proofs.lemmas.List.{append-nil, length-map}
+use Rattle.std.proofs.lemmas.List.{append-nil}
 use Rattle.kt_disk.specs.Disk.{Files}
 use Rattle.kt_history.specs.declared.operation.OpKind.TheVariants.{Insert}
 use Rattle.kt_history.specs.declared.target.Target.{Target}
@@ -10,7 +10,6 @@ use Rattle.kt_history.specs.declared.event.Event.{Event}
 use Rattle.kt_history.specs.declared.event.Event.TheVariants.{Stop}
 use Rattle.kt_history.specs.History.{Past, IsPastUpTo, raise}
 use Rattle.kt_history.specs.Operations.{share_key}
-use Rattle.kt_history.specs.Stores.{hist_in}
 use Rattle.kt_history.specs.Machine.{start, state_after}
 use Rattle.kt_history.specs.Rows.{Row}
 use Rattle.kt_records.specs.declared.entry.Entry.{Entry}
@@ -23,9 +22,9 @@ use Rattle.kt_loglaws.specs.Replay.{last_of}
 use Rattle.kt_loglaws.specs.Fronts.{with_records}
 use Rattle.kt_loglaws.specs.Side.{SideView}
 use Rattle.kt_histlaws.specs.Pending.{Aloft}
-use Rattle.kt_histlaws.specs.Core.{Core, Stands}
-use Rattle.kt_histlaws.specs.Histories.{hists, past_hist, ShowsKey}
-use Rattle.kt_content.specs.Places.{Super, fresh}
+use Rattle.kt_histlaws.specs.Core.{Core}
+use Rattle.kt_histlaws.specs.Histories.{hists, past_hist}
+use Rattle.kt_content.specs.Places.{Super}
 use Rattle.kt_content.specs.Rules.{Rules, RecordsPass}
 use Rattle.kt_content.specs.KeyOps.{seen}
 use Rattle.kt_content.specs.Content.{AreTold, HoldsKey, IsContent as HoldsPast}
@@ -36,28 +35,15 @@ use Rattle.kt_content.specs.RunEvents.{Numbers, NumbersAreFresh}
 use Rattle.kt_content.proofs.OwedQueued.{queued_stands}
 use Rattle.kt_content.proofs.Recovering.{all_hold}
 use Rattle.kt_tablet.specs.Views.{View, Opens}
-use Rattle.kt_engine.specs.Memory.{name_of, by_name, named_writes, resident, NamesDiffer}
-use Rattle.kt_engine.specs.Logged.{Waits, UntoldFly, AreDue, AreApart, AcknowledgedIn, IsDurable, IsMem, NamesOnly, KeepsRun}
+use Rattle.kt_engine.specs.Memory.{name_of, by_name, named_writes, resident, AreNamed}
+use Rattle.kt_engine.specs.Logged.{Waits, UntoldFly, AreCommits, TakesUp, AreApart, AcknowledgedIn, IsDurable, NamesOnly, KeepsRun}
 use Rattle.kt_engine.specs.Engines.{EngineView, KeepsOthers, IsHome, IsEngine}
 use Rattle.kt_engine.proofs.Lists.{all_none}
 use Rattle.kt_engine.proofs.Raised.{raise_at}
-use Rattle.kt_engine.proofs.Bare.{shows_first, mems_named, bare_mirrors}
-use Rattle.kt_engine.proofs.Numbering.{numbers_above, numbers_fresh}
-use Rattle.kt_engine.proofs.Told.{due_told}
 use Rattle.kt_engine.proofs.Waiting.{keys_told}
 use Rattle.kt_engine.proofs.Records.{order_rest, framed_all}
 
--- COMMITs alone: they add no write, no operation that rules would have to take, and no timestamp
-abbrev pub AreCommits : List Entry → Type 0
-AreCommits [] = Unit {0}
-AreCommits (Replicate ts ops ∷ records) = ⊥
-AreCommits (Commit ts rows ∷ records) = AreCommits records
-
-due_commits : (fill : Row) (names : List Target) (past : Past) (records queued : List Entry) → AreDue fill names past records queued → AreCommits queued
-due_commits fill names past records [] h = tt
-due_commits fill names past records (Replicate ts ops ∷ queued) h = absurd h
-due_commits fill names past records (Commit ts rows ∷ queued) h = due_commits fill names past records queued h.1
-
+-- COMMITs add no write, no operation that rules would have to take, and no timestamp
 commits_write : (fill : Row) (past : Past) (queued : List Entry) → AreCommits queued → with_records fill past queued ≡ past
 commits_write fill past [] h = refl
 commits_write fill past (Replicate ts ops ∷ queued) h = absurd h
@@ -78,7 +64,7 @@ all_told : (all : List Entry) (q : List ℕ) → IsLog all → UntoldFly all [] 
 all_told all q log untold = (keys_told all [] [] (record { kind = Insert; key = q; cells = [] } ∷ []) log (all_none (Waits all [])) untold (all_none (λ (w : Aloft). share_key (record { kind = Insert; key = q; cells = [] } ∷ []) w.ops ≡ false))).0
 
 -- It keeps the run of each past that a superblock and the records hold, where the COMMITs that it owed are told and its stores mirror what both hold.
-pub keeps_opened : (rules : Rules) (core : Core) (super : Super) (names : List Target) (notes : List (List CommitRow)) (records queued : List Entry) (numbers : Numbers) → core.trail ≡ [] → core.aloft ≡ []
+keeps_opened : (rules : Rules) (core : Core) (super : Super) (names : List Target) (notes : List (List CommitRow)) (records queued : List Entry) (numbers : Numbers) → core.trail ≡ [] → core.aloft ≡ []
     → IsLog (records ++ queued) → UntoldFly (records ++ queued) [] → core.opened ≤ core.c → last_of (records ++ queued) ≤ core.c → AreCommits queued
     → IsPastUpTo core.opened core.first → HoldsPast rules core.work.fill super records core.opened core.first → AllTold core.work.fill super core.opened records queued
     → ((q : List ℕ) → (h : HoldsKey core.work.fill super (records ++ queued) q (past_hist q core.first)) → Mirrors super.a super (by_name names (hists q core.stores)) h.held)
@@ -109,42 +95,28 @@ keeps_opened rules core super names notes records queued numbers trail aloft log
           (ap (λ (ws : List Aloft). named_writes ws notes) aloft) (λ q. mirrors q (is.keys q)) (λ q. all_told (records ++ queued) q log untold) above;
     }
 
--- So it does where it read no rowset: the COMMITs say what became of their writes, and the stores show what the log alone holds.
-opened_run : (rules : Rules) (core : Core) (names : List Target) (notes : List (List CommitRow)) (records queued : List Entry) → Stands core → core.trail ≡ [] → core.aloft ≡ [] → All IsMem names → length names ≡ length core.stores
-    → IsLog (records ++ queued) → UntoldFly (records ++ queued) [] → core.opened ≤ core.c → last_of (records ++ queued) ≤ core.c → AreDue core.work.fill names core.first records queued
-    → IsPastUpTo core.opened core.first → HoldsPast rules core.work.fill fresh records core.opened core.first → KeepsRun rules core fresh names notes records queued
-opened_run rules core names notes records queued st trail aloft mems stored log untold since last due ends holds =
-    let fill = core.work.fill in
-    let past = core.first in
-    keeps_opened rules core fresh names notes records queued (numbers_above (records ++ queued) names) trail aloft log untold since last (due_commits fill names past records queued due) ends holds
-    (due_told rules fill names core.opened core.opened past records mems records queued (λ ts. refl) log holds due)
-    (λ q h.
-    let shows : ShowsKey 0 (hists q core.stores) (past_hist q past) = subst (λ (a : ℕ). ShowsKey a (hists q core.stores) (past_hist q past)) holds.mark (shows_first core st trail aloft q) in
-    bare_mirrors fill 0 names (hists q core.stores) (seen q (records ++ queued) (records ++ queued)) h.held (past_hist q past) mems (stored ∙ sym (length-map core.stores (hist_in q))) shows h.is h.shown.shows)
-    (numbers_fresh (records ++ queued) names)
-
 -- what an engine is opened of, where nothing has happened yet
-abbrev pub opened_view : {L D C : Type 0} → View C → JournalView L → List Entry → List Entry → D → L → EngineView L D C
-opened_view tablet journal records queued store device = record {
+abbrev pub opened_view : {L D C : Type 0} → View C → JournalView L → List Entry → Super → List Entry → D → L → EngineView L D C
+opened_view tablet journal records super queued store device = record {
   tablet = tablet;
   log = record { home = Some journal; known = journal; holder = None; out = []; queued = queued; room = 0; whole = true };
   records = records;
+  super = super;
   device = device;
   store = store;
   running = [];
 }
 
-pub is_opened : {L D C : Type 0} (tells : Bool) (seen : L → Files) (now : L → ℕ) (leaves : L → ℕ → Files → Type 0) (faults : L → ℕ) (tablet : View C) (journal : JournalView L) (records queued : List Entry) (store : D) (device : L)
+pub is_opened : {L D C : Type 0} (tells : Bool) (seen : L → Files) (now : L → ℕ) (leaves : L → ℕ → Files → Type 0) (faults : L → ℕ) (tablet : View C) (journal : JournalView L) (records : List Entry) (super : Super) (queued : List Entry) (store : D) (device : L)
     → tablet.core.trail ≡ [] → tablet.core.aloft ≡ [] → tablet.core.stopped ≡ false → map (λ p. p.0) tablet.places ≡ map (λ w. w.s) tablet.core.aloft
-    → All IsMem tablet.names → NamesDiffer tablet.names → length tablet.names ≡ length tablet.core.stores
-    → ((past : Past) → Opens tablet.opening tablet.mark tablet.core.opened past → Stands (record tablet.core { first = past }))
-    → IsLog (records ++ queued)
-    → ((past : Past) → Opens tablet.opening tablet.mark tablet.core.opened past → AreDue tablet.core.work.fill tablet.names past records queued) → UntoldFly (records ++ queued) tablet.core.aloft → tablet.core.opened ≤ tablet.core.c
+    → AreNamed super tablet.names → IsLog (records ++ queued) → AreCommits queued
+    → ((rules : Rules) (first : Past) → Opens tablet.opening tablet.mark tablet.core.opened first → HoldsPast rules tablet.core.work.fill super records tablet.core.opened first → TakesUp tablet.core.work.fill super tablet.names tablet.core.stores records queued tablet.core.opened first)
+    → (numbers : Numbers) × NumbersAreFresh super (records ++ queued) (map name_of tablet.names) numbers → UntoldFly (records ++ queued) tablet.core.aloft → tablet.core.opened ≤ tablet.core.c
     → last_of (records ++ queued) ≤ tablet.core.c → All (NamesOnly tablet.names) queued → journal.count ≡ length records
     → (IsTrue tells → records_of (seen journal.disk) ≡ records)
     → (IsTrue tells → CanOpen now leaves journal.disk) → (IsTrue tells → KeepsOthers now leaves device journal.disk) → faults device ≤ faults journal.disk
-    → IsEngine tells seen now leaves faults (opened_view tablet journal records queued store device)
-is_opened tells seen now leaves faults tablet journal records queued store device trail aloft stopped placed mems differ stored shown log due untold since last names count reads openable others later = record {
+    → IsEngine tells seen now leaves faults (opened_view tablet journal records super queued store device)
+is_opened tells seen now leaves faults tablet journal records super queued store device trail aloft stopped placed named log commits taken numbers untold since last names count reads openable others later = record {
   logged = record {
     run = queued;
     all = λ t. ap (λ l. l ++ queued) (sym (reads t));
@@ -159,13 +131,14 @@ is_opened tells seen now leaves faults tablet journal records queued store devic
     };
     keeps = λ rules past is plan.
         let none : UntoldFly (records ++ queued) [] = subst (λ (ws : List Aloft). UntoldFly (records ++ queued) ws) aloft untold in
-        opened_run rules (record tablet.core { first = past }) tablet.names tablet.notes records queued (shown past is.opens) trail aloft mems stored log none since last (due past is.opens) is.opens.ends is.holds;
+        let up = taken rules past is.opens is.holds in
+        keeps_opened rules (record tablet.core { first = past }) super tablet.names tablet.notes records queued numbers.0 trail aloft log none since last commits is.opens.ends is.holds up.told up.mirrors numbers.1;
     names = names;
     framed = framed_all (newest_first [] records) queued (order_rest [] records queued log);
     durable = λ t. subst (λ (ws : List Aloft). All (IsDurable (records_of (seen journal.disk))) ws) (sym aloft) (all_none (IsDurable (records_of (seen journal.disk))));
     acknowledged = λ t. subst (λ (es : List Event). AcknowledgedIn (records_of (seen journal.disk)) es) (sym trail) tt;
   };
-  home = λ other at. let is : journal ≡ other = cc in subst (λ (j : JournalView _). IsHome tells seen now leaves faults (opened_view tablet journal records queued store device) j) is (record { opens = openable; others = others; later = later; known = λ k. (refl, refl); rose = λ stops. absurd (goes stops); images = λ stops. absurd (goes stops) });
+  home = λ other at. let is : journal ≡ other = cc in subst (λ (j : JournalView _). IsHome tells seen now leaves faults (opened_view tablet journal records super queued store device) j) is (record { opens = openable; others = others; later = later; known = λ k. (refl, refl); rose = λ stops. absurd (goes stops); images = λ stops. absurd (goes stops) });
   others = others;
   lent = λ by out. absurd (let no : None ≡ Some by = out in cc);
   whole = ((λ goes_on. refl), (λ whole. stopped));
@@ -173,7 +146,7 @@ is_opened tells seen now leaves faults tablet journal records queued store devic
   ready = record {
     room = subst (λ (ws : List Aloft). length ws ≤ 0) (sym aloft) (omega arith);
     apart = subst AreApart (sym aloft) tt;
-    named = mems_named tablet.names mems differ;
+    named = named;
   };
   placed = placed;
 }
@@ -182,10 +155,12 @@ is_opened tells seen now leaves faults tablet journal records queued store devic
     goes stops = let no : true ≡ false = sym stops ∙ stopped in cc
 
 -- the engine that was made of it
-pub as_opened : {L D C : Type 0} (tells : Bool) (seen : L → Files) (now : L → ℕ) (leaves : L → ℕ → Files → Type 0) (faults : L → ℕ) (tablet : View C) (journal : JournalView L) (records queued : List Entry) (store : D) (device : L) (kept : View C) (log : SideView L) (found : List Entry)
-    → kept ≡ tablet → log ≡ record { home = Some journal; known = journal; holder = None; out = []; queued = queued; room = 0; whole = true } → found ≡ records
-    → IsEngine tells seen now leaves faults (opened_view tablet journal records queued store device) → IsEngine tells seen now leaves faults (record { tablet = kept; log = log; records = found; device = device; store = store; running = [] })
-as_opened {L} {D} {C} tells seen now leaves faults tablet journal records queued store device kept log found is_tablet is_log is_found e =
-    subst (λ (t : View C). IsEngine tells seen now leaves faults (record { tablet = t; log = log; records = found; device = device; store = store; running = [] })) (sym is_tablet)
-    (subst (λ (l : SideView L). IsEngine tells seen now leaves faults (record { tablet = tablet; log = l; records = found; device = device; store = store; running = [] })) (sym is_log)
-    (subst (λ (es : List Entry). IsEngine tells seen now leaves faults (record { tablet = tablet; log = record { home = Some journal; known = journal; holder = None; out = []; queued = queued; room = 0; whole = true }; records = es; device = device; store = store; running = [] })) (sym is_found) e))
+pub as_opened : {L D C : Type 0} (tells : Bool) (seen : L → Files) (now : L → ℕ) (leaves : L → ℕ → Files → Type 0) (faults : L → ℕ) (tablet : View C) (journal : JournalView L) (records : List Entry) (super : Super) (queued : List Entry) (store : D) (device : L) (kept : View C) (log : SideView L) (found : List Entry) (read : Super)
+    → kept ≡ tablet → log ≡ record { home = Some journal; known = journal; holder = None; out = []; queued = queued; room = 0; whole = true } → found ≡ records → read ≡ super
+    → IsEngine tells seen now leaves faults (opened_view tablet journal records super queued store device)
+    → IsEngine tells seen now leaves faults (record { tablet = kept; log = log; records = found; super = read; device = device; store = store; running = [] })
+as_opened {L} {D} {C} tells seen now leaves faults tablet journal records super queued store device kept log found read is_tablet is_log is_found is_read e =
+    subst (λ (t : View C). IsEngine tells seen now leaves faults (record { tablet = t; log = log; records = found; super = read; device = device; store = store; running = [] })) (sym is_tablet)
+    (subst (λ (l : SideView L). IsEngine tells seen now leaves faults (record { tablet = tablet; log = l; records = found; super = read; device = device; store = store; running = [] })) (sym is_log)
+    (subst (λ (s : Super). IsEngine tells seen now leaves faults (record (opened_view tablet journal records super queued store device) { records = found; super = s })) (sym is_read)
+    (subst (λ (es : List Entry). IsEngine tells seen now leaves faults (record (opened_view tablet journal records super queued store device) { records = es })) (sym is_found) e)))

@@ -12,7 +12,7 @@ use Rattle.kt_journal.specs.Log.{log_of, records_of, Holds, IsLog, IsOldOrBoth, 
 use Rattle.kt_journal.specs.Open.{JournalView}
 use Rattle.kt_loglaws.specs.Side.{SideView, all_of}
 use Rattle.kt_histlaws.specs.Core.{Core}
-use Rattle.kt_content.specs.Places.{Super, fresh}
+use Rattle.kt_content.specs.Places.{Super}
 use Rattle.kt_content.specs.Rules.{Rules}
 use Rattle.kt_content.specs.Content.{IsContent as HoldsPast}
 use Rattle.kt_tablet.specs.Views.{View, Opens}
@@ -23,19 +23,16 @@ use Rattle.kt_engine.specs.declared.log.LogNo.TheVariants as no
 use Rattle.kt_engine.specs.Memory.{AreNamed}
 use Rattle.kt_engine.specs.Logged.{PlanPasses, LogStands, KeepsRun, AreApart, IsDurable, AcknowledgedIn, NamesOnly, HoldsRecords, HoldsFront, HoldsRun}
 
--- the tablet, its log, the records that opening found, and the log's device as it was handed in; the store device; and the numbers of
--- the sessions that run
+-- the tablet, its log, the records and the superblock that opening found, and the log's device as it was handed in; the store device; and the
+-- numbers of the sessions that run
 pub record EngineView (L D C : Type 0) : Type 0 where
   pub tablet : View C
   pub log : SideView L
   pub records : List Entry
+  pub super : Super
   pub device : L
   pub store : D
   pub running : List ℕ
-
--- the superblock that opening read: that of a fresh tablet, as long as the store device is not used
-abbrev pub super_of : {L D C : Type 0} → EngineView L D C → Super
-super_of view = fresh
 
 -- opening found this past: its store shows it
 abbrev pub IsFound : {L D C : Type 0} → EngineView L D C → Past → Type 0
@@ -44,7 +41,7 @@ IsFound view first = Opens view.tablet.opening view.tablet.mark view.tablet.core
 -- and by these rules of the table the superblock and the log held it
 pub record IsContent {L D C : Type 0} (rules : Rules) (view : EngineView L D C) (first : Past) : Type 0 where
   pub opens : IsFound view first
-  pub holds : HoldsPast rules view.tablet.core.work.fill (super_of view) view.records view.tablet.core.opened first
+  pub holds : HoldsPast rules view.tablet.core.work.fill view.super view.records view.tablet.core.opened first
 
 -- the engine's core, for a past that opening found
 abbrev pub core_from : {L D C : Type 0} → EngineView L D C → Past → Core
@@ -58,7 +55,7 @@ pub record IsLogged {L D C : Type 0} (tells : Bool) (seen : L → Files) (view :
   pub count : length (view.records ++ run) ≡ view.log.known.count + length (view.log.out ++ view.log.queued)
   pub begins : IsTrue tells → (durable : List Entry) × (records_of (seen view.log.known.disk) ≡ view.records ++ durable)
   pub stands : LogStands view.tablet.core view.records view.tablet.places run
-  pub keeps : (rules : Rules) (first : Past) → IsContent rules view first → PlanPasses rules view.tablet.core.work → KeepsRun rules (core_from view first) (super_of view) view.tablet.names view.tablet.notes view.records run
+  pub keeps : (rules : Rules) (first : Past) → IsContent rules view first → PlanPasses rules view.tablet.core.work → KeepsRun rules (core_from view first) view.super view.tablet.names view.tablet.notes view.records run
   pub names : All (NamesOnly view.tablet.names) run
   pub framed : All IsFramed (view.log.out ++ view.log.queued)
   pub durable : IsTrue tells → All (IsDurable (records_of (seen view.log.known.disk))) view.tablet.core.aloft
@@ -87,7 +84,7 @@ pub record TellsStop (core : Core) : Type 0 where
 pub record IsReady {L D C : Type 0} (view : EngineView L D C) : Type 0 where
   pub room : length view.tablet.core.aloft ≤ view.log.room
   pub apart : AreApart view.tablet.core.aloft
-  pub named : AreNamed (super_of view) view.tablet.names
+  pub named : AreNamed view.super view.tablet.names
 
 -- The engine stands. While a pass has the log out the tablet goes on, and the log went out with no fewer faults than were handed in.
 pub record IsEngine {L D C : Type 0} (tells : Bool) (seen : L → Files) (now : L → ℕ) (leaves : L → ℕ → Files → Type 0) (faults : L → ℕ) (view : EngineView L D C) : Type 0 where
@@ -107,18 +104,18 @@ LeavesRecords tells now leaves view = IsTrue tells → (journal : JournalView _)
 -- A crash now leaves the opened past with the run's writes up to a time, each acknowledged one among them.
 abbrev pub Recovers : {L D C : Type 0} → Bool → (L → ℕ) → (L → ℕ → Files → Type 0) → EngineView L D C → Type 0
 Recovers tells now leaves view = (rules : Rules) (first : Past) → IsContent rules view first → PlanPasses rules view.tablet.core.work → IsTrue tells → (journal : JournalView _) → view.log.home ≡ Some journal
-    → (image : Files) → leaves journal.disk (now journal.disk) image → HoldsFront rules (core_from view first) (super_of view) view.records view.tablet.names image
+    → (image : Files) → leaves journal.disk (now journal.disk) image → HoldsFront rules (core_from view first) view.super view.records view.tablet.names image
 
 -- So does an image that has what is durable and, in their order, some of the records that are out and queued: what a crash leaves while a
 -- pass has the log out.
 abbrev pub RecoversEach : {L D C : Type 0} → Bool → (L → Files) → EngineView L D C → Type 0
 RecoversEach tells seen view = (rules : Rules) (first : Past) → IsContent rules view first → PlanPasses rules view.tablet.core.work → IsTrue tells → (n : ℕ) (image : Files)
-    → log_of image ≡ Ok (records_of (seen view.log.known.disk) ++ take n (view.log.out ++ view.log.queued)) → HoldsFront rules (core_from view first) (super_of view) view.records view.tablet.names image
+    → log_of image ≡ Ok (records_of (seen view.log.known.disk) ++ take n (view.log.out ++ view.log.queued)) → HoldsFront rules (core_from view first) view.super view.records view.tablet.names image
 
 -- And with all of them, where nothing waits for the log and nothing has stopped it.
 abbrev pub RecoversAll : {L D C : Type 0} → Bool → (L → ℕ) → (L → ℕ → Files → Type 0) → EngineView L D C → Type 0
 RecoversAll tells now leaves view = (rules : Rules) (first : Past) → IsContent rules view first → PlanPasses rules view.tablet.core.work → view.tablet.core.stopped ≡ false → view.log.queued ≡ [] → IsTrue tells → (journal : JournalView _) → view.log.home ≡ Some journal
-    → (image : Files) → leaves journal.disk (now journal.disk) image → HoldsRun rules (core_from view first) (super_of view) view.records view.tablet.names image
+    → (image : Files) → leaves journal.disk (now journal.disk) image → HoldsRun rules (core_from view first) view.super view.records view.tablet.names image
 
 -- what a pass may do with the log that it has out: append its records
 pub record IsLent {L : Type 0} (tells : Bool) (seen : L → Files) (now : L → ℕ) (leaves : L → ℕ → Files → Type 0) (journal : JournalView L) (records : List Entry) : Type 0 where

@@ -12,6 +12,7 @@ use Rattle.kt_history.specs.History.{Past, rows_at}
 use Rattle.kt_history.specs.Operations.{outcomes_on}
 use Rattle.kt_history.specs.Machine.{Workload, command_at}
 use Rattle.kt_history.specs.Machine as machine
+use Rattle.kt_history.specs.Stores.{Store}
 use Rattle.kt_records.specs.declared.entry.Entry.{Entry}
 use Rattle.kt_records.specs.declared.entry.Entry.TheVariants.{Replicate, Commit}
 use Rattle.kt_records.specs.declared.entry.CommitRow.{CommitRow}
@@ -21,15 +22,18 @@ use Rattle.kt_loglaws.specs.Replay.{last_of, commit_of}
 use Rattle.kt_loglaws.specs.Fronts.{with_records, ops_of, upto}
 use Rattle.kt_content.specs.Places.{Super}
 use Rattle.kt_content.specs.Rules.{Rules, OpsPass}
-use Rattle.kt_content.specs.Content.{IsContent as HoldsPast}
+use Rattle.kt_content.specs.Content.{HoldsKey, IsContent as HoldsPast}
+use Rattle.kt_content.specs.InMemory.{Mirrors}
+use Rattle.kt_content.specs.Records.{AllTold}
 use Rattle.kt_content.specs.Recovering.{IsRecovered}
 use Rattle.kt_content.specs.RunEvents.{Numbers}
 use Rattle.kt_content.specs.Recoverable.{SuperStands}
 use Rattle.kt_histlaws.specs.Pending.{Aloft}
 use Rattle.kt_histlaws.specs.Core.{Core, run_past}
+use Rattle.kt_histlaws.specs.Histories.{hists, past_hist}
 use Rattle.kt_tablet.specs.Rows.{AreRecorded}
 use Rattle.kt_tablet.specs.Views.{place_at}
-use Rattle.kt_engine.specs.Memory.{resident}
+use Rattle.kt_engine.specs.Memory.{by_name, resident}
 
 -- the rules of the table take each write of the plan
 abbrev pub PlanPasses : Rules → Workload → Type 0
@@ -97,6 +101,18 @@ AreDue fill stores past records [] = Unit {0}
 AreDue fill stores past records (Replicate ts ops ∷ queued) = ⊥
 AreDue fill stores past records (Commit ts rows ∷ queued) =
     ((ops : List RowOp) × (ops_of ts records ≡ Some ops) × AreRecorded stores (outcomes_on fill (rows_before ts past) ops) rows) × AreDue fill stores past records queued
+
+-- COMMITs alone
+abbrev pub AreCommits : List Entry → Type 0
+AreCommits [] = Unit {0}
+AreCommits (Replicate ts ops ∷ records) = ⊥
+AreCommits (Commit ts rows ∷ records) = AreCommits records
+
+-- An engine takes up a past that a superblock and records held, up to low: each COMMIT that is queued tells what became of its write, and its stores mirror of
+-- each key what the superblock holds with all records.
+pub record TakesUp (fill : Row) (super : Super) (names : List Target) (stores : List Store) (records queued : List Entry) (low : ℕ) (first : Past) : Type 0 where
+  pub told : AllTold fill super low records queued
+  pub mirrors : (q : List ℕ) → (h : HoldsKey fill super (records ++ queued) q (past_hist q first)) → Mirrors super.a super (by_name names (hists q stores)) h.held
 
 -- a COMMIT names no store but these
 abbrev pub NamesOnly : List Target → Entry → Type 0

@@ -9,6 +9,7 @@ use Rattle.kt_history.specs.Machine.{Workload}
 use Rattle.kt_journal.specs.Open.{JournalView}
 use Rattle.kt_history.specs.Stores.{Store}
 use Rattle.kt_histlaws.specs.Parts.{SessionPart, part}
+use Rattle.kt_content.specs.Places.{Super}
 use Rattle.kt_tablet.specs.Views.{place_at}
 use Rattle.kt_engine.specs.Engines.{EngineView}
 use Rattle.kt_engine.specs.Sessions.{runs}
@@ -49,6 +50,7 @@ pub record Root (L D C : Type 0) : Type 0 where
   pub opening : List Store
   pub mark : ℕ
   pub records : List Entry
+  pub super : Super
   pub names : List Target
   pub began : C
   pub device : L
@@ -61,6 +63,7 @@ root_of view = record {
   opening = view.tablet.opening;
   mark = view.tablet.mark;
   records = view.records;
+  super = view.super;
   names = view.tablet.names;
   began = view.tablet.opened;
   device = view.device;

@@ -9,12 +9,16 @@ ghost use Rattle.kt_tablet.specs.Plans.{PlanKeeps};
 ghost use Rattle.kt_tablet.specs.Views.{IsSound, IsExact, Opens};
 ghost use Rattle.std.specs.List.{All};
 ghost use Rattle.kt_loglaws.specs.Side.{all_of};
+ghost use Rattle.kt_content.specs.Rules.{Rules};
+ghost use Rattle.kt_content.specs.Content.{IsContent as HoldsPast};
+ghost use Rattle.kt_content.specs.RunEvents.{Numbers, NumbersAreFresh};
 ghost use Rattle.kt_engine.specs.Sessions.{numbers_of};
-ghost use Rattle.kt_engine.specs.Memory.{NamesDiffer};
-ghost use Rattle.kt_engine.specs.Logged.{AreDue, UntoldFly, IsPlaced, IsThere, IsMem, NamesOnly};
+ghost use Rattle.kt_engine.specs.Memory.{name_of, AreNamed};
+ghost use Rattle.kt_engine.specs.Logged.{AreCommits, TakesUp, UntoldFly, IsPlaced, IsThere, NamesOnly};
 ghost use Rattle.kt_engine.specs.Engines.{EngineView, IsEngine, IsLogged, IsHome, KeepsOthers, TellsStop, LeavesRecords, Recovers, RecoversEach, RecoversAll};
 
 use crate::running::Running;
+use crate::superblock::Superblock;
 use kt_base::Clock;
 use kt_disk::Disk;
 use kt_diskrowset::DiskRowSet;
@@ -27,6 +31,14 @@ use std::alloc::Global;
 use std::marker::Model;
 use std::snapshot::Snapshot;
 
+/// What opening found of a tablet: the records of its log, its superblock, and the log's device as it was handed in.
+#[derive(Drop)]
+pub struct Found<'a, L> {
+    pub records: &'a LogRecords,
+    pub superblock: &'a Superblock,
+    pub device: Snapshot<L>,
+}
+
 /// A tablet with its log. The store device is kept and not used yet. What is large is boxed, since a lock moves the engine
 /// at each visit.
 #[derive(Drop)]
@@ -36,6 +48,7 @@ pub struct Engine<L: Disk, D, C: Clock> {
     pub(crate) store: D,
     pub(crate) running: Running,
     pub(crate) records: Snapshot<LogRecords>,
+    pub(crate) superblock: Snapshot<Superblock>,
     pub(crate) device: Snapshot<L>,
 }
 
@@ -44,9 +57,9 @@ impl<L: Disk, D, C: Clock> Model for Engine<L, D, C> {
 
     ghost Value = { EngineView L D C };
 
-    ghost view = { λ e. record { tablet = e.tablet.value; log = e.log.value; records = e.records.value; device = e.device.value; store = e.store; running = e.running } };
+    ghost view = { λ e. record { tablet = e.tablet.value; log = e.log.value; records = e.records.value; super = e.superblock.value; device = e.device.value; store = e.store; running = e.running } };
 
-    ghost invariant = { λ e. IsEngine L.tells L.seen L.now L.leaves L.faults (record { tablet = e.tablet.value; log = e.log.value; records = e.records.value; device = e.device.value; store = e.store; running = e.running }) };
+    ghost invariant = { λ e. IsEngine L.tells L.seen L.now L.leaves L.faults (record { tablet = e.tablet.value; log = e.log.value; records = e.records.value; super = e.superblock.value; device = e.device.value; store = e.store; running = e.running }) };
 }
 
 /// What an engine is taken apart into.
@@ -84,37 +97,39 @@ fn boxed_log<L: Disk>(
 
 impl<L: Disk, D, C: Clock> Engine<L, D, C> {
     /// A tablet in which nothing has happened yet, with the log that holds what opening found and with what is queued for it: the COMMIT of each
-    /// write that had none.
+    /// write that had none. Its stores mirror what the superblock holds with all records.
     pub fn of(
         alloc: Global,
         tablet: Tablet<DiskRowSet, C>,
         journal: Journal<L>,
-        records: &LogRecords,
         queued: RecordList,
         store: D,
-        device: Snapshot<L>,
+        found: Found<'_, L>,
     ) -> Result<Engine<L, D, C>, (Tablet<DiskRowSet, C>, Journal<L>, D)>
         requires fresh { (tablet.core.trail ≡ []) × (tablet.core.aloft ≡ []) × (tablet.core.stopped ≡ false) }
-        requires mems { All IsMem tablet.names }
-        requires differ { NamesDiffer tablet.names }
-        requires log { IsLog (records.now ++ queued) }
-        requires due { (first : Past) → Opens tablet.opening tablet.mark tablet.core.opened first → AreDue tablet.core.work.fill tablet.names first records.now queued }
-        requires untold { UntoldFly (records.now ++ queued) tablet.core.aloft }
+        requires named { AreNamed found.superblock.now tablet.names }
+        requires log { IsLog (found.records.now ++ queued) }
+        requires commits { AreCommits queued }
+        requires taken_up { (rules : Rules) (first : Past) → Opens tablet.opening tablet.mark tablet.core.opened first → HoldsPast rules tablet.core.work.fill found.superblock.now found.records.now tablet.core.opened first
+            → TakesUp tablet.core.work.fill found.superblock.now tablet.names tablet.core.stores found.records.now queued tablet.core.opened first }
+        requires numbers { (numbers : Numbers) × NumbersAreFresh found.superblock.now (found.records.now ++ queued) (map name_of tablet.names) numbers }
+        requires untold { UntoldFly (found.records.now ++ queued) tablet.core.aloft }
         requires since { tablet.core.opened ≤ tablet.core.c }
-        requires last { last_of (records.now ++ queued) ≤ tablet.core.c }
+        requires last { last_of (found.records.now ++ queued) ≤ tablet.core.c }
         requires names { All (NamesOnly tablet.names) queued }
         requires usable { IsTrue journal.usable }
-        requires count { journal.count ≡ length records.now }
-        requires reads { IsTrue L.tells → records_of (L.seen journal.disk) ≡ records.now }
+        requires count { journal.count ≡ length found.records.now }
+        requires reads { IsTrue L.tells → records_of (L.seen journal.disk) ≡ found.records.now }
         requires durable { IsTrue L.tells → Holds L.now L.leaves journal.disk (records_of (L.seen journal.disk)) }
         requires openable { IsTrue L.tells → CanOpen L.now L.leaves journal.disk }
-        requires others { IsTrue L.tells → KeepsOthers L.now L.leaves device.value journal.disk }
-        requires faults { L.faults device.value ≤ L.faults journal.disk }
+        requires others { IsTrue L.tells → KeepsOthers L.now L.leaves found.device.value journal.disk }
+        requires faults { L.faults found.device.value ≤ L.faults journal.disk }
         ensures view { IfOk result (λ engine. engine ≡ record {
           tablet = tablet;
           log = record { home = Some journal; known = journal; holder = None; out = []; queued = queued; room = 0; whole = true };
-          records = records.now;
-          device = device.value;
+          records = found.entry.records.now;
+          super = found.entry.superblock.now;
+          device = found.entry.device.value;
           store = store;
           running = [];
         }) }
@@ -134,8 +149,9 @@ impl<L: Disk, D, C: Clock> Engine<L, D, C> {
                 log,
                 store,
                 running,
-                records: Snapshot::of(records),
-                device,
+                records: Snapshot::of(found.records),
+                superblock: Snapshot::of(found.superblock),
+                device: found.device,
             }),
             Err(no) => {
                 let (journal, _) = Box::into_inner(log).take_apart();
@@ -213,6 +229,7 @@ impl<L: Disk, D, C: Clock> Engine<L, D, C> {
             store,
             running: _,
             records: _,
+            superblock: _,
             device: _,
         } = self;
         let (clock, trail) = Box::into_inner(tablet).take_apart();

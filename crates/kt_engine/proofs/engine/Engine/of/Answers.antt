@@ -6,9 +6,10 @@ use Rattle.kt_engine.proofs.engine.Engine.of.Goals as goal
 pub invariant_of-result : goal.invariant_of-result
 invariant_of-result g c =
     let r = c.requires in
-    running_keeps g.L.Disk.tells g.L.Disk.seen g.L.Disk.now g.L.Disk.leaves g.L.Disk.faults _ c.in-Ok.running (as_opened g.L.Disk.tells g.L.Disk.seen g.L.Disk.now g.L.Disk.leaves g.L.Disk.faults c.args.tablet c.args.journal c.args.records.now c.args.queued c.args.store c.args.device.value c.in-Ok-new.tablet.value c.in-Ok-boxed_log.log.value c.of.result.value c.in-Ok-new.ensures.ok c.in-Ok-boxed_log.ensures.side c.of.ensures
-    (is_opened g.L.Disk.tells g.L.Disk.seen g.L.Disk.now g.L.Disk.leaves g.L.Disk.faults c.args.tablet c.args.journal c.args.records.now c.args.queued c.args.store c.args.device.value
-    r.fresh.0 r.fresh.1 r.fresh.2 c.standing.ensures.placed r.mems r.differ c.standing.ensures.named c.standing.ensures.sound.stands r.log r.due r.untold r.since r.last r.names r.count r.reads r.openable r.others r.faults))
+    let f = c.args.found in
+    running_keeps g.L.Disk.tells g.L.Disk.seen g.L.Disk.now g.L.Disk.leaves g.L.Disk.faults _ c.in-Ok.running (as_opened g.L.Disk.tells g.L.Disk.seen g.L.Disk.now g.L.Disk.leaves g.L.Disk.faults c.args.tablet c.args.journal f.records.now f.superblock.now c.args.queued c.args.store f.device.value c.in-Ok-new.tablet.value c.in-Ok-boxed_log.log.value c.of.result.value c.of-in-Ok-new.result.value c.in-Ok-new.ensures.ok c.in-Ok-boxed_log.ensures.side c.of.ensures c.of-in-Ok-new.ensures
+    (is_opened g.L.Disk.tells g.L.Disk.seen g.L.Disk.now g.L.Disk.leaves g.L.Disk.faults c.args.tablet c.args.journal f.records.now f.superblock.now c.args.queued c.args.store f.device.value
+    r.fresh.0 r.fresh.1 r.fresh.2 c.standing.ensures.placed r.named r.log r.commits r.taken_up r.numbers r.untold r.since r.last r.names r.count r.reads r.openable r.others r.faults))
 
 pub boxed_log-requires : goal.boxed_log-requires
 boxed_log-requires g c = record { usable = c.requires.usable; durable = c.requires.durable }
@@ -18,7 +19,7 @@ take_apart-journal-requires g c = record { home = ap (λ l. l.holder) (c.into_in
 
 pub returns-in-Ok-new : goal.returns-in-Ok-new
 returns-in-Ok-new g c = record {
-  view = λ k. record { tablet = c.in-Ok-new.ensures.ok k; log = c.in-Ok-boxed_log.ensures.side k; records = c.of.ensures k; device = c.args.device.value; store = c.args.store; running = c.in-Ok.ensures k };
+  view = λ k. record { tablet = c.in-Ok-new.ensures.ok k; log = c.in-Ok-boxed_log.ensures.side k; records = c.of.ensures k; super = c.of-in-Ok-new.ensures k; device = c.args.found.device.value; store = c.args.store; running = c.in-Ok.ensures k };
   back = tt;
 }
 
