@@ -27,7 +27,7 @@ use crate::reopening::{Reopened, reopen};
 use kt_base::Clock;
 use kt_disk::Disk;
 use kt_diskrowset::DiskRowSet;
-use kt_engine::Engine;
+use kt_engine::{Engine, Found, Superblock};
 use kt_journal::{Journal, JournalNo, open_journal};
 use kt_memrowset::MemRowSet;
 use kt_pool::Pool;
@@ -99,6 +99,7 @@ pub fn open_tablet<L: Disk, D, C: Clock>(
     ensures found { IfOk result (λ engine. (past : Past) × IsFound engine past × (IsTrue L.tells → opening_of (fill_of schema.now) (L.seen log) ≡ Ok (record { past = past; last = engine.tablet.core.opened }))
         × ((rules : Rules) → RecordsPass rules (fill_of schema.now) engine.records → HoldsPast rules (fill_of schema.now) fresh engine.records engine.tablet.core.opened past)) }
     ensures content { IfOk result (λ engine. (rules : Rules) (past : Past) → HoldsPast rules (fill_of schema.now) fresh engine.records engine.tablet.core.opened past → IsContent rules engine past) }
+    ensures superblock { IfOk result (λ engine. engine.super ≡ fresh) }
     ensures low { IfOk result (λ engine. engine.tablet.core.opened < 2 ^ 63) }
 
     // Nothing has happened yet.
@@ -140,6 +141,7 @@ pub fn open_tablet<L: Disk, D, C: Clock>(
     ensures any_moment { IfErr result (λ e. IsTrue L.tells → LeavesOnly L.now L.leaves (HasContentOf L.now L.leaves (fill_of schema.now) log) log e.log) }
 {
     let device = Snapshot::of(&log);
+    let superblock = Superblock::fresh();
     let (journal, records) = match open_journal(alloc, log) {
         Ok(opened) => opened,
         Err((log, no)) => return Err(Closed {
@@ -163,7 +165,14 @@ pub fn open_tablet<L: Disk, D, C: Clock>(
         Ok(tablet) => tablet,
         Err((_, clock)) => return Err(given_up(Why::Memory, journal, store, clock)),
     };
-    match Engine::of(alloc, tablet, journal, &records, queued, store, device) {
+    // Its stores show what opening found.
+    tablet.standing();
+    let found = Found {
+        records: &records,
+        superblock: &superblock,
+        device,
+    };
+    match Engine::of(alloc, tablet, journal, queued, store, found) {
         Ok(engine) => Ok(engine),
         Err((tablet, journal, store)) => {
             let (clock, _) = tablet.take_apart();
