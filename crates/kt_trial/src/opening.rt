@@ -7,7 +7,7 @@ use crate::miss::Miss;
 use crate::operation::DEFAULT;
 use kt_base::{Cell, Kind, MemClock, NoMemory, Octets, ReadingList};
 use kt_disk::MemDisk;
-use kt_engine::Engine;
+use kt_engine::{Engine, Found, Superblock};
 use kt_history::Plan;
 use kt_journal::open_journal;
 use kt_memrowset::MemRowSet;
@@ -103,11 +103,19 @@ pub fn engine(
     let tablet = tablet(alloc, schema, cells, plan, readings)?;
     let disk = MemDisk::new(alloc);
     let device = Snapshot::of(&disk);
+    let superblock = Superblock::fresh();
     let Ok((journal, records)) = open_journal(alloc, disk) else {
         return Err(Miss::Opening);
     };
     let none = no_records(alloc);
-    match Engine::of(alloc, tablet, journal, &records, none, (), device) {
+    // Its stores show that it is empty.
+    tablet.standing();
+    let found = Found {
+        records: &records,
+        superblock: &superblock,
+        device,
+    };
+    match Engine::of(alloc, tablet, journal, none, (), found) {
         Ok(engine) => Ok(engine),
         Err(_) => Err(Miss::Memory),
     }

@@ -1,14 +1,16 @@
 use Rattle.std.proofs.Common.{◌≡◌, List, [], Ok, ap, sym, subst, refl, lit<, ◌∙◌}
 use Rattle.std.specs.List.{All}
 use Rattle.std.proofs.lemmas.List.Elements.{All-nil, All-cons}
+use Rattle.kt_history.specs.declared.target.Target.{Target}
 use Rattle.kt_history.specs.declared.target.Target.TheVariants.{Mem}
 use Rattle.kt_disk.specs.Memory.{MemView, mem_now, mem_leaves, mem_seen}
 use Rattle.kt_records.specs.declared.entry.Entry.{Entry}
 use Rattle.kt_journal.specs.Log.{Holds, log_of}
 use Rattle.kt_journal.proofs.Fresh.{fresh_opens, fresh_log}
 use Rattle.kt_engine.specs.Memory.{NamesDiffer}
-use Rattle.kt_engine.specs.Logged.{IsMem, NamesOnly}
+use Rattle.kt_engine.specs.Logged.{IsMem, AreCommits, NamesOnly}
 use Rattle.kt_engine.specs.Engines.{KeepsOthers}
+use Rattle.kt_engine.proofs.Bare.{bare_named, bare_takes_up, bare_numbers}
 use Rattle.kt_engine.proofs.Others.{opened_others}
 use Rattle.kt_engine.proofs.Empty.{due_none, untold_none, log_none, last_none}
 use Rattle.kt_trial.proofs.opening.engine.Goals as goal
@@ -20,17 +22,26 @@ open_journal-requires c = record { openable = λ told. fresh_opens c.new-disk.re
 no_record : (disk : MemView) (found : List Entry) → disk ≡ record { start = []; calls = []; faults = 0 } → log_of (mem_seen disk) ≡ Ok found → found ≡ []
 no_record disk found is reads = let same = sym (fresh_log disk is) ∙ reads in cc
 
-pub of-requires-clause-mems : goal.of-requires-clause-mems
-of-requires-clause-mems c = subst (All IsMem) (sym c.in_ok-tablet.ensures.names) (All-cons IsMem (Mem 7) [] (lit< tt, lit< tt) (All-nil IsMem))
+mems : (names : List Target) → names ≡ Mem 7 ∷ [] → All IsMem names
+mems names is = subst (All IsMem) (sym is) (All-cons IsMem (Mem 7) [] (lit< tt, lit< tt) (All-nil IsMem))
 
-pub of-requires-clause-differ : goal.of-requires-clause-differ
-of-requires-clause-differ c = subst NamesDiffer (sym c.in_ok-tablet.ensures.names) (tt, tt)
+pub of-requires-clause-named : goal.of-requires-clause-named
+of-requires-clause-named c =
+    bare_named _ _ c.fresh-superblock.ensures (mems _ c.in_ok-tablet.ensures.names) (subst NamesDiffer (sym c.in_ok-tablet.ensures.names) (tt, tt))
+
+pub of-requires-clause-numbers : goal.of-requires-clause-numbers
+of-requires-clause-numbers c = bare_numbers _ _ _ c.fresh-superblock.ensures
 
 pub of-requires-clause-log : goal.of-requires-clause-log
 of-requires-clause-log c = log_none c.in-Ok.records c.no_records-none.result c.no_records-none.ensures c.in-Ok.ensures.sound
 
-pub of-requires-clause-due : goal.of-requires-clause-due
-of-requires-clause-due c = λ first opens. due_none _ _ c.in-Ok.records c.no_records-none.result first c.no_records-none.ensures
+pub of-requires-clause-commits : goal.of-requires-clause-commits
+of-requires-clause-commits c = subst AreCommits (sym c.no_records-none.ensures) tt
+
+pub of-requires-clause-taken_up : goal.of-requires-clause-taken_up
+of-requires-clause-taken_up c =
+    bare_takes_up _ _ _ _ c.fresh-superblock.ensures c.in_ok-tablet.ensures.trail c.in_ok-tablet.ensures.starts.rests (mems _ c.in_ok-tablet.ensures.names) c.standing.ensures.named c.standing.ensures.sound.stands
+    (log_none c.in-Ok.records c.no_records-none.result c.no_records-none.ensures c.in-Ok.ensures.sound) (λ first opens. due_none _ _ c.in-Ok.records c.no_records-none.result first c.no_records-none.ensures)
 
 pub of-requires-clause-untold : goal.of-requires-clause-untold
 of-requires-clause-untold c = untold_none c.in-Ok.records c.no_records-none.result _ (no_record c.new-disk.result c.in-Ok.records c.new-disk.ensures (c.in-Ok.ensures.records refl)) c.no_records-none.ensures
