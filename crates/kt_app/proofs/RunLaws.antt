@@ -15,7 +15,7 @@ use Rattle.kt_script.specs.Scripts.{Said, workload}
 use Rattle.kt_tablet.specs.Views.{work_of}
 use Rattle.kt_records.specs.declared.entry.Entry.{Entry}
 use Rattle.kt_journal.specs.Log.{log_of}
-use Rattle.kt_content.specs.Places.{fresh}
+use Rattle.kt_content.specs.Places.{Super, fresh}
 use Rattle.kt_content.specs.Rules.{Rules, RecordsPass, no_rules}
 use Rattle.kt_content.proofs.Rules.{ops_pass_none, records_pass_none}
 use Rattle.kt_content.specs.Content.{IsContent as HoldsPast}
@@ -96,7 +96,7 @@ is_on columns work plan cells e = subst (IsOn columns) (sym e) refl
 
 -- a run from what opening found is one over what the log held
 module _ {C L D : Type 0} (told : C → Option (List ℕ)) (began clock got ticked : C) (tells : Bool) (seen : L → Files) (now : L → ℕ) (leaves : L → ℕ → Files → Type 0) (log left logged : L) (view : EngineView L D C) (work : Workload) (past : Past) (events : List Event)
-    (rules : Rules) (takes : PlanPasses rules work) (opens : IsFound view past) (fill : view.tablet.core.work.fill ≡ work.fill) (reads : IsTrue tells → log_of (seen log) ≡ Ok view.records)
+    (rules : Rules) (takes : PlanPasses rules work) (opens : IsFound view past) (bare : view.super ≡ fresh) (fill : view.tablet.core.work.fill ≡ work.fill) (reads : IsTrue tells → log_of (seen log) ≡ Ok view.records)
     (holds : (by : Rules) → RecordsPass by work.fill view.records → HoldsPast by work.fill fresh view.records view.tablet.core.opened past) (began_is : began ≡ clock) (got_is : got ≡ ticked) (left_is : left ≡ logged) where
   abbrev c : ℕ
   c = view.tablet.core.opened
@@ -107,7 +107,11 @@ module _ {C L D : Type 0} (told : C → Option (List ℕ)) (began clock got tick
   held_by : (by : Rules) → PlanPasses by work → RecordsPass by work.fill view.records → HeldBy view work past by
   held_by by plan kept = record {
     plan = plan;
-    content = record { opens = opens; holds = subst (λ (f : Row). HoldsPast by f fresh view.records c past) (sym fill) (holds by kept) };
+    bare = bare;
+    content = record {
+      opens = opens;
+      holds = subst (λ (s : Super). HoldsPast by view.tablet.core.work.fill s view.records c past) (sym bare) (subst (λ (f : Row). HoldsPast by f fresh view.records c past) (sym fill) (holds by kept));
+    };
   }
 
   any : (image : Image) → CrashLeaves tells now leaves left image → HeldBy view work past no_rules

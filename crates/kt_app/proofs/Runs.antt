@@ -113,6 +113,10 @@ held_now rules fill image records past reads log holds =
       shows = (one_content rules fill places.fresh records (last_of records) (last_of records) past (raise alone.0 0) here (bare_log rules fill records alone.0 log here.passes alone.1)).1;
     }
 
+-- the superblock that opening read is that of a fresh tablet
+under_fresh : (rules : Rules) (fill : Row) (super : places.Super) (records : List Entry) (past : Past) → super ≡ places.fresh → HoldsPast rules fill super records (max super.c (last_of records)) past → HoldsPast rules fill places.fresh records (max 0 (last_of records)) past
+under_fresh rules fill super records past is holds = subst (λ (s : places.Super). HoldsPast rules fill s records (max s.c (last_of records)) past) is holds
+
 -- What an engine keeps of its run, whatever was printed of it.
 module _ {L D C : Type 0} (readings : C → Option (List ℕ)) (tells : Bool) (now : L → ℕ) (leaves : L → ℕ → Files → Type 0) (view : EngineView L D C) (first : Past) (opens : IsFound view first) (sound : IsSound readings view.tablet) where
   abbrev its_work : Workload
@@ -125,7 +129,7 @@ module _ {L D C : Type 0} (readings : C → Option (List ℕ)) (tells : Bool) (n
       → HoldsPrefix rules its_work first view.tablet.core.opened its_lines image
   prefix front journal home told rules held image left =
       let h = front rules first held.content held.plan told journal home image left in
-      record { t = h.t; after_opening = h.after_opening; acknowledged = h.acknowledged; last = last_of h.records; not_later = h.last; within = omega (arith, ap (λ (st : State). st.c) (sound.stands first opens).run.state, h.within); holds = held_now rules its_work.fill image h.records (upto h.t (run_past (core_from view first))) h.reads h.log h.holds }
+      record { t = h.t; after_opening = h.after_opening; acknowledged = h.acknowledged; last = last_of h.records; not_later = h.last; within = omega (arith, ap (λ (st : State). st.c) (sound.stands first opens).run.state, h.within); holds = held_now rules its_work.fill image h.records (upto h.t (run_past (core_from view first))) h.reads h.log (under_fresh rules its_work.fill view.super h.records (upto h.t (run_past (core_from view first))) held.bare h.holds) }
 
   pub kept_here : (clock ticked : C) (disk : L) → view.tablet.opened ≡ clock → ticked ≡ view.tablet.clock → Recovers tells now leaves view
       → (journal : JournalView L) × (view.log.home ≡ Some journal) × (disk ≡ journal.disk)
@@ -195,7 +199,7 @@ module _ {L D C : Type 0} (readings : C → Option (List ℕ)) (tells : Bool) (n
       → HoldsAll rules work first c events image
   all_kept going whole journal home told rules held image left =
       let h = whole rules first held.content held.plan (played.ended ∙ going) (played.empty going) told journal home image left in
-      record { last = last_of h.records; within = omega (arith, ap (λ (st : State). st.c) stands.run.state, h.last); holds = held_now rules work.fill image h.records (run_past core) h.reads h.log h.holds }
+      record { last = last_of h.records; within = omega (arith, ap (λ (st : State). st.c) stands.run.state, h.last); holds = held_now rules work.fill image h.records (run_past core) h.reads h.log (under_fresh rules work.fill view.super h.records (run_past core) held.bare h.holds) }
 
   pub ran_here : (clock ticked : C) (disk : L) (a l : ℕ) (text : List ℕ) → view.tablet.opened ≡ clock → ticked ≡ view.tablet.clock → Recovers tells now leaves view → RecoversAll tells now leaves view
       → (journal : JournalView L) × (view.log.home ≡ Some journal) × (disk ≡ journal.disk)
@@ -235,9 +239,10 @@ module _ {L D C : Type 0} (old view : EngineView L D C) (columns : List Column) 
     plan =
         let P : Root L D C → Type 0 = λ r. PlanPasses rules r.work in
         subst P (sym root) (subst (PlanPasses rules) (sym on_plan) held.plan);
+    bare = ap (λ (r : Root L D C). r.super) root ∙ held.bare;
     content = record {
       opens = found_view;
-      holds = let P : Root L D C → Type 0 = λ r. HoldsPast rules r.work.fill places.fresh r.records r.opened first in subst P (sym root) held.content.holds;
+      holds = let P : Root L D C → Type 0 = λ r. HoldsPast rules r.work.fill r.super r.records r.opened first in subst P (sym root) held.content.holds;
     };
   }
 

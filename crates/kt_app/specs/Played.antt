@@ -6,6 +6,7 @@ use Rattle.kt_history.specs.declared.event.Event.TheVariants.{Stop}
 use Rattle.kt_history.specs.declared.reply.Reply.{Reply}
 use Rattle.kt_history.specs.History.{Past}
 use Rattle.kt_history.specs.Machine.{Workload, nth, start}
+use Rattle.kt_content.specs.Places.{fresh}
 use Rattle.kt_content.specs.Rules.{Rules}
 use Rattle.kt_engine.specs.Logged.{PlanPasses}
 use Rattle.kt_history.specs.Replies.{told}
@@ -29,9 +30,10 @@ pub record IsFresh {L D C : Type 0} (view : EngineView L D C) : Type 0 where
   pub clock : view.tablet.clock ≡ view.tablet.opened
   pub unplanned : view.tablet.core.work.plan ≡ []
 
--- Rules of the table that take each write of a workload, and by which an engine's log held this past.
+-- Rules of the table that take each write of a workload, and by which an engine's log held this past, under the superblock of a fresh tablet.
 pub record HeldBy {L D C : Type 0} (view : EngineView L D C) (work : Workload) (past : Past) (rules : Rules) : Type 0 where
   pub plan : PlanPasses rules work
+  pub bare : view.super ≡ fresh
   pub content : IsContent rules view past
 
 abbrev pub reply_in : Option (List Reply) → ℕ → Option Reply

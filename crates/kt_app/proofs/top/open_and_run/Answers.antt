@@ -37,7 +37,7 @@ returns-in-Ok-open_tablet-clause-stopped g c = λ e.
       inr (
         run.0,
         runs_over g.C.Clock.readings _ c.args.clock _ _ g.L.Disk.tells g.L.Disk.seen g.L.Disk.now g.L.Disk.leaves c.args.log _ _ c.in-Ok-open_tablet.engine (work_of (record { columns = c.args.schema.now; plan = c.args.plan.now })) opened.found.0 _
-            (rules_of c.args.schema.now) (takes_plan c.args.schema.now c.requires.counted c.args.plan.now c.requires.fits) opened.found.1 (ap (λ (w : Workload). w.fill) opened.work) opened.records opened.found.3 opened.clock.0 (sym is.3) (sym is.1) true run.0 opened.found.2 run.1,
+            (rules_of c.args.schema.now) (takes_plan c.args.schema.now c.requires.counted c.args.plan.now c.requires.fits) opened.found.1 opened.superblock (ap (λ (w : Workload). w.fill) opened.work) opened.records opened.found.3 opened.clock.0 (sym is.3) (sym is.1) true run.0 opened.found.2 run.1,
         run.2,
       ),
     )
@@ -52,7 +52,7 @@ returns-in-Ok-open_tablet-clause-crash g c =
       was_read g.L.Disk.tells g.L.Disk.seen c.args.log _ opened.found.0 _ opened.found.2,
       c.run_and_write-status.result.1.trail,
       kept_over g.C.Clock.readings _ c.args.clock _ _ g.L.Disk.tells g.L.Disk.seen g.L.Disk.now g.L.Disk.leaves c.args.log _ _ c.in-Ok-open_tablet.engine (work_of (record { columns = c.args.schema.now; plan = c.args.plan.now })) opened.found.0 _
-          (rules_of c.args.schema.now) (takes_plan c.args.schema.now c.requires.counted c.args.plan.now c.requires.fits) opened.found.1 (ap (λ (w : Workload). w.fill) opened.work) opened.records opened.found.3 opened.clock.0 (sym is.3) (sym is.1) (c.run_and_write-status.ensures.kept opened.found.0 opened.found.1),
+          (rules_of c.args.schema.now) (takes_plan c.args.schema.now c.requires.counted c.args.plan.now c.requires.fits) opened.found.1 opened.superblock (ap (λ (w : Workload). w.fill) opened.work) opened.records opened.found.3 opened.clock.0 (sym is.3) (sym is.1) (c.run_and_write-status.ensures.kept opened.found.0 opened.found.1),
     )
 
 pub returns-in-Ok-open_tablet-clause-printed : goal.returns-in-Ok-open_tablet-clause-printed
@@ -62,7 +62,7 @@ returns-in-Ok-open_tablet-clause-printed g c = λ e.
     let run = c.run_and_write-status.ensures.printed (sym is.0 ∙ e) opened.found.0 opened.found.1 in (
       run.0,
       runs_over g.C.Clock.readings _ c.args.clock _ _ g.L.Disk.tells g.L.Disk.seen g.L.Disk.now g.L.Disk.leaves c.args.log _ _ c.in-Ok-open_tablet.engine (work_of (record { columns = c.args.schema.now; plan = c.args.plan.now })) opened.found.0 _
-          (rules_of c.args.schema.now) (takes_plan c.args.schema.now c.requires.counted c.args.plan.now c.requires.fits) opened.found.1 (ap (λ (w : Workload). w.fill) opened.work) opened.records opened.found.3 opened.clock.0 (sym is.3) (sym is.1) false run.0 opened.found.2 run.1,
+          (rules_of c.args.schema.now) (takes_plan c.args.schema.now c.requires.counted c.args.plan.now c.requires.fits) opened.found.1 opened.superblock (ap (λ (w : Workload). w.fill) opened.work) opened.records opened.found.3 opened.clock.0 (sym is.3) (sym is.1) false run.0 opened.found.2 run.1,
       run.2,
     )
 
@@ -77,7 +77,7 @@ returns-in-Ok-open_tablet-clause-cut g c = λ e.
       inr (
         run.1,
         runs_over g.C.Clock.readings _ c.args.clock _ _ g.L.Disk.tells g.L.Disk.seen g.L.Disk.now g.L.Disk.leaves c.args.log _ _ c.in-Ok-open_tablet.engine (work_of (record { columns = c.args.schema.now; plan = c.args.plan.now })) opened.found.0 _
-            (rules_of c.args.schema.now) (takes_plan c.args.schema.now c.requires.counted c.args.plan.now c.requires.fits) opened.found.1 (ap (λ (w : Workload). w.fill) opened.work) opened.records opened.found.3 opened.clock.0 (sym is.3) (sym is.1) run.1 run.0 opened.found.2 run.2,
+            (rules_of c.args.schema.now) (takes_plan c.args.schema.now c.requires.counted c.args.plan.now c.requires.fits) opened.found.1 opened.superblock (ap (λ (w : Workload). w.fill) opened.work) opened.records opened.found.3 opened.clock.0 (sym is.3) (sym is.1) run.1 run.0 opened.found.2 run.2,
         (λ stopped. subst (λ x. Rose (g.L.Disk.faults c.args.log) (g.L.Disk.faults x)) (sym is.1) (subst (λ x. Rose (g.L.Disk.faults x) (g.L.Disk.faults parts.log)) opened.devices.1 (run.3 stopped))),
       ),
     )
