@@ -5,12 +5,11 @@ use Rattle.kt_history.specs.declared.change.Outcome.{Outcome}
 use Rattle.kt_history.specs.declared.reply.Reply.{Reply}
 use Rattle.kt_history.specs.declared.reply.Reply.TheVariants as reply
 use Rattle.kt_history.specs.Machine.{nth}
-use Rattle.kt_tablet.specs.declared.snap.Snap.{Snap}
 use Rattle.kt_tablet.specs.declared.tablet.scan.SnapNo.{SnapNo}
 use Rattle.kt_tablet.specs.declared.tablet.scan.SnapNo.TheVariants as no
 use Rattle.kt_serve.specs.declared.scan.ScanTurn.TheVariants as turn
 use Rattle.kt_serve.specs.Points.{IfWritten}
-use Rattle.kt_serve.specs.Scans.{turn_of_read}
+use Rattle.kt_serve.specs.Scans.{TabletSnap, turn_of_read}
 use Rattle.std.specs.Prelude.{Result, Err}
 
 some_same : {A : Type 0} (x y : A) → Some x ≡ Some y → x ≡ y
@@ -40,7 +39,7 @@ if_written (reply.Large n) P is = tt
 if_written reply.Stopped P is = tt
 
 -- a scan is not answered as a write is
-pub never_written : (r : Result Snap SnapNo) (ts : ℕ) (outcomes : List Outcome) → turn_of_read r ≢ turn.Told (reply.At ts outcomes)
+pub never_written : (r : Result TabletSnap SnapNo) (ts : ℕ) (outcomes : List Outcome) → turn_of_read r ≢ turn.Told (reply.At ts outcomes)
 never_written (Ok snap) ts outcomes = λ e. cc
 never_written (Err no.Stopped) ts outcomes = λ e. cc
 never_written (Err (no.Ancient t a)) ts outcomes = λ e. cc

@@ -21,12 +21,13 @@ use Rattle.kt_histlaws.specs.Events.{answered}
 use Rattle.kt_histlaws.specs.Histories.{or_else}
 use Rattle.kt_schema.specs.declared.column.Column.{Column}
 use Rattle.kt_scan.specs.Encoded.{keys_of}
-use Rattle.kt_scan.specs.Live.{AreRowsOf, row_in}
+use Rattle.kt_scan.specs.Live.{AreRowsOf}
 use Rattle.kt_tablet.specs.Views.{IsSound}
 use Rattle.kt_tablet.specs.Visits.{MayLook, HasLooked}
-use Rattle.kt_tablet.specs.Reads.{MaySnapshot, HasRead, ShowsRun, IsCopied, IsNoRead, LeavesRead, view_row}
-use Rattle.kt_tablet.specs.declared.snap.Snap.{Snap}
-use Rattle.kt_tablet.specs.declared.snap.SnapView.{SnapView}
+use Rattle.kt_tablet.specs.Reads.{MaySnapshot, HasRead, ShowsRun, IsCopied, IsNoRead, LeavesRead}
+use Rattle.kt_diskrowset.specs.Page.{row_told}
+use Rattle.kt_tablet.specs.Copies.{copied_row}
+use Rattle.kt_tablet.proofs.Scans.{all_marked}
 use Rattle.kt_tablet.specs.declared.tablet.LookNo.{LookNo}
 use Rattle.kt_tablet.specs.declared.tablet.LookNo.TheVariants as look
 use Rattle.kt_tablet.specs.declared.tablet.scan.SnapNo.{SnapNo}
@@ -35,7 +36,7 @@ use Rattle.kt_seatlock.specs.Trails.{Follows}
 use Rattle.kt_engine.specs.Engines.{EngineView, IsFound, TellsStop, core_from}
 use Rattle.kt_engine.specs.Visits.{Root, root_of, PartView, part_in, session_of, out_of}
 use Rattle.kt_serve.specs.Sessions.{told_by, SameRoot, OnRoot, IsFree, HasNoLog, IsCommand, IsQuiet, AnswersOne, IsGoing, TellsOwn, has_stop}
-use Rattle.kt_serve.specs.Scans.{IsOn, ScansAt, IsLooking, AfterLook, past_by, snap_row, ShowsRows, AnswersRows, HasSnapped, turn_of_read, AfterRead, IsQuietBut, LacksReply, TellsBut}
+use Rattle.kt_serve.specs.Scans.{IsOn, ScansAt, IsLooking, AfterLook, past_by, TabletSnap, snap_row, ShowsRows, AnswersRows, HasSnapped, turn_of_read, AfterRead, IsQuietBut, LacksReply, TellsBut}
 use Rattle.kt_serve.proofs.Lines.{told_more, or_none, follows_quiet, quiet_self, quiet_then, quiet_line, is_mine}
 use Rattle.kt_serve.proofs.Flights.{none_flies, nth_set}
 use Rattle.kt_serve.proofs.Begins.{some_is, root_at, has_root, content_of, free_calm, free_turn, free_home, line_answers}
@@ -190,16 +191,16 @@ module _ {L D C : Type 0} where
       (ap (λ l. out_of l.holder l.out n) log ∙ look_home told i at x n f was) (ap (λ (c : Core). c.turns) core) (ap (λ (c : Core). c.trail) core) mine replies
 
   -- a snapshot shows the rows of the run
-  shows_run : (x : EngineView L D C) (snap : Snap) (s i : ℕ) (seen' : List Event) (readings : C → Option (List ℕ)) → IsSound readings x.tablet → seen' ≡ x.tablet.core.trail ++ event.Rows s i snap.t ∷ [] → snap.mark ≤ snap.t
-      → ((first : Past) → IsFound x first → ShowsRun (core_from x first) snap) → ShowsRows (root_of x) snap seen'
+  shows_run : (x : EngineView L D C) (snap : TabletSnap) (s i : ℕ) (seen' : List Event) (readings : C → Option (List ℕ)) → IsSound readings x.tablet → seen' ≡ x.tablet.core.trail ++ event.Rows s i snap.t ∷ [] → snap.mark ≤ snap.t
+      → ((first : Past) → IsFound x first → ShowsRun row_told (core_from x first) snap) → ShowsRows (root_of x) snap seen'
   shows_run x snap s i seen' readings sound line since shows first found =
       let content = content_of x first found in
       subst (λ p. AreRowsOf (snap_row snap) (rows_at p snap.t)) (sym (past_more (root_of x) first s i snap.t x.tablet.core.trail seen' line))
-      (rows_of_run (λ v k t. view_row k t v) (core_from x first) snap.t snap.views (sound.stands first content) (λ key. (shows first content).rows snap.t key since (omega arith)))
+      (rows_of_run (λ v k t. copied_row row_told k t v) (core_from x first) snap.t snap.views (sound.stands first content) (λ key. (shows first content).rows snap.t key since (omega arith)))
 
   -- a scan that is answered by rows
-  read_after : (told told' : Option (PartView L D C)) (seen seen' : List Event) (x y : EngineView L D C) (n i : ℕ) (at : At) (readings : C → Option (List ℕ)) (snap : Snap) → told ≡ Some (part_in x n) → told' ≡ Some (part_in y n) → IsLooking told i at → Follows session_of n seen x.tablet.core.trail → seen' ≡ y.tablet.core.trail
-      → IsSound readings x.tablet → HasRead x.tablet.core y.tablet.core n i at snap.t → snap.mark ≡ x.tablet.core.a → IsCopied snap → ((first : Past) → IsFound x first → ShowsRun (core_from x first) snap) → y.log ≡ x.log
+  read_after : (told told' : Option (PartView L D C)) (seen seen' : List Event) (x y : EngineView L D C) (n i : ℕ) (at : At) (readings : C → Option (List ℕ)) (snap : TabletSnap) → told ≡ Some (part_in x n) → told' ≡ Some (part_in y n) → IsLooking told i at → Follows session_of n seen x.tablet.core.trail → seen' ≡ y.tablet.core.trail
+      → IsSound readings x.tablet → HasRead x.tablet.core y.tablet.core n i at snap.t → snap.mark ≡ x.tablet.core.a → IsCopied snap → ((first : Past) → IsFound x first → ShowsRun row_told (core_from x first) snap) → y.log ≡ x.log
       → IsFree told' (i + 1) × HasSnapped told seen seen' n i snap
   read_after told told' seen seen' x y n i at readings snap was is f follows sees sound read mark copied shows log =
       let since : snap.mark ≤ snap.t = subst (λ m. m ≤ snap.t) (sym mark) read.since in
@@ -213,17 +214,17 @@ module _ {L D C : Type 0} where
         },
         record {
           since = since;
-          marks = λ k d lt. let e = copied.since k d lt in omega arith;
+          marks = all_marked snap copied;
           shows = λ root h. subst (λ (ro : Root L D C). ShowsRows ro snap seen') (root_at root told x n h was) (shows_run x snap n i seen' readings sound line since shows);
           answers = λ root h.
               then_rows root n i snap.t seen x.tablet.core.trail seen' (follows_quiet root n seen x.tablet.core.trail follows) (rows_line root n i snap.t x.tablet.core.trail seen' line);
         },
       )
 
-  pub after_read : (told told' : Option (PartView L D C)) (seen seen' : List Event) (x y : EngineView L D C) (n n' by i : ℕ) (at : At) (readings : C → Option (List ℕ)) (r : Result Snap SnapNo)
+  pub after_read : (told told' : Option (PartView L D C)) (seen seen' : List Event) (x y : EngineView L D C) (n n' by i : ℕ) (at : At) (readings : C → Option (List ℕ)) (r : Result TabletSnap SnapNo)
       → told ≡ Some (part_in x n) → told' ≡ Some (part_in y n') → n' ≡ n → by ≡ n → IsLooking told i at → Follows session_of n seen x.tablet.core.trail → seen' ≡ y.tablet.core.trail
       → TellsStop x.tablet.core → IsSound readings x.tablet
-      → IfOk r (λ snap. HasRead x.tablet.core y.tablet.core by i at snap.t) → IfOk r (λ snap. snap.mark ≡ x.tablet.core.a) → IfOk r IsCopied → IfOk r (λ snap. (first : Past) → IsFound x first → ShowsRun (core_from x first) snap)
+      → IfOk r (λ snap. HasRead x.tablet.core y.tablet.core by i at snap.t) → IfOk r (λ snap. snap.mark ≡ x.tablet.core.a) → IfOk r IsCopied → IfOk r (λ snap. (first : Past) → IsFound x first → ShowsRun row_told (core_from x first) snap)
       → y.log ≡ x.log → IfErr r (IsNoRead x.tablet.core by at) → IfErr r (LeavesRead x.tablet y.tablet by i)
       → AfterRead told told' seen seen' n i at (turn_of_read r)
   after_read told told' seen seen' x y n n' by i at readings (Ok snap) was is same me f follows sees stops sound read mark copied shows log refused left =
@@ -252,15 +253,15 @@ module _ {L D C : Type 0} where
   }
 
   -- a scan whose line stands, with no rows to show
-  pub snapped_lacks : (s t i : ℕ) (a b c : Option (PartView L D C)) (xs ys zs : List Event) (snap : Snap) → t ≡ s → IsGoing s a b xs ys → SameRoot b c → HasSnapped b ys zs t i snap → LacksReply s i a c xs zs
+  pub snapped_lacks : (s t i : ℕ) (a b c : Option (PartView L D C)) (xs ys zs : List Event) (snap : TabletSnap) → t ≡ s → IsGoing s a b xs ys → SameRoot b c → HasSnapped b ys zs t i snap → LacksReply s i a c xs zs
   snapped_lacks s t i a b c xs ys zs snap e f same h =
       lacks_after s t i a b c xs ys zs e f (record { root = same; quiet = λ root r. rows_quiet root t i snap.t ys zs (h.answers root r) })
 
   -- the rows that it shows are its answer
-  pub snapped_answers : (s t i : ℕ) (a b : Option (PartView L D C)) (xs ys zs : List Event) (snap : Snap) (columns : List Column) (scan : Scan) (read : List SnapView) (listed : List (List Cell)) → t ≡ s → IsGoing s a b xs ys → HasSnapped b ys zs t i snap
-      → IsCommand a s i (command.Scan scan) → OnRoot a (λ root. IsOn columns root.work) → read ≡ snap.views → ((rows : Rows) → AreRowsOf (λ key. row_in (λ v k u. view_row k u v) read key snap.t) rows → listed ≡ shown (keys_of columns) scan rows)
+  pub snapped_answers : (s t i : ℕ) (a b : Option (PartView L D C)) (xs ys zs : List Event) (snap : TabletSnap) (columns : List Column) (scan : Scan) (listed : List (List Cell)) → t ≡ s → IsGoing s a b xs ys → HasSnapped b ys zs t i snap
+      → IsCommand a s i (command.Scan scan) → OnRoot a (λ root. IsOn columns root.work) → ((rows : Rows) → AreRowsOf (snap_row snap) rows → listed ≡ shown (keys_of columns) scan rows)
       → OnRoot a (λ root. AnswersOne root s i (reply.Rows snap.t listed) xs zs)
-  snapped_answers s t i a b xs ys zs snap columns scan read listed e f h its on views lists root r first found k =
+  snapped_answers s t i a b xs ys zs snap columns scan listed e f h its on lists root r first found k =
       let answers = subst (λ n. AnswersRows root n i snap.t ys zs) e (h.answers root (f.root root r)) in
       let rows = rows_at (past_by root first zs) snap.t in
       let are : AreRowsOf (snap_row snap) rows = h.shows root (f.root root r) first found in
@@ -268,7 +269,7 @@ module _ {L D C : Type 0} where
       ∙ ap (λ (c : Option Command). or_else (told_by root first xs s k) (cond (k == i) (Some (reply.Rows snap.t (shown_by root.work.keys c (rows_at (past_by root first zs) snap.t)))) None)) (its root r)
       ∙ ap (λ (w : Workload). or_else (told_by root first xs s k) (cond (k == i) (Some (reply.Rows snap.t (shown w.keys scan (rows_at (past_by root first zs) snap.t)))) None)) (on root r)
       ∙ ap (λ l. or_else (told_by root first xs s k) (cond (k == i) (Some (reply.Rows snap.t l)) None))
-      (sym (lists rows (subst (λ (vs : List SnapView). AreRowsOf (λ key. row_in (λ v k u. view_row k u v) vs key snap.t) rows) (sym views) are)))
+      (sym (lists rows are))
 
 -- ---- the session of a scan
 

@@ -14,12 +14,15 @@ use Rattle.kt_histlaws.specs.Histories.{or_else}
 use Rattle.kt_schema.specs.declared.column.Column.{Column}
 use Rattle.kt_schema.specs.Columns.{fill_of}
 use Rattle.kt_scan.specs.Live.{AreRowsOf, row_in}
+use Rattle.kt_diskrowset.specs.declared.data.RowSetData.{RowSetData}
+use Rattle.kt_diskrowset.specs.Page.{row_told}
 use Rattle.kt_tablet.specs.declared.snap.Snap.{Snap}
+use Rattle.kt_tablet.specs.Copies.{mark_of, copied_row}
 use Rattle.kt_tablet.specs.declared.tablet.LookNo.{LookNo}
 use Rattle.kt_tablet.specs.declared.tablet.LookNo.TheVariants as look
 use Rattle.kt_tablet.specs.declared.tablet.scan.SnapNo.{SnapNo}
 use Rattle.kt_tablet.specs.declared.tablet.scan.SnapNo.TheVariants as no
-use Rattle.kt_tablet.specs.Reads.{HasDrawn, view_row}
+use Rattle.kt_tablet.specs.Reads.{HasDrawn}
 use Rattle.kt_tablet.specs.Views.{work_of}
 use Rattle.kt_engine.specs.Visits.{Root, PartView}
 use Rattle.kt_serve.specs.declared.scan.ScanTurn.{ScanTurn}
@@ -54,12 +57,16 @@ AfterLook old new before after s i (Err look.Memory) = OnRoot old (λ root. IsQu
 abbrev pub past_by : {L D C : Type 0} → Root L D C → Past → List Event → Past
 past_by root first lines = (state_after root.work (start root.work first root.opened) lines).past
 
--- the row of a key that the views of a snapshot have at its time
-abbrev pub snap_row : Snap → List ℕ → Option Row
-snap_row snap key = row_in (λ v k t. view_row k t v) snap.views key snap.t
+-- what is copied of the stores of a tablet for a scan
+abbrev pub TabletSnap : Type 0
+TabletSnap = Snap RowSetData
+
+-- the row of a key that the copies of a snapshot have at its time
+abbrev pub snap_row : TabletSnap → List ℕ → Option Row
+snap_row snap key = row_in (λ v k t. copied_row row_told k t v) snap.views key snap.t
 
 -- it has the rows of the run that these lines are
-abbrev pub ShowsRows : {L D C : Type 0} → Root L D C → Snap → List Event → Type 0
+abbrev pub ShowsRows : {L D C : Type 0} → Root L D C → TabletSnap → List Event → Type 0
 ShowsRows root snap lines = (first : Past) → Found root first → AreRowsOf (snap_row snap) (rows_at (past_by root first lines) snap.t)
 
 -- the later lines answer command i of this session by the rows at t of the run that all are, where it had no reply, and no other of the session
@@ -68,14 +75,14 @@ AnswersRows root s i t before after = (first : Past) → Found root first → (k
     → told_by root first after s k ≡ or_else (told_by root first before s k) (if k == i then Some (reply.Rows t (shown_by root.work.keys (command_at root.work s i) (rows_at (past_by root first after) t))) else None)
 
 -- A scan has read this snapshot, whose views tell rows at its time: those of the run. A line answers the scan by them.
-pub record HasSnapped {L D C : Type 0} (told : Option (PartView L D C)) (before after : List Event) (s i : ℕ) (snap : Snap) : Type 0 where
+pub record HasSnapped {L D C : Type 0} (told : Option (PartView L D C)) (before after : List Event) (s i : ℕ) (snap : TabletSnap) : Type 0 where
   pub since : snap.mark ≤ snap.t
-  pub marks : All (λ v. v.since ≤ snap.mark) snap.views
+  pub marks : All (λ v. mark_of v ≤ snap.mark) snap.views
   pub shows : OnRoot told (λ root. ShowsRows root snap after)
   pub answers : OnRoot told (λ root. AnswersRows root s i snap.t before after)
 
 -- what becomes of a scan, by what the engine says
-abbrev pub turn_of_read : Result Snap SnapNo → ScanTurn
+abbrev pub turn_of_read : Result TabletSnap SnapNo → ScanTurn
 turn_of_read (Ok snap) = turn.Read snap
 turn_of_read (Err no.Stopped) = turn.Told reply.Stopped
 turn_of_read (Err (no.Ancient t a)) = turn.Told (reply.Ancient t a)

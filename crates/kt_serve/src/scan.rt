@@ -9,10 +9,11 @@ ghost use Rattle.kt_serve.specs.Sessions.{IsFree, IsCommand, OnRoot, SameRoot, H
 ghost use Rattle.kt_serve.specs.Scans.{IsOn, ScansAt, IsLooking, AfterLook, turn_of_read, AfterRead, LacksReply};
 
 use crate::log::Halt;
-use crate::shown::rows_shown;
+use crate::shown::snap_shown;
 use crate::tablet::SharedTablet;
 use kt_base::{Clock, NoMemory};
 use kt_disk::Disk;
+use kt_diskrowset::RowSetView;
 use kt_engine::{Engine, LookNo, Snap, SnapNo};
 use kt_history::{At, Reply, Scan};
 use kt_schema::Schema;
@@ -24,7 +25,7 @@ use std::sync::Wait;
 #[derive(Drop)]
 pub enum ScanTurn {
     /// A line answers it by the rows of this snapshot.
-    Read(Snap),
+    Read(Snap<RowSetView>),
     /// It has this reply.
     Told(Reply),
     /// A write flies that is not later than the time that it has drawn.
@@ -32,7 +33,7 @@ pub enum ScanTurn {
     Memory,
 }
 
-fn turn_of(read: Result<Snap, SnapNo>) -> ScanTurn
+fn turn_of(read: Result<Snap<RowSetView>, SnapNo>) -> ScanTurn
     ensures { result ≡ turn_of_read read }
 {
     match read {
@@ -149,14 +150,7 @@ fn read_rows<L: Disk, D, C: Clock, R: Wait>(
     for _ in rt.forever() {
         match read_once(rt, alloc, lock, pass, index, scan.at) {
             ScanTurn::Read(snap) => {
-                let rows = rows_shown(
-                    alloc,
-                    schema,
-                    snap.views.as_slice(),
-                    scan,
-                    snap.mark,
-                    snap.t,
-                )?;
+                let rows = snap_shown(alloc, schema, &snap, scan)?;
                 return Ok(Reply::Rows { t: snap.t, rows });
             }
             ScanTurn::Told(reply) => return Ok(reply),

@@ -1,13 +1,13 @@
 -- A tablet over a store with no row, at the start of a plan.
-use Rattle.std.proofs.Common.{◌≡◌, ℕ, List, [], ◌∷◌, map, refl, sym, ap, ◌∙◌, subst, arith}
+use Rattle.std.proofs.Common.{◌≡◌, ℕ, suc, List, [], ◌∷◌, map, refl, sym, ap, ◌∙◌, subst, arith}
 use Rattle.std.specs.Prelude.{false}
 use Rattle.kt_history.specs.declared.command.Command.{Command}
 use Rattle.kt_history.specs.Machine.{first_turns}
 use Rattle.kt_history.specs.Rows.{Row}
 use Rattle.kt_history.specs.Stores.{Store}
 use Rattle.kt_loglaws.specs.Replay.{empty}
-use Rattle.kt_stores.specs.Shelf.{Shelved, StoresView, stores_of, names_of, empty_mem}
-use Rattle.kt_tablet.specs.Filling.{filled}
+use Rattle.kt_stores.specs.Shelf.{Shelved, StoresView, names_of, empty_mem}
+use Rattle.kt_tablet.specs.Filling.{filled, all_told, told_stores}
 use Rattle.kt_tablet.specs.Views.{View, Opens}
 use Rattle.kt_trial.specs.Openings.{IsNew}
 
@@ -21,7 +21,7 @@ opens_none fill = record {
 }
 
 pub is_new : {C : Type 0} (old new : View C) (fill : Row) (stores : StoresView) (plan : List (List Command)) → old.core.trail ≡ [] → old.core.aloft ≡ [] → old.core.stopped ≡ false
-    → (old.mark ≡ 0) × (old.core.opened ≡ 0) × (old.opening ≡ map (filled fill) (stores_of stores)) → stores.shelf ≡ empty_mem 7 ∷ [] → old.names ≡ names_of stores.shelf
+    → (old.mark ≡ 0) × (old.core.opened ≡ 0) × (old.opening ≡ told_stores fill stores) → stores.shelf ≡ empty_mem 7 ∷ [] → old.names ≡ names_of stores.shelf
     → new ≡ record old { core = record old.core { work = record old.core.work { plan = plan }; turns = first_turns plan } } → IsNew new plan
 is_new {C = C} old new fill stores plan trail rests goes found shelf names taken = subst (λ (v : View C). IsNew v plan) (sym taken) (record {
   starts = record { planned = refl; rests = rests; turns = refl; goes = goes };
@@ -29,7 +29,7 @@ is_new {C = C} old new fill stores plan trail rests goes found shelf names taken
   names = names ∙ ap names_of shelf;
   since = omega (arith, found.1);
   opens =
-      subst (λ (o : List Store). Opens o old.mark old.core.opened empty) (sym (found.2 ∙ ap (λ (ss : List Shelved). map (filled fill) (map (λ (s : Shelved). s.store) ss)) shelf))
+      subst (λ (o : List Store). Opens o old.mark old.core.opened empty) (sym (found.2 ∙ ap (λ (ss : List Shelved). all_told fill (suc stores.frozen) (map (λ (s : Shelved). s.store) ss)) shelf))
       (subst (λ (m : ℕ). Opens (filled fill [] ∷ []) m old.core.opened empty) (sym found.0)
       (subst (λ (l : ℕ). Opens (filled fill [] ∷ []) 0 l empty) (sym found.1) (opens_none fill)));
 })

@@ -7,10 +7,10 @@ use crate::miss::Miss;
 use crate::operation::DEFAULT;
 use kt_base::{Cell, Kind, MemClock, NoMemory, Octets, ReadingList};
 use kt_disk::MemDisk;
+use kt_diskrowset::DiskRowSet;
 use kt_engine::{Engine, Found, Superblock};
 use kt_history::Plan;
 use kt_journal::open_journal;
-use kt_memrowset::MemRowSet;
 use kt_pool::Pool;
 use kt_records::RecordList;
 use kt_schema::{Column, ColumnList, Schema};
@@ -65,7 +65,7 @@ fn tablet(
     cells: u32,
     plan: &Plan,
     readings: Vec<u64>,
-) -> Result<Tablet<MemRowSet, MemClock>, Miss>
+) -> Result<Tablet<DiskRowSet, MemClock>, Miss>
     requires fits { PlanFits plan.now }
     requires few { length plan.now ≤ 64 }
     ensures { IfOk result (λ tablet. IsNew tablet plan.now) }

@@ -3,8 +3,8 @@ use crate::machine::Machine;
 use crate::miss::{Miss, agree};
 use crate::operation::{KEYS, Line};
 use kt_base::{Cell, Cells};
-use kt_engine::{Snap, SnapView};
-use kt_history::View;
+use kt_diskrowset::RowSetView;
+use kt_engine::{Copied, Snap};
 use std::alloc::Global;
 
 fn value_of(cell: &Cell) -> Option<i64> {
@@ -31,7 +31,12 @@ fn line_of(cells: &Cells) -> Option<Line> {
 }
 
 // The row of a key in the one view that has it.
-fn row_shown(alloc: Global, views: &[SnapView], key: u8, t: u64) -> Result<Option<Line>, Miss> {
+fn row_shown(
+    alloc: Global,
+    views: &[Copied<RowSetView>],
+    key: u8,
+    t: u64,
+) -> Result<Option<Line>, Miss> {
     let mut line = None;
     for view in views {
         if let Some(cells) = view.row_at(alloc, &[key], t)? {
@@ -43,7 +48,12 @@ fn row_shown(alloc: Global, views: &[SnapView], key: u8, t: u64) -> Result<Optio
     Ok(line)
 }
 
-fn rows_agree_at(alloc: Global, machine: &Machine, snap: &Snap, t: u64) -> Result<(), Miss> {
+fn rows_agree_at(
+    alloc: Global,
+    machine: &Machine,
+    snap: &Snap<RowSetView>,
+    t: u64,
+) -> Result<(), Miss> {
     for key in 0..KEYS {
         let shown = row_shown(alloc, snap.views.as_slice(), key, t)?;
         agree(shown == machine.row(key, t), Miss::Rows)?;
@@ -52,7 +62,7 @@ fn rows_agree_at(alloc: Global, machine: &Machine, snap: &Snap, t: u64) -> Resul
 }
 
 /// Compares all rows that a scan shows: at its time, at its mark, and between them.
-pub fn rows_agree(alloc: Global, machine: &Machine, snap: &Snap) -> Result<(), Miss> {
+pub fn rows_agree(alloc: Global, machine: &Machine, snap: &Snap<RowSetView>) -> Result<(), Miss> {
     let (mark, _) = machine.times();
     agree(snap.mark == mark, Miss::Read)?;
     rows_agree_at(alloc, machine, snap, snap.t)?;

@@ -25,8 +25,8 @@ returns-in-Read-clause-root g c = λ root h. c.read_once.ensures.root root (c.lo
 pub returns-in-Read-clause-reply : goal.returns-in-Read-clause-reply
 returns-in-Read-clause-reply g c = (
   c.in-Read.ensures.read.0,
-  snapped_answers (number c.args.pass.now) (number c.loop.pass) c.args.index (part c.args.pass.now) (part c.loop.pass) (seen c.args.pass.now) (seen c.loop.pass) (seen c.read_once.new.pass) c.in-Read.snap c.args.schema.now c.args.scan.now c.as_slice.result.now _
-      c.loop.invariant.0.0.1 c.loop.invariant.2 c.in-Read.ensures.read.1 c.requires.command c.requires.on c.as_slice.ensures c.in_ok-rows-in-Read.ensures.rows,
+  snapped_answers (number c.args.pass.now) (number c.loop.pass) c.args.index (part c.args.pass.now) (part c.loop.pass) (seen c.args.pass.now) (seen c.loop.pass) (seen c.read_once.new.pass) c.in-Read.snap c.args.schema.now c.args.scan.now _
+      c.loop.invariant.0.0.1 c.loop.invariant.2 c.in-Read.ensures.read.1 c.requires.command c.requires.on c.in_ok-rows-in-Read.ensures.rows,
 )
 
 pub returns-in-Told-clause-root : goal.returns-in-Told-clause-root
