@@ -19,4 +19,4 @@ returns c =
     let same = λ (key : List ℕ).
     row_in_same (λ v k t. copied_row row_told k t v) (λ v k t. read_row k t v) snap.views views key snap.t (sym (each_key (read_rows snap.t) (copied_rows row_told snap.t) views snap.views c.in_ok-views.ensures.rows key))
     ∙ ap (λ vs. row_in (λ v k t. read_row k t v) vs key snap.t) (sym c.deref.ensures.value) in
-    IfOk-weaker c.rows_shown.result _ _ (λ listed told rows are. told rows (are.0, λ key. are.1 key ∙ same key)) c.rows_shown.ensures.rows
+    record { rows = IfOk-weaker c.rows_shown.result _ _ (λ listed told rows are. told rows (are.0, λ key. are.1 key ∙ same key)) c.rows_shown.ensures.rows }
