@@ -130,7 +130,7 @@ impl<D: Disk + Drop> StoreSide<D> {
     }
 
     /// Lends the device to a pass, with a superblock to publish or with none.
-    pub fn out(&mut self, number: u32, meta: Option<Meta>) -> Lent<D>
+    pub fn lend(&mut self, number: u32, meta: Option<Meta>) -> Lent<D>
         requires home { self.old.holder ≡ None }
         requires whole { IsTrue self.old.whole }
         requires lent { (m : Meta) → meta ≡ Some m → MayBeLent D.tells D.seen D.now D.leaves self.old m }
