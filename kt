@@ -65,7 +65,7 @@ build() {
     is_built && return
     log=$(mktemp) && room=$(mktemp -d) && begun=$(date +%s.%N) || exit 70
     trap 'rm -rf "$room"' EXIT
-    echo "kt: proving and building takes some 17 minutes on four idle processors where nothing is proved yet; $log tells how far it is" >&2
+    echo "kt: proving and building takes half an hour or more on four processors where nothing is proved yet; $log tells how far it is" >&2
     mkdir "$room/crates" && cp "$top/HANDLES" "$room"
     for name in $(needed); do
         cp -r "$top/crates/$name" "$room/crates" && grep "^$name[: ]" "$top/crates.txt" >>"$room/crates.txt"
@@ -76,7 +76,7 @@ build() {
     if ! (
         cd "$room" || exit
         chain_beside kt_streams kt_script kt_judge kt_opening kt_run_check >"$room/texts" &
-        chain_beside kt_seatlock kt_host kt_content kt_scan kt_boot >"$room/log" &
+        chain_beside kt_seatlock kt_host kt_baseset kt_diskrowset kt_content kt_scan kt_boot >"$room/log" &
         chain kt_history kt_memrowset kt_tablet kt_engine kt_serve kt_app
         wait
         cat "$room/texts" "$room/log"
