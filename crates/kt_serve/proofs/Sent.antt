@@ -75,7 +75,7 @@ module _ (L : RattleType) (g : Disk.Ghosts L.Denot) where
 module _ (L D C : RattleType) (g : Disk.Ghosts L.Denot) (h : Clock.Ghosts C.Denot) where
   pub engine_send : IsSend L → IsSend D → IsSend C → IsSend (Engine.the_row L D C g h)
   engine_send l d c = view_send (Within.the_row L D C g h) _ _ _ _ (recorded_send (Within.the_field L D C g h).row _ _ (Within.the_type L D C g h).to_one (struct_send (shape (Within.the_type L D C g h))
-      (Box-send _ (tablet_send _ C ghosts h rowset.the_send c), (Box-send _ (side_send L g l), (d, (running.the_send, (search (sendable, crosses), (search (sendable, crosses), tt))))))))
+      (Box-send _ (tablet_send _ C ghosts h rowset.the_send c), (Box-send _ (side_send L g l), (d, (running.the_send, (search (sendable, crosses), (search (sendable, crosses), (search (sendable, crosses), tt)))))))))
 
   pub shared_sync : IsSend L → IsSend D → IsSend C → IsSync (SharedTablet.the_row L D C g h)
   shared_sync l d c = recorded_sync (SharedTablet.the_field L D C g h).row _ _ (SharedTablet.the_type L D C g h).to_one (struct_sync (shape (SharedTablet.the_type L D C g h)) (lock.the_field_sync (Engine.the_row L D C g h) Event.the_row (Part.the_row L D C g h) _ (engine_send l d c), tt))
