@@ -40,7 +40,7 @@ of-requires-clause-commits c = subst AreCommits (sym c.no_records-none.ensures) 
 
 pub of-requires-clause-taken_up : goal.of-requires-clause-taken_up
 of-requires-clause-taken_up c =
-    bare_takes_up _ _ _ _ c.fresh-superblock.ensures c.in_ok-tablet.ensures.trail c.in_ok-tablet.ensures.starts.rests (mems _ c.in_ok-tablet.ensures.names) c.standing.ensures.named c.standing.ensures.sound.stands
+    bare_takes_up c.in_ok-tablet.tablet _ c.in-Ok.records c.no_records-none.result c.fresh-superblock.ensures c.in_ok-tablet.ensures.trail c.in_ok-tablet.ensures.starts.rests (mems _ c.in_ok-tablet.ensures.names) c.standing.ensures.named c.standing.ensures.sound.stands
     (log_none c.in-Ok.records c.no_records-none.result c.no_records-none.ensures c.in-Ok.ensures.sound) (λ first opens. due_none _ _ c.in-Ok.records c.no_records-none.result first c.no_records-none.ensures)
 
 pub of-requires-clause-untold : goal.of-requires-clause-untold
