@@ -116,7 +116,7 @@ later_above fill q super a ts final whole xs is s un lt places =
 
 -- another superblock that leaves the rowsets whose DeltaMemStores are needed
 
-kept_redos : (keep : Place → Bool) (q : List ℕ) (r : ℕ) (rowsets : List DiskRowset) → keep (disk r) ≡ true → redos_in q r (kept_rowsets keep rowsets) ≡ redos_in q r rowsets
+pub kept_redos : (keep : Place → Bool) (q : List ℕ) (r : ℕ) (rowsets : List DiskRowset) → keep (disk r) ≡ true → redos_in q r (kept_rowsets keep rowsets) ≡ redos_in q r rowsets
 kept_redos keep q r [] k = refl
 kept_redos keep q r (d ∷ rowsets) k = elim (d.rowset == r) as (λ b. (d.rowset == r) ≡ b → redos_in q r (kept_rowsets keep (d ∷ rowsets)) ≡ cond b (redos_with d (row_under q 0 d.base)) (redos_in q r rowsets)) [
   | true ↦ λ e. let same : d.rowset ≡ r = grind (arith, nat_tests) in let here : keep (disk d.rowset) ≡ true = ap (λ n. keep (disk n)) same ∙ k in rw here (rw e refl)

@@ -46,3 +46,7 @@ pub mod Opened
 pub mod OwedQueued
 pub mod KeepingLent
 pub mod OneContent
+pub mod OneVisit
+pub mod WrittenRows
+pub mod Flushes
+pub mod DeltaFlushes

@@ -25,3 +25,7 @@ pub mod KnownCommits
 pub mod RunEvents
 pub mod Recoverable
 pub mod Keeping
+pub mod OneVisit
+pub mod WrittenRows
+pub mod Flushes
+pub mod DeltaFlushes

@@ -11,6 +11,7 @@ pub mod lent_superblock;
 pub mod log_records;
 pub mod memory;
 pub mod new_superblock;
+pub mod one_visit;
 pub mod recoverable;
 pub mod replaying;
 pub mod run;
