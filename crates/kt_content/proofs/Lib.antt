@@ -45,6 +45,7 @@ pub mod StoresCome
 pub mod Opened
 pub mod OwedQueued
 pub mod KeepingLent
+pub mod LaterMark
 pub mod OneContent
 pub mod OneVisit
 pub mod WrittenRows

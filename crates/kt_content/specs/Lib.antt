@@ -25,6 +25,7 @@ pub mod KnownCommits
 pub mod RunEvents
 pub mod Recoverable
 pub mod Keeping
+pub mod LaterMark
 pub mod OneVisit
 pub mod WrittenRows
 pub mod Flushes

@@ -1,6 +1,7 @@
 //! Laws of a superblock that is lent for publishing.
 ghost use Rattle.kt_content.specs.Lending.{a_key_goes_over, a_needed_store_tells, names_that_a_job_leaves_tell, a_name_stays_true, a_key_may_be_lent, a_job_may_be_lent, a_job_that_duplicates_goes_over, a_fate_goes_on, a_job_keeps_changes_above_the_files};
 ghost use Rattle.kt_content.specs.KnownCommits.{a_commit_is_known, a_run_that_goes_on_is_not_early};
+ghost use Rattle.kt_content.specs.LaterMark.{a_later_mark_stands};
 
 /// A key goes over to the superblock that a job publishes.
 pub fn over_law()
@@ -55,4 +56,9 @@ pub fn known_law()
 /// So where the names of each COMMIT of a run go on, the outputs rest on none of them.
 pub fn not_early_law()
     ensures { a_run_that_goes_on_is_not_early }
+{}
+
+/// A superblock that names what the one before it named, and is told from a later mark on, stands.
+pub fn later_mark_law()
+    ensures { a_later_mark_stands }
 {}
