@@ -12,10 +12,10 @@ use Rattle.kt_stores.specs.Shelf.{Shelved, AreClosed, AreExact, FirstIsOpen, cel
 use Rattle.kt_stores.specs.Parts.{kept, stands_by, owns_by, read_by, shelved_mem, shelf_of, AreKept, AreEmptied}
 use Rattle.kt_stores.proofs.Either.{mem_stays}
 
-cells-append : (xs ys : List Shelved) → cells_in (xs ++ ys) ≡ cells_in xs + cells_in ys
+pub cells-append : (xs ys : List Shelved) → cells_in (xs ++ ys) ≡ cells_in xs + cells_in ys
 cells-append xs ys = sum_by-append (λ (s : Shelved). s.cells) xs ys
 
-shelf-append : {X : Type 0} (read : X → Contents → Shelved) (pool : Contents) (xs ys : List X) → shelf_of read pool (xs ++ ys) ≡ shelf_of read pool xs ++ shelf_of read pool ys
+pub shelf-append : {X : Type 0} (read : X → Contents → Shelved) (pool : Contents) (xs ys : List X) → shelf_of read pool (xs ++ ys) ≡ shelf_of read pool xs ++ shelf_of read pool ys
 shelf-append read pool xs ys = map-append (λ x. read x pool) xs ys
 
 -- ---- one store after another

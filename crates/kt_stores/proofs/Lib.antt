@@ -8,4 +8,5 @@ pub mod Taking
 pub mod Finding
 pub mod Took
 pub mod Emptying
+pub mod Outputs
 pub mod Grown

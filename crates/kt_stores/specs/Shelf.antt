@@ -1,5 +1,5 @@
 -- What the stores of a tablet are to their callers.
-use Rattle.std.specs.Prelude.{◌≡◌, ℕ, ◌+◌, Bool, true, false, is_some, List, [], ◌∷◌, map, Option, unwrap_or, slice_get, drop}
+use Rattle.std.specs.Prelude.{◌≡◌, ℕ, ◌+◌, Bool, true, false, is_some, List, [], ◌∷◌, ◌++◌, map, Option, unwrap_or, slice_get, drop}
 use Rattle.std.specs.List.{position, sum_by}
 use Rattle.std.specs.Option.{option_map}
 use Rattle.kt_history.specs.declared.target.Target.{Target}
@@ -71,6 +71,16 @@ frozen_behind number (s ∷ shelf) = empty_mem number ∷ (record s { closed = t
 abbrev pub without_frozen : ℕ → List Shelved → List Shelved
 without_frozen n [] = []
 without_frozen n (s ∷ shelf) = s ∷ drop n shelf
+
+-- and with others in their place
+abbrev pub with_outputs : ℕ → List Shelved → List Shelved → List Shelved
+with_outputs n outputs [] = []
+with_outputs n outputs (s ∷ shelf) = s ∷ outputs ++ drop n shelf
+
+-- what the first store holds
+abbrev pub rows_in_first : List Shelved → Store
+rows_in_first [] = []
+rows_in_first (s ∷ shelf) = s.store
 
 -- none takes inserts
 abbrev pub AreClosed : List Shelved → Type 0
