@@ -23,7 +23,7 @@ pub none_some : {X : Type 0} {G : Type 0} (y : X) → None ≡ Some y → G
 none_some y e = cc
 
 module _ {X : Type 0} (stands : X → Contents → Type 0) (owns : X → Contents → ℕ → Type 0) (read : X → Contents → Shelved) (stays : Stays stands owns read) (placed : IsPlaced stands owns) where
-  nth_owned : (pool : Contents) (x : X) (i : ℕ) (xs : List X) (k : ℕ) → slice_get xs i ≡ Some x → owns x pool k → OwnedBy owns pool xs k
+  pub nth_owned : (pool : Contents) (x : X) (i : ℕ) (xs : List X) (k : ℕ) → slice_get xs i ≡ Some x → owns x pool k → OwnedBy owns pool xs k
   nth_owned pool x i [] k at own = none_some x at
   nth_owned pool x zero (z ∷ xs) k at own = inl (subst (λ z. owns z pool k) (sym (some_is z x at)) own)
   nth_owned pool x (suc i) (z ∷ xs) k at own = inr (nth_owned pool x i xs k at own)
