@@ -18,7 +18,7 @@ none_used pool n fresh = ap (sum_by cells_of) fresh ∙ all_none n
     all_none zero = refl
     all_none (suc n) = let e = sum_by-cons cells_of None (replicate n None) in let h = all_none n in omega (arith, e, h)
 
-filled_none : (fill : Row) (store : Store) → filled fill store ≡ [] → store ≡ []
+pub filled_none : (fill : Row) (store : Store) → filled fill store ≡ [] → store ≡ []
 filled_none fill [] none = none
 filled_none fill (r ∷ store) none = cc
 

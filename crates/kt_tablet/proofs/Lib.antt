@@ -15,3 +15,5 @@ pub mod Places
 pub mod Snaps
 pub mod Merged
 pub mod Scans
+pub mod Outputs
+pub mod Frozen

@@ -33,12 +33,12 @@ last_allowed work st [] e h = h.0
 last_allowed work st (x ∷ es) e h = last_allowed work (after work st x) es e h.1
 
 -- a line changes nothing of it
-pub told_on : {C : Type 0} (readings : C → Option (List ℕ)) (view : View C) (clock : C) (names : List Target) (notes : List (List CommitRow)) (places : List (ℕ × ℕ)) (pool : Contents) (trail : List Event) (a c : ℕ) (aloft : List Aloft) (turns : List Turn) (stopped : Bool) (stores : List Store) (e : Event) (flights : List FlyingWrite)
+pub told_on : {C : Type 0} (readings : C → Option (List ℕ)) (view : View C) (clock : C) (names : List Target) (notes : List (List CommitRow)) (places : List (ℕ × ℕ)) (pool : Contents) (frozen : ℕ) (trail : List Event) (a c : ℕ) (aloft : List Aloft) (turns : List Turn) (stopped : Bool) (stores : List Store) (e : Event) (flights : List FlyingWrite)
     → IsSound readings view
-    → IsSound readings (record view { core = record view.core { trail = trail; a = a; c = c; aloft = aloft; turns = turns; stopped = stopped; stores = stores }; clock = clock; names = names; notes = notes; places = places; pool = pool })
+    → IsSound readings (record view { core = record view.core { trail = trail; a = a; c = c; aloft = aloft; turns = turns; stopped = stopped; stores = stores }; clock = clock; names = names; notes = notes; places = places; pool = pool; frozen = frozen })
     → map aloft_of flights ≡ view.core.aloft → trail ≡ view.core.trail ++ e ∷ []
     → AreTold view.core.work view.opening view.mark view.core.opened view.core.trail flights → AreTold view.core.work view.opening view.mark view.core.opened trail flights
-told_on readings view clock names notes places pool trail a c aloft turns stopped stores e flights sound next flies lines told = λ first opens.
+told_on readings view clock names notes places pool frozen trail a c aloft turns stopped stores e flights sound next flies lines told = λ first opens.
     let begins = start view.core.work first view.core.opened in
     let before = state_after view.core.work begins view.core.trail in
     let st = sound.stands first opens in

@@ -8,3 +8,4 @@ pub mod Snaps
 pub mod SnapLaws
 pub mod Copies
 pub mod Reads
+pub mod Jobs

@@ -26,7 +26,7 @@ use Rattle.kt_tablet.specs.Rows.{AreNoted, OneOfEach}
 
 -- what a clause sees of a tablet: the engine, whose first past is left open; its clock, now and at opening; the stores and the
 -- mark that opening found; the names of the stores; what each flying write has written for the log so far; where the REPLICATE of each stands;
--- and the pool of the stores
+-- the pool of the stores; and how many MemRowSets are frozen, which stand behind the first store
 pub record View (C : Type 0) : Type 0 where
   pub core : Core
   pub clock : C
@@ -37,6 +37,7 @@ pub record View (C : Type 0) : Type 0 where
   pub notes : List (List CommitRow)
   pub places : List (ℕ × ℕ)
   pub pool : Contents
+  pub frozen : ℕ
 
 abbrev pub empty : Past
 empty = record { mark = 0; base = []; writes = [] }

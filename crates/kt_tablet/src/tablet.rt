@@ -1,4 +1,5 @@
 //! The tablet and its events.
+pub mod job;
 pub mod opening;
 pub mod rows;
 pub mod scan;
@@ -87,6 +88,7 @@ impl<R: RowStore, C: Clock> Model for Tablet<R, C> {
       notes = map rows_of e.flights.items;
       places = map placed_of e.flights.items;
       pool = e.stores.pool;
+      frozen = e.stores.frozen;
     } };
 
     ghost invariant = { λ e. IsSound C.readings (record {
@@ -110,6 +112,7 @@ impl<R: RowStore, C: Clock> Model for Tablet<R, C> {
       notes = map rows_of e.flights.items;
       places = map placed_of e.flights.items;
       pool = e.stores.pool;
+      frozen = e.stores.frozen;
     }) × IsReady e.fill e.stopped e.flights.items e.flight.flying (vec_len e.trail) (vec_capacity e.trail) e.stores.pool × AreTold (work_of e.schema.value e.plan.value e.cells e.fill) (told_stores e.fill e.opening.value) e.mark e.last e.trail.items e.flights.items × AreWritten (names_of e.stores.shelf) e.flights.items };
 }
 
@@ -174,6 +177,7 @@ impl<R: RowStore, C: Clock> Tablet<R, C> {
         ensures notes { IfOk result (λ tablet. tablet.notes ≡ []) }
         ensures places { IfOk result (λ tablet. tablet.places ≡ []) }
         ensures pool { IfOk result (λ tablet. tablet.pool ≡ stores.pool) }
+        ensures frozen { IfOk result (λ tablet. tablet.frozen ≡ stores.frozen) }
         ensures stores { IfOk result (λ tablet. tablet.core.stores ≡ tablet.opening) }
         ensures back { IfErr result (λ e. (e.0 ≡ stores) × (e.1 ≡ clock)) }
     {

@@ -99,7 +99,7 @@ invariant_of-self g c =
     let flies = aloft_set c.self.inside.flights.items c.place_of-place.result c.index_mut.result.now c.note.new.write a.here (ap aloft_of c.note.ensures.write) in
     let r = c.apply_op-row.ensures.row in
     let low : place_of op.key old < length (all_told fill memory old) = subst (λ n. place_of op.key old < n) (sym (length-told fill memory old)) c.apply_op-row.ensures.bound in (
-      apply_sound g.C.Clock.readings _ c.place_of-place.result (place_of op.key old) ts op _ _ _ _ _ _ c.self.invariant.0 next flies low
+      apply_sound g.C.Clock.readings _ c.place_of-place.result (place_of op.key old) ts op _ _ _ _ _ _ _ c.self.invariant.0 next flies low
           (alone_next g.C.Clock.readings _ c.place_of-place.result ts op fill memory old c.self.invariant.0 refl next c.apply_op-row.ensures.bound)
           (λ first opens. ap (λ k. all_told fill (suc k) (stores_of c.apply_op-row.new.stores)) c.apply_op-row.ensures.frozen
           ∙ stores_applied fill memory op ts (place_of op.key old) old (stores_of c.apply_op-row.new.stores) (is_some (last_live op.key old)) (zero-lt-suc c.self.inside.stores.frozen) refl (under first opens) refl changed),
@@ -150,8 +150,8 @@ returns-clause-run g c =
     (λ first opens. c.note.ensures.outcome ∙ c.apply_op-row.ensures.outcome ∙ outcome_several fill memory op ts old (under first opens))
 
 pub returns-clause-beside : goal.returns-clause-beside
-returns-clause-beside g c = applied_beside _ _ _ _ _ _ _ c.self.view_is c.apply_op-row.ensures.names
-    (places_set c.self.inside.flights.items c.place_of-place.result c.index_mut.result.now c.note.new.write c.index_mut.ensures.value (ap placed_of c.note.ensures.write))
+returns-clause-beside g c = applied_beside _ _ _ _ _ _ _ _ c.self.view_is c.apply_op-row.ensures.names
+    (places_set c.self.inside.flights.items c.place_of-place.result c.index_mut.result.now c.note.new.write c.index_mut.ensures.value (ap placed_of c.note.ensures.write)) c.apply_op-row.ensures.frozen
 
 pub returns-clause-noted : goal.returns-clause-noted
 returns-clause-noted g c =

@@ -34,7 +34,7 @@ invariant_of-self-2 g c =
     let keeps = write_keeps c.self.invariant.0 c.args.number c.args.index c.replace-ops.result.ops may.may.write in
     let room : vec_len c.push_reserved.new.self + length c.self.inside.flights.items + 2 ≤ vec_capacity c.push_reserved.new.self = search rules in
     let lines = one_line _ _ _ _ c.push_reserved.ensures.items c.make_room.ensures.lines in
-    let sound = begin_sound g.C.Clock.readings _ c.now-reading.new.self c.args.number c.args.index c.begin_free-ts.result c.now-reading.result c.replace-ops.result.ops (need c.replace-ops.result.ops) _ _ _ _ _ _ _ _ _
+    let sound = begin_sound g.C.Clock.readings _ c.now-reading.new.self c.args.number c.args.index c.begin_free-ts.result c.now-reading.result c.replace-ops.result.ops (need c.replace-ops.result.ops) _ _ _ _ _ _ _ _ _ _
     c.self.invariant.0
     (ap (λ v. told_stores c.self.inside.fill v) promised)
     may
@@ -60,7 +60,7 @@ invariant_of-self-2 g c =
           (c.begin_free-ts.ensures.flying ∙ (λ k. (c.make_room.ensures.flight k).flying ++ record { who = c.args.number; ts = c.begin_free-ts.result; keys = c.replace-ops.result.keyed k } ∷ []))
           may.cells (ap (λ v. v.pool) promised) room,
       told_begun (work_of c.self.inside.schema.value c.self.inside.plan.value c.self.inside.cells c.self.inside.fill) _ _ _ c.push_reserved.new.self.items _ _ _ _
-          (told_on g.C.Clock.readings _ _ _ _ _ _ _ _ _ _ _ _ _ _ _ c.self.invariant.0 sound refl lines c.self.invariant.2)
+          (told_on g.C.Clock.readings _ _ _ _ _ _ _ _ _ _ _ _ _ _ _ _ c.self.invariant.0 sound refl lines c.self.invariant.2)
           c.push_reserved-2.ensures.items c.make_room.ensures.flights refl c.replace-ops.result.empty.0,
       written_begun (names_of c.self.inside.stores.shelf) _ c.self.inside.flights.items _ _ _ c.self.invariant.3 c.push_reserved-2.ensures.items c.make_room.ensures.flights refl c.replace-ops.result.empty.0 c.replace-ops.result.empty.1 (ap (λ v. names_of v.shelf) promised),
     )
@@ -88,7 +88,7 @@ begin_free-ts-requires-clause-free g c =
 pub returns-clause-beside : goal.returns-clause-beside
 returns-clause-beside g c =
     let promised : c.reserve.new.self ≡ record c.self.inside.stores { pool = with_reserved c.self.inside.stores.pool (c.self.inside.stores.pool.reserved + need c.replace-ops.result.ops) } = search rules in
-    beside_names _ _ _ _ _ _ _ _ c.self.view_is (ap (λ v. names_of v.shelf) promised)
+    beside_names _ _ _ _ _ _ _ _ _ c.self.view_is (ap (λ v. names_of v.shelf) promised) (ap (λ v. v.frozen) promised)
 
 pub returns-clause-noted : goal.returns-clause-noted
 returns-clause-noted g c = one_note _ _ c.self.inside.flights.items _ c.push_reserved-2.ensures.items c.make_room.ensures.flights c.replace-ops.result.empty.1 ∙ ap (λ v. v.notes ++ [] ∷ []) c.self.view_is

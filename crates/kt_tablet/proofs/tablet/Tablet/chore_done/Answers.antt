@@ -28,7 +28,7 @@ invariant_of-self-2 g c =
     c.set.ensures in (
       sound,
       ready_line _ _ _ _ _ _ _ _ _ _ c.self.invariant.1 refl room,
-      told_on g.C.Clock.readings _ _ _ _ _ _ _ _ _ _ _ _ _ _ _ c.self.invariant.0 sound refl lines c.self.invariant.2,
+      told_on g.C.Clock.readings _ _ _ _ _ _ _ _ _ _ _ _ _ _ _ _ c.self.invariant.0 sound refl lines c.self.invariant.2,
       c.self.invariant.3,
     )
 

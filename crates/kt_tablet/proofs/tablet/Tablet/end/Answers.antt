@@ -56,7 +56,7 @@ invariant_of-self g c =
       sound,
       ready_ended c.args.number c.remove-write.result.index c.remove-write.result.ts _ _ _ _ _ _ _ _ _ _ _ c.self.invariant.1 c.if-self.false ends.over (flies_so c.args.number c.remove-write.result.index c.remove-write.result.ts _ (aloft_of c.remove-write.result) ends.flies refl refl)
           filtered c.take-keys.ensures.flying c.push_reserved.ensures.len c.push_reserved.ensures.capacity,
-      told_ended (work_of c.self.inside.schema.value c.self.inside.plan.value c.self.inside.cells c.self.inside.fill) _ _ _ c.push_reserved.new.self.items _ _ _ (told_on g.C.Clock.readings _ _ _ _ _ _ _ _ _ _ _ _ _ _ c.self.inside.flights.items c.self.invariant.0 sound refl lines c.self.invariant.2) filtered,
+      told_ended (work_of c.self.inside.schema.value c.self.inside.plan.value c.self.inside.cells c.self.inside.fill) _ _ _ c.push_reserved.new.self.items _ _ _ (told_on g.C.Clock.readings _ _ _ _ _ _ _ _ _ _ _ _ _ _ _ c.self.inside.flights.items c.self.invariant.0 sound refl lines c.self.invariant.2) filtered,
       written_ended (names_of c.self.inside.stores.shelf) _ _ _ c.self.invariant.3 filtered,
     )
 

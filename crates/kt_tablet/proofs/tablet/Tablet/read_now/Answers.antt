@@ -22,6 +22,6 @@ invariant_of-self-2 g c =
     (ap (λ f. f.a) c.raise.ensures) (ap (λ f. f.c) c.raise.ensures) c.set.ensures in (
       sound,
       ready_line _ _ _ _ _ _ _ _ _ _ c.self.invariant.1 (ap (λ f. f.flying) c.raise.ensures) room,
-      told_on g.C.Clock.readings _ _ _ _ _ _ _ _ _ _ _ _ _ _ _ c.self.invariant.0 sound refl lines c.self.invariant.2,
+      told_on g.C.Clock.readings _ _ _ _ _ _ _ _ _ _ _ _ _ _ _ _ c.self.invariant.0 sound refl lines c.self.invariant.2,
       c.self.invariant.3,
     )

@@ -9,6 +9,6 @@ invariant_of-self g c =
     let sound = stop_sound g.C.Clock.readings _ _ c.self.invariant.0 c.if-self.false lines in (
       sound,
       ready_stopped _ _ _ _ _ _ _ _ _ c.self.invariant.1,
-      told_on g.C.Clock.readings _ _ _ _ _ _ _ _ _ _ _ _ _ _ _ c.self.invariant.0 sound refl lines c.self.invariant.2,
+      told_on g.C.Clock.readings _ _ _ _ _ _ _ _ _ _ _ _ _ _ _ _ c.self.invariant.0 sound refl lines c.self.invariant.2,
       c.self.invariant.3,
     )

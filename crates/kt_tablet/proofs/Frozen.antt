@@ -1,0 +1,168 @@
+-- A flush freezes the store that takes inserts, and in the end others stand in place of the frozen ones.
+use Rattle.std.proofs.Common.{◌≡◌, ◌+◌, ◌-◌, ℕ, zero, suc, List, [], ◌∷◌, ◌++◌, map, drop, length, Some, Option, refl, sym, ap, subst, ◌∙◌, arith}
+use Rattle.std.specs.Prelude.{◌↔◌, slice_get}
+use Rattle.std.proofs.lemmas.List.{map-append}
+use Rattle.kt_history.specs.declared.change.Outcome.{Outcome}
+use Rattle.kt_history.specs.declared.target.Target.{Target}
+use Rattle.kt_history.specs.declared.target.Target.TheVariants.{Mem}
+use Rattle.kt_history.specs.Rows.{Row}
+use Rattle.kt_history.specs.Stores.{Store, Hist}
+use Rattle.kt_histlaws.specs.Core.{Core, Stands}
+use Rattle.kt_histlaws.specs.Fitting.{AreSound}
+use Rattle.kt_histlaws.specs.Histories.{hists, ShowsKey}
+use Rattle.kt_pool.specs.Contents.{Contents}
+use Rattle.kt_records.specs.declared.entry.CommitRow.{CommitRow}
+use Rattle.kt_stores.specs.Shelf.{Shelved, name_at, names_of, frozen_behind, with_outputs}
+use Rattle.kt_stores.specs.Shelf as shelf
+use Rattle.kt_tablet.specs.declared.tablet.FlyingWrite.{FlyingWrite}
+use Rattle.kt_tablet.specs.Filling.{filled, all_told}
+use Rattle.kt_tablet.specs.Jobs.{rows_in_first, over_to, HasFrozen, MayChangeOver, HasChangedOver}
+use Rattle.kt_tablet.specs.Rows.{IsRecorded, AreRecorded, AreWritten}
+use Rattle.kt_tablet.specs.Views.{View, IsSound}
+use Rattle.kt_tablet.proofs.Exact.{filled_none}
+use Rattle.kt_tablet.proofs.Outputs.{over_shows, over_sound, vacant_shows, vacant_sound}
+
+-- ---- stores as they are told
+
+pred : (n : ℕ) → suc n - 1 ≡ n
+pred n = omega arith
+
+as_they_are : (fill : Row) (stores : List Store) → all_told fill 0 stores ≡ stores
+as_they_are fill [] = refl
+as_they_are fill (s ∷ stores) = ap (λ l. s ∷ l) (as_they_are fill stores)
+
+drop_told : (fill : Row) (n : ℕ) (stores : List Store) → drop n (all_told fill n stores) ≡ drop n stores
+drop_told fill zero stores = as_they_are fill stores
+drop_told fill (suc n) [] = refl
+drop_told fill (suc n) (s ∷ stores) = ap (λ m. drop n (all_told fill m stores)) (pred n) ∙ drop_told fill n stores
+
+drop_mapped : {A B : Type 0} (f : A → B) (n : ℕ) (xs : List A) → map f (drop n xs) ≡ drop n (map f xs)
+drop_mapped f zero xs = refl
+drop_mapped f (suc n) [] = refl
+drop_mapped f (suc n) (x ∷ xs) = drop_mapped f n xs
+
+-- an empty store in front
+pub told_frozen : (fill : Row) (memory number : ℕ) (name : Target) (stores : List Shelved) → name_at 0 stores ≡ Some name
+    → all_told fill (suc (memory + 1)) (map (λ (s : Shelved). s.store) (frozen_behind number stores)) ≡ [] ∷ all_told fill (suc memory) (map (λ (s : Shelved). s.store) stores)
+told_frozen fill memory number name [] e = absurd (cc)
+told_frozen fill memory number name (s ∷ stores) e =
+    let same : suc (memory + 1) - 1 ≡ suc memory = omega arith in
+    ap (λ m. [] ∷ all_told fill m (s.store ∷ map (λ (s : Shelved). s.store) stores)) same
+
+pub names_frozen : (number : ℕ) (name : Target) (stores : List Shelved) → name_at 0 stores ≡ Some name → names_of (frozen_behind number stores) ≡ Mem number ∷ names_of stores
+names_frozen number name [] e = absurd (cc)
+names_frozen number name (s ∷ stores) e = refl
+
+-- others in place of the frozen ones
+pub told_over : (fill : Row) (n : ℕ) (outputs stores : List Shelved)
+    → all_told fill 1 (map (λ (s : Shelved). s.store) (with_outputs n outputs stores)) ≡ over_to n (map (λ (s : Shelved). s.store) outputs) (all_told fill (suc n) (map (λ (s : Shelved). s.store) stores))
+told_over fill n outputs [] = refl
+told_over fill n outputs (s ∷ stores) =
+    ap (λ l. filled fill s.store ∷ l) (as_they_are fill (map (λ (s : Shelved). s.store) (outputs ++ drop n stores)) ∙ map-append (λ (s : Shelved). s.store) outputs (drop n stores)
+    ∙ ap (λ l. map (λ (s : Shelved). s.store) outputs ++ l) (drop_mapped (λ (s : Shelved). s.store) n stores ∙ sym (drop_told fill n (map (λ (s : Shelved). s.store) stores))
+    ∙ ap (λ m. drop n (all_told fill m (map (λ (s : Shelved). s.store) stores))) (sym (pred n))))
+
+pub names_over : (n : ℕ) (outputs stores : List Shelved) → names_of (with_outputs n outputs stores) ≡ over_to n (names_of outputs) (names_of stores)
+names_over n outputs [] = refl
+names_over n outputs (s ∷ stores) =
+    ap (λ l. s.name ∷ l) (map-append (λ (s : Shelved). s.name) outputs (drop n stores) ∙ ap (λ l. names_of outputs ++ l) (drop_mapped (λ (s : Shelved). s.name) n stores))
+
+pub mapped : {R A B : Type 0} (f : A → B) (g : R → A) (xs : List R) → map f (map g xs) ≡ map (λ x. f (g x)) xs
+mapped f g [] = refl
+mapped f g (x ∷ xs) = ap (λ l. f (g x) ∷ l) (mapped f g xs)
+
+-- the first store has a row where it has one as it is told
+pub vacant_told : (fill : Row) (memory : ℕ) (stores : List Shelved) → (shelf.rows_in_first stores ≡ []) ↔ (rows_in_first (all_told fill (suc memory) (map (λ (s : Shelved). s.store) stores)) ≡ [])
+vacant_told fill memory [] = ((λ e. refl), (λ e. refl))
+vacant_told fill memory (s ∷ stores) = ((λ e. ap (filled fill) e), (λ e. filled_none fill s.store e))
+
+pub name_there : (i : ℕ) (stores : List Shelved) → slice_get (names_of stores) i ≡ name_at i stores
+name_there i [] = refl
+name_there zero (s ∷ stores) = refl
+name_there (suc i) (s ∷ stores) = name_there i stores
+
+-- ---- what a tablet keeps
+
+with_stores : (core : Core) (stores : List Store) → ((q : List ℕ) (whole : Hist) → ShowsKey core.a (hists q core.stores) whole → ShowsKey core.a (hists q stores) whole)
+    → ((q : List ℕ) → AreSound core.a (hists q core.stores) → AreSound core.a (hists q stores)) → Stands core → Stands (record core { stores = stores })
+with_stores core stores shows sound st = record {
+  past = st.past;
+  run = record { is_run = st.run.is_run; state = st.run.state };
+  stores = record { same = λ q. shows q _ (st.stores.same q); sound = λ q. sound q (st.stores.sound q) };
+  flown = record { ends = st.flown.ends; fly = st.flown.fly; disjoint = st.flown.disjoint; marked = st.flown.marked };
+  planned = st.planned;
+}
+
+pub frozen_sound : {C : Type 0} (readings : C → Option (List ℕ)) (view : View C) (stores : List Store) (names : List Target) (pool : Contents) (frozen : ℕ) → IsSound readings view → stores ≡ [] ∷ view.core.stores
+    → IsSound readings (record view { core = record view.core { stores = stores }; names = names; pool = pool; frozen = frozen })
+frozen_sound readings view stores names pool frozen sound is = record {
+  stands = λ first opens. subst (λ l. Stands (record view.core { first = first; stores = l })) (sym is)
+      (with_stores (record view.core { first = first }) ([] ∷ view.core.stores) (λ q whole s. vacant_shows view.core.a (hists q view.core.stores) whole s) (λ q s. vacant_sound view.core.a (hists q view.core.stores) s) (sound.stands first opens));
+  clock = sound.clock;
+  plan = sound.plan;
+}
+
+pub changed_sound : {C : Type 0} (readings : C → Option (List ℕ)) (view : View C) (stores outputs : List Store) (names : List Target) (pool : Contents) (frozen : ℕ) → IsSound readings view → MayChangeOver view outputs → stores ≡ over_to view.frozen outputs view.core.stores
+    → IsSound readings (record view { core = record view.core { stores = stores }; names = names; pool = pool; frozen = frozen })
+changed_sound readings view stores outputs names pool frozen sound may is = record {
+  stands = λ first opens. subst (λ l. Stands (record view.core { first = first; stores = l })) (sym is)
+      (with_stores (record view.core { first = first }) (over_to view.frozen outputs view.core.stores)
+      (λ q whole s. over_shows view.core.a q view.frozen outputs view.core.stores whole (may.alike first opens q) s)
+      (λ q s. over_sound view.core.a q view.frozen outputs view.core.stores (may.sound first opens q) s) (sound.stands first opens));
+  clock = sound.clock;
+  plan = sound.plan;
+}
+
+-- what was written of names that are still there
+recorded_still : (name : Target) (names : List Target) (os : List Outcome) (rows : List CommitRow) → AreRecorded names os rows → AreRecorded (name ∷ names) os rows
+recorded_still name names [] [] h = tt
+recorded_still name names [] (r ∷ rows) h = absurd h
+recorded_still name names (o ∷ os) [] h = absurd h
+recorded_still name names (o ∷ os) (r ∷ rows) h = (one h.0, recorded_still name names os rows h.1)
+  where
+    one : IsRecorded names o r → IsRecorded (name ∷ names) o r
+    one is = (is.0, (suc is.1.0, (let low = is.1.1 in omega arith), is.1.2), is.2)
+
+written_still : (name : Target) (names : List Target) (flights : List FlyingWrite) → AreWritten names flights → AreWritten (name ∷ names) flights
+written_still name names [] h = tt
+written_still name names (w ∷ flights) h = (record { few = h.0.few; rows = recorded_still name names w.outcomes.items w.rows.items h.0.rows }, written_still name names flights h.1)
+
+pub written_frozen : (name : Target) (names new : List Target) (flights : List FlyingWrite) → new ≡ name ∷ names → AreWritten names flights → AreWritten new flights
+written_frozen name names new flights is h = subst (λ ns. AreWritten ns flights) (sym is) (written_still name names flights h)
+
+-- ---- as a tablet is seen
+
+pub told_length : (fill : Row) (memory : ℕ) (stores : List Shelved) → length (all_told fill memory (map (λ (s : Shelved). s.store) stores)) ≡ length stores
+told_length fill memory [] = refl
+told_length fill memory (s ∷ stores) = ap suc (told_length fill (memory - 1) stores)
+
+pub first_named : (name : Target) (stores : List Shelved) → name_at 0 stores ≡ Some name → names_of stores ≡ name ∷ drop 1 (names_of stores)
+first_named name [] e = absurd (cc)
+first_named name (s ∷ stores) e = let same : s.name ≡ name = cc in ap (λ n. n ∷ names_of stores) same
+
+pub has_frozen : {C : Type 0} (view old : View C) (stores : List Store) (names others : List Target) (pool : Contents) (frozen number : ℕ) → view ≡ old → stores ≡ [] ∷ view.core.stores → names ≡ Mem (number + 1) ∷ view.names
+    → pool ≡ view.pool → frozen ≡ view.frozen + 1 → view.names ≡ Mem number ∷ others → HasFrozen old (record view { core = record view.core { stores = stores }; names = names; pool = pool; frozen = frozen })
+has_frozen view old stores names others pool frozen number e s n p f named = subst (λ v. HasFrozen v (record view { core = record view.core { stores = stores }; names = names; pool = pool; frozen = frozen })) e (record {
+  number = number;
+  others = others;
+  was = named;
+  is = λ k. record view { core = record view.core { stores = s k }; names = n k; pool = p k; frozen = f k };
+})
+
+pub has_changed_over : {C : Type 0} (view old : View C) (stores outputs : List Store) (names targets : List Target) (pool : Contents) (frozen : ℕ) → view ≡ old → stores ≡ over_to view.frozen outputs view.core.stores → names ≡ over_to view.frozen targets view.names
+    → frozen ≡ 0 → HasChangedOver old (record view { core = record view.core { stores = stores }; names = names; pool = pool; frozen = frozen }) outputs targets
+has_changed_over view old stores outputs names targets pool frozen e s n f = subst (λ v. HasChangedOver v (record view { core = record view.core { stores = stores }; names = names; pool = pool; frozen = frozen }) outputs targets) e (record {
+  stores = λ k. record view.core { stores = s k };
+  names_are = n;
+  frozen = f;
+  beside = λ k. record view { core = record view.core { stores = stores }; names = names; pool = pool; frozen = f k };
+})
+
+-- where the stores are the same
+pub still_sound : {C : Type 0} (readings : C → Option (List ℕ)) (view : View C) (stores : List Store) (names : List Target) (pool : Contents) (frozen : ℕ) → IsSound readings view → stores ≡ view.core.stores
+    → IsSound readings (record view { core = record view.core { stores = stores }; names = names; pool = pool; frozen = frozen })
+still_sound readings view stores names pool frozen sound same = record {
+  stands = λ first opens. subst (λ l. Stands (record view.core { first = first; stores = l })) (sym same) (sound.stands first opens);
+  clock = sound.clock;
+  plan = sound.plan;
+}

@@ -1,0 +1,46 @@
+-- What a flush does to a tablet.
+use Rattle.std.specs.Prelude.{◌≡◌, ◌+◌, ℕ, List, [], ◌∷◌, ◌++◌, take, drop}
+use Rattle.kt_history.specs.declared.target.Target.{Target}
+use Rattle.kt_history.specs.declared.target.Target.TheVariants.{Mem}
+use Rattle.kt_history.specs.History.{Past}
+use Rattle.kt_history.specs.Stores.{Store}
+use Rattle.kt_histlaws.specs.Fitting.{AreSound}
+use Rattle.kt_histlaws.specs.Histories.{hists}
+use Rattle.kt_histlaws.specs.Jobs.{AreAlike}
+use Rattle.kt_tablet.specs.Views.{View, Opens}
+
+-- what the frozen MemRowSets hold, the newest first, and their names
+abbrev pub frozen_stores : {C : Type 0} → View C → List Store
+frozen_stores v = take v.frozen (drop 1 v.core.stores)
+
+abbrev pub frozen_names : {C : Type 0} → View C → List Target
+frozen_names v = take v.frozen (drop 1 v.names)
+
+-- what the store that takes inserts holds
+abbrev pub rows_in_first : List Store → Store
+rows_in_first [] = []
+rows_in_first (store ∷ stores) = store
+
+-- The store that takes inserts is frozen, and an empty one of the next number takes its place.
+pub record HasFrozen {C : Type 0} (old new : View C) : Type 0 where
+  pub number : ℕ
+  pub others : List Target
+  pub was : old.names ≡ Mem number ∷ others
+  pub is : new ≡ record old { core = record old.core { stores = [] ∷ old.core.stores }; names = Mem (number + 1) ∷ old.names; frozen = old.frozen + 1 }
+
+-- first the store that takes inserts, then these, and the disk rowsets that were there
+abbrev pub over_to : {A : Type 0} → ℕ → List A → List A → List A
+over_to n outputs [] = []
+over_to n outputs (x ∷ xs) = x ∷ outputs ++ drop n xs
+
+-- The outputs show from the mark on what the frozen MemRowSets show, for each past that opening found
+pub record MayChangeOver {C : Type 0} (v : View C) (outputs : List Store) : Type 0 where
+  pub alike : (first : Past) → Opens v.opening v.mark v.core.opened first → (q : List ℕ) → AreAlike v.core.a (hists q (frozen_stores v)) (hists q outputs)
+  pub sound : (first : Past) → Opens v.opening v.mark v.core.opened first → (q : List ℕ) → AreSound v.core.a (hists q outputs)
+
+-- They have taken the place of these.
+pub record HasChangedOver {C : Type 0} (old new : View C) (outputs : List Store) (names : List Target) : Type 0 where
+  pub stores : new.core ≡ record old.core { stores = over_to old.frozen outputs old.core.stores }
+  pub names_are : new.names ≡ over_to old.frozen names old.names
+  pub frozen : new.frozen ≡ 0
+  pub beside : new ≡ record old { core = new.core; names = new.names; frozen = 0; pool = new.pool }
