@@ -21,7 +21,7 @@ use Rattle.kt_files.specs.Laws.{files_hold_one}
 two_oks : {A E : Type 0} (x : Result A E) (a b : A) → x ≡ Ok a → x ≡ Ok b → a ≡ b
 two_oks x a b e f = cc
 
-base_one : (files : Files) (f : FileRef) (a b : ℕ × ℕ × BaseValue) → HoldsBase files f a → HoldsBase files f b → a ≡ b
+pub base_one : (files : Files) (f : FileRef) (a b : ℕ × ℕ × BaseValue) → HoldsBase files f a → HoldsBase files f b → a ≡ b
 base_one files f a b g h =
     let same = base_is a.2.schema b.2.schema a.2.rows b.2.rows (bytes_of files f) g.spelled h.spelled in
     λ k. ((g.file ∙ sym h.file) k, (g.len ∙ sym h.len) k, record { schema = same.0 k; rows = same.1 k })

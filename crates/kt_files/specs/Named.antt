@@ -12,6 +12,10 @@ abbrev pub named_in : List MetaRowset → List ℕ
 named_in [] = []
 named_in (r ∷ rowsets) = named_by r ++ named_in rowsets
 
+-- an image has these files as others have them
+abbrev pub HasNamed : List MetaRowset → Files → Files → Type 0
+HasNamed rowsets files c = (n : ℕ) → has (named_in rowsets) n ≡ true → c n ≡ files n
+
 -- whether a file is a slot of the superblock, or one of these
 abbrev pub is_kept : List ℕ → ℕ → Bool
 is_kept named n = (n == 1) || ((n == 2) || has named n)
