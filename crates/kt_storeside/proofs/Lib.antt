@@ -2,3 +2,6 @@ pub mod Named
 pub mod Standing
 pub mod Sides
 pub mod Gates
+pub mod NextMeta
+pub mod Turning
+pub mod Fresh

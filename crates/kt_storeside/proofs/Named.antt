@@ -8,7 +8,8 @@ use Rattle.kt_super.specs.declared.meta.FileRef.{FileRef}
 use Rattle.kt_super.specs.declared.meta.MetaRowset.{MetaRowset}
 use Rattle.kt_super.specs.declared.meta.Meta.{Meta}
 use Rattle.kt_super.specs.Body.{IsMeta}
-use Rattle.kt_super.specs.Rowsets.{has, numbers_of, IsFile, AreFiles, taken_by, taken_after, AreRowsets}
+use Rattle.kt_super.specs.Rowsets.{has, numbers_of, IsFile, AreFiles, IsRowset, taken_by, AreRowsets}
+use Rattle.kt_files.specs.Named.{named_by, named_in}
 use Rattle.kt_storeside.specs.Supers.{named}
 
 pub record Between (next n : ℕ) : Type 0 where
@@ -40,28 +41,24 @@ files_between next taken (f ∷ files) n are e = elim (or_true (eqb f.file n) (h
   | inr behind ↦ files_between next (taken ++ f.file ∷ []) files n are.1 behind
 ]
 
-rowsets_between : (next_rowset next least : ℕ) (taken : List ℕ) (rowsets : List MetaRowset) (n : ℕ) → AreRowsets next_rowset next least taken rowsets → has (taken_after taken rowsets) n ≡ true
-    → (has taken n ≡ true) ⊎ Between next n
-rowsets_between next_rowset next least taken [] n are e = inl e
-rowsets_between next_rowset next least taken (r ∷ rowsets) n are e = elim (rowsets_between next_rowset next (r.rowset + 1) (taken_by taken r) rowsets n are.1 e) [
-  | inr between ↦ inr between
-  | inl by ↦ elim (has_either _ (numbers_of r.redo) n by) [
-    | inr redo ↦ inr (files_between next (taken ++ r.base.file ∷ [] ++ numbers_of r.undo) r.redo n are.0.redo redo)
-    | inl front ↦ elim (has_either _ (numbers_of r.undo) n front) [
-      | inr undo ↦ inr (files_between next (taken ++ r.base.file ∷ []) r.undo n are.0.undo undo)
-      | inl first ↦ elim (has_either taken (r.base.file ∷ []) n first) [
-        | inl before ↦ inl before
-        | inr base ↦ inr (elim (or_true (eqb r.base.file n) false base) [ inl is ↦ file_between next taken r.base n are.0.base is | inr none ↦ absurd cc ])
-      ]
-    ]
+rowset_between : (next_rowset next least : ℕ) (taken : List ℕ) (r : MetaRowset) (n : ℕ) → IsRowset next_rowset next least taken r → has (named_by r) n ≡ true → Between next n
+rowset_between next_rowset next least taken r n is e = elim (or_true (eqb r.base.file n) (has (numbers_of r.undo ++ numbers_of r.redo) n) e) [
+  | inl base ↦ file_between next taken r.base n is.base base
+  | inr behind ↦ elim (has_either (numbers_of r.undo) (numbers_of r.redo) n behind) [
+    | inl undo ↦ files_between next (taken ++ r.base.file ∷ []) r.undo n is.undo undo
+    | inr redo ↦ files_between next (taken ++ r.base.file ∷ [] ++ numbers_of r.undo) r.redo n is.redo redo
   ]
 ]
 
-pub named_between : (m : Meta) (n : ℕ) → IsMeta m → has (named m) n ≡ true → Between m.next_file n
-named_between m n rules e = elim (rowsets_between m.next_rowset m.next_file 0 [] m.rowsets n rules.rowsets e) [
-  | inl none ↦ absurd cc
-  | inr between ↦ between
+rowsets_between : (next_rowset next least : ℕ) (taken : List ℕ) (rowsets : List MetaRowset) (n : ℕ) → AreRowsets next_rowset next least taken rowsets → has (named_in rowsets) n ≡ true → Between next n
+rowsets_between next_rowset next least taken [] n are e = absurd cc
+rowsets_between next_rowset next least taken (r ∷ rowsets) n are e = elim (has_either (named_by r) (named_in rowsets) n e) [
+  | inl own ↦ rowset_between next_rowset next least taken r n are.0 own
+  | inr rest ↦ rowsets_between next_rowset next (r.rowset + 1) (taken_by taken r) rowsets n are.1 rest
 ]
+
+pub named_between : (m : Meta) (n : ℕ) → IsMeta m → has (named m) n ≡ true → Between m.next_file n
+named_between m n rules e = rowsets_between m.next_rowset m.next_file 0 [] m.rowsets n rules.rowsets e
 
 pub first_file : (m : Meta) → IsMeta m → 3 ≤ m.next_file
 first_file m rules = leb-true 3 m.next_file (both_true (leb 3 m.next_file) _ rules.next_file).0

@@ -1,3 +1,4 @@
 pub mod Supers
 pub mod Turns
 pub mod Sides
+pub mod Next

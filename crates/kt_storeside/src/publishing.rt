@@ -5,6 +5,7 @@ ghost use Rattle.kt_disk.specs.Disk.{LeavesOnly};
 ghost use Rattle.kt_super.specs.Body.{IsMeta};
 ghost use Rattle.kt_super.specs.Slots.{super_of, AreStable};
 ghost use Rattle.kt_storeside.specs.Supers.{BetweenBoth};
+ghost use Rattle.kt_storeside.specs.Turns.{IsTurn, HasOneOf};
 
 use kt_disk::Disk;
 use kt_super::{Meta, PrepareNo, open_gate, prepare};
@@ -21,6 +22,10 @@ pub fn publish<D: Disk>(alloc: Global, disk: &mut D, meta: &Meta) -> Result<(), 
 
     // A crash at any moment leaves the old superblock or this one, and all files but the slots.
     ensures any_moment { IsTrue D.tells → LeavesOnly D.now D.leaves (BetweenBoth D.seen D.now D.leaves meta.now disk.old) disk.old disk.new }
+
+    // So it is a turn that used no number, and leaves one of both.
+    ensures turn { IsTrue D.tells → (first next : ℕ) → IsTurn D.seen D.now D.leaves first next disk.old disk.new }
+    ensures one_of { IsTrue D.tells → (was : Meta) → super_of (D.seen disk.old) ≡ Ok (Some was) → HasOneOf D.now D.leaves was meta.now disk.new }
 
     ensures memory { result ≡ Err PrepareNo.Memory → disk.new ≡ disk.old }
     ensures fault { result ≡ Err PrepareNo.Fault → Rose (D.faults disk.old) (D.faults disk.new) }
