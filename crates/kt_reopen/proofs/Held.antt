@@ -6,6 +6,8 @@ use Rattle.kt_records.specs.declared.entry.Entry.{Entry}
 use Rattle.kt_histlaws.specs.Histories.{past_hist}
 use Rattle.kt_journal.specs.Log.{IsLog, log_of}
 use Rattle.kt_loglaws.specs.Replay.{last_of}
+use Rattle.kt_disk.specs.Disk.{Files}
+use Rattle.kt_schema.specs.declared.column.Column.{Column}
 use Rattle.kt_schema.specs.Columns.{fill_of}
 use Rattle.kt_super.specs.declared.meta.Meta.{Meta}
 use Rattle.kt_super.specs.Slots.{super_of}
@@ -20,10 +22,11 @@ use Rattle.kt_content.proofs.Opening.{opens, stopped}
 use Rattle.kt_content.proofs.Options.{two_oks}
 use Rattle.kt_content.proofs.Writes.{writes_have_rows}
 use Rattle.kt_reopen.specs.declared.why.Why.{Why}
-use Rattle.kt_reopen.specs.Both.{Read, Found, AnswersLater, read_both, nothing, super_in, first_stores, stores_after, found_or_late}
+use Rattle.kt_reopen.specs.Both.{Read, Found, Answers, AnswersLater, read_both, nothing, super_in, first_stores, stores_after, found_or_late}
 use Rattle.kt_reopen.specs.Both.Answers.{at_once, first, later}
 use Rattle.kt_reopen.specs.Both.AnswersLater.{in_file, in_column, too_late, whole}
 use Rattle.kt_reopen.specs.Holding.HoldBoth.{first as none_yet, later as both_there}
+use Rattle.kt_reopen.specs.Holding.{HoldBoth}
 use Rattle.kt_reopen.specs.Opened.{Shows}
 use Rattle.kt_reopen.specs.Laws.{a_content_is_opened, what_both_hold_is_found}
 use Rattle.kt_reopen.proofs.Firsts.{firsts_are}
@@ -106,3 +109,40 @@ found_shows rules columns log store c past f log_is (both_there m records held e
         let held_is : found ≡ held = all_one store m.rowsets found held h hold in
         let answer : Ok f ≡ found_or_late (super_in m held) records (stores_after fill (super_in m held) records) = subst (λ (x : List HeldFiles). Ok f ≡ found_or_late (super_in m x) records (stores_after fill (super_in m x) records)) held_is b in
         shows_of rules fill (super_in m held) records c past f log_is is (stores_after fill (super_in m held) records) refl answer
+
+-- the superblock that was read has the columns of the table then
+pub same_table : (rules : Rules) (columns : List Column) (log store : Files) (c : ℕ) (past : Past) (m : Meta) (records : List Entry) → HoldBoth rules columns log store c past → read_both (super_of store) (log_of log) ≡ Ok (Some m, records) → m.schema ≡ columns
+same_table rules columns log store c past m records (none_yet e is) read = not_both (read_both (super_of store) (log_of log)) m records e read
+same_table rules columns log store c past m records (both_there n others held e hold same is) read =
+    let metas : Some (Some m) ≡ Some (Some n) = sym (ap meta_in read) ∙ ap meta_in e in
+    let one : m ≡ n = cc in
+    ap (λ (x : Meta). x.schema) one ∙ same
+
+-- and by the same rules it is the content of what is found
+content_of : (rules : Rules) (fill : Row) (super : Super) (records : List Entry) (c : ℕ) (past : Past) (f : Found) → IsContent rules fill super records c past → (r : Result Placed ℕ) → Ok f ≡ found_or_late super records r → IsContent rules fill f.super f.records c past
+content_of rules fill super records c past f is (Err ts) g = absurd (cc)
+content_of rules fill super records c past f is (Ok stores) g =
+    let same : f ≡ record { super = super; records = records; last = max super.c (last_of records); stores = stores } = cc in
+    subst (λ (x : Found). IsContent rules fill x.super x.records c past) (sym same) is
+
+pub content_found : (rules : Rules) (columns : List Column) (log store : Files) (c : ℕ) (past : Past) (f : Found) → HoldBoth rules columns log store c past → Answers columns log store (Ok f) → IsContent rules (fill_of columns) f.super f.records c past
+content_found rules columns log store c past f (none_yet e is) (at_once why a b) = not_err f why (Ok f) refl b
+content_found rules columns log store c past f (none_yet e is) (first a b) = let same : f ≡ nothing = cc in subst (λ (x : Found). IsContent rules (fill_of columns) x.super x.records c past) (sym same) is
+content_found rules columns log store c past f (none_yet e is) (later m records a l) = not_both (read_both (super_of store) (log_of log)) m records e a
+content_found rules columns log store c past f (both_there m records held e hold same is) (at_once why a b) = not_err f why (Ok f) refl b
+content_found rules columns log store c past f (both_there m records held e hold same is) (first a b) = not_both (read_both (super_of store) (log_of log)) m records a e
+content_found rules columns log store c past f (both_there m records held e hold same is) (later n others a l) =
+    let metas : Some (Some n) ≡ Some (Some m) = sym (ap meta_in a) ∙ ap meta_in e in
+    let one : n ≡ m = cc in
+    let lists : others ≡ records = sym (ap records_in a) ∙ ap records_in e in
+    by (subst (λ (x : Meta). AnswersLater columns x records store (Ok f)) one (subst (λ (rs : List Entry). AnswersLater columns n rs store (Ok f)) lists l))
+  where
+    by : AnswersLater columns m records store (Ok f) → IsContent rules (fill_of columns) f.super f.records c past
+    by (in_file file offset fault b) = not_err f _ (Ok f) refl b
+    by (in_column found at h d b) = not_err f _ (Ok f) refl b
+    by (too_late found h alike late b) = not_err f _ (Ok f) refl b
+    by (whole found h alike low b) =
+        let fill = fill_of columns in
+        let held_is : found ≡ held = all_one store m.rowsets found held h hold in
+        let answer : Ok f ≡ found_or_late (super_in m held) records (stores_after fill (super_in m held) records) = subst (λ (x : List HeldFiles). Ok f ≡ found_or_late (super_in m x) records (stores_after fill (super_in m x) records)) held_is b in
+        content_of rules fill (super_in m held) records c past f is (stores_after fill (super_in m held) records) answer

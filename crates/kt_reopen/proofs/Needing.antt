@@ -98,7 +98,7 @@ itself : (p : Place) → same_place p p ≡ true
 itself memory = refl
 itself (disk r) = grind (arith, nat_tests)
 
-two_apart : (super : Super) → PlacesApart (places_under super) → (a b : ℕ) → a ≢ b → a < length (places_under super) → b < length (places_under super) → same_place (place_at super a) (place_at super b) ≡ false
+pub two_apart : (super : Super) → PlacesApart (places_under super) → (a b : ℕ) → a ≢ b → a < length (places_under super) → b < length (places_under super) → same_place (place_at super a) (place_at super b) ≡ false
 two_apart super apart a b differ low low' = elim (cases_lt a b) [
   | inl less ↦ apart_at (places_under super) apart a b less low' memory
   | inr more ↦ turned (place_at super a) (place_at super b) ∙ apart_at (places_under super) apart b a (let e = differ in omega arith) low memory

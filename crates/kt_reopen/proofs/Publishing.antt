@@ -8,7 +8,7 @@ use Rattle.kt_reopen.specs.Holding.{IsOfStore}
 
 module _ {D : Type 0} (seen : D → Files) (now : D → ℕ) (leaves : D → ℕ → Files → Type 0) where
   -- an image of a disk whose slots are stable has the superblock that is read
-  super_left : (disk : D) → AreStable seen now leaves disk → (c : Files) → leaves disk (now disk) c → super_of c ≡ super_of (seen disk)
+  pub super_left : (disk : D) → AreStable seen now leaves disk → (c : Files) → leaves disk (now disk) c → super_of c ≡ super_of (seen disk)
   super_left disk stable c left =
       let one = stable 1 (inl refl) c left in
       let two = stable 2 (inr refl) c left in

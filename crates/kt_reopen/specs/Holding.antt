@@ -1,5 +1,5 @@
 -- The past that the images of a log and of a store hold together.
-use Rattle.std.specs.Prelude.{◌≡◌, ◌⊎◌, ℕ, true, List, [], Some, None, Ok}
+use Rattle.std.specs.Prelude.{◌≡◌, ◌⊎◌, ◌↔◌, ℕ, List, [], Some, None, Result, Ok}
 use Rattle.kt_disk.specs.Disk.{Files}
 use Rattle.kt_history.specs.History.{Past}
 use Rattle.kt_records.specs.declared.entry.Entry.{Entry}
@@ -8,14 +8,14 @@ use Rattle.kt_schema.specs.declared.column.Column.{Column}
 use Rattle.kt_schema.specs.Columns.{fill_of}
 use Rattle.kt_super.specs.declared.meta.Meta.{Meta}
 use Rattle.kt_super.specs.Slots.{super_of}
-use Rattle.kt_super.specs.Rowsets.{has}
 use Rattle.kt_diskrowset.specs.Rowset.{HeldFiles}
 use Rattle.kt_files.specs.Reading.{HoldAll}
-use Rattle.kt_files.specs.Named.{named_in}
+use Rattle.kt_files.specs.Named.{HasNamed}
 use Rattle.kt_content.specs.Places.{fresh}
 use Rattle.kt_content.specs.Rules.{Rules}
 use Rattle.kt_content.specs.Content.{IsContent}
-use Rattle.kt_reopen.specs.Both.{read_both, super_in}
+use Rattle.kt_reopen.specs.declared.why.Why.{Why}
+use Rattle.kt_reopen.specs.Both.{Found, Answers, read_both, super_in}
 
 -- By these rules of the table both images hold this past, of which c is the last timestamp. Under a superblock whose columns have other ids than the
 -- script's they hold none
@@ -24,7 +24,25 @@ pub data HoldBoth (rules : Rules) (columns : List Column) (log store : Files) (c
   later : (m : Meta) (records : List Entry) (held : List HeldFiles) → read_both (super_of store) (log_of log) ≡ Ok (Some m, records) → HoldAll store m.rowsets held
       → m.schema ≡ columns → IsContent rules (fill_of columns) (super_in m held) records c past → HoldBoth rules columns log store c past
 
--- ---- a store that gets its first superblock
+-- two pairs of images hold the same pasts, by any rules, and opening gives both the same answer
+pub record AreAlikePairs (columns : List Column) (log store log' store' : Files) : Type 0 where
+  pub pasts : (rules : Rules) (c : ℕ) (past : Past) → HoldBoth rules columns log store c past ↔ HoldBoth rules columns log' store' c past
+  pub answers : (answer : Result Found Why) → Answers columns log store answer ↔ Answers columns log' store' answer
+
+-- Each pair of images that a crash now may leave of the new devices holds what a pair holds that one might have left of the old ones.
+abbrev pub KeepsContent : {L D : Type 0} → (L → ℕ) → (L → ℕ → Files → Type 0) → (D → ℕ) → (D → ℕ → Files → Type 0) → List Column → L → D → L → D → Type 0
+KeepsContent now leaves now' leaves' columns log store log' store' =
+    (l s : Files) → leaves log' (now log') l → leaves' store' (now' store') s
+    → (k t : Files) × leaves log (now log) k × leaves' store (now' store) t × AreAlikePairs columns l s k t
+
+-- ---- one device at a time
+
+-- This image of a store has the superblock of one that a crash at the last moment of that disk might have left, and all files that it names
+pub record HasFilesOf {D : Type 0} (now : D → ℕ) (leaves : D → ℕ → Files → Type 0) (disk : D) (c : Files) : Type 0 where
+  pub image : Files
+  pub was_left : leaves disk (now disk) image
+  pub super : super_of c ≡ super_of image
+  pub named : (m : Meta) → super_of image ≡ Ok (Some m) → HasNamed m.rowsets image c
 
 -- This image of a store has the superblock of one that a crash at the last moment of that disk might have left, and all files that it names; where that
 -- one has none, it may have the first one
@@ -32,4 +50,12 @@ pub record IsOfStore {D : Type 0} (now : D → ℕ) (leaves : D → ℕ → File
   pub image : Files
   pub was_left : leaves disk (now disk) image
   pub super : (super_of c ≡ super_of image) ⊎ ((super_of image ≡ Ok None) × (super_of c ≡ Ok (Some first)))
-  pub named : (m : Meta) → super_of image ≡ Ok (Some m) → (n : ℕ) → has (named_in m.rowsets) n ≡ true → c n ≡ image n
+  pub named : (m : Meta) → super_of image ≡ Ok (Some m) → HasNamed m.rowsets image c
+
+-- nothing is pending of the files that the superblock of the disk names
+abbrev pub FilesStand : {D : Type 0} → (D → Files) → (D → ℕ) → (D → ℕ → Files → Type 0) → Meta → D → Type 0
+FilesStand seen now leaves m disk = (c : Files) → leaves disk (now disk) c → HasNamed m.rowsets (seen disk) c
+
+-- nor of those that the superblock of an image names
+abbrev pub NamedStand : {D : Type 0} → (D → Files) → (D → ℕ) → (D → ℕ → Files → Type 0) → D → Type 0
+NamedStand seen now leaves disk = (image : Files) → leaves disk (now disk) image → (m : Meta) → super_of image ≡ Ok (Some m) → FilesStand seen now leaves m disk

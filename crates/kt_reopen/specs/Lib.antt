@@ -10,3 +10,8 @@ pub mod Commits
 pub mod Opened
 pub mod Refusal
 pub mod Laws
+pub mod Standing
+pub mod Steps
+pub mod Walks
+pub mod Begun
+pub mod Superblock

@@ -1,5 +1,5 @@
 //! What the slots and the log say, before any data file is read.
-ghost use Rattle.std.specs.Prelude.{◌≡◌, ◌≢◌, ◌≤◌, ℕ, length, IsTrue, Ok, Err, IfOk, IfErr, OnOk, IfSome};
+ghost use Rattle.std.specs.Prelude.{◌≡◌, ◌≢◌, ◌≤◌, [], ℕ, length, IsTrue, Ok, Err, None, IfOk, IfErr, OnOk, IfSome};
 ghost use Rattle.std.specs.Option.{option_copied};
 ghost use Rattle.kt_disk.specs.Disk.{LeavesOnly, Same, Turns};
 ghost use Rattle.kt_journal.specs.Frames.{IsFrom};
@@ -73,9 +73,13 @@ pub fn read_devices<L: Disk, D: Disk>(
     ensures refused { IfErr result (λ e. e.1 ≢ Why.Fault → e.1 ≢ Why.Memory → IsTrue L.tells → IsTrue D.tells → read_both (super_of (D.seen store.old)) (log_of (L.seen log)) ≡ Err e.1) }
     ensures fault { IfErr result (λ e. e.1 ≡ Why.Fault → OneRose (L.faults log) (L.faults e.0) (D.faults store.old) (D.faults store.new)) }
 
+    // Where there is no superblock there is no record.
+    ensures bare { IfOk result (λ r. r.meta ≡ None → r.records ≡ []) }
+
     // The log, with its records.
     ensures usable { IfOk result (λ r. IsTrue r.journal.usable × (r.journal.count ≡ length r.records)) }
     ensures sound { IfOk result (λ r. IsLog r.records) }
+    ensures records { IfOk result (λ r. IsTrue L.tells → log_of (L.seen log) ≡ Ok r.records) }
     ensures reads { IfOk result (λ r. IsTrue L.tells → records_of (L.seen r.journal.disk) ≡ r.records) }
     ensures durable { IfOk result (λ r. IsTrue L.tells → Holds L.now L.leaves r.journal.disk r.records) }
     ensures openable { IfOk result (λ r. IsTrue L.tells → CanOpen L.now L.leaves r.journal.disk) }
@@ -88,6 +92,7 @@ pub fn read_devices<L: Disk, D: Disk>(
     ensures log_faults_err { IfErr result (λ e. L.faults log ≤ L.faults e.0) }
 
     // The store, with its superblock.
+    ensures slots { IfOk result (λ r. IsTrue D.tells → super_of (D.seen store.new) ≡ Ok r.meta) }
     ensures rules { IfOk result (λ r. IfSome r.meta IsMeta) }
     ensures stable { OnOk result (IsTrue D.tells → AreStable D.seen D.now D.leaves store.new) }
     ensures seen { OnOk result (IsTrue D.tells → D.seen store.new ≡ D.seen store.old) }

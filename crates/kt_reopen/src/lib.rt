@@ -1,10 +1,9 @@
-//! What the log and the store of a tablet hold together.
+//! What the log and the store of a tablet hold together, and the stores that they make.
 //!
-//! For the layer above, which makes the stores of a tablet: `devices` reads the slots and the log, and tells why they are refused;
-//! `tables` holds the columns of a script against those of the superblock; `first` gives a fresh store its first superblock;
-//! `commits`, `records` and `numbers` tell what a log says of its writes and of the stores that it names. `laws` say what the
-//! stores are that opening makes, and that they show the past which both devices hold. It stands on the log (kt_journal), the
-//! superblock (kt_super), the data files (kt_files), and on what content is (kt_content).
+//! For the layer above, which makes an engine of them: `open_devices` reads the slots, the log and the data files, and does the
+//! writes of the log again on a MemRowSet and the disk rowsets of the superblock; or it tells why both devices are refused. `laws`
+//! say what the stores are, and that they show the past which both devices hold. It stands on the log (kt_journal), the
+//! superblock (kt_super), the data files (kt_files), the stores (kt_stores), and on what content is (kt_content).
 #![tactic(auto)]
 
 pub mod commits;
@@ -13,8 +12,14 @@ pub mod first;
 pub mod laws;
 pub mod needed;
 pub mod numbers;
+pub mod opened;
 pub mod records;
+mod replaying;
+mod stores;
+pub mod superblock;
 pub mod tables;
 pub mod why;
 
+pub use opened::{Opened, open_devices};
+pub use superblock::Superblock;
 pub use why::Why;
