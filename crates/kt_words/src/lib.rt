@@ -4,6 +4,7 @@
 //! number of one word. It stands on `clap`.
 #![tactic(auto)]
 
+pub mod laws;
 pub mod number;
 pub mod run;
 
