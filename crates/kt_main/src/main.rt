@@ -4,7 +4,7 @@
 //! lives; the others go to the top call. With `memory` nothing outlives the
 //! program, and the clock counts 1, 2, 3 and so on, so that each run of a script prints the same. With `dirs LOG DATA`
 //! the devices are two folders that exist, and the clock is the machine's. The status of the top call or the checker is the
-//! program's; where the words cannot be read for want of memory it is 7. Nothing is written to standard error.
+//! program's; where there is no memory for the words or the devices it is 7. Nothing is written to standard error.
 #![tactic(auto)]
 
 ghost use Rattle.std.specs.Prelude.{IsTrue};
@@ -13,7 +13,7 @@ ghost use Rattle.kt_journal.specs.Log.{CanOpen};
 use kt_app::tablet_main;
 use kt_base::Clock;
 use kt_disk::{Disk, MemDisk, PassGate};
-use kt_host::{DirDisk, MachineClock, Stdin, Stdout, Taken, Ticks};
+use kt_host::{BoxedDisk, DirDisk, MachineClock, Stdin, Stdout, Taken, Ticks};
 use kt_run_check::check_main;
 use std::alloc::AllocError;
 use std::io::ErrorKind;
@@ -47,9 +47,39 @@ fn run<
     ended.status
 }
 
+// As `run`, of a store that is put on the heap, since each visit moves it.
+fn run_stored<
+    R: Threads + Wait + Sync,
+    L: Disk + Send + Drop,
+    D: Disk + Send + Drop,
+    C: Clock + Send + Drop,
+>(rt: &HostRuntime, threads: &R, words: &[&str], log: L, store: D, clock: C) -> u8
+    requires openable { IsTrue L.tells → CanOpen L.now L.leaves log }
+{
+    let Ok(store) = BoxedDisk::of(rt.alloc(), store) else {
+        return 7;
+    };
+    run(rt, threads, words, log, store, clock)
+}
+
+// The same, of a log that is put there too.
+fn run_boxed<
+    R: Threads + Wait + Sync,
+    L: Disk + Send + Drop,
+    D: Disk + Send + Drop,
+    C: Clock + Send + Drop,
+>(rt: &HostRuntime, threads: &R, words: &[&str], log: L, store: D, clock: C) -> u8
+    requires openable { IsTrue L.tells → CanOpen L.now L.leaves log }
+{
+    let Ok(log) = BoxedDisk::of(rt.alloc(), log) else {
+        return 7;
+    };
+    run_stored(rt, threads, words, log, store, clock)
+}
+
 fn run_in_memory<R: Threads + Wait + Sync>(rt: &HostRuntime, threads: &R, words: &[&str]) -> u8 {
     let alloc = rt.alloc();
-    run(
+    run_boxed(
         rt,
         threads,
         words,
@@ -78,7 +108,7 @@ fn run_in_folders<R: Threads + Wait + Sync>(
         Err(e) if e.kind() == ErrorKind::OutOfMemory => return 7,
         Err(_) => (None, None),
     };
-    run(
+    run_boxed(
         rt,
         threads,
         words,

@@ -3,5 +3,5 @@ use Rattle.kt_disk.specs.Memory.{MemView}
 use Rattle.kt_journal.proofs.Fresh.{fresh_opens}
 use Rattle.kt_main.proofs.run_in_memory.Goals as goal
 
-pub run-requires-clause-openable : goal.run-requires-clause-openable
-run-requires-clause-openable g c = λ κs outlives told. fresh_opens c.new.result (ap (λ (d : MemView). d.calls) c.new.ensures)
+pub run_boxed-requires-clause-openable : goal.run_boxed-requires-clause-openable
+run_boxed-requires-clause-openable g c = λ κs outlives told. fresh_opens c.new.result (ap (λ (d : MemView). d.calls) c.new.ensures)
