@@ -9,7 +9,8 @@ use Rattle.kt_super.specs.declared.meta.MetaRowset.{MetaRowset}
 use Rattle.kt_super.specs.Rowsets.{has}
 use Rattle.kt_super.specs.Slots.{super_of, of_both, slot_at, AreStable, IsSlot}
 use Rattle.kt_files.specs.Named.{named_in, is_kept, Spares}
-use Rattle.kt_reopen.specs.Holding.{HasFilesOf, IsOfStore, NamedStand}
+use Rattle.kt_storeside.specs.Supers.{NamedStand}
+use Rattle.kt_reopen.specs.Holding.{HasFilesOf, IsOfStore}
 use Rattle.kt_reopen.proofs.Publishing.{super_left}
 
 some_is : {X : Type 0} (x y : X) → Some x ≡ Some y → x ≡ y

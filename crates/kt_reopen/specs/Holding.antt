@@ -51,11 +51,3 @@ pub record IsOfStore {D : Type 0} (now : D → ℕ) (leaves : D → ℕ → File
   pub was_left : leaves disk (now disk) image
   pub super : (super_of c ≡ super_of image) ⊎ ((super_of image ≡ Ok None) × (super_of c ≡ Ok (Some first)))
   pub named : (m : Meta) → super_of image ≡ Ok (Some m) → HasNamed m.rowsets image c
-
--- nothing is pending of the files that the superblock of the disk names
-abbrev pub FilesStand : {D : Type 0} → (D → Files) → (D → ℕ) → (D → ℕ → Files → Type 0) → Meta → D → Type 0
-FilesStand seen now leaves m disk = (c : Files) → leaves disk (now disk) c → HasNamed m.rowsets (seen disk) c
-
--- nor of those that the superblock of an image names
-abbrev pub NamedStand : {D : Type 0} → (D → Files) → (D → ℕ) → (D → ℕ → Files → Type 0) → D → Type 0
-NamedStand seen now leaves disk = (image : Files) → leaves disk (now disk) image → (m : Meta) → super_of image ≡ Ok (Some m) → FilesStand seen now leaves m disk

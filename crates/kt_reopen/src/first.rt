@@ -9,51 +9,12 @@ ghost use Rattle.kt_reopen.specs.Holding.{IsOfStore};
 ghost use Rattle.kt_reopen.specs.Opened.{first_meta};
 
 use crate::why::Why;
-use kt_base::{Cell, NoMemory};
+use kt_base::NoMemory;
 use kt_disk::Disk;
-use kt_schema::{Column, ColumnList, Schema};
+use kt_schema::Schema;
+use kt_storeside::copies::schema_of;
 use kt_super::{Meta, MetaRowsets, open_gate, prepare};
 use std::alloc::Global;
-
-// The same default, or none.
-fn default_of(column: &Column) -> Result<Option<Cell>, NoMemory>
-    ensures { IfOk result (λ copy. copy ≡ column.now.default) }
-{
-    match &column.default {
-        Some(cell) => Ok(Some(cell.copy()?)),
-        None => Ok(None),
-    }
-}
-
-// The same column.
-fn column_of(column: &Column) -> Result<Column, NoMemory>
-    ensures { IfOk result (λ copy. copy ≡ column.now) }
-{
-    let name = column.name.copy()?;
-    let default = default_of(column)?;
-    Ok(Column {
-        id: column.id,
-        name,
-        kind: column.kind,
-        key: column.key,
-        nullable: column.nullable,
-        default,
-    })
-}
-
-// The same columns. They have made a schema, and make one again.
-fn copy_of(alloc: Global, schema: &Schema) -> Result<Schema, NoMemory>
-    ensures { IfOk result (λ copy. copy ≡ schema.now) }
-{
-    let mut columns = Vec::with_capacity(alloc, schema.columns().len())?;
-    'columns: for column in schema.columns() {
-        columns.push(column_of(column)?)?;
-    }
-    match Schema::new(alloc, ColumnList::of(columns)) {
-        Ok(copy) => Ok(copy),
-        Err(_) => Err(NoMemory),
-    }
-}
 
 /// The first superblock of a table.
 pub fn first_meta(alloc: Global, schema: &Schema) -> Result<Meta, NoMemory>
@@ -71,7 +32,7 @@ pub fn first_meta(alloc: Global, schema: &Schema) -> Result<Meta, NoMemory>
         next_rowset: 1,
         next_file: 3,
         next_column,
-        schema: copy_of(alloc, schema)?,
+        schema: schema_of(alloc, schema)?,
         rowsets: MetaRowsets::of(Vec::new(alloc)),
     })
 }

@@ -31,7 +31,8 @@ ghost use Rattle.kt_content.specs.Rules.{Rules};
 ghost use Rattle.kt_content.specs.Opening.{Placed};
 ghost use Rattle.kt_reopen.specs.Tables.{IsTable};
 ghost use Rattle.kt_reopen.specs.Both.{Found, Answers, AnswersLater, nothing, super_in, stores_after};
-ghost use Rattle.kt_reopen.specs.Holding.{HoldBoth, KeepsContent, HasFilesOf, IsOfStore, NamedStand};
+ghost use Rattle.kt_reopen.specs.Holding.{HoldBoth, KeepsContent, HasFilesOf, IsOfStore};
+ghost use Rattle.kt_storeside.specs.Supers.{NamedStand};
 ghost use Rattle.kt_reopen.specs.Opened.{first_meta, found_of, IsOpened, HasRoom, Shows, IsRefusal, OneRose, IsNamedBy, AreRowsetsOf};
 
 use crate::commits::commit_places;
