@@ -313,7 +313,7 @@ pub fn open_devices<L: Disk, D: Disk>(
         × ((rules : Rules) (c : ℕ) (past : Past) → HoldBoth rules schema.now (L.seen log) (D.seen store.old) c past → Shows f c past))) }
     ensures table { IfOk result (λ o. IsTrue L.tells → IsTrue D.tells → (rules : Rules) (c : ℕ) (past : Past) → HoldBoth rules schema.now (L.seen log) (D.seen store.old) c past → o.meta.schema ≡ schema.now) }
 
-    // They are refused exactly where both hold nothing else, and for that reason, unless a device or memory fails.
+    // A refusal is one that opening has for what both hold. A device is blamed only where its count of faults rose.
     ensures refused { IfErr result (λ e. IsRefusal e.1 → IsTrue L.tells → IsTrue D.tells → Answers schema.now (L.seen log) (D.seen store.old) (Err e.1)) }
     ensures fault { IfErr result (λ e. e.1 ≡ Why.Fault → OneRose (L.faults log) (L.faults e.0) (D.faults store.old) (D.faults store.new)) }
 
