@@ -7,6 +7,7 @@ pub mod Splitting
 pub mod Joining
 pub mod Overwriting
 pub mod Hanging
+pub mod Spots
 pub mod Clearing
 pub mod Trees
 pub mod Walks

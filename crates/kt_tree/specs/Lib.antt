@@ -5,3 +5,4 @@ pub mod Trees
 pub mod Walks
 pub mod InOrder
 pub mod Changes
+pub mod Spots

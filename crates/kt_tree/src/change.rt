@@ -1,10 +1,13 @@
 //! Trees that are cut and joined.
-ghost use Rattle.std.specs.Prelude.{◌≡◌, ◌<◌, ◌+◌, ℕ, Some, None, MatchOption};
-ghost use Rattle.kt_tree.specs.Entries.{IsRising, value_of, put};
-ghost use Rattle.kt_tree.specs.Shapes.{Shape, IsNode, IsTreeAt, HasTree, Rewrites, flat, key_cells, count, one_at};
+ghost use Rattle.std.specs.Prelude.{◌≡◌, ◌≢◌, ◌<◌, ◌+◌, ℕ, Some, None, MatchOption, if◌then◌else◌};
+ghost use Rattle.std.specs.Ordering.{is_lt};
+ghost use Rattle.kt_pool.specs.Contents.{bytes_at};
+ghost use Rattle.kt_tree.specs.Entries.{IsRising, value_of, put, order};
+ghost use Rattle.kt_tree.specs.Shapes.{Shape, IsNode, IsTreeAt, HasTree, Rewrites, flat, key_cells, count, one_at, node_of, nothing};
 ghost use Rattle.kt_tree.specs.Changes.{IsAbsent, Lacks, Splits, Becomes, alone, StandsBy, Clears};
+ghost use Rattle.kt_tree.specs.Spots.{below, Leads};
 
-use crate::node::{NOTHING, Node, node_in, order, write};
+use crate::node::{Head, NOTHING, Node, node_in, order, write};
 use kt_pool::{Place, Pool};
 use std::cmp::Ordering;
 
@@ -13,6 +16,17 @@ use std::cmp::Ordering;
 pub struct Halves {
     pub low: u32,
     pub high: u32,
+}
+
+/// Where a node is hung: above the tree at a cell, which is to one side of another node, or is the whole tree.
+#[derive(Clone, Copy)]
+pub struct Spot {
+    pub cell: u32,
+    /// The cell of that other node, or that of no node.
+    pub above: u32,
+    pub node: Node,
+    /// Whether the tree is to the right of it.
+    pub right: bool,
 }
 
 /// How high in the tree a node stands: a mix of the number of its cell.
@@ -75,32 +89,112 @@ fn set_right(pool: &mut Pool, cell: u32, node: Node, right: u32)
     }
 }
 
+// The spot above a whole tree.
+fn whole(root: u32) -> Spot
+    ensures cell { result.cell ≡ root }
+    ensures above { result.above ≡ nothing }
+{
+    let head = Head { high: 0, low: 0 };
+    let node = Node {
+        left: NOTHING,
+        right: NOTHING,
+        key: NOTHING,
+        value: NOTHING,
+        head,
+    };
+    Spot {
+        cell: root,
+        above: NOTHING,
+        node,
+        right: false,
+    }
+}
+
+// One step down the way of a key, from a node.
+fn step(pool: &Pool, cell: u32, key: &[u8]) -> Spot
+    requires there { cell ≢ nothing }
+    requires lacks { (s : Shape) × Lacks pool.now cell key.now s }
+    ensures above { result.above ≡ cell }
+    ensures node { result.node ≡ node_of (bytes_at pool.now cell) }
+    ensures right { result.right ≡ is_lt (order (bytes_at pool.now result.node.key) key.now) }
+    ensures below { result.cell ≡ below pool.now key.now cell }
+{
+    let node = node_in(pool, cell);
+    let right = order(pool, &node, key).is_lt();
+    if right {
+        return Spot {
+            cell: node.right,
+            above: cell,
+            node,
+            right,
+        };
+    }
+    Spot {
+        cell: node.left,
+        above: cell,
+        node,
+        right,
+    }
+}
+
+// Where a node is hung: down the way of its key, above the first tree whose root is lower than the node.
+fn spot_of(pool: &Pool, root: u32, fresh: u32, key: &[u8]) -> Spot
+    requires { (s : Shape) × Lacks pool.now root key.now s }
+    ensures { Leads pool.now key.now root result.above result.cell result.node result.right }
+{
+    let high = rank(fresh);
+    let mut spot = whole(root);
+    'down: while spot.cell != NOTHING {
+        if rank(spot.cell) < high {
+            return spot;
+        }
+        spot = step(pool, spot.cell, key);
+    }
+    spot
+}
+
+// Hangs a node that stands alone above a tree without its key.
+fn crown(pool: &mut Pool, cell: u32, fresh: u32, key: &[u8])
+    requires { (s : Shape) × (place : ℕ) × (value : ℕ) × StandsBy pool.old cell fresh key.now s place value }
+    ensures { (s : Shape) (place value : ℕ) → StandsBy pool.old cell fresh key.now s place value → Becomes pool.old pool.new fresh (put key.now value (flat s)) (put key.now place (key_cells s)) (λ k. count s k + count (alone fresh key.now place value) k) }
+{
+    if cell == NOTHING {
+        return;
+    }
+    let mut top = node_in(pool, fresh);
+    let halves = split(pool, cell, key);
+    top.left = halves.low;
+    top.right = halves.high;
+    write(pool, fresh, top);
+}
+
+// The node above a spot has this tree there from now on.
+fn link(pool: &mut Pool, spot: Spot, fresh: u32)
+    requires { IsNode pool.old spot.above spot.node }
+    ensures node { IsNode pool.new spot.above (if spot.right then record spot.node { right = fresh } else record spot.node { left = fresh }) }
+    ensures others { Rewrites pool.old pool.new (one_at spot.above) }
+{
+    let right = spot.right;
+    if right {
+        set_right(pool, spot.above, spot.node, fresh);
+        return;
+    }
+    set_left(pool, spot.above, spot.node, fresh);
+}
+
 /// Hangs a node that stands alone into a tree without its key, and says where the tree begins now.
 pub fn hang(pool: &mut Pool, root: u32, fresh: u32, key: &[u8]) -> u32
     requires { (s : Shape) × (place : ℕ) × (value : ℕ) × StandsBy pool.old root fresh key.now s place value }
     ensures { (s : Shape) (place value : ℕ) → StandsBy pool.old root fresh key.now s place value → Becomes pool.old pool.new result (put key.now value (flat s)) (put key.now place (key_cells s)) (λ k. count s k + count (alone fresh key.now place value) k) }
 {
-    if root == NOTHING {
+    let spot = spot_of(pool, root, fresh, key);
+    crown(pool, spot.cell, fresh, key);
+    let above = spot.above;
+    if above == NOTHING {
         return fresh;
     }
-    if rank(root) < rank(fresh) {
-        let mut top = node_in(pool, fresh);
-        let halves = split(pool, root, key);
-        top.left = halves.low;
-        top.right = halves.high;
-        write(pool, fresh, top);
-        return fresh;
-    }
-    let node = node_in(pool, root);
-    if order(pool, &node, key).is_lt() {
-        let right = hang(pool, node.right, fresh, key);
-        set_right(pool, root, node, right);
-        root
-    } else {
-        let left = hang(pool, node.left, fresh, key);
-        set_left(pool, root, node, left);
-        root
-    }
+    link(pool, spot, fresh);
+    root
 }
 
 /// Writes another value at a key, and says which was there, if the tree has the key.
