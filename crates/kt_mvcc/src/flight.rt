@@ -1,5 +1,5 @@
 //! The clock and the flying writes of a tablet.
-ghost use Rattle.std.specs.Prelude.{◌≡◌, ◌+◌, ◌-◌, ◌^◌, ◌<◌, ◌≤◌, ◌++◌, ◌∷◌, [], min, max, not, false, true, IfOk, IfErr, OnOk, OnErr, Option, Some, None, ◌==◌};
+ghost use Rattle.std.specs.Prelude.{◌≡◌, ◌+◌, ◌-◌, ◌^◌, ◌<◌, ◌≤◌, ◌++◌, ◌∷◌, [], ℕ, min, max, not, false, true, IfOk, IfErr, OnOk, OnErr, Option, Some, None, ◌==◌};
 ghost use Rattle.std.specs.List.{All, filter, find, position};
 ghost use Rattle.std.specs.Result.{result_err};
 ghost use Rattle.kt_history.specs.Machine.{next_timestamp, clean_below};
@@ -16,8 +16,11 @@ use std::alloc::Global;
 use std::marker::Model;
 use thiserror::Error;
 
+// A write of no more keys is not written down while it flies alone.
+const FEW: usize = 4;
+
 /// The last timestamp, the ancient history mark, and the writes that fly with the keys that they hold.
-/// A key that no write holds is found by its hash, whatever flies; where one is held, the writes are looked at in turn.
+/// Where several fly, a key that no write holds is found by its hash; where one is held, the writes are looked at in turn.
 #[derive(Drop)]
 pub struct Flight {
     c: u64,
@@ -102,6 +105,47 @@ fn holder(held: &Held, flying: &[Flier], keys: &KeyList) -> Option<u64>
         return None;
     }
     find_holder(flying, keys)
+}
+
+// Writes down the keys of the writes that fly, and no others.
+fn renew(held: &mut Held, flying: &[Flier])
+    ensures { Tells held.new flying.now }
+{
+    held.clear();
+    for flier in flying {
+        held.hold(flier.who, &flier.keys);
+    }
+}
+
+// Writes down the keys of the writes that fly, and those of one that begins.
+fn hold_all(held: &mut Held, flying: &[Flier], who: u32, keys: &KeyList)
+    ensures { (ts : ℕ) → Tells held.new (flying.now ++ record { who = who; ts = ts; keys = keys.now } ∷ []) }
+{
+    renew(held, flying);
+    held.hold(who, keys);
+}
+
+// Whether a write begins alone and has few keys.
+fn is_lone(flying: &[Flier], keys: &KeyList) -> bool {
+    flying.is_empty() && keys.len() <= FEW
+}
+
+// Writes down the keys of a write that begins. One of few keys that begins alone is left out until another begins: what asks for
+// a key then looks at the write itself.
+fn note(held: &mut Held, flying: &[Flier], who: u32, keys: &KeyList)
+    requires { Tells held.old flying.now }
+    ensures { (ts : ℕ) → Tells held.new (flying.now ++ record { who = who; ts = ts; keys = keys.now } ∷ []) }
+{
+    if is_lone(flying, keys) {
+        held.pass_over();
+        return;
+    }
+    let whole = held.whole;
+    if whole {
+        held.hold(who, keys);
+        return;
+    }
+    hold_all(held, flying, who, keys);
 }
 
 // Lets go of the keys of a flying write, where it is that of the writer that ends.
@@ -222,7 +266,7 @@ impl Flight {
         ensures keys { OnOk result (keys ≤ self.new.key_room) }
         ensures same { self.new ≡ record self.old { room = self.new.room; key_room = self.new.key_room } }
     {
-        self.held.reserve(keys)?;
+        self.held.reserve(keys.saturating_add(FEW))?;
         self.flying.reserve(1)?;
         Ok(())
     }
@@ -258,7 +302,7 @@ impl Flight {
         ensures mark { self.new.a ≡ self.old.a }
     {
         let ts = next(self.c, m);
-        self.held.hold(who, &keys);
+        note(&mut self.held, &self.flying, who, &keys);
         self.flying.push_reserved(Flier { who, ts, keys });
         self.c = ts;
         ts

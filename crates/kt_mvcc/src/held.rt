@@ -1,5 +1,5 @@
 //! Which flying write holds a key, found by a hash of the key.
-ghost use Rattle.std.specs.Prelude.{◌≡◌, ◌≢◌, ◌≤◌, [], ℕ, true, Some, OnOk, nat_eq};
+ghost use Rattle.std.specs.Prelude.{◌≡◌, ◌≢◌, ◌≤◌, [], ℕ, true, false, Some, OnOk, nat_eq};
 ghost use Rattle.std.specs.List.{All};
 ghost use Rattle.std.specs.HashMap.{get, spare, IsEmpty};
 ghost use Rattle.kt_mvcc.specs.Held.{hash_of, Keeps, KeepsOthers, Lacks, Stood, StoodElsewhere, Tells, IsFree};
@@ -9,7 +9,8 @@ use kt_base::NoMemory;
 use std::alloc::Global;
 use std::collections::HashMap;
 
-/// The writer of each held key, by the key's hash. Where two writers' keys have one hash, it is not whole.
+/// The writer of each held key, by the key's hash. Where two writers' keys have one hash, it is not whole, nor where a write is
+/// left out.
 #[derive(Drop)]
 pub struct Held {
     pub writers: HashMap<u64, u32>,
@@ -85,6 +86,13 @@ impl Held {
         'keys: for at in 0..keys.len() {
             self.put(hash_of(keys.at(at)), who);
         }
+    }
+
+    /// Leaves a write out: from here on the hashes tell nothing.
+    pub fn pass_over(&mut self)
+        ensures { self.new.whole ≡ false }
+    {
+        self.whole = false;
     }
 
     fn take(&mut self, hash: u64, who: u32)
