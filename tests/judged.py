@@ -171,9 +171,10 @@ def try_runs(program, folder, seed):
         if ran.returncode:
             raise Wrong(f"seed {seed}: status {ran.returncode}")
         output = ran.stdout.decode("latin-1")
-        judge_changed(program, f"seed {seed}", rng, script, opening_of(before) if before else NONE, output, before)
+        over, mark = (before, before.a) if words is where and before else (None, 0)
+        judge_changed(program, f"seed {seed}", rng, script, opening_of(over, mark) if over else NONE, output, over, mark)
         if words is where:
-            before = replayed(script, output, before)
+            before = replayed(script, output, before, mark)
 
 
 def try_simulated(program, seed):
@@ -188,8 +189,8 @@ def try_simulated(program, seed):
     judge_changed(program, f"simulated {seed}", rng, script, opening_of(before, mark) if before else NONE, output, before, mark)
 
 
-def replayed(script, output, before):
-    machine, lines = Machine(Script(script), before), output.splitlines()
+def replayed(script, output, before, mark):
+    machine, lines = Machine(Script(script), before, mark), output.splitlines()
     for line in lines[lines.index("history") + 1 : -1]:
         machine.take(line)
     return machine

@@ -1,13 +1,21 @@
 """Logs that the program opens: cut at each byte, with each gate shut, owing COMMITs, and at fault."""
+import os
 import re
 import struct
 
+import spelling as spelled
 from room import Wrong
 
 TABLE = "table\ncolumn k string key\ncolumn n int64 default 7\nsession\n"
+COLUMNS = [
+    spelled.column(1, "k", "string", spelled.KEY),
+    spelled.column(2, "n", "int64", spelled.DEFAULT, spelled.number(7)),
+]
+# The first superblock of this table.
+FIRST = spelled.slot(spelled.body(1, COLUMNS))
 FOLDERS = ["dirs", "LOG", "DATA", "run"]
 
-INSERT, UPSERT, INSERT_IGNORE, UPDATE_IGNORE, DELETE_IGNORE = 1, 2, 5, 6, 7
+INSERT, UPSERT, UPDATE, INSERT_IGNORE, UPDATE_IGNORE, DELETE_IGNORE = 1, 2, 3, 5, 6, 7
 DONE, PRESENT, ABSENT, IGNORED = range(4)
 # The first timestamp that no log may have.
 EDGE = 2**63 - 2**21
@@ -106,8 +114,12 @@ AT_GATES = [
 
 
 def run_over(room, log, *lines):
-    with open(room.path("LOG/f1"), "wb") as it:
-        it.write(log)
+    """Runs over a log, beside the first superblock."""
+    for path, held in (("LOG/f1", log), ("DATA/f1", FIRST)):
+        with open(room.path(path), "wb") as it:
+            it.write(held)
+    if os.path.exists(room.path("DATA/f2")):
+        os.remove(room.path("DATA/f2"))
     return room.run(FOLDERS, (TABLE + "".join(f"{it}\n" for it in lines)).encode())
 
 

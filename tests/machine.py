@@ -128,9 +128,7 @@ class Machine:
         self.script, self.a = script, mark
         # of each key its rows by rising timestamp
         self.past = {key: list(rows) for key, rows in before.past.items()} if before else {}
-        # the last write's timestamp, which is all that a log tells of the last one
-        self.written = before.written if before else 0
-        self.c = self.written
+        self.c = before.c if before else 0
         self.flying, self.replies, self.is_stopped = {}, {}, False
         self.next = {s: (1, None) for s in range(1, len(script.sessions) + 1)}
 
@@ -179,7 +177,7 @@ class Machine:
                 self.past[key].append((ts, {**before, **cells}))
             elif what == "drop":
                 self.past[key].append((ts, None))
-        self.c = self.written = ts
+        self.c = ts
         self.flying[s] = (i, ts, keys, words)
 
     def take_end(self, s, i, ts):
@@ -231,9 +229,9 @@ class Machine:
 
 
 def check(script_text, output, before=None):
-    """Replays what was printed, over what the machine of an earlier run left in the log. Returns the machine at its end."""
+    """Replays what was printed, over what the machine of an earlier run left, its mark too. Returns the machine at its end."""
     script, lines = Script(script_text), output.splitlines()
-    machine, cut = Machine(script, before), lines.index("history")
+    machine, cut = Machine(script, before, before.a if before else 0), lines.index("history")
     for line in lines[cut + 1 : -1]:
         machine.take(line)
     wanted = []

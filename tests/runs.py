@@ -84,12 +84,12 @@ def the_folder_is_synced_at_each_opening(room):
     """Killed between making the log's file and syncing its folder, the next run syncs the folder before it answers."""
     if not has_strace():
         return
-    kills = traced(room, "-e", "trace=fsync", "-e", "inject=fsync:error=EIO:signal=KILL:when=2")
+    kills = traced(room, "-e", "trace=fsync", "-e", "inject=fsync:error=EIO:signal=KILL:when=3")
     killed = room.start(FOLDERS, kills)
     killed.communicate(script('insert 1 "a"'), timeout=120)
     wants(killed.returncode == -signal.SIGKILL, f"the first run ended with {killed.returncode}")
     calls = [it for it in calls_of(room) if it.startswith("fsync")]
-    wants(len(calls) == 2 and "/LOG/f1>" in calls[0] and "/LOG>" in calls[1], f"the first run synced {calls}")
+    wants([re.search(r"/(\w+(/f\d)?)>", it)[1] for it in calls] == ["DATA", "LOG/f1", "LOG"], f"the first run synced {calls}")
     wants(os.path.exists(room.path("LOG/f1")), "the first run made no file")
     status, output = room.run(FOLDERS, script('insert 2 "b"'), traced(room, "-e", "trace=fsync,write"))
     wants(status == 0, f"the second run ended with {status}: {output}")

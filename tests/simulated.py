@@ -84,7 +84,7 @@ def opening_of(machine, mark=0):
         for (_, before), (ts, after) in zip([(0, None), *versions], versions):
             if ts > mark:
                 writes.setdefault(ts, []).append((int(key[0]), change_of(columns, key, before, after)))
-    lines = [f"opening ahm {mark} last {machine.written}", f"rows {len(rows)}", *(line for _, line in rows)]
+    lines = [f"opening ahm {mark} last {machine.c}", f"rows {len(rows)}", *(line for _, line in rows)]
     for ts, changes in sorted(writes.items()):
         lines += [f"write {ts} {len(changes)}", *(line for _, line in sorted(changes))]
     return "".join(f"{it}\n" for it in [*lines, "output"])
@@ -94,5 +94,4 @@ def opened(rng, text):
     """The machine behind a random run of a script, and a mark at which it may be opened again."""
     machine = Machine(Script(text))
     simulated(rng, text, machine)
-    machine.written = machine.c
     return machine, rng.choice((machine.a, rng.randrange(machine.c + 1)))

@@ -1,5 +1,5 @@
 -- The columns of a script: their ids count up from 1, they are at most 300, and each takes its default.
-use Rattle.std.proofs.Common.{◌≡◌, ℕ, ◌+◌, ◌≤◌, ◌<◌, min, Bool, true, false, not, ◌||◌, ◌&&◌, List, [], ◌∷◌, ◌++◌, length, Option, Some, None, Result, Ok, Err, refl, sym, ap, subst, ◌∙◌, arith}
+use Rattle.std.proofs.Common.{◌≡◌, ℕ, ◌+◌, ◌≤◌, ◌<◌, ◌^◌, min, Bool, true, false, not, ◌||◌, ◌&&◌, List, [], ◌∷◌, ◌++◌, length, Option, Some, None, Result, Ok, Err, refl, sym, ap, subst, ◌∙◌, arith}
 use Rattle.std.specs.Prelude.{if◌then◌else◌}
 use Rattle.std.specs.List.{list_any, AllByRecursion}
 use Rattle.kt_base.specs.declared.cell.Cell.{Cell}
@@ -19,6 +19,8 @@ use Rattle.kt_script.proofs.Cells.{cell_taken}
 use Rattle.kt_script.proofs.Cuts.{some_piece}
 use Rattle.kt_script.proofs.Spelling.{no_fault, script_is, scripts_are_fit}
 use Rattle.kt_app.specs.Session.{IsCounted, is_default}
+use Rattle.kt_app.proofs.Tables.{is_table}
+use Rattle.kt_app.proofs.Named.{said_names}
 
 -- ---- a default that is taken
 
@@ -93,7 +95,16 @@ said_defaults text s e =
     let some = some_piece 10 text in
     subst (λ (x : Said). AreDefaults x.columns) i.says (subst (λ ps. AreDefaults (said (above_end start ps)).columns) (sym some.2) (all_defaults start 1 some.0 some.1 tt (ap (fault_from start 1) (sym some.2) ∙ i.taken)))
 
+-- names of at most 64 bytes, line by line, as the defaults
+abbrev AreNamed : List Column → Type 0
+AreNamed columns = AllByRecursion (λ (c : Column). length c.name < 2 ^ 8) columns
+
+both_of : (columns : List Column) → AreNamed columns → AreDefaults columns → AllByRecursion (λ (c : Column). (length c.name < 2 ^ 8) × (is_default c c.default ≡ true)) columns
+both_of [] names defaults = tt
+both_of (c ∷ columns) names defaults = ((names.0, defaults.0), both_of columns names.1 defaults.1)
+
 pub said_counted : (text : List ℕ) (s : Said) → script_of text ≡ Some s → IsCounted s.columns
 said_counted text s h =
     let fits = scripts_are_fit text s h in
-    record { counted = fits.table.ids; few = fits.table.few; defaults = said_defaults text s h }
+    let defaults = said_defaults text s h in
+    record { counted = fits.table.ids; few = fits.table.few; defaults = defaults; table = is_table s.columns fits.table fits.key (both_of s.columns (said_names text s h) defaults) }

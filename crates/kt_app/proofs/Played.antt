@@ -11,7 +11,7 @@ use Rattle.kt_engine.specs.Visits.{root_of}
 use Rattle.kt_serve.specs.declared.log.Halt.TheVariants as halt
 use Rattle.kt_serve.specs.declared.session.SessionEnd.{SessionEnd}
 use Rattle.kt_serve.specs.Runs.{AllEnded}
-use Rattle.kt_serve.specs.Closing.{IsDone, IsAtStop}
+use Rattle.kt_serve.specs.Closing.{IsClosed, IsAtStop}
 use Rattle.kt_app.specs.Played.{told_in, given, reply_in, IsWhole, HasPlayed}
 
 -- ---- elements by their place
@@ -67,16 +67,17 @@ module _ {L D C : Type 0} (came : ℕ → ℕ → Reply → Type 0) (view : Engi
     | Some halt.Memory ↦ λ h. absurd (fit h)
   ] refl
 
-  -- each command was answered, and nothing waits for the log
-  pub played_whole : IsDone view → ((s : ℕ) (end : SessionEnd) → nth ends s ≡ Some end → end.halt ≡ Some halt.Stopped → ⊥) → HasPlayed view plan false replies
-  played_whole done goes = record {
-    ended = done.goes;
+  -- each command was answered, nothing waits for the log, and the superblock is published
+  pub played_whole : IsClosed view → ((s : ℕ) (end : SessionEnd) → nth ends s ≡ Some end → end.halt ≡ Some halt.Stopped → ⊥) → HasPlayed view plan false replies
+  played_whole closed goes = record {
+    ended = closed.done.goes;
     tells = λ first content j k. told_as first content j k (nth plan j) refl;
     last = λ h. absurd cc;
     all = λ going s commands is.
         let e = ended.each (suc s) commands is in
         (e.0.replies, get_map (λ (x : SessionEnd). x.replies) ends s e.0 e.1, e.2.all (not_halted e.0 (nth_all IsWhole ends (suc s) e.0 e.1 whole) (goes (suc s) e.0 e.1)));
-    empty = λ going. done.queued;
+    empty = λ going. closed.done.queued;
+    published = λ going. (closed.mark, closed.last);
   }
 
   -- a fault has stopped it
@@ -87,6 +88,7 @@ module _ {L D C : Type 0} (came : ℕ → ℕ → Reply → Type 0) (view : Engi
     last = λ h. stop.last;
     all = λ going s commands is. absurd cc;
     empty = λ going. absurd cc;
+    published = λ going. absurd cc;
   }
 
 -- what was run of an engine is said of the root that it has kept

@@ -1,5 +1,5 @@
 -- A run that has ended is what was printed of it, and what a crash leaves.
-use Rattle.std.proofs.Common.{◌≡◌, ℕ, zero, suc, ◌+◌, ◌<◌, ◌≤◌, max, List, [], ◌∷◌, Option, Some, Ok, Bool, true, false, cond, refl, sym, ap, ◌∙◌, subst, arith, length}
+use Rattle.std.proofs.Common.{◌≡◌, ℕ, zero, suc, ◌+◌, ◌<◌, ◌≤◌, max, List, [], ◌∷◌, Option, Some, Result, Ok, Bool, true, false, cond, refl, sym, ap, ◌∙◌, subst, arith, length}
 use Rattle.std.specs.Prelude.{slice_get, IsTrue, unwrap_or}
 use Rattle.kt_base.specs.Causes.{Grows, Rose}
 use Rattle.std.specs.List.{AllByRecursion}
@@ -24,25 +24,29 @@ use Rattle.kt_script.specs.Laws.{OutputFits}
 use Rattle.kt_records.specs.declared.entry.Entry.{Entry}
 use Rattle.kt_journal.specs.Log.{log_of, IsLog, CanOpen}
 use Rattle.kt_journal.specs.Open.{JournalView}
-use Rattle.kt_loglaws.specs.Replay.{last_of}
 use Rattle.kt_histlaws.specs.Core.{Core, Stands, run_past}
-use Rattle.kt_content.specs.Places as places
 use Rattle.kt_content.specs.Rules.{Rules}
 use Rattle.kt_content.specs.Content.{IsContent as HoldsPast}
-use Rattle.kt_content.proofs.AtZero.{bare_log, log_alone}
-use Rattle.kt_content.proofs.OneContent.{one_content}
-use Rattle.kt_boot.specs.Opening.{content_in, found_or_late}
+use Rattle.kt_loglaws.specs.Replay.{last_of}
+use Rattle.kt_reopen.specs.Both.{super_in}
+use Rattle.kt_reopen.specs.Holding.{HoldBoth}
+use Rattle.kt_reopen.specs.Opened.{OneRose}
+use Rattle.kt_reopen.proofs.BothRead.{pair_holds}
 use Rattle.kt_tablet.specs.Views.{IsSound, Opens, work_of}
 use Rattle.kt_engine.specs.Logged.{PlanPasses}
-use Rattle.kt_engine.specs.Engines.{EngineView, IsFound, KeepsOthers, IsHome, core_from, LeavesRecords, Recovers, RecoversAll}
+use Rattle.kt_engine.specs.Engines.{EngineView, IsFound, KeepsOthers, IsHome, core_from}
+use Rattle.kt_engine.specs.Stored.{RecoversBoth, IsMarkOf, AreMarked, HasFailed}
+use Rattle.kt_engine.specs.Pairs.{AreHome, RecoversAllOfBoth, LeavesPublished}
 use Rattle.kt_loglaws.specs.Fronts.{upto}
 use Rattle.kt_app.specs.Headline.{IsOutput, IsAnswered, AreAnswered, shown_from, all_shown, replies_in, end_line, end_of}
-use Rattle.kt_app.specs.Crash.{Image, CrashLeaves, NamesMore, RanBy, KeptBy, HasContent, HoldsPrefix, HoldsAll}
+use Rattle.kt_app.specs.Images.{Image, CrashLeaves, Both}
+use Rattle.kt_app.specs.Crash.{RanBy, KeptBy, HoldsPrefix, HoldsAll, HasSuper}
+use Rattle.kt_app.proofs.Reopening.{has_content}
 use Rattle.kt_app.specs.Session.{on_table}
-use Rattle.kt_app.proofs.RunLaws.{kept_by, ran_by}
+use Rattle.kt_app.proofs.RunLaws.{kept_by, ran_by, rose_as}
 use Rattle.kt_engine.specs.Visits.{Root, root_of}
 use Rattle.kt_serve.specs.Scans.{IsOn}
-use Rattle.kt_app.specs.Played.{IsFresh, HeldBy, HasPlayed, given, reply_in, end_of_run}
+use Rattle.kt_app.specs.Played.{IsFresh, HeldBy, KeptOn, RanOn, HasPlayed, given, reply_in, end_of_run}
 
 -- ---- each reply that a line gives is an answer
 
@@ -97,51 +101,54 @@ has_one [] k less = absurd (omega arith)
 has_one (x ∷ xs) zero less = (x, refl)
 has_one (x ∷ xs) (suc k) less = has_one xs k (omega arith)
 
--- ---- an image
+-- ---- both devices
 
-held_now : (rules : Rules) (fill : Row) (image : Files) (records : List Entry) (past : Past) → log_of image ≡ Ok records → IsLog records → HoldsPast rules fill places.fresh records (max 0 (last_of records)) past → HasContent rules fill image (last_of records) past
-held_now rules fill image records past reads log holds =
-    let e : max 0 (last_of records) ≡ last_of records = omega arith in
-    let here : HoldsPast rules fill places.fresh records (last_of records) past = subst (λ n. HoldsPast rules fill places.fresh records n past) e holds in
-    let alone = log_alone rules fill records (last_of records) past log here in
-    record {
-      records = records;
-      reads = reads;
-      holds = here;
-      found = raise alone.0 0;
-      replays = ap (content_in fill) reads ∙ ap (found_or_late records) alone.1;
-      shows = (one_content rules fill places.fresh records (last_of records) (last_of records) past (raise alone.0 0) here (bare_log rules fill records alone.0 log here.passes alone.1)).1;
-    }
-
--- the superblock that opening read is that of a fresh tablet
-under_fresh : (rules : Rules) (fill : Row) (super : places.Super) (records : List Entry) (past : Past) → super ≡ places.fresh → HoldsPast rules fill super records (max super.c (last_of records)) past → HoldsPast rules fill places.fresh records (max 0 (last_of records)) past
-under_fresh rules fill super records past is holds = subst (λ (s : places.Super). HoldsPast rules fill s records (max s.c (last_of records)) past) is holds
+two_logs : {E : Type 0} (r : Result (List Entry) E) (a b : List Entry) → r ≡ Ok a → r ≡ Ok b → a ≡ b
+two_logs r a b e f = cc
 
 -- What an engine keeps of its run, whatever was printed of it.
-module _ {L D C : Type 0} (readings : C → Option (List ℕ)) (tells : Bool) (now : L → ℕ) (leaves : L → ℕ → Files → Type 0) (view : EngineView L D C) (first : Past) (opens : IsFound view first) (sound : IsSound readings view.tablet) where
+module _ {L D C : Type 0} (readings : C → Option (List ℕ)) (tells : Bool) (now : L → ℕ) (leaves : L → ℕ → Files → Type 0) (tells' : Bool) (now' : D → ℕ) (leaves' : D → ℕ → Files → Type 0) (view : EngineView L D C) (columns : List Column) (first : Past)
+    (opens : IsFound view first) (sound : IsSound readings view.tablet) (log : L) (store : D) (home : AreHome view log store) where
   abbrev its_work : Workload
   its_work = view.tablet.core.work
 
   abbrev its_lines : List Event
   its_lines = view.tablet.core.trail
 
-  prefix : Recovers tells now leaves view → (journal : JournalView L) → view.log.home ≡ Some journal → IsTrue tells → (rules : Rules) → HeldBy view its_work first rules → (image : Files) → leaves journal.disk (now journal.disk) image
-      → HoldsPrefix rules its_work first view.tablet.core.opened its_lines image
-  prefix front journal home told rules held image left =
-      let h = front rules first held.content held.plan told journal home image left in
-      record { t = h.t; after_opening = h.after_opening; acknowledged = h.acknowledged; last = last_of h.records; not_later = h.last; within = omega (arith, ap (λ (st : State). st.c) (sound.stands first opens).run.state, h.within); holds = held_now rules its_work.fill image h.records (upto h.t (run_past (core_from view first))) h.reads h.log (under_fresh rules its_work.fill view.super h.records (upto h.t (run_past (core_from view first))) held.bare h.holds) }
+  abbrev left_of_both : Image → Type 0
+  left_of_both = Both (CrashLeaves tells now leaves log) (CrashLeaves tells' now' leaves' store)
 
-  pub kept_here : (clock ticked : C) (disk : L) → view.tablet.opened ≡ clock → ticked ≡ view.tablet.clock → Recovers tells now leaves view
-      → (journal : JournalView L) × (view.log.home ≡ Some journal) × (disk ≡ journal.disk)
-      → KeptBy (Grows (readings clock) (readings ticked)) (HeldBy view its_work first) (CrashLeaves tells now leaves disk) its_work first view.tablet.core.opened its_lines
-  kept_here clock ticked disk began ticked_is front (journal, home, disk_is) = record {
+  prefix : RecoversBoth tells now leaves tells' now' leaves' view → AreMarked view → its_work.fill ≡ fill_of columns → (rules : Rules) → HeldBy view columns its_work first rules → (image : Image) → left_of_both image
+      → HoldsPrefix rules columns its_work first view.tablet.core.opened its_lines image
+  prefix recover marks fill rules held image left =
+      let log_left = subst (λ d. leaves d (now d) image.log) home.log_is left.0.1 in
+      let h = recover rules first held.content held.plan left.0.0 left.1.0 home.journal home.log_home store home.store_home image.log image.store log_left left.1.1 in
+      let super = super_in h.meta h.held in
+      let last = max super.c (last_of h.front.records) in
+      let past = raise (upto h.front.t (run_past (core_from view first))) super.a in
+      let both = pair_holds rules columns image.log image.store h.meta h.held h.front.records last past h.superblock h.front.reads h.hold (marks.table h.meta h.one ∙ held.table)
+      (subst (λ (f : Row). HoldsPast rules f super h.front.records last past) fill h.front.holds) in
+      record {
+        t = h.front.t;
+        after_opening = h.front.after_opening;
+        acknowledged = h.front.acknowledged;
+        mark = super.a;
+        marked = subst (λ m. IsMarkOf m its_lines super.a) (sym opens.mark_is) (marks.mark h.meta h.one);
+        last = last;
+        within = omega (arith, ap (λ (st : State). st.c) (sound.stands first opens).run.state, h.front.within, marks.last h.meta h.one);
+        holds = has_content rules columns image last past (λ records reads. let same : records ≡ h.front.records = two_logs (log_of image.log) records h.front.records reads h.front.reads in subst IsLog (sym same) h.front.log) both;
+      }
+
+  pub kept_here : (clock ticked : C) → view.tablet.opened ≡ clock → ticked ≡ view.tablet.clock → RecoversBoth tells now leaves tells' now' leaves' view → AreMarked view → its_work.fill ≡ fill_of columns
+      → KeptBy (Grows (readings clock) (readings ticked)) (HeldBy view columns its_work first) columns left_of_both its_work first view.tablet.core.opened its_lines
+  kept_here clock ticked began ticked_is recover marks fill = record {
     run = (sound.stands first opens).run.is_run;
     clock = subst (λ x. Grows (readings clock) (readings x) (readings_of its_lines)) (sym ticked_is) (subst (λ x. Grows (readings x) (readings view.tablet.clock) (readings_of its_lines)) began sound.clock);
-    crash = λ rules held image left. prefix front journal home left.0 rules held image (subst (λ d. leaves d (now d) image) disk_is left.1);
+    crash = λ rules held image left. prefix recover marks fill rules held image left;
   }
 
-module _ {L D C : Type 0} (readings : C → Option (List ℕ)) (tells : Bool) (now : L → ℕ) (leaves : L → ℕ → Files → Type 0) (view : EngineView L D C) (columns : List Column) (plan : List (List Command)) (stopped : Bool) (replies : List (List Reply)) (first : Past)
-    (on : IsOn columns view.tablet.core.work) (plan_is : view.tablet.core.work.plan ≡ plan) (opens : IsFound view first) (sound : IsSound readings view.tablet) (played : HasPlayed view plan stopped replies) where
+module _ {L D C : Type 0} (readings : C → Option (List ℕ)) (tells : Bool) (now : L → ℕ) (leaves : L → ℕ → Files → Type 0) (tells' : Bool) (seen' : D → Files) (now' : D → ℕ) (leaves' : D → ℕ → Files → Type 0) (view : EngineView L D C) (columns : List Column) (plan : List (List Command))
+    (stopped : Bool) (replies : List (List Reply)) (first : Past) (on : IsOn columns view.tablet.core.work) (plan_is : view.tablet.core.work.plan ≡ plan) (opens : IsFound view first) (sound : IsSound readings view.tablet) (played : HasPlayed view plan stopped replies) where
   abbrev core : Core
   core = core_from view first
 
@@ -169,8 +176,8 @@ module _ {L D C : Type 0} (readings : C → Option (List ℕ)) (tells : Bool) (n
       ∙ ap (λ w. all_shown w (given replies) 1 work.plan) on
       ∙ ap (λ p. all_shown (on_table columns) (given replies) 1 p) plan_is
 
-  end_is : (a l : ℕ) → a ≡ view.tablet.core.a → l ≡ view.tablet.core.c → end_line (end_of work first c events) ≡ end_of_run stopped a l
-  end_is a l a_is l_is = ap (λ (st : State). end_line st) stands.run.state ∙ (λ t. end_of_run (played.ended t) (sym a_is t) (sym l_is t))
+  end_is : (a l rowsets : ℕ) → a ≡ view.tablet.core.a → l ≡ view.tablet.core.c → end_line rowsets (end_of work first c events) ≡ end_of_run stopped a l rowsets
+  end_is a l rowsets a_is l_is = ap (λ (st : State). end_line rowsets st) stands.run.state ∙ (λ t. end_of_run (played.ended t) (sym a_is t) (sym l_is t) rowsets)
 
   each_answered : stopped ≡ false → AreAnswered printed
   each_answered going = all_answered (on_table columns) (given replies) 1 plan (λ j commands is k less.
@@ -182,34 +189,70 @@ module _ {L D C : Type 0} (readings : C → Option (List ℕ)) (tells : Bool) (n
       ap (λ n. given replies n (1 + k)) at_j ∙ ap (λ o. reply_in o (1 + k)) mine.1 ∙ ap (nth mine.0) at_k ∙ one.1 in
       record { reply = one.0; is = its; answered = told_answers work (start work first c) events (1 + j) (1 + k) one.0 (played.tells first opens (1 + j) (1 + k) ∙ its) })
 
-  pub output : (a l : ℕ) (text : List ℕ) → a ≡ view.tablet.core.a → l ≡ view.tablet.core.c → OutputFits printed events (end_of_run stopped a l) → text ≡ output_text printed events (end_of_run stopped a l) → IsOutput work first c stopped text (readings_of events) events
-  output a l text a_is l_is fits text_is = record {
+  pub output : (a l rowsets : ℕ) (text : List ℕ) → a ≡ view.tablet.core.a → l ≡ view.tablet.core.c → OutputFits printed events (end_of_run stopped a l rowsets) → text ≡ output_text printed events (end_of_run stopped a l rowsets)
+      → IsOutput work first c stopped rowsets text (readings_of events) events
+  output a l rowsets text a_is l_is fits text_is = record {
     run = stands.run.is_run;
     clock = refl;
     fits =
-        let with_end = subst (λ (x : LastLine). OutputFits printed events x) (sym (end_is a l a_is l_is)) fits in
-        subst (λ (x : List (List ShownReply)). OutputFits x events (end_line (end_of work first c events))) (sym replies_are) with_end;
+        let with_end = subst (λ (x : LastLine). OutputFits printed events x) (sym (end_is a l rowsets a_is l_is)) fits in
+        subst (λ (x : List (List ShownReply)). OutputFits x events (end_line rowsets (end_of work first c events))) (sym replies_are) with_end;
     ended = ap (λ (st : State). st.stopped) stands.run.state ∙ played.ended;
     stop = played.last;
     answered = λ going. subst AreAnswered (sym replies_are) (each_answered going);
-    printed = text_is ∙ (λ t. output_text (sym replies_are t) events (sym (end_is a l a_is l_is) t));
+    printed = text_is ∙ (λ t. output_text (sym replies_are t) events (sym (end_is a l rowsets a_is l_is) t));
   }
 
-  all_kept : stopped ≡ false → RecoversAll tells now leaves view → (journal : JournalView L) → view.log.home ≡ Some journal → IsTrue tells → (rules : Rules) → HeldBy view work first rules → (image : Files) → leaves journal.disk (now journal.disk) image
-      → HoldsAll rules work first c events image
-  all_kept going whole journal home told rules held image left =
-      let h = whole rules first held.content held.plan (played.ended ∙ going) (played.empty going) told journal home image left in
-      record { last = last_of h.records; within = omega (arith, ap (λ (st : State). st.c) stands.run.state, h.last); holds = held_now rules work.fill image h.records (run_past core) h.reads h.log (under_fresh rules work.fill view.super h.records (run_past core) held.bare h.holds) }
+  goes_on : stopped ≡ false → view.tablet.core.stopped ≡ false
+  goes_on going = played.ended ∙ going
 
-  pub ran_here : (clock ticked : C) (disk : L) (a l : ℕ) (text : List ℕ) → view.tablet.opened ≡ clock → ticked ≡ view.tablet.clock → Recovers tells now leaves view → RecoversAll tells now leaves view
-      → (journal : JournalView L) × (view.log.home ≡ Some journal) × (disk ≡ journal.disk)
-      → a ≡ view.tablet.core.a → l ≡ view.tablet.core.c → OutputFits printed events (end_of_run stopped a l) → text ≡ output_text printed events (end_of_run stopped a l)
-      → RanBy (Grows (readings clock) (readings ticked)) (HeldBy view work first) (CrashLeaves tells now leaves disk) work first c events stopped text
-  ran_here clock ticked disk a l text began ticked_is front whole (journal, home, disk_is) a_is l_is fits text_is = record {
-    kept = kept_here readings tells now leaves view first opens sound clock ticked disk began ticked_is front (journal, home, disk_is);
-    output = output a l text a_is l_is fits text_is;
-    whole = λ going rules held image left. all_kept going whole journal home left.0 rules held image (subst (λ d. leaves d (now d) image) disk_is left.1);
-  }
+  last_is : (end_of work first c events).c ≡ view.tablet.core.c
+  last_is = ap (λ (st : State). st.c) stands.run.state
+
+  mark_is : (end_of work first c events).a ≡ view.tablet.core.a
+  mark_is = ap (λ (st : State). st.a) stands.run.state
+
+  module _ (log : L) (store : D) (home : AreHome view log store) where
+    abbrev all_left : Image → Type 0
+    all_left = Both (CrashLeaves tells now leaves log) (CrashLeaves tells' now' leaves' store)
+
+    all_kept : stopped ≡ false → (IsTrue tells → IsTrue tells' → RecoversAllOfBoth now leaves now' leaves' view) → (rules : Rules) → HeldBy view columns work first rules → (image : Image) → all_left image
+        → HoldsAll rules columns work first c events image
+    all_kept going recover rules held image here =
+        let published = played.published going in
+        let h = recover here.0.0 here.1.0 rules first held.content held.plan (goes_on going) (played.empty going) published.0 published.1 log store home image.log image.store here.0.1 here.1.1 in
+        let last = view.tablet.core.c in
+        let past = raise (run_past core) view.tablet.core.a in
+        let its : HoldBoth rules columns image.log image.store last past = pair_holds rules columns image.log image.store view.store.meta h.held h.records last past h.superblock h.reads h.hold held.table
+        (subst (λ (f : Row). HoldsPast rules f (super_in view.store.meta h.held) h.records last past) (ap (λ (w : Workload). w.fill) on) h.holds) in
+        has_content rules columns image (end_of work first c events).c (raise (run_past core) (end_of work first c events).a)
+        (λ records reads. let same : records ≡ h.records = two_logs (log_of image.log) records h.records reads h.reads in subst IsLog (sym same) h.log)
+        (subst (λ n. HoldBoth rules columns image.log image.store n (raise (run_past core) (end_of work first c events).a)) (sym last_is)
+        (subst (λ a. HoldBoth rules columns image.log image.store view.tablet.core.c (raise (run_past core) a)) (sym mark_is) its))
+
+    -- the superblock of each image is the one that is published
+    super_left : stopped ≡ false → (IsTrue tells' → LeavesPublished seen' now' leaves' view) → (rowsets : ℕ) → rowsets ≡ length view.store.meta.rowsets → (image : Image) → all_left image
+        → HasSuper (end_of work first c events).a (end_of work first c events).c rowsets image.store
+    super_left going leaves_it rowsets rowsets_are image here =
+        let published = played.published going in
+        record {
+          superblock = view.store.meta;
+          is = (leaves_it here.1.0 (goes_on going) store home.store_home image.store here.1.1).superblock;
+          mark = published.0 ∙ sym mark_is;
+          last = published.1 ∙ sym last_is;
+          count = sym rowsets_are;
+        }
+
+    pub ran_here : (clock ticked : C) (a l rowsets : ℕ) (text : List ℕ) → view.tablet.opened ≡ clock → ticked ≡ view.tablet.clock
+        → RecoversBoth tells now leaves tells' now' leaves' view → AreMarked view → (IsTrue tells → IsTrue tells' → RecoversAllOfBoth now leaves now' leaves' view) → (IsTrue tells' → LeavesPublished seen' now' leaves' view)
+        → a ≡ view.tablet.core.a → l ≡ view.tablet.core.c → rowsets ≡ length view.store.meta.rowsets → OutputFits printed events (end_of_run stopped a l rowsets) → text ≡ output_text printed events (end_of_run stopped a l rowsets)
+        → RanBy (Grows (readings clock) (readings ticked)) (HeldBy view columns work first) columns all_left work first c events stopped rowsets text
+    ran_here clock ticked a l rowsets text began ticked_is front marks whole published a_is l_is rowsets_are fits text_is = record {
+      kept = kept_here readings tells now leaves tells' now' leaves' view columns first opens sound log store home clock ticked began ticked_is front marks (ap (λ (w : Workload). w.fill) on);
+      output = output a l rowsets text a_is l_is fits text_is;
+      whole = λ going rules held image here. all_kept going whole rules held image here;
+      superblock = λ going image here. super_left going published rowsets rowsets_are image here;
+    }
 
 -- the engine with another plan
 abbrev pub with_plan : {L D C : Type 0} → EngineView L D C → List (List Command) → EngineView L D C
@@ -234,12 +277,12 @@ module _ {L D C : Type 0} (old view : EngineView L D C) (columns : List Column) 
   found_view = let P : Root L D C → Type 0 = λ r. Opens r.opening r.mark r.opened first in subst P (sym root) opens
 
   -- what its log held by some rules it holds by them
-  held_view : (rules : Rules) → HeldBy old (workload cells said) first rules → HeldBy view view.tablet.core.work first rules
+  held_view : (rules : Rules) → HeldBy old columns (workload cells said) first rules → HeldBy view columns view.tablet.core.work first rules
   held_view rules held = record {
     plan =
         let P : Root L D C → Type 0 = λ r. PlanPasses rules r.work in
         subst P (sym root) (subst (PlanPasses rules) (sym on_plan) held.plan);
-    bare = ap (λ (r : Root L D C). r.super) root ∙ held.bare;
+    table = ap (λ (r : Root L D C). r.columns) root ∙ held.table;
     content = record {
       opens = found_view;
       holds = let P : Root L D C → Type 0 = λ r. HoldsPast rules r.work.fill r.super r.records r.opened first in subst P (sym root) held.content.holds;
@@ -259,64 +302,62 @@ module _ {L D C : Type 0} (old view : EngineView L D C) (columns : List Column) 
   opened_is = ap (λ (r : Root L D C). r.opened) root
 
 -- A run of a plan on it, and what a crash leaves.
-pub kept_of : {L D C : Type 0} (readings : C → Option (List ℕ)) (tells : Bool) (now : L → ℕ) (leaves : L → ℕ → Files → Type 0) (old view : EngineView L D C) (columns : List Column) (plan : List (List Command)) (first : Past)
-    → IsFresh old → IsOn columns old.tablet.core.work → root_of view ≡ root_of (with_plan old plan) → IsFound old first → IsSound readings view.tablet
-    → (ticked : C) (disk : L) (lines : List Event) → ticked ≡ view.tablet.clock → lines ≡ view.tablet.core.trail → Recovers tells now leaves view → (journal : JournalView L) × (view.log.home ≡ Some journal) × (disk ≡ journal.disk)
-    → KeptBy (Grows (readings old.tablet.clock) (readings ticked)) (HeldBy old (workload old.tablet.core.work.cells (record { columns = columns; plan = plan })) first) (CrashLeaves tells now leaves disk)
-    (workload old.tablet.core.work.cells (record { columns = columns; plan = plan })) first old.tablet.core.opened lines
-kept_of readings tells now leaves old view columns plan first fresh on root opens sound ticked disk lines ticked_is lines_are front home =
-    let gave = Grows (readings old.tablet.clock) (readings ticked) in
-    let after = CrashLeaves tells now leaves disk in
-    let held = HeldBy old (workload old.tablet.core.work.cells (record { columns = columns; plan = plan })) first in
-    let here = kept_here readings tells now leaves view first (found_view old view columns plan first fresh on root opens) sound old.tablet.clock ticked disk (clock_is old view columns plan first fresh on root opens) ticked_is front home in
-    let kept : KeptBy gave held after view.tablet.core.work first view.tablet.core.opened view.tablet.core.trail = kept_by (λ image left rules h. held_view old view columns plan first fresh on root opens rules h) here in
-    subst (λ (w : Workload). KeptBy gave held after w first old.tablet.core.opened lines) (work_is old view columns plan first fresh on root opens)
-    (subst (λ (n : ℕ). KeptBy gave held after view.tablet.core.work first n lines) (opened_is old view columns plan first fresh on root opens)
-    (subst (KeptBy gave held after view.tablet.core.work first view.tablet.core.opened) (sym lines_are) kept))
+module _ {L D C : Type 0} (readings : C → Option (List ℕ)) (tells : Bool) (now : L → ℕ) (leaves : L → ℕ → Files → Type 0) (tells' : Bool) (seen' : D → Files) (now' : D → ℕ) (leaves' : D → ℕ → Files → Type 0) (old view : EngineView L D C) (columns : List Column) (plan : List (List Command))
+    (fresh : IsFresh old) (on : IsOn columns old.tablet.core.work) (root : root_of view ≡ root_of (with_plan old plan)) (sound : IsSound readings view.tablet) (log : L) (store : D) (home : AreHome view log store)
+    (ticked : C) (ticked_is : ticked ≡ view.tablet.clock) (lines : List Event) (lines_are : lines ≡ view.tablet.core.trail) (recover : RecoversBoth tells now leaves tells' now' leaves' view) (marks : AreMarked view) where
+  abbrev gave : List ℕ → Type 0
+  gave = Grows (readings old.tablet.clock) (readings ticked)
 
--- What was printed of it.
-module _ {L D C : Type 0} (readings : C → Option (List ℕ)) (tells : Bool) (now : L → ℕ) (leaves : L → ℕ → Files → Type 0) (old view : EngineView L D C) (columns : List Column) (plan : List (List Command)) (stopped : Bool) (replies : List (List Reply)) (first : Past)
-    (fresh : IsFresh old) (on : IsOn columns old.tablet.core.work) (root : root_of view ≡ root_of (with_plan old plan)) (opens : IsFound old first) (sound : IsSound readings view.tablet) (played : HasPlayed view plan stopped replies) where
-  pub ran_of : (ticked : C) (disk : L) (a l : ℕ) (lines : List Event) (shown : List (List Command)) (text : List ℕ) → ticked ≡ view.tablet.clock → Recovers tells now leaves view → RecoversAll tells now leaves view
-      → (journal : JournalView L) × (view.log.home ≡ Some journal) × (disk ≡ journal.disk)
-      → a ≡ view.tablet.core.a → l ≡ view.tablet.core.c → lines ≡ view.tablet.core.trail → shown ≡ plan
-      → OutputFits (all_shown (on_table columns) (given replies) 1 shown) lines (end_of_run stopped a l) → text ≡ output_text (all_shown (on_table columns) (given replies) 1 shown) lines (end_of_run stopped a l)
-      → RanBy (Grows (readings old.tablet.clock) (readings ticked)) (HeldBy old (workload old.tablet.core.work.cells (record { columns = columns; plan = plan })) first) (CrashLeaves tells now leaves disk)
-      (workload old.tablet.core.work.cells (record { columns = columns; plan = plan })) first old.tablet.core.opened lines stopped text
-  ran_of ticked disk a l lines shown text ticked_is front whole home a_is l_is lines_are shown_is fits text_is =
-      let here : (p : List (List Command)) (events : List Event) → Type 0 = λ p events. OutputFits (all_shown (on_table columns) (given replies) 1 p) events (end_of_run stopped a l) in
-      let ran = ran_here readings tells now leaves view columns plan stopped replies first (on_view old view columns plan first fresh on root opens) (plan_is old view columns plan first fresh on root opens) (found_view old view columns plan first fresh on root opens) sound played
-      old.tablet.clock ticked disk a l text (clock_is old view columns plan first fresh on root opens) ticked_is front whole home a_is l_is
-      (subst (λ p. here p view.tablet.core.trail) shown_is (subst (λ events. here shown events) lines_are fits))
-      (text_is ∙ (λ t. output_text (all_shown (on_table columns) (given replies) 1 (shown_is t)) (lines_are t) (end_of_run stopped a l))) in
-      let gave = Grows (readings old.tablet.clock) (readings ticked) in
-      let held = HeldBy old (workload old.tablet.core.work.cells (record { columns = columns; plan = plan })) first in
-      let after = CrashLeaves tells now leaves disk in
-      let its : RanBy gave held after view.tablet.core.work first view.tablet.core.opened view.tablet.core.trail stopped text = ran_by (λ image left rules h. held_view old view columns plan first fresh on root opens rules h) ran in
-      subst (λ (w : Workload). RanBy gave held after w first old.tablet.core.opened lines stopped text) (work_is old view columns plan first fresh on root opens)
-      (subst (λ (n : ℕ). RanBy gave held after view.tablet.core.work first n lines stopped text) (opened_is old view columns plan first fresh on root opens)
-      (subst (λ (es : List Event). RanBy gave held after view.tablet.core.work first view.tablet.core.opened es stopped text) (sym lines_are) its))
+  abbrev images : Image → Type 0
+  images = Both (CrashLeaves tells now leaves log) (CrashLeaves tells' now' leaves' store)
 
--- The log's device, as a run of a plan gives it back.
-module _ {L D C : Type 0} {tells : Bool} {seen : L → Files} {now : L → ℕ} {leaves : L → ℕ → Files → Type 0} {faults : L → ℕ} (old view : EngineView L D C) (plan : List (List Command)) (disk : L) (root : root_of view ≡ root_of (with_plan old plan))
-    (at_home : (journal : JournalView L) → view.log.home ≡ Some journal → IsHome tells seen now leaves faults view journal) (home : (journal : JournalView L) × (view.log.home ≡ Some journal) × (disk ≡ journal.disk)) where
+  pub kept_of : KeptOn gave old columns plan images lines
+  kept_of first opens =
+      let held = HeldBy old columns (workload old.tablet.core.work.cells (record { columns = columns; plan = plan })) first in
+      let here = kept_here readings tells now leaves tells' now' leaves' view columns first (found_view old view columns plan first fresh on root opens) sound log store home old.tablet.clock ticked (clock_is old view columns plan first fresh on root opens) ticked_is recover marks (ap (λ (w : Workload). w.fill) (on_view old view columns plan first fresh on root opens)) in
+      let kept : KeptBy gave held columns images view.tablet.core.work first view.tablet.core.opened view.tablet.core.trail = kept_by (λ image left rules h. held_view old view columns plan first fresh on root opens rules h) here in
+      subst (λ (w : Workload). KeptBy gave held columns images w first old.tablet.core.opened lines) (work_is old view columns plan first fresh on root opens)
+      (subst (λ (n : ℕ). KeptBy gave held columns images view.tablet.core.work first n lines) (opened_is old view columns plan first fresh on root opens)
+      (subst (KeptBy gave held columns images view.tablet.core.work first view.tablet.core.opened) (sym lines_are) kept))
+
+  -- What was printed of it.
+  module _ (stopped : Bool) (replies : List (List Reply)) (played : HasPlayed view plan stopped replies) (whole : IsTrue tells → IsTrue tells' → RecoversAllOfBoth now leaves now' leaves' view) (published : IsTrue tells' → LeavesPublished seen' now' leaves' view) where
+    pub ran_of : (a l rowsets : ℕ) (shown : List (List Command)) (text : List ℕ) → a ≡ view.tablet.core.a → l ≡ view.tablet.core.c → rowsets ≡ length view.store.meta.rowsets → shown ≡ plan
+        → OutputFits (all_shown (on_table columns) (given replies) 1 shown) lines (end_of_run stopped a l rowsets) → text ≡ output_text (all_shown (on_table columns) (given replies) 1 shown) lines (end_of_run stopped a l rowsets)
+        → RanOn gave old columns plan images lines stopped rowsets text
+    ran_of a l rowsets shown text a_is l_is rowsets_are shown_is fits text_is first opens =
+        let here : (p : List (List Command)) (events : List Event) → Type 0 = λ p events. OutputFits (all_shown (on_table columns) (given replies) 1 p) events (end_of_run stopped a l rowsets) in
+        let ran = ran_here readings tells now leaves tells' seen' now' leaves' view columns plan stopped replies first (on_view old view columns plan first fresh on root opens) (plan_is old view columns plan first fresh on root opens) (found_view old view columns plan first fresh on root opens) sound played
+        log store home old.tablet.clock ticked a l rowsets text (clock_is old view columns plan first fresh on root opens) ticked_is recover marks whole published a_is l_is rowsets_are
+        (subst (λ p. here p view.tablet.core.trail) shown_is (subst (λ events. here shown events) lines_are fits))
+        (text_is ∙ (λ t. output_text (all_shown (on_table columns) (given replies) 1 (shown_is t)) (lines_are t) (end_of_run stopped a l rowsets))) in
+        let held = HeldBy old columns (workload old.tablet.core.work.cells (record { columns = columns; plan = plan })) first in
+        let its : RanBy gave held columns images view.tablet.core.work first view.tablet.core.opened view.tablet.core.trail stopped rowsets text = ran_by (λ image left rules h. held_view old view columns plan first fresh on root opens rules h) ran in
+        subst (λ (w : Workload). RanBy gave held columns images w first old.tablet.core.opened lines stopped rowsets text) (work_is old view columns plan first fresh on root opens)
+        (subst (λ (n : ℕ). RanBy gave held columns images view.tablet.core.work first n lines stopped rowsets text) (opened_is old view columns plan first fresh on root opens)
+        (subst (λ (es : List Event). RanBy gave held columns images view.tablet.core.work first view.tablet.core.opened es stopped rowsets text) (sym lines_are) its))
+
+-- The devices, as a run of a plan gives them back.
+module _ {L D C : Type 0} {tells : Bool} {seen : L → Files} {now : L → ℕ} {leaves : L → ℕ → Files → Type 0} {faults : L → ℕ} (old view : EngineView L D C) (plan : List (List Command)) (log : L) (store : D) (root : root_of view ≡ root_of (with_plan old plan))
+    (at_home : (journal : JournalView L) → view.log.home ≡ Some journal → IsHome tells seen now leaves faults view journal) (home : AreHome view log store) where
   device_is : view.device ≡ old.device
   device_is = ap (λ (r : Root L D C). r.device) root
 
-  pub opens_again : IsTrue tells → CanOpen now leaves disk
-  opens_again told = subst (CanOpen now leaves) (sym home.2) ((at_home home.0 home.1).opens told)
+  pub store_device_is : view.store_device ≡ old.store_device
+  store_device_is = ap (λ (r : Root L D C). r.store) root
 
-  pub keeps_others : IsTrue tells → KeepsOthers now leaves old.device disk
-  keeps_others told = subst (KeepsOthers now leaves old.device) (sym home.2) (subst (λ d. KeepsOthers now leaves d home.0.disk) device_is ((at_home home.0 home.1).others told))
+  pub opens_again : IsTrue tells → CanOpen now leaves log
+  opens_again told = subst (CanOpen now leaves) (sym home.log_is) ((at_home home.journal home.log_home).opens told)
 
-  pub names_more : LeavesRecords tells now leaves view → (image : Image) → CrashLeaves tells now leaves disk image → NamesMore old.records old.tablet.names image
-  names_more front image left =
-      let h = front left.0 home.0 home.1 image (subst (λ d. leaves d (now d) image) home.2 left.1) in
-      let more : NamesMore view.records view.tablet.names image = record { run = h.run; reads = h.reads; names = h.names } in
-      subst (λ (r : Root L D C). NamesMore r.records r.names image) root more
+  pub keeps_others : IsTrue tells → KeepsOthers now leaves old.device log
+  keeps_others told = subst (KeepsOthers now leaves old.device) (sym home.log_is) (subst (λ d. KeepsOthers now leaves d home.journal.disk) device_is ((at_home home.journal home.log_home).others told))
 
-  pub no_fault_less : faults old.device ≤ faults disk
-  no_fault_less = subst (λ d. faults old.device ≤ faults d) (sym home.2) (subst (λ d. faults d ≤ faults home.0.disk) device_is (at_home home.0 home.1).later)
+  pub no_fault_less : faults old.device ≤ faults log
+  no_fault_less = subst (λ d. faults old.device ≤ faults d) (sym home.log_is) (subst (λ d. faults d ≤ faults home.journal.disk) device_is (at_home home.journal home.log_home).later)
 
-  pub fault_more : view.tablet.core.stopped ≡ true → Rose (faults old.device) (faults disk)
-  fault_more stopped = subst (λ d. Rose (faults old.device) (faults d)) (sym home.2) (subst (λ d. Rose (faults d) (faults home.0.disk)) device_is ((at_home home.0 home.1).rose stopped))
+  -- a device that has failed has more faults than were handed in, and none has fewer
+  pub some_failed : (faults' : D → ℕ) → HasFailed faults faults' view → IsTrue view.tablet.core.stopped → OneRose (faults old.device) (faults log) (faults' old.store_device) (faults' store)
+  some_failed faults' failed stopped = rose_as faults faults' device_is store_device_is home.log_is refl (failed.one stopped home.journal home.log_home store home.store_home)
+
+  pub store_no_less : (faults' : D → ℕ) → HasFailed faults faults' view → faults' old.store_device ≤ faults' store
+  store_no_less faults' failed = subst (λ d. faults' d ≤ faults' store) store_device_is (failed.store store home.store_home)

@@ -5,7 +5,8 @@ use Rattle.std.proofs.lemmas.Bool.Decides.{nat_tests}
 use Rattle.kt_script.specs.Pieces.{cut}
 use Rattle.kt_script.specs.Scripts.{Said, Fault, script_of, fault_of, said_unless, said, above_end, start, most_bytes}
 use Rattle.kt_streams.specs.Outside.{Reads}
-use Rattle.kt_app.specs.Crash.{IsSaid, IsFaultOf}
+use Rattle.kt_words.specs.declared.run.Settings.{Settings}
+use Rattle.kt_app.specs.Refusals.{IsSaid, IsFaultOf}
 use Rattle.kt_streams.proofs.StreamLaws.{read_whole}
 
 abbrev too_many : Option Fault
@@ -48,14 +49,16 @@ fault_by (Some script) new bytes f r h = same_fault script bytes new r ∙ h
 pub no_fault : (text : List ℕ) (s : Said) (f : Fault) → script_of text ≡ Some s → fault_of text ≡ Some f → ⊥
 no_fault text s f is fault = let none = ap (λ x. said_unless x (said (above_end start (cut 10 text)))) (sym fault) ∙ is in cc
 
--- what holds of a run of what is said holds of the script
-pub runs_script : (left : Option (List ℕ)) (s : Said) (P : List ℕ → Said → Type 0) (Q : List ℕ → Type 0) → IsSaid left s → (text : List ℕ) × P text s × Q text → IfSome left (λ script. (text : List ℕ) × ((said : Said) × (script_of script ≡ Some said) × P text said) × Q text)
-runs_script None s P Q is run = tt
-runs_script (Some script) s P Q is run = (run.0, (s, is, run.1), run.2)
+-- what holds of a run of what is said holds of the script, with what the words say
+pub runs_script : (left : Option (List ℕ)) (s : Said) (words : Option Settings) (settings : Settings) (P : List ℕ → Settings → Said → Type 0) (Q : List ℕ → Type 0) → words ≡ Some settings → IsSaid left s → (text : List ℕ) × P text settings s × Q text
+    → IfSome left (λ script. (its : Settings) × (words ≡ Some its) × (text : List ℕ) × ((said : Said) × (script_of script ≡ Some said) × P text its said) × Q text)
+runs_script None s words settings P Q e is run = tt
+runs_script (Some script) s words settings P Q e is run = (settings, e, run.0, (s, is, run.1), run.2)
 
-pub stops_script : (left : Option (List ℕ)) (s : Said) (P : Bool → Said → Type 0) (Q : Bool → Type 0) → IsSaid left s → (stopped : Bool) × P stopped s × Q stopped → IfSome left (λ script. (stopped : Bool) × ((said : Said) × (script_of script ≡ Some said) × P stopped said) × Q stopped)
-stops_script None s P Q is run = tt
-stops_script (Some script) s P Q is run = (run.0, (s, is, run.1), run.2)
+pub stops_script : (left : Option (List ℕ)) (s : Said) (words : Option Settings) (settings : Settings) (P : Bool → Settings → Said → Type 0) (Q : Bool → Type 0) → words ≡ Some settings → IsSaid left s → (stopped : Bool) × P stopped settings s × Q stopped
+    → IfSome left (λ script. (its : Settings) × (words ≡ Some its) × (stopped : Bool) × ((said : Said) × (script_of script ≡ Some said) × P stopped its said) × Q stopped)
+stops_script None s words settings P Q e is run = tt
+stops_script (Some script) s words settings P Q e is run = (settings, e, run.0, (s, is, run.1), run.2)
 
 pub either : {A B X : Type 0} → (A → X) → (B → X) → A ⊎ B → X
 either f g (inl a) = f a

@@ -35,7 +35,7 @@ use Rattle.kt_script.specs.declared.forms.OpForm.TheVariants as form
 use Rattle.kt_script.proofs.PrintedTables.{Above, Rising, all_kept, rising_kept, rising_of, numbered}
 use Rattle.kt_content.specs.Rules.{OpPasses, OpsPass, EffectPasses}
 use Rattle.kt_engine.specs.Logged.{PlanPasses}
-use Rattle.kt_app.specs.Crash.{work_of}
+use Rattle.kt_script.specs.Scripts.{workload}
 use Rattle.kt_app.specs.Session.{IsCounted, is_default}
 use Rattle.kt_app.specs.TableRules.{is_spelling, is_row, rules_of}
 use Rattle.kt_app.proofs.Planned.{nth_fits}
@@ -257,5 +257,5 @@ module _ (columns : List Column) (counted : IsCounted columns) where
   session_passes None i f = tt
   session_passes (Some cs) i f = command_passes (nth cs i) (λ c e. nth_fits (CommandFits columns) cs i c (f cs refl) e)
 
-  pub takes_plan : (plan : List (List Command)) → PlanFits columns plan → PlanPasses (rules_of columns) (work_of (record { columns = columns; plan = plan }))
-  takes_plan plan fits s i = session_passes (nth plan s) i (λ cs e. nth_fits (AllByRecursion (CommandFits columns)) plan s cs fits.each e)
+  pub takes_plan : (cells : ℕ) (plan : List (List Command)) → PlanFits columns plan → PlanPasses (rules_of columns) (workload cells (record { columns = columns; plan = plan }))
+  takes_plan cells plan fits s i = session_passes (nth plan s) i (λ cs e. nth_fits (AllByRecursion (CommandFits columns)) plan s cs fits.each e)

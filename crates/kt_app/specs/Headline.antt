@@ -42,9 +42,9 @@ all_shown work f s (commands ∷ plan) = shown_from work (f s) 1 commands ∷ al
 abbrev pub replies_in : Workload → Past → ℕ → List Event → List (List ShownReply)
 replies_in work past c events = all_shown work (answer work (past_after work past c events) events) 1 work.plan
 
--- the last line tells how the run ended
-abbrev pub end_line : State → LastLine
-end_line st = if st.stopped then last.Stopped else last.Numbers st.a st.c 0
+-- the last line tells how the run ended, and of how many disk rowsets its superblock tells
+abbrev pub end_line : ℕ → State → LastLine
+end_line rowsets st = if st.stopped then last.Stopped else last.Numbers st.a st.c rowsets
 
 -- the command was answered
 abbrev pub IsAnswered : Reply → Type 0
@@ -60,26 +60,22 @@ IsAnswered reply.Stopped = ⊥
 abbrev pub AreAnswered : List (List ShownReply) → Type 0
 AreAnswered replies = AllByRecursion (AllByRecursion (λ (r : ShownReply). IsAnswered r.reply)) replies
 
--- The text is the output text of this run of the workload from a past, in which every number fits in its 64 or 32 bits
+-- The text is the output text of this run of the workload from a past, whose superblock has so many disk rowsets, in which every number fits in its 64 or 32 bits
 -- and the clock gave these readings. Its history ends with `stop` where it was stopped, and else every command was
 -- answered.
-pub record IsOutput (work : Workload) (past : Past) (c : ℕ) (stopped : Bool) (text readings : List ℕ) (events : List Event) : Type 0 where
+pub record IsOutput (work : Workload) (past : Past) (c : ℕ) (stopped : Bool) (rowsets : ℕ) (text readings : List ℕ) (events : List Event) : Type 0 where
   pub run : IsRun work past c events
   pub clock : readings_of events ≡ readings
-  pub fits : OutputFits (replies_in work past c events) events (end_line (end_of work past c events))
+  pub fits : OutputFits (replies_in work past c events) events (end_line rowsets (end_of work past c events))
   pub ended : (end_of work past c events).stopped ≡ stopped
   pub stop : stopped ≡ true → (before : List Event) × (events ≡ before ++ event.Stop ∷ [])
   pub answered : stopped ≡ false → AreAnswered (replies_in work past c events)
-  pub printed : text ≡ output_text (replies_in work past c events) events (end_line (end_of work past c events))
+  pub printed : text ≡ output_text (replies_in work past c events) events (end_line rowsets (end_of work past c events))
 
 -- no script is spelled so
 abbrev pub IsNoScript : List ℕ → Type 0
 IsNoScript text = (said : Said) → script_of text ≡ Some said → ⊥
 
--- the words are in the written form: the one word `run`
-abbrev pub AreRun : List (List ℕ) → Type 0
-AreRun words = words ≡ codes "run" ∷ []
-
 -- the text of a run has one history: it can be read off the bytes, whatever past the run began from
 abbrev pub one_history : Type 0
-one_history = (work : Workload) (p q : Past) (c d : ℕ) (b e : Bool) (text r s : List ℕ) (xs ys : List Event) → IsOutput work p c b text r xs → IsOutput work q d e text s ys → (xs ≡ ys) × (r ≡ s)
+one_history = (work : Workload) (p q : Past) (c d m n : ℕ) (b e : Bool) (text r s : List ℕ) (xs ys : List Event) → IsOutput work p c b m text r xs → IsOutput work q d e n text s ys → (xs ≡ ys) × (r ≡ s)

@@ -1,5 +1,8 @@
 pub mod TableRules
-pub mod Crash
+pub mod Cells
+pub mod Images
+pub mod Refusals
 pub mod Headline
+pub mod Crash
 pub mod Session
 pub mod Played

@@ -1,15 +1,12 @@
-//! How many cells of the pool a plan needs.
+//! How many cells the pool has.
 ghost use Rattle.std.specs.Prelude.{◌≡◌, IfOk, List};
 ghost use Rattle.std.specs.List.{sum_by};
 ghost use Rattle.kt_history.specs.declared.command.Command.{Command};
-ghost use Rattle.kt_app.specs.Crash.{pool_of, need_of};
+ghost use Rattle.kt_app.specs.Cells.{room_of, need_of};
 
 use kt_base::NoMemory;
 use kt_history::{Command, Plan};
 use kt_tablet::need::need;
-
-/// The fewest cells of a pool.
-const CELLS_LEAST: u32 = 1024;
 
 // How many cells a command needs, where they are a number of 32 bits.
 fn command_need(command: &Command) -> Result<u32, NoMemory>
@@ -47,9 +44,10 @@ fn plan_need(plan: &Plan) -> Result<u32, NoMemory>
     Ok(cells)
 }
 
-/// The cells for every write of a plan, and at least 1,024. No memory has so many as do not fit in 32 bits.
-pub fn cells_of(plan: &Plan) -> Result<u32, NoMemory>
-    ensures { IfOk result (λ cells. cells ≡ pool_of plan.now) }
+/// The free cells of a pool that runs a plan: those that the words say, or those for every write of the plan, whichever are more. No
+/// memory has so many as do not fit in 32 bits.
+pub fn room_of(plan: &Plan, cells: u32) -> Result<u32, NoMemory>
+    ensures { IfOk result (λ room. room ≡ room_of cells plan.now) }
 {
-    Ok(plan_need(plan)?.max(CELLS_LEAST))
+    Ok(cells.max(plan_need(plan)?))
 }

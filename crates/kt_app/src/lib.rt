@@ -1,7 +1,7 @@
 //! The top call: it reads a script, runs its commands and prints what came of them.
 //!
-//! Its contract is what a user relies on: the printed history is a run of the tablet machine from what the log held,
-//! each reply is that run's, and whatever a crash leaves of the log holds every acknowledged write. It stands on kt_boot,
+//! Its contract is what a user relies on: the printed history is a run of the tablet machine from what both devices held,
+//! each reply is that run's, and whatever a crash leaves of both holds every acknowledged write. It stands on kt_words, kt_boot,
 //! kt_serve, kt_engine and kt_script.
 #![tactic(auto)]
 

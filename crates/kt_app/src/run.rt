@@ -2,20 +2,20 @@
 ghost use Rattle.std.specs.Prelude.{◌≡◌, ◌≢◌, ◌<◌, ◌≤◌, [], IfSome, IfOk, OnOk, IsTrue, None, false, true, map, length, All};
 ghost use Rattle.kt_base.specs.Causes.{Grows, Rose};
 ghost use Rattle.kt_journal.specs.Log.{CanOpen};
-ghost use Rattle.kt_history.specs.History.{Past};
 ghost use Rattle.kt_history.specs.Machine.{first_turns};
 ghost use Rattle.kt_script.specs.Fit.{PlanFits};
-ghost use Rattle.kt_script.specs.Scripts.{workload};
-ghost use Rattle.kt_engine.specs.Engines.{IsFound, KeepsOthers};
+ghost use Rattle.kt_storeside.specs.Supers.{NamedStand};
+ghost use Rattle.kt_reopen.specs.Opened.{OneRose};
+ghost use Rattle.kt_engine.specs.Engines.{KeepsOthers};
 ghost use Rattle.kt_engine.specs.Visits.{root_of};
 ghost use Rattle.kt_serve.specs.declared.session.SessionEnd.{SessionEnd};
 ghost use Rattle.kt_seatlock.specs.Passes.{number, given, passes_of, IsVacant, IsPassOf};
 ghost use Rattle.kt_serve.specs.Scans.{IsOn};
-ghost use Rattle.kt_app.specs.Crash.{Image, CrashLeaves, NamesMore, RanBy, KeptBy};
+ghost use Rattle.kt_app.specs.Images.{CrashLeaves, Both, AreNear};
 ghost use Rattle.kt_app.specs.Session.{IsCounted};
-ghost use Rattle.kt_app.specs.Played.{IsFresh, HeldBy, IsWhole, HasPlayed};
+ghost use Rattle.kt_app.specs.Played.{IsFresh, KeptOn, RanOn, IsWhole, HasPlayed};
 
-use crate::text::{Output, output_of};
+use crate::text::{Output, RunEnd, output_of};
 use kt_base::{Clock, NoMemory};
 use kt_disk::{Disk, Gate};
 use kt_engine::{Engine, Parts};
@@ -82,7 +82,13 @@ fn gather(alloc: Global, ends: Vec<SessionEnd>, stopped: bool) -> Result<Played,
 }
 
 // Runs the sessions of a plan that the engine has, each in a thread.
-fn play<L: Disk + Send, D: Send, C: Clock + Send, G: Gate + Sync, R: Threads + Wait + Sync>(
+fn play<
+    L: Disk + Send,
+    D: Disk + Drop + Send,
+    C: Clock + Send,
+    G: Gate + Sync,
+    R: Threads + Wait + Sync,
+>(
     rt: &R,
     alloc: Global,
     schema: &Schema,
@@ -97,10 +103,10 @@ fn play<L: Disk + Send, D: Send, C: Clock + Send, G: Gate + Sync, R: Threads + W
     requires own { IsPassOf lock pass × IsVacant pass × (given pass ≡ 1) × (number pass ≡ 0) }
     requires passes { length plan.now < passes_of lock }
     requires on { IsOn schema.now engine.tablet.core.work × (engine.tablet.core.work.plan ≡ plan.now) }
-    requires fresh { (engine.tablet.core.trail ≡ []) × (engine.tablet.core.aloft ≡ []) × (engine.log.holder ≡ None) }
+    requires fresh { (engine.tablet.core.trail ≡ []) × (engine.tablet.core.aloft ≡ []) × (engine.log.holder ≡ None) × (engine.store.holder ≡ None) }
     requires turns { engine.tablet.core.turns ≡ first_turns plan.now }
     ensures root { root_of result.1 ≡ root_of engine }
-    ensures home { result.1.log.holder ≡ None }
+    ensures home { (result.1.log.holder ≡ None) × (result.1.store.holder ≡ None) }
     ensures played { IfOk result.0 (λ played. HasPlayed result.1 plan.now played.stopped played.replies.items) }
 {
     match run_sessions(rt, alloc, schema, lock, pass, engine, plan.as_slice(), gate) {
@@ -115,7 +121,13 @@ fn play<L: Disk + Send, D: Send, C: Clock + Send, G: Gate + Sync, R: Threads + W
 
 /// Runs a plan on an engine that was opened, and gives its output text, unless memory is wanting, and what the engine is taken
 /// apart into. The lock is made before there is an engine, so that no want of memory loses one.
-pub fn run_plan<L: Disk + Send, D: Send, C: Clock + Send, G: Gate + Sync, R: Threads + Wait + Sync>(
+pub fn run_plan<
+    L: Disk + Send,
+    D: Disk + Drop + Send,
+    C: Clock + Send,
+    G: Gate + Sync,
+    R: Threads + Wait + Sync,
+>(
     rt: &R,
     alloc: Global,
     schema: &Schema,
@@ -133,23 +145,27 @@ pub fn run_plan<L: Disk + Send, D: Send, C: Clock + Send, G: Gate + Sync, R: Thr
     requires work { IsOn schema.now engine.tablet.core.work }
 
     // What was printed is the output text of a run of the plan from what opening found, in which the clock gave what it gave
-    // in this call. By rules of the table that take each write of the plan, and by which its log held what opening found, a crash now leaves what
+    // in this call. By rules of the table that take each write of the plan, and by which its devices held what opening found, a crash now leaves what
     // the run made of that.
-    ensures run { IfSome result.0 (λ out. (first : Past) → IsFound engine first
-        → RanBy (Grows (C.readings engine.tablet.clock) (C.readings result.1.clock)) (HeldBy engine (workload engine.tablet.core.work.cells (record { columns = schema.now; plan = plan.now })) first) (CrashLeaves L.tells L.now L.leaves result.1.log) (workload engine.tablet.core.work.cells (record { columns = schema.now; plan = plan.now })) first engine.tablet.core.opened result.1.trail out.stopped out.text) }
+    ensures run { IfSome result.0 (λ out. RanOn (Grows (C.readings engine.tablet.clock) (C.readings result.1.clock)) engine schema.now plan.now
+        (Both (CrashLeaves L.tells L.now L.leaves result.1.log) (CrashLeaves D.tells D.now D.leaves result.1.store)) result.1.trail out.stopped (length result.1.meta.rowsets) out.text) }
 
     // Whatever became of its text, the lines that are handed back are a run, and a crash now leaves the first of its writes.
-    ensures kept { (first : Past) → IsFound engine first
-        → KeptBy (Grows (C.readings engine.tablet.clock) (C.readings result.1.clock)) (HeldBy engine (workload engine.tablet.core.work.cells (record { columns = schema.now; plan = plan.now })) first) (CrashLeaves L.tells L.now L.leaves result.1.log) (workload engine.tablet.core.work.cells (record { columns = schema.now; plan = plan.now })) first engine.tablet.core.opened result.1.trail }
+    ensures kept { KeptOn (Grows (C.readings engine.tablet.clock) (C.readings result.1.clock)) engine schema.now plan.now
+        (Both (CrashLeaves L.tells L.now L.leaves result.1.log) (CrashLeaves D.tells D.now D.leaves result.1.store)) result.1.trail }
 
-    // It leaves all files but the log's as they were handed in, and behind the records that opening found those whose COMMITs
-    // name the engine's stores alone.
+    // It leaves all files of the log's device but the log as they were handed in. No number is far above those that opening found.
     ensures others { IsTrue L.tells → KeepsOthers L.now L.leaves engine.device result.1.log }
-    ensures named { (image : Image) → CrashLeaves L.tells L.now L.leaves result.1.log image → NamesMore engine.records engine.tablet.names image }
-    ensures store { result.1.store ≡ engine.store }
+    ensures near { AreNear (Both (CrashLeaves L.tells L.now L.leaves engine.device) (CrashLeaves D.tells D.now D.leaves engine.store_device))
+        (Both (CrashLeaves L.tells L.now L.leaves result.1.log) (CrashLeaves D.tells D.now D.leaves result.1.store)) }
+
+    // The devices may be opened again.
     ensures openable { IsTrue L.tells → CanOpen L.now L.leaves result.1.log }
-    ensures faults { L.faults engine.device ≤ L.faults result.1.log }
-    ensures fault { IfSome result.0 (λ out. IsTrue out.stopped → Rose (L.faults engine.device) (L.faults result.1.log)) }
+    ensures stand { IsTrue D.tells → NamedStand D.seen D.now D.leaves result.1.store }
+
+    ensures log_faults { L.faults engine.device ≤ L.faults result.1.log }
+    ensures store_faults { D.faults engine.store_device ≤ D.faults result.1.store }
+    ensures fault { IfSome result.0 (λ out. IsTrue out.stopped → OneRose (L.faults engine.device) (L.faults result.1.log) (D.faults engine.store_device) (D.faults result.1.store)) }
 {
     engine.set_plan(plan);
     let (played, engine) = play(rt, alloc, schema, plan, lock, pass, engine, gate);
@@ -158,17 +174,13 @@ pub fn run_plan<L: Disk + Send, D: Send, C: Clock + Send, G: Gate + Sync, R: Thr
     let parts = engine.take_apart();
     match played {
         Ok(Played { stopped, replies }) => {
-            let trail = &parts.trail;
-            let output = output_of(
-                alloc,
-                schema,
-                plan.as_slice(),
-                replies,
+            let end = RunEnd {
                 stopped,
                 a,
                 c,
-                trail,
-            );
+                rowsets: parts.meta.rowsets.as_slice().len() as u64,
+            };
+            let output = output_of(alloc, schema, plan.as_slice(), replies, &parts.trail, &end);
             (output.ok(), parts)
         }
         Err(NoMemory) => (None, parts),

@@ -146,14 +146,27 @@ fn shown_all(
     Ok(ReplyLists::of(shown))
 }
 
-// The last line of a run with this mark and this last timestamp.
-fn last_line(stopped: bool, a: u64, c: u64) -> LastLine
-    ensures { result ≡ end_of_run stopped a c }
+/// How a run ended: whether a device fault stopped it, its mark, its last timestamp, and the disk rowsets of its superblock.
+#[derive(Clone, Copy)]
+pub struct RunEnd {
+    pub stopped: bool,
+    pub a: u64,
+    pub c: u64,
+    pub rowsets: u64,
+}
+
+// The last line of a run.
+fn last_line(end: &RunEnd) -> LastLine
+    ensures { result ≡ end_of_run end.now.stopped end.now.a end.now.c end.now.rowsets }
 {
-    if stopped {
+    if end.stopped {
         LastLine::Stopped
     } else {
-        LastLine::Numbers { a, c, rowsets: 0 }
+        LastLine::Numbers {
+            a: end.a,
+            c: end.c,
+            rowsets: end.rowsets,
+        }
     }
 }
 
@@ -170,24 +183,25 @@ fn text_of(
     Ok(out)
 }
 
-/// The output of a run with these replies and this history.
+/// The output of a run with these replies, this history and this end.
 pub fn output_of(
     alloc: Global,
     schema: &Schema,
     plan: &[Session],
     replies: Vec<SessionReplies>,
-    stopped: bool,
-    a: u64,
-    c: u64,
     trail: &EventList,
+    end: &RunEnd,
 ) -> Result<Output, NoMemory>
-    ensures stopped { IfOk result (λ out. out.stopped ≡ stopped) }
-    ensures text { IfOk result (λ out. out.text ≡ output_text (all_shown (on_table schema.now) (given replies.items) 1 plan.now) trail.now (end_of_run stopped a c)) }
-    ensures fits { IfOk result (λ out. OutputFits (all_shown (on_table schema.now) (given replies.items) 1 plan.now) trail.now (end_of_run stopped a c)) }
+    ensures stopped { IfOk result (λ out. out.stopped ≡ end.now.stopped) }
+    ensures text { IfOk result (λ out. out.text ≡ output_text (all_shown (on_table schema.now) (given replies.items) 1 plan.now) trail.now (end_of_run end.now.stopped end.now.a end.now.c end.now.rowsets)) }
+    ensures fits { IfOk result (λ out. OutputFits (all_shown (on_table schema.now) (given replies.items) 1 plan.now) trail.now (end_of_run end.now.stopped end.now.a end.now.c end.now.rowsets)) }
 {
     let sessions = shown_all(alloc, schema, plan, replies)?;
     let _count = sessions.as_slice().len();
     events_fit(trail.as_slice());
-    let text = text_of(alloc, &sessions, trail, &last_line(stopped, a, c))?;
-    Ok(Output { stopped, text })
+    let text = text_of(alloc, &sessions, trail, &last_line(end))?;
+    Ok(Output {
+        stopped: end.stopped,
+        text,
+    })
 }

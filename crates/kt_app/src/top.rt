@@ -1,39 +1,44 @@
-//! The top call: it reads a script, opens the log, runs the commands and prints what came of them.
+//! The top call: it reads a script, opens both devices, runs the commands and prints what came of them.
 
-ghost use Rattle.std.specs.Prelude.{◌≡◌, ◌≢◌, ◌⊎◌, ◌↔◌, IsTrue, ◌≤◌, ◌<◌, ◌++◌, ◌∷◌, [], Bool, true, false, Ok, Err, IfOk, IfErr, IfSome, Some, IsErrOf, codes, map, length, List, ℕ};
+ghost use Rattle.std.specs.Prelude.{◌≡◌, ◌≢◌, ◌⊎◌, IsTrue, ◌≤◌, ◌<◌, ◌++◌, ◌∷◌, [], Bool, true, false, None, Ok, Err, IfOk, IfErr, IfSome, Some, IsErrOf, codes, map, length, List, ℕ};
 ghost use Rattle.std.specs.Fmt.{decimal};
 ghost use Rattle.std.specs.Io.KnownBytes.{Appends};
 ghost use Rattle.kt_base.specs.Causes.{Grows, Rose};
 ghost use Rattle.kt_journal.specs.Log.{CanOpen};
-ghost use Rattle.kt_schema.specs.Columns.{fill_of};
-ghost use Rattle.kt_history.specs.History.{Past};
 ghost use Rattle.kt_script.specs.Fit.{PlanFits};
-ghost use Rattle.kt_script.specs.Scripts.{Said, Fault, script_of};
-ghost use Rattle.kt_boot.specs.Opening.{Found, opening_of};
-ghost use Rattle.kt_app.specs.Headline.{IsNoScript, AreRun};
-ghost use Rattle.kt_app.specs.TableRules.{rules_of};
-ghost use Rattle.kt_app.specs.Crash.{Image, CrashLeaves, IsRead, KeepsFiles, NamesMore, work_of, pool_of, RanBy, Refuses, RunsPlan, RunsScript, IsSaid, IsFaultOf, IsRefused, fault_text, refusal_text, IsRefusal, LeavesAsBefore, KeptBy, LeavesFirst};
-ghost use Rattle.kt_engine.specs.Engines.{IsFound, KeepsOthers};
-ghost use Rattle.kt_journal.specs.Numbers.{AreNear};
+ghost use Rattle.kt_script.specs.Scripts.{Said, Fault, script_of, workload};
+ghost use Rattle.kt_words.specs.Words.{settings_in};
+ghost use Rattle.kt_words.specs.declared.run.Settings.{Settings};
+ghost use Rattle.kt_reopen.specs.Both.{Found, Answers};
+ghost use Rattle.kt_storeside.specs.Supers.{NamedStand};
+ghost use Rattle.kt_reopen.specs.Opened.{IsRefusal, OneRose};
+ghost use Rattle.kt_app.specs.Headline.{IsNoScript};
+ghost use Rattle.kt_app.specs.Images.{CrashLeaves, IsRead, Both, KeepsFiles, LeavesAsBefore, AreNear};
+ghost use Rattle.kt_app.specs.Refusals.{IsSaid, IsFaultOf, IsRefused, fault_text, refusal_text};
+ghost use Rattle.kt_app.specs.Crash.{Refuses, RunsPlan, RunsScript, LeavesFirst};
+ghost use Rattle.kt_engine.specs.Engines.{KeepsOthers};
+ghost use Rattle.kt_app.specs.Cells.{room_of};
 ghost use Rattle.kt_app.specs.Session.{IsCounted};
 ghost use Rattle.kt_seatlock.specs.Passes.{number, given, passes_of, IsVacant, IsPassOf};
 ghost use Rattle.kt_serve.specs.Scans.{IsOn};
-ghost use Rattle.kt_app.specs.Played.{IsFresh, HeldBy};
+ghost use Rattle.kt_app.specs.Played.{IsFresh, KeptOn, RanOn};
 ghost use Rattle.kt_streams.specs.Outside.{WritesFront};
 
-use crate::cells::cells_of;
+use crate::cells::room_of;
 use crate::run::run_plan;
 use crate::text::Output;
 use kt_base::{Clock, NoMemory, Octets, Sink, Source};
-use kt_boot::{Closed, Why, open_tablet};
+use kt_boot::{Closed, open_tablet};
 use kt_disk::{Disk, Gate};
 use kt_engine::{Engine, Parts};
 use kt_history::Plan;
+use kt_reopen::Why;
 use kt_schema::Schema;
 use kt_script::number::print_number;
 use kt_script::{Script, ScriptNo, read_script};
 use kt_seatlock::{Pass, SeatLock};
 use kt_streams::{ReadNo, read_all, write_all};
+use kt_words::{WordsNo, read_words};
 use std::alloc::Global;
 use std::sync::Wait;
 use std::thread::Threads;
@@ -96,26 +101,26 @@ fn finish<K: Sink>(sink: &mut K, text: &[u8], status: u8) -> u8
     }
 }
 
-fn is_run(word: &str) -> bool
-    ensures { IsTrue result ↔ (word.now ≡ codes "run") }
-{
-    word == "run"
-}
-
-fn are_run(words: &[&str]) -> bool
-    ensures { IsTrue result ↔ AreRun (map (λ w. w.now) words.now) }
-{
-    words.len() == 1 && is_run(words[0])
-}
-
 const STOPPED_OPENING: &[u8] = b"stopped opening\n";
 
-// The line of a refusal.
+// The line of a refusal with one number.
 fn refused_line(alloc: Global, word: &[u8], number: u64) -> Result<Octets, NoMemory>
     ensures { IfOk result (λ text. text ≡ word.now ++ decimal number ++ 10 ∷ []) }
 {
     let mut text = Octets::from_slice(alloc, word)?;
     print_number(number, &mut text)?;
+    text.push(b'\n')?;
+    Ok(text)
+}
+
+// And with two.
+fn refused_pair(alloc: Global, word: &[u8], first: u64, second: u64) -> Result<Octets, NoMemory>
+    ensures { IfOk result (λ text. text ≡ word.now ++ decimal first ++ 32 ∷ decimal second ++ 10 ∷ []) }
+{
+    let mut text = Octets::from_slice(alloc, word)?;
+    print_number(first, &mut text)?;
+    text.push(b' ')?;
+    print_number(second, &mut text)?;
     text.push(b'\n')?;
     Ok(text)
 }
@@ -145,20 +150,37 @@ fn refuse_script<K: Sink>(alloc: Global, sink: &mut K, number: u64, reason: u8) 
     }
 }
 
-// Refuses a log whose content is at fault.
-fn refuse_with<K: Sink>(alloc: Global, sink: &mut K, word: &[u8], number: u64) -> u8
-    ensures refused { result ≡ 3 → Appends (K.written sink.old) (K.written sink.new) (word.now ++ decimal number ++ 10 ∷ []) }
-    ensures cut { result ≡ 6 → Rose (K.faults sink.old) (K.faults sink.new) × WritesFront (K.written sink.old) (K.written sink.new) (word.now ++ decimal number ++ 10 ∷ []) }
+// The line of what both devices hold. A fault of a device and want of memory have none.
+fn refusal_line(alloc: Global, no: Why) -> Result<Octets, NoMemory>
+    requires { IsRefusal no }
+    ensures { IfOk result (λ text. text ≡ refusal_text no) }
+{
+    match no {
+        Why::B1 { slot, offset } => refused_pair(alloc, b"refused B1 ", slot, offset),
+        Why::B2 { file, offset } => refused_pair(alloc, b"refused B2 ", file, offset),
+        Why::B3 { offset } => refused_line(alloc, b"refused B3 ", offset),
+        Why::B4 { need, found } => refused_pair(alloc, b"refused B4 ", need, found),
+        Why::B5 { column } => refused_line(alloc, b"refused B5 ", u64::from(column)),
+        Why::B6 { last } => refused_line(alloc, b"refused B6 ", last),
+        Why::Fault | Why::Memory => unreachable!(),
+    }
+}
+
+// Refuses devices that hold nothing else.
+fn refuse_with<K: Sink>(alloc: Global, sink: &mut K, no: Why) -> u8
+    requires { IsRefusal no }
+    ensures refused { result ≡ 3 → Appends (K.written sink.old) (K.written sink.new) (refusal_text no) }
+    ensures cut { result ≡ 6 → Rose (K.faults sink.old) (K.faults sink.new) × WritesFront (K.written sink.old) (K.written sink.new) (refusal_text no) }
     ensures memory { result ≡ 7 → Appends (K.written sink.old) (K.written sink.new) [] }
     ensures statuses { (result ≡ 3) ⊎ (result ≡ 6) ⊎ (result ≡ 7) }
 {
-    match refused_line(alloc, word, number) {
+    match refusal_line(alloc, no) {
         Ok(text) => finish(sink, text.as_slice(), 3),
         Err(NoMemory) => 7,
     }
 }
 
-// Writes why a log was not opened.
+// Writes why the devices were not opened.
 fn refuse<K: Sink>(alloc: Global, sink: &mut K, no: Why) -> u8
     ensures refused { result ≡ 3 → IsRefusal no × Appends (K.written sink.old) (K.written sink.new) (refusal_text no) }
     ensures fault { result ≡ 4 → (no ≡ Why.Fault) × Appends (K.written sink.old) (K.written sink.new) STOPPED_OPENING.now }
@@ -167,10 +189,9 @@ fn refuse<K: Sink>(alloc: Global, sink: &mut K, no: Why) -> u8
     ensures statuses { (result ≡ 3) ⊎ (result ≡ 4) ⊎ (result ≡ 6) ⊎ (result ≡ 7) }
 {
     match no {
-        Why::B3 { offset } => refuse_with(alloc, sink, b"refused B3 ", offset),
-        Why::B6 { last } => refuse_with(alloc, sink, b"refused B6 ", last),
         Why::Fault => finish(sink, STOPPED_OPENING, 4),
         Why::Memory => 7,
+        _ => refuse_with(alloc, sink, no),
     }
 }
 
@@ -189,7 +210,7 @@ fn write_output<K: Sink>(sink: &mut K, output: &Output) -> u8
 fn run_and_write<
     K: Sink,
     L: Disk + Send,
-    D: Send,
+    D: Disk + Drop + Send,
     C: Clock + Send,
     G: Gate + Sync,
     R: Threads + Wait + Sync,
@@ -209,24 +230,19 @@ fn run_and_write<
     requires own { IsPassOf lock pass × IsVacant pass × (given pass ≡ 1) × (number pass ≡ 0) }
     requires passes { length plan.now < passes_of lock }
     requires fresh { IsFresh engine }
-    requires work { IsOn schema.now engine.tablet.core.work × (engine.tablet.core.work.cells ≡ pool_of plan.now) }
-    ensures printed { result.0 ≡ 0 → (first : Past) → IsFound engine first
-        → (text : List ℕ) × RanBy (Grows (C.readings engine.tablet.clock) (C.readings result.1.clock)) (HeldBy engine (work_of (record { columns = schema.now; plan = plan.now })) first) (CrashLeaves L.tells L.now L.leaves result.1.log) (work_of (record { columns = schema.now; plan = plan.now })) first engine.tablet.core.opened result.1.trail false text × Appends (K.written sink.old) (K.written sink.new) text }
-    ensures stopped { result.0 ≡ 4 → (first : Past) → IsFound engine first
-        → (text : List ℕ) × RanBy (Grows (C.readings engine.tablet.clock) (C.readings result.1.clock)) (HeldBy engine (work_of (record { columns = schema.now; plan = plan.now })) first) (CrashLeaves L.tells L.now L.leaves result.1.log) (work_of (record { columns = schema.now; plan = plan.now })) first engine.tablet.core.opened result.1.trail true text × Appends (K.written sink.old) (K.written sink.new) text }
-    ensures fault { result.0 ≡ 4 → Rose (L.faults engine.device) (L.faults result.1.log) }
-    ensures cut { result.0 ≡ 6 → (first : Past) → IsFound engine first
-        → (text : List ℕ) × (stopped : Bool) × RanBy (Grows (C.readings engine.tablet.clock) (C.readings result.1.clock)) (HeldBy engine (work_of (record { columns = schema.now; plan = plan.now })) first) (CrashLeaves L.tells L.now L.leaves result.1.log) (work_of (record { columns = schema.now; plan = plan.now })) first engine.tablet.core.opened result.1.trail stopped text
-        × (stopped ≡ true → Rose (L.faults engine.device) (L.faults result.1.log)) × WritesFront (K.written sink.old) (K.written sink.new) text }
+    requires work { IsOn schema.now engine.tablet.core.work }
+    ensures printed { result.0 ≡ 0 → (text : List ℕ) × Appends (K.written sink.old) (K.written sink.new) text × RanOn (Grows (C.readings engine.tablet.clock) (C.readings result.1.clock)) engine schema.now plan.now (Both (CrashLeaves L.tells L.now L.leaves result.1.log) (CrashLeaves D.tells D.now D.leaves result.1.store)) result.1.trail false (length result.1.meta.rowsets) text }
+    ensures stopped { result.0 ≡ 4 → (text : List ℕ) × Appends (K.written sink.old) (K.written sink.new) text × RanOn (Grows (C.readings engine.tablet.clock) (C.readings result.1.clock)) engine schema.now plan.now (Both (CrashLeaves L.tells L.now L.leaves result.1.log) (CrashLeaves D.tells D.now D.leaves result.1.store)) result.1.trail true (length result.1.meta.rowsets) text }
+    ensures fault { result.0 ≡ 4 → OneRose (L.faults engine.device) (L.faults result.1.log) (D.faults engine.store_device) (D.faults result.1.store) }
+    ensures cut { result.0 ≡ 6 → (text : List ℕ) × (stopped : Bool) × WritesFront (K.written sink.old) (K.written sink.new) text × RanOn (Grows (C.readings engine.tablet.clock) (C.readings result.1.clock)) engine schema.now plan.now (Both (CrashLeaves L.tells L.now L.leaves result.1.log) (CrashLeaves D.tells D.now D.leaves result.1.store)) result.1.trail stopped (length result.1.meta.rowsets) text × (stopped ≡ true → OneRose (L.faults engine.device) (L.faults result.1.log) (D.faults engine.store_device) (D.faults result.1.store)) }
     ensures sink_fault { result.0 ≡ 6 → Rose (K.faults sink.old) (K.faults sink.new) }
     ensures memory { result.0 ≡ 7 → Appends (K.written sink.old) (K.written sink.new) [] }
     ensures statuses { (result.0 ≡ 0) ⊎ (result.0 ≡ 4) ⊎ (result.0 ≡ 6) ⊎ (result.0 ≡ 7) }
-    ensures kept { (first : Past) → IsFound engine first
-        → KeptBy (Grows (C.readings engine.tablet.clock) (C.readings result.1.clock)) (HeldBy engine (work_of (record { columns = schema.now; plan = plan.now })) first) (CrashLeaves L.tells L.now L.leaves result.1.log) (work_of (record { columns = schema.now; plan = plan.now })) first engine.tablet.core.opened result.1.trail }
+    ensures kept { KeptOn (Grows (C.readings engine.tablet.clock) (C.readings result.1.clock)) engine schema.now plan.now (Both (CrashLeaves L.tells L.now L.leaves result.1.log) (CrashLeaves D.tells D.now D.leaves result.1.store)) result.1.trail }
     ensures others { IsTrue L.tells → KeepsOthers L.now L.leaves engine.device result.1.log }
-    ensures named { (image : Image) → CrashLeaves L.tells L.now L.leaves result.1.log image → NamesMore engine.records engine.tablet.names image }
-    ensures store { result.1.store ≡ engine.store }
+    ensures near { AreNear (Both (CrashLeaves L.tells L.now L.leaves engine.device) (CrashLeaves D.tells D.now D.leaves engine.store_device)) (Both (CrashLeaves L.tells L.now L.leaves result.1.log) (CrashLeaves D.tells D.now D.leaves result.1.store)) }
     ensures openable { IsTrue L.tells → CanOpen L.now L.leaves result.1.log }
+    ensures stand { IsTrue D.tells → NamedStand D.seen D.now D.leaves result.1.store }
 {
     let (output, parts) = run_plan(rt, alloc, schema, plan, lock, pass, engine, gate);
     match output {
@@ -235,30 +251,31 @@ fn run_and_write<
     }
 }
 
-// The cells that a plan needs, and a lock with room for its sessions, which is made before there is a tablet to put in: so
+// The free cells of the pool, and a lock with room for the sessions of a plan, which is made before there is a tablet to put in: so
 // want of memory for it loses no device.
-fn make_ready<L: Disk, D, C: Clock>(
+fn make_ready<L: Disk, D: Disk + Drop, C: Clock>(
     alloc: Global,
     plan: &Plan,
+    cells: u32,
 ) -> Result<(u32, SeatLock<Engine<L, D, C>>, Pass<Engine<L, D, C>>), NoMemory>
     requires few { length plan.now ≤ 64 }
-    ensures cells { IfOk result (λ r. r.0 ≡ pool_of plan.now) }
+    ensures room { IfOk result (λ r. r.0 ≡ room_of cells plan.now) }
     ensures own { IfOk result (λ r. IsPassOf r.1 r.2 × IsVacant r.2 × (given r.2 ≡ 1) × (number r.2 ≡ 0)) }
     ensures passes { IfOk result (λ r. length plan.now < passes_of r.1) }
 {
-    let cells = cells_of(plan)?;
+    let room = room_of(plan, cells)?;
     let passes = plan.as_slice().len() as u32 + 1;
     match SeatLock::vacant(alloc, passes) {
-        Ok((lock, pass)) => Ok((cells, lock, pass)),
+        Ok((lock, pass)) => Ok((room, lock, pass)),
         Err(_) => Err(NoMemory),
     }
 }
 
-// Opens the log, and runs a plan over it.
+// Opens both devices, and runs a plan over them in which no write needs more cells than these.
 fn open_and_run<
     K: Sink,
     L: Disk + Send,
-    D: Send,
+    D: Disk + Drop + Send,
     C: Clock + Send,
     G: Gate + Sync,
     R: Threads + Wait + Sync,
@@ -267,6 +284,7 @@ fn open_and_run<
     alloc: Global,
     schema: &Schema,
     plan: &Plan,
+    cells: u32,
     log: L,
     store: D,
     clock: C,
@@ -276,30 +294,34 @@ fn open_and_run<
     requires counted { IsCounted schema.now }
     requires fits { PlanFits schema.now plan.now }
     requires openable { IsTrue L.tells → CanOpen L.now L.leaves log }
-    ensures printed { result.status ≡ 0 → (text : List ℕ) × RunsPlan (Grows (C.readings clock) (C.readings result.clock)) (rules_of schema.now) (IsRead L.tells L.seen log) (CrashLeaves L.tells L.now L.leaves result.log) (work_of (record { columns = schema.now; plan = plan.now })) false text × Appends (K.written sink.old) (K.written sink.new) text }
-    ensures refused { result.status ≡ 3 → (no : Why) × IsRefusal no × Refuses (fill_of schema.now) (IsRead L.tells L.seen log) no × Appends (K.written sink.old) (K.written sink.new) (refusal_text no) }
-    ensures refuses { (no : Why) → IsTrue L.tells → opening_of (fill_of schema.now) (L.seen log) ≡ Err no → (3 ≤ result.status) }
-    ensures stopped { result.status ≡ 4 → Rose (L.faults log) (L.faults result.log)
-        × (Appends (K.written sink.old) (K.written sink.new) STOPPED_OPENING.now × (result.clock ≡ clock) × LeavesAsBefore (CrashLeaves L.tells L.now L.leaves log) (CrashLeaves L.tells L.now L.leaves result.log)
-        ⊎ ((text : List ℕ) × RunsPlan (Grows (C.readings clock) (C.readings result.clock)) (rules_of schema.now) (IsRead L.tells L.seen log) (CrashLeaves L.tells L.now L.leaves result.log) (work_of (record { columns = schema.now; plan = plan.now })) true text × Appends (K.written sink.old) (K.written sink.new) text)) }
-    ensures untouched { result.status ≡ 3 → (result.clock ≡ clock) × LeavesAsBefore (CrashLeaves L.tells L.now L.leaves log) (CrashLeaves L.tells L.now L.leaves result.log) }
+    requires stand { IsTrue D.tells → NamedStand D.seen D.now D.leaves store }
+    ensures printed { result.status ≡ 0 → (text : List ℕ) × RunsPlan (Grows (C.readings clock) (C.readings result.clock)) schema.now (Both (IsRead L.tells L.seen log) (IsRead D.tells D.seen store)) (Both (CrashLeaves L.tells L.now L.leaves result.log) (CrashLeaves D.tells D.now D.leaves result.store)) (workload cells (record { columns = schema.now; plan = plan.now })) false text × Appends (K.written sink.old) (K.written sink.new) text }
+    ensures refused { result.status ≡ 3 → (no : Why) × IsRefusal no × Refuses schema.now (Both (IsRead L.tells L.seen log) (IsRead D.tells D.seen store)) no × Appends (K.written sink.old) (K.written sink.new) (refusal_text no) }
+    ensures refuses { (no : Why) → IsRefusal no → IsTrue L.tells → IsTrue D.tells → Answers schema.now (L.seen log) (D.seen store) (Err no) → (3 ≤ result.status) }
+    ensures stopped { result.status ≡ 4 → OneRose (L.faults log) (L.faults result.log) (D.faults store) (D.faults result.store)
+        × (Appends (K.written sink.old) (K.written sink.new) STOPPED_OPENING.now × (result.clock ≡ clock) × LeavesAsBefore schema.now (CrashLeaves L.tells L.now L.leaves log) (CrashLeaves L.tells L.now L.leaves result.log) (CrashLeaves D.tells D.now D.leaves store) (CrashLeaves D.tells D.now D.leaves result.store)
+        ⊎ ((text : List ℕ) × RunsPlan (Grows (C.readings clock) (C.readings result.clock)) schema.now (Both (IsRead L.tells L.seen log) (IsRead D.tells D.seen store)) (Both (CrashLeaves L.tells L.now L.leaves result.log) (CrashLeaves D.tells D.now D.leaves result.store)) (workload cells (record { columns = schema.now; plan = plan.now })) true text × Appends (K.written sink.old) (K.written sink.new) text)) }
+    ensures untouched { result.status ≡ 3 → (result.clock ≡ clock) × LeavesAsBefore schema.now (CrashLeaves L.tells L.now L.leaves log) (CrashLeaves L.tells L.now L.leaves result.log) (CrashLeaves D.tells D.now D.leaves store) (CrashLeaves D.tells D.now D.leaves result.store) }
+    ensures complete { (found : Found) → IsTrue L.tells → IsTrue D.tells → Answers schema.now (L.seen log) (D.seen store) (Ok found)
+        → ¬ Rose (K.faults sink.old) (K.faults sink.new) → ¬ Rose (L.faults log) (L.faults result.log) → ¬ Rose (D.faults store) (D.faults result.store)
+        → (result.status ≡ 0) ⊎ (result.status ≡ 7) }
     ensures sink_fault { result.status ≡ 6 → Rose (K.faults sink.old) (K.faults sink.new) }
     ensures cut { result.status ≡ 6 → (text : List ℕ) × WritesFront (K.written sink.old) (K.written sink.new) text
-        × ((((no : Why) × IsRefusal no × Refuses (fill_of schema.now) (IsRead L.tells L.seen log) no × (text ≡ refusal_text no)) ⊎ ((text ≡ STOPPED_OPENING.now) × Rose (L.faults log) (L.faults result.log)))
-        × (result.clock ≡ clock) × LeavesAsBefore (CrashLeaves L.tells L.now L.leaves log) (CrashLeaves L.tells L.now L.leaves result.log)
-        ⊎ ((stopped : Bool) × RunsPlan (Grows (C.readings clock) (C.readings result.clock)) (rules_of schema.now) (IsRead L.tells L.seen log) (CrashLeaves L.tells L.now L.leaves result.log) (work_of (record { columns = schema.now; plan = plan.now })) stopped text × (stopped ≡ true → Rose (L.faults log) (L.faults result.log)))) }
+        × ((((no : Why) × IsRefusal no × Refuses schema.now (Both (IsRead L.tells L.seen log) (IsRead D.tells D.seen store)) no × (text ≡ refusal_text no)) ⊎ ((text ≡ STOPPED_OPENING.now) × OneRose (L.faults log) (L.faults result.log) (D.faults store) (D.faults result.store)))
+        × (result.clock ≡ clock) × LeavesAsBefore schema.now (CrashLeaves L.tells L.now L.leaves log) (CrashLeaves L.tells L.now L.leaves result.log) (CrashLeaves D.tells D.now D.leaves store) (CrashLeaves D.tells D.now D.leaves result.store)
+        ⊎ ((stopped : Bool) × RunsPlan (Grows (C.readings clock) (C.readings result.clock)) schema.now (Both (IsRead L.tells L.seen log) (IsRead D.tells D.seen store)) (Both (CrashLeaves L.tells L.now L.leaves result.log) (CrashLeaves D.tells D.now D.leaves result.store)) (workload cells (record { columns = schema.now; plan = plan.now })) stopped text × (stopped ≡ true → OneRose (L.faults log) (L.faults result.log) (D.faults store) (D.faults result.store)))) }
     ensures memory { result.status ≡ 7 → Appends (K.written sink.old) (K.written sink.new) [] }
     ensures statuses { (result.status ≡ 0) ⊎ (result.status ≡ 3) ⊎ (result.status ≡ 4) ⊎ (result.status ≡ 6) ⊎ (result.status ≡ 7) }
-    ensures crash { LeavesFirst (Grows (C.readings clock) (C.readings result.clock)) (IsRead L.tells L.seen log) (CrashLeaves L.tells L.now L.leaves log) (CrashLeaves L.tells L.now L.leaves result.log) (record { columns = schema.now; plan = plan.now }) }
+    ensures crash { LeavesFirst (Grows (C.readings clock) (C.readings result.clock)) (Both (IsRead L.tells L.seen log) (IsRead D.tells D.seen store)) (CrashLeaves L.tells L.now L.leaves log) (CrashLeaves L.tells L.now L.leaves result.log) (CrashLeaves D.tells D.now D.leaves store) (CrashLeaves D.tells D.now D.leaves result.store) cells (record { columns = schema.now; plan = plan.now }) }
     ensures others { KeepsFiles (CrashLeaves L.tells L.now L.leaves log) (CrashLeaves L.tells L.now L.leaves result.log) }
-    ensures near { AreNear (CrashLeaves L.tells L.now L.leaves log) (CrashLeaves L.tells L.now L.leaves result.log) }
-    ensures store { result.store ≡ store }
+    ensures near { AreNear (Both (CrashLeaves L.tells L.now L.leaves log) (CrashLeaves D.tells D.now D.leaves store)) (Both (CrashLeaves L.tells L.now L.leaves result.log) (CrashLeaves D.tells D.now D.leaves result.store)) }
     ensures openable { IsTrue L.tells → CanOpen L.now L.leaves result.log }
+    ensures stand { IsTrue D.tells → NamedStand D.seen D.now D.leaves result.store }
 {
-    let Ok((cells, lock, pass)) = make_ready::<L, D, C>(alloc, plan) else {
+    let Ok((room, lock, pass)) = make_ready::<L, D, C>(alloc, plan, cells) else {
         return end_with(7, log, store, clock);
     };
-    match open_tablet(alloc, log, store, clock, schema, cells) {
+    match open_tablet(alloc, log, store, clock, schema, cells, room) {
         Ok(engine) => {
             let (status, parts) = run_and_write(
                 rt, alloc, schema, plan, lock, pass, engine, sink, gate,
@@ -320,12 +342,12 @@ fn open_and_run<
 }
 
 /// The whole program: the words of its command line, what it reads and writes, its log, its store and its clock. It
-/// answers the status, and hands the devices and the clock back. The store is not used yet.
+/// answers the status, and hands the devices and the clock back.
 pub fn tablet_main<
     S: Source,
     K: Sink,
     L: Disk + Send,
-    D: Disk + Send,
+    D: Disk + Drop + Send,
     C: Clock + Send,
     G: Gate + Sync,
     R: Threads + Wait + Sync,
@@ -340,80 +362,94 @@ pub fn tablet_main<
     clock: C,
     gate: &G,
 ) -> Ended<L, D, C>
-    // Each image that a crash may leave of the log has it, or next to nothing.
+    // Each image that a crash may leave of the log has it, or next to nothing, and nothing is pending of the data files that the superblock of one of the store
+    // names.
     requires openable { IsTrue L.tells → CanOpen L.now L.leaves log }
+    requires stand { IsTrue D.tells → NamedStand D.seen D.now D.leaves store }
 
-    // On status 0 what was written is the output text of a run of the script that all bytes of the source spell, over what
-    // the log held: each printed reply is that run's, the readings in its history are those that the clock gave in this
-    // call, and whatever a crash now leaves of the log holds all its writes, by the rules of the script's table too where the log kept them.
-    ensures printed { result.status ≡ 0 → IfSome (S.left source.old) (λ script. (text : List ℕ)
-        × RunsScript (Grows (C.readings clock) (C.readings result.clock)) (IsRead L.tells L.seen log) (CrashLeaves L.tells L.now L.leaves result.log) false script text × Appends (K.written sink.old) (K.written sink.new) text) }
+    // On status 0 what was written is the output text of a run of the script that all bytes of the source spell, with as many cells as the words say, over
+    // each past that both devices held: each printed reply is that run's, the readings in its history are those that the clock gave in this
+    // call, and whatever a crash now leaves of both devices holds all its writes, by the rules of the script's table too where they held that past by these. It is
+    // seen from the mark that the last line says, and the superblock says what that line says.
+    ensures printed { result.status ≡ 0 → IfSome (S.left source.old) (λ script. (settings : Settings) × (settings_in (map (λ w. w.now) words.now) ≡ Some settings) × (text : List ℕ)
+        × RunsScript (Grows (C.readings clock) (C.readings result.clock)) (Both (IsRead L.tells L.seen log) (IsRead D.tells D.seen store)) (Both (CrashLeaves L.tells L.now L.leaves result.log) (CrashLeaves D.tells D.now D.leaves result.store)) settings.cells false script text × Appends (K.written sink.old) (K.written sink.new) text) }
 
-    // Status 4 comes only where the log has failed in this call. Either it was not opened, or the same holds of a run that
+    // Status 4 comes only where one of both devices has failed in this call. Either they were not opened, or the same holds of a run that
     // ends with `stop`, and whatever a crash leaves has the first of its writes, with every one that has an `end` line.
-    ensures stopped { result.status ≡ 4 → Rose (L.faults log) (L.faults result.log)
-        × (Appends (K.written sink.old) (K.written sink.new) STOPPED_OPENING.now × (result.clock ≡ clock) × ((said : Said) × IsSaid (S.left source.old) said × LeavesAsBefore (CrashLeaves L.tells L.now L.leaves log) (CrashLeaves L.tells L.now L.leaves result.log))
-        ⊎ IfSome (S.left source.old) (λ script. (text : List ℕ)
-        × RunsScript (Grows (C.readings clock) (C.readings result.clock)) (IsRead L.tells L.seen log) (CrashLeaves L.tells L.now L.leaves result.log) true script text × Appends (K.written sink.old) (K.written sink.new) text)) }
+    ensures stopped { result.status ≡ 4 → OneRose (L.faults log) (L.faults result.log) (D.faults store) (D.faults result.store)
+        × (Appends (K.written sink.old) (K.written sink.new) STOPPED_OPENING.now × (result.clock ≡ clock) × ((said : Said) × IsSaid (S.left source.old) said × LeavesAsBefore said.columns (CrashLeaves L.tells L.now L.leaves log) (CrashLeaves L.tells L.now L.leaves result.log) (CrashLeaves D.tells D.now D.leaves store) (CrashLeaves D.tells D.now D.leaves result.store))
+        ⊎ IfSome (S.left source.old) (λ script. (settings : Settings) × (settings_in (map (λ w. w.now) words.now) ≡ Some settings) × (text : List ℕ)
+        × RunsScript (Grows (C.readings clock) (C.readings result.clock)) (Both (IsRead L.tells L.seen log) (IsRead D.tells D.seen store)) (Both (CrashLeaves L.tells L.now L.leaves result.log) (CrashLeaves D.tells D.now D.leaves result.store)) settings.cells true script text × Appends (K.written sink.old) (K.written sink.new) text)) }
 
-    // Status 1 comes exactly where the words are not in the form, unless the sink fails.
-    ensures usage { result.status ≡ 1 → ¬ AreRun (map (λ w. w.now) words.now) × Appends (K.written sink.old) (K.written sink.new) USAGE.now }
-    ensures words { ¬ AreRun (map (λ w. w.now) words.now) → (result.status ≡ 1) ⊎ (result.status ≡ 6) }
+    // Status 1 comes exactly where the words are not in the form, unless the sink or memory fails.
+    ensures usage { result.status ≡ 1 → (settings_in (map (λ w. w.now) words.now) ≡ None) × Appends (K.written sink.old) (K.written sink.new) USAGE.now }
+    ensures words { settings_in (map (λ w. w.now) words.now) ≡ None → (result.status ≡ 1) ⊎ (result.status ≡ 6) ⊎ (result.status ≡ 7) }
 
     // Status 2 comes exactly where no script spells the text, unless source, sink or memory fail, and tells its first fault.
     ensures not_taken { result.status ≡ 2 → (fault : Fault) × IsFaultOf (S.left source.old) fault × Appends (K.written sink.old) (K.written sink.new) (fault_text fault) }
-    ensures no_script { (script : List ℕ) → AreRun (map (λ w. w.now) words.now) → S.left source.old ≡ Some script → IsNoScript script → (result.status ≡ 2) ⊎ (5 ≤ result.status) }
+    ensures no_script { (script : List ℕ) (settings : Settings) → settings_in (map (λ w. w.now) words.now) ≡ Some settings → S.left source.old ≡ Some script → IsNoScript script → (result.status ≡ 2) ⊎ (5 ≤ result.status) }
 
-    // Status 3 comes exactly where the log's content is refused, unless source, sink, log or memory fail, and tells why.
+    // Status 3 comes exactly where opening answers so to what both devices hold, unless source, sink, a device or memory fail, and tells why.
     ensures refused { result.status ≡ 3 → (said : Said) × IsSaid (S.left source.old) said × (no : Why) × IsRefusal no
-        × Refuses (fill_of said.columns) (IsRead L.tells L.seen log) no × Appends (K.written sink.old) (K.written sink.new) (refusal_text no) }
-    ensures refuses { (script : List ℕ) (said : Said) (no : Why) → AreRun (map (λ w. w.now) words.now) → S.left source.old ≡ Some script → script_of script ≡ Some said
-        → IsTrue L.tells → opening_of (fill_of said.columns) (L.seen log) ≡ Err no → (3 ≤ result.status) }
+        × Refuses said.columns (Both (IsRead L.tells L.seen log) (IsRead D.tells D.seen store)) no × Appends (K.written sink.old) (K.written sink.new) (refusal_text no) }
+    ensures refuses { (script : List ℕ) (settings : Settings) (said : Said) (no : Why) → settings_in (map (λ w. w.now) words.now) ≡ Some settings → S.left source.old ≡ Some script → script_of script ≡ Some said
+        → IsRefusal no → IsTrue L.tells → IsTrue D.tells → Answers said.columns (L.seen log) (D.seen store) (Err no) → (3 ≤ result.status) }
 
-    // Words in the form, a script, a log that is not refused, and no count that rises: the run is whole, or memory ran out.
-    ensures complete { (script : List ℕ) (said : Said) (found : Found) → AreRun (map (λ w. w.now) words.now) → S.left source.old ≡ Some script → script_of script ≡ Some said
-        → IsTrue L.tells → opening_of (fill_of said.columns) (L.seen log) ≡ Ok found
-        → ¬ Rose (S.faults source.old) (S.faults source.new) → ¬ Rose (K.faults sink.old) (K.faults sink.new) → ¬ Rose (L.faults log) (L.faults result.log)
+    // Words in the form, a script, devices that are not refused, and no count that rises: the run is whole, or memory ran out.
+    ensures complete { (script : List ℕ) (settings : Settings) (said : Said) (found : Found) → settings_in (map (λ w. w.now) words.now) ≡ Some settings → S.left source.old ≡ Some script → script_of script ≡ Some said
+        → IsTrue L.tells → IsTrue D.tells → Answers said.columns (L.seen log) (D.seen store) (Ok found)
+        → ¬ Rose (S.faults source.old) (S.faults source.new) → ¬ Rose (K.faults sink.old) (K.faults sink.new) → ¬ Rose (L.faults log) (L.faults result.log) → ¬ Rose (D.faults store) (D.faults result.store)
         → (result.status ≡ 0) ⊎ (result.status ≡ 7) }
     ensures source_fault { result.status ≡ 5 → Rose (S.faults source.old) (S.faults source.new) × Appends (K.written sink.old) (K.written sink.new) [] }
     ensures sink_fault { result.status ≡ 6 → Rose (K.faults sink.old) (K.faults sink.new) }
 
-    // There a front of one of the texts was written, and what the status of that text says of the words, the script and the log holds.
+    // There a front of one of the texts was written, and what the status of that text says of the words, the script and the devices holds.
     ensures cut { result.status ≡ 6 → (text : List ℕ) × WritesFront (K.written sink.old) (K.written sink.new) text
-        × (((text ≡ USAGE.now) × ¬ AreRun (map (λ w. w.now) words.now) ⊎ ((fault : Fault) × AreRun (map (λ w. w.now) words.now) × IsFaultOf (S.left source.old) fault × (text ≡ fault_text fault))) × (result.log ≡ log) × (result.clock ≡ clock)
-        ⊎ (((said : Said) × AreRun (map (λ w. w.now) words.now) × IsSaid (S.left source.old) said
-        × (((no : Why) × IsRefusal no × Refuses (fill_of said.columns) (IsRead L.tells L.seen log) no × (text ≡ refusal_text no)) ⊎ ((text ≡ STOPPED_OPENING.now) × Rose (L.faults log) (L.faults result.log)))
-        × (result.clock ≡ clock) × LeavesAsBefore (CrashLeaves L.tells L.now L.leaves log) (CrashLeaves L.tells L.now L.leaves result.log))
-        ⊎ AreRun (map (λ w. w.now) words.now) × IfSome (S.left source.old) (λ script. (stopped : Bool) × RunsScript (Grows (C.readings clock) (C.readings result.clock)) (IsRead L.tells L.seen log) (CrashLeaves L.tells L.now L.leaves result.log) stopped script text × (stopped ≡ true → Rose (L.faults log) (L.faults result.log))))) }
+        × (((text ≡ USAGE.now) × (settings_in (map (λ w. w.now) words.now) ≡ None) ⊎ ((fault : Fault) × (settings : Settings) × (settings_in (map (λ w. w.now) words.now) ≡ Some settings) × IsFaultOf (S.left source.old) fault × (text ≡ fault_text fault))) × (result.log ≡ log) × (result.store ≡ store) × (result.clock ≡ clock)
+        ⊎ (((said : Said) × (settings : Settings) × (settings_in (map (λ w. w.now) words.now) ≡ Some settings) × IsSaid (S.left source.old) said
+        × (((no : Why) × IsRefusal no × Refuses said.columns (Both (IsRead L.tells L.seen log) (IsRead D.tells D.seen store)) no × (text ≡ refusal_text no)) ⊎ ((text ≡ STOPPED_OPENING.now) × OneRose (L.faults log) (L.faults result.log) (D.faults store) (D.faults result.store)))
+        × (result.clock ≡ clock) × LeavesAsBefore said.columns (CrashLeaves L.tells L.now L.leaves log) (CrashLeaves L.tells L.now L.leaves result.log) (CrashLeaves D.tells D.now D.leaves store) (CrashLeaves D.tells D.now D.leaves result.store))
+        ⊎ IfSome (S.left source.old) (λ script. (settings : Settings) × (settings_in (map (λ w. w.now) words.now) ≡ Some settings) × (stopped : Bool) × RunsScript (Grows (C.readings clock) (C.readings result.clock)) (Both (IsRead L.tells L.seen log) (IsRead D.tells D.seen store)) (Both (CrashLeaves L.tells L.now L.leaves result.log) (CrashLeaves D.tells D.now D.leaves result.store)) settings.cells stopped script text × (stopped ≡ true → OneRose (L.faults log) (L.faults result.log) (D.faults store) (D.faults result.store))))) }
     ensures memory { result.status ≡ 7 → Appends (K.written sink.old) (K.written sink.new) [] }
 
-    // The log and the clock are used only for words in the form and a script that was read, the clock only over a log that was opened, and the
-    // store not at all. A log that is refused holds what it held.
-    ensures unused { (result.status ≡ 1) ⊎ (result.status ≡ 2) ⊎ (result.status ≡ 5) → (result.log ≡ log) × (result.clock ≡ clock) }
-    ensures unformed { ¬ AreRun (map (λ w. w.now) words.now) → (result.log ≡ log) × (result.clock ≡ clock) }
-    ensures untouched { result.status ≡ 3 → (result.clock ≡ clock) × ((said : Said) × IsSaid (S.left source.old) said × LeavesAsBefore (CrashLeaves L.tells L.now L.leaves log) (CrashLeaves L.tells L.now L.leaves result.log)) }
-    ensures store { result.store ≡ store }
+    // The devices and the clock are used only for words in the form and a script that was read, the clock only over devices that were opened. Devices that
+    // are refused hold what they held.
+    ensures unused { (result.status ≡ 1) ⊎ (result.status ≡ 2) ⊎ (result.status ≡ 5) → (result.log ≡ log) × (result.store ≡ store) × (result.clock ≡ clock) }
+    ensures unformed { settings_in (map (λ w. w.now) words.now) ≡ None → (result.log ≡ log) × (result.store ≡ store) × (result.clock ≡ clock) }
+    ensures untouched { result.status ≡ 3 → (result.clock ≡ clock) × ((said : Said) × IsSaid (S.left source.old) said × LeavesAsBefore said.columns (CrashLeaves L.tells L.now L.leaves log) (CrashLeaves L.tells L.now L.leaves result.log) (CrashLeaves D.tells D.now D.leaves store) (CrashLeaves D.tells D.now D.leaves result.store)) }
 
-    // Whatever the status, a crash now leaves what one before the call might have left, or what the log held with the first
+    // Whatever the status, a crash now leaves what both devices held before the call, or what they held with the first
     // writes of a run of the script, each one with an `end` line among them.
-    ensures crash { (result.log ≡ log) ⊎ ((said : Said) × IsSaid (S.left source.old) said
-        × LeavesFirst (Grows (C.readings clock) (C.readings result.clock)) (IsRead L.tells L.seen log) (CrashLeaves L.tells L.now L.leaves log) (CrashLeaves L.tells L.now L.leaves result.log) said) }
+    ensures crash { (result.log ≡ log) × (result.store ≡ store) ⊎ ((said : Said) × (settings : Settings) × IsSaid (S.left source.old) said × (settings_in (map (λ w. w.now) words.now) ≡ Some settings)
+        × LeavesFirst (Grows (C.readings clock) (C.readings result.clock)) (Both (IsRead L.tells L.seen log) (IsRead D.tells D.seen store)) (CrashLeaves L.tells L.now L.leaves log) (CrashLeaves L.tells L.now L.leaves result.log) (CrashLeaves D.tells D.now D.leaves store) (CrashLeaves D.tells D.now D.leaves result.store) settings.cells said) }
 
-    // It leaves all files but the log's as one before the call might have, and no number far above those that one before might have left.
+    // It leaves all files of the log's device but the log as one before the call might have, and no number far above those that one before might have left.
     ensures others { KeepsFiles (CrashLeaves L.tells L.now L.leaves log) (CrashLeaves L.tells L.now L.leaves result.log) }
-    ensures near { AreNear (CrashLeaves L.tells L.now L.leaves log) (CrashLeaves L.tells L.now L.leaves result.log) }
+    ensures near { AreNear (Both (CrashLeaves L.tells L.now L.leaves log) (CrashLeaves D.tells D.now D.leaves store)) (Both (CrashLeaves L.tells L.now L.leaves result.log) (CrashLeaves D.tells D.now D.leaves result.store)) }
 
-    // The log may be opened again, whatever the status.
+    // The devices may be opened again, whatever the status.
     ensures openable { IsTrue L.tells → CanOpen L.now L.leaves result.log }
+    ensures stand { IsTrue D.tells → NamedStand D.seen D.now D.leaves result.store }
     ensures statuses { result.status ≤ 7 }
 {
-    if !are_run(words) {
-        return end_with(finish(sink, USAGE, 1), log, store, clock);
-    }
+    let settings = match read_words(alloc, words) {
+        Ok(settings) => settings,
+        Err(WordsNo::Form) => return end_with(finish(sink, USAGE, 1), log, store, clock),
+        Err(WordsNo::Memory) => return end_with(7, log, store, clock),
+    };
     match take_script(alloc, source) {
-        Ok(Script { schema, plan }) => {
-            open_and_run(rt, alloc, &schema, &plan, log, store, clock, sink, gate)
-        }
+        Ok(Script { schema, plan }) => open_and_run(
+            rt,
+            alloc,
+            &schema,
+            &plan,
+            settings.cells,
+            log,
+            store,
+            clock,
+            sink,
+            gate,
+        ),
         Err(SourceNo::Line { number, reason }) => {
             let status = refuse_script(alloc, sink, number, reason);
             end_with(status, log, store, clock)

@@ -1,5 +1,1 @@
 pub mod Opening
-pub mod Commits
-pub mod Refusal
-pub mod Reopening
-pub mod Rebuilding

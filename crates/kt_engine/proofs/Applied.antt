@@ -29,7 +29,7 @@ use Rattle.kt_tablet.specs.Rows.{commit_row}
 use Rattle.kt_tablet.specs.declared.tablet.Stopped.{Stopped}
 use Rattle.kt_tablet.specs.Views.{View, place_at}
 use Rattle.kt_tablet.specs.Visits.{HasApplied, HasNoted, IsRunOutcome}
-use Rattle.kt_engine.specs.Logged.{Waits, IsDurable, AreApart, LogStands, KeepsRun}
+use Rattle.kt_engine.specs.Logged.{Waits, IsDurable, AreApart, LogStands, KeepsFrom}
 use Rattle.kt_engine.specs.Memory.{resident, AreNamed}
 use Rattle.kt_engine.specs.Engines.{EngineView, IsEngine, IsFound, core_from}
 use Rattle.kt_engine.proofs.Lists.{all_head, all_tail, all_cons, all_at, all_found, found_passes, get_among, some_one}
@@ -57,12 +57,12 @@ counted : (whole known rest : List Entry) (count : ℕ) → whole ≡ known ++ r
 counted whole known rest count is n = let a = length-append known rest in let b = ap length is in omega arith
 
 -- what is noted of a row: at the place of its write, with the name of the store to which it goes
-record NotedHere (core : Core) (names : List Target) (notes later : List (List CommitRow)) (j : ℕ) (op : RowOp) (outcome : Outcome) : Type 0 where
-  name : Target
-  there : slice_get names (place_of op.key core.stores) ≡ Some name
-  is : later ≡ on_nth j (λ rows. rows ++ commit_row name outcome ∷ []) notes
+pub record NotedHere (core : Core) (names : List Target) (notes later : List (List CommitRow)) (j : ℕ) (op : RowOp) (outcome : Outcome) : Type 0 where
+  pub name : Target
+  pub there : slice_get names (place_of op.key core.stores) ≡ Some name
+  pub is : later ≡ on_nth j (λ rows. rows ++ commit_row name outcome ∷ []) notes
 
-noted_here : {C : Type 0} (old new : View C) (log : List Entry) (s at : ℕ) (outcome : Outcome) → All (Waits log old.places) old.core.aloft → AreApart old.core.aloft → (h : HasApplied old.core new.core s at outcome) → HasNoted old new s at outcome
+pub noted_here : {C : Type 0} (old new : View C) (log : List Entry) (s at : ℕ) (outcome : Outcome) → All (Waits log old.places) old.core.aloft → AreApart old.core.aloft → (h : HasApplied old.core new.core s at outcome) → HasNoted old new s at outcome
     → NotedHere old.core old.names old.notes new.notes h.j h.op outcome
 noted_here old new log s at outcome waits apart h n =
     let wf = all_found (Waits log old.places) (λ w. w.s == s) old.core.aloft h.flight h.flies waits in
@@ -80,12 +80,12 @@ noted_here old new log s at outcome waits apart h n =
     }
 
 -- its outcome is the run's, and its change reaches that store: so what can be recovered goes on
-applied_run : (rules : Rules) (core : Core) (super : Super) (names : List Target) (notes later : List (List CommitRow)) (records run : List Entry) (places : List (ℕ × ℕ)) (new : Core) (s at : ℕ) (outcome : Outcome)
+pub applied_run : (rules : Rules) (core : Core) (super : Super) (names : List Target) (notes later : List (List CommitRow)) (records run : List Entry) (places : List (ℕ × ℕ)) (new : Core) (s at : ℕ) (outcome : Outcome) (from : ℕ) (past : Past)
     → Stands core → LogStands core records places run → AreNamed super names → AreApart core.aloft → length names ≡ length core.stores → length notes ≡ length core.aloft
     → (j : ℕ) (flight : Aloft) (op : RowOp) → find (λ w. w.s == s) core.aloft ≡ Some flight → IsNextOp j core.aloft flight.ts op → slice_get flight.ops at ≡ Some op
     → (AllUnder flight.ts (hists op.key core.stores) → new ≡ applied core j (place_of op.key core.stores) flight.ts op) → NotedHere core names notes later j op outcome → IsRunOutcome core s at outcome
-    → KeepsRun rules core super names notes records run → KeepsRun rules (record core { aloft = on_nth j advance core.aloft; stores = new.stores }) super names later records run
-applied_run rules core super names notes later records run places new s at outcome st log named apart stored noted j flight op flies next row stores n r k =
+    → KeepsFrom rules core super names notes records run from past → KeepsFrom rules (record core { aloft = on_nth j advance core.aloft; stores = new.stores }) super names later records run from past
+applied_run rules core super names notes later records run places new s at outcome from past st log named apart stored noted j flight op flies next row stores n r k =
     let g = goes_on j core.aloft flight.ts op next in
     let w = g.w in
     let here : IsNextOp j core.aloft w.ts op = subst (λ (t : ℕ). IsNextOp j core.aloft t op) (sym g.time) next in
@@ -98,12 +98,12 @@ applied_run rules core super names notes later records run places new s at outco
     let under : AllUnder flight.ts (hists op.key core.stores) = subst (λ (t : ℕ). AllUnder t (hists op.key core.stores)) g.time (in_order core st op.key w.ts (a.goes.before w.ts ∙ same w.ts)) in
     let stores_are : new.stores ≡ pushed_if (place_of op.key core.stores) op.key w.ts (effect core.work.fill op.kind op.cells (live core.stores op.key w.ts)).0 core.stores =
     ap (λ (c : Core). c.stores) (stores under) ∙ ap (λ t. pushed_if (place_of op.key core.stores) op.key t (effect core.work.fill op.kind op.cells (live core.stores op.key t)).0 core.stores) (sym g.time) in
-    let stands = row_stands rules core super names notes records run places k st log named apart stored noted j w op g.at here g.row n.name n.there outcome is_outcome new.stores stores_are in
+    let stands = row_stands rules core super names notes records run places from past k st log named apart stored noted j w op g.at here g.row n.name n.there outcome is_outcome new.stores stores_are in
     record {
       recovered = k.recovered;
       writes = k.writes;
       numbers = k.numbers;
-      stands = subst (λ (ns : List (List CommitRow)). SuperStands rules core.work.fill super records run core.first (resident (record core { aloft = on_nth j advance core.aloft; stores = new.stores }) names ns k.numbers)) (sym n.is) stands;
+      stands = subst (λ (ns : List (List CommitRow)). SuperStands rules core.work.fill super records run past (resident (record core { aloft = on_nth j advance core.aloft; stores = new.stores }) names ns k.numbers)) (sym n.is) stands;
     }
 
 with_applied : {L D C : Type 0} (tells : Bool) (seen : L → Files) (now : L → ℕ) (leaves : L → ℕ → Files → Type 0) (faults : L → ℕ) (old : EngineView L D C) (s at place : ℕ) (outcome : Outcome) (new : View C) → IsEngine tells seen now leaves faults old
@@ -138,7 +138,7 @@ with_applied tells seen now leaves faults old s at_row place outcome new e h not
         };
         keeps = λ rules first is plan.
             let k = e.logged.keeps rules first (record { opens = is.opens; holds = is.holds }) plan in
-            applied_run rules (core_from old first) old.super old.tablet.names old.tablet.notes new.notes old.records e.logged.run old.tablet.places (core_from (record old { tablet = new }) first) s at_row outcome (stands first is.opens)
+            applied_run rules (core_from old first) old.super old.tablet.names old.tablet.notes new.notes old.records e.logged.run old.tablet.places (core_from (record old { tablet = new }) first) s at_row outcome core.opened first (stands first is.opens)
             (record { log = known.log; since = known.since; last = known.last; flying = known.flying; untold = known.untold }) e.ready.named e.ready.apart stored noted j f op h.flies h.next h.row
             (λ under. ap (λ (c : Core). record c { first = first }) (h.stores under)) (record { name = here.name; there = here.there; is = here.is }) (run_outcome first is.opens) k;
         names = e.logged.names;

@@ -134,5 +134,5 @@ bare_takes_up tablet super records queued is trail aloft mems stored stands log 
 pub bare_named : (super : Super) (names : List Target) → super ≡ fresh → All IsMem names → NamesDiffer names → AreNamed super names
 bare_named super names is mems differ = subst (λ (s : Super). AreNamed s names) (sym is) (mems_named names mems differ)
 
-pub bare_numbers : (super : Super) (records : List Entry) (names : List Target) → super ≡ fresh → (numbers : Numbers) × NumbersAreFresh super records (map name_of names) numbers
-bare_numbers super records names is = (numbers_above records names, subst (λ (s : Super). NumbersAreFresh s records (map name_of names) (numbers_above records names)) (sym is) (numbers_fresh records names))
+pub any_numbers : (super : Super) (records : List Entry) (names : List Target) → (numbers : Numbers) × NumbersAreFresh super records (map name_of names) numbers
+any_numbers super records names = (numbers_above super records names, numbers_fresh super records names)

@@ -19,6 +19,7 @@ use Rattle.kt_loglaws.specs.Replay.{last_of}
 use Rattle.kt_loglaws.specs.Laws.{with_ops}
 use Rattle.kt_loglaws.specs.Side.{SideView}
 use Rattle.kt_loglaws.proofs.LogOrder.{same}
+use Rattle.kt_history.specs.History.{Past}
 use Rattle.kt_histlaws.specs.Pending.{Aloft}
 use Rattle.kt_histlaws.specs.Core.{Core}
 use Rattle.kt_histlaws.specs.Histories.{hists}
@@ -40,9 +41,10 @@ use Rattle.kt_content.proofs.Keeping.{with_records-append, begin_keeps}
 use Rattle.kt_content.proofs.Recovering.{replicate_recovered}
 use Rattle.kt_content.proofs.Writes.{writes_have_rows}
 use Rattle.kt_engine.specs.Memory.{name_of, by_name, resident}
-use Rattle.kt_engine.specs.Logged.{PlanPasses, Waits, UntoldFly, IsDurable, LogStands, KeepsRun, NamesOnly}
+use Rattle.kt_engine.specs.Logged.{PlanPasses, Waits, UntoldFly, IsDurable, LogStands, KeepsFrom, NamesOnly}
 use Rattle.kt_engine.specs.Engines.{EngineView, IsContent, core_from, IsEngine}
 use Rattle.kt_engine.proofs.Memory.{named_begun}
+use Rattle.kt_engine.proofs.Lines.{KeepsLines, answer_keeps}
 use Rattle.kt_engine.proofs.Lists.{all_each, all_more, get_end}
 use Rattle.kt_engine.proofs.Places.{place-new, any_session, apart_more}
 use Rattle.kt_engine.proofs.Records.{newest-append, order_more, last_of-replicate, below_last, above_log, ops_of-new, waits_on, all_parts, count_parts, framed_parts}
@@ -74,38 +76,8 @@ with_room tells seen now leaves faults old room more e = record {
   placed = e.placed;
 }
 
--- a write that is too large leaves its line
-pub with_large : {L D C : Type 0} (tells : Bool) (seen : L → Files) (now : L → ℕ) (leaves : L → ℕ → Files → Type 0) (faults : L → ℕ) (old : EngineView L D C) (s i n : ℕ) → IsEngine tells seen now leaves faults old → old.tablet.core.stopped ≡ false
-    → IsEngine tells seen now leaves faults (record old { tablet = record old.tablet { core = answered old.tablet.core s i (Large s i n) } })
-with_large tells seen now leaves faults old s i n e goes = record {
-  logged = record {
-    run = e.logged.run;
-    all = e.logged.all;
-    count = e.logged.count;
-    begins = e.logged.begins;
-    stands = record { log = e.logged.stands.log; since = e.logged.stands.since; last = e.logged.stands.last; flying = e.logged.stands.flying; untold = e.logged.stands.untold };
-    keeps = λ rules first is plan. let k = e.logged.keeps rules first (record { opens = is.opens; holds = is.holds }) plan in record {
-      recovered = k.recovered;
-      writes = k.writes ∙ sym (past_line (core_from old first) (Large s i n));
-      numbers = k.numbers;
-      stands = k.stands;
-    };
-    names = e.logged.names;
-    framed = e.logged.framed;
-    durable = e.logged.durable;
-    acknowledged = λ t. acknowledged_more (records_of (seen old.log.known.disk)) old.tablet.core.trail (Large s i n) (e.logged.acknowledged t) tt;
-  };
-  home = λ journal at. let h = e.home journal at in record { opens = h.opens; others = h.others; later = h.later; known = h.known; rose = h.rose; images = h.images };
-  others = e.others;
-  lent = e.lent;
-  whole = e.whole;
-  stops = stop_line old.tablet.core (answered old.tablet.core s i (Large s i n)) (Large s i n) e.stops goes (λ is. let no : Large s i n ≡ Stop = is in cc) refl refl;
-  ready = record { room = e.ready.room; apart = e.ready.apart; named = e.ready.named };
-  placed = e.placed;
-}
-
 -- the log and a REPLICATE more
-begun_log : (core : Core) (records : List Entry) (places : List (ℕ × ℕ)) (run : List Entry) (s i ts m place : ℕ) (ops : List RowOp) → core.c < ts → IsFramed (Replicate ts ops)
+pub begun_log : (core : Core) (records : List Entry) (places : List (ℕ × ℕ)) (run : List Entry) (s i ts m place : ℕ) (ops : List RowOp) → core.c < ts → IsFramed (Replicate ts ops)
     → place ≡ suc (length (records ++ run)) → list_any (λ t. t == s) (map (λ p. p.0) places) ≡ false → LogStands core records places run → LogStands (begun core s i ts m ops) records (places ++ (s, place) ∷ []) (run ++ Replicate ts ops ∷ [])
 begun_log core records places run s i ts m place ops above framed at rests k =
     let log = records ++ run in
@@ -138,14 +110,14 @@ last_differs all (Replicate t o ∷ xs) ts ops w = last_differs all xs ts ops w.
 last_differs all (Commit t rows ∷ xs) ts ops w = last_differs all xs ts ops w
 
 -- and the run with it
-begun_run : (rules : Rules) (core : Core) (super : Super) (names : List Target) (notes : List (List CommitRow)) (records : List Entry) (places : List (ℕ × ℕ)) (run : List Entry) (s i ts m : ℕ) (ops : List RowOp) → core.c < ts → IsFramed (Replicate ts ops)
+pub begun_run : (rules : Rules) (core : Core) (super : Super) (names : List Target) (notes : List (List CommitRow)) (records : List Entry) (places : List (ℕ × ℕ)) (run : List Entry) (s i ts m : ℕ) (ops : List RowOp) (from : ℕ) (past : Past) → from ≤ core.c → core.c < ts → IsFramed (Replicate ts ops)
     → IfWrite (command_at core.work s i) (λ written. written ≡ ops) → PlanPasses rules core.work → All (λ (w : Aloft). share_key ops w.ops ≡ false) core.aloft → length notes ≡ length core.aloft
-    → LogStands core records places run → KeepsRun rules core super names notes records run → KeepsRun rules (begun core s i ts m ops) super names (notes ++ [] ∷ []) records (run ++ Replicate ts ops ∷ [])
-begun_run rules core super names notes records places run s i ts m ops above framed is plan apart noted log k =
+    → LogStands core records places run → KeepsFrom rules core super names notes records run from past → KeepsFrom rules (begun core s i ts m ops) super names (notes ++ [] ∷ []) records (run ++ Replicate ts ops ∷ []) from past
+begun_run rules core super names notes records places run s i ts m ops from past since above framed is plan apart noted log k =
     let fill = core.work.fill in
     let all = records ++ run in
     let last : last_of run ≤ core.c = (let parts = last_of-append records run in let low = log.last in omega arith) in
-    let low : low_after core.opened run < ts = (let le = low_below core.opened core.c run log.since last in omega arith) in
+    let low : low_after from run < ts = (let le = low_below from core.c run since last in omega arith) in
     let more : last_of all < ts = (let le = log.last in omega arith) in
     let whole : IsLog (all ++ Replicate ts ops ∷ []) = order_more [] all (Replicate ts ops) log.log framed (above_log [] all ts refl more) in
     let keys : DifferentKeys ops = last_differs (all ++ Replicate ts ops ∷ []) all ts ops (writes_have_rows (all ++ Replicate ts ops ∷ []) whole) in
@@ -154,11 +126,11 @@ begun_run rules core super names notes records places run s i ts m ops above fra
     let w : Aloft = record { s = s; i = i; ts = ts; ops = ops; applied = 0 } in
     let longer : IsLog (records ++ (run ++ Replicate ts ops ∷ [])) = subst (λ (l : List Entry). IsLog l) (append_assoc records run (Replicate ts ops ∷ [])) whole in
     record {
-      recovered = replicate_recovered rules fill super records run core.opened core.first ts ops k.recovered low keys told passes;
-      writes = with_records-append fill core.first run (Replicate ts ops ∷ []) ∙ ap (λ p. with_ops fill p ts ops) k.writes ∙ sym (past_begun core s i ts m ops is);
+      recovered = replicate_recovered rules fill super records run from past ts ops k.recovered low keys told passes;
+      writes = with_records-append fill past run (Replicate ts ops ∷ []) ∙ ap (λ p. with_ops fill p ts ops) k.writes ∙ sym (past_begun core s i ts m ops is);
       numbers = k.numbers;
-      stands = subst (λ (ns : List Named). SuperStands rules fill super records (run ++ Replicate ts ops ∷ []) core.first (record { last = ts; named = ns; stores = λ q. by_name names (hists q core.stores); names = map name_of names; numbers = k.numbers }))
-          (sym (named_begun core.aloft notes w noted refl)) (begin_keeps rules fill super records run core.first (resident core names notes k.numbers) ts ops longer k.stands above keys told passes);
+      stands = subst (λ (ns : List Named). SuperStands rules fill super records (run ++ Replicate ts ops ∷ []) past (record { last = ts; named = ns; stores = λ q. by_name names (hists q core.stores); names = map name_of names; numbers = k.numbers }))
+          (sym (named_begun core.aloft notes w noted refl)) (begin_keeps rules fill super records run past (resident core names notes k.numbers) ts ops longer k.stands above keys told passes);
     }
 
 -- a write begins, in the room that was made for it
@@ -183,7 +155,7 @@ with_begun tells seen now leaves faults old s i ts m place ops new e goes may fr
         begins = e.logged.begins;
         stands = begun_log core old.records old.tablet.places e.logged.run s i ts m place ops above framed there rests known;
         keeps = λ rules first is plan. let before : IsContent rules old first = record { opens = is.opens; holds = is.holds } in
-            begun_run rules (core_from old first) old.super old.tablet.names old.tablet.notes old.records old.tablet.places e.logged.run s i ts m ops above framed may.write plan (none_holds ops core.aloft free) noted
+            begun_run rules (core_from old first) old.super old.tablet.names old.tablet.notes old.records old.tablet.places e.logged.run s i ts m ops core.opened first known.since above framed may.write plan (none_holds ops core.aloft free) noted
             (record { log = known.log; since = known.since; last = known.last; flying = known.flying; untold = known.untold }) (e.logged.keeps rules first before plan);
         names = all_more (NamesOnly old.tablet.names) e.logged.run (Replicate ts ops) e.logged.names tt;
         framed = framed_parts old.log.out old.log.queued (Replicate ts ops) e.logged.framed framed;
@@ -232,14 +204,15 @@ pub may_on : {C : Type 0} (old tablet : View C) (s i : ℕ) (ops : List RowOp) �
 may_on {C} old tablet s i ops same may = subst (λ (t : View C). MayBegin t.core s i ops) (sym same) may
 
 -- a write that does not begin
-pub left_alone : {L D C T : Type 0} (tells : Bool) (seen : L → Files) (now : L → ℕ) (leaves : L → ℕ → Files → Type 0) (faults : L → ℕ) (old : EngineView L D C) (tablet : View C) (s i : ℕ) (r : Result T BeginNo) (why : BeginNo)
-    → r ≡ Err why → (old.tablet.core.stopped ≡ true → r ≡ Err no.Stopped) → tablet ≡ record old.tablet { core = tablet.core } → Leaves old.tablet tablet s i why → IsEngine tells seen now leaves faults old → IsEngine tells seen now leaves faults (record old { tablet = tablet })
-left_alone {L} {D} {C} tells seen now leaves faults old tablet s i r no.Stopped was stops beside h e = subst (λ (t : View C). IsEngine tells seen now leaves faults (record old { tablet = t })) (sym h) e
-left_alone {L} {D} {C} tells seen now leaves faults old tablet s i r (no.Large n) was stops beside h e =
-    subst (λ (t : View C). IsEngine tells seen now leaves faults (record old { tablet = t })) (sym (beside ∙ ap (λ (k : Core). record old.tablet { core = k }) h)) (with_large tells seen now leaves faults old s i n e (goes_still old.tablet.core.stopped r no.Stopped stops (λ k. let other : no.Large n ≡ no.Stopped = err_is (no.Large n) no.Stopped r was k in cc)))
-left_alone {L} {D} {C} tells seen now leaves faults old tablet s i r (no.Wait ts) was stops beside h e = subst (λ (t : View C). IsEngine tells seen now leaves faults (record old { tablet = t })) (sym h) e
-left_alone {L} {D} {C} tells seen now leaves faults old tablet s i r (no.Room n left) was stops beside h e = subst (λ (t : View C). IsEngine tells seen now leaves faults (record old { tablet = t })) (sym h) e
-left_alone {L} {D} {C} tells seen now leaves faults old tablet s i r no.Memory was stops beside h e = subst (λ (t : View C). IsEngine tells seen now leaves faults (record old { tablet = t })) (sym h) e
+pub left_alone : {C T : Type 0} (P : View C → Type 0) (old tablet : View C) (s i : ℕ) (r : Result T BeginNo) (why : BeginNo)
+    → r ≡ Err why → (old.core.stopped ≡ true → r ≡ Err no.Stopped) → tablet ≡ record old { core = tablet.core } → Leaves old tablet s i why → KeepsLines P old → P tablet
+left_alone {C} P old tablet s i r no.Stopped was stops beside h is = subst P (sym h) is.0
+left_alone {C} P old tablet s i r (no.Large n) was stops beside h is =
+    answer_keeps P old tablet s i (Large s i n) is (goes_still old.core.stopped r no.Stopped stops (λ k. let other : no.Large n ≡ no.Stopped = err_is (no.Large n) no.Stopped r was k in cc)) tt (λ e. let other : Large s i n ≡ Stop = e in cc)
+    (beside ∙ ap (λ (k : Core). record old { core = k }) h)
+left_alone {C} P old tablet s i r (no.Wait ts) was stops beside h is = subst P (sym h) is.0
+left_alone {C} P old tablet s i r (no.Room n left) was stops beside h is = subst P (sym h) is.0
+left_alone {C} P old tablet s i r no.Memory was stops beside h is = subst P (sym h) is.0
 
 -- a write that has begun, with a copy of its operations in the tablet and one in the log
 pub has_begun : {L D C : Type 0} (tells : Bool) (seen : L → Files) (now : L → ℕ) (leaves : L → ℕ → Files → Type 0) (faults : L → ℕ) (old : EngineView L D C) (tablet : View C) (log : SideView L) (s i ts place : ℕ) (ops held logged : List RowOp)

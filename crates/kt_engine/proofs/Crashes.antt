@@ -26,7 +26,7 @@ use Rattle.kt_content.proofs.Records.{told_front, order_front}
 use Rattle.kt_content.proofs.Recovering.{runs_up, take_all, each_front, all_hold}
 use Rattle.kt_engine.specs.Logged.{PlanPasses, KeepsRun, AcknowledgedIn, AcknowledgedBy, NamesOnly, HoldsRecords, HoldsFront, HoldsRun}
 use Rattle.kt_engine.specs.Engines.{EngineView, IsContent, IsLogged, IsEngine, LeavesRecords, Recovers, RecoversEach, RecoversAll, core_from}
-use Rattle.kt_engine.proofs.Devices.{acknowledged_longer}
+use Rattle.kt_engine.proofs.Devices.{acknowledged_longer, goes_whole}
 use Rattle.kt_engine.proofs.Lists.{all_front}
 use Rattle.kt_engine.proofs.Raised.{raise_at}
 use Rattle.kt_engine.proofs.Fronts.{told_climbs, front_last, upto_front}
@@ -38,13 +38,13 @@ at_most_last ts ops (Commit t rows ∷ xs) zero lt is = absurd (cc)
 at_most_last ts ops (Replicate t o ∷ xs) (suc k) lt is = let low = at_most_last ts ops xs k (omega arith) is in omega arith
 at_most_last ts ops (Commit t rows ∷ xs) (suc k) lt is = at_most_last ts ops xs k (omega arith) is
 
-last_of-front : (xs ys : List Entry) → last_of xs ≤ last_of (xs ++ ys)
+pub last_of-front : (xs ys : List Entry) → last_of xs ≤ last_of (xs ++ ys)
 last_of-front [] ys = omega arith
 last_of-front (Replicate t o ∷ xs) ys = let low = last_of-front xs ys in omega arith
 last_of-front (Commit t rows ∷ xs) ys = last_of-front xs ys
 
 -- what is acknowledged in these records is at or below their last timestamp
-acknowledged_by : (records : List Entry) (t : ℕ) (trail : List Event) → last_of records ≤ t → AcknowledgedIn records trail → AcknowledgedBy t trail
+pub acknowledged_by : (records : List Entry) (t : ℕ) (trail : List Event) → last_of records ≤ t → AcknowledgedIn records trail → AcknowledgedBy t trail
 acknowledged_by records t [] le h = tt
 acknowledged_by records t (event.End s i ts ∷ trail) le h = (let low = at_most_last ts h.0.0 records h.0.1.0 h.0.1.1 h.0.1.2 in omega arith, acknowledged_by records t trail le h.1)
 acknowledged_by records t (_ ∷ trail) le h = acknowledged_by records t trail le h
@@ -108,13 +108,13 @@ engine_front tells seen now leaves faults view rules first durable rest image co
     (subst (λ (r : List Entry). KeepsRun rules (core_from view first) view.super view.tablet.names view.tablet.notes view.records r) run (is.logged.keeps rules first content plan)) (omega (arith, content.holds.last)) content.holds.mark acknowledged (subst (All (NamesOnly view.tablet.names)) run is.logged.names) reads
 
 -- what is durable and some records more: those that opening found, and a front of the run
-record IsFront {L D C : Type 0} (seen : L → Files) (view : EngineView L D C) (run : List Entry) (n : ℕ) : Type 0 where
-  durable : List Entry
-  rest : List Entry
-  run_is : run ≡ durable ++ rest
-  records : records_of (seen view.log.known.disk) ++ take n (view.log.out ++ view.log.queued) ≡ view.records ++ durable
+pub record IsFront {L D C : Type 0} (seen : L → Files) (view : EngineView L D C) (run : List Entry) (n : ℕ) : Type 0 where
+  pub durable : List Entry
+  pub rest : List Entry
+  pub run_is : run ≡ durable ++ rest
+  pub records : records_of (seen view.log.known.disk) ++ take n (view.log.out ++ view.log.queued) ≡ view.records ++ durable
 
-front_at : {L D C : Type 0} (tells : Bool) (seen : L → Files) (view : EngineView L D C) (is : IsLogged tells seen view) → IsTrue tells → (n : ℕ) → IsFront seen view is.run n
+pub front_at : {L D C : Type 0} (tells : Bool) (seen : L → Files) (view : EngineView L D C) (is : IsLogged tells seen view) → IsTrue tells → (n : ℕ) → IsFront seen view is.run n
 front_at tells seen view is t n =
     let rest = view.log.out ++ view.log.queued in
     let begins = is.begins t in
@@ -144,11 +144,11 @@ recovers_each {L} {D} {C} tells seen now leaves faults view is rules first conte
     (subst (λ (l : List Entry). AcknowledgedIn l view.tablet.core.trail) at.records (acknowledged_longer (records_of (seen view.log.known.disk)) (take n (view.log.out ++ view.log.queued)) view.tablet.core.trail (is.logged.acknowledged t))) (reads ∙ ap Ok at.records)
 
 -- an image has what is durable, and some records more
-abbrev HasSome : {L D C : Type 0} → (L → Files) → EngineView L D C → Files → Type 0
+abbrev pub HasSome : {L D C : Type 0} → (L → Files) → EngineView L D C → Files → Type 0
 HasSome seen view image = (n : ℕ) × (log_of image ≡ Ok (records_of (seen view.log.known.disk) ++ take n (view.log.out ++ view.log.queued)))
 
 -- so has each that a crash may leave now
-leaves_some : {L D C : Type 0} (tells : Bool) (seen : L → Files) (now : L → ℕ) (leaves : L → ℕ → Files → Type 0) (faults : L → ℕ) (view : EngineView L D C)
+pub leaves_some : {L D C : Type 0} (tells : Bool) (seen : L → Files) (now : L → ℕ) (leaves : L → ℕ → Files → Type 0) (faults : L → ℕ) (view : EngineView L D C)
     → IsEngine tells seen now leaves faults view → (IsTrue tells → Holds now leaves view.log.known.disk (records_of (seen view.log.known.disk)))
     → IsTrue tells → (journal : JournalView L) → view.log.home ≡ Some journal → (image : Files) → leaves journal.disk (now journal.disk) image → HasSome seen view image
 leaves_some {L} {D} {C} tells seen now leaves faults view is held t journal at image left =
@@ -156,9 +156,9 @@ leaves_some {L} {D} {C} tells seen now leaves faults view is held t journal at i
     let old : log_of image ≡ Ok known → HasSome seen view image = λ reads. (0, reads ∙ ap Ok (sym (append-nil known))) in
     let both : log_of image ≡ Ok (known ++ view.log.out) → HasSome seen view image = λ reads. (length view.log.out, reads ∙ ap (λ (l : List Entry). Ok (known ++ l)) (sym (take-append_seam view.log.out view.log.queued))) in
     let home = is.home journal at in
-    elim view.tablet.core.stopped as (λ b. view.tablet.core.stopped ≡ b → HasSome seen view image) [
-      | false ↦ λ goes. old (held t image (subst (λ (j : JournalView L). leaves j.disk (now j.disk) image) (home.known goes).0 left))
-      | true ↦ λ stopped. elim (home.images stopped t image left).1 [ inl reads ↦ old reads | inr reads ↦ both reads ]
+    elim view.log.whole as (λ b. view.log.whole ≡ b → HasSome seen view image) [
+      | true ↦ λ whole. old (held t image (subst (λ (j : JournalView L). leaves j.disk (now j.disk) image) (home.known whole).0 left))
+      | false ↦ λ broken. elim (home.images broken t image left).1 [ inl reads ↦ old reads | inr reads ↦ both reads ]
     ] refl
 
 -- A crash leaves the records that opening found and some of the run.
@@ -181,7 +181,7 @@ pub recovers_all : {L D C : Type 0} (tells : Bool) (seen : L → Files) (now : L
     → IsEngine tells seen now leaves faults view
     → (IsTrue tells → Holds now leaves view.log.known.disk (records_of (seen view.log.known.disk))) → RecoversAll tells now leaves view
 recovers_all {L} {D} {C} tells seen now leaves faults view is held rules first content plan goes empty t journal at image left =
-    let known = (is.home journal at).known goes in
+    let known = (is.home journal at).known (goes_whole view is.whole goes).0 in
     let none : view.log.out ++ view.log.queued ≡ [] = ap (λ (l : List Entry). l ++ view.log.queued) known.1 ∙ empty in
     let all : records_of (seen view.log.known.disk) ≡ view.records ++ is.logged.run =
     sym (append-nil (records_of (seen view.log.known.disk))) ∙ ap (λ (l : List Entry). records_of (seen view.log.known.disk) ++ l) (sym none) ∙ sym (is.logged.all t) in

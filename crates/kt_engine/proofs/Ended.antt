@@ -10,6 +10,7 @@ use Rattle.kt_history.specs.declared.event.Event.TheVariants.{End, Stop}
 use Rattle.kt_history.specs.declared.operation.RowOp.{RowOp}
 use Rattle.kt_history.specs.declared.target.Target.{Target}
 use Rattle.kt_history.specs.declared.target.Target.TheVariants.{Mem, Delta}
+use Rattle.kt_history.specs.History.{Past}
 use Rattle.kt_records.specs.declared.entry.Entry.{Entry}
 use Rattle.kt_records.specs.declared.entry.Entry.TheVariants.{Replicate, Commit}
 use Rattle.kt_records.specs.declared.entry.CommitRow.{CommitRow}
@@ -38,7 +39,7 @@ use Rattle.kt_tablet.specs.Views.{View}
 use Rattle.kt_tablet.specs.Visits.{MayEnd, HasEnded, IsWritten, HasHandedOut}
 use Rattle.kt_tablet.specs.Rows.{commit_row, AreRecorded}
 use Rattle.kt_engine.specs.Memory.{name_of, by_name, named_write, named_writes, resident}
-use Rattle.kt_engine.specs.Logged.{Waits, UntoldFly, AreApart, IsDurable, LogStands, KeepsRun, NamesOnly}
+use Rattle.kt_engine.specs.Logged.{Waits, UntoldFly, AreApart, IsDurable, LogStands, KeepsFrom, NamesOnly}
 use Rattle.kt_engine.specs.Engines.{EngineView, IsContent, core_from, IsEngine}
 use Rattle.kt_engine.proofs.Lists.{all_none, all_cons, all_each, all_at, all_more, all_passing, all_found, found_passes, found_place, fewer, map-filter}
 use Rattle.kt_engine.proofs.Memory.{IsOwn, named_there, named_ended, one_place}
@@ -49,13 +50,13 @@ use Rattle.kt_engine.proofs.Waiting.{one_session, untold_ended}
 use Rattle.kt_engine.proofs.Runs.{past_line, acknowledged_more, stop_line}
 
 -- the flying write's own REPLICATE keeps the rules
-own_framed : (core : Core) (records : List Entry) (places : List (ℕ × ℕ)) (run : List Entry) (s : ℕ) (f : Aloft) → find (λ w. w.s == s) core.aloft ≡ Some f → LogStands core records places run → IsFramed (Replicate f.ts f.ops)
+pub own_framed : (core : Core) (records : List Entry) (places : List (ℕ × ℕ)) (run : List Entry) (s : ℕ) (f : Aloft) → find (λ w. w.s == s) core.aloft ≡ Some f → LogStands core records places run → IsFramed (Replicate f.ts f.ops)
 own_framed core records places run s f flies k =
     let wf = all_found (Waits (records ++ run) places) (λ w. w.s == s) core.aloft f flies k.flying in
     framed_at [] (records ++ run) wf.n (Replicate f.ts f.ops) k.log wf.there
 
 -- its COMMIT, with a row for each operation, keeps them too
-own_commit : (names : List Target) → All TargetFits names → (f : Aloft) (outcomes : List Outcome) (rows : List CommitRow) → AreRecorded names outcomes rows → length outcomes ≡ length f.ops → IsFramed (Replicate f.ts f.ops) → IsFramed (Commit f.ts rows)
+pub own_commit : (names : List Target) → All TargetFits names → (f : Aloft) (outcomes : List Outcome) (rows : List CommitRow) → AreRecorded names outcomes rows → length outcomes ≡ length f.ops → IsFramed (Replicate f.ts f.ops) → IsFramed (Commit f.ts rows)
 own_commit names fits f outcomes rows are count framed =
     let few = (held_few (length f.ops) framed.keeps.count).1 in
     commit_framed names fits f.ts framed.keeps.ts outcomes rows are (omega arith)
@@ -71,7 +72,7 @@ others_wait log places s aloft f rows flies waits apart =
     waits_behind log places kept w f.ts rows (turned w.ts f.ts (apart n d lt)) (place-kept w.s s places (both n d lt).1) (both n d lt).0
 
 -- the log and a COMMIT more
-ended_log : (core : Core) (records : List Entry) (places : List (ℕ × ℕ)) (run : List Entry) (s i : ℕ) (f : Aloft) (rows : List CommitRow) → find (λ w. w.s == s) core.aloft ≡ Some f → length rows ≡ length f.ops → IsFramed (Commit f.ts rows)
+pub ended_log : (core : Core) (records : List Entry) (places : List (ℕ × ℕ)) (run : List Entry) (s i : ℕ) (f : Aloft) (rows : List CommitRow) → find (λ w. w.s == s) core.aloft ≡ Some f → length rows ≡ length f.ops → IsFramed (Commit f.ts rows)
     → All (λ v. (v.ts == f.ts) ≡ false) (filter (λ w. not (w.s == s)) core.aloft) → LogStands core records places run → LogStands (ended core s i f.ts) records (filter (λ p. not (p.0 == s)) places) (run ++ Commit f.ts rows ∷ [])
 ended_log core records places run s i f rows flies count framed apart k =
     let log = records ++ run in
@@ -111,7 +112,7 @@ all_applied : (n : ℕ) (ops : List RowOp) → drop n ops ≡ [] → take n ops 
 all_applied n ops none = sym (append-nil (take n ops)) ∙ ap (λ (l : List RowOp). take n ops ++ l) (sym none) ∙ take-append-drop n ops
 
 -- what is handed out was noted at the place of the write that is found
-at_its_place : {C : Type 0} (old new : View C) (log : List Entry) (s : ℕ) (f : Aloft) (rows : List CommitRow) → All (Waits log old.places) old.core.aloft → AreApart old.core.aloft → find (λ w. w.s == s) old.core.aloft ≡ Some f
+pub at_its_place : {C : Type 0} (old new : View C) (log : List Entry) (s : ℕ) (f : Aloft) (rows : List CommitRow) → All (Waits log old.places) old.core.aloft → AreApart old.core.aloft → find (λ w. w.s == s) old.core.aloft ≡ Some f
     → (h : HasHandedOut old new s rows) → slice_get old.core.aloft h.j ≡ Some f
 at_its_place old new log s f rows waits apart flies h =
     let wf = all_found (Waits log old.places) (λ w. w.s == s) old.core.aloft f flies waits in
@@ -122,10 +123,10 @@ at_its_place old new log s f rows waits apart flies h =
     ap (slice_get old.core.aloft) (sym (one_place old.core.aloft there.0 h.j f h.flight apart there.1 h.flies time)) ∙ there.1
 
 -- and the run with it: what was noted of its rows is true, so that its COMMIT tells what became of them
-ended_run : (rules : Rules) (core : Core) (super : Super) (names : List Target) (notes later : List (List CommitRow)) (records : List Entry) (places : List (ℕ × ℕ)) (run : List Entry) (s i j : ℕ) (f : Aloft) (outcomes : List Outcome) (rows : List CommitRow)
+pub ended_run : (rules : Rules) (core : Core) (super : Super) (names : List Target) (notes later : List (List CommitRow)) (records : List Entry) (places : List (ℕ × ℕ)) (run : List Entry) (s i j : ℕ) (f : Aloft) (outcomes : List Outcome) (rows : List CommitRow) (from : ℕ) (past : Past)
     → IsLog (records ++ (run ++ Commit f.ts rows ∷ [])) → All (Waits (records ++ run) places) core.aloft → AreApart core.aloft → slice_get core.aloft j ≡ Some f → f.s ≡ s → drop f.applied f.ops ≡ []
-    → slice_get notes j ≡ Some rows → later ≡ remove notes j → AreRecorded names outcomes rows → KeepsRun rules core super names notes records run → KeepsRun rules (ended core s i f.ts) super names later records (run ++ Commit f.ts rows ∷ [])
-ended_run rules core super names notes later records places run s i j f outcomes rows log waits apart at own over here later_is are k =
+    → slice_get notes j ≡ Some rows → later ≡ remove notes j → AreRecorded names outcomes rows → KeepsFrom rules core super names notes records run from past → KeepsFrom rules (ended core s i f.ts) super names later records (run ++ Commit f.ts rows ∷ []) from past
+ended_run rules core super names notes later records places run s i j f outcomes rows from past log waits apart at own over here later_is are k =
     let fill = core.work.fill in
     let live = resident core names notes k.numbers in
     let wf = all_at (Waits (records ++ run) places) core.aloft j f at waits in
@@ -138,11 +139,11 @@ ended_run rules core super names notes later records places run s i j f outcomes
     let named : named_writes (filter (λ (w : Aloft). not (w.s == s)) core.aloft) later ≡ without f.ts (named_writes core.aloft notes) =
     ap (named_writes (filter (λ (w : Aloft). not (w.s == s)) core.aloft)) later_is ∙ named_ended j s core.aloft notes f rows apart alone at own here in
     record {
-      recovered = commit_recovered rules fill super records run core.opened core.first f.ts rows k.recovered (record { ops = flying.ops; stands = stands; tells = tells });
-      writes = with_records-append fill core.first run (Commit f.ts rows ∷ []) ∙ k.writes ∙ sym (past_line core (End s i f.ts));
+      recovered = commit_recovered rules fill super records run from past f.ts rows k.recovered (record { ops = flying.ops; stands = stands; tells = tells });
+      writes = with_records-append fill past run (Commit f.ts rows ∷ []) ∙ k.writes ∙ sym (past_line core (End s i f.ts));
       numbers = k.numbers;
-      stands = subst (λ (ns : List Named). SuperStands rules fill super records (run ++ Commit f.ts rows ∷ []) core.first (record { last = core.c; named = ns; stores = λ q. by_name names (hists q core.stores); names = map name_of names; numbers = k.numbers }))
-          (sym named) (end_keeps rules fill super records run core.first live f.ts flying log k.stands flies stands below);
+      stands = subst (λ (ns : List Named). SuperStands rules fill super records (run ++ Commit f.ts rows ∷ []) past (record { last = core.c; named = ns; stores = λ q. by_name names (hists q core.stores); names = map name_of names; numbers = k.numbers }))
+          (sym named) (end_keeps rules fill super records run past live f.ts flying log k.stands flies stands below);
     }
 
 -- a write whose rows are all applied has one that is
@@ -172,7 +173,7 @@ with_ended tells seen now leaves faults old s i f outcomes rows tablet e goes fl
         begins = e.logged.begins;
         stands = stands;
         keeps = λ rules first is plan. let before : IsContent rules old first = record { opens = is.opens; holds = is.holds } in
-            ended_run rules (core_from old first) old.super old.tablet.names old.tablet.notes tablet.notes old.records old.tablet.places e.logged.run s i handed.j f outcomes rows stands.log k.flying e.ready.apart at own (over_found s core.aloft f flies over)
+            ended_run rules (core_from old first) old.super old.tablet.names old.tablet.notes tablet.notes old.records old.tablet.places e.logged.run s i handed.j f outcomes rows core.opened first stands.log k.flying e.ready.apart at own (over_found s core.aloft f flies over)
             handed.rows_are handed.notes are (e.logged.keeps rules first before plan);
         names = all_more (NamesOnly old.tablet.names) e.logged.run (Commit f.ts rows) e.logged.names (commit_names old.tablet.names f.ts outcomes rows are);
         framed = framed_parts old.log.out old.log.queued (Commit f.ts rows) e.logged.framed commit;

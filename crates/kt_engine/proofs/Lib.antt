@@ -15,6 +15,7 @@ pub mod Opened
 pub mod Begun
 pub mod Applied
 pub mod Ended
+pub mod Marks
 pub mod Lines
 pub mod Plans
 pub mod Devices
@@ -24,3 +25,14 @@ pub mod Others
 pub mod Placed
 pub mod Sessions
 pub mod Visiting
+pub mod Untold
+pub mod Stored
+pub mod StoreEvents
+pub mod Pairs
+pub mod Whole
+pub mod StoreOpened
+pub mod Both
+pub mod StoredWrites
+pub mod StorePurposes
+pub mod StoredPlans
+pub mod OpenedBoth

@@ -1,5 +1,5 @@
 -- A line that begins and ends no write: the engine stands on.
-use Rattle.std.proofs.Common.{◌≡◌, ◌≢◌, ◌≤◌, ℕ, max, Bool, true, false, List, [], ◌∷◌, ◌++◌, Result, Ok, Err, refl, sym, ap, subst, ◌∙◌, arith}
+use Rattle.std.proofs.Common.{◌≡◌, ◌≢◌, ◌≤◌, ℕ, max, Bool, true, false, List, [], ◌∷◌, ◌++◌, Result, Ok, Err, refl, sym, ap, subst, ◌∙◌, arith, inl, inr}
 use Rattle.std.specs.Prelude.{IfOk, IfErr, OnErr, OnOk}
 use Rattle.kt_disk.specs.Disk.{Files}
 use Rattle.kt_history.specs.declared.event.Event.{Event}
@@ -21,6 +21,7 @@ use Rattle.kt_tablet.specs.Reads.{HasRead, LeavesRead}
 use Rattle.kt_engine.specs.Logged.{AcknowledgedIn}
 use Rattle.kt_engine.specs.Memory.{resident}
 use Rattle.kt_engine.specs.Engines.{EngineView, IsLogged, IsEngine, core_from}
+use Rattle.kt_engine.proofs.Marks.{MovesMark}
 use Rattle.kt_engine.proofs.Runs.{past_line, acknowledged_more, stop_line, goes_still, ok_no, err_is}
 
 -- a line that neither begins nor ends a write
@@ -29,7 +30,7 @@ IsQuiet (event.Begin s i ts m) = ⊥
 IsQuiet (event.End s i ts) = ⊥
 IsQuiet _ = Unit {0}
 
-past_after : (work : Workload) (st : State) (e : Event) → IsQuiet e → (after work st e).past ≡ st.past
+pub past_after : (work : Workload) (st : State) (e : Event) → IsQuiet e → (after work st e).past ≡ st.past
 past_after work st (event.Begin s i ts m) h = absurd h
 past_after work st (event.End s i ts) h = absurd h
 past_after work st (event.Look s i t m) h = refl
@@ -83,7 +84,7 @@ line_logged tells seen view e a c turns stopped clock is quiet up = record {
 }
 
 -- and the engine stands
-line_keeps : {L D C : Type 0} (tells : Bool) (seen : L → Files) (now : L → ℕ) (leaves : L → ℕ → Files → Type 0) (faults : L → ℕ) (view : EngineView L D C) (tablet : View C) (e : Event) (a c : ℕ) (turns : List Turn) (clock : C)
+pub line_keeps : {L D C : Type 0} (tells : Bool) (seen : L → Files) (now : L → ℕ) (leaves : L → ℕ → Files → Type 0) (faults : L → ℕ) (view : EngineView L D C) (tablet : View C) (e : Event) (a c : ℕ) (turns : List Turn) (clock : C)
     → IsEngine tells seen now leaves faults view → view.tablet.core.stopped ≡ false → IsQuiet e → e ≢ event.Stop → view.tablet.core.c ≤ c → tablet ≡ with_line view.tablet e a c turns view.tablet.core.stopped clock
     → IsEngine tells seen now leaves faults (record view { tablet = tablet })
 line_keeps {L} {D} {C} tells seen now leaves faults view tablet e a c turns clock is goes quiet other up new =
@@ -100,52 +101,60 @@ line_keeps {L} {D} {C} tells seen now leaves faults view tablet e a c turns cloc
       placed = is.placed;
     })
 
+-- what a line keeps, whatever that is: so does each event that adds one, or none
+abbrev pub KeepsLines : {C : Type 0} → (View C → Type 0) → View C → Type 0
+KeepsLines {C} P old = P old × ((e : Event) (a c : ℕ) (turns : List Turn) (clock : C) → old.core.stopped ≡ false → IsQuiet e → e ≢ event.Stop → old.core.a ≤ a → MovesMark e old.core.a a → old.core.c ≤ c → P (with_line old e a c turns old.core.stopped clock))
+
+line_on : {C : Type 0} (P : View C → Type 0) (old tablet : View C) (e : Event) (a c : ℕ) (turns : List Turn) (clock : C)
+    → KeepsLines P old → old.core.stopped ≡ false → IsQuiet e → e ≢ event.Stop → old.core.a ≤ a → MovesMark e old.core.a a → old.core.c ≤ c → tablet ≡ with_line old e a c turns old.core.stopped clock → P tablet
+line_on P old tablet e a c turns clock is goes quiet other rise moves up new = subst P (sym new) (is.1 e a c turns clock goes quiet other rise moves up)
+
 -- a scan of the present draws its time
-pub look_keeps : {L D C : Type 0} (tells : Bool) (seen : L → Files) (now : L → ℕ) (leaves : L → ℕ → Files → Type 0) (faults : L → ℕ) (view : EngineView L D C) (tablet : View C) (s i : ℕ) (result : Result ℕ LookNo)
-    → IsEngine tells seen now leaves faults view → (view.tablet.core.stopped ≡ true → result ≡ Err look.Stopped) → IfOk result (λ t. HasLooked view.tablet.core tablet.core s i t) → tablet ≡ record view.tablet { core = tablet.core; clock = tablet.clock } → OnErr result (tablet ≡ view.tablet)
-    → IsEngine tells seen now leaves faults (record view { tablet = tablet })
-look_keeps {L} {D} {C} tells seen now leaves faults view tablet s i (Ok t) is stops has beside same =
+pub look_keeps : {C : Type 0} (P : View C → Type 0) (old tablet : View C) (s i : ℕ) (result : Result ℕ LookNo)
+    → KeepsLines P old → (old.core.stopped ≡ true → result ≡ Err look.Stopped) → IfOk result (λ t. HasLooked old.core tablet.core s i t) → tablet ≡ record old { core = tablet.core; clock = tablet.clock } → OnErr result (tablet ≡ old)
+    → P tablet
+look_keeps {C} P old tablet s i (Ok t) is stops has beside same =
     let m = has.m in
     let time = has.time in
-    line_keeps tells seen now leaves faults view tablet (event.Look s i t m) view.tablet.core.a t (looked view.tablet.core s i t m).turns tablet.clock is (goes_still view.tablet.core.stopped (Ok t) look.Stopped stops (ok_no t look.Stopped)) tt (λ e. let no : event.Look s i t m ≡ event.Stop = e in cc) (omega arith)
-    (beside ∙ ap (λ (k : Core). record view.tablet { core = k; clock = tablet.clock }) has.core)
-look_keeps {L} {D} {C} tells seen now leaves faults view tablet s i (Err reason) is stops has beside same = subst (λ (t : View C). IsEngine tells seen now leaves faults (record view { tablet = t })) (sym same) is
+    line_on P old tablet (event.Look s i t m) old.core.a t (looked old.core s i t m).turns tablet.clock is (goes_still old.core.stopped (Ok t) look.Stopped stops (ok_no t look.Stopped)) tt (λ e. let no : event.Look s i t m ≡ event.Stop = e in cc) (omega arith) (inl refl) (omega arith)
+    (beside ∙ ap (λ (k : Core). record old { core = k; clock = tablet.clock }) has.core)
+look_keeps {C} P old tablet s i (Err reason) is stops has beside same = subst P (sym same) is.0
 
 -- the mark rises
-pub mark_keeps : {L D C : Type 0} (tells : Bool) (seen : L → Files) (now : L → ℕ) (leaves : L → ℕ → Files → Type 0) (faults : L → ℕ) (view : EngineView L D C) (tablet : View C) (s i to : ℕ) (result : Result ℕ LookNo)
-    → IsEngine tells seen now leaves faults view → (view.tablet.core.stopped ≡ true → result ≡ Err look.Stopped) → IfOk result (λ a. HasMarked view.tablet.core tablet.core s i to a) → tablet ≡ record view.tablet { core = tablet.core } → OnErr result (tablet ≡ view.tablet)
-    → IsEngine tells seen now leaves faults (record view { tablet = tablet })
-mark_keeps {L} {D} {C} tells seen now leaves faults view tablet s i to (Ok a) is stops has beside same =
-    line_keeps tells seen now leaves faults view tablet (event.Mark s i a) a view.tablet.core.c (marked view.tablet.core s i a).turns view.tablet.clock is (goes_still view.tablet.core.stopped (Ok a) look.Stopped stops (ok_no a look.Stopped)) tt (λ e. let no : event.Mark s i a ≡ event.Stop = e in cc) (omega arith)
-    (beside ∙ ap (λ (k : Core). record view.tablet { core = k }) has.core)
-mark_keeps {L} {D} {C} tells seen now leaves faults view tablet s i to (Err reason) is stops has beside same = subst (λ (t : View C). IsEngine tells seen now leaves faults (record view { tablet = t })) (sym same) is
+pub mark_keeps : {C : Type 0} (P : View C → Type 0) (old tablet : View C) (s i to : ℕ) (result : Result ℕ LookNo)
+    → KeepsLines P old → (old.core.stopped ≡ true → result ≡ Err look.Stopped) → IfOk result (λ a. HasMarked old.core tablet.core s i to a) → tablet ≡ record old { core = tablet.core } → OnErr result (tablet ≡ old)
+    → P tablet
+mark_keeps {C} P old tablet s i to (Ok a) is stops has beside same =
+    line_on P old tablet (event.Mark s i a) a old.core.c (marked old.core s i a).turns old.clock is (goes_still old.core.stopped (Ok a) look.Stopped stops (ok_no a look.Stopped)) tt (λ e. let no : event.Mark s i a ≡ event.Stop = e in cc) (let v = has.value in omega arith) (inr (s, i, refl)) (omega arith)
+    (beside ∙ ap (λ (k : Core). record old { core = k }) has.core)
+mark_keeps {C} P old tablet s i to (Err reason) is stops has beside same = subst P (sym same) is.0
 
 -- a line answers a command
-pub answer_keeps : {L D C : Type 0} (tells : Bool) (seen : L → Files) (now : L → ℕ) (leaves : L → ℕ → Files → Type 0) (faults : L → ℕ) (view : EngineView L D C) (tablet : View C) (s i : ℕ) (e : Event)
-    → IsEngine tells seen now leaves faults view → view.tablet.core.stopped ≡ false → IsQuiet e → e ≢ event.Stop → tablet ≡ record view.tablet { core = answered view.tablet.core s i e }
-    → IsEngine tells seen now leaves faults (record view { tablet = tablet })
-answer_keeps tells seen now leaves faults view tablet s i e is goes quiet other new =
-    line_keeps tells seen now leaves faults view tablet e view.tablet.core.a view.tablet.core.c (answered view.tablet.core s i e).turns view.tablet.clock is goes quiet other (omega arith) new
+pub answer_keeps : {C : Type 0} (P : View C → Type 0) (old tablet : View C) (s i : ℕ) (e : Event)
+    → KeepsLines P old → old.core.stopped ≡ false → IsQuiet e → e ≢ event.Stop → tablet ≡ record old { core = answered old.core s i e }
+    → P tablet
+answer_keeps P old tablet s i e is goes quiet other new =
+    line_on P old tablet e old.core.a old.core.c (answered old.core s i e).turns old.clock is goes quiet other (omega arith) (inl refl) (omega arith) new
 
 -- a maintenance command is answered
-pub chore_keeps : {L D C T : Type 0} (tells : Bool) (seen : L → Files) (now : L → ℕ) (leaves : L → ℕ → Files → Type 0) (faults : L → ℕ) (view : EngineView L D C) (tablet : View C) (s i : ℕ) (result : Result T LookNo)
-    → IsEngine tells seen now leaves faults view → (view.tablet.core.stopped ≡ true → result ≡ Err look.Stopped) → OnOk result (tablet ≡ record view.tablet { core = answered view.tablet.core s i (event.Chore s i) }) → OnErr result (tablet ≡ view.tablet)
-    → IsEngine tells seen now leaves faults (record view { tablet = tablet })
-chore_keeps {L} {D} {C} tells seen now leaves faults view tablet s i (Ok a) is stops new same =
-    answer_keeps tells seen now leaves faults view tablet s i (event.Chore s i) is (goes_still view.tablet.core.stopped (Ok a) look.Stopped stops (ok_no a look.Stopped)) tt (λ e. let no : event.Chore s i ≡ event.Stop = e in cc) new
-chore_keeps {L} {D} {C} tells seen now leaves faults view tablet s i (Err reason) is stops new same = subst (λ (t : View C). IsEngine tells seen now leaves faults (record view { tablet = t })) (sym same) is
+pub chore_keeps : {C T : Type 0} (P : View C → Type 0) (old tablet : View C) (s i : ℕ) (result : Result T LookNo)
+    → KeepsLines P old → (old.core.stopped ≡ true → result ≡ Err look.Stopped) → OnOk result (tablet ≡ record old { core = answered old.core s i (event.Chore s i) }) → OnErr result (tablet ≡ old)
+    → P tablet
+chore_keeps {C} P old tablet s i (Ok a) is stops new same =
+    answer_keeps P old tablet s i (event.Chore s i) is (goes_still old.core.stopped (Ok a) look.Stopped stops (ok_no a look.Stopped)) tt (λ e. let no : event.Chore s i ≡ event.Stop = e in cc) new
+chore_keeps {C} P old tablet s i (Err reason) is stops new same = subst P (sym same) is.0
 
 -- a scan is answered, or refused with its line
-pub snapshot_keeps : {L D C R : Type 0} (tells : Bool) (seen : L → Files) (now : L → ℕ) (leaves : L → ℕ → Files → Type 0) (faults : L → ℕ) (view : EngineView L D C) (tablet : View C) (s i : ℕ) (at : At) (time : R → ℕ) (result : Result R SnapNo)
-    → IsEngine tells seen now leaves faults view → (view.tablet.core.stopped ≡ true → result ≡ Err no.Stopped) → IfOk result (λ snap. HasRead view.tablet.core tablet.core s i at (time snap)) → tablet ≡ record view.tablet { core = tablet.core } → IfErr result (LeavesRead view.tablet tablet s i)
-    → IsEngine tells seen now leaves faults (record view { tablet = tablet })
-snapshot_keeps {L} {D} {C} tells seen now leaves faults view tablet s i at time (Ok snap) is stops has beside left =
-    line_keeps tells seen now leaves faults view tablet (event.Rows s i (time snap)) view.tablet.core.a (max view.tablet.core.c (time snap)) (answered_rows view.tablet.core s i (time snap)).turns view.tablet.clock is (goes_still view.tablet.core.stopped (Ok snap) no.Stopped stops (ok_no snap no.Stopped)) tt (λ e. let other : event.Rows s i (time snap) ≡ event.Stop = e in cc) (omega arith)
-    (beside ∙ ap (λ (k : Core). record view.tablet { core = k }) has.core)
-snapshot_keeps {L} {D} {C} tells seen now leaves faults view tablet s i at time (Err (no.Ancient t a)) is stops has beside left =
-    answer_keeps tells seen now leaves faults view tablet s i (event.Ancient s i t a) is (goes_still view.tablet.core.stopped (Err (no.Ancient t a)) no.Stopped stops (λ h. let e : no.Ancient t a ≡ no.Stopped = err_is (no.Ancient t a) no.Stopped _ refl h in cc)) tt (λ e. let other : event.Ancient s i t a ≡ event.Stop = e in cc) (beside ∙ ap (λ (k : Core). record view.tablet { core = k }) left)
-snapshot_keeps {L} {D} {C} tells seen now leaves faults view tablet s i at time (Err (no.Busy t f)) is stops has beside left =
-    answer_keeps tells seen now leaves faults view tablet s i (event.Busy s i t f) is (goes_still view.tablet.core.stopped (Err (no.Busy t f)) no.Stopped stops (λ h. let e : no.Busy t f ≡ no.Stopped = err_is (no.Busy t f) no.Stopped _ refl h in cc)) tt (λ e. let other : event.Busy s i t f ≡ event.Stop = e in cc) (beside ∙ ap (λ (k : Core). record view.tablet { core = k }) left)
-snapshot_keeps {L} {D} {C} tells seen now leaves faults view tablet s i at time (Err no.Stopped) is stops has beside left = subst (λ (t : View C). IsEngine tells seen now leaves faults (record view { tablet = t })) (sym left) is
-snapshot_keeps {L} {D} {C} tells seen now leaves faults view tablet s i at time (Err (no.NotYet f)) is stops has beside left = subst (λ (t : View C). IsEngine tells seen now leaves faults (record view { tablet = t })) (sym left) is
-snapshot_keeps {L} {D} {C} tells seen now leaves faults view tablet s i at time (Err no.Memory) is stops has beside left = subst (λ (t : View C). IsEngine tells seen now leaves faults (record view { tablet = t })) (sym left) is
+pub snapshot_keeps : {C R : Type 0} (P : View C → Type 0) (old tablet : View C) (s i : ℕ) (at : At) (time : R → ℕ) (result : Result R SnapNo)
+    → KeepsLines P old → (old.core.stopped ≡ true → result ≡ Err no.Stopped) → IfOk result (λ snap. HasRead old.core tablet.core s i at (time snap)) → tablet ≡ record old { core = tablet.core } → IfErr result (LeavesRead old tablet s i)
+    → P tablet
+snapshot_keeps {C} P old tablet s i at time (Ok snap) is stops has beside left =
+    line_on P old tablet (event.Rows s i (time snap)) old.core.a (max old.core.c (time snap)) (answered_rows old.core s i (time snap)).turns old.clock is (goes_still old.core.stopped (Ok snap) no.Stopped stops (ok_no snap no.Stopped)) tt (λ e. let other : event.Rows s i (time snap) ≡ event.Stop = e in cc) (omega arith) (inl refl) (omega arith)
+    (beside ∙ ap (λ (k : Core). record old { core = k }) has.core)
+snapshot_keeps {C} P old tablet s i at time (Err (no.Ancient t a)) is stops has beside left =
+    answer_keeps P old tablet s i (event.Ancient s i t a) is (goes_still old.core.stopped (Err (no.Ancient t a)) no.Stopped stops (λ h. let e : no.Ancient t a ≡ no.Stopped = err_is (no.Ancient t a) no.Stopped _ refl h in cc)) tt (λ e. let other : event.Ancient s i t a ≡ event.Stop = e in cc) (beside ∙ ap (λ (k : Core). record old { core = k }) left)
+snapshot_keeps {C} P old tablet s i at time (Err (no.Busy t f)) is stops has beside left =
+    answer_keeps P old tablet s i (event.Busy s i t f) is (goes_still old.core.stopped (Err (no.Busy t f)) no.Stopped stops (λ h. let e : no.Busy t f ≡ no.Stopped = err_is (no.Busy t f) no.Stopped _ refl h in cc)) tt (λ e. let other : event.Busy s i t f ≡ event.Stop = e in cc) (beside ∙ ap (λ (k : Core). record old { core = k }) left)
+snapshot_keeps {C} P old tablet s i at time (Err no.Stopped) is stops has beside left = subst P (sym left) is.0
+snapshot_keeps {C} P old tablet s i at time (Err (no.NotYet f)) is stops has beside left = subst P (sym left) is.0
+snapshot_keeps {C} P old tablet s i at time (Err no.Memory) is stops has beside left = subst P (sym left) is.0

@@ -53,7 +53,7 @@ use Rattle.kt_content.proofs.Seen.{seen-append}
 use Rattle.kt_stores.specs.Shelf.{place_of}
 use Rattle.kt_tablet.specs.Rows.{targets_of, commit_row}
 use Rattle.kt_tablet.proofs.Targets.{taken_live}
-use Rattle.kt_engine.specs.Logged.{Waits, AreApart, LogStands, KeepsRun}
+use Rattle.kt_engine.specs.Logged.{Waits, AreApart, LogStands, KeepsFrom}
 use Rattle.kt_engine.specs.Memory.{name_of, by_name, named_write, named_writes, resident, IsNamed, AreNamed}
 use Rattle.kt_engine.proofs.Lists.{all_at, beside_it}
 use Rattle.kt_engine.proofs.Memory.{name_found, name_joined, one_grouped, HasItsPlace, its_place, first_place, named_applied, named_there}
@@ -198,7 +198,7 @@ under_there ts (g ∷ hs) (suc i) h under at = under_there ts hs i h under.1 at
 
 -- ---- it is applied
 
-module _ (rules : Rules) (core : Core) (super : Super) (names : List Target) (notes : List (List CommitRow)) (records run : List Entry) (places : List (ℕ × ℕ)) (k : KeepsRun rules core super names notes records run)
+module _ (rules : Rules) (core : Core) (super : Super) (names : List Target) (notes : List (List CommitRow)) (records run : List Entry) (places : List (ℕ × ℕ)) (from : ℕ) (first : Past) (k : KeepsFrom rules core super names notes records run from first)
     (st : Stands core) (log : LogStands core records places run) (named : AreNamed super names) (apart : AreApart core.aloft) (stored : length names ≡ length core.stores) (noted : length notes ≡ length core.aloft)
     (j : ℕ) (w : Aloft) (op : RowOp) (at : slice_get core.aloft j ≡ Some w) (next : IsNextOp j core.aloft w.ts op) (row : slice_get w.ops w.applied ≡ Some op)
     (name : Target) (there : slice_get names (place_of op.key core.stores) ≡ Some name) (outcome : Outcome) (is_outcome : outcome ≡ (effect_on core.work.fill (rows_at (run_past core) (w.ts - 1)) op).1) where
@@ -206,7 +206,7 @@ module _ (rules : Rules) (core : Core) (super : Super) (names : List Target) (no
   fill = core.work.fill
 
   abbrev past : Past
-  past = with_records fill core.first run
+  past = with_records fill first run
 
   abbrev whole : Hist
   whole = past_hist op.key (raise past super.a)
@@ -228,7 +228,7 @@ module _ (rules : Rules) (core : Core) (super : Super) (names : List Target) (no
   before : row_before w.ts whole ≡ now_there
   before =
       let g = applies core st j w.ts op next in
-      let up = runs_up fill super core.opened records core.first run k.recovered.told k.recovered.ends in
+      let up = runs_up fill super from records first run k.recovered.told k.recovered.ends in
       let raised : IsPast (raise past super.a) = is_past_raised past super.a up.0.is (omega (arith, up.2, k.recovered.marked)) in
       let above : super.a < w.ts = its_next.1 in
       before_is w.ts whole (omega arith) ∙ row-past (w.ts - 1) op.key (raise past super.a) raised
@@ -245,19 +245,19 @@ module _ (rules : Rules) (core : Core) (super : Super) (names : List Target) (no
 
   -- the engine with it, as it is recovered
   abbrev Recovers : List Store → Type 0
-  Recovers stores = SuperStands rules fill super records run core.first (resident (record core { aloft = on_nth j advance core.aloft; stores = stores }) names (on_nth j (λ rows. rows ++ commit_row name outcome ∷ []) notes) k.numbers)
+  Recovers stores = SuperStands rules fill super records run first (resident (record core { aloft = on_nth j advance core.aloft; stores = stores }) names (on_nth j (λ rows. rows ++ commit_row name outcome ∷ []) notes) k.numbers)
 
   -- with what is known of the flying writes
-  as_noted : (stores : List Store) → SuperStands rules fill super records run core.first
+  as_noted : (stores : List Store) → SuperStands rules fill super records run first
       (record { last = core.c; named = with_row w.ts op (commit_row name outcome) (named_writes core.aloft notes); stores = λ q. by_name names (hists q stores); names = map name_of names; numbers = k.numbers }) → Recovers stores
-  as_noted stores s = subst (λ (ns : List Named). SuperStands rules fill super records run core.first (record { last = core.c; named = ns; stores = λ q. by_name names (hists q stores); names = map name_of names; numbers = k.numbers }))
+  as_noted stores s = subst (λ (ns : List Named). SuperStands rules fill super records run first (record { last = core.c; named = ns; stores = λ q. by_name names (hists q stores); names = map name_of names; numbers = k.numbers }))
       (sym (named_applied j w.ts op (commit_row name outcome) core.aloft notes apart next)) s
 
   -- it makes no change
   unchanged : (effect fill op.kind op.cells now_there).0 ≡ None → Recovers core.stores
   unchanged none =
       let told : (commit_row name outcome).targets ≡ [] = ap (targets_of name) outcome_now ∙ none_told name fill op.kind op.cells now_there none in
-      as_noted core.stores (row_without_keeps rules fill super records run core.first (resident core names notes k.numbers) w.ts op (commit_row name outcome) log.log k.stands its_next.0
+      as_noted core.stores (row_without_keeps rules fill super records run first (resident core names notes k.numbers) w.ts op (commit_row name outcome) log.log k.stands its_next.0
       (ap (λ (r : Option Row). (effect fill op.kind op.cells r).0) before ∙ none) (ap (needed_in super) told))
 
   -- or its change reaches the store of that name
@@ -293,7 +293,7 @@ module _ (rules : Rules) (core : Core) (super : Super) (names : List Target) (no
   changed : (c : Change) → (effect fill op.kind op.cells now_there).0 ≡ Some c → Recovers (pushed (place_of op.key core.stores) op.key w.ts c core.stores)
   changed c made =
       let stores = pushed (place_of op.key core.stores) op.key w.ts c core.stores in
-      as_noted stores (row_applied_keeps rules fill super records run core.first (resident core names notes k.numbers) w.ts op (commit_row name outcome) (λ q. by_name names (hists q stores)) log.log k.stands its_next.0 (takes c made))
+      as_noted stores (row_applied_keeps rules fill super records run first (resident core names notes k.numbers) w.ts op (commit_row name outcome) (λ q. by_name names (hists q stores)) log.log k.stands its_next.0 (takes c made))
 
   -- so it can be recovered with the row
   pub row_stands : (stores : List Store) → stores ≡ pushed_if (place_of op.key core.stores) op.key w.ts (effect fill op.kind op.cells now_there).0 core.stores → Recovers stores

@@ -5,8 +5,9 @@ use Rattle.kt_history.specs.declared.target.Target.TheVariants.{Mem, Delta}
 use Rattle.kt_records.specs.declared.entry.Entry.{Entry}
 use Rattle.kt_records.specs.declared.entry.Entry.TheVariants.{Replicate, Commit}
 use Rattle.kt_records.specs.declared.entry.CommitRow.{CommitRow}
-use Rattle.kt_content.specs.Places.{fresh}
-use Rattle.kt_content.specs.RunEvents.{Numbers, IsBelow, TargetsBelow, RowsBelow, RecordsBelow, StoresBelow, NumbersAreFresh}
+use Rattle.kt_rowfiles.specs.Files.{DiskRowset}
+use Rattle.kt_content.specs.Places.{Super}
+use Rattle.kt_content.specs.RunEvents.{Numbers, IsBelow, TargetsBelow, RowsBelow, RecordsBelow, StoresBelow, RowsetsBelow, NumbersAreFresh}
 use Rattle.kt_engine.specs.Memory.{name_of}
 
 abbrev top_of : Target → ℕ
@@ -25,6 +26,10 @@ abbrev top_of_records : List Entry → ℕ
 top_of_records [] = 0
 top_of_records (Replicate ts ops ∷ records) = top_of_records records
 top_of_records (Commit ts rows ∷ records) = max (top_of_rows rows) (top_of_records records)
+
+abbrev top_of_rowsets : List DiskRowset → ℕ
+top_of_rowsets [] = 0
+top_of_rowsets (d ∷ rowsets) = max (suc d.rowset) (top_of_rowsets rowsets)
 
 -- numbers from a top on
 record AreFrom (top : ℕ) (numbers : Numbers) : Type 0 where
@@ -56,17 +61,28 @@ names_below numbers [] h = tt
 names_below numbers (Mem n ∷ names) h = let both = fewer_from n (top_of_targets names) numbers h in (both.0.active, names_below numbers names both.1)
 names_below numbers (Delta r n ∷ names) h = let both = fewer_from (suc r) (top_of_targets names) numbers h in let up = both.0.next in (omega arith, names_below numbers names both.1)
 
-abbrev pub numbers_above : List Entry → List Target → Numbers
-numbers_above records names = record { next = suc (max (top_of_records records) (top_of_targets names)); active = suc (max (top_of_records records) (top_of_targets names)); deltas = [] }
+rowsets_below : (numbers : Numbers) (rowsets : List DiskRowset) → AreFrom (top_of_rowsets rowsets) numbers → RowsetsBelow numbers rowsets
+rowsets_below numbers [] h = tt
+rowsets_below numbers (d ∷ rowsets) h = let both = fewer_from (suc d.rowset) (top_of_rowsets rowsets) numbers h in let up = both.0.next in (omega arith, rowsets_below numbers rowsets both.1)
 
--- under the superblock of a fresh tablet they are fresh
-pub numbers_fresh : (records : List Entry) (names : List Target) → NumbersAreFresh fresh records (map name_of names) (numbers_above records names)
-numbers_fresh records names =
-    let both = fewer_from (top_of_records records) (top_of_targets names) (numbers_above records names) (record { next = omega arith; active = omega arith }) in
+abbrev top_of_all : Super → List Entry → List Target → ℕ
+top_of_all super records names = max (max (top_of_records records) (top_of_targets names)) (max (top_of_rowsets super.rowsets) super.last_mem)
+
+abbrev pub numbers_above : Super → List Entry → List Target → Numbers
+numbers_above super records names = record { next = suc (top_of_all super records names); active = suc (top_of_all super records names); deltas = [] }
+
+-- they are fresh, of which none is that of a DeltaMemStore
+pub numbers_fresh : (super : Super) (records : List Entry) (names : List Target) → NumbersAreFresh super records (map name_of names) (numbers_above super records names)
+numbers_fresh super records names =
+    let all = numbers_above super records names in
+    let from : AreFrom (top_of_all super records names) all = record { next = omega arith; active = omega arith } in
+    let parts = fewer_from (max (top_of_records records) (top_of_targets names)) (max (top_of_rowsets super.rowsets) super.last_mem) all from in
+    let both = fewer_from (top_of_records records) (top_of_targets names) all parts.0 in
+    let rest = fewer_from (top_of_rowsets super.rowsets) super.last_mem all parts.1 in
     record {
-      rowsets = tt;
-      records_below = records_below (numbers_above records names) records both.0;
-      stores = names_below (numbers_above records names) names both.1;
+      rowsets = rowsets_below all super.rowsets rest.0;
+      records_below = records_below all records both.0;
+      stores = names_below all names both.1;
       mem = omega arith;
       deltas = tt;
     }

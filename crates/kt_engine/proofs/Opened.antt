@@ -1,6 +1,6 @@
 -- An engine as it is opened.
 use Rattle.std.proofs.Common.{◌≡◌, ◌≢◌, ℕ, ◌≤◌, max, List, [], ◌∷◌, ◌++◌, length, map, Some, None, refl, sym, true, false, Bool, ap, ◌∙◌, subst, arith, length-append}
-use Rattle.std.specs.Prelude.{IsTrue}
+use Rattle.std.specs.Prelude.{not, IsTrue}
 use Rattle.std.specs.List.{All}
 use Rattle.std.proofs.lemmas.List.{append-nil}
 use Rattle.kt_disk.specs.Disk.{Files}
@@ -35,6 +35,7 @@ use Rattle.kt_content.specs.RunEvents.{Numbers, NumbersAreFresh}
 use Rattle.kt_content.proofs.OwedQueued.{queued_stands}
 use Rattle.kt_content.proofs.Recovering.{all_hold}
 use Rattle.kt_tablet.specs.Views.{View, Opens}
+use Rattle.kt_storeside.specs.Sides.{StoreView}
 use Rattle.kt_engine.specs.Memory.{name_of, by_name, named_writes, resident, AreNamed}
 use Rattle.kt_engine.specs.Logged.{Waits, UntoldFly, AreCommits, TakesUp, AreApart, AcknowledgedIn, IsDurable, NamesOnly, KeepsRun}
 use Rattle.kt_engine.specs.Engines.{EngineView, KeepsOthers, IsHome, IsEngine}
@@ -64,7 +65,7 @@ all_told : (all : List Entry) (q : List ℕ) → IsLog all → UntoldFly all [] 
 all_told all q log untold = (keys_told all [] [] (record { kind = Insert; key = q; cells = [] } ∷ []) log (all_none (Waits all [])) untold (all_none (λ (w : Aloft). share_key (record { kind = Insert; key = q; cells = [] } ∷ []) w.ops ≡ false))).0
 
 -- It keeps the run of each past that a superblock and the records hold, where the COMMITs that it owed are told and its stores mirror what both hold.
-keeps_opened : (rules : Rules) (core : Core) (super : Super) (names : List Target) (notes : List (List CommitRow)) (records queued : List Entry) (numbers : Numbers) → core.trail ≡ [] → core.aloft ≡ []
+pub keeps_opened : (rules : Rules) (core : Core) (super : Super) (names : List Target) (notes : List (List CommitRow)) (records queued : List Entry) (numbers : Numbers) → core.trail ≡ [] → core.aloft ≡ []
     → IsLog (records ++ queued) → UntoldFly (records ++ queued) [] → core.opened ≤ core.c → last_of (records ++ queued) ≤ core.c → AreCommits queued
     → IsPastUpTo core.opened core.first → HoldsPast rules core.work.fill super records core.opened core.first → AllTold core.work.fill super core.opened records queued
     → ((q : List ℕ) → (h : HoldsKey core.work.fill super (records ++ queued) q (past_hist q core.first)) → Mirrors super.a super (by_name names (hists q core.stores)) h.held)
@@ -96,27 +97,28 @@ keeps_opened rules core super names notes records queued numbers trail aloft log
     }
 
 -- what an engine is opened of, where nothing has happened yet
-abbrev pub opened_view : {L D C : Type 0} → View C → JournalView L → List Entry → Super → List Entry → D → L → EngineView L D C
-opened_view tablet journal records super queued store device = record {
+abbrev pub opened_view : {L D C : Type 0} → View C → JournalView L → List Entry → Super → List Entry → StoreView D → D → L → EngineView L D C
+opened_view tablet journal records super queued store store_device device = record {
   tablet = tablet;
   log = record { home = Some journal; known = journal; holder = None; out = []; queued = queued; room = 0; whole = true };
   records = records;
   super = super;
   device = device;
   store = store;
+  store_device = store_device;
   running = [];
 }
 
-pub is_opened : {L D C : Type 0} (tells : Bool) (seen : L → Files) (now : L → ℕ) (leaves : L → ℕ → Files → Type 0) (faults : L → ℕ) (tablet : View C) (journal : JournalView L) (records : List Entry) (super : Super) (queued : List Entry) (store : D) (device : L)
-    → tablet.core.trail ≡ [] → tablet.core.aloft ≡ [] → tablet.core.stopped ≡ false → map (λ p. p.0) tablet.places ≡ map (λ w. w.s) tablet.core.aloft
+pub is_opened : {L D C : Type 0} (tells : Bool) (seen : L → Files) (now : L → ℕ) (leaves : L → ℕ → Files → Type 0) (faults : L → ℕ) (tablet : View C) (journal : JournalView L) (records : List Entry) (super : Super) (queued : List Entry) (store : StoreView D) (store_device : D) (device : L)
+    → IsTrue store.whole → tablet.core.trail ≡ [] → tablet.core.aloft ≡ [] → tablet.core.stopped ≡ false → map (λ p. p.0) tablet.places ≡ map (λ w. w.s) tablet.core.aloft
     → AreNamed super tablet.names → IsLog (records ++ queued) → AreCommits queued
     → ((rules : Rules) (first : Past) → Opens tablet.opening tablet.mark tablet.core.opened first → HoldsPast rules tablet.core.work.fill super records tablet.core.opened first → TakesUp tablet.core.work.fill super tablet.names tablet.core.stores records queued tablet.core.opened first)
     → (numbers : Numbers) × NumbersAreFresh super (records ++ queued) (map name_of tablet.names) numbers → UntoldFly (records ++ queued) tablet.core.aloft → tablet.core.opened ≤ tablet.core.c
     → last_of (records ++ queued) ≤ tablet.core.c → All (NamesOnly tablet.names) queued → journal.count ≡ length records
     → (IsTrue tells → records_of (seen journal.disk) ≡ records)
     → (IsTrue tells → CanOpen now leaves journal.disk) → (IsTrue tells → KeepsOthers now leaves device journal.disk) → faults device ≤ faults journal.disk
-    → IsEngine tells seen now leaves faults (opened_view tablet journal records super queued store device)
-is_opened tells seen now leaves faults tablet journal records super queued store device trail aloft stopped placed named log commits taken numbers untold since last names count reads openable others later = record {
+    → IsEngine tells seen now leaves faults (opened_view tablet journal records super queued store store_device device)
+is_opened tells seen now leaves faults tablet journal records super queued store store_device device whole trail aloft stopped placed named log commits taken numbers untold since last names count reads openable others later = record {
   logged = record {
     run = queued;
     all = λ t. ap (λ l. l ++ queued) (sym (reads t));
@@ -138,10 +140,10 @@ is_opened tells seen now leaves faults tablet journal records super queued store
     durable = λ t. subst (λ (ws : List Aloft). All (IsDurable (records_of (seen journal.disk))) ws) (sym aloft) (all_none (IsDurable (records_of (seen journal.disk))));
     acknowledged = λ t. subst (λ (es : List Event). AcknowledgedIn (records_of (seen journal.disk)) es) (sym trail) tt;
   };
-  home = λ other at. let is : journal ≡ other = cc in subst (λ (j : JournalView _). IsHome tells seen now leaves faults (opened_view tablet journal records super queued store device) j) is (record { opens = openable; others = others; later = later; known = λ k. (refl, refl); rose = λ stops. absurd (goes stops); images = λ stops. absurd (goes stops) });
+  home = λ other at. let is : journal ≡ other = cc in subst (λ (j : JournalView _). IsHome tells seen now leaves faults (opened_view tablet journal records super queued store store_device device) j) is (record { opens = openable; others = others; later = later; known = λ k. (refl, refl); rose = λ broken. absurd (let no : true ≡ false = broken in cc); images = λ broken. absurd (let no : true ≡ false = broken in cc) });
   others = others;
   lent = λ by out. absurd (let no : None ≡ Some by = out in cc);
-  whole = ((λ goes_on. refl), (λ whole. stopped));
+  whole = stopped ∙ ap not (sym whole);
   stops = record { goes = λ k. subst (λ (es : List Event). All (λ e. e ≢ Stop) es) (sym trail) (all_none (λ e. e ≢ Stop)); stopped = λ stops. absurd (goes stops) };
   ready = record {
     room = subst (λ (ws : List Aloft). length ws ≤ 0) (sym aloft) (omega arith);
@@ -153,14 +155,3 @@ is_opened tells seen now leaves faults tablet journal records super queued store
   where
     goes : tablet.core.stopped ≡ true → ⊥
     goes stops = let no : true ≡ false = sym stops ∙ stopped in cc
-
--- the engine that was made of it
-pub as_opened : {L D C : Type 0} (tells : Bool) (seen : L → Files) (now : L → ℕ) (leaves : L → ℕ → Files → Type 0) (faults : L → ℕ) (tablet : View C) (journal : JournalView L) (records : List Entry) (super : Super) (queued : List Entry) (store : D) (device : L) (kept : View C) (log : SideView L) (found : List Entry) (read : Super)
-    → kept ≡ tablet → log ≡ record { home = Some journal; known = journal; holder = None; out = []; queued = queued; room = 0; whole = true } → found ≡ records → read ≡ super
-    → IsEngine tells seen now leaves faults (opened_view tablet journal records super queued store device)
-    → IsEngine tells seen now leaves faults (record { tablet = kept; log = log; records = found; super = read; device = device; store = store; running = [] })
-as_opened {L} {D} {C} tells seen now leaves faults tablet journal records super queued store device kept log found read is_tablet is_log is_found is_read e =
-    subst (λ (t : View C). IsEngine tells seen now leaves faults (record { tablet = t; log = log; records = found; super = read; device = device; store = store; running = [] })) (sym is_tablet)
-    (subst (λ (l : SideView L). IsEngine tells seen now leaves faults (record { tablet = tablet; log = l; records = found; super = read; device = device; store = store; running = [] })) (sym is_log)
-    (subst (λ (s : Super). IsEngine tells seen now leaves faults (record (opened_view tablet journal records super queued store device) { records = found; super = s })) (sym is_read)
-    (subst (λ (es : List Entry). IsEngine tells seen now leaves faults (record (opened_view tablet journal records super queued store device) { records = es })) (sym is_found) e)))

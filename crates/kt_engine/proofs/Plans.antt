@@ -12,11 +12,11 @@ use Rattle.kt_engine.specs.Logged.{PlanPasses}
 use Rattle.kt_engine.specs.Engines.{EngineView, IsEngine}
 
 -- before the first line the past is the opened one
-past_at_first : (work : Workload) (first : Past) (opened : ℕ) (trail : List Event) → trail ≡ [] → (state_after work (start work first opened) trail).past ≡ first
+pub past_at_first : (work : Workload) (first : Past) (opened : ℕ) (trail : List Event) → trail ≡ [] → (state_after work (start work first opened) trail).past ≡ first
 past_at_first work first opened trail none = ap (λ (es : List Event). (state_after work (start work first opened) es).past) none
 
 -- any rules take what no plan has
-no_plan : (rules : Rules) (work : Workload) → work.plan ≡ [] → PlanPasses rules work
+pub no_plan : (rules : Rules) (work : Workload) → work.plan ≡ [] → PlanPasses rules work
 no_plan rules work none s i = subst (λ (plan : List (List Command)). OpsPass rules work.fill (machine.ops_of (command_of (nth plan s) i))) (sym none) (nothing s)
   where
     nothing : (s : ℕ) → OpsPass rules work.fill (machine.ops_of (command_of (nth [] s) i))

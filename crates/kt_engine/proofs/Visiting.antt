@@ -18,6 +18,7 @@ use Rattle.kt_tablet.specs.Views.{View, place_at}
 use Rattle.kt_tablet.specs.Visits.{HasBegun, HasApplied, HasEnded}
 use Rattle.kt_tablet.specs.declared.tablet.Stopped.{Stopped}
 use Rattle.kt_journal.specs.Open.{JournalView}
+use Rattle.kt_storeside.specs.Sides.{StoreView}
 use Rattle.kt_engine.specs.Engines.{EngineView}
 use Rattle.kt_engine.specs.Sessions.{runs}
 use Rattle.kt_engine.proofs.Sessions.{runs_fewer}
@@ -156,4 +157,17 @@ out_visit n v log home lent = record {
       let out = ap (λ h. out_of h log.out k) lent ∙ none_out n k log.out ne ∙ sym (ap (λ h. out_of h v.log.out k) home) in
       let known = ap (λ h. lent_of h log.known k) lent ∙ none_lent n k log.known ne ∙ sym (ap (λ h. lent_of h v.log.known k) home) in
       λ i. record { pass = record { session = part v.tablet.core k; place = place_at k v.tablet.places; out = out i; runs = runs k v.running }; lent = known i; root = root_of v };
+}
+
+-- ---- a turn of the store
+
+-- it went out and is home again, or another superblock of the same columns is published
+pub turn_visit : {L D C : Type 0} (n : ℕ) (v : EngineView L D C) (store : StoreView D) → store.holder ≡ v.store.holder → store.meta.schema ≡ v.store.meta.schema → IsVisit n v (record v { store = store })
+turn_visit n v store home columns = record {
+  line = inl refl;
+  parts = λ k ne i. record {
+    pass = record { session = part v.tablet.core k; place = place_at k v.tablet.places; out = out_of v.log.holder v.log.out k; runs = runs k v.running };
+    lent = lent_of v.log.holder v.log.known k;
+    root = record (root_of v) { columns = columns i; turn = home i };
+  };
 }

@@ -1,5 +1,5 @@
 -- What a clause sees of an engine, and what it keeps.
-use Rattle.std.specs.Prelude.{◌≡◌, ◌≢◌, ◌≤◌, ◌+◌, ℕ, length, Bool, IsTrue, false, true, List, [], ◌∷◌, ◌++◌, map, take, Some, Ok}
+use Rattle.std.specs.Prelude.{◌≡◌, ◌≢◌, ◌≤◌, ◌+◌, ◌&&◌, not, ℕ, length, Bool, IsTrue, false, true, List, [], ◌∷◌, ◌++◌, map, take, Some, Ok}
 use Rattle.std.specs.List.{All}
 use Rattle.kt_base.specs.Causes.{Rose}
 use Rattle.kt_disk.specs.Disk.{Files, ButFiles}
@@ -18,20 +18,22 @@ use Rattle.kt_content.specs.Content.{IsContent as HoldsPast}
 use Rattle.kt_tablet.specs.Views.{View, Opens}
 use Rattle.kt_loglaws.specs.declared.side.LogNo.{LogNo as SideNo}
 use Rattle.kt_loglaws.specs.declared.side.LogNo.TheVariants as side
+use Rattle.kt_storeside.specs.Sides.{StoreView}
 use Rattle.kt_engine.specs.declared.log.LogNo.{LogNo}
 use Rattle.kt_engine.specs.declared.log.LogNo.TheVariants as no
 use Rattle.kt_engine.specs.Memory.{AreNamed}
 use Rattle.kt_engine.specs.Logged.{PlanPasses, LogStands, KeepsRun, AreApart, IsDurable, AcknowledgedIn, NamesOnly, HoldsRecords, HoldsFront, HoldsRun}
 
--- the tablet, its log, the records and the superblock that opening found, and the log's device as it was handed in; the store device; and the
--- numbers of the sessions that run
+-- the tablet, its log and its store, the records and the superblock that opening found, both devices as they were handed in, and the numbers of the sessions
+-- that run
 pub record EngineView (L D C : Type 0) : Type 0 where
   pub tablet : View C
   pub log : SideView L
   pub records : List Entry
   pub super : Super
   pub device : L
-  pub store : D
+  pub store : StoreView D
+  pub store_device : D
   pub running : List ℕ
 
 -- opening found this past: its store shows it
@@ -66,14 +68,14 @@ abbrev pub KeepsOthers : {L : Type 0} → (L → ℕ) → (L → ℕ → Files �
 KeepsOthers now leaves old new = (image : Files) → leaves new (now new) image → ButFiles now leaves old (1 ∷ []) image
 
 -- the device at home: it can be opened, all files but the log's are as they were handed in, its count of faults has not fallen, and it
--- is the known log, nothing out, unless the tablet is stopped. Then that count has risen, and each image of it has what was durable, or that and the batch
+-- is the known log, nothing out, unless it has failed. Then that count has risen, and each image of it has what was durable, or that and the batch
 pub record IsHome {L D C : Type 0} (tells : Bool) (seen : L → Files) (now : L → ℕ) (leaves : L → ℕ → Files → Type 0) (faults : L → ℕ) (view : EngineView L D C) (journal : JournalView L) : Type 0 where
   pub opens : IsTrue tells → CanOpen now leaves journal.disk
   pub others : IsTrue tells → KeepsOthers now leaves view.device journal.disk
   pub later : faults view.device ≤ faults journal.disk
-  pub known : view.tablet.core.stopped ≡ false → (journal ≡ view.log.known) × (view.log.out ≡ [])
-  pub rose : view.tablet.core.stopped ≡ true → Rose (faults view.device) (faults journal.disk)
-  pub images : view.tablet.core.stopped ≡ true → IsTrue tells → (image : Files) → leaves journal.disk (now journal.disk) image → IsOldOrBoth (records_of (seen view.log.known.disk)) view.log.out (image 1)
+  pub known : IsTrue view.log.whole → (journal ≡ view.log.known) × (view.log.out ≡ [])
+  pub rose : view.log.whole ≡ false → Rose (faults view.device) (faults journal.disk)
+  pub images : view.log.whole ≡ false → IsTrue tells → (image : Files) → leaves journal.disk (now journal.disk) image → IsOldOrBoth (records_of (seen view.log.known.disk)) view.log.out (image 1)
 
 -- the lines tell whether the tablet has stopped: one that goes on has no `stop` line, and one that has stopped has it last
 pub record TellsStop (core : Core) : Type 0 where
@@ -86,13 +88,17 @@ pub record IsReady {L D C : Type 0} (view : EngineView L D C) : Type 0 where
   pub apart : AreApart view.tablet.core.aloft
   pub named : AreNamed view.super view.tablet.names
 
--- The engine stands. While a pass has the log out the tablet goes on, and the log went out with no fewer faults than were handed in.
+-- whether neither device has failed
+abbrev pub are_whole : {L D C : Type 0} → EngineView L D C → Bool
+are_whole view = view.log.whole && view.store.whole
+
+-- The engine stands. A log that a pass has out is whole, and went out with no fewer faults than were handed in. The tablet goes on while both devices are whole.
 pub record IsEngine {L D C : Type 0} (tells : Bool) (seen : L → Files) (now : L → ℕ) (leaves : L → ℕ → Files → Type 0) (faults : L → ℕ) (view : EngineView L D C) : Type 0 where
   pub logged : IsLogged tells seen view
   pub home : (journal : JournalView L) → view.log.home ≡ Some journal → IsHome tells seen now leaves faults view journal
   pub others : IsTrue tells → KeepsOthers now leaves view.device view.log.known.disk
-  pub lent : (by : ℕ) → view.log.holder ≡ Some by → (faults view.device ≤ faults view.log.known.disk) × (view.tablet.core.stopped ≡ false)
-  pub whole : (view.tablet.core.stopped ≡ false → IsTrue view.log.whole) × (IsTrue view.log.whole → view.tablet.core.stopped ≡ false)
+  pub lent : (by : ℕ) → view.log.holder ≡ Some by → (faults view.device ≤ faults view.log.known.disk) × IsTrue view.log.whole
+  pub whole : view.tablet.core.stopped ≡ not (are_whole view)
   pub stops : TellsStop view.tablet.core
   pub ready : IsReady view
   pub placed : map (λ p. p.0) view.tablet.places ≡ map (λ w. w.s) view.tablet.core.aloft

@@ -8,7 +8,7 @@ use Rattle.kt_history.specs.declared.operation.RowOp.{RowOp}
 use Rattle.kt_history.specs.declared.target.Target.{Target}
 use Rattle.kt_history.specs.declared.target.Target.TheVariants.{Mem, Delta}
 use Rattle.kt_history.specs.Rows.{Row, Rows}
-use Rattle.kt_history.specs.History.{Past, rows_at}
+use Rattle.kt_history.specs.History.{Past, rows_at, raise}
 use Rattle.kt_history.specs.Operations.{outcomes_on}
 use Rattle.kt_history.specs.Machine.{Workload, command_at}
 use Rattle.kt_history.specs.Machine as machine
@@ -33,7 +33,7 @@ use Rattle.kt_histlaws.specs.Core.{Core, run_past}
 use Rattle.kt_histlaws.specs.Histories.{hists, past_hist}
 use Rattle.kt_tablet.specs.Rows.{AreRecorded}
 use Rattle.kt_tablet.specs.Views.{place_at}
-use Rattle.kt_engine.specs.Memory.{by_name, resident}
+use Rattle.kt_engine.specs.Memory.{by_name, resident, AreNamed}
 
 -- the rules of the table take each write of the plan
 abbrev pub PlanPasses : Rules → Workload → Type 0
@@ -128,14 +128,33 @@ pub record LogStands (core : Core) (records : List Entry) (places : List (ℕ ×
   pub flying : All (Waits (records ++ run) places) core.aloft
   pub untold : UntoldFly (records ++ run) core.aloft
 
--- And for a past that it found under this superblock: each front of the records from those on holds it with the writes of the front, and all of
+-- And for a past that these records hold under a superblock, up to low: each front of the records from those on holds it with the writes of the front, and all of
 -- them are those of the run. The stores in memory mirror of each key what all records hold, without what is still to be applied, and what is noted of the
 -- rows that are applied is true; so a COMMIT that says it changes nothing of what the records hold.
-pub record KeepsRun (rules : Rules) (core : Core) (super : Super) (names : List Target) (notes : List (List CommitRow)) (records : List Entry) (run : List Entry) : Type 0 where
-  pub recovered : IsRecovered rules core.work.fill super records run core.opened core.first
-  pub writes : with_records core.work.fill core.first run ≡ run_past core
+pub record KeepsFrom (rules : Rules) (core : Core) (super : Super) (names : List Target) (notes : List (List CommitRow)) (records run : List Entry) (low : ℕ) (past : Past) : Type 0 where
+  pub recovered : IsRecovered rules core.work.fill super records run low past
+  pub writes : with_records core.work.fill past run ≡ run_past core
   pub numbers : Numbers
-  pub stands : SuperStands rules core.work.fill super records run core.first (resident core names notes numbers)
+  pub stands : SuperStands rules core.work.fill super records run past (resident core names notes numbers)
+
+-- so it is of the past that opening found, under the superblock that it found
+abbrev pub KeepsRun : Rules → Core → Super → List Target → List (List CommitRow) → List Entry → List Entry → Type 0
+KeepsRun rules core super names notes records run = KeepsFrom rules core super names notes records run core.opened core.first
+
+-- And of a superblock that was made when since were durable of the run: what it holds with them is the opened past with their writes, up to low.
+pub record KeepsSince (rules : Rules) (core : Core) (super : Super) (names : List Target) (notes : List (List CommitRow)) (records run : List Entry) (durable : ℕ) : Type 0 where
+  pub since : List Entry
+  pub rest : List Entry
+  pub parts : run ≡ since ++ rest
+  pub made : length (records ++ since) ≤ durable
+  pub low : ℕ
+  pub from : core.opened ≤ low
+  pub up : low ≤ core.c
+  pub last : last_of (records ++ since) ≤ low
+  pub mark : super.a ≤ core.a
+  pub clock : super.c ≤ core.c
+  pub named : AreNamed super names
+  pub keeps : KeepsFrom rules core super names notes (records ++ since) rest low (with_records core.work.fill core.first since)
 
 -- A crash left this image: the records that opening found and some of the run, whose COMMITs name the engine's stores alone.
 pub record HoldsRecords (found : List Entry) (stores : List Target) (image : Files) : Type 0 where
@@ -169,3 +188,19 @@ pub record HoldsRun (rules : Rules) (core : Core) (super : Super) (found : List 
   pub names : All (NamesOnly stores) run
   pub holds : HoldsPast rules core.work.fill super records (max super.c (last_of records)) (run_past core)
   pub last : last_of records ≤ core.c
+
+-- It holds, from the superblock's mark on, the opened past with the run's writes up to some time, each acknowledged one among them, and nothing later than
+-- the run's last timestamp.
+pub record HoldsUpTo (rules : Rules) (core : Core) (super : Super) (found : List Entry) (stores : List Target) (image : Files) : Type 0 where
+  pub records : List Entry
+  pub reads : log_of image ≡ Ok records
+  pub log : IsLog records
+  pub run : List Entry
+  pub front : records ≡ found ++ run
+  pub names : All (NamesOnly stores) run
+  pub t : ℕ
+  pub after_opening : core.opened ≤ t
+  pub acknowledged : AcknowledgedBy t core.trail
+  pub holds : HoldsPast rules core.work.fill super records (max super.c (last_of records)) (raise (upto t (run_past core)) super.a)
+  pub last : last_of records ≤ t
+  pub within : last_of records ≤ core.c

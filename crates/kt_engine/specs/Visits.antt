@@ -11,6 +11,7 @@ use Rattle.kt_history.specs.Stores.{Store}
 use Rattle.kt_histlaws.specs.Parts.{SessionPart, part}
 use Rattle.kt_content.specs.Places.{Super}
 use Rattle.kt_tablet.specs.Views.{place_at}
+use Rattle.kt_schema.specs.declared.column.Column.{Column}
 use Rattle.kt_engine.specs.Engines.{EngineView}
 use Rattle.kt_engine.specs.Sessions.{runs}
 
@@ -43,7 +44,8 @@ pub record PassPart : Type 0 where
 abbrev pub part_of : {L D C : Type 0} → EngineView L D C → ℕ → PassPart
 part_of view n = record { session = part view.tablet.core n; place = place_at n view.tablet.places; out = out_of view.log.holder view.log.out n; runs = runs n view.running }
 
--- What is alike in every part and never changes while passes visit: what is to be run, and what opening found.
+-- What is alike in every part and never changes while passes visit: what is to be run, what opening found, the columns of each superblock,
+-- and which pass has the store out: none between two visits, since one visit makes a whole turn.
 pub record Root (L D C : Type 0) : Type 0 where
   pub work : Workload
   pub opened : ℕ
@@ -55,6 +57,8 @@ pub record Root (L D C : Type 0) : Type 0 where
   pub began : C
   pub device : L
   pub store : D
+  pub columns : List Column
+  pub turn : Option ℕ
 
 abbrev pub root_of : {L D C : Type 0} → EngineView L D C → Root L D C
 root_of view = record {
@@ -67,7 +71,9 @@ root_of view = record {
   names = view.tablet.names;
   began = view.tablet.opened;
   device = view.device;
-  store = view.store;
+  store = view.store_device;
+  columns = view.store.meta.schema;
+  turn = view.store.holder;
 }
 
 -- the log as it went out, if this pass has it

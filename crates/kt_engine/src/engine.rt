@@ -1,5 +1,5 @@
 //! The engine, as it is opened and taken apart.
-ghost use Rattle.std.specs.Prelude.{map, ◌≡◌, ◌<◌, ◌≤◌, ◌^◌, ℕ, IsTrue, IfOk, IfErr, Some, None, false, true, [], ◌++◌, ◌+◌, length};
+ghost use Rattle.std.specs.Prelude.{map, not, List, ◌≡◌, ◌<◌, ◌≤◌, ◌^◌, ℕ, IsTrue, IfOk, IfErr, Some, None, false, true, [], ◌++◌, ◌+◌, length};
 ghost use Rattle.kt_history.specs.History.{Past};
 ghost use Rattle.kt_history.specs.Machine.{first_turns};
 ghost use Rattle.kt_journal.specs.Open.{JournalView};
@@ -15,10 +15,15 @@ ghost use Rattle.kt_content.specs.RunEvents.{Numbers, NumbersAreFresh};
 ghost use Rattle.kt_engine.specs.Sessions.{numbers_of};
 ghost use Rattle.kt_engine.specs.Memory.{name_of, AreNamed};
 ghost use Rattle.kt_engine.specs.Logged.{AreCommits, TakesUp, UntoldFly, IsPlaced, IsThere, NamesOnly};
-ghost use Rattle.kt_engine.specs.Engines.{EngineView, IsEngine, IsLogged, IsHome, KeepsOthers, TellsStop, LeavesRecords, Recovers, RecoversEach, RecoversAll};
+ghost use Rattle.kt_diskrowset.specs.Rowset.{HeldFiles};
+ghost use Rattle.kt_files.specs.Reading.{HoldAll};
+ghost use Rattle.kt_reopen.specs.Both.{super_in};
+ghost use Rattle.kt_storeside.specs.Sides.{IsSide};
+ghost use Rattle.kt_engine.specs.Engines.{EngineView, IsEngine, IsLogged, IsHome, KeepsOthers, TellsStop, LeavesRecords, Recovers, RecoversEach, RecoversAll, are_whole};
+ghost use Rattle.kt_engine.specs.Stored.{AreMarked, IsStored, RecoversPair, RecoversBoth, HasFailed};
+ghost use Rattle.kt_engine.specs.Pairs.{RecoversAllOfBoth, LeavesPublished};
 
 use crate::running::Running;
-use crate::superblock::Superblock;
 use kt_base::Clock;
 use kt_disk::Disk;
 use kt_diskrowset::DiskRowSet;
@@ -26,40 +31,46 @@ use kt_history::{EventList, Plan};
 use kt_journal::Journal;
 use kt_loglaws::LogSide;
 use kt_records::{LogRecords, RecordList};
+use kt_reopen::Superblock;
+use kt_storeside::StoreSide;
+use kt_super::Meta;
 use kt_tablet::Tablet;
 use std::alloc::Global;
 use std::marker::Model;
 use std::snapshot::Snapshot;
 
-/// What opening found of a tablet: the records of its log, its superblock, and the log's device as it was handed in.
+/// What opening found of a tablet: the records of its log, its superblock, and both devices as they were handed in.
 #[derive(Drop)]
-pub struct Found<'a, L> {
+pub struct Found<'a, L, D> {
     pub records: &'a LogRecords,
     pub superblock: &'a Superblock,
     pub device: Snapshot<L>,
+    pub store: Snapshot<D>,
 }
 
-/// A tablet with its log. The store device is kept and not used yet. What is large is boxed, since a lock moves the engine
-/// at each visit.
+/// A tablet with its log and its store. What is large is boxed, since a lock moves the engine at each visit.
 #[derive(Drop)]
-pub struct Engine<L: Disk, D, C: Clock> {
+pub struct Engine<L: Disk, D: Disk, C: Clock> {
     pub(crate) tablet: Box<Tablet<DiskRowSet, C>>,
     pub(crate) log: Box<LogSide<L>>,
-    pub(crate) store: D,
+    pub(crate) store: Box<StoreSide<D>>,
     pub(crate) running: Running,
     pub(crate) records: Snapshot<LogRecords>,
     pub(crate) superblock: Snapshot<Superblock>,
     pub(crate) device: Snapshot<L>,
+    pub(crate) store_device: Snapshot<D>,
 }
 
-impl<L: Disk, D, C: Clock> Model for Engine<L, D, C> {
+impl<L: Disk, D: Disk, C: Clock> Model for Engine<L, D, C> {
     ghost use Rattle.kt_engine.specs.Engines.{EngineView, IsEngine};
+    ghost use Rattle.kt_engine.specs.Stored.{IsStored};
 
     ghost Value = { EngineView L D C };
 
-    ghost view = { λ e. record { tablet = e.tablet.value; log = e.log.value; records = e.records.value; super = e.superblock.value; device = e.device.value; store = e.store; running = e.running } };
+    ghost view = { λ e. record { tablet = e.tablet.value; log = e.log.value; records = e.records.value; super = e.superblock.value; device = e.device.value; store = e.store.value; store_device = e.store_device.value; running = e.running } };
 
-    ghost invariant = { λ e. IsEngine L.tells L.seen L.now L.leaves L.faults (record { tablet = e.tablet.value; log = e.log.value; records = e.records.value; super = e.superblock.value; device = e.device.value; store = e.store; running = e.running }) };
+    ghost invariant = { λ e. IsEngine L.tells L.seen L.now L.leaves L.faults (record { tablet = e.tablet.value; log = e.log.value; records = e.records.value; super = e.superblock.value; device = e.device.value; store = e.store.value; store_device = e.store_device.value; running = e.running })
+        × IsStored L.tells L.seen D.tells D.seen D.faults (record { tablet = e.tablet.value; log = e.log.value; records = e.records.value; super = e.superblock.value; device = e.device.value; store = e.store.value; store_device = e.store_device.value; running = e.running }) };
 }
 
 /// What an engine is taken apart into.
@@ -69,6 +80,8 @@ pub struct Parts<L, D, C> {
     pub store: D,
     pub clock: C,
     pub trail: EventList,
+    /// The superblock that is published.
+    pub meta: Meta,
 }
 
 // The log at home and what is queued for it, in a box of its own. For want of memory the log comes back.
@@ -95,17 +108,17 @@ fn boxed_log<L: Disk>(
     }
 }
 
-impl<L: Disk, D, C: Clock> Engine<L, D, C> {
+impl<L: Disk, D: Disk + Drop, C: Clock> Engine<L, D, C> {
     /// A tablet in which nothing has happened yet, with the log that holds what opening found and with what is queued for it: the COMMIT of each
-    /// write that had none. Its stores mirror what the superblock holds with all records.
+    /// write that had none. Its stores mirror what the superblock holds with all records, and its store publishes that.
     pub fn of(
         alloc: Global,
         tablet: Tablet<DiskRowSet, C>,
         journal: Journal<L>,
         queued: RecordList,
-        store: D,
-        found: Found<'_, L>,
-    ) -> Result<Engine<L, D, C>, (Tablet<DiskRowSet, C>, Journal<L>, D)>
+        store: StoreSide<D>,
+        found: Found<'_, L, D>,
+    ) -> Result<Engine<L, D, C>, (Tablet<DiskRowSet, C>, Journal<L>, StoreSide<D>)>
         requires fresh { (tablet.core.trail ≡ []) × (tablet.core.aloft ≡ []) × (tablet.core.stopped ≡ false) }
         requires named { AreNamed found.superblock.now tablet.names }
         requires log { IsLog (found.records.now ++ queued) }
@@ -124,6 +137,11 @@ impl<L: Disk, D, C: Clock> Engine<L, D, C> {
         requires openable { IsTrue L.tells → CanOpen L.now L.leaves journal.disk }
         requires others { IsTrue L.tells → KeepsOthers L.now L.leaves found.device.value journal.disk }
         requires faults { L.faults found.device.value ≤ L.faults journal.disk }
+        requires store_home { (store.holder ≡ None) × (store.lent ≡ None) × IsTrue store.whole }
+        requires superblock { IsTrue D.tells → (held : List HeldFiles) × HoldAll (D.seen store.known) store.meta.rowsets held × (found.superblock.now ≡ super_in store.meta held) }
+        requires mark { (store.meta.a ≡ tablet.mark) × (tablet.core.a ≡ tablet.mark) }
+        requires clock { store.meta.c ≤ tablet.core.c }
+        requires store_faults { D.faults found.store.value ≤ D.faults store.known }
         ensures view { IfOk result (λ engine. engine ≡ record {
           tablet = tablet;
           log = record { home = Some journal; known = journal; holder = None; out = []; queued = queued; room = 0; whole = true };
@@ -131,17 +149,23 @@ impl<L: Disk, D, C: Clock> Engine<L, D, C> {
           super = found.entry.superblock.now;
           device = found.entry.device.value;
           store = store;
+          store_device = found.entry.store.value;
           running = [];
         }) }
         ensures back { IfErr result (λ e. (e.0 ≡ tablet) × (e.1 ≡ journal) × (e.2 ≡ store)) }
     {
         tablet.standing();
+        store.standing();
         let Ok(running) = Running::new(alloc) else {
             return Err((tablet, journal, store));
         };
+        let store = match Box::new(alloc, store) {
+            Ok(store) => store,
+            Err(no) => return Err((tablet, journal, no.value)),
+        };
         let log = match boxed_log(alloc, journal, queued) {
             Ok(log) => log,
-            Err(journal) => return Err((tablet, journal, store)),
+            Err(journal) => return Err((tablet, journal, Box::into_inner(store))),
         };
         match Box::new(alloc, tablet) {
             Ok(tablet) => Ok(Engine {
@@ -152,10 +176,11 @@ impl<L: Disk, D, C: Clock> Engine<L, D, C> {
                 records: Snapshot::of(found.records),
                 superblock: Snapshot::of(found.superblock),
                 device: found.device,
+                store_device: found.store,
             }),
             Err(no) => {
                 let (journal, _) = Box::into_inner(log).take_apart();
-                Err((no.value, journal, store))
+                Err((no.value, journal, Box::into_inner(store)))
             }
         }
     }
@@ -191,7 +216,9 @@ impl<L: Disk, D, C: Clock> Engine<L, D, C> {
     /// held that past, by rules of the table that take each write of the plan, the log keeps the run, the stores mirror what it holds, and a crash now leaves its writes
     /// up to a time, each acknowledged one among them, also while a pass has the log out. Whatever opening found, its lines tell whether it has stopped, and a crash now leaves the records that
     /// opening found and some of the run. What the pool has promised is what flying writes still need, and the REPLICATE of
-    /// each is at its place among the records that are durable, out or queued. The log is at home where no pass has it out.
+    /// each is at its place among the records that are durable, out or queued. Each device is at home where no pass has it out. Under the superblock that is
+    /// published, and under one that is lent, a crash leaves of both devices the opened past from its mark on, with the writes up to a time; and with all of
+    /// them, seen from the run's mark, where nothing waits and the superblock that is published has that mark and the last timestamp.
     pub fn standing(&self)
         ensures sound { IsSound C.readings self.now.tablet }
         ensures exact { IsExact self.now.tablet.core.aloft self.now.tablet.core.stores self.now.tablet.pool }
@@ -203,7 +230,17 @@ impl<L: Disk, D, C: Clock> Engine<L, D, C> {
         ensures recovers_all { RecoversAll L.tells L.now L.leaves self.now }
         ensures at_home { self.now.log.holder ≡ None → (journal : JournalView L) × (self.now.log.home ≡ Some journal) }
         ensures home { (journal : _) → self.now.log.home ≡ Some journal → IsHome L.tells L.seen L.now L.leaves L.faults self.now journal }
-        ensures lent { (by : ℕ) → self.now.log.holder ≡ Some by → (L.faults self.now.device ≤ L.faults self.now.log.known.disk) × (self.now.tablet.core.stopped ≡ false) }
+        ensures lent { (by : ℕ) → self.now.log.holder ≡ Some by → (L.faults self.now.device ≤ L.faults self.now.log.known.disk) × IsTrue self.now.log.whole }
+        ensures whole { self.now.tablet.core.stopped ≡ not (are_whole self.now) }
+        ensures stored { IsStored L.tells L.seen D.tells D.seen D.faults self.now }
+        ensures side { IsSide D.tells D.seen D.now D.leaves D.faults self.now.store }
+        ensures store_at_home { self.now.store.holder ≡ None → (disk : D) × (self.now.store.home ≡ Some disk) }
+        ensures recovers_pair { RecoversPair L.tells L.seen D.tells D.seen self.now }
+        ensures recovers_both { RecoversBoth L.tells L.now L.leaves D.tells D.now D.leaves self.now }
+        ensures recovers_all_of_both { IsTrue L.tells → IsTrue D.tells → RecoversAllOfBoth L.now L.leaves D.now D.leaves self.now }
+        ensures published { IsTrue D.tells → LeavesPublished D.seen D.now D.leaves self.now }
+        ensures marked { AreMarked self.now }
+        ensures failed { HasFailed L.faults D.faults self.now }
         ensures placed { map (λ p. p.0) self.now.tablet.places ≡ map (λ w. w.s) self.now.tablet.core.aloft }
         ensures at_rest { self.now.tablet.core.aloft ≡ [] → self.now.tablet.places ≡ [] }
         ensures among { All (IsPlaced (self.now.log.known.count + length (self.now.log.out ++ self.now.log.queued)) self.now.tablet.places) self.now.tablet.core.aloft }
@@ -213,13 +250,17 @@ impl<L: Disk, D, C: Clock> Engine<L, D, C> {
         // What is durable is what a crash leaves, and the log is at home where no pass has it.
         let _ = self.log.durable();
         let _ = self.log.by();
+        self.store.standing();
+        let _ = self.store.by();
     }
 
-    /// The devices, the clock and the history, where no pass has the log out.
+    /// The devices, the clock, the history, and the superblock that is published, where no pass has a device out.
     pub fn take_apart(self) -> Parts<L, D, C>
         requires home { self.log.holder ≡ None }
+        requires store_home { self.store.holder ≡ None }
         ensures log { (journal : JournalView L) × (self.log.home ≡ Some journal) × (result.log ≡ journal.disk) }
-        ensures store { result.store ≡ self.store }
+        ensures store { self.store.home ≡ Some result.store }
+        ensures meta { result.meta ≡ self.store.meta }
         ensures clock { result.clock ≡ self.tablet.clock }
         ensures trail { result.trail ≡ self.tablet.core.trail }
     {
@@ -231,14 +272,17 @@ impl<L: Disk, D, C: Clock> Engine<L, D, C> {
             records: _,
             superblock: _,
             device: _,
+            store_device: _,
         } = self;
         let (clock, trail) = Box::into_inner(tablet).take_apart();
         let (journal, _) = Box::into_inner(log).take_apart();
+        let (store, meta) = Box::into_inner(store).take_apart();
         Parts {
             log: journal.into_disk(),
             store,
             clock,
             trail,
+            meta,
         }
     }
 }

@@ -10,12 +10,13 @@ mod running;
 pub mod scan;
 pub mod session;
 pub mod shared;
-pub mod superblock;
+pub mod store;
 pub mod write;
 
 pub use engine::{Engine, Found, Parts};
+pub use kt_reopen::Superblock;
 pub use kt_tablet::{BeginNo, Copied, LookNo, ReadView, Snap, SnapNo, Stopped};
 pub use log::{Broken, LogNo};
 pub use shared::Part;
-pub use superblock::Superblock;
+pub use store::{Purpose, StoreNo};
 pub use write::{Draft, WriteDone};

@@ -4,6 +4,8 @@ ghost use Rattle.kt_base.specs.Causes.{Rose};
 ghost use Rattle.kt_disk.specs.Disk.{Files};
 ghost use Rattle.kt_journal.specs.Log.{records_of, Holds, IsOldOrBoth, CanOpen};
 ghost use Rattle.kt_histlaws.specs.Events.{halted};
+ghost use Rattle.kt_storeside.specs.Turns.{IsTurn, HasOneOf};
+ghost use Rattle.kt_storeside.specs.Sides.{published_in};
 ghost use Rattle.kt_tablet.specs.Views.{place_at};
 ghost use Rattle.kt_engine.specs.Engines.{IsLent, KeepsOthers};
 ghost use Rattle.kt_engine.specs.Visits.{IsVisit};
@@ -12,6 +14,7 @@ use crate::engine::Engine;
 use kt_base::Clock;
 use kt_disk::Disk;
 use kt_loglaws::{Batch, LogNo as SideNo};
+use kt_storeside::Lent;
 use std::alloc::Global;
 use thiserror::Error;
 
@@ -49,21 +52,12 @@ impl From<SideNo> for LogNo {
 
 /// A device that failed, as it comes home.
 #[derive(Drop)]
-pub enum Broken<L: Disk> {
+pub enum Broken<L: Disk, D> {
     Log(Batch<L>),
+    Store(Lent<D>),
 }
 
-impl<L: Disk> Broken<L> {
-    fn into_batch(self) -> Batch<L>
-        ensures { self ≡ Broken.Log result }
-    {
-        match self {
-            Broken::Log(batch) => batch,
-        }
-    }
-}
-
-impl<L: Disk, D, C: Clock> Engine<L, D, C> {
+impl<L: Disk, D: Disk + Drop, C: Clock> Engine<L, D, C> {
     /// How many records are durable.
     pub fn durable(&self) -> u64
         ensures { result ≡ self.now.log.known.count }
@@ -127,21 +121,34 @@ impl<L: Disk, D, C: Clock> Engine<L, D, C> {
         self.log.log_back(number, batch);
     }
 
-    /// Takes the failed device home and stops the tablet. It takes no memory.
-    pub fn stop(&mut self, number: u32, device: Broken<L>)
-        requires out { self.old.log.holder ≡ Some number }
-        requires goes { self.old.tablet.core.stopped ≡ false }
+    /// Takes the failed device home, and stops the tablet unless the other device did. It takes no memory.
+    pub fn stop(&mut self, number: u32, device: Broken<L, D>)
+        requires out { (batch : _) → device ≡ Broken.Log batch → self.old.log.holder ≡ Some number }
         requires faults { (batch : _) → device ≡ Broken.Log batch → L.faults self.old.log.known.disk ≤ L.faults batch.journal.disk }
         requires rose { (batch : _) → device ≡ Broken.Log batch → Rose (L.faults self.old.log.known.disk) (L.faults batch.journal.disk) }
         requires images { (batch : _) → device ≡ Broken.Log batch → IsTrue L.tells → (image : Files) → L.leaves batch.journal.disk (L.now batch.journal.disk) image → IsOldOrBoth (records_of (L.seen self.old.log.known.disk)) self.old.log.out (image 1) }
         requires opens { (batch : _) → device ≡ Broken.Log batch → IsTrue L.tells → CanOpen L.now L.leaves batch.journal.disk }
         requires others { (batch : _) → device ≡ Broken.Log batch → IsTrue L.tells → KeepsOthers L.now L.leaves self.old.log.known.disk batch.journal.disk }
-        ensures visit { IsVisit number self.old self.new }
-        ensures core { self.new.tablet ≡ record self.old.tablet { core = halted self.old.tablet.core } }
+
+        // The store went out for a turn: it touched no file but the slots and those of new numbers, and each image has the superblock that is published or the one
+        // that went out to be.
+        requires store_out { (lent : _) → device ≡ Broken.Store lent → self.old.store.holder ≡ Some number }
+        requires store_faults { (lent : _) → device ≡ Broken.Store lent → D.faults self.old.store.known ≤ D.faults lent.device }
+        requires store_rose { (lent : _) → device ≡ Broken.Store lent → Rose (D.faults self.old.store.known) (D.faults lent.device) }
+        requires numbers { (lent : _) → device ≡ Broken.Store lent → self.old.store.next_file ≤ lent.next_file }
+        requires turn { (lent : _) → device ≡ Broken.Store lent → IsTrue D.tells → IsTurn D.seen D.now D.leaves self.old.store.next_file lent.next_file self.old.store.known lent.device }
+        requires one_of { (lent : _) → device ≡ Broken.Store lent → IsTrue D.tells → HasOneOf D.now D.leaves self.old.store.meta (published_in true self.old.store.lent self.old.store.meta) lent.device }
+
+        ensures visit { (batch : _) → device ≡ Broken.Log batch → IsVisit number self.old self.new }
+        ensures core { self.old.tablet.core.stopped ≡ false → self.new.tablet ≡ record self.old.tablet { core = halted self.old.tablet.core } }
+        ensures once { self.old.tablet.core.stopped ≡ true → self.new.tablet ≡ self.old.tablet }
         ensures home { (batch : _) → device ≡ Broken.Log batch → self.new ≡ record self.old { tablet = self.new.tablet; log = record self.old.log { home = Some batch.journal; holder = None; whole = false } } }
+        ensures store_home { (lent : _) → device ≡ Broken.Store lent → self.new ≡ record self.old { tablet = self.new.tablet; store = record self.old.store { home = Some lent.device; holder = None; whole = false } } }
     {
-        let batch = device.into_batch();
         self.tablet.stop();
-        self.log.broken(number, batch);
+        match device {
+            Broken::Log(batch) => self.log.broken(number, batch),
+            Broken::Store(lent) => self.store.come_broken(number, lent),
+        }
     }
 }

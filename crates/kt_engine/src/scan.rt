@@ -17,7 +17,7 @@ use kt_history::At;
 use kt_tablet::{LookNo, Snap, SnapNo};
 use std::alloc::Global;
 
-impl<L: Disk, D, C: Clock> Engine<L, D, C> {
+impl<L: Disk, D: Disk + Drop, C: Clock> Engine<L, D, C> {
     /// Draws the time of a scan of the present.
     pub fn look(&mut self, number: u32, index: u32) -> Result<u64, LookNo>
         requires { self.old.tablet.core.stopped ≡ false → MayLook self.old.tablet.core number index }

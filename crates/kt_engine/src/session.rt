@@ -7,7 +7,7 @@ use crate::engine::Engine;
 use kt_base::Clock;
 use kt_disk::Disk;
 
-impl<L: Disk, D, C: Clock> Engine<L, D, C> {
+impl<L: Disk, D: Disk + Drop, C: Clock> Engine<L, D, C> {
     /// A session is over: it does not run any more. Where it ran, one fewer runs.
     pub fn session_over(&mut self, number: u32)
         ensures visit { IsVisit number self.old self.new }

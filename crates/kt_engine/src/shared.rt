@@ -11,12 +11,12 @@ use std::snapshot::Snapshot;
 
 /// What an engine has of a pass. No value of it is made.
 #[derive(Drop)]
-pub struct Part<L: Disk, D, C: Clock> {
+pub struct Part<L: Disk, D: Disk, C: Clock> {
     engine: Snapshot<Engine<L, D, C>>,
     number: u32,
 }
 
-impl<L: Disk, D, C: Clock> Model for Part<L, D, C> {
+impl<L: Disk, D: Disk, C: Clock> Model for Part<L, D, C> {
     ghost use Rattle.kt_engine.specs.Visits.{PartView, part_in};
 
     ghost Value = { PartView L D C };
@@ -24,7 +24,7 @@ impl<L: Disk, D, C: Clock> Model for Part<L, D, C> {
     ghost view = { λ p. part_in p.engine.value p.number };
 }
 
-impl<L: Disk, D, C: Clock> Shared for Engine<L, D, C> {
+impl<L: Disk, D: Disk, C: Clock> Shared for Engine<L, D, C> {
     ghost use Rattle.kt_engine.specs.Visits.{session_of, part_in};
 
     type Entry = Event;

@@ -67,7 +67,7 @@ impl Draft {
     }
 }
 
-impl<L: Disk, D, C: Clock> Engine<L, D, C> {
+impl<L: Disk, D: Disk + Drop, C: Clock> Engine<L, D, C> {
     /// Begins a write that was made ready: it flies at the timestamp, and its REPLICATE is queued. It then holds its keys,
     /// its cells, and room for its end, so that it is not refused any more. Nothing is copied. What was made ready is
     /// taken where the write begins, and stays for another visit where it does not. Memory is wanting only once nothing

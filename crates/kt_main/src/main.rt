@@ -9,6 +9,7 @@
 
 ghost use Rattle.std.specs.Prelude.{IsTrue};
 ghost use Rattle.kt_journal.specs.Log.{CanOpen};
+ghost use Rattle.kt_storeside.specs.Supers.{NamedStand};
 
 use kt_app::tablet_main;
 use kt_base::Clock;
@@ -30,6 +31,7 @@ fn run<
     C: Clock + Send + Drop,
 >(rt: &HostRuntime, threads: &R, words: &[&str], log: L, store: D, clock: C) -> u8
     requires openable { IsTrue L.tells → CanOpen L.now L.leaves log }
+    requires stand { IsTrue D.tells → NamedStand D.seen D.now D.leaves store }
 {
     let mut source = Stdin::new(rt.reader());
     let mut sink = Stdout::new(io::writer(rt));
@@ -55,6 +57,7 @@ fn run_stored<
     C: Clock + Send + Drop,
 >(rt: &HostRuntime, threads: &R, words: &[&str], log: L, store: D, clock: C) -> u8
     requires openable { IsTrue L.tells → CanOpen L.now L.leaves log }
+    requires stand { IsTrue D.tells → NamedStand D.seen D.now D.leaves store }
 {
     let Ok(store) = BoxedDisk::of(rt.alloc(), store) else {
         return 7;
@@ -70,6 +73,7 @@ fn run_boxed<
     C: Clock + Send + Drop,
 >(rt: &HostRuntime, threads: &R, words: &[&str], log: L, store: D, clock: C) -> u8
     requires openable { IsTrue L.tells → CanOpen L.now L.leaves log }
+    requires stand { IsTrue D.tells → NamedStand D.seen D.now D.leaves store }
 {
     let Ok(log) = BoxedDisk::of(rt.alloc(), log) else {
         return 7;

@@ -1,6 +1,5 @@
 mod Standing
 mod Places
-mod Pools
 mod Spelled
 mod Rows
 mod Lines

@@ -217,10 +217,10 @@ replies_hold [] fits rows = tt
 replies_hold (rs ∷ xs) fits rows = (session_holds rs (recursion_from_All ReplyFits rs fits.0) rows.0, replies_hold xs fits.1 rows.1)
 
 -- what is printed of a run is the text of an output
-pub outputs_of : (work : Workload) (past : Past) (c : ℕ) (stopped : Bool) (text readings : List ℕ) (events : List Event) → WorkSpelled work → PastSpelled (key_kinds work) past → IsOutput work past c stopped text readings events → HasOutput text
-outputs_of work past c stopped text readings events spelled is run =
+pub outputs_of : (work : Workload) (past : Past) (c : ℕ) (stopped : Bool) (rowsets : ℕ) (text readings : List ℕ) (events : List Event) → WorkSpelled work → PastSpelled (key_kinds work) past → IsOutput work past c stopped rowsets text readings events → HasOutput text
+outputs_of work past c stopped rowsets text readings events spelled is run =
     let replies = replies_in work past c events in
-    let end = end_line (end_of work past c events) in
+    let end = end_line rowsets (end_of work past c events) in
     let whole = past_spelled work spelled (start work past c) events is in
     let rows = plan_lines work (past_after work past c events) events spelled whole 1 work.plan spelled.plan (λ k. let next : 1 + k ≡ suc k = omega arith in ap (nth work.plan) next) in (
       shown_output replies events end,

@@ -42,7 +42,6 @@ use Rattle.kt_script.proofs.ScanFit.{scan_fits}
 use Rattle.kt_script.proofs.Cuts.{some_piece}
 use Rattle.kt_script.proofs.Spelling.{FitsAbove, after_kept, no_fault, script_is, scripts_are_fit}
 use Rattle.kt_app.specs.Headline.{IsOutput}
-use Rattle.kt_app.specs.Crash.{pool_of, work_of}
 use Rattle.kt_printed.proofs.Spelled.{IsSpelled, RowSpelled, KeySpelled, PastSpelled, OpsSpelled, SelectsSome, CommandSpelled, WorkSpelled}
 use Rattle.kt_printed.proofs.Lines.{outputs_of}
 
@@ -236,7 +235,7 @@ work_spelled text s cells e =
     }
 
 -- so is what is printed of a run of a script
-pub script_outputs : (script : List ℕ) (says : Said) (past : Past) (c : ℕ) (stopped : Bool) (text readings : List ℕ) (events : List Event) → script_of script ≡ Some says → PastSpelled (key_kinds says.columns) past
-    → IsOutput (work_of says) past c stopped text readings events → HasOutput text
-script_outputs script says past c stopped text readings events e spelled run =
-    outputs_of (work_of says) past c stopped text readings events (work_spelled script says (pool_of says.plan) e) (subst (λ kinds. PastSpelled kinds past) (kinds_are (key_columns says.columns)) spelled) run
+pub script_outputs : (script : List ℕ) (says : Said) (cells : ℕ) (past : Past) (c : ℕ) (stopped : Bool) (rowsets : ℕ) (text readings : List ℕ) (events : List Event) → script_of script ≡ Some says → PastSpelled (key_kinds says.columns) past
+    → IsOutput (workload cells says) past c stopped rowsets text readings events → HasOutput text
+script_outputs script says cells past c stopped rowsets text readings events e spelled run =
+    outputs_of (workload cells says) past c stopped rowsets text readings events (work_spelled script says cells e) (subst (λ kinds. PastSpelled kinds past) (kinds_are (key_columns says.columns)) spelled) run

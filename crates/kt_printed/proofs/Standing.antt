@@ -66,21 +66,21 @@ sessions_same work f s [] k = refl
 sessions_same work f s (commands ∷ plan) zero = refl
 sessions_same work f s (commands ∷ plan) (suc k) = sessions_same work f (s + 1) plan k
 
-end_stands : (st : State) → EndStands st (end_line st)
-end_stands st = elim st.stopped as (λ b. st.stopped ≡ b → EndStands st (if b then last.Stopped else last.Numbers st.a st.c 0)) [
+end_stands : (rowsets : ℕ) (st : State) → EndStands st (end_line rowsets st)
+end_stands rowsets st = elim st.stopped as (λ b. st.stopped ≡ b → EndStands st (if b then last.Stopped else last.Numbers st.a st.c rowsets)) [
   | true ↦ λ e. tt
   | false ↦ λ e. (e, refl, refl)
 ] refl
 
 -- what is printed of a history
-abbrev shown : Workload → Past → ℕ → List Event → Output
-shown work past c events = shown_output (replies_in work past c events) events (end_line (end_of work past c events))
+abbrev shown : Workload → Past → ℕ → ℕ → List Event → Output
+shown work past c rowsets events = shown_output (replies_in work past c events) events (end_line rowsets (end_of work past c events))
 
-all_stand : (work : Workload) (past : Past) (c : ℕ) (events : List Event) → ((end_of work past c events).stopped ≡ false → AreAnswered (replies_in work past c events)) → (s i : ℕ) → Stands work past c (shown work past c events) s i
-all_stand work past c events all zero zero = refl
-all_stand work past c events all zero (suc i) = tt
-all_stand work past c events all (suc s) zero = sessions_same work (answer work (past_after work past c events) events) 1 work.plan s
-all_stand work past c events all (suc s) (suc i) =
+all_stand : (work : Workload) (past : Past) (c rowsets : ℕ) (events : List Event) → ((end_of work past c events).stopped ≡ false → AreAnswered (replies_in work past c events)) → (s i : ℕ) → Stands work past c (shown work past c rowsets events) s i
+all_stand work past c rowsets events all zero zero = refl
+all_stand work past c rowsets events all zero (suc i) = tt
+all_stand work past c rowsets events all (suc s) zero = sessions_same work (answer work (past_after work past c events) events) 1 work.plan s
+all_stand work past c rowsets events all (suc s) (suc i) =
     let replies = answer work (past_after work past c events) events in
     let at : 1 + s ≡ suc s = omega arith in
     let printed = map (map seen) (replies_in work past c events) in
@@ -88,6 +88,6 @@ all_stand work past c events all (suc s) (suc i) =
     (plan_stands work (end_of work past c events).stopped replies 1 work.plan all s i)
 
 pub judged : printed_are_judged
-judged work past c stopped text readings events output run is =
-    let same = given_again (replies_in work past c events) events (end_line (end_of work past c events)) output run.fits (subst (λ t. IsTextOf t output) run.printed is) in
-    subst (λ out. IsVerdict work past c out Yes) (sym same) (run.run, all_stand work past c events (λ e. run.answered (sym run.ended ∙ e)), end_stands (end_of work past c events))
+judged work past c stopped rowsets text readings events output run is =
+    let same = given_again (replies_in work past c events) events (end_line rowsets (end_of work past c events)) output run.fits (subst (λ t. IsTextOf t output) run.printed is) in
+    subst (λ out. IsVerdict work past c out Yes) (sym same) (run.run, all_stand work past c rowsets events (λ e. run.answered (sym run.ended ∙ e)), end_stands rowsets (end_of work past c events))

@@ -5,13 +5,11 @@
 //! and has no code.
 #![tactic(auto)]
 
-ghost use Rattle.kt_printed.specs.Printed.{printed_are_judged, scripts_are_judged, sources_are_answered};
+ghost use Rattle.kt_printed.specs.Printed.{printed_are_judged, sources_are_answered};
 
-/// The verdict on an output whose text a run prints is yes; for a run of a script, in each pool that has room for the
-/// script's writes. A source that has that text behind the script and the opening which the run began from is answered
-/// yes: the text is that of an output, and the verdict on it is that.
+/// The verdict on an output whose text a run prints is yes. A source that has that text behind the script and the opening which
+/// the run began from is answered yes: the text is that of an output, and the verdict on it is that.
 pub fn judged_law()
     ensures judged { printed_are_judged }
-    ensures scripts { scripts_are_judged }
     ensures sources { sources_are_answered }
 {}

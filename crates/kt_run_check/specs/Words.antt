@@ -1,20 +1,11 @@
 -- The words of the checker's command line.
-use Rattle.std.specs.Prelude.{ℕ, ◌+◌, ◌-◌, ◌*◌, ◌&&◌, List, [], ◌∷◌, length, take, drop, Option, Some, None, nat_le, nat_lt, if◌then◌else◌, codes}
-use Rattle.std.specs.Option.{option_and_then}
-use Rattle.kt_base.specs.Literals.{same, is_digit}
-
--- the number of some digits behind those of a number
-abbrev pub digits_from : ℕ → List ℕ → Option ℕ
-digits_from n [] = Some n
-digits_from n (d ∷ ds) = if is_digit d then digits_from (n * 10 + (d - 48)) ds else None
+use Rattle.std.specs.Prelude.{ℕ, List, [], ◌∷◌, take, drop, Option, Some, None, if◌then◌else◌, codes}
+use Rattle.kt_base.specs.Literals.{same}
+use Rattle.kt_words.specs.Numbers.{number_said}
 
 -- a pool has 1,024 to 4,194,304 cells
-abbrev pub pool_of : ℕ → Option ℕ
-pool_of n = if nat_le 1024 n && nat_le n 4194304 then Some n else None
-
--- the cells by one to ten digits, leading zeros among them
 abbrev pub cells_said : List ℕ → Option ℕ
-cells_said digits = if nat_lt 0 (length digits) && nat_le (length digits) 10 then option_and_then pool_of (digits_from 0 digits) else None
+cells_said digits = number_said 1024 4194304 digits
 
 -- `--pool CELLS` or `--pool=CELLS`, or nothing
 abbrev pub pool_said : List (List ℕ) → Option ℕ

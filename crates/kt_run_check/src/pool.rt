@@ -1,7 +1,9 @@
 //! The words of the checker's command line.
 ghost use Rattle.std.specs.Prelude.{◌≡◌, ◌∷◌, [], map, codes};
-ghost use Rattle.kt_base.specs.Literals.{same, is_digit};
+ghost use Rattle.kt_base.specs.Literals.{same};
 ghost use Rattle.kt_run_check.specs.Words.{cells_said, pool_said, pool_in};
+
+use kt_words::number_said;
 
 /// The fewest and the most cells of a pool, and how many it has where no word says it.
 const LEAST: u32 = 1024;
@@ -10,31 +12,11 @@ const MOST: u32 = 4_194_304;
 
 const CELLS: u32 = 262_144;
 
-fn is_digit(byte: u8) -> bool
-    ensures { result ≡ is_digit byte }
-{
-    b'0' <= byte && byte <= b'9'
-}
-
 // The cells that one to ten digits say.
 fn cells_said(digits: &[u8]) -> Option<u32>
     ensures { result ≡ cells_said digits.now }
 {
-    if digits.is_empty() || digits.len() > 10 {
-        return None;
-    }
-    let mut cells: u32 = 0;
-    for digit in digits {
-        if !is_digit(*digit) || cells > MOST {
-            return None;
-        }
-        cells = cells * 10 + u32::from(*digit - b'0');
-    }
-    if LEAST <= cells && cells <= MOST {
-        Some(cells)
-    } else {
-        None
-    }
+    number_said(digits, LEAST, MOST)
 }
 
 // The cells that one word says, its value behind `=`.

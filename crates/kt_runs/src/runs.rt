@@ -1,6 +1,8 @@
 //! Whole runs over the outside in memory.
 ghost use Rattle.std.specs.Prelude.{◌≡◌, [], IsTrue, IfOk};
+ghost use Rattle.kt_disk.specs.Memory.{mem_now, mem_seen, mem_leaves};
 ghost use Rattle.kt_journal.specs.Log.{CanOpen};
+ghost use Rattle.kt_storeside.specs.Supers.{NamedStand};
 
 use kt_app::tablet_main;
 use kt_base::{CallList, MemClock, MemSink, MemSource, NoMemory, Octets, ReadingList};
@@ -32,21 +34,22 @@ fn room(alloc: Global) -> Result<MemSink, NoMemory> {
     Ok(sink)
 }
 
-// The status, what was written, and the log, where a script of these lines is run at the readings 5 and 3 and comes to
+// The status, what was written, and both devices, where a script of these lines is run at the readings 5 and 3 and comes to
 // the points of this gate.
 fn run<R: Threads + Wait + Sync, L: Disk + Send + Drop, G: Gate + Sync>(
     rt: &R,
     alloc: Global,
     lines: &[u8],
     log: L,
+    store: MemDisk,
     gate: &G,
-) -> Result<(u8, MemSink, L), NoMemory>
-    requires { IsTrue L.tells → CanOpen L.now L.leaves log }
+) -> Result<(u8, MemSink, L, MemDisk), NoMemory>
+    requires openable { IsTrue L.tells → CanOpen L.now L.leaves log }
+    requires stand { NamedStand mem_seen mem_now mem_leaves store }
 {
     let clock = MemClock::of(ReadingList::of(vec![in alloc; 5, 3]?));
     let mut source = MemSource::of(script(alloc, lines)?, no_calls(alloc));
     let mut sink = room(alloc)?;
-    let store = MemDisk::new(alloc);
     let ended = tablet_main(
         rt,
         alloc,
@@ -58,7 +61,7 @@ fn run<R: Threads + Wait + Sync, L: Disk + Send + Drop, G: Gate + Sync>(
         clock,
         gate,
     );
-    Ok((ended.status, sink, ended.log))
+    Ok((ended.status, sink, ended.log, ended.store))
 }
 
 // An empty log of which a change fails.
@@ -76,7 +79,14 @@ fn failing(alloc: Global, change: u64) -> Result<FaultDisk<MemDisk>, Fail>
 fn a_device_that_fails_stops_the_run(rt: HostRuntime) -> Result<(), Fail> {
     let alloc = rt.alloc();
     let lines = b"session\ninsert 1 \"a\"\ninsert 2 \"b\"\nscan now\n";
-    let (status, sink, log) = run(&rt, alloc, lines, failing(alloc, 7)?, &PassGate)?;
+    let (status, sink, log, store) = run(
+        &rt,
+        alloc,
+        lines,
+        failing(alloc, 7)?,
+        MemDisk::new(alloc),
+        &PassGate,
+    )?;
     assert_eq!(rt; status, 4);
     // The clock goes back, and the timestamp goes on.
     let printed =
@@ -84,7 +94,9 @@ fn a_device_that_fails_stops_the_run(rt: HostRuntime) -> Result<(), Fail> {
     assert_eq!(rt; sink.bytes(), printed.as_slice());
     let log = log.into_inner();
     let left = log.crash(alloc, log.moment(), &[])?;
-    let (again, sink, _) = run(&rt, alloc, b"session\nscan at 20481\n", left, &PassGate)?;
+    let kept = store.crash(alloc, store.moment(), &[])?;
+    let lines = b"session\nscan at 20481\n";
+    let (again, sink, ..) = run(&rt, alloc, lines, left, kept, &PassGate)?;
     assert_eq!(rt; again, 0);
     let printed =
         b"session 1\nrows 20481 1\n1 \"a\"\nhistory\nrows 1 1 20481\ntablet ahm 0 last 20481 rowsets 0\n";

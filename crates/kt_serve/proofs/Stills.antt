@@ -33,6 +33,16 @@ out_is : (h : Option ℕ) (out records : List Entry) (n : ℕ) → out_of h out 
 out_is None out records n e = absurd (cc)
 out_is (Some by) out records n e = elim (by == n) as (λ b. cond b (Some out) None ≡ Some records → out ≡ records) [ true ↦ λ h. cc | false ↦ λ h. absurd (cc) ] e
 
+-- a tablet that went on is stopped, or one that was stopped is as it was
+abbrev pub Halts : {C : Type 0} → View C → View C → Type 0
+Halts old new = (new ≡ record old { core = halted old.core }) ⊎ ((has_stop old.core.trail ≡ true) × (new ≡ old))
+
+pub stopped_once : {L D C : Type 0} (x y : EngineView L D C) → TellsStop x.tablet.core → (x.tablet.core.stopped ≡ false → y.tablet ≡ record x.tablet { core = halted x.tablet.core }) → (x.tablet.core.stopped ≡ true → y.tablet ≡ x.tablet) → Halts x.tablet y.tablet
+stopped_once x y stops first once = elim x.tablet.core.stopped as (λ b. x.tablet.core.stopped ≡ b → Halts x.tablet y.tablet) [
+  | false ↦ λ goes. inl (first goes)
+  | true ↦ λ stopped. inr (stop_seen x stops stopped, once stopped)
+] refl
+
 module _ {L D C : Type 0} where
   -- a pass that has the log tells how it went out
   pub went_out : (told : Option (PartView L D C)) (x : EngineView L D C) (n : ℕ) (journal : JournalView L) (records : List Entry) → told ≡ Some (part_in x n) → HasLog told journal records → (x.log.known ≡ journal) × (x.log.out ≡ records)
@@ -64,9 +74,11 @@ module _ {L D C : Type 0} where
 
   -- it has stopped
   pub still_stopped : (told told' : Option (PartView L D C)) (seen seen' : List Event) (x y : EngineView L D C) (m n n' : ℕ) → told ≡ Some (part_in x n) → told' ≡ Some (part_in y n') → n' ≡ n → Follows session_of n seen x.tablet.core.trail → seen' ≡ y.tablet.core.trail
-      → IsVisit m x y → y.tablet ≡ record x.tablet { core = halted x.tablet.core } → IsStill n told told' seen seen'
-  still_stopped told told' seen seen' x y m n n' was is same follows sees keeps e =
+      → IsVisit m x y → Halts x.tablet y.tablet → IsStill n told told' seen seen'
+  still_stopped told told' seen seen' x y m n n' was is same follows sees keeps (inl e) =
       still_visit told told' seen seen' x y m n n' was is same follows sees keeps (ap (λ (t : View C). part t.core n) e) (inr (ap (λ (t : View C). t.core.trail) e))
+  still_stopped told told' seen seen' x y m n n' was is same follows sees keeps (inr e) =
+      still_visit told told' seen seen' x y m n n' was is same follows sees keeps (ap (λ (t : View C). part t.core n) e.1) (inl (ap (λ (t : View C). t.core.trail) e.1))
 
   -- an engine that was not changed
   pub still_same : (told told' : Option (PartView L D C)) (seen seen' : List Event) (x : EngineView L D C) (n n' : ℕ) → told ≡ Some (part_in x n) → told' ≡ Some (part_in x n') → n' ≡ n → Follows session_of n seen x.tablet.core.trail → seen' ≡ x.tablet.core.trail
@@ -119,8 +131,9 @@ module _ {L D C : Type 0} where
 pub stop_later : (n : ℕ) (seen trail seen' : List Event) → Follows session_of n seen trail → seen' ≡ trail → has_stop seen ≡ true → has_stop seen' ≡ true
 stop_later n seen trail seen' follows sees h = ap has_stop (sees ∙ follows.1) ∙ has_stop-more seen follows.0 h
 
-pub stop_added : {C : Type 0} (old new : View C) (seen : List Event) → seen ≡ new.core.trail → new ≡ record old { core = halted old.core } → has_stop seen ≡ true
-stop_added {C} old new seen sees e = ap has_stop (sees ∙ ap (λ (t : View C). t.core.trail) e) ∙ has_stop-end old.core.trail
+pub stop_added : {C : Type 0} (old new : View C) (seen : List Event) → seen ≡ new.core.trail → Halts old new → has_stop seen ≡ true
+stop_added {C} old new seen sees (inl e) = ap has_stop (sees ∙ ap (λ (t : View C). t.core.trail) e) ∙ has_stop-end old.core.trail
+stop_added {C} old new seen sees (inr e) = ap has_stop (sees ∙ ap (λ (t : View C). t.core.trail) e.1) ∙ e.0
 
 -- what a visit leaves that asks for the log
 module _ {L D C : Type 0} (Ready : JournalView L → List Entry → Type 0) where

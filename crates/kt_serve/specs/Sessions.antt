@@ -218,6 +218,7 @@ pub record IsFresh {L D C : Type 0} (view : EngineView L D C) : Type 0 where
   pub lines : view.tablet.core.trail ≡ []
   pub calm : view.tablet.core.aloft ≡ []
   pub home : view.log.holder ≡ None
+  pub store : view.store.holder ≡ None
 
 -- the commands of a session that has not begun, and that can be run
 pub record MayRun {L D C : Type 0} (told : Option (PartView L D C)) (seen : List Event) (s : ℕ) (commands : List Command) : Type 0 where

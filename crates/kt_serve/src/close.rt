@@ -1,30 +1,34 @@
-//! The end of a run: what still waits for the log is made durable.
-ghost use Rattle.std.specs.Prelude.{◌≡◌, [], Some, None, false};
+//! The end of a run: what still waits for the log is made durable, and a superblock is published.
+ghost use Rattle.std.specs.Prelude.{◌≡◌, [], Some, None, false, IsTrue};
+ghost use Rattle.kt_super.specs.declared.meta.Meta.{Meta};
 ghost use Rattle.kt_engine.specs.Engines.{IsLent};
+ghost use Rattle.kt_engine.specs.Stored.{MayPublish, next_super};
 ghost use Rattle.kt_engine.specs.Visits.{root_of};
 ghost use Rattle.kt_serve.specs.Sessions.{has_stop};
-ghost use Rattle.kt_serve.specs.Closing.{EndsAs, MayHalt};
+ghost use Rattle.kt_serve.specs.Closing.{IsDone, IsClosed, AppendsAs, EndsAs, MayHalt};
 
 use kt_base::Clock;
 use kt_disk::Disk;
-use kt_engine::{Broken, Engine, LogNo};
+use kt_engine::{Broken, Engine, LogNo, Purpose, StoreNo};
 use kt_journal::AppendNo;
 use kt_loglaws::Batch;
+use kt_storeside::{Lent, publish};
+use kt_super::PrepareNo;
 use std::alloc::Global;
 
 /// How a run ended.
 #[derive(Clone, Copy, PartialEq, Eq)]
 pub enum End {
-    /// Nothing waits for the log.
+    /// Nothing waits for the log, and the superblock is published.
     Done,
     /// A device has failed.
     Stopped,
-    /// There was no memory for what still waits.
+    /// There was no memory for what still waits, or for the superblock.
     Memory,
 }
 
 // Appends what was queued last, and takes the log home.
-fn append_last<L: Disk, D, C: Clock>(
+fn append_last<L: Disk, D: Disk + Drop, C: Clock>(
     alloc: Global,
     engine: &mut Engine<L, D, C>,
     number: u32,
@@ -38,8 +42,9 @@ fn append_last<L: Disk, D, C: Clock>(
     requires lent { IsLent L.tells L.seen L.now L.leaves batch.journal batch.records }
     ensures root { root_of engine.new ≡ root_of engine.old }
     ensures home { engine.new.log.holder ≡ None }
+    ensures store { engine.new.store ≡ engine.old.store }
     ensures tablet { MayHalt engine.old engine.new }
-    ensures ends { EndsAs engine.new result }
+    ensures ends { AppendsAs engine.new result }
 {
     match batch.journal.append_batch(alloc, &batch.records) {
         Ok(()) => {
@@ -57,13 +62,18 @@ fn append_last<L: Disk, D, C: Clock>(
     }
 }
 
-/// Makes all that is queued durable, as the pass of this number, and tells how the run ends.
-pub fn finish<L: Disk, D, C: Clock>(alloc: Global, engine: &mut Engine<L, D, C>, number: u32) -> End
+// Makes all that is queued durable.
+fn append_all<L: Disk, D: Disk + Drop, C: Clock>(
+    alloc: Global,
+    engine: &mut Engine<L, D, C>,
+    number: u32,
+) -> End
     requires home { engine.old.log.holder ≡ None }
     ensures root { root_of engine.new ≡ root_of engine.old }
     ensures home { engine.new.log.holder ≡ None }
+    ensures store { engine.new.store ≡ engine.old.store }
     ensures tablet { MayHalt engine.old engine.new }
-    ensures ends { EndsAs engine.new result }
+    ensures ends { AppendsAs engine.new result }
 {
     engine.standing();
     if engine.is_stopped() {
@@ -75,5 +85,104 @@ pub fn finish<L: Disk, D, C: Clock>(alloc: Global, engine: &mut Engine<L, D, C>,
         Err(LogNo::Memory) => End::Memory,
         Err(LogNo::Stopped) => unreachable!(),
         Err(LogNo::Out { by: _ }) => unreachable!(),
+    }
+}
+
+// Publishes the superblock that went out, and takes the store home.
+fn publish_lent<L: Disk, D: Disk + Drop, C: Clock>(
+    alloc: Global,
+    engine: &mut Engine<L, D, C>,
+    number: u32,
+    lent: Lent<D>,
+) -> End
+    requires home { engine.old.log.holder ≡ None }
+    requires out { engine.old.store.holder ≡ Some number }
+    requires whole { IsTrue engine.old.store.whole }
+    requires device { lent.device ≡ engine.old.store.known }
+    requires meta { (lent.meta ≡ Some (next_super engine.old)) × (engine.old.store.lent ≡ lent.meta) }
+    requires numbers { (lent.next_rowset ≡ engine.old.store.next_rowset) × (lent.next_file ≡ engine.old.store.next_file) }
+    requires ready { (m : Meta) → lent.meta ≡ Some m → MayPublish D.tells D.seen D.now D.leaves lent.device m }
+    requires done { IsDone engine.old }
+    ensures root { root_of engine.new ≡ record (root_of engine.old) { turn = None } }
+    ensures home { engine.new.log.holder ≡ None }
+    ensures store_home { engine.new.store.holder ≡ None }
+    ensures tablet { MayHalt engine.old engine.new }
+    ensures ends { EndsAs engine.new result }
+{
+    // The known device publishes the superblock from before.
+    engine.standing();
+    let Lent {
+        mut device,
+        meta,
+        next_rowset,
+        next_file,
+    } = lent;
+    let Some(next) = &meta else {
+        unreachable!();
+    };
+    let answer = publish(alloc, &mut device, next);
+    let back = Lent {
+        device,
+        meta,
+        next_rowset,
+        next_file,
+    };
+    match answer {
+        Ok(()) => {
+            engine.store_home(number, back, true);
+            End::Done
+        }
+        Err(PrepareNo::Memory) => {
+            engine.store_home(number, back, false);
+            End::Memory
+        }
+        Err(PrepareNo::Fault) => {
+            engine.stop(number, Broken::Store(back));
+            End::Stopped
+        }
+    }
+}
+
+// Publishes a superblock with the present mark and last timestamp, where all records are durable.
+fn publish_last<L: Disk, D: Disk + Drop, C: Clock>(
+    alloc: Global,
+    engine: &mut Engine<L, D, C>,
+    number: u32,
+) -> End
+    requires home { engine.old.log.holder ≡ None }
+    requires store_home { engine.old.store.holder ≡ None }
+    requires done { IsDone engine.old }
+    ensures root { root_of engine.new ≡ root_of engine.old }
+    ensures home { engine.new.log.holder ≡ None }
+    ensures store_home { engine.new.store.holder ≡ None }
+    ensures tablet { MayHalt engine.old engine.new }
+    ensures ends { EndsAs engine.new result }
+{
+    match engine.store_out(alloc, number, Purpose::Publish) {
+        Ok(lent) => publish_lent(alloc, engine, number, lent),
+        Err(StoreNo::Memory) => End::Memory,
+        Err(StoreNo::Stopped) => unreachable!(),
+        Err(StoreNo::Out { by: _ }) => unreachable!(),
+    }
+}
+
+/// Makes all that is queued durable, as the pass of this number, publishes a superblock with the present mark and last timestamp, and tells how the run ends.
+pub fn finish<L: Disk, D: Disk + Drop, C: Clock>(
+    alloc: Global,
+    engine: &mut Engine<L, D, C>,
+    number: u32,
+) -> End
+    requires home { engine.old.log.holder ≡ None }
+    requires store_home { engine.old.store.holder ≡ None }
+    ensures root { root_of engine.new ≡ root_of engine.old }
+    ensures home { engine.new.log.holder ≡ None }
+    ensures store_home { engine.new.store.holder ≡ None }
+    ensures tablet { MayHalt engine.old engine.new }
+    ensures ends { EndsAs engine.new result }
+{
+    match append_all(alloc, engine, number) {
+        End::Done => publish_last(alloc, engine, number),
+        End::Stopped => End::Stopped,
+        End::Memory => End::Memory,
     }
 }

@@ -23,7 +23,7 @@ fn emptied(records: RecordList) -> RecordList
 }
 
 /// Brings home a log whose batch is durable. The records are let go of before the visit.
-pub fn take_home<L: Disk, D, C: Clock, R: Wait>(
+pub fn take_home<L: Disk, D: Disk + Drop, C: Clock, R: Wait>(
     rt: &R,
     lock: &SeatLock<Engine<L, D, C>>,
     pass: &mut Pass<Engine<L, D, C>>,
@@ -43,7 +43,7 @@ pub fn take_home<L: Disk, D, C: Clock, R: Wait>(
 }
 
 /// Brings home a log whose batch was not written for want of memory: it is queued again.
-pub fn take_back<L: Disk, D, C: Clock, R: Wait>(
+pub fn take_back<L: Disk, D: Disk + Drop, C: Clock, R: Wait>(
     rt: &R,
     lock: &SeatLock<Engine<L, D, C>>,
     pass: &mut Pass<Engine<L, D, C>>,
@@ -63,7 +63,7 @@ pub fn take_back<L: Disk, D, C: Clock, R: Wait>(
 }
 
 /// Brings home a log whose device failed, and stops the tablet. The records are let go of before the visit.
-pub fn take_broken<L: Disk, D, C: Clock, R: Wait>(
+pub fn take_broken<L: Disk, D: Disk + Drop, C: Clock, R: Wait>(
     rt: &R,
     lock: &SeatLock<Engine<L, D, C>>,
     pass: &mut Pass<Engine<L, D, C>>,

@@ -39,7 +39,11 @@ pub enum LogTurn<L: Disk> {
 }
 
 // Lends the log, unless the REPLICATE of the session's write is durable.
-fn lend<L: Disk, D, C: Clock>(alloc: Global, engine: &mut Engine<L, D, C>, by: u32) -> LogTurn<L>
+fn lend<L: Disk, D: Disk + Drop, C: Clock>(
+    alloc: Global,
+    engine: &mut Engine<L, D, C>,
+    by: u32,
+) -> LogTurn<L>
     requires { Flies engine.old by }
     ensures visit { IsVisit by engine.old engine.new }
     ensures tablet { engine.new.tablet ≡ engine.old.tablet }
@@ -62,7 +66,7 @@ fn lend<L: Disk, D, C: Clock>(alloc: Global, engine: &mut Engine<L, D, C>, by: u
 }
 
 // Asks for the log, unless the REPLICATE of the session's write is durable.
-fn ask_log<L: Disk, D, C: Clock, R: Wait>(
+fn ask_log<L: Disk, D: Disk + Drop, C: Clock, R: Wait>(
     rt: &R,
     alloc: Global,
     lock: &SeatLock<Engine<L, D, C>>,
@@ -84,7 +88,7 @@ fn ask_log<L: Disk, D, C: Clock, R: Wait>(
 }
 
 // Appends the batch, and brings the log home.
-fn bring_home<L: Disk, D, C: Clock, R: Wait>(
+fn bring_home<L: Disk, D: Disk + Drop, C: Clock, R: Wait>(
     rt: &R,
     alloc: Global,
     lock: &SeatLock<Engine<L, D, C>>,
@@ -116,7 +120,7 @@ fn bring_home<L: Disk, D, C: Clock, R: Wait>(
 }
 
 /// Makes the REPLICATE of the session's write durable: this pass does it, or waits for the one that has the log.
-pub fn make_durable<L: Disk, D, C: Clock, R: Wait>(
+pub fn make_durable<L: Disk, D: Disk + Drop, C: Clock, R: Wait>(
     rt: &R,
     alloc: Global,
     lock: &SeatLock<Engine<L, D, C>>,

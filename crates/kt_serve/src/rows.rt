@@ -24,7 +24,11 @@ pub enum RowTurn {
 }
 
 // Applies the next row, if the REPLICATE is durable.
-fn apply_next<L: Disk, D, C: Clock>(engine: &mut Engine<L, D, C>, by: u32, at: usize) -> RowTurn
+fn apply_next<L: Disk, D: Disk + Drop, C: Clock>(
+    engine: &mut Engine<L, D, C>,
+    by: u32,
+    at: usize,
+) -> RowTurn
     requires { (i ts : ℕ) × (ops : List RowOp) × OwnFlight engine.old by i ts ops at × (at < length ops) }
     ensures visit { IsVisit by engine.old engine.new }
     ensures applied { AppliedBy engine.old engine.new by result }
@@ -43,7 +47,7 @@ fn apply_next<L: Disk, D, C: Clock>(engine: &mut Engine<L, D, C>, by: u32, at: u
 }
 
 // One visit that applies the next row, if the REPLICATE is durable.
-fn apply_row<L: Disk, D, C: Clock, R: Wait>(
+fn apply_row<L: Disk, D: Disk + Drop, C: Clock, R: Wait>(
     rt: &R,
     lock: &SeatLock<Engine<L, D, C>>,
     pass: &mut Pass<Engine<L, D, C>>,
@@ -65,7 +69,7 @@ fn apply_row<L: Disk, D, C: Clock, R: Wait>(
 }
 
 // Applies the next row, as soon as the REPLICATE is durable.
-fn apply_durably<L: Disk, D, C: Clock, R: Wait>(
+fn apply_durably<L: Disk, D: Disk + Drop, C: Clock, R: Wait>(
     rt: &R,
     alloc: Global,
     lock: &SeatLock<Engine<L, D, C>>,
@@ -92,7 +96,7 @@ fn apply_durably<L: Disk, D, C: Clock, R: Wait>(
 }
 
 /// Applies all rows of the session's write.
-pub fn apply_rows<L: Disk, D, C: Clock, R: Wait>(
+pub fn apply_rows<L: Disk, D: Disk + Drop, C: Clock, R: Wait>(
     rt: &R,
     alloc: Global,
     lock: &SeatLock<Engine<L, D, C>>,
@@ -116,7 +120,7 @@ pub fn apply_rows<L: Disk, D, C: Clock, R: Wait>(
 }
 
 /// Ends the session's write, whose rows are all applied, and answers it.
-pub fn end_write<L: Disk, D, C: Clock, R: Wait>(
+pub fn end_write<L: Disk, D: Disk + Drop, C: Clock, R: Wait>(
     rt: &R,
     lock: &SeatLock<Engine<L, D, C>>,
     pass: &mut Pass<Engine<L, D, C>>,

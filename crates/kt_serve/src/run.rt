@@ -26,7 +26,7 @@ use std::thread;
 use std::thread::Threads;
 
 // Runs a session to its end.
-fn run_one<L: Disk, D, C: Clock, R: Wait, G: Gate>(
+fn run_one<L: Disk, D: Disk + Drop, C: Clock, R: Wait, G: Gate>(
     rt: &R,
     alloc: Global,
     schema: &Schema,
@@ -45,7 +45,7 @@ fn run_one<L: Disk, D, C: Clock, R: Wait, G: Gate>(
 }
 
 // Runs a session to its end, and leaves the run.
-fn run_and_leave<L: Disk, D, C: Clock, R: Wait, G: Gate>(
+fn run_and_leave<L: Disk, D: Disk + Drop, C: Clock, R: Wait, G: Gate>(
     rt: &R,
     alloc: Global,
     schema: &Schema,
@@ -66,7 +66,7 @@ fn run_and_leave<L: Disk, D, C: Clock, R: Wait, G: Gate>(
 }
 
 // Runs the session of this place to its end.
-fn run_place<L: Disk, D, C: Clock, R: Wait, G: Gate>(
+fn run_place<L: Disk, D: Disk + Drop, C: Clock, R: Wait, G: Gate>(
     rt: &R,
     alloc: Global,
     schema: &Schema,
@@ -86,7 +86,13 @@ fn run_place<L: Disk, D, C: Clock, R: Wait, G: Gate>(
 }
 
 // Runs all sessions at once, each in a thread of its own where one can be made.
-fn run_all<L: Disk + Send, D: Send, C: Clock + Send, R: Threads + Wait + Sync, G: Gate + Sync>(
+fn run_all<
+    L: Disk + Send,
+    D: Disk + Drop + Send,
+    C: Clock + Send,
+    R: Threads + Wait + Sync,
+    G: Gate + Sync,
+>(
     rt: &R,
     alloc: Global,
     schema: &Schema,
@@ -127,7 +133,13 @@ fn rooms<T: Shared>(
 }
 
 // Runs all sessions over the engine in this lock, and gives what each ended with, and the engine.
-fn run_locked<L: Disk + Send, D: Send, C: Clock + Send, R: Threads + Wait + Sync, G: Gate + Sync>(
+fn run_locked<
+    L: Disk + Send,
+    D: Disk + Drop + Send,
+    C: Clock + Send,
+    R: Threads + Wait + Sync,
+    G: Gate + Sync,
+>(
     rt: &R,
     alloc: Global,
     schema: &Schema,
@@ -145,6 +157,7 @@ fn run_locked<L: Disk + Send, D: Send, C: Clock + Send, R: Threads + Wait + Sync
     requires runs { PlanRuns plan.now }
     ensures root { IfOk result (λ r. root_of r.1 ≡ root_of engine) }
     ensures home { IfOk result (λ r. r.1.log.holder ≡ None) }
+    ensures store_home { IfOk result (λ r. r.1.store.holder ≡ None) }
     ensures ended { IfOk result (λ r. AllEnded (CameTo G.came gate.now) (root_of engine) plan.now r.1.tablet.core.trail r.0.items) }
     ensures back { IfErr result (λ e. e ≡ engine) }
 {
@@ -165,7 +178,7 @@ fn run_locked<L: Disk + Send, D: Send, C: Clock + Send, R: Threads + Wait + Sync
 
 /// What a run of all sessions leaves.
 #[derive(Drop)]
-pub struct Ran<L: Disk, D, C: Clock> {
+pub struct Ran<L: Disk, D: Disk, C: Clock> {
     /// What each session ended with, in the order of their numbers.
     pub ends: Vec<SessionEnd>,
     pub end: End,
@@ -176,12 +189,12 @@ pub struct Ran<L: Disk, D, C: Clock> {
 const LAST: u32 = 0;
 
 /// Runs the sessions of a plan at once over an engine in which nothing has happened yet, each by a pass of its own in a
-/// thread of its own where one can be made, and makes durable what then still waits for the log. For every schedule, each
+/// thread of its own where one can be made, makes durable what then still waits for the log, and publishes a superblock. For every schedule, each
 /// session has the replies that the engine's lines tell it, and no other. Where there was no memory for the passes, nothing
 /// was run, and the engine comes back.
 pub fn run_sessions<
     L: Disk + Send,
-    D: Send,
+    D: Disk + Drop + Send,
     C: Clock + Send,
     R: Threads + Wait + Sync,
     G: Gate + Sync,
@@ -203,6 +216,7 @@ pub fn run_sessions<
     requires runs { PlanRuns plan.now }
     ensures root { IfOk result (λ ran. root_of ran.engine ≡ root_of engine) }
     ensures home { IfOk result (λ ran. ran.engine.log.holder ≡ None) }
+    ensures store_home { IfOk result (λ ran. ran.engine.store.holder ≡ None) }
     ensures ended { IfOk result (λ ran. AllEnded (CameTo G.came gate.now) (root_of engine) plan.now ran.engine.tablet.core.trail ran.ends.items) }
     ensures ends { IfOk result (λ ran. EndsAs ran.engine ran.end) }
     ensures halted { IfOk result (λ ran. (s : ℕ) (end : _) → nth ran.ends.items s ≡ Some end → end.halt ≡ Some Halt.Stopped → ran.end ≡ End.Stopped) }

@@ -47,7 +47,7 @@ fn turn_of(read: Result<Snap<RowSetView>, SnapNo>) -> ScanTurn
 }
 
 // One visit that draws the time of the next command, a scan of the present.
-fn look_once<L: Disk, D, C: Clock, R: Wait>(
+fn look_once<L: Disk, D: Disk + Drop, C: Clock, R: Wait>(
     rt: &R,
     lock: &SeatLock<Engine<L, D, C>>,
     pass: &mut Pass<Engine<L, D, C>>,
@@ -70,7 +70,7 @@ fn look_once<L: Disk, D, C: Clock, R: Wait>(
 }
 
 // A scan of the present draws its time, and one at a given time has it.
-fn draw_time<L: Disk, D, C: Clock, R: Wait>(
+fn draw_time<L: Disk, D: Disk + Drop, C: Clock, R: Wait>(
     rt: &R,
     lock: &SeatLock<Engine<L, D, C>>,
     pass: &mut Pass<Engine<L, D, C>>,
@@ -97,7 +97,7 @@ fn draw_time<L: Disk, D, C: Clock, R: Wait>(
 }
 
 // One visit that reads a snapshot, unless something stands in the scan's way.
-fn read_once<L: Disk, D, C: Clock, R: Wait>(
+fn read_once<L: Disk, D: Disk + Drop, C: Clock, R: Wait>(
     rt: &R,
     alloc: Global,
     lock: &SeatLock<Engine<L, D, C>>,
@@ -125,7 +125,7 @@ fn read_once<L: Disk, D, C: Clock, R: Wait>(
 }
 
 // Answers a scan whose time is drawn or given, as soon as no write flies that is not later than the time drawn.
-fn read_rows<L: Disk, D, C: Clock, R: Wait>(
+fn read_rows<L: Disk, D: Disk + Drop, C: Clock, R: Wait>(
     rt: &R,
     alloc: Global,
     schema: &Schema,
@@ -161,7 +161,7 @@ fn read_rows<L: Disk, D, C: Clock, R: Wait>(
     unreachable!()
 }
 
-impl<L: Disk, D, C: Clock> SharedTablet<L, D, C> {
+impl<L: Disk, D: Disk + Drop, C: Clock> SharedTablet<L, D, C> {
     /// A scan, of the present or at a given time. The same holds of its reply as of a write's. After want of memory the
     /// line that answers it may stand.
     pub fn scan<R: Wait>(

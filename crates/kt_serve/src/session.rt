@@ -39,7 +39,7 @@ fn is_stopped(reply: &Reply) -> bool
 }
 
 // Takes the next command, and keeps its reply.
-fn take_next<L: Disk, D, C: Clock, R: Wait, G: Gate>(
+fn take_next<L: Disk, D: Disk + Drop, C: Clock, R: Wait, G: Gate>(
     rt: &R,
     alloc: Global,
     schema: &Schema,
@@ -88,7 +88,7 @@ fn take_next<L: Disk, D, C: Clock, R: Wait, G: Gate>(
 
 /// Runs a session to its end. Its replies are what the lines that its pass has then seen tell for its commands, and no
 /// other command of it has one. A command that met want of memory has no reply, though a line may answer it.
-pub fn run_session<L: Disk, D, C: Clock, R: Wait, G: Gate>(
+pub fn run_session<L: Disk, D: Disk + Drop, C: Clock, R: Wait, G: Gate>(
     rt: &R,
     alloc: Global,
     schema: &Schema,

@@ -21,11 +21,11 @@ use std::sync::Wait;
 
 /// A tablet in a seat lock.
 #[derive(Drop)]
-pub struct SharedTablet<L: Disk, D, C: Clock> {
+pub struct SharedTablet<L: Disk, D: Disk, C: Clock> {
     pub lock: SeatLock<Engine<L, D, C>>,
 }
 
-impl<L: Disk, D, C: Clock> SharedTablet<L, D, C> {
+impl<L: Disk, D: Disk + Drop, C: Clock> SharedTablet<L, D, C> {
     /// The tablet of a filled lock.
     pub fn of(lock: SeatLock<Engine<L, D, C>>) -> SharedTablet<L, D, C>
         ensures { result.lock ≡ lock }

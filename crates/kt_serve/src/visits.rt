@@ -16,7 +16,7 @@ use std::sync::Wait;
 
 /// Begins the next command of a session, a write that was made ready, unless something stands in its way. What was made
 /// ready then stays for another visit.
-pub fn begin_once<L: Disk, D, C: Clock, R: Wait>(
+pub fn begin_once<L: Disk, D: Disk + Drop, C: Clock, R: Wait>(
     rt: &R,
     alloc: Global,
     lock: &SeatLock<Engine<L, D, C>>,
@@ -44,7 +44,7 @@ pub fn begin_once<L: Disk, D, C: Clock, R: Wait>(
 
 /// Begins the next command of a session, a write, as soon as its keys and its room are free. It is made ready once,
 /// before the first visit.
-pub fn begin_write<L: Disk, D, C: Clock, R: Wait>(
+pub fn begin_write<L: Disk, D: Disk + Drop, C: Clock, R: Wait>(
     rt: &R,
     alloc: Global,
     lock: &SeatLock<Engine<L, D, C>>,
@@ -80,7 +80,7 @@ pub fn begin_write<L: Disk, D, C: Clock, R: Wait>(
 }
 
 /// Raises the mark as the next command of a session.
-pub fn mark_once<L: Disk, D, C: Clock, R: Wait>(
+pub fn mark_once<L: Disk, D: Disk + Drop, C: Clock, R: Wait>(
     rt: &R,
     lock: &SeatLock<Engine<L, D, C>>,
     pass: &mut Pass<Engine<L, D, C>>,

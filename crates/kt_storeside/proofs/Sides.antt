@@ -1,6 +1,6 @@
 -- What keeps the store of an engine standing: it goes out, it comes home, and it comes home after a fault.
 use Rattle.std.proofs.Common.{◌≡◌, ℕ, ◌≤◌, Bool, IsTrue, true, false, Option, Some, None, refl, sym, subst, ◌∙◌, arith, inl, inr}
-use Rattle.std.specs.Prelude.{Ok}
+use Rattle.std.specs.Prelude.{◌⊎◌, Ok}
 use Rattle.kt_base.specs.Causes.{Rose}
 use Rattle.kt_disk.specs.Disk.{Files}
 use Rattle.kt_super.specs.declared.meta.Meta.{Meta}
@@ -57,6 +57,7 @@ module _ {D : Type 0} (tells : Bool) (seen : D → Files) (now : D → ℕ) (lea
     lent_is = λ m e. record { next = (may m e).next; files = (may m e).files };
     broken = λ un other out. absurd cc;
     rose = λ un other out. absurd cc;
+    stand = λ un other out. absurd cc;
   })
     where
       same : d ≡ disk
@@ -90,6 +91,7 @@ module _ {D : Type 0} (tells : Bool) (seen : D → Files) (now : D → ℕ) (lea
     lent_is = λ m e. absurd cc;
     broken = λ un d at. absurd cc;
     rose = λ un d at. absurd cc;
+    stand = λ un d at. absurd cc;
   }
     where
       k : IsKept (published_in published given meta) nr nf went
@@ -109,6 +111,7 @@ module _ {D : Type 0} (tells : Bool) (seen : D → Files) (now : D → ℕ) (lea
     lent_is = λ m e. record { next = (s.lent_is m e).next; files = (s.lent_is m e).files };
     broken = λ no d at t c is. subst (λ (k : D). leaves k (now k) c → HasEither seen (side_of (Some disk) false went by meta lent nr nf) c) (same d at) (either t c) is;
     rose = λ un d at. subst (λ (k : D). Rose (faults went) (faults k)) (same d at) rose;
+    stand = λ un d at t m of. subst (λ (k : D). FilesStand seen now leaves m k) (same d at) (named t m of);
   }
     where
       same : (d : D) → Some disk ≡ Some d → disk ≡ d
@@ -116,6 +119,11 @@ module _ {D : Type 0} (tells : Bool) (seen : D → Files) (now : D → ℕ) (lea
 
       has : IsTrue tells → (m : Meta) → IsMeta m → m.next_file ≤ nf → FilesStand seen now leaves m went → (c : Files) → leaves disk (now disk) c → super_of c ≡ Ok (Some m) → HasSuper (seen went) m c
       has t m rules given stand c is e = record { superblock = e; named_are = image_has seen now leaves nf nf' went disk (turn t) m rules given stand c is }
+
+      -- nothing is pending of the files of either
+      named : IsTrue tells → (m : Meta) → (m ≡ meta) ⊎ (lent ≡ Some m) → FilesStand seen now leaves m disk
+      named t m (inl is) = subst (λ (k : Meta). FilesStand seen now leaves k disk) (sym is) (still_stand seen now leaves nf nf' went disk (turn t) meta s.rules s.files ((s.publishes t).files))
+      named t m (inr is) = let may = s.lent_is m is in still_stand seen now leaves nf nf' went disk (turn t) m may.next.rules may.next.files (may.files t)
 
       of_lent : (o : Option Meta) → lent ≡ o → IsTrue tells → (c : Files) → leaves disk (now disk) c → super_of c ≡ Ok (Some (published_in true o meta)) → HasEither seen (side_of (Some disk) false went by meta lent nr nf) c
       of_lent None e t c is told = inl (has t meta s.rules s.files ((s.publishes t).files) c is told)

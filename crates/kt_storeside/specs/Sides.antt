@@ -58,7 +58,7 @@ pub record MayBeLent {D : Type 0} (tells : Bool) (seen : D → Files) (now : D �
   pub files : IsTrue tells → FilesStand seen now leaves m v.known
 
 -- The store stands: the known device publishes its superblock, no file has a number that is still to be given, and what was lent may be. After
--- a fault each image has one of both superblocks.
+-- a fault each image has one of both superblocks, and nothing is pending of the data files that these name.
 pub record IsSide {D : Type 0} (tells : Bool) (seen : D → Files) (now : D → ℕ) (leaves : D → ℕ → Files → Type 0) (faults : D → ℕ) (v : StoreView D) : Type 0 where
   pub rules : IsMeta v.meta
   pub rowsets : v.meta.next_rowset ≤ v.next_rowset
@@ -68,3 +68,4 @@ pub record IsSide {D : Type 0} (tells : Bool) (seen : D → Files) (now : D → 
   pub lent_is : (m : Meta) → v.lent ≡ Some m → MayBeLent tells seen now leaves v m
   pub broken : v.whole ≡ false → (disk : D) → v.home ≡ Some disk → IsTrue tells → LeavesEither seen now leaves v disk
   pub rose : v.whole ≡ false → (disk : D) → v.home ≡ Some disk → Rose (faults v.known) (faults disk)
+  pub stand : v.whole ≡ false → (disk : D) → v.home ≡ Some disk → IsTrue tells → (m : Meta) → (m ≡ v.meta) ⊎ (v.lent ≡ Some m) → FilesStand seen now leaves m disk

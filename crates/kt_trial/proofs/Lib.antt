@@ -2,3 +2,4 @@ pub mod Frames
 pub mod Moving
 pub mod Opened
 pub mod Planned
+pub mod Table

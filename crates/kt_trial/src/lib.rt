@@ -24,6 +24,8 @@ pub mod play;
 pub mod rows;
 pub mod seats;
 #[cfg(test)]
+pub mod store;
+#[cfg(test)]
 pub mod tally;
 #[cfg(test)]
 mod tests;

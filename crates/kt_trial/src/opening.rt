@@ -1,10 +1,12 @@
-//! An engine in which nothing has happened yet, over an empty log in memory.
-ghost use Rattle.std.specs.Prelude.{◌≡◌, ◌≤◌, [], IfOk, length};
+//! An engine in which nothing has happened yet, over an empty log in memory and a store with the first superblock of its table.
+ghost use Rattle.std.specs.Prelude.{◌≡◌, ◌≤◌, [], not, IfOk, length};
+ghost use Rattle.kt_reopen.specs.Tables.{IsTable};
 ghost use Rattle.kt_trial.specs.Plans.{PlanFits};
-ghost use Rattle.kt_trial.specs.Openings.{IsAtStart, IsNew};
+ghost use Rattle.kt_trial.specs.Openings.{IsAtStart, IsNew, table};
 
 use crate::miss::Miss;
 use crate::operation::DEFAULT;
+use crate::store::{FirstStore, first_store};
 use kt_base::{Cell, Kind, MemClock, NoMemory, Octets, ReadingList};
 use kt_disk::MemDisk;
 use kt_diskrowset::DiskRowSet;
@@ -19,8 +21,8 @@ use kt_tablet::Tablet;
 use std::alloc::Global;
 use std::snapshot::Snapshot;
 
-/// An engine over a log in memory, with a clock that is told.
-pub type Tried = Engine<MemDisk, (), MemClock>;
+/// An engine over a log and a store in memory, with a clock that is told.
+pub type Tried = Engine<MemDisk, MemDisk, MemClock>;
 
 /// A column that is nullable unless it is of the key.
 fn column(
@@ -30,7 +32,9 @@ fn column(
     kind: Kind,
     key: bool,
     default: Option<Cell>,
-) -> Result<Column, NoMemory> {
+) -> Result<Column, NoMemory>
+    ensures { IfOk result (λ c. c ≡ record { id = id; name = name.now; kind = kind; key = key; nullable = not key; default = default }) }
+{
     Ok(Column {
         id,
         name: Octets::from_slice(alloc, name)?,
@@ -42,15 +46,19 @@ fn column(
 }
 
 // A key column and two others, of which the second has a default.
-fn columns(alloc: Global) -> Result<ColumnList, NoMemory> {
-    let key = column(alloc, 0, b"k", Kind::String, true, None)?;
-    let x = column(alloc, 1, b"x", Kind::Int64, false, None)?;
-    let y = column(alloc, 2, b"y", Kind::Int64, false, Some(Cell::Int(DEFAULT)))?;
+fn columns(alloc: Global) -> Result<ColumnList, NoMemory>
+    ensures { IfOk result (λ columns. columns ≡ table) }
+{
+    let key = column(alloc, 1, b"k", Kind::String, true, None)?;
+    let x = column(alloc, 2, b"x", Kind::Int64, false, None)?;
+    let y = column(alloc, 3, b"y", Kind::Int64, false, Some(Cell::Int(DEFAULT)))?;
     Ok(ColumnList::of(vec![in alloc; key, x, y]?))
 }
 
 /// The table of these columns.
-pub fn schema(alloc: Global) -> Result<Schema, Miss> {
+pub fn schema(alloc: Global) -> Result<Schema, Miss>
+    ensures { IfOk result (λ schema. schema ≡ table) }
+{
     let columns = columns(alloc)?;
     match Schema::new(alloc, columns) {
         Ok(schema) => Ok(schema),
@@ -68,7 +76,8 @@ fn tablet(
 ) -> Result<Tablet<DiskRowSet, MemClock>, Miss>
     requires fits { PlanFits plan.now }
     requires few { length plan.now ≤ 64 }
-    ensures { IfOk result (λ tablet. IsNew tablet plan.now) }
+    ensures new { IfOk result (λ tablet. IsNew tablet plan.now) }
+    ensures mark { IfOk result (λ tablet. (tablet.mark ≡ 0) × (tablet.core.a ≡ 0)) }
 {
     let Ok(pool) = Pool::new(alloc, 1024) else {
         return Err(Miss::Memory);
@@ -98,6 +107,7 @@ pub fn engine(
 ) -> Result<Tried, Miss>
     requires fits { PlanFits plan.now }
     requires few { length plan.now ≤ 64 }
+    requires table { IsTable schema.now }
     ensures { IfOk result (λ engine. IsAtStart engine.tablet.core plan.now) }
 {
     let tablet = tablet(alloc, schema, cells, plan, readings)?;
@@ -107,6 +117,10 @@ pub fn engine(
     let Ok((journal, records)) = open_journal(alloc, disk) else {
         return Err(Miss::Opening);
     };
+    let FirstStore {
+        side,
+        device: store,
+    } = first_store(alloc, schema)?;
     let none = no_records(alloc);
     // Its stores show that it is empty.
     tablet.standing();
@@ -114,8 +128,9 @@ pub fn engine(
         records: &records,
         superblock: &superblock,
         device,
+        store,
     };
-    match Engine::of(alloc, tablet, journal, none, (), found) {
+    match Engine::of(alloc, tablet, journal, none, side, found) {
         Ok(engine) => Ok(engine),
         Err(_) => Err(Miss::Memory),
     }

@@ -1,7 +1,6 @@
 use Rattle.kt_printed.proofs.Standing.{judged}
-use Rattle.kt_printed.proofs.Pools.{scripts_judged}
 use Rattle.kt_printed.proofs.Sources.{sources_answered}
 use Rattle.kt_printed.proofs.judged_law.Goals as goal
 
 pub returns : goal.returns
-returns c = record { judged = judged; scripts = scripts_judged; sources = sources_answered }
+returns c = record { judged = judged; sources = sources_answered }

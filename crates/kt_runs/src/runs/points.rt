@@ -38,7 +38,14 @@ fn noted<R: Threads + Wait + Sync>(rt: &R, alloc: Global, lines: &[u8]) -> Resul
     let gate = Notes {
         digits: AtomicU64::new(0),
     };
-    let _ended = run(rt, alloc, lines, MemDisk::new(alloc), &gate)?;
+    let _ended = run(
+        rt,
+        alloc,
+        lines,
+        MemDisk::new(alloc),
+        MemDisk::new(alloc),
+        &gate,
+    )?;
     Ok(gate.digits.load(Ordering::SeqCst))
 }
 

@@ -127,7 +127,7 @@ fn play<R: Threads + Wait + Clock + Sync>(
 ) -> Result<(u8, MemSink, bool), NoMemory> {
     let gate = HoldGate::of(rt, it.first, it.second);
     let log = HeldDisk::of(MemDisk::new(alloc), &gate, 1);
-    let (status, sink, _) = run(rt, alloc, it.lines, log, &gate)?;
+    let (status, sink, ..) = run(rt, alloc, it.lines, log, MemDisk::new(alloc), &gate)?;
     Ok((status, sink, gate.gave_up()))
 }
 

@@ -1,7 +1,7 @@
 use Rattle.std.proofs.Common.{◌≡◌, List, take}
 use Rattle.std.specs.List.{sum_by}
 use Rattle.kt_history.specs.declared.command.Command.{Command}
-use Rattle.kt_app.specs.Crash.{need_of}
+use Rattle.kt_app.specs.Cells.{need_of}
 use Rattle.kt_app.proofs.cells.plan_need.Given as goal
 
 abbrev pub invariant-loop-session : goal.invariant-loop-session

@@ -1,6 +1,6 @@
 use Rattle.std.proofs.Common.{◌≡◌, take}
 use Rattle.std.specs.List.{sum_by}
-use Rattle.kt_app.specs.Crash.{need_of}
+use Rattle.kt_app.specs.Cells.{need_of}
 use Rattle.kt_app.proofs.cells.session_need.Given as goal
 
 abbrev pub invariant-loop-command : goal.invariant-loop-command

@@ -1,44 +1,59 @@
-use Rattle.std.proofs.Common.{[], ap, sym, refl, subst, inl, inr, true, false, ◌∙◌}
+use Rattle.std.proofs.Common.{◌≡◌, [], ap, sym, refl, subst, inl, inr, true, false, ◌∙◌}
 use Rattle.std.specs.Prelude.{IsTrue}
-use Rattle.kt_base.specs.Causes.{Rose}
 use Rattle.kt_history.specs.Machine.{Workload}
-use Rattle.kt_journal.specs.Numbers.{AreNear}
 use Rattle.kt_engine.specs.Engines.{KeepsOthers}
-use Rattle.kt_app.specs.Crash.{CrashLeaves, KeepsFiles, work_of, refusal_text}
-use Rattle.kt_app.proofs.Numbers.{as_before_near, still_near, as_before_files, keeps_files, ran_near}
+use Rattle.kt_app.specs.Images.{CrashLeaves, Both, KeepsFiles}
+use Rattle.kt_app.specs.Refusals.{refusal_text}
+use Rattle.kt_app.proofs.Numbers.{keeps_files, frames_files}
 use Rattle.kt_app.proofs.SourceLaws.{either}
-use Rattle.kt_app.specs.TableRules.{rules_of}
-use Rattle.kt_app.proofs.TableRules.{takes_plan}
-use Rattle.kt_app.proofs.RunLaws.{is_on, was_read, was_refused, refusal_not, as_before, runs_over, kept_over}
+use Rattle.kt_app.proofs.RunLaws.{is_on, was_refused, as_before, let_be, runs_over, kept_over, rose_as, neither_rose}
 use Rattle.kt_app.proofs.top.open_and_run.Goals as goal
 
+pub open_tablet-requires-clause-table : goal.open_tablet-requires-clause-table
+open_tablet-requires-clause-table g c = λ κs outlives. c.requires.counted.table
+
 pub run_and_write-status-requires-clause-work : goal.run_and_write-status-requires-clause-work
-run_and_write-status-requires-clause-work g c = λ κs outlives.
-    let work = c.in-Ok-open_tablet.ensures.work in (
-      is_on c.args.schema.now _ [] c.in-Ok.cells work,
-      ap (λ (w : Workload). w.cells) work ∙ c.in-Ok.ensures.cells,
-    )
+run_and_write-status-requires-clause-work g c = λ κs outlives. is_on c.args.schema.now _ [] c.args.cells c.in-Ok-open_tablet.ensures.work
 
 pub returns-in-Err-clause-openable : goal.returns-in-Err-clause-openable
 returns-in-Err-clause-openable g c = let is = c.end_with-in-Err.ensures in rw is.1 c.in-Err.ensures.openable
 
+pub returns-in-Err-clause-stand : goal.returns-in-Err-clause-stand
+returns-in-Err-clause-stand g c = let is = c.end_with-in-Err.ensures in rw is.2 c.in-Err.ensures.stand
+
 pub returns-in-Ok-open_tablet-clause-openable : goal.returns-in-Ok-open_tablet-clause-openable
 returns-in-Ok-open_tablet-clause-openable g c = let is = c.end_with-in-Ok-open_tablet.ensures in rw is.1 c.run_and_write-status.ensures.openable
+
+pub returns-in-Ok-open_tablet-clause-stand : goal.returns-in-Ok-open_tablet-clause-stand
+returns-in-Ok-open_tablet-clause-stand g c = let is = c.end_with-in-Ok-open_tablet.ensures in rw is.2 c.run_and_write-status.ensures.stand
+
+pub returns-in-Ok-open_tablet-clause-printed : goal.returns-in-Ok-open_tablet-clause-printed
+returns-in-Ok-open_tablet-clause-printed g c = λ e.
+    let is = c.end_with-in-Ok-open_tablet.ensures in
+    let opened = c.in-Ok-open_tablet.ensures in
+    let engine = c.in-Ok-open_tablet.engine in
+    let parts = c.run_and_write-status.result.1 in
+    let run = c.run_and_write-status.ensures.printed (sym is.0 ∙ e) in (
+      run.0,
+      runs_over g.C.Clock.readings g.L.Disk.tells g.L.Disk.seen c.args.log g.D.Disk.tells g.D.Disk.seen c.args.store engine c.args.schema.now c.requires.counted c.args.plan.now c.requires.fits parts.trail opened.content
+          engine.tablet.clock c.args.clock parts.clock _ parts.log _ parts.store _ (λ l s. Both (CrashLeaves g.L.Disk.tells g.L.Disk.now g.L.Disk.leaves l) (CrashLeaves g.D.Disk.tells g.D.Disk.now g.D.Disk.leaves s)) c.args.cells opened.clock.0 (sym is.3) is.1 is.2 (ap (λ (w : Workload). w.cells) opened.work) false _ run.0 run.2,
+      run.1,
+    )
 
 pub returns-in-Ok-open_tablet-clause-stopped : goal.returns-in-Ok-open_tablet-clause-stopped
 returns-in-Ok-open_tablet-clause-stopped g c = λ e.
     let is = c.end_with-in-Ok-open_tablet.ensures in
     let opened = c.in-Ok-open_tablet.ensures in
-    let four = sym is.0 ∙ e in
+    let engine = c.in-Ok-open_tablet.engine in
     let parts = c.run_and_write-status.result.1 in
-    let run = c.run_and_write-status.ensures.stopped four opened.found.0 opened.found.1 in (
-      subst (λ x. Rose (g.L.Disk.faults c.args.log) (g.L.Disk.faults x)) (sym is.1)
-          (subst (λ x. Rose (g.L.Disk.faults x) (g.L.Disk.faults parts.log)) opened.devices.1 (c.run_and_write-status.ensures.fault four)),
+    let four = sym is.0 ∙ e in
+    let run = c.run_and_write-status.ensures.stopped four in (
+      rose_as g.L.Disk.faults g.D.Disk.faults opened.devices.1 opened.devices.2 is.1 is.2 (c.run_and_write-status.ensures.fault four),
       inr (
         run.0,
-        runs_over g.C.Clock.readings _ c.args.clock _ _ g.L.Disk.tells g.L.Disk.seen g.L.Disk.now g.L.Disk.leaves c.args.log _ _ c.in-Ok-open_tablet.engine (work_of (record { columns = c.args.schema.now; plan = c.args.plan.now })) opened.found.0 _
-            (rules_of c.args.schema.now) (takes_plan c.args.schema.now c.requires.counted c.args.plan.now c.requires.fits) opened.found.1 opened.superblock (ap (λ (w : Workload). w.fill) opened.work) opened.records opened.found.3 opened.clock.0 (sym is.3) (sym is.1) true run.0 opened.found.2 run.1,
-        run.2,
+        runs_over g.C.Clock.readings g.L.Disk.tells g.L.Disk.seen c.args.log g.D.Disk.tells g.D.Disk.seen c.args.store engine c.args.schema.now c.requires.counted c.args.plan.now c.requires.fits parts.trail opened.content
+            engine.tablet.clock c.args.clock parts.clock _ parts.log _ parts.store _ (λ l s. Both (CrashLeaves g.L.Disk.tells g.L.Disk.now g.L.Disk.leaves l) (CrashLeaves g.D.Disk.tells g.D.Disk.now g.D.Disk.leaves s)) c.args.cells opened.clock.0 (sym is.3) is.1 is.2 (ap (λ (w : Workload). w.cells) opened.work) true _ run.0 run.2,
+        run.1,
       ),
     )
 
@@ -46,101 +61,134 @@ pub returns-in-Ok-open_tablet-clause-crash : goal.returns-in-Ok-open_tablet-clau
 returns-in-Ok-open_tablet-clause-crash g c =
     let is = c.end_with-in-Ok-open_tablet.ensures in
     let opened = c.in-Ok-open_tablet.ensures in
+    let engine = c.in-Ok-open_tablet.engine in
+    let parts = c.run_and_write-status.result.1 in
     inr (
-      opened.found.0,
-      c.in-Ok-open_tablet.engine.tablet.core.opened,
-      was_read g.L.Disk.tells g.L.Disk.seen c.args.log _ opened.found.0 _ opened.found.2,
-      c.run_and_write-status.result.1.trail,
-      kept_over g.C.Clock.readings _ c.args.clock _ _ g.L.Disk.tells g.L.Disk.seen g.L.Disk.now g.L.Disk.leaves c.args.log _ _ c.in-Ok-open_tablet.engine (work_of (record { columns = c.args.schema.now; plan = c.args.plan.now })) opened.found.0 _
-          (rules_of c.args.schema.now) (takes_plan c.args.schema.now c.requires.counted c.args.plan.now c.requires.fits) opened.found.1 opened.superblock (ap (λ (w : Workload). w.fill) opened.work) opened.records opened.found.3 opened.clock.0 (sym is.3) (sym is.1) (c.run_and_write-status.ensures.kept opened.found.0 opened.found.1),
-    )
-
-pub returns-in-Ok-open_tablet-clause-printed : goal.returns-in-Ok-open_tablet-clause-printed
-returns-in-Ok-open_tablet-clause-printed g c = λ e.
-    let is = c.end_with-in-Ok-open_tablet.ensures in
-    let opened = c.in-Ok-open_tablet.ensures in
-    let run = c.run_and_write-status.ensures.printed (sym is.0 ∙ e) opened.found.0 opened.found.1 in (
-      run.0,
-      runs_over g.C.Clock.readings _ c.args.clock _ _ g.L.Disk.tells g.L.Disk.seen g.L.Disk.now g.L.Disk.leaves c.args.log _ _ c.in-Ok-open_tablet.engine (work_of (record { columns = c.args.schema.now; plan = c.args.plan.now })) opened.found.0 _
-          (rules_of c.args.schema.now) (takes_plan c.args.schema.now c.requires.counted c.args.plan.now c.requires.fits) opened.found.1 opened.superblock (ap (λ (w : Workload). w.fill) opened.work) opened.records opened.found.3 opened.clock.0 (sym is.3) (sym is.1) false run.0 opened.found.2 run.1,
-      run.2,
+      parts.trail,
+      kept_over g.C.Clock.readings g.L.Disk.tells g.L.Disk.seen c.args.log g.D.Disk.tells g.D.Disk.seen c.args.store engine c.args.schema.now c.requires.counted c.args.plan.now c.requires.fits parts.trail opened.content
+          engine.tablet.clock c.args.clock parts.clock _ parts.log _ parts.store _ (λ l s. Both (CrashLeaves g.L.Disk.tells g.L.Disk.now g.L.Disk.leaves l) (CrashLeaves g.D.Disk.tells g.D.Disk.now g.D.Disk.leaves s)) c.args.cells opened.clock.0 (sym is.3) is.1 is.2 (ap (λ (w : Workload). w.cells) opened.work) c.run_and_write-status.ensures.kept,
     )
 
 pub returns-in-Ok-open_tablet-clause-cut : goal.returns-in-Ok-open_tablet-clause-cut
 returns-in-Ok-open_tablet-clause-cut g c = λ e.
     let is = c.end_with-in-Ok-open_tablet.ensures in
     let opened = c.in-Ok-open_tablet.ensures in
+    let engine = c.in-Ok-open_tablet.engine in
     let parts = c.run_and_write-status.result.1 in
-    let run = c.run_and_write-status.ensures.cut (sym is.0 ∙ e) opened.found.0 opened.found.1 in (
+    let run = c.run_and_write-status.ensures.cut (sym is.0 ∙ e) in (
       run.0,
-      run.4,
+      run.2,
       inr (
         run.1,
-        runs_over g.C.Clock.readings _ c.args.clock _ _ g.L.Disk.tells g.L.Disk.seen g.L.Disk.now g.L.Disk.leaves c.args.log _ _ c.in-Ok-open_tablet.engine (work_of (record { columns = c.args.schema.now; plan = c.args.plan.now })) opened.found.0 _
-            (rules_of c.args.schema.now) (takes_plan c.args.schema.now c.requires.counted c.args.plan.now c.requires.fits) opened.found.1 opened.superblock (ap (λ (w : Workload). w.fill) opened.work) opened.records opened.found.3 opened.clock.0 (sym is.3) (sym is.1) run.1 run.0 opened.found.2 run.2,
-        (λ stopped. subst (λ x. Rose (g.L.Disk.faults c.args.log) (g.L.Disk.faults x)) (sym is.1) (subst (λ x. Rose (g.L.Disk.faults x) (g.L.Disk.faults parts.log)) opened.devices.1 (run.3 stopped))),
+        runs_over g.C.Clock.readings g.L.Disk.tells g.L.Disk.seen c.args.log g.D.Disk.tells g.D.Disk.seen c.args.store engine c.args.schema.now c.requires.counted c.args.plan.now c.requires.fits parts.trail opened.content
+            engine.tablet.clock c.args.clock parts.clock _ parts.log _ parts.store _ (λ l s. Both (CrashLeaves g.L.Disk.tells g.L.Disk.now g.L.Disk.leaves l) (CrashLeaves g.D.Disk.tells g.D.Disk.now g.D.Disk.leaves s)) c.args.cells opened.clock.0 (sym is.3) is.1 is.2 (ap (λ (w : Workload). w.cells) opened.work) run.1 _ run.0 run.3,
+        (λ stopped. rose_as g.L.Disk.faults g.D.Disk.faults opened.devices.1 opened.devices.2 is.1 is.2 (run.4 stopped)),
       ),
     )
 
-pub returns-in-Err-clause-refused : goal.returns-in-Err-clause-refused
-returns-in-Err-clause-refused g c = λ e.
-    let is = c.end_with-in-Err.ensures in
-    let r = c.refuse.ensures.refused (sym is.0 ∙ e) in
-    let not = refusal_not c.in-Err.closed.why r.0 in
-    (c.in-Err.closed.why, r.0, was_refused g.L.Disk.tells g.L.Disk.seen c.args.log _ _ (c.in-Err.ensures.refused not.0 not.1), r.1)
+-- what was opened is not refused
+pub returns-in-Ok-open_tablet-clause-refuses : goal.returns-in-Ok-open_tablet-clause-refuses
+returns-in-Ok-open_tablet-clause-refuses g c = λ no refusal told tells answer. absurd (c.in-Ok-open_tablet.ensures.only told tells no answer)
 
-pub returns-in-Err-clause-stopped : goal.returns-in-Err-clause-stopped
-returns-in-Err-clause-stopped g c = λ e.
-    let is = c.end_with-in-Err.ensures in
-    let r = c.refuse.ensures.fault (sym is.0 ∙ e) in (
-      subst (λ x. Rose (g.L.Disk.faults c.args.log) (g.L.Disk.faults x)) (sym is.1) (c.in-Err.ensures.fault r.0),
-      inl (r.1, is.3 ∙ c.in-Err.ensures.back.1, as_before g.L.Disk.tells g.L.Disk.now g.L.Disk.leaves c.args.log _ _ c.in-Err.ensures.frames is.1),
-    )
-
-pub returns-in-Err-clause-cut : goal.returns-in-Err-clause-cut
-returns-in-Err-clause-cut g c = λ e.
-    let is = c.end_with-in-Err.ensures in
-    let r = c.refuse.ensures.cut (sym is.0 ∙ e) in
-    let why = c.in-Err.closed.why in
-    let alone = as_before g.L.Disk.tells g.L.Disk.now g.L.Disk.leaves c.args.log _ _ c.in-Err.ensures.frames is.1 in
-    let clock = is.3 ∙ c.in-Err.ensures.back.1 in (
-      refusal_text why,
-      r.1,
-      either
-          (λ refusal. let not = refusal_not why refusal in inl (inl (why, refusal, was_refused g.L.Disk.tells g.L.Disk.seen c.args.log _ _ (c.in-Err.ensures.refused not.0 not.1), refl), clock, alone))
-          (λ failed. inl (inr (ap refusal_text failed, subst (λ x. Rose (g.L.Disk.faults c.args.log) (g.L.Disk.faults x)) (sym is.1) (c.in-Err.ensures.fault failed)), clock, alone)) r.2,
-    )
-
-pub returns-in-Err-clause-untouched : goal.returns-in-Err-clause-untouched
-returns-in-Err-clause-untouched g c = λ e.
-    let is = c.end_with-in-Err.ensures in
-    (is.3 ∙ c.in-Err.ensures.back.1, as_before g.L.Disk.tells g.L.Disk.now g.L.Disk.leaves c.args.log _ _ c.in-Err.ensures.frames is.1)
-
-pub returns-in-Err-clause-crash : goal.returns-in-Err-clause-crash
-returns-in-Err-clause-crash g c = inl (as_before g.L.Disk.tells g.L.Disk.now g.L.Disk.leaves c.args.log _ _ c.in-Err.ensures.frames c.end_with-in-Err.ensures.1)
+-- and is run to its end, unless a count rises
+pub returns-in-Ok-open_tablet-clause-complete : goal.returns-in-Ok-open_tablet-clause-complete
+returns-in-Ok-open_tablet-clause-complete g c = λ found told tells answer sinks logs stores.
+    let is = c.end_with-in-Ok-open_tablet.ensures in
+    let opened = c.in-Ok-open_tablet.ensures in
+    let engine = c.in-Ok-open_tablet.engine in
+    let parts = c.run_and_write-status.result.1 in
+    let run = c.run_and_write-status.ensures in
+    elim run.statuses [
+      | inl zero ↦ inl (is.0 ∙ zero)
+      | inr (inl four) ↦ absurd (neither_rose _ _ _ _ logs stores (rose_as g.L.Disk.faults g.D.Disk.faults opened.devices.1 opened.devices.2 is.1 is.2 (run.fault four)))
+      | inr (inr (inl six)) ↦ absurd (sinks (run.sink_fault six))
+      | inr (inr (inr seven)) ↦ inr (is.0 ∙ seven)
+    ]
 
 pub returns-in-Ok-open_tablet-clause-others : goal.returns-in-Ok-open_tablet-clause-others
 returns-in-Ok-open_tablet-clause-others g c =
     let is = c.end_with-in-Ok-open_tablet.ensures in
     let opened = c.in-Ok-open_tablet.ensures in
+    let engine = c.in-Ok-open_tablet.engine in
+    let parts = c.run_and_write-status.result.1 in
     subst (λ x. KeepsFiles (CrashLeaves g.L.Disk.tells g.L.Disk.now g.L.Disk.leaves c.args.log) (CrashLeaves g.L.Disk.tells g.L.Disk.now g.L.Disk.leaves x)) (sym is.1)
-    (keeps_files g.L.Disk.tells g.L.Disk.now g.L.Disk.leaves c.args.log _ (subst (λ d. IsTrue g.L.Disk.tells → KeepsOthers g.L.Disk.now g.L.Disk.leaves d c.run_and_write-status.result.1.log) opened.devices.1 c.run_and_write-status.ensures.others))
+    (keeps_files g.L.Disk.tells g.L.Disk.now g.L.Disk.leaves c.args.log _ (subst (λ d. IsTrue g.L.Disk.tells → KeepsOthers g.L.Disk.now g.L.Disk.leaves d parts.log) opened.devices.1 c.run_and_write-status.ensures.others))
 
 pub returns-in-Ok-open_tablet-clause-near : goal.returns-in-Ok-open_tablet-clause-near
 returns-in-Ok-open_tablet-clause-near g c =
     let is = c.end_with-in-Ok-open_tablet.ensures in
     let opened = c.in-Ok-open_tablet.ensures in
-    let run = c.run_and_write-status.ensures in
-    subst (λ x. AreNear (CrashLeaves g.L.Disk.tells g.L.Disk.now g.L.Disk.leaves c.args.log) (CrashLeaves g.L.Disk.tells g.L.Disk.now g.L.Disk.leaves x)) (sym is.1)
-    (ran_near (CrashLeaves g.L.Disk.tells g.L.Disk.now g.L.Disk.leaves c.args.log) (CrashLeaves g.L.Disk.tells g.L.Disk.now g.L.Disk.leaves c.run_and_write-status.result.1.log) c.in-Ok-open_tablet.engine.records c.in-Ok-open_tablet.engine.tablet.names _
-    opened.names (λ image left. (g.L.Disk.seen c.args.log, (left.0, (g.met.L.Disk g.world.𝓛 g.world.𝓜 g.world.𝓡 ((λ s x. x), (λ x. x), (λ x. x), λ x. x)).reads_as_image c.args.log left.0), opened.records left.0)) opened.number run.named
-    (keeps_files g.L.Disk.tells g.L.Disk.now g.L.Disk.leaves c.args.log _ (subst (λ d. IsTrue g.L.Disk.tells → KeepsOthers g.L.Disk.now g.L.Disk.leaves d c.run_and_write-status.result.1.log) opened.devices.1 run.others)))
+    let engine = c.in-Ok-open_tablet.engine in
+    let parts = c.run_and_write-status.result.1 in
+    let near = c.run_and_write-status.ensures.near in
+    rw (← opened.devices.1, ← opened.devices.2, is.1, is.2) near
+
+pub returns-in-Err-clause-refused : goal.returns-in-Err-clause-refused
+returns-in-Err-clause-refused g c = λ e.
+    let is = c.end_with-in-Err.ensures in
+    let closed = c.in-Err.closed in
+    let r = c.refuse.ensures.refused (sym is.0 ∙ e) in
+    (closed.why, r.0, was_refused g.L.Disk.tells g.L.Disk.seen c.args.log g.D.Disk.tells g.D.Disk.seen c.args.store c.args.schema.now closed.why (c.in-Err.ensures.refused r.0), r.1)
+
+pub returns-in-Err-clause-stopped : goal.returns-in-Err-clause-stopped
+returns-in-Err-clause-stopped g c = λ e.
+    let is = c.end_with-in-Err.ensures in
+    let closed = c.in-Err.closed in
+    let r = c.refuse.ensures.fault (sym is.0 ∙ e) in (
+      rose_as g.L.Disk.faults g.D.Disk.faults refl refl is.1 is.2 (c.in-Err.ensures.fault r.0),
+      inl (r.1, is.3 ∙ c.in-Err.ensures.back, as_before g.L.Disk.tells g.L.Disk.now g.L.Disk.leaves g.D.Disk.tells g.D.Disk.now g.D.Disk.leaves c.args.schema.now c.args.log c.args.store closed.log _ closed.store _ c.in-Err.ensures.log_moment_err c.in-Err.ensures.store_moment_err c.in-Err.ensures.any_moment is.1 is.2),
+    )
+
+pub returns-in-Err-clause-untouched : goal.returns-in-Err-clause-untouched
+returns-in-Err-clause-untouched g c = λ e.
+    let is = c.end_with-in-Err.ensures in
+    let closed = c.in-Err.closed in
+    (is.3 ∙ c.in-Err.ensures.back, as_before g.L.Disk.tells g.L.Disk.now g.L.Disk.leaves g.D.Disk.tells g.D.Disk.now g.D.Disk.leaves c.args.schema.now c.args.log c.args.store closed.log _ closed.store _ c.in-Err.ensures.log_moment_err c.in-Err.ensures.store_moment_err c.in-Err.ensures.any_moment is.1 is.2)
+
+pub returns-in-Err-clause-cut : goal.returns-in-Err-clause-cut
+returns-in-Err-clause-cut g c = λ e.
+    let is = c.end_with-in-Err.ensures in
+    let closed = c.in-Err.closed in
+    let r = c.refuse.ensures.cut (sym is.0 ∙ e) in
+    let alone = as_before g.L.Disk.tells g.L.Disk.now g.L.Disk.leaves g.D.Disk.tells g.D.Disk.now g.D.Disk.leaves c.args.schema.now c.args.log c.args.store closed.log _ closed.store _ c.in-Err.ensures.log_moment_err c.in-Err.ensures.store_moment_err c.in-Err.ensures.any_moment is.1 is.2 in
+    let clock = is.3 ∙ c.in-Err.ensures.back in (
+      refusal_text closed.why,
+      r.1,
+      either
+          (λ refusal. inl (inl (closed.why, refusal, was_refused g.L.Disk.tells g.L.Disk.seen c.args.log g.D.Disk.tells g.D.Disk.seen c.args.store c.args.schema.now closed.why (c.in-Err.ensures.refused refusal), refl), clock, alone))
+          (λ failed. inl (inr (ap refusal_text failed, rose_as g.L.Disk.faults g.D.Disk.faults refl refl is.1 is.2 (c.in-Err.ensures.fault failed)), clock, alone)) r.2,
+    )
+
+-- what is found is refused for no reason
+pub returns-in-Err-clause-complete : goal.returns-in-Err-clause-complete
+returns-in-Err-clause-complete g c = λ found told tells answer sinks logs stores.
+    let is = c.end_with-in-Err.ensures in
+    let closed = c.in-Err.closed in
+    let r = c.refuse.ensures in
+    elim r.statuses [
+      | inl three ↦ let refusal = (r.refused three).0 in absurd (c.in-Err.ensures.only_err refusal told tells found answer)
+      | inr (inl four) ↦ absurd (neither_rose _ _ _ _ logs stores (rose_as g.L.Disk.faults g.D.Disk.faults refl refl is.1 is.2 (c.in-Err.ensures.fault (r.fault four).0)))
+      | inr (inr (inl six)) ↦ absurd (sinks (r.cut six).0)
+      | inr (inr (inr seven)) ↦ inr (is.0 ∙ seven)
+    ]
+
+pub returns-in-Err-clause-crash : goal.returns-in-Err-clause-crash
+returns-in-Err-clause-crash g c =
+    let is = c.end_with-in-Err.ensures in
+    let closed = c.in-Err.closed in
+    inl (as_before g.L.Disk.tells g.L.Disk.now g.L.Disk.leaves g.D.Disk.tells g.D.Disk.now g.D.Disk.leaves c.args.schema.now c.args.log c.args.store closed.log _ closed.store _ c.in-Err.ensures.log_moment_err c.in-Err.ensures.store_moment_err c.in-Err.ensures.any_moment is.1 is.2)
 
 pub returns-in-Err-clause-others : goal.returns-in-Err-clause-others
-returns-in-Err-clause-others g c = as_before_files _ _ (as_before g.L.Disk.tells g.L.Disk.now g.L.Disk.leaves c.args.log _ _ c.in-Err.ensures.frames c.end_with-in-Err.ensures.1)
+returns-in-Err-clause-others g c =
+    let is = c.end_with-in-Err.ensures in
+    let closed = c.in-Err.closed in
+    frames_files _ _ (as_before g.L.Disk.tells g.L.Disk.now g.L.Disk.leaves g.D.Disk.tells g.D.Disk.now g.D.Disk.leaves c.args.schema.now c.args.log c.args.store closed.log _ closed.store _ c.in-Err.ensures.log_moment_err c.in-Err.ensures.store_moment_err c.in-Err.ensures.any_moment is.1 is.2).frames
 
-pub returns-in-Err-clause-near : goal.returns-in-Err-clause-near
-returns-in-Err-clause-near g c = as_before_near _ _ (as_before g.L.Disk.tells g.L.Disk.now g.L.Disk.leaves c.args.log _ _ c.in-Err.ensures.frames c.end_with-in-Err.ensures.1)
+pub returns-in_default-clause-crash : goal.returns-in_default-clause-crash
+returns-in_default-clause-crash g c = let is = c.end_with.ensures in inl (let_be g.L.Disk.tells g.L.Disk.now g.L.Disk.leaves g.D.Disk.tells g.D.Disk.now g.D.Disk.leaves c.args.schema.now c.args.log c.args.store _ _ is.1 is.2)
 
-pub returns-in_default-clause-near : goal.returns-in_default-clause-near
-returns-in_default-clause-near g c = still_near g.L.Disk.tells g.L.Disk.now g.L.Disk.leaves c.args.log _ c.end_with.ensures.1
+pub returns-in_default-clause-openable : goal.returns-in_default-clause-openable
+returns-in_default-clause-openable g c = let is = c.end_with.ensures in rw is.1 c.requires.openable
+
+pub returns-in_default-clause-stand : goal.returns-in_default-clause-stand
+returns-in_default-clause-stand g c = let is = c.end_with.ensures in rw is.2 c.requires.stand

@@ -1,52 +1,96 @@
-use Rattle.std.proofs.Common.{◌≡◌, inl, inr, true, map, rules}
+use Rattle.std.proofs.Common.{◌≡◌, inl, inr, true, false}
 use Rattle.std.specs.Io.KnownBytes.{Appends}
-use Rattle.kt_base.specs.Causes.{Grows, Rose}
-use Rattle.kt_script.specs.Scripts.{Said}
-use Rattle.kt_app.specs.Headline.{AreRun}
-use Rattle.kt_app.specs.TableRules.{rules_of}
-use Rattle.kt_app.specs.Crash.{CrashLeaves, IsRead, RunsPlan, work_of}
+use Rattle.kt_base.specs.Causes.{Grows}
+use Rattle.kt_script.specs.Scripts.{Said, workload}
+use Rattle.kt_reopen.specs.Opened.{OneRose}
+use Rattle.kt_app.specs.Images.{CrashLeaves, IsRead, Both}
+use Rattle.kt_app.specs.Crash.{RunsPlan}
 use Rattle.kt_app.proofs.Numbers.{still_near}
 use Rattle.kt_app.proofs.SourceLaws.{runs_script, stops_script, either}
 use Rattle.kt_app.proofs.top.tablet_main.Goals as goal
 
-pub returns-in-Ok-clause-stopped : goal.returns-in-Ok-clause-stopped
-returns-in-Ok-clause-stopped g c = λ e.
+pub returns-in-Ok-take_script-clause-printed : goal.returns-in-Ok-take_script-clause-printed
+returns-in-Ok-take_script-clause-printed g c = λ e.
+    let s : Said = record { columns = c.in-Ok-take_script.field-0.schema; plan = c.in-Ok-take_script.field-0.plan } in
+    let known = c.in-Ok-take_script.ensures.said in
+    let settings = c.in-Ok.settings in
+    let form = c.in-Ok.ensures.settings in
+    runs_script _ s _ settings (λ text its said. RunsPlan (Grows (g.C.Clock.readings c.args.clock) (g.C.Clock.readings c.open_and_run.result.clock)) said.columns (Both (IsRead g.L.Disk.tells g.L.Disk.seen c.args.log) (IsRead g.D.Disk.tells g.D.Disk.seen c.args.store)) (Both (CrashLeaves g.L.Disk.tells g.L.Disk.now g.L.Disk.leaves c.open_and_run.result.log) (CrashLeaves g.D.Disk.tells g.D.Disk.now g.D.Disk.leaves c.open_and_run.result.store)) (workload its.cells said) false text) (λ text. Appends (g.K.Sink.written c.args.sink.now) (g.K.Sink.written c.open_and_run.new.sink) text) form known (c.open_and_run.ensures.printed e)
+
+pub returns-in-Ok-take_script-clause-stopped : goal.returns-in-Ok-take_script-clause-stopped
+returns-in-Ok-take_script-clause-stopped g c = λ e.
     let o = c.open_and_run.ensures.stopped e in
-    let s : Said = record { columns = c.in-Ok.field-0.schema; plan = c.in-Ok.field-0.plan } in
-    let known = c.in-Ok.ensures.said in (
+    let s : Said = record { columns = c.in-Ok-take_script.field-0.schema; plan = c.in-Ok-take_script.field-0.plan } in
+    let known = c.in-Ok-take_script.ensures.said in
+    let settings = c.in-Ok.settings in
+    let form = c.in-Ok.ensures.settings in (
       o.0,
       either (λ failed. inl (failed.0, failed.1, (s, known, failed.2)))
-          (λ run. inr (runs_script _ s (λ text said. RunsPlan (Grows (g.C.Clock.readings c.args.clock) (g.C.Clock.readings c.open_and_run.result.clock)) (rules_of said.columns) (IsRead g.L.Disk.tells g.L.Disk.seen c.args.log) (CrashLeaves g.L.Disk.tells g.L.Disk.now g.L.Disk.leaves c.open_and_run.result.log) (work_of said) true text)
-          (λ text. Appends (g.K.Sink.written c.args.sink.now) (g.K.Sink.written c.open_and_run.new.sink) text) known run)) o.1,
+          (λ run. inr (runs_script _ s _ settings (λ text its said. RunsPlan (Grows (g.C.Clock.readings c.args.clock) (g.C.Clock.readings c.open_and_run.result.clock)) said.columns (Both (IsRead g.L.Disk.tells g.L.Disk.seen c.args.log) (IsRead g.D.Disk.tells g.D.Disk.seen c.args.store)) (Both (CrashLeaves g.L.Disk.tells g.L.Disk.now g.L.Disk.leaves c.open_and_run.result.log) (CrashLeaves g.D.Disk.tells g.D.Disk.now g.D.Disk.leaves c.open_and_run.result.store)) (workload its.cells said) true text) (λ text. Appends (g.K.Sink.written c.args.sink.now) (g.K.Sink.written c.open_and_run.new.sink) text) form known run)) o.1,
     )
 
-pub returns-in-Ok-clause-cut : goal.returns-in-Ok-clause-cut
-returns-in-Ok-clause-cut g c = λ e.
+pub returns-in-Ok-take_script-clause-cut : goal.returns-in-Ok-take_script-clause-cut
+returns-in-Ok-take_script-clause-cut g c = λ e.
     let o = c.open_and_run.ensures.cut e in
-    let s : Said = record { columns = c.in-Ok.field-0.schema; plan = c.in-Ok.field-0.plan } in
-    let known = c.in-Ok.ensures.said in
-    let form : AreRun (map (λ w. w.now) c.args.words.now) = search rules in (
+    let s : Said = record { columns = c.in-Ok-take_script.field-0.schema; plan = c.in-Ok-take_script.field-0.plan } in
+    let known = c.in-Ok-take_script.ensures.said in
+    let settings = c.in-Ok.settings in
+    let form = c.in-Ok.ensures.settings in (
       o.0,
       o.1,
-      either (λ shut. inr (inl (s, form, known, shut.0, shut.1, shut.2)))
-          (λ run. inr (inr (
-            form,
-            stops_script _ s (λ stopped said. RunsPlan (Grows (g.C.Clock.readings c.args.clock) (g.C.Clock.readings c.open_and_run.result.clock)) (rules_of said.columns) (IsRead g.L.Disk.tells g.L.Disk.seen c.args.log) (CrashLeaves g.L.Disk.tells g.L.Disk.now g.L.Disk.leaves c.open_and_run.result.log) (work_of said) stopped o.0)
-                (λ stopped. stopped ≡ true → Rose (g.L.Disk.faults c.args.log) (g.L.Disk.faults c.open_and_run.result.log)) known run,
-          ))) o.2,
+      either (λ shut. inr (inl (s, settings, form, known, shut.0, shut.1, shut.2)))
+          (λ run. inr (inr (stops_script _ s _ settings (λ stopped its said. RunsPlan (Grows (g.C.Clock.readings c.args.clock) (g.C.Clock.readings c.open_and_run.result.clock)) said.columns (Both (IsRead g.L.Disk.tells g.L.Disk.seen c.args.log) (IsRead g.D.Disk.tells g.D.Disk.seen c.args.store)) (Both (CrashLeaves g.L.Disk.tells g.L.Disk.now g.L.Disk.leaves c.open_and_run.result.log) (CrashLeaves g.D.Disk.tells g.D.Disk.now g.D.Disk.leaves c.open_and_run.result.store)) (workload its.cells said) stopped o.0) (λ stopped. stopped ≡ true → OneRose (g.L.Disk.faults c.args.log) (g.L.Disk.faults c.open_and_run.result.log) (g.D.Disk.faults c.args.store) (g.D.Disk.faults c.open_and_run.result.store)) form known run))) o.2,
     )
 
-pub returns-then-not-are_run-clause-near : goal.returns-then-not-are_run-clause-near
-returns-then-not-are_run-clause-near g c = still_near g.L.Disk.tells g.L.Disk.now g.L.Disk.leaves c.args.log _ c.end_with.ensures.1
+pub returns-in-Ok-take_script-clause-crash : goal.returns-in-Ok-take_script-clause-crash
+returns-in-Ok-take_script-clause-crash g c =
+    let s : Said = record { columns = c.in-Ok-take_script.field-0.schema; plan = c.in-Ok-take_script.field-0.plan } in
+    let known = c.in-Ok-take_script.ensures.said in
+    let settings = c.in-Ok.settings in
+    let form = c.in-Ok.ensures.settings in
+    inr (s, settings, known, form, c.open_and_run.ensures.crash)
 
-pub returns-in-Err-Line-clause-near : goal.returns-in-Err-Line-clause-near
-returns-in-Err-Line-clause-near g c = still_near g.L.Disk.tells g.L.Disk.now g.L.Disk.leaves c.args.log _ c.end_with-in-Err-Line.ensures.1
+pub returns-in-Err-Form-clause-near : goal.returns-in-Err-Form-clause-near
+returns-in-Err-Form-clause-near g c = let is = c.end_with.ensures in still_near g.L.Disk.tells g.L.Disk.now g.L.Disk.leaves g.D.Disk.tells g.D.Disk.now g.D.Disk.leaves c.args.log _ c.args.store _ is.1 is.2
 
-pub returns-in-Err-Failed-clause-near : goal.returns-in-Err-Failed-clause-near
-returns-in-Err-Failed-clause-near g c = still_near g.L.Disk.tells g.L.Disk.now g.L.Disk.leaves c.args.log _ c.end_with-in-Err-Failed.ensures.1
+pub returns-in-Err-Form-clause-openable : goal.returns-in-Err-Form-clause-openable
+returns-in-Err-Form-clause-openable g c = let is = c.end_with.ensures in rw is.1 c.requires.openable
+
+pub returns-in-Err-Form-clause-stand : goal.returns-in-Err-Form-clause-stand
+returns-in-Err-Form-clause-stand g c = let is = c.end_with.ensures in rw is.2 c.requires.stand
 
 pub returns-in-Err-Memory-clause-near : goal.returns-in-Err-Memory-clause-near
-returns-in-Err-Memory-clause-near g c = still_near g.L.Disk.tells g.L.Disk.now g.L.Disk.leaves c.args.log _ c.end_with-in-Err-Memory.ensures.1
+returns-in-Err-Memory-clause-near g c = let is = c.end_with-in-Err-Memory.ensures in still_near g.L.Disk.tells g.L.Disk.now g.L.Disk.leaves g.D.Disk.tells g.D.Disk.now g.D.Disk.leaves c.args.log _ c.args.store _ is.1 is.2
 
-pub returns-then-not-are_run-clause-openable : goal.returns-then-not-are_run-clause-openable
-returns-then-not-are_run-clause-openable g c = let is = c.end_with.ensures in rw is.1 c.requires.openable
+pub returns-in-Err-Memory-clause-openable : goal.returns-in-Err-Memory-clause-openable
+returns-in-Err-Memory-clause-openable g c = let is = c.end_with-in-Err-Memory.ensures in rw is.1 c.requires.openable
+
+pub returns-in-Err-Memory-clause-stand : goal.returns-in-Err-Memory-clause-stand
+returns-in-Err-Memory-clause-stand g c = let is = c.end_with-in-Err-Memory.ensures in rw is.2 c.requires.stand
+
+pub returns-in-Err-Line-clause-near : goal.returns-in-Err-Line-clause-near
+returns-in-Err-Line-clause-near g c = let is = c.end_with-in-Err-Line.ensures in still_near g.L.Disk.tells g.L.Disk.now g.L.Disk.leaves g.D.Disk.tells g.D.Disk.now g.D.Disk.leaves c.args.log _ c.args.store _ is.1 is.2
+
+pub returns-in-Err-Line-clause-openable : goal.returns-in-Err-Line-clause-openable
+returns-in-Err-Line-clause-openable g c = let is = c.end_with-in-Err-Line.ensures in rw is.1 c.requires.openable
+
+pub returns-in-Err-Line-clause-stand : goal.returns-in-Err-Line-clause-stand
+returns-in-Err-Line-clause-stand g c = let is = c.end_with-in-Err-Line.ensures in rw is.2 c.requires.stand
+
+pub returns-in-Err-Failed-clause-near : goal.returns-in-Err-Failed-clause-near
+returns-in-Err-Failed-clause-near g c = let is = c.end_with-in-Err-Failed.ensures in still_near g.L.Disk.tells g.L.Disk.now g.L.Disk.leaves g.D.Disk.tells g.D.Disk.now g.D.Disk.leaves c.args.log _ c.args.store _ is.1 is.2
+
+pub returns-in-Err-Failed-clause-openable : goal.returns-in-Err-Failed-clause-openable
+returns-in-Err-Failed-clause-openable g c = let is = c.end_with-in-Err-Failed.ensures in rw is.1 c.requires.openable
+
+pub returns-in-Err-Failed-clause-stand : goal.returns-in-Err-Failed-clause-stand
+returns-in-Err-Failed-clause-stand g c = let is = c.end_with-in-Err-Failed.ensures in rw is.2 c.requires.stand
+
+pub returns-in-Err-Memory-take_script-clause-near : goal.returns-in-Err-Memory-take_script-clause-near
+returns-in-Err-Memory-take_script-clause-near g c = let is = c.end_with-in-Err-Memory-take_script.ensures in still_near g.L.Disk.tells g.L.Disk.now g.L.Disk.leaves g.D.Disk.tells g.D.Disk.now g.D.Disk.leaves c.args.log _ c.args.store _ is.1 is.2
+
+pub returns-in-Err-Memory-take_script-clause-openable : goal.returns-in-Err-Memory-take_script-clause-openable
+returns-in-Err-Memory-take_script-clause-openable g c = let is = c.end_with-in-Err-Memory-take_script.ensures in rw is.1 c.requires.openable
+
+pub returns-in-Err-Memory-take_script-clause-stand : goal.returns-in-Err-Memory-take_script-clause-stand
+returns-in-Err-Memory-take_script-clause-stand g c = let is = c.end_with-in-Err-Memory-take_script.ensures in rw is.2 c.requires.stand

@@ -14,16 +14,16 @@ pub returns-in-Err-Memory-clause-tablet : goal.returns-in-Err-Memory-clause-tabl
 returns-in-Err-Memory-clause-tablet g c = inl (ap (λ v. v.tablet) c.log_back.ensures.home)
 
 pub returns-in-Err-Fault-clause-root : goal.returns-in-Err-Fault-clause-root
-returns-in-Err-Fault-clause-root g c = ap root_of (c.stop.ensures.home _ refl) ∙ ap (λ t. root_of (record c.args.engine.now { tablet = t })) c.stop.ensures.core
+returns-in-Err-Fault-clause-root g c = ap root_of (c.stop.ensures.home _ refl) ∙ ap (λ t. root_of (record c.args.engine.now { tablet = t })) (c.stop.ensures.core c.requires.goes)
 
 pub returns-in-Err-Fault-clause-home : goal.returns-in-Err-Fault-clause-home
 returns-in-Err-Fault-clause-home g c = ap (λ v. v.log.holder) (c.stop.ensures.home _ refl)
 
 pub returns-in-Err-Fault-clause-tablet : goal.returns-in-Err-Fault-clause-tablet
-returns-in-Err-Fault-clause-tablet g c = inr c.stop.ensures.core
+returns-in-Err-Fault-clause-tablet g c = inr (c.stop.ensures.core c.requires.goes)
 
 pub returns-in-Err-Fault-clause-ends : goal.returns-in-Err-Fault-clause-ends
-returns-in-Err-Fault-clause-ends g c = just_stopped c.args.engine.now _ c.stop.ensures.core
+returns-in-Err-Fault-clause-ends g c = just_stopped c.args.engine.now _ (c.stop.ensures.core c.requires.goes)
 
 pub stop-requires-clause-images : goal.stop-requires-clause-images
 stop-requires-clause-images g c = λ batch is told.
@@ -36,3 +36,6 @@ stop-requires-clause-images g c = λ batch is told.
 
 pub stop-requires-clause-opens : goal.stop-requires-clause-opens
 stop-requires-clause-opens g c = λ batch is. of_batch (λ b. IsTrue g.L.Disk.tells → CanOpen g.L.Disk.now g.L.Disk.leaves b.journal.disk) _ batch is c.append_batch.ensures.openable
+
+pub returns-in-Err-Fault-clause-store : goal.returns-in-Err-Fault-clause-store
+returns-in-Err-Fault-clause-store g c = ap (λ v. v.store) (c.stop.ensures.home _ refl)

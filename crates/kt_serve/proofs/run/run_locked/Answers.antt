@@ -86,3 +86,9 @@ returns-clause-home g c =
     (λ j q e. (kept_each Kept c.run_all.new.places (joined c.split_all.new.pass) kept j q e).0)
     first
     (λ k past. c.close-engine.ensures.untouched k (omega (arith, past, count, given_is)) ∙ ap (λ o. told part_in o k) filled_is)
+
+-- no pass has the store out, as before the run
+pub returns-clause-store_home : goal.returns-clause-store_home
+returns-clause-store_home g c =
+    let root : root_of c.close-engine.result ≡ root_of c.args.engine = search rules in
+    ap (λ r. r.turn) root ∙ c.requires.fresh.store

@@ -10,9 +10,10 @@ use Rattle.kt_journal.proofs.Fresh.{fresh_opens, fresh_log}
 use Rattle.kt_engine.specs.Memory.{NamesDiffer}
 use Rattle.kt_engine.specs.Logged.{IsMem, AreCommits, NamesOnly}
 use Rattle.kt_engine.specs.Engines.{KeepsOthers}
-use Rattle.kt_engine.proofs.Bare.{bare_named, bare_takes_up, bare_numbers}
+use Rattle.kt_engine.proofs.Bare.{bare_named, bare_takes_up, any_numbers}
 use Rattle.kt_engine.proofs.Others.{opened_others}
 use Rattle.kt_engine.proofs.Empty.{due_none, untold_none, log_none, last_none}
+use Rattle.kt_trial.proofs.Table.{first_says}
 use Rattle.kt_trial.proofs.opening.engine.Goals as goal
 
 pub open_journal-requires : goal.open_journal-requires
@@ -30,7 +31,7 @@ of-requires-clause-named c =
     bare_named _ _ c.fresh-superblock.ensures (mems _ c.in_ok-tablet.ensures.names) (subst NamesDiffer (sym c.in_ok-tablet.ensures.names) (tt, tt))
 
 pub of-requires-clause-numbers : goal.of-requires-clause-numbers
-of-requires-clause-numbers c = bare_numbers _ _ _ c.fresh-superblock.ensures
+of-requires-clause-numbers c = any_numbers _ _ _
 
 pub of-requires-clause-log : goal.of-requires-clause-log
 of-requires-clause-log c = log_none c.in-Ok.records c.no_records-none.result c.no_records-none.ensures c.in-Ok.ensures.sound
@@ -57,3 +58,10 @@ of-requires-clause-names c = subst (All (NamesOnly c.in_ok-tablet.tablet.names))
 
 pub of-requires-clause-others : goal.of-requires-clause-others
 of-requires-clause-others c = λ told. subst (λ (d : MemView). KeepsOthers mem_now mem_leaves d c.in-Ok.journal.disk) (sym c.of-device.ensures) (opened_others mem_now mem_leaves c.new-disk.result c.in-Ok.journal.disk (c.in-Ok.ensures.frames told))
+
+pub of-requires-clause-superblock : goal.of-requires-clause-superblock
+of-requires-clause-superblock c = λ told. first_says c.args.schema.now _ _ _ c.in_ok-first_store.ensures.meta c.fresh-superblock.ensures
+
+pub of-requires-clause-mark : goal.of-requires-clause-mark
+of-requires-clause-mark c =
+    (ap (λ m. m.a) c.in_ok-first_store.ensures.meta ∙ sym c.in_ok-tablet.ensures.mark.0, c.in_ok-tablet.ensures.mark.1 ∙ sym c.in_ok-tablet.ensures.mark.0)

@@ -4,23 +4,28 @@ use Rattle.kt_tablet.specs.Rows.{AreRecorded}
 use Rattle.kt_tablet.specs.Visits.{HasHandedOut, HeldBy}
 use Rattle.kt_engine.proofs.Runs.{not_true}
 use Rattle.kt_engine.proofs.Ended.{has_ended, has_room}
+use Rattle.kt_engine.proofs.StoredWrites.{has_ended_stored}
 use Rattle.kt_engine.proofs.Visiting.{visit_of, lending, ended_visit}
 use Rattle.kt_engine.proofs.engine.Engine.end.Goals as goal
 
 pub push-requires : goal.push-requires
 push-requires g c =
     let ended = rw c.deref_mut.ensures.value at c.in_ok-ts.ensures.ended in
-    rw c.deref_mut-2.ensures.value (has_room _ _ _ _ _ _ ended.flight c.args.number ended.flies c.self.invariant)
+    rw c.deref_mut-2.ensures.value (has_room _ _ _ _ _ _ ended.flight c.args.number ended.flies c.self.invariant.0)
 
 pub invariant_of-self-2 : goal.invariant_of-self-2
 invariant_of-self-2 g c =
     let is = c.deref_mut.ensures.value in
     let stopped = rw is at c.in_ok-ts.ensures.stopped in
     let goes : c.self.inside.tablet.value.core.stopped ≡ false = not_true c.self.inside.tablet.value.core.stopped (λ b. stopped b) in
-    let may = (rw (← c.self.view_is) at c.requires) goes in
-    has_ended _ _ _ _ _ _
-    c.end.new.self c.push.new.self c.args.number c.in_ok-ts.field-0.index c.in_ok-ts.field-0.ts c.in_ok-ts.field-0.outcomes c.in_ok-ts.field-0.rows
-    (rw is at c.end.ensures.beside) (rw is at c.in_ok-ts.ensures.forgets) (rw is at c.in_ok-ts.ensures.ended) (rw c.deref_mut-2.ensures.value at c.push.ensures.queued) goes may (rw is at c.in_ok-ts.ensures.written) (rw is at c.in_ok-ts.ensures.handed) c.self.invariant
+    let may = (rw (← c.self.view_is) at c.requires) goes in (
+      has_ended _ _ _ _ _ _
+          c.end.new.self c.push.new.self c.args.number c.in_ok-ts.field-0.index c.in_ok-ts.field-0.ts c.in_ok-ts.field-0.outcomes c.in_ok-ts.field-0.rows
+          (rw is at c.end.ensures.beside) (rw is at c.in_ok-ts.ensures.forgets) (rw is at c.in_ok-ts.ensures.ended) (rw c.deref_mut-2.ensures.value at c.push.ensures.queued) goes may (rw is at c.in_ok-ts.ensures.written) (rw is at c.in_ok-ts.ensures.handed) c.self.invariant.0,
+      has_ended_stored g.L.Disk.tells g.L.Disk.seen g.L.Disk.now g.L.Disk.leaves g.L.Disk.faults g.D.Disk.tells g.D.Disk.seen g.D.Disk.faults _ c.self.invariant.0 c.self.invariant.1
+          c.end.new.self c.push.new.self c.args.number c.in_ok-ts.field-0.index c.in_ok-ts.field-0.ts c.in_ok-ts.field-0.outcomes c.in_ok-ts.field-0.rows
+          (rw is at c.end.ensures.beside) (rw is at c.in_ok-ts.ensures.forgets) (rw is at c.in_ok-ts.ensures.ended) (rw c.deref_mut-2.ensures.value at c.push.ensures.queued) may (rw is at c.in_ok-ts.ensures.written) (rw is at c.in_ok-ts.ensures.handed),
+    )
 
 pub returns-clause-visit : goal.returns-clause-visit
 returns-clause-visit g c =

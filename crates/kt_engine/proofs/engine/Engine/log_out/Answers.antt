@@ -6,7 +6,8 @@ use Rattle.kt_loglaws.specs.declared.side.LogNo.TheVariants as side
 use Rattle.kt_engine.specs.declared.log.LogNo.{LogNo}
 use Rattle.kt_engine.specs.declared.log.LogNo.TheVariants as no
 use Rattle.kt_engine.specs.Engines.{no_of}
-use Rattle.kt_engine.proofs.Devices.{lends}
+use Rattle.kt_engine.proofs.Devices.{lends, both_whole}
+use Rattle.kt_engine.proofs.Stored.{out_stored}
 use Rattle.kt_engine.proofs.Visiting.{visit_of, not_lent, out_visit}
 use Rattle.kt_engine.proofs.engine.Engine.log_out.Goals as goal
 
@@ -32,8 +33,10 @@ returns-in_err-log_out-clause-out g c =
 
 pub invariant_of-self-2 : goal.invariant_of-self-2
 invariant_of-self-2 g c =
-    let is = c.deref_mut.ensures.value in
-    lends g.L.Disk.tells g.L.Disk.seen g.L.Disk.now g.L.Disk.leaves g.L.Disk.faults _ c.log_out.new.self c.in_ok-log_out.field-0.journal c.args.number c.self.invariant (rw c.deref.ensures at (sym c.if-is_stopped.ensures)) (rw is at c.in_ok-log_out.ensures.lent.0) (rw is at c.in_ok-log_out.ensures.known.0) (rw is at c.in_ok-log_out.ensures.known.1) (rw is at c.in_ok-log_out.ensures.lent.2)
+    let is = c.deref_mut.ensures.value in (
+      lends g.L.Disk.tells g.L.Disk.seen g.L.Disk.now g.L.Disk.leaves g.L.Disk.faults _ c.log_out.new.self c.in_ok-log_out.field-0.journal c.args.number c.self.invariant.0 (rw c.deref.ensures at (sym c.if-is_stopped.ensures)) (rw is at c.in_ok-log_out.ensures.lent.0) (rw is at c.in_ok-log_out.ensures.known.0) (rw is at c.in_ok-log_out.ensures.known.1) (rw is at c.in_ok-log_out.ensures.lent.2),
+      out_stored g.L.Disk.tells g.L.Disk.seen g.D.Disk.tells g.D.Disk.seen g.D.Disk.faults _ c.self.invariant.1 c.log_out.new.self c.args.number (rw is at c.in_ok-log_out.ensures.known.1) (rw is at c.in_ok-log_out.ensures.lent.2),
+    )
 
 pub returns-clause-out : goal.returns-clause-out
 returns-clause-out g c =
@@ -49,3 +52,9 @@ returns-clause-visit g c =
     (out_visit c.args.number _ c.log_out.new.self
     (not_lent c.self.inside.log.value.holder (λ by h. let back = (out by).1 h in cc))
     (ap (λ l. l.holder) (rw is at c.in_ok-log_out.ensures.lent.2)))
+
+-- a tablet that goes on has its log whole
+pub log_out-requires : goal.log_out-requires
+log_out-requires g c =
+    let goes = rw c.deref.ensures at (sym c.if-is_stopped.ensures) in
+    record { whole = rw c.deref_mut.ensures.value (both_whole c.self.inside.log.value.whole c.self.inside.store.value.whole (sym goes ∙ c.self.invariant.0.whole)).0 }

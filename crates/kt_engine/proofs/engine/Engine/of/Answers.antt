@@ -1,33 +1,40 @@
 use Rattle.std.proofs.Common.{◌≡◌, refl, sym, ap, ◌∙◌}
-use Rattle.kt_engine.proofs.Opened.{is_opened, as_opened}
-use Rattle.kt_engine.proofs.Sessions.{running_keeps}
+use Rattle.kt_engine.proofs.Opened.{is_opened}
+use Rattle.kt_engine.proofs.OpenedBoth.{opened_both}
+use Rattle.kt_engine.proofs.StoreOpened.{store_opened}
 use Rattle.kt_engine.proofs.engine.Engine.of.Goals as goal
 
 pub invariant_of-result : goal.invariant_of-result
 invariant_of-result g c =
     let r = c.requires in
     let f = c.args.found in
-    running_keeps g.L.Disk.tells g.L.Disk.seen g.L.Disk.now g.L.Disk.leaves g.L.Disk.faults _ c.in-Ok.running (as_opened g.L.Disk.tells g.L.Disk.seen g.L.Disk.now g.L.Disk.leaves g.L.Disk.faults c.args.tablet c.args.journal f.records.now f.superblock.now c.args.queued c.args.store f.device.value c.in-Ok-new.tablet.value c.in-Ok-boxed_log.log.value c.of.result.value c.of-in-Ok-new.result.value c.in-Ok-new.ensures.ok c.in-Ok-boxed_log.ensures.side c.of.ensures c.of-in-Ok-new.ensures
-    (is_opened g.L.Disk.tells g.L.Disk.seen g.L.Disk.now g.L.Disk.leaves g.L.Disk.faults c.args.tablet c.args.journal f.records.now f.superblock.now c.args.queued c.args.store f.device.value
-    r.fresh.0 r.fresh.1 r.fresh.2 c.standing.ensures.placed r.named r.log r.commits r.taken_up r.numbers r.untold r.since r.last r.names r.count r.reads r.openable r.others r.faults))
+    opened_both g.L.Disk.tells g.L.Disk.seen g.L.Disk.now g.L.Disk.leaves g.L.Disk.faults g.D.Disk.tells g.D.Disk.seen g.D.Disk.faults c.args.tablet c.args.journal f.records.now f.superblock.now c.args.queued c.args.store f.store.value f.device.value c.in-Ok-new-2.tablet.value c.in-Ok-boxed_log.log.value c.of.result.value c.of-in-Ok-new-2.result.value c.in-Ok-new.store.value c.in-Ok.running
+    c.in-Ok-new-2.ensures.ok c.in-Ok-boxed_log.ensures.side c.of.ensures c.of-in-Ok-new-2.ensures c.in-Ok-new.ensures.ok
+    (is_opened g.L.Disk.tells g.L.Disk.seen g.L.Disk.now g.L.Disk.leaves g.L.Disk.faults c.args.tablet c.args.journal f.records.now f.superblock.now c.args.queued c.args.store f.store.value f.device.value r.store_home.2
+    r.fresh.0 r.fresh.1 r.fresh.2 c.standing.ensures.placed r.named r.log r.commits r.taken_up r.numbers r.untold r.since r.last r.names r.count r.reads r.openable r.others r.faults)
+    (store_opened g.L.Disk.tells g.L.Disk.seen g.D.Disk.tells g.D.Disk.seen g.D.Disk.faults c.args.tablet c.args.journal f.records.now f.superblock.now c.args.queued c.args.store f.store.value f.device.value
+    r.fresh.0 r.fresh.1 r.log r.commits r.taken_up r.numbers r.untold r.since r.last r.count r.reads r.store_home.1 r.superblock r.mark r.clock r.named r.store_faults (λ disk at. c.standing-2.ensures.whole r.store_home.2 disk at))
 
 pub boxed_log-requires : goal.boxed_log-requires
 boxed_log-requires g c = record { usable = c.requires.usable; durable = c.requires.durable }
 
 pub take_apart-journal-requires : goal.take_apart-journal-requires
-take_apart-journal-requires g c = record { home = ap (λ l. l.holder) (c.into_inner.ensures ∙ c.in-Ok-boxed_log.ensures.side) }
+take_apart-journal-requires g c = record { home = ap (λ l. l.holder) (c.into_inner-in-Err-new.ensures ∙ c.in-Ok-boxed_log.ensures.side) }
 
-pub returns-in-Ok-new : goal.returns-in-Ok-new
-returns-in-Ok-new g c = record {
-  view = λ k. record { tablet = c.in-Ok-new.ensures.ok k; log = c.in-Ok-boxed_log.ensures.side k; records = c.of.ensures k; super = c.of-in-Ok-new.ensures k; device = c.args.found.device.value; store = c.args.store; running = c.in-Ok.ensures k };
+pub returns-in-Ok-new-2 : goal.returns-in-Ok-new-2
+returns-in-Ok-new-2 g c = record {
+  view = λ k. record { tablet = c.in-Ok-new-2.ensures.ok k; log = c.in-Ok-boxed_log.ensures.side k; records = c.of.ensures k; super = c.of-in-Ok-new-2.ensures k; device = c.args.found.device.value; store = c.in-Ok-new.ensures.ok k; store_device = c.args.found.store.value; running = c.in-Ok.ensures k };
   back = tt;
 }
 
 pub returns-in-Err : goal.returns-in-Err
-returns-in-Err g c = record { view = tt; back = (refl, c.in-Err.ensures.back, refl) }
+returns-in-Err g c = record { view = tt; back = (refl, refl, c.in-Err.ensures.value_returned) }
+
+pub returns-in-Err-boxed_log : goal.returns-in-Err-boxed_log
+returns-in-Err-boxed_log g c = record { view = tt; back = (refl, c.in-Err-boxed_log.ensures.back, c.into_inner.ensures ∙ c.in-Ok-new.ensures.ok) }
 
 pub returns-in-Err-new : goal.returns-in-Err-new
 returns-in-Err-new g c =
-    let home = sym (ap (λ l. l.home) (c.into_inner.ensures ∙ c.in-Ok-boxed_log.ensures.side)) ∙ c.take_apart-journal.ensures.journal in
+    let home = sym (ap (λ l. l.home) (c.into_inner-in-Err-new.ensures ∙ c.in-Ok-boxed_log.ensures.side)) ∙ c.take_apart-journal.ensures.journal in
     let same : c.take_apart-journal.result.0 ≡ c.args.journal = cc in
-    record { view = tt; back = (c.in-Err-new.ensures.value_returned, same, refl) }
+    record { view = tt; back = (c.in-Err-new.ensures.value_returned, same, c.into_inner-in-Err-new-2.ensures ∙ c.in-Ok-new.ensures.ok) }

@@ -1,0 +1,49 @@
+-- A plan is taken: the store of an engine is kept.
+use Rattle.std.proofs.Common.{◌≡◌, ℕ, Bool, List, [], ◌∷◌, refl, sym, ap, ◌∙◌, subst}
+use Rattle.kt_disk.specs.Disk.{Files}
+use Rattle.kt_history.specs.declared.command.Command.{Command}
+use Rattle.kt_history.specs.Machine.{Workload, first_turns}
+use Rattle.kt_tablet.specs.Views.{View}
+use Rattle.kt_engine.specs.Engines.{EngineView, core_from}
+use Rattle.kt_engine.specs.Stored.{IsStored}
+use Rattle.kt_engine.proofs.Plans.{no_plan, past_at_first}
+
+pub plan_stored : {L D C : Type 0} (log_tells : Bool) (log_seen : L → Files) (tells : Bool) (seen : D → Files) (faults : D → ℕ) (view : EngineView L D C) → IsStored log_tells log_seen tells seen faults view → (tablet : View C) (plan : List (List Command))
+    → view.tablet.core.trail ≡ [] → view.tablet.core.work.plan ≡ [] → tablet ≡ record view.tablet { core = record view.tablet.core { work = record view.tablet.core.work { plan = plan }; turns = first_turns plan } }
+    → IsStored log_tells log_seen tells seen faults (record view { tablet = tablet })
+plan_stored {L} {D} {C} log_tells log_seen tells seen faults view is tablet plan fresh none new =
+    let work : Workload = record view.tablet.core.work { plan = plan } in
+    subst (λ (t : View C). IsStored log_tells log_seen tells seen faults (record view { tablet = t })) (sym new) (record {
+      run = is.run;
+      all = is.all;
+      count = is.count;
+      stands = record { log = is.stands.log; since = is.stands.since; last = is.stands.last; flying = is.stands.flying; untold = is.stands.untold };
+      keeps = λ rules first h passes t super one.
+          let k = is.keeps rules first (record { opens = h.opens; holds = h.holds }) (no_plan rules view.tablet.core.work none) t super one in
+          record {
+            since = k.since;
+            rest = k.rest;
+            parts = k.parts;
+            made = k.made;
+            low = k.low;
+            from = k.from;
+            up = k.up;
+            last = k.last;
+            mark = k.mark;
+            clock = k.clock;
+            named = k.named;
+            keeps = record {
+              recovered = k.keeps.recovered;
+              writes = k.keeps.writes ∙ past_at_first view.tablet.core.work first view.tablet.core.opened view.tablet.core.trail fresh ∙ sym (past_at_first work first view.tablet.core.opened view.tablet.core.trail fresh);
+              numbers = k.keeps.numbers;
+              stands = k.keeps.stands;
+            };
+          };
+      holds = is.holds;
+      columns = is.columns;
+      mark = is.mark;
+      marked = is.marked;
+      clock = is.clock;
+      later = is.later;
+      home = is.home;
+    })

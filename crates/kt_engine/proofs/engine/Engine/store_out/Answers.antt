@@ -1,0 +1,37 @@
+use Rattle.std.proofs.Common.{sym, ap, ◌∙◌}
+use Rattle.kt_engine.proofs.Devices.{store_keeps, both_whole}
+use Rattle.kt_engine.proofs.StoreEvents.{lent_stored}
+use Rattle.kt_engine.proofs.StorePurposes.{lent_is_next, publishes_settled, may_publish}
+use Rattle.kt_engine.proofs.engine.Engine.store_out.Goals as goal
+
+pub invariant_of-self : goal.invariant_of-self
+invariant_of-self g c =
+    let old = sym c.self.view_is in
+    let store = rw c.deref_mut.ensures.value at c.lend.ensures.side in
+    let side = rw c.deref-4.ensures at c.standing-2.ensures.side in
+    let meta = rw old at c.in-Ok.ensures.meta in (
+      store_keeps g.L.Disk.tells g.L.Disk.seen g.L.Disk.now g.L.Disk.leaves g.L.Disk.faults _ c.lend.new.self (ap (λ s. s.whole) store) c.self.invariant.0,
+      lent_stored g.L.Disk.tells g.L.Disk.seen g.D.Disk.tells g.D.Disk.seen g.D.Disk.now g.D.Disk.leaves g.D.Disk.faults _ c.self.invariant.1 side c.lend.new.self c.args.number c.in-Ok.meta store (lent_is_next c.args.purpose _ c.in-Ok.meta meta)
+          (λ m is. (rw old at c.requires.settled) (publishes_settled c.args.purpose _ c.in-Ok.meta meta m is)) (rw c.deref-3.ensures at c.standing.ensures.sound.stands),
+    )
+
+-- what goes out may be published
+
+pub returns-clause-ready : goal.returns-clause-ready
+returns-clause-ready g c =
+    let old = sym c.self.view_is in
+    let side = rw c.deref-4.ensures at c.standing-2.ensures.side in
+    let known = rw c.deref_mut.ensures.value at c.lend.ensures.device.1 in
+    let meta = rw old at c.in-Ok.ensures.meta in
+    may_publish g.D.Disk.tells g.D.Disk.seen g.D.Disk.now g.D.Disk.leaves g.D.Disk.faults _ side c.lend.result.device c.in-Ok.meta c.lend.result.meta known c.lend.ensures.meta (rw old at c.in-Ok.ensures.lent)
+
+-- a tablet that goes on has its store whole
+pub lend-requires-clause-whole : goal.lend-requires-clause-whole
+lend-requires-clause-whole g c =
+    let goes = rw c.deref.ensures at (sym c.if-is_stopped.ensures) in
+    rw c.deref_mut.ensures.value (both_whole c.self.inside.log.value.whole c.self.inside.store.value.whole (sym goes ∙ c.self.invariant.0.whole)).1
+
+pub lend-requires-clause-lent : goal.lend-requires-clause-lent
+lend-requires-clause-lent g c =
+    let old = sym c.self.view_is in
+    rw c.deref_mut.ensures.value (rw old at c.in-Ok.ensures.lent)

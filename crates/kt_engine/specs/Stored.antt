@@ -1,0 +1,114 @@
+-- The store of an engine: the superblock that it publishes and one that is lent, the run that the log keeps under each, and what a crash leaves of both devices.
+use Rattle.std.specs.Prelude.{◌≡◌, ◌⊎◌, ◌≤◌, ◌+◌, ◌++◌, ℕ, length, Bool, IsTrue, List, [], ◌∷◌, take, Some, None, Ok, Option}
+use Rattle.kt_base.specs.Causes.{Rose}
+use Rattle.kt_disk.specs.Disk.{Files}
+use Rattle.kt_history.specs.declared.event.Event.{Event}
+use Rattle.kt_history.specs.declared.event.Event.TheVariants as event
+use Rattle.kt_history.specs.History.{Past}
+use Rattle.kt_history.specs.declared.target.Target.{Target}
+use Rattle.kt_records.specs.declared.entry.Entry.{Entry}
+use Rattle.kt_journal.specs.Log.{log_of, records_of}
+use Rattle.kt_journal.specs.Open.{JournalView}
+use Rattle.kt_loglaws.specs.Side.{all_of}
+use Rattle.kt_histlaws.specs.Core.{Core}
+use Rattle.kt_super.specs.declared.meta.Meta.{Meta}
+use Rattle.kt_super.specs.Body.{IsMeta}
+use Rattle.kt_super.specs.Slots.{super_of, AreStable}
+use Rattle.kt_diskrowset.specs.Rowset.{HeldFiles}
+use Rattle.kt_files.specs.Reading.{HoldAll}
+use Rattle.kt_content.specs.Places.{Super}
+use Rattle.kt_content.specs.Rules.{Rules}
+use Rattle.kt_reopen.specs.Both.{super_in}
+use Rattle.kt_storeside.specs.Sides.{StoreView, HasEither}
+use Rattle.kt_storeside.specs.Next.{next_meta}
+use Rattle.kt_engine.specs.declared.store.Purpose.{Purpose}
+use Rattle.kt_engine.specs.declared.store.Purpose.TheVariants as purpose
+use Rattle.kt_engine.specs.Logged.{PlanPasses, LogStands, KeepsSince, HoldsUpTo}
+use Rattle.kt_engine.specs.Engines.{EngineView, IsContent, core_from}
+
+-- it is the superblock that is published, or the one that is lent
+abbrev pub IsOneOf : {D : Type 0} → StoreView D → Meta → Type 0
+IsOneOf store m = (m ≡ store.meta) ⊎ (store.lent ≡ Some m)
+
+-- the mark of the opening past, or that of a `mark` line
+abbrev pub IsMarkOf : ℕ → List Event → ℕ → Type 0
+IsMarkOf first [] a = a ≡ first
+IsMarkOf first (event.Mark s i to ∷ events) a = (a ≡ to) ⊎ IsMarkOf first events a
+IsMarkOf first (_ ∷ events) a = IsMarkOf first events a
+
+-- Each superblock that is published or lent has the mark that opening found or that of a `mark` line, no later last timestamp than the run, and one table.
+pub record AreMarked {L D C : Type 0} (view : EngineView L D C) : Type 0 where
+  pub mark : (m : Meta) → IsOneOf view.store m → IsMarkOf view.tablet.mark view.tablet.core.trail m.a
+  pub last : (m : Meta) → IsOneOf view.store m → m.c ≤ view.tablet.core.c
+  pub table : (m : Meta) → IsOneOf view.store m → m.schema ≡ view.store.meta.schema
+
+-- what one of them says, with what the files have that it names
+pub record IsSuperOf {D : Type 0} (seen : D → Files) (store : StoreView D) (super : Super) : Type 0 where
+  pub meta : Meta
+  pub one : IsOneOf store meta
+  pub held : List HeldFiles
+  pub hold : HoldAll (seen store.known) meta.rowsets held
+  pub is : super ≡ super_in meta held
+
+-- Beside a log that stands: under each superblock that is published or lent the log keeps the run for each past that opening found, from the records on that were
+-- durable as it was made. The files of each hold rowsets, and each has the same columns, the mark that opening found or that of a `mark` line, and no later last
+-- timestamp than the run. The store went out with no fewer faults than were handed in.
+pub record IsStored {L D C : Type 0} (log_tells : Bool) (log_seen : L → Files) (tells : Bool) (seen : D → Files) (faults : D → ℕ) (view : EngineView L D C) : Type 0 where
+  pub run : List Entry
+  pub all : IsTrue log_tells → view.records ++ run ≡ all_of log_seen view.log
+  pub count : length (view.records ++ run) ≡ view.log.known.count + length (view.log.out ++ view.log.queued)
+  pub stands : LogStands view.tablet.core view.records view.tablet.places run
+  pub keeps : (rules : Rules) (first : Past) → IsContent rules view first → PlanPasses rules view.tablet.core.work → IsTrue tells → (super : Super) → IsSuperOf seen view.store super
+      → KeepsSince rules (core_from view first) super view.tablet.names view.tablet.notes view.records run view.log.known.count
+  pub holds : IsTrue tells → (m : Meta) → IsOneOf view.store m → (held : List HeldFiles) × HoldAll (seen view.store.known) m.rowsets held
+  pub columns : (m : Meta) → view.store.lent ≡ Some m → m.schema ≡ view.store.meta.schema
+  pub mark : IsMarkOf view.tablet.mark view.tablet.core.trail view.tablet.core.a
+  pub marked : (m : Meta) → IsOneOf view.store m → IsMarkOf view.tablet.mark view.tablet.core.trail m.a
+  pub clock : (m : Meta) → IsOneOf view.store m → m.c ≤ view.tablet.core.c
+  pub later : faults view.store_device ≤ faults view.store.known
+  pub home : (disk : D) → view.store.home ≡ Some disk → faults view.store.known ≤ faults disk
+
+-- An image of the log and one of the store: with the superblock of the one, and what the files hold that it names, the records of the other hold the opened past
+-- from its mark on, with the run's writes up to some time, each acknowledged one among them.
+pub record HoldsBoth (rules : Rules) (core : Core) (store : Meta → Type 0) (found : List Entry) (stores : List Target) (log_image image : Files) : Type 0 where
+  pub meta : Meta
+  pub superblock : super_of image ≡ Ok (Some meta)
+  pub one : store meta
+  pub held : List HeldFiles
+  pub hold : HoldAll image meta.rowsets held
+  pub front : HoldsUpTo rules core (super_in meta held) found stores log_image
+
+-- So it is of an image with what is durable and some of the records that are out and queued, and one with a superblock that is published or lent
+-- and the files that it names: what a crash leaves at any moment, wherever both devices are.
+abbrev pub RecoversPair : {L D C : Type 0} → Bool → (L → Files) → Bool → (D → Files) → EngineView L D C → Type 0
+RecoversPair log_tells log_seen tells seen view = (rules : Rules) (first : Past) → IsContent rules view first → PlanPasses rules view.tablet.core.work → IsTrue log_tells → IsTrue tells
+    → (n : ℕ) (log_image image : Files) → log_of log_image ≡ Ok (records_of (log_seen view.log.known.disk) ++ take n (view.log.out ++ view.log.queued)) → HasEither seen view.store image
+    → HoldsBoth rules (core_from view first) (IsOneOf view.store) view.records view.tablet.names log_image image
+
+-- And of each pair that a crash now leaves of both devices at home
+abbrev pub RecoversBoth : {L D C : Type 0} → Bool → (L → ℕ) → (L → ℕ → Files → Type 0) → Bool → (D → ℕ) → (D → ℕ → Files → Type 0) → EngineView L D C → Type 0
+RecoversBoth log_tells log_now log_leaves tells now leaves view = (rules : Rules) (first : Past) → IsContent rules view first → PlanPasses rules view.tablet.core.work → IsTrue log_tells → IsTrue tells
+    → (journal : JournalView _) → view.log.home ≡ Some journal → (disk : _) → view.store.home ≡ Some disk
+    → (log_image image : Files) → log_leaves journal.disk (log_now journal.disk) log_image → leaves disk (now disk) image
+    → HoldsBoth rules (core_from view first) (IsOneOf view.store) view.records view.tablet.names log_image image
+
+-- a device that has failed has more faults than were handed in
+pub record HasFailed {L D C : Type 0} (log_faults : L → ℕ) (faults : D → ℕ) (view : EngineView L D C) : Type 0 where
+  pub log : (journal : JournalView L) → view.log.home ≡ Some journal → log_faults view.device ≤ log_faults journal.disk
+  pub store : (disk : D) → view.store.home ≡ Some disk → faults view.store_device ≤ faults disk
+  pub one : IsTrue view.tablet.core.stopped → (journal : JournalView L) → view.log.home ≡ Some journal → (disk : D) → view.store.home ≡ Some disk
+      → Rose (log_faults view.device) (log_faults journal.disk) ⊎ Rose (faults view.store_device) (faults disk)
+
+-- the superblock that an engine lends for publishing where no job has changed a store
+abbrev pub next_super : {L D C : Type 0} → EngineView L D C → Meta
+next_super view = next_meta view.store view.tablet.core.a view.tablet.core.c view.log.known.count
+
+abbrev pub meta_for : {L D C : Type 0} → Purpose → EngineView L D C → Option Meta
+meta_for purpose.Write view = None
+meta_for purpose.Publish view = Some (next_super view)
+
+-- what a pass may do with the store that it has out: publish that superblock
+pub record MayPublish {D : Type 0} (tells : Bool) (seen : D → Files) (now : D → ℕ) (leaves : D → ℕ → Files → Type 0) (disk : D) (m : Meta) : Type 0 where
+  pub rules : IsMeta m
+  pub stable : IsTrue tells → AreStable seen now leaves disk
+  pub next : IsTrue tells → (was : Meta) × (super_of (seen disk) ≡ Ok (Some was)) × (m.number ≡ was.number + 1)

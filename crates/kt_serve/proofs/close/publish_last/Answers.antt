@@ -1,0 +1,21 @@
+use Rattle.std.proofs.Common.{◌≡◌, Err, Some, None, refl, sym, ap, ◌∙◌, subst}
+use Rattle.kt_engine.specs.Visits.{root_of}
+use Rattle.kt_serve.proofs.Closing.{none_some, done_on}
+use Rattle.kt_serve.proofs.close.publish_last.Goals as goal
+
+-- no pass has it, and the tablet goes on
+
+pub unreachable-requires-in-Err-Out : goal.unreachable-requires-in-Err-Out
+unreachable-requires-in-Err-Out g c =
+    let out = (c.store_out.ensures.out c.in-Err-Out.field-0-0).0 (c.in-Err-Out.is ∙ ap Err c.in-Err-Out.field-0-is) in
+    none_some c.in-Err-Out.field-0-0 (sym c.requires.store_home ∙ out.1)
+
+pub store_out-requires-clause-settled : goal.store_out-requires-clause-settled
+store_out-requires-clause-settled g c = λ publishes. (c.requires.done.out, c.requires.done.queued)
+
+pub publish_lent-requires-clause-done : goal.publish_lent-requires-clause-done
+publish_lent-requires-clause-done g c = done_on c.args.engine.now _ c.requires.done (ap (λ v. v.tablet) c.in-Ok.ensures.lent.2) (ap (λ v. v.log) c.in-Ok.ensures.lent.2)
+
+pub returns-in-Ok-clause-root : goal.returns-in-Ok-clause-root
+returns-in-Ok-clause-root g c =
+    c.publish_lent.ensures.root ∙ ap (λ v. record (root_of v) { turn = None }) c.in-Ok.ensures.lent.2 ∙ (λ k. record (root_of c.args.engine.now) { turn = sym c.requires.store_home k })
