@@ -1,12 +1,12 @@
 -- What keeps the store of an engine standing: it goes out, it comes home, and it comes home after a fault.
 use Rattle.std.proofs.Common.{◌≡◌, ℕ, ◌≤◌, Bool, IsTrue, true, false, Option, Some, None, refl, sym, subst, ◌∙◌, arith, inl, inr}
-use Rattle.std.specs.Prelude.{◌⊎◌, Ok}
+use Rattle.std.specs.Prelude.{Ok}
 use Rattle.kt_base.specs.Causes.{Rose}
 use Rattle.kt_disk.specs.Disk.{Files}
 use Rattle.kt_super.specs.declared.meta.Meta.{Meta}
 use Rattle.kt_super.specs.Body.{IsMeta}
 use Rattle.kt_super.specs.Slots.{super_of, AreStable}
-use Rattle.kt_storeside.specs.Supers.{FilesStand, Publishes, HasSuper}
+use Rattle.kt_storeside.specs.Supers.{FilesStand, Publishes, HasSuper, NamedStand}
 use Rattle.kt_storeside.specs.Turns.{IsTurn, HasOneOf}
 use Rattle.kt_storeside.specs.Sides.{StoreView, known_in, lent_in, holder_in, published_in, side_of, HasEither, MayBeLent, IsSide}
 use Rattle.kt_storeside.proofs.Named.{first_file}
@@ -27,20 +27,25 @@ module _ {D : Type 0} (tells : Bool) (seen : D → Files) (now : D → ℕ) (lea
       known (Some d) true is at = cc
       known (Some d) false is at = absurd cc
 
+  -- the superblock of each image of a device that publishes one
+  published_super : (m : Meta) (disk : D) → Publishes seen now leaves m disk → (c : Files) → leaves disk (now disk) c → super_of c ≡ Ok (Some m)
+  published_super m disk p c left = same_slots (seen disk) c (p.slots 1 (inl refl) c left) (p.slots 2 (inr refl) c left) ∙ p.superblock
+    where
+      same_slots : (f g : Files) → g 1 ≡ f 1 → g 2 ≡ f 2 → super_of g ≡ super_of f
+      same_slots f g one two = cc
+
   pub home_has_super : (v : StoreView D) → Stands v → (disk : D) → disk ≡ v.known → IsTrue tells → (c : Files) → leaves disk (now disk) c → HasSuper (seen disk) v.meta c
   home_has_super v s disk e t c left = subst (λ (d : D). leaves d (now d) c → HasSuper (seen d) v.meta c) (sym e) (λ l. record {
-    superblock = superblock l;
-    named_are = λ n is. p.files c l n is;
+    superblock = published_super v.meta v.known (s.publishes t) c l;
+    named_are = λ n is. (s.publishes t).files c l n is;
   }) left
-    where
-      p : Publishes seen now leaves v.meta v.known
-      p = s.publishes t
 
-      superblock : leaves v.known (now v.known) c → super_of c ≡ Ok (Some v.meta)
-      superblock l = same_slots (seen v.known) c (p.slots 1 (inl refl) c l) (p.slots 2 (inr refl) c l) ∙ p.superblock
-        where
-          same_slots : (f g : Files) → g 1 ≡ f 1 → g 2 ≡ f 2 → super_of g ≡ super_of f
-          same_slots f g one two = cc
+  one_super : (c : Files) (m k : Meta) → super_of c ≡ Ok (Some m) → super_of c ≡ Ok (Some k) → m ≡ k
+  one_super c m k e f = cc
+
+  -- nothing is pending of the files that it names
+  pub named_stand : (m : Meta) (disk : D) → Publishes seen now leaves m disk → NamedStand seen now leaves disk
+  named_stand m disk p c left k is = subst (λ (x : Meta). FilesStand seen now leaves x disk) (one_super c m k (published_super m disk p c left) is) p.files
 
   -- it goes out
   pub out_stands : (home : Option D) (whole : Bool) (went : D) (by : ℕ) (meta : Meta) (lent : Option Meta) (nr nf : ℕ) (disk : D) (number : ℕ) (later : Option Meta)
@@ -57,7 +62,7 @@ module _ {D : Type 0} (tells : Bool) (seen : D → Files) (now : D → ℕ) (lea
     lent_is = λ m e. record { next = (may m e).next; files = (may m e).files };
     broken = λ un other out. absurd cc;
     rose = λ un other out. absurd cc;
-    stand = λ un other out. absurd cc;
+    stand = λ other out. absurd cc;
   })
     where
       same : d ≡ disk
@@ -86,16 +91,22 @@ module _ {D : Type 0} (tells : Bool) (seen : D → Files) (now : D → ℕ) (lea
     rules = k.rules;
     rowsets = omega (arith, k.rowsets, le);
     files = omega (arith, k.files, le');
-    publishes = λ t. record { superblock = superblock t; slots = slots t; files = still_stand seen now leaves nf nf' went disk (turn t) (published_in published given meta) k.rules k.files (k.stand t) };
+    publishes = publishes;
     vacant = λ t n above. (turn t).reads n (left_above nf nf' n (omega (arith, first_file meta s.rules, s.files)) le' above) ∙ s.vacant t n (omega (arith, le', above));
     lent_is = λ m e. absurd cc;
     broken = λ un d at. absurd cc;
     rose = λ un d at. absurd cc;
-    stand = λ un d at. absurd cc;
+    stand = λ d at t. subst (λ (x : D). NamedStand seen now leaves x) (at_home d at) (named_stand (published_in published given meta) disk (publishes t));
   }
     where
       k : IsKept (published_in published given meta) nr nf went
       k = subst (λ (o : Option Meta). IsKept (published_in published o meta) nr nf went) (sym same) (kept published went by meta lent nr nf s)
+
+      publishes : IsTrue tells → Publishes seen now leaves (published_in published given meta) disk
+      publishes t = record { superblock = superblock t; slots = slots t; files = still_stand seen now leaves nf nf' went disk (turn t) (published_in published given meta) k.rules k.files (k.stand t) }
+
+      at_home : (d : D) → Some disk ≡ Some d → disk ≡ d
+      at_home d at = cc
 
   -- it comes home after a fault
   pub broken_stands : (home : Option D) (whole : Bool) (went : D) (by : ℕ) (meta : Meta) (lent : Option Meta) (nr nf : ℕ) (disk : D) (number nf' : ℕ)
@@ -111,7 +122,7 @@ module _ {D : Type 0} (tells : Bool) (seen : D → Files) (now : D → ℕ) (lea
     lent_is = λ m e. record { next = (s.lent_is m e).next; files = (s.lent_is m e).files };
     broken = λ no d at t c is. subst (λ (k : D). leaves k (now k) c → HasEither seen (side_of (Some disk) false went by meta lent nr nf) c) (same d at) (either t c) is;
     rose = λ un d at. subst (λ (k : D). Rose (faults went) (faults k)) (same d at) rose;
-    stand = λ un d at t m of. subst (λ (k : D). FilesStand seen now leaves m k) (same d at) (named t m of);
+    stand = λ d at t. subst (λ (k : D). NamedStand seen now leaves k) (same d at) (named t);
   }
     where
       same : (d : D) → Some disk ≡ Some d → disk ≡ d
@@ -121,9 +132,18 @@ module _ {D : Type 0} (tells : Bool) (seen : D → Files) (now : D → ℕ) (lea
       has t m rules given stand c is e = record { superblock = e; named_are = image_has seen now leaves nf nf' went disk (turn t) m rules given stand c is }
 
       -- nothing is pending of the files of either
-      named : IsTrue tells → (m : Meta) → (m ≡ meta) ⊎ (lent ≡ Some m) → FilesStand seen now leaves m disk
-      named t m (inl is) = subst (λ (k : Meta). FilesStand seen now leaves k disk) (sym is) (still_stand seen now leaves nf nf' went disk (turn t) meta s.rules s.files ((s.publishes t).files))
-      named t m (inr is) = let may = s.lent_is m is in still_stand seen now leaves nf nf' went disk (turn t) m may.next.rules may.next.files (may.files t)
+      of_meta : IsTrue tells → FilesStand seen now leaves meta disk
+      of_meta t = still_stand seen now leaves nf nf' went disk (turn t) meta s.rules s.files ((s.publishes t).files)
+
+      of_new : (o : Option Meta) → lent ≡ o → IsTrue tells → FilesStand seen now leaves (published_in true o meta) disk
+      of_new None e t = of_meta t
+      of_new (Some m) e t = let may = s.lent_is m e in still_stand seen now leaves nf nf' went disk (turn t) m may.next.rules may.next.files (may.files t)
+
+      named : IsTrue tells → NamedStand seen now leaves disk
+      named t c left k is = elim (one t c left) [
+        | inl old ↦ subst (λ (x : Meta). FilesStand seen now leaves x disk) (one_super c meta k old is) (of_meta t)
+        | inr new ↦ subst (λ (x : Meta). FilesStand seen now leaves x disk) (one_super c (published_in true lent meta) k new is) (of_new lent refl t)
+      ]
 
       of_lent : (o : Option Meta) → lent ≡ o → IsTrue tells → (c : Files) → leaves disk (now disk) c → super_of c ≡ Ok (Some (published_in true o meta)) → HasEither seen (side_of (Some disk) false went by meta lent nr nf) c
       of_lent None e t c is told = inl (has t meta s.rules s.files ((s.publishes t).files) c is told)

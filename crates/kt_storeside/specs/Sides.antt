@@ -4,7 +4,7 @@ use Rattle.kt_base.specs.Causes.{Rose}
 use Rattle.kt_disk.specs.Disk.{Files}
 use Rattle.kt_super.specs.declared.meta.Meta.{Meta}
 use Rattle.kt_super.specs.Body.{IsMeta}
-use Rattle.kt_storeside.specs.Supers.{FilesStand, Publishes, HasSuper, IsSuccessor}
+use Rattle.kt_storeside.specs.Supers.{FilesStand, Publishes, HasSuper, IsSuccessor, NamedStand}
 
 -- known is the device as it is, or as it last went out; home is the device where it is at home; holder is the pass that has it out. meta is the
 -- superblock that is published, and lent the one that went out to be. The next numbers have not been given yet. After a fault it is no longer whole.
@@ -58,7 +58,7 @@ pub record MayBeLent {D : Type 0} (tells : Bool) (seen : D → Files) (now : D �
   pub files : IsTrue tells → FilesStand seen now leaves m v.known
 
 -- The store stands: the known device publishes its superblock, no file has a number that is still to be given, and what was lent may be. After
--- a fault each image has one of both superblocks, and nothing is pending of the data files that these name.
+-- a fault each image has one of both superblocks. At home nothing is pending of the data files that the superblock of an image names.
 pub record IsSide {D : Type 0} (tells : Bool) (seen : D → Files) (now : D → ℕ) (leaves : D → ℕ → Files → Type 0) (faults : D → ℕ) (v : StoreView D) : Type 0 where
   pub rules : IsMeta v.meta
   pub rowsets : v.meta.next_rowset ≤ v.next_rowset
@@ -68,4 +68,4 @@ pub record IsSide {D : Type 0} (tells : Bool) (seen : D → Files) (now : D → 
   pub lent_is : (m : Meta) → v.lent ≡ Some m → MayBeLent tells seen now leaves v m
   pub broken : v.whole ≡ false → (disk : D) → v.home ≡ Some disk → IsTrue tells → LeavesEither seen now leaves v disk
   pub rose : v.whole ≡ false → (disk : D) → v.home ≡ Some disk → Rose (faults v.known) (faults disk)
-  pub stand : v.whole ≡ false → (disk : D) → v.home ≡ Some disk → IsTrue tells → (m : Meta) → (m ≡ v.meta) ⊎ (v.lent ≡ Some m) → FilesStand seen now leaves m disk
+  pub stand : (disk : D) → v.home ≡ Some disk → IsTrue tells → NamedStand seen now leaves disk
