@@ -1,5 +1,5 @@
 -- What is found is not refused.
-use Rattle.std.proofs.Common.{◌≡◌, ◌<◌, ◌≤◌, ℕ, List, [], ◌∷◌, length, Some, None, Result, Ok, Err, inl, inr, sym, ◌∙◌, subst, arith}
+use Rattle.std.proofs.Common.{◌≡◌, ◌<◌, ℕ, List, [], length, Option, Some, None, Result, Ok, Err, inl, inr, sym, ap, ◌∙◌, subst, arith}
 use Rattle.kt_disk.specs.Disk.{Files, HoldBytes, held as held_by}
 use Rattle.kt_records.specs.declared.entry.Entry.{Entry}
 use Rattle.kt_schema.specs.declared.column.Column.{Column}
@@ -17,9 +17,21 @@ use Rattle.std.proofs.lemmas.Bool.{cases_lt}
 use Rattle.std.proofs.lemmas.List.{get_or_past}
 use Rattle.std.proofs.lemmas.List.Elements.{All-get_or}
 use Rattle.kt_reopen.specs.declared.why.Why.{Why}
-use Rattle.kt_reopen.specs.Both.{Found, Answers, AnswersLater, super_in, stores_after, found_or_late}
+use Rattle.kt_reopen.specs.Both.{Read, Found, Answers, AnswersLater, super_in, stores_after, found_or_late}
 use Rattle.kt_reopen.specs.Both.Answers.{at_once, first, later}
 use Rattle.kt_reopen.specs.Both.AnswersLater.{in_file, in_column, too_late, whole}
+
+-- what was read of the slots and the log, in parts
+abbrev meta_in : Read → Option Meta
+meta_in (Ok read) = read.0
+meta_in (Err why) = None
+
+abbrev records_in : Read → List Entry
+records_in (Ok read) = read.1
+records_in (Err why) = []
+
+is_both : {G : Type 0} (found : Option Meta × List Entry) (why : Why) {read : Read} → read ≡ Ok found → read ≡ Err why → G
+is_both found why e f = let clash : Ok found ≡ Err why = sym e ∙ f in absurd cc
 
 -- Files that hold what a superblock says have no first fault, where what is read of them are bytes.
 module _ (store : Files) (are : (f : FileRef) → IsBytes (bytes_of store f)) where
@@ -41,15 +53,15 @@ module _ (store : Files) (are : (f : FileRef) → IsBytes (bytes_of store f)) wh
 
   pub found_is_not_refused : (columns : List Column) (log : Files) (f : Found) (why : Why) → Answers columns log store (Ok f) → Answers columns log store (Err why) → ⊥
   found_is_not_refused columns log f why (at_once reason read e) b = absurd cc
-  found_is_not_refused columns log f why (first read e) (at_once reason other g) = let both : Ok (None, []) ≡ Err reason = sym read ∙ other in absurd cc
+  found_is_not_refused columns log f why (first read e) (at_once reason other g) = is_both (None, []) reason read other
   found_is_not_refused columns log f why (first read e) (first other g) = absurd cc
-  found_is_not_refused columns log f why (first read e) (later m records other g) = let both : Ok (None, []) ≡ Ok (Some m, records) = sym read ∙ other in absurd cc
-  found_is_not_refused columns log f why (later m records read a) (at_once reason other g) = let both : Ok (Some m, records) ≡ Err reason = sym read ∙ other in absurd cc
-  found_is_not_refused columns log f why (later m records read a) (first other g) = let both : Ok (Some m, records) ≡ Ok (None, []) = sym read ∙ other in absurd cc
+  found_is_not_refused columns log f why (first read e) (later m records other g) = let clash : None ≡ Some m = ap meta_in (sym read ∙ other) in absurd cc
+  found_is_not_refused columns log f why (later m records read a) (at_once reason other g) = is_both (Some m, records) reason read other
+  found_is_not_refused columns log f why (later m records read a) (first other g) = let clash : None ≡ Some m = ap meta_in (sym other ∙ read) in absurd cc
   found_is_not_refused columns log f why (later m records read a) (later n others other b) =
-      let both : Ok (Some m, records) ≡ Ok (Some n, others) = sym read ∙ other in
+      let both : Some n ≡ Some m = ap meta_in (sym other ∙ read) in
       let one : n ≡ m = cc in
-      let lists : others ≡ records = cc in
+      let lists : others ≡ records = ap records_in (sym other ∙ read) in
       found_later columns m records f why a (subst (λ (x : Meta). AnswersLater columns x records store (Err why)) one (subst (λ (rs : List Entry). AnswersLater columns n rs store (Err why)) lists b))
 
 -- what is read of a disk that is of bytes is bytes

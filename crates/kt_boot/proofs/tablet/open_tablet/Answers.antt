@@ -278,7 +278,7 @@ returns-in-Ok-of-2-clause-only g c = λ told told' no answer.
 pub returns-in-Err-clause-only_err : goal.returns-in-Err-clause-only_err
 returns-in-Err-clause-only_err g c = λ refusal told told' f answer.
     let store = c.args.store in
-    answers_once c.args.schema.now _ _ (g.met.D.Disk.images_hold_bytes store (g.D.Disk.now store) (g.D.Disk.seen store) told' (g.met.D.Disk.reads_as_image store told')) f c.in-Err.field-0.1 answer (c.in-Err.ensures.refused refusal told told')
+    answers_once c.args.schema.now _ _ (g.met.D.Disk.images_hold_bytes store (g.D.Disk.now store) (g.D.Disk.seen store) told' (g.met.D.Disk.reads_as_image store told')) f c.in-Err.why answer (c.in-Err.ensures.refused refusal told told')
 
 pub returns-in-Err-of-clause-only_err : goal.returns-in-Err-of-clause-only_err
 returns-in-Err-of-clause-only_err g c = λ refusal. absurd (subst IsRefusal c.given_up.ensures.why refusal)
