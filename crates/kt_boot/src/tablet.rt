@@ -17,6 +17,7 @@ ghost use Rattle.kt_tablet.specs.Views.{work_of};
 ghost use Rattle.kt_reopen.specs.Tables.{IsTable};
 ghost use Rattle.kt_reopen.specs.Both.{Found as Whole, Answers, super_in};
 ghost use Rattle.kt_reopen.specs.Holding.{HoldBoth, KeepsContent, IsOfStore};
+ghost use Rattle.kt_reopen.specs.Numbers.{next_rowset};
 ghost use Rattle.kt_reopen.specs.Opened.{first_meta, IsRefusal, OneRose};
 ghost use Rattle.kt_engine.specs.Engines.{IsContent};
 ghost use Rattle.kt_boot.specs.Opening.{StandsOn};
@@ -93,6 +94,9 @@ pub fn open_tablet<L: Disk, D: Disk + Drop, C: Clock>(
     ensures hold { IfOk result (λ engine. IsTrue D.tells → (held : List HeldFiles) × HoldAll (D.seen engine.store.known) engine.store.meta.rowsets held × (engine.super ≡ super_in engine.store.meta held)) }
     ensures removed { IfOk result (λ engine. IsTrue D.tells → (n : ℕ) → is_kept (named_in engine.store.meta.rowsets) n ≡ false → D.seen engine.store.known n ≡ None) }
     ensures stable { IfOk result (λ engine. IsTrue D.tells → AreStable D.seen D.now D.leaves engine.store.known) }
+
+    // A rowset gets a number that neither the superblock nor a COMMIT of the log has named, and a file one that the superblock gives next.
+    ensures next { IfOk result (λ engine. (engine.store.next_rowset ≡ next_rowset engine.store.meta.next_rowset engine.records) × (engine.store.next_file ≡ engine.store.meta.next_file)) }
 
     // It is refused exactly where its devices hold nothing else, and for that reason, unless a device or memory fail.
     ensures refused { IfErr result (λ e. IsRefusal e.why → IsTrue L.tells → IsTrue D.tells → Answers schema.now (L.seen log) (D.seen store) (Err e.why)) }

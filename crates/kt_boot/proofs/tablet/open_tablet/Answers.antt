@@ -15,6 +15,7 @@ use Rattle.kt_engine.proofs.Bare.{any_numbers}
 use Rattle.kt_engine.proofs.Others.{opened_others}
 use Rattle.kt_disk.specs.Disk.{LeavesOnly}
 use Rattle.kt_reopen.specs.Holding.{KeepsContent, IsOfStore}
+use Rattle.kt_reopen.specs.Numbers.{next_rowset}
 use Rattle.kt_reopen.specs.Opened.{first_meta, IsRefusal}
 use Rattle.kt_storeside.specs.Supers.{NamedStand}
 use Rattle.kt_boot.proofs.OneAnswer.{answers_once}
@@ -234,6 +235,15 @@ pub returns-in-Ok-of-2-clause-removed : goal.returns-in-Ok-of-2-clause-removed
 returns-in-Ok-of-2-clause-removed g c = λ told.
     let store : c.in-Ok-of-2.engine.store ≡ c.of-side.result = ap (λ e. e.store) c.in-Ok-of-2.ensures.view in
     rw (store, c.of-side.ensures) (c.in-Ok.ensures.removed told)
+
+pub returns-in-Ok-of-2-clause-next : goal.returns-in-Ok-of-2-clause-next
+returns-in-Ok-of-2-clause-next g c =
+    let p = c.in-Ok.opened in
+    let opened = c.in-Ok.ensures.found.2 in
+    let store : c.in-Ok-of-2.engine.store ≡ c.of-side.result = ap (λ e. e.store) c.in-Ok-of-2.ensures.view in
+    let records : c.in-Ok-of-2.engine.records ≡ p.records = ap (λ e. e.records) c.in-Ok-of-2.ensures.view in
+    let given : p.next_rowset ≡ next_rowset p.meta.next_rowset p.records = opened.next_is ∙ ap (next_rowset p.meta.next_rowset) (sym opened.records_are) in
+    rw (store, records, c.of-side.ensures) (given, refl)
 
 -- where there was no memory both devices are as opening left them
 pub returns-in-Err-of-clause-any_moment : goal.returns-in-Err-of-clause-any_moment
