@@ -1,5 +1,5 @@
 -- The columns of a script: their ids count up from 1, they are at most 300, and each takes its default.
-use Rattle.std.proofs.Common.{◌≡◌, ℕ, ◌+◌, ◌≤◌, ◌<◌, ◌^◌, min, Bool, true, false, not, ◌||◌, ◌&&◌, List, [], ◌∷◌, ◌++◌, length, Option, Some, None, Result, Ok, Err, refl, sym, ap, subst, ◌∙◌, arith}
+use Rattle.std.proofs.Common.{◌≡◌, ℕ, ◌+◌, ◌≤◌, ◌<◌, ◌^◌, Bool, true, false, not, ◌||◌, ◌&&◌, List, [], ◌∷◌, ◌++◌, length, Option, Some, None, Result, Ok, Err, refl, sym, ap, subst, ◌∙◌, arith}
 use Rattle.std.specs.Prelude.{if◌then◌else◌}
 use Rattle.std.specs.List.{list_any, AllByRecursion}
 use Rattle.kt_base.specs.declared.cell.Cell.{Cell}
@@ -10,11 +10,11 @@ use Rattle.kt_base.specs.Literals.{cell_in}
 use Rattle.kt_key.specs.Fit.{has_kind}
 use Rattle.kt_schema.specs.declared.column.Column.{Column}
 use Rattle.kt_schema.specs.Rows.{is_null, is_long}
-use Rattle.kt_script.specs.Pieces.{cut, words_of}
+use Rattle.kt_script.specs.Pieces.{words_of}
 use Rattle.kt_script.specs.Reasons.{sound, cell_reason, cell_value}
-use Rattle.kt_script.specs.Columns.{ColumnLine, column_line, begins_column, default_reason, default_no, default_value, place_no, said_no, column_no, with_column, columns_with}
+use Rattle.kt_script.specs.Columns.{ColumnLine, column_line, begins_column, default_reason, default_no, default_value, said_no, column_no, with_column, columns_with}
 use Rattle.kt_script.specs.Fit.{compares}
-use Rattle.kt_script.specs.Scripts.{Above, start, head, body, body_no, body_plan, line_no, rest_no, after, fault_from, above_end, Said, said, script_of}
+use Rattle.kt_script.specs.Scripts.{Above, start, head, body, body_no, body_plan, line_no, after, fault_from, above_end, Said, said, script_of}
 use Rattle.kt_script.proofs.Cells.{cell_taken}
 use Rattle.kt_script.proofs.Cuts.{some_piece}
 use Rattle.kt_script.proofs.Spelling.{no_fault, script_is, scripts_are_fit}

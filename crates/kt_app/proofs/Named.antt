@@ -1,19 +1,18 @@
 -- The names of a script's columns are short.
-use Rattle.std.proofs.Common.{◌≡◌, ℕ, ◌+◌, ◌≤◌, ◌<◌, ◌^◌, min, Bool, true, false, ◌&&◌, List, [], ◌∷◌, ◌++◌, length, Option, Some, None, refl, sym, ap, subst, ◌∙◌, arith}
-use Rattle.std.specs.Prelude.{nat_le, if◌then◌else◌, codes}
-use Rattle.std.specs.List.{list_any, list_all, AllByRecursion}
+use Rattle.std.proofs.Common.{◌≡◌, ℕ, ◌+◌, ◌≤◌, ◌<◌, ◌^◌, Bool, true, false, ◌&&◌, List, [], ◌∷◌, ◌++◌, length, Option, Some, None, refl, sym, subst, arith}
+use Rattle.std.specs.Prelude.{if◌then◌else◌, codes}
+use Rattle.std.specs.List.{AllByRecursion}
 use Rattle.std.proofs.lemmas.Bool.{and_parts}
 use Rattle.std.proofs.lemmas.Bool.Decides.{nat_tests}
 use Rattle.kt_base.specs.Literals.{same}
 use Rattle.kt_base.specs.declared.cell.Kind.{Kind}
 use Rattle.kt_schema.specs.declared.column.Column.{Column}
-use Rattle.kt_schema.specs.Names.{is_name, is_letter, is_digit}
-use Rattle.kt_script.specs.Pieces.{cut, words_of}
-use Rattle.kt_script.specs.Reasons.{sound}
-use Rattle.kt_script.specs.Columns.{ColumnLine, column_line, kind_of, of_kind, marked, with_default, as_key, begins_column, said_no, column_no, with_column, columns_with, default_value}
-use Rattle.kt_script.specs.Scripts.{Above, start, head, body, body_no, body_plan, line_no, after, fault_from, above_end, Said, said, script_of}
+use Rattle.kt_schema.specs.Names.{is_name}
+use Rattle.kt_script.specs.Pieces.{words_of}
+use Rattle.kt_script.specs.Columns.{ColumnLine, column_line, kind_of, of_kind, marked, with_default, as_key, begins_column, with_column, columns_with}
+use Rattle.kt_script.specs.Scripts.{Above, start, head, body, body_plan, after, above_end, Said, said, script_of}
 use Rattle.kt_script.proofs.Cuts.{some_piece}
-use Rattle.kt_script.proofs.Spelling.{no_fault, script_is}
+use Rattle.kt_script.proofs.Spelling.{script_is}
 
 short : (name : List ℕ) → is_name name ≡ true → length name < 2 ^ 8
 short [] h = absurd cc

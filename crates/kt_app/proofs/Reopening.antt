@@ -1,5 +1,5 @@
 -- What both images hold is found, or its last timestamp is too great for another run.
-use Rattle.std.proofs.Common.{◌≡◌, ◌<◌, ◌≤◌, ℕ, zero, suc, max, List, [], ◌∷◌, Bool, true, false, Option, Some, None, Result, Ok, Err, refl, sym, ap, ◌∙◌, subst, arith, length}
+use Rattle.std.proofs.Common.{◌≡◌, ◌<◌, ◌≤◌, ℕ, zero, max, List, [], ◌∷◌, Ok, Err, refl, sym, ap, subst, arith}
 use Rattle.kt_disk.specs.Disk.{Files}
 use Rattle.kt_history.specs.History.{Past}
 use Rattle.kt_records.specs.declared.entry.Entry.{Entry}
@@ -13,9 +13,8 @@ use Rattle.kt_diskrowset.specs.Rowset.{HeldFiles}
 use Rattle.kt_files.specs.Reading.{HoldAll}
 use Rattle.kt_content.specs.Rules.{Rules}
 use Rattle.kt_content.specs.Content.{IsContent}
-use Rattle.kt_content.specs.Opening.{Placed}
 use Rattle.kt_reopen.specs.Tables.{AllAreLike}
-use Rattle.kt_reopen.specs.Both.{Found, Answers, AnswersLater, read_both, nothing, super_in, stores_after, found_or_late, last_most}
+use Rattle.kt_reopen.specs.Both.{Found, Answers, AnswersLater, nothing, super_in, found_or_late, last_most}
 use Rattle.kt_reopen.specs.Both.Answers.{first, later}
 use Rattle.kt_reopen.specs.Both.AnswersLater.{too_late, whole}
 use Rattle.kt_reopen.specs.Holding.{HoldBoth}

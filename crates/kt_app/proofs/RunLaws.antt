@@ -32,6 +32,10 @@ pub ran_as : {gave : List ℕ → Type 0} {held : Rules → Type 0} {columns : L
     → RanBy gave held columns after work past c events b rowsets text → RanBy gave held columns after work past c events d rowsets text
 ran_as {gave = gave} {held = held} {columns = columns} {after = after} {work = work} {past = past} {c = c} {events = events} {rowsets = rowsets} {text = text} e r = subst (λ (x : Bool). RanBy gave held columns after work past c events x rowsets text) e r
 
+pub ran_with : {gave : List ℕ → Type 0} {held : Rules → Type 0} {columns : List Column} {after : Image → Type 0} {work : Workload} {past : Past} {c : ℕ} {events : List Event} {b : Bool} {rowsets count : ℕ} {text : List ℕ} → rowsets ≡ count
+    → RanBy gave held columns after work past c events b rowsets text → RanBy gave held columns after work past c events b count text
+ran_with {gave = gave} {held = held} {columns = columns} {after = after} {work = work} {past = past} {c = c} {events = events} {b = b} {text = text} e r = subst (λ (n : ℕ). RanBy gave held columns after work past c events b n text) e r
+
 -- by other rules, where each of them is one of the first
 module _ {gave : List ℕ → Type 0} {held other : Rules → Type 0} {columns : List Column} {after : Image → Type 0} {work : Workload} {past : Past} {c : ℕ} {events : List Event} (f : (image : Image) → after image → (rules : Rules) → other rules → held rules) where
   pub kept_by : KeptBy gave held columns after work past c events → KeptBy gave other columns after work past c events
@@ -111,16 +115,16 @@ module _ {L D : Type 0} (tells : Bool) (now : L → ℕ) (leaves : L → ℕ →
 -- a count that rose is that of the devices as they were handed in and as they come back
 pub rose_as : {L D : Type 0} (faults : L → ℕ) (faults' : D → ℕ) {was log left logged : L} {had store kept stored : D} → was ≡ log → had ≡ store → logged ≡ left → stored ≡ kept
     → OneRose (faults was) (faults left) (faults' had) (faults' kept) → OneRose (faults log) (faults logged) (faults' store) (faults' stored)
-rose_as faults faults' {left = left} {logged = logged} {had = had} {store = store} {kept = kept} was_is had_is log_is store_is rose =
-    subst (λ d. OneRose (faults _) (faults logged) (faults' store) (faults' d)) (sym store_is)
-    (subst (λ l. OneRose (faults _) (faults l) (faults' store) (faults' kept)) (sym log_is)
-    (subst (λ d. OneRose (faults _) (faults left) (faults' d) (faults' kept)) had_is
+rose_as faults faults' {was = was} {log = log} {left = left} {logged = logged} {had = had} {store = store} {kept = kept} {stored = stored} was_is had_is log_is store_is rose =
+    subst (λ d. OneRose (faults log) (faults logged) (faults' store) (faults' d)) (sym store_is)
+    (subst (λ l. OneRose (faults log) (faults l) (faults' store) (faults' kept)) (sym log_is)
+    (subst (λ d. OneRose (faults log) (faults left) (faults' d) (faults' kept)) had_is
     (subst (λ l. OneRose (faults l) (faults left) (faults' had) (faults' kept)) was_is rose)))
 
 -- none rose
 pub neither_rose : (a b c d : ℕ) → ¬ Rose a b → ¬ Rose c d → OneRose a b c d → ⊥
-neither_rose a b c d no not (inl rose) = no rose
-neither_rose a b c d no not (inr rose) = not rose
+neither_rose a b c d one other (inl rose) = one rose
+neither_rose a b c d one other (inr rose) = other rose
 
 -- a workload with no command yet is of the table
 pub is_on : (columns : List Column) (work : Workload) (plan : List (List Command)) (cells : ℕ) → work ≡ work_of columns plan cells (fill_of columns) → IsOn columns work

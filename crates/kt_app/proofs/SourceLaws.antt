@@ -1,5 +1,5 @@
 -- What the bytes of a source say, of which so many were read that they decide it.
-use Rattle.std.proofs.Common.{◌≡◌, ℕ, ◌<◌, ◌≤◌, List, Option, Some, None, Bool, true, false, refl, sym, ap, ◌∙◌, arith, length, length-append, ◌⊎◌, inl, inr}
+use Rattle.std.proofs.Common.{◌≡◌, ℕ, ◌<◌, ◌≤◌, List, Option, Some, None, Bool, true, false, refl, sym, ap, subst, ◌∙◌, arith, length, length-append, ◌⊎◌, inl, inr}
 use Rattle.std.specs.Prelude.{nat_lt, IfSome}
 use Rattle.std.proofs.lemmas.Bool.Decides.{nat_tests}
 use Rattle.kt_script.specs.Pieces.{cut}
@@ -48,6 +48,16 @@ fault_by (Some script) new bytes f r h = same_fault script bytes new r ∙ h
 -- a script that is said is no fault
 pub no_fault : (text : List ℕ) (s : Said) (f : Fault) → script_of text ≡ Some s → fault_of text ≡ Some f → ⊥
 no_fault text s f is fault = let none = ap (λ x. said_unless x (said (above_end start (cut 10 text)))) (sym fault) ∙ is in cc
+
+-- a script says one thing
+pub said_is : (left : Option (List ℕ)) (s said : Said) (script : List ℕ) → IsSaid left s → left ≡ Some script → script_of script ≡ Some said → s ≡ said
+said_is None s said script known e is = absurd cc
+said_is (Some text) s said script known e is = let same : text ≡ script = cc in cc
+
+-- and one that is said has no fault
+pub not_at_fault : (left : Option (List ℕ)) (fault : Fault) (said : Said) (script : List ℕ) → IsFaultOf left fault → left ≡ Some script → script_of script ≡ Some said → ⊥
+not_at_fault None fault said script known e is = absurd cc
+not_at_fault (Some text) fault said script known e is = let same : text ≡ script = cc in no_fault script said fault is (subst (λ t. fault_of t ≡ Some fault) same known)
 
 -- what holds of a run of what is said holds of the script, with what the words say
 pub runs_script : (left : Option (List ℕ)) (s : Said) (words : Option Settings) (settings : Settings) (P : List ℕ → Settings → Said → Type 0) (Q : List ℕ → Type 0) → words ≡ Some settings → IsSaid left s → (text : List ℕ) × P text settings s × Q text

@@ -1,5 +1,5 @@
 -- The rules of a table take each write of a plan that fits it.
-use Rattle.std.proofs.Common.{◌≡◌, ◌<◌, ◌≤◌, ℕ, suc, ◌+◌, Bool, true, false, cond, not, ◌||◌, ◌&&◌, List, [], ◌∷◌, length, map, Option, Some, None, refl, sym, ap, subst, ◌∙◌, arith}
+use Rattle.std.proofs.Common.{◌≡◌, ◌<◌, ◌≤◌, ℕ, suc, Bool, true, false, cond, not, ◌||◌, ◌&&◌, List, [], ◌∷◌, length, map, Option, Some, None, refl, sym, ap, subst, ◌∙◌, arith}
 use Rattle.std.specs.Prelude.{is_some, unwrap_or, nat_le, ◌==◌}
 use Rattle.std.specs.List.{AllByRecursion, list_all}
 use Rattle.std.specs.Ordering.{nat_cmp, eq_by_cmp}
@@ -23,16 +23,14 @@ use Rattle.kt_history.specs.declared.command.Command.TheVariants as command
 use Rattle.kt_history.specs.declared.operation.OpKind.{OpKind}
 use Rattle.kt_history.specs.declared.operation.OpKind.TheVariants.{Insert, Upsert, Update, Delete, InsertIgnore, UpdateIgnore, DeleteIgnore}
 use Rattle.kt_history.specs.declared.operation.RowOp.{RowOp}
-use Rattle.kt_history.specs.Machine.{Workload, nth, command_of, ops_of}
+use Rattle.kt_history.specs.Machine.{nth, command_of, ops_of}
 use Rattle.kt_history.specs.Operations.{effect}
 use Rattle.kt_history.specs.Rows.{Row, with_cells, key_cmp}
 use Rattle.kt_histlaws.proofs.Pending.{itself}
 use Rattle.kt_script.specs.Fit.{fits_column, is_part, is_given, cells_fit, OpFits, CommandFits, PlanFits}
-use Rattle.kt_script.specs.Scripts.{Said}
 use Rattle.kt_script.specs.Writes.{op_form}
-use Rattle.kt_script.specs.declared.forms.OpForm.{OpForm}
 use Rattle.kt_script.specs.declared.forms.OpForm.TheVariants as form
-use Rattle.kt_script.proofs.PrintedTables.{Above, Rising, all_kept, rising_kept, rising_of, numbered}
+use Rattle.kt_script.proofs.PrintedTables.{Rising, all_kept, rising_kept, rising_of, numbered}
 use Rattle.kt_content.specs.Rules.{OpPasses, OpsPass, EffectPasses}
 use Rattle.kt_engine.specs.Logged.{PlanPasses}
 use Rattle.kt_script.specs.Scripts.{workload}

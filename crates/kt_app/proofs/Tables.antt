@@ -1,6 +1,6 @@
 -- The columns of a script may be those of a superblock.
 use Rattle.std.proofs.Common.{◌≡◌, ℕ, zero, suc, ◌+◌, ◌<◌, ◌≤◌, ◌^◌, Bool, true, false, ◌&&◌, ◌||◌, List, [], ◌∷◌, ◌++◌, length, take, Option, Some, None, refl, sym, ap, ◌∙◌, subst, arith, append_assoc, length-append}
-use Rattle.std.specs.Prelude.{not, nat_lt, nat_le, ◌==◌, slice_get, IfSome, FitsSigned, ℤ, pos, negsuc}
+use Rattle.std.specs.Prelude.{not, nat_lt, ◌==◌, slice_get, IfSome, FitsSigned, ℤ, pos, negsuc}
 use Rattle.std.specs.Int.{w64}
 use Rattle.std.specs.List.{list_any, list_all, AllByRecursion}
 use Rattle.std.specs.Option.{option_map_or}
@@ -15,7 +15,7 @@ use Rattle.kt_key.specs.Fit as fit
 use Rattle.kt_schema.specs.declared.column.Column.{Column}
 use Rattle.kt_schema.specs.First.{passes_at}
 use Rattle.kt_schema.specs.Rows.{is_long}
-use Rattle.kt_schema.specs.Columns.{is_late, is_weak, is_again, same_name}
+use Rattle.kt_schema.specs.Columns.{is_late, is_weak, same_name}
 use Rattle.kt_script.specs.Columns.{IsTable, counts_from}
 use Rattle.kt_super.specs.Columns as super
 use Rattle.kt_super.specs.Columns.{IsColumn, AreColumns, FitsCell, may_stand, has_id, is_free_id}
@@ -61,31 +61,38 @@ same_bool kind.Binary = refl
 
 all_keys : (earlier : List Column) → list_any (λ c. not c.key) earlier ≡ false → list_all (λ d. d.key) earlier ≡ true
 all_keys [] h = refl
-all_keys (x ∷ earlier) h = by x.key h
+all_keys (x ∷ earlier) h = by x.key (all_keys earlier) h
   where
-    by : (b : Bool) → (not b || list_any (λ c. not c.key) earlier) ≡ false → (b && list_all (λ d. d.key) earlier) ≡ true
-    by true g = all_keys earlier g
-    by false g = absurd cc
+    by : (b : Bool) → (list_any (λ c. not c.key) earlier ≡ false → list_all (λ d. d.key) earlier ≡ true) → (not b || list_any (λ c. not c.key) earlier) ≡ false → (b && list_all (λ d. d.key) earlier) ≡ true
+    by true more g = more g
+    by false more g = absurd cc
+
+-- the place of a key
+some_key : (rest : List Column) → list_any (λ d. d.key) rest ≡ true → (k : ℕ) × (k < length rest) × (passes_at (λ d. d.key) rest k ≡ true)
+some_key [] h = absurd cc
+some_key (x ∷ rest) h = by x.key refl (some_key rest) h
+  where
+    by : (b : Bool) → x.key ≡ b → (list_any (λ d. d.key) rest ≡ true → (k : ℕ) × (k < length rest) × (passes_at (λ d. d.key) rest k ≡ true)) → (b || list_any (λ d. d.key) rest) ≡ true
+        → (k : ℕ) × (k < suc (length rest)) × (passes_at (λ d. d.key) (x ∷ rest) k ≡ true)
+    by true is more g = (0, omega arith, is)
+    by false is more g = let behind = more g in (suc behind.0, omega (arith, behind.1), behind.2)
+
+behind_weak : (p a b : Bool) → p ≡ true → a ≡ false → (p && (not a || b)) ≡ true
+behind_weak true false b h g = refl
+behind_weak true true b h g = absurd cc
+behind_weak false a b h g = absurd cc
 
 -- where the first column is no key, a key behind it is late
-late_behind : (c : Column) (front rest : List Column) → c.key ≡ false → list_any (λ d. d.key) rest ≡ true → (k : ℕ) × (k < length rest) × (passes_at (λ d. d.key) rest k ≡ true)
-late_behind c front [] no h = absurd cc
-late_behind c front (x ∷ rest) no h = by x.key refl h
-  where
-    by : (b : Bool) → x.key ≡ b → (b || list_any (λ d. d.key) rest) ≡ true → (k : ℕ) × (k < suc (length rest)) × (passes_at (λ d. d.key) (x ∷ rest) k ≡ true)
-    by true is g = (0, omega arith, is)
-    by false is g = let behind = late_behind c front rest no g in (suc behind.0, omega (arith, behind.1), behind.2)
-
 first_key : (c : Column) (rest : List Column) → ((k : ℕ) → k < length (c ∷ rest) → is_late (c ∷ rest) k ≡ false) → list_any (λ d. d.key) (c ∷ rest) ≡ true → c.key ≡ true
 first_key c rest late some = by c.key refl some
   where
     by : (b : Bool) → c.key ≡ b → (b || list_any (λ d. d.key) rest) ≡ true → b ≡ true
     by true is g = refl
     by false is g =
-        let behind = late_behind c [] rest is g in
+        let behind = some_key rest g in
         let there = late (suc behind.0) (omega (arith, behind.1)) in
-        let yes : is_late (c ∷ rest) (suc behind.0) ≡ true = rw (behind.2, is) refl in
-        let clash : true ≡ false = sym yes ∙ there in
+        let is_there : is_late (c ∷ rest) (suc behind.0) ≡ true = behind_weak (passes_at (λ d. d.key) rest behind.0) c.key (list_any (λ d. not d.key) (take behind.0 rest)) behind.2 is in
+        let clash : true ≡ false = sym is_there ∙ there in
         absurd cc
 
 -- what the tests of a table say of a column behind others
@@ -98,7 +105,7 @@ flags true nullable bool earlier weak late first if_key is = ((λ k. is ∙ by n
     by false true h = absurd cc
     by false false h = all_keys earlier late
 flags false nullable bool [] weak late first if_key is = ((λ k. absurd cc), λ k. let clash : false ≡ true = first refl in absurd cc)
-flags false nullable bool (x ∷ earlier) weak late first if_key is = ((λ k. absurd cc), λ k. refl)
+flags false nullable bool (x ∷ earlier) weak late first if_key is = ((λ k. absurd cc), λ k. grind (arith, nat_tests))
 
 -- ---- defaults
 
@@ -161,8 +168,8 @@ module _ (columns : List Column) (table : IsTable columns) (key : list_any (λ c
       free id less none = rw none (grind (arith, nat_tests))
 
       chosen : (b : Bool) → c.key ≡ b → (c.key ≡ true → (not c.nullable && not (super.is_bool c.kind) && list_all (λ d. d.key) earlier) ≡ true) → (c.key ≡ false → (length earlier == 0) ≡ false) → may_stand earlier c.kind c.key c.nullable ≡ true
-      chosen true is yes no = rw is (yes is)
-      chosen false is yes no = rw (is, no is) refl
+      chosen true is keyed plain = rw is (keyed is)
+      chosen false is keyed plain = rw (is, plain is) refl
 
   all_stand : (earlier rest : List Column) → columns ≡ earlier ++ rest → AllByRecursion Spelled rest → AreColumns (length columns + 1) earlier rest
   all_stand earlier [] parts spelled = tt

@@ -1,5 +1,5 @@
 -- A run over both devices, and what a crash leaves of them.
-use Rattle.std.specs.Prelude.{◌≡◌, ◌⊎◌, ◌≤◌, ◌<◌, ℕ, Bool, false, List, length, Some, Ok, Err}
+use Rattle.std.specs.Prelude.{◌≡◌, ◌⊎◌, ◌≤◌, ◌<◌, ℕ, Bool, false, List, [], length, Some, None, Ok, Err}
 use Rattle.kt_disk.specs.Disk.{Files}
 use Rattle.kt_super.specs.declared.meta.Meta.{Meta}
 use Rattle.kt_super.specs.Slots.{super_of}
@@ -8,9 +8,11 @@ use Rattle.kt_history.specs.declared.event.Event.{Event}
 use Rattle.kt_history.specs.History.{Past, raise}
 use Rattle.kt_history.specs.Machine.{Workload, IsRun, readings_of}
 use Rattle.kt_history.specs.Replies.{past_after}
+use Rattle.kt_journal.specs.Log.{log_of}
+use Rattle.kt_loglaws.specs.Replay.{empty}
 use Rattle.kt_loglaws.specs.Fronts.{upto}
 use Rattle.kt_content.specs.Rules.{Rules, no_rules}
-use Rattle.kt_reopen.specs.Both.{Found, Answers, last_most}
+use Rattle.kt_reopen.specs.Both.{Found, Answers, read_both, last_most}
 use Rattle.kt_reopen.specs.Holding.{HoldBoth}
 use Rattle.kt_reopen.specs.Opened.{Shows}
 use Rattle.kt_reopen.specs.declared.why.Why.{Why}
@@ -75,6 +77,12 @@ pub record RanBy (gave : List ℕ → Type 0) (held : Rules → Type 0) (columns
   pub output : IsOutput work past c stopped rowsets text (readings_of events) events
   pub whole : stopped ≡ false → (rules : Rules) → held rules → (image : Image) → after image → HoldsAll rules columns work past c events image
   pub superblock : stopped ≡ false → (image : Image) → after image → HasSuper (end_of work past c events).a (end_of work past c events).c rowsets image.store
+
+-- ---- devices in which nothing was written
+
+-- a log and a store in which there is nothing yet hold the empty past, by any rules of any table
+abbrev pub fresh_devices_are_empty : Type 0
+fresh_devices_are_empty = (rules : Rules) (columns : List Column) (log store : Files) → read_both (super_of store) (log_of log) ≡ Ok (None, []) → HoldBoth rules columns log store 0 empty
 
 -- ---- runs over what was read at opening
 

@@ -80,6 +80,7 @@ IsNumberOf image n = journal.IsNumberOf image.log n ⊎ IsSlotNumber image.store
 abbrev pub AreUpTo : ℕ → (Image → Type 0) → Type 0
 AreUpTo bound images = (image : Image) → images image → (n : ℕ) → IsNumberOf image n → n ≤ bound
 
--- Every number of the images after is less than 2^45 above the greater of 3 and the greatest number of those before.
-abbrev pub AreNear : (Image → Type 0) → (Image → Type 0) → Type 0
-AreNear before after = (bound : ℕ) → 3 ≤ bound → AreUpTo bound before → (image : Image) → after image → (n : ℕ) → IsNumberOf image n → n < bound + 2 ^ 45
+-- Every number that a log after names, and that of each file beside it, is less than 2^45 above the greater of 3 and the greatest number of the images before,
+-- those of the store among them.
+abbrev pub LogIsNear : (Image → Type 0) → (Image → Type 0) → Type 0
+LogIsNear before after = (bound : ℕ) → 3 ≤ bound → AreUpTo bound before → (image : Image) → after image → (n : ℕ) → journal.IsNumberOf image.log n → n < bound + 2 ^ 45

@@ -1,17 +1,19 @@
 //! A run of a plan on an engine that was opened, to its output text.
-ghost use Rattle.std.specs.Prelude.{◌≡◌, ◌≢◌, ◌<◌, ◌≤◌, [], IfSome, IfOk, OnOk, IsTrue, None, false, true, map, length, All};
-ghost use Rattle.kt_base.specs.Causes.{Grows, Rose};
+ghost use Rattle.std.specs.Prelude.{◌≡◌, ◌<◌, ◌≤◌, [], IfSome, IfOk, OnOk, IsTrue, None, false, true, map, length, All};
+ghost use Rattle.kt_base.specs.Causes.{Grows};
 ghost use Rattle.kt_journal.specs.Log.{CanOpen};
 ghost use Rattle.kt_history.specs.Machine.{first_turns};
 ghost use Rattle.kt_script.specs.Fit.{PlanFits};
 ghost use Rattle.kt_storeside.specs.Supers.{NamedStand};
 ghost use Rattle.kt_reopen.specs.Opened.{OneRose};
+ghost use Rattle.kt_disk.specs.Disk.{Files};
 ghost use Rattle.kt_engine.specs.Engines.{KeepsOthers};
+ghost use Rattle.kt_engine.specs.Logged.{HoldsRecords};
 ghost use Rattle.kt_engine.specs.Visits.{root_of};
 ghost use Rattle.kt_serve.specs.declared.session.SessionEnd.{SessionEnd};
 ghost use Rattle.kt_seatlock.specs.Passes.{number, given, passes_of, IsVacant, IsPassOf};
 ghost use Rattle.kt_serve.specs.Scans.{IsOn};
-ghost use Rattle.kt_app.specs.Images.{CrashLeaves, Both, AreNear};
+ghost use Rattle.kt_app.specs.Images.{CrashLeaves, Both};
 ghost use Rattle.kt_app.specs.Session.{IsCounted};
 ghost use Rattle.kt_app.specs.Played.{IsFresh, KeptOn, RanOn, IsWhole, HasPlayed};
 
@@ -154,10 +156,10 @@ pub fn run_plan<
     ensures kept { KeptOn (Grows (C.readings engine.tablet.clock) (C.readings result.1.clock)) engine schema.now plan.now
         (Both (CrashLeaves L.tells L.now L.leaves result.1.log) (CrashLeaves D.tells D.now D.leaves result.1.store)) result.1.trail }
 
-    // It leaves all files of the log's device but the log as they were handed in. No number is far above those that opening found.
+    // It leaves all files of the log's device but the log as they were handed in, and behind the records that opening found those whose COMMITs
+    // name the engine's stores alone.
     ensures others { IsTrue L.tells → KeepsOthers L.now L.leaves engine.device result.1.log }
-    ensures near { AreNear (Both (CrashLeaves L.tells L.now L.leaves engine.device) (CrashLeaves D.tells D.now D.leaves engine.store_device))
-        (Both (CrashLeaves L.tells L.now L.leaves result.1.log) (CrashLeaves D.tells D.now D.leaves result.1.store)) }
+    ensures named { (files : Files) → CrashLeaves L.tells L.now L.leaves result.1.log files → HoldsRecords engine.records engine.tablet.names files }
 
     // The devices may be opened again.
     ensures openable { IsTrue L.tells → CanOpen L.now L.leaves result.1.log }

@@ -1,6 +1,6 @@
 //! The top call: it reads a script, opens both devices, runs the commands and prints what came of them.
 
-ghost use Rattle.std.specs.Prelude.{◌≡◌, ◌≢◌, ◌⊎◌, IsTrue, ◌≤◌, ◌<◌, ◌++◌, ◌∷◌, [], Bool, true, false, None, Ok, Err, IfOk, IfErr, IfSome, Some, IsErrOf, codes, map, length, List, ℕ};
+ghost use Rattle.std.specs.Prelude.{◌≡◌, ◌≢◌, ◌⊎◌, IsTrue, ◌≤◌, ◌<◌, ◌++◌, ◌∷◌, [], Bool, true, false, None, Ok, Err, IfOk, IfErr, IfSome, Some, IsErrOf, map, length, List, ℕ};
 ghost use Rattle.std.specs.Fmt.{decimal};
 ghost use Rattle.std.specs.Io.KnownBytes.{Appends};
 ghost use Rattle.kt_base.specs.Causes.{Grows, Rose};
@@ -13,10 +13,12 @@ ghost use Rattle.kt_reopen.specs.Both.{Found, Answers};
 ghost use Rattle.kt_storeside.specs.Supers.{NamedStand};
 ghost use Rattle.kt_reopen.specs.Opened.{IsRefusal, OneRose};
 ghost use Rattle.kt_app.specs.Headline.{IsNoScript};
-ghost use Rattle.kt_app.specs.Images.{CrashLeaves, IsRead, Both, KeepsFiles, LeavesAsBefore, AreNear};
+ghost use Rattle.kt_app.specs.Images.{CrashLeaves, IsRead, Both, KeepsFiles, LeavesAsBefore, LogIsNear};
 ghost use Rattle.kt_app.specs.Refusals.{IsSaid, IsFaultOf, IsRefused, fault_text, refusal_text};
 ghost use Rattle.kt_app.specs.Crash.{Refuses, RunsPlan, RunsScript, LeavesFirst};
+ghost use Rattle.kt_disk.specs.Disk.{Files};
 ghost use Rattle.kt_engine.specs.Engines.{KeepsOthers};
+ghost use Rattle.kt_engine.specs.Logged.{HoldsRecords};
 ghost use Rattle.kt_app.specs.Cells.{room_of};
 ghost use Rattle.kt_app.specs.Session.{IsCounted};
 ghost use Rattle.kt_seatlock.specs.Passes.{number, given, passes_of, IsVacant, IsPassOf};
@@ -240,7 +242,7 @@ fn run_and_write<
     ensures statuses { (result.0 ≡ 0) ⊎ (result.0 ≡ 4) ⊎ (result.0 ≡ 6) ⊎ (result.0 ≡ 7) }
     ensures kept { KeptOn (Grows (C.readings engine.tablet.clock) (C.readings result.1.clock)) engine schema.now plan.now (Both (CrashLeaves L.tells L.now L.leaves result.1.log) (CrashLeaves D.tells D.now D.leaves result.1.store)) result.1.trail }
     ensures others { IsTrue L.tells → KeepsOthers L.now L.leaves engine.device result.1.log }
-    ensures near { AreNear (Both (CrashLeaves L.tells L.now L.leaves engine.device) (CrashLeaves D.tells D.now D.leaves engine.store_device)) (Both (CrashLeaves L.tells L.now L.leaves result.1.log) (CrashLeaves D.tells D.now D.leaves result.1.store)) }
+    ensures named { (files : Files) → CrashLeaves L.tells L.now L.leaves result.1.log files → HoldsRecords engine.records engine.tablet.names files }
     ensures openable { IsTrue L.tells → CanOpen L.now L.leaves result.1.log }
     ensures stand { IsTrue D.tells → NamedStand D.seen D.now D.leaves result.1.store }
 {
@@ -314,7 +316,7 @@ fn open_and_run<
     ensures statuses { (result.status ≡ 0) ⊎ (result.status ≡ 3) ⊎ (result.status ≡ 4) ⊎ (result.status ≡ 6) ⊎ (result.status ≡ 7) }
     ensures crash { LeavesFirst (Grows (C.readings clock) (C.readings result.clock)) (Both (IsRead L.tells L.seen log) (IsRead D.tells D.seen store)) (CrashLeaves L.tells L.now L.leaves log) (CrashLeaves L.tells L.now L.leaves result.log) (CrashLeaves D.tells D.now D.leaves store) (CrashLeaves D.tells D.now D.leaves result.store) cells (record { columns = schema.now; plan = plan.now }) }
     ensures others { KeepsFiles (CrashLeaves L.tells L.now L.leaves log) (CrashLeaves L.tells L.now L.leaves result.log) }
-    ensures near { AreNear (Both (CrashLeaves L.tells L.now L.leaves log) (CrashLeaves D.tells D.now D.leaves store)) (Both (CrashLeaves L.tells L.now L.leaves result.log) (CrashLeaves D.tells D.now D.leaves result.store)) }
+    ensures near { LogIsNear (Both (CrashLeaves L.tells L.now L.leaves log) (CrashLeaves D.tells D.now D.leaves store)) (Both (CrashLeaves L.tells L.now L.leaves result.log) (CrashLeaves D.tells D.now D.leaves result.store)) }
     ensures openable { IsTrue L.tells → CanOpen L.now L.leaves result.log }
     ensures stand { IsTrue D.tells → NamedStand D.seen D.now D.leaves result.store }
 {
@@ -423,9 +425,10 @@ pub fn tablet_main<
     ensures crash { (result.log ≡ log) × (result.store ≡ store) ⊎ ((said : Said) × (settings : Settings) × IsSaid (S.left source.old) said × (settings_in (map (λ w. w.now) words.now) ≡ Some settings)
         × LeavesFirst (Grows (C.readings clock) (C.readings result.clock)) (Both (IsRead L.tells L.seen log) (IsRead D.tells D.seen store)) (CrashLeaves L.tells L.now L.leaves log) (CrashLeaves L.tells L.now L.leaves result.log) (CrashLeaves D.tells D.now D.leaves store) (CrashLeaves D.tells D.now D.leaves result.store) settings.cells said) }
 
-    // It leaves all files of the log's device but the log as one before the call might have, and no number far above those that one before might have left.
+    // It leaves all files of the log's device but the log as one before the call might have, and the log names no number far above those that both devices
+    // might have had before.
     ensures others { KeepsFiles (CrashLeaves L.tells L.now L.leaves log) (CrashLeaves L.tells L.now L.leaves result.log) }
-    ensures near { AreNear (Both (CrashLeaves L.tells L.now L.leaves log) (CrashLeaves D.tells D.now D.leaves store)) (Both (CrashLeaves L.tells L.now L.leaves result.log) (CrashLeaves D.tells D.now D.leaves result.store)) }
+    ensures near { LogIsNear (Both (CrashLeaves L.tells L.now L.leaves log) (CrashLeaves D.tells D.now D.leaves store)) (Both (CrashLeaves L.tells L.now L.leaves result.log) (CrashLeaves D.tells D.now D.leaves result.store)) }
 
     // The devices may be opened again, whatever the status.
     ensures openable { IsTrue L.tells → CanOpen L.now L.leaves result.log }

@@ -6,7 +6,8 @@ use Rattle.kt_super.specs.declared.meta.Meta.{Meta}
 use Rattle.kt_engine.specs.Visits.{root_of}
 use Rattle.kt_engine.specs.Pairs.{AreHome}
 use Rattle.kt_app.proofs.Runnable.{plan_keeps}
-use Rattle.kt_app.proofs.Runs.{kept_of, ran_of, keeps_others, opens_again, no_fault_less, some_failed, store_no_less}
+use Rattle.kt_app.proofs.RunLaws.{ran_as, ran_with}
+use Rattle.kt_app.proofs.Runs.{kept_of, ran_of, keeps_others, opens_again, names_more, no_fault_less, some_failed, store_no_less}
 use Rattle.kt_app.proofs.run.run_plan.Goals as goal
 
 -- what is said of a value that is there
@@ -31,13 +32,16 @@ returns-in-Ok-clause-run g c =
     let journal = c.take_apart-parts.ensures.log in
     let home : AreHome view parts.log parts.store = record { journal = journal.0; log_home = journal.1; log_is = journal.2; store_home = c.take_apart-parts.ensures.store } in
     let root = c.play-played.ensures.root ∙ ap root_of c.set_plan.ensures in
+    let sliced = ap length c.as_slice.ensures in
     some_of c.output_of-output.result c.ok.result _ c.ok.ensures.value
     (of_three c.output_of-output.result _ _ _ _
     (λ out stopped text fits first opens.
-    ran_of g.C.Clock.readings L.tells L.now L.leaves D.tells D.seen D.now D.leaves c.args.engine view c.args.schema.now c.args.plan.now c.requires.fresh c.requires.work root c.standing.ensures.sound parts.log parts.store home
-    parts.clock c.take_apart-parts.ensures.clock parts.trail c.take_apart-parts.ensures.trail c.standing.ensures.recovers_both c.standing.ensures.marked out.stopped c.in-Ok.field-0.replies.items
-    (rw (sym stopped) at (rw c.in-Ok.is at c.play-played.ensures.played)) c.standing.ensures.recovers_all_of_both c.standing.ensures.published
-    _ _ _ _ out.text c.times-a.ensures.mark c.times-a.ensures.last (ap (λ (m : Meta). length m.rowsets) c.take_apart-parts.ensures.meta) c.as_slice.ensures fits text first opens)
+    ran_as (sym stopped)
+    (ran_with sliced
+    (ran_of g.C.Clock.readings L.tells L.now L.leaves D.tells D.seen D.now D.leaves c.args.engine view c.args.schema.now c.args.plan.now c.requires.fresh c.requires.work root c.standing.ensures.sound parts.log parts.store home
+    parts.clock c.take_apart-parts.ensures.clock parts.trail c.take_apart-parts.ensures.trail c.standing.ensures.recovers_both c.standing.ensures.marked c.in-Ok.field-0.stopped c.in-Ok.field-0.replies.items
+    (rw c.in-Ok.is at c.play-played.ensures.played) c.standing.ensures.recovers_all_of_both c.standing.ensures.published
+    _ _ _ _ out.text c.times-a.ensures.mark c.times-a.ensures.last (sliced ∙ ap (λ (m : Meta). length m.rowsets) c.take_apart-parts.ensures.meta) c.as_slice-in-Ok.ensures fits text first opens)))
     c.output_of-output.ensures.stopped c.output_of-output.ensures.text c.output_of-output.ensures.fits)
 
 pub returns-in-Ok-clause-kept : goal.returns-in-Ok-clause-kept
@@ -128,3 +132,23 @@ returns-in-Ok-clause-fault g c =
     (λ out is stopped. some_failed c.args.engine c.play-played.result.1 c.args.plan.now parts.log parts.store (c.play-played.ensures.root ∙ ap root_of c.set_plan.ensures) c.standing.ensures.home home g.D.Disk.faults c.standing.ensures.failed
     (let played = rw c.in-Ok.is at c.play-played.ensures.played in subst IsTrue (is ∙ sym played.ended) stopped))
     c.output_of-output.ensures.stopped)
+
+pub returns-in-Ok-clause-named : goal.returns-in-Ok-clause-named
+returns-in-Ok-clause-named g c =
+    let parts = c.take_apart-parts.result in
+    let journal = c.take_apart-parts.ensures.log in
+    let home : AreHome c.play-played.result.1 parts.log parts.store = record { journal = journal.0; log_home = journal.1; log_is = journal.2; store_home = c.take_apart-parts.ensures.store } in
+    names_more c.args.engine c.play-played.result.1 c.args.plan.now parts.log parts.store (c.play-played.ensures.root ∙ ap root_of c.set_plan.ensures) c.standing.ensures.home home c.standing.ensures.leaves
+
+pub returns-in-Ok-clause-stand : goal.returns-in-Ok-clause-stand
+returns-in-Ok-clause-stand g c = c.standing.ensures.side.stand c.take_apart-parts.result.store c.take_apart-parts.ensures.store
+
+pub returns-in-Err-clause-named : goal.returns-in-Err-clause-named
+returns-in-Err-clause-named g c =
+    let parts = c.take_apart-parts.result in
+    let journal = c.take_apart-parts.ensures.log in
+    let home : AreHome c.play-played.result.1 parts.log parts.store = record { journal = journal.0; log_home = journal.1; log_is = journal.2; store_home = c.take_apart-parts.ensures.store } in
+    names_more c.args.engine c.play-played.result.1 c.args.plan.now parts.log parts.store (c.play-played.ensures.root ∙ ap root_of c.set_plan.ensures) c.standing.ensures.home home c.standing.ensures.leaves
+
+pub returns-in-Err-clause-stand : goal.returns-in-Err-clause-stand
+returns-in-Err-clause-stand g c = c.standing.ensures.side.stand c.take_apart-parts.result.store c.take_apart-parts.ensures.store

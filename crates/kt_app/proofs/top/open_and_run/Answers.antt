@@ -1,16 +1,16 @@
-use Rattle.std.proofs.Common.{◌≡◌, [], ap, sym, refl, subst, inl, inr, true, false, ◌∙◌}
+use Rattle.std.proofs.Common.{[], ap, sym, refl, subst, inl, inr, true, false, ◌∙◌}
 use Rattle.std.specs.Prelude.{IsTrue}
 use Rattle.kt_history.specs.Machine.{Workload}
 use Rattle.kt_engine.specs.Engines.{KeepsOthers}
-use Rattle.kt_app.specs.Images.{CrashLeaves, Both, KeepsFiles}
+use Rattle.kt_app.specs.Images.{CrashLeaves, Both, KeepsFiles, LogIsNear}
 use Rattle.kt_app.specs.Refusals.{refusal_text}
-use Rattle.kt_app.proofs.Numbers.{keeps_files, frames_files}
+use Rattle.kt_app.proofs.Numbers.{keeps_files, frames_files, frames_near, still_near, near_at}
 use Rattle.kt_app.proofs.SourceLaws.{either}
 use Rattle.kt_app.proofs.RunLaws.{is_on, was_refused, as_before, let_be, runs_over, kept_over, rose_as, neither_rose}
 use Rattle.kt_app.proofs.top.open_and_run.Goals as goal
 
 pub open_tablet-requires-clause-table : goal.open_tablet-requires-clause-table
-open_tablet-requires-clause-table g c = λ κs outlives. c.requires.counted.table
+open_tablet-requires-clause-table g c = c.requires.counted.table
 
 pub run_and_write-status-requires-clause-work : goal.run_and_write-status-requires-clause-work
 run_and_write-status-requires-clause-work g c = λ κs outlives. is_on c.args.schema.now _ [] c.args.cells c.in-Ok-open_tablet.ensures.work
@@ -120,8 +120,27 @@ returns-in-Ok-open_tablet-clause-near g c =
     let opened = c.in-Ok-open_tablet.ensures in
     let engine = c.in-Ok-open_tablet.engine in
     let parts = c.run_and_write-status.result.1 in
-    let near = c.run_and_write-status.ensures.near in
-    rw (← opened.devices.1, ← opened.devices.2, is.1, is.2) near
+    let run = c.run_and_write-status.ensures in
+    let logs = CrashLeaves g.L.Disk.tells g.L.Disk.now g.L.Disk.leaves c.args.log in
+    let stores = CrashLeaves g.D.Disk.tells g.D.Disk.now g.D.Disk.leaves c.args.store in
+    let files = keeps_files g.L.Disk.tells g.L.Disk.now g.L.Disk.leaves c.args.log _ (subst (λ d. IsTrue g.L.Disk.tells → KeepsOthers g.L.Disk.now g.L.Disk.leaves d parts.log) opened.devices.1 run.others) in
+    let near : LogIsNear (Both logs stores) (Both (CrashLeaves g.L.Disk.tells g.L.Disk.now g.L.Disk.leaves parts.log) (CrashLeaves g.D.Disk.tells g.D.Disk.now g.D.Disk.leaves parts.store)) = λ bound three up image after n named.
+    near_at logs stores (CrashLeaves g.L.Disk.tells g.L.Disk.now g.L.Disk.leaves parts.log) (CrashLeaves g.D.Disk.tells g.D.Disk.now g.D.Disk.leaves parts.store) c.args.schema.now engine.tablet.names (g.L.Disk.seen c.args.log) (g.D.Disk.seen c.args.store)
+    (after.0.0, (g.met.L.Disk g.world.𝓛 g.world.𝓜 g.world.𝓡 ((λ s x. x), (λ x. x), (λ x. x), λ x. x)).reads_as_image c.args.log after.0.0)
+    (after.1.0, (g.met.D.Disk g.world.𝓛 g.world.𝓜 g.world.𝓡 ((λ s x. x), (λ x. x), (λ x. x), λ x. x)).reads_as_image c.args.store after.1.0)
+    opened.found.0 (opened.found.2 after.0.0 after.1.0) engine.records (opened.records after.0.0) (sym opened.found.1.records) opened.found.1.names files image after.0 (run.named image.log after.0) bound three up n named in
+    subst (λ l. LogIsNear (Both logs stores) (Both (CrashLeaves g.L.Disk.tells g.L.Disk.now g.L.Disk.leaves l) (CrashLeaves g.D.Disk.tells g.D.Disk.now g.D.Disk.leaves c.end_with-in-Ok-open_tablet.result.store))) (sym is.1)
+    (subst (λ s. LogIsNear (Both logs stores) (Both (CrashLeaves g.L.Disk.tells g.L.Disk.now g.L.Disk.leaves parts.log) (CrashLeaves g.D.Disk.tells g.D.Disk.now g.D.Disk.leaves s))) (sym is.2) near)
+
+pub returns-in-Err-clause-near : goal.returns-in-Err-clause-near
+returns-in-Err-clause-near g c =
+    let is = c.end_with-in-Err.ensures in
+    let closed = c.in-Err.closed in
+    let kept = as_before g.L.Disk.tells g.L.Disk.now g.L.Disk.leaves g.D.Disk.tells g.D.Disk.now g.D.Disk.leaves c.args.schema.now c.args.log c.args.store closed.log _ closed.store _ c.in-Err.ensures.log_moment_err c.in-Err.ensures.store_moment_err c.in-Err.ensures.any_moment is.1 is.2 in
+    frames_near _ _ _ _ kept.frames (λ files left. let was = kept.superblock files left in (was.0, was.1))
+
+pub returns-in_default-clause-near : goal.returns-in_default-clause-near
+returns-in_default-clause-near g c = let is = c.end_with.ensures in still_near g.L.Disk.tells g.L.Disk.now g.L.Disk.leaves g.D.Disk.tells g.D.Disk.now g.D.Disk.leaves c.args.log _ c.args.store _ is.1 is.2
 
 pub returns-in-Err-clause-refused : goal.returns-in-Err-clause-refused
 returns-in-Err-clause-refused g c = λ e.

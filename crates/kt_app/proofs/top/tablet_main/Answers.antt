@@ -1,12 +1,13 @@
-use Rattle.std.proofs.Common.{◌≡◌, inl, inr, true, false}
+use Rattle.std.proofs.Common.{◌≡◌, sym, subst, inl, inr, true, false, Ok, Err}
 use Rattle.std.specs.Io.KnownBytes.{Appends}
 use Rattle.kt_base.specs.Causes.{Grows}
 use Rattle.kt_script.specs.Scripts.{Said, workload}
+use Rattle.kt_reopen.specs.Both.{Answers}
 use Rattle.kt_reopen.specs.Opened.{OneRose}
 use Rattle.kt_app.specs.Images.{CrashLeaves, IsRead, Both}
 use Rattle.kt_app.specs.Crash.{RunsPlan}
 use Rattle.kt_app.proofs.Numbers.{still_near}
-use Rattle.kt_app.proofs.SourceLaws.{runs_script, stops_script, either}
+use Rattle.kt_app.proofs.SourceLaws.{said_is, runs_script, stops_script, either}
 use Rattle.kt_app.proofs.top.tablet_main.Goals as goal
 
 pub returns-in-Ok-take_script-clause-printed : goal.returns-in-Ok-take_script-clause-printed
@@ -49,6 +50,18 @@ returns-in-Ok-take_script-clause-crash g c =
     let settings = c.in-Ok.settings in
     let form = c.in-Ok.ensures.settings in
     inr (s, settings, known, form, c.open_and_run.ensures.crash)
+
+pub returns-in-Ok-take_script-clause-refuses : goal.returns-in-Ok-take_script-clause-refuses
+returns-in-Ok-take_script-clause-refuses g c = λ script settings said no form left is refusal told tells answer.
+    let s : Said = record { columns = c.in-Ok-take_script.field-0.schema; plan = c.in-Ok-take_script.field-0.plan } in
+    let same : s ≡ said = said_is _ s said script c.in-Ok-take_script.ensures.said left is in
+    c.open_and_run.ensures.refuses no refusal told tells (subst (λ (x : Said). Answers x.columns (g.L.Disk.seen c.args.log) (g.D.Disk.seen c.args.store) (Err no)) (sym same) answer)
+
+pub returns-in-Ok-take_script-clause-complete : goal.returns-in-Ok-take_script-clause-complete
+returns-in-Ok-take_script-clause-complete g c = λ script settings said found form left is told tells answer sources sinks logs stores.
+    let s : Said = record { columns = c.in-Ok-take_script.field-0.schema; plan = c.in-Ok-take_script.field-0.plan } in
+    let same : s ≡ said = said_is _ s said script c.in-Ok-take_script.ensures.said left is in
+    c.open_and_run.ensures.complete found told tells (subst (λ (x : Said). Answers x.columns (g.L.Disk.seen c.args.log) (g.D.Disk.seen c.args.store) (Ok found)) (sym same) answer) sinks logs stores
 
 pub returns-in-Err-Form-clause-near : goal.returns-in-Err-Form-clause-near
 returns-in-Err-Form-clause-near g c = let is = c.end_with.ensures in still_near g.L.Disk.tells g.L.Disk.now g.L.Disk.leaves g.D.Disk.tells g.D.Disk.now g.D.Disk.leaves c.args.log _ c.args.store _ is.1 is.2
