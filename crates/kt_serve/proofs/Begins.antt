@@ -20,7 +20,6 @@ use Rattle.kt_tablet.specs.declared.tablet.write.BeginNo.{BeginNo}
 use Rattle.kt_tablet.specs.declared.tablet.write.BeginNo.TheVariants as no
 use Rattle.kt_seatlock.specs.Trails.{Follows}
 use Rattle.kt_engine.specs.Engines.{EngineView, IsFound, TellsStop, core_from}
-use Rattle.kt_tablet.specs.Plans.{IsShort}
 use Rattle.kt_engine.proofs.Visiting.{root_stays}
 use Rattle.kt_engine.specs.Visits.{Root, root_of, PartView, part_in, session_of, out_of, IsVisit}
 use Rattle.kt_serve.specs.Sessions.{Found, HasRoot, SameRoot, OnRoot, IsFree, IsAloft, HasNoLog, IsCommand, IsWrite, IsQuiet, AnswersOne, has_stop, AfterBegin}

@@ -1,5 +1,5 @@
 -- The `stop` line of an engine that stands, and what a last append leaves.
-use Rattle.std.proofs.Common.{◌≡◌, ◌⊎◌, inl, inr, true, false, Option, Some, None, ap, sym, ◌∙◌}
+use Rattle.std.proofs.Common.{◌≡◌, inl, inr, true, false, Option, Some, None, ap, sym, ◌∙◌}
 use Rattle.kt_super.specs.declared.meta.Meta.{Meta}
 use Rattle.kt_engine.specs.Stored.{next_super}
 use Rattle.kt_serve.specs.Sessions.{has_stop}

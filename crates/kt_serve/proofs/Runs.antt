@@ -212,7 +212,7 @@ module _ {L D C : Type 0} where
   ]
 
   ends_stopped : (x : EngineView L D C) (e : End) → EndsAs x e → has_stop x.tablet.core.trail ≡ true → e ≡ how.Stopped
-  ends_stopped x how.Done ends h = let none = ends.none in absurd (cc)
+  ends_stopped x how.Done ends h = let none = ends.done.none in absurd (cc)
   ends_stopped x how.Stopped ends h = refl
   ends_stopped x how.Memory ends h = let none = ends.1 in absurd (cc)
 

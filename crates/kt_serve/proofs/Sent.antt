@@ -19,6 +19,9 @@ use Rattle.kt_tablet.specs.contracts.tablet.Tablet.TheInside as Inside
 use Rattle.kt_tablet.proofs.tablet.FlyingWrite.TheSendSync as flying
 use Rattle.kt_loglaws.specs.contracts.side.LogSide as LogSide
 use Rattle.kt_loglaws.specs.contracts.side.LogSide.TheInside as Side
+use Rattle.kt_super.proofs.meta.Meta.TheSendSync as meta
+use Rattle.kt_storeside.specs.contracts.side.StoreSide as StoreSide
+use Rattle.kt_storeside.specs.contracts.side.StoreSide.TheInside as Kept
 use Rattle.kt_engine.specs.contracts.engine.Engine as Engine
 use Rattle.kt_engine.specs.contracts.engine.Engine.TheInside as Within
 use Rattle.kt_engine.proofs.running.Running.TheSendSync as running
@@ -72,13 +75,18 @@ module _ (L : RattleType) (g : Disk.Ghosts L.Denot) where
   side_send l = view_send (Side.the_row L g) _ _ _ _ (recorded_send (Side.the_field L g).row _ _ (Side.the_type L g).to_one (struct_send (shape (Side.the_type L g))
       (search (sendable, crosses, journal.the_send, l) depth 20, (plain_send _ _ _ _ _, (plain_send _ _ _ _ _, (plain_send _ _ _ _ _, (plain_send _ _ _ _ _, (Vec-send _ entry.the_send, (Vec-send _ entry.the_send, (plain_send _ _ _ _ _, (search (sendable, crosses), (search (sendable, crosses), tt))))))))))))
 
-module _ (L D C : RattleType) (g : Disk.Ghosts L.Denot) (h : Clock.Ghosts C.Denot) where
-  pub engine_send : IsSend L → IsSend D → IsSend C → IsSend (Engine.the_row L D C g h)
-  engine_send l d c = view_send (Within.the_row L D C g h) _ _ _ _ (recorded_send (Within.the_field L D C g h).row _ _ (Within.the_type L D C g h).to_one (struct_send (shape (Within.the_type L D C g h))
-      (Box-send _ (tablet_send _ C ghosts h rowset.the_send c), (Box-send _ (side_send L g l), (d, (running.the_send, (search (sendable, crosses), (search (sendable, crosses), (search (sendable, crosses), tt)))))))))
+module _ (D : RattleType) (g : Disk.Ghosts D.Denot) where
+  pub store_send : IsSend D → IsSend (StoreSide.the_row D g)
+  store_send d = view_send (Kept.the_row D g) _ _ _ _ (recorded_send (Kept.the_field D g).row _ _ (Kept.the_type D g).to_one (struct_send (shape (Kept.the_type D g))
+      (search (sendable, crosses, d) depth 20, (plain_send _ _ _ _ _, (plain_send _ _ _ _ _, (meta.the_field_send, (plain_send _ _ _ _ _, (plain_send _ _ _ _ _, (search (sendable, crosses), (search (sendable, crosses), tt))))))))))
 
-  pub shared_sync : IsSend L → IsSend D → IsSend C → IsSync (SharedTablet.the_row L D C g h)
-  shared_sync l d c = recorded_sync (SharedTablet.the_field L D C g h).row _ _ (SharedTablet.the_type L D C g h).to_one (struct_sync (shape (SharedTablet.the_type L D C g h)) (lock.the_field_sync (Engine.the_row L D C g h) Event.the_row (Part.the_row L D C g h) _ (engine_send l d c), tt))
+module _ (L D C : RattleType) (g : Disk.Ghosts L.Denot) (k : Disk.Ghosts D.Denot) (h : Clock.Ghosts C.Denot) where
+  pub engine_send : IsSend L → IsSend D → IsSend C → IsSend (Engine.the_row L D C g k h)
+  engine_send l d c = view_send (Within.the_row L D C g k h) _ _ _ _ (recorded_send (Within.the_field L D C g k h).row _ _ (Within.the_type L D C g k h).to_one (struct_send (shape (Within.the_type L D C g k h))
+      (Box-send _ (tablet_send _ C ghosts h rowset.the_send c), (Box-send _ (side_send L g l), (Box-send _ (store_send D k d), (running.the_send, (search (sendable, crosses), (search (sendable, crosses), (search (sendable, crosses), (search (sendable, crosses), tt))))))))))
+
+  pub shared_sync : IsSend L → IsSend D → IsSend C → IsSync (SharedTablet.the_row L D C g k h)
+  shared_sync l d c = recorded_sync (SharedTablet.the_field L D C g k h).row _ _ (SharedTablet.the_type L D C g k h).to_one (struct_sync (shape (SharedTablet.the_type L D C g k h)) (lock.the_field_sync (Engine.the_row L D C g k h) Event.the_row (Part.the_row L D C g k h) _ (engine_send l d c), tt))
 
 -- a closure of six captures may be shared where each of them may
 pub captured_sync : (ν : Sym) (R S T U V W : RattleType) → IsSync R → IsSync S → IsSync T → IsSync U → IsSync V → IsSync W → IsSync (TupleAt ν (R ∷ S ∷ T ∷ U ∷ V ∷ W ∷ []))

@@ -1,4 +1,4 @@
-use Rattle.std.proofs.Common.{◌≡◌, Err, Some, None, refl, sym, ap, ◌∙◌, subst}
+use Rattle.std.proofs.Common.{Err, None, sym, ap, ◌∙◌}
 use Rattle.kt_engine.specs.Visits.{root_of}
 use Rattle.kt_serve.proofs.Closing.{none_some, done_on}
 use Rattle.kt_serve.proofs.close.publish_last.Goals as goal
@@ -10,8 +10,8 @@ unreachable-requires-in-Err-Out g c =
     let out = (c.store_out.ensures.out c.in-Err-Out.field-0-0).0 (c.in-Err-Out.is ∙ ap Err c.in-Err-Out.field-0-is) in
     none_some c.in-Err-Out.field-0-0 (sym c.requires.store_home ∙ out.1)
 
-pub store_out-requires-clause-settled : goal.store_out-requires-clause-settled
-store_out-requires-clause-settled g c = λ publishes. (c.requires.done.out, c.requires.done.queued)
+pub store_out-requires : goal.store_out-requires
+store_out-requires g c = record { settled = λ publishes. (c.requires.done.out, c.requires.done.queued) }
 
 pub publish_lent-requires-clause-done : goal.publish_lent-requires-clause-done
 publish_lent-requires-clause-done g c = done_on c.args.engine.now _ c.requires.done (ap (λ v. v.tablet) c.in-Ok.ensures.lent.2) (ap (λ v. v.log) c.in-Ok.ensures.lent.2)

@@ -14,12 +14,12 @@ use Rattle.kt_serve.proofs.run.run_all.Goals as goal
 
 pub for_each_mut-requires-send-T : goal.for_each_mut-requires-send-T
 for_each_mut-requires-send-T g c = λ κs within.
-    let e = engine_send _ _ _ g.L.Disk g.C.Clock c.type_bounds.send-L c.type_bounds.send-D c.type_bounds.send-C in
+    let e = engine_send _ _ _ g.L.Disk g.D.Disk g.C.Clock c.type_bounds.send-L c.type_bounds.send-D c.type_bounds.send-C in
     param_send 1 _ (arg_send _ no _ (place.the_send _ _ _ _ e))
 
 pub for_each_mut-requires-sync-F : goal.for_each_mut-requires-sync-F
 for_each_mut-requires-sync-F g c = λ κs within.
-    let t = shared_sync _ _ _ g.L.Disk g.C.Clock c.type_bounds.send-L c.type_bounds.send-D c.type_bounds.send-C in
+    let t = shared_sync _ _ _ g.L.Disk g.D.Disk g.C.Clock c.type_bounds.send-L c.type_bounds.send-D c.type_bounds.send-C in
     param_sync 2 _ (arg_sync _ no _ (captured_sync _ _ _ _ _ _ _ (shr_sync _ _ _ c.type_bounds.sync-R) (shr_sync _ _ _ global.the_sync) (shr_sync _ _ _ schema.the_sync) (shr_sync _ _ _ t) (shr_slice_sync _ _ _ session.the_sync) (shr_sync _ _ _ c.type_bounds.sync-G)))
 
 pub for_each_mut-requires-clause-accepts : goal.for_each_mut-requires-clause-accepts
