@@ -14,7 +14,7 @@ use Rattle.kt_lookup.specs.Index.{Rises}
 use Rattle.kt_deltafile.specs.declared.file.Way.{Way}
 use Rattle.kt_deltafile.specs.declared.file.Way.TheVariants.{Redo, Undo}
 use Rattle.kt_deltafile.specs.Order.{in_order, ordinal_at, ts_at, last_ordinal, last_ts, may_follow}
-use Rattle.kt_deltafile.specs.Rules.{ChangeFits, Follows, IsFile}
+use Rattle.kt_deltafile.specs.Rules.{ChangeFits, FileFits, Follows, IsFile}
 use Rattle.kt_merge.specs.Fitting.{AreFalling}
 use Rattle.kt_merge.specs.Told.{deletes_of, AreOfRows}
 use Rattle.kt_merge.proofs.ToldRows.{AllOf}
@@ -136,3 +136,43 @@ redo_more m redos (Some ts) file low few in_time room =
       count = (let n = length-append redos (d ∷ []) in omega (arith, n, room));
       each = each_append (Follows Redo (2 ^ 32)) [] redos (d ∷ []) file.each (follows_first Redo m redos d low refl few (in_time ts refl) tt, tt);
     }
+
+-- ---- files over their own rows
+
+both_left : (a b : Bool) → (a && b) ≡ true → a ≡ true
+both_left true b e = refl
+both_left false b e = e
+
+each_over : (way : Way) (n : ℕ) (front list : List Delta) → AreOfRows n list → EachAfter (Follows way (2 ^ 32)) front list → EachAfter (Follows way n) front list
+each_over way n front [] own each = tt
+each_over way n front (d ∷ list) own each = (
+  record {
+    comes = both (nat_le (last_ordinal front) d.ordinal) (nat_lt d.ordinal n) (both_left (nat_le (last_ordinal front) d.ordinal) (nat_lt d.ordinal (2 ^ 32)) each.0.comes) (lt-ltb d.ordinal n own.0);
+    ordinal = each.0.ordinal;
+    order = each.0.order;
+    ts = each.0.ts;
+    change = each.0.change;
+  },
+  each_over way n (front ++ d ∷ []) list own.1 each.1,
+)
+
+-- records of so many rows, which can be a file, are one over so many rows
+pub file_over : (way : Way) (n : ℕ) (list : List Delta) → IsFile way list → AreOfRows n list → FileFits way n list
+file_over way n list file own = record { count = file.count; each = each_over way n [] list own file.each }
+
+each_under : (way : Way) (n : ℕ) (front list : List Delta) → EachAfter (Follows way n) front list → EachAfter (Follows way (2 ^ 32)) front list
+each_under way n front [] each = tt
+each_under way n front (d ∷ list) each = (
+  record {
+    comes = both (nat_le (last_ordinal front) d.ordinal) (nat_lt d.ordinal (2 ^ 32)) (both_left (nat_le (last_ordinal front) d.ordinal) (nat_lt d.ordinal n) each.0.comes) (lt-ltb d.ordinal (2 ^ 32) each.0.ordinal);
+    ordinal = each.0.ordinal;
+    order = each.0.order;
+    ts = each.0.ts;
+    change = each.0.change;
+  },
+  each_under way n (front ++ d ∷ []) list each.1,
+)
+
+-- and a file over so many rows is one over any number
+pub file_under : (way : Way) (n : ℕ) (list : List Delta) → FileFits way n list → IsFile way list
+file_under way n list file = record { count = file.count; each = each_under way n [] list file.each }

@@ -11,14 +11,20 @@ use Rattle.kt_histlaws.specs.Disks.{DiskRow}
 use Rattle.kt_baseset.specs.declared.schema.ColumnShape.{ColumnShape}
 use Rattle.kt_baseset.specs.declared.rows.KeyedRow.{KeyedRow}
 use Rattle.kt_baseset.specs.Rows.{AreKeys, keys_in}
+use Rattle.kt_baseset.specs.Tables.{BaseValue}
+use Rattle.kt_history.specs.declared.changes.Delta.{Delta}
+use Rattle.kt_deltafile.specs.declared.file.Way.{Way}
+use Rattle.kt_deltafile.specs.declared.file.Way.TheVariants.{Redo, Undo}
+use Rattle.kt_deltafile.specs.Rules.{FileFits}
+use Rattle.kt_diskrowset.specs.declared.files.FileHeld.{FileHeld}
 use Rattle.kt_diskrowset.specs.declared.data.RowSetData.{RowSetData}
 use Rattle.kt_merge.specs.Merge.{told_of}
 use Rattle.kt_merge.specs.Minor.{held_records}
-use Rattle.kt_merge.specs.Told.{Told, told_from, told_in, told_by_all, told_so_far, insert_len, is_full, rows_in, IsOpen, IsTaken, IsOutput, AreOutputs, Grown}
+use Rattle.kt_merge.specs.Told.{Told, told_from, told_in, told_by_all, told_so_far, insert_len, is_full, rows_in, AreFilesOver, AreNewFiles, IsOpen, IsTaken, IsOutput, AreOutputs, Grown}
 use Rattle.kt_merge.specs.declared.output.Growing.{Growing}
 use Rattle.kt_merge.specs.declared.outputs.Writing.{Writing}
 use Rattle.kt_merge.proofs.Cuts.{all_more, or_parts, has_last, outputs_more, told-more, is_cut, taken_more}
-use Rattle.kt_merge.proofs.FilesMore.{rises_of, rising_more}
+use Rattle.kt_merge.proofs.FilesMore.{file_over, rises_of, rising_more}
 use Rattle.kt_merge.proofs.ToldRows.{told_keys}
 
 -- ---- the keys of a base file
@@ -32,6 +38,25 @@ pub are_keys : (columns : List ColumnShape) (g : Growing) → Grown columns g �
 are_keys columns g grown some few =
     let count : length (keys_in g.rows.items) ≡ length g.rows.items = length-map g.rows.items (λ (r : KeyedRow). r.key) in
     record { some = omega (arith, count, some); few = omega (arith, count, few); rise = rises_of (keys_in g.rows.items) grown.rise; short = short_all (keys_in g.rows.items) grown.short }
+
+-- ---- its records
+
+-- the records of rows that were taken are of the rows of their base file
+module _ (columns : List ColumnShape) (g : Growing) (set : BaseValue) (grown : Grown columns g) (is : set ≡ record { schema = columns; rows = g.rows.items }) where
+  pub undone_over : FileFits Undo (length set.rows) g.undos.items
+  undone_over = subst (λ (s : BaseValue). FileFits Undo (length s.rows) g.undos.items) (sym is) (file_over Undo (length g.rows.items) g.undos.items grown.undos grown.undone)
+
+  pub redone_over : FileFits Redo (length set.rows) g.redos.items
+  redone_over = subst (λ (s : BaseValue). FileFits Redo (length s.rows) g.redos.items) (sym is) (file_over Redo (length g.rows.items) g.redos.items grown.redos grown.redone)
+
+-- a new file has the records that it was given
+pub files_over : (way : Way) (n rows : ℕ) (files : List FileHeld) (records : List Delta) → AreNewFiles files → AllByRecursion (λ (f : FileHeld). f.deltas.value.way ≡ way) files → held_records files ≡ records → FileFits way n records → rows ≡ n
+    → AreFilesOver way rows files
+files_over way n rows [] records new ways are fits same = tt
+files_over way n rows (f ∷ []) records new ways are fits same =
+    let list : f.deltas.value.list ≡ records = sym (append-nil f.deltas.value.list) ∙ are in
+    ((ways.0, subst (λ (m : ℕ). FileFits way m f.deltas.value.list) (sym same) (subst (FileFits way n) (sym list) fits)), tt)
+files_over way n rows (f ∷ g ∷ files) records new ways are fits same = absurd new
 
 -- ---- what a rowset tells
 

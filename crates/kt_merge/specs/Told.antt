@@ -11,7 +11,8 @@ use Rattle.kt_baseset.specs.declared.schema.ColumnShape.{ColumnShape}
 use Rattle.kt_baseset.specs.declared.rows.KeyedRow.{KeyedRow}
 use Rattle.kt_baseset.specs.Rows.{AllFit, keys_in}
 use Rattle.kt_deltafile.specs.declared.file.Way.TheVariants.{Undo, Redo}
-use Rattle.kt_deltafile.specs.Rules.{IsFile}
+use Rattle.kt_deltafile.specs.declared.file.Way.{Way}
+use Rattle.kt_deltafile.specs.Rules.{FileFits, IsFile}
 use Rattle.kt_rowfiles.specs.Files.{records_for}
 use Rattle.kt_diskrowset.specs.declared.data.RowSetData.{RowSetData}
 use Rattle.kt_diskrowset.specs.declared.files.FileHeld.{FileHeld}
@@ -66,17 +67,22 @@ AreNewFiles [] = Unit {0}
 AreNewFiles (f ∷ []) = IsNewFile f × (0 < length f.deltas.value.list)
 AreNewFiles (f ∷ g ∷ files) = ⊥
 
--- A disk rowset that is written: its number and its files are still to be given, it has these columns, and no change in memory
+abbrev pub rows_in : RowSetData → List KeyedRow
+rows_in d = d.base.set.value.rows
+
+-- files of this way, whose records are of so many rows
+abbrev pub AreFilesOver : Way → ℕ → List FileHeld → Type 0
+AreFilesOver way rows files = AllByRecursion (λ (f : FileHeld). (f.deltas.value.way ≡ way) × FileFits way rows f.deltas.value.list) files
+
+-- A disk rowset that is written: its number and its files are still to be given, it has these columns, its records are of its rows,
+-- and it has no change in memory
 pub record IsOutput (columns : List ColumnShape) (d : RowSetData) : Type 0 where
   pub number : d.number ≡ 0
   pub base : (d.base.file ≡ 0) × (d.base.len ≡ 0)
   pub schema : d.base.set.value.schema ≡ columns
-  pub undo : AreNewFiles d.undo × AllByRecursion (λ (f : FileHeld). f.deltas.value.way ≡ Undo) d.undo
-  pub redo : AreNewFiles d.redo × AllByRecursion (λ (f : FileHeld). f.deltas.value.way ≡ Redo) d.redo
+  pub undo : AreNewFiles d.undo × AreFilesOver Undo (length (rows_in d)) d.undo
+  pub redo : AreNewFiles d.redo × AreFilesOver Redo (length (rows_in d)) d.redo
   pub fresh : d.fresh ≡ []
-
-abbrev pub rows_in : RowSetData → List KeyedRow
-rows_in d = d.base.set.value.rows
 
 -- Disk rowsets that were written in turn: their keys rise from one to the next, and each takes rows until it is full
 pub record AreOutputs (columns : List ColumnShape) (rowsets : List RowSetData) : Type 0 where

@@ -8,8 +8,8 @@ ghost use Rattle.kt_history.specs.Rows.{key_cmp};
 ghost use Rattle.std.specs.declared.cmp.Ordering.TheVariants.{Less};
 ghost use Rattle.kt_baseset.specs.declared.schema.ColumnShape.{ColumnShape};
 ghost use Rattle.kt_baseset.specs.Rows.{IdsRise, keys_in};
-ghost use Rattle.kt_deltafile.specs.declared.file.Way.TheVariants.{Redo};
-ghost use Rattle.kt_deltafile.specs.Rules.{IsFile};
+ghost use Rattle.kt_deltafile.specs.declared.file.Way.TheVariants.{Redo, Undo};
+ghost use Rattle.kt_deltafile.specs.Rules.{FileFits, IsFile};
 ghost use Rattle.kt_merge.specs.Fitting.{FitsFiles};
 ghost use Rattle.kt_merge.specs.Minor.{held_records};
 ghost use Rattle.kt_merge.specs.Rows.{disk_row_of};
@@ -117,6 +117,32 @@ fn new_base(alloc: Global, set: BaseSet) -> Result<BaseHeld, NoMemory>
         file: 0,
         len: 0,
         set: Arc::new(alloc, set)?,
+    })
+}
+
+// A disk rowset of rows and of records of them, whose number and files are still to be given.
+fn new_rowset(
+    alloc: Global,
+    set: BaseSet,
+    undos: Vec<Delta>,
+    redos: Vec<Delta>,
+) -> Result<RowSetData, NoMemory>
+    requires undos { FileFits Undo (length set.rows) undos.items }
+    requires redos { FileFits Redo (length set.rows) redos.items }
+    ensures output { IfOk result (IsOutput set.schema) }
+    ensures rows { IfOk result (λ d. rows_in d ≡ set.rows) }
+    ensures undos { IfOk result (λ d. held_records d.undo ≡ undos.items) }
+    ensures redos { IfOk result (λ d. held_records d.redo ≡ redos.items) }
+{
+    let base = new_base(alloc, set)?;
+    let undo = new_file(alloc, Way::Undo, undos)?;
+    let redo = new_file(alloc, Way::Redo, redos)?;
+    Ok(RowSetData {
+        number: 0,
+        base,
+        undo,
+        redo,
+        fresh: DeltaList::of(Vec::new(alloc)),
     })
 }
 
@@ -228,6 +254,8 @@ impl Growing {
         ensures base { IfOk result (λ files. files.0 ≡ record { schema = columns.now; rows = self.rows.items }) }
         ensures undos { IfOk result (λ files. files.1.items ≡ self.undos.items) }
         ensures redos { IfOk result (λ files. files.2.items ≡ self.redos.items) }
+        ensures undone { IfOk result (λ files. FileFits Undo (length files.0.rows) files.1.items) }
+        ensures redone { IfOk result (λ files. FileFits Redo (length files.0.rows) files.2.items) }
     {
         let Growing {
             rows,
@@ -253,12 +281,7 @@ impl Growing {
     {
         let full = mem::replace(self, Growing::new(alloc));
         let (set, undos, redos) = full.files(alloc, columns)?;
-        Ok(RowSetData {
-            number: 0,
-            base: new_base(alloc, set)?,
-            undo: new_file(alloc, Way::Undo, undos)?,
-            redo: new_file(alloc, Way::Redo, redos)?,
-            fresh: DeltaList::of(Vec::new(alloc)),
-        })
+        let rowset = new_rowset(alloc, set, undos, redos)?;
+        Ok(rowset)
     }
 }
