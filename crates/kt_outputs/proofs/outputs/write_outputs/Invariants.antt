@@ -1,0 +1,22 @@
+use Rattle.std.proofs.Common.{◌≡◌, ◌≤◌, ◌<◌, ◌+◌, ◌^◌, IsTrue, take, map, length}
+use Rattle.std.specs.Vec.{vec_len, vec_capacity}
+use Rattle.kt_disk.specs.Disk.{Files}
+use Rattle.kt_diskrowset.specs.Data.{held_in}
+use Rattle.kt_files.specs.Reading.{HoldAll}
+use Rattle.kt_outputs.specs.Outputs.{meta_in, AreWhole, AreThere, HasLeft, AreStable, AreWritten}
+use Rattle.kt_outputs.proofs.outputs.write_outputs.Given as goal
+
+abbrev pub invariant-outputs : goal.invariant-outputs
+invariant-outputs g l = record {
+  long : vec_len l.rowsets ≡ l.rowset-index;
+  room : length l.outputs.rowsets ≤ vec_capacity l.rowsets;
+  rowset : l.next.rowset ≡ l.initial.next.rowset + l.rowset-index;
+  written : AreWritten l.initial.next.rowset (take l.rowset-index l.outputs.rowsets) l.rowsets.items;
+  holds : IsTrue g.D.Disk.tells → AreWhole (take l.rowset-index l.outputs.rowsets) → (files : Files) → AreThere l.initial.next.file l.next.file (g.D.Disk.seen l.disk) files → HoldAll files (map (meta_in 0) l.rowsets.items) (map held_in l.rowsets.items);
+  up : l.initial.next.file ≤ l.next.file;
+  few_rowsets : l.initial.next.rowset < 2 ^ 62 → l.next.rowset < 2 ^ 62;
+  few_files : l.initial.next.file < 2 ^ 62 → l.next.file < 2 ^ 62;
+  stable : IsTrue g.D.Disk.tells → AreStable g.D.Disk.seen g.D.Disk.now g.D.Disk.leaves l.initial.next.file l.next.file l.disk;
+  left : IsTrue g.D.Disk.tells → HasLeft g.D.Disk.seen g.D.Disk.now g.D.Disk.leaves l.initial.next.file l.next.file l.initial.disk l.disk;
+  faults : g.D.Disk.faults l.initial.disk ≤ g.D.Disk.faults l.disk;
+}
