@@ -1,5 +1,5 @@
 -- A session moves from seat to seat, and the others stay.
-use Rattle.std.proofs.Common.{◌≡◌, ◌<◌, ◌≤◌, ◌^◌, ℕ, zero, suc, ◌+◌, List, [], ◌∷◌, length, map, Some, None, Option, refl, sym, true, false, ap, ◌∙◌, subst, arith, drop, add-one}
+use Rattle.std.proofs.Common.{◌≡◌, ◌<◌, ◌≤◌, ℕ, zero, suc, ◌+◌, List, [], ◌∷◌, length, map, Some, None, Option, refl, sym, true, false, ap, ◌∙◌, subst, arith, drop, add-one}
 use Rattle.std.specs.Prelude.{◌==◌, slice_get, slice_set, Result, Ok, Err, IfOk}
 use Rattle.kt_history.specs.declared.command.Command.{Command}
 use Rattle.kt_history.specs.declared.command.Command.TheVariants as command

@@ -8,11 +8,10 @@ use Rattle.std.proofs.lemmas.List.{append-nil}
 use Rattle.std.proofs.lemmas.List.Concat.{flat_map-append}
 use Rattle.kt_base.specs.declared.cell.Cell.TheVariants as cell
 use Rattle.kt_history.specs.declared.command.Command.{Command}
-use Rattle.kt_history.specs.declared.command.Command.TheVariants as command
 use Rattle.kt_history.specs.declared.operation.OpKind.{OpKind}
 use Rattle.kt_history.specs.declared.operation.OpKind.TheVariants.{Insert, Upsert, Update, Delete, InsertIgnore, UpdateIgnore, DeleteIgnore}
 use Rattle.kt_history.specs.declared.operation.RowOp.{RowOp}
-use Rattle.kt_history.specs.Machine.{Workload, HasDifferentKeys, nth, command_of, ops_of}
+use Rattle.kt_history.specs.Machine.{Workload, nth, command_of}
 use Rattle.kt_history.specs.Operations.{DifferentKeys}
 use Rattle.kt_history.specs.Rows.{Row, key_cmp}
 use Rattle.kt_history.proofs.Lengths.{length-operation}

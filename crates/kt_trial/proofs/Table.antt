@@ -1,5 +1,5 @@
 -- The table is one that a first superblock may have, and what such a superblock says of a store that names no file.
-use Rattle.std.proofs.Common.{◌≡◌, ℕ, zero, suc, ◌+◌, ◌<◌, ◌≤◌, List, [], ◌∷◌, Some, None, Ok, refl, sym, ap, ◌∙◌, subst, lit<, arith}
+use Rattle.std.proofs.Common.{◌≡◌, ℕ, zero, suc, ◌+◌, List, [], Some, None, Ok, refl, sym, ap, subst, lit<, arith}
 use Rattle.std.specs.Prelude.{slice_get, true, false}
 use Rattle.kt_disk.specs.Disk.{Files}
 use Rattle.kt_disk.specs.Memory.{MemView, mem_seen, mem_now, mem_leaves}
@@ -26,9 +26,10 @@ is_table = record {
   ids = ids;
   spelled = (
     record { id = refl; name = refl; name_len = lit< tt; flags = refl; default = tt },
-    record { id = refl; name = refl; name_len = lit< tt; flags = refl; default = tt },
-    record { id = refl; name = refl; name_len = lit< tt; flags = refl; default = omega arith },
-    tt,
+    (
+      record { id = refl; name = refl; name_len = lit< tt; flags = refl; default = tt },
+      (record { id = refl; name = refl; name_len = lit< tt; flags = refl; default = omega arith }, tt),
+    ),
   );
 }
 

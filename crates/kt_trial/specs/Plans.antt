@@ -1,5 +1,5 @@
 -- Plans whose writes may be asked for.
-use Rattle.std.specs.Prelude.{◌≡◌, ◌≤◌, ◌+◌, ◌*◌, ℕ, true, false, List, [], ◌∷◌, ◌++◌, length}
+use Rattle.std.specs.Prelude.{◌≡◌, ◌≤◌, ◌+◌, ◌*◌, ℕ, false, List, [], ◌∷◌, ◌++◌, length}
 use Rattle.std.specs.List.{All, flat_map, sum_by}
 use Rattle.kt_base.specs.declared.cell.Cell.{Cell}
 use Rattle.kt_history.specs.declared.command.Command.{Command}

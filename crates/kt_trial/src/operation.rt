@@ -66,7 +66,7 @@ pub fn need(ops: &[Op]) -> u32 {
 
 fn with(cell: Option<(u16, i64)>, line: Line) -> Line {
     match cell {
-        Some((1, value)) => Line {
+        Some((2, value)) => Line {
             x: Some(value),
             y: line.y,
         },

@@ -46,7 +46,7 @@ fn cells_for(alloc: Global, dice: &mut Dice, kind: OpKind) -> Result<Cells, NoMe
     if !has_cell(kind) {
         return Ok(Cells::of(Vec::new(alloc)));
     }
-    let column = 1 + dice.below(2) as u16;
+    let column = 2 + dice.below(2) as u16;
     let value = dice.below(1000);
     one_cell(alloc, column, value)
 }

@@ -18,7 +18,7 @@ fn line_of(cells: &Cells) -> Option<Line> {
     match cells.as_slice() {
         [(first, x), (second, y)] => {
             let columns = (*first, *second);
-            if columns.0 != 1 || columns.1 != 2 {
+            if columns.0 != 2 || columns.1 != 3 {
                 return None;
             }
             Some(Line {

@@ -1,5 +1,5 @@
 //! A store in memory with the first superblock of a table.
-ghost use Rattle.std.specs.Prelude.{◌≡◌, ◌≤◌, ◌×◌, ℕ, IsTrue, IfOk, Ok, Some, None};
+ghost use Rattle.std.specs.Prelude.{◌≡◌, ◌≤◌, ℕ, IsTrue, IfOk, Ok, Some, None};
 ghost use Rattle.kt_disk.specs.Memory.{mem_seen, mem_now, mem_leaves};
 ghost use Rattle.kt_super.specs.Body.{IsMeta};
 ghost use Rattle.kt_super.specs.Slots.{super_of, AreStable};

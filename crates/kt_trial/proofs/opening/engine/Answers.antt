@@ -28,7 +28,7 @@ mems names is = subst (All IsMem) (sym is) (All-cons IsMem (Mem 7) [] (lit< tt, 
 
 pub of-requires-clause-named : goal.of-requires-clause-named
 of-requires-clause-named c =
-    bare_named _ _ c.fresh-superblock.ensures (mems _ c.in_ok-tablet.ensures.names) (subst NamesDiffer (sym c.in_ok-tablet.ensures.names) (tt, tt))
+    bare_named _ _ c.fresh-superblock.ensures (mems _ c.in_ok-tablet.ensures.new.names) (subst NamesDiffer (sym c.in_ok-tablet.ensures.new.names) (tt, tt))
 
 pub of-requires-clause-numbers : goal.of-requires-clause-numbers
 of-requires-clause-numbers c = any_numbers _ _ _
@@ -41,7 +41,7 @@ of-requires-clause-commits c = subst AreCommits (sym c.no_records-none.ensures) 
 
 pub of-requires-clause-taken_up : goal.of-requires-clause-taken_up
 of-requires-clause-taken_up c =
-    bare_takes_up c.in_ok-tablet.tablet _ c.in-Ok.records c.no_records-none.result c.fresh-superblock.ensures c.in_ok-tablet.ensures.trail c.in_ok-tablet.ensures.starts.rests (mems _ c.in_ok-tablet.ensures.names) c.standing.ensures.named c.standing.ensures.sound.stands
+    bare_takes_up c.in_ok-tablet.tablet _ c.in-Ok.records c.no_records-none.result c.fresh-superblock.ensures c.in_ok-tablet.ensures.new.trail c.in_ok-tablet.ensures.new.starts.rests (mems _ c.in_ok-tablet.ensures.new.names) c.standing.ensures.named c.standing.ensures.sound.stands
     (log_none c.in-Ok.records c.no_records-none.result c.no_records-none.ensures c.in-Ok.ensures.sound) (λ first opens. due_none _ _ c.in-Ok.records c.no_records-none.result first c.no_records-none.ensures)
 
 pub of-requires-clause-untold : goal.of-requires-clause-untold
@@ -60,8 +60,8 @@ pub of-requires-clause-others : goal.of-requires-clause-others
 of-requires-clause-others c = λ told. subst (λ (d : MemView). KeepsOthers mem_now mem_leaves d c.in-Ok.journal.disk) (sym c.of-device.ensures) (opened_others mem_now mem_leaves c.new-disk.result c.in-Ok.journal.disk (c.in-Ok.ensures.frames told))
 
 pub of-requires-clause-superblock : goal.of-requires-clause-superblock
-of-requires-clause-superblock c = λ told. first_says c.args.schema.now _ _ _ c.in_ok-first_store.ensures.meta c.fresh-superblock.ensures
+of-requires-clause-superblock c = λ told. first_says c.args.schema.now _ _ _ c.in_ok-side.ensures.meta c.fresh-superblock.ensures
 
 pub of-requires-clause-mark : goal.of-requires-clause-mark
 of-requires-clause-mark c =
-    (ap (λ m. m.a) c.in_ok-first_store.ensures.meta ∙ sym c.in_ok-tablet.ensures.mark.0, c.in_ok-tablet.ensures.mark.1 ∙ sym c.in_ok-tablet.ensures.mark.0)
+    (ap (λ m. m.a) c.in_ok-side.ensures.meta ∙ sym c.in_ok-tablet.ensures.mark.0, c.in_ok-tablet.ensures.mark.1 ∙ sym c.in_ok-tablet.ensures.mark.0)
