@@ -2,7 +2,8 @@
 use Rattle.std.proofs.Common.{◌≡◌, ◌≢◌, ◌≤◌, ◌<◌, ◌+◌, ◌⊎◌, ℕ, suc, List, [], ◌∷◌, ◌++◌, Option, Some, None, length, map, take, get_or, inl, inr, refl, sym, ap, subst, ◌∙◌, arith}
 use Rattle.std.specs.List.{AllByRecursion}
 use Rattle.std.proofs.lemmas.Bool.{cases_lt}
-use Rattle.std.proofs.lemmas.List.{take_more, map_push, length-take-le}
+use Rattle.std.proofs.lemmas.List.{append-nil, take_more, map_push, length-take-le}
+use Rattle.std.proofs.lemmas.Grind.{flat_map-append}
 use Rattle.std.proofs.Math.Seq.{take-length}
 use Rattle.kt_disk.specs.Disk.{Files, held, LeavesOnly, ButFiles}
 use Rattle.kt_disk.proofs.Moments.{started, joined, weaker}
@@ -26,7 +27,7 @@ use Rattle.kt_diskrowset.specs.Rowset.{HeldFiles, held_with, files_with}
 use Rattle.kt_diskrowset.specs.Data.{held_in, files_in}
 use Rattle.kt_files.specs.Held.{base_in}
 use Rattle.kt_files.specs.Reading.{HoldsBase, HoldsDeltas, HoldEach, HoldsRowset, HoldAll}
-use Rattle.kt_outputs.specs.Outputs.{base_ref, delta_ref, meta_in, IsOfWay, AreOfWay, IsWhole, AreWhole, AreThere, ButNumbers, HasLeft, AreStable, AreWritten}
+use Rattle.kt_outputs.specs.Outputs.{base_ref, delta_ref, meta_in, delta_numbers, file_numbers, all_file_numbers, CountUp, IsOfWay, AreOfWay, IsWhole, AreWhole, AreThere, ButNumbers, HasLeft, AreStable, AreWritten}
 
 -- ---- the disk
 
@@ -186,6 +187,27 @@ rowset_same number b undo redo was base undos redos =
     told : (v w : BaseValue) (us vs rs ws : List (List Delta)) → v ≡ w → us ≡ vs → rs ≡ ws → files_told v us rs ≡ files_told w vs ws
     told v w us vs rs ws x y z =
         ap (λ (a : BaseValue). files_told a us rs) x ∙ ap (λ (l : List (List Delta)). files_told w l rs) y ∙ ap (λ (l : List (List Delta)). files_told w vs l) z
+
+-- ---- numbers in turn
+
+count_then : (first mid next : ℕ) (xs ys : List ℕ) → CountUp first mid xs → CountUp mid next ys → CountUp first next (xs ++ ys)
+count_then first mid next [] ys front back = subst (λ (n : ℕ). CountUp n next ys) front back
+count_then first mid next (x ∷ xs) ys front back = (front.0, count_then (suc first) mid next xs ys front.1 back)
+
+pub counted_files : (first mid next : ℕ) (held more : List FileHeld) (f : FileHeld) → more ≡ held ++ f ∷ [] → CountUp first mid (delta_numbers held) → f.file ≡ mid → next ≡ mid + 1 → CountUp first next (delta_numbers more)
+counted_files first mid next held more f added so_far is up =
+    let last : next ≡ suc mid = omega arith in
+    subst (CountUp first next) (sym (ap delta_numbers added ∙ map_push (λ (g : FileHeld). g.file) held f)) (count_then first mid next (delta_numbers held) (f.file ∷ []) so_far (is, last))
+
+pub counted_rowset : (n0 n1 n2 n3 file : ℕ) (undos redos : List ℕ) → file ≡ n0 → n1 ≡ n0 + 1 → CountUp n1 n2 undos → CountUp n2 n3 redos → CountUp n0 n3 (file ∷ undos ++ redos)
+counted_rowset n0 n1 n2 n3 file undos redos is up undo redo =
+    let second : n1 ≡ suc n0 = omega arith in
+    count_then n0 n2 n3 (file ∷ undos) redos (is, subst (λ (n : ℕ). CountUp n n2 undos) second undo) redo
+
+pub counted_rowsets : (first mid next : ℕ) (done more : List RowSetData) (d : RowSetData) → more ≡ done ++ d ∷ [] → CountUp first mid (all_file_numbers done) → CountUp mid next (file_numbers d) → CountUp first next (all_file_numbers more)
+counted_rowsets first mid next done more d added so_far own =
+    subst (CountUp first next) (sym (ap all_file_numbers added ∙ flat_map-append file_numbers done (d ∷ [])))
+    (count_then first mid next (all_file_numbers done) (file_numbers d ++ []) so_far (subst (CountUp mid next) (sym (append-nil (file_numbers d))) own))
 
 -- ---- one more of each
 

@@ -1,6 +1,6 @@
 -- What is written of new disk rowsets.
-use Rattle.std.specs.Prelude.{◌≡◌, ◌≤◌, ◌<◌, ◌⊎◌, ℕ, suc, List, [], ◌∷◌, map, length}
-use Rattle.std.specs.List.{AllByRecursion}
+use Rattle.std.specs.Prelude.{◌≡◌, ◌≤◌, ◌<◌, ◌⊎◌, ℕ, suc, List, [], ◌∷◌, ◌++◌, map, length}
+use Rattle.std.specs.List.{AllByRecursion, flat_map}
 use Rattle.kt_disk.specs.Disk.{Files, LeavesOnly}
 use Rattle.kt_super.specs.declared.meta.FileRef.{FileRef}
 use Rattle.kt_super.specs.declared.meta.MetaRowset.{MetaRowset}
@@ -23,6 +23,23 @@ delta_ref f = record { file = f.file; len = f.len }
 -- a disk rowset whose files hold all DeltaMemStores up to a number
 abbrev pub meta_in : ℕ → RowSetData → MetaRowset
 meta_in last_dms d = record { rowset = d.number; last_dms = last_dms; base = base_ref d.base; undo = map delta_ref d.undo; redo = map delta_ref d.redo }
+
+-- ---- the numbers of files
+
+abbrev pub delta_numbers : List FileHeld → List ℕ
+delta_numbers files = map (λ (f : FileHeld). f.file) files
+
+-- of a disk rowset: its base file, its UNDO files and its REDO files
+abbrev pub file_numbers : RowSetData → List ℕ
+file_numbers d = d.base.file ∷ delta_numbers d.undo ++ delta_numbers d.redo
+
+abbrev pub all_file_numbers : List RowSetData → List ℕ
+all_file_numbers rowsets = flat_map file_numbers rowsets
+
+-- each number from one up to another, in turn
+abbrev pub CountUp : ℕ → ℕ → List ℕ → Type 0
+CountUp first next [] = next ≡ first
+CountUp first next (n ∷ numbers) = (n ≡ first) × CountUp (suc first) next numbers
 
 -- ---- what a delta file is to have: the way that it is named for, and records of so many rows
 

@@ -7,7 +7,7 @@ ghost use Rattle.kt_diskrowset.specs.Files.{as_file, as_files, lists_of};
 ghost use Rattle.kt_diskrowset.specs.Data.{held_in, files_in};
 ghost use Rattle.kt_files.specs.Held.{base_in};
 ghost use Rattle.kt_files.specs.Reading.{HoldsBase, HoldsDeltas, HoldEach, HoldsRowset, HoldAll};
-ghost use Rattle.kt_outputs.specs.Outputs.{base_ref, delta_ref, meta_in, IsOfWay, AreOfWay, IsWhole, AreWhole, AreThere, HasLeft, AreStable, AreWritten};
+ghost use Rattle.kt_outputs.specs.Outputs.{base_ref, delta_ref, meta_in, delta_numbers, file_numbers, all_file_numbers, CountUp, IsOfWay, AreOfWay, IsWhole, AreWhole, AreThere, HasLeft, AreStable, AreWritten};
 ghost use Rattle.kt_outputs.specs.declared.outputs.WriteNo.{WriteNo};
 ghost use Rattle.kt_outputs.specs.declared.outputs.WriteNo.TheVariants as write_no;
 
@@ -98,6 +98,8 @@ fn write_base<D: Disk>(
     requires vacant { IsTrue D.tells → (n : ℕ) → next.old ≤ n → D.seen disk.old n ≡ None }
     requires apart { 3 ≤ next.old }
     ensures same { IfOk result (λ b. b.set.value ≡ base.now.set.value) }
+    ensures number { IfOk result (λ b. b.file ≡ next.old) }
+    ensures given { OnOk result (next.new ≡ next.old + 1) }
     ensures holds { IfOk result (λ b. IsTrue D.tells → (files : Files) → AreThere next.old next.new (D.seen disk.new) files → HoldsBase files (base_ref b) (base_in b)) }
     ensures up { next.old ≤ next.new }
     ensures few { next.old < 2 ^ 62 → next.new < 2 ^ 62 }
@@ -127,6 +129,8 @@ fn write_delta<D: Disk>(
     requires vacant { IsTrue D.tells → (n : ℕ) → next.old ≤ n → D.seen disk.old n ≡ None }
     requires apart { 3 ≤ next.old }
     ensures same { IfOk result (λ f. f.deltas.value ≡ delta.now.deltas.value) }
+    ensures number { IfOk result (λ f. f.file ≡ next.old) }
+    ensures given { OnOk result (next.new ≡ next.old + 1) }
     ensures holds { IfOk result (λ f. IsTrue D.tells → (way : Way) (rows : ℕ) → IsOfWay way rows delta.now → (files : Files) → AreThere next.old next.new (D.seen disk.new) files → HoldsDeltas files way rows (delta_ref f) (as_file f)) }
     ensures up { next.old ≤ next.new }
     ensures few { next.old < 2 ^ 62 → next.new < 2 ^ 62 }
@@ -156,6 +160,7 @@ fn write_deltas<D: Disk>(
     requires vacant { IsTrue D.tells → (n : ℕ) → next.old ≤ n → D.seen disk.old n ≡ None }
     requires apart { 3 ≤ next.old }
     ensures same { IfOk result (λ written. lists_of written ≡ lists_of deltas.now) }
+    ensures numbered { IfOk result (λ written. CountUp next.old next.new (delta_numbers written)) }
     ensures holds { IfOk result (λ written. IsTrue D.tells → (way : Way) (rows : ℕ) → AreOfWay way rows deltas.now → (files : Files) → AreThere next.old next.new (D.seen disk.new) files → HoldEach files way rows (map delta_ref written) (as_files written)) }
     ensures up { next.old ≤ next.new }
     ensures few { next.old < 2 ^ 62 → next.new < 2 ^ 62 }
@@ -184,6 +189,7 @@ fn write_rowset<D: Disk>(
     requires apart { 3 ≤ next.old }
     ensures same { IfOk result (λ d. files_in d ≡ record (files_in rowset.now) { rowset = number }) }
     ensures fresh { IfOk result (λ d. d.fresh ≡ []) }
+    ensures numbered { IfOk result (λ d. CountUp next.old next.new (file_numbers d)) }
     ensures holds { IfOk result (λ d. IsTrue D.tells → IsWhole rowset.now → (files : Files) → AreThere next.old next.new (D.seen disk.new) files → HoldsRowset files (meta_in 0 d) (held_in d)) }
     ensures up { next.old ≤ next.new }
     ensures few { next.old < 2 ^ 62 → next.new < 2 ^ 62 }
@@ -219,6 +225,9 @@ pub fn write_outputs<D: Disk>(
 
     ensures written { IfOk result (λ done. AreWritten next.old.rowset outputs.now.rowsets done.rowsets) }
     ensures rowset { OnOk result (next.new.rowset ≡ next.old.rowset + length outputs.now.rowsets) }
+
+    // Each file has a number of its own, the next one.
+    ensures numbered { IfOk result (λ done. CountUp next.old.file next.new.file (all_file_numbers done.rowsets)) }
 
     // The files hold them, and so do those of any image that has the same files of these numbers.
     ensures holds { IfOk result (λ done. IsTrue D.tells → AreWhole outputs.now.rowsets → (files : Files) → AreThere next.old.file next.new.file (D.seen disk.new) files → HoldAll files (map (meta_in 0) done.rowsets) (map held_in done.rowsets)) }

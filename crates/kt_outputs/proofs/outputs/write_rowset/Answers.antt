@@ -1,7 +1,8 @@
 use Rattle.std.proofs.Common.{◌∙◌, ap, arith}
 use Rattle.kt_diskrowset.specs.Files.{lists_of}
 use Rattle.kt_deltafile.specs.declared.file.Way.TheVariants.{Redo, Undo}
-use Rattle.kt_outputs.proofs.Written.{free_then, left_then, left_three, stable_three, there_first, there_second, there_third, rowset_holds, rowset_same}
+use Rattle.kt_outputs.specs.Outputs.{delta_numbers}
+use Rattle.kt_outputs.proofs.Written.{counted_rowset, free_then, left_then, left_three, stable_three, there_first, there_second, there_third, rowset_holds, rowset_same}
 use Rattle.kt_outputs.proofs.outputs.write_rowset.Goals as goal
 
 -- the numbers behind the files that are written are free
@@ -56,3 +57,8 @@ returns-clause-holds g c = λ told whole files there.
     (there_second seen now leaves c.args.next.now c.write_base.new.next c.write_deltas.new.next c.write_deltas-2.new.next c.args.disk.now c.write_base.new.disk c.write_deltas.new.disk c.write_deltas-2.new.disk base.up undo.up redo.up (base.left told) (undo.left told) (redo.left told) files there))
     (λ rows of. redo.holds told Redo rows of files
     (there_third seen now leaves c.args.next.now c.write_base.new.next c.write_deltas.new.next c.write_deltas-2.new.next c.args.disk.now c.write_base.new.disk c.write_deltas.new.disk c.write_deltas-2.new.disk base.up undo.up redo.up (base.left told) (undo.left told) (redo.left told) files there))
+
+pub returns-clause-numbered : goal.returns-clause-numbered
+returns-clause-numbered g c =
+    counted_rowset c.args.next.now c.write_base.new.next c.write_deltas.new.next c.write_deltas-2.new.next c.in_ok-base.base.file (delta_numbers c.in_ok-undo.undo) (delta_numbers c.in_ok-redo.redo)
+    c.in_ok-base.ensures.number c.in_ok-base.ensures.given c.in_ok-undo.ensures.numbered c.in_ok-redo.ensures.numbered
