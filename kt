@@ -19,7 +19,7 @@ Until the program is built, and after each change of it, an unproved and slow bu
 Status  0 each command was answered     4 a folder is not there, in use, or failed
         1 other words than these        5 the script could not be read
         2 the text is no script         6 the output could not be written
-        3 the log is refused            7 memory ran out
+        3 the disks are refused         7 memory ran out
         8 what is checked is not the output of a run    9 what stands behind the script is at fault
        70 the program could be neither built nor tried: standard error says why
 
