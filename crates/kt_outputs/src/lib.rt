@@ -5,6 +5,7 @@
 //! takes back, and on kt_diskrowset for disk rowsets as plain data.
 #![tactic(auto)]
 
+pub mod laws;
 pub mod missed;
 pub mod outputs;
 

@@ -1,5 +1,5 @@
 //! Writing the files of new disk rowsets.
-ghost use Rattle.std.specs.Prelude.{◌≡◌, ◌≤◌, ◌<◌, ◌+◌, ◌^◌, [], ℕ, IsTrue, Err, Some, None, IfOk, OnOk, map, length};
+ghost use Rattle.std.specs.Prelude.{◌≡◌, ◌≤◌, ◌<◌, ◌+◌, ◌^◌, [], ℕ, true, IsTrue, Err, Some, None, IfOk, OnOk, map, length};
 ghost use Rattle.kt_base.specs.Causes.{Rose};
 ghost use Rattle.kt_disk.specs.Disk.{Files};
 ghost use Rattle.kt_deltafile.specs.declared.file.Way.{Way};
@@ -7,6 +7,8 @@ ghost use Rattle.kt_diskrowset.specs.Files.{as_file, as_files, lists_of};
 ghost use Rattle.kt_diskrowset.specs.Data.{held_in, files_in};
 ghost use Rattle.kt_files.specs.Held.{base_in};
 ghost use Rattle.kt_files.specs.Reading.{HoldsBase, HoldsDeltas, HoldEach, HoldsRowset, HoldAll};
+ghost use Rattle.kt_super.specs.Rowsets.{is_small};
+ghost use Rattle.kt_outputs.specs.Named.{AreShortFiles, IsShort, AreShort};
 ghost use Rattle.kt_outputs.specs.Outputs.{base_ref, delta_ref, meta_in, delta_numbers, file_numbers, all_file_numbers, CountUp, IsOfWay, AreOfWay, IsWhole, AreWhole, AreThere, HasLeft, AreStable, AreWritten};
 ghost use Rattle.kt_outputs.specs.declared.outputs.WriteNo.{WriteNo};
 ghost use Rattle.kt_outputs.specs.declared.outputs.WriteNo.TheVariants as write_no;
@@ -65,7 +67,11 @@ pub struct NextNumbers {
 // A superblock can spell numbers below this one, and one more.
 const MOST_NUMBERS: u64 = (1 << 62) - 2;
 
-// Writes the next file and makes it stable. It tells the length. Where no number is left there is no memory for it.
+// And lengths below this one.
+const MOST_LEN: u64 = 1 << 62;
+
+// Writes the next file and makes it stable. It tells the length. Where no number is left, or the length is too great for a superblock, there is no memory
+// for it.
 fn write_next<D: Disk>(disk: &mut D, next: &mut u64, bytes: &[u8]) -> Result<u64, WriteNo>
     requires vacant { IsTrue D.tells → (n : ℕ) → next.old ≤ n → D.seen disk.old n ≡ None }
     requires apart { 3 ≤ next.old }
@@ -73,6 +79,7 @@ fn write_next<D: Disk>(disk: &mut D, next: &mut u64, bytes: &[u8]) -> Result<u64
     ensures few { next.old < 2 ^ 62 → next.new < 2 ^ 62 }
     ensures given { OnOk result (next.new ≡ next.old + 1) }
     ensures len { IfOk result (λ len. len ≡ length bytes.now) }
+    ensures short { IfOk result (λ len. is_small len ≡ true) }
     ensures written { OnOk result (IsTrue D.tells → D.seen disk.new next.old ≡ Some bytes.now) }
     ensures stable { OnOk result (IsTrue D.tells → AreStable D.seen D.now D.leaves next.old next.new disk.new) }
     ensures left { IsTrue D.tells → HasLeft D.seen D.now D.leaves next.old next.new disk.old disk.new }
@@ -80,12 +87,13 @@ fn write_next<D: Disk>(disk: &mut D, next: &mut u64, bytes: &[u8]) -> Result<u64
     ensures faults { D.faults disk.old ≤ D.faults disk.new }
 {
     let file = *next;
-    if file >= MOST_NUMBERS {
+    let len = bytes.len() as u64;
+    if file >= MOST_NUMBERS || len >= MOST_LEN {
         return Err(WriteNo::Memory);
     }
     *next = file + 1;
     write_file(disk, file, bytes)?;
-    Ok(bytes.len() as u64)
+    Ok(len)
 }
 
 // Writes a base file.
@@ -99,6 +107,7 @@ fn write_base<D: Disk>(
     requires apart { 3 ≤ next.old }
     ensures same { IfOk result (λ b. b.set.value ≡ base.now.set.value) }
     ensures number { IfOk result (λ b. b.file ≡ next.old) }
+    ensures short { IfOk result (λ b. is_small b.len ≡ true) }
     ensures given { OnOk result (next.new ≡ next.old + 1) }
     ensures holds { IfOk result (λ b. IsTrue D.tells → (files : Files) → AreThere next.old next.new (D.seen disk.new) files → HoldsBase files (base_ref b) (base_in b)) }
     ensures up { next.old ≤ next.new }
@@ -130,6 +139,7 @@ fn write_delta<D: Disk>(
     requires apart { 3 ≤ next.old }
     ensures same { IfOk result (λ f. f.deltas.value ≡ delta.now.deltas.value) }
     ensures number { IfOk result (λ f. f.file ≡ next.old) }
+    ensures short { IfOk result (λ f. is_small f.len ≡ true) }
     ensures given { OnOk result (next.new ≡ next.old + 1) }
     ensures holds { IfOk result (λ f. IsTrue D.tells → (way : Way) (rows : ℕ) → IsOfWay way rows delta.now → (files : Files) → AreThere next.old next.new (D.seen disk.new) files → HoldsDeltas files way rows (delta_ref f) (as_file f)) }
     ensures up { next.old ≤ next.new }
@@ -161,6 +171,7 @@ fn write_deltas<D: Disk>(
     requires apart { 3 ≤ next.old }
     ensures same { IfOk result (λ written. lists_of written ≡ lists_of deltas.now) }
     ensures numbered { IfOk result (λ written. CountUp next.old next.new (delta_numbers written)) }
+    ensures short { IfOk result (λ written. AreShortFiles written) }
     ensures holds { IfOk result (λ written. IsTrue D.tells → (way : Way) (rows : ℕ) → AreOfWay way rows deltas.now → (files : Files) → AreThere next.old next.new (D.seen disk.new) files → HoldEach files way rows (map delta_ref written) (as_files written)) }
     ensures up { next.old ≤ next.new }
     ensures few { next.old < 2 ^ 62 → next.new < 2 ^ 62 }
@@ -190,6 +201,7 @@ fn write_rowset<D: Disk>(
     ensures same { IfOk result (λ d. files_in d ≡ record (files_in rowset.now) { rowset = number }) }
     ensures fresh { IfOk result (λ d. d.fresh ≡ []) }
     ensures numbered { IfOk result (λ d. CountUp next.old next.new (file_numbers d)) }
+    ensures short { IfOk result (λ d. IsShort d) }
     ensures holds { IfOk result (λ d. IsTrue D.tells → IsWhole rowset.now → (files : Files) → AreThere next.old next.new (D.seen disk.new) files → HoldsRowset files (meta_in 0 d) (held_in d)) }
     ensures up { next.old ≤ next.new }
     ensures few { next.old < 2 ^ 62 → next.new < 2 ^ 62 }
@@ -226,8 +238,9 @@ pub fn write_outputs<D: Disk>(
     ensures written { IfOk result (λ done. AreWritten next.old.rowset outputs.now.rowsets done.rowsets) }
     ensures rowset { OnOk result (next.new.rowset ≡ next.old.rowset + length outputs.now.rowsets) }
 
-    // Each file has a number of its own, the next one.
+    // Each file has a number of its own, the next one, and a length that a superblock can spell.
     ensures numbered { IfOk result (λ done. CountUp next.old.file next.new.file (all_file_numbers done.rowsets)) }
+    ensures short { IfOk result (λ done. AreShort done.rowsets) }
 
     // The files hold them, and so do those of any image that has the same files of these numbers.
     ensures holds { IfOk result (λ done. IsTrue D.tells → AreWhole outputs.now.rowsets → (files : Files) → AreThere next.old.file next.new.file (D.seen disk.new) files → HoldAll files (map (meta_in 0) done.rowsets) (map held_in done.rowsets)) }

@@ -1,8 +1,11 @@
-use Rattle.std.proofs.Common.{◌≤◌, ◌<◌, List, length, map, refl, sym, ap, subst, ◌∙◌, arith, rules}
+use Rattle.std.proofs.Common.{◌≡◌, true, ◌≤◌, ◌<◌, List, length, map, refl, sym, ap, subst, ◌∙◌, arith, rules}
 use Rattle.std.proofs.lemmas.List.{take_all}
 use Rattle.kt_diskrowset.specs.declared.files.FileHeld.{FileHeld}
 use Rattle.kt_diskrowset.specs.Files.{as_files, lists_of}
 use Rattle.kt_files.specs.Reading.{HoldEach}
+use Rattle.kt_super.specs.Rowsets.{is_small}
+use Rattle.kt_outputs.specs.Named.{AreShortFiles}
+use Rattle.kt_outputs.proofs.Named.{all_and}
 use Rattle.kt_outputs.specs.Outputs.{delta_ref, delta_numbers, CountUp, IsOfWay, AreOfWay}
 use Rattle.kt_outputs.proofs.Written.{left_none, stable_none, free_then, left_then, stable_then, there_before, there_behind, lists_more, each_written, of_way_more, counted_files}
 use Rattle.kt_outputs.proofs.outputs.write_deltas.Goals as goal
@@ -17,6 +20,7 @@ deltas-init g c = record {
   same = ap lists_of c.in_ok-files.ensures.items;
   holds = λ told way rows of files there. subst (λ (l : List FileHeld). HoldEach files way rows (map delta_ref l) (as_files l)) (sym c.in_ok-files.ensures.items) tt;
   numbered = subst (λ (l : List FileHeld). CountUp c.args.next.now c.args.next.now (delta_numbers l)) (sym c.in_ok-files.ensures.items) refl;
+  short = subst AreShortFiles (sym c.in_ok-files.ensures.items) tt;
   up = omega arith;
   few = λ few. few;
   stable = λ told. stable_none g.D.Disk.seen g.D.Disk.now g.D.Disk.leaves c.args.next.now c.args.disk.now;
@@ -51,6 +55,7 @@ deltas-preserved g c =
           (i.holds told way rows parts.0 files (there_before seen now leaves c.args.next.now c.deltas.next c.write_delta.new.next c.args.disk.now c.deltas.disk c.write_delta.new.disk i.up up (e.left told) files there))
           (e.holds told way rows (subst (IsOfWay way rows) (sym c.delta-item.is) parts.1) files (there_behind seen now leaves c.args.next.now c.deltas.next c.write_delta.new.next c.args.disk.now c.deltas.disk c.write_delta.new.disk i.up up files there));
       numbered = counted_files c.args.next.now c.deltas.next c.write_delta.new.next c.deltas.files.items c.push_reserved.new.self.items c.in_ok-file.file c.push_reserved.ensures.items i.numbered e.number e.given;
+      short = all_and (λ (f : FileHeld). is_small f.len ≡ true) c.deltas.files.items c.push_reserved.new.self.items c.in_ok-file.file c.push_reserved.ensures.items i.short e.short;
       up = (let a = i.up in omega arith);
       few = λ few. e.few (i.few few);
       stable = λ told. stable_then seen now leaves c.args.next.now c.deltas.next c.write_delta.new.next c.args.disk.now c.deltas.disk c.write_delta.new.disk i.up up (i.stable told) (e.left told) (e.stable told);
@@ -68,3 +73,6 @@ returns-clause-holds g c = λ told way rows of files there.
 
 pub returns-clause-numbered : goal.returns-clause-numbered
 returns-clause-numbered g c = subst (λ (l : List FileHeld). CountUp c.args.next.now c.deltas.next (delta_numbers l)) (sym c.of.ensures) c.deltas.invariant.numbered
+
+pub returns-clause-short : goal.returns-clause-short
+returns-clause-short g c = subst AreShortFiles (sym c.of.ensures) c.deltas.invariant.short

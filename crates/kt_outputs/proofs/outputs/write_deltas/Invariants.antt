@@ -4,6 +4,7 @@ use Rattle.kt_deltafile.specs.declared.file.Way.{Way}
 use Rattle.kt_disk.specs.Disk.{Files}
 use Rattle.kt_diskrowset.specs.Files.{as_files, lists_of}
 use Rattle.kt_files.specs.Reading.{HoldEach}
+use Rattle.kt_outputs.specs.Named.{AreShortFiles}
 use Rattle.kt_outputs.specs.Outputs.{delta_ref, delta_numbers, CountUp, AreOfWay, AreThere, HasLeft, AreStable}
 use Rattle.kt_outputs.proofs.outputs.write_deltas.Given as goal
 
@@ -14,6 +15,7 @@ invariant-deltas g l = record {
   same : lists_of l.files.items ≡ lists_of (take l.delta-index l.deltas);
   holds : IsTrue g.D.Disk.tells → (way : Way) (rows : ℕ) → AreOfWay way rows (take l.delta-index l.deltas) → (files : Files) → AreThere l.initial.next l.next (g.D.Disk.seen l.disk) files → HoldEach files way rows (map delta_ref l.files.items) (as_files l.files.items);
   numbered : CountUp l.initial.next l.next (delta_numbers l.files.items);
+  short : AreShortFiles l.files.items;
   up : l.initial.next ≤ l.next;
   few : l.initial.next < 2 ^ 62 → l.next < 2 ^ 62;
   stable : IsTrue g.D.Disk.tells → AreStable g.D.Disk.seen g.D.Disk.now g.D.Disk.leaves l.initial.next l.next l.disk;

@@ -3,6 +3,8 @@ use Rattle.std.proofs.lemmas.List.{take_all}
 use Rattle.kt_diskrowset.specs.declared.data.RowSetData.{RowSetData}
 use Rattle.kt_diskrowset.specs.Data.{files_in, held_in}
 use Rattle.kt_files.specs.Reading.{HoldAll}
+use Rattle.kt_outputs.specs.Named.{IsShort, AreShort}
+use Rattle.kt_outputs.proofs.Named.{all_and}
 use Rattle.kt_outputs.specs.Outputs.{meta_in, all_file_numbers, CountUp, IsWhole, AreWhole, AreWritten}
 use Rattle.kt_outputs.proofs.Written.{left_none, stable_none, free_then, left_then, stable_then, there_before, there_behind, all_written, written_more, whole_more, counted_rowsets}
 use Rattle.kt_outputs.proofs.outputs.write_outputs.Goals as goal
@@ -18,6 +20,7 @@ outputs-init g c = record {
   written = subst (AreWritten c.args.next.now.rowset []) (sym c.in_ok-rowsets.ensures.items) tt;
   holds = λ told whole files there. subst (λ (l : List RowSetData). HoldAll files (map (meta_in 0) l) (map held_in l)) (sym c.in_ok-rowsets.ensures.items) tt;
   numbered = subst (λ (l : List RowSetData). CountUp c.args.next.now.file c.args.next.now.file (all_file_numbers l)) (sym c.in_ok-rowsets.ensures.items) refl;
+  short = subst AreShort (sym c.in_ok-rowsets.ensures.items) tt;
   up = omega arith;
   few_rowsets = λ few. few;
   few_files = λ few. few;
@@ -58,6 +61,7 @@ outputs-preserved g c =
           (i.holds told parts.0 files (there_before seen now leaves c.args.next.now.file c.outputs.next.file c.write_rowset.new.next c.args.disk.now c.outputs.disk c.write_rowset.new.disk i.up e.up (e.left told) files there))
           (e.holds told (subst IsWhole (sym is) parts.1) files (there_behind seen now leaves c.args.next.now.file c.outputs.next.file c.write_rowset.new.next c.args.disk.now c.outputs.disk c.write_rowset.new.disk i.up e.up files there));
       numbered = counted_rowsets c.args.next.now.file c.outputs.next.file c.write_rowset.new.next c.outputs.rowsets.items c.push_reserved.new.self.items c.in_ok-written.written c.push_reserved.ensures.items i.numbered e.numbered;
+      short = all_and (λ (d : RowSetData). IsShort d) c.outputs.rowsets.items c.push_reserved.new.self.items c.in_ok-written.written c.push_reserved.ensures.items i.short e.short;
       up = (let a = i.up in let b = e.up in omega arith);
       few_rowsets = λ few. omega arith;
       few_files = λ few. e.few (i.few_files few);
@@ -79,3 +83,6 @@ returns-clause-holds g c = λ told whole files there.
 pub returns-clause-numbered : goal.returns-clause-numbered
 returns-clause-numbered g c =
     subst (λ (l : List RowSetData). CountUp c.args.next.now.file c.outputs.next.file (all_file_numbers l)) (sym c.of.ensures) c.outputs.invariant.numbered
+
+pub returns-clause-short : goal.returns-clause-short
+returns-clause-short g c = subst AreShort (sym c.of.ensures) c.outputs.invariant.short

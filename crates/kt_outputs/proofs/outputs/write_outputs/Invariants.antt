@@ -3,6 +3,7 @@ use Rattle.std.specs.Vec.{vec_len, vec_capacity}
 use Rattle.kt_disk.specs.Disk.{Files}
 use Rattle.kt_diskrowset.specs.Data.{held_in}
 use Rattle.kt_files.specs.Reading.{HoldAll}
+use Rattle.kt_outputs.specs.Named.{AreShort}
 use Rattle.kt_outputs.specs.Outputs.{meta_in, all_file_numbers, CountUp, AreWhole, AreThere, HasLeft, AreStable, AreWritten}
 use Rattle.kt_outputs.proofs.outputs.write_outputs.Given as goal
 
@@ -14,6 +15,7 @@ invariant-outputs g l = record {
   written : AreWritten l.initial.next.rowset (take l.rowset-index l.outputs.rowsets) l.rowsets.items;
   holds : IsTrue g.D.Disk.tells → AreWhole (take l.rowset-index l.outputs.rowsets) → (files : Files) → AreThere l.initial.next.file l.next.file (g.D.Disk.seen l.disk) files → HoldAll files (map (meta_in 0) l.rowsets.items) (map held_in l.rowsets.items);
   numbered : CountUp l.initial.next.file l.next.file (all_file_numbers l.rowsets.items);
+  short : AreShort l.rowsets.items;
   up : l.initial.next.file ≤ l.next.file;
   few_rowsets : l.initial.next.rowset < 2 ^ 62 → l.next.rowset < 2 ^ 62;
   few_files : l.initial.next.file < 2 ^ 62 → l.next.file < 2 ^ 62;

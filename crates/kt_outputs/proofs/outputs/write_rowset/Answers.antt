@@ -62,3 +62,6 @@ pub returns-clause-numbered : goal.returns-clause-numbered
 returns-clause-numbered g c =
     counted_rowset c.args.next.now c.write_base.new.next c.write_deltas.new.next c.write_deltas-2.new.next c.in_ok-base.base.file (delta_numbers c.in_ok-undo.undo) (delta_numbers c.in_ok-redo.redo)
     c.in_ok-base.ensures.number c.in_ok-base.ensures.given c.in_ok-undo.ensures.numbered c.in_ok-redo.ensures.numbered
+
+pub returns-clause-short : goal.returns-clause-short
+returns-clause-short g c = record { base = c.in_ok-base.ensures.short; undo = c.in_ok-undo.ensures.short; redo = c.in_ok-redo.ensures.short }
