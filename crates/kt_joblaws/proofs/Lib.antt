@@ -1,2 +1,5 @@
 pub mod Groups
 pub mod ChangesOver
+pub mod WrittenFits
+pub mod Passing
+pub mod Listed

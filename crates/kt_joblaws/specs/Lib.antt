@@ -1,1 +1,2 @@
 pub mod ChangesOver
+pub mod Outputs
