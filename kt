@@ -13,6 +13,8 @@ The storage engine of one Kudu tablet: runs a script of writes and scans.
   ./kt build                         proves the program and builds it
   ./kt --help                        this text
 
+run takes --pool CELLS, the memory for rows in cells of 64 bytes: 1,024 to 4,194,304, by default 262,144.
+
 For a first look: ./kt memory run < examples/first.kt
 Until the program is built, and after each change of it, an unproved and slow build of it runs, in about a minute.
 
