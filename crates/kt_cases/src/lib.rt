@@ -8,10 +8,6 @@ mod disk;
 #[cfg(test)]
 mod host;
 #[cfg(test)]
-mod memrowset;
-#[cfg(test)]
-mod merging;
-#[cfg(test)]
 mod mvcc;
 #[cfg(test)]
 mod policy;

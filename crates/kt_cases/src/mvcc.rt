@@ -1,7 +1,10 @@
-ghost use Rattle.std.specs.Prelude.{◌-◌, ◌^◌, ◌<◌};
+ghost use Rattle.std.specs.Prelude.{◌-◌, ◌^◌, ◌<◌, IfOk};
+ghost use Rattle.kt_cells.specs.Spelled.{SpellsCells};
 
-use crate::memrowset::spelled;
-use kt_base::{Cells, NoMemory};
+use kt_base::{Cells, NoMemory, Octets};
+use kt_cells::Tail;
+use kt_cells::laws::spelled_law;
+use kt_cells::writing::put_cell_list;
 use kt_history::{OpKind, OpList, OpRef};
 use kt_mvcc::{Flight, KeyList};
 use std::alloc::Global;
@@ -33,9 +36,19 @@ fn readings_of_the_clock(rt: HostRuntime) {
     }
 }
 
+// No cells, spelled behind their count.
+fn no_cells(alloc: Global) -> Result<Octets, NoMemory>
+    ensures { IfOk result (λ bytes. SpellsCells bytes) }
+{
+    let mut out = Tail::of(Octets::new(alloc));
+    put_cell_list(&mut out, &Cells::of(Vec::new(alloc)))?;
+    spelled_law();
+    Ok(out.whole())
+}
+
 // The key of a write of one delete.
 fn key(alloc: Global) -> Result<KeyList, NoMemory> {
-    let cells = spelled(alloc, &Cells::of(Vec::new(alloc)))?;
+    let cells = no_cells(alloc)?;
     let mut ops = OpList::new(alloc);
     ops.push(&OpRef::of(OpKind::Delete, b"k", cells.as_slice()))?;
     Ok(KeyList::of_ops(ops))

@@ -16,8 +16,6 @@ mod fitting;
 mod fresh;
 pub mod inputs;
 pub mod laws;
-#[cfg(test)]
-mod life;
 pub mod mems;
 pub mod page;
 mod row_store;
@@ -25,8 +23,6 @@ pub mod rows;
 pub mod rowset;
 pub mod table;
 mod taking;
-#[cfg(test)]
-mod tests;
 pub mod view;
 
 pub use alive::is_alive;

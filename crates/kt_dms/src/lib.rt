@@ -11,7 +11,5 @@ pub mod keys;
 pub mod laws;
 pub mod rows;
 pub mod store;
-#[cfg(test)]
-mod tests;
 
 pub use store::DeltaMem;

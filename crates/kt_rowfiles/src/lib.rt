@@ -8,8 +8,6 @@
 pub mod laws;
 pub mod records;
 pub mod taking;
-#[cfg(test)]
-mod tests;
 mod undo_fit;
 pub mod writing;
 

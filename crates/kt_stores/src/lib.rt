@@ -6,7 +6,5 @@
 #![tactic(auto)]
 
 pub mod stores;
-#[cfg(test)]
-mod tests;
 
 pub use stores::Stores;

@@ -1,0 +1,2 @@
+mod OneKey
+mod Written
