@@ -1,7 +1,9 @@
 //! The inputs of a merge, of changes of one key or of disk rowsets, and what is written of them.
-ghost use Rattle.std.specs.Prelude.{◌≡◌, ◌<◌, ◌^◌, true, length, IfOk};
+ghost use Rattle.std.specs.Prelude.{◌≡◌, ◌<◌, ◌^◌, [], true, length, IfOk, IfSome};
 ghost use Rattle.std.specs.Bool.{OnTrue};
 ghost use Rattle.std.specs.List.{AllByRecursion, sum_by};
+ghost use Rattle.kt_diskrowset.specs.Data.{files_in};
+ghost use Rattle.kt_diskrowset.specs.Rows.{UndosLeadBack};
 ghost use Rattle.kt_merge.specs.Changes.{rises};
 ghost use Rattle.kt_merge.specs.Merge.{changes_in, rows_and_changes, AreReadable, IsReadable};
 ghost use Rattle.kt_merge.specs.Minor.{held_records};
@@ -9,7 +11,7 @@ ghost use Rattle.kt_merge.specs.Minor.{held_records};
 use kt_base::{Kind, NoMemory};
 use kt_baseset::{ColumnShape, Schema1};
 use kt_diskrowset::{ChangeLists, FileHeld, Inputs, Outputs, RowSetData, RowSetList};
-use kt_history::{ChangeList, Kindly};
+use kt_history::{ChangeList, DeltaList, Kindly};
 use kt_merge::merge_rows;
 use std::alloc::Global;
 use std::test::Fail;
@@ -120,4 +122,30 @@ pub(crate) fn written(
         return Err("too late a mark, or too many changes".into());
     }
     Ok(merge_rows(alloc, inputs, bound, mark)?)
+}
+
+/// The last rowset that was written, if there is one, as it is opened: without a change in memory.
+pub(crate) fn opened(alloc: Global, outputs: Outputs) -> Result<Option<RowSetData>, NoMemory>
+    ensures lead { IfOk result (λ found. IfSome found (λ d. UndosLeadBack (files_in d))) }
+    ensures none { IfOk result (λ found. IfSome found (λ d. d.fresh ≡ [])) }
+{
+    match outputs.rowsets.into_vec().pop() {
+        Some(rowset) => Ok(Some(bare(alloc, rowset)?)),
+        None => Ok(None),
+    }
+}
+
+// The rowset as it is opened.
+fn bare(alloc: Global, rowset: RowSetData) -> Result<RowSetData, NoMemory>
+    ensures lead { IfOk result (λ d. UndosLeadBack (files_in d)) }
+    ensures none { IfOk result (λ d. d.fresh ≡ []) }
+{
+    let plain = RowSetData {
+        number: rowset.number,
+        base: rowset.base,
+        undo: rowset.undo,
+        redo: rowset.redo,
+        fresh: DeltaList::of(Vec::new(alloc)),
+    };
+    plain.readable(alloc)
 }

@@ -7,9 +7,13 @@ mod cells;
 #[cfg(test)]
 mod deltamem;
 #[cfg(test)]
+mod dice;
+#[cfg(test)]
 mod files;
 #[cfg(test)]
 mod flushing;
+#[cfg(test)]
+mod histories;
 #[cfg(test)]
 mod inputs;
 #[cfg(test)]
