@@ -1,5 +1,5 @@
 //! Bytes that are added behind others, and may be taken back.
-ghost use Rattle.std.specs.Prelude.{◌≡◌, ◌++◌, ◌∷◌, [], OnOk};
+ghost use Rattle.std.specs.Prelude.{◌≡◌, ◌<◌, ◌++◌, ◌∷◌, [], length, slice_set, OnOk};
 
 use kt_base::{NoMemory, Octets};
 use std::marker::Model;
@@ -49,6 +49,23 @@ impl Tail {
     {
         self.bytes.push(byte)?;
         Ok(())
+    }
+
+    /// How many bytes were added.
+    pub fn len(&self) -> usize
+        ensures { result ≡ length self.now.added }
+    {
+        self.bytes.len() - self.start
+    }
+
+    /// Writes a byte over one that was added.
+    pub fn set(&mut self, at: usize, byte: u8)
+        requires { at < length self.old.added }
+        ensures front { self.new.front ≡ self.old.front }
+        ensures added { self.new.added ≡ slice_set self.old.added at byte }
+    {
+        let place = self.start + at;
+        self.bytes[place] = byte;
     }
 
     /// The bytes that were added.

@@ -6,7 +6,8 @@ ghost use Rattle.kt_journal.specs.Frames.{frame};
 ghost use Rattle.kt_journal.specs.Order.{IsFramed};
 
 use kt_base::{NoMemory, Octets};
-use kt_records::{Entry, spell};
+use kt_cells::Tail;
+use kt_records::{Entry, put_entry};
 use std::alloc::Global;
 use std::mem;
 
@@ -14,28 +15,41 @@ use std::mem;
 const FRAME_USUAL: usize = 64;
 
 // Writes a length behind the gate at this place.
-fn set_length(bytes: &mut Vec<u8>, gate: usize, len: u32)
-    requires { gate + 5 ≤ length bytes.old.items }
-    ensures { bytes.new.items ≡ slice_set (slice_set (slice_set (slice_set bytes.old.items (gate + 1) (len % 256)) (gate + 2) (len / 256 % 256)) (gate + 3) (len / 65536 % 256)) (gate + 4) (len / 16777216 % 256) }
+fn set_length(out: &mut Tail, gate: usize, len: u32)
+    requires { gate + 5 ≤ length out.old.added }
+    ensures front { out.new.front ≡ out.old.front }
+    ensures added { out.new.added ≡ slice_set (slice_set (slice_set (slice_set out.old.added (gate + 1) (len % 256)) (gate + 2) (len / 256 % 256)) (gate + 3) (len / 65536 % 256)) (gate + 4) (len / 16777216 % 256) }
 {
-    bytes[gate + 1] = (len % 256) as u8;
-    bytes[gate + 2] = (len / 256 % 256) as u8;
-    bytes[gate + 3] = (len / 65_536 % 256) as u8;
-    bytes[gate + 4] = (len / 16_777_216 % 256) as u8;
+    prove!(gate < out.len());
+    out.set(gate + 1, (len % 256) as u8);
+    out.set(gate + 2, (len / 256 % 256) as u8);
+    out.set(gate + 3, (len / 65_536 % 256) as u8);
+    out.set(gate + 4, (len / 16_777_216 % 256) as u8);
 }
 
 // Adds a frame with its gate open.
-fn put_frame(alloc: Global, out: &mut Octets, entry: &Entry) -> Result<(), NoMemory>
+fn put_frame(out: &mut Tail, entry: &Entry) -> Result<(), NoMemory>
     requires { IsFramed entry.now }
-    ensures { OnOk result (out.new ≡ out.old ++ frame (spelling entry.now)) }
+    ensures front { out.new.front ≡ out.old.front }
+    ensures ok { OnOk result (out.new.added ≡ out.old.added ++ frame (spelling entry.now)) }
 {
     let gate = out.len();
     out.extend(&[1, 0, 0, 0, 0])?;
-    spell(alloc, entry, out)?;
+    put_entry(out, entry)?;
     let len = out.len() - gate - 5;
-    let mut bytes = mem::replace(out, Octets::new(alloc)).into_vec();
-    set_length(&mut bytes, gate, len as u32);
-    *out = Octets::of(bytes);
+    set_length(out, gate, len as u32);
+    Ok(())
+}
+
+// Adds the frames of these records.
+fn put_frames(out: &mut Tail, records: &[Entry]) -> Result<(), NoMemory>
+    requires { All IsFramed records.now }
+    ensures front { out.new.front ≡ out.old.front }
+    ensures ok { OnOk result (out.new.added ≡ out.old.added ++ flat_map frame (map spelling records.now)) }
+{
+    'records: for entry in records {
+        put_frame(out, entry)?;
+    }
     Ok(())
 }
 
@@ -46,8 +60,9 @@ pub fn spell_batch(alloc: Global, out: &mut Octets, records: &[Entry]) -> Result
 {
     out.clear();
     out.reserve(records.len().saturating_mul(FRAME_USUAL))?;
-    'records: for entry in records {
-        put_frame(alloc, out, entry)?;
-    }
-    out.push(0)
+    let mut tail = Tail::of(mem::replace(out, Octets::new(alloc)));
+    put_frames(&mut tail, records)?;
+    tail.push(0)?;
+    *out = tail.whole();
+    Ok(())
 }

@@ -83,7 +83,8 @@ fn put_head(out: &mut Tail, record1: u8, ts: u64, count: u16) -> Result<(), NoMe
     Ok(())
 }
 
-fn put_entry(out: &mut Tail, entry: &Entry) -> Result<(), NoMemory>
+/// As `spell`, behind what was added to a tail. Without memory some of it may be added.
+pub fn put_entry(out: &mut Tail, entry: &Entry) -> Result<(), NoMemory>
     requires { KeepsRules entry.now }
     ensures front { out.new.front ≡ out.old.front }
     ensures ok { OnOk result (out.new.added ≡ out.old.added ++ spelling entry.now) }

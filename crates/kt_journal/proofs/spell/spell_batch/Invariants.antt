@@ -1,8 +1,0 @@
-use Rattle.std.proofs.Common.{◌≡◌, take, map}
-use Rattle.std.specs.List.{flat_map}
-use Rattle.kt_records.specs.Spelling.{spelling}
-use Rattle.kt_journal.specs.Frames.{frame}
-use Rattle.kt_journal.proofs.spell.spell_batch.Given as goal
-
-abbrev pub invariant-records : goal.invariant-records
-invariant-records l = l.out ≡ flat_map frame (map spelling (take l.entry-index l.records))
