@@ -3,3 +3,4 @@ pub mod Cells
 pub mod InPlace
 pub mod Spelled
 pub mod Walked
+pub mod Only

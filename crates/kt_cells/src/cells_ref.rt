@@ -1,5 +1,6 @@
 //! Cells where they lie.
 ghost use Rattle.std.specs.Prelude.{◌≡◌, ◌∷◌, [], List, ℕ, Ok, IsNone, IfSome};
+ghost use Rattle.std.specs.List.{AllByRecursion};
 ghost use Rattle.std.specs.Int.{w16, w32, w64};
 ghost use Rattle.std.specs.Option.{option_map};
 ghost use Rattle.kt_base.specs.declared.cell.Cell.{Cell as CellSpec};
@@ -100,5 +101,17 @@ impl<'v> CellsRef<'v> {
         let (first, bytes) = next_cell_of(self.bytes)?;
         let left = self.left - 1;
         Some((first, CellsRef { left, bytes }))
+    }
+
+    /// The column of the only cell, where no more than one is left. Its cell is not read, and may be missing.
+    #[tactic(auto, using(crate::proofs::Only::only_one))]
+    pub fn only_column(self) -> Option<u16>
+        ensures { IfSome result (λ id. AllByRecursion (λ c. c.0 ≡ id) (cells_in_ref self.entry)) }
+    {
+        if self.left != 1 {
+            return None;
+        }
+        let (id, _) = id_of(self.bytes)?;
+        Some(id)
     }
 }

@@ -20,17 +20,17 @@ use Rattle.kt_history.proofs.Borrowed.{put_in}
 -- ---- one cell
 
 module _ {X : Type 0} where
-  put_less : (a : ℕ) (x : X) (e : ℕ × X) (es : List (ℕ × X)) → a < e.0 → put nat_cmp a x (e ∷ es) ≡ (a, x) ∷ e ∷ es
+  pub put_less : (a : ℕ) (x : X) (e : ℕ × X) (es : List (ℕ × X)) → a < e.0 → put nat_cmp a x (e ∷ es) ≡ (a, x) ∷ e ∷ es
   put_less a x e es h = let o : nat_cmp a e.0 ≡ Less = grind (arith, nat_tests, h) in rw o refl
 
-  put_same : (a : ℕ) (x : X) (e : ℕ × X) (es : List (ℕ × X)) → a ≡ e.0 → put nat_cmp a x (e ∷ es) ≡ (e.0, x) ∷ es
+  pub put_same : (a : ℕ) (x : X) (e : ℕ × X) (es : List (ℕ × X)) → a ≡ e.0 → put nat_cmp a x (e ∷ es) ≡ (e.0, x) ∷ es
   put_same a x e es h = let o : nat_cmp a e.0 ≡ Equal = grind (arith, nat_tests, h) in rw o refl
 
-  put_more : (a : ℕ) (x : X) (e : ℕ × X) (es : List (ℕ × X)) → e.0 < a → put nat_cmp a x (e ∷ es) ≡ e ∷ put nat_cmp a x es
+  pub put_more : (a : ℕ) (x : X) (e : ℕ × X) (es : List (ℕ × X)) → e.0 < a → put nat_cmp a x (e ∷ es) ≡ e ∷ put nat_cmp a x es
   put_more a x e es h = let o : nat_cmp a e.0 ≡ Greater = grind (arith, nat_tests, h) in rw o refl
 
   -- a column that is put twice has the cell that was put last
-  put_twice : (a : ℕ) (x y : X) (es : List (ℕ × X)) → put nat_cmp a x (put nat_cmp a y es) ≡ put nat_cmp a x es
+  pub put_twice : (a : ℕ) (x y : X) (es : List (ℕ × X)) → put nat_cmp a x (put nat_cmp a y es) ≡ put nat_cmp a x es
   put_twice a x y [] = put_same a x (a, y) [] refl
   put_twice a x y (e ∷ es) = elim (cases_order a e.0) [
     | inl same ↦ ap (put nat_cmp a x) (put_same a y e es same) ∙ put_same a x (e.0, y) es same ∙ sym (put_same a x e es same)
@@ -39,7 +39,7 @@ module _ {X : Type 0} where
   ]
 
   -- the order in which two columns are put does not matter
-  put_below : (a b : ℕ) (x y : X) (es : List (ℕ × X)) → a < b → put nat_cmp a x (put nat_cmp b y es) ≡ put nat_cmp b y (put nat_cmp a x es)
+  pub put_below : (a b : ℕ) (x y : X) (es : List (ℕ × X)) → a < b → put nat_cmp a x (put nat_cmp b y es) ≡ put nat_cmp b y (put nat_cmp a x es)
   put_below a b x y [] h = put_less a x (b, y) [] h ∙ sym (put_more b y (a, x) [] h)
   put_below a b x y (e ∷ es) h = elim (cases_order a e.0) [
     | inl same ↦ ap (put nat_cmp a x) (put_more b y e es (omega (arith, same))) ∙ put_same a x e (put nat_cmp b y es) same ∙ sym (ap (put nat_cmp b y) (put_same a x e es same) ∙ put_more b y (e.0, x) es (omega (arith, same)))
@@ -56,7 +56,7 @@ module _ {X : Type 0} where
 -- ---- several cells
 
 -- a cell that is put again behind others
-again : (id : ℕ) (x y : Cell) (cells row : Row) → put nat_cmp id x (with_cells cells (put nat_cmp id y row)) ≡ put nat_cmp id x (with_cells cells row)
+pub again : (id : ℕ) (x y : Cell) (cells row : Row) → put nat_cmp id x (with_cells cells (put nat_cmp id y row)) ≡ put nat_cmp id x (with_cells cells row)
 again id x y [] row = put_twice id x y row
 again id x y (c ∷ cells) row = elim (cases_order id c.0) [
   | inl same ↦ rw same (put_twice c.0 x c.1 _ ∙ again c.0 x y cells row ∙ sym (put_twice c.0 x c.1 _))
@@ -83,7 +83,7 @@ abbrev pub AreUnder : ℕ → Row → Type 0
 AreUnder n [] = Unit {0}
 AreUnder n (c ∷ cells) = (c.0 < n) × AreUnder n cells
 
-under_more : (n m : ℕ) (cells : Row) (c : ℕ × Cell) → n ≤ m → c.0 < m → AreUnder n cells → AreUnder m (cells ++ c ∷ [])
+pub under_more : (n m : ℕ) (cells : Row) (c : ℕ × Cell) → n ≤ m → c.0 < m → AreUnder n cells → AreUnder m (cells ++ c ∷ [])
 under_more n m [] c le lt h = (lt, tt)
 under_more n m (d ∷ cells) c le lt h = (omega (arith, h.0), under_more n m cells c le lt h.1)
 

@@ -211,6 +211,19 @@ impl ChangeList {
         })
     }
 
+    /// The change at a place that has one.
+    pub fn at(&self, at: usize) -> ChangeRef<'_>
+        requires { at < length self.now }
+        ensures { Some (step_in result) ≡ option_map step_of (slice_get self.now at) }
+    {
+        let head = self.heads[at];
+        ChangeRef {
+            ts: head.ts,
+            kind: head.kind,
+            cells: CellsRef::of(self.texts.get(head.cells)),
+        }
+    }
+
     /// Adds a change of a key, with its cells as they are spelled behind their count. Without memory nothing is added.
     pub fn push(&mut self, key: &[u8], ts: u64, kind: Kindly, cells: &[u8]) -> Result<(), NoMemory>
         ensures ok { OnOk result (self.new ≡ self.old ++ (record { key = key.now; ts = ts; change = change_with kind (cells_behind cells.now) }) ∷ []) }

@@ -1,11 +1,12 @@
 //! A row that borrows its texts, so that it is read without a copy.
 ghost use Rattle.std.specs.Prelude.{◌≡◌, ◌+◌, ◌<◌, ◌≤◌, ◌∷◌, ◌++◌, [], true, length, IfOk, OnOk, MatchResult};
-ghost use Rattle.std.specs.Ordering.{nat_cmp};
+ghost use Rattle.std.specs.List.{list_any};
+ghost use Rattle.std.specs.Ordering.{nat_cmp, is_eq};
 ghost use Rattle.std.specs.FinMap.Entries.{put};
 ghost use Rattle.kt_base.specs.Borrowed.{cell_in};
 ghost use Rattle.kt_cells.specs.Borrowed.{cells_in, cells_in_ref};
 ghost use Rattle.kt_history.specs.Places.{place_of, AreBelow, HasNumber};
-ghost use Rattle.kt_history.specs.Rows.{with_cells};
+ghost use Rattle.kt_history.specs.Rows.{Row, with_cells};
 
 use crate::effect::place_of_id;
 use kt_base::{Cell, CellRef, NoMemory};
@@ -17,7 +18,8 @@ use std::marker::Model;
 #[derive(Drop)]
 pub struct RowRef<'v> {
     cells: Vec<(u16, CellRef<'v>)>,
-    // The cells of a change whose columns do not rise, read before they are put in.
+    // Cells that are used once: those of a change whose columns do not rise, read before they are put in, and those of the row
+    // before others are laid under it.
     read: Vec<(u16, CellRef<'v>)>,
 }
 
@@ -88,23 +90,154 @@ impl<'v> RowRef<'v> {
     pub fn set_read(&mut self, cells: CellsRef<'v>) -> Result<(), NoMemory>
         ensures { OnOk result (self.new ≡ with_cells (cells_in_ref cells.entry) self.old) }
     {
-        if put_rising(&mut self.cells, cells)? {
-            return Ok(());
-        }
-        read_all(cells, &mut self.read)?;
-        put_all(&mut self.cells, &self.read)
+        put_read(&mut self.cells, &mut self.read, cells)
+    }
+
+    /// Sets those of these cells whose columns the row has not yet, so that over any other row it is as if these had been set
+    /// before its own.
+    pub fn set_under(&mut self, cells: CellsRef<'v>) -> Result<(), NoMemory>
+        ensures { OnOk result ((row : Row) → with_cells self.new row ≡ with_cells self.old (with_cells (cells_in_ref cells.entry) row)) }
+    {
+        put_read_under(&mut self.cells, &mut self.read, cells)?;
+        Ok(())
+    }
+
+    /// Lays the row over these cells: it has them, and its own in place of theirs.
+    pub fn lay_over(&mut self, cells: &'v [(u16, Cell)]) -> Result<(), NoMemory>
+        ensures { OnOk result (self.new ≡ with_cells self.old cells.now) }
+    {
+        std::mem::swap(&mut self.cells, &mut self.read);
+        lay(cells, &self.read, &mut self.cells)
     }
 
     /// These cells alone.
     pub fn assign(&mut self, cells: &'v [(u16, Cell)]) -> Result<(), NoMemory>
         ensures { OnOk result (self.new ≡ cells.now) }
     {
-        self.clear();
-        for cell in cells {
-            self.push(cell.0, CellRef::of(&cell.1))?;
-        }
-        Ok(())
+        borrow_all(cells, &mut self.cells)
     }
+}
+
+// These cells alone, each borrowed.
+#[tactic(auto, using(crate::proofs::Borrowed::append_in))]
+fn borrow_all<'v>(
+    cells: &'v [(u16, Cell)],
+    into: &mut Vec<(u16, CellRef<'v>)>,
+) -> Result<(), NoMemory>
+    ensures { OnOk result (cells_in into.new.items ≡ cells.now) }
+{
+    into.clear();
+    for cell in cells {
+        into.push((cell.0, CellRef::of(&cell.1)))?;
+    }
+    Ok(())
+}
+
+// These cells, with others in place of their own, in one go over both. Tells whether it did: it stops where the columns do not
+// rise, and passes over the others from the first one on whose column is not among them.
+fn lay_rising<'v>(
+    cells: &'v [(u16, Cell)],
+    over: &[(u16, CellRef<'v>)],
+    into: &mut Vec<(u16, CellRef<'v>)>,
+) -> Result<bool, NoMemory>
+    ensures { IfOk result (λ all. all ≡ true → cells_in into.new.items ≡ with_cells (cells_in over.now) cells.now) }
+{
+    into.clear();
+    let mut at = 0;
+    let mut least = 0;
+    'cells: for own in cells {
+        let id = u32::from(own.0);
+        if id < least {
+            return Ok(false);
+        }
+        least = id + 1;
+        if at < over.len() {
+            let first = over[at];
+            if first.0 == own.0 {
+                into.push((own.0, first.1))?;
+                at += 1;
+                continue 'cells;
+            }
+        }
+        into.push((own.0, CellRef::of(&own.1)))?;
+    }
+    Ok(at == over.len())
+}
+
+// These cells, with others in place of their own.
+fn lay<'v>(
+    cells: &'v [(u16, Cell)],
+    over: &[(u16, CellRef<'v>)],
+    into: &mut Vec<(u16, CellRef<'v>)>,
+) -> Result<(), NoMemory>
+    ensures { OnOk result (cells_in into.new.items ≡ with_cells (cells_in over.now) cells.now) }
+{
+    if lay_rising(cells, over, into)? {
+        return Ok(());
+    }
+    borrow_all(cells, into)?;
+    put_all(into, over)?;
+    Ok(())
+}
+
+// Whether cells have one of a column.
+fn has_column(cells: &[(u16, CellRef<'_>)], id: u16) -> bool
+    ensures { result ≡ list_any (λ c. is_eq (nat_cmp id c.0)) cells.now }
+{
+    cells.iter().any(|cell| id.cmp(&cell.0).is_eq())
+}
+
+// As `has_column`, looked for at a place first.
+fn has_column_near(cells: &[(u16, CellRef<'_>)], place: usize, id: u16) -> bool
+    ensures { result ≡ list_any (λ c. is_eq (nat_cmp id c.0)) cells.now }
+{
+    if place < cells.len() {
+        let here = cells[place].0;
+        if here == id {
+            return true;
+        }
+    }
+    has_column(cells, id)
+}
+
+// Whether there is one more cell at most, of a column that these have, as its first bytes tell.
+fn has_only(cells: &[(u16, CellRef<'_>)], more: CellsRef<'_>) -> bool
+    ensures { result ≡ true → (row : Row) → with_cells (cells_in cells.now) (with_cells (cells_in_ref more.entry) row) ≡ with_cells (cells_in cells.now) row }
+{
+    match more.only_column() {
+        Some(id) => has_column(cells, id),
+        None => false,
+    }
+}
+
+// Sets the cell of a column, unless there is one, which is looked for at a place first.
+fn put_unless<'v>(
+    cells: &mut Vec<(u16, CellRef<'v>)>,
+    place: usize,
+    id: u16,
+    cell: CellRef<'v>,
+) -> Result<(), NoMemory>
+    ensures { OnOk result ((row : Row) → with_cells (cells_in cells.new.items) row ≡ with_cells (cells_in cells.old.items) (put nat_cmp id (cell_in cell.entry) row)) }
+{
+    if has_column_near(cells, place, id) {
+        return Ok(());
+    }
+    put_ref(cells, id, cell)?;
+    Ok(())
+}
+
+// Sets those of more cells whose columns these have not. Cells that name the same columns in the same order are found at once.
+fn put_under<'v>(cells: &mut Vec<(u16, CellRef<'v>)>, more: CellsRef<'v>) -> Result<(), NoMemory>
+    ensures { OnOk result ((row : Row) → with_cells (cells_in cells.new.items) row ≡ with_cells (cells_in cells.old.items) (with_cells (cells_in_ref more.entry) row)) }
+{
+    let mut rest = more;
+    let mut place: usize = 0;
+    'cells: while let Some((cell, others)) = rest.split_first() {
+        put_unless(cells, place, cell.0, cell.1)?;
+        place = place.saturating_add(1);
+        rest = others;
+    }
+    Ok(())
 }
 
 fn put_ref<'v>(
@@ -219,5 +352,39 @@ fn put_all<'v>(
         at -= 1;
         put_ref(cells, more[at].0, more[at].1)?;
     }
+    Ok(())
+}
+
+// Sets cells that are read where they lie, in place of those of their columns. Those that do not rise are read first.
+fn put_read<'v>(
+    cells: &mut Vec<(u16, CellRef<'v>)>,
+    read: &mut Vec<(u16, CellRef<'v>)>,
+    more: CellsRef<'v>,
+) -> Result<(), NoMemory>
+    ensures { OnOk result (cells_in cells.new.items ≡ with_cells (cells_in_ref more.entry) (cells_in cells.old.items)) }
+{
+    if put_rising(cells, more)? {
+        return Ok(());
+    }
+    read_all(more, read)?;
+    put_all(cells, read)
+}
+
+// As `put_under`, of cells that may be the first, and with no look at one whose column is there.
+fn put_read_under<'v>(
+    cells: &mut Vec<(u16, CellRef<'v>)>,
+    read: &mut Vec<(u16, CellRef<'v>)>,
+    more: CellsRef<'v>,
+) -> Result<(), NoMemory>
+    ensures { OnOk result ((row : Row) → with_cells (cells_in cells.new.items) row ≡ with_cells (cells_in cells.old.items) (with_cells (cells_in_ref more.entry) row)) }
+{
+    if cells.as_slice().is_empty() {
+        put_read(cells, read, more)?;
+        return Ok(());
+    }
+    if has_only(cells, more) {
+        return Ok(());
+    }
+    put_under(cells, more)?;
     Ok(())
 }

@@ -13,6 +13,7 @@ pub mod Rows
 pub mod Plans
 pub mod Places
 pub mod Snaps
+pub mod Bases
 pub mod Merged
 pub mod Scans
 pub mod Outputs

@@ -1,60 +1,15 @@
 -- Rows that are merged from a fill and the cells in place of its own, column by column.
-use Rattle.std.proofs.Common.{◌≡◌, ℕ, ◌+◌, ◌<◌, ◌≤◌, [], ◌∷◌, ◌++◌, length, take, get_or, Option, Some, None, refl, sym, ap, ◌∙◌, arith, inl, inr}
+use Rattle.std.proofs.Common.{◌≡◌, ℕ, ◌+◌, ◌<◌, ◌≤◌, [], ◌∷◌, ◌++◌, length, take, get_or, Option, Some, None, refl, sym, ap, ◌∙◌, arith}
 use Rattle.std.proofs.lemmas.List.{append_assoc, append-nil, take_more}
 use Rattle.std.specs.Prelude.{IsNone, IfSome}
-use Rattle.std.proofs.lemmas.Bool.{cases_order}
-use Rattle.std.proofs.lemmas.Bool.Decides.{nat_tests}
-use Rattle.std.specs.Ordering.{nat_cmp}
-use Rattle.std.specs.declared.cmp.Ordering.TheVariants.{Less, Equal, Greater}
-use Rattle.std.specs.FinMap.Entries.{put}
 use Rattle.kt_base.specs.declared.cell.Cell.{Cell}
 use Rattle.kt_base.specs.declared.cell_ref.CellRef.{CellRef}
 use Rattle.kt_base.specs.Borrowed.{cell_in}
 use Rattle.kt_cells.specs.Borrowed.{cells_in_ref}
 use Rattle.kt_cells.specs.declared.cells_ref.CellsRef.{CellsRef}
 use Rattle.kt_history.specs.Rows.{Row, with_cells}
-use Rattle.kt_history.proofs.Merging.{AreUnder}
-
--- ---- a cell behind others
-
-put_same : (a : ℕ) (x : Cell) (e : ℕ × Cell) (es : Row) → a ≡ e.0 → put nat_cmp a x (e ∷ es) ≡ (e.0, x) ∷ es
-put_same a x e es h = let o : nat_cmp a e.0 ≡ Equal = grind (arith, nat_tests, h) in rw o refl
-
-put_less : (a : ℕ) (x : Cell) (e : ℕ × Cell) (es : Row) → a < e.0 → put nat_cmp a x (e ∷ es) ≡ (a, x) ∷ e ∷ es
-put_less a x e es h = let o : nat_cmp a e.0 ≡ Less = grind (arith, nat_tests, h) in rw o refl
-
-put_more : (a : ℕ) (x : Cell) (e : ℕ × Cell) (es : Row) → e.0 < a → put nat_cmp a x (e ∷ es) ≡ e ∷ put nat_cmp a x es
-put_more a x e es h = let o : nat_cmp a e.0 ≡ Greater = grind (arith, nat_tests, h) in rw o refl
-
--- a column below the last one is put before it
-put_before : (a : ℕ) (x : Cell) (es : Row) (f : ℕ × Cell) → a < f.0 → put nat_cmp a x (es ++ f ∷ []) ≡ put nat_cmp a x es ++ f ∷ []
-put_before a x [] f h = put_less a x f [] h
-put_before a x (e ∷ es) f h = elim (cases_order a e.0) [
-  | inl same ↦ put_same a x e (es ++ f ∷ []) same ∙ ap (λ (l : Row). l ++ f ∷ []) (sym (put_same a x e es same))
-  | inr (inl less) ↦ put_less a x e (es ++ f ∷ []) less ∙ ap (λ (l : Row). l ++ f ∷ []) (sym (put_less a x e es less))
-  | inr (inr more) ↦ put_more a x e (es ++ f ∷ []) more ∙ ap (λ (l : Row). e ∷ l) (put_before a x es f h) ∙ ap (λ (l : Row). l ++ f ∷ []) (sym (put_more a x e es more))
-]
-
--- the last column is put where it stands
-put_at_end : (n id : ℕ) (x : Cell) (es : Row) (f : ℕ × Cell) → AreUnder n es → n ≤ id → f.0 ≡ id → put nat_cmp id x (es ++ f ∷ []) ≡ es ++ (f.0, x) ∷ []
-put_at_end n id x [] f under le is = put_same id x f [] (sym is)
-put_at_end n id x (e ∷ es) f under le is = put_more id x e (es ++ f ∷ []) (omega (arith, under.0)) ∙ ap (λ (l : Row). e ∷ l) (put_at_end n id x es f under.1 le is)
-
-with_end : (n : ℕ) (cells es : Row) (f : ℕ × Cell) → AreUnder n cells → n ≤ f.0 → with_cells cells (es ++ f ∷ []) ≡ with_cells cells es ++ f ∷ []
-with_end n [] es f under le = refl
-with_end n (c ∷ cells) es f under le = ap (put nat_cmp c.0 c.1) (with_end n cells es f under.1 le) ∙ put_before c.0 c.1 (with_cells cells es) f (omega (arith, under.0))
-
-with_last : (cells : Row) (c : ℕ × Cell) (es : Row) → with_cells (cells ++ c ∷ []) es ≡ with_cells cells (put nat_cmp c.0 c.1 es)
-with_last [] c es = refl
-with_last (d ∷ cells) c es = ap (put nat_cmp d.0 d.1) (with_last cells c es)
-
-under_more : (n m : ℕ) (cells : Row) (c : ℕ × Cell) → n ≤ m → c.0 < m → AreUnder n cells → AreUnder m (cells ++ c ∷ [])
-under_more n m [] c le lt h = (lt, tt)
-under_more n m (d ∷ cells) c le lt h = (omega (arith, h.0), under_more n m cells c le lt h.1)
-
-under_too : (n m : ℕ) (cells : Row) → n ≤ m → AreUnder n cells → AreUnder m cells
-under_too n m [] le h = tt
-under_too n m (d ∷ cells) le h = (omega (arith, h.0), under_too n m cells le h.1)
+use Rattle.kt_history.proofs.Merging.{AreUnder, under_more}
+use Rattle.kt_history.proofs.Filled.{put_at_end, with_end, with_last, under_too}
 
 -- ---- both, column by column
 

@@ -5,6 +5,7 @@ pub mod Views
 pub mod Visits
 pub mod Rows
 pub mod Snaps
+pub mod Bases
 pub mod SnapLaws
 pub mod Copies
 pub mod Reads

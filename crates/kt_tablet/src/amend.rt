@@ -1,13 +1,11 @@
-//! Changes that are done to a row in its place.
-ghost use Rattle.std.specs.Prelude.{◌≡◌, true, Some, None, IfOk, OnOk, if◌then◌else◌};
+//! Rows that are filled: what an insert leaves out is of the fill.
+ghost use Rattle.std.specs.Prelude.{◌≡◌, true, IfOk, OnOk};
 ghost use Rattle.kt_cells.specs.Borrowed.{cells_in_ref};
-ghost use Rattle.kt_history.specs.AsBytes.{change_with};
-ghost use Rattle.kt_history.specs.Rows.{apply, with_cells};
-ghost use Rattle.kt_tablet.specs.Filling.{filled_change};
+ghost use Rattle.kt_history.specs.Rows.{with_cells};
 
-use kt_base::{Cell, CellRef, Cells, NoMemory};
+use kt_base::{Cell, CellRef, NoMemory};
 use kt_cells::CellsRef;
-use kt_history::{Kindly, RowRef};
+use kt_history::RowRef;
 
 // Makes the row of a fill with these cells in place of its own, in one go over both. Tells whether it did: it stops where the
 // columns do not rise, and passes over the cells from the first one on that the fill has not.
@@ -54,28 +52,19 @@ fn fill_with<'v>(
     row.set_read(cells)
 }
 
-/// Does a change of a store to a row that borrows. It says of an insert only what that names, and the rest is of the fill.
-/// Told whether there is a row, it tells whether there is one then.
-pub fn amend<'v>(
+/// Lays a row over that of a fill with these cells in place of its own.
+pub fn fill_under<'v>(
     row: &mut RowRef<'v>,
-    there: bool,
-    fill: &'v Cells,
-    kind: Kindly,
+    fill: &'v [(u16, Cell)],
     cells: CellsRef<'v>,
-) -> Result<bool, NoMemory>
-    ensures { IfOk result (λ is. (if is then Some row.new else None) ≡ apply (filled_change fill.now (change_with kind (cells_in_ref cells.entry))) (if there then Some row.old else None)) }
+) -> Result<(), NoMemory>
+    ensures { OnOk result (row.new ≡ with_cells row.old (with_cells (cells_in_ref cells.entry) fill.now)) }
 {
-    match (kind, there) {
-        (Kindly::Ins, false) => {
-            fill_with(row, fill.as_slice(), cells)?;
-            Ok(true)
-        }
-        (Kindly::Upd, true) => {
-            row.set_read(cells)?;
-            Ok(true)
-        }
-        (Kindly::Del, _) => Ok(false),
-        (Kindly::Ins, true) => Ok(true),
-        (Kindly::Upd, false) => Ok(false),
+    if row.as_slice().is_empty() {
+        fill_with(row, fill, cells)?;
+        return Ok(());
     }
+    row.set_under(cells)?;
+    row.lay_over(fill)?;
+    Ok(())
 }

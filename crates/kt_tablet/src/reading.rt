@@ -1,18 +1,17 @@
 //! Keys and rows that are read from the changes of a store, looked for at a place first.
-ghost use Rattle.std.specs.Prelude.{◌≡◌, ◌↔◌, ◌∷◌, [], ℕ, ◌+◌, ◌≤◌, true, IsTrue, false, not, Some, None, IfOk, slice_get, length, if◌then◌else◌};
+ghost use Rattle.std.specs.Prelude.{◌≡◌, ◌↔◌, [], ℕ, ◌+◌, ◌<◌, ◌≤◌, true, IsTrue, false, not, nat_le, Some, None, IfOk, OnOk, slice_get, length, if◌then◌else◌};
 ghost use Rattle.std.specs.List.Sorted.{IsPartitionPoint};
 ghost use Rattle.std.specs.Option.{option_copied, option_map};
 ghost use Rattle.std.specs.Ordering.{is_lt};
-ghost use Rattle.kt_history.specs.AsBytes.{step_in as step_read, step_of};
-ghost use Rattle.kt_history.specs.Rows.{key_cmp};
+ghost use Rattle.kt_cells.specs.Borrowed.{cells_in_ref};
+ghost use Rattle.kt_history.specs.Rows.{Row, key_cmp, with_cells};
 ghost use Rattle.kt_history.specs.Views.{key_above};
-ghost use Rattle.kt_history.specs.Stores.{after_steps};
-ghost use Rattle.kt_tablet.specs.Filling.{filled_change};
+ghost use Rattle.kt_tablet.specs.Bases.{row_by, base_by, IsBase};
 ghost use Rattle.kt_tablet.specs.Snaps.{rises, row_in, keys_in, is_above_at, is_reached_at};
 
-use crate::amend::amend;
+use crate::amend::fill_under;
 use kt_base::{Cells, NoMemory};
-use kt_history::{ChangeList, ChangeRef, RowRef};
+use kt_history::{ChangeList, ChangeRef, Kindly, RowRef};
 
 // Whether the change at a place, if there is one, is of a key above another.
 fn above_at(changes: &ChangeList, key: &[u8], at: usize) -> bool
@@ -138,20 +137,87 @@ pub fn next_key<'v>(
     changes.key(*hint)
 }
 
-// One change more, if that is not later than the time.
-fn step<'v>(
-    row: &mut RowRef<'v>,
-    there: bool,
-    fill: &'v Cells,
-    change: ChangeRef<'v>,
-    t: u64,
-) -> Result<bool, NoMemory>
-    ensures { IfOk result (λ is. (if is then Some row.new else None) ≡ after_steps t (((step_read change.entry).0, filled_change fill.now (step_read change.entry).1) ∷ []) (if there then Some row.old else None)) }
+// Whether a change is not later than a time.
+fn is_done(change: ChangeRef<'_>, t: u64) -> bool
+    ensures { result ≡ nat_le change.entry.ts t }
 {
-    if change.ts > t {
-        return Ok(there);
+    change.ts <= t
+}
+
+// The place of the insert that a row rests on after one change more, which stands at a place, if that is not later than the time.
+fn base_after(base: Option<usize>, at: usize, change: ChangeRef<'_>, t: u64) -> Option<usize>
+    ensures { result ≡ (if nat_le change.entry.ts t then base_by change.entry.kind at base else base) }
+{
+    if !is_done(change, t) {
+        return base;
     }
-    amend(row, there, fill, change.kind, change.cells)
+    match change.kind {
+        Kindly::Ins => Some(base.unwrap_or(at)),
+        Kindly::Upd => base,
+        Kindly::Del => None,
+    }
+}
+
+// Lays a row over what an update says, if that is not later than the time.
+fn update_under<'v>(row: &mut RowRef<'v>, change: ChangeRef<'v>, t: u64) -> Result<(), NoMemory>
+    ensures late { OnOk result (nat_le change.entry.ts t ≡ false → row.new ≡ row.old) }
+    ensures other { OnOk result ((change.entry.kind ≡ Kindly.Upd → ⊥) → row.new ≡ row.old) }
+    ensures update { OnOk result (nat_le change.entry.ts t ≡ true → change.entry.kind ≡ Kindly.Upd → (old : Row) → with_cells row.new old ≡ with_cells row.old (with_cells (cells_in_ref change.entry.cells) old)) }
+{
+    if !is_done(change, t) {
+        return Ok(());
+    }
+    match change.kind {
+        Kindly::Upd => {
+            row.set_under(change.cells)?;
+            Ok(())
+        }
+        Kindly::Ins | Kindly::Del => Ok(()),
+    }
+}
+
+// Lays a row over what the changes behind an insert say, from the last one back, so that each column is set once.
+fn updates_under<'v>(
+    fill: &Cells,
+    changes: &'v ChangeList,
+    key: &[u8],
+    t: u64,
+    base: usize,
+    end: usize,
+    row: &mut RowRef<'v>,
+) -> Result<(), NoMemory>
+    requires inside { base < end }
+    requires rests { IsBase fill.now changes.now key.now t base end }
+    requires none { row.old ≡ [] }
+    ensures { OnOk result (row_by fill.now changes.now key.now t end ≡ option_map (with_cells row.new) (row_by fill.now changes.now key.now t (base + 1))) }
+{
+    let mut at = end;
+    'changes: while at > base + 1 {
+        at -= 1;
+        let change = changes.at(at);
+        update_under(row, change, t)?;
+    }
+    Ok(())
+}
+
+// The row that rests on the insert at a place, after the changes behind it up to another.
+fn row_upon<'v>(
+    fill: &'v Cells,
+    changes: &'v ChangeList,
+    key: &[u8],
+    t: u64,
+    base: usize,
+    end: usize,
+    row: &mut RowRef<'v>,
+) -> Result<(), NoMemory>
+    requires { IsBase fill.now changes.now key.now t base end }
+    ensures { OnOk result (Some row.new ≡ row_by fill.now changes.now key.now t end) }
+{
+    row.clear();
+    updates_under(fill, changes, key, t, base, end, row)?;
+    let insert = changes.at(base);
+    fill_under(row, fill.as_slice(), insert.cells)?;
+    Ok(())
 }
 
 // The row of a key whose changes begin at a place, told whether there are any. The place then is behind them.
@@ -170,21 +236,25 @@ fn row_from<'v>(
     requires any { IsTrue any ↔ (option_map (λ c. c.key) (slice_get changes.now place.old) ≡ Some key.now) }
     ensures { IfOk result (λ is. (if is then Some row.new else None) ≡ row_in fill.now changes.now key.now t) }
 {
-    let mut there = false;
+    let mut base = None;
     let mut at = *place;
     let mut more = any;
     let end = changes.len();
     'changes: while more {
-        let Some(change) = changes.get(at) else {
-            return Ok(there);
-        };
-        there = step(row, there, fill, change, t)?;
+        let change = changes.at(at);
+        base = base_after(base, at, change, t);
         more = changes.goes_on(at);
         prove!(at < end);
         at += 1;
     }
     *place = at;
-    Ok(there)
+    match base {
+        Some(first) => {
+            row_upon(fill, changes, key, t, first, at, row)?;
+            Ok(true)
+        }
+        None => Ok(false),
+    }
 }
 
 /// The row of a key. Tells whether there is one. The hint then is behind its changes.
