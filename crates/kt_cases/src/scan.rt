@@ -74,6 +74,18 @@ impl View for Single {
             Ok(false)
         }
     }
+
+    fn columns_into<'v>(
+        &'v self,
+        ids: &[u16],
+        key: &[u8],
+        t: u64,
+        hint: &mut usize,
+        row: &mut RowRef<'v>,
+    ) -> Result<bool, NoMemory> {
+        let found = self.row_into(key, t, hint, row)?;
+        Ok(found)
+    }
 }
 
 fn octets(alloc: Global, bytes: &[u8]) -> Result<Octets, Fail> {

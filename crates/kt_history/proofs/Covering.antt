@@ -45,7 +45,7 @@ laid_on_none cells over new row none made =
 -- ---- a column that the row has
 
 -- whether cells have one of a column
-abbrev has : {X : Type 0} → ℕ → List (ℕ × X) → Bool
+abbrev pub has : {X : Type 0} → ℕ → List (ℕ × X) → Bool
 has id cells = list_any (λ c. is_eq (nat_cmp id c.0)) cells
 
 is_or : (a b : Bool) → b ≡ true → (a || b) ≡ true

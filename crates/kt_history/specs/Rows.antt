@@ -4,7 +4,7 @@ use Rattle.std.specs.Ordering.{nat_cmp, eq_by_cmp}
 use Rattle.std.specs.declared.cmp.Ordering.{Ordering}
 use Rattle.std.specs.Cmp.Lexicographic.{slice_cmp}
 use Rattle.std.specs.FinMap.Entries.{find, put, where_key, is_sorted}
-use Rattle.std.specs.List.{list_all}
+use Rattle.std.specs.List.{list_all, list_any}
 use Rattle.kt_base.specs.declared.cell.Cell.{Cell}
 use Rattle.kt_history.specs.declared.change.Change.{Change}
 use Rattle.kt_history.specs.declared.change.Change.TheVariants.{Ins, Upd, Del}
@@ -83,3 +83,18 @@ AreApart (c ∷ changes) = (find key_cmp c.0 changes ≡ None) × AreApart chang
 abbrev pub changed : Changes → Rows → Rows
 changed [] rows = rows
 changed (c ∷ changes) rows = changed changes (set_row c.0 (apply c.1 (find key_cmp c.0 rows)) rows)
+
+-- whether a column is one of these
+abbrev pub is_among : List ℕ → ℕ → Bool
+is_among ids id = list_any (eq_by_cmp nat_cmp id) ids
+
+-- two rows have the same cells in these columns
+abbrev pub AgreeIn : List ℕ → Row → Row → Type 0
+AgreeIn ids a b = (id : ℕ) → is_among ids id ≡ true → find nat_cmp id a ≡ find nat_cmp id b
+
+-- both rows are there and have so, or neither is
+abbrev pub AgreeOn : List ℕ → Option Row → Option Row → Type 0
+AgreeOn ids None None = Unit {0}
+AgreeOn ids None (Some b) = ⊥
+AgreeOn ids (Some a) None = ⊥
+AgreeOn ids (Some a) (Some b) = AgreeIn ids a b

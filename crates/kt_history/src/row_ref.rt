@@ -1,12 +1,12 @@
 //! A row that borrows its texts, so that it is read without a copy.
 ghost use Rattle.std.specs.Prelude.{◌≡◌, ◌+◌, ◌<◌, ◌≤◌, ◌∷◌, ◌++◌, [], true, length, IfOk, OnOk, MatchResult};
-ghost use Rattle.std.specs.List.{list_any};
+ghost use Rattle.std.specs.List.{list_all, list_any};
 ghost use Rattle.std.specs.Ordering.{nat_cmp, is_eq};
 ghost use Rattle.std.specs.FinMap.Entries.{put};
 ghost use Rattle.kt_base.specs.Borrowed.{cell_in};
 ghost use Rattle.kt_cells.specs.Borrowed.{cells_in, cells_in_ref};
 ghost use Rattle.kt_history.specs.Places.{place_of, AreBelow, HasNumber};
-ghost use Rattle.kt_history.specs.Rows.{Row, with_cells};
+ghost use Rattle.kt_history.specs.Rows.{Row, with_cells, is_among, AgreeIn};
 
 use crate::effect::place_of_id;
 use kt_base::{Cell, CellRef, NoMemory};
@@ -99,6 +99,24 @@ impl<'v> RowRef<'v> {
         ensures { OnOk result ((row : Row) → with_cells self.new row ≡ with_cells self.old (with_cells (cells_in_ref cells.entry) row)) }
     {
         put_read_under(&mut self.cells, &mut self.read, cells)?;
+        Ok(())
+    }
+
+    /// As `set_under`, of the columns alone that are asked for. Where it tells so, the row has all of them, and what lies under it
+    /// does not matter any more.
+    pub fn set_asked(&mut self, ids: &[u16], cells: CellsRef<'v>) -> Result<bool, NoMemory>
+        ensures under { IfOk result (λ all. (row : Row) → AgreeIn ids.now (with_cells self.new row) (with_cells self.old (with_cells (cells_in_ref cells.entry) row))) }
+        ensures all { IfOk result (λ all. all ≡ true → (row : Row) → AgreeIn ids.now self.new (with_cells self.old (with_cells (cells_in_ref cells.entry) row))) }
+    {
+        let all = put_asked(&mut self.cells, ids, cells)?;
+        Ok(all)
+    }
+
+    /// As `set_asked`, of the last cells, which nothing lies under.
+    pub fn set_asked_last(&mut self, ids: &[u16], cells: &'v [(u16, Cell)]) -> Result<(), NoMemory>
+        ensures { OnOk result (AgreeIn ids.now self.new (with_cells self.old cells.now)) }
+    {
+        put_asked_last(&mut self.cells, ids, cells)?;
         Ok(())
     }
 
@@ -386,5 +404,77 @@ fn put_read_under<'v>(
         return Ok(());
     }
     put_under(cells, more)?;
+    Ok(())
+}
+
+// Whether a column is one of these.
+fn is_among(ids: &[u16], id: u16) -> bool
+    ensures { result ≡ is_among ids.now id }
+{
+    ids.iter().any(|other| *other == id)
+}
+
+// Whether cells have each of these columns, as far as it tells.
+fn have_all(cells: &[(u16, CellRef<'_>)], ids: &[u16]) -> bool
+    ensures { result ≡ true → list_all (λ id. list_any (λ c. is_eq (nat_cmp id c.0)) cells.now) ids.now ≡ true }
+{
+    if cells.len() < ids.len() {
+        return false;
+    }
+    for id in ids {
+        if !has_column(cells, *id) {
+            return false;
+        }
+    }
+    true
+}
+
+// Sets the cell of a column that is asked for, unless there is one.
+fn put_if_asked<'v>(
+    cells: &mut Vec<(u16, CellRef<'v>)>,
+    ids: &[u16],
+    id: u16,
+    cell: CellRef<'v>,
+) -> Result<(), NoMemory>
+    ensures { OnOk result ((row : Row) → AgreeIn ids.now (with_cells (cells_in cells.new.items) row) (with_cells (cells_in cells.old.items) (put nat_cmp id (cell_in cell.entry) row))) }
+{
+    if !is_among(ids, id) {
+        return Ok(());
+    }
+    put_unless(cells, 0, id, cell)?;
+    Ok(())
+}
+
+// As `put_under`, of the columns alone that are asked for. It stops where it tells that all of them are there.
+fn put_asked<'v>(
+    cells: &mut Vec<(u16, CellRef<'v>)>,
+    ids: &[u16],
+    more: CellsRef<'v>,
+) -> Result<bool, NoMemory>
+    ensures under { IfOk result (λ all. (row : Row) → AgreeIn ids.now (with_cells (cells_in cells.new.items) row) (with_cells (cells_in cells.old.items) (with_cells (cells_in_ref more.entry) row))) }
+    ensures all { IfOk result (λ all. all ≡ true → (row : Row) → AgreeIn ids.now (cells_in cells.new.items) (with_cells (cells_in cells.old.items) (with_cells (cells_in_ref more.entry) row))) }
+{
+    let mut rest = more;
+    'cells: while let Some((cell, others)) = rest.split_first() {
+        put_if_asked(cells, ids, cell.0, cell.1)?;
+        if have_all(cells, ids) {
+            return Ok(true);
+        }
+        rest = others;
+    }
+    Ok(false)
+}
+
+// As `put_asked`, of the last cells, which nothing lies under.
+fn put_asked_last<'v>(
+    cells: &mut Vec<(u16, CellRef<'v>)>,
+    ids: &[u16],
+    more: &'v [(u16, Cell)],
+) -> Result<(), NoMemory>
+    ensures { OnOk result (AgreeIn ids.now (cells_in cells.new.items) (with_cells (cells_in cells.old.items) more.now)) }
+{
+    'cells: for own in more {
+        put_if_asked(cells, ids, own.0, CellRef::of(&own.1))?;
+    }
     Ok(())
 }

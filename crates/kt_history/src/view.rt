@@ -2,7 +2,7 @@
 ghost use Rattle.std.specs.Prelude.{◌≡◌, ◌≤◌, ℕ, List, Option, Some, None, IfOk, IsSome, if◌then◌else◌};
 ghost use Rattle.std.specs.List.{Contains};
 ghost use Rattle.std.specs.Option.{option_copied};
-ghost use Rattle.kt_history.specs.Rows.{Row};
+ghost use Rattle.kt_history.specs.Rows.{Row, AgreeOn};
 ghost use Rattle.kt_history.specs.Views.{key_above, AreRising};
 
 use crate::RowRef;
@@ -41,6 +41,17 @@ pub trait View {
         row: &mut RowRef<'v>,
     ) -> Result<bool, NoMemory>
         ensures { IfOk result (λ found. mark self.now ≤ t → row_of self.now key.now t ≡ (if found then Some row.new else None)) };
+
+    /// As `row_into`, of a row that is asked for some columns alone: in these it has the cells of the key's row, if that is there.
+    fn columns_into<'v>(
+        &'v self,
+        ids: &[u16],
+        key: &[u8],
+        t: u64,
+        hint: &mut usize,
+        row: &mut RowRef<'v>,
+    ) -> Result<bool, NoMemory>
+        ensures { IfOk result (λ found. mark self.now ≤ t → AgreeOn ids.now (row_of self.now key.now t) (if found then Some row.new else None)) };
 
     /// The keys rise.
     ghost keys_rise: { (view : Self) → AreRising (keys view) };

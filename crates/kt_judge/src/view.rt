@@ -138,4 +138,16 @@ impl View for Table {
     ) -> Result<bool, NoMemory> {
         row_into(&self.entries, key, t, *hint, row)
     }
+
+    fn columns_into<'v>(
+        &'v self,
+        ids: &[u16],
+        key: &[u8],
+        t: u64,
+        hint: &mut usize,
+        row: &mut RowRef<'v>,
+    ) -> Result<bool, NoMemory> {
+        let found = row_into(&self.entries, key, t, *hint, row)?;
+        Ok(found)
+    }
 }

@@ -6,3 +6,4 @@ pub mod WholeRows
 pub mod Named
 pub mod LiveRows
 pub mod KindsAt
+pub mod Asking

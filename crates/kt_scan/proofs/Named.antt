@@ -75,7 +75,7 @@ or_parts : (a b : Bool) → (a || b) ≡ false → (a ≡ false) × (b ≡ false
 or_parts true b h = absurd cc
 or_parts false b h = (refl, h)
 
-not_among : (columns : List Column) (cells : List Cell) (id : ℕ) → has_id columns id ≡ false → find nat_cmp id (ids_with columns cells) ≡ None
+pub not_among : (columns : List Column) (cells : List Cell) (id : ℕ) → has_id columns id ≡ false → find nat_cmp id (ids_with columns cells) ≡ None
 not_among [] cells id h = refl
 not_among (c ∷ columns) [] id h = refl
 not_among (c ∷ columns) (cell ∷ cells) id h =

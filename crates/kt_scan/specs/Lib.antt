@@ -4,3 +4,4 @@ pub mod Lines
 pub mod Single
 pub mod Parts
 pub mod Whole
+pub mod Asking

@@ -1,11 +1,14 @@
 //! What a scan asks of each row.
-ghost use Rattle.std.specs.Prelude.{◌≡◌};
+ghost use Rattle.std.specs.Prelude.{◌≡◌, ◌++◌, ◌∷◌, [], map, IfOk, OnOk};
 ghost use Rattle.std.specs.List.{list_any};
 ghost use Rattle.kt_schema.specs.Columns.{key_columns};
+ghost use Rattle.kt_scan.specs.Asking.{others_in, asked_ids};
 ghost use Rattle.kt_scan.specs.Whole.{has_id, shows_key, reads_key};
 
+use kt_base::NoMemory;
 use kt_history::{ColumnIds, Pred, Scan};
 use kt_schema::{Column, Schema};
+use std::alloc::Global;
 
 /// A scan of a table with the columns of a schema.
 #[derive(Clone, Copy)]
@@ -14,7 +17,10 @@ pub struct Asked<'s> {
     pub schema: &'s Schema,
     /// Whether the scan shows or tests a key column.
     pub with_key: bool,
+    /// The columns that are no key and that the scan tests or selects.
+    pub ids: &'s [u16],
     ghost tells: { with_key ≡ reads_key (key_columns schema.now) scan.now },
+    ghost asks: { ids.now ≡ asked_ids (key_columns schema.now) scan.now },
 }
 
 fn has_id(columns: &[Column], id: u16) -> bool
@@ -63,8 +69,56 @@ fn reads_key(columns: &[Column], scan: &Scan) -> bool
     tests_key(columns, scan.preds.as_slice()) || shows_key(columns, &scan.columns)
 }
 
+// Adds a column, unless it is one of the key.
+fn push_other(keys: &[Column], id: u16, ids: &mut Vec<u16>) -> Result<(), NoMemory>
+    ensures { OnOk result (ids.new.items ≡ ids.old.items ++ others_in keys.now (id ∷ [])) }
+{
+    if has_id(keys, id) {
+        return Ok(());
+    }
+    ids.push(id)?;
+    Ok(())
+}
+
+// Adds the columns of some tests, but those of the key.
+fn push_tested(keys: &[Column], preds: &[Pred], ids: &mut Vec<u16>) -> Result<(), NoMemory>
+    ensures { OnOk result (ids.new.items ≡ ids.old.items ++ others_in keys.now (map (λ p. p.column) preds.now)) }
+{
+    for pred in preds {
+        push_other(keys, pred.column, ids)?;
+    }
+    Ok(())
+}
+
+// Adds some columns, but those of the key.
+fn push_selected(keys: &[Column], columns: &[u16], ids: &mut Vec<u16>) -> Result<(), NoMemory>
+    ensures { OnOk result (ids.new.items ≡ ids.old.items ++ others_in keys.now columns.now) }
+{
+    for id in columns {
+        push_other(keys, *id, ids)?;
+    }
+    Ok(())
+}
+
+/// The columns that are no key and that a scan tests or selects.
+pub fn asked_ids(alloc: Global, keys: &[Column], scan: &Scan) -> Result<Vec<u16>, NoMemory>
+    ensures { IfOk result (λ ids. ids.items ≡ asked_ids keys.now scan.now) }
+{
+    let mut ids = Vec::new(alloc);
+    push_tested(keys, scan.preds.as_slice(), &mut ids)?;
+    match &scan.columns {
+        Some(columns) => {
+            push_selected(keys, columns.as_slice(), &mut ids)?;
+            Ok(ids)
+        }
+        None => Ok(ids),
+    }
+}
+
 impl<'s> Asked<'s> {
-    pub fn of(scan: &'s Scan, schema: &'s Schema) -> Asked<'s>
+    /// A scan, told which columns it asks for.
+    pub fn of(scan: &'s Scan, schema: &'s Schema, ids: &'s [u16]) -> Asked<'s>
+        requires { ids.now ≡ asked_ids (key_columns schema.now) scan.now }
         ensures scan { result.scan.now ≡ scan.now }
         ensures schema { result.schema.now ≡ schema.now }
     {
@@ -73,6 +127,7 @@ impl<'s> Asked<'s> {
             scan,
             schema,
             with_key,
+            ids,
         }
     }
 }

@@ -2,6 +2,7 @@
 ghost use Rattle.std.specs.Prelude.{◌≡◌, ◌≤◌, Some, None, IfOk, if◌then◌else◌};
 ghost use Rattle.std.specs.List.{All};
 ghost use Rattle.std.specs.Option.{option_copied};
+ghost use Rattle.kt_history.specs.Rows.{AgreeOn};
 ghost use Rattle.kt_history.specs.Views.{key_above};
 ghost use Rattle.kt_scan.specs.Live.{lesser, all_keys, row_in};
 
@@ -84,6 +85,29 @@ pub fn row_into<'v, V: View>(
     for (at, view) in views.iter().enumerate() {
         let mut place = hints.place(at);
         let found = view.row_into(key, t, &mut place, row)?;
+        hints.set(at, place);
+        if found {
+            return Ok(true);
+        }
+    }
+    Ok(false)
+}
+
+/// As `row_into`, of the columns alone that are asked for.
+pub fn columns_into<'v, V: View>(
+    views: &'v [V],
+    ids: &[u16],
+    key: &[u8],
+    t: u64,
+    hints: &mut Hints,
+    row: &mut RowRef<'v>,
+) -> Result<bool, NoMemory>
+    requires { All (λ v. V.mark v ≤ t) views.now }
+    ensures { IfOk result (λ found. AgreeOn ids.now (row_in V.row_of views.now key.now t) (if found then Some row.new else None)) }
+{
+    for (at, view) in views.iter().enumerate() {
+        let mut place = hints.place(at);
+        let found = view.columns_into(ids, key, t, &mut place, row)?;
         hints.set(at, place);
         if found {
             return Ok(true);

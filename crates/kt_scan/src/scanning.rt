@@ -1,5 +1,5 @@
 //! A scan over several views.
-ghost use Rattle.std.specs.Prelude.{◌≡◌, ◌≤◌, ◌++◌, map, true, Some, IfOk, OnOk};
+ghost use Rattle.std.specs.Prelude.{◌≡◌, ◌≤◌, ◌++◌, map, true, Some, None, IfOk, OnOk, if◌then◌else◌};
 ghost use Rattle.std.specs.List.{All};
 ghost use Rattle.std.specs.Option.{option_to_list};
 ghost use Rattle.kt_schema.specs.Columns.{key_columns};
@@ -11,13 +11,13 @@ ghost use Rattle.kt_scan.specs.Live.{row_in, live_rows};
 ghost use Rattle.kt_scan.specs.Lines.{line_of, cut};
 ghost use Rattle.kt_scan.specs.Whole.{whole_in};
 
-use crate::asked::Asked;
+use crate::asked::{Asked, asked_ids};
 use crate::key_cells::{read_key, read_plain};
-use crate::keys::{Hints, next_key, row_into};
+use crate::keys::{Hints, columns_into, next_key, row_into};
 use crate::row::WholeRow;
 use crate::tested::cut;
 use kt_base::{Cell, CellRef, NoMemory};
-use kt_history::{RowList, Scan, View};
+use kt_history::{RowList, RowRef, Scan, View};
 use kt_schema::Schema;
 use std::alloc::Global;
 
@@ -86,6 +86,30 @@ fn push_copied<V: View>(
     push_cut(asked, &row, &mut line, rows)
 }
 
+// Reads the row of a key, or of that what the scan asks for. Tells whether there is one.
+fn row_for<'v, V: View>(
+    views: &'v [V],
+    t: u64,
+    asked: &Asked<'_>,
+    key: &[u8],
+    hints: &mut Hints,
+    row: &mut RowRef<'v>,
+) -> Result<bool, NoMemory>
+    requires { All (λ v. V.mark v ≤ t) views.now }
+    ensures { IfOk result (λ found. line_of (keys_of asked.now.schema.now) asked.now.scan.now key.now (row_in V.row_of views.now key.now t) ≡ line_of (keys_of asked.now.schema.now) asked.now.scan.now key.now (if found then Some row.new else None)) }
+{
+    match &asked.scan.columns {
+        Some(_) => {
+            let found = columns_into(views, asked.ids, key, t, hints, row)?;
+            Ok(found)
+        }
+        None => {
+            let found = row_into(views, key, t, hints, row)?;
+            Ok(found)
+        }
+    }
+}
+
 // Adds what a scan shows of one key, if that has a row that passes the tests.
 fn push_line<'v, V: View>(
     alloc: Global,
@@ -101,7 +125,7 @@ fn push_line<'v, V: View>(
     requires { All (λ v. V.mark v ≤ t) views.now }
     ensures { OnOk result (rows.new ≡ rows.old ++ option_to_list (line_of (keys_of asked.now.schema.now) asked.now.scan.now key.now (row_in V.row_of views.now key.now t))) }
 {
-    if !row_into(views, key, t, hints, &mut row.others)? {
+    if !row_for(views, t, asked, key, hints, &mut row.others)? {
         return Ok(());
     }
     if !read_for(asked, key, &mut row.key)? {
@@ -124,7 +148,8 @@ pub fn run<V: View>(
     requires told { All (λ v. V.mark v ≤ a) views.now }
     ensures { IfOk result (λ rows. rows ≡ shown (keys_of schema.now) scan.now (live_rows V.keys V.row_of views.now t)) }
 {
-    let asked = Asked::of(scan, schema);
+    let ids = asked_ids(alloc, schema.key_columns(), scan)?;
+    let asked = Asked::of(scan, schema, &ids);
     let mut hints = Hints::new(alloc, views.len())?;
     let mut row = WholeRow::new(alloc);
     let mut line = Vec::new(alloc);

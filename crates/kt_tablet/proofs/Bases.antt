@@ -1,13 +1,16 @@
 -- The insert on which the row of a key rests, found from the first change on, and the changes since then, done from the last one back.
 use Rattle.std.proofs.Common.{◌≡◌, ℕ, ◌+◌, ◌<◌, List, [], ◌∷◌, Bool, true, false, cond, Option, Some, None, is_some, refl, sym, ap, ◌∙◌, subst, arith, inl, inr}
 use Rattle.std.specs.Prelude.{nat_le, slice_get}
+use Rattle.std.specs.Ordering.{nat_cmp}
+use Rattle.std.specs.FinMap.Entries.{find}
 use Rattle.std.specs.Option.{option_map}
 use Rattle.std.proofs.lemmas.Bool.{false≢true, cases_lt}
 use Rattle.kt_history.specs.declared.changes.KeyChange.{KeyChange}
 use Rattle.kt_history.specs.declared.target.Kindly.{Kindly}
 use Rattle.kt_history.specs.declared.target.Kindly.TheVariants.{Ins, Upd, Del}
 use Rattle.kt_history.specs.AsBytes.{change_with, step_of}
-use Rattle.kt_history.specs.Rows.{Row, apply, with_cells}
+use Rattle.kt_history.specs.Rows.{Row, apply, with_cells, AgreeIn, AgreeOn}
+use Rattle.kt_history.proofs.Asking.{agree_then}
 use Rattle.kt_history.specs.Stores.{after_steps}
 use Rattle.kt_tablet.specs.Bases.{row_by, IsBase, RestsOn, base_by, updated}
 use Rattle.kt_tablet.specs.Filling.{filled_change}
@@ -53,6 +56,17 @@ set_updated false kind cells over new late other update old = ap (λ (l : Row). 
 set_updated true Ins cells over new late other update old = ap (λ (l : Row). with_cells l old) (other (λ is. absurd cc))
 set_updated true Upd cells over new late other update old = update refl refl old
 set_updated true Del cells over new late other update old = ap (λ (l : Row). with_cells l old) (other (λ is. absurd cc))
+
+-- the same in some columns
+pub asked_updated : (ids : List ℕ) (done : Bool) (kind : Kindly) (cells over new : Row) → (done ≡ false → new ≡ over) → ((kind ≡ Upd → ⊥) → new ≡ over) → (done ≡ true → kind ≡ Upd → (old : Row) → AgreeIn ids (with_cells new old) (with_cells over (with_cells cells old)))
+    → (old : Row) → AgreeIn ids (with_cells new old) (with_cells over (updated done kind cells old))
+asked_updated ids false kind cells over new late other update old = λ id yes. ap (λ (l : Row). find nat_cmp id (with_cells l old)) (late refl)
+asked_updated ids true Ins cells over new late other update old = λ id yes. ap (λ (l : Row). find nat_cmp id (with_cells l old)) (other (λ is. absurd cc))
+asked_updated ids true Upd cells over new late other update old = update refl refl old
+asked_updated ids true Del cells over new late other update old = λ id yes. ap (λ (l : Row). find nat_cmp id (with_cells l old)) (other (λ is. absurd cc))
+
+pub asked_all : (ids : List ℕ) (done : Bool) (kind : Kindly) (cells over new : Row) → done ≡ true → kind ≡ Upd → ((old : Row) → AgreeIn ids new (with_cells over (with_cells cells old))) → (old : Row) → AgreeIn ids new (with_cells over (updated done kind cells old))
+asked_all ids done kind cells over new is_done is_update all old = rw (is_done, is_update) (all old)
 
 -- nothing lies over a row
 pub over_none : (row : Option Row) → row ≡ option_map (with_cells []) row
@@ -133,6 +147,46 @@ module _ (fill : Row) (q : List ℕ) (t : ℕ) (cs : List KeyChange) where
       let one : row_by fill cs q t (base + 1) ≡ after_one fill (nat_le ts t) kind cells None = one_more base ts kind cells told ∙ ap (after_one fill (nat_le ts t) kind cells) is.before in
       let some : is_some (after_one fill (nat_le ts t) kind cells None) ≡ true = sym (ap is_some one) ∙ is.stays (base + 1) (omega arith) (omega (arith, is.inside)) in
       ap Some made ∙ sym (ap (option_map (with_cells now)) (one ∙ from_none fill (nat_le ts t) kind cells some)) ∙ sym so_far
+
+module _ (ids : List ℕ) (fill : Row) (q : List ℕ) (t : ℕ) (cs : List KeyChange) where
+  -- what a change says of the row that stays
+  stands_so : (base end at ts : ℕ) (kind : Kindly) (cells : Row) → IsBase fill cs q t base end → base < at → at < end → Some (ts, change_with kind cells) ≡ option_map step_of (change_there q (slice_get cs at))
+      → (old : Row) → row_by fill cs q t at ≡ Some old → row_by fill cs q t (at + 1) ≡ Some (updated (nat_le ts t) kind cells old)
+  stands_so base end at ts kind cells is above below told old e =
+      let one : row_by fill cs q t (at + 1) ≡ after_one fill (nat_le ts t) kind cells (Some old) = one_more fill q t cs at ts kind cells told ∙ ap (after_one fill (nat_le ts t) kind cells) e in
+      one ∙ stays_updated fill (nat_le ts t) kind cells old (sym (ap is_some one) ∙ is.stays (at + 1) (omega arith) (omega arith))
+
+  -- as `goes_back`, in some columns
+  pub asks_back : (base end at ts : ℕ) (kind : Kindly) (cells now new : Row) → IsBase fill cs q t base end → base < at → at < end → Some (ts, change_with kind cells) ≡ option_map step_of (change_there q (slice_get cs at))
+      → ((old : Row) → AgreeIn ids (with_cells new old) (with_cells now (updated (nat_le ts t) kind cells old))) → AgreeOn ids (row_by fill cs q t end) (option_map (with_cells now) (row_by fill cs q t (at + 1))) → AgreeOn ids (row_by fill cs q t end) (option_map (with_cells new) (row_by fill cs q t at))
+  asks_back base end at ts kind cells now new is above below told set so_far = by (row_by fill cs q t at) refl
+    where
+      by : (o : Option Row) → row_by fill cs q t at ≡ o → AgreeOn ids (row_by fill cs q t end) (option_map (with_cells new) (row_by fill cs q t at))
+      by None e = absurd (false≢true (sym (ap is_some e) ∙ is.stays at above (omega arith)))
+      by (Some old) e =
+          let there = subst (λ (o : Option Row). AgreeOn ids (row_by fill cs q t end) (option_map (with_cells now) o)) (stands_so base end at ts kind cells is above below told old e) so_far in
+          subst (λ (o : Option Row). AgreeOn ids (row_by fill cs q t end) (option_map (with_cells new) o)) (sym e)
+          (agree_then ids (row_by fill cs q t end) (Some (with_cells now (updated (nat_le ts t) kind cells old))) (Some (with_cells new old)) there (λ id yes. sym (set old id yes)))
+
+  -- a change that tells the last column that is asked for
+  pub asks_enough : (base end at ts : ℕ) (kind : Kindly) (cells now new : Row) → IsBase fill cs q t base end → base < at → at < end → Some (ts, change_with kind cells) ≡ option_map step_of (change_there q (slice_get cs at))
+      → ((old : Row) → AgreeIn ids new (with_cells now (updated (nat_le ts t) kind cells old))) → AgreeOn ids (row_by fill cs q t end) (option_map (with_cells now) (row_by fill cs q t (at + 1))) → AgreeOn ids (row_by fill cs q t end) (Some new)
+  asks_enough base end at ts kind cells now new is above below told set so_far = by (row_by fill cs q t at) refl
+    where
+      by : (o : Option Row) → row_by fill cs q t at ≡ o → AgreeOn ids (row_by fill cs q t end) (Some new)
+      by None e = absurd (false≢true (sym (ap is_some e) ∙ is.stays at above (omega arith)))
+      by (Some old) e =
+          let there = subst (λ (o : Option Row). AgreeOn ids (row_by fill cs q t end) (option_map (with_cells now) o)) (stands_so base end at ts kind cells is above below told old e) so_far in
+          agree_then ids (row_by fill cs q t end) (Some (with_cells now (updated (nat_le ts t) kind cells old))) (Some new) there (λ id yes. sym (set old id yes))
+
+  -- as `rests_whole`, in some columns
+  pub asks_whole : (base end ts : ℕ) (kind : Kindly) (cells now new : Row) → IsBase fill cs q t base end → Some (ts, change_with kind cells) ≡ option_map step_of (change_there q (slice_get cs base))
+      → AgreeIn ids new (with_cells now (with_cells cells fill)) → AgreeOn ids (row_by fill cs q t end) (option_map (with_cells now) (row_by fill cs q t (base + 1))) → AgreeOn ids (row_by fill cs q t end) (Some new)
+  asks_whole base end ts kind cells now new is told made so_far =
+      let one : row_by fill cs q t (base + 1) ≡ after_one fill (nat_le ts t) kind cells None = one_more fill q t cs base ts kind cells told ∙ ap (after_one fill (nat_le ts t) kind cells) is.before in
+      let some : is_some (after_one fill (nat_le ts t) kind cells None) ≡ true = sym (ap is_some one) ∙ is.stays (base + 1) (omega arith) (omega (arith, is.inside)) in
+      let there = subst (λ (o : Option Row). AgreeOn ids (row_by fill cs q t end) (option_map (with_cells now) o)) (one ∙ from_none fill (nat_le ts t) kind cells some) so_far in
+      agree_then ids (row_by fill cs q t end) (Some (with_cells now (with_cells cells fill))) (Some new) there (λ id yes. sym (made id yes))
 
 pub based : (fill : Row) (q : List ℕ) (t : ℕ) (cs : List KeyChange) (base : Option ℕ) (at end : ℕ) → base ≡ Some at → RestsOn fill cs q t base end → IsBase fill cs q t at end
 based fill q t cs base at end is rests = subst (λ b. RestsOn fill cs q t b end) is rests

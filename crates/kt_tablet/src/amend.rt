@@ -1,7 +1,7 @@
 //! Rows that are filled: what an insert leaves out is of the fill.
 ghost use Rattle.std.specs.Prelude.{◌≡◌, true, IfOk, OnOk};
 ghost use Rattle.kt_cells.specs.Borrowed.{cells_in_ref};
-ghost use Rattle.kt_history.specs.Rows.{with_cells};
+ghost use Rattle.kt_history.specs.Rows.{with_cells, AgreeIn};
 
 use kt_base::{Cell, CellRef, NoMemory};
 use kt_cells::CellsRef;
@@ -66,5 +66,22 @@ pub fn fill_under<'v>(
     }
     row.set_under(cells)?;
     row.lay_over(fill)?;
+    Ok(())
+}
+
+/// As `fill_under`, of the columns alone that are asked for.
+pub fn fill_asked<'v>(
+    row: &mut RowRef<'v>,
+    ids: &[u16],
+    fill: &'v [(u16, Cell)],
+    cells: CellsRef<'v>,
+) -> Result<(), NoMemory>
+    ensures { OnOk result (AgreeIn ids.now row.new (with_cells row.old (with_cells (cells_in_ref cells.entry) fill.now))) }
+{
+    let all = row.set_asked(ids, cells)?;
+    if all {
+        return Ok(());
+    }
+    row.set_asked_last(ids, fill)?;
     Ok(())
 }

@@ -4,12 +4,12 @@ ghost use Rattle.std.specs.List.Sorted.{IsPartitionPoint};
 ghost use Rattle.std.specs.Option.{option_copied, option_map};
 ghost use Rattle.std.specs.Ordering.{is_lt};
 ghost use Rattle.kt_cells.specs.Borrowed.{cells_in_ref};
-ghost use Rattle.kt_history.specs.Rows.{Row, key_cmp, with_cells};
+ghost use Rattle.kt_history.specs.Rows.{Row, key_cmp, with_cells, AgreeIn, AgreeOn};
 ghost use Rattle.kt_history.specs.Views.{key_above};
-ghost use Rattle.kt_tablet.specs.Bases.{row_by, base_by, IsBase};
+ghost use Rattle.kt_tablet.specs.Bases.{row_by, base_by, IsBase, RestsOn};
 ghost use Rattle.kt_tablet.specs.Snaps.{rises, row_in, keys_in, is_above_at, is_reached_at};
 
-use crate::amend::fill_under;
+use crate::amend::{fill_asked, fill_under};
 use kt_base::{Cells, NoMemory};
 use kt_history::{ChangeList, ChangeRef, Kindly, RowRef};
 
@@ -220,21 +220,77 @@ fn row_upon<'v>(
     Ok(())
 }
 
-// The row of a key whose changes begin at a place, told whether there are any. The place then is behind them.
-fn row_from<'v>(
+// As `update_under`, of the columns alone that are asked for. Tells at times that all of them are there then.
+fn column_under<'v>(
+    row: &mut RowRef<'v>,
+    ids: &[u16],
+    change: ChangeRef<'v>,
+    t: u64,
+) -> Result<bool, NoMemory>
+    ensures late { IfOk result (λ all. nat_le change.entry.ts t ≡ false → row.new ≡ row.old) }
+    ensures other { IfOk result (λ all. (change.entry.kind ≡ Kindly.Upd → ⊥) → row.new ≡ row.old) }
+    ensures update { IfOk result (λ all. nat_le change.entry.ts t ≡ true → change.entry.kind ≡ Kindly.Upd → (old : Row) → AgreeIn ids.now (with_cells row.new old) (with_cells row.old (with_cells (cells_in_ref change.entry.cells) old))) }
+    ensures done { IfOk result (λ all. all ≡ true → nat_le change.entry.ts t ≡ true) }
+    ensures kind { IfOk result (λ all. all ≡ true → change.entry.kind ≡ Kindly.Upd) }
+    ensures all { IfOk result (λ all. all ≡ true → (old : Row) → AgreeIn ids.now row.new (with_cells row.old (with_cells (cells_in_ref change.entry.cells) old))) }
+{
+    if !is_done(change, t) {
+        return Ok(false);
+    }
+    match change.kind {
+        Kindly::Upd => {
+            let all = row.set_asked(ids, change.cells)?;
+            Ok(all)
+        }
+        Kindly::Ins | Kindly::Del => Ok(false),
+    }
+}
+
+// As `row_upon`, of the columns alone that are asked for. It stops at the change that tells the last of them.
+fn columns_upon<'v>(
     fill: &'v Cells,
     changes: &'v ChangeList,
+    ids: &[u16],
+    key: &[u8],
+    t: u64,
+    base: usize,
+    end: usize,
+    row: &mut RowRef<'v>,
+) -> Result<(), NoMemory>
+    requires inside { base < end }
+    requires rests { IsBase fill.now changes.now key.now t base end }
+    ensures { OnOk result (AgreeOn ids.now (row_by fill.now changes.now key.now t end) (Some row.new)) }
+{
+    row.clear();
+    let mut at = end;
+    'changes: while at > base + 1 {
+        at -= 1;
+        let change = changes.at(at);
+        let all = column_under(row, ids, change, t)?;
+        if all {
+            return Ok(());
+        }
+    }
+    let insert = changes.at(base);
+    fill_asked(row, ids, fill.as_slice(), insert.cells)?;
+    Ok(())
+}
+
+// On which insert the row of a key rests whose changes begin at a place, told whether there are any. The place then is behind them.
+fn base_from(
+    fill: &Cells,
+    changes: &ChangeList,
     key: &[u8],
     t: u64,
     any: bool,
     place: &mut usize,
-    row: &mut RowRef<'v>,
-) -> Result<bool, NoMemory>
+) -> Option<usize>
     requires rising { rises changes.now ≡ true }
     requires bound { place.old ≤ length changes.now }
     requires parts { IsPartitionPoint (λ c. is_lt (key_cmp c.key key.now) ≡ true) (λ c. is_lt (key_cmp c.key key.now) ≡ false) changes.now place.old }
     requires any { IsTrue any ↔ (option_map (λ c. c.key) (slice_get changes.now place.old) ≡ Some key.now) }
-    ensures { IfOk result (λ is. (if is then Some row.new else None) ≡ row_in fill.now changes.now key.now t) }
+    ensures rests { RestsOn fill.now changes.now key.now t result place.new }
+    ensures whole { row_by fill.now changes.now key.now t place.new ≡ row_in fill.now changes.now key.now t }
 {
     let mut base = None;
     let mut at = *place;
@@ -248,13 +304,27 @@ fn row_from<'v>(
         at += 1;
     }
     *place = at;
-    match base {
-        Some(first) => {
-            row_upon(fill, changes, key, t, first, at, row)?;
-            Ok(true)
-        }
-        None => Ok(false),
+    base
+}
+
+// On which insert the row of a key rests. The hint then is behind its changes.
+fn base_of(
+    fill: &Cells,
+    changes: &ChangeList,
+    key: &[u8],
+    t: u64,
+    hint: &mut usize,
+) -> Option<usize>
+    requires { rises changes.now ≡ true }
+    ensures rests { RestsOn fill.now changes.now key.now t result hint.new }
+    ensures whole { row_by fill.now changes.now key.now t hint.new ≡ row_in fill.now changes.now key.now t }
+{
+    if start_at(changes, key, *hint) {
+        return base_from(fill, changes, key, t, true, hint);
     }
+    *hint = place_of(changes, key, *hint);
+    let any = changes.is_key(*hint, key);
+    base_from(fill, changes, key, t, any, hint)
 }
 
 /// The row of a key. Tells whether there is one. The hint then is behind its changes.
@@ -269,10 +339,33 @@ pub fn row_into<'v>(
     requires { rises changes.now ≡ true }
     ensures { IfOk result (λ is. (if is then Some row.new else None) ≡ row_in fill.now changes.now key.now t) }
 {
-    if start_at(changes, key, *hint) {
-        return row_from(fill, changes, key, t, true, hint, row);
+    match base_of(fill, changes, key, t, hint) {
+        Some(base) => {
+            row_upon(fill, changes, key, t, base, *hint, row)?;
+            Ok(true)
+        }
+        None => Ok(false),
     }
-    *hint = place_of(changes, key, *hint);
-    let any = changes.is_key(*hint, key);
-    row_from(fill, changes, key, t, any, hint, row)
+}
+
+/// As `row_into`, of the columns alone that are asked for.
+pub fn columns_into<'v>(
+    fill: &'v Cells,
+    changes: &'v ChangeList,
+    ids: &[u16],
+    key: &[u8],
+    t: u64,
+    hint: &mut usize,
+    row: &mut RowRef<'v>,
+) -> Result<bool, NoMemory>
+    requires { rises changes.now ≡ true }
+    ensures { IfOk result (λ is. AgreeOn ids.now (row_in fill.now changes.now key.now t) (if is then Some row.new else None)) }
+{
+    match base_of(fill, changes, key, t, hint) {
+        Some(base) => {
+            columns_upon(fill, changes, ids, key, t, base, *hint, row)?;
+            Ok(true)
+        }
+        None => Ok(false),
+    }
 }

@@ -163,4 +163,18 @@ impl<'s> View for ReadView<'s> {
             ReadView::Rows(table) => table.row_into(key, t, hint, row),
         }
     }
+
+    fn columns_into<'v>(
+        &'v self,
+        ids: &[u16],
+        key: &[u8],
+        t: u64,
+        hint: &mut usize,
+        row: &mut RowRef<'v>,
+    ) -> Result<bool, NoMemory> {
+        match self {
+            ReadView::Changes(view) => view.columns_into(ids, key, t, hint, row),
+            ReadView::Rows(table) => table.columns_into(ids, key, t, hint, row),
+        }
+    }
 }

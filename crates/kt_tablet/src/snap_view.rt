@@ -6,7 +6,7 @@ ghost use Rattle.kt_history.specs.Views.{key_above};
 ghost use Rattle.kt_tablet.specs.Snaps.{rises, row_in, keys_in};
 ghost use Rattle.kt_tablet.specs.SnapLaws.{keys_in_rise, row_in_has_key};
 
-use crate::reading::{next_key, row_into};
+use crate::reading::{columns_into, next_key, row_into};
 use kt_base::{CellRef, Cells, NoMemory, Octets};
 use kt_history::{ChangeList, RowRef, View};
 use std::alloc::Global;
@@ -119,5 +119,16 @@ impl View for SnapView {
         row: &mut RowRef<'v>,
     ) -> Result<bool, NoMemory> {
         row_into(&self.fill, &self.changes, key, t, hint, row)
+    }
+
+    fn columns_into<'v>(
+        &'v self,
+        ids: &[u16],
+        key: &[u8],
+        t: u64,
+        hint: &mut usize,
+        row: &mut RowRef<'v>,
+    ) -> Result<bool, NoMemory> {
+        columns_into(&self.fill, &self.changes, ids, key, t, hint, row)
     }
 }

@@ -62,4 +62,16 @@ impl View for Table {
     ) -> Result<bool, NoMemory> {
         row_in(&self.rows, key, *hint, row)
     }
+
+    fn columns_into<'v>(
+        &'v self,
+        ids: &[u16],
+        key: &[u8],
+        _t: u64,
+        hint: &mut usize,
+        row: &mut RowRef<'v>,
+    ) -> Result<bool, NoMemory> {
+        let found = row_in(&self.rows, key, *hint, row)?;
+        Ok(found)
+    }
 }

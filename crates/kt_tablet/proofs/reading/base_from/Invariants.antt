@@ -2,7 +2,7 @@ use Rattle.std.proofs.Common.{◌≡◌, ◌≤◌, ◌-◌, length, Some}
 use Rattle.std.specs.Prelude.{◌↔◌, IsTrue, slice_get}
 use Rattle.std.specs.Option.{option_map}
 use Rattle.kt_tablet.specs.Bases.{RestsOn}
-use Rattle.kt_tablet.proofs.reading.row_from.Given as goal
+use Rattle.kt_tablet.proofs.reading.base_from.Given as goal
 
 -- it is known on which insert the row rests after the changes of the key before this place, and whether there are more
 abbrev pub invariant-changes : goal.invariant-changes

@@ -1,14 +1,13 @@
-use Rattle.std.proofs.Common.{◌≡◌, ℕ, ◌+◌, Option, None, refl, arith, sym, ap, ◌∙◌, subst}
+use Rattle.std.proofs.Common.{ℕ, ◌+◌, Option, refl, arith, sym, ap, ◌∙◌, subst}
 use Rattle.std.specs.Prelude.{slice_get}
 use Rattle.std.specs.Option.{option_map}
 use Rattle.std.proofs.lemmas.Bool.{false≢true}
 use Rattle.kt_cells.specs.Borrowed.{cells_in_ref}
 use Rattle.kt_history.specs.AsBytes.{step_of}
 use Rattle.kt_tablet.specs.Bases.{row_by, RestsOn}
-use Rattle.kt_tablet.specs.Snaps.{row_in}
-use Rattle.kt_tablet.proofs.Bases.{rests_more, based}
+use Rattle.kt_tablet.proofs.Bases.{rests_more}
 use Rattle.kt_tablet.proofs.Snaps.{row_begins, row_ends, key_within, change_is, change_is_not}
-use Rattle.kt_tablet.proofs.reading.row_from.Goals as goal
+use Rattle.kt_tablet.proofs.reading.base_from.Goals as goal
 
 pub changes-init : goal.changes-init
 changes-init c = record { from = omega arith; upto = c.requires.bound; rests = sym (row_begins c.args.fill.now c.args.key.now c.args.t c.args.changes.now c.args.place.now c.requires.parts); more = c.requires.any }
@@ -40,22 +39,12 @@ changes-preserved c =
       more = (λ on. sym (c.goes_on-more.ensures.0 on) ∙ here, λ same. c.goes_on-more.ensures.1 (here ∙ sym same));
     }
 
-pub row_upon-requires : goal.row_upon-requires
-row_upon-requires c = based c.args.fill.now c.args.key.now c.args.t c.args.changes.now c.changes.base c.in-Some.first c.changes.at c.in-Some.is c.changes.invariant.rests
+pub returns-clause-rests : goal.returns-clause-rests
+returns-clause-rests c = c.changes.invariant.rests
 
-pub returns-in_ok-row_upon-in-Some : goal.returns-in_ok-row_upon-in-Some
-returns-in_ok-row_upon-in-Some c =
+pub returns-clause-whole : goal.returns-clause-whole
+returns-clause-whole c =
     let cs = c.args.changes.now in
     let q = c.args.key.now in
-    c.in_ok-row_upon-in-Some.ensures
-    ∙ row_ends c.args.fill.now q c.args.t cs c.args.place.now c.changes.at (row_by c.args.fill.now cs q c.args.t c.changes.at) c.requires.rising c.changes.invariant.from c.requires.parts
-    (ap (option_map step_of) (sym (change_is_not q (slice_get cs c.changes.at) (λ same. false≢true (sym c.changes-test.false ∙ c.changes.invariant.more.1 same))))) refl
-
-pub returns-in-None : goal.returns-in-None
-returns-in-None c =
-    let cs = c.args.changes.now in
-    let q = c.args.key.now in
-    let none : row_by c.args.fill.now cs q c.args.t c.changes.at ≡ None = subst (λ (base : Option ℕ). RestsOn c.args.fill.now cs q c.args.t base c.changes.at) c.in-None.is c.changes.invariant.rests in
-    sym none
-    ∙ row_ends c.args.fill.now q c.args.t cs c.args.place.now c.changes.at (row_by c.args.fill.now cs q c.args.t c.changes.at) c.requires.rising c.changes.invariant.from c.requires.parts
+    row_ends c.args.fill.now q c.args.t cs c.args.place.now c.changes.at (row_by c.args.fill.now cs q c.args.t c.changes.at) c.requires.rising c.changes.invariant.from c.requires.parts
     (ap (option_map step_of) (sym (change_is_not q (slice_get cs c.changes.at) (λ same. false≢true (sym c.changes-test.false ∙ c.changes.invariant.more.1 same))))) refl
