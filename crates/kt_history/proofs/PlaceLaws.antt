@@ -1,5 +1,5 @@
 -- What the place of a key says of putting an entry there.
-use Rattle.std.proofs.Common.{◌≡◌, ℕ, ◌+◌, ◌<◌, ◌≤◌, List, [], ◌∷◌, Ok, Err, Result, refl, sym, ap, subst, arith, length}
+use Rattle.std.proofs.Common.{◌≡◌, ℕ, ◌<◌, ◌≤◌, List, [], ◌∷◌, Ok, Err, Result, refl, sym, ap, subst, arith, length}
 use Rattle.std.specs.Prelude.{slice_set, slice_index_or}
 use Rattle.std.specs.List.{insert}
 use Rattle.std.specs.declared.cmp.Ordering.{Ordering}
@@ -24,11 +24,6 @@ place_says {K = K} {X = X} order key value (e ∷ es) =
       | Equal ↦ λ h. (omega arith, λ d is. rw h (ap (λ (o : K × X). (o.0, value) ∷ es) is))
       | Greater ↦ λ h. later_says order key value e es (place_of order key es) h (place_says order key value es)
     ] refl
-
--- the place among the entries that are left, moved by those passed
-abbrev pub moved : ℕ → Result ℕ ℕ → Result ℕ ℕ
-moved n (Ok i) = Ok (n + i)
-moved n (Err i) = Err (n + i)
 
 -- what the place that was found among these entries says of the same entries under another name
 pub says_at : {K X : Type 0} (order : K → K → Ordering) (key : K) (value : X) (es found : List (K × X)) (place : Result ℕ ℕ) → found ≡ es → place ≡ place_of order key found → Says order key value es place

@@ -1,16 +1,15 @@
 //! What operations and changes do to a row.
-ghost use Rattle.std.specs.Prelude.{◌≡◌, ◌∷◌, ◌++◌, [], IsTrue, IfOk, OnOk, OnErr};
+ghost use Rattle.std.specs.Prelude.{◌≡◌, ◌≤◌, ◌∷◌, ◌++◌, [], length, IsTrue, IfOk, OnOk, OnErr, MatchResult};
 ghost use Rattle.std.specs.Ordering.{nat_cmp, is_eq};
 ghost use Rattle.std.specs.List.{list_any};
 ghost use Rattle.std.specs.FinMap.Entries.{put};
 ghost use Rattle.kt_history.specs.Operations.{outcome_of};
-ghost use Rattle.kt_history.specs.Places.{place_of};
+ghost use Rattle.kt_history.specs.Places.{place_of, AreBelow, HasNumber};
 ghost use Rattle.kt_history.specs.Rows.{with_cells, cells_under, apply, undo, fits};
 
 use crate::{Change, OpKind, Outcome};
 use kt_base::{Cell, Cells, NoMemory};
 use std::alloc::Global;
-use std::cmp::Ordering;
 
 /// What becomes of an operation, by whether its key is present.
 pub fn outcome(kind: OpKind, present: bool) -> Outcome
@@ -25,18 +24,31 @@ pub fn outcome(kind: OpKind, present: bool) -> Outcome
     }
 }
 
-/// The place of a column among entries by rising id, or the place where a new one goes.
-pub(crate) fn place_of_id<X>(cells: &[(u16, X)], id: u16) -> Result<usize, usize>
+/// The place of a column among entries by rising id, or the place where a new one goes. The entries before `from` are of columns
+/// below it, and are not looked at.
+pub(crate) fn place_behind<X>(cells: &[(u16, X)], from: usize, id: u16) -> Result<usize, usize>
+    requires bound { from ≤ length cells.now }
+    requires below { AreBelow from id cells.now }
+    ensures place { result ≡ place_of nat_cmp id cells.now }
+    ensures below { MatchResult result (λ at. AreBelow at id cells.now) (λ at. AreBelow at id cells.now) }
+    ensures found { IfOk result (λ at. HasNumber at id cells.now) }
+{
+    let mut at = from;
+    'places: while at < cells.len() {
+        let here = cells[at].0;
+        if here >= id {
+            return if here == id { Ok(at) } else { Err(at) };
+        }
+        at += 1;
+    }
+    Err(at)
+}
+
+// The place of a column among entries by rising id, or the place where a new one goes.
+fn place_of_id<X>(cells: &[(u16, X)], id: u16) -> Result<usize, usize>
     ensures { result ≡ place_of nat_cmp id cells.now }
 {
-    for (at, cell) in cells.iter().enumerate() {
-        match id.cmp(&cell.0) {
-            Ordering::Less => return Err(at),
-            Ordering::Equal => return Ok(at),
-            Ordering::Greater => {}
-        }
-    }
-    Err(cells.len())
+    place_behind(cells, 0, id)
 }
 
 /// Sets the cell of a column, in its place among cells by rising id. It can fail only for want of memory, and the cells are as before then.

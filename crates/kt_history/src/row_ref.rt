@@ -1,14 +1,14 @@
 //! A row that borrows its texts, so that it is read without a copy.
-ghost use Rattle.std.specs.Prelude.{◌≡◌, ◌+◌, ◌<◌, ◌≤◌, ◌∷◌, ◌++◌, [], true, length, IfOk, OnOk, MatchResult};
+ghost use Rattle.std.specs.Prelude.{◌≡◌, ◌+◌, ◌<◌, ◌≤◌, ◌∷◌, ◌++◌, [], true, length, IfOk, OnOk};
 ghost use Rattle.std.specs.List.{list_all, list_any};
 ghost use Rattle.std.specs.Ordering.{nat_cmp, is_eq};
 ghost use Rattle.std.specs.FinMap.Entries.{put};
 ghost use Rattle.kt_base.specs.Borrowed.{cell_in};
 ghost use Rattle.kt_cells.specs.Borrowed.{cells_in, cells_in_ref};
-ghost use Rattle.kt_history.specs.Places.{place_of, AreBelow, HasNumber};
+ghost use Rattle.kt_history.specs.Places.{AreBelow};
 ghost use Rattle.kt_history.specs.Rows.{Row, with_cells, is_among, AgreeIn};
 
-use crate::effect::place_of_id;
+use crate::effect::place_behind;
 use kt_base::{Cell, CellRef, NoMemory};
 use kt_cells::CellsRef;
 use std::alloc::Global;
@@ -258,6 +258,7 @@ fn put_under<'v>(cells: &mut Vec<(u16, CellRef<'v>)>, more: CellsRef<'v>) -> Res
     Ok(())
 }
 
+// Sets the cell of a column, in its place among cells by rising id.
 fn put_ref<'v>(
     cells: &mut Vec<(u16, CellRef<'v>)>,
     id: u16,
@@ -265,36 +266,8 @@ fn put_ref<'v>(
 ) -> Result<(), NoMemory>
     ensures { OnOk result (cells.new.items ≡ put nat_cmp id cell.entry cells.old.items) }
 {
-    match place_of_id(cells, id) {
-        Ok(at) => {
-            cells[at].1 = cell;
-            Ok(())
-        }
-        Err(at) => {
-            cells.insert(at, (id, cell))?;
-            Ok(())
-        }
-    }
-}
-
-// The place of a column among entries by rising id, or the place where a new one goes. The entries before `from` are of columns
-// below it, and are not looked at.
-fn place_behind<X>(cells: &[(u16, X)], from: usize, id: u16) -> Result<usize, usize>
-    requires bound { from ≤ length cells.now }
-    requires below { AreBelow from id cells.now }
-    ensures place { result ≡ place_of nat_cmp id cells.now }
-    ensures below { MatchResult result (λ at. AreBelow at id cells.now) (λ at. AreBelow at id cells.now) }
-    ensures found { IfOk result (λ at. HasNumber at id cells.now) }
-{
-    let mut at = from;
-    'places: while at < cells.len() {
-        let here = cells[at].0;
-        if here >= id {
-            return if here == id { Ok(at) } else { Err(at) };
-        }
-        at += 1;
-    }
-    Err(at)
+    put_behind(cells, 0, id, cell)?;
+    Ok(())
 }
 
 // Sets the cell of a column that is above those before `from`, and tells its place.

@@ -1,6 +1,5 @@
 //! Byte strings of a list that has several owners.
-ghost use Rattle.std.specs.Prelude.{◌≡◌, ◌+◌, ◌<◌, ◌≤◌, ◌==◌, [], length, take, get_or, IfOk};
-ghost use Rattle.std.specs.Arc.{arc_value};
+ghost use Rattle.std.specs.Prelude.{◌≡◌, ◌+◌, ◌<◌, ◌≤◌, [], length, get_or, IfOk};
 ghost use Rattle.std.specs.List.{between, concat};
 
 use kt_base::NoMemory;

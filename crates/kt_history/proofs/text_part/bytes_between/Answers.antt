@@ -1,6 +1,4 @@
-use Rattle.std.proofs.Common.{◌≡◌, ◌≤◌, ℕ, List, length, ap, ◌∙◌, arith}
-use Rattle.std.specs.List.{between, concat}
-use Rattle.kt_bytes.specs.Cuts.{start_at as start, ends_of}
+use Rattle.std.proofs.Common.{length, ap, ◌∙◌, arith}
 use Rattle.kt_history.proofs.Parts.{bytes_of, in_order, within, ends_length}
 use Rattle.kt_history.proofs.text_part.bytes_between.Goals as goal
 

@@ -1,6 +1,6 @@
 use Rattle.std.proofs.Common.{◌≤◌, ◌-◌, length}
 use Rattle.kt_history.specs.Places.{AreBelow}
-use Rattle.kt_history.proofs.row_ref.place_behind.Given as goal
+use Rattle.kt_history.proofs.effect.place_behind.Given as goal
 
 -- the columns before the place are below
 abbrev pub invariant-places : goal.invariant-places

@@ -1,7 +1,7 @@
 use Rattle.std.proofs.Common.{ap, ◌∙◌, arith}
 use Rattle.std.proofs.lemmas.List.{get_or_default}
 use Rattle.kt_history.proofs.Merging.{place_there, place_gap}
-use Rattle.kt_history.proofs.row_ref.place_behind.Goals as goal
+use Rattle.kt_history.proofs.effect.place_behind.Goals as goal
 
 pub returns-then-here-id-2-clause-place : goal.returns-then-here-id-2-clause-place
 returns-then-here-id-2-clause-place g c = place_there c.args.id c.places.at c.args.cells.now c.index-cells-at.result c.places-test.true c.places.invariant.below c.if-here-id-2.true
