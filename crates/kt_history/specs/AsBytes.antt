@@ -1,5 +1,5 @@
--- Changes whose keys and cells stand as byte strings in one list.
-use Rattle.std.specs.Prelude.{◌≡◌, ℕ, ◌+◌, ◌-◌, ◌<◌, Bool, ◌&&◌, List, [], length, map, get_or, nat_lt}
+-- Changes whose keys and cells stand as parts of one byte string.
+use Rattle.std.specs.Prelude.{◌≡◌, ℕ, ◌+◌, ◌-◌, ◌<◌, Bool, ◌&&◌, List, [], length, map, get_or, take, drop, nat_le}
 use Rattle.std.specs.List.{list_all}
 use Rattle.kt_cells.specs.Reading.{cells_behind}
 use Rattle.kt_history.specs.declared.change.Change.{Change}
@@ -7,6 +7,7 @@ use Rattle.kt_history.specs.declared.change.Change.TheVariants as change
 use Rattle.kt_history.specs.declared.changes.KeyChange.{KeyChange}
 use Rattle.kt_history.specs.declared.target.Kindly.{Kindly}
 use Rattle.kt_history.specs.declared.target.Kindly.TheVariants.{Ins, Upd, Del}
+use Rattle.kt_history.specs.declared.change_list.Part.{Part}
 use Rattle.kt_history.specs.declared.change_list.Head.{Head}
 use Rattle.kt_history.specs.declared.change_list.ChangeRef.{ChangeRef}
 use Rattle.kt_cells.specs.Borrowed.{cells_in_ref}
@@ -18,27 +19,35 @@ change_with Ins cells = change.Ins cells
 change_with Upd cells = change.Upd cells
 change_with Del cells = change.Del
 
--- the change whose key and cells are these strings of the list
-abbrev pub change_at : List (List ℕ) → Head → KeyChange
-change_at texts h = record { key = get_or texts h.key []; ts = h.ts; change = change_with h.kind (cells_behind (get_or texts h.cells [])) }
+-- the bytes of a part
+abbrev pub part_of : List ℕ → Part → List ℕ
+part_of bytes p = take p.len (drop p.from bytes)
 
-abbrev pub changes_at : List (List ℕ) → List Head → List KeyChange
-changes_at texts heads = map (change_at texts) heads
+-- the change whose key and cells are these parts of the bytes
+abbrev pub change_at : List ℕ → Head → KeyChange
+change_at bytes h = record { key = part_of bytes h.key; ts = h.ts; change = change_with h.kind (cells_behind (part_of bytes h.cells)) }
 
--- its strings are among the first so many
+abbrev pub changes_at : List ℕ → List Head → List KeyChange
+changes_at bytes heads = map (change_at bytes) heads
+
+-- a part ends among the first so many bytes
+abbrev pub is_part : ℕ → Part → Bool
+is_part n p = nat_le (p.from + p.len) n
+
+-- so do both parts of a change
 abbrev pub is_inside : ℕ → Head → Bool
-is_inside n h = nat_lt h.key n && nat_lt h.cells n
+is_inside n h = is_part n h.key && is_part n h.cells
 
 abbrev pub are_inside : ℕ → List Head → Bool
 are_inside n heads = list_all (is_inside n) heads
 
--- changes that stand one behind the other name one string for one key
-abbrev pub AreTold : List (List ℕ) → List Head → Type 0
-AreTold texts heads = (k : ℕ) (d : Head) → k + 1 < length heads → get_or texts (get_or heads k d).key [] ≡ get_or texts (get_or heads (k + 1) d).key [] → (get_or heads k d).key ≡ (get_or heads (k + 1) d).key
+-- changes that stand one behind the other name one part for one key
+abbrev pub AreTold : List ℕ → List Head → Type 0
+AreTold bytes heads = (k : ℕ) (d : Head) → k + 1 < length heads → part_of bytes (get_or heads k d).key ≡ part_of bytes (get_or heads (k + 1) d).key → (get_or heads k d).key ≡ (get_or heads (k + 1) d).key
 
--- a string is the key of the last change, or another one than that
-abbrev pub IsToldNext : List (List ℕ) → List Head → ℕ → Type 0
-IsToldNext texts heads at = (d : Head) → 0 < length heads → get_or texts (get_or heads (length heads - 1) d).key [] ≡ get_or texts at [] → (get_or heads (length heads - 1) d).key ≡ at
+-- a part is the key of the last change, or other bytes than that
+abbrev pub IsToldNext : List ℕ → List Head → Part → Type 0
+IsToldNext bytes heads p = (d : Head) → 0 < length heads → part_of bytes (get_or heads (length heads - 1) d).key ≡ part_of bytes p → (get_or heads (length heads - 1) d).key ≡ p
 
 -- the key of the last change, or nothing where there is none
 abbrev pub last_key : List KeyChange → List ℕ

@@ -6,20 +6,26 @@ ghost use Rattle.std.specs.Ordering.{is_lt};
 ghost use Rattle.kt_history.specs.Rows.{key_cmp};
 ghost use Rattle.kt_cells.specs.Reading.{cells_behind};
 ghost use Rattle.kt_history.specs.declared.change_list.Head.{Head as HeadSpec};
-ghost use Rattle.kt_history.specs.AsBytes.{change_with, changes_at, are_inside, last_key, AreTold, IsToldNext, step_in, step_of};
+ghost use Rattle.kt_history.specs.AsBytes.{change_with, part_of, changes_at, are_inside, last_key, AreTold, IsToldNext, step_in, step_of};
 
 use crate::Kindly;
 use kt_base::NoMemory;
-use kt_bytes::Texts;
 use kt_cells::CellsRef;
 use std::alloc::Global;
 use std::marker::Model;
 
-// Which strings are the key and the cells of a change, with its timestamp and kind.
+// So many bytes of a list, from a place on.
+#[derive(Clone, Copy)]
+struct Part {
+    from: usize,
+    len: usize,
+}
+
+// Which bytes are the key and the cells of a change, with its timestamp and kind.
 #[derive(Clone, Copy)]
 struct Head {
-    key: usize,
-    cells: usize,
+    key: Part,
+    cells: Part,
     ts: u64,
     kind: Kindly,
 }
@@ -35,7 +41,7 @@ pub struct ChangeRef<'v> {
 /// Changes by rising key, then timestamp, as bytes. Contracts see them as a list.
 #[derive(Drop)]
 pub struct ChangeList {
-    texts: Texts,
+    bytes: Vec<u8>,
     heads: Vec<Head>,
 }
 
@@ -46,83 +52,102 @@ impl Model for ChangeList {
 
     ghost Value = { List KeyChange };
 
-    ghost view = { λ l. changes_at l.texts l.heads.items };
+    ghost view = { λ l. changes_at l.bytes.items l.heads.items };
 
-    ghost invariant = { λ l. (are_inside (length l.texts) l.heads.items ≡ true) × AreTold l.texts l.heads.items };
+    ghost invariant = { λ l. (are_inside (length l.bytes.items) l.heads.items ≡ true) × AreTold l.bytes.items l.heads.items };
 }
 
-// Adds a change whose key is this string of the list.
+// The bytes of a part, as far as they are there.
+fn bytes_of(bytes: &[u8], part: Part) -> &[u8]
+    ensures { result.now ≡ part_of bytes.now part }
+{
+    if part.from >= bytes.len() {
+        return &[];
+    }
+    let rest = &bytes[part.from..];
+    if part.len < rest.len() {
+        &rest[..part.len]
+    } else {
+        rest
+    }
+}
+
+// Whether a part is there, and has these bytes.
+fn is_at(bytes: &[u8], part: Part, text: &[u8]) -> bool
+    ensures is { result ≡ true → (part.from + part.len ≤ length bytes.now) × (part_of bytes.now part ≡ text.now) }
+    ensures is_not { result ≡ false → (part.from + part.len ≤ length bytes.now) × (part_of bytes.now part ≡ text.now) → ⊥ }
+{
+    part.from <= bytes.len() && part.len <= bytes.len() - part.from && bytes_of(bytes, part) == text
+}
+
+// Whether two parts begin and end alike.
+#[tactic(auto, using(crate::proofs::AsBytes::same_part))]
+fn is_same(one: Part, other: Part) -> bool
+    ensures same { result ≡ true → one ≡ other }
+    ensures equal { one ≡ other → result ≡ true }
+{
+    one.from == other.from && one.len == other.len
+}
+
+// Adds a change whose key is this part of the bytes.
 fn add(
-    texts: &mut Texts,
+    bytes: &mut Vec<u8>,
     heads: &mut Vec<Head>,
-    key: usize,
+    key: Part,
     ts: u64,
     kind: Kindly,
     cells: &[u8],
 ) -> Result<(), NoMemory>
-    requires known { key < length texts.old }
-    requires inside { are_inside (length texts.old) heads.old.items ≡ true }
-    requires told { AreTold texts.old heads.old.items }
-    requires next { IsToldNext texts.old heads.old.items key }
-    ensures ok { OnOk result (changes_at texts.new heads.new.items ≡ changes_at texts.old heads.old.items ++ (record { key = get_or texts.old key []; ts = ts; change = change_with kind (cells_behind cells.now) }) ∷ []) }
-    ensures err { OnErr result (changes_at texts.new heads.new.items ≡ changes_at texts.old heads.old.items) }
-    ensures inside { are_inside (length texts.new) heads.new.items ≡ true }
-    ensures told { AreTold texts.new heads.new.items }
+    requires known { key.from + key.len ≤ length bytes.old.items }
+    requires inside { are_inside (length bytes.old.items) heads.old.items ≡ true }
+    requires told { AreTold bytes.old.items heads.old.items }
+    requires next { IsToldNext bytes.old.items heads.old.items key }
+    ensures ok { OnOk result (changes_at bytes.new.items heads.new.items ≡ changes_at bytes.old.items heads.old.items ++ (record { key = part_of bytes.old.items key; ts = ts; change = change_with kind (cells_behind cells.now) }) ∷ []) }
+    ensures err { OnErr result (changes_at bytes.new.items heads.new.items ≡ changes_at bytes.old.items heads.old.items) }
+    ensures inside { are_inside (length bytes.new.items) heads.new.items ≡ true }
+    ensures told { AreTold bytes.new.items heads.new.items }
 {
-    let at = texts.len();
-    texts.push(cells)?;
+    let from = bytes.len();
+    let len = cells.len();
+    bytes.extend_from_slice(cells)?;
     heads.push(Head {
         key,
-        cells: at,
+        cells: Part { from, len },
         ts,
         kind,
     })?;
     Ok(())
 }
 
-// The string at a place, and the empty one where there is none.
-fn text_at(texts: &Texts, at: usize) -> &[u8]
-    ensures { result.now ≡ get_or texts.now at [] }
-{
-    if at < texts.len() { texts.get(at) } else { &[] }
-}
-
-// Whether a string at a place is this one.
-fn is_at(texts: &Texts, at: usize, text: &[u8]) -> bool
-    ensures is { result ≡ true → (at < length texts.now) × (get_or texts.now at [] ≡ text.now) }
-    ensures is_not { result ≡ false → (at < length texts.now) × (get_or texts.now at [] ≡ text.now) → ⊥ }
-{
-    at < texts.len() && texts.get(at) == text
-}
-
-// Which string is the key of the last change.
-fn last_key(heads: &[Head]) -> usize
+// Which bytes are the key of the last change.
+fn last_key(heads: &[Head]) -> Part
     ensures number { (d : HeadSpec) → 0 < length heads.now → (get_or heads.now (length heads.now - 1) d).key ≡ result }
-    ensures key { (texts : List (List ℕ)) → 0 < length heads.now → are_inside (length texts) heads.now ≡ true → (result < length texts) × (get_or texts result [] ≡ last_key (changes_at texts heads.now)) }
+    ensures key { (bytes : List ℕ) → 0 < length heads.now → are_inside (length bytes) heads.now ≡ true → (result.from + result.len ≤ length bytes) × (part_of bytes result ≡ last_key (changes_at bytes heads.now)) }
 {
     match heads.last() {
         Some(head) => head.key,
-        None => 0,
+        None => Part { from: 0, len: 0 },
     }
 }
 
-// Which string is a key: that of the last change, if it is the same, or else a new one.
-fn place_of(texts: &mut Texts, heads: &[Head], key: &[u8]) -> Result<usize, NoMemory>
-    requires inside { are_inside (length texts.old) heads.now ≡ true }
-    requires told { AreTold texts.old heads.now }
-    ensures same { changes_at texts.new heads.now ≡ changes_at texts.old heads.now }
-    ensures inside { are_inside (length texts.new) heads.now ≡ true }
-    ensures told { AreTold texts.new heads.now }
-    ensures known { IfOk result (λ at. (at < length texts.new) × (get_or texts.new at [] ≡ key.now)) }
-    ensures next { IfOk result (λ at. IsToldNext texts.new heads.now at) }
+// Which bytes are a key: those of the last change, if it is the same, or else new ones.
+fn place_of(bytes: &mut Vec<u8>, heads: &[Head], key: &[u8]) -> Result<Part, NoMemory>
+    requires inside { are_inside (length bytes.old.items) heads.now ≡ true }
+    requires told { AreTold bytes.old.items heads.now }
+    ensures same { changes_at bytes.new.items heads.now ≡ changes_at bytes.old.items heads.now }
+    ensures inside { are_inside (length bytes.new.items) heads.now ≡ true }
+    ensures told { AreTold bytes.new.items heads.now }
+    ensures known { IfOk result (λ at. (at.from + at.len ≤ length bytes.new.items) × (part_of bytes.new.items at ≡ key.now)) }
+    ensures next { IfOk result (λ at. IsToldNext bytes.new.items heads.now at) }
 {
     let last = last_key(heads);
-    if is_at(texts, last, key) {
+    if is_at(bytes, last, key) {
         return Ok(last);
     }
-    let at = texts.len();
-    texts.push(key)?;
-    Ok(at)
+    let from = bytes.len();
+    let len = key.len();
+    bytes.extend_from_slice(key)?;
+    Ok(Part { from, len })
 }
 
 impl ChangeList {
@@ -131,7 +156,7 @@ impl ChangeList {
         ensures { result ≡ [] }
     {
         ChangeList {
-            texts: Texts::new(alloc),
+            bytes: Vec::new(alloc),
             heads: Vec::new(alloc),
         }
     }
@@ -154,9 +179,9 @@ impl ChangeList {
         ensures bound { result ≤ length self.now }
         ensures parts { IsPartitionPoint (λ c. is_lt (key_cmp c.key key.now) ≡ true) (λ c. is_lt (key_cmp c.key key.now) ≡ false) self.now result }
     {
-        let texts = &self.texts;
+        let bytes = self.bytes.as_slice();
         self.heads
-            .partition_point(|head| text_at(texts, head.key).cmp(&key).is_lt())
+            .partition_point(|head| bytes_of(bytes, head.key).cmp(&key).is_lt())
     }
 
     /// How many changes have keys that are not above another, where those come first.
@@ -165,9 +190,9 @@ impl ChangeList {
         ensures bound { result ≤ length self.now }
         ensures parts { IsPartitionPoint (λ c. not (is_lt (key_cmp key.now c.key)) ≡ true) (λ c. not (is_lt (key_cmp key.now c.key)) ≡ false) self.now result }
     {
-        let texts = &self.texts;
+        let bytes = self.bytes.as_slice();
         self.heads
-            .partition_point(|head| !key.cmp(&text_at(texts, head.key)).is_lt())
+            .partition_point(|head| !key.cmp(&bytes_of(bytes, head.key)).is_lt())
     }
 
     /// The key of the change at a place, if there is one.
@@ -175,7 +200,7 @@ impl ChangeList {
         ensures { option_copied result ≡ option_map (λ c. c.key) (slice_get self.now at) }
     {
         let head = self.heads.get(at)?;
-        Some(self.texts.get(head.key))
+        Some(bytes_of(&self.bytes, head.key))
     }
 
     /// Whether the change at a place, if there is one, is of this key.
@@ -194,7 +219,7 @@ impl ChangeList {
         ensures { IsTrue result ↔ (option_map (λ c. c.key) (slice_get self.now at) ≡ option_map (λ c. c.key) (slice_get self.now (at + 1))) }
     {
         match self.heads.get(at + 1) {
-            Some(behind) => self.heads[at].key == behind.key,
+            Some(behind) => is_same(self.heads[at].key, behind.key),
             None => false,
         }
     }
@@ -207,7 +232,7 @@ impl ChangeList {
         Some(ChangeRef {
             ts: head.ts,
             kind: head.kind,
-            cells: CellsRef::of(self.texts.get(head.cells)),
+            cells: CellsRef::of(bytes_of(&self.bytes, head.cells)),
         })
     }
 
@@ -220,7 +245,7 @@ impl ChangeList {
         ChangeRef {
             ts: head.ts,
             kind: head.kind,
-            cells: CellsRef::of(self.texts.get(head.cells)),
+            cells: CellsRef::of(bytes_of(&self.bytes, head.cells)),
         }
     }
 
@@ -229,8 +254,8 @@ impl ChangeList {
         ensures ok { OnOk result (self.new ≡ self.old ++ (record { key = key.now; ts = ts; change = change_with kind (cells_behind cells.now) }) ∷ []) }
         ensures err { OnErr result (self.new ≡ self.old) }
     {
-        let at = place_of(&mut self.texts, &self.heads, key)?;
-        add(&mut self.texts, &mut self.heads, at, ts, kind, cells)
+        let at = place_of(&mut self.bytes, &self.heads, key)?;
+        add(&mut self.bytes, &mut self.heads, at, ts, kind, cells)
     }
 
     /// Adds a change of the key that the last one is of, as `push` does.
@@ -240,6 +265,6 @@ impl ChangeList {
         ensures err { OnErr result (self.new ≡ self.old) }
     {
         let at = last_key(&self.heads);
-        add(&mut self.texts, &mut self.heads, at, ts, kind, cells)
+        add(&mut self.bytes, &mut self.heads, at, ts, kind, cells)
     }
 }
