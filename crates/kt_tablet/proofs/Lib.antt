@@ -18,3 +18,5 @@ pub mod Merged
 pub mod Scans
 pub mod Outputs
 pub mod Frozen
+pub mod InMemory
+pub mod Growth

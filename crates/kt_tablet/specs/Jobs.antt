@@ -1,12 +1,15 @@
 -- What a flush does to a tablet.
-use Rattle.std.specs.Prelude.{◌≡◌, ◌+◌, ℕ, List, [], ◌∷◌, ◌++◌, take, drop}
+use Rattle.std.specs.Prelude.{◌≡◌, ◌+◌, ℕ, suc, List, [], ◌∷◌, ◌++◌, map, take, drop}
 use Rattle.kt_history.specs.declared.target.Target.{Target}
 use Rattle.kt_history.specs.declared.target.Target.TheVariants.{Mem}
 use Rattle.kt_history.specs.History.{Past}
-use Rattle.kt_history.specs.Stores.{Store}
+use Rattle.kt_history.specs.declared.changes.KeyChange.{KeyChange}
+use Rattle.kt_history.specs.Rows.{Row}
+use Rattle.kt_history.specs.Stores.{Store, changes_upto}
 use Rattle.kt_histlaws.specs.Fitting.{AreSound}
 use Rattle.kt_histlaws.specs.Histories.{hists}
 use Rattle.kt_histlaws.specs.Jobs.{AreAlike}
+use Rattle.kt_tablet.specs.Filling.{filled_change}
 use Rattle.kt_tablet.specs.Views.{View, Opens}
 
 -- what the frozen MemRowSets hold, the newest first, and their names
@@ -15,6 +18,14 @@ frozen_stores v = take v.frozen (drop 1 v.core.stores)
 
 abbrev pub frozen_names : {C : Type 0} → View C → List Target
 frozen_names v = take v.frozen (drop 1 v.names)
+
+-- the changes up to a time of each store in memory, the one that takes inserts first
+abbrev pub changes_in_memory : {C : Type 0} → ℕ → View C → List (List KeyChange)
+changes_in_memory upto v = map (changes_upto upto) (take (suc v.frozen) v.core.stores)
+
+-- a change with its insert filled
+abbrev pub filled_of : Row → KeyChange → KeyChange
+filled_of fill c = record c { change = filled_change fill c.change }
 
 -- what the store that takes inserts holds
 abbrev pub rows_in_first : List Store → Store

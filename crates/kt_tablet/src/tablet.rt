@@ -208,8 +208,9 @@ impl<R: RowStore, C: Clock> Tablet<R, C> {
 }
 
 impl<R: RowStore, C: Clock> Tablet<R, C> {
+    ghost use Rattle.kt_history.specs.Grown.{AllGrown};
     ghost use Rattle.kt_tablet.specs.Views.{IsSound, IsExact};
-    ghost use Rattle.std.specs.Prelude.{◌≡◌, OnErr, IfOk, Err, true, false};
+    ghost use Rattle.std.specs.Prelude.{◌≡◌, OnErr, IfOk, Err, true, false, suc, take};
     ghost use Rattle.kt_tablet.specs.Visits.{MayLook, HasLooked, MayMark, HasMarked, MayAnswerChore};
     ghost use Rattle.std.specs.Prelude.{OnOk, length};
     ghost use Rattle.kt_history.specs.declared.event.Event.TheVariants.{Chore};
@@ -247,12 +248,14 @@ impl<R: RowStore, C: Clock> Tablet<R, C> {
     /// What it stands for: a run from each past that opening found, in which the lines show what the clock gave, of a plan
     /// that keeps the rules. What its pool has promised is what flying writes still need, where no store has a row no cell
     /// is used, each store has a name, and each flying write a place in the log and what it has written for the log so far.
+    /// Of a row in memory there is nothing but its changes.
     pub fn standing(&self)
         ensures sound { IsSound C.readings self.now }
         ensures exact { IsExact self.now.core.aloft self.now.core.stores self.now.pool }
         ensures placed { map (λ p. p.0) self.now.places ≡ map (λ w. w.s) self.now.core.aloft }
         ensures named { length self.now.names ≡ length self.now.core.stores }
         ensures noted { length self.now.notes ≡ length self.now.core.aloft }
+        ensures memory { AllGrown (take (suc self.now.frozen) self.now.core.stores) }
     {
         self.stores.standing();
     }

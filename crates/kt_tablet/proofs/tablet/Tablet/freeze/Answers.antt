@@ -1,4 +1,5 @@
-use Rattle.std.proofs.Common.{◌+◌, drop, sym, ap, ◌∙◌, subst}
+use Rattle.std.proofs.Common.{◌≡◌, ◌<◌, ◌+◌, ◌^◌, ◌∷◌, ℕ, List, drop, sym, ap, ◌∙◌, subst, arith, rules}
+use Rattle.kt_history.specs.declared.target.Target.{Target}
 use Rattle.kt_history.specs.declared.target.Target.TheVariants.{Mem}
 use Rattle.kt_stores.specs.Shelf.{StoresView, names_of}
 use Rattle.kt_tablet.specs.Filling.{told_stores}
@@ -38,3 +39,13 @@ returns-clause-frozen g c =
     let stores = ap (λ (v : StoresView). told_stores i.fill v) is ∙ told_frozen i.fill i.stores.frozen (n + 1) (Mem n) i.stores.shelf c.active_number-number.ensures in
     let names = ap (λ (v : StoresView). names_of v.shelf) is ∙ names_frozen (n + 1) (Mem n) i.stores.shelf c.active_number-number.ensures in
     has_frozen _ _ _ _ (drop 1 (names_of i.stores.shelf)) _ _ n c.self.view_is stores names (ap (λ (v : StoresView). v.pool) is) (ap (λ (v : StoresView). v.frozen) is) (first_named (Mem n) i.stores.shelf c.active_number-number.ensures)
+
+one_name : (a b : ℕ) (xs ys : List Target) → Mem a ∷ xs ≡ Mem b ∷ ys → a ≡ b
+one_name a b xs ys e = cc
+
+pub returns-clause-fits : goal.returns-clause-fits
+returns-clause-fits g c = λ number others is.
+    let h = returns-clause-frozen g c in
+    let same : number ≡ h.number + 1 = one_name number (h.number + 1) others _ (sym is ∙ ap (λ v. v.names) h.is) in
+    let fits : h.number + 1 < 2 ^ 64 = search rules in
+    omega (arith, same, fits)
