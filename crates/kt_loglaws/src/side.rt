@@ -189,6 +189,13 @@ impl<L: Disk> LogSide<L> {
         Ok(())
     }
 
+    /// How many records there are: those that are durable, out and queued.
+    pub fn count(&self) -> u64
+        ensures { result ≡ self.now.known.count + length self.now.out + length self.now.queued }
+    {
+        self.durable + self.out as u64 + self.queue.len() as u64
+    }
+
     /// The place that the next record will have among all records, counted from 1.
     pub fn next_place(&self) -> u64
         requires { 0 < self.now.room }
