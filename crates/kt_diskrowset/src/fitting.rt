@@ -25,9 +25,10 @@ impl RowSetData {
         records.fit(base)
     }
 
-    /// Whether each UNDO record fits the row from which it leads back.
+    /// Whether each UNDO record fits the row from which it leads back. Then it does.
     pub fn undos_fit(&self, alloc: Global) -> Result<bool, NoMemory>
-        ensures { IfOk result (λ fit. fit ≡ undos_fit (files_in self.now)) }
+        ensures fit { IfOk result (λ fit. fit ≡ undos_fit (files_in self.now)) }
+        ensures lead { IfOk result (λ fit. fit ≡ true → UndosLeadBack (files_in self.now)) }
     {
         'rows: for ordinal in 0..self.base.rows() {
             if !self.row_fits(alloc, ordinal)? {
