@@ -1,20 +1,19 @@
 -- New disk rowsets as a superblock names them.
-use Rattle.std.proofs.Common.{◌≡◌, ◌≤◌, ◌<◌, ◌+◌, ◌⊎◌, ℕ, suc, Bool, true, false, List, [], ◌∷◌, ◌++◌, map, length, inl, inr, refl, sym, ap, subst, ◌∙◌, arith}
+use Rattle.std.proofs.Common.{◌≡◌, ◌≤◌, ◌<◌, ◌+◌, ℕ, suc, Bool, true, false, List, [], ◌∷◌, ◌++◌, map, length, refl, sym, ap, subst, ◌∙◌, arith}
 use Rattle.std.specs.Prelude.{◌==◌, ◌||◌, ◌&&◌, not, nat_le, nat_lt}
-use Rattle.std.specs.List.{AllByRecursion, list_any}
-use Rattle.std.proofs.lemmas.Bool.{lt-ltb, le-leb, ltb-true, leb-true, eqb-true}
+use Rattle.std.specs.List.{AllByRecursion}
+use Rattle.std.proofs.lemmas.Bool.{lt-ltb, le-leb, ltb-true, eqb-true}
 use Rattle.std.proofs.lemmas.Bool.Decides.{nat_tests}
 use Rattle.std.proofs.lemmas.List.Folds.{list_any-append}
 use Rattle.kt_base.proofs.Values.{both_true, both}
-use Rattle.kt_disk.specs.Disk.{Files}
 use Rattle.kt_super.specs.declared.meta.FileRef.{FileRef}
 use Rattle.kt_super.specs.declared.meta.MetaRowset.{MetaRowset}
-use Rattle.kt_super.specs.Rowsets.{has, numbers_of, is_small, is_free, IsFile, AreFiles, taken_by, IsRowset, AreRowsets}
-use Rattle.kt_files.specs.Named.{named_by, named_in, HasNamed}
+use Rattle.kt_super.specs.Rowsets.{has, numbers_of, is_small, IsFile, AreFiles, taken_by, IsRowset, AreRowsets}
+use Rattle.kt_files.specs.Named.{named_by, named_in}
 use Rattle.kt_diskrowset.specs.declared.files.FileHeld.{FileHeld}
 use Rattle.kt_diskrowset.specs.declared.data.RowSetData.{RowSetData}
 use Rattle.kt_rowfiles.specs.Files.{DiskRowset}
-use Rattle.kt_outputs.specs.Outputs.{base_ref, delta_ref, meta_in, delta_numbers, file_numbers, all_file_numbers, CountUp, AreThere, AreWritten}
+use Rattle.kt_outputs.specs.Outputs.{delta_ref, meta_in, delta_numbers, file_numbers, all_file_numbers, CountUp, AreWritten}
 use Rattle.kt_outputs.specs.Named.{AreShortFiles, IsShort, AreShort, outputs_come_behind, outputs_stand}
 
 -- one more of which the same holds

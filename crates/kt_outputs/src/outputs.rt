@@ -250,6 +250,7 @@ pub fn write_outputs<D: Disk>(
 
     // Numbers rise, and stay such that a superblock can spell them.
     ensures up { (next.old.rowset ≤ next.new.rowset) × (next.old.file ≤ next.new.file) }
+    ensures risen { next.new.rowset ≤ next.old.rowset + length outputs.now.rowsets }
     ensures few_rowsets { next.old.rowset < 2 ^ 62 → next.new.rowset < 2 ^ 62 }
     ensures few_files { next.old.file < 2 ^ 62 → next.new.file < 2 ^ 62 }
 
