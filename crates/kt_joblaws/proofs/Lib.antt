@@ -1,5 +1,13 @@
-pub mod Groups
 pub mod ChangesOver
-pub mod WrittenFits
-pub mod Passing
+pub mod Groups
+pub mod InMemory
+pub mod Joined
+pub mod Later
 pub mod Listed
+pub mod ListsRise
+pub mod OfTable
+pub mod Passing
+pub mod Read
+pub mod Standing
+pub mod WrittenFits
+pub mod WrittenSame

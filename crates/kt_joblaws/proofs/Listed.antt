@@ -1,5 +1,5 @@
 -- What is listed of stores of changes alone.
-use Rattle.std.proofs.Common.{◌≡◌, ◌≤◌, ◌<◌, ℕ, suc, Bool, true, false, cond, ◌&&◌, List, [], ◌∷◌, ◌++◌, map, Option, Some, None, refl, sym, ap, ◌∙◌, subst, arith}
+use Rattle.std.proofs.Common.{◌≡◌, ℕ, suc, Bool, true, false, cond, List, [], ◌∷◌, ◌++◌, map, Option, Some, None, refl, sym, ap, ◌∙◌, arith}
 use Rattle.std.specs.Prelude.{nat_le, unwrap_or}
 use Rattle.std.specs.List.{filter}
 use Rattle.std.specs.Ordering.{is_eq, is_lt, eq_by_cmp}
@@ -13,11 +13,9 @@ use Rattle.kt_base.proofs.Values.{both_true}
 use Rattle.kt_history.specs.declared.change.Change.{Change}
 use Rattle.kt_history.specs.declared.changes.KeyChange.{KeyChange}
 use Rattle.kt_history.specs.AsBytes.{step_of}
-use Rattle.kt_history.specs.Grown.{AllBare, IsGrown, AllGrown}
+use Rattle.kt_history.specs.Grown.{AllBare, IsGrown}
 use Rattle.kt_history.specs.Rows.{Row, key_cmp}
 use Rattle.kt_history.specs.Stores.{Steps, Hist, Store, Under, never, hist_in, key_change, row_changes, changes_upto}
-use Rattle.kt_histlaws.specs.Flights.{AllUnder}
-use Rattle.kt_histlaws.specs.Histories.{hists}
 use Rattle.kt_merge.specs.Changes.{changes_of, steps_of, hist_in_changes}
 use Rattle.kt_merge.specs.Heads.{hist_upto}
 use Rattle.kt_merge.proofs.KeyChanges.{same_key, by_bool}

@@ -1,41 +1,38 @@
 -- New disk rowsets that have of each key what is written of it pass the rules of the table.
-use Rattle.std.proofs.Common.{◌≡◌, ◌≤◌, ◌<◌, ◌+◌, ◌^◌, ℕ, suc, Bool, true, false, cond, ◌&&◌, List, [], ◌∷◌, ◌++◌, map, length, Option, Some, None, inl, inr, refl, sym, ap, ◌∙◌, subst, arith}
+use Rattle.std.proofs.Common.{◌≡◌, ◌≤◌, ◌<◌, ◌+◌, ◌^◌, ℕ, suc, Bool, true, false, cond, List, [], ◌∷◌, ◌++◌, map, length, Some, None, inl, inr, refl, sym, ap, ◌∙◌, subst, arith}
 use Rattle.std.specs.Prelude.{nat_lt, nat_le, ◌==◌}
 use Rattle.std.specs.List.{AllByRecursion, flat_map}
 use Rattle.std.specs.Ordering.{is_eq, eq_by_cmp}
 use Rattle.std.specs.FinMap.Entries.{find}
 use Rattle.std.specs.declared.cmp.Ordering.TheVariants.{Less}
-use Rattle.std.proofs.lemmas.Bool.{cases_lt, ltb-true, eq-eqb, eqb-true}
+use Rattle.std.proofs.lemmas.Bool.{cases_lt, ltb-true, eq-eqb}
 use Rattle.kt_base.proofs.Values.{both_true, both}
 use Rattle.kt_history.specs.declared.changes.Delta.{Delta}
-use Rattle.kt_history.specs.Rows.{Row, key_cmp}
-use Rattle.kt_history.specs.Stores.{Steps, Hist}
+use Rattle.kt_history.specs.Rows.{key_cmp}
+use Rattle.kt_history.specs.Stores.{Steps}
 use Rattle.kt_history.specs.Views.{AreRising}
 use Rattle.kt_histlaws.specs.Disks.{DiskRow}
 use Rattle.kt_histlaws.proofs.Pending.{itself}
 use Rattle.kt_baseset.specs.Rows.{keys_in}
 use Rattle.std.proofs.lemmas.List.{map-append}
-use Rattle.kt_rowfiles.specs.Files.{DiskRowset, records_for, records_in, falling}
-use Rattle.kt_rowfiles.specs.Fitting.{steps_fit, rows_fit, undos_fit}
-use Rattle.kt_rowfiles.specs.Merging.{joined_history}
-use Rattle.kt_rowfiles.specs.declared.taking.Span.{Span}
+use Rattle.kt_rowfiles.specs.Files.{records_for, records_in, falling}
+use Rattle.kt_rowfiles.specs.Fitting.{steps_fit, rows_fit}
 use Rattle.kt_cells.specs.Rules.{EachAfter}
 use Rattle.kt_baseset.specs.declared.rows.KeyedRow.{KeyedRow}
 use Rattle.kt_deltafile.specs.declared.file.Way.{Way}
 use Rattle.kt_deltafile.specs.declared.file.Way.TheVariants.{Undo, Redo}
 use Rattle.kt_deltafile.specs.Order.{last_ordinal}
-use Rattle.kt_deltafile.specs.Rules.{Follows, FileFits}
+use Rattle.kt_deltafile.specs.Rules.{Follows}
 use Rattle.kt_diskrowset.specs.declared.files.FileHeld.{FileHeld}
 use Rattle.kt_diskrowset.specs.declared.data.RowSetData.{RowSetData}
 use Rattle.kt_diskrowset.specs.declared.inputs.Inputs.{Inputs}
 use Rattle.kt_diskrowset.specs.Data.{files_in}
 use Rattle.kt_diskrowset.specs.Files.{lists_of}
 use Rattle.kt_diskrowset.specs.Rows.{rows_of}
-use Rattle.kt_content.specs.Rules.{Rules, AreRules, ChangePasses, BasePasses, FilePasses, FilesPass, StepsPass, HistPasses, RowsetPasses, RowsetsPass}
-use Rattle.kt_merge.specs.Merge.{hists_upto, AreFaultless, HaveEach}
+use Rattle.kt_content.specs.Rules.{Rules, ChangePasses, BasePasses, FilePasses, FilesPass, StepsPass, RowsetPasses, RowsetsPass}
+use Rattle.kt_merge.specs.Merge.{hists_upto}
 use Rattle.kt_merge.specs.Minor.{held_records}
-use Rattle.kt_merge.specs.OneKey.{key_written}
-use Rattle.kt_merge.specs.Told.{Told, told_from, told_in, told_by_all, rows_in, AreFilesOver, AreOfRows, IsOutput, AreOutputs}
+use Rattle.kt_merge.specs.Told.{Told, told_from, told_in, told_by_all, rows_in, AreFilesOver, AreOfRows, IsOutput}
 use Rattle.kt_merge.proofs.KeyChanges.{same_key, by_bool}
 use Rattle.kt_merge.proofs.ToldRows.{in_files, records-append, told_keys}
 use Rattle.kt_joblaws.specs.Outputs.{outputs_pass}

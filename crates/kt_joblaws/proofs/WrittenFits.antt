@@ -11,10 +11,10 @@ use Rattle.kt_base.proofs.Values.{both_true, both}
 use Rattle.kt_base.specs.declared.cell.Cell.{Cell}
 use Rattle.kt_history.specs.declared.change.Change.{Change}
 use Rattle.kt_history.specs.declared.change.Change.TheVariants.{Ins, Upd, Del}
-use Rattle.kt_history.specs.Rows.{Row, IsRow, apply, undo, fits, has_columns, with_cells, cells_under}
-use Rattle.kt_history.specs.Stores.{Steps, Hist, Under, never, row_of}
+use Rattle.kt_history.specs.Rows.{Row, IsRow, apply, undo, fits, has_columns, with_cells}
+use Rattle.kt_history.specs.Stores.{Steps, Hist, Under}
 use Rattle.kt_histlaws.specs.Disks.{DiskRow}
-use Rattle.kt_histlaws.specs.Fitting.{Rises, steps_above}
+use Rattle.kt_histlaws.specs.Fitting.{Rises}
 use Rattle.kt_histlaws.specs.Histories.{or_else}
 use Rattle.kt_rowfiles.specs.Files.{put_falling, falling}
 use Rattle.kt_rowfiles.specs.Fitting.{is_row, step_fits, steps_fit}
@@ -23,7 +23,7 @@ use Rattle.kt_rowfiles.specs.Merging.{joined_history}
 use Rattle.kt_rowfiles.proofs.Flushing.{fit_is_undone}
 use Rattle.kt_rowfiles.proofs.Merging.{joined_cut}
 use Rattle.kt_baseset.specs.declared.schema.ColumnShape.{ColumnShape}
-use Rattle.kt_content.specs.Rules.{Rules, AreRules, RowPasses as RulesPass, StepsPass, HistPasses}
+use Rattle.kt_content.specs.Rules.{Rules, AreRules, StepsPass, HistPasses}
 use Rattle.kt_content.proofs.WrittenRows.{written_passes}
 use Rattle.kt_merge.specs.Rows.{deleted_at, but_last, before_last, written_by, row_written}
 use Rattle.kt_merge.specs.OneKey.{RowPasses, AllPass, PassesFrom, key_written}

@@ -1,2 +1,5 @@
+pub mod Apart
 pub mod ChangesOver
+pub mod InMemory
 pub mod Outputs
+pub mod Written

@@ -1,6 +1,9 @@
 //! Laws of a flush that changes over.
 ghost use Rattle.kt_joblaws.specs.ChangesOver.{a_flush_changes_over};
-ghost use Rattle.kt_joblaws.specs.Outputs.{outputs_pass, lists_tell_all};
+ghost use Rattle.kt_joblaws.specs.Written.{written_rowsets_are_the_same, written_rowsets_pass, named_rowsets_tell};
+ghost use Rattle.kt_joblaws.specs.Outputs.{outputs_pass, lists_tell_all, lists_rise, marks_may_rise};
+ghost use Rattle.kt_joblaws.specs.Apart.{stores_that_stand_are_apart, some_are_apart, a_joined_history_is_shown, a_flush_reads_no_fault};
+ghost use Rattle.kt_joblaws.specs.InMemory.{what_memory_has_passes};
 
 /// The superblock of a flush stands over the stores with its outputs.
 pub fn change_over_law()
@@ -15,4 +18,43 @@ pub fn outputs_pass_law()
 /// What is listed of stores in memory is all that they have.
 pub fn lists_law()
     ensures { lists_tell_all }
+{}
+
+/// What is alike or sound from a mark on is so from a later one on.
+pub fn rise_law()
+    ensures { marks_may_rise }
+{}
+
+/// Once their files are written, merged disk rowsets have the same histories and pass the rules of the table as they did, and a superblock with
+/// their files tells them.
+pub fn written_law()
+    ensures same { written_rowsets_are_the_same }
+    ensures pass { written_rowsets_pass }
+    ensures told { named_rowsets_tell }
+{}
+
+/// What is listed stands by rising key.
+pub fn rising_law()
+    ensures { lists_rise }
+{}
+
+/// The stores of an engine that stands are apart, and have no change above its last timestamp.
+pub fn apart_law()
+    ensures { stores_that_stand_are_apart }
+{}
+
+/// Stores that are apart show one history of a key, the joined one; and some of them are apart.
+pub fn joined_law()
+    ensures shown { a_joined_history_is_shown }
+    ensures some { some_are_apart }
+{}
+
+/// What a flush reads of stores that are apart, changes of its table, has no fault.
+pub fn read_law()
+    ensures { a_flush_reads_no_fault }
+{}
+
+/// And where a superblock and a log hold a past by the rules of the table, it passes them.
+pub fn memory_law()
+    ensures { what_memory_has_passes }
 {}
