@@ -12,12 +12,11 @@ use Rattle.kt_script.specs.declared.refusal.ScriptNo.TheVariants as why
 use Rattle.kt_script.specs.Pieces.{cut, words_of}
 use Rattle.kt_script.specs.Reasons.{sound, reason_if}
 use Rattle.kt_script.specs.Columns.{begins_column, column_no, columns_with, counts_from}
-use Rattle.kt_script.specs.declared.leads.TheConstants.{JOBS}
 use Rattle.kt_script.specs.declared.leads.Word.{Word}
 use Rattle.kt_script.specs.declared.leads.Word.TheVariants as word
 use Rattle.kt_script.specs.declared.leads.Lead.{Lead}
 use Rattle.kt_script.specs.declared.leads.Lead.TheVariants as lead
-use Rattle.kt_script.specs.Leads.{lead_in, alone_no}
+use Rattle.kt_script.specs.Leads.{lead_in, alone_no, stands}
 use Rattle.kt_script.specs.Writes.{write_no, write_of}
 use Rattle.kt_script.specs.Scripts.{head, body, fault_if, fault_from, above_end, at, located, first_piece, first_lead, session_no, full_no, command_no, command_of, led_no, led_plan, body_no, body_plan, push_last, commands_in, is_begun, most_sessions, most_commands, said, ReadsBody, ReadsLed}
 use Rattle.kt_script.specs.Times.{most_time, time_no, time_or_zero, mark_in, mark_no, mark_of}
@@ -138,8 +137,8 @@ mark_fits words h = by (mark_in words) h
     by None g = absurd (omega arith)
     by (Some t) g = low t (nat_lt most_time t) refl g
 
--- a chore is taken where there are jobs, and its word stands alone
-pub chore_taken : (jobs : Bool) (alone : ℕ) → sound ≤ (if jobs then alone else 11) → T jobs × (sound ≤ alone)
+-- a chore is taken where maintenance of its kind stands, and its word stands alone
+pub chore_taken : (stand : Bool) (alone : ℕ) → sound ≤ (if stand then alone else 11) → T stand × (sound ≤ alone)
 chore_taken true alone h = (tt, h)
 chore_taken false alone h = absurd (omega arith)
 
@@ -158,7 +157,7 @@ body_fits columns plan words counts writes fits h = by (first_lead words) h
     fit : (w : Word) → sound ≤ command_no columns w words → CommandFits columns (command_of columns w words)
     fit word.Scan g = scan_fits columns (drop 1 words) counts g
     fit word.Mark g = mark_fits (drop 1 words) g
-    fit (word.Chore c) g = (chore_taken JOBS (alone_no words) g).0
+    fit (word.Chore c) g = (chore_taken (stands c) (alone_no words) g).0
     fit (word.Op k) g = writes words g
 
     in_session : (w : Word) (b : Bool) → is_begun plan ≡ b → sound ≤ (if b then min (command_no columns w words) (full_no plan) else 11) → PlanFits columns (push_last (command_of columns w words) plan)

@@ -119,8 +119,10 @@ reason_11_texts =
     (4, codes "table\ncolumn id int64 key\ncolumn v string\ninsert 1 \"a\"\n")
     ∷ (4, codes "table\ncolumn id int64 key\ncolumn v string\n\n")
     ∷ (4, codes "table\ncolumn id int64 key\ncolumn v string\nload\n")
-    ∷ (5, codes "table\ncolumn id int64 key\ncolumn v string\nsession\nflush\n")
+    ∷ (4, codes "table\ncolumn id int64 key\ncolumn v string\nflush\n")
     ∷ (5, codes "table\ncolumn id int64 key\ncolumn v string\nsession\nflush-deltas\n")
+    ∷ (5, codes "table\ncolumn id int64 key\ncolumn v string\nsession\nminor 1\n")
+    ∷ (5, codes "table\ncolumn id int64 key\ncolumn v string\nsession\nmajor\n")
     ∷ (5, codes "table\ncolumn id int64 key\ncolumn v string\nsession\ncompact\n")
     ∷ (5, codes "table\ncolumn id int64 key\ncolumn v string\nsession\ncolumn w int8\n")
     ∷ (5, codes "table\ncolumn id int64 key\ncolumn v string\nsession\ntable\n")
@@ -167,6 +169,7 @@ reason_12_2_texts =
     ∷ (5, codes "table\ncolumn id int64 key\ncolumn v string\nsession\nscan now where v==\"a\"\n")
     ∷ (5, codes "table\ncolumn id int64 key\ncolumn v string\nsession\nscan now where v=\"a\" select v\n")
     ∷ (5, codes "table\ncolumn id int64 key\ncolumn v string\nsession\nscan now where v<=null\n")
+    ∷ (5, codes "table\ncolumn id int64 key\ncolumn v string\nsession\nflush 1\n")
     ∷ (5, codes "table\ncolumn id int64 key\ncolumn v string\nsession\ninsert-ignore 1 ; delete-ignore 2 3\n")
     ∷ []
 
@@ -240,6 +243,7 @@ scripts_texts =
     ∷ codes "table\ncolumn s string key\ncolumn n int8 key\nsession\ninsert \"a\\x00\" -128 ; insert \"a\" 127\nscan now\n"
     ∷ codes "table\ncolumn id int64 key\ncolumn v string\nsession\nscan now where id<3 and id>=1 and v<\"\\\"\" and v is null\n"
     ∷ codes "table\ncolumn id int64 key\ncolumn v string\nsession\ndelete 1 ; delete 2 ; insert 3 \"\\\\\"\n"
+    ∷ codes "table\ncolumn id int64 key\ncolumn v string\nsession\nflush\nflush\n"
     ∷ codes "table\ncolumn id int64 key\ncolumn v string\nsession\ninsert-ignore 1 \"b\" ; update-ignore 9 v=\"x\" ; delete-ignore 2\n"
     ∷ []
 

@@ -22,7 +22,7 @@ use Rattle.kt_history.specs.declared.scan.Test.{Test}
 use Rattle.kt_history.specs.declared.scan.Test.TheVariants as test
 use Rattle.kt_script.specs.declared.forms.OpForm.{OpForm}
 use Rattle.kt_script.specs.declared.forms.OpForm.TheVariants as form
-use Rattle.kt_script.specs.declared.leads.TheConstants.{JOBS}
+use Rattle.kt_script.specs.Leads.{stands}
 use Rattle.kt_script.specs.Writes.{twice, op_form}
 use Rattle.kt_script.specs.Times.{most_time}
 use Rattle.kt_script.specs.declared.refusal.ScriptNo.{ScriptNo}
@@ -116,7 +116,7 @@ abbrev pub CommandFits : List Column → Command → Type 0
 CommandFits columns (command.Write w) = WriteFits columns w.ops
 CommandFits columns (command.Scan s) = ScanFits columns s
 CommandFits columns (command.Mark a) = a ≤ most_time
-CommandFits columns (command.Chore c) = T JOBS
+CommandFits columns (command.Chore c) = T (stands c)
 
 -- The commands of each session fit, and are not too many.
 pub record PlanFits (columns : List Column) (plan : List (List Command)) : Type 0 where

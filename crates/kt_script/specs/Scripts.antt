@@ -39,7 +39,7 @@ most_commands = 262144
 abbrev pub command_no : List Column → Word → List (List ℕ) → ℕ
 command_no columns word.Scan words = scan_no columns (drop 1 words)
 command_no columns word.Mark words = mark_no (drop 1 words)
-command_no columns (word.Chore c) words = chore_no words
+command_no columns (word.Chore c) words = chore_no c words
 command_no columns (word.Op k) words = write_no columns words
 
 abbrev pub command_of : List Column → Word → List (List ℕ) → Command

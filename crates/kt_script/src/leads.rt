@@ -1,15 +1,12 @@
 //! The first word of a line below the columns, and the words of chores.
 
 ghost use Rattle.std.specs.Prelude.{◌≡◌, ◌++◌, OnOk};
-ghost use Rattle.kt_script.specs.Leads.{chore_word, chore_in, command_in, lead_in};
+ghost use Rattle.kt_script.specs.Leads.{chore_word, chore_in, stands, command_in, lead_in};
 
 use crate::forms::op_kind;
 use crate::word::is_word;
 use kt_base::{Chore, NoMemory, Octets};
 use kt_history::OpKind;
-
-/// Whether there are jobs. Without them the line of a chore is refused as that of no command.
-pub const JOBS: bool = false;
 
 /// The first word of a command.
 #[derive(Clone, Copy)]
@@ -44,6 +41,16 @@ pub fn chore_in(text: &[u8]) -> Option<Chore>
         Some(Chore::Compact)
     } else {
         None
+    }
+}
+
+/// Whether maintenance of this kind stands. Until it does, its line is refused as that of no command.
+pub fn stands(chore: Chore) -> bool
+    ensures { result ≡ stands chore }
+{
+    match chore {
+        Chore::Flush => true,
+        Chore::FlushDeltas | Chore::Minor | Chore::Major | Chore::Compact => false,
     }
 }
 
