@@ -136,10 +136,10 @@ with_applied tells seen now leaves faults old s at_row place outcome new e h not
           flying = advanced_all (Waits log old.tablet.places) j core.aloft (λ w h. record { up = h.up; waits = h.waits; ops = h.ops; n = h.n; place = h.place; there = h.there }) known.flying;
           untold = untold_advanced log j core.aloft known.untold;
         };
-        keeps = λ rules first is plan.
-            let k = e.logged.keeps rules first (record { opens = is.opens; holds = is.holds }) plan in
+        keeps = λ rules first is plan none.
+            let k = e.logged.keeps rules first (record { closed = is.closed; opens = is.opens; holds = is.holds }) plan none in
             applied_run rules (core_from old first) old.super old.tablet.names old.tablet.notes new.notes old.records e.logged.run old.tablet.places (core_from (record old { tablet = new }) first) s at_row outcome core.opened first (stands first is.opens)
-            (record { log = known.log; since = known.since; last = known.last; flying = known.flying; untold = known.untold }) e.ready.named e.ready.apart stored noted j f op h.flies h.next h.row
+            (record { log = known.log; since = known.since; last = known.last; flying = known.flying; untold = known.untold }) (e.ready.named none) e.ready.apart stored noted j f op h.flies h.next h.row
             (λ under. ap (λ (c : Core). record c { first = first }) (h.stores under)) (record { name = here.name; there = here.there; is = here.is }) (run_outcome first is.opens) k;
         names = e.logged.names;
         framed = e.logged.framed;
@@ -154,7 +154,7 @@ with_applied tells seen now leaves faults old s at_row place outcome new e h not
       lent = e.lent;
       whole = e.whole;
       stops = record { goes = e.stops.goes; stopped = e.stops.stopped };
-      ready = record { room = subst (λ (n : ℕ). n ≤ old.log.room) (sym (advanced_length j core.aloft)) e.ready.room; apart = advanced_apart j core.aloft e.ready.apart; named = e.ready.named };
+      ready = record { room = subst (λ (n : ℕ). n ≤ old.log.room) (sym (advanced_length j core.aloft)) e.ready.room; apart = advanced_apart j core.aloft e.ready.apart; spelled = e.ready.spelled; shelved = e.ready.shelved; named = e.ready.named };
       placed = e.placed ∙ sym (advanced_sessions j core.aloft);
     }
 

@@ -21,14 +21,12 @@ use Rattle.kt_histlaws.proofs.Pending.{timeline-done, shows_alike}
 use Rattle.kt_content.specs.Places.{Super, Place, memory, disk, fresh, Held, held_in}
 use Rattle.kt_content.specs.Rules.{Rules}
 use Rattle.kt_content.specs.Content.{IsContent as HoldsPast}
-use Rattle.kt_content.specs.RunEvents.{Numbers, NumbersAreFresh}
 use Rattle.kt_content.specs.KeyOps.{KeyOp, played, seen}
 use Rattle.kt_content.specs.InMemory.{is_at, group, hist_at, Mirrors}
 use Rattle.kt_content.proofs.Lending.{alike_to_never}
 use Rattle.kt_tablet.specs.Views.{View, Opens}
 use Rattle.kt_engine.specs.Logged.{IsMem, AreDue, AreCommits, TakesUp}
-use Rattle.kt_engine.specs.Memory.{name_of, by_name, IsNamed, FirstIsMem, NamesDiffer, AreNamed}
-use Rattle.kt_engine.proofs.Numbering.{numbers_above, numbers_fresh}
+use Rattle.kt_engine.specs.Memory.{by_name, IsNamed, FirstIsMem, NamesDiffer, AreNamed}
 use Rattle.kt_engine.proofs.Lists.{all_head, all_tail, all_each}
 use Rattle.kt_engine.proofs.Records.{lt_test}
 use Rattle.kt_engine.proofs.Told.{alone_in, alone_played, due_told}
@@ -133,6 +131,3 @@ bare_takes_up tablet super records queued is trail aloft mems stored stands log 
 
 pub bare_named : (super : Super) (names : List Target) → super ≡ fresh → All IsMem names → NamesDiffer names → AreNamed super names
 bare_named super names is mems differ = subst (λ (s : Super). AreNamed s names) (sym is) (mems_named names mems differ)
-
-pub any_numbers : (super : Super) (records : List Entry) (names : List Target) → (numbers : Numbers) × NumbersAreFresh super records (map name_of names) numbers
-any_numbers super records names = (numbers_above super records names, numbers_fresh super records names)

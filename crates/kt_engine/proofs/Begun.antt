@@ -61,7 +61,7 @@ with_room tells seen now leaves faults old room more e = record {
     count = e.logged.count;
     begins = e.logged.begins;
     stands = e.logged.stands;
-    keeps = λ rules first is plan. e.logged.keeps rules first (record { opens = is.opens; holds = is.holds }) plan;
+    keeps = λ rules first is plan. e.logged.keeps rules first (record { closed = is.closed; opens = is.opens; holds = is.holds }) plan;
     names = e.logged.names;
     framed = e.logged.framed;
     durable = e.logged.durable;
@@ -72,7 +72,7 @@ with_room tells seen now leaves faults old room more e = record {
   lent = e.lent;
   whole = e.whole;
   stops = e.stops;
-  ready = record { room = (let low = e.ready.room in omega arith); apart = e.ready.apart; named = e.ready.named };
+  ready = record { room = (let low = e.ready.room in omega arith); apart = e.ready.apart; spelled = e.ready.spelled; shelved = e.ready.shelved; named = e.ready.named };
   placed = e.placed;
 }
 
@@ -154,10 +154,10 @@ with_begun tells seen now leaves faults old s i ts m place ops new e goes may fr
         count = count_parts old.records e.logged.run old.log.out old.log.queued (Replicate ts ops) old.log.known.count e.logged.count;
         begins = e.logged.begins;
         stands = begun_log core old.records old.tablet.places e.logged.run s i ts m place ops above framed there rests known;
-        keeps = λ rules first is plan. let before : IsContent rules old first = record { opens = is.opens; holds = is.holds } in
+        keeps = λ rules first is plan none. let before : IsContent rules old first = record { closed = is.closed; opens = is.opens; holds = is.holds } in
             begun_run rules (core_from old first) old.super old.tablet.names old.tablet.notes old.records old.tablet.places e.logged.run s i ts m ops core.opened first known.since above framed may.write plan (none_holds ops core.aloft free) noted
-            (record { log = known.log; since = known.since; last = known.last; flying = known.flying; untold = known.untold }) (e.logged.keeps rules first before plan);
-        names = all_more (NamesOnly old.tablet.names) e.logged.run (Replicate ts ops) e.logged.names tt;
+            (record { log = known.log; since = known.since; last = known.last; flying = known.flying; untold = known.untold }) (e.logged.keeps rules first before plan none);
+        names = λ none. all_more (NamesOnly old.tablet.names) e.logged.run (Replicate ts ops) (e.logged.names none) tt;
         framed = framed_parts old.log.out old.log.queued (Replicate ts ops) e.logged.framed framed;
         durable = λ t. all_more (IsDurable (records_of (seen old.log.known.disk))) core.aloft (record { s = s; i = i; ts = ts; ops = ops; applied = 0 }) (e.logged.durable t) (λ lt. absurd (omega arith));
         acknowledged = λ t. acknowledged_more (records_of (seen old.log.known.disk)) core.trail (Begin s i ts m) (e.logged.acknowledged t) tt;
@@ -172,6 +172,8 @@ with_begun tells seen now leaves faults old s i ts m place ops new e goes may fr
             let a = length-append core.aloft (record { s = s; i = i; ts = ts; ops = ops; applied = 0 } ∷ []) in
             omega arith;
         apart = apart_more core.aloft (record { s = s; i = i; ts = ts; ops = ops; applied = 0 }) e.ready.apart low;
+        spelled = e.ready.spelled;
+        shelved = e.ready.shelved;
         named = e.ready.named;
       };
       placed = map-append (λ p. p.0) old.tablet.places ((s, place) ∷ []) ∙ ap (λ l. l ++ s ∷ []) e.placed ∙ sym (map-append (λ w. w.s) core.aloft (record { s = s; i = i; ts = ts; ops = ops; applied = 0 } ∷ []));

@@ -59,7 +59,11 @@ module _ {L D C : Type 0} (log_tells : Bool) (log_seen : L → Files) (log_now :
       → BothStand → Both tablet
   left_both tablet s i r why was stops beside h is = left_alone Both view.tablet tablet s i r why was stops beside h (lines is)
 
-  -- more room, over a tablet that was asked and is as it was
+  -- a tablet that was asked and is as it was
+  pub same_both : (tablet : View C) → tablet ≡ view.tablet → BothStand → Both tablet
+  same_both tablet same is = subst Both (sym same) is
+
+  -- more room, over such a tablet
   pub roomed_both : (tablet : View C) (log : SideView L) → tablet ≡ view.tablet → log ≡ record view.log { room = log.room } → view.log.room ≤ log.room → BothStand
       → IsEngine log_tells log_seen log_now log_leaves log_faults (record view { tablet = tablet; log = log }) × IsStored log_tells log_seen tells seen faults (record view { tablet = tablet; log = log })
   roomed_both tablet log same is_log more is = (

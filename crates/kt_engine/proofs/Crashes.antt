@@ -1,6 +1,6 @@
 -- What a crash leaves of the run.
 use Rattle.std.proofs.Common.{◌≡◌, ℕ, ◌<◌, ◌≤◌, zero, suc, max, List, [], ◌∷◌, ◌++◌, length, Some, Ok, refl, sym, true, false, Bool, ap, ◌∙◌, arith, subst, get_or, inl, inr, append_assoc}
-use Rattle.std.specs.Prelude.{IsTrue, take, drop}
+use Rattle.std.specs.Prelude.{◌+◌, ◌^◌, IsTrue, take, drop}
 use Rattle.std.specs.List.{All}
 use Rattle.std.proofs.lemmas.List.{append-nil, append_cancel_left, take-append-drop}
 use Rattle.std.proofs.Math.Seq.{take-append_seam}
@@ -16,6 +16,7 @@ use Rattle.kt_records.specs.declared.entry.CommitRow.{CommitRow}
 use Rattle.kt_journal.specs.Log.{log_of, records_of, IsLog, Holds}
 use Rattle.kt_journal.specs.Open.{JournalView}
 use Rattle.kt_loglaws.specs.Replay.{last_of}
+use Rattle.kt_loglaws.specs.Side.{all_of}
 use Rattle.kt_loglaws.specs.Fronts.{with_records, upto}
 use Rattle.kt_histlaws.specs.Core.{Core, run_past}
 use Rattle.kt_content.specs.Places.{Super}
@@ -25,8 +26,10 @@ use Rattle.kt_content.specs.Recovering.{low_after}
 use Rattle.kt_content.proofs.Records.{told_front, order_front}
 use Rattle.kt_content.proofs.Recovering.{runs_up, take_all, each_front, all_hold}
 use Rattle.kt_engine.specs.Logged.{PlanPasses, KeepsRun, AcknowledgedIn, AcknowledgedBy, NamesOnly, HoldsRecords, HoldsFront, HoldsRun}
-use Rattle.kt_engine.specs.Engines.{EngineView, IsContent, IsLogged, IsEngine, LeavesRecords, Recovers, RecoversEach, RecoversAll, core_from}
+use Rattle.kt_engine.specs.Near.{NamesEach, AreNear, IsBelow}
+use Rattle.kt_engine.specs.Engines.{EngineView, HasNoJobs, IsContent, IsLogged, IsEngine, LeavesRecords, Recovers, RecoversEach, RecoversAll, core_from}
 use Rattle.kt_engine.proofs.Devices.{acknowledged_longer, goes_whole}
+use Rattle.kt_engine.proofs.Near.{near_below}
 use Rattle.kt_engine.proofs.Lists.{all_front}
 use Rattle.kt_engine.proofs.Raised.{raise_at}
 use Rattle.kt_engine.proofs.Fronts.{told_climbs, front_last, upto_front}
@@ -99,13 +102,13 @@ all_holds rules core super records run stores image log high keeps mark names re
 
 -- a front of the engine's records holds its run up to a time
 engine_front : {L D C : Type 0} (tells : Bool) (seen : L → Files) (now : L → ℕ) (leaves : L → ℕ → Files → Type 0) (faults : L → ℕ) (view : EngineView L D C) (rules : Rules) (first : Past) (durable rest : List Entry) (image : Files)
-    → IsContent rules view first → PlanPasses rules view.tablet.core.work
+    → IsContent rules view first → PlanPasses rules view.tablet.core.work → HasNoJobs view
     → (is : IsEngine tells seen now leaves faults view) → is.logged.run ≡ durable ++ rest → AcknowledgedIn (view.records ++ durable) view.tablet.core.trail → log_of image ≡ Ok (view.records ++ durable)
     → HoldsFront rules (core_from view first) view.super view.records view.tablet.names image
-engine_front tells seen now leaves faults view rules first durable rest image content plan is run acknowledged reads =
+engine_front tells seen now leaves faults view rules first durable rest image content plan none is run acknowledged reads =
     front_holds rules (core_from view first) view.super view.records durable rest view.tablet.names image
     (subst (λ (r : List Entry). IsLog (view.records ++ r)) run is.logged.stands.log) (subst (λ (r : List Entry). last_of (view.records ++ r) ≤ view.tablet.core.c) run is.logged.stands.last)
-    (subst (λ (r : List Entry). KeepsRun rules (core_from view first) view.super view.tablet.names view.tablet.notes view.records r) run (is.logged.keeps rules first content plan)) (omega (arith, content.holds.last)) content.holds.mark acknowledged (subst (All (NamesOnly view.tablet.names)) run is.logged.names) reads
+    (subst (λ (r : List Entry). KeepsRun rules (core_from view first) view.super view.tablet.names view.tablet.notes view.records r) run (is.logged.keeps rules first content plan none)) (omega (arith, content.holds.last)) content.holds.mark acknowledged (subst (All (NamesOnly view.tablet.names)) run (is.logged.names none)) reads
 
 -- what is durable and some records more: those that opening found, and a front of the run
 pub record IsFront {L D C : Type 0} (seen : L → Files) (view : EngineView L D C) (run : List Entry) (n : ℕ) : Type 0 where
@@ -127,20 +130,13 @@ front_at tells seen view is t n =
       records = ap (λ (l : List Entry). l ++ take n rest) begins.1 ∙ append_assoc view.records durable (take n rest);
     }
 
--- An image with what is durable and some records more has those that opening found and some of the run.
-records_each : {L D C : Type 0} (tells : Bool) (seen : L → Files) (view : EngineView L D C) (is : IsLogged tells seen view) → IsTrue tells → (n : ℕ) (image : Files)
-    → log_of image ≡ Ok (records_of (seen view.log.known.disk) ++ take n (view.log.out ++ view.log.queued)) → HoldsRecords view.records view.tablet.names image
-records_each tells seen view is t n image reads =
-    let at = front_at tells seen view is t n in
-    record { run = at.durable; reads = reads ∙ ap Ok at.records; names = all_front (NamesOnly view.tablet.names) at.durable at.rest (subst (All (NamesOnly view.tablet.names)) at.run_is is.names) }
-
 -- And it has the run's writes up to a time, each acknowledged one among them.
 pub recovers_each : {L D C : Type 0} (tells : Bool) (seen : L → Files) (now : L → ℕ) (leaves : L → ℕ → Files → Type 0) (faults : L → ℕ) (view : EngineView L D C)
     → IsEngine tells seen now leaves faults view
     → RecoversEach tells seen view
-recovers_each {L} {D} {C} tells seen now leaves faults view is rules first content plan t n image reads =
+recovers_each {L} {D} {C} tells seen now leaves faults view is rules first content plan none t n image reads =
     let at = front_at tells seen view is.logged t n in
-    engine_front tells seen now leaves faults view rules first at.durable at.rest image content plan is at.run_is
+    engine_front tells seen now leaves faults view rules first at.durable at.rest image content plan none is at.run_is
     (subst (λ (l : List Entry). AcknowledgedIn l view.tablet.core.trail) at.records (acknowledged_longer (records_of (seen view.log.known.disk)) (take n (view.log.out ++ view.log.queued)) view.tablet.core.trail (is.logged.acknowledged t))) (reads ∙ ap Ok at.records)
 
 -- an image has what is durable, and some records more
@@ -161,29 +157,37 @@ leaves_some {L} {D} {C} tells seen now leaves faults view is held t journal at i
       | false ↦ λ broken. elim (home.images broken t image left).1 [ inl reads ↦ old reads | inr reads ↦ both reads ]
     ] refl
 
--- A crash leaves the records that opening found and some of the run.
-pub leaves_records : {L D C : Type 0} (tells : Bool) (seen : L → Files) (now : L → ℕ) (leaves : L → ℕ → Files → Type 0) (faults : L → ℕ) (view : EngineView L D C)
-    → IsEngine tells seen now leaves faults view → (IsTrue tells → Holds now leaves view.log.known.disk (records_of (seen view.log.known.disk))) → LeavesRecords tells now leaves view
-leaves_records tells seen now leaves faults view is held t journal at image left =
+-- A crash leaves the records that opening found and some of the run, whose numbers are near those that opening found.
+pub leaves_records : {L D C : Type 0} (tells : Bool) (seen : L → Files) (now : L → ℕ) (leaves : L → ℕ → Files → Type 0) (faults : L → ℕ) (view : EngineView L D C) (run : List Entry)
+    → IsEngine tells seen now leaves faults view → (IsTrue tells → view.records ++ run ≡ all_of seen view.log) → AreNear view.found view.tablet.names view.first_rowset view.store.next_rowset view.upkeep.begun run
+    → (IsTrue tells → Holds now leaves view.log.known.disk (records_of (seen view.log.known.disk))) → LeavesRecords tells now leaves view
+leaves_records tells seen now leaves faults view run is all near held t journal at image left bound one low up =
+    let P = NamesEach (IsBelow (bound + 2 ^ 45)) in
     let some = leaves_some tells seen now leaves faults view is held t journal at image left in
-    records_each tells seen view is.logged t some.0 image some.1
+    let front = front_at tells seen view is.logged t some.0 in
+    let same : run ≡ is.logged.run = append_cancel_left view.records run is.logged.run (all t ∙ sym (is.logged.all t)) in
+    record {
+      run = front.durable;
+      reads = some.1 ∙ ap Ok front.records;
+      names = all_front P front.durable front.rest (subst (All P) (same ∙ front.run_is) (near_below view.found view.tablet.names view.first_rowset view.store.next_rowset view.upkeep.begun run bound near one low up));
+    }
 
 -- It leaves the run's writes up to a time, each acknowledged one among them.
 pub recovers : {L D C : Type 0} (tells : Bool) (seen : L → Files) (now : L → ℕ) (leaves : L → ℕ → Files → Type 0) (faults : L → ℕ) (view : EngineView L D C)
     → IsEngine tells seen now leaves faults view
     → (IsTrue tells → Holds now leaves view.log.known.disk (records_of (seen view.log.known.disk))) → Recovers tells now leaves view
-recovers tells seen now leaves faults view is held rules first content plan t journal at image left =
+recovers tells seen now leaves faults view is held rules first content plan none t journal at image left =
     let some = leaves_some tells seen now leaves faults view is held t journal at image left in
-    recovers_each tells seen now leaves faults view is rules first content plan t some.0 image some.1
+    recovers_each tells seen now leaves faults view is rules first content plan none t some.0 image some.1
 
 -- And all of them, where nothing waits and nothing has stopped it.
 pub recovers_all : {L D C : Type 0} (tells : Bool) (seen : L → Files) (now : L → ℕ) (leaves : L → ℕ → Files → Type 0) (faults : L → ℕ) (view : EngineView L D C)
     → IsEngine tells seen now leaves faults view
     → (IsTrue tells → Holds now leaves view.log.known.disk (records_of (seen view.log.known.disk))) → RecoversAll tells now leaves view
-recovers_all {L} {D} {C} tells seen now leaves faults view is held rules first content plan goes empty t journal at image left =
+recovers_all {L} {D} {C} tells seen now leaves faults view is held rules first content plan jobless goes empty t journal at image left =
     let known = (is.home journal at).known (goes_whole view is.whole goes).0 in
     let none : view.log.out ++ view.log.queued ≡ [] = ap (λ (l : List Entry). l ++ view.log.queued) known.1 ∙ empty in
     let all : records_of (seen view.log.known.disk) ≡ view.records ++ is.logged.run =
     sym (append-nil (records_of (seen view.log.known.disk))) ∙ ap (λ (l : List Entry). records_of (seen view.log.known.disk) ++ l) (sym none) ∙ sym (is.logged.all t) in
-    all_holds rules (core_from view first) view.super view.records is.logged.run view.tablet.names image is.logged.stands.log is.logged.stands.last (is.logged.keeps rules first content plan) content.holds.mark is.logged.names
+    all_holds rules (core_from view first) view.super view.records is.logged.run view.tablet.names image is.logged.stands.log is.logged.stands.last (is.logged.keeps rules first content plan jobless) content.holds.mark (is.logged.names jobless)
     (held t image (subst (λ (j : JournalView L). leaves j.disk (now j.disk) image) known.0 left) ∙ ap Ok all)

@@ -71,7 +71,7 @@ lends {L} {D} {C} tells seen now leaves faults view log journal number is goes a
         count = is.logged.count ∙ ap (λ (l : List Entry). view.log.known.count + length l) same;
         begins = is.logged.begins;
         stands = is.logged.stands;
-        keeps = λ rules first h plan. is.logged.keeps rules first (record { opens = h.opens; holds = h.holds }) plan;
+        keeps = λ rules first h plan. is.logged.keeps rules first (record { closed = h.closed; opens = h.opens; holds = h.holds }) plan;
         names = is.logged.names;
         framed = subst (λ (l : List Entry). All IsFramed l) same is.logged.framed;
         durable = is.logged.durable;
@@ -82,7 +82,7 @@ lends {L} {D} {C} tells seen now leaves faults view log journal number is goes a
       lent = λ by h. (low, (goes_whole view is.whole goes).0);
       whole = is.whole;
       stops = is.stops;
-      ready = record { room = is.ready.room; apart = is.ready.apart; named = is.ready.named };
+      ready = record { room = is.ready.room; apart = is.ready.apart; spelled = is.ready.spelled; shelved = is.ready.shelved; named = is.ready.named };
       placed = is.placed;
     })
 
@@ -104,7 +104,7 @@ comes_home {L} {D} {C} tells seen now leaves faults view log journal number is h
         count = is.logged.count ∙ lengths;
         begins = λ t. let at = is.logged.begins t in (at.0 ++ view.log.out, reads t ∙ ap (λ (l : List Entry). l ++ view.log.out) at.1 ∙ append_assoc view.records at.0 view.log.out);
         stands = is.logged.stands;
-        keeps = λ rules first h plan. is.logged.keeps rules first (record { opens = h.opens; holds = h.holds }) plan;
+        keeps = λ rules first h plan. is.logged.keeps rules first (record { closed = h.closed; opens = h.opens; holds = h.holds }) plan;
         names = is.logged.names;
         framed = all_behind IsFramed view.log.out view.log.queued is.logged.framed;
         durable = λ t. subst (λ (l : List Entry). All (IsDurable l) view.tablet.core.aloft) (sym (reads t)) (durable_more (records_of (seen view.log.known.disk)) view.log.out view.tablet.core.aloft (is.logged.durable t));
@@ -124,7 +124,7 @@ comes_home {L} {D} {C} tells seen now leaves faults view log journal number is h
       lent = λ by h. absurd (let none : None ≡ Some by = h in cc);
       whole = is.whole;
       stops = is.stops;
-      ready = record { room = is.ready.room; apart = is.ready.apart; named = is.ready.named };
+      ready = record { room = is.ready.room; apart = is.ready.apart; spelled = is.ready.spelled; shelved = is.ready.shelved; named = is.ready.named };
       placed = is.placed;
     })
 
@@ -143,7 +143,7 @@ comes_back {L} {D} {C} tells seen now leaves faults view log journal number is h
         count = is.logged.count;
         begins = is.logged.begins;
         stands = is.logged.stands;
-        keeps = λ rules first h plan. is.logged.keeps rules first (record { opens = h.opens; holds = h.holds }) plan;
+        keeps = λ rules first h plan. is.logged.keeps rules first (record { closed = h.closed; opens = h.opens; holds = h.holds }) plan;
         names = is.logged.names;
         framed = is.logged.framed;
         durable = is.logged.durable;
@@ -163,7 +163,7 @@ comes_back {L} {D} {C} tells seen now leaves faults view log journal number is h
       lent = λ by h. absurd (let none : None ≡ Some by = h in cc);
       whole = is.whole;
       stops = is.stops;
-      ready = record { room = is.ready.room; apart = is.ready.apart; named = is.ready.named };
+      ready = record { room = is.ready.room; apart = is.ready.apart; spelled = is.ready.spelled; shelved = is.ready.shelved; named = is.ready.named };
       placed = is.placed;
     })
 
@@ -202,7 +202,7 @@ module _ {L D C : Type 0} (tells : Bool) (seen : L → Files) (now : L → ℕ) 
       count = logged.count;
       begins = logged.begins;
       stands = logged.stands;
-      keeps = λ rules first h plan. logged.keeps rules first (record { opens = h.opens; holds = h.holds }) plan;
+      keeps = λ rules first h plan. logged.keeps rules first (record { closed = h.closed; opens = h.opens; holds = h.holds }) plan;
       names = logged.names;
       framed = logged.framed;
       durable = logged.durable;
@@ -213,7 +213,7 @@ module _ {L D C : Type 0} (tells : Bool) (seen : L → Files) (now : L → ℕ) 
     lent = λ by h. absurd (let none : None ≡ Some by = h in cc);
     whole = stopped;
     stops = stops;
-    ready = record { room = ready.room; apart = ready.apart; named = ready.named };
+    ready = record { room = ready.room; apart = ready.apart; spelled = ready.spelled; shelved = ready.shelved; named = ready.named };
     placed = placed;
   }
 
@@ -222,7 +222,7 @@ module _ {L D C : Type 0} (tells : Bool) (seen : L → Files) (now : L → ℕ) 
       let end : View C = with_line view.tablet event.Stop view.tablet.core.a view.tablet.core.c view.tablet.core.turns true view.tablet.clock in
       beside end refl (record { goes = λ k. absurd (let a : true ≡ false = k in cc); stopped = λ k. (view.tablet.core.trail, refl) })
       (line_logged tells seen view event.Stop view.tablet.core.a view.tablet.core.c view.tablet.core.turns true view.tablet.clock is.logged tt (omega arith))
-      (record { room = is.ready.room; apart = is.ready.apart; named = is.ready.named }) is.placed
+      (record { room = is.ready.room; apart = is.ready.apart; spelled = is.ready.spelled; shelved = is.ready.shelved; named = is.ready.named }) is.placed
 
   breaks_later : view.tablet.core.stopped ≡ true → IsEngine tells seen now leaves faults (record view { log = side })
   breaks_later stopped = beside view.tablet stopped is.stops is.logged is.ready is.placed
@@ -247,7 +247,7 @@ store_keeps tells seen now leaves faults view store same is = record {
     count = is.logged.count;
     begins = is.logged.begins;
     stands = is.logged.stands;
-    keeps = λ rules first h plan. is.logged.keeps rules first (record { opens = h.opens; holds = h.holds }) plan;
+    keeps = λ rules first h plan. is.logged.keeps rules first (record { closed = h.closed; opens = h.opens; holds = h.holds }) plan;
     names = is.logged.names;
     framed = is.logged.framed;
     durable = is.logged.durable;
@@ -258,7 +258,7 @@ store_keeps tells seen now leaves faults view store same is = record {
   lent = is.lent;
   whole = is.whole ∙ ap (λ b. not (view.log.whole && b)) (sym same);
   stops = is.stops;
-  ready = record { room = is.ready.room; apart = is.ready.apart; named = is.ready.named };
+  ready = record { room = is.ready.room; apart = is.ready.apart; spelled = is.ready.spelled; shelved = is.ready.shelved; named = is.ready.named };
   placed = is.placed;
 }
 
@@ -271,7 +271,7 @@ store_breaks {L} {D} {C} tells seen now leaves faults view tablet store broken s
       | false ↦ λ goes. subst (λ (t : View C). IsEngine tells seen now leaves faults (record view { tablet = t; store = store })) (sym (stops goes))
           (beside end refl (record { goes = λ k. absurd (let a : true ≡ false = k in cc); stopped = λ k. (view.tablet.core.trail, refl) })
           (line_logged tells seen view event.Stop view.tablet.core.a view.tablet.core.c view.tablet.core.turns true view.tablet.clock is.logged tt (omega arith))
-          (record { room = is.ready.room; apart = is.ready.apart; named = is.ready.named }) is.placed)
+          (record { room = is.ready.room; apart = is.ready.apart; spelled = is.ready.spelled; shelved = is.ready.shelved; named = is.ready.named }) is.placed)
       | true ↦ λ stopped. subst (λ (t : View C). IsEngine tells seen now leaves faults (record view { tablet = t; store = store })) (sym (once stopped)) (beside view.tablet stopped is.stops is.logged is.ready is.placed)
     ] refl
   where
@@ -291,7 +291,7 @@ store_breaks {L} {D} {C} tells seen now leaves faults view tablet store broken s
         count = logged.count;
         begins = logged.begins;
         stands = logged.stands;
-        keeps = λ rules first h plan. logged.keeps rules first (record { opens = h.opens; holds = h.holds }) plan;
+        keeps = λ rules first h plan. logged.keeps rules first (record { closed = h.closed; opens = h.opens; holds = h.holds }) plan;
         names = logged.names;
         framed = logged.framed;
         durable = logged.durable;
@@ -302,6 +302,6 @@ store_breaks {L} {D} {C} tells seen now leaves faults view tablet store broken s
       lent = is.lent;
       whole = stopped ∙ none_whole view.log.whole;
       stops = lines;
-      ready = record { room = ready.room; apart = ready.apart; named = ready.named };
+      ready = record { room = ready.room; apart = ready.apart; spelled = ready.spelled; shelved = ready.shelved; named = ready.named };
       placed = placed;
     }

@@ -45,7 +45,7 @@ use Rattle.kt_engine.proofs.Lists.{all_none, all_cons, all_each, all_at, all_mor
 use Rattle.kt_engine.proofs.Memory.{IsOwn, named_there, named_ended, one_place}
 use Rattle.kt_engine.proofs.Places.{place-kept, others_apart, turned, apart_fewer, over_found, is_other, is_session}
 use Rattle.kt_engine.proofs.Records.{order_more, framed_at, last_of-commit, waits_behind, all_parts, count_parts, framed_parts}
-use Rattle.kt_engine.proofs.Commits.{of_each, all_fit, held_few, commit_framed, commit_names, recorded_count}
+use Rattle.kt_engine.proofs.Commits.{of_each, held_few, commit_framed, commit_names, recorded_count}
 use Rattle.kt_engine.proofs.Waiting.{one_session, untold_ended}
 use Rattle.kt_engine.proofs.Runs.{past_line, acknowledged_more, stop_line}
 
@@ -89,12 +89,12 @@ ended_log core records places run s i f rows flies count framed apart k =
     }
 
 -- each name of a COMMIT is one of the stores, so that its number was given
-each_below : (numbers : Numbers) (names : List Target) → StoresBelow numbers (map name_of names) → All (IsBelow numbers) names
+pub each_below : (numbers : Numbers) (names : List Target) → StoresBelow numbers (map name_of names) → All (IsBelow numbers) names
 each_below numbers [] below = all_none (IsBelow numbers)
 each_below numbers (Mem n ∷ names) below = all_cons (IsBelow numbers) (Mem n) names below.0 (each_below numbers names below.1)
 each_below numbers (Delta r n ∷ names) below = all_cons (IsBelow numbers) (Delta r n) names below.0 (each_below numbers names below.1)
 
-rows_below : (numbers : Numbers) (names : List Target) (os : List Outcome) (rows : List CommitRow) → All (IsBelow numbers) names → AreRecorded names os rows → RowsBelow numbers rows
+pub rows_below : (numbers : Numbers) (names : List Target) (os : List Outcome) (rows : List CommitRow) → All (IsBelow numbers) names → AreRecorded names os rows → RowsBelow numbers rows
 rows_below numbers names [] [] below are = tt
 rows_below numbers names [] (row ∷ rows) below are = absurd are
 rows_below numbers names (o ∷ os) [] below are = absurd are
@@ -158,7 +158,7 @@ with_ended tells seen now leaves faults old s i f outcomes rows tablet e goes fl
     let k = e.logged.stands in
     let wf = all_found (Waits (old.records ++ e.logged.run) old.tablet.places) (λ w. w.s == s) core.aloft f flies k.flying in
     let framed = own_framed core old.records old.tablet.places e.logged.run s f flies k in
-    let commit = own_commit old.tablet.names (all_fit old.super old.tablet.names e.ready.named.each) f outcomes rows are each framed in
+    let commit = own_commit old.tablet.names e.ready.spelled f outcomes rows are each framed in
     let count : length rows ≡ length f.ops = recorded_count old.tablet.names outcomes rows are ∙ each in
     let apart = others_apart s core.aloft f flies e.ready.apart in
     let some : 0 < length f.ops = (held_few (length f.ops) framed.keeps.count).0 in
@@ -172,10 +172,10 @@ with_ended tells seen now leaves faults old s i f outcomes rows tablet e goes fl
         count = count_parts old.records e.logged.run old.log.out old.log.queued (Commit f.ts rows) old.log.known.count e.logged.count;
         begins = e.logged.begins;
         stands = stands;
-        keeps = λ rules first is plan. let before : IsContent rules old first = record { opens = is.opens; holds = is.holds } in
+        keeps = λ rules first is plan none. let before : IsContent rules old first = record { closed = is.closed; opens = is.opens; holds = is.holds } in
             ended_run rules (core_from old first) old.super old.tablet.names old.tablet.notes tablet.notes old.records old.tablet.places e.logged.run s i handed.j f outcomes rows core.opened first stands.log k.flying e.ready.apart at own (over_found s core.aloft f flies over)
-            handed.rows_are handed.notes are (e.logged.keeps rules first before plan);
-        names = all_more (NamesOnly old.tablet.names) e.logged.run (Commit f.ts rows) e.logged.names (commit_names old.tablet.names f.ts outcomes rows are);
+            handed.rows_are handed.notes are (e.logged.keeps rules first before plan none);
+        names = λ none. all_more (NamesOnly old.tablet.names) e.logged.run (Commit f.ts rows) (e.logged.names none) (commit_names old.tablet.names f.ts outcomes rows are);
         framed = framed_parts old.log.out old.log.queued (Commit f.ts rows) e.logged.framed commit;
         durable = λ t. all_passing (IsDurable (records_of (seen old.log.known.disk))) (IsDurable (records_of (seen old.log.known.disk))) (λ w. not (w.s == s)) core.aloft (λ w passes h. h) (e.logged.durable t);
         acknowledged = λ t. acknowledged_more (records_of (seen old.log.known.disk)) core.trail (End s i f.ts) (e.logged.acknowledged t)
@@ -189,6 +189,8 @@ with_ended tells seen now leaves faults old s i f outcomes rows tablet e goes fl
       ready = record {
         room = (let less = fewer (λ (w : Aloft). w.s == s) core.aloft f flies in let low = e.ready.room in omega arith);
         apart = apart_fewer (λ w. not (w.s == s)) core.aloft e.ready.apart;
+        spelled = e.ready.spelled;
+        shelved = e.ready.shelved;
         named = e.ready.named;
       };
       placed = map-filter (λ (p : ℕ × ℕ). p.0) (λ n. not (n == s)) old.tablet.places ∙ ap (filter (λ n. not (n == s))) e.placed ∙ sym (map-filter (λ (w : Aloft). w.s) (λ n. not (n == s)) core.aloft);

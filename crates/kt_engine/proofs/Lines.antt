@@ -68,8 +68,8 @@ line_logged tells seen view e a c turns stopped clock is quiet up = record {
   count = is.count;
   begins = is.begins;
   stands = record { log = is.stands.log; since = (let low = is.stands.since in omega arith); last = (let low = is.stands.last in omega arith); flying = is.stands.flying; untold = is.stands.untold };
-  keeps = λ rules first h plan.
-      let keeps = is.keeps rules first (record { opens = h.opens; holds = h.holds }) plan in
+  keeps = λ rules first h plan none.
+      let keeps = is.keeps rules first (record { closed = h.closed; opens = h.opens; holds = h.holds }) plan none in
       let core = core_from view first in
       record {
         recovered = keeps.recovered;
@@ -97,7 +97,7 @@ line_keeps {L} {D} {C} tells seen now leaves faults view tablet e a c turns cloc
       lent = is.lent;
       whole = is.whole;
       stops = stop_line view.tablet.core (with_line view.tablet e a c turns view.tablet.core.stopped clock).core e is.stops goes other refl refl;
-      ready = record { room = is.ready.room; apart = is.ready.apart; named = is.ready.named };
+      ready = record { room = is.ready.room; apart = is.ready.apart; spelled = is.ready.spelled; shelved = is.ready.shelved; named = is.ready.named };
       placed = is.placed;
     })
 

@@ -1,5 +1,5 @@
 -- An engine as it is opened.
-use Rattle.std.proofs.Common.{◌≡◌, ◌≢◌, ℕ, ◌≤◌, max, List, [], ◌∷◌, ◌++◌, length, map, Some, None, refl, sym, true, false, Bool, ap, ◌∙◌, subst, arith, length-append}
+use Rattle.std.proofs.Common.{◌≡◌, ◌≢◌, ℕ, suc, ◌≤◌, ◌^◌, max, List, [], ◌∷◌, ◌++◌, length, map, Some, None, refl, sym, true, false, Bool, ap, ◌∙◌, subst, arith, length-append}
 use Rattle.std.specs.Prelude.{not, IsTrue}
 use Rattle.std.specs.List.{All}
 use Rattle.std.proofs.lemmas.List.{append-nil}
@@ -38,7 +38,12 @@ use Rattle.kt_tablet.specs.Views.{View, Opens}
 use Rattle.kt_storeside.specs.Sides.{StoreView}
 use Rattle.kt_engine.specs.Memory.{name_of, by_name, named_writes, resident, AreNamed}
 use Rattle.kt_engine.specs.Logged.{Waits, UntoldFly, AreCommits, TakesUp, AreApart, AcknowledgedIn, IsDurable, NamesOnly, KeepsRun}
+use Rattle.kt_engine.specs.Over.{AreShelved}
 use Rattle.kt_engine.specs.Engines.{EngineView, KeepsOthers, IsHome, IsEngine}
+use Rattle.kt_engine.specs.Jobs.{no_upkeep}
+use Rattle.kt_engine.specs.Near.{first_number}
+use Rattle.kt_engine.specs.Stored.{next_given}
+use Rattle.kt_engine.proofs.Commits.{all_fit}
 use Rattle.kt_engine.proofs.Lists.{all_none}
 use Rattle.kt_engine.proofs.Raised.{raise_at}
 use Rattle.kt_engine.proofs.Waiting.{keys_told}
@@ -107,18 +112,22 @@ opened_view tablet journal records super queued store store_device device = reco
   store = store;
   store_device = store_device;
   running = [];
+  upkeep = no_upkeep;
+  first_file = store.next_file;
+  first_rowset = store.next_rowset;
+  found = tablet.names;
 }
 
 pub is_opened : {L D C : Type 0} (tells : Bool) (seen : L → Files) (now : L → ℕ) (leaves : L → ℕ → Files → Type 0) (faults : L → ℕ) (tablet : View C) (journal : JournalView L) (records : List Entry) (super : Super) (queued : List Entry) (store : StoreView D) (store_device : D) (device : L)
     → IsTrue store.whole → tablet.core.trail ≡ [] → tablet.core.aloft ≡ [] → tablet.core.stopped ≡ false → map (λ p. p.0) tablet.places ≡ map (λ w. w.s) tablet.core.aloft
-    → AreNamed super tablet.names → IsLog (records ++ queued) → AreCommits queued
+    → AreNamed super tablet.names → AreShelved (suc tablet.frozen) (2 ^ 64) tablet.names → IsLog (records ++ queued) → AreCommits queued
     → ((rules : Rules) (first : Past) → Opens tablet.opening tablet.mark tablet.core.opened first → HoldsPast rules tablet.core.work.fill super records tablet.core.opened first → TakesUp tablet.core.work.fill super tablet.names tablet.core.stores records queued tablet.core.opened first)
-    → (numbers : Numbers) × NumbersAreFresh super (records ++ queued) (map name_of tablet.names) numbers → UntoldFly (records ++ queued) tablet.core.aloft → tablet.core.opened ≤ tablet.core.c
+    → (numbers : Numbers) × NumbersAreFresh super (records ++ queued) (map name_of tablet.names) numbers × (numbers.next ≤ next_given store.next_rowset) × (numbers.active ≤ first_number tablet.names) → UntoldFly (records ++ queued) tablet.core.aloft → tablet.core.opened ≤ tablet.core.c
     → last_of (records ++ queued) ≤ tablet.core.c → All (NamesOnly tablet.names) queued → journal.count ≡ length records
     → (IsTrue tells → records_of (seen journal.disk) ≡ records)
     → (IsTrue tells → CanOpen now leaves journal.disk) → (IsTrue tells → KeepsOthers now leaves device journal.disk) → faults device ≤ faults journal.disk
     → IsEngine tells seen now leaves faults (opened_view tablet journal records super queued store store_device device)
-is_opened tells seen now leaves faults tablet journal records super queued store store_device device whole trail aloft stopped placed named log commits taken numbers untold since last names count reads openable others later = record {
+is_opened tells seen now leaves faults tablet journal records super queued store store_device device whole trail aloft stopped placed named shelved log commits taken numbers untold since last names count reads openable others later = record {
   logged = record {
     run = queued;
     all = λ t. ap (λ l. l ++ queued) (sym (reads t));
@@ -131,11 +140,11 @@ is_opened tells seen now leaves faults tablet journal records super queued store
       flying = subst (λ (ws : List Aloft). All (Waits (records ++ queued) tablet.places) ws) (sym aloft) (all_none (Waits (records ++ queued) tablet.places));
       untold = untold;
     };
-    keeps = λ rules past is plan.
+    keeps = λ rules past is plan jobless.
         let none : UntoldFly (records ++ queued) [] = subst (λ (ws : List Aloft). UntoldFly (records ++ queued) ws) aloft untold in
         let up = taken rules past is.opens is.holds in
         keeps_opened rules (record tablet.core { first = past }) super tablet.names tablet.notes records queued numbers.0 trail aloft log none since last commits is.opens.ends is.holds up.told up.mirrors numbers.1;
-    names = names;
+    names = λ jobless. names;
     framed = framed_all (newest_first [] records) queued (order_rest [] records queued log);
     durable = λ t. subst (λ (ws : List Aloft). All (IsDurable (records_of (seen journal.disk))) ws) (sym aloft) (all_none (IsDurable (records_of (seen journal.disk))));
     acknowledged = λ t. subst (λ (es : List Event). AcknowledgedIn (records_of (seen journal.disk)) es) (sym trail) tt;
@@ -148,7 +157,9 @@ is_opened tells seen now leaves faults tablet journal records super queued store
   ready = record {
     room = subst (λ (ws : List Aloft). length ws ≤ 0) (sym aloft) (omega arith);
     apart = subst AreApart (sym aloft) tt;
-    named = named;
+    spelled = all_fit super tablet.names named.each;
+    shelved = shelved;
+    named = λ jobless. named;
   };
   placed = placed;
 }

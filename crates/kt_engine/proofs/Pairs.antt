@@ -1,7 +1,6 @@
 -- What a crash leaves of both devices.
 use Rattle.std.proofs.Common.{◌≡◌, ℕ, ◌+◌, ◌<◌, ◌≤◌, max, Bool, true, false, List, [], ◌∷◌, ◌++◌, length, Some, None, Ok, refl, sym, ap, ◌∙◌, subst, arith, append_assoc, length-append, inl, inr}
 use Rattle.std.specs.Prelude.{◌⊎◌, ◌&&◌, not, IsTrue, take}
-use Rattle.std.specs.List.{All}
 use Rattle.std.proofs.lemmas.List.{append_cancel_left}
 use Rattle.kt_base.specs.Causes.{Rose}
 use Rattle.kt_disk.specs.Disk.{Files}
@@ -18,19 +17,20 @@ use Rattle.kt_super.specs.declared.meta.Meta.{Meta}
 use Rattle.kt_content.specs.Places.{Super}
 use Rattle.kt_content.specs.Rules.{Rules}
 use Rattle.kt_content.specs.Content.{IsContent as HoldsPast}
+use Rattle.kt_content.specs.RunEvents.{Numbers, RecordsBelow}
 use Rattle.kt_content.specs.Recovering.{low_after}
 use Rattle.kt_content.proofs.Records.{told_front, order_front}
 use Rattle.kt_content.proofs.Recovering.{runs_up, take_all, each_front}
 use Rattle.kt_reopen.specs.Both.{super_in}
 use Rattle.kt_storeside.specs.Supers.{HasSuper}
 use Rattle.kt_storeside.specs.Sides.{StoreView, HasEither, IsSide}
-use Rattle.kt_engine.specs.Logged.{PlanPasses, LogStands, AcknowledgedIn, NamesOnly, KeepsFrom, KeepsSince, HoldsUpTo}
+use Rattle.kt_engine.specs.Logged.{PlanPasses, LogStands, AcknowledgedIn, KeepsFrom, KeepsSince, HoldsUpTo}
 use Rattle.kt_engine.specs.Engines.{EngineView, IsContent, IsLogged, IsEngine, core_from, are_whole}
-use Rattle.kt_engine.specs.Stored.{IsOneOf, IsSuperOf, IsStored, HoldsBoth, RecoversPair, RecoversBoth, HasFailed}
+use Rattle.kt_engine.specs.Stored.{IsOneOf, IsSuperOf, IsStored, core_at, names_at, numbers_of, HoldsBoth, RecoversPair, RecoversBoth, HasFailed}
 use Rattle.kt_engine.proofs.Crashes.{front_at, acknowledged_by, last_of-front, leaves_some}
 use Rattle.kt_engine.proofs.Devices.{acknowledged_longer}
 use Rattle.kt_engine.proofs.Fronts.{told_climbs, front_last, upto_front}
-use Rattle.kt_engine.proofs.Lists.{all_front}
+use Rattle.kt_engine.proofs.Rising.{records_parts}
 use Rattle.kt_engine.proofs.StoreEvents.{named_hold}
 
 -- two ways to take a run apart, of which one has no fewer records in front
@@ -49,10 +49,10 @@ splits (x ∷ since) rest (y ∷ front) behind e le =
     record { more = s.more; front_is = λ k. head k ∷ s.front_is k; rest_is = s.rest_is }
 
 -- A front of the records that has all that were durable as the superblock was made
-since_holds : (rules : Rules) (core : Core) (super : Super) (names : List Target) (notes : List (List CommitRow)) (records run : List Entry) (places : List (ℕ × ℕ)) (durable : ℕ) (front behind : List Entry) (stores : List Target) (image : Files)
-    → LogStands core records places run → KeepsSince rules core super names notes records run durable → run ≡ front ++ behind → durable ≤ length (records ++ front) → AcknowledgedIn (records ++ front) core.trail → All (NamesOnly stores) run
-    → log_of image ≡ Ok (records ++ front) → HoldsUpTo rules core super records stores image
-since_holds rules core super names notes records run places durable front behind stores image log k run_is enough acknowledged only reads =
+since_holds : (rules : Rules) (core : Core) (super : Super) (names : List Target) (notes : List (List CommitRow)) (records run : List Entry) (places : List (ℕ × ℕ)) (durable : ℕ) (front behind : List Entry) (numbers : Numbers) (image : Files)
+    → LogStands core records places run → KeepsSince rules core super names notes records run durable → run ≡ front ++ behind → durable ≤ length (records ++ front) → AcknowledgedIn (records ++ front) core.trail → RecordsBelow numbers (records ++ run)
+    → log_of image ≡ Ok (records ++ front) → HoldsUpTo rules core super records numbers image
+since_holds rules core super names notes records run places durable front behind numbers image log k run_is enough acknowledged below reads =
     let fill = core.work.fill in
     let base = records ++ k.since in
     let past = with_records fill core.first k.since in
@@ -79,7 +79,7 @@ since_holds rules core super names notes records run places durable front behind
       log = order_front [] (records ++ front) behind order;
       run = front;
       front = refl;
-      names = all_front (NamesOnly stores) front behind (subst (All (NamesOnly stores)) run_is only);
+      names = (records_parts numbers (records ++ front) behind (subst (RecordsBelow numbers) whole below)).0;
       t = t;
       after_opening = (let from = k.from in let l = last.0 in omega arith);
       acknowledged = acknowledged_by (records ++ front) t core.trail low acknowledged;
@@ -118,12 +118,17 @@ module _ {L D C : Type 0} (log_tells : Bool) (log_seen : L → Files) (log_now :
   the_one image (inl was) = record { meta = view.store.meta; one = inl refl; that = was }
   the_one image (inr new) = record { meta = new.0; one = inr new.1; that = new.2 }
 
+  -- what an image holds is told of no store, so it holds the same whatever stores the superblock is told of
+  of_core : (m : Meta) (super : Super) (image : Files) (first : Past) → {rules : Rules} → HoldsUpTo rules (core_at view m (core_from view first)) super view.records (numbers_of view) image → HoldsUpTo rules (core_from view first) super view.records (numbers_of view) image
+  of_core m super image first h = record { records = h.records; reads = h.reads; log = h.log; run = h.run; front = h.front; names = h.names; t = h.t; after_opening = h.after_opening; acknowledged = h.acknowledged; holds = h.holds; last = h.last; within = h.within }
+
   pub recovers_pair : RecoversPair log_tells log_seen tells seen view
   recovers_pair rules first content plan lt t n log_image image reads has =
       let at = front_at log_tells log_seen view engine.logged lt n in
       let that = the_one image has in
       let held = is.holds t that.meta that.one in
       let super = super_in that.meta held.0 in
+      let at_core = core_at view that.meta (core_from view first) in
       let k = is.keeps rules first content plan t super (record { meta = that.meta; one = that.one; held = held.0; hold = held.1; is = refl }) in
       record {
         meta = that.meta;
@@ -131,10 +136,10 @@ module _ {L D C : Type 0} (log_tells : Bool) (log_seen : L → Files) (log_now :
         one = that.one;
         held = held.0;
         hold = named_hold that.meta held.0 (seen view.store.known) image that.that.named_are held.1;
-        front = since_holds rules (core_from view first) super view.tablet.names view.tablet.notes view.records is.run view.tablet.places view.log.known.count at.durable at.rest view.tablet.names log_image
+        front = of_core that.meta super log_image first (since_holds rules at_core super (names_at view that.meta) view.tablet.notes view.records is.run view.tablet.places view.log.known.count at.durable at.rest (numbers_of view) log_image
             (record { log = is.stands.log; since = is.stands.since; last = is.stands.last; flying = is.stands.flying; untold = is.stands.untold }) k (sym (one_run lt) ∙ at.run_is) (enough lt n at.durable at.records)
             (subst (λ (l : List Entry). AcknowledgedIn l view.tablet.core.trail) at.records (acknowledged_longer known (take n waiting) view.tablet.core.trail (engine.logged.acknowledged lt)))
-            (subst (All (NamesOnly view.tablet.names)) (one_run lt) engine.logged.names) (reads ∙ ap Ok at.records);
+            is.below (reads ∙ ap Ok at.records));
       }
 
   -- each image of the store at home has one of both superblocks

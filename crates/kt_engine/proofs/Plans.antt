@@ -36,8 +36,8 @@ plan_keeps {L} {D} {C} tells seen now leaves faults view tablet plan is fresh no
         count = is.logged.count;
         begins = is.logged.begins;
         stands = record { log = is.logged.stands.log; since = is.logged.stands.since; last = is.logged.stands.last; flying = is.logged.stands.flying; untold = is.logged.stands.untold };
-        keeps = λ rules first h passes.
-            let keeps = is.logged.keeps rules first (record { opens = h.opens; holds = h.holds }) (no_plan rules view.tablet.core.work none) in
+        keeps = λ rules first h passes jobless.
+            let keeps = is.logged.keeps rules first (record { closed = h.closed; opens = h.opens; holds = h.holds }) (no_plan rules view.tablet.core.work none) jobless in
             record {
               recovered = keeps.recovered;
               writes = keeps.writes ∙ past_at_first view.tablet.core.work first view.tablet.core.opened view.tablet.core.trail fresh ∙ sym (past_at_first work first view.tablet.core.opened view.tablet.core.trail fresh);
@@ -56,6 +56,6 @@ plan_keeps {L} {D} {C} tells seen now leaves faults view tablet plan is fresh no
       lent = is.lent;
       whole = is.whole;
       stops = record { goes = is.stops.goes; stopped = is.stops.stopped };
-      ready = record { room = is.ready.room; apart = is.ready.apart; named = is.ready.named };
+      ready = record { room = is.ready.room; apart = is.ready.apart; spelled = is.ready.spelled; shelved = is.ready.shelved; named = is.ready.named };
       placed = is.placed;
     })

@@ -16,7 +16,7 @@ running_keeps tells seen now leaves faults view running is = record {
     count = is.logged.count;
     begins = is.logged.begins;
     stands = is.logged.stands;
-    keeps = λ rules first h plan. is.logged.keeps rules first (record { opens = h.opens; holds = h.holds }) plan;
+    keeps = λ rules first h plan. is.logged.keeps rules first (record { closed = h.closed; opens = h.opens; holds = h.holds }) plan;
     names = is.logged.names;
     framed = is.logged.framed;
     durable = is.logged.durable;
@@ -29,7 +29,7 @@ running_keeps tells seen now leaves faults view running is = record {
   lent = is.lent;
   whole = is.whole;
   stops = is.stops;
-  ready = record { room = is.ready.room; apart = is.ready.apart; named = is.ready.named };
+  ready = record { room = is.ready.room; apart = is.ready.apart; spelled = is.ready.spelled; shelved = is.ready.shelved; named = is.ready.named };
   placed = is.placed;
 }
 

@@ -35,27 +35,36 @@ use Rattle.kt_storeside.specs.Sides.{StoreView, published_in, HasEither, IsSide}
 use Rattle.kt_storeside.specs.Next.{next_meta}
 use Rattle.kt_storeside.proofs.Named.{named_between}
 use Rattle.kt_storeside.proofs.Standing.{left_below}
-use Rattle.kt_engine.specs.Memory.{resident, IsNamed}
+use Rattle.kt_engine.specs.Memory.{name_of, resident, IsNamed}
 use Rattle.kt_engine.specs.Logged.{PlanPasses, LogStands, KeepsSince}
 use Rattle.kt_engine.specs.Engines.{EngineView, IsContent, IsFound, IsLogged, IsEngine, core_from}
-use Rattle.kt_engine.specs.Stored.{IsOneOf, IsMarkOf, IsSuperOf, IsStored, next_super}
+use Rattle.kt_engine.specs.Over.{over_at}
+use Rattle.kt_engine.specs.Stored.{IsOneOf, IsMarkOf, IsSuperOf, IsStored, over, core_at, names_at, numbers_of, next_super}
+use Rattle.kt_engine.proofs.Devices.{store_keeps}
 use Rattle.kt_engine.proofs.Fronts.{last_of-append, low_below}
 use Rattle.kt_engine.proofs.Marks.{of_each}
+use Rattle.kt_engine.specs.Near.{most_rowsets}
+use Rattle.kt_engine.proofs.Near.{near_rises}
 use Rattle.kt_engine.proofs.Lists.{all_each}
-use Rattle.kt_engine.proofs.Stored.{same_log}
+use Rattle.kt_engine.proofs.Rising.{given_rises, records_rise, names_rise}
+use Rattle.kt_engine.proofs.Stored.{same_log, to_plain, of_plain, plain}
 use Rattle.kt_engine.proofs.Untold.{flies_above}
 
 -- ---- the superblock that comes next, where all records are durable
 
+-- the numbers that a turn has given are not too many
+most_given : (old new first : ℕ) → old ≤ first + most_rowsets → new ≤ max old (first + most_rowsets) → new ≤ first + most_rowsets
+most_given old new first low high = omega arith
+
 module _ (rules : Rules) (core : Core) (super : Super) (names : List Target) (notes : List (List CommitRow)) (records run : List Entry) (places : List (ℕ × ℕ)) (durable : ℕ) (log : LogStands core records places run) (st : Stands core)
     (k : KeepsSince rules core super names notes records run durable) (all : durable ≡ length (records ++ run)) where
-  abbrev base : List Entry
+  abbrev pub base : List Entry
   base = records ++ run
 
-  abbrev past : Past
+  abbrev pub past : Past
   past = with_records core.work.fill core.first run
 
-  past_is : with_records core.work.fill (with_records core.work.fill core.first k.since) k.rest ≡ past
+  pub past_is : with_records core.work.fill (with_records core.work.fill core.first k.since) k.rest ≡ past
   past_is = sym (with_records-append core.work.fill core.first k.since k.rest) ∙ ap (with_records core.work.fill core.first) (sym k.parts)
 
   base_is : (records ++ k.since) ++ k.rest ≡ base
@@ -65,7 +74,7 @@ module _ (rules : Rules) (core : Core) (super : Super) (names : List Target) (no
   in_order = subst (λ (l : List Entry). IsLog l) (sym base_is) log.log
 
   -- what stands under the superblock from before stands over all records
-  stands_now : SuperStands rules core.work.fill super base [] past (resident core names notes k.keeps.numbers)
+  pub stands_now : SuperStands rules core.work.fill super base [] past (resident core names notes k.keeps.numbers)
   stands_now =
       subst (λ (p : Past). SuperStands rules core.work.fill super base [] p (resident core names notes k.keeps.numbers)) past_is
       (subst (λ (l : List Entry). SuperStands rules core.work.fill super l [] (with_records core.work.fill (with_records core.work.fill core.first k.since) k.rest) (resident core names notes k.keeps.numbers)) base_is
@@ -74,7 +83,7 @@ module _ (rules : Rules) (core : Core) (super : Super) (names : List Target) (no
       (subst (λ (l : List Entry). SuperStands rules core.work.fill super (records ++ k.since) l (with_records core.work.fill core.first k.since) (resident core names notes k.keeps.numbers)) (sym (append-nil k.rest)) k.keeps.stands)))
 
   -- the past ends by now
-  ends : IsPastUpTo core.c past
+  pub ends : IsPastUpTo core.c past
   ends =
       let up = runs_up core.work.fill super k.low (records ++ k.since) (with_records core.work.fill core.first k.since) k.rest k.keeps.recovered.told k.keeps.recovered.ends in
       let last : last_of k.rest ≤ core.c = rest_last in
@@ -134,14 +143,20 @@ module _ {L D C : Type 0} (log_tells : Bool) (log_seen : L → Files) (tells : B
   abbrev lent_view : ℕ → Option Meta → StoreView D
   lent_view number lent = record view.store { home = None; holder = Some number; lent = lent }
 
-  pub lent_stored : (store : StoreView D) (number : ℕ) (lent : Option Meta) → store ≡ lent_view number lent → ((m : Meta) → lent ≡ Some m → m ≡ next_super view) → ((m : Meta) → lent ≡ Some m → (view.log.out ≡ []) × (view.log.queued ≡ []))
+  pub lent_stored : (store : StoreView D) (number : ℕ) (lent : Option Meta) → store ≡ lent_view number lent → ((m : Meta) → lent ≡ Some m → m ≡ next_super view) → ((m : Meta) → lent ≡ Some m → (view.log.out ≡ []) × (view.log.queued ≡ []) × (view.upkeep.publishing ≡ None))
       → ((first : Past) → IsFound view first → Stands (core_from view first)) → Stored (record view { store = store })
+  unfolding published
   lent_stored store number lent e next settled stands = subst (λ (s : StoreView D). Stored (record view { store = s })) (sym e) (record {
     run = is.run;
     all = is.all;
     count = is.count;
     stands = is.stands;
-    keeps = λ rules first h plan t super one. keeps rules first (record { opens = h.opens; holds = h.holds }) plan t super one;
+    keeps = λ rules first h plan t super one. keeps rules first (record { closed = h.closed; opens = h.opens; holds = h.holds }) plan t super one;
+    below = is.below;
+    names_below = is.names_below;
+    near = is.near;
+    rests = is.rests;
+    jobs = is.jobs;
     holds = λ t m one. elim one [ inl was ↦ is.holds t m (inl was) | inr new ↦ subst (λ (o : Meta). (held : List HeldFiles) × HoldAll (seen view.store.known) o.rowsets held) (sym (next m new)) (is.holds t view.store.meta (inl refl)) ];
     columns = λ m new. ap (λ (o : Meta). o.schema) (next m new);
     mark = is.mark;
@@ -151,8 +166,8 @@ module _ {L D C : Type 0} (log_tells : Bool) (log_seen : L → Files) (tells : B
     home = λ disk at. absurd (let none : None ≡ Some disk = at in cc);
   })
     where
-      keeps : (rules : Rules) (first : Past) → IsContent rules view first → PlanPasses rules view.tablet.core.work → IsTrue tells → (super : Super) → IsSuperOf seen (lent_view number lent) super
-          → KeepsSince rules (core_from view first) super view.tablet.names view.tablet.notes view.records is.run view.log.known.count
+      keeps : (rules : Rules) (first : Past) → IsContent rules view first → PlanPasses rules view.tablet.core.work → IsTrue tells → (super : Super) → (one : IsSuperOf seen (lent_view number lent) super)
+          → KeepsSince rules (core_at view one.meta (core_from view first)) super (names_at view one.meta) view.tablet.notes view.records is.run view.log.known.count
       keeps rules first h plan t super one = elim one.one [
         | inl was ↦ is.keeps rules first h plan t super (record { meta = one.meta; one = inl was; held = one.held; hold = one.hold; is = one.is })
         | inr new ↦ (
@@ -160,11 +175,12 @@ module _ {L D C : Type 0} (log_tells : Bool) (log_seen : L → Files) (tells : B
             let none = settled one.meta new in
             let hold : HoldAll (seen view.store.known) view.store.meta.rowsets one.held = subst (λ (o : Meta). HoldAll (seen view.store.known) o.rowsets one.held) same one.hold in
             let was : Super = super_in view.store.meta one.held in
-            let k = is.keeps rules first h plan t was (published one.held hold) in
+            let k = to_plain rules (core_from view first) was view.tablet.names view.tablet.notes view.records is.run view.log.known.count view.tablet.frozen (over_at view.store.meta.number (over view)) (plain view none.2 view.store.meta) (is.keeps rules first h plan t was (published one.held hold)) in
             let all : view.log.known.count ≡ length (view.records ++ is.run) = (let n = is.count in let o = ap (λ (l : List Entry). length (l ++ view.log.queued)) none.0 in let p = ap (λ (l : List Entry). length l) none.1 in omega arith) in
-            subst (λ (s : Super). KeepsSince rules (core_from view first) s view.tablet.names view.tablet.notes view.records is.run view.log.known.count) (sym (one.is ∙ ap (λ (o : Meta). super_in o one.held) same))
+            of_plain rules (core_from view first) super view.tablet.names view.tablet.notes view.records is.run view.log.known.count view.tablet.frozen (over_at one.meta.number (over view)) (plain view none.2 one.meta)
+            (subst (λ (s : Super). KeepsSince rules (core_from view first) s view.tablet.names view.tablet.notes view.records is.run view.log.known.count) (sym (one.is ∙ ap (λ (o : Meta). super_in o one.held) same))
             (next_since rules (core_from view first) was view.tablet.names view.tablet.notes view.records is.run view.tablet.places view.log.known.count
-            (record { log = is.stands.log; since = is.stands.since; last = is.stands.last; flying = is.stands.flying; untold = is.stands.untold }) (stands first h.opens) k all)
+            (record { log = is.stands.log; since = is.stands.since; last = is.stands.last; flying = is.stands.flying; untold = is.stands.untold }) (stands first h.opens) k all))
             )
       ]
 
@@ -178,15 +194,21 @@ module _ {L D C : Type 0} (log_tells : Bool) (log_seen : L → Files) (tells : B
   ]
 
   pub home_stored : (store : StoreView D) (disk : D) (published : Bool) (lent : Option Meta) (next : ℕ) → lent ≡ view.store.lent → (IsTrue tells → IsTurn seen now leaves view.store.next_file next view.store.known disk) → faults view.store.known ≤ faults disk
-      → store.home ≡ Some disk → store.known ≡ disk → store.meta ≡ published_in published lent view.store.meta → store.lent ≡ None → Stored (record view { store = store })
-  home_stored store disk published lent next same turn more at known meta none = record {
+      → store.home ≡ Some disk → store.known ≡ disk → store.meta ≡ published_in published lent view.store.meta → store.lent ≡ None → view.store.next_rowset ≤ store.next_rowset
+      → store.next_rowset ≤ max view.store.next_rowset (view.first_rowset + most_rowsets) → Stored (record view { store = store })
+  home_stored store disk published lent next same turn more at known meta none given few = record {
     run = is.run;
     all = is.all;
     count = is.count;
     stands = is.stands;
     keeps = λ rules first h plan t super one.
-        is.keeps rules first (record { opens = h.opens; holds = h.holds }) plan t super
+        is.keeps rules first (record { closed = h.closed; opens = h.opens; holds = h.holds }) plan t super
         (record { meta = one.meta; one = was one.meta one.one; held = one.held; hold = before t one.meta (was one.meta one.one) one.held one.hold; is = one.is });
+    below = records_rise (numbers_of view) (numbers_of (record view { store = store })) (view.records ++ is.run) (given_rises view.store.next_rowset store.next_rowset given) (omega arith) is.below;
+    names_below = names_rise (numbers_of view) (numbers_of (record view { store = store })) (map name_of view.tablet.names) (given_rises view.store.next_rowset store.next_rowset given) (omega arith) is.names_below;
+    near = near_rises view.found view.tablet.names view.first_rowset view.store.next_rowset store.next_rowset view.upkeep.begun is.run given (most_given view.store.next_rowset store.next_rowset view.first_rowset is.near.rowsets few) is.near;
+    rests = is.rests;
+    jobs = is.jobs;
     holds = λ t m one.
         let held = is.holds t m (was m one) in
         (held.0, subst (λ (d : D). HoldAll (seen d) m.rowsets held.0) (sym known) (named_hold m held.0 (seen view.store.known) (seen disk) (λ n e. (turn t).reads n (left m (was m one) next n e)) held.1));
@@ -211,3 +233,16 @@ module _ {L D C : Type 0} (log_tells : Bool) (log_seen : L → Files) (tells : B
       before : IsTrue tells → (m : Meta) → IsOneOf view.store m → (held : List HeldFiles) → HoldAll (seen store.known) m.rowsets held → HoldAll (seen view.store.known) m.rowsets held
       before t m one held hold =
           named_hold m held (seen disk) (seen view.store.known) (λ n e. sym ((turn t).reads n (left m one next n e))) (subst (λ (d : D). HoldAll (seen d) m.rowsets held) known hold)
+
+-- the engine and its store stand when the store has come home
+pub home_both : {L D C : Type 0} (log_tells : Bool) (log_seen : L → Files) (log_now : L → ℕ) (log_leaves : L → ℕ → Files → Type 0) (log_faults : L → ℕ) (tells : Bool) (seen : D → Files) (now : D → ℕ) (leaves : D → ℕ → Files → Type 0) (faults : D → ℕ) (view : EngineView L D C)
+    → IsSide tells seen now leaves faults view.store → (store : StoreView D) (disk : D) (published : Bool) (lent : Option Meta) (rowset file : ℕ) → IsTrue view.store.whole → lent ≡ view.store.lent → (IsTrue tells → IsTurn seen now leaves view.store.next_file file view.store.known disk)
+    → faults view.store.known ≤ faults disk → view.store.next_rowset ≤ rowset → rowset ≤ max view.store.next_rowset (view.first_rowset + most_rowsets) → store ≡ record { home = Some disk; known = disk; holder = None; meta = published_in published lent view.store.meta; lent = None; next_rowset = rowset; next_file = file; whole = true }
+    → IsEngine log_tells log_seen log_now log_leaves log_faults view × IsStored log_tells log_seen tells seen faults view
+    → IsEngine log_tells log_seen log_now log_leaves log_faults (record view { store = store }) × IsStored log_tells log_seen tells seen faults (record view { store = store })
+home_both log_tells log_seen log_now log_leaves log_faults tells seen now leaves faults view side store disk published lent rowset file whole same turn more given few e is = (
+  store_keeps log_tells log_seen log_now log_leaves log_faults view store (ap (λ (s : StoreView _). s.whole) e ∙ sym whole) is.0,
+  home_stored log_tells log_seen tells seen now leaves faults view is.1 side store disk published lent file same turn more (ap (λ (s : StoreView _). s.home) e) (ap (λ (s : StoreView _). s.known) e) (ap (λ (s : StoreView _). s.meta) e) (ap (λ (s : StoreView _). s.lent) e)
+      (subst (λ (n : ℕ). view.store.next_rowset ≤ n) (sym (ap (λ (s : StoreView _). s.next_rowset) e)) given)
+      (subst (λ (n : ℕ). n ≤ max view.store.next_rowset (view.first_rowset + most_rowsets)) (sym (ap (λ (s : StoreView _). s.next_rowset) e)) few),
+)

@@ -23,9 +23,12 @@ use Rattle.kt_reopen.specs.Both.{super_in}
 use Rattle.kt_storeside.specs.Sides.{StoreView}
 use Rattle.kt_tablet.specs.Views.{View, Opens}
 use Rattle.kt_engine.specs.Memory.{name_of, AreNamed}
-use Rattle.kt_engine.specs.Logged.{PlanPasses, Waits, UntoldFly, AreCommits, TakesUp, LogStands, KeepsFrom, KeepsSince}
+use Rattle.kt_engine.specs.Logged.{PlanPasses, Waits, UntoldFly, AreCommits, NamesOnly, TakesUp, LogStands, KeepsFrom, KeepsSince}
 use Rattle.kt_engine.specs.Engines.{IsContent, core_from}
-use Rattle.kt_engine.specs.Stored.{IsOneOf, IsMarkOf, IsSuperOf, IsStored}
+use Rattle.kt_engine.specs.Near.{first_number}
+use Rattle.kt_engine.proofs.Near.{near_opened}
+use Rattle.kt_engine.specs.Stored.{IsOneOf, IsMarkOf, IsSuperOf, IsStored, next_given}
+use Rattle.kt_engine.proofs.Rising.{records_rise, names_rise}
 use Rattle.kt_engine.proofs.Lists.{all_none}
 use Rattle.kt_engine.proofs.Marks.{of_each}
 use Rattle.kt_engine.proofs.Opened.{opened_view, keeps_opened}
@@ -43,12 +46,12 @@ one_super seen store super other none found one = elim one.one [
 pub store_opened : {L D C : Type 0} (log_tells : Bool) (log_seen : L → Files) (tells : Bool) (seen : D → Files) (faults : D → ℕ) (tablet : View C) (journal : JournalView L) (records : List Entry) (super : Super) (queued : List Entry) (store : StoreView D) (store_device : D) (device : L)
     → tablet.core.trail ≡ [] → tablet.core.aloft ≡ [] → IsLog (records ++ queued) → AreCommits queued
     → ((rules : Rules) (first : Past) → Opens tablet.opening tablet.mark tablet.core.opened first → HoldsPast rules tablet.core.work.fill super records tablet.core.opened first → TakesUp tablet.core.work.fill super tablet.names tablet.core.stores records queued tablet.core.opened first)
-    → (numbers : Numbers) × NumbersAreFresh super (records ++ queued) (map name_of tablet.names) numbers → UntoldFly (records ++ queued) tablet.core.aloft → tablet.core.opened ≤ tablet.core.c → last_of (records ++ queued) ≤ tablet.core.c
+    → (numbers : Numbers) × NumbersAreFresh super (records ++ queued) (map name_of tablet.names) numbers × (numbers.next ≤ next_given store.next_rowset) × (numbers.active ≤ first_number tablet.names) → UntoldFly (records ++ queued) tablet.core.aloft → tablet.core.opened ≤ tablet.core.c → last_of (records ++ queued) ≤ tablet.core.c
     → journal.count ≡ length records → (IsTrue log_tells → records_of (log_seen journal.disk) ≡ records)
-    → store.lent ≡ None → (IsTrue tells → (held : List HeldFiles) × HoldAll (seen store.known) store.meta.rowsets held × (super ≡ super_in store.meta held)) → (store.meta.a ≡ tablet.mark) × (tablet.core.a ≡ tablet.mark) → store.meta.c ≤ tablet.core.c → AreNamed super tablet.names → faults store_device ≤ faults store.known
+    → store.lent ≡ None → (IsTrue tells → (held : List HeldFiles) × HoldAll (seen store.known) store.meta.rowsets held × (super ≡ super_in store.meta held)) → (store.meta.a ≡ tablet.mark) × (tablet.core.a ≡ tablet.mark) → store.meta.c ≤ tablet.core.c → AreNamed super tablet.names → All (NamesOnly tablet.names) queued → faults store_device ≤ faults store.known
     → ((disk : D) → store.home ≡ Some disk → disk ≡ store.known)
     → IsStored log_tells log_seen tells seen faults (opened_view tablet journal records super queued store store_device device)
-store_opened {L} {D} {C} log_tells log_seen tells seen faults tablet journal records super queued store store_device device trail aloft log commits taken numbers untold since last count reads none found mark clock named later at_home = record {
+store_opened {L} {D} {C} log_tells log_seen tells seen faults tablet journal records super queued store store_device device trail aloft log commits taken numbers untold since last count reads none found mark clock named only later at_home = record {
   run = queued;
   all = λ t. ap (λ l. l ++ queued) (sym (reads t));
   count = omega (arith, length-append records queued);
@@ -78,6 +81,11 @@ store_opened {L} {D} {C} log_tells log_seen tells seen faults tablet journal rec
         keeps = subst (λ (l : List Entry). KeepsFrom rules (record tablet.core { first = first }) super tablet.names tablet.notes l queued tablet.core.opened first) (sym (append-nil records))
             (keeps_opened rules (record tablet.core { first = first }) super tablet.names tablet.notes records queued numbers.0 trail aloft log untold_none since last commits h.opens.ends h.holds up.told up.mirrors numbers.1);
       });
+  below = records_rise numbers.0 given (records ++ queued) numbers.2 numbers.3 numbers.1.records_below;
+  names_below = names_rise numbers.0 given (map name_of tablet.names) numbers.2 numbers.3 numbers.1.stores;
+  near = near_opened tablet.names store.next_rowset queued only;
+  rests = inl refl;
+  jobs = λ n job has. absurd (let no : None ≡ Some job = has in cc);
   holds = λ t m one. elim one [ inl was ↦ (let f = found t in (f.0, subst (λ (o : Meta). HoldAll (seen store.known) o.rowsets f.0) (sym was) f.1)) | inr new ↦ absurd (let no : None ≡ Some m = sym none ∙ new in cc) ];
   columns = λ m new. absurd (let no : None ≡ Some m = sym none ∙ new in cc);
   mark = subst (λ (es : List Event). IsMarkOf tablet.mark es tablet.core.a) (sym trail) mark.1;
@@ -86,3 +94,6 @@ store_opened {L} {D} {C} log_tells log_seen tells seen faults tablet journal rec
   later = later;
   home = λ disk at. subst (λ (d : D). faults store.known ≤ faults d) (sym (at_home disk at)) (omega arith);
 }
+  where
+    given : Numbers
+    given = record { next = next_given store.next_rowset; active = first_number tablet.names; deltas = [] }

@@ -1,8 +1,8 @@
 -- What keeps the store of an engine: each event of the tablet and of the log, under each superblock that is published or lent.
 use Rattle.std.proofs.Common.{◌≡◌, ℕ, suc, ◌+◌, ◌-◌, ◌<◌, ◌≤◌, ◌^◌, max, Bool, true, false, List, [], ◌∷◌, ◌++◌, length, map, Option, Some, None, refl, sym, ap, ◌∙◌, subst, arith, append_assoc, length-append, inl, inr}
-use Rattle.std.specs.Prelude.{◌==◌, ◌⊎◌, not, IsTrue, drop, slice_get}
+use Rattle.std.specs.Prelude.{◌==◌, ◌⊎◌, not, IsTrue, drop, take, slice_get}
 use Rattle.std.specs.List.{All, list_any, find, filter, remove}
-use Rattle.std.proofs.lemmas.List.{append-nil}
+use Rattle.std.proofs.lemmas.List.{append-nil, take-append-le}
 use Rattle.kt_disk.specs.Disk.{Files}
 use Rattle.kt_history.specs.declared.change.Outcome.{Outcome}
 use Rattle.kt_history.specs.declared.event.Event.{Event}
@@ -38,7 +38,13 @@ use Rattle.kt_tablet.specs.Visits.{IsRunOutcome}
 use Rattle.kt_engine.specs.Memory.{resident}
 use Rattle.kt_engine.specs.Logged.{PlanPasses, Waits, UntoldFly, LogStands, AreApart, KeepsFrom, KeepsSince}
 use Rattle.kt_engine.specs.Engines.{EngineView, IsContent, core_from}
-use Rattle.kt_engine.specs.Stored.{IsOneOf, IsSuperOf, IsStored}
+use Rattle.kt_content.specs.RunEvents.{Numbers, RecordsBelow}
+use Rattle.kt_content.specs.Flushes.{before}
+use Rattle.kt_engine.specs.Over.{Over, over_at, names_over, core_over}
+use Rattle.kt_engine.specs.Jobs.{JobView, UpkeepsView, JobOn, job_of, over_by, over_in}
+use Rattle.kt_engine.specs.Near.{AreNear}
+use Rattle.kt_engine.specs.Stored.{IsOneOf, IsSuperOf, IsStored, over, core_at, names_at}
+use Rattle.kt_engine.proofs.Rising.{records_join}
 use Rattle.kt_engine.proofs.Applied.{NotedHere, applied_run}
 use Rattle.kt_engine.proofs.Begun.{begun_run}
 use Rattle.kt_engine.proofs.Ended.{ended_run}
@@ -159,6 +165,37 @@ line_since rules core super names notes records run durable e a c turns stopped 
   };
 }
 
+-- ---- what a superblock is told of
+
+-- the stores of the tablet, where no job publishes
+module _ (rules : Rules) (core : Core) (super : Super) (names : List Target) (notes : List (List CommitRow)) (records run : List Entry) (durable frozen : ℕ) where
+  pub to_plain : (o : Option Over) → o ≡ None → KeepsSince rules (core_over o frozen core) super (names_over o frozen names) notes records run durable → KeepsSince rules core super names notes records run durable
+  to_plain None e k = k
+  to_plain (Some o) e k = absurd (let f : Some o ≡ None = e in cc)
+
+  pub of_plain : (o : Option Over) → o ≡ None → KeepsSince rules core super names notes records run durable → KeepsSince rules (core_over o frozen core) super (names_over o frozen names) notes records run durable
+  of_plain None e k = k
+  of_plain (Some o) e k = absurd (let f : Some o ≡ None = e in cc)
+
+pub plain : {L D C : Type 0} (view : EngineView L D C) → view.upkeep.publishing ≡ None → (m : Meta) → over_at m.number (over view) ≡ None
+plain view none m = ap (λ (p : Option ℕ). over_at m.number (over_by p view.upkeep)) none
+
+-- a write flies, so no job publishes
+pub none_publishes : {L D C : Type 0} (view : EngineView L D C) (t : Aloft → Bool) (w : Aloft) → find t view.tablet.core.aloft ≡ Some w → (view.upkeep.publishing ≡ None) ⊎ (view.tablet.core.aloft ≡ []) → view.upkeep.publishing ≡ None
+none_publishes view t w flies (inl none) = none
+none_publishes view t w flies (inr calm) = absurd (let no : None ≡ Some w = sym (ap (find t) calm) ∙ flies in cc)
+
+-- ---- records more
+
+pub below_more : (numbers : Numbers) (records run : List Entry) (e : Entry) → RecordsBelow numbers (records ++ run) → RecordsBelow numbers (e ∷ []) → RecordsBelow numbers (records ++ (run ++ e ∷ []))
+below_more numbers records run e below own = subst (RecordsBelow numbers) (append_assoc records run (e ∷ [])) (records_join numbers (records ++ run) (e ∷ []) below own)
+
+pub job_more : (records run : List Entry) (e : Entry) (job : JobView) → JobOn (records ++ run) job → JobOn (records ++ (run ++ e ∷ [])) job
+job_more records run e job on = subst (λ (l : List Entry). JobOn l job) (append_assoc records run (e ∷ [])) (record {
+  many = (let n = length-append (records ++ run) (e ∷ []) in let low = on.many in omega arith);
+  names = subst (RecordsBelow (before job.first_rowset job.last_mem)) (sym (take-append-le job.many (records ++ run) (e ∷ []) on.many)) on.names;
+})
+
 -- ---- the engine's store
 
 module _ {L D C : Type 0} (log_tells : Bool) (log_seen : L → Files) (tells : Bool) (seen : D → Files) (faults : D → ℕ) (view : EngineView L D C) (is : IsStored log_tells log_seen tells seen faults view) where
@@ -173,8 +210,13 @@ module _ {L D C : Type 0} (log_tells : Bool) (log_seen : L → Files) (tells : B
     count = is.count;
     stands = record { log = is.stands.log; since = (let low = is.stands.since in omega arith); last = (let low = is.stands.last in omega arith); flying = is.stands.flying; untold = is.stands.untold };
     keeps = λ rules first h plan t super one.
-        line_since rules (core_from view first) super view.tablet.names view.tablet.notes view.records is.run view.log.known.count e a c turns stopped quiet rise up
-        (is.keeps rules first (record { opens = h.opens; holds = h.holds }) plan t super one);
+        line_since rules (core_at view one.meta (core_from view first)) super (names_at view one.meta) view.tablet.notes view.records is.run view.log.known.count e a c turns stopped quiet rise up
+        (is.keeps rules first (record { closed = h.closed; opens = h.opens; holds = h.holds }) plan t super one);
+    below = is.below;
+    names_below = is.names_below;
+    near = is.near;
+    rests = is.rests;
+    jobs = is.jobs;
     holds = is.holds;
     columns = is.columns;
     mark = moved_mark view.tablet.mark view.tablet.core.trail e view.tablet.core.a a moves is.mark;
@@ -192,7 +234,12 @@ module _ {L D C : Type 0} (log_tells : Bool) (log_seen : L → Files) (tells : B
     all = all;
     count = count;
     stands = is.stands;
-    keeps = λ rules first h plan t super one. more_durable view.log.known.count log.known.count more (is.keeps rules first (record { opens = h.opens; holds = h.holds }) plan t super one);
+    keeps = λ rules first h plan t super one. more_durable view.log.known.count log.known.count more (is.keeps rules first (record { closed = h.closed; opens = h.opens; holds = h.holds }) plan t super one);
+    below = is.below;
+    names_below = is.names_below;
+    near = is.near;
+    rests = is.rests;
+    jobs = is.jobs;
     holds = is.holds;
     columns = is.columns;
     mark = is.mark;
@@ -240,7 +287,37 @@ module _ {L D C : Type 0} (log_tells : Bool) (log_seen : L → Files) (tells : B
     all = is.all;
     count = is.count;
     stands = is.stands;
-    keeps = λ rules first h plan t super one. is.keeps rules first (record { opens = h.opens; holds = h.holds }) plan t super one;
+    keeps = λ rules first h plan t super one. is.keeps rules first (record { closed = h.closed; opens = h.opens; holds = h.holds }) plan t super one;
+    below = is.below;
+    names_below = is.names_below;
+    near = is.near;
+    rests = is.rests;
+    jobs = is.jobs;
+    holds = is.holds;
+    columns = is.columns;
+    mark = is.mark;
+    marked = is.marked;
+    clock = is.clock;
+    later = is.later;
+    home = is.home;
+  }
+
+  -- passes have something else of maintenance, and each superblock is told of the same stores
+  pub upkeep_stored : (upkeep : UpkeepsView) → upkeep.begun ≡ view.upkeep.begun → ((m : Meta) → IsOneOf view.store m → over_at m.number (over_in upkeep) ≡ over_at m.number (over view)) → (upkeep.publishing ≡ None) ⊎ (view.tablet.core.aloft ≡ [])
+      → ((n : ℕ) (job : JobView) → job_of n upkeep ≡ Some job → JobOn (view.records ++ is.run) job) → Stored (record view { upkeep = upkeep })
+  upkeep_stored upkeep counted same rests jobs = record {
+    run = is.run;
+    all = is.all;
+    count = is.count;
+    stands = is.stands;
+    keeps = λ rules first h plan t super one.
+        subst (λ (o : Option Over). KeepsSince rules (core_over o view.tablet.frozen (core_from view first)) super (names_over o view.tablet.frozen view.tablet.names) view.tablet.notes view.records is.run view.log.known.count) (sym (same one.meta one.one))
+        (is.keeps rules first (record { closed = h.closed; opens = h.opens; holds = h.holds }) plan t super (record { meta = one.meta; one = one.one; held = one.held; hold = one.hold; is = one.is }));
+    below = is.below;
+    names_below = is.names_below;
+    near = subst (λ (n : ℕ). AreNear view.found view.tablet.names view.first_rowset view.store.next_rowset n is.run) (sym counted) is.near;
+    rests = rests;
+    jobs = jobs;
     holds = is.holds;
     columns = is.columns;
     mark = is.mark;
@@ -265,7 +342,12 @@ module _ {L D C : Type 0} (log_tells : Bool) (log_seen : L → Files) (tells : B
     all = is.all;
     count = is.count;
     stands = is.stands;
-    keeps = λ rules first h plan t super one. is.keeps rules first (record { opens = h.opens; holds = h.holds }) plan t super (record { meta = one.meta; one = one.one; held = one.held; hold = one.hold; is = one.is });
+    keeps = λ rules first h plan t super one. is.keeps rules first (record { closed = h.closed; opens = h.opens; holds = h.holds }) plan t super (record { meta = one.meta; one = one.one; held = one.held; hold = one.hold; is = one.is });
+    below = is.below;
+    names_below = is.names_below;
+    near = is.near;
+    rests = is.rests;
+    jobs = is.jobs;
     holds = is.holds;
     columns = is.columns;
     mark = is.mark;

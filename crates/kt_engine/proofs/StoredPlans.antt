@@ -19,7 +19,7 @@ plan_stored {L} {D} {C} log_tells log_seen tells seen faults view is tablet plan
       count = is.count;
       stands = record { log = is.stands.log; since = is.stands.since; last = is.stands.last; flying = is.stands.flying; untold = is.stands.untold };
       keeps = λ rules first h passes t super one.
-          let k = is.keeps rules first (record { opens = h.opens; holds = h.holds }) (no_plan rules view.tablet.core.work none) t super one in
+          let k = is.keeps rules first (record { closed = h.closed; opens = h.opens; holds = h.holds }) (no_plan rules view.tablet.core.work none) t super one in
           record {
             since = k.since;
             rest = k.rest;
@@ -39,6 +39,11 @@ plan_stored {L} {D} {C} log_tells log_seen tells seen faults view is tablet plan
               stands = k.keeps.stands;
             };
           };
+      below = is.below;
+      names_below = is.names_below;
+      near = is.near;
+      rests = is.rests;
+      jobs = is.jobs;
       holds = is.holds;
       columns = is.columns;
       mark = is.mark;

@@ -1,5 +1,5 @@
 -- The life of a write keeps the store of an engine.
-use Rattle.std.proofs.Common.{◌≡◌, ℕ, suc, ◌+◌, ◌-◌, ◌<◌, ◌≤◌, ◌^◌, Bool, true, false, List, [], ◌∷◌, ◌++◌, length, map, None, Some, refl, sym, ap, ◌∙◌, subst, arith, length-append}
+use Rattle.std.proofs.Common.{◌≡◌, ℕ, suc, ◌+◌, ◌-◌, ◌<◌, ◌≤◌, ◌^◌, Bool, true, false, List, [], ◌∷◌, ◌++◌, length, map, None, Some, refl, sym, ap, ◌∙◌, subst, arith, inl, length-append}
 use Rattle.std.specs.Prelude.{◌==◌, not, IsTrue, IfOk, OnErr, Result, Ok, Err}
 use Rattle.std.specs.List.{All, list_any, find, filter}
 use Rattle.kt_disk.specs.Disk.{Files}
@@ -25,25 +25,27 @@ use Rattle.kt_tablet.specs.declared.tablet.Stopped.{Stopped}
 use Rattle.kt_tablet.specs.Visits.{MayBegin, HasBegun, holder_of, HasApplied, HasNoted, IsRunOutcome, MayEnd, HasEnded, IsWritten, HasHandedOut}
 use Rattle.kt_engine.specs.Logged.{Waits, KeepsSince}
 use Rattle.kt_engine.specs.Engines.{EngineView, IsFound, IsEngine, core_from}
-use Rattle.kt_engine.specs.Stored.{IsStored}
+use Rattle.kt_engine.specs.Over.{over_at}
+use Rattle.kt_engine.specs.Stored.{IsStored, over, core_at, names_at, numbers_of}
 use Rattle.kt_engine.proofs.Applied.{noted_here}
 use Rattle.kt_engine.proofs.Begun.{begun_log}
-use Rattle.kt_engine.proofs.Commits.{all_fit, recorded_count}
-use Rattle.kt_engine.proofs.Ended.{own_framed, own_commit, ended_log, at_its_place}
+use Rattle.kt_engine.proofs.Commits.{recorded_count, commit_names}
+use Rattle.kt_engine.proofs.Ended.{own_framed, own_commit, each_below, rows_below, ended_log, at_its_place}
+use Rattle.kt_engine.proofs.Near.{near_replicate, near_commit}
 use Rattle.kt_engine.proofs.Lists.{found_passes}
 use Rattle.kt_engine.proofs.Marks.{still_mark}
 use Rattle.kt_engine.proofs.Places.{advanced_all, any_session, is_session, others_apart, over_found}
 use Rattle.kt_engine.proofs.Records.{all_parts, count_parts}
-use Rattle.kt_engine.proofs.Stored.{begun_since, applied_since, ended_since}
+use Rattle.kt_engine.proofs.Stored.{to_plain, of_plain, plain, none_publishes, below_more, job_more, begun_since, applied_since, ended_since}
 use Rattle.kt_engine.proofs.Waiting.{none_holds, untold_advanced}
 
 module _ {L D C : Type 0} (log_tells : Bool) (log_seen : L → Files) (log_now : L → ℕ) (log_leaves : L → ℕ → Files → Type 0) (log_faults : L → ℕ) (tells : Bool) (seen : D → Files) (faults : D → ℕ) (old : EngineView L D C)
     (e : IsEngine log_tells log_seen log_now log_leaves log_faults old) (is : IsStored log_tells log_seen tells seen faults old) where
   -- a write begins, as in with_begun
-  pub begun_stored : (s i ts m place : ℕ) (ops : List RowOp) (new : View C) → MayBegin old.tablet.core s i ops → holder_of old.tablet.core ops ≡ None → WriteKeeps ops → ts ≡ next_timestamp old.tablet.core.c m → ts < 2 ^ 64
+  pub begun_stored : (s i ts m place : ℕ) (ops : List RowOp) (new : View C) → old.upkeep.publishing ≡ None → MayBegin old.tablet.core s i ops → holder_of old.tablet.core ops ≡ None → WriteKeeps ops → ts ≡ next_timestamp old.tablet.core.c m → ts < 2 ^ 64
       → place ≡ old.log.known.count + length old.log.out + length old.log.queued + 1 → length old.tablet.notes ≡ length old.tablet.core.aloft
       → IsStored log_tells log_seen tells seen faults (record old { tablet = record old.tablet { core = begun old.tablet.core s i ts m ops; clock = new.clock; notes = old.tablet.notes ++ [] ∷ []; places = old.tablet.places ++ (s, place) ∷ []; pool = new.pool }; log = record old.log { queued = old.log.queued ++ Replicate ts ops ∷ []; room = old.log.room - 1 } })
-  begun_stored s i ts m place ops new may free keeps next fits at noted =
+  begun_stored s i ts m place ops new none may free keeps next fits at noted =
       let core = old.tablet.core in
       let above : core.c < ts = omega arith in
       let framed : IsFramed (Replicate ts ops) = record { keeps = record { ts = fits; count = keeps.count; ops = keeps.each }; short = keeps.short ts } in
@@ -56,9 +58,14 @@ module _ {L D C : Type 0} (log_tells : Bool) (log_seen : L → Files) (log_now :
         count = count_parts old.records is.run old.log.out old.log.queued (Replicate ts ops) old.log.known.count is.count;
         stands = begun_log core old.records old.tablet.places is.run s i ts m place ops above framed there rests is.stands;
         keeps = λ rules first h plan t super one.
-            begun_since rules (core_from old first) super old.tablet.names old.tablet.notes old.records old.tablet.places is.run old.log.known.count s i ts m ops above framed may.write plan (none_holds ops core.aloft free) noted
+            begun_since rules (core_at old one.meta (core_from old first)) super (names_at old one.meta) old.tablet.notes old.records old.tablet.places is.run old.log.known.count s i ts m ops above framed may.write plan (none_holds ops core.aloft free) noted
             (record { log = is.stands.log; since = is.stands.since; last = is.stands.last; flying = is.stands.flying; untold = is.stands.untold })
-            (is.keeps rules first (record { opens = h.opens; holds = h.holds }) plan t super one);
+            (is.keeps rules first (record { closed = h.closed; opens = h.opens; holds = h.holds }) plan t super one);
+        below = below_more (numbers_of old) old.records is.run (Replicate ts ops) is.below tt;
+        names_below = is.names_below;
+        near = near_replicate old.found old.tablet.names old.first_rowset old.store.next_rowset old.upkeep.begun is.run ts ops is.near;
+        rests = inl none;
+        jobs = λ n job has. job_more old.records is.run (Replicate ts ops) job (is.jobs n job has);
         holds = is.holds;
         columns = is.columns;
         mark = still_mark old.tablet.mark core.trail (event.Begin s i ts m) core.a is.mark;
@@ -72,11 +79,12 @@ module _ {L D C : Type 0} (log_tells : Bool) (log_seen : L → Files) (log_now :
   pub ended_stored : (s i : ℕ) (f : Aloft) (outcomes : List Outcome) (rows : List CommitRow) (tablet : View C) → find (λ w. w.s == s) old.tablet.core.aloft ≡ Some f → IsOver s old.tablet.core.aloft → length outcomes ≡ length f.ops
       → AreRecorded old.tablet.names outcomes rows → HasHandedOut old.tablet tablet s rows
       → IsStored log_tells log_seen tells seen faults (record old { tablet = record old.tablet { core = ended old.tablet.core s i f.ts; notes = tablet.notes; places = filter (λ p. not (p.0 == s)) old.tablet.places }; log = record old.log { queued = old.log.queued ++ Commit f.ts rows ∷ []; room = old.log.room - 1 } })
-  ended_stored s i f outcomes rows tablet flies over each are handed =
+  ended_stored s i f outcomes rows tablet flies is_over each are handed =
       let core = old.tablet.core in
+      let none = none_publishes old (λ w. w.s == s) f flies is.rests in
       let k = is.stands in
       let framed = own_framed core old.records old.tablet.places is.run s f flies k in
-      let commit = own_commit old.tablet.names (all_fit old.super old.tablet.names e.ready.named.each) f outcomes rows are each framed in
+      let commit = own_commit old.tablet.names e.ready.spelled f outcomes rows are each framed in
       let count : length rows ≡ length f.ops = recorded_count old.tablet.names outcomes rows are ∙ each in
       let apart = others_apart s core.aloft f flies e.ready.apart in
       let own : f.s ≡ s = is_session f.s s (found_passes (λ w. w.s == s) core.aloft f flies) in
@@ -88,9 +96,16 @@ module _ {L D C : Type 0} (log_tells : Bool) (log_seen : L → Files) (log_now :
         count = count_parts old.records is.run old.log.out old.log.queued (Commit f.ts rows) old.log.known.count is.count;
         stands = stands;
         keeps = λ rules first h plan t super one.
-            ended_since rules (core_from old first) super old.tablet.names old.tablet.notes tablet.notes old.records old.tablet.places is.run old.log.known.count s i handed.j f outcomes rows stands.log
-            (record { log = k.log; since = k.since; last = k.last; flying = k.flying; untold = k.untold }) e.ready.apart at own (over_found s core.aloft f flies over) handed.rows_are handed.notes are
-            (is.keeps rules first (record { opens = h.opens; holds = h.holds }) plan t super one);
+            of_plain rules (ended (core_from old first) s i f.ts) super old.tablet.names tablet.notes old.records (is.run ++ Commit f.ts rows ∷ []) old.log.known.count old.tablet.frozen (over_at one.meta.number (over old)) (plain old none one.meta)
+            (ended_since rules (core_from old first) super old.tablet.names old.tablet.notes tablet.notes old.records old.tablet.places is.run old.log.known.count s i handed.j f outcomes rows stands.log
+            (record { log = k.log; since = k.since; last = k.last; flying = k.flying; untold = k.untold }) e.ready.apart at own (over_found s core.aloft f flies is_over) handed.rows_are handed.notes are
+            (to_plain rules (core_from old first) super old.tablet.names old.tablet.notes old.records is.run old.log.known.count old.tablet.frozen (over_at one.meta.number (over old)) (plain old none one.meta)
+            (is.keeps rules first (record { closed = h.closed; opens = h.opens; holds = h.holds }) plan t super one)));
+        below = below_more (numbers_of old) old.records is.run (Commit f.ts rows) is.below (rows_below (numbers_of old) old.tablet.names outcomes rows (each_below (numbers_of old) old.tablet.names is.names_below) are, tt);
+        names_below = is.names_below;
+        near = near_commit old.found old.tablet.names old.first_rowset old.store.next_rowset old.upkeep.begun is.run f.ts rows (commit_names old.tablet.names f.ts outcomes rows are) is.near;
+        rests = inl none;
+        jobs = λ n job has. job_more old.records is.run (Commit f.ts rows) job (is.jobs n job has);
         holds = is.holds;
         columns = is.columns;
         mark = still_mark old.tablet.mark core.trail (event.End s i f.ts) core.a is.mark;
@@ -109,6 +124,7 @@ module _ {L D C : Type 0} (log_tells : Bool) (log_seen : L → Files) (log_now :
       let log = old.records ++ is.run in
       let known = is.stands in
       let here = noted_here old.tablet new log s at outcome known.flying e.ready.apart h note in
+      let none = none_publishes old (λ w. w.s == s) h.flight h.flies is.rests in
       record {
         run = is.run;
         all = is.all;
@@ -121,10 +137,17 @@ module _ {L D C : Type 0} (log_tells : Bool) (log_seen : L → Files) (log_now :
           untold = untold_advanced log h.j core.aloft known.untold;
         };
         keeps = λ rules first found plan t super one.
-            applied_since rules (core_from old first) super old.tablet.names old.tablet.notes new.notes old.records old.tablet.places is.run old.log.known.count (core_from (record old { tablet = new }) first) s at outcome (stands first found.opens)
+            of_plain rules (record (core_from old first) { aloft = on_nth h.j advance core.aloft; stores = new.core.stores }) super old.tablet.names new.notes old.records is.run old.log.known.count old.tablet.frozen (over_at one.meta.number (over old)) (plain old none one.meta)
+            (applied_since rules (core_from old first) super old.tablet.names old.tablet.notes new.notes old.records old.tablet.places is.run old.log.known.count (core_from (record old { tablet = new }) first) s at outcome (stands first found.opens)
             (record { log = known.log; since = known.since; last = known.last; flying = known.flying; untold = known.untold }) e.ready.apart stored noted h.j h.flight h.op h.flies h.next h.row
             (λ under. ap (λ (c : Core). record c { first = first }) (h.stores under)) (record { name = here.name; there = here.there; is = here.is }) (run_outcome first found.opens)
-            (is.keeps rules first (record { opens = found.opens; holds = found.holds }) plan t super one);
+            (to_plain rules (core_from old first) super old.tablet.names old.tablet.notes old.records is.run old.log.known.count old.tablet.frozen (over_at one.meta.number (over old)) (plain old none one.meta)
+            (is.keeps rules first (record { closed = found.closed; opens = found.opens; holds = found.holds }) plan t super one)));
+        below = is.below;
+        names_below = is.names_below;
+        near = is.near;
+        rests = inl none;
+        jobs = is.jobs;
         holds = is.holds;
         columns = is.columns;
         mark = is.mark;
@@ -140,19 +163,19 @@ module _ {L D C : Type 0} (log_tells : Bool) (log_seen : L → Files) (log_now :
   as_told tablet log was side is_tablet is_log h = subst (λ (t : View C). IsStored log_tells log_seen tells seen faults (record old { tablet = t; log = log })) (sym is_tablet)
       (subst (λ (l : SideView L). IsStored log_tells log_seen tells seen faults (record old { tablet = was; log = l })) (sym is_log) h)
 
-  pub has_begun_stored : (tablet : View C) (log : SideView L) (s i ts place : ℕ) (ops held logged : List RowOp) → held ≡ ops → logged ≡ ops
+  pub has_begun_stored : (tablet : View C) (log : SideView L) (s i ts place : ℕ) (ops held logged : List RowOp) → old.upkeep.publishing ≡ None → held ≡ ops → logged ≡ ops
       → tablet ≡ record old.tablet { core = tablet.core; clock = tablet.clock; notes = tablet.notes; places = tablet.places; pool = tablet.pool } → tablet.notes ≡ old.tablet.notes ++ [] ∷ [] → tablet.places ≡ old.tablet.places ++ (s, place) ∷ []
       → HasBegun old.tablet.core tablet.core s i held ts → log ≡ record old.log { queued = old.log.queued ++ Replicate ts logged ∷ []; room = old.log.room - 1 }
       → MayBegin old.tablet.core s i ops → holder_of old.tablet.core ops ≡ None → WriteKeeps ops → ts < 2 ^ 64 → place ≡ old.log.known.count + length old.log.out + length old.log.queued + 1
       → length old.tablet.notes ≡ length old.tablet.core.aloft → IsStored log_tells log_seen tells seen faults (record old { tablet = tablet; log = log })
-  has_begun_stored tablet log s i ts place ops held logged same_held same_logged beside is_notes is_places begins is_log may free keeps fits at noted =
+  has_begun_stored tablet log s i ts place ops held logged none same_held same_logged beside is_notes is_places begins is_log may free keeps fits at noted =
       let is_core : tablet.core ≡ begun old.tablet.core s i ts begins.m ops = begins.core ∙ ap (λ (o : List RowOp). begun old.tablet.core s i ts begins.m o) same_held in
       let is_tablet : tablet ≡ record old.tablet { core = begun old.tablet.core s i ts begins.m ops; clock = tablet.clock; notes = old.tablet.notes ++ [] ∷ []; places = old.tablet.places ++ (s, place) ∷ []; pool = tablet.pool } =
       beside ∙ ap (λ (k : Core). record old.tablet { core = k; clock = tablet.clock; notes = tablet.notes; places = tablet.places; pool = tablet.pool }) is_core
       ∙ ap (λ (ns : List (List CommitRow)). record old.tablet { core = begun old.tablet.core s i ts begins.m ops; clock = tablet.clock; notes = ns; places = tablet.places; pool = tablet.pool }) is_notes
       ∙ ap (λ (ps : List (ℕ × ℕ)). record old.tablet { core = begun old.tablet.core s i ts begins.m ops; clock = tablet.clock; notes = old.tablet.notes ++ [] ∷ []; places = ps; pool = tablet.pool }) is_places in
       let is_log' : log ≡ record old.log { queued = old.log.queued ++ Replicate ts ops ∷ []; room = old.log.room - 1 } = is_log ∙ ap (λ (o : List RowOp). record old.log { queued = old.log.queued ++ Replicate ts o ∷ []; room = old.log.room - 1 }) same_logged in
-      as_told tablet log _ _ is_tablet is_log' (begun_stored s i ts begins.m place ops tablet may free keeps begins.time fits at noted)
+      as_told tablet log _ _ is_tablet is_log' (begun_stored s i ts begins.m place ops tablet none may free keeps begins.time fits at noted)
 
   pub has_ended_stored : (tablet : View C) (log : SideView L) (s i ts : ℕ) (outcomes : List Outcome) (rows : List CommitRow) → tablet ≡ record old.tablet { core = tablet.core; notes = tablet.notes; places = tablet.places }
       → tablet.places ≡ filter (λ p. not (p.0 == s)) old.tablet.places → HasEnded old.tablet.core tablet.core s i ts → log ≡ record old.log { queued = old.log.queued ++ Commit ts rows ∷ []; room = old.log.room - 1 }

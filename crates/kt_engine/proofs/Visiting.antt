@@ -7,7 +7,10 @@ use Rattle.kt_history.specs.declared.event.Event.{Event}
 use Rattle.kt_history.specs.declared.event.Event.TheVariants as event
 use Rattle.kt_history.specs.declared.operation.RowOp.{RowOp}
 use Rattle.kt_history.specs.declared.change.Outcome.{Outcome}
+use Rattle.kt_history.specs.declared.target.Target.{Target}
+use Rattle.kt_history.specs.Stores.{Store}
 use Rattle.kt_records.specs.declared.entry.Entry.{Entry}
+use Rattle.kt_pool.specs.Contents.{Contents}
 use Rattle.kt_seatlock.specs.Trails.{Adds}
 use Rattle.kt_histlaws.specs.Core.{Core}
 use Rattle.kt_histlaws.specs.Events.{begun, ended}
@@ -21,6 +24,7 @@ use Rattle.kt_journal.specs.Open.{JournalView}
 use Rattle.kt_storeside.specs.Sides.{StoreView}
 use Rattle.kt_engine.specs.Engines.{EngineView}
 use Rattle.kt_engine.specs.Sessions.{runs}
+use Rattle.kt_engine.specs.Jobs.{UpkeepView, UpkeepsView, HasUpkeep, upkeep_at}
 use Rattle.kt_engine.proofs.Sessions.{runs_fewer}
 use Rattle.kt_engine.specs.Visits.{session_of, out_of, lent_of, Root, root_of, IsVisit}
 
@@ -52,7 +56,7 @@ core_visit : {L D C : Type 0} (n : ℕ) (v : EngineView L D C) (tablet : View C)
 core_visit n v tablet line parts places root = record {
   line = line;
   parts = λ k ne i. record {
-    pass = record { session = parts k ne i; place = places k ne i; out = out_of v.log.holder v.log.out k; runs = runs k v.running };
+    pass = record { session = parts k ne i; place = places k ne i; out = out_of v.log.holder v.log.out k; runs = runs k v.running; upkeep = upkeep_at k v.upkeep.passes };
     lent = lent_of v.log.holder v.log.known k;
     root = root i;
   };
@@ -85,7 +89,7 @@ beside_visit : {L D C : Type 0} (n : ℕ) (v : EngineView L D C) (tablet : View 
 beside_visit n v tablet log a lent = record {
   line = a.line;
   parts = λ k ne i. let p = a.parts k ne i in record {
-    pass = record { session = p.pass.session; place = p.pass.place; out = out_of (lent i).0 (lent i).1 k; runs = p.pass.runs };
+    pass = record { session = p.pass.session; place = p.pass.place; out = out_of (lent i).0 (lent i).1 k; runs = p.pass.runs; upkeep = p.pass.upkeep };
     lent = lent_of (lent i).0 (lent i).2 k;
     root = p.root;
   };
@@ -131,7 +135,7 @@ pub over_visit : {L D C : Type 0} (n : ℕ) (v : EngineView L D C) (running : Li
 over_visit n v running fewer = record {
   line = inl refl;
   parts = λ k ne i. record {
-    pass = record { session = part v.tablet.core k; place = place_at k v.tablet.places; out = out_of v.log.holder v.log.out k; runs = (ap (runs k) fewer ∙ runs_fewer v.running n k ne) i };
+    pass = record { session = part v.tablet.core k; place = place_at k v.tablet.places; out = out_of v.log.holder v.log.out k; runs = (ap (runs k) fewer ∙ runs_fewer v.running n k ne) i; upkeep = upkeep_at k v.upkeep.passes };
     lent = lent_of v.log.holder v.log.known k;
     root = root_of v;
   };
@@ -156,7 +160,7 @@ out_visit n v log home lent = record {
   parts = λ k ne.
       let out = ap (λ h. out_of h log.out k) lent ∙ none_out n k log.out ne ∙ sym (ap (λ h. out_of h v.log.out k) home) in
       let known = ap (λ h. lent_of h log.known k) lent ∙ none_lent n k log.known ne ∙ sym (ap (λ h. lent_of h v.log.known k) home) in
-      λ i. record { pass = record { session = part v.tablet.core k; place = place_at k v.tablet.places; out = out i; runs = runs k v.running }; lent = known i; root = root_of v };
+      λ i. record { pass = record { session = part v.tablet.core k; place = place_at k v.tablet.places; out = out i; runs = runs k v.running; upkeep = upkeep_at k v.upkeep.passes }; lent = known i; root = root_of v };
 }
 
 -- ---- a turn of the store
@@ -166,8 +170,36 @@ pub turn_visit : {L D C : Type 0} (n : ℕ) (v : EngineView L D C) (store : Stor
 turn_visit n v store home columns = record {
   line = inl refl;
   parts = λ k ne i. record {
-    pass = record { session = part v.tablet.core k; place = place_at k v.tablet.places; out = out_of v.log.holder v.log.out k; runs = runs k v.running };
+    pass = record { session = part v.tablet.core k; place = place_at k v.tablet.places; out = out_of v.log.holder v.log.out k; runs = runs k v.running; upkeep = upkeep_at k v.upkeep.passes };
     lent = lent_of v.log.holder v.log.known k;
     root = record (root_of v) { columns = columns i; turn = home i };
   };
+}
+
+-- ---- what a pass has of maintenance
+
+pub upkeep_visit : {L D C : Type 0} (n : ℕ) (u : UpkeepView) (v : EngineView L D C) (upkeep : UpkeepsView) → HasUpkeep n u v.upkeep upkeep → IsVisit n v (record v { upkeep = upkeep })
+upkeep_visit n u v upkeep has = record {
+  line = inl refl;
+  parts = λ k ne i. record {
+    pass = record { session = part v.tablet.core k; place = place_at k v.tablet.places; out = out_of v.log.holder v.log.out k; runs = runs k v.running; upkeep = has.others k ne i };
+    lent = lent_of v.log.holder v.log.known k;
+    root = root_of v;
+  };
+}
+
+-- the stores, and what this pass has of maintenance: neither is a part of another pass
+pub shelf_visit : {L D C : Type 0} (n : ℕ) (u : UpkeepView) (v : EngineView L D C) (tablet : View C) (upkeep : UpkeepsView) (stores : List Store) (names : List Target) (frozen : ℕ) (pool : Contents)
+    → tablet ≡ record v.tablet { core = record v.tablet.core { stores = stores }; names = names; frozen = frozen; pool = pool } → HasUpkeep n u v.upkeep upkeep → IsVisit n v (record v { tablet = tablet; upkeep = upkeep })
+shelf_visit n u v tablet upkeep stores names frozen pool is has = record {
+  line = inl (ap (λ t. t.core.trail) is);
+  parts = λ k ne.
+      let session = ap (λ t. part t.core k) is in
+      let place = ap (λ t. place_at k t.places) is in
+      let root = ap (tablet_root v) is in
+      λ i. record {
+        pass = record { session = session i; place = place i; out = out_of v.log.holder v.log.out k; runs = runs k v.running; upkeep = has.others k ne i };
+        lent = lent_of v.log.holder v.log.known k;
+        root = root i;
+      };
 }

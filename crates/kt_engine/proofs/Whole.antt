@@ -20,7 +20,7 @@ use Rattle.kt_reopen.specs.Both.{super_in}
 use Rattle.kt_storeside.specs.Supers.{HasSuper}
 use Rattle.kt_engine.specs.Logged.{LogStands, KeepsSince}
 use Rattle.kt_engine.specs.Engines.{EngineView, IsEngine, core_from}
-use Rattle.kt_engine.specs.Stored.{IsStored, AreMarked}
+use Rattle.kt_engine.specs.Stored.{IsStored, AreMarked, core_at, names_at}
 use Rattle.kt_engine.specs.Pairs.{RecoversAllOfBoth, LeavesPublished}
 use Rattle.kt_engine.proofs.Devices.{goes_whole}
 use Rattle.kt_engine.proofs.Marks.{of_each}
@@ -59,7 +59,7 @@ module _ {L D C : Type 0} (log_tells : Bool) (log_seen : L → Files) (log_now :
       let files = is.holds t view.store.meta (inl refl) in
       let super = super_in view.store.meta files.0 in
       let k = is.keeps rules first content plan t super (record { meta = view.store.meta; one = inl refl; held = files.0; hold = files.1; is = refl }) in
-      let holds = since_all rules (core_from view first) super view.tablet.names view.tablet.notes view.records is.run view.log.known.count is.stands.log k in
+      let holds = since_all rules (core_at view view.store.meta (core_from view first)) super (names_at view view.store.meta) view.tablet.notes view.records is.run view.log.known.count is.stands.log k in
       let last : max super.c (last_of (view.records ++ is.run)) ≡ view.tablet.core.c = greatest super.c (last_of (view.records ++ is.run)) view.tablet.core.c clock is.stands.last in
       record {
         superblock = that.superblock;

@@ -1,7 +1,17 @@
 pub mod Memory
+pub mod Near
 pub mod Logged
+pub mod Over
+pub mod Jobs
+pub mod Outputs
+pub mod Upkeeps
 pub mod Engines
 pub mod Sessions
 pub mod Visits
+pub mod JobMeta
 pub mod Stored
 pub mod Pairs
+pub mod Columns
+pub mod JobSteps
+pub mod Rounds
+pub mod Calls

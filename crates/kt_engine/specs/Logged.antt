@@ -26,7 +26,7 @@ use Rattle.kt_content.specs.Content.{HoldsKey, IsContent as HoldsPast}
 use Rattle.kt_content.specs.InMemory.{Mirrors}
 use Rattle.kt_content.specs.Records.{AllTold}
 use Rattle.kt_content.specs.Recovering.{IsRecovered}
-use Rattle.kt_content.specs.RunEvents.{Numbers}
+use Rattle.kt_content.specs.RunEvents.{Numbers, RecordsBelow}
 use Rattle.kt_content.specs.Recoverable.{SuperStands}
 use Rattle.kt_histlaws.specs.Pending.{Aloft}
 use Rattle.kt_histlaws.specs.Core.{Core, run_past}
@@ -34,6 +34,7 @@ use Rattle.kt_histlaws.specs.Histories.{hists, past_hist}
 use Rattle.kt_tablet.specs.Rows.{AreRecorded}
 use Rattle.kt_tablet.specs.Views.{place_at}
 use Rattle.kt_engine.specs.Memory.{by_name, resident, AreNamed}
+use Rattle.kt_engine.specs.Near.{NamesEach}
 
 -- the rules of the table take each write of the plan
 abbrev pub PlanPasses : Rules → Workload → Type 0
@@ -156,11 +157,11 @@ pub record KeepsSince (rules : Rules) (core : Core) (super : Super) (names : Lis
   pub named : AreNamed super names
   pub keeps : KeepsFrom rules core super names notes (records ++ since) rest low (with_records core.work.fill core.first since)
 
--- A crash left this image: the records that opening found and some of the run, whose COMMITs name the engine's stores alone.
-pub record HoldsRecords (found : List Entry) (stores : List Target) (image : Files) : Type 0 where
+-- A crash left this image: the records that opening found and some of the run, whose COMMITs name such stores alone.
+pub record HoldsRecords (found : List Entry) (known : Target → Type 0) (image : Files) : Type 0 where
   pub run : List Entry
   pub reads : log_of image ≡ Ok (found ++ run)
-  pub names : All (NamesOnly stores) run
+  pub names : All (NamesEach known) run
 
 -- A crash left this image: the records that opening found and some of the run, whose COMMITs name the engine's stores alone. With the superblock it holds
 -- the opened past with the run's writes up to some time, each acknowledged one among them, and nothing later than the run's last timestamp.
@@ -190,14 +191,14 @@ pub record HoldsRun (rules : Rules) (core : Core) (super : Super) (found : List 
   pub last : last_of records ≤ core.c
 
 -- It holds, from the superblock's mark on, the opened past with the run's writes up to some time, each acknowledged one among them, and nothing later than
--- the run's last timestamp.
-pub record HoldsUpTo (rules : Rules) (core : Core) (super : Super) (found : List Entry) (stores : List Target) (image : Files) : Type 0 where
+-- the run's last timestamp. Its COMMITs name no store of a number that the engine has not given.
+pub record HoldsUpTo (rules : Rules) (core : Core) (super : Super) (found : List Entry) (numbers : Numbers) (image : Files) : Type 0 where
   pub records : List Entry
   pub reads : log_of image ≡ Ok records
   pub log : IsLog records
   pub run : List Entry
   pub front : records ≡ found ++ run
-  pub names : All (NamesOnly stores) run
+  pub names : RecordsBelow numbers records
   pub t : ℕ
   pub after_opening : core.opened ≤ t
   pub acknowledged : AcknowledgedBy t core.trail

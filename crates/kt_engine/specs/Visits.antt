@@ -1,10 +1,10 @@
 -- A visit of a pass to an engine: what the lock asks of the value that is put back.
-use Rattle.std.specs.Prelude.{◌==◌, ℕ, Bool, List, Option, Some, None, if◌then◌else◌}
+use Rattle.std.specs.Prelude.{◌≡◌, ◌==◌, ℕ, Bool, List, Option, Some, None, if◌then◌else◌}
 use Rattle.kt_history.specs.declared.event.Event.{Event}
 use Rattle.kt_history.specs.declared.event.Event.TheVariants as event
+use Rattle.kt_history.specs.declared.target.Target.{Target}
 use Rattle.kt_records.specs.declared.entry.Entry.{Entry}
 use Rattle.kt_seatlock.specs.Trails.{Adds, KeepsParts}
-use Rattle.kt_history.specs.declared.target.Target.{Target}
 use Rattle.kt_history.specs.Machine.{Workload}
 use Rattle.kt_journal.specs.Open.{JournalView}
 use Rattle.kt_history.specs.Stores.{Store}
@@ -14,6 +14,7 @@ use Rattle.kt_tablet.specs.Views.{place_at}
 use Rattle.kt_schema.specs.declared.column.Column.{Column}
 use Rattle.kt_engine.specs.Engines.{EngineView}
 use Rattle.kt_engine.specs.Sessions.{runs}
+use Rattle.kt_engine.specs.Jobs.{UpkeepView, upkeep_at}
 
 -- the session of a line, if it has one
 abbrev pub session_of : Event → Option ℕ
@@ -34,17 +35,18 @@ out_of None out n = None
 out_of (Some by) out n = if by == n then Some out else None
 
 -- What an engine has of one pass: its flying write and where its session stands, the place of that write's REPLICATE, the records
--- that it has out, and whether its session runs.
+-- that it has out, whether its session runs, and what it has of maintenance.
 pub record PassPart : Type 0 where
   pub session : SessionPart
   pub place : Option ℕ
   pub out : Option (List Entry)
   pub runs : Bool
+  pub upkeep : UpkeepView
 
 abbrev pub part_of : {L D C : Type 0} → EngineView L D C → ℕ → PassPart
-part_of view n = record { session = part view.tablet.core n; place = place_at n view.tablet.places; out = out_of view.log.holder view.log.out n; runs = runs n view.running }
+part_of view n = record { session = part view.tablet.core n; place = place_at n view.tablet.places; out = out_of view.log.holder view.log.out n; runs = runs n view.running; upkeep = upkeep_at n view.upkeep.passes }
 
--- What is alike in every part and never changes while passes visit: what is to be run, what opening found, the columns of each superblock,
+-- What is alike in every part and never changes while passes visit: what is to be run, what opening found, the names of its stores then and the first rowset number, the columns of each superblock,
 -- and which pass has the store out: none between two visits, since one visit makes a whole turn.
 pub record Root (L D C : Type 0) : Type 0 where
   pub work : Workload
@@ -53,11 +55,12 @@ pub record Root (L D C : Type 0) : Type 0 where
   pub mark : ℕ
   pub records : List Entry
   pub super : Super
-  pub names : List Target
   pub began : C
   pub device : L
   pub store : D
   pub columns : List Column
+  pub found : List Target
+  pub first_rowset : ℕ
   pub turn : Option ℕ
 
 abbrev pub root_of : {L D C : Type 0} → EngineView L D C → Root L D C
@@ -68,11 +71,12 @@ root_of view = record {
   mark = view.tablet.mark;
   records = view.records;
   super = view.super;
-  names = view.tablet.names;
   began = view.tablet.opened;
   device = view.device;
   store = view.store_device;
   columns = view.store.meta.schema;
+  found = view.found;
+  first_rowset = view.first_rowset;
   turn = view.store.holder;
 }
 
@@ -94,3 +98,7 @@ part_in view n = record { pass = part_of view n; lent = lent_of view.log.holder 
 pub record IsVisit {L D C : Type 0} (n : ℕ) (old new : EngineView L D C) : Type 0 where
   pub line : Adds session_of n old.tablet.core.trail new.tablet.core.trail
   pub parts : KeepsParts part_in n old new
+
+-- a step of a visit without a line, and one behind it
+abbrev pub StepsAreOne : (L D C : Type 0) → Type 0
+StepsAreOne L D C = (n : ℕ) (a b c : EngineView L D C) → IsVisit n a b → b.tablet.core.trail ≡ a.tablet.core.trail → IsVisit n b c → IsVisit n a c

@@ -1,5 +1,5 @@
 //! The engine, as it is opened and taken apart.
-ghost use Rattle.std.specs.Prelude.{map, not, List, ◌≡◌, ◌<◌, ◌≤◌, ◌^◌, ℕ, IsTrue, IfOk, IfErr, Some, None, false, true, [], ◌++◌, ◌+◌, length};
+ghost use Rattle.std.specs.Prelude.{map, not, List, ◌≡◌, ◌<◌, ◌≤◌, ◌^◌, ℕ, IsTrue, IfOk, IfErr, Some, None, false, true, [], ◌++◌, ◌+◌, suc, length};
 ghost use Rattle.kt_history.specs.History.{Past};
 ghost use Rattle.kt_history.specs.Machine.{first_turns};
 ghost use Rattle.kt_journal.specs.Open.{JournalView};
@@ -20,10 +20,14 @@ ghost use Rattle.kt_files.specs.Reading.{HoldAll};
 ghost use Rattle.kt_reopen.specs.Both.{super_in};
 ghost use Rattle.kt_storeside.specs.Sides.{IsSide};
 ghost use Rattle.kt_engine.specs.Engines.{EngineView, IsEngine, IsLogged, IsHome, KeepsOthers, TellsStop, LeavesRecords, Recovers, RecoversEach, RecoversAll, are_whole};
-ghost use Rattle.kt_engine.specs.Stored.{AreMarked, IsStored, RecoversPair, RecoversBoth, HasFailed};
+ghost use Rattle.kt_engine.specs.Near.{first_number};
+ghost use Rattle.kt_engine.specs.Stored.{next_given, AreMarked, IsStored, RecoversPair, RecoversBoth, HasFailed};
+ghost use Rattle.kt_engine.specs.Jobs.{no_upkeep};
+ghost use Rattle.kt_engine.specs.Over.{AreShelved};
 ghost use Rattle.kt_engine.specs.Pairs.{RecoversAllOfBoth, LeavesPublished};
 
 use crate::running::Running;
+use crate::upkeep::{Upkeeps, no_upkeep};
 use kt_base::Clock;
 use kt_disk::Disk;
 use kt_diskrowset::DiskRowSet;
@@ -59,6 +63,10 @@ pub struct Engine<L: Disk, D: Disk, C: Clock> {
     pub(crate) superblock: Snapshot<Superblock>,
     pub(crate) device: Snapshot<L>,
     pub(crate) store_device: Snapshot<D>,
+    pub(crate) upkeep: Upkeeps,
+    pub(crate) first_file: u64,
+    pub(crate) first_rowset: u64,
+    pub(crate) opened: Snapshot<Tablet<DiskRowSet, C>>,
 }
 
 impl<L: Disk, D: Disk, C: Clock> Model for Engine<L, D, C> {
@@ -67,10 +75,10 @@ impl<L: Disk, D: Disk, C: Clock> Model for Engine<L, D, C> {
 
     ghost Value = { EngineView L D C };
 
-    ghost view = { λ e. record { tablet = e.tablet.value; log = e.log.value; records = e.records.value; super = e.superblock.value; device = e.device.value; store = e.store.value; store_device = e.store_device.value; running = e.running } };
+    ghost view = { λ e. record { tablet = e.tablet.value; log = e.log.value; records = e.records.value; super = e.superblock.value; device = e.device.value; store = e.store.value; store_device = e.store_device.value; running = e.running; upkeep = e.upkeep; first_file = e.first_file; first_rowset = e.first_rowset; found = e.opened.value.names } };
 
-    ghost invariant = { λ e. IsEngine L.tells L.seen L.now L.leaves L.faults (record { tablet = e.tablet.value; log = e.log.value; records = e.records.value; super = e.superblock.value; device = e.device.value; store = e.store.value; store_device = e.store_device.value; running = e.running })
-        × IsStored L.tells L.seen D.tells D.seen D.faults (record { tablet = e.tablet.value; log = e.log.value; records = e.records.value; super = e.superblock.value; device = e.device.value; store = e.store.value; store_device = e.store_device.value; running = e.running }) };
+    ghost invariant = { λ e. IsEngine L.tells L.seen L.now L.leaves L.faults (record { tablet = e.tablet.value; log = e.log.value; records = e.records.value; super = e.superblock.value; device = e.device.value; store = e.store.value; store_device = e.store_device.value; running = e.running; upkeep = e.upkeep; first_file = e.first_file; first_rowset = e.first_rowset; found = e.opened.value.names })
+        × IsStored L.tells L.seen D.tells D.seen D.faults (record { tablet = e.tablet.value; log = e.log.value; records = e.records.value; super = e.superblock.value; device = e.device.value; store = e.store.value; store_device = e.store_device.value; running = e.running; upkeep = e.upkeep; first_file = e.first_file; first_rowset = e.first_rowset; found = e.opened.value.names }) };
 }
 
 /// What an engine is taken apart into.
@@ -121,11 +129,13 @@ impl<L: Disk, D: Disk + Drop, C: Clock> Engine<L, D, C> {
     ) -> Result<Engine<L, D, C>, (Tablet<DiskRowSet, C>, Journal<L>, StoreSide<D>)>
         requires fresh { (tablet.core.trail ≡ []) × (tablet.core.aloft ≡ []) × (tablet.core.stopped ≡ false) }
         requires named { AreNamed found.superblock.now tablet.names }
+        requires shelved { AreShelved (suc tablet.frozen) (2 ^ 64) tablet.names }
         requires log { IsLog (found.records.now ++ queued) }
         requires commits { AreCommits queued }
         requires taken_up { (rules : Rules) (first : Past) → Opens tablet.opening tablet.mark tablet.core.opened first → HoldsPast rules tablet.core.work.fill found.superblock.now found.records.now tablet.core.opened first
             → TakesUp tablet.core.work.fill found.superblock.now tablet.names tablet.core.stores found.records.now queued tablet.core.opened first }
-        requires numbers { (numbers : Numbers) × NumbersAreFresh found.superblock.now (found.records.now ++ queued) (map name_of tablet.names) numbers }
+        // The store gives rowset numbers, and the first MemRowSet has one, above those that a superblock, a record or a store has.
+        requires numbers { (numbers : Numbers) × NumbersAreFresh found.superblock.now (found.records.now ++ queued) (map name_of tablet.names) numbers × (numbers.next ≤ next_given store.next_rowset) × (numbers.active ≤ first_number tablet.names) }
         requires untold { UntoldFly (found.records.now ++ queued) tablet.core.aloft }
         requires since { tablet.core.opened ≤ tablet.core.c }
         requires last { last_of (found.records.now ++ queued) ≤ tablet.core.c }
@@ -151,6 +161,10 @@ impl<L: Disk, D: Disk + Drop, C: Clock> Engine<L, D, C> {
           store = store;
           store_device = found.entry.store.value;
           running = [];
+          upkeep = no_upkeep;
+          first_file = store.next_file;
+          first_rowset = store.next_rowset;
+          found = tablet.names;
         }) }
         ensures back { IfErr result (λ e. (e.0 ≡ tablet) × (e.1 ≡ journal) × (e.2 ≡ store)) }
     {
@@ -159,6 +173,9 @@ impl<L: Disk, D: Disk + Drop, C: Clock> Engine<L, D, C> {
         let Ok(running) = Running::new(alloc) else {
             return Err((tablet, journal, store));
         };
+        let upkeep = no_upkeep(alloc);
+        let (first_rowset, first_file) = store.next_numbers();
+        let opened = Snapshot::of(&tablet);
         let store = match Box::new(alloc, store) {
             Ok(store) => store,
             Err(no) => return Err((tablet, journal, no.value)),
@@ -177,6 +194,10 @@ impl<L: Disk, D: Disk + Drop, C: Clock> Engine<L, D, C> {
                 superblock: Snapshot::of(found.superblock),
                 device: found.device,
                 store_device: found.store,
+                upkeep,
+                first_file,
+                first_rowset,
+                opened,
             }),
             Err(no) => {
                 let (journal, _) = Box::into_inner(log).take_apart();
@@ -273,6 +294,10 @@ impl<L: Disk, D: Disk + Drop, C: Clock> Engine<L, D, C> {
             superblock: _,
             device: _,
             store_device: _,
+            upkeep: _,
+            first_file: _,
+            first_rowset: _,
+            opened: _,
         } = self;
         let (clock, trail) = Box::into_inner(tablet).take_apart();
         let (journal, _) = Box::into_inner(log).take_apart();

@@ -5,18 +5,29 @@
 #![tactic(auto)]
 
 pub mod engine;
+mod filled;
+mod fitting;
+pub mod job;
+mod job_meta;
+pub mod laws;
 pub mod log;
+pub mod outputs;
+pub mod round;
 mod running;
 pub mod scan;
 pub mod session;
 pub mod shared;
 pub mod store;
+pub mod upkeep;
 pub mod write;
 
 pub use engine::{Engine, Found, Parts};
+pub use job::{JobInput, JobNo, JobWait, MaintNo};
+pub use kt_pick::{Stats, Want};
 pub use kt_reopen::Superblock;
 pub use kt_tablet::{BeginNo, Copied, LookNo, ReadView, Snap, SnapNo, Stopped};
 pub use log::{Broken, LogNo};
+pub use round::WantList;
 pub use shared::Part;
 pub use store::{Purpose, StoreNo};
 pub use write::{Draft, WriteDone};

@@ -1,5 +1,5 @@
 //! The life of a scan, the mark, and maintenance commands.
-ghost use Rattle.std.specs.Prelude.{◌≡◌, IfOk, IfErr, OnErr, OnOk, Err, false, true};
+ghost use Rattle.std.specs.Prelude.{◌≡◌, IfOk, IfErr, OnErr, OnOk, Err, Some, false, true};
 ghost use Rattle.kt_history.specs.declared.event.Event.TheVariants.{Chore};
 ghost use Rattle.kt_history.specs.History.{Past};
 ghost use Rattle.kt_diskrowset.specs.Page.{row_told};
@@ -7,6 +7,11 @@ ghost use Rattle.kt_histlaws.specs.Events.{answered};
 ghost use Rattle.kt_tablet.specs.Visits.{MayLook, HasLooked, MayMark, HasMarked, MayAnswerChore};
 ghost use Rattle.kt_tablet.specs.Reads.{MaySnapshot, HasRead, ShowsRun, IsCopied, IsNoRead, LeavesRead};
 ghost use Rattle.kt_engine.specs.Engines.{IsFound, core_from};
+ghost use Rattle.kt_base.specs.declared.chore.Chore.{Chore as MaintSpec};
+ghost use Rattle.kt_history.specs.declared.command.Command.{Command};
+ghost use Rattle.kt_history.specs.Machine.{command_at};
+ghost use Rattle.kt_engine.specs.Calls.{IsThrough};
+ghost use Rattle.kt_engine.specs.Jobs.{upkeep_at};
 ghost use Rattle.kt_engine.specs.Visits.{IsVisit};
 
 use crate::engine::Engine;
@@ -67,9 +72,10 @@ impl<L: Disk, D: Disk + Drop, C: Clock> Engine<L, D, C> {
         self.tablet.mark(number, index, to)
     }
 
-    /// Answers a maintenance command.
+    /// Answers a maintenance command. The last round of its pass was of this command, and nothing of it is left to do.
     pub fn chore_done(&mut self, number: u32, index: u32) -> Result<(), LookNo>
-        requires { self.old.tablet.core.stopped ≡ false → MayAnswerChore self.old.tablet.core number index }
+        requires may { self.old.tablet.core.stopped ≡ false → MayAnswerChore self.old.tablet.core number index }
+        requires through { (chore : MaintSpec) → command_at self.old.tablet.core.work number index ≡ Some (Command.Chore chore) → IsThrough chore (upkeep_at number self.old.upkeep.passes) }
         ensures visit { IsVisit number self.old self.new }
         ensures answered { OnOk result (self.new ≡ record self.old { tablet = record self.old.tablet { core = answered self.old.tablet.core number index (Chore number index) } }) }
         ensures same { OnErr result (self.new ≡ self.old) }

@@ -99,6 +99,10 @@ impl<L: Disk, D: Disk + Drop, C: Clock> Engine<L, D, C> {
         // Each write of the plan fits a record.
         self.tablet.standing();
         self.tablet.ask(number, index, &draft.write)?;
+        // A write that came while a job publishes would be lacking in its outputs.
+        if self.upkeep.is_publishing() {
+            return Err(BeginNo::Memory);
+        }
         let flying = self.tablet.flying();
         let Ok(()) = make_room(&mut self.log, flying) else {
             return Err(BeginNo::Memory);

@@ -1,7 +1,8 @@
 use Rattle.std.proofs.Common.{◌≡◌, ◌<◌, ◌≤◌, ◌+◌, ◌^◌, length, ap, ◌∙◌, refl, sym, subst, rules, false, None}
 use Rattle.kt_tablet.specs.Visits.{holder_of}
 use Rattle.kt_engine.proofs.Begun.{plan_kept, may_on, has_begun}
-use Rattle.kt_engine.proofs.Both.{left_both, roomed_both}
+use Rattle.kt_engine.proofs.Both.{left_both, roomed_both, same_both}
+use Rattle.kt_engine.proofs.Upkeeps.{not_publishing}
 use Rattle.kt_engine.proofs.StoredWrites.{has_begun_stored}
 use Rattle.kt_engine.proofs.Visiting.{visit_of, lending, begun_visit_on}
 use Rattle.kt_engine.proofs.engine.Engine.begin_draft.Goals as goal
@@ -10,6 +11,10 @@ pub invariant_of-self : goal.invariant_of-self
 invariant_of-self g c =
     let is = c.deref_mut.ensures.value in
     left_both g.L.Disk.tells g.L.Disk.seen g.L.Disk.now g.L.Disk.leaves g.L.Disk.faults g.D.Disk.tells g.D.Disk.seen g.D.Disk.faults _ c.ask.new.self c.args.number c.args.index c.ask.result c.in_err-ask.field-0.0 c.in_err-ask.was (rw is at c.ask.ensures.stopped) (rw is at c.ask.ensures.beside) (rw is at c.in_err-ask.ensures.left) c.self.invariant
+
+pub invariant_of-self-then-is_publishing : goal.invariant_of-self-then-is_publishing
+invariant_of-self-then-is_publishing g c =
+    same_both g.L.Disk.tells g.L.Disk.seen g.L.Disk.now g.L.Disk.leaves g.L.Disk.faults g.D.Disk.tells g.D.Disk.seen g.D.Disk.faults _ c.ask.new.self (rw c.deref_mut.ensures.value at c.in_ok-ask.ensures.same) c.self.invariant
 
 pub invariant_of-self-in_default : goal.invariant_of-self-in_default
 invariant_of-self-in_default g c =
@@ -32,6 +37,7 @@ invariant_of-self-2 g c =
     let goes : c.self.inside.tablet.value.core.stopped ≡ false = rw is at c.in_ok-ask.ensures.free.goes in
     let may = (rw (← c.self.view_is) at c.requires) goes in
     let free : holder_of c.ask.new.self.core c.args.draft.now.write.ops ≡ None = ap (λ t. holder_of t.core c.args.draft.now.write.ops) same ∙ (rw is at c.in_ok-ask.ensures.free.apart) in
+    let none = not_publishing c.self.inside.upkeep.publishing (sym c.is_publishing.ensures ∙ c.if-is_publishing.false) in
     let fits : c.in-Ok-begin_free.ts < 2 ^ 64 = search rules in
     let room : length c.ask.new.self.core.aloft + 2 ≤ c.make_room.new.log.room = rw c.deref-2.ensures at (subst (λ n. n + 2 ≤ c.make_room.new.log.room) c.flying-flying.ensures c.in-Ok.ensures.room) in (
       has_begun _ _ _ _ _ _
@@ -39,7 +45,7 @@ invariant_of-self-2 g c =
           (rw free_is at c.begin_free.ensures.beside) (rw free_is at c.in-Ok-begin_free.ensures.noted) (rw free_is at c.in-Ok-begin_free.ensures.placed) (rw free_is at c.in-Ok-begin_free.ensures.begun) (rw log_is at c.push.ensures.queued) (ap (λ t. t.core.stopped) same ∙ goes) (may_on c.self.inside.tablet.value c.ask.new.self c.args.number c.args.index c.args.draft.now.write.ops same may) free (plan_kept c.self.inside.tablet.value.core c.args.number c.args.index c.args.draft.now.write.ops (rw c.deref.ensures at c.standing.ensures.sound.plan) may) fits room (rw c.deref-3.ensures at c.next_place-place.ensures)
           (ap (λ t. length t.notes) same ∙ (rw c.deref.ensures at c.standing.ensures.noted) ∙ sym (ap (λ t. length t.core.aloft) same)) before.0,
       has_begun_stored g.L.Disk.tells g.L.Disk.seen g.L.Disk.now g.L.Disk.leaves g.L.Disk.faults g.D.Disk.tells g.D.Disk.seen g.D.Disk.faults _ before.0 before.1
-          c.begin_free.new.self c.push.new.self c.args.number c.args.index c.in-Ok-begin_free.ts c.next_place-place.result c.args.draft.now.write.ops c.args.draft.now.write.ops c.replace-logged.result refl (c.replace-logged.ensures.value ∙ c.args.draft.now.alike)
+          c.begin_free.new.self c.push.new.self c.args.number c.args.index c.in-Ok-begin_free.ts c.next_place-place.result c.args.draft.now.write.ops c.args.draft.now.write.ops c.replace-logged.result none refl (c.replace-logged.ensures.value ∙ c.args.draft.now.alike)
           (rw free_is at c.begin_free.ensures.beside) (rw free_is at c.in-Ok-begin_free.ensures.noted) (rw free_is at c.in-Ok-begin_free.ensures.placed) (rw free_is at c.in-Ok-begin_free.ensures.begun) (rw log_is at c.push.ensures.queued) (may_on c.self.inside.tablet.value c.ask.new.self c.args.number c.args.index c.args.draft.now.write.ops same may) free (plan_kept c.self.inside.tablet.value.core c.args.number c.args.index c.args.draft.now.write.ops (rw c.deref.ensures at c.standing.ensures.sound.plan) may) fits (rw c.deref-3.ensures at c.next_place-place.ensures)
           (ap (λ t. length t.notes) same ∙ (rw c.deref.ensures at c.standing.ensures.noted) ∙ sym (ap (λ t. length t.core.aloft) same)),
     )

@@ -20,7 +20,7 @@ returns-clause-recovers g c =
 pub returns-clause-leaves : goal.returns-clause-leaves
 returns-clause-leaves g c =
     subst (λ (v : EngineView _ _ _). LeavesRecords g.L.Disk.tells g.L.Disk.now g.L.Disk.leaves v) c.self.view_is
-    (leaves_records g.L.Disk.tells g.L.Disk.seen g.L.Disk.now g.L.Disk.leaves g.L.Disk.faults _ c.self.invariant.0 (rw c.deref-2.ensures at c.durable.ensures.held))
+    (leaves_records g.L.Disk.tells g.L.Disk.seen g.L.Disk.now g.L.Disk.leaves g.L.Disk.faults _ c.self.invariant.1.run c.self.invariant.0 c.self.invariant.1.all c.self.invariant.1.near (rw c.deref-2.ensures at c.durable.ensures.held))
 
 pub returns-clause-stops : goal.returns-clause-stops
 returns-clause-stops g c = (subst (λ (v : EngineView _ _ _). IsEngine g.L.Disk.tells g.L.Disk.seen g.L.Disk.now g.L.Disk.leaves g.L.Disk.faults v) c.self.view_is c.self.invariant.0).stops

@@ -11,8 +11,8 @@ invariant_of-self g c =
     let side = rw c.deref-4.ensures at c.standing-2.ensures.side in
     let meta = rw old at c.in-Ok.ensures.meta in (
       store_keeps g.L.Disk.tells g.L.Disk.seen g.L.Disk.now g.L.Disk.leaves g.L.Disk.faults _ c.lend.new.self (ap (λ s. s.whole) store) c.self.invariant.0,
-      lent_stored g.L.Disk.tells g.L.Disk.seen g.D.Disk.tells g.D.Disk.seen g.D.Disk.now g.D.Disk.leaves g.D.Disk.faults _ c.self.invariant.1 side c.lend.new.self c.args.number c.in-Ok.meta store (lent_is_next c.args.purpose _ c.in-Ok.meta meta)
-          (λ m is. (rw old at c.requires.settled) (publishes_settled c.args.purpose _ c.in-Ok.meta meta m is)) (rw c.deref-3.ensures at c.standing.ensures.sound.stands),
+      lent_stored g.L.Disk.tells g.L.Disk.seen g.D.Disk.tells g.D.Disk.seen g.D.Disk.now g.D.Disk.leaves g.D.Disk.faults _ c.self.invariant.1 side c.lend.new.self c.args.number c.in-Ok.meta store (lent_is_next c.args.number c.args.purpose _ c.in-Ok.meta meta (rw old at (c.is_of_job.ensures.no c.if-is_of_job.false)))
+          (λ m is. let rest = (rw old at c.requires.settled) (publishes_settled c.args.number c.args.purpose _ c.in-Ok.meta meta m is) in (rest.0, rest.1, (rw old at c.is_free.ensures.free) c.if-not-is_free.false (publishes_settled c.args.number c.args.purpose _ c.in-Ok.meta meta m is))) (rw c.deref-3.ensures at c.standing.ensures.sound.stands),
     )
 
 -- what goes out may be published
@@ -35,3 +35,20 @@ pub lend-requires-clause-lent : goal.lend-requires-clause-lent
 lend-requires-clause-lent g c =
     let old = sym c.self.view_is in
     rw c.deref_mut.ensures.value (rw old at c.in-Ok.ensures.lent)
+
+-- of a pass with a job
+pub returns-then-is_of_job-clause-publishes : goal.returns-then-is_of_job-clause-publishes
+returns-then-is_of_job-clause-publishes g c = λ job m new had. c.lend_of_job.ensures.lent job m had (sym c.lend_of_job.ensures.meta ∙ new)
+
+pub returns-then-is_of_job-clause-ready : goal.returns-then-is_of_job-clause-ready
+returns-then-is_of_job-clause-ready g c =
+    let old = sym c.self.view_is in
+    let side = rw c.deref-4.ensures at c.standing-2.ensures.side in
+    may_publish g.D.Disk.tells g.D.Disk.seen g.D.Disk.now g.D.Disk.leaves g.D.Disk.faults _ side c.lend_of_job.result.device c.in-Ok.meta c.lend_of_job.result.meta (rw old at c.lend_of_job.ensures.device.1) c.lend_of_job.ensures.meta (rw old at c.in-Ok.ensures.lent)
+
+-- numbers are left for files that are written
+pub returns-clause-near : goal.returns-clause-near
+returns-clause-near g c = c.is_free.ensures.near c.if-not-is_free.false
+
+pub returns-then-is_of_job-clause-near : goal.returns-then-is_of_job-clause-near
+returns-then-is_of_job-clause-near g c = c.is_free.ensures.near c.if-not-is_free.false

@@ -1,0 +1,140 @@
+-- A job is over: its outputs stand in the place of the frozen MemRowSets.
+use Rattle.std.proofs.Common.{◌≡◌, ◌≢◌, ℕ, zero, suc, ◌<◌, ◌≤◌, ◌^◌, List, [], ◌∷◌, ◌++◌, map, drop, Option, Some, None, refl, sym, ap, ◌∙◌, subst, arith, inl, inr}
+use Rattle.std.specs.Prelude.{◌⊎◌, Bool}
+use Rattle.std.specs.List.{All}
+use Rattle.kt_disk.specs.Disk.{Files}
+use Rattle.kt_history.specs.declared.target.Target.{Target}
+use Rattle.kt_history.specs.declared.target.Target.TheVariants.{Mem, Delta}
+use Rattle.kt_records.specs.Rules.{TargetFits}
+use Rattle.kt_pool.specs.Contents.{Contents}
+use Rattle.kt_histlaws.specs.Core.{Core}
+use Rattle.kt_rowfiles.specs.Files.{DiskRowset}
+use Rattle.kt_super.specs.declared.meta.Meta.{Meta}
+use Rattle.kt_content.specs.RunEvents.{Numbers, RowsetsBelow, StoresBelow}
+use Rattle.kt_content.specs.Flushes.{before}
+use Rattle.kt_tablet.specs.Views.{View}
+use Rattle.kt_tablet.specs.Jobs.{over_to, HasChangedOver}
+use Rattle.kt_engine.specs.Memory.{name_of}
+use Rattle.kt_engine.specs.Over.{Over, bare_store, first_name, over_at, core_over, names_over}
+use Rattle.kt_engine.specs.Logged.{KeepsSince}
+use Rattle.kt_engine.specs.Engines.{EngineView, IsEngine, core_from}
+use Rattle.kt_engine.specs.Near.{AreNear, first_number}
+use Rattle.kt_engine.specs.Stored.{IsOneOf, IsStored, over, next_given, numbers_of}
+use Rattle.kt_engine.specs.Jobs.{JobView, UpkeepsView, JobOn, job_of}
+use Rattle.kt_engine.proofs.Jobs.{finished_since}
+use Rattle.kt_engine.proofs.Near.{near_over}
+use Rattle.kt_engine.proofs.Lists.{all_cons, all_head, all_tail}
+use Rattle.kt_engine.proofs.Rising.{given_up, records_rise}
+use Rattle.kt_engine.proofs.Shelved.{names_behind, over_shelved}
+use Rattle.kt_engine.proofs.Stored.{of_plain, plain}
+
+-- the first store stays
+first_over : (names outputs : List Target) (frozen : ℕ) → first_number (over_to frozen outputs names) ≡ first_number names
+first_over [] outputs frozen = refl
+first_over (Mem n ∷ names) outputs frozen = refl
+first_over (Delta r n ∷ names) outputs frozen = refl
+
+names_both : (numbers : Numbers) (outputs : List DiskRowset) (names : List Target) → RowsetsBelow numbers outputs → StoresBelow numbers (map name_of names) → StoresBelow numbers (map name_of (map first_name outputs ++ names))
+names_both numbers [] names own below = below
+names_both numbers (d ∷ outputs) names own below = (own.0, names_both numbers outputs names own.1 below)
+
+over_below : (numbers : Numbers) (frozen : ℕ) (outputs : List DiskRowset) (names : List Target) → RowsetsBelow numbers outputs → StoresBelow numbers (map name_of names) → StoresBelow numbers (map name_of (over_to frozen (map first_name outputs) names))
+over_below numbers frozen outputs [] own below = tt
+over_below numbers frozen outputs (Mem n ∷ names) own below = (below.0, names_both numbers outputs (drop frozen names) own (names_behind numbers frozen names below.1))
+over_below numbers frozen outputs (Delta r n ∷ names) own below = (below.0, names_both numbers outputs (drop frozen names) own (names_behind numbers frozen names below.1))
+
+-- their names can be spelled
+fits_behind : (frozen : ℕ) (names : List Target) → All TargetFits names → All TargetFits (drop frozen names)
+fits_behind zero names fit = fit
+fits_behind (suc n) [] fit = fit
+fits_behind (suc n) (t ∷ names) fit = fits_behind n names (all_tail TargetFits t names fit)
+
+fits_both : (next last : ℕ) (outputs : List DiskRowset) (names : List Target) → next < 2 ^ 64 → RowsetsBelow (before next last) outputs → All TargetFits names → All TargetFits (map first_name outputs ++ names)
+fits_both next last [] names small own fit = fit
+fits_both next last (d ∷ outputs) names small own fit = all_cons TargetFits (first_name d) (map first_name outputs ++ names) ((let low = own.0 in omega arith), omega arith) (fits_both next last outputs names small own.1 fit)
+
+fits_over : (next last frozen : ℕ) (outputs : List DiskRowset) (names : List Target) → next < 2 ^ 64 → RowsetsBelow (before next last) outputs → All TargetFits names → All TargetFits (over_to frozen (map first_name outputs) names)
+fits_over next last frozen outputs [] small own fit = fit
+fits_over next last frozen outputs (t ∷ names) small own fit =
+    all_cons TargetFits t (map first_name outputs ++ drop frozen names) (all_head TargetFits t names fit) (fits_both next last outputs (drop frozen names) small own (fits_behind frozen names (all_tail TargetFits t names fit)))
+
+own_below : (next last active : ℕ) (outputs : List DiskRowset) → RowsetsBelow (before next last) outputs → RowsetsBelow (record { next = next_given next; active = active; deltas = [] }) outputs
+own_below next last active [] own = tt
+own_below next last active (d ∷ outputs) own = ((let low = own.0 in let up = given_up next in omega arith), own_below next last active outputs own.1)
+
+module _ {L D C : Type 0} (view : EngineView L D C) (tablet : View C) (upkeep : UpkeepsView) (outputs : List DiskRowset) (h : HasChangedOver view.tablet tablet (map bare_store outputs) (map first_name outputs)) where
+  abbrev pub over_core : Core
+  over_core = record view.tablet.core { stores = over_to view.tablet.frozen (map bare_store outputs) view.tablet.core.stores }
+
+  abbrev pub over_tablet : Contents → View C
+  over_tablet pool = record view.tablet { core = over_core; names = over_to view.tablet.frozen (map first_name outputs) view.tablet.names; frozen = 0; pool = pool }
+
+  pub is_over : tablet ≡ over_tablet tablet.pool
+  is_over = h.beside ∙ ap (λ (k : Core). record view.tablet { core = k; names = tablet.names; frozen = 0; pool = tablet.pool }) h.stores ∙ ap (λ (ns : List Target). record view.tablet { core = over_core; names = ns; frozen = 0; pool = tablet.pool }) h.names_are
+
+  pub finished_keeps : (log_tells : Bool) (log_seen : L → Files) (log_now : L → ℕ) (log_leaves : L → ℕ → Files → Type 0) (log_faults : L → ℕ) (last : ℕ) → upkeep.begun ≢ 0 → view.store.next_rowset < 2 ^ 64 → RowsetsBelow (before view.store.next_rowset last) outputs
+      → IsEngine log_tells log_seen log_now log_leaves log_faults view → IsEngine log_tells log_seen log_now log_leaves log_faults (record view { tablet = tablet; upkeep = upkeep })
+  finished_keeps log_tells log_seen log_now log_leaves log_faults last some small own is =
+      subst (λ (t : View C). IsEngine log_tells log_seen log_now log_leaves log_faults (record view { tablet = t; upkeep = upkeep })) (sym is_over) (record {
+        logged = record {
+          run = is.logged.run;
+          all = is.logged.all;
+          count = is.logged.count;
+          begins = is.logged.begins;
+          stands = record { log = is.logged.stands.log; since = is.logged.stands.since; last = is.logged.stands.last; flying = is.logged.stands.flying; untold = is.logged.stands.untold };
+          keeps = λ rules first content plan none. absurd (some none);
+          names = λ none. absurd (some none);
+          framed = is.logged.framed;
+          durable = is.logged.durable;
+          acknowledged = is.logged.acknowledged;
+        };
+        home = λ journal at.
+            let home = is.home journal at in
+            record { opens = home.opens; others = home.others; later = home.later; known = home.known; rose = home.rose; images = home.images };
+        others = is.others;
+        lent = is.lent;
+        whole = is.whole;
+        stops = record { goes = is.stops.goes; stopped = is.stops.stopped };
+        ready = record { room = is.ready.room; apart = is.ready.apart; spelled = fits_over view.store.next_rowset last view.tablet.frozen outputs view.tablet.names small own is.ready.spelled; shelved = over_shelved view.tablet.frozen outputs view.tablet.names is.ready.shelved; named = λ none. absurd (some none) };
+        placed = is.placed;
+      })
+
+  -- each superblock is told of the stores that stand now
+  pub finished_stored : (log_tells : Bool) (log_seen : L → Files) (tells : Bool) (seen : D → Files) (faults : D → ℕ) (is : IsStored log_tells log_seen tells seen faults view) (o : Over) (last : ℕ) → over view ≡ Some o → o.outputs ≡ outputs → o.number ≤ view.store.meta.number → view.store.lent ≡ None
+      → upkeep.publishing ≡ None → upkeep.begun ≡ view.upkeep.begun → RowsetsBelow (before view.store.next_rowset last) outputs → ((n : ℕ) (job : JobView) → job_of n upkeep ≡ Some job → JobOn (view.records ++ is.run) job)
+      → IsStored log_tells log_seen tells seen faults (record view { tablet = tablet; upkeep = upkeep })
+  finished_stored log_tells log_seen tells seen faults is o last over_is same up none still counted own jobs =
+      subst (λ (t : View C). IsStored log_tells log_seen tells seen faults (record view { tablet = t; upkeep = upkeep })) (sym is_over) (record {
+        run = is.run;
+        all = is.all;
+        count = is.count;
+        stands = record { log = is.stands.log; since = is.stands.since; last = is.stands.last; flying = is.stands.flying; untold = is.stands.untold };
+        keeps = λ rules first content plan t super one.
+            of_plain rules (record (core_from view first) { stores = over_to view.tablet.frozen (map bare_store outputs) view.tablet.core.stores }) super (over_to view.tablet.frozen (map first_name outputs) view.tablet.names) view.tablet.notes view.records is.run view.log.known.count 0
+            (over_at one.meta.number (over (record view { tablet = over_tablet tablet.pool; upkeep = upkeep }))) (plain (record view { tablet = over_tablet tablet.pool; upkeep = upkeep }) still one.meta)
+            (subst (λ (ds : List DiskRowset). KeepsSince rules (record (core_from view first) { stores = over_to view.tablet.frozen (map bare_store ds) view.tablet.core.stores }) super (over_to view.tablet.frozen (map first_name ds) view.tablet.names) view.tablet.notes view.records is.run view.log.known.count) same
+            (finished_since rules (core_from view first) super view.tablet.names view.tablet.notes view.records is.run view.log.known.count view.tablet.frozen one.meta.number o (later one.meta one.one)
+            (subst (λ (p : Option Over). KeepsSince rules (core_over (over_at one.meta.number p) view.tablet.frozen (core_from view first)) super (names_over (over_at one.meta.number p) view.tablet.frozen view.tablet.names) view.tablet.notes view.records is.run view.log.known.count) over_is
+            (is.keeps rules first (record { closed = content.closed; opens = content.opens; holds = content.holds }) plan t super (record { meta = one.meta; one = one.one; held = one.held; hold = one.hold; is = one.is })))));
+        below = records_rise (numbers_of view) now (view.records ++ is.run) (omega arith) (omega (arith, first_over view.tablet.names (map first_name outputs) view.tablet.frozen)) is.below;
+        names_below = subst (λ (a : ℕ). StoresBelow (record { next = next_given view.store.next_rowset; active = a; deltas = [] }) (map name_of (over_to view.tablet.frozen (map first_name outputs) view.tablet.names))) (sym (first_over view.tablet.names (map first_name outputs) view.tablet.frozen))
+            (over_below (numbers_of view) view.tablet.frozen outputs view.tablet.names (own_below view.store.next_rowset last (first_number view.tablet.names) outputs own) is.names_below);
+        near = subst (λ (n : ℕ). AreNear view.found (over_to view.tablet.frozen (map first_name outputs) view.tablet.names) view.first_rowset view.store.next_rowset n is.run) (sym counted)
+            (near_over view.found view.tablet.names view.first_rowset view.store.next_rowset view.upkeep.begun last view.tablet.frozen outputs is.run (first_over view.tablet.names (map first_name outputs) view.tablet.frozen) own is.near);
+        rests = inl still;
+        jobs = jobs;
+        holds = is.holds;
+        columns = is.columns;
+        mark = is.mark;
+        marked = is.marked;
+        clock = is.clock;
+        later = is.later;
+        home = is.home;
+      })
+    where
+      now : Numbers
+      now = record { next = next_given view.store.next_rowset; active = first_number (over_to view.tablet.frozen (map first_name outputs) view.tablet.names); deltas = [] }
+
+      later : (m : Meta) → IsOneOf view.store m → o.number ≤ m.number
+      later m (inl e) = let n = ap (λ (x : Meta). x.number) e in omega arith
+      later m (inr lent) = absurd (let no : None ≡ Some m = sym none ∙ lent in cc)

@@ -1,0 +1,29 @@
+use Rattle.std.proofs.Common.{◌≡◌, ◌∙◌, [], ap, sym, subst}
+use Rattle.kt_tablet.specs.Views.{View}
+use Rattle.kt_engine.specs.Engines.{EngineView}
+use Rattle.kt_engine.specs.declared.upkeep.Stage.TheVariants as stage
+use Rattle.kt_engine.proofs.JobBoth.{further_both}
+use Rattle.kt_engine.proofs.Snapshots.{none_aloft}
+use Rattle.kt_engine.proofs.Visiting.{visit_of, upkeep_visit}
+use Rattle.kt_engine.proofs.engine.Engine.job_snapshot.Goals as goal
+
+pub read-requires : goal.read-requires
+read-requires g c =
+    let job = rw (sym c.self.view_is) at c.requires.stage in
+    record { job = (job.0, job.1.has) }
+
+pub invariant_of-self : goal.invariant_of-self
+invariant_of-self g c =
+    let old = sym c.self.view_is in
+    let job = rw old at c.requires.stage in
+    further_both g.L.Disk.tells g.L.Disk.seen g.L.Disk.now g.L.Disk.leaves g.L.Disk.faults g.D.Disk.tells g.D.Disk.seen g.D.Disk.faults _ c.read.new.self c.args.number job.0 (record job.0 { stage = stage.Read; bound = c.in_ok-input.input.bound; mark = c.in_ok-input.input.mark }) job.1.has (λ records on. record { many = on.many; names = on.names }) (c.read.ensures.own job.0 job.1.has) (rw old at c.requires.free) c.read.ensures.begun c.self.invariant
+
+pub returns-clause-visit : goal.returns-clause-visit
+returns-clause-visit g c =
+    let job = rw (sym c.self.view_is) at c.requires.stage in
+    visit_of _ _ _ _ c.self.view_is (upkeep_visit c.args.number _ _ c.read.new.self (c.read.ensures.own job.0 job.1.has))
+
+pub read_memory-requires-clause-calm : goal.read_memory-requires-clause-calm
+read_memory-requires-clause-calm g c =
+    let tab : c.deref-2.result.now ≡ c.args.self.now.tablet = c.deref-2.ensures ∙ ap (λ (v : EngineView g.row.L.Denot g.row.D.Denot g.row.C.Denot). v.tablet) c.self.view_is in
+    subst (λ (t : View g.row.C.Denot). t.core.aloft ≡ []) tab (none_aloft c.deref-2.result.now.core.aloft (sym c.least_flying.ensures ∙ c.in_default.is))

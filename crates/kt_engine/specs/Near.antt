@@ -1,0 +1,49 @@
+-- How far the numbers that an engine gives lie above those that opening found.
+use Rattle.std.specs.Prelude.{◌≡◌, ◌≤◌, ◌<◌, ◌+◌, ◌^◌, ◌⊎◌, ℕ, List, [], ◌∷◌}
+use Rattle.std.specs.List.{All, Contains}
+use Rattle.kt_history.specs.declared.target.Target.{Target}
+use Rattle.kt_history.specs.declared.target.Target.TheVariants.{Mem, Delta}
+use Rattle.kt_records.specs.declared.entry.Entry.{Entry}
+use Rattle.kt_records.specs.declared.entry.Entry.TheVariants.{Replicate, Commit}
+
+-- the number of the MemRowSet that takes inserts
+abbrev pub first_number : List Target → ℕ
+first_number [] = 0
+first_number (Mem n ∷ names) = n
+first_number (Delta r n ∷ names) = 0
+
+-- a name that was given since: a MemRowSet up to this number, or the first DeltaMemStore of a disk rowset below that one
+abbrev pub IsGiven : ℕ → ℕ → Target → Type 0
+IsGiven mem next (Mem n) = n ≤ mem
+IsGiven mem next (Delta r n) = (r < next) × (n ≡ 1)
+
+-- or one that opening found
+abbrev pub IsKnown : List Target → ℕ → ℕ → Target → Type 0
+IsKnown found mem next t = Contains found t ⊎ IsGiven mem next t
+
+-- a COMMIT names such stores alone
+abbrev pub NamesEach : (Target → Type 0) → Entry → Type 0
+NamesEach known (Replicate ts ops) = Unit {0}
+NamesEach known (Commit ts rows) = All (λ row. All known row.targets) rows
+
+-- so many rowset numbers are given in one opening at most, and so many jobs begin
+abbrev pub most_rowsets : ℕ
+most_rowsets = 2 ^ 44 + 2 ^ 32
+
+-- The stores and the COMMITs of the run have names that opening found or that were given since, each job has frozen one MemRowSet at most, and not too many
+-- rowset numbers were given.
+pub record AreNear (found names : List Target) (first_rowset next_rowset begun : ℕ) (run : List Entry) : Type 0 where
+  pub names_known : All (IsKnown found (first_number names) next_rowset) names
+  pub run_known : All (NamesEach (IsKnown found (first_number names) next_rowset)) run
+  pub mems : first_number names ≤ first_number found + begun
+  pub jobs : begun ≤ 2 ^ 24
+  pub rowsets : next_rowset ≤ first_rowset + most_rowsets
+
+-- no number of a name is greater, and each is less
+abbrev pub IsUpTo : ℕ → Target → Type 0
+IsUpTo bound (Mem n) = n ≤ bound
+IsUpTo bound (Delta r n) = (r ≤ bound) × (n ≤ bound)
+
+abbrev pub IsBelow : ℕ → Target → Type 0
+IsBelow bound (Mem n) = n < bound
+IsBelow bound (Delta r n) = (r < bound) × (n < bound)

@@ -1,0 +1,120 @@
+//! The outputs of a job: new disk rowsets, and these as a superblock names them.
+ghost use Rattle.std.specs.Prelude.{◌≡◌, ◌≤◌, ◌+◌, [], true, map, length, vec_capacity, IfOk};
+ghost use Rattle.std.specs.List.{AllByRecursion};
+ghost use Rattle.kt_diskrowset.specs.Data.{held_in, files_in};
+ghost use Rattle.kt_diskrowset.specs.Rows.{UndosLeadBack};
+ghost use Rattle.kt_diskrowset.specs.Rowset.{held_of};
+ghost use Rattle.kt_outputs.specs.Outputs.{meta_in};
+ghost use Rattle.kt_engine.specs.Outputs.{AreOutputs, AreMade};
+
+use kt_base::NoMemory;
+use kt_diskrowset::{DiskRowSet, Outputs, RowSetData};
+use kt_outputs::named_rowset;
+use kt_super::MetaRowset;
+use std::alloc::Global;
+use std::marker::Model;
+
+/// Disk rowsets without a change in memory, and these as a superblock names them, in the same order. Contracts see both, and how many of the first there is room for.
+#[derive(Drop)]
+pub struct JobOutputs {
+    rowsets: Vec<DiskRowSet>,
+    metas: Vec<MetaRowset>,
+}
+
+impl Model for JobOutputs {
+    ghost use Rattle.std.specs.Prelude.{vec_capacity};
+    ghost use Rattle.kt_engine.specs.Outputs.{OutputsView, AreOutputs};
+
+    ghost Value = { OutputsView };
+
+    ghost view = { λ o. record { rowsets = o.rowsets.items; metas = o.metas.items; room = vec_capacity o.rowsets } };
+
+    ghost invariant = { λ o. AreOutputs o.metas.items o.rowsets.items };
+}
+
+// New disk rowsets as a superblock names them.
+fn metas_of(alloc: Global, rowsets: &[RowSetData]) -> Result<Vec<MetaRowset>, NoMemory>
+    ensures { IfOk result (λ metas. metas.items ≡ map (meta_in 0) rowsets.now) }
+{
+    let mut metas = Vec::with_capacity(alloc, rowsets.len())?;
+    'rowsets: for rowset in rowsets {
+        metas.push_reserved(named_rowset(alloc, rowset, 0)?);
+    }
+    Ok(metas)
+}
+
+/// Whether each leads back from its base to its oldest row.
+pub fn lead_back(alloc: Global, rowsets: &[RowSetData]) -> Result<bool, NoMemory>
+    ensures { IfOk result (λ lead. lead ≡ true → AllByRecursion (λ d. UndosLeadBack (files_in d)) rowsets.now) }
+{
+    'rowsets: for rowset in rowsets {
+        if !rowset.undos_fit(alloc)? {
+            return Ok(false);
+        }
+    }
+    Ok(true)
+}
+
+// New disk rowsets, each with a DeltaMemStore of number 1, and room for so many others.
+fn made(alloc: Global, rowsets: Vec<RowSetData>, others: usize) -> Result<Vec<DiskRowSet>, NoMemory>
+    requires lead { AllByRecursion (λ d. UndosLeadBack (files_in d)) rowsets.items }
+    requires fresh { AllByRecursion (λ d. d.fresh ≡ []) rowsets.items }
+    ensures made { IfOk result (λ made. AreMade rowsets.items made.items) }
+    ensures room { IfOk result (λ made. others + length rowsets.items ≤ vec_capacity made) }
+{
+    let room = rowsets.len().checked_add(others).ok_or(NoMemory)?;
+    let mut made = Vec::with_capacity(alloc, room)?;
+    let mut rest = rowsets.into_iter();
+    'rest: while let Some(rowset) = rest.next() {
+        made.push_reserved(DiskRowSet::of(alloc, rowset, 1));
+    }
+    Ok(made)
+}
+
+impl JobOutputs {
+    /// None.
+    pub fn none(alloc: Global) -> JobOutputs
+        ensures { (result.rowsets ≡ []) × (result.metas ≡ []) }
+    {
+        JobOutputs {
+            rowsets: Vec::new(alloc),
+            metas: Vec::new(alloc),
+        }
+    }
+
+    /// These, new disk rowsets that lead back, with room beside them for so many others.
+    pub fn of(alloc: Global, outputs: Outputs, others: usize) -> Result<JobOutputs, NoMemory>
+        requires lead { AllByRecursion (λ d. UndosLeadBack (files_in d)) outputs.rowsets }
+        requires fresh { AllByRecursion (λ d. d.fresh ≡ []) outputs.rowsets }
+        ensures held { IfOk result (λ made. map held_of made.rowsets ≡ map held_in outputs.rowsets) }
+        ensures metas { IfOk result (λ made. made.metas ≡ map (meta_in 0) outputs.rowsets) }
+        ensures room { IfOk result (λ made. others + length outputs.rowsets ≤ made.room) }
+    {
+        let metas = metas_of(alloc, outputs.rowsets.as_slice())?;
+        let rowsets = made(alloc, outputs.rowsets.into_vec(), others)?;
+        Ok(JobOutputs { rowsets, metas })
+    }
+
+    /// How many there are.
+    pub fn len(&self) -> usize
+        ensures { result ≡ length self.now.rowsets }
+    {
+        self.rowsets.len()
+    }
+
+    /// As a superblock names them.
+    pub fn metas(&self) -> &[MetaRowset]
+        ensures { result.now ≡ self.now.metas }
+    {
+        &self.metas
+    }
+
+    /// The disk rowsets, which stand in each pool as their files have them.
+    pub fn into_rowsets(self) -> Vec<DiskRowSet>
+        ensures rowsets { result.items ≡ self.rowsets }
+        ensures room { vec_capacity result ≡ self.room }
+        ensures stand { AreOutputs self.metas self.rowsets }
+    {
+        self.rowsets
+    }
+}

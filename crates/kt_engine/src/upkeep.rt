@@ -1,0 +1,539 @@
+//! What passes have of maintenance: their asks, their rounds, and their jobs.
+ghost use Rattle.std.specs.Prelude.{◌≡◌, ◌≤◌, ◌<◌, ℕ, is_some, map, length, slice_get, vec_capacity, Some, None, IfOk, OnOk, OnErr, MatchOption};
+ghost use Rattle.std.specs.List.{sum_by};
+ghost use Rattle.std.specs.Option.{option_map};
+ghost use Rattle.kt_pick.specs.declared.rules.Want.{Want as WantSpec};
+ghost use Rattle.kt_diskrowset.specs.Rowset.{held_of};
+ghost use Rattle.kt_engine.specs.Jobs.{idle, no_upkeep, upkeep_at, job_of, asked, asked_for_nothing, job_finished, job_abandoned, same_want, without_want, JobView, HasUpkeep};
+ghost use Rattle.kt_engine.specs.JobSteps.{one_job, running, stage_home, publishing_home, shares, names, or_holder, first_holder};
+ghost use Rattle.kt_engine.specs.Rounds.{round_of};
+ghost use Rattle.kt_engine.specs.Upkeeps.{upkeep_of, job_in, IsThere};
+
+use crate::outputs::JobOutputs;
+use kt_base::{Chore, NoMemory};
+use kt_pick::Want;
+use kt_policy::IdList;
+use std::alloc::Global;
+use std::marker::Model;
+
+/// How far a job has come.
+#[derive(Clone, Copy, PartialEq, Eq)]
+pub enum Stage {
+    /// It has its inputs.
+    Begun,
+    /// They were handed out.
+    Read,
+    /// Its outputs are there.
+    Swapped,
+    /// What they lack was handed out.
+    Collected,
+    /// And is written.
+    Written,
+    /// Its superblock is lent.
+    Publishing,
+    /// It is published.
+    Published,
+}
+
+/// How the last ask for a job ended.
+#[derive(Clone, Copy, PartialEq, Eq)]
+pub enum Last {
+    None,
+    Nothing,
+    Begun,
+    Finished,
+    Abandoned,
+}
+
+/// A job. Beside its outputs there is room for the disk rowsets of the tablet.
+#[derive(Drop)]
+pub struct Job {
+    pub number: u32,
+    pub stage: Stage,
+    pub bound: u64,
+    pub mark: u64,
+    /// The last MemRowSet that a flush writes.
+    pub last_mem: u64,
+    /// How many records the log had as it began.
+    pub many: u64,
+    /// The numbers of the next rowset and of the next file as it began.
+    pub first_rowset: u64,
+    pub first_file: u64,
+    pub outputs: JobOutputs,
+    /// The number of the superblock that it publishes.
+    pub superblock: u64,
+}
+
+/// What a pass has of maintenance.
+#[derive(Drop)]
+pub struct Upkeep {
+    pub pass: u32,
+    pub asks: u64,
+    pub last: Last,
+    /// What it asked for last, and what its job does: a flush where it has not asked.
+    pub want: Want,
+    pub round: Option<Chore>,
+    pub rounds: u64,
+    pub todo: Vec<Want>,
+    pub job: Option<Job>,
+}
+
+/// That of all passes that asked, how many jobs have begun, and the pass whose job publishes. Contracts see it as a list, in which a pass that is not there is
+/// idle.
+#[derive(Drop)]
+pub struct Upkeeps {
+    passes: Vec<Upkeep>,
+    begun: u32,
+    publishing: Option<u32>,
+}
+
+/// No pass has asked.
+pub fn no_upkeep(alloc: Global) -> Upkeeps
+    ensures { result ≡ no_upkeep }
+{
+    Upkeeps {
+        passes: Vec::new(alloc),
+        begun: 0,
+        publishing: None,
+    }
+}
+
+impl Model for Upkeeps {
+    ghost use Rattle.std.specs.Prelude.{map};
+    ghost use Rattle.kt_engine.specs.Jobs.{UpkeepsView};
+    ghost use Rattle.kt_engine.specs.Upkeeps.{upkeep_of, AreApart};
+
+    ghost Value = { UpkeepsView };
+
+    ghost view = { λ u. record { passes = map upkeep_of u.passes.items; begun = u.begun; publishing = u.publishing } };
+
+    ghost invariant = { λ u. AreApart u.passes.items };
+}
+
+/// Another owner of a want.
+pub fn copy_want(alloc: Global, want: &Want) -> Result<Want, NoMemory>
+    ensures { IfOk result (λ copy. copy ≡ want.now) }
+{
+    Ok(match want {
+        Want::Flush => Want::Flush,
+        Want::FlushDeltas(rowset) => Want::FlushDeltas(*rowset),
+        Want::Minor(rowset) => Want::Minor(*rowset),
+        Want::Major(rowset) => Want::Major(*rowset),
+        Want::Compact(rowsets) => Want::Compact(copy_ids(alloc, rowsets)?),
+    })
+}
+
+/// Another owner of a list of numbers.
+pub fn copy_ids(alloc: Global, ids: &IdList) -> Result<IdList, NoMemory>
+    ensures { IfOk result (λ copy. copy ≡ ids.now) }
+{
+    let mut copy = Vec::with_capacity(alloc, ids.as_slice().len())?;
+    copy.extend_from_slice(ids.as_slice())?;
+    Ok(IdList::of(copy))
+}
+
+impl Upkeep {
+    // What a pass has that has not asked.
+    fn idle(alloc: Global, pass: u32) -> Upkeep
+        ensures { upkeep_of result ≡ (pass, idle) }
+    {
+        Upkeep {
+            pass,
+            asks: 0,
+            last: Last::None,
+            want: Want::Flush,
+            round: None,
+            rounds: 0,
+            todo: Vec::new(alloc),
+            job: None,
+        }
+    }
+
+    // How many jobs it has: one, or none.
+    fn jobs(&self) -> usize
+        ensures jobs { result ≡ one_job (upkeep_of self.now).1.job }
+        ensures few { result ≤ 1 }
+    {
+        match &self.job {
+            Some(_) => 1,
+            None => 0,
+        }
+    }
+
+    // Takes a want off what is to do.
+    fn strike(&mut self)
+        ensures beside { self.new ≡ record self.old { todo = self.new.todo } }
+        ensures struck { self.new.todo.items ≡ without_want self.old.want self.old.todo.items }
+    {
+        let Upkeep { want, todo, .. } = self;
+        todo.retain(|other| !is_same(want, other));
+    }
+
+    // There is nothing to do for what it asked. It has no job.
+    fn say_nothing(&mut self, want: Want)
+        requires none { self.old.job ≡ None }
+        ensures own { (upkeep_of self.new).1 ≡ asked_for_nothing want (upkeep_of self.old).1 }
+        ensures pass { self.new.pass ≡ self.old.pass }
+    {
+        self.asks = self.asks.saturating_add(1);
+        self.last = Last::Nothing;
+        self.want = want;
+        self.strike();
+    }
+
+    // Its job begins.
+    fn begin(&mut self, want: Want, job: Job)
+        ensures own { (upkeep_of self.new).1 ≡ asked want (job_in want job) (upkeep_of self.old).1 }
+        ensures pass { self.new.pass ≡ self.old.pass }
+    {
+        self.asks = self.asks.saturating_add(1);
+        self.last = Last::Begun;
+        self.want = want;
+        self.job = Some(job);
+    }
+
+    // Its job has come further.
+    fn go_on(&mut self, stage: Stage)
+        ensures own { (job : JobView) → (upkeep_of self.old).1.job ≡ Some job → (upkeep_of self.new).1 ≡ record (upkeep_of self.old).1 { job = Some (record job { stage = stage }) } }
+        ensures pass { self.new.pass ≡ self.old.pass }
+    {
+        if let Some(job) = &mut self.job {
+            job.stage = stage;
+        }
+    }
+
+    // The superblock of its job is lent.
+    fn publish(&mut self, superblock: u64)
+        ensures own { (job : JobView) → (upkeep_of self.old).1.job ≡ Some job → (upkeep_of self.new).1 ≡ record (upkeep_of self.old).1 { job = Some (record job { stage = Stage.Publishing; super = superblock }) } }
+        ensures pass { self.new.pass ≡ self.old.pass }
+    {
+        if let Some(job) = &mut self.job {
+            job.stage = Stage::Publishing;
+            job.superblock = superblock;
+        }
+    }
+
+    // The inputs of its job were handed out.
+    fn read(&mut self, bound: u64, mark: u64)
+        ensures own { (job : JobView) → (upkeep_of self.old).1.job ≡ Some job → (upkeep_of self.new).1 ≡ record (upkeep_of self.old).1 { job = Some (record job { stage = Stage.Read; bound = bound; mark = mark }) } }
+        ensures pass { self.new.pass ≡ self.old.pass }
+    {
+        if let Some(job) = &mut self.job {
+            job.stage = Stage::Read;
+            job.bound = bound;
+            job.mark = mark;
+        }
+    }
+
+    // The outputs of its job are there.
+    fn swap(&mut self, outputs: JobOutputs)
+        ensures own { (job : JobView) → (upkeep_of self.old).1.job ≡ Some job → (upkeep_of self.new).1 ≡ record (upkeep_of self.old).1 { job = Some (record job { stage = Stage.Swapped; metas = outputs.metas; held = map held_of outputs.rowsets; room = outputs.room }) } }
+        ensures pass { self.new.pass ≡ self.old.pass }
+    {
+        if let Some(job) = &mut self.job {
+            job.stage = Stage::Swapped;
+            job.outputs = outputs;
+        }
+    }
+
+    // Its job is over.
+    fn finish(&mut self) -> Option<Job>
+        ensures own { (job : JobView) → (upkeep_of self.old).1.job ≡ Some job → (upkeep_of self.new).1 ≡ job_finished job.want (upkeep_of self.old).1 }
+        ensures job { result ≡ self.old.job }
+        ensures pass { self.new.pass ≡ self.old.pass }
+    {
+        let job = self.job.take();
+        self.last = Last::Finished;
+        self.strike();
+        job
+    }
+
+    // Its job is given up.
+    fn abandon(&mut self)
+        ensures own { (job : JobView) → (upkeep_of self.old).1.job ≡ Some job → (upkeep_of self.new).1 ≡ job_abandoned job.want (upkeep_of self.old).1 }
+        ensures pass { self.new.pass ≡ self.old.pass }
+    {
+        self.job = None;
+        self.last = Last::Abandoned;
+    }
+
+    // A round of a chore begins.
+    fn begin_round(&mut self, chore: Chore, todo: Vec<Want>)
+        ensures own { (upkeep_of self.new).1 ≡ round_of chore todo.items (upkeep_of self.old).1 }
+        ensures pass { self.new.pass ≡ self.old.pass }
+    {
+        self.round = Some(chore);
+        self.rounds = self.rounds.saturating_add(1);
+        self.todo = todo;
+    }
+}
+
+/// Whether two wants are the same.
+pub fn is_same(want: &Want, other: &Want) -> bool
+    ensures { result ≡ same_want want.now other.now }
+{
+    match (want, other) {
+        (Want::Flush, Want::Flush) => true,
+        (Want::FlushDeltas(one), Want::FlushDeltas(two)) => one == two,
+        (Want::Minor(one), Want::Minor(two)) => one == two,
+        (Want::Major(one), Want::Major(two)) => one == two,
+        (Want::Compact(some), Want::Compact(others)) => some.as_slice() == others.as_slice(),
+        _ => false,
+    }
+}
+
+impl Upkeeps {
+    // Where a pass stands that asked before.
+    fn place(&self, pass: u32) -> Option<usize>
+        ensures { MatchOption result (¬ IsThere pass self.now.passes) (λ at. (at < length self.now.passes) × (option_map (λ u. u.0) (slice_get self.now.passes at) ≡ Some pass)) }
+    {
+        self.passes.iter().position(|upkeep| upkeep.pass == pass)
+    }
+
+    /// Makes a place for a pass, so that its asks need no memory.
+    pub fn make_place(&mut self, alloc: Global, pass: u32) -> Result<(), NoMemory>
+        ensures same { HasUpkeep pass (upkeep_at pass self.old.passes) self.old self.new }
+        ensures begun { (self.new.begun ≡ self.old.begun) × (self.new.publishing ≡ self.old.publishing) }
+        ensures there { OnOk result (IsThere pass self.new.passes) }
+    {
+        if let Some(_) = self.place(pass) {
+            return Ok(());
+        }
+        self.passes.push(Upkeep::idle(alloc, pass))?;
+        Ok(())
+    }
+
+    /// How many jobs run, and how many have begun.
+    pub fn counts(&self) -> (usize, u32)
+        ensures running { result.0 ≡ running self.now }
+        ensures begun { result.1 ≡ self.now.begun }
+    {
+        (running_in(&self.passes), self.begun)
+    }
+
+    /// Whether the superblock of a job is lent or published, and the job is not over.
+    pub fn is_publishing(&self) -> bool
+        ensures { result ≡ is_some self.now.publishing }
+    {
+        self.publishing.is_some()
+    }
+
+    /// The superblock of this number of the job of a pass is lent.
+    pub fn publish(&mut self, pass: u32, superblock: u64)
+        requires job { (job : JobView) × (job_of pass self.old ≡ Some job) }
+        ensures own { (job : JobView) → job_of pass self.old ≡ Some job → HasUpkeep pass (record (upkeep_at pass self.old.passes) { job = Some (record job { stage = Stage.Publishing; super = superblock }) }) self.old self.new }
+        ensures begun { (self.new.begun ≡ self.old.begun) × (self.new.publishing ≡ Some pass) }
+    {
+        self.publishing = Some(pass);
+        let Some(at) = self.place(pass) else {
+            return;
+        };
+        self.passes[at].publish(superblock);
+    }
+
+    /// It is published, or has come home unpublished.
+    pub fn come_home(&mut self, pass: u32, published: bool)
+        requires job { (job : JobView) × (job_of pass self.old ≡ Some job) }
+        ensures own { (job : JobView) → job_of pass self.old ≡ Some job → HasUpkeep pass (record (upkeep_at pass self.old.passes) { job = Some (record job { stage = stage_home published }) }) self.old self.new }
+        ensures begun { (self.new.begun ≡ self.old.begun) × (self.new.publishing ≡ publishing_home published self.old.publishing) }
+    {
+        if published {
+            self.go_on(pass, Stage::Published);
+        } else {
+            self.go_on(pass, Stage::Written);
+            self.publishing = None;
+        }
+    }
+
+    /// The job that holds an input of a want, the first of the passes that has one.
+    pub fn holder_of(&self, want: &Want) -> Option<u32>
+        ensures { result ≡ first_holder want.now self.now.passes }
+    {
+        holder_in(&self.passes, want)
+    }
+
+    /// There is nothing to do for what a pass asked. It has a place, and no job.
+    pub fn say_nothing(&mut self, pass: u32, want: Want)
+        requires there { IsThere pass self.old.passes }
+        requires none { job_of pass self.old ≡ None }
+        ensures own { HasUpkeep pass (asked_for_nothing want (upkeep_at pass self.old.passes)) self.old self.new }
+        ensures begun { (self.new.begun ≡ self.old.begun) × (self.new.publishing ≡ self.old.publishing) }
+    {
+        let Some(at) = self.place(pass) else {
+            return;
+        };
+        self.passes[at].say_nothing(want);
+    }
+
+    /// A job of a pass begins. It has a place.
+    pub fn begin(&mut self, pass: u32, want: Want, job: Job) -> u32
+        requires there { IsThere pass self.old.passes }
+        ensures own { HasUpkeep pass (asked want (job_in want job) (upkeep_at pass self.old.passes)) self.old self.new }
+        ensures begun { (result ≡ job.number) × (self.new.begun ≡ job.number) × (self.new.publishing ≡ self.old.publishing) }
+    {
+        let number = job.number;
+        self.begun = number;
+        let Some(at) = self.place(pass) else {
+            return number;
+        };
+        self.passes[at].begin(want, job);
+        number
+    }
+
+    /// The job of a pass has come further.
+    pub fn go_on(&mut self, pass: u32, stage: Stage)
+        requires job { (job : JobView) × (job_of pass self.old ≡ Some job) }
+        ensures own { (job : JobView) → job_of pass self.old ≡ Some job → HasUpkeep pass (record (upkeep_at pass self.old.passes) { job = Some (record job { stage = stage }) }) self.old self.new }
+        ensures begun { (self.new.begun ≡ self.old.begun) × (self.new.publishing ≡ self.old.publishing) }
+    {
+        let Some(at) = self.place(pass) else {
+            return;
+        };
+        self.passes[at].go_on(stage);
+    }
+
+    /// Its inputs were handed out, with this bound and this mark.
+    pub fn read(&mut self, pass: u32, bound: u64, mark: u64)
+        requires job { (job : JobView) × (job_of pass self.old ≡ Some job) }
+        ensures own { (job : JobView) → job_of pass self.old ≡ Some job → HasUpkeep pass (record (upkeep_at pass self.old.passes) { job = Some (record job { stage = Stage.Read; bound = bound; mark = mark }) }) self.old self.new }
+        ensures begun { (self.new.begun ≡ self.old.begun) × (self.new.publishing ≡ self.old.publishing) }
+    {
+        let Some(at) = self.place(pass) else {
+            return;
+        };
+        self.passes[at].read(bound, mark);
+    }
+
+    /// Its outputs are there.
+    pub fn swap(&mut self, pass: u32, outputs: JobOutputs)
+        requires job { (job : JobView) × (job_of pass self.old ≡ Some job) }
+        ensures own { (job : JobView) → job_of pass self.old ≡ Some job → HasUpkeep pass (record (upkeep_at pass self.old.passes) { job = Some (record job { stage = Stage.Swapped; metas = outputs.metas; held = map held_of outputs.rowsets; room = outputs.room }) }) self.old self.new }
+        ensures begun { (self.new.begun ≡ self.old.begun) × (self.new.publishing ≡ self.old.publishing) }
+    {
+        let Some(at) = self.place(pass) else {
+            return;
+        };
+        self.passes[at].swap(outputs);
+    }
+
+    /// The job of a pass, which publishes, is over, and leaves. It takes no memory.
+    pub fn finish(&mut self, pass: u32) -> Option<Job>
+        requires job { (job : JobView) × (job_of pass self.old ≡ Some job) }
+        ensures own { (job : JobView) → job_of pass self.old ≡ Some job → HasUpkeep pass (job_finished job.want (upkeep_at pass self.old.passes)) self.old self.new }
+        ensures left { (job : JobView) → job_of pass self.old ≡ Some job → (left : Job) × (result ≡ Some left) × (job_in job.want left ≡ job) }
+        ensures begun { (self.new.begun ≡ self.old.begun) × (self.new.publishing ≡ None) }
+    {
+        let at = self.place(pass)?;
+        self.publishing = None;
+        self.passes[at].finish()
+    }
+
+    /// The job of a pass is given up. It takes no memory.
+    pub fn abandon(&mut self, pass: u32)
+        requires job { (job : JobView) × (job_of pass self.old ≡ Some job) }
+        ensures own { (job : JobView) → job_of pass self.old ≡ Some job → HasUpkeep pass (job_abandoned job.want (upkeep_at pass self.old.passes)) self.old self.new }
+        ensures begun { (self.new.begun ≡ self.old.begun) × (self.new.publishing ≡ self.old.publishing) }
+    {
+        let Some(at) = self.place(pass) else {
+            return;
+        };
+        self.passes[at].abandon();
+    }
+
+    /// Whether a pass has a job.
+    pub fn has_job(&self, pass: u32) -> bool
+        ensures { result ≡ is_some (job_of pass self.now) }
+    {
+        self.job(pass).is_some()
+    }
+
+    /// The job of a pass, to be read.
+    pub fn job(&self, pass: u32) -> Option<&Job>
+        ensures { MatchOption result (job_of pass self.now ≡ None) (λ read. (want : WantSpec) × (job_of pass self.now ≡ Some (job_in want read.now))) }
+    {
+        let at = self.place(pass)?;
+        self.passes[at].job.as_ref()
+    }
+
+    /// A round of a chore of a pass begins, with all that is to do of it.
+    pub fn begin_round(
+        &mut self,
+        alloc: Global,
+        pass: u32,
+        chore: Chore,
+        todo: Vec<Want>,
+    ) -> Result<(), NoMemory>
+        ensures ok { OnOk result (HasUpkeep pass (round_of chore todo.items (upkeep_at pass self.old.passes)) self.old self.new) }
+        ensures begun { (self.new.begun ≡ self.old.begun) × (self.new.publishing ≡ self.old.publishing) }
+        ensures err { OnErr result ((k : ℕ) → upkeep_at k self.new.passes ≡ upkeep_at k self.old.passes) }
+    {
+        self.make_place(alloc, pass)?;
+        let Some(at) = self.place(pass) else {
+            return Ok(());
+        };
+        self.passes[at].begin_round(chore, todo);
+        Ok(())
+    }
+}
+
+// How many jobs these passes have.
+fn running_in(passes: &[Upkeep]) -> usize
+    ensures { result ≡ sum_by (λ p. one_job p.1.job) (map upkeep_of passes.now) }
+{
+    let mut running: usize = 0;
+    'passes: for upkeep in passes {
+        running += upkeep.jobs();
+    }
+    running
+}
+
+// The job that a pass has, where it holds an input of a want.
+fn held_by(upkeep: &Upkeep, want: &Want) -> Option<u32>
+    ensures { result ≡ or_holder want.now (upkeep_of upkeep.now).1.job None }
+{
+    let job = upkeep.job.as_ref()?;
+    if shares(want, &upkeep.want) {
+        Some(job.number)
+    } else {
+        None
+    }
+}
+
+// The job of the first pass that has one which holds an input of a want.
+fn holder_in(passes: &[Upkeep], want: &Want) -> Option<u32>
+    ensures { result ≡ first_holder want.now (map upkeep_of passes.now) }
+{
+    'passes: for upkeep in passes {
+        let holder = held_by(upkeep, want);
+        if holder.is_some() {
+            return holder;
+        }
+    }
+    None
+}
+
+// Whether two wants have an input in common. At most one flush runs, and two jobs never share a rowset.
+fn shares(want: &Want, held: &Want) -> bool
+    ensures { result ≡ shares want.now held.now }
+{
+    match (want, held) {
+        (Want::Flush, Want::Flush) => true,
+        (Want::Flush, _) => false,
+        (_, Want::Flush) => false,
+        (Want::Compact(rowsets), _) => rowsets.as_slice().iter().any(|rowset| names(held, *rowset)),
+        (Want::FlushDeltas(rowset) | Want::Minor(rowset) | Want::Major(rowset), _) => names(
+            held, *rowset,
+        ),
+    }
+}
+
+// Whether a want is on a rowset.
+fn names(want: &Want, rowset: u64) -> bool
+    ensures { result ≡ names want.now rowset }
+{
+    match want {
+        Want::Flush => false,
+        Want::FlushDeltas(other) | Want::Minor(other) | Want::Major(other) => *other == rowset,
+        Want::Compact(others) => others.as_slice().contains(&rowset),
+    }
+}
