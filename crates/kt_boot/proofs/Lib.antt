@@ -1,3 +1,4 @@
+pub mod Fresh
 pub mod Mirrored
 pub mod Owed
 pub mod Taken

@@ -1,5 +1,5 @@
 -- What was found of both devices is taken up by an engine.
-use Rattle.std.proofs.Common.{◌≡◌, ◌++◌, ◌≤◌, ℕ, List, [], ◌∷◌, map, refl, sym, ap, ◌∙◌, subst, arith}
+use Rattle.std.proofs.Common.{◌≡◌, ◌++◌, ◌≤◌, ◌^◌, ℕ, suc, List, [], ◌∷◌, map, refl, sym, ap, ◌∙◌, subst, arith}
 use Rattle.std.specs.List.{All, AllByRecursion, Contains}
 use Rattle.kt_history.specs.declared.target.Target.{Target}
 use Rattle.kt_history.specs.History.{Past, IsPastUpTo}
@@ -17,6 +17,7 @@ use Rattle.kt_diskrowset.specs.Rows.{store_with}
 use Rattle.kt_schema.specs.declared.column.Column.{Column}
 use Rattle.kt_schema.specs.Columns.{fill_of}
 use Rattle.kt_super.specs.declared.meta.Meta.{Meta}
+use Rattle.kt_super.specs.Body.{IsMeta}
 use Rattle.kt_stores.specs.Shelf.{StoresView, names_of}
 use Rattle.kt_tablet.specs.Filling.{told_stores}
 use Rattle.kt_tablet.specs.Views.{Opens}
@@ -35,7 +36,9 @@ use Rattle.kt_reopen.specs.Opened.{IsOpened}
 use Rattle.kt_reopen.proofs.Held.{key_is, key_shown}
 use Rattle.kt_reopen.proofs.OwedTold.{owed_told}
 use Rattle.kt_engine.specs.Memory.{by_name, AreNamed}
+use Rattle.kt_engine.specs.Over.{AreRowsetNames, AreShelved}
 use Rattle.kt_engine.specs.Logged.{AreCommits, TakesUp, NamesOnly, UntoldFly}
+use Rattle.kt_boot.proofs.Fresh.{AreGiven, are_given}
 use Rattle.kt_boot.proofs.Mirrored.{Stand, each_mirrors, opened_stand, opened_named}
 use Rattle.kt_boot.proofs.Owed.{owed_alone, owed_names, all_there, none_untold, content_told}
 
@@ -43,6 +46,11 @@ use Rattle.kt_boot.proofs.Owed.{owed_alone, owed_names, all_there, none_untold, 
 held_hists : (q : List ℕ) (stores : Placed) → held_in (held_of q stores) ≡ hists q (map (λ (s : Place × Store). s.1) stores)
 held_hists q [] = refl
 held_hists q (s ∷ stores) = ap (λ (l : List Hist). hist_in q s.1 ∷ l) (held_hists q stores)
+
+-- the names of disk rowsets
+rowsets_alone : (super : Super) (records : List Entry) (rowsets : List DiskRowset) → AreRowsetNames (map (name_of super records) (map (λ (d : DiskRowset). disk d.rowset) rowsets))
+rowsets_alone super records [] = tt
+rowsets_alone super records (d ∷ rowsets) = rowsets_alone super records rowsets
 
 module _ (columns : List Column) (f : Found) (m : Meta) (records queued : List Entry) (view : StoresView) (last next : ℕ) (o : IsOpened columns f m records queued view last next) where
   abbrev fill : Row
@@ -77,6 +85,21 @@ module _ (columns : List Column) (f : Found) (m : Meta) (records queued : List E
           by : (rowsets : List DiskRowset) → map (λ (s : Place × Store). s.0) (map (λ (d : DiskRowset). (disk d.rowset, store_with (readable d) (λ n. []))) rowsets) ≡ map (λ (d : DiskRowset). disk d.rowset) rowsets
           by [] = refl
           by (d ∷ rowsets) = ap (λ (ps : List Place). disk d.rowset ∷ ps) (by rowsets)
+
+  -- no number of a store is given again
+  pub numbers_are : IsMeta m → (super : Super) (names : List Target) (side : ℕ) → super ≡ f.super → names ≡ names_of view.shelf → side ≡ next → AreGiven side super (records ++ queued) names
+  numbers_are rules super names side super_is names_are side_is =
+      let given = are_given m f.super f.records queued (names_of view.shelf) next rules o.super.names.rowsets log_is o.names names_only o.next_is in
+      subst (λ (n : ℕ). AreGiven n super (records ++ queued) names) (sym side_is)
+      (subst (λ (ns : List Target). AreGiven next super (records ++ queued) ns) (sym names_are)
+      (subst (λ (l : List Entry). AreGiven next super (l ++ queued) (names_of view.shelf)) (sym o.records_are)
+      (subst (λ (s : Super). AreGiven next s (f.records ++ queued) (names_of view.shelf)) (sym super_is) given)))
+
+  -- the MemRowSet comes first, and behind it there are disk rowsets
+  pub shelved_are : (names : List Target) (frozen : ℕ) → names ≡ names_of view.shelf → frozen ≡ view.frozen → AreShelved (suc frozen) (2 ^ 64) names
+  shelved_are names frozen names_are frozen_are =
+      subst (λ (n : ℕ). AreShelved (suc n) (2 ^ 64) names) (sym (frozen_are ∙ o.frozen))
+      (subst (AreShelved 1 (2 ^ 64)) (sym (names_are ∙ o.names)) (o.fit.0, rowsets_alone f.super f.records f.super.rowsets))
 
   -- no record lies behind the last timestamp
   pub last_ends : last_of (records ++ queued) ≤ last

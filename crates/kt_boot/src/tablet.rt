@@ -11,7 +11,7 @@ ghost use Rattle.kt_diskrowset.specs.Rowset.{HeldFiles};
 ghost use Rattle.kt_files.specs.Named.{is_kept, named_in};
 ghost use Rattle.kt_files.specs.Reading.{HoldAll};
 ghost use Rattle.kt_storeside.specs.Supers.{NamedStand};
-ghost use Rattle.kt_content.specs.Rules.{Rules};
+ghost use Rattle.kt_content.specs.Rules.{Rules, AreRules};
 ghost use Rattle.kt_content.specs.Content.{IsContent as HoldsPast};
 ghost use Rattle.kt_tablet.specs.Views.{work_of};
 ghost use Rattle.kt_reopen.specs.Tables.{IsTable};
@@ -73,9 +73,9 @@ pub fn open_tablet<L: Disk, D: Disk + Drop, C: Clock>(
     // What both devices hold is what the engine stands on. Each past that its superblock and its records hold by any rules is one that it goes on from, and
     // so is each past that both devices hold; its superblock has the columns of the table then.
     ensures found { IfOk result (λ engine. (f : Whole) × StandsOn schema.now room f engine × (IsTrue L.tells → IsTrue D.tells → Answers schema.now (L.seen log) (D.seen store) (Ok f))) }
-    ensures holds { IfOk result (λ engine. (rules : Rules) (past : Past) → HoldsPast rules (fill_of schema.now) engine.super engine.records engine.tablet.core.opened past → IsContent rules engine past) }
+    ensures holds { IfOk result (λ engine. (rules : Rules) (past : Past) → AreRules rules → HoldsPast rules (fill_of schema.now) engine.super engine.records engine.tablet.core.opened past → IsContent rules engine past) }
     ensures content { IfOk result (λ engine. IsTrue L.tells → IsTrue D.tells → (rules : Rules) (c : ℕ) (past : Past) → HoldBoth rules schema.now (L.seen log) (D.seen store) c past
-        → (c ≡ engine.tablet.core.opened) × (engine.store.meta.schema ≡ schema.now) × IsContent rules engine past) }
+        → (c ≡ engine.tablet.core.opened) × (engine.store.meta.schema ≡ schema.now) × (AreRules rules → IsContent rules engine past)) }
     ensures low { IfOk result (λ engine. engine.tablet.core.opened < 2 ^ 63) }
 
     // Nothing has happened yet, and both devices are at home.
@@ -94,6 +94,10 @@ pub fn open_tablet<L: Disk, D: Disk + Drop, C: Clock>(
     ensures hold { IfOk result (λ engine. IsTrue D.tells → (held : List HeldFiles) × HoldAll (D.seen engine.store.known) engine.store.meta.rowsets held × (engine.super ≡ super_in engine.store.meta held)) }
     ensures removed { IfOk result (λ engine. IsTrue D.tells → (n : ℕ) → is_kept (named_in engine.store.meta.rowsets) n ≡ false → D.seen engine.store.known n ≡ None) }
     ensures stable { IfOk result (λ engine. IsTrue D.tells → AreStable D.seen D.now D.leaves engine.store.known) }
+
+    // It knows the names of its stores and the rowset number that it begins with.
+    ensures names { IfOk result (λ engine. engine.found ≡ engine.tablet.names) }
+    ensures first_rowset { IfOk result (λ engine. engine.first_rowset ≡ engine.store.next_rowset) }
 
     // A rowset gets a number that neither the superblock nor a COMMIT of the log has named, and a file one that the superblock gives next.
     ensures next { IfOk result (λ engine. (engine.store.next_rowset ≡ next_rowset engine.store.meta.next_rowset engine.records) × (engine.store.next_file ≡ engine.store.meta.next_file)) }

@@ -21,12 +21,13 @@ opens_none fill = record {
 }
 
 pub is_new : {C : Type 0} (old new : View C) (fill : Row) (stores : StoresView) (plan : List (List Command)) → old.core.trail ≡ [] → old.core.aloft ≡ [] → old.core.stopped ≡ false
-    → (old.mark ≡ 0) × (old.core.opened ≡ 0) × (old.opening ≡ told_stores fill stores) → stores.shelf ≡ empty_mem 7 ∷ [] → old.names ≡ names_of stores.shelf
+    → (old.mark ≡ 0) × (old.core.opened ≡ 0) × (old.opening ≡ told_stores fill stores) → stores.shelf ≡ empty_mem 7 ∷ [] → old.names ≡ names_of stores.shelf → old.frozen ≡ 0
     → new ≡ record old { core = record old.core { work = record old.core.work { plan = plan }; turns = first_turns plan } } → IsNew new plan
-is_new {C = C} old new fill stores plan trail rests goes found shelf names taken = subst (λ (v : View C). IsNew v plan) (sym taken) (record {
+is_new {C = C} old new fill stores plan trail rests goes found shelf names frozen taken = subst (λ (v : View C). IsNew v plan) (sym taken) (record {
   starts = record { planned = refl; rests = rests; turns = refl; goes = goes };
   trail = trail;
   names = names ∙ ap names_of shelf;
+  frozen = frozen;
   since = omega (arith, found.1);
   opens =
       subst (λ (o : List Store). Opens o old.mark old.core.opened empty) (sym (found.2 ∙ ap (λ (ss : List Shelved). all_told fill (suc stores.frozen) (map (λ (s : Shelved). s.store) ss)) shelf))

@@ -17,11 +17,12 @@ pub record IsAtStart (core : Core) (plan : List (List Command)) : Type 0 where
   pub turns : core.turns ≡ first_turns plan
   pub goes : core.stopped ≡ false
 
--- a tablet at the start of a plan, over one MemRowSet with no row
+-- a tablet at the start of a plan, over one MemRowSet with no row, which takes inserts
 pub record IsNew {C : Type 0} (view : View C) (plan : List (List Command)) : Type 0 where
   pub starts : IsAtStart view.core plan
   pub trail : view.core.trail ≡ []
   pub names : view.names ≡ Mem 7 ∷ []
+  pub frozen : view.frozen ≡ 0
   pub since : view.core.opened ≤ view.core.c
   pub opens : Opens view.opening view.mark view.core.opened empty
 

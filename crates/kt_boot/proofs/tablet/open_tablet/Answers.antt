@@ -11,7 +11,6 @@ use Rattle.std.specs.List.{All}
 use Rattle.kt_pool.specs.Contents.{free}
 use Rattle.kt_engine.specs.Logged.{TakesUp, NamesOnly}
 use Rattle.kt_engine.specs.Memory.{AreNamed}
-use Rattle.kt_engine.proofs.Bare.{any_numbers}
 use Rattle.kt_engine.proofs.Others.{opened_others}
 use Rattle.kt_disk.specs.Disk.{LeavesOnly}
 use Rattle.kt_reopen.specs.Holding.{KeepsContent, IsOfStore}
@@ -23,7 +22,7 @@ use Rattle.kt_reopen.proofs.Held.{content_found}
 use Rattle.kt_reopen.proofs.Taking.{some_is}
 use Rattle.kt_super.specs.Body.{IsMeta}
 use Rattle.kt_boot.proofs.Vacant.{not_kept}
-use Rattle.kt_boot.proofs.Taken.{commits_are, untold_are, named_are, names_only, last_ends, takes_up, opens_it}
+use Rattle.kt_boot.proofs.Taken.{commits_are, untold_are, named_are, names_only, numbers_are, shelved_are, last_ends, takes_up, opens_it}
 use Rattle.kt_boot.proofs.tablet.open_tablet.Goals as goal
 
 -- what both devices made has a superblock and parts that are those of what was found
@@ -96,7 +95,16 @@ of-requires-2-clause-taken_up g c = λ rules first opens holds.
     (subst (λ (l : List Entry). TakesUp (fill_of c.args.schema.now) f.super tablet.names tablet.core.stores l p.queued tablet.core.opened first) (sym found.2.records_are) up))
 
 pub of-requires-2-clause-numbers : goal.of-requires-2-clause-numbers
-of-requires-2-clause-numbers g c = any_numbers _ _ _
+of-requires-2-clause-numbers g c =
+    let p = c.in-Ok.opened in
+    let found = c.in-Ok.ensures.found in
+    numbers_are c.args.schema.now found.0 p.meta p.records p.queued p.stores p.last p.next_rowset found.2 c.in-Ok.ensures.rules _ c.in-Ok-of.tablet.names _ found.1 c.in-Ok-of.ensures.names (ap (λ s. s.next_rowset) c.of-side.ensures)
+
+pub of-requires-2-clause-shelved : goal.of-requires-2-clause-shelved
+of-requires-2-clause-shelved g c =
+    let p = c.in-Ok.opened in
+    let found = c.in-Ok.ensures.found in
+    shelved_are c.args.schema.now found.0 p.meta p.records p.queued p.stores p.last p.next_rowset found.2 c.in-Ok-of.tablet.names c.in-Ok-of.tablet.frozen c.in-Ok-of.ensures.names c.in-Ok-of.ensures.frozen
 
 pub of-requires-2-clause-untold : goal.of-requires-2-clause-untold
 of-requires-2-clause-untold g c =
@@ -149,7 +157,7 @@ returns-in-Ok-of-2-clause-found g c =
     )
 
 pub returns-in-Ok-of-2-clause-holds : goal.returns-in-Ok-of-2-clause-holds
-returns-in-Ok-of-2-clause-holds g c = λ rules past holds.
+returns-in-Ok-of-2-clause-holds g c = λ rules past closed holds.
     let view = c.in-Ok-of-2.ensures.view in
     let engine = c.in-Ok-of-2.engine in
     let tablet = ap (λ e. e.tablet) view in
@@ -161,10 +169,21 @@ returns-in-Ok-of-2-clause-holds g c = λ rules past holds.
     subst (λ (s : Super). HoldsPast rules fill s f.records engine.tablet.core.opened past) (ap (λ e. e.super) view ∙ found.1)
     (subst (λ (l : List Entry). HoldsPast rules fill engine.super l engine.tablet.core.opened past) (ap (λ e. e.records) view ∙ found.2.records_are) holds) in
     record {
+      closed = closed;
       opens = opens_it c.args.schema.now f p.meta p.records p.queued p.stores p.last p.next_rowset found.2 rules engine.tablet.core.opened past is engine.tablet.opening engine.tablet.mark engine.tablet.core.opened
           (ap (λ t. t.opening) tablet ∙ c.in-Ok-of.ensures.found.2) (ap (λ t. t.mark) tablet ∙ c.in-Ok-of.ensures.found.0) (ap (λ t. t.core.opened) tablet ∙ c.in-Ok-of.ensures.found.1) refl;
       holds = subst (λ (w : Row). HoldsPast rules w engine.super engine.records engine.tablet.core.opened past) (sym (ap (λ t. t.core.work.fill) tablet ∙ ap (λ w. w.fill) c.in-Ok-of.ensures.work)) holds;
     }
+
+pub returns-in-Ok-of-2-clause-names : goal.returns-in-Ok-of-2-clause-names
+returns-in-Ok-of-2-clause-names g c =
+    let view = c.in-Ok-of-2.ensures.view in
+    ap (λ e. e.found) view ∙ sym (ap (λ e. e.tablet.names) view)
+
+pub returns-in-Ok-of-2-clause-first_rowset : goal.returns-in-Ok-of-2-clause-first_rowset
+returns-in-Ok-of-2-clause-first_rowset g c =
+    let view = c.in-Ok-of-2.ensures.view in
+    ap (λ e. e.first_rowset) view ∙ sym (ap (λ e. e.store.next_rowset) view)
 
 pub returns-in-Ok-of-2-clause-times : goal.returns-in-Ok-of-2-clause-times
 returns-in-Ok-of-2-clause-times g c =
@@ -201,7 +220,8 @@ returns-in-Ok-of-2-clause-content g c = λ told told' rules past_last past holds
     let records : engine.records ≡ f.records = ap (λ e. e.records) view ∙ found.2.records_are in (
       last,
       ap (λ e. e.store.meta.schema) view ∙ ap (λ s. s.meta.schema) c.of-side.ensures ∙ c.in-Ok.ensures.table told told' rules past_last past holds,
-      record {
+      λ closed. record {
+        closed = closed;
         opens = opens_it c.args.schema.now f p.meta p.records p.queued p.stores p.last p.next_rowset found.2 rules engine.tablet.core.opened past is engine.tablet.opening engine.tablet.mark engine.tablet.core.opened
             (ap (λ t. t.opening) tablet ∙ c.in-Ok-of.ensures.found.2) (ap (λ t. t.mark) tablet ∙ c.in-Ok-of.ensures.found.0) (ap (λ t. t.core.opened) tablet ∙ c.in-Ok-of.ensures.found.1) refl;
         holds =

@@ -1,4 +1,4 @@
-use Rattle.std.proofs.Common.{◌≡◌, List, [], ◌∷◌, Ok, ap, sym, subst, refl, lit<, ◌∙◌}
+use Rattle.std.proofs.Common.{◌≡◌, List, [], ◌∷◌, Ok, ap, sym, subst, refl, lit<, ◌∙◌, arith}
 use Rattle.std.specs.List.{All}
 use Rattle.std.proofs.lemmas.List.Elements.{All-nil, All-cons}
 use Rattle.kt_history.specs.declared.target.Target.{Target}
@@ -10,10 +10,10 @@ use Rattle.kt_journal.proofs.Fresh.{fresh_opens, fresh_log}
 use Rattle.kt_engine.specs.Memory.{NamesDiffer}
 use Rattle.kt_engine.specs.Logged.{IsMem, AreCommits, NamesOnly}
 use Rattle.kt_engine.specs.Engines.{KeepsOthers}
-use Rattle.kt_engine.proofs.Bare.{bare_named, bare_takes_up, any_numbers}
+use Rattle.kt_engine.proofs.Bare.{bare_named, bare_takes_up}
 use Rattle.kt_engine.proofs.Others.{opened_others}
 use Rattle.kt_engine.proofs.Empty.{due_none, untold_none, log_none, last_none}
-use Rattle.kt_trial.proofs.Table.{first_says}
+use Rattle.kt_trial.proofs.Table.{first_says, first_shelved, none_given}
 use Rattle.kt_trial.proofs.opening.engine.Goals as goal
 
 pub open_journal-requires : goal.open_journal-requires
@@ -31,7 +31,13 @@ of-requires-clause-named c =
     bare_named _ _ c.fresh-superblock.ensures (mems _ c.in_ok-tablet.ensures.new.names) (subst NamesDiffer (sym c.in_ok-tablet.ensures.new.names) (tt, tt))
 
 pub of-requires-clause-numbers : goal.of-requires-clause-numbers
-of-requires-clause-numbers c = any_numbers _ _ _
+of-requires-clause-numbers c =
+    let given = none_given _ c.in-Ok.records c.no_records-none.result _ c.fresh-superblock.ensures (no_record c.new-disk.result c.in-Ok.records c.new-disk.ensures (c.in-Ok.ensures.records refl)) c.no_records-none.ensures c.in_ok-tablet.ensures.new.names in
+    let none = given.2 in
+    (given.0, given.1, omega arith, given.3)
+
+pub of-requires-clause-shelved : goal.of-requires-clause-shelved
+of-requires-clause-shelved c = first_shelved _ _ c.in_ok-tablet.ensures.new.names c.in_ok-tablet.ensures.new.frozen
 
 pub of-requires-clause-log : goal.of-requires-clause-log
 of-requires-clause-log c = log_none c.in-Ok.records c.no_records-none.result c.no_records-none.ensures c.in-Ok.ensures.sound
