@@ -1,0 +1,9 @@
+pub mod Failed
+pub mod Turns
+pub mod Readying
+pub mod Visiting
+pub mod Coming
+pub mod Stages
+pub mod Merged
+pub mod Written
+pub mod Calling

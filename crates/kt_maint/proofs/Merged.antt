@@ -1,0 +1,84 @@
+-- What was merged of the stores in memory holds the frozen ones.
+use Rattle.std.proofs.Common.{◌≡◌, ◌≤◌, ℕ, zero, suc, List, [], ◌∷◌, map, take, drop, refl, sym, ap, subst}
+use Rattle.std.specs.Prelude.{◌<◌, ◌^◌, Bool, IsTrue}
+use Rattle.std.specs.List.{AllByRecursion}
+use Rattle.std.proofs.Math.Nat.{min-le_right}
+use Rattle.kt_history.specs.History.{Past}
+use Rattle.kt_history.specs.Stores.{Store, Hist, hist_in}
+use Rattle.kt_histlaws.specs.Fitting.{AreSound}
+use Rattle.kt_histlaws.specs.Histories.{hists}
+use Rattle.kt_histlaws.specs.Jobs.{AreAlike}
+use Rattle.kt_rowfiles.specs.Files.{hist_in_files}
+use Rattle.kt_baseset.specs.declared.schema.ColumnShape.{ColumnShape}
+use Rattle.kt_deltafile.specs.declared.file.Way.{Way}
+use Rattle.kt_diskrowset.specs.declared.files.FileHeld.{FileHeld}
+use Rattle.kt_diskrowset.specs.declared.data.RowSetData.{RowSetData}
+use Rattle.kt_diskrowset.specs.declared.inputs.Inputs.{Inputs}
+use Rattle.kt_diskrowset.specs.Data.{files_in}
+use Rattle.kt_rowfiles.specs.declared.taking.Span.{Span}
+use Rattle.kt_content.specs.Rules.{Rules}
+use Rattle.kt_merge.specs.Merge.{hists_upto, hists_written, AreFaultless, HaveEach}
+use Rattle.kt_merge.specs.Told.{AreFilesOver, IsOutput, AreOutputs, told_by_all}
+use Rattle.kt_outputs.specs.Outputs.{AreOfWay, AreWhole}
+use Rattle.kt_joblaws.specs.Outputs.{outputs_pass, marks_may_rise}
+use Rattle.kt_tablet.specs.Views.{View}
+use Rattle.kt_tablet.specs.Jobs.{frozen_stores, rows_in_first}
+use Rattle.kt_engine.specs.Engines.{EngineView, IsFound, IsContent}
+use Rattle.kt_engine.specs.Logged.{PlanPasses}
+use Rattle.kt_engine.specs.JobSteps.{HasInput, TellAll, TellPassing, HoldInputs}
+use Rattle.kt_maint.specs.Runs.{HoldsMerged}
+
+-- ---- the outputs
+
+of_way : (way : Way) (rows : ℕ) (files : List FileHeld) → AreFilesOver way rows files → AreOfWay way rows files
+of_way way rows [] are = tt
+of_way way rows (f ∷ files) are = (record { way_is = are.0.0; fits = are.0.1 }, of_way way rows files are.1)
+
+whole : (columns : List ColumnShape) (outputs : List RowSetData) → AllByRecursion (IsOutput columns) outputs → AreWhole outputs
+whole columns [] are = tt
+whole columns (d ∷ outputs) are = (record { undo = of_way _ _ d.undo are.0.undo.1; redo = of_way _ _ d.redo are.0.redo.1 }, whole columns outputs are.1)
+
+written_is : (q : List ℕ) (outputs : List RowSetData) → hists_written q outputs ≡ map (hist_in_files q) (map files_in outputs)
+written_is q [] = refl
+written_is q (d ∷ outputs) = ap (λ (l : List Hist). hist_in_files q (files_in d) ∷ l) (written_is q outputs)
+
+-- ---- the store that takes inserts has nothing
+
+none_taken : (q : List ℕ) (n : ℕ) → hists q (take n []) ≡ []
+none_taken q zero = refl
+none_taken q (suc n) = refl
+
+without_first : (a n : ℕ) (q : List ℕ) (stores : List Store) (zs : List Hist) → rows_in_first stores ≡ [] → AreAlike a (hists q (take (suc n) stores)) zs → AreAlike a (hists q (take n (drop 1 stores))) zs
+without_first a n q [] zs none h = subst (λ (l : List Hist). AreAlike a l zs) (sym (none_taken q n)) h
+without_first a n q (s ∷ stores) zs none h =
+    let bare = subst (λ (x : Store). AreAlike a (hist_in q x ∷ hists q (take n stores)) zs) none h in
+    record { rows = bare.rows; steps = bare.steps; one_row = bare.one_row; one_step = bare.one_step }
+
+merged_hold : {C : Type 0} (rise : marks_may_rise) (tablet : View C) (inputs : Inputs) (bound mark : ℕ) (outputs : List RowSetData) → rows_in_first tablet.core.stores ≡ [] → TellAll tablet bound inputs → mark ≤ tablet.core.a
+    → ((q : List ℕ) → AreAlike mark (hists_upto bound q inputs) (hists_written q outputs)) → ((q : List ℕ) → AreSound mark (hists_written q outputs)) → HoldInputs tablet (map files_in outputs)
+merged_hold rise tablet inputs bound mark outputs none tell low alike sound = record {
+  alike = λ q.
+      let later = (rise mark tablet.core.a (hists_upto bound q inputs) (hists_written q outputs) low).0 (alike q) in
+      subst (AreAlike tablet.core.a (hists q (frozen_stores tablet))) (written_is q outputs)
+      (without_first tablet.core.a tablet.frozen q tablet.core.stores (hists_written q outputs) none (subst (λ (l : List Hist). AreAlike tablet.core.a l (hists_written q outputs)) (tell q) later));
+  sound = λ q. subst (AreSound tablet.core.a) (written_is q outputs) ((rise mark tablet.core.a (hists_upto bound q inputs) (hists_written q outputs) low).1 (sound q));
+}
+
+-- ---- so it is of an engine that has come further
+
+module _ {L D C : Type 0} (tells : Bool) (a b : EngineView L D C) (inputs : Inputs) (bound mark : ℕ) (outputs : List RowSetData) where
+  abbrev span : Span
+  span = record { mark = mark; bound = bound }
+
+  pub holds_merged : marks_may_rise → outputs_pass → b ≡ record a { upkeep = b.upkeep } → rows_in_first a.tablet.core.stores ≡ [] → HasInput a.tablet inputs bound mark → mark < 2 ^ 64
+      → ((first : Past) → IsFound a first → AreFaultless span inputs) → ((first : Past) → IsFound a first → TellAll a.tablet bound inputs)
+      → (IsTrue tells → (rules : Rules) (first : Past) → IsContent rules a first → PlanPasses rules a.tablet.core.work → TellPassing rules bound mark inputs)
+      → AreOutputs inputs.columns outputs → (AreFaultless span inputs → HaveEach span inputs (told_by_all outputs))
+      → (AreFaultless span inputs → (q : List ℕ) → AreAlike mark (hists_upto bound q inputs) (hists_written q outputs)) → (AreFaultless span inputs → (q : List ℕ) → AreSound mark (hists_written q outputs)) → HoldsMerged tells b outputs
+  holds_merged rise pass is none input low faultless tell passing made each alike sound =
+      let of_mark : mark ≤ a.tablet.core.a = subst (λ (m : ℕ). m ≤ a.tablet.core.a) (sym input.mark_is) (min-le_right bound a.tablet.core.a) in
+      subst (λ (v : EngineView L D C). HoldsMerged tells v outputs) (sym is) (record {
+        whole = whole inputs.columns outputs made.each;
+        holds = λ first found. let fit = faultless first found in merged_hold rise a.tablet inputs bound mark outputs none (tell first found) of_mark (alike fit) (sound fit);
+        passes = λ told rules first content plan. let fit = faultless first content.opens in pass rules span inputs outputs content.closed low fit made (each fit) (passing told rules first (record { closed = content.closed; opens = content.opens; holds = content.holds }) plan);
+      })

@@ -1,0 +1,206 @@
+-- The outputs of a job, written: its superblock may be published, and once it is the job may finish.
+use Rattle.std.proofs.Common.{◌≡◌, ◌≤◌, ◌<◌, ◌+◌, ◌^◌, ◌++◌, ℕ, suc, Bool, true, false, List, [], ◌∷◌, length, map, Some, None, Result, Ok, Err, refl, sym, ap, subst, ◌∙◌, arith}
+use Rattle.std.specs.Prelude.{IsTrue, OnOk, ◌==◌, ◌≢◌}
+use Rattle.std.specs.List.{AllByRecursion}
+use Rattle.std.proofs.lemmas.Bool.Decides.{nat_tests}
+use Rattle.std.proofs.lemmas.List.{length-map}
+use Rattle.kt_disk.specs.Disk.{Files}
+use Rattle.kt_history.specs.History.{Past}
+use Rattle.kt_history.specs.Stores.{Hist}
+use Rattle.kt_histlaws.specs.Fitting.{AreSound}
+use Rattle.kt_histlaws.specs.Histories.{hists}
+use Rattle.kt_histlaws.specs.Jobs.{AreAlike}
+use Rattle.kt_rowfiles.specs.Files.{DiskRowset, hist_in_files}
+use Rattle.kt_content.specs.Content.{LacksNumber, NumbersDiffer, IsContent as HoldsPast}
+use Rattle.kt_content.specs.Flushes.{AreFrom, before}
+use Rattle.kt_content.specs.Rules.{Rules, RowsetsPass}
+use Rattle.kt_content.specs.RunEvents.{RowsetsBelow}
+use Rattle.kt_super.specs.declared.meta.MetaRowset.{MetaRowset}
+use Rattle.kt_super.specs.declared.meta.Meta.{Meta}
+use Rattle.kt_super.specs.Rowsets.{is_small, AreRowsets}
+use Rattle.kt_diskrowset.specs.declared.data.RowSetData.{RowSetData}
+use Rattle.kt_diskrowset.specs.Data.{files_in, held_in}
+use Rattle.kt_diskrowset.specs.Rowset.{HeldFiles}
+use Rattle.kt_files.specs.Content.{rowsets_in}
+use Rattle.kt_files.specs.Named.{HasNamed}
+use Rattle.kt_files.specs.Reading.{HoldAll}
+use Rattle.kt_outputs.specs.Outputs.{meta_in, AreWritten}
+use Rattle.kt_outputs.specs.Named.{outputs_come_behind, outputs_stand}
+use Rattle.kt_joblaws.specs.Written.{written_rowsets_are_the_same, written_rowsets_pass, named_rowsets_tell}
+use Rattle.kt_storeside.specs.Sides.{StoreView, MayBeLent, IsSide}
+use Rattle.kt_storeside.proofs.Named.{first_file}
+use Rattle.kt_tablet.specs.Views.{View, Opens}
+use Rattle.kt_tablet.specs.Jobs.{frozen_stores, MayChangeOver}
+use Rattle.kt_pick.specs.declared.rules.Want.TheVariants as want
+use Rattle.kt_engine.specs.declared.job.MaintNo.{MaintNo}
+use Rattle.kt_engine.specs.declared.job.MaintNo.TheVariants as no
+use Rattle.kt_engine.specs.declared.upkeep.Stage.TheVariants as stage
+use Rattle.kt_engine.specs.Over.{bare_store}
+use Rattle.kt_engine.specs.Engines.{EngineView, IsContent}
+use Rattle.kt_engine.specs.Stored.{next_super, job_meta}
+use Rattle.kt_engine.specs.Logged.{PlanPasses}
+use Rattle.kt_engine.specs.Visits.{Root, root_of}
+use Rattle.kt_engine.specs.JobSteps.{HoldInputs, MayPublishJob, MayFinish, outputs_of}
+use Rattle.kt_engine.specs.Jobs.{JobView, job_of}
+use Rattle.kt_engine.proofs.Flushed.{bare_hists}
+use Rattle.kt_engine.proofs.Visiting.{root_stays}
+use Rattle.kt_maint.specs.Runs.{IsQuiet, IsReady, IsPublished, HasFiles, HoldsMerged, JobHas}
+use Rattle.kt_maint.proofs.Stages.{ready_then}
+
+-- ---- what was written
+
+pub from_written : (first number : ℕ) (outputs out : List RowSetData) → first ≤ number → AreWritten number outputs out → AreFrom first (map files_in out)
+from_written first number [] [] low w = tt
+from_written first number [] (d ∷ out) low w = absurd w
+from_written first number (r ∷ outputs) [] low w = absurd w
+from_written first number (r ∷ outputs) (d ∷ out) low w =
+    (subst (λ (n : ℕ). first ≤ n) (sym (ap (λ (f : DiskRowset). f.rowset) w.0)) low, from_written first (suc number) outputs out (omega arith) w.2)
+
+lacks_written : (r number : ℕ) (outputs out : List RowSetData) → r < number → AreWritten number outputs out → LacksNumber r (map files_in out)
+lacks_written r number [] [] low w = tt
+lacks_written r number [] (d ∷ out) low w = absurd w
+lacks_written r number (x ∷ outputs) [] low w = absurd w
+lacks_written r number (x ∷ outputs) (d ∷ out) low w =
+    (subst (λ (n : ℕ). (r == n) ≡ false) (sym (ap (λ (f : DiskRowset). f.rowset) w.0)) (grind (arith, nat_tests)), lacks_written r (suc number) outputs out (omega arith) w.2)
+
+differ_written : (number : ℕ) (outputs out : List RowSetData) → AreWritten number outputs out → NumbersDiffer (map files_in out)
+differ_written number [] [] w = tt
+differ_written number [] (d ∷ out) w = absurd w
+differ_written number (x ∷ outputs) [] w = absurd w
+differ_written number (x ∷ outputs) (d ∷ out) w =
+    (lacks_written (files_in d).rowset (suc number) outputs out (let e = ap (λ (f : DiskRowset). f.rowset) w.0 in omega arith) w.2, differ_written (suc number) outputs out w.2)
+
+below_written : (number next last : ℕ) (outputs out : List RowSetData) → number + length outputs ≤ next → AreWritten number outputs out → RowsetsBelow (before next last) (map files_in out)
+below_written number next last [] [] low w = tt
+below_written number next last [] (d ∷ out) low w = absurd w
+below_written number next last (x ∷ outputs) [] low w = absurd w
+below_written number next last (x ∷ outputs) (d ∷ out) low w =
+    (let e = ap (λ (f : DiskRowset). f.rowset) w.0 in omega arith, below_written (suc number) next last outputs out (omega arith) w.2)
+
+no_dms : (out : List RowSetData) → AllByRecursion (λ (d : DiskRowset). d.last_dms ≡ 0) (map files_in out)
+no_dms [] = tt
+no_dms (d ∷ out) = (refl, no_dms out)
+
+pub fresh_written : (number : ℕ) (outputs out : List RowSetData) → AreWritten number outputs out → AllByRecursion (λ (d : RowSetData). d.fresh ≡ []) out
+fresh_written number [] [] w = tt
+fresh_written number [] (d ∷ out) w = absurd w
+fresh_written number (x ∷ outputs) [] w = absurd w
+fresh_written number (x ∷ outputs) (d ∷ out) w = (w.1, fresh_written (suc number) outputs out w.2)
+
+-- ---- the past that opening found
+
+content_back : {L D C : Type 0} (rules : Rules) (first : Past) (a c : EngineView L D C) → root_of c ≡ root_of a → IsContent rules c first → IsContent rules a first
+content_back {L} {D} {C} rules first a c root is = record {
+  closed = is.closed;
+  opens = subst (λ (r : Root L D C). Opens r.opening r.mark r.opened first) root is.opens;
+  holds = subst (λ (r : Root L D C). HoldsPast rules r.work.fill r.super r.records r.opened first) root is.holds;
+}
+
+-- ---- publishing
+
+module _ {L D C : Type 0} (tells : Bool) (seen : D → Files) (now : D → ℕ) (leaves : D → ℕ → Files → Type 0) (n : ℕ) where
+  module _ (faults : D → ℕ) (a c : EngineView L D C) (merged out : List RowSetData) (side : IsSide tells seen now leaves faults a.store) (files : HasFiles tells seen now leaves a.store c.store merged out) (has : JobHas c n stage.Written out) where
+    tells_outputs : named_rowsets_tell → outputs_of has.at.job ≡ map files_in out
+    tells_outputs told = (λ k. rowsets_in (has.metas k) (has.held k)) ∙ told out
+
+    holds_files : IsTrue tells → HoldAll (seen c.store.known) has.at.job.metas has.at.job.held
+    holds_files told =
+        subst (λ (ms : List MetaRowset). HoldAll (seen c.store.known) ms has.at.job.held) (sym has.metas)
+        (subst (λ (hs : List HeldFiles). HoldAll (seen c.store.known) (map (meta_in 0) out) hs) (sym has.held) (files.holds told))
+
+    come_behind : outputs_come_behind → MayBeLent tells seen now leaves c.store (next_super c) → AreRowsets c.store.next_rowset c.store.next_file 0 [] (job_meta c has.at.job).rowsets
+    come_behind behind may =
+        let low : 3 ≤ a.store.next_file = (let x = first_file a.store.meta side.rules in let y = side.files in omega arith) in
+        subst (λ (ms : List MetaRowset). AreRowsets c.store.next_rowset c.store.next_file 0 [] (c.store.meta.rowsets ++ ms)) (sym has.metas)
+        (behind c.store.meta.rowsets a.store.meta.next_rowset a.store.meta.next_file a.store.next_rowset a.store.next_file c.store.next_rowset c.store.next_file merged out
+        (subst (λ (m : Meta). AreRowsets a.store.meta.next_rowset a.store.meta.next_file 0 [] m.rowsets) (sym files.meta) side.rules.rowsets) may.next.rules.rowsets side.rowsets side.files low files.written files.rowset files.numbered files.short)
+
+    may_be_lent : outputs_come_behind → outputs_stand → MayBeLent tells seen now leaves c.store (next_super c) → is_small has.at.job.last_mem ≡ true → MayBeLent tells seen now leaves c.store (job_meta c has.at.job)
+    may_be_lent behind stand may small = record {
+      next = record {
+        rules = record {
+          number = may.next.rules.number;
+          a = may.next.rules.a;
+          c = may.next.rules.c;
+          need = may.next.rules.need;
+          last_mem = small;
+          next_rowset = may.next.rules.next_rowset;
+          next_file = may.next.rules.next_file;
+          next_column = may.next.rules.next_column;
+          count = may.next.rules.count;
+          columns = may.next.rules.columns;
+          schema = may.next.rules.schema;
+          rowsets = come_behind behind may;
+        };
+        number = may.next.number;
+        rowsets = may.next.rowsets;
+        files = may.next.files;
+      };
+      files = λ told image left.
+          subst (λ (ms : List MetaRowset). HasNamed (c.store.meta.rowsets ++ ms) (seen c.store.known) image) (sym has.metas)
+          (stand c.store.meta.rowsets a.store.next_file c.store.next_file out (seen c.store.known) image files.numbered (files.stable told image left) (may.files told image left));
+    }
+
+    pub may_publish : written_rowsets_are_the_same → written_rowsets_pass → named_rowsets_tell → outputs_come_behind → outputs_stand → HoldsMerged tells a merged → IsReady c → c.tablet ≡ a.tablet → root_of c ≡ root_of a
+        → MayPublishJob tells seen now leaves c has.at.job
+    may_publish same pass told behind stand holds ready tablet root =
+        let job = has.at.job in
+        let is = tells_outputs told in
+        let of_outputs : (q : List ℕ) → map (hist_in_files q) (map files_in merged) ≡ map (hist_in_files q) (outputs_of job) =
+        λ q. sym (ap (map (hist_in_files q)) is ∙ same a.store.next_rowset merged out q files.written) in
+        record {
+          at = has.at.at;
+          calm = ready.calm;
+          takes = has.at.takes;
+          from = subst (AreFrom job.first_rowset) (sym is) has.from;
+          differ = subst NumbersDiffer (sym is) (differ_written a.store.next_rowset merged out files.written);
+          given = subst (RowsetsBelow (before c.store.next_rowset job.last_mem)) (sym is) (below_written a.store.next_rowset c.store.next_rowset job.last_mem merged out (let e = files.rowset in omega arith) files.written);
+          up = (has.at.given, files.small);
+          first_dms = subst (AllByRecursion (λ (d : DiskRowset). d.last_dms ≡ 0)) (sym is) (no_dms out);
+          hold = holds_files;
+          holds = λ first found.
+              let h : HoldInputs c.tablet (map files_in merged) = subst (λ (t : View C). HoldInputs t (map files_in merged)) (sym tablet) (holds.holds first (subst (λ (t : View C). Opens t.opening t.mark t.core.opened first) tablet found)) in
+              record {
+                alike = λ q. subst (λ (hs : List Hist). AreAlike c.tablet.core.a (hists q (frozen_stores c.tablet)) hs) (of_outputs q) (h.alike q);
+                sound = λ q. subst (λ (hs : List Hist). AreSound c.tablet.core.a hs) (of_outputs q) (h.sound q);
+              };
+          passes = λ tell rules first content plan.
+              subst (RowsetsPass rules) (sym is) (pass rules a.store.next_rowset merged out files.written (holds.passes tell rules first (content_back rules first a c root content) (subst (λ (t : View C). PlanPasses rules t.core.work) tablet plan)));
+          lent = may_be_lent behind stand;
+        }
+
+  -- once it is published the job may finish
+  pub may_finish : (c d : EngineView L D C) (out : List RowSetData) (has : JobHas c n stage.Written out) → MayPublishJob tells seen now leaves c has.at.job → IsQuiet n c d → (p : IsPublished n has.at.job c d) → MayFinish d n (record has.at.job { stage = stage.Published; super = p.number })
+  may_finish c d out has may quiet p =
+      let job = has.at.job in
+      let long : length job.held ≡ length out = ap length has.held ∙ length-map out held_in in
+      record {
+        at = refl;
+        calm = ap (λ (t : View C). t.core.aloft) quiet.tablet ∙ may.calm;
+        published = p.own;
+        may = subst (λ (t : View C). MayChangeOver t (map bare_store (outputs_of job))) (sym quiet.tablet) (record {
+          alike = λ first opens q. subst (λ (hs : List Hist). AreAlike c.tablet.core.a (hists q (frozen_stores c.tablet)) hs) (sym (bare_hists q (outputs_of job))) ((may.holds first opens).alike q);
+          sound = λ first opens q. subst (λ (hs : List Hist). AreSound c.tablet.core.a hs) (sym (bare_hists q (outputs_of job))) ((may.holds first opens).sound q);
+        });
+        room = subst (λ (t : View C). length t.core.stores + length job.held ≤ job.room + t.frozen + 1) (sym quiet.tablet) (subst (λ (k : ℕ). length c.tablet.core.stores + k ≤ job.room + c.tablet.frozen + 1) (sym long) has.room);
+        few = subst (λ (t : View C). length t.core.stores + length job.held < 2 ^ 32) (sym quiet.tablet) (subst (λ (k : ℕ). length c.tablet.core.stores + k < 2 ^ 32) (sym long) has.few);
+        given = subst (λ (k : ℕ). RowsetsBelow (before k job.last_mem) (outputs_of job)) (sym p.numbers) may.given;
+        small = subst (λ (k : ℕ). k < 2 ^ 64) (sym p.numbers) may.up.1;
+        begun = λ e. has.at.begun (sym quiet.asks.begun ∙ e);
+      }
+
+  -- what was merged, written and handed in
+  pub may_publish_then : (faults : D → ℕ) (e0 e1 e2 e3 : EngineView L D C) (merged out : List RowSetData) → written_rowsets_are_the_same → written_rowsets_pass → named_rowsets_tell → outputs_come_behind → outputs_stand
+      → IsSide tells seen now leaves faults e0.store → IsReady e0 → IsQuiet n e0 e1 → e1 ≡ record e0 { upkeep = e1.upkeep } → HoldsMerged tells e1 merged → IsQuiet n e1 e2 → HasFiles tells seen now leaves e1.store e2.store merged out → e2.store.holder ≡ None
+      → IsQuiet n e2 e3 → e3 ≡ record e2 { upkeep = e3.upkeep } → (has : JobHas e3 n stage.Written out) → MayPublishJob tells seen now leaves e3 has.at.job
+  may_publish_then faults e0 e1 e2 e3 merged out same pass told behind stand side ready q1 beside1 holds q2 files home q3 beside3 has =
+      may_publish faults e1 e3 merged out (subst (IsSide tells seen now leaves faults) (sym (ap (λ (v : EngineView L D C). v.store) beside1)) side)
+      (subst (λ (s : StoreView D). HasFiles tells seen now leaves e1.store s merged out) (sym (ap (λ (v : EngineView L D C). v.store) beside3)) files) has same pass told behind stand holds
+      (ready_then n e0 e3 (q3.tablet ∙ q2.tablet ∙ q1.tablet) (q3.log ∙ q2.log ∙ q1.log) (ap (λ (v : EngineView L D C). v.store.holder) beside3 ∙ home) ready) (q3.tablet ∙ q2.tablet)
+      (root_stays n e2 e3 q3.visit ∙ root_stays n e1 e2 q2.visit)
+
+  pub may_finish_then : (c d : EngineView L D C) (out : List RowSetData) (has : JobHas c n stage.Written out) → MayPublishJob tells seen now leaves c has.at.job → (r : Result (Unit {0}) MaintNo) → (r ≢ Err no.Stopped → IsQuiet n c d) → OnOk r (IsPublished n has.at.job c d)
+      → OnOk r ((job : JobView) × (job_of n d.upkeep ≡ Some job) × (job.want ≡ want.Flush) × MayFinish d n job)
+  may_finish_then c d out has may (Ok done) quiet p =
+      let is = quiet (λ e. cc) in (record has.at.job { stage = stage.Published; super = p.number }, p.has, has.at.want, may_finish c d out has may is p)
+  may_finish_then c d out has may (Err x) quiet p = tt

@@ -1,0 +1,31 @@
+use Rattle.std.proofs.Common.{◌≡◌, ◌+◌, true, refl, sym, ap, ◌∙◌, arith}
+use Rattle.kt_engine.specs.Jobs.{JobView}
+use Rattle.std.proofs.Math.Nat.{le-max_left}
+use Rattle.kt_engine.specs.Near.{most_rowsets}
+use Rattle.kt_storeside.specs.Sides.{published_in}
+use Rattle.kt_maint.proofs.Stages.{some_is}
+use Rattle.kt_maint.proofs.Visiting.{came_broken}
+use Rattle.kt_maint.proofs.publishing.publish_and_return.Goals as goal
+
+pub returns-in-Ok-clause-published : goal.returns-in-Ok-clause-published
+returns-in-Ok-clause-published g c = λ job has.
+    let p = c.requires.publishing in
+    let same : p.job ≡ job = some_is p.job job (sym p.has ∙ has) in (
+      c.store_home.ensures.came job p.meta p.is.0 p.own.0 has,
+      ap (λ v. v.store.meta.number) c.store_home.ensures.home ∙ ap (λ o. (published_in true o c.args.engine.now.store.meta).number) p.is.0 ∙ sym p.own.1 ∙ ap (λ (j : JobView). j.super) same,
+    )
+
+pub returns-in-Err-Memory-clause-memory : goal.returns-in-Err-Memory-clause-memory
+returns-in-Err-Memory-clause-memory g c = λ job has stops. let p = c.requires.publishing in c.store_home-in-Err-Memory.ensures.came job p.meta p.is.0 p.own.0 has
+
+pub returns-in-Err-Fault-clause-broken : goal.returns-in-Err-Fault-clause-broken
+returns-in-Err-Fault-clause-broken g c = λ stops. came_broken c.args.by c.args.engine.now _ _ (c.stop.ensures.store_home _ refl) (c.stop.ensures.core c.requires.goes) refl refl
+
+pub returns-in-Err-Fault-clause-numbers : goal.returns-in-Err-Fault-clause-numbers
+returns-in-Err-Fault-clause-numbers g c = ap (λ v. v.store.next_rowset) (c.stop.ensures.store_home _ refl)
+
+pub store_home-requires-clause-near : goal.store_home-requires-clause-near
+store_home-requires-clause-near g c = let n = c.requires.publishing.numbers.0 in let left = le-max_left c.args.engine.now.store.next_rowset (c.args.engine.now.first_rowset + most_rowsets) in omega (arith, n, left)
+
+pub store_home-requires-in-Err-Memory-clause-near : goal.store_home-requires-in-Err-Memory-clause-near
+store_home-requires-in-Err-Memory-clause-near g c = let n = c.requires.publishing.numbers.0 in let left = le-max_left c.args.engine.now.store.next_rowset (c.args.engine.now.first_rowset + most_rowsets) in omega (arith, n, left)

@@ -1,0 +1,75 @@
+-- What a call for a job tells by the part of its pass.
+use Rattle.std.specs.Prelude.{◌≡◌, ◌^◌, ◌-◌, Bool, true, false, List, [], ◌∷◌, Option, Some, None, Result, Ok, Err}
+use Rattle.kt_base.specs.declared.chore.Chore.{Chore}
+use Rattle.kt_history.specs.declared.event.Event.{Event}
+use Rattle.kt_history.specs.declared.event.Event.TheVariants as event
+use Rattle.kt_pick.specs.declared.rules.Want.{Want}
+use Rattle.kt_pick.specs.declared.rules.Want.TheVariants as want
+use Rattle.kt_engine.specs.Visits.{PartView}
+use Rattle.kt_engine.specs.Calls.{HasNoDevice}
+use Rattle.kt_engine.specs.Jobs.{Last, none, nothing, begun, finished, abandoned, more, without_want}
+use Rattle.kt_engine.specs.declared.job.MaintNo.{MaintNo}
+use Rattle.kt_engine.specs.declared.job.MaintNo.TheVariants as no
+use Rattle.kt_maint.specs.declared.run.Ran.{Ran}
+use Rattle.kt_maint.specs.declared.run.Ran.TheVariants as ran
+use Rattle.kt_maint.specs.declared.flush.Turn.{Turn}
+use Rattle.kt_maint.specs.declared.flush.Turn.TheVariants as turn
+
+-- the history has a `stop` line
+abbrev pub has_stop : List Event → Bool
+has_stop [] = false
+has_stop (event.Stop ∷ lines) = true
+has_stop (_ ∷ lines) = has_stop lines
+
+-- what was asked
+abbrev pub want_of : Last → Want
+want_of none = want.Flush
+want_of (nothing w) = w
+want_of (begun w) = w
+want_of (finished w) = w
+want_of (abandoned w) = w
+
+-- it asked once more, or the count of its asks stands at its end, the ask ended so, and no job is left of it
+pub record HasAsked {L D C : Type 0} (last : Last) (before after : Option (PartView L D C)) : Type 0 where
+  pub was : PartView L D C
+  pub was_is : before ≡ Some was
+  pub part : PartView L D C
+  pub is : after ≡ Some part
+  pub asks : part.pass.upkeep.asks ≡ more (2 ^ 64 - 1) was.pass.upkeep.asks
+  pub last_is : part.pass.upkeep.last ≡ last
+  pub round : (part.pass.upkeep.round ≡ was.pass.upkeep.round) × (part.pass.upkeep.rounds ≡ was.pass.upkeep.rounds)
+  pub todo : part.pass.upkeep.todo ≡ without_want (want_of last) was.pass.upkeep.todo
+  pub job : part.pass.upkeep.job ≡ None
+
+-- a call for this want
+abbrev pub AfterCall : {L D C : Type 0} → Want → Option (PartView L D C) → Option (PartView L D C) → List Event → Result Ran MaintNo → Type 0
+AfterCall w before after seen (Ok ran.Done) = HasAsked (finished w) before after × HasNoDevice after
+AfterCall w before after seen (Ok ran.Nothing) = HasAsked (nothing w) before after × HasNoDevice after
+AfterCall w before after seen (Err no.Stopped) = (has_stop seen ≡ true) × HasNoDevice after
+AfterCall w before after seen (Err no.Memory) = HasNoDevice after
+
+-- it has what it had of maintenance
+pub record SameUpkeep {L D C : Type 0} (before after : Option (PartView L D C)) : Type 0 where
+  pub was : PartView L D C
+  pub was_is : before ≡ Some was
+  pub part : PartView L D C
+  pub is : after ≡ Some part
+  pub same : part.pass.upkeep ≡ was.pass.upkeep
+
+-- one try of it in a visit
+abbrev pub AfterTurn : {L D C : Type 0} → Want → Option (PartView L D C) → Option (PartView L D C) → List Event → Turn → Type 0
+AfterTurn w before after seen turn.Done = HasAsked (finished w) before after × HasNoDevice after
+AfterTurn w before after seen turn.Nothing = HasAsked (nothing w) before after × HasNoDevice after
+AfterTurn w before after seen turn.Wait = SameUpkeep before after × HasNoDevice after
+AfterTurn w before after seen turn.Stopped = (has_stop seen ≡ true) × HasNoDevice after
+AfterTurn w before after seen turn.Memory = HasNoDevice after
+
+-- a round has begun, and these are its wants
+pub record HasBegunRound {L D C : Type 0} (chore : Chore) (wants : List Want) (before after : Option (PartView L D C)) : Type 0 where
+  pub was : PartView L D C
+  pub was_is : before ≡ Some was
+  pub part : PartView L D C
+  pub is : after ≡ Some part
+  pub rounds : part.pass.upkeep.rounds ≡ more (2 ^ 64 - 1) was.pass.upkeep.rounds
+  pub round : part.pass.upkeep.round ≡ Some chore
+  pub todo : part.pass.upkeep.todo ≡ wants

@@ -1,0 +1,18 @@
+//! Maintenance: a flush, and the chores of a maintenance command.
+//!
+//! For the layer above: each `run_` call does one job for its want, or tells that there is nothing to do, and shows nothing of it: the tablet has the
+//! same rows at each time from its mark on. `run_chore` does all that a command asks for. A job is run in one visit of the lock, while nothing flies and no
+//! record waits for the log, and its device calls are made inside that visit. It stands on kt_engine for the events of a job, on kt_merge for what is
+//! written, and on kt_files and kt_storeside for the files and the superblock.
+#![tactic(auto)]
+
+pub mod chore;
+pub mod flush;
+mod numbers;
+mod publishing;
+mod ready;
+pub mod run;
+mod writing;
+
+pub use chore::run_chore;
+pub use run::{Ran, run_flush};
