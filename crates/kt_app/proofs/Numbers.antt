@@ -32,10 +32,12 @@ use Rattle.kt_reopen.specs.declared.why.Why.{Why}
 use Rattle.kt_reopen.specs.Both.{Read, Found, Answers, AnswersLater, read_both, count_why, unless, super_in, stores_after, nothing, found_or_late}
 use Rattle.kt_reopen.specs.Both.Answers.{at_once, first, later}
 use Rattle.kt_reopen.specs.Both.AnswersLater.{in_file, in_column, too_late, whole}
-use Rattle.kt_reopen.specs.Opened.{found_of}
-use Rattle.kt_reopen.specs.Numbers.{named_of, named_by, greatest_mem, greatest_dms, dms_under, name_of}
+use Rattle.kt_reopen.specs.Holding.{IsOfStore}
+use Rattle.kt_reopen.specs.Opened.{found_of, first_meta}
+use Rattle.kt_reopen.specs.Numbers.{next_rowset, behind_rowsets, named_of, named_by, greatest_mem, greatest_dms, dms_under, name_of}
 use Rattle.kt_engine.specs.Engines.{KeepsOthers}
-use Rattle.kt_engine.specs.Logged.{NamesOnly, HoldsRecords}
+use Rattle.kt_engine.specs.Logged.{HoldsRecords}
+use Rattle.kt_engine.specs.Near.{NamesEach, IsUpTo, IsBelow}
 use Rattle.kt_app.specs.Images.{Image, CrashLeaves, Both, KeepsFrames, KeepsFiles, IsSlotNumber, numbers_by, numbers_in as spelled, AreUpTo, LogIsNear}
 
 -- ---- the files beside the log
@@ -48,10 +50,6 @@ pub keeps_files : {L : Type 0} (tells : Bool) (now : L → ℕ) (leaves : L → 
 keeps_files tells now leaves log logged others files left = let was = others left.0 files left.1 in (was.image, (left.0, was.was_left), λ n apart. was.others n (apart, tt))
 
 -- ---- numbers of stores up to a bound
-
-abbrev pub IsUpTo : ℕ → Target → Type 0
-IsUpTo b (Mem m) = m ≤ b
-IsUpTo b (Delta r d) = (r ≤ b) × (d ≤ b)
 
 no_number : (n : ℕ) → Contains [] n → ⊥
 no_number n has = omega (arith, has.1)
@@ -92,30 +90,6 @@ module _ (b : ℕ) where
   targets_low (Delta r d ∷ targets) low = All-cons (IsUpTo b) (Delta r d) targets (low r (has_first r (d ∷ numbers_in targets)), low d (has_rest r (d ∷ numbers_in targets) d (has_first d (numbers_in targets))))
       (targets_low targets (λ n has. low n (has_rest r (d ∷ numbers_in targets) n (has_rest d (numbers_in targets) n has))))
 
-  -- COMMITs that name no store but such
-  module _ (names : List Target) (all : All (IsUpTo b) names) where
-    only_low : (targets : List Target) → All (Contains names) targets → All (IsUpTo b) targets
-    only_low [] only = All-nil (IsUpTo b)
-    only_low (t ∷ targets) only = All-cons (IsUpTo b) t targets (All-contains (IsUpTo b) names t all (All-head (Contains names) t targets only)) (only_low targets (All-tail (Contains names) t targets only))
-
-    abbrev Only : CommitRow → Type 0
-    Only row = All (Contains names) row.targets
-
-    rows_low : (rows : List CommitRow) → All Only rows → Low (flat_map (λ (row : CommitRow). numbers_in row.targets) rows)
-    rows_low [] only n has = absurd (no_number n has)
-    rows_low (row ∷ rows) only n has = elim (Contains-append_cases (numbers_in row.targets) (flat_map (λ (r : CommitRow). numbers_in r.targets) rows) n has) [
-      | inl here ↦ numbers_low row.targets (only_low row.targets (All-head Only row rows only)) n here
-      | inr more ↦ rows_low rows (All-tail Only row rows only) n more
-    ]
-
-    records_low : (records : List Entry) → All (NamesOnly names) records → Low (all_numbers records)
-    records_low [] only n has = absurd (no_number n has)
-    records_low (Replicate ts ops ∷ records) only n has = records_low records (All-tail (NamesOnly names) (Replicate ts ops) records only) n has
-    records_low (Commit ts rows ∷ records) only n has = elim (Contains-append_cases (numbers_of (Commit ts rows)) (all_numbers records) n has) [
-      | inl here ↦ rows_low rows (All-head (NamesOnly names) (Commit ts rows) records only) n here
-      | inr more ↦ records_low records (All-tail (NamesOnly names) (Commit ts rows) records only) n more
-    ]
-
   -- what records name is up to it where their numbers are
   named_low : (rows : List CommitRow) → Low (flat_map (λ (row : CommitRow). numbers_in row.targets) rows) → All (IsUpTo b) (named_of rows)
   named_low [] low = All-nil (IsUpTo b)
@@ -143,6 +117,43 @@ module _ (b : ℕ) where
       let here : d ≤ b = (All-head (IsUpTo b) (Delta s d) targets all).1 in
       let more : greatest_dms r targets ≤ b = dms_low r targets (All-tail (IsUpTo b) (Delta s d) targets all) in
       elim (s == r) as (λ c. cond c (max d (greatest_dms r targets)) (greatest_dms r targets) ≤ b) [ true ↦ omega arith | false ↦ more ]
+
+-- COMMITs that name numbers below a bound alone
+module _ (b : ℕ) where
+  abbrev Short : List ℕ → Type 0
+  Short numbers = (n : ℕ) → Contains numbers n → n < b
+
+  below_short : (targets : List Target) → All (IsBelow b) targets → Short (numbers_in targets)
+  below_short [] all n has = absurd (no_number n has)
+  below_short (Mem m ∷ targets) all n has = elim (first_or m (numbers_in targets) n has) [
+    | inl is ↦ subst (λ x. x < b) is (All-head (IsBelow b) (Mem m) targets all)
+    | inr more ↦ below_short targets (All-tail (IsBelow b) (Mem m) targets all) n more
+  ]
+  below_short (Delta r d ∷ targets) all n has = elim (first_or r (d ∷ numbers_in targets) n has) [
+    | inl is ↦ subst (λ x. x < b) is (All-head (IsBelow b) (Delta r d) targets all).0
+    | inr more ↦ elim (first_or d (numbers_in targets) n more) [
+      | inl is ↦ subst (λ x. x < b) is (All-head (IsBelow b) (Delta r d) targets all).1
+      | inr rest ↦ below_short targets (All-tail (IsBelow b) (Delta r d) targets all) n rest
+    ]
+  ]
+
+  abbrev Named : CommitRow → Type 0
+  Named row = All (IsBelow b) row.targets
+
+  rows_short : (rows : List CommitRow) → All Named rows → Short (flat_map (λ (row : CommitRow). numbers_in row.targets) rows)
+  rows_short [] each n has = absurd (no_number n has)
+  rows_short (row ∷ rows) each n has = elim (Contains-append_cases (numbers_in row.targets) (flat_map (λ (r : CommitRow). numbers_in r.targets) rows) n has) [
+    | inl here ↦ below_short row.targets (All-head Named row rows each) n here
+    | inr more ↦ rows_short rows (All-tail Named row rows each) n more
+  ]
+
+  records_short : (records : List Entry) → All (NamesEach (IsBelow b)) records → Short (all_numbers records)
+  records_short [] each n has = absurd (no_number n has)
+  records_short (Replicate ts ops ∷ records) each n has = records_short records (All-tail (NamesEach (IsBelow b)) (Replicate ts ops) records each) n has
+  records_short (Commit ts rows ∷ records) each n has = elim (Contains-append_cases (numbers_of (Commit ts rows)) (all_numbers records) n has) [
+    | inl here ↦ rows_short rows (All-head (NamesEach (IsBelow b)) (Commit ts rows) records each) n here
+    | inr more ↦ records_short records (All-tail (NamesEach (IsBelow b)) (Commit ts rows) records each) n more
+  ]
 
 -- ---- the names that are given at opening
 
@@ -284,24 +295,55 @@ still_near tells now leaves tells' now' leaves' log logged store stored log_is s
     itself : LogIsNear (Both (CrashLeaves tells now leaves log) (CrashLeaves tells' now' leaves' store)) (Both (CrashLeaves tells now leaves log) (CrashLeaves tells' now' leaves' store))
     itself bound three up image is n named = let le = up image is n (inl named) in omega (arith, le)
 
--- Behind the records that were found in both devices as they were read a run's COMMITs name the stores that opening named.
-module _ (logs stores logs' stores' : Files → Type 0) (columns : List Column) (names : List Target) where
+-- ---- the rowset number that is given first
+
+behind_low : (b : ℕ) (targets : List Target) → All (IsUpTo b) targets → behind_rowsets targets ≤ b + 1
+behind_low b [] all = omega arith
+behind_low b (Mem m ∷ targets) all = behind_low b targets (All-tail (IsUpTo b) (Mem m) targets all)
+behind_low b (Delta r d ∷ targets) all =
+    let here : r ≤ b = (All-head (IsUpTo b) (Delta r d) targets all).0 in
+    let more : behind_rowsets targets ≤ b + 1 = behind_low b targets (All-tail (IsUpTo b) (Delta r d) targets all) in
+    omega arith
+
+has_next : (m : Meta) → Contains (spelled m) m.next_rowset
+has_next m = has_rest m.number (m.last_mem ∷ m.next_rowset ∷ m.next_file ∷ flat_map numbers_by m.rowsets) m.next_rowset (has_rest m.last_mem (m.next_rowset ∷ m.next_file ∷ flat_map numbers_by m.rowsets) m.next_rowset (has_first m.next_rowset (m.next_file ∷ flat_map numbers_by m.rowsets)))
+
+-- the superblock that opening leaves is that of an image before, or the first one
+pub next_low : {D : Type 0} (now : D → ℕ) (leaves : D → ℕ → Files → Type 0) (columns : List Column) (store : D) (c : Files) (m : Meta) (b : ℕ) → 1 ≤ b → IsOfStore now leaves (first_meta columns) store c → super_of c ≡ Ok (Some m)
+    → ((files : Files) → leaves store (now store) files → (n : ℕ) → IsSlotNumber files n → n ≤ b) → m.next_rowset ≤ b
+next_low now leaves columns store c m b one of is up = elim of.super [
+  | inl same ↦ up of.image of.was_left m.next_rowset (spelled_there of.image m m.next_rowset (sym same ∙ is) (has_next m))
+  | inr fresh ↦ (let e : Some (first_meta columns) ≡ Some m = is_ok (sym fresh.1 ∙ is) in let n : 1 ≡ m.next_rowset = ap next_of e in omega (arith, n, one))
+]
+  where
+    is_ok : {A E : Type 0} {x y : A} → ◌≡◌ {A = Result A E} (Ok x) (Ok y) → x ≡ y
+    is_ok e = cc
+
+    next_of : Option Meta → ℕ
+    next_of None = 0
+    next_of (Some o) = o.next_rowset
+
+-- Behind the records that were found in both devices as they were read a run's COMMITs name numbers that are near those that opening gave.
+module _ (logs stores logs' stores' : Files → Type 0) (columns : List Column) (names : List Target) (first next : ℕ) where
   -- of an image after, where both devices told what was found
   pub near_at : (log store : Files) → logs log → stores store → (f : Found) → Answers columns log store (Ok f) → (records : List Entry) → log_of log ≡ Ok records → f.records ≡ records → names ≡ map (name_of f.super f.records) (places_under f.super)
-      → KeepsFiles logs logs' → (image : Image) → logs' image.log → HoldsRecords records names image.log → (bound : ℕ) → 3 ≤ bound → AreUpTo bound (Both logs stores) → (n : ℕ) → journal.IsNumberOf image.log n → n < bound + 2 ^ 45
-  near_at log store had stored f answer records reads records_are names_are files image left more bound three up n named =
+      → KeepsFiles logs logs' → (image : Image) → logs' image.log → ((b : ℕ) → 1 ≤ b → first ≤ b + 1 → All (IsUpTo (b + 1)) names → HoldsRecords records (IsBelow (b + 2 ^ 45)) image.log)
+      → first ≡ next_rowset next records → (bound : ℕ) → 3 ≤ bound → AreUpTo bound (Both logs stores) → next ≤ bound → (n : ℕ) → journal.IsNumberOf image.log n → n < bound + 2 ^ 45
+  near_at log store had stored f answer records reads records_are names_are files image left run first_is bound three up next_is n named =
       let each : journal.AreUpTo bound logs = λ l left' k told. up (record { log = l; store = store }) (left', stored) k (inl told) in
       let low : (k : ℕ) → Contains (all_numbers records) k → k ≤ bound = λ k has. each log had k (inl (subst (λ (rs : List Entry). Contains (all_numbers rs) k) (sym (ap found_in reads)) has)) in
       let slots : (k : ℕ) → IsSlotNumber store k → k ≤ bound = λ k is. up (record { log = log; store = store }) (had, stored) k (inr is) in
       let given : All (IsUpTo (bound + 1)) names = subst (All (IsUpTo (bound + 1))) (sym names_are)
       (names_low bound f.super f.records (found_low bound columns log store f slots answer) (subst (λ (rs : List Entry). (k : ℕ) → Contains (all_numbers rs) k → k ≤ bound) (sym records_are) low)) in
-      let own : (k : ℕ) → Contains (all_numbers more.run) k → k ≤ bound + 1 = records_low (bound + 1) names given more.run more.names in
-      let all : (k : ℕ) → Contains (all_numbers (records_of image.log)) k → k ≤ bound + 1 = λ k told.
+      let behind : behind_rowsets (named_by records) ≤ bound + 1 = behind_low bound (named_by records) (all_named_low bound records low) in
+      let more = run bound (omega (arith, three)) (omega (arith, first_is, behind, next_is)) given in
+      let own : (k : ℕ) → Contains (all_numbers more.run) k → k < bound + 2 ^ 45 = records_short (bound + 2 ^ 45) more.run more.names in
+      let all : (k : ℕ) → Contains (all_numbers (records_of image.log)) k → k ≤ bound + 35184372088831 = λ k told.
       elim (Contains-append_cases (all_numbers records) (all_numbers more.run) k (subst (λ (numbers : List ℕ). Contains numbers k) (ap (λ r. all_numbers (found_in r)) more.reads ∙ flat_map-append numbers_of records more.run) told)) [
         | inl front ↦ let here = low k front in omega (arith, here)
-        | inr behind ↦ own k behind
+        | inr behind ↦ let here = own k behind in omega (arith, here)
       ] in
       let was = files image.log left in
-      let wide : journal.AreUpTo (bound + 1) logs = λ l left' k told. let le = each l left' k told in omega (arith, le) in
-      let le : n ≤ bound + 1 = image_up_to logs (bound + 1) (omega arith) wide image.log was.0 was.1 was.2 all n named in
-      omega arith
+      let wide : journal.AreUpTo (bound + 35184372088831) logs = λ l left' k told. let le = each l left' k told in omega (arith, le) in
+      let le : n ≤ bound + 35184372088831 = image_up_to logs (bound + 35184372088831) (omega (arith, three)) wide image.log was.0 was.1 was.2 all n named in
+      omega (arith, le)

@@ -13,7 +13,7 @@ use Rattle.kt_history.specs.Machine.{Workload, command_at, ops_of}
 use Rattle.kt_script.specs.Fit.{PlanFits}
 use Rattle.kt_script.specs.Scripts.{workload}
 use Rattle.kt_tablet.specs.Views.{work_of}
-use Rattle.kt_content.specs.Rules.{Rules, no_rules}
+use Rattle.kt_content.specs.Rules.{Rules, AreRules, no_rules}
 use Rattle.kt_content.proofs.Rules.{ops_pass_none}
 use Rattle.kt_engine.specs.Engines.{EngineView, IsContent}
 use Rattle.kt_reopen.specs.Both.{Answers}
@@ -25,7 +25,7 @@ use Rattle.kt_app.specs.Crash.{OpensWith, Refuses, RanBy, Ran, RunsPlan, KeptBy,
 use Rattle.kt_app.specs.Played.{HeldBy, KeptOn, RanOn}
 use Rattle.kt_app.specs.Session.{IsCounted}
 use Rattle.kt_app.specs.TableRules.{rules_of}
-use Rattle.kt_app.proofs.TableRules.{takes_plan}
+use Rattle.kt_app.proofs.TableRules.{takes_plan, closed}
 use Rattle.kt_serve.specs.Scans.{IsOn}
 
 pub ran_as : {gave : List ℕ → Type 0} {held : Rules → Type 0} {columns : List Column} {after : Image → Type 0} {work : Workload} {past : Past} {c : ℕ} {events : List Event} {b d : Bool} {rowsets : ℕ} {text : List ℕ} → b ≡ d
@@ -132,34 +132,39 @@ is_on columns work plan cells e = subst (IsOn columns) (sym e) refl
 
 -- A run from what opening found is one over what both devices held.
 module _ {C L D : Type 0} (told : C → Option (List ℕ)) (tells : Bool) (seen : L → Files) (log : L) (tells' : Bool) (seen' : D → Files) (store : D) (view : EngineView L D C) (columns : List Column) (counted : IsCounted columns) (plan : List (List Command)) (fits : PlanFits columns plan) (events : List Event)
-    (content : IsTrue tells → IsTrue tells' → (rules : Rules) (c : ℕ) (past : Past) → HoldBoth rules columns (seen log) (seen' store) c past → (c ≡ view.tablet.core.opened) × (view.store.meta.schema ≡ columns) × IsContent rules view past) where
+    (content : IsTrue tells → IsTrue tells' → (rules : Rules) (c : ℕ) (past : Past) → HoldBoth rules columns (seen log) (seen' store) c past → (c ≡ view.tablet.core.opened) × (view.store.meta.schema ≡ columns) × (AreRules rules → IsContent rules view past)) where
   abbrev found : Image → Type 0
   found = Both (IsRead tells seen log) (IsRead tells' seen' store)
 
   abbrev work : Workload
   work = workload view.tablet.core.work.cells (record { columns = columns; plan = plan })
 
-  opened_with : (rules : Rules) (c : ℕ) (past : Past) → OpensWith rules columns found c past → (c ≡ view.tablet.core.opened) × (view.store.meta.schema ≡ columns) × IsContent rules view past
-  opened_with rules c past (image, read, holds) =
-      content read.0.0 read.1.0 rules c past (subst (λ l. HoldBoth rules columns l (seen' store) c past) read.0.1 (subst (λ s. HoldBoth rules columns image.log s c past) read.1.1 holds))
+  opened_with : (rules : Rules) (c : ℕ) (past : Past) → AreRules rules → OpensWith rules columns found c past → (c ≡ view.tablet.core.opened) × (view.store.meta.schema ≡ columns) × IsContent rules view past
+  opened_with rules c past closed (image, read, holds) =
+      let o = content read.0.0 read.1.0 rules c past (subst (λ l. HoldBoth rules columns l (seen' store) c past) read.0.1 (subst (λ s. HoldBoth rules columns image.log s c past) read.1.1 holds)) in
+      (o.0, o.1, o.2 closed)
+
+  -- what takes everything takes each row whatever is put over it
+  none_closed : AreRules no_rules
+  none_closed = record { changed = λ cells row part is. refl; part = λ under row is. refl }
 
   any : (c : ℕ) (past : Past) → OpensWith no_rules columns found c past → HeldBy view columns work past no_rules
-  any c past opens = let o = opened_with no_rules c past opens in record { plan = λ s i. ops_pass_none work.fill (ops_of (command_at work s i)); table = o.1; content = o.2 }
+  any c past opens = let o = opened_with no_rules c past none_closed opens in record { plan = λ s i. ops_pass_none work.fill (ops_of (command_at work s i)); table = o.1; content = o.2 }
 
   its : (c : ℕ) (past : Past) → OpensWith (rules_of columns) columns found c past → HeldBy view columns work past (rules_of columns)
-  its c past opens = let o = opened_with (rules_of columns) c past opens in record { plan = takes_plan columns counted view.tablet.core.work.cells plan fits; table = o.1; content = o.2 }
+  its c past opens = let o = opened_with (rules_of columns) c past (closed columns counted) opens in record { plan = takes_plan columns counted view.tablet.core.work.cells plan fits; table = o.1; content = o.2 }
 
   module _ (gave : List ℕ → Type 0) (after : Image → Type 0) where
     kept_at : KeptOn gave view columns plan after events → (past : Past) (c : ℕ) → OpensWith no_rules columns found c past → Kept gave columns found after work past c events
     kept_at kept past c opens =
-        let o = opened_with no_rules c past opens in
+        let o = opened_with no_rules c past none_closed opens in
         let here : KeptBy gave (HeldBy view columns work past) columns after work past c events = subst (λ (n : ℕ). KeptBy gave (HeldBy view columns work past) columns after work past n events) (sym o.0) (kept past o.2.opens) in
         kept_from (any c past opens) (its c past) here
 
     ran_at : (stopped : Bool) (rowsets : ℕ) (text : List ℕ) → RanOn gave view columns plan after events stopped rowsets text → (past : Past) (c : ℕ) → OpensWith no_rules columns found c past
         → Ran gave columns found after work past c events stopped rowsets text
     ran_at stopped rowsets text ran past c opens =
-        let o = opened_with no_rules c past opens in
+        let o = opened_with no_rules c past none_closed opens in
         let here : RanBy gave (HeldBy view columns work past) columns after work past c events stopped rowsets text =
         subst (λ (n : ℕ). RanBy gave (HeldBy view columns work past) columns after work past n events stopped rowsets text) (sym o.0) (ran past o.2.opens) in
         ran_from (any c past opens) (its c past) here

@@ -1,6 +1,6 @@
 -- A run that has ended is what was printed of it, and what a crash leaves.
-use Rattle.std.proofs.Common.{◌≡◌, ℕ, zero, suc, ◌+◌, ◌<◌, ◌≤◌, max, List, [], ◌∷◌, Option, Some, Result, Ok, Bool, true, false, cond, refl, sym, ap, ◌∙◌, subst, arith, length}
-use Rattle.std.specs.Prelude.{slice_get, IsTrue, unwrap_or}
+use Rattle.std.proofs.Common.{◌≡◌, ℕ, zero, suc, ◌+◌, ◌<◌, ◌≤◌, ◌^◌, max, List, [], ◌∷◌, Option, Some, Result, Ok, Bool, true, false, cond, refl, sym, ap, ◌∙◌, subst, arith, length}
+use Rattle.std.specs.Prelude.{slice_get, All, IsTrue, unwrap_or}
 use Rattle.kt_base.specs.Causes.{Grows}
 use Rattle.std.specs.List.{AllByRecursion}
 use Rattle.kt_disk.specs.Disk.{Files}
@@ -34,6 +34,7 @@ use Rattle.kt_reopen.specs.Opened.{OneRose}
 use Rattle.kt_reopen.proofs.BothRead.{pair_holds}
 use Rattle.kt_tablet.specs.Views.{IsSound, Opens, work_of}
 use Rattle.kt_engine.specs.Logged.{PlanPasses, HoldsRecords}
+use Rattle.kt_engine.specs.Near.{IsUpTo, IsBelow}
 use Rattle.kt_engine.specs.Engines.{EngineView, IsFound, KeepsOthers, IsHome, core_from, LeavesRecords}
 use Rattle.kt_engine.specs.Stored.{RecoversBoth, IsMarkOf, AreMarked, HasFailed}
 use Rattle.kt_engine.specs.Pairs.{AreHome, RecoversAllOfBoth, LeavesPublished}
@@ -284,6 +285,7 @@ module _ {L D C : Type 0} (old view : EngineView L D C) (columns : List Column) 
         subst P (sym root) (subst (PlanPasses rules) (sym on_plan) held.plan);
     table = ap (λ (r : Root L D C). r.columns) root ∙ held.table;
     content = record {
+      closed = held.content.closed;
       opens = found_view;
       holds = let P : Root L D C → Type 0 = λ r. HoldsPast rules r.work.fill r.super r.records r.opened first in subst P (sym root) held.content.holds;
     };
@@ -352,10 +354,10 @@ module _ {L D C : Type 0} {tells : Bool} {seen : L → Files} {now : L → ℕ} 
   pub keeps_others : IsTrue tells → KeepsOthers now leaves old.device log
   keeps_others told = subst (KeepsOthers now leaves old.device) (sym home.log_is) (subst (λ d. KeepsOthers now leaves d home.journal.disk) device_is ((at_home home.journal home.log_home).others told))
 
-  pub names_more : LeavesRecords tells now leaves view → (files : Files) → CrashLeaves tells now leaves log files → HoldsRecords old.records old.tablet.names files
+  pub names_more : LeavesRecords tells now leaves view → (files : Files) → CrashLeaves tells now leaves log files → (bound : ℕ) → 1 ≤ bound → old.first_rowset ≤ bound + 1 → All (IsUpTo (bound + 1)) old.found → HoldsRecords old.records (IsBelow (bound + 2 ^ 45)) files
   names_more front files left =
-      let more : HoldsRecords view.records view.tablet.names files = front left.0 home.journal home.log_home files (subst (λ d. leaves d (now d) files) home.log_is left.1) in
-      subst (λ (r : Root L D C). HoldsRecords r.records r.names files) root more
+      let more = front left.0 home.journal home.log_home files (subst (λ d. leaves d (now d) files) home.log_is left.1) in
+      subst (λ (r : Root L D C). (bound : ℕ) → 1 ≤ bound → r.first_rowset ≤ bound + 1 → All (IsUpTo (bound + 1)) r.found → HoldsRecords r.records (IsBelow (bound + 2 ^ 45)) files) root more
 
   pub no_fault_less : faults old.device ≤ faults log
   no_fault_less = subst (λ d. faults old.device ≤ faults d) (sym home.log_is) (subst (λ d. faults d ≤ faults home.journal.disk) device_is (at_home home.journal home.log_home).later)

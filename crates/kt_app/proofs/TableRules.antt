@@ -4,8 +4,8 @@ use Rattle.std.specs.Prelude.{is_some, unwrap_or, nat_le, ◌==◌}
 use Rattle.std.specs.List.{AllByRecursion, list_all}
 use Rattle.std.specs.Ordering.{nat_cmp, eq_by_cmp}
 use Rattle.std.specs.declared.cmp.Ordering.TheVariants.{Less, Equal, Greater}
-use Rattle.std.specs.FinMap.Entries.{find, put}
-use Rattle.std.proofs.lemmas.Bool.{eqb-true}
+use Rattle.std.specs.FinMap.Entries.{find, put, where_key}
+use Rattle.std.proofs.lemmas.Bool.{eqb-true, ne_eqb}
 use Rattle.std.proofs.lemmas.Bool.Decides.{nat_tests}
 use Rattle.kt_base.specs.declared.cell.Cell.{Cell}
 use Rattle.kt_base.specs.declared.cell.Cell.TheVariants.{Null}
@@ -31,7 +31,7 @@ use Rattle.kt_script.specs.Fit.{fits_column, is_part, is_given, cells_fit, OpFit
 use Rattle.kt_script.specs.Writes.{op_form}
 use Rattle.kt_script.specs.declared.forms.OpForm.TheVariants as form
 use Rattle.kt_script.proofs.PrintedTables.{Rising, all_kept, rising_kept, rising_of, numbered}
-use Rattle.kt_content.specs.Rules.{OpPasses, OpsPass, EffectPasses}
+use Rattle.kt_content.specs.Rules.{AreRules, OpPasses, OpsPass, EffectPasses}
 use Rattle.kt_engine.specs.Logged.{PlanPasses}
 use Rattle.kt_script.specs.Scripts.{workload}
 use Rattle.kt_app.specs.Session.{IsCounted, is_default}
@@ -192,6 +192,71 @@ each_given : (cells : Row) (others : List Column) → list_all (is_given cells) 
 each_given cells [] h = tt
 each_given cells (c ∷ others) h = let two = both_true (is_given cells c) (list_all (is_given cells) others) h in (two.0, each_given cells others two.1)
 
+-- ---- cells over a row, and some of a row's cells
+
+-- a row has a cell for the first column, and is a row of the others behind it
+pub record Heads (c : Column) (others : List Column) (r : ℕ × Cell) (row : Row) : Type 0 where
+  pub id : c.id ≡ r.0
+  pub fit : fits_column c r.1 ≡ true
+  pub rest : is_row others row ≡ true
+
+heads : (c : Column) (others : List Column) (r : ℕ × Cell) (row : Row) → is_row (c ∷ others) (r ∷ row) ≡ true → Heads c others r row
+heads c others r row h = by (c.id == r.0) refl two.0
+  where
+    two : (is_part (c ∷ others) (r ∷ row) ≡ true) × ((length (r ∷ row) == length (c ∷ others)) ≡ true)
+    two = both_true (is_part (c ∷ others) (r ∷ row)) (length (r ∷ row) == length (c ∷ others)) h
+
+    size : length row ≡ length others
+    size = let e = eqb-true (length (r ∷ row)) (length (c ∷ others)) two.1 in omega arith
+
+    by : (b : Bool) → (c.id == r.0) ≡ b → cond b (fits_column c r.1 && is_part others row) (is_part others (r ∷ row)) ≡ true → Heads c others r row
+    by true e g =
+        let parts = both_true (fits_column c r.1) (is_part others row) g in
+        record { id = eqb-true c.id r.0 e; fit = parts.0; rest = both _ _ parts.1 (subst (λ n. (n == length others) ≡ true) (sym size) (same_id (length others))) }
+    by false e g = absurd (let few = few_cells others (r ∷ row) g in omega (arith, few, size))
+
+-- cells for some of the columns over a row are a row
+over_row : (others : List Column) (cells row : Row) → Rising others → is_part others cells ≡ true → is_row others row ≡ true → is_row others (with_cells cells row) ≡ true
+over_row others [] row rising part is = is
+over_row [] (x ∷ cells) row rising part is = absurd (cc)
+over_row (c ∷ others) (x ∷ cells) [] rising part is = absurd (let e = eqb-true 0 (suc (length others)) is in omega arith)
+over_row (c ∷ others) (x ∷ cells) (r ∷ row) rising part is =
+    elim (c.id == x.0) as (λ b. (c.id == x.0) ≡ b → cond b (fits_column c x.1 && is_part others cells) (is_part others (x ∷ cells)) ≡ true → is_row (c ∷ others) (with_cells (x ∷ cells) (r ∷ row)) ≡ true) [
+      | true ↦ λ e h.
+          let own = heads c others r row is in
+          let id = eqb-true c.id x.0 e in
+          let two = both_true (fits_column c x.1) (is_part others cells) h in
+          let up : Behind r.0 cells = subst (λ n. Behind n cells) own.id (part_behind c.id others cells rising.0 two.1) in
+          let made : with_cells (x ∷ cells) (r ∷ row) ≡ (r.0, x.1) ∷ with_cells cells row = ap (put nat_cmp x.0 x.1) (with_behind r cells row up) ∙ put_same x.0 x.1 r (with_cells cells row) (sym id ∙ own.id) in
+          subst (λ (l : Row). is_row (c ∷ others) l ≡ true) (sym made) (row_of_two c others (r.0, x.1) (with_cells cells row) own.id two.0 (over_row others cells row rising.1 two.1 own.rest))
+      | false ↦ λ e h.
+          let own = heads c others r row is in
+          let up : Behind r.0 (x ∷ cells) = subst (λ n. Behind n (x ∷ cells)) own.id (part_behind c.id others (x ∷ cells) rising.0 h) in
+          subst (λ (l : Row). is_row (c ∷ others) l ≡ true) (sym (with_behind r (x ∷ cells) row up)) (row_of_two c others r (with_cells (x ∷ cells) row) own.id own.fit (over_row others (x ∷ cells) row rising.1 h own.rest))
+    ] refl part
+
+-- cells for columns behind one are cells for all of them
+part_later : (c : Column) (others : List Column) (cells : Row) → AllByRecursion (λ (d : Column). c.id < d.id) others → is_part others cells ≡ true → is_part (c ∷ others) cells ≡ true
+part_later c others [] up part = refl
+part_later c others (x ∷ cells) up part =
+    let lt = (part_behind c.id others (x ∷ cells) up part).0 in
+    let other : (c.id == x.0) ≡ false = ne_eqb c.id x.0 (λ e. omega (arith, lt, e)) in
+    ap (λ b. cond b (fits_column c x.1 && is_part others cells) (is_part others (x ∷ cells))) other ∙ part
+
+-- a row's cells under some ids are cells for some of the columns
+part_under : (p : ℕ → Bool) (others : List Column) (row : Row) → Rising others → is_row others row ≡ true → is_part others (where_key nat_cmp p row) ≡ true
+part_under p [] [] rising is = refl
+part_under p [] (r ∷ row) rising is = absurd (cc)
+part_under p (c ∷ others) [] rising is = refl
+part_under p (c ∷ others) (r ∷ row) rising is =
+    let own = heads c others r row is in
+    let rest = part_under p others row rising.1 own.rest in
+    let here : (c.id == r.0) ≡ true = subst (λ n. (c.id == n) ≡ true) own.id (same_id c.id) in
+    elim (p r.0) as (λ b. is_part (c ∷ others) (cond b (r ∷ where_key nat_cmp p row) (where_key nat_cmp p row)) ≡ true) [
+      | true ↦ ap (λ b. cond b (fits_column c r.1 && is_part others (where_key nat_cmp p row)) (is_part others (r ∷ where_key nat_cmp p row))) here ∙ both _ _ own.fit rest
+      | false ↦ part_later c others (where_key nat_cmp p row) rising.0 rest
+    ]
+
 -- ---- an operation, a write and a plan
 
 module _ (columns : List Column) (counted : IsCounted columns) where
@@ -257,3 +322,10 @@ module _ (columns : List Column) (counted : IsCounted columns) where
 
   pub takes_plan : (cells : ℕ) (plan : List (List Command)) → PlanFits columns plan → PlanPasses (rules_of columns) (workload cells (record { columns = columns; plan = plan }))
   takes_plan cells plan fits s i = session_passes (nth plan s) i (λ cs e. nth_fits (AllByRecursion (CommandFits columns)) plan s cs fits.each e)
+
+  -- the rules stay rules, whatever is put over a row
+  pub closed : AreRules (rules_of columns)
+  closed = record {
+    changed = λ cells row part is. over_row others cells row rising part is;
+    part = λ under row is. part_under (λ id. is_some (find nat_cmp id under)) others row rising is;
+  }

@@ -6,6 +6,7 @@
 #![tactic(auto)]
 
 mod cells;
+mod chores;
 mod kinds;
 pub mod laws;
 pub mod run;

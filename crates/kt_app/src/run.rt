@@ -1,5 +1,5 @@
 //! A run of a plan on an engine that was opened, to its output text.
-ghost use Rattle.std.specs.Prelude.{◌≡◌, ◌<◌, ◌≤◌, [], IfSome, IfOk, OnOk, IsTrue, None, false, true, map, length, All};
+ghost use Rattle.std.specs.Prelude.{◌≡◌, ◌+◌, ◌^◌, ℕ, ◌<◌, ◌≤◌, [], IfSome, IfOk, OnOk, IsTrue, None, false, true, map, length, All};
 ghost use Rattle.kt_base.specs.Causes.{Grows};
 ghost use Rattle.kt_journal.specs.Log.{CanOpen};
 ghost use Rattle.kt_history.specs.Machine.{first_turns};
@@ -9,6 +9,7 @@ ghost use Rattle.kt_reopen.specs.Opened.{OneRose};
 ghost use Rattle.kt_disk.specs.Disk.{Files};
 ghost use Rattle.kt_engine.specs.Engines.{KeepsOthers};
 ghost use Rattle.kt_engine.specs.Logged.{HoldsRecords};
+ghost use Rattle.kt_engine.specs.Near.{IsUpTo, IsBelow};
 ghost use Rattle.kt_engine.specs.Visits.{root_of};
 ghost use Rattle.kt_serve.specs.declared.session.SessionEnd.{SessionEnd};
 ghost use Rattle.kt_seatlock.specs.Passes.{number, given, passes_of, IsVacant, IsPassOf};
@@ -17,6 +18,7 @@ ghost use Rattle.kt_app.specs.Images.{CrashLeaves, Both};
 ghost use Rattle.kt_app.specs.Session.{IsCounted};
 ghost use Rattle.kt_app.specs.Played.{IsFresh, KeptOn, RanOn, IsWhole, HasPlayed};
 
+use crate::chores::Jobs;
 use crate::text::{Output, RunEnd, output_of};
 use kt_base::{Clock, NoMemory};
 use kt_disk::{Disk, Gate};
@@ -111,7 +113,17 @@ fn play<
     ensures home { (result.1.log.holder ≡ None) × (result.1.store.holder ≡ None) }
     ensures played { IfOk result.0 (λ played. HasPlayed result.1 plan.now played.stopped played.replies.items) }
 {
-    match run_sessions(rt, alloc, schema, lock, pass, engine, plan.as_slice(), gate) {
+    match run_sessions(
+        rt,
+        alloc,
+        schema,
+        lock,
+        pass,
+        engine,
+        plan.as_slice(),
+        gate,
+        &Jobs,
+    ) {
         Ok(Ended { ends, end, engine }) => match end {
             End::Done => (gather(alloc, ends, false), engine),
             End::Stopped => (gather(alloc, ends, true), engine),
@@ -157,9 +169,9 @@ pub fn run_plan<
         (Both (CrashLeaves L.tells L.now L.leaves result.1.log) (CrashLeaves D.tells D.now D.leaves result.1.store)) result.1.trail }
 
     // It leaves all files of the log's device but the log as they were handed in, and behind the records that opening found those whose COMMITs
-    // name the engine's stores alone.
+    // name no number that is far above those that opening gave.
     ensures others { IsTrue L.tells → KeepsOthers L.now L.leaves engine.device result.1.log }
-    ensures named { (files : Files) → CrashLeaves L.tells L.now L.leaves result.1.log files → HoldsRecords engine.records engine.tablet.names files }
+    ensures named { (files : Files) → CrashLeaves L.tells L.now L.leaves result.1.log files → (bound : ℕ) → 1 ≤ bound → engine.first_rowset ≤ bound + 1 → All (IsUpTo (bound + 1)) engine.found → HoldsRecords engine.records (IsBelow (bound + 2 ^ 45)) files }
 
     // The devices may be opened again.
     ensures openable { IsTrue L.tells → CanOpen L.now L.leaves result.1.log }

@@ -1,6 +1,7 @@
 -- The `stop` line of an engine that stands, and what a last append leaves.
-use Rattle.std.proofs.Common.{◌≡◌, inl, inr, true, false, Option, Some, None, ap, sym, ◌∙◌}
+use Rattle.std.proofs.Common.{◌≡◌, ℕ, inl, inr, true, false, Option, Some, None, refl, ap, sym, ◌∙◌, is_some}
 use Rattle.kt_super.specs.declared.meta.Meta.{Meta}
+use Rattle.kt_engine.specs.Jobs.{JobView, UpkeepsView, job_of}
 use Rattle.kt_engine.specs.Stored.{next_super}
 use Rattle.kt_serve.specs.Sessions.{has_stop}
 use Rattle.kt_histlaws.specs.Events.{halted}
@@ -10,6 +11,14 @@ use Rattle.kt_serve.specs.Closing.{IsDone, IsClosed, IsAtStop, MayHalt}
 
 pub none_some : {A : Type 0} (x : A) → None ≡ Some x → ⊥
 none_some x h = cc
+
+-- a pass that has no job
+pub no_job : (n : ℕ) (v : UpkeepsView) → is_some (job_of n v) ≡ false → job_of n v ≡ None
+no_job n v e = by (job_of n v) e
+  where
+    by : (o : Option JobView) → is_some o ≡ false → o ≡ None
+    by None e = refl
+    by (Some job) e = absurd (cc)
 
 pub meta_is : (sent : Option Meta) (m n : Meta) → sent ≡ Some m → sent ≡ Some n → m ≡ n
 meta_is sent m n is was = cc

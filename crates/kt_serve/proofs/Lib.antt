@@ -18,5 +18,6 @@ pub mod Asked
 pub mod Lists
 pub mod Joining
 pub mod Open
+pub mod Maintained
 pub mod Closing
 mod Points

@@ -25,6 +25,7 @@ use Rattle.kt_storeside.specs.contracts.side.StoreSide.TheInside as Kept
 use Rattle.kt_engine.specs.contracts.engine.Engine as Engine
 use Rattle.kt_engine.specs.contracts.engine.Engine.TheInside as Within
 use Rattle.kt_engine.proofs.running.Running.TheSendSync as running
+use Rattle.kt_engine.proofs.upkeep.Upkeeps.TheSendSync as upkeep
 use Rattle.kt_memrowset.proofs.store.MemRowSet.TheSendSync as rows
 use Rattle.kt_stores.specs.contracts.stores.Stores as Stores
 use Rattle.kt_stores.specs.contracts.stores.Stores.TheInside as Shelf
@@ -83,11 +84,11 @@ module _ (D : RattleType) (g : Disk.Ghosts D.Denot) where
 module _ (L D C : RattleType) (g : Disk.Ghosts L.Denot) (k : Disk.Ghosts D.Denot) (h : Clock.Ghosts C.Denot) where
   pub engine_send : IsSend L → IsSend D → IsSend C → IsSend (Engine.the_row L D C g k h)
   engine_send l d c = view_send (Within.the_row L D C g k h) _ _ _ _ (recorded_send (Within.the_field L D C g k h).row _ _ (Within.the_type L D C g k h).to_one (struct_send (shape (Within.the_type L D C g k h))
-      (Box-send _ (tablet_send _ C ghosts h rowset.the_send c), (Box-send _ (side_send L g l), (Box-send _ (store_send D k d), (running.the_send, (search (sendable, crosses), (search (sendable, crosses), (search (sendable, crosses), (search (sendable, crosses), tt))))))))))
+      (Box-send _ (tablet_send _ C ghosts h rowset.the_send c), (Box-send _ (side_send L g l), (Box-send _ (store_send D k d), (running.the_send, (search (sendable, crosses), (search (sendable, crosses), (search (sendable, crosses), (search (sendable, crosses), (upkeep.the_send, (plain_send _ _ _ _ _, (plain_send _ _ _ _ _, (search (sendable, crosses), tt))))))))))))))
 
   pub shared_sync : IsSend L → IsSend D → IsSend C → IsSync (SharedTablet.the_row L D C g k h)
   shared_sync l d c = recorded_sync (SharedTablet.the_field L D C g k h).row _ _ (SharedTablet.the_type L D C g k h).to_one (struct_sync (shape (SharedTablet.the_type L D C g k h)) (lock.the_field_sync (Engine.the_row L D C g k h) Event.the_row (Part.the_row L D C g k h) _ (engine_send l d c), tt))
 
--- a closure of six captures may be shared where each of them may
-pub captured_sync : (ν : Sym) (R S T U V W : RattleType) → IsSync R → IsSync S → IsSync T → IsSync U → IsSync V → IsSync W → IsSync (TupleAt ν (R ∷ S ∷ T ∷ U ∷ V ∷ W ∷ []))
-captured_sync ν R S T U V W r s t u v w = let all = type_at ν (R ∷ S ∷ T ∷ U ∷ V ∷ W ∷ []) in recorded_sync (Struct (shape all)) _ _ all.to_one (struct_sync (shape all) (r, (s, (t, (u, (v, (w, tt)))))))
+-- a closure of seven captures may be shared where each of them may
+pub captured_sync : (ν : Sym) (R S T U V W X : RattleType) → IsSync R → IsSync S → IsSync T → IsSync U → IsSync V → IsSync W → IsSync X → IsSync (TupleAt ν (R ∷ S ∷ T ∷ U ∷ V ∷ W ∷ X ∷ []))
+captured_sync ν R S T U V W X r s t u v w x = let all = type_at ν (R ∷ S ∷ T ∷ U ∷ V ∷ W ∷ X ∷ []) in recorded_sync (Struct (shape all)) _ _ all.to_one (struct_sync (shape all) (r, (s, (t, (u, (v, (w, (x, tt))))))))

@@ -1,4 +1,5 @@
 pub mod Sessions
+pub mod Maintained
 pub mod Homes
 pub mod Scans
 pub mod Places

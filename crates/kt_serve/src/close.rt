@@ -103,6 +103,7 @@ fn publish_lent<L: Disk, D: Disk + Drop, C: Clock>(
     requires numbers { (lent.next_rowset ≡ engine.old.store.next_rowset) × (lent.next_file ≡ engine.old.store.next_file) }
     requires ready { (m : Meta) → lent.meta ≡ Some m → MayPublish D.tells D.seen D.now D.leaves lent.device m }
     requires done { IsDone engine.old }
+    requires free { engine.old.upkeep.publishing ≡ None }
     ensures root { root_of engine.new ≡ record (root_of engine.old) { turn = None } }
     ensures home { engine.new.log.holder ≡ None }
     ensures store_home { engine.new.store.holder ≡ None }
@@ -143,7 +144,7 @@ fn publish_lent<L: Disk, D: Disk + Drop, C: Clock>(
     }
 }
 
-// Publishes a superblock with the present mark and last timestamp, where all records are durable.
+// Publishes a superblock with the present mark and last timestamp, where all records are durable. A pass with a job would publish that job's.
 fn publish_last<L: Disk, D: Disk + Drop, C: Clock>(
     alloc: Global,
     engine: &mut Engine<L, D, C>,
@@ -158,6 +159,9 @@ fn publish_last<L: Disk, D: Disk + Drop, C: Clock>(
     ensures tablet { MayHalt engine.old engine.new }
     ensures ends { EndsAs engine.new result }
 {
+    if engine.has_job(number) {
+        return End::Memory;
+    }
     match engine.store_out(alloc, number, Purpose::Publish) {
         Ok(lent) => publish_lent(alloc, engine, number, lent),
         Err(StoreNo::Memory) => End::Memory,

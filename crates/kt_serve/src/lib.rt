@@ -1,6 +1,7 @@
 //! Sessions over one tablet in a seat lock: each command by visits of its own pass.
 #![tactic(auto)]
 
+mod chores;
 mod close;
 mod home;
 mod log;
@@ -14,6 +15,7 @@ mod shown;
 mod tablet;
 mod visits;
 
+pub use chores::Chores;
 pub use close::End;
 pub use log::Halt;
 pub use replies::SessionReplies;

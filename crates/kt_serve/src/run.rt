@@ -3,12 +3,14 @@ ghost use Rattle.std.specs.Prelude.{◌≡◌, ◌<◌, ◌≤◌, ℕ, [], IfOk
 ghost use Rattle.kt_history.specs.Machine.{nth, first_turns};
 ghost use Rattle.kt_seatlock.specs.Passes.{number, seen, part, given, passes_of, IsVacant, IsPassOf, MayEnter, IsBack};
 ghost use Rattle.kt_engine.specs.Visits.{root_of};
+ghost use Rattle.kt_serve.specs.Maintained.{StoreRests};
 ghost use Rattle.kt_serve.specs.Points.{CameTo};
 ghost use Rattle.kt_serve.specs.Scans.{IsOn};
 ghost use Rattle.kt_serve.specs.Sessions.{OnRoot, HasLeft, IsFresh, MayRun};
 ghost use Rattle.kt_serve.specs.Closing.{EndsAs};
 ghost use Rattle.kt_serve.specs.Runs.{HasRunTo, PlaceHasRun, PlanRuns, AllEnded};
 
+use crate::chores::Chores;
 use crate::close::{End, finish};
 use crate::log::Halt;
 use crate::places::{Place, join_all, split_all};
@@ -26,63 +28,87 @@ use std::thread;
 use std::thread::Threads;
 
 // Runs a session to its end.
-fn run_one<L: Disk, D: Disk + Drop, C: Clock, R: Wait, G: Gate>(
+fn run_one<L: Disk, D: Disk + Drop, C: Clock, R: Wait, G: Gate, H: Chores<L, D, C>>(
     rt: &R,
     alloc: Global,
     schema: &Schema,
     tablet: &SharedTablet<L, D, C>,
     commands: &[Command],
     gate: &G,
+    chores: &H,
     place: &mut Place<Engine<L, D, C>>,
 )
     requires enters { MayEnter tablet.now.lock place.old.pass }
     requires on { OnRoot (part place.old.pass) (λ root. IsOn schema.now root.work) }
+    requires rests { StoreRests (part place.old.pass) }
     requires runs { MayRun (part place.old.pass) (seen place.old.pass) (number place.old.pass) commands.now }
     ensures pass { IsBack place.old.pass place.new.pass }
     ensures run { HasRunTo (CameTo G.came gate.now) (part place.old.pass) (part place.new.pass) (number place.old.pass) commands.now (seen place.new.pass) place.new.end }
 {
-    place.end = run_session(rt, alloc, schema, tablet, commands, &mut place.pass, gate);
+    place.end = run_session(
+        rt,
+        alloc,
+        schema,
+        tablet,
+        commands,
+        &mut place.pass,
+        gate,
+        chores,
+    );
 }
 
 // Runs a session to its end, and leaves the run.
-fn run_and_leave<L: Disk, D: Disk + Drop, C: Clock, R: Wait, G: Gate>(
+fn run_and_leave<L: Disk, D: Disk + Drop, C: Clock, R: Wait, G: Gate, H: Chores<L, D, C>>(
     rt: &R,
     alloc: Global,
     schema: &Schema,
     tablet: &SharedTablet<L, D, C>,
     commands: &[Command],
     gate: &G,
+    chores: &H,
     place: &mut Place<Engine<L, D, C>>,
 )
     requires enters { MayEnter tablet.now.lock place.old.pass }
     requires on { OnRoot (part place.old.pass) (λ root. IsOn schema.now root.work) }
+    requires rests { StoreRests (part place.old.pass) }
     requires runs { MayRun (part place.old.pass) (seen place.old.pass) (number place.old.pass) commands.now }
     ensures pass { IsBack place.old.pass place.new.pass }
     ensures left { HasLeft (part place.new.pass) }
     ensures run { HasRunTo (CameTo G.came gate.now) (part place.old.pass) (part place.new.pass) (number place.old.pass) commands.now (seen place.new.pass) place.new.end }
 {
-    run_one(rt, alloc, schema, tablet, commands, gate, place);
+    run_one(rt, alloc, schema, tablet, commands, gate, chores, place);
     tablet.leave_run(rt, &mut place.pass);
 }
 
 // Runs the session of this place to its end.
-fn run_place<L: Disk, D: Disk + Drop, C: Clock, R: Wait, G: Gate>(
+fn run_place<L: Disk, D: Disk + Drop, C: Clock, R: Wait, G: Gate, H: Chores<L, D, C>>(
     rt: &R,
     alloc: Global,
     schema: &Schema,
     tablet: &SharedTablet<L, D, C>,
     plan: &[Session],
     gate: &G,
+    chores: &H,
     at: usize,
     place: &mut Place<Engine<L, D, C>>,
 )
     requires within { at < length plan.now }
     requires enters { MayEnter tablet.now.lock place.old.pass }
     requires on { OnRoot (part place.old.pass) (λ root. IsOn schema.now root.work) }
+    requires rests { StoreRests (part place.old.pass) }
     requires runs { (commands : _) → slice_get plan.now at ≡ Some commands → MayRun (part place.old.pass) (seen place.old.pass) (number place.old.pass) commands }
     ensures { PlaceHasRun (CameTo G.came gate.now) plan.now at place.old place.new }
 {
-    run_and_leave(rt, alloc, schema, tablet, plan[at].as_slice(), gate, place);
+    run_and_leave(
+        rt,
+        alloc,
+        schema,
+        tablet,
+        plan[at].as_slice(),
+        gate,
+        chores,
+        place,
+    );
 }
 
 // Runs all sessions at once, each in a thread of its own where one can be made.
@@ -92,6 +118,7 @@ fn run_all<
     C: Clock + Send,
     R: Threads + Wait + Sync,
     G: Gate + Sync,
+    H: Chores<L, D, C> + Sync,
 >(
     rt: &R,
     alloc: Global,
@@ -99,11 +126,13 @@ fn run_all<
     tablet: &SharedTablet<L, D, C>,
     plan: &[Session],
     gate: &G,
+    chores: &H,
     places: &mut [Place<Engine<L, D, C>>],
 )
     requires count { length places.old ≡ length plan.now }
     requires enters { (j : ℕ) (p : _) → slice_get places.old j ≡ Some p → MayEnter tablet.now.lock p.pass }
     requires on { (j : ℕ) (p : _) → slice_get places.old j ≡ Some p → OnRoot (part p.pass) (λ root. IsOn schema.now root.work) }
+    requires rests { (j : ℕ) (p : _) → slice_get places.old j ≡ Some p → StoreRests (part p.pass) }
     requires runs { (j : ℕ) (p : _) → slice_get places.old j ≡ Some p → (commands : _) → slice_get plan.now j ≡ Some commands → MayRun (part p.pass) (seen p.pass) (number p.pass) commands }
     ensures { (j : ℕ) (p : _) → slice_get places.old j ≡ Some p → (q : _) × (slice_get places.new j ≡ Some q) × PlaceHasRun (CameTo G.came gate.now) plan.now j p q }
 {
@@ -113,7 +142,7 @@ fn run_all<
             rt,
             places,
             threads,
-            &|at, place| run_place(rt, alloc, schema, tablet, plan, gate, at, place),
+            &|at, place| run_place(rt, alloc, schema, tablet, plan, gate, chores, at, place),
         );
     }
 }
@@ -139,6 +168,7 @@ fn run_locked<
     C: Clock + Send,
     R: Threads + Wait + Sync,
     G: Gate + Sync,
+    H: Chores<L, D, C> + Sync,
 >(
     rt: &R,
     alloc: Global,
@@ -148,6 +178,7 @@ fn run_locked<
     engine: Engine<L, D, C>,
     plan: &[Session],
     gate: &G,
+    chores: &H,
 ) -> Result<(Vec<SessionEnd>, Engine<L, D, C>), Engine<L, D, C>>
     requires own { IsPassOf lock pass × IsVacant pass × (given pass ≡ 1) × (number pass ≡ 0) }
     requires passes { length plan.now < passes_of lock }
@@ -168,7 +199,7 @@ fn run_locked<
     lock.fill(&mut pass, engine);
     split_all(alloc, &lock, &mut pass, plan.len(), &mut places);
     let tablet = SharedTablet::of(lock);
-    run_all(rt, alloc, schema, &tablet, plan, gate, &mut places);
+    run_all(rt, alloc, schema, &tablet, plan, gate, chores, &mut places);
     let SharedTablet { lock } = tablet;
     let ends = join_all(&lock, &mut pass, places, ends);
     let engine = lock.close(pass);
@@ -198,6 +229,7 @@ pub fn run_sessions<
     C: Clock + Send,
     R: Threads + Wait + Sync,
     G: Gate + Sync,
+    H: Chores<L, D, C> + Sync,
 >(
     rt: &R,
     alloc: Global,
@@ -207,6 +239,7 @@ pub fn run_sessions<
     engine: Engine<L, D, C>,
     plan: &[Session],
     gate: &G,
+    chores: &H,
 ) -> Result<Ran<L, D, C>, Engine<L, D, C>>
     requires own { IsPassOf lock pass × IsVacant pass × (given pass ≡ 1) × (number pass ≡ 0) }
     requires passes { length plan.now < passes_of lock }
@@ -222,7 +255,7 @@ pub fn run_sessions<
     ensures halted { IfOk result (λ ran. (s : ℕ) (end : _) → nth ran.ends.items s ≡ Some end → end.halt ≡ Some Halt.Stopped → ran.end ≡ End.Stopped) }
     ensures back { IfErr result (λ e. e ≡ engine) }
 {
-    match run_locked(rt, alloc, schema, lock, pass, engine, plan, gate) {
+    match run_locked(rt, alloc, schema, lock, pass, engine, plan, gate, chores) {
         Ok((ends, mut engine)) => {
             let end = finish(alloc, &mut engine, LAST);
             Ok(Ran { ends, end, engine })

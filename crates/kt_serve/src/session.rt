@@ -5,10 +5,12 @@ ghost use Rattle.kt_history.specs.declared.reply.Reply.{Reply};
 ghost use Rattle.kt_history.specs.Machine.{nth};
 ghost use Rattle.kt_seatlock.specs.Passes.{number, seen, part, MayEnter, IsBack};
 ghost use Rattle.kt_engine.specs.Visits.{Root};
+ghost use Rattle.kt_serve.specs.Maintained.{StoreRests};
 ghost use Rattle.kt_serve.specs.Points.{CameTo};
 ghost use Rattle.kt_serve.specs.Scans.{IsOn, TellsBut};
 ghost use Rattle.kt_serve.specs.Sessions.{IsFree, IsCommand, HasNoLog, CanRun, SameRoot, OnRoot, TellsOwn, has_stop};
 
+use crate::chores::Chores;
 use crate::log::Halt;
 use crate::replies::SessionReplies;
 use crate::tablet::SharedTablet;
@@ -39,7 +41,7 @@ fn is_stopped(reply: &Reply) -> bool
 }
 
 // Takes the next command, and keeps its reply.
-fn take_next<L: Disk, D: Disk + Drop, C: Clock, R: Wait, G: Gate>(
+fn take_next<L: Disk, D: Disk + Drop, C: Clock, R: Wait, G: Gate, H: Chores<L, D, C>>(
     rt: &R,
     alloc: Global,
     schema: &Schema,
@@ -48,10 +50,12 @@ fn take_next<L: Disk, D: Disk + Drop, C: Clock, R: Wait, G: Gate>(
     index: u32,
     command: &Command,
     gate: &G,
+    chores: &H,
     replies: &mut Vec<Reply>,
 ) -> Result<(), Halt>
     requires enters { MayEnter tablet.now.lock pass.old }
     requires on { OnRoot (part pass.old) (λ root. IsOn schema.now root.work) }
+    requires rests { StoreRests (part pass.old) }
     requires next { IsFree (part pass.old) index }
     requires command { IsCommand (part pass.old) (number pass.old) index command.now }
     requires runs { CanRun index command.now }
@@ -73,7 +77,7 @@ fn take_next<L: Disk, D: Disk + Drop, C: Clock, R: Wait, G: Gate>(
     }
     let session = pass.number();
     gate.at(Point::Before { session, index });
-    match tablet.take(rt, alloc, schema, pass, index, command, gate) {
+    match tablet.take(rt, alloc, schema, pass, index, command, gate, chores) {
         Ok(reply) => {
             gate.at(Point::After { session, index });
             if is_stopped(&reply) {
@@ -88,7 +92,7 @@ fn take_next<L: Disk, D: Disk + Drop, C: Clock, R: Wait, G: Gate>(
 
 /// Runs a session to its end. Its replies are what the lines that its pass has then seen tell for its commands, and no
 /// other command of it has one. A command that met want of memory has no reply, though a line may answer it.
-pub fn run_session<L: Disk, D: Disk + Drop, C: Clock, R: Wait, G: Gate>(
+pub fn run_session<L: Disk, D: Disk + Drop, C: Clock, R: Wait, G: Gate, H: Chores<L, D, C>>(
     rt: &R,
     alloc: Global,
     schema: &Schema,
@@ -96,9 +100,11 @@ pub fn run_session<L: Disk, D: Disk + Drop, C: Clock, R: Wait, G: Gate>(
     commands: &[Command],
     pass: &mut Pass<Engine<L, D, C>>,
     gate: &G,
+    chores: &H,
 ) -> SessionEnd
     requires enters { MayEnter tablet.now.lock pass.old }
     requires on { OnRoot (part pass.old) (λ root. IsOn schema.now root.work) }
+    requires rests { StoreRests (part pass.old) }
     requires next { IsFree (part pass.old) 1 }
     requires plan { OnRoot (part pass.old) (λ root. nth root.work.plan (number pass.old) ≡ Some commands.now) }
     requires runs { (k : ℕ) (command : Command) → nth commands.now k ≡ Some command → CanRun k command }
@@ -125,6 +131,7 @@ pub fn run_session<L: Disk, D: Disk + Drop, C: Clock, R: Wait, G: Gate>(
             index,
             &commands[at],
             gate,
+            chores,
             &mut replies,
         ) {
             Ok(()) => {}

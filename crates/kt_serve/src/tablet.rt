@@ -1,16 +1,19 @@
 //! A tablet that sessions share.
 ghost use Rattle.std.specs.Prelude.{◌≡◌, ◌≢◌, ◌<◌, ◌+◌, ◌^◌, ℕ, List, Ok, OnErr, IfOk, true};
+ghost use Rattle.kt_base.specs.declared.chore.Chore.TheVariants as kind;
 ghost use Rattle.kt_history.specs.declared.change.Outcome.{Outcome};
 ghost use Rattle.kt_history.specs.declared.command.Command.{Command};
 ghost use Rattle.kt_seatlock.specs.Passes.{number, seen, part, MayEnter, IsBack};
 ghost use Rattle.kt_serve.specs.Answered.{IsAnswered};
+ghost use Rattle.kt_serve.specs.Maintained.{StoreRests};
 ghost use Rattle.kt_serve.specs.Scans.{IsOn, LacksReply};
 ghost use Rattle.kt_serve.specs.Sessions.{IsFree, IsCommand, IsWrite, IsStill, IsGoing, SameRoot, OnRoot, HasNoLog, HasLeft, AfterCommand, CanRun, has_stop};
 
+use crate::chores::{Chores, run_chore};
 use crate::log::Halt;
 use crate::rows::{apply_rows, end_write};
 use crate::visits::{begin_write, mark_once};
-use kt_base::{Clock, NoMemory};
+use kt_base::{Chore, Clock, NoMemory};
 use kt_disk::{Disk, Gate, Point};
 use kt_engine::Engine;
 use kt_history::{Command, Reply, Write};
@@ -99,6 +102,33 @@ impl<L: Disk, D: Disk + Drop, C: Clock> SharedTablet<L, D, C> {
         mark_once(rt, &self.lock, pass, index, to)
     }
 
+    /// Maintenance: it is answered once all that it asks for is done. The same holds of its reply.
+    pub fn chore<R: Wait, H: Chores<L, D, C>>(
+        &self,
+        rt: &R,
+        alloc: Global,
+        pass: &mut Pass<Engine<L, D, C>>,
+        index: u32,
+        chore: Chore,
+        chores: &H,
+    ) -> Result<Reply, NoMemory>
+        requires flush { chore ≡ kind.Flush }
+        requires enters { MayEnter self.now.lock pass.old }
+        requires rests { StoreRests (part pass.old) }
+        requires next { IsFree (part pass.old) index }
+        requires command { IsCommand (part pass.old) (number pass.old) index (Command.Chore chore) }
+        requires few { index + 1 < 2 ^ 32 }
+        ensures pass { IsBack pass.old pass.new }
+        ensures home { HasNoLog (part pass.new) }
+        ensures root { SameRoot (part pass.old) (part pass.new) }
+        ensures reply { IfOk result (λ reply. AfterCommand (part pass.old) (part pass.new) (seen pass.old) (seen pass.new) (number pass.old) index reply) }
+        ensures answer { IfOk result (λ reply. reply ≢ Reply.Stopped → OnRoot (part pass.old) (λ root. IsAnswered root (number pass.old) index reply (seen pass.new))) }
+        ensures unwritten { (ts : ℕ) (outcomes : List Outcome) → result ≢ Ok (Reply.At ts outcomes) }
+        ensures memory { OnErr result (IsGoing (number pass.old) (part pass.old) (part pass.new) (seen pass.old) (seen pass.new)) }
+    {
+        run_chore(rt, alloc, &self.lock, pass, index, chore, chores)
+    }
+
     /// The last visit of a session, whatever ended it: the session does not run any more.
     pub fn leave_run<R: Wait>(&self, rt: &R, pass: &mut Pass<Engine<L, D, C>>)
         requires enters { MayEnter self.now.lock pass.old }
@@ -114,8 +144,8 @@ impl<L: Disk, D: Disk + Drop, C: Clock> SharedTablet<L, D, C> {
         self.lock.leave(pass, engine);
     }
 
-    /// The next command of a session: a write, a scan or a mark.
-    pub fn take<R: Wait, G: Gate>(
+    /// The next command of a session: a write, a scan, a mark or maintenance.
+    pub fn take<R: Wait, G: Gate, H: Chores<L, D, C>>(
         &self,
         rt: &R,
         alloc: Global,
@@ -124,9 +154,11 @@ impl<L: Disk, D: Disk + Drop, C: Clock> SharedTablet<L, D, C> {
         index: u32,
         command: &Command,
         gate: &G,
+        chores: &H,
     ) -> Result<Reply, NoMemory>
         requires enters { MayEnter self.now.lock pass.old }
         requires on { OnRoot (part pass.old) (λ root. IsOn schema.now root.work) }
+        requires rests { StoreRests (part pass.old) }
         requires next { IsFree (part pass.old) index }
         requires command { IsCommand (part pass.old) (number pass.old) index command.now }
         requires runs { CanRun index command.now }
@@ -142,7 +174,7 @@ impl<L: Disk, D: Disk + Drop, C: Clock> SharedTablet<L, D, C> {
             Command::Write(write) => self.write(rt, alloc, pass, index, write, gate),
             Command::Mark(to) => self.mark(rt, pass, index, *to),
             Command::Scan(scan) => self.scan(rt, alloc, schema, pass, index, scan),
-            Command::Chore(_) => unreachable!(),
+            Command::Chore(chore) => self.chore(rt, alloc, pass, index, *chore, chores),
         }
     }
 }

@@ -1,10 +1,10 @@
-use Rattle.std.proofs.Common.{[], ap, sym, refl, subst, inl, inr, true, false, ◌∙◌}
+use Rattle.std.proofs.Common.{[], arith, ap, sym, refl, subst, inl, inr, true, false, ◌∙◌}
 use Rattle.std.specs.Prelude.{IsTrue}
 use Rattle.kt_history.specs.Machine.{Workload}
 use Rattle.kt_engine.specs.Engines.{KeepsOthers}
 use Rattle.kt_app.specs.Images.{CrashLeaves, Both, KeepsFiles, LogIsNear}
 use Rattle.kt_app.specs.Refusals.{refusal_text}
-use Rattle.kt_app.proofs.Numbers.{keeps_files, frames_files, frames_near, still_near, near_at}
+use Rattle.kt_app.proofs.Numbers.{keeps_files, frames_files, frames_near, still_near, next_low, near_at}
 use Rattle.kt_app.proofs.SourceLaws.{either}
 use Rattle.kt_app.proofs.RunLaws.{is_on, was_refused, as_before, let_be, runs_over, kept_over, rose_as, neither_rose}
 use Rattle.kt_app.proofs.top.open_and_run.Goals as goal
@@ -125,10 +125,14 @@ returns-in-Ok-open_tablet-clause-near g c =
     let stores = CrashLeaves g.D.Disk.tells g.D.Disk.now g.D.Disk.leaves c.args.store in
     let files = keeps_files g.L.Disk.tells g.L.Disk.now g.L.Disk.leaves c.args.log _ (subst (λ d. IsTrue g.L.Disk.tells → KeepsOthers g.L.Disk.now g.L.Disk.leaves d parts.log) opened.devices.1 run.others) in
     let near : LogIsNear (Both logs stores) (Both (CrashLeaves g.L.Disk.tells g.L.Disk.now g.L.Disk.leaves parts.log) (CrashLeaves g.D.Disk.tells g.D.Disk.now g.D.Disk.leaves parts.store)) = λ bound three up image after n named.
-    near_at logs stores (CrashLeaves g.L.Disk.tells g.L.Disk.now g.L.Disk.leaves parts.log) (CrashLeaves g.D.Disk.tells g.D.Disk.now g.D.Disk.leaves parts.store) c.args.schema.now engine.tablet.names (g.L.Disk.seen c.args.log) (g.D.Disk.seen c.args.store)
+    near_at logs stores (CrashLeaves g.L.Disk.tells g.L.Disk.now g.L.Disk.leaves parts.log) (CrashLeaves g.D.Disk.tells g.D.Disk.now g.D.Disk.leaves parts.store) c.args.schema.now engine.found engine.first_rowset engine.store.meta.next_rowset (g.L.Disk.seen c.args.log) (g.D.Disk.seen c.args.store)
     (after.0.0, (g.met.L.Disk g.world.𝓛 g.world.𝓜 g.world.𝓡 ((λ s x. x), (λ x. x), (λ x. x), λ x. x)).reads_as_image c.args.log after.0.0)
     (after.1.0, (g.met.D.Disk g.world.𝓛 g.world.𝓜 g.world.𝓡 ((λ s x. x), (λ x. x), (λ x. x), λ x. x)).reads_as_image c.args.store after.1.0)
-    opened.found.0 (opened.found.2 after.0.0 after.1.0) engine.records (opened.records after.0.0) (sym opened.found.1.records) opened.found.1.names files image after.0 (run.named image.log after.0) bound three up n named in
+    opened.found.0 (opened.found.2 after.0.0 after.1.0) engine.records (opened.records after.0.0) (sym opened.found.1.records) (opened.names ∙ opened.found.1.names) files image after.0 (run.named image.log after.0) (opened.first_rowset ∙ opened.next.0) bound three up
+    (next_low g.D.Disk.now g.D.Disk.leaves c.args.schema.now c.args.store (g.D.Disk.seen engine.store.known) engine.store.meta bound (omega (arith, three))
+    (let moment = opened.store_moment after.1.0 in moment.each (g.D.Disk.now engine.store.known) (g.D.Disk.seen engine.store.known) moment.later (omega arith) ((g.met.D.Disk g.world.𝓛 g.world.𝓜 g.world.𝓡 ((λ s x. x), (λ x. x), (λ x. x), λ x. x)).reads_as_image engine.store.known after.1.0))
+    (opened.meta after.1.0)
+    (λ files was k is. up (record { log = g.L.Disk.seen c.args.log; store = files }) ((after.0.0, (g.met.L.Disk g.world.𝓛 g.world.𝓜 g.world.𝓡 ((λ s x. x), (λ x. x), (λ x. x), λ x. x)).reads_as_image c.args.log after.0.0), (after.1.0, was)) k (inr is))) n named in
     subst (λ l. LogIsNear (Both logs stores) (Both (CrashLeaves g.L.Disk.tells g.L.Disk.now g.L.Disk.leaves l) (CrashLeaves g.D.Disk.tells g.D.Disk.now g.D.Disk.leaves c.end_with-in-Ok-open_tablet.result.store))) (sym is.1)
     (subst (λ s. LogIsNear (Both logs stores) (Both (CrashLeaves g.L.Disk.tells g.L.Disk.now g.L.Disk.leaves parts.log) (CrashLeaves g.D.Disk.tells g.D.Disk.now g.D.Disk.leaves s))) (sym is.2) near)
 

@@ -122,3 +122,11 @@ stop-requires-clause-one_of g c = λ lent same.
     of_lent (λ l. IsTrue g.D.Disk.tells → HasOneOf g.D.Disk.now g.D.Disk.leaves x.store.meta (published_in true x.store.lent x.store.meta) l.device) _ lent same (λ t.
     let was = ap (λ d. super_of (g.D.Disk.seen d)) c.requires.device ∙ (c.standing.ensures.side.publishes t).superblock in
     subst (λ o. HasOneOf g.D.Disk.now g.D.Disk.leaves x.store.meta (published_in true o x.store.meta) c.publish-answer.new.disk) (sym (c.requires.meta.1 ∙ c.in-Some.is)) (c.publish-answer.ensures.one_of t x.store.meta was))
+
+-- no job publishes
+
+pub store_home-requires-clause-job : goal.store_home-requires-clause-job
+store_home-requires-clause-job g c = λ m is. inl c.requires.free
+
+pub store_home-requires-in-Err-Memory-clause-job : goal.store_home-requires-in-Err-Memory-clause-job
+store_home-requires-in-Err-Memory-clause-job g c = λ m is. inl c.requires.free

@@ -20,12 +20,12 @@ for_each_mut-requires-send-T g c = λ κs within.
 pub for_each_mut-requires-sync-F : goal.for_each_mut-requires-sync-F
 for_each_mut-requires-sync-F g c = λ κs within.
     let t = shared_sync _ _ _ g.L.Disk g.D.Disk g.C.Clock c.type_bounds.send-L c.type_bounds.send-D c.type_bounds.send-C in
-    param_sync 2 _ (arg_sync _ no _ (captured_sync _ _ _ _ _ _ _ (shr_sync _ _ _ c.type_bounds.sync-R) (shr_sync _ _ _ global.the_sync) (shr_sync _ _ _ schema.the_sync) (shr_sync _ _ _ t) (shr_slice_sync _ _ _ session.the_sync) (shr_sync _ _ _ c.type_bounds.sync-G)))
+    param_sync 2 _ (arg_sync _ no _ (captured_sync _ _ _ _ _ _ _ _ (shr_sync _ _ _ c.type_bounds.sync-R) (shr_sync _ _ _ global.the_sync) (shr_sync _ _ _ schema.the_sync) (shr_sync _ _ _ t) (shr_slice_sync _ _ _ session.the_sync) (shr_sync _ _ _ c.type_bounds.sync-G) (shr_sync _ _ _ c.type_bounds.sync-H)))
 
 pub for_each_mut-requires-clause-accepts : goal.for_each_mut-requires-clause-accepts
 for_each_mut-requires-clause-accepts g c = λ κs within i p lt e κs' r r' n same ranges small u u' m κs'' within'.
     let here : slice_get c.args.places.now i ≡ Some p.now = slice_get_read c.args.places.now (length c.args.places.now) i p.now refl lt e in
-    (omega (arith, c.requires.count, lt), (c.requires.enters i p.now here, (c.requires.on i p.now here, c.requires.runs i p.now here)))
+    (omega (arith, c.requires.count, lt), (c.requires.enters i p.now here, (c.requires.on i p.now here, (c.requires.rests i p.now here, c.requires.runs i p.now here))))
 
 pub returns-then-threads-gt0 : goal.returns-then-threads-gt0
 returns-then-threads-gt0 g c = λ j p e.

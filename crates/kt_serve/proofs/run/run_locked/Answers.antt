@@ -27,6 +27,12 @@ run_all-requires-clause-on g c = λ κs within j p e root h.
     let is = new_part (part p.pass) _ c.args.engine _ (suc j) new.part_is c.fill.ensures.told.2 (omega (arith, c.fill.ensures.pass.3, c.requires.own.2)) in
     subst (λ r. IsOn c.args.schema.now r.work) (root_at root (part p.pass) c.args.engine (suc j) h is) c.requires.on
 
+pub run_all-requires-clause-rests : goal.run_all-requires-clause-rests
+run_all-requires-clause-rests g c = λ κs within j p e root h.
+    let new = c.split_all.ensures.each j p (ap (λ l. slice_get l j) (sym c.deref_mut.ensures.value) ∙ e) in
+    let is = new_part (part p.pass) _ c.args.engine _ (suc j) new.part_is c.fill.ensures.told.2 (omega (arith, c.fill.ensures.pass.3, c.requires.own.2)) in
+    ap (λ r. r.turn) (sym (root_at root (part p.pass) c.args.engine (suc j) h is)) ∙ c.requires.fresh.store
+
 pub run_all-requires-clause-runs : goal.run_all-requires-clause-runs
 run_all-requires-clause-runs g c = λ κs within j p e commands at.
     let new = c.split_all.ensures.each j p (ap (λ l. slice_get l j) (sym c.deref_mut.ensures.value) ∙ e) in

@@ -22,6 +22,9 @@ ok_not a halt e = cc
 pub take_next-requires-clause-on : goal.take_next-requires-clause-on
 take_next-requires-clause-on g c = on_root (λ root. IsOn c.args.schema.now root.work) c.requires.next.part _ _ c.requires.next.is c.loop-at.invariant.1 c.requires.on
 
+pub take_next-requires-clause-rests : goal.take_next-requires-clause-rests
+take_next-requires-clause-rests g c = on_root (λ root. root.turn ≡ None) c.requires.next.part _ _ c.requires.next.is c.loop-at.invariant.1 c.requires.rests
+
 pub take_next-requires-clause-command : goal.take_next-requires-clause-command
 take_next-requires-clause-command g c = command_after _ _ (c.loop-at.at + 1) c.index-commands-at.result c.requires.next.part _ _ c.requires.next.is c.loop-at.invariant.0.0.1 c.loop-at.invariant.1
     (at_command _ _ (c.loop-at.at + 1) c.args.commands.now c.index-commands-at.result c.requires.plan (nth_at c.args.commands.now c.loop-at.at c.index-commands-at.result c.loop-at-test.true c.index-commands-at.is))

@@ -8,3 +8,6 @@ returns-in-Write-clause-memory g c = on_err_weaker c.write.result (going_lacks (
 
 pub returns-in-Mark-clause-memory : goal.returns-in-Mark-clause-memory
 returns-in-Mark-clause-memory g c = on_err_weaker c.mark.result (going_lacks (number c.args.pass.now) c.args.index (part c.args.pass.now) (part c.mark.new.pass) (seen c.args.pass.now) (seen c.mark.new.pass)) c.mark.ensures.memory
+
+pub returns-in-Chore-clause-memory : goal.returns-in-Chore-clause-memory
+returns-in-Chore-clause-memory g c = on_err_weaker c.chore.result (going_lacks (number c.args.pass.now) c.args.index (part c.args.pass.now) (part c.chore.new.pass) (seen c.args.pass.now) (seen c.chore.new.pass)) c.chore.ensures.memory
