@@ -173,6 +173,14 @@ impl Texts {
         Ok(())
     }
 
+    /// No strings are left. Their room stays.
+    pub fn clear(&mut self)
+        ensures { self.new ≡ [] }
+    {
+        self.bytes.clear();
+        self.ends.clear();
+    }
+
     /// A copy of the strings, which takes no more memory than they need.
     pub fn copy(&self) -> Result<Texts, NoMemory>
         ensures { IfOk result (λ copy. copy ≡ self.now) }

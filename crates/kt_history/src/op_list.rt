@@ -213,6 +213,13 @@ impl OpList {
         self.texts.push_parts(&[&number, &len, op.key, op.cells])
     }
 
+    /// No operations are left. Where nothing shared their bytes, the room of these stays.
+    pub fn clear(&mut self, alloc: Global)
+        ensures { self.new ≡ [] }
+    {
+        self.texts.clear(alloc);
+    }
+
     /// The same list, of which a copy takes no memory.
     pub fn shared(self, alloc: Global) -> Result<OpList, NoMemory>
         ensures { IfOk result (λ list. list ≡ self) }

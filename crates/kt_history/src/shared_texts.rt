@@ -77,6 +77,16 @@ fn push_parts(held: &mut Held, parts: &[&[u8]]) -> Result<(), NoMemory>
     }
 }
 
+// No strings are left. The room of strings that nothing shares stays.
+fn clear(alloc: Global, held: &mut Held)
+    ensures { held_texts held.new ≡ [] }
+{
+    match held {
+        Held::Own(texts) => texts.clear(),
+        Held::Shared(_) => *held = Held::Own(Texts::new(alloc)),
+    }
+}
+
 /// Byte strings in one buffer. While they are shared, a copy is another owner of the buffer. Contracts see them as a list.
 #[derive(Drop)]
 pub struct SharedTexts {
@@ -155,6 +165,13 @@ impl SharedTexts {
         ensures err { OnErr result (self.new ≡ self.old) }
     {
         push_parts(&mut self.held, parts)
+    }
+
+    /// No strings are left. Where nothing shared them, their room stays.
+    pub fn clear(&mut self, alloc: Global)
+        ensures { self.new ≡ [] }
+    {
+        clear(alloc, &mut self.held);
     }
 
     /// Another owner of shared strings, which takes no memory, and else a copy, which takes no more than it needs.
