@@ -5,3 +5,4 @@ pub mod Records
 pub mod Numbers
 pub mod Listed
 pub mod Shared
+pub mod Tops

@@ -4,11 +4,10 @@
 //! end: none where bytes are missing, and all from the field's first byte on where the field is wrong.
 ghost use Rattle.std.specs.Prelude.{◌≡◌, ◌<◌, ◌^◌, length, IfOk};
 ghost use Rattle.std.specs.Int.{w16};
-ghost use Rattle.kt_records.specs.Rules.{has_key};
 ghost use Rattle.kt_bytes.specs.Reading.{Gives, checked_at};
 ghost use Rattle.kt_records.specs.Reading.{kind_at, is_key_len, new_key_at, outcome_at, target_at};
 
-use crate::log_records::OpsRef;
+use crate::front::Front;
 use kt_bytes::Stop;
 use kt_bytes::fields::{fault_at, front_of, u16_at, u64_at};
 use kt_history::{OpKind, Outcome, Target};
@@ -31,27 +30,14 @@ pub fn kind_of(bytes: &[u8]) -> Result<(OpKind, &[u8]), Stop>
     }
 }
 
-/// Whether one of the operations has this key.
-fn is_taken(ops: &OpsRef<'_>, key: &[u8]) -> bool
-    ensures { result ≡ has_key ops.now key.now }
-{
-    'ops: for at in 0..ops.len() {
-        let op = ops.at(at);
-        if op.key().cmp(&key).is_eq() {
-            return true;
-        }
-    }
-    false
-}
-
 /// The length of a key that can stand behind these operations.
-fn is_key_len(front: &OpsRef<'_>, len: u16) -> bool
+fn is_key_len(front: &Front<'_>, len: u16) -> bool
     ensures { result ≡ is_key_len front.now len }
 {
-    len != 0 || !is_taken(front, &[])
+    len != 0 || !front.has(&[])
 }
 
-fn key_len_of<'a>(front: &OpsRef<'_>, bytes: &'a [u8]) -> Result<(u16, &'a [u8]), Stop>
+fn key_len_of<'a>(front: &Front<'_>, bytes: &'a [u8]) -> Result<(u16, &'a [u8]), Stop>
     ensures { Gives (λ x. (x.0, x.1.now)) result (checked_at w16 (is_key_len front.now) bytes.now) }
 {
     let (len, rest) = u16_at(bytes)?;
@@ -64,13 +50,13 @@ fn key_len_of<'a>(front: &OpsRef<'_>, bytes: &'a [u8]) -> Result<(u16, &'a [u8])
 
 /// A key behind its length, which none of the operations in front has.
 #[tactic(auto, unfolding(crate::specs::Reading::new_key_at))]
-pub fn new_key_of<'a>(front: &OpsRef<'_>, bytes: &'a [u8]) -> Result<(&'a [u8], &'a [u8]), Stop>
+pub fn new_key_of<'a>(front: &Front<'_>, bytes: &'a [u8]) -> Result<(&'a [u8], &'a [u8]), Stop>
     ensures key { Gives (λ x. (x.0.now, x.1.now)) result (new_key_at front.now bytes.now) }
     ensures short { IfOk result (λ x. length x.0.now < 2 ^ 16) }
 {
     let (len, rest) = key_len_of(front, bytes)?;
     let (key, after) = front_of(rest, len as usize)?;
-    if is_taken(front, key) {
+    if front.has(key) {
         return fault_at(rest);
     }
     Ok((key, after))

@@ -8,6 +8,7 @@
 
 pub mod entry;
 pub mod fields;
+pub mod front;
 pub mod laws;
 mod lists;
 pub mod log_records;

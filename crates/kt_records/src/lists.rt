@@ -1,13 +1,15 @@
 //! Lists behind their counts, read from the front of some bytes.
-ghost use Rattle.std.specs.Prelude.{◌≡◌, ◌<◌, ◌≤◌, ◌++◌, [], length, drop, IfOk};
+ghost use Rattle.std.specs.Prelude.{◌≡◌, ◌<◌, ◌≤◌, ◌++◌, [], length, drop, true, IfOk};
 ghost use Rattle.kt_records.specs.Rules.{may_list, may_change};
 ghost use Rattle.kt_bytes.specs.Reading.{Gives, many_at};
 ghost use Rattle.kt_cells.specs.Reading.{cells_behind};
 ghost use Rattle.kt_cells.specs.Spelled.{SpellsCells};
+ghost use Rattle.kt_records.specs.Rising.{AreBelow, LastIsTop};
 ghost use Rattle.kt_records.specs.Reading.{cell_list_at, operation_at, target_at, target_list_at, commit_row_at};
 
 use crate::entry::{CommitRow, TargetList};
 use crate::fields::{kind_of, new_key_of, outcome_of, target_of};
+use crate::front::Front;
 use crate::log_records::OpsRef;
 use kt_bytes::Stop;
 use kt_bytes::fields::{fault_at, u16_at};
@@ -38,7 +40,7 @@ fn spelled_list_of(kind: OpKind, bytes: &[u8]) -> Result<(&[u8], &[u8]), Stop>
 
 /// An operation, where it lies.
 #[tactic(auto, unfolding(crate::specs::Reading::operation_at))]
-fn operation_of<'a>(front: &OpsRef<'_>, bytes: &'a [u8]) -> Result<(OpRef<'a>, &'a [u8]), Stop>
+fn operation_of<'a>(front: &Front<'_>, bytes: &'a [u8]) -> Result<(OpRef<'a>, &'a [u8]), Stop>
     ensures { Gives (λ x. (x.0, x.1.now)) result (operation_at front.now bytes.now) }
 {
     let (kind, rest) = kind_of(bytes)?;
@@ -47,17 +49,22 @@ fn operation_of<'a>(front: &OpsRef<'_>, bytes: &'a [u8]) -> Result<(OpRef<'a>, &
     Ok((OpRef::of(kind, key, cells), rest))
 }
 
-// An operation, where it lies, on a key that none of those from `first` on has.
+// An operation, where it lies, on a key that none of those from `first` on has, and whether it is known that it is above theirs.
 fn operation_behind<'a>(
     ops: &OpList,
     first: usize,
+    rises: bool,
     bytes: &'a [u8],
-) -> Result<(OpRef<'a>, &'a [u8]), Stop>
-    requires { first ≤ length ops.now }
-    ensures { Gives (λ x. (x.0, x.1.now)) result (operation_at (drop first ops.now) bytes.now) }
+) -> Result<(OpRef<'a>, bool, &'a [u8]), Stop>
+    requires within { first ≤ length ops.now }
+    requires rises { rises ≡ true → LastIsTop (drop first ops.now) }
+    ensures read { Gives (λ x. (x.0, x.2.now)) result (operation_at (drop first ops.now) bytes.now) }
+    ensures above { IfOk result (λ x. x.1 ≡ true → AreBelow (drop first ops.now) x.0.key) }
 {
-    let front = OpsRef::behind(ops, first);
-    operation_of(&front, bytes)
+    let front = Front::of(OpsRef::behind(ops, first), rises);
+    let (op, rest) = operation_of(&front, bytes)?;
+    let rises = front.rises_to(op.key());
+    Ok((op, rises, rest))
 }
 
 /// Adds so many operations on different keys behind others, and gives the bytes after them.
@@ -66,10 +73,12 @@ pub fn operations_into<'a>(ops: &mut OpList, count: u16, bytes: &'a [u8]) -> Res
     ensures front { ops.new ≡ ops.old ++ drop (length ops.old) ops.new }
 {
     let first = ops.len();
+    let mut rises = true;
     let mut rest = bytes;
     'ops: for _ in 0..count {
-        let (op, after) = operation_behind(ops, first, rest)?;
+        let (op, above, after) = operation_behind(ops, first, rises, rest)?;
         ops.push(&op)?;
+        rises = above;
         rest = after;
     }
     Ok(rest)
