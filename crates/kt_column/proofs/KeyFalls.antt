@@ -41,7 +41,7 @@ keys_each (Bytes t ∷ cs) h = ap (λ r. Bytes t ∷ r) (keys_each cs h.1)
 are_keys : (cs : List Cell) → All (IsCell Keys) cs → AreKeys cs
 are_keys cs all = keys_each cs (recursion_from_All (IsCell Keys) cs all)
 
-texts_append : (cs ds : List Cell) → texts_in (cs ++ ds) ≡ texts_in cs ++ texts_in ds
+pub texts_append : (cs ds : List Cell) → texts_in (cs ++ ds) ≡ texts_in cs ++ texts_in ds
 texts_append [] ds = refl
 texts_append (Null ∷ cs) ds = texts_append cs ds
 texts_append (Int z ∷ cs) ds = texts_append cs ds

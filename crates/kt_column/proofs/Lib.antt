@@ -17,3 +17,4 @@ pub mod Once
 pub mod KeyFalls
 pub mod OnePlace
 pub mod Bodies
+pub mod TextsIn

@@ -6,7 +6,7 @@ ghost use Rattle.std.specs.Ordering.{nat_cmp};
 ghost use Rattle.std.specs.Cmp.Lexicographic.{slice_cmp};
 ghost use Rattle.kt_base.specs.declared.cell.Cell.TheVariants as cells;
 ghost use Rattle.kt_plain.specs.Items.{count};
-ghost use Rattle.kt_column.specs.Forms.{is_nullable};
+ghost use Rattle.kt_column.specs.Forms.{is_nullable, width};
 ghost use Rattle.kt_column.specs.Nulls.{null_bytes};
 ghost use Rattle.kt_column.specs.Blocks as spec;
 ghost use Rattle.kt_column.specs.Blocks.{AreCells, cell_len, numbers_in, texts_in, nulls_in, values_in, AreNullsOf, Held, IsBlock, SpellsBlock, block_bytes};
@@ -14,7 +14,7 @@ ghost use Rattle.kt_column.specs.Held.{items_of, cells_of, IsChosen};
 ghost use Rattle.kt_column.specs.Values.{AreValues};
 
 use crate::form::{Encoding, Form};
-use crate::held::{self, Values, cell_of, order_of};
+use crate::held::{self, Values, cell_of, order_of, push_texts};
 use crate::nulls::Nulls;
 use crate::values::spell_values;
 use kt_base::{Cell, NoMemory, Octets};
@@ -263,6 +263,15 @@ impl Block {
         ensures { IfOk result (λ cell. cell ≡ get_or self.now.cells i cells.Null) }
     {
         cell_in(alloc, self.form, &self.nulls, &self.values, i)
+    }
+
+    /// Adds the byte lists among the cells to others.
+    pub(crate) fn push_texts(&self, out: &mut Texts) -> Result<(), NoMemory>
+        requires { width self.now.form ≡ Width.Bytes }
+        ensures { OnOk result (out.new ≡ out.old ++ texts_in self.now.cells) }
+    {
+        push_texts(&self.values, out)?;
+        Ok(())
     }
 
     /// The bytes of the block.

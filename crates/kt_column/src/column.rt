@@ -4,14 +4,15 @@ ghost use Rattle.std.specs.Prelude.{◌≡◌, ◌==◌, ◌<◌, ◌≤◌, ◌
 ghost use Rattle.std.specs.Ordering.{nat_cmp};
 ghost use Rattle.std.specs.Cmp.Lexicographic.{slice_cmp};
 ghost use Rattle.kt_base.specs.declared.cell.Cell.TheVariants as cells;
-ghost use Rattle.kt_column.specs.Forms.{is_nullable};
-ghost use Rattle.kt_column.specs.Blocks.{IsCell};
+ghost use Rattle.kt_column.specs.Forms.{is_nullable, width};
+ghost use Rattle.kt_column.specs.Blocks.{IsCell, texts_in};
 ghost use Rattle.kt_column.specs.Columns.{AreFull, SpellsColumn};
 
 use crate::block::Block;
 use crate::cells::Cells1;
 use crate::form::Form;
 use kt_base::{Cell, Kind, NoMemory, Octets};
+use kt_plain::{Texts, Width};
 use std::alloc::Global;
 use std::cmp::Ordering;
 use std::marker::Model;
@@ -92,6 +93,17 @@ impl ColumnData {
         ensures { (bytes : List ℕ) → get_or self.now.cells i cells.Null ≡ cells.Bytes bytes → result ≡ slice_cmp nat_cmp bytes key.now }
     {
         self.blocks[(i / 8192) as usize].compare(i % 8192, key)
+    }
+
+    /// Adds the byte lists among the cells of a column of such to others, in one go over each block.
+    pub fn push_texts(&self, out: &mut Texts) -> Result<(), NoMemory>
+        requires { width self.now.form ≡ Width.Bytes }
+        ensures { OnOk result (out.new ≡ out.old ++ texts_in self.now.cells) }
+    {
+        for block in &self.blocks {
+            block.push_texts(out)?;
+        }
+        Ok(())
     }
 
     /// The bytes of the column: those of its blocks, one after another.

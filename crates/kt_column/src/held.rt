@@ -1,17 +1,18 @@
 //! The values of a block as they are held, and one of them.
 
-ghost use Rattle.std.specs.Prelude.{◌≡◌, ◌<◌, ◌≤◌, ◌+◌, ◌^◌, ℕ, List, length, get_or, IfOk};
+ghost use Rattle.std.specs.Prelude.{◌≡◌, ◌<◌, ◌≤◌, ◌+◌, ◌++◌, ◌^◌, ℕ, List, length, get_or, IfOk, OnOk};
 ghost use Rattle.std.specs.Ordering.{nat_cmp};
 ghost use Rattle.std.specs.Cmp.Lexicographic.{slice_cmp};
 ghost use Rattle.kt_base.specs.declared.cell.Cell.TheVariants as cells;
 ghost use Rattle.kt_plain.specs.Items.{count};
+ghost use Rattle.kt_plain.specs.declared.items.Items.TheVariants as plain;
 ghost use Rattle.kt_column.specs.Forms.{width};
 ghost use Rattle.kt_column.specs.Blocks.{number_cell, value_cells};
 ghost use Rattle.kt_column.specs.Held.{items_of};
 
 use crate::form::Form;
 use kt_base::{Cell, NoMemory, Octets};
-use kt_plain::{Item, Items, NumberWidth, Width, get};
+use kt_plain::{Item, Items, NumberWidth, Texts, Width, get};
 use std::alloc::Global;
 use std::cmp::Ordering;
 
@@ -75,6 +76,38 @@ pub fn cell_of(alloc: Global, form: Form, values: &Values, i: u32) -> Result<Cel
             let bytes = tri!(kt_front::get(items, i).to_octets(alloc));
             Ok(Cell::Bytes(bytes))
         }
+    }
+}
+
+/// Adds byte lists to others, one by one.
+fn push_all(texts: &Texts, out: &mut Texts) -> Result<(), NoMemory>
+    ensures { OnOk result (out.new ≡ out.old ++ texts.now) }
+{
+    'texts: for i in 0..texts.len() {
+        out.push(texts.get(i))?;
+    }
+    Ok(())
+}
+
+/// Adds the items of a dictionary's block to others, one by one.
+fn push_entries(items: &kt_dict::Items, out: &mut Texts) -> Result<(), NoMemory>
+    ensures { OnOk result (out.new ≡ out.old ++ items.now) }
+{
+    'items: for i in 0..items.len() {
+        out.push(items.item(i))?;
+    }
+    Ok(())
+}
+
+/// Adds the values to others, in one go, where they are byte lists.
+pub fn push_texts(values: &Values, out: &mut Texts) -> Result<(), NoMemory>
+    ensures { OnOk result ((texts : List (List ℕ)) → items_of values.now ≡ plain.Texts texts → out.new ≡ out.old ++ texts) }
+{
+    match values {
+        Values::Plain(Items::Numbers(_)) | Values::Runs(_) => Ok(()),
+        Values::Plain(Items::Texts(texts)) => push_all(texts, out),
+        Values::Dictionary(items) => push_entries(items, out),
+        Values::Prefixes(items) => items.push_to(out),
     }
 }
 

@@ -8,3 +8,4 @@ pub mod Faults
 pub mod Loop
 pub mod Steps
 pub mod Falls
+pub mod All

@@ -1,14 +1,14 @@
 //! The cells of a block as it stands on disk, and one of them as it stands in its stretch.
 
-ghost use Rattle.std.specs.Prelude.{◌≡◌, ◌<◌, ◌^◌, ◌==◌, [], length, get_or, sum_by, OnOk, IfOk};
+ghost use Rattle.std.specs.Prelude.{◌≡◌, ◌<◌, ◌^◌, ◌==◌, ◌++◌, [], length, get_or, sum_by, OnOk, IfOk};
 ghost use Rattle.kt_front.specs.Items.{IsHeld, StandsIn, items_in, item_in};
 ghost use Rattle.kt_front.specs.Spelling.{Fits, spelling};
 ghost use Rattle.kt_front.specs.Walking.{order};
 
 use crate::prefix::STRETCH;
 use crate::starts::Starts;
-use crate::walking::{behind, copy_in, next_cell, order_in};
-use kt_bytes::{NoMemory, Octets};
+use crate::walking::{behind, copy_in, next_cell, order_in, push_items};
+use kt_bytes::{NoMemory, Octets, Texts};
 use std::alloc::Global;
 use std::cmp::Ordering;
 use std::marker::Model;
@@ -82,6 +82,14 @@ impl Items {
         ensures fits { Fits self.now }
     {
         self.bytes.as_slice()
+    }
+
+    /// Adds all items to others, in one go over the block.
+    pub fn push_to(&self, out: &mut Texts) -> Result<(), NoMemory>
+        ensures { OnOk result (out.new ≡ out.old ++ self.now) }
+    {
+        push_items(self.bytes.as_slice(), self.count, out)?;
+        Ok(())
     }
 
     /// The item at this place.

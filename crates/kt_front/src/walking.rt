@@ -1,6 +1,6 @@
 //! Ordering an item against a key on the encoded bytes.
 
-ghost use Rattle.std.specs.Prelude.{◌≡◌, ◌≤◌, ◌<◌, ◌+◌, ◌^◌, ℕ, List, [], Ok, Err, length, drop, get_or, IfSome, MatchOption, OnOk};
+ghost use Rattle.std.specs.Prelude.{◌≡◌, ◌≤◌, ◌<◌, ◌+◌, ◌^◌, ◌++◌, ℕ, List, [], Ok, Err, length, take, drop, get_or, IfSome, MatchOption, OnOk};
 ghost use Rattle.std.specs.Int.{w32};
 ghost use Rattle.kt_bytes.specs.Reading.{number_at};
 ghost use Rattle.kt_front.specs.Spelling.{shared};
@@ -8,7 +8,7 @@ ghost use Rattle.kt_front.specs.Walking as spec;
 ghost use Rattle.kt_front.specs.Walking.{fields_at, IsBlock, order};
 
 use crate::prefix::{STRETCH, common_prefix};
-use kt_bytes::{NoMemory, Octets};
+use kt_bytes::{NoMemory, Octets, Texts};
 use std::cmp::Ordering;
 
 /// A cell as it stands: how many bytes it shares, the rest of its item, and the bytes behind it.
@@ -137,6 +137,24 @@ pub fn copy_in(bytes: &[u8], k: u32, out: &mut Octets) -> Result<(), NoMemory>
         };
         out.truncate(cell.shared);
         out.extend(cell.rest)?;
+        rest = cell.after;
+    }
+    Ok(())
+}
+
+/// Adds the first `n` items of a block to others, one behind the other.
+pub fn push_items(bytes: &[u8], n: u32, out: &mut Texts) -> Result<(), NoMemory>
+    ensures { OnOk result ((items : List (List ℕ)) → IsBlock bytes.now items → n ≤ length items → out.new ≡ out.old ++ take n items) }
+{
+    let mut rest = bytes;
+    for _ in 0..n {
+        let Some(cell) = next_cell(rest) else {
+            return Ok(());
+        };
+        if cell.shared > out.last().len() {
+            return Ok(());
+        }
+        out.push_behind(cell.shared, cell.rest)?;
         rest = cell.after;
     }
     Ok(())
