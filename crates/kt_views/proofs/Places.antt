@@ -1,10 +1,10 @@
 -- Rows by rising key: where a key stands, the row that it has, and the key behind it.
-use Rattle.std.proofs.Common.{◌≡◌, ℕ, zero, suc, ◌+◌, ◌<◌, ◌≤◌, List, [], ◌∷◌, Some, None, Ok, Err, Result, refl, true, false, ◌&&◌, cond, sym, ap, ◌∙◌, subst, arith, length, get_or, inl, inr}
+use Rattle.std.proofs.Common.{◌≡◌, ℕ, zero, suc, ◌+◌, ◌-◌, ◌<◌, ◌≤◌, List, [], ◌∷◌, Some, None, Ok, Err, Result, refl, true, false, ◌&&◌, cond, sym, ap, ◌∙◌, subst, arith, length, get_or, inl, inr}
 use Rattle.std.specs.Prelude.{not, slice_get}
 use Rattle.std.specs.List.{find as find_first, AllWithin}
 use Rattle.std.specs.List.Sorted.{IsPartitionedBy, IsPartitionPoint}
 use Rattle.std.specs.Option.{option_map}
-use Rattle.std.specs.Ordering.{is_lt, is_eq, ordering_reverse}
+use Rattle.std.specs.Ordering.{is_lt, is_gt, is_eq, ordering_reverse}
 use Rattle.std.specs.declared.cmp.Ordering.{Ordering}
 use Rattle.std.specs.declared.cmp.Ordering.TheVariants.{Less, Equal, Greater}
 use Rattle.std.specs.FinMap.{nat_cmp-IsAntisymmetric, slice_cmp-IsAntisymmetric}
@@ -14,7 +14,7 @@ use Rattle.std.proofs.lemmas.Bool.{and_parts, cases_eq, false≢true}
 use Rattle.std.proofs.lemmas.Option.{get_or_from_slice_get, slice_get-get_or}
 use Rattle.kt_history.specs.Places.{place_of, one_later}
 use Rattle.kt_history.specs.Rows.{Row, Rows, key_cmp}
-use Rattle.kt_views.specs.Keys.{keys_under, is_of_key}
+use Rattle.kt_views.specs.Keys.{keys_under, is_of_key, is_below, is_above as is_over, IsGap}
 use Rattle.kt_history.specs.Views.{is_above, key_above}
 
 -- ---- orders
@@ -136,6 +136,63 @@ parts_behind q rows n sorted h =
   where
     above_too_at : (q a b : List ℕ) → key_cmp q a ≡ Equal → key_cmp a b ≡ Less → key_cmp q b ≡ Less
     above_too_at q a b e lt = ap (λ (p : List ℕ). key_cmp p b) (slice_cmp-IsAntisymmetric nat_cmp-IsAntisymmetric q a e) ∙ lt
+
+-- ---- a place where a key would stand
+
+over : (a q : List ℕ) → is_gt (key_cmp q a) ≡ true → key_cmp a q ≡ Less
+over a q gt = turned q a ∙ by (key_cmp q a) gt
+  where
+    by : (o : Ordering) → is_gt o ≡ true → ordering_reverse o ≡ Less
+    by Less e = cc
+    by Equal e = cc
+    by Greater e = refl
+
+below_here : (q : List ℕ) (rows : Rows) (n : ℕ) (d : List ℕ × Row) → is_below q (slice_get rows n) ≡ true → n < length rows → key_cmp q (get_or rows n d).0 ≡ Less
+below_here q [] n d h lt = absurd (omega arith)
+below_here q (r ∷ rows) zero d h lt = less _ h
+below_here q (r ∷ rows) (suc n) d h lt = below_here q rows n d h (omega arith)
+
+over_here : (q : List ℕ) (rows : Rows) (n : ℕ) → is_over q (slice_get rows n) ≡ true → (n < length rows) × ((d : List ℕ × Row) → key_cmp (get_or rows n d).0 q ≡ Less)
+over_here q [] zero h = cc
+over_here q [] (suc n) h = cc
+over_here q (r ∷ rows) zero h = (omega arith, λ d. over r.0 q h)
+over_here q (r ∷ rows) (suc n) h = let rest = over_here q rows n h in (omega (arith, rest.0), rest.1)
+
+-- what is above the key at a place, so are all behind it
+above_from : (q : List ℕ) (rows : Rows) (n : ℕ) → is_sorted key_cmp rows ≡ true → is_below q (slice_get rows n) ≡ true → (k : ℕ) (d : List ℕ × Row) → n ≤ k → k < length rows → is_lt (key_cmp q (get_or rows k d).0) ≡ true
+above_from q rows n sorted h k d le within = elim (cases_eq n k) [
+  | inl e ↦ ap is_lt (subst (λ (m : ℕ). key_cmp q (get_or rows m d).0 ≡ Less) e (below_here q rows n d h (omega arith)))
+  | inr ne ↦ ap is_lt (nat_list_cmp_total.trans q (get_or rows n d).0 (get_or rows k d).0 (below_here q rows n d h (omega arith)) (sorted_at rows n k d sorted (omega arith) within))
+]
+
+pub gap_first : (q : List ℕ) (rows : Rows) → is_sorted key_cmp rows ≡ true → is_below q (slice_get rows 0) ≡ true → IsGap q rows 0
+gap_first q rows sorted h = record { within = omega arith; below = λ k d lt. absurd (omega arith); above = above_from q rows 0 sorted h }
+
+pub gap_behind : (q : List ℕ) (rows : Rows) (n : ℕ) → is_sorted key_cmp rows ≡ true → 0 < n → is_over q (slice_get rows (n - 1)) ≡ true → is_below q (slice_get rows n) ≡ true → IsGap q rows n
+gap_behind q rows n sorted some over h =
+    let front = over_here q rows (n - 1) over in
+    record {
+      within = omega (arith, front.0);
+      below = λ k d lt. parts_below rows q sorted k (n - 1) d (omega arith) front.0 (ap is_lt (front.1 d));
+      above = above_from q rows n sorted h;
+    }
+
+pub place_is_gap : (q : List ℕ) (rows : Rows) (n : ℕ) → IsGap q rows n → place_of key_cmp q rows ≡ Err n
+place_is_gap q rows n gap = elim (cases_eq n (length rows)) [
+  | inl e ↦ place_end q rows (λ k d lt. gap.below k d (omega arith)) ∙ ap (λ (m : ℕ). Err m) (sym e)
+  | inr ne ↦
+      let d : List ℕ × Row = ([], []) in
+      let lt : n < length rows = omega (arith, gap.within) in
+      let less_here : key_cmp q (get_or rows n d).0 ≡ Less = less _ (gap.above n d (omega arith) lt) in
+      let more : key_cmp (get_or rows n d).0 q ≡ Greater = turned q (get_or rows n d).0 ∙ ap ordering_reverse less_here in
+      place_gap q rows n d lt gap.below (ap is_lt more) (ap is_eq less_here)
+]
+
+pub parts_gap : (q : List ℕ) (rows : Rows) (n : ℕ) → IsGap q rows n → IsPartitionPoint (λ r. not (is_lt (key_cmp q r.0)) ≡ true) (λ r. not (is_lt (key_cmp q r.0)) ≡ false) rows n
+parts_gap q rows n gap = (
+  λ k d from below. ap (λ o. not (is_lt o)) (greater (get_or rows k d).0 q (gap.below k d below)),
+  λ k d from below. ap (λ b. not b) (gap.above k d from below),
+)
 
 -- ---- what the place says of the key
 

@@ -7,7 +7,7 @@ ghost use Rattle.std.specs.FinMap.Entries.{find, is_sorted};
 ghost use Rattle.kt_history.specs.Places.{place_of};
 ghost use Rattle.kt_history.specs.Rows.{key_cmp};
 ghost use Rattle.kt_history.specs.Views.{key_above};
-ghost use Rattle.kt_views.specs.Keys.{keys_under, is_of_key};
+ghost use Rattle.kt_views.specs.Keys.{keys_under, is_of_key, is_below, is_above, IsGap};
 
 use kt_base::{Cells, NoMemory, Octets};
 use kt_history::RowRef;
@@ -64,6 +64,40 @@ fn place(rows: &[(Octets, Cells)], key: &[u8]) -> Result<usize, usize>
     }
 }
 
+// Whether a key is below that of the row at a place, if there is one.
+fn is_below(rows: &[(Octets, Cells)], key: &[u8], at: usize) -> bool
+    ensures { result ≡ is_below key.now (slice_get rows.now at) }
+{
+    match entry_at(rows, at) {
+        Some((other, _)) => key.cmp(&other.as_slice()).is_lt(),
+        None => true,
+    }
+}
+
+// Whether there is a row at a place, and a key is above that of it.
+fn is_above(rows: &[(Octets, Cells)], key: &[u8], at: usize) -> bool
+    ensures { result ≡ is_above key.now (slice_get rows.now at) }
+{
+    match entry_at(rows, at) {
+        Some((other, _)) => key.cmp(&other.as_slice()).is_gt(),
+        None => false,
+    }
+}
+
+// Whether a key would stand at a place, where none stands, as far as the rows beside it tell.
+fn is_gap(rows: &[(Octets, Cells)], key: &[u8], at: usize) -> bool
+    requires { is_sorted key_cmp rows.now ≡ true }
+    ensures { result ≡ true → IsGap key.now rows.now at }
+{
+    if !is_below(rows, key, at) {
+        return false;
+    }
+    if at == 0 {
+        return true;
+    }
+    is_above(rows, key, at - 1)
+}
+
 // As `place`. The hint is a place that is looked at first.
 fn place_from(rows: &[(Octets, Cells)], key: &[u8], hint: usize) -> Result<usize, usize>
     requires { is_sorted key_cmp rows.now ≡ true }
@@ -71,6 +105,9 @@ fn place_from(rows: &[(Octets, Cells)], key: &[u8], hint: usize) -> Result<usize
 {
     if is_at(rows, key, hint) {
         return Ok(hint);
+    }
+    if is_gap(rows, key, hint) {
+        return Err(hint);
     }
     place(rows, key)
 }
@@ -127,6 +164,9 @@ fn count_from(rows: &[(Octets, Cells)], key: &[u8], hint: usize) -> usize
 {
     if is_at(rows, key, hint) {
         return hint + 1;
+    }
+    if is_gap(rows, key, hint) {
+        return hint;
     }
     count_not_above(rows, key)
 }
