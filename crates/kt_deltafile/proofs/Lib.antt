@@ -2,3 +2,4 @@ pub mod Sorted
 pub mod Rooms
 pub mod Parts
 pub mod Files
+pub mod Newest

@@ -1,5 +1,6 @@
 -- The order of a delta file's records.
-use Rattle.std.specs.Prelude.{◌≡◌, ℕ, zero, suc, ◌-◌, ◌<◌, ◌==◌, nat_lt, nat_le, Bool, true, not, ◌||◌, ◌&&◌, List, [], ◌∷◌, length, ◌⊎◌}
+use Rattle.std.specs.Prelude.{◌≡◌, ℕ, zero, suc, ◌-◌, ◌<◌, ◌≤◌, ◌==◌, nat_lt, nat_le, Bool, true, not, ◌||◌, ◌&&◌, List, [], ◌∷◌, length, ◌⊎◌}
+use Rattle.std.specs.List.{AllByRecursion}
 use Rattle.kt_history.specs.declared.changes.Delta.{Delta}
 use Rattle.kt_deltafile.specs.declared.file.Way.{Way}
 use Rattle.kt_deltafile.specs.declared.file.Way.TheVariants.{Redo, Undo}
@@ -39,3 +40,7 @@ may_follow way front ordinal ts = (length front == 0) || (not (last_ordinal fron
 abbrev pub IsSorted : Way → List Delta → Type 0
 IsSorted way list = (i j : ℕ) → i < j → j < length list →
     (ordinal_at list i < ordinal_at list j) ⊎ ((ordinal_at list i ≡ ordinal_at list j) × (in_order way (ts_at list i) (ts_at list j) ≡ true))
+
+-- none of these is above a timestamp
+abbrev pub AreUpTo : ℕ → List Delta → Type 0
+AreUpTo ts list = AllByRecursion (λ (d : Delta). d.ts ≤ ts) list
