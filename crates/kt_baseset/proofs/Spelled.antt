@@ -7,7 +7,7 @@ use Rattle.kt_base.specs.declared.cell.Cell.{Cell}
 use Rattle.kt_base.specs.declared.cell.Cell.TheVariants as cells
 use Rattle.kt_column.specs.declared.form.Form.{Form}
 use Rattle.kt_column.specs.declared.form.Form.TheVariants.{Keys}
-use Rattle.kt_column.specs.Blocks.{IsCell}
+use Rattle.kt_column.specs.Blocks.{IsCell, texts_in}
 use Rattle.kt_column.specs.Columns.{block_count, SpellsBlocks, SpellsColumn}
 use Rattle.kt_lookup.specs.Index.{IsBelow, Rises}
 use Rattle.kt_lookup.proofs.Search.{below_trans}
@@ -33,6 +33,14 @@ IsShort key = length key ≤ 16384
 pub same_texts : (keys : List (List ℕ)) → keys_of (key_cells keys) ≡ keys
 same_texts [] = refl
 same_texts (key ∷ keys) = ap (λ (ks : List (List ℕ)). key ∷ ks) (same_texts keys)
+
+-- keys are all the byte lists among their cells
+texts_again : (keys : List (List ℕ)) → texts_in (key_cells keys) ≡ keys
+texts_again [] = refl
+texts_again (key ∷ keys) = ap (λ (ks : List (List ℕ)). key ∷ ks) (texts_again keys)
+
+pub texts_are : (cs : List Cell) → cs ≡ key_cells (keys_of cs) → texts_in cs ≡ keys_of cs
+texts_are cs texts = ap texts_in texts ∙ texts_again (keys_of cs)
 
 -- a cell that a column of keys may hold is a byte list
 is_text : (c : Cell) → IsCell Keys c → (c ≡ cells.Bytes (bytes_of c)) × IsShort (bytes_of c)

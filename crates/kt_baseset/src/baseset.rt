@@ -11,7 +11,7 @@ ghost use Rattle.kt_baseset.specs.Spelling.{SpellsBase};
 use crate::asked::push_asked;
 use crate::columns::columns_of;
 use crate::held::HeldColumn;
-use crate::keys::{column_of, list_of};
+use crate::keys::{all_of, column_of, list_of};
 use crate::rows::KeyedRows;
 use crate::schema::{ColumnShape, Schema1};
 use crate::spelling::{put_columns, put_lookup, spell_keys};
@@ -87,7 +87,7 @@ fn row_of(alloc: Global, columns: &[HeldColumn], i: u32) -> Result<Cells, NoMemo
     requires { All (HasCells i) columns.now }
     ensures { IfOk result (λ row. row ≡ tables.row_at columns.now i) }
 {
-    let mut row = Vec::new(alloc);
+    let mut row = Vec::with_capacity(alloc, columns.len())?;
     'columns: for held in columns {
         row.push((held.shape.id, held.column.cell(alloc, i)?))?;
     }
@@ -268,6 +268,13 @@ impl BaseSet {
         ensures { IfOk result (λ key. key ≡ key_at self.now.rows ordinal) }
     {
         Ok(bytes_in(alloc, self.keys.cell(alloc, ordinal)?))
+    }
+
+    /// The keys of all rows, read in one go.
+    pub fn keys(&self, alloc: Global) -> Result<KeyList, NoMemory>
+        ensures { IfOk result (λ keys. keys ≡ keys_in self.now.rows) }
+    {
+        all_of(alloc, &self.keys)
     }
 
     /// The bytes of the base file.

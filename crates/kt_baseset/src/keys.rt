@@ -1,12 +1,12 @@
 //! The keys of a base file: as a column, and as a list.
-ghost use Rattle.std.specs.Prelude.{◌≡◌, ◌<◌, ◌+◌, ◌++◌, ℕ, List, length, IfOk, IfErr, MatchResult};
+ghost use Rattle.std.specs.Prelude.{◌≡◌, ◌<◌, ◌+◌, ◌++◌, [], ℕ, List, length, IfOk, IfErr, MatchResult};
 ghost use Rattle.kt_base.specs.declared.cell.Cell.{Cell};
 ghost use Rattle.kt_bytes.specs.declared.fault.Stop.TheVariants as stops;
 ghost use Rattle.kt_column.specs.declared.form.Form.TheVariants as forms;
 ghost use Rattle.kt_column.specs.Columns.{IsColumnFound, SpellsColumn};
 ghost use Rattle.kt_column.specs.Keys.{AreRising};
 ghost use Rattle.kt_baseset.specs.Rows.{AreKeys, keys_in};
-ghost use Rattle.kt_baseset.specs.Tables.{bytes_of, keys_of, key_cells};
+ghost use Rattle.kt_baseset.specs.Tables.{bytes_of, keys_of, key_cells, AreTexts};
 ghost use Rattle.kt_baseset.specs.Reading.{AreRefusedAt, IsKeysFault, ReadsKeys, Stops};
 
 use crate::fields::{after, rows_of};
@@ -57,18 +57,32 @@ fn keys_len(alloc: Global, column: &ColumnData) -> Result<usize, NoMemory> {
     Ok(len)
 }
 
-/// The keys of a column as a list, whose room is taken once: a buffer that grows would be there twice.
-pub fn list_of(alloc: Global, column: &ColumnData) -> Result<KeyList, NoMemory>
+/// Adds the keys of a column to a list, read in one go.
+fn push_keys(column: &ColumnData, mut list: KeyList) -> Result<KeyList, NoMemory>
+    requires texts { AreTexts column.now }
+    requires none { list ≡ [] }
     ensures { IfOk result (λ list. list ≡ keys_of column.now.cells) }
 {
-    let mut bytes = Vec::with_capacity(alloc, keys_len(alloc, column)?)?;
-    let mut ends = Vec::with_capacity(alloc, column.len() as usize)?;
-    'cells: for i in 0..column.len() {
-        let cell = column.cell(alloc, i)?;
-        bytes.extend_from_slice(key_of(&cell))?;
-        ends.push(bytes.len())?;
-    }
-    Ok(KeyList::cut(bytes, ends))
+    column.push_texts(&mut list)?;
+    Ok(list)
+}
+
+/// The keys of a column as a list.
+pub fn all_of(alloc: Global, column: &ColumnData) -> Result<KeyList, NoMemory>
+    requires { AreTexts column.now }
+    ensures { IfOk result (λ list. list ≡ keys_of column.now.cells) }
+{
+    push_keys(column, KeyList::new(alloc))
+}
+
+/// As `all_of`, of a list whose room is taken once: a buffer that grows would be there twice.
+pub fn list_of(alloc: Global, column: &ColumnData) -> Result<KeyList, NoMemory>
+    requires { AreTexts column.now }
+    ensures { IfOk result (λ list. list ≡ keys_of column.now.cells) }
+{
+    let bytes = Vec::with_capacity(alloc, keys_len(alloc, column)?)?;
+    let ends = Vec::with_capacity(alloc, column.len() as usize)?;
+    push_keys(column, KeyList::cut(bytes, ends))
 }
 
 /// The key column of so many rows, whose keys rise, and how many bytes it takes.

@@ -1,7 +1,10 @@
 use Rattle.std.proofs.Common.{◌∙◌, sym, subst}
 use Rattle.kt_baseset.specs.Rows.{AreKeys, keys_in}
-use Rattle.kt_baseset.proofs.Whole.{keys_again, held_of, value_is}
+use Rattle.kt_baseset.proofs.Whole.{keys_again, texts_of, held_of, value_is}
 use Rattle.kt_baseset.proofs.baseset.build.Goals as goal
+
+pub list_of-requires : goal.list_of-requires
+list_of-requires c = texts_of (keys_in c.args.rows.now) c.in_ok-keys.keys (rw c.as_slice.ensures at c.in_ok-keys.ensures)
 
 pub lookup_of-requires : goal.lookup_of-requires
 lookup_of-requires c =

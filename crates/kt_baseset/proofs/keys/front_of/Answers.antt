@@ -1,5 +1,7 @@
 use Rattle.std.proofs.Common.{arith}
 use Rattle.kt_baseset.proofs.Fronts.{no_rows, no_keys, no_front, front_found, front_column, front_only}
+use Rattle.kt_baseset.specs.Tables.{keys_of}
+use Rattle.kt_baseset.proofs.Whole.{texts_of}
 use Rattle.kt_baseset.proofs.keys.front_of.Goals as goal
 
 pub returns-in-Err-clause-only : goal.returns-in-Err-clause-only
@@ -10,6 +12,10 @@ returns-in-Err-keys_at-clause-only c = no_front c.in-Err-keys_at.stop c.args.byt
 
 pub returns-in-Err-keys_at-clause-stop : goal.returns-in-Err-keys_at-clause-stop
 returns-in-Err-keys_at-clause-stop c = no_keys c.in-Err-keys_at.stop c.args.bytes.now c.in-Ok.read.0 c.in-Ok.read.1.now c.in-Ok.ensures c.in-Err-keys_at.ensures.stop
+
+pub list_of-requires : goal.list_of-requires
+list_of-requires c =
+    texts_of (keys_of c.in-Ok-keys_at.read.0.cells) c.in-Ok-keys_at.read.0 (front_column c.in-Ok-keys_at.read.0 c.in-Ok.read.0 c.in-Ok.read.1.now c.in-Ok-keys_at.read.1 c.in-Ok-keys_at.ensures.found.0 c.in-Ok-keys_at.ensures.found.1)
 
 pub after-requires : goal.after-requires
 after-requires c = c.in-Ok-keys_at.ensures.found.1.within
