@@ -16,9 +16,6 @@ use std::alloc::Global;
 use std::marker::Model;
 use thiserror::Error;
 
-// A write of no more keys is not written down while it flies alone.
-const FEW: usize = 4;
-
 /// The last timestamp, the ancient history mark, and the writes that fly with the keys that they hold.
 /// Where several fly, a key that no write holds is found by its hash; where one is held, the writes are looked at in turn.
 #[derive(Drop)]
@@ -125,18 +122,12 @@ fn hold_all(held: &mut Held, flying: &[Flier], who: u32, keys: &KeyList)
     held.hold(who, keys);
 }
 
-// Whether a write begins alone and has few keys.
-fn is_lone(flying: &[Flier], keys: &KeyList) -> bool {
-    flying.is_empty() && keys.len() <= FEW
-}
-
-// Writes down the keys of a write that begins. One of few keys that begins alone is left out until another begins: what asks for
-// a key then looks at the write itself.
+// Writes down the keys of a write that begins. One that begins alone is left out until another is to begin.
 fn note(held: &mut Held, flying: &[Flier], who: u32, keys: &KeyList)
     requires { Tells held.old flying.now }
     ensures { (ts : ℕ) → Tells held.new (flying.now ++ record { who = who; ts = ts; keys = keys.now } ∷ []) }
 {
-    if is_lone(flying, keys) {
+    if flying.is_empty() {
         held.pass_over();
         return;
     }
@@ -260,13 +251,25 @@ impl Flight {
         }
     }
 
+    /// Makes the keys of a write that flies alone fast to ask for. Nothing else is seen of it, and without memory they are as slow
+    /// as before.
+    pub fn look_up(&mut self)
+        ensures { self.new ≡ record self.old { key_room = self.new.key_room } }
+    {
+        let whole = self.held.whole;
+        if whole {
+            return;
+        }
+        renew(&mut self.held, &self.flying);
+    }
+
     /// Makes room for a write of so many keys, which then begins without memory.
     pub fn reserve(&mut self, _alloc: Global, keys: usize) -> Result<(), NoMemory>
         ensures room { OnOk result (0 < self.new.room) }
         ensures keys { OnOk result (keys ≤ self.new.key_room) }
         ensures same { self.new ≡ record self.old { room = self.new.room; key_room = self.new.key_room } }
     {
-        self.held.reserve(keys.saturating_add(FEW))?;
+        self.held.reserve(keys)?;
         self.flying.reserve(1)?;
         Ok(())
     }
