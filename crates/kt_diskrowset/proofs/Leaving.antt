@@ -57,7 +57,7 @@ module _ (front : List DeltaMem) (m : DeltaMem) (rest : List DeltaMem) where
     apart_without : AreApart pool (front ++ m ∷ rest) → AreApart pool (front ++ rest)
     apart_without apart = apart_both pool front rest (apart_front pool front (m ∷ rest) apart) (apart_back pool front (m ∷ rest) apart).1 (λ k here there. apart_between pool front (m ∷ rest) k apart here (inr there))
 
-  one_leaves : (all : List DeltaMem) (old now new : Contents) → AreEmptied all (front ++ m ∷ rest) old now → ((k : ℕ) → ¬ dms.Owns m now k → at_cell new k ≡ at_cell now k)
+  pub one_leaves : (all : List DeltaMem) (old now new : Contents) → AreEmptied all (front ++ m ∷ rest) old now → ((k : ℕ) → ¬ dms.Owns m now k → at_cell new k ≡ at_cell now k)
       → used new + dms.cells_had m now ≡ used now → new.reserved ≡ now.reserved → length new.places ≡ length now.places → AreEmptied all (front ++ rest) old new
   one_leaves all old now new h frame fewer reserved size =
       let still = all_stay now new (front ++ rest) (stand_without now h.stand) (λ k own. frame k (not_mine now k h.apart own)) in
@@ -79,7 +79,7 @@ module _ (front : List DeltaMem) (m : DeltaMem) (rest : List DeltaMem) where
 
 -- ---- one after another
 
-none_emptied : (all : List DeltaMem) (pool : Contents) → AllStand pool all → AreApart pool all → AreEmptied all all pool pool
+pub none_emptied : (all : List DeltaMem) (pool : Contents) → AllStand pool all → AreApart pool all → AreEmptied all all pool pool
 none_emptied all pool st apart = record { stand = st; apart = apart; kept = all_same pool all; owned = λ k own. own; frame = λ k none. refl; cells = refl; reserved = refl; size = refl }
 
 pub none_passed : (last : ℕ) (all : List DeltaMem) (pool : Contents) → AllStand pool all → AreApart pool all → Emptying last all all 0 pool pool

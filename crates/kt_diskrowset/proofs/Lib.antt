@@ -16,3 +16,6 @@ pub mod TakenRows
 pub mod Replaying
 pub mod UndosFit
 pub mod Firsts
+pub mod NoneAbove
+pub mod Wholes
+pub mod Settled

@@ -8,6 +8,7 @@ pub mod Data
 pub mod Page
 pub mod Gathered
 pub mod Jobs
+pub mod Rewriting
 pub mod Missed
 pub mod First
 pub mod Laws

@@ -11,6 +11,7 @@ ghost use Rattle.kt_diskrowset.specs.Rows.{rows_of};
 
 use kt_base::{Cell, Cells, NoMemory, Octets};
 use kt_baseset::BaseSet;
+use kt_bytes::Texts;
 use std::alloc::Global;
 use std::sync::Arc;
 
@@ -129,6 +130,13 @@ impl BaseHeld {
         ensures { IfOk result (λ key. key ≡ key_at self.now.set.value.rows ordinal) }
     {
         self.set.key(alloc, ordinal)
+    }
+
+    /// The keys of all rows, read in one go.
+    pub fn keys(&self, alloc: Global) -> Result<Texts, NoMemory>
+        ensures { IfOk result (λ keys. keys ≡ keys_in self.now.set.value.rows) }
+    {
+        self.set.keys(alloc)
     }
 
     /// Appends the cells of the row at a place in these columns, in their order, and decodes no others. With each column stands

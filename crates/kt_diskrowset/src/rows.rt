@@ -1,6 +1,7 @@
 //! Rows in files.
-ghost use Rattle.std.specs.Prelude.{◌≡◌, IfOk, OnOk, Some};
-ghost use Rattle.kt_histlaws.specs.Disks.{before_all, disk_row_at};
+ghost use Rattle.std.specs.Prelude.{◌≡◌, IfOk, OnOk, Option, Some, ℕ, true};
+ghost use Rattle.kt_history.specs.Rows.{Row};
+ghost use Rattle.kt_histlaws.specs.Disks.{back, before_all, disk_row_at};
 ghost use Rattle.kt_rowfiles.specs.Files.{records_for, records_in, rising, falling};
 ghost use Rattle.kt_rowfiles.specs.Reading.{steps_in};
 ghost use Rattle.kt_diskrowset.specs.Files.{lists_of, row_with_files};
@@ -54,6 +55,34 @@ pub(crate) fn redos_of(
     Ok(records)
 }
 
+// Whether no record in these files is above a time.
+fn are_before(files: &[FileHeld], t: u64) -> bool
+    ensures { result ≡ true → (n : ℕ) (row : Option Row) → back t (falling (records_in n (lists_of files.now))) row ≡ row }
+{
+    'files: for file in files {
+        if file.deltas.newest() > t {
+            return false;
+        }
+    }
+    true
+}
+
+// Takes back the UNDO records of a row above a time. No record is looked for where no file has one above it.
+fn go_back(
+    alloc: Global,
+    files: &[FileHeld],
+    ordinal: u32,
+    t: u64,
+    row: &mut Option<Cells>,
+) -> Result<(), NoMemory>
+    ensures { OnOk result (row.new ≡ back t (falling (records_in ordinal (lists_of files.now))) row.old) }
+{
+    if are_before(files, t) {
+        return Ok(());
+    }
+    undos_of(alloc, files, ordinal)?.go_back(t, row)
+}
+
 /// The row with this ordinal at a time, told its base row.
 pub fn row_at(
     alloc: Global,
@@ -66,7 +95,7 @@ pub fn row_at(
     ensures { IfOk result (λ row. row ≡ disk_row_at t (row_with_files undo.now redo.now ordinal base)) }
 {
     let mut row = Some(base);
-    undos_of(alloc, undo.as_slice(), ordinal)?.go_back(t, &mut row)?;
+    go_back(alloc, undo.as_slice(), ordinal, t, &mut row)?;
     redos_of(alloc, redo.as_slice(), ordinal)?.go_on(t, &mut row)?;
     Ok(row)
 }

@@ -4,6 +4,7 @@ pub mod jobs;
 pub mod missed;
 pub mod reading;
 pub mod replaying;
+pub mod rewriting;
 
 ghost use Rattle.std.specs.Prelude.{◌≡◌, ◌≢◌, ◌+◌, ◌<◌, ◌≤◌, ◌⊎◌, ◌∷◌, ℕ, List, [], length, None, Some, true, is_some, IfOk, OnOk, OnErr};
 ghost use Rattle.std.specs.Option.{option_map};

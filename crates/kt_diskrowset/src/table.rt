@@ -20,6 +20,7 @@ impl RowSetData {
         &self,
         alloc: Global,
         ordinal: u32,
+        key: &[u8],
         t: u64,
         rows: &mut Vec<(Octets, Cells)>,
     ) -> Result<(), NoMemory>
@@ -27,12 +28,13 @@ impl RowSetData {
         requires order { IsNonDecreasingBy (λ d. d.ordinal) self.now.fresh }
         requires rise { AreRising (keys_of self.now) }
         requires inside { ordinal < length self.now.base.set.value.rows }
+        requires named { key.now ≡ key_at self.now.base.set.value.rows ordinal }
         ensures { OnOk result (rows.new.items ≡ rows.old.items ++ rows_under (told_at t self.now) (key_at self.now.base.set.value.rows ordinal ∷ [])) }
     {
         match self.row(alloc, ordinal, t)? {
             Some(row) => {
-                let key = self.base.key(alloc, ordinal)?;
-                rows.push((key, row))?;
+                let own = Octets::from_slice(alloc, key)?;
+                rows.push((own, row))?;
                 Ok(())
             }
             None => Ok(()),
@@ -46,10 +48,11 @@ impl RowSetData {
         requires rise { AreRising (keys_of self.now) }
         ensures { IfOk result (λ rows. rows.items ≡ rows_under (told_at t self.now) (keys_of self.now)) }
     {
-        let mut rows = Vec::new(alloc);
+        let keys = self.base.keys(alloc)?;
+        let mut rows = Vec::with_capacity(alloc, keys.len())?;
         let count = self.base.rows();
         'ordinals: for ordinal in 0..count {
-            self.push_whole(alloc, ordinal, t, &mut rows)?;
+            self.push_whole(alloc, ordinal, keys.get(ordinal as usize), t, &mut rows)?;
         }
         Ok(rows)
     }

@@ -91,12 +91,12 @@ closed-on_nth i r s [] at e h = none_some r at
 closed-on_nth zero r s (x ∷ shelf) at e h = (e ∙ ap (λ (s : Shelved). s.closed) (sym (some_is x r at)) ∙ h.0, h.1)
 closed-on_nth (suc i) r s (x ∷ shelf) at e h = (h.0, closed-on_nth i r s shelf at e h.1)
 
-first-on_nth : (i : ℕ) (r s : Shelved) (shelf : List Shelved) → slice_get shelf i ≡ Some r → s.closed ≡ r.closed → FirstIsOpen shelf → FirstIsOpen (on_nth i (λ _. s) shelf)
+pub first-on_nth : (i : ℕ) (r s : Shelved) (shelf : List Shelved) → slice_get shelf i ≡ Some r → s.closed ≡ r.closed → FirstIsOpen shelf → FirstIsOpen (on_nth i (λ _. s) shelf)
 first-on_nth i r s [] at e h = none_some r at
 first-on_nth zero r s (x ∷ shelf) at e h = (e ∙ ap (λ (s : Shelved). s.closed) (sym (some_is x r at)) ∙ h.0, h.1)
 first-on_nth (suc i) r s (x ∷ shelf) at e h = (h.0, closed-on_nth i r s shelf at e h.1)
 
-exact-on_nth : (i : ℕ) (s : Shelved) (shelf : List Shelved) → (s.store ≡ [] → s.cells ≡ 0) → AreExact shelf → AreExact (on_nth i (λ _. s) shelf)
+pub exact-on_nth : (i : ℕ) (s : Shelved) (shelf : List Shelved) → (s.store ≡ [] → s.cells ≡ 0) → AreExact shelf → AreExact (on_nth i (λ _. s) shelf)
 exact-on_nth i s [] e h = tt
 exact-on_nth zero s (x ∷ shelf) e h = (e, h.1)
 exact-on_nth (suc i) s (x ∷ shelf) e h = (h.0, exact-on_nth i s shelf e h.1)

@@ -10,3 +10,8 @@ pub mod Took
 pub mod Emptying
 pub mod Outputs
 pub mod Grown
+pub mod Shrinking
+pub mod Numbered
+pub mod Rewritten
+pub mod Reaching
+pub mod Freezing

@@ -1,9 +1,9 @@
 -- What the stores of a tablet are to their callers.
-use Rattle.std.specs.Prelude.{◌≡◌, ℕ, ◌+◌, Bool, true, false, is_some, List, [], ◌∷◌, ◌++◌, map, Option, unwrap_or, slice_get, drop}
+use Rattle.std.specs.Prelude.{◌≡◌, ℕ, ◌+◌, ◌==◌, Bool, true, false, is_some, List, [], ◌∷◌, ◌++◌, map, Option, unwrap_or, slice_get, drop}
 use Rattle.std.specs.List.{position, sum_by}
 use Rattle.std.specs.Option.{option_map}
 use Rattle.kt_history.specs.declared.target.Target.{Target}
-use Rattle.kt_history.specs.declared.target.Target.TheVariants.{Mem}
+use Rattle.kt_history.specs.declared.target.Target.TheVariants.{Mem, Delta}
 use Rattle.kt_history.specs.Rows.{Row}
 use Rattle.kt_history.specs.Stores.{Store, hist_in, last_row, TakesUpTo}
 use Rattle.kt_histlaws.specs.Histories.{hists, first_some, on_nth}
@@ -100,3 +100,16 @@ AreExact (s ∷ shelf) = (s.store ≡ [] → s.cells ≡ 0) × AreExact shelf
 -- the cells of all
 abbrev pub cells_in : List Shelved → ℕ
 cells_in shelf = sum_by (λ (s : Shelved). s.cells) shelf
+
+-- the name is that of a disk rowset of this number
+abbrev pub is_rowset : ℕ → Target → Bool
+is_rowset number (Mem n) = false
+is_rowset number (Delta r dms) = r == number
+
+-- the DeltaMemStore of this number takes the changes of a disk rowset
+abbrev pub taken_by : ℕ → Target → Target
+taken_by dms (Mem n) = Mem n
+taken_by dms (Delta r n) = Delta r dms
+
+abbrev pub renamed : ℕ → Shelved → Shelved
+renamed dms s = record s { name = taken_by dms s.name }

@@ -1,5 +1,6 @@
 //! The stores and their pool as one value.
 pub mod flushing;
+pub mod rewriting;
 pub mod taking;
 
 ghost use Rattle.std.specs.Prelude.{◌≡◌, ◌<◌, ◌^◌, ◌+◌, ◌-◌, ◌≤◌, ◌↔◌, length, slice_get, Some, IfOk, IsOk, OnOk, OnErr, MatchResult};

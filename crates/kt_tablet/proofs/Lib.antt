@@ -20,3 +20,4 @@ pub mod Outputs
 pub mod Frozen
 pub mod InMemory
 pub mod Growth
+pub mod Deltas

@@ -1,7 +1,7 @@
--- What a flush does to a tablet.
-use Rattle.std.specs.Prelude.{◌≡◌, ◌+◌, ℕ, suc, List, [], ◌∷◌, ◌++◌, map, take, drop}
+-- What jobs do to a tablet.
+use Rattle.std.specs.Prelude.{◌≡◌, ◌+◌, ◌==◌, ℕ, suc, List, [], ◌∷◌, ◌++◌, map, take, drop, Option, Some, None, if◌then◌else◌}
 use Rattle.kt_history.specs.declared.target.Target.{Target}
-use Rattle.kt_history.specs.declared.target.Target.TheVariants.{Mem}
+use Rattle.kt_history.specs.declared.target.Target.TheVariants.{Mem, Delta}
 use Rattle.kt_history.specs.History.{Past}
 use Rattle.kt_history.specs.declared.changes.KeyChange.{KeyChange}
 use Rattle.kt_history.specs.Rows.{Row}
@@ -55,3 +55,24 @@ pub record HasChangedOver {C : Type 0} (old new : View C) (outputs : List Store)
   pub names_are : new.names ≡ over_to old.frozen names old.names
   pub frozen : new.frozen ≡ 0
   pub beside : new ≡ record old { core = new.core; names = new.names; frozen = 0; pool = new.pool }
+
+-- ---- one disk rowset, by its number: where several have it, the first
+
+-- the number of the DeltaMemStore that takes its changes, where it is there
+abbrev pub dms_in : ℕ → List Target → Option ℕ
+dms_in number [] = None
+dms_in number (Mem n ∷ names) = dms_in number names
+dms_in number (Delta r dms ∷ names) = if r == number then Some dms else dms_in number names
+
+-- and what it holds
+abbrev pub store_in_names : ℕ → List Target → List Store → Store
+store_in_names number [] stores = []
+store_in_names number (name ∷ names) [] = []
+store_in_names number (Mem n ∷ names) (store ∷ stores) = store_in_names number names stores
+store_in_names number (Delta r dms ∷ names) (store ∷ stores) = if r == number then store else store_in_names number names stores
+
+-- the next DeltaMemStore takes its changes
+abbrev pub next_dms : ℕ → List Target → List Target
+next_dms number [] = []
+next_dms number (Mem n ∷ names) = Mem n ∷ next_dms number names
+next_dms number (Delta r dms ∷ names) = if r == number then Delta r (dms + 1) ∷ names else Delta r dms ∷ next_dms number names

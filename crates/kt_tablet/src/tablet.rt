@@ -1,4 +1,5 @@
 //! The tablet and its events.
+pub mod deltas;
 pub mod job;
 pub mod opening;
 pub mod rows;

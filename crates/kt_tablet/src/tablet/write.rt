@@ -82,6 +82,13 @@ impl<R: RowStore, C: Clock> Tablet<R, C> {
         Ok(())
     }
 
+    // Makes the keys of a write that flies alone fast to ask for. Nothing is seen of it.
+    fn look_up(&mut self)
+        ensures { self.new ≡ self.old }
+    {
+        self.flight.look_up();
+    }
+
     // What stands in the way of a write that is not too large: a flying write that holds a key of it, or want of cells.
     fn refusal(&self, write: &NewWrite, needs: u32) -> Result<(), BeginNo>
         requires goes { self.now.core.stopped ≡ false }
@@ -101,9 +108,8 @@ impl<R: RowStore, C: Clock> Tablet<R, C> {
         Ok(())
     }
 
-    /// Asks whether a write may begin. One that needs more cells than a write may leaves its line, for which alone there
-    /// may be no memory; so it is where its need is no number of 32 bits.
-    pub fn ask(&mut self, number: u32, index: u32, write: &NewWrite) -> Result<(), BeginNo>
+    // As `ask`, once the keys of a write that flies alone are fast to ask for.
+    fn ask_ready(&mut self, number: u32, index: u32, write: &NewWrite) -> Result<(), BeginNo>
         requires { self.old.core.stopped ≡ false → MayBegin self.old.core number index write.now.ops }
         ensures free { OnOk result (IsUnhindered self.old write.now.ops) }
         ensures same { OnOk result (self.new ≡ self.old) }
@@ -127,6 +133,22 @@ impl<R: RowStore, C: Clock> Tablet<R, C> {
             };
         }
         self.refusal(write, needs)
+    }
+
+    /// Asks whether a write may begin. One that needs more cells than a write may leaves its line, for which alone there
+    /// may be no memory; so it is where its need is no number of 32 bits.
+    pub fn ask(&mut self, number: u32, index: u32, write: &NewWrite) -> Result<(), BeginNo>
+        requires { self.old.core.stopped ≡ false → MayBegin self.old.core number index write.now.ops }
+        ensures free { OnOk result (IsUnhindered self.old write.now.ops) }
+        ensures same { OnOk result (self.new ≡ self.old) }
+        ensures beside { self.new ≡ record self.old { core = self.new.core } }
+        ensures stopped { self.old.core.stopped ≡ true → result ≡ Err BeginNo.Stopped }
+        ensures refused { IfErr result (IsRefused self.old write.now.ops) }
+        ensures left { IfErr result (Leaves self.old self.new number index) }
+        ensures memory { result ≡ Err BeginNo.Memory → self.old.core.work.cells < need write.now.ops }
+    {
+        self.look_up();
+        self.ask_ready(number, index, write)
     }
 
     /// Begins a write in whose way nothing stands, and takes what was made ready for it. It is told the place of its

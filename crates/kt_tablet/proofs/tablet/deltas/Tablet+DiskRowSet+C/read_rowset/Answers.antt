@@ -1,0 +1,35 @@
+use Rattle.std.proofs.Common.{◌≡◌, ◌≤◌, ◌<◌, ◌+◌, ◌∙◌, ◌^◌, ℕ, suc, map, length, Some, refl, sym, ap, subst, arith}
+use Rattle.std.specs.Prelude.{slice_get}
+use Rattle.std.proofs.lemmas.List.{length-map}
+use Rattle.std.proofs.lemmas.Result.{IfOk-weaker}
+use Rattle.kt_history.specs.declared.target.Target.{Target}
+use Rattle.kt_history.specs.Stores.{Store}
+use Rattle.kt_histlaws.specs.Histories.{on_nth}
+use Rattle.kt_stores.specs.Shelf.{Shelved, StoresView, stores_of, names_of, taken_by}
+use Rattle.kt_tablet.specs.Filling.{all_told, told_stores}
+use Rattle.kt_tablet.specs.Jobs.{dms_in, store_in_names, next_dms}
+use Rattle.kt_tablet.specs.Rows.{AreWritten}
+use Rattle.kt_tablet.specs.Views.{IsReady}
+use Rattle.kt_tablet.proofs.Deltas.{first_placed, none_placed, names_renamed, stores_renamed, told_at, told_back, name_is, same_some, has_put, has_renamed}
+use Rattle.kt_tablet.proofs.Frozen.{still_sound}
+use Rattle.kt_tablet.proofs.Plans.{no_flights}
+use Rattle.kt_tablet.proofs.Several.{get_there}
+use Rattle.kt_tablet.proofs.Written.{written_none}
+use Rattle.kt_tablet.proofs.tablet.deltas.Tablet+DiskRowSet+C.read_rowset.Goals as goal
+
+pub returns-in-Some-clause-number : goal.returns-in-Some-clause-number
+returns-in-Some-clause-number g c =
+    let i = c.self.inside in
+    let at = c.in-Some.at in
+    let first = first_placed c.args.number i.stores.shelf at c.in-Some.ensures.place in
+    IfOk-weaker c.read_rowset.result _ _ (λ d told. told c.args.number first.dms (name_is at i.stores.shelf _ first.named)) c.read_rowset.ensures.number
+
+pub returns-in-Some-clause-store : goal.returns-in-Some-clause-store
+returns-in-Some-clause-store g c =
+    let i = c.self.inside in
+    let at = c.in-Some.at in
+    let first = first_placed c.args.number i.stores.shelf at c.in-Some.ensures.place in
+    let behind : suc i.stores.frozen ≤ at = omega (arith, c.in-Some.ensures.behind) in
+    IfOk-weaker c.read_rowset.result _ _
+    (λ d is. sym (first.store (told_stores i.fill i.stores) _ (told_at i.fill (suc i.stores.frozen) at (stores_of i.stores) _ behind is)) ∙ ap (λ v. store_in_names c.args.number v.names v.core.stores) c.self.view_is)
+    c.read_rowset.ensures.store
