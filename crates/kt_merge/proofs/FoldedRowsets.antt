@@ -23,7 +23,7 @@ use Rattle.kt_merge.proofs.Written.{came_from, ends_with}
 
 -- ---- records of several files
 
-in_more : (n : ℕ) (files : List (List Delta)) (file : List Delta) → records_in n (files ++ file ∷ []) ≡ records_in n files ++ records_for n file
+pub in_more : (n : ℕ) (files : List (List Delta)) (file : List Delta) → records_in n (files ++ file ∷ []) ≡ records_in n files ++ records_for n file
 in_more n [] file = append-nil (records_for n file)
 in_more n (f ∷ files) file = ap (λ (l : Steps). records_for n f ++ l) (in_more n files file) ∙ sym (assoc (records_for n f) (records_in n files) (records_for n file))
   where
@@ -108,7 +108,7 @@ folded_so j low base redos e (Some ts) d f r h =
 
 -- ---- one row, and each
 
-one_row : (mark : ℕ) (older redos : Steps) (old new : Row) (undos deletes : Steps) → FoldsRow mark older redos old new undos deletes
+pub one_row : (mark : ℕ) (older redos : Steps) (old new : Row) (undos deletes : Steps) → FoldsRow mark older redos old new undos deletes
     → hist_of (record { base = new; undos = falling (older ++ undos); redos = rising deletes }) ≡ hist_of (record { base = old; undos = falling older; redos = redos })
 one_row mark older redos old new undos deletes f =
     let e : DiskRow = record { base = new; undos = undos; redos = deletes } in

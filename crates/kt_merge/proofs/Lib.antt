@@ -25,3 +25,9 @@ pub mod RoomFirst
 pub mod FoldedFiles
 pub mod GrownRows
 pub mod WrittenRowsets
+pub mod InTurn
+pub mod AllInOrder
+pub mod Retold
+pub mod Refolded
+pub mod AllUndone
+pub mod Holding

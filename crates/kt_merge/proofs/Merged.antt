@@ -43,7 +43,7 @@ up_same : (steps : Steps) → Up steps → rising steps ≡ steps
 up_same [] up = refl
 up_same (c ∷ steps) up = ap (put_rising c) (up_same steps up.1) ∙ put_first c steps up.0
 
-twice : (steps : Steps) → rising (rising steps) ≡ rising steps
+pub twice : (steps : Steps) → rising (rising steps) ≡ rising steps
 twice steps = up_same (rising steps) (rising_up steps)
 
 pub merged_same : merged_files_tell_the_same

@@ -9,3 +9,4 @@ pub mod Changes
 pub mod Heads
 pub mod Merge
 pub mod Major
+pub mod Rewriting

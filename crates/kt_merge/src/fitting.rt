@@ -5,7 +5,7 @@ ghost use Rattle.kt_cells.specs.Rules.{CellFits};
 ghost use Rattle.kt_column.specs.Blocks.{IsCell};
 ghost use Rattle.kt_column.specs.Forms.{IsInWidth};
 ghost use Rattle.kt_baseset.specs.Rows.{RowFits};
-ghost use Rattle.kt_deltafile.specs.declared.file.Way.TheVariants.{Undo};
+ghost use Rattle.kt_deltafile.specs.declared.file.Way.TheVariants.{Redo, Undo};
 ghost use Rattle.kt_deltafile.specs.Rules.{CellsFit, ChangeFits};
 ghost use Rattle.kt_merge.specs.Fitting.{StandsUnder, IsUnder, AreFalling, FitsFiles};
 
@@ -179,4 +179,17 @@ pub fn fits_files(columns: &[ColumnShape], key: &[u8], row: &RowWritten) -> bool
     ensures no { OnFalse result (¬ FitsFiles columns.now key.now row.now) }
 {
     key.len() <= KEY_BYTES && has_columns(columns, row.base.as_slice()) && are_falling(&row.undos)
+}
+
+/// Whether a REDO file can hold the change of a record.
+pub(crate) fn fits_redo(record: &Delta) -> bool
+    ensures range { record.now.ts < 2 ^ 64 }
+    ensures yes { OnTrue result (ChangeFits Redo record.now.change) }
+{
+    let _time = record.ts;
+    match &record.change {
+        Change::Upd(cells) => cells_fit(cells.as_slice()),
+        Change::Del => true,
+        Change::Ins(_) => false,
+    }
 }

@@ -2,7 +2,8 @@
 //!
 //! For the layer above: `merge_rows` writes of each key of its inputs one row, which has the row at a mark and the changes above it up
 //! to a bound; `major` folds a rowset's REDO records into its base rows, which then tell the same; `minor` makes one REDO file of
-//! several, with all their records. It stands on disk rowsets as plain data, on base files and delta files, and on the definitions of
+//! several, with all their records; `with_deltas`, `with_one_redo` and `with_folded` write one rowset's files anew, so that they tell
+//! exactly what it told. It stands on disk rowsets as plain data, on base files and delta files, and on the definitions of
 //! changes and of histories.
 #![tactic(auto)]
 
@@ -15,9 +16,14 @@ pub mod merge;
 pub mod output;
 pub mod outputs;
 pub mod redo;
+pub mod refold;
+pub mod rewrite;
 pub mod row;
+mod undoing;
 
 pub use folding::{Folded, major};
 pub use merge::merge_rows;
 pub use redo::{merge_files, minor};
+pub use refold::with_folded;
+pub use rewrite::{with_deltas, with_one_redo};
 pub use row::{RowWritten, fold_row, write_row};

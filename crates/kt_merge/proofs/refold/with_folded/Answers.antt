@@ -1,0 +1,16 @@
+use Rattle.std.proofs.Common.{refl, subst}
+use Rattle.kt_diskrowset.specs.declared.data.RowSetData.{RowSetData}
+use Rattle.kt_merge.specs.Rewriting.{IsFoldedWhole}
+use Rattle.kt_merge.proofs.Refolded.{refolded}
+use Rattle.kt_merge.proofs.refold.with_folded.Goals as goal
+
+pub returns-clause-same : goal.returns-clause-same
+returns-clause-same c =
+    let d = c.args.rowset in
+    let e : RowSetData = record { number = d.number; base = c.in_ok-base.base; undo = c.in_ok-undo.undo; redo = c.in_ok-redo.redo; fresh = d.fresh } in
+    record {
+      number = refl;
+      store = refolded d e c.in_ok-folded.folded c.in_ok-base.ensures c.in_ok-undo.ensures c.in_ok-redo.ensures.rows refl (subst (λ b. IsFoldedWhole b d.undo d.redo c.in_ok-folded.folded) c.deref.ensures c.in_ok-folded.ensures.whole);
+      fresh = c.requires.none;
+      lead = λ h. c.in_ok-fit.ensures.lead c.if-not-fit.false;
+    }
