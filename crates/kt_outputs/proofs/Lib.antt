@@ -1,2 +1,4 @@
 pub mod Written
 pub mod Named
+pub mod WholeFiles
+pub mod InPlace

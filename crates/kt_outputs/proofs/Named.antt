@@ -26,14 +26,14 @@ all_and P xs more x added all one = subst (AllByRecursion P) (sym added) (all_jo
 
 -- ---- numbers below one
 
-abbrev AreBelow : ℕ → List ℕ → Type 0
+abbrev pub AreBelow : ℕ → List ℕ → Type 0
 AreBelow n numbers = AllByRecursion (λ (k : ℕ). k < n) numbers
 
-below_join : (n : ℕ) (xs ys : List ℕ) → AreBelow n xs → AreBelow n ys → AreBelow n (xs ++ ys)
+pub below_join : (n : ℕ) (xs ys : List ℕ) → AreBelow n xs → AreBelow n ys → AreBelow n (xs ++ ys)
 below_join n [] ys front back = back
 below_join n (x ∷ xs) ys front back = (front.0, below_join n xs ys front.1 back)
 
-below_more : (n m : ℕ) (xs : List ℕ) → n ≤ m → AreBelow n xs → AreBelow m xs
+pub below_more : (n m : ℕ) (xs : List ℕ) → n ≤ m → AreBelow n xs → AreBelow m xs
 below_more n m [] le are = tt
 below_more n m (x ∷ xs) le are = ((let lt = are.0 in omega arith), below_more n m xs le are.1)
 
@@ -47,7 +47,7 @@ is_none_of n k (x ∷ xs) are le =
 
 -- ---- numbers in turn
 
-count_up : (a b : ℕ) (xs : List ℕ) → CountUp a b xs → a ≤ b
+pub count_up : (a b : ℕ) (xs : List ℕ) → CountUp a b xs → a ≤ b
 count_up a b [] up = let e = up in omega arith
 count_up a b (x ∷ xs) up = let le = count_up (suc a) b xs up.1 in omega arith
 
@@ -64,7 +64,7 @@ count_below a b [] up = tt
 count_below a b (x ∷ xs) up = ((let e = up.0 in let le = count_up (suc a) b xs up.1 in omega arith), count_below (suc a) b xs up.1)
 
 -- one of them lies between both ends
-among : (a b n : ℕ) (xs : List ℕ) → CountUp a b xs → has xs n ≡ true → (a ≤ n) × (n < b)
+pub among : (a b n : ℕ) (xs : List ℕ) → CountUp a b xs → has xs n ≡ true → (a ≤ n) × (n < b)
 among a b n [] up is = absurd cc
 among a b n (x ∷ xs) up is = by (λ rest. among (suc a) b n xs up.1 rest) (x == n) refl
   where
@@ -81,7 +81,7 @@ among a b n (x ∷ xs) up is = by (λ rest. among (suc a) b n xs up.1 rest) (x =
 
 -- ---- files
 
-refs_numbers : (files : List FileHeld) → numbers_of (map delta_ref files) ≡ delta_numbers files
+pub refs_numbers : (files : List FileHeld) → numbers_of (map delta_ref files) ≡ delta_numbers files
 refs_numbers [] = refl
 refs_numbers (f ∷ files) = ap (λ (l : List ℕ). f.file ∷ l) (refs_numbers files)
 
@@ -110,7 +110,7 @@ pub record Parts (d : RowSetData) (a c : ℕ) (rest : List ℕ) : Type 0 where
   pub redo : CountUp mid end (delta_numbers d.redo)
   pub behind : CountUp end c rest
 
-parts_of : (d : RowSetData) (a c : ℕ) (rest : List ℕ) → CountUp a c (file_numbers d ++ rest) → Parts d a c rest
+pub parts_of : (d : RowSetData) (a c : ℕ) (rest : List ℕ) → CountUp a c (file_numbers d ++ rest) → Parts d a c rest
 parts_of d a c rest up =
     let own = count_front a c (file_numbers d) rest up in
     let end = a + length (file_numbers d) in
@@ -124,7 +124,7 @@ parts_of d a c rest up =
       behind = count_behind a c (file_numbers d) rest up;
     }
 
-is_rowset : (rowset_later file_later least rowset a c : ℕ) (taken : List ℕ) (d : RowSetData) (rest : List ℕ) → Parts d a c rest → c ≤ file_later → d.number ≡ rowset → least ≤ rowset → rowset < rowset_later → AreBelow a taken → 3 ≤ a → IsShort d
+pub is_rowset : (rowset_later file_later least rowset a c : ℕ) (taken : List ℕ) (d : RowSetData) (rest : List ℕ) → Parts d a c rest → c ≤ file_later → d.number ≡ rowset → least ≤ rowset → rowset < rowset_later → AreBelow a taken → 3 ≤ a → IsShort d
     → IsRowset rowset_later file_later least taken (meta_in 0 d)
 is_rowset rowset_later file_later least rowset a c taken d rest p le is low lt below up short =
     let first = p.base in
@@ -171,10 +171,10 @@ named_outputs rowset_later file_later least rowset a taken (r ∷ outputs) (d �
 
 -- ---- behind those of a superblock
 
-file_below : (next : ℕ) (taken : List ℕ) (f : FileRef) → IsFile next taken f → f.file < next
+pub file_below : (next : ℕ) (taken : List ℕ) (f : FileRef) → IsFile next taken f → f.file < next
 file_below next taken f is = ltb-true f.file next (both_true (nat_le 3 f.file) (nat_lt f.file next) (both_true (nat_le 3 f.file && nat_lt f.file next) (not (has taken f.file)) is.0).0).1
 
-files_below : (next : ℕ) (taken : List ℕ) (files : List FileRef) → AreFiles next taken files → AreBelow next (numbers_of files)
+pub files_below : (next : ℕ) (taken : List ℕ) (files : List FileRef) → AreFiles next taken files → AreBelow next (numbers_of files)
 files_below next taken [] are = tt
 files_below next taken (f ∷ files) are = (file_below next taken f are.0, files_below next (taken ++ f.file ∷ []) files are.1)
 

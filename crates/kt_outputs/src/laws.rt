@@ -1,5 +1,6 @@
-//! Laws of new disk rowsets that a superblock is to name.
+//! Laws of disk rowsets that were written and that a superblock is to name.
 ghost use Rattle.kt_outputs.specs.Named.{outputs_come_behind, outputs_stand};
+ghost use Rattle.kt_outputs.specs.InPlace.{a_rewritten_rowset_comes_in_place, a_rewritten_rowset_stands_in_place};
 
 /// Rowsets that were written under the next numbers may stand behind those that a superblock names.
 pub fn behind_law()
@@ -9,4 +10,10 @@ pub fn behind_law()
 /// Their files stand where the files of their numbers do.
 pub fn stand_law()
     ensures { outputs_stand }
+{}
+
+/// A disk rowset that was written again may stand in the place of the one of its number, and its files stand.
+pub fn in_place_law()
+    ensures comes { a_rewritten_rowset_comes_in_place }
+    ensures stands { a_rewritten_rowset_stands_in_place }
 {}
