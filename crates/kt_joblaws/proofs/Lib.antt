@@ -6,8 +6,11 @@ pub mod Later
 pub mod Listed
 pub mod ListsRise
 pub mod OfTable
+pub mod Passed
 pub mod Passing
+pub mod PassingHistories
 pub mod Read
+pub mod Rewritten
 pub mod Standing
 pub mod WrittenFits
 pub mod WrittenSame

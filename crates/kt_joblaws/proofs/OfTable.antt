@@ -127,19 +127,19 @@ columns_there columns (x ∷ cells) row p f =
 
 -- ---- rows by rising id
 
+pub lower : (k n : ℕ) → k < n → is_lt (nat_cmp k n) ≡ true
+lower k n lt = elim (nat_cmp k n) as (λ (o : Ordering). nat_cmp k n ≡ o → is_lt o ≡ true) [
+  | Less ↦ λ is. refl
+  | Equal ↦ λ is. absurd (omega (arith, equal k n is))
+  | Greater ↦ λ is. absurd (omega (arith, greater k n is))
+] refl
+
 below : (k : ℕ) (columns : List ColumnShape) (cells : Row) → IdsRise (k + 1) columns → ArePart columns cells → below_all nat_cmp k cells ≡ true
 below k columns [] rise p = refl
 below k columns (x ∷ cells) rise p =
     let parts = part_head columns x cells p in
     let up = id_from (k + 1) columns x rise parts.0 in
-    both (is_lt (nat_cmp k x.0)) (below_all nat_cmp k cells) (lower (omega arith)) (below k columns cells rise parts.1)
-  where
-    lower : k < x.0 → is_lt (nat_cmp k x.0) ≡ true
-    lower lt = elim (nat_cmp k x.0) as (λ (o : Ordering). nat_cmp k x.0 ≡ o → is_lt o ≡ true) [
-      | Less ↦ λ is. refl
-      | Equal ↦ λ is. absurd (omega (arith, equal k x.0 is))
-      | Greater ↦ λ is. absurd (omega (arith, greater k x.0 is))
-    ] refl
+    both (is_lt (nat_cmp k x.0)) (below_all nat_cmp k cells) (lower k x.0 (omega arith)) (below k columns cells rise parts.1)
 
 pub part_sorted : (least : ℕ) (columns : List ColumnShape) (cells : Row) → IdsRise least columns → ArePart columns cells → is_sorted nat_cmp cells ≡ true
 part_sorted least columns [] rise p = refl

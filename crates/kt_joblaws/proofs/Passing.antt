@@ -79,21 +79,21 @@ good_behind rules (x ∷ xs) ys g = good_behind rules xs ys g.1
 
 -- ---- the records of a file
 
-ordinals : (way : Way) (rows : ℕ) (front list : List Delta) → EachAfter (Follows way rows) front list → AreOfRows rows list
+pub ordinals : (way : Way) (rows : ℕ) (front list : List Delta) → EachAfter (Follows way rows) front list → AreOfRows rows list
 ordinals way rows front [] each = tt
 ordinals way rows front (d ∷ list) each =
     let here : Follows way rows front d = each.0 in
     (ltb-true d.ordinal rows (both_true (nat_le (last_ordinal front) d.ordinal) (nat_lt d.ordinal rows) here.comes).1, ordinals way rows (front ++ d ∷ []) list each.1)
 
 -- the records of each of so many rows pass
-abbrev EachRowPasses : Rules → ℕ → List Delta → Type 0
+abbrev pub EachRowPasses : Rules → ℕ → List Delta → Type 0
 EachRowPasses rules rows list = (n : ℕ) → n < rows → StepsPass rules (records_for n list)
 
-steps_front : (rules : Rules) (xs ys : Steps) → StepsPass rules (xs ++ ys) → StepsPass rules xs
+pub steps_front : (rules : Rules) (xs ys : Steps) → StepsPass rules (xs ++ ys) → StepsPass rules xs
 steps_front rules [] ys p = tt
 steps_front rules (c ∷ xs) ys p = (p.0, steps_front rules xs ys p.1)
 
-steps_behind : (rules : Rules) (xs ys : Steps) → StepsPass rules (xs ++ ys) → StepsPass rules ys
+pub steps_behind : (rules : Rules) (xs ys : Steps) → StepsPass rules (xs ++ ys) → StepsPass rules ys
 steps_behind rules [] ys p = p
 steps_behind rules (c ∷ xs) ys p = steps_behind rules xs ys p.1
 
@@ -105,7 +105,7 @@ more_pass : (rules : Rules) (d : Delta) (more : Steps) (b : Bool) → StepsPass 
 more_pass rules d more true p = p.1
 more_pass rules d more false p = p
 
-file_passes : (rules : Rules) (rows : ℕ) (list : List Delta) → AreOfRows rows list → EachRowPasses rules rows list → FilePasses rules list
+pub file_passes : (rules : Rules) (rows : ℕ) (list : List Delta) → AreOfRows rows list → EachRowPasses rules rows list → FilePasses rules list
 file_passes rules rows [] of each = tt
 file_passes rules rows (d ∷ list) of each = (
   one_passes rules d d.ordinal (records_for d.ordinal list) (d.ordinal == d.ordinal) (eq-eqb d.ordinal d.ordinal refl) (each d.ordinal of.0),

@@ -1,9 +1,10 @@
-//! Laws of a flush that changes over.
+//! Laws of a flush that changes over, and of a job that writes one disk rowset again.
 ghost use Rattle.kt_joblaws.specs.ChangesOver.{a_flush_changes_over};
 ghost use Rattle.kt_joblaws.specs.Written.{written_rowsets_are_the_same, written_rowsets_pass, named_rowsets_tell};
 ghost use Rattle.kt_joblaws.specs.Outputs.{outputs_pass, lists_tell_all, lists_rise, marks_may_rise};
 ghost use Rattle.kt_joblaws.specs.Apart.{stores_that_stand_are_apart, some_are_apart, a_joined_history_is_shown, a_flush_reads_no_fault};
 ghost use Rattle.kt_joblaws.specs.InMemory.{what_memory_has_passes};
+ghost use Rattle.kt_joblaws.specs.DeltaJobs.{a_rewritten_rowset_stands, a_rowset_of_passing_histories_passes, histories_of_passing_rowsets_pass};
 
 /// The superblock of a flush stands over the stores with its outputs.
 pub fn change_over_law()
@@ -57,4 +58,15 @@ pub fn read_law()
 /// And where a superblock and a log hold a past by the rules of the table, it passes them.
 pub fn memory_law()
     ensures { what_memory_has_passes }
+{}
+
+/// The superblock of a job that writes the files of one disk rowset again stands over the same stores.
+pub fn rewrite_law()
+    ensures { a_rewritten_rowset_stands }
+{}
+
+/// A disk rowset passes the rules of a table where each of its histories does, and the other way round.
+pub fn passing_law()
+    ensures passes { a_rowset_of_passing_histories_passes }
+    ensures back { histories_of_passing_rowsets_pass }
 {}
