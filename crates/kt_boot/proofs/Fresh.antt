@@ -1,6 +1,6 @@
 -- The numbers with which an engine goes on: no store that its superblock or its log names has one of those that are to be given.
-use Rattle.std.proofs.Common.{◌≡◌, ◌≤◌, ◌<◌, ◌+◌, ◌^◌, ◌++◌, ℕ, true, List, [], ◌∷◌, map, refl, sym, ap, ◌∙◌, subst, arith}
-use Rattle.std.specs.Prelude.{◌-◌}
+use Rattle.std.proofs.Common.{◌≡◌, ◌≤◌, ◌<◌, ◌+◌, ◌^◌, ◌++◌, ℕ, max, Bool, true, false, cond, List, [], ◌∷◌, map, refl, sym, ap, ◌∙◌, subst, arith, inl, inr}
+use Rattle.std.specs.Prelude.{◌-◌, ◌==◌}
 use Rattle.std.specs.List.{All, Contains}
 use Rattle.std.proofs.lemmas.Bool.Decides.{nat_tests}
 use Rattle.kt_history.specs.declared.target.Target.{Target}
@@ -17,17 +17,19 @@ use Rattle.kt_super.specs.declared.meta.MetaRowset.{MetaRowset}
 use Rattle.kt_super.specs.Body.{IsMeta}
 use Rattle.kt_super.specs.Rowsets.{is_rowset, taken_by, AreRowsets}
 use Rattle.kt_content.specs.Places.{Super, disk}
+use Rattle.kt_content.specs.DeltaFlushes.{TargetsUpTo, RowsUpTo, DeltasUpTo}
 use Rattle.kt_content.specs.RunEvents.{Numbers, IsBelow, TargetsBelow, RowsBelow, RecordsBelow, StoresBelow, RowsetsBelow, NumbersAreFresh}
 use Rattle.kt_content.proofs.Records.{order_front}
 use Rattle.kt_reopen.specs.Bare.{bare_rowset, places_under}
 use Rattle.kt_reopen.specs.Naming.{numbered}
-use Rattle.kt_reopen.specs.Numbers.{named_of, named_by, greatest_mem, behind, behind_rowsets, mem_number, next_rowset}
+use Rattle.kt_reopen.specs.Numbers.{named_of, named_by, greatest_mem, greatest_dms, behind, behind_rowsets, mem_number, dms_under, next_rowset}
 use Rattle.kt_reopen.specs.Numbers as numbers
-use Rattle.kt_engine.specs.Memory.{name_of}
-use Rattle.kt_engine.specs.Logged.{NamesOnly}
+use Rattle.kt_engine.specs.Memory.{name_of, NamesDiffer}
+use Rattle.kt_engine.specs.Logged.{NamesOnly, DeltasBelow}
 use Rattle.kt_engine.specs.Near.{first_number}
 use Rattle.kt_engine.specs.Stored.{next_given}
 use Rattle.kt_engine.proofs.Commits.{of_each}
+use Rattle.kt_engine.proofs.Deltas.{deltas_join, deltas_only}
 use Rattle.kt_engine.proofs.Ended.{each_below}
 use Rattle.kt_engine.proofs.Lists.{all_head, all_tail}
 use Rattle.kt_engine.proofs.Rising.{given_up, given_behind, records_join}
@@ -85,6 +87,43 @@ module _ (next active : ℕ) where
   records_covered before (Commit ts rows ∷ records) log h =
       let hs = covers_front (named_of rows) (named_by records) h in
       (rows_covered [] rows log.0.keeps.rows hs.0, records_covered (Commit ts rows ∷ before) records log.2 hs.1)
+
+-- ---- of a rowset, where one number is no less than each of its DeltaMemStores that they name
+
+module _ (r last : ℕ) where
+  greatest_front : (xs ys : List Target) → greatest_dms r (xs ++ ys) ≤ last → (greatest_dms r xs ≤ last) × (greatest_dms r ys ≤ last)
+  greatest_front [] ys h = (omega arith, h)
+  greatest_front (Mem n ∷ xs) ys h = greatest_front xs ys h
+  greatest_front (Delta s n ∷ xs) ys h = elim (s == r) as (λ (b : Bool). cond b (max n (greatest_dms r (xs ++ ys))) (greatest_dms r (xs ++ ys)) ≤ last → (cond b (max n (greatest_dms r xs)) (greatest_dms r xs) ≤ last) × (greatest_dms r ys ≤ last)) [
+    | true ↦ λ h. let more = greatest_front xs ys (omega arith) in ((let low = more.0 in omega arith), more.1)
+    | false ↦ λ h. greatest_front xs ys h
+  ] h
+
+  targets_upto : (targets : List Target) → greatest_dms r targets ≤ last → TargetsUpTo r last targets
+  targets_upto [] h = tt
+  targets_upto (Mem n ∷ targets) h = (tt, targets_upto targets h)
+  targets_upto (Delta s n ∷ targets) h = elim (s == r) as (λ (b : Bool). (s == r) ≡ b → cond b (max n (greatest_dms r targets)) (greatest_dms r targets) ≤ last → TargetsUpTo r last (Delta s n ∷ targets)) [
+    | true ↦ λ e h. (inr (e, omega arith), targets_upto targets (omega arith))
+    | false ↦ λ e h. (inl e, targets_upto targets h)
+  ] refl h
+
+  rows_upto : (rows : List CommitRow) → greatest_dms r (named_of rows) ≤ last → RowsUpTo r last rows
+  rows_upto [] h = tt
+  rows_upto (row ∷ rows) h = let hs = greatest_front row.targets (named_of rows) h in (targets_upto row.targets hs.0, rows_upto rows hs.1)
+
+  records_upto : (records : List Entry) → greatest_dms r (named_by records) ≤ last → DeltasUpTo r last records
+  records_upto [] h = tt
+  records_upto (Replicate ts ops ∷ records) h = records_upto records h
+  records_upto (Commit ts rows ∷ records) h = let hs = greatest_front (named_of rows) (named_by records) h in (rows_upto rows hs.0, records_upto records hs.1)
+
+-- so it is of the stores that are opened
+deltas_of : (super : Super) (records : List Entry) (rowsets : List DiskRowset) → DeltasBelow (map (numbers.name_of super records) (map (λ (d : DiskRowset). disk d.rowset) rowsets)) records
+deltas_of super records [] = tt
+deltas_of super records (d ∷ rowsets) = (records_upto d.rowset (dms_under super records d.rowset) records (omega arith), deltas_of super records rowsets)
+
+pub deltas_are : (super : Super) (records queued : List Entry) (names : List Target) → names ≡ map (numbers.name_of super records) (places_under super) → NamesDiffer names → All (NamesOnly names) queued → DeltasBelow names (records ++ queued)
+deltas_are super records queued names is differ only =
+    deltas_join names records queued (subst (λ (ns : List Target). DeltasBelow ns records) (sym is) (deltas_of super records super.rowsets)) (deltas_only names differ queued only)
 
 -- ---- rowsets of a superblock
 

@@ -26,9 +26,10 @@ use Rattle.kt_content.specs.Opening.{Placed, held_of}
 use Rattle.kt_content.specs.Content.{IsContent, Shown, content_at}
 use Rattle.kt_content.specs.Records.{AllTold}
 use Rattle.kt_content.specs.InMemory.{Mirrors}
-use Rattle.kt_content.specs.Rules.{Rules}
+use Rattle.kt_content.specs.Rules.{Rules, AreRules}
 use Rattle.kt_content.proofs.Options.{two_oks}
 use Rattle.kt_content.proofs.Records.{order_front}
+use Rattle.kt_content.proofs.Rules.{stores_pass}
 use Rattle.kt_reopen.specs.Bare.{places_under, PlacesApart}
 use Rattle.kt_reopen.specs.Both.{Found, first_stores}
 use Rattle.kt_reopen.specs.Numbers.{name_of}
@@ -37,8 +38,9 @@ use Rattle.kt_reopen.proofs.Held.{key_is, key_shown}
 use Rattle.kt_reopen.proofs.OwedTold.{owed_told}
 use Rattle.kt_engine.specs.Memory.{by_name, AreNamed}
 use Rattle.kt_engine.specs.Over.{AreRowsetNames, AreShelved}
-use Rattle.kt_engine.specs.Logged.{AreCommits, TakesUp, NamesOnly, UntoldFly}
-use Rattle.kt_boot.proofs.Fresh.{AreGiven, are_given}
+use Rattle.kt_engine.specs.Logged.{AreCommits, TakesUp, NamesOnly, DeltasBelow, UntoldFly}
+use Rattle.kt_engine.proofs.Passed.{EachHist, held_passes}
+use Rattle.kt_boot.proofs.Fresh.{AreGiven, are_given, deltas_are}
 use Rattle.kt_boot.proofs.Mirrored.{Stand, each_mirrors, opened_stand, opened_named}
 use Rattle.kt_boot.proofs.Owed.{owed_alone, owed_names, all_there, none_untold, content_told}
 
@@ -86,6 +88,12 @@ module _ (columns : List Column) (f : Found) (m : Meta) (records queued : List E
           by [] = refl
           by (d ∷ rowsets) = ap (λ (ps : List Place). disk d.rowset ∷ ps) (by rowsets)
 
+  -- nor is a DeltaMemStore named that comes later
+  pub deltas_named : (names : List Target) → names ≡ names_of view.shelf → DeltasBelow names (records ++ queued)
+  deltas_named names names_are =
+      subst (λ (ns : List Target). DeltasBelow ns (records ++ queued)) (sym names_are)
+      (subst (λ (l : List Entry). DeltasBelow (names_of view.shelf) (l ++ queued)) (sym o.records_are) (deltas_are f.super f.records queued (names_of view.shelf) o.names named_are.differ names_only))
+
   -- no number of a store is given again
   pub numbers_are : IsMeta m → (super : Super) (names : List Target) (side : ℕ) → super ≡ f.super → names ≡ names_of view.shelf → side ≡ next → AreGiven side super (records ++ queued) names
   numbers_are rules super names side super_is names_are side_is =
@@ -110,8 +118,8 @@ module _ (columns : List Column) (f : Found) (m : Meta) (records queued : List E
     front : IsLog f.records
     front = order_front [] f.records queued log_is
 
-    pub takes_up : (names : List Target) (stores : List Store) (low : ℕ) → names ≡ names_of view.shelf → stores ≡ told_stores fill view → TakesUp fill f.super names stores f.records queued low past
-    takes_up names stores low names_are stores_are =
+    pub takes_up : AreRules rules → (names : List Target) (stores : List Store) (low : ℕ) → names ≡ names_of view.shelf → stores ≡ told_stores fill view → TakesUp rules fill f.super names stores f.records queued low past
+    takes_up closed names stores low names_are stores_are =
         let told = subst (AllTold fill f.super low f.records) (sym o.owes) (owed_told rules fill f.super f.records c low past (subst (λ (l : List Entry). IsLog (f.records ++ l)) o.owes log_is) is) in
         record {
           told = told;
@@ -125,6 +133,9 @@ module _ (columns : List Column) (f : Found) (m : Meta) (records queued : List E
               subst (λ (l : Held). Mirrors f.super.a f.super (by_name names (hists q stores)) l) (sym same)
               (subst (λ (l : List Target). Mirrors f.super.a f.super (by_name l (hists q stores)) (held_of q f.stores)) ns
               (subst (λ (l : List Store). Mirrors f.super.a f.super (by_name (map name (map (λ (s : Place × Store). s.0) f.stores)) (hists q l)) (held_of q f.stores)) ss (each_mirrors f.super name q f.super.a f.stores apart stand)));
+          passes = λ q.
+              let held = held_passes rules q (held_of q f.stores) (stores_pass rules fill f.super f.records c past q (held_of q f.stores) closed is (key_is rules fill f.super f.records c past front is f.stores o.made q)) in
+              subst (EachHist rules q) (held_hists q f.stores ∙ ap (hists q) (o.holds ∙ sym stores_are)) held;
         }
 
     pub opens_it : (opening : List Store) (mark opened : ℕ) → opening ≡ told_stores fill view → mark ≡ m.a → opened ≡ last → c ≡ opened → Opens opening mark opened past

@@ -19,13 +19,13 @@ use Rattle.kt_histlaws.specs.Jobs.{AreAlike}
 use Rattle.kt_histlaws.specs.Pending.{Aloft, is_pending, done}
 use Rattle.kt_histlaws.proofs.Pending.{timeline-done, shows_alike}
 use Rattle.kt_content.specs.Places.{Super, Place, memory, disk, fresh, Held, held_in}
-use Rattle.kt_content.specs.Rules.{Rules}
+use Rattle.kt_content.specs.Rules.{Rules, AreRules}
 use Rattle.kt_content.specs.Content.{IsContent as HoldsPast}
 use Rattle.kt_content.specs.KeyOps.{KeyOp, played, seen}
 use Rattle.kt_content.specs.InMemory.{is_at, group, hist_at, Mirrors}
 use Rattle.kt_content.proofs.Lending.{alike_to_never}
 use Rattle.kt_tablet.specs.Views.{View, Opens}
-use Rattle.kt_engine.specs.Logged.{IsMem, AreDue, AreCommits, TakesUp}
+use Rattle.kt_engine.specs.Logged.{IsMem, AreDue, AreCommits, TakesUp, StoresPass}
 use Rattle.kt_engine.specs.Memory.{by_name, IsNamed, FirstIsMem, NamesDiffer, AreNamed}
 use Rattle.kt_engine.proofs.Lists.{all_head, all_tail, all_each}
 use Rattle.kt_engine.proofs.Records.{lt_test}
@@ -108,8 +108,8 @@ due_commits fill names past records (Commit ts rows ∷ queued) h = due_commits 
 
 takes_up : (rules : Rules) (core : Core) (names : List Target) (records queued : List Entry) → Stands core → core.trail ≡ [] → core.aloft ≡ [] → All IsMem names → length names ≡ length core.stores
     → IsLog (records ++ queued) → AreDue core.work.fill names core.first records queued → HoldsPast rules core.work.fill fresh records core.opened core.first
-    → TakesUp core.work.fill fresh names core.stores records queued core.opened core.first
-takes_up rules core names records queued st trail aloft mems stored log due holds =
+    → StoresPass rules core.stores → TakesUp rules core.work.fill fresh names core.stores records queued core.opened core.first
+takes_up rules core names records queued st trail aloft mems stored log due holds passes =
     let fill = core.work.fill in
     let past = core.first in
     record {
@@ -117,17 +117,18 @@ takes_up rules core names records queued st trail aloft mems stored log due hold
       mirrors = λ q h.
           let shows : ShowsKey 0 (hists q core.stores) (past_hist q past) = subst (λ (a : ℕ). ShowsKey a (hists q core.stores) (past_hist q past)) holds.mark (shows_first core st trail aloft q) in
           bare_mirrors fill 0 names (hists q core.stores) (seen q (records ++ queued) (records ++ queued)) h.held (past_hist q past) mems (stored ∙ sym (length-map core.stores (hist_in q))) shows h.is h.shown.shows;
+      passes = passes;
     }
 
 pub bare_takes_up : {C : Type 0} (tablet : View C) (super : Super) (records queued : List Entry) → super ≡ fresh → tablet.core.trail ≡ [] → tablet.core.aloft ≡ [] → All IsMem tablet.names → length tablet.names ≡ length tablet.core.stores
     → ((first : Past) → Opens tablet.opening tablet.mark tablet.core.opened first → Stands (record tablet.core { first = first })) → IsLog (records ++ queued)
-    → ((first : Past) → Opens tablet.opening tablet.mark tablet.core.opened first → AreDue tablet.core.work.fill tablet.names first records queued)
-    → (rules : Rules) (first : Past) → Opens tablet.opening tablet.mark tablet.core.opened first → HoldsPast rules tablet.core.work.fill super records tablet.core.opened first
-    → TakesUp tablet.core.work.fill super tablet.names tablet.core.stores records queued tablet.core.opened first
-bare_takes_up tablet super records queued is trail aloft mems stored stands log due rules first opens holds =
-    subst (λ (s : Super). TakesUp tablet.core.work.fill s tablet.names tablet.core.stores records queued tablet.core.opened first) (sym is)
+    → ((first : Past) → Opens tablet.opening tablet.mark tablet.core.opened first → AreDue tablet.core.work.fill tablet.names first records queued) → ((rules : Rules) → StoresPass rules tablet.core.stores)
+    → (rules : Rules) (first : Past) → AreRules rules → Opens tablet.opening tablet.mark tablet.core.opened first → HoldsPast rules tablet.core.work.fill super records tablet.core.opened first
+    → TakesUp rules tablet.core.work.fill super tablet.names tablet.core.stores records queued tablet.core.opened first
+bare_takes_up tablet super records queued is trail aloft mems stored stands log due passes rules first closed opens holds =
+    subst (λ (s : Super). TakesUp rules tablet.core.work.fill s tablet.names tablet.core.stores records queued tablet.core.opened first) (sym is)
     (takes_up rules (record tablet.core { first = first }) tablet.names records queued (stands first opens) trail aloft mems stored log (due first opens)
-    (subst (λ (s : Super). HoldsPast rules tablet.core.work.fill s records tablet.core.opened first) is holds))
+    (subst (λ (s : Super). HoldsPast rules tablet.core.work.fill s records tablet.core.opened first) is holds) (passes rules))
 
 pub bare_named : (super : Super) (names : List Target) → super ≡ fresh → All IsMem names → NamesDiffer names → AreNamed super names
 bare_named super names is mems differ = subst (λ (s : Super). AreNamed s names) (sym is) (mems_named names mems differ)

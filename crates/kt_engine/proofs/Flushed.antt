@@ -34,8 +34,10 @@ use Rattle.kt_content.proofs.StoresCome.{others_keep}
 use Rattle.kt_joblaws.specs.ChangesOver.{hists_of, AreFrozen, AreOlder, in_memory, before_flush, after_flush, FlushesOver}
 use Rattle.kt_joblaws.proofs.ChangesOver.{changes_over}
 use Rattle.kt_engine.specs.Memory.{name_of, by_name, named_writes, resident, AreNamed}
-use Rattle.kt_engine.specs.Logged.{LogStands, UntoldFly, KeepsSince}
+use Rattle.kt_engine.specs.Logged.{LogStands, UntoldFly, KeepsSince, DeltasBelow}
 use Rattle.kt_engine.specs.Over.{bare_store, first_name, AreTaken, AreLeft}
+use Rattle.kt_engine.proofs.Deltas.{deltas_over}
+use Rattle.kt_engine.proofs.Passed.{EachHist, never_passes, both_pass, behind_passes}
 use Rattle.kt_engine.proofs.Rising.{records_rise, rowsets_rise, rowsets_both}
 use Rattle.kt_engine.proofs.StoreEvents.{base, past, past_is, stands_now, ends}
 
@@ -68,7 +70,7 @@ name_append [] ms (h ∷ hs) gs e = absurd (omega arith)
 name_append (t ∷ ns) ms [] gs e = absurd (omega arith)
 name_append (t ∷ ns) ms (h ∷ hs) gs e = ap (λ (l : Stores). (name_of t, h) ∷ l) (name_append ns ms hs gs (omega arith))
 
-hists_named : (ns : List Target) (hs : List Hist) → length ns ≡ length hs → hists_of (by_name ns hs) ≡ hs
+pub hists_named : (ns : List Target) (hs : List Hist) → length ns ≡ length hs → hists_of (by_name ns hs) ≡ hs
 hists_named [] [] e = refl
 hists_named [] (h ∷ hs) e = absurd (omega arith)
 hists_named (t ∷ ns) [] e = absurd (omega arith)
@@ -128,6 +130,7 @@ pub record FlushKnows (rules : Rules) (core : Core) (super : Super) (names : Lis
   pub alike : (q : List ℕ) → AreAlike j (hists q taken_stores) (map (hist_in_files q) outputs)
   pub sound : (q : List ℕ) → AreSound core.a (map (hist_in_files q) outputs)
   pub mark : j ≤ core.a
+  pub outputs_pass : (q : List ℕ) → EachHist rules q (map (hist_in_files q) outputs)
 
 module _ (rules : Rules) (core : Core) (super : Super) (names : List Target) (notes : List (List CommitRow)) (records run : List Entry) (places : List (ℕ × ℕ)) (durable : ℕ) (log : LogStands core records places run) (st : Stands core)
     (k : KeepsSince rules core super names notes records run durable) (all : durable ≡ length (records ++ run)) (last_mem next high active j : ℕ) (outputs : List DiskRowset)
@@ -224,6 +227,14 @@ module _ (rules : Rules) (core : Core) (super : Super) (names : List Target) (no
       others_keep rules core.work.fill new_super (records ++ run) [] (with_records core.work.fill core.first run) _ (λ q. by_name new_names (hists q new_core.stores)) (map name_of new_names) numbers made
       (λ q p. ap (group new_super p) (stores_after q)) new_fresh
 
+  -- what the stores have then passes
+  stores_pass : (q : List ℕ) → EachHist rules q (hists q (map bare_store outputs ++ f.other_stores))
+  stores_pass q =
+      let before : EachHist rules q (never ∷ hists q (f.taken_stores ++ f.other_stores)) = subst (λ (ss : List Store). EachHist rules q (hists q ss)) f.stores_are (k.passes q) in
+      let others : EachHist rules q (hists q f.other_stores) = behind_passes rules q (hists q f.taken_stores) (hists q f.other_stores) (subst (EachHist rules q) (map-append (hist_in q) f.taken_stores f.other_stores) before.1) in
+      subst (EachHist rules q) (sym (map-append (hist_in q) (map bare_store outputs) f.other_stores))
+      (both_pass rules q (hists q (map bare_store outputs)) (hists q f.other_stores) (subst (EachHist rules q) (sym (bare_hists q outputs)) (f.outputs_pass q)) others)
+
   pub flush_since : AreNamed new_super new_names → KeepsSince rules new_core new_super new_names notes records run durable
   flush_since named = record {
     since = run;
@@ -237,6 +248,8 @@ module _ (rules : Rules) (core : Core) (super : Super) (names : List Target) (no
     mark = omega arith;
     clock = omega arith;
     named = named;
+    deltas = deltas_over next last_mem active f.taken f.others outputs (records ++ run) f.from f.recorded (subst (λ (ns : List Target). DeltasBelow ns (records ++ run)) f.names_are k.deltas);
+    passes = λ q. (never_passes rules q, stores_pass q);
     keeps = record {
       recovered = record {
         content = stands.recovered.content;

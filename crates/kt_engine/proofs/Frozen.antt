@@ -17,6 +17,7 @@ use Rattle.kt_content.proofs.StoresCome.{freeze_keeps}
 use Rattle.kt_engine.specs.Memory.{name_of, by_name, resident, IsNamed, AreNamed, LacksName}
 use Rattle.kt_engine.specs.Logged.{KeepsSince}
 use Rattle.kt_engine.proofs.Lists.{all_cons}
+use Rattle.kt_engine.proofs.Passed.{never_passes}
 use Rattle.kt_engine.proofs.Rising.{records_rise, names_rise, rowsets_rise}
 
 -- no store has a name above all of them
@@ -54,6 +55,8 @@ frozen_since rules core super names notes records run durable n named k =
       mark = k.mark;
       clock = k.clock;
       named = named;
+      deltas = k.deltas;
+      passes = λ q. (never_passes rules q, k.passes q);
       keeps = record {
         recovered = k.keeps.recovered;
         writes = k.keeps.writes;

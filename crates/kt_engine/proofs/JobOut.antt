@@ -18,6 +18,7 @@ use Rattle.kt_content.specs.Places.{Super}
 use Rattle.kt_content.specs.Rules.{Rules, RowsetsPass}
 use Rattle.kt_content.specs.RunEvents.{RecordsBelow}
 use Rattle.kt_content.specs.Flushes.{flushed, before}
+use Rattle.kt_joblaws.proofs.Passed.{hists_pass}
 use Rattle.kt_reopen.specs.Both.{super_in}
 use Rattle.kt_storeside.specs.Sides.{StoreView, IsSide}
 use Rattle.kt_tablet.specs.Jobs.{frozen_stores, frozen_names, over_to, rows_in_first}
@@ -145,6 +146,7 @@ module _ {L D C : Type 0} (log_tells : Bool) (log_seen : L → Files) (tells : B
       alike = holds.alike;
       sound = holds.sound;
       mark = omega arith;
+      outputs_pass = λ q. hists_pass rules content.closed q outputs passes;
     }
 
     -- the superblock of the flush stands over the stores that the tablet has in the end

@@ -1,6 +1,8 @@
 pub mod Raised
 pub mod Lists
 pub mod Near
+pub mod Passed
+pub mod Deltas
 pub mod Places
 pub mod Records
 pub mod Fronts
@@ -51,5 +53,13 @@ pub mod StoreOpened
 pub mod Both
 pub mod StoredWrites
 pub mod StorePurposes
+pub mod RedoFiles
+pub mod DeltaNames
+pub mod DeltaFiles
+pub mod DeltaOut
+pub mod DeltaBoth
+pub mod DeltaToDo
+pub mod DeltaReady
+pub mod DeltaShapes
 pub mod StoredPlans
 pub mod OpenedBoth

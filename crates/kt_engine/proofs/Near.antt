@@ -12,7 +12,7 @@ use Rattle.kt_content.specs.RunEvents.{RowsetsBelow}
 use Rattle.kt_content.specs.Flushes.{before}
 use Rattle.kt_tablet.specs.Jobs.{over_to}
 use Rattle.kt_engine.specs.Logged.{NamesOnly}
-use Rattle.kt_engine.specs.Near.{first_number, IsGiven, IsKnown, NamesEach, AreNear, most_rowsets, IsUpTo, IsBelow}
+use Rattle.kt_engine.specs.Near.{first_number, IsGiven, IsKnown, NamesEach, AreNear, most_rowsets, most_deltas, IsUpTo, IsBelow}
 use Rattle.kt_engine.specs.Over.{first_name}
 use Rattle.kt_engine.proofs.Lists.{all_none, all_head, all_tail, all_cons, all_more, all_each}
 
@@ -28,19 +28,19 @@ only_known : (names : List Target) (Q : Target → Type 0) → ((t : Target) →
 only_known names Q f (Replicate ts ops) h = tt
 only_known names Q f (Commit ts rows) h = all_each (λ (row : CommitRow). All (Contains names) row.targets) (λ (row : CommitRow). All Q row.targets) rows (λ row own. all_each (Contains names) Q row.targets f own) h
 
-known_rises : (found : List Target) (low high next more : ℕ) → low ≤ high → next ≤ more → (t : Target) → IsKnown found low next t → IsKnown found high more t
-known_rises found low high next more up rise t (inl there) = inl there
-known_rises found low high next more up rise (Mem n) (inr given) = inr (omega arith)
-known_rises found low high next more up rise (Delta r n) (inr given) = inr ((let lt = given.0 in omega arith), given.1)
+known_rises : (found : List Target) (low high dms next more : ℕ) → low ≤ high → next ≤ more → (t : Target) → IsKnown found low dms next t → IsKnown found high dms more t
+known_rises found low high dms next more up rise t (inl there) = inl there
+known_rises found low high dms next more up rise (Mem n) (inr given) = inr (omega arith)
+known_rises found low high dms next more up rise (Delta r n) (inr given) = inr ((let lt = given.0 in omega arith), given.1)
 
 -- ---- events
 
 -- rowset numbers are given
 pub near_rises : (found names : List Target) (first next more begun : ℕ) (run : List Entry) → next ≤ more → more ≤ first + most_rowsets → AreNear found names first next begun run → AreNear found names first more begun run
 near_rises found names first next more begun run rise few is =
-    let P = IsKnown found (first_number names) next in
-    let Q = IsKnown found (first_number names) more in
-    let f = known_rises found (first_number names) (first_number names) next more (omega arith) rise in
+    let P = IsKnown found (first_number names) (most_deltas first) next in
+    let Q = IsKnown found (first_number names) (most_deltas first) more in
+    let f = known_rises found (first_number names) (first_number names) (most_deltas first) next more (omega arith) rise in
     record {
       names_known = all_each P Q names f is.names_known;
       run_known = all_each (NamesEach P) (NamesEach Q) run (each_known P Q f) is.run_known;
@@ -53,7 +53,7 @@ near_rises found names first next more begun run rise few is =
 pub near_replicate : (found names : List Target) (first next begun : ℕ) (run : List Entry) (ts : ℕ) (ops : List RowOp) → AreNear found names first next begun run → AreNear found names first next begun (run ++ Replicate ts ops ∷ [])
 near_replicate found names first next begun run ts ops is = record {
   names_known = is.names_known;
-  run_known = all_more (NamesEach (IsKnown found (first_number names) next)) run (Replicate ts ops) is.run_known tt;
+  run_known = all_more (NamesEach (IsKnown found (first_number names) (most_deltas first) next)) run (Replicate ts ops) is.run_known tt;
   mems = is.mems;
   jobs = is.jobs;
   rowsets = is.rowsets;
@@ -61,7 +61,7 @@ near_replicate found names first next begun run ts ops is = record {
 
 pub near_commit : (found names : List Target) (first next begun : ℕ) (run : List Entry) (ts : ℕ) (rows : List CommitRow) → NamesOnly names (Commit ts rows) → AreNear found names first next begun run → AreNear found names first next begun (run ++ Commit ts rows ∷ [])
 near_commit found names first next begun run ts rows only is =
-    let P = IsKnown found (first_number names) next in
+    let P = IsKnown found (first_number names) (most_deltas first) next in
     record {
       names_known = is.names_known;
       run_known = all_more (NamesEach P) run (Commit ts rows) is.run_known (only_known names P (λ t there. contained P names t is.names_known there) (Commit ts rows) only);
@@ -73,9 +73,9 @@ near_commit found names first next begun run ts rows only is =
 -- a job freezes a MemRowSet
 pub near_frozen : (found names : List Target) (first next begun number : ℕ) (run : List Entry) → first_number names ≡ number → begun < 2 ^ 24 → AreNear found names first next begun run → AreNear found (Mem (number + 1) ∷ names) first next (suc begun) run
 near_frozen found names first next begun number run e few is =
-    let P = IsKnown found (first_number names) next in
-    let Q = IsKnown found (number + 1) next in
-    let f = known_rises found (first_number names) (number + 1) next next (omega (arith, e)) (omega arith) in
+    let P = IsKnown found (first_number names) (most_deltas first) next in
+    let Q = IsKnown found (number + 1) (most_deltas first) next in
+    let f = known_rises found (first_number names) (number + 1) (most_deltas first) next next (omega (arith, e)) (omega arith) in
     record {
       names_known = all_cons Q (Mem (number + 1)) names (inr (omega arith)) (all_each P Q names f is.names_known);
       run_known = all_each (NamesEach P) (NamesEach Q) run (each_known P Q f) is.run_known;
@@ -84,20 +84,30 @@ near_frozen found names first next begun number run e few is =
       rowsets = is.rowsets;
     }
 
+-- a job begins, and freezes none
+pub near_begun : (found names : List Target) (first next begun : ℕ) (run : List Entry) → begun < 2 ^ 24 → AreNear found names first next begun run → AreNear found names first next (suc begun) run
+near_begun found names first next begun run few is = record {
+  names_known = is.names_known;
+  run_known = is.run_known;
+  mems = (let up = is.mems in omega arith);
+  jobs = omega arith;
+  rowsets = is.rowsets;
+}
+
 behind : (P : Target → Type 0) (n : ℕ) (names : List Target) → All P names → All P (drop n names)
 behind P zero names each = each
 behind P (suc n) [] each = each
 behind P (suc n) (t ∷ names) each = behind P n names (all_tail P t names each)
 
-with_outputs : (found : List Target) (mem next last : ℕ) (outputs : List DiskRowset) (names : List Target) → RowsetsBelow (before next last) outputs → All (IsKnown found mem next) names → All (IsKnown found mem next) (map first_name outputs ++ names)
-with_outputs found mem next last [] names own each = each
-with_outputs found mem next last (d ∷ outputs) names own each = all_cons (IsKnown found mem next) (first_name d) (map first_name outputs ++ names) (inr (own.0, refl)) (with_outputs found mem next last outputs names own.1 each)
+with_outputs : (found : List Target) (mem dms next last : ℕ) (outputs : List DiskRowset) (names : List Target) → 1 ≤ dms → RowsetsBelow (before next last) outputs → All (IsKnown found mem dms next) names → All (IsKnown found mem dms next) (map first_name outputs ++ names)
+with_outputs found mem dms next last [] names one own each = each
+with_outputs found mem dms next last (d ∷ outputs) names one own each = all_cons (IsKnown found mem dms next) (first_name d) (map first_name outputs ++ names) (inr (own.0, one)) (with_outputs found mem dms next last outputs names one own.1 each)
 
-over_known : (found : List Target) (mem next last frozen : ℕ) (outputs : List DiskRowset) (names : List Target) → RowsetsBelow (before next last) outputs → All (IsKnown found mem next) names → All (IsKnown found mem next) (over_to frozen (map first_name outputs) names)
-over_known found mem next last frozen outputs [] own each = each
-over_known found mem next last frozen outputs (t ∷ names) own each =
-    let P = IsKnown found mem next in
-    all_cons P t (map first_name outputs ++ drop frozen names) (all_head P t names each) (with_outputs found mem next last outputs (drop frozen names) own (behind P frozen names (all_tail P t names each)))
+over_known : (found : List Target) (mem dms next last frozen : ℕ) (outputs : List DiskRowset) (names : List Target) → 1 ≤ dms → RowsetsBelow (before next last) outputs → All (IsKnown found mem dms next) names → All (IsKnown found mem dms next) (over_to frozen (map first_name outputs) names)
+over_known found mem dms next last frozen outputs [] one own each = each
+over_known found mem dms next last frozen outputs (t ∷ names) one own each =
+    let P = IsKnown found mem dms next in
+    all_cons P t (map first_name outputs ++ drop frozen names) (all_head P t names each) (with_outputs found mem dms next last outputs (drop frozen names) one own (behind P frozen names (all_tail P t names each)))
 
 -- its outputs take the place of those that are frozen
 pub near_over : (found names : List Target) (first next begun last frozen : ℕ) (outputs : List DiskRowset) (run : List Entry) → first_number (over_to frozen (map first_name outputs) names) ≡ first_number names → RowsetsBelow (before next last) outputs
@@ -105,8 +115,8 @@ pub near_over : (found names : List Target) (first next begun last frozen : ℕ)
 near_over found names first next begun last frozen outputs run e own is =
     let over = over_to frozen (map first_name outputs) names in
     record {
-      names_known = subst (λ (m : ℕ). All (IsKnown found m next) over) (sym e) (over_known found (first_number names) next last frozen outputs names own is.names_known);
-      run_known = subst (λ (m : ℕ). All (NamesEach (IsKnown found m next)) run) (sym e) is.run_known;
+      names_known = subst (λ (m : ℕ). All (IsKnown found m (most_deltas first) next) over) (sym e) (over_known found (first_number names) (most_deltas first) next last frozen outputs names (omega arith) own is.names_known);
+      run_known = subst (λ (m : ℕ). All (NamesEach (IsKnown found m (most_deltas first) next)) run) (sym e) is.run_known;
       mems = subst (λ (m : ℕ). m ≤ first_number found + begun) (sym e) is.mems;
       jobs = is.jobs;
       rowsets = is.rowsets;
@@ -115,7 +125,7 @@ near_over found names first next begun last frozen outputs run e own is =
 -- opening has found all of them
 pub near_opened : (names : List Target) (next : ℕ) (queued : List Entry) → All (NamesOnly names) queued → AreNear names names next next 0 queued
 near_opened names next queued only =
-    let P = IsKnown names (first_number names) next in
+    let P = IsKnown names (first_number names) (most_deltas next) next in
     record {
       names_known = λ k d lt. inl (own k d lt);
       run_known = all_each (NamesOnly names) (NamesEach P) queued (only_known names P (λ t there. inl there)) only;
@@ -142,13 +152,13 @@ found_below : (bound : ℕ) (t : Target) → IsUpTo (bound + 1) t → IsBelow (b
 found_below bound (Mem n) up = omega arith
 found_below bound (Delta r n) up = ((let a = up.0 in omega arith), (let b = up.1 in omega arith))
 
-known_below : (found : List Target) (bound mem next : ℕ) → 1 ≤ bound → mem ≤ bound + 1 + 2 ^ 24 → next ≤ bound + 1 + most_rowsets → All (IsUpTo (bound + 1)) found → (t : Target) → IsKnown found mem next t → IsBelow (bound + 2 ^ 45) t
-known_below found bound mem next one mems rowsets up t (inl there) = found_below bound t (contained (IsUpTo (bound + 1)) found t up there)
-known_below found bound mem next one mems rowsets up (Mem n) (inr given) = omega arith
-known_below found bound mem next one mems rowsets up (Delta r n) (inr given) = ((let lt = given.0 in omega arith), (let e = given.1 in omega arith))
+known_below : (found : List Target) (bound mem dms next : ℕ) → mem ≤ bound + 1 + 2 ^ 24 → dms ≤ bound + 1 + 2 ^ 44 → next ≤ bound + 1 + most_rowsets → All (IsUpTo (bound + 1)) found → (t : Target) → IsKnown found mem dms next t → IsBelow (bound + 2 ^ 45) t
+known_below found bound mem dms next mems deltas rowsets up t (inl there) = found_below bound t (contained (IsUpTo (bound + 1)) found t up there)
+known_below found bound mem dms next mems deltas rowsets up (Mem n) (inr given) = omega arith
+known_below found bound mem dms next mems deltas rowsets up (Delta r n) (inr given) = ((let lt = given.0 in omega arith), (let le = given.1 in omega arith))
 
 pub near_below : (found names : List Target) (first next begun : ℕ) (run : List Entry) (bound : ℕ) → AreNear found names first next begun run → 1 ≤ bound → first ≤ bound + 1 → All (IsUpTo (bound + 1)) found → All (NamesEach (IsBelow (bound + 2 ^ 45))) run
 near_below found names first next begun run bound is one low up =
-    let P = IsKnown found (first_number names) next in
-    let f = known_below found bound (first_number names) next one (let a = is.mems in let b = is.jobs in let c = first_up (bound + 1) found up in omega arith) (let r = is.rowsets in omega arith) up in
+    let P = IsKnown found (first_number names) (most_deltas first) next in
+    let f = known_below found bound (first_number names) (most_deltas first) next (let a = is.mems in let b = is.jobs in let c = first_up (bound + 1) found up in omega arith) (omega arith) (let r = is.rowsets in omega arith) up in
     all_each (NamesEach P) (NamesEach (IsBelow (bound + 2 ^ 45))) run (each_known P (IsBelow (bound + 2 ^ 45)) f) is.run_known

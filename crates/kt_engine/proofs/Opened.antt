@@ -25,7 +25,7 @@ use Rattle.kt_histlaws.specs.Pending.{Aloft}
 use Rattle.kt_histlaws.specs.Core.{Core}
 use Rattle.kt_histlaws.specs.Histories.{hists, past_hist}
 use Rattle.kt_content.specs.Places.{Super}
-use Rattle.kt_content.specs.Rules.{Rules, RecordsPass}
+use Rattle.kt_content.specs.Rules.{Rules, AreRules, RecordsPass}
 use Rattle.kt_content.specs.KeyOps.{seen}
 use Rattle.kt_content.specs.Content.{AreTold, HoldsKey, IsContent as HoldsPast}
 use Rattle.kt_content.specs.Records.{AllTold}
@@ -121,7 +121,7 @@ opened_view tablet journal records super queued store store_device device = reco
 pub is_opened : {L D C : Type 0} (tells : Bool) (seen : L → Files) (now : L → ℕ) (leaves : L → ℕ → Files → Type 0) (faults : L → ℕ) (tablet : View C) (journal : JournalView L) (records : List Entry) (super : Super) (queued : List Entry) (store : StoreView D) (store_device : D) (device : L)
     → IsTrue store.whole → tablet.core.trail ≡ [] → tablet.core.aloft ≡ [] → tablet.core.stopped ≡ false → map (λ p. p.0) tablet.places ≡ map (λ w. w.s) tablet.core.aloft
     → AreNamed super tablet.names → AreShelved (suc tablet.frozen) (2 ^ 64) tablet.names → IsLog (records ++ queued) → AreCommits queued
-    → ((rules : Rules) (first : Past) → Opens tablet.opening tablet.mark tablet.core.opened first → HoldsPast rules tablet.core.work.fill super records tablet.core.opened first → TakesUp tablet.core.work.fill super tablet.names tablet.core.stores records queued tablet.core.opened first)
+    → ((rules : Rules) (first : Past) → AreRules rules → Opens tablet.opening tablet.mark tablet.core.opened first → HoldsPast rules tablet.core.work.fill super records tablet.core.opened first → TakesUp rules tablet.core.work.fill super tablet.names tablet.core.stores records queued tablet.core.opened first)
     → (numbers : Numbers) × NumbersAreFresh super (records ++ queued) (map name_of tablet.names) numbers × (numbers.next ≤ next_given store.next_rowset) × (numbers.active ≤ first_number tablet.names) → UntoldFly (records ++ queued) tablet.core.aloft → tablet.core.opened ≤ tablet.core.c
     → last_of (records ++ queued) ≤ tablet.core.c → All (NamesOnly tablet.names) queued → journal.count ≡ length records
     → (IsTrue tells → records_of (seen journal.disk) ≡ records)
@@ -142,7 +142,7 @@ is_opened tells seen now leaves faults tablet journal records super queued store
     };
     keeps = λ rules past is plan jobless.
         let none : UntoldFly (records ++ queued) [] = subst (λ (ws : List Aloft). UntoldFly (records ++ queued) ws) aloft untold in
-        let up = taken rules past is.opens is.holds in
+        let up = taken rules past is.closed is.opens is.holds in
         keeps_opened rules (record tablet.core { first = past }) super tablet.names tablet.notes records queued numbers.0 trail aloft log none since last commits is.opens.ends is.holds up.told up.mirrors numbers.1;
     names = λ jobless. names;
     framed = framed_all (newest_first [] records) queued (order_rest [] records queued log);

@@ -120,6 +120,8 @@ module _ (rules : Rules) (core : Core) (super : Super) (names : List Target) (no
         mark = omega arith;
         clock = omega arith;
         named = record { each = all_each (IsNamed super) (IsNamed (with_marks super core.a core.c durable)) names named_still k.named.each; first = k.named.first; differ = k.named.differ };
+        deltas = k.deltas;
+        passes = k.passes;
         keeps = record { recovered = next.0; writes = sym past_is ∙ k.keeps.writes; numbers = k.keeps.numbers; stands = next.1 };
       }
 

@@ -16,14 +16,14 @@ use Rattle.kt_diskrowset.specs.Rowset.{HeldFiles}
 use Rattle.kt_files.specs.Reading.{HoldAll}
 use Rattle.kt_files.proofs.OneHolding.{all_one}
 use Rattle.kt_content.specs.Places.{Super}
-use Rattle.kt_content.specs.Rules.{Rules}
+use Rattle.kt_content.specs.Rules.{Rules, AreRules}
 use Rattle.kt_content.specs.Content.{IsContent as HoldsPast}
 use Rattle.kt_content.specs.RunEvents.{Numbers, NumbersAreFresh}
 use Rattle.kt_reopen.specs.Both.{super_in}
 use Rattle.kt_storeside.specs.Sides.{StoreView}
 use Rattle.kt_tablet.specs.Views.{View, Opens}
 use Rattle.kt_engine.specs.Memory.{name_of, AreNamed}
-use Rattle.kt_engine.specs.Logged.{PlanPasses, Waits, UntoldFly, AreCommits, NamesOnly, TakesUp, LogStands, KeepsFrom, KeepsSince}
+use Rattle.kt_engine.specs.Logged.{PlanPasses, Waits, UntoldFly, AreCommits, NamesOnly, TakesUp, DeltasBelow, LogStands, KeepsFrom, KeepsSince}
 use Rattle.kt_engine.specs.Engines.{IsContent, core_from}
 use Rattle.kt_engine.specs.Near.{first_number}
 use Rattle.kt_engine.proofs.Near.{near_opened}
@@ -45,13 +45,13 @@ one_super seen store super other none found one = elim one.one [
 
 pub store_opened : {L D C : Type 0} (log_tells : Bool) (log_seen : L → Files) (tells : Bool) (seen : D → Files) (faults : D → ℕ) (tablet : View C) (journal : JournalView L) (records : List Entry) (super : Super) (queued : List Entry) (store : StoreView D) (store_device : D) (device : L)
     → tablet.core.trail ≡ [] → tablet.core.aloft ≡ [] → IsLog (records ++ queued) → AreCommits queued
-    → ((rules : Rules) (first : Past) → Opens tablet.opening tablet.mark tablet.core.opened first → HoldsPast rules tablet.core.work.fill super records tablet.core.opened first → TakesUp tablet.core.work.fill super tablet.names tablet.core.stores records queued tablet.core.opened first)
+    → ((rules : Rules) (first : Past) → AreRules rules → Opens tablet.opening tablet.mark tablet.core.opened first → HoldsPast rules tablet.core.work.fill super records tablet.core.opened first → TakesUp rules tablet.core.work.fill super tablet.names tablet.core.stores records queued tablet.core.opened first)
     → (numbers : Numbers) × NumbersAreFresh super (records ++ queued) (map name_of tablet.names) numbers × (numbers.next ≤ next_given store.next_rowset) × (numbers.active ≤ first_number tablet.names) → UntoldFly (records ++ queued) tablet.core.aloft → tablet.core.opened ≤ tablet.core.c → last_of (records ++ queued) ≤ tablet.core.c
     → journal.count ≡ length records → (IsTrue log_tells → records_of (log_seen journal.disk) ≡ records)
-    → store.lent ≡ None → (IsTrue tells → (held : List HeldFiles) × HoldAll (seen store.known) store.meta.rowsets held × (super ≡ super_in store.meta held)) → (store.meta.a ≡ tablet.mark) × (tablet.core.a ≡ tablet.mark) → store.meta.c ≤ tablet.core.c → AreNamed super tablet.names → All (NamesOnly tablet.names) queued → faults store_device ≤ faults store.known
+    → store.lent ≡ None → (IsTrue tells → (held : List HeldFiles) × HoldAll (seen store.known) store.meta.rowsets held × (super ≡ super_in store.meta held)) → (store.meta.a ≡ tablet.mark) × (tablet.core.a ≡ tablet.mark) → store.meta.c ≤ tablet.core.c → AreNamed super tablet.names → DeltasBelow tablet.names (records ++ queued) → All (NamesOnly tablet.names) queued → faults store_device ≤ faults store.known
     → ((disk : D) → store.home ≡ Some disk → disk ≡ store.known)
     → IsStored log_tells log_seen tells seen faults (opened_view tablet journal records super queued store store_device device)
-store_opened {L} {D} {C} log_tells log_seen tells seen faults tablet journal records super queued store store_device device trail aloft log commits taken numbers untold since last count reads none found mark clock named only later at_home = record {
+store_opened {L} {D} {C} log_tells log_seen tells seen faults tablet journal records super queued store store_device device trail aloft log commits taken numbers untold since last count reads none found mark clock named deltas only later at_home = record {
   run = queued;
   all = λ t. ap (λ l. l ++ queued) (sym (reads t));
   count = omega (arith, length-append records queued);
@@ -63,7 +63,7 @@ store_opened {L} {D} {C} log_tells log_seen tells seen faults tablet journal rec
     untold = untold;
   };
   keeps = λ rules first h plan t other one. subst (λ (s : Super). KeepsSince rules (record tablet.core { first = first }) s tablet.names tablet.notes records queued journal.count) (sym (one_super seen store super other none (found t) one)) (
-      let up = taken rules first h.opens h.holds in
+      let up = taken rules first h.closed h.opens h.holds in
       let untold_none : UntoldFly (records ++ queued) [] = subst (λ (ws : List Aloft). UntoldFly (records ++ queued) ws) aloft untold in
       let c = h.holds.last in
       record {
@@ -78,6 +78,8 @@ store_opened {L} {D} {C} log_tells log_seen tells seen faults tablet journal rec
         mark = (let of_super = ap (λ (s : Super). s.a) (found t).2 in let of_run = mark.0 in let of_tablet = mark.1 in omega arith);
         clock = omega (arith, c, since);
         named = named;
+        deltas = deltas;
+        passes = up.passes;
         keeps = subst (λ (l : List Entry). KeepsFrom rules (record tablet.core { first = first }) super tablet.names tablet.notes l queued tablet.core.opened first) (sym (append-nil records))
             (keeps_opened rules (record tablet.core { first = first }) super tablet.names tablet.notes records queued numbers.0 trail aloft log untold_none since last commits h.opens.ends h.holds up.told up.mirrors numbers.1);
       });

@@ -19,9 +19,9 @@ use Rattle.kt_journal.specs.Order.{IsFramed}
 use Rattle.kt_journal.specs.Log.{records_of, IsLog}
 use Rattle.kt_journal.specs.Open.{JournalView}
 use Rattle.kt_loglaws.specs.Replay.{last_of}
-use Rattle.kt_loglaws.specs.Fronts.{with_records}
+use Rattle.kt_loglaws.specs.Fronts.{with_records, ops_of}
 use Rattle.kt_loglaws.specs.Side.{SideView}
-use Rattle.kt_histlaws.specs.Core.{Core, Stands}
+use Rattle.kt_histlaws.specs.Core.{Core, Stands, live}
 use Rattle.kt_histlaws.specs.Events.{advance, IsNextOp, applied, begun, ended, halted}
 use Rattle.kt_histlaws.specs.Flights.{AllUnder}
 use Rattle.kt_histlaws.specs.Histories.{hists, on_nth}
@@ -30,13 +30,14 @@ use Rattle.kt_super.specs.declared.meta.Meta.{Meta}
 use Rattle.kt_content.specs.Places.{Super}
 use Rattle.kt_content.specs.Rules.{Rules}
 use Rattle.kt_content.proofs.Keeping.{look_keeps as a_look_keeps}
+use Rattle.kt_content.proofs.Rules.{pass_join}
 use Rattle.kt_storeside.specs.Sides.{StoreView}
 use Rattle.kt_tablet.specs.Rows.{AreRecorded}
 use Rattle.kt_stores.specs.Shelf.{place_of}
 use Rattle.kt_tablet.specs.Views.{View}
 use Rattle.kt_tablet.specs.Visits.{IsRunOutcome}
 use Rattle.kt_engine.specs.Memory.{resident}
-use Rattle.kt_engine.specs.Logged.{PlanPasses, Waits, UntoldFly, LogStands, AreApart, KeepsFrom, KeepsSince}
+use Rattle.kt_engine.specs.Logged.{PlanPasses, Waits, UntoldFly, LogStands, AreApart, KeepsFrom, KeepsSince, StoresPass}
 use Rattle.kt_engine.specs.Engines.{EngineView, IsContent, core_from}
 use Rattle.kt_content.specs.RunEvents.{Numbers, RecordsBelow}
 use Rattle.kt_content.specs.Flushes.{before}
@@ -45,8 +46,12 @@ use Rattle.kt_engine.specs.Jobs.{JobView, UpkeepsView, JobOn, job_of, over_by, o
 use Rattle.kt_engine.specs.Near.{AreNear}
 use Rattle.kt_engine.specs.Stored.{IsOneOf, IsSuperOf, IsStored, over, core_at, names_at}
 use Rattle.kt_engine.proofs.Rising.{records_join}
-use Rattle.kt_engine.proofs.Applied.{NotedHere, applied_run}
+use Rattle.kt_engine.proofs.Applied.{NotedHere, applied_run, pushed_is}
 use Rattle.kt_engine.proofs.Begun.{begun_run}
+use Rattle.kt_engine.proofs.Commits.{commit_names}
+use Rattle.kt_engine.proofs.Deltas.{deltas_begun, deltas_ended}
+use Rattle.kt_engine.proofs.Lists.{all_found}
+use Rattle.kt_engine.proofs.Passed.{ops_pass, op_among, op_passes}
 use Rattle.kt_engine.proofs.Ended.{ended_run}
 use Rattle.kt_engine.proofs.Lines.{IsQuiet, with_line, past_after}
 use Rattle.kt_engine.proofs.Marks.{MovesMark, still_mark, moved_mark}
@@ -74,7 +79,7 @@ module _ (core : Core) (records since rest run : List Entry) (parts : run ≡ si
 
 -- more records are durable
 pub more_durable : {rules : Rules} {core : Core} {super : Super} {names : List Target} {notes : List (List CommitRow)} {records run : List Entry} (n m : ℕ) → n ≤ m → KeepsSince rules core super names notes records run n → KeepsSince rules core super names notes records run m
-more_durable n m le k = record { since = k.since; rest = k.rest; parts = k.parts; made = (let d = k.made in omega arith); low = k.low; from = k.from; up = k.up; last = k.last; mark = k.mark; clock = k.clock; named = k.named; keeps = k.keeps }
+more_durable n m le k = record { since = k.since; rest = k.rest; parts = k.parts; made = (let d = k.made in omega arith); low = k.low; from = k.from; up = k.up; last = k.last; mark = k.mark; clock = k.clock; named = k.named; deltas = k.deltas; passes = k.passes; keeps = k.keeps }
 
 -- a write begins
 pub begun_since : (rules : Rules) (core : Core) (super : Super) (names : List Target) (notes : List (List CommitRow)) (records : List Entry) (places : List (ℕ × ℕ)) (run : List Entry) (durable s i ts m : ℕ) (ops : List RowOp)
@@ -92,6 +97,8 @@ begun_since rules core super names notes records places run durable s i ts m ops
   mark = k.mark;
   clock = (let u = k.clock in omega arith);
   named = k.named;
+  deltas = deltas_begun names records run ts ops k.deltas;
+  passes = k.passes;
   keeps = begun_run rules core super names notes (records ++ k.since) places k.rest s i ts m ops k.low (with_records core.work.fill core.first k.since) k.up above framed is plan apart noted
       (parts_stand core records k.since k.rest run k.parts places log) k.keeps;
 }
@@ -116,6 +123,8 @@ ended_since rules core super names notes later records places run durable s i j 
       mark = k.mark;
       clock = k.clock;
       named = k.named;
+      deltas = deltas_ended names records run f.ts rows k.named.differ (commit_names names f.ts outcomes rows are) k.deltas;
+      passes = k.passes;
       keeps = ended_run rules core super names notes later (records ++ k.since) places k.rest s i j f outcomes rows k.low (with_records core.work.fill core.first k.since) longer
           (parts_stand core records k.since k.rest run k.parts places stands).flying apart at own over here later_is are k.keeps;
     }
@@ -138,6 +147,13 @@ applied_since rules core super names notes later records places run durable new 
   mark = k.mark;
   clock = k.clock;
   named = k.named;
+  deltas = k.deltas;
+  passes =
+      let wf = all_found (Waits (records ++ run) places) (λ w. w.s == s) core.aloft flight flies log.flying in
+      let all = pass_join rules core.work.fill (records ++ k.since) k.rest k.keeps.recovered.content.passes k.keeps.recovered.passes in
+      let ops = ops_pass rules core.work.fill ((records ++ k.since) ++ k.rest) flight.ts flight.ops all (ap (ops_of flight.ts) (sym (same_log core records k.since k.rest run k.parts)) ∙ wf.ops) in
+      subst (StoresPass rules) (sym (pushed_is core st j flight.ts op next new stores))
+      (op_passes rules core.work.fill op flight.ts (place_of op.key core.stores) (live core.stores op.key flight.ts) core.stores (op_among rules core.work.fill flight.ops at op ops row) k.passes);
   keeps = applied_run rules core super names notes later (records ++ k.since) k.rest places new s at outcome k.low (with_records core.work.fill core.first k.since) st (parts_stand core records k.since k.rest run k.parts places log) k.named apart stored noted
       j flight op flies next row stores n r k.keeps;
 }
@@ -157,6 +173,8 @@ line_since rules core super names notes records run durable e a c turns stopped 
   mark = (let m = k.mark in omega arith);
   clock = (let u = k.clock in omega arith);
   named = k.named;
+  deltas = k.deltas;
+  passes = k.passes;
   keeps = record {
     recovered = k.keeps.recovered;
     writes = k.keeps.writes ∙ sym (past_line core e ∙ past_after core.work (state_after core.work (start core.work core.first core.opened) core.trail) e quiet);

@@ -32,6 +32,8 @@ plan_stored {L} {D} {C} log_tells log_seen tells seen faults view is tablet plan
             mark = k.mark;
             clock = k.clock;
             named = k.named;
+            deltas = k.deltas;
+            passes = k.passes;
             keeps = record {
               recovered = k.keeps.recovered;
               writes = k.keeps.writes ∙ past_at_first view.tablet.core.work first view.tablet.core.opened view.tablet.core.trail fresh ∙ sym (past_at_first work first view.tablet.core.opened view.tablet.core.trail fresh);

@@ -13,6 +13,7 @@ use Rattle.kt_content.specs.Flushes.{before}
 use Rattle.kt_super.specs.declared.meta.MetaRowset.{MetaRowset}
 use Rattle.kt_pick.specs.declared.rules.Want.{Want}
 use Rattle.kt_pick.specs.declared.rules.Want.TheVariants as want
+use Rattle.kt_diskrowset.specs.declared.data.RowSetData.{RowSetData}
 use Rattle.kt_diskrowset.specs.Rowset.{HeldFiles}
 use Rattle.kt_files.specs.Content.{rowsets_in}
 use Rattle.kt_tablet.specs.Views.{View}
@@ -25,7 +26,8 @@ use Rattle.kt_engine.specs.declared.upkeep.Stage.TheVariants as stage
 
 -- A job: its number, how far it has come, its bound and its mark; the last MemRowSet that it froze, how many records the log had as it began, and the first
 -- rowset and file numbers that its turns may use; from its swap on its outputs, as a superblock names them and as their files have them, and how many disk rowsets
--- there is room for beside them; and from then on, as it publishes, the number of its superblock.
+-- there is room for beside them; and from then on, as it publishes, the number of its superblock. Of a job on the files of one disk rowset the number of that, the
+-- last DeltaMemStore that it reads, and the rowset as it was written.
 pub record JobView : Type 0 where
   pub number : ℕ
   pub want : Want
@@ -40,6 +42,9 @@ pub record JobView : Type 0 where
   pub held : List HeldFiles
   pub room : ℕ
   pub super : ℕ
+  pub rowset : ℕ
+  pub dms : ℕ
+  pub output : Option RowSetData
 
 -- how the last ask of a pass ended
 pub data Last : Type 0 where

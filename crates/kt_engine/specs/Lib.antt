@@ -13,5 +13,6 @@ pub mod Stored
 pub mod Pairs
 pub mod Columns
 pub mod JobSteps
+pub mod DeltaJobs
 pub mod Rounds
 pub mod Calls

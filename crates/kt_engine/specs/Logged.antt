@@ -1,6 +1,6 @@
 -- The log of an engine: the past that opening found, the records of this run behind those that it found, and what a crash leaves of both.
 use Rattle.std.specs.Prelude.{◌≡◌, ◌≤◌, ◌<◌, ◌^◌, ◌==◌, ℕ, zero, suc, max, true, false, List, [], ◌∷◌, ◌++◌, length, Some, None, Ok, slice_get}
-use Rattle.std.specs.List.{All, Contains, list_any}
+use Rattle.std.specs.List.{All, AllByRecursion, Contains, list_any}
 use Rattle.kt_disk.specs.Disk.{Files}
 use Rattle.kt_history.specs.declared.event.Event.{Event}
 use Rattle.kt_history.specs.declared.event.Event.TheVariants as event
@@ -12,7 +12,7 @@ use Rattle.kt_history.specs.History.{Past, rows_at, raise}
 use Rattle.kt_history.specs.Operations.{outcomes_on}
 use Rattle.kt_history.specs.Machine.{Workload, command_at}
 use Rattle.kt_history.specs.Machine as machine
-use Rattle.kt_history.specs.Stores.{Store}
+use Rattle.kt_history.specs.Stores.{Store, Hist}
 use Rattle.kt_records.specs.declared.entry.Entry.{Entry}
 use Rattle.kt_records.specs.declared.entry.Entry.TheVariants.{Replicate, Commit}
 use Rattle.kt_records.specs.declared.entry.CommitRow.{CommitRow}
@@ -21,7 +21,8 @@ use Rattle.kt_journal.specs.Log.{log_of, IsLog}
 use Rattle.kt_loglaws.specs.Replay.{last_of, commit_of}
 use Rattle.kt_loglaws.specs.Fronts.{with_records, ops_of, upto}
 use Rattle.kt_content.specs.Places.{Super}
-use Rattle.kt_content.specs.Rules.{Rules, OpsPass}
+use Rattle.kt_content.specs.DeltaFlushes.{DeltasUpTo}
+use Rattle.kt_content.specs.Rules.{Rules, OpsPass, HistPasses}
 use Rattle.kt_content.specs.Content.{HoldsKey, IsContent as HoldsPast}
 use Rattle.kt_content.specs.InMemory.{Mirrors}
 use Rattle.kt_content.specs.Records.{AllTold}
@@ -109,11 +110,22 @@ AreCommits [] = Unit {0}
 AreCommits (Replicate ts ops ∷ records) = ⊥
 AreCommits (Commit ts rows ∷ records) = AreCommits records
 
+-- of each disk rowset no record names a later DeltaMemStore than the one that takes its changes
+abbrev pub DeltasBelow : List Target → List Entry → Type 0
+DeltasBelow [] records = Unit {0}
+DeltasBelow (Mem n ∷ names) records = DeltasBelow names records
+DeltasBelow (Delta r n ∷ names) records = DeltasUpTo r n records × DeltasBelow names records
+
+-- what stores have of each key passes the rules of the table
+abbrev pub StoresPass : Rules → List Store → Type 0
+StoresPass rules stores = (q : List ℕ) → AllByRecursion (λ (h : Hist). HistPasses rules q h) (hists q stores)
+
 -- An engine takes up a past that a superblock and records held, up to low: each COMMIT that is queued tells what became of its write, and its stores mirror of
--- each key what the superblock holds with all records.
-pub record TakesUp (fill : Row) (super : Super) (names : List Target) (stores : List Store) (records queued : List Entry) (low : ℕ) (first : Past) : Type 0 where
+-- each key what the superblock holds with all records, and what they have passes the rules of the table.
+pub record TakesUp (rules : Rules) (fill : Row) (super : Super) (names : List Target) (stores : List Store) (records queued : List Entry) (low : ℕ) (first : Past) : Type 0 where
   pub told : AllTold fill super low records queued
   pub mirrors : (q : List ℕ) → (h : HoldsKey fill super (records ++ queued) q (past_hist q first)) → Mirrors super.a super (by_name names (hists q stores)) h.held
+  pub passes : StoresPass rules stores
 
 -- a COMMIT names no store but these
 abbrev pub NamesOnly : List Target → Entry → Type 0
@@ -143,6 +155,7 @@ abbrev pub KeepsRun : Rules → Core → Super → List Target → List (List Co
 KeepsRun rules core super names notes records run = KeepsFrom rules core super names notes records run core.opened core.first
 
 -- And of a superblock that was made when since were durable of the run: what it holds with them is the opened past with their writes, up to low.
+-- No record names a DeltaMemStore that came since, and what the stores have passes the rules of the table.
 pub record KeepsSince (rules : Rules) (core : Core) (super : Super) (names : List Target) (notes : List (List CommitRow)) (records run : List Entry) (durable : ℕ) : Type 0 where
   pub since : List Entry
   pub rest : List Entry
@@ -155,6 +168,8 @@ pub record KeepsSince (rules : Rules) (core : Core) (super : Super) (names : Lis
   pub mark : super.a ≤ core.a
   pub clock : super.c ≤ core.c
   pub named : AreNamed super names
+  pub deltas : DeltasBelow names (records ++ run)
+  pub passes : StoresPass rules core.stores
   pub keeps : KeepsFrom rules core super names notes (records ++ since) rest low (with_records core.work.fill core.first since)
 
 -- A crash left this image: the records that opening found and some of the run, whose COMMITs name such stores alone.

@@ -12,14 +12,18 @@ first_number [] = 0
 first_number (Mem n ∷ names) = n
 first_number (Delta r n ∷ names) = 0
 
--- a name that was given since: a MemRowSet up to this number, or the first DeltaMemStore of a disk rowset below that one
-abbrev pub IsGiven : ℕ → ℕ → Target → Type 0
-IsGiven mem next (Mem n) = n ≤ mem
-IsGiven mem next (Delta r n) = (r < next) × (n ≡ 1)
+-- a DeltaMemStore that an engine freezes has a number below this one, by the first rowset number at opening
+abbrev pub most_deltas : ℕ → ℕ
+most_deltas first_rowset = first_rowset + 2 ^ 44
+
+-- a name that was given since: a MemRowSet up to this number, or a DeltaMemStore up to another of a disk rowset below a third
+abbrev pub IsGiven : ℕ → ℕ → ℕ → Target → Type 0
+IsGiven mem dms next (Mem n) = n ≤ mem
+IsGiven mem dms next (Delta r n) = (r < next) × (n ≤ dms)
 
 -- or one that opening found
-abbrev pub IsKnown : List Target → ℕ → ℕ → Target → Type 0
-IsKnown found mem next t = Contains found t ⊎ IsGiven mem next t
+abbrev pub IsKnown : List Target → ℕ → ℕ → ℕ → Target → Type 0
+IsKnown found mem dms next t = Contains found t ⊎ IsGiven mem dms next t
 
 -- a COMMIT names such stores alone
 abbrev pub NamesEach : (Target → Type 0) → Entry → Type 0
@@ -33,8 +37,8 @@ most_rowsets = 2 ^ 44 + 2 ^ 32
 -- The stores and the COMMITs of the run have names that opening found or that were given since, each job has frozen one MemRowSet at most, and not too many
 -- rowset numbers were given.
 pub record AreNear (found names : List Target) (first_rowset next_rowset begun : ℕ) (run : List Entry) : Type 0 where
-  pub names_known : All (IsKnown found (first_number names) next_rowset) names
-  pub run_known : All (NamesEach (IsKnown found (first_number names) next_rowset)) run
+  pub names_known : All (IsKnown found (first_number names) (most_deltas first_rowset) next_rowset) names
+  pub run_known : All (NamesEach (IsKnown found (first_number names) (most_deltas first_rowset) next_rowset)) run
   pub mems : first_number names ≤ first_number found + begun
   pub jobs : begun ≤ 2 ^ 24
   pub rowsets : next_rowset ≤ first_rowset + most_rowsets

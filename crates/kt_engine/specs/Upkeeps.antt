@@ -25,6 +25,9 @@ job_in w j = record {
   held = map held_of j.outputs.rowsets;
   room = j.outputs.room;
   super = j.superblock;
+  rowset = j.rowset;
+  dms = j.dms;
+  output = j.output;
 }
 
 -- how the last ask ended, by what was asked

@@ -9,12 +9,12 @@ ghost use Rattle.kt_tablet.specs.Plans.{PlanKeeps};
 ghost use Rattle.kt_tablet.specs.Views.{IsSound, IsExact, Opens};
 ghost use Rattle.std.specs.List.{All};
 ghost use Rattle.kt_loglaws.specs.Side.{all_of};
-ghost use Rattle.kt_content.specs.Rules.{Rules};
+ghost use Rattle.kt_content.specs.Rules.{Rules, AreRules};
 ghost use Rattle.kt_content.specs.Content.{IsContent as HoldsPast};
 ghost use Rattle.kt_content.specs.RunEvents.{Numbers, NumbersAreFresh};
 ghost use Rattle.kt_engine.specs.Sessions.{numbers_of};
 ghost use Rattle.kt_engine.specs.Memory.{name_of, AreNamed};
-ghost use Rattle.kt_engine.specs.Logged.{AreCommits, TakesUp, UntoldFly, IsPlaced, IsThere, NamesOnly};
+ghost use Rattle.kt_engine.specs.Logged.{AreCommits, TakesUp, UntoldFly, IsPlaced, IsThere, NamesOnly, DeltasBelow};
 ghost use Rattle.kt_diskrowset.specs.Rowset.{HeldFiles};
 ghost use Rattle.kt_files.specs.Reading.{HoldAll};
 ghost use Rattle.kt_reopen.specs.Both.{super_in};
@@ -129,11 +129,13 @@ impl<L: Disk, D: Disk + Drop, C: Clock> Engine<L, D, C> {
     ) -> Result<Engine<L, D, C>, (Tablet<DiskRowSet, C>, Journal<L>, StoreSide<D>)>
         requires fresh { (tablet.core.trail ≡ []) × (tablet.core.aloft ≡ []) × (tablet.core.stopped ≡ false) }
         requires named { AreNamed found.superblock.now tablet.names }
+        // No record names a later DeltaMemStore of a rowset than the one that takes its changes.
+        requires deltas { DeltasBelow tablet.names (found.records.now ++ queued) }
         requires shelved { AreShelved (suc tablet.frozen) (2 ^ 64) tablet.names }
         requires log { IsLog (found.records.now ++ queued) }
         requires commits { AreCommits queued }
-        requires taken_up { (rules : Rules) (first : Past) → Opens tablet.opening tablet.mark tablet.core.opened first → HoldsPast rules tablet.core.work.fill found.superblock.now found.records.now tablet.core.opened first
-            → TakesUp tablet.core.work.fill found.superblock.now tablet.names tablet.core.stores found.records.now queued tablet.core.opened first }
+        requires taken_up { (rules : Rules) (first : Past) → AreRules rules → Opens tablet.opening tablet.mark tablet.core.opened first → HoldsPast rules tablet.core.work.fill found.superblock.now found.records.now tablet.core.opened first
+            → TakesUp rules tablet.core.work.fill found.superblock.now tablet.names tablet.core.stores found.records.now queued tablet.core.opened first }
         // The store gives rowset numbers, and the first MemRowSet has one, above those that a superblock, a record or a store has.
         requires numbers { (numbers : Numbers) × NumbersAreFresh found.superblock.now (found.records.now ++ queued) (map name_of tablet.names) numbers × (numbers.next ≤ next_given store.next_rowset) × (numbers.active ≤ first_number tablet.names) }
         requires untold { UntoldFly (found.records.now ++ queued) tablet.core.aloft }

@@ -168,7 +168,7 @@ impl<L: Disk, D: Disk + Drop, C: Clock> Engine<L, D, C> {
     }
 
     // Whether too many jobs have begun or run, or no file or rowset number is left for one.
-    fn is_full(&self) -> bool
+    pub(crate) fn is_full(&self) -> bool
         ensures { IsTrue result ↔ (2 ^ 24 ≤ self.now.upkeep.begun) ⊎ ((512 ≤ running self.now.upkeep) ⊎ ((self.now.first_file + 2 ^ 44 ≤ self.now.store.next_file) ⊎ (self.now.store.next_rowset ≡ 2 ^ 64 - 1))) }
     {
         let (running, begun) = self.upkeep.counts();
@@ -284,7 +284,7 @@ impl<L: Disk, D: Disk + Drop, C: Clock> Engine<L, D, C> {
     }
 
     // Makes a place for a pass, so that its asks need no memory.
-    fn make_place(&mut self, alloc: Global, number: u32) -> Result<(), NoMemory>
+    pub(crate) fn make_place(&mut self, alloc: Global, number: u32) -> Result<(), NoMemory>
         ensures same { IsUntouched self.old self.new }
         ensures there { OnOk result (IsThere number self.new.upkeep.passes) }
     {
@@ -292,7 +292,7 @@ impl<L: Disk, D: Disk + Drop, C: Clock> Engine<L, D, C> {
     }
 
     // There is nothing to do for what a pass asked. It has a place, and no job.
-    fn say_nothing(&mut self, number: u32, asked: Want)
+    pub(crate) fn say_nothing(&mut self, number: u32, asked: Want)
         requires there { IsThere number self.old.upkeep.passes }
         requires none { job_of number self.old.upkeep ≡ None }
         ensures own { HasUpkeep number (asked_for_nothing asked (upkeep_at number self.old.upkeep.passes)) self.old.upkeep self.new.upkeep }
@@ -327,12 +327,15 @@ impl<L: Disk, D: Disk + Drop, C: Clock> Engine<L, D, C> {
             first_file,
             outputs: JobOutputs::none(alloc),
             superblock: 0,
+            rowset: 0,
+            dms: 0,
+            output: None,
         };
         Ok(self.upkeep.begin(number, asked, job))
     }
 
     /// Begins a job, whose inputs are held from now on. A flush freezes here. Where there is nothing to do that is told, and counts as an ask. Until jobs run in
-    /// two phases, and until disk rowsets are worked on, it is a flush, and none begins while a job publishes.
+    /// two phases none begins while a job publishes. It is a flush: a job on the files of one disk rowset begins with `delta_begin`.
     pub fn job_begin(&mut self, alloc: Global, number: u32, want: &Want) -> Result<u32, JobNo>
         requires none { job_of number self.old.upkeep ≡ None }
         requires flush { want.now ≡ Want.Flush }

@@ -23,7 +23,7 @@ fn copy_refs(alloc: Global, files: &FileRefs) -> Result<FileRefs, NoMemory>
 }
 
 // Another owner of what a superblock says of a disk rowset.
-fn copy_rowset(alloc: Global, rowset: &MetaRowset) -> Result<MetaRowset, NoMemory>
+pub(crate) fn copy_rowset(alloc: Global, rowset: &MetaRowset) -> Result<MetaRowset, NoMemory>
     ensures { IfOk result (λ copy. copy ≡ rowset.now) }
 {
     Ok(MetaRowset {

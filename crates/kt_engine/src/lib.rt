@@ -4,6 +4,7 @@
 //! that a crash leaves the run's writes up to a time, each acknowledged one among them.
 #![tactic(auto)]
 
+pub mod delta_job;
 pub mod engine;
 mod filled;
 mod fitting;

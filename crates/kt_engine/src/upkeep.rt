@@ -11,6 +11,7 @@ ghost use Rattle.kt_engine.specs.Upkeeps.{upkeep_of, job_in, IsThere};
 
 use crate::outputs::JobOutputs;
 use kt_base::{Chore, NoMemory};
+use kt_diskrowset::RowSetData;
 use kt_pick::Want;
 use kt_policy::IdList;
 use std::alloc::Global;
@@ -62,6 +63,10 @@ pub struct Job {
     pub outputs: JobOutputs,
     /// The number of the superblock that it publishes.
     pub superblock: u64,
+    /// The disk rowset whose files it writes again, the last DeltaMemStore that it reads of it, and what it has written.
+    pub rowset: u64,
+    pub dms: u64,
+    pub output: Option<RowSetData>,
 }
 
 /// What a pass has of maintenance.
@@ -222,6 +227,28 @@ impl Upkeep {
             job.stage = Stage::Read;
             job.bound = bound;
             job.mark = mark;
+        }
+    }
+
+    // All that the tablet has of the disk rowset of its job was handed out.
+    fn read_deltas(&mut self, dms: u64)
+        ensures own { (job : JobView) → (upkeep_of self.old).1.job ≡ Some job → (upkeep_of self.new).1 ≡ record (upkeep_of self.old).1 { job = Some (record job { stage = Stage.Read; dms = dms }) } }
+        ensures pass { self.new.pass ≡ self.old.pass }
+    {
+        if let Some(job) = &mut self.job {
+            job.stage = Stage::Read;
+            job.dms = dms;
+        }
+    }
+
+    // The disk rowset of its job is written.
+    fn take_output(&mut self, rowset: RowSetData)
+        ensures own { (job : JobView) → (upkeep_of self.old).1.job ≡ Some job → (upkeep_of self.new).1 ≡ record (upkeep_of self.old).1 { job = Some (record job { stage = Stage.Written; output = Some rowset }) } }
+        ensures pass { self.new.pass ≡ self.old.pass }
+    {
+        if let Some(job) = &mut self.job {
+            job.stage = Stage::Written;
+            job.output = Some(rowset);
         }
     }
 
@@ -404,6 +431,30 @@ impl Upkeeps {
         self.passes[at].read(bound, mark);
     }
 
+    /// All that the tablet has of the disk rowset of the job of a pass was handed out, of which this DeltaMemStore takes changes.
+    pub fn read_deltas(&mut self, pass: u32, dms: u64)
+        requires job { (job : JobView) × (job_of pass self.old ≡ Some job) }
+        ensures own { (job : JobView) → job_of pass self.old ≡ Some job → HasUpkeep pass (record (upkeep_at pass self.old.passes) { job = Some (record job { stage = Stage.Read; dms = dms }) }) self.old self.new }
+        ensures begun { (self.new.begun ≡ self.old.begun) × (self.new.publishing ≡ self.old.publishing) }
+    {
+        let Some(at) = self.place(pass) else {
+            return;
+        };
+        self.passes[at].read_deltas(dms);
+    }
+
+    /// The disk rowset of the job of a pass is written.
+    pub fn take_output(&mut self, pass: u32, rowset: RowSetData)
+        requires job { (job : JobView) × (job_of pass self.old ≡ Some job) }
+        ensures own { (job : JobView) → job_of pass self.old ≡ Some job → HasUpkeep pass (record (upkeep_at pass self.old.passes) { job = Some (record job { stage = Stage.Written; output = Some rowset }) }) self.old self.new }
+        ensures begun { (self.new.begun ≡ self.old.begun) × (self.new.publishing ≡ self.old.publishing) }
+    {
+        let Some(at) = self.place(pass) else {
+            return;
+        };
+        self.passes[at].take_output(rowset);
+    }
+
     /// Its outputs are there.
     pub fn swap(&mut self, pass: u32, outputs: JobOutputs)
         requires job { (job : JobView) × (job_of pass self.old ≡ Some job) }
@@ -416,7 +467,7 @@ impl Upkeeps {
         self.passes[at].swap(outputs);
     }
 
-    /// The job of a pass, which publishes, is over, and leaves. It takes no memory.
+    /// The job of a pass is over, and leaves; none publishes then. It takes no memory.
     pub fn finish(&mut self, pass: u32) -> Option<Job>
         requires job { (job : JobView) × (job_of pass self.old ≡ Some job) }
         ensures own { (job : JobView) → job_of pass self.old ≡ Some job → HasUpkeep pass (job_finished job.want (upkeep_at pass self.old.passes)) self.old self.new }

@@ -22,7 +22,7 @@ use Rattle.kt_reopen.proofs.Held.{content_found}
 use Rattle.kt_reopen.proofs.Taking.{some_is}
 use Rattle.kt_super.specs.Body.{IsMeta}
 use Rattle.kt_boot.proofs.Vacant.{not_kept}
-use Rattle.kt_boot.proofs.Taken.{commits_are, untold_are, named_are, names_only, numbers_are, shelved_are, last_ends, takes_up, opens_it}
+use Rattle.kt_boot.proofs.Taken.{commits_are, untold_are, named_are, names_only, deltas_named, numbers_are, shelved_are, last_ends, takes_up, opens_it}
 use Rattle.kt_boot.proofs.tablet.open_tablet.Goals as goal
 
 -- what both devices made has a superblock and parts that are those of what was found
@@ -78,7 +78,7 @@ of-requires-2-clause-commits g c =
     commits_are c.args.schema.now found.0 p.meta p.records p.queued p.stores p.last p.next_rowset found.2
 
 pub of-requires-2-clause-taken_up : goal.of-requires-2-clause-taken_up
-of-requires-2-clause-taken_up g c = λ rules first opens holds.
+of-requires-2-clause-taken_up g c = λ rules first closed opens holds.
     let p = c.in-Ok.opened in
     let found = c.in-Ok.ensures.found in
     let f = found.0 in
@@ -88,11 +88,17 @@ of-requires-2-clause-taken_up g c = λ rules first opens holds.
     subst (λ (s : Super). HoldsPast rules (fill_of c.args.schema.now) s f.records tablet.core.opened first) found.1
     (subst (λ (l : List Entry). HoldsPast rules (fill_of c.args.schema.now) p.superblock l tablet.core.opened first) found.2.records_are
     (subst (λ (w : Row). HoldsPast rules w p.superblock p.records tablet.core.opened first) work holds)) in
-    let up = takes_up c.args.schema.now f p.meta p.records p.queued p.stores p.last p.next_rowset found.2 rules tablet.core.opened first is tablet.names tablet.core.stores tablet.core.opened c.in-Ok-of.ensures.names
+    let up = takes_up c.args.schema.now f p.meta p.records p.queued p.stores p.last p.next_rowset found.2 rules tablet.core.opened first is closed tablet.names tablet.core.stores tablet.core.opened c.in-Ok-of.ensures.names
     (c.in-Ok-of.ensures.stores ∙ c.in-Ok-of.ensures.found.2) in
-    subst (λ (w : Row). TakesUp w p.superblock tablet.names tablet.core.stores p.records p.queued tablet.core.opened first) (sym work)
-    (subst (λ (s : Super). TakesUp (fill_of c.args.schema.now) s tablet.names tablet.core.stores p.records p.queued tablet.core.opened first) (sym found.1)
-    (subst (λ (l : List Entry). TakesUp (fill_of c.args.schema.now) f.super tablet.names tablet.core.stores l p.queued tablet.core.opened first) (sym found.2.records_are) up))
+    subst (λ (w : Row). TakesUp rules w p.superblock tablet.names tablet.core.stores p.records p.queued tablet.core.opened first) (sym work)
+    (subst (λ (s : Super). TakesUp rules (fill_of c.args.schema.now) s tablet.names tablet.core.stores p.records p.queued tablet.core.opened first) (sym found.1)
+    (subst (λ (l : List Entry). TakesUp rules (fill_of c.args.schema.now) f.super tablet.names tablet.core.stores l p.queued tablet.core.opened first) (sym found.2.records_are) up))
+
+pub of-requires-2-clause-deltas : goal.of-requires-2-clause-deltas
+of-requires-2-clause-deltas g c =
+    let p = c.in-Ok.opened in
+    let found = c.in-Ok.ensures.found in
+    deltas_named c.args.schema.now found.0 p.meta p.records p.queued p.stores p.last p.next_rowset found.2 c.in-Ok-of.tablet.names c.in-Ok-of.ensures.names
 
 pub of-requires-2-clause-numbers : goal.of-requires-2-clause-numbers
 of-requires-2-clause-numbers g c =

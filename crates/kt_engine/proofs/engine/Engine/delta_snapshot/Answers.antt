@@ -1,0 +1,26 @@
+use Rattle.std.proofs.Common.{refl, sym}
+use Rattle.kt_engine.specs.declared.upkeep.Stage.TheVariants as stage
+use Rattle.kt_engine.proofs.JobBoth.{further_both}
+use Rattle.kt_engine.proofs.Visiting.{visit_of, upkeep_visit}
+use Rattle.kt_engine.proofs.engine.Engine.delta_snapshot.Goals as goal
+
+pub read_deltas-requires-2 : goal.read_deltas-requires-2
+read_deltas-requires-2 g c =
+    let job = rw (sym c.self.view_is) at c.requires.stage in
+    record { job = (job.0, job.1.has) }
+
+pub invariant_of-self : goal.invariant_of-self
+invariant_of-self g c =
+    let old = sym c.self.view_is in
+    let job = rw old at c.requires.stage in
+    further_both g.L.Disk.tells g.L.Disk.seen g.L.Disk.now g.L.Disk.leaves g.L.Disk.faults g.D.Disk.tells g.D.Disk.seen g.D.Disk.faults _ c.read_deltas-2.new.self c.args.number job.0 (record job.0 { stage = stage.Read; dms = c.in_ok-rowset.dms }) job.1.has (λ records on. record { many = on.many; names = on.names }) (c.read_deltas-2.ensures.own job.0 job.1.has) (rw old at c.requires.free) c.read_deltas-2.ensures.begun c.self.invariant
+
+pub returns-clause-visit : goal.returns-clause-visit
+returns-clause-visit g c =
+    let job = rw (sym c.self.view_is) at c.requires.stage in
+    visit_of _ _ _ _ c.self.view_is (upkeep_visit c.args.number _ _ c.read_deltas-2.new.self (c.read_deltas-2.ensures.own job.0 job.1.has))
+
+pub returns-clause-read : goal.returns-clause-read
+returns-clause-read g c =
+    let old = sym c.self.view_is in
+    rw old (λ job had. (c.in_ok-rowset.dms, (rw old at c.in_ok-rowset.ensures) job had, record { upkeep = c.read_deltas-2.ensures.own job had; begun = c.read_deltas-2.ensures.begun; beside = refl }))
