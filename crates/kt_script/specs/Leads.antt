@@ -53,9 +53,9 @@ alone_no (w ∷ v ∷ ws) = 12
 -- whether maintenance of this kind stands
 abbrev pub stands : Chore → Bool
 stands chore.Flush = true
-stands chore.FlushDeltas = false
-stands chore.Minor = false
-stands chore.Major = false
+stands chore.FlushDeltas = true
+stands chore.Minor = true
+stands chore.Major = true
 stands chore.Compact = false
 
 -- why a maintenance line is refused

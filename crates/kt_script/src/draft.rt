@@ -73,30 +73,44 @@ fn other(alloc: Global, command: Command) -> Result<Entry, NoMemory>
     }
 }
 
-// The entry of a write, whose operations are added to the list, if they are few.
-fn written(alloc: Global, ops: &mut OpList, write: Write) -> Result<Entry, NoMemory>
+// The entry of a write, whose operations are added to the list, if they are few, and else copied. Their own list is left for its
+// room.
+fn written(
+    alloc: Global,
+    ops: &mut OpList,
+    write: Write,
+    spare: &mut OpList,
+) -> Result<Entry, NoMemory>
     ensures inside { IfOk result (λ entry. IsInside ops.new entry) }
     ensures command { IfOk result (λ entry. command_in ops.new entry ≡ command.Write write) }
     ensures front { take (length ops.old) ops.new ≡ ops.old }
 {
+    let Write { ops: more } = write;
     let first = ops.len();
-    let len = write.ops.len();
+    let len = more.len();
     if len > FEW {
-        let ops = write.ops.shared(alloc)?;
-        return other(alloc, Command::Write(Write { ops }));
+        let own = more.copy()?.shared(alloc)?;
+        *spare = more;
+        return other(alloc, Command::Write(Write { ops: own }));
     }
-    append(ops, &write.ops)?;
+    append(ops, &more)?;
+    *spare = more;
     Ok(Entry::Few(Part { first, len }))
 }
 
-// The entry of a command.
-fn entry_of(alloc: Global, ops: &mut OpList, command: Command) -> Result<Entry, NoMemory>
+// The entry of a command. The list of a write is left for its room.
+fn entry_of(
+    alloc: Global,
+    ops: &mut OpList,
+    command: Command,
+    spare: &mut OpList,
+) -> Result<Entry, NoMemory>
     ensures inside { IfOk result (λ entry. IsInside ops.new entry) }
     ensures command { IfOk result (λ entry. command_in ops.new entry ≡ command) }
     ensures front { take (length ops.old) ops.new ≡ ops.old }
 {
     match command {
-        Command::Write(write) => written(alloc, ops, write),
+        Command::Write(write) => written(alloc, ops, write, spare),
         command => other(alloc, command),
     }
 }
@@ -149,12 +163,12 @@ impl Draft {
         self.entries.len()
     }
 
-    /// One command more. Without memory nothing is added.
-    pub(crate) fn push(&mut self, command: Command) -> Result<(), NoMemory>
+    /// One command more. Without memory nothing is added. The list of a write is left for its room.
+    pub(crate) fn push(&mut self, command: Command, spare: &mut OpList) -> Result<(), NoMemory>
         ensures ok { OnOk result (self.new ≡ self.old ++ command ∷ []) }
         ensures err { OnErr result (self.new ≡ self.old) }
     {
-        let entry = entry_of(self.alloc, &mut self.ops, command)?;
+        let entry = entry_of(self.alloc, &mut self.ops, command, spare)?;
         self.entries.push_back(entry)?;
         Ok(())
     }

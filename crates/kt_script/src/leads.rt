@@ -49,8 +49,8 @@ pub fn stands(chore: Chore) -> bool
     ensures { result ≡ stands chore }
 {
     match chore {
-        Chore::Flush => true,
-        Chore::FlushDeltas | Chore::Minor | Chore::Major | Chore::Compact => false,
+        Chore::Flush | Chore::FlushDeltas | Chore::Minor | Chore::Major => true,
+        Chore::Compact => false,
     }
 }
 

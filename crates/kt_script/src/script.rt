@@ -23,7 +23,7 @@ use crate::word::{cut_word, next_word};
 use crate::writes::{SpelledOp, read_write};
 use kt_base::Chore;
 use kt_base::limits::{COMMANDS, SCRIPT_BYTES, SESSIONS};
-use kt_history::{Command, Plan};
+use kt_history::{Command, OpList, Plan};
 use kt_schema::Schema;
 use std::alloc::Global;
 
@@ -61,14 +61,15 @@ fn full_no(sessions: &Sessions) -> Option<u8>
     }
 }
 
-fn push_command(sessions: &mut Sessions, command: Command) -> Result<(), LineNo>
+// Adds a command, if there may be one more. The list of a write is left for its room.
+fn push_command(sessions: &mut Sessions, command: Command, spare: &mut OpList) -> Result<(), LineNo>
     requires { is_begun sessions.old ≡ true }
     ensures { IsPushed sessions.old command sessions.new result }
 {
     if sessions.commands() >= COMMANDS {
         return Err(LineNo::Reason(20));
     }
-    match sessions.push(command) {
+    match sessions.push(command, spare) {
         Ok(()) => Ok(()),
         Err(_) => Err(LineNo::Memory),
     }
@@ -122,7 +123,7 @@ fn read_command_line(
         return Err(LineNo::Reason(11));
     }
     match read_command(alloc, schema, word, first, rest, op) {
-        Ok(command) => push_command(sessions, command),
+        Ok(command) => push_command(sessions, command, &mut op.spare),
         Err(LineNo::Reason(reason)) => { Err(LineNo::Reason(least_of(reason, full_no(sessions)))) }
         Err(LineNo::Memory) => Err(LineNo::Memory),
     }

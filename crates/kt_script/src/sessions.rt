@@ -5,7 +5,7 @@ ghost use Rattle.kt_script.specs.Scripts.{most_commands, is_begun, commands_in, 
 
 use crate::draft::Draft;
 use kt_base::NoMemory;
-use kt_history::{Command, Plan, Session};
+use kt_history::{Command, OpList, Plan, Session};
 use std::alloc::Global;
 use std::marker::Model;
 
@@ -80,8 +80,8 @@ impl Sessions {
         Ok(())
     }
 
-    /// One command more in the last session.
-    pub fn push(&mut self, command: Command) -> Result<(), NoMemory>
+    /// One command more in the last session. The list of a write is left for its room.
+    pub fn push(&mut self, command: Command, spare: &mut OpList) -> Result<(), NoMemory>
         requires begun { is_begun self.old ≡ true }
         requires room { commands_in self.old < most_commands }
         ensures { OnOk result (self.new ≡ push_last command self.old) }
@@ -89,7 +89,7 @@ impl Sessions {
         let Some(last) = &mut self.last else {
             return Ok(());
         };
-        last.push(command)?;
+        last.push(command, spare)?;
         Ok(())
     }
 

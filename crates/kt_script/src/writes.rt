@@ -30,15 +30,17 @@ use kt_cells::writing::put_cell_list;
 use kt_history::{OpKind, OpList, OpRef, Write};
 use kt_schema::Schema;
 use std::alloc::Global;
+use std::mem;
 
 /// An operation as bytes spell it, in buffers that are filled anew for each operation of a script: the cells of its key,
-/// the encoded key, and its other cells behind their count.
+/// the encoded key, and its other cells behind their count. Beside it a list whose room the operations of the next line take.
 #[derive(Drop)]
 pub(crate) struct SpelledOp {
     kind: OpKind,
     key_cells: Vec<Cell>,
     key: Octets,
     cells: Tail,
+    pub(crate) spare: OpList,
 }
 
 impl SpelledOp {
@@ -49,6 +51,7 @@ impl SpelledOp {
             key_cells: Vec::new(alloc),
             key: Octets::new(alloc),
             cells: Tail::of(Octets::new(alloc)),
+            spare: OpList::new(alloc),
         }
     }
 }
@@ -204,65 +207,16 @@ fn cut_ops(left: Option<Option<&[u8]>>) -> Option<Option<(&[u8], Option<&[u8]>)>
     }
 }
 
-// How many bytes of a line are of one operation, and how many are left behind it. They tell nothing: only a guess at the
-// room for all rests on them.
-#[derive(Clone, Copy)]
-struct Share {
-    own: usize,
-    behind: usize,
-}
-
-impl Share {
-    // Of an operation behind its first word, behind which another may be left.
-    fn of(cut: Option<(&[u8], Option<&[u8]>)>, left: Option<Option<&[u8]>>) -> Share {
-        let behind = match left {
-            Some(Some(text)) => text.len(),
-            _ => 0,
-        };
-        let own = match cut {
-            Some((_, Some(text))) => text.len().saturating_sub(behind),
-            _ => 0,
-        };
-        Share { own, behind }
-    }
-
-    // About how many operations stand from this one on, where all are as long.
-    fn ops_about(self) -> usize {
-        (self.behind / self.own.max(1))
-            .saturating_add(1)
-            .min(OPERATIONS)
-    }
-}
-
-// Room for the operations of a line, where there is none yet: its first one has so many bytes.
-fn make_room(alloc: Global, ops: &mut OpList, bytes: usize, share: Share) -> Result<(), NoMemory>
-    ensures { OnOk result (ops.new ≡ ops.old) }
-{
-    if ops.is_empty() {
-        let about = share.ops_about();
-        *ops = OpList::with_capacity(alloc, about, bytes.saturating_mul(about))?;
-    }
-    Ok(())
-}
-
 // Adds an operation as it is spelled.
-fn push_op(alloc: Global, ops: &mut OpList, op: &SpelledOp, share: Share) -> Result<(), NoMemory>
+fn push_op(ops: &mut OpList, op: &SpelledOp) -> Result<(), NoMemory>
     requires { HasSpelling op.now }
     ensures { OnOk result (ops.new ≡ ops.old ++ spelled_op op.now ∷ []) }
 {
-    let spelled = OpRef::of(op.kind, op.key.as_slice(), op.cells.added());
-    make_room(alloc, ops, spelled.len(), share)?;
-    ops.push(&spelled)
+    ops.push(&OpRef::of(op.kind, op.key.as_slice(), op.cells.added()))
 }
 
 // Keeps an operation, if there is room for it. One that a reason up to 17 refuses is not kept.
-fn keep_op(
-    alloc: Global,
-    ops: &mut OpList,
-    op: &SpelledOp,
-    share: Share,
-    no: &mut Least,
-) -> Result<(), NoMemory>
+fn keep_op(ops: &mut OpList, op: &SpelledOp, no: &mut Least) -> Result<(), NoMemory>
     requires held { length ops.old ≤ 64 }
     requires fits { 17 < no.old → HasSpelling op.now }
     ensures least { OnOk result (no.new ≡ min no.old (reason_if (nat_lt 63 (length ops.old)) 18)) }
@@ -276,7 +230,7 @@ fn keep_op(
     }
     no.note(None);
     if no.is_above(17) {
-        push_op(alloc, ops, op, share)
+        push_op(ops, op)
     } else {
         Ok(())
     }
@@ -299,7 +253,7 @@ fn add_ops(
     let mut left = Some(first);
     'ops: while let Some(cut) = left {
         let rest = read_op(alloc, schema, cut, op, no)?;
-        keep_op(alloc, ops, op, Share::of(cut, rest), no)?;
+        keep_op(ops, op, no)?;
         left = cut_ops(rest);
     }
     no.note(None);
@@ -318,7 +272,8 @@ fn read_ops(
     ensures ops { IfOk result (λ ops. 18 < no.new → ops ≡ map (op_of schema.now) (ops_of (words_cut first.entry))) }
     ensures least { IfOk result (λ ops. no.new ≡ min no.old (min (ops_no schema.now (ops_of (words_cut first.entry))) (many_no 0 (ops_of (words_cut first.entry))))) }
 {
-    let mut ops = OpList::new(alloc);
+    let mut ops = mem::replace(&mut op.spare, OpList::new(alloc));
+    ops.clear(alloc);
     add_ops(alloc, schema, first, op, &mut ops, no)?;
     Ok(ops)
 }
@@ -379,6 +334,10 @@ fn is_twice_among(ops: &OpList) -> bool
 fn is_twice(ops: &OpList) -> bool
     ensures { result ≡ twice (map (λ (o : RowOp). o.key) ops.now) }
 {
+    let few = ops.len() < 2;
+    if few {
+        return false;
+    }
     !are_rising(ops) && is_twice_among(ops)
 }
 
