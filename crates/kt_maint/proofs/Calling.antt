@@ -21,8 +21,8 @@ use Rattle.kt_engine.specs.declared.job.MaintNo.{MaintNo}
 use Rattle.kt_engine.specs.declared.job.MaintNo.TheVariants as no
 use Rattle.kt_maint.specs.declared.run.Ran.{Ran}
 use Rattle.kt_maint.specs.declared.run.Ran.TheVariants as ran
-use Rattle.kt_maint.specs.declared.flush.Turn.{Turn}
-use Rattle.kt_maint.specs.declared.flush.Turn.TheVariants as turn
+use Rattle.kt_maint.specs.declared.tries.Turn.{Turn}
+use Rattle.kt_maint.specs.declared.tries.Turn.TheVariants as turn
 use Rattle.kt_maint.specs.Runs.{is_pass, HasNoDevice as PassHasNone, AddsStop, StandsAs, RunsAs}
 use Rattle.kt_maint.specs.Calls.{has_stop, want_of, HasAsked, SameUpkeep, AfterTurn, AfterCall, HasBegunRound}
 use Rattle.kt_maint.proofs.Readying.{none_has}
@@ -89,8 +89,8 @@ module _ {L D C : Type 0} where
       pub no_device_told : PassHasNone n y → HasNoDevice told'
       no_device_told h = record { part = part_in y n; is = is'; log = none_out y.log.holder y.log.out n h.log; store = turn_home }
 
-      pub after_turn : (t : Turn) (seen : List Event) → TellsStop y.tablet.core → seen ≡ y.tablet.core.trail → RunsAs n want.Flush x y t → AfterTurn want.Flush told told' seen t
-      after_turn turn.Done seen tells sees r = (
+      pub after_turn : (w : Want) (t : Turn) (seen : List Event) → TellsStop y.tablet.core → seen ≡ y.tablet.core.trail → RunsAs n w x y t → AfterTurn w told told' seen t
+      after_turn w turn.Done seen tells sees r = (
         record {
           was = part_in x n;
           was_is = is;
@@ -104,7 +104,7 @@ module _ {L D C : Type 0} where
         },
         no_device_told r.1,
       )
-      after_turn turn.Nothing seen tells sees r = (
+      after_turn w turn.Nothing seen tells sees r = (
         record {
           was = part_in x n;
           was_is = is;
@@ -118,9 +118,9 @@ module _ {L D C : Type 0} where
         },
         no_device_told r.2,
       )
-      after_turn turn.Wait seen tells sees r = (record { was = part_in x n; was_is = is; part = part_in y n; is = is'; same = r.0 }, no_device_told r.1)
-      after_turn turn.Stopped seen tells sees r = (stop_told y seen tells sees r.0, no_device_told r.1)
-      after_turn turn.Memory seen tells sees r = no_device_told r
+      after_turn w turn.Wait seen tells sees r = (record { was = part_in x n; was_is = is; part = part_in y n; is = is'; same = r.0 }, no_device_told r.1)
+      after_turn w turn.Stopped seen tells sees r = (stop_told y seen tells sees r.0, no_device_told r.1)
+      after_turn w turn.Memory seen tells sees r = no_device_told r
 
       -- ---- where nothing has changed but what passes have of maintenance
 
@@ -179,44 +179,24 @@ module _ {L D C : Type 0} (a b c : Option (PartView L D C)) where
         job = second.job;
       }
 
-  pub done_then : SameUpkeep a b → HasAsked (finished want.Flush) b c × HasNoDevice c → HasAsked (finished want.Flush) a c × HasNoDevice c
-  done_then first second = (asked_then (finished want.Flush) first second.0, second.1)
+  pub done_then : (w : Want) → SameUpkeep a b → HasAsked (finished w) b c × HasNoDevice c → HasAsked (finished w) a c × HasNoDevice c
+  done_then w first second = (asked_then (finished w) first second.0, second.1)
 
-  pub nothing_then : SameUpkeep a b → HasAsked (nothing want.Flush) b c × HasNoDevice c → HasAsked (nothing want.Flush) a c × HasNoDevice c
-  nothing_then first second = (asked_then (nothing want.Flush) first second.0, second.1)
+  pub nothing_then : (w : Want) → SameUpkeep a b → HasAsked (nothing w) b c × HasNoDevice c → HasAsked (nothing w) a c × HasNoDevice c
+  nothing_then w first second = (asked_then (nothing w) first second.0, second.1)
 
-  -- a round of flushing is over once its flush has ended
-  chore_done : (last : Last) → want_of last ≡ want.Flush → HasBegunRound chore.Flush (want.Flush ∷ []) a b → HasAsked last b c → HasDone chore.Flush a c
-  chore_done last flush first second =
-      let mid : second.was.pass.upkeep ≡ first.part.pass.upkeep = ap (λ (p : PartView L D C). p.pass.upkeep) (some_is second.was first.part (sym second.was_is ∙ first.is)) in
-      record {
-        was = first.was;
-        was_is = first.was_is;
-        part = second.part;
-        is = second.is;
-        rounds = second.round.1 ∙ ap (λ (u : UpkeepView). u.rounds) mid ∙ first.rounds;
-        through = record {
-          round = second.round.0 ∙ ap (λ (u : UpkeepView). u.round) mid ∙ first.round;
-          todo = second.todo ∙ ap (λ (w : Want). without_want w second.was.pass.upkeep.todo) flush ∙ ap (λ (u : UpkeepView). without_want want.Flush u.todo) mid ∙ ap (without_want want.Flush) first.todo;
-        };
-      }
+module _ {L D C : Type 0} (b c : Option (PartView L D C)) where
+  -- however a call ended
+  pub call_home : (w : Want) (seen : List Event) (r : Result Ran MaintNo) → AfterCall w b c seen r → HasNoDevice c
+  call_home w seen (Ok ran.Done) call = call.1
+  call_home w seen (Ok ran.Nothing) call = call.1
+  call_home w seen (Err no.Stopped) call = call.1
+  call_home w seen (Err no.Memory) call = call
 
-module _ {L D C : Type 0} (a b c : Option (PartView L D C)) where
-  flush_ended : (seen : List Event) (r : Ran) → AfterCall want.Flush b c seen (Ok r) → HasBegunRound chore.Flush (want.Flush ∷ []) a b → HasDone chore.Flush a c
-  flush_ended seen ran.Done call first = chore_done a b c (finished want.Flush) refl first call.0
-  flush_ended seen ran.Nothing call first = chore_done a b c (nothing want.Flush) refl first call.0
-
-  -- however it ended
-  pub round_done : (k : Chore) (wants : List Want) (seen : List Event) (r : Ran) → k ≡ chore.Flush → wants ≡ want.Flush ∷ [] → HasBegunRound k wants a b → AfterCall want.Flush b c seen (Ok r) → HasDone k a c
-  round_done k wants seen r flush one begun call =
-      let first = subst (λ (x : Chore). HasBegunRound x (want.Flush ∷ []) a b) flush (subst (λ (ws : List Want). HasBegunRound k ws a b) one begun) in
-      subst (λ (x : Chore). HasDone x a c) (sym flush) (flush_ended seen r call first)
-
-  pub call_home : (seen : List Event) (r : Result Ran MaintNo) → AfterCall want.Flush b c seen r → HasNoDevice c
-  call_home seen (Ok ran.Done) call = call.1
-  call_home seen (Ok ran.Nothing) call = call.1
-  call_home seen (Err no.Stopped) call = call.1
-  call_home seen (Err no.Memory) call = call
+  pub call_stops : (w : Want) (seen : List Event) (r : Result Ran MaintNo) → AfterCall w b c seen r → r ≡ Err no.Stopped → has_stop seen ≡ true
+  call_stops w seen (Ok r) call e = absurd cc
+  call_stops w seen (Err no.Stopped) call e = call.0
+  call_stops w seen (Err no.Memory) call e = absurd cc
 
 -- nothing has changed
 pub still_itself : {L D C : Type 0} (told : Option (PartView L D C)) → HasNoDevice told → StandsStill told told × SameUpkeep told told

@@ -1,8 +1,10 @@
 pub mod Failed
 pub mod Turns
 pub mod Readying
+pub mod Rounds
 pub mod Visiting
 pub mod Coming
+pub mod DeltaSteps
 pub mod Stages
 pub mod Merged
 pub mod Written

@@ -30,8 +30,8 @@ use Rattle.kt_engine.specs.Jobs.{JobView, UpkeepView, UpkeepsView, finished, IsU
 use Rattle.kt_engine.specs.JobSteps.{TakesFrozen, HoldInputs}
 use Rattle.kt_maint.specs.declared.ready.Ready.{Ready}
 use Rattle.kt_maint.specs.declared.ready.Ready.TheVariants as ready
-use Rattle.kt_maint.specs.declared.flush.Turn.{Turn}
-use Rattle.kt_maint.specs.declared.flush.Turn.TheVariants as turn
+use Rattle.kt_maint.specs.declared.tries.Turn.{Turn}
+use Rattle.kt_maint.specs.declared.tries.Turn.TheVariants as turn
 
 -- of this pass's maintenance only the job has changed
 pub record KeepsAsks (n : ℕ) (old new : UpkeepsView) : Type 0 where

@@ -1,10 +1,13 @@
 //! All that a maintenance command asks for.
-ghost use Rattle.std.specs.Prelude.{◌≡◌, ◌∷◌, [], true, Err, IfOk, OnOk};
+ghost use Rattle.std.specs.Prelude.{◌≡◌, ◌≢◌, true, Err, IfOk, OnOk, Option};
+ghost use Rattle.std.specs.List.{All};
 ghost use Rattle.kt_seatlock.specs.Passes.{number, seen, part, MayEnter, IsBack};
+ghost use Rattle.kt_base.specs.declared.chore.Chore.{Chore};
 ghost use Rattle.kt_engine.specs.Calls.{SeesOthers, HasNoDevice, StandsStill, HasDone};
-ghost use Rattle.kt_maint.specs.Calls.{HasBegunRound, has_stop};
+ghost use Rattle.kt_engine.specs.Visits.{PartView};
+ghost use Rattle.kt_maint.specs.Calls.{IsRun, HasBegunRound, has_stop};
 
-use crate::run::{Ran, run_flush};
+use crate::run::run_job;
 use kt_base::{Chore, Clock};
 use kt_disk::Disk;
 use kt_engine::{Engine, LookNo, MaintNo, WantList};
@@ -27,7 +30,7 @@ fn begin_round<L: Disk, D: Disk + Drop, C: Clock, R: Wait>(
     ensures still { StandsStill (part pass.old) (part pass.new) }
     ensures quiet { SeesOthers (number pass.old) (seen pass.old) (seen pass.new) }
     ensures home { HasNoDevice (part pass.new) }
-    ensures wants { chore ≡ Chore.Flush → IfOk result (λ wants. wants ≡ Want.Flush ∷ []) }
+    ensures wants { chore ≢ Chore.Compact → IfOk result (λ wants. All IsRun wants) }
     ensures begun { IfOk result (λ wants. HasBegunRound chore wants (part pass.old) (part pass.new)) }
     ensures stopped { result ≡ Err MaintNo.Stopped → has_stop (seen pass.new) ≡ true }
 {
@@ -43,7 +46,31 @@ fn begin_round<L: Disk, D: Disk + Drop, C: Clock, R: Wait>(
     }
 }
 
-/// Does all that a chore asks for, as the stores stand when it begins: a flush. The other chores stand until disk rowsets are worked on.
+// Runs each of these wants in turn.
+fn run_all<L: Disk, D: Disk + Drop, C: Clock, R: Wait>(
+    rt: &R,
+    alloc: Global,
+    lock: &SeatLock<Engine<L, D, C>>,
+    pass: &mut Pass<Engine<L, D, C>>,
+    wants: &[Want],
+) -> Result<(), MaintNo>
+    requires run { All IsRun wants.now }
+    requires enters { MayEnter lock.now pass.old }
+    requires home { HasNoDevice (part pass.old) }
+    ensures pass { IsBack pass.old pass.new }
+    ensures still { StandsStill (part pass.old) (part pass.new) }
+    ensures quiet { SeesOthers (number pass.old) (seen pass.old) (seen pass.new) }
+    ensures done { (chore : Chore) (before : Option (PartView L D C)) → HasBegunRound chore wants.now before (part pass.old) → OnOk result (HasDone chore before (part pass.new)) }
+    ensures stopped { result ≡ Err MaintNo.Stopped → has_stop (seen pass.new) ≡ true }
+    ensures home { HasNoDevice (part pass.new) }
+{
+    'wants: for want in wants {
+        run_job(rt, alloc, lock, pass, want)?;
+    }
+    Ok(())
+}
+
+/// Does all that a chore asks for, as the stores stand when it begins: each want of its round in turn. It is done where nothing of the round is left.
 pub fn run_chore<L: Disk, D: Disk + Drop, C: Clock, R: Wait>(
     rt: &R,
     alloc: Global,
@@ -51,7 +78,8 @@ pub fn run_chore<L: Disk, D: Disk + Drop, C: Clock, R: Wait>(
     pass: &mut Pass<Engine<L, D, C>>,
     chore: Chore,
 ) -> Result<(), MaintNo>
-    requires flush { chore ≡ Chore.Flush }
+    // Disk rowsets are not compacted together so far.
+    requires stands { chore ≢ Chore.Compact }
     requires enters { MayEnter lock.now pass.old }
     requires home { HasNoDevice (part pass.old) }
     ensures pass { IsBack pass.old pass.new }
@@ -61,9 +89,6 @@ pub fn run_chore<L: Disk, D: Disk + Drop, C: Clock, R: Wait>(
     ensures stopped { result ≡ Err MaintNo.Stopped → has_stop (seen pass.new) ≡ true }
     ensures home { HasNoDevice (part pass.new) }
 {
-    begin_round(rt, alloc, lock, pass, chore)?;
-    // A flush is all that its round wants.
-    match run_flush(rt, alloc, lock, pass)? {
-        Ran::Done | Ran::Nothing => Ok(()),
-    }
+    let wants = begin_round(rt, alloc, lock, pass, chore)?;
+    run_all(rt, alloc, lock, pass, wants.as_slice())
 }

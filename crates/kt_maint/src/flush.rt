@@ -12,6 +12,7 @@ ghost use Rattle.kt_maint.specs.Runs.{IsQuiet, IsReady, RunsAs, JobIsAt, JobHas,
 use crate::numbers::is_within;
 use crate::publishing::publish_job;
 use crate::ready::{Ready, make_ready};
+use crate::tries::Turn;
 use crate::writing::write;
 use kt_base::{Clock, NoMemory};
 use kt_disk::Disk;
@@ -23,35 +24,6 @@ use kt_outputs::MissedFiles;
 use kt_outputs::laws::{behind_law, stand_law};
 use kt_pick::Want;
 use std::alloc::Global;
-
-/// How a try for a job in one visit ended.
-#[derive(Clone, Copy, PartialEq, Eq)]
-pub enum Turn {
-    /// The job is done.
-    Done,
-    /// There was nothing to do.
-    Nothing,
-    /// Something is under way that another pass has.
-    Wait,
-    /// The tablet has stopped.
-    Stopped,
-    /// There was no memory.
-    Memory,
-}
-
-impl From<MaintNo> for Turn {
-    ghost use Rattle.std.specs.Prelude.{◌≡◌};
-    ghost use Rattle.kt_maint.specs.Runs.{turn_of};
-
-    ghost from_gives = { λ no turn. turn ≡ turn_of no };
-
-    fn from(no: MaintNo) -> Self {
-        match no {
-            MaintNo::Stopped => Turn::Stopped,
-            MaintNo::Memory => Turn::Memory,
-        }
-    }
-}
 
 // Reads the inputs of the job, and makes of them what its outputs hold.
 fn merge<L: Disk, D: Disk + Drop, C: Clock>(

@@ -1,4 +1,4 @@
-//! Maintenance: a flush, and the chores of a maintenance command.
+//! Maintenance: a flush, jobs on the files of one disk rowset, and the chores of a maintenance command.
 //!
 //! For the layer above: each `run_` call does one job for its want, or tells that there is nothing to do, and shows nothing of it: the tablet has the
 //! same rows at each time from its mark on. `run_chore` does all that a command asks for. A job is run in one visit of the lock, while nothing flies and no
@@ -7,12 +7,15 @@
 #![tactic(auto)]
 
 pub mod chore;
+pub mod deltas;
 pub mod flush;
 mod numbers;
 mod publishing;
 mod ready;
+mod rewriting;
 pub mod run;
+pub mod tries;
 mod writing;
 
 pub use chore::run_chore;
-pub use run::{Ran, run_flush};
+pub use run::{Ran, run_dms_flush, run_flush, run_major, run_minor};

@@ -2,12 +2,17 @@
 ghost use Rattle.kt_seatlock.specs.Passes.{number, seen, part, MayEnter, IsBack};
 ghost use Rattle.kt_pick.specs.declared.rules.Want.TheVariants as want;
 ghost use Rattle.kt_engine.specs.Calls.{SeesOthers, HasNoDevice, StandsStill};
-ghost use Rattle.kt_maint.specs.Calls.{AfterCall, AfterTurn};
+ghost use Rattle.kt_engine.specs.Visits.{IsVisit};
+ghost use Rattle.kt_maint.specs.Runs.{HasNoDevice as PassHasNone, StandsAs, RunsAs};
+ghost use Rattle.kt_maint.specs.Calls.{IsRun, AfterCall, AfterTurn};
 
-use crate::flush::{Turn, flush_now};
+use crate::deltas::deltas_now;
+use crate::flush::flush_now;
+use crate::tries::Turn;
 use kt_base::Clock;
 use kt_disk::Disk;
 use kt_engine::{Engine, MaintNo};
+use kt_pick::Want;
 use kt_seatlock::{Pass, SeatLock};
 use std::alloc::Global;
 use std::sync::Wait;
@@ -21,31 +26,84 @@ pub enum Ran {
     Nothing,
 }
 
-// One visit that tries a flush.
-fn try_flush<L: Disk, D: Disk + Drop, C: Clock, R: Wait>(
+// Tries a job in this visit.
+fn turn_now<L: Disk, D: Disk + Drop, C: Clock>(
+    alloc: Global,
+    engine: &mut Engine<L, D, C>,
+    by: u32,
+    want: &Want,
+) -> Turn
+    requires run { IsRun want.now }
+    requires home { PassHasNone by engine.old }
+    ensures visit { IsVisit by engine.old engine.new }
+    ensures still { StandsAs by engine.old engine.new }
+    ensures runs { RunsAs by want.now engine.old engine.new result }
+{
+    match want {
+        Want::Flush => flush_now(alloc, engine, by),
+        Want::FlushDeltas(_) | Want::Minor(_) | Want::Major(_) => {
+            deltas_now(alloc, engine, by, want)
+        }
+        // A compaction is run by no call.
+        Want::Compact(_) => unreachable!(),
+    }
+}
+
+// One visit that tries a job.
+fn try_job<L: Disk, D: Disk + Drop, C: Clock, R: Wait>(
     rt: &R,
     alloc: Global,
     lock: &SeatLock<Engine<L, D, C>>,
     pass: &mut Pass<Engine<L, D, C>>,
+    want: &Want,
 ) -> Turn
+    requires run { IsRun want.now }
     requires enters { MayEnter lock.now pass.old }
     requires home { HasNoDevice (part pass.old) }
     ensures pass { IsBack pass.old pass.new }
     ensures still { StandsStill (part pass.old) (part pass.new) }
     ensures quiet { SeesOthers (number pass.old) (seen pass.old) (seen pass.new) }
-    ensures turn { AfterTurn want.Flush (part pass.old) (part pass.new) (seen pass.new) result }
+    ensures turn { AfterTurn want.now (part pass.old) (part pass.new) (seen pass.new) result }
 {
     let by = pass.number();
     let mut engine = lock.enter(rt, pass);
-    let turn = flush_now(alloc, &mut engine, by);
+    let turn = turn_now(alloc, &mut engine, by, want);
     // Its lines tell whether the tablet has stopped.
     engine.standing();
     lock.leave(pass, engine);
     turn
 }
 
-/// Freezes the rows in memory and writes all that are frozen as disk rowsets. It waits until nothing is under way. For want of memory nothing is
-/// changed but that they are frozen. A pass that has a job is answered as for want of memory.
+/// Runs a job for a want. It waits until nothing is under way. For want of memory nothing is changed but that the rows in memory are frozen. A pass that has a job
+/// is answered as for want of memory.
+pub fn run_job<L: Disk, D: Disk + Drop, C: Clock, R: Wait>(
+    rt: &R,
+    alloc: Global,
+    lock: &SeatLock<Engine<L, D, C>>,
+    pass: &mut Pass<Engine<L, D, C>>,
+    want: &Want,
+) -> Result<Ran, MaintNo>
+    requires run { IsRun want.now }
+    requires enters { MayEnter lock.now pass.old }
+    requires home { HasNoDevice (part pass.old) }
+    ensures pass { IsBack pass.old pass.new }
+    ensures still { StandsStill (part pass.old) (part pass.new) }
+    ensures quiet { SeesOthers (number pass.old) (seen pass.old) (seen pass.new) }
+    ensures call { AfterCall want.now (part pass.old) (part pass.new) (seen pass.new) result }
+{
+    'tries: for _ in rt.forever() {
+        match try_job(rt, alloc, lock, pass, want) {
+            Turn::Done => return Ok(Ran::Done),
+            Turn::Nothing => return Ok(Ran::Nothing),
+            Turn::Stopped => return Err(MaintNo::Stopped),
+            Turn::Memory => return Err(MaintNo::Memory),
+            Turn::Wait => lock.rest(rt, pass),
+        }
+    }
+    unreachable!()
+}
+
+/// Freezes the rows in memory and writes all that are frozen as disk rowsets.
 pub fn run_flush<L: Disk, D: Disk + Drop, C: Clock, R: Wait>(
     rt: &R,
     alloc: Global,
@@ -59,14 +117,60 @@ pub fn run_flush<L: Disk, D: Disk + Drop, C: Clock, R: Wait>(
     ensures quiet { SeesOthers (number pass.old) (seen pass.old) (seen pass.new) }
     ensures call { AfterCall want.Flush (part pass.old) (part pass.new) (seen pass.new) result }
 {
-    'tries: for _ in rt.forever() {
-        match try_flush(rt, alloc, lock, pass) {
-            Turn::Done => return Ok(Ran::Done),
-            Turn::Nothing => return Ok(Ran::Nothing),
-            Turn::Stopped => return Err(MaintNo::Stopped),
-            Turn::Memory => return Err(MaintNo::Memory),
-            Turn::Wait => lock.rest(rt, pass),
-        }
-    }
-    unreachable!()
+    run_job(rt, alloc, lock, pass, &Want::Flush)
+}
+
+/// Writes the changes that are in memory of a disk rowset as a REDO file of it. All files of the rowset are written anew.
+pub fn run_dms_flush<L: Disk, D: Disk + Drop, C: Clock, R: Wait>(
+    rt: &R,
+    alloc: Global,
+    lock: &SeatLock<Engine<L, D, C>>,
+    pass: &mut Pass<Engine<L, D, C>>,
+    rowset: u64,
+) -> Result<Ran, MaintNo>
+    requires enters { MayEnter lock.now pass.old }
+    requires home { HasNoDevice (part pass.old) }
+    ensures pass { IsBack pass.old pass.new }
+    ensures still { StandsStill (part pass.old) (part pass.new) }
+    ensures quiet { SeesOthers (number pass.old) (seen pass.old) (seen pass.new) }
+    ensures call { AfterCall (want.FlushDeltas rowset) (part pass.old) (part pass.new) (seen pass.new) result }
+{
+    run_job(rt, alloc, lock, pass, &Want::FlushDeltas(rowset))
+}
+
+/// Makes one REDO file of all changes of a disk rowset, those in memory too. All files of the rowset are written anew.
+pub fn run_minor<L: Disk, D: Disk + Drop, C: Clock, R: Wait>(
+    rt: &R,
+    alloc: Global,
+    lock: &SeatLock<Engine<L, D, C>>,
+    pass: &mut Pass<Engine<L, D, C>>,
+    rowset: u64,
+) -> Result<Ran, MaintNo>
+    requires enters { MayEnter lock.now pass.old }
+    requires home { HasNoDevice (part pass.old) }
+    ensures pass { IsBack pass.old pass.new }
+    ensures still { StandsStill (part pass.old) (part pass.new) }
+    ensures quiet { SeesOthers (number pass.old) (seen pass.old) (seen pass.new) }
+    ensures call { AfterCall (want.Minor rowset) (part pass.old) (part pass.new) (seen pass.new) result }
+{
+    run_job(rt, alloc, lock, pass, &Want::Minor(rowset))
+}
+
+/// Folds all changes of a disk rowset into its base rows, those in memory too, so that at most one REDO file is left, of deletes. All files of the rowset are
+/// written anew.
+pub fn run_major<L: Disk, D: Disk + Drop, C: Clock, R: Wait>(
+    rt: &R,
+    alloc: Global,
+    lock: &SeatLock<Engine<L, D, C>>,
+    pass: &mut Pass<Engine<L, D, C>>,
+    rowset: u64,
+) -> Result<Ran, MaintNo>
+    requires enters { MayEnter lock.now pass.old }
+    requires home { HasNoDevice (part pass.old) }
+    ensures pass { IsBack pass.old pass.new }
+    ensures still { StandsStill (part pass.old) (part pass.new) }
+    ensures quiet { SeesOthers (number pass.old) (seen pass.old) (seen pass.new) }
+    ensures call { AfterCall (want.Major rowset) (part pass.old) (part pass.new) (seen pass.new) result }
+{
+    run_job(rt, alloc, lock, pass, &Want::Major(rowset))
 }
