@@ -1,5 +1,4 @@
 pub mod TableRules
-pub mod Cells
 pub mod Images
 pub mod Refusals
 pub mod Headline

@@ -5,7 +5,6 @@
 //! kt_serve, kt_engine and kt_script.
 #![tactic(auto)]
 
-mod cells;
 mod chores;
 mod kinds;
 pub mod laws;

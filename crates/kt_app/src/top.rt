@@ -20,14 +20,12 @@ ghost use Rattle.kt_disk.specs.Disk.{Files};
 ghost use Rattle.kt_engine.specs.Engines.{KeepsOthers};
 ghost use Rattle.kt_engine.specs.Logged.{HoldsRecords};
 ghost use Rattle.kt_engine.specs.Near.{IsUpTo, IsBelow};
-ghost use Rattle.kt_app.specs.Cells.{room_of};
 ghost use Rattle.kt_app.specs.Session.{IsCounted};
 ghost use Rattle.kt_seatlock.specs.Passes.{number, given, passes_of, IsVacant, IsPassOf};
 ghost use Rattle.kt_serve.specs.Scans.{IsOn};
 ghost use Rattle.kt_app.specs.Played.{IsFresh, KeptOn, RanOn};
 ghost use Rattle.kt_streams.specs.Outside.{WritesFront};
 
-use crate::cells::room_of;
 use crate::run::run_plan;
 use crate::text::Output;
 use kt_base::{Clock, NoMemory, Octets, Sink, Source};
@@ -254,22 +252,18 @@ fn run_and_write<
     }
 }
 
-// The free cells of the pool, and a lock with room for the sessions of a plan, which is made before there is a tablet to put in: so
-// want of memory for it loses no device.
+// A lock with room for the sessions of a plan, which is made before there is a tablet to put in: so want of memory for it loses no device.
 fn make_ready<L: Disk, D: Disk + Drop, C: Clock>(
     alloc: Global,
     plan: &Plan,
-    cells: u32,
-) -> Result<(u32, SeatLock<Engine<L, D, C>>, Pass<Engine<L, D, C>>), NoMemory>
+) -> Result<(SeatLock<Engine<L, D, C>>, Pass<Engine<L, D, C>>), NoMemory>
     requires few { length plan.now ≤ 64 }
-    ensures room { IfOk result (λ r. r.0 ≡ room_of cells plan.now) }
-    ensures own { IfOk result (λ r. IsPassOf r.1 r.2 × IsVacant r.2 × (given r.2 ≡ 1) × (number r.2 ≡ 0)) }
-    ensures passes { IfOk result (λ r. length plan.now < passes_of r.1) }
+    ensures own { IfOk result (λ r. IsPassOf r.0 r.1 × IsVacant r.1 × (given r.1 ≡ 1) × (number r.1 ≡ 0)) }
+    ensures passes { IfOk result (λ r. length plan.now < passes_of r.0) }
 {
-    let room = room_of(plan, cells)?;
     let passes = plan.as_slice().len() as u32 + 1;
     match SeatLock::vacant(alloc, passes) {
-        Ok((lock, pass)) => Ok((room, lock, pass)),
+        Ok(made) => Ok(made),
         Err(_) => Err(NoMemory),
     }
 }
@@ -321,10 +315,10 @@ fn open_and_run<
     ensures openable { IsTrue L.tells → CanOpen L.now L.leaves result.log }
     ensures stand { IsTrue D.tells → NamedStand D.seen D.now D.leaves result.store }
 {
-    let Ok((room, lock, pass)) = make_ready::<L, D, C>(alloc, plan, cells) else {
+    let Ok((lock, pass)) = make_ready::<L, D, C>(alloc, plan) else {
         return end_with(7, log, store, clock);
     };
-    match open_tablet(alloc, log, store, clock, schema, cells, room) {
+    match open_tablet(alloc, log, store, clock, schema, cells, cells) {
         Ok(engine) => {
             let (status, parts) = run_and_write(
                 rt, alloc, schema, plan, lock, pass, engine, sink, gate,

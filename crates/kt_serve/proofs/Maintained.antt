@@ -19,7 +19,7 @@ use Rattle.kt_engine.specs.Jobs.{upkeep_at}
 use Rattle.kt_engine.specs.Visits.{PartView, part_in, session_of, root_of}
 use Rattle.kt_serve.specs.Maintained.{StoreRests, HasDoneWith}
 use Rattle.kt_serve.specs.Answered.{IsOpen, IsAnswered}
-use Rattle.kt_serve.specs.Sessions.{IsFree, IsCommand, HasNoLog, OnRoot, AnswersOne, AfterCommand, IsGoing}
+use Rattle.kt_serve.specs.Sessions.{HasRoot, SameRoot, IsFree, IsCommand, HasNoLog, OnRoot, AnswersOne, AfterCommand, IsGoing}
 use Rattle.kt_serve.proofs.Lines.{follows_quiet, is_mine}
 use Rattle.kt_serve.proofs.Flights.{none_flies}
 use Rattle.kt_serve.proofs.Stills.{going_after}
@@ -104,3 +104,11 @@ module _ {L D C : Type 0} where
       → IfOk r (λ q. (q ≡ reply.Stopped → ⊥) → OnRoot told (λ root. IsAnswered root s i q ys))
   answered_chore told told' xs ys s i (Ok q) after free = λ ne. is_answered told told' xs ys s i q ne after (free ne)
   answered_chore told told' xs ys s i (Err lost) after free = tt
+
+  -- the store rests as it did
+  pub rests_after : (a b : Option (PartView L D C)) (i : ℕ) → IsFree a i → StoreRests a → SameRoot a b → StoreRests b
+  rests_after a b i f rests same root h =
+      let old : HasRoot f.part.root a = record { part = f.part; is = f.is; root_is = refl } in
+      let new = same f.part.root old in
+      let both : root ≡ f.part.root = sym h.root_is ∙ ap (λ (q : PartView L D C). q.root) (some_is h.part new.part (sym h.is ∙ new.is)) ∙ new.root_is in
+      ap (λ r. r.turn) both ∙ rests f.part.root old

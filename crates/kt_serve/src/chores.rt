@@ -19,7 +19,7 @@ use std::sync::Wait;
 
 /// What does maintenance for a session.
 pub trait Chores<L: Disk, D: Disk + Drop, C: Clock> {
-    /// Does all that a chore asks for, as the stores stand when it begins: a flush. It shows nothing of it to a session.
+    /// Does all that a chore asks for, as the stores stand when it begins. It shows nothing of it to a session.
     fn run<R: Wait>(
         &self,
         rt: &R,
@@ -28,7 +28,8 @@ pub trait Chores<L: Disk, D: Disk + Drop, C: Clock> {
         pass: &mut Pass<Engine<L, D, C>>,
         chore: Chore,
     ) -> Result<(), MaintNo>
-        requires flush { chore ≡ kind.Flush }
+        // Disk rowsets are not compacted together so far.
+        requires stands { chore ≢ kind.Compact }
         requires enters { MayEnter lock.now pass.old }
         requires rests { HasNoDevice (part pass.old) }
         ensures pass { IsBack pass.old pass.new }
@@ -82,7 +83,7 @@ pub fn run_chore<L: Disk, D: Disk + Drop, C: Clock, R: Wait, H: Chores<L, D, C>>
     chore: Chore,
     chores: &H,
 ) -> Result<Reply, NoMemory>
-    requires flush { chore ≡ kind.Flush }
+    requires stands { chore ≢ kind.Compact }
     requires enters { MayEnter lock.now pass.old }
     requires rests { StoreRests (part pass.old) }
     requires next { IsFree (part pass.old) index }

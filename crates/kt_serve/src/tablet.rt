@@ -44,8 +44,8 @@ impl<L: Disk, D: Disk + Drop, C: Clock> SharedTablet<L, D, C> {
     }
 
     /// A write. Its reply is the answer to the command in what the pass has then seen. The gate is called once it flies,
-    /// before its REPLICATE is durable.
-    pub fn write<R: Wait, G: Gate>(
+    /// before its REPLICATE is durable. Where it has no room the session flushes first.
+    pub fn write<R: Wait, G: Gate, H: Chores<L, D, C>>(
         &self,
         rt: &R,
         alloc: Global,
@@ -53,8 +53,10 @@ impl<L: Disk, D: Disk + Drop, C: Clock> SharedTablet<L, D, C> {
         index: u32,
         write: &Write,
         gate: &G,
+        chores: &H,
     ) -> Result<Reply, NoMemory>
         requires enters { MayEnter self.now.lock pass.old }
+        requires rests { StoreRests (part pass.old) }
         requires next { IsFree (part pass.old) index }
         requires command { IsCommand (part pass.old) (number pass.old) index (Command.Write write.now) }
         requires write { IsWrite index write.now.ops }
@@ -67,7 +69,7 @@ impl<L: Disk, D: Disk + Drop, C: Clock> SharedTablet<L, D, C> {
         ensures memory { OnErr result (IsGoing (number pass.old) (part pass.old) (part pass.new) (seen pass.old) (seen pass.new)) }
     {
         let session = pass.number();
-        match begin_write(rt, alloc, &self.lock, pass, index, write)? {
+        match begin_write(rt, alloc, &self.lock, pass, index, write, chores)? {
             Some(reply) => return Ok(reply),
             None => {}
         }
@@ -112,7 +114,7 @@ impl<L: Disk, D: Disk + Drop, C: Clock> SharedTablet<L, D, C> {
         chore: Chore,
         chores: &H,
     ) -> Result<Reply, NoMemory>
-        requires flush { chore ≡ kind.Flush }
+        requires stands { chore ≢ kind.Compact }
         requires enters { MayEnter self.now.lock pass.old }
         requires rests { StoreRests (part pass.old) }
         requires next { IsFree (part pass.old) index }
@@ -171,7 +173,7 @@ impl<L: Disk, D: Disk + Drop, C: Clock> SharedTablet<L, D, C> {
         ensures memory { OnErr result (LacksReply (number pass.old) index (part pass.old) (part pass.new) (seen pass.old) (seen pass.new)) }
     {
         match command {
-            Command::Write(write) => self.write(rt, alloc, pass, index, write, gate),
+            Command::Write(write) => { self.write(rt, alloc, pass, index, write, gate, chores) }
             Command::Mark(to) => self.mark(rt, pass, index, *to),
             Command::Scan(scan) => self.scan(rt, alloc, schema, pass, index, scan),
             Command::Chore(chore) => self.chore(rt, alloc, pass, index, *chore, chores),

@@ -1,14 +1,17 @@
 //! Single visits of a pass.
-ghost use Rattle.std.specs.Prelude.{◌≡◌, ◌≢◌, ◌<◌, ◌+◌, ◌^◌, ℕ, List, Ok, Some, IfOk, OnOk, OnErr};
+ghost use Rattle.std.specs.Prelude.{◌≡◌, ◌≢◌, ◌<◌, ◌+◌, ◌^◌, ℕ, List, Ok, Err, Some, IfOk, OnOk, OnErr, true};
+ghost use Rattle.kt_base.specs.declared.chore.Chore.TheVariants as kind;
 ghost use Rattle.kt_history.specs.declared.change.Outcome.{Outcome};
 ghost use Rattle.kt_history.specs.declared.command.Command.{Command};
 ghost use Rattle.kt_seatlock.specs.Passes.{number, seen, part, MayEnter, IsBack};
 ghost use Rattle.kt_serve.specs.Answered.{IsOpen};
-ghost use Rattle.kt_serve.specs.Sessions.{IsFree, IsCommand, IsWrite, SameRoot, OnRoot, AfterBegin, AfterBeginning, AfterCommand, IsGoing, HasNoLog};
+ghost use Rattle.kt_serve.specs.Maintained.{StoreRests};
+ghost use Rattle.kt_serve.specs.Sessions.{IsFree, IsCommand, IsWrite, SameRoot, OnRoot, AfterBegin, AfterBeginning, AfterCommand, IsGoing, HasNoLog, has_stop};
 
-use kt_base::{Clock, NoMemory};
+use crate::chores::Chores;
+use kt_base::{Chore, Clock, NoMemory};
 use kt_disk::Disk;
-use kt_engine::{BeginNo, Draft, Engine, LookNo};
+use kt_engine::{BeginNo, Draft, Engine, LookNo, MaintNo};
 use kt_history::{Reply, Write};
 use kt_seatlock::{Pass, SeatLock};
 use std::alloc::Global;
@@ -42,17 +45,93 @@ pub fn begin_once<L: Disk, D: Disk + Drop, C: Clock, R: Wait>(
     begun
 }
 
+// Runs a chore for a session whose write has no room.
+fn run_for_room<L: Disk, D: Disk + Drop, C: Clock, R: Wait, H: Chores<L, D, C>>(
+    rt: &R,
+    alloc: Global,
+    lock: &SeatLock<Engine<L, D, C>>,
+    pass: &mut Pass<Engine<L, D, C>>,
+    index: u32,
+    chores: &H,
+    chore: Chore,
+) -> Result<(), MaintNo>
+    requires stands { chore ≢ kind.Compact }
+    requires enters { MayEnter lock.now pass.old }
+    requires rests { StoreRests (part pass.old) }
+    requires next { IsFree (part pass.old) index }
+    ensures pass { IsBack pass.old pass.new }
+    ensures rests { StoreRests (part pass.new) }
+    ensures next { IsFree (part pass.new) index }
+    ensures going { IsGoing (number pass.old) (part pass.old) (part pass.new) (seen pass.old) (seen pass.new) }
+    ensures stopped { result ≡ Err MaintNo.Stopped → has_stop (seen pass.new) ≡ true }
+{
+    chores.run(rt, alloc, lock, pass, chore)
+}
+
+// Gives cells back to the pool: a flush, and a flush of the changes of each disk rowset.
+fn make_room<L: Disk, D: Disk + Drop, C: Clock, R: Wait, H: Chores<L, D, C>>(
+    rt: &R,
+    alloc: Global,
+    lock: &SeatLock<Engine<L, D, C>>,
+    pass: &mut Pass<Engine<L, D, C>>,
+    index: u32,
+    chores: &H,
+) -> Result<(), MaintNo>
+    requires enters { MayEnter lock.now pass.old }
+    requires rests { StoreRests (part pass.old) }
+    requires next { IsFree (part pass.old) index }
+    ensures pass { IsBack pass.old pass.new }
+    ensures next { IsFree (part pass.new) index }
+    ensures going { IsGoing (number pass.old) (part pass.old) (part pass.new) (seen pass.old) (seen pass.new) }
+    ensures stopped { result ≡ Err MaintNo.Stopped → has_stop (seen pass.new) ≡ true }
+{
+    let rows = run_for_room(rt, alloc, lock, pass, index, chores, Chore::Flush);
+    match rows {
+        Ok(()) => run_for_room(rt, alloc, lock, pass, index, chores, Chore::FlushDeltas),
+        Err(no) => Err(no),
+    }
+}
+
+// What a session does whose write has no room: it flushes, and where that was tried just before it waits for the end of another's write. It tells whether it flushed.
+fn seek_room<L: Disk, D: Disk + Drop, C: Clock, R: Wait, H: Chores<L, D, C>>(
+    rt: &R,
+    alloc: Global,
+    lock: &SeatLock<Engine<L, D, C>>,
+    pass: &mut Pass<Engine<L, D, C>>,
+    index: u32,
+    chores: &H,
+    flushed: bool,
+) -> Result<bool, MaintNo>
+    requires enters { MayEnter lock.now pass.old }
+    requires rests { StoreRests (part pass.old) }
+    requires next { IsFree (part pass.old) index }
+    ensures pass { IsBack pass.old pass.new }
+    ensures next { IsFree (part pass.new) index }
+    ensures going { IsGoing (number pass.old) (part pass.old) (part pass.new) (seen pass.old) (seen pass.new) }
+    ensures stopped { result ≡ Err MaintNo.Stopped → has_stop (seen pass.new) ≡ true }
+{
+    if flushed {
+        lock.rest(rt, pass);
+        Ok(false)
+    } else {
+        make_room(rt, alloc, lock, pass, index, chores)?;
+        Ok(true)
+    }
+}
+
 /// Begins the next command of a session, a write, as soon as its keys and its room are free. It is made ready once,
-/// before the first visit.
-pub fn begin_write<L: Disk, D: Disk + Drop, C: Clock, R: Wait>(
+/// before the first visit. Where it has no room the session flushes, and only where that gave none it waits.
+pub fn begin_write<L: Disk, D: Disk + Drop, C: Clock, R: Wait, H: Chores<L, D, C>>(
     rt: &R,
     alloc: Global,
     lock: &SeatLock<Engine<L, D, C>>,
     pass: &mut Pass<Engine<L, D, C>>,
     index: u32,
     write: &Write,
+    chores: &H,
 ) -> Result<Option<Reply>, NoMemory>
     requires enters { MayEnter lock.now pass.old }
+    requires rests { StoreRests (part pass.old) }
     requires next { IsFree (part pass.old) index }
     requires command { IsCommand (part pass.old) (number pass.old) index (Command.Write write.now) }
     requires write { IsWrite index write.now.ops }
@@ -65,14 +144,20 @@ pub fn begin_write<L: Disk, D: Disk + Drop, C: Clock, R: Wait>(
     let Ok(mut draft) = Draft::of(alloc, write) else {
         return Err(NoMemory);
     };
+    let mut flushed = false;
     for _ in rt.forever() {
         match begin_once(rt, alloc, lock, pass, index, &mut draft) {
             Ok(_) => return Ok(None),
             Err(BeginNo::Stopped) => return Ok(Some(Reply::Stopped)),
             Err(BeginNo::Large { need }) => return Ok(Some(Reply::Large { n: need })),
             Err(BeginNo::Wait { ts: _ }) => lock.rest(rt, pass),
-            // Until a flush is there, room comes back with the end of another's write alone.
-            Err(BeginNo::Room { need: _, free: _ }) => lock.rest(rt, pass),
+            Err(BeginNo::Room { need: _, free: _ }) => {
+                match seek_room(rt, alloc, lock, pass, index, chores, flushed) {
+                    Ok(made) => flushed = made,
+                    Err(MaintNo::Stopped) => return Ok(Some(Reply::Stopped)),
+                    Err(MaintNo::Memory) => return Err(NoMemory),
+                }
+            }
             Err(BeginNo::Memory) => return Err(NoMemory),
         }
     }

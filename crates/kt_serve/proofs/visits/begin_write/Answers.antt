@@ -4,6 +4,8 @@ use Rattle.kt_history.specs.declared.reply.Reply.TheVariants as reply
 use Rattle.kt_seatlock.specs.Passes.{number, part, seen}
 use Rattle.kt_serve.specs.Sessions.{IsCommand, IsWrite}
 use Rattle.kt_serve.proofs.Commands.{command_after, free_log, free_rests, going_rests, going_on, aloft_of, going_answers}
+use Rattle.kt_serve.proofs.Maintained.{rests_after}
+use Rattle.kt_serve.proofs.Stills.{going_after}
 use Rattle.kt_serve.proofs.Open.{open_before}
 use Rattle.kt_serve.proofs.visits.begin_write.Goals as goal
 
@@ -39,13 +41,11 @@ loop-preserved-in-Err-Wait g c = let b = rw c.in-Err-Wait.field-0-is at c.in-Err
   c.in-Err-Wait.ensures.kept ∙ c.loop.invariant.3,
 )
 
-pub loop-preserved : goal.loop-preserved
-loop-preserved g c = let b = rw c.in-Err-Room.field-0-is at c.in-Err-Room.ensures.begun in (
-  search rules,
-  free_rests _ _ _ (ap (λ m. m.0.part) c.rest-in-Err-Room.ensures.2) b.0,
-  going_rests _ _ _ _ _ _ _ (ap (λ m. m.0.part) c.rest-in-Err-Room.ensures.2) (ap (λ m. m.0.seen) c.rest-in-Err-Room.ensures.2) (going_on _ _ _ _ _ _ _ _ c.loop.invariant.0.0.1 c.loop.invariant.2 c.begin_once.ensures.root b.1),
-  c.in-Err-Room.ensures.kept ∙ c.loop.invariant.3,
-)
+pub seek_room-requires-clause-rests : goal.seek_room-requires-clause-rests
+seek_room-requires-clause-rests g c =
+    let going = going_on (number c.args.pass.now) (number c.loop.pass) (part c.args.pass.now) (part c.loop.pass) (part c.begin_once.new.pass) (seen c.args.pass.now) (seen c.loop.pass) (seen c.begin_once.new.pass) c.loop.invariant.0.0.1 c.loop.invariant.2 c.begin_once.ensures.root
+    (rw c.in-Err-Room.field-0-is at c.in-Err-Room.ensures.begun).1 in
+    rests_after (part c.args.pass.now) (part c.begin_once.new.pass) c.args.index c.requires.next c.requires.rests going.root
 
 pub returns-in-Err-Memory-clause-home : goal.returns-in-Err-Memory-clause-home
 returns-in-Err-Memory-clause-home g c = let b = rw c.in-Err-Memory.field-0-is at c.in-Err-Memory.ensures.begun in free_log _ _ b.0
@@ -61,3 +61,26 @@ returns-in-Err-Stopped-clause-open g c = open_before (number c.args.pass.now) (n
 
 pub returns-in-Err-Large-clause-open : goal.returns-in-Err-Large-clause-open
 returns-in-Err-Large-clause-open g c = open_before (number c.args.pass.now) (number c.loop.pass) c.args.index (part c.args.pass.now) (part c.loop.pass) (seen c.args.pass.now) (seen c.loop.pass) c.loop.invariant.0.0.1 c.loop.invariant.2 c.begin_once.ensures.open
+
+pub loop-preserved : goal.loop-preserved
+loop-preserved g c =
+    let b = rw c.in-Err-Room.field-0-is at c.in-Err-Room.ensures.begun in
+    let here = going_on (number c.args.pass.now) (number c.loop.pass) (part c.args.pass.now) (part c.loop.pass) (part c.begin_once.new.pass) (seen c.args.pass.now) (seen c.loop.pass) (seen c.begin_once.new.pass) c.loop.invariant.0.0.1 c.loop.invariant.2 c.begin_once.ensures.root b.1 in
+    let there = going_after (number c.args.pass.now) (number c.begin_once.new.pass) (part c.args.pass.now) (part c.begin_once.new.pass) (part c.seek_room.new.pass) (seen c.args.pass.now) (seen c.begin_once.new.pass) (seen c.seek_room.new.pass)
+    (c.begin_once.ensures.pass.0.1 ∙ c.loop.invariant.0.0.1) here c.seek_room.ensures.going in
+    (search rules, c.seek_room.ensures.next, there, c.in-Err-Room.ensures.kept ∙ c.loop.invariant.3)
+
+pub returns-in-Err-Stopped-seek_room-clause-begun : goal.returns-in-Err-Stopped-seek_room-clause-begun
+returns-in-Err-Stopped-seek_room-clause-begun g c =
+    let b = rw c.in-Err-Room.field-0-is at c.in-Err-Room.ensures.begun in
+    let here = going_on (number c.args.pass.now) (number c.loop.pass) (part c.args.pass.now) (part c.loop.pass) (part c.begin_once.new.pass) (seen c.args.pass.now) (seen c.loop.pass) (seen c.begin_once.new.pass) c.loop.invariant.0.0.1 c.loop.invariant.2 c.begin_once.ensures.root b.1 in
+    let there = going_after (number c.args.pass.now) (number c.begin_once.new.pass) (part c.args.pass.now) (part c.begin_once.new.pass) (part c.seek_room.new.pass) (seen c.args.pass.now) (seen c.begin_once.new.pass) (seen c.seek_room.new.pass)
+    (c.begin_once.ensures.pass.0.1 ∙ c.loop.invariant.0.0.1) here c.seek_room.ensures.going in
+    ((c.seek_room.ensures.stopped (search rules), there.quiet), there.root)
+
+pub returns-in-Err-Memory-seek_room-clause-begun : goal.returns-in-Err-Memory-seek_room-clause-begun
+returns-in-Err-Memory-seek_room-clause-begun g c =
+    let b = rw c.in-Err-Room.field-0-is at c.in-Err-Room.ensures.begun in
+    let here = going_on (number c.args.pass.now) (number c.loop.pass) (part c.args.pass.now) (part c.loop.pass) (part c.begin_once.new.pass) (seen c.args.pass.now) (seen c.loop.pass) (seen c.begin_once.new.pass) c.loop.invariant.0.0.1 c.loop.invariant.2 c.begin_once.ensures.root b.1 in
+    going_after (number c.args.pass.now) (number c.begin_once.new.pass) (part c.args.pass.now) (part c.begin_once.new.pass) (part c.seek_room.new.pass) (seen c.args.pass.now) (seen c.begin_once.new.pass) (seen c.seek_room.new.pass)
+    (c.begin_once.ensures.pass.0.1 ∙ c.loop.invariant.0.0.1) here c.seek_room.ensures.going
