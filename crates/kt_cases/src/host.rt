@@ -22,64 +22,56 @@ fn disk_in<'a>(rt: &'a HostRuntime, folder: &str) -> io::Result<DirDisk<'a, Host
     Ok(DirDisk::new(rt.alloc(), rt, Some(taken)))
 }
 
-// Writes two files, in a folder that nobody else can take meanwhile.
-fn write_some(rt: &HostRuntime, folder: &str) -> io::Result<[bool; 7]> {
-    let mut disk = disk_in(rt, folder)?;
-    Ok([
-        disk.len(1).is_ok(),
-        disk.write_at(1, 0, b"abcd").is_ok(),
-        disk.write_at(1, 3, b"xy").is_ok(),
-        disk.write_at(12, 0, b"z").is_ok(),
-        disk.sync(1).is_ok(),
-        disk.sync(12).is_ok(),
-        disk_in(rt, folder).is_err(),
-    ])
+// Writes two files. Tells whether all was done.
+fn write_some(disk: &mut DirDisk<HostRuntime>) -> bool {
+    disk.len(1) == Ok(0)
+        && disk.write_at(1, 0, b"abcd").is_ok()
+        && disk.write_at(1, 3, b"xy").is_ok()
+        && disk.write_at(12, 0, b"z").is_ok()
+        && disk.sync(1).is_ok()
+        && disk.sync(12).is_ok()
 }
 
-// What is found in the files, and how many there are.
-fn found(rt: &HostRuntime, disk: &mut DirDisk<HostRuntime>) -> ([u8; 5], usize) {
+// Whether the two files are found.
+fn is_found(rt: &HostRuntime, disk: &mut DirDisk<HostRuntime>) -> bool {
     let mut bytes = [0u8; 5];
-    let _done = disk.read(1, 0, &mut bytes);
+    let is_read = disk.read(1, 0, &mut bytes).is_ok() && bytes == *b"abcxy";
     match disk.files(rt.alloc()) {
-        Ok(files) => (bytes, files.as_slice().len()),
-        Err(_) => (bytes, 0),
+        Ok(files) => is_read && files.as_slice().len() == 2,
+        Err(_) => false,
     }
 }
 
-// Cuts the first file and removes the second, once and again. Tells their lengths then, and whether all was done.
-fn cut_and_remove(disk: &mut DirDisk<HostRuntime>) -> (u64, u64, [bool; 4]) {
-    let done = [
-        disk.cut(1, 2).is_ok(),
-        disk.remove(12).is_ok(),
-        disk.remove(12).is_ok(),
-        disk.sync(12).is_ok(),
-    ];
-    (disk.len(1).unwrap_or(9), disk.len(12).unwrap_or(9), done)
+// Cuts the first file and removes the second, once and again. Tells whether all was done.
+fn cut_and_remove(disk: &mut DirDisk<HostRuntime>) -> bool {
+    disk.cut(1, 2).is_ok()
+        && disk.remove(12).is_ok()
+        && disk.remove(12).is_ok()
+        && disk.sync(12).is_ok()
+        && disk.len(1) == Ok(2)
+        && disk.len(12) == Ok(0)
+}
+
+// Writes a folder that nobody else can take meanwhile, opens it again and empties it. Tells whether it kept what was written.
+fn keeps(rt: &HostRuntime, folder: &str) -> io::Result<bool> {
+    let mut first = disk_in(rt, folder)?;
+    let written = write_some(&mut first) && disk_in(rt, folder).is_err();
+    drop(first);
+    let mut again = disk_in(rt, folder)?;
+    Ok(written && is_found(rt, &mut again) && cut_and_remove(&mut again))
+}
+
+// The same in a folder of its own, which is removed.
+fn a_folder_keeps(rt: &HostRuntime) -> io::Result<bool> {
+    let folder = new_folder(rt, "folder")?;
+    let kept = keeps(rt, folder.as_str())?;
+    remove_dir_all(rt, folder.as_str())?;
+    Ok(kept)
 }
 
 #[test]
-fn a_folder_keeps_what_was_written_and_is_taken_once(rt: HostRuntime) -> io::Result<()> {
-    let folder = new_folder(&rt, "folder")?;
-    assert_eq!(rt; write_some(&rt, folder.as_str())?, [true; 7]);
-    let mut again = disk_in(&rt, folder.as_str())?;
-    assert_eq!(rt; found(&rt, &mut again), (*b"abcxy", 2));
-    assert_eq!(rt; cut_and_remove(&mut again), (2, 0, [true; 4]));
-    remove_dir_all(&rt, folder.as_str())
-}
-
-#[test]
-fn without_a_folder_each_call_fails(rt: HostRuntime) {
-    let mut disk = DirDisk::new(rt.alloc(), &rt, None);
-    let told = [
-        disk.files(rt.alloc()).is_ok(),
-        disk.len(1).is_ok(),
-        disk.read(1, 0, &mut []).is_ok(),
-        disk.write_at(1, 0, b"a").is_ok(),
-        disk.cut(1, 0).is_ok(),
-        disk.sync(1).is_ok(),
-        disk.remove(1).is_ok(),
-    ];
-    assert_eq!(rt; told, [false; 7]);
+fn a_folder_keeps_what_was_written_and_is_taken_once(rt: HostRuntime) {
+    assert!(rt; matches!(a_folder_keeps(&rt), Ok(true)));
 }
 
 // A stream that signals interrupt so often. It then takes or gives one byte, and fails from then on.
@@ -183,12 +175,19 @@ const READINGS: [(u64, u32, u64); 5] = [
     (1_609_459_201, 7, 31_622_401_000_007),
 ];
 
+// Whether each reading is as it is to be.
+fn all_are_read() -> bool {
+    for (secs, micros, reading) in READINGS {
+        if reading_at(secs, micros) != reading {
+            return false;
+        }
+    }
+    MachineClock::new(&Stands(None)).now() == 0
+}
+
 #[test]
 fn the_clock_counts_microseconds_from_2020(rt: HostRuntime) {
-    for (secs, micros, reading) in READINGS {
-        assert_eq!(rt; reading_at(secs, micros), reading);
-    }
-    assert_eq!(rt; MachineClock::new(&Stands(None)).now(), 0);
+    assert!(rt; all_are_read());
     // The machine's own stands between 2025 and 2055.
     let reading = MachineClock::new(&rt).now();
     assert!(rt; reading > 157_766_400_000_000 && reading < 1 << 50);

@@ -16,8 +16,4 @@ mod pool;
 #[cfg(test)]
 mod ranges;
 #[cfg(test)]
-mod scan;
-#[cfg(test)]
-mod supers;
-#[cfg(test)]
 mod tree;

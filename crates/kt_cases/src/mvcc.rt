@@ -8,7 +8,6 @@ use kt_cells::writing::put_cell_list;
 use kt_history::{OpKind, OpList, OpRef};
 use kt_mvcc::{Flight, KeyList};
 use std::alloc::Global;
-use std::test::Fail;
 
 fn drawn(alloc: Global, c: u64, m: u64) -> u64
     requires { c < 2 ^ 64 - 1 }
@@ -28,12 +27,18 @@ const DRAWN: [(u64, u64, u64); 7] = [
     (u64::MAX - 1, 1, u64::MAX),
 ];
 
+fn all_are_drawn(alloc: Global) -> bool {
+    for (last, reading, wanted) in DRAWN {
+        if last >= u64::MAX || drawn(alloc, last, reading) != wanted {
+            return false;
+        }
+    }
+    true
+}
+
 #[test]
 fn readings_of_the_clock(rt: HostRuntime) {
-    for (last, reading, wanted) in DRAWN {
-        assert!(rt; last < u64::MAX);
-        assert_eq!(rt; drawn(rt.alloc(), last, reading), wanted);
-    }
+    assert!(rt; all_are_drawn(rt.alloc()));
 }
 
 // No cells, spelled behind their count.
@@ -61,15 +66,20 @@ fn told(flight: &Flight, keys: &KeyList) -> [u64; 3] {
     [held, least, flight.clean()]
 }
 
-#[test]
-fn a_key_is_held_while_its_write_flies(rt: HostRuntime) -> Result<(), Fail> {
-    let alloc = rt.alloc();
-    let keys = key(alloc)?;
+// What is told while a write flies, and once it has ended.
+fn before_and_after(alloc: Global) -> Option<[[u64; 3]; 2]> {
+    let keys = key(alloc).ok()?;
+    let held = key(alloc).ok()?;
     let mut flight = Flight::new(alloc, 0, 0);
-    flight.reserve(alloc, 1)?;
-    flight.begin(alloc, 1, key(alloc)?, 1)?;
-    assert_eq!(rt; told(&flight, &keys), [4096, 4096, 4095]);
+    flight.reserve(alloc, 1).ok()?;
+    flight.begin(alloc, 1, held, 1).ok()?;
+    let flying = told(&flight, &keys);
     flight.end(1);
-    assert_eq!(rt; told(&flight, &keys), [0, 0, 4096]);
-    Ok(())
+    Some([flying, told(&flight, &keys)])
+}
+
+#[test]
+fn a_key_is_held_while_its_write_flies(rt: HostRuntime) {
+    let wanted = [[4096, 4096, 4095], [0, 0, 4096]];
+    assert!(rt; before_and_after(rt.alloc()) == Some(wanted));
 }

@@ -5,7 +5,6 @@ ghost use Rattle.kt_policy.specs.Gain.{AreCandidates, is_known};
 use kt_base::NoMemory;
 use kt_policy::{Candidate, CandidateList, IdList, Part, Picked, Sums, Table, accepts, best};
 use std::alloc::Global;
-use std::test::Fail;
 
 fn is_known(list: &[Candidate], rowset: u64) -> bool
     ensures { result ≡ is_known list.now rowset }
@@ -49,58 +48,70 @@ fn list_of(alloc: Global, ranks: &[(u32, u32, u32)]) -> Result<CandidateList, No
 
 const FOUR: [(u32, u32, u32); 4] = [(0, 3, 40), (1, 4, 60), (2, 5, 50), (6, 7, 1)];
 
-#[test]
-fn a_pair_within_the_budget_is_picked(rt: HostRuntime) -> Result<(), Fail> {
-    let list = list_of(rt.alloc(), &FOUR)?;
-    assert!(rt; are_candidates(list.as_slice()));
-    let picked = best(rt.alloc(), &list, 100)?.ok_or("a set")?;
-    assert_eq!(rt; picked.set.as_slice(), [1, 2].as_slice());
-    assert_eq!(rt; picked.gain, 3);
-    assert!(rt; accepts(&list, 100, &picked));
+// Whether a set that was picked is the first two, which share three ranks, and stands by its own table alone.
+fn is_pair(list: &CandidateList, picked: Picked) -> bool
+    requires { AreCandidates list.now }
+{
+    let is_it = picked.set.as_slice() == [1, 2].as_slice() && picked.gain == 3;
+    let stands = accepts(list, 100, &picked);
+    let Some(table) = lowered(picked.table) else {
+        return false;
+    };
     let lower = Picked {
         set: IdList::of(picked.set.into_vec()),
         gain: picked.gain,
-        table: lowered(picked.table)?,
+        table,
     };
-    assert!(rt; !accepts(&list, 100, &lower));
-    Ok(())
+    is_it && stands && !accepts(list, 100, &lower)
 }
 
-// The table with its last sum lowered by one.
-fn lowered(table: Table) -> Result<Table, Fail> {
-    let mut parts = table.into_vec();
-    let mut rows = parts.pop().ok_or("a part")?.into_vec();
-    let mut sums = rows.pop().ok_or("a row")?.into_vec();
-    let sum = sums.pop().ok_or("a sum")?;
-    sums.push(sum.saturating_sub(1))?;
-    rows.push(Sums::of(sums))?;
-    parts.push(Part::of(rows))?;
-    Ok(Table::of(parts))
-}
-
-// What a best set gains, and 0 where there is none.
-fn gain_of(alloc: Global, list: &CandidateList, budget: u32) -> Result<u64, NoMemory>
-    requires { AreCandidates list.now }
-{
-    match best(alloc, list, budget)? {
-        Some(picked) => Ok(picked.gain),
-        None => Ok(0),
+// Whether that is so of the best set of some.
+fn picks_pair(alloc: Global) -> bool {
+    let Ok(list) = list_of(alloc, &FOUR) else {
+        return false;
+    };
+    if !are_candidates(list.as_slice()) {
+        return false;
+    }
+    match best(alloc, &list, 100) {
+        Ok(Some(picked)) => is_pair(&list, picked),
+        _ => false,
     }
 }
 
 #[test]
-fn a_best_set_gains_the_ranks_that_its_members_share(rt: HostRuntime) -> Result<(), Fail> {
-    let table: [(&[(u32, u32, u32)], u64); 3] = [
-        // One of two pairs.
-        (&[(0, 3, 40), (1, 4, 60), (2, 5, 50)], 3),
-        // Rowsets apart.
-        (&[(0, 1, 1), (2, 3, 1)], 0),
-        (&[], 0),
-    ];
-    for (ranks, gain) in table {
-        let list = list_of(rt.alloc(), ranks)?;
-        assert!(rt; are_candidates(list.as_slice()));
-        assert_eq!(rt; gain_of(rt.alloc(), &list, 128)?, gain);
+fn a_pair_within_the_budget_is_picked(rt: HostRuntime) {
+    assert!(rt; picks_pair(rt.alloc()));
+}
+
+// The table with its last sum lowered by one.
+fn lowered(table: Table) -> Option<Table> {
+    let mut parts = table.into_vec();
+    let mut rows = parts.pop()?.into_vec();
+    let mut sums = rows.pop()?.into_vec();
+    let sum = sums.pop()?;
+    sums.push(sum.saturating_sub(1)).ok()?;
+    rows.push(Sums::of(sums)).ok()?;
+    parts.push(Part::of(rows)).ok()?;
+    Some(Table::of(parts))
+}
+
+// What a best set of some gains, and 0 where there is none.
+fn gain_of(alloc: Global, ranks: &[(u32, u32, u32)]) -> Option<u64> {
+    let list = list_of(alloc, ranks).ok()?;
+    if !are_candidates(list.as_slice()) {
+        return None;
     }
-    Ok(())
+    match best(alloc, &list, 128).ok()? {
+        Some(picked) => Some(picked.gain),
+        None => Some(0),
+    }
+}
+
+#[test]
+fn a_best_set_gains_the_ranks_that_its_members_share(rt: HostRuntime) {
+    // One of two pairs, rowsets apart, and none.
+    assert!(rt; gain_of(rt.alloc(), &FOUR[..3]) == Some(3));
+    assert!(rt; gain_of(rt.alloc(), &[(0, 1, 1), (2, 3, 1)]) == Some(0));
+    assert!(rt; gain_of(rt.alloc(), &[]) == Some(0));
 }

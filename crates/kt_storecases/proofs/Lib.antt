@@ -1,2 +1,1 @@
 mod OneKey
-mod Written

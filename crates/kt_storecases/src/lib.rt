@@ -1,33 +1,14 @@
-//! Worked cases of what holds the rows of a tablet: records of files, changes in memory, MemRowSets, disk rowsets, the stores of a
-//! tablet, and what maintenance writes. Tests alone: they call what each crate offers to all others.
+//! Worked cases of what holds the rows of a tablet, where a caller alone can ask for them: pages of a disk rowset, several MemRowSets
+//! side by side, and what a merge writes of several disk rowsets. Tests alone: they call what each crate offers to all others. What a
+//! run shows of rows, of files and of maintenance stands in `tests/rowsets.py`.
 #![tactic(auto)]
 
 #[cfg(test)]
-mod cells;
-#[cfg(test)]
-mod deltamem;
-#[cfg(test)]
 mod dice;
-#[cfg(test)]
-mod files;
-#[cfg(test)]
-mod flushing;
 #[cfg(test)]
 mod histories;
 #[cfg(test)]
 mod inputs;
-#[cfg(test)]
-mod life;
-#[cfg(test)]
-mod memrowset;
-#[cfg(test)]
-mod merging;
-#[cfg(test)]
-mod named;
-#[cfg(test)]
-mod reading;
-#[cfg(test)]
-mod records;
 #[cfg(test)]
 mod rowset;
 #[cfg(test)]

@@ -1,79 +1,60 @@
-//! A disk rowset with a REDO record of one of its rows, read as plain data and by a scan.
-use crate::reading::{number_in, updated};
-use kt_base::{Cell, CellRef, NoMemory};
-use kt_diskrowset::{DiskRowSet, Page, RowSetData, RowSetView};
-use kt_history::View;
-use kt_pool::Pool;
-use kt_views::{StoreRows, Table, ViewStore};
+//! Pages of a disk rowset with a REDO record of one of its rows.
+ghost use Rattle.std.specs.Prelude.{◌≡◌, [], IfOk};
+ghost use Rattle.kt_diskrowset.specs.Data.{files_in};
+ghost use Rattle.kt_diskrowset.specs.Rows.{UndosLeadBack};
+
+use kt_base::{Cell, CellRef, Cells, NoMemory};
+use kt_diskrowset::{BaseHeld, FileHeld, FileLists, Page, RowSetData, RowSetView};
+use kt_history::DeltaList;
 use std::alloc::Global;
+use std::sync::Arc;
 use std::test::Fail;
 
-/// A key, or none for the least key, and the key above it, if there is one.
-const KEYS: [(Option<&[u8]>, Option<&[u8]>); 4] = [
-    (None, Some(b"a")),
-    (Some(b"a"), Some(b"b")),
-    (Some(b"ab"), Some(b"b")),
-    (Some(b"b"), None),
+/// The keys a and b, and one column, of 5 and null.
+const BASE: [u8; 54] = [
+    0x4b, 0x54, 0x42, 0x31, 2, 0, 0, 0, 4, 0x12, 0, 0, 0, 0, 0, 0, 0, 1, 0, 0, 0, 0x61, 0, 0, 0, 0,
+    1, 0, 0, 0, 0x62, 1, 0, 2, 0, 2, 1, 1, 2, 0, 0, 0, 2, 5, 3, 0, 0, 0, 0x54, 0xa1, 0x2a, 1, 0,
+    0x61,
 ];
 
-/// Whether the key above another one, or the least one, is this.
-fn is_next(
-    alloc: Global,
-    rowset: &RowSetData,
-    after: Option<&[u8]>,
-    key: Option<&[u8]>,
-) -> Result<bool, NoMemory> {
-    Ok(match rowset.key_after(alloc, after)? {
-        Some(found) => key == Some(found.as_slice()),
-        None => key.is_none(),
+/// Of row 0 a REDO record of 4096: an update of the column to 6.
+const REDO: [u8; 35] = [
+    0x4b, 0x54, 0x44, 0x31, 1, 1, 0, 0, 0, 0, 0, 0, 0, 0, 0x10, 0, 0, 0, 0, 0, 0, 2, 1, 0, 2, 0, 2,
+    6, 0, 0, 0, 0, 0, 0, 0,
+];
+
+fn base(alloc: Global) -> Result<BaseHeld, Fail> {
+    let set = kt_baseset::decode(alloc, &BASE)?;
+    Ok(BaseHeld {
+        file: 1,
+        len: 54,
+        set: Arc::new(alloc, set)?,
     })
 }
 
-#[test]
-fn plain_data_tells_rows_and_keys(rt: HostRuntime) -> Result<(), Fail> {
-    let alloc = rt.alloc();
-    let rowset = updated(alloc)?;
-    let row = rowset.row_at(alloc, b"a", 4096)?;
-    assert!(rt; number_in(row.as_ref()) == Some(Some(6)));
-    assert!(rt; rowset.row_at(alloc, b"c", 4096)?.is_none());
-    for (after, key) in KEYS {
-        assert!(rt; is_next(alloc, &rowset, after, key)?);
-    }
-    Ok(())
+fn redo(alloc: Global) -> Result<FileLists, Fail> {
+    let deltas = kt_deltafile::decode(alloc, &REDO, 2)?;
+    let mut files = Vec::new(alloc);
+    files.push(FileHeld {
+        file: 2,
+        len: 35,
+        deltas: Arc::new(alloc, deltas)?,
+    })?;
+    Ok(FileLists::of(files))
 }
 
-/// All rows of a store at a time, told by what a scan reads of it.
-fn table_of<S: ViewStore>(alloc: Global, store: &S, pool: &Pool, t: u64) -> Result<Table, NoMemory>
-    requires { S.stands store.now pool.now }
+/// The base rows with the REDO record.
+fn updated(alloc: Global) -> Result<RowSetData, Fail>
+    ensures lead { IfOk result (λ d. UndosLeadBack (files_in d)) }
+    ensures none { IfOk result (λ d. d.fresh ≡ []) }
 {
-    let read = store.read(alloc, pool, t)?;
-    read.table(alloc, t)
-}
-
-/// Whether this is the key above another one, or the least one, and its number.
-fn goes_on(
-    alloc: Global,
-    table: &Table,
-    after: Option<&[u8]>,
-    key: &[u8],
-    number: Option<i64>,
-) -> Result<bool, NoMemory> {
-    let mut hint = 0;
-    let row = table.row_at(alloc, key, 0)?;
-    Ok(table.next_key(after, &mut hint) == Some(key) && number_in(row.as_ref()) == Some(number))
-}
-
-#[test]
-fn what_a_scan_reads_tells_all_rows(rt: HostRuntime) -> Result<(), Fail> {
-    let alloc = rt.alloc();
-    let rowset = DiskRowSet::of(alloc, updated(alloc)?, 1);
-    let pool = Pool::new(alloc, 64)?;
-    let early = table_of(alloc, &rowset, &pool, 4095)?;
-    assert!(rt; goes_on(alloc, &early, None, b"a", Some(5))?);
-    let late = table_of(alloc, &rowset, &pool, 4096)?;
-    assert!(rt; goes_on(alloc, &late, None, b"a", Some(6))?);
-    assert!(rt; goes_on(alloc, &late, Some(b"a"), b"b", None)?);
-    Ok(())
+    Ok(RowSetData {
+        number: 7,
+        base: base(alloc)?,
+        undo: FileLists::of(Vec::new(alloc)),
+        redo: redo(alloc)?,
+        fresh: DeltaList::of(Vec::new(alloc)),
+    })
 }
 
 /// The number at a place of a row of a page, if one stands there.
@@ -101,17 +82,47 @@ fn numbers_in(page: &Page) -> [Option<i64>; 4] {
     ]
 }
 
+/// The column, and one that no row has.
+fn columns(alloc: Global) -> Result<Cells, NoMemory> {
+    let mut columns = Vec::new(alloc);
+    columns.push((2, Cell::Null))?;
+    columns.push((3, Cell::Int(1)))?;
+    Ok(Cells::of(columns))
+}
+
+/// Whether the page above a key has so many rows, with these numbers.
+fn is_page(
+    alloc: Global,
+    rowset: &RowSetView,
+    columns: &Cells,
+    after: Option<&[u8]>,
+    rows: usize,
+    numbers: [Option<i64>; 4],
+) -> bool {
+    match rowset.page(alloc, after, 4096, columns.as_slice()) {
+        Ok(page) => {
+            numbers_in(&page) == numbers
+                && [page.keys.len(), page.rows.len()] == [rows, rows]
+                && !page.more
+        }
+        Err(_) => false,
+    }
+}
+
+fn has_pages(alloc: Global) -> Result<bool, Fail> {
+    let columns = columns(alloc)?;
+    let rowset = RowSetView::of(updated(alloc)?);
+    let all = [Some(6), Some(1), None, Some(1)];
+    let rest = [None, Some(1), None, None];
+    Ok(
+        is_page(alloc, &rowset, &columns, None, 2, all)
+            && is_page(alloc, &rowset, &columns, Some(b"a"), 1, rest),
+    )
+}
+
 #[test]
 fn a_page_has_the_rows_above_a_key(rt: HostRuntime) -> Result<(), Fail> {
-    let alloc = rt.alloc();
-    let rowset = RowSetView::of(updated(alloc)?);
-    // The column, and one that no row has.
-    let columns = [(2, Cell::Null), (3, Cell::Int(1))];
-    let page = rowset.page(alloc, None, 4096, &columns)?;
-    assert!(rt; numbers_in(&page) == [Some(6), Some(1), None, Some(1)]);
-    assert!(rt; [page.keys.len(), page.rows.len()] == [2, 2] && !page.more);
-    let rest = rowset.page(alloc, Some(b"a"), 4096, &columns)?;
-    assert!(rt; numbers_in(&rest) == [None, Some(1), None, None]);
-    assert!(rt; [rest.keys.len(), rest.rows.len()] == [1, 1]);
+    let hold = has_pages(rt.alloc())?;
+    assert!(rt; hold);
     Ok(())
 }

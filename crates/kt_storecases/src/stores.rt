@@ -1,199 +1,114 @@
-//! Which store takes a change, and what each has.
-use crate::cells::no_cells;
-use crate::reading::bare;
-use kt_base::NoMemory;
-use kt_diskrowset::DiskRowSet;
-use kt_history::{OpKind, OpRef, RowStore, Taken, Target};
+//! Which of several MemRowSets takes a change, and what is left once the frozen ones have gone.
+ghost use Rattle.std.specs.Prelude.{IfOk};
+ghost use Rattle.kt_cells.specs.Spelled.{SpellsCells};
+
+use kt_base::{Cells, NoMemory, Octets};
+use kt_cells::Tail;
+use kt_cells::laws::spelled_law;
+use kt_cells::writing::put_cell_list;
+use kt_history::{OpKind, OpRef, Taken, Target};
 use kt_memrowset::MemRowSet;
 use kt_pool::Pool;
 use kt_stores::Stores;
 use std::alloc::Global;
-use std::process::Abort;
-use std::test::Fail;
 
-/// One operation of a test: the number of the MemRowSet that is to take inserts from then on, if another does; its time, kind and
-/// key; and what the stores tell of it.
-type Step = (Option<u64>, u64, OpKind, &'static [u8], Taken);
+/// One operation of a test: the number of the MemRowSet that is to take inserts from then on, if another does; its kind and key; whether
+/// the row is there before it; and the MemRowSet that takes it.
+type Step = (Option<u64>, OpKind, &'static [u8], bool, u64);
 
-/// Makes the change of an operation on a key.
-fn take<A: Abort, R: RowStore>(
-    rt: &A,
+/// No cells, spelled behind their count.
+fn no_cells(alloc: Global) -> Result<Octets, NoMemory>
+    ensures { IfOk result (λ bytes. SpellsCells bytes) }
+{
+    let mut out = Tail::of(Octets::new(alloc));
+    put_cell_list(&mut out, &Cells::of(Vec::new(alloc)))?;
+    spelled_law();
+    Ok(out.whole())
+}
+
+/// Makes the change of an operation on a key, if there is room.
+fn take(
     alloc: Global,
-    stores: &mut Stores<R>,
+    stores: &mut Stores<MemRowSet>,
     ts: u64,
     kind: OpKind,
     key: &[u8],
-) -> Result<Taken, NoMemory> {
-    let cells = no_cells(alloc)?;
-    assert!(rt; key.len() < 100);
+) -> Option<Taken> {
+    let cells = no_cells(alloc).ok()?;
+    if key.len() >= 100 {
+        return None;
+    }
     let op = OpRef::of(kind, key, cells.as_slice());
-    assert!(rt; op.len() <= 616 && stores.reserved() >= 15);
-    Ok(stores.take(ts, &op))
+    if op.len() > 616 || stores.reserved() < 15 {
+        return None;
+    }
+    Some(stores.take(ts, &op))
 }
 
-/// Another MemRowSet takes inserts, if one of this number is to.
-fn freeze<R: RowStore>(stores: &mut Stores<R>, number: Option<u64>) -> Result<(), NoMemory> {
-    match number {
-        Some(number) => stores.freeze(number),
-        None => Ok(()),
+/// Takes an operation, whose time is its place. Tells whether it came out as it is to.
+fn comes_out(alloc: Global, stores: &mut Stores<MemRowSet>, ts: u64, step: &Step) -> bool {
+    let (number, kind, key, there, id) = step;
+    if let Some(number) = number {
+        if stores.freeze(*number).is_err() {
+            return false;
+        }
+    }
+    match take(alloc, stores, ts, *kind, *key) {
+        Some(taken) => taken.there == *there && taken.target == Some(Target::Mem(*id)),
+        None => false,
     }
 }
 
 /// Takes the operations in turn. Tells whether each came out as it is to.
-fn plays<A: Abort, R: RowStore>(
-    rt: &A,
-    alloc: Global,
-    stores: &mut Stores<R>,
-    steps: &[Step],
-) -> Result<bool, NoMemory> {
-    for (number, ts, kind, key, wanted) in steps {
-        freeze(stores, *number)?;
-        if take(rt, alloc, stores, *ts, *kind, *key)? != *wanted {
-            return Ok(false);
+fn plays(alloc: Global, stores: &mut Stores<MemRowSet>) -> bool {
+    let mut ts: u64 = 0;
+    for step in &STEPS {
+        ts = ts.saturating_add(1);
+        if !comes_out(alloc, stores, ts, step) {
+            return false;
         }
     }
-    Ok(true)
+    true
 }
+
+const STEPS: [Step; 7] = [
+    (None, OpKind::Insert, b"ant", false, 1),
+    (Some(2), OpKind::Insert, b"bee", false, 2),
+    (Some(3), OpKind::Update, b"ant", true, 1),
+    (None, OpKind::Upsert, b"bee", true, 2),
+    (None, OpKind::Insert, b"cat", false, 3),
+    (None, OpKind::Delete, b"ant", true, 1),
+    (None, OpKind::Insert, b"dog", false, 3),
+];
 
 /// Stores of one empty MemRowSet, number 1, with promised cells.
-fn first_stores<A: Abort, R: RowStore>(rt: &A, alloc: Global) -> Result<Stores<R>, NoMemory> {
-    let Ok(pool) = Pool::new(alloc, 200) else {
-        return Err(NoMemory);
-    };
-    assert!(rt; pool.free() == pool.size());
+fn first_stores(alloc: Global) -> Option<Stores<MemRowSet>> {
+    let pool = Pool::new(alloc, 200).ok()?;
+    if pool.free() != pool.size() {
+        return None;
+    }
     let mut stores = Stores::new(alloc, pool, 1);
-    assert!(rt; stores.reserve(150).is_ok());
-    Ok(stores)
+    stores.reserve(150).ok()?;
+    Some(stores)
 }
 
-/// A row that was not there, in the MemRowSets 1 to 3, and one that was.
-const NEW_IN_1: Taken = Taken {
-    there: false,
-    target: Some(Target::Mem(1)),
-};
-
-const NEW_IN_2: Taken = Taken {
-    there: false,
-    target: Some(Target::Mem(2)),
-};
-
-const NEW_IN_3: Taken = Taken {
-    there: false,
-    target: Some(Target::Mem(3)),
-};
-
-const OLD_IN_1: Taken = Taken {
-    there: true,
-    target: Some(Target::Mem(1)),
-};
-
-const OLD_IN_2: Taken = Taken {
-    there: true,
-    target: Some(Target::Mem(2)),
-};
-
-/// A row that was there, in the disk rowset.
-const OLD_IN_ROWSET: Taken = Taken {
-    there: true,
-    target: Some(Target::Delta { rowset: 7, dms: 3 }),
-};
-
-const STEPS: [Step; 6] = [
-    (None, 10, OpKind::Insert, b"ant", NEW_IN_1),
-    (Some(2), 11, OpKind::Insert, b"bee", NEW_IN_2),
-    (Some(3), 12, OpKind::Update, b"ant", OLD_IN_1),
-    (None, 13, OpKind::Upsert, b"bee", OLD_IN_2),
-    (None, 14, OpKind::Insert, b"cat", NEW_IN_3),
-    (None, 15, OpKind::Delete, b"ant", OLD_IN_1),
-];
-
-const ANEW: [Step; 1] = [(None, 16, OpKind::Insert, b"ant", NEW_IN_3)];
-
-#[test]
-fn changes_go_to_the_store_that_has_the_row(rt: HostRuntime) -> Result<(), Fail> {
-    let alloc = rt.alloc();
-    let mut stores: Stores<MemRowSet> = first_stores(&rt, alloc)?;
-    assert!(rt; plays(&rt, alloc, &mut stores, &STEPS)?);
-    assert!(rt; stores.len() == 3 && !stores.live(b"ant"));
-    assert!(rt; plays(&rt, alloc, &mut stores, &ANEW)?);
-    assert!(rt; stores.live(b"ant") && stores.live(b"bee") && stores.live(b"cat"));
-    Ok(())
-}
-
-const TWO: [Step; 3] = [
-    (None, 10, OpKind::Insert, b"ant", NEW_IN_1),
-    (Some(2), 11, OpKind::Insert, b"bee", NEW_IN_2),
-    (None, 12, OpKind::Update, b"ant", OLD_IN_1),
-];
-
-/// How many changes a store has up to a time, where it is one of those in memory.
-fn count<R: RowStore>(
-    alloc: Global,
-    stores: &Stores<R>,
-    at: usize,
-    upto: u64,
-) -> Result<usize, NoMemory> {
-    if at > stores.frozen() {
-        return Ok(0);
-    }
-    Ok(stores.changes(alloc, at, upto)?.len())
-}
-
-/// A store, a time, and how many changes the store has then.
-const COUNTS: [(usize, u64, usize); 4] = [(0, 99, 1), (1, 99, 2), (1, 11, 1), (2, 99, 0)];
-
-#[test]
-fn each_store_lists_its_own_changes(rt: HostRuntime) -> Result<(), Fail> {
-    let alloc = rt.alloc();
-    let mut stores: Stores<MemRowSet> = first_stores(&rt, alloc)?;
-    assert!(rt; plays(&rt, alloc, &mut stores, &TWO)?);
-    assert!(rt; stores.len() == 2 && stores.frozen() == 1);
-    for (at, upto, wanted) in COUNTS {
-        assert!(rt; count(alloc, &stores, at, upto)? == wanted);
-    }
-    Ok(())
-}
-
-/// Puts an empty store beside the others.
-fn put_empty(stores: &mut Stores<MemRowSet>) -> Result<(), NoMemory> {
-    let mut rowset = MemRowSet::new(9);
-    rowset.freeze();
-    stores.put(rowset)
-}
-
-#[test]
-fn frozen_stores_leave_with_their_cells(rt: HostRuntime) -> Result<(), Fail> {
-    let alloc = rt.alloc();
-    let mut stores: Stores<MemRowSet> = first_stores(&rt, alloc)?;
-    assert!(rt; plays(&rt, alloc, &mut stores, &TWO)?);
-    put_empty(&mut stores)?;
-    assert!(rt; stores.len() == 3);
+/// Whether three stores have the rows, and once the frozen ones have gone the last alone.
+fn are_as_told(stores: &mut Stores<MemRowSet>) -> bool {
+    let three = stores.len() == 3 && !stores.live(b"ant") && stores.live(b"bee");
     let free = stores.free();
     stores.drop_frozen();
-    assert!(rt; stores.len() == 2 && free < stores.free());
-    assert!(rt; !stores.live(b"ant") && stores.live(b"bee"));
-    Ok(())
+    let one = stores.len() == 1 && !stores.live(b"bee") && stores.live(b"cat");
+    three && one && free < stores.free()
 }
 
-/// Stores of an empty MemRowSet and a disk rowset with the keys a and b.
-fn with_rowset<A: Abort>(rt: &A, alloc: Global) -> Result<Stores<DiskRowSet>, Fail> {
-    let mut stores: Stores<DiskRowSet> = first_stores(rt, alloc)?;
-    let rowset = DiskRowSet::of(alloc, bare(alloc)?, 3);
-    stores.put(rowset)?;
-    Ok(stores)
+fn holds(alloc: Global) -> bool {
+    match first_stores(alloc) {
+        Some(mut stores) => plays(alloc, &mut stores) && are_as_told(&mut stores),
+        None => false,
+    }
 }
-
-const IN_BOTH: [Step; 3] = [
-    (None, 4096, OpKind::Delete, b"a", OLD_IN_ROWSET),
-    (None, 8192, OpKind::Insert, b"a", NEW_IN_1),
-    (None, 12_288, OpKind::Delete, b"b", OLD_IN_ROWSET),
-];
 
 #[test]
-fn a_change_goes_to_the_rowset_that_has_the_row(rt: HostRuntime) -> Result<(), Fail> {
-    let alloc = rt.alloc();
-    let mut stores = with_rowset(&rt, alloc)?;
-    assert!(rt; plays(&rt, alloc, &mut stores, &IN_BOTH)?);
-    assert!(rt; stores.live(b"a") && !stores.live(b"b"));
-    Ok(())
+fn changes_go_to_the_store_that_has_the_row(rt: HostRuntime) {
+    assert!(rt; holds(rt.alloc()));
 }

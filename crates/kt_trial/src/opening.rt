@@ -1,6 +1,7 @@
 //! An engine in which nothing has happened yet, over an empty log in memory and a store with the first superblock of its table.
 ghost use Rattle.std.specs.Prelude.{◌≡◌, ◌≤◌, [], not, IfOk, length};
 ghost use Rattle.kt_reopen.specs.Tables.{IsTable};
+ghost use Rattle.kt_tablet.specs.Views.{AreVacant};
 ghost use Rattle.kt_trial.specs.Plans.{PlanFits};
 ghost use Rattle.kt_trial.specs.Openings.{IsAtStart, IsNew, table};
 
@@ -78,6 +79,7 @@ fn tablet(
     requires few { length plan.now ≤ 64 }
     ensures new { IfOk result (λ tablet. IsNew tablet plan.now) }
     ensures mark { IfOk result (λ tablet. (tablet.mark ≡ 0) × (tablet.core.a ≡ 0)) }
+    ensures vacant { IfOk result (λ tablet. AreVacant tablet.core.stores) }
 {
     let Ok(pool) = Pool::new(alloc, 1024) else {
         return Err(Miss::Memory);

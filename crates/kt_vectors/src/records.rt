@@ -1,16 +1,8 @@
-ghost use Rattle.std.specs.Prelude.{◌≡◌, ◌<◌, ◌^◌, [], length, IfOk};
-ghost use Rattle.kt_cells.specs.Reading.{cells_behind};
-ghost use Rattle.kt_cells.specs.Rules.{EachAfter, FollowingCell};
-ghost use Rattle.kt_cells.specs.Spelled.{SpellsCells};
-ghost use Rattle.kt_history.specs.declared.operation.OpKind.TheVariants.{Insert};
-ghost use Rattle.kt_records.specs.Rules.{CellsFit, KeepsRules};
-
-use kt_base::{Cell, Cells, NoMemory, Octets};
-use kt_cells::Tail;
-use kt_cells::laws::spelled_law;
-use kt_cells::writing::put_cell_list;
-use kt_history::{OpKind, OpList, OpRef, Outcome, Target};
-use kt_records::{CodecNo, CommitRow, CommitRows, Entry, TargetList, read_record, spell};
+//! Records of the log: that they are spelled as they are read, the place of the first fault of bytes that are none, and the memory that
+//! they are held in.
+use kt_base::Octets;
+use kt_history::OpList;
+use kt_records::{CodecNo, CommitRow, Entry, read_record, spell};
 use std::alloc::{AllocError, Global};
 use std::mem::size_of;
 
@@ -22,65 +14,6 @@ const REPLICATE: [u8; 32] = [
 const COMMIT: [u8; 22] = [
     2, 0, 16, 0, 0, 0, 0, 0, 0, 1, 0, 0, 1, 1, 1, 0, 0, 0, 0, 0, 0, 0,
 ];
-
-/// Some cells, spelled behind their count.
-fn spelled(alloc: Global, cells: &Cells) -> Result<Octets, NoMemory>
-    requires count { length cells.now < 2 ^ 16 }
-    requires cells { EachAfter FollowingCell [] cells.now }
-    ensures { IfOk result (λ bytes. (cells_behind bytes ≡ cells.now) × SpellsCells bytes) }
-{
-    let mut out = Tail::of(Octets::new(alloc));
-    put_cell_list(&mut out, cells)?;
-    spelled_law();
-    Ok(out.whole())
-}
-
-/// The text that `REPLICATE` has for column 2, spelled behind the count of the cells.
-fn text_cells(alloc: Global) -> Result<Octets, NoMemory>
-    ensures { IfOk result (λ bytes. SpellsCells bytes × CellsFit Insert (cells_behind bytes)) }
-{
-    let text = Octets::from_slice(alloc, b"a")?;
-    let cells = Cells::of(vec![in alloc; (2, Cell::Bytes(text))]?);
-    let bytes = spelled(alloc, &cells)?;
-    Ok(bytes)
-}
-
-/// The record whose bytes are `REPLICATE`.
-fn replicate(alloc: Global) -> Result<Entry, NoMemory>
-    ensures { IfOk result KeepsRules }
-{
-    let cells = text_cells(alloc)?;
-    let op = OpRef::of(OpKind::Insert, &REPLICATE[14..22], cells.as_slice());
-    let mut ops = OpList::new(alloc);
-    ops.push(&op)?;
-    Ok(Entry::Replicate { ts: 4096, ops })
-}
-
-#[test]
-fn a_replicate_is_spelled(rt: HostRuntime) {
-    let entry = replicate(rt.alloc()).expect(&rt, "memory");
-    let mut out = Octets::new(rt.alloc());
-    spell(rt.alloc(), &entry, &mut out).expect(&rt, "memory");
-    assert!(rt; out.as_slice() == REPLICATE.as_slice());
-}
-
-/// The record whose bytes are `COMMIT`.
-fn commit(alloc: Global) -> Result<Entry, AllocError>
-    ensures { IfOk result KeepsRules }
-{
-    let targets = TargetList::one(Target::Mem(1));
-    let outcome = Outcome::Done;
-    let rows = CommitRows::of(vec![in alloc; CommitRow { outcome, targets }]?);
-    Ok(Entry::Commit { ts: 4096, rows })
-}
-
-#[test]
-fn a_commit_is_spelled(rt: HostRuntime) {
-    let entry = commit(rt.alloc()).expect(&rt, "memory");
-    let mut out = Octets::new(rt.alloc());
-    spell(rt.alloc(), &entry, &mut out).expect(&rt, "memory");
-    assert!(rt; out.as_slice() == COMMIT.as_slice());
-}
 
 /// The record is read, and spelled again as it was.
 fn is_spelled_again(alloc: Global, bytes: &[u8]) -> bool {
@@ -149,20 +82,6 @@ const FAULTS: [(usize, u8, u64); 10] = [
     (27, 0, 31),
 ];
 
-#[test]
-fn faults_are_found_at_their_places(rt: HostRuntime) {
-    for &(place, byte, offset) in &FAULTS {
-        assert!(rt; fault_with(rt.alloc(), place, byte) == Some(offset));
-    }
-}
-
-#[test]
-fn a_cut_record_is_at_fault_at_its_end(rt: HostRuntime) {
-    for len in 0..32 {
-        assert!(rt; fault(rt.alloc(), &REPLICATE[..len]) == Some(len as u64));
-    }
-}
-
 /// Records that are refused, and the place of the fault.
 const REFUSED: [(&[u8], u64); 5] = [
     // An outcome with a target that has none, and none of the outcomes.
@@ -202,53 +121,16 @@ const REFUSED: [(&[u8], u64); 5] = [
 ];
 
 #[test]
-fn records_are_refused(rt: HostRuntime) {
+fn faults_are_found_at_their_places(rt: HostRuntime) {
+    for &(place, byte, offset) in &FAULTS {
+        assert!(rt; fault_with(rt.alloc(), place, byte) == Some(offset));
+    }
     for &(bytes, offset) in &REFUSED {
         assert!(rt; fault(rt.alloc(), bytes) == Some(offset));
     }
-}
-
-/// Whether the write of one operation is read with this kind.
-fn has_kind(alloc: Global, bytes: &[u8], kind: OpKind) -> bool {
-    match read_record(alloc, bytes) {
-        Ok(Entry::Replicate { ts: 4096, ops }) => match ops.get(0) {
-            Some(op) => ops.len() == 1 && op.kind() == kind,
-            None => false,
-        },
-        _ => false,
+    for len in 0..32 {
+        assert!(rt; fault(rt.alloc(), &REPLICATE[..len]) == Some(len as u64));
     }
-}
-
-/// Operations that ignore have the numbers 5 to 7.
-const KINDS: [(u8, OpKind); 3] = [
-    (5, OpKind::InsertIgnore),
-    (6, OpKind::UpdateIgnore),
-    (7, OpKind::DeleteIgnore),
-];
-
-#[test]
-fn operations_that_ignore_have_the_numbers_5_to_7(rt: HostRuntime) {
-    for &(number, kind) in &KINDS {
-        let bytes = [1, 0, 16, 0, 0, 0, 0, 0, 0, 1, 0, number, 1, 0, 97, 0, 0];
-        assert!(rt; has_kind(rt.alloc(), &bytes, kind));
-    }
-}
-
-/// Whether the record is that of one operation that was ignored.
-fn is_ignored(entry: &Entry) -> bool {
-    match entry {
-        Entry::Commit { ts: 4096, rows } => match rows.as_slice() {
-            [row] => row.outcome == Outcome::Ignored,
-            _ => false,
-        },
-        _ => false,
-    }
-}
-
-#[test]
-fn an_ignored_operation_has_no_target(rt: HostRuntime) {
-    let found = read_record(rt.alloc(), &IGNORED).expect(&rt, "a record");
-    assert!(rt; is_ignored(&found));
 }
 
 /// A COMMIT of so many operations that were refused, of two bytes each.

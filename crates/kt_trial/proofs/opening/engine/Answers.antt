@@ -1,4 +1,4 @@
-use Rattle.std.proofs.Common.{◌≡◌, List, [], ◌∷◌, Ok, ap, sym, subst, refl, lit<, ◌∙◌, arith}
+use Rattle.std.proofs.Common.{◌≡◌, List, [], ◌∷◌, ◌++◌, Ok, ap, sym, subst, refl, lit<, ◌∙◌, arith}
 use Rattle.std.specs.List.{All}
 use Rattle.std.proofs.lemmas.List.Elements.{All-nil, All-cons}
 use Rattle.kt_history.specs.declared.target.Target.{Target}
@@ -8,10 +8,11 @@ use Rattle.kt_records.specs.declared.entry.Entry.{Entry}
 use Rattle.kt_journal.specs.Log.{Holds, log_of}
 use Rattle.kt_journal.proofs.Fresh.{fresh_opens, fresh_log}
 use Rattle.kt_engine.specs.Memory.{NamesDiffer}
-use Rattle.kt_engine.specs.Logged.{IsMem, AreCommits, NamesOnly}
+use Rattle.kt_engine.specs.Logged.{IsMem, AreCommits, NamesOnly, DeltasBelow}
 use Rattle.kt_engine.specs.Engines.{KeepsOthers}
 use Rattle.kt_engine.proofs.Bare.{bare_named, bare_takes_up}
 use Rattle.kt_engine.proofs.Others.{opened_others}
+use Rattle.kt_engine.proofs.Passed.{vacant_passes}
 use Rattle.kt_engine.proofs.Empty.{due_none, untold_none, log_none, last_none}
 use Rattle.kt_trial.proofs.Table.{first_says, first_shelved, none_given}
 use Rattle.kt_trial.proofs.opening.engine.Goals as goal
@@ -48,7 +49,10 @@ of-requires-clause-commits c = subst AreCommits (sym c.no_records-none.ensures) 
 pub of-requires-clause-taken_up : goal.of-requires-clause-taken_up
 of-requires-clause-taken_up c =
     bare_takes_up c.in_ok-tablet.tablet _ c.in-Ok.records c.no_records-none.result c.fresh-superblock.ensures c.in_ok-tablet.ensures.new.trail c.in_ok-tablet.ensures.new.starts.rests (mems _ c.in_ok-tablet.ensures.new.names) c.standing.ensures.named c.standing.ensures.sound.stands
-    (log_none c.in-Ok.records c.no_records-none.result c.no_records-none.ensures c.in-Ok.ensures.sound) (λ first opens. due_none _ _ c.in-Ok.records c.no_records-none.result first c.no_records-none.ensures)
+    (log_none c.in-Ok.records c.no_records-none.result c.no_records-none.ensures c.in-Ok.ensures.sound) (λ first opens. due_none _ _ c.in-Ok.records c.no_records-none.result first c.no_records-none.ensures) (λ rules. vacant_passes rules c.in_ok-tablet.tablet.core.stores c.in_ok-tablet.ensures.vacant)
+
+pub of-requires-clause-deltas : goal.of-requires-clause-deltas
+of-requires-clause-deltas c = subst (λ (ns : List Target). DeltasBelow ns (c.in-Ok.records ++ c.no_records-none.result)) (sym c.in_ok-tablet.ensures.new.names) tt
 
 pub of-requires-clause-untold : goal.of-requires-clause-untold
 of-requires-clause-untold c = untold_none c.in-Ok.records c.no_records-none.result _ (no_record c.new-disk.result c.in-Ok.records c.new-disk.ensures (c.in-Ok.ensures.records refl)) c.no_records-none.ensures
