@@ -8,7 +8,7 @@ use std::time::{Clock, Duration};
 const PATIENCE: u64 = 5;
 
 /// A moment of a run.
-#[derive(Clone, Copy, PartialEq, Eq)]
+#[derive(Clone, Copy)]
 pub enum Moment {
     At(Point),
     /// The first change of the device of this mark behind the point.
@@ -16,14 +16,14 @@ pub enum Moment {
 }
 
 /// Holds a run at the first of two moments until it has come to the second.
-#[derive(Clone, Copy, PartialEq, Eq)]
+#[derive(Clone, Copy)]
 pub struct Rule {
     pub hold: Moment,
     pub until: Moment,
 }
 
 // A moment, and whether the run has come to it.
-#[derive(Clone, Copy, PartialEq, Eq)]
+#[derive(Drop)]
 struct Watch {
     moment: Moment,
     is_near: bool,
@@ -63,7 +63,7 @@ impl Watch {
 }
 
 // A rule as it stands.
-#[derive(Clone, Copy, PartialEq, Eq)]
+#[derive(Drop)]
 struct Standing {
     hold: Watch,
     until: Watch,

@@ -1,9 +1,9 @@
-//! What a crash leaves of a flush: either device at each of its calls, opened again and read.
+//! What a crash leaves of a flush, and of a flush of changes: either device at each of its calls, opened again and read.
 ghost use Rattle.std.specs.Prelude.{◌≡◌, ◌≤◌, [], IfOk};
 ghost use Rattle.kt_disk.specs.Memory.{mem_now};
 
 use super::run;
-use kt_base::NoMemory;
+use kt_base::{MemSink, NoMemory};
 use kt_disk::{MemDisk, PassGate};
 use std::alloc::Global;
 use std::sync::Wait;
@@ -21,6 +21,16 @@ const BEFORE: &[u8] =
     b"session 1\nrows 20481 2\n1 \"a\"\n2 \"b\"\nrows 20483 1\n1 \"c\"\nhistory\nrows 1 1 20481\nrows 1 2 20483\ntablet ahm 0 last 20483 rowsets 0\n";
 
 const AFTER: &[u8] =
+    b"session 1\nrows 20481 2\n1 \"a\"\n2 \"b\"\nrows 20483 1\n1 \"c\"\nhistory\nrows 1 1 20481\nrows 1 2 20483\ntablet ahm 0 last 20483 rowsets 1\n";
+
+// A flush, and a change of a row that is in files then.
+const CHANGES: &[u8] =
+    b"session\ninsert 1 \"a\"\ninsert 2 \"b\"\nflush\nupdate 1 v=\"c\"\ndelete 2\n";
+
+const FLUSH_CHANGES: &[u8] = b"session\nflush-deltas\n";
+
+// What the reads print before the changes are in a file, and after.
+const CHANGED: &[u8] =
     b"session 1\nrows 20481 2\n1 \"a\"\n2 \"b\"\nrows 20483 1\n1 \"c\"\nhistory\nrows 1 1 20481\nrows 1 2 20483\ntablet ahm 0 last 20483 rowsets 1\n";
 
 // What becomes of the writes that are not stable: all are left out, all are there, half of each is, or each has ones in its place.
@@ -75,6 +85,19 @@ fn left(
     })
 }
 
+// What the reads print over devices to which nothing was done yet.
+fn reads<R: Threads + Wait + Sync>(
+    rt: &R,
+    alloc: Global,
+    devices: Devices,
+) -> Result<MemSink, NoMemory>
+    requires { (devices.log.calls ≡ []) × (devices.store.calls ≡ []) }
+{
+    let Devices { log, store } = devices;
+    let (_, sink, ..) = run(rt, alloc, READS, log, store, &PassGate)?;
+    Ok(sink)
+}
+
 // Whether the flush is published on devices to which nothing was done yet. Nothing, where the rows are other ones.
 fn is_flushed<R: Threads + Wait + Sync>(
     rt: &R,
@@ -83,8 +106,7 @@ fn is_flushed<R: Threads + Wait + Sync>(
 ) -> Result<Option<bool>, NoMemory>
     requires { (devices.log.calls ≡ []) × (devices.store.calls ≡ []) }
 {
-    let Devices { log, store } = devices;
-    let (_, sink, ..) = run(rt, alloc, READS, log, store, &PassGate)?;
+    let sink = reads(rt, alloc, devices)?;
     if sink.bytes() == AFTER {
         return Ok(Some(true));
     }
@@ -130,21 +152,70 @@ fn store_keeps<R: Threads + Wait + Sync>(
     Ok(flushed)
 }
 
-// The devices of a run that flushes what another wrote.
-fn flushed<R: Threads + Wait + Sync>(rt: &R, alloc: Global) -> Result<Devices, NoMemory> {
-    let written = after(rt, alloc, WRITES, empty(alloc))?;
+// The devices of a run of these lines over what a run of others wrote.
+fn kept_up<R: Threads + Wait + Sync>(
+    rt: &R,
+    alloc: Global,
+    writes: &[u8],
+    chore: &[u8],
+) -> Result<Devices, NoMemory> {
+    let written = after(rt, alloc, writes, empty(alloc))?;
     let (log, store) = (written.log.moment(), written.store.moment());
     let kept = left(alloc, &written, log, store, &[])?;
-    after(rt, alloc, FLUSH, kept)
+    after(rt, alloc, chore, kept)
+}
+
+// Whether each moment of the store leaves the changes, once the log is whole.
+fn changes_stay<R: Threads + Wait + Sync>(
+    rt: &R,
+    alloc: Global,
+    devices: &Devices,
+    pick: &[u8],
+) -> Result<bool, NoMemory> {
+    let end = devices.log.moment();
+    'moments: for at in 0..devices.store.moment() {
+        let left = left(alloc, devices, end, at, pick)?;
+        if reads(rt, alloc, left)?.bytes() != CHANGED {
+            return Ok(false);
+        }
+    }
+    Ok(true)
+}
+
+// Whether each moment of the log leaves the changes, before the store was changed.
+fn log_has_changes<R: Threads + Wait + Sync>(
+    rt: &R,
+    alloc: Global,
+    devices: &Devices,
+    pick: &[u8],
+) -> Result<bool, NoMemory> {
+    'moments: for at in 0..devices.log.moment() {
+        let left = left(alloc, devices, at, 0, pick)?;
+        if reads(rt, alloc, left)?.bytes() != CHANGED {
+            return Ok(false);
+        }
+    }
+    Ok(true)
 }
 
 #[test]
 fn a_crash_in_a_flush_leaves_the_rows(rt: HostRuntime) -> Result<(), Fail> {
     let alloc = rt.alloc();
-    let devices = flushed(&rt, alloc)?;
+    let devices = kept_up(&rt, alloc, WRITES, FLUSH)?;
     for pick in &PICKS {
         assert!(rt; log_keeps(&rt, alloc, &devices, pick)?);
         assert!(rt; store_keeps(&rt, alloc, &devices, pick)?);
+    }
+    Ok(())
+}
+
+#[test]
+fn a_crash_in_a_flush_of_changes_leaves_the_rows(rt: HostRuntime) -> Result<(), Fail> {
+    let alloc = rt.alloc();
+    let devices = kept_up(&rt, alloc, CHANGES, FLUSH_CHANGES)?;
+    for pick in &PICKS {
+        assert!(rt; log_has_changes(&rt, alloc, &devices, pick)?);
+        assert!(rt; changes_stay(&rt, alloc, &devices, pick)?);
     }
     Ok(())
 }

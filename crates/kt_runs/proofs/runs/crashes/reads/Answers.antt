@@ -1,6 +1,6 @@
 use Rattle.kt_journal.proofs.Fresh.{fresh_opens}
 use Rattle.kt_storeside.proofs.Fresh.{fresh_stands}
-use Rattle.kt_runs.proofs.runs.crashes.is_flushed.Goals as goal
+use Rattle.kt_runs.proofs.runs.crashes.reads.Goals as goal
 
 pub run-requires-clause-stand : goal.run-requires-clause-stand
 run-requires-clause-stand g c = λ κs outlives. fresh_stands c.args.devices.store c.requires.1
