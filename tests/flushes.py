@@ -1,4 +1,4 @@
-"""Flushes: rows go to disk rowsets, and nothing of it shows, at any time, in this run and in the next."""
+"""Maintenance: rows and their changes go to files, and nothing of it shows, at any time, in this run and in the next."""
 import os
 import random
 import re
@@ -10,6 +10,37 @@ from machine import check
 from room import Wrong
 from stores import held
 from stress import HEAD, command
+
+CHORES = ("flush", "flush-deltas", "minor", "major")
+
+# A row that needs all 1,024 cells of a pool, and one that needs two more.
+ALL_CELLS, TOO_MANY = "a" * 28_428, "a" * 28_429
+
+# Words, what is run in memory behind them, and what it prints.
+PRINTED = [
+    (
+        ["--pool", "1024"],
+        [f'insert 1 "{TOO_MANY}"', f'insert 1 "{ALL_CELLS}"'],
+        ["large 1026", "at 4096 ok"],
+        ["large 1 1 1026", "begin 1 2 4096 1", "end 1 2 4096", "tablet ahm 0 last 4096 rowsets 0"],
+    ),
+    # The first row goes to a file, so that the second has room.
+    (
+        ["--pool", "1024"],
+        [f'insert 1 "{ALL_CELLS}"', f'insert 2 "{ALL_CELLS}"'],
+        ["at 4096 ok", "at 8192 ok"],
+        ["begin 1 1 4096 1", "end 1 1 4096", "begin 1 2 8192 2", "end 1 2 8192", "tablet ahm 0 last 8192 rowsets 1"],
+    ),
+    (
+        [],
+        ['insert 1 "a"', "flush", 'update 1 v="b"', "flush-deltas", 'update 1 v="c"', "flush-deltas", "minor", "major", "scan at 4096", "scan at 8192", "scan now"],
+        ["at 4096 ok", "done", "at 8192 ok", "done", "at 12288 ok", "done", "done", "done", "rows 4096 1", '1 "a"', "rows 8192 1", '1 "b"', "rows 16384 1", '1 "c"'],
+        [
+            "begin 1 1 4096 1", "end 1 1 4096", "chore 1 2", "begin 1 3 8192 2", "end 1 3 8192", "chore 1 4", "begin 1 5 12288 3", "end 1 5 12288", "chore 1 6",
+            "chore 1 7", "chore 1 8", "rows 1 9 4096", "rows 1 10 8192", "look 1 11 16384 4", "rows 1 11 16384", "tablet ahm 0 last 16384 rowsets 1",
+        ],
+    ),
+]
 
 TOP = os.path.dirname(os.path.dirname(os.path.realpath(__file__)))
 
@@ -88,6 +119,16 @@ def a_flush_leaves_its_files(room):
         raise Wrong(f"no slot is {last.hex()}: {files['f1'].hex()} {files['f2'].hex()}")
 
 
+def each_run_prints_its_text(room):
+    """What is flushed, because it is told so or because a write has no room, prints what is wanted."""
+    for words, lines, replies, history in PRINTED:
+        script = "".join(f"{it}\n" for it in ["table", "column id int64 key", "column v string", "session", *lines])
+        wanted = "".join(f"{it}\n" for it in ["session 1", *replies, "history", *history])
+        ended = room.run(["memory", "run", *words], script.encode())
+        if ended != (0, wanted):
+            raise Wrong(f"{words}: the status is {ended[0]}; it wrote\n{ended[1]}and not\n{wanted}")
+
+
 def a_record_that_is_lost_is_refused(room):
     """A superblock counts the records that its rowsets hold: a log with fewer, or rows of other columns, are refused, and nothing changes."""
     plays(room, TABLE + 'insert "a" 5\nflush\n', None, 1)
@@ -110,8 +151,22 @@ def a_record_that_is_lost_is_refused(room):
         raise Wrong(f"status {status}\n{output}")
 
 
+def later_changes_go_to_files(room):
+    """Changes of rows in files are flushed, merged and folded, and the rows are the same at each time, in this run and in the next."""
+    first = ['insert "a" 1 ; insert "b" 2 ; insert "c" 3', "flush", 'update "a" n=10', 'delete "b"', "flush-deltas", "scan now"]
+    second = ['update "a" n=11', 'insert "b" 22', "flush-deltas", 'delete "c"', "minor", "scan now", "minor"]
+    third = ['update "a" n=12', "major", 'upsert "c" n=33', "flush", "flush-deltas", "minor", "major", "scan now"]
+    machine, times = None, []
+    for lines in (first, second, third):
+        machine, output = plays(room, TABLE + "".join(f"{it}\n" for it in lines), machine)
+        if [line for line in output.splitlines() if line == "done"] != ["done"] * sum(it.split("-")[0] in ("flush", "minor", "major") for it in lines):
+            raise Wrong(output)
+        times += times_in(output)
+        machine, output = plays(room, TABLE + at_all_times(times), machine)
+
+
 def random_sessions_flush(room):
-    """Sessions that write the same keys flush in between, run after run, and each line and reply is a plain machine's."""
+    """Sessions that write the same keys ask for maintenance in between, run after run, and each line and reply is a plain machine's."""
     for seed in range(int(os.environ.get("RUNS", "6"))):
         rng, before, words = random.Random(seed), None, ["dirs", f"LOG{seed}", f"DATA{seed}", "run"]
         for name in words[1:3]:
@@ -120,7 +175,7 @@ def random_sessions_flush(room):
         for _ in range(4):
             lines = []
             for _ in range(rng.choice((1, 2, 3))):
-                said = [command(rng, 8, 2**60) if rng.random() < 0.85 else "flush" for _ in range(40)]
+                said = [command(rng, 8, 2**60) if rng.random() < 0.85 else rng.choice(CHORES) for _ in range(40)]
                 said = [f"scan at {rng.choice(times)}" if times and rng.random() < 0.1 else it for it in said]
                 lines += ["session", *said]
             script = HEAD + "".join(f"{it}\n" for it in lines)
@@ -143,7 +198,9 @@ ALL = [
     rows_of_several_rowsets_are_one_table,
     a_flush_of_nothing_is_done,
     a_flush_leaves_its_files,
+    each_run_prints_its_text,
     a_record_that_is_lost_is_refused,
+    later_changes_go_to_files,
     random_sessions_flush,
     the_example_opens_its_files,
 ]

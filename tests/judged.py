@@ -286,7 +286,50 @@ def each_reply_is_judged(room):
             raise Wrong(f"the answer is {found} and not {wanted}")
 
 
-ALL = [random_runs_are_judged, examples_are_runs, each_kind_of_line_is_judged, each_reply_is_judged]
+# Replies and events of which the program prints some seldom, and others not yet.
+OTHERS = "session 1\nbusy 4096 4096\nahm 18446744073709551615\nsession 2\nsession 3\ndone\nlarge 1026\nstopped\nhistory\nbusy 1 1 4096 4096\nmark 1 2 18446744073709551615\nchore 3 1\nlarge 3 2 1026\nstop\ntablet stopped\n"
+
+# Texts behind an opening, and where each is at fault, if it has not the form of an output.
+FORMS = [
+    ("session 1\nrows 4096 0\nat 8192 ok\nat 12288 ok\nat 16384 ok\nrows 20480 3\n-7 \"minus\"\n3 \"\"\n20 \"b\"\nhistory\nlook 1 1 4096 1\nrows 1 1 4096\nbegin 1 2 8192 2\nend 1 2 8192\nbegin 1 3 12288 3\nend 1 3 12288\nbegin 1 4 16384 4\nend 1 4 16384\nlook 1 5 20480 5\nrows 1 5 20480\ntablet ahm 0 last 20480 rowsets 0\n", None),
+    ("session 1\nat 4096 ok ignored absent present\nstopped\nstopped\nhistory\nbegin 1 1 4096 1\nend 1 1 4096\nbegin 1 2 8192 2\nstop\ntablet stopped\n", None),
+    ("session 1\nat 4096 ok\nrows 4096 1\n1 \"a\"\nsession 2\nat 8192 ok\nahm 8192\nancient 8191 8192\nhistory\nbegin 1 1 4096 1\nend 1 1 4096\nbegin 2 1 8192 2\nend 2 1 8192\nrows 1 2 4096\nmark 2 2 8192\nancient 2 3 8191 8192\ntablet ahm 8192 last 8192 rowsets 0\n", None),
+    ("session 1\nrows 8192 1\n\"a\\x00\\\"\\\\\\x7f\xff\" x\"0af0\" -128 true null\nhistory\ntablet stopped\n", None),
+    (OTHERS, None),
+    ("history\ntablet ahm 0 last 0 rowsets 0\n", None),
+    ("", 0),
+    ("history\n", 8),
+    ("history\ntablet stopped", 22),
+    ("history\ntablet stopped\n\n", 23),
+    ("session 2\nhistory\ntablet stopped\n", 8),
+    ("done\nhistory\ntablet stopped\n", 0),
+    ("session 1\nat 04096 ok\nhistory\ntablet stopped\n", 14),
+    ("session 1\nrows 8192 2\n1 \"a\"\nhistory\ntablet stopped\n", 28),
+    ("session 1\nrows 8192 0\n1 \"a\"\nhistory\ntablet stopped\n", 22),
+    ("session 1\nlarge 1026\nsession 3\nhistory\ntablet stopped\n", 29),
+    ("history\nbegin 4294967296 1 1 1\ntablet stopped\n", 23),
+    ("history\nstop \ntablet stopped\n", 12),
+    ("history\ntablet ahm 0 last 8192\n", 30),
+    ("history\ntablet stoped\n", 19),
+    ("session 1\nahm 18446744073709551616\nhistory\ntablet stopped\n", 33),
+    ("session 1\ndonehistory\ntablet stopped\n", 14),
+    ("session 1\nrows 4096 1\n7 \"a\\x1g\"\nhistory\ntablet stopped\n", 29),
+]
+
+
+def texts_have_the_form_of_an_output(room):
+    """A text behind an opening is judged, or the place of its first fault is told."""
+    for text, place in FORMS:
+        status, said = answer(room.program, ONE + NONE + text)
+        if place is None:
+            right = status in (0, 8)
+        else:
+            right = (status, said) == (9, f"check place {len(ONE + NONE) + place}")
+        if not right:
+            raise Wrong(f"the answer is {(status, said)}, the place {place}:\n{text}")
+
+
+ALL = [random_runs_are_judged, examples_are_runs, each_kind_of_line_is_judged, each_reply_is_judged, texts_have_the_form_of_an_output]
 
 
 def main():

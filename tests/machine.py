@@ -229,6 +229,12 @@ class Machine:
         asks(self.turn(s, i) in CHORES, f"command {i} of session {s} is no maintenance")
         self.reply(s, i, ["done"])
 
+    def take_large(self, s, i, n):
+        """A write that needs more cells than the pool has. How many these are is not counted here."""
+        line = self.turn(s, i)
+        asks(line not in CHORES and not re.match("scan |mark ", line), f"command {i} of session {s} is no write")
+        self.reply(s, i, [f"large {n}"])
+
     def take_stop(self):
         self.is_stopped = True
 

@@ -1,15 +1,16 @@
 """What takes two programs, a killed one, or its system calls."""
 import fcntl
 import os
+import random
 import re
 import shutil
 import signal
 import subprocess
 import time
 
-from machine import Disagrees
+from machine import Disagrees, check
 from room import Wrong
-from stress import tries
+from stress import random_script, tries
 
 TOP = os.path.dirname(os.path.dirname(os.path.realpath(__file__)))
 
@@ -178,6 +179,48 @@ def sessions_share_keys(room):
             raise Wrong(str(no)) from None
 
 
+def kinds_in(script, output):
+    """Which kinds of answers a run gives: some of them only where sessions run side by side."""
+    found, flying, lines = set(), set(), script.splitlines()
+    starts = [at for at, line in enumerate(lines) if line == "session"]
+    for line in output.splitlines():
+        word, *numbers = line.split(" ")
+        if word == "begin":
+            found.add("beside another write" if flying else "begin")
+            flying.add(numbers[0])
+        elif word == "end":
+            flying.discard(numbers[0])
+        elif word in ("rows", "mark") and len(numbers) == 3 and flying:
+            found.add(f"{word} beside a write")
+        elif word in ("busy", "ancient", "large") and len(numbers) > 2:
+            found.add(word)
+        if word == "mark" and int(numbers[2]) < int(lines[starts[int(numbers[0]) - 1] + int(numbers[1])].split(" ")[1]):
+            found.add("a mark that is held")
+        found |= {it for it in ("absent", "present", "ignored") if word == "at" and it in numbers}
+    return found
+
+
+def answers_of_each_kind_are_given(room):
+    """Sessions that run side by side are given each kind of answer, and a plain machine takes each line and each reply."""
+    wanted = {
+        "begin", "beside another write", "rows beside a write", "mark beside a write", "busy", "ancient", "large", "a mark that is held",
+        "absent", "present", "ignored",
+    }
+    found = set()
+    for seed in range(40):
+        script = random_script(random.Random(seed), 16, 30, 4096 * 400) + f'upsert 1 v="{"a" * 40_000}"\n'
+        status, output = room.run(["memory", "run", "--pool", "1024"], script.encode())
+        wants(status == 0, f"seed {seed}: status {status}")
+        try:
+            check(script, output)
+        except Disagrees as no:
+            raise Wrong(f"seed {seed}: {no}") from None
+        found |= kinds_in(script, output)
+        if found >= wanted:
+            return
+    raise Wrong(f"not given: {wanted - found}")
+
+
 def timestamp_at(date):
     """What the line of docs/SCRIPT.md gives for a date."""
     with open(f"{TOP}/docs/SCRIPT.md", encoding="utf-8") as it:
@@ -226,6 +269,7 @@ ALL = [
     a_device_that_fails_stops_the_run,
     keys_in_any_order_are_written_in_time,
     sessions_share_keys,
+    answers_of_each_kind_are_given,
     the_clock_counts_from_2020,
     memory_is_refused_at_the_words,
     kt_passes_on_what_it_is_given,

@@ -89,11 +89,22 @@ def filter_of(keys):
     return struct.pack("<I", len(bits)) + bytes(bits)
 
 
+def column_of_keys(keys):
+    """The blocks of encoded keys."""
+    return b"".join(prefixed(keys[at : at + 8192]) for at in range(0, len(keys), 8192))
+
+
+def base_of(keys, *columns):
+    """A base file: of encoded keys, and of columns as (id, kind, whether it may be null, its blocks)."""
+    spelled = b"".join(struct.pack("<HBB", id, KINDS[kind], nullable) + blocks for id, kind, nullable, blocks in columns)
+    index = b"".join(struct.pack("<H", len(it)) + it for it in keys[::16])
+    front = b"KTB1" + struct.pack("<I", len(keys)) + column_of_keys(keys) + struct.pack("<H", len(columns))
+    return front + spelled + filter_of(keys) + index
+
+
 def base_file(keys, *columns):
     """A base file: of encoded keys, and of columns as (id, values) of kind int64 that take no null."""
-    spelled = b"".join(struct.pack("<HBB", id, KINDS["int64"], 0) + of_numbers(values) for id, values in columns)
-    index = b"".join(struct.pack("<H", len(it)) + it for it in keys[::16])
-    return b"KTB1" + struct.pack("<I", len(keys)) + prefixed(keys) + struct.pack("<H", len(columns)) + spelled + filter_of(keys) + index
+    return base_of(keys, *((id, "int64", 0, of_numbers(values)) for id, values in columns))
 
 
 # ---- delta files
