@@ -8,7 +8,7 @@
 pub mod laws;
 pub mod records;
 pub mod taking;
-mod undo_fit;
+pub mod undo_fit;
 pub mod writing;
 
 pub use records::RowRecords;

@@ -12,8 +12,8 @@ ghost use Rattle.kt_rowfiles.specs.Fitting.{is_row, step_fits, steps_fit};
 use kt_base::{Cell, Cells, NoMemory};
 use kt_history::{Change, Delta, apply};
 
-// Whether the ids of cells rise.
-fn is_rising(cells: &[(u16, Cell)]) -> bool
+/// Whether the ids of cells rise.
+pub fn is_rising(cells: &[(u16, Cell)]) -> bool
     ensures { result ≡ is_sorted nat_cmp cells.now }
 {
     let mut at = 1;
@@ -26,8 +26,8 @@ fn is_rising(cells: &[(u16, Cell)]) -> bool
     true
 }
 
-// Whether each column stands in a row once, by rising id.
-fn is_row(row: Option<&Cells>) -> bool
+/// Whether each column stands in a row once, by rising id; no row is one.
+pub fn is_row(row: Option<&Cells>) -> bool
     ensures { result ≡ is_row (option_copied row.entry) }
 {
     match row {
@@ -50,8 +50,8 @@ fn has_all(row: &[(u16, Cell)], cells: &[(u16, Cell)]) -> bool
     cells.iter().all(|cell| has_id(row, cell.0))
 }
 
-// Whether an update is of columns that a row has.
-fn has_columns(change: &Change, row: Option<&Cells>) -> bool
+/// Whether an update is of columns that a row has; any other change, and one of no row, is.
+pub fn has_columns(change: &Change, row: Option<&Cells>) -> bool
     ensures { result ≡ has_columns change.now (option_copied row.entry) }
 {
     let (Change::Upd(cells), Some(old)) = (change, row) else {
@@ -60,8 +60,8 @@ fn has_columns(change: &Change, row: Option<&Cells>) -> bool
     has_all(old.as_slice(), cells.as_slice())
 }
 
-// Whether a change fits a row that is there, or is not.
-fn fits(change: &Change, there: bool) -> bool
+/// Whether a change fits a row that is there, or is not: an insert where none is, the others where one is.
+pub fn fits(change: &Change, there: bool) -> bool
     ensures { (row : Option Row) → is_some row ≡ there → result ≡ fits change.now row }
 {
     match change {
