@@ -1,9 +1,9 @@
 -- A store with its superblock: which one a crash leaves, and the data files that it names.
 use Rattle.std.specs.Prelude.{◌≡◌, ◌⊎◌, ℕ, ◌+◌, ◌≤◌, List, [], ◌∷◌, Some, Ok}
-use Rattle.kt_disk.specs.Disk.{Files, ButFiles}
+use Rattle.kt_disk.specs.Disk.{Files, held, ButFiles}
 use Rattle.kt_super.specs.declared.meta.Meta.{Meta}
 use Rattle.kt_super.specs.Body.{IsMeta}
-use Rattle.kt_super.specs.Slots.{super_of, AreStable}
+use Rattle.kt_super.specs.Slots.{super_of, slot_at, IsSlot, AreStable}
 use Rattle.kt_files.specs.Named.{named_in, HasNamed}
 
 -- the numbers of the data files that a superblock names
@@ -32,9 +32,14 @@ pub record IsSuccessor (m : Meta) (next_rowset next_file : ℕ) (later : Meta) :
   pub rowsets : later.next_rowset ≤ next_rowset
   pub files : later.next_file ≤ next_file
 
--- an image has the superblock of the disk or this one, and all files but the slots as an image of the disk has them
+-- each open slot of an image spells what it spells in these files, or this superblock
+abbrev pub SpellNoOther : Files → Meta → Files → Type 0
+SpellNoOther files later c = (slot : ℕ) → IsSlot slot → (m : Meta) → slot_at slot (held c slot) ≡ Ok (Some m) → (slot_at slot (held files slot) ≡ Ok (Some m)) ⊎ (m ≡ later)
+
+-- an image has the superblock of the disk or this one, no slot of it spells another that is new, and all files but the slots are as an image of the disk has them
 pub record BetweenBoth {D : Type 0} (seen : D → Files) (now : D → ℕ) (leaves : D → ℕ → Files → Type 0) (later : Meta) (disk : D) (c : Files) : Type 0 where
   pub superblock : (super_of c ≡ super_of (seen disk)) ⊎ (super_of c ≡ Ok (Some later))
+  pub slots : SpellNoOther (seen disk) later c
   pub others : ButFiles now leaves disk (1 ∷ 2 ∷ []) c
 
 -- nothing is pending of the data files that the superblock of an image names

@@ -46,13 +46,14 @@ module _ {D : Type 0} (seen : D → Files) (now : D → ℕ) (leaves : D → ℕ
 
   -- each image has the old superblock
   pub superblock_kept : (old : D) (number : ℕ) (stable : AreStable seen now leaves old) → IsNext (super_of (seen old)) number → (d : D) → Run old (slot_for number) (slot_is number) stable d
-      → LeavesOnly now leaves (IsWith now leaves old (slot_for number) (λ s. s ≡ super_of (seen old))) old d
+      → LeavesOnly now leaves (IsWith now leaves old (slot_for number) (λ s. s ≡ super_of (seen old)) (IsOldOrNone (slot_at (slot_for number) (held (seen old) (slot_for number))))) old d
   superblock_kept old number stable next d run = weaker now leaves _ _ old d (λ c tells. record {
     superblock = kept (seen old) c number next (slot_for number) (slot_is number) refl (λ n is apart. tells.others.others n (apart, tt) ∙ stable n is tells.others.image tells.others.was_left) tells.here;
+    here = tells.here;
     others = tells.others;
   }) run
 
-  pub superblock_begun : (old : D) (number : ℕ) → AreStable seen now leaves old → IsNext (super_of (seen old)) number → LeavesOnly now leaves (IsWith now leaves old (slot_for number) (λ s. s ≡ super_of (seen old))) old old
+  pub superblock_begun : (old : D) (number : ℕ) → AreStable seen now leaves old → IsNext (super_of (seen old)) number → LeavesOnly now leaves (IsWith now leaves old (slot_for number) (λ s. s ≡ super_of (seen old)) (IsOldOrNone (slot_at (slot_for number) (held (seen old) (slot_for number))))) old old
   superblock_begun old number stable next =
       superblock_kept old number stable next old (begun seen now leaves old (slot_for number) (slot_is number) stable (IsOldOrNone (slot_at (slot_for number) (held (seen old) (slot_for number)))) (inl refl))
 
@@ -80,7 +81,7 @@ module _ {D : Type 0} (seen : D → Files) (now : D → ℕ) (leaves : D → ℕ
     gate_synced d1 d2 so_far turn = stays seen now leaves old prepared.slot is_slot stable (IsNoneOrNew m) (inl closed) d1 d2 so_far turn
 
     -- an image has the old superblock or this one
-    gate_supers : (d : D) → GateRun d → LeavesOnly now leaves (IsWith now leaves old prepared.slot (λ s. (s ≡ super_of (seen old)) ⊎ (s ≡ Ok (Some m)))) old d
+    gate_supers : (d : D) → GateRun d → LeavesOnly now leaves (IsWith now leaves old prepared.slot (λ s. (s ≡ super_of (seen old)) ⊎ (s ≡ Ok (Some m))) (IsNoneOrNew m)) old d
     gate_supers d run = weaker now leaves _ _ old d (λ c tells.
         let others : (n : ℕ) → IsSlot n → n ≢ prepared.slot → c n ≡ seen old n = λ n is apart. tells.others.others n (apart, tt) ∙ stable n is tells.others.image tells.others.was_left in
         record {
@@ -88,13 +89,14 @@ module _ {D : Type 0} (seen : D → Files) (now : D → ℕ) (leaves : D → ℕ
             | inl none ↦ inl (kept (seen old) c m.number ready.next prepared.slot is_slot (sym ready.slot) others (inr none))
             | inr this ↦ inr (new (seen old) c m ready.next prepared.slot is_slot closed others this)
           ];
+          here = tells.here;
           others = tells.others;
         }) run
 
-    pub gate_write : (d1 : D) → Turns now leaves (On prepared.slot (Torn 0 1)) old d1 → LeavesOnly now leaves (IsWith now leaves old prepared.slot (λ s. (s ≡ super_of (seen old)) ⊎ (s ≡ Ok (Some m)))) old d1
+    pub gate_write : (d1 : D) → Turns now leaves (On prepared.slot (Torn 0 1)) old d1 → LeavesOnly now leaves (IsWith now leaves old prepared.slot (λ s. (s ≡ super_of (seen old)) ⊎ (s ≡ Ok (Some m))) (IsNoneOrNew m)) old d1
     gate_write d1 wrote = gate_supers d1 (gate_wrote d1 wrote)
 
-    pub gate_sync : (d1 d2 : D) → Turns now leaves (On prepared.slot (Torn 0 1)) old d1 → Turns now leaves Same d1 d2 → LeavesOnly now leaves (IsWith now leaves old prepared.slot (λ s. (s ≡ super_of (seen old)) ⊎ (s ≡ Ok (Some m)))) old d2
+    pub gate_sync : (d1 d2 : D) → Turns now leaves (On prepared.slot (Torn 0 1)) old d1 → Turns now leaves Same d1 d2 → LeavesOnly now leaves (IsWith now leaves old prepared.slot (λ s. (s ≡ super_of (seen old)) ⊎ (s ≡ Ok (Some m))) (IsNoneOrNew m)) old d2
     gate_sync d1 d2 wrote turn = gate_supers d2 (gate_synced d1 d2 (gate_wrote d1 wrote) turn)
 
     -- the gate is open

@@ -5,6 +5,7 @@ use Rattle.kt_disk.specs.Disk.{Files, bytes_of, held}
 use Rattle.kt_super.specs.declared.refusal.Place.{Place}
 use Rattle.kt_super.specs.declared.meta.Meta.{Meta}
 use Rattle.kt_super.specs.Body.{slot_for}
+use Rattle.kt_super.specs.Spellings.{superblock_is_told}
 use Rattle.kt_super.specs.Slots.{slot_at, of_both, super_of, IsSlot, next_number, IsNext, IsOldOrNone}
 use Rattle.kt_super.proofs.SlotLaws.{slot_fits}
 
@@ -159,3 +160,21 @@ slot_is n = pick (eqb (n % 2) 1)
 -- the same number comes next where the superblock is the same
 pub next_is : (number : ℕ) (old same : Result (Option Meta) Place) → old ≡ same → IsNext old number → IsNext same number
 next_is number old same is next = record { open_one = next.open_one; found_is = sym is ∙ next.found_is; number_is = next.number_is }
+
+-- the superblock of both slots is that of one
+told_by_one : (m : Meta) (one two : Result (Option Meta) ℕ) → of_both one two ≡ Ok (Some m) → (one ≡ Ok (Some m)) ⊎ (two ≡ Ok (Some m))
+told_by_one m (Err offset) two e = absurd cc
+told_by_one m (Ok one) (Err offset) e = absurd cc
+told_by_one m (Ok None) (Ok two) e = inr (let same : two ≡ Some m = cc in ap Ok same)
+told_by_one m (Ok (Some one)) (Ok None) e = inl (let same : Some one ≡ Some m = cc in ap Ok same)
+told_by_one m (Ok (Some one)) (Ok (Some two)) e = by (ltb one.number two.number) refl
+  where
+    by : (b : Bool) → ltb one.number two.number ≡ b → ◌≡◌ {A = Result (Option Meta) ℕ} (Ok (Some one)) (Ok (Some m)) ⊎ ◌≡◌ {A = Result (Option Meta) ℕ} (Ok (Some two)) (Ok (Some m))
+    by true below = inr (let found : of_both (Ok (Some one)) (Ok (Some two)) ≡ Ok (Some two) = rw below refl in let same : Some two ≡ Some m = (let both = sym found ∙ e in cc) in ap Ok same)
+    by false below = inl (let found : of_both (Ok (Some one)) (Ok (Some two)) ≡ Ok (Some one) = rw below refl in let same : Some one ≡ Some m = (let both = sym found ∙ e in cc) in ap Ok same)
+
+pub superblock_told : superblock_is_told
+superblock_told files m e = elim (told_by_one m (slot_at 1 (held files 1)) (slot_at 2 (held files 2)) e) [
+  | inl one ↦ (1, inl refl, one)
+  | inr two ↦ (2, inr refl, two)
+]

@@ -84,9 +84,10 @@ pub record IsNext (found : Result (Option Meta) Place) (number : ℕ) : Type 0 w
   pub found_is : found ≡ Ok open_one
   pub number_is : number ≡ next_number open_one
 
--- an image with this superblock, which differs from one of the disk in a slot alone
-pub record IsWith {D : Type 0} (now : D → ℕ) (leaves : D → ℕ → Files → Type 0) (disk : D) (slot : ℕ) (Is : Result (Option Meta) Place → Type 0) (c : Files) : Type 0 where
+-- an image with this superblock, which differs from one of the disk in a slot alone, and there tells this
+pub record IsWith {D : Type 0} (now : D → ℕ) (leaves : D → ℕ → Files → Type 0) (disk : D) (slot : ℕ) (Is : Result (Option Meta) Place → Type 0) (Told : Result (Option Meta) ℕ → Type 0) (c : Files) : Type 0 where
   pub superblock : Is (super_of c)
+  pub here : Told (slot_at slot (held c slot))
   pub others : ButFiles now leaves disk (slot ∷ []) c
 
 -- The slot is closed, and behind its gate stands this superblock, which is the next one.

@@ -3,7 +3,7 @@ ghost use Rattle.std.specs.Prelude.{◌≡◌, ◌≢◌, ◌⊎◌, ℕ, IsTrue
 ghost use Rattle.kt_base.specs.Causes.{HasCause};
 ghost use Rattle.kt_disk.specs.Disk.{LeavesOnly};
 ghost use Rattle.kt_super.specs.declared.meta.Meta.{Meta};
-ghost use Rattle.kt_super.specs.Slots.{super_of, AreStable, IsReady, IsWith};
+ghost use Rattle.kt_super.specs.Slots.{super_of, AreStable, IsReady, IsWith, IsNoneOrNew};
 
 use crate::Prepared;
 use kt_base::Failed;
@@ -18,9 +18,9 @@ pub fn open_gate<D: Disk>(disk: &mut D, prepared: Prepared) -> Result<(), Failed
     ensures stable { OnOk result (IsTrue D.tells → AreStable D.seen D.now D.leaves disk.new) }
     ensures others { IsTrue D.tells → (n : ℕ) → n ≢ prepared.slot → D.seen disk.new n ≡ D.seen disk.old n }
 
-    // A crash at any moment leaves the old superblock or this one, and all files but the slot.
+    // A crash at any moment leaves the old superblock or this one, and all files but the slot, which tells none or this one.
     ensures any_moment { IsTrue D.tells → (m : Meta) → IsReady (D.seen disk.old) prepared m
-        → LeavesOnly D.now D.leaves (IsWith D.now D.leaves disk.old prepared.slot (λ s. (s ≡ super_of (D.seen disk.old)) ⊎ (s ≡ Ok (Some m)))) disk.old disk.new }
+        → LeavesOnly D.now D.leaves (IsWith D.now D.leaves disk.old prepared.slot (λ s. (s ≡ super_of (D.seen disk.old)) ⊎ (s ≡ Ok (Some m))) (IsNoneOrNew m)) disk.old disk.new }
 
     ensures cause { HasCause (D.faults disk.old) (D.faults disk.new) result }
 {

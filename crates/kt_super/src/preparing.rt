@@ -77,8 +77,8 @@ pub fn prepare<D: Disk>(alloc: Global, disk: &mut D, meta: &Meta) -> Result<Prep
     ensures stable { OnOk result (IsTrue D.tells → AreStable D.seen D.now D.leaves disk.new) }
     ensures others { IsTrue D.tells → (n : ℕ) → n ≢ slot_for meta.now.number → D.seen disk.new n ≡ D.seen disk.old n }
 
-    // A crash at any moment leaves the old superblock, and all files but the slot.
-    ensures any_moment { IsTrue D.tells → LeavesOnly D.now D.leaves (IsWith D.now D.leaves disk.old (slot_for meta.now.number) (λ s. s ≡ super_of (D.seen disk.old))) disk.old disk.new }
+    // A crash at any moment leaves the old superblock, and all files but the slot, which tells what it told before, or none.
+    ensures any_moment { IsTrue D.tells → LeavesOnly D.now D.leaves (IsWith D.now D.leaves disk.old (slot_for meta.now.number) (λ s. s ≡ super_of (D.seen disk.old)) (IsOldOrNone (slot_at (slot_for meta.now.number) (held (D.seen disk.old) (slot_for meta.now.number))))) disk.old disk.new }
 
     ensures memory { result ≡ Err PrepareNo.Memory → disk.new ≡ disk.old }
     ensures fault { result ≡ Err PrepareNo.Fault → Rose (D.faults disk.old) (D.faults disk.new) }

@@ -4,7 +4,7 @@ use Rattle.kt_storeside.proofs.Turning.{is_turn, one_of_both}
 use Rattle.kt_storeside.proofs.publishing.publish.Goals as goal
 
 pub returns-in_err-prepared-clause-any_moment : goal.returns-in_err-prepared-clause-any_moment
-returns-in_err-prepared-clause-any_moment g c = λ t. prepared g.D.Disk.seen g.D.Disk.now g.D.Disk.leaves c.args.meta.now c.args.disk.now c.prepare.new.disk (c.prepare.ensures.any_moment t)
+returns-in_err-prepared-clause-any_moment g c = λ t. prepared g.D.Disk.seen g.D.Disk.now g.D.Disk.leaves c.args.meta.now c.args.disk.now c.prepare.new.disk (c.requires.stable t) (c.prepare.ensures.any_moment t)
 
 pub returns-in-Ok-clause-others : goal.returns-in-Ok-clause-others
 returns-in-Ok-clause-others g c = λ t n one two.
@@ -16,11 +16,11 @@ returns-in-Err-clause-others g c = λ t n one two.
 
 pub returns-in-Ok-clause-any_moment : goal.returns-in-Ok-clause-any_moment
 returns-in-Ok-clause-any_moment g c = λ t. opened g.D.Disk.seen g.D.Disk.now g.D.Disk.leaves c.args.meta.now c.args.disk.now c.prepare.new.disk c.open_gate.new.disk c.in_ok-prepared.prepared.slot
-    (c.in_ok-prepared.ensures.ready t).slot (g.met.D.Disk.reads_as_image c.prepare.new.disk t) (c.prepare.ensures.any_moment t) (c.open_gate.ensures.any_moment t c.args.meta.now (c.in_ok-prepared.ensures.ready t))
+    (c.requires.stable t) (c.in_ok-prepared.ensures.ready t).slot (g.met.D.Disk.reads_as_image c.prepare.new.disk t) (c.prepare.ensures.any_moment t) (c.open_gate.ensures.any_moment t c.args.meta.now (c.in_ok-prepared.ensures.ready t))
 
 pub returns-in-Err-clause-any_moment : goal.returns-in-Err-clause-any_moment
 returns-in-Err-clause-any_moment g c = λ t. opened g.D.Disk.seen g.D.Disk.now g.D.Disk.leaves c.args.meta.now c.args.disk.now c.prepare.new.disk c.open_gate.new.disk c.in_ok-prepared.prepared.slot
-    (c.in_ok-prepared.ensures.ready t).slot (g.met.D.Disk.reads_as_image c.prepare.new.disk t) (c.prepare.ensures.any_moment t) (c.open_gate.ensures.any_moment t c.args.meta.now (c.in_ok-prepared.ensures.ready t))
+    (c.requires.stable t) (c.in_ok-prepared.ensures.ready t).slot (g.met.D.Disk.reads_as_image c.prepare.new.disk t) (c.prepare.ensures.any_moment t) (c.open_gate.ensures.any_moment t c.args.meta.now (c.in_ok-prepared.ensures.ready t))
 
 pub returns-in_err-prepared-clause-turn : goal.returns-in_err-prepared-clause-turn
 returns-in_err-prepared-clause-turn g c = λ t first next. is_turn g.D.Disk.seen g.D.Disk.now g.D.Disk.leaves c.args.meta.now c.args.disk.now c.prepare.new.disk (λ n one two. c.prepare.ensures.others t n (no_slot c.args.meta.now.number n one two)) (returns-in_err-prepared-clause-any_moment g c t) first next
