@@ -1,5 +1,5 @@
 -- The superblock that a flush publishes.
-use Rattle.std.proofs.Common.{◌≡◌, ◌<◌, ℕ, List, [], ◌∷◌, ◌++◌, map, Some, None, Option, refl, sym, ap, ◌∙◌, subst, arith, cond, true, false, inl, inr}
+use Rattle.std.proofs.Common.{◌≡◌, ◌<◌, ℕ, Bool, List, [], ◌∷◌, ◌++◌, map, Some, None, Option, refl, sym, ap, ◌∙◌, subst, arith, cond, true, false, inl, inr}
 use Rattle.std.specs.Prelude.{◌==◌, is_some, nat_lt, not}
 use Rattle.std.proofs.lemmas.Bool.{lt-ltb, le-ltb, ne_eqb}
 use Rattle.std.proofs.lemmas.List.Elements.{filter-append}
@@ -19,9 +19,9 @@ use Rattle.kt_content.specs.Places.{Super, Place, memory, disk, Held, held_in, i
 use Rattle.kt_content.specs.Content.{NumbersDiffer, LacksNumber}
 use Rattle.kt_content.specs.InMemory.{group, groups, hist_at}
 use Rattle.kt_content.specs.Publishing.{gone}
-use Rattle.kt_content.specs.RunEvents.{RowsetsBelow, RecordsBelow, RowsBelow, TargetsBelow}
+use Rattle.kt_content.specs.RunEvents.{Numbers, RowsetsBelow, RecordsBelow, RowsBelow, TargetsBelow, IsBelow}
 use Rattle.kt_content.specs.Successors.{kept_rowsets, Succeeds}
-use Rattle.kt_content.specs.OneVisit.{AllLeftOrDone, RowsAre, IfTold, CommitsHandOver}
+use Rattle.kt_content.specs.OneVisit.{IsLeftOrDone, AllLeftOrDone, RowsAre, IfTold, CommitsHandOver}
 use Rattle.kt_content.specs.Flushes.{below, flushed, AreFrom, EachTold, before, a_flush_publishes_at_rest, a_flush_stands}
 use Rattle.kt_content.proofs.OneVisit.{at_rest_stands}
 
@@ -32,11 +32,11 @@ lacks_more next r [] [] lt l f = tt
 lacks_more next r [] (d ∷ outputs) lt l f = (ne_eqb r d.rowset (λ e. let a = f.0 in omega arith), lacks_more next r [] outputs lt tt f.1)
 lacks_more next r (d ∷ rowsets) outputs lt l f = (l.0, lacks_more next r rowsets outputs lt l.1 f)
 
-differ_both : (next last_mem : ℕ) (rowsets outputs : List DiskRowset) → NumbersDiffer rowsets → NumbersDiffer outputs → RowsetsBelow (before next last_mem) rowsets → AreFrom next outputs → NumbersDiffer (rowsets ++ outputs)
+pub differ_both : (next last_mem : ℕ) (rowsets outputs : List DiskRowset) → NumbersDiffer rowsets → NumbersDiffer outputs → RowsetsBelow (before next last_mem) rowsets → AreFrom next outputs → NumbersDiffer (rowsets ++ outputs)
 differ_both next last_mem [] outputs d e b f = e
 differ_both next last_mem (r ∷ rowsets) outputs d e b f = (lacks_more next r.rowset rowsets outputs b.0 d.0 f, differ_both next last_mem rowsets outputs d.1 e b.1 f)
 
-pass_both : (rules : Rules) (rowsets outputs : List DiskRowset) → RowsetsPass rules rowsets → RowsetsPass rules outputs → RowsetsPass rules (rowsets ++ outputs)
+pub pass_both : (rules : Rules) (rowsets outputs : List DiskRowset) → RowsetsPass rules rowsets → RowsetsPass rules outputs → RowsetsPass rules (rowsets ++ outputs)
 pass_both rules [] outputs p q = q
 pass_both rules (r ∷ rowsets) outputs p q = (p.0, pass_both rules rowsets outputs p.1 q)
 
@@ -72,12 +72,12 @@ gone_both next last_mem q rowsets outputs b f =
     ∙ ap (λ l. l ++ gone (below next) (in_files q outputs)) (none_gone next last_mem q rowsets b)
     ∙ all_gone next q outputs f
 
-hists_of_files : (q : List ℕ) (outputs : List DiskRowset) → held_in (in_files q outputs) ≡ map (hist_in_files q) outputs
+pub hists_of_files : (q : List ℕ) (outputs : List DiskRowset) → held_in (in_files q outputs) ≡ map (hist_in_files q) outputs
 hists_of_files q [] = refl
 hists_of_files q (d ∷ outputs) = ap (λ l. hist_in_files q d ∷ l) (hists_of_files q outputs)
 
 -- the history at an output's place
-at_output : (next last_mem : ℕ) (q : List ℕ) (r : ℕ) (rowsets outputs : List DiskRowset) → nat_lt r next ≡ false → RowsetsBelow (before next last_mem) rowsets
+pub at_output : (next last_mem : ℕ) (q : List ℕ) (r : ℕ) (rowsets outputs : List DiskRowset) → nat_lt r next ≡ false → RowsetsBelow (before next last_mem) rowsets
     → hist_at (disk r) (in_files q (rowsets ++ outputs)) ≡ hist_at (disk r) (in_files q outputs)
 at_output next last_mem q r [] outputs up b = refl
 at_output next last_mem q r (d ∷ rowsets) outputs up b =
@@ -86,32 +86,37 @@ at_output next last_mem q r (d ∷ rowsets) outputs up b =
 
 -- ---- names
 
-module _ (old : Super) (a c need last_mem next : ℕ) (outputs : List DiskRowset) where
-  targets_are : (targets : List Target) → TargetsBelow (before next last_mem) targets → AllLeftOrDone (below next) (flushed old a c need last_mem outputs) targets
+module _ (keep : Place → Bool) (new : Super) (numbers : Numbers) (one : (t : Target) → IsBelow numbers t → IsLeftOrDone keep new t) where
+  targets_are : (targets : List Target) → TargetsBelow numbers targets → AllLeftOrDone keep new targets
   targets_are [] b = tt
-  targets_are (Mem n ∷ targets) b = (inr (refl, ap (λ k. cond k (Some memory) None) (le-ltb last_mem n b.0)), targets_are targets b.1)
-  targets_are (Delta r n ∷ targets) b = (inl (lt-ltb r next b.0), targets_are targets b.1)
+  targets_are (t ∷ targets) b = (one t b.0, targets_are targets b.1)
 
-  rows_are : (rows : List CommitRow) → RowsBelow (before next last_mem) rows → RowsAre (below next) (flushed old a c need last_mem outputs) rows
+  rows_are : (rows : List CommitRow) → RowsBelow numbers rows → RowsAre keep new rows
   rows_are [] b = tt
   rows_are (row ∷ rows) b = (targets_are row.targets b.0, rows_are rows b.1)
 
-  commit_is : (ts : ℕ) (all : List Entry) (rows : List CommitRow) → RecordsBelow (before next last_mem) all → commit_of ts all ≡ Some rows → RowsAre (below next) (flushed old a c need last_mem outputs) rows
+  commit_is : (ts : ℕ) (all : List Entry) (rows : List CommitRow) → RecordsBelow numbers all → commit_of ts all ≡ Some rows → RowsAre keep new rows
   commit_is ts [] rows b e = absurd (cc)
   commit_is ts (Replicate t ops ∷ all) rows b e = commit_is ts all rows b e
-  commit_is ts (Commit t others ∷ all) rows b e = elim (t == ts) as (λ k. cond k (Some others) (commit_of ts all) ≡ Some rows → RowsAre (below next) (flushed old a c need last_mem outputs) rows) [
-    | true ↦ λ e. (let same : others ≡ rows = cc in subst (RowsAre (below next) (flushed old a c need last_mem outputs)) same (rows_are others b.0))
+  commit_is ts (Commit t others ∷ all) rows b e = elim (t == ts) as (λ k. cond k (Some others) (commit_of ts all) ≡ Some rows → RowsAre keep new rows) [
+    | true ↦ λ e. (let same : others ≡ rows = cc in subst (RowsAre keep new) same (rows_are others b.0))
     | false ↦ λ e. commit_is ts all rows b.1 e
   ] e
 
-  told_is : (ts : ℕ) (all : List Entry) (o : Option (List CommitRow)) → RecordsBelow (before next last_mem) all → commit_of ts all ≡ o → is_some o ≡ true → IfTold (below next) (flushed old a c need last_mem outputs) o
+  told_is : (ts : ℕ) (all : List Entry) (o : Option (List CommitRow)) → RecordsBelow numbers all → commit_of ts all ≡ o → is_some o ≡ true → IfTold keep new o
   told_is ts all None b e t = absurd (cc)
   told_is ts all (Some rows) b e t = commit_is ts all rows b e
 
-  hand_over : (all records : List Entry) → RecordsBelow (before next last_mem) all → EachTold all records → CommitsHandOver (below next) (flushed old a c need last_mem outputs) all records
+  -- where each name below these numbers goes on, each COMMIT does
+  pub hand_over : (all records : List Entry) → RecordsBelow numbers all → EachTold all records → CommitsHandOver keep new all records
   hand_over all [] b t = tt
   hand_over all (Replicate ts ops ∷ records) b t = (told_is ts all (commit_of ts all) b refl t.0, hand_over all records b t.1)
   hand_over all (Commit ts rows ∷ records) b t = hand_over all records b t
+
+-- a flush leaves the rowsets, and needs no MemRowSet from before
+flush_leaves : (old : Super) (a c need last_mem next : ℕ) (outputs : List DiskRowset) (t : Target) → IsBelow (before next last_mem) t → IsLeftOrDone (below next) (flushed old a c need last_mem outputs) t
+flush_leaves old a c need last_mem next outputs (Mem n) b = inr (refl, ap (λ k. cond k (Some memory) None) (le-ltb last_mem n b))
+flush_leaves old a c need last_mem next outputs (Delta r n) b = inl (lt-ltb r next b)
 
 -- ---- the whole
 
@@ -129,7 +134,7 @@ publishes rules old a c need last_mem next outputs records stores j f =
       numbers = differ_both next last_mem old.rowsets outputs f.old_differ f.new_differ f.rowsets f.outputs_from;
       files = pass_both rules old.rowsets outputs f.old_pass f.new_pass;
       succeeds = succeeds old a c need last_mem next outputs f.outputs_from;
-      names = hand_over old a c need last_mem next outputs records records f.names f.told;
+      names = hand_over (below next) new (before next last_mem) (flush_leaves old a c need last_mem next outputs) records records f.names f.told;
       alike = λ q. subst (λ (l : List Hist). AreAlike j (groups old (stores q) (gone (below next) (at_first q old))) l) (sym (held_new q))
           (subst (λ (l : Held). AreAlike j (groups old (stores q) l) (never ∷ map (hist_in_files q) outputs)) (sym (gone_old q))
           (subst (λ (l : List Hist). AreAlike j l (never ∷ map (hist_in_files q) outputs)) (sym (append-nil (group old memory (stores q)))) (never_first j (group old memory (stores q)) (map (hist_in_files q) outputs) (f.alike q))));
