@@ -19,3 +19,4 @@ pub mod Firsts
 pub mod NoneAbove
 pub mod Wholes
 pub mod Settled
+pub mod Told

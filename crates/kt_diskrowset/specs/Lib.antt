@@ -3,6 +3,7 @@ pub mod Mems
 pub mod Rows
 pub mod Alive
 pub mod Rowset
+pub mod Held
 pub mod Joining
 pub mod Data
 pub mod Page

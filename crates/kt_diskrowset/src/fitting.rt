@@ -14,6 +14,7 @@ use std::alloc::Global;
 
 impl RowSetData {
     ghost use Rattle.kt_diskrowset.specs.Data.{files_in, held_in};
+    ghost use Rattle.kt_diskrowset.specs.Held.{IsReadOf};
 
     // Whether the UNDO records of the row at a place fit.
     fn row_fits(&self, alloc: Global, ordinal: u32) -> Result<bool, NoMemory>
@@ -45,6 +46,7 @@ impl RowSetData {
         ensures fresh { IfOk result (λ d. d.fresh ≡ self.fresh) }
         ensures number { IfOk result (λ d. d.number ≡ self.number) }
         ensures held { IfOk result (λ d. undos_fit (files_in self) ≡ true → held_in d ≡ held_in self) }
+        ensures read { IfOk result (λ d. IsReadOf (held_in self) (held_in d)) }
     {
         if self.undos_fit(alloc)? {
             return Ok(self);

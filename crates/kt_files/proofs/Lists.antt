@@ -16,6 +16,7 @@ use Rattle.kt_diskrowset.specs.Rowset.{HeldFiles}
 use Rattle.kt_diskrowset.specs.Data.{held_in}
 use Rattle.kt_files.specs.Reading.{HoldsBase, HoldsDeltas, HoldEach, IsDeltasFault, IsListFault, HoldsRowset, HoldAll, IsRowsetFault, in_undo, in_redo, IsFirstFault}
 use Rattle.kt_files.specs.Held.{base_in, AreFresh, numbers_in, numbers_named}
+use Rattle.kt_files.specs.Named.{base_named, delta_named, deltas_named, Names, AreNamed}
 
 -- ---- a disk that was not yet called
 
@@ -127,3 +128,30 @@ numbers_more list i r held held1 h lt is so added one =
     ap numbers_in added ∙ map-append (λ (d : RowSetData). d.number) held (h ∷ [])
     ∙ (λ k. so k ++ one k ∷ [])
     ∙ sym (ap numbers_named (take_more list i r lt ∙ ap (λ (x : MetaRowset). take i list ++ x ∷ []) is) ∙ map-append (λ (x : MetaRowset). x.rowset) (take i list) (r ∷ []))
+
+-- ---- as a superblock names them
+
+pub named_more : (list : List FileRef) (i : ℕ) (d f : FileRef) (held held1 : List FileHeld) (h : FileHeld) → i < length list → get_or list i d ≡ f → deltas_named (as_files held) ≡ take i list → held1 ≡ held ++ h ∷ []
+    → delta_named (as_file h) ≡ f → deltas_named (as_files held1) ≡ take (i + 1) list
+named_more list i d f held held1 h lt is so added one =
+    ap (λ (fs : List FileHeld). deltas_named (as_files fs)) added ∙ ap deltas_named (map_push as_file held h) ∙ map_push delta_named (as_files held) (as_file h)
+    ∙ (λ k. so k ++ one k ∷ []) ∙ sym (take_more list i d lt ∙ ap (λ (x : FileRef). take i list ++ x ∷ []) is)
+
+names_push : (rs : List MetaRowset) (hs : List HeldFiles) (r : MetaRowset) (h : HeldFiles) → AreNamed rs hs → Names r h → AreNamed (rs ++ r ∷ []) (hs ++ h ∷ [])
+names_push [] [] r h all one = (one, tt)
+names_push [] (x ∷ hs) r h all one = absurd all
+names_push (y ∷ rs) [] r h all one = absurd all
+names_push (y ∷ rs) (x ∷ hs) r h all one = (all.0, names_push rs hs r h all.1 one)
+
+pub names_more : (list : List MetaRowset) (i : ℕ) (r : MetaRowset) (held held1 : List RowSetData) (h : RowSetData) → i < length list → get_or list i r ≡ r → AreNamed (take i list) (map held_in held)
+    → held1 ≡ held ++ h ∷ [] → Names r (held_in h) → AreNamed (take (i + 1) list) (map held_in held1)
+names_more list i r held held1 h lt is so_far added one =
+    let front : take (i + 1) list ≡ take i list ++ r ∷ [] = take_more list i r lt ∙ ap (λ (x : MetaRowset). take i list ++ x ∷ []) is in
+    let views : map held_in held1 ≡ map held_in held ++ held_in h ∷ [] = ap (λ (l : List RowSetData). map held_in l) added ∙ map_push held_in held h in
+    subst (λ (l : List MetaRowset). AreNamed l (map held_in held1)) (sym front)
+    (subst (λ (l : List HeldFiles). AreNamed (take i list ++ r ∷ []) l) (sym views) (names_push (take i list) (map held_in held) r (held_in h) so_far one))
+
+-- the files of a rowset, each list as it is named
+pub names_rowset : (r : MetaRowset) (base : BaseHeld) (undos redos : List FileHeld) (undo redo : List FileRef) → base_named (base_in base) ≡ r.base → deltas_named (as_files undos) ≡ undo → undo ≡ r.undo → deltas_named (as_files redos) ≡ redo → redo ≡ r.redo
+    → Names r (record { number = r.rowset; base = base_in base; undos = as_files undos; redos = as_files redos })
+names_rowset r base undos redos undo redo is_base is_undo same_undo is_redo same_redo = λ k. record { rowset = r.rowset; last_dms = r.last_dms; base = is_base k; undo = (is_undo ∙ same_undo) k; redo = (is_redo ∙ same_redo) k }

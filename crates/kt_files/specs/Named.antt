@@ -1,7 +1,11 @@
 -- The files that a superblock names, and what a disk keeps beside them.
-use Rattle.std.specs.Prelude.{◌≡◌, ℕ, Bool, true, ◌==◌, ◌||◌, List, [], ◌∷◌, ◌++◌}
+use Rattle.std.specs.Prelude.{◌≡◌, ℕ, Bool, true, ◌==◌, ◌||◌, List, [], ◌∷◌, ◌++◌, map}
 use Rattle.kt_disk.specs.Disk.{Files, Gone}
+use Rattle.kt_super.specs.declared.meta.FileRef.{FileRef}
 use Rattle.kt_super.specs.declared.meta.MetaRowset.{MetaRowset}
+use Rattle.kt_baseset.specs.Tables.{BaseValue}
+use Rattle.kt_deltafile.specs.File.{FileView}
+use Rattle.kt_diskrowset.specs.Rowset.{HeldFiles}
 use Rattle.kt_super.specs.Rowsets.{has, numbers_of}
 
 -- the files of a disk rowset: its base file, its UNDO files and its REDO files
@@ -26,3 +30,28 @@ pub record Spares {D : Type 0} (now : D → ℕ) (leaves : D → ℕ → Files �
   pub was_left : leaves disk (now disk) image
   pub kept : (n : ℕ) → is_kept named n ≡ true → c n ≡ image n
   pub others : (n : ℕ) → Gone (image n) (c n)
+
+-- ---- files as a superblock names them
+
+abbrev pub base_named : ℕ × ℕ × BaseValue → FileRef
+base_named b = record { file = b.0; len = b.1 }
+
+abbrev pub delta_named : ℕ × ℕ × FileView → FileRef
+delta_named f = record { file = f.0; len = f.1 }
+
+abbrev pub deltas_named : List (ℕ × ℕ × FileView) → List FileRef
+deltas_named files = map delta_named files
+
+-- those of a disk rowset, which hold all DeltaMemStores up to a number
+abbrev pub named_as : ℕ → HeldFiles → MetaRowset
+named_as last_dms h = record { rowset = h.number; last_dms = last_dms; base = base_named h.base; undo = deltas_named h.undos; redo = deltas_named h.redos }
+
+-- a superblock names these files
+abbrev pub Names : MetaRowset → HeldFiles → Type 0
+Names r h = named_as r.last_dms h ≡ r
+
+abbrev pub AreNamed : List MetaRowset → List HeldFiles → Type 0
+AreNamed [] [] = Unit {0}
+AreNamed [] (h ∷ hs) = ⊥
+AreNamed (r ∷ rs) [] = ⊥
+AreNamed (r ∷ rs) (h ∷ hs) = Names r h × AreNamed rs hs

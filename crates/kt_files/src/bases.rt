@@ -3,6 +3,7 @@ ghost use Rattle.std.specs.Prelude.{◌≡◌, ◌≤◌, ℕ, IsTrue, Err, IfOk
 ghost use Rattle.kt_base.specs.Causes.{Rose};
 ghost use Rattle.kt_disk.specs.Disk.{Same, Turns};
 ghost use Rattle.kt_baseset.specs.Spelling.{SpellsBase};
+ghost use Rattle.kt_files.specs.Named.{base_named};
 ghost use Rattle.kt_files.specs.Reading.{IsBaseFault, IsNoBase, HoldsBase};
 ghost use Rattle.kt_files.specs.Held.{base_in};
 
@@ -33,6 +34,7 @@ fn held_with(alloc: Global, file: FileRef, set: BaseSet) -> Result<BaseHeld, Fil
     ensures file { IfOk result (λ base. base.file ≡ file.file) }
     ensures len { IfOk result (λ base. base.len ≡ file.len) }
     ensures set { IfOk result (λ base. base.set.value ≡ set) }
+    ensures named { IfOk result (λ base. base_named (base_in base) ≡ file) }
     ensures place { (at offset : ℕ) → result ≡ Err (FilesNo.Place at offset) → ⊥ }
     ensures fault { result ≡ Err FilesNo.Fault → ⊥ }
 {
@@ -50,6 +52,7 @@ pub(crate) fn read_base<D: Disk>(
     file: FileRef,
 ) -> Result<BaseHeld, FilesNo>
     ensures holds { IfOk result (λ base. IsTrue D.tells → HoldsBase (D.seen disk.old) file (base_in base)) }
+    ensures named { IfOk result (λ base. base_named (base_in base) ≡ file) }
     ensures place { (at offset : ℕ) → result ≡ Err (FilesNo.Place at offset) → IsTrue D.tells → (at ≡ file.file) × IsBaseFault (D.seen disk.old) file offset }
     ensures seen { IsTrue D.tells → D.seen disk.new ≡ D.seen disk.old }
     ensures images { IsTrue D.tells → Turns D.now D.leaves Same disk.old disk.new }

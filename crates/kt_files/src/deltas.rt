@@ -6,6 +6,7 @@ ghost use Rattle.kt_disk.specs.Disk.{Same, Turns};
 ghost use Rattle.kt_deltafile.specs.Rules.{FileFits};
 ghost use Rattle.kt_deltafile.specs.Spelling.{spelling};
 ghost use Rattle.kt_diskrowset.specs.Files.{as_file, as_files};
+ghost use Rattle.kt_files.specs.Named.{delta_named, deltas_named};
 ghost use Rattle.kt_files.specs.Reading.{other_way, leads, IsNoDeltas, HoldsDeltas, IsDeltasFault, HoldEach, IsListFault};
 
 use crate::bytes::read_bytes;
@@ -74,6 +75,7 @@ fn deltas_of(
 // The delta file with these records.
 fn held_with(alloc: Global, file: FileRef, deltas: DeltaFile) -> Result<FileHeld, FilesNo>
     ensures held { IfOk result (λ held. as_file held ≡ (file.file, file.len, deltas)) }
+    ensures named { IfOk result (λ held. delta_named (as_file held) ≡ file) }
     ensures place { (at offset : ℕ) → result ≡ Err (FilesNo.Place at offset) → ⊥ }
     ensures fault { result ≡ Err FilesNo.Fault → ⊥ }
 {
@@ -93,6 +95,7 @@ fn read_deltas<D: Disk>(
     file: FileRef,
 ) -> Result<FileHeld, FilesNo>
     ensures holds { IfOk result (λ held. IsTrue D.tells → HoldsDeltas (D.seen disk.old) way rows file (as_file held)) }
+    ensures named { IfOk result (λ held. delta_named (as_file held) ≡ file) }
     ensures place { (at offset : ℕ) → result ≡ Err (FilesNo.Place at offset) → IsTrue D.tells → (at ≡ file.file) × IsDeltasFault (D.seen disk.old) way rows file offset }
     ensures seen { IsTrue D.tells → D.seen disk.new ≡ D.seen disk.old }
     ensures images { IsTrue D.tells → Turns D.now D.leaves Same disk.old disk.new }
@@ -113,6 +116,7 @@ pub(crate) fn read_list<D: Disk>(
     list: &[FileRef],
 ) -> Result<FileLists, FilesNo>
     ensures hold { IfOk result (λ held. IsTrue D.tells → HoldEach (D.seen disk.old) way rows list.now (as_files held)) }
+    ensures named { IfOk result (λ held. deltas_named (as_files held) ≡ list.now) }
     ensures place { (at offset : ℕ) → result ≡ Err (FilesNo.Place at offset) → IsTrue D.tells → IsListFault (D.seen disk.old) way rows list.now at offset }
     ensures seen { IsTrue D.tells → D.seen disk.new ≡ D.seen disk.old }
     ensures images { IsTrue D.tells → Turns D.now D.leaves Same disk.old disk.new }

@@ -5,6 +5,7 @@ ghost use Rattle.kt_disk.specs.Disk.{Same, Turns};
 ghost use Rattle.kt_diskrowset.specs.Data.{held_in};
 ghost use Rattle.kt_files.specs.Reading.{HoldsRowset, IsRowsetFault, HoldAll, IsFirstFault};
 ghost use Rattle.kt_files.specs.Held.{AreFresh, numbers_in, numbers_named};
+ghost use Rattle.kt_files.specs.Named.{Names, AreNamed};
 
 use crate::bases::read_base;
 use crate::deltas::read_list;
@@ -56,6 +57,7 @@ fn read_rowset<D: Disk>(
     ensures holds { IfOk result (λ held. IsTrue D.tells → HoldsRowset (D.seen disk.old) rowset.now (held_in held)) }
     ensures fresh { IfOk result (λ held. held.fresh ≡ []) }
     ensures number { IfOk result (λ held. held.number ≡ rowset.now.rowset) }
+    ensures named { IfOk result (λ held. Names rowset.now (held_in held)) }
     ensures place { (file offset : ℕ) → result ≡ Err (FilesNo.Place file offset) → IsTrue D.tells → IsRowsetFault (D.seen disk.old) rowset.now file offset }
     ensures seen { IsTrue D.tells → D.seen disk.new ≡ D.seen disk.old }
     ensures images { IsTrue D.tells → Turns D.now D.leaves Same disk.old disk.new }
@@ -83,6 +85,9 @@ pub fn read_rowsets<D: Disk>(alloc: Global, disk: &mut D, meta: &Meta) -> Result
 
     ensures fresh { IfOk result AreFresh }
     ensures numbers { IfOk result (λ rowsets. numbers_in rowsets ≡ numbers_named meta.now.rowsets) }
+
+    // Each has the files that the superblock names, whatever the disk tells.
+    ensures named { IfOk result (λ rowsets. AreNamed meta.now.rowsets (map held_in rowsets)) }
 
     // The first file that is shorter than its length or not in its grammar, and its first fault.
     ensures place { (file offset : ℕ) → result ≡ Err (FilesNo.Place file offset) → IsTrue D.tells → IsFirstFault (D.seen disk.old) meta.now.rowsets file offset }

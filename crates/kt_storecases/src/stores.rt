@@ -6,8 +6,8 @@ use kt_base::{Cells, NoMemory, Octets};
 use kt_cells::Tail;
 use kt_cells::laws::spelled_law;
 use kt_cells::writing::put_cell_list;
+use kt_diskrowset::DiskRowSet;
 use kt_history::{OpKind, OpRef, Taken, Target};
-use kt_memrowset::MemRowSet;
 use kt_pool::Pool;
 use kt_stores::Stores;
 use std::alloc::Global;
@@ -29,7 +29,7 @@ fn no_cells(alloc: Global) -> Result<Octets, NoMemory>
 /// Makes the change of an operation on a key, if there is room.
 fn take(
     alloc: Global,
-    stores: &mut Stores<MemRowSet>,
+    stores: &mut Stores<DiskRowSet>,
     ts: u64,
     kind: OpKind,
     key: &[u8],
@@ -46,7 +46,7 @@ fn take(
 }
 
 /// Takes an operation, whose time is its place. Tells whether it came out as it is to.
-fn comes_out(alloc: Global, stores: &mut Stores<MemRowSet>, ts: u64, step: &Step) -> bool {
+fn comes_out(alloc: Global, stores: &mut Stores<DiskRowSet>, ts: u64, step: &Step) -> bool {
     let (number, kind, key, there, id) = step;
     if let Some(number) = number {
         if stores.freeze(*number).is_err() {
@@ -60,7 +60,7 @@ fn comes_out(alloc: Global, stores: &mut Stores<MemRowSet>, ts: u64, step: &Step
 }
 
 /// Takes the operations in turn. Tells whether each came out as it is to.
-fn plays(alloc: Global, stores: &mut Stores<MemRowSet>) -> bool {
+fn plays(alloc: Global, stores: &mut Stores<DiskRowSet>) -> bool {
     let mut ts: u64 = 0;
     for step in &STEPS {
         ts = ts.saturating_add(1);
@@ -82,7 +82,7 @@ const STEPS: [Step; 7] = [
 ];
 
 /// Stores of one empty MemRowSet, number 1, with promised cells.
-fn first_stores(alloc: Global) -> Option<Stores<MemRowSet>> {
+fn first_stores(alloc: Global) -> Option<Stores<DiskRowSet>> {
     let pool = Pool::new(alloc, 200).ok()?;
     if pool.free() != pool.size() {
         return None;
@@ -92,18 +92,21 @@ fn first_stores(alloc: Global) -> Option<Stores<MemRowSet>> {
     Some(stores)
 }
 
-/// Whether three stores have the rows, and once the frozen ones have gone the last alone.
-fn are_as_told(stores: &mut Stores<MemRowSet>) -> bool {
-    let three = stores.len() == 3 && !stores.live(b"ant") && stores.live(b"bee");
+/// Whether three stores have the rows, and once a flush that leaves no rowset has ended the last alone.
+fn are_as_told(alloc: Global, stores: &mut Stores<DiskRowSet>) -> bool {
+    if stores.len() != 3 || stores.rowsets() != 0 {
+        return false;
+    }
+    let three = !stores.live(b"ant") && stores.live(b"bee");
     let free = stores.free();
-    stores.drop_frozen();
+    stores.change_over(Vec::new(alloc));
     let one = stores.len() == 1 && !stores.live(b"bee") && stores.live(b"cat");
     three && one && free < stores.free()
 }
 
 fn holds(alloc: Global) -> bool {
     match first_stores(alloc) {
-        Some(mut stores) => plays(alloc, &mut stores) && are_as_told(&mut stores),
+        Some(mut stores) => plays(alloc, &mut stores) && are_as_told(alloc, &mut stores),
         None => false,
     }
 }

@@ -8,7 +8,7 @@ use Rattle.kt_history.proofs.Beside.{Stays, IsPlaced, all_stay, stand_left, stan
 use Rattle.kt_memrowset.specs.declared.store.MemRowSet.{MemRowSet}
 use Rattle.kt_memrowset.specs.Stores.{IsStore, Owns, cells_had}
 use Rattle.kt_pool.specs.Contents.{Contents, at_cell, used}
-use Rattle.kt_stores.specs.Shelf.{Shelved, AreClosed, AreExact, FirstIsOpen, cells_in, without_frozen}
+use Rattle.kt_stores.specs.Shelf.{Shelved, AreClosed, AreExact, FirstIsOpen, cells_in}
 use Rattle.kt_stores.specs.Parts.{kept, stands_by, owns_by, read_by, shelved_mem, shelf_of, AreKept, AreEmptied}
 use Rattle.kt_stores.proofs.Either.{mem_stays}
 
@@ -57,6 +57,11 @@ all_emptied all left old now h0 none =
     record { frame = h.frame; fewer = let was = h.fewer in omega arith; reserved = h.reserved; size = h.size }
 
 -- ---- the stores without the frozen ones
+
+-- the shelf without the so many stores behind the first
+abbrev pub without_frozen : ℕ → List Shelved → List Shelved
+without_frozen n [] = []
+without_frozen n (s ∷ shelf) = s ∷ drop n shelf
 
 module _ {R : Type 0} (stands : R → Contents → Type 0) (owns : R → Contents → ℕ → Type 0) (read : R → Contents → Shelved) where
   owned_in : (pool : Contents) (frozen : List MemRowSet) (k : ℕ) → OwnedBy Owns pool frozen k → OwnedBy (owns_by owns) pool (map inl frozen) k

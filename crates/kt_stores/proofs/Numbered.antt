@@ -1,9 +1,12 @@
 -- Where the disk rowset of a number is, among the stores in their order.
 use Rattle.std.proofs.Common.{◌≡◌, ◌⊎◌, ℕ, suc, ◌+◌, Bool, false, List, [], ◌∷◌, ◌++◌, map, length, Option, Some, None, refl, sym, ap, ◌∙◌, inl, inr, arith}
+use Rattle.std.specs.Prelude.{◌==◌}
 use Rattle.std.specs.List.{position}
 use Rattle.std.specs.Option.{option_map}
 use Rattle.std.proofs.lemmas.List.{length-map}
 use Rattle.kt_histlaws.specs.Histories.{or_else}
+use Rattle.kt_diskrowset.specs.declared.rowset.DiskRowSet.{DiskRowSet}
+use Rattle.kt_diskrowset.specs.Rowset.{HeldFiles, held_of, name_of}
 use Rattle.kt_memrowset.specs.declared.store.MemRowSet.{MemRowSet}
 use Rattle.kt_pool.specs.Contents.{Contents}
 use Rattle.kt_stores.specs.Shelf.{Shelved, is_rowset}
@@ -32,3 +35,9 @@ module _ {R : Type 0} (read : R → Contents → Shelved) (pool : Contents) (num
       ∙ ap (λ n. option_map (λ j. n + j) (seek all (map inr rowsets))) (length-map frozen left)
       ∙ ap (option_map (λ j. length frozen + j)) (seek-map all right rowsets ∙ sym (position_is (λ r. is_rowset number (read r pool).name) rowsets)))
       ∙ behind (length frozen) (position (λ r. is_rowset number (read r pool).name) rowsets)
+
+-- and its files
+pub filed : (number : ℕ) (rowsets : List DiskRowSet) → position (λ (h : HeldFiles). h.number == number) (map held_of rowsets) ≡ position (λ (r : DiskRowSet). is_rowset number (name_of r)) rowsets
+filed number rowsets =
+    position_is (λ (h : HeldFiles). h.number == number) (map held_of rowsets) ∙ seek-map (λ (h : HeldFiles). h.number == number) held_of rowsets
+    ∙ sym (position_is (λ (r : DiskRowSet). is_rowset number (name_of r)) rowsets)

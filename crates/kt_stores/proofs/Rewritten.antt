@@ -6,12 +6,13 @@ use Rattle.kt_history.specs.declared.target.Target.{Target}
 use Rattle.kt_history.specs.declared.target.Target.TheVariants.{Delta}
 use Rattle.kt_history.specs.Stores.{Store}
 use Rattle.kt_histlaws.specs.Histories.{on_nth}
+use Rattle.kt_diskrowset.specs.Rowset.{HeldFiles}
 use Rattle.kt_memrowset.specs.declared.store.MemRowSet.{MemRowSet}
 use Rattle.kt_pool.specs.Contents.{Contents, used}
 use Rattle.kt_stores.specs.Shelf.{Shelved, names_of}
 use Rattle.kt_stores.specs.Parts.{kept, stands_by, owns_by, read_by, shelf_of, AreKept}
 use Rattle.kt_stores.proofs.Beside.{read_at, exact_at, on_nth_at, on_nth_same, map-on_nth, map_at}
-use Rattle.kt_stores.proofs.Ordered.{get_at, set_on, rowset_at, rowset_on}
+use Rattle.kt_stores.proofs.Ordered.{get_at, set_on, read_is, rowset_at, rowset_on}
 use Rattle.kt_stores.proofs.Shrinking.{HasShrunk, kept_shrunk}
 
 module _ {R : Type 0} (stands : R → Contents → Type 0) (owns : R → Contents → ℕ → Type 0) (read : R → Contents → Shelved) (stays : Stays (stands_by stands) (owns_by owns) (read_by read)) (placed : IsPlaced (stands_by stands) (owns_by owns))
@@ -54,6 +55,17 @@ module _ {R : Type 0} (stands : R → Contents → Type 0) (owns : R → Content
 
   pub unchanged_now : read y new ≡ read x old → shelf_of (read_by read) new (kept active frozen (set rowsets j y)) ≡ shelf_of (read_by read) old (kept active frozen rowsets)
   unchanged_now same = shelf_now ∙ ap (λ s. on_nth at (λ _. s) (shelf_of (read_by read) old (kept active frozen rowsets))) same ∙ on_nth_same at (read x old) (shelf_of (read_by read) old (kept active frozen rowsets)) shelved_here
+
+-- one rowset has other files, or the same ones
+pub filed_now : {R : Type 0} (file : R → HeldFiles) (rowsets : List R) (j : ℕ) (y : R) → map file (set rowsets j y) ≡ on_nth j (λ _. file y) (map file rowsets)
+filed_now file rowsets j y = ap (map file) (set_on rowsets j y) ∙ map-on_nth j file y rowsets
+
+pub filed_still : {R : Type 0} (file : R → HeldFiles) (rowsets : List R) (j : ℕ) (x y : R) → slice_get rowsets j ≡ Some x → file y ≡ file x → map file (set rowsets j y) ≡ map file rowsets
+filed_still file rowsets j x y there same =
+    filed_now file rowsets j y ∙ ap (λ (h : HeldFiles). on_nth j (λ _. h) (map file rowsets)) same ∙ on_nth_same j (file x) (map file rowsets) (map_at j file x rowsets there)
+
+pub filed_same : {R : Type 0} (file : R → HeldFiles) (rowsets : List R) (j : ℕ) (x y : R) → j < length rowsets → x ≡ get_or rowsets j x → file y ≡ file x → map file (set rowsets j y) ≡ map file rowsets
+filed_same file rowsets j x y low is same = filed_still file rowsets j x y (read_is rowsets j x low is) same
 
 pub some_same : {X : Type 0} (x y : X) → Some x ≡ Some y → x ≡ y
 some_same x y e = cc

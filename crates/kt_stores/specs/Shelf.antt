@@ -8,6 +8,7 @@ use Rattle.kt_history.specs.Rows.{Row}
 use Rattle.kt_history.specs.Stores.{Store, hist_in, last_row, TakesUpTo}
 use Rattle.kt_histlaws.specs.Histories.{hists, first_some, on_nth}
 use Rattle.kt_pool.specs.Contents.{Contents}
+use Rattle.kt_diskrowset.specs.Rowset.{HeldFiles}
 
 -- a store as it stands: its name, what it holds, whether it takes no inserts, and how many cells it has
 pub record Shelved : Type 0 where
@@ -16,11 +17,13 @@ pub record Shelved : Type 0 where
   pub closed : Bool
   pub cells : ℕ
 
--- the stores of a tablet and their pool: first the one that takes inserts, then so many frozen ones, the newest first, and then the disk rowsets
+-- the stores of a tablet and their pool: first the one that takes inserts, then so many frozen ones, the newest first, and then the disk rowsets, of each
+-- of which the files are told
 pub record StoresView : Type 0 where
   pub pool : Contents
   pub shelf : List Shelved
   pub frozen : ℕ
+  pub files : List HeldFiles
 
 -- what each store holds
 abbrev pub stores_of : StoresView → List Store
@@ -57,6 +60,7 @@ pub record TakesAt (i most : ℕ) (old new : StoresView) : Type 0 where
   pub holds : Store
   pub shelf : new.shelf ≡ on_nth i (holding holds takes.cells) old.shelf
   pub frozen : new.frozen ≡ old.frozen
+  pub files : new.files ≡ old.files
 
 -- a store in memory with no row, which takes inserts
 abbrev pub empty_mem : ℕ → Shelved
@@ -67,12 +71,7 @@ abbrev pub frozen_behind : ℕ → List Shelved → List Shelved
 frozen_behind number [] = []
 frozen_behind number (s ∷ shelf) = empty_mem number ∷ (record s { closed = true }) ∷ shelf
 
--- the shelf without the so many stores behind the first
-abbrev pub without_frozen : ℕ → List Shelved → List Shelved
-without_frozen n [] = []
-without_frozen n (s ∷ shelf) = s ∷ drop n shelf
-
--- and with others in their place
+-- the shelf with others in the place of the so many stores behind the first
 abbrev pub with_outputs : ℕ → List Shelved → List Shelved → List Shelved
 with_outputs n outputs [] = []
 with_outputs n outputs (s ∷ shelf) = s ∷ outputs ++ drop n shelf

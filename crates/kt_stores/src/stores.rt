@@ -8,26 +8,26 @@ ghost use Rattle.std.specs.Option.{option_map};
 ghost use Rattle.kt_history.specs.Stores.{changes_upto};
 ghost use Rattle.kt_pool.specs.Contents.{used, free, with_reserved};
 
+use crate::file_store::FileStore;
 use kt_base::NoMemory;
-use kt_history::{ChangeList, RowStore};
+use kt_history::ChangeList;
 use kt_memrowset::MemRowSet;
 use kt_pool::{Full, Pool};
-use kt_views::ViewStore;
 use std::alloc::Global;
 use std::marker::Model;
 
 /// The stores of a tablet in one pool: the MemRowSet that takes inserts, the frozen ones, the newest first, and the disk
-/// rowsets. Contracts see the stores as a list in this order, and count places in it.
+/// rowsets. Contracts see the stores as a list in this order, and count places in it, and beside it the files of each disk rowset.
 #[derive(Drop)]
-pub struct Stores<R: RowStore> {
+pub struct Stores<R: FileStore> {
     pool: Pool,
     active: MemRowSet,
     frozen: Vec<MemRowSet>,
     rowsets: Vec<R>,
 }
 
-impl<R: RowStore> Model for Stores<R> {
-    ghost use Rattle.std.specs.Prelude.{length, ◌<◌, ◌^◌};
+impl<R: FileStore> Model for Stores<R> {
+    ghost use Rattle.std.specs.Prelude.{length, map, ◌<◌, ◌^◌};
     ghost use Rattle.kt_stores.specs.Shelf.{StoresView};
 
     ghost Value = { StoresView };
@@ -38,13 +38,14 @@ impl<R: RowStore> Model for Stores<R> {
       pool = s.pool;
       shelf = shelf_of (read_by (shelved R.target R.store R.is_closed R.cells)) s.pool (kept s.active s.frozen.items s.rowsets.items);
       frozen = length s.frozen.items;
+      files = map R.files s.rowsets.items;
     } };
 
     ghost invariant = { λ s. AreKept (stands_by R.stands) (owns_by R.owns) (read_by (shelved R.target R.store R.is_closed R.cells)) (kept s.active s.frozen.items s.rowsets.items) s.pool × (length s.rowsets.items < 2 ^ 32) };
 }
 
-impl<R: RowStore> Stores<R> {
-    ghost use Rattle.std.specs.Prelude.{[], ◌∷◌, take};
+impl<R: FileStore> Stores<R> {
+    ghost use Rattle.std.specs.Prelude.{[], ◌∷◌, map, take};
     ghost use Rattle.kt_history.specs.Grown.{AllGrown};
     ghost use Rattle.kt_stores.specs.Shelf.{stores_of, cells_in, empty_mem, FirstIsOpen, AreExact};
     ghost use Rattle.kt_stores.specs.Parts.{kept, shelved, stands_by, owns_by, read_by, shelf_of, AreKept};
@@ -56,6 +57,7 @@ impl<R: RowStore> Stores<R> {
         ensures pool { result.pool ≡ pool }
         ensures shelf { result.shelf ≡ shelf_of (read_by (shelved R.target R.store R.is_closed R.cells)) pool (kept active [] rowsets.items) }
         ensures frozen { result.frozen ≡ 0 }
+        ensures files { result.files ≡ map R.files rowsets.items }
     {
         Stores {
             pool,
@@ -71,6 +73,7 @@ impl<R: RowStore> Stores<R> {
         ensures pool { result.pool ≡ pool }
         ensures shelf { result.shelf ≡ empty_mem number ∷ [] }
         ensures frozen { result.frozen ≡ 0 }
+        ensures files { result.files ≡ [] }
     {
         Stores::of(alloc, pool, MemRowSet::new(number), Vec::new(alloc))
     }
@@ -165,7 +168,7 @@ impl<R: RowStore> Stores<R> {
     }
 }
 
-impl<R: ViewStore> Stores<R> {
+impl<R: FileStore> Stores<R> {
     ghost use Rattle.kt_history.specs.Stores.{Store};
     ghost use Rattle.kt_views.specs.Told.{TellsUpTo};
     ghost use Rattle.kt_stores.specs.Shelf.{stores_of};

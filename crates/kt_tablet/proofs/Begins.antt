@@ -18,6 +18,7 @@ use Rattle.kt_history.specs.Machine.{Flying, next_timestamp, IfWrite, ops_of, co
 use Rattle.kt_mvcc.specs.declared.flier.Flier.{Flier}
 use Rattle.kt_mvcc.specs.Keys.{same_key}
 use Rattle.kt_mvcc.specs.Flying.{least_of, holds_one, holder, flies}
+use Rattle.kt_diskrowset.specs.Rowset.{HeldFiles}
 use Rattle.kt_pool.specs.Contents.{Contents, with_reserved}
 use Rattle.kt_histlaws.specs.Pending.{Aloft}
 use Rattle.kt_history.specs.Stores.{Store}
@@ -103,10 +104,10 @@ new_begun : (core : Core) (s i ts m : ℕ) (ops : List RowOp) (trail : List Even
     → record core { trail = trail; a = a; c = c; aloft = aloft; stores = stores } ≡ begun core s i ts m ops
 new_begun core s i ts m ops trail a c aloft stores kept lines stays last fly = λ k. record core { trail = lines k; a = stays k; c = last k; aloft = fly k; stores = kept k }
 
-pub begin_sound : {C : Type 0} (readings : C → Option (List ℕ)) (view : View C) (clock : C) (s i ts m : ℕ) (ops : List RowOp) (needs : ℕ) (trail : List Event) (a c : ℕ) (aloft : List Aloft) (stores : List Store) (names : List Target) (notes : List (List CommitRow)) (places : List (ℕ × ℕ)) (pool : Contents) (frozen : ℕ)
+pub begin_sound : {C : Type 0} {files : List HeldFiles} (readings : C → Option (List ℕ)) (view : View C) (clock : C) (s i ts m : ℕ) (ops : List RowOp) (needs : ℕ) (trail : List Event) (a c : ℕ) (aloft : List Aloft) (stores : List Store) (names : List Target) (notes : List (List CommitRow)) (places : List (ℕ × ℕ)) (pool : Contents) (frozen : ℕ)
     → IsSound readings view → stores ≡ view.core.stores → MayBeginNow view.core s i ops needs → ts ≡ next_timestamp view.core.c m → list_any (λ w. share_key ops w.ops) (map flown_by view.core.aloft) ≡ false → Grows (readings view.clock) (readings clock) (m ∷ [])
     → trail ≡ view.core.trail ++ Begin s i ts m ∷ [] → a ≡ view.core.a → c ≡ ts → aloft ≡ view.core.aloft ++ record { s = s; i = i; ts = ts; ops = ops; applied = 0 } ∷ []
-    → IsSound readings (record view { core = record view.core { trail = trail; a = a; c = c; aloft = aloft; stores = stores }; clock = clock; names = names; notes = notes; places = places; pool = pool; frozen = frozen })
+    → IsSound readings (record view { core = record view.core { trail = trail; a = a; c = c; aloft = aloft; stores = stores }; clock = clock; names = names; notes = notes; places = places; pool = pool; frozen = frozen; files = files })
 begin_sound readings view clock s i ts m ops needs trail a c aloft stores names notes places pool frozen sound kept may time free more lines stays last fly = record {
   stands = λ first told. subst Stands (sym (new_begun (record view.core { first = first }) s i ts m ops trail a c aloft stores kept lines stays last fly))
       (subst (λ os. Stands (begun (record view.core { first = first }) s i ts m os)) (the_ops (command_at view.core.work s i) ops may.may.write)
@@ -172,9 +173,10 @@ pub way_old : {C : Type 0} (view old : View C) (ops : List RowOp) (found : Optio
 way_old view old ops found e h = subst (λ v. least (filter (λ w. share_key ops w.ops) (map flown_by v.core.aloft)) ≡ found) e h
 
 -- nothing else has changed where the names are the same, and as many stores are frozen
-pub beside_names : {C : Type 0} (view old : View C) (core : Core) (clock : C) (names : List Target) (notes : List (List CommitRow)) (places : List (ℕ × ℕ)) (pool : Contents) (frozen : ℕ) → view ≡ old → names ≡ view.names → frozen ≡ view.frozen
-    → record view { core = core; clock = clock; names = names; notes = notes; places = places; pool = pool; frozen = frozen } ≡ record old { core = core; clock = clock; notes = notes; places = places; pool = pool }
-beside_names view old core clock names notes places pool frozen e same still =
+pub beside_names : {C : Type 0} (view old : View C) (core : Core) (clock : C) (names : List Target) (notes : List (List CommitRow)) (places : List (ℕ × ℕ)) (pool : Contents) (frozen : ℕ) (files : List HeldFiles) → view ≡ old → names ≡ view.names → frozen ≡ view.frozen → files ≡ view.files
+    → record view { core = core; clock = clock; names = names; notes = notes; places = places; pool = pool; frozen = frozen; files = files } ≡ record old { core = core; clock = clock; notes = notes; places = places; pool = pool }
+beside_names view old core clock names notes places pool frozen files e same still filed =
     let f = same ∙ ap (λ v. v.names) e in
     let n = still ∙ ap (λ v. v.frozen) e in
-    λ k. record (e k) { core = core; clock = clock; names = f k; notes = notes; places = places; pool = pool; frozen = n k }
+    let h = filed ∙ ap (λ v. v.files) e in
+    λ k. record (e k) { core = core; clock = clock; names = f k; notes = notes; places = places; pool = pool; frozen = n k; files = h k }

@@ -9,11 +9,12 @@ use Rattle.kt_history.specs.declared.target.Target.TheVariants.{Mem, Delta}
 use Rattle.kt_history.specs.Rows.{Row}
 use Rattle.kt_history.specs.Stores.{Store}
 use Rattle.kt_histlaws.specs.Histories.{on_nth}
+use Rattle.kt_diskrowset.specs.Rowset.{HeldFiles}
 use Rattle.kt_pool.specs.Contents.{Contents}
 use Rattle.kt_stores.specs.Shelf.{Shelved, is_rowset, taken_by, renamed, names_of}
 use Rattle.kt_stores.proofs.Seeking.{seek, position_is, seek-map}
 use Rattle.kt_tablet.specs.Filling.{as_told, all_told}
-use Rattle.kt_tablet.specs.Jobs.{dms_in, store_in_names, next_dms}
+use Rattle.kt_tablet.specs.Jobs.{dms_in, store_in_names, next_dms, files_of, with_files}
 use Rattle.kt_tablet.specs.Views.{View}
 
 pub same_some : {X : Type 0} (x y : X) → Some x ≡ Some y → x ≡ y
@@ -22,7 +23,7 @@ same_some x y e = cc
 some_is : {X : Type 0} (x y : X) → Some x ≡ Some y → x ≡ y
 some_is x y e = cc
 
-none_some : {X G : Type 0} (y : X) → None ≡ Some y → G
+pub none_some : {X G : Type 0} (y : X) → None ≡ Some y → G
 none_some y e = cc
 
 -- a place behind the first one
@@ -152,14 +153,60 @@ name_is (suc at) (s ∷ shelf) t is = name_is at shelf t is
 
 -- ---- as a tablet is seen
 
-pub has_put : {C : Type 0} (view old : View C) (stores : List Store) (names : List Target) (pool : Contents) (frozen : ℕ) → view ≡ old → stores ≡ view.core.stores → names ≡ view.names → frozen ≡ view.frozen
-    → record view { core = record view.core { stores = stores }; names = names; pool = pool; frozen = frozen } ≡ record old { pool = pool }
-has_put view old stores names pool frozen e s n f =
-    subst (λ v. record view { core = record view.core { stores = stores }; names = names; pool = pool; frozen = frozen } ≡ record v { pool = pool }) e
-    (λ k. record view { core = record view.core { stores = s k }; names = n k; pool = pool; frozen = f k })
+pub has_put : {C : Type 0} (view old : View C) (stores : List Store) (names : List Target) (pool : Contents) (frozen : ℕ) (files : List HeldFiles) (h : HeldFiles) → view ≡ old → stores ≡ view.core.stores → names ≡ view.names → frozen ≡ view.frozen
+    → files ≡ with_files h view.files
+    → record view { core = record view.core { stores = stores }; names = names; pool = pool; frozen = frozen; files = files } ≡ record old { pool = pool; files = with_files h old.files }
+has_put view old stores names pool frozen files h e s n f fs =
+    subst (λ v. record view { core = record view.core { stores = stores }; names = names; pool = pool; frozen = frozen; files = files } ≡ record v { pool = pool; files = with_files h v.files }) e
+    (λ k. record view { core = record view.core { stores = s k }; names = n k; pool = pool; frozen = f k; files = fs k })
 
-pub has_renamed : {C : Type 0} (view old : View C) (stores : List Store) (names : List Target) (pool : Contents) (frozen number : ℕ) → view ≡ old → stores ≡ view.core.stores → names ≡ next_dms number view.names → pool ≡ view.pool → frozen ≡ view.frozen
-    → record view { core = record view.core { stores = stores }; names = names; pool = pool; frozen = frozen } ≡ record old { names = next_dms number old.names }
-has_renamed view old stores names pool frozen number e s n p f =
-    subst (λ v. record view { core = record view.core { stores = stores }; names = names; pool = pool; frozen = frozen } ≡ record v { names = next_dms number v.names }) e
-    (λ k. record view { core = record view.core { stores = s k }; names = n k; pool = p k; frozen = f k })
+pub has_renamed : {C : Type 0} (view old : View C) (stores : List Store) (names : List Target) (pool : Contents) (frozen : ℕ) (files : List HeldFiles) (number : ℕ) → view ≡ old → stores ≡ view.core.stores → names ≡ next_dms number view.names → pool ≡ view.pool
+    → frozen ≡ view.frozen → files ≡ view.files
+    → record view { core = record view.core { stores = stores }; names = names; pool = pool; frozen = frozen; files = files } ≡ record old { names = next_dms number old.names }
+has_renamed view old stores names pool frozen files number e s n p f fs =
+    subst (λ v. record view { core = record view.core { stores = stores }; names = names; pool = pool; frozen = frozen; files = files } ≡ record v { names = next_dms number v.names }) e
+    (λ k. record view { core = record view.core { stores = s k }; names = n k; pool = p k; frozen = f k; files = fs k })
+
+-- ---- the files of a number
+
+found_there : (number : ℕ) (files : List HeldFiles) (j : ℕ) → seek (λ (h : HeldFiles). h.number == number) files ≡ Some j → files_of number files ≡ slice_get files j
+found_there number [] j e = absurd cc
+found_there number (x ∷ files) j e = by (x.number == number) (seek (λ (h : HeldFiles). h.number == number) files) (found_there number files) j e
+  where
+    by : (b : Bool) (o : Option ℕ) → ((j : ℕ) → o ≡ Some j → files_of number files ≡ slice_get files j) → (j : ℕ) → cond b (Some 0) (option_map (λ n. suc n) o) ≡ Some j → cond b (Some x) (files_of number files) ≡ slice_get (x ∷ files) j
+    by true o more zero e = refl
+    by true o more (suc j) e = absurd cc
+    by false None more j e = absurd cc
+    by false (Some n) more zero e = absurd cc
+    by false (Some n) more (suc j) e = more j (let same : n ≡ j = cc in ap (λ (k : ℕ). Some k) same)
+
+put_there : (h : HeldFiles) (files : List HeldFiles) (j : ℕ) → seek (λ (x : HeldFiles). x.number == h.number) files ≡ Some j → with_files h files ≡ on_nth j (λ _. h) files
+put_there h [] j e = refl
+put_there h (x ∷ files) j e = by (x.number == h.number) (seek (λ (x : HeldFiles). x.number == h.number) files) (put_there h files) j e
+  where
+    by : (b : Bool) (o : Option ℕ) → ((j : ℕ) → o ≡ Some j → with_files h files ≡ on_nth j (λ _. h) files) → (j : ℕ) → cond b (Some 0) (option_map (λ n. suc n) o) ≡ Some j → cond b (h ∷ files) (x ∷ with_files h files) ≡ on_nth j (λ _. h) (x ∷ files)
+    by true o more zero e = refl
+    by true o more (suc j) e = absurd cc
+    by false None more j e = absurd cc
+    by false (Some n) more zero e = absurd cc
+    by false (Some n) more (suc j) e = ap (λ fs. x ∷ fs) (more j (let same : n ≡ j = cc in ap (λ (k : ℕ). Some k) same))
+
+pub filed_at : (number : ℕ) (files : List HeldFiles) (j : ℕ) → position (λ (h : HeldFiles). h.number == number) files ≡ Some j → files_of number files ≡ slice_get files j
+filed_at number files j e = found_there number files j (sym (position_is (λ (h : HeldFiles). h.number == number) files) ∙ e)
+
+pub filed_put : (h : HeldFiles) (files : List HeldFiles) (j : ℕ) → position (λ (x : HeldFiles). x.number == h.number) files ≡ Some j → with_files h files ≡ on_nth j (λ _. h) files
+filed_put h files j e = put_there h files j (sym (position_is (λ (x : HeldFiles). x.number == h.number) files) ∙ e)
+
+got_there : (t : HeldFiles → Bool) (files : List HeldFiles) (j : ℕ) → seek t files ≡ Some j → (h : HeldFiles) × (slice_get files j ≡ Some h)
+got_there t [] j e = none_some j e
+got_there t (x ∷ files) j e = by (t x) (seek t files) (got_there t files) j e
+  where
+    by : (b : Bool) (o : Option ℕ) → ((j : ℕ) → o ≡ Some j → (h : HeldFiles) × (slice_get files j ≡ Some h)) → (j : ℕ) → cond b (Some 0) (option_map (λ n. suc n) o) ≡ Some j → (h : HeldFiles) × (slice_get (x ∷ files) j ≡ Some h)
+    by true o more zero e = (x, refl)
+    by true o more (suc j) e = absurd cc
+    by false None more j e = absurd cc
+    by false (Some n) more zero e = absurd cc
+    by false (Some n) more (suc j) e = more j (let same : n ≡ j = cc in ap (λ (k : ℕ). Some k) same)
+
+pub filed_there : (number : ℕ) (files : List HeldFiles) (j : ℕ) → position (λ (h : HeldFiles). h.number == number) files ≡ Some j → (h : HeldFiles) × (slice_get files j ≡ Some h)
+filed_there number files j e = got_there (λ (h : HeldFiles). h.number == number) files j (sym (position_is (λ (h : HeldFiles). h.number == number) files) ∙ e)

@@ -10,6 +10,7 @@ use Rattle.kt_history.specs.Stores.{Store, Hist}
 use Rattle.kt_histlaws.specs.Core.{Core, Stands}
 use Rattle.kt_histlaws.specs.Fitting.{AreSound}
 use Rattle.kt_histlaws.specs.Histories.{hists, ShowsKey}
+use Rattle.kt_diskrowset.specs.Rowset.{HeldFiles}
 use Rattle.kt_pool.specs.Contents.{Contents}
 use Rattle.kt_records.specs.declared.entry.CommitRow.{CommitRow}
 use Rattle.kt_stores.specs.Shelf.{Shelved, name_at, names_of, frozen_behind, with_outputs}
@@ -93,8 +94,8 @@ with_stores core stores shows sound st = record {
   planned = st.planned;
 }
 
-pub frozen_sound : {C : Type 0} (readings : C → Option (List ℕ)) (view : View C) (stores : List Store) (names : List Target) (pool : Contents) (frozen : ℕ) → IsSound readings view → stores ≡ [] ∷ view.core.stores
-    → IsSound readings (record view { core = record view.core { stores = stores }; names = names; pool = pool; frozen = frozen })
+pub frozen_sound : {C : Type 0} {files : List HeldFiles} (readings : C → Option (List ℕ)) (view : View C) (stores : List Store) (names : List Target) (pool : Contents) (frozen : ℕ) → IsSound readings view → stores ≡ [] ∷ view.core.stores
+    → IsSound readings (record view { core = record view.core { stores = stores }; names = names; pool = pool; frozen = frozen; files = files })
 frozen_sound readings view stores names pool frozen sound is = record {
   stands = λ first opens. subst (λ l. Stands (record view.core { first = first; stores = l })) (sym is)
       (with_stores (record view.core { first = first }) ([] ∷ view.core.stores) (λ q whole s. vacant_shows view.core.a (hists q view.core.stores) whole s) (λ q s. vacant_sound view.core.a (hists q view.core.stores) s) (sound.stands first opens));
@@ -102,8 +103,8 @@ frozen_sound readings view stores names pool frozen sound is = record {
   plan = sound.plan;
 }
 
-pub changed_sound : {C : Type 0} (readings : C → Option (List ℕ)) (view : View C) (stores outputs : List Store) (names : List Target) (pool : Contents) (frozen : ℕ) → IsSound readings view → MayChangeOver view outputs → stores ≡ over_to view.frozen outputs view.core.stores
-    → IsSound readings (record view { core = record view.core { stores = stores }; names = names; pool = pool; frozen = frozen })
+pub changed_sound : {C : Type 0} {files : List HeldFiles} (readings : C → Option (List ℕ)) (view : View C) (stores outputs : List Store) (names : List Target) (pool : Contents) (frozen : ℕ) → IsSound readings view → MayChangeOver view outputs → stores ≡ over_to view.frozen outputs view.core.stores
+    → IsSound readings (record view { core = record view.core { stores = stores }; names = names; pool = pool; frozen = frozen; files = files })
 changed_sound readings view stores outputs names pool frozen sound may is = record {
   stands = λ first opens. subst (λ l. Stands (record view.core { first = first; stores = l })) (sym is)
       (with_stores (record view.core { first = first }) (over_to view.frozen outputs view.core.stores)
@@ -140,27 +141,30 @@ pub first_named : (name : Target) (stores : List Shelved) → name_at 0 stores �
 first_named name [] e = absurd (cc)
 first_named name (s ∷ stores) e = let same : s.name ≡ name = cc in ap (λ n. n ∷ names_of stores) same
 
-pub has_frozen : {C : Type 0} (view old : View C) (stores : List Store) (names others : List Target) (pool : Contents) (frozen number : ℕ) → view ≡ old → stores ≡ [] ∷ view.core.stores → names ≡ Mem (number + 1) ∷ view.names
-    → pool ≡ view.pool → frozen ≡ view.frozen + 1 → view.names ≡ Mem number ∷ others → HasFrozen old (record view { core = record view.core { stores = stores }; names = names; pool = pool; frozen = frozen })
-has_frozen view old stores names others pool frozen number e s n p f named = subst (λ v. HasFrozen v (record view { core = record view.core { stores = stores }; names = names; pool = pool; frozen = frozen })) e (record {
+pub has_frozen : {C : Type 0} (view old : View C) (stores : List Store) (names others : List Target) (pool : Contents) (frozen number : ℕ) (files : List HeldFiles) → view ≡ old → stores ≡ [] ∷ view.core.stores → names ≡ Mem (number + 1) ∷ view.names
+    → pool ≡ view.pool → frozen ≡ view.frozen + 1 → files ≡ view.files → view.names ≡ Mem number ∷ others → HasFrozen old (record view { core = record view.core { stores = stores }; names = names; pool = pool; frozen = frozen; files = files })
+has_frozen view old stores names others pool frozen number files e s n p f h named = subst (λ v. HasFrozen v (record view { core = record view.core { stores = stores }; names = names; pool = pool; frozen = frozen; files = files })) e (record {
   number = number;
   others = others;
   was = named;
-  is = λ k. record view { core = record view.core { stores = s k }; names = n k; pool = p k; frozen = f k };
+  is = λ k. record view { core = record view.core { stores = s k }; names = n k; pool = p k; frozen = f k; files = h k };
 })
 
-pub has_changed_over : {C : Type 0} (view old : View C) (stores outputs : List Store) (names targets : List Target) (pool : Contents) (frozen : ℕ) → view ≡ old → stores ≡ over_to view.frozen outputs view.core.stores → names ≡ over_to view.frozen targets view.names
-    → frozen ≡ 0 → HasChangedOver old (record view { core = record view.core { stores = stores }; names = names; pool = pool; frozen = frozen }) outputs targets
-has_changed_over view old stores outputs names targets pool frozen e s n f = subst (λ v. HasChangedOver v (record view { core = record view.core { stores = stores }; names = names; pool = pool; frozen = frozen }) outputs targets) e (record {
-  stores = λ k. record view.core { stores = s k };
-  names_are = n;
-  frozen = f;
-  beside = λ k. record view { core = record view.core { stores = stores }; names = names; pool = pool; frozen = f k };
-})
+pub has_changed_over : {C : Type 0} (view old : View C) (stores outputs : List Store) (names targets : List Target) (pool : Contents) (frozen : ℕ) (files others : List HeldFiles) → view ≡ old → stores ≡ over_to view.frozen outputs view.core.stores
+    → names ≡ over_to view.frozen targets view.names → frozen ≡ 0 → files ≡ others ++ view.files
+    → HasChangedOver old (record view { core = record view.core { stores = stores }; names = names; pool = pool; frozen = frozen; files = files }) outputs targets others
+has_changed_over view old stores outputs names targets pool frozen files others e s n f h =
+    subst (λ v. HasChangedOver v (record view { core = record view.core { stores = stores }; names = names; pool = pool; frozen = frozen; files = files }) outputs targets others) e (record {
+      stores = λ k. record view.core { stores = s k };
+      names_are = n;
+      frozen = f;
+      files_are = h;
+      beside = λ k. record view { core = record view.core { stores = stores }; names = names; pool = pool; frozen = f k; files = files };
+    })
 
 -- where the stores are the same
-pub still_sound : {C : Type 0} (readings : C → Option (List ℕ)) (view : View C) (stores : List Store) (names : List Target) (pool : Contents) (frozen : ℕ) → IsSound readings view → stores ≡ view.core.stores
-    → IsSound readings (record view { core = record view.core { stores = stores }; names = names; pool = pool; frozen = frozen })
+pub still_sound : {C : Type 0} {files : List HeldFiles} (readings : C → Option (List ℕ)) (view : View C) (stores : List Store) (names : List Target) (pool : Contents) (frozen : ℕ) → IsSound readings view → stores ≡ view.core.stores
+    → IsSound readings (record view { core = record view.core { stores = stores }; names = names; pool = pool; frozen = frozen; files = files })
 still_sound readings view stores names pool frozen sound same = record {
   stands = λ first opens. subst (λ l. Stands (record view.core { first = first; stores = l })) (sym same) (sound.stands first opens);
   clock = sound.clock;

@@ -9,6 +9,7 @@ use Rattle.kt_history.specs.Machine.{start, state_after}
 use Rattle.kt_history.specs.Operations.{effect, effect_on, outcomes_on}
 use Rattle.kt_history.specs.Rows.{Row}
 use Rattle.kt_mvcc.specs.declared.flier.Flier.{Flier}
+use Rattle.kt_diskrowset.specs.Rowset.{HeldFiles}
 use Rattle.kt_pool.specs.Contents.{Contents}
 use Rattle.kt_records.specs.declared.entry.CommitRow.{CommitRow}
 use Rattle.kt_histlaws.specs.Histories.{hists, on_nth, Alone, AtMostOne}
@@ -58,11 +59,11 @@ new_applied : (core : Core) (j i ts : ℕ) (op : RowOp) (aloft : List Aloft) (st
     → record core { aloft = aloft; stores = stores } ≡ applied core j i ts op
 new_applied core j i ts op aloft stores flies kept = λ k. record core { aloft = flies k; stores = kept k }
 
-pub apply_sound : {C : Type 0} (readings : C → Option (List ℕ)) (view : View C) (j i ts : ℕ) (op : RowOp) (aloft : List Aloft) (stores : List Store) (names : List Target) (notes : List (List CommitRow)) (places : List (ℕ × ℕ)) (pool : Contents) (frozen : ℕ)
+pub apply_sound : {C : Type 0} {files : List HeldFiles} (readings : C → Option (List ℕ)) (view : View C) (j i ts : ℕ) (op : RowOp) (aloft : List Aloft) (stores : List Store) (names : List Target) (notes : List (List CommitRow)) (places : List (ℕ × ℕ)) (pool : Contents) (frozen : ℕ)
     → IsSound readings view → IsNextOp j view.core.aloft ts op → aloft ≡ on_nth j advance view.core.aloft → i < length view.core.stores
     → ((first : Past) → Opens view.opening view.mark view.core.opened first → Alone i (map (row_of ts) (hists op.key view.core.stores)))
     → ((first : Past) → Opens view.opening view.mark view.core.opened first → stores ≡ pushed_if i op.key ts (effect view.core.work.fill op.kind op.cells (live view.core.stores op.key ts)).0 view.core.stores)
-    → IsSound readings (record view { core = record view.core { aloft = aloft; stores = stores }; names = names; notes = notes; places = places; pool = pool; frozen = frozen })
+    → IsSound readings (record view { core = record view.core { aloft = aloft; stores = stores }; names = names; notes = notes; places = places; pool = pool; frozen = frozen; files = files })
 apply_sound readings view j i ts op aloft stores names notes places pool frozen sound next flies low alone kept = record {
   stands = λ first told. subst Stands (sym (new_applied (record view.core { first = first }) j i ts op aloft stores flies (kept first told)))
       (apply_stands (record view.core { first = first }) (sound.stands first told) j i ts op next low (alone first told));
@@ -288,13 +289,14 @@ is_written view old fill s j flights w outcomes rows e flown place here over out
     })
 
 -- nothing else has changed where the names and the places are the same, and as many stores are frozen
-pub applied_beside : {C : Type 0} (view old : View C) (core : Core) (names : List Target) (notes : List (List CommitRow)) (places : List (ℕ × ℕ)) (pool : Contents) (frozen : ℕ) → view ≡ old → names ≡ view.names → places ≡ view.places → frozen ≡ view.frozen
-    → record view { core = core; names = names; notes = notes; places = places; pool = pool; frozen = frozen } ≡ record old { core = core; notes = notes; pool = pool }
-applied_beside view old core names notes places pool frozen e same kept still =
+pub applied_beside : {C : Type 0} (view old : View C) (core : Core) (names : List Target) (notes : List (List CommitRow)) (places : List (ℕ × ℕ)) (pool : Contents) (frozen : ℕ) (files : List HeldFiles) → view ≡ old → names ≡ view.names → places ≡ view.places → frozen ≡ view.frozen → files ≡ view.files
+    → record view { core = core; names = names; notes = notes; places = places; pool = pool; frozen = frozen; files = files } ≡ record old { core = core; notes = notes; pool = pool }
+applied_beside view old core names notes places pool frozen files e same kept still filed =
     let f = same ∙ ap (λ v. v.names) e in
     let p = kept ∙ ap (λ v. v.places) e in
     let n = still ∙ ap (λ v. v.frozen) e in
-    λ k. record (e k) { core = core; names = f k; notes = notes; places = p k; pool = pool; frozen = n k }
+    let h = filed ∙ ap (λ v. v.files) e in
+    λ k. record (e k) { core = core; names = f k; notes = notes; places = p k; pool = pool; frozen = n k; files = h k }
 
 -- what was written of the row
 pub has_noted : {C : Type 0} (view old new : View C) (s at j : ℕ) (flights : List FlyingWrite) (w x : FlyingWrite) (op : RowOp) (outcome : Outcome) (row : CommitRow) (fill : Row) (memory : ℕ) (stores : List Store) (name : Target) → view ≡ old

@@ -10,6 +10,7 @@ use Rattle.kt_history.specs.Machine.{Workload, State, Turn, Allowed, IsRunFrom, 
 use Rattle.kt_history.specs.Operations.{outcomes_on}
 use Rattle.kt_history.specs.Rows.{Row}
 use Rattle.kt_history.proofs.Runs.{state_after-append, rows_stay}
+use Rattle.kt_diskrowset.specs.Rowset.{HeldFiles}
 use Rattle.kt_pool.specs.Contents.{Contents}
 use Rattle.kt_history.specs.Stores.{Store}
 use Rattle.kt_histlaws.specs.Flights.{AllFly}
@@ -33,9 +34,9 @@ last_allowed work st [] e h = h.0
 last_allowed work st (x ∷ es) e h = last_allowed work (after work st x) es e h.1
 
 -- a line changes nothing of it
-pub told_on : {C : Type 0} (readings : C → Option (List ℕ)) (view : View C) (clock : C) (names : List Target) (notes : List (List CommitRow)) (places : List (ℕ × ℕ)) (pool : Contents) (frozen : ℕ) (trail : List Event) (a c : ℕ) (aloft : List Aloft) (turns : List Turn) (stopped : Bool) (stores : List Store) (e : Event) (flights : List FlyingWrite)
+pub told_on : {C : Type 0} {files : List HeldFiles} (readings : C → Option (List ℕ)) (view : View C) (clock : C) (names : List Target) (notes : List (List CommitRow)) (places : List (ℕ × ℕ)) (pool : Contents) (frozen : ℕ) (trail : List Event) (a c : ℕ) (aloft : List Aloft) (turns : List Turn) (stopped : Bool) (stores : List Store) (e : Event) (flights : List FlyingWrite)
     → IsSound readings view
-    → IsSound readings (record view { core = record view.core { trail = trail; a = a; c = c; aloft = aloft; turns = turns; stopped = stopped; stores = stores }; clock = clock; names = names; notes = notes; places = places; pool = pool; frozen = frozen })
+    → IsSound readings (record view { core = record view.core { trail = trail; a = a; c = c; aloft = aloft; turns = turns; stopped = stopped; stores = stores }; clock = clock; names = names; notes = notes; places = places; pool = pool; frozen = frozen; files = files })
     → map aloft_of flights ≡ view.core.aloft → trail ≡ view.core.trail ++ e ∷ []
     → AreTold view.core.work view.opening view.mark view.core.opened view.core.trail flights → AreTold view.core.work view.opening view.mark view.core.opened trail flights
 told_on readings view clock names notes places pool frozen trail a c aloft turns stopped stores e flights sound next flies lines told = λ first opens.

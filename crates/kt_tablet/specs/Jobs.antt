@@ -9,6 +9,7 @@ use Rattle.kt_history.specs.Stores.{Store, changes_upto}
 use Rattle.kt_histlaws.specs.Fitting.{AreSound}
 use Rattle.kt_histlaws.specs.Histories.{hists}
 use Rattle.kt_histlaws.specs.Jobs.{AreAlike}
+use Rattle.kt_diskrowset.specs.Rowset.{HeldFiles}
 use Rattle.kt_tablet.specs.Filling.{filled_change}
 use Rattle.kt_tablet.specs.Views.{View, Opens}
 
@@ -49,12 +50,13 @@ pub record MayChangeOver {C : Type 0} (v : View C) (outputs : List Store) : Type
   pub alike : (first : Past) → Opens v.opening v.mark v.core.opened first → (q : List ℕ) → AreAlike v.core.a (hists q (frozen_stores v)) (hists q outputs)
   pub sound : (first : Past) → Opens v.opening v.mark v.core.opened first → (q : List ℕ) → AreSound v.core.a (hists q outputs)
 
--- They have taken the place of these.
-pub record HasChangedOver {C : Type 0} (old new : View C) (outputs : List Store) (names : List Target) : Type 0 where
+-- They have taken the place of these, with their files.
+pub record HasChangedOver {C : Type 0} (old new : View C) (outputs : List Store) (names : List Target) (files : List HeldFiles) : Type 0 where
   pub stores : new.core ≡ record old.core { stores = over_to old.frozen outputs old.core.stores }
   pub names_are : new.names ≡ over_to old.frozen names old.names
   pub frozen : new.frozen ≡ 0
-  pub beside : new ≡ record old { core = new.core; names = new.names; frozen = 0; pool = new.pool }
+  pub files_are : new.files ≡ files ++ old.files
+  pub beside : new ≡ record old { core = new.core; names = new.names; frozen = 0; pool = new.pool; files = new.files }
 
 -- ---- one disk rowset, by its number: where several have it, the first
 
@@ -76,3 +78,13 @@ abbrev pub next_dms : ℕ → List Target → List Target
 next_dms number [] = []
 next_dms number (Mem n ∷ names) = Mem n ∷ next_dms number names
 next_dms number (Delta r dms ∷ names) = if r == number then Delta r (dms + 1) ∷ names else Delta r dms ∷ next_dms number names
+
+-- its files
+abbrev pub files_of : ℕ → List HeldFiles → Option HeldFiles
+files_of number [] = None
+files_of number (h ∷ files) = if h.number == number then Some h else files_of number files
+
+-- others have come in the place of those of their number
+abbrev pub with_files : HeldFiles → List HeldFiles → List HeldFiles
+with_files h [] = []
+with_files h (x ∷ files) = if x.number == h.number then h ∷ files else x ∷ with_files h files

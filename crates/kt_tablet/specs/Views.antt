@@ -8,6 +8,7 @@ use Rattle.kt_history.specs.declared.target.Target.{Target}
 use Rattle.kt_history.specs.Rows.{Row}
 use Rattle.kt_history.specs.History.{Past, IsPastUpTo}
 use Rattle.kt_history.specs.Machine.{Workload, readings_of, start, state_after}
+use Rattle.kt_diskrowset.specs.Rowset.{HeldFiles}
 use Rattle.kt_pool.specs.Contents.{Contents, free, used}
 use Rattle.kt_schema.specs.declared.column.Column.{Column}
 use Rattle.kt_schema.specs.Columns.{key_columns, other_columns}
@@ -26,7 +27,7 @@ use Rattle.kt_tablet.specs.Rows.{AreNoted, OneOfEach}
 
 -- what a clause sees of a tablet: the engine, whose first past is left open; its clock, now and at opening; the stores and the
 -- mark that opening found; the names of the stores; what each flying write has written for the log so far; where the REPLICATE of each stands;
--- the pool of the stores; and how many MemRowSets are frozen, which stand behind the first store
+-- the pool of the stores; how many MemRowSets are frozen, which stand behind the first store; and the files of each disk rowset
 pub record View (C : Type 0) : Type 0 where
   pub core : Core
   pub clock : C
@@ -38,6 +39,7 @@ pub record View (C : Type 0) : Type 0 where
   pub places : List (ℕ × ℕ)
   pub pool : Contents
   pub frozen : ℕ
+  pub files : List HeldFiles
 
 abbrev pub empty : Past
 empty = record { mark = 0; base = []; writes = [] }

@@ -11,11 +11,11 @@ ghost use Rattle.kt_schema.specs.Columns.{fill_of};
 
 use crate::turns::Turns;
 use kt_base::{Cells, Clock, NoMemory};
-use kt_history::{Event, OpList, Outcome, Plan, RowStore};
+use kt_history::{Event, OpList, Outcome, Plan};
 use kt_mvcc::Flight;
 use kt_records::CommitRow;
 use kt_schema::Schema;
-use kt_stores::Stores;
+use kt_stores::{FileStore, Stores};
 use std::alloc::Global;
 use std::marker::Model;
 use std::snapshot::Snapshot;
@@ -40,7 +40,7 @@ pub struct FlyingWrite {
 /// A tablet: the rows of its stores in the cells of their pool, the clock, the writes that fly, the lines of its history
 /// and where each session stands.
 #[derive(Drop)]
-pub struct Tablet<R: RowStore, C: Clock> {
+pub struct Tablet<R: FileStore, C: Clock> {
     stores: Stores<R>,
     clock: C,
     flight: Flight,
@@ -58,7 +58,7 @@ pub struct Tablet<R: RowStore, C: Clock> {
     mark: u64,
 }
 
-impl<R: RowStore, C: Clock> Model for Tablet<R, C> {
+impl<R: FileStore, C: Clock> Model for Tablet<R, C> {
     ghost use Rattle.std.specs.Prelude.{map, vec_capacity, vec_len};
     ghost use Rattle.kt_stores.specs.Shelf.{names_of};
     ghost use Rattle.kt_tablet.specs.Filling.{told_stores};
@@ -90,6 +90,7 @@ impl<R: RowStore, C: Clock> Model for Tablet<R, C> {
       places = map placed_of e.flights.items;
       pool = e.stores.pool;
       frozen = e.stores.frozen;
+      files = e.stores.files;
     } };
 
     ghost invariant = { λ e. IsSound C.readings (record {
@@ -114,6 +115,7 @@ impl<R: RowStore, C: Clock> Model for Tablet<R, C> {
       places = map placed_of e.flights.items;
       pool = e.stores.pool;
       frozen = e.stores.frozen;
+      files = e.stores.files;
     }) × IsReady e.fill e.stopped e.flights.items e.flight.flying (vec_len e.trail) (vec_capacity e.trail) e.stores.pool × AreTold (work_of e.schema.value e.plan.value e.cells e.fill) (told_stores e.fill e.opening.value) e.mark e.last e.trail.items e.flights.items × AreWritten (names_of e.stores.shelf) e.flights.items };
 }
 
@@ -147,7 +149,7 @@ fn first_parts(alloc: Global, schema: &Schema) -> Result<(Cells, Turns, Vec<Even
     Ok((fill, turns, trail))
 }
 
-impl<R: RowStore, C: Clock> Tablet<R, C> {
+impl<R: FileStore, C: Clock> Tablet<R, C> {
     ghost use Rattle.std.specs.Prelude.{IfErr, false};
     ghost use Rattle.kt_stores.specs.Shelf.{names_of};
     ghost use Rattle.kt_tablet.specs.Filling.{told_stores};
@@ -179,6 +181,7 @@ impl<R: RowStore, C: Clock> Tablet<R, C> {
         ensures places { IfOk result (λ tablet. tablet.places ≡ []) }
         ensures pool { IfOk result (λ tablet. tablet.pool ≡ stores.pool) }
         ensures frozen { IfOk result (λ tablet. tablet.frozen ≡ stores.frozen) }
+        ensures files { IfOk result (λ tablet. tablet.files ≡ stores.files) }
         ensures stores { IfOk result (λ tablet. tablet.core.stores ≡ tablet.opening) }
         ensures back { IfErr result (λ e. (e.0 ≡ stores) × (e.1 ≡ clock)) }
     {
@@ -208,7 +211,7 @@ impl<R: RowStore, C: Clock> Tablet<R, C> {
     }
 }
 
-impl<R: RowStore, C: Clock> Tablet<R, C> {
+impl<R: FileStore, C: Clock> Tablet<R, C> {
     ghost use Rattle.kt_history.specs.Grown.{AllGrown};
     ghost use Rattle.kt_tablet.specs.Views.{IsSound, IsExact};
     ghost use Rattle.std.specs.Prelude.{◌≡◌, OnErr, IfOk, Err, true, false, suc, take};

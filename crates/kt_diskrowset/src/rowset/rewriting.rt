@@ -82,6 +82,7 @@ impl DiskRowSet {
     ghost use Rattle.kt_diskrowset.specs.Rows.{UndosLeadBack};
     ghost use Rattle.kt_diskrowset.specs.Rowset.{IsStore, held_of, fresh_of, store_of, name_of};
     ghost use Rattle.kt_diskrowset.specs.Data.{held_in, files_in, store_in};
+    ghost use Rattle.kt_diskrowset.specs.Held.{store_told};
     ghost use Rattle.kt_diskrowset.specs.Rewriting.{IsSettled};
 
     // All changes in memory, in the order of their rows.
@@ -99,7 +100,8 @@ impl DiskRowSet {
     /// Whether it has a change in memory.
     pub fn has_deltas(&self, pool: &Pool) -> bool
         requires { IsStore self.now pool.now }
-        ensures { result ≡ false → (n : ℕ) → fresh_of self.now pool.now n ≡ [] }
+        ensures none { result ≡ false → (n : ℕ) → fresh_of self.now pool.now n ≡ [] }
+        ensures told { result ≡ false → store_of self.now pool.now ≡ store_told (held_of self.now) }
     {
         if self.active.len() != 0 {
             return true;
@@ -137,7 +139,8 @@ impl DiskRowSet {
         requires none { rowset.fresh ≡ [] }
         requires number { (n : ℕ) × (name_of self.old ≡ DeltaName rowset.number n) }
         requires store { store_in rowset ≡ store_of self.old pool.old }
-        ensures { IsSettled self.old self.new pool.old pool.new }
+        ensures settled { IsSettled self.old self.new pool.old pool.new }
+        ensures held { held_of self.new ≡ held_in rowset }
     {
         empty_all(&mut self.frozen, pool);
         self.active.empty_into(pool);

@@ -6,8 +6,8 @@ ghost use Rattle.kt_history.specs.Beside.{AllStand, AreApart};
 ghost use Rattle.kt_stores.specs.Parts.{AreEmptied};
 
 use super::Stores;
+use crate::file_store::FileStore;
 use kt_base::NoMemory;
-use kt_history::RowStore;
 use kt_memrowset::MemRowSet;
 use kt_pool::Pool;
 use std::mem;
@@ -24,8 +24,8 @@ fn empty_all(stores: &mut Vec<MemRowSet>, pool: &mut Pool)
     }
 }
 
-impl<R: RowStore> Stores<R> {
-    ghost use Rattle.kt_stores.specs.Shelf.{frozen_behind, without_frozen};
+impl<R: FileStore> Stores<R> {
+    ghost use Rattle.kt_stores.specs.Shelf.{frozen_behind};
 
     /// Freezes the store that takes inserts. It stands first among the frozen ones then, and a new one of this number,
     /// with no row, takes inserts. Without memory nothing changes.
@@ -41,21 +41,9 @@ impl<R: RowStore> Stores<R> {
             Err(_) => unreachable!(),
         }
     }
-
-    /// The frozen stores leave, and their cells are free then.
-    pub fn drop_frozen(&mut self)
-        ensures shelf { self.new.shelf ≡ without_frozen self.old.frozen self.old.shelf }
-        ensures frozen { self.new.frozen ≡ 0 }
-        ensures reserved { self.new.pool.reserved ≡ self.old.pool.reserved }
-        ensures size { length self.new.pool.places ≡ length self.old.pool.places }
-    {
-        R::frame_law();
-        R::placed_law();
-        empty_all(&mut self.frozen, &mut self.pool);
-    }
 }
 
-impl<R: RowStore> Stores<R> {
+impl<R: FileStore> Stores<R> {
     ghost use Rattle.std.specs.List.{AllByRecursion};
     ghost use Rattle.kt_history.specs.declared.target.Target.TheVariants.{Mem};
     ghost use Rattle.kt_stores.specs.Shelf.{name_at, with_outputs, rows_in_first};
@@ -104,6 +92,7 @@ impl<R: RowStore> Stores<R> {
         requires few { length self.old.shelf + length outputs.items < 2 ^ 32 }
         ensures shelf { self.new.shelf ≡ with_outputs self.old.frozen (map (λ r. shelved R.target R.store R.is_closed R.cells r self.old.pool) outputs.items) self.old.shelf }
         ensures frozen { self.new.frozen ≡ 0 }
+        ensures files { self.new.files ≡ map R.files outputs.items ++ self.old.files }
         ensures reserved { self.new.pool.reserved ≡ self.old.pool.reserved }
         ensures size { length self.new.pool.places ≡ length self.old.pool.places }
     {
@@ -118,7 +107,7 @@ impl<R: RowStore> Stores<R> {
     }
 }
 
-impl<R: RowStore + Drop> Stores<R> {
+impl<R: FileStore + Drop> Stores<R> {
     ghost use Rattle.kt_stores.specs.Parts.{shelved};
 
     /// A rowset comes in behind the others. It stands in the pool and has no cell there yet. Without memory nothing changes.
@@ -127,7 +116,7 @@ impl<R: RowStore + Drop> Stores<R> {
         requires bare { (k : ℕ) → ¬ R.owns rowset self.old.pool k }
         requires none { R.cells rowset self.old.pool ≡ 0 }
         requires closed { R.is_closed rowset ≡ true }
-        ensures ok { OnOk result (self.new ≡ record self.old { shelf = self.old.shelf ++ shelved R.target R.store R.is_closed R.cells rowset self.old.pool ∷ [] }) }
+        ensures ok { OnOk result (self.new ≡ record self.old { shelf = self.old.shelf ++ shelved R.target R.store R.is_closed R.cells rowset self.old.pool ∷ []; files = self.old.files ++ R.files rowset ∷ [] }) }
         ensures err { OnErr result (self.new ≡ self.old) }
     {
         if self.rowsets.len() >= u32::MAX as usize {

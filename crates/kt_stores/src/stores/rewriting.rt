@@ -1,12 +1,14 @@
 //! Disk rowsets that a job rewrites, one at a time: where one stands, what is read of it, and the files that come in place of what it has.
-ghost use Rattle.std.specs.Prelude.{◌≡◌, ◌<◌, [], ℕ, length, slice_get, Some, IfSome, IfOk, OnOk, OnErr};
+ghost use Rattle.std.specs.Prelude.{◌≡◌, ◌<◌, ◌-◌, ◌==◌, [], ℕ, false, length, slice_get, Some, IfSome, IfOk, OnOk, OnErr};
 ghost use Rattle.std.specs.List.{position};
+ghost use Rattle.std.specs.Option.{option_map};
 ghost use Rattle.std.specs.List.Sorted.{IsNonDecreasingBy};
 ghost use Rattle.kt_history.specs.declared.target.Target.TheVariants.{Delta};
 ghost use Rattle.kt_histlaws.specs.Histories.{on_nth};
-ghost use Rattle.kt_diskrowset.specs.Data.{files_in, store_in};
+ghost use Rattle.kt_diskrowset.specs.Data.{held_in, files_in, store_in};
+ghost use Rattle.kt_diskrowset.specs.Held.{store_told};
 ghost use Rattle.kt_diskrowset.specs.Rows.{UndosLeadBack};
-ghost use Rattle.kt_diskrowset.specs.Rowset.{name_of};
+ghost use Rattle.kt_diskrowset.specs.Rowset.{HeldFiles, name_of};
 ghost use Rattle.kt_stores.specs.Shelf.{is_rowset, name_at, names_of, stores_of, renamed};
 
 use super::Stores;
@@ -43,6 +45,7 @@ impl Stores<DiskRowSet> {
         ensures place { result ≡ position (λ s. is_rowset number s.name) self.now.shelf }
         ensures behind { IfSome result (λ at. self.now.frozen < at) }
         ensures within { IfSome result (λ at. at < length self.now.shelf) }
+        ensures files { position (λ h. h.number == number) self.now.files ≡ option_map (λ at. at - 1 - self.now.frozen) result }
     {
         match first_numbered(&self.rowsets, number) {
             Some(at) => Some(1 + self.frozen.len() + at),
@@ -60,10 +63,11 @@ impl Stores<DiskRowSet> {
         self.rowsets[at - 1 - memory].target()
     }
 
-    /// Whether the disk rowset at a place has a change in memory.
+    /// Whether the disk rowset at a place has a change in memory. One that has none is what its files tell.
     pub fn has_deltas(&self, at: usize) -> bool
         requires behind { self.now.frozen < at }
         requires within { at < length self.now.shelf }
+        ensures { result ≡ false → (h : HeldFiles) → slice_get self.now.files (at - 1 - self.now.frozen) ≡ Some h → slice_get (stores_of self.now) at ≡ Some (store_told h) }
     {
         let memory = self.frozen();
         self.rowsets[at - 1 - memory].has_deltas(&self.pool)
@@ -78,6 +82,7 @@ impl Stores<DiskRowSet> {
         ensures number { IfOk result (λ d. (number dms : ℕ) → name_at at self.now.shelf ≡ Some (Delta number dms) → d.number ≡ number) }
         ensures lead { IfOk result (λ d. UndosLeadBack (files_in d)) }
         ensures order { IfOk result (λ d. IsNonDecreasingBy (λ c. c.ordinal) d.fresh) }
+        ensures held { IfOk result (λ d. slice_get self.now.files (at - 1 - self.now.frozen) ≡ Some (held_in d)) }
     {
         let memory = self.frozen();
         self.rowsets[at - 1 - memory].whole(alloc, &self.pool)
@@ -107,6 +112,7 @@ impl Stores<DiskRowSet> {
         requires store { slice_get (stores_of self.old) at ≡ Some (store_in rowset) }
         ensures stores { stores_of self.new ≡ stores_of self.old }
         ensures names { names_of self.new.shelf ≡ names_of self.old.shelf }
+        ensures files { self.new.files ≡ on_nth (at - 1 - self.old.frozen) (λ _. held_in rowset) self.old.files }
         ensures frozen { self.new.frozen ≡ self.old.frozen }
         ensures reserved { self.new.pool.reserved ≡ self.old.pool.reserved }
         ensures size { length self.new.pool.places ≡ length self.old.pool.places }

@@ -1,5 +1,5 @@
 //! Operations, each for the store that has its row.
-ghost use Rattle.std.specs.Prelude.{◌≡◌, ◌<◌, ◌≤◌, length, [], None, false, is_some, if◌then◌else◌};
+ghost use Rattle.std.specs.Prelude.{◌≡◌, ◌<◌, ◌≤◌, length, map, [], None, false, is_some, if◌then◌else◌};
 ghost use Rattle.std.specs.List.{All, position};
 ghost use Rattle.kt_history.specs.Beside.{AllStand};
 ghost use Rattle.kt_history.specs.Stores.{kind_made, change_by, is_there, with_change, share};
@@ -9,6 +9,7 @@ ghost use Rattle.kt_stores.specs.Parts.{kept, shelved, stands_by, owns_by, read_
 ghost use Rattle.kt_stores.specs.Shelf.{has_live};
 
 use super::Stores;
+use crate::file_store::FileStore;
 use kt_history::{OpRef, RowStore, Taken};
 use kt_memrowset::MemRowSet;
 use kt_pool::Pool;
@@ -37,7 +38,7 @@ fn take_in<S: RowStore>(store: &mut S, pool: &mut Pool, ts: u64, op: &OpRef<'_>)
 }
 
 // An operation reaches the store at a place.
-fn take_at<R: RowStore>(
+fn take_at<R: FileStore>(
     active: &mut MemRowSet,
     frozen: &mut [MemRowSet],
     rowsets: &mut [R],
@@ -50,7 +51,8 @@ fn take_at<R: RowStore>(
     requires stand { AllStand (stands_by R.stands) pool.old (kept active.old frozen.old rowsets.old) }
     requires reserved { share op.now ≤ pool.old.reserved }
     requires may { MayTakeAt (read_by (shelved R.target R.store R.is_closed R.cells)) at (kept active.old frozen.old rowsets.old) pool.old op.now }
-    ensures { HasTakenAt (stands_by R.stands) (owns_by R.owns) (read_by (shelved R.target R.store R.is_closed R.cells)) at (kept active.old frozen.old rowsets.old) (kept active.new frozen.new rowsets.new) pool.old pool.new ts op.now result }
+    ensures taken { HasTakenAt (stands_by R.stands) (owns_by R.owns) (read_by (shelved R.target R.store R.is_closed R.cells)) at (kept active.old frozen.old rowsets.old) (kept active.new frozen.new rowsets.new) pool.old pool.new ts op.now result }
+    ensures files { map R.files rowsets.new ≡ map R.files rowsets.old }
 {
     if at == 0 {
         return take_in(active, pool, ts, op);
@@ -60,11 +62,11 @@ fn take_at<R: RowStore>(
     if at < count {
         take_in(&mut frozen[at], pool, ts, op)
     } else {
-        take_in(&mut rowsets[at - count], pool, ts, op)
+        rowsets[at - count].take_here(pool, ts, op)
     }
 }
 
-impl<R: RowStore> Stores<R> {
+impl<R: FileStore> Stores<R> {
     ghost use Rattle.kt_stores.specs.Shelf.{stores_of, last_live, place_of, name_at, TakesAt};
 
     // The place of the first store that has the row of a key after all changes.

@@ -1,11 +1,13 @@
 //! What a job does to one disk rowset, named by its number: it freezes the DeltaMemStore that takes its changes, reads all that it
 //! has, and puts files in its place that tell the same.
-ghost use Rattle.std.specs.Prelude.{◌≡◌, ◌<◌, ◌+◌, ◌^◌, [], ℕ, Some, IfOk, OnOk, OnErr};
+ghost use Rattle.std.specs.Prelude.{◌≡◌, ◌<◌, ◌+◌, ◌^◌, [], ℕ, false, Some, IfOk, OnOk, OnErr};
 ghost use Rattle.kt_history.specs.declared.target.Target.TheVariants.{Delta};
 ghost use Rattle.std.specs.List.Sorted.{IsNonDecreasingBy};
-ghost use Rattle.kt_diskrowset.specs.Data.{files_in, store_in};
+ghost use Rattle.kt_diskrowset.specs.Data.{held_in, files_in, store_in};
+ghost use Rattle.kt_diskrowset.specs.Held.{store_told};
 ghost use Rattle.kt_diskrowset.specs.Rows.{UndosLeadBack};
-ghost use Rattle.kt_tablet.specs.Jobs.{dms_in, store_in_names, next_dms};
+ghost use Rattle.kt_diskrowset.specs.Rowset.{HeldFiles};
+ghost use Rattle.kt_tablet.specs.Jobs.{dms_in, store_in_names, next_dms, files_of, with_files};
 
 use super::Tablet;
 use kt_base::{Clock, NoMemory};
@@ -34,8 +36,10 @@ impl<C: Clock> Tablet<DiskRowSet, C> {
         }
     }
 
-    /// Whether a disk rowset is there and has a change in memory.
-    pub fn has_deltas(&self, number: u64) -> bool {
+    /// Whether a disk rowset is there and has a change in memory. One that has none is what its files tell.
+    pub fn has_deltas(&self, number: u64) -> bool
+        ensures { result ≡ false → (dms : ℕ) → dms_in number self.now.names ≡ Some dms → (h : HeldFiles) × (files_of number self.now.files ≡ Some h) × (store_in_names number self.now.names self.now.core.stores ≡ store_told h) }
+    {
         match self.stores.rowset_place(number) {
             Some(at) => self.stores.has_deltas(at),
             None => false,
@@ -50,6 +54,7 @@ impl<C: Clock> Tablet<DiskRowSet, C> {
         ensures store { IfOk result (λ d. store_in d ≡ store_in_names number self.now.names self.now.core.stores) }
         ensures lead { IfOk result (λ d. UndosLeadBack (files_in d)) }
         ensures order { IfOk result (λ d. IsNonDecreasingBy (λ c. c.ordinal) d.fresh) }
+        ensures held { IfOk result (λ d. files_of number self.now.files ≡ Some (held_in d)) }
     {
         match self.stores.rowset_place(number) {
             Some(at) => self.stores.read_rowset(alloc, at),
@@ -85,7 +90,7 @@ impl<C: Clock> Tablet<DiskRowSet, C> {
         requires none { rowset.fresh ≡ [] }
         requires there { (n : ℕ) × (dms_in rowset.number self.old.names ≡ Some n) }
         requires store { store_in rowset ≡ store_in_names rowset.number self.old.names self.old.core.stores }
-        ensures { self.new ≡ record self.old { pool = self.new.pool } }
+        ensures { self.new ≡ record self.old { pool = self.new.pool; files = with_files (held_in rowset) self.old.files } }
     {
         if let Some(at) = self.stores.rowset_place(rowset.number) {
             self.stores.settle(at, rowset);

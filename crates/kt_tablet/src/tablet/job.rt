@@ -12,12 +12,12 @@ ghost use Rattle.kt_tablet.specs.Jobs.{changes_in_memory, filled_of, HasFrozen, 
 
 use super::Tablet;
 use kt_base::{Cells, Clock, NoMemory};
-use kt_history::{ChangeList, RowStore};
-use kt_stores::Stores;
+use kt_history::ChangeList;
+use kt_stores::{FileStore, Stores};
 use std::alloc::Global;
 
 // The changes up to a time of each store in memory, as the stores keep them.
-fn lists_of<R: RowStore>(
+fn lists_of<R: FileStore>(
     alloc: Global,
     stores: &Stores<R>,
     upto: u64,
@@ -33,7 +33,7 @@ fn lists_of<R: RowStore>(
     Ok(lists)
 }
 
-impl<R: RowStore, C: Clock> Tablet<R, C> {
+impl<R: FileStore, C: Clock> Tablet<R, C> {
     /// The changes of each store in memory at or below a time, the one that takes inserts first: by rising key, then timestamp. An insert has its own cells
     /// alone; with the other columns' defaults they are the changes of the tablet.
     pub fn lists_in_memory(&self, alloc: Global, upto: u64) -> Result<Vec<ChangeList>, NoMemory>
@@ -110,7 +110,7 @@ impl<R: RowStore, C: Clock> Tablet<R, C> {
         requires room { length self.old.core.stores + length outputs.items ≤ vec_capacity outputs + self.old.frozen + 1 }
         requires few { length self.old.core.stores + length outputs.items < 2 ^ 32 }
         requires may { MayChangeOver self.old (map (λ r. R.store r self.old.pool) outputs.items) }
-        ensures { HasChangedOver self.old self.new (map (λ r. R.store r self.old.pool) outputs.items) (map R.target outputs.items) }
+        ensures { HasChangedOver self.old self.new (map (λ r. R.store r self.old.pool) outputs.items) (map R.target outputs.items) (map R.files outputs.items) }
     {
         self.stores.change_over(outputs);
     }

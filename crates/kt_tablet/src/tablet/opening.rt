@@ -5,10 +5,11 @@ ghost use Rattle.kt_tablet.specs.Plans.{PlanKeeps};
 
 use super::Tablet;
 use kt_base::Clock;
-use kt_history::{EventList, Plan, RowStore};
+use kt_history::{EventList, Plan};
+use kt_stores::FileStore;
 use std::snapshot::Snapshot;
 
-impl<R: RowStore, C: Clock> Tablet<R, C> {
+impl<R: FileStore, C: Clock> Tablet<R, C> {
     /// Takes the plan of the run, which keeps the rules: no event asks for that again. It takes no memory.
     pub fn set_plan(&mut self, plan: &Plan)
         requires fresh { (self.old.core.trail ≡ []) × (self.old.core.aloft ≡ []) × (self.old.core.stopped ≡ false) }
@@ -21,7 +22,7 @@ impl<R: RowStore, C: Clock> Tablet<R, C> {
     }
 }
 
-impl<R: RowStore + Drop, C: Clock> Tablet<R, C> {
+impl<R: FileStore + Drop, C: Clock> Tablet<R, C> {
     /// The clock and the history, once all is over.
     pub fn take_apart(self) -> (C, EventList)
         ensures { (result.0 ≡ self.clock) × (result.1 ≡ self.core.trail) }

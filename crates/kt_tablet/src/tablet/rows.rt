@@ -13,10 +13,10 @@ ghost use Rattle.kt_tablet.specs.Views.{unpromised};
 use super::{FlyingWrite, Stopped, Tablet};
 use crate::need::cells_of;
 use kt_base::Clock;
-use kt_history::{Event, OpKind, OpList, OpRef, Outcome, OutcomeList, RowStore, Taken, outcome};
+use kt_history::{Event, OpKind, OpList, OpRef, Outcome, OutcomeList, Taken, outcome};
 use kt_mvcc::KeyList;
 use kt_records::{CommitRow, CommitRows, TargetList};
-use kt_stores::Stores;
+use kt_stores::{FileStore, Stores};
 
 /// What became of a write that has ended: the outcomes of its rows, and the same for the log. What it held comes back
 /// beside that, so that the caller chooses when its memory is freed.
@@ -48,7 +48,7 @@ fn recorded(kind: OpKind, taken: Taken) -> CommitRow
 }
 
 // An operation reaches the stores in cells that are promised, and of those that it needs none stays promised.
-fn apply_op<R: RowStore>(stores: &mut Stores<R>, ts: u64, op: &OpRef<'_>) -> CommitRow
+fn apply_op<R: FileStore>(stores: &mut Stores<R>, ts: u64, op: &OpRef<'_>) -> CommitRow
     requires { 2 * share op.now ≤ stores.old.pool.reserved }
     ensures bound { place_of op.now.key (stores_of stores.old) < length (stores_of stores.old) }
     ensures changed { AllUnder ts (hists op.now.key (stores_of stores.old)) → stores_of stores.new ≡ on_nth (place_of op.now.key (stores_of stores.old)) (with_change op.now.key ts (change_by op.now (is_some (last_live op.now.key (stores_of stores.old))))) (stores_of stores.old) }
@@ -56,6 +56,7 @@ fn apply_op<R: RowStore>(stores: &mut Stores<R>, ts: u64, op: &OpRef<'_>) -> Com
     ensures row { (name : Target) × (slice_get (names_of stores.old.shelf) (place_of op.now.key (stores_of stores.old)) ≡ Some name) × (result ≡ commit_row name result.outcome) }
     ensures names { names_of stores.new.shelf ≡ names_of stores.old.shelf }
     ensures frozen { stores.new.frozen ≡ stores.old.frozen }
+    ensures files { stores.new.files ≡ stores.old.files }
     ensures promised { stores.new.pool.reserved + 2 * share op.now ≡ stores.old.pool.reserved }
     ensures room { unpromised stores.old.pool ≤ unpromised stores.new.pool }
 {
@@ -106,7 +107,7 @@ fn note(write: &mut FlyingWrite, row: CommitRow) -> Outcome
     outcome
 }
 
-impl<R: RowStore, C: Clock> Tablet<R, C> {
+impl<R: FileStore, C: Clock> Tablet<R, C> {
     ghost use Rattle.std.specs.Prelude.{IfOk, OnOk, OnErr, IsOk, IsErr, false, not, ℕ};
     ghost use Rattle.std.specs.List.{filter};
     ghost use Rattle.kt_history.specs.History.{Past};

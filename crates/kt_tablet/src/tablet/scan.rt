@@ -13,8 +13,7 @@ use crate::snap::{Copied, Snap, SnapList};
 use crate::snap_view::SnapView;
 use kt_base::{Cells, Clock, NoMemory};
 use kt_history::{At, Event};
-use kt_stores::Stores;
-use kt_views::ViewStore;
+use kt_stores::{FileStore, Stores};
 use std::alloc::Global;
 use thiserror::Error;
 
@@ -39,7 +38,7 @@ pub enum SnapNo {
 }
 
 // What is copied of the store at a place: its changes up to a time, or what tells the rows of a disk rowset.
-fn copy_of<R: ViewStore>(
+fn copy_of<R: FileStore>(
     alloc: Global,
     stores: &Stores<R>,
     fill: &Cells,
@@ -60,7 +59,7 @@ fn copy_of<R: ViewStore>(
 }
 
 // What is copied of each store up to a time.
-fn views_of<R: ViewStore>(
+fn views_of<R: FileStore>(
     alloc: Global,
     stores: &Stores<R>,
     fill: &Cells,
@@ -79,7 +78,7 @@ fn views_of<R: ViewStore>(
     Ok(SnapList::of(views))
 }
 
-impl<R: ViewStore, C: Clock> Tablet<R, C> {
+impl<R: FileStore, C: Clock> Tablet<R, C> {
     ghost use Rattle.kt_history.specs.declared.event.Event.TheVariants.{Ancient, Busy};
     ghost use Rattle.kt_histlaws.specs.Events.{answered};
     ghost use Rattle.kt_tablet.specs.Views.{Opens};

@@ -4,8 +4,9 @@ ghost use Rattle.std.specs.Prelude.{◌≡◌, ◌≢◌, ◌+◌, ◌-◌, ◌^
 use super::{FlyingWrite, Tablet};
 use crate::new_write::NewWrite;
 use kt_base::{Clock, NoMemory};
-use kt_history::{Event, RowStore};
+use kt_history::Event;
 use kt_mvcc::Flight;
+use kt_stores::FileStore;
 use std::alloc::Global;
 use std::mem;
 use thiserror::Error;
@@ -57,7 +58,7 @@ fn make_room(
     Ok(())
 }
 
-impl<R: RowStore, C: Clock> Tablet<R, C> {
+impl<R: FileStore, C: Clock> Tablet<R, C> {
     ghost use Rattle.std.specs.Prelude.{OnErr, IfErr, Err, false, true};
     ghost use Rattle.kt_pool.specs.Contents.{with_reserved};
     ghost use Rattle.kt_history.specs.Operations.{need};

@@ -3,7 +3,7 @@ use Rattle.kt_disk.proofs.Moments.{turns_then}
 use Rattle.kt_super.specs.declared.meta.MetaRowset.{MetaRowset}
 use Rattle.kt_files.specs.declared.refusal.FilesNo.{FilesNo}
 use Rattle.kt_files.specs.declared.refusal.FilesNo.TheVariants.{Place}
-use Rattle.kt_files.proofs.Lists.{all_more, first_fault, fresh_more, numbers_more}
+use Rattle.kt_files.proofs.Lists.{all_more, first_fault, fresh_more, numbers_more, names_more}
 use Rattle.kt_files.proofs.rowsets.read_rowsets.Goals as goal
 
 pub returns-in-Err-clause-place : goal.returns-in-Err-clause-place
@@ -29,6 +29,7 @@ rowsets-preserved g c =
     record {
       hold = λ told. all_more (g.D.Disk.seen c.args.disk.now) (g.D.Disk.seen c.rowsets.disk) (c.rowsets.invariant.seen told) list i r c.rowsets.rowsets.items c.push.new.self.items c.in-Ok.value lt is
           (c.rowsets.invariant.hold told) c.in_ok-push.ensures.items (c.in-Ok.ensures.holds told);
+      named = names_more list i r c.rowsets.rowsets.items c.push.new.self.items c.in-Ok.value lt is c.rowsets.invariant.named c.in_ok-push.ensures.items c.in-Ok.ensures.named;
       fresh = fresh_more c.rowsets.rowsets.items c.push.new.self.items c.in-Ok.value c.rowsets.invariant.fresh c.in_ok-push.ensures.items c.in-Ok.ensures.fresh;
       numbers = numbers_more list i r c.rowsets.rowsets.items c.push.new.self.items c.in-Ok.value lt is c.rowsets.invariant.numbers c.in_ok-push.ensures.items c.in-Ok.ensures.number;
       seen = λ told. c.read_rowset.ensures.seen told ∙ c.rowsets.invariant.seen told;

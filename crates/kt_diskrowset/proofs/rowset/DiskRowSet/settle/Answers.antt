@@ -17,8 +17,8 @@ empty_all-requires-clause-apart c = apart_front c.args.pool.now c.args.self.now.
 pub empty_into-requires : goal.empty_into-requires
 empty_into-requires c = (emptied_all c.args.self.now c.args.pool.now c.empty_all.new.pool c.requires.stands c.empty_all.ensures.emptied).stand.0
 
-pub returns : goal.returns
-returns c =
+pub returns-clause-settled : goal.returns-clause-settled
+returns-clause-settled c =
     let s = c.args.self.now in
     let t : DiskRowSet = record { number = c.args.rowset.number; base = c.args.rowset.base; undo = c.args.rowset.undo; redo = c.args.rowset.redo; frozen = c.empty_all.new.mems; active = c.empty_into.new.self } in
     settled s t c.args.pool.now c.empty_all.new.pool c.empty_into.new.pool c.args.rowset c.requires.stands c.empty_all.ensures.emptied c.requires.lead c.requires.none c.requires.store refl

@@ -1,5 +1,6 @@
 use Rattle.std.proofs.Common.{◌≡◌, ℕ, ◌++◌, [], map, length, length-append, inr, sym, ap, subst, ◌∙◌, arith}
 use Rattle.std.specs.List.{AllByRecursion}
+use Rattle.std.proofs.lemmas.List.{map-append}
 use Rattle.kt_stores.specs.Shelf.{StoresView, with_outputs}
 use Rattle.kt_stores.specs.Parts.{kept, shelved, read_by, shelf_of}
 use Rattle.kt_stores.proofs.Either.{placed_by}
@@ -54,3 +55,9 @@ returns-clause-shelf g c =
     ap (λ fs. shelf_of (read_by (shelved r.target r.store r.is_closed r.cells)) c.empty_all.new.pool (kept i.active fs c.append.new.self.items)) c.empty_all.ensures.none
     ∙ ap (λ rs. shelf_of (read_by (shelved r.target r.store r.is_closed r.cells)) c.empty_all.new.pool (kept i.active [] rs)) grown
     ∙ changed.1 ∙ ap (λ (v : StoresView). with_outputs v.frozen (map (λ s. shelved r.target r.store r.is_closed r.cells s v.pool) c.args.outputs.items) v.shelf) c.self.view_is
+
+pub returns-clause-files : goal.returns-clause-files
+returns-clause-files g c =
+    let i = c.self.inside in
+    let grown : c.append.new.self.items ≡ c.args.outputs.items ++ i.rowsets.items = cc (c.in-Ok.ensures.items, c.replace-others.ensures.value, c.replace-others.ensures.after) in
+    ap (map g.R.FileStore.files) grown ∙ map-append g.R.FileStore.files c.args.outputs.items i.rowsets.items ∙ ap (λ (v : StoresView). map g.R.FileStore.files c.args.outputs.items ++ v.files) c.self.view_is

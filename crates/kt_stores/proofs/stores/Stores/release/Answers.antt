@@ -1,4 +1,4 @@
-use Rattle.std.proofs.Common.{length, ◌-◌, ap, ◌∙◌}
+use Rattle.std.proofs.Common.{length, map, ◌-◌, ap, ◌∙◌}
 use Rattle.kt_pool.specs.Contents.{Contents, with_reserved}
 use Rattle.kt_stores.specs.Shelf.{StoresView}
 use Rattle.kt_stores.proofs.Standing.{pool_same}
@@ -17,4 +17,4 @@ returns g c =
     let i = c.self.inside in
     let same = ap (λ (p : Contents). p.places) c.release.ensures in
     let shelf = (pool_same r.stands r.owns r.target r.store r.is_closed r.cells c.frame_law.ensures c.placed_law.ensures i.active i.frozen.items i.rowsets.items i.pool c.release.new.self c.self.invariant.0 same).1 in
-    (λ k. record { pool = c.release.ensures k; shelf = shelf k; frozen = length i.frozen.items }) ∙ ap (λ (v : StoresView). record { pool = with_reserved v.pool (v.pool.reserved - c.args.n); shelf = v.shelf; frozen = v.frozen }) c.self.view_is
+    (λ k. record { pool = c.release.ensures k; shelf = shelf k; frozen = length i.frozen.items; files = map g.R.FileStore.files i.rowsets.items }) ∙ ap (λ (v : StoresView). record { pool = with_reserved v.pool (v.pool.reserved - c.args.n); shelf = v.shelf; frozen = v.frozen; files = v.files }) c.self.view_is

@@ -150,8 +150,8 @@ returns-clause-run g c =
     (λ first opens. c.note.ensures.outcome ∙ c.apply_op-row.ensures.outcome ∙ outcome_several fill memory op ts old (under first opens))
 
 pub returns-clause-beside : goal.returns-clause-beside
-returns-clause-beside g c = applied_beside _ _ _ _ _ _ _ _ c.self.view_is c.apply_op-row.ensures.names
-    (places_set c.self.inside.flights.items c.place_of-place.result c.index_mut.result.now c.note.new.write c.index_mut.ensures.value (ap placed_of c.note.ensures.write)) c.apply_op-row.ensures.frozen
+returns-clause-beside g c = applied_beside _ _ _ _ _ _ _ _ _ c.self.view_is c.apply_op-row.ensures.names
+    (places_set c.self.inside.flights.items c.place_of-place.result c.index_mut.result.now c.note.new.write c.index_mut.ensures.value (ap placed_of c.note.ensures.write)) c.apply_op-row.ensures.frozen c.apply_op-row.ensures.files
 
 pub returns-clause-noted : goal.returns-clause-noted
 returns-clause-noted g c =

@@ -88,7 +88,7 @@ begin_free-ts-requires-clause-free g c =
 pub returns-clause-beside : goal.returns-clause-beside
 returns-clause-beside g c =
     let promised : c.reserve.new.self ≡ record c.self.inside.stores { pool = with_reserved c.self.inside.stores.pool (c.self.inside.stores.pool.reserved + need c.replace-ops.result.ops) } = search rules in
-    beside_names _ _ _ _ _ _ _ _ _ c.self.view_is (ap (λ v. names_of v.shelf) promised) (ap (λ v. v.frozen) promised)
+    beside_names _ _ _ _ _ _ _ _ _ _ c.self.view_is (ap (λ v. names_of v.shelf) promised) (ap (λ v. v.frozen) promised) (ap (λ v. v.files) promised)
 
 pub returns-clause-noted : goal.returns-clause-noted
 returns-clause-noted g c = one_note _ _ c.self.inside.flights.items _ c.push_reserved-2.ensures.items c.make_room.ensures.flights c.replace-ops.result.empty.1 ∙ ap (λ v. v.notes ++ [] ∷ []) c.self.view_is

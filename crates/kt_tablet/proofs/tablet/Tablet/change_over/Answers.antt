@@ -66,4 +66,4 @@ returns g c =
     ap names_of e.shelf ∙ names_over i.stores.frozen outs i.stores.shelf
     ∙ ap (λ l. over_to i.stores.frozen l (names_of i.stores.shelf)) (mapped (λ (s : Shelved). s.name) (λ s. shelved r.target r.store r.is_closed r.cells s i.stores.pool) c.args.outputs.items) in
     let store_in = ap (λ v. map (λ s. r.store s v.pool) c.args.outputs.items) c.self.view_is in
-    has_changed_over _ _ _ _ _ _ _ _ c.self.view_is (stores ∙ ap (λ l. over_to i.stores.frozen l (told_stores i.fill i.stores)) store_in) names e.frozen
+    has_changed_over _ _ _ _ _ _ _ _ _ _ c.self.view_is (stores ∙ ap (λ l. over_to i.stores.frozen l (told_stores i.fill i.stores)) store_in) names e.frozen e.files

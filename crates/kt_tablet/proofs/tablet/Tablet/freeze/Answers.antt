@@ -38,7 +38,7 @@ returns-clause-frozen g c =
     let is = c.in_ok-freeze.ensures.ok in
     let stores = ap (λ (v : StoresView). told_stores i.fill v) is ∙ told_frozen i.fill i.stores.frozen (n + 1) (Mem n) i.stores.shelf c.active_number-number.ensures in
     let names = ap (λ (v : StoresView). names_of v.shelf) is ∙ names_frozen (n + 1) (Mem n) i.stores.shelf c.active_number-number.ensures in
-    has_frozen _ _ _ _ (drop 1 (names_of i.stores.shelf)) _ _ n c.self.view_is stores names (ap (λ (v : StoresView). v.pool) is) (ap (λ (v : StoresView). v.frozen) is) (first_named (Mem n) i.stores.shelf c.active_number-number.ensures)
+    has_frozen _ _ _ _ (drop 1 (names_of i.stores.shelf)) _ _ n _ c.self.view_is stores names (ap (λ (v : StoresView). v.pool) is) (ap (λ (v : StoresView). v.frozen) is) (ap (λ (v : StoresView). v.files) is) (first_named (Mem n) i.stores.shelf c.active_number-number.ensures)
 
 one_name : (a b : ℕ) (xs ys : List Target) → Mem a ∷ xs ≡ Mem b ∷ ys → a ≡ b
 one_name a b xs ys e = cc

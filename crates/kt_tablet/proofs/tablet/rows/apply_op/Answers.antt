@@ -34,3 +34,6 @@ returns-clause-names g c =
 
 pub returns-clause-frozen : goal.returns-clause-frozen
 returns-clause-frozen g c = ap (λ (v : StoresView). v.frozen) c.release.ensures ∙ c.take-taken.ensures.others.frozen
+
+pub returns-clause-files : goal.returns-clause-files
+returns-clause-files g c = ap (λ (v : StoresView). v.files) c.release.ensures ∙ c.take-taken.ensures.others.files

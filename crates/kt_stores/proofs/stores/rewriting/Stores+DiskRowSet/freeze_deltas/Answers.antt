@@ -1,7 +1,7 @@
 use Rattle.std.proofs.Common.{◌≡◌, ◌-◌, ◌∙◌, ◌+◌, ℕ, Some, true, refl, sym, ap, length, length-set, arith}
 use Rattle.kt_history.specs.Stores.{Store}
 use Rattle.kt_histlaws.specs.Histories.{on_nth}
-use Rattle.kt_diskrowset.specs.Rowset.{IsStore, Owns, name_of, store_of, cells_had}
+use Rattle.kt_diskrowset.specs.Rowset.{IsStore, Owns, held_of, name_of, store_of, cells_had}
 use Rattle.kt_diskrowset.proofs.Rowsets.{stays, is_placed}
 use Rattle.kt_stores.specs.Shelf.{StoresView, Shelved, stores_of, names_of, renamed}
 use Rattle.kt_stores.specs.Parts.{kept, shelved, read_by, shelf_of}
@@ -9,7 +9,7 @@ use Rattle.kt_stores.proofs.Either.{placed_by}
 use Rattle.kt_stores.proofs.Standing.{stay}
 use Rattle.kt_stores.proofs.Reaching.{place, low, stands_here, stored_here, named_here}
 use Rattle.kt_stores.proofs.Freezing.{frozen_shrunk, frozen_read, same_shrunk, same_read, settled_shrunk, on_err}
-use Rattle.kt_stores.proofs.Rewritten.{kept_now, shelf_now, stores_now, names_now, renamed_now, unchanged_now, some_same}
+use Rattle.kt_stores.proofs.Rewritten.{kept_now, shelf_now, stores_now, names_now, renamed_now, unchanged_now, some_same, filed_same}
 use Rattle.kt_stores.proofs.stores.rewriting.Stores+DiskRowSet.freeze_deltas.Goals as goal
 
 pub invariant_of-self : goal.invariant_of-self
@@ -41,7 +41,8 @@ returns-clause-ok c =
     let is = c.index_mut.ensures.value in
     let st = stands_here IsStore Owns (shelved name_of store_of (λ s. true) cells_had) i.active i.frozen.items i.rowsets.items i.pool c.args.self.now c.self.view_is c.self.invariant.0 c.args.at c.frozen-memory.result c.frozen-memory.ensures c.requires.behind c.requires.within x is in
     let shelf = renamed_now IsStore Owns (shelved name_of store_of (λ s. true) cells_had) (stay IsStore Owns name_of store_of (λ s. true) cells_had stays is_placed) (placed_by IsStore Owns (shelved name_of store_of (λ s. true) cells_had) is_placed) i.active i.frozen.items i.rowsets.items c.args.at j x y i.pool i.pool (place IsStore Owns (shelved name_of store_of (λ s. true) cells_had) i.active i.frozen.items i.rowsets.items i.pool c.args.self.now c.self.view_is c.self.invariant.0 c.args.at c.frozen-memory.result c.frozen-memory.ensures c.requires.behind c.requires.within) (low IsStore Owns (shelved name_of store_of (λ s. true) cells_had) i.active i.frozen.items i.rowsets.items i.pool c.args.self.now c.self.view_is c.self.invariant.0 c.args.at c.frozen-memory.result c.frozen-memory.ensures c.requires.behind c.requires.within) is c.self.invariant.0 (frozen_shrunk x y i.pool (λ s. true) refl st c.args.dms c.in_ok-freeze.ensures.ok) (let e = ap (λ (s : Shelved). s.cells) (frozen_read x y i.pool (λ s. true) refl st c.args.dms c.in_ok-freeze.ensures.ok) in omega (arith, e)) refl (ap (λ (s : Shelved). s.store) (frozen_read x y i.pool (λ s. true) refl st c.args.dms c.in_ok-freeze.ensures.ok)) (λ none. ap (λ (s : Shelved). s.cells) (frozen_read x y i.pool (λ s. true) refl st c.args.dms c.in_ok-freeze.ensures.ok) ∙ none) (renamed c.args.dms) (frozen_read x y i.pool (λ s. true) refl st c.args.dms c.in_ok-freeze.ensures.ok) in
-    (λ k. record { pool = i.pool; shelf = shelf k; frozen = length i.frozen.items }) ∙ ap (λ (v : StoresView). record v { shelf = on_nth c.args.at (renamed c.args.dms) v.shelf }) c.self.view_is
+    let files = filed_same held_of i.rowsets.items j x y (low IsStore Owns (shelved name_of store_of (λ s. true) cells_had) i.active i.frozen.items i.rowsets.items i.pool c.args.self.now c.self.view_is c.self.invariant.0 c.args.at c.frozen-memory.result c.frozen-memory.ensures c.requires.behind c.requires.within) is c.in_ok-freeze.ensures.ok.held in
+    (λ k. record { pool = i.pool; shelf = shelf k; frozen = length i.frozen.items; files = files k }) ∙ ap (λ (v : StoresView). record v { shelf = on_nth c.args.at (renamed c.args.dms) v.shelf }) c.self.view_is
 
 pub returns-in_err-freeze-clause-err : goal.returns-in_err-freeze-clause-err
 returns-in_err-freeze-clause-err c =
@@ -52,4 +53,5 @@ returns-in_err-freeze-clause-err c =
     let is = c.index_mut.ensures.value in
     let st = stands_here IsStore Owns (shelved name_of store_of (λ s. true) cells_had) i.active i.frozen.items i.rowsets.items i.pool c.args.self.now c.self.view_is c.self.invariant.0 c.args.at c.frozen-memory.result c.frozen-memory.ensures c.requires.behind c.requires.within x is in
     let shelf = unchanged_now IsStore Owns (shelved name_of store_of (λ s. true) cells_had) (stay IsStore Owns name_of store_of (λ s. true) cells_had stays is_placed) (placed_by IsStore Owns (shelved name_of store_of (λ s. true) cells_had) is_placed) i.active i.frozen.items i.rowsets.items c.args.at j x y i.pool i.pool (place IsStore Owns (shelved name_of store_of (λ s. true) cells_had) i.active i.frozen.items i.rowsets.items i.pool c.args.self.now c.self.view_is c.self.invariant.0 c.args.at c.frozen-memory.result c.frozen-memory.ensures c.requires.behind c.requires.within) (low IsStore Owns (shelved name_of store_of (λ s. true) cells_had) i.active i.frozen.items i.rowsets.items i.pool c.args.self.now c.self.view_is c.self.invariant.0 c.args.at c.frozen-memory.result c.frozen-memory.ensures c.requires.behind c.requires.within) is c.self.invariant.0 (same_shrunk x y i.pool (λ s. true) refl st c.in_err-freeze.ensures.err) (let e = ap (λ (s : Shelved). s.cells) (same_read x y i.pool (λ s. true) refl st c.in_err-freeze.ensures.err) in omega (arith, e)) refl (ap (λ (s : Shelved). s.store) (same_read x y i.pool (λ s. true) refl st c.in_err-freeze.ensures.err)) (λ none. ap (λ (s : Shelved). s.cells) (same_read x y i.pool (λ s. true) refl st c.in_err-freeze.ensures.err) ∙ none) (same_read x y i.pool (λ s. true) refl st c.in_err-freeze.ensures.err) in
-    on_err c.from_residual.result ((λ k. record { pool = i.pool; shelf = shelf k; frozen = length i.frozen.items }) ∙ c.self.view_is)
+    let files = filed_same held_of i.rowsets.items j x y (low IsStore Owns (shelved name_of store_of (λ s. true) cells_had) i.active i.frozen.items i.rowsets.items i.pool c.args.self.now c.self.view_is c.self.invariant.0 c.args.at c.frozen-memory.result c.frozen-memory.ensures c.requires.behind c.requires.within) is c.in_err-freeze.ensures.err.held in
+    on_err c.from_residual.result ((λ k. record { pool = i.pool; shelf = shelf k; frozen = length i.frozen.items; files = files k }) ∙ c.self.view_is)

@@ -1,6 +1,8 @@
-use Rattle.std.proofs.Common.{◌≡◌, ◌-◌, ◌∙◌, ◌+◌, ℕ, Some, true, refl, sym, ap, length, length-set, arith}
+use Rattle.std.proofs.Common.{◌≡◌, ◌-◌, ◌∙◌, ◌+◌, ℕ, Some, true, refl, sym, ap, map, length, length-set, arith}
 use Rattle.kt_history.specs.Stores.{Store}
-use Rattle.kt_diskrowset.specs.Rowset.{IsStore, Owns, name_of, store_of, cells_had}
+use Rattle.kt_diskrowset.specs.Rowset.{HeldFiles, IsStore, Owns, held_of, name_of, store_of, cells_had}
+use Rattle.kt_diskrowset.specs.Data.{held_in}
+use Rattle.kt_histlaws.specs.Histories.{on_nth}
 use Rattle.kt_diskrowset.proofs.Rowsets.{stays, is_placed}
 use Rattle.kt_stores.specs.Shelf.{StoresView, Shelved, stores_of, names_of, renamed}
 use Rattle.kt_stores.specs.Parts.{kept, shelved, read_by, shelf_of}
@@ -8,7 +10,7 @@ use Rattle.kt_stores.proofs.Either.{placed_by}
 use Rattle.kt_stores.proofs.Standing.{stay}
 use Rattle.kt_stores.proofs.Reaching.{place, low, stands_here, stored_here, named_here}
 use Rattle.kt_stores.proofs.Freezing.{frozen_shrunk, frozen_read, same_shrunk, same_read, settled_shrunk}
-use Rattle.kt_stores.proofs.Rewritten.{kept_now, shelf_now, stores_now, names_now, renamed_now, unchanged_now, some_same}
+use Rattle.kt_stores.proofs.Rewritten.{kept_now, shelf_now, stores_now, names_now, renamed_now, unchanged_now, some_same, filed_now}
 use Rattle.kt_stores.proofs.stores.rewriting.Stores+DiskRowSet.settle.Goals as goal
 
 pub settle-requires-clause-stands : goal.settle-requires-clause-stands
@@ -34,7 +36,7 @@ invariant_of-self c =
     let y = c.settle.new.self in
     let is = c.index_mut.ensures.value in
     let st = stands_here IsStore Owns (shelved name_of store_of (λ s. true) cells_had) i.active i.frozen.items i.rowsets.items i.pool c.args.self.now c.self.view_is c.self.invariant.0 c.args.at c.frozen-memory.result c.frozen-memory.ensures c.requires.behind c.requires.within x is in
-    (kept_now IsStore Owns (shelved name_of store_of (λ s. true) cells_had) (stay IsStore Owns name_of store_of (λ s. true) cells_had stays is_placed) (placed_by IsStore Owns (shelved name_of store_of (λ s. true) cells_had) is_placed) i.active i.frozen.items i.rowsets.items c.args.at j x y i.pool c.settle.new.pool (place IsStore Owns (shelved name_of store_of (λ s. true) cells_had) i.active i.frozen.items i.rowsets.items i.pool c.args.self.now c.self.view_is c.self.invariant.0 c.args.at c.frozen-memory.result c.frozen-memory.ensures c.requires.behind c.requires.within) (low IsStore Owns (shelved name_of store_of (λ s. true) cells_had) i.active i.frozen.items i.rowsets.items i.pool c.args.self.now c.self.view_is c.self.invariant.0 c.args.at c.frozen-memory.result c.frozen-memory.ensures c.requires.behind c.requires.within) is c.self.invariant.0 (settled_shrunk x y i.pool c.settle.new.pool c.settle.ensures) c.settle.ensures.cells refl c.settle.ensures.store (λ none. let few = c.settle.ensures.fewer in omega (arith, few, none)), let many = length-set i.rowsets.items j y in let few = c.self.invariant.1 in omega (arith, many, few))
+    (kept_now IsStore Owns (shelved name_of store_of (λ s. true) cells_had) (stay IsStore Owns name_of store_of (λ s. true) cells_had stays is_placed) (placed_by IsStore Owns (shelved name_of store_of (λ s. true) cells_had) is_placed) i.active i.frozen.items i.rowsets.items c.args.at j x y i.pool c.settle.new.pool (place IsStore Owns (shelved name_of store_of (λ s. true) cells_had) i.active i.frozen.items i.rowsets.items i.pool c.args.self.now c.self.view_is c.self.invariant.0 c.args.at c.frozen-memory.result c.frozen-memory.ensures c.requires.behind c.requires.within) (low IsStore Owns (shelved name_of store_of (λ s. true) cells_had) i.active i.frozen.items i.rowsets.items i.pool c.args.self.now c.self.view_is c.self.invariant.0 c.args.at c.frozen-memory.result c.frozen-memory.ensures c.requires.behind c.requires.within) is c.self.invariant.0 (settled_shrunk x y i.pool c.settle.new.pool c.settle.ensures.settled) c.settle.ensures.settled.cells refl c.settle.ensures.settled.store (λ none. let few = c.settle.ensures.settled.fewer in omega (arith, few, none)), let many = length-set i.rowsets.items j y in let few = c.self.invariant.1 in omega (arith, many, few))
 
 pub returns-clause-stores : goal.returns-clause-stores
 returns-clause-stores c =
@@ -44,7 +46,7 @@ returns-clause-stores c =
     let y = c.settle.new.self in
     let is = c.index_mut.ensures.value in
     let st = stands_here IsStore Owns (shelved name_of store_of (λ s. true) cells_had) i.active i.frozen.items i.rowsets.items i.pool c.args.self.now c.self.view_is c.self.invariant.0 c.args.at c.frozen-memory.result c.frozen-memory.ensures c.requires.behind c.requires.within x is in
-    stores_now IsStore Owns (shelved name_of store_of (λ s. true) cells_had) (stay IsStore Owns name_of store_of (λ s. true) cells_had stays is_placed) (placed_by IsStore Owns (shelved name_of store_of (λ s. true) cells_had) is_placed) i.active i.frozen.items i.rowsets.items c.args.at j x y i.pool c.settle.new.pool (place IsStore Owns (shelved name_of store_of (λ s. true) cells_had) i.active i.frozen.items i.rowsets.items i.pool c.args.self.now c.self.view_is c.self.invariant.0 c.args.at c.frozen-memory.result c.frozen-memory.ensures c.requires.behind c.requires.within) (low IsStore Owns (shelved name_of store_of (λ s. true) cells_had) i.active i.frozen.items i.rowsets.items i.pool c.args.self.now c.self.view_is c.self.invariant.0 c.args.at c.frozen-memory.result c.frozen-memory.ensures c.requires.behind c.requires.within) is c.self.invariant.0 (settled_shrunk x y i.pool c.settle.new.pool c.settle.ensures) c.settle.ensures.cells refl c.settle.ensures.store (λ none. let few = c.settle.ensures.fewer in omega (arith, few, none)) ∙ ap (λ (v : StoresView). stores_of v) c.self.view_is
+    stores_now IsStore Owns (shelved name_of store_of (λ s. true) cells_had) (stay IsStore Owns name_of store_of (λ s. true) cells_had stays is_placed) (placed_by IsStore Owns (shelved name_of store_of (λ s. true) cells_had) is_placed) i.active i.frozen.items i.rowsets.items c.args.at j x y i.pool c.settle.new.pool (place IsStore Owns (shelved name_of store_of (λ s. true) cells_had) i.active i.frozen.items i.rowsets.items i.pool c.args.self.now c.self.view_is c.self.invariant.0 c.args.at c.frozen-memory.result c.frozen-memory.ensures c.requires.behind c.requires.within) (low IsStore Owns (shelved name_of store_of (λ s. true) cells_had) i.active i.frozen.items i.rowsets.items i.pool c.args.self.now c.self.view_is c.self.invariant.0 c.args.at c.frozen-memory.result c.frozen-memory.ensures c.requires.behind c.requires.within) is c.self.invariant.0 (settled_shrunk x y i.pool c.settle.new.pool c.settle.ensures.settled) c.settle.ensures.settled.cells refl c.settle.ensures.settled.store (λ none. let few = c.settle.ensures.settled.fewer in omega (arith, few, none)) ∙ ap (λ (v : StoresView). stores_of v) c.self.view_is
 
 pub returns-clause-names : goal.returns-clause-names
 returns-clause-names c =
@@ -54,4 +56,12 @@ returns-clause-names c =
     let y = c.settle.new.self in
     let is = c.index_mut.ensures.value in
     let st = stands_here IsStore Owns (shelved name_of store_of (λ s. true) cells_had) i.active i.frozen.items i.rowsets.items i.pool c.args.self.now c.self.view_is c.self.invariant.0 c.args.at c.frozen-memory.result c.frozen-memory.ensures c.requires.behind c.requires.within x is in
-    names_now IsStore Owns (shelved name_of store_of (λ s. true) cells_had) (stay IsStore Owns name_of store_of (λ s. true) cells_had stays is_placed) (placed_by IsStore Owns (shelved name_of store_of (λ s. true) cells_had) is_placed) i.active i.frozen.items i.rowsets.items c.args.at j x y i.pool c.settle.new.pool (place IsStore Owns (shelved name_of store_of (λ s. true) cells_had) i.active i.frozen.items i.rowsets.items i.pool c.args.self.now c.self.view_is c.self.invariant.0 c.args.at c.frozen-memory.result c.frozen-memory.ensures c.requires.behind c.requires.within) (low IsStore Owns (shelved name_of store_of (λ s. true) cells_had) i.active i.frozen.items i.rowsets.items i.pool c.args.self.now c.self.view_is c.self.invariant.0 c.args.at c.frozen-memory.result c.frozen-memory.ensures c.requires.behind c.requires.within) is c.self.invariant.0 (settled_shrunk x y i.pool c.settle.new.pool c.settle.ensures) c.settle.ensures.cells refl c.settle.ensures.store (λ none. let few = c.settle.ensures.fewer in omega (arith, few, none)) c.settle.ensures.name ∙ ap (λ (v : StoresView). names_of v.shelf) c.self.view_is
+    names_now IsStore Owns (shelved name_of store_of (λ s. true) cells_had) (stay IsStore Owns name_of store_of (λ s. true) cells_had stays is_placed) (placed_by IsStore Owns (shelved name_of store_of (λ s. true) cells_had) is_placed) i.active i.frozen.items i.rowsets.items c.args.at j x y i.pool c.settle.new.pool (place IsStore Owns (shelved name_of store_of (λ s. true) cells_had) i.active i.frozen.items i.rowsets.items i.pool c.args.self.now c.self.view_is c.self.invariant.0 c.args.at c.frozen-memory.result c.frozen-memory.ensures c.requires.behind c.requires.within) (low IsStore Owns (shelved name_of store_of (λ s. true) cells_had) i.active i.frozen.items i.rowsets.items i.pool c.args.self.now c.self.view_is c.self.invariant.0 c.args.at c.frozen-memory.result c.frozen-memory.ensures c.requires.behind c.requires.within) is c.self.invariant.0 (settled_shrunk x y i.pool c.settle.new.pool c.settle.ensures.settled) c.settle.ensures.settled.cells refl c.settle.ensures.settled.store (λ none. let few = c.settle.ensures.settled.fewer in omega (arith, few, none)) c.settle.ensures.settled.name ∙ ap (λ (v : StoresView). names_of v.shelf) c.self.view_is
+
+pub returns-clause-files : goal.returns-clause-files
+returns-clause-files c =
+    let i = c.self.inside in
+    let j = c.args.at - 1 - c.frozen-memory.result in
+    let e : c.args.at - 1 - c.frozen-memory.result ≡ c.args.at - 1 - c.args.self.now.frozen = ap (λ (n : ℕ). c.args.at - 1 - n) c.frozen-memory.ensures in
+    filed_now held_of i.rowsets.items j c.settle.new.self ∙ ap (λ (h : HeldFiles). on_nth j (λ _. h) (map held_of i.rowsets.items)) c.settle.ensures.held
+    ∙ ap (λ (n : ℕ). on_nth n (λ _. held_in c.args.rowset) (map held_of i.rowsets.items)) e ∙ ap (λ (v : StoresView). on_nth (c.args.at - 1 - c.args.self.now.frozen) (λ _. held_in c.args.rowset) v.files) c.self.view_is

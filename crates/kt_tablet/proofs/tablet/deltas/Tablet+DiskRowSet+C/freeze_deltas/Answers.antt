@@ -47,7 +47,7 @@ returns-clause-frozen g c =
     let is = c.in_ok-freeze_deltas.ensures.ok in
     let stores = ap (λ (v : StoresView). told_stores i.fill v) is ∙ ap (all_told i.fill (suc i.stores.frozen)) (stores_renamed (c.in-Some-dms_named.dms + 1) at i.stores.shelf) in
     let names = ap (λ (v : StoresView). names_of v.shelf) is ∙ names_renamed (c.in-Some-dms_named.dms + 1) at i.stores.shelf ∙ ap (λ n. on_nth at (taken_by (n + 1)) (names_of i.stores.shelf)) (sym dms) ∙ sym first.later in
-    has_renamed _ _ _ _ _ _ c.args.number c.self.view_is stores names (ap (λ (v : StoresView). v.pool) is) (ap (λ (v : StoresView). v.frozen) is)
+    has_renamed _ _ _ _ _ _ _ c.args.number c.self.view_is stores names (ap (λ (v : StoresView). v.pool) is) (ap (λ (v : StoresView). v.frozen) is) (ap (λ (v : StoresView). v.files) is)
 
 pub returns-clause-there : goal.returns-clause-there
 returns-clause-there g c =

@@ -1,16 +1,17 @@
-use Rattle.std.proofs.Common.{◌≡◌, ◌≤◌, ◌<◌, ◌+◌, ◌∙◌, ◌^◌, ℕ, suc, map, length, Some, refl, sym, ap, subst, arith}
+use Rattle.std.proofs.Common.{◌≡◌, ◌≤◌, ◌<◌, ◌+◌, ◌-◌, ◌∙◌, ◌^◌, ℕ, suc, map, length, Option, Some, None, refl, sym, ap, subst, arith}
 use Rattle.std.specs.Prelude.{slice_get}
 use Rattle.std.proofs.lemmas.List.{length-map}
 use Rattle.std.proofs.lemmas.Result.{IfOk-weaker}
 use Rattle.kt_history.specs.declared.target.Target.{Target}
 use Rattle.kt_history.specs.Stores.{Store}
 use Rattle.kt_histlaws.specs.Histories.{on_nth}
+use Rattle.kt_diskrowset.specs.Data.{held_in}
 use Rattle.kt_stores.specs.Shelf.{Shelved, StoresView, stores_of, names_of, taken_by}
 use Rattle.kt_tablet.specs.Filling.{all_told, told_stores}
 use Rattle.kt_tablet.specs.Jobs.{dms_in, store_in_names, next_dms}
 use Rattle.kt_tablet.specs.Rows.{AreWritten}
 use Rattle.kt_tablet.specs.Views.{IsReady}
-use Rattle.kt_tablet.proofs.Deltas.{first_placed, none_placed, names_renamed, stores_renamed, told_at, told_back, name_is, same_some, has_put, has_renamed}
+use Rattle.kt_tablet.proofs.Deltas.{first_placed, none_placed, names_renamed, stores_renamed, told_at, told_back, name_is, same_some, has_put, has_renamed, filed_put, none_some}
 use Rattle.kt_tablet.proofs.Frozen.{still_sound}
 use Rattle.kt_tablet.proofs.Plans.{no_flights}
 use Rattle.kt_tablet.proofs.Several.{get_there}
@@ -52,4 +53,14 @@ returns-in-Some g c =
     let i = c.self.inside in
     let e = c.settle.ensures in
     let stores = ap (λ n. all_told i.fill (suc n) (stores_of c.settle.new.self)) e.frozen ∙ ap (all_told i.fill (suc i.stores.frozen)) e.stores in
-    has_put _ _ _ _ _ _ c.self.view_is stores e.names e.frozen
+    has_put _ _ _ _ _ _ _ (held_in c.args.rowset) c.self.view_is stores e.names e.frozen (e.files ∙ sym (filed_put (held_in c.args.rowset) i.stores.files (c.in-Some.at - 1 - i.stores.frozen) c.in-Some.ensures.files))
+
+none_of : (o : Option ℕ) → ((n : ℕ) → o ≡ Some n → ⊥) → None ≡ o
+none_of None h = refl
+none_of (Some n) h = absurd (h n refl)
+
+pub returns-in_default : goal.returns-in_default
+returns-in_default g c =
+    let there = ap (λ v. dms_in c.args.rowset.number v.names) c.self.view_is in
+    let gone = none_placed c.args.rowset.number c.self.inside.stores.shelf (none_of c.rowset_place.result c.in_default.not-Some ∙ c.rowset_place.ensures.place) in
+    absurd (none_some c.requires.there.0 (sym gone ∙ there ∙ c.requires.there.1))

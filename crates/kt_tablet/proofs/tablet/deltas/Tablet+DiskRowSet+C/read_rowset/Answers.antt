@@ -1,4 +1,4 @@
-use Rattle.std.proofs.Common.{◌≡◌, ◌≤◌, ◌<◌, ◌+◌, ◌∙◌, ◌^◌, ℕ, suc, map, length, Some, refl, sym, ap, subst, arith}
+use Rattle.std.proofs.Common.{◌≡◌, ◌≤◌, ◌<◌, ◌+◌, ◌-◌, ◌∙◌, ◌^◌, ℕ, suc, map, length, Some, refl, sym, ap, subst, arith}
 use Rattle.std.specs.Prelude.{slice_get}
 use Rattle.std.proofs.lemmas.List.{length-map}
 use Rattle.std.proofs.lemmas.Result.{IfOk-weaker}
@@ -7,10 +7,10 @@ use Rattle.kt_history.specs.Stores.{Store}
 use Rattle.kt_histlaws.specs.Histories.{on_nth}
 use Rattle.kt_stores.specs.Shelf.{Shelved, StoresView, stores_of, names_of, taken_by}
 use Rattle.kt_tablet.specs.Filling.{all_told, told_stores}
-use Rattle.kt_tablet.specs.Jobs.{dms_in, store_in_names, next_dms}
+use Rattle.kt_tablet.specs.Jobs.{dms_in, store_in_names, files_of}
 use Rattle.kt_tablet.specs.Rows.{AreWritten}
 use Rattle.kt_tablet.specs.Views.{IsReady}
-use Rattle.kt_tablet.proofs.Deltas.{first_placed, none_placed, names_renamed, stores_renamed, told_at, told_back, name_is, same_some, has_put, has_renamed}
+use Rattle.kt_tablet.proofs.Deltas.{first_placed, none_placed, names_renamed, stores_renamed, told_at, told_back, name_is, same_some, filed_at}
 use Rattle.kt_tablet.proofs.Frozen.{still_sound}
 use Rattle.kt_tablet.proofs.Plans.{no_flights}
 use Rattle.kt_tablet.proofs.Several.{get_there}
@@ -33,3 +33,9 @@ returns-in-Some-clause-store g c =
     IfOk-weaker c.read_rowset.result _ _
     (λ d is. sym (first.store (told_stores i.fill i.stores) _ (told_at i.fill (suc i.stores.frozen) at (stores_of i.stores) _ behind is)) ∙ ap (λ v. store_in_names c.args.number v.names v.core.stores) c.self.view_is)
     c.read_rowset.ensures.store
+
+pub returns-in-Some-clause-held : goal.returns-in-Some-clause-held
+returns-in-Some-clause-held g c =
+    let i = c.self.inside in
+    let filed = ap (λ v. files_of c.args.number v.files) (sym c.self.view_is) ∙ filed_at c.args.number i.stores.files (c.in-Some.at - 1 - i.stores.frozen) c.in-Some.ensures.files in
+    IfOk-weaker c.read_rowset.result _ _ (λ d held. filed ∙ held) c.read_rowset.ensures.held
