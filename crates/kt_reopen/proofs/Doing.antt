@@ -159,7 +159,7 @@ module _ (o : Opening) (m : Meta) (ts : ℕ) (op : RowOp) (targets : List Target
   pub does_none : AreKeptIn o → needed_in (bare m) targets ≡ [] → Does o o m ts op (Some targets)
   does_none kept none = record {
     goes = record {
-      ends = record { kept = kept; places = refl; names = refl; open_ = refl; even = refl; size = refl };
+      ends = record { kept = kept; places = refl; names = refl; files = refl; open_ = refl; even = refl; size = refl };
       apart = λ q apart under. under;
       later = λ u lt h. h;
       room = λ k h. omega (arith, h);
@@ -227,7 +227,7 @@ module _ (o : Opening) (m : Meta) (ts : ℕ) (op : RowOp) (targets : List Target
       }
         where
           ends_two : (o t n : Opening) → Ends o t → Ends t n → Ends o n
-          ends_two o t n a b = record { kept = b.kept; places = b.places ∙ a.places; names = b.names ∙ a.names; open_ = b.open_ ∙ a.open_; even = b.even ∙ a.even; size = b.size ∙ a.size }
+          ends_two o t n a b = record { kept = b.kept; places = b.places ∙ a.places; names = b.names ∙ a.names; files = b.files ∙ a.files; open_ = b.open_ ∙ a.open_; even = b.even ∙ a.even; size = b.size ∙ a.size }
 
       -- or it does not fit the second
       pub late_two : (n : Opening) → FitsAt t n next ts op false → DoesNotFit o m ts op (Some targets)
@@ -268,7 +268,7 @@ module _ (o : Opening) (m : Meta) (ts : ℕ) (op : RowOp) (p : Place) (b : Bool)
   pub does_not : AreKeptIn o → kind_made op.kind b ≡ None → Does o o m ts op None
   does_not kept is = record {
     goes = record {
-      ends = record { kept = kept; places = refl; names = refl; open_ = refl; even = refl; size = refl };
+      ends = record { kept = kept; places = refl; names = refl; files = refl; open_ = refl; even = refl; size = refl };
       apart = λ q apart under. under;
       later = λ u lt h. h;
       room = λ k h. omega (arith, h);

@@ -187,6 +187,7 @@ module _ (o : Opening) (ts : ℕ) (op : RowOp) (kind : Kindly) (stand : AreKeptI
               (λ e. absurd (not_bare op.key (push ts (mem.change_by kind op) (hist_in op.key (mem.store_of o.mem o.pool))) (mem.store_of o.mem o.pool) (sym joins.joined ∙ e)))).0;
           places = refl;
           names = ap (λ n. Mem n ∷ map rowset.name_of o.rowsets.items) joins.number;
+          files = refl;
           open_ = joins.frozen;
           even = (let few = taken_few in let went = joins.takes.reserved in let came = joins.takes.used in omega (arith, enough));
           size = joins.takes.size;
@@ -266,6 +267,7 @@ module _ (o : Opening) (ts : ℕ) (op : RowOp) (kind : Kindly) (stand : AreKeptI
               (λ none. absurd (not_bare op.key (push ts (change_of kind op.cells) (hist_in op.key (rowset.store_of d o.pool))) (rowset.store_of d o.pool) (sym joins.store ∙ none)))).0;
           places = ap (λ ps. memory ∷ ps) (still_on (λ (x : DiskRowSet). disk (rowset.held_of x).number) (ap (λ h. disk h.number) joins.held));
           names = (λ k. Mem (mem.number_of (mem_is k)) ∷ still_on rowset.name_of joins.name k);
+          files = still_on rowset.held_of joins.held;
           open_ = ap mem.is_frozen mem_is;
           even = (let came = joins.takes.used in let went = joins.takes.reserved in omega arith);
           size = joins.takes.size;

@@ -58,7 +58,7 @@ along_first m all o queued log kept thawed places apart under room none = record
   order = log;
   writes = writes_have_rows all log;
   few = λ ts. few_in_log ts [] all log;
-  ends = record { kept = kept; places = refl; names = refl; open_ = refl; even = refl; size = refl };
+  ends = record { kept = kept; places = refl; names = refl; files = refl; open_ = refl; even = refl; size = refl };
   thawed = thawed;
   places = places;
   apart = apart;

@@ -18,6 +18,7 @@ use Rattle.kt_super.specs.declared.meta.MetaRowset.{MetaRowset}
 use Rattle.kt_diskrowset.specs.declared.data.RowSetData.{RowSetData}
 use Rattle.kt_diskrowset.specs.declared.rowset.DiskRowSet.{DiskRowSet}
 use Rattle.kt_diskrowset.specs.Mems.{told_by}
+use Rattle.kt_diskrowset.specs.Held.{IsReadOf}
 use Rattle.kt_diskrowset.specs.Rowset.{HeldFiles}
 use Rattle.kt_diskrowset.specs.Rowset as rowset
 use Rattle.kt_diskrowset.proofs.Rowsets.{under_told}
@@ -33,7 +34,7 @@ use Rattle.kt_stores.specs.Shelf.{Shelved, AreClosed, AreExact, cells_in}
 use Rattle.kt_stores.specs.Parts.{kept, shelved, shelf_of, stands_by, owns_by, read_by, AreKept}
 use Rattle.kt_content.specs.Places.{Place, disk}
 use Rattle.kt_reopen.specs.Numbers.{greatest_dms}
-use Rattle.kt_reopen.specs.Opened.{IsRowsetOf, AreRowsetsOf}
+use Rattle.kt_reopen.specs.Opened.{IsRowsetOf, AreRowsetsOf, AreReadOf}
 
 abbrev pub Either : Type 0
 Either = MemRowSet ⊎ DiskRowSet
@@ -71,11 +72,12 @@ all_new targets (r ∷ rs) (d ∷ ds) (s ∷ ss) h = (record { stands = h.0.stan
 
 -- A rowset that is opened of what can be read of its files, under these numbers
 pub rowset_new : (targets : List Target) (r : MetaRowset) (d e : RowSetData) (s : DiskRowSet) (dms : ℕ) → d.number ≡ r.rowset → dms ≡ max (r.last_dms + 1) (greatest_dms r.rowset targets)
-    → files_in e ≡ readable (files_in d) → e.fresh ≡ [] → e.number ≡ d.number
+    → files_in e ≡ readable (files_in d) → IsReadOf (held_in d) (held_in e) → e.fresh ≡ [] → e.number ≡ d.number
     → rowset.held_of s ≡ held_in e → rowset.name_of s ≡ Delta e.number dms → ((pool : Contents) → rowset.store_of s pool ≡ store_in e) → ((pool : Contents) → rowset.IsStore s pool) → ((pool : Contents) (k : ℕ) → ¬ rowset.Owns s pool k)
     → ((pool : Contents) → rowset.cells_had s pool ≡ 0) → ((pool : Contents) → told_by pool (rowset.mems_of s) ≡ (dms, []) ∷ []) → IsRowsetOf targets r d s
-rowset_new targets r d e s dms number is files none same held name store stands bare cells told = record {
+rowset_new targets r d e s dms number is files read_of none same held name store stands bare cells told = record {
   number = ap (λ (h : HeldFiles). h.number) held ∙ same ∙ number;
+  held = subst (IsReadOf (held_in d)) (sym held) read_of;
   name = name ∙ (λ i. Delta ((same ∙ number) i) (is i));
   store = λ pool. store pool ∙ ap (λ (changes : List Kept). store_with (files_in e) (λ n. records_for n changes)) none ∙ ap (λ (f : DiskRowset). store_with f (λ n. [])) files;
   stands = stands;
@@ -226,3 +228,18 @@ still_free first old new n cells needs bare is long promised size even =
     let places : length new.places ≡ length old.places = ap (λ (p : Contents). length p.places) is in
     let same : used new ≡ used old = ap used is in
     omega arith
+
+-- so in memory is what can be read of their files
+pub rowsets_read : (targets : List Target) (rs : List MetaRowset) (ds : List RowSetData) (ss : List DiskRowSet) → AreRowsetsOf targets rs ds ss → AreReadOf (map held_in ds) (map rowset.held_of ss)
+rowsets_read targets [] [] [] are = tt
+rowsets_read targets [] [] (s ∷ ss) are = absurd are
+rowsets_read targets [] (d ∷ ds) [] are = absurd are
+rowsets_read targets [] (d ∷ ds) (s ∷ ss) are = absurd are
+rowsets_read targets (r ∷ rs) [] [] are = absurd are
+rowsets_read targets (r ∷ rs) [] (s ∷ ss) are = absurd are
+rowsets_read targets (r ∷ rs) (d ∷ ds) [] are = absurd are
+rowsets_read targets (r ∷ rs) (d ∷ ds) (s ∷ ss) are = (are.0.held, rowsets_read targets rs ds ss are.1)
+
+pub none_read : (files : List HeldFiles) → AreReadOf [] files → files ≡ []
+none_read [] are = refl
+none_read (x ∷ files) are = absurd are

@@ -10,6 +10,7 @@ use Rattle.kt_super.specs.Rowsets.{has}
 use Rattle.kt_super.specs.Slots.{super_of, of_both, slot_at, AreStable, IsSlot}
 use Rattle.kt_files.specs.Named.{named_in, is_kept, Spares}
 use Rattle.kt_storeside.specs.Supers.{NamedStand}
+use Rattle.kt_storeside.proofs.Gates.{same_slot}
 use Rattle.kt_reopen.specs.Holding.{HasFilesOf, IsOfStore}
 use Rattle.kt_reopen.proofs.Publishing.{super_left}
 
@@ -23,6 +24,13 @@ kept_named named n h = elim (n == 1) as (λ (b : Bool). (b || ((n == 2) || has n
   | false ↦ elim (n == 2) as (λ (b : Bool). (b || has named n) ≡ true) [ true ↦ refl | false ↦ h ]
 ]
 
+-- a slot is kept
+slot_kept : (named : List ℕ) (slot : ℕ) → IsSlot slot → is_kept named slot ≡ true
+slot_kept named slot is = elim is [
+  | inl one ↦ subst (λ (n : ℕ). is_kept named n ≡ true) (sym one) refl
+  | inr two ↦ subst (λ (n : ℕ). is_kept named n ≡ true) (sym two) refl
+]
+
 pub super_kept : (named : List ℕ) (c image : Files) → ((n : ℕ) → is_kept named n ≡ true → c n ≡ image n) → super_of c ≡ super_of image
 super_kept named c image kept =
     let one = kept 1 refl in
@@ -33,7 +41,7 @@ module _ {D : Type 0} (seen : D → Files) (now : D → ℕ) (leaves : D → ℕ
   -- calls that only read leave each image as it was
   pub same_files : (old mid : D) → Turns now leaves Same old mid → LeavesOnly now leaves (HasFilesOf now leaves old) old mid
   same_files old mid turn =
-      goes_on_same seen now leaves (HasFilesOf now leaves old) old old mid (started seen now leaves (HasFilesOf now leaves old) old (λ c left. record { image = c; was_left = left; super = refl; named = λ m e n h. refl })) turn
+      goes_on_same seen now leaves (HasFilesOf now leaves old) old old mid (started seen now leaves (HasFilesOf now leaves old) old (λ c left. record { image = c; was_left = left; super = refl; named = λ m e n h. refl; slots = λ k is. refl })) turn
 
   -- an image behind them has the superblock that was read, where the slots were stable
   pub left_named : (old mid : D) (m : Meta) → AreStable seen now leaves old → super_of (seen old) ≡ Ok (Some m) → Turns now leaves Same old mid → (c : Files) → leaves mid (now mid) c → super_of c ≡ Ok (Some m)
@@ -60,6 +68,7 @@ module _ {D : Type 0} (seen : D → Files) (now : D → ℕ) (leaves : D → ℕ
             let both : Ok (Some x) ≡ Ok (Some m) = sym e ∙ sym was.super ∙ its w.image w.was_left in
             let one : x ≡ m = cc in
             w.kept n (kept_named (named_in m.rowsets) n (subst (λ (y : Meta). has (named_in y.rowsets) n ≡ true) one h)) ∙ was.named x e n h;
+        slots = λ k is. same_slot k c w.image (w.kept k (slot_kept (named_in m.rowsets) k is)) ∙ was.slots k is;
       })
       run)
 
@@ -77,12 +86,13 @@ module _ {D : Type 0} (seen : D → Files) (now : D → ℕ) (leaves : D → ℕ
         was_left = was.was_left;
         super = elim was.super [ inl same ↦ inl (slots ∙ same) | inr both ↦ inr (both.0, slots ∙ both.1) ];
         named = λ m e. absurd (let clash : Ok (Some m) ≡ Ok None = sym e ∙ none was.image was.was_left in cc);
+        slots = λ k is x spells. was.slots k is x (sym (same_slot k c w.image (w.kept k (slot_kept named k is))) ∙ spells);
       })
       run)
 
   -- what has the files of an image needs no first superblock
   pub of_store : (old new : D) (first : Meta) → LeavesOnly now leaves (HasFilesOf now leaves old) old new → LeavesOnly now leaves (IsOfStore now leaves first old) old new
-  of_store old new first run = weaker now leaves (HasFilesOf now leaves old) (IsOfStore now leaves first old) old new (λ c w. record { image = w.image; was_left = w.was_left; super = inl w.super; named = w.named }) run
+  of_store old new first run = weaker now leaves (HasFilesOf now leaves old) (IsOfStore now leaves first old) old new (λ c w. record { image = w.image; was_left = w.was_left; super = inl w.super; named = w.named; slots = λ k is x spells. inl (sym (w.slots k is) ∙ spells) }) run
 
   -- what is left behind calls that only read is left behind those before them
   pub files_from : (old mid new : D) → Turns now leaves Same old mid → LeavesOnly now leaves (HasFilesOf now leaves mid) mid new → LeavesOnly now leaves (HasFilesOf now leaves old) old new
@@ -92,7 +102,7 @@ module _ {D : Type 0} (seen : D → Files) (now : D → ℕ) (leaves : D → ℕ
       (weaker now leaves (HasFilesOf now leaves mid) (HasFilesOf now leaves old) mid new
       (λ c w.
       let was = before.each (now mid) w.image before.later (omega arith) w.was_left in
-      record { image = was.image; was_left = was.was_left; super = w.super ∙ was.super; named = λ m e n h. w.named m (was.super ∙ e) n h ∙ was.named m e n h })
+      record { image = was.image; was_left = was.was_left; super = w.super ∙ was.super; named = λ m e n h. w.named m (was.super ∙ e) n h ∙ was.named m e n h; slots = λ k is. w.slots k is ∙ was.slots k is })
       run)
 
   pub store_from : (old mid new : D) (first : Meta) → Turns now leaves Same old mid → LeavesOnly now leaves (IsOfStore now leaves first mid) mid new → LeavesOnly now leaves (IsOfStore now leaves first old) old new
@@ -107,6 +117,7 @@ module _ {D : Type 0} (seen : D → Files) (now : D → ℕ) (leaves : D → ℕ
         was_left = was.was_left;
         super = elim w.super [ inl same ↦ inl (same ∙ was.super) | inr both ↦ inr (sym was.super ∙ both.0, both.1) ];
         named = λ m e n h. w.named m (was.super ∙ e) n h ∙ was.named m e n h;
+        slots = λ k is x spells. elim (w.slots k is x spells) [ inl there ↦ inl (sym (was.slots k is) ∙ there) | inr new_one ↦ inr new_one ];
       })
       run)
 
@@ -151,12 +162,6 @@ module _ {D : Type 0} (seen : D → Files) (now : D → ℕ) (leaves : D → ℕ
       ]
 
   -- ---- the slots
-
-  slot_kept : (named : List ℕ) (slot : ℕ) → IsSlot slot → is_kept named slot ≡ true
-  slot_kept named slot is = elim is [
-    | inl one ↦ subst (λ (n : ℕ). is_kept named n ≡ true) (sym one) refl
-    | inr two ↦ subst (λ (n : ℕ). is_kept named n ≡ true) (sym two) refl
-  ]
 
   -- stay stable behind calls that only read
   pub stable_read : (old mid : D) → AreStable seen now leaves old → Turns now leaves Same old mid → seen mid ≡ seen old → AreStable seen now leaves mid

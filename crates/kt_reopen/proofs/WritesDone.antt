@@ -37,6 +37,7 @@ ends_on o t u a b = record {
   kept = b.kept;
   places = b.places ∙ a.places;
   names = b.names ∙ a.names;
+  files = b.files ∙ a.files;
   open_ = b.open_ ∙ a.open_;
   even = b.even ∙ a.even;
   size = b.size ∙ a.size;
@@ -80,7 +81,7 @@ pub record AlongOps (m : Meta) (ts : ℕ) (o : Opening) (ops : List RowOp) (told
 -- none is done
 pub along_none : (m : Meta) (ts : ℕ) (o : Opening) (ops : List RowOp) (told : Option (List CommitRow)) → MayDoAll o m ts ops told → AlongOps m ts o ops told o ops told
 along_none m ts o ops told may = record {
-  ends = record { kept = may.kept; places = refl; names = refl; open_ = refl; even = refl; size = refl };
+  ends = record { kept = may.kept; places = refl; names = refl; files = refl; open_ = refl; even = refl; size = refl };
   room = λ k h. h;
   apart = λ q none. (none, λ under. under);
   later = λ later lt h. h;

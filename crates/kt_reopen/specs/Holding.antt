@@ -1,16 +1,17 @@
 -- The past that the images of a log and of a store hold together.
 use Rattle.std.specs.Prelude.{◌≡◌, ◌⊎◌, ◌↔◌, ℕ, List, [], Some, None, Result, Ok}
-use Rattle.kt_disk.specs.Disk.{Files}
+use Rattle.kt_disk.specs.Disk.{Files, held}
 use Rattle.kt_history.specs.History.{Past}
 use Rattle.kt_records.specs.declared.entry.Entry.{Entry}
 use Rattle.kt_journal.specs.Log.{log_of}
 use Rattle.kt_schema.specs.declared.column.Column.{Column}
 use Rattle.kt_schema.specs.Columns.{fill_of}
 use Rattle.kt_super.specs.declared.meta.Meta.{Meta}
-use Rattle.kt_super.specs.Slots.{super_of}
+use Rattle.kt_super.specs.Slots.{super_of, slot_at, IsSlot}
 use Rattle.kt_diskrowset.specs.Rowset.{HeldFiles}
 use Rattle.kt_files.specs.Reading.{HoldAll}
 use Rattle.kt_files.specs.Named.{HasNamed}
+use Rattle.kt_storeside.specs.Supers.{SpellNoOther}
 use Rattle.kt_content.specs.Places.{fresh}
 use Rattle.kt_content.specs.Rules.{Rules}
 use Rattle.kt_content.specs.Content.{IsContent}
@@ -37,17 +38,20 @@ KeepsContent now leaves now' leaves' columns log store log' store' =
 
 -- ---- one device at a time
 
--- This image of a store has the superblock of one that a crash at the last moment of that disk might have left, and all files that it names
+-- This image of a store has the superblock of one that a crash at the last moment of that disk might have left, and all files that it names. Its slots tell
+-- the same
 pub record HasFilesOf {D : Type 0} (now : D → ℕ) (leaves : D → ℕ → Files → Type 0) (disk : D) (c : Files) : Type 0 where
   pub image : Files
   pub was_left : leaves disk (now disk) image
   pub super : super_of c ≡ super_of image
   pub named : (m : Meta) → super_of image ≡ Ok (Some m) → HasNamed m.rowsets image c
+  pub slots : (slot : ℕ) → IsSlot slot → slot_at slot (held c slot) ≡ slot_at slot (held image slot)
 
 -- This image of a store has the superblock of one that a crash at the last moment of that disk might have left, and all files that it names; where that
--- one has none, it may have the first one
+-- one has none, it may have the first one. No slot spells another that is new
 pub record IsOfStore {D : Type 0} (now : D → ℕ) (leaves : D → ℕ → Files → Type 0) (first : Meta) (disk : D) (c : Files) : Type 0 where
   pub image : Files
   pub was_left : leaves disk (now disk) image
   pub super : (super_of c ≡ super_of image) ⊎ ((super_of image ≡ Ok None) × (super_of c ≡ Ok (Some first)))
   pub named : (m : Meta) → super_of image ≡ Ok (Some m) → HasNamed m.rowsets image c
+  pub slots : SpellNoOther image first c

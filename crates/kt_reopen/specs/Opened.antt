@@ -27,10 +27,11 @@ use Rattle.kt_super.specs.declared.meta.MetaRowset.{MetaRowset}
 use Rattle.kt_rowfiles.specs.Fitting.{readable}
 use Rattle.kt_diskrowset.specs.declared.data.RowSetData.{RowSetData}
 use Rattle.kt_diskrowset.specs.declared.rowset.DiskRowSet.{DiskRowSet}
-use Rattle.kt_diskrowset.specs.Data.{files_in}
+use Rattle.kt_diskrowset.specs.Data.{files_in, held_in}
+use Rattle.kt_diskrowset.specs.Held.{IsReadOf}
 use Rattle.kt_diskrowset.specs.Joining.{KeyUnder}
 use Rattle.kt_diskrowset.specs.Rows.{store_with}
-use Rattle.kt_diskrowset.specs.Rowset.{store_of, IsStore, Owns, cells_had}
+use Rattle.kt_diskrowset.specs.Rowset.{HeldFiles, store_of, IsStore, Owns, cells_had}
 use Rattle.kt_diskrowset.specs.Rowset as rowset
 use Rattle.kt_reopen.specs.declared.numbers.Named.{Named}
 use Rattle.kt_reopen.specs.declared.why.Why.{Why}
@@ -109,6 +110,7 @@ IsNamedBy named targets = IsNamed named.mem named.next (λ r. unwrap_or (get nat
 -- A rowset that was read, opened under its number in a superblock: it has what can be read of its files, and no change in memory
 pub record IsRowsetOf (targets : List Target) (r : MetaRowset) (d : RowSetData) (s : DiskRowSet) : Type 0 where
   pub number : (rowset.held_of s).number ≡ r.rowset
+  pub held : IsReadOf (held_in d) (rowset.held_of s)
   pub name : rowset.name_of s ≡ Delta r.rowset (max (r.last_dms + 1) (greatest_dms r.rowset targets))
   pub store : (pool : Contents) → store_of s pool ≡ store_with (readable (files_in d)) (λ n. [])
   pub stands : (pool : Contents) → IsStore s pool
@@ -120,3 +122,10 @@ abbrev pub AreRowsetsOf : List Target → List MetaRowset → List RowSetData �
 AreRowsetsOf targets [] [] [] = Unit {0}
 AreRowsetsOf targets (r ∷ rs) (d ∷ ds) (s ∷ ss) = IsRowsetOf targets r d s × AreRowsetsOf targets rs ds ss
 AreRowsetsOf targets _ _ _ = ⊥
+
+-- in memory is what can be read of each of these files
+abbrev pub AreReadOf : List HeldFiles → List HeldFiles → Type 0
+AreReadOf [] [] = Unit {0}
+AreReadOf [] (x ∷ files) = ⊥
+AreReadOf (h ∷ held) [] = ⊥
+AreReadOf (h ∷ held) (x ∷ files) = IsReadOf h x × AreReadOf held files

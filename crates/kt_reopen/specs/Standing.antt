@@ -36,6 +36,10 @@ places_in o = memory ∷ map (λ (d : DiskRowSet). disk (rowset.held_of d).numbe
 abbrev pub names_in : Opening → List Target
 names_in o = Mem (mem.number_of o.mem) ∷ map rowset.name_of o.rowsets.items
 
+-- the files of each disk rowset
+abbrev pub files_in : Opening → List rowset.HeldFiles
+files_in o = map rowset.held_of o.rowsets.items
+
 -- all that they have in memory of a key lies below a time
 pub record KeyUnderIn (ts : ℕ) (q : List ℕ) (o : Opening) : Type 0 where
   pub mem : Under ts (hist_in q (mem.store_of o.mem o.pool)).steps
@@ -62,11 +66,12 @@ abbrev pub IsNone : List ℕ → List (List ℕ) → Type 0
 IsNone q [] = Unit {0}
 IsNone q (k ∷ keys) = (q ≢ k) × IsNone q keys
 
--- They stand, in their order and under their names, and no cell has been lost
+-- They stand, in their order, under their names and with their files, and no cell has been lost
 pub record Ends (o n : Opening) : Type 0 where
   pub kept : AreKeptIn n
   pub places : places_in n ≡ places_in o
   pub names : names_in n ≡ names_in o
+  pub files : files_in n ≡ files_in o
   pub open_ : mem.is_frozen n.mem ≡ mem.is_frozen o.mem
   pub even : used n.pool + n.pool.reserved ≡ used o.pool + o.pool.reserved
   pub size : length n.pool.places ≡ length o.pool.places

@@ -13,7 +13,7 @@ ghost use Rattle.kt_reopen.specs.Bare.{bare};
 ghost use Rattle.kt_reopen.specs.Begun.{IsBegun};
 ghost use Rattle.kt_reopen.specs.Needed.{needs_of};
 ghost use Rattle.kt_reopen.specs.Numbers.{named_by};
-ghost use Rattle.kt_reopen.specs.Standing.{AreKeptIn};
+ghost use Rattle.kt_reopen.specs.Standing.{AreKeptIn, files_in};
 ghost use Rattle.kt_schema.specs.declared.column.Column.{Column};
 ghost use Rattle.kt_journal.specs.Frames.{IsFrom};
 ghost use Rattle.kt_journal.specs.Log.{log_of, records_of, Holds, IsLog, CanOpen};
@@ -25,7 +25,7 @@ ghost use Rattle.kt_super.specs.Rowsets.{has};
 ghost use Rattle.kt_diskrowset.specs.Data.{held_in};
 ghost use Rattle.kt_files.specs.Reading.{HoldAll};
 ghost use Rattle.kt_files.specs.Held.{AreFresh, numbers_in, numbers_named};
-ghost use Rattle.kt_files.specs.Named.{is_kept, named_in};
+ghost use Rattle.kt_files.specs.Named.{is_kept, named_in, AreNamed};
 ghost use Rattle.kt_content.specs.Places.{fresh};
 ghost use Rattle.kt_content.specs.Rules.{Rules};
 ghost use Rattle.kt_content.specs.Opening.{Placed};
@@ -33,7 +33,7 @@ ghost use Rattle.kt_reopen.specs.Tables.{IsTable};
 ghost use Rattle.kt_reopen.specs.Both.{Found, Answers, AnswersLater, nothing, super_in, stores_after};
 ghost use Rattle.kt_reopen.specs.Holding.{HoldBoth, KeepsContent, HasFilesOf, IsOfStore};
 ghost use Rattle.kt_storeside.specs.Supers.{NamedStand};
-ghost use Rattle.kt_reopen.specs.Opened.{first_meta, found_of, IsOpened, HasRoom, Shows, IsRefusal, OneRose, IsNamedBy, AreRowsetsOf};
+ghost use Rattle.kt_reopen.specs.Opened.{first_meta, found_of, IsOpened, HasRoom, Shows, IsRefusal, OneRose, IsNamedBy, AreRowsetsOf, AreReadOf};
 
 use crate::commits::commit_places;
 use crate::devices::{BothRead, read_devices};
@@ -169,6 +169,7 @@ fn stores_of(alloc: Global, stores: Opening) -> Stores<DiskRowSet>
     ensures pool { result.pool ≡ with_reserved stores.pool 0 }
     ensures shelf { result.shelf ≡ shelf_of (read_by (shelved name_of store_of (λ s. true) cells_had)) stores.pool (kept stores.mem [] stores.rowsets.items) }
     ensures frozen { result.frozen ≡ 0 }
+    ensures files { result.files ≡ files_in stores }
 {
     let Opening {
         mem,
@@ -194,6 +195,7 @@ fn make(
     ensures made { IfOk result (λ made. (columns : List Column) (stores : Placed) → stores_after (fill_of columns) (super_in meta.now (map held_in rowsets.items)) records.now ≡ Ok stores
         → IsOpened columns (found_of (super_in meta.now (map held_in rowsets.items)) records.now stores) meta.now records.now made.queued made.stores (max meta.now.c (last_of records.now)) made.next_rowset) }
     ensures room { IfOk result (λ made. (stores : Placed) → HasRoom cells (found_of (super_in meta.now (map held_in rowsets.items)) records.now stores) made.stores) }
+    ensures files { IfOk result (λ made. AreReadOf (map held_in rowsets.items) made.stores.files) }
     ensures fits { IfOk result (λ made. (fill : Row) → (stores : Placed) × (stores_after fill (super_in meta.now (map held_in rowsets.items)) records.now ≡ Ok stores)) }
     ensures late { (no : Why) → result ≡ Err no → no ≢ Why.Memory → (fill : Row) → (ts : ℕ) × (stores_after fill (super_in meta.now (map held_in rowsets.items)) records.now ≡ Err ts) × (no ≡ Why.B3 (gate_of ts records.now)) }
 {
@@ -231,6 +233,7 @@ fn open_first<D: Disk>(
     ensures superblock { IfOk result (λ o. o.superblock ≡ fresh) }
     ensures low { IfOk result (λ o. o.last ≡ 0) }
     ensures rules { IfOk result (λ o. IsMeta o.meta) }
+    ensures files { IfOk result (λ o. o.made.stores.files ≡ []) }
     ensures published { IfOk result (λ o. IsTrue D.tells → super_of (D.seen store.new) ≡ Ok (Some o.meta)) }
     ensures stable { OnOk result (IsTrue D.tells → AreStable D.seen D.now D.leaves store.new) }
     ensures removed { IfOk result (λ o. IsTrue D.tells → (n : ℕ) → is_kept (named_in o.meta.rowsets) n ≡ false → D.seen store.new n ≡ None) }
@@ -268,6 +271,7 @@ fn open_later<D: Disk>(
         × (IsTrue D.tells → AnswersLater schema.now meta records.now (D.seen store.old) (Ok f))) }
     ensures meta { IfOk result (λ o. o.meta ≡ meta) }
     ensures holds { IfOk result (λ o. IsTrue D.tells → (held : List HeldFiles) × HoldAll (D.seen store.old) meta.rowsets held × (o.superblock ≡ super_in meta held)) }
+    ensures files { IfOk result (λ o. (held : List HeldFiles) × AreNamed meta.rowsets held × AreReadOf held o.made.stores.files × (IsTrue D.tells → HoldAll (D.seen store.old) meta.rowsets held)) }
     ensures low { IfOk result (λ o. o.last < 2 ^ 63) }
     ensures refused { (no : Why) → result ≡ Err no → no ≢ Why.Fault → no ≢ Why.Memory → IsTrue D.tells → AnswersLater schema.now meta records.now (D.seen store.old) (Err no) }
     ensures kept { IsTrue D.tells → (n : ℕ) → is_kept (named_in meta.rowsets) n ≡ true → D.seen store.new n ≡ D.seen store.old n }
@@ -329,6 +333,9 @@ pub fn open_devices<L: Disk, D: Disk>(
     ensures meta { IfOk result (λ o. IsTrue D.tells → super_of (D.seen store.new) ≡ Ok (Some o.meta)) }
     ensures holds { IfOk result (λ o. IsTrue D.tells → (held : List HeldFiles) × HoldAll (D.seen store.new) o.meta.rowsets held × (o.superblock ≡ super_in o.meta held)) }
     ensures low { IfOk result (λ o. o.last < 2 ^ 63) }
+
+    // The disk rowsets in memory have the files that the superblock names, or what can be read of them.
+    ensures files { IfOk result (λ o. (held : List HeldFiles) × AreNamed o.meta.rowsets held × AreReadOf held o.stores.files × (IsTrue D.tells → HoldAll (D.seen store.new) o.meta.rowsets held)) }
     ensures stable { OnOk result (IsTrue D.tells → AreStable D.seen D.now D.leaves store.new) }
     ensures named { IfOk result (λ o. IsTrue D.tells → (n : ℕ) → has (named_in o.meta.rowsets) n ≡ true → D.seen store.new n ≡ D.seen store.old n) }
     ensures removed { IfOk result (λ o. IsTrue D.tells → (n : ℕ) → is_kept (named_in o.meta.rowsets) n ≡ false → D.seen store.new n ≡ None) }

@@ -1,10 +1,13 @@
-use Rattle.std.proofs.Common.{◌≡◌, ◌∙◌, ℕ, Err, ap, arith}
+use Rattle.std.proofs.Common.{◌≡◌, ◌∙◌, ℕ, Err, map, sym, ap, subst, arith}
+use Rattle.kt_diskrowset.specs.Data.{held_in}
 use Rattle.kt_loglaws.specs.Replay.{gate_of}
 use Rattle.kt_reopen.specs.declared.replaying.ReplayNo.{ReplayNo}
-use Rattle.kt_reopen.specs.Numbers.{next_rowset}
+use Rattle.kt_reopen.specs.Numbers.{next_rowset, named_by}
+use Rattle.kt_reopen.specs.Opened.{AreReadOf}
 use Rattle.kt_reopen.proofs.Apart.{places_apart}
 use Rattle.kt_reopen.proofs.Begun.{begun_kept, begun_under, begun_places, begun_apart, begun_room}
 use Rattle.kt_reopen.proofs.Made.{made_fits, made_few, made_opened, made_room, made_late, late_why}
+use Rattle.kt_reopen.proofs.Making.{rowsets_read}
 use Rattle.kt_reopen.proofs.opened.make.Goals as goal
 
 pub needs_of-requires-clause-apart : goal.needs_of-requires-clause-apart
@@ -80,3 +83,10 @@ returns-in-Err-Late-clause-late c = λ no is refused fill.
           (c.replay.ensures.late c.in-Err-Late.ts (c.in-Err-Late.is ∙ ap (λ (e : ReplayNo). Err e) c.in-Err-Late.field-0-is)) fill,
       late_why no _ _ is (c.in_ok-gate_of-in-Err-Late.ensures ∙ ap (λ (n : ℕ). gate_of n records) c.in-Err-Late.ts-is),
     )
+
+-- the files stay as the log is done
+pub returns-in-Ok-clause-files : goal.returns-in-Ok-clause-files
+returns-in-Ok-clause-files c =
+    let records = c.args.records.now in
+    let b = c.in_ok-stores.ensures records c.in_ok-named.ensures c.in_ok-needs.ensures in
+    subst (AreReadOf (map held_in c.args.rowsets.items)) (sym (c.stores_of.ensures.files ∙ c.in-Ok.ensures.does.ends.files)) (rowsets_read (named_by records) c.args.meta.now.rowsets c.args.rowsets.items c.in_ok-stores.stores.rowsets.items b.rowsets)

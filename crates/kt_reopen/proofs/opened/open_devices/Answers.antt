@@ -1,16 +1,16 @@
-use Rattle.std.proofs.Common.{◌≡◌, List, [], Option, Some, Ok, inl, inr, refl, sym, ap, subst, ◌∙◌}
+use Rattle.std.proofs.Common.{◌≡◌, IsTrue, List, [], Option, Some, Ok, inl, inr, refl, sym, ap, subst, ◌∙◌}
 use Rattle.kt_disk.specs.Disk.{Files}
 use Rattle.kt_records.specs.declared.entry.Entry.{Entry}
 use Rattle.kt_journal.specs.Log.{IsLog, CanOpen}
 use Rattle.kt_super.specs.declared.meta.Meta.{Meta}
 use Rattle.kt_diskrowset.specs.Rowset.{HeldFiles}
-use Rattle.kt_files.specs.Named.{named_in}
+use Rattle.kt_files.specs.Named.{named_in, AreNamed}
 use Rattle.kt_files.specs.Reading.{HoldAll}
 use Rattle.kt_files.proofs.SameFiles.{holds_on}
 use Rattle.kt_content.specs.Places.{fresh}
 use Rattle.kt_reopen.specs.Both.{Answers, AnswersLater, nothing, super_in}
 use Rattle.kt_reopen.specs.Both.Answers.{at_once, first, later}
-use Rattle.kt_reopen.specs.Opened.{first_meta}
+use Rattle.kt_reopen.specs.Opened.{first_meta, AreReadOf}
 use Rattle.kt_reopen.proofs.Answered.{not_fault, not_memory}
 use Rattle.kt_reopen.proofs.Held.{found_shows, same_table}
 use Rattle.kt_reopen.proofs.Pairs.{keeps_files, keeps_first}
@@ -166,6 +166,31 @@ returns-in-Ok-rebuilt-clause-holds g c = λ told.
           let got : (held : List HeldFiles) × HoldAll mid m.rowsets held × (r.superblock ≡ super_in m held) = (rw is at w.open_later-rebuilt.ensures.holds) told in
           rw (w.store-is) (subst (λ (x : Meta). (held : List HeldFiles) × HoldAll new x.rowsets held × (r.superblock ≡ super_in x held)) (sym meta_is)
           (got.0, holds_on mid new m.rowsets got.0 (λ n h. sym (w.open_later-rebuilt.ensures.kept told n (kept_named (named_in m.rowsets) n h))) got.1, got.2))
+    ]
+
+-- and so are those in memory
+pub returns-in-Ok-rebuilt-clause-files : goal.returns-in-Ok-rebuilt-clause-files
+returns-in-Ok-rebuilt-clause-files g c =
+    let r = c.in-Ok-rebuilt.field-0 in
+    let mid = g.D.Disk.seen c.read_devices.new.store in
+    elim c.match-meta.branch [
+      | in-None w ↦
+          let is = sym w.rebuilt-is ∙ c.in-Ok-rebuilt.is in
+          let new = g.D.Disk.seen w.open_first-rebuilt.new.store in
+          let meta_is : r.meta ≡ first_meta c.args.schema.now = rw is at w.open_first-rebuilt.ensures.meta in
+          let none : r.made.stores.files ≡ [] = rw is at w.open_first-rebuilt.ensures.files in
+          rw (w.store-is)
+          (subst (λ (m : Meta). (held : List HeldFiles) × AreNamed m.rowsets held × AreReadOf held r.made.stores.files × (IsTrue g.D.Disk.tells → HoldAll new m.rowsets held)) (sym meta_is)
+          ([], tt, subst (AreReadOf []) (sym none) tt, λ told. tt))
+      | in-Some w ↦
+          let is = sym w.rebuilt-is ∙ c.in-Ok-rebuilt.is in
+          let m = w.in-Some.meta in
+          let new = g.D.Disk.seen w.open_later-rebuilt.new.store in
+          let meta_is : r.meta ≡ m = rw is at w.open_later-rebuilt.ensures.meta in
+          let got : (held : List HeldFiles) × AreNamed m.rowsets held × AreReadOf held r.made.stores.files × (IsTrue g.D.Disk.tells → HoldAll mid m.rowsets held) = rw is at w.open_later-rebuilt.ensures.files in
+          rw (w.store-is)
+          (subst (λ (x : Meta). (held : List HeldFiles) × AreNamed x.rowsets held × AreReadOf held r.made.stores.files × (IsTrue g.D.Disk.tells → HoldAll new x.rowsets held)) (sym meta_is)
+          (got.0, got.1, got.2, λ told. holds_on mid new m.rowsets got.0 (λ n h. sym (w.open_later-rebuilt.ensures.kept told n (kept_named (named_in m.rowsets) n h))) (got.3 told)))
     ]
 
 -- nothing is pending of the files that are named, as before

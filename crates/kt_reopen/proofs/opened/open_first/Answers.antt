@@ -1,4 +1,8 @@
-use Rattle.std.proofs.Common.{◌≡◌, subst, ◌∙◌}
+use Rattle.std.proofs.Common.{◌≡◌, List, map, subst, ◌∙◌}
+use Rattle.kt_diskrowset.specs.declared.data.RowSetData.{RowSetData}
+use Rattle.kt_diskrowset.specs.Data.{held_in}
+use Rattle.kt_reopen.specs.Opened.{AreReadOf}
+use Rattle.kt_reopen.proofs.Making.{none_read}
 use Rattle.std.proofs.lemmas.Result.{err_from_is_err_and}
 use Rattle.kt_disk.specs.Disk.{LeavesOnly}
 use Rattle.kt_super.specs.declared.meta.Meta.{Meta}
@@ -51,3 +55,7 @@ returns-in_err-made-clause-fault g c = λ is.
 pub returns-clause-stable : goal.returns-clause-stable
 returns-clause-stable g c = λ told.
     stable_kept g.D.Disk.seen g.D.Disk.now g.D.Disk.leaves c.publish_first.new.store c.remove_others.new.disk (named_in c.in_ok-meta.meta.rowsets) (c.in_ok-publish_first.ensures.stable told) (c.remove_others.ensures.any_moment told) (c.remove_others.ensures.kept told)
+
+-- nothing was read
+pub returns-clause-files : goal.returns-clause-files
+returns-clause-files g c = none_read c.in_ok-made.made.stores.files (subst (λ (l : List RowSetData). AreReadOf (map held_in l) c.in_ok-made.made.stores.files) c.new.ensures.items c.in_ok-made.ensures.files)

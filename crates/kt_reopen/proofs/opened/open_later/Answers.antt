@@ -3,12 +3,13 @@ use Rattle.std.proofs.lemmas.Result.{err_from_is_err_and}
 use Rattle.kt_loglaws.specs.Replay.{last_of}
 use Rattle.kt_schema.specs.declared.column.Column.{Column}
 use Rattle.kt_schema.specs.Columns.{fill_of}
+use Rattle.kt_diskrowset.specs.declared.data.RowSetData.{RowSetData}
 use Rattle.kt_diskrowset.specs.Data.{held_in}
 use Rattle.kt_files.specs.Named.{named_in}
 use Rattle.kt_reopen.specs.declared.why.Why.TheVariants as why
 use Rattle.kt_reopen.specs.Tables.{AllAreLike, DifferFirst}
 use Rattle.kt_reopen.specs.Both.{super_in}
-use Rattle.kt_reopen.specs.Opened.{found_of}
+use Rattle.kt_reopen.specs.Opened.{found_of, AreReadOf}
 use Rattle.kt_reopen.specs.Both.AnswersLater.{in_column, too_late}
 use Rattle.kt_reopen.proofs.Answered.{answers_found, answers_late, files_refused, removal_refuses_none, err_again}
 use Rattle.kt_reopen.proofs.FirstOpened.{later_opened, late_of_files}
@@ -89,6 +90,14 @@ returns-in_err-remove_others-clause-refused g c = λ no is fault memory told.
 
 pub returns-clause-holds : goal.returns-clause-holds
 returns-clause-holds g c = λ told. (map held_in c.in_ok-rowsets.rowsets, c.in_ok-rowsets.ensures.hold told, c.read-superblock.ensures)
+
+pub returns-clause-files : goal.returns-clause-files
+returns-clause-files g c = (
+  map held_in c.in_ok-rowsets.rowsets,
+  c.in_ok-rowsets.ensures.named,
+  subst (λ (l : List RowSetData). AreReadOf (map held_in l) c.in_ok-made.made.stores.files) c.into_vec.ensures c.in_ok-made.ensures.files,
+  λ told. c.in_ok-rowsets.ensures.hold told,
+)
 
 -- the files are only read
 pub returns-in_err-rowsets-clause-any_moment : goal.returns-in_err-rowsets-clause-any_moment

@@ -63,7 +63,7 @@ rowsets-preserved c =
       fresh = fresh.1;
       more = λ targets named ss are.
           rowsets_next targets i rs r c.args.rowsets.items old new d c.rowsets.opened.items c.push.new.self.items c.of.result left here
-          (rowset_new targets r d c.in_ok-readable.readable c.of.result c.dms-dms.result numbers.0 (c.dms-dms.ensures targets named) c.in_ok-readable.ensures.files (c.in_ok-readable.ensures.fresh ∙ fresh.0) c.in_ok-readable.ensures.number
+          (rowset_new targets r d c.in_ok-readable.readable c.of.result c.dms-dms.result numbers.0 (c.dms-dms.ensures targets named) c.in_ok-readable.ensures.files c.in_ok-readable.ensures.read (c.in_ok-readable.ensures.fresh ∙ fresh.0) c.in_ok-readable.ensures.number
           c.of.ensures.held c.of.ensures.name c.of.ensures.store c.of.ensures.stands c.of.ensures.bare c.of.ensures.none c.of.ensures.told)
           c.in_ok-push.ensures.items (c.rowsets.invariant.more targets named) ss are;
     }
