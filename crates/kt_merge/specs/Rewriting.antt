@@ -1,5 +1,5 @@
 -- A disk rowset whose files are written anew.
-use Rattle.std.specs.Prelude.{◌≡◌, ◌<◌, ◌≤◌, ℕ, List, [], ◌∷◌, length, Some}
+use Rattle.std.specs.Prelude.{◌≡◌, ◌<◌, ◌≤◌, ℕ, List, [], ◌∷◌, ◌++◌, length, Some}
 use Rattle.std.specs.List.{AllByRecursion}
 use Rattle.kt_history.specs.declared.change.Change.TheVariants.{Del}
 use Rattle.kt_history.specs.declared.changes.Delta.{Delta}
@@ -17,6 +17,8 @@ use Rattle.kt_diskrowset.specs.declared.files.FileHeld.{FileHeld}
 use Rattle.kt_diskrowset.specs.Data.{files_in, store_in}
 use Rattle.kt_diskrowset.specs.Files.{lists_of}
 use Rattle.kt_diskrowset.specs.Rows.{UndosLeadBack}
+use Rattle.kt_diskrowset.specs.Rowset.{HeldFiles}
+use Rattle.kt_deltafile.specs.File.{FileView}
 use Rattle.kt_merge.specs.Folding.{row_folded}
 use Rattle.kt_merge.specs.Major.{redos_at, row_at, IsHeld}
 use Rattle.kt_merge.specs.declared.folding.Folded.{Folded}
@@ -40,6 +42,41 @@ AreDeletes records = AllByRecursion (λ (d : Delta). d.change ≡ Del) records
 pub record HasDeletesOnly (d : DiskRowset) : Type 0 where
   pub one : HasAtMostOneRedo d
   pub deletes : AllByRecursion AreDeletes d.redos
+
+-- ---- what is left of its files. Those that are not written yet have the number 0
+
+abbrev pub AreUnwritten : List (ℕ × ℕ × FileView) → Type 0
+AreUnwritten files = AllByRecursion (λ (f : ℕ × ℕ × FileView). f.0 ≡ 0) files
+
+-- files stay, and one more at most comes behind
+pub record AddsFile (old new : List (ℕ × ℕ × FileView)) : Type 0 where
+  pub more : List (ℕ × ℕ × FileView)
+  pub are : new ≡ old ++ more
+  pub few : length more ≤ 1
+  pub unwritten : AreUnwritten more
+
+-- one file at most has come in the place of all
+pub record IsOneFile (new : List (ℕ × ℕ × FileView)) : Type 0 where
+  pub few : length new ≤ 1
+  pub unwritten : AreUnwritten new
+
+-- changes in memory are a REDO file
+pub record AddsRedo (old new : HeldFiles) : Type 0 where
+  pub base : new.base ≡ old.base
+  pub undos : new.undos ≡ old.undos
+  pub redos : AddsFile old.redos new.redos
+
+-- the REDO files are one
+pub record MergesRedos (old new : HeldFiles) : Type 0 where
+  pub base : new.base ≡ old.base
+  pub undos : new.undos ≡ old.undos
+  pub redos : IsOneFile new.redos
+
+-- they are folded into the base file
+pub record FoldsRedos (old new : HeldFiles) : Type 0 where
+  pub base : new.base.0 ≡ 0
+  pub undos : AddsFile old.undos new.undos
+  pub redos : IsOneFile new.redos
 
 -- each of these records lies above those of its row in files
 abbrev pub AreAbove : List FileHeld → List Delta → Type 0

@@ -6,10 +6,10 @@ ghost use Rattle.kt_histlaws.specs.Fitting.{Rises};
 ghost use Rattle.kt_baseset.specs.Tables.{cells_in};
 ghost use Rattle.kt_rowfiles.specs.Files.{records_for, records_in};
 ghost use Rattle.kt_rowfiles.specs.Reading.{steps_in};
-ghost use Rattle.kt_diskrowset.specs.Data.{files_in};
-ghost use Rattle.kt_diskrowset.specs.Files.{lists_of};
+ghost use Rattle.kt_diskrowset.specs.Data.{held_in, files_in};
+ghost use Rattle.kt_diskrowset.specs.Files.{lists_of, as_files};
 ghost use Rattle.kt_merge.specs.Major.{records_of, redos_at, IsHeld};
-ghost use Rattle.kt_merge.specs.Rewriting.{IsRewritten, HasDeletesOnly, AreDeletes, LieBelow, FoldsTo, Folds, AllFold, IsFoldedWhole};
+ghost use Rattle.kt_merge.specs.Rewriting.{IsRewritten, HasDeletesOnly, AreDeletes, AddsFile, IsOneFile, FoldsRedos, LieBelow, FoldsTo, Folds, AllFold, IsFoldedWhole};
 ghost use Rattle.kt_merge.specs.Rows.{disk_row_of};
 
 use crate::fitting::fits_files;
@@ -144,7 +144,8 @@ fn with_undo(
     files: FileLists,
     undo: Option<DeltaFile>,
 ) -> Result<FileLists, NoMemory>
-    ensures { IfOk result (λ all. (n : ℕ) → records_in n (lists_of all) ≡ records_in n (lists_of files) ++ records_for n (records_of undo)) }
+    ensures rows { IfOk result (λ all. (n : ℕ) → records_in n (lists_of all) ≡ records_in n (lists_of files) ++ records_for n (records_of undo)) }
+    ensures files { IfOk result (λ all. AddsFile (as_files files) (as_files all)) }
 {
     match undo {
         Some(file) => with_file(alloc, &files, new_file(alloc, file)?),
@@ -157,6 +158,7 @@ fn redo_alone(alloc: Global, redo: Option<DeltaFile>) -> Result<FileLists, NoMem
     ensures rows { IfOk result (λ all. (n : ℕ) → records_in n (lists_of all) ≡ records_for n (records_of redo)) }
     ensures one { IfOk result (λ all. length (lists_of all) ≤ 1) }
     ensures own { IfOk result (λ all. AllByRecursion (λ list. list ≡ records_of redo) (lists_of all)) }
+    ensures files { IfOk result (λ all. IsOneFile (as_files all)) }
 {
     let mut files = Vec::new(alloc);
     if let Some(file) = redo {
@@ -167,7 +169,8 @@ fn redo_alone(alloc: Global, redo: Option<DeltaFile>) -> Result<FileLists, NoMem
 
 // A base file that is not written yet.
 fn new_base(alloc: Global, set: BaseSet) -> Result<BaseHeld, NoMemory>
-    ensures { IfOk result (λ base. base.set.value ≡ set) }
+    ensures set { IfOk result (λ base. base.set.value ≡ set) }
+    ensures number { IfOk result (λ base. base.file ≡ 0) }
 {
     Ok(BaseHeld {
         file: 0,
@@ -204,6 +207,7 @@ pub fn with_folded(alloc: Global, rowset: RowSetData) -> Result<RowSetData, NoMe
     requires none { rowset.fresh ≡ [] }
     ensures same { IfOk result (IsRewritten rowset) }
     ensures folded { IfOk result (λ d. HasDeletesOnly (files_in d)) }
+    ensures files { IfOk result (λ d. FoldsRedos (held_in rowset) (held_in d)) }
 {
     let folded = fold_whole(alloc, &rowset.base.set, &rowset.undo, &rowset.redo)?;
     let base = new_base(alloc, folded.base)?;

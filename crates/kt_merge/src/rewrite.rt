@@ -6,9 +6,9 @@ ghost use Rattle.kt_rowfiles.specs.Files.{records_for, records_in};
 ghost use Rattle.kt_rowfiles.specs.Reading.{steps_in};
 ghost use Rattle.kt_deltafile.specs.declared.file.Way.TheVariants.{Redo};
 ghost use Rattle.kt_deltafile.specs.Rules.{FileFits, Follows};
-ghost use Rattle.kt_diskrowset.specs.Data.{files_in};
-ghost use Rattle.kt_diskrowset.specs.Files.{lists_of};
-ghost use Rattle.kt_merge.specs.Rewriting.{IsRewritten, HasAtMostOneRedo, AreAbove};
+ghost use Rattle.kt_diskrowset.specs.Data.{held_in, files_in};
+ghost use Rattle.kt_diskrowset.specs.Files.{lists_of, as_file, as_files};
+ghost use Rattle.kt_merge.specs.Rewriting.{IsRewritten, HasAtMostOneRedo, AddsRedo, MergesRedos, AreAbove};
 
 use crate::fitting::fits_redo;
 use crate::redo::{comes_behind, merge_all};
@@ -107,7 +107,8 @@ fn are_above(files: &[FileHeld], records: &[Delta]) -> bool
 
 /// A file that is not written yet.
 pub(crate) fn new_file(alloc: Global, deltas: DeltaFile) -> Result<FileHeld, NoMemory>
-    ensures { IfOk result (λ f. f.deltas.value ≡ deltas) }
+    ensures deltas { IfOk result (λ f. f.deltas.value ≡ deltas) }
+    ensures number { IfOk result (λ f. f.file ≡ 0) }
 {
     Ok(FileHeld {
         file: 0,
@@ -122,7 +123,8 @@ pub(crate) fn with_file(
     files: &FileLists,
     file: FileHeld,
 ) -> Result<FileLists, NoMemory>
-    ensures { IfOk result (λ all. lists_of all ≡ lists_of files.now ++ file.deltas.value.list ∷ []) }
+    ensures lists { IfOk result (λ all. lists_of all ≡ lists_of files.now ++ file.deltas.value.list ∷ []) }
+    ensures files { IfOk result (λ all. as_files all ≡ as_files files.now ++ as_file file ∷ []) }
 {
     let mut all = Vec::new(alloc);
     'files: for held in files.as_slice() {
@@ -135,7 +137,8 @@ pub(crate) fn with_file(
 /// The rowset with its changes in memory as one REDO file more, which is not written yet, if it has some. Where they cannot be one,
 /// or one does not lie above the REDO records of its row, which is so of none that a tablet took, it is as for want of memory.
 pub fn with_deltas(alloc: Global, rowset: RowSetData) -> Result<RowSetData, NoMemory>
-    ensures { IfOk result (IsRewritten rowset) }
+    ensures same { IfOk result (IsRewritten rowset) }
+    ensures files { IfOk result (λ d. AddsRedo (held_in rowset) (held_in d)) }
 {
     if rowset.fresh.is_empty() {
         return Ok(rowset);
@@ -164,6 +167,7 @@ pub fn with_one_redo(alloc: Global, rowset: RowSetData) -> Result<RowSetData, No
     requires none { rowset.fresh ≡ [] }
     ensures same { IfOk result (IsRewritten rowset) }
     ensures one { IfOk result (λ d. HasAtMostOneRedo (files_in d)) }
+    ensures files { IfOk result (λ d. MergesRedos (held_in rowset) (held_in d)) }
 {
     let merged = merge_all(alloc, &rowset.redo)?;
     let file = new_file(alloc, merged)?;

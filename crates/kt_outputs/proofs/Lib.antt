@@ -1,4 +1,5 @@
 pub mod Written
 pub mod Named
 pub mod WholeFiles
+pub mod Numbered
 pub mod InPlace

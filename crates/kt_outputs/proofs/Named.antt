@@ -59,7 +59,7 @@ count_behind : (a c : ℕ) (xs ys : List ℕ) → CountUp a c (xs ++ ys) → Cou
 count_behind a c [] ys up = subst (λ (n : ℕ). CountUp n c ys) (let e : a ≡ a + 0 = omega arith in e) up
 count_behind a c (x ∷ xs) ys up = subst (λ (n : ℕ). CountUp n c ys) (let e : suc a + length xs ≡ a + length (x ∷ xs) = omega arith in e) (count_behind (suc a) c xs ys up.1)
 
-count_below : (a b : ℕ) (xs : List ℕ) → CountUp a b xs → AreBelow b xs
+pub count_below : (a b : ℕ) (xs : List ℕ) → CountUp a b xs → AreBelow b xs
 count_below a b [] up = tt
 count_below a b (x ∷ xs) up = ((let e = up.0 in let le = count_up (suc a) b xs up.1 in omega arith), count_below (suc a) b xs up.1)
 
@@ -85,7 +85,7 @@ pub refs_numbers : (files : List FileHeld) → numbers_of (map delta_ref files) 
 refs_numbers [] = refl
 refs_numbers (f ∷ files) = ap (λ (l : List ℕ). f.file ∷ l) (refs_numbers files)
 
-is_file : (next file n len : ℕ) (taken : List ℕ) → AreBelow file taken → 3 ≤ file → n ≡ file → file < next → is_small len ≡ true → IsFile next taken (record { file = n; len = len })
+pub is_file : (next file n len : ℕ) (taken : List ℕ) → AreBelow file taken → 3 ≤ file → n ≡ file → file < next → is_small len ≡ true → IsFile next taken (record { file = n; len = len })
 is_file next file n len taken below low is lt short =
     let none : has taken n ≡ false = is_none_of file n taken below (omega arith) in
     (both (nat_le 3 n && nat_lt n next) (not (has taken n)) (both (nat_le 3 n) (nat_lt n next) (le-leb 3 n (omega arith)) (lt-ltb n next (omega arith))) (ap not none), short)

@@ -1,3 +1,4 @@
 pub mod Outputs
 pub mod Named
+pub mod Rewriting
 pub mod InPlace

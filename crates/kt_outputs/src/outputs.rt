@@ -96,8 +96,8 @@ fn write_next<D: Disk>(disk: &mut D, next: &mut u64, bytes: &[u8]) -> Result<u64
     Ok(len)
 }
 
-// Writes a base file.
-fn write_base<D: Disk>(
+/// Writes a base file.
+pub(crate) fn write_base<D: Disk>(
     alloc: Global,
     disk: &mut D,
     next: &mut u64,
@@ -128,8 +128,8 @@ fn write_base<D: Disk>(
     })
 }
 
-// Writes a delta file.
-fn write_delta<D: Disk>(
+/// Writes a delta file.
+pub(crate) fn write_delta<D: Disk>(
     alloc: Global,
     disk: &mut D,
     next: &mut u64,
@@ -273,46 +273,6 @@ pub fn write_outputs<D: Disk>(
     Ok(Outputs {
         rowsets: RowSetList::of(rowsets),
     })
-}
-
-/// Writes all files of a disk rowset, which keeps its number, each under the next file number. From that number on there is no file
-/// yet. Where no number is left that a superblock can spell there is no memory.
-pub fn write_rewritten<D: Disk>(
-    alloc: Global,
-    disk: &mut D,
-    next: &mut NextNumbers,
-    rowset: &RowSetData,
-) -> Result<RowSetData, WriteNo>
-    requires vacant { IsTrue D.tells → (n : ℕ) → next.old.file ≤ n → D.seen disk.old n ≡ None }
-
-    // No file is a slot of the superblock.
-    requires apart { 3 ≤ next.old.file }
-
-    ensures same { IfOk result (λ d. files_in d ≡ files_in rowset.now) }
-    ensures fresh { IfOk result (λ d. d.fresh ≡ []) }
-
-    // Each file has a number of its own, the next one, and a length that a superblock can spell.
-    ensures numbered { IfOk result (λ d. CountUp next.old.file next.new.file (file_numbers d)) }
-    ensures short { IfOk result IsShort }
-
-    // The files hold it, whichever DeltaMemStores a superblock says that they hold, and so do those of any image that has the same files of these numbers.
-    ensures holds { IfOk result (λ d. IsTrue D.tells → IsWhole rowset.now → (dms : ℕ) (files : Files) → AreThere next.old.file next.new.file (D.seen disk.new) files → HoldsRowset files (meta_in dms d) (held_in d)) }
-
-    // A crash leaves them so.
-    ensures stable { OnOk result (IsTrue D.tells → AreStable D.seen D.now D.leaves next.old.file next.new.file disk.new) }
-
-    // File numbers rise, and stay such that a superblock can spell them. No rowset gets a number.
-    ensures up { next.old.file ≤ next.new.file }
-    ensures few { next.old.file < 2 ^ 62 → next.new.file < 2 ^ 62 }
-    ensures rowset { next.new.rowset ≡ next.old.rowset }
-
-    // Whatever comes of it, no other file has changed, in no image either.
-    ensures left { IsTrue D.tells → HasLeft D.seen D.now D.leaves next.old.file next.new.file disk.old disk.new }
-
-    ensures fault { result ≡ Err WriteNo.Fault → Rose (D.faults disk.old) (D.faults disk.new) }
-    ensures faults { D.faults disk.old ≤ D.faults disk.new }
-{
-    write_rowset(alloc, disk, &mut next.file, rowset.number, rowset)
 }
 
 // Files as a superblock names them.

@@ -10,7 +10,10 @@ returns-clause-same c =
     let e : RowSetData = record { number = d.number; base = c.in_ok-base.base; undo = c.in_ok-undo.undo; redo = c.in_ok-redo.redo; fresh = d.fresh } in
     record {
       number = refl;
-      store = refolded d e c.in_ok-folded.folded c.in_ok-base.ensures c.in_ok-undo.ensures c.in_ok-redo.ensures.rows refl (subst (λ b. IsFoldedWhole b d.undo d.redo c.in_ok-folded.folded) c.deref.ensures c.in_ok-folded.ensures.whole);
+      store = refolded d e c.in_ok-folded.folded c.in_ok-base.ensures.set c.in_ok-undo.ensures.rows c.in_ok-redo.ensures.rows refl (subst (λ b. IsFoldedWhole b d.undo d.redo c.in_ok-folded.folded) c.deref.ensures c.in_ok-folded.ensures.whole);
       fresh = c.requires.none;
       lead = λ h. c.in_ok-fit.ensures.lead c.if-not-fit.false;
     }
+
+pub returns-clause-files : goal.returns-clause-files
+returns-clause-files c = record { base = c.in_ok-base.ensures.number; undos = c.in_ok-undo.ensures.files; redos = c.in_ok-redo.ensures.files }
