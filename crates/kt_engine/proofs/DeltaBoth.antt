@@ -1,23 +1,30 @@
 -- The engine and its store at the events of a job on the files of a disk rowset: it begins, and it is over.
-use Rattle.std.proofs.Common.{◌≡◌, ℕ, suc, ◌<◌, ◌≤◌, ◌+◌, ◌^◌, Bool, List, [], ◌∷◌, ◌++◌, length, take, Option, Some, None, refl, sym, ap, ◌∙◌, subst, arith, inl}
+use Rattle.std.proofs.Common.{◌≡◌, ℕ, suc, ◌<◌, ◌≤◌, ◌+◌, ◌^◌, Bool, List, [], ◌∷◌, ◌++◌, length, take, Option, Some, None, refl, sym, ap, ◌∙◌, subst, arith, inl, inr}
 use Rattle.kt_disk.specs.Disk.{Files}
 use Rattle.kt_content.specs.Flushes.{before}
 use Rattle.kt_content.specs.RunEvents.{RecordsBelow}
 use Rattle.kt_pick.specs.declared.rules.Want.{Want}
 use Rattle.kt_pool.specs.Contents.{Contents}
 use Rattle.kt_records.specs.declared.entry.Entry.{Entry}
-use Rattle.kt_tablet.specs.Jobs.{dms_in}
+use Rattle.kt_diskrowset.specs.declared.data.RowSetData.{RowSetData}
+use Rattle.kt_diskrowset.specs.Data.{held_in}
+use Rattle.kt_diskrowset.specs.Rowset.{HeldFiles}
+use Rattle.kt_super.specs.declared.meta.Meta.{Meta}
+use Rattle.kt_tablet.specs.Jobs.{dms_in, with_files}
 use Rattle.kt_tablet.specs.Views.{View}
 use Rattle.kt_engine.specs.declared.upkeep.Stage.TheVariants as stage
 use Rattle.kt_engine.specs.Engines.{EngineView, IsEngine, core_from}
-use Rattle.kt_engine.specs.DeltaJobs.{IsOn, HasBegunDeltas, HasFinishedDeltas}
-use Rattle.kt_engine.specs.Jobs.{JobView, UpkeepView, UpkeepsView, JobOn, HasUpkeep, upkeep_at, job_of, asked, job_finished, over_by}
+use Rattle.kt_engine.specs.DeltaJobs.{IsOn, HasBegunDeltas, MayFinishDeltas, HasFinishedDeltas}
+use Rattle.kt_engine.specs.Files.{AreFiled, publisher_by, job_at, files_by, files_over}
+use Rattle.kt_engine.specs.Jobs.{JobView, UpkeepView, UpkeepsView, JobOn, HasUpkeep, upkeep_at, job_of, asked, job_finished, over_for, over_of, over_by}
 use Rattle.kt_engine.specs.Logged.{KeepsSince}
 use Rattle.kt_engine.specs.Near.{AreNear}
 use Rattle.kt_engine.specs.Over.{Over, over_at, core_over, names_over}
-use Rattle.kt_engine.specs.Stored.{IsStored}
+use Rattle.kt_engine.specs.Stored.{IsOneOf, IsStored, over, files_at}
 use Rattle.kt_engine.specs.Visits.{IsVisit}
+use Rattle.kt_engine.proofs.Filed.{none_at, own_job}
 use Rattle.kt_engine.proofs.Near.{near_begun}
+use Rattle.kt_engine.proofs.Stored.{filed_now}
 use Rattle.kt_engine.proofs.Upkeeps.{jobs_kept, upkeep_keeps}
 use Rattle.kt_engine.proofs.Visiting.{shelf_visit}
 
@@ -58,6 +65,7 @@ module _ {L D C : Type 0} (log_tells : Bool) (log_seen : L → Files) (log_now :
           rests = inl free;
           jobs = jobs_kept (view.records ++ s.run) n (asked w job (upkeep_at n view.upkeep.passes)) view.upkeep upkeep has (λ j e. on_none (view.records ++ s.run) j (let one : job ≡ j = cc in sym (ap (λ (x : JobView). x.many) one) ∙ on)) s.jobs;
           holds = s.holds;
+          files = λ m one. subst (AreFiled tells (seen view.store.known) m.rowsets) (sym (none_at m.number upkeep view.tablet.files free)) (filed_now log_tells log_seen tells seen faults view s none m one);
           columns = s.columns;
           mark = s.mark;
           marked = s.marked;
@@ -80,87 +88,97 @@ module _ {L D C : Type 0} (log_tells : Bool) (log_seen : L → Files) (log_now :
     beside = refl;
   }
 
-  -- the pool has other cells
-  pool_both : (pool : Contents) → Both view → Both (record view { tablet = record view.tablet { pool = pool } })
-  pool_both pool is =
-      let e = is.0 in
-      let s = is.1 in (
-        record {
-          logged = record {
-            run = e.logged.run;
-            all = e.logged.all;
-            count = e.logged.count;
-            begins = e.logged.begins;
-            stands = e.logged.stands;
-            keeps = λ rules first h plan none. e.logged.keeps rules first (record { closed = h.closed; opens = h.opens; holds = h.holds }) plan none;
-            names = e.logged.names;
-            framed = e.logged.framed;
-            durable = e.logged.durable;
-            acknowledged = e.logged.acknowledged;
-          };
-          home = λ journal h.
-              let home = e.home journal h in
-              record { opens = home.opens; others = home.others; later = home.later; known = home.known; rose = home.rose; images = home.images };
-          others = e.others;
-          lent = e.lent;
-          whole = e.whole;
-          stops = e.stops;
-          ready = record { room = e.ready.room; apart = e.ready.apart; spelled = e.ready.spelled; shelved = e.ready.shelved; named = e.ready.named };
-          placed = e.placed;
-        },
-        record {
-          run = s.run;
-          all = s.all;
-          count = s.count;
-          stands = s.stands;
-          keeps = λ rules first h plan t super one. s.keeps rules first (record { closed = h.closed; opens = h.opens; holds = h.holds }) plan t super one;
-          below = s.below;
-          names_below = s.names_below;
-          near = s.near;
-          rests = s.rests;
-          jobs = s.jobs;
-          holds = s.holds;
-          columns = s.columns;
-          mark = s.mark;
-          marked = s.marked;
-          clock = s.clock;
-          later = s.later;
-          home = s.home;
-        },
+-- the files of a rowset and the cells are others
+files_keep : {L D C : Type 0} (log_tells : Bool) (log_seen : L → Files) (log_now : L → ℕ) (log_leaves : L → ℕ → Files → Type 0) (log_faults : L → ℕ) (view : EngineView L D C) (pool : Contents) (files : List HeldFiles)
+    → IsEngine log_tells log_seen log_now log_leaves log_faults view → IsEngine log_tells log_seen log_now log_leaves log_faults (record view { tablet = record view.tablet { pool = pool; files = files } })
+files_keep log_tells log_seen log_now log_leaves log_faults view pool files e = record {
+  logged = record {
+    run = e.logged.run;
+    all = e.logged.all;
+    count = e.logged.count;
+    begins = e.logged.begins;
+    stands = e.logged.stands;
+    keeps = λ rules first h plan none. e.logged.keeps rules first (record { closed = h.closed; opens = h.opens; holds = h.holds }) plan none;
+    names = e.logged.names;
+    framed = e.logged.framed;
+    durable = e.logged.durable;
+    acknowledged = e.logged.acknowledged;
+  };
+  home = λ journal h.
+      let home = e.home journal h in
+      record { opens = home.opens; others = home.others; later = home.later; known = home.known; rose = home.rose; images = home.images };
+  others = e.others;
+  lent = e.lent;
+  whole = e.whole;
+  stops = e.stops;
+  ready = record { room = e.ready.room; apart = e.ready.apart; spelled = e.ready.spelled; shelved = e.ready.shelved; named = e.ready.named };
+  placed = e.placed;
+}
+
+-- ---- its job is over: its files have taken the place of the old ones
+
+module _ {L D C : Type 0} (log_tells : Bool) (log_seen : L → Files) (log_now : L → ℕ) (log_leaves : L → ℕ → Files → Type 0) (log_faults : L → ℕ) (tells : Bool) (seen : D → Files) (faults : D → ℕ) (view : EngineView L D C) (n : ℕ) (job : JobView) (d : RowSetData)
+    (had : job_of n view.upkeep ≡ Some job) (may : MayFinishDeltas view n job d) (tablet : View C) (upkeep : UpkeepsView) (has : HasUpkeep n (job_finished job.want (upkeep_at n view.upkeep.passes)) view.upkeep upkeep)
+    (counted : (upkeep.begun ≡ view.upkeep.begun) × (upkeep.publishing ≡ None)) (put : tablet ≡ record view.tablet { pool = tablet.pool; files = with_files (held_in d) view.tablet.files }) where
+  -- it had no outputs beside, and each superblock from its own on is told of the files that were written
+  none_over : over view ≡ None
+  none_over = ap (λ (p : Option ℕ). over_by p view.upkeep) may.published.0 ∙ ap over_of had ∙ ap (λ (o : Option RowSetData). over_for o job) may.output
+
+  told : (m : Meta) → job.super ≤ m.number → files_at view m ≡ with_files (held_in d) view.tablet.files
+  told m up =
+      ap (λ (p : Option ℕ). files_over (job_at m.number (publisher_by p view.upkeep)) view.tablet.files) may.published.0
+      ∙ ap (λ (j : Option JobView). files_over (job_at m.number j) view.tablet.files) had
+      ∙ ap (λ (j : Option JobView). files_over j view.tablet.files) (own_job m.number job up)
+      ∙ ap (λ (o : Option RowSetData). files_by o job.held view.tablet.files) may.output
+
+  later : (m : Meta) → IsOneOf view.store m → job.super ≤ m.number
+  later m (inl e) = let k = ap (λ (x : Meta). x.number) e in let up = may.published.1 in omega arith
+  later m (inr lent) = absurd (let no : None ≡ Some m = sym may.published.2 ∙ lent in cc)
+
+  settled_stored : IsStored log_tells log_seen tells seen faults view → IsStored log_tells log_seen tells seen faults (record view { tablet = record view.tablet { pool = tablet.pool; files = with_files (held_in d) view.tablet.files }; upkeep = upkeep })
+  settled_stored s = record {
+    run = s.run;
+    all = s.all;
+    count = s.count;
+    stands = s.stands;
+    keeps = λ rules first h plan t super one.
+        subst (λ (o : Option Over). KeepsSince rules (core_over o view.tablet.frozen (core_from view first)) super (names_over o view.tablet.frozen view.tablet.names) view.tablet.notes view.records s.run view.log.known.count)
+        (ap (over_at one.meta.number) none_over ∙ sym (ap (λ (p : Option ℕ). over_at one.meta.number (over_by p upkeep)) counted.1))
+        (s.keeps rules first (record { closed = h.closed; opens = h.opens; holds = h.holds }) plan t super (record { meta = one.meta; one = one.one; held = one.held; hold = one.hold; is = one.is }));
+    below = s.below;
+    names_below = s.names_below;
+    near = subst (λ (k : ℕ). AreNear view.found view.tablet.names view.first_rowset view.store.next_rowset k s.run) (sym counted.0) s.near;
+    rests = inl counted.1;
+    jobs = jobs_kept (view.records ++ s.run) n (job_finished job.want (upkeep_at n view.upkeep.passes)) view.upkeep upkeep has (λ j e. absurd (let no : None ≡ Some j = e in cc)) s.jobs;
+    holds = s.holds;
+    files = λ m one. subst (AreFiled tells (seen view.store.known) m.rowsets) (told m (later m one) ∙ sym (none_at m.number upkeep (with_files (held_in d) view.tablet.files) counted.1)) (s.files m one);
+    columns = s.columns;
+    mark = s.mark;
+    marked = s.marked;
+    clock = s.clock;
+    later = s.later;
+    home = s.home;
+  }
+
+  pub settled_both : IsEngine log_tells log_seen log_now log_leaves log_faults view × IsStored log_tells log_seen tells seen faults view
+      → IsEngine log_tells log_seen log_now log_leaves log_faults (record view { tablet = tablet; upkeep = upkeep }) × IsStored log_tells log_seen tells seen faults (record view { tablet = tablet; upkeep = upkeep })
+  settled_both is =
+      subst (λ (t : View C). IsEngine log_tells log_seen log_now log_leaves log_faults (record view { tablet = t; upkeep = upkeep }) × IsStored log_tells log_seen tells seen faults (record view { tablet = t; upkeep = upkeep })) (sym put) (
+        upkeep_keeps log_tells log_seen log_now log_leaves log_faults (record view { tablet = record view.tablet { pool = tablet.pool; files = with_files (held_in d) view.tablet.files } }) upkeep (λ zero_. sym counted.0 ∙ zero_)
+            (files_keep log_tells log_seen log_now log_leaves log_faults view tablet.pool (with_files (held_in d) view.tablet.files) is.0),
+        settled_stored is.1,
       )
 
--- as a tablet has it
-pub pool_both_as : {L D C : Type 0} (log_tells : Bool) (log_seen : L → Files) (log_now : L → ℕ) (log_leaves : L → ℕ → Files → Type 0) (log_faults : L → ℕ) (tells : Bool) (seen : D → Files) (faults : D → ℕ) (view : EngineView L D C) (tablet : View C) → tablet ≡ record view.tablet { pool = tablet.pool }
-    → IsEngine log_tells log_seen log_now log_leaves log_faults view × IsStored log_tells log_seen tells seen faults view
-    → IsEngine log_tells log_seen log_now log_leaves log_faults (record view { tablet = tablet }) × IsStored log_tells log_seen tells seen faults (record view { tablet = tablet })
-pool_both_as {L} {D} {C} log_tells log_seen log_now log_leaves log_faults tells seen faults view tablet beside is =
-    subst (λ (t : View C). IsEngine log_tells log_seen log_now log_leaves log_faults (record view { tablet = t }) × IsStored log_tells log_seen tells seen faults (record view { tablet = t })) (sym beside)
-    (pool_both log_tells log_seen log_now log_leaves log_faults tells seen faults view view.upkeep tablet.pool is)
+  pub settled_visit : IsVisit n view (record view { tablet = tablet; upkeep = upkeep })
+  settled_visit = shelf_visit n (job_finished job.want (upkeep_at n view.upkeep.passes)) view tablet upkeep view.tablet.core.stores view.tablet.names view.tablet.frozen tablet.pool (with_files (held_in d) view.tablet.files) put has
 
--- its job is over, and its changes in memory have given their cells back
-finished_visit : {L D C : Type 0} (view : EngineView L D C) (tablet : View C) (upkeep : UpkeepsView) (n : ℕ) (u : UpkeepView) → HasUpkeep n u view.upkeep upkeep → tablet ≡ record view.tablet { pool = tablet.pool } → IsVisit n view (record view { tablet = tablet; upkeep = upkeep })
-finished_visit view tablet upkeep n u has beside = shelf_visit n u view tablet upkeep view.tablet.core.stores view.tablet.names view.tablet.frozen tablet.pool beside has
-
--- its job is over, and then its files took their place
-module _ {L D C : Type 0} (n : ℕ) (old mid new : EngineView L D C) (job : JobView) (had : job_of n old.upkeep ≡ Some job) (has : HasUpkeep n (job_finished job.want (upkeep_at n old.upkeep.passes)) old.upkeep mid.upkeep)
-    (counted : (mid.upkeep.begun ≡ old.upkeep.begun) × (mid.upkeep.publishing ≡ old.upkeep.publishing)) (ended : mid ≡ record old { upkeep = mid.upkeep }) (put : new ≡ record mid { tablet = record mid.tablet { pool = new.tablet.pool } }) where
-  upkeep_same : mid.upkeep ≡ new.upkeep
-  upkeep_same = sym (ap (λ (v : EngineView L D C). v.upkeep) put)
-
-  over_is : new ≡ record old { tablet = record old.tablet { pool = new.tablet.pool }; upkeep = new.upkeep }
-  over_is = put ∙ ap (λ (v : EngineView L D C). record v { tablet = record v.tablet { pool = new.tablet.pool } }) ended ∙ ap (λ (u : UpkeepsView). record old { tablet = record old.tablet { pool = new.tablet.pool }; upkeep = u }) upkeep_same
-
-  now_has : HasUpkeep n (job_finished job.want (upkeep_at n old.upkeep.passes)) old.upkeep new.upkeep
-  now_has = subst (HasUpkeep n (job_finished job.want (upkeep_at n old.upkeep.passes)) old.upkeep) upkeep_same has
-
-  pub over_visit : IsVisit n old new
-  over_visit = subst (IsVisit n old) (sym over_is) (finished_visit old (record old.tablet { pool = new.tablet.pool }) new.upkeep n (job_finished job.want (upkeep_at n old.upkeep.passes)) now_has refl)
-
-  pub over_finished : HasFinishedDeltas n old new
-  over_finished = record {
+  pub settled_finished : HasFinishedDeltas n view (record view { tablet = tablet; upkeep = upkeep })
+  settled_finished = record {
     job = job;
     had = had;
-    upkeep = now_has;
-    begun = subst (λ (u : UpkeepsView). (u.begun ≡ old.upkeep.begun) × (u.publishing ≡ old.upkeep.publishing)) upkeep_same counted;
-    beside = over_is;
+    output = d;
+    gave = may.output;
+    upkeep = has;
+    begun = counted;
+    beside = ap (λ (t : View C). record view { tablet = t; upkeep = upkeep }) put;
   }

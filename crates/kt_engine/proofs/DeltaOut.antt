@@ -1,5 +1,5 @@
 -- The superblock of a job on the files of a disk rowset goes out: it stands over the stores in memory, whose DeltaMemStore of that rowset is frozen.
-use Rattle.std.proofs.Common.{◌≡◌, ◌≢◌, ℕ, suc, ◌<◌, ◌≤◌, ◌+◌, ◌^◌, Bool, List, [], ◌++◌, length, map, Some, None, refl, sym, ap, ◌∙◌, subst, arith, inl, inr}
+use Rattle.std.proofs.Common.{◌≡◌, ◌≢◌, ℕ, suc, ◌<◌, ◌≤◌, ◌+◌, ◌^◌, Bool, List, [], ◌++◌, length, map, Option, Some, None, refl, sym, ap, ◌∙◌, subst, arith, inl, inr}
 use Rattle.std.specs.Prelude.{◌-◌, IsTrue}
 use Rattle.std.proofs.lemmas.List.{append-nil, length-map}
 use Rattle.kt_disk.specs.Disk.{Files}
@@ -41,24 +41,29 @@ use Rattle.kt_joblaws.proofs.Rewritten.{rewritten_stands}
 use Rattle.kt_joblaws.proofs.Standing.{stand_apart}
 use Rattle.kt_reopen.specs.Both.{super_in}
 use Rattle.kt_storeside.specs.Sides.{StoreView}
-use Rattle.kt_tablet.specs.Jobs.{dms_in, store_in_names, next_dms}
+use Rattle.kt_tablet.specs.Jobs.{dms_in, store_in_names, next_dms, with_files}
 use Rattle.kt_tablet.specs.Views.{View}
 use Rattle.kt_engine.specs.Memory.{name_of, by_name, named_writes, resident}
 use Rattle.kt_engine.specs.Logged.{PlanPasses, LogStands, UntoldFly, KeepsSince}
 use Rattle.kt_engine.specs.Over.{over_at}
 use Rattle.kt_engine.specs.Engines.{EngineView, IsContent, IsFound, IsEngine, core_from}
-use Rattle.kt_engine.specs.Jobs.{JobView}
+use Rattle.kt_engine.specs.declared.upkeep.Stage.TheVariants.{Publishing}
+use Rattle.kt_engine.specs.Files.{AreFiled, publisher, publisher_by, job_at, files_by, files_over}
+use Rattle.kt_engine.specs.Jobs.{JobView, UpkeepView, UpkeepsView, JobOn, job_of, over_for, over_of, over_by, over_in}
+use Rattle.kt_engine.specs.JobSteps.{IsLent}
 use Rattle.kt_engine.specs.DeltaJobs.{MayPublishDeltas, delta_meta, lent_deltas}
-use Rattle.kt_engine.specs.Near.{first_number, most_deltas}
+use Rattle.kt_engine.specs.Near.{AreNear, first_number, most_deltas}
 use Rattle.kt_engine.specs.Stored.{IsOneOf, IsMarkOf, IsSuperOf, IsStored, over, core_at, names_at, numbers_of, next_given}
 use Rattle.kt_engine.proofs.Devices.{store_keeps}
 use Rattle.kt_engine.proofs.DeltaFiles.{held_in_place, hold_in_place, rowsets_in_place, told_with, tells_it, hist_told, told_fits, told_rises, told_fit}
 use Rattle.kt_engine.proofs.DeltaNames.{names_same, stores_same, first_same, shelved_same, spelled_next, named_next, later_named, rowset_named, deltas_next, deltas_at, alone_there, there_passes, near_next, rowset_below}
+use Rattle.kt_engine.proofs.Filed.{filed_in_place, before_job, own_job}
 use Rattle.kt_engine.proofs.Flushed.{each_told, hists_named}
 use Rattle.kt_engine.proofs.Marks.{of_each}
 use Rattle.kt_engine.proofs.Rising.{given_same}
 use Rattle.kt_engine.proofs.StoreEvents.{past_is, stands_now, ends}
-use Rattle.kt_engine.proofs.Stored.{to_plain, of_plain, plain}
+use Rattle.kt_engine.proofs.Stored.{to_plain, of_plain, plain, filed_now}
+use Rattle.kt_engine.proofs.Upkeeps.{jobs_kept, upkeep_keeps}
 
 -- ---- the same stores under other names
 
@@ -163,9 +168,12 @@ module _ (rules : Rules) (core : Core) (super : Super) (names : List Target) (no
 module _ {L D C : Type 0} (log_tells : Bool) (log_seen : L → Files) (tells : Bool) (seen : D → Files) (now : D → ℕ) (leaves : D → ℕ → Files → Type 0) (faults : D → ℕ) (view : EngineView L D C) (is : IsStored log_tells log_seen tells seen faults view)
     (n : ℕ) (job : JobView) (d : RowSetData) (may : MayPublishDeltas tells seen now leaves view job d) (rise : AreRising (keys_in d.base.set.value.rows)) (few : job.dms < most_deltas view.first_rowset) (fits : job.dms + 1 < 2 ^ 64)
     (not_last : view.store.next_rowset ≢ 2 ^ 64 - 1) (settled : (view.log.out ≡ []) × (view.log.queued ≡ [])) (none : view.upkeep.publishing ≡ None) (stands : (first : Past) → IsFound view first → Stands (core_from view first))
-    (long : length view.tablet.names ≡ length view.tablet.core.stores) where
+    (long : length view.tablet.names ≡ length view.tablet.core.stores) (upkeep : UpkeepsView) (had : job_of n view.upkeep ≡ Some job) (goes : IsLent n job (view.store.meta.number + 1) view.upkeep upkeep) where
   abbrev meta : Meta
   meta = delta_meta view job.dms d
+
+  abbrev lent_job : JobView
+  lent_job = record job { stage = Publishing; super = view.store.meta.number + 1 }
 
   abbrev entry : MetaRowset
   entry = meta_in job.dms d
@@ -180,7 +188,14 @@ module _ {L D C : Type 0} (log_tells : Bool) (log_seen : L → Files) (tells : B
   later = next_dms d.number names
 
   abbrev went : EngineView L D C
-  went = lent_deltas view n d.number meta
+  went = lent_deltas view n d.number meta upkeep
+
+  -- it publishes from now on, and has no output of its own: the stores stay
+  published_by : publisher upkeep ≡ Some lent_job
+  published_by = ap (λ (p : Option ℕ). publisher_by p upkeep) goes.begun.1 ∙ ap (λ (u : UpkeepView). u.job) goes.upkeep.own
+
+  none_over : over_in upkeep ≡ None
+  none_over = ap (λ (p : Option ℕ). over_by p upkeep) goes.begun.1 ∙ ap over_of (ap (λ (u : UpkeepView). u.job) goes.upkeep.own) ∙ ap (λ (o : Option RowSetData). over_for o lent_job) may.output
 
   all : view.log.known.count ≡ length (view.records ++ is.run)
   all = let k = is.count in let o = ap (λ (l : List Entry). length (l ++ view.log.queued)) settled.0 in let p = ap (λ (l : List Entry). length l) settled.1 in omega arith
@@ -226,7 +241,7 @@ module _ {L D C : Type 0} (log_tells : Bool) (log_seen : L → Files) (tells : B
 
     went_keeps : (super : Super) → (one : IsSuperOf seen went.store super) → KeepsSince rules (core_at went one.meta core) super (names_at went one.meta) view.tablet.notes view.records is.run view.log.known.count
     went_keeps super one =
-        of_plain rules core super later view.tablet.notes view.records is.run view.log.known.count view.tablet.frozen (over_at one.meta.number (over went)) (plain went none one.meta) (
+        of_plain rules core super later view.tablet.notes view.records is.run view.log.known.count view.tablet.frozen (over_at one.meta.number (over went)) (ap (over_at one.meta.number) none_over) (
         elim one.one [
           | inl was ↦ next_names_since rules core super names view.tablet.notes view.records is.run view.log.known.count d.number job.dms may.all.name fits (kept super one.meta (inl was) one.held one.hold one.is)
           | inr lent ↦ (
@@ -250,10 +265,11 @@ module _ {L D C : Type 0} (log_tells : Bool) (log_seen : L → Files) (tells : B
     below = subst (λ (a : ℕ). RecordsBelow (record { next = next_given view.store.next_rowset; active = a; deltas = [] }) (view.records ++ is.run)) (sym active_same) is.below;
     names_below = subst (λ (a : ℕ). StoresBelow (record { next = next_given view.store.next_rowset; active = a; deltas = [] }) (map name_of later)) (sym active_same)
         (subst (λ (l : List Name). StoresBelow (numbers_of view) l) (sym (names_same d.number names)) is.names_below);
-    near = near_next view.found view.first_rowset view.store.next_rowset view.upkeep.begun d.number job.dms names is.run may.all.name
-        (let low = rowset_below (numbers_of view) d.number job.dms names may.all.name is.names_below in let same = given_same view.store.next_rowset not_last in omega arith) few is.near;
-    rests = inl none;
-    jobs = is.jobs;
+    near = subst (λ (k : ℕ). AreNear view.found later view.first_rowset view.store.next_rowset k is.run) (sym goes.begun.0)
+        (near_next view.found view.first_rowset view.store.next_rowset view.upkeep.begun d.number job.dms names is.run may.all.name
+        (let low = rowset_below (numbers_of view) d.number job.dms names may.all.name is.names_below in let same = given_same view.store.next_rowset not_last in omega arith) few is.near);
+    rests = inr may.calm;
+    jobs = jobs_kept (view.records ++ is.run) n _ view.upkeep upkeep goes.upkeep (λ own same. still_on own same) is.jobs;
     holds = λ t m one. elim one [
       | inl was ↦ is.holds t m (inl was)
       | inr lent ↦ (
@@ -263,6 +279,7 @@ module _ {L D C : Type 0} (log_tells : Bool) (log_seen : L → Files) (tells : B
           (held_in_place entry (held_in d) view.store.meta.rowsets found.0, hold_in_place (seen view.store.known) entry (held_in d) view.store.meta.rowsets found.0 (may.hold t) found.1)
           )
     ];
+    files = λ m one. subst (AreFiled tells (seen view.store.known) m.rowsets) (sym (ap (λ (o : Option JobView). files_over (job_at m.number o) view.tablet.files) published_by)) (files_told m one);
     columns = λ m lent. let same : m ≡ meta = (let e : Some meta ≡ Some m = lent in cc) in ap (λ (o : Meta). o.schema) same;
     mark = is.mark;
     marked = of_each (λ (o : Meta). IsMarkOf view.tablet.mark view.tablet.core.trail o.a) went.store (is.marked view.store.meta (inl refl)) (λ m lent. let same : m ≡ meta = (let e : Some meta ≡ Some m = lent in cc) in subst (λ (o : Meta). IsMarkOf view.tablet.mark view.tablet.core.trail o.a) (sym same) is.mark);
@@ -270,6 +287,28 @@ module _ {L D C : Type 0} (log_tells : Bool) (log_seen : L → Files) (tells : B
     later = is.later;
     home = λ disk at. absurd (let no : None ≡ Some disk = at in cc);
   }
+    where
+      -- the published superblock is told of the files that memory has, and its own of those that were written
+      files_told : (m : Meta) → IsOneOf went.store m → AreFiled tells (seen view.store.known) m.rowsets (files_over (job_at m.number (Some lent_job)) view.tablet.files)
+      files_told m (inl was) =
+          let lower : m.number < view.store.meta.number + 1 = (let e = ap (λ (o : Meta). o.number) was in omega arith) in
+          subst (AreFiled tells (seen view.store.known) m.rowsets) (sym (ap (λ (o : Option JobView). files_over o view.tablet.files) (before_job m.number lent_job lower)))
+          (filed_now log_tells log_seen tells seen faults view is none m (inl was))
+      files_told m (inr lent) =
+          let same : m ≡ meta = (let e : Some meta ≡ Some m = lent in cc) in
+          let up : view.store.meta.number + 1 ≤ m.number = (let e = ap (λ (o : Meta). o.number) same in omega arith) in
+          let now : AreFiled tells (seen view.store.known) meta.rowsets (with_files (held_in d) view.tablet.files) =
+          filed_in_place tells (seen view.store.known) view.store.meta.rowsets view.tablet.files job.dms d may.hold (filed_now log_tells log_seen tells seen faults view is none view.store.meta (inl refl)) in
+          subst (AreFiled tells (seen view.store.known) m.rowsets)
+          (sym (ap (λ (o : Option JobView). files_over o view.tablet.files) (own_job m.number lent_job up) ∙ ap (λ (o : Option RowSetData). files_by o job.held view.tablet.files) may.output))
+          (subst (λ (o : Meta). AreFiled tells (seen view.store.known) o.rowsets (with_files (held_in d) view.tablet.files)) (sym same) now)
+
+      -- its job is on as it was
+      still_on : (own : JobView) → Some lent_job ≡ Some own → JobOn (view.records ++ is.run) own
+      still_on own same =
+          let on = is.jobs n job had in
+          let e : lent_job ≡ own = cc in
+          subst (λ (j : JobView). JobOn (view.records ++ is.run) j) e (record { many = on.many; names = on.names })
 
 -- ---- the engine with its other names
 
@@ -303,27 +342,29 @@ next_names_keeps tells seen now leaves faults view r n some at fits is = record 
 pub deltas_out : {L D C : Type 0} (log_tells : Bool) (log_seen : L → Files) (log_now : L → ℕ) (log_leaves : L → ℕ → Files → Type 0) (log_faults : L → ℕ) (tells : Bool) (seen : D → Files) (now : D → ℕ) (leaves : D → ℕ → Files → Type 0) (faults : D → ℕ) (view : EngineView L D C)
     → IsEngine log_tells log_seen log_now log_leaves log_faults view × IsStored log_tells log_seen tells seen faults view → (n : ℕ) (job : JobView) (d : RowSetData) (may : MayPublishDeltas tells seen now leaves view job d) → AreRising (keys_in d.base.set.value.rows)
     → job.dms < most_deltas view.first_rowset → job.dms + 1 < 2 ^ 64 → view.store.next_rowset ≢ 2 ^ 64 - 1 → (view.log.out ≡ []) × (view.log.queued ≡ []) → view.upkeep.publishing ≡ None → ((first : Past) → IsFound view first → Stands (core_from view first))
-    → length view.tablet.names ≡ length view.tablet.core.stores → (tablet : View C) (store : StoreView D) → tablet ≡ record view.tablet { names = next_dms d.number view.tablet.names }
-    → store ≡ record view.store { home = None; holder = Some n; lent = Some (delta_meta view job.dms d) }
-    → IsEngine log_tells log_seen log_now log_leaves log_faults (record view { tablet = tablet; store = store }) × IsStored log_tells log_seen tells seen faults (record view { tablet = tablet; store = store })
-deltas_out {L} {D} {C} log_tells log_seen log_now log_leaves log_faults tells seen now leaves faults view is n job d may rise few fits not_last settled none stands long tablet store is_tablet is_store =
-    subst (λ (t : View C). IsEngine log_tells log_seen log_now log_leaves log_faults (record view { tablet = t; store = store }) × IsStored log_tells log_seen tells seen faults (record view { tablet = t; store = store })) (sym is_tablet)
-    (subst (λ (s : StoreView D). IsEngine log_tells log_seen log_now log_leaves log_faults (record view { tablet = record view.tablet { names = next_dms d.number view.tablet.names }; store = s })
-    × IsStored log_tells log_seen tells seen faults (record view { tablet = record view.tablet { names = next_dms d.number view.tablet.names }; store = s })) (sym is_store) (
-      store_keeps log_tells log_seen log_now log_leaves log_faults (record view { tablet = record view.tablet { names = next_dms d.number view.tablet.names } }) (record view.store { home = None; holder = Some n; lent = Some (delta_meta view job.dms d) }) refl
-          (next_names_keeps log_tells log_seen log_now log_leaves log_faults view d.number job.dms may.begun may.all.name fits is.0),
-      deltas_lent log_tells log_seen tells seen now leaves faults view is.1 n job d may rise few fits not_last settled none stands long,
+    → length view.tablet.names ≡ length view.tablet.core.stores → (upkeep : UpkeepsView) → job_of n view.upkeep ≡ Some job → IsLent n job (view.store.meta.number + 1) view.upkeep upkeep → (tablet : View C) (store : StoreView D)
+    → tablet ≡ record view.tablet { names = next_dms d.number view.tablet.names } → store ≡ record view.store { home = None; holder = Some n; lent = Some (delta_meta view job.dms d) }
+    → IsEngine log_tells log_seen log_now log_leaves log_faults (record view { tablet = tablet; store = store; upkeep = upkeep }) × IsStored log_tells log_seen tells seen faults (record view { tablet = tablet; store = store; upkeep = upkeep })
+deltas_out {L} {D} {C} log_tells log_seen log_now log_leaves log_faults tells seen now leaves faults view is n job d may rise few fits not_last settled none stands long upkeep had goes tablet store is_tablet is_store =
+    subst (λ (t : View C). IsEngine log_tells log_seen log_now log_leaves log_faults (record view { tablet = t; store = store; upkeep = upkeep }) × IsStored log_tells log_seen tells seen faults (record view { tablet = t; store = store; upkeep = upkeep })) (sym is_tablet)
+    (subst (λ (s : StoreView D). IsEngine log_tells log_seen log_now log_leaves log_faults (record view { tablet = record view.tablet { names = next_dms d.number view.tablet.names }; store = s; upkeep = upkeep })
+    × IsStored log_tells log_seen tells seen faults (record view { tablet = record view.tablet { names = next_dms d.number view.tablet.names }; store = s; upkeep = upkeep })) (sym is_store) (
+      upkeep_keeps log_tells log_seen log_now log_leaves log_faults
+          (record view { tablet = record view.tablet { names = next_dms d.number view.tablet.names }; store = record view.store { home = None; holder = Some n; lent = Some (delta_meta view job.dms d) } }) upkeep (λ zero_. sym goes.begun.0 ∙ zero_)
+          (store_keeps log_tells log_seen log_now log_leaves log_faults (record view { tablet = record view.tablet { names = next_dms d.number view.tablet.names } }) (record view.store { home = None; holder = Some n; lent = Some (delta_meta view job.dms d) }) refl
+          (next_names_keeps log_tells log_seen log_now log_leaves log_faults view d.number job.dms may.begun may.all.name fits is.0)),
+      deltas_lent log_tells log_seen tells seen now leaves faults view is.1 n job d may rise few fits not_last settled none stands long upkeep had goes,
     ))
 
 -- the same of the number and the superblock as they are handed on
 pub deltas_out_as : {L D C : Type 0} (log_tells : Bool) (log_seen : L → Files) (log_now : L → ℕ) (log_leaves : L → ℕ → Files → Type 0) (log_faults : L → ℕ) (tells : Bool) (seen : D → Files) (now : D → ℕ) (leaves : D → ℕ → Files → Type 0) (faults : D → ℕ) (view : EngineView L D C)
     → IsEngine log_tells log_seen log_now log_leaves log_faults view × IsStored log_tells log_seen tells seen faults view → (n : ℕ) (job : JobView) (d : RowSetData) (may : MayPublishDeltas tells seen now leaves view job d) (r : ℕ) (m : Meta) → m ≡ delta_meta view job.dms d → r ≡ d.number
     → job.dms < most_deltas view.first_rowset → AreRising (keys_in d.base.set.value.rows) → (k : ℕ) × (dms_in r view.tablet.names ≡ Some k) × (k + 1 < 2 ^ 64) → view.store.next_rowset ≢ 2 ^ 64 - 1 → (view.log.out ≡ []) × (view.log.queued ≡ []) → view.upkeep.publishing ≡ None
-    → ((first : Past) → IsFound view first → Stands (core_from view first)) → length view.tablet.names ≡ length view.tablet.core.stores → (tablet : View C) (store : StoreView D) → tablet ≡ record view.tablet { names = next_dms r view.tablet.names }
-    → store ≡ record view.store { home = None; holder = Some n; lent = Some m }
-    → IsEngine log_tells log_seen log_now log_leaves log_faults (record view { tablet = tablet; store = store }) × IsStored log_tells log_seen tells seen faults (record view { tablet = tablet; store = store })
-deltas_out_as {L} {D} {C} log_tells log_seen log_now log_leaves log_faults tells seen now leaves faults view is n job d may r m meta_is number_is few rise there not_last settled none stands long tablet store is_tablet is_store =
+    → ((first : Past) → IsFound view first → Stands (core_from view first)) → length view.tablet.names ≡ length view.tablet.core.stores → (upkeep : UpkeepsView) → job_of n view.upkeep ≡ Some job → IsLent n job m.number view.upkeep upkeep → (tablet : View C) (store : StoreView D)
+    → tablet ≡ record view.tablet { names = next_dms r view.tablet.names } → store ≡ record view.store { home = None; holder = Some n; lent = Some m }
+    → IsEngine log_tells log_seen log_now log_leaves log_faults (record view { tablet = tablet; store = store; upkeep = upkeep }) × IsStored log_tells log_seen tells seen faults (record view { tablet = tablet; store = store; upkeep = upkeep })
+deltas_out_as {L} {D} {C} log_tells log_seen log_now log_leaves log_faults tells seen now leaves faults view is n job d may r m meta_is number_is few rise there not_last settled none stands long upkeep had goes tablet store is_tablet is_store =
     let here : dms_in d.number view.tablet.names ≡ Some there.0 = subst (λ (k : ℕ). dms_in k view.tablet.names ≡ Some there.0) number_is there.1 in
     let same : there.0 ≡ job.dms = (let other = may.all.name in cc) in
-    deltas_out log_tells log_seen log_now log_leaves log_faults tells seen now leaves faults view is n job d may rise few (subst (λ (k : ℕ). k + 1 < 2 ^ 64) same there.2) not_last settled none stands long tablet store
+    deltas_out log_tells log_seen log_now log_leaves log_faults tells seen now leaves faults view is n job d may rise few (subst (λ (k : ℕ). k + 1 < 2 ^ 64) same there.2) not_last settled none stands long upkeep had (subst (λ (k : ℕ). IsLent n job k view.upkeep upkeep) (ap (λ (x : Meta). x.number) meta_is) goes) tablet store
     (is_tablet ∙ ap (λ (k : ℕ). record view.tablet { names = next_dms k view.tablet.names }) number_is) (is_store ∙ ap (λ (x : Meta). record view.store { home = None; holder = Some n; lent = Some x }) meta_is)

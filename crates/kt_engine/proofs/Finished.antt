@@ -9,6 +9,7 @@ use Rattle.kt_records.specs.Rules.{TargetFits}
 use Rattle.kt_pool.specs.Contents.{Contents}
 use Rattle.kt_histlaws.specs.Core.{Core}
 use Rattle.kt_rowfiles.specs.Files.{DiskRowset}
+use Rattle.kt_diskrowset.specs.Rowset.{HeldFiles}
 use Rattle.kt_super.specs.declared.meta.Meta.{Meta}
 use Rattle.kt_content.specs.RunEvents.{Numbers, RowsetsBelow, StoresBelow}
 use Rattle.kt_content.specs.Flushes.{before}
@@ -19,8 +20,10 @@ use Rattle.kt_engine.specs.Over.{Over, bare_store, first_name, over_at, core_ove
 use Rattle.kt_engine.specs.Logged.{KeepsSince}
 use Rattle.kt_engine.specs.Engines.{EngineView, IsEngine, core_from}
 use Rattle.kt_engine.specs.Near.{AreNear, first_number}
-use Rattle.kt_engine.specs.Stored.{IsOneOf, IsStored, over, next_given, numbers_of}
+use Rattle.kt_engine.specs.Stored.{IsOneOf, IsStored, over, files_at, next_given, numbers_of}
 use Rattle.kt_engine.specs.Jobs.{JobView, UpkeepsView, JobOn, job_of}
+use Rattle.kt_engine.specs.Files.{AreFiled}
+use Rattle.kt_engine.proofs.Filed.{none_at}
 use Rattle.kt_engine.proofs.Jobs.{finished_since}
 use Rattle.kt_engine.proofs.Near.{near_over}
 use Rattle.kt_engine.proofs.Lists.{all_cons, all_head, all_tail}
@@ -62,15 +65,18 @@ own_below : (next last active : ℕ) (outputs : List DiskRowset) → RowsetsBelo
 own_below next last active [] own = tt
 own_below next last active (d ∷ outputs) own = ((let low = own.0 in let up = given_up next in omega arith), own_below next last active outputs own.1)
 
-module _ {L D C : Type 0} (view : EngineView L D C) (tablet : View C) (upkeep : UpkeepsView) (outputs : List DiskRowset) (h : HasChangedOver view.tablet tablet (map bare_store outputs) (map first_name outputs)) where
+module _ {L D C : Type 0} (view : EngineView L D C) (tablet : View C) (upkeep : UpkeepsView) (outputs : List DiskRowset) (held : List HeldFiles) (h : HasChangedOver view.tablet tablet (map bare_store outputs) (map first_name outputs) held) where
   abbrev pub over_core : Core
   over_core = record view.tablet.core { stores = over_to view.tablet.frozen (map bare_store outputs) view.tablet.core.stores }
 
   abbrev pub over_tablet : Contents → View C
-  over_tablet pool = record view.tablet { core = over_core; names = over_to view.tablet.frozen (map first_name outputs) view.tablet.names; frozen = 0; pool = pool }
+  over_tablet pool = record view.tablet { core = over_core; names = over_to view.tablet.frozen (map first_name outputs) view.tablet.names; frozen = 0; pool = pool; files = held ++ view.tablet.files }
 
   pub is_over : tablet ≡ over_tablet tablet.pool
-  is_over = h.beside ∙ ap (λ (k : Core). record view.tablet { core = k; names = tablet.names; frozen = 0; pool = tablet.pool }) h.stores ∙ ap (λ (ns : List Target). record view.tablet { core = over_core; names = ns; frozen = 0; pool = tablet.pool }) h.names_are
+  is_over =
+      h.beside ∙ ap (λ (k : Core). record view.tablet { core = k; names = tablet.names; frozen = 0; pool = tablet.pool; files = tablet.files }) h.stores
+      ∙ ap (λ (ns : List Target). record view.tablet { core = over_core; names = ns; frozen = 0; pool = tablet.pool; files = tablet.files }) h.names_are
+      ∙ ap (λ (fs : List HeldFiles). record view.tablet { core = over_core; names = over_to view.tablet.frozen (map first_name outputs) view.tablet.names; frozen = 0; pool = tablet.pool; files = fs }) h.files_are
 
   pub finished_keeps : (log_tells : Bool) (log_seen : L → Files) (log_now : L → ℕ) (log_leaves : L → ℕ → Files → Type 0) (log_faults : L → ℕ) (last : ℕ) → upkeep.begun ≢ 0 → view.store.next_rowset < 2 ^ 64 → RowsetsBelow (before view.store.next_rowset last) outputs
       → IsEngine log_tells log_seen log_now log_leaves log_faults view → IsEngine log_tells log_seen log_now log_leaves log_faults (record view { tablet = tablet; upkeep = upkeep })
@@ -101,9 +107,9 @@ module _ {L D C : Type 0} (view : EngineView L D C) (tablet : View C) (upkeep : 
 
   -- each superblock is told of the stores that stand now
   pub finished_stored : (log_tells : Bool) (log_seen : L → Files) (tells : Bool) (seen : D → Files) (faults : D → ℕ) (is : IsStored log_tells log_seen tells seen faults view) (o : Over) (last : ℕ) → over view ≡ Some o → o.outputs ≡ outputs → o.number ≤ view.store.meta.number → view.store.lent ≡ None
-      → upkeep.publishing ≡ None → upkeep.begun ≡ view.upkeep.begun → RowsetsBelow (before view.store.next_rowset last) outputs → ((n : ℕ) (job : JobView) → job_of n upkeep ≡ Some job → JobOn (view.records ++ is.run) job)
+      → ((m : Meta) → o.number ≤ m.number → files_at view m ≡ held ++ view.tablet.files) → upkeep.publishing ≡ None → upkeep.begun ≡ view.upkeep.begun → RowsetsBelow (before view.store.next_rowset last) outputs → ((n : ℕ) (job : JobView) → job_of n upkeep ≡ Some job → JobOn (view.records ++ is.run) job)
       → IsStored log_tells log_seen tells seen faults (record view { tablet = tablet; upkeep = upkeep })
-  finished_stored log_tells log_seen tells seen faults is o last over_is same up none still counted own jobs =
+  finished_stored log_tells log_seen tells seen faults is o last over_is same up none told still counted own jobs =
       subst (λ (t : View C). IsStored log_tells log_seen tells seen faults (record view { tablet = t; upkeep = upkeep })) (sym is_over) (record {
         run = is.run;
         all = is.all;
@@ -124,6 +130,7 @@ module _ {L D C : Type 0} (view : EngineView L D C) (tablet : View C) (upkeep : 
         rests = inl still;
         jobs = jobs;
         holds = is.holds;
+        files = λ m one. subst (AreFiled tells (seen view.store.known) m.rowsets) (told m (later m one) ∙ sym (none_at m.number upkeep (held ++ view.tablet.files) still)) (is.files m one);
         columns = is.columns;
         mark = is.mark;
         marked = is.marked;

@@ -46,14 +46,15 @@ module _ {L D C : Type 0} (view : EngineView L D C) (tablet : View C) (upkeep : 
       })
 
   -- the flush has begun
-  pub begun_is : (n k : ℕ) (w : Want) (job : JobView) → job.want ≡ w → job.stage ≡ stage.Begun → k ≡ job.number → job.number ≡ view.upkeep.begun + 1 → (upkeep.begun ≡ job.number) × (upkeep.publishing ≡ None) → (job.first_rowset ≡ view.store.next_rowset) × (job.first_file ≡ view.store.next_file)
+  pub begun_is : (n k : ℕ) (w : Want) (job : JobView) → job.want ≡ w → job.stage ≡ stage.Begun → job.output ≡ None → k ≡ job.number → job.number ≡ view.upkeep.begun + 1 → (upkeep.begun ≡ job.number) × (upkeep.publishing ≡ None) → (job.first_rowset ≡ view.store.next_rowset) × (job.first_file ≡ view.store.next_file)
       → HasUpkeep n (asked w job (upkeep_at n view.upkeep.passes)) view.upkeep upkeep → AreShelved (suc view.tablet.frozen) (2 ^ 64) view.tablet.names → StoresBelow (numbers_of view) (map name_of view.tablet.names) → view.store.next_rowset ≢ 2 ^ 64 - 1 → view.store.meta.next_rowset ≤ view.store.next_rowset
       → job.last_mem ≡ h.number → job.many ≡ view.log.known.count + length (view.log.out ++ view.log.queued) → HasBegunJob view (record view { tablet = tablet; upkeep = upkeep }) n w k
-  begun_is n k w job want_is stage_is same next counted numbers has shelved below not_last side last many = record {
+  begun_is n k w job want_is stage_is output same next counted numbers has shelved below not_last side last many = record {
     job = job;
     number = (sym same, same ∙ next ∙ next_number view.upkeep.begun, counted.0 ∙ sym same, counted.1);
     want_is = want_is;
     stage_is = stage_is;
+    output = output;
     numbers = numbers;
     upkeep = has;
     tablet = h;

@@ -1,6 +1,6 @@
 -- What passes have of maintenance changes, and the engine and its store stand.
-use Rattle.std.specs.Prelude.{◌⊎◌, is_some}
-use Rattle.std.proofs.Common.{◌≡◌, ◌≢◌, ◌<◌, ◌+◌, ◌-◌, ◌^◌, ℕ, suc, Bool, true, false, List, [], ◌++◌, length, Option, Some, None, refl, sym, ap, ◌∙◌, subst, inl, inr}
+use Rattle.std.specs.Prelude.{◌⊎◌, is_some, nat_le}
+use Rattle.std.proofs.Common.{◌≡◌, ◌≢◌, ◌<◌, ◌+◌, ◌-◌, ◌^◌, ℕ, suc, Bool, true, false, List, [], ◌++◌, length, Option, Some, None, refl, sym, ap, ◌∙◌, subst, cond, inl, inr}
 use Rattle.std.proofs.lemmas.Bool.{cases_eq}
 use Rattle.kt_disk.specs.Disk.{Files}
 use Rattle.kt_records.specs.declared.entry.Entry.{Entry}
@@ -9,14 +9,19 @@ use Rattle.kt_pick.specs.declared.rules.Want.{Want}
 use Rattle.kt_engine.specs.Engines.{EngineView, IsEngine}
 use Rattle.kt_super.specs.declared.meta.Meta.{Meta}
 use Rattle.kt_storeside.specs.Sides.{StoreView, published_in}
+use Rattle.kt_diskrowset.specs.declared.data.RowSetData.{RowSetData}
+use Rattle.kt_diskrowset.specs.Rowset.{HeldFiles}
 use Rattle.kt_files.specs.Content.{rowsets_in}
-use Rattle.kt_engine.specs.Over.{Over, over_at}
-use Rattle.kt_engine.specs.Jobs.{JobView, UpkeepView, UpkeepsView, HasUpkeep, JobOn, job_of, upkeep_at, asked, asked_for_nothing, job_abandoned, over_of, over_by, over_in}
+use Rattle.kt_engine.specs.declared.upkeep.Stage.{Stage}
+use Rattle.kt_engine.specs.Over.{over_at}
+use Rattle.kt_engine.specs.Files.{publisher, publisher_by, job_at, files_over}
+use Rattle.kt_engine.specs.Jobs.{JobView, UpkeepView, UpkeepsView, HasUpkeep, JobOn, job_of, upkeep_at, asked, asked_for_nothing, job_abandoned, over_for, over_of, over_by, over_in}
 use Rattle.kt_engine.specs.Stored.{IsOneOf, IsStored}
 use Rattle.kt_engine.specs.Rounds.{round_of}
 use Rattle.kt_engine.specs.JobSteps.{stage_home, publishing_home}
 use Rattle.kt_tablet.specs.Views.{View}
 use Rattle.kt_tablet.specs.Jobs.{HasFrozen}
+use Rattle.kt_engine.proofs.Filed.{none_at, before_job}
 use Rattle.kt_engine.proofs.Jobs.{before_over, frozen_keeps, frozen_stored, job_begins}
 use Rattle.kt_engine.proofs.Stored.{upkeep_stored}
 use Rattle.kt_engine.proofs.Upkeeps.{jobs_kept, upkeep_keeps}
@@ -34,6 +39,30 @@ over_same old new same publishing = ap (λ (p : Option ℕ). over_by p new) publ
     by : (p : Option ℕ) → over_by p new ≡ over_by p old
     by None = refl
     by (Some k) = ap over_of (same k)
+
+publisher_same : (old new : UpkeepsView) → ((k : ℕ) → job_of k new ≡ job_of k old) → new.publishing ≡ old.publishing → publisher new ≡ publisher old
+publisher_same old new same publishing = ap (λ (p : Option ℕ). publisher_by p new) publishing ∙ by old.publishing
+  where
+    by : (p : Option ℕ) → publisher_by p new ≡ publisher_by p old
+    by None = refl
+    by (Some k) = same k
+
+-- the job that publishes has come further, and gives the same
+over_further : (job : JobView) (s : Stage) (o : Option RowSetData) → over_for o (record job { stage = s }) ≡ over_for o job
+over_further job s None = refl
+over_further job s (Some d) = refl
+
+files_further : (job : JobView) (s : Stage) (number : ℕ) (files : List HeldFiles) → files_over (job_at number (Some (record job { stage = s }))) files ≡ files_over (job_at number (Some job)) files
+files_further job s number files = by (nat_le job.super number)
+  where
+    by : (b : Bool) → files_over (cond b (Some (record job { stage = s })) None) files ≡ files_over (cond b (Some job) None) files
+    by true = refl
+    by false = refl
+
+-- a superblock before its own
+over_before : (job : JobView) (number : ℕ) (o : Option RowSetData) → number < job.super → over_at number (over_for o job) ≡ None
+over_before job number None low = before_over number job.super (rowsets_in job.metas job.held) low
+over_before job number (Some d) low = refl
 
 -- ---- a superblock comes home
 
@@ -59,6 +88,7 @@ module _ {L D C : Type 0} (log_tells : Bool) (log_seen : L → Files) (log_now :
       let jobs = jobs_same n u view.upkeep upkeep has own in (
         upkeep_keeps log_tells log_seen log_now log_leaves log_faults view upkeep (λ none. sym same.0 ∙ none) is.0,
         upkeep_stored log_tells log_seen tells seen faults view is.1 upkeep same.0 (λ m one. ap (over_at m.number) (over_same view.upkeep upkeep jobs same.1))
+            (λ m one. ap (λ (o : Option JobView). files_over (job_at m.number o) view.tablet.files) (publisher_same view.upkeep upkeep jobs same.1))
             (elim is.1.rests [ inl none ↦ inl (same.1 ∙ none) | inr calm ↦ inr calm ])
             (λ k job at. is.1.jobs k job (sym (jobs k) ∙ at)),
       )
@@ -82,6 +112,7 @@ module _ {L D C : Type 0} (log_tells : Bool) (log_seen : L → Files) (log_now :
     upkeep_keeps log_tells log_seen log_now log_leaves log_faults view upkeep (λ zero_. sym same.0 ∙ zero_) is.0,
     upkeep_stored log_tells log_seen tells seen faults view is.1 upkeep same.0
         (λ m one. ap (λ (p : Option ℕ). over_at m.number (over_by p upkeep)) (same.1 ∙ none) ∙ sym (ap (λ (p : Option ℕ). over_at m.number (over_by p view.upkeep)) none))
+        (λ m one. none_at m.number upkeep view.tablet.files (same.1 ∙ none) ∙ sym (none_at m.number view.upkeep view.tablet.files none))
         (inl (same.1 ∙ none)) (jobs_kept (view.records ++ is.1.run) n u view.upkeep upkeep has own is.1.jobs),
   )
 
@@ -97,24 +128,34 @@ module _ {L D C : Type 0} (log_tells : Bool) (log_seen : L → Files) (log_now :
       → (upkeep.begun ≡ view.upkeep.begun) × (upkeep.publishing ≡ publishing_home published view.upkeep.publishing) → ((m : Meta) → IsOneOf view.store m → published ≡ false → m.number < job.super) → BothOn view → BothOn (record view { upkeep = upkeep })
   came_both n job published had mine changed same older is = (
     upkeep_keeps log_tells log_seen log_now log_leaves log_faults view upkeep (λ none. sym same.0 ∙ none) is.0,
-    upkeep_stored log_tells log_seen tells seen faults view is.1 upkeep same.0 (λ m one. over_is m one published refl) rests
+    upkeep_stored log_tells log_seen tells seen faults view is.1 upkeep same.0 (λ m one. over_is m one published refl) (λ m one. files_are m one published refl) rests
         (jobs_kept (view.records ++ is.1.run) n (record (upkeep_at n view.upkeep.passes) { job = Some (record job { stage = stage_home published }) }) view.upkeep upkeep changed own is.1.jobs),
   )
     where
-      its_over : Over
-      its_over = record { number = job.super; outputs = rowsets_in job.metas job.held }
-
-      was : over_in view.upkeep ≡ Some its_over
+      was : over_in view.upkeep ≡ over_of (Some job)
       was = ap (λ (p : Option ℕ). over_by p view.upkeep) mine ∙ ap over_of had
+
+      published_by : publisher view.upkeep ≡ Some job
+      published_by = ap (λ (p : Option ℕ). publisher_by p view.upkeep) mine ∙ had
 
       over_is : (m : Meta) → IsOneOf view.store m → (b : Bool) → published ≡ b → over_at m.number (over_in upkeep) ≡ over_at m.number (over_in view.upkeep)
       over_is m one true e =
           let goes : upkeep.publishing ≡ Some n = same.1 ∙ ap (λ (b : Bool). publishing_home b view.upkeep.publishing) e ∙ mine in
-          let now : over_in upkeep ≡ Some its_over = ap (λ (p : Option ℕ). over_by p upkeep) goes ∙ ap over_of (ap (λ (u : UpkeepView). u.job) changed.own) in
-          ap (over_at m.number) (now ∙ sym was)
+          let now : over_in upkeep ≡ over_of (Some (record job { stage = stage_home published })) = ap (λ (p : Option ℕ). over_by p upkeep) goes ∙ ap over_of (ap (λ (u : UpkeepView). u.job) changed.own) in
+          ap (over_at m.number) (now ∙ over_further job (stage_home published) job.output ∙ sym was)
       over_is m one false e =
           let free : upkeep.publishing ≡ None = same.1 ∙ ap (λ (b : Bool). publishing_home b view.upkeep.publishing) e in
-          ap (over_at m.number) (ap (λ (p : Option ℕ). over_by p upkeep) free) ∙ sym (ap (over_at m.number) was ∙ before_over m.number job.super its_over.outputs (older m one e))
+          ap (over_at m.number) (ap (λ (p : Option ℕ). over_by p upkeep) free) ∙ sym (ap (over_at m.number) was ∙ over_before job m.number job.output (older m one e))
+
+      files_are : (m : Meta) → IsOneOf view.store m → (b : Bool) → published ≡ b → files_over (job_at m.number (publisher upkeep)) view.tablet.files ≡ files_over (job_at m.number (publisher view.upkeep)) view.tablet.files
+      files_are m one true e =
+          let goes : upkeep.publishing ≡ Some n = same.1 ∙ ap (λ (b : Bool). publishing_home b view.upkeep.publishing) e ∙ mine in
+          let now : publisher upkeep ≡ Some (record job { stage = stage_home published }) = ap (λ (p : Option ℕ). publisher_by p upkeep) goes ∙ ap (λ (u : UpkeepView). u.job) changed.own in
+          ap (λ (o : Option JobView). files_over (job_at m.number o) view.tablet.files) now ∙ files_further job (stage_home published) m.number view.tablet.files ∙ sym (ap (λ (o : Option JobView). files_over (job_at m.number o) view.tablet.files) published_by)
+      files_are m one false e =
+          let free : upkeep.publishing ≡ None = same.1 ∙ ap (λ (b : Bool). publishing_home b view.upkeep.publishing) e in
+          none_at m.number upkeep view.tablet.files free
+          ∙ sym (ap (λ (o : Option JobView). files_over (job_at m.number o) view.tablet.files) published_by ∙ ap (λ (o : Option JobView). files_over o view.tablet.files) (before_job m.number job (older m one e)))
 
       rests : (upkeep.publishing ≡ None) ⊎ (view.tablet.core.aloft ≡ [])
       rests = elim is.1.rests [ inl none ↦ absurd (let no : None ≡ Some n = sym none ∙ mine in cc) | inr calm ↦ inr calm ]

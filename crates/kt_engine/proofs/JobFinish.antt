@@ -5,19 +5,23 @@ use Rattle.kt_history.specs.declared.target.Target.{Target}
 use Rattle.kt_history.specs.Stores.{Store}
 use Rattle.kt_pool.specs.Contents.{Contents}
 use Rattle.kt_diskrowset.specs.declared.rowset.DiskRowSet.{DiskRowSet}
-use Rattle.kt_diskrowset.specs.Rowset.{store_of, name_of}
+use Rattle.kt_diskrowset.specs.declared.data.RowSetData.{RowSetData}
+use Rattle.kt_diskrowset.specs.Rowset.{HeldFiles, held_of, store_of, name_of}
+use Rattle.kt_super.specs.declared.meta.Meta.{Meta}
 use Rattle.kt_pick.specs.declared.rules.Want.{Want}
 use Rattle.kt_tablet.specs.Views.{View}
 use Rattle.kt_tablet.specs.Jobs.{over_to, HasChangedOver, MayChangeOver}
 use Rattle.kt_engine.specs.declared.upkeep.Job.{Job}
 use Rattle.kt_engine.specs.Over.{Over, bare_store, first_name}
 use Rattle.kt_engine.specs.Engines.{EngineView, IsEngine}
-use Rattle.kt_engine.specs.Stored.{IsStored, over}
-use Rattle.kt_engine.specs.Jobs.{JobView, UpkeepsView, HasUpkeep, job_of, upkeep_at, job_finished, over_by, over_of}
+use Rattle.kt_engine.specs.Stored.{IsStored, over, files_at}
+use Rattle.kt_engine.specs.Jobs.{JobView, UpkeepsView, HasUpkeep, job_of, upkeep_at, job_finished, over_by, over_for, over_of}
+use Rattle.kt_engine.specs.Files.{publisher_by, job_at, files_by, files_over}
 use Rattle.kt_engine.specs.JobSteps.{MayFinish, HasFinished, outputs_of}
 use Rattle.kt_engine.specs.Outputs.{AreOutputs}
 use Rattle.kt_engine.specs.Upkeeps.{job_in}
 use Rattle.kt_engine.specs.Visits.{IsVisit}
+use Rattle.kt_engine.proofs.Filed.{own_job}
 use Rattle.kt_engine.proofs.Finished.{is_over, finished_keeps, finished_stored}
 use Rattle.kt_engine.proofs.NewRowsets.{outputs_stores, outputs_names}
 use Rattle.kt_engine.proofs.Upkeeps.{jobs_kept}
@@ -31,25 +35,36 @@ gives_stores w left job pool stand is = outputs_stores pool left.outputs.metas l
 pub gives_names : (w : Want) (left : Job) (job : JobView) → AreOutputs left.outputs.metas left.outputs.rowsets → job_in w left ≡ job → map name_of left.outputs.rowsets ≡ map first_name (outputs_of job)
 gives_names w left job stand is = outputs_names left.outputs.metas left.outputs.rowsets stand ∙ ap (λ (j : JobView). map first_name (outputs_of j)) is
 
-pub changed_is : {C : Type 0} (old new : View C) (stores others : List Store) (names targets : List Target) → stores ≡ others → names ≡ targets → HasChangedOver old new stores names → HasChangedOver old new others targets
-changed_is old new stores others names targets same alike h = subst (λ (ss : List Store). HasChangedOver old new ss targets) same (subst (HasChangedOver old new stores) alike h)
+pub gives_files : (w : Want) (left : Job) (job : JobView) → job_in w left ≡ job → map held_of left.outputs.rowsets ≡ job.held
+gives_files w left job is = ap (λ (j : JobView). j.held) is
+
+pub changed_is : {C : Type 0} (old new : View C) (stores others : List Store) (names targets : List Target) (files held : List HeldFiles) → stores ≡ others → names ≡ targets → files ≡ held → HasChangedOver old new stores names files → HasChangedOver old new others targets held
+changed_is old new stores others names targets files held same alike own h =
+    subst (λ (ss : List Store). HasChangedOver old new ss targets held) same (subst (λ (ns : List Target). HasChangedOver old new stores ns held) alike (subst (HasChangedOver old new stores names) own h))
 
 -- ---- the engine
 
 module _ {L D C : Type 0} (log_tells : Bool) (log_seen : L → Files) (log_now : L → ℕ) (log_leaves : L → ℕ → Files → Type 0) (log_faults : L → ℕ) (tells : Bool) (seen : D → Files) (faults : D → ℕ) (view : EngineView L D C) (tablet : View C) (upkeep : UpkeepsView)
-    (n : ℕ) (job : JobView) (h : HasChangedOver view.tablet tablet (map bare_store (outputs_of job)) (map first_name (outputs_of job))) (has : HasUpkeep n (job_finished job.want (upkeep_at n view.upkeep.passes)) view.upkeep upkeep) where
+    (n : ℕ) (job : JobView) (h : HasChangedOver view.tablet tablet (map bare_store (outputs_of job)) (map first_name (outputs_of job)) job.held) (has : HasUpkeep n (job_finished job.want (upkeep_at n view.upkeep.passes)) view.upkeep upkeep) where
   pub finished_both : job_of n view.upkeep ≡ Some job → MayFinish view n job → (upkeep.begun ≡ view.upkeep.begun) × (upkeep.publishing ≡ None)
       → IsEngine log_tells log_seen log_now log_leaves log_faults view × IsStored log_tells log_seen tells seen faults view
       → IsEngine log_tells log_seen log_now log_leaves log_faults (record view { tablet = tablet; upkeep = upkeep }) × IsStored log_tells log_seen tells seen faults (record view { tablet = tablet; upkeep = upkeep })
   finished_both had may same is =
       let o : Over = record { number = job.super; outputs = outputs_of job } in
-      let over_is : over view ≡ Some o = ap (λ (p : Option ℕ). over_by p view.upkeep) may.published.0 ∙ ap over_of had in (
-        finished_keeps view tablet upkeep (outputs_of job) h log_tells log_seen log_now log_leaves log_faults job.last_mem (λ none. may.begun (sym same.0 ∙ none)) may.small may.given is.0,
-        finished_stored view tablet upkeep (outputs_of job) h log_tells log_seen tells seen faults is.1 o job.last_mem over_is refl may.published.1 may.published.2 same.1 same.0 may.given
+      let over_is : over view ≡ Some o = ap (λ (p : Option ℕ). over_by p view.upkeep) may.published.0 ∙ ap over_of had ∙ ap (λ (p : Option RowSetData). over_for p job) may.output in (
+        finished_keeps view tablet upkeep (outputs_of job) job.held h log_tells log_seen log_now log_leaves log_faults job.last_mem (λ none. may.begun (sym same.0 ∙ none)) may.small may.given is.0,
+        finished_stored view tablet upkeep (outputs_of job) job.held h log_tells log_seen tells seen faults is.1 o job.last_mem over_is refl may.published.1 may.published.2 told same.1 same.0 may.given
             (jobs_kept (view.records ++ is.1.run) n (job_finished job.want (upkeep_at n view.upkeep.passes)) view.upkeep upkeep has (λ j e. absurd (let no : None ≡ Some j = e in cc)) is.1.jobs),
       )
+    where
+      -- from its superblock on each is told of the files that memory has then
+      told : (m : Meta) → job.super ≤ m.number → files_at view m ≡ job.held ++ view.tablet.files
+      told m up =
+          ap (λ (p : Option ℕ). files_over (job_at m.number (publisher_by p view.upkeep)) view.tablet.files) may.published.0
+          ∙ ap (λ (j : Option JobView). files_over (job_at m.number j) view.tablet.files) had
+          ∙ ap (λ (j : Option JobView). files_over j view.tablet.files) (own_job m.number job up)
+          ∙ ap (λ (p : Option RowSetData). files_by p job.held view.tablet.files) may.output
 
   pub finish_visit : IsVisit n view (record view { tablet = tablet; upkeep = upkeep })
   finish_visit =
-      shelf_visit n (job_finished job.want (upkeep_at n view.upkeep.passes)) view tablet upkeep (over_to view.tablet.frozen (map bare_store (outputs_of job)) view.tablet.core.stores) (over_to view.tablet.frozen (map first_name (outputs_of job)) view.tablet.names) 0 tablet.pool
-      (is_over view tablet upkeep (outputs_of job) h) has
+      shelf_visit n (job_finished job.want (upkeep_at n view.upkeep.passes)) view tablet upkeep (over_to view.tablet.frozen (map bare_store (outputs_of job)) view.tablet.core.stores) (over_to view.tablet.frozen (map first_name (outputs_of job)) view.tablet.names) 0 tablet.pool (job.held ++ view.tablet.files) (is_over view tablet upkeep (outputs_of job) job.held h) has

@@ -11,6 +11,7 @@ use Rattle.kt_records.specs.declared.entry.Entry.{Entry}
 use Rattle.kt_histlaws.specs.Core.{Core, Stands}
 use Rattle.kt_rowfiles.specs.Files.{DiskRowset}
 use Rattle.kt_super.specs.declared.meta.Meta.{Meta}
+use Rattle.kt_diskrowset.specs.declared.data.RowSetData.{RowSetData}
 use Rattle.kt_diskrowset.specs.Rowset.{HeldFiles}
 use Rattle.kt_files.specs.Reading.{HoldAll}
 use Rattle.kt_files.proofs.OneHolding.{all_one}
@@ -26,15 +27,17 @@ use Rattle.kt_engine.specs.Memory.{FirstIsMem, AreNamed}
 use Rattle.kt_engine.specs.Logged.{PlanPasses, KeepsSince}
 use Rattle.kt_engine.specs.Over.{Over, bare_store, first_name, over_at, core_over, names_over}
 use Rattle.kt_engine.specs.Engines.{EngineView, IsContent, IsFound, core_from}
-use Rattle.kt_engine.specs.Jobs.{JobView, UpkeepView, UpkeepsView, JobOn, job_of, over_of, over_by, over_in}
+use Rattle.kt_engine.specs.Jobs.{JobView, UpkeepView, UpkeepsView, JobOn, job_of, over_for, over_of, over_by, over_in}
+use Rattle.kt_engine.specs.Files.{AreFiled, publisher, publisher_by, job_at, files_by, files_over}
 use Rattle.kt_engine.specs.Near.{AreNear, first_number}
-use Rattle.kt_engine.specs.Stored.{IsMarkOf, IsSuperOf, IsStored, over, job_meta}
+use Rattle.kt_engine.specs.Stored.{IsOneOf, IsMarkOf, IsSuperOf, IsStored, over, job_meta}
 use Rattle.kt_engine.specs.declared.upkeep.Stage.TheVariants.{Publishing}
 use Rattle.kt_engine.specs.JobSteps.{MayPublishJob, HoldInputs, IsLent, outputs_of}
+use Rattle.kt_engine.proofs.Filed.{filed_both, before_job, own_job}
 use Rattle.kt_engine.proofs.Flushed.{FlushKnows, flush_since}
 use Rattle.kt_engine.proofs.Jobs.{before_over, own_over, hold_both, rowsets_of_both, meta_below, names_split, stores_split, frozen_long, over_below, over_named, taken_of, first_above}
 use Rattle.kt_engine.proofs.Marks.{of_each}
-use Rattle.kt_engine.proofs.Stored.{to_plain, of_plain, plain}
+use Rattle.kt_engine.proofs.Stored.{to_plain, of_plain, plain, filed_now}
 use Rattle.kt_engine.proofs.Upkeeps.{jobs_kept}
 
 -- what stands once the outputs have taken the place of the frozen MemRowSets
@@ -70,7 +73,12 @@ module _ {L D C : Type 0} (log_tells : Bool) (log_seen : L → Files) (tells : B
 
   -- from now on its outputs stand beside
   publishes : over_in upkeep ≡ Some its_over
-  publishes = ap (λ (p : Option ℕ). over_by p upkeep) goes.begun.1 ∙ ap over_of (ap (λ (u : UpkeepView). u.job) goes.upkeep.own)
+  publishes =
+      ap (λ (p : Option ℕ). over_by p upkeep) goes.begun.1 ∙ ap over_of (ap (λ (u : UpkeepView). u.job) goes.upkeep.own)
+      ∙ ap (λ (o : Option RowSetData). over_for o (record job { stage = Publishing; super = view.store.meta.number + 1 })) may.output
+
+  published_by : publisher upkeep ≡ Some (record job { stage = Publishing; super = view.store.meta.number + 1 })
+  published_by = ap (λ (p : Option ℕ). publisher_by p upkeep) goes.begun.1 ∙ ap (λ (u : UpkeepView). u.job) goes.upkeep.own
 
   all : view.log.known.count ≡ length (view.records ++ is.run)
   all = let k = is.count in let o = ap (λ (l : List Entry). length (l ++ view.log.queued)) settled.0 in let p = ap (λ (l : List Entry). length l) settled.1 in omega arith
@@ -200,7 +208,7 @@ module _ {L D C : Type 0} (log_tells : Bool) (log_seen : L → Files) (tells : B
     names_below = is.names_below;
     near = subst (λ (n : ℕ). AreNear view.found view.tablet.names view.first_rowset view.store.next_rowset n is.run) (sym goes.begun.0) is.near;
     rests = inr may.calm;
-    jobs = jobs_kept (view.records ++ is.run) n _ view.upkeep upkeep goes.upkeep (λ own same. own_job own same) is.jobs;
+    jobs = jobs_kept (view.records ++ is.run) n _ view.upkeep upkeep goes.upkeep (λ own same. still_on own same) is.jobs;
     holds = λ t m one. elim one [
       | inl was ↦ is.holds t m (inl was)
       | inr lent ↦ (
@@ -209,6 +217,7 @@ module _ {L D C : Type 0} (log_tells : Bool) (log_seen : L → Files) (tells : B
           subst (λ (o : Meta). (other : List HeldFiles) × HoldAll (seen view.store.known) o.rowsets other) (sym same) (found.0 ++ job.held, hold_both (seen view.store.known) view.store.meta.rowsets job.metas found.0 job.held found.1 (may.hold t))
           )
     ];
+    files = λ m one. subst (AreFiled tells (seen view.store.known) m.rowsets) (sym (ap (λ (o : Option JobView). files_over (job_at m.number o) view.tablet.files) published_by)) (files_told m one);
     columns = λ m lent. let same : m ≡ meta = (let e : Some meta ≡ Some m = lent in cc) in ap (λ (o : Meta). o.schema) same;
     mark = is.mark;
     marked = of_each (λ (o : Meta). IsMarkOf view.tablet.mark view.tablet.core.trail o.a) went.store (is.marked view.store.meta (inl refl)) (λ m lent. let same : m ≡ meta = (let e : Some meta ≡ Some m = lent in cc) in subst (λ (o : Meta). IsMarkOf view.tablet.mark view.tablet.core.trail o.a) (sym same) is.mark);
@@ -217,9 +226,25 @@ module _ {L D C : Type 0} (log_tells : Bool) (log_seen : L → Files) (tells : B
     home = λ disk at. absurd (let no : None ≡ Some disk = at in cc);
   }
     where
+      -- the published superblock is told of the files that memory has, and its own of those that it has once the job is over
+      files_told : (m : Meta) → IsOneOf went.store m → AreFiled tells (seen view.store.known) m.rowsets (files_over (job_at m.number (Some (record job { stage = Publishing; super = view.store.meta.number + 1 }))) view.tablet.files)
+      files_told m (inl was) =
+          let lower : m.number < view.store.meta.number + 1 = (let e = ap (λ (o : Meta). o.number) was in omega arith) in
+          subst (AreFiled tells (seen view.store.known) m.rowsets) (sym (ap (λ (o : Option JobView). files_over o view.tablet.files) (before_job m.number (record job { stage = Publishing; super = view.store.meta.number + 1 }) lower)))
+          (filed_now log_tells log_seen tells seen faults view is none m (inl was))
+      files_told m (inr lent) =
+          let same : m ≡ meta = (let e : Some meta ≡ Some m = lent in cc) in
+          let up : view.store.meta.number + 1 ≤ m.number = (let e = ap (λ (o : Meta). o.number) same in omega arith) in
+          let now : AreFiled tells (seen view.store.known) meta.rowsets (job.held ++ view.tablet.files) =
+          filed_both tells (seen view.store.known) view.store.meta.next_rowset view.store.meta.next_file job.first_rowset view.store.meta.rowsets job.metas job.held view.tablet.files side.rules.rowsets may.takes.below may.from may.named may.hold
+          (filed_now log_tells log_seen tells seen faults view is none view.store.meta (inl refl)) in
+          subst (AreFiled tells (seen view.store.known) m.rowsets)
+          (sym (ap (λ (o : Option JobView). files_over o view.tablet.files) (own_job m.number (record job { stage = Publishing; super = view.store.meta.number + 1 }) up) ∙ ap (λ (o : Option RowSetData). files_by o job.held view.tablet.files) may.output))
+          (subst (λ (o : Meta). AreFiled tells (seen view.store.known) o.rowsets (job.held ++ view.tablet.files)) (sym same) now)
+
       -- its job is on as it was
-      own_job : (own : JobView) → Some (record job { stage = Publishing; super = view.store.meta.number + 1 }) ≡ Some own → JobOn (view.records ++ is.run) own
-      own_job own same =
+      still_on : (own : JobView) → Some (record job { stage = Publishing; super = view.store.meta.number + 1 }) ≡ Some own → JobOn (view.records ++ is.run) own
+      still_on own same =
           let on = is.jobs n job had in
           let e : record job { stage = Publishing; super = view.store.meta.number + 1 } ≡ own = cc in
           subst (λ (j : JobView). JobOn (view.records ++ is.run) j) e (record { many = on.many; names = on.names })

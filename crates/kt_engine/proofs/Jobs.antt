@@ -35,13 +35,15 @@ use Rattle.kt_engine.specs.Engines.{EngineView, IsEngine, core_from}
 use Rattle.kt_engine.specs.Near.{AreNear, first_number}
 use Rattle.kt_engine.specs.Stored.{IsStored, over, next_given, numbers_of}
 use Rattle.kt_engine.specs.Jobs.{JobView, UpkeepsView, JobOn, job_of}
+use Rattle.kt_engine.specs.Files.{AreFiled}
 use Rattle.kt_engine.specs.JobSteps.{AreUpTo}
 use Rattle.kt_engine.proofs.Frozen.{names_frozen, frozen_since}
 use Rattle.kt_engine.proofs.Shelved.{frozen_shelved}
 use Rattle.kt_engine.proofs.Near.{near_frozen}
 use Rattle.kt_engine.proofs.Lists.{all_cons, all_head, all_tail, all_front}
 use Rattle.kt_engine.proofs.Rising.{given_same, records_rise, names_rise, rowsets_rise}
-use Rattle.kt_engine.proofs.Stored.{to_plain, of_plain, plain}
+use Rattle.kt_engine.proofs.Filed.{none_at}
+use Rattle.kt_engine.proofs.Stored.{to_plain, of_plain, plain, filed_now}
 
 -- ---- a freeze, with a job that begins
 
@@ -107,6 +109,7 @@ module _ {L D C : Type 0} (log_tells : Bool) (log_seen : L → Files) (log_now :
     rests = inl still;
     jobs = jobs;
     holds = is.holds;
+    files = λ m one. subst (AreFiled tells (seen view.store.known) m.rowsets) (sym (none_at m.number upkeep view.tablet.files still)) (filed_now log_tells log_seen tells seen faults view is none m one);
     columns = is.columns;
     mark = is.mark;
     marked = is.marked;

@@ -45,6 +45,7 @@ pub mod Sessions
 pub mod Visiting
 pub mod JobFinish
 pub mod Untold
+pub mod Filed
 pub mod Stored
 pub mod StoreEvents
 pub mod Pairs
@@ -61,5 +62,6 @@ pub mod DeltaBoth
 pub mod DeltaToDo
 pub mod DeltaReady
 pub mod DeltaShapes
+pub mod DeltaStay
 pub mod StoredPlans
 pub mod OpenedBoth

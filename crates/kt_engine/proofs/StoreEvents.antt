@@ -39,15 +39,17 @@ use Rattle.kt_engine.specs.Memory.{name_of, resident, IsNamed}
 use Rattle.kt_engine.specs.Logged.{PlanPasses, LogStands, KeepsSince}
 use Rattle.kt_engine.specs.Engines.{EngineView, IsContent, IsFound, IsLogged, IsEngine, core_from}
 use Rattle.kt_engine.specs.Over.{over_at}
-use Rattle.kt_engine.specs.Stored.{IsOneOf, IsMarkOf, IsSuperOf, IsStored, over, core_at, names_at, numbers_of, next_super}
+use Rattle.kt_engine.specs.Files.{AreFiled}
+use Rattle.kt_engine.specs.Stored.{IsOneOf, IsMarkOf, IsSuperOf, IsStored, over, core_at, names_at, files_at, numbers_of, next_super}
 use Rattle.kt_engine.proofs.Devices.{store_keeps}
+use Rattle.kt_engine.proofs.Filed.{filed_on, none_at}
 use Rattle.kt_engine.proofs.Fronts.{last_of-append, low_below}
 use Rattle.kt_engine.proofs.Marks.{of_each}
 use Rattle.kt_engine.specs.Near.{most_rowsets}
 use Rattle.kt_engine.proofs.Near.{near_rises}
 use Rattle.kt_engine.proofs.Lists.{all_each}
 use Rattle.kt_engine.proofs.Rising.{given_rises, records_rise, names_rise}
-use Rattle.kt_engine.proofs.Stored.{same_log, to_plain, of_plain, plain}
+use Rattle.kt_engine.proofs.Stored.{same_log, to_plain, of_plain, plain, filed_now}
 use Rattle.kt_engine.proofs.Untold.{flies_above}
 
 -- ---- the superblock that comes next, where all records are durable
@@ -160,6 +162,7 @@ module _ {L D C : Type 0} (log_tells : Bool) (log_seen : L → Files) (tells : B
     rests = is.rests;
     jobs = is.jobs;
     holds = λ t m one. elim one [ inl was ↦ is.holds t m (inl was) | inr new ↦ subst (λ (o : Meta). (held : List HeldFiles) × HoldAll (seen view.store.known) o.rowsets held) (sym (next m new)) (is.holds t view.store.meta (inl refl)) ];
+    files = λ m one. elim one [ inl was ↦ is.files m (inl was) | inr new ↦ files_next m new ];
     columns = λ m new. ap (λ (o : Meta). o.schema) (next m new);
     mark = is.mark;
     marked = of_each (λ (o : Meta). IsMarkOf view.tablet.mark view.tablet.core.trail o.a) (lent_view number lent) (is.marked view.store.meta (inl refl)) (λ m new. subst (λ (o : Meta). IsMarkOf view.tablet.mark view.tablet.core.trail o.a) (sym (next m new)) is.mark);
@@ -185,6 +188,13 @@ module _ {L D C : Type 0} (log_tells : Bool) (log_seen : L → Files) (tells : B
             (record { log = is.stands.log; since = is.stands.since; last = is.stands.last; flying = is.stands.flying; untold = is.stands.untold }) (stands first h.opens) k all))
             )
       ]
+
+      -- it names the files of the one that is published
+      files_next : (m : Meta) → lent ≡ Some m → AreFiled tells (seen view.store.known) m.rowsets (files_at view m)
+      files_next m new =
+          let none = (settled m new).2 in
+          subst (AreFiled tells (seen view.store.known) m.rowsets) (sym (none_at m.number view.upkeep view.tablet.files none))
+          (subst (λ (o : Meta). AreFiled tells (seen view.store.known) o.rowsets view.tablet.files) (sym (next m new)) (filed_now log_tells log_seen tells seen faults view is none view.store.meta (inl refl)))
 
   -- ---- it comes home
 
@@ -214,6 +224,8 @@ module _ {L D C : Type 0} (log_tells : Bool) (log_seen : L → Files) (tells : B
     holds = λ t m one.
         let held = is.holds t m (was m one) in
         (held.0, subst (λ (d : D). HoldAll (seen d) m.rowsets held.0) (sym known) (named_hold m held.0 (seen view.store.known) (seen disk) (λ n e. (turn t).reads n (left m (was m one) next n e)) held.1));
+    files = λ m one. subst (λ (d : D). AreFiled tells (seen d) m.rowsets (files_at view m)) (sym known)
+        (filed_on tells (seen view.store.known) (seen disk) m.rowsets (files_at view m) (λ t n e. sym ((turn t).reads n (left m (was m one) next n e))) (is.files m (was m one)));
     columns = λ m new. absurd (let no : None ≡ Some m = sym none ∙ new in cc);
     mark = is.mark;
     marked = λ m one. is.marked m (was m one);

@@ -13,6 +13,7 @@ use Rattle.kt_loglaws.specs.Replay.{last_of}
 use Rattle.kt_histlaws.specs.Pending.{Aloft}
 use Rattle.kt_super.specs.declared.meta.Meta.{Meta}
 use Rattle.kt_diskrowset.specs.Rowset.{HeldFiles}
+use Rattle.kt_files.specs.Named.{AreNamed as AreEachNamed}
 use Rattle.kt_files.specs.Reading.{HoldAll}
 use Rattle.kt_files.proofs.OneHolding.{all_one}
 use Rattle.kt_content.specs.Places.{Super}
@@ -20,12 +21,15 @@ use Rattle.kt_content.specs.Rules.{Rules, AreRules}
 use Rattle.kt_content.specs.Content.{IsContent as HoldsPast}
 use Rattle.kt_content.specs.RunEvents.{Numbers, NumbersAreFresh}
 use Rattle.kt_reopen.specs.Both.{super_in}
+use Rattle.kt_reopen.specs.Opened.{AreReadOf}
 use Rattle.kt_storeside.specs.Sides.{StoreView}
 use Rattle.kt_tablet.specs.Views.{View, Opens}
 use Rattle.kt_engine.specs.Memory.{name_of, AreNamed}
 use Rattle.kt_engine.specs.Logged.{PlanPasses, Waits, UntoldFly, AreCommits, NamesOnly, TakesUp, DeltasBelow, LogStands, KeepsFrom, KeepsSince}
 use Rattle.kt_engine.specs.Engines.{IsContent, core_from}
+use Rattle.kt_engine.specs.Files.{AreFiled}
 use Rattle.kt_engine.specs.Near.{first_number}
+use Rattle.kt_engine.proofs.Filed.{filed_read}
 use Rattle.kt_engine.proofs.Near.{near_opened}
 use Rattle.kt_engine.specs.Stored.{IsOneOf, IsMarkOf, IsSuperOf, IsStored, next_given}
 use Rattle.kt_engine.proofs.Rising.{records_rise, names_rise}
@@ -48,10 +52,11 @@ pub store_opened : {L D C : Type 0} (log_tells : Bool) (log_seen : L → Files) 
     → ((rules : Rules) (first : Past) → AreRules rules → Opens tablet.opening tablet.mark tablet.core.opened first → HoldsPast rules tablet.core.work.fill super records tablet.core.opened first → TakesUp rules tablet.core.work.fill super tablet.names tablet.core.stores records queued tablet.core.opened first)
     → (numbers : Numbers) × NumbersAreFresh super (records ++ queued) (map name_of tablet.names) numbers × (numbers.next ≤ next_given store.next_rowset) × (numbers.active ≤ first_number tablet.names) → UntoldFly (records ++ queued) tablet.core.aloft → tablet.core.opened ≤ tablet.core.c → last_of (records ++ queued) ≤ tablet.core.c
     → journal.count ≡ length records → (IsTrue log_tells → records_of (log_seen journal.disk) ≡ records)
-    → store.lent ≡ None → (IsTrue tells → (held : List HeldFiles) × HoldAll (seen store.known) store.meta.rowsets held × (super ≡ super_in store.meta held)) → (store.meta.a ≡ tablet.mark) × (tablet.core.a ≡ tablet.mark) → store.meta.c ≤ tablet.core.c → AreNamed super tablet.names → DeltasBelow tablet.names (records ++ queued) → All (NamesOnly tablet.names) queued → faults store_device ≤ faults store.known
+    → store.lent ≡ None → (IsTrue tells → (held : List HeldFiles) × HoldAll (seen store.known) store.meta.rowsets held × (super ≡ super_in store.meta held))
+    → (held : List HeldFiles) × AreEachNamed store.meta.rowsets held × AreReadOf held tablet.files × (IsTrue tells → HoldAll (seen store.known) store.meta.rowsets held) → (store.meta.a ≡ tablet.mark) × (tablet.core.a ≡ tablet.mark) → store.meta.c ≤ tablet.core.c → AreNamed super tablet.names → DeltasBelow tablet.names (records ++ queued) → All (NamesOnly tablet.names) queued → faults store_device ≤ faults store.known
     → ((disk : D) → store.home ≡ Some disk → disk ≡ store.known)
     → IsStored log_tells log_seen tells seen faults (opened_view tablet journal records super queued store store_device device)
-store_opened {L} {D} {C} log_tells log_seen tells seen faults tablet journal records super queued store store_device device trail aloft log commits taken numbers untold since last count reads none found mark clock named deltas only later at_home = record {
+store_opened {L} {D} {C} log_tells log_seen tells seen faults tablet journal records super queued store store_device device trail aloft log commits taken numbers untold since last count reads none found filed mark clock named deltas only later at_home = record {
   run = queued;
   all = λ t. ap (λ l. l ++ queued) (sym (reads t));
   count = omega (arith, length-append records queued);
@@ -89,6 +94,10 @@ store_opened {L} {D} {C} log_tells log_seen tells seen faults tablet journal rec
   rests = inl refl;
   jobs = λ n job has. absurd (let no : None ≡ Some job = has in cc);
   holds = λ t m one. elim one [ inl was ↦ (let f = found t in (f.0, subst (λ (o : Meta). HoldAll (seen store.known) o.rowsets f.0) (sym was) f.1)) | inr new ↦ absurd (let no : None ≡ Some m = sym none ∙ new in cc) ];
+  files = λ m one. elim one [
+    | inl was ↦ subst (λ (o : Meta). AreFiled tells (seen store.known) o.rowsets tablet.files) (sym was) (filed_read tells (seen store.known) store.meta.rowsets filed.0 tablet.files filed.1 filed.2 filed.3)
+    | inr new ↦ absurd (let no : None ≡ Some m = sym none ∙ new in cc)
+  ];
   columns = λ m new. absurd (let no : None ≡ Some m = sym none ∙ new in cc);
   mark = subst (λ (es : List Event). IsMarkOf tablet.mark es tablet.core.a) (sym trail) mark.1;
   marked = of_each (λ (o : Meta). IsMarkOf tablet.mark tablet.core.trail o.a) store (subst (λ (es : List Event). IsMarkOf tablet.mark es store.meta.a) (sym trail) mark.0) (λ m new. absurd (let no : None ≡ Some m = sym none ∙ new in cc));

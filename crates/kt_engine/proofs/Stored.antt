@@ -43,8 +43,10 @@ use Rattle.kt_content.specs.RunEvents.{Numbers, RecordsBelow}
 use Rattle.kt_content.specs.Flushes.{before}
 use Rattle.kt_engine.specs.Over.{Over, over_at, names_over, core_over}
 use Rattle.kt_engine.specs.Jobs.{JobView, UpkeepsView, JobOn, job_of, over_by, over_in}
+use Rattle.kt_engine.specs.Files.{AreFiled, publisher, job_at, files_over}
 use Rattle.kt_engine.specs.Near.{AreNear}
-use Rattle.kt_engine.specs.Stored.{IsOneOf, IsSuperOf, IsStored, over, core_at, names_at}
+use Rattle.kt_engine.specs.Stored.{IsOneOf, IsSuperOf, IsStored, over, core_at, names_at, files_at}
+use Rattle.kt_engine.proofs.Filed.{none_at}
 use Rattle.kt_engine.proofs.Rising.{records_join}
 use Rattle.kt_engine.proofs.Applied.{NotedHere, applied_run, pushed_is}
 use Rattle.kt_engine.proofs.Begun.{begun_run}
@@ -220,6 +222,10 @@ module _ {L D C : Type 0} (log_tells : Bool) (log_seen : L → Files) (tells : B
   abbrev Stored : EngineView L D C → Type 0
   Stored v = IsStored log_tells log_seen tells seen faults v
 
+  -- where no job publishes a superblock is told of the files that memory has
+  pub filed_now : view.upkeep.publishing ≡ None → (m : Meta) → IsOneOf view.store m → AreFiled tells (seen view.store.known) m.rowsets view.tablet.files
+  filed_now none m one = subst (AreFiled tells (seen view.store.known) m.rowsets) (none_at m.number view.upkeep view.tablet.files none) (is.files m one)
+
   -- a line
   pub line_stored : (e : Event) (a c : ℕ) (turns : List Turn) (stopped : Bool) (clock : C) → IsQuiet e → view.tablet.core.a ≤ a → MovesMark e view.tablet.core.a a → view.tablet.core.c ≤ c → Stored (record view { tablet = with_line view.tablet e a c turns stopped clock })
   line_stored e a c turns stopped clock quiet rise moves up = record {
@@ -236,6 +242,7 @@ module _ {L D C : Type 0} (log_tells : Bool) (log_seen : L → Files) (tells : B
     rests = is.rests;
     jobs = is.jobs;
     holds = is.holds;
+    files = is.files;
     columns = is.columns;
     mark = moved_mark view.tablet.mark view.tablet.core.trail e view.tablet.core.a a moves is.mark;
     marked = λ m one. still_mark view.tablet.mark view.tablet.core.trail e m.a (is.marked m one);
@@ -259,6 +266,7 @@ module _ {L D C : Type 0} (log_tells : Bool) (log_seen : L → Files) (tells : B
     rests = is.rests;
     jobs = is.jobs;
     holds = is.holds;
+    files = is.files;
     columns = is.columns;
     mark = is.mark;
     marked = is.marked;
@@ -312,6 +320,7 @@ module _ {L D C : Type 0} (log_tells : Bool) (log_seen : L → Files) (tells : B
     rests = is.rests;
     jobs = is.jobs;
     holds = is.holds;
+    files = is.files;
     columns = is.columns;
     mark = is.mark;
     marked = is.marked;
@@ -320,10 +329,11 @@ module _ {L D C : Type 0} (log_tells : Bool) (log_seen : L → Files) (tells : B
     home = is.home;
   }
 
-  -- passes have something else of maintenance, and each superblock is told of the same stores
-  pub upkeep_stored : (upkeep : UpkeepsView) → upkeep.begun ≡ view.upkeep.begun → ((m : Meta) → IsOneOf view.store m → over_at m.number (over_in upkeep) ≡ over_at m.number (over view)) → (upkeep.publishing ≡ None) ⊎ (view.tablet.core.aloft ≡ [])
+  -- passes have something else of maintenance, and each superblock is told of the same stores and files
+  pub upkeep_stored : (upkeep : UpkeepsView) → upkeep.begun ≡ view.upkeep.begun → ((m : Meta) → IsOneOf view.store m → over_at m.number (over_in upkeep) ≡ over_at m.number (over view))
+      → ((m : Meta) → IsOneOf view.store m → files_over (job_at m.number (publisher upkeep)) view.tablet.files ≡ files_at view m) → (upkeep.publishing ≡ None) ⊎ (view.tablet.core.aloft ≡ [])
       → ((n : ℕ) (job : JobView) → job_of n upkeep ≡ Some job → JobOn (view.records ++ is.run) job) → Stored (record view { upkeep = upkeep })
-  upkeep_stored upkeep counted same rests jobs = record {
+  upkeep_stored upkeep counted same told rests jobs = record {
     run = is.run;
     all = is.all;
     count = is.count;
@@ -337,6 +347,7 @@ module _ {L D C : Type 0} (log_tells : Bool) (log_seen : L → Files) (tells : B
     rests = rests;
     jobs = jobs;
     holds = is.holds;
+    files = λ m one. subst (AreFiled tells (seen view.store.known) m.rowsets) (sym (told m one)) (is.files m one);
     columns = is.columns;
     mark = is.mark;
     marked = is.marked;
@@ -367,6 +378,7 @@ module _ {L D C : Type 0} (log_tells : Bool) (log_seen : L → Files) (tells : B
     rests = is.rests;
     jobs = is.jobs;
     holds = is.holds;
+    files = is.files;
     columns = is.columns;
     mark = is.mark;
     marked = is.marked;

@@ -47,6 +47,7 @@ plan_stored {L} {D} {C} log_tells log_seen tells seen faults view is tablet plan
       rests = is.rests;
       jobs = is.jobs;
       holds = is.holds;
+      files = is.files;
       columns = is.columns;
       mark = is.mark;
       marked = is.marked;

@@ -67,6 +67,7 @@ module _ {L D C : Type 0} (log_tells : Bool) (log_seen : L → Files) (log_now :
         rests = inl none;
         jobs = λ n job has. job_more old.records is.run (Replicate ts ops) job (is.jobs n job has);
         holds = is.holds;
+        files = is.files;
         columns = is.columns;
         mark = still_mark old.tablet.mark core.trail (event.Begin s i ts m) core.a is.mark;
         marked = λ meta one. still_mark old.tablet.mark core.trail (event.Begin s i ts m) meta.a (is.marked meta one);
@@ -107,6 +108,7 @@ module _ {L D C : Type 0} (log_tells : Bool) (log_seen : L → Files) (log_now :
         rests = inl none;
         jobs = λ n job has. job_more old.records is.run (Commit f.ts rows) job (is.jobs n job has);
         holds = is.holds;
+        files = is.files;
         columns = is.columns;
         mark = still_mark old.tablet.mark core.trail (event.End s i f.ts) core.a is.mark;
         marked = λ meta one. still_mark old.tablet.mark core.trail (event.End s i f.ts) meta.a (is.marked meta one);
@@ -149,6 +151,7 @@ module _ {L D C : Type 0} (log_tells : Bool) (log_seen : L → Files) (log_now :
         rests = inl none;
         jobs = is.jobs;
         holds = is.holds;
+        files = is.files;
         columns = is.columns;
         mark = is.mark;
         marked = is.marked;

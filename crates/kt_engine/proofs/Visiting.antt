@@ -22,6 +22,7 @@ use Rattle.kt_tablet.specs.Visits.{HasBegun, HasApplied, HasEnded}
 use Rattle.kt_tablet.specs.declared.tablet.Stopped.{Stopped}
 use Rattle.kt_journal.specs.Open.{JournalView}
 use Rattle.kt_storeside.specs.Sides.{StoreView}
+use Rattle.kt_diskrowset.specs.Rowset.{HeldFiles}
 use Rattle.kt_engine.specs.Engines.{EngineView}
 use Rattle.kt_engine.specs.Sessions.{runs}
 use Rattle.kt_engine.specs.Jobs.{UpkeepView, UpkeepsView, HasUpkeep, upkeep_at}
@@ -189,9 +190,9 @@ upkeep_visit n u v upkeep has = record {
 }
 
 -- the stores, and what this pass has of maintenance: neither is a part of another pass
-pub shelf_visit : {L D C : Type 0} (n : ℕ) (u : UpkeepView) (v : EngineView L D C) (tablet : View C) (upkeep : UpkeepsView) (stores : List Store) (names : List Target) (frozen : ℕ) (pool : Contents)
-    → tablet ≡ record v.tablet { core = record v.tablet.core { stores = stores }; names = names; frozen = frozen; pool = pool } → HasUpkeep n u v.upkeep upkeep → IsVisit n v (record v { tablet = tablet; upkeep = upkeep })
-shelf_visit n u v tablet upkeep stores names frozen pool is has = record {
+pub shelf_visit : {L D C : Type 0} (n : ℕ) (u : UpkeepView) (v : EngineView L D C) (tablet : View C) (upkeep : UpkeepsView) (stores : List Store) (names : List Target) (frozen : ℕ) (pool : Contents) (files : List HeldFiles)
+    → tablet ≡ record v.tablet { core = record v.tablet.core { stores = stores }; names = names; frozen = frozen; pool = pool; files = files } → HasUpkeep n u v.upkeep upkeep → IsVisit n v (record v { tablet = tablet; upkeep = upkeep })
+shelf_visit n u v tablet upkeep stores names frozen pool files is has = record {
   line = inl (ap (λ t. t.core.trail) is);
   parts = λ k ne.
       let session = ap (λ t. part t.core k) is in

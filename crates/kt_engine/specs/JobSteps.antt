@@ -23,6 +23,7 @@ use Rattle.kt_diskrowset.specs.declared.data.RowSetData.{RowSetData}
 use Rattle.kt_diskrowset.specs.declared.inputs.Inputs.{Inputs}
 use Rattle.kt_diskrowset.specs.Data.{held_in}
 use Rattle.kt_files.specs.Content.{rowsets_in}
+use Rattle.kt_files.specs.Named.{AreNamed}
 use Rattle.kt_files.specs.Reading.{HoldAll}
 use Rattle.kt_merge.specs.Merge.{hists_upto, AreReadable, rows_and_changes}
 use Rattle.kt_storeside.specs.Sides.{MayBeLent}
@@ -113,6 +114,7 @@ pub record HasBegunJob {L D C : Type 0} (old new : EngineView L D C) (n : ℕ) (
   pub number : (job.number ≡ k) × (k ≡ suc old.upkeep.begun) × (new.upkeep.begun ≡ k) × (new.upkeep.publishing ≡ None)
   pub want_is : job.want ≡ w
   pub stage_is : job.stage ≡ stage.Begun
+  pub output : job.output ≡ None
   pub numbers : (job.first_rowset ≡ old.store.next_rowset) × (job.first_file ≡ old.store.next_file)
   pub upkeep : HasUpkeep n (asked w job (upkeep_at n old.upkeep.passes)) old.upkeep new.upkeep
   pub tablet : HasFrozen old.tablet new.tablet
@@ -160,12 +162,14 @@ pub record HoldInputs {C : Type 0} (tablet : View C) (outputs : List DiskRowset)
 abbrev pub outputs_of : JobView → List DiskRowset
 outputs_of job = rowsets_in job.metas job.held
 
--- A job may publish, while nothing flies: what it took is as when it began, and its superblock may be lent where the one without its outputs may and the last
+-- A flush may publish, while nothing flies: its outputs are named as their files have them, what it took is as when it began, and its superblock may be lent where the one without its outputs may and the last
 -- MemRowSet has a number that a superblock spells
 pub record MayPublishJob {L D C : Type 0} (tells : Bool) (seen : D → Files) (now : D → ℕ) (leaves : D → ℕ → Files → Type 0) (v : EngineView L D C) (job : JobView) : Type 0 where
   pub at : job.stage ≡ stage.Written
+  pub output : job.output ≡ None
   pub calm : v.tablet.core.aloft ≡ []
   pub takes : TakesFrozen v job
+  pub named : AreNamed job.metas job.held
   pub from : AreFrom job.first_rowset (outputs_of job)
   pub differ : NumbersDiffer (outputs_of job)
   pub given : RowsetsBelow (before v.store.next_rowset job.last_mem) (outputs_of job)
@@ -179,6 +183,7 @@ pub record MayPublishJob {L D C : Type 0} (tells : Bool) (seen : D → Files) (n
 -- It may finish, while nothing flies: its superblock is the published one, and there is room for its outputs
 pub record MayFinish {L D C : Type 0} (v : EngineView L D C) (n : ℕ) (job : JobView) : Type 0 where
   pub at : job.stage ≡ stage.Published
+  pub output : job.output ≡ None
   pub calm : v.tablet.core.aloft ≡ []
   pub published : (v.upkeep.publishing ≡ Some n) × (job.super ≤ v.store.meta.number) × (v.store.lent ≡ None)
   pub may : MayChangeOver v.tablet (map bare_store (outputs_of job))
@@ -192,7 +197,7 @@ pub record MayFinish {L D C : Type 0} (v : EngineView L D C) (n : ℕ) (job : Jo
 pub record HasFinished {L D C : Type 0} (n : ℕ) (old new : EngineView L D C) : Type 0 where
   pub job : JobView
   pub had : job_of n old.upkeep ≡ Some job
-  pub changed : HasChangedOver old.tablet new.tablet (map bare_store (outputs_of job)) (map first_name (outputs_of job))
+  pub changed : HasChangedOver old.tablet new.tablet (map bare_store (outputs_of job)) (map first_name (outputs_of job)) job.held
   pub upkeep : HasUpkeep n (job_finished job.want (upkeep_at n old.upkeep.passes)) old.upkeep new.upkeep
   pub begun : (new.upkeep.begun ≡ old.upkeep.begun) × (new.upkeep.publishing ≡ None)
   pub beside : new ≡ record old { tablet = new.tablet; upkeep = new.upkeep }

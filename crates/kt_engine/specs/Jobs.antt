@@ -151,10 +151,14 @@ pub record JobOn (records : List Entry) (job : JobView) : Type 0 where
   pub many : job.many ≤ length records
   pub names : RecordsBelow (before job.first_rowset job.last_mem) (take job.many records)
 
--- the outputs of the job that publishes, and the number of its superblock
+-- The outputs of the job that publishes, and the number of its superblock. A job on the files of one disk rowset has none: the stores in memory stay as they are
+abbrev pub over_for : Option RowSetData → JobView → Option Over
+over_for None job = Some (record { number = job.super; outputs = rowsets_in job.metas job.held })
+over_for (Some d) job = None
+
 abbrev pub over_of : Option JobView → Option Over
 over_of None = None
-over_of (Some job) = Some (record { number = job.super; outputs = rowsets_in job.metas job.held })
+over_of (Some job) = over_for job.output job
 
 abbrev pub over_by : Option ℕ → UpkeepsView → Option Over
 over_by None v = None

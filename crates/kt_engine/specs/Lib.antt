@@ -8,6 +8,7 @@ pub mod Upkeeps
 pub mod Engines
 pub mod Sessions
 pub mod Visits
+pub mod Files
 pub mod JobMeta
 pub mod Stored
 pub mod Pairs

@@ -29,6 +29,7 @@ use Rattle.kt_engine.specs.Memory.{name_of}
 use Rattle.kt_engine.specs.Near.{AreNear, first_number}
 use Rattle.kt_engine.specs.Over.{Over, over_at, names_over, core_over}
 use Rattle.kt_engine.specs.Jobs.{JobView, JobOn, job_of, over_in}
+use Rattle.kt_engine.specs.Files.{AreFiled, publisher, job_at, files_over}
 use Rattle.kt_engine.specs.JobMeta.{with_outputs}
 use Rattle.kt_engine.specs.Logged.{PlanPasses, LogStands, KeepsSince, HoldsUpTo}
 use Rattle.kt_engine.specs.Engines.{EngineView, IsContent, core_from}
@@ -61,6 +62,9 @@ core_at view m core = core_over (over_at m.number (over view)) view.tablet.froze
 abbrev pub names_at : {L D C : Type 0} → EngineView L D C → Meta → List Target
 names_at view m = names_over (over_at m.number (over view)) view.tablet.frozen view.tablet.names
 
+abbrev pub files_at : {L D C : Type 0} → EngineView L D C → Meta → List HeldFiles
+files_at view m = files_over (job_at m.number (publisher view.upkeep)) view.tablet.files
+
 -- A record that opening found may name a rowset of its type's last number. The next number stays there then, and none is given: all lie below the one behind it
 abbrev pub next_given : ℕ → ℕ
 next_given next = if next == 2 ^ 64 - 1 then 2 ^ 64 else next
@@ -78,8 +82,8 @@ pub record IsSuperOf {D : Type 0} (seen : D → Files) (store : StoreView D) (su
   pub is : super ≡ super_in meta held
 
 -- Beside a log that stands: under each superblock that is published or lent the log keeps the run for each past that opening found, from the records on that were
--- durable as it was made, over the stores that it is told of. No record and no store has a number above those that the engine has given, and these lie near those that opening found. While a job publishes nothing flies. The files of each hold rowsets, and each has the same columns, the mark that opening found or that of a `mark` line, and no later last
--- timestamp than the run. The store went out with no fewer faults than were handed in.
+-- durable as it was made, over the stores that it is told of. No record and no store has a number above those that the engine has given, and these lie near those that opening found. While a job publishes nothing flies. The files of each hold rowsets, those of the disk rowsets in memory among them, and each has the same columns, the mark that opening
+-- found or that of a `mark` line, and no later last timestamp than the run. The store went out with no fewer faults than were handed in.
 pub record IsStored {L D C : Type 0} (log_tells : Bool) (log_seen : L → Files) (tells : Bool) (seen : D → Files) (faults : D → ℕ) (view : EngineView L D C) : Type 0 where
   pub run : List Entry
   pub all : IsTrue log_tells → view.records ++ run ≡ all_of log_seen view.log
@@ -93,6 +97,7 @@ pub record IsStored {L D C : Type 0} (log_tells : Bool) (log_seen : L → Files)
   pub rests : (view.upkeep.publishing ≡ None) ⊎ (view.tablet.core.aloft ≡ [])
   pub jobs : (n : ℕ) (job : JobView) → job_of n view.upkeep ≡ Some job → JobOn (view.records ++ run) job
   pub holds : IsTrue tells → (m : Meta) → IsOneOf view.store m → (held : List HeldFiles) × HoldAll (seen view.store.known) m.rowsets held
+  pub files : (m : Meta) → IsOneOf view.store m → AreFiled tells (seen view.store.known) m.rowsets (files_at view m)
   pub columns : (m : Meta) → view.store.lent ≡ Some m → m.schema ≡ view.store.meta.schema
   pub mark : IsMarkOf view.tablet.mark view.tablet.core.trail view.tablet.core.a
   pub marked : (m : Meta) → IsOneOf view.store m → IsMarkOf view.tablet.mark view.tablet.core.trail m.a

@@ -6,14 +6,15 @@ ghost use Rattle.kt_history.specs.Views.{AreRising};
 ghost use Rattle.kt_baseset.specs.Rows.{keys_in};
 ghost use Rattle.kt_rowfiles.specs.Fitting.{undos_fit};
 ghost use Rattle.kt_diskrowset.specs.declared.data.RowSetData.{RowSetData as DataSpec};
-ghost use Rattle.kt_diskrowset.specs.Data.{files_in, store_in};
+ghost use Rattle.kt_diskrowset.specs.Data.{held_in, files_in};
 ghost use Rattle.kt_diskrowset.specs.Rows.{UndosLeadBack};
 ghost use Rattle.kt_outputs.specs.InPlace.{in_place};
 ghost use Rattle.kt_storeside.specs.Sides.{MayBeLent};
-ghost use Rattle.kt_tablet.specs.Jobs.{dms_in, store_in_names};
-ghost use Rattle.kt_engine.specs.Jobs.{JobView, IsAtStage, HasUpkeep, upkeep_at, job_of, asked_for_nothing, job_finished, first_flying};
-ghost use Rattle.kt_engine.specs.JobSteps.{first_holder, IsUntouched, AtNewStage};
-ghost use Rattle.kt_engine.specs.DeltaJobs.{IsOn, redo_files, HasNoWork, HasBegunDeltas, IsRead, HasShape, NamesAtMostOneRedo, delta_meta, MayPublishDeltas, lent_deltas, MayFinishDeltas, HasFinishedDeltas};
+ghost use Rattle.kt_tablet.specs.Jobs.{dms_in, files_of};
+ghost use Rattle.kt_engine.specs.Jobs.{JobView, IsAtStage, HasUpkeep, upkeep_at, job_of, asked_for_nothing, first_flying};
+ghost use Rattle.kt_engine.specs.JobSteps.{first_holder, IsUntouched, AtNewStage, IsLent};
+ghost use Rattle.kt_engine.specs.DeltaJobs.{IsOn, redo_files, HasNoWork, HasBegunDeltas, IsRead, HasShape, StayIn, StayNamed, NamesAtMostOneRedo, delta_meta, MayPublishDeltas, lent_deltas, MayFinishDeltas, HasFinishedDeltas};
+ghost use Rattle.kt_engine.specs.Files.{IsFiled};
 ghost use Rattle.kt_engine.specs.Stored.{MayPublish};
 ghost use Rattle.kt_engine.specs.Near.{most_deltas};
 ghost use Rattle.kt_engine.specs.Upkeeps.{IsThere};
@@ -190,7 +191,8 @@ impl<L: Disk, D: Disk + Drop, C: Clock> Engine<L, D, C> {
 
     // What a job reads, and the number of the DeltaMemStore that takes changes.
     fn read_deltas(&self, alloc: Global, number: u32) -> Result<(RowSetData, u64), NoMemory>
-        ensures { IfOk result (λ read. (job : JobView) → job_of number self.now.upkeep ≡ Some job → IsRead self.now.tablet job.rowset read.1 read.0) }
+        ensures read { IfOk result (λ read. (job : JobView) → job_of number self.now.upkeep ≡ Some job → IsRead self.now.tablet job.rowset read.1 read.0) }
+        ensures held { IfOk result (λ read. files_of read.0.number self.now.tablet.files ≡ Some (held_in read.0)) }
     {
         let Some(job) = self.upkeep.job(number) else {
             return Err(NoMemory);
@@ -203,12 +205,15 @@ impl<L: Disk, D: Disk + Drop, C: Clock> Engine<L, D, C> {
         Ok((data, dms))
     }
 
-    /// Hands out all that the tablet has of the job's disk rowset, once nothing flies.
+    /// Hands out all that the tablet has of the job's disk rowset, once nothing flies. Its files are those that the published superblock names, or what can be
+    /// read of them.
     pub fn delta_snapshot(&mut self, alloc: Global, number: u32) -> Result<RowSetData, JobWait>
         requires free { self.old.upkeep.publishing ≡ None }
         requires stage { (job : JobView) × IsAtStage self.old.upkeep number Stage.Begun job }
         ensures visit { IsVisit number self.old self.new }
         ensures read { IfOk result (λ d. (job : JobView) → job_of number self.old.upkeep ≡ Some job → (dms : ℕ) × IsRead self.old.tablet job.rowset dms d × AtNewStage number (record job { stage = Stage.Read; dms = dms }) self.old self.new) }
+        ensures held { IfOk result (λ d. files_of d.number self.old.tablet.files ≡ Some (held_in d)) }
+        ensures filed { IfOk result (λ d. IsFiled D.tells (D.seen self.old.store.known) self.old.store.meta.rowsets d.number (held_in d)) }
         ensures waits { (ts : ℕ) → result ≡ Err (JobWait.NotYet ts) ↔ (self.old.tablet.core.stopped ≡ false) × (first_flying self.old.tablet ≡ Some ts) }
         ensures stopped { result ≡ Err JobWait.Stopped ↔ self.old.tablet.core.stopped ≡ true }
         ensures same { OnErr result (self.new ≡ self.old) }
@@ -224,8 +229,9 @@ impl<L: Disk, D: Disk + Drop, C: Clock> Engine<L, D, C> {
         Ok(rowset)
     }
 
-    /// Takes the disk rowset as it was written, without a change in memory: after a minor compaction it has at most one REDO file, after a major one this has
-    /// deletes only. Where its UNDO records do not fit it is as for want of memory.
+    /// Takes the disk rowset as it was written, without a change in memory. A flush of changes adds one REDO file at most to the files that memory has. After a
+    /// minor compaction the base and UNDO files are those, and there is at most one REDO file; after a major one the UNDO files are, with one more at most, and
+    /// the REDO file has deletes only. Where its UNDO records do not fit it is as for want of memory.
     pub fn delta_swap(
         &mut self,
         alloc: Global,
@@ -235,6 +241,7 @@ impl<L: Disk, D: Disk + Drop, C: Clock> Engine<L, D, C> {
         requires free { self.old.upkeep.publishing ≡ None }
         requires stage { (job : JobView) × IsAtStage self.old.upkeep number Stage.Read job }
         requires shape { (job : JobView) → job_of number self.old.upkeep ≡ Some job → HasShape job.want rowset }
+        requires stay { (job : JobView) → job_of number self.old.upkeep ≡ Some job → StayIn job.want self.old.tablet.files rowset }
         ensures visit { IsVisit number self.old self.new }
         ensures written { OnOk result ((job : JobView) → job_of number self.old.upkeep ≡ Some job → AtNewStage number (record job { stage = Stage.Written; output = Some rowset }) self.old self.new) }
         ensures fits { OnOk result ((undos_fit (files_in rowset) ≡ true) × UndosLeadBack (files_in rowset)) }
@@ -286,7 +293,7 @@ impl<L: Disk, D: Disk + Drop, C: Clock> Engine<L, D, C> {
         Ok((meta, rowset.number))
     }
 
-    // Freezes the DeltaMemStore of the job's disk rowset, and lends the store to publish its superblock.
+    // Freezes the DeltaMemStore of the job's disk rowset, and lends the store to publish its superblock: the job publishes from now on.
     fn lend_deltas(&mut self, number: u32, rowset: u64, meta: Meta) -> Result<Lent<D>, StoreNo>
         requires home { self.old.store.holder ≡ None }
         requires whole { IsTrue self.old.store.whole }
@@ -298,28 +305,37 @@ impl<L: Disk, D: Disk + Drop, C: Clock> Engine<L, D, C> {
         ensures device { IfOk result (λ lent. (self.old.store.home ≡ Some lent.device) × (lent.device ≡ self.old.store.known)) }
         ensures meta { IfOk result (λ lent. lent.meta ≡ Some meta) }
         ensures numbers { IfOk result (λ lent. (lent.next_rowset ≡ self.old.store.next_rowset) × (lent.next_file ≡ self.old.store.next_file)) }
-        ensures side { OnOk result (self.new ≡ lent_deltas self.old number rowset meta) }
+        ensures side { OnOk result (self.new ≡ lent_deltas self.old number rowset meta self.new.upkeep) }
+        ensures lent { OnOk result ((job : JobView) → job_of number self.old.upkeep ≡ Some job → IsLent number job meta.number self.old.upkeep self.new.upkeep) }
         ensures memory { IfErr result (λ e. e ≡ StoreNo.Memory) }
         ensures same { OnErr result (self.new ≡ self.old) }
     {
         // The stores show the run, and what the published superblock names stands.
         self.tablet.standing();
         self.store.standing();
+        let superblock = meta.number;
         match self.tablet.freeze_deltas(rowset) {
-            Ok(()) => Ok(self.store.lend(number, Some(meta))),
+            Ok(()) => {
+                let lent = self.store.lend(number, Some(meta));
+                self.upkeep.publish(number, superblock);
+                Ok(lent)
+            }
             Err(NoMemory) => Err(StoreNo::Memory),
         }
     }
 
     /// Lends the store to publish the superblock of this pass's job on the files of a disk rowset, which is written. The DeltaMemStore that takes changes freezes, and
-    /// the next one takes them: nothing flies. All records are durable, and no other job publishes.
+    /// the next one takes them: nothing flies. All records are durable, and no other job publishes; until it is over this one does. Of the files that the published
+    /// superblock names those stay that the want leaves.
     pub fn delta_out(&mut self, alloc: Global, number: u32) -> Result<Lent<D>, StoreNo>
         requires may { (job : JobView) × ((d : DataSpec) × (job_of number self.old.upkeep ≡ Some job) × MayPublishDeltas D.tells D.seen D.now D.leaves self.old job d) }
         requires settled { (self.old.log.out ≡ []) × (self.old.log.queued ≡ []) }
         requires free { self.old.upkeep.publishing ≡ None }
         ensures lent { IfOk result (λ lent. (self.old.store.home ≡ Some lent.device) × (lent.device ≡ self.old.store.known)) }
         ensures out { IfOk result (λ lent. (job : JobView) (d : DataSpec) → job_of number self.old.upkeep ≡ Some job → job.output ≡ Some d
-            → (lent.meta ≡ Some (delta_meta self.old job.dms d)) × (self.new ≡ lent_deltas self.old number d.number (delta_meta self.old job.dms d))) }
+            → (lent.meta ≡ Some (delta_meta self.old job.dms d)) × (self.new ≡ lent_deltas self.old number d.number (delta_meta self.old job.dms d) self.new.upkeep)) }
+        ensures publishes { IfOk result (λ lent. (job : JobView) (m : MetaSpec) → lent.meta ≡ Some m → job_of number self.old.upkeep ≡ Some job → IsLent number job m.number self.old.upkeep self.new.upkeep) }
+        ensures stay { IfOk result (λ lent. (job : JobView) (d : DataSpec) (m : MetaSpec) → job_of number self.old.upkeep ≡ Some job → job.output ≡ Some d → lent.meta ≡ Some m → StayNamed job.want d.number self.old.store.meta.rowsets m.rowsets) }
         ensures names { IfOk result (λ lent. (job : JobView) (m : MetaSpec) → job_of number self.old.upkeep ≡ Some job → lent.meta ≡ Some m → NamesAtMostOneRedo job.want m.rowsets) }
         ensures numbers { IfOk result (λ lent. (lent.next_rowset ≡ self.old.store.next_rowset) × (lent.next_file ≡ self.old.store.next_file)) }
         ensures ready { IfOk result (λ lent. (m : MetaSpec) → lent.meta ≡ Some m → MayPublish D.tells D.seen D.now D.leaves lent.device m) }
@@ -342,40 +358,17 @@ impl<L: Disk, D: Disk + Drop, C: Clock> Engine<L, D, C> {
         self.lend_deltas(number, rowset, meta)
     }
 
-    // The job of a pass is over, and its output leaves.
-    fn end_deltas(&mut self, number: u32) -> Option<RowSetData>
-        requires job { (job : JobView) × (job_of number self.old.upkeep ≡ Some job) }
-        requires free { self.old.upkeep.publishing ≡ None }
-        ensures own { (job : JobView) → job_of number self.old.upkeep ≡ Some job → HasUpkeep number (job_finished job.want (upkeep_at number self.old.upkeep.passes)) self.old.upkeep self.new.upkeep }
-        ensures output { (job : JobView) → job_of number self.old.upkeep ≡ Some job → result ≡ job.output }
-        ensures begun { (self.new.upkeep.begun ≡ self.old.upkeep.begun) × (self.new.upkeep.publishing ≡ self.old.upkeep.publishing) }
-        ensures beside { self.new ≡ record self.old { upkeep = self.new.upkeep } }
-    {
-        let job = self.upkeep.finish(number);
-        output_of(job)
-    }
-
-    // A disk rowset whose files tell all that the tablet has of it takes the place of the one in memory.
-    fn put_output(&mut self, output: Option<RowSetData>)
-        requires may { (d : DataSpec) × (output ≡ Some d) × ((dms : ℕ) × (dms_in d.number self.old.tablet.names ≡ Some dms)) × (store_in d ≡ store_in_names d.number self.old.tablet.names self.old.tablet.core.stores) × (d.fresh ≡ []) × UndosLeadBack (files_in d) }
-        ensures { self.new ≡ record self.old { tablet = record self.old.tablet { pool = self.new.tablet.pool } } }
-    {
-        let Some(rowset) = output else {
-            unreachable!();
-        };
-        self.tablet.put_files(rowset);
-    }
-
     /// The disk rowset as it was written takes the place of the one in memory, whose changes in memory give their cells back. It takes no memory. The job's superblock
     /// is published.
     pub fn delta_finish(&mut self, number: u32)
-        requires may { (job : JobView) × ((d : DataSpec) × (job_of number self.old.upkeep ≡ Some job) × MayFinishDeltas self.old job d) }
-        requires free { self.old.upkeep.publishing ≡ None }
+        requires may { (job : JobView) × ((d : DataSpec) × (job_of number self.old.upkeep ≡ Some job) × MayFinishDeltas self.old number job d) }
         ensures visit { IsVisit number self.old self.new }
         ensures line { self.new.tablet.core.trail ≡ self.old.tablet.core.trail }
         ensures finished { HasFinishedDeltas number self.old self.new }
     {
-        let output = self.end_deltas(number);
-        self.put_output(output);
+        let Some(rowset) = output_of(self.upkeep.finish(number)) else {
+            unreachable!();
+        };
+        self.tablet.put_files(rowset);
     }
 }

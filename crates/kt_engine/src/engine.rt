@@ -16,8 +16,10 @@ ghost use Rattle.kt_engine.specs.Sessions.{numbers_of};
 ghost use Rattle.kt_engine.specs.Memory.{name_of, AreNamed};
 ghost use Rattle.kt_engine.specs.Logged.{AreCommits, TakesUp, UntoldFly, IsPlaced, IsThere, NamesOnly, DeltasBelow};
 ghost use Rattle.kt_diskrowset.specs.Rowset.{HeldFiles};
+ghost use Rattle.kt_files.specs.Named.{AreNamed as AreEachNamed};
 ghost use Rattle.kt_files.specs.Reading.{HoldAll};
 ghost use Rattle.kt_reopen.specs.Both.{super_in};
+ghost use Rattle.kt_reopen.specs.Opened.{AreReadOf};
 ghost use Rattle.kt_storeside.specs.Sides.{IsSide};
 ghost use Rattle.kt_engine.specs.Engines.{EngineView, IsEngine, IsLogged, IsHome, KeepsOthers, TellsStop, LeavesRecords, Recovers, RecoversEach, RecoversAll, are_whole};
 ghost use Rattle.kt_engine.specs.Near.{first_number};
@@ -151,6 +153,8 @@ impl<L: Disk, D: Disk + Drop, C: Clock> Engine<L, D, C> {
         requires faults { L.faults found.device.value ≤ L.faults journal.disk }
         requires store_home { (store.holder ≡ None) × (store.lent ≡ None) × IsTrue store.whole }
         requires superblock { IsTrue D.tells → (held : List HeldFiles) × HoldAll (D.seen store.known) store.meta.rowsets held × (found.superblock.now ≡ super_in store.meta held) }
+        // The disk rowsets in memory have the files that the superblock names, or what can be read of them.
+        requires filed { (held : List HeldFiles) × AreEachNamed store.meta.rowsets held × AreReadOf held tablet.files × (IsTrue D.tells → HoldAll (D.seen store.known) store.meta.rowsets held) }
         requires mark { (store.meta.a ≡ tablet.mark) × (tablet.core.a ≡ tablet.mark) }
         requires clock { store.meta.c ≤ tablet.core.c }
         requires store_faults { D.faults found.store.value ≤ D.faults store.known }

@@ -13,6 +13,7 @@ use Rattle.kt_mvcc.proofs.flight.Flight.TheSendSync as flight
 use Rattle.kt_records.proofs.entry.Entry.TheSendSync as entry
 use Rattle.kt_journal.proofs.journal.Journal.TheSendSync as journal
 use Rattle.kt_history.specs.declared.row_store.RowStore as RowStore
+use Rattle.kt_views.specs.declared.view_store.StoreRows as StoreRows
 use Rattle.kt_disk.specs.declared.disk.Disk as Disk
 use Rattle.kt_tablet.specs.contracts.tablet.Tablet as Tablet
 use Rattle.kt_tablet.specs.contracts.tablet.Tablet.TheInside as Inside
@@ -27,6 +28,8 @@ use Rattle.kt_engine.specs.contracts.engine.Engine.TheInside as Within
 use Rattle.kt_engine.proofs.running.Running.TheSendSync as running
 use Rattle.kt_engine.proofs.upkeep.Upkeeps.TheSendSync as upkeep
 use Rattle.kt_memrowset.proofs.store.MemRowSet.TheSendSync as rows
+use Rattle.kt_stores.specs.declared.file_store.FileStore as FileStore
+use Rattle.kt_stores.specs.contracts.file_store.DiskRowSetFileStore.TheImpl.{ghosts as files}
 use Rattle.kt_stores.specs.contracts.stores.Stores as Stores
 use Rattle.kt_stores.specs.contracts.stores.Stores.TheInside as Shelf
 use Rattle.kt_seatlock.proofs.lock.SeatLock.TheSendSync as lock
@@ -34,16 +37,18 @@ use Rattle.kt_history.specs.contracts.event.Event as Event
 use Rattle.kt_engine.specs.contracts.shared.Part as Part
 use Rattle.kt_serve.specs.contracts.tablet.SharedTablet as SharedTablet
 use Rattle.kt_diskrowset.proofs.rowset.DiskRowSet.TheSendSync as rowset
-use Rattle.kt_diskrowset.specs.contracts.row_store.DiskRowSetRowStore.TheImpl.{ghosts}
+use Rattle.kt_diskrowset.specs.contracts.row_store.DiskRowSetRowStore.TheImpl.{ghosts as stored}
+use Rattle.kt_diskrowset.specs.contracts.view.RowSetView.{the_row as view_row}
+use Rattle.kt_diskrowset.specs.contracts.view.RowSetViewStoreRows.TheImpl.{ghosts as told}
 
-module _ (R : RattleType) (g : RowStore.Ghosts R.Denot) where
-  pub stores_send : IsSend R → IsSend (Stores.the_row R g)
-  stores_send r = view_send (Shelf.the_row R g) _ _ _ _ (recorded_send (Shelf.the_field R g).row _ _ (Shelf.the_type R g).to_one (struct_send (shape (Shelf.the_type R g)) (search (sendable, crosses) depth 20, (search (sendable, crosses, rows.the_send) depth 20, (search (sendable, crosses, rows.the_send) depth 20, (Vec-send _ r, tt))))))
+module _ (R V : RattleType) (f : FileStore.Ghosts R.Denot V.Denot) (g : RowStore.Ghosts R.Denot) (t : StoreRows.Ghosts V.Denot) where
+  pub stores_send : IsSend R → IsSend (Stores.the_row R V f g t)
+  stores_send r = view_send (Shelf.the_row R V f g t) _ _ _ _ (recorded_send (Shelf.the_field R V f g t).row _ _ (Shelf.the_type R V f g t).to_one (struct_send (shape (Shelf.the_type R V f g t)) (search (sendable, crosses) depth 20, (search (sendable, crosses, rows.the_send) depth 20, (search (sendable, crosses, rows.the_send) depth 20, (Vec-send _ r, tt))))))
 
-module _ (S C : RattleType) (g : RowStore.Ghosts S.Denot) (h : Clock.Ghosts C.Denot) where
-  pub tablet_send : IsSend S → IsSend C → IsSend (Tablet.the_row S C g h)
-  tablet_send s c = view_send (Inside.the_row S C g h) _ _ _ _ (recorded_send (Inside.the_field S C g h).row _ _ (Inside.the_type S C g h).to_one (struct_send (shape (Inside.the_type S C g h)) (
-    stores_send S g s,
+module _ (S C V : RattleType) (f : FileStore.Ghosts S.Denot V.Denot) (g : RowStore.Ghosts S.Denot) (t : StoreRows.Ghosts V.Denot) (h : Clock.Ghosts C.Denot) where
+  pub tablet_send : IsSend S → IsSend C → IsSend (Tablet.the_row S C V f g t h)
+  tablet_send s c = view_send (Inside.the_row S C V f g t h) _ _ _ _ (recorded_send (Inside.the_field S C V f g t h).row _ _ (Inside.the_type S C V f g t h).to_one (struct_send (shape (Inside.the_type S C V f g t h)) (
+    stores_send S V f g t s,
     (
       c,
       (
@@ -84,7 +89,7 @@ module _ (D : RattleType) (g : Disk.Ghosts D.Denot) where
 module _ (L D C : RattleType) (g : Disk.Ghosts L.Denot) (k : Disk.Ghosts D.Denot) (h : Clock.Ghosts C.Denot) where
   pub engine_send : IsSend L → IsSend D → IsSend C → IsSend (Engine.the_row L D C g k h)
   engine_send l d c = view_send (Within.the_row L D C g k h) _ _ _ _ (recorded_send (Within.the_field L D C g k h).row _ _ (Within.the_type L D C g k h).to_one (struct_send (shape (Within.the_type L D C g k h))
-      (Box-send _ (tablet_send _ C ghosts h rowset.the_send c), (Box-send _ (side_send L g l), (Box-send _ (store_send D k d), (running.the_send, (search (sendable, crosses), (search (sendable, crosses), (search (sendable, crosses), (search (sendable, crosses), (upkeep.the_send, (plain_send _ _ _ _ _, (plain_send _ _ _ _ _, (search (sendable, crosses), tt))))))))))))))
+      (Box-send _ (tablet_send _ C view_row files stored told h rowset.the_send c), (Box-send _ (side_send L g l), (Box-send _ (store_send D k d), (running.the_send, (search (sendable, crosses), (search (sendable, crosses), (search (sendable, crosses), (search (sendable, crosses), (upkeep.the_send, (plain_send _ _ _ _ _, (plain_send _ _ _ _ _, (search (sendable, crosses), tt))))))))))))))
 
   pub shared_sync : IsSend L → IsSend D → IsSend C → IsSync (SharedTablet.the_row L D C g k h)
   shared_sync l d c = recorded_sync (SharedTablet.the_field L D C g k h).row _ _ (SharedTablet.the_type L D C g k h).to_one (struct_sync (shape (SharedTablet.the_type L D C g k h)) (lock.the_field_sync (Engine.the_row L D C g k h) Event.the_row (Part.the_row L D C g k h) _ (engine_send l d c), tt))

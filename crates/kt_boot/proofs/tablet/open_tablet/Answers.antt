@@ -15,7 +15,7 @@ use Rattle.kt_engine.proofs.Others.{opened_others}
 use Rattle.kt_disk.specs.Disk.{LeavesOnly}
 use Rattle.kt_reopen.specs.Holding.{KeepsContent, IsOfStore}
 use Rattle.kt_reopen.specs.Numbers.{next_rowset}
-use Rattle.kt_reopen.specs.Opened.{first_meta, IsRefusal}
+use Rattle.kt_reopen.specs.Opened.{first_meta, AreReadOf, IsRefusal}
 use Rattle.kt_storeside.specs.Supers.{NamedStand}
 use Rattle.kt_boot.proofs.OneAnswer.{answers_once}
 use Rattle.kt_reopen.proofs.Held.{content_found}
@@ -57,6 +57,12 @@ of-requires-2-clause-clock g c =
 
 pub of-requires-2-clause-superblock : goal.of-requires-2-clause-superblock
 of-requires-2-clause-superblock g c = λ told. rw (c.of-side.ensures) (c.in-Ok.ensures.holds told)
+
+-- the stores have the files that were read
+pub of-requires-2-clause-filed : goal.of-requires-2-clause-filed
+of-requires-2-clause-filed g c =
+    let f = c.in-Ok.ensures.files in
+    (f.0, rw (c.of-side.ensures) f.1, subst (AreReadOf f.0) (sym c.in-Ok-of.ensures.files) f.2, rw (c.of-side.ensures) f.3)
 
 pub of-requires-2-clause-store_faults : goal.of-requires-2-clause-store_faults
 of-requires-2-clause-store_faults g c = rw (c.of-side.ensures, c.of-store_device.ensures) (c.open_devices.ensures.store_faults)

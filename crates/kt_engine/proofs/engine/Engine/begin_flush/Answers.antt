@@ -38,5 +38,5 @@ returns-clause-begun g c =
     let none = rw old at c.requires.free in
     let side = rw c.deref.ensures at c.standing.ensures.side in
     rw old
-    (begun_is _ c.freeze.new.self c.begin.new.self h c.args.number c.begin.result c.args.asked (job_in c.args.asked job) refl refl count.0 (ap (λ n. n + 1) c.counts-begun.ensures.begun) (count.1, count.2 ∙ none) (ap (λ p. p.0) numbers, ap (λ p. p.1) numbers) c.begin.ensures.own
+    (begun_is _ c.freeze.new.self c.begin.new.self h c.args.number c.begin.result c.args.asked (job_in c.args.asked job) refl refl refl count.0 (ap (λ n. n + 1) c.counts-begun.ensures.begun) (count.1, count.2 ∙ none) (ap (λ p. p.0) numbers, ap (λ p. p.1) numbers) c.begin.ensures.own
     c.self.invariant.0.ready.shelved c.self.invariant.1.names_below few side.rowsets last many)

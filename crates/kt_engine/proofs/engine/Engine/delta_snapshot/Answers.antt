@@ -1,6 +1,7 @@
-use Rattle.std.proofs.Common.{refl, sym}
+use Rattle.std.proofs.Common.{refl, sym, inl}
 use Rattle.kt_engine.specs.declared.upkeep.Stage.TheVariants as stage
 use Rattle.kt_engine.proofs.JobBoth.{further_both}
+use Rattle.kt_engine.proofs.Stored.{filed_now}
 use Rattle.kt_engine.proofs.Visiting.{visit_of, upkeep_visit}
 use Rattle.kt_engine.proofs.engine.Engine.delta_snapshot.Goals as goal
 
@@ -23,4 +24,13 @@ returns-clause-visit g c =
 pub returns-clause-read : goal.returns-clause-read
 returns-clause-read g c =
     let old = sym c.self.view_is in
-    rw old (λ job had. (c.in_ok-rowset.dms, (rw old at c.in_ok-rowset.ensures) job had, record { upkeep = c.read_deltas-2.ensures.own job had; begun = c.read_deltas-2.ensures.begun; beside = refl }))
+    rw old (λ job had. (c.in_ok-rowset.dms, (rw old at c.in_ok-rowset.ensures.read) job had, record { upkeep = c.read_deltas-2.ensures.own job had; begun = c.read_deltas-2.ensures.begun; beside = refl }))
+
+pub returns-clause-held : goal.returns-clause-held
+returns-clause-held g c = rw (sym c.self.view_is) (rw (sym c.self.view_is) at c.in_ok-rowset.ensures.held)
+
+-- the files that memory has are those of the published superblock
+pub returns-clause-filed : goal.returns-clause-filed
+returns-clause-filed g c =
+    let old = sym c.self.view_is in
+    rw old (filed_now g.L.Disk.tells g.L.Disk.seen g.D.Disk.tells g.D.Disk.seen g.D.Disk.faults _ c.self.invariant.1 (rw old at c.requires.free) _ (inl refl) _ _ (rw old at c.in_ok-rowset.ensures.held))

@@ -2,7 +2,7 @@ use Rattle.std.proofs.Common.{◌≡◌, refl, sym, ap, ◌∙◌, subst}
 use Rattle.kt_tablet.specs.Jobs.{MayChangeOver}
 use Rattle.kt_engine.specs.Upkeeps.{job_in}
 use Rattle.kt_engine.proofs.NewRowsets.{all_stand, all_bare, all_empty, each_closed}
-use Rattle.kt_engine.proofs.JobFinish.{gives_stores, gives_names, changed_is, finished_both, finish_visit}
+use Rattle.kt_engine.proofs.JobFinish.{gives_stores, gives_names, gives_files, changed_is, finished_both, finish_visit}
 use Rattle.kt_engine.proofs.Visiting.{visit_of}
 use Rattle.kt_engine.proofs.engine.Engine.job_finish.Goals as goal
 
@@ -33,7 +33,7 @@ invariant_of-self-2 g c =
     let stand = c.into_rowsets.ensures.stand in
     let changed = rw (c.deref_mut.ensures.value, c.into_rowsets.ensures.rowsets) at c.change_over.ensures in
     finished_both g.L.Disk.tells g.L.Disk.seen g.L.Disk.now g.L.Disk.leaves g.L.Disk.faults g.D.Disk.tells g.D.Disk.seen g.D.Disk.faults _ c.change_over.new.self c.finish.new.self c.args.number may.0
-    (changed_is _ c.change_over.new.self _ _ _ _ (gives_stores may.0.want c.in-Some.job may.0 c.self.inside.tablet.value.pool stand job_is) (gives_names may.0.want c.in-Some.job may.0 stand job_is) changed) (c.finish.ensures.own may.0 may.1) may.1 may.2 c.finish.ensures.begun c.self.invariant
+    (changed_is _ c.change_over.new.self _ _ _ _ _ _ (gives_stores may.0.want c.in-Some.job may.0 c.self.inside.tablet.value.pool stand job_is) (gives_names may.0.want c.in-Some.job may.0 stand job_is) (gives_files may.0.want c.in-Some.job may.0 job_is) changed) (c.finish.ensures.own may.0 may.1) may.1 may.2 c.finish.ensures.begun c.self.invariant
 
 pub change_over-requires-clause-may : goal.change_over-requires-clause-may
 change_over-requires-clause-may g c =
@@ -52,7 +52,7 @@ returns-clause-visit g c =
     let job_is : job_in may.0.want c.in-Some.job ≡ may.0 = ap (job_in may.0.want) (let one : c.in-Some.job ≡ left.0 = cc in one) ∙ left.2 in
     let stand = c.into_rowsets.ensures.stand in
     let changed = rw (c.deref_mut.ensures.value, c.into_rowsets.ensures.rowsets) at c.change_over.ensures in
-    visit_of _ _ _ _ c.self.view_is (finish_visit g.L.Disk.tells g.L.Disk.seen g.L.Disk.now g.L.Disk.leaves g.L.Disk.faults g.D.Disk.tells g.D.Disk.seen g.D.Disk.faults _ c.change_over.new.self c.finish.new.self c.args.number may.0 (changed_is _ c.change_over.new.self _ _ _ _ (gives_stores may.0.want c.in-Some.job may.0 c.self.inside.tablet.value.pool stand job_is) (gives_names may.0.want c.in-Some.job may.0 stand job_is) changed) (c.finish.ensures.own may.0 may.1))
+    visit_of _ _ _ _ c.self.view_is (finish_visit g.L.Disk.tells g.L.Disk.seen g.L.Disk.now g.L.Disk.leaves g.L.Disk.faults g.D.Disk.tells g.D.Disk.seen g.D.Disk.faults _ c.change_over.new.self c.finish.new.self c.args.number may.0 (changed_is _ c.change_over.new.self _ _ _ _ _ _ (gives_stores may.0.want c.in-Some.job may.0 c.self.inside.tablet.value.pool stand job_is) (gives_names may.0.want c.in-Some.job may.0 stand job_is) (gives_files may.0.want c.in-Some.job may.0 job_is) changed) (c.finish.ensures.own may.0 may.1))
 
 pub returns-clause-finished : goal.returns-clause-finished
 returns-clause-finished g c =
@@ -62,4 +62,4 @@ returns-clause-finished g c =
     let job_is : job_in may.0.want c.in-Some.job ≡ may.0 = ap (job_in may.0.want) (let one : c.in-Some.job ≡ left.0 = cc in one) ∙ left.2 in
     let stand = c.into_rowsets.ensures.stand in
     let changed = rw (c.deref_mut.ensures.value, c.into_rowsets.ensures.rowsets) at c.change_over.ensures in
-    rw (sym c.self.view_is) (record { job = may.0; had = may.1; changed = (changed_is _ c.change_over.new.self _ _ _ _ (gives_stores may.0.want c.in-Some.job may.0 c.self.inside.tablet.value.pool stand job_is) (gives_names may.0.want c.in-Some.job may.0 stand job_is) changed); upkeep = c.finish.ensures.own may.0 may.1; begun = c.finish.ensures.begun; beside = refl })
+    rw (sym c.self.view_is) (record { job = may.0; had = may.1; changed = (changed_is _ c.change_over.new.self _ _ _ _ _ _ (gives_stores may.0.want c.in-Some.job may.0 c.self.inside.tablet.value.pool stand job_is) (gives_names may.0.want c.in-Some.job may.0 stand job_is) (gives_files may.0.want c.in-Some.job may.0 job_is) changed); upkeep = c.finish.ensures.own may.0 may.1; begun = c.finish.ensures.begun; beside = refl })
