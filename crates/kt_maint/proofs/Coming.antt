@@ -49,6 +49,9 @@ module _ {L D C : Type 0} (n : ℕ) (b out : EngineView L D C) (lent : Lent D) (
       pub publish_quiet : r ≢ Err no.Stopped → IsQuiet n b new
       publish_quiet goes = ends (IsQuiet n b new) (λ which h t. turned_quiet n b out new lent home is t (came_others which h) (came_asks which h)) (λ e t. absurd (goes e))
 
+      pub publish_asks : r ≢ Err no.Stopped → KeepsAsks n b.upkeep new.upkeep
+      publish_asks goes = ends (KeepsAsks n b.upkeep new.upkeep) (λ which h t. came_asks which h) (λ e t. absurd (goes e))
+
       pub publish_back : r ≡ Err no.Memory → MayAbandon new n
       publish_back e = let h = memory (its_job job number) its_has e in record {
         job = record (its_job job number) { stage = stage.Written };

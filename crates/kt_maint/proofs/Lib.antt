@@ -4,6 +4,7 @@ pub mod Readying
 pub mod Rounds
 pub mod Visiting
 pub mod Coming
+pub mod Kept
 pub mod DeltaSteps
 pub mod Stages
 pub mod Merged

@@ -50,6 +50,7 @@ module _ {L D C : Type 0} (n : ℕ) (a b : EngineView L D C) where
     has = ap (λ (u : UpkeepView). u.job) h.upkeep.own;
     at = refl;
     want = at.want;
+    output = at.output;
     free = h.begun.1 ∙ at.free;
     begun = λ e. at.begun (sym h.begun.0 ∙ e);
     given = subst (λ (v : EngineView L D C). at.job.first_rowset ≤ v.store.next_rowset) (sym h.beside) at.given;
@@ -87,6 +88,7 @@ module _ {L D C : Type 0} (n : ℕ) (a b : EngineView L D C) where
     has = ap (job_of n) upkeep ∙ at.has;
     at = at.at;
     want = at.want;
+    output = at.output;
     free = ap (λ (u : UpkeepsView). u.publishing) upkeep ∙ at.free;
     begun = λ e. at.begun (sym (ap (λ (u : UpkeepsView). u.begun) upkeep) ∙ e);
     given = (let low = at.given in omega (arith, low, more));

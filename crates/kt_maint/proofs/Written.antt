@@ -22,7 +22,7 @@ use Rattle.kt_diskrowset.specs.declared.data.RowSetData.{RowSetData}
 use Rattle.kt_diskrowset.specs.Data.{files_in, held_in}
 use Rattle.kt_diskrowset.specs.Rowset.{HeldFiles}
 use Rattle.kt_files.specs.Content.{rowsets_in}
-use Rattle.kt_files.specs.Named.{HasNamed}
+use Rattle.kt_files.specs.Named.{HasNamed, AreNamed}
 use Rattle.kt_files.specs.Reading.{HoldAll}
 use Rattle.kt_outputs.specs.Outputs.{meta_in, AreWritten}
 use Rattle.kt_outputs.specs.Named.{outputs_come_behind, outputs_stand}
@@ -42,6 +42,7 @@ use Rattle.kt_engine.specs.Logged.{PlanPasses}
 use Rattle.kt_engine.specs.Visits.{Root, root_of}
 use Rattle.kt_engine.specs.JobSteps.{HoldInputs, MayPublishJob, MayFinish, outputs_of}
 use Rattle.kt_engine.specs.Jobs.{JobView, job_of}
+use Rattle.kt_engine.proofs.Filed.{own_names}
 use Rattle.kt_engine.proofs.Flushed.{bare_hists}
 use Rattle.kt_engine.proofs.Visiting.{root_stays}
 use Rattle.kt_maint.specs.Runs.{IsQuiet, IsReady, IsPublished, HasFiles, HoldsMerged, JobHas}
@@ -80,6 +81,11 @@ below_written number next last (x ∷ outputs) (d ∷ out) low w =
 no_dms : (out : List RowSetData) → AllByRecursion (λ (d : DiskRowset). d.last_dms ≡ 0) (map files_in out)
 no_dms [] = tt
 no_dms (d ∷ out) = (refl, no_dms out)
+
+-- they are named as they are held
+names_written : (out : List RowSetData) → AreNamed (map (meta_in 0) out) (map held_in out)
+names_written [] = tt
+names_written (d ∷ out) = (own_names 0 d, names_written out)
 
 pub fresh_written : (number : ℕ) (outputs out : List RowSetData) → AreWritten number outputs out → AllByRecursion (λ (d : RowSetData). d.fresh ≡ []) out
 fresh_written number [] [] w = tt
@@ -150,8 +156,10 @@ module _ {L D C : Type 0} (tells : Bool) (seen : D → Files) (now : D → ℕ) 
         λ q. sym (ap (map (hist_in_files q)) is ∙ same a.store.next_rowset merged out q files.written) in
         record {
           at = has.at.at;
+          output = has.at.output;
           calm = ready.calm;
           takes = has.at.takes;
+          named = subst (λ (ms : List MetaRowset). AreNamed ms job.held) (sym has.metas) (subst (AreNamed (map (meta_in 0) out)) (sym has.held) (names_written out));
           from = subst (AreFrom job.first_rowset) (sym is) has.from;
           differ = subst NumbersDiffer (sym is) (differ_written a.store.next_rowset merged out files.written);
           given = subst (RowsetsBelow (before c.store.next_rowset job.last_mem)) (sym is) (below_written a.store.next_rowset c.store.next_rowset job.last_mem merged out (let e = files.rowset in omega arith) files.written);
@@ -176,6 +184,7 @@ module _ {L D C : Type 0} (tells : Bool) (seen : D → Files) (now : D → ℕ) 
       let long : length job.held ≡ length out = ap length has.held ∙ length-map out held_in in
       record {
         at = refl;
+        output = may.output;
         calm = ap (λ (t : View C). t.core.aloft) quiet.tablet ∙ may.calm;
         published = p.own;
         may = subst (λ (t : View C). MayChangeOver t (map bare_store (outputs_of job))) (sym quiet.tablet) (record {

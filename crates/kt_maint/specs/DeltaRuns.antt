@@ -1,19 +1,18 @@
 -- What the steps of a job on the files of one disk rowset do to the engine, in one visit.
-use Rattle.std.specs.Prelude.{◌≡◌, ◌≢◌, ℕ, Bool, true, IsTrue, List, [], Option, Some, None}
+use Rattle.std.specs.Prelude.{◌≡◌, ◌≢◌, ◌≤◌, ℕ, Bool, true, IsTrue, [], Some, None}
 use Rattle.kt_disk.specs.Disk.{Files}
-use Rattle.kt_super.specs.declared.meta.Meta.{Meta}
-use Rattle.kt_storeside.specs.declared.side.Lent.{Lent}
 use Rattle.kt_storeside.specs.Sides.{StoreView}
 use Rattle.kt_diskrowset.specs.declared.data.RowSetData.{RowSetData}
 use Rattle.kt_diskrowset.specs.Data.{files_in, held_in}
 use Rattle.kt_diskrowset.specs.Rows.{UndosLeadBack}
+use Rattle.kt_diskrowset.specs.Rowset.{HeldFiles}
 use Rattle.kt_files.specs.Reading.{HoldsRowset}
-use Rattle.kt_outputs.specs.InPlace.{in_place}
-use Rattle.kt_outputs.specs.Outputs.{meta_in, file_numbers, CountUp, AreStable, IsWhole}
-use Rattle.kt_outputs.specs.Named.{IsShort}
+use Rattle.kt_merge.specs.Rewriting.{AddsRedo, MergesRedos, FoldsRedos}
+use Rattle.kt_outputs.specs.Outputs.{meta_in, AreStable, IsWhole}
+use Rattle.kt_outputs.specs.Rewriting.{HasNumbers, KeptStand}
 use Rattle.kt_pick.specs.declared.rules.Want.{Want}
 use Rattle.kt_pick.specs.declared.rules.Want.TheVariants as want
-use Rattle.kt_tablet.specs.Jobs.{next_dms}
+use Rattle.kt_tablet.specs.Jobs.{next_dms, files_of}
 use Rattle.kt_engine.specs.Engines.{EngineView}
 use Rattle.kt_engine.specs.declared.upkeep.Stage.{Stage}
 use Rattle.kt_engine.specs.declared.upkeep.Stage.TheVariants as stage
@@ -37,30 +36,40 @@ pub record DeltasAt {L D C : Type 0} (v : EngineView L D C) (n : ℕ) (w : Want)
   pub free : v.upkeep.publishing ≡ None
   pub begun : v.upkeep.begun ≢ 0
 
--- its rowset as it is to be written: its files tell all that the tablet has of it, and are as the want leaves them
+-- what a want leaves of files, where those that are to be written have no number yet
+abbrev pub Leaves : Want → HeldFiles → HeldFiles → Type 0
+Leaves (want.FlushDeltas r) old new = AddsRedo old new
+Leaves (want.Minor r) old new = MergesRedos old new
+Leaves (want.Major r) old new = FoldsRedos old new
+Leaves _ old new = Unit {0}
+
+-- its rowset as it is to be written: its files tell all that the tablet has of it, and the want leaves them of those that memory has
 pub record IsMade {L D C : Type 0} (v : EngineView L D C) (n : ℕ) (w : Want) (d : RowSetData) : Type 0 where
   pub at : DeltasAt v n w stage.Read
   pub all : TellsAll v.tablet at.job.dms d
   pub shape : HasShape w d
+  pub was : HeldFiles
+  pub there : files_of d.number v.tablet.files ≡ Some was
+  pub leaves : Leaves w was (held_in d)
   pub lead : UndosLeadBack (files_in d)
   pub whole : IsWhole d
 
--- its files are written under new numbers, which this turn of the store used
+-- its files that had no number are written under new ones, which this turn of the store used, and the others stay
 pub record HasRewritten {D : Type 0} (tells : Bool) (seen : D → Files) (now : D → ℕ) (leaves : D → ℕ → Files → Type 0) (old new : StoreView D) (d out : RowSetData) : Type 0 where
   pub same : files_in out ≡ files_in d
   pub fresh : out.fresh ≡ []
   pub rowset : new.next_rowset ≡ old.next_rowset
-  pub numbered : CountUp old.next_file new.next_file (file_numbers out)
-  pub short : IsShort out
-  pub holds : IsTrue tells → (dms : ℕ) → HoldsRowset (seen new.known) (meta_in dms out) (held_in out)
+  pub numbered : HasNumbers old.next_file new.next_file (held_in d) (held_in out)
+  pub holds : IsTrue tells → KeptStand (seen new.known) d → (dms : ℕ) → HoldsRowset (seen new.known) (meta_in dms out) (held_in out)
   pub stable : IsTrue tells → AreStable seen now leaves old.next_file new.next_file new.known
   pub meta : new.meta ≡ old.meta
 
--- The superblock of such a job is published, and names what it wrote: the next DeltaMemStore of its rowset takes changes
-pub record IsPublishedRowset {L D C : Type 0} (dms : ℕ) (d : RowSetData) (old new : EngineView L D C) : Type 0 where
-  pub tablet : new.tablet ≡ record old.tablet { names = next_dms d.number old.tablet.names }
-  pub named : in_place (meta_in dms d) new.store.meta.rowsets ≡ new.store.meta.rowsets
-  pub upkeep : new.upkeep ≡ old.upkeep
+-- The superblock of such a job is published: the next DeltaMemStore of its rowset takes changes
+pub record IsPublishedRowset {L D C : Type 0} (n : ℕ) (job : JobView) (r : ℕ) (old new : EngineView L D C) : Type 0 where
+  pub tablet : new.tablet ≡ record old.tablet { names = next_dms r old.tablet.names }
+  pub number : ℕ
+  pub has : job_of n new.upkeep ≡ Some (record job { stage = stage.Published; super = number })
+  pub own : (new.upkeep.publishing ≡ Some n) × (number ≤ new.store.meta.number) × (new.store.lent ≡ None)
 
 -- how a job whose rowset is written ends
 abbrev pub EndsAs : {L D C : Type 0} → ℕ → Want → EngineView L D C → EngineView L D C → Turn → Type 0
@@ -69,14 +78,3 @@ EndsAs n w old new turn.Nothing = ⊥
 EndsAs n w old new turn.Wait = ⊥
 EndsAs n w old new turn.Memory = HasNoDevice n new
 EndsAs n w old new turn.Stopped = (new.tablet.core.stopped ≡ true) × HasNoDevice n new
-
--- The store is out to publish a superblock that comes behind the published one, while no job publishes
-pub record IsOut {L D C : Type 0} (v : EngineView L D C) (n : ℕ) (lent : Lent D) : Type 0 where
-  pub out : v.store.holder ≡ Some n
-  pub whole : IsTrue v.store.whole
-  pub device : lent.device ≡ v.store.known
-  pub numbers : (lent.next_rowset ≡ v.store.next_rowset) × (lent.next_file ≡ v.store.next_file)
-  pub meta : Meta
-  pub is : (lent.meta ≡ Some meta) × (v.store.lent ≡ Some meta)
-  pub schema : meta.schema ≡ v.store.meta.schema
-  pub free : v.upkeep.publishing ≡ None

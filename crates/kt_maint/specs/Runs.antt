@@ -91,6 +91,7 @@ pub record JobIsAt {L D C : Type 0} (v : EngineView L D C) (n : ℕ) (s : Stage)
   pub has : job_of n v.upkeep ≡ Some job
   pub at : job.stage ≡ s
   pub want : job.want ≡ want.Flush
+  pub output : job.output ≡ None
   pub free : v.upkeep.publishing ≡ None
   pub begun : v.upkeep.begun ≢ 0
   pub given : job.first_rowset ≤ v.store.next_rowset

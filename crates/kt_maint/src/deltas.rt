@@ -1,17 +1,20 @@
 //! A job on the files of one disk rowset, in one visit.
-ghost use Rattle.std.specs.Prelude.{◌≡◌, ◌≢◌, [], true, false, None, Some, OnOk, IfOk, IsErr, Err, IfErr};
+ghost use Rattle.std.specs.Prelude.{◌≡◌, ◌≢◌, [], true, None, Some, OnOk, IfOk, IsErr, Err};
 ghost use Rattle.kt_diskrowset.specs.declared.data.RowSetData.{RowSetData as DataSpec};
+ghost use Rattle.kt_diskrowset.specs.Data.{held_in};
+ghost use Rattle.kt_diskrowset.specs.Rowset.{HeldFiles};
 ghost use Rattle.kt_outputs.specs.Outputs.{IsWhole};
-ghost use Rattle.kt_merge.specs.Rewriting.{IsRewritten};
+ghost use Rattle.kt_merge.specs.Rewriting.{IsRewritten, AddsRedo};
 ghost use Rattle.kt_engine.specs.Jobs.{JobView, job_of};
-ghost use Rattle.kt_engine.specs.DeltaJobs.{IsOn, HasShape, MayPublishDeltas, MayFinishDeltas};
+ghost use Rattle.kt_engine.specs.DeltaJobs.{IsOn, HasShape, MayPublishDeltas};
 ghost use Rattle.kt_engine.specs.Visits.{IsVisit};
 ghost use Rattle.kt_engine.specs.declared.upkeep.Stage.TheVariants as stage;
-ghost use Rattle.kt_maint.specs.Runs.{IsQuiet, IsReady, RunsAs, HasNoDevice, MayAbandon, StandsAs};
-ghost use Rattle.kt_maint.specs.DeltaRuns.{IsOfRowset, DeltasAt, IsMade, IsPublishedRowset, EndsAs};
+ghost use Rattle.kt_maint.specs.Runs.{KeepsAsks, IsQuiet, IsReady, RunsAs, HasNoDevice, MayAbandon, StandsAs};
+ghost use Rattle.kt_maint.specs.DeltaRuns.{IsOfRowset, DeltasAt, Leaves, IsMade, IsPublishedRowset, EndsAs};
 
+use crate::publishing::publish_and_return;
 use crate::ready::{Ready, make_ready};
-use crate::rewriting::{publish_lent, rewrite};
+use crate::rewriting::rewrite;
 use crate::tries::Turn;
 use kt_base::{Clock, NoMemory};
 use kt_disk::Disk;
@@ -29,6 +32,7 @@ fn reworked(alloc: Global, want: &Want, flushed: RowSetData) -> Result<RowSetDat
     requires none { flushed.fresh ≡ [] }
     ensures same { IfOk result (IsRewritten flushed) }
     ensures shape { IfOk result (HasShape want.now) }
+    ensures leaves { (read : HeldFiles) → AddsRedo read (held_in flushed) → IfOk result (λ d. Leaves want.now read (held_in d)) }
 {
     match want {
         Want::Minor(_) => with_one_redo(alloc, flushed),
@@ -42,6 +46,7 @@ fn made_for(alloc: Global, want: &Want, read: RowSetData) -> Result<RowSetData, 
     requires on { IsOn read.number want.now }
     ensures same { IfOk result (IsRewritten read) }
     ensures shape { IfOk result (HasShape want.now) }
+    ensures leaves { IfOk result (λ d. Leaves want.now (held_in read) (held_in d)) }
     ensures whole { IfOk result IsWhole }
 {
     let flushed = with_deltas(alloc, read)?;
@@ -101,6 +106,8 @@ fn prepare<L: Disk, D: Disk + Drop, C: Clock>(
         return Err(MaintNo::Memory);
     };
     let written = rewrite(alloc, engine, by, &made)?;
+    // The files that memory has are those that the published superblock names, which stand.
+    engine.standing();
     match engine.delta_swap(alloc, by, written) {
         Ok(()) => Ok(()),
         Err(LookNo::Memory) => Err(MaintNo::Memory),
@@ -109,7 +116,7 @@ fn prepare<L: Disk, D: Disk + Drop, C: Clock>(
     }
 }
 
-// Publishes the superblock of this pass's job, whose rowset is written. After a fault the tablet is stopped.
+// Publishes the superblock of this pass's job, whose rowset is written, and which publishes until it is over. After a fault the tablet is stopped.
 fn publish_rowset<L: Disk, D: Disk + Drop, C: Clock>(
     alloc: Global,
     engine: &mut Engine<L, D, C>,
@@ -121,13 +128,14 @@ fn publish_rowset<L: Disk, D: Disk + Drop, C: Clock>(
     ensures visit { IsVisit by engine.old engine.new }
     ensures still { StandsAs by engine.old engine.new }
     ensures log { engine.new.log ≡ engine.old.log }
-    ensures published { (job : JobView) (d : DataSpec) → job_of by engine.old.upkeep ≡ Some job → job.output ≡ Some d → OnOk result (IsPublishedRowset job.dms d engine.old engine.new) }
-    ensures upkeep { result ≢ Err MaintNo.Stopped → engine.new.upkeep ≡ engine.old.upkeep }
+    ensures asks { result ≢ Err MaintNo.Stopped → KeepsAsks by engine.old.upkeep engine.new.upkeep }
+    ensures published { (job : JobView) (d : DataSpec) → job_of by engine.old.upkeep ≡ Some job → job.output ≡ Some d → OnOk result (IsPublishedRowset by job d.number engine.old engine.new) }
+    ensures back { result ≡ Err MaintNo.Memory → MayAbandon engine.new by }
     ensures stops { result ≡ Err MaintNo.Stopped → engine.new.tablet.core.stopped ≡ true }
     ensures home { engine.new.store.holder ≡ None }
 {
     match engine.delta_out(alloc, by) {
-        Ok(lent) => publish_lent(alloc, engine, by, lent),
+        Ok(lent) => publish_and_return(alloc, engine, by, lent),
         Err(StoreNo::Memory) => Err(MaintNo::Memory),
         // The store is at home, and the tablet goes on.
         Err(StoreNo::Stopped) => unreachable!(),

@@ -14,8 +14,8 @@ use kt_storeside::{Lent, publish};
 use kt_super::PrepareNo;
 use std::alloc::Global;
 
-// Publishes the superblock that is lent, and takes the store home. After a fault the tablet is stopped.
-fn publish_and_return<L: Disk, D: Disk + Drop, C: Clock>(
+// Publishes the superblock of a job that is lent, and takes the store home. After a fault the tablet is stopped.
+pub(crate) fn publish_and_return<L: Disk, D: Disk + Drop, C: Clock>(
     alloc: Global,
     engine: &mut Engine<L, D, C>,
     by: u32,

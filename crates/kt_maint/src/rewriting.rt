@@ -1,22 +1,19 @@
-//! Writing a disk rowset again, and publishing the superblock that names its new files.
-ghost use Rattle.std.specs.Prelude.{◌≡◌, ◌≢◌, ◌≤◌, ◌<◌, ◌+◌, ◌^◌, None, Some, false, true, Err, IfOk, OnOk};
-ghost use Rattle.kt_super.specs.declared.meta.Meta.{Meta};
+//! Writing those files of a disk rowset that are not written yet.
+ghost use Rattle.std.specs.Prelude.{◌≡◌, ◌≢◌, None, false, true, Err, IfOk};
 ghost use Rattle.kt_outputs.specs.Outputs.{IsWhole};
-ghost use Rattle.kt_engine.specs.Stored.{MayPublish};
 ghost use Rattle.kt_engine.specs.Visits.{IsVisit};
 ghost use Rattle.kt_maint.specs.Runs.{IsQuiet, LentToWrite, HasTurned, HasBroken, StandsAs};
-ghost use Rattle.kt_maint.specs.DeltaRuns.{HasRewritten, IsOut};
+ghost use Rattle.kt_maint.specs.DeltaRuns.{HasRewritten};
 
 use kt_base::Clock;
 use kt_disk::Disk;
 use kt_diskrowset::RowSetData;
 use kt_engine::{Broken, Engine, MaintNo, Purpose, StoreNo};
 use kt_outputs::{NextNumbers, WriteNo, write_rewritten};
-use kt_storeside::{Lent, publish};
-use kt_super::PrepareNo;
+use kt_storeside::Lent;
 use std::alloc::Global;
 
-// Writes the files of a disk rowset to the store that is out, and takes it home. After a fault the tablet is stopped.
+// Writes the files of a disk rowset that have no number to the store that is out, and takes it home. After a fault the tablet is stopped.
 fn rewrite_and_return<L: Disk, D: Disk + Drop, C: Clock>(
     alloc: Global,
     engine: &mut Engine<L, D, C>,
@@ -55,7 +52,7 @@ fn rewrite_and_return<L: Disk, D: Disk + Drop, C: Clock>(
     }
 }
 
-/// Writes the files of a disk rowset under new numbers. After a fault the tablet is stopped.
+/// Writes the files of a disk rowset that have no number, under new ones. After a fault the tablet is stopped.
 pub fn rewrite<L: Disk, D: Disk + Drop, C: Clock>(
     alloc: Global,
     engine: &mut Engine<L, D, C>,
@@ -79,53 +76,5 @@ pub fn rewrite<L: Disk, D: Disk + Drop, C: Clock>(
         // The store is at home, and the tablet goes on.
         Err(StoreNo::Stopped) => unreachable!(),
         Err(StoreNo::Out { by: _ }) => unreachable!(),
-    }
-}
-
-/// Publishes the superblock that is lent, while no job counts as publishing, and takes the store home. After a fault the tablet is stopped.
-pub fn publish_lent<L: Disk, D: Disk + Drop, C: Clock>(
-    alloc: Global,
-    engine: &mut Engine<L, D, C>,
-    by: u32,
-    lent: Lent<D>,
-) -> Result<(), MaintNo>
-    requires out { IsOut engine.old by lent }
-    requires ready { (m : Meta) → lent.meta ≡ Some m → MayPublish D.tells D.seen D.now D.leaves lent.device m }
-    requires goes { engine.old.tablet.core.stopped ≡ false }
-    ensures turned { result ≢ Err MaintNo.Stopped → HasTurned engine.old engine.new × (engine.new.upkeep ≡ engine.old.upkeep) }
-    ensures broken { result ≡ Err MaintNo.Stopped → HasBroken engine.old engine.new }
-    ensures published { (m : Meta) → lent.meta ≡ Some m → OnOk result (engine.new.store.meta ≡ m) }
-{
-    // The known device publishes the superblock from before.
-    engine.standing();
-    let Lent {
-        mut device,
-        meta,
-        next_rowset,
-        next_file,
-    } = lent;
-    let Some(next) = &meta else {
-        unreachable!();
-    };
-    let answer = publish(alloc, &mut device, next);
-    let back = Lent {
-        device,
-        meta,
-        next_rowset,
-        next_file,
-    };
-    match answer {
-        Ok(()) => {
-            engine.store_home(by, back, true);
-            Ok(())
-        }
-        Err(PrepareNo::Memory) => {
-            engine.store_home(by, back, false);
-            Err(MaintNo::Memory)
-        }
-        Err(PrepareNo::Fault) => {
-            engine.stop(by, Broken::Store(back));
-            Err(MaintNo::Stopped)
-        }
     }
 }

@@ -120,7 +120,7 @@ pub fn run_flush<L: Disk, D: Disk + Drop, C: Clock, R: Wait>(
     run_job(rt, alloc, lock, pass, &Want::Flush)
 }
 
-/// Writes the changes that are in memory of a disk rowset as a REDO file of it. All files of the rowset are written anew.
+/// Writes the changes that are in memory of a disk rowset as a REDO file of it. Its other files stay.
 pub fn run_dms_flush<L: Disk, D: Disk + Drop, C: Clock, R: Wait>(
     rt: &R,
     alloc: Global,
@@ -138,7 +138,7 @@ pub fn run_dms_flush<L: Disk, D: Disk + Drop, C: Clock, R: Wait>(
     run_job(rt, alloc, lock, pass, &Want::FlushDeltas(rowset))
 }
 
-/// Makes one REDO file of all changes of a disk rowset, those in memory too. All files of the rowset are written anew.
+/// Makes one REDO file of all changes of a disk rowset, those in memory too. Its base and UNDO files stay.
 pub fn run_minor<L: Disk, D: Disk + Drop, C: Clock, R: Wait>(
     rt: &R,
     alloc: Global,
@@ -156,8 +156,8 @@ pub fn run_minor<L: Disk, D: Disk + Drop, C: Clock, R: Wait>(
     run_job(rt, alloc, lock, pass, &Want::Minor(rowset))
 }
 
-/// Folds all changes of a disk rowset into its base rows, those in memory too, so that at most one REDO file is left, of deletes. All files of the rowset are
-/// written anew.
+/// Folds all changes of a disk rowset into its base rows, those in memory too, so that at most one REDO file is left, of deletes. Its UNDO files
+/// stay, and one more at most is written.
 pub fn run_major<L: Disk, D: Disk + Drop, C: Clock, R: Wait>(
     rt: &R,
     alloc: Global,

@@ -18,7 +18,7 @@ pub returns-in-Ok-clause-made : goal.returns-in-Ok-clause-made
 returns-in-Ok-clause-made g c =
     let at = c.requires.begun in
     let read = c.in-Ok.ensures.read at.job at.has in
-    made_result c.args.by c.args.want.now c.args.engine.now c.delta_snapshot.new.self at c.in-Ok.read read.0 read.1 read.2 c.made_for.result c.made_for.ensures.same c.made_for.ensures.shape c.made_for.ensures.whole
+    made_result c.args.by c.args.want.now c.args.engine.now c.delta_snapshot.new.self at c.in-Ok.read read.0 read.1 read.2 c.made_for.result c.made_for.ensures.same c.made_for.ensures.shape c.made_for.ensures.whole c.in-Ok.ensures.held c.made_for.ensures.leaves
 
 pub returns-in-Ok-clause-memory : goal.returns-in-Ok-clause-memory
 returns-in-Ok-clause-memory g c = λ err.

@@ -1,4 +1,4 @@
-use Rattle.std.proofs.Common.{◌≡◌, ◌≤◌, ℕ, true, refl, sym, ap, subst, ◌∙◌, arith}
+use Rattle.std.proofs.Common.{◌≤◌, ℕ, true, refl, sym, ap, subst, ◌∙◌, arith}
 use Rattle.std.specs.Prelude.{IsTrue}
 use Rattle.kt_super.specs.Slots.{super_of, AreStable}
 use Rattle.kt_storeside.specs.Turns.{IsTurn, HasOneOf}
@@ -6,7 +6,8 @@ use Rattle.kt_storeside.specs.Sides.{published_in}
 use Rattle.kt_storeside.proofs.Named.{first_file}
 use Rattle.kt_diskrowset.specs.Data.{held_in}
 use Rattle.kt_files.specs.Reading.{HoldsRowset}
-use Rattle.kt_outputs.specs.Outputs.{meta_in, file_numbers, CountUp, AreStable as FilesStable}
+use Rattle.kt_outputs.specs.Outputs.{meta_in, AreStable as FilesStable}
+use Rattle.kt_outputs.specs.Rewriting.{HasNumbers, KeptStand}
 use Rattle.kt_maint.proofs.Failed.{of_lent}
 use Rattle.kt_maint.proofs.Turns.{left_turn, super_stays, slots_stay, has_one}
 use Rattle.kt_maint.proofs.Visiting.{came_broken}
@@ -31,6 +32,11 @@ pub store_home-requires-in-Err-Memory-clause-turn : goal.store_home-requires-in-
 store_home-requires-in-Err-Memory-clause-turn g c = λ told.
     let low : 3 ≤ c.args.lent.next_file = (let a = first_file c.args.engine.now.store.meta c.standing.ensures.side.rules in let b = c.standing.ensures.side.files in let e = c.requires.lent.numbers.1 in omega arith) in
     rw (← c.requires.lent.device) (rw (← c.requires.lent.numbers.1) (left_turn g.D.Disk.seen g.D.Disk.now g.D.Disk.leaves _ _ _ _ low (c.write_rewritten-written.ensures.left told)))
+
+pub store_home-requires-in-Err-Memory-clause-superblock : goal.store_home-requires-in-Err-Memory-clause-superblock
+store_home-requires-in-Err-Memory-clause-superblock g c = λ told.
+    let low : 3 ≤ c.args.lent.next_file = (let a = first_file c.args.engine.now.store.meta c.standing.ensures.side.rules in let b = c.standing.ensures.side.files in let e = c.requires.lent.numbers.1 in omega arith) in
+    super_stays g.D.Disk.seen g.D.Disk.now g.D.Disk.leaves _ _ _ _ low (c.write_rewritten-written.ensures.left told) ∙ ap (λ d. super_of (g.D.Disk.seen d)) c.requires.lent.device ∙ (c.standing.ensures.side.publishes told).superblock
 
 pub store_home-requires-in-Err-Memory-clause-slots : goal.store_home-requires-in-Err-Memory-clause-slots
 store_home-requires-in-Err-Memory-clause-slots g c = λ told.
@@ -70,9 +76,9 @@ returns-in-Ok-clause-files g c =
       same = e.same;
       fresh = e.fresh;
       rowset = ap (λ s. s.next_rowset) is ∙ c.requires.lent.numbers.0;
-      numbered = subst (λ (n : ℕ). CountUp first n (file_numbers out)) (sym (ap (λ s. s.next_file) is)) (subst (λ (n : ℕ). CountUp n later.file (file_numbers out)) c.requires.lent.numbers.1 e.numbered);
-      short = e.short;
-      holds = λ told dms. subst (λ d. HoldsRowset (seen d) (meta_in dms out) (held_in out)) (sym (ap (λ s. s.known) is)) (e.holds told c.requires.whole dms (seen disk) (λ n lo hi. refl));
+      numbered = subst (λ (n : ℕ). HasNumbers first n (held_in c.args.rowset.now) (held_in out)) (sym (ap (λ s. s.next_file) is)) (subst (λ (n : ℕ). HasNumbers n later.file (held_in c.args.rowset.now) (held_in out)) c.requires.lent.numbers.1 e.numbered);
+      holds = λ told stand dms. subst (λ d. HoldsRowset (seen d) (meta_in dms out) (held_in out)) (sym (ap (λ s. s.known) is))
+          (e.holds told c.requires.whole dms (seen disk) (λ n lo hi. refl) (subst (λ d. KeptStand (seen d) c.args.rowset.now) (ap (λ s. s.known) is) stand));
       stable = λ told. subst (λ s. FilesStable seen now leaves first s.next_file s.known) (sym is) (subst (λ (n : ℕ). FilesStable seen now leaves n later.file disk) c.requires.lent.numbers.1 (e.stable told));
       meta = ap (λ s. s.meta) is;
     }
