@@ -29,10 +29,6 @@ const CHANGES: &[u8] =
 
 const FLUSH_CHANGES: &[u8] = b"session\nflush-deltas\n";
 
-// What the reads print before the changes are in a file, and after.
-const CHANGED: &[u8] =
-    b"session 1\nrows 20481 2\n1 \"a\"\n2 \"b\"\nrows 20483 1\n1 \"c\"\nhistory\nrows 1 1 20481\nrows 1 2 20483\ntablet ahm 0 last 20483 rowsets 1\n";
-
 // What becomes of the writes that are not stable: all are left out, all are there, half of each is, or each has ones in its place.
 const PICKS: [[u8; 64]; 4] = [[0; 64], [1; 64], [2; 64], [3; 64]];
 
@@ -117,31 +113,33 @@ fn is_flushed<R: Threads + Wait + Sync>(
     })
 }
 
-// Whether each moment of the log, before the store was changed, leaves the rows unflushed.
+// Whether each moment of the log, before the store was changed, leaves the rows, flushed or not as they were.
 fn log_keeps<R: Threads + Wait + Sync>(
     rt: &R,
     alloc: Global,
     devices: &Devices,
     pick: &[u8],
+    flushed: bool,
 ) -> Result<bool, NoMemory> {
     'moments: for at in 0..devices.log.moment() {
         let left = left(alloc, devices, at, 0, pick)?;
-        if is_flushed(rt, alloc, left)? != Some(false) {
+        if is_flushed(rt, alloc, left)? != Some(flushed) {
             return Ok(false);
         }
     }
     Ok(true)
 }
 
-// Whether each moment of the store leaves the rows: unflushed at first, then flushed, and flushed at the end.
+// Whether each moment of the store leaves the rows: flushed or not as they were at first, and flushed from some moment on.
 fn store_keeps<R: Threads + Wait + Sync>(
     rt: &R,
     alloc: Global,
     devices: &Devices,
     pick: &[u8],
+    was_flushed: bool,
 ) -> Result<bool, NoMemory> {
     let end = devices.log.moment();
-    let mut flushed = false;
+    let mut flushed = was_flushed;
     'moments: for at in 0..devices.store.moment() {
         let left = left(alloc, devices, end, at, pick)?;
         match is_flushed(rt, alloc, left)? {
@@ -165,33 +163,20 @@ fn kept_up<R: Threads + Wait + Sync>(
     after(rt, alloc, chore, kept)
 }
 
-// Whether each moment of the store leaves the changes, once the log is whole.
-fn changes_stay<R: Threads + Wait + Sync>(
+// Whether a crash at any moment of a chore leaves the rows that these lines wrote, flushed or not as they were before it.
+fn chore_keeps<R: Threads + Wait + Sync>(
     rt: &R,
     alloc: Global,
-    devices: &Devices,
-    pick: &[u8],
+    writes: &[u8],
+    chore: &[u8],
+    flushed: bool,
 ) -> Result<bool, NoMemory> {
-    let end = devices.log.moment();
-    'moments: for at in 0..devices.store.moment() {
-        let left = left(alloc, devices, end, at, pick)?;
-        if reads(rt, alloc, left)?.bytes() != CHANGED {
+    let devices = kept_up(rt, alloc, writes, chore)?;
+    'picks: for pick in &PICKS {
+        if !log_keeps(rt, alloc, &devices, pick, flushed)? {
             return Ok(false);
         }
-    }
-    Ok(true)
-}
-
-// Whether each moment of the log leaves the changes, before the store was changed.
-fn log_has_changes<R: Threads + Wait + Sync>(
-    rt: &R,
-    alloc: Global,
-    devices: &Devices,
-    pick: &[u8],
-) -> Result<bool, NoMemory> {
-    'moments: for at in 0..devices.log.moment() {
-        let left = left(alloc, devices, at, 0, pick)?;
-        if reads(rt, alloc, left)?.bytes() != CHANGED {
+        if !store_keeps(rt, alloc, &devices, pick, flushed)? {
             return Ok(false);
         }
     }
@@ -200,22 +185,14 @@ fn log_has_changes<R: Threads + Wait + Sync>(
 
 #[test]
 fn a_crash_in_a_flush_leaves_the_rows(rt: HostRuntime) -> Result<(), Fail> {
-    let alloc = rt.alloc();
-    let devices = kept_up(&rt, alloc, WRITES, FLUSH)?;
-    for pick in &PICKS {
-        assert!(rt; log_keeps(&rt, alloc, &devices, pick)?);
-        assert!(rt; store_keeps(&rt, alloc, &devices, pick)?);
-    }
+    let keeps = chore_keeps(&rt, rt.alloc(), WRITES, FLUSH, false)?;
+    assert!(rt; keeps);
     Ok(())
 }
 
 #[test]
 fn a_crash_in_a_flush_of_changes_leaves_the_rows(rt: HostRuntime) -> Result<(), Fail> {
-    let alloc = rt.alloc();
-    let devices = kept_up(&rt, alloc, CHANGES, FLUSH_CHANGES)?;
-    for pick in &PICKS {
-        assert!(rt; log_has_changes(&rt, alloc, &devices, pick)?);
-        assert!(rt; changes_stay(&rt, alloc, &devices, pick)?);
-    }
+    let keeps = chore_keeps(&rt, rt.alloc(), CHANGES, FLUSH_CHANGES, true)?;
+    assert!(rt; keeps);
     Ok(())
 }
