@@ -31,9 +31,8 @@ def lay_rowset(room, columns, base, undo=(), redo=(), log=(), **numbers):
     lay(room, log, files, {1: spelled.slot(spelled.body(1, columns, [rowset], **said))})
 
 
-def files_of(room, columns):
-    """The base file, the UNDO files and the REDO files of the one rowset that the superblock names; nothing, where it names none."""
-    now = held(room, "DATA")
+def named_in(now, columns):
+    """The number and length of the base file, the UNDO files and the REDO files of the one rowset that the superblock names; nothing, where it names none."""
     slots = [it for it in (now.get("f1"), now.get("f2")) if it and it[0] == 1]
     body = max((it[5:] for it in slots), key=lambda it: struct.unpack_from("<Q", it, 2))
     at = len(spelled.body(1, columns))
@@ -47,8 +46,18 @@ def files_of(room, columns):
         count = struct.unpack_from("<I", body, at)[0]
         lists.append([struct.unpack_from("<QQ", body, at + 4 + 16 * it) for it in range(count)])
         at += 4 + 16 * count
-    found = [[now[f"f{number}"][:length] for number, length in some] for some in ([base], *lists)]
-    return found[0][0], found[1], found[2]
+    return base, *lists
+
+
+def files_of(room, columns):
+    """What these files hold."""
+    now = held(room, "DATA")
+    named = named_in(now, columns)
+    if named is None:
+        return None
+    base, *lists = named
+    of = lambda file: now[f"f{file[0]}"][: file[1]]
+    return of(base), *([of(it) for it in some] for some in lists)
 
 
 def makes(room, table_head, columns, lines, wanted):
@@ -185,6 +194,31 @@ def changes_go_into_new_files(room):
     plays(room, TABLE + at_all_times([first, second, third]), machine, 1)
 
 
+def files_that_stay_keep_their_numbers(room):
+    """A flush of changes writes one REDO file beside the others; a minor leaves the base and UNDO files, and a major the UNDO files."""
+    stages = [
+        (['insert "a" 1', "flush"], (3, [4], [])),
+        (['update "a" n=2', "flush-deltas"], (3, [4], [5])),
+        (['update "a" n=3', "flush-deltas", "flush-deltas"], (3, [4], [5, 6])),
+        (["minor"], (3, [4], [7])),
+        (["major"], (8, [4, 9], [])),
+        (['update "a" n=4', 'delete "a"', "flush-deltas", "minor"], (8, [4, 9], [10])),
+        (["major"], (11, [4, 9, 12], [13])),
+    ]
+    machine, before = None, {}
+    for lines, wanted in stages:
+        machine, _ = plays(room, TABLE + "".join(f"{it}\n" for it in lines), machine, 1)
+        now = held(room, "DATA")
+        base, *lists = named_in(now, COLUMNS)
+        found = base[0], *([number for number, _ in some] for some in lists)
+        if found != wanted:
+            raise Wrong(f"after {lines} the superblock names {found} and not {wanted}")
+        changed = [it for it in before if it not in ("f1", "f2") and it in now and now[it] != before[it]]
+        if changed:
+            raise Wrong(f"after {lines} these files are others: {changed}")
+        before = now
+
+
 # Marks, and the timestamps of the UNDO records that a flush writes then of a row that was inserted, updated and, it may be, deleted; none
 # where it writes no row.
 FLUSHED = [
@@ -232,6 +266,7 @@ ALL = [
     two_files_become_one,
     a_record_is_folded_into_its_base_row,
     changes_go_into_new_files,
+    files_that_stay_keep_their_numbers,
     a_flush_writes_what_the_mark_leaves,
     a_change_goes_to_the_store_that_has_the_row,
 ]
