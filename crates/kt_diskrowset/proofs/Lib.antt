@@ -20,3 +20,5 @@ pub mod NoneAbove
 pub mod Wholes
 pub mod Settled
 pub mod Told
+pub mod Gone
+pub mod Statistics

@@ -10,6 +10,8 @@ pub mod Page
 pub mod Gathered
 pub mod Jobs
 pub mod Rewriting
+pub mod Gone
+pub mod Stats
 pub mod Missed
 pub mod First
 pub mod Laws

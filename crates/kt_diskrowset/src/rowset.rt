@@ -1,10 +1,12 @@
 //! A disk rowset in memory.
 pub mod first;
 pub mod jobs;
+pub mod leaving;
 pub mod missed;
 pub mod reading;
 pub mod replaying;
 pub mod rewriting;
+pub mod stats;
 
 ghost use Rattle.std.specs.Prelude.{◌≡◌, ◌≢◌, ◌+◌, ◌<◌, ◌≤◌, ◌⊎◌, ◌∷◌, ℕ, List, [], length, None, Some, true, is_some, IfOk, OnOk, OnErr};
 ghost use Rattle.std.specs.Option.{option_map};

@@ -65,8 +65,8 @@ fn are_vacant(pool: &Pool, mems: &[DeltaMem]) -> bool
     true
 }
 
-// DeltaMemStores that stand apart give their cells back.
-fn empty_all(mems: &mut Vec<DeltaMem>, pool: &mut Pool)
+/// DeltaMemStores that stand apart give their cells back.
+pub(crate) fn empty_all(mems: &mut Vec<DeltaMem>, pool: &mut Pool)
     requires stand { AllStand pool.old mems.old.items }
     requires apart { AreApart pool.old mems.old.items }
     ensures none { mems.new.items ≡ [] }
