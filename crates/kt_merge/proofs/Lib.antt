@@ -31,3 +31,4 @@ pub mod Retold
 pub mod Refolded
 pub mod AllUndone
 pub mod Holding
+pub mod ToldInOrder

@@ -38,7 +38,7 @@ all_from : (low m : ℕ) (steps : Steps) → low ≤ m → Rises m steps → All
 all_from low m [] le h = tt
 all_from low m (c ∷ steps) le h = ((let lt = h.0 in omega (arith, lt, le)), all_from low c.0 steps (let lt = h.0 in omega (arith, lt, le)) h.1)
 
-folds_row : (columns : List ColumnShape) (older redos : Steps) (base : Row) → (f : Folds columns older redos base) → FoldsRow 0 older redos base f.to.row.base f.to.row.undos f.to.row.redos
+pub folds_row : (columns : List ColumnShape) (older redos : Steps) (base : Row) → (f : Folds columns older redos base) → FoldsRow 0 older redos base f.to.row.base f.to.row.undos f.to.row.redos
 folds_row columns older [] base f = record { low = bound older; under = under_bound older; from_ = tt; rises = f.rises; undone = f.undone; is = f.to.is }
 folds_row columns older (c ∷ redos) base f = record { low = c.0; under = f.below; from_ = (omega arith, all_from c.0 c.0 redos (omega arith) f.rises.1); rises = f.rises; undone = f.undone; is = f.to.is }
 

@@ -4,13 +4,13 @@ use Rattle.std.specs.List.{AllByRecursion}
 use Rattle.kt_history.specs.declared.change.Change.TheVariants.{Del}
 use Rattle.kt_history.specs.declared.changes.Delta.{Delta}
 use Rattle.kt_history.specs.Rows.{Row}
-use Rattle.kt_history.specs.Stores.{Steps, Under}
+use Rattle.kt_history.specs.Stores.{Steps, Under, hist_in}
 use Rattle.kt_histlaws.specs.Disks.{DiskRow}
 use Rattle.kt_histlaws.specs.Fitting.{Rises}
 use Rattle.kt_baseset.specs.declared.schema.ColumnShape.{ColumnShape}
 use Rattle.kt_baseset.specs.Rows.{keys_in}
 use Rattle.kt_baseset.specs.Tables.{BaseValue, cells_in}
-use Rattle.kt_rowfiles.specs.Flushing.{AllUndone}
+use Rattle.kt_rowfiles.specs.Flushing.{AllUndone, InOrderAt}
 use Rattle.kt_rowfiles.specs.Files.{DiskRowset, records_in}
 use Rattle.kt_diskrowset.specs.declared.data.RowSetData.{RowSetData}
 use Rattle.kt_diskrowset.specs.declared.files.FileHeld.{FileHeld}
@@ -42,6 +42,10 @@ AreDeletes records = AllByRecursion (λ (d : Delta). d.change ≡ Del) records
 pub record HasDeletesOnly (d : DiskRowset) : Type 0 where
   pub one : HasAtMostOneRedo d
   pub deletes : AllByRecursion AreDeletes d.redos
+
+-- the changes of each key stand in the order of their times, wherever a mark is drawn
+abbrev pub TellsInOrder : RowSetData → Type 0
+TellsInOrder d = (q : List ℕ) (j : ℕ) → InOrderAt j (hist_in q (store_in d)).steps
 
 -- ---- what is left of its files. Those that are not written yet have the number 0
 

@@ -3,11 +3,12 @@
 //! For the layer above: `merge_rows` writes of each key of its inputs one row, which has the row at a mark and the changes above it up
 //! to a bound; `major` folds a rowset's REDO records into its base rows, which then tell the same; `minor` makes one REDO file of
 //! several, with all their records; `with_deltas`, `with_one_redo` and `with_folded` write one rowset's files anew, so that they tell
-//! exactly what it told. It stands on disk rowsets as plain data, on base files and delta files, and on the definitions of
+//! exactly what it told; `folded_whole` is both of the first and the last, with each row's changes in their order. It stands on disk rowsets as plain data, on base files and delta files, and on the definitions of
 //! changes and of histories.
 #![tactic(auto)]
 
 pub mod changes;
+pub mod compacting;
 pub mod fitting;
 pub mod folding;
 pub mod heads;
@@ -21,6 +22,7 @@ pub mod rewrite;
 pub mod row;
 mod undoing;
 
+pub use compacting::folded_whole;
 pub use folding::{Folded, major};
 pub use merge::merge_rows;
 pub use redo::{merge_files, minor};

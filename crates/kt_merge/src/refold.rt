@@ -9,7 +9,7 @@ ghost use Rattle.kt_rowfiles.specs.Reading.{steps_in};
 ghost use Rattle.kt_diskrowset.specs.Data.{held_in, files_in};
 ghost use Rattle.kt_diskrowset.specs.Files.{lists_of, as_files};
 ghost use Rattle.kt_merge.specs.Major.{records_of, redos_at, IsHeld};
-ghost use Rattle.kt_merge.specs.Rewriting.{IsRewritten, HasDeletesOnly, AreDeletes, AddsFile, IsOneFile, FoldsRedos, LieBelow, FoldsTo, Folds, AllFold, IsFoldedWhole};
+ghost use Rattle.kt_merge.specs.Rewriting.{IsRewritten, TellsInOrder, HasDeletesOnly, AreDeletes, AddsFile, IsOneFile, FoldsRedos, LieBelow, FoldsTo, Folds, AllFold, IsFoldedWhole};
 ghost use Rattle.kt_merge.specs.Rows.{disk_row_of};
 
 use crate::fitting::fits_files;
@@ -207,6 +207,7 @@ pub fn with_folded(alloc: Global, rowset: RowSetData) -> Result<RowSetData, NoMe
     requires none { rowset.fresh ≡ [] }
     ensures same { IfOk result (IsRewritten rowset) }
     ensures folded { IfOk result (λ d. HasDeletesOnly (files_in d)) }
+    ensures order { IfOk result TellsInOrder }
     ensures files { IfOk result (λ d. FoldsRedos (held_in rowset) (held_in d)) }
 {
     let folded = fold_whole(alloc, &rowset.base.set, &rowset.undo, &rowset.redo)?;
