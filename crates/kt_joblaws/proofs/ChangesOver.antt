@@ -27,9 +27,9 @@ module _ (rules : Rules) (old : Super) (a c need last_mem next active j : ℕ) (
   abbrev new : Super
   new = flushed old a c need last_mem outputs
 
-  -- both sides at once: the outputs, the frozen MemRowSets and the others
+  -- both sides at once: the frozen MemRowSets, the others and the outputs
   abbrev beside : List ℕ → Stores
-  beside q = (mem_rows active, never) ∷ in_memory q outputs ++ (frozen q ++ others q)
+  beside q = (mem_rows active, never) ∷ frozen q ++ (others q ++ in_memory q outputs)
 
   -- the store that takes inserts is in a group, or is not
   abbrev with_first : Super → Place → List Hist → List Hist
@@ -65,38 +65,39 @@ module _ (rules : Rules) (old : Super) (a c need last_mem next active j : ℕ) (
 
   old_same : (q : List ℕ) (p : Place) → group old p (beside q) ≡ group old p (before_flush active (frozen q) (others q))
   old_same q p =
-      parts old p (in_memory q outputs) (frozen q) (others q) [] (group old p (frozen q)) (group old p (others q)) (outputs_none old next last_mem p q outputs f.rowsets f.outputs_from) refl refl
+      parts old p (frozen q) (others q) (in_memory q outputs) (group old p (frozen q)) (group old p (others q)) [] refl refl (outputs_none old next last_mem p q outputs f.rowsets f.outputs_from)
+      ∙ ap (λ (l : List Hist). with_first old p (group old p (frozen q) ++ l)) (append-nil (group old p (others q)))
       ∙ sym (pair old p (frozen q) (others q) (group old p (frozen q)) (group old p (others q)) refl refl)
 
   -- ---- what the new one sees of them
 
   new_same : (q : List ℕ) (p : Place) → group new p (after_flush active q outputs (others q)) ≡ group new p (beside q)
   new_same q p =
-      pair new p (in_memory q outputs) (others q) (group new p (in_memory q outputs)) (group new p (others q)) refl refl
-      ∙ sym (parts new p (in_memory q outputs) (frozen q) (others q) (group new p (in_memory q outputs)) [] (group new p (others q)) refl (frozen_none new old.last_mem p (frozen q) (f.taken q)) refl)
+      pair new p (others q) (in_memory q outputs) (group new p (others q)) (group new p (in_memory q outputs)) refl refl
+      ∙ sym (parts new p (frozen q) (others q) (in_memory q outputs) [] (group new p (others q)) (group new p (in_memory q outputs)) (frozen_none new old.last_mem p (frozen q) (f.taken q)) refl refl)
 
   inputs : (q : List ℕ) → group old memory (beside q) ≡ never ∷ hists_of (frozen q)
   inputs q =
-      parts old memory (in_memory q outputs) (frozen q) (others q) [] (hists_of (frozen q)) [] (outputs_memory old q outputs) (frozen_memory old last_mem (frozen q) (f.taken q)) (older_memory old next (others q) (f.left q))
+      parts old memory (frozen q) (others q) (in_memory q outputs) (hists_of (frozen q)) [] [] (frozen_memory old last_mem (frozen q) (f.taken q)) (older_memory old next (others q) (f.left q)) (outputs_memory old q outputs)
       ∙ first_memory old (hists_of (frozen q) ++ []) first_old ∙ ap (λ (l : List Hist). never ∷ l) (append-nil (hists_of (frozen q)))
 
   nothing : (q : List ℕ) → group new memory (beside q) ≡ never ∷ []
   nothing q =
-      parts new memory (in_memory q outputs) (frozen q) (others q) [] [] [] (outputs_memory new q outputs) (frozen_none new old.last_mem memory (frozen q) (f.taken q)) (older_memory new next (others q) (f.left q))
+      parts new memory (frozen q) (others q) (in_memory q outputs) [] [] [] (frozen_none new old.last_mem memory (frozen q) (f.taken q)) (older_memory new next (others q) (f.left q)) (outputs_memory new q outputs)
       ∙ first_memory new [] first_new
 
   own : (q : List ℕ) (r : ℕ) → next ≤ r → group new (disk r) (beside q) ≡ group new (disk r) (in_memory q outputs)
   own q r up =
-      parts new (disk r) (in_memory q outputs) (frozen q) (others q) (group new (disk r) (in_memory q outputs)) [] [] refl (frozen_none new old.last_mem (disk r) (frozen q) (f.taken q)) (older_above new next r (others q) (f.left q) up)
-      ∙ first_disk new r (group new (disk r) (in_memory q outputs) ++ []) first_new ∙ append-nil (group new (disk r) (in_memory q outputs))
+      parts new (disk r) (frozen q) (others q) (in_memory q outputs) [] [] (group new (disk r) (in_memory q outputs)) (frozen_none new old.last_mem (disk r) (frozen q) (f.taken q)) (older_above new next r (others q) (f.left q) up) refl
+      ∙ first_disk new r (group new (disk r) (in_memory q outputs)) first_new
 
   rest : (q : List ℕ) (r : ℕ) → r < next → group new (disk r) (beside q) ≡ group old (disk r) (beside q)
   rest q r lt =
-      parts new (disk r) (in_memory q outputs) (frozen q) (others q) [] [] (group old (disk r) (others q)) (outputs_below new next r q outputs f.outputs_from lt) (frozen_none new old.last_mem (disk r) (frozen q) (f.taken q))
-      (older_same old a c need last_mem next outputs r (others q) f.outputs_from (f.left q))
-      ∙ first_disk new r (group old (disk r) (others q)) first_new
-      ∙ sym (parts old (disk r) (in_memory q outputs) (frozen q) (others q) [] [] (group old (disk r) (others q)) (outputs_none old next last_mem (disk r) q outputs f.rowsets f.outputs_from) (frozen_disk old old.last_mem last_mem r (frozen q) (f.taken q)) refl
-      ∙ first_disk old r (group old (disk r) (others q)) first_old)
+      parts new (disk r) (frozen q) (others q) (in_memory q outputs) [] (group old (disk r) (others q)) [] (frozen_none new old.last_mem (disk r) (frozen q) (f.taken q))
+      (older_same old a c need last_mem next outputs r (others q) f.outputs_from (f.left q)) (outputs_below new next r q outputs f.outputs_from lt)
+      ∙ first_disk new r (group old (disk r) (others q) ++ []) first_new
+      ∙ sym (parts old (disk r) (frozen q) (others q) (in_memory q outputs) [] (group old (disk r) (others q)) [] (frozen_disk old old.last_mem last_mem r (frozen q) (f.taken q)) refl (outputs_none old next last_mem (disk r) q outputs f.rowsets f.outputs_from)
+      ∙ first_disk old r (group old (disk r) (others q) ++ []) first_old)
 
   pub flushes : Flushes rules old a c need last_mem next outputs records beside j
   flushes = record {

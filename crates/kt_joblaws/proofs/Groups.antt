@@ -22,7 +22,7 @@ group-append super p (x ∷ xs) ys = elim (is_at p (stands_for super x.0)) as (�
 ]
 
 -- a store that is not in a group, and one that is
-skip : (super : Super) (p : Place) (x : Name × Hist) (xs : Stores) → is_at p (stands_for super x.0) ≡ false → group super p (x ∷ xs) ≡ group super p xs
+pub skip : (super : Super) (p : Place) (x : Name × Hist) (xs : Stores) → is_at p (stands_for super x.0) ≡ false → group super p (x ∷ xs) ≡ group super p xs
 skip super p x xs e = ap (λ (b : Bool). cond b (x.1 ∷ group super p xs) (group super p xs)) e
 
 take_it : (super : Super) (p : Place) (x : Name × Hist) (xs : Stores) → is_at p (stands_for super x.0) ≡ true → group super p (x ∷ xs) ≡ x.1 ∷ group super p xs
@@ -31,12 +31,12 @@ take_it super p x xs e = ap (λ (b : Bool). cond b (x.1 ∷ group super p xs) (g
 -- ---- which rowsets a superblock names
 
 -- rowsets more leave the others' DeltaMemStores as they are
-last_more : (r : ℕ) (xs ys : List DiskRowset) → last_dms_of r ys ≡ None → last_dms_of r (xs ++ ys) ≡ last_dms_of r xs
+pub last_more : (r : ℕ) (xs ys : List DiskRowset) → last_dms_of r ys ≡ None → last_dms_of r (xs ++ ys) ≡ last_dms_of r xs
 last_more r [] ys none = none
 last_more r (d ∷ xs) ys none = ap (λ (o : Option ℕ). cond (d.rowset == r) (Some d.last_dms) o) (last_more r xs ys none)
 
 -- no output has a number below the next one
-none_from : (next r : ℕ) (outputs : List DiskRowset) → AreFrom next outputs → r < next → last_dms_of r outputs ≡ None
+pub none_from : (next r : ℕ) (outputs : List DiskRowset) → AreFrom next outputs → r < next → last_dms_of r outputs ≡ None
 none_from next r [] from lt = refl
 none_from next r (d ∷ outputs) from lt =
     ap (λ (b : Bool). cond b (Some d.last_dms) (last_dms_of r outputs)) (ne_eqb d.rowset r (λ e. let a = from.0 in omega arith)) ∙ none_from next r outputs from.1 lt
@@ -71,19 +71,19 @@ all_named xs outputs = named_later xs outputs outputs (own outputs)
 -- ---- the groups of each kind of store
 
 -- a MemRowSet is no rowset
-mem_at : (r n last : ℕ) → is_at (disk r) (newer memory n (Some last)) ≡ false
+pub mem_at : (r n last : ℕ) → is_at (disk r) (newer memory n (Some last)) ≡ false
 mem_at r n last = elim (nat_lt last n) as (λ (b : Bool). is_at (disk r) (cond b (Some memory) None) ≡ false) [
   | true ↦ refl
   | false ↦ refl
 ]
 
 -- nor is a rowset one
-rowset_at : (r : ℕ) (o : Option ℕ) → is_at memory (if_there (disk r) o) ≡ false
+pub rowset_at : (r : ℕ) (o : Option ℕ) → is_at memory (if_there (disk r) o) ≡ false
 rowset_at r None = refl
 rowset_at r (Some last) = refl
 
 -- and rowsets of two numbers are two
-other_at : (r s : ℕ) (o : Option ℕ) → r ≢ s → is_at (disk r) (if_there (disk s) o) ≡ false
+pub other_at : (r s : ℕ) (o : Option ℕ) → r ≢ s → is_at (disk r) (if_there (disk s) o) ≡ false
 other_at r s None ne = refl
 other_at r s (Some last) ne = ne_eqb r s ne
 

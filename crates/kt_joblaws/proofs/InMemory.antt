@@ -11,6 +11,7 @@ use Rattle.kt_history.specs.Stores.{Steps, Hist, row_of, step_at, step_of}
 use Rattle.kt_records.specs.declared.entry.Entry.{Entry}
 use Rattle.kt_records.specs.declared.entry.Entry.TheVariants.{Replicate, Commit}
 use Rattle.kt_records.specs.declared.entry.CommitRow.{CommitRow}
+use Rattle.kt_journal.specs.Log.{IsLog}
 use Rattle.kt_loglaws.specs.Replay.{commit_of, last_of}
 use Rattle.kt_loglaws.specs.Fronts.{with_records}
 use Rattle.kt_histlaws.specs.Fitting.{Rises}
@@ -20,12 +21,12 @@ use Rattle.kt_rowfiles.specs.Files.{rising}
 use Rattle.kt_rowfiles.specs.Merging.{all_above, joined_history}
 use Rattle.kt_rowfiles.proofs.Options.{or_none}
 use Rattle.kt_content.specs.Rules.{Rules, AreRules, RowPasses, ChangePasses, StepsPass, HistPasses}
-use Rattle.kt_content.specs.Places.{Place, memory, same_place, Held, at_first}
+use Rattle.kt_content.specs.Places.{Super, Place, memory, same_place, Held, at_first}
 use Rattle.kt_content.specs.KeyOps.{KeyOp, op_on, seen, played}
 use Rattle.kt_content.specs.Content.{AreTold, EachPasses, IsContent}
 use Rattle.kt_content.specs.InMemory.{hist_at}
 use Rattle.kt_content.specs.MoreOps.{untold}
-use Rattle.kt_content.specs.Recoverable.{Stage, KeyStands}
+use Rattle.kt_content.specs.Recoverable.{Resident, Stage, KeyStands, SuperStands}
 use Rattle.kt_content.specs.Recoverable.Stage.{rests, waits, applied}
 use Rattle.kt_content.specs.Flushes.{EachTold}
 use Rattle.kt_content.proofs.Rules.{rows_pass, stores_pass}
@@ -37,7 +38,7 @@ use Rattle.kt_joblaws.proofs.Joined.{joined_rises, joined_step}
 -- ---- a history that is alike passes
 
 -- what stands at a time passes
-at_passes : (rules : Rules) (t : ℕ) (steps : Steps) (c : Change) → StepsPass rules steps → step_at t steps ≡ Some c → ChangePasses rules c
+pub at_passes : (rules : Rules) (t : ℕ) (steps : Steps) (c : Change) → StepsPass rules steps → step_at t steps ≡ Some c → ChangePasses rules c
 at_passes rules t [] c p is = absurd (cc)
 at_passes rules t (x ∷ steps) c p is = elim (x.0 == t) as (λ b. cond b (Some x.1) (step_at t steps) ≡ Some c → ChangePasses rules c) [
   | true ↦ λ e. (let same : x.1 ≡ c = cc in subst (ChangePasses rules) same p.0)
@@ -45,7 +46,7 @@ at_passes rules t (x ∷ steps) c p is = elim (x.0 == t) as (λ b. cond b (Some 
 ] is
 
 -- changes that rise pass where what stands at each time does
-each_passes : (rules : Rules) (low : ℕ) (steps : Steps) → Rises low steps → ((t : ℕ) (c : Change) → low < t → step_at t steps ≡ Some c → ChangePasses rules c) → StepsPass rules steps
+pub each_passes : (rules : Rules) (low : ℕ) (steps : Steps) → Rises low steps → ((t : ℕ) (c : Change) → low < t → step_at t steps ≡ Some c → ChangePasses rules c) → StepsPass rules steps
 each_passes rules low [] r f = tt
 each_passes rules low (x ∷ steps) r f = (
   f x.0 x.1 r.0 (ap (λ b. cond b (Some x.1) (step_at x.0 steps)) (eq-eqb x.0 x.0 refl)),
@@ -77,7 +78,7 @@ module _ (rules : Rules) (are : AreRules rules) (q : List ℕ) (m a : ℕ) (hs :
     steps = each_passes rules a (rising (all_above a hs)) (joined_rises a hs apart) (λ t c lt is. at_passes rules t h.steps c p.steps (sym (step t lt) ∙ is));
   }
 
-passes_at : (rules : Rules) (q : List ℕ) (p : Place) (held : Held) → EachPasses rules q held → HistPasses rules q (hist_at p held)
+pub passes_at : (rules : Rules) (q : List ℕ) (p : Place) (held : Held) → EachPasses rules q held → HistPasses rules q (hist_at p held)
 passes_at rules q p [] e = record { key = inl refl; first = tt; steps = tt }
 passes_at rules q p (h ∷ held) e = elim (same_place p h.0) as (λ b. HistPasses rules q (cond b h.1 (hist_at p held))) [
   | true ↦ e.0
@@ -117,8 +118,10 @@ take_all : {A : Type 0} (xs : List A) → take (length xs) xs ≡ xs
 take_all [] = refl
 take_all (x ∷ xs) = ap (λ l. x ∷ l) (take_all xs)
 
-pub memory_passes : what_memory_has_passes
-memory_passes rules fill super durable run past live q hs a are log s told is apart le =
+-- What the places of an opening have of a key passes, while each write has its COMMIT
+pub held_pass : (rules : Rules) (fill : Row) (super : Super) (durable run : List Entry) (past : Past) (live : Resident) (q : List ℕ) → AreRules rules → IsLog (durable ++ run)
+    → (s : SuperStands rules fill super durable run past live) → EachTold (durable ++ run) (durable ++ run) → EachPasses rules q (s.keys q).held
+held_pass rules fill super durable run past live q are log s told =
     let k = s.keys q in
     let ops : List KeyOp = seen q (durable ++ run) (durable ++ run) in
     let known : ops ≡ k.known = from k ops (told_seen q (durable ++ run) (durable ++ run) told) k.stage in
@@ -127,9 +130,7 @@ memory_passes rules fill super durable run past live q hs a are log s told is ap
     let held_past : Past = raise (with_records fill past (take (length run) run)) super.a in
     let content : IsContent rules fill super (durable ++ take (length run) run) last held_past = each_front rules fill super durable run s.low past (length run) log s.recovered in
     let here : IsContent rules fill super (durable ++ run) last held_past = subst (λ (l : List Entry). IsContent rules fill super l last held_past) all content in
-    let each : EachPasses rules q k.held = stores_pass rules fill super (durable ++ run) last held_past q k.held are here (ap (played fill super (at_first q super)) known ∙ k.is) in
-    joined_passes rules are q k.mark a hs (hist_at memory k.held) (let low = k.low in omega arith) apart
-    (subst (λ (l : List Hist). AreAlike k.mark l (hist_at memory k.held ∷ [])) is (k.mirrors memory)) (passes_at rules q memory k.held each)
+    stores_pass rules fill super (durable ++ run) last held_past q k.held are here (ap (played fill super (at_first q super)) known ∙ k.is)
   where
     whole : Hist
     whole = past_hist q (raise (with_records fill past run) super.a)
@@ -138,3 +139,9 @@ memory_passes rules fill super durable run past live q hs a are log s told is ap
     from k ops all (rests same t e) = same
     from k ops all (waits ts op same t lt up at none under e) = absurd (told_last k.known ts op (subst AreTold same all))
     from k ops all (applied front ts op targets same knows t lt up at some tells e) = absurd (told_last front ts op (subst AreTold same all))
+
+pub memory_passes : what_memory_has_passes
+memory_passes rules fill super durable run past live q hs a are log s told is apart le =
+    let k = s.keys q in
+    joined_passes rules are q k.mark a hs (hist_at memory k.held) (let low = k.low in omega arith) apart
+    (subst (λ (l : List Hist). AreAlike k.mark l (hist_at memory k.held ∷ [])) is (k.mirrors memory)) (passes_at rules q memory k.held (held_pass rules fill super durable run past live q are log s told))

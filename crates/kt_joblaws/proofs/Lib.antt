@@ -1,10 +1,13 @@
+pub mod Among
 pub mod ChangesOver
+pub mod Compacted
 pub mod Groups
 pub mod InMemory
 pub mod Joined
 pub mod Later
 pub mod Listed
 pub mod ListsRise
+pub mod Merged
 pub mod OfTable
 pub mod Passed
 pub mod Passing
@@ -12,5 +15,7 @@ pub mod PassingHistories
 pub mod Read
 pub mod Rewritten
 pub mod Standing
+pub mod Telling
 pub mod WrittenFits
 pub mod WrittenSame
+pub mod TakenPasses

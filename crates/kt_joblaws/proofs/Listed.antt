@@ -25,7 +25,7 @@ abbrev upto : ℕ → Steps → Steps
 upto bound steps = filter (λ (c : ℕ × Change). nat_le c.0 bound) steps
 
 -- no change is above it
-upto_all : (bound : ℕ) (steps : Steps) → Under (suc bound) steps → upto bound steps ≡ steps
+pub upto_all : (bound : ℕ) (steps : Steps) → Under (suc bound) steps → upto bound steps ≡ steps
 upto_all bound [] under = refl
 upto_all bound (c ∷ steps) under =
     ap (λ (b : Bool). cond b (c ∷ upto bound steps) (upto bound steps)) (le-leb c.0 bound (let lt = under.0 in omega arith)) ∙ ap (λ (l : Steps). c ∷ l) (upto_all bound steps under.1)

@@ -32,7 +32,7 @@ use Rattle.kt_deltafile.specs.Rules.{CellsFit}
 use Rattle.kt_merge.specs.Fitting.{StandsUnder}
 use Rattle.kt_merge.specs.Laws.{EachFits}
 use Rattle.kt_merge.specs.OneKey.{IsTableRow, RowPasses, AllPass}
-use Rattle.kt_joblaws.specs.Apart.{ArePart, IsOfTable}
+use Rattle.kt_joblaws.specs.Apart.{ArePart, IsOfTable, RowIs}
 
 -- ---- one cell
 
@@ -41,7 +41,7 @@ abbrev pub StandsIn : List ColumnShape → ℕ × Cell → Type 0
 StandsIn [] x = ⊥
 StandsIn (c ∷ columns) x = StandsUnder c x ⊎ StandsIn columns x
 
-wider : (c : ColumnShape) (columns : List ColumnShape) (cells : Row) → ArePart columns cells → ArePart (c ∷ columns) cells
+pub wider : (c : ColumnShape) (columns : List ColumnShape) (cells : Row) → ArePart columns cells → ArePart (c ∷ columns) cells
 wider c columns [] p = tt
 wider c columns (x ∷ cells) p = inr p
 
@@ -243,10 +243,6 @@ table_row columns row are f = record {
 
 abbrev pub AreOf : List ColumnShape → Steps → Type 0
 AreOf columns steps = AllByRecursion (λ (c : ℕ × Change). IsOfTable columns c.1) steps
-
-abbrev pub RowIs : List ColumnShape → Option Row → Type 0
-RowIs columns None = Unit {0}
-RowIs columns (Some row) = RowFits columns row
 
 pub row_after : (columns : List ColumnShape) (c : Change) (row : Option Row) → IdsRise 0 columns → IsOfTable columns c → RowIs columns row → RowIs columns (apply c row)
 row_after columns (Ins row) None rise c r = c

@@ -22,15 +22,16 @@ use Rattle.kt_baseset.specs.Rows.{AreShapes, IdsRise}
 use Rattle.kt_diskrowset.specs.declared.data.RowSetData.{RowSetData}
 use Rattle.kt_diskrowset.specs.Data.{store_in}
 use Rattle.kt_history.specs.Stores.{hist_in}
+use Rattle.kt_content.specs.InMemory.{Name, Stores}
 use Rattle.kt_merge.specs.Changes.{rises, changes_of, steps_of, hist_in_changes}
 use Rattle.kt_merge.specs.Heads.{hist_upto}
 use Rattle.kt_merge.specs.Merge.{hists_upto}
 use Rattle.kt_merge.specs.OneKey.{PassesFrom, AllPass}
 use Rattle.kt_merge.proofs.KeyChanges.{same_key, by_bool, gt_is_lt, not_true}
 use Rattle.kt_merge.proofs.Written.{each_above}
-use Rattle.kt_joblaws.specs.Apart.{AreApart, AllInOrder, IsOfTable, AreInTime, AreOfTable, some_are_apart, a_flush_reads_no_fault}
+use Rattle.kt_joblaws.specs.Apart.{AreApart, AllInOrder, IsOfTable, AreInTime, AreOfTable, RowIs, some_are_apart, those_are_apart, a_flush_reads_no_fault}
 use Rattle.kt_joblaws.proofs.Joined.{rises_above, joined_rises, joined_fits, shown}
-use Rattle.kt_joblaws.proofs.OfTable.{AreOf, RowIs, row_then, all_pass}
+use Rattle.kt_joblaws.proofs.OfTable.{AreOf, row_then, all_pass}
 
 -- ---- a front of stores that are apart
 
@@ -60,11 +61,71 @@ rise_front : (j : ℕ) (xs ys : List Hist) → RiseAbove j (xs ++ ys) → RiseAb
 rise_front j [] ys r = tt
 rise_front j (h ∷ xs) ys r = (r.0, rise_front j xs ys r.1)
 
+-- what stores have, without their names, and those of some names
+abbrev histories : Stores → List Hist
+histories stores = map (λ (x : Name × Hist). x.1) stores
+
+abbrev some_of : (Name → Bool) → Stores → Stores
+some_of stays stores = filter (λ (x : Name × Hist). stays x.0) stores
+
+none_one : {A : Type 0} (xs : List (Option A)) → first_some xs ≡ None → AtMostOne xs
+none_one [] h = tt
+none_one (None ∷ xs) h = none_one xs h
+none_one (Some x ∷ xs) h = absurd (cc)
+
 pub some_apart : some_are_apart
 some_apart j xs ys a = record {
   one_row = λ t le. one_front (row_of t) xs ys (a.one_row t le);
   one_step = λ t lt. one_front (step_of t) xs ys (a.one_step t lt);
   sound = record { fit = λ t lt. fit_front t xs ys (a.sound.fit t lt); rise = rise_front j xs ys a.sound.rise };
+}
+
+-- ---- some of the stores, by their names
+
+none_among : {B : Type 0} (f : Hist → Option B) (stays : Name → Bool) (stores : Stores) → first_some (map f (histories stores)) ≡ None → first_some (map f (histories (some_of stays stores))) ≡ None
+none_among f stays [] h = refl
+none_among f stays (x ∷ stores) h =
+    let parts = none_of (f x.1) (first_some (map f (histories stores))) h in
+    let rest = none_among f stays stores parts.1 in
+    elim (stays x.0) as (λ (b : Bool). first_some (map f (histories (cond b (x ∷ some_of stays stores) (some_of stays stores)))) ≡ None) [
+      | true ↦ ap (λ o. or_else o (first_some (map f (histories (some_of stays stores))))) parts.0 ∙ rest
+      | false ↦ rest
+    ]
+
+one_among : {B : Type 0} (f : Hist → Option B) (stays : Name → Bool) (stores : Stores) → AtMostOne (map f (histories stores)) → AtMostOne (map f (histories (some_of stays stores)))
+one_among f stays [] one = tt
+one_among {B} f stays (x ∷ stores) one = elim (stays x.0) as (λ (b : Bool). AtMostOne (map f (histories (cond b (x ∷ some_of stays stores) (some_of stays stores))))) [
+  | true ↦ by (f x.1) one (λ h. one_among f stays stores h)
+  | false ↦ one_among f stays stores (tail (f x.1) one)
+]
+  where
+    by : (o : Option B) → AtMostOne (o ∷ map f (histories stores)) → (AtMostOne (map f (histories stores)) → AtMostOne (map f (histories (some_of stays stores)))) → AtMostOne (o ∷ map f (histories (some_of stays stores)))
+    by None h rest = rest h
+    by (Some y) h rest = none_among f stays stores h
+
+    tail : (o : Option B) → AtMostOne (o ∷ map f (histories stores)) → AtMostOne (map f (histories stores))
+    tail None h = h
+    tail (Some y) h = none_one (map f (histories stores)) h
+
+fit_among : (t : ℕ) (stays : Name → Bool) (stores : Stores) → AllFit t (histories stores) → AllFit t (histories (some_of stays stores))
+fit_among t stays [] f = tt
+fit_among t stays (x ∷ stores) f = elim (stays x.0) as (λ (b : Bool). AllFit t (histories (cond b (x ∷ some_of stays stores) (some_of stays stores)))) [
+  | true ↦ (f.0, fit_among t stays stores f.1)
+  | false ↦ fit_among t stays stores f.1
+]
+
+rise_among : (j : ℕ) (stays : Name → Bool) (stores : Stores) → RiseAbove j (histories stores) → RiseAbove j (histories (some_of stays stores))
+rise_among j stays [] r = tt
+rise_among j stays (x ∷ stores) r = elim (stays x.0) as (λ (b : Bool). RiseAbove j (histories (cond b (x ∷ some_of stays stores) (some_of stays stores)))) [
+  | true ↦ (r.0, rise_among j stays stores r.1)
+  | false ↦ rise_among j stays stores r.1
+]
+
+pub those_apart : those_are_apart
+those_apart j stays stores a = record {
+  one_row = λ t le. one_among (row_of t) stays stores (a.one_row t le);
+  one_step = λ t lt. one_among (step_of t) stays stores (a.one_step t lt);
+  sound = record { fit = λ t lt. fit_among t stays stores (a.sound.fit t lt); rise = rise_among j stays stores a.sound.rise };
 }
 
 -- ---- of one key, changes that come in time
@@ -123,10 +184,10 @@ ascend q (c ∷ d ∷ list) r time =
         let none : steps_of q list ≡ [] = none_there q d.key list not_above e (both_true (list_all (λ (x : KeyChange). not (is_gt (key_cmp d.key x.key))) list) (rises list) rest_rises).0 in
         subst (λ b. EachAbove c.ts (map as_step (cond b (d ∷ changes_of q list) (changes_of q list)))) (sym e) (subst (EachAbove c.ts) (sym none) tt))
 
-abbrev upto : ℕ → Steps → Steps
+abbrev pub upto : ℕ → Steps → Steps
 upto bound steps = filter (λ (c : ℕ × Change). nat_le c.0 bound) steps
 
-above_some : (low : ℕ) (p : ℕ × Change → Bool) (steps : Steps) → EachAbove low steps → EachAbove low (filter p steps)
+pub above_some : (low : ℕ) (p : ℕ × Change → Bool) (steps : Steps) → EachAbove low steps → EachAbove low (filter p steps)
 above_some low p [] e = tt
 above_some low p (c ∷ steps) e = elim (p c) as (λ b. EachAbove low (cond b (c ∷ filter p steps) (filter p steps))) [
   | true ↦ (e.0, above_some low p steps e.1)
@@ -147,7 +208,7 @@ in_order j (c ∷ steps) a = (λ e. lower j c.0 steps (let up = ltb-true j c.0 e
 -- ---- what holds of each change
 
 module _ (P : ℕ × Change → Type 0) where
-  each_some : (p : ℕ × Change → Bool) (steps : Steps) → AllByRecursion P steps → AllByRecursion P (filter p steps)
+  pub each_some : (p : ℕ × Change → Bool) (steps : Steps) → AllByRecursion P steps → AllByRecursion P (filter p steps)
   each_some p [] h = tt
   each_some p (c ∷ steps) h = elim (p c) as (λ b. AllByRecursion P (cond b (c ∷ filter p steps) (filter p steps))) [
     | true ↦ (h.0, each_some p steps h.1)
@@ -189,7 +250,7 @@ of_key columns q (c ∷ list) h = elim (eq_by_cmp key_cmp q c.key) as (λ b. Are
   | false ↦ of_key columns q list h.1
 ]
 
-within : (bound : ℕ) (steps : Steps) → AllByRecursion (λ (c : ℕ × Change). c.0 ≤ bound) (upto bound steps)
+pub within : (bound : ℕ) (steps : Steps) → AllByRecursion (λ (c : ℕ × Change). c.0 ≤ bound) (upto bound steps)
 within bound [] = tt
 within bound (c ∷ steps) = elim (nat_le c.0 bound) as (λ b. nat_le c.0 bound ≡ b → AllByRecursion (λ (x : ℕ × Change). x.0 ≤ bound) (cond b (c ∷ upto bound steps) (upto bound steps))) [
   | true ↦ λ e. (leb-true c.0 bound e, within bound steps)
@@ -236,12 +297,11 @@ order_of j (c ∷ steps) e r = (λ up. e.1, order_of j steps e.1 (low j c.0 step
     low a b [] le s = tt
     low a b (x ∷ l) le s = (omega (arith, s.0), s.1)
 
--- one key
-one_passes : (columns : List ColumnShape) (j bound : ℕ) (q : List ℕ) (mems : List (List KeyChange)) → AreShapes columns → bound < 2 ^ 64 → AllByRecursion (AreOfTable columns) mems
-    → AllByRecursion (λ (list : List KeyChange). rises list ≡ true) mems → AreApart j (map (told bound q) mems) → PassesFrom columns j (2 ^ 64) (map (told bound q) mems)
-one_passes columns j bound q mems are lt of r apart =
-    let hs : List Hist = map (told bound q) mems in
-    let order : AllInOrder j hs = orders columns bound q j mems of r in
+-- Histories of one key that are apart, of the table and in their order
+pub apart_pass : (columns : List ColumnShape) (j bound : ℕ) (hs : List Hist) → AreShapes columns → bound < 2 ^ 64 → AreApart j hs → AllInOrder j hs
+    → AllByRecursion (λ (h : Hist). AreOf columns h.steps) hs → AllByRecursion (λ (h : Hist). AllByRecursion (λ (c : ℕ × Change). c.0 ≤ bound) h.steps) hs → RowIs columns (first_some (map (row_of j) hs))
+    → PassesFrom columns j (2 ^ 64) hs
+apart_pass columns j bound hs are lt apart order of low row =
     let steps : Steps = rising (all_above j hs) in
     let rise : Rises j steps = joined_rises j hs apart in
     let above : EachAbove j steps = rises_above j steps rise in
@@ -249,10 +309,9 @@ one_passes columns j bound q mems are lt of r apart =
     let shows = shown j hs apart order in
     let first : row_of j (joined_history j hs) ≡ first_some (map (row_of j) hs) = sym (shows.rows j (omega arith)) in
     let pass : AllPass columns steps (first_some (map (row_of j) hs)) = all_pass columns steps (first_some (map (row_of j) hs)) are (joined_fits j hs apart order)
-    (each_rising (λ (c : ℕ × Change). IsOfTable columns c.1) (all_above j hs) (each_above_all (λ (c : ℕ × Change). IsOfTable columns c.1) j hs (all_of columns bound q mems of)))
-    (first_row columns bound q j mems are.rise of) in
+    (each_rising (λ (c : ℕ × Change). IsOfTable columns c.1) (all_above j hs) (each_above_all (λ (c : ℕ × Change). IsOfTable columns c.1) j hs of)) row in
     let below : Under (2 ^ 64) steps = under_top bound (2 ^ 64) steps lt
-    (each_rising (λ (c : ℕ × Change). c.0 ≤ bound) (all_above j hs) (each_above_all (λ (c : ℕ × Change). c.0 ≤ bound) j hs (all_within columns bound q mems))) in
+    (each_rising (λ (c : ℕ × Change). c.0 ≤ bound) (all_above j hs) (each_above_all (λ (c : ℕ × Change). c.0 ≤ bound) j hs low)) in
     record {
       whole = joined_history j hs;
       shows = shows;
@@ -262,6 +321,12 @@ one_passes columns j bound q mems are lt of r apart =
       under = subst (Under (2 ^ 64)) (sym same) below;
       pass = subst (AllPass columns (steps_above j steps)) (sym first) (subst (λ (l : Steps). AllPass columns l (first_some (map (row_of j) hs))) (sym same) pass);
     }
+
+-- one key
+one_passes : (columns : List ColumnShape) (j bound : ℕ) (q : List ℕ) (mems : List (List KeyChange)) → AreShapes columns → bound < 2 ^ 64 → AllByRecursion (AreOfTable columns) mems
+    → AllByRecursion (λ (list : List KeyChange). rises list ≡ true) mems → AreApart j (map (told bound q) mems) → PassesFrom columns j (2 ^ 64) (map (told bound q) mems)
+one_passes columns j bound q mems are lt of r apart =
+    apart_pass columns j bound (map (told bound q) mems) are lt apart (orders columns bound q j mems of r) (all_of columns bound q mems of) (all_within columns bound q mems) (first_row columns bound q j mems are.rise of)
 
 -- ---- the whole
 

@@ -1,6 +1,6 @@
 -- What stores in memory have of a key, as a job reads it: joined to one history, which is of the table and passes its rules.
-use Rattle.std.specs.Prelude.{◌≡◌, ◌≤◌, ◌<◌, ◌^◌, ◌⊎◌, ℕ, suc, true, List, [], ◌∷◌, ◌++◌, map, length}
-use Rattle.std.specs.List.{AllByRecursion}
+use Rattle.std.specs.Prelude.{◌≡◌, ◌≤◌, ◌<◌, ◌^◌, ◌⊎◌, ℕ, suc, Bool, true, List, [], ◌∷◌, ◌++◌, map, length, Option, Some, None}
+use Rattle.std.specs.List.{AllByRecursion, filter}
 use Rattle.kt_history.specs.declared.change.Change.{Change}
 use Rattle.kt_history.specs.declared.change.Change.TheVariants.{Ins, Upd, Del}
 use Rattle.kt_history.specs.declared.changes.KeyChange.{KeyChange}
@@ -16,6 +16,7 @@ use Rattle.kt_rowfiles.specs.Merging.{joined_history}
 use Rattle.kt_baseset.specs.declared.schema.ColumnShape.{ColumnShape}
 use Rattle.kt_baseset.specs.Rows.{AreShapes, RowFits}
 use Rattle.kt_diskrowset.specs.declared.inputs.Inputs.{Inputs}
+use Rattle.kt_content.specs.InMemory.{Name, Stores}
 use Rattle.kt_merge.specs.Changes.{rises}
 use Rattle.kt_merge.specs.Fitting.{StandsUnder}
 use Rattle.kt_merge.specs.Merge.{hists_upto, AreFaultless}
@@ -33,6 +34,10 @@ stores_that_stand_are_apart = (core : Core) (q : List ℕ) → Stands core → A
 -- and some of those that are apart
 abbrev pub some_are_apart : Type 0
 some_are_apart = (j : ℕ) (xs ys : List Hist) → AreApart j (xs ++ ys) → AreApart j xs
+
+-- of stores by name too, those of some names
+abbrev pub those_are_apart : Type 0
+those_are_apart = (j : ℕ) (stays : Name → Bool) (stores : Stores) → AreApart j (map (λ (x : Name × Hist). x.1) stores) → AreApart j (map (λ (x : Name × Hist). x.1) (filter (λ (x : Name × Hist). stays x.0) stores))
 
 -- in each the changes above the mark come behind the others
 abbrev pub AllInOrder : ℕ → List Hist → Type 0
@@ -63,6 +68,11 @@ abbrev pub AreInTime : List KeyChange → Type 0
 AreInTime [] = Unit {0}
 AreInTime (c ∷ []) = Unit {0}
 AreInTime (c ∷ d ∷ changes) = (c.key ≡ d.key → c.ts < d.ts) × AreInTime (d ∷ changes)
+
+-- a row of the table, or none
+abbrev pub RowIs : List ColumnShape → Option Row → Type 0
+RowIs columns None = Unit {0}
+RowIs columns (Some row) = RowFits columns row
 
 -- the changes of a store in memory are of the table, under keys that are not too long
 pub record AreOfTable (columns : List ColumnShape) (changes : List KeyChange) : Type 0 where

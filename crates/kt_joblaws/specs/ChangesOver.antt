@@ -45,12 +45,12 @@ AreOlder next (x ∷ stores) = IsOlder x.0 × AreOlder next stores
 abbrev pub in_memory : List ℕ → List DiskRowset → Stores
 in_memory q outputs = map (λ (d : DiskRowset). (rowset d.rowset, hist_in_files q d)) outputs
 
--- the stores before a flush changes over, and after it: first the MemRowSet that takes inserts, which has nothing
+-- the stores before a flush changes over, and after it: first the MemRowSet that takes inserts, which has nothing; in the end the outputs stand behind the others
 abbrev pub before_flush : ℕ → Stores → Stores → Stores
 before_flush active frozen others = (mem_rows active, never) ∷ frozen ++ others
 
 abbrev pub after_flush : ℕ → List ℕ → List DiskRowset → Stores → Stores
-after_flush active q outputs others = (mem_rows active, never) ∷ in_memory q outputs ++ others
+after_flush active q outputs others = (mem_rows active, never) ∷ others ++ in_memory q outputs
 
 -- What a flush has. Its outputs are alike to the frozen MemRowSets, and no record names a MemRowSet or a rowset that came since it began
 pub record FlushesOver (rules : Rules) (old : Super) (a last_mem next active : ℕ) (outputs : List DiskRowset) (records : List Entry) (frozen others : List ℕ → Stores) (j : ℕ) : Type 0 where

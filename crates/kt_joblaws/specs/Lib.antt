@@ -1,5 +1,6 @@
 pub mod Apart
 pub mod ChangesOver
+pub mod Compacts
 pub mod DeltaJobs
 pub mod InMemory
 pub mod Outputs

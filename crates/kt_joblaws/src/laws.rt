@@ -1,8 +1,9 @@
-//! Laws of a flush that changes over, and of a job that writes one disk rowset again.
+//! Laws of a flush and of a compaction that change over, and of a job that writes one disk rowset again.
 ghost use Rattle.kt_joblaws.specs.ChangesOver.{a_flush_changes_over};
+ghost use Rattle.kt_joblaws.specs.Compacts.{a_compaction_changes_over, a_rowset_of_columns_tells, a_compaction_reads_no_fault, what_is_taken_passes};
 ghost use Rattle.kt_joblaws.specs.Written.{written_rowsets_are_the_same, written_rowsets_pass, named_rowsets_tell};
 ghost use Rattle.kt_joblaws.specs.Outputs.{outputs_pass, lists_tell_all, lists_rise, marks_may_rise};
-ghost use Rattle.kt_joblaws.specs.Apart.{stores_that_stand_are_apart, some_are_apart, a_joined_history_is_shown, a_flush_reads_no_fault};
+ghost use Rattle.kt_joblaws.specs.Apart.{stores_that_stand_are_apart, some_are_apart, those_are_apart, a_joined_history_is_shown, a_flush_reads_no_fault};
 ghost use Rattle.kt_joblaws.specs.InMemory.{what_memory_has_passes};
 ghost use Rattle.kt_joblaws.specs.DeltaJobs.{a_rewritten_rowset_stands, a_rowset_of_passing_histories_passes, histories_of_passing_rowsets_pass};
 
@@ -48,6 +49,7 @@ pub fn apart_law()
 pub fn joined_law()
     ensures shown { a_joined_history_is_shown }
     ensures some { some_are_apart }
+    ensures those { those_are_apart }
 {}
 
 /// What a flush reads of stores that are apart, changes of its table, has no fault.
@@ -69,4 +71,24 @@ pub fn rewrite_law()
 pub fn passing_law()
     ensures passes { a_rowset_of_passing_histories_passes }
     ensures back { histories_of_passing_rowsets_pass }
+{}
+
+/// The superblock of a compaction stands over the stores with its outputs in the place of the disk rowsets that it took.
+pub fn compact_law()
+    ensures { a_compaction_changes_over }
+{}
+
+/// A disk rowset of the columns of a table, whose changes stand in order, tells the table.
+pub fn telling_law()
+    ensures { a_rowset_of_columns_tells }
+{}
+
+/// What a compaction reads of disk rowsets that are apart, changes of its table in their order, has no fault.
+pub fn merge_law()
+    ensures { a_compaction_reads_no_fault }
+{}
+
+/// And where a superblock and a log hold a past by the rules of the table, it passes them.
+pub fn taken_law()
+    ensures { what_is_taken_passes }
 {}

@@ -16,10 +16,10 @@ use Rattle.kt_outputs.proofs.Named.{AreBelow, below_join, below_more, count_up, 
 
 -- ---- numbers that are taken
 
-has_join : (xs ys : List ℕ) (n : ℕ) → has (xs ++ ys) n ≡ (has xs n || has ys n)
+pub has_join : (xs ys : List ℕ) (n : ℕ) → has (xs ++ ys) n ≡ (has xs n || has ys n)
 has_join xs ys n = list_any-append (λ (k : ℕ). k == n) xs ys
 
-none_left : (a b : Bool) → (a || b) ≡ false → a ≡ false
+pub none_left : (a b : Bool) → (a || b) ≡ false → a ≡ false
 none_left true b h = h
 none_left false b h = refl
 
@@ -35,10 +35,10 @@ not_true true h = absurd (cc)
 not_true false h = refl
 
 -- below a number no more is taken
-abbrev TakesNoMore : ℕ → List ℕ → List ℕ → Type 0
+abbrev pub TakesNoMore : ℕ → List ℕ → List ℕ → Type 0
 TakesNoMore file taken later = (k : ℕ) → k < file → has taken k ≡ false → has later k ≡ false
 
-no_more_join : (file : ℕ) (taken later xs : List ℕ) → TakesNoMore file taken later → TakesNoMore file (taken ++ xs) (later ++ xs)
+pub no_more_join : (file : ℕ) (taken later xs : List ℕ) → TakesNoMore file taken later → TakesNoMore file (taken ++ xs) (later ++ xs)
 no_more_join file taken later xs free_still k lt free =
     let own = sym (has_join taken xs k) ∙ free in
     has_join later xs k ∙ none_both (has later k) (has xs k) (free_still k lt (none_left (has taken k) (has xs k) own)) (none_right (has taken k) (has xs k) own)
@@ -53,12 +53,12 @@ none_counted file a b k xs up le lt = by (has xs k) refl
 
 -- ---- rowsets behind it stay
 
-still_file : (file next later : ℕ) (taken more : List ℕ) (f : FileRef) → f.file < file → TakesNoMore file taken more → IsFile later taken f → IsFile later more f
+pub still_file : (file next later : ℕ) (taken more : List ℕ) (f : FileRef) → f.file < file → TakesNoMore file taken more → IsFile later taken f → IsFile later more f
 still_file file next later taken more f lt free_still is =
     let parts = both_true (nat_le 3 f.file && nat_lt f.file later) (not (has taken f.file)) is.0 in
     (both (nat_le 3 f.file && nat_lt f.file later) (not (has more f.file)) parts.0 (ap not (free_still f.file lt (not_true (has taken f.file) parts.1))), is.1)
 
-still_files : (file next later : ℕ) (was taken more : List ℕ) (files : List FileRef) → AreFiles next was files → next ≤ file → TakesNoMore file taken more → AreFiles later taken files → AreFiles later more files
+pub still_files : (file next later : ℕ) (was taken more : List ℕ) (files : List FileRef) → AreFiles next was files → next ≤ file → TakesNoMore file taken more → AreFiles later taken files → AreFiles later more files
 still_files file next later was taken more [] old le free_still are = tt
 still_files file next later was taken more (f ∷ files) old le free_still are = (
   still_file file next later taken more f (let lt = file_below next was f old.0 in omega arith) free_still are.0,
@@ -84,7 +84,7 @@ still_rowsets file next_rowset next_file rowset_later file_later least was taken
 
 -- ---- no other has its number
 
-from_least : (least next n : ℕ) → (nat_le least n && nat_lt n next) ≡ true → least ≤ n
+pub from_least : (least next n : ℕ) → (nat_le least n && nat_lt n next) ≡ true → least ≤ n
 from_least least next n h = leb-true least n (both_true (nat_le least n) (nat_lt n next) h).0
 
 others_stay : (m : MetaRowset) (next_rowset next_file least : ℕ) (taken : List ℕ) (rowsets : List MetaRowset) → m.rowset < least → AreRowsets next_rowset next_file least taken rowsets → in_place m rowsets ≡ rowsets

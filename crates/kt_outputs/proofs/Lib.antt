@@ -3,3 +3,4 @@ pub mod Named
 pub mod WholeFiles
 pub mod Numbered
 pub mod InPlace
+pub mod Fewer

@@ -2,3 +2,4 @@ pub mod Outputs
 pub mod Named
 pub mod Rewriting
 pub mod InPlace
+pub mod Fewer

@@ -1,5 +1,6 @@
 //! Laws of disk rowsets that were written and that a superblock is to name.
 ghost use Rattle.kt_outputs.specs.Named.{outputs_come_behind, outputs_stand};
+ghost use Rattle.kt_outputs.specs.Fewer.{some_may_be_named, some_stand};
 ghost use Rattle.kt_outputs.specs.InPlace.{a_rewritten_rowset_comes_in_place, a_rewritten_rowset_stands_in_place};
 
 /// Rowsets that were written under the next numbers may stand behind those that a superblock names.
@@ -16,4 +17,10 @@ pub fn stand_law()
 pub fn in_place_law()
     ensures comes { a_rewritten_rowset_comes_in_place }
     ensures stands { a_rewritten_rowset_stands_in_place }
+{}
+
+/// A superblock may name some of the disk rowsets that another one names, and their files stand.
+pub fn fewer_law()
+    ensures named { some_may_be_named }
+    ensures stand { some_stand }
 {}
