@@ -8,10 +8,13 @@ pub mod Taking
 pub mod Finding
 pub mod Took
 pub mod Emptying
-pub mod Outputs
+pub mod Departing
+pub mod Changing
+pub mod ReadsTaken
 pub mod Grown
 pub mod Shrinking
 pub mod Numbered
 pub mod Rewritten
 pub mod Reaching
 pub mod Freezing
+pub mod Statistics

@@ -1,10 +1,8 @@
 -- A disk rowset that a job has changed, among the stores in their order.
-use Rattle.std.proofs.Common.{◌≡◌, ◌<◌, ◌+◌, ℕ, List, [], ◌∷◌, map, length, get_or, Some, refl, sym, ap, subst, ◌∙◌, inr, arith}
+use Rattle.std.proofs.Common.{◌≡◌, ◌<◌, ◌+◌, ℕ, List, map, length, get_or, Some, sym, ap, subst, ◌∙◌, inr}
 use Rattle.std.specs.Prelude.{slice_get, set}
 use Rattle.kt_history.proofs.Beside.{Stays, IsPlaced}
-use Rattle.kt_history.specs.declared.target.Target.{Target}
 use Rattle.kt_history.specs.declared.target.Target.TheVariants.{Delta}
-use Rattle.kt_history.specs.Stores.{Store}
 use Rattle.kt_histlaws.specs.Histories.{on_nth}
 use Rattle.kt_diskrowset.specs.Rowset.{HeldFiles}
 use Rattle.kt_memrowset.specs.declared.store.MemRowSet.{MemRowSet}

@@ -1,2 +1,5 @@
 pub mod Shelf
 pub mod Parts
+pub mod Takes
+pub mod Leaving
+pub mod Stats

@@ -1,8 +1,8 @@
 -- The stores of a tablet one by one, as they stand beside each other in their pool.
-use Rattle.std.specs.Prelude.{◌≡◌, ◌+◌, ℕ, Bool, false, List, [], ◌∷◌, ◌++◌, map, Some, None, length, slice_get, ◌⊎◌}
+use Rattle.std.specs.Prelude.{◌≡◌, ◌+◌, ℕ, Bool, false, List, [], ◌∷◌, ◌++◌, map, Some, None, slice_get, ◌⊎◌}
 use Rattle.std.specs.Option.{option_map}
 use Rattle.std.proofs.Common.{inl, inr}
-use Rattle.kt_history.specs.Beside.{AllStand, OwnedBy, AreApart}
+use Rattle.kt_history.specs.Beside.{AllStand, AreApart}
 use Rattle.kt_history.specs.declared.operation.RowOp.{RowOp}
 use Rattle.kt_history.specs.declared.row_store.Taken.{Taken}
 use Rattle.kt_history.specs.declared.target.Target.{Target}
@@ -76,13 +76,6 @@ pub record HasTakenAt {X : Type 0} (stands : X → Contents → Type 0) (owns : 
   pub at : slice_get xs i ≡ Some before
   pub is : ys ≡ on_nth i (λ _. after) xs
   pub one : HasTaken stands owns read before after old new ts op taken
-
--- MemRowSets have given their cells back, and no place of another has changed
-pub record AreEmptied (xs : List MemRowSet) (old new : Contents) : Type 0 where
-  pub frame : (k : ℕ) → ¬ OwnedBy Owns old xs k → at_cell new k ≡ at_cell old k
-  pub fewer : used new + cells_in (shelf_of shelved_mem old xs) ≡ used old
-  pub reserved : new.reserved ≡ old.reserved
-  pub size : length new.places ≡ length old.places
 
 -- store i takes inserts, or it has the row of the operation
 abbrev pub MayTakeAt : {X : Type 0} → (X → Contents → Shelved) → ℕ → List X → Contents → RowOp → Type 0

@@ -1,5 +1,5 @@
 -- What the stores of a tablet are to their callers.
-use Rattle.std.specs.Prelude.{◌≡◌, ℕ, ◌+◌, ◌==◌, Bool, true, false, is_some, List, [], ◌∷◌, ◌++◌, map, Option, unwrap_or, slice_get, drop}
+use Rattle.std.specs.Prelude.{◌≡◌, ℕ, ◌+◌, ◌==◌, Bool, true, false, is_some, List, [], ◌∷◌, map, Option, unwrap_or, slice_get}
 use Rattle.std.specs.List.{position, sum_by}
 use Rattle.std.specs.Option.{option_map}
 use Rattle.kt_history.specs.declared.target.Target.{Target}
@@ -70,11 +70,6 @@ empty_mem number = record { name = Mem number; store = []; closed = false; cells
 abbrev pub frozen_behind : ℕ → List Shelved → List Shelved
 frozen_behind number [] = []
 frozen_behind number (s ∷ shelf) = empty_mem number ∷ (record s { closed = true }) ∷ shelf
-
--- the shelf with others in the place of the so many stores behind the first
-abbrev pub with_outputs : ℕ → List Shelved → List Shelved → List Shelved
-with_outputs n outputs [] = []
-with_outputs n outputs (s ∷ shelf) = s ∷ outputs ++ drop n shelf
 
 -- what the first store holds
 abbrev pub rows_in_first : List Shelved → Store

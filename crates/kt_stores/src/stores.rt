@@ -1,6 +1,8 @@
 //! The stores and their pool as one value.
+pub mod changing;
 pub mod flushing;
 pub mod rewriting;
+pub mod stats;
 pub mod taking;
 
 ghost use Rattle.std.specs.Prelude.{◌≡◌, ◌<◌, ◌^◌, ◌+◌, ◌-◌, ◌≤◌, ◌↔◌, length, slice_get, Some, IfOk, IsOk, OnOk, OnErr, MatchResult};

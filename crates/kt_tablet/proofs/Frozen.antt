@@ -1,7 +1,7 @@
--- A flush freezes the store that takes inserts, and in the end others stand in place of the frozen ones.
-use Rattle.std.proofs.Common.{◌≡◌, ◌+◌, ◌-◌, ℕ, zero, suc, List, [], ◌∷◌, ◌++◌, map, drop, length, Some, Option, refl, sym, ap, subst, ◌∙◌, arith}
-use Rattle.std.specs.Prelude.{◌↔◌, slice_get}
-use Rattle.std.proofs.lemmas.List.{map-append}
+-- A flush freezes the store that takes inserts, and in the end of a job its outputs stand behind the stores that it leaves.
+use Rattle.std.proofs.Common.{◌≡◌, ◌+◌, ◌-◌, ◌≤◌, ℕ, zero, suc, Bool, true, false, cond, List, [], ◌∷◌, ◌++◌, map, drop, length, Some, Option, refl, sym, ap, subst, ◌∙◌, arith}
+use Rattle.std.specs.Prelude.{◌↔◌, not, slice_get, take}
+use Rattle.std.proofs.lemmas.List.{map-append, length-map}
 use Rattle.kt_history.specs.declared.change.Outcome.{Outcome}
 use Rattle.kt_history.specs.declared.target.Target.{Target}
 use Rattle.kt_history.specs.declared.target.Target.TheVariants.{Mem}
@@ -13,11 +13,12 @@ use Rattle.kt_histlaws.specs.Histories.{hists, ShowsKey}
 use Rattle.kt_diskrowset.specs.Rowset.{HeldFiles}
 use Rattle.kt_pool.specs.Contents.{Contents}
 use Rattle.kt_records.specs.declared.entry.CommitRow.{CommitRow}
-use Rattle.kt_stores.specs.Shelf.{Shelved, name_at, names_of, frozen_behind, with_outputs}
+use Rattle.kt_stores.specs.Shelf.{Shelved, name_at, names_of, frozen_behind}
 use Rattle.kt_stores.specs.Shelf as shelf
+use Rattle.kt_stores.specs.Takes.{Takes, rowsets, takes, of_taken, of_left, files_left, over_to, left_on, shelf_over}
 use Rattle.kt_tablet.specs.declared.tablet.FlyingWrite.{FlyingWrite}
-use Rattle.kt_tablet.specs.Filling.{filled, all_told}
-use Rattle.kt_tablet.specs.Jobs.{rows_in_first, over_to, HasFrozen, MayChangeOver, HasChangedOver}
+use Rattle.kt_tablet.specs.Filling.{filled, as_told, all_told}
+use Rattle.kt_tablet.specs.Jobs.{rows_in_first, frozen_names, HasFrozen, MayChangeOver, HasChangedOver}
 use Rattle.kt_tablet.specs.Rows.{IsRecorded, AreRecorded, AreWritten}
 use Rattle.kt_tablet.specs.Views.{View, IsSound}
 use Rattle.kt_tablet.proofs.Exact.{filled_none}
@@ -25,22 +26,35 @@ use Rattle.kt_tablet.proofs.Outputs.{over_shows, over_sound, vacant_shows, vacan
 
 -- ---- stores as they are told
 
-pred : (n : ℕ) → suc n - 1 ≡ n
+pub pred : (n : ℕ) → suc n - 1 ≡ n
 pred n = omega arith
 
 as_they_are : (fill : Row) (stores : List Store) → all_told fill 0 stores ≡ stores
 as_they_are fill [] = refl
 as_they_are fill (s ∷ stores) = ap (λ l. s ∷ l) (as_they_are fill stores)
 
-drop_told : (fill : Row) (n : ℕ) (stores : List Store) → drop n (all_told fill n stores) ≡ drop n stores
-drop_told fill zero stores = as_they_are fill stores
-drop_told fill (suc n) [] = refl
-drop_told fill (suc n) (s ∷ stores) = ap (λ m. drop n (all_told fill m stores)) (pred n) ∙ drop_told fill n stores
+-- of a shelf what is left, told by its names
+stores_left : (t : Takes) (stores : List Shelved) → map (λ (s : Shelved). s.store) (left_on t stores) ≡ of_left t (names_of stores) (map (λ (s : Shelved). s.store) stores)
+stores_left t [] = refl
+stores_left t (s ∷ stores) = elim (takes t s.name) as (λ (b : Bool). map (λ (s : Shelved). s.store) (cond (not b) (s ∷ left_on t stores) (left_on t stores)) ≡ cond b (of_left t (names_of stores) (map (λ (s : Shelved). s.store) stores)) (s.store ∷ of_left t (names_of stores) (map (λ (s : Shelved). s.store) stores))) [
+  | true ↦ stores_left t stores
+  | false ↦ ap (λ l. s.store ∷ l) (stores_left t stores)
+]
 
-drop_mapped : {A B : Type 0} (f : A → B) (n : ℕ) (xs : List A) → map f (drop n xs) ≡ drop n (map f xs)
-drop_mapped f zero xs = refl
-drop_mapped f (suc n) [] = refl
-drop_mapped f (suc n) (x ∷ xs) = drop_mapped f n xs
+names_left : (t : Takes) (stores : List Shelved) → names_of (left_on t stores) ≡ of_left t (names_of stores) (names_of stores)
+names_left t [] = refl
+names_left t (s ∷ stores) = elim (takes t s.name) as (λ (b : Bool). names_of (cond (not b) (s ∷ left_on t stores) (left_on t stores)) ≡ cond b (of_left t (names_of stores) (names_of stores)) (s.name ∷ of_left t (names_of stores) (names_of stores))) [
+  | true ↦ names_left t stores
+  | false ↦ ap (λ l. s.name ∷ l) (names_left t stores)
+]
+
+front_left : (t : Takes) (n : ℕ) (stores : List Shelved) → length (left_on t (take n stores)) ≤ length (left_on t stores)
+front_left t zero stores = omega arith
+front_left t (suc n) [] = omega arith
+front_left t (suc n) (s ∷ stores) = elim (takes t s.name) as (λ (b : Bool). length (cond (not b) (s ∷ left_on t (take n stores)) (left_on t (take n stores))) ≤ length (cond (not b) (s ∷ left_on t stores) (left_on t stores))) [
+  | true ↦ front_left t n stores
+  | false ↦ (let few = front_left t n stores in omega arith)
+]
 
 -- an empty store in front
 pub told_frozen : (fill : Row) (memory number : ℕ) (name : Target) (stores : List Shelved) → name_at 0 stores ≡ Some name
@@ -54,19 +68,52 @@ pub names_frozen : (number : ℕ) (name : Target) (stores : List Shelved) → na
 names_frozen number name [] e = absurd (cc)
 names_frozen number name (s ∷ stores) e = refl
 
--- others in place of the frozen ones
-pub told_over : (fill : Row) (n : ℕ) (outputs stores : List Shelved)
-    → all_told fill 1 (map (λ (s : Shelved). s.store) (with_outputs n outputs stores)) ≡ over_to n (map (λ (s : Shelved). s.store) outputs) (all_told fill (suc n) (map (λ (s : Shelved). s.store) stores))
-told_over fill n outputs [] = refl
-told_over fill n outputs (s ∷ stores) =
-    ap (λ l. filled fill s.store ∷ l) (as_they_are fill (map (λ (s : Shelved). s.store) (outputs ++ drop n stores)) ∙ map-append (λ (s : Shelved). s.store) outputs (drop n stores)
-    ∙ ap (λ l. map (λ (s : Shelved). s.store) outputs ++ l) (drop_mapped (λ (s : Shelved). s.store) n stores ∙ sym (drop_told fill n (map (λ (s : Shelved). s.store) stores))
-    ∙ ap (λ m. drop n (all_told fill m (map (λ (s : Shelved). s.store) stores))) (sym (pred n))))
+-- what is left of the stores behind the first
+told_left : (fill : Row) (t : Takes) (memory : ℕ) (stores : List Shelved) → all_told fill (length (left_on t (take memory stores))) (map (λ (s : Shelved). s.store) (left_on t stores)) ≡ of_left t (names_of stores) (all_told fill memory (map (λ (s : Shelved). s.store) stores))
+told_left fill t zero stores = as_they_are fill (map (λ (s : Shelved). s.store) (left_on t stores)) ∙ stores_left t stores ∙ ap (of_left t (names_of stores)) (sym (as_they_are fill (map (λ (s : Shelved). s.store) stores)))
+told_left fill t (suc memory) [] = refl
+told_left fill t (suc memory) (s ∷ stores) = by (takes t s.name) (told_left fill t memory stores)
+  where
+    by : (b : Bool) → all_told fill (length (left_on t (take memory stores))) (map (λ (s : Shelved). s.store) (left_on t stores)) ≡ of_left t (names_of stores) (all_told fill memory (map (λ (s : Shelved). s.store) stores))
+        → all_told fill (length (cond (not b) (s ∷ left_on t (take memory stores)) (left_on t (take memory stores)))) (map (λ (s : Shelved). s.store) (cond (not b) (s ∷ left_on t stores) (left_on t stores)))
+        ≡ cond b (of_left t (names_of stores) (all_told fill (suc memory - 1) (map (λ (s : Shelved). s.store) stores))) (as_told (suc memory) fill s.store ∷ of_left t (names_of stores) (all_told fill (suc memory - 1) (map (λ (s : Shelved). s.store) stores)))
+    by true rest = rest ∙ ap (λ m. of_left t (names_of stores) (all_told fill m (map (λ (s : Shelved). s.store) stores))) (sym (pred memory))
+    by false rest =
+        ap (λ m. filled fill s.store ∷ all_told fill m (map (λ (s : Shelved). s.store) (left_on t stores))) (pred (length (left_on t (take memory stores))))
+        ∙ ap (λ l. filled fill s.store ∷ l) (rest ∙ ap (λ m. of_left t (names_of stores) (all_told fill m (map (λ (s : Shelved). s.store) stores))) (sym (pred memory)))
 
-pub names_over : (n : ℕ) (outputs stores : List Shelved) → names_of (with_outputs n outputs stores) ≡ over_to n (names_of outputs) (names_of stores)
-names_over n outputs [] = refl
-names_over n outputs (s ∷ stores) =
-    ap (λ l. s.name ∷ l) (map-append (λ (s : Shelved). s.name) outputs (drop n stores) ∙ ap (λ l. names_of outputs ++ l) (drop_mapped (λ (s : Shelved). s.name) n stores))
+-- those behind lie in no memory
+told_behind : (fill : Row) (memory : ℕ) (xs ys : List Store) → memory ≤ length xs → all_told fill memory (xs ++ ys) ≡ all_told fill memory xs ++ ys
+told_behind fill memory [] ys le = ap (λ m. all_told fill m ys) (none_but memory le) ∙ as_they_are fill ys
+  where
+    none_but : (m : ℕ) → m ≤ 0 → m ≡ 0
+    none_but m le = omega arith
+told_behind fill memory (x ∷ xs) ys le = ap (λ l. as_told memory fill x ∷ l) (told_behind fill (memory - 1) xs ys (omega arith))
+
+pub rows_told : (fill : Row) (memory : ℕ) (stores : List Store) → drop memory (all_told fill memory stores) ≡ drop memory stores
+rows_told fill zero stores = as_they_are fill stores
+rows_told fill (suc memory) [] = refl
+rows_told fill (suc memory) (s ∷ stores) = ap (λ m. drop memory (all_told fill m stores)) (pred memory) ∙ rows_told fill memory stores
+
+-- what is read of disk rowsets is told as it is
+pub taken_told : (fill : Row) (numbers : List ℕ) (frozen : ℕ) (stores : List Shelved)
+    → of_taken (rowsets numbers) (drop (suc frozen) (names_of stores)) (drop (suc frozen) (map (λ (s : Shelved). s.store) stores)) ≡ of_taken (rowsets numbers) (drop (suc frozen) (names_of stores)) (drop (suc frozen) (all_told fill (suc frozen) (map (λ (s : Shelved). s.store) stores)))
+taken_told fill numbers frozen stores = ap (of_taken (rowsets numbers) (drop (suc frozen) (names_of stores))) (sym (rows_told fill (suc frozen) (map (λ (s : Shelved). s.store) stores)))
+
+pub told_over : (fill : Row) (t : Takes) (memory : ℕ) (outputs stores : List Shelved)
+    → all_told fill (suc (length (left_on t (take memory (drop 1 stores))))) (map (λ (s : Shelved). s.store) (shelf_over t outputs stores)) ≡ over_to t (map (λ (s : Shelved). s.store) outputs) (names_of stores) (all_told fill (suc memory) (map (λ (s : Shelved). s.store) stores))
+told_over fill t memory outputs [] = refl
+told_over fill t memory outputs (s ∷ stores) =
+    let n = length (left_on t (take memory stores)) in
+    let few : n ≤ length (map (λ (s : Shelved). s.store) (left_on t stores)) = (let a = length-map (left_on t stores) (λ (s : Shelved). s.store) in let b = front_left t memory stores in omega arith) in
+    ap (λ m. filled fill s.store ∷ all_told fill m (map (λ (s : Shelved). s.store) (left_on t stores ++ outputs))) (pred n)
+    ∙ ap (λ l. filled fill s.store ∷ l) (ap (all_told fill n) (map-append (λ (s : Shelved). s.store) (left_on t stores) outputs)
+    ∙ told_behind fill n (map (λ (s : Shelved). s.store) (left_on t stores)) (map (λ (s : Shelved). s.store) outputs) few
+    ∙ ap (λ l. l ++ map (λ (s : Shelved). s.store) outputs) (told_left fill t memory stores ∙ ap (λ m. of_left t (names_of stores) (all_told fill m (map (λ (s : Shelved). s.store) stores))) (sym (pred memory))))
+
+pub names_over : (t : Takes) (outputs stores : List Shelved) → names_of (shelf_over t outputs stores) ≡ over_to t (names_of outputs) (names_of stores) (names_of stores)
+names_over t outputs [] = refl
+names_over t outputs (s ∷ stores) = ap (λ l. s.name ∷ l) (map-append (λ (s : Shelved). s.name) (left_on t stores) outputs ∙ ap (λ l. l ++ names_of outputs) (names_left t stores))
 
 pub mapped : {R A B : Type 0} (f : A → B) (g : R → A) (xs : List R) → map f (map g xs) ≡ map (λ x. f (g x)) xs
 mapped f g [] = refl
@@ -103,13 +150,14 @@ frozen_sound readings view stores names pool frozen sound is = record {
   plan = sound.plan;
 }
 
-pub changed_sound : {C : Type 0} {files : List HeldFiles} (readings : C → Option (List ℕ)) (view : View C) (stores outputs : List Store) (names : List Target) (pool : Contents) (frozen : ℕ) → IsSound readings view → MayChangeOver view outputs → stores ≡ over_to view.frozen outputs view.core.stores
+pub changed_sound : {C : Type 0} {files : List HeldFiles} (readings : C → Option (List ℕ)) (view : View C) (stores outputs : List Store) (names : List Target) (pool : Contents) (frozen : ℕ) → IsSound readings view → (t : Takes) → length view.names ≡ length view.core.stores
+    → MayChangeOver view t outputs → stores ≡ over_to t outputs view.names view.core.stores
     → IsSound readings (record view { core = record view.core { stores = stores }; names = names; pool = pool; frozen = frozen; files = files })
-changed_sound readings view stores outputs names pool frozen sound may is = record {
+changed_sound readings view stores outputs names pool frozen sound t long may is = record {
   stands = λ first opens. subst (λ l. Stands (record view.core { first = first; stores = l })) (sym is)
-      (with_stores (record view.core { first = first }) (over_to view.frozen outputs view.core.stores)
-      (λ q whole s. over_shows view.core.a q view.frozen outputs view.core.stores whole (may.alike first opens q) s)
-      (λ q s. over_sound view.core.a q view.frozen outputs view.core.stores (may.sound first opens q) s) (sound.stands first opens));
+      (with_stores (record view.core { first = first }) (over_to t outputs view.names view.core.stores)
+      (λ q whole s. over_shows view.core.a q t outputs view.names view.core.stores whole long (may.alike first opens q) s)
+      (λ q s. over_sound view.core.a q t outputs view.names view.core.stores (may.sound first opens q) s) (sound.stands first opens));
   clock = sound.clock;
   plan = sound.plan;
 }
@@ -150,17 +198,33 @@ has_frozen view old stores names others pool frozen number files e s n p f h nam
   is = λ k. record view { core = record view.core { stores = s k }; names = n k; pool = p k; frozen = f k; files = h k };
 })
 
-pub has_changed_over : {C : Type 0} (view old : View C) (stores outputs : List Store) (names targets : List Target) (pool : Contents) (frozen : ℕ) (files others : List HeldFiles) → view ≡ old → stores ≡ over_to view.frozen outputs view.core.stores
-    → names ≡ over_to view.frozen targets view.names → frozen ≡ 0 → files ≡ others ++ view.files
-    → HasChangedOver old (record view { core = record view.core { stores = stores }; names = names; pool = pool; frozen = frozen; files = files }) outputs targets others
-has_changed_over view old stores outputs names targets pool frozen files others e s n f h =
-    subst (λ v. HasChangedOver v (record view { core = record view.core { stores = stores }; names = names; pool = pool; frozen = frozen; files = files }) outputs targets others) e (record {
+pub names_length : (stores : List Shelved) → length (names_of stores) ≡ length stores
+names_length stores = length-map stores (λ (s : Shelved). s.name)
+
+pub has_changed_over : {C : Type 0} (view old : View C) (t : Takes) (stores outputs : List Store) (names targets : List Target) (pool : Contents) (frozen : ℕ) (files others : List HeldFiles) → view ≡ old → stores ≡ over_to t outputs view.names view.core.stores
+    → names ≡ over_to t targets view.names view.names → frozen ≡ length (of_left t (frozen_names view) (frozen_names view)) → files ≡ files_left t view.files ++ others
+    → HasChangedOver old (record view { core = record view.core { stores = stores }; names = names; pool = pool; frozen = frozen; files = files }) t outputs targets others
+has_changed_over view old t stores outputs names targets pool frozen files others e s n f h =
+    subst (λ v. HasChangedOver v (record view { core = record view.core { stores = stores }; names = names; pool = pool; frozen = frozen; files = files }) t outputs targets others) e (record {
       stores = λ k. record view.core { stores = s k };
       names_are = n;
       frozen = f;
       files_are = h;
-      beside = λ k. record view { core = record view.core { stores = stores }; names = names; pool = pool; frozen = f k; files = files };
+      beside = refl;
     })
+
+-- how many MemRowSets are left, told by the names
+front_named : (t : Takes) (n : ℕ) (ss : List Shelved) → length (left_on t (take n ss)) ≡ length (of_left t (take n (names_of ss)) (take n (names_of ss)))
+front_named t zero ss = refl
+front_named t (suc n) [] = refl
+front_named t (suc n) (s ∷ ss) = elim (takes t s.name) as (λ (b : Bool). length (cond (not b) (s ∷ left_on t (take n ss)) (left_on t (take n ss))) ≡ length (cond b (of_left t (take n (names_of ss)) (take n (names_of ss))) (s.name ∷ of_left t (take n (names_of ss)) (take n (names_of ss))))) [
+  | true ↦ front_named t n ss
+  | false ↦ ap suc (front_named t n ss)
+]
+
+pub frozen_left : (t : Takes) (n : ℕ) (stores : List Shelved) → length (left_on t (take n (drop 1 stores))) ≡ length (of_left t (take n (drop 1 (names_of stores))) (take n (drop 1 (names_of stores))))
+frozen_left t n [] = front_named t n []
+frozen_left t n (s ∷ stores) = front_named t n stores
 
 -- where the stores are the same
 pub still_sound : {C : Type 0} {files : List HeldFiles} (readings : C → Option (List ℕ)) (view : View C) (stores : List Store) (names : List Target) (pool : Contents) (frozen : ℕ) → IsSound readings view → stores ≡ view.core.stores

@@ -21,3 +21,4 @@ pub mod Frozen
 pub mod InMemory
 pub mod Growth
 pub mod Deltas
+pub mod Statistics

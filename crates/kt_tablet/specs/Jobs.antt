@@ -1,15 +1,17 @@
 -- What jobs do to a tablet.
-use Rattle.std.specs.Prelude.{◌≡◌, ◌+◌, ◌==◌, ℕ, suc, List, [], ◌∷◌, ◌++◌, map, take, drop, Option, Some, None, if◌then◌else◌}
+use Rattle.std.specs.Prelude.{◌≡◌, ◌+◌, ◌==◌, ℕ, suc, List, [], ◌∷◌, ◌++◌, length, map, take, drop, Option, Some, None, if◌then◌else◌}
+use Rattle.std.specs.List.{sum_by}
 use Rattle.kt_history.specs.declared.target.Target.{Target}
 use Rattle.kt_history.specs.declared.target.Target.TheVariants.{Mem, Delta}
 use Rattle.kt_history.specs.History.{Past}
 use Rattle.kt_history.specs.declared.changes.KeyChange.{KeyChange}
 use Rattle.kt_history.specs.Rows.{Row}
-use Rattle.kt_history.specs.Stores.{Store, changes_upto}
+use Rattle.kt_history.specs.Stores.{Store, Hist, changes_upto}
 use Rattle.kt_histlaws.specs.Fitting.{AreSound}
 use Rattle.kt_histlaws.specs.Histories.{hists}
 use Rattle.kt_histlaws.specs.Jobs.{AreAlike}
 use Rattle.kt_diskrowset.specs.Rowset.{HeldFiles}
+use Rattle.kt_stores.specs.Takes.{Takes, rowsets, of_taken, of_left, files_left, over_to}
 use Rattle.kt_tablet.specs.Filling.{filled_change}
 use Rattle.kt_tablet.specs.Views.{View, Opens}
 
@@ -40,23 +42,35 @@ pub record HasFrozen {C : Type 0} (old new : View C) : Type 0 where
   pub was : old.names ≡ Mem number ∷ others
   pub is : new ≡ record old { core = record old.core { stores = [] ∷ old.core.stores }; names = Mem (number + 1) ∷ old.names; frozen = old.frozen + 1 }
 
--- first the store that takes inserts, then these, and the disk rowsets that were there
-abbrev pub over_to : {A : Type 0} → ℕ → List A → List A → List A
-over_to n outputs [] = []
-over_to n outputs (x ∷ xs) = x ∷ outputs ++ drop n xs
+-- ---- a job that changes over
 
--- The outputs show from the mark on what the frozen MemRowSets show, for each past that opening found
-pub record MayChangeOver {C : Type 0} (v : View C) (outputs : List Store) : Type 0 where
-  pub alike : (first : Past) → Opens v.opening v.mark v.core.opened first → (q : List ℕ) → AreAlike v.core.a (hists q (frozen_stores v)) (hists q outputs)
+-- what the stores hold that it takes: the one that takes inserts is none of them
+abbrev pub taken_stores : {C : Type 0} → Takes → View C → List Store
+taken_stores t v = of_taken t (drop 1 v.names) (drop 1 v.core.stores)
+
+-- and those of disk rowsets of some numbers, which stand behind the stores in memory
+abbrev pub taken_rowsets : {C : Type 0} → List ℕ → View C → List Store
+taken_rowsets numbers v = of_taken (rowsets numbers) (drop (suc v.frozen) v.names) (drop (suc v.frozen) v.core.stores)
+
+-- how many rows stores have, and changes of these
+abbrev pub entries : Store → ℕ
+entries store = length store + sum_by (λ (r : List ℕ × Hist). length r.1.steps) store
+
+abbrev pub entries_in : List Store → ℕ
+entries_in stores = sum_by entries stores
+
+-- The outputs show from the mark on what these show, for each past that opening found
+pub record MayChangeOver {C : Type 0} (v : View C) (t : Takes) (outputs : List Store) : Type 0 where
+  pub alike : (first : Past) → Opens v.opening v.mark v.core.opened first → (q : List ℕ) → AreAlike v.core.a (hists q (taken_stores t v)) (hists q outputs)
   pub sound : (first : Past) → Opens v.opening v.mark v.core.opened first → (q : List ℕ) → AreSound v.core.a (hists q outputs)
 
--- They have taken the place of these, with their files.
-pub record HasChangedOver {C : Type 0} (old new : View C) (outputs : List Store) (names : List Target) (files : List HeldFiles) : Type 0 where
-  pub stores : new.core ≡ record old.core { stores = over_to old.frozen outputs old.core.stores }
-  pub names_are : new.names ≡ over_to old.frozen names old.names
-  pub frozen : new.frozen ≡ 0
-  pub files_are : new.files ≡ files ++ old.files
-  pub beside : new ≡ record old { core = new.core; names = new.names; frozen = 0; pool = new.pool; files = new.files }
+-- These have left, and the outputs stand behind the others, with their files.
+pub record HasChangedOver {C : Type 0} (old new : View C) (t : Takes) (outputs : List Store) (names : List Target) (files : List HeldFiles) : Type 0 where
+  pub stores : new.core ≡ record old.core { stores = over_to t outputs old.names old.core.stores }
+  pub names_are : new.names ≡ over_to t names old.names old.names
+  pub frozen : new.frozen ≡ length (of_left t (frozen_names old) (frozen_names old))
+  pub files_are : new.files ≡ files_left t old.files ++ files
+  pub beside : new ≡ record old { core = new.core; names = new.names; frozen = new.frozen; pool = new.pool; files = new.files }
 
 -- ---- one disk rowset, by its number: where several have it, the first
 

@@ -1,9 +1,11 @@
 //! The tablet and its events.
+pub mod changing;
 pub mod deltas;
 pub mod job;
 pub mod opening;
 pub mod rows;
 pub mod scan;
+pub mod stats;
 pub mod write;
 
 ghost use Rattle.std.specs.Prelude.{◌≡◌, ◌+◌, ◌≤◌, IfOk, [], map, vec_len, vec_capacity};

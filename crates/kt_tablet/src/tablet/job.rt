@@ -1,6 +1,5 @@
-//! What a flush does: it freezes the MemRowSet that takes inserts, and in the end disk rowsets stand in place of the frozen ones.
-ghost use Rattle.std.specs.Prelude.{◌≡◌, ◌≤◌, ◌<◌, ◌^◌, ◌+◌, ℕ, ◌↔◌, [], ◌∷◌, suc, true, map, length, take, IsTrue, IfOk, OnOk, OnErr, Some, slice_get, vec_capacity};
-ghost use Rattle.std.specs.List.{AllByRecursion};
+//! What a flush does as it begins: it freezes the MemRowSet that takes inserts.
+ghost use Rattle.std.specs.Prelude.{◌≡◌, ◌<◌, ◌^◌, ◌+◌, ℕ, ◌↔◌, [], ◌∷◌, suc, map, length, take, IsTrue, IfOk, OnOk, OnErr, Some, slice_get};
 ghost use Rattle.kt_history.specs.Machine.{least};
 ghost use Rattle.std.specs.Prelude.{List};
 ghost use Rattle.kt_history.specs.declared.target.Target.{Target};
@@ -8,7 +7,7 @@ ghost use Rattle.kt_history.specs.declared.target.Target.TheVariants.{Mem};
 ghost use Rattle.kt_histlaws.specs.Core.{flown_by};
 ghost use Rattle.kt_history.specs.Stores.{changes_upto};
 ghost use Rattle.kt_stores.specs.Shelf.{stores_of};
-ghost use Rattle.kt_tablet.specs.Jobs.{changes_in_memory, filled_of, HasFrozen, MayChangeOver, HasChangedOver, rows_in_first};
+ghost use Rattle.kt_tablet.specs.Jobs.{changes_in_memory, filled_of, HasFrozen, rows_in_first};
 
 use super::Tablet;
 use kt_base::{Cells, Clock, NoMemory};
@@ -97,21 +96,5 @@ impl<R: FileStore, C: Clock> Tablet<R, C> {
         ensures { result + self.now.frozen + 1 ≡ length self.now.core.stores }
     {
         self.stores.rowsets()
-    }
-
-    /// Disk rowsets take the place of the frozen MemRowSets, while nothing flies. They have no change in memory and show from the mark on what these show, and
-    /// there is room beside them for the disk rowsets that are here. It takes no memory.
-    pub fn change_over(&mut self, outputs: Vec<R>)
-        requires calm { self.old.core.aloft ≡ [] }
-        requires stand { AllByRecursion (λ r. R.stands r self.old.pool) outputs.items }
-        requires bare { AllByRecursion (λ r. (k : ℕ) → ¬ R.owns r self.old.pool k) outputs.items }
-        requires none { AllByRecursion (λ r. R.cells r self.old.pool ≡ 0) outputs.items }
-        requires closed { AllByRecursion (λ r. R.is_closed r ≡ true) outputs.items }
-        requires room { length self.old.core.stores + length outputs.items ≤ vec_capacity outputs + self.old.frozen + 1 }
-        requires few { length self.old.core.stores + length outputs.items < 2 ^ 32 }
-        requires may { MayChangeOver self.old (map (λ r. R.store r self.old.pool) outputs.items) }
-        ensures { HasChangedOver self.old self.new (map (λ r. R.store r self.old.pool) outputs.items) (map R.target outputs.items) (map R.files outputs.items) }
-    {
-        self.stores.change_over(outputs);
     }
 }
