@@ -1,13 +1,12 @@
 -- The rowsets found along a list of ranges.
-use Rattle.std.proofs.Common.{◌≡◌, ℕ, zero, suc, ◌+◌, ◌-◌, ◌<◌, ◌≤◌, Bool, true, false, ◌&&◌, cond, List, [], ◌∷◌, ◌++◌, map, reverse, length, take, drop, get_or, refl, sym, ap, ◌∙◌, arith, subst, length-append, length-take-le, inl, inr, Result, Ok, Err}
+use Rattle.std.proofs.Common.{◌≡◌, ℕ, zero, suc, ◌+◌, ◌-◌, ◌<◌, ◌≤◌, Bool, true, false, ◌&&◌, cond, List, [], ◌∷◌, ◌++◌, map, reverse, length, take, drop, get_or, refl, sym, ap, ◌∙◌, arith, length-append, length-take-le, Result, Ok, Err}
 use Rattle.std.specs.List.{filter}
-use Rattle.std.proofs.Math.Seq.{get_or-append_seam}
-use Rattle.std.proofs.lemmas.List.{get_or_append_left, drop_more, take-append-drop, get_or-take, get_or-drop, length-reverse, length-drop, get_or_read, append-nil, reverse-append}
-use Rattle.std.proofs.lemmas.Bool.{false≢true, cases_lt}
+use Rattle.std.proofs.lemmas.List.{drop_more, take-append-drop, get_or-take, get_or-drop, length-reverse, length-drop, get_or_read, append-nil, reverse-append}
+use Rattle.std.proofs.lemmas.Bool.{false≢true}
 use Rattle.std.specs.Result.{is_ok, OnErr}
-use Rattle.kt_rowtree.specs.Ranges.{is_upto, holds, holders_of, IsByLeast, EndsLast, AreSkips}
+use Rattle.kt_rowtree.specs.Ranges.{is_upto, holds, holders_of, IsByLeast, EndEarly}
 use Rattle.kt_rowtree.specs.declared.lists.Range.{Range}
-use Rattle.kt_rowtree.proofs.Upto.{upto_trans, upto_same}
+use Rattle.kt_rowtree.proofs.Upto.{upto_trans}
 
 pub holders-cons_in : (key : List ℕ) (r : Range) (rs : List Range) → holds key r ≡ true → holders_of key (r ∷ rs) ≡ r.rowset ∷ holders_of key rs
 holders-cons_in key r rs e = ap (λ b. map (λ (r : Range). r.rowset) (cond b (r ∷ filter (holds key) rs) (filter (holds key) rs))) e
@@ -63,13 +62,9 @@ pub and_true : (a b : Bool) → a ≡ true → b ≡ true → (a && b) ≡ true
 and_true true b e f = f
 and_true false b e f = absurd (false≢true e)
 
-false_from : (b : Bool) → (b ≡ true → false ≡ true) → b ≡ false
+pub false_from : (b : Bool) → (b ≡ true → false ≡ true) → b ≡ false
 false_from true h = sym (h refl)
 false_from false h = refl
-
--- what ends no later than a range that ends before the key does not hold the key
-pub ends_before : (key : List ℕ) (r s : Range) → is_upto r.greatest s.greatest ≡ true → is_upto key s.greatest ≡ false → holds key r ≡ false
-ends_before key r s e f = and_false_right (is_upto r.least key) (is_upto key r.greatest) (false_from (is_upto key r.greatest) (λ t. sym f ∙ upto_trans key r.greatest s.greatest t e))
 
 -- ---- the steps of the searches
 
@@ -82,22 +77,6 @@ module _ (ranges : List Range) (by_least : IsByLeast ranges) (key : List ℕ) (m
 
   pub above_mid : is_upto r.least key ≡ false → (k : ℕ) (d : Range) → mid ≤ k → k < length ranges → is_upto (get_or ranges k d).least key ≡ false
   above_mid e k d high low = false_from (is_upto (get_or ranges k d).least key) (λ t. sym e ∙ ap (λ (r : Range). is_upto r.least key) (sym (read_at ranges mid r d inside is)) ∙ upto_trans (get_or ranges mid d).least (get_or ranges k d).least key (by_least mid k d high low) t)
-
-module _ (ranges : List Range) (skips : List ℕ) (s : AreSkips ranges skips) (at low : ℕ) (inside : at < length ranges) (count : length skips ≡ at) (some : 0 < low) (back : low ≤ at) (last : EndsLast ranges low at) (r : Range) (is : r ≡ get_or ranges (low - 1) r) (end : List ℕ) (d₀ : Range) (ends : (d : Range) → (get_or ranges at d).greatest ≡ end) (upto : is_upto r.greatest end ≡ true) where
-  pub skip_last : EndsLast ranges (get_or skips (low - 1) 0) at
-  skip_last j d from to =
-      let here : is_upto (get_or ranges (low - 1) d).greatest (get_or ranges at d).greatest ≡ true =
-      ap (λ (r : Range). is_upto r.greatest (get_or ranges at d).greatest) (read_at ranges (low - 1) r d (omega arith) is) ∙ ap (is_upto r.greatest) (ends d) ∙ upto in
-      elim (cases_lt j low) [
-        | inr past ↦ last j d past to
-        | inl before ↦ elim (cases_lt j (low - 1)) [
-          | inl deep ↦ upto_trans (get_or ranges j d).greatest (get_or ranges (low - 1) d).greatest (get_or ranges at d).greatest (s.last (low - 1) (omega arith) j d from deep) here
-          | inr same ↦ let e : j ≡ low - 1 = omega arith in ap (λ n. is_upto (get_or ranges n d).greatest (get_or ranges at d).greatest) e ∙ here
-        ]
-      ]
-
-  pub skip_back : get_or skips (low - 1) 0 ≤ at
-  skip_back = let b = s.back (low - 1) (omega arith) in omega arith
 
 module _ (ranges : List Range) (key : List ℕ) (p : ℕ) (bound : p ≤ length ranges) (below : (k : ℕ) (d : Range) → k < p → is_upto (get_or ranges k d).least key ≡ true) (at : ℕ) (some : 0 < at) (back : at ≤ p) (r : Range) (is : r ≡ get_or ranges (at - 1) r) (out : List ℕ) (found : out ≡ reverse (holders_of key (drop at (take p ranges)))) where
   in_front : (j : ℕ) (d : Range) → j < p → get_or (take p ranges) j d ≡ get_or ranges j d
@@ -125,17 +104,13 @@ module _ (ranges : List Range) (key : List ℕ) (p : ℕ) (bound : p ≤ length 
       let c = ap length found ∙ length-reverse (holders_of key (drop at (take p ranges))) in
       omega arith
 
-  pub found_skip : (skips : List ℕ) → AreSkips ranges skips → length skips ≡ length ranges → is_upto key r.greatest ≡ false → out ≡ reverse (holders_of key (drop (get_or skips (at - 1) 0) (take p ranges)))
-  found_skip skips s count e =
-      let low = get_or skips (at - 1) 0 in
-      let less : low ≤ at - 1 = s.back (at - 1) (omega arith) in
+  pub found_past : (low : ℕ) → low < at → EndEarly key ranges low at → out ≡ reverse (holders_of key (drop low (take p ranges)))
+  found_past low less early =
       let l = long in
       let sum : low + (at - low) ≡ at = omega arith in
       found ∙ ap reverse (sym (found_over key (take p ranges) low (at - low) r (omega arith) (λ j from to.
-      ap (holds key) (in_front j r (omega arith)) ∙ elim (cases_lt j (at - 1)) [
-        | inl deep ↦ ends_before key (get_or ranges j r) (get_or ranges (at - 1) r) (s.last (at - 1) (omega arith) j r from deep) (ap (λ (r : Range). is_upto key r.greatest) (sym is) ∙ e)
-        | inr same ↦ let n : j ≡ at - 1 = omega arith in ends_before key (get_or ranges j r) (get_or ranges j r) (upto_same (get_or ranges j r).greatest) (ap (λ n. is_upto key (get_or ranges n r).greatest) n ∙ ap (λ (r : Range). is_upto key r.greatest) (sym is) ∙ e)
-      ]) ∙ ap (λ n. holders_of key (drop n (take p ranges))) sum))
+      ap (holds key) (in_front j r (omega arith)) ∙ and_false_right (is_upto (get_or ranges j r).least key) (is_upto key (get_or ranges j r).greatest) (early j r from (omega arith)))
+      ∙ ap (λ n. holders_of key (drop n (take p ranges))) sum))
 
 -- all of them are in front
 pub found_all : (ranges : List Range) (key : List ℕ) (p : ℕ) → ((k : ℕ) (d : Range) → p ≤ k → k < length ranges → is_upto (get_or ranges k d).least key ≡ false) → (out : List ℕ) (at : ℕ) → at ≡ 0 → out ≡ reverse (holders_of key (drop at (take p ranges))) → out ≡ reverse (holders_of key ranges)
@@ -144,24 +119,6 @@ found_all ranges key p above out at zero_at found =
     found ∙ ap (λ n. reverse (holders_of key (drop n (take p ranges)))) zero_at ∙ ap reverse (sym (append-nil (holders_of key (take p ranges))) ∙ ap (λ ns. holders_of key (take p ranges) ++ ns) (sym none) ∙ sym (holders-append key (take p ranges) (drop p ranges)) ∙ ap (holders_of key) (take-append-drop p ranges))
 
 -- a push where there is room
-pub push_fits : {A B : Type 0} (r : Result A B) (was more now : List ℕ) (len cap : ℕ) → now ≡ cond (is_ok r) more was → OnErr r (cap ≤ len) → len < cap → now ≡ more
+pub push_fits : {A B X : Type 0} (r : Result A B) (was more now : List X) (len cap : ℕ) → now ≡ cond (is_ok r) more was → OnErr r (cap ≤ len) → len < cap → now ≡ more
 push_fits (Ok x) was more now len cap e full room = e
 push_fits (Err x) was more now len cap e full room = absurd (omega arith)
-
--- one number more
-pub skips_more : (ranges : List Range) (skips new : List ℕ) (skip at : ℕ) → AreSkips ranges skips → length skips ≡ at → at < length ranges → new ≡ skips ++ skip ∷ [] → skip ≤ at → EndsLast ranges skip at → AreSkips ranges new
-skips_more ranges skips new skip at s all low is back last =
-    let long : length new ≡ at + 1 = ap length is ∙ length-append skips (skip ∷ []) ∙ omega arith in
-    let before = λ (k : ℕ) (in_old : k < length skips). ap (λ xs. get_or xs k 0) is ∙ get_or_append_left skips (skip ∷ []) 0 k in_old in
-    let here : get_or new at 0 ≡ skip = ap (λ xs. get_or xs at 0) is ∙ ap (λ n. get_or (skips ++ skip ∷ []) n 0) (sym all) ∙ get_or-append_seam skips skip [] 0 in
-    record {
-      count = omega arith;
-      back = λ k inside. elim (cases_lt k at) [
-        | inl old ↦ let e = before k (omega arith) in let b = s.back k (omega arith) in omega arith
-        | inr other ↦ let e : k ≡ at = omega arith in subst (λ n. get_or new n 0 ≤ n) (sym e) (let h = here in omega arith)
-      ];
-      last = λ k inside. elim (cases_lt k at) [
-        | inl old ↦ subst (λ n. EndsLast ranges n k) (sym (before k (omega arith))) (s.last k (omega arith))
-        | inr other ↦ let e : k ≡ at = omega arith in subst (λ n. EndsLast ranges (get_or new n 0) n) (sym e) (subst (λ n. EndsLast ranges n at) (sym here) last)
-      ];
-    }

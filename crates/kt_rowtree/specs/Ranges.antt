@@ -1,9 +1,10 @@
 -- Which rowsets hold a key.
-use Rattle.std.specs.Prelude.{◌≡◌, ℕ, ◌<◌, ◌≤◌, ◌==◌, Bool, true, not, ◌&&◌, List, [], map, length, get_or}
+use Rattle.std.specs.Prelude.{◌≡◌, ℕ, ◌<◌, ◌≤◌, ◌+◌, ◌-◌, ◌==◌, Bool, true, false, not, ◌&&◌, List, [], map, length, get_or}
 use Rattle.std.specs.List.{filter, list_any, All}
 use Rattle.std.specs.List.Sorted.{IsPermutation, IsSorted}
 use Rattle.std.specs.Ordering.{nat_cmp, is_le}
 use Rattle.std.specs.Cmp.Lexicographic.{slice_cmp}
+use Rattle.kt_rowtree.specs.declared.links.Link.{Link}
 use Rattle.kt_rowtree.specs.declared.lists.Range.{Range}
 
 -- a is b or comes before it
@@ -42,11 +43,25 @@ IsByLeast ranges = (j k : ℕ) (d : Range) → j ≤ k → k < length ranges →
 abbrev pub EndsLast : List Range → ℕ → ℕ → Type 0
 EndsLast ranges low k = (j : ℕ) (d : Range) → low ≤ j → j < k → is_upto (get_or ranges j d).greatest (get_or ranges k d).greatest ≡ true
 
--- each number of this list says from where on the range there ends last
-pub record AreSkips (ranges : List Range) (skips : List ℕ) : Type 0 where
-  pub count : length skips ≤ length ranges
-  pub back : (k : ℕ) → k < length skips → get_or skips k 0 ≤ k
-  pub last : (k : ℕ) → k < length skips → EndsLast ranges (get_or skips k 0) k
+-- the range in front of `low`, if there is one, ends no earlier than any from `low` on of the first `at`
+abbrev pub Outlasts : List Range → ℕ → ℕ → Type 0
+Outlasts ranges low at = (j : ℕ) (d : Range) → 0 < low → low ≤ j → j < at → is_upto (get_or ranges j d).greatest (get_or ranges (low - 1) d).greatest ≡ true
+
+-- from `low` on none of the first `at` ranges ends at the key or after it
+abbrev pub EndEarly : List ℕ → List Range → ℕ → ℕ → Type 0
+EndEarly key ranges low at = (j : ℕ) (d : Range) → low ≤ j → j < at → is_upto key (get_or ranges j d).greatest ≡ false
+
+-- these are steps back from the range at `k`: the near one over ranges that it outlasts, the far one over ranges that the one in front of them outlasts
+pub record IsLink (ranges : List Range) (k : ℕ) (link : Link) : Type 0 where
+  pub back : link.near ≤ k
+  pub last : EndsLast ranges link.near k
+  pub farther : link.far ≤ link.near
+  pub front : Outlasts ranges link.far (k + 1)
+  pub fewer : link.far + link.hops ≤ k + 1
+
+-- each of these stands for the steps of the range at its place
+abbrev pub AreLinks : List Range → List Link → Type 0
+AreLinks ranges links = (k : ℕ) (d : Link) → k < length links → IsLink ranges k (get_or links k d)
 
 -- the greatest key of the range at this place
 abbrev pub end_at : List Range → ℕ → List ℕ
@@ -67,15 +82,15 @@ pub record Tree : Type 0 where
   pub room : ℕ
 
 -- what a row tree keeps of its ranges
-pub record IsRowTree (ranges : List Range) (skips stack : List ℕ) : Type 0 where
+pub record IsRowTree (ranges : List Range) (links : List Link) (stack : List ℕ) : Type 0 where
   pub orderly : IsOrderly ranges
   pub by_least : IsByLeast ranges
-  pub are_skips : AreSkips ranges skips
-  pub all : length skips ≡ length ranges
+  pub are_links : AreLinks ranges links
+  pub all : length links ≡ length ranges
   pub deepest : 0 < length ranges → IsDeepest ranges stack
 
 -- each of its lists has this room
-pub record HasRoom (room ranges skips stack : ℕ) : Type 0 where
+pub record HasRoom (room ranges links stack : ℕ) : Type 0 where
   pub in_ranges : room ≤ ranges
-  pub in_skips : room ≤ skips
+  pub in_links : room ≤ links
   pub in_stack : room ≤ stack

@@ -8,6 +8,7 @@ pub use kt_bytes::{NoMemory, Octets};
 pub use lists::{IdList, Range, RangeList};
 pub use tree::RowTree;
 
+mod links;
 pub mod lists;
 mod search;
 mod stack;

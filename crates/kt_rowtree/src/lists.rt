@@ -1,6 +1,7 @@
 ghost use Rattle.std.specs.Prelude.{◌≡◌, ◌<◌, ◌≤◌, length, IfOk, OnOk};
 ghost use Rattle.std.specs.Vec.{vec_capacity};
 
+use crate::links::Link;
 use crate::search::gather;
 use crate::stack::gather_deepest;
 use kt_bytes::{NoMemory, Octets};
@@ -92,7 +93,7 @@ impl Model for IdList {
 }
 
 impl IdList {
-    ghost use Rattle.kt_rowtree.specs.Ranges.{holders_of, AreHolders, IsDeepest, IsOrderly, IsByLeast, AreSkips};
+    ghost use Rattle.kt_rowtree.specs.Ranges.{holders_of, AreHolders, IsDeepest, IsOrderly, IsByLeast, AreLinks};
 
     pub fn from_vec(ids: Vec<u64>) -> IdList
         ensures ids { result.ids ≡ ids.items }
@@ -116,28 +117,28 @@ impl IdList {
     }
 
     /// Puts what `collect` finds into the list, by number, in place of what is there.
-    pub(crate) fn hold(&mut self, ranges: &[Range], skips: &[usize], key: &[u8])
+    pub(crate) fn hold(&mut self, ranges: &[Range], links: &[Link], key: &[u8])
         requires by_least { IsByLeast ranges.now }
-        requires skips { AreSkips ranges.now skips.now }
-        requires all { length skips.now ≡ length ranges.now }
+        requires links { AreLinks ranges.now links.now }
+        requires all { length links.now ≡ length ranges.now }
         requires room { length (holders_of key.now ranges.now) ≤ self.old.room }
         ensures holders { AreHolders key.now ranges.now self.new.ids }
         ensures room { self.old.room ≤ self.new.room }
     {
-        gather(ranges, skips, key, &mut self.ids);
+        gather(ranges, links, key, &mut self.ids);
     }
 
     /// Puts the rowsets of the deepest stack into the list, by number, in place of what is there; of no range, none.
-    pub(crate) fn hold_deepest(&mut self, ranges: &[Range], skips: &[usize])
+    pub(crate) fn hold_deepest(&mut self, ranges: &[Range], links: &[Link])
         requires by_least { IsByLeast ranges.now }
-        requires skips { AreSkips ranges.now skips.now }
-        requires all { length skips.now ≡ length ranges.now }
+        requires links { AreLinks ranges.now links.now }
+        requires all { length links.now ≡ length ranges.now }
         requires orderly { IsOrderly ranges.now }
         requires room { length ranges.now ≤ self.old.room }
         ensures deepest { 0 < length ranges.now → IsDeepest ranges.now self.new.ids }
         ensures room { self.old.room ≤ self.new.room }
     {
-        gather_deepest(ranges, skips, &mut self.ids);
+        gather_deepest(ranges, links, &mut self.ids);
     }
 
     /// Makes room for so many numbers in all.

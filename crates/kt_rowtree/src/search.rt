@@ -1,8 +1,9 @@
 //! The searches over ranges that stand by their least keys.
-ghost use Rattle.std.specs.Prelude.{◌≡◌, ◌<◌, ◌≤◌, ◌+◌, [], ℕ, length, get_or, true, false, reverse};
+ghost use Rattle.std.specs.Prelude.{◌≡◌, ◌<◌, ◌≤◌, ◌+◌, ◌-◌, [], ℕ, length, get_or, true, false, reverse};
 ghost use Rattle.std.specs.Vec.{vec_capacity};
-ghost use Rattle.kt_rowtree.specs.Ranges.{is_upto, holders_of, AreHolders, IsByLeast, EndsLast, AreSkips};
+ghost use Rattle.kt_rowtree.specs.Ranges.{is_upto, holders_of, AreHolders, IsByLeast, AreLinks, EndEarly};
 
+use crate::links::Link;
 use crate::lists::Range;
 
 /// Whether the range begins at the key or before it.
@@ -10,13 +11,6 @@ fn begins_by(range: &Range, key: &[u8]) -> bool
     ensures { result ≡ is_upto range.now.least key.now }
 {
     range.least.as_slice().cmp(key).is_le()
-}
-
-/// Whether the range ends at the key or before it.
-fn ends_by(range: &Range, key: &[u8]) -> bool
-    ensures { result ≡ is_upto range.now.greatest key.now }
-{
-    range.greatest.as_slice().cmp(key).is_le()
 }
 
 /// Whether the range ends at the key or after it.
@@ -46,27 +40,28 @@ pub fn reach(ranges: &[Range], key: &[u8]) -> usize
     low
 }
 
-/// From where on, up to the range at `at`, none ends after it.
-pub fn skip_of(ranges: &[Range], skips: &[usize], at: usize) -> usize
-    requires inside { at < length ranges.now }
-    requires skips { AreSkips ranges.now skips.now }
-    requires here { length skips.now ≡ at }
-    ensures back { result ≤ at }
-    ensures last { EndsLast ranges.now result at }
+/// How many ranges stand in front of those that end before the key, the last of which is the last of the first `at`.
+fn past(ranges: &[Range], links: &[Link], at: usize, key: &[u8]) -> usize
+    requires some { 0 < at }
+    requires inside { at ≤ length ranges.now }
+    requires links { AreLinks ranges.now links.now }
+    requires all { length links.now ≡ length ranges.now }
+    requires early { EndEarly key.now ranges.now (at - 1) at }
+    ensures back { result < at }
+    ensures early { EndEarly key.now ranges.now result at }
 {
-    let mut low = at;
-    let end = ranges[at].greatest.as_slice();
-    while low > 0 && ends_by(&ranges[low - 1], end) {
-        low = skips[low - 1];
+    let link = links[at - 1];
+    if link.far > 0 && !ends_from(&ranges[link.far - 1], key) {
+        return link.far;
     }
-    low
+    link.near
 }
 
 /// Appends the rowsets whose range holds the key, in the reverse order of the ranges.
-pub fn collect(ranges: &[Range], skips: &[usize], key: &[u8], out: &mut Vec<u64>)
+pub fn collect(ranges: &[Range], links: &[Link], key: &[u8], out: &mut Vec<u64>)
     requires by_least { IsByLeast ranges.now }
-    requires skips { AreSkips ranges.now skips.now }
-    requires all { length skips.now ≡ length ranges.now }
+    requires links { AreLinks ranges.now links.now }
+    requires all { length links.now ≡ length ranges.now }
     requires empty { out.old.items ≡ [] }
     requires room { length (holders_of key.now ranges.now) ≤ vec_capacity out.old }
     ensures ids { out.new.items ≡ reverse (holders_of key.now ranges.now) }
@@ -79,21 +74,21 @@ pub fn collect(ranges: &[Range], skips: &[usize], key: &[u8], out: &mut Vec<u64>
             let _ = out.push(range.rowset);
             at -= 1;
         } else {
-            at = skips[at - 1];
+            at = past(ranges, links, at, key);
         }
     }
 }
 
 /// Puts the rowsets whose range holds the key into `out`, by number, in place of what is there.
-pub fn gather(ranges: &[Range], skips: &[usize], key: &[u8], out: &mut Vec<u64>)
+pub fn gather(ranges: &[Range], links: &[Link], key: &[u8], out: &mut Vec<u64>)
     requires by_least { IsByLeast ranges.now }
-    requires skips { AreSkips ranges.now skips.now }
-    requires all { length skips.now ≡ length ranges.now }
+    requires links { AreLinks ranges.now links.now }
+    requires all { length links.now ≡ length ranges.now }
     requires room { length (holders_of key.now ranges.now) ≤ vec_capacity out.old }
     ensures holders { AreHolders key.now ranges.now out.new.items }
     ensures room { vec_capacity out.old ≤ vec_capacity out.new }
 {
     out.clear();
-    collect(ranges, skips, key, out);
+    collect(ranges, links, key, out);
     out.sort_unstable();
 }

@@ -2,8 +2,9 @@
 ghost use Rattle.std.specs.Prelude.{◌≡◌, ◌<◌, ◌≤◌, ℕ, length, get_or, map, not};
 ghost use Rattle.std.specs.List.{count_by};
 ghost use Rattle.std.specs.Vec.{vec_capacity};
-ghost use Rattle.kt_rowtree.specs.Ranges.{is_upto, holders_of, end_at, AreEnds, IsDeepest, IsOrderly, IsByLeast, AreSkips};
+ghost use Rattle.kt_rowtree.specs.Ranges.{is_upto, holders_of, end_at, AreEnds, IsDeepest, IsOrderly, IsByLeast, AreLinks};
 
+use crate::links::Link;
 use crate::lists::Range;
 use crate::search::{gather, reach};
 
@@ -92,10 +93,10 @@ fn deepest(ranges: &[Range], ends: &[u64]) -> usize
 }
 
 /// Puts the rowsets of the deepest stack into `out`, by number, in place of what is there; of no range, none.
-pub fn gather_deepest(ranges: &[Range], skips: &[usize], out: &mut Vec<u64>)
+pub fn gather_deepest(ranges: &[Range], links: &[Link], out: &mut Vec<u64>)
     requires by_least { IsByLeast ranges.now }
-    requires skips { AreSkips ranges.now skips.now }
-    requires all { length skips.now ≡ length ranges.now }
+    requires links { AreLinks ranges.now links.now }
+    requires all { length links.now ≡ length ranges.now }
     requires orderly { IsOrderly ranges.now }
     requires room { length ranges.now ≤ vec_capacity out.old }
     ensures deepest { 0 < length ranges.now → IsDeepest ranges.now out.new.items }
@@ -107,5 +108,5 @@ pub fn gather_deepest(ranges: &[Range], skips: &[usize], out: &mut Vec<u64>)
     }
     list_ends(ranges, out);
     let best = deepest(ranges, out);
-    gather(ranges, skips, ranges[best].least.as_slice(), out);
+    gather(ranges, links, ranges[best].least.as_slice(), out);
 }

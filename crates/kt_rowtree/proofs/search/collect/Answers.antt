@@ -1,6 +1,6 @@
 use Rattle.std.proofs.Common.{arith, sym, ◌∙◌, ◌-◌, ◌++◌, ◌∷◌, [], ◌<◌, vec_len}
 use Rattle.std.specs.Vec.{vec_capacity}
-use Rattle.kt_rowtree.proofs.Found.{found_more, found_room, found_skip, found_all, push_fits}
+use Rattle.kt_rowtree.proofs.Found.{found_more, found_room, found_past, found_all, push_fits}
 use Rattle.kt_rowtree.proofs.search.collect.Goals as goal
 
 pub loop-at-preserved-then-ends_from : goal.loop-at-preserved-then-ends_from
@@ -25,10 +25,10 @@ loop-at-preserved c =
     let i = l.invariant in
     let r = c.index-ranges-at in
     let e = c.reach-at.ensures in
-    let q = c.requires in
+    let p = c.past-at.ensures in
     record {
-      back = omega (arith, q.skips.back (l.at - 1) (omega arith));
-      found = found_skip c.args.ranges.now c.args.key.now c.reach-at.result e.bound e.below l.at c.loop-at-test.true i.back r.result r.is l.out.items i.found c.args.skips.now q.skips q.all (sym c.if-ends_from.ensures);
+      back = omega (arith, p.back);
+      found = found_past c.args.ranges.now c.args.key.now c.reach-at.result e.bound e.below l.at c.loop-at-test.true i.back r.result r.is l.out.items i.found c.past-at.result p.back p.early;
       room = i.room;
     }
 

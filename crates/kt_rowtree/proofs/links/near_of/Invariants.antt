@@ -1,6 +1,6 @@
 use Rattle.std.proofs.Common.{◌≤◌}
 use Rattle.kt_rowtree.specs.Ranges.{EndsLast}
-use Rattle.kt_rowtree.proofs.search.skip_of.Given as goal
+use Rattle.kt_rowtree.proofs.links.near_of.Given as goal
 
 abbrev pub invariant-loop-low : goal.invariant-loop-low
 invariant-loop-low l = record { back : l.low ≤ l.at; last : EndsLast l.ranges l.low l.at }
