@@ -16,7 +16,7 @@ use Rattle.kt_engine.specs.declared.upkeep.Stage.TheVariants as stage
 use Rattle.kt_engine.specs.Engines.{EngineView, IsEngine, core_from}
 use Rattle.kt_engine.specs.DeltaJobs.{IsOn, HasBegunDeltas, MayFinishDeltas, HasFinishedDeltas}
 use Rattle.kt_engine.specs.Files.{AreFiled, publisher_by, job_at, files_by, files_over}
-use Rattle.kt_engine.specs.Jobs.{JobView, UpkeepView, UpkeepsView, JobOn, HasUpkeep, upkeep_at, job_of, asked, job_finished, over_for, over_of, over_by}
+use Rattle.kt_engine.specs.Jobs.{JobView, UpkeepView, UpkeepsView, JobOn, HasUpkeep, upkeep_at, job_of, asked, job_finished, over_for, over_of, over_by, takes_of}
 use Rattle.kt_engine.specs.Logged.{KeepsSince}
 use Rattle.kt_engine.specs.Near.{AreNear}
 use Rattle.kt_engine.specs.Over.{Over, over_at, core_over, names_over}
@@ -44,9 +44,9 @@ module _ {L D C : Type 0} (log_tells : Bool) (log_seen : L → Files) (log_now :
   Both v = IsEngine log_tells log_seen log_now log_leaves log_faults v × IsStored log_tells log_seen tells seen faults v
 
   -- one job more has begun
-  pub begun_more : (n : ℕ) (w : Want) (job : JobView) → job.many ≡ 0 → HasUpkeep n (asked w job (upkeep_at n view.upkeep.passes)) view.upkeep upkeep → upkeep.begun ≡ suc view.upkeep.begun → upkeep.publishing ≡ view.upkeep.publishing → view.upkeep.begun < 2 ^ 24
-      → view.upkeep.publishing ≡ None → Both view → Both (record view { upkeep = upkeep })
-  begun_more n w job on has counted publishing few none is =
+  pub begun_more : (n : ℕ) (w : Want) (job : JobView) → HasUpkeep n (asked w job (upkeep_at n view.upkeep.passes)) view.upkeep upkeep → upkeep.begun ≡ suc view.upkeep.begun → upkeep.publishing ≡ view.upkeep.publishing → view.upkeep.begun < 2 ^ 24
+      → view.upkeep.publishing ≡ None → (is : Both view) → JobOn (view.records ++ is.1.run) job → Both (record view { upkeep = upkeep })
+  begun_more n w job has counted publishing few none is on =
       let free : upkeep.publishing ≡ None = publishing ∙ none in
       let s = is.1 in (
         upkeep_keeps log_tells log_seen log_now log_leaves log_faults view upkeep (λ zero_. absurd (let no : suc view.upkeep.begun ≡ 0 = sym counted ∙ zero_ in cc)) is.0,
@@ -56,14 +56,14 @@ module _ {L D C : Type 0} (log_tells : Bool) (log_seen : L → Files) (log_now :
           count = s.count;
           stands = s.stands;
           keeps = λ rules first h plan t super one.
-              subst (λ (o : Option Over). KeepsSince rules (core_over o view.tablet.frozen (core_from view first)) super (names_over o view.tablet.frozen view.tablet.names) view.tablet.notes view.records s.run view.log.known.count)
+              subst (λ (o : Option Over). KeepsSince rules (core_over o view.tablet.names (core_from view first)) super (names_over o view.tablet.names) view.tablet.notes view.records s.run view.log.known.count)
               (ap (λ (p : Option ℕ). over_at one.meta.number (over_by p view.upkeep)) none ∙ sym (ap (λ (p : Option ℕ). over_at one.meta.number (over_by p upkeep)) free))
               (s.keeps rules first (record { closed = h.closed; opens = h.opens; holds = h.holds }) plan t super (record { meta = one.meta; one = one.one; held = one.held; hold = one.hold; is = one.is }));
           below = s.below;
           names_below = s.names_below;
           near = subst (λ (k : ℕ). AreNear view.found view.tablet.names view.first_rowset view.store.next_rowset k s.run) (sym counted) (near_begun view.found view.tablet.names view.first_rowset view.store.next_rowset view.upkeep.begun s.run few s.near);
           rests = inl free;
-          jobs = jobs_kept (view.records ++ s.run) n (asked w job (upkeep_at n view.upkeep.passes)) view.upkeep upkeep has (λ j e. on_none (view.records ++ s.run) j (let one : job ≡ j = cc in sym (ap (λ (x : JobView). x.many) one) ∙ on)) s.jobs;
+          jobs = jobs_kept (view.records ++ s.run) n (asked w job (upkeep_at n view.upkeep.passes)) view.upkeep upkeep has (λ j e. subst (JobOn (view.records ++ s.run)) (let one : job ≡ j = cc in one) on) s.jobs;
           holds = s.holds;
           files = λ m one. subst (AreFiled tells (seen view.store.known) m.rowsets) (sym (none_at m.number upkeep view.tablet.files free)) (filed_now log_tells log_seen tells seen faults view s none m one);
           columns = s.columns;
@@ -129,7 +129,7 @@ module _ {L D C : Type 0} (log_tells : Bool) (log_seen : L → Files) (log_now :
       ap (λ (p : Option ℕ). files_over (job_at m.number (publisher_by p view.upkeep)) view.tablet.files) may.published.0
       ∙ ap (λ (j : Option JobView). files_over (job_at m.number j) view.tablet.files) had
       ∙ ap (λ (j : Option JobView). files_over j view.tablet.files) (own_job m.number job up)
-      ∙ ap (λ (o : Option RowSetData). files_by o job.held view.tablet.files) may.output
+      ∙ ap (λ (o : Option RowSetData). files_by o (takes_of job) job.held view.tablet.files) may.output
 
   later : (m : Meta) → IsOneOf view.store m → job.super ≤ m.number
   later m (inl e) = let k = ap (λ (x : Meta). x.number) e in let up = may.published.1 in omega arith
@@ -142,7 +142,7 @@ module _ {L D C : Type 0} (log_tells : Bool) (log_seen : L → Files) (log_now :
     count = s.count;
     stands = s.stands;
     keeps = λ rules first h plan t super one.
-        subst (λ (o : Option Over). KeepsSince rules (core_over o view.tablet.frozen (core_from view first)) super (names_over o view.tablet.frozen view.tablet.names) view.tablet.notes view.records s.run view.log.known.count)
+        subst (λ (o : Option Over). KeepsSince rules (core_over o view.tablet.names (core_from view first)) super (names_over o view.tablet.names) view.tablet.notes view.records s.run view.log.known.count)
         (ap (over_at one.meta.number) none_over ∙ sym (ap (λ (p : Option ℕ). over_at one.meta.number (over_by p upkeep)) counted.1))
         (s.keeps rules first (record { closed = h.closed; opens = h.opens; holds = h.holds }) plan t super (record { meta = one.meta; one = one.one; held = one.held; hold = one.hold; is = one.is }));
     below = s.below;

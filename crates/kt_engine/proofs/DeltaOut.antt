@@ -49,7 +49,7 @@ use Rattle.kt_engine.specs.Over.{over_at}
 use Rattle.kt_engine.specs.Engines.{EngineView, IsContent, IsFound, IsEngine, core_from}
 use Rattle.kt_engine.specs.declared.upkeep.Stage.TheVariants.{Publishing}
 use Rattle.kt_engine.specs.Files.{AreFiled, publisher, publisher_by, job_at, files_by, files_over}
-use Rattle.kt_engine.specs.Jobs.{JobView, UpkeepView, UpkeepsView, JobOn, job_of, over_for, over_of, over_by, over_in}
+use Rattle.kt_engine.specs.Jobs.{JobView, UpkeepView, UpkeepsView, JobOn, job_of, over_for, over_of, over_by, over_in, takes_of}
 use Rattle.kt_engine.specs.JobSteps.{IsLent}
 use Rattle.kt_engine.specs.DeltaJobs.{MayPublishDeltas, delta_meta, lent_deltas}
 use Rattle.kt_engine.specs.Near.{AreNear, first_number, most_deltas}
@@ -300,7 +300,7 @@ module _ {L D C : Type 0} (log_tells : Bool) (log_seen : L → Files) (tells : B
           let now : AreFiled tells (seen view.store.known) meta.rowsets (with_files (held_in d) view.tablet.files) =
           filed_in_place tells (seen view.store.known) view.store.meta.rowsets view.tablet.files job.dms d may.hold (filed_now log_tells log_seen tells seen faults view is none view.store.meta (inl refl)) in
           subst (AreFiled tells (seen view.store.known) m.rowsets)
-          (sym (ap (λ (o : Option JobView). files_over o view.tablet.files) (own_job m.number lent_job up) ∙ ap (λ (o : Option RowSetData). files_by o job.held view.tablet.files) may.output))
+          (sym (ap (λ (o : Option JobView). files_over o view.tablet.files) (own_job m.number lent_job up) ∙ ap (λ (o : Option RowSetData). files_by o (takes_of job) job.held view.tablet.files) may.output))
           (subst (λ (o : Meta). AreFiled tells (seen view.store.known) o.rowsets (with_files (held_in d) view.tablet.files)) (sym same) now)
 
       -- its job is on as it was

@@ -13,7 +13,7 @@ use Rattle.kt_engine.specs.JobSteps.{IsNothing, not_there}
 use Rattle.kt_engine.specs.DeltaJobs.{IsOn}
 
 -- none of these names is of the rowset
-absent : (r : ℕ) (names : List Target) → dms_in r names ≡ None → list_any (is_rowset r) names ≡ false
+pub absent : (r : ℕ) (names : List Target) → dms_in r names ≡ None → list_any (is_rowset r) names ≡ false
 absent r [] none = refl
 absent r (Mem n ∷ names) none = absent r names none
 absent r (Delta s n ∷ names) none = elim (s == r) as (λ (b : Bool). cond b (Some n) (dms_in r names) ≡ None → (b || list_any (is_rowset r) names) ≡ false) [
@@ -21,7 +21,7 @@ absent r (Delta s n ∷ names) none = elim (s == r) as (λ (b : Bool). cond b (S
   | false ↦ λ e. absent r names e
 ] none
 
-lacking : (r : ℕ) (names : List Target) → list_any (is_rowset r) names ≡ false → ¬ HasRowset r names
+pub lacking : (r : ℕ) (names : List Target) → list_any (is_rowset r) names ≡ false → ¬ HasRowset r names
 lacking r names none there = let no : false ≡ true = sym none ∙ there in cc
 
 -- it is one of three

@@ -1,5 +1,5 @@
 -- Records name no DeltaMemStore that came since.
-use Rattle.std.proofs.Common.{◌≡◌, ℕ, suc, zero, ◌<◌, ◌≤◌, true, false, List, [], ◌∷◌, ◌++◌, length, map, refl, sym, ◌∙◌, subst, inl, inr, arith, get_or, append_assoc}
+use Rattle.std.proofs.Common.{◌≡◌, ℕ, suc, zero, ◌<◌, ◌≤◌, Bool, true, false, cond, List, [], ◌∷◌, ◌++◌, length, map, refl, sym, ◌∙◌, subst, inl, inr, arith, get_or, append_assoc}
 use Rattle.std.specs.Prelude.{◌==◌}
 use Rattle.std.specs.List.{All, Contains}
 use Rattle.std.proofs.lemmas.Bool.{ne_eqb, eq-eqb}
@@ -14,6 +14,7 @@ use Rattle.kt_content.specs.DeltaFlushes.{IsUpTo, TargetsUpTo, RowsUpTo, DeltasU
 use Rattle.kt_content.specs.Flushes.{AreFrom, before}
 use Rattle.kt_content.specs.InMemory.{rowset, same_name}
 use Rattle.kt_content.specs.RunEvents.{TargetsBelow, RowsBelow, RecordsBelow}
+use Rattle.kt_stores.specs.Takes.{Takes, takes, of_left}
 use Rattle.kt_engine.specs.Logged.{DeltasBelow, NamesOnly}
 use Rattle.kt_engine.specs.Memory.{name_of, LacksName, NamesDiffer}
 use Rattle.kt_engine.specs.Over.{first_name}
@@ -128,10 +129,30 @@ deltas_behind [] ys records p = p
 deltas_behind (Mem n ∷ xs) ys records p = deltas_behind xs ys records p
 deltas_behind (Delta r n ∷ xs) ys records p = deltas_behind xs ys records p.1
 
-deltas_outputs : (next last : ℕ) (outputs : List DiskRowset) (others : List Target) (records : List Entry) → AreFrom next outputs → RecordsBelow (before next last) records → DeltasBelow others records → DeltasBelow (map first_name outputs ++ others) records
-deltas_outputs next last [] others records from below p = p
-deltas_outputs next last (d ∷ outputs) others records from below p = (records_none next last d.rowset 1 from.0 records below, deltas_outputs next last outputs others records from.1 below p)
+deltas_both : (xs ys : List Target) (records : List Entry) → DeltasBelow xs records → DeltasBelow ys records → DeltasBelow (xs ++ ys) records
+deltas_both [] ys records p q = q
+deltas_both (Mem n ∷ xs) ys records p q = deltas_both xs ys records p q
+deltas_both (Delta r n ∷ xs) ys records p q = (p.0, deltas_both xs ys records p.1 q)
 
+pub deltas_come : (next last : ℕ) (outputs : List DiskRowset) (records : List Entry) → AreFrom next outputs → RecordsBelow (before next last) records → DeltasBelow (map first_name outputs) records
+deltas_come next last [] records from below = tt
+deltas_come next last (d ∷ outputs) records from below = (records_none next last d.rowset 1 from.0 records below, deltas_come next last outputs records from.1 below)
+
+-- they stand behind the stores that a flush leaves
 pub deltas_over : (next last active : ℕ) (taken others : List Target) (outputs : List DiskRowset) (records : List Entry) → AreFrom next outputs → RecordsBelow (before next last) records → DeltasBelow (Mem active ∷ taken ++ others) records
-    → DeltasBelow (Mem active ∷ map first_name outputs ++ others) records
-deltas_over next last active taken others outputs records from below p = deltas_outputs next last outputs others records from below (deltas_behind taken others records p)
+    → DeltasBelow (Mem active ∷ others ++ map first_name outputs) records
+deltas_over next last active taken others outputs records from below p = deltas_both others (map first_name outputs) records (deltas_behind taken others records p) (deltas_come next last outputs records from below)
+
+-- and behind those that a compaction leaves
+pub deltas_left : (t : Takes) (names come : List Target) (records : List Entry) → DeltasBelow names records → DeltasBelow come records → DeltasBelow (of_left t names names ++ come) records
+deltas_left t [] come records p own = own
+deltas_left t (Mem n ∷ names) come records p own = by (takes t (Mem n)) (deltas_left t names come records p own)
+  where
+    by : (b : Bool) → DeltasBelow (of_left t names names ++ come) records → DeltasBelow (cond b (of_left t names names) (Mem n ∷ of_left t names names) ++ come) records
+    by true rest = rest
+    by false rest = rest
+deltas_left t (Delta r n ∷ names) come records p own = by (takes t (Delta r n)) (deltas_left t names come records p.1 own)
+  where
+    by : (b : Bool) → DeltasBelow (of_left t names names ++ come) records → DeltasBelow (cond b (of_left t names names) (Delta r n ∷ of_left t names names) ++ come) records
+    by true rest = rest
+    by false rest = (p.0, rest)

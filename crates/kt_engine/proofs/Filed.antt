@@ -1,6 +1,7 @@
 -- The files of the disk rowsets in memory are those that a superblock names, as each event changes either.
 use Rattle.std.proofs.Common.{◌≡◌, ◌≢◌, ◌≤◌, ◌<◌, ◌+◌, ◌⊎◌, ℕ, Bool, true, false, List, [], ◌∷◌, ◌++◌, map, Option, Some, None, inl, inr, refl, sym, ap, ◌∙◌, subst, arith, cond}
-use Rattle.std.specs.Prelude.{◌==◌, ◌||◌, nat_le, nat_lt, IsTrue}
+use Rattle.std.specs.Prelude.{◌==◌, ◌||◌, nat_le, nat_lt, not, IsTrue}
+use Rattle.std.specs.List.{list_any}
 use Rattle.std.proofs.lemmas.Bool.{eqb-true, eq-eqb, ne_eqb, ltb-true, le-leb, lt-leb, or_left, or_right}
 use Rattle.std.proofs.lemmas.List.{append-nil}
 use Rattle.std.proofs.lemmas.List.Folds.{list_any-append}
@@ -24,9 +25,11 @@ use Rattle.kt_content.specs.Flushes.{AreFrom}
 use Rattle.kt_outputs.specs.InPlace.{in_place, entry_of}
 use Rattle.kt_outputs.specs.Outputs.{delta_ref, meta_in}
 use Rattle.kt_reopen.specs.Opened.{AreReadOf}
+use Rattle.kt_stores.specs.Takes.{Takes, mems as memory, rowsets as disks, files_left}
 use Rattle.kt_tablet.specs.Jobs.{files_of, with_files}
 use Rattle.kt_engine.specs.Jobs.{JobView, UpkeepsView}
 use Rattle.kt_engine.specs.Files.{IsFiled, AreFiled, publisher, publisher_by, job_at, files_over}
+use Rattle.kt_engine.specs.JobMeta.{left_metas, metas_left}
 
 some_is : {X : Type 0} (x y : X) → Some x ≡ Some y → x ≡ y
 some_is x y e = cc
@@ -111,13 +114,59 @@ read_whole : (files : List HeldFiles) → AreReadOf files files
 read_whole [] = tt
 read_whole (f ∷ files) = (inl refl, read_whole files)
 
+-- ---- some leave
+
+no_true : true ≡ false → ⊥
+no_true e = cc
+
+-- of none that leaves
+files_stay : (numbers : List ℕ) (r : ℕ) (h : HeldFiles) (files : List HeldFiles) → files_of r (files_left (disks numbers) files) ≡ Some h → (list_any (λ (s : ℕ). s == r) numbers ≡ false) × (files_of r files ≡ Some h)
+files_stay numbers r h [] there = absurd (no_some h there)
+files_stay numbers r h (x ∷ files) there = by (list_any (λ (s : ℕ). s == x.number) numbers) refl there (files_stay numbers r h files)
+  where
+    left : List HeldFiles
+    left = files_left (disks numbers) files
+
+    same : (b : Bool) → (x.number == r) ≡ b → list_any (λ (s : ℕ). s == x.number) numbers ≡ false → cond b (Some x) (files_of r left) ≡ Some h → (files_of r left ≡ Some h → (list_any (λ (s : ℕ). s == r) numbers ≡ false) × (files_of r files ≡ Some h))
+        → (list_any (λ (s : ℕ). s == r) numbers ≡ false) × (cond b (Some x) (files_of r files) ≡ Some h)
+    same true e stays is rest = (subst (λ (k : ℕ). list_any (λ (s : ℕ). s == k) numbers ≡ false) (eqb-true x.number r e) stays, is)
+    same false e stays is rest = rest is
+
+    by : (b : Bool) → list_any (λ (s : ℕ). s == x.number) numbers ≡ b → files_of r (cond (not b) (x ∷ left) left) ≡ Some h → (files_of r left ≡ Some h → (list_any (λ (s : ℕ). s == r) numbers ≡ false) × (files_of r files ≡ Some h))
+        → (list_any (λ (s : ℕ). s == r) numbers ≡ false) × (files_of r (x ∷ files) ≡ Some h)
+    by true e is rest =
+        let own = rest is in
+        let other : x.number ≢ r = λ one. no_true (sym e ∙ ap (λ (k : ℕ). list_any (λ (s : ℕ). s == k) numbers) one ∙ own.0) in
+        (own.0, ap (λ (c : Bool). cond c (Some x) (files_of r files)) (ne_eqb x.number r other) ∙ own.1)
+    by false e is rest = same (x.number == r) refl e is rest
+
+-- and its entry stays
+entry_left : (numbers : List ℕ) (r : ℕ) (rowsets : List MetaRowset) → list_any (λ (s : ℕ). s == r) numbers ≡ false → entry_of r (left_metas numbers rowsets) ≡ entry_of r rowsets
+entry_left numbers r [] stays = refl
+entry_left numbers r (m ∷ rowsets) stays = by (list_any (λ (s : ℕ). s == m.rowset) numbers) refl (entry_left numbers r rowsets stays)
+  where
+    left : List MetaRowset
+    left = left_metas numbers rowsets
+
+    by : (b : Bool) → list_any (λ (s : ℕ). s == m.rowset) numbers ≡ b → entry_of r left ≡ entry_of r rowsets → entry_of r (cond (not b) (m ∷ left) left) ≡ entry_of r (m ∷ rowsets)
+    by true e rest =
+        let other : m.rowset ≢ r = λ one. no_true (sym e ∙ ap (λ (k : ℕ). list_any (λ (s : ℕ). s == k) numbers) one ∙ stays) in
+        rest ∙ sym (ap (λ (c : Bool). cond c (Some m) (entry_of r rowsets)) (ne_eqb m.rowset r other))
+    by false e rest = ap (λ (o : Option MetaRowset). cond (m.rowset == r) (Some m) o) rest
+
+filed_left : (tells : Bool) (seen : Files) (numbers : List ℕ) (named : List MetaRowset) (files : List HeldFiles) → AreFiled tells seen named files → AreFiled tells seen (left_metas numbers named) (files_left (disks numbers) files)
+filed_left tells seen numbers named files filed r h there =
+    let own = files_stay numbers r h files there in
+    let is = filed r h own.1 in
+    record { entry = is.entry; there = entry_left numbers r named own.0 ∙ is.there; held = is.held; names = is.names; holds = is.holds; is = is.is }
+
 -- ---- outputs more
 
-files_both : (r : ℕ) (h : HeldFiles) (outputs files : List HeldFiles) → files_of r (outputs ++ files) ≡ Some h → (files_of r outputs ≡ Some h) ⊎ (files_of r files ≡ Some h)
-files_both r h [] files there = inr there
-files_both r h (x ∷ outputs) files there = by (x.number == r) there (files_both r h outputs files)
+files_both : (r : ℕ) (h : HeldFiles) (files outputs : List HeldFiles) → files_of r (files ++ outputs) ≡ Some h → (files_of r files ≡ Some h) ⊎ (files_of r outputs ≡ Some h)
+files_both r h [] outputs there = inr there
+files_both r h (x ∷ files) outputs there = by (x.number == r) there (files_both r h files outputs)
   where
-    by : (b : Bool) → cond b (Some x) (files_of r (outputs ++ files)) ≡ Some h → (files_of r (outputs ++ files) ≡ Some h → (files_of r outputs ≡ Some h) ⊎ (files_of r files ≡ Some h)) → (cond b (Some x) (files_of r outputs) ≡ Some h) ⊎ (files_of r files ≡ Some h)
+    by : (b : Bool) → cond b (Some x) (files_of r (files ++ outputs)) ≡ Some h → (files_of r (files ++ outputs) ≡ Some h → (files_of r files ≡ Some h) ⊎ (files_of r outputs ≡ Some h)) → (cond b (Some x) (files_of r files) ≡ Some h) ⊎ (files_of r outputs ≡ Some h)
     by true is rest = inl is
     by false is rest = rest is
 
@@ -130,13 +179,29 @@ entry_front r entry (m ∷ rowsets) metas there = by (m.rowset == r) there (entr
     by true is rest = is
     by false is rest = rest is
 
--- and one that is not among those in front is behind them
-entry_behind : (next file least r : ℕ) (taken : List ℕ) (rowsets metas : List MetaRowset) → AreRowsets next file least taken rowsets → next ≤ r → entry_of r (rowsets ++ metas) ≡ entry_of r metas
-entry_behind next file least r taken [] metas are le = refl
-entry_behind next file least r taken (m ∷ rowsets) metas are le =
-    let low : m.rowset < next = ltb-true m.rowset next (both_true (nat_le least m.rowset) (nat_lt m.rowset next) are.0.rowset).1 in
-    ap (λ (b : Bool). cond b (Some m) (entry_of r (rowsets ++ metas))) (ne_eqb m.rowset r (λ e. omega arith))
-    ∙ entry_behind next file (m.rowset + 1) r (taken_by taken m) rowsets metas are.1 le
+-- a superblock names rowsets below its next number, and so do those that are left
+abbrev AreLowMetas : ℕ → List MetaRowset → Type 0
+AreLowMetas next [] = Unit {0}
+AreLowMetas next (m ∷ rowsets) = (m.rowset < next) × AreLowMetas next rowsets
+
+low_metas : (next file least : ℕ) (taken : List ℕ) (rowsets : List MetaRowset) → AreRowsets next file least taken rowsets → AreLowMetas next rowsets
+low_metas next file least taken [] are = tt
+low_metas next file least taken (m ∷ rowsets) are = (ltb-true m.rowset next (both_true (nat_le least m.rowset) (nat_lt m.rowset next) are.0.rowset).1, low_metas next file (m.rowset + 1) (taken_by taken m) rowsets are.1)
+
+low_left : (next : ℕ) (numbers : List ℕ) (rowsets : List MetaRowset) → AreLowMetas next rowsets → AreLowMetas next (left_metas numbers rowsets)
+low_left next numbers [] low = low
+low_left next numbers (m ∷ rowsets) low = by (list_any (λ (s : ℕ). s == m.rowset) numbers) (low_left next numbers rowsets low.1)
+  where
+    by : (b : Bool) → AreLowMetas next (left_metas numbers rowsets) → AreLowMetas next (cond (not b) (m ∷ left_metas numbers rowsets) (left_metas numbers rowsets))
+    by true rest = rest
+    by false rest = (low.0, rest)
+
+-- an entry that is not among those in front is behind them
+entry_behind : (next r : ℕ) (rowsets metas : List MetaRowset) → AreLowMetas next rowsets → next ≤ r → entry_of r (rowsets ++ metas) ≡ entry_of r metas
+entry_behind next r [] metas low le = refl
+entry_behind next r (m ∷ rowsets) metas low le =
+    let here : m.rowset < next = low.0 in
+    ap (λ (b : Bool). cond b (Some m) (entry_of r (rowsets ++ metas))) (ne_eqb m.rowset r (λ e. omega arith)) ∙ entry_behind next r rowsets metas low.1 le
 
 -- outputs have numbers from one on
 number_from : (first r : ℕ) (h : HeldFiles) (metas : List MetaRowset) (outputs : List HeldFiles) → AreNamed metas outputs → AreFrom first (rowsets_in metas outputs) → files_of r outputs ≡ Some h → first ≤ r
@@ -149,19 +214,26 @@ number_from first r h (m ∷ metas) (x ∷ outputs) named from there = by (x.num
     by true same is rest = subst (λ (k : ℕ). first ≤ k) (eqb-true x.number r same) from.0
     by false other is rest = rest is
 
-pub filed_both : (tells : Bool) (seen : Files) (next file first : ℕ) (rowsets metas : List MetaRowset) (outputs files : List HeldFiles) → AreRowsets next file 0 [] rowsets → next ≤ first → AreFrom first (rowsets_in metas outputs)
-    → AreNamed metas outputs → (IsTrue tells → HoldAll seen metas outputs) → AreFiled tells seen rowsets files → AreFiled tells seen (rowsets ++ metas) (outputs ++ files)
-filed_both tells seen next file first rowsets metas outputs files are le from named hold filed r h there = elim (files_both r h outputs files there) [
-  | inl own ↦ (
-      let is = filed_read tells seen metas outputs outputs named (read_whole outputs) hold r h own in
-      let low : next ≤ r = (let up = number_from first r h metas outputs named from own in omega arith) in
-      record { entry = is.entry; there = entry_behind next file 0 r [] rowsets metas are low ∙ is.there; held = is.held; names = is.names; holds = is.holds; is = is.is }
-      )
-  | inr was ↦ (
+filed_both : (tells : Bool) (seen : Files) (next first : ℕ) (rowsets metas : List MetaRowset) (files outputs : List HeldFiles) → AreLowMetas next rowsets → next ≤ first → AreFrom first (rowsets_in metas outputs)
+    → AreNamed metas outputs → (IsTrue tells → HoldAll seen metas outputs) → AreFiled tells seen rowsets files → AreFiled tells seen (rowsets ++ metas) (files ++ outputs)
+filed_both tells seen next first rowsets metas files outputs low le from named hold filed r h there = elim (files_both r h files outputs there) [
+  | inl was ↦ (
       let is = filed r h was in
       record { entry = is.entry; there = entry_front r is.entry rowsets metas is.there; held = is.held; names = is.names; holds = is.holds; is = is.is }
       )
+  | inr own ↦ (
+      let is = filed_read tells seen metas outputs outputs named (read_whole outputs) hold r h own in
+      let high : next ≤ r = (let up = number_from first r h metas outputs named from own in omega arith) in
+      record { entry = is.entry; there = entry_behind next r rowsets metas low high ∙ is.there; held = is.held; names = is.names; holds = is.holds; is = is.is }
+      )
 ]
+
+-- a job is over: what it takes has left, and its outputs stand behind
+pub filed_over : (tells : Bool) (seen : Files) (t : Takes) (next file first : ℕ) (named metas : List MetaRowset) (files outputs : List HeldFiles) → AreRowsets next file 0 [] named → next ≤ first → AreFrom first (rowsets_in metas outputs)
+    → AreNamed metas outputs → (IsTrue tells → HoldAll seen metas outputs) → AreFiled tells seen named files → AreFiled tells seen (metas_left t named ++ metas) (files_left t files ++ outputs)
+filed_over tells seen (memory last) next file first named metas files outputs are le from beside hold filed = filed_both tells seen next first named metas files outputs (low_metas next file 0 [] named are) le from beside hold filed
+filed_over tells seen (disks numbers) next file first named metas files outputs are le from beside hold filed =
+    filed_both tells seen next first (left_metas numbers named) metas (files_left (disks numbers) files) outputs (low_left next numbers named (low_metas next file 0 [] named are)) le from beside hold (filed_left tells seen numbers named files filed)
 
 -- ---- others in their place
 

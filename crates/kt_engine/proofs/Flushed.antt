@@ -64,7 +64,7 @@ each_told all front (Commit ts rows ∷ xs) e untold = each_told all (front ++ C
 
 -- ---- stores by their names
 
-name_append : (ns ms : List Target) (hs gs : List Hist) → length ns ≡ length hs → by_name (ns ++ ms) (hs ++ gs) ≡ by_name ns hs ++ by_name ms gs
+pub name_append : (ns ms : List Target) (hs gs : List Hist) → length ns ≡ length hs → by_name (ns ++ ms) (hs ++ gs) ≡ by_name ns hs ++ by_name ms gs
 name_append [] ms [] gs e = refl
 name_append [] ms (h ∷ hs) gs e = absurd (omega arith)
 name_append (t ∷ ns) ms [] gs e = absurd (omega arith)
@@ -100,7 +100,7 @@ pub bare_hists : (q : List ℕ) (outputs : List DiskRowset) → hists q (map bar
 bare_hists q [] = refl
 bare_hists q (d ∷ outputs) = ap (λ (h : Hist). h ∷ hists q (map bare_store outputs)) (bare_is q d) ∙ ap (λ (l : List Hist). hist_in_files q d ∷ l) (bare_hists q outputs)
 
-outputs_named : (q : List ℕ) (outputs : List DiskRowset) → by_name (map first_name outputs) (hists q (map bare_store outputs)) ≡ in_memory q outputs
+pub outputs_named : (q : List ℕ) (outputs : List DiskRowset) → by_name (map first_name outputs) (hists q (map bare_store outputs)) ≡ in_memory q outputs
 outputs_named q [] = refl
 outputs_named q (d ∷ outputs) = ap (λ (h : Hist). (rowset d.rowset, h) ∷ by_name (map first_name outputs) (hists q (map bare_store outputs))) (bare_is q d) ∙ ap (λ (l : Stores). (rowset d.rowset, hist_in_files q d) ∷ l) (outputs_named q outputs)
 
@@ -115,6 +115,7 @@ pub record FlushKnows (rules : Rules) (core : Core) (super : Super) (names : Lis
   pub names_are : names ≡ Mem active ∷ taken ++ others
   pub stores_are : core.stores ≡ [] ∷ taken_stores ++ other_stores
   pub long : length taken ≡ length taken_stores
+  pub beside : length others ≡ length other_stores
   pub are_taken : AreTaken super.last_mem last_mem taken
   pub are_left : AreLeft next others
   pub later : (super.last_mem < active) × (last_mem < active)
@@ -125,7 +126,7 @@ pub record FlushKnows (rules : Rules) (core : Core) (super : Super) (names : Lis
   pub up : next ≤ high
   pub below : RowsetsBelow (before high last_mem) outputs
   pub recorded : RecordsBelow (before next last_mem) base
-  pub left_below : StoresBelow (record { next = high; active = active; deltas = [] }) (map name_of (Mem active ∷ map first_name outputs ++ others))
+  pub left_below : StoresBelow (record { next = high; active = active; deltas = [] }) (map name_of (Mem active ∷ others ++ map first_name outputs))
   pub passes : RowsetsPass rules outputs
   pub alike : (q : List ℕ) → AreAlike j (hists q taken_stores) (map (hist_in_files q) outputs)
   pub sound : (q : List ℕ) → AreSound core.a (map (hist_in_files q) outputs)
@@ -139,10 +140,10 @@ module _ (rules : Rules) (core : Core) (super : Super) (names : List Target) (no
   new_super = flushed super core.a core.c durable last_mem outputs
 
   abbrev pub new_core : Core
-  new_core = record core { stores = [] ∷ map bare_store outputs ++ f.other_stores }
+  new_core = record core { stores = [] ∷ f.other_stores ++ map bare_store outputs }
 
   abbrev pub new_names : List Target
-  new_names = Mem active ∷ map first_name outputs ++ f.others
+  new_names = Mem active ∷ f.others ++ map first_name outputs
 
   abbrev numbers : Numbers
   numbers = record { next = high; active = active; deltas = [] }
@@ -170,10 +171,10 @@ module _ (rules : Rules) (core : Core) (super : Super) (names : List Target) (no
   -- and after
   stores_after : (q : List ℕ) → by_name new_names (hists q new_core.stores) ≡ after_flush active q outputs (others q)
   stores_after q =
-      ap (λ (hs : List Hist). (mem_rows active, never) ∷ by_name (map first_name outputs ++ f.others) hs) (map-append (hist_in q) (map bare_store outputs) f.other_stores)
+      ap (λ (hs : List Hist). (mem_rows active, never) ∷ by_name (f.others ++ map first_name outputs) hs) (map-append (hist_in q) f.other_stores (map bare_store outputs))
       ∙ ap (λ (l : Stores). (mem_rows active, never) ∷ l)
-      (name_append (map first_name outputs) f.others (hists q (map bare_store outputs)) (hists q f.other_stores) (length-map outputs first_name ∙ sym (length-map outputs bare_store) ∙ sym (length-map (map bare_store outputs) (hist_in q))))
-      ∙ ap (λ (l : Stores). (mem_rows active, never) ∷ l ++ others q) (outputs_named q outputs)
+      (name_append f.others (map first_name outputs) (hists q f.other_stores) (hists q (map bare_store outputs)) (f.beside ∙ sym (length-map f.other_stores (hist_in q))))
+      ∙ ap (λ (l : Stores). (mem_rows active, never) ∷ others q ++ l) (outputs_named q outputs)
 
   higher : (xs : List Entry) → RecordsBelow (before next last_mem) xs → RecordsBelow numbers xs
   higher xs b = records_rise (before next last_mem) numbers xs f.up (let low = f.later.1 in omega arith) b
@@ -228,12 +229,12 @@ module _ (rules : Rules) (core : Core) (super : Super) (names : List Target) (no
       (λ q p. ap (group new_super p) (stores_after q)) new_fresh
 
   -- what the stores have then passes
-  stores_pass : (q : List ℕ) → EachHist rules q (hists q (map bare_store outputs ++ f.other_stores))
+  stores_pass : (q : List ℕ) → EachHist rules q (hists q (f.other_stores ++ map bare_store outputs))
   stores_pass q =
       let before : EachHist rules q (never ∷ hists q (f.taken_stores ++ f.other_stores)) = subst (λ (ss : List Store). EachHist rules q (hists q ss)) f.stores_are (k.passes q) in
       let others : EachHist rules q (hists q f.other_stores) = behind_passes rules q (hists q f.taken_stores) (hists q f.other_stores) (subst (EachHist rules q) (map-append (hist_in q) f.taken_stores f.other_stores) before.1) in
-      subst (EachHist rules q) (sym (map-append (hist_in q) (map bare_store outputs) f.other_stores))
-      (both_pass rules q (hists q (map bare_store outputs)) (hists q f.other_stores) (subst (EachHist rules q) (sym (bare_hists q outputs)) (f.outputs_pass q)) others)
+      subst (EachHist rules q) (sym (map-append (hist_in q) f.other_stores (map bare_store outputs)))
+      (both_pass rules q (hists q f.other_stores) (hists q (map bare_store outputs)) others (subst (EachHist rules q) (sym (bare_hists q outputs)) (f.outputs_pass q)))
 
   pub flush_since : AreNamed new_super new_names → KeepsSince rules new_core new_super new_names notes records run durable
   flush_since named = record {

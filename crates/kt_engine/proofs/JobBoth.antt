@@ -15,7 +15,7 @@ use Rattle.kt_files.specs.Content.{rowsets_in}
 use Rattle.kt_engine.specs.declared.upkeep.Stage.{Stage}
 use Rattle.kt_engine.specs.Over.{over_at}
 use Rattle.kt_engine.specs.Files.{publisher, publisher_by, job_at, files_over}
-use Rattle.kt_engine.specs.Jobs.{JobView, UpkeepView, UpkeepsView, HasUpkeep, JobOn, job_of, upkeep_at, asked, asked_for_nothing, job_abandoned, over_for, over_of, over_by, over_in}
+use Rattle.kt_engine.specs.Jobs.{JobView, UpkeepView, UpkeepsView, HasUpkeep, JobOn, job_of, upkeep_at, asked, asked_for_nothing, job_abandoned, over_for, over_of, over_by, over_in, takes_of}
 use Rattle.kt_engine.specs.Stored.{IsOneOf, IsStored}
 use Rattle.kt_engine.specs.Rounds.{round_of}
 use Rattle.kt_engine.specs.JobSteps.{stage_home, publishing_home}
@@ -61,7 +61,7 @@ files_further job s number files = by (nat_le job.super number)
 
 -- a superblock before its own
 over_before : (job : JobView) (number : ℕ) (o : Option RowSetData) → number < job.super → over_at number (over_for o job) ≡ None
-over_before job number None low = before_over number job.super (rowsets_in job.metas job.held) low
+over_before job number None low = before_over number (record { number = job.super; takes = takes_of job; outputs = rowsets_in job.metas job.held }) low
 over_before job number (Some d) low = refl
 
 -- ---- a superblock comes home

@@ -1,8 +1,8 @@
 -- What a job keeps of an engine: a freeze, and its superblock as it goes out.
-use Rattle.std.proofs.Common.{◌≡◌, ◌≢◌, ℕ, zero, suc, ◌<◌, ◌≤◌, ◌+◌, ◌-◌, ◌^◌, Bool, true, false, List, [], ◌∷◌, ◌++◌, length, map, take, drop, Option, Some, None, refl, sym, ap, ◌∙◌, subst, arith, cond, inl, inr, length-append}
-use Rattle.std.specs.Prelude.{◌==◌, ◌⊎◌, ◌&&◌, is_some, min, nat_le, nat_lt}
-use Rattle.std.specs.List.{All, AllByRecursion}
-use Rattle.std.proofs.lemmas.Bool.{lt-leb, le-leb, ltb-true, ne_eqb, eq-eqb}
+use Rattle.std.proofs.Common.{◌≡◌, ◌≢◌, ℕ, zero, suc, ◌<◌, ◌≤◌, ◌+◌, ◌-◌, ◌^◌, Bool, true, false, List, [], ◌∷◌, ◌++◌, length, map, take, drop, Option, Some, None, refl, sym, ap, ◌∙◌, subst, arith, cond, inl}
+use Rattle.std.specs.Prelude.{◌==◌, ◌&&◌, is_some, min, nat_le, nat_lt, not}
+use Rattle.std.specs.List.{All, AllByRecursion, list_any}
+use Rattle.std.proofs.lemmas.Bool.{lt-leb, le-leb, ltb-true, ne_eqb, eq-eqb, eqb-true}
 use Rattle.std.proofs.lemmas.List.{length-take, take-append-drop, take_all}
 use Rattle.kt_disk.specs.Disk.{Files}
 use Rattle.kt_history.specs.declared.target.Target.{Target}
@@ -20,22 +20,25 @@ use Rattle.kt_files.specs.Content.{rowset_in, rowsets_in}
 use Rattle.kt_files.specs.Reading.{HoldAll}
 use Rattle.kt_content.specs.Places.{Super, last_dms_of}
 use Rattle.kt_content.specs.Rules.{Rules}
-use Rattle.kt_content.specs.InMemory.{mem_rows, rowset}
+use Rattle.kt_content.specs.InMemory.{Name, mem_rows, rowset}
 use Rattle.kt_content.specs.Content.{NumbersDiffer, LacksNumber}
 use Rattle.kt_content.specs.RunEvents.{Numbers, RecordsBelow, RowsetsBelow, StoresBelow}
 use Rattle.kt_content.specs.Flushes.{AreFrom, before}
 use Rattle.kt_content.proofs.RunEvents.{none_named}
 use Rattle.kt_joblaws.proofs.Groups.{AllNamed, all_named}
 use Rattle.kt_tablet.specs.Views.{View}
-use Rattle.kt_tablet.specs.Jobs.{HasFrozen, over_to, rows_in_first}
+use Rattle.kt_joblaws.specs.Compacts.{left_rowsets}
+use Rattle.kt_stores.specs.Takes.{Takes, rowsets, takes, of_left, over_to}
+use Rattle.kt_tablet.specs.Jobs.{HasFrozen, rows_in_first}
 use Rattle.kt_engine.specs.Memory.{name_of, IsNamed, AreNamed, FirstIsMem, LacksName, NamesDiffer}
 use Rattle.kt_engine.specs.Logged.{KeepsSince}
-use Rattle.kt_engine.specs.Over.{Over, bare_store, first_name, over_at, core_over, names_over, AreTaken, AreLeft}
+use Rattle.kt_engine.specs.Over.{Over, bare_store, first_name, over_at, core_over, names_over, AreTaken, AreLeft, AreLow, AreShelved}
 use Rattle.kt_engine.specs.Engines.{EngineView, IsEngine, core_from}
 use Rattle.kt_engine.specs.Near.{AreNear, first_number}
 use Rattle.kt_engine.specs.Stored.{IsStored, over, next_given, numbers_of}
 use Rattle.kt_engine.specs.Jobs.{JobView, UpkeepsView, JobOn, job_of}
 use Rattle.kt_engine.specs.Files.{AreFiled}
+use Rattle.kt_engine.specs.JobMeta.{left_metas}
 use Rattle.kt_engine.specs.JobSteps.{AreUpTo}
 use Rattle.kt_engine.proofs.Frozen.{names_frozen, frozen_since}
 use Rattle.kt_engine.proofs.Shelved.{frozen_shelved}
@@ -126,6 +129,15 @@ module _ {L D C : Type 0} (log_tells : Bool) (log_seen : L → Files) (log_now :
         (records_rise (numbers_of view) (before job.first_rowset job.last_mem) (view.records ++ is.run) (let same = given_same view.store.next_rowset few in omega arith) (omega (arith, first_is)) is.below);
   }
 
+-- and of a compaction that begins, which freezes nothing
+pub compaction_on : {L D C : Type 0} (log_tells : Bool) (log_seen : L → Files) (tells : Bool) (seen : D → Files) (faults : D → ℕ) (view : EngineView L D C) (is : IsStored log_tells log_seen tells seen faults view) (job : JobView) → job.many ≡ view.log.known.count + length (view.log.out ++ view.log.queued)
+    → job.first_rowset ≡ view.store.next_rowset → view.store.next_rowset ≢ 2 ^ 64 - 1 → job.last_mem ≡ first_number view.tablet.names → JobOn (view.records ++ is.run) job
+compaction_on log_tells log_seen tells seen faults view is job many first few last = record {
+  many = (let n = is.count in omega arith);
+  names = subst (RecordsBelow (before job.first_rowset job.last_mem)) (sym (take_all job.many (view.records ++ is.run) (let n = is.count in omega arith)))
+      (records_rise (numbers_of view) (before job.first_rowset job.last_mem) (view.records ++ is.run) (let same = given_same view.store.next_rowset few in omega arith) (omega (arith, last)) is.below);
+}
+
 -- ---- names before and after a flush
 
 -- those of all names that a superblock takes
@@ -158,23 +170,20 @@ rowsets_of_both files (r ∷ rs) ms (x ∷ hs) gs h = ap (λ (l : List DiskRowse
 -- ---- which superblock is told of what
 
 -- the job's own is told of the stores once it is over, and the one before it of those that stand
-pub own_over : (n : ℕ) (outputs : List DiskRowset) → over_at n (Some (record { number = n; outputs = outputs })) ≡ Some (record { number = n; outputs = outputs })
-own_over n outputs = ap (λ (b : Bool). cond b (Some (record { number = n; outputs = outputs })) None) (le-leb n n (omega arith))
+pub later_over : (m : ℕ) (o : Over) → o.number ≤ m → over_at m (Some o) ≡ Some o
+later_over m o le = ap (λ (b : Bool). cond b (Some o) None) (le-leb o.number m le)
 
-pub before_over : (m n : ℕ) (outputs : List DiskRowset) → m < n → over_at m (Some (record { number = n; outputs = outputs })) ≡ None
-before_over m n outputs lt = ap (λ (b : Bool). cond b (Some (record { number = n; outputs = outputs })) None) (lt-leb n m lt)
-
-pub later_over : (m n : ℕ) (outputs : List DiskRowset) → n ≤ m → over_at m (Some (record { number = n; outputs = outputs })) ≡ Some (record { number = n; outputs = outputs })
-later_over m n outputs le = ap (λ (b : Bool). cond b (Some (record { number = n; outputs = outputs })) None) (le-leb n m le)
+pub before_over : (m : ℕ) (o : Over) → m < o.number → over_at m (Some o) ≡ None
+before_over m o lt = ap (λ (b : Bool). cond b (Some o) None) (lt-leb o.number m lt)
 
 -- ---- a job is over
 
 -- A superblock from the job's own on is told of the stores that the tablet has now
-pub finished_since : (rules : Rules) (core : Core) (super : Super) (names : List Target) (notes : List (List CommitRow)) (records run : List Entry) (durable frozen m : ℕ) (o : Over) → o.number ≤ m
-    → KeepsSince rules (core_over (over_at m (Some o)) frozen core) super (names_over (over_at m (Some o)) frozen names) notes records run durable
-    → KeepsSince rules (record core { stores = over_to frozen (map bare_store o.outputs) core.stores }) super (over_to frozen (map first_name o.outputs) names) notes records run durable
-finished_since rules core super names notes records run durable frozen m o le k =
-    subst (λ (p : Option Over). KeepsSince rules (core_over p frozen core) super (names_over p frozen names) notes records run durable) (later_over m o.number o.outputs le) k
+pub finished_since : (rules : Rules) (core : Core) (super : Super) (names : List Target) (notes : List (List CommitRow)) (records run : List Entry) (durable m : ℕ) (o : Over) → o.number ≤ m
+    → KeepsSince rules (core_over (over_at m (Some o)) names core) super (names_over (over_at m (Some o)) names) notes records run durable
+    → KeepsSince rules (record core { stores = over_to o.takes (map bare_store o.outputs) names core.stores }) super (over_to o.takes (map first_name o.outputs) names names) notes records run durable
+finished_since rules core super names notes records run durable m o le k =
+    subst (λ (p : Option Over). KeepsSince rules (core_over p names core) super (names_over p names) notes records run durable) (later_over m o le) k
 
 -- ---- the names of a flush's superblock
 
@@ -199,12 +208,55 @@ left_named super a c need last_mem next outputs (Delta r n ∷ names) left named
     ((own.0.0, last_front r super.rowsets outputs own.0.0 own.0.1, own.0.2), own.1, own.2)
     (left_named super a c need last_mem next outputs names left.1 (all_tail (IsNamed super) (Delta r n) names named))
 
+-- ---- without the rowsets of a compaction
+
+-- of these numbers
+abbrev pub take_of : List ℕ → ℕ → Bool
+take_of taken r = list_any (λ (s : ℕ). s == r) taken
+
+abbrev pub left_held : List ℕ → List MetaRowset → List HeldFiles → List HeldFiles
+left_held taken [] hs = []
+left_held taken (r ∷ rs) [] = []
+left_held taken (r ∷ rs) (h ∷ hs) = cond (take_of taken r.rowset) (left_held taken rs hs) (h ∷ left_held taken rs hs)
+
+pub hold_left : (files : Files) (taken : List ℕ) (rs : List MetaRowset) (hs : List HeldFiles) → HoldAll files rs hs → HoldAll files (left_metas taken rs) (left_held taken rs hs)
+hold_left files taken [] [] h = h
+hold_left files taken [] (x ∷ hs) h = absurd h
+hold_left files taken (r ∷ rs) [] h = absurd h
+hold_left files taken (r ∷ rs) (x ∷ hs) h = by (take_of taken r.rowset) (hold_left files taken rs hs h.1)
+  where
+    by : (b : Bool) → HoldAll files (left_metas taken rs) (left_held taken rs hs) → HoldAll files (cond (not b) (r ∷ left_metas taken rs) (left_metas taken rs)) (cond b (left_held taken rs hs) (x ∷ left_held taken rs hs))
+    by true rest = rest
+    by false rest = (h.0, rest)
+
+pub rowsets_left : (files : Files) (taken : List ℕ) (rs : List MetaRowset) (hs : List HeldFiles) → HoldAll files rs hs → rowsets_in (left_metas taken rs) (left_held taken rs hs) ≡ left_rowsets (take_of taken) (rowsets_in rs hs)
+rowsets_left files taken [] [] h = refl
+rowsets_left files taken [] (x ∷ hs) h = absurd h
+rowsets_left files taken (r ∷ rs) [] h = absurd h
+rowsets_left files taken (r ∷ rs) (x ∷ hs) h =
+    by (take_of taken r.rowset) (rowsets_left files taken rs hs h.1)
+    ∙ ap (λ (n : ℕ). cond (not (take_of taken n)) (rowset_in r x ∷ left_rowsets (take_of taken) (rowsets_in rs hs)) (left_rowsets (take_of taken) (rowsets_in rs hs))) (sym h.0.number)
+  where
+    by : (b : Bool) → rowsets_in (left_metas taken rs) (left_held taken rs hs) ≡ left_rowsets (take_of taken) (rowsets_in rs hs)
+        → rowsets_in (cond (not b) (r ∷ left_metas taken rs) (left_metas taken rs)) (cond b (left_held taken rs hs) (x ∷ left_held taken rs hs)) ≡ cond (not b) (rowset_in r x ∷ left_rowsets (take_of taken) (rowsets_in rs hs)) (left_rowsets (take_of taken) (rowsets_in rs hs))
+    by true rest = rest
+    by false rest = ap (λ (l : List DiskRowset). rowset_in r x ∷ l) rest
+
 -- ---- the stores of a tablet, taken apart
 
 pub names_split : (names : List Target) (n frozen : ℕ) → FirstIsMem names → n < first_number names → names ≡ Mem (first_number names) ∷ take frozen (drop 1 names) ++ drop frozen (drop 1 names)
 names_split [] n frozen first lt = absurd (omega arith)
 names_split (Mem m ∷ names) n frozen first lt = ap (λ (l : List Target). Mem m ∷ l) (sym (take-append-drop frozen names))
 names_split (Delta r m ∷ names) n frozen first lt = absurd first
+
+pub names_first : (names : List Target) → FirstIsMem names → 0 < length names → names ≡ Mem (first_number names) ∷ drop 1 names
+names_first [] first some = absurd (omega arith)
+names_first (Mem m ∷ names) first some = refl
+names_first (Delta r m ∷ names) first some = absurd first
+
+pub stores_first : (stores : List Store) → 0 < length stores → (s : Store) × (stores ≡ s ∷ drop 1 stores)
+stores_first [] some = absurd (omega arith)
+stores_first (s ∷ stores) some = (s, refl)
 
 pub stores_split : (stores : List Store) (frozen : ℕ) → 0 < length stores → rows_in_first stores ≡ [] → stores ≡ [] ∷ take frozen (drop 1 stores) ++ drop frozen (drop 1 stores)
 stores_split [] frozen some none = absurd (omega arith)
@@ -234,24 +286,107 @@ meta_below files low next file least last taken (r ∷ rs) [] are le h = absurd 
 meta_below files low next file least last taken (r ∷ rs) (x ∷ hs) are le h =
     (let same = h.0.number in let below = rowset_low least low r.rowset are.0.rowset in omega arith, meta_below files low next file (r.rowset + 1) last (taken_by taken r) rs hs are.1 le h.1)
 
--- ---- the names of its stores once a flush is over
+-- ---- the names of its stores once a job is over
 
-outputs_below : (numbers : Numbers) (outputs : List DiskRowset) (others : List Target) → RowsetsBelow numbers outputs → StoresBelow numbers (map name_of others) → StoresBelow numbers (map name_of (map first_name outputs ++ others))
-outputs_below numbers [] others own rest = rest
-outputs_below numbers (d ∷ outputs) others own rest = (own.0, outputs_below numbers outputs others own.1 rest)
+pub both_below : (numbers : Numbers) (xs ys : List Target) → StoresBelow numbers (map name_of xs) → StoresBelow numbers (map name_of ys) → StoresBelow numbers (map name_of (xs ++ ys))
+both_below numbers [] ys own rest = rest
+both_below numbers (Mem n ∷ xs) ys own rest = (own.0, both_below numbers xs ys own.1 rest)
+both_below numbers (Delta r n ∷ xs) ys own rest = (own.0, both_below numbers xs ys own.1 rest)
 
-left_below : (numbers : Numbers) (next : ℕ) (others : List Target) → next ≤ numbers.next → AreLeft next others → StoresBelow numbers (map name_of others)
-left_below numbers next [] le left = tt
-left_below numbers next (Mem n ∷ others) le left = absurd left
-left_below numbers next (Delta r n ∷ others) le left = (let lt = left.0 in omega arith, left_below numbers next others le left.1)
+pub come_below : (numbers : Numbers) (outputs : List DiskRowset) → RowsetsBelow numbers outputs → StoresBelow numbers (map name_of (map first_name outputs))
+come_below numbers [] own = tt
+come_below numbers (d ∷ outputs) own = (own.0, come_below numbers outputs own.1)
 
-pub over_below : (high active next last : ℕ) (outputs : List DiskRowset) (others : List Target) → next ≤ high → RowsetsBelow (before high last) outputs → AreLeft next others
-    → StoresBelow (record { next = high; active = active; deltas = [] }) (map name_of (Mem active ∷ map first_name outputs ++ others))
-over_below high active next last outputs others le own left =
-    let numbers : Numbers = record { next = high; active = active; deltas = [] } in
-    (omega arith, outputs_below numbers outputs others (rowsets_rise (before high last) numbers outputs (omega arith) own) (left_below numbers next others le left))
+pub some_below : (numbers : Numbers) (t : Takes) (names : List Target) → StoresBelow numbers (map name_of names) → StoresBelow numbers (map name_of (of_left t names names))
+some_below numbers t [] below = tt
+some_below numbers t (Mem n ∷ names) below = by (takes t (Mem n)) (some_below numbers t names below.1)
+  where
+    by : (b : Bool) → StoresBelow numbers (map name_of (of_left t names names)) → StoresBelow numbers (map name_of (cond b (of_left t names names) (Mem n ∷ of_left t names names)))
+    by true rest = rest
+    by false rest = (below.0, rest)
+some_below numbers t (Delta r n ∷ names) below = by (takes t (Delta r n)) (some_below numbers t names below.1)
+  where
+    by : (b : Bool) → StoresBelow numbers (map name_of (of_left t names names)) → StoresBelow numbers (map name_of (cond b (of_left t names names) (Delta r n ∷ of_left t names names)))
+    by true rest = rest
+    by false rest = (below.0, rest)
 
--- ---- their names differ, and each is needed under the flush's superblock
+low_below : (old : Numbers) (high next : ℕ) (names : List Target) → next ≤ high → AreLow next names → StoresBelow old (map name_of names) → StoresBelow (record { next = high; active = old.active; deltas = [] }) (map name_of names)
+low_below old high next [] le low below = tt
+low_below old high next (Mem n ∷ names) le low below = (below.0, low_below old high next names le low below.1)
+low_below old high next (Delta r n ∷ names) le low below = (let lt = low.0 in omega arith, low_below old high next names le low.1 below.1)
+
+pub over_below : (old : Numbers) (high active next last : ℕ) (outputs : List DiskRowset) (left : List Target) → next ≤ high → active ≡ old.active → RowsetsBelow (before high last) outputs → AreLow next left → StoresBelow old (map name_of left)
+    → StoresBelow (record { next = high; active = active; deltas = [] }) (map name_of (Mem active ∷ left ++ map first_name outputs))
+over_below old high active next last outputs left le same own low below =
+    let numbers : Numbers = record { next = high; active = active; deltas = [] } in (
+      omega arith,
+      both_below numbers left (map first_name outputs) (subst (λ (m : ℕ). StoresBelow (record { next = high; active = m; deltas = [] }) (map name_of left)) (sym same) (low_below old high next left le low below))
+          (come_below numbers outputs (rowsets_rise (before high last) numbers outputs (omega arith) own)),
+    )
+
+-- ---- disk rowsets among all
+
+pub low_left : (next : ℕ) (names : List Target) → AreLeft next names → AreLow next names
+low_left next [] left = tt
+low_left next (Mem n ∷ names) left = absurd left
+low_left next (Delta r n ∷ names) left = (left.0, low_left next names left.1)
+
+pub low_shelved : (many below next : ℕ) (names : List Target) → AreShelved many below names → AreLeft next (drop many names) → AreLow next names
+low_shelved zero below next names are left = low_left next names left
+low_shelved (suc many) below next [] are left = absurd are
+low_shelved (suc many) below next (Mem n ∷ names) are left = low_shelved many n next names are.1 left
+low_shelved (suc many) below next (Delta r n ∷ names) are left = absurd are
+
+pub low_some : (next : ℕ) (t : Takes) (names : List Target) → AreLow next names → AreLow next (of_left t names names)
+low_some next t [] low = tt
+low_some next t (Mem n ∷ names) low = by (takes t (Mem n)) (low_some next t names low)
+  where
+    by : (b : Bool) → AreLow next (of_left t names names) → AreLow next (cond b (of_left t names names) (Mem n ∷ of_left t names names))
+    by true rest = rest
+    by false rest = rest
+low_some next t (Delta r n ∷ names) low = by (takes t (Delta r n)) (low_some next t names low.1)
+  where
+    by : (b : Bool) → AreLow next (of_left t names names) → AreLow next (cond b (of_left t names names) (Delta r n ∷ of_left t names names))
+    by true rest = rest
+    by false rest = (low.0, rest)
+
+pub each_behind : (P : Target → Type 0) (xs ys : List Target) → All P (xs ++ ys) → All P ys
+each_behind P [] ys each = each
+each_behind P (x ∷ xs) ys each = each_behind P xs ys (all_tail P x (xs ++ ys) each)
+
+-- ---- those that are left differ
+
+lacks_behind : (n : Name) (xs ys : List Target) → LacksName n (xs ++ ys) → LacksName n ys
+lacks_behind n [] ys lacks = lacks
+lacks_behind n (x ∷ xs) ys lacks = lacks_behind n xs ys lacks.1
+
+differ_behind : (xs ys : List Target) → NamesDiffer (xs ++ ys) → NamesDiffer ys
+differ_behind [] ys differ = differ
+differ_behind (x ∷ xs) ys differ = differ_behind xs ys differ.1
+
+pub first_differs : (active : ℕ) (taken others : List Target) → NamesDiffer (Mem active ∷ taken ++ others) → NamesDiffer (Mem active ∷ others)
+first_differs active taken others differ = (lacks_behind (mem_rows active) taken others differ.0, differ_behind taken others differ.1)
+
+lacks_some : (n : Name) (t : Takes) (names : List Target) → LacksName n names → LacksName n (of_left t names names)
+lacks_some n t [] lacks = tt
+lacks_some n t (x ∷ names) lacks = by (takes t x) (lacks_some n t names lacks.1)
+  where
+    by : (b : Bool) → LacksName n (of_left t names names) → LacksName n (cond b (of_left t names names) (x ∷ of_left t names names))
+    by true rest = rest
+    by false rest = (lacks.0, rest)
+
+differ_some : (t : Takes) (names : List Target) → NamesDiffer names → NamesDiffer (of_left t names names)
+differ_some t [] differ = tt
+differ_some t (x ∷ names) differ = by (takes t x) (differ_some t names differ.1)
+  where
+    by : (b : Bool) → NamesDiffer (of_left t names names) → NamesDiffer (cond b (of_left t names names) (x ∷ of_left t names names))
+    by true rest = rest
+    by false rest = (lacks_some (name_of x) t names differ.0, rest)
+
+pub some_differ : (active : ℕ) (t : Takes) (others : List Target) → NamesDiffer (Mem active ∷ others) → NamesDiffer (Mem active ∷ of_left t others others)
+some_differ active t others differ = (lacks_some (mem_rows active) t others differ.0, differ_some t others differ.1)
+
+-- ---- their names differ, and each is needed under the job's superblock
 
 abbrev pub AllFirst : List DiskRowset → Type 0
 AllFirst outputs = AllByRecursion (λ (d : DiskRowset). d.last_dms ≡ 0) outputs
@@ -270,58 +405,92 @@ first_last r (d ∷ outputs) all some = elim (d.rowset == r) as (λ (b : Bool). 
   | false ↦ λ e. first_last r outputs all.1 e
 ] some
 
-module _ (super : Super) (a c need last_mem next high : ℕ) (outputs : List DiskRowset) (below : RowsetsBelow (before next last_mem) super.rowsets) (all : AllFirst outputs) (few : high < 2 ^ 64) where
+-- what a compaction does not take stays where it was
+last_left : (taken : List ℕ) (r : ℕ) (ds : List DiskRowset) → take_of taken r ≡ false → last_dms_of r (left_rowsets (take_of taken) ds) ≡ last_dms_of r ds
+last_left taken r [] apart = refl
+last_left taken r (d ∷ ds) apart = by (last_left taken r ds apart) (d.rowset == r) refl
+  where
+    goes : (b : Bool) → last_dms_of r (left_rowsets (take_of taken) ds) ≡ last_dms_of r ds → (d.rowset == r) ≡ false
+        → last_dms_of r (cond (not b) (d ∷ left_rowsets (take_of taken) ds) (left_rowsets (take_of taken) ds)) ≡ last_dms_of r ds
+    goes true rest e = rest
+    goes false rest e = ap (λ (c : Bool). cond c (Some d.last_dms) (last_dms_of r (left_rowsets (take_of taken) ds))) e ∙ rest
+
+    by : last_dms_of r (left_rowsets (take_of taken) ds) ≡ last_dms_of r ds → (b : Bool) → (d.rowset == r) ≡ b → last_dms_of r (left_rowsets (take_of taken) (d ∷ ds)) ≡ cond (d.rowset == r) (Some d.last_dms) (last_dms_of r ds)
+    by rest true e =
+        let stays : take_of taken d.rowset ≡ false = ap (take_of taken) (eqb-true d.rowset r e) ∙ apart in
+        ap (λ (c : Bool). last_dms_of r (cond (not c) (d ∷ left_rowsets (take_of taken) ds) (left_rowsets (take_of taken) ds))) stays
+        ∙ ap (λ (c : Bool). cond c (Some d.last_dms) (last_dms_of r (left_rowsets (take_of taken) ds))) e ∙ sym (ap (λ (c : Bool). cond c (Some d.last_dms) (last_dms_of r ds)) e)
+    by rest false e = goes (take_of taken d.rowset) rest e ∙ sym (ap (λ (c : Bool). cond c (Some d.last_dms) (last_dms_of r ds)) e)
+
+all_nothing : (P : Target → Type 0) → All P []
+all_nothing P k d low = absurd (omega arith)
+
+all_both : (P : Target → Type 0) (xs ys : List Target) → All P xs → All P ys → All P (xs ++ ys)
+all_both P [] ys own rest = rest
+all_both P (x ∷ xs) ys own rest = all_cons P x (xs ++ ys) (all_head P x xs own) (all_both P xs ys (all_tail P x xs own) rest)
+
+module _ (a c need last_mem mem next high : ℕ) (kept outputs : List DiskRowset) (below : RowsetsBelow (before next mem) kept) (all : AllFirst outputs) (few : high < 2 ^ 64) where
   abbrev named_super : Super
-  named_super = record { a = a; c = c; need = need; last_mem = last_mem; rowsets = super.rowsets ++ outputs }
+  named_super = record { a = a; c = c; need = need; last_mem = last_mem; rowsets = kept ++ outputs }
 
-  outputs_named : (sub : List DiskRowset) (others : List Target) → AreFrom next sub → AllNamed outputs sub → RowsetsBelow (before high last_mem) sub → All (IsNamed named_super) others → All (IsNamed named_super) (map first_name sub ++ others)
-  outputs_named [] others from named own rest = rest
-  outputs_named (d ∷ sub) others from named own rest =
-      let last : last_dms_of d.rowset (super.rowsets ++ outputs) ≡ Some 0 =
-      last_behind d.rowset super.rowsets outputs (none_named (before next last_mem) super.rowsets d.rowset below from.0) ∙ first_last d.rowset outputs all named.0 in
-      all_cons (IsNamed named_super) (first_name d) (map first_name sub ++ others) ((0, last, omega arith), (let lt = own.0 in omega arith), omega arith) (outputs_named sub others from.1 named.1 own.1 rest)
+  come_named : (sub : List DiskRowset) → AreFrom next sub → AllNamed outputs sub → RowsetsBelow (before high mem) sub → All (IsNamed named_super) (map first_name sub)
+  come_named [] from named own = all_nothing (IsNamed named_super)
+  come_named (d ∷ sub) from named own =
+      let last : last_dms_of d.rowset (kept ++ outputs) ≡ Some 0 =
+      last_behind d.rowset kept outputs (none_named (before next mem) kept d.rowset below from.0) ∙ first_last d.rowset outputs all named.0 in
+      all_cons (IsNamed named_super) (first_name d) (map first_name sub) ((0, last, omega arith), (let lt = own.0 in omega arith), omega arith) (come_named sub from.1 named.1 own.1)
 
-  lacks_mem : (n : ℕ) (sub : List DiskRowset) (others : List Target) → LacksName (mem_rows n) others → LacksName (mem_rows n) (map first_name sub ++ others)
-  lacks_mem n [] others lacks = lacks
-  lacks_mem n (d ∷ sub) others lacks = (refl, lacks_mem n sub others lacks)
-
-  mem_left : (n : ℕ) (others : List Target) → AreLeft next others → LacksName (mem_rows n) others
-  mem_left n [] left = tt
-  mem_left n (Mem m ∷ others) left = absurd left
-  mem_left n (Delta r m ∷ others) left = (refl, mem_left n others left.1)
+  mem_lacks : (n : ℕ) (sub : List DiskRowset) → LacksName (mem_rows n) (map first_name sub)
+  mem_lacks n [] = tt
+  mem_lacks n (d ∷ sub) = (refl, mem_lacks n sub)
 
   -- an output's number is none of the others'
-  rowset_left : (r : ℕ) (others : List Target) → next ≤ r → AreLeft next others → LacksName (rowset r) others
-  rowset_left r [] le left = tt
-  rowset_left r (Mem m ∷ others) le left = absurd left
-  rowset_left r (Delta s m ∷ others) le left = (ne_eqb s r (λ e. let lt = left.0 in omega arith), rowset_left r others le left.1)
+  low_lacks : (r : ℕ) (sub : List DiskRowset) → r < next → AreFrom next sub → LacksName (rowset r) (map first_name sub)
+  low_lacks r [] lt from = tt
+  low_lacks r (d ∷ sub) lt from = (ne_eqb d.rowset r (λ e. let le = from.0 in omega arith), low_lacks r sub lt from.1)
 
   other_way : (r s : ℕ) → (r == s) ≡ false → (s == r) ≡ false
   other_way r s e = ne_eqb s r (λ same. let f : true ≡ false = sym (eq-eqb r s (sym same)) ∙ e in cc)
 
-  rowset_lacks : (r : ℕ) (sub : List DiskRowset) (others : List Target) → LacksNumber r sub → LacksName (rowset r) others → LacksName (rowset r) (map first_name sub ++ others)
-  rowset_lacks r [] others lacks rest = rest
-  rowset_lacks r (d ∷ sub) others lacks rest = (other_way r d.rowset lacks.0, rowset_lacks r sub others lacks.1 rest)
+  rowset_lacks : (r : ℕ) (sub : List DiskRowset) → LacksNumber r sub → LacksName (rowset r) (map first_name sub)
+  rowset_lacks r [] lacks = tt
+  rowset_lacks r (d ∷ sub) lacks = (other_way r d.rowset lacks.0, rowset_lacks r sub lacks.1)
 
-  outputs_differ : (sub : List DiskRowset) (others : List Target) → AreFrom next sub → NumbersDiffer sub → AreLeft next others → NamesDiffer others → NamesDiffer (map first_name sub ++ others)
-  outputs_differ [] others from own left differ = differ
-  outputs_differ (d ∷ sub) others from own left differ = (rowset_lacks d.rowset sub others own.0 (rowset_left d.rowset others from.0 left), outputs_differ sub others from.1 own.1 left differ)
+  come_differ : (sub : List DiskRowset) → NumbersDiffer sub → NamesDiffer (map first_name sub)
+  come_differ [] own = tt
+  come_differ (d ∷ sub) own = (rowset_lacks d.rowset sub own.0, come_differ sub own.1)
 
-  differ_behind : (xs ys : List Target) → NamesDiffer (xs ++ ys) → NamesDiffer ys
-  differ_behind [] ys differ = differ
-  differ_behind (x ∷ xs) ys differ = differ_behind xs ys differ.1
+  lacks_both : (n : Name) (xs ys : List Target) → LacksName n xs → LacksName n ys → LacksName n (xs ++ ys)
+  lacks_both n [] ys own rest = rest
+  lacks_both n (x ∷ xs) ys own rest = (own.0, lacks_both n xs ys own.1 rest)
 
-  each_behind : (P : Target → Type 0) (xs ys : List Target) → All P (xs ++ ys) → All P ys
-  each_behind P [] ys each = each
-  each_behind P (x ∷ xs) ys each = each_behind P xs ys (all_tail P x (xs ++ ys) each)
+  both_differ : (xs : List Target) → AreLow next xs → AreFrom next outputs → NumbersDiffer outputs → NamesDiffer xs → NamesDiffer (xs ++ map first_name outputs)
+  both_differ [] low from own differ = come_differ outputs own
+  both_differ (Mem n ∷ xs) low from own differ = (lacks_both (mem_rows n) xs (map first_name outputs) differ.0 (mem_lacks n outputs), both_differ xs low from own differ.1)
+  both_differ (Delta r n ∷ xs) low from own differ = (lacks_both (rowset r) xs (map first_name outputs) differ.0 (low_lacks r outputs low.0 from), both_differ xs low.1 from own differ.1)
 
-  -- so they are the names of the stores once the flush is over
-  pub over_named : (active : ℕ) (taken others : List Target) → last_mem < active → AreNamed super (Mem active ∷ taken ++ others) → AreFrom next outputs → NumbersDiffer outputs → RowsetsBelow (before high last_mem) outputs → AreLeft next others
-      → AreNamed named_super (Mem active ∷ map first_name outputs ++ others)
-  over_named active taken others later named from differ own left = record {
-    each = all_cons (IsNamed named_super) (Mem active) (map first_name outputs ++ others) (later, (all_head (IsNamed super) (Mem active) (taken ++ others) named.each).1)
-        (outputs_named outputs others from (all_named [] outputs) own
-        (left_named super a c need last_mem next outputs others left (each_behind (IsNamed super) taken others (all_tail (IsNamed super) (Mem active) (taken ++ others) named.each))));
+  -- so they are the names of the stores once the job is over
+  pub over_named : (active : ℕ) (left : List Target) → IsNamed named_super (Mem active) → All (IsNamed named_super) left → NamesDiffer (Mem active ∷ left) → AreLow next left → AreFrom next outputs → NumbersDiffer outputs
+      → RowsetsBelow (before high mem) outputs → AreNamed named_super (Mem active ∷ left ++ map first_name outputs)
+  over_named active left first each differ low from own given = record {
+    each = all_cons (IsNamed named_super) (Mem active) (left ++ map first_name outputs) first (all_both (IsNamed named_super) left (map first_name outputs) each (come_named outputs from (all_named [] outputs) given));
     first = tt;
-    differ = (lacks_mem active outputs others (mem_left active others left), outputs_differ outputs others from differ left (differ_behind taken others named.differ.1));
+    differ = both_differ (Mem active ∷ left) low from own differ;
   }
+
+-- what a compaction leaves keeps its place under its superblock
+module _ (super : Super) (a c need : ℕ) (taken : List ℕ) (outputs : List DiskRowset) where
+  abbrev its_super : Super
+  its_super = record { a = a; c = c; need = need; last_mem = super.last_mem; rowsets = left_rowsets (take_of taken) super.rowsets ++ outputs }
+
+  one_named : (n : Target) → takes (rowsets taken) n ≡ false → IsNamed super n → IsNamed its_super n
+  one_named (Mem n) stays own = own
+  one_named (Delta r n) stays own = ((own.0.0, last_front r (left_rowsets (take_of taken) super.rowsets) outputs own.0.0 (last_left taken r super.rowsets stays ∙ own.0.1), own.0.2), own.1, own.2)
+
+  pub some_named : (names : List Target) → All (IsNamed super) names → All (IsNamed its_super) (of_left (rowsets taken) names names)
+  some_named [] named = all_nothing (IsNamed its_super)
+  some_named (n ∷ names) named = by (takes (rowsets taken) n) refl (some_named names (all_tail (IsNamed super) n names named))
+    where
+      by : (b : Bool) → takes (rowsets taken) n ≡ b → All (IsNamed its_super) (of_left (rowsets taken) names names) → All (IsNamed its_super) (cond b (of_left (rowsets taken) names names) (n ∷ of_left (rowsets taken) names names))
+      by true e rest = rest
+      by false e rest = all_cons (IsNamed its_super) n (of_left (rowsets taken) names names) (one_named n e (all_head (IsNamed super) n names named)) rest

@@ -34,7 +34,13 @@ pub mod TableCells
 pub mod Upkeeps
 pub mod Passes
 pub mod NewRowsets
+pub mod Statistics
 pub mod Jobs
+pub mod Compacted
+pub mod TakenRead
+pub mod Entries
+pub mod JobMetas
+pub mod JobInputs
 pub mod JobOut
 pub mod Finished
 pub mod JobBoth

@@ -1,5 +1,5 @@
 -- The numbers that an engine gives stay near those that opening found.
-use Rattle.std.proofs.Common.{◌≡◌, ◌≤◌, ◌<◌, ◌+◌, ◌^◌, inl, inr, ℕ, zero, suc, List, [], ◌∷◌, ◌++◌, drop, map, length, refl, sym, ap, subst, arith}
+use Rattle.std.proofs.Common.{◌≡◌, ◌≤◌, ◌<◌, ◌+◌, ◌^◌, inl, inr, ℕ, zero, suc, List, [], ◌∷◌, ◌++◌, drop, map, length, refl, sym, ap, subst, arith, Bool, true, false, cond}
 use Rattle.std.specs.List.{All, Contains}
 use Rattle.kt_history.specs.declared.target.Target.{Target}
 use Rattle.kt_history.specs.declared.target.Target.TheVariants.{Mem, Delta}
@@ -10,7 +10,7 @@ use Rattle.kt_records.specs.declared.entry.CommitRow.{CommitRow}
 use Rattle.kt_rowfiles.specs.Files.{DiskRowset}
 use Rattle.kt_content.specs.RunEvents.{RowsetsBelow}
 use Rattle.kt_content.specs.Flushes.{before}
-use Rattle.kt_tablet.specs.Jobs.{over_to}
+use Rattle.kt_stores.specs.Takes.{Takes, takes, of_left, over_to}
 use Rattle.kt_engine.specs.Logged.{NamesOnly}
 use Rattle.kt_engine.specs.Near.{first_number, IsGiven, IsKnown, NamesEach, AreNear, most_rowsets, most_deltas, IsUpTo, IsBelow}
 use Rattle.kt_engine.specs.Over.{first_name}
@@ -99,23 +99,32 @@ behind P zero names each = each
 behind P (suc n) [] each = each
 behind P (suc n) (t ∷ names) each = behind P n names (all_tail P t names each)
 
-with_outputs : (found : List Target) (mem dms next last : ℕ) (outputs : List DiskRowset) (names : List Target) → 1 ≤ dms → RowsetsBelow (before next last) outputs → All (IsKnown found mem dms next) names → All (IsKnown found mem dms next) (map first_name outputs ++ names)
-with_outputs found mem dms next last [] names one own each = each
-with_outputs found mem dms next last (d ∷ outputs) names one own each = all_cons (IsKnown found mem dms next) (first_name d) (map first_name outputs ++ names) (inr (own.0, one)) (with_outputs found mem dms next last outputs names one own.1 each)
+-- the outputs' names are known
+outputs_known : (found : List Target) (mem dms next last : ℕ) (outputs : List DiskRowset) → 1 ≤ dms → RowsetsBelow (before next last) outputs → All (IsKnown found mem dms next) (map first_name outputs)
+outputs_known found mem dms next last [] one own = all_none (IsKnown found mem dms next)
+outputs_known found mem dms next last (d ∷ outputs) one own = all_cons (IsKnown found mem dms next) (first_name d) (map first_name outputs) (inr (own.0, one)) (outputs_known found mem dms next last outputs one own.1)
 
-over_known : (found : List Target) (mem dms next last frozen : ℕ) (outputs : List DiskRowset) (names : List Target) → 1 ≤ dms → RowsetsBelow (before next last) outputs → All (IsKnown found mem dms next) names → All (IsKnown found mem dms next) (over_to frozen (map first_name outputs) names)
-over_known found mem dms next last frozen outputs [] one own each = each
-over_known found mem dms next last frozen outputs (t ∷ names) one own each =
-    let P = IsKnown found mem dms next in
-    all_cons P t (map first_name outputs ++ drop frozen names) (all_head P t names each) (with_outputs found mem dms next last outputs (drop frozen names) one own (behind P frozen names (all_tail P t names each)))
+-- what holds of each name holds of those that are left, and of others behind them
+pub left_each : (P : Target → Type 0) (t : Takes) (names come : List Target) → All P names → All P come → All P (of_left t names names ++ come)
+left_each P t [] come each own = own
+left_each P t (n ∷ names) come each own = by (takes t n) (left_each P t names come (all_tail P n names each) own)
+  where
+    by : (b : Bool) → All P (of_left t names names ++ come) → All P (cond b (of_left t names names) (n ∷ of_left t names names) ++ come)
+    by true rest = rest
+    by false rest = all_cons P n (of_left t names names ++ come) (all_head P n names each) rest
 
--- its outputs take the place of those that are frozen
-pub near_over : (found names : List Target) (first next begun last frozen : ℕ) (outputs : List DiskRowset) (run : List Entry) → first_number (over_to frozen (map first_name outputs) names) ≡ first_number names → RowsetsBelow (before next last) outputs
-    → AreNear found names first next begun run → AreNear found (over_to frozen (map first_name outputs) names) first next begun run
-near_over found names first next begun last frozen outputs run e own is =
-    let over = over_to frozen (map first_name outputs) names in
+pub over_each : (P : Target → Type 0) (t : Takes) (names come : List Target) → All P names → All P come → All P (over_to t come names names)
+over_each P t [] come each own = each
+over_each P t (n ∷ names) come each own = all_cons P n (of_left t names names ++ come) (all_head P n names each) (left_each P t names come (all_tail P n names each) own)
+
+-- a job is over: its outputs stand behind what it has left
+pub near_over : (found names : List Target) (first next begun last : ℕ) (t : Takes) (outputs : List DiskRowset) (run : List Entry) → first_number (over_to t (map first_name outputs) names names) ≡ first_number names → RowsetsBelow (before next last) outputs
+    → AreNear found names first next begun run → AreNear found (over_to t (map first_name outputs) names names) first next begun run
+near_over found names first next begun last t outputs run e own is =
+    let over = over_to t (map first_name outputs) names names in
+    let P = IsKnown found (first_number names) (most_deltas first) next in
     record {
-      names_known = subst (λ (m : ℕ). All (IsKnown found m (most_deltas first) next) over) (sym e) (over_known found (first_number names) (most_deltas first) next last frozen outputs names (omega arith) own is.names_known);
+      names_known = subst (λ (m : ℕ). All (IsKnown found m (most_deltas first) next) over) (sym e) (over_each P t names (map first_name outputs) is.names_known (outputs_known found (first_number names) (most_deltas first) next last outputs (omega arith) own));
       run_known = subst (λ (m : ℕ). All (NamesEach (IsKnown found m (most_deltas first) next)) run) (sym e) is.run_known;
       mems = subst (λ (m : ℕ). m ≤ first_number found + begun) (sym e) is.mems;
       jobs = is.jobs;

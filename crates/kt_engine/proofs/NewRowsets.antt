@@ -1,5 +1,5 @@
 -- New disk rowsets of their files.
-use Rattle.std.proofs.Common.{◌≡◌, ℕ, ◌<◌, ◌+◌, true, List, [], ◌∷◌, ◌++◌, length, map, take, get_or, refl, sym, ap, ◌∙◌, subst}
+use Rattle.std.proofs.Common.{◌≡◌, ℕ, ◌<◌, ◌+◌, List, [], ◌∷◌, ◌++◌, length, map, take, get_or, refl, sym, ap, ◌∙◌, subst}
 use Rattle.std.specs.List.{AllByRecursion}
 use Rattle.std.proofs.lemmas.List.{take_more}
 use Rattle.kt_history.specs.declared.changes.Delta.{Delta as DeltaRecord}
@@ -105,10 +105,6 @@ each_empty pool [] [] o = tt
 each_empty pool [] (d ∷ ds) o = absurd o
 each_empty pool (m ∷ ms) [] o = absurd o
 each_empty pool (m ∷ ms) (d ∷ ds) o = (o.0.1.none pool, each_empty pool ms ds o.1)
-
-pub each_closed : (ds : List DiskRowSet) → AllByRecursion (λ (d : DiskRowSet). true ≡ true) ds
-each_closed [] = tt
-each_closed (d ∷ ds) = (refl, each_closed ds)
 
 -- so it is of what they are taken over as
 pub all_stand : (pool : Contents) (ms : List MetaRowset) (ds items : List DiskRowSet) → items ≡ ds → AreOutputs ms ds → AllByRecursion (λ (d : DiskRowSet). IsStore d pool) items

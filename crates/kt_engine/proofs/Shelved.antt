@@ -1,10 +1,10 @@
 -- The names of a tablet's stores: those of the MemRowSets by falling number, and behind them those of disk rowsets.
-use Rattle.std.proofs.Common.{◌≡◌, ℕ, zero, suc, ◌<◌, ◌≤◌, ◌+◌, ◌^◌, List, [], ◌∷◌, ◌++◌, map, take, drop, refl, sym, ap, subst, arith}
+use Rattle.std.proofs.Common.{◌≡◌, ℕ, zero, suc, ◌<◌, ◌≤◌, ◌+◌, ◌^◌, Bool, true, false, cond, List, [], ◌∷◌, ◌++◌, map, length, take, drop, sym, subst, arith}
 use Rattle.kt_history.specs.declared.target.Target.{Target}
 use Rattle.kt_history.specs.declared.target.Target.TheVariants.{Mem, Delta}
 use Rattle.kt_rowfiles.specs.Files.{DiskRowset}
 use Rattle.kt_content.specs.RunEvents.{Numbers, StoresBelow}
-use Rattle.kt_tablet.specs.Jobs.{over_to}
+use Rattle.kt_stores.specs.Takes.{Takes, takes, of_left, over_to}
 use Rattle.kt_engine.specs.Memory.{name_of}
 use Rattle.kt_engine.specs.Over.{first_name, AreLeft, AreRowsetNames, AreShelved}
 use Rattle.kt_engine.specs.JobSteps.{AreUpTo}
@@ -53,12 +53,37 @@ names_behind numbers (suc many) (Delta r n ∷ names) below = names_behind numbe
 
 -- ---- a job is over
 
-rowsets_front : (outputs : List DiskRowset) (names : List Target) → AreRowsetNames names → AreRowsetNames (map first_name outputs ++ names)
-rowsets_front [] names are = are
-rowsets_front (d ∷ outputs) names are = rowsets_front outputs names are
+rowsets_behind : (outputs : List DiskRowset) → AreRowsetNames (map first_name outputs)
+rowsets_behind [] = tt
+rowsets_behind (d ∷ outputs) = rowsets_behind outputs
 
--- the outputs stand in the place of the frozen ones
-pub over_shelved : (frozen : ℕ) (outputs : List DiskRowset) (names : List Target) → AreShelved (suc frozen) (2 ^ 64) names → AreShelved 1 (2 ^ 64) (over_to frozen (map first_name outputs) names)
-over_shelved frozen outputs [] are = absurd are
-over_shelved frozen outputs (Mem n ∷ names) are = (are.0, rowsets_front outputs (drop frozen names) (shelved_behind frozen n names are.1))
-over_shelved frozen outputs (Delta r n ∷ names) are = absurd are
+rowsets_left : (t : Takes) (outputs : List DiskRowset) (names : List Target) → AreRowsetNames names → AreRowsetNames (of_left t names names ++ map first_name outputs)
+rowsets_left t outputs [] are = rowsets_behind outputs
+rowsets_left t outputs (Mem n ∷ names) are = absurd are
+rowsets_left t outputs (Delta r n ∷ names) are = elim (takes t (Delta r n)) as (λ (b : Bool). AreRowsetNames (cond b (of_left t names names) (Delta r n ∷ of_left t names names) ++ map first_name outputs)) [
+  | true ↦ rowsets_left t outputs names are
+  | false ↦ rowsets_left t outputs names are
+]
+
+higher_shelved : (many low high : ℕ) (names : List Target) → low ≤ high → AreShelved many low names → AreShelved many high names
+higher_shelved zero low high names le are = are
+higher_shelved (suc many) low high [] le are = absurd are
+higher_shelved (suc many) low high (Mem n ∷ names) le are = (let lt = are.0 in omega arith, are.1)
+higher_shelved (suc many) low high (Delta r n ∷ names) le are = absurd are
+
+left_shelved : (t : Takes) (outputs : List DiskRowset) (many below : ℕ) (names : List Target) → AreShelved many below names
+    → AreShelved (length (of_left t (take many names) (take many names))) below (of_left t names names ++ map first_name outputs)
+left_shelved t outputs zero below names are = rowsets_left t outputs names are
+left_shelved t outputs (suc many) below [] are = absurd are
+left_shelved t outputs (suc many) below (Mem n ∷ names) are = elim (takes t (Mem n)) as (λ (b : Bool). AreShelved (length (cond b (of_left t (take many names) (take many names)) (Mem n ∷ of_left t (take many names) (take many names)))) below (cond b (of_left t names names) (Mem n ∷ of_left t names names) ++ map first_name outputs)) [
+  | true ↦ higher_shelved (length (of_left t (take many names) (take many names))) n below (of_left t names names ++ map first_name outputs) (let lt = are.0 in omega arith) (left_shelved t outputs many n names are.1)
+  | false ↦ (are.0, left_shelved t outputs many n names are.1)
+]
+left_shelved t outputs (suc many) below (Delta r n ∷ names) are = absurd are
+
+-- the outputs stand behind what is left
+pub over_shelved : (t : Takes) (frozen : ℕ) (outputs : List DiskRowset) (names : List Target) → AreShelved (suc frozen) (2 ^ 64) names
+    → AreShelved (suc (length (of_left t (take frozen (drop 1 names)) (take frozen (drop 1 names))))) (2 ^ 64) (over_to t (map first_name outputs) names names)
+over_shelved t frozen outputs [] are = absurd are
+over_shelved t frozen outputs (Mem n ∷ names) are = (are.0, left_shelved t outputs frozen n names are.1)
+over_shelved t frozen outputs (Delta r n ∷ names) are = absurd are

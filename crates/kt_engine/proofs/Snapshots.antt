@@ -1,6 +1,6 @@
 -- What a flush reads of the stores in memory.
 use Rattle.std.proofs.Common.{◌≡◌, ◌≤◌, ◌<◌, ◌^◌, ℕ, zero, suc, ◌+◌, min, Bool, true, false, List, [], ◌∷◌, ◌++◌, map, length, get_or, take, drop, Option, Some, None, refl, sym, ap, ◌∙◌, subst, arith, append_assoc, cond, inl}
-use Rattle.std.specs.Prelude.{IsTrue, nat_lt}
+use Rattle.std.specs.Prelude.{IsTrue}
 use Rattle.std.specs.List.{All, AllByRecursion}
 use Rattle.std.proofs.lemmas.Bool.{lt-ltb}
 use Rattle.std.proofs.lemmas.List.{map-append}
@@ -10,7 +10,7 @@ use Rattle.kt_history.specs.declared.target.Target.{Target}
 use Rattle.kt_history.specs.declared.target.Target.TheVariants.{Mem, Delta}
 use Rattle.kt_history.specs.Grown.{AllGrown}
 use Rattle.kt_history.specs.History.{Past}
-use Rattle.kt_history.specs.Stores.{Hist, Store, changes_upto, hist_in}
+use Rattle.kt_history.specs.Stores.{Hist, Store, hist_in}
 use Rattle.kt_history.specs.Machine.{least}
 use Rattle.kt_histlaws.specs.Core.{Core, Stands, flown_by}
 use Rattle.kt_histlaws.specs.Flights.{AllUnder}
@@ -27,7 +27,7 @@ use Rattle.kt_diskrowset.specs.declared.inputs.Inputs.{Inputs}
 use Rattle.kt_diskrowset.specs.Data.{store_in}
 use Rattle.kt_merge.specs.Changes.{rises, hist_in_changes}
 use Rattle.kt_merge.specs.Heads.{hist_upto}
-use Rattle.kt_merge.specs.Merge.{hists_upto, IsReadable, AreReadable, AreFaultless}
+use Rattle.kt_merge.specs.Merge.{IsReadable, AreReadable, AreFaultless}
 use Rattle.kt_reopen.specs.Both.{super_in}
 use Rattle.kt_joblaws.specs.Apart.{AreApart}
 use Rattle.kt_joblaws.proofs.InMemory.{memory_passes}
@@ -36,7 +36,6 @@ use Rattle.kt_joblaws.proofs.ListsRise.{they_rise}
 use Rattle.kt_joblaws.proofs.Read.{some_apart, no_fault}
 use Rattle.kt_joblaws.proofs.Standing.{stand_apart}
 use Rattle.kt_tablet.specs.Views.{View, Opens, IsSound}
-use Rattle.kt_tablet.specs.Jobs.{changes_in_memory}
 use Rattle.kt_engine.specs.Columns.{ReadsMemory}
 use Rattle.kt_engine.specs.Engines.{EngineView, IsContent, IsEngine, core_from}
 use Rattle.kt_engine.specs.Jobs.{over_by}
@@ -95,7 +94,7 @@ module _ {C : Type 0} (readings : C → Option (List ℕ)) (tablet : View C) (in
     stands : Stands (record tablet.core { first = first })
     stands = sound.stands first opens
 
-    pub tell_all : TellAll tablet tablet.core.c inputs
+    pub tell_all : TellAll tablet [] tablet.core.c inputs
     tell_all q =
         ap (λ (l : List RowSetData). map (hist_upto tablet.core.c) (map (hist_in_changes q) inputs.mems ++ map (λ (d : RowSetData). hist_in q (store_in d)) l)) reads.rowsets
         ∙ as_listed tablet.core.c q inputs.mems
@@ -153,7 +152,7 @@ module _ {L D C : Type 0} (log_tells : Bool) (log_seen : L → Files) (tells : B
   keeps : KeepsSince rules core published view.tablet.names view.tablet.notes view.records is.run view.log.known.count
   keeps =
       let o : Option ℕ → Option _ = λ n. over_at view.store.meta.number (over_by n view.upkeep) in
-      subst (λ (n : Option ℕ). KeepsSince rules (core_over (o n) view.tablet.frozen core) published (names_over (o n) view.tablet.frozen view.tablet.names) view.tablet.notes view.records is.run view.log.known.count) free
+      subst (λ (n : Option ℕ). KeepsSince rules (core_over (o n) view.tablet.names core) published (names_over (o n) view.tablet.names) view.tablet.notes view.records is.run view.log.known.count) free
       (is.keeps rules first content plan t published files)
 
   pub passing : TellPassing rules view.tablet.core.c view.tablet.core.a inputs
@@ -181,15 +180,15 @@ module _ {C : Type 0} (readings : C → Option (List ℕ)) (tablet : View C) (in
   abbrev here : ReadsMemory tablet tablet.core.c inputs
   here = subst (λ (n : ℕ). ReadsMemory tablet n inputs) last reads
 
-  pub input_is : mark ≡ min upto tablet.core.a → HasInput tablet inputs upto mark
-  input_is marked = record { bound_is = last; mark_is = marked; mems = reads.mems; rowsets = reads.rowsets; readable = readable readings tablet inputs here grown; few = reads.few }
+  pub input_is : mark ≡ min upto tablet.core.a → HasInput tablet [] inputs upto mark
+  input_is marked = record { bound_is = last; mark_is = marked; reads = (reads.mems, reads.rowsets); readable = readable readings tablet inputs here grown; few = reads.few }
 
   module _ (sound : IsSound readings tablet) (marked : mark ≡ min upto tablet.core.a) (first : Past) (opens : Opens tablet.opening tablet.mark tablet.core.opened first) where
     pub the_mark : mark ≡ tablet.core.a
     the_mark = marked ∙ ap (λ (n : ℕ). min n tablet.core.a) last ∙ mark_is readings tablet inputs here grown sound first opens
 
-    pub tells_all : TellAll tablet upto inputs
-    tells_all = subst (λ (n : ℕ). TellAll tablet n inputs) (sym last) (tell_all readings tablet inputs here grown sound first opens)
+    pub tells_all : TellAll tablet [] upto inputs
+    tells_all = subst (λ (n : ℕ). TellAll tablet [] n inputs) (sym last) (tell_all readings tablet inputs here grown sound first opens)
 
     pub without_fault : upto < 2 ^ 64 → AreFaultless (record { mark = mark; bound = upto }) inputs
     without_fault small =

@@ -189,11 +189,11 @@ line_since rules core super names notes records run durable e a c turns stopped 
 
 -- the stores of the tablet, where no job publishes
 module _ (rules : Rules) (core : Core) (super : Super) (names : List Target) (notes : List (List CommitRow)) (records run : List Entry) (durable frozen : ℕ) where
-  pub to_plain : (o : Option Over) → o ≡ None → KeepsSince rules (core_over o frozen core) super (names_over o frozen names) notes records run durable → KeepsSince rules core super names notes records run durable
+  pub to_plain : (o : Option Over) → o ≡ None → KeepsSince rules (core_over o names core) super (names_over o names) notes records run durable → KeepsSince rules core super names notes records run durable
   to_plain None e k = k
   to_plain (Some o) e k = absurd (let f : Some o ≡ None = e in cc)
 
-  pub of_plain : (o : Option Over) → o ≡ None → KeepsSince rules core super names notes records run durable → KeepsSince rules (core_over o frozen core) super (names_over o frozen names) notes records run durable
+  pub of_plain : (o : Option Over) → o ≡ None → KeepsSince rules core super names notes records run durable → KeepsSince rules (core_over o names core) super (names_over o names) notes records run durable
   of_plain None e k = k
   of_plain (Some o) e k = absurd (let f : Some o ≡ None = e in cc)
 
@@ -339,7 +339,7 @@ module _ {L D C : Type 0} (log_tells : Bool) (log_seen : L → Files) (tells : B
     count = is.count;
     stands = is.stands;
     keeps = λ rules first h plan t super one.
-        subst (λ (o : Option Over). KeepsSince rules (core_over o view.tablet.frozen (core_from view first)) super (names_over o view.tablet.frozen view.tablet.names) view.tablet.notes view.records is.run view.log.known.count) (sym (same one.meta one.one))
+        subst (λ (o : Option Over). KeepsSince rules (core_over o view.tablet.names (core_from view first)) super (names_over o view.tablet.names) view.tablet.notes view.records is.run view.log.known.count) (sym (same one.meta one.one))
         (is.keeps rules first (record { closed = h.closed; opens = h.opens; holds = h.holds }) plan t super (record { meta = one.meta; one = one.one; held = one.held; hold = one.hold; is = one.is }));
     below = is.below;
     names_below = is.names_below;

@@ -9,8 +9,9 @@ use Rattle.kt_diskrowset.specs.Rowset.{HeldFiles}
 use Rattle.kt_files.specs.Named.{Names}
 use Rattle.kt_files.specs.Reading.{HoldsRowset}
 use Rattle.kt_outputs.specs.InPlace.{entry_of}
+use Rattle.kt_stores.specs.Takes.{Takes, files_left}
 use Rattle.kt_tablet.specs.Jobs.{files_of, with_files}
-use Rattle.kt_engine.specs.Jobs.{JobView, UpkeepsView, job_of}
+use Rattle.kt_engine.specs.Jobs.{JobView, UpkeepsView, job_of, takes_of}
 
 -- ---- those of memory
 
@@ -27,14 +28,14 @@ abbrev pub job_at : ℕ → Option JobView → Option JobView
 job_at number None = None
 job_at number (Some job) = if nat_le job.super number then Some job else None
 
--- what memory has once a job is over: its outputs more, or what it wrote in the place of the files of its rowset
-abbrev pub files_by : Option RowSetData → List HeldFiles → List HeldFiles → List HeldFiles
-files_by None outputs files = outputs ++ files
-files_by (Some d) outputs files = with_files (held_in d) files
+-- what memory has once a job is over: its outputs behind the files that it leaves, or what it wrote in the place of the files of its rowset
+abbrev pub files_by : Option RowSetData → Takes → List HeldFiles → List HeldFiles → List HeldFiles
+files_by None t outputs files = files_left t files ++ outputs
+files_by (Some d) t outputs files = with_files (held_in d) files
 
 abbrev pub files_over : Option JobView → List HeldFiles → List HeldFiles
 files_over None files = files
-files_over (Some job) files = files_by job.output job.held files
+files_over (Some job) files = files_by job.output (takes_of job) job.held files
 
 -- ---- and those of a superblock
 

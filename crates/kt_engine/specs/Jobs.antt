@@ -16,6 +16,7 @@ use Rattle.kt_pick.specs.declared.rules.Want.TheVariants as want
 use Rattle.kt_diskrowset.specs.declared.data.RowSetData.{RowSetData}
 use Rattle.kt_diskrowset.specs.Rowset.{HeldFiles}
 use Rattle.kt_files.specs.Content.{rowsets_in}
+use Rattle.kt_stores.specs.Takes.{Takes, mems, rowsets}
 use Rattle.kt_tablet.specs.Views.{View}
 use Rattle.kt_tablet.specs.Jobs.{rows_in_first}
 use Rattle.kt_engine.specs.Over.{Over}
@@ -24,8 +25,8 @@ use Rattle.kt_engine.specs.declared.upkeep.Stage.TheVariants as stage
 
 -- ---- what a pass has
 
--- A job: its number, how far it has come, its bound and its mark; the last MemRowSet that it froze, how many records the log had as it began, and the first
--- rowset and file numbers that its turns may use; from its swap on its outputs, as a superblock names them and as their files have them, and how many disk rowsets
+-- A job: its number, how far it has come, its bound and its mark; the disk rowsets that it takes; the last MemRowSet that a flush froze, or the one that took inserts
+-- as a compaction began; how many records the log had as it began, and the first rowset and file numbers that its turns may use; from its swap on its outputs, as a superblock names them and as their files have them, and how many disk rowsets
 -- there is room for beside them; and from then on, as it publishes, the number of its superblock. Of a job on the files of one disk rowset the number of that, the
 -- last DeltaMemStore that it reads, and the rowset as it was written.
 pub record JobView : Type 0 where
@@ -34,6 +35,7 @@ pub record JobView : Type 0 where
   pub stage : Stage
   pub bound : ℕ
   pub mark : ℕ
+  pub taken : List ℕ
   pub last_mem : ℕ
   pub many : ℕ
   pub first_rowset : ℕ
@@ -45,6 +47,19 @@ pub record JobView : Type 0 where
   pub rowset : ℕ
   pub dms : ℕ
   pub output : Option RowSetData
+
+-- What a job takes once its superblock is published: disk rowsets, or the frozen MemRowSets where it has none
+abbrev pub takes_by : List ℕ → ℕ → Takes
+takes_by [] last = mems last
+takes_by (r ∷ taken) last = rowsets (r ∷ taken)
+
+abbrev pub takes_of : JobView → Takes
+takes_of job = takes_by job.taken job.last_mem
+
+-- the disk rowsets that a want takes: those of a compaction
+abbrev pub taken_by : Want → List ℕ
+taken_by (want.Compact taken) = taken
+taken_by _ = []
 
 -- how the last ask of a pass ended
 pub data Last : Type 0 where
@@ -153,7 +168,7 @@ pub record JobOn (records : List Entry) (job : JobView) : Type 0 where
 
 -- The outputs of the job that publishes, and the number of its superblock. A job on the files of one disk rowset has none: the stores in memory stay as they are
 abbrev pub over_for : Option RowSetData → JobView → Option Over
-over_for None job = Some (record { number = job.super; outputs = rowsets_in job.metas job.held })
+over_for None job = Some (record { number = job.super; takes = takes_of job; outputs = rowsets_in job.metas job.held })
 over_for (Some d) job = None
 
 abbrev pub over_of : Option JobView → Option Over

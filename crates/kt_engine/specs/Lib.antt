@@ -5,6 +5,7 @@ pub mod Over
 pub mod Jobs
 pub mod Outputs
 pub mod Upkeeps
+pub mod Stats
 pub mod Engines
 pub mod Sessions
 pub mod Visits

@@ -57,10 +57,10 @@ abbrev pub over : {L D C : Type 0} → EngineView L D C → Option Over
 over view = over_in view.upkeep
 
 abbrev pub core_at : {L D C : Type 0} → EngineView L D C → Meta → Core → Core
-core_at view m core = core_over (over_at m.number (over view)) view.tablet.frozen core
+core_at view m core = core_over (over_at m.number (over view)) view.tablet.names core
 
 abbrev pub names_at : {L D C : Type 0} → EngineView L D C → Meta → List Target
-names_at view m = names_over (over_at m.number (over view)) view.tablet.frozen view.tablet.names
+names_at view m = names_over (over_at m.number (over view)) view.tablet.names
 
 abbrev pub files_at : {L D C : Type 0} → EngineView L D C → Meta → List HeldFiles
 files_at view m = files_over (job_at m.number (publisher view.upkeep)) view.tablet.files
@@ -140,7 +140,7 @@ pub record HasFailed {L D C : Type 0} (log_faults : L → ℕ) (faults : D → �
 abbrev pub next_super : {L D C : Type 0} → EngineView L D C → Meta
 next_super view = next_meta view.store view.tablet.core.a view.tablet.core.c view.log.known.count
 
--- and that of a flush: the next one, with its outputs behind the rowsets that are published, and the last MemRowSet that they hold
+-- and that of a job: the next one without what it takes, and with its outputs behind the other rowsets
 abbrev pub job_meta : {L D C : Type 0} → EngineView L D C → JobView → Meta
 job_meta view job = with_outputs (Some job) (next_super view)
 

@@ -17,6 +17,7 @@ job_in w j = record {
   stage = j.stage;
   bound = j.bound;
   mark = j.mark;
+  taken = j.taken;
   last_mem = j.last_mem;
   many = j.many;
   first_rowset = j.first_rowset;

@@ -31,6 +31,7 @@ use kt_disk::Disk;
 use kt_diskrowset::RowSetData;
 use kt_outputs::named_rowset;
 use kt_pick::Want;
+use kt_policy::IdList;
 use kt_storeside::Lent;
 use kt_super::{Meta, MetaRowset, MetaRowsets};
 use kt_tablet::LookNo;
@@ -136,6 +137,7 @@ impl<L: Disk, D: Disk + Drop, C: Clock> Engine<L, D, C> {
             stage: Stage::Begun,
             bound: 0,
             mark: 0,
+            taken: IdList::of(Vec::new(alloc)),
             last_mem: 0,
             many: 0,
             first_rowset: 0,

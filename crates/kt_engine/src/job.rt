@@ -1,5 +1,5 @@
 //! The life of a job: it begins, its inputs are read, its outputs come, and it is finished or given up.
-ghost use Rattle.std.specs.Prelude.{◌≡◌, ◌≢◌, ◌≤◌, ◌<◌, ◌^◌, ◌+◌, ◌-◌, ◌⊎◌, ◌↔◌, ℕ, is_some, IsTrue, IfOk, IfErr, OnOk, OnErr, Ok, Err, Some, None, true, false, [], length, map, nat_le};
+ghost use Rattle.std.specs.Prelude.{◌≡◌, ◌≢◌, ◌≤◌, ◌<◌, ◌^◌, ◌+◌, ◌-◌, ◌⊎◌, ◌↔◌, ℕ, List, is_some, IsTrue, IfOk, IfErr, OnOk, OnErr, Ok, Err, Some, None, true, false, [], length, map, nat_le, vec_capacity};
 ghost use Rattle.std.specs.List.{AllByRecursion, sum_by};
 ghost use Rattle.kt_history.specs.History.{Past};
 ghost use Rattle.kt_content.specs.Rules.{Rules};
@@ -7,15 +7,18 @@ ghost use Rattle.kt_merge.specs.Merge.{AreFaultless};
 ghost use Rattle.kt_diskrowset.specs.Data.{held_in, files_in};
 ghost use Rattle.kt_diskrowset.specs.Rows.{UndosLeadBack};
 ghost use Rattle.kt_outputs.specs.Outputs.{meta_in};
-ghost use Rattle.kt_tablet.specs.Jobs.{changes_in_memory};
+ghost use Rattle.kt_tablet.specs.Jobs.{changes_in_memory, taken_stores, entries_in, MayChangeOver, HasChangedOver};
 ghost use Rattle.kt_schema.specs.Columns.{other_columns};
 ghost use Rattle.kt_baseset.specs.Rows.{AreShapes};
 ghost use Rattle.kt_joblaws.specs.Apart.{AreOfTable};
-ghost use Rattle.kt_engine.specs.Columns.{shape_of, ReadsMemory};
+ghost use Rattle.kt_diskrowset.specs.Rowset.{store_of, name_of, held_of};
+ghost use Rattle.kt_stores.specs.Leaving.{AreNew};
+ghost use Rattle.kt_stores.specs.Takes.{rowsets};
+ghost use Rattle.kt_engine.specs.Columns.{shape_of, ReadsMemory, ReadsRowsets, ReadsInputs};
 ghost use Rattle.kt_engine.specs.Engines.{IsFound, IsContent};
 ghost use Rattle.kt_engine.specs.Logged.{PlanPasses};
-ghost use Rattle.kt_engine.specs.Jobs.{JobView, IsAtStage, IsUnpublished, HasUpkeep, upkeep_at, job_of, asked_for_nothing, job_abandoned, first_flying, NoRows};
-ghost use Rattle.kt_engine.specs.JobSteps.{TellAll, TellPassing, running, first_holder, IsNothing, HasBegunJob, IsUntouched, AtNewStage, HasInput, HasSwapped, MayFinish, HasFinished};
+ghost use Rattle.kt_engine.specs.Jobs.{JobView, IsAtStage, IsUnpublished, HasUpkeep, upkeep_at, job_of, asked_for_nothing, job_abandoned, first_flying, NoRows, takes_by};
+ghost use Rattle.kt_engine.specs.JobSteps.{TellAll, TellPassing, running, first_holder, IsMerge, IsNothing, LacksOne, HasBegunJob, IsUntouched, AtNewStage, HasInput, HasSwapped, MayFinish, HasFinished};
 ghost use Rattle.kt_engine.specs.Upkeeps.{IsThere};
 ghost use Rattle.kt_engine.specs.Visits.{IsVisit};
 
@@ -23,16 +26,18 @@ use crate::engine::Engine;
 use crate::filled::filled;
 use crate::fitting::are_shapes;
 use crate::outputs::{JobOutputs, lead_back};
-use crate::upkeep::{Job, Stage, copy_want};
+use crate::telling::{all_told, have_many, tell_many};
+use crate::upkeep::{Job, Stage, copy_ids, copy_want};
 use kt_base::{Clock, NoMemory};
 use kt_baseset::{ColumnShape, Schema1};
 use kt_disk::Disk;
-use kt_diskrowset::{ChangeLists, Inputs, Missed, Outputs, RowSetList};
+use kt_diskrowset::{ChangeLists, DiskRowSet, Inputs, Missed, Outputs, RowSetList};
 use kt_history::ChangeList;
 use kt_outputs::MissedFiles;
 use kt_pick::Want;
+use kt_policy::IdList;
 use kt_super::Meta;
-use kt_tablet::LookNo;
+use kt_tablet::{LookNo, Tablet};
 use std::alloc::Global;
 use thiserror::Error;
 
@@ -133,6 +138,41 @@ fn are_many(lists: &[ChangeList]) -> bool
     count >= MANY_CHANGES
 }
 
+// What a job took of the stores of a tablet leaves while nothing flies: disk rowsets, or the frozen MemRowSets where it has none. Its outputs come behind the others.
+fn leave_to<C: Clock>(
+    tablet: &mut Tablet<DiskRowSet, C>,
+    taken: &[u64],
+    last: u64,
+    outputs: Vec<DiskRowSet>,
+    room: Vec<DiskRowSet>,
+)
+    requires calm { tablet.old.core.aloft ≡ [] }
+    requires outputs { AreNew tablet.old.pool outputs.items }
+    requires vacant { room.items ≡ [] }
+    requires room { length tablet.old.core.stores + length outputs.items ≤ vec_capacity room + tablet.old.frozen + 1 }
+    requires few { length tablet.old.core.stores + length outputs.items < 2 ^ 32 }
+    requires may { MayChangeOver tablet.old (takes_by taken.now last) (map (λ r. store_of r tablet.old.pool) outputs.items) }
+    ensures { HasChangedOver tablet.old tablet.new (takes_by taken.now last) (map (λ r. store_of r tablet.old.pool) outputs.items) (map name_of outputs.items) (map held_of outputs.items) }
+{
+    if taken.is_empty() {
+        tablet.change_over(last, outputs, room);
+    } else {
+        tablet.compact_over(taken, outputs, room);
+    }
+}
+
+// Whether one of these disk rowsets is not there.
+fn lacks_one<C: Clock>(tablet: &Tablet<DiskRowSet, C>, taken: &[u64]) -> bool
+    ensures { IsTrue result ↔ LacksOne taken.now tablet.now.names }
+{
+    'taken: for rowset in taken {
+        if tablet.dms_of(*rowset).is_none() {
+            return true;
+        }
+    }
+    false
+}
+
 // The columns of a table that are no key, as a base file has them.
 fn columns_of(alloc: Global, meta: &Meta) -> Result<Schema1, NoMemory>
     ensures { IfOk result (λ columns. columns ≡ map shape_of (other_columns meta.now.schema)) }
@@ -198,15 +238,33 @@ impl<L: Disk, D: Disk + Drop, C: Clock> Engine<L, D, C> {
         Ok(are_many(&lists))
     }
 
+    // Whether a compaction of these disk rowsets has none, lacks one, or has too much to read.
+    fn is_no_compaction(&self, alloc: Global, taken: &[u64]) -> Result<bool, NoMemory>
+        ensures { IfOk result (λ nothing. IsTrue nothing ↔ (taken.now ≡ []) ⊎ (LacksOne taken.now self.now.tablet.names ⊎ (2 ^ 31 ≤ entries_in (taken_stores (rowsets taken.now) self.now.tablet)))) }
+    {
+        if taken.is_empty() {
+            return Ok(true);
+        }
+        if lacks_one(&self.tablet, taken) {
+            return Ok(true);
+        }
+        let rowsets = self.tablet.read_taken(alloc, taken)?;
+        Ok(tell_many(&rowsets))
+    }
+
     // Whether there is nothing to do for a want.
     fn is_nothing(&self, alloc: Global, want: &Want) -> Result<bool, NoMemory>
-        requires flush { want.now ≡ Want.Flush }
+        requires merges { IsMerge want.now }
         ensures { IfOk result (λ nothing. IsTrue nothing ↔ IsNothing self.now want.now) }
     {
         if self.is_full() {
             return Ok(true);
         }
-        self.is_no_flush(alloc)
+        match want {
+            Want::Flush => self.is_no_flush(alloc),
+            Want::Compact(taken) => self.is_no_compaction(alloc, taken.as_slice()),
+            Want::FlushDeltas(_) | Want::Minor(_) | Want::Major(_) => unreachable!(),
+        }
     }
 
     // The changes of the stores in memory up to a time, each insert filled. For those that are not of the table there is no memory.
@@ -249,19 +307,52 @@ impl<L: Disk, D: Disk + Drop, C: Clock> Engine<L, D, C> {
         })
     }
 
-    // What a flush reads, while nothing flies and no job publishes.
-    fn read_memory(&self, alloc: Global) -> Result<JobInput, NoMemory>
+    // What a compaction reads: all that these disk rowsets have. For what is not of the table, or not in the order of its times, there is no memory.
+    fn compaction_inputs(&self, alloc: Global, taken: &[u64]) -> Result<Inputs, NoMemory>
+        ensures reads { IfOk result (ReadsRowsets self.now.tablet taken.now) }
+        ensures columns { IfOk result (λ inputs. inputs.columns ≡ map shape_of (other_columns self.now.store.meta.schema)) }
+    {
+        let columns = columns_of(alloc, self.store.meta())?;
+        if !are_shapes(columns.as_slice()) {
+            return Err(NoMemory);
+        }
+        let read = self.tablet.read_taken(alloc, taken)?;
+        let rowsets = all_told(alloc, &columns, read)?;
+        if have_many(&rowsets) {
+            return Err(NoMemory);
+        }
+        Ok(Inputs {
+            columns,
+            mems: ChangeLists::of(Vec::new(alloc)),
+            rowsets: RowSetList::of(rowsets),
+        })
+    }
+
+    // What a job reads as of a time: of disk rowsets, or of the MemRowSets where there are none.
+    fn inputs_of(&self, alloc: Global, taken: &[u64], upto: u64) -> Result<Inputs, NoMemory>
+        ensures reads { IfOk result (ReadsInputs self.now.tablet taken.now upto) }
+        ensures columns { IfOk result (λ inputs. inputs.columns ≡ map shape_of (other_columns self.now.store.meta.schema)) }
+    {
+        if taken.is_empty() {
+            self.flush_inputs(alloc, upto)
+        } else {
+            self.compaction_inputs(alloc, taken)
+        }
+    }
+
+    // What a job reads, while nothing flies and no job publishes.
+    fn read_inputs(&self, alloc: Global, taken: &[u64]) -> Result<JobInput, NoMemory>
         requires free { self.now.upkeep.publishing ≡ None }
         requires calm { self.now.tablet.core.aloft ≡ [] }
-        ensures read { IfOk result (λ input. HasInput self.now.tablet input.inputs input.bound input.mark) }
+        ensures read { IfOk result (λ input. HasInput self.now.tablet taken.now input.inputs input.bound input.mark) }
         ensures columns { IfOk result (λ input. input.inputs.columns ≡ map shape_of (other_columns self.now.store.meta.schema)) }
         ensures faultless { IfOk result (λ input. (first : Past) → IsFound self.now first → AreFaultless (record { mark = input.mark; bound = input.bound }) input.inputs) }
-        ensures tells { IfOk result (λ input. (first : Past) → IsFound self.now first → TellAll self.now.tablet input.bound input.inputs) }
+        ensures tells { IfOk result (λ input. (first : Past) → IsFound self.now first → TellAll self.now.tablet taken.now input.bound input.inputs) }
         ensures passes { IsTrue D.tells → IfOk result (λ input. (rules : Rules) (first : Past) → IsContent rules self.now first → PlanPasses rules self.now.tablet.core.work → TellPassing rules input.bound input.mark input.inputs) }
     {
         self.tablet.standing();
         let (a, c) = self.times();
-        let inputs = self.flush_inputs(alloc, c)?;
+        let inputs = self.inputs_of(alloc, taken, c)?;
         Ok(JobInput {
             bound: c,
             mark: c.min(a),
@@ -301,7 +392,7 @@ impl<L: Disk, D: Disk + Drop, C: Clock> Engine<L, D, C> {
         self.upkeep.say_nothing(number, asked);
     }
 
-    // Freezes the MemRowSet that takes inserts, and begins the flush that a pass asked for. It has a place.
+    // Begins the flush that a pass asked for. It has a place.
     fn begin_flush(&mut self, alloc: Global, number: u32, asked: Want) -> Result<u32, NoMemory>
         requires flush { asked ≡ Want.Flush }
         requires few { self.old.upkeep.begun < 2 ^ 24 }
@@ -321,6 +412,7 @@ impl<L: Disk, D: Disk + Drop, C: Clock> Engine<L, D, C> {
             stage: Stage::Begun,
             bound: 0,
             mark: 0,
+            taken: IdList::of(Vec::new(alloc)),
             last_mem: self.tablet.last_frozen(),
             many: self.log.count(),
             first_rowset,
@@ -331,14 +423,71 @@ impl<L: Disk, D: Disk + Drop, C: Clock> Engine<L, D, C> {
             dms: 0,
             output: None,
         };
+        self.tablet.standing();
         Ok(self.upkeep.begin(number, asked, job))
     }
 
-    /// Begins a job, whose inputs are held from now on. A flush freezes here. Where there is nothing to do that is told, and counts as an ask. Until jobs run in
-    /// two phases none begins while a job publishes. It is a flush: a job on the files of one disk rowset begins with `delta_begin`.
+    // Begins the compaction of these disk rowsets that a pass asked for. It has a place.
+    fn begin_compaction(&mut self, alloc: Global, number: u32, asked: Want, taken: IdList) -> u32
+        requires compacts { asked ≡ Want.Compact taken }
+        requires some { taken ≢ [] }
+        requires all_there { ¬ LacksOne taken self.old.tablet.names }
+        requires few { self.old.upkeep.begun < 2 ^ 24 }
+        requires last { self.old.store.next_rowset ≢ 2 ^ 64 - 1 }
+        requires there { IsThere number self.old.upkeep.passes }
+        requires free { self.old.upkeep.publishing ≡ None }
+        ensures { HasBegunJob self.old self.new number asked result }
+    {
+        // The rowsets that are published have numbers below those that are given now.
+        self.store.standing();
+        let (_, begun) = self.upkeep.counts();
+        let (first_rowset, first_file) = self.store.next_numbers();
+        let job = Job {
+            number: begun + 1,
+            stage: Stage::Begun,
+            bound: 0,
+            mark: 0,
+            taken,
+            last_mem: self.tablet.active_number(),
+            many: self.log.count(),
+            first_rowset,
+            first_file,
+            outputs: JobOutputs::none(alloc),
+            superblock: 0,
+            rowset: 0,
+            dms: 0,
+            output: None,
+        };
+        self.tablet.standing();
+        self.upkeep.begin(number, asked, job)
+    }
+
+    // Begins the job that a pass asked for. It has a place.
+    fn begin_job(&mut self, alloc: Global, number: u32, asked: Want) -> Result<u32, NoMemory>
+        requires merges { IsMerge asked }
+        requires few { self.old.upkeep.begun < 2 ^ 24 }
+        requires last { self.old.store.next_rowset ≢ 2 ^ 64 - 1 }
+        requires taken { (taken : List ℕ) → asked ≡ Want.Compact taken → (taken ≢ []) × ¬ LacksOne taken self.old.tablet.names }
+        requires there { IsThere number self.old.upkeep.passes }
+        requires free { self.old.upkeep.publishing ≡ None }
+        ensures begun { IfOk result (λ k. HasBegunJob self.old self.new number asked k) }
+        ensures same { OnErr result (self.new ≡ self.old) }
+    {
+        match &asked {
+            Want::Flush => self.begin_flush(alloc, number, asked),
+            Want::Compact(rowsets) => {
+                let taken = copy_ids(alloc, rowsets)?;
+                Ok(self.begin_compaction(alloc, number, asked, taken))
+            }
+            Want::FlushDeltas(_) | Want::Minor(_) | Want::Major(_) => unreachable!(),
+        }
+    }
+
+    /// Begins a flush or a compaction, whose inputs are held from now on. A flush freezes here. Where there is nothing to do that is told, and counts as an ask.
+    /// Until jobs run in two phases none begins while a job publishes. A job on the files of one disk rowset begins with `delta_begin`.
     pub fn job_begin(&mut self, alloc: Global, number: u32, want: &Want) -> Result<u32, JobNo>
         requires none { job_of number self.old.upkeep ≡ None }
-        requires flush { want.now ≡ Want.Flush }
+        requires merges { IsMerge want.now }
         ensures visit { IsVisit number self.old self.new }
         ensures line { self.new.tablet.core.trail ≡ self.old.tablet.core.trail }
         ensures begun { IfOk result (λ k. HasBegunJob self.old self.new number want.now k) }
@@ -369,7 +518,7 @@ impl<L: Disk, D: Disk + Drop, C: Clock> Engine<L, D, C> {
         if publishing {
             return Err(JobNo::Memory);
         }
-        Ok(self.begin_flush(alloc, number, asked)?)
+        Ok(self.begin_job(alloc, number, asked)?)
     }
 
     /// Hands out what the job reads, once nothing flies.
@@ -377,10 +526,11 @@ impl<L: Disk, D: Disk + Drop, C: Clock> Engine<L, D, C> {
         requires free { self.old.upkeep.publishing ≡ None }
         requires stage { (job : JobView) × IsAtStage self.old.upkeep number Stage.Begun job }
         ensures visit { IsVisit number self.old self.new }
-        ensures read { IfOk result (λ input. HasInput self.old.tablet input.inputs input.bound input.mark × (input.inputs.columns ≡ map shape_of (other_columns self.old.store.meta.schema))
-            × ((job : JobView) → job_of number self.old.upkeep ≡ Some job → AtNewStage number (record job { stage = Stage.Read; bound = input.bound; mark = input.mark }) self.old self.new)) }
+        ensures read { IfOk result (λ input. (job : JobView) → job_of number self.old.upkeep ≡ Some job → HasInput self.old.tablet job.taken input.inputs input.bound input.mark
+            × AtNewStage number (record job { stage = Stage.Read; bound = input.bound; mark = input.mark }) self.old self.new) }
+        ensures columns { IfOk result (λ input. input.inputs.columns ≡ map shape_of (other_columns self.old.store.meta.schema)) }
         ensures faultless { IfOk result (λ input. (first : Past) → IsFound self.old first → AreFaultless (record { mark = input.mark; bound = input.bound }) input.inputs) }
-        ensures tells { IfOk result (λ input. (first : Past) → IsFound self.old first → TellAll self.old.tablet input.bound input.inputs) }
+        ensures tells { IfOk result (λ input. (job : JobView) (first : Past) → job_of number self.old.upkeep ≡ Some job → IsFound self.old first → TellAll self.old.tablet job.taken input.bound input.inputs) }
         ensures passes { IsTrue D.tells → IfOk result (λ input. (rules : Rules) (first : Past) → IsContent rules self.old first → PlanPasses rules self.old.tablet.core.work → TellPassing rules input.bound input.mark input.inputs) }
         ensures waits { (ts : ℕ) → result ≡ Err (JobWait.NotYet ts) ↔ (self.old.tablet.core.stopped ≡ false) × (first_flying self.old.tablet ≡ Some ts) }
         ensures stopped { result ≡ Err JobWait.Stopped ↔ self.old.tablet.core.stopped ≡ true }
@@ -392,7 +542,10 @@ impl<L: Disk, D: Disk + Drop, C: Clock> Engine<L, D, C> {
         if let Some(ts) = self.tablet.least_flying() {
             return Err(JobWait::NotYet { ts });
         }
-        let input = self.read_memory(alloc)?;
+        let Some(job) = self.upkeep.job(number) else {
+            return Err(JobWait::Memory);
+        };
+        let input = self.read_inputs(alloc, job.taken.as_slice())?;
         self.upkeep.read(number, input.bound, input.mark);
         Ok(input)
     }
@@ -467,7 +620,7 @@ impl<L: Disk, D: Disk + Drop, C: Clock> Engine<L, D, C> {
         Ok(())
     }
 
-    /// The outputs take the place of the frozen MemRowSets. The job's superblock is published. It takes no memory.
+    /// What the job took leaves, and its outputs come behind the other stores. Its superblock is published. It takes no memory.
     pub fn job_finish(&mut self, number: u32)
         requires may { (job : JobView) × (job_of number self.old.upkeep ≡ Some job) × MayFinish self.old number job }
         ensures visit { IsVisit number self.old self.new }
@@ -478,7 +631,9 @@ impl<L: Disk, D: Disk + Drop, C: Clock> Engine<L, D, C> {
         let Some(job) = self.upkeep.finish(number) else {
             return;
         };
-        self.tablet.change_over(job.outputs.into_rowsets());
+        let (rowsets, room) = job.outputs.into_parts();
+        let taken = job.taken.as_slice();
+        leave_to(&mut self.tablet, taken, job.last_mem, rowsets, room);
     }
 
     /// Gives a job up, whose superblock is neither published nor lent. What it froze stays frozen. It takes no memory.

@@ -18,7 +18,9 @@ mod running;
 pub mod scan;
 pub mod session;
 pub mod shared;
+pub mod stats;
 pub mod store;
+mod telling;
 pub mod upkeep;
 pub mod write;
 

@@ -14,22 +14,24 @@ use kt_super::MetaRowset;
 use std::alloc::Global;
 use std::marker::Model;
 
-/// Disk rowsets without a change in memory, and these as a superblock names them, in the same order. Contracts see both, and how many of the first there is room for.
+/// Disk rowsets without a change in memory, and these as a superblock names them, in the same order, with an empty vector for them and others. Contracts see the
+/// first two, and how many the last has room for.
 #[derive(Drop)]
 pub struct JobOutputs {
     rowsets: Vec<DiskRowSet>,
     metas: Vec<MetaRowset>,
+    room: Vec<DiskRowSet>,
 }
 
 impl Model for JobOutputs {
-    ghost use Rattle.std.specs.Prelude.{vec_capacity};
+    ghost use Rattle.std.specs.Prelude.{◌≡◌, [], vec_capacity};
     ghost use Rattle.kt_engine.specs.Outputs.{OutputsView, AreOutputs};
 
     ghost Value = { OutputsView };
 
-    ghost view = { λ o. record { rowsets = o.rowsets.items; metas = o.metas.items; room = vec_capacity o.rowsets } };
+    ghost view = { λ o. record { rowsets = o.rowsets.items; metas = o.metas.items; room = vec_capacity o.room } };
 
-    ghost invariant = { λ o. AreOutputs o.metas.items o.rowsets.items };
+    ghost invariant = { λ o. AreOutputs o.metas.items o.rowsets.items × (o.room.items ≡ []) };
 }
 
 // New disk rowsets as a superblock names them.
@@ -55,20 +57,27 @@ pub fn lead_back(alloc: Global, rowsets: &[RowSetData]) -> Result<bool, NoMemory
     Ok(true)
 }
 
-// New disk rowsets, each with a DeltaMemStore of number 1, and room for so many others.
-fn made(alloc: Global, rowsets: Vec<RowSetData>, others: usize) -> Result<Vec<DiskRowSet>, NoMemory>
+// New disk rowsets, each with a DeltaMemStore of number 1.
+fn made(alloc: Global, rowsets: Vec<RowSetData>) -> Result<Vec<DiskRowSet>, NoMemory>
     requires lead { AllByRecursion (λ d. UndosLeadBack (files_in d)) rowsets.items }
     requires fresh { AllByRecursion (λ d. d.fresh ≡ []) rowsets.items }
     ensures made { IfOk result (λ made. AreMade rowsets.items made.items) }
-    ensures room { IfOk result (λ made. others + length rowsets.items ≤ vec_capacity made) }
 {
-    let room = rowsets.len().checked_add(others).ok_or(NoMemory)?;
-    let mut made = Vec::with_capacity(alloc, room)?;
+    let mut made = Vec::with_capacity(alloc, rowsets.len())?;
     let mut rest = rowsets.into_iter();
     'rest: while let Some(rowset) = rest.next() {
         made.push_reserved(DiskRowSet::of(alloc, rowset, 1));
     }
     Ok(made)
+}
+
+// An empty vector with room for so many disk rowsets and so many others.
+fn room_for(alloc: Global, count: usize, others: usize) -> Result<Vec<DiskRowSet>, NoMemory>
+    ensures none { IfOk result (λ room. room.items ≡ []) }
+    ensures room { IfOk result (λ room. others + count ≤ vec_capacity room) }
+{
+    let room = count.checked_add(others).ok_or(NoMemory)?;
+    Ok(Vec::with_capacity(alloc, room)?)
 }
 
 impl JobOutputs {
@@ -79,6 +88,7 @@ impl JobOutputs {
         JobOutputs {
             rowsets: Vec::new(alloc),
             metas: Vec::new(alloc),
+            room: Vec::new(alloc),
         }
     }
 
@@ -91,8 +101,13 @@ impl JobOutputs {
         ensures room { IfOk result (λ made. others + length outputs.rowsets ≤ made.room) }
     {
         let metas = metas_of(alloc, outputs.rowsets.as_slice())?;
-        let rowsets = made(alloc, outputs.rowsets.into_vec(), others)?;
-        Ok(JobOutputs { rowsets, metas })
+        let room = room_for(alloc, outputs.rowsets.len(), others)?;
+        let rowsets = made(alloc, outputs.rowsets.into_vec())?;
+        Ok(JobOutputs {
+            rowsets,
+            metas,
+            room,
+        })
     }
 
     /// How many there are.
@@ -109,12 +124,12 @@ impl JobOutputs {
         &self.metas
     }
 
-    /// The disk rowsets, which stand in each pool as their files have them.
-    pub fn into_rowsets(self) -> Vec<DiskRowSet>
-        ensures rowsets { result.items ≡ self.rowsets }
-        ensures room { vec_capacity result ≡ self.room }
+    /// The disk rowsets, which stand in each pool as their files have them, and the empty vector.
+    pub fn into_parts(self) -> (Vec<DiskRowSet>, Vec<DiskRowSet>)
+        ensures rowsets { result.0.items ≡ self.rowsets }
+        ensures room { (result.1.items ≡ []) × (vec_capacity result.1 ≡ self.room) }
         ensures stand { AreOutputs self.metas self.rowsets }
     {
-        self.rowsets
+        (self.rowsets, self.room)
     }
 }

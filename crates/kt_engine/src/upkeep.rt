@@ -53,7 +53,9 @@ pub struct Job {
     pub stage: Stage,
     pub bound: u64,
     pub mark: u64,
-    /// The last MemRowSet that a flush writes.
+    /// The disk rowsets that a compaction takes.
+    pub taken: IdList,
+    /// The last MemRowSet that a flush writes, or the one that took inserts as a compaction began.
     pub last_mem: u64,
     /// How many records the log had as it began.
     pub many: u64,

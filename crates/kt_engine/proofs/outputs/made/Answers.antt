@@ -25,13 +25,9 @@ rest-preserved c =
       lead = lead.1;
       fresh = fresh.1;
       room = (let a = ap length c.push_reserved.ensures.items in let n = length-append c.rest.made.items (c.of.result ∷ []) in let b = ap length items in let r = c.rest.invariant.room in let k = c.push_reserved.ensures.capacity in omega arith);
-      others = (let a = c.rest.invariant.others in let k = c.push_reserved.ensures.capacity in omega arith);
       made = (
         was.0 ++ x ∷ [],
         was.1 ∙ ap (λ (l : List RowSetData). was.0 ++ l) items ∙ sym (append_assoc was.0 (x ∷ []) after),
         subst (AreMade (was.0 ++ x ∷ [])) (sym c.push_reserved.ensures.items) (made_more was.0 x c.rest.made.items c.of.result was.2 c.of.ensures.held (made_bare x c.of.result fresh.0 c.of.ensures.held c.of.ensures.stands c.of.ensures.store c.of.ensures.bare c.of.ensures.none c.of.ensures.name)),
       );
     }
-
-pub returns-clause-room : goal.returns-clause-room
-returns-clause-room c = c.rest.invariant.others

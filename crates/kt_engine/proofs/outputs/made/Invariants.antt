@@ -13,7 +13,6 @@ invariant-rest l = record {
   lead : AllByRecursion (λ d. UndosLeadBack (files_in d)) (into_iter_items l.rest);
   fresh : AllByRecursion (λ d. d.fresh ≡ []) (into_iter_items l.rest);
   room : length l.made.items + length (into_iter_items l.rest) ≤ vec_capacity l.made;
-  others : l.fn.others + length l.fn.rowsets.items ≤ vec_capacity l.made;
   made : (front : List RowSetData) × (l.fn.rowsets.items ≡ front ++ into_iter_items l.rest) × AreMade front l.made.items;
 }
 

@@ -1,8 +1,11 @@
-use Rattle.std.proofs.Common.{◌≡◌, ◌∙◌, [], ap, sym, subst}
+use Rattle.std.proofs.Common.{◌≡◌, ◌∙◌, ℕ, List, [], refl, ap, sym, subst}
 use Rattle.kt_tablet.specs.Views.{View}
 use Rattle.kt_engine.specs.Engines.{EngineView}
 use Rattle.kt_engine.specs.declared.upkeep.Stage.TheVariants as stage
+use Rattle.kt_engine.specs.Jobs.{JobView}
+use Rattle.kt_engine.specs.JobSteps.{HasInput, TellAll}
 use Rattle.kt_engine.proofs.JobBoth.{further_both}
+use Rattle.kt_engine.proofs.JobMetas.{same_job}
 use Rattle.kt_engine.proofs.Snapshots.{none_aloft}
 use Rattle.kt_engine.proofs.Visiting.{visit_of, upkeep_visit}
 use Rattle.kt_engine.proofs.engine.Engine.job_snapshot.Goals as goal
@@ -23,7 +26,24 @@ returns-clause-visit g c =
     let job = rw (sym c.self.view_is) at c.requires.stage in
     visit_of _ _ _ _ c.self.view_is (upkeep_visit c.args.number _ _ c.read.new.self (c.read.ensures.own job.0 job.1.has))
 
-pub read_memory-requires-clause-calm : goal.read_memory-requires-clause-calm
-read_memory-requires-clause-calm g c =
+pub read_inputs-requires-clause-calm : goal.read_inputs-requires-clause-calm
+read_inputs-requires-clause-calm g c =
     let tab : c.deref-2.result.now ≡ c.args.self.now.tablet = c.deref-2.ensures ∙ ap (λ (v : EngineView g.row.L.Denot g.row.D.Denot g.row.C.Denot). v.tablet) c.self.view_is in
     subst (λ (t : View g.row.C.Denot). t.core.aloft ≡ []) tab (none_aloft c.deref-2.result.now.core.aloft (sym c.least_flying.ensures ∙ c.in_default.is))
+
+-- what the job takes is what was read
+pub returns-clause-read : goal.returns-clause-read
+returns-clause-read g c =
+    let old = sym c.self.view_is in
+    let read = rw old at c.in_ok-input.ensures.read in
+    rw old (λ job at.
+    let taken_is : c.as_slice.result.now ≡ job.taken = c.as_slice.ensures ∙ ap (λ (j : JobView). j.taken) (same_job c.in-Some-job.ensures.0 c.in-Some-job.job.now job _ c.in-Some-job.ensures.1 at) in
+    (subst (λ (l : List ℕ). HasInput c.self.inside.tablet.value l c.in_ok-input.input.inputs c.in_ok-input.input.bound c.in_ok-input.input.mark) taken_is read, record { upkeep = c.read.ensures.own job at; begun = c.read.ensures.begun; beside = refl }))
+
+pub returns-clause-tells : goal.returns-clause-tells
+returns-clause-tells g c =
+    let old = sym c.self.view_is in
+    let tells = rw old at c.in_ok-input.ensures.tells in
+    rw old (λ job first at opens.
+    let taken_is : c.as_slice.result.now ≡ job.taken = c.as_slice.ensures ∙ ap (λ (j : JobView). j.taken) (same_job c.in-Some-job.ensures.0 c.in-Some-job.job.now job _ c.in-Some-job.ensures.1 at) in
+    subst (λ (l : List ℕ). TellAll c.self.inside.tablet.value l c.in_ok-input.input.bound c.in_ok-input.input.inputs) taken_is (tells first opens))

@@ -19,7 +19,7 @@ invariant_of-self g c =
       upkeep_keeps g.L.Disk.tells g.L.Disk.seen g.L.Disk.now g.L.Disk.leaves g.L.Disk.faults _ c.publish.new.self (λ none. sym c.publish.ensures.begun.0 ∙ none)
           (store_keeps g.L.Disk.tells g.L.Disk.seen g.L.Disk.now g.L.Disk.leaves g.L.Disk.faults _ c.lend-lent.new.self (ap (λ s. s.whole) store) c.self.invariant.0),
       job_lent_as g.L.Disk.tells g.L.Disk.seen g.D.Disk.tells g.D.Disk.seen g.D.Disk.now g.D.Disk.leaves g.D.Disk.faults _ c.self.invariant.1 side c.args.number job.0 c.publish.new.self job.1 job.2
-          (rw old at c.requires.settled) (rw old at c.requires.free) (rw c.deref.ensures at c.standing.ensures.sound.stands) (rw c.deref.ensures at c.standing.ensures.named) (record { upkeep = lent; begun = c.publish.ensures.begun }) c.lend-lent.new.self c.args.meta job.3 store,
+          (rw old at c.requires.settled) (rw old at c.requires.free) (rw c.deref.ensures at c.standing.ensures.sound.stands) (rw c.deref.ensures at c.standing.ensures.named) c.self.invariant.0.ready.shelved (record { upkeep = lent; begun = c.publish.ensures.begun }) c.lend-lent.new.self c.args.meta job.3 store,
     )
 
 pub publish-requires : goal.publish-requires

@@ -8,7 +8,7 @@ use Rattle.kt_engine.proofs.outputs.JobOutputs.of.Goals as goal
 pub invariant_of-result : goal.invariant_of-result
 invariant_of-result c =
     let made = subst (λ (xs : List RowSetData). AreMade xs c.in_ok-rowsets.rowsets.items) c.into_vec.ensures c.in_ok-rowsets.ensures.made in
-    subst (λ (ms : List MetaRowset). AreOutputs ms c.in_ok-rowsets.rowsets.items) (sym (c.in_ok-metas.ensures ∙ ap (map _) c.as_slice.ensures)) (made_outputs c.args.outputs.rowsets c.in_ok-rowsets.rowsets.items made)
+    (subst (λ (ms : List MetaRowset). AreOutputs ms c.in_ok-rowsets.rowsets.items) (sym (c.in_ok-metas.ensures ∙ ap (map _) c.as_slice.ensures)) (made_outputs c.args.outputs.rowsets c.in_ok-rowsets.rowsets.items made), c.in_ok-room.ensures.none)
 
 pub returns-clause-held : goal.returns-clause-held
 returns-clause-held c =
