@@ -4,16 +4,13 @@ use Rattle.std.proofs.lemmas.List.{append-nil, append_assoc}
 use Rattle.kt_seatlock.specs.Trails.{Each}
 use Rattle.std.specs.Prelude.{◌==◌, ◌^◌, ◌-◌}
 use Rattle.kt_base.specs.declared.chore.Chore.{Chore}
-use Rattle.kt_base.specs.declared.chore.Chore.TheVariants as chore
 use Rattle.kt_history.specs.declared.event.Event.{Event}
 use Rattle.kt_history.specs.declared.event.Event.TheVariants as event
 use Rattle.kt_records.specs.declared.entry.Entry.{Entry}
-use Rattle.kt_histlaws.specs.Parts.{part}
 use Rattle.kt_pick.specs.declared.rules.Want.{Want}
-use Rattle.kt_pick.specs.declared.rules.Want.TheVariants as want
 use Rattle.kt_engine.specs.Engines.{EngineView, TellsStop}
 use Rattle.kt_engine.specs.Visits.{PartView, part_in, out_of, session_of, IsVisit}
-use Rattle.kt_engine.specs.Calls.{SeesOthers, HasNoDevice, StandsStill, HasDone}
+use Rattle.kt_engine.specs.Calls.{SeesOthers, HasNoDevice, StandsStill}
 use Rattle.kt_engine.specs.Jobs.{UpkeepView, Last, HasUpkeep, upkeep_at, finished, nothing, more, without_want}
 use Rattle.kt_engine.specs.Rounds.{round_of}
 use Rattle.kt_engine.proofs.Visiting.{root_stays}

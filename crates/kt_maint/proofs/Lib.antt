@@ -7,6 +7,7 @@ pub mod Coming
 pub mod Kept
 pub mod DeltaSteps
 pub mod Stages
+pub mod Begun
 pub mod Merged
 pub mod Written
 pub mod Calling

@@ -1,6 +1,6 @@
--- What was merged of the stores in memory holds the frozen ones.
-use Rattle.std.proofs.Common.{◌≡◌, ◌≤◌, ℕ, zero, suc, List, [], ◌∷◌, map, take, drop, refl, sym, ap, subst}
-use Rattle.std.specs.Prelude.{◌<◌, ◌^◌, Bool, IsTrue}
+-- What was merged holds what the job takes.
+use Rattle.std.proofs.Common.{◌≡◌, ◌≤◌, ℕ, zero, suc, List, [], ◌∷◌, map, length, take, drop, refl, sym, ap, subst}
+use Rattle.std.specs.Prelude.{◌≢◌, ◌<◌, ◌^◌, Bool, IsTrue}
 use Rattle.std.specs.List.{AllByRecursion}
 use Rattle.std.proofs.Math.Nat.{min-le_right}
 use Rattle.kt_history.specs.History.{Past}
@@ -21,11 +21,14 @@ use Rattle.kt_merge.specs.Merge.{hists_upto, hists_written, AreFaultless, HaveEa
 use Rattle.kt_merge.specs.Told.{AreFilesOver, IsOutput, AreOutputs, told_by_all}
 use Rattle.kt_outputs.specs.Outputs.{AreOfWay, AreWhole}
 use Rattle.kt_joblaws.specs.Outputs.{outputs_pass, marks_may_rise}
-use Rattle.kt_tablet.specs.Views.{View}
-use Rattle.kt_tablet.specs.Jobs.{frozen_stores, rows_in_first}
+use Rattle.kt_tablet.specs.Jobs.{taken_stores, rows_in_first}
+use Rattle.kt_pick.specs.declared.rules.Want.{Want}
+use Rattle.kt_pick.specs.declared.rules.Want.TheVariants as want
+use Rattle.kt_engine.specs.Jobs.{JobView, takes_by, takes_of}
+use Rattle.kt_engine.proofs.JobOut.{frozen_are_taken}
 use Rattle.kt_engine.specs.Engines.{EngineView, IsFound, IsContent}
 use Rattle.kt_engine.specs.Logged.{PlanPasses}
-use Rattle.kt_engine.specs.JobSteps.{HasInput, TellAll, TellPassing, HoldInputs}
+use Rattle.kt_engine.specs.JobSteps.{HasInput, TellAll, TellPassing, HoldInputs, TakesFrozen, TakesInputs, TakesBy, stores_read}
 use Rattle.kt_maint.specs.Runs.{HoldsMerged}
 
 -- ---- the outputs
@@ -54,14 +57,40 @@ without_first a n q (s ∷ stores) zs none h =
     let bare = subst (λ (x : Store). AreAlike a (hist_in q x ∷ hists q (take n stores)) zs) none h in
     record { rows = bare.rows; steps = bare.steps; one_row = bare.one_row; one_step = bare.one_step }
 
-merged_hold : {C : Type 0} (rise : marks_may_rise) (tablet : View C) (inputs : Inputs) (bound mark : ℕ) (outputs : List RowSetData) → rows_in_first tablet.core.stores ≡ [] → TellAll tablet bound inputs → mark ≤ tablet.core.a
-    → ((q : List ℕ) → AreAlike mark (hists_upto bound q inputs) (hists_written q outputs)) → ((q : List ℕ) → AreSound mark (hists_written q outputs)) → HoldInputs tablet (map files_in outputs)
-merged_hold rise tablet inputs bound mark outputs none tell low alike sound = record {
+-- what is alike to what a job read is so to what it takes
+module _ {L D C : Type 0} (v : EngineView L D C) (job : JobView) (takes : TakesInputs v job) (as_many : length v.tablet.names ≡ length v.tablet.core.stores) (q : List ℕ) (zs : List Hist) where
+  abbrev TakesIn : List ℕ → Type 0
+  TakesIn taken = AreAlike v.tablet.core.a (hists q (stores_read v.tablet taken)) zs → AreAlike v.tablet.core.a (hists q (taken_stores (takes_by taken job.last_mem) v.tablet)) zs
+
+  -- of a flush
+  flush_takes : TakesFrozen v job → TakesIn []
+  flush_takes f h =
+      subst (λ (ss : List Store). AreAlike v.tablet.core.a (hists q ss) zs) (sym (frozen_are_taken v.tablet job.last_mem job.first_rowset f.frozen takes.left as_many))
+      (without_first v.tablet.core.a v.tablet.frozen q v.tablet.core.stores zs f.vacant h)
+
+  -- of a compaction
+  rowsets_take : (taken : List ℕ) → taken ≢ [] → TakesIn taken
+  rowsets_take [] some h = absurd (some refl)
+  rowsets_take (r ∷ taken) some h = h
+
+  pub takes_alike : TakesIn job.taken
+  takes_alike = by job.want takes.takes
+    where
+      by : (w : Want) → TakesBy v job w → TakesIn job.taken
+      by want.Flush f = subst TakesIn (sym f.none) (flush_takes f)
+      by (want.Compact asked) c = rowsets_take job.taken c.1.some
+      by (want.FlushDeltas r) never = absurd never
+      by (want.Minor r) never = absurd never
+      by (want.Major r) never = absurd never
+
+merged_hold : {L D C : Type 0} (rise : marks_may_rise) (v : EngineView L D C) (job : JobView) → TakesInputs v job → length v.tablet.names ≡ length v.tablet.core.stores → (inputs : Inputs) (bound mark : ℕ) (outputs : List RowSetData) → TellAll v.tablet job.taken bound inputs → mark ≤ v.tablet.core.a
+    → ((q : List ℕ) → AreAlike mark (hists_upto bound q inputs) (hists_written q outputs)) → ((q : List ℕ) → AreSound mark (hists_written q outputs)) → HoldInputs v.tablet (takes_of job) (map files_in outputs)
+merged_hold rise v job takes as_many inputs bound mark outputs tell low alike sound = record {
   alike = λ q.
-      let later = (rise mark tablet.core.a (hists_upto bound q inputs) (hists_written q outputs) low).0 (alike q) in
-      subst (AreAlike tablet.core.a (hists q (frozen_stores tablet))) (written_is q outputs)
-      (without_first tablet.core.a tablet.frozen q tablet.core.stores (hists_written q outputs) none (subst (λ (l : List Hist). AreAlike tablet.core.a l (hists_written q outputs)) (tell q) later));
-  sound = λ q. subst (AreSound tablet.core.a) (written_is q outputs) ((rise mark tablet.core.a (hists_upto bound q inputs) (hists_written q outputs) low).1 (sound q));
+      let later = (rise mark v.tablet.core.a (hists_upto bound q inputs) (hists_written q outputs) low).0 (alike q) in
+      subst (AreAlike v.tablet.core.a (hists q (taken_stores (takes_of job) v.tablet))) (written_is q outputs)
+      (takes_alike v job takes as_many q (hists_written q outputs) (subst (λ (l : List Hist). AreAlike v.tablet.core.a l (hists_written q outputs)) (tell q) later));
+  sound = λ q. subst (AreSound v.tablet.core.a) (written_is q outputs) ((rise mark v.tablet.core.a (hists_upto bound q inputs) (hists_written q outputs) low).1 (sound q));
 }
 
 -- ---- so it is of an engine that has come further
@@ -70,15 +99,15 @@ module _ {L D C : Type 0} (tells : Bool) (a b : EngineView L D C) (inputs : Inpu
   abbrev span : Span
   span = record { mark = mark; bound = bound }
 
-  pub holds_merged : marks_may_rise → outputs_pass → b ≡ record a { upkeep = b.upkeep } → rows_in_first a.tablet.core.stores ≡ [] → HasInput a.tablet inputs bound mark → mark < 2 ^ 64
-      → ((first : Past) → IsFound a first → AreFaultless span inputs) → ((first : Past) → IsFound a first → TellAll a.tablet bound inputs)
+  pub holds_merged : (job : JobView) → TakesInputs a job → length a.tablet.names ≡ length a.tablet.core.stores → marks_may_rise → outputs_pass → b ≡ record a { upkeep = b.upkeep } → HasInput a.tablet job.taken inputs bound mark → mark < 2 ^ 64
+      → ((first : Past) → IsFound a first → AreFaultless span inputs) → ((first : Past) → IsFound a first → TellAll a.tablet job.taken bound inputs)
       → (IsTrue tells → (rules : Rules) (first : Past) → IsContent rules a first → PlanPasses rules a.tablet.core.work → TellPassing rules bound mark inputs)
       → AreOutputs inputs.columns outputs → (AreFaultless span inputs → HaveEach span inputs (told_by_all outputs))
-      → (AreFaultless span inputs → (q : List ℕ) → AreAlike mark (hists_upto bound q inputs) (hists_written q outputs)) → (AreFaultless span inputs → (q : List ℕ) → AreSound mark (hists_written q outputs)) → HoldsMerged tells b outputs
-  holds_merged rise pass is none input low faultless tell passing made each alike sound =
+      → (AreFaultless span inputs → (q : List ℕ) → AreAlike mark (hists_upto bound q inputs) (hists_written q outputs)) → (AreFaultless span inputs → (q : List ℕ) → AreSound mark (hists_written q outputs)) → HoldsMerged tells b (takes_of job) outputs
+  holds_merged job takes as_many rise pass is input low faultless tell passing made each alike sound =
       let of_mark : mark ≤ a.tablet.core.a = subst (λ (m : ℕ). m ≤ a.tablet.core.a) (sym input.mark_is) (min-le_right bound a.tablet.core.a) in
-      subst (λ (v : EngineView L D C). HoldsMerged tells v outputs) (sym is) (record {
+      subst (λ (v : EngineView L D C). HoldsMerged tells v (takes_of job) outputs) (sym is) (record {
         whole = whole inputs.columns outputs made.each;
-        holds = λ first found. let fit = faultless first found in merged_hold rise a.tablet inputs bound mark outputs none (tell first found) of_mark (alike fit) (sound fit);
+        holds = λ first found. let fit = faultless first found in merged_hold rise a job takes as_many inputs bound mark outputs (tell first found) of_mark (alike fit) (sound fit);
         passes = λ told rules first content plan. let fit = faultless first content.opens in pass rules span inputs outputs content.closed low fit made (each fit) (passing told rules first (record { closed = content.closed; opens = content.opens; holds = content.holds }) plan);
       })

@@ -1,23 +1,20 @@
 -- A round of a maintenance command, want by want.
-use Rattle.std.proofs.Common.{◌≡◌, ◌⊎◌, ℕ, ◌<◌, ◌≤◌, ◌+◌, Bool, true, false, cond, List, [], ◌∷◌, ◌++◌, take, length, map, get_or, Option, Some, None, Result, Ok, Err, refl, sym, ap, subst, ◌∙◌, inl, inr}
-use Rattle.std.specs.Prelude.{◌==◌, ◌^◌, ◌-◌, not, OnOk}
-use Rattle.std.specs.List.{All, AllByRecursion}
+use Rattle.std.proofs.Common.{◌≡◌, ◌⊎◌, ℕ, ◌<◌, ◌≤◌, ◌+◌, Bool, true, false, cond, List, [], ◌∷◌, ◌++◌, take, length, get_or, Option, Some, Ok, refl, sym, ap, subst, ◌∙◌, inl, inr}
+use Rattle.std.specs.Prelude.{◌^◌, ◌-◌, ◌&&◌, nat_eq, not}
+use Rattle.std.specs.Cmp.Lexicographic.{pointwise}
+use Rattle.std.specs.List.{AllByRecursion}
 use Rattle.std.proofs.lemmas.Bool.{eq-eqb}
 use Rattle.std.proofs.lemmas.List.{take_all, take_more}
-use Rattle.std.proofs.lemmas.List.Elements.{recursion_from_All, All-from_recursion}
 use Rattle.kt_base.specs.declared.chore.Chore.{Chore}
-use Rattle.kt_base.specs.declared.chore.Chore.TheVariants as chore
 use Rattle.kt_history.specs.declared.event.Event.{Event}
 use Rattle.kt_pick.specs.declared.rules.Want.{Want}
 use Rattle.kt_pick.specs.declared.rules.Want.TheVariants as want
 use Rattle.kt_engine.specs.Visits.{PartView}
 use Rattle.kt_engine.specs.Calls.{HasDone}
-use Rattle.kt_engine.specs.Rounds.{want_on, wants_of}
 use Rattle.kt_engine.specs.Jobs.{UpkeepView, Last, finished, nothing, more, same_want, without_want}
-use Rattle.kt_engine.specs.declared.job.MaintNo.{MaintNo}
 use Rattle.kt_maint.specs.declared.run.Ran.{Ran}
 use Rattle.kt_maint.specs.declared.run.Ran.TheVariants as ran
-use Rattle.kt_maint.specs.Calls.{IsRun, want_of, HasAsked, AfterCall, HasBegunRound}
+use Rattle.kt_maint.specs.Calls.{want_of, HasAsked, AfterCall, HasBegunRound}
 use Rattle.kt_maint.proofs.Stages.{some_is}
 
 -- ---- wants that are left
@@ -57,20 +54,24 @@ kept_left done w (x ∷ todo) n = elim (same_want w x) as (λ (b : Bool). same_w
   | false ↦ λ e. (not_more done w x n.0 e, kept_left done w todo n.1)
 ] refl
 
-same_itself : (w : Want) → IsRun w → same_want w w ≡ true
-same_itself want.Flush r = refl
-same_itself (want.FlushDeltas n) r = eq-eqb n n refl
-same_itself (want.Minor n) r = eq-eqb n n refl
-same_itself (want.Major n) r = eq-eqb n n refl
-same_itself (want.Compact ns) r = absurd r
+same_numbers : (ns : List ℕ) → pointwise nat_eq ns ns ≡ true
+same_numbers [] = refl
+same_numbers (n ∷ ns) = ap (λ (b : Bool). b && pointwise nat_eq ns ns) (eq-eqb n n refl) ∙ same_numbers ns
+
+same_itself : (w : Want) → same_want w w ≡ true
+same_itself want.Flush = refl
+same_itself (want.FlushDeltas n) = eq-eqb n n refl
+same_itself (want.Minor n) = eq-eqb n n refl
+same_itself (want.Major n) = eq-eqb n n refl
+same_itself (want.Compact ns) = same_numbers ns
 
 more_among : (v : Want) (wants todo : List Want) → AllByRecursion (Among wants) todo → AllByRecursion (Among (v ∷ wants)) todo
 more_among v wants [] a = tt
 more_among v wants (x ∷ todo) a = (inr a.0, more_among v wants todo a.1)
 
-all_among : (wants : List Want) → AllByRecursion IsRun wants → AllByRecursion (Among wants) wants
-all_among [] r = tt
-all_among (w ∷ wants) r = (inl (same_itself w r.0), more_among w wants wants (all_among wants r.1))
+all_among : (wants : List Want) → AllByRecursion (Among wants) wants
+all_among [] = tt
+all_among (w ∷ wants) = (inl (same_itself w), more_among w wants wants (all_among wants))
 
 none_done : (todo : List Want) → AllByRecursion (NotAmong []) todo
 none_done [] = tt
@@ -88,15 +89,15 @@ pub record IsRound {L D C : Type 0} (k : Chore) (wants done : List Want) (before
   pub left : AllByRecursion (NotAmong done) part.pass.upkeep.todo
 
 module _ {L D C : Type 0} (k : Chore) (wants : List Want) (a : Option (PartView L D C)) where
-  pub round_begins : (b : Option (PartView L D C)) → AllByRecursion IsRun wants → HasBegunRound k wants a b → IsRound k wants [] a b
-  round_begins b run h = record {
+  pub round_begins : (b : Option (PartView L D C)) → HasBegunRound k wants a b → IsRound k wants [] a b
+  round_begins b h = record {
     was = h.was;
     was_is = h.was_is;
     part = h.part;
     is = h.is;
     rounds = h.rounds;
     round = h.round;
-    among = subst (AllByRecursion (Among wants)) (sym h.todo) (all_among wants run);
+    among = subst (AllByRecursion (Among wants)) (sym h.todo) (all_among wants);
     left = none_done h.part.pass.upkeep.todo;
   }
 
@@ -142,35 +143,11 @@ abbrev pub RoundsOn : {L D C : Type 0} → List Want → List Want → Option (P
 RoundsOn {L} {D} {C} wants done b c = (k : Chore) (a : Option (PartView L D C)) → HasBegunRound k wants a b → IsRound k wants done a c
 
 module _ {L D C : Type 0} (wants : List Want) (b : Option (PartView L D C)) where
-  pub rounds_begin : All IsRun wants → RoundsOn wants [] b b
-  rounds_begin run k a h = round_begins k wants a b (recursion_from_All IsRun wants run) h
+  pub rounds_begin : RoundsOn wants [] b b
+  rounds_begin k a h = round_begins k wants a b h
 
   pub rounds_on : (c d : Option (PartView L D C)) (n : ℕ) (w : Want) (seen : List Event) (r : Ran) → n < length wants → w ≡ get_or wants n w → RoundsOn wants (take n wants) b c → AfterCall w c d seen (Ok r) → RoundsOn wants (take (n + 1) wants) b d
   rounds_on c d n w seen r lt is on call k a h = next_round k wants a c d n w seen r lt is (on k a h) call
 
   pub rounds_end : (c : Option (PartView L D C)) (n : ℕ) → length wants ≤ n → RoundsOn wants (take n wants) b c → (k : Chore) (a : Option (PartView L D C)) → HasBegunRound k wants a b → HasDone k a c
   rounds_end c n all on k a h = round_ends k wants a c n all (on k a h)
-
--- ---- what the wants of a round are
-
-chore_runs : (k : Chore) (rowsets : List ℕ) → (k ≡ chore.Compact → ⊥) → AllByRecursion IsRun (wants_of k rowsets)
-chore_runs chore.Flush rowsets never = (tt, tt)
-chore_runs chore.FlushDeltas rowsets never = each rowsets
-  where
-    each : (rs : List ℕ) → AllByRecursion IsRun (map (want_on chore.FlushDeltas) rs)
-    each [] = tt
-    each (r ∷ rs) = (tt, each rs)
-chore_runs chore.Minor rowsets never = each rowsets
-  where
-    each : (rs : List ℕ) → AllByRecursion IsRun (map (want_on chore.Minor) rs)
-    each [] = tt
-    each (r ∷ rs) = (tt, each rs)
-chore_runs chore.Major rowsets never = each rowsets
-  where
-    each : (rs : List ℕ) → AllByRecursion IsRun (map (want_on chore.Major) rs)
-    each [] = tt
-    each (r ∷ rs) = (tt, each rs)
-chore_runs chore.Compact rowsets never = absurd (never refl)
-
-pub wants_run : (k : Chore) (rowsets : List ℕ) (wants : List Want) → wants ≡ wants_of k rowsets → (k ≡ chore.Compact → ⊥) → All IsRun wants
-wants_run k rowsets wants are none = subst (All IsRun) (sym are) (All-from_recursion IsRun (wants_of k rowsets) (chore_runs k rowsets none))

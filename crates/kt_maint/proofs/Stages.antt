@@ -16,9 +16,11 @@ use Rattle.kt_engine.specs.Over.{AreLeft}
 use Rattle.kt_engine.specs.Engines.{EngineView}
 use Rattle.kt_engine.specs.Near.{first_number}
 use Rattle.kt_engine.specs.Visits.{IsVisit}
-use Rattle.kt_engine.specs.Jobs.{JobView, UpkeepView, UpkeepsView, HasUpkeep, IsUnpublished, upkeep_at, job_of}
-use Rattle.kt_engine.specs.JobSteps.{TakesFrozen, AreUpTo, AtNewStage, HasSwapped}
-use Rattle.kt_maint.specs.Runs.{KeepsAsks, IsQuiet, IsReady, JobIsAt, JobHas, MayAbandon}
+use Rattle.kt_engine.specs.Jobs.{JobView, UpkeepView, UpkeepsView, HasRowset, HasUpkeep, IsUnpublished, upkeep_at, job_of, takes_of}
+use Rattle.kt_pick.specs.declared.rules.Want.{Want}
+use Rattle.kt_pick.specs.declared.rules.Want.TheVariants as want
+use Rattle.kt_engine.specs.JobSteps.{TakesInputs, TakesBy, AreUpTo, AtNewStage, HasSwapped}
+use Rattle.kt_maint.specs.Runs.{KeepsAsks, IsQuiet, IsReady, JobIsAt, JobHas, GoesOn, MayAbandon}
 
 pub some_is : {A : Type 0} (x y : A) → Some x ≡ Some y → x ≡ y
 some_is x y e = cc
@@ -33,15 +35,32 @@ has_asks n x o w h begun = record { own = h.own ∙ (λ k. record (upkeep_at n o
 
 module _ {L D C : Type 0} (n : ℕ) (a b : EngineView L D C) where
   pub takes_then : (j : JobView) (s : Stage) (bound mark : ℕ) (metas : List MetaRowset) (held : List HeldFiles) (room super : ℕ) → b.tablet ≡ a.tablet → b.log ≡ a.log → b.store.meta ≡ a.store.meta
-      → TakesFrozen a j → TakesFrozen b (staged j s bound mark metas held room super)
+      → TakesInputs a j → TakesInputs b (staged j s bound mark metas held room super)
   takes_then j s bound mark metas held room super tablet log meta t = record {
-    vacant = subst (λ (v : View C). rows_in_first v.core.stores ≡ []) (sym tablet) t.vacant;
-    first = subst (λ (v : View C). j.last_mem < first_number v.names) (sym tablet) t.first;
-    taken = subst (λ (v : View C). AreUpTo j.last_mem (frozen_names v)) (sym tablet) t.taken;
+    takes = by j.want t.takes;
     left = subst (λ (v : View C). AreLeft j.first_rowset (drop v.frozen (drop 1 v.names))) (sym tablet) t.left;
     below = subst (λ (m : Meta). m.next_rowset ≤ j.first_rowset) (sym meta) t.below;
     many = subst (λ (l : SideView L). j.many ≡ l.known.count + length (l.out ++ l.queued)) (sym log) t.many;
   }
+    where
+      by : (w : Want) → TakesBy a j w → TakesBy b (staged j s bound mark metas held room super) w
+      by want.Flush f = record {
+        none = f.none;
+        vacant = subst (λ (v : View C). rows_in_first v.core.stores ≡ []) (sym tablet) f.vacant;
+        first = subst (λ (v : View C). j.last_mem < first_number v.names) (sym tablet) f.first;
+        frozen = subst (λ (v : View C). AreUpTo j.last_mem (frozen_names v)) (sym tablet) f.frozen;
+      }
+      by (want.Compact taken) c = (
+        c.0,
+        record {
+          some = c.1.some;
+          there = λ r asked. subst (λ (v : View C). HasRowset r v.names) (sym tablet) (c.1.there r asked);
+          first = subst (λ (v : View C). j.last_mem ≤ first_number v.names) (sym tablet) c.1.first;
+        },
+      )
+      by (want.FlushDeltas r) never = absurd never
+      by (want.Minor r) never = absurd never
+      by (want.Major r) never = absurd never
 
   -- it has come further
   abbrev pub goes_on : {s : Stage} (at : JobIsAt a n s) (t : Stage) (bound mark : ℕ) (metas : List MetaRowset) (held : List HeldFiles) (room super : ℕ) → AtNewStage n (staged at.job t bound mark metas held room super) a b → JobIsAt b n t
@@ -55,7 +74,22 @@ module _ {L D C : Type 0} (n : ℕ) (a b : EngineView L D C) where
     begun = λ e. at.begun (sym h.begun.0 ∙ e);
     given = subst (λ (v : EngineView L D C). at.job.first_rowset ≤ v.store.next_rowset) (sym h.beside) at.given;
     takes = takes_then at.job t bound mark metas held room super (ap (λ (v : EngineView L D C). v.tablet) h.beside) (ap (λ (v : EngineView L D C). v.log) h.beside) (ap (λ (v : EngineView L D C). v.store.meta) h.beside) at.takes;
+    as_many = subst (λ (v : View C). length v.names ≡ length v.core.stores) (sym (ap (λ (v : EngineView L D C). v.tablet) h.beside)) at.as_many;
   }
+
+  -- it is the job that it was
+  pub stage_on : (job : JobView) (t : Stage) (bound mark : ℕ) (metas : List MetaRowset) (held : List HeldFiles) (room super : ℕ) → job_of n a.upkeep ≡ Some job → AtNewStage n (staged job t bound mark metas held room super) a b → GoesOn n a.upkeep b.upkeep
+  stage_on job t bound mark metas held room super had h = record {
+    was = job;
+    had = had;
+    job = staged job t bound mark metas held room super;
+    has = ap (λ (u : UpkeepView). u.job) h.upkeep.own;
+    want = refl;
+    takes = refl;
+  }
+
+  pub swapped_on : (out : List RowSetData) (metas : List MetaRowset) → HasSwapped n out metas a b → GoesOn n a.upkeep b.upkeep
+  swapped_on out metas sw = stage_on sw.job stage.Swapped sw.job.bound sw.job.mark metas (map held_in out) sw.room sw.job.super sw.had sw.later
 
   -- nothing but what passes have of maintenance has changed, through two steps or none
   pub beside_then : (c : EngineView L D C) → b ≡ record a { upkeep = b.upkeep } → c ≡ record b { upkeep = c.upkeep } → c ≡ record a { upkeep = c.upkeep }
@@ -93,6 +127,7 @@ module _ {L D C : Type 0} (n : ℕ) (a b : EngineView L D C) where
     begun = λ e. at.begun (sym (ap (λ (u : UpkeepsView). u.begun) upkeep) ∙ e);
     given = (let low = at.given in omega (arith, low, more));
     takes = takes_then at.job at.job.stage at.job.bound at.job.mark at.job.metas at.job.held at.job.room at.job.super tablet log meta at.takes;
+    as_many = subst (λ (v : View C). length v.names ≡ length v.core.stores) (sym tablet) at.as_many;
   }
 
   -- its outputs are there, and stay
@@ -122,3 +157,23 @@ module _ {L D C : Type 0} (n : ℕ) (a b : EngineView L D C) where
 -- a job that publishes nothing may be given up
 pub may_abandon : {L D C : Type 0} (v : EngineView L D C) (n : ℕ) {s : Stage} → JobIsAt v n s → IsUnpublished s → MayAbandon v n
 may_abandon v n at early = record { job = at.job; has = at.has; early = subst IsUnpublished (sym at.at) early; free = at.free }
+
+-- ---- the job of a pass from one step to the next
+
+pub on_then : (n : ℕ) (a b c : UpkeepsView) → GoesOn n a b → GoesOn n b c → GoesOn n a c
+on_then n a b c first second =
+    let mid : second.was ≡ first.job = some_is second.was first.job (sym second.had ∙ first.has) in
+    record {
+      was = first.was;
+      had = first.had;
+      job = second.job;
+      has = second.has;
+      want = second.want ∙ ap (λ (j : JobView). j.want) mid ∙ first.want;
+      takes = second.takes ∙ ap takes_of mid ∙ first.takes;
+    }
+
+pub takes_same : (n : ℕ) (a b : UpkeepsView) (on : GoesOn n a b) (was job : JobView) → job_of n a ≡ Some was → job_of n b ≡ Some job → takes_of job ≡ takes_of was
+takes_same n a b on was job had has = ap takes_of (some_is job on.job (sym has ∙ on.has)) ∙ on.takes ∙ ap takes_of (some_is on.was was (sym on.had ∙ had))
+
+pub want_same : (n : ℕ) (a b : UpkeepsView) (on : GoesOn n a b) (was job : JobView) → job_of n a ≡ Some was → job_of n b ≡ Some job → job.want ≡ was.want
+want_same n a b on was job had has = ap (λ (j : JobView). j.want) (some_is job on.job (sym has ∙ on.has)) ∙ on.want ∙ ap (λ (j : JobView). j.want) (some_is on.was was (sym on.had ∙ had))

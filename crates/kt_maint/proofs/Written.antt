@@ -1,5 +1,5 @@
 -- The outputs of a job, written: its superblock may be published, and once it is the job may finish.
-use Rattle.std.proofs.Common.{◌≡◌, ◌≤◌, ◌<◌, ◌+◌, ◌^◌, ◌++◌, ℕ, suc, Bool, true, false, List, [], ◌∷◌, length, map, Some, None, Result, Ok, Err, refl, sym, ap, subst, ◌∙◌, arith}
+use Rattle.std.proofs.Common.{◌≡◌, ◌≤◌, ◌<◌, ◌+◌, ◌^◌, ◌++◌, ℕ, suc, Bool, true, false, List, [], ◌∷◌, length, map, None, Result, Ok, Err, refl, sym, ap, subst, ◌∙◌, arith}
 use Rattle.std.specs.Prelude.{IsTrue, OnOk, ◌==◌, ◌≢◌}
 use Rattle.std.specs.List.{AllByRecursion}
 use Rattle.std.proofs.lemmas.Bool.Decides.{nat_tests}
@@ -24,14 +24,15 @@ use Rattle.kt_diskrowset.specs.Rowset.{HeldFiles}
 use Rattle.kt_files.specs.Content.{rowsets_in}
 use Rattle.kt_files.specs.Named.{HasNamed, AreNamed}
 use Rattle.kt_files.specs.Reading.{HoldAll}
+use Rattle.kt_outputs.specs.Fewer.{some_may_be_named, some_stand}
 use Rattle.kt_outputs.specs.Outputs.{meta_in, AreWritten}
 use Rattle.kt_outputs.specs.Named.{outputs_come_behind, outputs_stand}
 use Rattle.kt_joblaws.specs.Written.{written_rowsets_are_the_same, written_rowsets_pass, named_rowsets_tell}
 use Rattle.kt_storeside.specs.Sides.{StoreView, MayBeLent, IsSide}
 use Rattle.kt_storeside.proofs.Named.{first_file}
 use Rattle.kt_tablet.specs.Views.{View, Opens}
-use Rattle.kt_tablet.specs.Jobs.{frozen_stores, MayChangeOver}
-use Rattle.kt_pick.specs.declared.rules.Want.TheVariants as want
+use Rattle.kt_stores.specs.Takes.{Takes, mems, rowsets}
+use Rattle.kt_tablet.specs.Jobs.{taken_stores, MayChangeOver}
 use Rattle.kt_engine.specs.declared.job.MaintNo.{MaintNo}
 use Rattle.kt_engine.specs.declared.job.MaintNo.TheVariants as no
 use Rattle.kt_engine.specs.declared.upkeep.Stage.TheVariants as stage
@@ -41,12 +42,13 @@ use Rattle.kt_engine.specs.Stored.{next_super, job_meta}
 use Rattle.kt_engine.specs.Logged.{PlanPasses}
 use Rattle.kt_engine.specs.Visits.{Root, root_of}
 use Rattle.kt_engine.specs.JobSteps.{HoldInputs, MayPublishJob, MayFinish, outputs_of}
-use Rattle.kt_engine.specs.Jobs.{JobView, job_of}
+use Rattle.kt_engine.specs.JobMeta.{metas_left, last_by}
+use Rattle.kt_engine.specs.Jobs.{JobView, UpkeepsView, takes_by, takes_of}
 use Rattle.kt_engine.proofs.Filed.{own_names}
 use Rattle.kt_engine.proofs.Flushed.{bare_hists}
 use Rattle.kt_engine.proofs.Visiting.{root_stays}
-use Rattle.kt_maint.specs.Runs.{IsQuiet, IsReady, IsPublished, HasFiles, HoldsMerged, JobHas}
-use Rattle.kt_maint.proofs.Stages.{ready_then}
+use Rattle.kt_maint.specs.Runs.{IsQuiet, IsReady, IsPublished, HasFiles, HoldsMerged, JobHas, GoesOn}
+use Rattle.kt_maint.proofs.Stages.{some_is, ready_then}
 
 -- ---- what was written
 
@@ -93,6 +95,11 @@ fresh_written number [] (d ∷ out) w = absurd w
 fresh_written number (x ∷ outputs) [] w = absurd w
 fresh_written number (x ∷ outputs) (d ∷ out) w = (w.1, fresh_written (suc number) outputs out w.2)
 
+-- the last MemRowSet of a flush is the job's
+last_is : (taken : List ℕ) (last own : ℕ) → mems last ≡ takes_by taken own → last ≡ own
+last_is [] last own e = (let same : mems last ≡ mems own = e in cc)
+last_is (r ∷ taken) last own e = absurd (let no : mems last ≡ rowsets (r ∷ taken) = e in cc)
+
 -- ---- the past that opening found
 
 content_back : {L D C : Type 0} (rules : Rules) (first : Past) (a c : EngineView L D C) → root_of c ≡ root_of a → IsContent rules c first → IsContent rules a first
@@ -114,42 +121,60 @@ module _ {L D C : Type 0} (tells : Bool) (seen : D → Files) (now : D → ℕ) 
         subst (λ (ms : List MetaRowset). HoldAll (seen c.store.known) ms has.at.job.held) (sym has.metas)
         (subst (λ (hs : List HeldFiles). HoldAll (seen c.store.known) (map (meta_in 0) out) hs) (sym has.held) (files.holds told))
 
-    come_behind : outputs_come_behind → MayBeLent tells seen now leaves c.store (next_super c) → AreRowsets c.store.next_rowset c.store.next_file 0 [] (job_meta c has.at.job).rowsets
-    come_behind behind may =
-        let low : 3 ≤ a.store.next_file = (let x = first_file a.store.meta side.rules in let y = side.files in omega arith) in
-        subst (λ (ms : List MetaRowset). AreRowsets c.store.next_rowset c.store.next_file 0 [] (c.store.meta.rowsets ++ ms)) (sym has.metas)
-        (behind c.store.meta.rowsets a.store.meta.next_rowset a.store.meta.next_file a.store.next_rowset a.store.next_file c.store.next_rowset c.store.next_file merged out
-        (subst (λ (m : Meta). AreRowsets a.store.meta.next_rowset a.store.meta.next_file 0 [] m.rowsets) (sym files.meta) side.rules.rowsets) may.next.rules.rowsets side.rowsets side.files low files.written files.rowset files.numbered files.short)
+    low : 3 ≤ a.store.next_file
+    low = let x = first_file a.store.meta side.rules in let y = side.files in omega arith
 
-    may_be_lent : outputs_come_behind → outputs_stand → MayBeLent tells seen now leaves c.store (next_super c) → is_small has.at.job.last_mem ≡ true → MayBeLent tells seen now leaves c.store (job_meta c has.at.job)
-    may_be_lent behind stand may small = record {
-      next = record {
-        rules = record {
-          number = may.next.rules.number;
-          a = may.next.rules.a;
-          c = may.next.rules.c;
-          need = may.next.rules.need;
-          last_mem = small;
-          next_rowset = may.next.rules.next_rowset;
-          next_file = may.next.rules.next_file;
-          next_column = may.next.rules.next_column;
-          count = may.next.rules.count;
-          columns = may.next.rules.columns;
-          schema = may.next.rules.schema;
-          rowsets = come_behind behind may;
-        };
-        number = may.next.number;
-        rowsets = may.next.rowsets;
-        files = may.next.files;
-      };
-      files = λ told image left.
-          subst (λ (ms : List MetaRowset). HasNamed (c.store.meta.rowsets ++ ms) (seen c.store.known) image) (sym has.metas)
-          (stand c.store.meta.rowsets a.store.next_file c.store.next_file out (seen c.store.known) image files.numbered (files.stable told image left) (may.files told image left));
-    }
+    old_rowsets : AreRowsets a.store.meta.next_rowset a.store.meta.next_file 0 [] c.store.meta.rowsets
+    old_rowsets = subst (λ (m : Meta). AreRowsets a.store.meta.next_rowset a.store.meta.next_file 0 [] m.rowsets) (sym files.meta) side.rules.rowsets
 
-    pub may_publish : written_rowsets_are_the_same → written_rowsets_pass → named_rowsets_tell → outputs_come_behind → outputs_stand → HoldsMerged tells a merged → IsReady c → c.tablet ≡ a.tablet → root_of c ≡ root_of a
+    -- those that the job leaves may be named, and their files stand
+    left_named : (t : Takes) (next_rowset next_file : ℕ) → some_may_be_named → AreRowsets next_rowset next_file 0 [] c.store.meta.rowsets → AreRowsets next_rowset next_file 0 [] (metas_left t c.store.meta.rowsets)
+    left_named (mems last) next_rowset next_file fewer are = are
+    left_named (rowsets taken) next_rowset next_file fewer are = fewer _ c.store.meta.rowsets next_rowset next_file are
+
+    left_stand : (t : Takes) (image : Files) → some_stand → HasNamed c.store.meta.rowsets (seen c.store.known) image → HasNamed (metas_left t c.store.meta.rowsets) (seen c.store.known) image
+    left_stand (mems last) image still named = named
+    left_stand (rowsets taken) image still named = still _ c.store.meta.rowsets (seen c.store.known) image named
+
+    -- the last MemRowSet has a number that a superblock spells
+    last_small : (t : Takes) → t ≡ takes_of has.at.job → is_small has.at.job.last_mem ≡ true → is_small (next_super c).last_mem ≡ true → is_small (last_by t (next_super c).last_mem) ≡ true
+    last_small (mems last) same small was = subst (λ (n : ℕ). is_small n ≡ true) (sym (last_is has.at.job.taken last has.at.job.last_mem same)) small
+    last_small (rowsets taken) same small was = was
+
+    may_be_lent : outputs_come_behind → outputs_stand → some_may_be_named → some_stand → MayBeLent tells seen now leaves c.store (next_super c) → is_small has.at.job.last_mem ≡ true → MayBeLent tells seen now leaves c.store (job_meta c has.at.job)
+    may_be_lent behind stand fewer still may small =
+        let t = takes_of has.at.job in
+        let left = metas_left t c.store.meta.rowsets in
+        record {
+          next = record {
+            rules = record {
+              number = may.next.rules.number;
+              a = may.next.rules.a;
+              c = may.next.rules.c;
+              need = may.next.rules.need;
+              last_mem = last_small t refl small may.next.rules.last_mem;
+              next_rowset = may.next.rules.next_rowset;
+              next_file = may.next.rules.next_file;
+              next_column = may.next.rules.next_column;
+              count = may.next.rules.count;
+              columns = may.next.rules.columns;
+              schema = may.next.rules.schema;
+              rowsets = subst (λ (ms : List MetaRowset). AreRowsets c.store.next_rowset c.store.next_file 0 [] (left ++ ms)) (sym has.metas)
+                  (behind left a.store.meta.next_rowset a.store.meta.next_file a.store.next_rowset a.store.next_file c.store.next_rowset c.store.next_file merged out
+                  (left_named t a.store.meta.next_rowset a.store.meta.next_file fewer old_rowsets) (left_named t c.store.next_rowset c.store.next_file fewer may.next.rules.rowsets)
+                  side.rowsets side.files low files.written files.rowset files.numbered files.short);
+            };
+            number = may.next.number;
+            rowsets = may.next.rowsets;
+            files = may.next.files;
+          };
+          files = λ told image stays. subst (λ (ms : List MetaRowset). HasNamed (left ++ ms) (seen c.store.known) image) (sym has.metas)
+              (stand left a.store.next_file c.store.next_file out (seen c.store.known) image files.numbered (files.stable told image stays) (left_stand t image still (may.files told image stays)));
+        }
+
+    pub may_publish : written_rowsets_are_the_same → written_rowsets_pass → named_rowsets_tell → outputs_come_behind → outputs_stand → some_may_be_named → some_stand → HoldsMerged tells a (takes_of has.at.job) merged → IsReady c → c.tablet ≡ a.tablet → root_of c ≡ root_of a
         → MayPublishJob tells seen now leaves c has.at.job
-    may_publish same pass told behind stand holds ready tablet root =
+    may_publish same pass told behind stand fewer still holds ready tablet root =
         let job = has.at.job in
         let is = tells_outputs told in
         let of_outputs : (q : List ℕ) → map (hist_in_files q) (map files_in merged) ≡ map (hist_in_files q) (outputs_of job) =
@@ -167,14 +192,14 @@ module _ {L D C : Type 0} (tells : Bool) (seen : D → Files) (now : D → ℕ) 
           first_dms = subst (AllByRecursion (λ (d : DiskRowset). d.last_dms ≡ 0)) (sym is) (no_dms out);
           hold = holds_files;
           holds = λ first found.
-              let h : HoldInputs c.tablet (map files_in merged) = subst (λ (t : View C). HoldInputs t (map files_in merged)) (sym tablet) (holds.holds first (subst (λ (t : View C). Opens t.opening t.mark t.core.opened first) tablet found)) in
+              let h : HoldInputs c.tablet (takes_of job) (map files_in merged) = subst (λ (t : View C). HoldInputs t (takes_of job) (map files_in merged)) (sym tablet) (holds.holds first (subst (λ (t : View C). Opens t.opening t.mark t.core.opened first) tablet found)) in
               record {
-                alike = λ q. subst (λ (hs : List Hist). AreAlike c.tablet.core.a (hists q (frozen_stores c.tablet)) hs) (of_outputs q) (h.alike q);
+                alike = λ q. subst (λ (hs : List Hist). AreAlike c.tablet.core.a (hists q (taken_stores (takes_of has.at.job) c.tablet)) hs) (of_outputs q) (h.alike q);
                 sound = λ q. subst (λ (hs : List Hist). AreSound c.tablet.core.a hs) (of_outputs q) (h.sound q);
               };
           passes = λ tell rules first content plan.
               subst (RowsetsPass rules) (sym is) (pass rules a.store.next_rowset merged out files.written (holds.passes tell rules first (content_back rules first a c root content) (subst (λ (t : View C). PlanPasses rules t.core.work) tablet plan)));
-          lent = may_be_lent behind stand;
+          lent = may_be_lent behind stand fewer still;
         }
 
   -- once it is published the job may finish
@@ -187,8 +212,8 @@ module _ {L D C : Type 0} (tells : Bool) (seen : D → Files) (now : D → ℕ) 
         output = may.output;
         calm = ap (λ (t : View C). t.core.aloft) quiet.tablet ∙ may.calm;
         published = p.own;
-        may = subst (λ (t : View C). MayChangeOver t (map bare_store (outputs_of job))) (sym quiet.tablet) (record {
-          alike = λ first opens q. subst (λ (hs : List Hist). AreAlike c.tablet.core.a (hists q (frozen_stores c.tablet)) hs) (sym (bare_hists q (outputs_of job))) ((may.holds first opens).alike q);
+        may = subst (λ (t : View C). MayChangeOver t (takes_of job) (map bare_store (outputs_of job))) (sym quiet.tablet) (record {
+          alike = λ first opens q. subst (λ (hs : List Hist). AreAlike c.tablet.core.a (hists q (taken_stores (takes_of job) c.tablet)) hs) (sym (bare_hists q (outputs_of job))) ((may.holds first opens).alike q);
           sound = λ first opens q. subst (λ (hs : List Hist). AreSound c.tablet.core.a hs) (sym (bare_hists q (outputs_of job))) ((may.holds first opens).sound q);
         });
         room = subst (λ (t : View C). length t.core.stores + length job.held ≤ job.room + t.frozen + 1) (sym quiet.tablet) (subst (λ (k : ℕ). length c.tablet.core.stores + k ≤ job.room + c.tablet.frozen + 1) (sym long) has.room);
@@ -199,17 +224,28 @@ module _ {L D C : Type 0} (tells : Bool) (seen : D → Files) (now : D → ℕ) 
       }
 
   -- what was merged, written and handed in
-  pub may_publish_then : (faults : D → ℕ) (e0 e1 e2 e3 : EngineView L D C) (merged out : List RowSetData) → written_rowsets_are_the_same → written_rowsets_pass → named_rowsets_tell → outputs_come_behind → outputs_stand
-      → IsSide tells seen now leaves faults e0.store → IsReady e0 → IsQuiet n e0 e1 → e1 ≡ record e0 { upkeep = e1.upkeep } → HoldsMerged tells e1 merged → IsQuiet n e1 e2 → HasFiles tells seen now leaves e1.store e2.store merged out → e2.store.holder ≡ None
-      → IsQuiet n e2 e3 → e3 ≡ record e2 { upkeep = e3.upkeep } → (has : JobHas e3 n stage.Written out) → MayPublishJob tells seen now leaves e3 has.at.job
-  may_publish_then faults e0 e1 e2 e3 merged out same pass told behind stand side ready q1 beside1 holds q2 files home q3 beside3 has =
+  pub may_publish_then : (faults : D → ℕ) (e0 e1 e2 e3 : EngineView L D C) (merged out : List RowSetData) → written_rowsets_are_the_same → written_rowsets_pass → named_rowsets_tell → outputs_come_behind → outputs_stand → some_may_be_named → some_stand → (t : Takes)
+      → IsSide tells seen now leaves faults e0.store → IsReady e0 → IsQuiet n e0 e1 → e1 ≡ record e0 { upkeep = e1.upkeep } → HoldsMerged tells e1 t merged → IsQuiet n e1 e2 → HasFiles tells seen now leaves e1.store e2.store merged out → e2.store.holder ≡ None
+      → IsQuiet n e2 e3 → e3 ≡ record e2 { upkeep = e3.upkeep } → (has : JobHas e3 n stage.Written out) → takes_of has.at.job ≡ t → MayPublishJob tells seen now leaves e3 has.at.job
+  may_publish_then faults e0 e1 e2 e3 merged out same pass told behind stand fewer still t side ready q1 beside1 holds q2 files home q3 beside3 has took =
       may_publish faults e1 e3 merged out (subst (IsSide tells seen now leaves faults) (sym (ap (λ (v : EngineView L D C). v.store) beside1)) side)
-      (subst (λ (s : StoreView D). HasFiles tells seen now leaves e1.store s merged out) (sym (ap (λ (v : EngineView L D C). v.store) beside3)) files) has same pass told behind stand holds
+      (subst (λ (s : StoreView D). HasFiles tells seen now leaves e1.store s merged out) (sym (ap (λ (v : EngineView L D C). v.store) beside3)) files) has same pass told behind stand fewer still (subst (λ (x : Takes). HoldsMerged tells e1 x merged) (sym took) holds)
       (ready_then n e0 e3 (q3.tablet ∙ q2.tablet ∙ q1.tablet) (q3.log ∙ q2.log ∙ q1.log) (ap (λ (v : EngineView L D C). v.store.holder) beside3 ∙ home) ready) (q3.tablet ∙ q2.tablet)
       (root_stays n e2 e3 q3.visit ∙ root_stays n e1 e2 q2.visit)
 
   pub may_finish_then : (c d : EngineView L D C) (out : List RowSetData) (has : JobHas c n stage.Written out) → MayPublishJob tells seen now leaves c has.at.job → (r : Result (Unit {0}) MaintNo) → (r ≢ Err no.Stopped → IsQuiet n c d) → OnOk r (IsPublished n has.at.job c d)
-      → OnOk r ((job : JobView) × (job_of n d.upkeep ≡ Some job) × (job.want ≡ want.Flush) × MayFinish d n job)
-  may_finish_then c d out has may (Ok done) quiet p =
-      let is = quiet (λ e. cc) in (record has.at.job { stage = stage.Published; super = p.number }, p.has, has.at.want, may_finish c d out has may is p)
-  may_finish_then c d out has may (Err x) quiet p = tt
+      → (before : UpkeepsView) → GoesOn n before c.upkeep → OnOk r ((same : GoesOn n before d.upkeep) × MayFinish d n same.job)
+  may_finish_then c d out has may (Ok done) quiet p before on =
+      let is = quiet (λ e. cc) in
+      let own : has.at.job ≡ on.job = some_is has.at.job on.job (sym has.at.has ∙ on.has) in (
+        record {
+          was = on.was;
+          had = on.had;
+          job = record has.at.job { stage = stage.Published; super = p.number };
+          has = p.has;
+          want = ap (λ (j : JobView). j.want) own ∙ on.want;
+          takes = ap takes_of own ∙ on.takes;
+        },
+        may_finish c d out has may is p,
+      )
+  may_finish_then c d out has may (Err x) quiet p before on = tt

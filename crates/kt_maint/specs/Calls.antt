@@ -15,11 +15,6 @@ use Rattle.kt_maint.specs.declared.run.Ran.TheVariants as ran
 use Rattle.kt_maint.specs.declared.tries.Turn.{Turn}
 use Rattle.kt_maint.specs.declared.tries.Turn.TheVariants as turn
 
--- a call runs a job for each want but a compaction
-abbrev pub IsRun : Want → Type 0
-IsRun (want.Compact rowsets) = ⊥
-IsRun _ = Unit {0}
-
 -- the history has a `stop` line
 abbrev pub has_stop : List Event → Bool
 has_stop [] = false

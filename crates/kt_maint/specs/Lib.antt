@@ -1,3 +1,4 @@
 pub mod Runs
 pub mod DeltaRuns
 pub mod Calls
+pub mod Work

@@ -18,7 +18,6 @@ use Rattle.kt_outputs.specs.Named.{AreShort}
 use Rattle.kt_storeside.specs.declared.side.Lent.{Lent}
 use Rattle.kt_storeside.specs.Sides.{StoreView}
 use Rattle.kt_pick.specs.declared.rules.Want.{Want}
-use Rattle.kt_pick.specs.declared.rules.Want.TheVariants as want
 use Rattle.kt_engine.specs.Engines.{EngineView, IsFound, IsContent}
 use Rattle.kt_engine.specs.Logged.{PlanPasses}
 use Rattle.kt_engine.specs.Visits.{IsVisit}
@@ -26,8 +25,9 @@ use Rattle.kt_engine.specs.declared.upkeep.Stage.{Stage}
 use Rattle.kt_engine.specs.declared.upkeep.Stage.TheVariants as stage
 use Rattle.kt_engine.specs.declared.job.MaintNo.{MaintNo}
 use Rattle.kt_engine.specs.declared.job.MaintNo.TheVariants as no
-use Rattle.kt_engine.specs.Jobs.{JobView, UpkeepView, UpkeepsView, finished, IsUnpublished, asked_for_nothing, without_want, job_of, upkeep_at, more}
-use Rattle.kt_engine.specs.JobSteps.{TakesFrozen, HoldInputs}
+use Rattle.kt_engine.specs.Jobs.{JobView, UpkeepView, UpkeepsView, finished, IsUnpublished, asked_for_nothing, without_want, job_of, upkeep_at, takes_of, more}
+use Rattle.kt_stores.specs.Takes.{Takes}
+use Rattle.kt_engine.specs.JobSteps.{IsMerge, TakesInputs, HoldInputs}
 use Rattle.kt_maint.specs.declared.ready.Ready.{Ready}
 use Rattle.kt_maint.specs.declared.ready.Ready.TheVariants as ready
 use Rattle.kt_maint.specs.declared.tries.Turn.{Turn}
@@ -90,12 +90,22 @@ pub record JobIsAt {L D C : Type 0} (v : EngineView L D C) (n : ℕ) (s : Stage)
   pub job : JobView
   pub has : job_of n v.upkeep ≡ Some job
   pub at : job.stage ≡ s
-  pub want : job.want ≡ want.Flush
+  pub want : IsMerge job.want
   pub output : job.output ≡ None
   pub free : v.upkeep.publishing ≡ None
   pub begun : v.upkeep.begun ≢ 0
   pub given : job.first_rowset ≤ v.store.next_rowset
-  pub takes : TakesFrozen v job
+  pub takes : TakesInputs v job
+  pub as_many : length v.tablet.names ≡ length v.tablet.core.stores
+
+-- the job of a pass has come further: it is for the same want, and takes the same
+pub record GoesOn (n : ℕ) (old new : UpkeepsView) : Type 0 where
+  pub was : JobView
+  pub had : job_of n old ≡ Some was
+  pub job : JobView
+  pub has : job_of n new ≡ Some job
+  pub want : job.want ≡ was.want
+  pub takes : takes_of job ≡ takes_of was
 
 pub record MayAbandon {L D C : Type 0} (v : EngineView L D C) (n : ℕ) : Type 0 where
   pub job : JobView
@@ -103,10 +113,10 @@ pub record MayAbandon {L D C : Type 0} (v : EngineView L D C) (n : ℕ) : Type 0
   pub early : IsUnpublished job.stage
   pub free : v.upkeep.publishing ≡ None
 
--- What merging gives: disk rowsets that hold the frozen MemRowSets for each past that opening found, and pass the rules of the table
-pub record HoldsMerged {L D C : Type 0} (tells : Bool) (v : EngineView L D C) (outputs : List RowSetData) : Type 0 where
+-- What merging gives: disk rowsets that hold what the job takes for each past that opening found, and pass the rules of the table
+pub record HoldsMerged {L D C : Type 0} (tells : Bool) (v : EngineView L D C) (t : Takes) (outputs : List RowSetData) : Type 0 where
   pub whole : AreWhole outputs
-  pub holds : (first : Past) → IsFound v first → HoldInputs v.tablet (map files_in outputs)
+  pub holds : (first : Past) → IsFound v first → HoldInputs v.tablet t (map files_in outputs)
   pub passes : IsTrue tells → (rules : Rules) (first : Past) → IsContent rules v first → PlanPasses rules v.tablet.core.work → RowsetsPass rules (map files_in outputs)
 
 -- The outputs have their numbers and their files, which this turn of the store used

@@ -1,11 +1,10 @@
 //! All that a maintenance command asks for.
-ghost use Rattle.std.specs.Prelude.{◌≡◌, ◌≢◌, true, Err, IfOk, OnOk, Option};
-ghost use Rattle.std.specs.List.{All};
+ghost use Rattle.std.specs.Prelude.{◌≡◌, true, Err, IfOk, OnOk, Option};
 ghost use Rattle.kt_seatlock.specs.Passes.{number, seen, part, MayEnter, IsBack};
 ghost use Rattle.kt_base.specs.declared.chore.Chore.{Chore};
 ghost use Rattle.kt_engine.specs.Calls.{SeesOthers, HasNoDevice, StandsStill, HasDone};
 ghost use Rattle.kt_engine.specs.Visits.{PartView};
-ghost use Rattle.kt_maint.specs.Calls.{IsRun, HasBegunRound, has_stop};
+ghost use Rattle.kt_maint.specs.Calls.{HasBegunRound, has_stop};
 
 use crate::run::run_job;
 use kt_base::{Chore, Clock};
@@ -30,7 +29,6 @@ fn begin_round<L: Disk, D: Disk + Drop, C: Clock, R: Wait>(
     ensures still { StandsStill (part pass.old) (part pass.new) }
     ensures quiet { SeesOthers (number pass.old) (seen pass.old) (seen pass.new) }
     ensures home { HasNoDevice (part pass.new) }
-    ensures wants { chore ≢ Chore.Compact → IfOk result (λ wants. All IsRun wants) }
     ensures begun { IfOk result (λ wants. HasBegunRound chore wants (part pass.old) (part pass.new)) }
     ensures stopped { result ≡ Err MaintNo.Stopped → has_stop (seen pass.new) ≡ true }
 {
@@ -54,7 +52,6 @@ fn run_all<L: Disk, D: Disk + Drop, C: Clock, R: Wait>(
     pass: &mut Pass<Engine<L, D, C>>,
     wants: &[Want],
 ) -> Result<(), MaintNo>
-    requires run { All IsRun wants.now }
     requires enters { MayEnter lock.now pass.old }
     requires home { HasNoDevice (part pass.old) }
     ensures pass { IsBack pass.old pass.new }
@@ -78,8 +75,6 @@ pub fn run_chore<L: Disk, D: Disk + Drop, C: Clock, R: Wait>(
     pass: &mut Pass<Engine<L, D, C>>,
     chore: Chore,
 ) -> Result<(), MaintNo>
-    // Disk rowsets are not compacted together so far.
-    requires stands { chore ≢ Chore.Compact }
     requires enters { MayEnter lock.now pass.old }
     requires home { HasNoDevice (part pass.old) }
     ensures pass { IsBack pass.old pass.new }

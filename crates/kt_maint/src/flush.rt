@@ -1,13 +1,13 @@
-//! A flush in one visit.
+//! A flush or a compaction in one visit.
 ghost use Rattle.std.specs.Prelude.{◌≡◌, ◌≢◌, [], true, None, Some, OnOk, IfOk, IsErr, Err, map, replicate};
 ghost use Rattle.std.specs.List.{AllByRecursion};
 ghost use Rattle.kt_diskrowset.specs.Data.{files_in};
 ghost use Rattle.kt_content.specs.Flushes.{AreFrom};
-ghost use Rattle.kt_engine.specs.Jobs.{JobView, job_of};
-ghost use Rattle.kt_engine.specs.JobSteps.{MayFinish};
+ghost use Rattle.kt_engine.specs.Jobs.{JobView, job_of, takes_of};
+ghost use Rattle.kt_engine.specs.JobSteps.{IsMerge, MayFinish};
 ghost use Rattle.kt_engine.specs.Visits.{IsVisit};
 ghost use Rattle.kt_engine.specs.declared.upkeep.Stage.TheVariants as stage;
-ghost use Rattle.kt_maint.specs.Runs.{IsQuiet, IsReady, RunsAs, JobIsAt, JobHas, HasNoDevice, HoldsMerged, MayAbandon, StandsAs};
+ghost use Rattle.kt_maint.specs.Runs.{IsQuiet, IsReady, RunsAs, JobIsAt, JobHas, GoesOn, HasNoDevice, HoldsMerged, MayAbandon, StandsAs};
 
 use crate::numbers::is_within;
 use crate::publishing::publish_job;
@@ -21,7 +21,7 @@ use kt_engine::{Engine, JobNo, JobWait, MaintNo};
 use kt_joblaws::laws::{outputs_pass_law, rise_law, written_law};
 use kt_merge::merge_rows;
 use kt_outputs::MissedFiles;
-use kt_outputs::laws::{behind_law, stand_law};
+use kt_outputs::laws::{behind_law, fewer_law, stand_law};
 use kt_pick::Want;
 use std::alloc::Global;
 
@@ -35,7 +35,8 @@ fn merge<L: Disk, D: Disk + Drop, C: Clock>(
     requires calm { IsReady engine.old }
     ensures quiet { IsQuiet by engine.old engine.new }
     ensures beside { engine.new ≡ record engine.old { upkeep = engine.new.upkeep } }
-    ensures merged { IfOk result (λ outputs. JobIsAt engine.new by stage.Read × HoldsMerged D.tells engine.new outputs.rowsets) }
+    ensures merged { IfOk result (λ outputs. (at : JobIsAt engine.new by stage.Read) × HoldsMerged D.tells engine.new (takes_of at.job) outputs.rowsets) }
+    ensures same { IfOk result (λ _. GoesOn by engine.old.upkeep engine.new.upkeep) }
     ensures memory { IsErr result → MayAbandon engine.new by }
 {
     rise_law();
@@ -78,6 +79,7 @@ fn hand_in<L: Disk, D: Disk + Drop, C: Clock>(
     ensures quiet { IsQuiet by engine.old engine.new }
     ensures beside { engine.new ≡ record engine.old { upkeep = engine.new.upkeep } }
     ensures written { OnOk result (JobHas engine.new by stage.Written outputs.rowsets) }
+    ensures same { OnOk result (GoesOn by engine.old.upkeep engine.new.upkeep) }
     ensures memory { IsErr result → MayAbandon engine.new by }
 {
     let Ok(()) = engine.job_swap(alloc, by, outputs) else {
@@ -103,7 +105,7 @@ fn carry_out<L: Disk, D: Disk + Drop, C: Clock>(
     requires calm { IsReady engine.old }
     ensures visit { IsVisit by engine.old engine.new }
     ensures quiet { result ≢ Err MaintNo.Stopped → IsQuiet by engine.old engine.new }
-    ensures published { OnOk result ((job : JobView) × (job_of by engine.new.upkeep ≡ Some job) × (job.want ≡ Want.Flush) × MayFinish engine.new by job) }
+    ensures published { OnOk result ((same : GoesOn by engine.old.upkeep engine.new.upkeep) × MayFinish engine.new by same.job) }
     ensures memory { result ≡ Err MaintNo.Memory → MayAbandon engine.new by }
     ensures stops { result ≡ Err MaintNo.Stopped → engine.new.tablet.core.stopped ≡ true }
     ensures still { StandsAs by engine.old engine.new }
@@ -115,6 +117,7 @@ fn carry_out<L: Disk, D: Disk + Drop, C: Clock>(
     written_law();
     behind_law();
     stand_law();
+    fewer_law();
     let Ok(merged) = merge(alloc, engine, by) else {
         return Err(MaintNo::Memory);
     };
@@ -125,17 +128,19 @@ fn carry_out<L: Disk, D: Disk + Drop, C: Clock>(
     publish_job(alloc, engine, by)
 }
 
-/// Tries a flush in this visit. Where something is under way nothing is begun, and the log is at home with less to append. A pass that has a job begins no
-/// other one: that is as for want of memory.
-pub fn flush_now<L: Disk, D: Disk + Drop, C: Clock>(
+/// Tries a flush or a compaction in this visit. Where something is under way nothing is begun, and the log is at home with less to append. A pass that has a job
+/// begins no other one: that is as for want of memory.
+pub fn merge_now<L: Disk, D: Disk + Drop, C: Clock>(
     alloc: Global,
     engine: &mut Engine<L, D, C>,
     by: u32,
+    want: &Want,
 ) -> Turn
+    requires merges { IsMerge want.now }
     requires home { HasNoDevice by engine.old }
     ensures visit { IsVisit by engine.old engine.new }
     ensures still { StandsAs by engine.old engine.new }
-    ensures runs { RunsAs by Want.Flush engine.old engine.new result }
+    ensures runs { RunsAs by want.now engine.old engine.new result }
 {
     if engine.has_job(by) {
         return Turn::Memory;
@@ -146,7 +151,7 @@ pub fn flush_now<L: Disk, D: Disk + Drop, C: Clock>(
         Ready::Stopped => return Turn::Stopped,
         Ready::Memory => return Turn::Memory,
     }
-    match engine.job_begin(alloc, by, &Want::Flush) {
+    match engine.job_begin(alloc, by, want) {
         Ok(_) => {}
         Err(JobNo::Nothing) => return Turn::Nothing,
         Err(JobNo::Held { by: _ }) => return Turn::Wait,

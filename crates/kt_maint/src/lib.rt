@@ -1,4 +1,4 @@
-//! Maintenance: a flush, jobs on the files of one disk rowset, and the chores of a maintenance command.
+//! Maintenance: a flush, a compaction, jobs on the files of one disk rowset, and the chores of a maintenance command.
 //!
 //! For the layer above: each `run_` call does one job for its want, or tells that there is nothing to do, and shows nothing of it: the tablet has the
 //! same rows at each time from its mark on. `run_chore` does all that a command asks for. A job is run in one visit of the lock, while nothing flies and no
@@ -15,7 +15,9 @@ mod ready;
 mod rewriting;
 pub mod run;
 pub mod tries;
+pub mod work;
 mod writing;
 
 pub use chore::run_chore;
-pub use run::{Ran, run_dms_flush, run_flush, run_major, run_minor};
+pub use run::{Ran, run_compact, run_dms_flush, run_flush, run_major, run_minor};
+pub use work::pick;

@@ -4,15 +4,17 @@ ghost use Rattle.kt_pick.specs.declared.rules.Want.TheVariants as want;
 ghost use Rattle.kt_engine.specs.Calls.{SeesOthers, HasNoDevice, StandsStill};
 ghost use Rattle.kt_engine.specs.Visits.{IsVisit};
 ghost use Rattle.kt_maint.specs.Runs.{HasNoDevice as PassHasNone, StandsAs, RunsAs};
-ghost use Rattle.kt_maint.specs.Calls.{IsRun, AfterCall, AfterTurn};
+ghost use Rattle.kt_maint.specs.Calls.{AfterCall, AfterTurn};
 
 use crate::deltas::deltas_now;
-use crate::flush::flush_now;
+use crate::flush::merge_now;
 use crate::tries::Turn;
 use kt_base::Clock;
 use kt_disk::Disk;
+use kt_engine::upkeep::copy_ids;
 use kt_engine::{Engine, MaintNo};
 use kt_pick::Want;
+use kt_policy::IdList;
 use kt_seatlock::{Pass, SeatLock};
 use std::alloc::Global;
 use std::sync::Wait;
@@ -33,19 +35,16 @@ fn turn_now<L: Disk, D: Disk + Drop, C: Clock>(
     by: u32,
     want: &Want,
 ) -> Turn
-    requires run { IsRun want.now }
     requires home { PassHasNone by engine.old }
     ensures visit { IsVisit by engine.old engine.new }
     ensures still { StandsAs by engine.old engine.new }
     ensures runs { RunsAs by want.now engine.old engine.new result }
 {
     match want {
-        Want::Flush => flush_now(alloc, engine, by),
+        Want::Flush | Want::Compact(_) => merge_now(alloc, engine, by, want),
         Want::FlushDeltas(_) | Want::Minor(_) | Want::Major(_) => {
             deltas_now(alloc, engine, by, want)
         }
-        // A compaction is run by no call.
-        Want::Compact(_) => unreachable!(),
     }
 }
 
@@ -57,7 +56,6 @@ fn try_job<L: Disk, D: Disk + Drop, C: Clock, R: Wait>(
     pass: &mut Pass<Engine<L, D, C>>,
     want: &Want,
 ) -> Turn
-    requires run { IsRun want.now }
     requires enters { MayEnter lock.now pass.old }
     requires home { HasNoDevice (part pass.old) }
     ensures pass { IsBack pass.old pass.new }
@@ -83,7 +81,6 @@ pub fn run_job<L: Disk, D: Disk + Drop, C: Clock, R: Wait>(
     pass: &mut Pass<Engine<L, D, C>>,
     want: &Want,
 ) -> Result<Ran, MaintNo>
-    requires run { IsRun want.now }
     requires enters { MayEnter lock.now pass.old }
     requires home { HasNoDevice (part pass.old) }
     ensures pass { IsBack pass.old pass.new }
@@ -173,4 +170,25 @@ pub fn run_major<L: Disk, D: Disk + Drop, C: Clock, R: Wait>(
     ensures call { AfterCall (want.Major rowset) (part pass.old) (part pass.new) (seen pass.new) result }
 {
     run_job(rt, alloc, lock, pass, &Want::Major(rowset))
+}
+
+/// Merges disk rowsets into new ones, with all changes of them in memory, and joins the histories of each key. It takes memory for a copy of the list.
+pub fn run_compact<L: Disk, D: Disk + Drop, C: Clock, R: Wait>(
+    rt: &R,
+    alloc: Global,
+    lock: &SeatLock<Engine<L, D, C>>,
+    pass: &mut Pass<Engine<L, D, C>>,
+    rowsets: &IdList,
+) -> Result<Ran, MaintNo>
+    requires enters { MayEnter lock.now pass.old }
+    requires home { HasNoDevice (part pass.old) }
+    ensures pass { IsBack pass.old pass.new }
+    ensures still { StandsStill (part pass.old) (part pass.new) }
+    ensures quiet { SeesOthers (number pass.old) (seen pass.old) (seen pass.new) }
+    ensures call { AfterCall (want.Compact rowsets.now) (part pass.old) (part pass.new) (seen pass.new) result }
+{
+    let Ok(rowsets) = copy_ids(alloc, rowsets) else {
+        return Err(MaintNo::Memory);
+    };
+    run_job(rt, alloc, lock, pass, &Want::Compact(rowsets))
 }

@@ -1,7 +1,6 @@
 use Rattle.std.proofs.Common.{rules, sym, ap, ◌∙◌}
 use Rattle.kt_seatlock.specs.Passes.{number, seen, part}
 use Rattle.kt_maint.proofs.Calling.{told_by, beside_still, beside_home, round_told, stop_told}
-use Rattle.kt_maint.proofs.Rounds.{wants_run}
 use Rattle.kt_maint.proofs.chore.begin_round.Goals as goal
 
 pub returns-in-Ok-clause-still : goal.returns-in-Ok-clause-still
@@ -71,6 +70,3 @@ pub returns-in-Err-Stopped-clause-stopped : goal.returns-in-Err-Stopped-clause-s
 returns-in-Err-Stopped-clause-stopped g c = λ e.
     let x = c.enter-engine.result in
     stop_told x (seen c.leave.new.pass) c.standing.ensures.stops (c.leave.ensures.told.0 ∙ ap (λ v. v.tablet.core.trail) c.round-wants.ensures.beside) (c.round-wants.ensures.goes (search rules))
-
-pub returns-in-Ok-clause-wants : goal.returns-in-Ok-clause-wants
-returns-in-Ok-clause-wants g c = λ stands. wants_run c.args.chore _ c.in-Ok.wants c.in-Ok.ensures.wants stands

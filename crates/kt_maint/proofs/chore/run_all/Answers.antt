@@ -1,4 +1,4 @@
-use Rattle.std.proofs.Common.{◌<◌, ◌≤◌, length, get_or, rules, refl, sym, ap, subst, arith}
+use Rattle.std.proofs.Common.{rules, refl, subst, arith}
 use Rattle.kt_seatlock.specs.Passes.{number, seen, part}
 use Rattle.kt_engine.specs.Calls.{SeesOthers}
 use Rattle.kt_maint.proofs.Calling.{still_itself, still_then, sees_itself, sees_then, call_home}
@@ -8,7 +8,7 @@ use Rattle.kt_maint.proofs.chore.run_all.Goals as goal
 pub wants-init : goal.wants-init
 wants-init g c =
     let itself = still_itself (part c.args.pass.now) c.requires.home in
-    (((refl, refl), (refl, refl, refl), c.requires.enters.1), c.requires.home, itself.0, sees_itself (number c.args.pass.now) (seen c.args.pass.now), rounds_begin c.args.wants.now (part c.args.pass.now) c.requires.run)
+    (((refl, refl), (refl, refl, refl), c.requires.enters.1), c.requires.home, itself.0, sees_itself (number c.args.pass.now) (seen c.args.pass.now), rounds_begin c.args.wants.now (part c.args.pass.now))
 
 pub returns-in_err-run_job-clause-still : goal.returns-in_err-run_job-clause-still
 returns-in_err-run_job-clause-still g c = still_then (part c.args.pass.now) (part c.wants.pass) (part c.run_job.new.pass) c.wants.invariant.2 c.run_job.ensures.still

@@ -1,5 +1,4 @@
-use Rattle.std.proofs.Common.{take, Option}
-use Rattle.kt_base.specs.declared.chore.Chore.{Chore}
+use Rattle.std.proofs.Common.{take}
 use Rattle.kt_seatlock.specs.Passes.{number, seen, part, IsBack}
 use Rattle.kt_engine.specs.Calls.{SeesOthers, HasNoDevice, StandsStill}
 use Rattle.kt_maint.proofs.Rounds.{RoundsOn}

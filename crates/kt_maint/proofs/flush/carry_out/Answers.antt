@@ -1,8 +1,9 @@
 use Rattle.std.proofs.Common.{map, sym, ap, subst, ◌∙◌}
 use Rattle.kt_content.specs.Flushes.{AreFrom}
 use Rattle.kt_diskrowset.specs.Data.{files_in}
-use Rattle.kt_engine.specs.Jobs.{JobView, job_of}
-use Rattle.kt_maint.proofs.Stages.{some_is}
+use Rattle.kt_engine.specs.Jobs.{JobView, UpkeepsView, job_of, takes_of}
+use Rattle.kt_maint.specs.Runs.{GoesOn}
+use Rattle.kt_maint.proofs.Stages.{some_is, on_then, takes_same}
 use Rattle.kt_maint.proofs.Written.{fresh_written, from_written, may_publish_then, may_finish_then}
 use Rattle.kt_maint.proofs.flush.carry_out.Goals as goal
 
@@ -28,26 +29,34 @@ hand_in-requires-clause-from g c = λ job has.
 
 pub publish_job-requires-clause-may : goal.publish_job-requires-clause-may
 publish_job-requires-clause-may g c =
+    let by = c.args.by in
     let e1 = c.merge.new.engine in
     let e2 = c.write.new.engine in
+    let e3 = c.hand_in.new.engine in
     let merged = c.in-Ok.merged.rowsets in
     let out = c.in_ok-outputs.outputs.rowsets in
-    let files = c.in_ok-outputs.ensures.files in
     let quiet = c.in_ok-outputs.ensures.quiet (λ e. cc) in
+    let read = c.in-Ok.ensures.merged.0 in
     let has = c.in-Ok-hand_in.ensures.written in
-    let may = may_publish_then g.D.Disk.tells g.D.Disk.seen g.D.Disk.now g.D.Disk.leaves c.args.by g.D.Disk.faults c.args.engine.now e1 e2 c.hand_in.new.engine merged out c.written_law.ensures.same c.written_law.ensures.pass c.written_law.ensures.told c.behind_law.ensures c.stand_law.ensures
-    c.standing.ensures.side c.requires.calm c.merge.ensures.quiet c.merge.ensures.beside c.in-Ok.ensures.merged.1 quiet.0 files c.write.ensures.home c.hand_in.ensures.quiet c.hand_in.ensures.beside has in
+    let on = subst (λ (u : UpkeepsView). GoesOn by u e3.upkeep) quiet.1 c.in-Ok-hand_in.ensures.same in
+    let may = may_publish_then g.D.Disk.tells g.D.Disk.seen g.D.Disk.now g.D.Disk.leaves by g.D.Disk.faults c.args.engine.now e1 e2 e3 merged out c.written_law.ensures.same c.written_law.ensures.pass c.written_law.ensures.told c.behind_law.ensures c.stand_law.ensures c.fewer_law.ensures.named c.fewer_law.ensures.stand
+    (takes_of read.job) c.standing.ensures.side c.requires.calm c.merge.ensures.quiet c.merge.ensures.beside c.in-Ok.ensures.merged.1 quiet.0 c.in_ok-outputs.ensures.files c.write.ensures.home c.hand_in.ensures.quiet c.hand_in.ensures.beside has (takes_same by e1.upkeep e3.upkeep on read.job has.at.job read.has has.at.has) in
     (has.at.job, has.at.has, may)
 
 pub returns-clause-published : goal.returns-clause-published
 returns-clause-published g c =
+    let by = c.args.by in
+    let e0 = c.args.engine.now in
     let e1 = c.merge.new.engine in
     let e2 = c.write.new.engine in
+    let e3 = c.hand_in.new.engine in
     let merged = c.in-Ok.merged.rowsets in
     let out = c.in_ok-outputs.outputs.rowsets in
-    let files = c.in_ok-outputs.ensures.files in
     let quiet = c.in_ok-outputs.ensures.quiet (λ e. cc) in
+    let read = c.in-Ok.ensures.merged.0 in
     let has = c.in-Ok-hand_in.ensures.written in
-    let may = may_publish_then g.D.Disk.tells g.D.Disk.seen g.D.Disk.now g.D.Disk.leaves c.args.by g.D.Disk.faults c.args.engine.now e1 e2 c.hand_in.new.engine merged out c.written_law.ensures.same c.written_law.ensures.pass c.written_law.ensures.told c.behind_law.ensures c.stand_law.ensures
-    c.standing.ensures.side c.requires.calm c.merge.ensures.quiet c.merge.ensures.beside c.in-Ok.ensures.merged.1 quiet.0 files c.write.ensures.home c.hand_in.ensures.quiet c.hand_in.ensures.beside has in
-    may_finish_then g.D.Disk.tells g.D.Disk.seen g.D.Disk.now g.D.Disk.leaves c.args.by c.hand_in.new.engine c.publish_job.new.engine out has may c.publish_job.result c.publish_job.ensures.quiet (c.publish_job.ensures.published has.at.job has.at.has)
+    let on = subst (λ (u : UpkeepsView). GoesOn by u e3.upkeep) quiet.1 c.in-Ok-hand_in.ensures.same in
+    let may = may_publish_then g.D.Disk.tells g.D.Disk.seen g.D.Disk.now g.D.Disk.leaves by g.D.Disk.faults e0 e1 e2 e3 merged out c.written_law.ensures.same c.written_law.ensures.pass c.written_law.ensures.told c.behind_law.ensures c.stand_law.ensures c.fewer_law.ensures.named c.fewer_law.ensures.stand
+    (takes_of read.job) c.standing.ensures.side c.requires.calm c.merge.ensures.quiet c.merge.ensures.beside c.in-Ok.ensures.merged.1 quiet.0 c.in_ok-outputs.ensures.files c.write.ensures.home c.hand_in.ensures.quiet c.hand_in.ensures.beside has (takes_same by e1.upkeep e3.upkeep on read.job has.at.job read.has has.at.has) in
+    may_finish_then g.D.Disk.tells g.D.Disk.seen g.D.Disk.now g.D.Disk.leaves by e3 c.publish_job.new.engine out has may c.publish_job.result c.publish_job.ensures.quiet (c.publish_job.ensures.published has.at.job has.at.has) e0.upkeep
+    (on_then by e0.upkeep e1.upkeep e3.upkeep c.in-Ok.ensures.same on)

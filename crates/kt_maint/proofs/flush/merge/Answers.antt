@@ -1,19 +1,40 @@
-use Rattle.std.proofs.Common.{◌≡◌, Err, None, Some, sym, ap, ◌∙◌}
+use Rattle.std.proofs.Common.{◌≡◌, ◌≤◌, ℕ, Err, None, Some, sym, ap, subst, ◌∙◌, arith}
 use Rattle.std.specs.Prelude.{map}
+use Rattle.std.proofs.Math.Nat.{min-le_left}
 use Rattle.kt_history.specs.Machine.{least}
 use Rattle.kt_histlaws.specs.Core.{flown_by}
 use Rattle.kt_engine.specs.declared.upkeep.Stage.TheVariants as stage
 use Rattle.kt_maint.proofs.Merged.{holds_merged}
-use Rattle.kt_maint.proofs.Stages.{goes_on, may_abandon}
+use Rattle.kt_maint.proofs.Stages.{goes_on, stage_on, quiet_stage, may_abandon}
 use Rattle.kt_maint.proofs.flush.merge.Goals as goal
 
 none_some : {A : Type 0} (x : A) → None ≡ Some x → ⊥
 none_some x h = cc
 
+pub merge_rows-requires-clause-readable : goal.merge_rows-requires-clause-readable
+merge_rows-requires-clause-readable g c = let at = c.requires.begun in (c.in-Ok.ensures.read at.job at.has).0.readable
+
+pub merge_rows-requires-clause-order : goal.merge_rows-requires-clause-order
+merge_rows-requires-clause-order g c =
+    let at = c.requires.begun in
+    let bound = c.in-Ok.input.bound in
+    subst (λ (m : ℕ). m ≤ bound) (sym (c.in-Ok.ensures.read at.job at.has).0.mark_is) (min-le_left bound c.args.engine.now.tablet.core.a)
+
+pub merge_rows-requires-clause-few : goal.merge_rows-requires-clause-few
+merge_rows-requires-clause-few g c = let at = c.requires.begun in let few = (c.in-Ok.ensures.read at.job at.has).0.few in omega (arith, few)
+
+pub returns-in_err-outputs-in-Ok-clause-quiet : goal.returns-in_err-outputs-in-Ok-clause-quiet
+returns-in_err-outputs-in-Ok-clause-quiet g c =
+    let at = c.requires.begun in
+    quiet_stage c.args.by c.args.engine.now c.job_snapshot.new.self _ (c.in-Ok.ensures.read at.job at.has).1 c.job_snapshot.ensures.visit
+
+pub returns-in_err-outputs-in-Ok-clause-beside : goal.returns-in_err-outputs-in-Ok-clause-beside
+returns-in_err-outputs-in-Ok-clause-beside g c = let at = c.requires.begun in (c.in-Ok.ensures.read at.job at.has).1.beside
+
 pub returns-in_err-outputs-in-Ok-clause-memory : goal.returns-in_err-outputs-in-Ok-clause-memory
 returns-in_err-outputs-in-Ok-clause-memory g c = λ err.
     let at = c.requires.begun in
-    may_abandon c.job_snapshot.new.self c.args.by (goes_on c.args.by c.args.engine.now c.job_snapshot.new.self at stage.Read c.in-Ok.input.bound c.in-Ok.input.mark at.job.metas at.job.held at.job.room at.job.super (c.in-Ok.ensures.read.2 at.job at.has)) tt
+    may_abandon c.job_snapshot.new.self c.args.by (goes_on c.args.by c.args.engine.now c.job_snapshot.new.self at stage.Read c.in-Ok.input.bound c.in-Ok.input.mark at.job.metas at.job.held at.job.room at.job.super (c.in-Ok.ensures.read at.job at.has).1) tt
 
 pub unreachable-requires-in-Err-NotYet : goal.unreachable-requires-in-Err-NotYet
 unreachable-requires-in-Err-NotYet g c =
@@ -24,10 +45,24 @@ pub returns-in_ok-outputs-in-Ok-clause-merged : goal.returns-in_ok-outputs-in-Ok
 returns-in_ok-outputs-in-Ok-clause-merged g c =
     let at = c.requires.begun in
     let input = c.in-Ok.input in
-    let read = c.in-Ok.ensures.read in
-    let later = read.2 at.job at.has in
+    let read = c.in-Ok.ensures.read at.job at.has in
+    let later = read.1 in
     let made = c.in_ok-outputs-in-Ok.ensures in (
       goes_on c.args.by c.args.engine.now c.job_snapshot.new.self at stage.Read input.bound input.mark at.job.metas at.job.held at.job.room at.job.super later,
-      holds_merged g.D.Disk.tells c.args.engine.now c.job_snapshot.new.self input.inputs input.bound input.mark c.in_ok-outputs-in-Ok.outputs.rowsets c.rise_law.ensures c.outputs_pass_law.ensures later.beside at.takes.vacant read.0 c.is_within.ensures
-          c.in-Ok.ensures.faultless c.in-Ok.ensures.tells c.in-Ok.ensures.passes made.outputs made.rows made.alike made.sound,
+      holds_merged g.D.Disk.tells c.args.engine.now c.job_snapshot.new.self input.inputs input.bound input.mark c.in_ok-outputs-in-Ok.outputs.rowsets at.job at.takes at.as_many c.rise_law.ensures c.outputs_pass_law.ensures later.beside read.0 c.is_within.ensures
+          c.in-Ok.ensures.faultless (λ first found. c.in-Ok.ensures.tells at.job first at.has found) c.in-Ok.ensures.passes made.outputs made.rows made.alike made.sound,
     )
+
+pub returns-in_ok-outputs-in-Ok-clause-same : goal.returns-in_ok-outputs-in-Ok-clause-same
+returns-in_ok-outputs-in-Ok-clause-same g c =
+    let at = c.requires.begun in
+    let input = c.in-Ok.input in
+    stage_on c.args.by c.args.engine.now c.job_snapshot.new.self at.job stage.Read input.bound input.mark at.job.metas at.job.held at.job.room at.job.super at.has (c.in-Ok.ensures.read at.job at.has).1
+
+pub returns-in_ok-outputs-in-Ok-clause-quiet : goal.returns-in_ok-outputs-in-Ok-clause-quiet
+returns-in_ok-outputs-in-Ok-clause-quiet g c =
+    let at = c.requires.begun in
+    quiet_stage c.args.by c.args.engine.now c.job_snapshot.new.self _ (c.in-Ok.ensures.read at.job at.has).1 c.job_snapshot.ensures.visit
+
+pub returns-in_ok-outputs-in-Ok-clause-beside : goal.returns-in_ok-outputs-in-Ok-clause-beside
+returns-in_ok-outputs-in-Ok-clause-beside g c = let at = c.requires.begun in (c.in-Ok.ensures.read at.job at.has).1.beside
