@@ -1,5 +1,5 @@
 -- The lines below the columns, one after another.
-use Rattle.std.proofs.Common.{◌≡◌, ℕ, suc, ◌+◌, ◌<◌, ◌≤◌, Bool, true, false, not, List, [], ◌∷◌, ◌++◌, length, drop, Option, Some, None, Result, Ok, Err, min, refl, sym, ap, subst, ◌∙◌, arith, length-append, T}
+use Rattle.std.proofs.Common.{◌≡◌, ℕ, suc, ◌+◌, ◌<◌, ◌≤◌, Bool, true, false, not, List, [], ◌∷◌, ◌++◌, length, drop, Option, Some, None, Result, Ok, Err, min, refl, sym, ap, subst, ◌∙◌, arith, length-append}
 use Rattle.std.specs.Prelude.{if◌then◌else◌, nat_lt, nat_le}
 use Rattle.std.specs.List.{list_any, AllByRecursion}
 use Rattle.std.proofs.lemmas.Bool.Decides.{nat_tests}
@@ -16,7 +16,7 @@ use Rattle.kt_script.specs.declared.leads.Word.{Word}
 use Rattle.kt_script.specs.declared.leads.Word.TheVariants as word
 use Rattle.kt_script.specs.declared.leads.Lead.{Lead}
 use Rattle.kt_script.specs.declared.leads.Lead.TheVariants as lead
-use Rattle.kt_script.specs.Leads.{lead_in, alone_no, stands}
+use Rattle.kt_script.specs.Leads.{lead_in}
 use Rattle.kt_script.specs.Writes.{write_no, write_of}
 use Rattle.kt_script.specs.Scripts.{head, body, fault_if, fault_from, above_end, at, located, first_piece, first_lead, session_no, full_no, command_no, command_of, led_no, led_plan, body_no, body_plan, push_last, commands_in, is_begun, most_sessions, most_commands, said, ReadsBody, ReadsLed}
 use Rattle.kt_script.specs.Times.{most_time, time_no, time_or_zero, mark_in, mark_no, mark_of}
@@ -137,11 +137,6 @@ mark_fits words h = by (mark_in words) h
     by None g = absurd (omega arith)
     by (Some t) g = low t (nat_lt most_time t) refl g
 
--- a chore is taken where maintenance of its kind stands, and its word stands alone
-pub chore_taken : (stand : Bool) (alone : ℕ) → sound ≤ (if stand then alone else 11) → T stand × (sound ≤ alone)
-chore_taken true alone h = (tt, h)
-chore_taken false alone h = absurd (omega arith)
-
 -- a line that no reason refuses keeps the plan fitting
 pub body_fits : (columns : List Column) (plan : List (List Command)) (words : List (List ℕ)) → counts_from 1 columns ≡ true → ((ws : List (List ℕ)) → sound ≤ write_no columns ws → WriteFits columns (write_of columns ws)) → PlanFits columns plan
     → sound ≤ body_no columns plan words → PlanFits columns (body_plan columns plan words)
@@ -157,7 +152,7 @@ body_fits columns plan words counts writes fits h = by (first_lead words) h
     fit : (w : Word) → sound ≤ command_no columns w words → CommandFits columns (command_of columns w words)
     fit word.Scan g = scan_fits columns (drop 1 words) counts g
     fit word.Mark g = mark_fits (drop 1 words) g
-    fit (word.Chore c) g = (chore_taken (stands c) (alone_no words) g).0
+    fit (word.Chore c) g = tt
     fit (word.Op k) g = writes words g
 
     in_session : (w : Word) (b : Bool) → is_begun plan ≡ b → sound ≤ (if b then min (command_no columns w words) (full_no plan) else 11) → PlanFits columns (push_last (command_of columns w words) plan)

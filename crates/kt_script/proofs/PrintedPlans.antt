@@ -1,5 +1,5 @@
 -- The lines of a plan are read as that plan.
-use Rattle.std.proofs.Common.{◌≡◌, ℕ, ◌+◌, ◌<◌, ◌≤◌, List, [], ◌∷◌, ◌++◌, refl, sym, ap, subst, ◌∙◌, arith, length, map, Bool, true, false, not, Some, None, min, append_assoc, length-append, T}
+use Rattle.std.proofs.Common.{◌≡◌, ℕ, ◌+◌, ◌<◌, ◌≤◌, List, [], ◌∷◌, ◌++◌, refl, sym, ap, subst, ◌∙◌, arith, length, map, true, false, not, Some, None, min, append_assoc, length-append}
 use mathlib.Core.List.{append-nil}
 use Rattle.std.specs.Prelude.{nat_lt, nat_le, if◌then◌else◌, codes}
 use Rattle.std.specs.Fmt.{decimal}
@@ -17,7 +17,7 @@ use Rattle.kt_script.specs.declared.leads.Word.{Word}
 use Rattle.kt_script.specs.declared.leads.Word.TheVariants as word
 use Rattle.kt_script.specs.Fit.{CommandFits, PlanFits}
 use Rattle.kt_script.specs.Texts.{words}
-use Rattle.kt_script.specs.Leads.{chore_word, stands}
+use Rattle.kt_script.specs.Leads.{chore_word}
 use Rattle.kt_script.specs.Print.{scan_words, command_words, command_text, CommandBytes}
 use Rattle.kt_script.proofs.Bodies.{push_is}
 use Rattle.kt_script.proofs.FirstWords.{chore_leads, chore_plain}
@@ -113,11 +113,7 @@ command_read columns (command.Mark a) t fit said =
     let time = time_again a fit in
     record { first = word.Mark; leads = refl; no = ap time_no time ∙ not_late a fit; is = ap (λ o. command.Mark (time_or_zero o)) time; line = plain_in_line (codes "mark" ∷ decimal a ∷ []) (plain (codes "mark") refl refl, (time_plain a fit, tt)) }
 command_read columns (command.Chore c) t fit said =
-    record { first = word.Chore c; leads = chore_leads c; no = taken (stands c) fit; is = refl; line = plain_in_line (chore_word c ∷ []) (chore_plain c, tt) }
-  where
-    taken : (stand : Bool) → T stand → (if stand then sound else 11) ≡ sound
-    taken true there = refl
-    taken false there = absurd there
+    record { first = word.Chore c; leads = chore_leads c; no = refl; is = refl; line = plain_in_line (chore_word c ∷ []) (chore_plain c, tt) }
 
 -- the words of a line that are cut off it again
 words_again : (ws : List (List ℕ)) (l : Lead) → first_lead ws ≡ Some l → AllByRecursion IsWord ws → words_of (words ws) ≡ ws

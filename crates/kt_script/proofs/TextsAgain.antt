@@ -25,7 +25,7 @@ use Rattle.kt_script.specs.declared.leads.Word.{Word}
 use Rattle.kt_script.specs.declared.leads.Word.TheVariants as word
 use Rattle.kt_script.specs.declared.leads.Lead.{Lead}
 use Rattle.kt_script.specs.declared.leads.Lead.TheVariants as lead
-use Rattle.kt_script.specs.Leads.{chore_word, lead_word, lead_in, alone_no, stands}
+use Rattle.kt_script.specs.Leads.{chore_word, lead_word, lead_in, alone_no}
 use Rattle.kt_script.specs.Scripts.{Above, start, head, body, session_no, full_no, command_no, command_of, in_session_no, led_no, led_plan, body_no, body_plan, first_lead, push_last, is_begun, most_bytes, line_no, rest_no, after, Fault, fault_if, fault_from, above_end, Said, said}
 use Rattle.kt_script.specs.Print.{column_text, command_text, session_lines, write_words, script_text}
 use Rattle.kt_script.specs.Alike.{is_write, behind_alike, kind_alike, op_alike, ops_alike, alike_as, line_alike, lines_alike, alike, texts_are_printed, alike_texts_are_read, texts_are_one, texts_are_read_again}
@@ -33,7 +33,6 @@ use Rattle.kt_script.proofs.Cuts.{Without, some_piece, cut_lines}
 use Rattle.kt_script.proofs.Pieces.{some_word}
 use Rattle.kt_script.proofs.OpWords.{ops_split}
 use Rattle.kt_script.proofs.FirstWords.{lead_is}
-use Rattle.kt_script.proofs.Bodies.{chore_taken}
 use Rattle.kt_script.proofs.Spelling.{FitsAbove, after_kept, no_fault, script_is, is_script}
 use Rattle.kt_script.proofs.AgainColumns.{rejoined, column_again}
 use Rattle.kt_script.proofs.AgainScans.{scan_again, mark_again}
@@ -222,7 +221,7 @@ module _ (columns : List Column) (plan : List (List Command)) (text : List ℕ) 
   command_shown : (w : Word) → first_lead (words_of text) ≡ Some (lead.Command w) → is_write (Some (lead.Command w)) ≡ false → sound ≤ command_no columns w (words_of text) → command_text columns (command_of columns w (words_of text)) ≡ text
   command_shown word.Scan first plain h = ap words (scan_again columns (drop 1 (words_of text)) table h) ∙ begins_with text (lead.Command word.Scan) first
   command_shown word.Mark first plain h = ap (λ vs. words (codes "mark" ∷ vs)) (mark_again (drop 1 (words_of text)) h) ∙ begins_with text (lead.Command word.Mark) first
-  command_shown (word.Chore c) first plain h = append-nil (chore_word c) ∙ sym (alone_is text (words_of text) (lead.Command (word.Chore c)) refl first (chore_taken (stands c) (alone_no (words_of text)) h).1)
+  command_shown (word.Chore c) first plain h = append-nil (chore_word c) ∙ sym (alone_is text (words_of text) (lead.Command (word.Chore c)) refl first h)
   command_shown (word.Op k) first plain h = absurd (false≢true (sym plain))
 
   session_line_on : first_lead (words_of text) ≡ Some lead.Session → sound ≤ session_no plan (words_of text) → script_text (record { columns = columns; plan = plan ++ [] ∷ [] }) ≡ so_far ++ line text

@@ -1,6 +1,5 @@
 -- What a script that is taken keeps of the rules of its table, and of the grammar.
 use Rattle.std.specs.Prelude.{◌≡◌, ℕ, ◌≤◌, Bool, true, false, not, ◌&&◌, ◌||◌, List, [], ◌∷◌, length, map, Option, Some, None, Result, Ok, Err, is_some, if◌then◌else◌, ◌==◌}
-use Rattle.std.proofs.Common.{T}
 use Rattle.std.specs.List.{list_all, list_any, AllByRecursion}
 use Rattle.std.specs.Ordering.{nat_cmp}
 use Rattle.std.specs.FinMap.Entries.{find}
@@ -22,7 +21,6 @@ use Rattle.kt_history.specs.declared.scan.Test.{Test}
 use Rattle.kt_history.specs.declared.scan.Test.TheVariants as test
 use Rattle.kt_script.specs.declared.forms.OpForm.{OpForm}
 use Rattle.kt_script.specs.declared.forms.OpForm.TheVariants as form
-use Rattle.kt_script.specs.Leads.{stands}
 use Rattle.kt_script.specs.Writes.{twice, op_form}
 use Rattle.kt_script.specs.Times.{most_time}
 use Rattle.kt_script.specs.declared.refusal.ScriptNo.{ScriptNo}
@@ -116,7 +114,7 @@ abbrev pub CommandFits : List Column → Command → Type 0
 CommandFits columns (command.Write w) = WriteFits columns w.ops
 CommandFits columns (command.Scan s) = ScanFits columns s
 CommandFits columns (command.Mark a) = a ≤ most_time
-CommandFits columns (command.Chore c) = T (stands c)
+CommandFits columns (command.Chore c) = Unit {0}
 
 -- The commands of each session fit, and are not too many.
 pub record PlanFits (columns : List Column) (plan : List (List Command)) : Type 0 where

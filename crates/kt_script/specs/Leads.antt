@@ -1,5 +1,5 @@
 -- The first word of a line below the columns: a session's, or that of a command.
-use Rattle.std.specs.Prelude.{ℕ, Bool, true, false, List, [], ◌∷◌, Option, if◌then◌else◌, codes}
+use Rattle.std.specs.Prelude.{ℕ, List, [], ◌∷◌, Option, codes}
 use Rattle.std.specs.Option.{option_map, option_or}
 use Rattle.kt_base.specs.declared.chore.Chore.{Chore}
 use Rattle.kt_base.specs.declared.chore.Chore.TheVariants as chore
@@ -49,15 +49,3 @@ abbrev pub alone_no : List (List ℕ) → ℕ
 alone_no [] = 12
 alone_no (w ∷ []) = sound
 alone_no (w ∷ v ∷ ws) = 12
-
--- whether maintenance of this kind stands
-abbrev pub stands : Chore → Bool
-stands chore.Flush = true
-stands chore.FlushDeltas = true
-stands chore.Minor = true
-stands chore.Major = true
-stands chore.Compact = false
-
--- why a maintenance line is refused
-abbrev pub chore_no : Chore → List (List ℕ) → ℕ
-chore_no c words = if stands c then alone_no words else 11

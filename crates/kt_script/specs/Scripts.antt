@@ -24,7 +24,7 @@ use Rattle.kt_script.specs.Columns.{begins_column, column_no, columns_with, keys
 use Rattle.kt_script.specs.Writes.{write_no, write_of}
 use Rattle.kt_script.specs.Times.{mark_no, mark_of}
 use Rattle.kt_script.specs.Scans.{scan_no, scan_of}
-use Rattle.kt_script.specs.Leads.{lead_in, alone_no, chore_no}
+use Rattle.kt_script.specs.Leads.{lead_in, alone_no}
 
 abbrev pub most_bytes : ℕ
 most_bytes = 67108864
@@ -39,7 +39,7 @@ most_commands = 262144
 abbrev pub command_no : List Column → Word → List (List ℕ) → ℕ
 command_no columns word.Scan words = scan_no columns (drop 1 words)
 command_no columns word.Mark words = mark_no (drop 1 words)
-command_no columns (word.Chore c) words = chore_no c words
+command_no columns (word.Chore c) words = alone_no words
 command_no columns (word.Op k) words = write_no columns words
 
 abbrev pub command_of : List Column → Word → List (List ℕ) → Command

@@ -1,7 +1,7 @@
 //! The first word of a line below the columns, and the words of chores.
 
 ghost use Rattle.std.specs.Prelude.{◌≡◌, ◌++◌, OnOk};
-ghost use Rattle.kt_script.specs.Leads.{chore_word, chore_in, stands, command_in, lead_in};
+ghost use Rattle.kt_script.specs.Leads.{chore_word, chore_in, command_in, lead_in};
 
 use crate::forms::op_kind;
 use crate::word::is_word;
@@ -41,16 +41,6 @@ pub fn chore_in(text: &[u8]) -> Option<Chore>
         Some(Chore::Compact)
     } else {
         None
-    }
-}
-
-/// Whether maintenance of this kind stands. Until it does, its line is refused as that of no command.
-pub fn stands(chore: Chore) -> bool
-    ensures { result ≡ stands chore }
-{
-    match chore {
-        Chore::Flush | Chore::FlushDeltas | Chore::Minor | Chore::Major => true,
-        Chore::Compact => false,
     }
 }
 

@@ -13,7 +13,7 @@ ghost use Rattle.kt_script.specs.Fit.{PlanFits, IsBodyRead, AreLinesRead};
 
 use crate::columns::LineNo;
 use crate::head::{Table, cut_line, located, read_table};
-use crate::leads::{Lead, Word, lead_in, stands};
+use crate::leads::{Lead, Word, lead_in};
 use crate::least::least_of;
 use crate::refusal::ScriptNo;
 use crate::scans::read_scan;
@@ -78,9 +78,6 @@ fn push_command(sessions: &mut Sessions, command: Command, spare: &mut OpList) -
 fn read_chore(chore: Chore, rest: Option<&[u8]>) -> Result<Command, LineNo>
     ensures { (columns : List Column) (first : List ℕ) → ReadsCommand columns (begins.Chore chore) (first ∷ words_in rest.entry) result }
 {
-    if !stands(chore) {
-        return Err(LineNo::Reason(11));
-    }
     match next_word(rest) {
         Some(_) => Err(LineNo::Reason(12)),
         None => Ok(Command::Chore(chore)),
