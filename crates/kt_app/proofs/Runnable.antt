@@ -4,7 +4,6 @@ use Rattle.std.specs.Prelude.{slice_get}
 use Rattle.std.specs.List.{AllByRecursion}
 use Rattle.std.proofs.lemmas.List.Sums.{sum_by-cons}
 use Rattle.kt_schema.specs.declared.column.Column.{Column}
-use Rattle.kt_base.specs.declared.chore.Chore.TheVariants as kind
 use Rattle.kt_history.specs.declared.command.Command.{Command}
 use Rattle.kt_history.specs.declared.command.Command.TheVariants as command
 use Rattle.kt_history.specs.Machine.{Workload, nth, command_of}
@@ -37,11 +36,7 @@ module _ (columns : List Column) (counted : IsCounted columns) where
   can_run i (command.Write w) few fits = record { count = count columns counted w.ops fits; each = rules columns counted w.ops fits; short = is_short columns counted w.ops fits; few = few }
   can_run i (command.Scan scan) few fits = few
   can_run i (command.Mark t) few fits = few
-  can_run i (command.Chore kind.Flush) few fits = (λ e. cc, few)
-  can_run i (command.Chore kind.FlushDeltas) few fits = (λ e. cc, few)
-  can_run i (command.Chore kind.Minor) few fits = (λ e. cc, few)
-  can_run i (command.Chore kind.Major) few fits = (λ e. cc, few)
-  can_run i (command.Chore kind.Compact) few fits = absurd fits
+  can_run i (command.Chore chore) few fits = few
 
   pub plan_runs : (plan : List (List Command)) → PlanFits columns plan → PlanRuns plan
   plan_runs plan fits = record {

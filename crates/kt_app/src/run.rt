@@ -85,7 +85,7 @@ fn gather(alloc: Global, ends: Vec<SessionEnd>, stopped: bool) -> Result<Played,
     Ok(Played { stopped, replies })
 }
 
-// Runs the sessions of a plan that the engine has, each in a thread.
+// Runs the sessions of a plan that the engine has, and so many workers beside them, each in a thread.
 fn play<
     L: Disk + Send,
     D: Disk + Drop + Send,
@@ -100,12 +100,13 @@ fn play<
     lock: SeatLock<Engine<L, D, C>>,
     pass: Pass<Engine<L, D, C>>,
     engine: Engine<L, D, C>,
+    workers: u32,
     gate: &G,
 ) -> (Result<Played, NoMemory>, Engine<L, D, C>)
     requires counted { IsCounted schema.now }
     requires fits { PlanFits schema.now plan.now }
     requires own { IsPassOf lock pass × IsVacant pass × (given pass ≡ 1) × (number pass ≡ 0) }
-    requires passes { length plan.now < passes_of lock }
+    requires passes { length plan.now + workers < passes_of lock }
     requires on { IsOn schema.now engine.tablet.core.work × (engine.tablet.core.work.plan ≡ plan.now) }
     requires fresh { (engine.tablet.core.trail ≡ []) × (engine.tablet.core.aloft ≡ []) × (engine.log.holder ≡ None) × (engine.store.holder ≡ None) }
     requires turns { engine.tablet.core.turns ≡ first_turns plan.now }
@@ -121,6 +122,7 @@ fn play<
         pass,
         engine,
         plan.as_slice(),
+        workers,
         gate,
         &Jobs,
     ) {
@@ -133,7 +135,7 @@ fn play<
     }
 }
 
-/// Runs a plan on an engine that was opened, and gives its output text, unless memory is wanting, and what the engine is taken
+/// Runs a plan on an engine that was opened, and so many workers beside it, and gives its output text, unless memory is wanting, and what the engine is taken
 /// apart into. The lock is made before there is an engine, so that no want of memory loses one.
 pub fn run_plan<
     L: Disk + Send,
@@ -149,12 +151,13 @@ pub fn run_plan<
     lock: SeatLock<Engine<L, D, C>>,
     pass: Pass<Engine<L, D, C>>,
     mut engine: Engine<L, D, C>,
+    workers: u32,
     gate: &G,
 ) -> (Option<Output>, Parts<L, D, C>)
     requires counted { IsCounted schema.now }
     requires fits { PlanFits schema.now plan.now }
     requires own { IsPassOf lock pass × IsVacant pass × (given pass ≡ 1) × (number pass ≡ 0) }
-    requires passes { length plan.now < passes_of lock }
+    requires passes { length plan.now + workers < passes_of lock }
     requires fresh { IsFresh engine }
     requires work { IsOn schema.now engine.tablet.core.work }
 
@@ -182,7 +185,7 @@ pub fn run_plan<
     ensures fault { IfSome result.0 (λ out. IsTrue out.stopped → OneRose (L.faults engine.device) (L.faults result.1.log) (D.faults engine.store_device) (D.faults result.1.store)) }
 {
     engine.set_plan(plan);
-    let (played, engine) = play(rt, alloc, schema, plan, lock, pass, engine, gate);
+    let (played, engine) = play(rt, alloc, schema, plan, lock, pass, engine, workers, gate);
     engine.standing();
     let (a, c) = engine.times();
     let parts = engine.take_apart();

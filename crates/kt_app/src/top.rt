@@ -88,6 +88,9 @@ fn take_script<S: Source>(alloc: Global, source: &mut S) -> Result<Script, Sourc
     }
 }
 
+// So many workers run at most.
+const WORKERS_MOST: u32 = 4;
+
 const USAGE: &[u8] = b"usage: run [--workers N] [--pool CELLS]\n";
 
 // Writes the text of a status.
@@ -223,13 +226,14 @@ fn run_and_write<
     lock: SeatLock<Engine<L, D, C>>,
     pass: Pass<Engine<L, D, C>>,
     engine: Engine<L, D, C>,
+    workers: u32,
     sink: &mut K,
     gate: &G,
 ) -> (u8, Parts<L, D, C>)
     requires counted { IsCounted schema.now }
     requires fits { PlanFits schema.now plan.now }
     requires own { IsPassOf lock pass × IsVacant pass × (given pass ≡ 1) × (number pass ≡ 0) }
-    requires passes { length plan.now < passes_of lock }
+    requires passes { length plan.now + workers < passes_of lock }
     requires fresh { IsFresh engine }
     requires work { IsOn schema.now engine.tablet.core.work }
     ensures printed { result.0 ≡ 0 → (text : List ℕ) × Appends (K.written sink.old) (K.written sink.new) text × RanOn (Grows (C.readings engine.tablet.clock) (C.readings result.1.clock)) engine schema.now plan.now (Both (CrashLeaves L.tells L.now L.leaves result.1.log) (CrashLeaves D.tells D.now D.leaves result.1.store)) result.1.trail false (length result.1.meta.rowsets) text }
@@ -245,30 +249,32 @@ fn run_and_write<
     ensures openable { IsTrue L.tells → CanOpen L.now L.leaves result.1.log }
     ensures stand { IsTrue D.tells → NamedStand D.seen D.now D.leaves result.1.store }
 {
-    let (output, parts) = run_plan(rt, alloc, schema, plan, lock, pass, engine, gate);
+    let (output, parts) = run_plan(rt, alloc, schema, plan, lock, pass, engine, workers, gate);
     match output {
         Some(output) => (write_output(sink, &output), parts),
         None => (7, parts),
     }
 }
 
-// A lock with room for the sessions of a plan, which is made before there is a tablet to put in: so want of memory for it loses no device.
+// A lock with room for the sessions of a plan and so many workers, which is made before there is a tablet to put in: so want of memory for it loses no device.
 fn make_ready<L: Disk, D: Disk + Drop, C: Clock>(
     alloc: Global,
     plan: &Plan,
+    workers: u32,
 ) -> Result<(SeatLock<Engine<L, D, C>>, Pass<Engine<L, D, C>>), NoMemory>
     requires few { length plan.now ≤ 64 }
+    requires workers { workers ≤ 4 }
     ensures own { IfOk result (λ r. IsPassOf r.0 r.1 × IsVacant r.1 × (given r.1 ≡ 1) × (number r.1 ≡ 0)) }
-    ensures passes { IfOk result (λ r. length plan.now < passes_of r.0) }
+    ensures passes { IfOk result (λ r. length plan.now + workers < passes_of r.0) }
 {
-    let passes = plan.as_slice().len() as u32 + 1;
+    let passes = plan.as_slice().len() as u32 + workers + 1;
     match SeatLock::vacant(alloc, passes) {
         Ok(made) => Ok(made),
         Err(_) => Err(NoMemory),
     }
 }
 
-// Opens both devices, and runs a plan over them in which no write needs more cells than these.
+// Opens both devices, and runs a plan over them in which no write needs more cells than these, and so many workers beside it.
 fn open_and_run<
     K: Sink,
     L: Disk + Send,
@@ -282,6 +288,7 @@ fn open_and_run<
     schema: &Schema,
     plan: &Plan,
     cells: u32,
+    workers: u32,
     log: L,
     store: D,
     clock: C,
@@ -290,6 +297,7 @@ fn open_and_run<
 ) -> Ended<L, D, C>
     requires counted { IsCounted schema.now }
     requires fits { PlanFits schema.now plan.now }
+    requires workers { workers ≤ 4 }
     requires openable { IsTrue L.tells → CanOpen L.now L.leaves log }
     requires stand { IsTrue D.tells → NamedStand D.seen D.now D.leaves store }
     ensures printed { result.status ≡ 0 → (text : List ℕ) × RunsPlan (Grows (C.readings clock) (C.readings result.clock)) schema.now (Both (IsRead L.tells L.seen log) (IsRead D.tells D.seen store)) (Both (CrashLeaves L.tells L.now L.leaves result.log) (CrashLeaves D.tells D.now D.leaves result.store)) (workload cells (record { columns = schema.now; plan = plan.now })) false text × Appends (K.written sink.old) (K.written sink.new) text }
@@ -315,13 +323,13 @@ fn open_and_run<
     ensures openable { IsTrue L.tells → CanOpen L.now L.leaves result.log }
     ensures stand { IsTrue D.tells → NamedStand D.seen D.now D.leaves result.store }
 {
-    let Ok((lock, pass)) = make_ready::<L, D, C>(alloc, plan) else {
+    let Ok((lock, pass)) = make_ready::<L, D, C>(alloc, plan, workers) else {
         return end_with(7, log, store, clock);
     };
     match open_tablet(alloc, log, store, clock, schema, cells, cells) {
         Ok(engine) => {
             let (status, parts) = run_and_write(
-                rt, alloc, schema, plan, lock, pass, engine, sink, gate,
+                rt, alloc, schema, plan, lock, pass, engine, workers, sink, gate,
             );
             end_with(status, parts.log, parts.store, parts.clock)
         }
@@ -442,6 +450,7 @@ pub fn tablet_main<
             &schema,
             &plan,
             settings.cells,
+            settings.workers.min(WORKERS_MOST),
             log,
             store,
             clock,

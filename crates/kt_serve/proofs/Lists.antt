@@ -37,6 +37,19 @@ changed_at g f xs ys each same j p e =
 pub moves_one : {A B : Type 0} (f : A → B) (all rest : List A) (x : A) (done new : List B) (whole : List B) → all ≡ x ∷ rest → done ++ map f all ≡ whole → new ≡ done ++ f x ∷ [] → new ++ map f rest ≡ whole
 moves_one f all rest x done new whole e is adds = ap (λ l. l ++ map f rest) adds ∙ append_assoc done (f x ∷ []) (map f rest) ∙ sym (ap (λ l. done ++ map f l) e) ∙ is
 
+-- what the front of a list has at a place within, and how long it is
+pub get_take : {A : Type 0} (n : ℕ) (xs : List A) (j : ℕ) → j < n → slice_get (take n xs) j ≡ slice_get xs j
+get_take zero xs j lt = absurd (omega arith)
+get_take (suc n) [] j lt = refl
+get_take (suc n) (x ∷ xs) zero lt = refl
+get_take (suc n) (x ∷ xs) (suc j) lt = get_take n xs j (omega arith)
+
+pub length_take : {A : Type 0} (n : ℕ) (xs : List A) → n ≤ length xs → length (take n xs) ≡ n
+length_take zero [] le = refl
+length_take zero (x ∷ xs) le = refl
+length_take (suc n) [] le = absurd (omega arith)
+length_take (suc n) (x ∷ xs) le = ap suc (length_take n xs (omega arith))
+
 -- what stands in a vector after a slice of all of it was written
 pub written_back : {A : Type 0} (old new : List A) (n : ℕ) → length old ≤ n → length new ≡ length old → take n (new ++ drop (length new) old) ≡ new
 written_back old new n all same = ap (λ l. take n (new ++ l)) (drop_all (length new) old (omega arith)) ∙ ap (take n) (append-nil new) ∙ take_all n new (omega arith)

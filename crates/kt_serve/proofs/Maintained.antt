@@ -61,6 +61,9 @@ module _ {L D C : Type 0} where
   pub no_device : (told : Option (PartView L D C)) (i : ℕ) → StoreRests told → IsFree told i → HasNoDevice told
   no_device told i rests f = record { part = f.part; is = f.is; log = f.home; store = rests f.part.root (record { part = f.part; is = f.is; root_is = refl }) }
 
+  pub idle_device : (told : Option (PartView L D C)) → StoreRests told → HasNoLog told → HasNoDevice told
+  idle_device told rests h = record { part = h.part; is = h.is; log = h.home; store = rests h.part.root (record { part = h.part; is = h.is; root_is = refl }) }
+
   pub device_log : (told : Option (PartView L D C)) → HasNoDevice told → HasNoLog told
   device_log told d = record { part = d.part; is = d.is; home = d.log }
 

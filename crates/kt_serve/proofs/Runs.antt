@@ -1,5 +1,5 @@
 -- Sessions that begin over a fresh engine, and what the whole trail tells them at the end.
-use Rattle.std.proofs.Common.{◌≡◌, ◌<◌, ◌^◌, inl, inr, ℕ, zero, suc, List, [], ◌∷◌, ◌++◌, Option, Some, None, true, refl, sym, ap, ◌∙◌, subst, length, map, slice_get, cond, eq-eqb, arith}
+use Rattle.std.proofs.Common.{◌≡◌, ◌<◌, ◌≤◌, ◌^◌, inl, inr, ℕ, zero, suc, List, [], ◌∷◌, ◌++◌, Option, Some, None, true, refl, sym, ap, ◌∙◌, subst, length, map, take, slice_get, cond, eq-eqb, arith}
 use Rattle.std.specs.Prelude.{◌==◌}
 use Rattle.std.specs.List.{filter}
 use Rattle.std.specs.Option.{option_map}
@@ -33,7 +33,7 @@ use Rattle.kt_serve.proofs.Begins.{root_at, has_root}
 use Rattle.kt_serve.proofs.Stills.{still_root}
 use Rattle.kt_serve.proofs.Tells.{tells_quiet}
 use Rattle.kt_serve.proofs.Asked.{told_asked}
-use Rattle.kt_serve.proofs.Lists.{some_is, at_place}
+use Rattle.kt_serve.proofs.Lists.{some_is, at_place, get_take}
 
 nth_nil : {A : Type 0} (k : ℕ) → None ≡ nth {A = A} [] k
 nth_nil zero = refl
@@ -61,6 +61,10 @@ module _ {L D C : Type 0} where
   -- a new pass has the part that the filled value told
   pub new_part : (p : Option (PartView L D C)) (o : Option (EngineView L D C)) (x : EngineView L D C) (k n : ℕ) → p ≡ told part_in o k → o ≡ Some x → k ≡ n → p ≡ Some (part_in x n)
   new_part p o x k n e f g = e ∙ (λ t. told part_in (f t) (g t))
+
+  -- and not the log, where that is at home
+  pub idle_part : (p : Option (PartView L D C)) (x : EngineView L D C) (k : ℕ) → p ≡ Some (part_in x k) → x.log.holder ≡ None → HasNoLog p
+  idle_part p x k is home = record { part = part_in x k; is = is; home = ap (λ h. out_of h x.log.out k) home }
 
   -- a session that has not begun, over an engine that has not
   pub may_run : (p : Option (PartView L D C)) (seen : List Event) (s j : ℕ) (x : EngineView L D C) (plan : List (List Command)) (commands : List Command)
@@ -126,21 +130,23 @@ module _ {L D C : Type 0} where
 
 module _ {L D C : Type 0} {g : Ghosts (EngineView L D C) Event (PartView L D C)} where
   -- each session of the plan ended as it did in its place, and the trail goes on from what its pass had seen by lines of others
-  pub each_ended : (Came : ℕ → ℕ → Reply → Type 0) (x : EngineView L D C) (trail : List Event) (plan : List (List Command)) (old new : List (Place (EngineView L D C) Event (PartView L D C) g)) (ends : List SessionEnd) → length old ≡ length plan → ends ≡ map (λ p. p.end) new
+  pub each_ended : (Came : ℕ → ℕ → Reply → Type 0) (x : EngineView L D C) (trail : List Event) (plan : List (List Command)) (old new : List (Place (EngineView L D C) Event (PartView L D C) g)) (ends : List SessionEnd) (n : ℕ)
+      → length plan ≤ length old → n ≡ length plan → ends ≡ take n (map (λ p. p.end) new)
       → ((j : ℕ) (p : Place (EngineView L D C) Event (PartView L D C) g) → slice_get old j ≡ Some p → (part p.pass ≡ Some (part_in x (suc j))) × (number p.pass ≡ suc j))
       → ((j : ℕ) (p : Place (EngineView L D C) Event (PartView L D C) g) → slice_get old j ≡ Some p → (q : Place (EngineView L D C) Event (PartView L D C) g) × (slice_get new j ≡ Some q) × PlaceHasRun Came plan j p q)
       → ((j : ℕ) (q : Place (EngineView L D C) Event (PartView L D C) g) → slice_get new j ≡ Some q → Follows session_of (number q.pass) (seen q.pass) trail)
       → (s : ℕ) (commands : List Command) → nth plan s ≡ Some commands → (end : SessionEnd) × (nth ends s ≡ Some end) × HasEnded Came (root_of x) s commands trail end
-  each_ended Came x trail plan old new ends count the_ends begun run follows zero commands e = absurd (cc)
-  each_ended Came x trail plan old new ends count the_ends begun run follows (suc j) commands e =
-      let below : j < length old = subst (λ n. j < n) (sym count) (slice_get_within plan j commands e) in
+  each_ended Came x trail plan old new ends n count is the_ends begun run follows zero commands e = absurd (cc)
+  each_ended Came x trail plan old new ends n count is the_ends begun run follows (suc j) commands e =
+      let within = slice_get_within plan j commands e in
+      let below : j < length old = omega (arith, within, count) in
       let p = at_place old j below in
       let q = run j p.0 p.1 in
       let has = q.2 in
-      let is = begun j p.0 p.1 in (
+      let was = begun j p.0 p.1 in (
         q.0.end,
-        ap (λ l. slice_get l j) the_ends ∙ slice_get-map (λ (r : Place (EngineView L D C) Event (PartView L D C) g). r.end) new j ∙ ap (option_map (λ (r : Place (EngineView L D C) Event (PartView L D C) g). r.end)) q.1,
-        ended_in Came (part p.0.pass) (part q.0.pass) x (number p.0.pass) (number q.0.pass) (suc j) commands (seen q.0.pass) trail q.0.end is.0 is.1 has.back.0.1 (has.run commands e) (follows j q.0 q.1),
+        ap (λ l. slice_get l j) the_ends ∙ get_take n (map (λ (r : Place (EngineView L D C) Event (PartView L D C) g). r.end) new) j (omega (arith, within, is)) ∙ slice_get-map (λ (r : Place (EngineView L D C) Event (PartView L D C) g). r.end) new j ∙ ap (option_map (λ (r : Place (EngineView L D C) Event (PartView L D C) g). r.end)) q.1,
+        ended_in Came (part p.0.pass) (part q.0.pass) x (number p.0.pass) (number q.0.pass) (suc j) commands (seen q.0.pass) trail q.0.end was.0 was.1 has.back.0.1 (has.run commands e) (follows j q.0 q.1),
       )
 
   -- a pass that has run may be taken in, as it might have been before
@@ -171,21 +177,20 @@ module _ {L D C : Type 0} where
   own_out o y n k is me h = ap (out_of y.log.holder y.log.out) (sym me) ∙ ap (λ (p : PartView L D C). p.pass.out) (some_is (part_in y n) h.part (sym is ∙ h.is)) ∙ h.home
 
 module _ {L D C : Type 0} {g : Ghosts (EngineView L D C) Event (PartView L D C)} where
-  -- no session's pass has the log at its end, and none that was not given ever had it
-  pub home_again : (Came : ℕ → ℕ → Reply → Type 0) (x y : EngineView L D C) (plan : List (List Command)) (old new : List (Place (EngineView L D C) Event (PartView L D C) g)) → length old ≡ length plan → x.log.holder ≡ None
+  -- no pass has the log at its end, and none that was not given ever had it
+  pub home_again : (Came : ℕ → ℕ → Reply → Type 0) (x y : EngineView L D C) (plan : List (List Command)) (old new : List (Place (EngineView L D C) Event (PartView L D C) g)) → x.log.holder ≡ None
       → ((j : ℕ) (p : Place (EngineView L D C) Event (PartView L D C) g) → slice_get old j ≡ Some p → number p.pass ≡ suc j)
       → ((j : ℕ) (p : Place (EngineView L D C) Event (PartView L D C) g) → slice_get old j ≡ Some p → (q : Place (EngineView L D C) Event (PartView L D C) g) × (slice_get new j ≡ Some q) × PlaceHasRun Came plan j p q)
       → ((j : ℕ) (q : Place (EngineView L D C) Event (PartView L D C) g) → slice_get new j ≡ Some q → part q.pass ≡ Some (part_in y (number q.pass)))
       → Some (part_in y 0) ≡ Some (part_in x 0) → ((k : ℕ) → length old < k → Some (part_in y k) ≡ Some (part_in x k)) → y.log.holder ≡ None
-  home_again Came x y plan old new count home begun run kept first later = no_holder y.log.holder y.log.out each
+  home_again Came x y plan old new home begun run kept first later = no_holder y.log.holder y.log.out each
     where
       each : (k : ℕ) → out_of y.log.holder y.log.out k ≡ None
       each zero = same_out x y zero first home
       each (suc j) = elim (slice_get_cases old j).1 as (λ _. out_of y.log.holder y.log.out (suc j) ≡ None) [
         | inl within ↦
-            let commands = at_place plan j (subst (λ n. j < n) count within.1) in
             let q = run j within.0 within.2 in
-            own_out (part q.0.pass) y (number q.0.pass) (suc j) (kept j q.0 q.1) (q.2.back.0.1 ∙ begun j within.0 within.2) (q.2.run commands.0 commands.1).home
+            own_out (part q.0.pass) y (number q.0.pass) (suc j) (kept j q.0 q.1) (q.2.back.0.1 ∙ begun j within.0 within.2) q.2.home
         | inr past ↦ same_out x y (suc j) (later (suc j) (omega (arith, past.0))) home
       ]
 

@@ -30,10 +30,11 @@ pub record HasRunTo {L D C : Type 0} (Came : ℕ → ℕ → Reply → Type 0) (
   pub root : SameRoot old new
   pub ended : OnRoot old (λ root. HasEnded Came root s commands lines end)
 
--- the session of this place has run to its end and does not run any more, and its pass is outside again
+-- the session or the worker of this place has run to its end and does not run any more, and its pass is outside again, without the log
 pub record PlaceHasRun {L D C : Type 0} {g : Ghosts (EngineView L D C) Event (PartView L D C)} (Came : ℕ → ℕ → Reply → Type 0) (plan : List (List Command)) (at : ℕ) (old new : Place (EngineView L D C) Event (PartView L D C) g) : Type 0 where
   pub back : IsBack old.pass new.pass
   pub left : HasLeft (part new.pass)
+  pub home : HasNoLog (part new.pass)
   pub run : (commands : List Command) → slice_get plan at ≡ Some commands → HasRunTo Came (part old.pass) (part new.pass) (number old.pass) commands (seen new.pass) new.end
 
 -- each command of each session can be run

@@ -1,9 +1,8 @@
 -- What a pass knows of its session, and what its visits add to what it has seen.
-use Rattle.std.specs.Prelude.{◌≡◌, ◌≢◌, ◌<◌, ◌+◌, ◌^◌, ◌==◌, ℕ, Bool, true, false, List, [], ◌∷◌, length, Option, Some, None, Result, Ok, Err, if◌then◌else◌}
+use Rattle.std.specs.Prelude.{◌≡◌, ◌<◌, ◌+◌, ◌^◌, ◌==◌, ℕ, Bool, true, false, List, [], ◌∷◌, length, Option, Some, None, Result, Ok, Err, if◌then◌else◌}
 use Rattle.kt_journal.specs.Open.{JournalView}
 use Rattle.kt_records.specs.declared.entry.Entry.{Entry}
 use Rattle.kt_records.specs.Rules.{may_hold, EachAfter, FollowingOp}
-use Rattle.kt_base.specs.declared.chore.Chore.TheVariants as kind
 use Rattle.kt_history.specs.declared.command.Command.{Command}
 use Rattle.kt_history.specs.declared.event.Event.{Event}
 use Rattle.kt_history.specs.declared.event.Event.TheVariants as event
@@ -203,12 +202,12 @@ AfterApply old new before after s at row.Applied = IsGoing s old new before afte
 AfterApply old new before after s at row.Early = IsStill s old new before after
 AfterApply old new before after s at row.Stopped = IsStill s old new before after × (has_stop after ≡ true)
 
--- a command that the program can run so far: a write that the formats allow, a scan, a mark, or maintenance but a compaction
+-- a command that a session can run: a write that the formats allow, a scan, a mark, or maintenance
 abbrev pub CanRun : ℕ → Command → Type 0
 CanRun i (command.Write w) = IsWrite i w.ops
 CanRun i (command.Mark t) = i + 1 < 2 ^ 32
 CanRun i (command.Scan scan) = i + 1 < 2 ^ 32
-CanRun i (command.Chore chore) = (chore ≢ kind.Compact) × (i + 1 < 2 ^ 32)
+CanRun i (command.Chore chore) = i + 1 < 2 ^ 32
 
 -- these lines tell the session these replies and no other
 abbrev pub TellsOwn : {L D C : Type 0} → Root L D C → ℕ → List Reply → List Event → Type 0

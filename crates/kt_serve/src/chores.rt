@@ -1,6 +1,5 @@
-//! Maintenance, as a session asks for it.
+//! Maintenance, as a session asks for it, and in the background.
 ghost use Rattle.std.specs.Prelude.{◌≡◌, ◌≢◌, ◌<◌, ◌+◌, ◌^◌, ℕ, List, Ok, Err, IfOk, OnOk, OnErr, true};
-ghost use Rattle.kt_base.specs.declared.chore.Chore.TheVariants as kind;
 ghost use Rattle.kt_history.specs.declared.change.Outcome.{Outcome};
 ghost use Rattle.kt_history.specs.declared.command.Command.{Command};
 ghost use Rattle.kt_seatlock.specs.Passes.{number, seen, part, MayEnter, IsBack};
@@ -28,8 +27,6 @@ pub trait Chores<L: Disk, D: Disk + Drop, C: Clock> {
         pass: &mut Pass<Engine<L, D, C>>,
         chore: Chore,
     ) -> Result<(), MaintNo>
-        // Disk rowsets are not compacted together so far.
-        requires stands { chore ≢ kind.Compact }
         requires enters { MayEnter lock.now pass.old }
         requires rests { HasNoDevice (part pass.old) }
         ensures pass { IsBack pass.old pass.new }
@@ -38,6 +35,21 @@ pub trait Chores<L: Disk, D: Disk + Drop, C: Clock> {
         ensures home { HasNoDevice (part pass.new) }
         ensures done { OnOk result (HasDone chore (part pass.old) (part pass.new)) }
         ensures stopped { result ≡ Err MaintNo.Stopped → has_stop (seen pass.new) ≡ true };
+
+    /// Runs jobs in the background until no session runs any more. It shows nothing of them to a session.
+    fn work<R: Wait>(
+        &self,
+        rt: &R,
+        alloc: Global,
+        lock: &SeatLock<Engine<L, D, C>>,
+        pass: &mut Pass<Engine<L, D, C>>,
+    )
+        requires enters { MayEnter lock.now pass.old }
+        requires rests { HasNoDevice (part pass.old) }
+        ensures pass { IsBack pass.old pass.new }
+        ensures still { StandsStill (part pass.old) (part pass.new) }
+        ensures quiet { SeesOthers (number pass.old) (seen pass.old) (seen pass.new) }
+        ensures home { HasNoDevice (part pass.new) };
 }
 
 // One visit that answers the command, whose chore is done.
@@ -83,7 +95,6 @@ pub fn run_chore<L: Disk, D: Disk + Drop, C: Clock, R: Wait, H: Chores<L, D, C>>
     chore: Chore,
     chores: &H,
 ) -> Result<Reply, NoMemory>
-    requires stands { chore ≢ kind.Compact }
     requires enters { MayEnter lock.now pass.old }
     requires rests { StoreRests (part pass.old) }
     requires next { IsFree (part pass.old) index }

@@ -1,12 +1,12 @@
-//! The sessions of a plan at once, each in a thread.
-ghost use Rattle.std.specs.Prelude.{◌≡◌, ◌<◌, ◌≤◌, ℕ, [], IfOk, IfErr, Some, None, length, vec_capacity, slice_get};
+//! The sessions of a plan at once, and workers beside them, each in a thread.
+ghost use Rattle.std.specs.Prelude.{◌≡◌, ◌+◌, ◌<◌, ◌≤◌, ℕ, [], IfOk, IfErr, Some, None, length, vec_capacity, slice_get};
 ghost use Rattle.kt_history.specs.Machine.{nth, first_turns};
 ghost use Rattle.kt_seatlock.specs.Passes.{number, seen, part, given, passes_of, IsVacant, IsPassOf, MayEnter, IsBack};
 ghost use Rattle.kt_engine.specs.Visits.{root_of};
 ghost use Rattle.kt_serve.specs.Maintained.{StoreRests};
 ghost use Rattle.kt_serve.specs.Points.{CameTo};
 ghost use Rattle.kt_serve.specs.Scans.{IsOn};
-ghost use Rattle.kt_serve.specs.Sessions.{OnRoot, HasLeft, IsFresh, MayRun};
+ghost use Rattle.kt_serve.specs.Sessions.{OnRoot, HasLeft, HasNoLog, IsFresh, MayRun};
 ghost use Rattle.kt_serve.specs.Closing.{EndsAs};
 ghost use Rattle.kt_serve.specs.Runs.{HasRunTo, PlaceHasRun, PlanRuns, AllEnded};
 
@@ -74,13 +74,33 @@ fn run_and_leave<L: Disk, D: Disk + Drop, C: Clock, R: Wait, G: Gate, H: Chores<
     requires runs { MayRun (part place.old.pass) (seen place.old.pass) (number place.old.pass) commands.now }
     ensures pass { IsBack place.old.pass place.new.pass }
     ensures left { HasLeft (part place.new.pass) }
+    ensures home { HasNoLog (part place.new.pass) }
     ensures run { HasRunTo (CameTo G.came gate.now) (part place.old.pass) (part place.new.pass) (number place.old.pass) commands.now (seen place.new.pass) place.new.end }
 {
     run_one(rt, alloc, schema, tablet, commands, gate, chores, place);
     tablet.leave_run(rt, &mut place.pass);
 }
 
-// Runs the session of this place to its end.
+// Runs jobs until no session runs any more, and leaves the run.
+fn work_and_leave<L: Disk, D: Disk + Drop, C: Clock, R: Wait, H: Chores<L, D, C>>(
+    rt: &R,
+    alloc: Global,
+    tablet: &SharedTablet<L, D, C>,
+    chores: &H,
+    pass: &mut Pass<Engine<L, D, C>>,
+)
+    requires enters { MayEnter tablet.now.lock pass.old }
+    requires rests { StoreRests (part pass.old) }
+    requires idle { HasNoLog (part pass.old) }
+    ensures pass { IsBack pass.old pass.new }
+    ensures left { HasLeft (part pass.new) }
+    ensures home { HasNoLog (part pass.new) }
+{
+    chores.work(rt, alloc, &tablet.lock, pass);
+    tablet.leave_run(rt, pass);
+}
+
+// Runs the session of this place to its end, or the worker of a place behind the sessions'.
 fn run_place<L: Disk, D: Disk + Drop, C: Clock, R: Wait, G: Gate, H: Chores<L, D, C>>(
     rt: &R,
     alloc: Global,
@@ -92,26 +112,30 @@ fn run_place<L: Disk, D: Disk + Drop, C: Clock, R: Wait, G: Gate, H: Chores<L, D
     at: usize,
     place: &mut Place<Engine<L, D, C>>,
 )
-    requires within { at < length plan.now }
     requires enters { MayEnter tablet.now.lock place.old.pass }
     requires on { OnRoot (part place.old.pass) (λ root. IsOn schema.now root.work) }
     requires rests { StoreRests (part place.old.pass) }
+    requires idle { HasNoLog (part place.old.pass) }
     requires runs { (commands : _) → slice_get plan.now at ≡ Some commands → MayRun (part place.old.pass) (seen place.old.pass) (number place.old.pass) commands }
     ensures { PlaceHasRun (CameTo G.came gate.now) plan.now at place.old place.new }
 {
-    run_and_leave(
-        rt,
-        alloc,
-        schema,
-        tablet,
-        plan[at].as_slice(),
-        gate,
-        chores,
-        place,
-    );
+    if at < plan.len() {
+        run_and_leave(
+            rt,
+            alloc,
+            schema,
+            tablet,
+            plan[at].as_slice(),
+            gate,
+            chores,
+            place,
+        );
+    } else {
+        work_and_leave(rt, alloc, tablet, chores, &mut place.pass);
+    }
 }
 
-// Runs all sessions at once, each in a thread of its own where one can be made.
+// Runs all sessions and the workers behind them at once, each in a thread of its own where one can be made.
 fn run_all<
     L: Disk + Send,
     D: Disk + Drop + Send,
@@ -129,10 +153,10 @@ fn run_all<
     chores: &H,
     places: &mut [Place<Engine<L, D, C>>],
 )
-    requires count { length places.old ≡ length plan.now }
     requires enters { (j : ℕ) (p : _) → slice_get places.old j ≡ Some p → MayEnter tablet.now.lock p.pass }
     requires on { (j : ℕ) (p : _) → slice_get places.old j ≡ Some p → OnRoot (part p.pass) (λ root. IsOn schema.now root.work) }
     requires rests { (j : ℕ) (p : _) → slice_get places.old j ≡ Some p → StoreRests (part p.pass) }
+    requires idle { (j : ℕ) (p : _) → slice_get places.old j ≡ Some p → HasNoLog (part p.pass) }
     requires runs { (j : ℕ) (p : _) → slice_get places.old j ≡ Some p → (commands : _) → slice_get plan.now j ≡ Some commands → MayRun (part p.pass) (seen p.pass) (number p.pass) commands }
     ensures { (j : ℕ) (p : _) → slice_get places.old j ≡ Some p → (q : _) × (slice_get places.new j ≡ Some q) × PlaceHasRun (CameTo G.came gate.now) plan.now j p q }
 {
@@ -147,7 +171,7 @@ fn run_all<
     }
 }
 
-// Room for a place and an end of each session.
+// Room for so many places and ends.
 fn rooms<T: Shared>(
     alloc: Global,
     count: usize,
@@ -161,7 +185,7 @@ fn rooms<T: Shared>(
     ))
 }
 
-// Runs all sessions over the engine in this lock, and gives what each ended with, and the engine.
+// Runs all sessions, and so many workers, over the engine in this lock, and gives what each session ended with, and the engine.
 fn run_locked<
     L: Disk + Send,
     D: Disk + Drop + Send,
@@ -177,11 +201,12 @@ fn run_locked<
     mut pass: Pass<Engine<L, D, C>>,
     engine: Engine<L, D, C>,
     plan: &[Session],
+    workers: u32,
     gate: &G,
     chores: &H,
 ) -> Result<(Vec<SessionEnd>, Engine<L, D, C>), Engine<L, D, C>>
     requires own { IsPassOf lock pass × IsVacant pass × (given pass ≡ 1) × (number pass ≡ 0) }
-    requires passes { length plan.now < passes_of lock }
+    requires passes { length plan.now + workers < passes_of lock }
     requires fresh { IsFresh engine }
     requires on { IsOn schema.now engine.tablet.core.work }
     requires plan { (engine.tablet.core.work.plan ≡ plan.now) × (engine.tablet.core.turns ≡ first_turns plan.now) }
@@ -192,16 +217,19 @@ fn run_locked<
     ensures ended { IfOk result (λ r. AllEnded (CameTo G.came gate.now) (root_of engine) plan.now r.1.tablet.core.trail r.0.items) }
     ensures back { IfErr result (λ e. e ≡ engine) }
 {
-    let Ok((mut places, ends)) = rooms(alloc, plan.len()) else {
+    let sessions = plan.len();
+    let count = sessions + workers as usize;
+    let Ok((mut places, ends)) = rooms(alloc, count) else {
         lock.unmake(pass);
         return Err(engine);
     };
     lock.fill(&mut pass, engine);
-    split_all(alloc, &lock, &mut pass, plan.len(), &mut places);
+    split_all(alloc, &lock, &mut pass, count, &mut places);
     let tablet = SharedTablet::of(lock);
     run_all(rt, alloc, schema, &tablet, plan, gate, chores, &mut places);
     let SharedTablet { lock } = tablet;
-    let ends = join_all(&lock, &mut pass, places, ends);
+    let mut ends = join_all(&lock, &mut pass, places, ends);
+    ends.truncate(sessions);
     let engine = lock.close(pass);
     engine.standing();
     Ok((ends, engine))
@@ -219,7 +247,7 @@ pub struct Ran<L: Disk, D: Disk, C: Clock> {
 // The number of the pass that fills the lock and ends it.
 const LAST: u32 = 0;
 
-/// Runs the sessions of a plan at once over an engine in which nothing has happened yet, each by a pass of its own in a
+/// Runs the sessions of a plan at once over an engine in which nothing has happened yet, and so many workers beside them, each by a pass of its own in a
 /// thread of its own where one can be made, makes durable what then still waits for the log, and publishes a superblock. For every schedule, each
 /// session has the replies that the engine's lines tell it, and no other. Where there was no memory for the passes, nothing
 /// was run, and the engine comes back.
@@ -238,11 +266,12 @@ pub fn run_sessions<
     pass: Pass<Engine<L, D, C>>,
     engine: Engine<L, D, C>,
     plan: &[Session],
+    workers: u32,
     gate: &G,
     chores: &H,
 ) -> Result<Ran<L, D, C>, Engine<L, D, C>>
     requires own { IsPassOf lock pass × IsVacant pass × (given pass ≡ 1) × (number pass ≡ 0) }
-    requires passes { length plan.now < passes_of lock }
+    requires passes { length plan.now + workers < passes_of lock }
     requires fresh { IsFresh engine }
     requires on { IsOn schema.now engine.tablet.core.work }
     requires plan { (engine.tablet.core.work.plan ≡ plan.now) × (engine.tablet.core.turns ≡ first_turns plan.now) }
@@ -255,7 +284,9 @@ pub fn run_sessions<
     ensures halted { IfOk result (λ ran. (s : ℕ) (end : _) → nth ran.ends.items s ≡ Some end → end.halt ≡ Some Halt.Stopped → ran.end ≡ End.Stopped) }
     ensures back { IfErr result (λ e. e ≡ engine) }
 {
-    match run_locked(rt, alloc, schema, lock, pass, engine, plan, gate, chores) {
+    match run_locked(
+        rt, alloc, schema, lock, pass, engine, plan, workers, gate, chores,
+    ) {
         Ok((ends, mut engine)) => {
             let end = finish(alloc, &mut engine, LAST);
             Ok(Ran { ends, end, engine })

@@ -1,6 +1,5 @@
 //! A tablet that sessions share.
 ghost use Rattle.std.specs.Prelude.{◌≡◌, ◌≢◌, ◌<◌, ◌+◌, ◌^◌, ℕ, List, Ok, OnErr, IfOk, true};
-ghost use Rattle.kt_base.specs.declared.chore.Chore.TheVariants as kind;
 ghost use Rattle.kt_history.specs.declared.change.Outcome.{Outcome};
 ghost use Rattle.kt_history.specs.declared.command.Command.{Command};
 ghost use Rattle.kt_seatlock.specs.Passes.{number, seen, part, MayEnter, IsBack};
@@ -114,7 +113,6 @@ impl<L: Disk, D: Disk + Drop, C: Clock> SharedTablet<L, D, C> {
         chore: Chore,
         chores: &H,
     ) -> Result<Reply, NoMemory>
-        requires stands { chore ≢ kind.Compact }
         requires enters { MayEnter self.now.lock pass.old }
         requires rests { StoreRests (part pass.old) }
         requires next { IsFree (part pass.old) index }

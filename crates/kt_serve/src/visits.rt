@@ -1,6 +1,5 @@
 //! Single visits of a pass.
 ghost use Rattle.std.specs.Prelude.{◌≡◌, ◌≢◌, ◌<◌, ◌+◌, ◌^◌, ℕ, List, Ok, Err, Some, IfOk, OnOk, OnErr, true};
-ghost use Rattle.kt_base.specs.declared.chore.Chore.TheVariants as kind;
 ghost use Rattle.kt_history.specs.declared.change.Outcome.{Outcome};
 ghost use Rattle.kt_history.specs.declared.command.Command.{Command};
 ghost use Rattle.kt_seatlock.specs.Passes.{number, seen, part, MayEnter, IsBack};
@@ -55,7 +54,6 @@ fn run_for_room<L: Disk, D: Disk + Drop, C: Clock, R: Wait, H: Chores<L, D, C>>(
     chores: &H,
     chore: Chore,
 ) -> Result<(), MaintNo>
-    requires stands { chore ≢ kind.Compact }
     requires enters { MayEnter lock.now pass.old }
     requires rests { StoreRests (part pass.old) }
     requires next { IsFree (part pass.old) index }
@@ -92,35 +90,8 @@ fn make_room<L: Disk, D: Disk + Drop, C: Clock, R: Wait, H: Chores<L, D, C>>(
     }
 }
 
-// What a session does whose write has no room: it flushes, and where that was tried just before it waits for the end of another's write. It tells whether it flushed.
-fn seek_room<L: Disk, D: Disk + Drop, C: Clock, R: Wait, H: Chores<L, D, C>>(
-    rt: &R,
-    alloc: Global,
-    lock: &SeatLock<Engine<L, D, C>>,
-    pass: &mut Pass<Engine<L, D, C>>,
-    index: u32,
-    chores: &H,
-    flushed: bool,
-) -> Result<bool, MaintNo>
-    requires enters { MayEnter lock.now pass.old }
-    requires rests { StoreRests (part pass.old) }
-    requires next { IsFree (part pass.old) index }
-    ensures pass { IsBack pass.old pass.new }
-    ensures next { IsFree (part pass.new) index }
-    ensures going { IsGoing (number pass.old) (part pass.old) (part pass.new) (seen pass.old) (seen pass.new) }
-    ensures stopped { result ≡ Err MaintNo.Stopped → has_stop (seen pass.new) ≡ true }
-{
-    if flushed {
-        lock.rest(rt, pass);
-        Ok(false)
-    } else {
-        make_room(rt, alloc, lock, pass, index, chores)?;
-        Ok(true)
-    }
-}
-
 /// Begins the next command of a session, a write, as soon as its keys and its room are free. It is made ready once,
-/// before the first visit. Where it has no room the session flushes, and only where that gave none it waits.
+/// before the first visit. Where it has no room the session flushes, and again where another write took the room that this gave: a flush waits while writes fly.
 pub fn begin_write<L: Disk, D: Disk + Drop, C: Clock, R: Wait, H: Chores<L, D, C>>(
     rt: &R,
     alloc: Global,
@@ -144,7 +115,6 @@ pub fn begin_write<L: Disk, D: Disk + Drop, C: Clock, R: Wait, H: Chores<L, D, C
     let Ok(mut draft) = Draft::of(alloc, write) else {
         return Err(NoMemory);
     };
-    let mut flushed = false;
     for _ in rt.forever() {
         match begin_once(rt, alloc, lock, pass, index, &mut draft) {
             Ok(_) => return Ok(None),
@@ -152,8 +122,8 @@ pub fn begin_write<L: Disk, D: Disk + Drop, C: Clock, R: Wait, H: Chores<L, D, C
             Err(BeginNo::Large { need }) => return Ok(Some(Reply::Large { n: need })),
             Err(BeginNo::Wait { ts: _ }) => lock.rest(rt, pass),
             Err(BeginNo::Room { need: _, free: _ }) => {
-                match seek_room(rt, alloc, lock, pass, index, chores, flushed) {
-                    Ok(made) => flushed = made,
+                match make_room(rt, alloc, lock, pass, index, chores) {
+                    Ok(()) => {}
                     Err(MaintNo::Stopped) => return Ok(Some(Reply::Stopped)),
                     Err(MaintNo::Memory) => return Err(NoMemory),
                 }

@@ -1,4 +1,4 @@
-use Rattle.std.proofs.Common.{rules, arith, ◌≡◌, refl, subst, length, slice_get, Some}
+use Rattle.std.proofs.Common.{rules, ◌≡◌, refl, subst, length, slice_get, Some}
 use Rattle.std.proofs.lemmas.Option.{slice_get_read}
 use denote.Exit.{no}
 use denote.Param.Send.{param_send, param_sync, arg_send, arg_sync, shr_sync, shr_slice_sync}
@@ -25,7 +25,7 @@ for_each_mut-requires-sync-F g c = λ κs within.
 pub for_each_mut-requires-clause-accepts : goal.for_each_mut-requires-clause-accepts
 for_each_mut-requires-clause-accepts g c = λ κs within i p lt e κs' r r' n same ranges small u u' m κs'' within'.
     let here : slice_get c.args.places.now i ≡ Some p.now = slice_get_read c.args.places.now (length c.args.places.now) i p.now refl lt e in
-    (omega (arith, c.requires.count, lt), (c.requires.enters i p.now here, (c.requires.on i p.now here, (c.requires.rests i p.now here, c.requires.runs i p.now here))))
+    (c.requires.enters i p.now here, (c.requires.on i p.now here, (c.requires.rests i p.now here, (c.requires.idle i p.now here, c.requires.runs i p.now here))))
 
 pub returns-then-threads-gt0 : goal.returns-then-threads-gt0
 returns-then-threads-gt0 g c = λ j p e.

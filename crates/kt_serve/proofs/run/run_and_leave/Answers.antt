@@ -5,3 +5,6 @@ use Rattle.kt_serve.proofs.run.run_and_leave.Goals as goal
 
 pub returns-clause-run : goal.returns-clause-run
 returns-clause-run g c = left_run (CameTo g.G.Gate.came c.args.gate.now) (part c.args.place.now.pass) (part c.run_one.new.place.pass) (part c.leave_run.new.pass) (number c.args.place.now.pass) (number c.run_one.new.place.pass) c.args.commands.now (seen c.run_one.new.place.pass) (seen c.leave_run.new.pass) c.run_one.new.place.end c.run_one.ensures.pass.0.1 c.run_one.ensures.run c.leave_run.ensures.still c.leave_run.ensures.log c.leave_run.ensures.stop
+
+pub returns-clause-home : goal.returns-clause-home
+returns-clause-home g c = c.leave_run.ensures.log c.run_one.ensures.run.home

@@ -1,4 +1,4 @@
-use Rattle.std.proofs.Common.{rules, arith, ◌≡◌, ◌+◌, suc, [], Some, map, length, slice_get, sym, ap, ◌∙◌, subst}
+use Rattle.std.proofs.Common.{rules, arith, ◌≡◌, ◌+◌, suc, [], Some, map, take, length, slice_get, sym, ap, ◌∙◌, subst}
 use Rattle.std.proofs.lemmas.List.{length-map}
 use Rattle.kt_history.specs.declared.event.Event.{Event}
 use Rattle.kt_seatlock.specs.Passes.{number, seen, part, joined, given, filled}
@@ -11,9 +11,9 @@ use Rattle.kt_serve.specs.Places.{AreBack, taken}
 use Rattle.kt_serve.specs.Scans.{IsOn}
 use Rattle.kt_serve.specs.Sessions.{TellsOwn}
 use Rattle.kt_serve.proofs.Begins.{root_at}
-use Rattle.kt_serve.proofs.Lists.{written_back}
+use Rattle.kt_serve.proofs.Lists.{written_back, length_take}
 use Rattle.kt_serve.proofs.Joining.{are_back, kept_each}
-use Rattle.kt_serve.proofs.Runs.{new_part, may_run, same_part, none_told, each_ended, back_each, home_again}
+use Rattle.kt_serve.proofs.Runs.{new_part, idle_part, may_run, same_part, none_told, each_ended, back_each, home_again}
 use Rattle.kt_serve.proofs.run.run_locked.Goals as goal
 
 pub run_all-requires-clause-enters : goal.run_all-requires-clause-enters
@@ -32,6 +32,12 @@ run_all-requires-clause-rests g c = λ κs within j p e root h.
     let new = c.split_all.ensures.each j p (ap (λ l. slice_get l j) (sym c.deref_mut.ensures.value) ∙ e) in
     let is = new_part (part p.pass) _ c.args.engine _ (suc j) new.part_is c.fill.ensures.told.2 (omega (arith, c.fill.ensures.pass.3, c.requires.own.2)) in
     ap (λ r. r.turn) (sym (root_at root (part p.pass) c.args.engine (suc j) h is)) ∙ c.requires.fresh.store
+
+pub run_all-requires-clause-idle : goal.run_all-requires-clause-idle
+run_all-requires-clause-idle g c = λ κs within j p e.
+    let new = c.split_all.ensures.each j p (ap (λ l. slice_get l j) (sym c.deref_mut.ensures.value) ∙ e) in
+    let is = new_part (part p.pass) _ c.args.engine _ (suc j) new.part_is c.fill.ensures.told.2 (omega (arith, c.fill.ensures.pass.3, c.requires.own.2)) in
+    idle_part (part p.pass) c.args.engine (suc j) is c.requires.fresh.home
 
 pub run_all-requires-clause-runs : goal.run_all-requires-clause-runs
 run_all-requires-clause-runs g c = λ κs within j p e commands at.
@@ -57,14 +63,16 @@ returns-clause-ended g c =
     let y = c.close-engine.result in
     let same : length c.run_all.new.places ≡ length c.split_all.new.places.items = c.run_all.auto.places ∙ ap length c.deref_mut.ensures.value in
     let new = written_back c.split_all.new.places.items c.run_all.new.places c.split_all.new.places.len (search rules) same in
-    let count : length c.deref_mut.result.now ≡ length c.args.plan.now = search rules in
-    let ends = c.join_all-ends.ensures.ends ∙ ap (map (λ p. p.end)) new in
+    let count : length c.deref_mut.result.now ≡ length c.args.plan.now + c.args.workers = search rules in
+    let all = c.join_all-ends.ensures.ends ∙ ap (map (λ p. p.end)) new in
+    let many = ap length all ∙ length-map c.run_all.new.places (λ p. p.end) ∙ c.run_all.auto.places ∙ count in
+    let cut = c.truncate.ensures.items in
     let root : root_of y ≡ root_of x = same_part (part c.fill.new.pass) (part c.join_all-ends.new.pass) x y _ _ c.fill.ensures.told.1 (c.join_all-ends.ensures.pass.2 ∙ c.split_all.ensures.told.1) c.close-engine.ensures.part in
     let Kept : Joined Event _ → Type 0 = λ q. (q.part ≡ Some (part_in y q.number)) × Follows session_of q.number q.seen y.tablet.core.trail in
     let kept = subst (Each Kept) (c.join_all-ends.ensures.joined ∙ ap (λ l. taken l (joined c.split_all.new.pass)) new) c.close-engine.ensures.joined in
     record {
-      count = ap length ends ∙ length-map c.run_all.new.places (λ p. p.end) ∙ c.run_all.auto.places ∙ count;
-      each = each_ended Came x y.tablet.core.trail c.args.plan.now c.deref_mut.result.now c.run_all.new.places c.join_all-ends.result.items count ends
+      count = ap length cut ∙ length_take _ _ (omega (arith, many)) ∙ search rules;
+      each = each_ended Came x y.tablet.core.trail c.args.plan.now c.deref_mut.result.now c.run_all.new.places _ _ (omega (arith, count)) (search rules) (cut ∙ ap (take _) all)
           (λ j p e. let new = c.split_all.ensures.each j p (ap (λ l. slice_get l j) (sym c.deref_mut.ensures.value) ∙ e) in
           (new_part (part p.pass) _ x _ (suc j) new.part_is c.fill.ensures.told.2 (omega (arith, c.fill.ensures.pass.3, c.requires.own.2)), new.number_is ∙ omega (arith, c.fill.ensures.pass.3, c.requires.own.2)))
           c.run_all.ensures
@@ -79,14 +87,14 @@ returns-clause-home g c =
     let y = c.close-engine.result in
     let same : length c.run_all.new.places ≡ length c.split_all.new.places.items = c.run_all.auto.places ∙ ap length c.deref_mut.ensures.value in
     let new = written_back c.split_all.new.places.items c.run_all.new.places c.split_all.new.places.len (search rules) same in
-    let count : length c.deref_mut.result.now ≡ length c.args.plan.now = search rules in
+    let count : length c.deref_mut.result.now ≡ length c.args.plan.now + c.args.workers = search rules in
     let number_is : number c.join_all-ends.new.pass ≡ 0 = search rules in
-    let given_is : given c.join_all-ends.new.pass ≡ 1 + length c.args.plan.now = search rules in
+    let given_is : given c.join_all-ends.new.pass ≡ 1 + (length c.args.plan.now + c.args.workers) = search rules in
     let filled_is : filled c.join_all-ends.new.pass ≡ Some x = c.join_all-ends.ensures.gives.1 ∙ c.split_all.ensures.told.3 ∙ c.fill.ensures.told.2 in
     let Kept : Joined Event _ → Type 0 = λ q. (q.part ≡ Some (part_in y q.number)) × Follows session_of q.number q.seen y.tablet.core.trail in
     let kept = subst (Each Kept) (c.join_all-ends.ensures.joined ∙ ap (λ l. taken l (joined c.split_all.new.pass)) new) c.close-engine.ensures.joined in
     let first : Some (part_in y 0) ≡ Some (part_in x 0) = ap (λ n. Some (part_in y n)) (sym number_is) ∙ sym c.close-engine.ensures.part ∙ c.join_all-ends.ensures.pass.2 ∙ c.split_all.ensures.told.1 ∙ c.fill.ensures.told.1 ∙ ap (λ n. Some (part_in x n)) (c.fill.ensures.pass.0.1 ∙ c.requires.own.3) in
-    home_again Came x y c.args.plan.now c.deref_mut.result.now c.run_all.new.places count c.requires.fresh.home
+    home_again Came x y c.args.plan.now c.deref_mut.result.now c.run_all.new.places c.requires.fresh.home
     (λ j p e. let new = c.split_all.ensures.each j p (ap (λ l. slice_get l j) (sym c.deref_mut.ensures.value) ∙ e) in new.number_is ∙ omega (arith, c.fill.ensures.pass.3, c.requires.own.2))
     c.run_all.ensures
     (λ j q e. (kept_each Kept c.run_all.new.places (joined c.split_all.new.pass) kept j q e).0)

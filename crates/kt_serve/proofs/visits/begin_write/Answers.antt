@@ -41,8 +41,8 @@ loop-preserved-in-Err-Wait g c = let b = rw c.in-Err-Wait.field-0-is at c.in-Err
   c.in-Err-Wait.ensures.kept ∙ c.loop.invariant.3,
 )
 
-pub seek_room-requires-clause-rests : goal.seek_room-requires-clause-rests
-seek_room-requires-clause-rests g c =
+pub make_room-requires-clause-rests : goal.make_room-requires-clause-rests
+make_room-requires-clause-rests g c =
     let going = going_on (number c.args.pass.now) (number c.loop.pass) (part c.args.pass.now) (part c.loop.pass) (part c.begin_once.new.pass) (seen c.args.pass.now) (seen c.loop.pass) (seen c.begin_once.new.pass) c.loop.invariant.0.0.1 c.loop.invariant.2 c.begin_once.ensures.root
     (rw c.in-Err-Room.field-0-is at c.in-Err-Room.ensures.begun).1 in
     rests_after (part c.args.pass.now) (part c.begin_once.new.pass) c.args.index c.requires.next c.requires.rests going.root
@@ -66,21 +66,21 @@ pub loop-preserved : goal.loop-preserved
 loop-preserved g c =
     let b = rw c.in-Err-Room.field-0-is at c.in-Err-Room.ensures.begun in
     let here = going_on (number c.args.pass.now) (number c.loop.pass) (part c.args.pass.now) (part c.loop.pass) (part c.begin_once.new.pass) (seen c.args.pass.now) (seen c.loop.pass) (seen c.begin_once.new.pass) c.loop.invariant.0.0.1 c.loop.invariant.2 c.begin_once.ensures.root b.1 in
-    let there = going_after (number c.args.pass.now) (number c.begin_once.new.pass) (part c.args.pass.now) (part c.begin_once.new.pass) (part c.seek_room.new.pass) (seen c.args.pass.now) (seen c.begin_once.new.pass) (seen c.seek_room.new.pass)
-    (c.begin_once.ensures.pass.0.1 ∙ c.loop.invariant.0.0.1) here c.seek_room.ensures.going in
-    (search rules, c.seek_room.ensures.next, there, c.in-Err-Room.ensures.kept ∙ c.loop.invariant.3)
+    let there = going_after (number c.args.pass.now) (number c.begin_once.new.pass) (part c.args.pass.now) (part c.begin_once.new.pass) (part c.make_room.new.pass) (seen c.args.pass.now) (seen c.begin_once.new.pass) (seen c.make_room.new.pass)
+    (c.begin_once.ensures.pass.0.1 ∙ c.loop.invariant.0.0.1) here c.make_room.ensures.going in
+    (search rules, c.make_room.ensures.next, there, c.in-Err-Room.ensures.kept ∙ c.loop.invariant.3)
 
-pub returns-in-Err-Stopped-seek_room-clause-begun : goal.returns-in-Err-Stopped-seek_room-clause-begun
-returns-in-Err-Stopped-seek_room-clause-begun g c =
+pub returns-in-Err-Stopped-make_room-clause-begun : goal.returns-in-Err-Stopped-make_room-clause-begun
+returns-in-Err-Stopped-make_room-clause-begun g c =
     let b = rw c.in-Err-Room.field-0-is at c.in-Err-Room.ensures.begun in
     let here = going_on (number c.args.pass.now) (number c.loop.pass) (part c.args.pass.now) (part c.loop.pass) (part c.begin_once.new.pass) (seen c.args.pass.now) (seen c.loop.pass) (seen c.begin_once.new.pass) c.loop.invariant.0.0.1 c.loop.invariant.2 c.begin_once.ensures.root b.1 in
-    let there = going_after (number c.args.pass.now) (number c.begin_once.new.pass) (part c.args.pass.now) (part c.begin_once.new.pass) (part c.seek_room.new.pass) (seen c.args.pass.now) (seen c.begin_once.new.pass) (seen c.seek_room.new.pass)
-    (c.begin_once.ensures.pass.0.1 ∙ c.loop.invariant.0.0.1) here c.seek_room.ensures.going in
-    ((c.seek_room.ensures.stopped (search rules), there.quiet), there.root)
+    let there = going_after (number c.args.pass.now) (number c.begin_once.new.pass) (part c.args.pass.now) (part c.begin_once.new.pass) (part c.make_room.new.pass) (seen c.args.pass.now) (seen c.begin_once.new.pass) (seen c.make_room.new.pass)
+    (c.begin_once.ensures.pass.0.1 ∙ c.loop.invariant.0.0.1) here c.make_room.ensures.going in
+    ((c.make_room.ensures.stopped (search rules), there.quiet), there.root)
 
-pub returns-in-Err-Memory-seek_room-clause-begun : goal.returns-in-Err-Memory-seek_room-clause-begun
-returns-in-Err-Memory-seek_room-clause-begun g c =
+pub returns-in-Err-Memory-make_room-clause-begun : goal.returns-in-Err-Memory-make_room-clause-begun
+returns-in-Err-Memory-make_room-clause-begun g c =
     let b = rw c.in-Err-Room.field-0-is at c.in-Err-Room.ensures.begun in
     let here = going_on (number c.args.pass.now) (number c.loop.pass) (part c.args.pass.now) (part c.loop.pass) (part c.begin_once.new.pass) (seen c.args.pass.now) (seen c.loop.pass) (seen c.begin_once.new.pass) c.loop.invariant.0.0.1 c.loop.invariant.2 c.begin_once.ensures.root b.1 in
-    going_after (number c.args.pass.now) (number c.begin_once.new.pass) (part c.args.pass.now) (part c.begin_once.new.pass) (part c.seek_room.new.pass) (seen c.args.pass.now) (seen c.begin_once.new.pass) (seen c.seek_room.new.pass)
-    (c.begin_once.ensures.pass.0.1 ∙ c.loop.invariant.0.0.1) here c.seek_room.ensures.going
+    going_after (number c.args.pass.now) (number c.begin_once.new.pass) (part c.args.pass.now) (part c.begin_once.new.pass) (part c.make_room.new.pass) (seen c.args.pass.now) (seen c.begin_once.new.pass) (seen c.make_room.new.pass)
+    (c.begin_once.ensures.pass.0.1 ∙ c.loop.invariant.0.0.1) here c.make_room.ensures.going
