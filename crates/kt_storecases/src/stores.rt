@@ -99,7 +99,7 @@ fn are_as_told(alloc: Global, stores: &mut Stores<DiskRowSet>) -> bool {
     }
     let three = !stores.live(b"ant") && stores.live(b"bee");
     let free = stores.free();
-    stores.change_over(Vec::new(alloc));
+    stores.change_over(2, Vec::new(alloc), Vec::new(alloc));
     let one = stores.len() == 1 && !stores.live(b"bee") && stores.live(b"cat");
     three && one && free < stores.free()
 }

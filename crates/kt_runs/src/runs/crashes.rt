@@ -1,4 +1,4 @@
-//! What a crash leaves of a flush, and of a flush of changes: either device at each of its calls, opened again and read.
+//! What a crash leaves of maintenance: either device at each of its calls, opened again and read.
 ghost use Rattle.std.specs.Prelude.{◌≡◌, ◌≤◌, [], IfOk};
 ghost use Rattle.kt_disk.specs.Memory.{mem_now};
 
@@ -10,24 +10,42 @@ use std::sync::Wait;
 use std::test::Fail;
 use std::thread::Threads;
 
-const WRITES: &[u8] = b"session\ninsert 1 \"a\"\ninsert 2 \"b\"\nupdate 1 v=\"c\"\ndelete 2\n";
+// What the reads print of one disk rowset, or of rows in memory that became one.
+const ONE_ROWSET: &[u8] =
+    b"session 1\nrows 20481 2\n1 \"a\"\n2 \"b\"\nrows 20483 1\n1 \"c\"\nrows 20484 1\n1 \"c\"\nhistory\nrows 1 1 20481\nrows 1 2 20483\nrows 1 3 20484\ntablet ahm 0 last 20484 rowsets 1\n";
 
-const FLUSH: &[u8] = b"session\nflush\n";
+// What is written, the maintenance that follows in a run of its own, and what the reads print until it is published, and from then on.
+struct Upkeep {
+    writes: &'static [u8],
+    chore: &'static [u8],
+    before: &'static [u8],
+    after: &'static [u8],
+}
 
-const READS: &[u8] = b"session\nscan at 20481\nscan at 20483\n";
+const READS: &[u8] = b"session\nscan at 20481\nscan at 20483\nscan at 20484\n";
 
-// What the reads print before the flush is published, and after.
-const BEFORE: &[u8] =
-    b"session 1\nrows 20481 2\n1 \"a\"\n2 \"b\"\nrows 20483 1\n1 \"c\"\nhistory\nrows 1 1 20481\nrows 1 2 20483\ntablet ahm 0 last 20483 rowsets 0\n";
+const FLUSH: Upkeep = Upkeep {
+    writes: b"session\ninsert 1 \"a\"\ninsert 2 \"b\"\nupdate 1 v=\"c\"\ndelete 2\n",
+    chore: b"session\nflush\n",
+    before: b"session 1\nrows 20481 2\n1 \"a\"\n2 \"b\"\nrows 20483 1\n1 \"c\"\nrows 20484 1\n1 \"c\"\nhistory\nrows 1 1 20481\nrows 1 2 20483\nrows 1 3 20484\ntablet ahm 0 last 20484 rowsets 0\n",
+    after: ONE_ROWSET,
+};
 
-const AFTER: &[u8] =
-    b"session 1\nrows 20481 2\n1 \"a\"\n2 \"b\"\nrows 20483 1\n1 \"c\"\nhistory\nrows 1 1 20481\nrows 1 2 20483\ntablet ahm 0 last 20483 rowsets 1\n";
+// Changes of rows that are in files then. Nothing that is read tells whether they went to a file.
+const FLUSH_CHANGES: Upkeep = Upkeep {
+    writes: b"session\ninsert 1 \"a\"\ninsert 2 \"b\"\nflush\nupdate 1 v=\"c\"\ndelete 2\n",
+    chore: b"session\nflush-deltas\n",
+    before: ONE_ROWSET,
+    after: ONE_ROWSET,
+};
 
-// A flush, and a change of a row that is in files then.
-const CHANGES: &[u8] =
-    b"session\ninsert 1 \"a\"\ninsert 2 \"b\"\nflush\nupdate 1 v=\"c\"\ndelete 2\n";
-
-const FLUSH_CHANGES: &[u8] = b"session\nflush-deltas\n";
+// Two disk rowsets. One key is in both, and changes of the first are in memory.
+const COMPACT: Upkeep = Upkeep {
+    writes: b"session\ninsert 1 \"a\"\ninsert 2 \"b\"\nflush\nupdate 1 v=\"c\"\ndelete 2\ninsert 2 \"d\"\nflush\n",
+    chore: b"session\ncompact\n",
+    before: b"session 1\nrows 20481 2\n1 \"a\"\n2 \"b\"\nrows 20483 1\n1 \"c\"\nrows 20484 2\n1 \"c\"\n2 \"d\"\nhistory\nrows 1 1 20481\nrows 1 2 20483\nrows 1 3 20484\ntablet ahm 0 last 20484 rowsets 2\n",
+    after: b"session 1\nrows 20481 2\n1 \"a\"\n2 \"b\"\nrows 20483 1\n1 \"c\"\nrows 20484 2\n1 \"c\"\n2 \"d\"\nhistory\nrows 1 1 20481\nrows 1 2 20483\nrows 1 3 20484\ntablet ahm 0 last 20484 rowsets 1\n",
+};
 
 // What becomes of the writes that are not stable: all are left out, all are there, half of each is, or each has ones in its place.
 const PICKS: [[u8; 64]; 4] = [[0; 64], [1; 64], [2; 64], [3; 64]];
@@ -94,60 +112,42 @@ fn reads<R: Threads + Wait + Sync>(
     Ok(sink)
 }
 
-// Whether the flush is published on devices to which nothing was done yet. Nothing, where the rows are other ones.
-fn is_flushed<R: Threads + Wait + Sync>(
-    rt: &R,
-    alloc: Global,
-    devices: Devices,
-) -> Result<Option<bool>, NoMemory>
-    requires { (devices.log.calls ≡ []) × (devices.store.calls ≡ []) }
-{
-    let sink = reads(rt, alloc, devices)?;
-    if sink.bytes() == AFTER {
-        return Ok(Some(true));
-    }
-    Ok(if sink.bytes() == BEFORE {
-        Some(false)
-    } else {
-        None
-    })
-}
-
-// Whether each moment of the log, before the store was changed, leaves the rows, flushed or not as they were.
+// Whether each moment of the log, before the store was changed, leaves the rows as they were.
 fn log_keeps<R: Threads + Wait + Sync>(
     rt: &R,
     alloc: Global,
     devices: &Devices,
     pick: &[u8],
-    flushed: bool,
+    before: &[u8],
 ) -> Result<bool, NoMemory> {
     'moments: for at in 0..devices.log.moment() {
-        let left = left(alloc, devices, at, 0, pick)?;
-        if is_flushed(rt, alloc, left)? != Some(flushed) {
+        let sink = reads(rt, alloc, left(alloc, devices, at, 0, pick)?)?;
+        if sink.bytes() != before {
             return Ok(false);
         }
     }
     Ok(true)
 }
 
-// Whether each moment of the store leaves the rows: flushed or not as they were at first, and flushed from some moment on.
+// Whether each moment of the store leaves the rows, from some moment on as they are after the maintenance.
 fn store_keeps<R: Threads + Wait + Sync>(
     rt: &R,
     alloc: Global,
     devices: &Devices,
     pick: &[u8],
-    was_flushed: bool,
+    it: &Upkeep,
 ) -> Result<bool, NoMemory> {
     let end = devices.log.moment();
-    let mut flushed = was_flushed;
+    let mut is_done = false;
     'moments: for at in 0..devices.store.moment() {
-        let left = left(alloc, devices, end, at, pick)?;
-        match is_flushed(rt, alloc, left)? {
-            Some(now) if now || !flushed => flushed = now,
-            _ => return Ok(false),
+        let sink = reads(rt, alloc, left(alloc, devices, end, at, pick)?)?;
+        if sink.bytes() == it.after {
+            is_done = true;
+        } else if is_done || sink.bytes() != it.before {
+            return Ok(false);
         }
     }
-    Ok(flushed)
+    Ok(is_done)
 }
 
 // The devices of a run of these lines over what a run of others wrote.
@@ -163,20 +163,14 @@ fn kept_up<R: Threads + Wait + Sync>(
     after(rt, alloc, chore, kept)
 }
 
-// Whether a crash at any moment of a chore leaves the rows that these lines wrote, flushed or not as they were before it.
-fn chore_keeps<R: Threads + Wait + Sync>(
-    rt: &R,
-    alloc: Global,
-    writes: &[u8],
-    chore: &[u8],
-    flushed: bool,
-) -> Result<bool, NoMemory> {
-    let devices = kept_up(rt, alloc, writes, chore)?;
+// Whether a crash at any moment of maintenance leaves the rows that were written.
+fn is_kept<R: Threads + Wait + Sync>(rt: &R, alloc: Global, it: &Upkeep) -> Result<bool, NoMemory> {
+    let devices = kept_up(rt, alloc, it.writes, it.chore)?;
     'picks: for pick in &PICKS {
-        if !log_keeps(rt, alloc, &devices, pick, flushed)? {
+        if !log_keeps(rt, alloc, &devices, pick, it.before)? {
             return Ok(false);
         }
-        if !store_keeps(rt, alloc, &devices, pick, flushed)? {
+        if !store_keeps(rt, alloc, &devices, pick, it)? {
             return Ok(false);
         }
     }
@@ -185,14 +179,21 @@ fn chore_keeps<R: Threads + Wait + Sync>(
 
 #[test]
 fn a_crash_in_a_flush_leaves_the_rows(rt: HostRuntime) -> Result<(), Fail> {
-    let keeps = chore_keeps(&rt, rt.alloc(), WRITES, FLUSH, false)?;
+    let keeps = is_kept(&rt, rt.alloc(), &FLUSH)?;
     assert!(rt; keeps);
     Ok(())
 }
 
 #[test]
 fn a_crash_in_a_flush_of_changes_leaves_the_rows(rt: HostRuntime) -> Result<(), Fail> {
-    let keeps = chore_keeps(&rt, rt.alloc(), CHANGES, FLUSH_CHANGES, true)?;
+    let keeps = is_kept(&rt, rt.alloc(), &FLUSH_CHANGES)?;
+    assert!(rt; keeps);
+    Ok(())
+}
+
+#[test]
+fn a_crash_in_a_compaction_leaves_the_rows(rt: HostRuntime) -> Result<(), Fail> {
+    let keeps = is_kept(&rt, rt.alloc(), &COMPACT)?;
     assert!(rt; keeps);
     Ok(())
 }
