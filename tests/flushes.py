@@ -11,7 +11,7 @@ from room import Wrong
 from stores import held
 from stress import HEAD, command
 
-CHORES = ("flush", "flush-deltas", "minor", "major")
+CHORES = ("flush", "flush-deltas", "minor", "major", "compact")
 
 # A row that needs all 1,024 cells of a pool, and one that needs two more.
 ALL_CELLS, TOO_MANY = "a" * 28_428, "a" * 28_429
@@ -31,15 +31,6 @@ PRINTED = [
         ["at 4096 ok", "at 8192 ok"],
         ["begin 1 1 4096 1", "end 1 1 4096", "begin 1 2 8192 2", "end 1 2 8192", "tablet ahm 0 last 8192 rowsets 1"],
     ),
-    (
-        [],
-        ['insert 1 "a"', "flush", 'update 1 v="b"', "flush-deltas", 'update 1 v="c"', "flush-deltas", "minor", "major", "scan at 4096", "scan at 8192", "scan now"],
-        ["at 4096 ok", "done", "at 8192 ok", "done", "at 12288 ok", "done", "done", "done", "rows 4096 1", '1 "a"', "rows 8192 1", '1 "b"', "rows 16384 1", '1 "c"'],
-        [
-            "begin 1 1 4096 1", "end 1 1 4096", "chore 1 2", "begin 1 3 8192 2", "end 1 3 8192", "chore 1 4", "begin 1 5 12288 3", "end 1 5 12288", "chore 1 6",
-            "chore 1 7", "chore 1 8", "rows 1 9 4096", "rows 1 10 8192", "look 1 11 16384 4", "rows 1 11 16384", "tablet ahm 0 last 16384 rowsets 1",
-        ],
-    ),
 ]
 
 TOP = os.path.dirname(os.path.dirname(os.path.realpath(__file__)))
@@ -49,9 +40,9 @@ def rowsets_in(output):
     return int(re.search(r"^tablet ahm \d+ last \d+ rowsets (\d+)$", output, re.M)[1])
 
 
-def plays(room, script, before=None, rowsets=None):
-    """Runs a script over both folders, and compares all that it printed with a plain machine."""
-    status, output = room.run(FOLDERS, script.encode())
+def plays(room, script, before=None, rowsets=None, words=(), watch=()):
+    """Runs a script over both folders, with these words, watched by a command where there is one, and compares all that it printed with a plain machine."""
+    status, output = room.run([*FOLDERS, *words], script.encode(), watch)
     if status:
         raise Wrong(f"status {status}\n{output}")
     machine = check(script, output, before)
@@ -119,14 +110,30 @@ def a_flush_leaves_its_files(room):
         raise Wrong(f"no slot is {last.hex()}: {files['f1'].hex()} {files['f2'].hex()}")
 
 
-def each_run_prints_its_text(room):
-    """What is flushed, because it is told so or because a write has no room, prints what is wanted."""
+def prints(room, words, lines, replies, history):
+    """One session of these lines over devices in memory prints this."""
+    script = "".join(f"{it}\n" for it in ["table", "column id int64 key", "column v string", "session", *lines])
+    wanted = "".join(f"{it}\n" for it in ["session 1", *replies, "history", *history])
+    ended = room.run(["memory", "run", *words], script.encode())
+    if ended != (0, wanted):
+        raise Wrong(f"{words}: the status is {ended[0]}; it wrote\n{ended[1]}and not\n{wanted}")
+
+
+def a_write_has_room_after_a_flush(room):
+    """What needs more cells than the pool has is refused; a row that finds none free has those of the row that went to a file."""
     for words, lines, replies, history in PRINTED:
-        script = "".join(f"{it}\n" for it in ["table", "column id int64 key", "column v string", "session", *lines])
-        wanted = "".join(f"{it}\n" for it in ["session 1", *replies, "history", *history])
-        ended = room.run(["memory", "run", *words], script.encode())
-        if ended != (0, wanted):
-            raise Wrong(f"{words}: the status is {ended[0]}; it wrote\n{ended[1]}and not\n{wanted}")
+        prints(room, words, lines, replies, history)
+
+
+def changes_go_through_all_files(room):
+    """Changes are flushed, merged and folded, and the scans at three times print what they are to."""
+    lines = ['insert 1 "a"', "flush", 'update 1 v="b"', "flush-deltas", 'update 1 v="c"', "flush-deltas", "minor", "major", "scan at 4096", "scan at 8192", "scan now"]
+    replies = ["at 4096 ok", "done", "at 8192 ok", "done", "at 12288 ok", "done", "done", "done", "rows 4096 1", '1 "a"', "rows 8192 1", '1 "b"', "rows 16384 1", '1 "c"']
+    history = [
+        "begin 1 1 4096 1", "end 1 1 4096", "chore 1 2", "begin 1 3 8192 2", "end 1 3 8192", "chore 1 4", "begin 1 5 12288 3", "end 1 5 12288", "chore 1 6",
+        "chore 1 7", "chore 1 8", "rows 1 9 4096", "rows 1 10 8192", "look 1 11 16384 4", "rows 1 11 16384", "tablet ahm 0 last 16384 rowsets 1",
+    ]
+    prints(room, [], lines, replies, history)
 
 
 def a_record_that_is_lost_is_refused(room):
@@ -159,7 +166,7 @@ def later_changes_go_to_files(room):
     machine, times = None, []
     for lines in (first, second, third):
         machine, output = plays(room, TABLE + "".join(f"{it}\n" for it in lines), machine)
-        if [line for line in output.splitlines() if line == "done"] != ["done"] * sum(it.split("-")[0] in ("flush", "minor", "major") for it in lines):
+        if [line for line in output.splitlines() if line == "done"] != ["done"] * sum(it in CHORES for it in lines):
             raise Wrong(output)
         times += times_in(output)
         machine, output = plays(room, TABLE + at_all_times(times), machine)
@@ -198,7 +205,8 @@ ALL = [
     rows_of_several_rowsets_are_one_table,
     a_flush_of_nothing_is_done,
     a_flush_leaves_its_files,
-    each_run_prints_its_text,
+    a_write_has_room_after_a_flush,
+    changes_go_through_all_files,
     a_record_that_is_lost_is_refused,
     later_changes_go_to_files,
     random_sessions_flush,

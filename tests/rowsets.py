@@ -31,22 +31,34 @@ def lay_rowset(room, columns, base, undo=(), redo=(), log=(), **numbers):
     lay(room, log, files, {1: spelled.slot(spelled.body(1, columns, [rowset], **said))})
 
 
-def named_in(now, columns):
-    """The number and length of the base file, the UNDO files and the REDO files of the one rowset that the superblock names; nothing, where it names none."""
+def number_of(slot):
+    """The number of the superblock that a slot has."""
+    return struct.unpack_from("<Q", slot, 7)[0]
+
+
+def all_named(now, columns):
+    """Each rowset that the newest superblock names: its number, then the number and length of its base file, its UNDO files and its REDO files."""
     slots = [it for it in (now.get("f1"), now.get("f2")) if it and it[0] == 1]
-    body = max((it[5:] for it in slots), key=lambda it: struct.unpack_from("<Q", it, 2))
+    body = max(slots, key=number_of)[5:]
     at = len(spelled.body(1, columns))
-    count = struct.unpack_from("<I", body, at - 4)[0]
-    if count == 0:
-        return None
-    if count > 1:
-        raise Wrong(f"the superblock names {count} rowsets: {body.hex()}")
-    base, at, lists = struct.unpack_from("<QQ", body, at + 16), at + 32, []
-    for _ in range(2):
-        count = struct.unpack_from("<I", body, at)[0]
-        lists.append([struct.unpack_from("<QQ", body, at + 4 + 16 * it) for it in range(count)])
-        at += 4 + 16 * count
-    return base, *lists
+    found = []
+    for _ in range(struct.unpack_from("<I", body, at - 4)[0]):
+        number, base, lists = struct.unpack_from("<Q", body, at)[0], struct.unpack_from("<QQ", body, at + 16), []
+        at += 32
+        for _ in range(2):
+            count = struct.unpack_from("<I", body, at)[0]
+            lists.append([struct.unpack_from("<QQ", body, at + 4 + 16 * it) for it in range(count)])
+            at += 4 + 16 * count
+        found.append((number, base, *lists))
+    return found
+
+
+def named_in(now, columns):
+    """The files of the one rowset that the superblock names; nothing, where it names none."""
+    rowsets = all_named(now, columns)
+    if len(rowsets) > 1:
+        raise Wrong(f"the superblock names {len(rowsets)} rowsets: {rowsets}")
+    return rowsets[0][1:] if rowsets else None
 
 
 def files_of(room, columns):

@@ -102,9 +102,14 @@ def base_of(keys, *columns):
     return front + spelled + filter_of(keys) + index
 
 
+def column_of_numbers(values):
+    """The blocks of int64 cells."""
+    return b"".join(of_numbers(values[at : at + 8192]) for at in range(0, len(values), 8192))
+
+
 def base_file(keys, *columns):
     """A base file: of encoded keys, and of columns as (id, values) of kind int64 that take no null."""
-    return base_of(keys, *((id, "int64", 0, of_numbers(values)) for id, values in columns))
+    return base_of(keys, *((id, "int64", 0, column_of_numbers(values)) for id, values in columns))
 
 
 # ---- delta files

@@ -36,15 +36,19 @@ def superblock(of, rowsets=(ROWSET,), columns=COLUMNS, **numbers):
     return spelled.slot(spelled.body(of, columns, rowsets, **{**said, **numbers}))
 
 
+def fill(room, folder, files):
+    """Fills a folder with these files alone."""
+    for name in os.listdir(room.path(folder)):
+        os.remove(room.path(f"{folder}/{name}"))
+    for name, bytes_ in files.items():
+        with open(room.path(f"{folder}/{name}"), "wb") as it:
+            it.write(bytes_)
+
+
 def lay(room, log, files, slots):
     """Fills both folders: the records of a log, data files, and slots of a superblock."""
-    for folder in ("LOG", "DATA"):
-        for name in os.listdir(room.path(folder)):
-            os.remove(room.path(f"{folder}/{name}"))
-    for folder, some in (("LOG", {1: log_of(log)}), ("DATA", {**files, **slots})):
-        for at, bytes_ in some.items():
-            with open(room.path(f"{folder}/f{at}"), "wb") as it:
-                it.write(bytes_)
+    fill(room, "LOG", {"f1": log_of(log)})
+    fill(room, "DATA", {f"f{at}": bytes_ for at, bytes_ in {**files, **slots}.items()})
 
 
 def held(room, folder):
