@@ -52,10 +52,13 @@ def workers_flush_many_rows(room):
 
 
 def workers_write_many_changes(room):
-    """4,096 changes of one rowset go to a file, and then into its base file, since they are a quarter of its rows."""
+    """4,096 changes of one rowset go to a file, and then into its base file, since they are a quarter of its rows.
+
+    A worker that had found the same changes may still write what came since then to a file.
+    """
     machine, _ = plays(room, SESSION + writes([f"insert {it} 0" for it in range(5_000)]) + "flush\n", None, 1)
     machine, output = plays(room, SESSION + writes([f"update {it} n={it}" for it in range(4_500)]), machine, words=FOUR)
-    machine = comes_to(room, FOUR, machine, lambda it: it == [(2, 0)])
+    machine = comes_to(room, FOUR, machine, lambda it: [undos for undos, _ in it] == [2])
     reads_the_same(room, times_in(output), machine)
 
 
