@@ -22,3 +22,4 @@ pub mod Settled
 pub mod Told
 pub mod Gone
 pub mod Statistics
+pub mod Bounds

@@ -1,5 +1,7 @@
 -- Files, whoever owns them: what they tell, and what can be read of them.
-use Rattle.std.specs.Prelude.{◌≡◌, ◌⊎◌, ℕ, [], map, if◌then◌else◌}
+use Rattle.std.specs.Prelude.{◌≡◌, ◌⊎◌, ◌-◌, ℕ, List, [], length, map, if◌then◌else◌}
+use Rattle.kt_baseset.specs.Rows.{keys_in}
+use Rattle.kt_baseset.specs.Tables.{key_at}
 use Rattle.kt_deltafile.specs.File.{FileView}
 use Rattle.kt_history.specs.Stores.{Store}
 use Rattle.kt_rowfiles.specs.Files.{DiskRowset}
@@ -22,3 +24,11 @@ readable_held h = if undos_fit (files_told h) then h else record h { undos = [] 
 -- a rowset in memory has these files, or what can be read of them
 abbrev pub IsReadOf : HeldFiles → HeldFiles → Type 0
 IsReadOf h read = (read ≡ h) ⊎ (read ≡ readable_held h)
+
+-- the keys of the base file, those of deleted rows too
+abbrev pub keys_held : HeldFiles → List (List ℕ)
+keys_held h = keys_in h.base.2.rows
+
+-- the least of them and the greatest; where there is none, both are empty
+abbrev pub ends_held : HeldFiles → List ℕ × List ℕ
+ends_held h = (key_at h.base.2.rows 0, key_at h.base.2.rows (length h.base.2.rows - 1))

@@ -1,4 +1,5 @@
 //! A disk rowset in memory.
+pub mod ends;
 pub mod first;
 pub mod jobs;
 pub mod leaving;

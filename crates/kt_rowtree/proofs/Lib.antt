@@ -4,3 +4,5 @@ pub mod Linked
 pub mod Counted
 pub mod Deep
 pub mod Changing
+pub mod Placing
+pub mod Permuted

@@ -6,7 +6,7 @@ use Rattle.std.proofs.lemmas.Bool.{cases_lt, cases_eq}
 use Rattle.kt_rowtree.specs.Ranges.{is_upto, EndsLast, Outlasts, EndEarly, IsLink, AreLinks}
 use Rattle.kt_rowtree.specs.declared.links.Link.{Link}
 use Rattle.kt_rowtree.specs.declared.lists.Range.{Range}
-use Rattle.kt_rowtree.proofs.Upto.{upto_trans, upto_same, upto_other}
+use Rattle.kt_rowtree.proofs.Upto.{upto_trans}
 use Rattle.kt_rowtree.proofs.Found.{read_at, false_from}
 
 -- ---- the near step

@@ -1,6 +1,6 @@
 -- Which rowsets hold a key.
-use Rattle.std.specs.Prelude.{◌≡◌, ℕ, ◌<◌, ◌≤◌, ◌+◌, ◌-◌, ◌==◌, Bool, true, false, not, ◌&&◌, List, [], map, length, get_or}
-use Rattle.std.specs.List.{filter, list_any, All}
+use Rattle.std.specs.Prelude.{◌≡◌, ℕ, ◌<◌, ◌≤◌, ◌+◌, ◌-◌, ◌==◌, Bool, true, false, not, ◌&&◌, List, [], ◌∷◌, map, length, get_or, nat_lt, if◌then◌else◌}
+use Rattle.std.specs.List.{filter, list_any, All, count_by}
 use Rattle.std.specs.List.Sorted.{IsPermutation, IsSorted}
 use Rattle.std.specs.Ordering.{nat_cmp, is_le}
 use Rattle.std.specs.Cmp.Lexicographic.{slice_cmp}
@@ -76,6 +76,28 @@ pub record AreEnds (ranges : List Range) (places : List ℕ) : Type 0 where
 abbrev pub without : List ℕ → List Range → List Range
 without out ranges = filter (λ (r : Range). not (list_any (λ n. n == r.rowset) out)) ranges
 
+-- the range of a rowset whose number is less by so many as left in front of it
+abbrev pub closed : List ℕ → Range → Range
+closed out r = record r { rowset = r.rowset - count_by (λ n. nat_lt n r.rowset) out }
+
+-- the ranges of the rowsets that are left, numbered so
+abbrev pub closed_up : List ℕ → List Range → List Range
+closed_up out ranges = map (closed out) (without out ranges)
+
+-- the range of a rowset whose number is greater by so much
+abbrev pub raised : ℕ → Range → Range
+raised more r = record r { rowset = r.rowset + more }
+
+-- ranges from one key to another, each numbered by its place, from one on
+abbrev pub placed : ℕ → List (List ℕ × List ℕ) → List Range
+placed at [] = []
+placed at (ends ∷ rest) = record { rowset = at; least = ends.0; greatest = ends.1 } ∷ placed (at + 1) rest
+
+-- the places, from one on, of what does not pass a test
+abbrev pub places_out : {A : Type 0} → (A → Bool) → ℕ → List A → List ℕ
+places_out stays at [] = []
+places_out stays at (x ∷ xs) = if stays x then places_out stays (at + 1) xs else at ∷ places_out stays (at + 1) xs
+
 -- a row tree as callers see it: its ranges in some order, and how many it can hold without more memory
 pub record Tree : Type 0 where
   pub ranges : List Range
@@ -89,8 +111,9 @@ pub record IsRowTree (ranges : List Range) (links : List Link) (stack : List ℕ
   pub all : length links ≡ length ranges
   pub deepest : 0 < length ranges → IsDeepest ranges stack
 
--- each of its lists has this room
-pub record HasRoom (room ranges links stack : ℕ) : Type 0 where
+-- each of its lists has this room, and no more ranges are there
+pub record HasRoom (room count ranges links stack : ℕ) : Type 0 where
+  pub few : count ≤ room
   pub in_ranges : room ≤ ranges
   pub in_links : room ≤ links
   pub in_stack : room ≤ stack

@@ -1,4 +1,4 @@
-ghost use Rattle.std.specs.Prelude.{◌≡◌, ◌<◌, ◌≤◌, length, IfOk, OnOk};
+ghost use Rattle.std.specs.Prelude.{◌≡◌, ◌<◌, ◌≤◌, ◌+◌, ◌^◌, ◌++◌, ◌∷◌, [], map, length, All, IfOk, OnOk};
 ghost use Rattle.std.specs.Vec.{vec_capacity};
 
 use crate::links::Link;
@@ -46,6 +46,8 @@ impl Model for RangeList {
 }
 
 impl RangeList {
+    ghost use Rattle.kt_rowtree.specs.Ranges.{raised};
+
     pub fn from_vec(ranges: Vec<Range>) -> RangeList
         ensures { result ≡ ranges.items }
     {
@@ -63,6 +65,18 @@ impl RangeList {
         ensures { result.now ≡ self.now }
     {
         self.ranges.as_slice()
+    }
+
+    /// The ranges of rowsets whose numbers are greater by so much. It takes no memory.
+    pub fn raised(self, more: u64) -> RangeList
+        requires { All (λ r. r.rowset + more < 2 ^ 64) self }
+        ensures { result ≡ map (raised more) self }
+    {
+        let RangeList { mut ranges } = self;
+        for range in ranges.iter_mut() {
+            range.rowset += more;
+        }
+        RangeList { ranges }
     }
 
     pub fn copy(&self, alloc: Global) -> Result<RangeList, NoMemory>
@@ -100,6 +114,33 @@ impl IdList {
         ensures room { result.room ≡ vec_capacity ids }
     {
         IdList { ids }
+    }
+
+    /// An empty list with room for so many numbers.
+    pub fn with_room(alloc: Global, room: usize) -> Result<IdList, NoMemory>
+        ensures none { IfOk result (λ list. list.ids ≡ []) }
+        ensures room { IfOk result (λ list. room ≤ list.room) }
+    {
+        Ok(IdList {
+            ids: Vec::with_capacity(alloc, room)?,
+        })
+    }
+
+    /// Takes all numbers out. The room stays.
+    pub fn clear(&mut self)
+        ensures ids { self.new.ids ≡ [] }
+        ensures room { self.new.room ≡ self.old.room }
+    {
+        self.ids.clear();
+    }
+
+    /// A number comes behind the others, in room that was made before.
+    pub fn add(&mut self, id: u64)
+        requires { length self.old.ids < self.old.room }
+        ensures ids { self.new.ids ≡ self.old.ids ++ id ∷ [] }
+        ensures room { self.new.room ≡ self.old.room }
+    {
+        self.ids.push_reserved(id);
     }
 
     pub fn into_vec(self) -> Vec<u64>

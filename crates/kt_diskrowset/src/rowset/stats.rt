@@ -1,14 +1,13 @@
 //! What a maintenance policy asks of a disk rowset.
-ghost use Rattle.std.specs.Prelude.{◌≡◌, ◌<◌, ◌-◌, ◌^◌, length, min, IfOk};
+ghost use Rattle.std.specs.Prelude.{◌≡◌, ◌^◌, min, IfOk};
 ghost use Rattle.std.specs.List.{sum_by};
-ghost use Rattle.kt_baseset.specs.Tables.{key_at};
 ghost use Rattle.kt_diskrowset.specs.Mems.{AllStand};
 ghost use Rattle.kt_diskrowset.specs.Stats.{leaves_row, leaving_row, changes_had};
 
 use super::DiskRowSet;
-use crate::base::BaseHeld;
+use super::ends::ends_of;
 use crate::files::FileHeld;
-use kt_base::{NoMemory, Octets};
+use kt_base::NoMemory;
 use kt_dms::DeltaMem;
 use kt_history::{Change, Delta};
 use kt_pick::RowSetStat;
@@ -69,18 +68,6 @@ fn changes_had(pool: &Pool, mems: &[DeltaMem]) -> u64
         count = capped(count + u64::from(mem.len()));
     }
     count
-}
-
-// The least key of a base file and the greatest, where it has a row.
-fn ends_of(alloc: Global, base: &BaseHeld) -> Result<(Octets, Octets), NoMemory>
-    ensures least { IfOk result (λ ends. 0 < length base.now.set.value.rows → ends.0 ≡ key_at base.now.set.value.rows 0) }
-    ensures greatest { IfOk result (λ ends. 0 < length base.now.set.value.rows → ends.1 ≡ key_at base.now.set.value.rows (length base.now.set.value.rows - 1)) }
-{
-    let rows = base.rows();
-    if rows == 0 {
-        return Ok((Octets::new(alloc), Octets::new(alloc)));
-    }
-    Ok((base.key(alloc, 0)?, base.key(alloc, rows - 1)?))
 }
 
 impl DiskRowSet {

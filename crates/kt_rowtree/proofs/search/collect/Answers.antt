@@ -1,4 +1,4 @@
-use Rattle.std.proofs.Common.{arith, sym, ◌∙◌, ◌-◌, ◌++◌, ◌∷◌, [], ◌<◌, vec_len}
+use Rattle.std.proofs.Common.{arith, sym, ◌∙◌, ◌++◌, ◌∷◌, [], ◌<◌, vec_len}
 use Rattle.std.specs.Vec.{vec_capacity}
 use Rattle.kt_rowtree.proofs.Found.{found_more, found_room, found_past, found_all, push_fits}
 use Rattle.kt_rowtree.proofs.search.collect.Goals as goal
