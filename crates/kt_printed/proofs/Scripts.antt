@@ -1,14 +1,17 @@
 -- Literals spell each cell that a script says.
-use Rattle.std.proofs.Common.{◌≡◌, ℕ, ◌+◌, ◌≤◌, Bool, true, false, not, ◌&&◌, ◌||◌, List, [], ◌∷◌, map, length, min, drop, Option, Some, None, Result, Ok, Err, refl, sym, ap, ◌∙◌, subst, arith, cond}
-use Rattle.std.specs.Prelude.{unwrap_or, if◌then◌else◌}
+use Rattle.std.proofs.Common.{◌≡◌, ℕ, zero, suc, ◌+◌, ◌*◌, ◌/◌, ◌%◌, ◌^◌, ◌<◌, ◌≤◌, pos, Bool, true, false, not, ◌&&◌, ◌||◌, List, [], ◌∷◌, map, length, min, drop, Option, Some, None, Result, Ok, Err, refl, sym, ap, ◌∙◌, subst, arith, cond}
+use Rattle.std.specs.Prelude.{◌-◌, ◌==◌, nat_lt, unwrap_or, if◌then◌else◌}
+use Rattle.std.specs.Int.{w64}
 use Rattle.std.specs.List.{AllByRecursion, filter, list_any}
 use Rattle.std.proofs.ByRecursion.{All-append, All-map, all_kept_by}
 use Rattle.std.proofs.lemmas.List.{length-map}
+use Rattle.std.proofs.lemmas.Bool.Decides.{nat_tests}
 use Rattle.kt_base.specs.declared.cell.Kind.{Kind}
+use Rattle.kt_base.specs.declared.cell.Kind.TheVariants as kind
 use Rattle.kt_base.specs.declared.cell.Cell.{Cell}
 use Rattle.kt_base.specs.declared.cell.Cell.TheVariants as cell
 use Rattle.kt_base.specs.declared.literal.LiteralNo.{LiteralNo}
-use Rattle.kt_base.specs.Keys.{key_cells}
+use Rattle.kt_base.specs.Keys.{key_cells, number_key}
 use Rattle.kt_base.specs.Literals.{CellBytes, cell_in, fits, literal}
 use Rattle.kt_base.proofs.Literals.{all_spelled}
 use Rattle.kt_base.proofs.Values.{both_true}
@@ -16,7 +19,9 @@ use Rattle.kt_key.specs.Fit.{has_kind}
 use Rattle.kt_schema.specs.declared.column.Column.{Column}
 use Rattle.kt_schema.specs.Columns.{key_columns, key_kinds, other_columns}
 use Rattle.kt_schema.specs.Rows.{is_long}
+use Rattle.kt_key.proofs.KeyReads.{keys_again}
 use Rattle.kt_history.specs.declared.command.Command.{Command}
+use Rattle.kt_history.specs.declared.command.Command.TheVariants as command
 use Rattle.kt_history.specs.declared.event.Event.{Event}
 use Rattle.kt_history.specs.declared.operation.OpKind.{OpKind}
 use Rattle.kt_history.specs.declared.operation.OpKind.TheVariants as op
@@ -29,9 +34,12 @@ use Rattle.kt_script.specs.declared.leads.Lead.TheVariants as lead
 use Rattle.kt_script.specs.Reasons.{sound, cell_or_null}
 use Rattle.kt_script.specs.Pieces.{words_of}
 use Rattle.kt_script.specs.Columns.{ColumnLine, column_line, begins_column, default_reason, default_no, default_value, said_no, column_no, with_column, columns_with, IsTable}
-use Rattle.kt_script.specs.Writes.{ops_of, op_no, op_of, ops_no}
+use Rattle.kt_script.specs.Writes.{op_form, ops_of, op_no, op_of, ops_no}
+use Rattle.kt_script.specs.declared.forms.OpForm.{OpForm}
+use Rattle.kt_script.specs.declared.forms.OpForm.TheVariants as form
 use Rattle.kt_script.specs.Fit.{fits_column, selection_fits}
-use Rattle.kt_script.specs.Scripts.{Above, start, head, body, body_no, body_plan, command_no, command_of, first_lead, led_no, led_plan, is_begun, push_last, full_no, line_no, after, fault_from, above_end, Said, said, script_of, workload}
+use Rattle.kt_script.specs.Loads.{load_columns, drawn, load_cells, load_kind, load_op, load_chore, load_step, load_session, load_plan, load_size, IsLoad}
+use Rattle.kt_script.specs.Scripts.{Above, start, head, body, load, body_no, body_plan, body_after, command_no, command_of, first_lead, led_no, led_plan, led_after, is_begun, push_last, full_no, line_no, after, fault_from, above_end, Said, said, script_of, workload}
 use Rattle.kt_script.specs.Outputs.{HasOutput}
 use Rattle.kt_script.proofs.WordForms.{each_keeps}
 use Rattle.kt_script.proofs.Cells.{literal_of}
@@ -40,6 +48,7 @@ use Rattle.kt_script.proofs.Packed.{packed, onto, Taken}
 use Rattle.kt_script.proofs.OpForms.{operation, operation_law, op_read}
 use Rattle.kt_script.proofs.ScanFit.{scan_fits}
 use Rattle.kt_script.proofs.Cuts.{some_piece}
+use Rattle.kt_script.proofs.Loads.{load_taken}
 use Rattle.kt_script.proofs.Spelling.{FitsAbove, after_kept, no_fault, script_is, scripts_are_fit}
 use Rattle.kt_app.specs.Headline.{IsOutput}
 use Rattle.kt_printed.proofs.Spelled.{IsSpelled, RowSpelled, KeySpelled, PastSpelled, OpsSpelled, SelectsSome, CommandSpelled, WorkSpelled}
@@ -151,7 +160,50 @@ body_spelled columns plan words table all h = by (first_lead words) h
     by : (l : Option Lead) → sound ≤ led_no columns plan l words → PlanSpelled columns (led_plan columns plan l words)
     by None g = absurd (omega (arith, g))
     by (Some lead.Session) g = All-append (AllByRecursion (CommandSpelled (key_kinds columns))) plan ([] ∷ []) all (tt, tt)
+    by (Some lead.Load) g = all
     by (Some (lead.Command w)) g = in_session w (is_begun plan) g
+
+-- ---- loads
+
+below : (n : ℕ) → n < 2000 → nat_lt n (2 ^ 63) ≡ true
+below n h = grind (arith, nat_tests)
+
+small_spelled : (n : ℕ) → n < 2000 → IsSpelled (cell.Int (pos n))
+small_spelled n h = held kind.Int64 (cell.Int (pos n)) (below n h) tt
+
+id_spelled : (id : ℕ) → id < 2000 → KeySpelled (key_kinds load_columns) (number_key w64 (pos id))
+id_spelled id h = subst (AllByRecursion IsSpelled) (sym cells) (small_spelled id h, tt)
+  where
+    number : has_kind kind.Int64 (cell.Int (pos id)) ≡ true
+    number = below id h
+
+    cells : key_cells (key_kinds load_columns) (number_key w64 (pos id)) ≡ cell.Int (pos id) ∷ []
+    cells = keys_again (key_kinds load_columns) (cell.Int (pos id) ∷ []) (number_key w64 (pos id)) (record { key = ap (λ b. b && true) number; spelled = refl })
+
+load_op_spelled : (s y : ℕ) → s ≤ 4 → OpSpelled load_columns (load_op s y)
+load_op_spelled s y few = (id_spelled (4 * ((y / 4) % 256) + s - 1) (omega (arith, few)), by (op_form (load_kind y)))
+  where
+    by : (f : OpForm) → RowSpelled (load_cells f ((y / 1024) % 1000))
+    by form.Literals = (small_spelled ((y / 1024) % 1000) (omega arith), tt)
+    by form.RowNames = (small_spelled ((y / 1024) % 1000) (omega arith), tt)
+    by form.Names = (small_spelled ((y / 1024) % 1000) (omega arith), tt)
+    by form.Key = tt
+
+step_spelled : (s k : ℕ) → s ≤ 4 → AllByRecursion (CommandSpelled (key_kinds load_columns)) (load_step s k)
+step_spelled s k few = ((load_op_spelled s (drawn s k / 2 ^ 33) few, tt), by (k % 64 == 0))
+  where
+    by : (b : Bool) → AllByRecursion (CommandSpelled (key_kinds load_columns)) (if b then command.Chore (load_chore s (k / 64)) ∷ [] else [])
+    by true = (tt, tt)
+    by false = tt
+
+session_spelled : (n s : ℕ) → s ≤ 4 → AllByRecursion (CommandSpelled (key_kinds load_columns)) (load_session n s)
+session_spelled zero s few = tt
+session_spelled (suc n) s few = All-append (CommandSpelled (key_kinds load_columns)) (load_session n s) (load_step s (suc n)) (session_spelled n s few) (step_spelled s (suc n) few)
+
+load_spelled : (columns : List Column) (plan : List (List Command)) (n : ℕ) → IsLoad columns plan n → PlanSpelled columns plan
+load_spelled columns plan n is =
+    let sessions : PlanSpelled load_columns (load_plan n) = (session_spelled n 1 (omega arith), (session_spelled n 2 (omega arith), (session_spelled n 3 (omega arith), (session_spelled n 4 (omega arith), tt)))) in
+    subst (λ cs. PlanSpelled cs plan) (sym is.table) (subst (PlanSpelled load_columns) (sym is.plan_is) sessions)
 
 -- ---- columns
 
@@ -179,16 +231,28 @@ abbrev SpelledAbove : Above → Type 0
 SpelledAbove start = Unit {0}
 SpelledAbove (head columns) = AllByRecursion DefaultSpelled columns
 SpelledAbove (body columns plan) = AllByRecursion DefaultSpelled columns × PlanSpelled columns plan
+SpelledAbove (load columns n) = AllByRecursion DefaultSpelled columns × PlanSpelled columns (load_plan n)
+
+-- below a line that is no column's
+below_spelled : (columns : List Column) (plan : List (List Command)) (words : List (List ℕ)) → IsTable columns → AllByRecursion DefaultSpelled columns → PlanSpelled columns plan → sound ≤ body_no columns plan words → SpelledAbove (body_after columns plan words)
+below_spelled columns plan words table all sessions h = by (first_lead words) h (body_spelled columns plan words table sessions h)
+  where
+    by : (l : Option Lead) → sound ≤ led_no columns plan l words → PlanSpelled columns (led_plan columns plan l words) → SpelledAbove (led_after columns plan l words)
+    by None g p = absurd (omega (arith, g))
+    by (Some lead.Session) g p = (all, p)
+    by (Some lead.Load) g p = (all, load_spelled columns (load_plan (load_size words)) (load_size words) (load_taken columns plan words table.ids g))
+    by (Some (lead.Command w)) g p = (all, p)
 
 after_spelled : (above : Above) (line : List ℕ) → FitsAbove above → SpelledAbove above → sound ≤ line_no above line → SpelledAbove (after above line)
 after_spelled start line fits all h = tt
 after_spelled (head columns) line fits all h = by (begins_column line) (list_any (λ c. c.key) columns) h
   where
-    by : (b k : Bool) → sound ≤ (if b then column_no columns line else (if k then body_no columns [] (words_of line) else 5)) → SpelledAbove (if b then head (columns_with columns line) else body columns (body_plan columns [] (words_of line)))
+    by : (b k : Bool) → sound ≤ (if b then column_no columns line else (if k then body_no columns [] (words_of line) else 5)) → SpelledAbove (if b then head (columns_with columns line) else body_after columns [] (words_of line))
     by true k g = column_spelled columns line all g
-    by false true g = (all, body_spelled columns [] (words_of line) fits tt g)
+    by false true g = below_spelled columns [] (words_of line) fits all tt g
     by false false g = absurd (omega arith)
-after_spelled (body columns plan) line fits all h = (all.0, body_spelled columns plan (words_of line) fits.0 all.1 h)
+after_spelled (body columns plan) line fits all h = below_spelled columns plan (words_of line) fits.0 all.0 all.1 h
+after_spelled (load columns n) line fits all h = absurd (omega (arith, h))
 
 all_above : (above : Above) (n : ℕ) (piece : List ℕ) (pieces : List (List ℕ)) → FitsAbove above → SpelledAbove above → fault_from above n (piece ∷ pieces) ≡ None → SpelledAbove (above_end above (piece ∷ pieces))
 all_above above n rest [] fits all none = all
@@ -203,6 +267,7 @@ end_spelled : (above : Above) → SpelledAbove above → SaidSpelled (said above
 end_spelled start all = (tt, tt)
 end_spelled (head columns) all = (all, tt)
 end_spelled (body columns plan) all = all
+end_spelled (load columns n) all = all
 
 said_spelled : (text : List ℕ) (s : Said) → script_of text ≡ Some s → SaidSpelled s
 said_spelled text s e =

@@ -14,7 +14,7 @@ use Rattle.kt_script.specs.declared.refusal.ScriptNo.TheVariants as why
 use Rattle.kt_script.specs.Pieces.{cut, words_of}
 use Rattle.kt_script.specs.Reasons.{sound}
 use Rattle.kt_script.specs.Columns.{begins_column, column_no, columns_with, ReadsColumn}
-use Rattle.kt_script.specs.Scripts.{Above, start, head, body, line_no, after, Fault, fault_if, fault_from, above_end, at, located, first_piece, body_no, body_plan, IsColumns, IsHead, IsLineCut, IsNoKey}
+use Rattle.kt_script.specs.Scripts.{Above, start, head, line_no, after, Fault, fault_if, fault_from, above_end, at, located, first_piece, body_no, body_after, IsColumns, IsHead, IsLineCut, IsNoKey}
 use Rattle.kt_script.proofs.Cuts.{cut_front, cut_end, some_piece}
 
 pub line_cut : (text front rest : List ℕ) → text ≡ front ++ 10 ∷ rest → All (λ b. b ≢ 10) front → (cut 10 text ≡ front ∷ cut 10 rest) × (length rest < length text)
@@ -53,7 +53,7 @@ column_line_no : (columns : List Column) (text : List ℕ) → begins_column tex
 column_line_no columns text t = ap (λ b. if b then column_no columns text else (if list_any (λ c. c.key) columns then body_no columns [] (words_of text) else 5)) t
 
 column_after : (columns : List Column) (text : List ℕ) → begins_column text ≡ true → after (head columns) text ≡ head (columns_with columns text)
-column_after columns text t = ap (λ b. if b then head (columns_with columns text) else body columns (body_plan columns [] (words_of text))) t
+column_after columns text t = ap (λ b. if b then head (columns_with columns text) else body_after columns [] (words_of text)) t
 
 -- a column line that is refused
 pub column_refused : (columns : List Column) (whole text front behind : List ℕ) (no : LineNo) → fault_from (head []) 2 (cut 10 whole) ≡ fault_from (head columns) (length columns + 2) (cut 10 text)

@@ -32,7 +32,7 @@ command_is text w e =
 -- a first word is that of what it begins
 pub lead_is : (text : List ℕ) (l : Lead) → lead_in text ≡ Some l → text ≡ lead_word l
 lead_is text l e =
-    either (λ x. text ≡ lead_word x) l (kind_in lead_word (lead.Session ∷ []) text) (option_map lead.Command (command_in text)) (kind_word lead_word (lead.Session ∷ []) text) (λ x. mapped (λ y. text ≡ lead_word y) lead.Command x (command_in text) (command_is text)) e
+    either (λ x. text ≡ lead_word x) l (kind_in lead_word (lead.Session ∷ lead.Load ∷ []) text) (option_map lead.Command (command_in text)) (kind_word lead_word (lead.Session ∷ lead.Load ∷ []) text) (λ x. mapped (λ y. text ≡ lead_word y) lead.Command x (command_in text) (command_is text)) e
 
 -- the word of an operation begins a write
 pub op_leads : (k : OpKind) → lead_in (op_word k) ≡ Some (lead.Command (word.Op k))

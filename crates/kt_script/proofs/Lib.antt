@@ -4,6 +4,10 @@ pub mod Cuts
 pub mod InLine
 pub mod Outputs
 pub mod ScriptTests
+pub mod LoadTests
+pub mod Loads
+pub mod LoadLines
+pub mod LoadOps
 pub mod Pieces
 pub mod Lanes
 pub mod Runs

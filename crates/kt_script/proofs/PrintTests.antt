@@ -58,7 +58,7 @@ a_column_that_may_be_null = refl
 a_column_with_a_default : column_text up ≡ codes "column up bool default true\n"
 a_column_with_a_default = refl
 
-a_whole_script : script_text (record { columns = columns; plan = commands ∷ [] })
+a_whole_script : script_text None (record { columns = columns; plan = commands ∷ [] })
     ≡ codes "table\ncolumn host string key\ncolumn tick int64 key\ncolumn cpu int32 nullable\ncolumn up bool default true\nsession\ninsert \"db1\" 100 57 true ; insert \"db2\" 100 null false\nupsert \"db1\" 100 cpu=58\nupsert \"web\" 90 cpu=1\nflush\ndelete \"db2\" 100\nscan now select host,cpu where cpu>0\nscan at 40960\n"
 unfolding digits
 a_whole_script = refl

@@ -12,7 +12,7 @@ use Rattle.kt_history.specs.declared.command.Command.TheVariants as command
 use Rattle.kt_script.specs.Pieces.{words_of}
 use Rattle.kt_script.specs.Reasons.{sound, reason_if}
 use Rattle.kt_script.specs.Times.{time_no, time_or_zero}
-use Rattle.kt_script.specs.Scripts.{most_sessions, first_lead, command_no, command_of, commands_in, is_begun, session_no, full_no, in_session_no, led_no, led_plan, push_last, Above, head, body, line_no, end_no, after, fault_if, fault_from, above_end, said}
+use Rattle.kt_script.specs.Scripts.{most_sessions, first_lead, command_no, command_of, commands_in, is_begun, session_no, full_no, in_session_no, led_no, led_after, push_last, Above, head, body, line_no, end_no, after, fault_if, fault_from, above_end, said, load_in}
 use Rattle.kt_script.specs.declared.leads.Word.{Word}
 use Rattle.kt_script.specs.declared.leads.Word.TheVariants as word
 use Rattle.kt_script.specs.Fit.{CommandFits, PlanFits}
@@ -133,8 +133,8 @@ command_good columns ended last c t fit said room =
     let again = words_again ws (lead.Command read.first) read.leads read.line.words in (
       ap (λ us. led_no columns plan (first_lead us) us) again ∙ (ap (λ l. led_no columns plan l ws) read.leads ∙ in_session columns ended last read.first ws room read.no),
       words_in_line ws read.line.line,
-      ap (λ us. body columns (led_plan columns plan (first_lead us) us)) again
-          ∙ (ap (λ l. body columns (led_plan columns plan l ws)) read.leads ∙ (ap (λ x. body columns (push_last x plan)) read.is ∙ ap (λ p. body columns p) (push_is c ended last))),
+      ap (λ us. led_after columns plan (first_lead us) us) again
+          ∙ (ap (λ l. led_after columns plan l ws) read.leads ∙ (ap (λ x. body columns (push_last x plan)) read.is ∙ ap (λ p. body columns p) (push_is c ended last))),
     )
 
 commands_good : (columns : List Column) (ended : List (List Command)) (last commands : List Command) → Tabled columns → AllByRecursion (CommandFits columns) commands → AllByRecursion (CommandBytes columns) commands
@@ -181,12 +181,13 @@ pub record PlanGood (columns : List Column) (plan : List (List Command)) : Type 
   pub good : Good (head columns) (plan_lines columns plan) end
   pub ends : end_no end ≡ sound
   pub says : said end ≡ record { columns = columns; plan = plan }
+  pub no_load : load_in end ≡ None
 
 pub plan_good : (columns : List Column) (plan : List (List Command)) → Tabled columns → list_any (λ c. c.key) columns ≡ true → PlanFits columns plan → AllByRecursion (AllByRecursion (CommandBytes columns)) plan → PlanGood columns plan
-plan_good columns [] t key fit all = record { end = head columns; good = refl; ends = ap (λ b. reason_if (not b) 5) key; says = refl }
+plan_good columns [] t key fit all = record { end = head columns; good = refl; ends = ap (λ b. reason_if (not b) 5) key; says = refl; no_load = refl }
 plan_good columns (commands ∷ plan) t key fit all =
     let few = fit.sessions in
     let most = fit.commands in
     let none : commands_in [] ≡ 0 = refl in
     let from_none = sessions_good columns [] (commands ∷ plan) t fit.each all (omega (arith, few)) (omega (arith, most, none)) in
-    record { end = body columns (commands ∷ plan); good = (ap (λ b. if b then sound else 5) key, from_none.1, from_none.2); ends = refl; says = refl }
+    record { end = body columns (commands ∷ plan); good = (ap (λ b. if b then sound else 5) key, from_none.1, from_none.2); ends = refl; says = refl; no_load = refl }

@@ -118,7 +118,6 @@ abbrev reason_11_texts : List (ℕ × List ℕ)
 reason_11_texts =
     (4, codes "table\ncolumn id int64 key\ncolumn v string\ninsert 1 \"a\"\n")
     ∷ (4, codes "table\ncolumn id int64 key\ncolumn v string\n\n")
-    ∷ (4, codes "table\ncolumn id int64 key\ncolumn v string\nload\n")
     ∷ (4, codes "table\ncolumn id int64 key\ncolumn v string\nflush\n")
     ∷ (5, codes "table\ncolumn id int64 key\ncolumn v string\nsession\nflush-delta\n")
     ∷ (5, codes "table\ncolumn id int64 key\ncolumn v string\nsession\nminors\n")

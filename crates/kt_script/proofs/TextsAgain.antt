@@ -2,6 +2,7 @@
 use Rattle.std.proofs.Common.{◌≡◌, ℕ, suc, ◌+◌, ◌≤◌, Bool, true, false, not, List, [], ◌∷◌, ◌++◌, length, drop, Option, Some, None, min, refl, sym, ap, subst, ◌∙◌, arith, append_assoc, length-append, eq-eqb}
 use mathlib.Core.List.{append-nil}
 use Rattle.std.specs.Prelude.{◌≢◌, if◌then◌else◌, ◌&&◌, ◌==◌, nat_lt, codes}
+use Rattle.std.specs.Fmt.{decimal}
 use Rattle.std.specs.List.{flat_map, list_any, onto_first, AllByRecursion}
 use Rattle.std.proofs.lemmas.Bool.{false≢true}
 use Rattle.std.proofs.lemmas.Bool.Decides.{nat_tests}
@@ -26,7 +27,9 @@ use Rattle.kt_script.specs.declared.leads.Word.TheVariants as word
 use Rattle.kt_script.specs.declared.leads.Lead.{Lead}
 use Rattle.kt_script.specs.declared.leads.Lead.TheVariants as lead
 use Rattle.kt_script.specs.Leads.{chore_word, lead_word, lead_in, alone_no}
-use Rattle.kt_script.specs.Scripts.{Above, start, head, body, session_no, full_no, command_no, command_of, in_session_no, led_no, led_plan, body_no, body_plan, first_lead, push_last, is_begun, most_bytes, line_no, rest_no, after, Fault, fault_if, fault_from, above_end, Said, said}
+use Rattle.kt_script.specs.Times.{time_no}
+use Rattle.kt_script.specs.Loads.{load_no, load_size, load_plan, load_number}
+use Rattle.kt_script.specs.Scripts.{Above, start, head, body, load, session_no, full_no, command_no, command_of, in_session_no, led_no, led_after, body_no, body_after, first_lead, push_last, is_begun, most_bytes, line_no, rest_no, after, Fault, fault_if, fault_from, above_end, Said, said, load_in, load_of}
 use Rattle.kt_script.specs.Print.{column_text, command_text, session_lines, write_words, script_text}
 use Rattle.kt_script.specs.Alike.{is_write, behind_alike, kind_alike, op_alike, ops_alike, alike_as, line_alike, lines_alike, alike, texts_are_printed, alike_texts_are_read, texts_are_one, texts_are_read_again}
 use Rattle.kt_script.proofs.Cuts.{Without, some_piece, cut_lines}
@@ -38,12 +41,15 @@ use Rattle.kt_script.proofs.AgainColumns.{rejoined, column_again}
 use Rattle.kt_script.proofs.AgainScans.{scan_again, mark_again}
 use Rattle.kt_script.proofs.ByName.{size}
 use Rattle.kt_script.proofs.WriteLaws.{write_again, write_moved, write_size}
+use Rattle.kt_script.proofs.TimeWords.{not_late}
+use Rattle.kt_script.proofs.Loads.{load_line, size_in}
 
 -- what is printed of what stands above a line
 abbrev printed : Above → List ℕ
 printed start = []
-printed (head columns) = script_text (record { columns = columns; plan = [] })
-printed (body columns plan) = script_text (record { columns = columns; plan = plan })
+printed (head columns) = script_text None (record { columns = columns; plan = [] })
+printed (body columns plan) = script_text None (record { columns = columns; plan = plan })
+printed (load columns n) = script_text (Some n) (record { columns = columns; plan = load_plan n })
 
 -- ---- the first line and columns
 
@@ -67,13 +73,13 @@ column_is_other columns text h = by (words_of text) refl
 put_in : (a b x : List ℕ) → a ++ ((b ++ x) ++ []) ≡ (a ++ (b ++ [])) ++ x
 put_in a b x = simp (append-nil, append_assoc)
 
-column_goes_on : (columns : List Column) (text : List ℕ) → sound ≤ column_no columns text → script_text (record { columns = columns_with columns text; plan = [] }) ≡ script_text (record { columns = columns; plan = [] }) ++ line text
+column_goes_on : (columns : List Column) (text : List ℕ) → sound ≤ column_no columns text → script_text None (record { columns = columns_with columns text; plan = [] }) ≡ script_text None (record { columns = columns; plan = [] }) ++ line text
 column_goes_on columns text h =
     let one = column_again columns text h in
     let c = one.0 in
     let added : flat_map column_text (columns ++ c ∷ []) ≡ flat_map column_text columns ++ column_text c = rw (flat_map-append column_text columns (c ∷ [])) (simp (append-nil)) in
-    let all : script_text (record { columns = columns ++ c ∷ []; plan = [] }) ≡ script_text (record { columns = columns; plan = [] }) ++ column_text c = ap (λ x. line (codes "table") ++ (x ++ [])) added ∙ put_in (line (codes "table")) (flat_map column_text columns) (column_text c) in
-    ap (λ cs. script_text (record { columns = cs; plan = [] })) one.1 ∙ (all ∙ ap (λ x. script_text (record { columns = columns; plan = [] }) ++ line x) (sym one.2))
+    let all : script_text None (record { columns = columns ++ c ∷ []; plan = [] }) ≡ script_text None (record { columns = columns; plan = [] }) ++ column_text c = ap (λ x. line (codes "table") ++ (x ++ [])) added ∙ put_in (line (codes "table")) (flat_map column_text columns) (column_text c) in
+    ap (λ cs. script_text None (record { columns = cs; plan = [] })) one.1 ∙ (all ∙ ap (λ x. script_text None (record { columns = columns; plan = [] }) ++ line x) (sym one.2))
 
 -- what is printed of a line, behind what was printed above it
 record LineAgain (columns : List Column) (text now so_far : List ℕ) : Type 0 where
@@ -183,7 +189,7 @@ plan_push columns (commands ∷ more ∷ plan) c some =
 
 -- a plan whose text goes on
 goes_on : (columns : List Column) (plan longer : List (List Command)) (added : List ℕ) → flat_map (session_lines columns) longer ≡ flat_map (session_lines columns) plan ++ added
-    → script_text (record { columns = columns; plan = longer }) ≡ script_text (record { columns = columns; plan = plan }) ++ added
+    → script_text None (record { columns = columns; plan = longer }) ≡ script_text None (record { columns = columns; plan = plan }) ++ added
 goes_on columns plan longer added h = rw h (simp (append_assoc))
 
 -- a line of a word alone, by what it begins
@@ -203,17 +209,17 @@ begins_with text l first = by (words_of text) first ∙ rejoined text
 -- a line below the columns
 module _ (columns : List Column) (plan : List (List Command)) (text : List ℕ) (table : IsTable columns) where
   abbrev so_far : List ℕ
-  so_far = script_text (record { columns = columns; plan = plan })
+  so_far = script_text None (record { columns = columns; plan = plan })
 
   -- a command that is printed as a line
   command_goes_on : (w : Word) (l : List ℕ) → sound ≤ in_session_no columns plan w (words_of text) → (sound ≤ command_no columns w (words_of text) → command_text columns (command_of columns w (words_of text)) ≡ l)
-      → script_text (record { columns = columns; plan = push_last (command_of columns w (words_of text)) plan }) ≡ so_far ++ line l
+      → script_text None (record { columns = columns; plan = push_last (command_of columns w (words_of text)) plan }) ≡ so_far ++ line l
   command_goes_on w l taken is = by (is_begun plan) refl taken
     where
       c : Command
       c = command_of columns w (words_of text)
 
-      by : (b : Bool) → is_begun plan ≡ b → sound ≤ (if b then min (command_no columns w (words_of text)) (full_no plan) else 11) → script_text (record { columns = columns; plan = push_last c plan }) ≡ so_far ++ line l
+      by : (b : Bool) → is_begun plan ≡ b → sound ≤ (if b then min (command_no columns w (words_of text)) (full_no plan) else 11) → script_text None (record { columns = columns; plan = push_last c plan }) ≡ so_far ++ line l
       by true some g = goes_on columns plan (push_last c plan) (line l) (plan_push columns plan c some ∙ ap (λ x. flat_map (session_lines columns) plan ++ line x) (is (omega (arith, g))))
       by false some g = absurd (omega (arith, g))
 
@@ -224,10 +230,33 @@ module _ (columns : List Column) (plan : List (List Command)) (text : List ℕ) 
   command_shown (word.Chore c) first plain h = append-nil (chore_word c) ∙ sym (alone_is text (words_of text) (lead.Command (word.Chore c)) refl first h)
   command_shown (word.Op k) first plain h = absurd (false≢true (sym plain))
 
-  session_line_on : first_lead (words_of text) ≡ Some lead.Session → sound ≤ session_no plan (words_of text) → script_text (record { columns = columns; plan = plan ++ [] ∷ [] }) ≡ so_far ++ line text
+  session_line_on : first_lead (words_of text) ≡ Some lead.Session → sound ≤ session_no plan (words_of text) → script_text None (record { columns = columns; plan = plan ++ [] ∷ [] }) ≡ so_far ++ line text
   session_line_on first h =
       let is = alone_is text (words_of text) lead.Session refl first (omega (arith, h)) in
       goes_on columns plan (plan ++ [] ∷ []) (line text) (rw (flat_map-append (session_lines columns) plan ([] ∷ []), is) (simp (append-nil)))
+
+  -- a load line stands below no session
+  load_line_on : first_lead (words_of text) ≡ Some lead.Load → sound ≤ load_no columns plan (words_of text) → script_text (Some (load_size (words_of text))) (record { columns = columns; plan = load_plan (load_size (words_of text)) }) ≡ so_far ++ line text
+  load_line_on first h =
+      let ws : List (List ℕ) = drop 1 (words_of text) in
+      let taken = load_line columns plan (words_of text) h in
+      let size = size_in (load_number ws) taken.size in
+      let no : time_no (load_number ws) ≡ sound = ap time_no size.2 ∙ not_late (load_size (words_of text)) (omega (arith, size.1)) in
+      let is : words (codes "load" ∷ decimal (load_size (words_of text)) ∷ []) ≡ text = ap (λ vs. words (codes "load" ∷ vs)) (mark_again ws (omega (arith, no))) ∙ begins_with text lead.Load first in
+      by plan taken.first ∙ ap (λ x. so_far ++ line x) is
+    where
+      shown : List ℕ
+      shown = words (codes "load" ∷ decimal (load_size (words_of text)) ∷ [])
+
+      joins : (t c l : List ℕ) → t ++ (c ++ l) ≡ (t ++ (c ++ [])) ++ l
+      joins t c l = simp (append-nil, append_assoc)
+
+      by : (p : List (List Command)) → nat_lt 0 (length p) ≡ false → script_text (Some (load_size (words_of text))) (record { columns = columns; plan = load_plan (load_size (words_of text)) }) ≡ script_text None (record { columns = columns; plan = p }) ++ line shown
+      by [] none = joins (line (codes "table")) (flat_map column_text columns) (line shown)
+      by (commands ∷ p) none = absurd (false≢true (sym none ∙ positive (length p)))
+        where
+          positive : (n : ℕ) → nat_lt 0 (suc n) ≡ true
+          positive n = grind (arith, nat_tests)
 
   write_taken : (k : OpKind) → sound ≤ in_session_no columns plan (word.Op k) (words_of text) → sound ≤ write_no columns (words_of text)
   write_taken k g = by (is_begun plan) g
@@ -236,19 +265,20 @@ module _ (columns : List Column) (plan : List (List Command)) (text : List ℕ) 
       by true e = omega (arith, e)
       by false e = absurd (omega (arith, e))
 
-  body_goes_on : sound ≤ body_no columns plan (words_of text) → Without 10 text → LineAgain columns text (printed (body columns (body_plan columns plan (words_of text)))) so_far
+  body_goes_on : sound ≤ body_no columns plan (words_of text) → Without 10 text → LineAgain columns text (printed (body_after columns plan (words_of text))) so_far
   body_goes_on h inside = by (first_lead (words_of text)) refl h
     where
       as_it_is : (l : Option Lead) → first_lead (words_of text) ≡ l → is_write l ≡ false → (now : List ℕ) → now ≡ so_far ++ line text → LineAgain columns text now so_far
       as_it_is l first plain now is = record { shown = text; printed = is; alike = subst (λ b. alike_as columns b text text) (sym (ap is_write first ∙ plain)) refl; inside = inside }
 
       plain : (w : Word) → is_write (Some (lead.Command w)) ≡ false → first_lead (words_of text) ≡ Some (lead.Command w) → sound ≤ in_session_no columns plan w (words_of text)
-          → LineAgain columns text (script_text (record { columns = columns; plan = push_last (command_of columns w (words_of text)) plan })) so_far
+          → LineAgain columns text (script_text None (record { columns = columns; plan = push_last (command_of columns w (words_of text)) plan })) so_far
       plain w other first g = as_it_is (Some (lead.Command w)) first other _ (command_goes_on w text g (command_shown w first other))
 
-      by : (l : Option Lead) → first_lead (words_of text) ≡ l → sound ≤ led_no columns plan l (words_of text) → LineAgain columns text (script_text (record { columns = columns; plan = led_plan columns plan l (words_of text) })) so_far
+      by : (l : Option Lead) → first_lead (words_of text) ≡ l → sound ≤ led_no columns plan l (words_of text) → LineAgain columns text (printed (led_after columns plan l (words_of text))) so_far
       by None first g = absurd (omega (arith, g))
       by (Some lead.Session) first g = as_it_is (Some lead.Session) first refl _ (session_line_on first g)
+      by (Some lead.Load) first g = as_it_is (Some lead.Load) first refl _ (load_line_on first g)
       by (Some (lead.Command word.Scan)) first g = plain word.Scan refl first g
       by (Some (lead.Command word.Mark)) first g = plain word.Mark refl first g
       by (Some (lead.Command (word.Chore c))) first g = plain (word.Chore c) refl first g
@@ -258,11 +288,11 @@ module _ (columns : List Column) (plan : List (List Command)) (text : List ℕ) 
           record { shown = shown; printed = command_goes_on (word.Op k) shown g (λ taken. refl); alike = subst (λ b. alike_as columns b text shown) (sym (ap is_write first)) again.alike; inside = again.line }
 
   -- another order of the names
-  body_moved : (next : List ℕ) → sound ≤ body_no columns plan (words_of text) → line_alike columns text next → (sound ≤ body_no columns plan (words_of next)) × (body_plan columns plan (words_of next) ≡ body_plan columns plan (words_of text))
+  body_moved : (next : List ℕ) → sound ≤ body_no columns plan (words_of text) → line_alike columns text next → (sound ≤ body_no columns plan (words_of next)) × (body_after columns plan (words_of next) ≡ body_after columns plan (words_of text))
   body_moved next h e = by (first_lead (words_of text)) refl h e
     where
       Moved : List ℕ → Type 0
-      Moved x = (sound ≤ body_no columns plan (words_of x)) × (body_plan columns plan (words_of x) ≡ body_plan columns plan (words_of text))
+      Moved x = (sound ≤ body_no columns plan (words_of x)) × (body_after columns plan (words_of x) ≡ body_after columns plan (words_of text))
 
       itself : text ≡ next → Moved next
       itself is = subst Moved is (h, refl)
@@ -270,6 +300,7 @@ module _ (columns : List Column) (plan : List (List Command)) (text : List ℕ) 
       by : (l : Option Lead) → first_lead (words_of text) ≡ l → sound ≤ led_no columns plan l (words_of text) → alike_as columns (is_write l) text next → Moved next
       by None first g k = itself k
       by (Some lead.Session) first g k = itself k
+      by (Some lead.Load) first g k = itself k
       by (Some (lead.Command word.Scan)) first g k = itself k
       by (Some (lead.Command word.Mark)) first g k = itself k
       by (Some (lead.Command (word.Chore c))) first g k = itself k
@@ -277,7 +308,7 @@ module _ (columns : List Column) (plan : List (List Command)) (text : List ℕ) 
           let moved = write_moved columns (words_of text) (words_of next) table (write_taken kind g) k in
           let leads = first_alike columns (words_of text) (words_of next) (ap is_write first) k ∙ first in (
             subst (λ l. sound ≤ led_no columns plan l (words_of next)) (sym leads) (still (is_begun plan) g moved.0),
-            ap (λ l. led_plan columns plan l (words_of next)) leads ∙ (ap (λ ops. push_last (command.Write (record { ops = ops })) plan) moved.1 ∙ ap (λ l. led_plan columns plan l (words_of text)) (sym first)),
+            ap (λ l. led_after columns plan l (words_of next)) leads ∙ (ap (λ ops. body columns (push_last (command.Write (record { ops = ops })) plan)) moved.1 ∙ ap (λ l. led_after columns plan l (words_of text)) (sym first)),
           )
         where
           still : (b : Bool) → sound ≤ (if b then min (write_no columns (words_of text)) (full_no plan) else 11) → sound ≤ write_no columns (words_of next) → sound ≤ (if b then min (write_no columns (words_of next)) (full_no plan) else 11)
@@ -286,11 +317,39 @@ module _ (columns : List Column) (plan : List (List Command)) (text : List ℕ) 
 
 -- ---- line by line
 
--- below a session line the columns stay
-columns_stay : (columns : List Column) (plan : List (List Command)) (pieces : List (List ℕ)) → (said (above_end (body columns plan) pieces)).columns ≡ columns
-columns_stay columns plan [] = refl
-columns_stay columns plan (rest ∷ []) = refl
-columns_stay columns plan (text ∷ more ∷ pieces) = columns_stay columns (body_plan columns plan (words_of text)) (more ∷ pieces)
+-- sessions or a load over these columns
+abbrev Over : List Column → Above → Type 0
+Over columns start = ⊥
+Over columns (head cs) = ⊥
+Over columns (body cs plan) = cs ≡ columns
+Over columns (load cs n) = cs ≡ columns
+
+over_led : (columns cs : List Column) (plan : List (List Command)) (words : List (List ℕ)) (l : Option Lead) → cs ≡ columns → Over columns (led_after cs plan l words)
+over_led columns cs plan words None o = o
+over_led columns cs plan words (Some lead.Session) o = o
+over_led columns cs plan words (Some lead.Load) o = o
+over_led columns cs plan words (Some (lead.Command w)) o = o
+
+over_after : (columns : List Column) (above : Above) (text : List ℕ) → Over columns above → Over columns (after above text)
+over_after columns start text o = absurd o
+over_after columns (head cs) text o = absurd o
+over_after columns (body cs plan) text o = over_led columns cs plan (words_of text) (first_lead (words_of text)) o
+over_after columns (load cs n) text o = o
+
+-- below them the columns stay
+over_stays : (columns : List Column) (above : Above) (pieces : List (List ℕ)) → Over columns above → (said (above_end above pieces)).columns ≡ columns
+over_stays columns start pieces o = absurd o
+over_stays columns (head cs) pieces o = absurd o
+over_stays columns (body cs plan) [] o = o
+over_stays columns (load cs n) [] o = o
+over_stays columns (body cs plan) (rest ∷ []) o = o
+over_stays columns (load cs n) (rest ∷ []) o = o
+over_stays columns (body cs plan) (text ∷ more ∷ pieces) o = over_stays columns (after (body cs plan) text) (more ∷ pieces) (over_after columns (body cs plan) text o)
+over_stays columns (load cs n) (text ∷ more ∷ pieces) o = over_stays columns (load cs n) (more ∷ pieces) o
+
+-- so they do below a line that is no column's
+below_stays : (columns : List Column) (plan : List (List Command)) (words : List (List ℕ)) (pieces : List (List ℕ)) → (said (above_end (body_after columns plan words) pieces)).columns ≡ columns
+below_stays columns plan words pieces = over_stays columns (body_after columns plan words) pieces (over_led columns columns plan words (first_lead words) refl)
 
 abbrev columns_at : Above → List (List ℕ) → List Column
 columns_at above pieces = (said (above_end above pieces)).columns
@@ -308,14 +367,15 @@ step start text pieces fits h inside = by (same text (codes "table")) refl h
 step (head columns) text pieces fits h inside = by (begins_column text) (list_any (λ c. c.key) columns) h
   where
     by : (b k : Bool) → sound ≤ (if b then column_no columns text else (if k then body_no columns [] (words_of text) else 5))
-        → LineAgain (columns_at (if b then head (columns_with columns text) else body columns (body_plan columns [] (words_of text))) pieces) text (printed (if b then head (columns_with columns text) else body columns (body_plan columns [] (words_of text)))) (printed (head columns))
+        → LineAgain (columns_at (if b then head (columns_with columns text) else body_after columns [] (words_of text)) pieces) text (printed (if b then head (columns_with columns text) else body_after columns [] (words_of text))) (printed (head columns))
     by true k g =
         plain_again (columns_at (head (columns_with columns text)) pieces) text (printed (head (columns_with columns text))) (printed (head columns)) (column_is_other columns text g) inside (column_goes_on columns text g)
-    by false true g = subst (λ cs. LineAgain cs text (printed (body columns (body_plan columns [] (words_of text)))) (printed (head columns))) (sym (columns_stay columns (body_plan columns [] (words_of text)) pieces))
+    by false true g = subst (λ cs. LineAgain cs text (printed (body_after columns [] (words_of text))) (printed (head columns))) (sym (below_stays columns [] (words_of text) pieces))
         (body_goes_on columns [] text fits g inside)
     by false false g = absurd (omega arith)
-step (body columns plan) text pieces fits h inside = subst (λ cs. LineAgain cs text (printed (body columns (body_plan columns plan (words_of text)))) (printed (body columns plan))) (sym (columns_stay columns (body_plan columns plan (words_of text)) pieces))
+step (body columns plan) text pieces fits h inside = subst (λ cs. LineAgain cs text (printed (body_after columns plan (words_of text))) (printed (body columns plan))) (sym (below_stays columns plan (words_of text) pieces))
     (body_goes_on columns plan text fits.0 h inside)
+step (load columns n) text pieces fits h inside = absurd (omega (arith, h))
 
 -- lines that are printed again
 record LinesAgain (columns : List Column) (pieces : List (List ℕ)) (now so_far : List ℕ) : Type 0 where
@@ -360,15 +420,16 @@ moved (head columns) text next pieces fits h e = by (begins_column text) (list_a
     begins : (l : Option Lead) → sound ≤ led_no columns [] l (words_of text) → alike_as columns (is_write l) text next → text ≡ next
     begins None g k = k
     begins (Some lead.Session) g k = k
+    begins (Some lead.Load) g k = k
     begins (Some (lead.Command w)) g k = absurd (omega (arith, g))
 
-    by : (b k : Bool) → begins_column text ≡ b → sound ≤ (if b then column_no columns text else (if k then body_no columns [] (words_of text) else 5)) → line_alike (columns_at (if b then head (columns_with columns text) else body columns (body_plan columns [] (words_of text))) pieces) text next → Moved next
+    by : (b k : Bool) → begins_column text ≡ b → sound ≤ (if b then column_no columns text else (if k then body_no columns [] (words_of text) else 5)) → line_alike (columns_at (if b then head (columns_with columns text) else body_after columns [] (words_of text)) pieces) text next → Moved next
     by true k t g q = itself (subst (λ b. alike_as (columns_at (head (columns_with columns text)) pieces) b text next) (column_is_other columns text g) q)
-    by false true t g q = itself (begins (first_lead (words_of text)) g (subst (λ cs. line_alike cs text next) (columns_stay columns (body_plan columns [] (words_of text)) pieces) q))
+    by false true t g q = itself (begins (first_lead (words_of text)) g (subst (λ cs. line_alike cs text next) (below_stays columns [] (words_of text) pieces) q))
     by false false t g q = absurd (omega arith)
 moved (body columns plan) text next pieces fits h e =
-    let m = body_moved columns plan text fits.0 next h (subst (λ cs. line_alike cs text next) (columns_stay columns (body_plan columns plan (words_of text)) pieces) e) in
-    (m.0, ap (body columns) m.1)
+    body_moved columns plan text fits.0 next h (subst (λ cs. line_alike cs text next) (below_stays columns plan (words_of text) pieces) e)
+moved (load columns n) text next pieces fits h e = absurd (omega (arith, h))
 
 fine : (n r : ℕ) (later : Option Fault) → sound ≤ r → later ≡ None → fault_if n r later ≡ None
 fine n r later h e = ap (λ t. if t then Some (record { number = n; reason = r }) else later) (high r h) ∙ e
@@ -430,14 +491,16 @@ alike_size columns text next e = let a = lines_size columns (cut 10 text) (cut 1
 
 -- ---- the end
 
-last_printed : (above : Above) (n : ℕ) (piece : List ℕ) (pieces : List (List ℕ)) → fault_from above n (piece ∷ pieces) ≡ None → printed (above_end above (piece ∷ pieces)) ≡ script_text (said (above_end above (piece ∷ pieces)))
+last_printed : (above : Above) (n : ℕ) (piece : List ℕ) (pieces : List (List ℕ)) → fault_from above n (piece ∷ pieces) ≡ None
+    → printed (above_end above (piece ∷ pieces)) ≡ script_text (load_in (above_end above (piece ∷ pieces))) (said (above_end above (piece ∷ pieces)))
 last_printed above n rest [] none = by above rest (no_fault n (rest_no above rest) None none).0
   where
-    by : (a : Above) (xs : List ℕ) → sound ≤ rest_no a xs → printed a ≡ script_text (said a)
+    by : (a : Above) (xs : List ℕ) → sound ≤ rest_no a xs → printed a ≡ script_text (load_in a) (said a)
     by a (b ∷ bytes) h = absurd (omega arith)
     by start [] h = absurd (omega arith)
     by (head columns) [] h = refl
     by (body columns plan) [] h = refl
+    by (load columns k) [] h = refl
 last_printed above n text (more ∷ pieces) none = last_printed (after above text) (n + 1) more pieces (no_fault n (line_no above text) (fault_from (after above text) (n + 1) (more ∷ pieces)) none).1
 
 pub printed_alike : texts_are_printed
@@ -447,10 +510,11 @@ printed_alike text s e =
     let taken : fault_from start 1 (some.0 ∷ some.1) ≡ None = ap (fault_from start 1) (sym some.2) ∙ i.taken in
     let inside = subst (AllByRecursion (Without 10)) some.2 (cut_without 10 text) in
     let all = all_again start 1 some.0 some.1 tt taken inside in
-    let says : said (above_end start (some.0 ∷ some.1)) ≡ s = ap (λ ps. said (above_end start ps)) (sym some.2) ∙ i.says in
-    let text_is : script_text s ≡ flat_map line all.shown = ap script_text (sym says) ∙ (sym (last_printed start 1 some.0 some.1 taken) ∙ all.printed) in
-    let pieces : cut 10 (script_text s) ≡ all.shown ++ [] ∷ [] = ap (cut 10) text_is ∙ cut_lines all.shown all.inside in
-    subst (λ ps. lines_alike s.columns ps (cut 10 (script_text s))) (sym some.2) (subst (lines_alike s.columns (some.0 ∷ some.1)) (sym pieces) (subst (λ (x : Said). lines_alike x.columns (some.0 ∷ some.1) (all.shown ++ [] ∷ [])) says all.alike))
+    let end : above_end start (cut 10 text) ≡ above_end start (some.0 ∷ some.1) = ap (above_end start) some.2 in
+    let says : said (above_end start (some.0 ∷ some.1)) ≡ s = ap said (sym end) ∙ i.says in
+    let text_is : script_text (load_of text) s ≡ flat_map line all.shown = ap (λ a. script_text (load_in a) s) end ∙ (ap (script_text (load_in (above_end start (some.0 ∷ some.1)))) (sym says) ∙ (sym (last_printed start 1 some.0 some.1 taken) ∙ all.printed)) in
+    let pieces : cut 10 (script_text (load_of text) s) ≡ all.shown ++ [] ∷ [] = ap (cut 10) text_is ∙ cut_lines all.shown all.inside in
+    subst (λ ps. lines_alike s.columns ps (cut 10 (script_text (load_of text) s))) (sym some.2) (subst (lines_alike s.columns (some.0 ∷ some.1)) (sym pieces) (subst (λ (x : Said). lines_alike x.columns (some.0 ∷ some.1) (all.shown ++ [] ∷ [])) says all.alike))
 
 pub alike_is_read : alike_texts_are_read
 alike_is_read text next s e a =
@@ -459,11 +523,14 @@ alike_is_read text next s e a =
     let taken : fault_from start 1 (some.0 ∷ some.1) ≡ None = ap (fault_from start 1) (sym some.2) ∙ i.taken in
     let says : said (above_end start (some.0 ∷ some.1)) ≡ s = ap (λ ps. said (above_end start ps)) (sym some.2) ∙ i.says in
     let lines = subst (λ (x : Said). lines_alike x.columns (some.0 ∷ some.1) (cut 10 next)) (sym says) (subst (λ ps. lines_alike s.columns ps (cut 10 next)) some.2 a) in
-    let m = all_moved start 1 some.0 some.1 (cut 10 next) tt taken lines in
-    is_script next s (record { short = ap (λ n. nat_lt most_bytes n) (sym (alike_size s.columns text next a)) ∙ i.short; taken = m.0; says = ap said m.1 ∙ says })
+    let m = all_moved start 1 some.0 some.1 (cut 10 next) tt taken lines in (
+      is_script next s (record { short = ap (λ n. nat_lt most_bytes n) (sym (alike_size s.columns text next a)) ∙ i.short; taken = m.0; says = ap said m.1 ∙ says }),
+      ap load_in (m.1 ∙ ap (above_end start) (sym some.2)),
+    )
 
 pub read_again : texts_are_read_again
-read_again text s e = alike_is_read text (script_text s) s e (printed_alike text s e)
+read_again text s e = alike_is_read text (script_text (load_of text) s) s e (printed_alike text s e)
 
 pub one_text : texts_are_one
-one_text text next s e f = joined_alike s.columns (cut 10 text) (cut 10 (script_text s)) (cut 10 next) (printed_alike text s e) (printed_alike next s f)
+one_text text next s e f loads =
+    joined_alike s.columns (cut 10 text) (cut 10 (script_text (load_of text) s)) (cut 10 next) (printed_alike text s e) (subst (λ o. alike s.columns next (script_text o s)) (sym loads) (printed_alike next s f))

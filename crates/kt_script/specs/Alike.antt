@@ -11,7 +11,7 @@ use Rattle.kt_script.specs.Writes.{name_in, key_len, op_kind, op_form, ops_of}
 use Rattle.kt_script.specs.declared.leads.Word.TheVariants as word
 use Rattle.kt_script.specs.declared.leads.Lead.{Lead}
 use Rattle.kt_script.specs.declared.leads.Lead.TheVariants as lead
-use Rattle.kt_script.specs.Scripts.{Said, script_of, first_lead}
+use Rattle.kt_script.specs.Scripts.{Said, script_of, load_of, first_lead}
 use Rattle.kt_script.specs.Print.{script_text}
 
 -- the words of a name
@@ -71,16 +71,16 @@ alike columns text other = lines_alike columns (cut 10 text) (cut 10 other)
 
 -- the text of what a text says is that text but for the order of names
 abbrev pub texts_are_printed : Type 0
-texts_are_printed = (text : List ℕ) (s : Said) → script_of text ≡ Some s → alike s.columns text (script_text s)
+texts_are_printed = (text : List ℕ) (s : Said) → script_of text ≡ Some s → alike s.columns text (script_text (load_of text) s)
 
--- each order of the names says the same script
+-- each order of the names says the same script, by a load line or by sessions
 abbrev pub alike_texts_are_read : Type 0
-alike_texts_are_read = (text other : List ℕ) (s : Said) → script_of text ≡ Some s → alike s.columns text other → script_of other ≡ Some s
+alike_texts_are_read = (text other : List ℕ) (s : Said) → script_of text ≡ Some s → alike s.columns text other → (script_of other ≡ Some s) × (load_of other ≡ load_of text)
 
 -- and no other text does
 abbrev pub texts_are_one : Type 0
-texts_are_one = (text other : List ℕ) (s : Said) → script_of text ≡ Some s → script_of other ≡ Some s → alike s.columns text other
+texts_are_one = (text other : List ℕ) (s : Said) → script_of text ≡ Some s → script_of other ≡ Some s → load_of text ≡ load_of other → alike s.columns text other
 
 -- what a text says is printed, and read again
 abbrev pub texts_are_read_again : Type 0
-texts_are_read_again = (text : List ℕ) (s : Said) → script_of text ≡ Some s → script_of (script_text s) ≡ Some s
+texts_are_read_again = (text : List ℕ) (s : Said) → script_of text ≡ Some s → (script_of (script_text (load_of text) s) ≡ Some s) × (load_of (script_text (load_of text) s) ≡ load_of text)

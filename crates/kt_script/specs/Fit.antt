@@ -26,7 +26,8 @@ use Rattle.kt_script.specs.Times.{most_time}
 use Rattle.kt_script.specs.declared.refusal.ScriptNo.{ScriptNo}
 use Rattle.kt_script.specs.declared.refusal.ScriptNo.TheVariants as why
 use Rattle.kt_script.specs.Pieces.{cut}
-use Rattle.kt_script.specs.Scripts.{most_sessions, most_commands, commands_in, head, fault_from, above_end, said, at}
+use Rattle.kt_script.specs.Loads.{load_plan, IsLoad}
+use Rattle.kt_script.specs.Scripts.{most_sessions, most_commands, commands_in, head, load, fault_from, above_end, said, load_in, at}
 
 -- a cell that a column takes
 abbrev pub fits_column : Column → Cell → Bool
@@ -122,9 +123,10 @@ pub record PlanFits (columns : List Column) (plan : List (List Command)) : Type 
   pub commands : commands_in plan ≤ most_commands
   pub each : AllByRecursion (AllByRecursion (CommandFits columns)) plan
 
--- the commands that are read below these columns, from line number on, or a fault
+-- the commands that are read below these columns, from line number on, where no load line stands, or a fault
 abbrev pub IsBodyRead : List Column → ℕ → List ℕ → Result Plan ScriptNo → Type 0
-IsBodyRead columns number text (Ok plan) = (fault_from (head columns) number (cut 10 text) ≡ None) × (said (above_end (head columns) (cut 10 text)) ≡ record { columns = columns; plan = plan }) × PlanFits columns plan
+IsBodyRead columns number text (Ok plan) = (fault_from (head columns) number (cut 10 text) ≡ None) × (said (above_end (head columns) (cut 10 text)) ≡ record { columns = columns; plan = plan })
+    × (load_in (above_end (head columns) (cut 10 text)) ≡ None) × PlanFits columns plan
 IsBodyRead columns number text (Err (why.Line n reason)) = fault_from (head columns) number (cut 10 text) ≡ at n reason
 IsBodyRead columns number text (Err why.Memory) = Unit {0}
 
@@ -132,3 +134,9 @@ IsBodyRead columns number text (Err why.Memory) = Unit {0}
 abbrev pub AreLinesRead : {A : Type 0} → List Column → ℕ → List ℕ → List (List Command) → Result A ScriptNo → Type 0
 AreLinesRead columns number text commands (Ok done) = IsBodyRead columns number text (Ok commands)
 AreLinesRead columns number text commands (Err refusal) = IsBodyRead columns number text (Err refusal)
+
+-- a load line of so many writes that is read below these columns, or a fault
+abbrev pub IsLoadRead : List Column → ℕ → List ℕ → Result ℕ ScriptNo → Type 0
+IsLoadRead columns number text (Ok n) = (fault_from (head columns) number (cut 10 text) ≡ None) × (above_end (head columns) (cut 10 text) ≡ load columns n) × IsLoad columns (load_plan n) n
+IsLoadRead columns number text (Err (why.Line n reason)) = fault_from (head columns) number (cut 10 text) ≡ at n reason
+IsLoadRead columns number text (Err why.Memory) = ⊥

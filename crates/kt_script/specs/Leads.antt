@@ -1,4 +1,4 @@
--- The first word of a line below the columns: a session's, or that of a command.
+-- The first word of a line below the columns: a session's, a load's, or that of a command.
 use Rattle.std.specs.Prelude.{ℕ, List, [], ◌∷◌, Option, codes}
 use Rattle.std.specs.Option.{option_map, option_or}
 use Rattle.kt_base.specs.declared.chore.Chore.{Chore}
@@ -38,11 +38,12 @@ command_in text = option_or (kind_in command_word (word.Scan ∷ word.Mark ∷ [
 
 abbrev pub lead_word : Lead → List ℕ
 lead_word lead.Session = codes "session"
+lead_word lead.Load = codes "load"
 lead_word (lead.Command w) = command_word w
 
 -- what a line begins, by its first word
 abbrev pub lead_in : List ℕ → Option Lead
-lead_in text = option_or (kind_in lead_word (lead.Session ∷ []) text) (option_map lead.Command (command_in text))
+lead_in text = option_or (kind_in lead_word (lead.Session ∷ lead.Load ∷ []) text) (option_map lead.Command (command_in text))
 
 -- a first word that stands alone
 abbrev pub alone_no : List (List ℕ) → ℕ

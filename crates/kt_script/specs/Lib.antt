@@ -9,6 +9,7 @@ pub mod Writes
 pub mod Buffers
 pub mod Times
 pub mod Leads
+pub mod Loads
 pub mod Scans
 pub mod Drafts
 pub mod Sessions

@@ -26,7 +26,8 @@ use Rattle.kt_script.specs.Writes.{op_word, op_form}
 use Rattle.kt_script.specs.Leads.{chore_word}
 use Rattle.kt_script.specs.Texts.{line, words, literals}
 use Rattle.kt_script.specs.Columns.{IsTable, kind_word}
-use Rattle.kt_script.specs.Scripts.{Said, most_bytes, script_of}
+use Rattle.kt_script.specs.Loads.{IsLoad}
+use Rattle.kt_script.specs.Scripts.{Said, most_bytes, script_of, load_of}
 use Rattle.kt_script.specs.Fit.{column_of, compares, PlanFits}
 
 -- texts with a separator between each two
@@ -147,9 +148,14 @@ command_text columns c = words (command_words columns c)
 abbrev pub session_lines : List Column → List Command → List ℕ
 session_lines columns commands = line (codes "session") ++ flat_map (λ c. line (command_text columns c)) commands
 
--- the text of a script
-abbrev pub script_text : Said → List ℕ
-script_text s = line (codes "table") ++ flat_map column_text s.columns ++ flat_map (session_lines s.columns) s.plan
+-- the lines below the columns: the load line of so many writes, or each session
+abbrev pub body_text : Option ℕ → Said → List ℕ
+body_text None s = flat_map (session_lines s.columns) s.plan
+body_text (Some n) s = line (words (codes "load" ∷ decimal n ∷ []))
+
+-- the text of a script, with a load of so many writes in place of its sessions or without one
+abbrev pub script_text : Option ℕ → Said → List ℕ
+script_text load s = line (codes "table") ++ flat_map column_text s.columns ++ body_text load s
 
 -- ---- what is printed
 
@@ -210,6 +216,11 @@ CommandBytes columns (command.Scan scan) = AllByRecursion (λ (p : Pred). TestBy
 CommandBytes columns (command.Mark t) = Unit {0}
 CommandBytes columns (command.Chore c) = Unit {0}
 
--- the text of a script is read as that script
+-- the text of a script is read as that script, with the sessions that it says
 abbrev pub prints_are_read : Type 0
-prints_are_read = (s : Said) → ColumnsFit s.columns → PlanFits s.columns s.plan → AllByRecursion (AllByRecursion (CommandBytes s.columns)) s.plan → length (script_text s) ≤ most_bytes → script_of (script_text s) ≡ Some s
+prints_are_read = (s : Said) → ColumnsFit s.columns → PlanFits s.columns s.plan → AllByRecursion (AllByRecursion (CommandBytes s.columns)) s.plan → length (script_text None s) ≤ most_bytes
+    → (script_of (script_text None s) ≡ Some s) × (load_of (script_text None s) ≡ None)
+
+-- the text of a load is read as that load
+abbrev pub loads_are_read : Type 0
+loads_are_read = (s : Said) (n : ℕ) → IsLoad s.columns s.plan n → (script_of (script_text (Some n) s) ≡ Some s) × (load_of (script_text (Some n) s) ≡ Some n)

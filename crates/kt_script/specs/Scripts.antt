@@ -12,9 +12,10 @@ use Rattle.kt_script.specs.declared.columns.LineNo.{LineNo}
 use Rattle.kt_script.specs.declared.columns.LineNo.TheVariants as line
 use Rattle.kt_script.specs.declared.head.Head.{Head}
 use Rattle.kt_script.specs.declared.head.Table.{Table}
+use Rattle.kt_script.specs.declared.load.LoadLine.{LoadLine}
 use Rattle.kt_script.specs.declared.refusal.ScriptNo.{ScriptNo}
 use Rattle.kt_script.specs.declared.refusal.ScriptNo.TheVariants as why
-use Rattle.kt_script.specs.Pieces.{cut, words_of}
+use Rattle.kt_script.specs.Pieces.{cut, words_of, words_in}
 use Rattle.kt_script.specs.declared.leads.Word.{Word}
 use Rattle.kt_script.specs.declared.leads.Word.TheVariants as word
 use Rattle.kt_script.specs.declared.leads.Lead.{Lead}
@@ -25,6 +26,7 @@ use Rattle.kt_script.specs.Writes.{write_no, write_of}
 use Rattle.kt_script.specs.Times.{mark_no, mark_of}
 use Rattle.kt_script.specs.Scans.{scan_no, scan_of}
 use Rattle.kt_script.specs.Leads.{lead_in, alone_no}
+use Rattle.kt_script.specs.Loads.{load_no, load_size, load_plan}
 
 abbrev pub most_bytes : ℕ
 most_bytes = 67108864
@@ -69,7 +71,12 @@ in_session_no columns plan w words = if is_begun plan then min (command_no colum
 abbrev pub led_no : List Column → List (List Command) → Option Lead → List (List ℕ) → ℕ
 led_no columns plan None words = 11
 led_no columns plan (Some lead.Session) words = session_no plan words
+led_no columns plan (Some lead.Load) words = load_no columns plan words
 led_no columns plan (Some (lead.Command w)) words = in_session_no columns plan w words
+
+abbrev pub is_load : Option Lead → Bool
+is_load (Some lead.Load) = true
+is_load _ = false
 
 abbrev pub first_lead : List (List ℕ) → Option Lead
 first_lead [] = None
@@ -87,34 +94,50 @@ push_last c (commands ∷ more ∷ plan) = commands ∷ push_last c (more ∷ pl
 abbrev pub led_plan : List Column → List (List Command) → Option Lead → List (List ℕ) → List (List Command)
 led_plan columns plan None words = plan
 led_plan columns plan (Some lead.Session) words = plan ++ [] ∷ []
+led_plan columns plan (Some lead.Load) words = plan
 led_plan columns plan (Some (lead.Command w)) words = push_last (command_of columns w words) plan
 
 abbrev pub body_plan : List Column → List (List Command) → List (List ℕ) → List (List Command)
 body_plan columns plan words = led_plan columns plan (first_lead words) words
 
--- What stands above a line: nothing, the first line and columns, or columns and the sessions below them.
+-- What stands above a line: nothing, the first line and columns, or columns and the sessions below them, or columns and a load of so
+-- many writes in place of all sessions.
 pub data Above : Type 0 where
   start : Above
   head : List Column → Above
   body : List Column → List (List Command) → Above
+  load : List Column → ℕ → Above
 
 -- why a line is refused below these
 abbrev pub line_no : Above → List ℕ → ℕ
 line_no start line = reason_if (not (same line (codes "table"))) 3
 line_no (head columns) line = if begins_column line then column_no columns line else (if list_any (λ c. c.key) columns then body_no columns [] (words_of line) else 5)
 line_no (body columns plan) line = body_no columns plan (words_of line)
+line_no (load columns n) line = min 12 (body_no columns [] (words_of line))
 
 -- why a script must not end below these
 abbrev pub end_no : Above → ℕ
 end_no start = 3
 end_no (head columns) = keys_no columns
 end_no (body columns plan) = sound
+end_no (load columns n) = sound
+
+-- what stands below a line that is no column's
+abbrev pub led_after : List Column → List (List Command) → Option Lead → List (List ℕ) → Above
+led_after columns plan None words = body columns plan
+led_after columns plan (Some lead.Session) words = body columns (led_plan columns plan (Some lead.Session) words)
+led_after columns plan (Some lead.Load) words = load columns (load_size words)
+led_after columns plan (Some (lead.Command w)) words = body columns (led_plan columns plan (Some (lead.Command w)) words)
+
+abbrev pub body_after : List Column → List (List Command) → List (List ℕ) → Above
+body_after columns plan words = led_after columns plan (first_lead words) words
 
 -- what stands above the next line
 abbrev pub after : Above → List ℕ → Above
 after start line = head []
-after (head columns) line = if begins_column line then head (columns_with columns line) else body columns (body_plan columns [] (words_of line))
-after (body columns plan) line = body columns (body_plan columns plan (words_of line))
+after (head columns) line = if begins_column line then head (columns_with columns line) else body_after columns [] (words_of line)
+after (body columns plan) line = body_after columns plan (words_of line)
+after (load columns n) line = load columns n
 
 -- A fault: the number of a line, from 1, and the least reason that holds in it.
 pub record Fault : Type 0 where
@@ -154,6 +177,7 @@ abbrev pub said : Above → Said
 said start = record { columns = []; plan = [] }
 said (head columns) = record { columns = columns; plan = [] }
 said (body columns plan) = record { columns = columns; plan = plan }
+said (load columns n) = record { columns = columns; plan = load_plan n }
 
 abbrev pub said_unless : Option Fault → Said → Option Said
 said_unless None script = Some script
@@ -162,6 +186,15 @@ said_unless (Some fault) script = None
 -- what a text says, if it is a script
 abbrev pub script_of : List ℕ → Option Said
 script_of text = said_unless (fault_of text) (said (above_end start (cut 10 text)))
+
+-- how many writes each session has where a load line stands in place of all sessions
+abbrev pub load_in : Above → Option ℕ
+load_in (load columns n) = Some n
+load_in _ = None
+
+-- so of a text
+abbrev pub load_of : List ℕ → Option ℕ
+load_of text = load_in (above_end start (cut 10 text))
 
 -- the run of what a script says, over a pool of so many cells
 abbrev pub workload : ℕ → Said → Workload
@@ -237,3 +270,29 @@ IsTableRead text (Err why.Memory) = Unit {0}
 -- why a text that stands below columns without a key is refused in its first line
 abbrev pub IsNoKey : List ℕ → ℕ → Type 0
 IsNoKey rest reason = (columns : List Column) (n : ℕ) → list_any (λ c. c.key) columns ≡ false → begins_column (first_piece (cut 10 rest)) ≡ false → fault_from (head columns) n (cut 10 rest) ≡ at n reason
+
+-- the first line begins a load
+abbrev pub begins_load : List (List ℕ) → Bool
+begins_load pieces = is_load (first_lead (words_of (first_piece pieces)))
+
+-- A text whose first line begins a load, cut behind the word `load` and below that line.
+pub record IsLoadText (text : List ℕ) (l : LoadLine) : Type 0 where
+  pub line : List ℕ
+  pub cut_is : cut 10 text ≡ line ∷ cut 10 l.below.now
+  pub begins : first_lead (words_of line) ≡ Some lead.Load
+  pub words : drop 1 (words_of line) ≡ words_in l.rest
+
+-- the load line at the front of a text, or another line
+abbrev pub IsLoadCut : List ℕ → Option LoadLine → Type 0
+IsLoadCut text None = begins_load (cut 10 text) ≡ false
+IsLoadCut text (Some l) = IsLoadText text l
+
+-- the fault of what stands below a load line
+abbrev pub IsBelowLoad : ℕ → List ℕ → ScriptNo → Type 0
+IsBelowLoad number text (why.Line m reason) = (columns : List Column) (n : ℕ) → fault_from (load columns n) number (cut 10 text) ≡ at m reason
+IsBelowLoad number text why.Memory = ⊥
+
+-- nothing stands below a load line, or the fault of what does
+abbrev pub IsLoadEnd : {A : Type 0} → ℕ → List ℕ → Result A ScriptNo → Type 0
+IsLoadEnd number text (Ok done) = (columns : List Column) (n : ℕ) → fault_from (load columns n) number (cut 10 text) ≡ None
+IsLoadEnd number text (Err fault) = IsBelowLoad number text fault

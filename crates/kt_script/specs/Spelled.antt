@@ -1,8 +1,9 @@
 -- What every text that is a script says.
-use Rattle.std.specs.Prelude.{◌≡◌, ℕ, true, List, Some}
+use Rattle.std.specs.Prelude.{◌≡◌, ℕ, true, IfSome, List, Some}
 use Rattle.std.specs.List.{list_any}
 use Rattle.kt_script.specs.Columns.{IsTable}
-use Rattle.kt_script.specs.Scripts.{Said, script_of}
+use Rattle.kt_script.specs.Loads.{IsLoad}
+use Rattle.kt_script.specs.Scripts.{Said, script_of, load_of}
 use Rattle.kt_script.specs.Fit.{PlanFits}
 
 -- A table that has a key, and a plan that keeps its rules and those of the grammar.
@@ -14,3 +15,7 @@ pub record SaidFits (s : Said) : Type 0 where
 -- what a text says keeps the rules
 abbrev pub scripts_fit : Type 0
 scripts_fit = (text : List ℕ) (s : Said) → script_of text ≡ Some s → SaidFits s
+
+-- a text with a load line says the plan of its number
+abbrev pub loads_are_plans : Type 0
+loads_are_plans = (text : List ℕ) (s : Said) → script_of text ≡ Some s → IfSome (load_of text) (λ n. IsLoad s.columns s.plan n)

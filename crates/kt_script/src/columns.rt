@@ -41,22 +41,27 @@ fn kind_of(word: &[u8]) -> Option<Kind>
     ensures { result ≡ kind_of word.now }
 {
     if is_word(word, b"bool") {
-        Some(Kind::Bool)
-    } else if is_word(word, b"int8") {
-        Some(Kind::Int8)
-    } else if is_word(word, b"int16") {
-        Some(Kind::Int16)
-    } else if is_word(word, b"int32") {
-        Some(Kind::Int32)
-    } else if is_word(word, b"int64") {
-        Some(Kind::Int64)
-    } else if is_word(word, b"string") {
-        Some(Kind::String)
-    } else if is_word(word, b"binary") {
-        Some(Kind::Binary)
-    } else {
-        None
+        return Some(Kind::Bool);
     }
+    if is_word(word, b"int8") {
+        return Some(Kind::Int8);
+    }
+    if is_word(word, b"int16") {
+        return Some(Kind::Int16);
+    }
+    if is_word(word, b"int32") {
+        return Some(Kind::Int32);
+    }
+    if is_word(word, b"int64") {
+        return Some(Kind::Int64);
+    }
+    if is_word(word, b"string") {
+        return Some(Kind::String);
+    }
+    if is_word(word, b"binary") {
+        return Some(Kind::Binary);
+    }
+    None
 }
 
 // Behind the kind and `nullable`: nothing, or the default.
@@ -78,7 +83,9 @@ fn with_default<'a>(
     let Some((word, rest)) = next_word(rest) else {
         return Some(line);
     };
-    let (literal, rest) = next_word(rest)?;
+    let Some((literal, rest)) = next_word(rest) else {
+        return None;
+    };
     if next_word(rest).is_some() || !is_word(word, b"default") {
         return None;
     }
@@ -125,14 +132,22 @@ fn marked<'a>(name: &'a [u8], kind: Kind, rest: Option<&'a [u8]>) -> Option<Line
 fn column_line(line: &[u8]) -> Option<Line<'_>>
     ensures { option_map line_view result ≡ column_line (words_of line.now) }
 {
-    let (first, rest) = next_word(Some(line))?;
-    let (name, rest) = next_word(rest)?;
-    let (kind, rest) = next_word(rest)?;
+    let Some((first, rest)) = next_word(Some(line)) else {
+        return None;
+    };
+    let Some((name, rest)) = next_word(rest) else {
+        return None;
+    };
+    let Some((word, rest)) = next_word(rest) else {
+        return None;
+    };
     if !is_word(first, b"column") || !is_name(name) {
         return None;
     }
-    let kind = kind_of(kind)?;
-    marked(name, kind, rest)
+    match kind_of(word) {
+        Some(kind) => marked(name, kind, rest),
+        None => None,
+    }
 }
 
 fn read_default(alloc: Global, kind: Kind, text: Option<&[u8]>) -> Result<Option<Cell>, LineNo>
@@ -168,16 +183,18 @@ fn place_no(columns: &[Column], line: &Line<'_>) -> Option<u8>
     ensures { no_of result ≡ place_no columns.now (line_view line.now) }
 {
     if line.key && has_other(columns) {
-        Some(6)
-    } else if line.key && line.kind == Kind::Bool {
-        Some(7)
-    } else if has_name(columns, line.name) {
-        Some(8)
-    } else if COLUMNS <= columns.len() {
-        Some(9)
-    } else {
-        None
+        return Some(6);
     }
+    if line.key && line.kind == Kind::Bool {
+        return Some(7);
+    }
+    if has_name(columns, line.name) {
+        return Some(8);
+    }
+    if COLUMNS <= columns.len() {
+        return Some(9);
+    }
+    None
 }
 
 /// The column that a line says below these columns.

@@ -1,6 +1,6 @@
 //! The commands of a session as they are read.
 
-ghost use Rattle.std.specs.Prelude.{◌≡◌, ◌++◌, ◌∷◌, [], List, length, take, map, IfOk, OnOk, OnErr};
+ghost use Rattle.std.specs.Prelude.{◌≡◌, ◌≤◌, ◌++◌, ◌∷◌, [], List, length, take, map, IfOk, OnOk, OnErr};
 ghost use Rattle.std.specs.List.{All};
 ghost use Rattle.kt_history.specs.declared.command.Command.TheVariants as command;
 ghost use Rattle.kt_history.specs.declared.operation.RowOp.{RowOp};
@@ -14,6 +14,9 @@ use std::marker::Model;
 
 // The most operations of a write that stand in the list of all. A write of more has a list of its own.
 const FEW: usize = 4;
+
+// So many bytes are enough for an operation of one number as its key and one as its cell.
+const OP_BYTES: usize = 32;
 
 // So many operations of a list, from a place on.
 #[derive(Clone, Copy)]
@@ -73,28 +76,27 @@ fn other(alloc: Global, command: Command) -> Result<Entry, NoMemory>
     }
 }
 
-// The entry of a write, whose operations are added to the list, if they are few, and else copied. Their own list is left for its
-// room.
-fn written(
-    alloc: Global,
-    ops: &mut OpList,
-    write: Write,
-    spare: &mut OpList,
-) -> Result<Entry, NoMemory>
+// The entry of a write with a list of its own.
+fn long(alloc: Global, ops: &OpList) -> Result<Entry, NoMemory>
+    ensures inside { IfOk result (λ entry. (all : List RowOp) → IsInside all entry) }
+    ensures command { IfOk result (λ entry. (all : List RowOp) → command_in all entry ≡ command.Write (record { ops = ops.now })) }
+{
+    let ops = ops.copy()?.shared(alloc)?;
+    other(alloc, Command::Write(Write { ops }))
+}
+
+// The entry of a write, whose operations are added to the list, if they are few, and else copied.
+fn written(alloc: Global, ops: &mut OpList, more: &OpList) -> Result<Entry, NoMemory>
     ensures inside { IfOk result (λ entry. IsInside ops.new entry) }
-    ensures command { IfOk result (λ entry. command_in ops.new entry ≡ command.Write write) }
+    ensures command { IfOk result (λ entry. command_in ops.new entry ≡ command.Write (record { ops = more.now })) }
     ensures front { take (length ops.old) ops.new ≡ ops.old }
 {
-    let Write { ops: more } = write;
     let first = ops.len();
     let len = more.len();
     if len > FEW {
-        let own = more.copy()?.shared(alloc)?;
-        *spare = more;
-        return other(alloc, Command::Write(Write { ops: own }));
+        return long(alloc, more);
     }
-    append(ops, &more)?;
-    *spare = more;
+    append(ops, more)?;
     Ok(Entry::Few(Part { first, len }))
 }
 
@@ -110,7 +112,11 @@ fn entry_of(
     ensures front { take (length ops.old) ops.new ≡ ops.old }
 {
     match command {
-        Command::Write(write) => written(alloc, ops, write, spare),
+        Command::Write(Write { ops: more }) => {
+            let entry = written(alloc, ops, &more)?;
+            *spare = more;
+            Ok(entry)
+        }
         command => other(alloc, command),
     }
 }
@@ -155,6 +161,18 @@ impl Draft {
             ops: OpList::new(alloc),
             entries: VecDeque::new(alloc),
         }
+    }
+
+    /// No commands, with room for so many writes of one operation and the commands between them.
+    pub(crate) fn with_room(alloc: Global, writes: usize) -> Result<Draft, NoMemory>
+        requires { writes ≤ 64000 }
+        ensures { IfOk result (λ draft. draft ≡ []) }
+    {
+        Ok(Draft {
+            alloc,
+            ops: OpList::with_capacity(alloc, writes, writes * OP_BYTES)?,
+            entries: VecDeque::with_capacity(alloc, writes + writes / 32)?,
+        })
     }
 
     pub(crate) fn len(&self) -> usize

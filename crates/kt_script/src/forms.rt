@@ -24,22 +24,27 @@ pub fn op_kind(word: &[u8]) -> Option<OpKind>
     ensures { result ≡ op_kind word.now }
 {
     if is_word(word, b"insert") {
-        Some(OpKind::Insert)
-    } else if is_word(word, b"upsert") {
-        Some(OpKind::Upsert)
-    } else if is_word(word, b"update") {
-        Some(OpKind::Update)
-    } else if is_word(word, b"delete") {
-        Some(OpKind::Delete)
-    } else if is_word(word, b"insert-ignore") {
-        Some(OpKind::InsertIgnore)
-    } else if is_word(word, b"update-ignore") {
-        Some(OpKind::UpdateIgnore)
-    } else if is_word(word, b"delete-ignore") {
-        Some(OpKind::DeleteIgnore)
-    } else {
-        None
+        return Some(OpKind::Insert);
     }
+    if is_word(word, b"upsert") {
+        return Some(OpKind::Upsert);
+    }
+    if is_word(word, b"update") {
+        return Some(OpKind::Update);
+    }
+    if is_word(word, b"delete") {
+        return Some(OpKind::Delete);
+    }
+    if is_word(word, b"insert-ignore") {
+        return Some(OpKind::InsertIgnore);
+    }
+    if is_word(word, b"update-ignore") {
+        return Some(OpKind::UpdateIgnore);
+    }
+    if is_word(word, b"delete-ignore") {
+        return Some(OpKind::DeleteIgnore);
+    }
+    None
 }
 
 /// The form of an operation of this kind. One that ignores has that of its plain kind.

@@ -22,6 +22,8 @@ pub enum Word {
 #[derive(Clone, Copy)]
 pub enum Lead {
     Session,
+    /// A load stands in place of all sessions.
+    Load,
     Command(Word),
 }
 
@@ -81,6 +83,9 @@ pub fn lead_in(text: &[u8]) -> Option<Lead>
 {
     if is_word(text, b"session") {
         return Some(Lead::Session);
+    }
+    if is_word(text, b"load") {
+        return Some(Lead::Load);
     }
     match command_in(text) {
         Some(word) => Some(Lead::Command(word)),

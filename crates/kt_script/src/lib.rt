@@ -4,7 +4,9 @@
 //! For the layers above: `read_script` answers a script exactly where the text spells it, and otherwise the first
 //! faulty line with the least reason that holds in it. `print_script` gives the text of a script with the names of each
 //! operation in schema order, which is read as that script (`print::reading_law`). Each text that differs from it in the
-//! order of these names alone is read as that script too, and no other text is (`laws::order_law`). `print_output`
+//! order of these names alone is read as that script too, and no other text is (`laws::order_law`). A line `load N` stands
+//! for four sessions that ask for N writes each, and their maintenance: `Script` has their commands, and is printed as
+//! that line. `print_output`
 //! appends the one text of the replies, the history and the last line, and `read_output` reads such a text again, with
 //! each row as its line, or tells the first byte at which no output's text goes on. The whole grammar stands in `specs/`
 //! as functions on lists of bytes. It stands on kt_base, kt_cells, kt_key, kt_schema and kt_history.
@@ -21,6 +23,7 @@ pub mod leads;
 pub mod least;
 pub mod lex;
 pub mod lists;
+pub mod load;
 pub mod named;
 pub mod names;
 pub mod number;

@@ -67,16 +67,18 @@ pub fn outcome_of(word: &[u8]) -> Option<Outcome>
     ensures { result ≡ outcome_in word.now }
 {
     if is_word(word, b"ok") {
-        Some(Outcome::Done)
-    } else if is_word(word, b"present") {
-        Some(Outcome::Present)
-    } else if is_word(word, b"absent") {
-        Some(Outcome::Absent)
-    } else if is_word(word, b"ignored") {
-        Some(Outcome::Ignored)
-    } else {
-        None
+        return Some(Outcome::Done);
     }
+    if is_word(word, b"present") {
+        return Some(Outcome::Present);
+    }
+    if is_word(word, b"absent") {
+        return Some(Outcome::Absent);
+    }
+    if is_word(word, b"ignored") {
+        return Some(Outcome::Ignored);
+    }
+    None
 }
 
 // Whether all words that are left are outcomes, which are put in place of those in the vector.
@@ -122,17 +124,18 @@ fn first_of_two(alloc: Global, word: &[u8], t: u64, a: u64) -> Option<FirstLine>
 {
     if is_word(word, b"rows") {
         let lines = LineList::of(Vec::new(alloc));
-        Some(FirstLine {
+        return Some(FirstLine {
             reply: ReplyLine::Rows { t, lines },
             due: a,
-        })
-    } else if is_word(word, b"ancient") {
-        first(ReplyLine::Ancient { t, a })
-    } else if is_word(word, b"busy") {
-        first(ReplyLine::Busy { t, f: a })
-    } else {
-        None
+        });
     }
+    if is_word(word, b"ancient") {
+        return first(ReplyLine::Ancient { t, a });
+    }
+    if is_word(word, b"busy") {
+        return first(ReplyLine::Busy { t, f: a });
+    }
+    None
 }
 
 // A reply by its word and the numbers after it.
@@ -221,16 +224,18 @@ fn event_of_four(word: &[u8], s: u32, i: u32, t: u64, m: u64) -> Option<Event>
     ensures { result ≡ event_at word.now s i (t ∷ m ∷ []) }
 {
     if is_word(word, b"begin") {
-        Some(Event::Begin { s, i, ts: t, m })
-    } else if is_word(word, b"look") {
-        Some(Event::Look { s, i, t, m })
-    } else if is_word(word, b"ancient") {
-        Some(Event::Ancient { s, i, t, a: m })
-    } else if is_word(word, b"busy") {
-        Some(Event::Busy { s, i, t, f: m })
-    } else {
-        None
+        return Some(Event::Begin { s, i, ts: t, m });
     }
+    if is_word(word, b"look") {
+        return Some(Event::Look { s, i, t, m });
+    }
+    if is_word(word, b"ancient") {
+        return Some(Event::Ancient { s, i, t, a: m });
+    }
+    if is_word(word, b"busy") {
+        return Some(Event::Busy { s, i, t, f: m });
+    }
+    None
 }
 
 fn event_at(word: &[u8], s: u32, i: u32, more: &[u64]) -> Option<Event>
@@ -291,13 +296,19 @@ pub fn event_of(line: &[u8], numbers: &mut Vec<u64>) -> Result<Option<Event>, No
 fn counted<'a>(rest: Option<&'a [u8]>, name: &[u8]) -> Option<(u64, Option<&'a [u8]>)>
     ensures { option_map (λ x. (x.0, pieces_in x.1)) result ≡ counted name.now (pieces_in rest.entry) }
 {
-    let (word, behind) = next_piece(rest)?;
-    let (digits, more) = next_piece(behind)?;
+    let Some((word, behind)) = next_piece(rest) else {
+        return None;
+    };
+    let Some((digits, more)) = next_piece(behind) else {
+        return None;
+    };
     if !is_word(word, name) {
         return None;
     }
-    let number = read_number(digits)?;
-    Some((number, more))
+    match read_number(digits) {
+        Some(number) => Some((number, more)),
+        None => None,
+    }
 }
 
 fn last_numbers(rest: Option<&[u8]>) -> Option<LastLine>

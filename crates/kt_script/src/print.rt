@@ -4,14 +4,14 @@ ghost use Rattle.std.specs.Prelude.{◌≡◌, ◌++◌, ◌∷◌, [], OnOk, If
 ghost use Rattle.std.specs.Fmt.{decimal};
 ghost use Rattle.std.specs.List.{flat_map};
 ghost use Rattle.std.specs.Option.{option_copied};
-ghost use Rattle.kt_script.specs.Texts.{spaced, words, literals};
+ghost use Rattle.kt_script.specs.Texts.{line, spaced, words, literals};
 ghost use Rattle.kt_base.specs.Borrowed.{cell_in};
 ghost use Rattle.kt_base.specs.Literals.{literal};
 ghost use Rattle.kt_cells.specs.Borrowed.{cells_in_ref};
 ghost use Rattle.kt_script.specs.Columns.{kind_word};
 ghost use Rattle.kt_script.specs.Writes.{op_word};
 ghost use Rattle.kt_script.specs.Fit.{column_of, PlanFits};
-ghost use Rattle.kt_script.specs.Print.{default_words, mark_words, column_text, key_words, cell_word, cell_words, is_named, op_words, write_words, name_of, names_word, test_words, pred_words, at_words, select_words, where_words, scan_words, command_text, session_lines, script_text, IsKey, HasKeys, prints_are_read};
+ghost use Rattle.kt_script.specs.Print.{default_words, mark_words, column_text, key_words, cell_word, cell_words, is_named, op_words, write_words, name_of, names_word, test_words, pred_words, at_words, select_words, where_words, scan_words, command_text, session_lines, script_text, IsKey, HasKeys, prints_are_read, loads_are_read};
 
 use crate::forms::{OpForm, op_form};
 use crate::leads::print_chore;
@@ -416,19 +416,31 @@ fn print_plan(alloc: Global, schema: &Schema, plan: &Plan, out: &mut Octets) -> 
     Ok(())
 }
 
-/// The text of a script.
+fn print_load(count: u32, out: &mut Octets) -> Result<(), NoMemory>
+    ensures ok { OnOk result (out.new ≡ out.old ++ line (words (codes "load" ∷ decimal count ∷ []))) }
+{
+    out.extend(b"load ")?;
+    print_number(count as u64, out)?;
+    out.push(b'\n')
+}
+
+/// The text of a script. A load is printed as its line.
 pub fn print_script(alloc: Global, script: &Script) -> Result<Octets, NoMemory>
     requires { PlanFits script.now.schema script.now.plan }
-    ensures { IfOk result (λ text. text ≡ script_text (record { columns = script.now.schema; plan = script.now.plan })) }
+    ensures { IfOk result (λ text. text ≡ script_text script.now.load (record { columns = script.now.schema; plan = script.now.plan })) }
 {
     let mut text = Octets::new(alloc);
     text.extend(b"table\n")?;
     print_columns(script.schema.columns(), &mut text)?;
-    print_plan(alloc, &script.schema, &script.plan, &mut text)?;
+    match script.load {
+        Some(count) => print_load(count, &mut text)?,
+        None => print_plan(alloc, &script.schema, &script.plan, &mut text)?,
+    }
     Ok(text)
 }
 
-/// The text of a script is read as that script.
+/// The text of a script is read as that script, and that of a load as that load.
 pub fn reading_law()
-    ensures { prints_are_read }
+    ensures sessions { prints_are_read }
+    ensures load { loads_are_read }
 {}

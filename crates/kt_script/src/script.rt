@@ -1,6 +1,6 @@
 //! Whole scripts.
 
-ghost use Rattle.std.specs.Prelude.{◌≡◌, ◌≤◌, ◌+◌, ◌∷◌, [], length, ℕ, List, Some, IfOk, IfErr, true, false};
+ghost use Rattle.std.specs.Prelude.{◌≡◌, ◌≤◌, ◌+◌, ◌∷◌, [], length, ℕ, List, Some, IfOk, IfErr, IfSome, true, false};
 ghost use Rattle.std.specs.List.{list_any};
 ghost use Rattle.kt_schema.specs.declared.column.Column.{Column};
 ghost use Rattle.kt_script.specs.declared.leads.Lead.TheVariants as lead;
@@ -8,13 +8,15 @@ ghost use Rattle.kt_script.specs.declared.leads.Word.TheVariants as begins;
 ghost use Rattle.kt_script.specs.Pieces.{cut, words_of, words_in};
 ghost use Rattle.kt_script.specs.Reasons.{no_of};
 ghost use Rattle.kt_script.specs.Columns.{begins_column, IsTable};
-ghost use Rattle.kt_script.specs.Scripts.{full_no, is_begun, most_bytes, first_piece, script_of, ReadsCommand, ReadsLed, ReadsBody, IsPushed, IsFirstFault};
+ghost use Rattle.kt_script.specs.Scripts.{full_no, is_begun, is_load, first_lead, begins_load, most_bytes, first_piece, script_of, load_of, ReadsCommand, ReadsLed, ReadsBody, IsPushed, IsFirstFault};
+ghost use Rattle.kt_script.specs.Loads.{IsLoad};
 ghost use Rattle.kt_script.specs.Fit.{PlanFits, IsBodyRead, AreLinesRead};
 
 use crate::columns::LineNo;
 use crate::head::{Table, cut_line, located, read_table};
 use crate::leads::{Lead, Word, lead_in};
 use crate::least::least_of;
+use crate::load::{cut_load, load_plan, read_load};
 use crate::refusal::ScriptNo;
 use crate::scans::read_scan;
 use crate::sessions::Sessions;
@@ -27,11 +29,13 @@ use kt_history::{Command, OpList, Plan};
 use kt_schema::Schema;
 use std::alloc::Global;
 
-/// What a script says: its table, and the commands of each session.
+/// What a script says: its table, and the commands of each session. For a load these are those of the load, and how many writes
+/// each of its sessions has is told.
 #[derive(Drop)]
 pub struct Script {
     pub schema: Schema,
     pub plan: Plan,
+    pub load: Option<u32>,
 }
 
 // A session begins.
@@ -126,7 +130,7 @@ fn read_command_line(
     }
 }
 
-// A line below the columns.
+// A line below the columns, which is no load line above all sessions.
 fn read_line(
     alloc: Global,
     schema: &Schema,
@@ -134,12 +138,14 @@ fn read_line(
     line: &[u8],
     op: &mut SpelledOp,
 ) -> Result<(), LineNo>
-    requires { IsTable schema.now }
+    requires table { IsTable schema.now }
+    requires load { is_begun sessions.old ≡ false → is_load (first_lead (words_of line.now)) ≡ false }
     ensures { ReadsBody schema.now sessions.old (words_of line.now) sessions.new result }
 {
     let (first, rest) = cut_word(line);
     match lead_in(first) {
         Some(Lead::Session) => begin_session(alloc, sessions, rest),
+        Some(Lead::Load) => Err(LineNo::Reason(12)),
         Some(Lead::Command(word)) => {
             read_command_line(alloc, schema, sessions, word, first, rest, op)
         }
@@ -159,6 +165,7 @@ fn read_lines(
     requires table { IsTable schema.now }
     requires key { list_any (λ c. c.key) schema.now ≡ true }
     requires first { begins_column (first_piece (cut 10 text.now)) ≡ false }
+    requires no_load { begins_load (cut 10 text.now) ≡ false }
     requires none { sessions.old ≡ [] }
     ensures { AreLinesRead schema.now (length schema.now + 2) text.now sessions.new result }
 {
@@ -178,7 +185,7 @@ fn read_lines(
     }
 }
 
-// The lines below the columns. The buffers are for the operations of a line.
+// The lines below the columns, the first of which is no load line. The buffers are for the operations of a line.
 fn read_body(
     alloc: Global,
     schema: &Schema,
@@ -189,6 +196,7 @@ fn read_body(
     requires table { IsTable schema.now }
     requires key { list_any (λ c. c.key) schema.now ≡ true }
     requires first { begins_column (first_piece (cut 10 text.now)) ≡ false }
+    requires no_load { begins_load (cut 10 text.now) ≡ false }
     ensures { IsBodyRead schema.now (length schema.now + 2) text.now result }
 {
     let mut sessions = Sessions::none(alloc);
@@ -200,6 +208,8 @@ fn read_body(
 pub fn read_script(alloc: Global, text: &[u8]) -> Result<Script, ScriptNo>
     ensures script { IfOk result (λ s. script_of text.now ≡ Some (record { columns = s.schema; plan = s.plan })) }
     ensures fits { IfOk result (λ s. PlanFits s.schema s.plan) }
+    ensures load { IfOk result (λ s. s.load ≡ load_of text.now) }
+    ensures loads { IfOk result (λ s. IfSome s.load (λ n. IsLoad s.schema s.plan n)) }
     ensures line { IfErr result (λ no. IsFirstFault text.now no) }
 {
     if text.len() > SCRIPT_BYTES {
@@ -209,7 +219,20 @@ pub fn read_script(alloc: Global, text: &[u8]) -> Result<Script, ScriptNo>
         });
     }
     let Table { schema, rest } = read_table(alloc, text)?;
+    if let Some(line) = cut_load(rest) {
+        let count = read_load(&schema, &line)?;
+        let plan = load_plan(alloc, count)?;
+        return Ok(Script {
+            schema,
+            plan,
+            load: Some(count),
+        });
+    }
     let mut op = SpelledOp::new(alloc);
     let plan = read_body(alloc, &schema, rest, &mut op)?;
-    Ok(Script { schema, plan })
+    Ok(Script {
+        schema,
+        plan,
+        load: None,
+    })
 }

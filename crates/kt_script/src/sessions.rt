@@ -1,6 +1,6 @@
 //! The commands of a script as they are read.
 
-ghost use Rattle.std.specs.Prelude.{◌≡◌, ◌<◌, ◌++◌, ◌∷◌, [], length, IfOk, OnOk, true};
+ghost use Rattle.std.specs.Prelude.{◌≡◌, ◌<◌, ◌++◌, ◌∷◌, [], length, IfOk, OnOk, OnErr, true};
 ghost use Rattle.kt_script.specs.Scripts.{most_commands, is_begun, commands_in, push_last};
 
 use crate::draft::Draft;
@@ -29,6 +29,15 @@ impl Model for Sessions {
     ghost view = { λ s. plan_of s.ended.items s.last };
 
     ghost invariant = { λ s. Kept s.ended.items s.last s.count };
+}
+
+// One session more. Without memory there are those before.
+fn end(ended: &mut Vec<Session>, last: Draft) -> Result<(), NoMemory>
+    ensures ok { OnOk result (ended.new.items ≡ ended.old.items ++ last ∷ []) }
+    ensures err { OnErr result (ended.new.items ≡ ended.old.items) }
+{
+    ended.push(last.into_session()?)?;
+    Ok(())
 }
 
 impl Sessions {
@@ -74,7 +83,7 @@ impl Sessions {
     {
         if let Some(last) = self.last.replace(Draft::new(alloc)) {
             let count = self.count + last.len();
-            self.ended.push(last.into_session()?)?;
+            end(&mut self.ended, last)?;
             self.count = count;
         }
         Ok(())
@@ -102,7 +111,7 @@ impl Sessions {
             ..
         } = self;
         if let Some(last) = last {
-            ended.push(last.into_session()?)?;
+            end(&mut ended, last)?;
         }
         Ok(Plan::of(ended))
     }

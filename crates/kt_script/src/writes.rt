@@ -7,6 +7,7 @@ ghost use Rattle.std.specs.Cmp.Lexicographic.{slice_cmp};
 ghost use Rattle.kt_base.specs.Literals.{same};
 ghost use Rattle.kt_cells.specs.Rules.{CellListFits};
 ghost use Rattle.kt_cells.specs.Spelling.{cell_list};
+ghost use Rattle.kt_history.specs.declared.command.Command.TheVariants as command;
 ghost use Rattle.kt_history.specs.declared.operation.RowOp.{RowOp};
 ghost use Rattle.kt_schema.specs.Columns.{other_columns};
 ghost use Rattle.kt_script.specs.declared.forms.OpForm.TheVariants as form;
@@ -27,7 +28,7 @@ use kt_base::limits::OPERATIONS;
 use kt_base::{Cell, Cells, NoMemory, Octets};
 use kt_cells::Tail;
 use kt_cells::writing::put_cell_list;
-use kt_history::{OpKind, OpList, OpRef, Write};
+use kt_history::{Command, OpKind, OpList, OpRef, Write};
 use kt_schema::Schema;
 use std::alloc::Global;
 use std::mem;
@@ -36,10 +37,10 @@ use std::mem;
 /// the encoded key, and its other cells behind their count. Beside it a list whose room the operations of the next line take.
 #[derive(Drop)]
 pub(crate) struct SpelledOp {
-    kind: OpKind,
+    pub(crate) kind: OpKind,
     key_cells: Vec<Cell>,
-    key: Octets,
-    cells: Tail,
+    pub(crate) key: Octets,
+    pub(crate) cells: Tail,
     pub(crate) spare: OpList,
 }
 
@@ -213,6 +214,17 @@ fn push_op(ops: &mut OpList, op: &SpelledOp) -> Result<(), NoMemory>
     ensures { OnOk result (ops.new ≡ ops.old ++ spelled_op op.now ∷ []) }
 {
     ops.push(&OpRef::of(op.kind, op.key.as_slice(), op.cells.added()))
+}
+
+/// A write of the one operation that is in the buffers.
+pub(crate) fn lone_write(alloc: Global, op: &mut SpelledOp) -> Result<Command, NoMemory>
+    requires { HasSpelling op.old }
+    ensures { IfOk result (λ made. made ≡ command.Write (record { ops = spelled_op op.old ∷ [] })) }
+{
+    let mut ops = mem::replace(&mut op.spare, OpList::new(alloc));
+    ops.clear(alloc);
+    push_op(&mut ops, op)?;
+    Ok(Command::Write(Write { ops }))
 }
 
 // Keeps an operation, if there is room for it. One that a reason up to 17 refuses is not kept.

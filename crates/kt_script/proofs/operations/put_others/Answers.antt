@@ -35,3 +35,28 @@ returns-clause-cells c = λ h.
     let counted : c.extend.new.self.added ≡ c.args.out.now.added ++ to_le_bytes w16 (length columns) = search rules in
     behind_count columns (op_in c.args.rest) c.args.out.now.added c.extend.new.self.added c.loop-column.out.added (omega (arith, h, least, c.note-2.ensures)) counted
     (ap (λ cs. c.loop-column.out.added ++ flat_map listed_cell (under cs (cells_of cs left))) end ∙ c.loop-column.invariant.cells)
+
+pub returns-in_default-clause-cells : goal.returns-in_default-clause-cells
+returns-in_default-clause-cells c = λ h. absurd (omega (arith, h, c.note.ensures))
+
+pub returns-in_default-clause-behind : goal.returns-in_default-clause-behind
+returns-in_default-clause-behind c =
+    let is = next_column c.args.columns.now c.loop-column.column-index c.column-item.result (omega arith) c.column-item.is in
+    c.in_default.ensures.none ∙ (rw (is, c.in_default.ensures.none) at c.loop-column.invariant.behind)
+
+pub returns-in_default-clause-later : goal.returns-in_default-clause-later
+returns-in_default-clause-later c = c.loop-column.invariant.later
+
+pub returns-in_default-clause-least : goal.returns-in_default-clause-least
+returns-in_default-clause-least c =
+    let is = next_column c.args.columns.now c.loop-column.column-index c.column-item.result (omega arith) c.column-item.is in
+    c.note.ensures ∙ (rw (is, c.in_default.ensures.none) at c.loop-column.invariant.least)
+
+pub returns-clause-behind : goal.returns-clause-behind
+returns-clause-behind c = rw (drop_all c.loop-column.column-index c.args.columns.now (omega arith)) at c.loop-column.invariant.behind
+
+pub returns-clause-later : goal.returns-clause-later
+returns-clause-later c = c.loop-column.invariant.later
+
+pub returns-clause-least : goal.returns-clause-least
+returns-clause-least c = c.note-2.ensures ∙ (rw (drop_all c.loop-column.column-index c.args.columns.now (omega arith)) at c.loop-column.invariant.least)
