@@ -55,7 +55,7 @@ use kt_memrowset::MemRowSet;
 use kt_pool::Pool;
 use kt_records::{LogRecords, RecordList};
 use kt_schema::Schema;
-use kt_stores::Stores;
+use kt_stores::{RangedRowSets, Stores};
 use kt_super::Meta;
 use std::alloc::Global;
 
@@ -163,21 +163,22 @@ fn begun(
 }
 
 // The stores as a tablet has them, with nothing promised of their pool.
-fn stores_of(alloc: Global, stores: Opening) -> Stores<DiskRowSet>
+fn stores_of(alloc: Global, stores: Opening) -> Result<Stores<DiskRowSet>, NoMemory>
     requires kept { AreKeptIn stores }
     requires few { length stores.rowsets.items < 2 ^ 32 }
-    ensures pool { result.pool ≡ with_reserved stores.pool 0 }
-    ensures shelf { result.shelf ≡ shelf_of (read_by (shelved name_of store_of (λ s. true) cells_had)) stores.pool (kept stores.mem [] stores.rowsets.items) }
-    ensures frozen { result.frozen ≡ 0 }
-    ensures files { result.files ≡ files_in stores }
+    ensures pool { IfOk result (λ all. all.pool ≡ with_reserved stores.pool 0) }
+    ensures shelf { IfOk result (λ all. all.shelf ≡ shelf_of (read_by (shelved name_of store_of (λ s. true) cells_had)) stores.pool (kept stores.mem [] stores.rowsets.items)) }
+    ensures frozen { IfOk result (λ all. all.frozen ≡ 0) }
+    ensures files { IfOk result (λ all. all.files ≡ files_in stores) }
 {
     let Opening {
         mem,
         rowsets,
         mut pool,
     } = stores;
+    let rowsets = RangedRowSets::of(alloc, rowsets)?;
     pool.release(pool.reserved());
-    Stores::of(alloc, pool, mem, rowsets)
+    Ok(Stores::of(alloc, pool, mem, rowsets))
 }
 
 // Does the writes of a log on the stores of a superblock.
@@ -205,7 +206,7 @@ fn make(
     let mut stores = begun(alloc, meta, rowsets, &named, cells, needs)?;
     match replay(alloc, &mut stores, meta, records, &places) {
         Ok(queued) => Ok(Made {
-            stores: stores_of(alloc, stores),
+            stores: stores_of(alloc, stores)?,
             queued,
             next_rowset: named.next.max(meta.next_rowset),
         }),

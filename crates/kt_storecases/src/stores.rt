@@ -9,7 +9,7 @@ use kt_cells::writing::put_cell_list;
 use kt_diskrowset::DiskRowSet;
 use kt_history::{OpKind, OpRef, Taken, Target};
 use kt_pool::Pool;
-use kt_stores::Stores;
+use kt_stores::{RangedRowSets, Stores};
 use std::alloc::Global;
 
 /// One operation of a test: the number of the MemRowSet that is to take inserts from then on, if another does; its kind and key; whether
@@ -99,7 +99,7 @@ fn are_as_told(alloc: Global, stores: &mut Stores<DiskRowSet>) -> bool {
     }
     let three = !stores.live(b"ant") && stores.live(b"bee");
     let free = stores.free();
-    stores.change_over(2, Vec::new(alloc), Vec::new(alloc));
+    stores.change_over(2, RangedRowSets::empty(alloc), RangedRowSets::empty(alloc));
     let one = stores.len() == 1 && !stores.live(b"bee") && stores.live(b"cat");
     three && one && free < stores.free()
 }

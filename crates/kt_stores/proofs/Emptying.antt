@@ -1,6 +1,5 @@
 -- The frozen MemRowSets among all stores, and a store that comes behind them.
-use Rattle.std.proofs.Common.{◌≡◌, ◌⊎◌, ℕ, ◌+◌, ◌<◌, Bool, false, List, [], ◌∷◌, ◌++◌, map, length, length-append, true, append_assoc, sym, ap, subst, ◌∙◌, inl, inr, arith}
-use Rattle.std.specs.Prelude.{if◌then◌else◌}
+use Rattle.std.proofs.Common.{◌≡◌, ◌⊎◌, ℕ, ◌+◌, List, [], ◌∷◌, ◌++◌, map, true, sym, ap, subst, ◌∙◌, inl, inr, arith}
 use Rattle.std.proofs.lemmas.List.{map-append}
 use Rattle.std.proofs.lemmas.List.Sums.{sum_by-append, sum_by-cons}
 use Rattle.kt_history.specs.Beside.{AllStand, OwnedBy, AreApart}
@@ -9,7 +8,7 @@ use Rattle.kt_memrowset.specs.declared.store.MemRowSet.{MemRowSet}
 use Rattle.kt_memrowset.specs.Stores.{IsStore, Owns}
 use Rattle.kt_pool.specs.Contents.{Contents}
 use Rattle.kt_stores.specs.Shelf.{Shelved, AreClosed, AreExact, FirstIsOpen, cells_in}
-use Rattle.kt_stores.specs.Parts.{kept, stands_by, owns_by, read_by, shelf_of, AreKept}
+use Rattle.kt_stores.specs.Parts.{stands_by, owns_by, shelf_of, AreKept}
 
 pub cells-append : (xs ys : List Shelved) → cells_in (xs ++ ys) ≡ cells_in xs + cells_in ys
 cells-append xs ys = sum_by-append (λ (s : Shelved). s.cells) xs ys
@@ -72,22 +71,3 @@ kept_more stands owns read pool x xs h here bare none closed =
       first = subst FirstIsOpen (sym shelf) (first_more (shelf_of read pool xs) (read x pool) h.first closed);
       exact = subst AreExact (sym shelf) (exact_more (shelf_of read pool xs) (read x pool) h.exact none);
     }
-
-pub kept_pushed : {R : Type 0} (active : MemRowSet) (frozen : List MemRowSet) (rowsets : List R) (x : R) → kept active frozen (rowsets ++ x ∷ []) ≡ kept active frozen rowsets ++ inr x ∷ []
-kept_pushed active frozen rowsets x =
-    ap (λ zs. inl active ∷ map inl frozen ++ zs) (map-append inr rowsets (x ∷ []))
-    ∙ ap (λ zs. inl active ∷ zs) (sym (append_assoc (map inl frozen) (map inr rowsets) (inr x ∷ [])))
-
--- a rowset is pushed, or there is no memory for it
-pub kept_put : {R : Type 0} (stands : R → Contents → Type 0) (owns : R → Contents → ℕ → Type 0) (read : R → Contents → Shelved) (pool : Contents) (active : MemRowSet) (frozen : List MemRowSet) (rowsets later : List R) (x : R) (pushed : Bool)
-    → AreKept (stands_by stands) (owns_by owns) (read_by read) (kept active frozen rowsets) pool → stands x pool → ((k : ℕ) → ¬ owns x pool k) → (read x pool).cells ≡ 0 → (read x pool).closed ≡ true
-    → later ≡ (if pushed then rowsets ++ x ∷ [] else rowsets) → length rowsets < 4294967295 → AreKept (stands_by stands) (owns_by owns) (read_by read) (kept active frozen later) pool × (length later < 4294967296)
-kept_put stands owns read pool active frozen rowsets later x true h here bare none closed is few = (
-  subst (λ later. AreKept (stands_by stands) (owns_by owns) (read_by read) (kept active frozen later) pool) (sym is)
-      (subst (λ xs. AreKept (stands_by stands) (owns_by owns) (read_by read) xs pool) (sym (kept_pushed active frozen rowsets x)) (kept_more (stands_by stands) (owns_by owns) (read_by read) pool (inr x) (kept active frozen rowsets) h here bare none closed)),
-  (let n = ap length is ∙ length-append rowsets (x ∷ []) in omega arith),
-)
-kept_put stands owns read pool active frozen rowsets later x false h here bare none closed is few = (
-  subst (λ later. AreKept (stands_by stands) (owns_by owns) (read_by read) (kept active frozen later) pool) (sym is) h,
-  (let n = ap length is in omega arith),
-)

@@ -18,3 +18,4 @@ pub mod Rewritten
 pub mod Reaching
 pub mod Freezing
 pub mod Statistics
+pub mod Ranged

@@ -3,3 +3,4 @@ pub mod Parts
 pub mod Takes
 pub mod Leaving
 pub mod Stats
+pub mod Ranges

@@ -6,7 +6,10 @@
 #![tactic(auto)]
 
 pub mod file_store;
+pub mod range_tree;
+pub mod ranged_rowsets;
 pub mod stores;
 
 pub use file_store::FileStore;
+pub use ranged_rowsets::RangedRowSets;
 pub use stores::Stores;

@@ -11,6 +11,8 @@ ghost use Rattle.kt_history.specs.Stores.{changes_upto};
 ghost use Rattle.kt_pool.specs.Contents.{used, free, with_reserved};
 
 use crate::file_store::FileStore;
+use crate::range_tree::RangeTree;
+use crate::ranged_rowsets::RangedRowSets;
 use kt_base::NoMemory;
 use kt_history::ChangeList;
 use kt_memrowset::MemRowSet;
@@ -19,18 +21,21 @@ use std::alloc::Global;
 use std::marker::Model;
 
 /// The stores of a tablet in one pool: the MemRowSet that takes inserts, the frozen ones, the newest first, and the disk
-/// rowsets. Contracts see the stores as a list in this order, and count places in it, and beside it the files of each disk rowset.
+/// rowsets, with the ranges of their keys. Contracts see the stores as a list in this order, and count places in it, and beside it
+/// the files of each disk rowset.
 #[derive(Drop)]
 pub struct Stores<R: FileStore> {
     pool: Pool,
     active: MemRowSet,
     frozen: Vec<MemRowSet>,
     rowsets: Vec<R>,
+    ranges: RangeTree,
 }
 
 impl<R: FileStore> Model for Stores<R> {
     ghost use Rattle.std.specs.Prelude.{length, map, ◌<◌, ◌^◌};
     ghost use Rattle.kt_stores.specs.Shelf.{StoresView};
+    ghost use Rattle.kt_stores.specs.Ranges.{AreRanged};
 
     ghost Value = { StoresView };
 
@@ -43,7 +48,7 @@ impl<R: FileStore> Model for Stores<R> {
       files = map R.files s.rowsets.items;
     } };
 
-    ghost invariant = { λ s. AreKept (stands_by R.stands) (owns_by R.owns) (read_by (shelved R.target R.store R.is_closed R.cells)) (kept s.active s.frozen.items s.rowsets.items) s.pool × (length s.rowsets.items < 2 ^ 32) };
+    ghost invariant = { λ s. AreKept (stands_by R.stands) (owns_by R.owns) (read_by (shelved R.target R.store R.is_closed R.cells)) (kept s.active s.frozen.items s.rowsets.items) s.pool × (length s.rowsets.items < 2 ^ 32) × AreRanged (map R.files s.rowsets.items) s.ranges };
 }
 
 impl<R: FileStore> Stores<R> {
@@ -53,7 +58,7 @@ impl<R: FileStore> Stores<R> {
     ghost use Rattle.kt_stores.specs.Parts.{kept, shelved, stands_by, owns_by, read_by, shelf_of, AreKept};
 
     /// The stores of a pool in which they stand, with no frozen one. All cells that are used are theirs.
-    pub fn of(alloc: Global, pool: Pool, active: MemRowSet, rowsets: Vec<R>) -> Stores<R>
+    pub fn of(alloc: Global, pool: Pool, active: MemRowSet, rowsets: RangedRowSets<R>) -> Stores<R>
         requires kept { AreKept (stands_by R.stands) (owns_by R.owns) (read_by (shelved R.target R.store R.is_closed R.cells)) (kept active [] rowsets.items) pool }
         requires few { length rowsets.items < 2 ^ 32 }
         ensures pool { result.pool ≡ pool }
@@ -61,11 +66,13 @@ impl<R: FileStore> Stores<R> {
         ensures frozen { result.frozen ≡ 0 }
         ensures files { result.files ≡ map R.files rowsets.items }
     {
+        let (rowsets, ranges) = rowsets.into_parts();
         Stores {
             pool,
             active,
             frozen: Vec::new(alloc),
             rowsets,
+            ranges,
         }
     }
 
@@ -77,7 +84,12 @@ impl<R: FileStore> Stores<R> {
         ensures frozen { result.frozen ≡ 0 }
         ensures files { result.files ≡ [] }
     {
-        Stores::of(alloc, pool, MemRowSet::new(number), Vec::new(alloc))
+        Stores::of(
+            alloc,
+            pool,
+            MemRowSet::new(number),
+            RangedRowSets::empty(alloc),
+        )
     }
 
     /// What always holds of them: all cells that are used are theirs, the first alone takes inserts, one without a row has

@@ -12,11 +12,15 @@ ghost use Rattle.kt_diskrowset.specs.declared.rowset.DiskRowSet.{DiskRowSet as D
 ghost use Rattle.kt_diskrowset.specs.Rowset as rowset_specs;
 ghost use Rattle.kt_diskrowset.specs.Rowset.{name_of, held_of};
 ghost use Rattle.kt_stores.specs.Parts.{shelved_mem};
+ghost use Rattle.kt_stores.specs.Ranges.{AreRanged};
 ghost use Rattle.kt_stores.specs.Leaving.{HaveLeft, Going, AreNew, shelved_rowset, stays_behind, stays_beside};
 ghost use Rattle.kt_stores.specs.Shelf.{names_of, stores_of};
 ghost use Rattle.kt_stores.specs.Takes.{mems, rowsets, takes, of_taken, left_on, files_left, shelf_over};
 
 use super::Stores;
+use crate::file_store::FileStore;
+use crate::range_tree::RangeTree;
+use crate::ranged_rowsets::RangedRowSets;
 use kt_base::NoMemory;
 use kt_diskrowset::{DiskRowSet, RowSetData, laws};
 use kt_history::Target;
@@ -55,7 +59,7 @@ fn empty_upto(stores: &mut Vec<MemRowSet>, pool: &mut Pool, last: u64)
 }
 
 // Whether a rowset is one of these numbers.
-fn is_among(rowset: &DiskRowSet, numbers: &[u64]) -> bool
+pub(crate) fn is_among(rowset: &DiskRowSet, numbers: &[u64]) -> bool
     ensures { result ≡ takes (rowsets numbers.now) (name_of rowset.now) }
 {
     match rowset.target() {
@@ -110,13 +114,40 @@ fn put_behind<R>(stores: &mut Vec<R>, outputs: Vec<R>, room: Vec<R>)
     }
 }
 
+// Others come behind these with their ranges, all into an empty list that has room for them.
+fn come_behind<R: FileStore + Drop>(
+    rowsets: &mut Vec<R>,
+    ranges: &mut RangeTree,
+    outputs: RangedRowSets<R>,
+    room: RangedRowSets<R>,
+)
+    requires ranged { AreRanged (map R.files rowsets.old.items) ranges.old }
+    requires vacant { room.items ≡ [] }
+    requires room { length rowsets.old.items + length outputs.items ≤ room.room }
+    ensures rowsets { rowsets.new.items ≡ rowsets.old.items ++ outputs.items }
+    ensures ranged { AreRanged (map R.files rowsets.new.items) ranges.new }
+{
+    let first = rowsets.len() as u64;
+    let (outputs, more) = outputs.into_parts();
+    let (room, empty) = room.into_parts();
+    put_behind(rowsets, outputs, room);
+    let own = mem::replace(ranges, empty);
+    ranges.take_over(0, own);
+    ranges.take_over(first, more);
+}
+
 impl Stores<DiskRowSet> {
     /// The frozen MemRowSets of numbers up to one leave, and their cells are free then. Disk rowsets come behind the others. They stand in the pool and have no cell
-    /// there yet, and there is an empty vector with room for all disk rowsets. It takes no memory.
-    pub fn change_over(&mut self, last: u64, outputs: Vec<DiskRowSet>, room: Vec<DiskRowSet>)
+    /// there yet, and there is an empty list with room for all disk rowsets. It takes no memory.
+    pub fn change_over(
+        &mut self,
+        last: u64,
+        outputs: RangedRowSets<DiskRowSet>,
+        room: RangedRowSets<DiskRowSet>,
+    )
         requires outputs { AreNew self.old.pool outputs.items }
         requires vacant { room.items ≡ [] }
-        requires room { length self.old.shelf + length outputs.items ≤ vec_capacity room + self.old.frozen + 1 }
+        requires room { length self.old.shelf + length outputs.items ≤ room.room + self.old.frozen + 1 }
         requires few { length self.old.shelf + length outputs.items < 2 ^ 32 }
         ensures shelf { self.new.shelf ≡ shelf_over (mems last) (map (λ r. shelved_rowset r self.old.pool) outputs.items) self.old.shelf }
         ensures files { self.new.files ≡ files_left (mems last) self.old.files ++ map held_of outputs.items }
@@ -127,14 +158,19 @@ impl Stores<DiskRowSet> {
         laws::frame_law();
         laws::placed_law();
         empty_upto(&mut self.frozen, &mut self.pool, last);
-        put_behind(&mut self.rowsets, outputs, room);
+        come_behind(&mut self.rowsets, &mut self.ranges, outputs, room);
     }
 
     /// The disk rowsets of some numbers leave, and their cells are free then. Others come behind those that are left, as in `change_over`. It takes no memory.
-    pub fn compact_over(&mut self, numbers: &[u64], outputs: Vec<DiskRowSet>, room: Vec<DiskRowSet>)
+    pub fn compact_over(
+        &mut self,
+        numbers: &[u64],
+        outputs: RangedRowSets<DiskRowSet>,
+        room: RangedRowSets<DiskRowSet>,
+    )
         requires outputs { AreNew self.old.pool outputs.items }
         requires vacant { room.items ≡ [] }
-        requires room { length self.old.shelf + length outputs.items ≤ vec_capacity room + self.old.frozen + 1 }
+        requires room { length self.old.shelf + length outputs.items ≤ room.room + self.old.frozen + 1 }
         requires few { length self.old.shelf + length outputs.items < 2 ^ 32 }
         ensures shelf { self.new.shelf ≡ shelf_over (rowsets numbers.now) (map (λ r. shelved_rowset r self.old.pool) outputs.items) self.old.shelf }
         ensures files { self.new.files ≡ files_left (rowsets numbers.now) self.old.files ++ map held_of outputs.items }
@@ -144,8 +180,9 @@ impl Stores<DiskRowSet> {
     {
         laws::frame_law();
         laws::placed_law();
+        self.ranges.leave(&self.rowsets, numbers);
         leave_all(&mut self.rowsets, &mut self.pool, numbers);
-        put_behind(&mut self.rowsets, outputs, room);
+        come_behind(&mut self.rowsets, &mut self.ranges, outputs, room);
     }
 
     /// All that the disk rowsets of some numbers have, as plain data, in the order in which they stand.

@@ -1,5 +1,5 @@
 //! What a flush does to the stores as it begins: it freezes the one that takes inserts.
-ghost use Rattle.std.specs.Prelude.{◌≡◌, ◌<◌, ◌+◌, ◌++◌, ◌∷◌, ◌↔◌, [], ℕ, true, length, Some, IsTrue, OnOk, OnErr};
+ghost use Rattle.std.specs.Prelude.{◌≡◌, ◌<◌, ◌+◌, ◌↔◌, [], length, Some, IsTrue, OnOk, OnErr};
 
 use super::Stores;
 use crate::file_store::FileStore;
@@ -60,27 +60,5 @@ impl<R: FileStore> Stores<R> {
         ensures { result + self.now.frozen + 1 ≡ length self.now.shelf }
     {
         self.rowsets.len()
-    }
-}
-
-impl<R: FileStore + Drop> Stores<R> {
-    ghost use Rattle.kt_stores.specs.Parts.{shelved};
-
-    /// A rowset comes in behind the others. It stands in the pool and has no cell there yet. Without memory nothing changes.
-    pub fn put(&mut self, rowset: R) -> Result<(), NoMemory>
-        requires stands { R.stands rowset self.old.pool }
-        requires bare { (k : ℕ) → ¬ R.owns rowset self.old.pool k }
-        requires none { R.cells rowset self.old.pool ≡ 0 }
-        requires closed { R.is_closed rowset ≡ true }
-        ensures ok { OnOk result (self.new ≡ record self.old { shelf = self.old.shelf ++ shelved R.target R.store R.is_closed R.cells rowset self.old.pool ∷ []; files = self.old.files ++ R.files rowset ∷ [] }) }
-        ensures err { OnErr result (self.new ≡ self.old) }
-    {
-        if self.rowsets.len() >= u32::MAX as usize {
-            return Err(NoMemory);
-        }
-        match self.rowsets.push(rowset) {
-            Ok(()) => Ok(()),
-            Err(_) => Err(NoMemory),
-        }
     }
 }

@@ -70,32 +70,35 @@ impl<R: FileStore> Stores<R> {
     ghost use Rattle.kt_stores.specs.Shelf.{stores_of, last_live, place_of, name_at, TakesAt};
 
     // The place of the first store that has the row of a key after all changes.
-    fn first(&self, key: &[u8]) -> Option<usize>
-        ensures { result ≡ position (has_live key.now) (stores_of self.now) }
+    fn first(&mut self, key: &[u8]) -> Option<usize>
+        ensures first { result ≡ position (has_live key.now) (stores_of self.old) }
+        ensures same { self.new ≡ self.old }
     {
         if self.active.live(&self.pool, key) {
             return Some(0);
         }
         match first_live(&self.frozen, &self.pool, key) {
             Some(at) => Some(1 + at),
-            None => match first_live(&self.rowsets, &self.pool, key) {
-                Some(at) => Some(1 + self.frozen.len() + at),
-                None => None,
-            },
+            None => {
+                let at = self.ranges.first_live(&self.rowsets, &self.pool, key)?;
+                Some(1 + self.frozen.len() + at)
+            }
         }
     }
 
     /// Whether the row of a key is there after all changes.
-    pub fn live(&self, key: &[u8]) -> bool
-        ensures { result ≡ is_some (last_live key.now (stores_of self.now)) }
+    pub fn live(&mut self, key: &[u8]) -> bool
+        ensures live { result ≡ is_some (last_live key.now (stores_of self.old)) }
+        ensures same { self.new ≡ self.old }
     {
         self.first(key).is_some()
     }
 
     // Where a change of a key goes. A store that stands alone is not asked.
-    fn place(&self, key: &[u8]) -> usize
-        ensures place { result ≡ place_of key.now (stores_of self.now) }
-        ensures bound { result < length self.now.shelf }
+    fn place(&mut self, key: &[u8]) -> usize
+        ensures place { result ≡ place_of key.now (stores_of self.old) }
+        ensures bound { result < length self.old.shelf }
+        ensures same { self.new ≡ self.old }
     {
         if self.frozen.is_empty() && self.rowsets.is_empty() {
             return 0;

@@ -1,5 +1,5 @@
 //! What a job does in its end: what it took of the stores leaves, and its outputs come behind the others. And what a compaction reads.
-ghost use Rattle.std.specs.Prelude.{◌≡◌, ◌==◌, ◌≤◌, ◌<◌, ◌^◌, ◌+◌, [], true, map, length, slice_get, Some, IfOk, vec_capacity};
+ghost use Rattle.std.specs.Prelude.{◌≡◌, ◌==◌, ◌≤◌, ◌<◌, ◌^◌, ◌+◌, [], true, map, length, slice_get, Some, IfOk};
 ghost use Rattle.std.specs.List.{AllByRecursion, list_any};
 ghost use Rattle.std.specs.List.Sorted.{IsNonDecreasingBy};
 ghost use Rattle.kt_diskrowset.specs.Data.{files_in, store_in};
@@ -13,16 +13,22 @@ ghost use Rattle.kt_tablet.specs.Jobs.{taken_rowsets, MayChangeOver, HasChangedO
 use super::Tablet;
 use kt_base::{Clock, NoMemory};
 use kt_diskrowset::{DiskRowSet, RowSetData};
+use kt_stores::RangedRowSets;
 use std::alloc::Global;
 
 impl<C: Clock> Tablet<DiskRowSet, C> {
     /// The frozen MemRowSets of numbers up to one leave while nothing flies, and disk rowsets come behind the others. They have no change in memory and show from the
-    /// mark on what those show that leave, and an empty vector has room for all disk rowsets. It takes no memory.
-    pub fn change_over(&mut self, last: u64, outputs: Vec<DiskRowSet>, room: Vec<DiskRowSet>)
+    /// mark on what those show that leave, and an empty list has room for all disk rowsets. It takes no memory.
+    pub fn change_over(
+        &mut self,
+        last: u64,
+        outputs: RangedRowSets<DiskRowSet>,
+        room: RangedRowSets<DiskRowSet>,
+    )
         requires calm { self.old.core.aloft ≡ [] }
         requires outputs { AreNew self.old.pool outputs.items }
         requires vacant { room.items ≡ [] }
-        requires room { length self.old.core.stores + length outputs.items ≤ vec_capacity room + self.old.frozen + 1 }
+        requires room { length self.old.core.stores + length outputs.items ≤ room.room + self.old.frozen + 1 }
         requires few { length self.old.core.stores + length outputs.items < 2 ^ 32 }
         requires may { MayChangeOver self.old (mems last) (map (λ r. store_of r self.old.pool) outputs.items) }
         ensures { HasChangedOver self.old self.new (mems last) (map (λ r. store_of r self.old.pool) outputs.items) (map name_of outputs.items) (map held_of outputs.items) }
@@ -31,11 +37,16 @@ impl<C: Clock> Tablet<DiskRowSet, C> {
     }
 
     /// The disk rowsets of some numbers leave while nothing flies, and others come behind those that are left, as in `change_over`. It takes no memory.
-    pub fn compact_over(&mut self, numbers: &[u64], outputs: Vec<DiskRowSet>, room: Vec<DiskRowSet>)
+    pub fn compact_over(
+        &mut self,
+        numbers: &[u64],
+        outputs: RangedRowSets<DiskRowSet>,
+        room: RangedRowSets<DiskRowSet>,
+    )
         requires calm { self.old.core.aloft ≡ [] }
         requires outputs { AreNew self.old.pool outputs.items }
         requires vacant { room.items ≡ [] }
-        requires room { length self.old.core.stores + length outputs.items ≤ vec_capacity room + self.old.frozen + 1 }
+        requires room { length self.old.core.stores + length outputs.items ≤ room.room + self.old.frozen + 1 }
         requires few { length self.old.core.stores + length outputs.items < 2 ^ 32 }
         requires may { MayChangeOver self.old (rowsets numbers.now) (map (λ r. store_of r self.old.pool) outputs.items) }
         ensures { HasChangedOver self.old self.new (rowsets numbers.now) (map (λ r. store_of r self.old.pool) outputs.items) (map name_of outputs.items) (map held_of outputs.items) }

@@ -1,5 +1,5 @@
 //! Scans: each is answered by a copy of what the stores hold up to its time, unless something stands in its way.
-ghost use Rattle.std.specs.Prelude.{◌≡◌, ◌<◌, ◌+◌, ◌-◌, suc, map, take, length, slice_get, true, false, Some, IsSome, IfSome, IfNone, IfOk, IfErr, OnOk, OnErr, Err};
+ghost use Rattle.std.specs.Prelude.{◌≡◌, ◌<◌, ◌+◌, ◌-◌, suc, [], map, take, length, slice_get, true, false, Some, IsSome, IfSome, IfNone, IfOk, IfErr, OnOk, OnErr, Err};
 ghost use Rattle.kt_history.specs.History.{Past};
 ghost use Rattle.kt_history.specs.Machine.{nth, none_flies};
 ghost use Rattle.kt_histlaws.specs.Core.{flown_by};
@@ -149,17 +149,26 @@ impl<R: FileStore, C: Clock> Tablet<R, C> {
         Ok(())
     }
 
-    // A copy of what the stores hold up to a time.
+    // A copy of what the stores hold up to a time. It shows the run where no write flies that is not later.
     fn copy(&self, alloc: Global, t: u64) -> Result<Snap<R::Read>, NoMemory>
-        requires { none_flies t (map flown_by self.now.core.aloft) ≡ true }
         ensures time { IfOk result (λ snap. (snap.t ≡ t) × (snap.mark ≡ self.now.core.a)) }
         ensures copied { IfOk result IsCopied }
-        ensures shows { IfOk result (λ snap. (first : Past) → Opens self.now.opening self.now.mark self.now.core.opened first → ShowsRun R.Read.row_of (record self.now.core { first = first }) snap) }
+        ensures shows { IfOk result (λ snap. none_flies t (map flown_by self.now.core.aloft) ≡ true → (first : Past) → Opens self.now.opening self.now.mark self.now.core.opened first → ShowsRun R.Read.row_of (record self.now.core { first = first }) snap) }
     {
         self.stores.standing();
         let mark = self.flight.mark();
         let views = views_of(alloc, &self.stores, &self.fill, mark, t)?;
         Ok(Snap { t, mark, views })
+    }
+
+    /// What the stores hold up to the last timestamp, without a line: where no write flies, what a scan at that time would read.
+    pub fn rows_now(&self, alloc: Global) -> Result<Snap<R::Read>, NoMemory>
+        ensures time { IfOk result (λ snap. (snap.t ≡ self.now.core.c) × (snap.mark ≡ self.now.core.a)) }
+        ensures copied { IfOk result IsCopied }
+        ensures shows { IfOk result (λ snap. self.now.core.aloft ≡ [] → (first : Past) → Opens self.now.opening self.now.mark self.now.core.opened first → ShowsRun R.Read.row_of (record self.now.core { first = first }) snap) }
+    {
+        let (_, t) = self.times();
+        self.copy(alloc, t)
     }
 
     // Answers a scan at a time from the mark on, where no write flies that is not later.

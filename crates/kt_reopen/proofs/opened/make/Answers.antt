@@ -58,14 +58,14 @@ returns-in-Ok-clause-made c = λ columns stores here.
     let b = c.in_ok-stores.ensures records c.in_ok-named.ensures c.in_ok-needs.ensures in
     let next : c.max.result ≡ next_rowset c.args.meta.now.next_rowset records = (let told = c.in_ok-named.ensures.next_is in let greater = c.max.ensures in omega arith) in
     made_opened c.args.meta.now c.requires.rules records c.requires.log c.args.rowsets.items c.requires.numbers c.args.cells c.in_ok-needs.needs c.in_ok-stores.stores b c.replay.new.stores c.in-Ok.ensures.does
-    c.stores_of.result c.stores_of.ensures.pool c.stores_of.ensures.shelf c.stores_of.ensures.frozen columns stores c.in-Ok.queued c.max.result here c.in-Ok.ensures.owed next
+    c.in_ok-stores_of-in-Ok.field-0 c.in_ok-stores_of-in-Ok.ensures.pool c.in_ok-stores_of-in-Ok.ensures.shelf c.in_ok-stores_of-in-Ok.ensures.frozen columns stores c.in-Ok.queued c.max.result here c.in-Ok.ensures.owed next
 
 pub returns-in-Ok-clause-room : goal.returns-in-Ok-clause-room
 returns-in-Ok-clause-room c = λ stores.
     let records = c.args.records.now in
     let b = c.in_ok-stores.ensures records c.in_ok-named.ensures c.in_ok-needs.ensures in
     made_room c.args.meta.now c.requires.rules records c.requires.log c.args.rowsets.items c.requires.numbers c.args.cells c.in_ok-needs.needs c.in_ok-stores.stores b c.replay.new.stores c.in-Ok.ensures.does
-    c.stores_of.result c.stores_of.ensures.pool c.stores_of.ensures.shelf c.stores_of.ensures.frozen stores
+    c.in_ok-stores_of-in-Ok.field-0 c.in_ok-stores_of-in-Ok.ensures.pool c.in_ok-stores_of-in-Ok.ensures.shelf c.in_ok-stores_of-in-Ok.ensures.frozen stores
 
 pub returns-in-Ok-clause-fits : goal.returns-in-Ok-clause-fits
 returns-in-Ok-clause-fits c = λ fill.
@@ -89,4 +89,4 @@ pub returns-in-Ok-clause-files : goal.returns-in-Ok-clause-files
 returns-in-Ok-clause-files c =
     let records = c.args.records.now in
     let b = c.in_ok-stores.ensures records c.in_ok-named.ensures c.in_ok-needs.ensures in
-    subst (AreReadOf (map held_in c.args.rowsets.items)) (sym (c.stores_of.ensures.files ∙ c.in-Ok.ensures.does.ends.files)) (rowsets_read (named_by records) c.args.meta.now.rowsets c.args.rowsets.items c.in_ok-stores.stores.rowsets.items b.rowsets)
+    subst (AreReadOf (map held_in c.args.rowsets.items)) (sym (c.in_ok-stores_of-in-Ok.ensures.files ∙ c.in-Ok.ensures.does.ends.files)) (rowsets_read (named_by records) c.args.meta.now.rowsets c.args.rowsets.items c.in_ok-stores.stores.rowsets.items b.rowsets)

@@ -9,7 +9,7 @@ invariant_of-self g c =
     let r = g.R.RowStore in
     let i = c.self.inside in
     let same = ap (λ (p : Contents). p.places) c.release.ensures in
-    ((pool_same r.stands r.owns r.target r.store r.is_closed r.cells c.frame_law.ensures c.placed_law.ensures i.active i.frozen.items i.rowsets.items i.pool c.release.new.self c.self.invariant.0 same).0, c.self.invariant.1)
+    ((pool_same r.stands r.owns r.target r.store r.is_closed r.cells c.frame_law.ensures c.placed_law.ensures i.active i.frozen.items i.rowsets.items i.pool c.release.new.self c.self.invariant.0 same).0, c.self.invariant.1, c.self.invariant.2)
 
 pub returns : goal.returns
 returns g c =

@@ -9,7 +9,7 @@ invariant_of-self g c =
     let r = g.R.RowStore in
     let i = c.self.inside in
     let same = places_reserved c.reserve.result i.pool c.reserve.new.self (i.pool.reserved + c.args.n) c.reserve.ensures.ok c.reserve.ensures.err in
-    ((pool_same r.stands r.owns r.target r.store r.is_closed r.cells c.frame_law.ensures c.placed_law.ensures i.active i.frozen.items i.rowsets.items i.pool c.reserve.new.self c.self.invariant.0 same).0, c.self.invariant.1)
+    ((pool_same r.stands r.owns r.target r.store r.is_closed r.cells c.frame_law.ensures c.placed_law.ensures i.active i.frozen.items i.rowsets.items i.pool c.reserve.new.self c.self.invariant.0 same).0, c.self.invariant.1, c.self.invariant.2)
 
 pub returns-clause-ok : goal.returns-clause-ok
 returns-clause-ok g c =

@@ -8,5 +8,5 @@ returns-clause-copied g c =
     are_copied g.R.Read.StoreRows.row_of (record { t = c.args.t; mark = c.mark-mark.result; views = c.in_ok-views.views }) (suc c.self.inside.stores.frozen) (stores_of c.self.inside.stores) c.self.inside.fill c.in_ok-views.ensures
 
 pub returns-clause-shows : goal.returns-clause-shows
-returns-clause-shows g c = shows_views g.R.Read.StoreRows.row_of g.C.Clock.readings _ _ (record { t = c.args.t; mark = c.mark-mark.result; views = c.in_ok-views.views })
-    c.self.inside.stores.frozen (stores_of c.self.inside.stores) c.self.inside.fill c.self.view_is c.self.invariant.0 refl c.standing.ensures.memory c.mark-mark.ensures c.in_ok-views.ensures c.requires
+returns-clause-shows g c settled = shows_views g.R.Read.StoreRows.row_of g.C.Clock.readings _ _ (record { t = c.args.t; mark = c.mark-mark.result; views = c.in_ok-views.views })
+    c.self.inside.stores.frozen (stores_of c.self.inside.stores) c.self.inside.fill c.self.view_is c.self.invariant.0 refl c.standing.ensures.memory c.mark-mark.ensures c.in_ok-views.ensures settled

@@ -1,4 +1,4 @@
-use Rattle.std.proofs.Common.{◌≡◌, ◌++◌, ℕ, map, length, length-append, inr, sym, ap, subst, ◌∙◌, arith, true}
+use Rattle.std.proofs.Common.{◌++◌, map, length, length-append, inr, sym, ap, subst, ◌∙◌, arith, true}
 use Rattle.std.specs.Prelude.{take, drop}
 use Rattle.std.specs.List.{filter}
 use Rattle.std.proofs.lemmas.List.{map-append}
@@ -22,8 +22,8 @@ empty_upto-requires-clause-stand c = let i = c.self.inside in frozen_in IsStore 
 pub empty_upto-requires-clause-apart : goal.empty_upto-requires-clause-apart
 empty_upto-requires-clause-apart c = let i = c.self.inside in frozen_apart IsStore Owns shelved_rowset i.pool i.frozen.items (map inr i.rowsets.items) c.self.invariant.0.apart.1
 
-pub put_behind-requires-clause-room : goal.put_behind-requires-clause-room
-put_behind-requires-clause-room c =
+pub come_behind-requires-clause-room : goal.come_behind-requires-clause-room
+come_behind-requires-clause-room c =
     let i = c.self.inside in
     let n = count i.active i.frozen.items i.rowsets.items in
     let m = length-shelf read_either i.pool (kept i.active i.frozen.items i.rowsets.items) in
@@ -42,11 +42,12 @@ invariant_of-self c =
     let n = count i.active i.frozen.items i.rowsets.items in
     let m = length-shelf read_either i.pool (kept i.active i.frozen.items i.rowsets.items) in
     let v = ap (λ (v : StoresView). length v.shelf) c.self.view_is in
-    let l = ap length c.put_behind.ensures ∙ length-append i.rowsets.items c.args.outputs.items in
+    let l = ap length c.come_behind.ensures.rowsets ∙ length-append i.rowsets.items c.args.outputs.items in
     let few = c.requires.few in (
-      kept_along IsStore Owns shelved_rowset i.active left c.empty_upto.new.stores.items (i.rowsets.items ++ c.args.outputs.items) c.put_behind.new.stores.items c.empty_upto.new.pool (sym c.empty_upto.ensures.left) (sym c.put_behind.ensures)
+      kept_along IsStore Owns shelved_rowset i.active left c.empty_upto.new.stores.items (i.rowsets.items ++ c.args.outputs.items) c.come_behind.new.rowsets.items c.empty_upto.new.pool (sym c.empty_upto.ensures.left) (sym c.come_behind.ensures.rowsets)
           (kept_flushed still i.active i.frozen.items i.rowsets.items c.args.outputs.items i.pool c.empty_upto.new.pool c.self.invariant.0 fresh c.args.last gone),
       omega arith,
+      c.come_behind.ensures.ranged,
     )
 
 pub returns-clause-shelf : goal.returns-clause-shelf
@@ -55,8 +56,8 @@ returns-clause-shelf c =
     let still = stay IsStore Owns name_of store_of (λ s. true) cells_had stays is_placed in
     let fresh = subst (λ (v : StoresView). AreNew v.pool c.args.outputs.items) (sym c.self.view_is) c.requires.outputs in
     let gone = subst (λ fs. HaveLeft mem.IsStore mem.Owns shelved_mem i.frozen.items fs i.pool c.empty_upto.new.pool) c.empty_upto.ensures.left c.empty_upto.ensures.gone in
-    ap (λ fs. shelf_of read_either c.empty_upto.new.pool (kept i.active fs c.put_behind.new.stores.items)) c.empty_upto.ensures.left
-    ∙ ap (λ rs. shelf_of read_either c.empty_upto.new.pool (kept i.active (filter (stays_behind c.args.last) i.frozen.items) rs)) c.put_behind.ensures
+    ap (λ fs. shelf_of read_either c.empty_upto.new.pool (kept i.active fs c.come_behind.new.rowsets.items)) c.empty_upto.ensures.left
+    ∙ ap (λ rs. shelf_of read_either c.empty_upto.new.pool (kept i.active (filter (stays_behind c.args.last) i.frozen.items) rs)) c.come_behind.ensures.rowsets
     ∙ shelf_flushed still i.active i.frozen.items i.rowsets.items c.args.outputs.items i.pool c.empty_upto.new.pool c.self.invariant.0 fresh c.args.last gone
     ∙ ap (λ (v : StoresView). shelf_over (mems c.args.last) (map (λ r. shelved_rowset r v.pool) c.args.outputs.items) v.shelf) c.self.view_is
 
@@ -69,5 +70,5 @@ returns-clause-frozen c =
 pub returns-clause-files : goal.returns-clause-files
 returns-clause-files c =
     let i = c.self.inside in
-    ap (map held_of) c.put_behind.ensures ∙ map-append held_of i.rowsets.items c.args.outputs.items
+    ap (map held_of) c.come_behind.ensures.rowsets ∙ map-append held_of i.rowsets.items c.args.outputs.items
     ∙ ap (λ (v : StoresView). v.files ++ map held_of c.args.outputs.items) c.self.view_is

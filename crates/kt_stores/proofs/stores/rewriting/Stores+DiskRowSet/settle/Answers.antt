@@ -1,16 +1,17 @@
-use Rattle.std.proofs.Common.{◌≡◌, ◌-◌, ◌∙◌, ◌+◌, ℕ, Some, true, refl, sym, ap, map, length, length-set, arith}
-use Rattle.kt_history.specs.Stores.{Store}
+use Rattle.std.proofs.Common.{◌≡◌, ◌-◌, ◌∙◌, ℕ, true, refl, sym, ap, map, length-set, arith}
 use Rattle.kt_diskrowset.specs.Rowset.{HeldFiles, IsStore, Owns, held_of, name_of, store_of, cells_had}
-use Rattle.kt_diskrowset.specs.Data.{held_in}
+use Rattle.kt_diskrowset.specs.Data.{held_in, store_in}
+use Rattle.kt_diskrowset.specs.Held.{keys_held}
 use Rattle.kt_histlaws.specs.Histories.{on_nth}
 use Rattle.kt_diskrowset.proofs.Rowsets.{stays, is_placed}
-use Rattle.kt_stores.specs.Shelf.{StoresView, Shelved, stores_of, names_of, renamed}
-use Rattle.kt_stores.specs.Parts.{kept, shelved, read_by, shelf_of}
+use Rattle.kt_stores.specs.Shelf.{StoresView, stores_of, names_of}
+use Rattle.kt_stores.specs.Parts.{shelved}
 use Rattle.kt_stores.proofs.Either.{placed_by}
 use Rattle.kt_stores.proofs.Standing.{stay}
 use Rattle.kt_stores.proofs.Reaching.{place, low, stands_here, stored_here, named_here}
-use Rattle.kt_stores.proofs.Freezing.{frozen_shrunk, frozen_read, same_shrunk, same_read, settled_shrunk}
-use Rattle.kt_stores.proofs.Rewritten.{kept_now, shelf_now, stores_now, names_now, renamed_now, unchanged_now, some_same, filed_now}
+use Rattle.kt_stores.proofs.Freezing.{settled_shrunk}
+use Rattle.kt_stores.proofs.Ranged.{keys_settled, ranged_settled}
+use Rattle.kt_stores.proofs.Rewritten.{kept_now, stores_now, names_now, some_same, filed_now}
 use Rattle.kt_stores.proofs.stores.rewriting.Stores+DiskRowSet.settle.Goals as goal
 
 pub settle-requires-clause-stands : goal.settle-requires-clause-stands
@@ -36,7 +37,9 @@ invariant_of-self c =
     let y = c.settle.new.self in
     let is = c.index_mut.ensures.value in
     let st = stands_here IsStore Owns (shelved name_of store_of (λ s. true) cells_had) i.active i.frozen.items i.rowsets.items i.pool c.args.self.now c.self.view_is c.self.invariant.0 c.args.at c.frozen-memory.result c.frozen-memory.ensures c.requires.behind c.requires.within x is in
-    (kept_now IsStore Owns (shelved name_of store_of (λ s. true) cells_had) (stay IsStore Owns name_of store_of (λ s. true) cells_had stays is_placed) (placed_by IsStore Owns (shelved name_of store_of (λ s. true) cells_had) is_placed) i.active i.frozen.items i.rowsets.items c.args.at j x y i.pool c.settle.new.pool (place IsStore Owns (shelved name_of store_of (λ s. true) cells_had) i.active i.frozen.items i.rowsets.items i.pool c.args.self.now c.self.view_is c.self.invariant.0 c.args.at c.frozen-memory.result c.frozen-memory.ensures c.requires.behind c.requires.within) (low IsStore Owns (shelved name_of store_of (λ s. true) cells_had) i.active i.frozen.items i.rowsets.items i.pool c.args.self.now c.self.view_is c.self.invariant.0 c.args.at c.frozen-memory.result c.frozen-memory.ensures c.requires.behind c.requires.within) is c.self.invariant.0 (settled_shrunk x y i.pool c.settle.new.pool c.settle.ensures.settled) c.settle.ensures.settled.cells refl c.settle.ensures.settled.store (λ none. let few = c.settle.ensures.settled.fewer in omega (arith, few, none)), let many = length-set i.rowsets.items j y in let few = c.self.invariant.1 in omega (arith, many, few))
+    let told : store_in c.args.rowset ≡ store_of c.index_mut.result.now c.self.inside.pool = some_same _ _ (sym c.requires.store ∙ stored_here IsStore Owns (shelved name_of store_of (λ s. true) cells_had) i.active i.frozen.items i.rowsets.items i.pool c.args.self.now c.self.view_is c.self.invariant.0 c.args.at c.frozen-memory.result c.frozen-memory.ensures c.requires.behind c.requires.within x is) in
+    let keys : keys_held (held_of c.settle.new.self) ≡ keys_held (held_of c.index_mut.result.now) = ap keys_held c.settle.ensures.held ∙ keys_settled c.args.rowset x i.pool told in
+    (kept_now IsStore Owns (shelved name_of store_of (λ s. true) cells_had) (stay IsStore Owns name_of store_of (λ s. true) cells_had stays is_placed) (placed_by IsStore Owns (shelved name_of store_of (λ s. true) cells_had) is_placed) i.active i.frozen.items i.rowsets.items c.args.at j x y i.pool c.settle.new.pool (place IsStore Owns (shelved name_of store_of (λ s. true) cells_had) i.active i.frozen.items i.rowsets.items i.pool c.args.self.now c.self.view_is c.self.invariant.0 c.args.at c.frozen-memory.result c.frozen-memory.ensures c.requires.behind c.requires.within) (low IsStore Owns (shelved name_of store_of (λ s. true) cells_had) i.active i.frozen.items i.rowsets.items i.pool c.args.self.now c.self.view_is c.self.invariant.0 c.args.at c.frozen-memory.result c.frozen-memory.ensures c.requires.behind c.requires.within) is c.self.invariant.0 (settled_shrunk x y i.pool c.settle.new.pool c.settle.ensures.settled) c.settle.ensures.settled.cells refl c.settle.ensures.settled.store (λ none. let few = c.settle.ensures.settled.fewer in omega (arith, few, none)), (let many = length-set i.rowsets.items j y in let few = c.self.invariant.1 in omega (arith, many, few)), ranged_settled held_of i.rowsets.items j x y i.ranges (low IsStore Owns (shelved name_of store_of (λ s. true) cells_had) i.active i.frozen.items i.rowsets.items i.pool c.args.self.now c.self.view_is c.self.invariant.0 c.args.at c.frozen-memory.result c.frozen-memory.ensures c.requires.behind c.requires.within) is keys c.self.invariant.2)
 
 pub returns-clause-stores : goal.returns-clause-stores
 returns-clause-stores c =
