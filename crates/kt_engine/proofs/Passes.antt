@@ -168,7 +168,7 @@ pub said_nothing : (x u : Upkeep) (w : Want) (asks : ℕ) → u ≡ record x { a
     → (upkeep_of u).1 ≡ asked_for_nothing w (upkeep_of x).1
 said_nothing x u w asks is struck more none =
     let job : option_map (job_in w) x.job ≡ option_map (job_in x.want) x.job = ap (option_map (job_in w)) none ∙ sym (ap (option_map (job_in x.want)) none) in
-    ap (λ (v : Upkeep). (upkeep_of v).1) is ∙ (λ i. record { asks = more i; last = nothing w; round = x.round; rounds = x.rounds; todo = struck i; job = job i })
+    ap (λ (v : Upkeep). (upkeep_of v).1) is ∙ (λ i. record { asks = more i; last = nothing w; round = x.round; rounds = x.rounds; todo = struck i; job = job i; done = (upkeep_of x).1.done })
 
 -- ---- where the first of a pass stands
 

@@ -14,6 +14,7 @@ use Rattle.kt_super.specs.declared.meta.MetaRowset.{MetaRowset}
 use Rattle.kt_pick.specs.declared.rules.Want.{Want}
 use Rattle.kt_pick.specs.declared.rules.Want.TheVariants as want
 use Rattle.kt_diskrowset.specs.declared.data.RowSetData.{RowSetData}
+use Rattle.kt_diskrowset.specs.declared.inputs.Inputs.{Inputs}
 use Rattle.kt_diskrowset.specs.Rowset.{HeldFiles}
 use Rattle.kt_files.specs.Content.{rowsets_in}
 use Rattle.kt_stores.specs.Takes.{Takes, mems, rowsets}
@@ -26,9 +27,9 @@ use Rattle.kt_engine.specs.declared.upkeep.Stage.TheVariants as stage
 -- ---- what a pass has
 
 -- A job: its number, how far it has come, its bound and its mark; the disk rowsets that it takes; the last MemRowSet that a flush froze, or the one that took inserts
--- as a compaction began; how many records the log had as it began, and the first rowset and file numbers that its turns may use; from its swap on its outputs, as a superblock names them and as their files have them, and how many disk rowsets
--- there is room for beside them; and from then on, as it publishes, the number of its superblock. Of a job on the files of one disk rowset the number of that, the
--- last DeltaMemStore that it reads, and the rowset as it was written.
+-- as a compaction began; how many records the log had as it began, and the first rowset and file numbers that its turns may use; what was handed out to it; from its swap on its outputs, as a superblock names them and as their files have them, and how many disk
+-- rowsets there is room for beside them; and from then on, as it publishes, the number of its superblock. Of a job on the files of one disk rowset the number of that,
+-- the last DeltaMemStore that it reads, the rowset as it was handed out, and as it was written.
 pub record JobView : Type 0 where
   pub number : ℕ
   pub want : Want
@@ -40,12 +41,14 @@ pub record JobView : Type 0 where
   pub many : ℕ
   pub first_rowset : ℕ
   pub first_file : ℕ
+  pub inputs : Option Inputs
   pub metas : List MetaRowset
   pub held : List HeldFiles
   pub room : ℕ
   pub super : ℕ
   pub rowset : ℕ
   pub dms : ℕ
+  pub read : Option RowSetData
   pub output : Option RowSetData
 
 -- What a job takes once its superblock is published: disk rowsets, or the frozen MemRowSets where it has none
@@ -70,7 +73,7 @@ pub data Last : Type 0 where
   abandoned : Want → Last
 
 -- What a pass has of maintenance: how often it asked for a job and how the last ask ended; the chore of its last round, how many rounds there were, and what is
--- still to do of it; and its job.
+-- still to do of it; its job; and the last of its jobs that was finished, as it was at its end.
 pub record UpkeepView : Type 0 where
   pub asks : ℕ
   pub last : Last
@@ -78,10 +81,11 @@ pub record UpkeepView : Type 0 where
   pub rounds : ℕ
   pub todo : List Want
   pub job : Option JobView
+  pub done : Option JobView
 
 -- that of a pass which has not asked
 abbrev pub idle : UpkeepView
-idle = record { asks = 0; last = none; round = None; rounds = 0; todo = []; job = None }
+idle = record { asks = 0; last = none; round = None; rounds = 0; todo = []; job = None; done = None }
 
 -- all passes that asked, how many jobs have begun, and the pass whose job has its superblock lent or published and is not over
 pub record UpkeepsView : Type 0 where
@@ -122,9 +126,9 @@ asked w job u = record u { asks = more (2 ^ 64 - 1) u.asks; last = begun w; job 
 abbrev pub asked_for_nothing : Want → UpkeepView → UpkeepView
 asked_for_nothing w u = record u { asks = more (2 ^ 64 - 1) u.asks; last = nothing w; todo = without_want w u.todo }
 
--- the job has ended
+-- the job has ended, and what it was is kept
 abbrev pub job_finished : Want → UpkeepView → UpkeepView
-job_finished w u = record u { last = finished w; todo = without_want w u.todo; job = None }
+job_finished w u = record u { last = finished w; todo = without_want w u.todo; job = None; done = u.job }
 
 abbrev pub job_abandoned : Want → UpkeepView → UpkeepView
 job_abandoned w u = record u { last = abandoned w; job = None }

@@ -1,6 +1,7 @@
 -- What the fields of a pass's maintenance mean.
-use Rattle.std.specs.Prelude.{◌≡◌, ◌≢◌, ◌⊎◌, ℕ, List, [], ◌∷◌, map}
+use Rattle.std.specs.Prelude.{◌≡◌, ◌≢◌, ◌⊎◌, ℕ, List, [], ◌∷◌, map, Option}
 use Rattle.std.specs.Option.{option_map}
+use Rattle.std.specs.declared.snapshot.Snapshot.{Snapshot}
 use Rattle.kt_pick.specs.declared.rules.Want.{Want}
 use Rattle.kt_diskrowset.specs.Rowset.{held_of}
 use Rattle.kt_engine.specs.declared.upkeep.Job.{Job}
@@ -8,6 +9,10 @@ use Rattle.kt_engine.specs.declared.upkeep.Last.{Last as LastStep}
 use Rattle.kt_engine.specs.declared.upkeep.Last.TheVariants as step
 use Rattle.kt_engine.specs.declared.upkeep.Upkeep.{Upkeep}
 use Rattle.kt_engine.specs.Jobs.{JobView, Last, none, nothing, begun, finished, abandoned, UpkeepView}
+
+-- what a snapshot keeps, if there is one
+abbrev pub kept_in : {A : Type 0} → Option (Snapshot A) → Option A
+kept_in {A} kept = option_map (λ (s : Snapshot A). s.value) kept
 
 -- a job of this want
 abbrev pub job_in : Want → Job → JobView
@@ -22,12 +27,14 @@ job_in w j = record {
   many = j.many;
   first_rowset = j.first_rowset;
   first_file = j.first_file;
+  inputs = kept_in j.inputs;
   metas = j.outputs.metas;
   held = map held_of j.outputs.rowsets;
   room = j.outputs.room;
   super = j.superblock;
   rowset = j.rowset;
   dms = j.dms;
+  read = kept_in j.read;
   output = j.output;
 }
 
@@ -40,7 +47,7 @@ last_of step.Finished w = finished w
 last_of step.Abandoned w = abandoned w
 
 abbrev pub upkeep_of : Upkeep → ℕ × UpkeepView
-upkeep_of u = (u.pass, record { asks = u.asks; last = last_of u.last u.want; round = u.round; rounds = u.rounds; todo = u.todo.items; job = option_map (job_in u.want) u.job })
+upkeep_of u = (u.pass, record { asks = u.asks; last = last_of u.last u.want; round = u.round; rounds = u.rounds; todo = u.todo.items; job = option_map (job_in u.want) u.job; done = option_map (job_in u.done_want.value) u.done.value })
 
 -- none is of this pass
 abbrev pub Lacks : ℕ → List Upkeep → Type 0

@@ -36,6 +36,7 @@ use kt_storeside::Lent;
 use kt_super::{Meta, MetaRowset, MetaRowsets};
 use kt_tablet::LookNo;
 use std::alloc::Global;
+use std::snapshot::Snapshot;
 
 /// A superblock spells numbers below this one.
 const SMALL: u64 = 1 << 62;
@@ -142,10 +143,12 @@ impl<L: Disk, D: Disk + Drop, C: Clock> Engine<L, D, C> {
             many: 0,
             first_rowset: 0,
             first_file: 0,
+            inputs: None,
             outputs: JobOutputs::none(alloc),
             superblock: 0,
             rowset,
             dms: 0,
+            read: None,
             output: None,
         };
         self.upkeep.begin(number, asked, job)
@@ -213,7 +216,7 @@ impl<L: Disk, D: Disk + Drop, C: Clock> Engine<L, D, C> {
         requires free { self.old.upkeep.publishing ≡ None }
         requires stage { (job : JobView) × IsAtStage self.old.upkeep number Stage.Begun job }
         ensures visit { IsVisit number self.old self.new }
-        ensures read { IfOk result (λ d. (job : JobView) → job_of number self.old.upkeep ≡ Some job → (dms : ℕ) × IsRead self.old.tablet job.rowset dms d × AtNewStage number (record job { stage = Stage.Read; dms = dms }) self.old self.new) }
+        ensures read { IfOk result (λ d. (job : JobView) → job_of number self.old.upkeep ≡ Some job → (dms : ℕ) × IsRead self.old.tablet job.rowset dms d × AtNewStage number (record job { stage = Stage.Read; dms = dms; read = Some d }) self.old self.new) }
         ensures held { IfOk result (λ d. files_of d.number self.old.tablet.files ≡ Some (held_in d)) }
         ensures filed { IfOk result (λ d. IsFiled D.tells (D.seen self.old.store.known) self.old.store.meta.rowsets d.number (held_in d)) }
         ensures waits { (ts : ℕ) → result ≡ Err (JobWait.NotYet ts) ↔ (self.old.tablet.core.stopped ≡ false) × (first_flying self.old.tablet ≡ Some ts) }
@@ -227,7 +230,7 @@ impl<L: Disk, D: Disk + Drop, C: Clock> Engine<L, D, C> {
             return Err(JobWait::NotYet { ts });
         }
         let (rowset, dms) = self.read_deltas(alloc, number)?;
-        self.upkeep.read_deltas(number, dms);
+        self.upkeep.read_deltas(number, dms, Snapshot::of(&rowset));
         Ok(rowset)
     }
 

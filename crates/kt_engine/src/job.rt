@@ -1,5 +1,5 @@
 //! The life of a job: it begins, its inputs are read, its outputs come, and it is finished or given up.
-ghost use Rattle.std.specs.Prelude.{◌≡◌, ◌≢◌, ◌≤◌, ◌<◌, ◌^◌, ◌+◌, ◌-◌, ◌⊎◌, ◌↔◌, ℕ, List, is_some, IsTrue, IfOk, IfErr, OnOk, OnErr, Ok, Err, Some, None, true, false, [], length, map, nat_le, vec_capacity};
+ghost use Rattle.std.specs.Prelude.{◌≡◌, ◌≢◌, ◌≤◌, ◌<◌, ◌^◌, ◌+◌, ◌-◌, ◌⊎◌, ◌↔◌, ℕ, List, is_some, IsTrue, IfOk, IfErr, OnOk, OnErr, Ok, Err, Some, None, true, false, [], length, map, nat_le};
 ghost use Rattle.std.specs.List.{AllByRecursion, sum_by};
 ghost use Rattle.kt_history.specs.History.{Past};
 ghost use Rattle.kt_content.specs.Rules.{Rules};
@@ -36,9 +36,11 @@ use kt_history::ChangeList;
 use kt_outputs::MissedFiles;
 use kt_pick::Want;
 use kt_policy::IdList;
+use kt_stores::RangedRowSets;
 use kt_super::Meta;
 use kt_tablet::{LookNo, Tablet};
 use std::alloc::Global;
+use std::snapshot::Snapshot;
 use thiserror::Error;
 
 /// Why no job begins.
@@ -143,13 +145,13 @@ fn leave_to<C: Clock>(
     tablet: &mut Tablet<DiskRowSet, C>,
     taken: &[u64],
     last: u64,
-    outputs: Vec<DiskRowSet>,
-    room: Vec<DiskRowSet>,
+    outputs: RangedRowSets<DiskRowSet>,
+    room: RangedRowSets<DiskRowSet>,
 )
     requires calm { tablet.old.core.aloft ≡ [] }
     requires outputs { AreNew tablet.old.pool outputs.items }
     requires vacant { room.items ≡ [] }
-    requires room { length tablet.old.core.stores + length outputs.items ≤ vec_capacity room + tablet.old.frozen + 1 }
+    requires room { length tablet.old.core.stores + length outputs.items ≤ room.room + tablet.old.frozen + 1 }
     requires few { length tablet.old.core.stores + length outputs.items < 2 ^ 32 }
     requires may { MayChangeOver tablet.old (takes_by taken.now last) (map (λ r. store_of r tablet.old.pool) outputs.items) }
     ensures { HasChangedOver tablet.old tablet.new (takes_by taken.now last) (map (λ r. store_of r tablet.old.pool) outputs.items) (map name_of outputs.items) (map held_of outputs.items) }
@@ -417,10 +419,12 @@ impl<L: Disk, D: Disk + Drop, C: Clock> Engine<L, D, C> {
             many: self.log.count(),
             first_rowset,
             first_file,
+            inputs: None,
             outputs: JobOutputs::none(alloc),
             superblock: 0,
             rowset: 0,
             dms: 0,
+            read: None,
             output: None,
         };
         self.tablet.standing();
@@ -452,10 +456,12 @@ impl<L: Disk, D: Disk + Drop, C: Clock> Engine<L, D, C> {
             many: self.log.count(),
             first_rowset,
             first_file,
+            inputs: None,
             outputs: JobOutputs::none(alloc),
             superblock: 0,
             rowset: 0,
             dms: 0,
+            read: None,
             output: None,
         };
         self.tablet.standing();
@@ -527,7 +533,7 @@ impl<L: Disk, D: Disk + Drop, C: Clock> Engine<L, D, C> {
         requires stage { (job : JobView) × IsAtStage self.old.upkeep number Stage.Begun job }
         ensures visit { IsVisit number self.old self.new }
         ensures read { IfOk result (λ input. (job : JobView) → job_of number self.old.upkeep ≡ Some job → HasInput self.old.tablet job.taken input.inputs input.bound input.mark
-            × AtNewStage number (record job { stage = Stage.Read; bound = input.bound; mark = input.mark }) self.old self.new) }
+            × AtNewStage number (record job { stage = Stage.Read; bound = input.bound; mark = input.mark; inputs = Some input.inputs }) self.old self.new) }
         ensures columns { IfOk result (λ input. input.inputs.columns ≡ map shape_of (other_columns self.old.store.meta.schema)) }
         ensures faultless { IfOk result (λ input. (first : Past) → IsFound self.old first → AreFaultless (record { mark = input.mark; bound = input.bound }) input.inputs) }
         ensures tells { IfOk result (λ input. (job : JobView) (first : Past) → job_of number self.old.upkeep ≡ Some job → IsFound self.old first → TellAll self.old.tablet job.taken input.bound input.inputs) }
@@ -546,7 +552,8 @@ impl<L: Disk, D: Disk + Drop, C: Clock> Engine<L, D, C> {
             return Err(JobWait::Memory);
         };
         let input = self.read_inputs(alloc, job.taken.as_slice())?;
-        self.upkeep.read(number, input.bound, input.mark);
+        let inputs = Snapshot::of(&input.inputs);
+        self.upkeep.read(number, input.bound, input.mark, inputs);
         Ok(input)
     }
 

@@ -1,5 +1,5 @@
 //! The outputs of a job: new disk rowsets, and these as a superblock names them.
-ghost use Rattle.std.specs.Prelude.{◌≡◌, ◌≤◌, ◌+◌, [], true, map, length, vec_capacity, IfOk};
+ghost use Rattle.std.specs.Prelude.{◌≡◌, ◌≤◌, ◌+◌, [], true, map, length, IfOk};
 ghost use Rattle.std.specs.List.{AllByRecursion};
 ghost use Rattle.kt_diskrowset.specs.Data.{held_in, files_in};
 ghost use Rattle.kt_diskrowset.specs.Rows.{UndosLeadBack};
@@ -10,26 +10,27 @@ ghost use Rattle.kt_engine.specs.Outputs.{AreOutputs, AreMade};
 use kt_base::NoMemory;
 use kt_diskrowset::{DiskRowSet, Outputs, RowSetData};
 use kt_outputs::named_rowset;
+use kt_stores::RangedRowSets;
 use kt_super::MetaRowset;
 use std::alloc::Global;
 use std::marker::Model;
 
-/// Disk rowsets without a change in memory, and these as a superblock names them, in the same order, with an empty vector for them and others. Contracts see the
+/// Disk rowsets without a change in memory, and these as a superblock names them, in the same order, with an empty list for them and others. Contracts see the
 /// first two, and how many the last has room for.
 #[derive(Drop)]
 pub struct JobOutputs {
-    rowsets: Vec<DiskRowSet>,
+    rowsets: RangedRowSets<DiskRowSet>,
     metas: Vec<MetaRowset>,
-    room: Vec<DiskRowSet>,
+    room: RangedRowSets<DiskRowSet>,
 }
 
 impl Model for JobOutputs {
-    ghost use Rattle.std.specs.Prelude.{◌≡◌, [], vec_capacity};
+    ghost use Rattle.std.specs.Prelude.{◌≡◌, []};
     ghost use Rattle.kt_engine.specs.Outputs.{OutputsView, AreOutputs};
 
     ghost Value = { OutputsView };
 
-    ghost view = { λ o. record { rowsets = o.rowsets.items; metas = o.metas.items; room = vec_capacity o.room } };
+    ghost view = { λ o. record { rowsets = o.rowsets.items; metas = o.metas.items; room = o.room.room } };
 
     ghost invariant = { λ o. AreOutputs o.metas.items o.rowsets.items × (o.room.items ≡ []) };
 }
@@ -71,13 +72,17 @@ fn made(alloc: Global, rowsets: Vec<RowSetData>) -> Result<Vec<DiskRowSet>, NoMe
     Ok(made)
 }
 
-// An empty vector with room for so many disk rowsets and so many others.
-fn room_for(alloc: Global, count: usize, others: usize) -> Result<Vec<DiskRowSet>, NoMemory>
+// An empty list with room for so many disk rowsets and so many others.
+fn room_for(
+    alloc: Global,
+    count: usize,
+    others: usize,
+) -> Result<RangedRowSets<DiskRowSet>, NoMemory>
     ensures none { IfOk result (λ room. room.items ≡ []) }
-    ensures room { IfOk result (λ room. others + count ≤ vec_capacity room) }
+    ensures room { IfOk result (λ room. others + count ≤ room.room) }
 {
     let room = count.checked_add(others).ok_or(NoMemory)?;
-    Ok(Vec::with_capacity(alloc, room)?)
+    RangedRowSets::with_room(alloc, room)
 }
 
 impl JobOutputs {
@@ -86,9 +91,9 @@ impl JobOutputs {
         ensures { (result.rowsets ≡ []) × (result.metas ≡ []) }
     {
         JobOutputs {
-            rowsets: Vec::new(alloc),
+            rowsets: RangedRowSets::empty(alloc),
             metas: Vec::new(alloc),
-            room: Vec::new(alloc),
+            room: RangedRowSets::empty(alloc),
         }
     }
 
@@ -102,7 +107,8 @@ impl JobOutputs {
     {
         let metas = metas_of(alloc, outputs.rowsets.as_slice())?;
         let room = room_for(alloc, outputs.rowsets.len(), others)?;
-        let rowsets = made(alloc, outputs.rowsets.into_vec())?;
+        let all = made(alloc, outputs.rowsets.into_vec())?;
+        let rowsets = RangedRowSets::of(alloc, all)?;
         Ok(JobOutputs {
             rowsets,
             metas,
@@ -114,7 +120,7 @@ impl JobOutputs {
     pub fn len(&self) -> usize
         ensures { result ≡ length self.now.rowsets }
     {
-        self.rowsets.len()
+        self.rowsets.as_slice().len()
     }
 
     /// As a superblock names them.
@@ -124,10 +130,10 @@ impl JobOutputs {
         &self.metas
     }
 
-    /// The disk rowsets, which stand in each pool as their files have them, and the empty vector.
-    pub fn into_parts(self) -> (Vec<DiskRowSet>, Vec<DiskRowSet>)
+    /// The disk rowsets, which stand in each pool as their files have them, and the empty list.
+    pub fn into_parts(self) -> (RangedRowSets<DiskRowSet>, RangedRowSets<DiskRowSet>)
         ensures rowsets { result.0.items ≡ self.rowsets }
-        ensures room { (result.1.items ≡ []) × (vec_capacity result.1 ≡ self.room) }
+        ensures room { (result.1.items ≡ []) × (result.1.room ≡ self.room) }
         ensures stand { AreOutputs self.metas self.rowsets }
     {
         (self.rowsets, self.room)

@@ -11,11 +11,12 @@ ghost use Rattle.kt_engine.specs.Upkeeps.{upkeep_of, job_in, IsThere};
 
 use crate::outputs::JobOutputs;
 use kt_base::{Chore, NoMemory};
-use kt_diskrowset::RowSetData;
+use kt_diskrowset::{Inputs, RowSetData};
 use kt_pick::Want;
 use kt_policy::IdList;
 use std::alloc::Global;
 use std::marker::Model;
+use std::snapshot::Snapshot;
 
 /// How far a job has come.
 #[derive(Clone, Copy, PartialEq, Eq)]
@@ -62,12 +63,16 @@ pub struct Job {
     /// The numbers of the next rowset and of the next file as it began.
     pub first_rowset: u64,
     pub first_file: u64,
+    /// What was handed out to it, for contracts alone.
+    pub inputs: Option<Snapshot<Inputs>>,
     pub outputs: JobOutputs,
     /// The number of the superblock that it publishes.
     pub superblock: u64,
-    /// The disk rowset whose files it writes again, the last DeltaMemStore that it reads of it, and what it has written.
+    /// The disk rowset whose files it writes again, the last DeltaMemStore that it reads of it, what was handed out of it, for contracts alone, and what it has
+    /// written.
     pub rowset: u64,
     pub dms: u64,
+    pub read: Option<Snapshot<RowSetData>>,
     pub output: Option<RowSetData>,
 }
 
@@ -83,6 +88,9 @@ pub struct Upkeep {
     pub rounds: u64,
     pub todo: Vec<Want>,
     pub job: Option<Job>,
+    /// The last of its jobs that was finished, as it was at its end, and what that was for. They are for contracts alone.
+    pub done: Snapshot<Option<Job>>,
+    pub done_want: Snapshot<Want>,
 }
 
 /// That of all passes that asked, how many jobs have begun, and the pass whose job publishes. Contracts see it as a list, in which a pass that is not there is
@@ -144,15 +152,19 @@ impl Upkeep {
     fn idle(alloc: Global, pass: u32) -> Upkeep
         ensures { upkeep_of result ≡ (pass, idle) }
     {
+        let want = Want::Flush;
+        let job = None;
         Upkeep {
             pass,
             asks: 0,
             last: Last::None,
-            want: Want::Flush,
             round: None,
             rounds: 0,
             todo: Vec::new(alloc),
-            job: None,
+            done: Snapshot::of(&job),
+            done_want: Snapshot::of(&want),
+            want,
+            job,
         }
     }
 
@@ -221,25 +233,27 @@ impl Upkeep {
     }
 
     // The inputs of its job were handed out.
-    fn read(&mut self, bound: u64, mark: u64)
-        ensures own { (job : JobView) → (upkeep_of self.old).1.job ≡ Some job → (upkeep_of self.new).1 ≡ record (upkeep_of self.old).1 { job = Some (record job { stage = Stage.Read; bound = bound; mark = mark }) } }
+    fn read(&mut self, bound: u64, mark: u64, inputs: Snapshot<Inputs>)
+        ensures own { (job : JobView) → (upkeep_of self.old).1.job ≡ Some job → (upkeep_of self.new).1 ≡ record (upkeep_of self.old).1 { job = Some (record job { stage = Stage.Read; bound = bound; mark = mark; inputs = Some inputs.value }) } }
         ensures pass { self.new.pass ≡ self.old.pass }
     {
         if let Some(job) = &mut self.job {
             job.stage = Stage::Read;
             job.bound = bound;
             job.mark = mark;
+            job.inputs = Some(inputs);
         }
     }
 
     // All that the tablet has of the disk rowset of its job was handed out.
-    fn read_deltas(&mut self, dms: u64)
-        ensures own { (job : JobView) → (upkeep_of self.old).1.job ≡ Some job → (upkeep_of self.new).1 ≡ record (upkeep_of self.old).1 { job = Some (record job { stage = Stage.Read; dms = dms }) } }
+    fn read_deltas(&mut self, dms: u64, read: Snapshot<RowSetData>)
+        ensures own { (job : JobView) → (upkeep_of self.old).1.job ≡ Some job → (upkeep_of self.new).1 ≡ record (upkeep_of self.old).1 { job = Some (record job { stage = Stage.Read; dms = dms; read = Some read.value }) } }
         ensures pass { self.new.pass ≡ self.old.pass }
     {
         if let Some(job) = &mut self.job {
             job.stage = Stage::Read;
             job.dms = dms;
+            job.read = Some(read);
         }
     }
 
@@ -265,12 +279,14 @@ impl Upkeep {
         }
     }
 
-    // Its job is over.
+    // Its job is over, and is kept as what was done last.
     fn finish(&mut self) -> Option<Job>
         ensures own { (job : JobView) → (upkeep_of self.old).1.job ≡ Some job → (upkeep_of self.new).1 ≡ job_finished job.want (upkeep_of self.old).1 }
         ensures job { result ≡ self.old.job }
         ensures pass { self.new.pass ≡ self.old.pass }
     {
+        self.done = Snapshot::of(&self.job);
+        self.done_want = Snapshot::of(&self.want);
         let job = self.job.take();
         self.last = Last::Finished;
         self.strike();
@@ -422,27 +438,27 @@ impl Upkeeps {
     }
 
     /// Its inputs were handed out, with this bound and this mark.
-    pub fn read(&mut self, pass: u32, bound: u64, mark: u64)
+    pub fn read(&mut self, pass: u32, bound: u64, mark: u64, inputs: Snapshot<Inputs>)
         requires job { (job : JobView) × (job_of pass self.old ≡ Some job) }
-        ensures own { (job : JobView) → job_of pass self.old ≡ Some job → HasUpkeep pass (record (upkeep_at pass self.old.passes) { job = Some (record job { stage = Stage.Read; bound = bound; mark = mark }) }) self.old self.new }
+        ensures own { (job : JobView) → job_of pass self.old ≡ Some job → HasUpkeep pass (record (upkeep_at pass self.old.passes) { job = Some (record job { stage = Stage.Read; bound = bound; mark = mark; inputs = Some inputs.value }) }) self.old self.new }
         ensures begun { (self.new.begun ≡ self.old.begun) × (self.new.publishing ≡ self.old.publishing) }
     {
         let Some(at) = self.place(pass) else {
             return;
         };
-        self.passes[at].read(bound, mark);
+        self.passes[at].read(bound, mark, inputs);
     }
 
     /// All that the tablet has of the disk rowset of the job of a pass was handed out, of which this DeltaMemStore takes changes.
-    pub fn read_deltas(&mut self, pass: u32, dms: u64)
+    pub fn read_deltas(&mut self, pass: u32, dms: u64, read: Snapshot<RowSetData>)
         requires job { (job : JobView) × (job_of pass self.old ≡ Some job) }
-        ensures own { (job : JobView) → job_of pass self.old ≡ Some job → HasUpkeep pass (record (upkeep_at pass self.old.passes) { job = Some (record job { stage = Stage.Read; dms = dms }) }) self.old self.new }
+        ensures own { (job : JobView) → job_of pass self.old ≡ Some job → HasUpkeep pass (record (upkeep_at pass self.old.passes) { job = Some (record job { stage = Stage.Read; dms = dms; read = Some read.value }) }) self.old self.new }
         ensures begun { (self.new.begun ≡ self.old.begun) × (self.new.publishing ≡ self.old.publishing) }
     {
         let Some(at) = self.place(pass) else {
             return;
         };
-        self.passes[at].read_deltas(dms);
+        self.passes[at].read_deltas(dms, read);
     }
 
     /// The disk rowset of the job of a pass is written.

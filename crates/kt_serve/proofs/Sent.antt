@@ -26,16 +26,26 @@ use Rattle.kt_storeside.specs.contracts.side.StoreSide.TheInside as Kept
 use Rattle.kt_engine.specs.contracts.engine.Engine as Engine
 use Rattle.kt_engine.specs.contracts.engine.Engine.TheInside as Within
 use Rattle.kt_engine.proofs.running.Running.TheSendSync as running
-use Rattle.kt_engine.proofs.upkeep.Upkeeps.TheSendSync as upkeep
+use Rattle.kt_engine.proofs.outputs.JobOutputs.TheSendSync as outputs
+use Rattle.kt_engine.proofs.upkeep.Stage.TheSendSync as stage
+use Rattle.kt_engine.proofs.upkeep.Last.TheSendSync as last
+use Rattle.kt_engine.specs.contracts.upkeep.Job as Job
+use Rattle.kt_engine.specs.contracts.upkeep.Upkeep as Upkeep
+use Rattle.kt_engine.specs.contracts.upkeep.Upkeeps as Upkeeps
+use Rattle.kt_engine.specs.contracts.upkeep.Upkeeps.TheInside as Passes
 use Rattle.kt_memrowset.proofs.store.MemRowSet.TheSendSync as rows
 use Rattle.kt_stores.specs.declared.file_store.FileStore as FileStore
 use Rattle.kt_stores.specs.contracts.file_store.DiskRowSetFileStore.TheImpl.{ghosts as files}
+use Rattle.kt_stores.proofs.range_tree.RangeTree.TheSendSync as ranges
 use Rattle.kt_stores.specs.contracts.stores.Stores as Stores
 use Rattle.kt_stores.specs.contracts.stores.Stores.TheInside as Shelf
 use Rattle.kt_seatlock.proofs.lock.SeatLock.TheSendSync as lock
 use Rattle.kt_history.specs.contracts.event.Event as Event
 use Rattle.kt_engine.specs.contracts.shared.Part as Part
 use Rattle.kt_serve.specs.contracts.tablet.SharedTablet as SharedTablet
+use Rattle.kt_pick.proofs.rules.Want.TheSendSync as want
+use Rattle.kt_policy.proofs.candidate.IdList.TheSendSync as ids
+use Rattle.kt_diskrowset.proofs.data.RowSetData.TheSendSync as rowset_data
 use Rattle.kt_diskrowset.proofs.rowset.DiskRowSet.TheSendSync as rowset
 use Rattle.kt_diskrowset.specs.contracts.row_store.DiskRowSetRowStore.TheImpl.{ghosts as stored}
 use Rattle.kt_diskrowset.specs.contracts.view.RowSetView.{the_row as view_row}
@@ -43,7 +53,7 @@ use Rattle.kt_diskrowset.specs.contracts.view.RowSetViewStoreRows.TheImpl.{ghost
 
 module _ (R V : RattleType) (f : FileStore.Ghosts R.Denot V.Denot) (g : RowStore.Ghosts R.Denot) (t : StoreRows.Ghosts V.Denot) where
   pub stores_send : IsSend R → IsSend (Stores.the_row R V f g t)
-  stores_send r = view_send (Shelf.the_row R V f g t) _ _ _ _ (recorded_send (Shelf.the_field R V f g t).row _ _ (Shelf.the_type R V f g t).to_one (struct_send (shape (Shelf.the_type R V f g t)) (search (sendable, crosses) depth 20, (search (sendable, crosses, rows.the_send) depth 20, (search (sendable, crosses, rows.the_send) depth 20, (Vec-send _ r, tt))))))
+  stores_send r = view_send (Shelf.the_row R V f g t) _ _ _ _ (recorded_send (Shelf.the_field R V f g t).row _ _ (Shelf.the_type R V f g t).to_one (struct_send (shape (Shelf.the_type R V f g t)) (search (sendable, crosses) depth 20, (search (sendable, crosses, rows.the_send) depth 20, (search (sendable, crosses, rows.the_send) depth 20, (Vec-send _ r, (ranges.the_send, tt)))))))
 
 module _ (S C V : RattleType) (f : FileStore.Ghosts S.Denot V.Denot) (g : RowStore.Ghosts S.Denot) (t : StoreRows.Ghosts V.Denot) (h : Clock.Ghosts C.Denot) where
   pub tablet_send : IsSend S → IsSend C → IsSend (Tablet.the_row S C V f g t h)
@@ -86,10 +96,69 @@ module _ (D : RattleType) (g : Disk.Ghosts D.Denot) where
   store_send d = view_send (Kept.the_row D g) _ _ _ _ (recorded_send (Kept.the_field D g).row _ _ (Kept.the_type D g).to_one (struct_send (shape (Kept.the_type D g))
       (search (sendable, crosses, d) depth 20, (plain_send _ _ _ _ _, (plain_send _ _ _ _ _, (meta.the_field_send, (plain_send _ _ _ _ _, (plain_send _ _ _ _ _, (search (sendable, crosses), (search (sendable, crosses), tt))))))))))
 
+-- what passes have of maintenance, and their jobs
+job_send : IsSend Job.the_row
+job_send = recorded_send (Job.the_field).row _ _ (Job.the_type).to_one (struct_send (shape Job.the_type) (
+  plain_send _ _ _ _ _,
+  (
+    stage.the_field_send,
+    (
+      plain_send _ _ _ _ _,
+      (
+        plain_send _ _ _ _ _,
+        (
+          ids.the_send,
+          (
+            plain_send _ _ _ _ _,
+            (
+              plain_send _ _ _ _ _,
+              (
+                plain_send _ _ _ _ _,
+                (
+                  plain_send _ _ _ _ _,
+                  (search (sendable, crosses), (outputs.the_send, (plain_send _ _ _ _ _, (plain_send _ _ _ _ _, (plain_send _ _ _ _ _, (search (sendable, crosses), (search (sendable, crosses, rowset_data.the_send) depth 8, tt))))))),
+                ),
+              ),
+            ),
+          ),
+        ),
+      ),
+    ),
+  ),
+))
+
+upkeep_send : IsSend Upkeep.the_row
+upkeep_send = recorded_send (Upkeep.the_field).row _ _ (Upkeep.the_type).to_one (struct_send (shape Upkeep.the_type) (
+  plain_send _ _ _ _ _,
+  (
+    plain_send _ _ _ _ _,
+    (
+      last.the_field_send,
+      (
+        want.the_field_send,
+        (
+          search (sendable, crosses) depth 20,
+          (
+            plain_send _ _ _ _ _,
+            (
+              Vec-send _ want.the_send,
+              (search (sendable, crosses, job_send) depth 8, (search (sendable, crosses), (search (sendable, crosses), tt))),
+            ),
+          ),
+        ),
+      ),
+    ),
+  ),
+))
+
+passes_send : IsSend Upkeeps.the_row
+passes_send = view_send Passes.the_row _ _ _ _ (recorded_send (Passes.the_field).row _ _ (Passes.the_type).to_one (struct_send (shape Passes.the_type)
+    (Vec-send _ upkeep_send, (plain_send _ _ _ _ _, (search (sendable, crosses), tt)))))
+
 module _ (L D C : RattleType) (g : Disk.Ghosts L.Denot) (k : Disk.Ghosts D.Denot) (h : Clock.Ghosts C.Denot) where
   pub engine_send : IsSend L → IsSend D → IsSend C → IsSend (Engine.the_row L D C g k h)
   engine_send l d c = view_send (Within.the_row L D C g k h) _ _ _ _ (recorded_send (Within.the_field L D C g k h).row _ _ (Within.the_type L D C g k h).to_one (struct_send (shape (Within.the_type L D C g k h))
-      (Box-send _ (tablet_send _ C view_row files stored told h rowset.the_send c), (Box-send _ (side_send L g l), (Box-send _ (store_send D k d), (running.the_send, (search (sendable, crosses), (search (sendable, crosses), (search (sendable, crosses), (search (sendable, crosses), (upkeep.the_send, (plain_send _ _ _ _ _, (plain_send _ _ _ _ _, (search (sendable, crosses), tt))))))))))))))
+      (Box-send _ (tablet_send _ C view_row files stored told h rowset.the_send c), (Box-send _ (side_send L g l), (Box-send _ (store_send D k d), (running.the_send, (search (sendable, crosses), (search (sendable, crosses), (search (sendable, crosses), (search (sendable, crosses), (passes_send, (plain_send _ _ _ _ _, (plain_send _ _ _ _ _, (search (sendable, crosses), tt))))))))))))))
 
   pub shared_sync : IsSend L → IsSend D → IsSend C → IsSync (SharedTablet.the_row L D C g k h)
   shared_sync l d c = recorded_sync (SharedTablet.the_field L D C g k h).row _ _ (SharedTablet.the_type L D C g k h).to_one (struct_sync (shape (SharedTablet.the_type L D C g k h)) (lock.the_field_sync (Engine.the_row L D C g k h) Event.the_row (Part.the_row L D C g k h) _ (engine_send l d c), tt))

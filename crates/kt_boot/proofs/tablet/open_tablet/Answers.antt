@@ -345,3 +345,8 @@ pub returns-in-Ok-of-2-clause-stable : goal.returns-in-Ok-of-2-clause-stable
 returns-in-Ok-of-2-clause-stable g c = λ told.
     let store : c.in-Ok-of-2.engine.store ≡ c.of-side.result = ap (λ e. e.store) c.in-Ok-of-2.ensures.view in
     rw (store, c.of-side.ensures) (c.in-Ok.ensures.stable told)
+
+-- where the engine was not made, the log's device comes back as the log was opened
+pub returns-clause-log_others_err : goal.returns-clause-log_others_err
+returns-clause-log_others_err g c = λ told n other.
+    subst (λ d. g.L.Disk.seen d n ≡ g.L.Disk.seen c.args.log n) (sym (c.given_up-in-Err-of-2.ensures.log ∙ ap (λ j. j.disk) c.in-Err-of-2.ensures.back.1)) (c.in-Ok.ensures.log_others told n other)
