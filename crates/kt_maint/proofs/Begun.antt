@@ -1,15 +1,19 @@
 -- A flush or a compaction that has begun, and its end.
-use Rattle.std.proofs.Common.{◌≡◌, ◌≤◌, ℕ, sym, ap, subst, ◌∙◌, inl, arith, Some, None}
+use Rattle.std.proofs.Common.{◌≡◌, ◌≤◌, ℕ, sym, ap, subst, ◌∙◌, inl, arith, Option, Some, None}
 use Rattle.kt_histlaws.specs.Parts.{part}
 use Rattle.kt_pick.specs.declared.rules.Want.{Want}
 use Rattle.kt_pick.specs.declared.rules.Want.TheVariants as want
 use Rattle.kt_tablet.specs.Views.{View, place_at}
-use Rattle.kt_engine.specs.Engines.{EngineView}
+use Rattle.kt_engine.specs.Engines.{EngineView, IsFound}
 use Rattle.kt_engine.specs.declared.upkeep.Stage.TheVariants as stage
-use Rattle.kt_engine.specs.Jobs.{UpkeepView, upkeep_at, job_of, job_finished}
+use Rattle.kt_engine.specs.Jobs.{JobView, UpkeepView, upkeep_at, job_of, job_finished}
 use Rattle.kt_engine.specs.JobSteps.{IsMerge, HasTaken, HasBegunJob, HasFinished}
+use Rattle.kt_engine.specs.Visits.{IsVisit}
+use Rattle.kt_engine.proofs.Visiting.{root_stays}
+use Rattle.kt_maint.specs.Done.{GivesMerged, HasGiven}
 use Rattle.kt_maint.specs.Runs.{KeepsAsks, IsReady, JobIsAt, GoesOn, HasNoDevice, StandsAs, ran}
-use Rattle.kt_maint.proofs.Stages.{want_same}
+use Rattle.kt_maint.proofs.Merged.{gives_then, merged_for}
+use Rattle.kt_maint.proofs.Stages.{some_is, want_same}
 use Rattle.kt_maint.proofs.Readying.{no_device}
 use Rattle.kt_maint.proofs.Visiting.{stands_same, stands_then}
 
@@ -67,10 +71,17 @@ module _ {L D C : Type 0} (n : ℕ) (a b : EngineView L D C) where
       its_want : over.job.want ≡ w
       its_want = want_same n b.upkeep c.upkeep same begun.job over.job begun_has over.had ∙ begun.want_is
 
-      pub ran_done : upkeep_at n d.upkeep.passes ≡ ran w (upkeep_at n a.upkeep.passes)
+      pub ran_done : upkeep_at n d.upkeep.passes ≡ ran w over.job (upkeep_at n a.upkeep.passes)
       ran_done =
           over.upkeep.own ∙ ap (λ (x : Want). job_finished x (upkeep_at n c.upkeep.passes)) its_want ∙ ap (job_finished w) asks.own
           ∙ ap (λ (u : UpkeepView). job_finished w (record u { job = job_of n c.upkeep })) begun.upkeep.own
+          ∙ ap (λ (o : Option JobView). record (ran w over.job (upkeep_at n a.upkeep.passes)) { done = o }) over.had
+
+      -- and it has given what was asked
+      pub ran_given : IsMerge w → GivesMerged (IsFound c) same.job → IsVisit n c d → HasGiven (IsFound d) w over.job
+      ran_given merges gives visit =
+          let own : same.job ≡ over.job = some_is same.job over.job (sym same.has ∙ over.had) in
+          record { want_is = its_want; gives = merged_for (IsFound d) w over.job merges (gives_then c d over.job (root_stays n c d visit) (subst (λ (j : JobView). GivesMerged (IsFound c) j) own gives)) }
 
       pub ran_home : IsReady a → c.log ≡ b.log → c.store.holder ≡ None → HasNoDevice n d
       ran_home r log home =

@@ -21,6 +21,7 @@ use Rattle.kt_maint.specs.declared.run.Ran.TheVariants as ran
 use Rattle.kt_maint.specs.declared.tries.Turn.{Turn}
 use Rattle.kt_maint.specs.declared.tries.Turn.TheVariants as turn
 use Rattle.kt_maint.specs.Runs.{is_pass, HasNoDevice as PassHasNone, AddsStop, StandsAs, RunsAs}
+use Rattle.kt_maint.specs.Done.{HasDoneJob}
 use Rattle.kt_maint.specs.Calls.{has_stop, want_of, HasAsked, SameUpkeep, AfterTurn, AfterCall, HasBegunRound}
 use Rattle.kt_maint.proofs.Readying.{none_has}
 use Rattle.kt_maint.proofs.Stages.{some_is}
@@ -93,13 +94,14 @@ module _ {L D C : Type 0} where
           was_is = is;
           part = part_in y n;
           is = is';
-          asks = ap (λ (u : UpkeepView). u.asks) r.0;
-          last_is = ap (λ (u : UpkeepView). u.last) r.0;
-          round = (ap (λ (u : UpkeepView). u.round) r.0, ap (λ (u : UpkeepView). u.rounds) r.0);
-          todo = ap (λ (u : UpkeepView). u.todo) r.0;
-          job = ap (λ (u : UpkeepView). u.job) r.0;
+          asks = ap (λ (u : UpkeepView). u.asks) r.0.upkeep;
+          last_is = ap (λ (u : UpkeepView). u.last) r.0.upkeep;
+          round = (ap (λ (u : UpkeepView). u.round) r.0.upkeep, ap (λ (u : UpkeepView). u.rounds) r.0.upkeep);
+          todo = ap (λ (u : UpkeepView). u.todo) r.0.upkeep;
+          job = ap (λ (u : UpkeepView). u.job) r.0.upkeep;
         },
         no_device_told r.1,
+        record { part = part_in y n; is = is'; job = r.0.job; done = ap (λ (u : UpkeepView). u.done) r.0.upkeep; given = r.0.given },
       )
       after_turn w turn.Nothing seen tells sees r = (
         record {
@@ -176,8 +178,8 @@ module _ {L D C : Type 0} (a b c : Option (PartView L D C)) where
         job = second.job;
       }
 
-  pub done_then : (w : Want) → SameUpkeep a b → HasAsked (finished w) b c × HasNoDevice c → HasAsked (finished w) a c × HasNoDevice c
-  done_then w first second = (asked_then (finished w) first second.0, second.1)
+  pub done_then : (w : Want) → SameUpkeep a b → HasAsked (finished w) b c × HasNoDevice c × HasDoneJob w c → HasAsked (finished w) a c × HasNoDevice c × HasDoneJob w c
+  done_then w first second = (asked_then (finished w) first second.0, second.1, second.2)
 
   pub nothing_then : (w : Want) → SameUpkeep a b → HasAsked (nothing w) b c × HasNoDevice c → HasAsked (nothing w) a c × HasNoDevice c
   nothing_then w first second = (asked_then (nothing w) first second.0, second.1)

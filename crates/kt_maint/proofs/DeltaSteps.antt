@@ -4,6 +4,7 @@ use Rattle.std.specs.Prelude.{IsTrue, IfOk, OnOk, ◌==◌}
 use Rattle.kt_disk.specs.Disk.{Files}
 use Rattle.kt_history.specs.declared.target.Target.{Target}
 use Rattle.kt_history.specs.declared.target.Target.TheVariants.{Mem, Delta}
+use Rattle.kt_history.specs.History.{Past}
 use Rattle.kt_history.specs.Stores.{Store}
 use Rattle.kt_rowfiles.specs.Files.{DiskRowset, records_for}
 use Rattle.kt_rowfiles.specs.Fitting.{undos_fit}
@@ -38,11 +39,14 @@ use Rattle.kt_engine.specs.Files.{IsFiled, AreFiled}
 use Rattle.kt_engine.specs.Jobs.{JobView, UpkeepView, UpkeepsView, job_of, upkeep_at, job_finished, IsUnpublished}
 use Rattle.kt_engine.specs.JobSteps.{AtNewStage, IsLent}
 use Rattle.kt_engine.specs.Visits.{IsVisit}
-use Rattle.kt_engine.specs.DeltaJobs.{IsOn, IsRead, RedosAs, HasShape, StayIn, delta_meta, lent_deltas, MayPublishDeltas, MayFinishDeltas}
+use Rattle.kt_engine.specs.DeltaJobs.{HasBegunDeltas, IsOn, IsRead, RedosAs, HasShape, FilesStay, StayIn, delta_meta, lent_deltas, MayPublishDeltas, MayFinishDeltas}
 use Rattle.kt_engine.proofs.Filed.{entry_number}
 use Rattle.kt_engine.proofs.Stored.{filed_now}
-use Rattle.kt_maint.specs.Runs.{KeepsAsks, IsQuiet, IsReady, HasTurned, MayAbandon, IsPublishing, IsPublished}
-use Rattle.kt_maint.specs.DeltaRuns.{DeltasAt, Leaves, IsMade, HasRewritten, IsPublishedRowset}
+use Rattle.kt_maint.specs.Done.{GivesRewritten, GivesFor}
+use Rattle.kt_maint.specs.declared.tries.Turn.{Turn}
+use Rattle.kt_maint.specs.declared.tries.Turn.TheVariants as turn
+use Rattle.kt_maint.specs.Runs.{over, ran, RunsAs, KeepsAsks, IsQuiet, IsReady, HasTurned, MayAbandon, IsPublishing, IsPublished}
+use Rattle.kt_maint.specs.DeltaRuns.{EndsAs, DeltasAt, Leaves, IsMade, HasRewritten, IsPublishedRowset}
 use Rattle.kt_maint.proofs.Coming.{its_job}
 use Rattle.kt_maint.proofs.Stages.{some_is}
 use Rattle.kt_maint.proofs.Visiting.{LentOut}
@@ -78,9 +82,9 @@ shape_kept w a b same none shape = record {
 module _ {L D C : Type 0} (n : ℕ) (w : Want) where
   -- ---- the job comes further
 
-  abbrev pub at_then : {s : Stage} (a b : EngineView L D C) (at : DeltasAt a n w s) (t : Stage) (dms : ℕ) (output : Option RowSetData) → AtNewStage n (record at.job { stage = t; dms = dms; output = output }) a b → DeltasAt b n w t
-  at_then a b at t dms output h = record {
-    job = record at.job { stage = t; dms = dms; output = output };
+  abbrev pub at_then : {s : Stage} (a b : EngineView L D C) (at : DeltasAt a n w s) (t : Stage) (dms : ℕ) (read output : Option RowSetData) → AtNewStage n (record at.job { stage = t; dms = dms; read = read; output = output }) a b → DeltasAt b n w t
+  at_then a b at t dms read output h = record {
+    job = record at.job { stage = t; dms = dms; read = read; output = output };
     has = ap (λ (u : UpkeepView). u.job) h.upkeep.own;
     at = refl;
     want = at.want;
@@ -93,13 +97,13 @@ module _ {L D C : Type 0} (n : ℕ) (w : Want) where
   may_abandon v at early = record { job = at.job; has = at.has; early = subst IsUnpublished (sym at.at) early; free = at.free }
 
   -- what was read and written as it is to be
-  pub made : (a b : EngineView L D C) (at : DeltasAt a n w stage.Begun) (read d : RowSetData) (dms : ℕ) → IsRead a.tablet at.job.rowset dms read → AtNewStage n (record at.job { stage = stage.Read; dms = dms }) a b → IsRewritten read d → HasShape w d → IsWhole d
+  pub made : (a b : EngineView L D C) (at : DeltasAt a n w stage.Begun) (read d : RowSetData) (dms : ℕ) → IsRead a.tablet at.job.rowset dms read → AtNewStage n (record at.job { stage = stage.Read; dms = dms; read = Some read }) a b → IsRewritten read d → HasShape w d → IsWhole d
       → files_of read.number a.tablet.files ≡ Some (held_in read) → Leaves w (held_in read) (held_in d) → IsMade b n w d
   made a b at read d dms is h rewritten shape whole has leaves =
       let tablet : b.tablet ≡ a.tablet = ap (λ (v : EngineView L D C). v.tablet) h.beside in
       let number : d.number ≡ at.job.rowset = rewritten.number ∙ is.number in
       record {
-        at = at_then a b at stage.Read dms at.job.output h;
+        at = at_then a b at stage.Read dms (Some read) at.job.output h;
         all = record {
           name = subst (λ (t : View C). dms_in d.number t.names ≡ Some dms) (sym tablet) (ap (λ (r : ℕ). dms_in r a.tablet.names) number ∙ is.name);
           store = subst (λ (t : View C). store_in d ≡ store_in_names d.number t.names t.core.stores) (sym tablet) (rewritten.store ∙ is.store ∙ ap (λ (r : ℕ). store_in_names r a.tablet.names a.tablet.core.stores) (sym number));
@@ -109,11 +113,14 @@ module _ {L D C : Type 0} (n : ℕ) (w : Want) where
         was = held_in read;
         there = subst (λ (t : View C). files_of d.number t.files ≡ Some (held_in read)) (sym tablet) (ap (λ (r : ℕ). files_of r a.tablet.files) rewritten.number ∙ has);
         leaves = leaves;
+        read = read;
+        has_read = (refl, refl);
+        same = rewritten.store;
         lead = rewritten.lead is.lead;
         whole = whole;
       }
 
-  pub made_result : {E : Type 0} (a b : EngineView L D C) (at : DeltasAt a n w stage.Begun) (read : RowSetData) (dms : ℕ) → IsRead a.tablet at.job.rowset dms read → AtNewStage n (record at.job { stage = stage.Read; dms = dms }) a b
+  pub made_result : {E : Type 0} (a b : EngineView L D C) (at : DeltasAt a n w stage.Begun) (read : RowSetData) (dms : ℕ) → IsRead a.tablet at.job.rowset dms read → AtNewStage n (record at.job { stage = stage.Read; dms = dms; read = Some read }) a b
       → (r : Result RowSetData E) → IfOk r (IsRewritten read) → IfOk r (HasShape w) → IfOk r IsWhole → files_of read.number a.tablet.files ≡ Some (held_in read) → IfOk r (λ d. Leaves w (held_in read) (held_in d)) → IfOk r (IsMade b n w)
   made_result a b at read dms is h (Ok d) rewritten shape whole has leaves = made a b at read d dms is h rewritten shape whole has leaves
   made_result a b at read dms is h (Err lost) rewritten shape whole has leaves = tt
@@ -206,7 +213,8 @@ module _ {L D C : Type 0} (tells : Bool) (seen : D → Files) (now : D → ℕ) 
   pub may_publish : (n : ℕ) (w : Want) (e0 e1 e2 e3 : EngineView L D C) (d out : RowSetData) → a_rewritten_rowset_comes_in_place → a_rewritten_rowset_stands_in_place → IsSide tells seen now leaves faults e0.store → IsReady e0
       → IsQuiet n e0 e1 → e1 ≡ record e0 { upkeep = e1.upkeep } → IsMade e1 n w d → IsQuiet n e1 e2 → e2.upkeep ≡ e1.upkeep → HasRewritten tells seen now leaves e1.store e2.store d out
       → ((j : JobView) → job_of n e2.upkeep ≡ Some j → AtNewStage n (record j { stage = stage.Written; output = Some out }) e2 e3) → undos_fit (files_in out) ≡ true
-      → AreFiled tells (seen e2.store.known) e2.store.meta.rowsets e2.tablet.files → (x : RowSetData) × ((at : DeltasAt e3 n w stage.Written) × MayPublishDeltas tells seen now leaves e3 at.job x)
+      → AreFiled tells (seen e2.store.known) e2.store.meta.rowsets e2.tablet.files → (x : RowSetData) × ((at : DeltasAt e3 n w stage.Written) × MayPublishDeltas tells seen now leaves e3 at.job x × GivesRewritten at.job)
+  unfolding stays
   may_publish n w e0 e1 e2 e3 d out comes stands side ready q1 beside1 is q2 same files later fits filed =
       let job = is.at.job in
       let has : job_of n e2.upkeep ≡ Some job = ap (job_of n) same ∙ is.at.has in
@@ -217,7 +225,7 @@ module _ {L D C : Type 0} (tells : Bool) (seen : D → Files) (now : D → ℕ) 
       let written : HasRewritten tells seen now leaves e1.store e3.store d out = subst (λ (s : StoreView D). HasRewritten tells seen now leaves e1.store s d out) (sym store3) files in
       let number : out.number ≡ d.number = ap (λ (f : DiskRowset). f.rowset) files.same in
       let entry : MetaRowset = (its_files n w e0 e1 e2 d out side beside1 is q2 files filed).entry in
-      let at3 = at_then n w e2 e3 at2 stage.Written job.dms (Some out) h in (
+      let at3 = at_then n w e2 e3 at2 stage.Written job.dms job.read (Some out) h in (
         out,
         (
           at3,
@@ -239,6 +247,15 @@ module _ {L D C : Type 0} (tells : Bool) (seen : D → Files) (now : D → ℕ) 
             lent = in_place_lent e1 e3 d out job.dms (its_side n w e0 e1 e2 d out side beside1 is q2 files filed) written entry
                 (subst (λ (s : StoreView D). entry_of out.number s.meta.rowsets ≡ Some entry) (sym store3) (ap (λ (r : ℕ). entry_of r e2.store.meta.rowsets) number ∙ (its_files n w e0 e1 e2 d out side beside1 is q2 files filed).there))
                 (subst (λ (s : StoreView D). KeepsRowset e1.store.next_file s.next_file entry (meta_in job.dms out)) (sym store3) (keeps n w e0 e1 e2 d out side beside1 is q2 files filed job.dms)) comes stands;
+          },
+          record {
+            was = is.read;
+            read = is.has_read.0;
+            now = out;
+            gave = refl;
+            same = files_tell d out files.same is.all.fresh files.fresh ∙ is.same;
+            shape = subst (λ (x : Want). HasShape x out) (sym is.at.want) (shape_kept w d out files.same files.fresh is.shape);
+            stay = subst (λ (x : Want). FilesStay x (held_in is.read) (held_in out)) (sym is.at.want) (subst (λ (h : HeldFiles). FilesStay w h (held_in out)) is.has_read.1 (stays n w e0 e1 e2 d out side beside1 is q2 files filed).stay);
           },
         ),
       )
@@ -325,6 +342,33 @@ may_finish {L} {D} {C} tells seen now leaves n c d job x may p = record {
 }
 
 -- and then the pass has finished it
-pub ends_done : {L D C : Type 0} (n : ℕ) (w : Want) (a b c : EngineView L D C) (job later : JobView) → KeepsAsks n a.upkeep b.upkeep → later.want ≡ w → upkeep_at n c.upkeep.passes ≡ job_finished later.want (upkeep_at n b.upkeep.passes)
-    → upkeep_at n c.upkeep.passes ≡ job_finished w (upkeep_at n a.upkeep.passes)
-ends_done n w a b c job later asks want_is finished = finished ∙ ap (λ (x : Want). job_finished x (upkeep_at n b.upkeep.passes)) want_is ∙ ap (job_finished w) asks.own
+pub ends_done : {L D C : Type 0} (n : ℕ) (w : Want) (a b c : EngineView L D C) (job later : JobView) → KeepsAsks n a.upkeep b.upkeep → job_of n b.upkeep ≡ Some later → later.want ≡ w → upkeep_at n c.upkeep.passes ≡ job_finished later.want (upkeep_at n b.upkeep.passes)
+    → upkeep_at n c.upkeep.passes ≡ over w later (upkeep_at n a.upkeep.passes)
+ends_done n w a b c job later asks had want_is finished =
+    finished ∙ ap (λ (x : Want). job_finished x (upkeep_at n b.upkeep.passes)) want_is ∙ ap (job_finished w) asks.own ∙ ap (λ (o : Option JobView). record (over w later (upkeep_at n a.upkeep.passes)) { done = o }) had
+
+-- what it gave
+pub gives_published : (job : JobView) (number : ℕ) → GivesRewritten job → GivesRewritten (record job { stage = stage.Published; super = number })
+gives_published job number g = record { was = g.was; read = g.read; now = g.now; gave = g.gave; same = g.same; shape = g.shape; stay = g.stay }
+
+pub rewritten_for : (found : Past → Type 0) (w : Want) (r : ℕ) (job : JobView) → IsOn r w → GivesRewritten job → GivesFor found w job
+rewritten_for found want.Flush r job on g = absurd on
+rewritten_for found (want.Compact taken) r job on g = absurd on
+rewritten_for found (want.FlushDeltas s) r job on g = g
+rewritten_for found (want.Minor s) r job on g = g
+rewritten_for found (want.Major s) r job on g = g
+
+-- the pass asked, and what it began has ended
+pub ran_deltas : {L D C : Type 0} (n k : ℕ) (w : Want) (e0 e1 e2 e3 e4 : EngineView L D C) → e1.upkeep ≡ e0.upkeep → HasBegunDeltas e1 e2 n w k → KeepsAsks n e2.upkeep e3.upkeep → (t : Turn) → EndsAs n w e3 e4 t → RunsAs n w e0 e4 t
+ran_deltas n k w e0 e1 e2 e3 e4 same begun asks turn.Done ends = (
+  record {
+    job = ends.0.job;
+    upkeep = ends.0.upkeep ∙ ap (over w ends.0.job) asks.own ∙ ap (λ (u : UpkeepView). over w ends.0.job (record u { job = job_of n e3.upkeep })) begun.upkeep.own ∙ ap (λ (u : UpkeepsView). ran w ends.0.job (upkeep_at n u.passes)) same;
+    given = ends.0.given;
+  },
+  ends.1,
+)
+ran_deltas n k w e0 e1 e2 e3 e4 same begun asks turn.Nothing ends = absurd ends
+ran_deltas n k w e0 e1 e2 e3 e4 same begun asks turn.Wait ends = absurd ends
+ran_deltas n k w e0 e1 e2 e3 e4 same begun asks turn.Memory ends = ends
+ran_deltas n k w e0 e1 e2 e3 e4 same begun asks turn.Stopped ends = ends

@@ -1,9 +1,11 @@
 -- What was merged holds what the job takes.
-use Rattle.std.proofs.Common.{◌≡◌, ◌≤◌, ℕ, zero, suc, List, [], ◌∷◌, map, length, take, drop, refl, sym, ap, subst}
+use Rattle.std.proofs.Common.{◌≡◌, ◌≤◌, ℕ, zero, suc, List, [], ◌∷◌, map, length, take, drop, Some, None, refl, sym, ap, subst, ◌∙◌}
 use Rattle.std.specs.Prelude.{◌≢◌, ◌<◌, ◌^◌, Bool, IsTrue}
 use Rattle.std.specs.List.{AllByRecursion}
+use Rattle.std.specs.FinMap.Entries.{find}
 use Rattle.std.proofs.Math.Nat.{min-le_right}
 use Rattle.kt_history.specs.History.{Past}
+use Rattle.kt_history.specs.Rows.{key_cmp}
 use Rattle.kt_history.specs.Stores.{Store, Hist, hist_in}
 use Rattle.kt_histlaws.specs.Fitting.{AreSound}
 use Rattle.kt_histlaws.specs.Histories.{hists}
@@ -17,19 +19,23 @@ use Rattle.kt_diskrowset.specs.declared.inputs.Inputs.{Inputs}
 use Rattle.kt_diskrowset.specs.Data.{files_in}
 use Rattle.kt_rowfiles.specs.declared.taking.Span.{Span}
 use Rattle.kt_content.specs.Rules.{Rules}
-use Rattle.kt_merge.specs.Merge.{hists_upto, hists_written, AreFaultless, HaveEach}
+use Rattle.kt_merge.specs.Merge.{hists_upto, hists_written, AreFaultless, HaveEach, IsOfInput}
 use Rattle.kt_merge.specs.Told.{AreFilesOver, IsOutput, AreOutputs, told_by_all}
-use Rattle.kt_outputs.specs.Outputs.{AreOfWay, AreWhole}
+use Rattle.kt_outputs.specs.Outputs.{AreOfWay, AreWhole, AreWritten}
 use Rattle.kt_joblaws.specs.Outputs.{outputs_pass, marks_may_rise}
 use Rattle.kt_tablet.specs.Jobs.{taken_stores, rows_in_first}
 use Rattle.kt_pick.specs.declared.rules.Want.{Want}
 use Rattle.kt_pick.specs.declared.rules.Want.TheVariants as want
-use Rattle.kt_engine.specs.Jobs.{JobView, takes_by, takes_of}
+use Rattle.kt_engine.specs.Jobs.{JobView, job_of, takes_by, takes_of, taken_by}
 use Rattle.kt_engine.proofs.JobOut.{frozen_are_taken}
 use Rattle.kt_engine.specs.Engines.{EngineView, IsFound, IsContent}
 use Rattle.kt_engine.specs.Logged.{PlanPasses}
-use Rattle.kt_engine.specs.JobSteps.{HasInput, TellAll, TellPassing, HoldInputs, TakesFrozen, TakesInputs, TakesBy, stores_read}
-use Rattle.kt_maint.specs.Runs.{HoldsMerged}
+use Rattle.kt_engine.specs.JobSteps.{IsMerge, HasInput, TellAll, TellPassing, HoldInputs, TakesFrozen, TakesInputs, TakesBy, stores_read}
+use Rattle.kt_engine.specs.declared.upkeep.Stage.TheVariants as stage
+use Rattle.kt_engine.specs.Visits.{Root, root_of}
+use Rattle.kt_maint.specs.Done.{FoundBy, AreMerged, GivesMerged, GivesFor}
+use Rattle.kt_maint.specs.Runs.{HoldsMerged, JobHas, KeepsRead}
+use Rattle.kt_maint.proofs.Stages.{some_is}
 
 -- ---- the outputs
 
@@ -111,3 +117,79 @@ module _ {L D C : Type 0} (tells : Bool) (a b : EngineView L D C) (inputs : Inpu
         holds = λ first found. let fit = faultless first found in merged_hold rise a job takes as_many inputs bound mark outputs (tell first found) of_mark (alike fit) (sound fit);
         passes = λ told rules first content plan. let fit = faultless first content.opens in pass rules span inputs outputs content.closed low fit made (each fit) (passing told rules first (record { closed = content.closed; opens = content.opens; holds = content.holds }) plan);
       })
+
+-- ---- what was handed out, and what merging makes of it
+
+module _ {L D C : Type 0} (a b : EngineView L D C) (job : JobView) (inputs : Inputs) (outputs : List RowSetData) where
+  abbrev its_span : Span
+  its_span = record { mark = job.mark; bound = job.bound }
+
+  pub are_merged : job.inputs ≡ Some inputs → b ≡ record a { upkeep = b.upkeep } → ((first : Past) → IsFound a first → AreFaultless its_span inputs) → AreOutputs inputs.columns outputs
+      → ((q : List ℕ) → find key_cmp q (told_by_all outputs) ≢ None → IsOfInput q inputs) → (AreFaultless its_span inputs → HaveEach its_span inputs (told_by_all outputs))
+      → (AreFaultless its_span inputs → (q : List ℕ) → AreAlike job.mark (hists_upto job.bound q inputs) (hists_written q outputs)) → AreMerged (IsFound b) job outputs
+  are_merged read is faultless made own each alike = record {
+    inputs = inputs;
+    read = read;
+    outputs = made;
+    keys = own;
+    rows = λ first found. each (faultless first (subst (λ (v : EngineView L D C). IsFound v first) is found));
+    alike = λ first found. alike (faultless first (subst (λ (v : EngineView L D C). IsFound v first) is found));
+  }
+
+-- the same of a job that was handed out the same
+pub merged_same : (found other : Past → Type 0) → ((first : Past) → other first → found first) → (was job : JobView) → job.inputs ≡ was.inputs → job.bound ≡ was.bound → job.mark ≡ was.mark → (outputs : List RowSetData) → AreMerged found was outputs → AreMerged other job outputs
+merged_same found other back was job inputs bound mark outputs m = record {
+  inputs = m.inputs;
+  read = inputs ∙ m.read;
+  outputs = m.outputs;
+  keys = m.keys;
+  rows = λ first is. subst (λ (k : ℕ). HaveEach (record { mark = k; bound = job.bound }) m.inputs (told_by_all outputs)) (sym mark) (subst (λ (k : ℕ). HaveEach (record { mark = was.mark; bound = k }) m.inputs (told_by_all outputs)) (sym bound) (m.rows first (back first is)));
+  alike = λ first is q. subst (λ (k : ℕ). AreAlike k (hists_upto job.bound q m.inputs) (hists_written q outputs)) (sym mark) (subst (λ (k : ℕ). AreAlike was.mark (hists_upto k q m.inputs) (hists_written q outputs)) (sym bound) (m.alike first (back first is) q));
+}
+
+taken_is : {L D C : Type 0} (v : EngineView L D C) (job : JobView) (w : Want) → TakesBy v job w → job.taken ≡ taken_by w
+taken_is v job want.Flush f = f.none
+taken_is v job (want.Compact taken) c = c.0
+taken_is v job (want.FlushDeltas r) never = absurd never
+taken_is v job (want.Minor r) never = absurd never
+taken_is v job (want.Major r) never = absurd never
+
+-- the outputs of a job that is published are what merging makes
+pub gives_merged : {L D C : Type 0} (n : ℕ) (e1 e3 e4 : EngineView L D C) (merged out : List RowSetData) (first number : ℕ) → root_of e4 ≡ root_of e1 → ((job : JobView) → job_of n e1.upkeep ≡ Some job → AreMerged (IsFound e1) job merged) → KeepsRead n e1.upkeep e3.upkeep → AreWritten first merged out
+    → (has : JobHas e3 n stage.Written out) → GivesMerged (IsFound e4) (record has.at.job { stage = stage.Published; super = number })
+gives_merged {L} {D} {C} n e1 e3 e4 merged out first number root made keeps written has =
+    let own : has.at.job ≡ keeps.job = some_is has.at.job keeps.job (sym has.at.has ∙ keeps.has) in
+    record {
+      taken = taken_is e3 has.at.job has.at.job.want has.at.takes.takes;
+      made = merged;
+      merged = merged_same (IsFound e1) (IsFound e4) (λ past. subst (λ (r : Root L D C). FoundBy r past) root) keeps.was (record has.at.job { stage = stage.Published; super = number })
+          (ap (λ (j : JobView). j.inputs) own ∙ keeps.inputs) (ap (λ (j : JobView). j.bound) own ∙ keeps.times.0) (ap (λ (j : JobView). j.mark) own ∙ keeps.times.1) merged (made keeps.was keeps.had);
+      first = first;
+      out = out;
+      written = written;
+      from = has.from;
+      metas = has.metas;
+      held = has.held;
+    }
+
+-- and so they are once it is over
+pub gives_then : {L D C : Type 0} (c d : EngineView L D C) (job : JobView) → root_of d ≡ root_of c → GivesMerged (IsFound c) job → GivesMerged (IsFound d) job
+gives_then {L} {D} {C} c d job root g = record {
+  taken = g.taken;
+  made = g.made;
+  merged = merged_same (IsFound c) (IsFound d) (λ past. subst (λ (r : Root L D C). FoundBy r past) root) job job refl refl refl g.made g.merged;
+  first = g.first;
+  out = g.out;
+  written = g.written;
+  from = g.from;
+  metas = g.metas;
+  held = g.held;
+}
+
+-- a want that merges gives so
+pub merged_for : (found : Past → Type 0) (w : Want) (job : JobView) → IsMerge w → GivesMerged found job → GivesFor found w job
+merged_for found want.Flush job merges g = g
+merged_for found (want.Compact taken) job merges g = g
+merged_for found (want.FlushDeltas r) job merges g = absurd merges
+merged_for found (want.Minor r) job merges g = absurd merges
+merged_for found (want.Major r) job merges g = absurd merges

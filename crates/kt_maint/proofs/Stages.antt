@@ -5,6 +5,7 @@ use Rattle.kt_super.specs.declared.meta.Meta.{Meta}
 use Rattle.kt_loglaws.specs.Side.{SideView}
 use Rattle.kt_content.specs.Flushes.{AreFrom}
 use Rattle.kt_diskrowset.specs.declared.data.RowSetData.{RowSetData}
+use Rattle.kt_diskrowset.specs.declared.inputs.Inputs.{Inputs}
 use Rattle.kt_diskrowset.specs.Data.{files_in, held_in}
 use Rattle.kt_diskrowset.specs.Rowset.{HeldFiles}
 use Rattle.kt_outputs.specs.Outputs.{meta_in}
@@ -20,30 +21,30 @@ use Rattle.kt_engine.specs.Jobs.{JobView, UpkeepView, UpkeepsView, HasRowset, Ha
 use Rattle.kt_pick.specs.declared.rules.Want.{Want}
 use Rattle.kt_pick.specs.declared.rules.Want.TheVariants as want
 use Rattle.kt_engine.specs.JobSteps.{TakesInputs, TakesBy, AreUpTo, AtNewStage, HasSwapped}
-use Rattle.kt_maint.specs.Runs.{KeepsAsks, IsQuiet, IsReady, JobIsAt, JobHas, GoesOn, MayAbandon}
+use Rattle.kt_maint.specs.Runs.{KeepsAsks, IsQuiet, IsReady, JobIsAt, JobHas, GoesOn, KeepsRead, MayAbandon}
 
 pub some_is : {A : Type 0} (x y : A) → Some x ≡ Some y → x ≡ y
 some_is x y e = cc
 
 -- a job at a stage, and what it has from there on
-abbrev pub staged : JobView → Stage → ℕ → ℕ → List MetaRowset → List HeldFiles → ℕ → ℕ → JobView
-staged j s bound mark metas held room super = record j { stage = s; bound = bound; mark = mark; metas = metas; held = held; room = room; super = super }
+abbrev pub staged : JobView → Stage → ℕ → ℕ → Option Inputs → List MetaRowset → List HeldFiles → ℕ → ℕ → JobView
+staged j s bound mark inputs metas held room super = record j { stage = s; bound = bound; mark = mark; inputs = inputs; metas = metas; held = held; room = room; super = super }
 
 -- of this pass's maintenance the job alone has changed
 pub has_asks : (n : ℕ) (x : Option JobView) (o w : UpkeepsView) → HasUpkeep n (record (upkeep_at n o.passes) { job = x }) o w → w.begun ≡ o.begun → KeepsAsks n o w
 has_asks n x o w h begun = record { own = h.own ∙ (λ k. record (upkeep_at n o.passes) { job = sym (ap (λ (u : UpkeepView). u.job) h.own) k }); begun = begun }
 
 module _ {L D C : Type 0} (n : ℕ) (a b : EngineView L D C) where
-  pub takes_then : (j : JobView) (s : Stage) (bound mark : ℕ) (metas : List MetaRowset) (held : List HeldFiles) (room super : ℕ) → b.tablet ≡ a.tablet → b.log ≡ a.log → b.store.meta ≡ a.store.meta
-      → TakesInputs a j → TakesInputs b (staged j s bound mark metas held room super)
-  takes_then j s bound mark metas held room super tablet log meta t = record {
+  pub takes_then : (j : JobView) (s : Stage) (bound mark : ℕ) (inputs : Option Inputs) (metas : List MetaRowset) (held : List HeldFiles) (room super : ℕ) → b.tablet ≡ a.tablet → b.log ≡ a.log → b.store.meta ≡ a.store.meta
+      → TakesInputs a j → TakesInputs b (staged j s bound mark inputs metas held room super)
+  takes_then j s bound mark inputs metas held room super tablet log meta t = record {
     takes = by j.want t.takes;
     left = subst (λ (v : View C). AreLeft j.first_rowset (drop v.frozen (drop 1 v.names))) (sym tablet) t.left;
     below = subst (λ (m : Meta). m.next_rowset ≤ j.first_rowset) (sym meta) t.below;
     many = subst (λ (l : SideView L). j.many ≡ l.known.count + length (l.out ++ l.queued)) (sym log) t.many;
   }
     where
-      by : (w : Want) → TakesBy a j w → TakesBy b (staged j s bound mark metas held room super) w
+      by : (w : Want) → TakesBy a j w → TakesBy b (staged j s bound mark inputs metas held room super) w
       by want.Flush f = record {
         none = f.none;
         vacant = subst (λ (v : View C). rows_in_first v.core.stores ≡ []) (sym tablet) f.vacant;
@@ -63,9 +64,9 @@ module _ {L D C : Type 0} (n : ℕ) (a b : EngineView L D C) where
       by (want.Major r) never = absurd never
 
   -- it has come further
-  abbrev pub goes_on : {s : Stage} (at : JobIsAt a n s) (t : Stage) (bound mark : ℕ) (metas : List MetaRowset) (held : List HeldFiles) (room super : ℕ) → AtNewStage n (staged at.job t bound mark metas held room super) a b → JobIsAt b n t
-  goes_on at t bound mark metas held room super h = record {
-    job = staged at.job t bound mark metas held room super;
+  abbrev pub goes_on : {s : Stage} (at : JobIsAt a n s) (t : Stage) (bound mark : ℕ) (inputs : Option Inputs) (metas : List MetaRowset) (held : List HeldFiles) (room super : ℕ) → AtNewStage n (staged at.job t bound mark inputs metas held room super) a b → JobIsAt b n t
+  goes_on at t bound mark inputs metas held room super h = record {
+    job = staged at.job t bound mark inputs metas held room super;
     has = ap (λ (u : UpkeepView). u.job) h.upkeep.own;
     at = refl;
     want = at.want;
@@ -73,23 +74,37 @@ module _ {L D C : Type 0} (n : ℕ) (a b : EngineView L D C) where
     free = h.begun.1 ∙ at.free;
     begun = λ e. at.begun (sym h.begun.0 ∙ e);
     given = subst (λ (v : EngineView L D C). at.job.first_rowset ≤ v.store.next_rowset) (sym h.beside) at.given;
-    takes = takes_then at.job t bound mark metas held room super (ap (λ (v : EngineView L D C). v.tablet) h.beside) (ap (λ (v : EngineView L D C). v.log) h.beside) (ap (λ (v : EngineView L D C). v.store.meta) h.beside) at.takes;
+    takes = takes_then at.job t bound mark inputs metas held room super (ap (λ (v : EngineView L D C). v.tablet) h.beside) (ap (λ (v : EngineView L D C). v.log) h.beside) (ap (λ (v : EngineView L D C). v.store.meta) h.beside) at.takes;
     as_many = subst (λ (v : View C). length v.names ≡ length v.core.stores) (sym (ap (λ (v : EngineView L D C). v.tablet) h.beside)) at.as_many;
   }
 
   -- it is the job that it was
-  pub stage_on : (job : JobView) (t : Stage) (bound mark : ℕ) (metas : List MetaRowset) (held : List HeldFiles) (room super : ℕ) → job_of n a.upkeep ≡ Some job → AtNewStage n (staged job t bound mark metas held room super) a b → GoesOn n a.upkeep b.upkeep
-  stage_on job t bound mark metas held room super had h = record {
+  pub stage_on : (job : JobView) (t : Stage) (bound mark : ℕ) (inputs : Option Inputs) (metas : List MetaRowset) (held : List HeldFiles) (room super : ℕ) → job_of n a.upkeep ≡ Some job → AtNewStage n (staged job t bound mark inputs metas held room super) a b → GoesOn n a.upkeep b.upkeep
+  stage_on job t bound mark inputs metas held room super had h = record {
     was = job;
     had = had;
-    job = staged job t bound mark metas held room super;
+    job = staged job t bound mark inputs metas held room super;
     has = ap (λ (u : UpkeepView). u.job) h.upkeep.own;
     want = refl;
     takes = refl;
   }
 
+  -- behind what was handed out to it
+  pub stage_keeps : (job : JobView) (t : Stage) (metas : List MetaRowset) (held : List HeldFiles) (room super : ℕ) → job_of n a.upkeep ≡ Some job → AtNewStage n (staged job t job.bound job.mark job.inputs metas held room super) a b → KeepsRead n a.upkeep b.upkeep
+  stage_keeps job t metas held room super had h = record {
+    was = job;
+    had = had;
+    job = staged job t job.bound job.mark job.inputs metas held room super;
+    has = ap (λ (u : UpkeepView). u.job) h.upkeep.own;
+    inputs = refl;
+    times = (refl, refl);
+  }
+
+  pub swapped_keeps : (out : List RowSetData) (metas : List MetaRowset) → HasSwapped n out metas a b → KeepsRead n a.upkeep b.upkeep
+  swapped_keeps out metas sw = stage_keeps sw.job stage.Swapped metas (map held_in out) sw.room sw.job.super sw.had sw.later
+
   pub swapped_on : (out : List RowSetData) (metas : List MetaRowset) → HasSwapped n out metas a b → GoesOn n a.upkeep b.upkeep
-  swapped_on out metas sw = stage_on sw.job stage.Swapped sw.job.bound sw.job.mark metas (map held_in out) sw.room sw.job.super sw.had sw.later
+  swapped_on out metas sw = stage_on sw.job stage.Swapped sw.job.bound sw.job.mark sw.job.inputs metas (map held_in out) sw.room sw.job.super sw.had sw.later
 
   -- nothing but what passes have of maintenance has changed, through two steps or none
   pub beside_then : (c : EngineView L D C) → b ≡ record a { upkeep = b.upkeep } → c ≡ record b { upkeep = c.upkeep } → c ≡ record a { upkeep = c.upkeep }
@@ -126,17 +141,17 @@ module _ {L D C : Type 0} (n : ℕ) (a b : EngineView L D C) where
     free = ap (λ (u : UpkeepsView). u.publishing) upkeep ∙ at.free;
     begun = λ e. at.begun (sym (ap (λ (u : UpkeepsView). u.begun) upkeep) ∙ e);
     given = (let low = at.given in omega (arith, low, more));
-    takes = takes_then at.job at.job.stage at.job.bound at.job.mark at.job.metas at.job.held at.job.room at.job.super tablet log meta at.takes;
+    takes = takes_then at.job at.job.stage at.job.bound at.job.mark at.job.inputs at.job.metas at.job.held at.job.room at.job.super tablet log meta at.takes;
     as_many = subst (λ (v : View C). length v.names ≡ length v.core.stores) (sym tablet) at.as_many;
   }
 
   -- its outputs are there, and stay
   pub has_swapped : (at : JobIsAt a n stage.Read) (out : List RowSetData) → HasSwapped n out (map (meta_in 0) out) a b → length a.tablet.core.stores + length out < 2 ^ 32 → AreFrom at.job.first_rowset (map files_in out) → JobHas b n stage.Swapped out
   has_swapped at out sw few from =
-      let later : AtNewStage n (staged at.job stage.Swapped at.job.bound at.job.mark (map (meta_in 0) out) (map held_in out) sw.room at.job.super) a b =
+      let later : AtNewStage n (staged at.job stage.Swapped at.job.bound at.job.mark at.job.inputs (map (meta_in 0) out) (map held_in out) sw.room at.job.super) a b =
       subst (λ (j : JobView). AtNewStage n (record j { stage = stage.Swapped; metas = map (meta_in 0) out; held = map held_in out; room = sw.room }) a b) (some_is sw.job at.job (sym sw.had ∙ at.has)) sw.later in
       record {
-        at = goes_on at stage.Swapped at.job.bound at.job.mark (map (meta_in 0) out) (map held_in out) sw.room at.job.super later;
+        at = goes_on at stage.Swapped at.job.bound at.job.mark at.job.inputs (map (meta_in 0) out) (map held_in out) sw.room at.job.super later;
         from = from;
         metas = refl;
         held = refl;
@@ -146,7 +161,7 @@ module _ {L D C : Type 0} (n : ℕ) (a b : EngineView L D C) where
 
   abbrev pub has_then : {s : Stage} (out : List RowSetData) (h : JobHas a n s out) (t : Stage) → AtNewStage n (record h.at.job { stage = t }) a b → JobHas b n t out
   has_then out h t later = record {
-    at = goes_on h.at t h.at.job.bound h.at.job.mark h.at.job.metas h.at.job.held h.at.job.room h.at.job.super later;
+    at = goes_on h.at t h.at.job.bound h.at.job.mark h.at.job.inputs h.at.job.metas h.at.job.held h.at.job.room h.at.job.super later;
     from = h.from;
     metas = h.metas;
     held = h.held;
@@ -159,6 +174,18 @@ pub may_abandon : {L D C : Type 0} (v : EngineView L D C) (n : ℕ) {s : Stage} 
 may_abandon v n at early = record { job = at.job; has = at.has; early = subst IsUnpublished (sym at.at) early; free = at.free }
 
 -- ---- the job of a pass from one step to the next
+
+pub keeps_then : (n : ℕ) (a b c : UpkeepsView) → KeepsRead n a b → KeepsRead n b c → KeepsRead n a c
+keeps_then n a b c first second =
+    let mid : second.was ≡ first.job = some_is second.was first.job (sym second.had ∙ first.has) in
+    record {
+      was = first.was;
+      had = first.had;
+      job = second.job;
+      has = second.has;
+      inputs = second.inputs ∙ ap (λ (j : JobView). j.inputs) mid ∙ first.inputs;
+      times = (second.times.0 ∙ ap (λ (j : JobView). j.bound) mid ∙ first.times.0, second.times.1 ∙ ap (λ (j : JobView). j.mark) mid ∙ first.times.1);
+    }
 
 pub on_then : (n : ℕ) (a b c : UpkeepsView) → GoesOn n a b → GoesOn n b c → GoesOn n a c
 on_then n a b c first second =

@@ -37,7 +37,7 @@ use Rattle.kt_engine.specs.declared.job.MaintNo.{MaintNo}
 use Rattle.kt_engine.specs.declared.job.MaintNo.TheVariants as no
 use Rattle.kt_engine.specs.declared.upkeep.Stage.TheVariants as stage
 use Rattle.kt_engine.specs.Over.{bare_store}
-use Rattle.kt_engine.specs.Engines.{EngineView, IsContent}
+use Rattle.kt_engine.specs.Engines.{EngineView, IsFound, IsContent}
 use Rattle.kt_engine.specs.Stored.{next_super, job_meta}
 use Rattle.kt_engine.specs.Logged.{PlanPasses}
 use Rattle.kt_engine.specs.Visits.{Root, root_of}
@@ -47,6 +47,7 @@ use Rattle.kt_engine.specs.Jobs.{JobView, UpkeepsView, takes_by, takes_of}
 use Rattle.kt_engine.proofs.Filed.{own_names}
 use Rattle.kt_engine.proofs.Flushed.{bare_hists}
 use Rattle.kt_engine.proofs.Visiting.{root_stays}
+use Rattle.kt_maint.specs.Done.{GivesMerged}
 use Rattle.kt_maint.specs.Runs.{IsQuiet, IsReady, IsPublished, HasFiles, HoldsMerged, JobHas, GoesOn}
 use Rattle.kt_maint.proofs.Stages.{some_is, ready_then}
 
@@ -234,8 +235,8 @@ module _ {L D C : Type 0} (tells : Bool) (seen : D → Files) (now : D → ℕ) 
       (root_stays n e2 e3 q3.visit ∙ root_stays n e1 e2 q2.visit)
 
   pub may_finish_then : (c d : EngineView L D C) (out : List RowSetData) (has : JobHas c n stage.Written out) → MayPublishJob tells seen now leaves c has.at.job → (r : Result (Unit {0}) MaintNo) → (r ≢ Err no.Stopped → IsQuiet n c d) → OnOk r (IsPublished n has.at.job c d)
-      → (before : UpkeepsView) → GoesOn n before c.upkeep → OnOk r ((same : GoesOn n before d.upkeep) × MayFinish d n same.job)
-  may_finish_then c d out has may (Ok done) quiet p before on =
+      → (before : UpkeepsView) → GoesOn n before c.upkeep → (IsQuiet n c d → (number : ℕ) → GivesMerged (IsFound d) (record has.at.job { stage = stage.Published; super = number })) → OnOk r ((same : GoesOn n before d.upkeep) × MayFinish d n same.job × GivesMerged (IsFound d) same.job)
+  may_finish_then c d out has may (Ok done) quiet p before on gives =
       let is = quiet (λ e. cc) in
       let own : has.at.job ≡ on.job = some_is has.at.job on.job (sym has.at.has ∙ on.has) in (
         record {
@@ -247,5 +248,6 @@ module _ {L D C : Type 0} (tells : Bool) (seen : D → Files) (now : D → ℕ) 
           takes = ap takes_of own ∙ on.takes;
         },
         may_finish c d out has may is p,
+        gives is p.number,
       )
-  may_finish_then c d out has may (Err x) quiet p before on = tt
+  may_finish_then c d out has may (Err x) quiet p before on gives = tt

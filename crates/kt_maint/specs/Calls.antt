@@ -10,6 +10,7 @@ use Rattle.kt_engine.specs.Calls.{HasNoDevice}
 use Rattle.kt_engine.specs.Jobs.{Last, none, nothing, begun, finished, abandoned, more, without_want}
 use Rattle.kt_engine.specs.declared.job.MaintNo.{MaintNo}
 use Rattle.kt_engine.specs.declared.job.MaintNo.TheVariants as no
+use Rattle.kt_maint.specs.Done.{HasDoneJob}
 use Rattle.kt_maint.specs.declared.run.Ran.{Ran}
 use Rattle.kt_maint.specs.declared.run.Ran.TheVariants as ran
 use Rattle.kt_maint.specs.declared.tries.Turn.{Turn}
@@ -43,7 +44,7 @@ pub record HasAsked {L D C : Type 0} (last : Last) (before after : Option (PartV
 
 -- a call for this want
 abbrev pub AfterCall : {L D C : Type 0} → Want → Option (PartView L D C) → Option (PartView L D C) → List Event → Result Ran MaintNo → Type 0
-AfterCall w before after seen (Ok ran.Done) = HasAsked (finished w) before after × HasNoDevice after
+AfterCall w before after seen (Ok ran.Done) = HasAsked (finished w) before after × HasNoDevice after × HasDoneJob w after
 AfterCall w before after seen (Ok ran.Nothing) = HasAsked (nothing w) before after × HasNoDevice after
 AfterCall w before after seen (Err no.Stopped) = (has_stop seen ≡ true) × HasNoDevice after
 AfterCall w before after seen (Err no.Memory) = HasNoDevice after
@@ -58,7 +59,7 @@ pub record SameUpkeep {L D C : Type 0} (before after : Option (PartView L D C)) 
 
 -- one try of it in a visit
 abbrev pub AfterTurn : {L D C : Type 0} → Want → Option (PartView L D C) → Option (PartView L D C) → List Event → Turn → Type 0
-AfterTurn w before after seen turn.Done = HasAsked (finished w) before after × HasNoDevice after
+AfterTurn w before after seen turn.Done = HasAsked (finished w) before after × HasNoDevice after × HasDoneJob w after
 AfterTurn w before after seen turn.Nothing = HasAsked (nothing w) before after × HasNoDevice after
 AfterTurn w before after seen turn.Wait = SameUpkeep before after × HasNoDevice after
 AfterTurn w before after seen turn.Stopped = (has_stop seen ≡ true) × HasNoDevice after

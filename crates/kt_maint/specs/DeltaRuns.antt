@@ -3,7 +3,7 @@ use Rattle.std.specs.Prelude.{◌≡◌, ◌≢◌, ◌≤◌, ℕ, Bool, true, 
 use Rattle.kt_disk.specs.Disk.{Files}
 use Rattle.kt_storeside.specs.Sides.{StoreView}
 use Rattle.kt_diskrowset.specs.declared.data.RowSetData.{RowSetData}
-use Rattle.kt_diskrowset.specs.Data.{files_in, held_in}
+use Rattle.kt_diskrowset.specs.Data.{files_in, held_in, store_in}
 use Rattle.kt_diskrowset.specs.Rows.{UndosLeadBack}
 use Rattle.kt_diskrowset.specs.Rowset.{HeldFiles}
 use Rattle.kt_files.specs.Reading.{HoldsRowset}
@@ -13,14 +13,15 @@ use Rattle.kt_outputs.specs.Rewriting.{HasNumbers, KeptStand}
 use Rattle.kt_pick.specs.declared.rules.Want.{Want}
 use Rattle.kt_pick.specs.declared.rules.Want.TheVariants as want
 use Rattle.kt_tablet.specs.Jobs.{next_dms, files_of}
-use Rattle.kt_engine.specs.Engines.{EngineView}
+use Rattle.kt_engine.specs.Engines.{EngineView, IsFound}
 use Rattle.kt_engine.specs.declared.upkeep.Stage.{Stage}
 use Rattle.kt_engine.specs.declared.upkeep.Stage.TheVariants as stage
-use Rattle.kt_engine.specs.Jobs.{JobView, job_of, job_finished, upkeep_at}
+use Rattle.kt_engine.specs.Jobs.{JobView, job_of, upkeep_at}
 use Rattle.kt_engine.specs.DeltaJobs.{IsOn, HasShape, TellsAll}
 use Rattle.kt_maint.specs.declared.tries.Turn.{Turn}
 use Rattle.kt_maint.specs.declared.tries.Turn.TheVariants as turn
-use Rattle.kt_maint.specs.Runs.{HasNoDevice}
+use Rattle.kt_maint.specs.Done.{HasGiven}
+use Rattle.kt_maint.specs.Runs.{HasNoDevice, over}
 
 -- a want on the files of a disk rowset
 abbrev pub IsOfRowset : Want → Type 0
@@ -43,7 +44,7 @@ Leaves (want.Minor r) old new = MergesRedos old new
 Leaves (want.Major r) old new = FoldsRedos old new
 Leaves _ old new = Unit {0}
 
--- its rowset as it is to be written: its files tell all that the tablet has of it, and the want leaves them of those that memory has
+-- its rowset as it is to be written: its files tell all that the tablet has of it, which was handed out, and the want leaves them of those that memory has
 pub record IsMade {L D C : Type 0} (v : EngineView L D C) (n : ℕ) (w : Want) (d : RowSetData) : Type 0 where
   pub at : DeltasAt v n w stage.Read
   pub all : TellsAll v.tablet at.job.dms d
@@ -51,6 +52,9 @@ pub record IsMade {L D C : Type 0} (v : EngineView L D C) (n : ℕ) (w : Want) (
   pub was : HeldFiles
   pub there : files_of d.number v.tablet.files ≡ Some was
   pub leaves : Leaves w was (held_in d)
+  pub read : RowSetData
+  pub has_read : (at.job.read ≡ Some read) × (was ≡ held_in read)
+  pub same : store_in d ≡ store_in read
   pub lead : UndosLeadBack (files_in d)
   pub whole : IsWhole d
 
@@ -71,9 +75,15 @@ pub record IsPublishedRowset {L D C : Type 0} (n : ℕ) (job : JobView) (r : ℕ
   pub has : job_of n new.upkeep ≡ Some (record job { stage = stage.Published; super = number })
   pub own : (new.upkeep.publishing ≡ Some n) × (number ≤ new.store.meta.number) × (new.store.lent ≡ None)
 
+-- the job of a pass is done, and has given what it is for
+pub record HasEnded {L D C : Type 0} (n : ℕ) (w : Want) (old new : EngineView L D C) : Type 0 where
+  pub job : JobView
+  pub upkeep : upkeep_at n new.upkeep.passes ≡ over w job (upkeep_at n old.upkeep.passes)
+  pub given : HasGiven (IsFound new) w job
+
 -- how a job whose rowset is written ends
 abbrev pub EndsAs : {L D C : Type 0} → ℕ → Want → EngineView L D C → EngineView L D C → Turn → Type 0
-EndsAs n w old new turn.Done = (upkeep_at n new.upkeep.passes ≡ job_finished w (upkeep_at n old.upkeep.passes)) × HasNoDevice n new
+EndsAs n w old new turn.Done = HasEnded n w old new × HasNoDevice n new
 EndsAs n w old new turn.Nothing = ⊥
 EndsAs n w old new turn.Wait = ⊥
 EndsAs n w old new turn.Memory = HasNoDevice n new

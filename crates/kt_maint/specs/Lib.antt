@@ -1,3 +1,4 @@
+pub mod Done
 pub mod Runs
 pub mod DeltaRuns
 pub mod Calls

@@ -28,6 +28,7 @@ use Rattle.kt_engine.specs.declared.job.MaintNo.TheVariants as no
 use Rattle.kt_engine.specs.Jobs.{JobView, UpkeepView, UpkeepsView, finished, IsUnpublished, asked_for_nothing, without_want, job_of, upkeep_at, takes_of, more}
 use Rattle.kt_stores.specs.Takes.{Takes}
 use Rattle.kt_engine.specs.JobSteps.{IsMerge, TakesInputs, HoldInputs}
+use Rattle.kt_maint.specs.Done.{HasGiven}
 use Rattle.kt_maint.specs.declared.ready.Ready.{Ready}
 use Rattle.kt_maint.specs.declared.ready.Ready.TheVariants as ready
 use Rattle.kt_maint.specs.declared.tries.Turn.{Turn}
@@ -107,6 +108,15 @@ pub record GoesOn (n : ℕ) (old new : UpkeepsView) : Type 0 where
   pub want : job.want ≡ was.want
   pub takes : takes_of job ≡ takes_of was
 
+-- and was handed out the same
+pub record KeepsRead (n : ℕ) (old new : UpkeepsView) : Type 0 where
+  pub was : JobView
+  pub had : job_of n old ≡ Some was
+  pub job : JobView
+  pub has : job_of n new ≡ Some job
+  pub inputs : job.inputs ≡ was.inputs
+  pub times : (job.bound ≡ was.bound) × (job.mark ≡ was.mark)
+
 pub record MayAbandon {L D C : Type 0} (v : EngineView L D C) (n : ℕ) : Type 0 where
   pub job : JobView
   pub has : job_of n v.upkeep ≡ Some job
@@ -166,13 +176,23 @@ abbrev pub turn_of : MaintNo → Turn
 turn_of no.Stopped = turn.Stopped
 turn_of no.Memory = turn.Memory
 
+-- the job that a pass had is done, and is kept as the last one
+abbrev pub over : Want → JobView → UpkeepView → UpkeepView
+over w job u = record u { last = finished w; todo = without_want w u.todo; job = None; done = Some job }
+
 -- the pass asked, and the job that began is done
-abbrev pub ran : Want → UpkeepView → UpkeepView
-ran w u = record u { asks = more (2 ^ 64 - 1) u.asks; last = finished w; todo = without_want w u.todo; job = None }
+abbrev pub ran : Want → JobView → UpkeepView → UpkeepView
+ran w job u = record u { asks = more (2 ^ 64 - 1) u.asks; last = finished w; todo = without_want w u.todo; job = None; done = Some job }
+
+-- and it has given what was asked
+pub record HasRun {L D C : Type 0} (n : ℕ) (w : Want) (old new : EngineView L D C) : Type 0 where
+  pub job : JobView
+  pub upkeep : upkeep_at n new.upkeep.passes ≡ ran w job (upkeep_at n old.upkeep.passes)
+  pub given : HasGiven (IsFound new) w job
 
 -- how a try for a job ended
 abbrev pub RunsAs : {L D C : Type 0} → ℕ → Want → EngineView L D C → EngineView L D C → Turn → Type 0
-RunsAs n w old new turn.Done = (upkeep_at n new.upkeep.passes ≡ ran w (upkeep_at n old.upkeep.passes)) × HasNoDevice n new
+RunsAs n w old new turn.Done = HasRun n w old new × HasNoDevice n new
 RunsAs n w old new turn.Nothing = (upkeep_at n new.upkeep.passes ≡ asked_for_nothing w (upkeep_at n old.upkeep.passes)) × (job_of n new.upkeep ≡ None) × HasNoDevice n new
 RunsAs n w old new turn.Wait = (upkeep_at n new.upkeep.passes ≡ upkeep_at n old.upkeep.passes) × HasNoDevice n new
 RunsAs n w old new turn.Memory = HasNoDevice n new

@@ -9,6 +9,7 @@ ghost use Rattle.kt_engine.specs.Jobs.{JobView, job_of};
 ghost use Rattle.kt_engine.specs.DeltaJobs.{IsOn, HasShape, MayPublishDeltas};
 ghost use Rattle.kt_engine.specs.Visits.{IsVisit};
 ghost use Rattle.kt_engine.specs.declared.upkeep.Stage.TheVariants as stage;
+ghost use Rattle.kt_maint.specs.Done.{GivesRewritten};
 ghost use Rattle.kt_maint.specs.Runs.{KeepsAsks, IsQuiet, IsReady, RunsAs, HasNoDevice, MayAbandon, StandsAs};
 ghost use Rattle.kt_maint.specs.DeltaRuns.{IsOfRowset, DeltasAt, Leaves, IsMade, IsPublishedRowset, EndsAs};
 
@@ -94,7 +95,7 @@ fn prepare<L: Disk, D: Disk + Drop, C: Clock>(
     ensures still { StandsAs by engine.old engine.new }
     ensures quiet { result ≢ Err MaintNo.Stopped → IsQuiet by engine.old engine.new }
     ensures log { engine.new.log ≡ engine.old.log }
-    ensures written { OnOk result ((d : DataSpec) × ((at : DeltasAt engine.new by want.now stage.Written) × MayPublishDeltas D.tells D.seen D.now D.leaves engine.new at.job d)) }
+    ensures written { OnOk result ((d : DataSpec) × ((at : DeltasAt engine.new by want.now stage.Written) × MayPublishDeltas D.tells D.seen D.now D.leaves engine.new at.job d × GivesRewritten at.job)) }
     ensures memory { result ≡ Err MaintNo.Memory → MayAbandon engine.new by }
     ensures stops { result ≡ Err MaintNo.Stopped → engine.new.tablet.core.stopped ≡ true }
     ensures home { engine.new.store.holder ≡ None }
@@ -151,7 +152,7 @@ fn finish<L: Disk, D: Disk + Drop, C: Clock>(
     want: &Want,
 ) -> Turn
     requires calm { IsReady engine.old }
-    requires written { (d : DataSpec) × ((at : DeltasAt engine.old by want.now stage.Written) × MayPublishDeltas D.tells D.seen D.now D.leaves engine.old at.job d) }
+    requires written { (d : DataSpec) × ((at : DeltasAt engine.old by want.now stage.Written) × MayPublishDeltas D.tells D.seen D.now D.leaves engine.old at.job d × GivesRewritten at.job) }
     ensures visit { IsVisit by engine.old engine.new }
     ensures still { StandsAs by engine.old engine.new }
     ensures ends { EndsAs by want.now engine.old engine.new result }

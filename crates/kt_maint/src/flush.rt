@@ -3,11 +3,13 @@ ghost use Rattle.std.specs.Prelude.{◌≡◌, ◌≢◌, [], true, None, Some, 
 ghost use Rattle.std.specs.List.{AllByRecursion};
 ghost use Rattle.kt_diskrowset.specs.Data.{files_in};
 ghost use Rattle.kt_content.specs.Flushes.{AreFrom};
+ghost use Rattle.kt_engine.specs.Engines.{IsFound};
 ghost use Rattle.kt_engine.specs.Jobs.{JobView, job_of, takes_of};
 ghost use Rattle.kt_engine.specs.JobSteps.{IsMerge, MayFinish};
 ghost use Rattle.kt_engine.specs.Visits.{IsVisit};
 ghost use Rattle.kt_engine.specs.declared.upkeep.Stage.TheVariants as stage;
-ghost use Rattle.kt_maint.specs.Runs.{IsQuiet, IsReady, RunsAs, JobIsAt, JobHas, GoesOn, HasNoDevice, HoldsMerged, MayAbandon, StandsAs};
+ghost use Rattle.kt_maint.specs.Done.{AreMerged, GivesMerged};
+ghost use Rattle.kt_maint.specs.Runs.{IsQuiet, IsReady, RunsAs, JobIsAt, JobHas, GoesOn, KeepsRead, HasNoDevice, HoldsMerged, MayAbandon, StandsAs};
 
 use crate::numbers::is_within;
 use crate::publishing::publish_job;
@@ -36,6 +38,7 @@ fn merge<L: Disk, D: Disk + Drop, C: Clock>(
     ensures quiet { IsQuiet by engine.old engine.new }
     ensures beside { engine.new ≡ record engine.old { upkeep = engine.new.upkeep } }
     ensures merged { IfOk result (λ outputs. (at : JobIsAt engine.new by stage.Read) × HoldsMerged D.tells engine.new (takes_of at.job) outputs.rowsets) }
+    ensures given { IfOk result (λ outputs. (job : JobView) → job_of by engine.new.upkeep ≡ Some job → AreMerged (IsFound engine.new) job outputs.rowsets) }
     ensures same { IfOk result (λ _. GoesOn by engine.old.upkeep engine.new.upkeep) }
     ensures memory { IsErr result → MayAbandon engine.new by }
 {
@@ -80,6 +83,7 @@ fn hand_in<L: Disk, D: Disk + Drop, C: Clock>(
     ensures beside { engine.new ≡ record engine.old { upkeep = engine.new.upkeep } }
     ensures written { OnOk result (JobHas engine.new by stage.Written outputs.rowsets) }
     ensures same { OnOk result (GoesOn by engine.old.upkeep engine.new.upkeep) }
+    ensures read { OnOk result (KeepsRead by engine.old.upkeep engine.new.upkeep) }
     ensures memory { IsErr result → MayAbandon engine.new by }
 {
     let Ok(()) = engine.job_swap(alloc, by, outputs) else {
@@ -105,7 +109,7 @@ fn carry_out<L: Disk, D: Disk + Drop, C: Clock>(
     requires calm { IsReady engine.old }
     ensures visit { IsVisit by engine.old engine.new }
     ensures quiet { result ≢ Err MaintNo.Stopped → IsQuiet by engine.old engine.new }
-    ensures published { OnOk result ((same : GoesOn by engine.old.upkeep engine.new.upkeep) × MayFinish engine.new by same.job) }
+    ensures published { OnOk result ((same : GoesOn by engine.old.upkeep engine.new.upkeep) × MayFinish engine.new by same.job × GivesMerged (IsFound engine.new) same.job) }
     ensures memory { result ≡ Err MaintNo.Memory → MayAbandon engine.new by }
     ensures stops { result ≡ Err MaintNo.Stopped → engine.new.tablet.core.stopped ≡ true }
     ensures still { StandsAs by engine.old engine.new }

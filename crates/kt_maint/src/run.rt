@@ -29,7 +29,7 @@ pub enum Ran {
 }
 
 // Tries a job in this visit.
-fn turn_now<L: Disk, D: Disk + Drop, C: Clock>(
+pub(crate) fn turn_now<L: Disk, D: Disk + Drop, C: Clock>(
     alloc: Global,
     engine: &mut Engine<L, D, C>,
     by: u32,

@@ -1,20 +1,69 @@
-//! Background workers: each picks a job, runs it, and rests where there is none.
+//! Background workers: each picks a job and runs it in one visit, and rests where there is none.
 ghost use Rattle.std.specs.Prelude.{IfOk};
-ghost use Rattle.kt_seatlock.specs.Passes.{number, seen, part, MayEnter, IsBack};
+ghost use Rattle.kt_seatlock.specs.Passes.{number, seen, part, MayEnter, IsBack, IsPassOf, IsOutside, IsSame};
 ghost use Rattle.kt_engine.specs.Calls.{SeesOthers, HasNoDevice, StandsStill};
+ghost use Rattle.kt_engine.specs.Visits.{IsVisit};
+ghost use Rattle.kt_maint.specs.Runs.{HasNoDevice as PassHasNone, StandsAs};
 ghost use Rattle.kt_maint.specs.Work.{Picks};
 
-use crate::run::{Ran, run_job};
+use crate::run::turn_now;
+use crate::tries::Turn;
 use kt_base::{Clock, NoMemory};
 use kt_disk::Disk;
-use kt_engine::{Engine, MaintNo};
+use kt_engine::{Engine, Pulse, Stats};
 use kt_pick::Want;
 use kt_seatlock::{Pass, SeatLock};
 use std::alloc::Global;
 use std::sync::Wait;
+use std::thread::Parker;
+use std::time::Duration;
 
 /// A worker ends after so many jobs.
 const MOST_JOBS: u32 = 1_048_576;
+
+/// So many rows in memory, or changes of one rowset, make work: as many as the rules of kt_pick ask.
+const MANY_ROWS: u32 = 8192;
+
+const MANY_CHANGES: u32 = 4096;
+
+/// A worker that has nothing to do looks no sooner than after so many milliseconds.
+const NAP: u64 = 1;
+
+// What a look finds.
+#[derive(Drop)]
+struct Found {
+    /// The job of the first rule that applies, if one does.
+    want: Option<Want>,
+    /// Where none does, none applies before so many cells more are taken.
+    leeway: u32,
+}
+
+// How many cells may be taken before a rule applies, where none does: each row and each change in memory takes one at least.
+fn leeway(stats: &Stats) -> u32 {
+    let rows = MANY_ROWS.saturating_sub(stats.mem_rows);
+    let cells = stats.free.saturating_sub(stats.cells / 4);
+    let mut changes = MANY_CHANGES;
+    'rowsets: for stat in stats.rowsets.as_slice() {
+        let fresh = stat.fresh.min(u64::from(MANY_CHANGES)) as u32;
+        changes = changes.min(MANY_CHANGES - fresh);
+    }
+    rows.min(cells).min(changes).max(1)
+}
+
+// Counts what the stores hold, and picks by that.
+fn look<L: Disk, D: Disk + Drop, C: Clock>(
+    alloc: Global,
+    engine: &Engine<L, D, C>,
+) -> Result<Found, NoMemory>
+    ensures { IfOk result (λ found. Picks engine.now found.want) }
+{
+    let stats = engine.stats(alloc)?;
+    let leeway = leeway(&stats);
+    Ok(Found {
+        want: kt_pick::pick(stats),
+        leeway,
+    })
+}
 
 /// The job of the first rule of the maintenance policy that applies to the tablet, if one does.
 pub fn pick<L: Disk, D: Disk + Drop, C: Clock>(
@@ -23,90 +72,124 @@ pub fn pick<L: Disk, D: Disk + Drop, C: Clock>(
 ) -> Result<Option<Want>, NoMemory>
     ensures { IfOk result (Picks engine.now) }
 {
-    Ok(kt_pick::pick(engine.stats(alloc)?))
+    Ok(look(alloc, engine)?.want)
 }
 
-// What a worker finds in a visit.
-#[derive(Drop)]
-enum Found {
-    Job(Want),
-    /// There is nothing to do.
-    Nothing,
-    /// No session runs any more, the tablet has stopped, or there is no memory to look.
-    Over,
+// What there was as a look found nothing, and how many cells may be taken before another one can find more.
+#[derive(Clone, Copy)]
+struct Watch {
+    pulse: Pulse,
+    leeway: u32,
 }
 
-// What there is to do as the tablet stands.
-fn find<L: Disk, D: Disk + Drop, C: Clock>(alloc: Global, engine: &Engine<L, D, C>) -> Found {
-    if engine.over() || engine.is_stopped() {
-        return Found::Over;
-    }
-    match pick(alloc, engine) {
-        Ok(Some(want)) => Found::Job(want),
-        Ok(None) => Found::Nothing,
-        Err(NoMemory) => Found::Over,
-    }
+// Whether a rule may apply now: where no look found nothing, where a job has begun or ended since the last that did, or where enough cells were taken.
+fn is_due(watch: Option<Watch>, now: Pulse) -> bool {
+    let Some(Watch { pulse, leeway }) = watch else {
+        return true;
+    };
+    now.begun != pulse.begun
+        || now.running != pulse.running
+        || now.free.saturating_add(leeway) <= pulse.free
 }
 
-// A visit that looks for a job, and changes nothing.
-fn look<L: Disk, D: Disk + Drop, C: Clock, R: Wait>(
-    rt: &R,
-    alloc: Global,
-    lock: &SeatLock<Engine<L, D, C>>,
-    pass: &mut Pass<Engine<L, D, C>>,
-) -> Found
-    requires enters { MayEnter lock.now pass.old }
-    requires home { HasNoDevice (part pass.old) }
-    ensures pass { IsBack pass.old pass.new }
-    ensures still { StandsStill (part pass.old) (part pass.new) }
-    ensures quiet { SeesOthers (number pass.old) (seen pass.old) (seen pass.new) }
-    ensures home { HasNoDevice (part pass.new) }
-{
-    let engine = lock.enter(rt, pass);
-    let found = find(alloc, &engine);
-    lock.leave(pass, engine);
-    found
-}
-
-// How a step of a worker ended.
+// How a turn of a worker ended.
 #[derive(Clone, Copy, PartialEq, Eq)]
 enum Step {
     /// It has run a job.
     Worked,
-    /// It has rested.
-    Rested,
-    /// It is over.
+    /// There may be something to do once what is under way has ended.
+    Busy,
+    /// There is nothing to do.
+    Idle,
+    /// No session runs any more, the tablet has stopped, or there was no memory.
     Over,
 }
 
-// Looks whether a session still runs, and rests until another visit has ended where one does: that one will make its last visit yet.
-fn pause<L: Disk, D: Disk + Drop, C: Clock, R: Wait>(
-    rt: &R,
+// Tries what was picked, in the visit in which it was. Where something is under way after all it is looked for again.
+fn run_found<L: Disk, D: Disk + Drop, C: Clock>(
     alloc: Global,
-    lock: &SeatLock<Engine<L, D, C>>,
-    pass: &mut Pass<Engine<L, D, C>>,
+    engine: &mut Engine<L, D, C>,
+    by: u32,
+    want: &Want,
+    watch: &mut Option<Watch>,
 ) -> Step
-    requires enters { MayEnter lock.now pass.old }
-    requires home { HasNoDevice (part pass.old) }
-    ensures pass { IsBack pass.old pass.new }
-    ensures still { StandsStill (part pass.old) (part pass.new) }
-    ensures quiet { SeesOthers (number pass.old) (seen pass.old) (seen pass.new) }
-    ensures home { HasNoDevice (part pass.new) }
+    requires home { PassHasNone by engine.old }
+    ensures visit { IsVisit by engine.old engine.new }
+    ensures still { StandsAs by engine.old engine.new }
+    ensures home { PassHasNone by engine.new }
 {
-    match look(rt, alloc, lock, pass) {
-        Found::Job(_) | Found::Nothing => {}
-        Found::Over => return Step::Over,
+    match turn_now(alloc, engine, by, want) {
+        Turn::Done => Step::Worked,
+        Turn::Nothing => Step::Idle,
+        Turn::Wait => {
+            *watch = None;
+            Step::Busy
+        }
+        Turn::Stopped | Turn::Memory => Step::Over,
     }
-    lock.rest(rt, pass);
-    Step::Rested
 }
 
-// Runs a job if there is one, and rests until another visit has ended where there is nothing to do.
+// Looks where a rule may apply and nothing is under way, and runs the job of the first that does.
+fn turn<L: Disk, D: Disk + Drop, C: Clock>(
+    alloc: Global,
+    engine: &mut Engine<L, D, C>,
+    by: u32,
+    watch: &mut Option<Watch>,
+) -> Step
+    requires home { PassHasNone by engine.old }
+    ensures visit { IsVisit by engine.old engine.new }
+    ensures still { StandsAs by engine.old engine.new }
+    ensures home { PassHasNone by engine.new }
+{
+    if engine.over() || engine.is_stopped() {
+        return Step::Over;
+    }
+    let pulse = engine.pulse();
+    if !is_due(*watch, pulse) {
+        return Step::Idle;
+    }
+    if !engine.is_idle() {
+        return Step::Busy;
+    }
+    let Ok(Found { want, leeway }) = look(alloc, engine) else {
+        return Step::Over;
+    };
+    *watch = Some(Watch { pulse, leeway });
+    match want {
+        Some(want) => run_found(alloc, engine, by, &want, watch),
+        None => Step::Idle,
+    }
+}
+
+// Waits behind a turn without a job until another visit has ended, and where there was nothing to do a while longer: then no session has to wake it at each of
+// its visits.
+fn wait<L: Disk, D: Disk + Drop, C: Clock, R: Wait>(
+    rt: &R,
+    lock: &SeatLock<Engine<L, D, C>>,
+    pass: &mut Pass<Engine<L, D, C>>,
+    step: Step,
+)
+    requires own { IsPassOf lock.now pass.old }
+    requires outside { IsOutside pass.old }
+    ensures { IsSame pass.old pass.new }
+{
+    match step {
+        Step::Worked | Step::Over => {}
+        Step::Busy => lock.rest(rt, pass),
+        Step::Idle => {
+            lock.rest(rt, pass);
+            Parker::new().park_timeout(rt, Duration::from_millis(NAP));
+        }
+    }
+}
+
+// One visit of a worker, and a rest behind it where it ran no job.
 fn take_step<L: Disk, D: Disk + Drop, C: Clock, R: Wait>(
     rt: &R,
     alloc: Global,
     lock: &SeatLock<Engine<L, D, C>>,
     pass: &mut Pass<Engine<L, D, C>>,
+    watch: &mut Option<Watch>,
 ) -> Step
     requires enters { MayEnter lock.now pass.old }
     requires home { HasNoDevice (part pass.old) }
@@ -115,24 +198,17 @@ fn take_step<L: Disk, D: Disk + Drop, C: Clock, R: Wait>(
     ensures quiet { SeesOthers (number pass.old) (seen pass.old) (seen pass.new) }
     ensures home { HasNoDevice (part pass.new) }
 {
-    let want = match look(rt, alloc, lock, pass) {
-        Found::Job(want) => want,
-        Found::Nothing => {
-            lock.rest(rt, pass);
-            return Step::Rested;
-        }
-        Found::Over => return Step::Over,
-    };
-    match run_job(rt, alloc, lock, pass, &want) {
-        Ok(Ran::Done) => Step::Worked,
-        Ok(Ran::Nothing) => pause(rt, alloc, lock, pass),
-        Err(MaintNo::Stopped) => Step::Over,
-        Err(MaintNo::Memory) => Step::Over,
-    }
+    let by = pass.number();
+    let mut engine = lock.enter(rt, pass);
+    let step = turn(alloc, &mut engine, by, watch);
+    lock.leave(pass, engine);
+    wait(rt, lock, pass, step);
+    step
 }
 
-/// A worker: it picks a job, runs it, and rests where there is none until another visit has ended. It ends once no session runs any more, where the tablet is
-/// stopped, after 1,048,576 jobs, or where picking or a job meets want of memory.
+/// A worker: it picks a job and runs it in the same visit, and rests where there is none. It looks again only where a rule may apply since the last look that
+/// found nothing, and no sooner than after a millisecond. It ends once no session runs any more, where the tablet is stopped, after 1,048,576 jobs, or where
+/// picking or a job meets want of memory.
 pub fn work<L: Disk, D: Disk + Drop, C: Clock, R: Wait>(
     rt: &R,
     alloc: Global,
@@ -146,12 +222,15 @@ pub fn work<L: Disk, D: Disk + Drop, C: Clock, R: Wait>(
     ensures quiet { SeesOthers (number pass.old) (seen pass.old) (seen pass.new) }
     ensures home { HasNoDevice (part pass.new) }
 {
+    let mut watch = None;
     let mut jobs: u32 = 0;
     'steps: for _ in rt.forever() {
-        match take_step(rt, alloc, lock, pass) {
-            Step::Rested => {}
-            Step::Worked if jobs < MOST_JOBS => jobs += 1,
-            _ => return,
+        let step = take_step(rt, alloc, lock, pass, &mut watch);
+        if step == Step::Worked {
+            jobs = jobs.saturating_add(1);
+        }
+        if step == Step::Over || jobs == MOST_JOBS {
+            return;
         }
     }
 }

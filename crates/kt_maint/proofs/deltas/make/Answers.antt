@@ -24,4 +24,4 @@ pub returns-in-Ok-clause-memory : goal.returns-in-Ok-clause-memory
 returns-in-Ok-clause-memory g c = λ err.
     let at = c.requires.begun in
     let read = c.in-Ok.ensures.read at.job at.has in
-    may_abandon c.args.by c.args.want.now c.delta_snapshot.new.self (at_then c.args.by c.args.want.now c.args.engine.now c.delta_snapshot.new.self at stage.Read read.0 at.job.output read.2) tt
+    may_abandon c.args.by c.args.want.now c.delta_snapshot.new.self (at_then c.args.by c.args.want.now c.args.engine.now c.delta_snapshot.new.self at stage.Read read.0 (Some c.in-Ok.read) at.job.output read.2) tt

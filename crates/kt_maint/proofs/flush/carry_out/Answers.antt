@@ -2,7 +2,9 @@ use Rattle.std.proofs.Common.{map, sym, ap, subst, ◌∙◌}
 use Rattle.kt_content.specs.Flushes.{AreFrom}
 use Rattle.kt_diskrowset.specs.Data.{files_in}
 use Rattle.kt_engine.specs.Jobs.{JobView, UpkeepsView, job_of, takes_of}
-use Rattle.kt_maint.specs.Runs.{GoesOn}
+use Rattle.kt_engine.proofs.Visiting.{root_stays}
+use Rattle.kt_maint.specs.Runs.{GoesOn, KeepsRead}
+use Rattle.kt_maint.proofs.Merged.{gives_merged}
 use Rattle.kt_maint.proofs.Stages.{some_is, on_then, takes_same}
 use Rattle.kt_maint.proofs.Written.{fresh_written, from_written, may_publish_then, may_finish_then}
 use Rattle.kt_maint.proofs.flush.carry_out.Goals as goal
@@ -60,3 +62,5 @@ returns-clause-published g c =
     (takes_of read.job) c.standing.ensures.side c.requires.calm c.merge.ensures.quiet c.merge.ensures.beside c.in-Ok.ensures.merged.1 quiet.0 c.in_ok-outputs.ensures.files c.write.ensures.home c.hand_in.ensures.quiet c.hand_in.ensures.beside has (takes_same by e1.upkeep e3.upkeep on read.job has.at.job read.has has.at.has) in
     may_finish_then g.D.Disk.tells g.D.Disk.seen g.D.Disk.now g.D.Disk.leaves by e3 c.publish_job.new.engine out has may c.publish_job.result c.publish_job.ensures.quiet (c.publish_job.ensures.published has.at.job has.at.has) e0.upkeep
     (on_then by e0.upkeep e1.upkeep e3.upkeep c.in-Ok.ensures.same on)
+    (λ published number. gives_merged by e1 e3 c.publish_job.new.engine merged out e1.store.next_rowset number (root_stays by e3 c.publish_job.new.engine published.visit ∙ root_stays by e2 e3 c.hand_in.ensures.quiet.visit ∙ root_stays by e1 e2 quiet.0.visit) c.in-Ok.ensures.given
+    (subst (λ (u : UpkeepsView). KeepsRead by u e3.upkeep) quiet.1 c.in-Ok-hand_in.ensures.read) c.in_ok-outputs.ensures.files.written has)

@@ -6,7 +6,7 @@ use Rattle.kt_diskrowset.specs.declared.files.FileHeld.{FileHeld}
 use Rattle.kt_diskrowset.specs.Rowset.{HeldFiles}
 use Rattle.kt_engine.specs.declared.upkeep.Stage.TheVariants as stage
 use Rattle.kt_maint.specs.Runs.{MayAbandon, IsQuiet}
-use Rattle.kt_maint.proofs.Stages.{has_swapped, has_then, quiet_stage, beside_then, beside_same, may_abandon, stage_on, swapped_on, on_then}
+use Rattle.kt_maint.proofs.Stages.{has_swapped, has_then, quiet_stage, beside_then, beside_same, may_abandon, stage_on, swapped_on, on_then, stage_keeps, swapped_keeps, keeps_then}
 use Rattle.kt_maint.proofs.Visiting.{quiet_then}
 use Rattle.kt_maint.proofs.flush.hand_in.Goals as goal
 
@@ -152,5 +152,21 @@ returns-clause-same g c =
     let j2 = h2.at.job in
     on_then by c.args.engine.now.upkeep c.job_collect.new.self.upkeep c.job_missed.new.self.upkeep
     (on_then by c.args.engine.now.upkeep c.job_swap.new.self.upkeep c.job_collect.new.self.upkeep (swapped_on by c.args.engine.now c.job_swap.new.self out _ c.in-Ok.ensures.swapped)
-    (stage_on by c.job_swap.new.self c.job_collect.new.self j1 stage.Collected j1.bound j1.mark j1.metas j1.held j1.room j1.super h1.at.has lacks.1))
-    (stage_on by c.job_collect.new.self c.job_missed.new.self j2 stage.Written j2.bound j2.mark j2.metas j2.held j2.room j2.super h2.at.has last)
+    (stage_on by c.job_swap.new.self c.job_collect.new.self j1 stage.Collected j1.bound j1.mark j1.inputs j1.metas j1.held j1.room j1.super h1.at.has lacks.1))
+    (stage_on by c.job_collect.new.self c.job_missed.new.self j2 stage.Written j2.bound j2.mark j2.inputs j2.metas j2.held j2.room j2.super h2.at.has last)
+
+pub returns-clause-read : goal.returns-clause-read
+returns-clause-read g c =
+    let by = c.args.by in
+    let read = c.requires.read in
+    let out = c.args.outputs.rowsets in
+    let h1 = has_swapped by c.args.engine.now c.job_swap.new.self read out c.in-Ok.ensures.swapped c.in-Ok.ensures.few (c.requires.from read.job read.has) in
+    let lacks = c.in-Ok-job_collect.ensures.none h1.at.job h1.at.has in
+    let h2 = has_then by c.job_swap.new.self c.job_collect.new.self out h1 stage.Collected lacks.1 in
+    let last = c.in-Ok-job_missed.ensures.written h2.at.job h2.at.has in
+    let j1 = h1.at.job in
+    let j2 = h2.at.job in
+    keeps_then by c.args.engine.now.upkeep c.job_collect.new.self.upkeep c.job_missed.new.self.upkeep
+    (keeps_then by c.args.engine.now.upkeep c.job_swap.new.self.upkeep c.job_collect.new.self.upkeep (swapped_keeps by c.args.engine.now c.job_swap.new.self out _ c.in-Ok.ensures.swapped)
+    (stage_keeps by c.job_swap.new.self c.job_collect.new.self j1 stage.Collected j1.metas j1.held j1.room j1.super h1.at.has lacks.1))
+    (stage_keeps by c.job_collect.new.self c.job_missed.new.self j2 stage.Written j2.metas j2.held j2.room j2.super h2.at.has last)

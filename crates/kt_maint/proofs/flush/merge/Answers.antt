@@ -1,11 +1,13 @@
-use Rattle.std.proofs.Common.{◌≡◌, ◌≤◌, ℕ, Err, None, Some, sym, ap, subst, ◌∙◌, arith}
+use Rattle.std.proofs.Common.{◌≡◌, ◌≤◌, ℕ, Err, None, Some, refl, sym, ap, subst, ◌∙◌, arith}
 use Rattle.std.specs.Prelude.{map}
 use Rattle.std.proofs.Math.Nat.{min-le_left}
 use Rattle.kt_history.specs.Machine.{least}
 use Rattle.kt_histlaws.specs.Core.{flown_by}
 use Rattle.kt_engine.specs.declared.upkeep.Stage.TheVariants as stage
-use Rattle.kt_maint.proofs.Merged.{holds_merged}
-use Rattle.kt_maint.proofs.Stages.{goes_on, stage_on, quiet_stage, may_abandon}
+use Rattle.kt_engine.specs.Engines.{IsFound}
+use Rattle.kt_maint.specs.Done.{AreMerged}
+use Rattle.kt_maint.proofs.Merged.{holds_merged, are_merged}
+use Rattle.kt_maint.proofs.Stages.{some_is, goes_on, stage_on, quiet_stage, may_abandon}
 use Rattle.kt_maint.proofs.flush.merge.Goals as goal
 
 none_some : {A : Type 0} (x : A) → None ≡ Some x → ⊥
@@ -34,7 +36,7 @@ returns-in_err-outputs-in-Ok-clause-beside g c = let at = c.requires.begun in (c
 pub returns-in_err-outputs-in-Ok-clause-memory : goal.returns-in_err-outputs-in-Ok-clause-memory
 returns-in_err-outputs-in-Ok-clause-memory g c = λ err.
     let at = c.requires.begun in
-    may_abandon c.job_snapshot.new.self c.args.by (goes_on c.args.by c.args.engine.now c.job_snapshot.new.self at stage.Read c.in-Ok.input.bound c.in-Ok.input.mark at.job.metas at.job.held at.job.room at.job.super (c.in-Ok.ensures.read at.job at.has).1) tt
+    may_abandon c.job_snapshot.new.self c.args.by (goes_on c.args.by c.args.engine.now c.job_snapshot.new.self at stage.Read c.in-Ok.input.bound c.in-Ok.input.mark (Some c.in-Ok.input.inputs) at.job.metas at.job.held at.job.room at.job.super (c.in-Ok.ensures.read at.job at.has).1) tt
 
 pub unreachable-requires-in-Err-NotYet : goal.unreachable-requires-in-Err-NotYet
 unreachable-requires-in-Err-NotYet g c =
@@ -48,7 +50,7 @@ returns-in_ok-outputs-in-Ok-clause-merged g c =
     let read = c.in-Ok.ensures.read at.job at.has in
     let later = read.1 in
     let made = c.in_ok-outputs-in-Ok.ensures in (
-      goes_on c.args.by c.args.engine.now c.job_snapshot.new.self at stage.Read input.bound input.mark at.job.metas at.job.held at.job.room at.job.super later,
+      goes_on c.args.by c.args.engine.now c.job_snapshot.new.self at stage.Read input.bound input.mark (Some input.inputs) at.job.metas at.job.held at.job.room at.job.super later,
       holds_merged g.D.Disk.tells c.args.engine.now c.job_snapshot.new.self input.inputs input.bound input.mark c.in_ok-outputs-in-Ok.outputs.rowsets at.job at.takes at.as_many c.rise_law.ensures c.outputs_pass_law.ensures later.beside read.0 c.is_within.ensures
           c.in-Ok.ensures.faultless (λ first found. c.in-Ok.ensures.tells at.job first at.has found) c.in-Ok.ensures.passes made.outputs made.rows made.alike made.sound,
     )
@@ -57,7 +59,7 @@ pub returns-in_ok-outputs-in-Ok-clause-same : goal.returns-in_ok-outputs-in-Ok-c
 returns-in_ok-outputs-in-Ok-clause-same g c =
     let at = c.requires.begun in
     let input = c.in-Ok.input in
-    stage_on c.args.by c.args.engine.now c.job_snapshot.new.self at.job stage.Read input.bound input.mark at.job.metas at.job.held at.job.room at.job.super at.has (c.in-Ok.ensures.read at.job at.has).1
+    stage_on c.args.by c.args.engine.now c.job_snapshot.new.self at.job stage.Read input.bound input.mark (Some input.inputs) at.job.metas at.job.held at.job.room at.job.super at.has (c.in-Ok.ensures.read at.job at.has).1
 
 pub returns-in_ok-outputs-in-Ok-clause-quiet : goal.returns-in_ok-outputs-in-Ok-clause-quiet
 returns-in_ok-outputs-in-Ok-clause-quiet g c =
@@ -66,3 +68,15 @@ returns-in_ok-outputs-in-Ok-clause-quiet g c =
 
 pub returns-in_ok-outputs-in-Ok-clause-beside : goal.returns-in_ok-outputs-in-Ok-clause-beside
 returns-in_ok-outputs-in-Ok-clause-beside g c = let at = c.requires.begun in (c.in-Ok.ensures.read at.job at.has).1.beside
+
+-- what was handed out is merged
+pub returns-in_ok-outputs-in-Ok-clause-given : goal.returns-in_ok-outputs-in-Ok-clause-given
+returns-in_ok-outputs-in-Ok-clause-given g c = λ job has.
+    let at = c.requires.begun in
+    let input = c.in-Ok.input in
+    let later = (c.in-Ok.ensures.read at.job at.has).1 in
+    let made = c.in_ok-outputs-in-Ok.ensures in
+    let went = goes_on c.args.by c.args.engine.now c.job_snapshot.new.self at stage.Read input.bound input.mark (Some input.inputs) at.job.metas at.job.held at.job.room at.job.super later in
+    let own = some_is went.job job (sym went.has ∙ has) in
+    subst (λ j. AreMerged (IsFound c.job_snapshot.new.self) j c.in_ok-outputs-in-Ok.outputs.rowsets) own
+    (are_merged c.args.engine.now c.job_snapshot.new.self went.job input.inputs c.in_ok-outputs-in-Ok.outputs.rowsets refl later.beside c.in-Ok.ensures.faultless made.outputs made.keys made.rows made.alike)

@@ -1,7 +1,7 @@
 use Rattle.std.proofs.Common.{ap, ◌∙◌}
 use Rattle.kt_engine.specs.Jobs.{upkeep_at}
 use Rattle.kt_maint.specs.Runs.{ran}
-use Rattle.kt_maint.proofs.Begun.{begun_ready, begun_at, stands_ready, ran_done, ran_home, over_stands}
+use Rattle.kt_maint.proofs.Begun.{begun_ready, begun_at, stands_ready, ran_done, ran_given, ran_home, over_stands}
 use Rattle.kt_maint.proofs.Visiting.{stands_same, stands_then}
 use Rattle.kt_maint.proofs.flush.merge_now.Goals as goal
 
@@ -64,6 +64,10 @@ returns-in-Ok-carry_out-clause-runs g c =
     let quiet = c.in-Ok-carry_out.ensures.quiet (λ e. cc) in
     let same = c.in-Ok-carry_out.ensures.published.0 in
     let over = c.job_finish.ensures.finished in (
-      ran_done by e1 e2 w _ begun e3 e4 quiet.asks same over ∙ ap (λ u. ran w (upkeep_at by u.passes)) ready.3,
+      record {
+        job = over.job;
+        upkeep = ran_done by e1 e2 w _ begun e3 e4 quiet.asks same over ∙ ap (λ u. ran w over.job (upkeep_at by u.passes)) ready.3;
+        given = ran_given by e1 e2 w _ begun e3 e4 quiet.asks same over c.requires.merges c.in-Ok-carry_out.ensures.published.2 c.job_finish.ensures.visit;
+      },
       ran_home by e1 e2 w _ begun e3 e4 quiet.asks same over ready.0 c.carry_out.ensures.log c.carry_out.ensures.home,
     )

@@ -1,24 +1,30 @@
-use Rattle.std.proofs.Common.{subst, ◌∙◌}
+use Rattle.std.proofs.Common.{sym, ap, subst, ◌∙◌}
 use Rattle.kt_seatlock.specs.Passes.{number, seen, part}
-use Rattle.kt_engine.specs.Calls.{SeesOthers}
-use Rattle.kt_maint.proofs.Calling.{still_then, sees_then}
+use Rattle.kt_engine.specs.Calls.{SeesOthers, HasNoDevice, StandsStill}
+use Rattle.kt_maint.specs.Runs.{AddsStop}
+use Rattle.kt_maint.proofs.Calling.{told_by, stands_still, no_device_told, sees_stop}
 use Rattle.kt_maint.proofs.work.take_step.Goals as goal
 
-pub returns-in-Ok-Done-clause-still : goal.returns-in-Ok-Done-clause-still
-returns-in-Ok-Done-clause-still g c = still_then (part c.args.pass.now) (part c.look.new.pass) (part c.run_job.new.pass) c.look.ensures.still c.run_job.ensures.still
-
-pub returns-in-Ok-Nothing-clause-still : goal.returns-in-Ok-Nothing-clause-still
-returns-in-Ok-Nothing-clause-still g c =
-    still_then (part c.args.pass.now) (part c.run_job.new.pass) (part c.pause.new.pass) (still_then (part c.args.pass.now) (part c.look.new.pass) (part c.run_job.new.pass) c.look.ensures.still c.run_job.ensures.still) c.pause.ensures.still
-
-pub returns-in-Ok-Nothing-clause-quiet : goal.returns-in-Ok-Nothing-clause-quiet
-returns-in-Ok-Nothing-clause-quiet g c =
-    let ran = subst (λ n. SeesOthers n (seen c.look.new.pass) (seen c.run_job.new.pass)) c.look.ensures.pass.0.1 c.run_job.ensures.quiet in
-    let rested = subst (λ n. SeesOthers n (seen c.run_job.new.pass) (seen c.pause.new.pass)) (c.run_job.ensures.pass.0.1 ∙ c.look.ensures.pass.0.1) c.pause.ensures.quiet in
-    sees_then (number c.args.pass.now) (seen c.args.pass.now) (seen c.run_job.new.pass) (seen c.pause.new.pass) (sees_then (number c.args.pass.now) (seen c.args.pass.now) (seen c.look.new.pass) (seen c.run_job.new.pass) c.look.ensures.quiet ran) rested
-
-pub returns-in-Err-Stopped-clause-still : goal.returns-in-Err-Stopped-clause-still
-returns-in-Err-Stopped-clause-still g c = still_then (part c.args.pass.now) (part c.look.new.pass) (part c.run_job.new.pass) c.look.ensures.still c.run_job.ensures.still
-
 pub returns-clause-still : goal.returns-clause-still
-returns-clause-still g c = still_then (part c.args.pass.now) (part c.look.new.pass) (part c.run_job.new.pass) c.look.ensures.still c.run_job.ensures.still
+returns-clause-still g c =
+    let x = c.enter-engine.result in
+    let y = c.turn-step.new.engine in
+    let by = c.number-by.result in
+    let was = told_by (part c.args.pass.now) x (number c.args.pass.now) by c.enter-engine.ensures.part.0 (sym c.number-by.ensures) in
+    let is = told_by (part c.leave.new.pass) y (number c.leave.new.pass) by c.leave.ensures.told.1 (c.leave.ensures.pass.0.1 ∙ c.enter-engine.ensures.pass.0.1 ∙ sym c.number-by.ensures) in
+    subst (StandsStill (part c.args.pass.now)) (sym (ap (λ m. m.0.part) c.wait.ensures.2)) (stands_still (part c.args.pass.now) x by was c.requires.home (part c.leave.new.pass) y is c.turn-step.ensures.visit c.turn-step.ensures.still)
+
+pub returns-clause-home : goal.returns-clause-home
+returns-clause-home g c =
+    let x = c.enter-engine.result in
+    let y = c.turn-step.new.engine in
+    let by = c.number-by.result in
+    let was = told_by (part c.args.pass.now) x (number c.args.pass.now) by c.enter-engine.ensures.part.0 (sym c.number-by.ensures) in
+    let is = told_by (part c.leave.new.pass) y (number c.leave.new.pass) by c.leave.ensures.told.1 (c.leave.ensures.pass.0.1 ∙ c.enter-engine.ensures.pass.0.1 ∙ sym c.number-by.ensures) in
+    subst HasNoDevice (sym (ap (λ m. m.0.part) c.wait.ensures.2)) (no_device_told (part c.args.pass.now) x by was c.requires.home (part c.leave.new.pass) y is c.turn-step.ensures.visit c.turn-step.ensures.home)
+
+pub returns-clause-quiet : goal.returns-clause-quiet
+returns-clause-quiet g c =
+    let x = c.enter-engine.result in
+    subst (SeesOthers (number c.args.pass.now) (seen c.args.pass.now)) (sym (ap (λ m. m.0.seen) c.wait.ensures.2))
+    (sees_stop (number c.args.pass.now) (seen c.args.pass.now) x.tablet.core.trail (seen c.leave.new.pass) c.enter-engine.ensures.trail (subst (AddsStop x.tablet.core.trail) (sym c.leave.ensures.told.0) c.turn-step.ensures.still.line))

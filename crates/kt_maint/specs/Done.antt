@@ -1,0 +1,75 @@
+-- What a job that is done was handed out, and what it gave.
+use Rattle.std.specs.Prelude.{◌≡◌, ◌≢◌, ℕ, List, map, Option, Some, None}
+use Rattle.std.specs.FinMap.Entries.{find}
+use Rattle.kt_history.specs.History.{Past}
+use Rattle.kt_history.specs.Rows.{key_cmp}
+use Rattle.kt_histlaws.specs.Jobs.{AreAlike}
+use Rattle.kt_diskrowset.specs.declared.data.RowSetData.{RowSetData}
+use Rattle.kt_diskrowset.specs.declared.inputs.Inputs.{Inputs}
+use Rattle.kt_content.specs.Flushes.{AreFrom}
+use Rattle.kt_diskrowset.specs.Data.{files_in, held_in, store_in}
+use Rattle.kt_merge.specs.Merge.{hists_upto, hists_written, HaveEach, IsOfInput}
+use Rattle.kt_merge.specs.Told.{told_by_all, AreOutputs}
+use Rattle.kt_outputs.specs.Outputs.{meta_in, AreWritten}
+use Rattle.kt_pick.specs.declared.rules.Want.{Want}
+use Rattle.kt_pick.specs.declared.rules.Want.TheVariants as want
+use Rattle.kt_tablet.specs.Views.{Opens}
+use Rattle.kt_engine.specs.DeltaJobs.{HasShape, FilesStay}
+use Rattle.kt_engine.specs.Jobs.{JobView, taken_by}
+use Rattle.kt_engine.specs.Visits.{PartView, Root}
+
+-- opening found this past, as each part of the engine tells
+abbrev pub FoundBy : {L D C : Type 0} → Root L D C → Past → Type 0
+FoundBy root first = Opens root.opening root.mark root.opened first
+
+-- What merging makes of what a job was handed out: disk rowsets whose keys rise from one to the next, so that no key is in two of them. Where opening found a
+-- past, each key has the one row that is written of it as of the mark, which forgets what lies at or below that, and from the mark on its history is the inputs'
+pub record AreMerged (found : Past → Type 0) (job : JobView) (made : List RowSetData) : Type 0 where
+  pub inputs : Inputs
+  pub read : job.inputs ≡ Some inputs
+  pub outputs : AreOutputs inputs.columns made
+  pub keys : (q : List ℕ) → find key_cmp q (told_by_all made) ≢ None → IsOfInput q inputs
+  pub rows : (first : Past) → found first → HaveEach (record { mark = job.mark; bound = job.bound }) inputs (told_by_all made)
+  pub alike : (first : Past) → found first → (q : List ℕ) → AreAlike job.mark (hists_upto job.bound q inputs) (hists_written q made)
+
+-- A flush or a compaction has taken what it is for, and its outputs are what merging makes, under numbers that were given since it began
+pub record GivesMerged (found : Past → Type 0) (job : JobView) : Type 0 where
+  pub taken : job.taken ≡ taken_by job.want
+  pub made : List RowSetData
+  pub merged : AreMerged found job made
+  pub first : ℕ
+  pub out : List RowSetData
+  pub written : AreWritten first made out
+  pub from : AreFrom job.first_rowset (map files_in out)
+  pub metas : job.metas ≡ map (meta_in 0) out
+  pub held : job.held ≡ map held_in out
+
+-- A job on the files of one disk rowset has written it so that it tells what it told, in the shape of what it is for, with the files that this leaves
+pub record GivesRewritten (job : JobView) : Type 0 where
+  pub was : RowSetData
+  pub read : job.read ≡ Some was
+  pub now : RowSetData
+  pub gave : job.output ≡ Some now
+  pub same : store_in now ≡ store_in was
+  pub shape : HasShape job.want now
+  pub stay : FilesStay job.want (held_in was) (held_in now)
+
+abbrev pub GivesFor : (Past → Type 0) → Want → JobView → Type 0
+GivesFor found want.Flush job = GivesMerged found job
+GivesFor found (want.Compact taken) job = GivesMerged found job
+GivesFor found (want.FlushDeltas r) job = GivesRewritten job
+GivesFor found (want.Minor r) job = GivesRewritten job
+GivesFor found (want.Major r) job = GivesRewritten job
+
+-- a job for this want has given what that asks for
+pub record HasGiven (found : Past → Type 0) (w : Want) (job : JobView) : Type 0 where
+  pub want_is : job.want ≡ w
+  pub gives : GivesFor found w job
+
+-- and it is the last one of the pass that was finished
+pub record HasDoneJob {L D C : Type 0} (w : Want) (told : Option (PartView L D C)) : Type 0 where
+  pub part : PartView L D C
+  pub is : told ≡ Some part
+  pub job : JobView
+  pub done : part.pass.upkeep.done ≡ Some job
+  pub given : HasGiven (FoundBy part.root) w job
