@@ -14,7 +14,10 @@ use Rattle.kt_script.specs.Pieces.{words_of}
 use Rattle.kt_script.specs.Reasons.{sound, cell_reason, cell_value}
 use Rattle.kt_script.specs.Columns.{ColumnLine, column_line, begins_column, default_reason, default_no, default_value, said_no, column_no, with_column, columns_with}
 use Rattle.kt_script.specs.Fit.{compares}
-use Rattle.kt_script.specs.Scripts.{Above, start, head, body, body_no, body_plan, line_no, after, fault_from, above_end, Said, said, script_of}
+use Rattle.kt_history.specs.declared.command.Command.{Command}
+use Rattle.kt_script.specs.declared.leads.Lead.{Lead}
+use Rattle.kt_script.specs.declared.leads.Lead.TheVariants as lead
+use Rattle.kt_script.specs.Scripts.{Above, start, head, body, load, body_no, led_after, body_after, first_lead, line_no, after, fault_from, above_end, Said, said, script_of}
 use Rattle.kt_script.proofs.Cells.{cell_taken}
 use Rattle.kt_script.proofs.Cuts.{some_piece}
 use Rattle.kt_script.proofs.Spelling.{no_fault, script_is, scripts_are_fit}
@@ -67,21 +70,34 @@ abbrev DefaultsAbove : Above → Type 0
 DefaultsAbove start = Unit {0}
 DefaultsAbove (head columns) = AreDefaults columns
 DefaultsAbove (body columns plan) = AreDefaults columns
+DefaultsAbove (load columns n) = AreDefaults columns
+
+-- a line of the body leaves the columns
+body_defaults : (columns : List Column) (plan : List (List Command)) (words : List (List ℕ)) → AreDefaults columns → DefaultsAbove (body_after columns plan words)
+body_defaults columns plan words d = by (first_lead words)
+  where
+    by : (l : Option Lead) → DefaultsAbove (led_after columns plan l words)
+    by None = d
+    by (Some lead.Session) = d
+    by (Some lead.Load) = d
+    by (Some (lead.Command w)) = d
 
 after_defaults : (above : Above) (line : List ℕ) → DefaultsAbove above → sound ≤ line_no above line → DefaultsAbove (after above line)
 after_defaults start line d h = tt
 after_defaults (head columns) line d h = by (begins_column line) h
   where
     by : (b : Bool) → sound ≤ (if b then column_no columns line else (if list_any (λ c. c.key) columns then body_no columns [] (words_of line) else 5))
-        → DefaultsAbove (if b then head (columns_with columns line) else body columns (body_plan columns [] (words_of line)))
+        → DefaultsAbove (if b then head (columns_with columns line) else body_after columns [] (words_of line))
     by true g = column_defaults columns (column_line (words_of line)) d g
-    by false g = d
-after_defaults (body columns plan) line d h = d
+    by false g = body_defaults columns [] (words_of line) d
+after_defaults (body columns plan) line d h = body_defaults columns plan (words_of line) d
+after_defaults (load columns n) line d h = d
 
 defaults_said : (above : Above) → DefaultsAbove above → AreDefaults (said above).columns
 defaults_said start d = tt
 defaults_said (head columns) d = d
 defaults_said (body columns plan) d = d
+defaults_said (load columns n) d = d
 
 all_defaults : (above : Above) (n : ℕ) (piece : List ℕ) (pieces : List (List ℕ)) → DefaultsAbove above → fault_from above n (piece ∷ pieces) ≡ None → AreDefaults (said (above_end above (piece ∷ pieces))).columns
 all_defaults above n rest [] d none = defaults_said above d

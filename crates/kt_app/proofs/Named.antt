@@ -8,9 +8,12 @@ use Rattle.kt_base.specs.Literals.{same}
 use Rattle.kt_base.specs.declared.cell.Kind.{Kind}
 use Rattle.kt_schema.specs.declared.column.Column.{Column}
 use Rattle.kt_schema.specs.Names.{is_name}
+use Rattle.kt_history.specs.declared.command.Command.{Command}
+use Rattle.kt_script.specs.declared.leads.Lead.{Lead}
+use Rattle.kt_script.specs.declared.leads.Lead.TheVariants as lead
 use Rattle.kt_script.specs.Pieces.{words_of}
 use Rattle.kt_script.specs.Columns.{ColumnLine, column_line, kind_of, of_kind, marked, with_default, as_key, begins_column, with_column, columns_with}
-use Rattle.kt_script.specs.Scripts.{Above, start, head, body, body_plan, after, above_end, Said, said, script_of}
+use Rattle.kt_script.specs.Scripts.{Above, start, head, body, load, led_after, body_after, first_lead, after, above_end, Said, said, script_of}
 use Rattle.kt_script.proofs.Cuts.{some_piece}
 use Rattle.kt_script.proofs.Spelling.{script_is}
 
@@ -29,11 +32,23 @@ abbrev NamedAbove : Above → Type 0
 NamedAbove start = Unit {0}
 NamedAbove (head columns) = AreNamed columns
 NamedAbove (body columns plan) = AreNamed columns
+NamedAbove (load columns n) = AreNamed columns
+
+-- a line of the body leaves the columns
+body_named : (columns : List Column) (plan : List (List Command)) (words : List (List ℕ)) → AreNamed columns → NamedAbove (body_after columns plan words)
+body_named columns plan words d = by (first_lead words)
+  where
+    by : (l : Option Lead) → NamedAbove (led_after columns plan l words)
+    by None = d
+    by (Some lead.Session) = d
+    by (Some lead.Load) = d
+    by (Some (lead.Command w)) = d
 
 named_said : (above : Above) → NamedAbove above → AreNamed (said above).columns
 named_said start d = tt
 named_said (head columns) d = d
 named_said (body columns plan) d = d
+named_said (load columns n) d = d
 
 -- a column line that is one has a name
 module _ (line_named : (words : List (List ℕ)) (c : ColumnLine) → column_line words ≡ Some c → length c.name < 2 ^ 8) where
@@ -45,10 +60,11 @@ module _ (line_named : (words : List (List ℕ)) (c : ColumnLine) → column_lin
   after_named start line d = tt
   after_named (head columns) line d = by (begins_column line)
     where
-      by : (b : Bool) → NamedAbove (if b then head (columns_with columns line) else body columns (body_plan columns [] (words_of line)))
+      by : (b : Bool) → NamedAbove (if b then head (columns_with columns line) else body_after columns [] (words_of line))
       by true = column_named columns (words_of line) (column_line (words_of line)) refl d
-      by false = d
-  after_named (body columns plan) line d = d
+      by false = body_named columns [] (words_of line) d
+  after_named (body columns plan) line d = body_named columns plan (words_of line) d
+  after_named (load columns n) line d = d
 
   all_named : (above : Above) (piece : List ℕ) (pieces : List (List ℕ)) → NamedAbove above → AreNamed (said (above_end above (piece ∷ pieces))).columns
   all_named above rest [] d = named_said above d

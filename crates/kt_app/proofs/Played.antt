@@ -2,6 +2,7 @@
 use Rattle.std.proofs.Common.{◌≡◌, ℕ, zero, suc, List, [], ◌∷◌, Option, Some, None, Bool, true, false, refl, sym, ap, ◌∙◌, subst, arith, length, map}
 use Rattle.std.specs.Prelude.{slice_get, All}
 use Rattle.std.proofs.lemmas.Option.{slice_get_within, get_or_from_slice_get}
+use Rattle.std.proofs.lemmas.List.{length-map}
 use Rattle.kt_history.specs.declared.command.Command.{Command}
 use Rattle.kt_history.specs.declared.reply.Reply.{Reply}
 use Rattle.kt_history.specs.History.{Past}
@@ -72,6 +73,7 @@ module _ {L D C : Type 0} (came : ℕ → ℕ → Reply → Type 0) (view : Engi
   played_whole closed goes = record {
     ended = closed.done.goes;
     tells = λ first content j k. told_as first content j k (nth plan j) refl;
+    count = length-map ends (λ (e : SessionEnd). e.replies) ∙ ended.count;
     last = λ h. absurd cc;
     all = λ going s commands is.
         let e = ended.each (suc s) commands is in
@@ -85,6 +87,7 @@ module _ {L D C : Type 0} (came : ℕ → ℕ → Reply → Type 0) (view : Engi
   played_halted stop = record {
     ended = stop.stopped;
     tells = λ first content j k. told_as first content j k (nth plan j) refl;
+    count = length-map ends (λ (e : SessionEnd). e.replies) ∙ ended.count;
     last = λ h. stop.last;
     all = λ going s commands is. absurd cc;
     empty = λ going. absurd cc;

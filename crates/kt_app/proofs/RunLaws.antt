@@ -28,20 +28,20 @@ use Rattle.kt_app.specs.TableRules.{rules_of}
 use Rattle.kt_app.proofs.TableRules.{takes_plan, closed}
 use Rattle.kt_serve.specs.Scans.{IsOn}
 
-pub ran_as : {gave : List ℕ → Type 0} {held : Rules → Type 0} {columns : List Column} {after : Image → Type 0} {work : Workload} {past : Past} {c : ℕ} {events : List Event} {b d : Bool} {rowsets : ℕ} {text : List ℕ} → b ≡ d
-    → RanBy gave held columns after work past c events b rowsets text → RanBy gave held columns after work past c events d rowsets text
-ran_as {gave = gave} {held = held} {columns = columns} {after = after} {work = work} {past = past} {c = c} {events = events} {rowsets = rowsets} {text = text} e r = subst (λ (x : Bool). RanBy gave held columns after work past c events x rowsets text) e r
+pub ran_as : {gave : List ℕ → Type 0} {held : Rules → Type 0} {columns : List Column} {after : Image → Type 0} {work : Workload} {past : Past} {c : ℕ} {events : List Event} {load : Option ℕ} {b d : Bool} {rowsets : ℕ} {text : List ℕ} → b ≡ d
+    → RanBy gave held columns after work past c events load b rowsets text → RanBy gave held columns after work past c events load d rowsets text
+ran_as {gave = gave} {held = held} {columns = columns} {after = after} {work = work} {past = past} {c = c} {events = events} {load = load} {rowsets = rowsets} {text = text} e r = subst (λ (x : Bool). RanBy gave held columns after work past c events load x rowsets text) e r
 
-pub ran_with : {gave : List ℕ → Type 0} {held : Rules → Type 0} {columns : List Column} {after : Image → Type 0} {work : Workload} {past : Past} {c : ℕ} {events : List Event} {b : Bool} {rowsets count : ℕ} {text : List ℕ} → rowsets ≡ count
-    → RanBy gave held columns after work past c events b rowsets text → RanBy gave held columns after work past c events b count text
-ran_with {gave = gave} {held = held} {columns = columns} {after = after} {work = work} {past = past} {c = c} {events = events} {b = b} {text = text} e r = subst (λ (n : ℕ). RanBy gave held columns after work past c events b n text) e r
+pub ran_with : {gave : List ℕ → Type 0} {held : Rules → Type 0} {columns : List Column} {after : Image → Type 0} {work : Workload} {past : Past} {c : ℕ} {events : List Event} {load : Option ℕ} {b : Bool} {rowsets count : ℕ} {text : List ℕ} → rowsets ≡ count
+    → RanBy gave held columns after work past c events load b rowsets text → RanBy gave held columns after work past c events load b count text
+ran_with {gave = gave} {held = held} {columns = columns} {after = after} {work = work} {past = past} {c = c} {events = events} {load = load} {b = b} {text = text} e r = subst (λ (n : ℕ). RanBy gave held columns after work past c events load b n text) e r
 
 -- by other rules, where each of them is one of the first
 module _ {gave : List ℕ → Type 0} {held other : Rules → Type 0} {columns : List Column} {after : Image → Type 0} {work : Workload} {past : Past} {c : ℕ} {events : List Event} (f : (image : Image) → after image → (rules : Rules) → other rules → held rules) where
   pub kept_by : KeptBy gave held columns after work past c events → KeptBy gave other columns after work past c events
   kept_by k = record { run = k.run; clock = k.clock; crash = λ rules h image left. k.crash rules (f image left rules h) image left }
 
-  pub ran_by : {stopped : Bool} {rowsets : ℕ} {text : List ℕ} → RanBy gave held columns after work past c events stopped rowsets text → RanBy gave other columns after work past c events stopped rowsets text
+  pub ran_by : {load : Option ℕ} {stopped : Bool} {rowsets : ℕ} {text : List ℕ} → RanBy gave held columns after work past c events load stopped rowsets text → RanBy gave other columns after work past c events load stopped rowsets text
   ran_by r = record { kept = kept_by r.kept; output = r.output; whole = λ goes rules h image left. r.whole goes rules (f image left rules h) image left; superblock = r.superblock }
 
 -- by the rules of the table where what was read holds the past by them, and by none whatever it holds
@@ -55,7 +55,7 @@ module _ {gave : List ℕ → Type 0} {held : Rules → Type 0} {columns : List 
     crash_by = λ opens image left. k.crash (rules_of columns) (its opens) image left;
   }
 
-  ran_from : {stopped : Bool} {rowsets : ℕ} {text : List ℕ} → RanBy gave held columns after work past c events stopped rowsets text → Ran gave columns found after work past c events stopped rowsets text
+  ran_from : {load : Option ℕ} {stopped : Bool} {rowsets : ℕ} {text : List ℕ} → RanBy gave held columns after work past c events load stopped rowsets text → Ran gave columns found after work past c events load stopped rowsets text
   ran_from r = record {
     kept = kept_from r.kept;
     output = r.output;
@@ -161,27 +161,27 @@ module _ {C L D : Type 0} (told : C → Option (List ℕ)) (tells : Bool) (seen 
         let here : KeptBy gave (HeldBy view columns work past) columns after work past c events = subst (λ (n : ℕ). KeptBy gave (HeldBy view columns work past) columns after work past n events) (sym o.0) (kept past o.2.opens) in
         kept_from (any c past opens) (its c past) here
 
-    ran_at : (stopped : Bool) (rowsets : ℕ) (text : List ℕ) → RanOn gave view columns plan after events stopped rowsets text → (past : Past) (c : ℕ) → OpensWith no_rules columns found c past
-        → Ran gave columns found after work past c events stopped rowsets text
-    ran_at stopped rowsets text ran past c opens =
+    ran_at : (load : Option ℕ) (stopped : Bool) (rowsets : ℕ) (text : List ℕ) → RanOn gave view columns plan after events load stopped rowsets text → (past : Past) (c : ℕ) → OpensWith no_rules columns found c past
+        → Ran gave columns found after work past c events load stopped rowsets text
+    ran_at load stopped rowsets text ran past c opens =
         let o = opened_with no_rules c past none_closed opens in
-        let here : RanBy gave (HeldBy view columns work past) columns after work past c events stopped rowsets text =
-        subst (λ (n : ℕ). RanBy gave (HeldBy view columns work past) columns after work past n events stopped rowsets text) (sym o.0) (ran past o.2.opens) in
+        let here : RanBy gave (HeldBy view columns work past) columns after work past c events load stopped rowsets text =
+        subst (λ (n : ℕ). RanBy gave (HeldBy view columns work past) columns after work past n events load stopped rowsets text) (sym o.0) (ran past o.2.opens) in
         ran_from (any c past opens) (its c past) here
 
   -- between the clock as it was handed in and as it comes back, and for devices that come back
   module _ (began clock got ticked : C) (left logged : L) (kept stored : D) (images : L → D → Image → Type 0) (cells : ℕ) (began_is : began ≡ clock) (got_is : got ≡ ticked) (log_is : logged ≡ left) (store_is : stored ≡ kept) (cells_are : view.tablet.core.work.cells ≡ cells) where
-    abbrev runs : C → C → (Image → Type 0) → ℕ → Bool → List ℕ → Type 0
-    runs from to after n stopped text = RunsPlan (Grows (told from) (told to)) columns found after (workload n (record { columns = columns; plan = plan })) stopped text
+    abbrev runs : C → C → (Image → Type 0) → ℕ → Option ℕ → Bool → List ℕ → Type 0
+    runs from to after n load stopped text = RunsPlan (Grows (told from) (told to)) columns found after (workload n (record { columns = columns; plan = plan })) load stopped text
 
-    pub runs_over : (stopped : Bool) (rowsets : ℕ) (text : List ℕ) → RanOn (Grows (told began) (told got)) view columns plan (images left kept) events stopped rowsets text → runs clock ticked (images logged stored) cells stopped text
-    runs_over stopped rowsets text ran =
-        let here : runs began got (images left kept) view.tablet.core.work.cells stopped text = record { events = events; rowsets = rowsets; runs = ran_at (Grows (told began) (told got)) (images left kept) stopped rowsets text ran } in
-        subst (λ l. runs clock ticked (images l stored) cells stopped text) (sym log_is)
-        (subst (λ s. runs clock ticked (images left s) cells stopped text) (sym store_is)
-        (subst (λ n. runs clock ticked (images left kept) n stopped text) cells_are
-        (subst (λ x. runs clock x (images left kept) view.tablet.core.work.cells stopped text) got_is
-        (subst (λ x. runs x got (images left kept) view.tablet.core.work.cells stopped text) began_is here))))
+    pub runs_over : (load : Option ℕ) (stopped : Bool) (rowsets : ℕ) (text : List ℕ) → RanOn (Grows (told began) (told got)) view columns plan (images left kept) events load stopped rowsets text → runs clock ticked (images logged stored) cells load stopped text
+    runs_over load stopped rowsets text ran =
+        let here : runs began got (images left kept) view.tablet.core.work.cells load stopped text = record { events = events; rowsets = rowsets; runs = ran_at (Grows (told began) (told got)) (images left kept) load stopped rowsets text ran } in
+        subst (λ l. runs clock ticked (images l stored) cells load stopped text) (sym log_is)
+        (subst (λ s. runs clock ticked (images left s) cells load stopped text) (sym store_is)
+        (subst (λ n. runs clock ticked (images left kept) n load stopped text) cells_are
+        (subst (λ x. runs clock x (images left kept) view.tablet.core.work.cells load stopped text) got_is
+        (subst (λ x. runs x got (images left kept) view.tablet.core.work.cells load stopped text) began_is here))))
 
     abbrev keeps : C → C → (Image → Type 0) → ℕ → Type 0
     keeps from to after n = (past : Past) (c : ℕ) → OpensWith no_rules columns found c past → Kept (Grows (told from) (told to)) columns found after (workload n (record { columns = columns; plan = plan })) past c events

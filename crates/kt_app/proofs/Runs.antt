@@ -1,6 +1,6 @@
 -- A run that has ended is what was printed of it, and what a crash leaves.
-use Rattle.std.proofs.Common.{◌≡◌, ℕ, zero, suc, ◌+◌, ◌<◌, ◌≤◌, ◌^◌, max, List, [], ◌∷◌, Option, Some, Result, Ok, Bool, true, false, cond, refl, sym, ap, ◌∙◌, subst, arith, length}
-use Rattle.std.specs.Prelude.{slice_get, All, IsTrue, unwrap_or}
+use Rattle.std.proofs.Common.{◌≡◌, ℕ, zero, suc, ◌+◌, ◌<◌, ◌≤◌, ◌^◌, max, List, [], ◌∷◌, Option, Some, None, Result, Ok, Bool, true, false, cond, refl, sym, ap, ◌∙◌, subst, arith, length}
+use Rattle.std.specs.Prelude.{slice_get, All, IsTrue, IfSome, is_some, unwrap_or}
 use Rattle.kt_base.specs.Causes.{Grows}
 use Rattle.std.specs.List.{AllByRecursion}
 use Rattle.kt_disk.specs.Disk.{Files}
@@ -11,16 +11,18 @@ use Rattle.kt_history.specs.declared.event.Event.{Event}
 use Rattle.kt_history.specs.declared.event.Event.TheVariants as event
 use Rattle.kt_history.specs.declared.reply.Reply.{Reply}
 use Rattle.kt_history.specs.declared.reply.Reply.TheVariants as reply
-use Rattle.kt_history.specs.Rows.{Row}
-use Rattle.kt_history.specs.History.{Past, raise}
-use Rattle.kt_history.specs.Machine.{Workload, State, start, after, readings_of, nth}
-use Rattle.kt_history.specs.Replies.{answer, answers, told, reply_of, past_after}
+use Rattle.kt_history.specs.Rows.{Row, Rows}
+use Rattle.kt_history.specs.History.{Past, raise, rows_at}
+use Rattle.kt_history.specs.Machine.{Workload, State, IsRun, start, after, state_after, readings_of, nth, command_of, command_at}
+use Rattle.kt_history.specs.Replies.{answer, answers, told, reply_of, past_after, all_replies}
 use Rattle.kt_history.proofs.Runs.{answer_is_told}
 use Rattle.kt_script.specs.declared.lists.ShownReply.{ShownReply}
 use Rattle.kt_script.specs.declared.output.LastLine.{LastLine}
 use Rattle.kt_script.specs.Scripts.{Said, workload}
 use Rattle.kt_script.specs.Texts.{output_text}
 use Rattle.kt_script.specs.Laws.{OutputFits}
+use Rattle.kt_script.specs.Loads.{load_plan, IsLoad}
+use Rattle.kt_loadlaws.specs.Summary.{summary, summary_text, counts_in, load_work, AllAnswered, a_load_has_one_summary}
 use Rattle.kt_records.specs.declared.entry.Entry.{Entry}
 use Rattle.kt_journal.specs.Log.{log_of, IsLog, CanOpen}
 use Rattle.kt_journal.specs.Open.{JournalView}
@@ -39,11 +41,15 @@ use Rattle.kt_engine.specs.Engines.{EngineView, IsFound, KeepsOthers, IsHome, co
 use Rattle.kt_engine.specs.Stored.{RecoversBoth, IsMarkOf, AreMarked, HasFailed}
 use Rattle.kt_engine.specs.Pairs.{AreHome, RecoversAllOfBoth, LeavesPublished}
 use Rattle.kt_loglaws.specs.Fronts.{upto}
-use Rattle.kt_app.specs.Headline.{IsOutput, IsAnswered, AreAnswered, shown_from, all_shown, replies_in, end_line, end_of}
+use Rattle.kt_app.specs.Headline.{IsOutput, IsPrinted, IsAnswered, AreAnswered, load_text, shown_from, all_shown, replies_in, end_line, end_of}
 use Rattle.kt_app.specs.Images.{Image, CrashLeaves, Both}
 use Rattle.kt_app.specs.Crash.{RanBy, KeptBy, HoldsPrefix, HoldsAll, HasSuper}
 use Rattle.kt_app.proofs.Reopening.{has_content}
 use Rattle.kt_app.specs.Session.{on_table}
+use Rattle.kt_app.specs.Loaded.{IsLoadAt, IsText}
+use Rattle.kt_app.specs.declared.load.Load.{Load}
+use Rattle.kt_app.proofs.Calm.{none_flies, none_aloft}
+use Rattle.kt_app.proofs.Loads.{has_reply, all_are}
 use Rattle.kt_app.proofs.RunLaws.{kept_by, ran_by, rose_as}
 use Rattle.kt_engine.specs.Visits.{Root, root_of}
 use Rattle.kt_serve.specs.Scans.{IsOn}
@@ -204,6 +210,71 @@ module _ {L D C : Type 0} (readings : C → Option (List ℕ)) (tells : Bool) (n
     printed = text_is ∙ (λ t. output_text (sym replies_are t) events (sym (end_is a l rowsets a_is l_is) t));
   }
 
+  -- ---- of a load
+
+  told_reply : (s i : ℕ) → is_some (command_at work s i) ≡ true → stopped ≡ false → is_some (given replies s i) ≡ true
+  told_reply s i there going = has_reply plan replies (played.all going) s i (sym (ap (λ p. is_some (command_of (nth p s) i)) plan_is) ∙ there)
+
+  -- no write flies
+  calm : stopped ≡ false → view.tablet.core.aloft ≡ []
+  calm going =
+      let none = none_flies work first c events stands.run.is_run (λ s i there. ap is_some (played.tells first opens s i) ∙ told_reply s i there going) in
+      none_aloft view.tablet.core.aloft (sym (ap (λ (st : State). st.flying) stands.run.state) ∙ none)
+
+  module _ (law : a_load_has_one_summary) (n : ℕ) (load : IsLoad columns plan n) (room : 1024 ≤ work.cells) (going : stopped ≡ false) where
+    work_is_load : work ≡ load_work work.cells n
+    work_is_load =
+        on
+        ∙ ap (λ (p : List (List Command)). work_of columns p work.cells (fill_of columns)) (plan_is ∙ load.plan_is)
+        ∙ ap (λ (cs : List Column). work_of cs (load_plan n) work.cells (fill_of cs)) load.table
+
+    abbrev comes_to : Workload → Type 0
+    comes_to w = (rows_at (past_after w first c events) (state_after w (start w first c) events).c ≡ (summary n (rows_at first c)).rows)
+        × (counts_in (all_replies (answer w (past_after w first c events) events) 1 (load_plan n)) ≡ (summary n (rows_at first c)).counts)
+
+    its_summary : comes_to work
+    its_summary =
+        let is_run : IsRun (load_work work.cells n) first c events = subst (λ (w : Workload). IsRun w first c events) work_is_load stands.run.is_run in
+        let answered : AllAnswered work first c events = λ s i there. ap is_some (answers_are s i) ∙ told_reply s i there going in
+        subst comes_to (sym work_is_load) (law n work.cells first c events room opens.ends is_run (subst (λ (w : Workload). AllAnswered w first c events) work_is_load answered))
+
+    its_counts : counts_in replies ≡ (summary n (rows_at first c)).counts
+    its_counts =
+        let told_are : all_replies (answer work (past_after work first c events) events) 1 plan ≡ replies =
+        all_are (answer work (past_after work first c events) events) 1 plan replies played.count (played.all going) (λ j k. let at : 1 + j ≡ suc j = omega arith in ap (λ m. answer work (past_after work first c events) events m k) at ∙ answers_are (suc j) k) in
+        ap counts_in (sym told_are) ∙ ap (λ (p : List (List Command)). counts_in (all_replies (answer work (past_after work first c events) events) 1 p)) load.plan_is ∙ its_summary.1
+
+    rows_here : rows_at (run_past core) view.tablet.core.c ≡ (summary n (rows_at first c)).rows
+    rows_here = ap (λ (st : State). rows_at (run_past core) st.c) (sym stands.run.state) ∙ its_summary.0
+
+    folded_is : (rows : Rows) → rows ≡ (summary n (rows_at first c)).rows → record { rows = rows; counts = counts_in replies } ≡ summary n (rows_at first c)
+    folded_is rows is = λ t. record { rows = is t; counts = its_counts t }
+
+  -- what was printed of it, with a load or without one
+  pub printed_as : a_load_has_one_summary → (load : Option ℕ) (l : Option Load) (a end rowsets : ℕ) (text : List ℕ) → IfSome load (λ n. IsLoad columns plan n × (1024 ≤ work.cells)) → IsLoadAt view load l → a ≡ view.tablet.core.a → end ≡ view.tablet.core.c
+      → IsText columns plan l replies events stopped a end rowsets text → IsPrinted load work first c stopped rowsets text events
+  printed_as law None l a end rowsets text its at a_is l_is text_is =
+      let none = subst (λ (o : Option Load). IsText columns plan o replies events stopped a end rowsets text) at text_is in
+      output a end rowsets text a_is l_is none.0 none.1
+  printed_as law (Some n) None a end rowsets text its at a_is l_is text_is = absurd at
+  printed_as law (Some n) (Some load) a end rowsets text its at a_is l_is text_is = record {
+    run = stands.run.is_run;
+    ended = ap (λ (st : State). st.stopped) stands.run.state ∙ played.ended;
+    stop = played.last;
+    answered = λ going. subst AreAnswered (sym replies_are) (each_answered going);
+    rows = λ going. (its_summary law n its.0 its.1 going).0;
+    printed = by stopped refl;
+  }
+    where
+      by : (b : Bool) → stopped ≡ b → text ≡ load_text n (summary n (rows_at first c)) stopped
+      by true is = text_is.0 is ∙ ap (λ x. load_text n (summary n (rows_at first c)) x) (sym is)
+      by false is =
+          let rows = rows_at (run_past core) view.tablet.core.c in
+          text_is.1 is rows (at.1 (calm is) first opens)
+          ∙ ap (λ k. summary_text k (record { rows = rows; counts = counts_in replies })) at.0
+          ∙ ap (summary_text n) (folded_is law n its.0 its.1 is rows (rows_here law n its.0 its.1 is))
+          ∙ ap (λ x. load_text n (summary n (rows_at first c)) x) (sym is)
+
   goes_on : stopped ≡ false → view.tablet.core.stopped ≡ false
   goes_on going = played.ended ∙ going
 
@@ -244,13 +315,13 @@ module _ {L D C : Type 0} (readings : C → Option (List ℕ)) (tells : Bool) (n
           count = sym rowsets_are;
         }
 
-    pub ran_here : (clock ticked : C) (a l rowsets : ℕ) (text : List ℕ) → view.tablet.opened ≡ clock → ticked ≡ view.tablet.clock
+    pub ran_here : a_load_has_one_summary → (clock ticked : C) (load : Option ℕ) (left : Option Load) (a l rowsets : ℕ) (text : List ℕ) → IfSome load (λ n. IsLoad columns plan n × (1024 ≤ work.cells)) → IsLoadAt view load left → view.tablet.opened ≡ clock → ticked ≡ view.tablet.clock
         → RecoversBoth tells now leaves tells' now' leaves' view → AreMarked view → (IsTrue tells → IsTrue tells' → RecoversAllOfBoth now leaves now' leaves' view) → (IsTrue tells' → LeavesPublished seen' now' leaves' view)
-        → a ≡ view.tablet.core.a → l ≡ view.tablet.core.c → rowsets ≡ length view.store.meta.rowsets → OutputFits printed events (end_of_run stopped a l rowsets) → text ≡ output_text printed events (end_of_run stopped a l rowsets)
-        → RanBy (Grows (readings clock) (readings ticked)) (HeldBy view columns work first) columns all_left work first c events stopped rowsets text
-    ran_here clock ticked a l rowsets text began ticked_is front marks whole published a_is l_is rowsets_are fits text_is = record {
+        → a ≡ view.tablet.core.a → l ≡ view.tablet.core.c → rowsets ≡ length view.store.meta.rowsets → IsText columns plan left replies events stopped a l rowsets text
+        → RanBy (Grows (readings clock) (readings ticked)) (HeldBy view columns work first) columns all_left work first c events load stopped rowsets text
+    ran_here law clock ticked load left a l rowsets text its at began ticked_is front marks whole published a_is l_is rowsets_are text_is = record {
       kept = kept_here readings tells now leaves tells' now' leaves' view columns first opens sound log store home clock ticked began ticked_is front marks (ap (λ (w : Workload). w.fill) on);
-      output = output a l rowsets text a_is l_is fits text_is;
+      output = printed_as law load left a l rowsets text its at a_is l_is text_is;
       whole = λ going rules held image here. all_kept going whole rules held image here;
       superblock = λ going image here. super_left going published rowsets rowsets_are image here;
     }
@@ -324,20 +395,21 @@ module _ {L D C : Type 0} (readings : C → Option (List ℕ)) (tells : Bool) (n
 
   -- What was printed of it.
   module _ (stopped : Bool) (replies : List (List Reply)) (played : HasPlayed view plan stopped replies) (whole : IsTrue tells → IsTrue tells' → RecoversAllOfBoth now leaves now' leaves' view) (published : IsTrue tells' → LeavesPublished seen' now' leaves' view) where
-    pub ran_of : (a l rowsets : ℕ) (shown : List (List Command)) (text : List ℕ) → a ≡ view.tablet.core.a → l ≡ view.tablet.core.c → rowsets ≡ length view.store.meta.rowsets → shown ≡ plan
-        → OutputFits (all_shown (on_table columns) (given replies) 1 shown) lines (end_of_run stopped a l rowsets) → text ≡ output_text (all_shown (on_table columns) (given replies) 1 shown) lines (end_of_run stopped a l rowsets)
-        → RanOn gave old columns plan images lines stopped rowsets text
-    ran_of a l rowsets shown text a_is l_is rowsets_are shown_is fits text_is first opens =
-        let here : (p : List (List Command)) (events : List Event) → Type 0 = λ p events. OutputFits (all_shown (on_table columns) (given replies) 1 p) events (end_of_run stopped a l rowsets) in
+    pub ran_of : a_load_has_one_summary → (load : Option ℕ) (left : Option Load) (a l rowsets : ℕ) (shown : List (List Command)) (text : List ℕ) → IfSome load (λ n. IsLoad columns plan n × (1024 ≤ old.tablet.core.work.cells)) → IsLoadAt view load left
+        → a ≡ view.tablet.core.a → l ≡ view.tablet.core.c → rowsets ≡ length view.store.meta.rowsets → shown ≡ plan → IsText columns shown left replies lines stopped a l rowsets text
+        → RanOn gave old columns plan images lines load stopped rowsets text
+    ran_of law load left a l rowsets shown text its at a_is l_is rowsets_are shown_is text_is first opens =
+        let here : (p : List (List Command)) (events : List Event) → Type 0 = λ p events. IsText columns p left replies events stopped a l rowsets text in
+        let cells_are : view.tablet.core.work.cells ≡ old.tablet.core.work.cells = ap (λ (r : Root L D C). r.work.cells) root in
         let ran = ran_here readings tells now leaves tells' seen' now' leaves' view columns plan stopped replies first (on_view old view columns plan first fresh on root opens) (plan_is old view columns plan first fresh on root opens) (found_view old view columns plan first fresh on root opens) sound played
-        log store home old.tablet.clock ticked a l rowsets text (clock_is old view columns plan first fresh on root opens) ticked_is recover marks whole published a_is l_is rowsets_are
-        (subst (λ p. here p view.tablet.core.trail) shown_is (subst (λ events. here shown events) lines_are fits))
-        (text_is ∙ (λ t. output_text (all_shown (on_table columns) (given replies) 1 (shown_is t)) (lines_are t) (end_of_run stopped a l rowsets))) in
+        log store home law old.tablet.clock ticked load left a l rowsets text (subst (λ (n : ℕ). IfSome load (λ k. IsLoad columns plan k × (1024 ≤ n))) (sym cells_are) its) at
+        (clock_is old view columns plan first fresh on root opens) ticked_is recover marks whole published a_is l_is rowsets_are
+        (subst (λ p. here p view.tablet.core.trail) shown_is (subst (λ events. here shown events) lines_are text_is)) in
         let held = HeldBy old columns (workload old.tablet.core.work.cells (record { columns = columns; plan = plan })) first in
-        let its : RanBy gave held columns images view.tablet.core.work first view.tablet.core.opened view.tablet.core.trail stopped rowsets text = ran_by (λ image left rules h. held_view old view columns plan first fresh on root opens rules h) ran in
-        subst (λ (w : Workload). RanBy gave held columns images w first old.tablet.core.opened lines stopped rowsets text) (work_is old view columns plan first fresh on root opens)
-        (subst (λ (n : ℕ). RanBy gave held columns images view.tablet.core.work first n lines stopped rowsets text) (opened_is old view columns plan first fresh on root opens)
-        (subst (λ (es : List Event). RanBy gave held columns images view.tablet.core.work first view.tablet.core.opened es stopped rowsets text) (sym lines_are) its))
+        let its : RanBy gave held columns images view.tablet.core.work first view.tablet.core.opened view.tablet.core.trail load stopped rowsets text = ran_by (λ image left rules h. held_view old view columns plan first fresh on root opens rules h) ran in
+        subst (λ (w : Workload). RanBy gave held columns images w first old.tablet.core.opened lines load stopped rowsets text) (work_is old view columns plan first fresh on root opens)
+        (subst (λ (n : ℕ). RanBy gave held columns images view.tablet.core.work first n lines load stopped rowsets text) (opened_is old view columns plan first fresh on root opens)
+        (subst (λ (es : List Event). RanBy gave held columns images view.tablet.core.work first view.tablet.core.opened es load stopped rowsets text) (sym lines_are) its))
 
 -- The devices, as a run of a plan gives them back.
 module _ {L D C : Type 0} {tells : Bool} {seen : L → Files} {now : L → ℕ} {leaves : L → ℕ → Files → Type 0} {faults : L → ℕ} (old view : EngineView L D C) (plan : List (List Command)) (log : L) (store : D) (root : root_of view ≡ root_of (with_plan old plan))

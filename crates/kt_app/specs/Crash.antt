@@ -1,5 +1,5 @@
 -- A run over both devices, and what a crash leaves of them.
-use Rattle.std.specs.Prelude.{◌≡◌, ◌⊎◌, ◌≤◌, ◌<◌, ℕ, Bool, false, List, [], length, Some, None, Ok, Err}
+use Rattle.std.specs.Prelude.{◌≡◌, ◌⊎◌, ◌≤◌, ◌<◌, ℕ, Bool, false, List, [], length, Option, Some, None, Ok, Err}
 use Rattle.kt_disk.specs.Disk.{Files}
 use Rattle.kt_super.specs.declared.meta.Meta.{Meta}
 use Rattle.kt_super.specs.Slots.{super_of}
@@ -17,10 +17,10 @@ use Rattle.kt_reopen.specs.Holding.{HoldBoth}
 use Rattle.kt_reopen.specs.Opened.{Shows}
 use Rattle.kt_reopen.specs.declared.why.Why.{Why}
 use Rattle.kt_reopen.specs.declared.why.Why.TheVariants.{B6}
-use Rattle.kt_script.specs.Scripts.{Said, script_of, workload}
+use Rattle.kt_script.specs.Scripts.{Said, script_of, load_of, workload}
 use Rattle.kt_engine.specs.Logged.{AcknowledgedBy}
 use Rattle.kt_engine.specs.Stored.{IsMarkOf}
-use Rattle.kt_app.specs.Headline.{IsOutput, end_of}
+use Rattle.kt_app.specs.Headline.{IsPrinted, end_of}
 use Rattle.kt_app.specs.Images.{Image, LeavesAsBefore, Both}
 use Rattle.kt_app.specs.TableRules.{rules_of}
 
@@ -70,11 +70,11 @@ pub record KeptBy (gave : List ℕ → Type 0) (held : Rules → Type 0) (column
   pub clock : gave (readings_of events)
   pub crash : (rules : Rules) → held rules → (image : Image) → after image → HoldsPrefix rules columns work past c events image
 
--- The text is the output text of that run, and where it was not stopped each image after it holds all its writes, and a superblock with what the last line
--- says.
-pub record RanBy (gave : List ℕ → Type 0) (held : Rules → Type 0) (columns : List Column) (after : Image → Type 0) (work : Workload) (past : Past) (c : ℕ) (events : List Event) (stopped : Bool) (rowsets : ℕ) (text : List ℕ) : Type 0 where
+-- The text is what is printed of that run, and where it was not stopped each image after it holds all its writes, and a superblock with its mark, its last
+-- timestamp and so many rowsets: what the last line of an output text says.
+pub record RanBy (gave : List ℕ → Type 0) (held : Rules → Type 0) (columns : List Column) (after : Image → Type 0) (work : Workload) (past : Past) (c : ℕ) (events : List Event) (load : Option ℕ) (stopped : Bool) (rowsets : ℕ) (text : List ℕ) : Type 0 where
   pub kept : KeptBy gave held columns after work past c events
-  pub output : IsOutput work past c stopped rowsets text (readings_of events) events
+  pub output : IsPrinted load work past c stopped rowsets text events
   pub whole : stopped ≡ false → (rules : Rules) → held rules → (image : Image) → after image → HoldsAll rules columns work past c events image
   pub superblock : stopped ≡ false → (image : Image) → after image → HasSuper (end_of work past c events).a (end_of work past c events).c rowsets image.store
 
@@ -98,24 +98,24 @@ pub record Kept (gave : List ℕ → Type 0) (columns : List Column) (found afte
   pub crash : (image : Image) → after image → HoldsPrefix no_rules columns work past c events image
   pub crash_by : OpensWith (rules_of columns) columns found c past → (image : Image) → after image → HoldsPrefix (rules_of columns) columns work past c events image
 
--- The text is the output text of that run, and where it was not stopped each image after it holds all its writes, and a superblock with what the last line
--- says.
-pub record Ran (gave : List ℕ → Type 0) (columns : List Column) (found after : Image → Type 0) (work : Workload) (past : Past) (c : ℕ) (events : List Event) (stopped : Bool) (rowsets : ℕ) (text : List ℕ) : Type 0 where
+-- The text is what is printed of that run, and where it was not stopped each image after it holds all its writes, and a superblock with its mark, its last
+-- timestamp and so many rowsets: what the last line of an output text says.
+pub record Ran (gave : List ℕ → Type 0) (columns : List Column) (found after : Image → Type 0) (work : Workload) (past : Past) (c : ℕ) (events : List Event) (load : Option ℕ) (stopped : Bool) (rowsets : ℕ) (text : List ℕ) : Type 0 where
   pub kept : Kept gave columns found after work past c events
-  pub output : IsOutput work past c stopped rowsets text (readings_of events) events
+  pub output : IsPrinted load work past c stopped rowsets text events
   pub whole : stopped ≡ false → (image : Image) → after image → HoldsAll no_rules columns work past c events image
   pub whole_by : stopped ≡ false → OpensWith (rules_of columns) columns found c past → (image : Image) → after image → HoldsAll (rules_of columns) columns work past c events image
   pub superblock : stopped ≡ false → (image : Image) → after image → HasSuper (end_of work past c events).a (end_of work past c events).c rowsets image.store
 
 -- The text is that of a run from each past that what was read holds, and all these runs have the same lines.
-pub record RunsPlan (gave : List ℕ → Type 0) (columns : List Column) (found after : Image → Type 0) (work : Workload) (stopped : Bool) (text : List ℕ) : Type 0 where
+pub record RunsPlan (gave : List ℕ → Type 0) (columns : List Column) (found after : Image → Type 0) (work : Workload) (load : Option ℕ) (stopped : Bool) (text : List ℕ) : Type 0 where
   pub events : List Event
   pub rowsets : ℕ
-  pub runs : (past : Past) (c : ℕ) → OpensWith no_rules columns found c past → Ran gave columns found after work past c events stopped rowsets text
+  pub runs : (past : Past) (c : ℕ) → OpensWith no_rules columns found c past → Ran gave columns found after work past c events load stopped rowsets text
 
--- and of the script, in a pool of so many cells
+-- and of the script, in a pool of so many cells: of one that loads, by its load
 abbrev pub RunsScript : (List ℕ → Type 0) → (Image → Type 0) → (Image → Type 0) → ℕ → Bool → List ℕ → List ℕ → Type 0
-RunsScript gave found after cells stopped script text = (said : Said) × (script_of script ≡ Some said) × RunsPlan gave said.columns found after (workload cells said) stopped text
+RunsScript gave found after cells stopped script text = (said : Said) × (script_of script ≡ Some said) × RunsPlan gave said.columns found after (workload cells said) (load_of script) stopped text
 
 -- ---- refusals
 

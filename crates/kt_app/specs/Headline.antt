@@ -1,5 +1,5 @@
 -- What the program prints: the output text of a run of the script.
-use Rattle.std.specs.Prelude.{◌≡◌, ℕ, ◌+◌, Bool, true, false, if◌then◌else◌, List, [], ◌∷◌, ◌++◌, Option, Some, unwrap_or}
+use Rattle.std.specs.Prelude.{◌≡◌, ℕ, ◌+◌, Bool, true, false, if◌then◌else◌, List, [], ◌∷◌, ◌++◌, Option, Some, None, unwrap_or}
 use Rattle.std.specs.List.{AllByRecursion}
 use Rattle.kt_base.specs.declared.cell.Kind.{Kind}
 use Rattle.kt_history.specs.declared.command.Command.{Command}
@@ -8,7 +8,7 @@ use Rattle.kt_history.specs.declared.event.Event.{Event}
 use Rattle.kt_history.specs.declared.event.Event.TheVariants as event
 use Rattle.kt_history.specs.declared.reply.Reply.{Reply}
 use Rattle.kt_history.specs.declared.reply.Reply.TheVariants as reply
-use Rattle.kt_history.specs.History.{Past}
+use Rattle.kt_history.specs.History.{Past, rows_at}
 use Rattle.kt_history.specs.Machine.{Workload, State, IsRun, readings_of, start, state_after}
 use Rattle.kt_history.specs.Replies.{answer, kinds_of, past_after}
 use Rattle.kt_script.specs.declared.lists.ShownReply.{ShownReply}
@@ -16,7 +16,8 @@ use Rattle.kt_script.specs.declared.output.LastLine.{LastLine}
 use Rattle.kt_script.specs.declared.output.LastLine.TheVariants as last
 use Rattle.kt_script.specs.Scripts.{Said, script_of}
 use Rattle.kt_script.specs.Laws.{OutputFits}
-use Rattle.kt_script.specs.Texts.{output_text}
+use Rattle.kt_script.specs.Texts.{output_text, last_text}
+use Rattle.kt_loadlaws.specs.Summary.{Folded, summary, summary_text}
 
 abbrev pub end_of : Workload → Past → ℕ → List Event → State
 end_of work past c events = state_after work (start work past c) events
@@ -71,6 +72,27 @@ pub record IsOutput (work : Workload) (past : Past) (c : ℕ) (stopped : Bool) (
   pub stop : stopped ≡ true → (before : List Event) × (events ≡ before ++ event.Stop ∷ [])
   pub answered : stopped ≡ false → AreAnswered (replies_in work past c events)
   pub printed : text ≡ output_text (replies_in work past c events) events (end_line rowsets (end_of work past c events))
+
+-- ---- a script that loads
+
+-- what is printed of a load that comes to this: that it was stopped, or its summary
+abbrev pub load_text : ℕ → Folded → Bool → List ℕ
+load_text n folded stopped = if stopped then last_text last.Stopped else summary_text n folded
+
+-- The text tells of this run of a load of n writes a session: that it was stopped, as its history ends with `stop`; or, where each command was answered, its
+-- summary over the rows from which it began. It ends with the rows of that summary.
+pub record IsSummary (n : ℕ) (work : Workload) (past : Past) (c : ℕ) (stopped : Bool) (text : List ℕ) (events : List Event) : Type 0 where
+  pub run : IsRun work past c events
+  pub ended : (end_of work past c events).stopped ≡ stopped
+  pub stop : stopped ≡ true → (before : List Event) × (events ≡ before ++ event.Stop ∷ [])
+  pub answered : stopped ≡ false → AreAnswered (replies_in work past c events)
+  pub rows : stopped ≡ false → rows_at (past_after work past c events) (end_of work past c events).c ≡ (summary n (rows_at past c)).rows
+  pub printed : text ≡ load_text n (summary n (rows_at past c)) stopped
+
+-- what is printed of a run: its output text, or of a load of so many writes a session what that comes to
+abbrev pub IsPrinted : Option ℕ → Workload → Past → ℕ → Bool → ℕ → List ℕ → List Event → Type 0
+IsPrinted None work past c stopped rowsets text events = IsOutput work past c stopped rowsets text (readings_of events) events
+IsPrinted (Some n) work past c stopped rowsets text events = IsSummary n work past c stopped text events
 
 -- no script is spelled so
 abbrev pub IsNoScript : List ℕ → Type 0

@@ -5,3 +5,4 @@ pub mod Headline
 pub mod Crash
 pub mod Session
 pub mod Played
+pub mod Loaded

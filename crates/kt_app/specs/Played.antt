@@ -47,10 +47,10 @@ KeptOn gave view columns plan after events =
     (workload view.tablet.core.work.cells (record { columns = columns; plan = plan })) first view.tablet.core.opened events
 
 -- The text is that of this run.
-abbrev pub RanOn : {L D C : Type 0} → (List ℕ → Type 0) → EngineView L D C → List Column → List (List Command) → (Image → Type 0) → List Event → Bool → ℕ → List ℕ → Type 0
-RanOn gave view columns plan after events stopped rowsets text =
+abbrev pub RanOn : {L D C : Type 0} → (List ℕ → Type 0) → EngineView L D C → List Column → List (List Command) → (Image → Type 0) → List Event → Option ℕ → Bool → ℕ → List ℕ → Type 0
+RanOn gave view columns plan after events load stopped rowsets text =
     (first : Past) → IsFound view first → RanBy gave (HeldBy view columns (workload view.tablet.core.work.cells (record { columns = columns; plan = plan })) first) columns after
-    (workload view.tablet.core.work.cells (record { columns = columns; plan = plan })) first view.tablet.core.opened events stopped rowsets text
+    (workload view.tablet.core.work.cells (record { columns = columns; plan = plan })) first view.tablet.core.opened events load stopped rowsets text
 
 abbrev pub reply_in : Option (List Reply) → ℕ → Option Reply
 reply_in None i = None
@@ -77,6 +77,7 @@ end_of_run stopped a c rowsets = if stopped then Stopped else Numbers a c rowset
 pub record HasPlayed {L D C : Type 0} (view : EngineView L D C) (plan : List (List Command)) (stopped : Bool) (replies : List (List Reply)) : Type 0 where
   pub ended : view.tablet.core.stopped ≡ stopped
   pub tells : Tells view replies
+  pub count : length replies ≡ length plan
   pub last : stopped ≡ true → (before : List Event) × (view.tablet.core.trail ≡ before ++ Stop ∷ [])
   pub all : stopped ≡ false → (s : ℕ) (commands : List Command) → slice_get plan s ≡ Some commands → (given : List Reply) × (slice_get replies s ≡ Some given) × (length given ≡ length commands)
   pub empty : stopped ≡ false → view.log.queued ≡ []

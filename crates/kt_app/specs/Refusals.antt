@@ -1,7 +1,7 @@
 -- The texts of what is refused: a script at its first fault, and devices that are not opened.
 use Rattle.std.specs.Prelude.{◌≡◌, List, [], ◌∷◌, ℕ, Option, Some, IfSome, codes}
 use Rattle.std.specs.Fmt.{decimal}
-use Rattle.kt_script.specs.Scripts.{Said, Fault, script_of, fault_of}
+use Rattle.kt_script.specs.Scripts.{Said, Fault, script_of, load_of, fault_of}
 use Rattle.kt_script.specs.Texts.{line, words}
 use Rattle.kt_reopen.specs.declared.why.Why.{Why}
 use Rattle.kt_reopen.specs.declared.why.Why.TheVariants as no
@@ -11,6 +11,10 @@ use Rattle.kt_app.specs.declared.top.SourceNo.TheVariants as why
 -- the source's bytes, where it tells them, say this
 abbrev pub IsSaid : Option (List ℕ) → Said → Type 0
 IsSaid left said = IfSome left (λ script. script_of script ≡ Some said)
+
+-- and load so many writes a session, where there is such a number
+abbrev pub IsLoadSaid : Option (List ℕ) → Option ℕ → Type 0
+IsLoadSaid left load = IfSome left (λ script. load_of script ≡ load)
 
 -- the first fault of the source's bytes, where it tells them
 abbrev pub IsFaultOf : Option (List ℕ) → Fault → Type 0

@@ -1,9 +1,10 @@
 //! A run of a plan on an engine that was opened, to its output text.
-ghost use Rattle.std.specs.Prelude.{◌≡◌, ◌+◌, ◌^◌, ℕ, ◌<◌, ◌≤◌, [], IfSome, IfOk, OnOk, IsTrue, None, false, true, map, length, All};
+ghost use Rattle.std.specs.Prelude.{◌≡◌, ◌+◌, ◌^◌, ℕ, ◌<◌, ◌≤◌, [], IfSome, IfOk, OnOk, IsTrue, Ok, Option, None, false, true, map, length, All};
 ghost use Rattle.kt_base.specs.Causes.{Grows};
 ghost use Rattle.kt_journal.specs.Log.{CanOpen};
 ghost use Rattle.kt_history.specs.Machine.{first_turns};
 ghost use Rattle.kt_script.specs.Fit.{PlanFits};
+ghost use Rattle.kt_script.specs.Loads.{IsLoad};
 ghost use Rattle.kt_storeside.specs.Supers.{NamedStand};
 ghost use Rattle.kt_reopen.specs.Opened.{OneRose};
 ghost use Rattle.kt_disk.specs.Disk.{Files};
@@ -17,13 +18,17 @@ ghost use Rattle.kt_serve.specs.Scans.{IsOn};
 ghost use Rattle.kt_app.specs.Images.{CrashLeaves, Both};
 ghost use Rattle.kt_app.specs.Session.{IsCounted};
 ghost use Rattle.kt_app.specs.Played.{IsFresh, KeptOn, RanOn, IsWhole, HasPlayed};
+ghost use Rattle.kt_app.specs.Loaded.{IsText};
+ghost use Rattle.kt_app.specs.declared.load.Load.{Load as LoadSpec};
 
 use crate::chores::Jobs;
+use crate::load::{Load, load_now, load_text};
 use crate::text::{Output, RunEnd, output_of};
 use kt_base::{Clock, NoMemory};
 use kt_disk::{Disk, Gate};
 use kt_engine::{Engine, Parts};
-use kt_history::Plan;
+use kt_history::{EventList, Plan, Session};
+use kt_loadlaws::laws::summary_law;
 use kt_schema::Schema;
 use kt_seatlock::{Pass, SeatLock};
 use kt_serve::{End, Halt, Ran as Ended, SessionEnd, SessionReplies, run_sessions};
@@ -135,8 +140,33 @@ fn play<
     }
 }
 
-/// Runs a plan on an engine that was opened, and so many workers beside it, and gives its output text, unless memory is wanting, and what the engine is taken
-/// apart into. The lock is made before there is an engine, so that no want of memory loses one.
+// What is printed of a run with these replies, this history and this end: its output text, or the summary of a load that leaves this.
+fn printed(
+    alloc: Global,
+    schema: &Schema,
+    plan: &[Session],
+    load: Result<Option<Load>, NoMemory>,
+    replies: Vec<SessionReplies>,
+    trail: &EventList,
+    end: &RunEnd,
+) -> Result<Output, NoMemory>
+    ensures stopped { IfOk result (λ out. out.stopped ≡ end.now.stopped) }
+    ensures text { IfOk result (λ out. (l : Option LoadSpec) × (load ≡ Ok l) × IsText schema.now plan.now l replies.items trail.now end.now.stopped end.now.a end.now.c end.now.rowsets out.text) }
+{
+    match load? {
+        Some(load) => {
+            let text = load_text(alloc, &load, &replies, end.stopped)?;
+            Ok(Output {
+                stopped: end.stopped,
+                text,
+            })
+        }
+        None => output_of(alloc, schema, plan, replies, trail, end),
+    }
+}
+
+/// Runs a plan on an engine that was opened, and so many workers beside it, and gives what is printed of it, unless memory is wanting, and what the engine is
+/// taken apart into. Of a load that is its summary. The lock is made before there is an engine, so that no want of memory loses one.
 pub fn run_plan<
     L: Disk + Send,
     D: Disk + Drop + Send,
@@ -151,6 +181,7 @@ pub fn run_plan<
     lock: SeatLock<Engine<L, D, C>>,
     pass: Pass<Engine<L, D, C>>,
     mut engine: Engine<L, D, C>,
+    load: Option<u32>,
     workers: u32,
     gate: &G,
 ) -> (Option<Output>, Parts<L, D, C>)
@@ -161,11 +192,14 @@ pub fn run_plan<
     requires fresh { IsFresh engine }
     requires work { IsOn schema.now engine.tablet.core.work }
 
-    // What was printed is the output text of a run of the plan from what opening found, in which the clock gave what it gave
+    // A load is of its table and its plan, and each of its writes has room.
+    requires load { IfSome load (λ n. IsLoad schema.now plan.now n × (1024 ≤ engine.tablet.core.work.cells)) }
+
+    // What was printed is that of a run of the plan from what opening found, in which the clock gave what it gave
     // in this call. By rules of the table that take each write of the plan, and by which its devices held what opening found, a crash now leaves what
     // the run made of that.
     ensures run { IfSome result.0 (λ out. RanOn (Grows (C.readings engine.tablet.clock) (C.readings result.1.clock)) engine schema.now plan.now
-        (Both (CrashLeaves L.tells L.now L.leaves result.1.log) (CrashLeaves D.tells D.now D.leaves result.1.store)) result.1.trail out.stopped (length result.1.meta.rowsets) out.text) }
+        (Both (CrashLeaves L.tells L.now L.leaves result.1.log) (CrashLeaves D.tells D.now D.leaves result.1.store)) result.1.trail load out.stopped (length result.1.meta.rowsets) out.text) }
 
     // Whatever became of its text, the lines that are handed back are a run, and a crash now leaves the first of its writes.
     ensures kept { KeptOn (Grows (C.readings engine.tablet.clock) (C.readings result.1.clock)) engine schema.now plan.now
@@ -188,7 +222,9 @@ pub fn run_plan<
     let (played, engine) = play(rt, alloc, schema, plan, lock, pass, engine, workers, gate);
     engine.standing();
     let (a, c) = engine.times();
+    let left = load_now(alloc, schema, load, &engine);
     let parts = engine.take_apart();
+    summary_law();
     match played {
         Ok(Played { stopped, replies }) => {
             let end = RunEnd {
@@ -197,7 +233,15 @@ pub fn run_plan<
                 c,
                 rowsets: parts.meta.rowsets.as_slice().len() as u64,
             };
-            let output = output_of(alloc, schema, plan.as_slice(), replies, &parts.trail, &end);
+            let output = printed(
+                alloc,
+                schema,
+                plan.as_slice(),
+                left,
+                replies,
+                &parts.trail,
+                &end,
+            );
             (output.ok(), parts)
         }
         Err(NoMemory) => (None, parts),

@@ -6,6 +6,7 @@ ghost use Rattle.std.specs.Io.KnownBytes.{Appends};
 ghost use Rattle.kt_base.specs.Causes.{Grows, Rose};
 ghost use Rattle.kt_journal.specs.Log.{CanOpen};
 ghost use Rattle.kt_script.specs.Fit.{PlanFits};
+ghost use Rattle.kt_script.specs.Loads.{IsLoad};
 ghost use Rattle.kt_script.specs.Scripts.{Said, Fault, script_of, workload};
 ghost use Rattle.kt_words.specs.Words.{settings_in};
 ghost use Rattle.kt_words.specs.declared.run.Settings.{Settings};
@@ -14,7 +15,7 @@ ghost use Rattle.kt_storeside.specs.Supers.{NamedStand};
 ghost use Rattle.kt_reopen.specs.Opened.{IsRefusal, OneRose};
 ghost use Rattle.kt_app.specs.Headline.{IsNoScript};
 ghost use Rattle.kt_app.specs.Images.{CrashLeaves, IsRead, Both, KeepsFiles, LeavesAsBefore, LogIsNear};
-ghost use Rattle.kt_app.specs.Refusals.{IsSaid, IsFaultOf, IsRefused, fault_text, refusal_text};
+ghost use Rattle.kt_app.specs.Refusals.{IsSaid, IsLoadSaid, IsFaultOf, IsRefused, fault_text, refusal_text};
 ghost use Rattle.kt_app.specs.Crash.{Refuses, RunsPlan, RunsScript, LeavesFirst};
 ghost use Rattle.kt_disk.specs.Disk.{Files};
 ghost use Rattle.kt_engine.specs.Engines.{KeepsOthers};
@@ -71,6 +72,8 @@ const MANY: usize = 67_108_865;
 // Reads a script.
 fn take_script<S: Source>(alloc: Global, source: &mut S) -> Result<Script, SourceNo>
     ensures said { IfOk result (λ s. IsSaid (S.left source.old) (record { columns = s.schema; plan = s.plan })) }
+    ensures load { IfOk result (λ s. IsLoadSaid (S.left source.old) s.load) }
+    ensures loads { IfOk result (λ s. IfSome s.load (λ n. IsLoad s.schema s.plan n)) }
     ensures fits { IfOk result (λ s. PlanFits s.schema s.plan) }
     ensures table { IfOk result (λ s. IsCounted s.schema) }
     ensures not_taken { IfErr result (IsRefused (S.left source.old)) }
@@ -226,6 +229,7 @@ fn run_and_write<
     lock: SeatLock<Engine<L, D, C>>,
     pass: Pass<Engine<L, D, C>>,
     engine: Engine<L, D, C>,
+    load: Option<u32>,
     workers: u32,
     sink: &mut K,
     gate: &G,
@@ -236,10 +240,11 @@ fn run_and_write<
     requires passes { length plan.now + workers < passes_of lock }
     requires fresh { IsFresh engine }
     requires work { IsOn schema.now engine.tablet.core.work }
-    ensures printed { result.0 ≡ 0 → (text : List ℕ) × Appends (K.written sink.old) (K.written sink.new) text × RanOn (Grows (C.readings engine.tablet.clock) (C.readings result.1.clock)) engine schema.now plan.now (Both (CrashLeaves L.tells L.now L.leaves result.1.log) (CrashLeaves D.tells D.now D.leaves result.1.store)) result.1.trail false (length result.1.meta.rowsets) text }
-    ensures stopped { result.0 ≡ 4 → (text : List ℕ) × Appends (K.written sink.old) (K.written sink.new) text × RanOn (Grows (C.readings engine.tablet.clock) (C.readings result.1.clock)) engine schema.now plan.now (Both (CrashLeaves L.tells L.now L.leaves result.1.log) (CrashLeaves D.tells D.now D.leaves result.1.store)) result.1.trail true (length result.1.meta.rowsets) text }
+    requires load { IfSome load (λ n. IsLoad schema.now plan.now n × (1024 ≤ engine.tablet.core.work.cells)) }
+    ensures printed { result.0 ≡ 0 → (text : List ℕ) × Appends (K.written sink.old) (K.written sink.new) text × RanOn (Grows (C.readings engine.tablet.clock) (C.readings result.1.clock)) engine schema.now plan.now (Both (CrashLeaves L.tells L.now L.leaves result.1.log) (CrashLeaves D.tells D.now D.leaves result.1.store)) result.1.trail load false (length result.1.meta.rowsets) text }
+    ensures stopped { result.0 ≡ 4 → (text : List ℕ) × Appends (K.written sink.old) (K.written sink.new) text × RanOn (Grows (C.readings engine.tablet.clock) (C.readings result.1.clock)) engine schema.now plan.now (Both (CrashLeaves L.tells L.now L.leaves result.1.log) (CrashLeaves D.tells D.now D.leaves result.1.store)) result.1.trail load true (length result.1.meta.rowsets) text }
     ensures fault { result.0 ≡ 4 → OneRose (L.faults engine.device) (L.faults result.1.log) (D.faults engine.store_device) (D.faults result.1.store) }
-    ensures cut { result.0 ≡ 6 → (text : List ℕ) × (stopped : Bool) × WritesFront (K.written sink.old) (K.written sink.new) text × RanOn (Grows (C.readings engine.tablet.clock) (C.readings result.1.clock)) engine schema.now plan.now (Both (CrashLeaves L.tells L.now L.leaves result.1.log) (CrashLeaves D.tells D.now D.leaves result.1.store)) result.1.trail stopped (length result.1.meta.rowsets) text × (stopped ≡ true → OneRose (L.faults engine.device) (L.faults result.1.log) (D.faults engine.store_device) (D.faults result.1.store)) }
+    ensures cut { result.0 ≡ 6 → (text : List ℕ) × (stopped : Bool) × WritesFront (K.written sink.old) (K.written sink.new) text × RanOn (Grows (C.readings engine.tablet.clock) (C.readings result.1.clock)) engine schema.now plan.now (Both (CrashLeaves L.tells L.now L.leaves result.1.log) (CrashLeaves D.tells D.now D.leaves result.1.store)) result.1.trail load stopped (length result.1.meta.rowsets) text × (stopped ≡ true → OneRose (L.faults engine.device) (L.faults result.1.log) (D.faults engine.store_device) (D.faults result.1.store)) }
     ensures sink_fault { result.0 ≡ 6 → Rose (K.faults sink.old) (K.faults sink.new) }
     ensures memory { result.0 ≡ 7 → Appends (K.written sink.old) (K.written sink.new) [] }
     ensures statuses { (result.0 ≡ 0) ⊎ (result.0 ≡ 4) ⊎ (result.0 ≡ 6) ⊎ (result.0 ≡ 7) }
@@ -249,7 +254,9 @@ fn run_and_write<
     ensures openable { IsTrue L.tells → CanOpen L.now L.leaves result.1.log }
     ensures stand { IsTrue D.tells → NamedStand D.seen D.now D.leaves result.1.store }
 {
-    let (output, parts) = run_plan(rt, alloc, schema, plan, lock, pass, engine, workers, gate);
+    let (output, parts) = run_plan(
+        rt, alloc, schema, plan, lock, pass, engine, load, workers, gate,
+    );
     match output {
         Some(output) => (write_output(sink, &output), parts),
         None => (7, parts),
@@ -287,6 +294,7 @@ fn open_and_run<
     alloc: Global,
     schema: &Schema,
     plan: &Plan,
+    load: Option<u32>,
     cells: u32,
     workers: u32,
     log: L,
@@ -298,14 +306,15 @@ fn open_and_run<
     requires counted { IsCounted schema.now }
     requires fits { PlanFits schema.now plan.now }
     requires workers { workers ≤ 4 }
+    requires load { IfSome load (λ n. IsLoad schema.now plan.now n × (1024 ≤ cells)) }
     requires openable { IsTrue L.tells → CanOpen L.now L.leaves log }
     requires stand { IsTrue D.tells → NamedStand D.seen D.now D.leaves store }
-    ensures printed { result.status ≡ 0 → (text : List ℕ) × RunsPlan (Grows (C.readings clock) (C.readings result.clock)) schema.now (Both (IsRead L.tells L.seen log) (IsRead D.tells D.seen store)) (Both (CrashLeaves L.tells L.now L.leaves result.log) (CrashLeaves D.tells D.now D.leaves result.store)) (workload cells (record { columns = schema.now; plan = plan.now })) false text × Appends (K.written sink.old) (K.written sink.new) text }
+    ensures printed { result.status ≡ 0 → (text : List ℕ) × RunsPlan (Grows (C.readings clock) (C.readings result.clock)) schema.now (Both (IsRead L.tells L.seen log) (IsRead D.tells D.seen store)) (Both (CrashLeaves L.tells L.now L.leaves result.log) (CrashLeaves D.tells D.now D.leaves result.store)) (workload cells (record { columns = schema.now; plan = plan.now })) load false text × Appends (K.written sink.old) (K.written sink.new) text }
     ensures refused { result.status ≡ 3 → (no : Why) × IsRefusal no × Refuses schema.now (Both (IsRead L.tells L.seen log) (IsRead D.tells D.seen store)) no × Appends (K.written sink.old) (K.written sink.new) (refusal_text no) }
     ensures refuses { (no : Why) → IsRefusal no → IsTrue L.tells → IsTrue D.tells → Answers schema.now (L.seen log) (D.seen store) (Err no) → (3 ≤ result.status) }
     ensures stopped { result.status ≡ 4 → OneRose (L.faults log) (L.faults result.log) (D.faults store) (D.faults result.store)
         × (Appends (K.written sink.old) (K.written sink.new) STOPPED_OPENING.now × (result.clock ≡ clock) × LeavesAsBefore schema.now (CrashLeaves L.tells L.now L.leaves log) (CrashLeaves L.tells L.now L.leaves result.log) (CrashLeaves D.tells D.now D.leaves store) (CrashLeaves D.tells D.now D.leaves result.store)
-        ⊎ ((text : List ℕ) × RunsPlan (Grows (C.readings clock) (C.readings result.clock)) schema.now (Both (IsRead L.tells L.seen log) (IsRead D.tells D.seen store)) (Both (CrashLeaves L.tells L.now L.leaves result.log) (CrashLeaves D.tells D.now D.leaves result.store)) (workload cells (record { columns = schema.now; plan = plan.now })) true text × Appends (K.written sink.old) (K.written sink.new) text)) }
+        ⊎ ((text : List ℕ) × RunsPlan (Grows (C.readings clock) (C.readings result.clock)) schema.now (Both (IsRead L.tells L.seen log) (IsRead D.tells D.seen store)) (Both (CrashLeaves L.tells L.now L.leaves result.log) (CrashLeaves D.tells D.now D.leaves result.store)) (workload cells (record { columns = schema.now; plan = plan.now })) load true text × Appends (K.written sink.old) (K.written sink.new) text)) }
     ensures untouched { result.status ≡ 3 → (result.clock ≡ clock) × LeavesAsBefore schema.now (CrashLeaves L.tells L.now L.leaves log) (CrashLeaves L.tells L.now L.leaves result.log) (CrashLeaves D.tells D.now D.leaves store) (CrashLeaves D.tells D.now D.leaves result.store) }
     ensures complete { (found : Found) → IsTrue L.tells → IsTrue D.tells → Answers schema.now (L.seen log) (D.seen store) (Ok found)
         → ¬ Rose (K.faults sink.old) (K.faults sink.new) → ¬ Rose (L.faults log) (L.faults result.log) → ¬ Rose (D.faults store) (D.faults result.store)
@@ -314,7 +323,7 @@ fn open_and_run<
     ensures cut { result.status ≡ 6 → (text : List ℕ) × WritesFront (K.written sink.old) (K.written sink.new) text
         × ((((no : Why) × IsRefusal no × Refuses schema.now (Both (IsRead L.tells L.seen log) (IsRead D.tells D.seen store)) no × (text ≡ refusal_text no)) ⊎ ((text ≡ STOPPED_OPENING.now) × OneRose (L.faults log) (L.faults result.log) (D.faults store) (D.faults result.store)))
         × (result.clock ≡ clock) × LeavesAsBefore schema.now (CrashLeaves L.tells L.now L.leaves log) (CrashLeaves L.tells L.now L.leaves result.log) (CrashLeaves D.tells D.now D.leaves store) (CrashLeaves D.tells D.now D.leaves result.store)
-        ⊎ ((stopped : Bool) × RunsPlan (Grows (C.readings clock) (C.readings result.clock)) schema.now (Both (IsRead L.tells L.seen log) (IsRead D.tells D.seen store)) (Both (CrashLeaves L.tells L.now L.leaves result.log) (CrashLeaves D.tells D.now D.leaves result.store)) (workload cells (record { columns = schema.now; plan = plan.now })) stopped text × (stopped ≡ true → OneRose (L.faults log) (L.faults result.log) (D.faults store) (D.faults result.store)))) }
+        ⊎ ((stopped : Bool) × RunsPlan (Grows (C.readings clock) (C.readings result.clock)) schema.now (Both (IsRead L.tells L.seen log) (IsRead D.tells D.seen store)) (Both (CrashLeaves L.tells L.now L.leaves result.log) (CrashLeaves D.tells D.now D.leaves result.store)) (workload cells (record { columns = schema.now; plan = plan.now })) load stopped text × (stopped ≡ true → OneRose (L.faults log) (L.faults result.log) (D.faults store) (D.faults result.store)))) }
     ensures memory { result.status ≡ 7 → Appends (K.written sink.old) (K.written sink.new) [] }
     ensures statuses { (result.status ≡ 0) ⊎ (result.status ≡ 3) ⊎ (result.status ≡ 4) ⊎ (result.status ≡ 6) ⊎ (result.status ≡ 7) }
     ensures crash { LeavesFirst (Grows (C.readings clock) (C.readings result.clock)) (Both (IsRead L.tells L.seen log) (IsRead D.tells D.seen store)) (CrashLeaves L.tells L.now L.leaves log) (CrashLeaves L.tells L.now L.leaves result.log) (CrashLeaves D.tells D.now D.leaves store) (CrashLeaves D.tells D.now D.leaves result.store) cells (record { columns = schema.now; plan = plan.now }) }
@@ -329,7 +338,7 @@ fn open_and_run<
     match open_tablet(alloc, log, store, clock, schema, cells, cells) {
         Ok(engine) => {
             let (status, parts) = run_and_write(
-                rt, alloc, schema, plan, lock, pass, engine, workers, sink, gate,
+                rt, alloc, schema, plan, lock, pass, engine, load, workers, sink, gate,
             );
             end_with(status, parts.log, parts.store, parts.clock)
         }
@@ -375,7 +384,9 @@ pub fn tablet_main<
     // On status 0 what was written is the output text of a run of the script that all bytes of the source spell, with as many cells as the words say, over
     // each past that both devices held: each printed reply is that run's, the readings in its history are those that the clock gave in this
     // call, and whatever a crash now leaves of both devices holds all its writes, by the rules of the script's table too where they held that past by these. It is
-    // seen from the mark that the last line says, and the superblock says what that line says.
+    // seen from the mark that the last line says, and the superblock says what that line says. Of a script that loads the summary is written in place of that
+    // text: the outcomes of its sessions one after another on the rows that there were, and how many rows that leaves and what they sum up to. They are the
+    // rows at the run's end.
     ensures printed { result.status ≡ 0 → IfSome (S.left source.old) (λ script. (settings : Settings) × (settings_in (map (λ w. w.now) words.now) ≡ Some settings) × (text : List ℕ)
         × RunsScript (Grows (C.readings clock) (C.readings result.clock)) (Both (IsRead L.tells L.seen log) (IsRead D.tells D.seen store)) (Both (CrashLeaves L.tells L.now L.leaves result.log) (CrashLeaves D.tells D.now D.leaves result.store)) settings.cells false script text × Appends (K.written sink.old) (K.written sink.new) text) }
 
@@ -444,11 +455,12 @@ pub fn tablet_main<
         Err(WordsNo::Memory) => return end_with(7, log, store, clock),
     };
     match take_script(alloc, source) {
-        Ok(Script { schema, plan }) => open_and_run(
+        Ok(Script { schema, plan, load }) => open_and_run(
             rt,
             alloc,
             &schema,
             &plan,
+            load,
             settings.cells,
             settings.workers.min(WORKERS_MOST),
             log,

@@ -15,9 +15,12 @@ some_of : {A E : Type 0} (r : Result A E) (o : Option A) (P : A → Type 0) → 
 some_of (Ok x) o P e h = subst (λ q. IfSome q P) (sym e) h
 some_of (Err x) o P e h = subst (λ q. IfSome q P) (sym e) tt
 
-of_three : {A E : Type 0} (r : Result A E) (P Q R S : A → Type 0) → ((x : A) → P x → Q x → R x → S x) → IfOk r P → IfOk r Q → IfOk r R → IfOk r S
-of_three (Ok x) P Q R S f p q s = f x p q s
-of_three (Err x) P Q R S f p q s = tt
+of_two : {A E : Type 0} (r : Result A E) (P Q S : A → Type 0) → ((x : A) → P x → Q x → S x) → IfOk r P → IfOk r Q → IfOk r S
+of_two (Ok x) P Q S f p q = f x p q
+of_two (Err x) P Q S f p q = tt
+
+left_is : {A E : Type 0} (r : Result A E) (x : A) (P : A → Type 0) → r ≡ Ok x → IfOk r P → P x
+left_is r x P e h = subst (λ q. IfOk q P) e h
 
 pub set_plan-requires-clause-keeps : goal.set_plan-requires-clause-keeps
 set_plan-requires-clause-keeps g c = plan_keeps c.args.schema.now c.requires.counted (record c.args.engine.tablet.core.work { plan = c.args.plan.now }) c.requires.fits
@@ -33,16 +36,17 @@ returns-in-Ok-clause-run g c =
     let home : AreHome view parts.log parts.store = record { journal = journal.0; log_home = journal.1; log_is = journal.2; store_home = c.take_apart-parts.ensures.store } in
     let root = c.play-played.ensures.root ∙ ap root_of c.set_plan.ensures in
     let sliced = ap length c.as_slice.ensures in
-    some_of c.output_of-output.result c.ok.result _ c.ok.ensures.value
-    (of_three c.output_of-output.result _ _ _ _
-    (λ out stopped text fits first opens.
+    some_of c.printed-output.result c.ok.result _ c.ok.ensures.value
+    (of_two c.printed-output.result _ _ _
+    (λ out stopped text first opens.
     ran_as (sym stopped)
     (ran_with sliced
     (ran_of g.C.Clock.readings L.tells L.now L.leaves D.tells D.seen D.now D.leaves c.args.engine view c.args.schema.now c.args.plan.now c.requires.fresh c.requires.work root c.standing.ensures.sound parts.log parts.store home
     parts.clock c.take_apart-parts.ensures.clock parts.trail c.take_apart-parts.ensures.trail c.standing.ensures.recovers_both c.standing.ensures.marked c.in-Ok.field-0.stopped c.in-Ok.field-0.replies.items
     (rw c.in-Ok.is at c.play-played.ensures.played) c.standing.ensures.recovers_all_of_both c.standing.ensures.published
-    _ _ _ _ out.text c.times-a.ensures.mark c.times-a.ensures.last (sliced ∙ ap (λ (m : Meta). length m.rowsets) c.take_apart-parts.ensures.meta) c.as_slice-in-Ok.ensures fits text first opens)))
-    c.output_of-output.ensures.stopped c.output_of-output.ensures.text c.output_of-output.ensures.fits)
+    c.summary_law.ensures c.args.load text.0 _ _ _ _ out.text c.requires.load (left_is c.load_now-left.result text.0 _ text.1 c.load_now-left.ensures)
+    c.times-a.ensures.mark c.times-a.ensures.last (sliced ∙ ap (λ (m : Meta). length m.rowsets) c.take_apart-parts.ensures.meta) c.as_slice-in-Ok.ensures text.2 first opens)))
+    c.printed-output.ensures.stopped c.printed-output.ensures.text)
 
 pub returns-in-Ok-clause-kept : goal.returns-in-Ok-clause-kept
 returns-in-Ok-clause-kept g c =
@@ -127,11 +131,11 @@ returns-in-Ok-clause-fault g c =
     let parts = c.take_apart-parts.result in
     let journal = c.take_apart-parts.ensures.log in
     let home : AreHome c.play-played.result.1 parts.log parts.store = record { journal = journal.0; log_home = journal.1; log_is = journal.2; store_home = c.take_apart-parts.ensures.store } in
-    some_of c.output_of-output.result c.ok.result _ c.ok.ensures.value
-    (IfOk-weaker c.output_of-output.result _ _
+    some_of c.printed-output.result c.ok.result _ c.ok.ensures.value
+    (IfOk-weaker c.printed-output.result _ _
     (λ out is stopped. some_failed c.args.engine c.play-played.result.1 c.args.plan.now parts.log parts.store (c.play-played.ensures.root ∙ ap root_of c.set_plan.ensures) c.standing.ensures.home home g.D.Disk.faults c.standing.ensures.failed
     (let played = rw c.in-Ok.is at c.play-played.ensures.played in subst IsTrue (is ∙ sym played.ended) stopped))
-    c.output_of-output.ensures.stopped)
+    c.printed-output.ensures.stopped)
 
 pub returns-in-Ok-clause-named : goal.returns-in-Ok-clause-named
 returns-in-Ok-clause-named g c =

@@ -1,5 +1,6 @@
-use Rattle.std.proofs.Common.{[], arith, ap, sym, refl, subst, inl, inr, true, false, ◌∙◌}
-use Rattle.std.specs.Prelude.{IsTrue}
+use Rattle.std.proofs.Common.{◌≤◌, ℕ, [], arith, ap, sym, refl, subst, inl, inr, true, false, ◌∙◌}
+use Rattle.std.specs.Prelude.{IsTrue, IfSome}
+use Rattle.kt_script.specs.Loads.{IsLoad}
 use Rattle.kt_history.specs.Machine.{Workload}
 use Rattle.kt_engine.specs.Engines.{KeepsOthers}
 use Rattle.kt_app.specs.Images.{CrashLeaves, Both, KeepsFiles, LogIsNear}
@@ -14,6 +15,9 @@ open_tablet-requires-clause-table g c = c.requires.counted.table
 
 pub run_and_write-status-requires-clause-work : goal.run_and_write-status-requires-clause-work
 run_and_write-status-requires-clause-work g c = λ κs outlives. is_on c.args.schema.now _ [] c.args.cells c.in-Ok-open_tablet.ensures.work
+
+pub run_and_write-status-requires-clause-load : goal.run_and_write-status-requires-clause-load
+run_and_write-status-requires-clause-load g c = λ κs outlives. subst (λ (n : ℕ). IfSome c.args.load (λ k. IsLoad c.args.schema.now c.args.plan.now k × (1024 ≤ n))) (sym (ap (λ (w : Workload). w.cells) c.in-Ok-open_tablet.ensures.work)) c.requires.load
 
 pub returns-in-Err-clause-openable : goal.returns-in-Err-clause-openable
 returns-in-Err-clause-openable g c = let is = c.end_with-in-Err.ensures in rw is.1 c.in-Err.ensures.openable
@@ -36,7 +40,7 @@ returns-in-Ok-open_tablet-clause-printed g c = λ e.
     let run = c.run_and_write-status.ensures.printed (sym is.0 ∙ e) in (
       run.0,
       runs_over g.C.Clock.readings g.L.Disk.tells g.L.Disk.seen c.args.log g.D.Disk.tells g.D.Disk.seen c.args.store engine c.args.schema.now c.requires.counted c.args.plan.now c.requires.fits parts.trail opened.content
-          engine.tablet.clock c.args.clock parts.clock _ parts.log _ parts.store _ (λ l s. Both (CrashLeaves g.L.Disk.tells g.L.Disk.now g.L.Disk.leaves l) (CrashLeaves g.D.Disk.tells g.D.Disk.now g.D.Disk.leaves s)) c.args.cells opened.clock.0 (sym is.3) is.1 is.2 (ap (λ (w : Workload). w.cells) opened.work) false _ run.0 run.2,
+          engine.tablet.clock c.args.clock parts.clock _ parts.log _ parts.store _ (λ l s. Both (CrashLeaves g.L.Disk.tells g.L.Disk.now g.L.Disk.leaves l) (CrashLeaves g.D.Disk.tells g.D.Disk.now g.D.Disk.leaves s)) c.args.cells opened.clock.0 (sym is.3) is.1 is.2 (ap (λ (w : Workload). w.cells) opened.work) c.args.load false _ run.0 run.2,
       run.1,
     )
 
@@ -52,7 +56,7 @@ returns-in-Ok-open_tablet-clause-stopped g c = λ e.
       inr (
         run.0,
         runs_over g.C.Clock.readings g.L.Disk.tells g.L.Disk.seen c.args.log g.D.Disk.tells g.D.Disk.seen c.args.store engine c.args.schema.now c.requires.counted c.args.plan.now c.requires.fits parts.trail opened.content
-            engine.tablet.clock c.args.clock parts.clock _ parts.log _ parts.store _ (λ l s. Both (CrashLeaves g.L.Disk.tells g.L.Disk.now g.L.Disk.leaves l) (CrashLeaves g.D.Disk.tells g.D.Disk.now g.D.Disk.leaves s)) c.args.cells opened.clock.0 (sym is.3) is.1 is.2 (ap (λ (w : Workload). w.cells) opened.work) true _ run.0 run.2,
+            engine.tablet.clock c.args.clock parts.clock _ parts.log _ parts.store _ (λ l s. Both (CrashLeaves g.L.Disk.tells g.L.Disk.now g.L.Disk.leaves l) (CrashLeaves g.D.Disk.tells g.D.Disk.now g.D.Disk.leaves s)) c.args.cells opened.clock.0 (sym is.3) is.1 is.2 (ap (λ (w : Workload). w.cells) opened.work) c.args.load true _ run.0 run.2,
         run.1,
       ),
     )
@@ -81,7 +85,7 @@ returns-in-Ok-open_tablet-clause-cut g c = λ e.
       inr (
         run.1,
         runs_over g.C.Clock.readings g.L.Disk.tells g.L.Disk.seen c.args.log g.D.Disk.tells g.D.Disk.seen c.args.store engine c.args.schema.now c.requires.counted c.args.plan.now c.requires.fits parts.trail opened.content
-            engine.tablet.clock c.args.clock parts.clock _ parts.log _ parts.store _ (λ l s. Both (CrashLeaves g.L.Disk.tells g.L.Disk.now g.L.Disk.leaves l) (CrashLeaves g.D.Disk.tells g.D.Disk.now g.D.Disk.leaves s)) c.args.cells opened.clock.0 (sym is.3) is.1 is.2 (ap (λ (w : Workload). w.cells) opened.work) run.1 _ run.0 run.3,
+            engine.tablet.clock c.args.clock parts.clock _ parts.log _ parts.store _ (λ l s. Both (CrashLeaves g.L.Disk.tells g.L.Disk.now g.L.Disk.leaves l) (CrashLeaves g.D.Disk.tells g.D.Disk.now g.D.Disk.leaves s)) c.args.cells opened.clock.0 (sym is.3) is.1 is.2 (ap (λ (w : Workload). w.cells) opened.work) c.args.load run.1 _ run.0 run.3,
         (λ stopped. rose_as g.L.Disk.faults g.D.Disk.faults opened.devices.1 opened.devices.2 is.1 is.2 (run.4 stopped)),
       ),
     )
