@@ -1,0 +1,4 @@
+table
+column id int64 key
+column v int64
+load 1000
