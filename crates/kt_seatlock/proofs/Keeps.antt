@@ -1,5 +1,5 @@
 -- Each step of the lock keeps its rule.
-use Rattle.std.proofs.Common.{◌≡◌, ℕ, zero, suc, ◌+◌, ◌%◌, ◌^◌, ◌<◌, ◌≤◌, eqb, cond, ◌≢◌, ⊎_elim, List, [], ◌∷◌, ◌++◌, length, get_or, set, sym, refl, ap, ◌∙◌, subst, arith, length-set, length-append, get_or-set_other, get_or-set_same, eq-eqb, ne_eqb}
+use Rattle.std.proofs.Common.{◌≡◌, ℕ, zero, suc, ◌+◌, ◌-◌, ◌%◌, ◌^◌, ◌<◌, ◌≤◌, eqb, cond, ◌≢◌, inl, ⊎_elim, List, [], ◌∷◌, ◌++◌, length, get_or, set, sym, refl, ap, ◌∙◌, subst, arith, length-set, length-append, get_or-set_other, get_or-set_same, eq-eqb, ne_eqb}
 use Rattle.std.specs.Prelude.{Option, Some, None}
 use mathlib.Core.Logic.{dite}
 use mathlib.Core.Option.{none, some, some-injective}
@@ -162,8 +162,16 @@ module _ {T E P : Type 0} (trail : T → List E) (part : T → ℕ → P) (owner
   home : (s : St) (r : Rule s) (y : T) → get_elem? (set s.homes 0 (some (Some y))) 0 ≡ some (some (Some y))
   home s r y = let one : length s.homes ≡ 1 = r.one in set_here s.homes 0 (some (Some y)) (omega arith)
 
-  up_even : (n : ℕ) → n < 18446744073709551616 → n % 2 ≡ 1 → ((n + 1) % 18446744073709551616) % 2 ≡ 0
+  -- what becomes of an odd turn is even
+  abbrev MakesEven : (ℕ → ℕ) → Type 0
+  MakesEven f = (n : ℕ) → n < 18446744073709551616 → n % 2 ≡ 1 → f n % 2 ≡ 0
+
+  pub up_even : MakesEven (λ n. (n + 1) % 18446744073709551616)
   up_even n small odd = omega arith
+
+  -- it is one at least, so that it does not wrap
+  pub down_even : MakesEven (λ n. (n + 18446744073709551615) % 18446744073709551616)
+  down_even n small odd = omega arith
 
   turn_now : (s : St) (r : Rule s) (b n : ℕ) → n % 2 ≡ b → get_or (set s.words 1 n) 1 0 % 2 ≡ b
   turn_now s r b n e = let three : length s.words ≡ 3 = r.three in ap (λ z. z % 2) (get_or-set_same s.words 1 n 0 (omega arith)) ∙ e
@@ -276,12 +284,12 @@ module _ {T E P : Type 0} (trail : T → List E) (part : T → ℕ → P) (owner
   left_stage x y id j other (Inside z) e = let same : j ≡ id = cc in absurd (other same)
   left_stage x y id j other Gone e = tt
 
-  leaves_at : (slots id : ℕ) (v : V) (x y : T) → v.stage ≡ Inside x → length v.seen + v.ahead ≡ length (trail y) → Adds owner v.number v.seen (trail y) → KeepsParts part v.number x y
-      → Allows Rule slots id (v, (0, Some y) ∷ []) 1 (λ n. (n + 1) % 2 ^ 64) (left trail part (step slots 1 1 0 none) (v, (0, Some y) ∷ []))
-  leaves_at slots id v x y is long adds_seen same s r _ at small = let known = r.seats id v at in let ph : r.phase ≡ held id x = subst (InStage r.phase id) is known.1 in
+  leaves_at : (slots id : ℕ) (v : V) (x y : T) (f : ℕ → ℕ) → MakesEven f → v.stage ≡ Inside x → length v.seen + v.ahead ≡ length (trail y) → Adds owner v.number v.seen (trail y) → KeepsParts part v.number x y
+      → Allows Rule slots id (v, (0, Some y) ∷ []) 1 f (left trail part (step slots 1 1 0 none) (v, (0, Some y) ∷ []))
+  leaves_at slots id v x y f even is long adds_seen same s r _ at small = let known = r.seats id v at in let ph : r.phase ≡ held id x = subst (InStage r.phase id) is known.1 in
       let turn = subst (λ z. AtTurn trail part owner z (get_or s.words 0 0) (get_or s.words 1 0) s.homes s.views) ph r.turn in let st = subst (λ z. S z r.given r.giver r.seat_of id v) ph (known.0 (live_inside v.stage x is)) in
       let low : v.number < r.given = st.below in let here : turn.1.0 ≡ v = some-injective turn.1.0 v (sym turn.1.1 ∙ at) in let whole_seen : v.seen ≡ trail x = ap (λ (z : V). z.seen) (sym here) ∙ turn.1.3 in
-      let adds = subst (λ z. Adds owner v.number z (trail y)) whole_seen adds_seen in let w : V = outside_view trail part v y in let n : ℕ = (get_or s.words 1 0 + 1) % 2 ^ 64 in (
+      let adds = subst (λ z. Adds owner v.number z (trail y)) whole_seen adds_seen in let w : V = outside_view trail part v y in let n : ℕ = f (get_or s.words 1 0) in (
         w,
         gives,
         tt,
@@ -292,12 +300,12 @@ module _ {T E P : Type 0} (trail : T → List E) (part : T → ℕ → P) (owner
           seat_of = r.seat_of;
           three = length-set s.words 1 n ∙ r.three;
           one = length-set s.homes 0 (some (Some y)) ∙ r.one;
-          turn = (turn_now s r 0 n (up_even (get_or s.words 1 0) small turn.0), home s r y, count_now s n ∙ (turn.1.4 ∙ ((λ i. length (sym whole_seen i) + (here i).ahead) ∙ long)));
+          turn = (turn_now s r 0 n (even (get_or s.words 1 0) small turn.0), home s r y, count_now s n ∙ (turn.1.4 ∙ ((λ i. length (sym whole_seen i) + (here i).ahead) ∙ long)));
           seats = seats_stay (K (free y) r.given r.giver r.seat_of) s.views id w ((λ _. leave_stands r.given r.giver id r.seat_of v x y adds same st), tt)
               (λ j d other e. let k = subst (λ z. K z r.given r.giver r.seat_of j d) ph (r.seats j d e) in
               let apart : (m : ℕ) → r.seat_of m ≡ j → m ≢ v.number = λ m own i. other (sym own ∙ (ap r.seat_of i ∙ st.mine)) in (
                 (λ live. stays (held id x) (free y) r.given r.given r.giver r.giver r.seat_of r.seat_of j d (λ m _ own. (own, ap Some (same m (apart m own)))) (omega arith)
-                    (λ m seen _ own f. follows_visit owner v.number m seen (trail x) (trail y) (apart m own) adds f) (λ own. (refl, own, λ m le. ap Some (same m (λ i. omega arith)))) (k.0 live)),
+                    (λ m seen _ own h. follows_visit owner v.number m seen (trail x) (trail y) (apart m own) adds h) (λ own. (refl, own, λ m le. ap Some (same m (λ i. omega arith)))) (k.0 live)),
                 left_stage x y id j other d.stage k.1,
               ));
           whole = same_weight s r id v w at (ap (λ (z : Stage T). lives z + length v.joined) (sym is));
@@ -308,7 +316,30 @@ module _ {T E P : Type 0} (trail : T → List E) (part : T → ℕ → P) (owner
 
   pub leaves : (slots id : ℕ) (me : M) (v : V) (x y : T) (k : ℕ) → me ≡ (ahead_view v k, (0, Some y) ∷ []) → v.stage ≡ Inside x → length v.seen + k ≡ length (trail y) → Adds owner v.number v.seen (trail y) → KeepsParts part v.number x y
       → Allows Rule slots id me 1 (λ n. (n + 1) % 2 ^ 64) (left trail part (step slots 1 1 0 none) me)
-  leaves slots id me v x y k has is long adds same = subst (λ (c : M). Allows Rule slots id c 1 (λ n. (n + 1) % 2 ^ 64) (left trail part (step slots 1 1 0 none) c)) (sym has) (leaves_at slots id (ahead_view v k) x y is long adds same)
+  leaves slots id me v x y k has is long adds same = subst (λ (c : M). Allows Rule slots id c 1 (λ n. (n + 1) % 2 ^ 64) (left trail part (step slots 1 1 0 none) c)) (sym has) (leaves_at slots id (ahead_view v k) x y (λ n. (n + 1) % 2 ^ 64) up_even is long adds same)
+
+  -- a seat that is inside has seen the trail of what it got
+  seen_inside : (s : St) (r : Rule s) (id : ℕ) (v : V) (x : T) → v.stage ≡ Inside x → get_elem? s.views id ≡ some v → v.seen ≡ trail x
+  seen_inside s r id v x is at = let ph : r.phase ≡ held id x = subst (InStage r.phase id) is (r.seats id v at).1 in
+      let turn = subst (λ z. AtTurn trail part owner z (get_or s.words 0 0) (get_or s.words 1 0) s.homes s.views) ph r.turn in
+      let here : turn.1.0 ≡ v = some-injective turn.1.0 v (sym turn.1.1 ∙ at) in ap (λ (z : V). z.seen) (sym here) ∙ turn.1.3
+
+  leaves_same_at : (slots id : ℕ) (v : V) (x : T) → v.stage ≡ Inside x → v.ahead ≡ 0
+      → Allows Rule slots id (v, (0, Some x) ∷ []) 1 (λ n. (n + (2 ^ 64 - 1)) % 2 ^ 64) (left trail part (step slots 1 1 0 none) (v, (0, Some x) ∷ []))
+  leaves_same_at slots id v x is level s r all at small = let whole_seen = seen_inside s r id v x is at in let long : length v.seen ≡ length (trail x) = ap length whole_seen in
+      leaves_at slots id v x x (λ n. (n + (2 ^ 64 - 1)) % 2 ^ 64) down_even is (omega arith) (inl (sym whole_seen)) (λ _ _. refl) s r all at small
+
+  pub leaves_same : (slots id : ℕ) (me : M) (x : T) → me.1 ≡ (0, Some x) ∷ [] → me.0.stage ≡ Inside x → me.0.ahead ≡ 0
+      → Allows Rule slots id me 1 (λ n. (n + (2 ^ 64 - 1)) % 2 ^ 64) (left trail part (step slots 1 1 0 none) me)
+  leaves_same slots id me x has is level = subst (λ (c : List (ℕ × Option T)). Allows Rule slots id (me.0, c) 1 (λ n. (n + (2 ^ 64 - 1)) % 2 ^ 64) (left trail part (step slots 1 1 0 none) (me.0, c))) (sym has) (leaves_same_at slots id me.0 x is level)
+
+  -- a seat that got x is inside with it
+  pub got_inside : (st : Stage T) (x : T) → got_in st ≡ Some x → st ≡ Inside x
+  got_inside Vacant x e = absurd (cc)
+  got_inside Filling x e = absurd (cc)
+  got_inside Outside x e = absurd (cc)
+  got_inside (Inside y) x e = let same : y ≡ x = cc in ap Inside same
+  got_inside Gone x e = absurd (cc)
 
   -- a seat that got a value is inside
   pub inside_of : (st : Stage T) → got_in st ≢ None → (x : T) × (st ≡ Inside x)

@@ -5,7 +5,8 @@
 //! it made, each once and in order. The crate knows nothing of the value but this, and stands on `atomic_table` alone.
 //!
 //! A visit that waits for nobody costs two atomic changes, and a third where it added an entry, and the value is moved out and home. A value of more than
-//! a few words should therefore keep its bulk in a `Box`. A caller that waits tries for a short while, sleeps, and is woken when a visit ends.
+//! a few words should therefore keep its bulk in a `Box`. A caller that waits tries for a short while, sleeps, and is woken when a visit ends. One that rests
+//! for others' visits then sleeps again, without a visit of its own, where each that has ended since its last one left the value as it was got.
 #![tactic(auto)]
 
 mod laws;
@@ -26,5 +27,5 @@ pub use lock::{NoMemory, SeatLock};
 pub use pass::Pass;
 pub use rule::Seats;
 pub use shared::Shared;
-pub use uses::{Journal, Line, note, write_all};
+pub use uses::{Journal, Line, count_lines, note, write_all};
 pub use view::{Joined, Stage, View};

@@ -37,7 +37,7 @@ impl<T: Shared> Play<Option<T>, View<T, T::Entry, T::Part>> for Take<T> {
     ghost then = { took T.trail T.part T.owner };
 }
 
-/// A visitor puts the value back.
+/// A visitor puts the value back, changed or not.
 pub struct Leave<T> {
     of: PhantomData<T>,
 }

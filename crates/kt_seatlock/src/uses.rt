@@ -1,5 +1,5 @@
 //! A journal in a lock, as an example of a shared value and of a visit.
-ghost use Rattle.std.specs.Prelude.{◌≡◌, ◌∷◌, ◌++◌, [], MatchResult, OnOk};
+ghost use Rattle.std.specs.Prelude.{◌≡◌, ◌∷◌, ◌++◌, [], length, MatchResult, OnOk};
 ghost use Rattle.kt_seatlock.specs.Trails.{own, Adds, KeepsParts};
 ghost use Rattle.kt_seatlock.specs.Passes.{number, seen, MayEnter, IsBack};
 ghost use Rattle.kt_seatlock.specs.Journal.{line, all_lines, writer, lines_of, count_of};
@@ -76,6 +76,19 @@ pub fn note<R: Wait>(
     let done = journal.write(pass.number(), text);
     lock.leave(pass, journal);
     done
+}
+
+/// A visit that counts the lines, and leaves the journal as it was.
+pub fn count_lines<R: Wait>(rt: &R, lock: &SeatLock<Journal>, pass: &mut Pass<Journal>) -> usize
+    requires { MayEnter lock.now pass.old }
+    ensures pass { IsBack pass.old pass.new }
+    ensures lines { own writer (number pass.old) (seen pass.new) ≡ own writer (number pass.old) (seen pass.old) }
+    ensures count { result ≡ length (seen pass.new) }
+{
+    let journal = lock.enter(rt, pass);
+    let count = journal.lines.len();
+    lock.leave_same(pass, journal);
+    count
 }
 
 /// A visit for each text, in order, as far as there is memory.

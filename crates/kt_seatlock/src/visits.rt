@@ -1,5 +1,5 @@
 //! Visits, and waiting for those of others.
-ghost use Rattle.std.specs.Prelude.{◌≡◌, ◌+◌, ◌≤◌, ◌≢◌, ℕ, Some, None, IfSome, length};
+ghost use Rattle.std.specs.Prelude.{◌≡◌, ◌+◌, ◌≤◌, ◌≢◌, ℕ, Some, None, IfSome, false, length};
 ghost use Rattle.kt_seatlock.specs.Trails.{own, Follows, Adds, KeepsParts};
 ghost use Rattle.kt_seatlock.specs.Views.{got_in, ahead_view};
 ghost use Rattle.kt_seatlock.specs.Passes.{number, seen, part, got, IsOutside, IsInside, IsPassOf, IsSame, IsSamePass, IsAsFull};
@@ -77,6 +77,42 @@ impl<T: Shared> SeatLock<T> {
         self.wake();
     }
 
+    /// Puts the value back as it was got, and takes the turn back: who rests finds nothing new, and goes on resting.
+    pub fn leave_same(&self, pass: &mut Pass<T>, value: T)
+        requires own { IsPassOf self.now pass.old }
+        requires same { got pass.old ≡ Some value }
+        ensures pass { IsSamePass pass.old pass.new × IsAsFull pass.old pass.new × IsOutside pass.new }
+        ensures told { (seen pass.new ≡ T.trail value) × (part pass.new ≡ Some (T.part value (number pass.new))) }
+    {
+        let shared = &self.table.shared;
+        let entries = value.entries();
+        match shared.exchange(&mut pass.seat, 0, Some(value)) {
+            None => {}
+            Some(_) => unreachable!(),
+        }
+        let turn = shared.fetch_sub::<Leave<T>>(&mut pass.seat, TURN, 1);
+        pass.entries = entries;
+        pass.last = turn.wrapping_sub(1);
+        self.wake();
+    }
+
+    /// Puts the value back by `leave` where the visit says that it may have changed it, and else by `leave_same`.
+    pub fn leave_as(&self, pass: &mut Pass<T>, value: T, changed: bool)
+        requires own { IsPassOf self.now pass.old }
+        requires inside { IsInside pass.old }
+        requires trail { Adds T.owner (number pass.old) (seen pass.old) (T.trail value) }
+        requires parts { IfSome (got pass.old) (λ x. KeepsParts T.part (number pass.old) x value) }
+        requires same { changed ≡ false → got pass.old ≡ Some value }
+        ensures pass { IsSamePass pass.old pass.new × IsAsFull pass.old pass.new × IsOutside pass.new }
+        ensures told { (seen pass.new ≡ T.trail value) × (part pass.new ≡ Some (T.part value (number pass.new))) }
+    {
+        if changed {
+            self.leave(pass, value);
+        } else {
+            self.leave_same(pass, value);
+        }
+    }
+
     // Counts the entry that a visit added, where it added one.
     fn count(&self, seat: &mut Seat<Option<T>, View<T, T::Entry, T::Part>>, before: u64, after: u64)
         requires own { seat.old.table_id ≡ self.now.table.shared.table_id }
@@ -91,7 +127,8 @@ impl<T: Shared> SeatLock<T> {
         }
     }
 
-    // Sleeps while the turn is this one. Who ends a visit then finds that someone sleeps.
+    // Sleeps while the turn is this one. A sleeper counts itself before it compares the turn, and who ends a visit changes the turn before it looks at the
+    // count: so it is seen and woken, or does not sleep. Where a turn that was taken back has come again, another visitor has it, and wakes at its own end.
     fn sleep<R: Wait>(&self, rt: &R, pass: &mut Pass<T>, turn: u64)
         requires { IsPassOf self.now pass.old }
         ensures { IsSame pass.old pass.new }
@@ -102,6 +139,7 @@ impl<T: Shared> SeatLock<T> {
         shared.fetch_sub::<Stay>(&mut pass.seat, SLEEPERS, 1);
     }
 
+    // Wakes who sleeps. Who rests looks at the turn alone, and sleeps again unless a visit has raised it.
     fn wake(&self) {
         let shared = &self.table.shared;
         if shared.peek(SLEEPERS) > 0 {
@@ -109,7 +147,7 @@ impl<T: Shared> SeatLock<T> {
         }
     }
 
-    /// Waits until another visit has ended since this pass's last one.
+    /// Waits until a visit has ended by `leave` since this pass's last one: one that changed nothing is not waited for.
     pub fn rest<R: Wait>(&self, rt: &R, pass: &mut Pass<T>)
         requires own { IsPassOf self.now pass.old }
         requires outside { IsOutside pass.old }
