@@ -28,6 +28,7 @@ use Rattle.kt_content.proofs.Recovering.{runs_up, take_all, each_front, all_hold
 use Rattle.kt_engine.specs.Logged.{PlanPasses, KeepsRun, AcknowledgedIn, AcknowledgedBy, NamesOnly, HoldsRecords, HoldsFront, HoldsRun}
 use Rattle.kt_engine.specs.Near.{NamesEach, AreNear, IsBelow}
 use Rattle.kt_engine.specs.Engines.{EngineView, HasNoJobs, IsContent, IsLogged, IsEngine, LeavesRecords, Recovers, RecoversEach, RecoversAll, core_from}
+use Rattle.kt_engine.specs.Moments.{HasSome}
 use Rattle.kt_engine.proofs.Devices.{acknowledged_longer, goes_whole}
 use Rattle.kt_engine.proofs.Near.{near_below}
 use Rattle.kt_engine.proofs.Lists.{all_front}
@@ -139,11 +140,7 @@ recovers_each {L} {D} {C} tells seen now leaves faults view is rules first conte
     engine_front tells seen now leaves faults view rules first at.durable at.rest image content plan none is at.run_is
     (subst (λ (l : List Entry). AcknowledgedIn l view.tablet.core.trail) at.records (acknowledged_longer (records_of (seen view.log.known.disk)) (take n (view.log.out ++ view.log.queued)) view.tablet.core.trail (is.logged.acknowledged t))) (reads ∙ ap Ok at.records)
 
--- an image has what is durable, and some records more
-abbrev pub HasSome : {L D C : Type 0} → (L → Files) → EngineView L D C → Files → Type 0
-HasSome seen view image = (n : ℕ) × (log_of image ≡ Ok (records_of (seen view.log.known.disk) ++ take n (view.log.out ++ view.log.queued)))
-
--- so has each that a crash may leave now
+-- each image that a crash may leave now has what is durable, and some records more
 pub leaves_some : {L D C : Type 0} (tells : Bool) (seen : L → Files) (now : L → ℕ) (leaves : L → ℕ → Files → Type 0) (faults : L → ℕ) (view : EngineView L D C)
     → IsEngine tells seen now leaves faults view → (IsTrue tells → Holds now leaves view.log.known.disk (records_of (seen view.log.known.disk)))
     → IsTrue tells → (journal : JournalView L) → view.log.home ≡ Some journal → (image : Files) → leaves journal.disk (now journal.disk) image → HasSome seen view image

@@ -76,14 +76,15 @@ module _ {L D C : Type 0} (log_tells : Bool) (log_seen : L → Files) (log_now :
       )
 
   pub begun_so : (n k : ℕ) (w : Want) (job : JobView) → job.want ≡ w → job.stage ≡ stage.Begun → k ≡ job.number → job.number ≡ view.upkeep.begun + 1 → (upkeep.begun ≡ job.number) × (upkeep.publishing ≡ None) → IsOn job.rowset w → (dms : ℕ) × (dms_in job.rowset view.tablet.names ≡ Some dms)
-      → HasUpkeep n (asked w job (upkeep_at n view.upkeep.passes)) view.upkeep upkeep → HasBegunDeltas view (record view { upkeep = upkeep }) n w k
-  begun_so n k w job want_is stage_is same next counted on there has = record {
+      → (job.output ≡ None) × (job.held ≡ []) → HasUpkeep n (asked w job (upkeep_at n view.upkeep.passes)) view.upkeep upkeep → HasBegunDeltas view (record view { upkeep = upkeep }) n w k
+  begun_so n k w job want_is stage_is same next counted on there none has = record {
     job = job;
     number = (sym same, same ∙ next ∙ (let e : view.upkeep.begun + 1 ≡ suc view.upkeep.begun = omega arith in e), counted.0 ∙ sym same, counted.1);
     want_is = want_is;
     stage_is = stage_is;
     on = on;
     there = there;
+    none = none;
     upkeep = has;
     beside = refl;
   }

@@ -2,6 +2,7 @@
 use Rattle.std.proofs.Common.{◌≡◌, ◌≤◌, ℕ, Bool, true, false, List, [], ◌∷◌, map, length, Option, Some, Result, Ok, Err, refl, sym, ap, ◌∙◌, subst, cond, arith}
 use Rattle.std.specs.Prelude.{IfOk, ◌==◌}
 use Rattle.std.proofs.lemmas.List.{length-map}
+use Rattle.kt_bytes.specs.declared.memory.NoMemory.{NoMemory}
 use Rattle.kt_history.specs.declared.changes.Delta.{Delta}
 use Rattle.kt_diskrowset.specs.declared.data.RowSetData.{RowSetData}
 use Rattle.kt_diskrowset.specs.declared.files.FileHeld.{FileHeld}
@@ -12,7 +13,6 @@ use Rattle.kt_pick.specs.declared.rules.Want.TheVariants as want
 use Rattle.kt_storeside.specs.declared.side.Lent.{Lent}
 use Rattle.kt_super.specs.declared.meta.Meta.{Meta}
 use Rattle.kt_super.specs.declared.meta.MetaRowset.{MetaRowset}
-use Rattle.kt_engine.specs.declared.store.StoreNo.{StoreNo}
 use Rattle.kt_engine.specs.Engines.{EngineView}
 use Rattle.kt_engine.specs.Jobs.{JobView, job_of}
 use Rattle.kt_engine.specs.Stored.{next_super}
@@ -40,7 +40,7 @@ few_named (want.Major r) dms d rowsets shape = few_in_place r (meta_in dms d) ro
 few_named (want.Compact rs) dms d rowsets shape = tt
 
 -- what goes out names at most one
-pub names_of : {L D C : Type 0} (view : EngineView L D C) (n : ℕ) (job : JobView) (d : RowSetData) (meta : Meta) → job_of n view.upkeep ≡ Some job → HasShape job.want d → meta ≡ delta_meta view job.dms d → (r : Result (Lent D) StoreNo) → IfOk r (λ lent. lent.meta ≡ Some meta)
+pub names_of : {L D C : Type 0} (view : EngineView L D C) (n : ℕ) (job : JobView) (d : RowSetData) (meta : Meta) → job_of n view.upkeep ≡ Some job → HasShape job.want d → meta ≡ delta_meta view job.dms d → (r : Result (Lent D) NoMemory) → IfOk r (λ lent. lent.meta ≡ Some meta)
     → IfOk r (λ lent. (j : JobView) (m : Meta) → job_of n view.upkeep ≡ Some j → lent.meta ≡ Some m → NamesAtMostOneRedo j.want m.rowsets)
 names_of view n job d meta has shape is (Ok lent) told = λ j m h e.
     let same : job ≡ j = cc in

@@ -3,6 +3,7 @@ use Rattle.std.proofs.Common.{◌≡◌, ◌≤◌, ◌⊎◌, ℕ, Bool, true, 
 use Rattle.std.specs.Prelude.{IfOk, OnOk}
 use Rattle.std.proofs.lemmas.List.{length-map, map-append}
 use Rattle.kt_deltafile.specs.File.{FileView}
+use Rattle.kt_bytes.specs.declared.memory.NoMemory.{NoMemory}
 use Rattle.kt_disk.specs.Disk.{Files}
 use Rattle.kt_rowfiles.specs.Fitting.{undos_fit}
 use Rattle.kt_super.specs.declared.meta.FileRef.{FileRef}
@@ -17,7 +18,6 @@ use Rattle.kt_outputs.specs.Outputs.{base_ref, delta_ref, meta_in}
 use Rattle.kt_pick.specs.declared.rules.Want.{Want}
 use Rattle.kt_pick.specs.declared.rules.Want.TheVariants as want
 use Rattle.kt_storeside.specs.declared.side.Lent.{Lent}
-use Rattle.kt_engine.specs.declared.store.StoreNo.{StoreNo}
 use Rattle.kt_engine.specs.Engines.{EngineView}
 use Rattle.kt_engine.specs.DeltaJobs.{delta_meta, StayBut, FilesStay, StayIn, EntryStays, StayNamed}
 use Rattle.kt_engine.specs.Files.{AreFiled}
@@ -99,7 +99,7 @@ module _ (entry : MetaRowset) (held was : HeldFiles) (dms : ℕ) (d : RowSetData
 
 -- so it is of what goes out
 pub stays_of : {L D C : Type 0} (tells : Bool) (seen : Files) (view : EngineView L D C) (n : ℕ) (job : JobView) (d : RowSetData) (meta : Meta) → job_of n view.upkeep ≡ Some job → job.output ≡ Some d → StayIn job.want view.tablet.files d
-    → AreFiled tells seen view.store.meta.rowsets view.tablet.files → meta ≡ delta_meta view job.dms d → (r : Result (Lent D) StoreNo) → IfOk r (λ lent. lent.meta ≡ Some meta)
+    → AreFiled tells seen view.store.meta.rowsets view.tablet.files → meta ≡ delta_meta view job.dms d → (r : Result (Lent D) NoMemory) → IfOk r (λ lent. lent.meta ≡ Some meta)
     → IfOk r (λ lent. (j : JobView) (x : RowSetData) (m : Meta) → job_of n view.upkeep ≡ Some j → j.output ≡ Some x → lent.meta ≡ Some m → StayNamed j.want x.number view.store.meta.rowsets m.rowsets)
 stays_of tells seen view n job d meta has gave stay filed is (Ok lent) told = λ j x m h g e.
     let same : job ≡ j = cc in
@@ -119,7 +119,7 @@ stays_of tells seen view n job d meta has gave stay filed is (Ok lent) told = λ
 stays_of tells seen view n job d meta has gave stay filed is (Err e) told = tt
 
 -- and the job publishes under its number
-pub lent_of : {D : Type 0} (old new : UpkeepsView) (n : ℕ) (meta : Meta) (r : Result (Lent D) StoreNo) → IfOk r (λ lent. lent.meta ≡ Some meta) → OnOk r ((job : JobView) → job_of n old ≡ Some job → IsLent n job meta.number old new)
+pub lent_of : {D : Type 0} (old new : UpkeepsView) (n : ℕ) (meta : Meta) (r : Result (Lent D) NoMemory) → IfOk r (λ lent. lent.meta ≡ Some meta) → OnOk r ((job : JobView) → job_of n old ≡ Some job → IsLent n job meta.number old new)
     → IfOk r (λ lent. (job : JobView) (m : Meta) → lent.meta ≡ Some m → job_of n old ≡ Some job → IsLent n job m.number old new)
 lent_of old new n meta (Ok lent) told goes = λ job m e had. let one : meta ≡ m = cc in subst (λ (x : Meta). IsLent n job x.number old new) one (goes job had)
 lent_of old new n meta (Err e) told goes = tt

@@ -25,6 +25,7 @@ pub mod Crashes
 pub mod Empty
 pub mod Others
 pub mod Steps
+pub mod JobCalls
 pub mod Rising
 pub mod Frozen
 pub mod Shelved
@@ -55,6 +56,7 @@ pub mod Filed
 pub mod Stored
 pub mod StoreEvents
 pub mod Pairs
+pub mod Moments
 pub mod Whole
 pub mod StoreOpened
 pub mod Both

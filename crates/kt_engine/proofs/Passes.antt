@@ -156,6 +156,15 @@ placed_has us vs n u was first is more =
 pub then_has : (f : UpkeepView → UpkeepView) (n : ℕ) (old mid new : UpkeepsView) → HasUpkeep n (upkeep_at n old.passes) old mid → HasUpkeep n (f (upkeep_at n mid.passes)) mid new → HasUpkeep n (f (upkeep_at n old.passes)) old new
 then_has f n old mid new first second = record { own = second.own ∙ ap f first.own; others = λ k ne. second.others k ne ∙ first.others k ne }
 
+-- its job comes further twice
+pub then_job : (n : ℕ) (a b : JobView) (old mid new : UpkeepsView) → HasUpkeep n (record (upkeep_at n old.passes) { job = Some a }) old mid → HasUpkeep n (record (upkeep_at n mid.passes) { job = Some b }) mid new → HasUpkeep n (record (upkeep_at n old.passes) { job = Some b }) old new
+then_job n a b old mid new first second = record { own = second.own ∙ ap (λ (u : UpkeepView). record u { job = Some b }) first.own; others = λ k ne. second.others k ne ∙ first.others k ne }
+
+-- the want of a pass is that of its job
+pub want_read : (w : Want) (o : Option Job) (job : JobView) → option_map (job_in w) o ≡ Some job → w ≡ job.want
+want_read w None job is = absurd (let no : None ≡ Some job = is in cc)
+want_read w (Some found) job is = (let same : job_in w found ≡ job = cc in ap (λ (j : JobView). j.want) same)
+
 -- the job that leaves
 pub left_of : (w : Want) (o : Option Job) (job : JobView) → option_map (job_in w) o ≡ Some job → (left : Job) × (o ≡ Some left) × (job_in job.want left ≡ job)
 left_of w None job e = absurd (let f : None ≡ Some job = e in cc)

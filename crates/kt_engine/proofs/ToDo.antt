@@ -28,9 +28,6 @@ IsFull v = (2 ^ 24 ≤ v.upkeep.begun) ⊎ ((512 ≤ running v.upkeep) ⊎ ((v.f
 abbrev pub HasNoFlush : {C : Type 0} → View C → Type 0
 HasNoFlush t = NoRows t ⊎ (2 ^ 31 ≤ sum_by (λ (list : List KeyChange). length list) (changes_in_memory t.core.c t))
 
-pub full_nothing : {L D C : Type 0} (v : EngineView L D C) (w : Want) → IsFull v → IsNothing v w
-full_nothing v w full = elim full [ inl begun ↦ too_many_jobs begun | inr rest ↦ elim rest [ inl run ↦ too_many_running run | inr numbers ↦ elim numbers [ inl file ↦ no_numbers file | inr rowset ↦ last_number rowset ] ] ]
-
 -- a compaction has nothing to take, lacks some of it, or has too much to read
 abbrev pub HasNoCompaction : {C : Type 0} → List ℕ → View C → Type 0
 HasNoCompaction taken t = (taken ≡ []) ⊎ (LacksOne taken t.names ⊎ (2 ^ 31 ≤ entries_in (taken_stores (rowsets taken) t)))
@@ -86,10 +83,6 @@ begins_one v w some = (by (nat_le (2 ^ 24) v.upkeep.begun) refl, λ last. some (
 
 compacts_some : {L D C : Type 0} (v : EngineView L D C) (taken : List ℕ) → ¬ IsNothing v (want.Compact taken) → (taken ≢ []) × ¬ LacksOne taken v.tablet.names
 compacts_some v taken some = ((λ none. some (no_rowsets (ap want.Compact none))), (λ one. some (lacks_one taken refl one)))
-
--- what a test says
-pub none_is_told : {L D C : Type 0} (v : EngineView L D C) (w : Want) (nothing : Bool) → (IsTrue nothing ↔ IsNothing v w) → nothing ≡ false → ¬ IsNothing v w
-none_is_told v w nothing told is = λ none. let both : true ≡ false = sym (told.1 none) ∙ is in cc
 
 -- where nothing has changed a job may begin then
 pub begins_few : {L D C : Type 0} (old new : EngineView L D C) (w : Want) → IsUntouched old new → ¬ IsNothing old w → new.upkeep.begun < 2 ^ 24

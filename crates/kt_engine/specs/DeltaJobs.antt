@@ -53,7 +53,7 @@ pub data HasNoWork {L D C : Type 0} (v : EngineView L D C) (w : Want) : Type 0 w
 
 -- ---- it begins
 
--- A job has begun, and nothing else has changed. Its rowset is there
+-- A job has begun, and nothing else has changed. Its rowset is there, and it has no output
 pub record HasBegunDeltas {L D C : Type 0} (old new : EngineView L D C) (n : ℕ) (w : Want) (k : ℕ) : Type 0 where
   pub job : JobView
   pub number : (job.number ≡ k) × (k ≡ suc old.upkeep.begun) × (new.upkeep.begun ≡ k) × (new.upkeep.publishing ≡ None)
@@ -61,6 +61,7 @@ pub record HasBegunDeltas {L D C : Type 0} (old new : EngineView L D C) (n : ℕ
   pub stage_is : job.stage ≡ stage.Begun
   pub on : IsOn job.rowset w
   pub there : (dms : ℕ) × (dms_in job.rowset old.tablet.names ≡ Some dms)
+  pub none : (job.output ≡ None) × (job.held ≡ [])
   pub upkeep : HasUpkeep n (asked w job (upkeep_at n old.upkeep.passes)) old.upkeep new.upkeep
   pub beside : new ≡ record old { upkeep = new.upkeep }
 

@@ -126,6 +126,11 @@ asked w job u = record u { asks = more (2 ^ 64 - 1) u.asks; last = begun w; job 
 abbrev pub asked_for_nothing : Want → UpkeepView → UpkeepView
 asked_for_nothing w u = record u { asks = more (2 ^ 64 - 1) u.asks; last = nothing w; todo = without_want w u.todo }
 
+-- the disk rowset that a job has written again, if it has
+abbrev pub rewritten : Option JobView → Option RowSetData
+rewritten None = None
+rewritten (Some job) = job.output
+
 -- the job has ended, and what it was is kept
 abbrev pub job_finished : Want → UpkeepView → UpkeepView
 job_finished w u = record u { last = finished w; todo = without_want w u.todo; job = None; done = u.job }

@@ -12,9 +12,11 @@ pub mod Visits
 pub mod Files
 pub mod JobMeta
 pub mod Stored
+pub mod Moments
 pub mod Pairs
 pub mod Columns
 pub mod JobSteps
 pub mod DeltaJobs
+pub mod JobCalls
 pub mod Rounds
 pub mod Calls

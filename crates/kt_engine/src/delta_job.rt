@@ -1,40 +1,38 @@
-//! The life of a job on the files of one disk rowset, in one visit: it begins, the rowset is read, it comes written, its superblock goes out, and it is finished.
-//! Given up it is as any job.
-ghost use Rattle.std.specs.Prelude.{◌≡◌, ◌≢◌, ◌<◌, ◌^◌, ◌+◌, ◌-◌, ◌↔◌, ℕ, [], ◌==◌, if◌then◌else◌, IsTrue, IfOk, IfErr, OnOk, OnErr, Ok, Err, Some, None, true, false, MatchOption};
+//! What the calls of a job do for one on the files of one disk rowset: it begins, the rowset is read, it comes written, its superblock goes out, and it is finished.
+ghost use Rattle.std.specs.Prelude.{◌≡◌, ◌≢◌, ◌<◌, ◌^◌, ◌+◌, ◌-◌, ℕ, [], ◌∷◌, ◌==◌, if◌then◌else◌, map, IsTrue, IfOk, OnOk, OnErr, Some, None, false, MatchOption};
 ghost use Rattle.kt_super.specs.declared.meta.Meta.{Meta as MetaSpec};
 ghost use Rattle.kt_history.specs.Views.{AreRising};
 ghost use Rattle.kt_baseset.specs.Rows.{keys_in};
-ghost use Rattle.kt_rowfiles.specs.Fitting.{undos_fit};
 ghost use Rattle.kt_diskrowset.specs.declared.data.RowSetData.{RowSetData as DataSpec};
-ghost use Rattle.kt_diskrowset.specs.Data.{held_in, files_in};
-ghost use Rattle.kt_diskrowset.specs.Rows.{UndosLeadBack};
+ghost use Rattle.kt_diskrowset.specs.Data.{held_in};
 ghost use Rattle.kt_outputs.specs.InPlace.{in_place};
 ghost use Rattle.kt_storeside.specs.Sides.{MayBeLent};
 ghost use Rattle.kt_tablet.specs.Jobs.{dms_in, files_of};
-ghost use Rattle.kt_engine.specs.Jobs.{JobView, IsAtStage, HasUpkeep, upkeep_at, job_of, asked_for_nothing, first_flying};
-ghost use Rattle.kt_engine.specs.JobSteps.{first_holder, IsUntouched, AtNewStage, IsLent};
-ghost use Rattle.kt_engine.specs.DeltaJobs.{IsOn, redo_files, HasNoWork, HasBegunDeltas, IsRead, HasShape, StayIn, StayNamed, NamesAtMostOneRedo, delta_meta, MayPublishDeltas, lent_deltas, MayFinishDeltas, HasFinishedDeltas};
-ghost use Rattle.kt_engine.specs.Files.{IsFiled};
+ghost use Rattle.kt_engine.specs.Jobs.{JobView, IsAtStage, job_of};
+ghost use Rattle.kt_engine.specs.JobSteps.{IsLent};
+ghost use Rattle.kt_engine.specs.JobCalls.{HasReadRowset, GivesOne, HasTakenOne};
+ghost use Rattle.kt_engine.specs.Columns.{shape_of};
+ghost use Rattle.kt_schema.specs.Columns.{other_columns};
+ghost use Rattle.kt_engine.specs.DeltaJobs.{IsOn, redo_files, HasNoWork, HasBegunDeltas, IsRead, StayNamed, NamesAtMostOneRedo, delta_meta, MayPublishDeltas, lent_deltas, MayFinishDeltas, HasFinishedDeltas};
 ghost use Rattle.kt_engine.specs.Stored.{MayPublish};
 ghost use Rattle.kt_engine.specs.Near.{most_deltas};
 ghost use Rattle.kt_engine.specs.Upkeeps.{IsThere};
 ghost use Rattle.kt_engine.specs.Visits.{IsVisit};
 
 use crate::engine::Engine;
-use crate::job::{JobNo, JobWait};
+use crate::job::{JobInput, columns_of};
 use crate::job_meta::copy_rowset;
 use crate::outputs::JobOutputs;
-use crate::store::StoreNo;
-use crate::upkeep::{Job, Stage, copy_want};
+use crate::upkeep::{Job, Stage};
 use kt_base::{Clock, NoMemory};
+use kt_baseset::Schema1;
 use kt_disk::Disk;
-use kt_diskrowset::RowSetData;
+use kt_diskrowset::{ChangeLists, Inputs, Outputs, RowSetData, RowSetList};
 use kt_outputs::named_rowset;
 use kt_pick::Want;
 use kt_policy::IdList;
 use kt_storeside::Lent;
 use kt_super::{Meta, MetaRowset, MetaRowsets};
-use kt_tablet::LookNo;
 use std::alloc::Global;
 use std::snapshot::Snapshot;
 
@@ -43,16 +41,6 @@ const SMALL: u64 = 1 << 62;
 
 /// So many DeltaMemStores of a rowset an opening freezes at most, above its first rowset number.
 const MANY_DELTAS: u64 = 1 << 44;
-
-// The disk rowset that a want is on, if it is on the files of one.
-fn rowset_of(want: &Want) -> Option<u64>
-    ensures { MatchOption result ((r : ℕ) → ¬ IsOn r want.now) (λ r. IsOn r want.now) }
-{
-    match want {
-        Want::FlushDeltas(rowset) | Want::Minor(rowset) | Want::Major(rowset) => Some(*rowset),
-        Want::Flush | Want::Compact(_) => None,
-    }
-}
 
 // How many REDO files these name of a disk rowset.
 fn redo_files(rowsets: &[MetaRowset], rowset: u64) -> usize
@@ -100,17 +88,40 @@ fn in_place(
     Ok(list)
 }
 
+// What is read of a disk rowset alone.
+fn alone(alloc: Global, columns: Schema1, rowset: RowSetData) -> Result<Inputs, NoMemory>
+    ensures columns { IfOk result (λ inputs. inputs.columns ≡ columns) }
+    ensures mems { IfOk result (λ inputs. inputs.mems ≡ []) }
+    ensures rowsets { IfOk result (λ inputs. inputs.rowsets ≡ rowset ∷ []) }
+{
+    let mut rowsets = Vec::with_capacity(alloc, 1)?;
+    rowsets.push_reserved(rowset);
+    Ok(Inputs {
+        columns,
+        mems: ChangeLists::of(Vec::new(alloc)),
+        rowsets: RowSetList::of(rowsets),
+    })
+}
+
+// The disk rowset that is alone in a list.
+fn only(outputs: Outputs) -> RowSetData
+    requires one { (d : DataSpec) × (outputs.rowsets ≡ d ∷ []) }
+    ensures { outputs.rowsets ≡ result ∷ [] }
+{
+    let mut rowsets = outputs.rowsets.into_vec();
+    let Some(rowset) = rowsets.pop() else {
+        unreachable!();
+    };
+    rowset
+}
+
 impl<L: Disk, D: Disk + Drop, C: Clock> Engine<L, D, C> {
     // Whether there is nothing to do for a want on the files of a disk rowset.
-    fn has_no_work(&self, want: &Want, rowset: u64) -> bool
+    pub(crate) fn has_no_work(&self, want: &Want, rowset: u64) -> bool
         requires on { IsOn rowset want.now }
         ensures nothing { IsTrue result → HasNoWork self.now want.now }
         ensures there { result ≡ false → (dms : ℕ) × (dms_in rowset self.now.tablet.names ≡ Some dms) }
-        ensures few { result ≡ false → (self.now.upkeep.begun < 2 ^ 24) × (self.now.store.next_rowset ≢ 2 ^ 64 - 1) }
     {
-        if self.is_full() {
-            return true;
-        }
         let Some(_dms) = self.tablet.dms_of(rowset) else {
             return true;
         };
@@ -124,7 +135,13 @@ impl<L: Disk, D: Disk + Drop, C: Clock> Engine<L, D, C> {
     }
 
     // Begins the job that a pass asked for. It has a place.
-    fn begin_deltas(&mut self, alloc: Global, number: u32, asked: Want, rowset: u64) -> u32
+    pub(crate) fn begin_deltas(
+        &mut self,
+        alloc: Global,
+        number: u32,
+        asked: Want,
+        rowset: u64,
+    ) -> u32
         requires on { IsOn rowset asked }
         requires few { self.old.upkeep.begun < 2 ^ 24 }
         requires place { IsThere number self.old.upkeep.passes }
@@ -154,46 +171,6 @@ impl<L: Disk, D: Disk + Drop, C: Clock> Engine<L, D, C> {
         self.upkeep.begin(number, asked, job)
     }
 
-    /// Begins a job on the files of one disk rowset, which it holds from now on. Where there is nothing to do that is told, and counts as an ask: there is none
-    /// for a minor compaction of fewer than two REDO files, for a major one of none, and for a flush of changes where none is in memory. None begins while a
-    /// job publishes.
-    pub fn delta_begin(&mut self, alloc: Global, number: u32, want: &Want) -> Result<u32, JobNo>
-        requires none { job_of number self.old.upkeep ≡ None }
-        requires on { (rowset : ℕ) × IsOn rowset want.now }
-        ensures visit { IsVisit number self.old self.new }
-        ensures line { self.new.tablet.core.trail ≡ self.old.tablet.core.trail }
-        ensures begun { IfOk result (λ k. HasBegunDeltas self.old self.new number want.now k) }
-        ensures nothing { result ≡ Err JobNo.Nothing → (self.old.tablet.core.stopped ≡ false) × HasNoWork self.old want.now }
-        ensures asked { result ≡ Err JobNo.Nothing → (self.new ≡ record self.old { upkeep = self.new.upkeep }) × HasUpkeep number (asked_for_nothing want.now (upkeep_at number self.old.upkeep.passes)) self.old.upkeep self.new.upkeep }
-        ensures held { (by : ℕ) → result ≡ Err (JobNo.Held by) → (self.old.tablet.core.stopped ≡ false) × (first_holder want.now self.old.upkeep.passes ≡ Some by) }
-        ensures alone { IfOk result (λ _. first_holder want.now self.old.upkeep.passes ≡ None) }
-        ensures stopped { result ≡ Err JobNo.Stopped ↔ self.old.tablet.core.stopped ≡ true }
-        ensures same { IfErr result (λ e. e ≢ JobNo.Nothing → IsUntouched self.old self.new) }
-    {
-        if self.is_stopped() {
-            return Err(JobNo::Stopped);
-        }
-        let Some(rowset) = rowset_of(want) else {
-            unreachable!();
-        };
-        let asked = copy_want(alloc, want)?;
-        let nothing = self.has_no_work(want, rowset);
-        let holder = self.upkeep.holder_of(want);
-        let publishing = self.upkeep.is_publishing();
-        self.make_place(alloc, number)?;
-        if nothing {
-            self.say_nothing(number, asked);
-            return Err(JobNo::Nothing);
-        }
-        if let Some(by) = holder {
-            return Err(JobNo::Held { by });
-        }
-        if publishing {
-            return Err(JobNo::Memory);
-        }
-        Ok(self.begin_deltas(alloc, number, asked, rowset))
-    }
-
     // What a job reads, and the number of the DeltaMemStore that takes changes.
     fn read_deltas(&self, alloc: Global, number: u32) -> Result<(RowSetData, u64), NoMemory>
         ensures read { IfOk result (λ read. (job : JobView) → job_of number self.now.upkeep ≡ Some job → IsRead self.now.tablet job.rowset read.1 read.0) }
@@ -210,56 +187,57 @@ impl<L: Disk, D: Disk + Drop, C: Clock> Engine<L, D, C> {
         Ok((data, dms))
     }
 
-    /// Hands out all that the tablet has of the job's disk rowset, once nothing flies. Its files are those that the published superblock names, or what can be
-    /// read of them.
-    pub fn delta_snapshot(&mut self, alloc: Global, number: u32) -> Result<RowSetData, JobWait>
-        requires free { self.old.upkeep.publishing ≡ None }
-        requires stage { (job : JobView) × IsAtStage self.old.upkeep number Stage.Begun job }
-        ensures visit { IsVisit number self.old self.new }
-        ensures read { IfOk result (λ d. (job : JobView) → job_of number self.old.upkeep ≡ Some job → (dms : ℕ) × IsRead self.old.tablet job.rowset dms d × AtNewStage number (record job { stage = Stage.Read; dms = dms; read = Some d }) self.old self.new) }
-        ensures held { IfOk result (λ d. files_of d.number self.old.tablet.files ≡ Some (held_in d)) }
-        ensures filed { IfOk result (λ d. IsFiled D.tells (D.seen self.old.store.known) self.old.store.meta.rowsets d.number (held_in d)) }
-        ensures waits { (ts : ℕ) → result ≡ Err (JobWait.NotYet ts) ↔ (self.old.tablet.core.stopped ≡ false) × (first_flying self.old.tablet ≡ Some ts) }
-        ensures stopped { result ≡ Err JobWait.Stopped ↔ self.old.tablet.core.stopped ≡ true }
-        ensures same { OnErr result (self.new ≡ self.old) }
-    {
-        if self.tablet.is_stopped() {
-            return Err(JobWait::Stopped);
-        }
-        if let Some(ts) = self.tablet.least_flying() {
-            return Err(JobWait::NotYet { ts });
-        }
-        let (rowset, dms) = self.read_deltas(alloc, number)?;
-        self.upkeep.read_deltas(number, dms, Snapshot::of(&rowset));
-        Ok(rowset)
-    }
-
-    /// Takes the disk rowset as it was written, without a change in memory. A flush of changes adds one REDO file at most to the files that memory has. After a
-    /// minor compaction the base and UNDO files are those, and there is at most one REDO file; after a major one the UNDO files are, with one more at most, and
-    /// the REDO file has deletes only. Where its UNDO records do not fit it is as for want of memory.
-    pub fn delta_swap(
+    // What the job reads is handed out, while nothing flies: all that the tablet has of its disk rowset. Its files are those that the published superblock names, or
+    // what can be read of them.
+    pub(crate) fn delta_snapshot(
         &mut self,
         alloc: Global,
         number: u32,
-        rowset: RowSetData,
-    ) -> Result<(), LookNo>
+    ) -> Result<JobInput, NoMemory>
         requires free { self.old.upkeep.publishing ≡ None }
-        requires stage { (job : JobView) × IsAtStage self.old.upkeep number Stage.Read job }
-        requires shape { (job : JobView) → job_of number self.old.upkeep ≡ Some job → HasShape job.want rowset }
-        requires stay { (job : JobView) → job_of number self.old.upkeep ≡ Some job → StayIn job.want self.old.tablet.files rowset }
+        requires stage { (job : JobView) × IsAtStage self.old.upkeep number Stage.Begun job }
+        requires calm { self.old.tablet.core.aloft ≡ [] }
         ensures visit { IsVisit number self.old self.new }
-        ensures written { OnOk result ((job : JobView) → job_of number self.old.upkeep ≡ Some job → AtNewStage number (record job { stage = Stage.Written; output = Some rowset }) self.old self.new) }
-        ensures fits { OnOk result ((undos_fit (files_in rowset) ≡ true) × UndosLeadBack (files_in rowset)) }
-        ensures stopped { self.old.tablet.core.stopped ≡ true → result ≡ Err LookNo.Stopped }
-        ensures goes { result ≡ Err LookNo.Stopped → self.old.tablet.core.stopped ≡ true }
+        ensures read { IfOk result (λ input. (job : JobView) → job_of number self.old.upkeep ≡ Some job → HasReadRowset D.tells D.seen number job input.inputs input.bound input.mark self.old self.new) }
+        ensures columns { IfOk result (λ input. input.inputs.columns ≡ map shape_of (other_columns self.old.store.meta.schema)) }
         ensures same { OnErr result (self.new ≡ self.old) }
     {
-        if self.tablet.is_stopped() {
-            return Err(LookNo::Stopped);
+        let columns = columns_of(alloc, self.store.meta())?;
+        let (rowset, dms) = self.read_deltas(alloc, number)?;
+        let (a, c) = self.times();
+        let mark = c.min(a);
+        let read = Snapshot::of(&rowset);
+        let inputs = alone(alloc, columns, rowset)?;
+        self.upkeep.read(number, c, mark, Snapshot::of(&inputs));
+        self.upkeep.read_deltas(number, dms, read);
+        Ok(JobInput {
+            bound: c,
+            mark,
+            inputs,
+        })
+    }
+
+    // Takes the disk rowset as it was written, without a change in memory. A flush of changes adds one REDO file at most to the files that memory has. After a minor
+    // compaction the base and UNDO files are those, and there is at most one REDO file; after a major one the UNDO files are, with one more at most, and the
+    // REDO file has deletes only. Where its UNDO records do not fit it is as for want of memory.
+    pub(crate) fn delta_swap(
+        &mut self,
+        alloc: Global,
+        number: u32,
+        outputs: Outputs,
+    ) -> Result<(), NoMemory>
+        requires free { self.old.upkeep.publishing ≡ None }
+        requires stage { (job : JobView) × IsAtStage self.old.upkeep number Stage.Read job }
+        requires rewritten { (job : JobView) → job_of number self.old.upkeep ≡ Some job → GivesOne job.want self.old.tablet.files outputs.rowsets }
+        ensures visit { IsVisit number self.old self.new }
+        ensures swapped { OnOk result ((job : JobView) → job_of number self.old.upkeep ≡ Some job → HasTakenOne number job outputs.rowsets self.old self.new) }
+        ensures same { OnErr result (self.new ≡ self.old) }
+    {
+        let rowset = only(outputs);
+        let fit = rowset.undos_fit(alloc)?;
+        if !fit {
+            return Err(NoMemory);
         }
-        let Ok(true) = rowset.undos_fit(alloc) else {
-            return Err(LookNo::Memory);
-        };
         self.upkeep.take_output(number, rowset);
         Ok(())
     }
@@ -299,7 +277,7 @@ impl<L: Disk, D: Disk + Drop, C: Clock> Engine<L, D, C> {
     }
 
     // Freezes the DeltaMemStore of the job's disk rowset, and lends the store to publish its superblock: the job publishes from now on.
-    fn lend_deltas(&mut self, number: u32, rowset: u64, meta: Meta) -> Result<Lent<D>, StoreNo>
+    fn lend_deltas(&mut self, number: u32, rowset: u64, meta: Meta) -> Result<Lent<D>, NoMemory>
         requires home { self.old.store.holder ≡ None }
         requires whole { IsTrue self.old.store.whole }
         requires may { (job : JobView) × ((d : DataSpec) × (job_of number self.old.upkeep ≡ Some job) × MayPublishDeltas D.tells D.seen D.now D.leaves self.old job d × (meta ≡ delta_meta self.old job.dms d) × (rowset ≡ d.number) × (job.dms < most_deltas self.old.first_rowset) × AreRising (keys_in d.base.set.value.rows)) }
@@ -312,27 +290,24 @@ impl<L: Disk, D: Disk + Drop, C: Clock> Engine<L, D, C> {
         ensures numbers { IfOk result (λ lent. (lent.next_rowset ≡ self.old.store.next_rowset) × (lent.next_file ≡ self.old.store.next_file)) }
         ensures side { OnOk result (self.new ≡ lent_deltas self.old number rowset meta self.new.upkeep) }
         ensures lent { OnOk result ((job : JobView) → job_of number self.old.upkeep ≡ Some job → IsLent number job meta.number self.old.upkeep self.new.upkeep) }
-        ensures memory { IfErr result (λ e. e ≡ StoreNo.Memory) }
         ensures same { OnErr result (self.new ≡ self.old) }
     {
         // The stores show the run, and what the published superblock names stands.
         self.tablet.standing();
         self.store.standing();
         let superblock = meta.number;
-        match self.tablet.freeze_deltas(rowset) {
-            Ok(()) => {
-                let lent = self.store.lend(number, Some(meta));
-                self.upkeep.publish(number, superblock);
-                Ok(lent)
-            }
-            Err(NoMemory) => Err(StoreNo::Memory),
-        }
+        self.tablet.freeze_deltas(rowset)?;
+        let lent = self.store.lend(number, Some(meta));
+        self.upkeep.publish(number, superblock);
+        Ok(lent)
     }
 
-    /// Lends the store to publish the superblock of this pass's job on the files of a disk rowset, which is written. The DeltaMemStore that takes changes freezes, and
-    /// the next one takes them: nothing flies. All records are durable, and no other job publishes; until it is over this one does. Of the files that the published
-    /// superblock names those stay that the want leaves.
-    pub fn delta_out(&mut self, alloc: Global, number: u32) -> Result<Lent<D>, StoreNo>
+    // Lends the store to publish the superblock of this pass's job on the files of a disk rowset, which is written. The DeltaMemStore that takes changes freezes, and
+    // the next one takes them: nothing flies. All records are durable, and no other job publishes; until it is over this one does. Of the files that the published
+    // superblock names those stay that the want leaves.
+    pub(crate) fn delta_out(&mut self, alloc: Global, number: u32) -> Result<Lent<D>, NoMemory>
+        requires home { self.old.store.holder ≡ None }
+        requires goes { self.old.tablet.core.stopped ≡ false }
         requires may { (job : JobView) × ((d : DataSpec) × (job_of number self.old.upkeep ≡ Some job) × MayPublishDeltas D.tells D.seen D.now D.leaves self.old job d) }
         requires settled { (self.old.log.out ≡ []) × (self.old.log.queued ≡ []) }
         requires free { self.old.upkeep.publishing ≡ None }
@@ -345,27 +320,16 @@ impl<L: Disk, D: Disk + Drop, C: Clock> Engine<L, D, C> {
         ensures numbers { IfOk result (λ lent. (lent.next_rowset ≡ self.old.store.next_rowset) × (lent.next_file ≡ self.old.store.next_file)) }
         ensures ready { IfOk result (λ lent. (m : MetaSpec) → lent.meta ≡ Some m → MayPublish D.tells D.seen D.now D.leaves lent.device m) }
         ensures whole { IfOk result (λ _. IsTrue self.old.store.whole) }
-        ensures stopped { result ≡ Err StoreNo.Stopped ↔ self.old.tablet.core.stopped ≡ true }
-        ensures holder { (by : ℕ) → result ≡ Err (StoreNo.Out by) ↔ (self.old.tablet.core.stopped ≡ false) × (self.old.store.holder ≡ Some by) }
         ensures stays { OnErr result (self.new ≡ self.old) }
     {
-        if self.tablet.is_stopped() {
-            return Err(StoreNo::Stopped);
-        }
-        if let Some(by) = self.store.by() {
-            return Err(StoreNo::Out { by });
-        }
-        let Ok((meta, rowset)) = self.delta_meta(alloc, number) else {
-            return Err(StoreNo::Memory);
-        };
+        let (meta, rowset) = self.delta_meta(alloc, number)?;
         // What may be lent stands on the device.
         self.store.standing();
         self.lend_deltas(number, rowset, meta)
     }
 
-    /// The disk rowset as it was written takes the place of the one in memory, whose changes in memory give their cells back. It takes no memory. The job's superblock
-    /// is published.
-    pub fn delta_finish(&mut self, number: u32)
+    // The disk rowset as it was written takes the place of the one in memory, whose changes in memory give their cells back. It takes no memory.
+    pub(crate) fn delta_finish(&mut self, number: u32)
         requires may { (job : JobView) × ((d : DataSpec) × (job_of number self.old.upkeep ≡ Some job) × MayFinishDeltas self.old number job d) }
         ensures visit { IsVisit number self.old self.new }
         ensures line { self.new.tablet.core.trail ≡ self.old.tablet.core.trail }

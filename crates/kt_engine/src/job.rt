@@ -4,10 +4,8 @@ ghost use Rattle.std.specs.List.{AllByRecursion, sum_by};
 ghost use Rattle.kt_history.specs.History.{Past};
 ghost use Rattle.kt_content.specs.Rules.{Rules};
 ghost use Rattle.kt_merge.specs.Merge.{AreFaultless};
-ghost use Rattle.kt_diskrowset.specs.Data.{held_in, files_in};
-ghost use Rattle.kt_diskrowset.specs.Rows.{UndosLeadBack};
 ghost use Rattle.kt_outputs.specs.Outputs.{meta_in};
-ghost use Rattle.kt_tablet.specs.Jobs.{changes_in_memory, taken_stores, entries_in, MayChangeOver, HasChangedOver};
+ghost use Rattle.kt_tablet.specs.Jobs.{dms_in, changes_in_memory, taken_stores, entries_in, MayChangeOver, HasChangedOver};
 ghost use Rattle.kt_schema.specs.Columns.{other_columns};
 ghost use Rattle.kt_baseset.specs.Rows.{AreShapes};
 ghost use Rattle.kt_joblaws.specs.Apart.{AreOfTable};
@@ -20,6 +18,8 @@ ghost use Rattle.kt_engine.specs.Logged.{PlanPasses};
 ghost use Rattle.kt_engine.specs.Jobs.{JobView, IsAtStage, IsUnpublished, HasUpkeep, upkeep_at, job_of, asked_for_nothing, job_abandoned, first_flying, NoRows, takes_by};
 ghost use Rattle.kt_engine.specs.JobSteps.{TellAll, TellPassing, running, first_holder, IsMerge, IsNothing, LacksOne, HasBegunJob, IsUntouched, AtNewStage, HasInput, HasSwapped, MayFinish, HasFinished};
 ghost use Rattle.kt_engine.specs.Upkeeps.{IsThere};
+ghost use Rattle.kt_engine.specs.DeltaJobs.{IsOn, HasNoWork, HasBegunDeltas};
+ghost use Rattle.kt_engine.specs.JobCalls.{ByWant, HasReadRowset, GivesOne, HasTakenOne, MayEndBy, HasEndedBy};
 ghost use Rattle.kt_engine.specs.Visits.{IsVisit};
 
 use crate::engine::Engine;
@@ -176,7 +176,7 @@ fn lacks_one<C: Clock>(tablet: &Tablet<DiskRowSet, C>, taken: &[u64]) -> bool
 }
 
 // The columns of a table that are no key, as a base file has them.
-fn columns_of(alloc: Global, meta: &Meta) -> Result<Schema1, NoMemory>
+pub(crate) fn columns_of(alloc: Global, meta: &Meta) -> Result<Schema1, NoMemory>
     ensures { IfOk result (λ columns. columns ≡ map shape_of (other_columns meta.now.schema)) }
 {
     let others = meta.schema.other_columns();
@@ -210,7 +210,7 @@ impl<L: Disk, D: Disk + Drop, C: Clock> Engine<L, D, C> {
     }
 
     // Whether too many jobs have begun or run, or no file or rowset number is left for one.
-    pub(crate) fn is_full(&self) -> bool
+    fn is_full(&self) -> bool
         ensures { IsTrue result ↔ (2 ^ 24 ≤ self.now.upkeep.begun) ⊎ ((512 ≤ running self.now.upkeep) ⊎ ((self.now.first_file + 2 ^ 44 ≤ self.now.store.next_file) ⊎ (self.now.store.next_rowset ≡ 2 ^ 64 - 1))) }
     {
         let (running, begun) = self.upkeep.counts();
@@ -256,8 +256,9 @@ impl<L: Disk, D: Disk + Drop, C: Clock> Engine<L, D, C> {
 
     // Whether there is nothing to do for a want.
     fn is_nothing(&self, alloc: Global, want: &Want) -> Result<bool, NoMemory>
-        requires merges { IsMerge want.now }
-        ensures { IfOk result (λ nothing. IsTrue nothing ↔ IsNothing self.now want.now) }
+        ensures nothing { IfOk result (λ nothing. IsTrue nothing → HasNoWork self.now want.now) }
+        ensures something { IfOk result (λ nothing. nothing ≡ false → ¬ IsNothing self.now want.now) }
+        ensures there { IfOk result (λ nothing. nothing ≡ false → (rowset : ℕ) → IsOn rowset want.now → (dms : ℕ) × (dms_in rowset self.now.tablet.names ≡ Some dms)) }
     {
         if self.is_full() {
             return Ok(true);
@@ -265,7 +266,9 @@ impl<L: Disk, D: Disk + Drop, C: Clock> Engine<L, D, C> {
         match want {
             Want::Flush => self.is_no_flush(alloc),
             Want::Compact(taken) => self.is_no_compaction(alloc, taken.as_slice()),
-            Want::FlushDeltas(_) | Want::Minor(_) | Want::Major(_) => unreachable!(),
+            Want::FlushDeltas(rowset) | Want::Minor(rowset) | Want::Major(rowset) => {
+                Ok(self.has_no_work(want, *rowset))
+            }
         }
     }
 
@@ -377,7 +380,7 @@ impl<L: Disk, D: Disk + Drop, C: Clock> Engine<L, D, C> {
     }
 
     // Makes a place for a pass, so that its asks need no memory.
-    pub(crate) fn make_place(&mut self, alloc: Global, number: u32) -> Result<(), NoMemory>
+    fn make_place(&mut self, alloc: Global, number: u32) -> Result<(), NoMemory>
         ensures same { IsUntouched self.old self.new }
         ensures there { OnOk result (IsThere number self.new.upkeep.passes) }
     {
@@ -385,7 +388,7 @@ impl<L: Disk, D: Disk + Drop, C: Clock> Engine<L, D, C> {
     }
 
     // There is nothing to do for what a pass asked. It has a place, and no job.
-    pub(crate) fn say_nothing(&mut self, number: u32, asked: Want)
+    fn say_nothing(&mut self, number: u32, asked: Want)
         requires there { IsThere number self.old.upkeep.passes }
         requires none { job_of number self.old.upkeep ≡ None }
         ensures own { HasUpkeep number (asked_for_nothing asked (upkeep_at number self.old.upkeep.passes)) self.old.upkeep self.new.upkeep }
@@ -470,13 +473,13 @@ impl<L: Disk, D: Disk + Drop, C: Clock> Engine<L, D, C> {
 
     // Begins the job that a pass asked for. It has a place.
     fn begin_job(&mut self, alloc: Global, number: u32, asked: Want) -> Result<u32, NoMemory>
-        requires merges { IsMerge asked }
         requires few { self.old.upkeep.begun < 2 ^ 24 }
         requires last { self.old.store.next_rowset ≢ 2 ^ 64 - 1 }
         requires taken { (taken : List ℕ) → asked ≡ Want.Compact taken → (taken ≢ []) × ¬ LacksOne taken self.old.tablet.names }
+        requires rowset { (rowset : ℕ) → IsOn rowset asked → (dms : ℕ) × (dms_in rowset self.old.tablet.names ≡ Some dms) }
         requires there { IsThere number self.old.upkeep.passes }
         requires free { self.old.upkeep.publishing ≡ None }
-        ensures begun { IfOk result (λ k. HasBegunJob self.old self.new number asked k) }
+        ensures begun { IfOk result (λ k. ByWant asked (HasBegunJob self.old self.new number asked k) (λ rowset. HasBegunDeltas self.old self.new number asked k)) }
         ensures same { OnErr result (self.new ≡ self.old) }
     {
         match &asked {
@@ -485,23 +488,27 @@ impl<L: Disk, D: Disk + Drop, C: Clock> Engine<L, D, C> {
                 let taken = copy_ids(alloc, rowsets)?;
                 Ok(self.begin_compaction(alloc, number, asked, taken))
             }
-            Want::FlushDeltas(_) | Want::Minor(_) | Want::Major(_) => unreachable!(),
+            Want::FlushDeltas(rowset) | Want::Minor(rowset) | Want::Major(rowset) => {
+                let rowset = *rowset;
+                Ok(self.begin_deltas(alloc, number, asked, rowset))
+            }
         }
     }
 
-    /// Begins a flush or a compaction, whose inputs are held from now on. A flush freezes here. Where there is nothing to do that is told, and counts as an ask.
-    /// Until jobs run in two phases none begins while a job publishes. A job on the files of one disk rowset begins with `delta_begin`.
+    /// Begins a job, whose inputs are held from now on. A flush freezes here. Where there is nothing to do that is told, and counts as an ask: there is none for a
+    /// minor compaction of fewer than two REDO files, for a major one of none, and for a flush of changes where none is in memory. Until jobs run in two phases
+    /// none begins while a job publishes.
     pub fn job_begin(&mut self, alloc: Global, number: u32, want: &Want) -> Result<u32, JobNo>
         requires none { job_of number self.old.upkeep ≡ None }
-        requires merges { IsMerge want.now }
         ensures visit { IsVisit number self.old self.new }
         ensures line { self.new.tablet.core.trail ≡ self.old.tablet.core.trail }
-        ensures begun { IfOk result (λ k. HasBegunJob self.old self.new number want.now k) }
-        ensures nothing { result ≡ Err JobNo.Nothing → (self.old.tablet.core.stopped ≡ false) × IsNothing self.old want.now }
+        ensures begun { IfOk result (λ k. ByWant want.now (HasBegunJob self.old self.new number want.now k) (λ rowset. HasBegunDeltas self.old self.new number want.now k)) }
+        ensures nothing { result ≡ Err JobNo.Nothing → (self.old.tablet.core.stopped ≡ false) × HasNoWork self.old want.now }
         ensures none_to_do { self.old.tablet.core.stopped ≡ false → IsNothing self.old want.now → (result ≡ Err JobNo.Nothing) ⊎ (result ≡ Err JobNo.Memory) }
         ensures asked { result ≡ Err JobNo.Nothing → (self.new ≡ record self.old { upkeep = self.new.upkeep }) × HasUpkeep number (asked_for_nothing want.now (upkeep_at number self.old.upkeep.passes)) self.old.upkeep self.new.upkeep }
         ensures held { (by : ℕ) → result ≡ Err (JobNo.Held by) → (self.old.tablet.core.stopped ≡ false) × ¬ IsNothing self.old want.now × (first_holder want.now self.old.upkeep.passes ≡ Some by) }
-        ensures holds { (by : ℕ) → self.old.tablet.core.stopped ≡ false → ¬ IsNothing self.old want.now → first_holder want.now self.old.upkeep.passes ≡ Some by → (result ≡ Err (JobNo.Held by)) ⊎ (result ≡ Err JobNo.Memory) }
+        ensures alone { IfOk result (λ _. first_holder want.now self.old.upkeep.passes ≡ None) }
+        ensures holds { (by : ℕ) → self.old.tablet.core.stopped ≡ false → ¬ HasNoWork self.old want.now → first_holder want.now self.old.upkeep.passes ≡ Some by → (result ≡ Err (JobNo.Held by)) ⊎ (result ≡ Err JobNo.Memory) }
         ensures stopped { result ≡ Err JobNo.Stopped ↔ self.old.tablet.core.stopped ≡ true }
         ensures same { IfErr result (λ e. e ≢ JobNo.Nothing → IsUntouched self.old self.new) }
     {
@@ -527,10 +534,11 @@ impl<L: Disk, D: Disk + Drop, C: Clock> Engine<L, D, C> {
         Ok(self.begin_job(alloc, number, asked)?)
     }
 
-    /// Hands out what the job reads, once nothing flies.
-    pub fn job_snapshot(&mut self, alloc: Global, number: u32) -> Result<JobInput, JobWait>
+    // What a flush or a compaction reads is handed out, while nothing flies.
+    fn merge_snapshot(&mut self, alloc: Global, number: u32) -> Result<JobInput, NoMemory>
         requires free { self.old.upkeep.publishing ≡ None }
         requires stage { (job : JobView) × IsAtStage self.old.upkeep number Stage.Begun job }
+        requires calm { self.old.tablet.core.aloft ≡ [] }
         ensures visit { IsVisit number self.old self.new }
         ensures read { IfOk result (λ input. (job : JobView) → job_of number self.old.upkeep ≡ Some job → HasInput self.old.tablet job.taken input.inputs input.bound input.mark
             × AtNewStage number (record job { stage = Stage.Read; bound = input.bound; mark = input.mark; inputs = Some input.inputs }) self.old self.new) }
@@ -538,6 +546,31 @@ impl<L: Disk, D: Disk + Drop, C: Clock> Engine<L, D, C> {
         ensures faultless { IfOk result (λ input. (first : Past) → IsFound self.old first → AreFaultless (record { mark = input.mark; bound = input.bound }) input.inputs) }
         ensures tells { IfOk result (λ input. (job : JobView) (first : Past) → job_of number self.old.upkeep ≡ Some job → IsFound self.old first → TellAll self.old.tablet job.taken input.bound input.inputs) }
         ensures passes { IsTrue D.tells → IfOk result (λ input. (rules : Rules) (first : Past) → IsContent rules self.old first → PlanPasses rules self.old.tablet.core.work → TellPassing rules input.bound input.mark input.inputs) }
+        ensures same { OnErr result (self.new ≡ self.old) }
+    {
+        let Some(job) = self.upkeep.job(number) else {
+            return Err(NoMemory);
+        };
+        let input = self.read_inputs(alloc, job.taken.as_slice())?;
+        let inputs = Snapshot::of(&input.inputs);
+        self.upkeep.read(number, input.bound, input.mark, inputs);
+        Ok(input)
+    }
+
+    /// Hands out what the job reads, once nothing flies: of a job on the files of one disk rowset all that the tablet has of it.
+    pub fn job_snapshot(&mut self, alloc: Global, number: u32) -> Result<JobInput, JobWait>
+        requires free { self.old.upkeep.publishing ≡ None }
+        requires stage { (job : JobView) × IsAtStage self.old.upkeep number Stage.Begun job }
+        ensures visit { IsVisit number self.old self.new }
+        ensures read { IfOk result (λ input. (job : JobView) → job_of number self.old.upkeep ≡ Some job → ByWant job.want
+            (HasInput self.old.tablet job.taken input.inputs input.bound input.mark
+            × AtNewStage number (record job { stage = Stage.Read; bound = input.bound; mark = input.mark; inputs = Some input.inputs }) self.old self.new)
+            (λ rowset. HasReadRowset D.tells D.seen number job input.inputs input.bound input.mark self.old self.new)) }
+        ensures columns { IfOk result (λ input. input.inputs.columns ≡ map shape_of (other_columns self.old.store.meta.schema)) }
+        ensures faultless { IfOk result (λ input. (job : JobView) (first : Past) → job_of number self.old.upkeep ≡ Some job → IsMerge job.want → IsFound self.old first → AreFaultless (record { mark = input.mark; bound = input.bound }) input.inputs) }
+        ensures tells { IfOk result (λ input. (job : JobView) (first : Past) → job_of number self.old.upkeep ≡ Some job → IsMerge job.want → IsFound self.old first → TellAll self.old.tablet job.taken input.bound input.inputs) }
+        ensures passes { IsTrue D.tells → IfOk result (λ input. (job : JobView) (rules : Rules) (first : Past) → job_of number self.old.upkeep ≡ Some job → IsMerge job.want → IsContent rules self.old first → PlanPasses rules self.old.tablet.core.work
+            → TellPassing rules input.bound input.mark input.inputs) }
         ensures waits { (ts : ℕ) → result ≡ Err (JobWait.NotYet ts) ↔ (self.old.tablet.core.stopped ≡ false) × (first_flying self.old.tablet ≡ Some ts) }
         ensures stopped { result ≡ Err JobWait.Stopped ↔ self.old.tablet.core.stopped ≡ true }
         ensures same { OnErr result (self.new ≡ self.old) }
@@ -548,23 +581,48 @@ impl<L: Disk, D: Disk + Drop, C: Clock> Engine<L, D, C> {
         if let Some(ts) = self.tablet.least_flying() {
             return Err(JobWait::NotYet { ts });
         }
-        let Some(job) = self.upkeep.job(number) else {
-            return Err(JobWait::Memory);
-        };
-        let input = self.read_inputs(alloc, job.taken.as_slice())?;
-        let inputs = Snapshot::of(&input.inputs);
-        self.upkeep.read(number, input.bound, input.mark, inputs);
-        Ok(input)
+        if self.upkeep.rewrites(number) {
+            return Ok(self.delta_snapshot(alloc, number)?);
+        }
+        Ok(self.merge_snapshot(alloc, number)?)
     }
 
-    /// Takes the outputs, new disk rowsets that have no change in memory. It takes the memory of the end. Where one does not lead back it is as for want of memory.
-    pub fn job_swap(&mut self, alloc: Global, number: u32, outputs: Outputs) -> Result<(), LookNo>
+    // Takes the outputs of a flush or a compaction, new disk rowsets that have no change in memory. It takes the memory of the end.
+    fn merge_swap(&mut self, alloc: Global, number: u32, outputs: Outputs) -> Result<(), NoMemory>
         requires free { self.old.upkeep.publishing ≡ None }
         requires stage { (job : JobView) × IsAtStage self.old.upkeep number Stage.Read job }
         requires fresh { AllByRecursion (λ d. d.fresh ≡ []) outputs.rowsets }
         ensures visit { IsVisit number self.old self.new }
         ensures swapped { OnOk result (HasSwapped number outputs.rowsets (map (meta_in 0) outputs.rowsets) self.old self.new) }
         ensures few { OnOk result (length self.old.tablet.core.stores + length outputs.rowsets < 2 ^ 32) }
+        ensures same { OnErr result (self.new ≡ self.old) }
+    {
+        // The tablet counts its stores by u32.
+        let rowsets = self.tablet.rowsets();
+        let stores = rowsets.saturating_add(self.tablet.frozen());
+        if stores.saturating_add(outputs.rowsets.len()) >= MOST_STORES {
+            return Err(NoMemory);
+        }
+        if !lead_back(alloc, outputs.rowsets.as_slice())? {
+            return Err(NoMemory);
+        }
+        let outputs = JobOutputs::of(alloc, outputs, rowsets)?;
+        self.upkeep.swap(number, outputs);
+        Ok(())
+    }
+
+    /// Takes the outputs, disk rowsets that have no change in memory: of a flush or a compaction new ones, and of a job on the files of one disk rowset that one as it
+    /// was written, in the shape of its want and with the files that this leaves. It takes the memory of the end. Where UNDO records do not fit it is as for want
+    /// of memory.
+    pub fn job_swap(&mut self, alloc: Global, number: u32, outputs: Outputs) -> Result<(), LookNo>
+        requires free { self.old.upkeep.publishing ≡ None }
+        requires stage { (job : JobView) × IsAtStage self.old.upkeep number Stage.Read job }
+        requires fresh { AllByRecursion (λ d. d.fresh ≡ []) outputs.rowsets }
+        requires rewritten { (job : JobView) → job_of number self.old.upkeep ≡ Some job → ByWant job.want (Unit {0}) (λ rowset. GivesOne job.want self.old.tablet.files outputs.rowsets) }
+        ensures visit { IsVisit number self.old self.new }
+        ensures swapped { OnOk result ((job : JobView) → job_of number self.old.upkeep ≡ Some job → ByWant job.want
+            (HasSwapped number outputs.rowsets (map (meta_in 0) outputs.rowsets) self.old self.new × (length self.old.tablet.core.stores + length outputs.rowsets < 2 ^ 32))
+            (λ rowset. HasTakenOne number job outputs.rowsets self.old self.new)) }
         ensures stopped { self.old.tablet.core.stopped ≡ true → result ≡ Err LookNo.Stopped }
         ensures goes { result ≡ Err LookNo.Stopped → self.old.tablet.core.stopped ≡ true }
         ensures same { OnErr result (self.new ≡ self.old) }
@@ -572,20 +630,15 @@ impl<L: Disk, D: Disk + Drop, C: Clock> Engine<L, D, C> {
         if self.tablet.is_stopped() {
             return Err(LookNo::Stopped);
         }
-        // The tablet counts its stores by u32.
-        let rowsets = self.tablet.rowsets();
-        let stores = rowsets.saturating_add(self.tablet.frozen());
-        if stores.saturating_add(outputs.rowsets.len()) >= MOST_STORES {
-            return Err(LookNo::Memory);
+        let taken = if self.upkeep.rewrites(number) {
+            self.delta_swap(alloc, number, outputs)
+        } else {
+            self.merge_swap(alloc, number, outputs)
+        };
+        match taken {
+            Ok(()) => Ok(()),
+            Err(NoMemory) => Err(LookNo::Memory),
         }
-        let Ok(true) = lead_back(alloc, outputs.rowsets.as_slice()) else {
-            return Err(LookNo::Memory);
-        };
-        let Ok(outputs) = JobOutputs::of(alloc, outputs, rowsets) else {
-            return Err(LookNo::Memory);
-        };
-        self.upkeep.swap(number, outputs);
-        Ok(())
     }
 
     /// Hands out what the outputs lack: nothing, since nothing flies and no change came after the bound.
@@ -627,8 +680,8 @@ impl<L: Disk, D: Disk + Drop, C: Clock> Engine<L, D, C> {
         Ok(())
     }
 
-    /// What the job took leaves, and its outputs come behind the other stores. Its superblock is published. It takes no memory.
-    pub fn job_finish(&mut self, number: u32)
+    // What a flush or a compaction took leaves, and its outputs come behind the other stores. It takes no memory.
+    fn merge_finish(&mut self, number: u32)
         requires may { (job : JobView) × (job_of number self.old.upkeep ≡ Some job) × MayFinish self.old number job }
         ensures visit { IsVisit number self.old self.new }
         ensures line { self.new.tablet.core.trail ≡ self.old.tablet.core.trail }
@@ -641,6 +694,21 @@ impl<L: Disk, D: Disk + Drop, C: Clock> Engine<L, D, C> {
         let (rowsets, room) = job.outputs.into_parts();
         let taken = job.taken.as_slice();
         leave_to(&mut self.tablet, taken, job.last_mem, rowsets, room);
+    }
+
+    /// What the job took leaves, and its outputs come behind the other stores; of a job on the files of one disk rowset its new files take the place of the old ones,
+    /// and the changes that they hold give their cells back. Its superblock is published. It takes no memory.
+    pub fn job_finish(&mut self, number: u32)
+        requires may { (job : JobView) × (job_of number self.old.upkeep ≡ Some job) × MayEndBy self.old number job job.output }
+        ensures visit { IsVisit number self.old self.new }
+        ensures line { self.new.tablet.core.trail ≡ self.old.tablet.core.trail }
+        ensures finished { (job : JobView) → job_of number self.old.upkeep ≡ Some job → HasEndedBy job.output number self.old self.new }
+    {
+        if self.upkeep.has_output(number) {
+            self.delta_finish(number);
+        } else {
+            self.merge_finish(number);
+        }
     }
 
     /// Gives a job up, whose superblock is neither published nor lent. What it froze stays frozen. It takes no memory.

@@ -8,6 +8,7 @@ pub mod delta_job;
 pub mod engine;
 mod filled;
 mod fitting;
+mod images;
 pub mod job;
 mod job_meta;
 pub mod laws;

@@ -2,11 +2,14 @@
 ghost use Rattle.std.specs.Prelude.{◌≡◌, ◌≤◌, ◌<◌, ◌+◌, ◌^◌, max, ◌⊎◌, ◌↔◌, ℕ, is_some, IsTrue, IfOk, OnErr, Ok, Err, Some, None, false, true, []};
 ghost use Rattle.kt_super.specs.declared.meta.Meta.{Meta as MetaSpec};
 ghost use Rattle.kt_super.specs.Slots.{super_of, AreStable};
+ghost use Rattle.kt_diskrowset.specs.declared.data.RowSetData.{RowSetData as DataSpec};
 ghost use Rattle.kt_super.specs.Rowsets.{is_small};
 ghost use Rattle.kt_storeside.specs.Turns.{IsTurn};
 ghost use Rattle.kt_storeside.specs.Sides.{published_in, MayBeLent};
 ghost use Rattle.kt_engine.specs.Jobs.{JobView, job_of};
 ghost use Rattle.kt_engine.specs.JobSteps.{IsLent, HasComeHome, MayPublishJob};
+ghost use Rattle.kt_engine.specs.DeltaJobs.{StayNamed, NamesAtMostOneRedo};
+ghost use Rattle.kt_engine.specs.JobCalls.{MayGoOut, goes_out, lent_with, meta_with};
 ghost use Rattle.kt_engine.specs.Near.{most_rowsets};
 ghost use Rattle.kt_engine.specs.Stored.{next_super, job_meta, meta_for, MayPublish};
 
@@ -42,6 +45,16 @@ pub enum StoreNo {
     /// There was no memory.
     #[error("out of memory")]
     Memory,
+}
+
+impl From<NoMemory> for StoreNo {
+    ghost use Rattle.kt_engine.specs.declared.store.StoreNo.TheVariants as no;
+
+    ghost from_gives = { λ _ e. e ≡ no.Memory };
+
+    fn from(_: NoMemory) -> StoreNo {
+        StoreNo::Memory
+    }
 }
 
 // The number of a superblock, which is there.
@@ -126,9 +139,51 @@ impl<L: Disk, D: Disk + Drop, C: Clock> Engine<L, D, C> {
         lent
     }
 
-    /// Lends the store to a pass, and to publish with it the superblock that comes next: the same rowsets with the present mark and
-    /// last timestamp, or with those of the pass's job. Until jobs run in two phases it is lent for that only while all records are durable, and not while a
-    /// job publishes.
+    // Lends the store to a pass, and to publish with it the superblock that comes next, or that of the pass's job that merges.
+    fn lend_out(
+        &mut self,
+        alloc: Global,
+        number: u32,
+        purpose: Purpose,
+    ) -> Result<Lent<D>, NoMemory>
+        requires home { self.old.store.holder ≡ None }
+        requires goes { self.old.tablet.core.stopped ≡ false }
+        requires settled { purpose ≡ Purpose.Publish → (self.old.log.out ≡ []) × (self.old.log.queued ≡ []) }
+        requires free { purpose ≡ Purpose.Publish → self.old.upkeep.publishing ≡ None }
+        requires job { (job : JobView) → purpose ≡ Purpose.Publish → job_of number self.old.upkeep ≡ Some job → MayPublishJob D.tells D.seen D.now D.leaves self.old job }
+        ensures lent { IfOk result (λ lent. (self.old.store.home ≡ Some lent.device) × (lent.device ≡ self.old.store.known)
+            × (self.new ≡ record self.old { store = record self.old.store { home = None; holder = Some number; lent = lent.meta }; upkeep = self.new.upkeep })) }
+        ensures upkeep { IfOk result (λ lent. (lent.meta ≡ None) ⊎ (job_of number self.old.upkeep ≡ None) → self.new.upkeep ≡ self.old.upkeep) }
+        ensures publishes { IfOk result (λ lent. (job : JobView) (m : MetaSpec) → lent.meta ≡ Some m → job_of number self.old.upkeep ≡ Some job → IsLent number job m.number self.old.upkeep self.new.upkeep) }
+        ensures meta { IfOk result (λ lent. lent.meta ≡ meta_for number purpose self.old) }
+        ensures numbers { IfOk result (λ lent. (lent.next_rowset ≡ self.old.store.next_rowset) × (lent.next_file ≡ self.old.store.next_file)) }
+        ensures ready { IfOk result (λ lent. (m : MetaSpec) → lent.meta ≡ Some m → MayPublish D.tells D.seen D.now D.leaves lent.device m) }
+        ensures whole { IfOk result (λ _. IsTrue self.old.store.whole) }
+        ensures stays { OnErr result (self.new ≡ self.old) }
+    {
+        let meta = self.meta_for(alloc, number, purpose)?;
+        // What the engine stands for is told of the superblock that goes out too.
+        self.tablet.standing();
+        self.store.standing();
+        if self.is_of_job(number, purpose) {
+            return Ok(self.lend_of_job(number, meta));
+        }
+        Ok(self.store.lend(number, meta))
+    }
+
+    // Whether the store is to publish for a job of a pass that has written a disk rowset again.
+    fn is_rewritten(&self, number: u32, purpose: Purpose) -> bool
+        ensures { result ≡ is_some (goes_out purpose (job_of number self.now.upkeep)) }
+    {
+        match purpose {
+            Purpose::Write => false,
+            Purpose::Publish => self.upkeep.has_output(number),
+        }
+    }
+
+    /// Lends the store to a pass, and to publish with it the superblock that comes next: the same rowsets with the present mark and last timestamp, or with those of
+    /// the pass's job. Of a job on the files of one disk rowset the next DeltaMemStore of that takes changes from now on. Until jobs run in two phases it is lent
+    /// for that only while all records are durable, and not while a job publishes.
     pub fn store_out(
         &mut self,
         alloc: Global,
@@ -136,13 +191,15 @@ impl<L: Disk, D: Disk + Drop, C: Clock> Engine<L, D, C> {
         purpose: Purpose,
     ) -> Result<Lent<D>, StoreNo>
         requires settled { purpose ≡ Purpose.Publish → (self.old.log.out ≡ []) × (self.old.log.queued ≡ []) }
-        requires job { (job : JobView) → purpose ≡ Purpose.Publish → job_of number self.old.upkeep ≡ Some job → MayPublishJob D.tells D.seen D.now D.leaves self.old job }
+        requires job { (job : JobView) → purpose ≡ Purpose.Publish → job_of number self.old.upkeep ≡ Some job → MayGoOut D.tells D.seen D.now D.leaves self.old job job.output }
         ensures lent { IfOk result (λ lent. (self.old.store.home ≡ Some lent.device) × (lent.device ≡ self.old.store.known)
-            × (self.new ≡ record self.old { store = record self.old.store { home = None; holder = Some number; lent = lent.meta }; upkeep = self.new.upkeep })) }
+            × (self.new ≡ lent_with (goes_out purpose (job_of number self.old.upkeep)) self.old number lent.meta self.new.upkeep)) }
         ensures upkeep { IfOk result (λ lent. (lent.meta ≡ None) ⊎ (job_of number self.old.upkeep ≡ None) → self.new.upkeep ≡ self.old.upkeep) }
         ensures publishes { IfOk result (λ lent. (job : JobView) (m : MetaSpec) → lent.meta ≡ Some m → job_of number self.old.upkeep ≡ Some job → IsLent number job m.number self.old.upkeep self.new.upkeep) }
         ensures free { IfOk result (λ lent. (m : MetaSpec) → lent.meta ≡ Some m → self.old.upkeep.publishing ≡ None) }
-        ensures meta { IfOk result (λ lent. lent.meta ≡ meta_for number purpose self.old) }
+        ensures meta { IfOk result (λ lent. lent.meta ≡ meta_with (goes_out purpose (job_of number self.old.upkeep)) number purpose self.old) }
+        ensures stay { IfOk result (λ lent. (job : JobView) (d : DataSpec) (m : MetaSpec) → job_of number self.old.upkeep ≡ Some job → job.output ≡ Some d → lent.meta ≡ Some m → StayNamed job.want d.number self.old.store.meta.rowsets m.rowsets) }
+        ensures names { IfOk result (λ lent. (job : JobView) (d : DataSpec) (m : MetaSpec) → job_of number self.old.upkeep ≡ Some job → job.output ≡ Some d → lent.meta ≡ Some m → NamesAtMostOneRedo job.want m.rowsets) }
         ensures numbers { IfOk result (λ lent. (lent.next_rowset ≡ self.old.store.next_rowset) × (lent.next_file ≡ self.old.store.next_file)) }
         ensures ready { IfOk result (λ lent. (m : MetaSpec) → lent.meta ≡ Some m → MayPublish D.tells D.seen D.now D.leaves lent.device m) }
         ensures whole { IfOk result (λ _. IsTrue self.old.store.whole) }
@@ -160,16 +217,10 @@ impl<L: Disk, D: Disk + Drop, C: Clock> Engine<L, D, C> {
         if !self.is_free(purpose) {
             return Err(StoreNo::Memory);
         }
-        let Ok(meta) = self.meta_for(alloc, number, purpose) else {
-            return Err(StoreNo::Memory);
-        };
-        // What the engine stands for is told of the superblock that goes out too.
-        self.tablet.standing();
-        self.store.standing();
-        if self.is_of_job(number, purpose) {
-            return Ok(self.lend_of_job(number, meta));
+        if self.is_rewritten(number, purpose) {
+            return Ok(self.delta_out(alloc, number)?);
         }
-        Ok(self.store.lend(number, meta))
+        Ok(self.lend_out(alloc, number, purpose)?)
     }
 
     /// Takes the store home after its turn, with the first numbers that were not used, and with it the superblock that went out, where its gate was opened.

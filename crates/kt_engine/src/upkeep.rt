@@ -1,11 +1,12 @@
 //! What passes have of maintenance: their asks, their rounds, and their jobs.
-ghost use Rattle.std.specs.Prelude.{◌≡◌, ◌≤◌, ◌<◌, ℕ, is_some, map, length, slice_get, vec_capacity, Some, None, IfOk, OnOk, OnErr, MatchOption};
+ghost use Rattle.std.specs.Prelude.{◌≡◌, ◌≤◌, ◌<◌, ℕ, false, IsTrue, is_some, map, length, slice_get, Some, None, IfOk, OnOk, OnErr, MatchOption};
 ghost use Rattle.std.specs.List.{sum_by};
 ghost use Rattle.std.specs.Option.{option_map};
 ghost use Rattle.kt_pick.specs.declared.rules.Want.{Want as WantSpec};
 ghost use Rattle.kt_diskrowset.specs.Rowset.{held_of};
-ghost use Rattle.kt_engine.specs.Jobs.{idle, no_upkeep, upkeep_at, job_of, asked, asked_for_nothing, job_finished, job_abandoned, same_want, without_want, JobView, HasUpkeep};
-ghost use Rattle.kt_engine.specs.JobSteps.{one_job, running, stage_home, publishing_home, shares, names, or_holder, first_holder};
+ghost use Rattle.kt_engine.specs.Jobs.{idle, no_upkeep, upkeep_at, job_of, asked, asked_for_nothing, job_finished, job_abandoned, same_want, without_want, rewritten, JobView, HasUpkeep};
+ghost use Rattle.kt_engine.specs.DeltaJobs.{IsOn};
+ghost use Rattle.kt_engine.specs.JobSteps.{IsMerge, one_job, running, stage_home, publishing_home, shares, names, or_holder, first_holder};
 ghost use Rattle.kt_engine.specs.Rounds.{round_of};
 ghost use Rattle.kt_engine.specs.Upkeeps.{upkeep_of, job_in, IsThere};
 
@@ -259,11 +260,11 @@ impl Upkeep {
 
     // The disk rowset of its job is written.
     fn take_output(&mut self, rowset: RowSetData)
-        ensures own { (job : JobView) → (upkeep_of self.old).1.job ≡ Some job → (upkeep_of self.new).1 ≡ record (upkeep_of self.old).1 { job = Some (record job { stage = Stage.Written; output = Some rowset }) } }
+        ensures own { (job : JobView) → (upkeep_of self.old).1.job ≡ Some job → (upkeep_of self.new).1 ≡ record (upkeep_of self.old).1 { job = Some (record job { stage = Stage.Swapped; output = Some rowset }) } }
         ensures pass { self.new.pass ≡ self.old.pass }
     {
         if let Some(job) = &mut self.job {
-            job.stage = Stage::Written;
+            job.stage = Stage::Swapped;
             job.output = Some(rowset);
         }
     }
@@ -324,6 +325,17 @@ pub fn is_same(want: &Want, other: &Want) -> bool
         (Want::Major(one), Want::Major(two)) => one == two,
         (Want::Compact(some), Want::Compact(others)) => some.as_slice() == others.as_slice(),
         _ => false,
+    }
+}
+
+// Whether a want merges what it takes. If not it is on the files of one disk rowset.
+fn is_merge(want: &Want) -> bool
+    ensures yes { IsTrue result → IsMerge want.now }
+    ensures no { result ≡ false → (rowset : ℕ) × IsOn rowset want.now }
+{
+    match want {
+        Want::Flush | Want::Compact(_) => true,
+        Want::FlushDeltas(_) | Want::Minor(_) | Want::Major(_) => false,
     }
 }
 
@@ -464,7 +476,7 @@ impl Upkeeps {
     /// The disk rowset of the job of a pass is written.
     pub fn take_output(&mut self, pass: u32, rowset: RowSetData)
         requires job { (job : JobView) × (job_of pass self.old ≡ Some job) }
-        ensures own { (job : JobView) → job_of pass self.old ≡ Some job → HasUpkeep pass (record (upkeep_at pass self.old.passes) { job = Some (record job { stage = Stage.Written; output = Some rowset }) }) self.old self.new }
+        ensures own { (job : JobView) → job_of pass self.old ≡ Some job → HasUpkeep pass (record (upkeep_at pass self.old.passes) { job = Some (record job { stage = Stage.Swapped; output = Some rowset }) }) self.old self.new }
         ensures begun { (self.new.begun ≡ self.old.begun) × (self.new.publishing ≡ self.old.publishing) }
     {
         let Some(at) = self.place(pass) else {
@@ -522,6 +534,27 @@ impl Upkeeps {
     {
         let at = self.place(pass)?;
         self.passes[at].job.as_ref()
+    }
+
+    /// Whether the job of a pass writes the files of one disk rowset again, and merges nothing.
+    pub fn rewrites(&self, pass: u32) -> bool
+        ensures yes { IsTrue result → (job : JobView) → job_of pass self.now ≡ Some job → (rowset : ℕ) × IsOn rowset job.want }
+        ensures no { result ≡ false → (job : JobView) → job_of pass self.now ≡ Some job → IsMerge job.want }
+    {
+        match self.place(pass) {
+            Some(at) => !is_merge(&self.passes[at].want),
+            None => false,
+        }
+    }
+
+    /// Whether the job of a pass has a disk rowset that it has written again.
+    pub fn has_output(&self, pass: u32) -> bool
+        ensures { result ≡ is_some (rewritten (job_of pass self.now)) }
+    {
+        match self.job(pass) {
+            Some(job) => job.output.is_some(),
+            None => false,
+        }
     }
 
     /// A round of a chore of a pass begins, with all that is to do of it.

@@ -93,6 +93,7 @@ impl<L: Disk, D: Disk + Drop, C: Clock> Engine<L, D, C> {
         ensures left { IfErr result (Leaves self.old.tablet self.new.tablet number index) }
         ensures untouched { IfErr result (λ _. self.new.tablet ≡ record self.old.tablet { core = self.new.tablet.core }) }
         ensures waits { OnErr result (self.new.log ≡ record self.old.log { room = self.new.log.room }) }
+        ensures same { (ts : ℕ) → result ≡ Err (BeginNo.Wait ts) → self.new ≡ self.old }
         ensures kept { OnErr result (draft.new.write.ops ≡ draft.old.write.ops) }
         ensures memory { result ≡ Err BeginNo.Memory → (self.old.tablet.core.work.cells < need draft.old.write.ops) ⊎ IsUnhindered self.old.tablet draft.old.write.ops }
     {
@@ -141,6 +142,7 @@ impl<L: Disk, D: Disk + Drop, C: Clock> Engine<L, D, C> {
         ensures left { IfErr result (Leaves self.old.tablet self.new.tablet number index) }
         ensures untouched { IfErr result (λ _. self.new.tablet ≡ record self.old.tablet { core = self.new.tablet.core }) }
         ensures waits { OnErr result (self.new.log ≡ record self.old.log { room = self.new.log.room }) }
+        ensures same { (ts : ℕ) → result ≡ Err (BeginNo.Wait ts) → self.new ≡ self.old }
     {
         if self.tablet.is_stopped() {
             return Err(BeginNo::Stopped);

@@ -1,4 +1,5 @@
-use Rattle.std.proofs.Common.{◌+◌, None, refl, sym, ap, ◌∙◌}
+use Rattle.std.proofs.Common.{◌+◌, None, map, refl, sym, ap, ◌∙◌}
+use Rattle.kt_diskrowset.specs.Rowset.{held_of}
 use Rattle.kt_engine.specs.declared.upkeep.Job.{Job}
 use Rattle.kt_engine.specs.declared.upkeep.Stage.TheVariants as stage
 use Rattle.kt_engine.specs.Upkeeps.{job_in}
@@ -21,4 +22,4 @@ returns g c =
     let count = c.begin.ensures.begun in
     rw old
     (begun_so g.L.Disk.tells g.L.Disk.seen g.L.Disk.now g.L.Disk.leaves g.L.Disk.faults g.D.Disk.tells g.D.Disk.seen g.D.Disk.faults _ c.begin.new.self c.args.number c.begin.result c.args.asked (job_in c.args.asked job) refl refl count.0 (ap (λ n. n + 1) c.counts-begun.ensures.begun)
-    (count.1, count.2 ∙ rw old at c.requires.free) c.requires.on (rw old at c.requires.there) c.begin.ensures.own)
+    (count.1, count.2 ∙ rw old at c.requires.free) c.requires.on (rw old at c.requires.there) (refl, ap (map held_of) c.none.ensures.0) c.begin.ensures.own)

@@ -10,14 +10,14 @@ use Rattle.kt_engine.proofs.engine.Engine.delta_out.Goals as goal
 pub returns-clause-ready : goal.returns-clause-ready
 returns-clause-ready g c =
     let old = sym c.self.view_is in
-    let side = rw c.deref-3.ensures at c.standing.ensures.side in
-    ready_of g.D.Disk.tells g.D.Disk.seen g.D.Disk.now g.D.Disk.leaves g.D.Disk.faults _ side c.in-Ok.meta (rw old at c.in-Ok.ensures.lent) c.lend_deltas.result (rw old at c.lend_deltas.ensures.device) c.lend_deltas.ensures.meta
+    let side = rw c.deref.ensures at c.standing.ensures.side in
+    ready_of g.D.Disk.tells g.D.Disk.seen g.D.Disk.now g.D.Disk.leaves g.D.Disk.faults _ side c.in_ok-meta.meta (rw old at c.in_ok-meta.ensures.lent) c.lend_deltas.result (rw old at c.lend_deltas.ensures.device) c.lend_deltas.ensures.meta
 
 -- and names at most one REDO file of the rowset of a compaction
 pub returns-clause-names : goal.returns-clause-names
 returns-clause-names g c =
     let may = c.requires.may in
-    names_of c.args.self.now c.args.number may.0 may.1.0 c.in-Ok.meta may.1.1 may.1.2.shape (c.in-Ok.ensures.meta may.0 may.1.0 may.1.1 may.1.2.output).0 c.lend_deltas.result c.lend_deltas.ensures.meta
+    names_of c.args.self.now c.args.number may.0 may.1.0 c.in_ok-meta.meta may.1.1 may.1.2.shape (c.in_ok-meta.ensures.meta may.0 may.1.0 may.1.1 may.1.2.output).0 c.lend_deltas.result c.lend_deltas.ensures.meta
 
 -- and leaves those files that the want leaves
 pub returns-clause-stay : goal.returns-clause-stay
@@ -26,8 +26,8 @@ returns-clause-stay g c =
     let old = sym c.self.view_is in
     let filed : AreFiled g.D.Disk.tells (g.D.Disk.seen c.args.self.now.store.known) c.args.self.now.store.meta.rowsets c.args.self.now.tablet.files =
     rw old (filed_now g.L.Disk.tells g.L.Disk.seen g.D.Disk.tells g.D.Disk.seen g.D.Disk.faults _ c.self.invariant.1 (rw old at c.requires.free) _ (inl refl)) in
-    stays_of g.D.Disk.tells (g.D.Disk.seen c.args.self.now.store.known) c.args.self.now c.args.number may.0 may.1.0 c.in-Ok.meta may.1.1 may.1.2.output may.1.2.stay filed (c.in-Ok.ensures.meta may.0 may.1.0 may.1.1 may.1.2.output).0 c.lend_deltas.result c.lend_deltas.ensures.meta
+    stays_of g.D.Disk.tells (g.D.Disk.seen c.args.self.now.store.known) c.args.self.now c.args.number may.0 may.1.0 c.in_ok-meta.meta may.1.1 may.1.2.output may.1.2.stay filed (c.in_ok-meta.ensures.meta may.0 may.1.0 may.1.1 may.1.2.output).0 c.lend_deltas.result c.lend_deltas.ensures.meta
 
 -- its number is that of the job from now on
 pub returns-clause-publishes : goal.returns-clause-publishes
-returns-clause-publishes g c = lent_of _ _ c.args.number c.in-Ok.meta c.lend_deltas.result c.lend_deltas.ensures.meta c.lend_deltas.ensures.lent
+returns-clause-publishes g c = lent_of _ _ c.args.number c.in_ok-meta.meta c.lend_deltas.result c.lend_deltas.ensures.meta c.lend_deltas.ensures.lent

@@ -8,11 +8,7 @@ use Rattle.kt_diskrowset.specs.Rowset.{HeldFiles}
 use Rattle.kt_engine.specs.Engines.{EngineView}
 use Rattle.kt_engine.specs.DeltaJobs.{IsOn, redo_files, nothing, one_file, no_file, no_changes}
 use Rattle.kt_engine.proofs.DeltaToDo.{no_rowset}
-use Rattle.kt_engine.proofs.ToDo.{full_nothing}
 use Rattle.kt_engine.proofs.engine.Engine.has_no_work.Goals as goal
-
-pub returns-then-is_full-clause-nothing : goal.returns-then-is_full-clause-nothing
-returns-then-is_full-clause-nothing g c = λ so. nothing (full_nothing c.args.self.now c.args.want.now (c.is_full.ensures.0 c.if-is_full.true))
 
 pub returns-in_default-clause-nothing : goal.returns-in_default-clause-nothing
 returns-in_default-clause-nothing g c = λ so.

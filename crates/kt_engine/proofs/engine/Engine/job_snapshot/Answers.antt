@@ -1,50 +1,19 @@
-use Rattle.std.proofs.Common.{◌≡◌, ◌∙◌, ℕ, List, [], Some, refl, ap, sym, subst}
+use Rattle.std.proofs.Common.{◌≡◌, ◌∙◌, [], ap, sym, subst}
 use Rattle.kt_tablet.specs.Views.{View}
 use Rattle.kt_engine.specs.Engines.{EngineView}
-use Rattle.kt_engine.specs.declared.upkeep.Stage.TheVariants as stage
-use Rattle.kt_diskrowset.specs.declared.inputs.Inputs.{Inputs}
-use Rattle.kt_engine.specs.Jobs.{JobView, HasUpkeep, upkeep_at}
-use Rattle.kt_engine.specs.JobSteps.{HasInput, TellAll}
-use Rattle.kt_engine.proofs.JobBoth.{further_both}
-use Rattle.kt_engine.proofs.JobMetas.{same_job}
 use Rattle.kt_engine.proofs.Snapshots.{none_aloft}
-use Rattle.kt_engine.proofs.Visiting.{visit_of, upkeep_visit}
 use Rattle.kt_engine.proofs.engine.Engine.job_snapshot.Goals as goal
 
-pub read-requires : goal.read-requires
-read-requires g c =
-    let job = rw (sym c.self.view_is) at c.requires.stage in
-    record { job = (job.0, job.1.has) }
-
-pub invariant_of-self : goal.invariant_of-self
-invariant_of-self g c =
-    let old = sym c.self.view_is in
-    let job = rw old at c.requires.stage in
-    further_both g.L.Disk.tells g.L.Disk.seen g.L.Disk.now g.L.Disk.leaves g.L.Disk.faults g.D.Disk.tells g.D.Disk.seen g.D.Disk.faults _ c.read.new.self c.args.number job.0 (record job.0 { stage = stage.Read; bound = c.in_ok-input.input.bound; mark = c.in_ok-input.input.mark; inputs = Some c.of-inputs.result.value }) job.1.has (λ records on. record { many = on.many; names = on.names }) (c.read.ensures.own job.0 job.1.has) (rw old at c.requires.free) c.read.ensures.begun c.self.invariant
-
-pub returns-clause-visit : goal.returns-clause-visit
-returns-clause-visit g c =
-    let job = rw (sym c.self.view_is) at c.requires.stage in
-    visit_of _ _ _ _ c.self.view_is (upkeep_visit c.args.number _ _ c.read.new.self (c.read.ensures.own job.0 job.1.has))
-
-pub read_inputs-requires-clause-calm : goal.read_inputs-requires-clause-calm
-read_inputs-requires-clause-calm g c =
+-- nothing flies
+pub delta_snapshot-requires-clause-calm : goal.delta_snapshot-requires-clause-calm
+delta_snapshot-requires-clause-calm g c =
     let tab : c.deref-2.result.now ≡ c.args.self.now.tablet = c.deref-2.ensures ∙ ap (λ (v : EngineView g.row.L.Denot g.row.D.Denot g.row.C.Denot). v.tablet) c.self.view_is in
     subst (λ (t : View g.row.C.Denot). t.core.aloft ≡ []) tab (none_aloft c.deref-2.result.now.core.aloft (sym c.least_flying.ensures ∙ c.in_default.is))
 
--- what the job takes is what was read
-pub returns-clause-read : goal.returns-clause-read
-returns-clause-read g c =
-    let old = sym c.self.view_is in
-    let read = rw old at c.in_ok-input.ensures.read in
-    rw old (λ job at.
-    let taken_is : c.as_slice.result.now ≡ job.taken = c.as_slice.ensures ∙ ap (λ (j : JobView). j.taken) (same_job c.in-Some-job.ensures.0 c.in-Some-job.job.now job _ c.in-Some-job.ensures.1 at) in
-    (subst (λ (l : List ℕ). HasInput c.self.inside.tablet.value l c.in_ok-input.input.inputs c.in_ok-input.input.bound c.in_ok-input.input.mark) taken_is read, record { upkeep = subst (λ (i : Inputs). HasUpkeep c.args.number (record (upkeep_at c.args.number c.self.inside.upkeep.passes) { job = Some (record job { stage = stage.Read; bound = c.in_ok-input.input.bound; mark = c.in_ok-input.input.mark; inputs = Some i }) }) c.self.inside.upkeep c.read.new.self) c.of-inputs.ensures (c.read.ensures.own job at); begun = c.read.ensures.begun; beside = refl }))
+pub merge_snapshot-requires-clause-calm : goal.merge_snapshot-requires-clause-calm
+merge_snapshot-requires-clause-calm g c =
+    let tab : c.deref-2.result.now ≡ c.args.self.now.tablet = c.deref-2.ensures ∙ ap (λ (v : EngineView g.row.L.Denot g.row.D.Denot g.row.C.Denot). v.tablet) c.self.view_is in
+    subst (λ (t : View g.row.C.Denot). t.core.aloft ≡ []) tab (none_aloft c.deref-2.result.now.core.aloft (sym c.least_flying.ensures ∙ c.in_default.is))
 
-pub returns-clause-tells : goal.returns-clause-tells
-returns-clause-tells g c =
-    let old = sym c.self.view_is in
-    let tells = rw old at c.in_ok-input.ensures.tells in
-    rw old (λ job first at opens.
-    let taken_is : c.as_slice.result.now ≡ job.taken = c.as_slice.ensures ∙ ap (λ (j : JobView). j.taken) (same_job c.in-Some-job.ensures.0 c.in-Some-job.job.now job _ c.in-Some-job.ensures.1 at) in
-    subst (λ (l : List ℕ). TellAll c.self.inside.tablet.value l c.in_ok-input.input.bound c.in_ok-input.input.inputs) taken_is (tells first opens))
+pub returns-clause-passes : goal.returns-clause-passes
+returns-clause-passes g c = λ tells job rules first has merges content plan. c.in_ok-merge_snapshot.ensures.passes tells rules first content plan

@@ -1,22 +1,10 @@
-use Rattle.std.proofs.Common.{sym, map}
-use Rattle.kt_diskrowset.specs.Rowset.{held_of}
-use Rattle.kt_engine.specs.declared.upkeep.Stage.TheVariants as stage
-use Rattle.kt_engine.proofs.JobBoth.{further_both}
-use Rattle.kt_engine.proofs.Visiting.{visit_of, upkeep_visit}
+use Rattle.std.proofs.Common.{sym}
+use Rattle.kt_engine.specs.JobCalls.{GivesOne}
+use Rattle.kt_engine.proofs.JobCalls.{by_rowset}
 use Rattle.kt_engine.proofs.engine.Engine.job_swap.Goals as goal
 
-pub swap-requires : goal.swap-requires
-swap-requires g c =
-    let job = rw (sym c.self.view_is) at c.requires.stage in
-    record { job = (job.0, job.1.has) }
-
-pub invariant_of-self : goal.invariant_of-self
-invariant_of-self g c =
-    let old = sym c.self.view_is in
-    let job = rw old at c.requires.stage in
-    further_both g.L.Disk.tells g.L.Disk.seen g.L.Disk.now g.L.Disk.leaves g.L.Disk.faults g.D.Disk.tells g.D.Disk.seen g.D.Disk.faults _ c.swap.new.self c.args.number job.0 (record job.0 { stage = stage.Swapped; metas = c.in-Ok.outputs.metas; held = map held_of c.in-Ok.outputs.rowsets; room = c.in-Ok.outputs.room }) job.1.has (λ records on. record { many = on.many; names = on.names }) (c.swap.ensures.own job.0 job.1.has) (rw old at c.requires.free) c.swap.ensures.begun c.self.invariant
-
-pub returns-clause-visit : goal.returns-clause-visit
-returns-clause-visit g c =
-    let job = rw (sym c.self.view_is) at c.requires.stage in
-    visit_of _ _ _ _ c.self.view_is (upkeep_visit c.args.number _ _ c.swap.new.self (c.swap.ensures.own job.0 job.1.has))
+-- a want on the files of a disk rowset gives that one
+pub delta_swap-taken-requires-clause-rewritten : goal.delta_swap-taken-requires-clause-rewritten
+delta_swap-taken-requires-clause-rewritten g c = λ job has.
+    let on = c.rewrites.ensures.yes c.if-rewrites.true job (rw (sym c.self.view_is) at has) in
+    by_rowset (Unit {0}) (λ _. GivesOne job.want c.args.self.now.tablet.files c.args.outputs.rowsets) job.want on.0 on.1 (c.requires.rewritten job has)

@@ -3,13 +3,13 @@ use Rattle.kt_engine.proofs.DeltaOut.{deltas_out_as}
 use Rattle.kt_engine.proofs.engine.Engine.lend_deltas.Goals as goal
 
 -- the superblock goes out, and the DeltaMemStore of its rowset is frozen
-pub invariant_of-self : goal.invariant_of-self
-invariant_of-self g c =
+pub invariant_of-self-2 : goal.invariant_of-self-2
+invariant_of-self-2 g c =
     let old = sym c.self.view_is in
     let may = rw old at c.requires.may in
-    let tablet = rw c.deref_mut.ensures.value at c.in-Ok.ensures.frozen in
-    let there = rw c.deref_mut.ensures.value at c.in-Ok.ensures.there in
-    let store = rw c.deref_mut-in-Ok.ensures.value at c.lend-lent.ensures.side in
+    let tablet = rw c.deref_mut.ensures.value at c.in_ok-freeze_deltas.ensures.frozen in
+    let there = rw c.deref_mut.ensures.value at c.in_ok-freeze_deltas.ensures.there in
+    let store = rw c.deref_mut-2.ensures.value at c.lend-lent.ensures.side in
     deltas_out_as g.L.Disk.tells g.L.Disk.seen g.L.Disk.now g.L.Disk.leaves g.L.Disk.faults g.D.Disk.tells g.D.Disk.seen g.D.Disk.now g.D.Disk.leaves g.D.Disk.faults _ c.self.invariant c.args.number may.0 may.1.0 may.1.2 c.args.rowset c.args.meta may.1.3 may.1.4 may.1.5 may.1.6
     there (rw old at c.requires.last) (rw old at c.requires.settled) (rw old at c.requires.free) (rw c.deref.ensures at c.standing.ensures.sound.stands) (rw c.deref.ensures at c.standing.ensures.named) c.publish.new.self may.1.1
     (record { upkeep = c.publish.ensures.own may.0 may.1.1; begun = c.publish.ensures.begun }) c.freeze_deltas.new.self c.lend-lent.new.self tablet store

@@ -1,54 +1,30 @@
-use Rattle.std.proofs.Common.{sym, ap, ◌∙◌}
-use Rattle.kt_engine.proofs.Devices.{store_keeps, both_whole}
-use Rattle.kt_engine.proofs.StoreEvents.{lent_stored}
-use Rattle.kt_engine.proofs.StorePurposes.{lent_is_next, publishes_settled, may_publish}
+use Rattle.std.proofs.Common.{◌≡◌, Some, None, sym, ◌∙◌, inl, inr}
+use Rattle.kt_engine.specs.Jobs.{job_of}
+use Rattle.kt_engine.specs.DeltaJobs.{delta_meta}
+use Rattle.kt_engine.specs.JobCalls.{goes_out}
+use Rattle.kt_engine.proofs.JobCalls.{goes_some, goes_with, lent_some, meta_some}
 use Rattle.kt_engine.proofs.engine.Engine.store_out.Goals as goal
 
-pub invariant_of-self : goal.invariant_of-self
-invariant_of-self g c =
-    let old = sym c.self.view_is in
-    let store = rw c.deref_mut.ensures.value at c.lend.ensures.side in
-    let side = rw c.deref-4.ensures at c.standing-2.ensures.side in
-    let meta = rw old at c.in-Ok.ensures.meta in (
-      store_keeps g.L.Disk.tells g.L.Disk.seen g.L.Disk.now g.L.Disk.leaves g.L.Disk.faults _ c.lend.new.self (ap (λ s. s.whole) store) c.self.invariant.0,
-      lent_stored g.L.Disk.tells g.L.Disk.seen g.D.Disk.tells g.D.Disk.seen g.D.Disk.now g.D.Disk.leaves g.D.Disk.faults _ c.self.invariant.1 side c.lend.new.self c.args.number c.in-Ok.meta store (lent_is_next c.args.number c.args.purpose _ c.in-Ok.meta meta (rw old at (c.is_of_job.ensures.no c.if-is_of_job.false)))
-          (λ m is. let rest = (rw old at c.requires.settled) (publishes_settled c.args.number c.args.purpose _ c.in-Ok.meta meta m is) in (rest.0, rest.1, (rw old at c.is_free.ensures.free) c.if-not-is_free.false (publishes_settled c.args.number c.args.purpose _ c.in-Ok.meta meta m is))) (rw c.deref-3.ensures at c.standing.ensures.sound.stands),
-    )
+-- of a job that has written a disk rowset again
+pub returns-then-is_rewritten-clause-lent : goal.returns-then-is_rewritten-clause-lent
+returns-then-is_rewritten-clause-lent g c =
+    let out = goes_some c.args.purpose (job_of c.args.number c.args.self.now.upkeep) (sym c.is_rewritten.ensures ∙ c.if-is_rewritten.true) in
+    let told = c.in_ok-delta_out.ensures.out out.job out.d out.has out.gave in
+    let with = goes_with c.args.purpose (job_of c.args.number c.args.self.now.upkeep) out.job out.d out.publishes out.has out.gave in
+    (c.in_ok-delta_out.ensures.lent.0, c.in_ok-delta_out.ensures.lent.1, told.1 ∙ sym (lent_some c.args.self.now c.args.number (goes_out c.args.purpose (job_of c.args.number c.args.self.now.upkeep)) out.d c.in_ok-delta_out.field-0.meta (delta_meta c.args.self.now out.job.dms out.d) c.delta_out.new.self.upkeep with told.0))
 
--- what goes out may be published
+pub returns-then-is_rewritten-clause-upkeep : goal.returns-then-is_rewritten-clause-upkeep
+returns-then-is_rewritten-clause-upkeep g c = λ none.
+    let out = goes_some c.args.purpose (job_of c.args.number c.args.self.now.upkeep) (sym c.is_rewritten.ensures ∙ c.if-is_rewritten.true) in
+    let told = c.in_ok-delta_out.ensures.out out.job out.d out.has out.gave in
+    elim none [
+      | inl lacks ↦ absurd (let no : None ≡ Some (delta_meta c.args.self.now out.job.dms out.d) = sym lacks ∙ told.0 in cc)
+      | inr lacks ↦ absurd (let no : None ≡ Some out.job = sym lacks ∙ out.has in cc)
+    ]
 
-pub returns-clause-ready : goal.returns-clause-ready
-returns-clause-ready g c =
-    let old = sym c.self.view_is in
-    let side = rw c.deref-4.ensures at c.standing-2.ensures.side in
-    let known = rw c.deref_mut.ensures.value at c.lend.ensures.device.1 in
-    let meta = rw old at c.in-Ok.ensures.meta in
-    may_publish g.D.Disk.tells g.D.Disk.seen g.D.Disk.now g.D.Disk.leaves g.D.Disk.faults _ side c.lend.result.device c.in-Ok.meta c.lend.result.meta known c.lend.ensures.meta (rw old at c.in-Ok.ensures.lent)
-
--- a tablet that goes on has its store whole
-pub lend-requires-clause-whole : goal.lend-requires-clause-whole
-lend-requires-clause-whole g c =
-    let goes = rw c.deref.ensures at (sym c.if-is_stopped.ensures) in
-    rw c.deref_mut.ensures.value (both_whole c.self.inside.log.value.whole c.self.inside.store.value.whole (sym goes ∙ c.self.invariant.0.whole)).1
-
-pub lend-requires-clause-lent : goal.lend-requires-clause-lent
-lend-requires-clause-lent g c =
-    let old = sym c.self.view_is in
-    rw c.deref_mut.ensures.value (rw old at c.in-Ok.ensures.lent)
-
--- of a pass with a job
-pub returns-then-is_of_job-clause-publishes : goal.returns-then-is_of_job-clause-publishes
-returns-then-is_of_job-clause-publishes g c = λ job m new had. c.lend_of_job.ensures.lent job m had (sym c.lend_of_job.ensures.meta ∙ new)
-
-pub returns-then-is_of_job-clause-ready : goal.returns-then-is_of_job-clause-ready
-returns-then-is_of_job-clause-ready g c =
-    let old = sym c.self.view_is in
-    let side = rw c.deref-4.ensures at c.standing-2.ensures.side in
-    may_publish g.D.Disk.tells g.D.Disk.seen g.D.Disk.now g.D.Disk.leaves g.D.Disk.faults _ side c.lend_of_job.result.device c.in-Ok.meta c.lend_of_job.result.meta (rw old at c.lend_of_job.ensures.device.1) c.lend_of_job.ensures.meta (rw old at c.in-Ok.ensures.lent)
-
--- numbers are left for files that are written
-pub returns-clause-near : goal.returns-clause-near
-returns-clause-near g c = c.is_free.ensures.near c.if-not-is_free.false
-
-pub returns-then-is_of_job-clause-near : goal.returns-then-is_of_job-clause-near
-returns-then-is_of_job-clause-near g c = c.is_free.ensures.near c.if-not-is_free.false
+pub returns-then-is_rewritten-clause-meta : goal.returns-then-is_rewritten-clause-meta
+returns-then-is_rewritten-clause-meta g c =
+    let out = goes_some c.args.purpose (job_of c.args.number c.args.self.now.upkeep) (sym c.is_rewritten.ensures ∙ c.if-is_rewritten.true) in
+    let told = c.in_ok-delta_out.ensures.out out.job out.d out.has out.gave in
+    let with = goes_with c.args.purpose (job_of c.args.number c.args.self.now.upkeep) out.job out.d out.publishes out.has out.gave in
+    told.0 ∙ sym (meta_some c.args.self.now c.args.number (goes_out c.args.purpose (job_of c.args.number c.args.self.now.upkeep)) out.d c.args.purpose out.job with out.has)

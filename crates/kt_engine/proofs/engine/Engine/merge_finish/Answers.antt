@@ -7,7 +7,7 @@ use Rattle.kt_engine.specs.Upkeeps.{job_in}
 use Rattle.kt_engine.proofs.NewRowsets.{all_stand, all_bare, all_empty}
 use Rattle.kt_engine.proofs.JobFinish.{gives_takes, gives_stores, gives_names, gives_files, changed_is, finished_both, finish_visit}
 use Rattle.kt_engine.proofs.Visiting.{visit_of}
-use Rattle.kt_engine.proofs.engine.Engine.job_finish.Goals as goal
+use Rattle.kt_engine.proofs.engine.Engine.merge_finish.Goals as goal
 
 pub finish-requires : goal.finish-requires
 finish-requires g c =
