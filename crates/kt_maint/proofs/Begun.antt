@@ -1,19 +1,25 @@
--- A flush or a compaction that has begun, and its end.
-use Rattle.std.proofs.Common.{◌≡◌, ◌≤◌, ℕ, sym, ap, subst, ◌∙◌, inl, arith, Option, Some, None}
+-- A job that has begun, and its end.
+use Rattle.std.proofs.Common.{◌≡◌, ◌≤◌, ℕ, sym, ap, subst, ◌∙◌, inl, arith, List, Option, Some, None}
+use Rattle.kt_diskrowset.specs.declared.data.RowSetData.{RowSetData}
+use Rattle.kt_history.specs.declared.event.Event.{Event}
 use Rattle.kt_histlaws.specs.Parts.{part}
 use Rattle.kt_pick.specs.declared.rules.Want.{Want}
 use Rattle.kt_pick.specs.declared.rules.Want.TheVariants as want
 use Rattle.kt_tablet.specs.Views.{View, place_at}
 use Rattle.kt_engine.specs.Engines.{EngineView, IsFound}
 use Rattle.kt_engine.specs.declared.upkeep.Stage.TheVariants as stage
-use Rattle.kt_engine.specs.Jobs.{JobView, UpkeepView, upkeep_at, job_of, job_finished}
-use Rattle.kt_engine.specs.JobSteps.{IsMerge, HasTaken, HasBegunJob, HasFinished}
-use Rattle.kt_engine.specs.Visits.{IsVisit}
+use Rattle.kt_engine.specs.Jobs.{JobView, UpkeepView, UpkeepsView, upkeep_at, job_of, asked, job_finished}
+use Rattle.kt_engine.specs.JobSteps.{IsMerge, HasTaken, HasBegunJob}
+use Rattle.kt_engine.specs.DeltaJobs.{HasBegunDeltas}
+use Rattle.kt_engine.specs.JobCalls.{ByWant, HasEndedBy}
+use Rattle.kt_engine.specs.Visits.{IsVisit, root_of}
 use Rattle.kt_engine.proofs.Visiting.{root_stays}
-use Rattle.kt_maint.specs.Done.{GivesMerged, HasGiven}
-use Rattle.kt_maint.specs.Runs.{KeepsAsks, IsReady, JobIsAt, GoesOn, HasNoDevice, StandsAs, ran}
-use Rattle.kt_maint.proofs.Merged.{gives_then, merged_for}
-use Rattle.kt_maint.proofs.Stages.{some_is, want_same}
+use Rattle.kt_maint.specs.Done.{GivesFor}
+use Rattle.kt_maint.specs.Runs.{KeepsAsks, IsReady, JobIsAt, HasNoDevice, StandsAs, HasRun, AddsStop, ran}
+use Rattle.kt_maint.specs.DeltaRuns.{DeltasAt}
+use Rattle.kt_maint.specs.JobRuns.{BeginsBy, MayEnd}
+use Rattle.kt_maint.proofs.Merged.{gives_then}
+use Rattle.kt_maint.proofs.Stages.{some_is}
 use Rattle.kt_maint.proofs.Readying.{no_device}
 use Rattle.kt_maint.proofs.Visiting.{stands_same, stands_then}
 
@@ -37,57 +43,123 @@ module _ {L D C : Type 0} (n : ℕ) (a b : EngineView L D C) where
   calm_taken (want.Major r) same = (ap (λ (t : View C). t.core.stopped) same, ap (λ (t : View C). t.core.aloft) same)
   calm_taken (want.Compact taken) same = (ap (λ (t : View C). t.core.stopped) same, ap (λ (t : View C). t.core.aloft) same)
 
-  module _ (w : Want) (k : ℕ) (begun : HasBegunJob a b n w k) where
-    pub begun_has : job_of n b.upkeep ≡ Some begun.job
-    begun_has = ap (λ (u : UpkeepView). u.job) begun.upkeep.own
+  -- what is so of any job that has begun
+  pub record HasBegun (w : Want) : Type 0 where
+    pub job : JobView
+    pub own : upkeep_at n b.upkeep.passes ≡ asked w job (upkeep_at n a.upkeep.passes)
+    pub tablet : HasTaken w a.tablet b.tablet
+    pub beside : b ≡ record a { tablet = b.tablet; upkeep = b.upkeep }
+    pub begins : BeginsBy b n w
 
-    -- it is ready as before
-    pub begun_ready : IsReady a → IsReady b
-    begun_ready r =
-        let calm = calm_taken w begun.tablet in
-        record {
-          goes = calm.0 ∙ r.goes;
-          calm = calm.1 ∙ r.calm;
-          settled = (ap (λ (v : EngineView L D C). v.log.queued) begun.beside ∙ r.settled.0, ap (λ (v : EngineView L D C). v.log.out) begun.beside ∙ r.settled.1, ap (λ (v : EngineView L D C). v.log.holder) begun.beside ∙ r.settled.2);
-          home = ap (λ (v : EngineView L D C). v.store.holder) begun.beside ∙ r.home;
-        }
+  merge_at : (w : Want) (k : ℕ) (h : HasBegunJob a b n w k) → IsMerge w → JobIsAt b n stage.Begun
+  merge_at w k h merges = record {
+    job = h.job;
+    has = ap (λ (u : UpkeepView). u.job) h.upkeep.own;
+    at = h.stage_is;
+    want = subst IsMerge (sym h.want_is) merges;
+    output = h.output;
+    free = h.number.3;
+    begun = λ none. (let first = h.number.1 in let same = h.number.2 in omega arith);
+    given = subst (λ (v : EngineView L D C). h.job.first_rowset ≤ v.store.next_rowset) (sym h.beside) (let first = h.numbers.0 in omega arith);
+    takes = h.takes;
+    as_many = h.as_many;
+  }
 
-    pub begun_at : IsMerge w → JobIsAt b n stage.Begun
-    begun_at merges = record {
-      job = begun.job;
-      has = begun_has;
-      at = begun.stage_is;
-      want = subst IsMerge (sym begun.want_is) merges;
-      output = begun.output;
-      free = begun.number.3;
-      begun = λ none. (let first = begun.number.1 in let same = begun.number.2 in omega arith);
-      given = subst (λ (v : EngineView L D C). begun.job.first_rowset ≤ v.store.next_rowset) (sym begun.beside) (let first = begun.numbers.0 in omega arith);
-      takes = begun.takes;
-      as_many = begun.as_many;
-    }
+  deltas_at : (w : Want) (k : ℕ) → HasBegunDeltas a b n w k → DeltasAt b n w stage.Begun
+  deltas_at w k h = record {
+    job = h.job;
+    has = ap (λ (u : UpkeepView). u.job) h.upkeep.own;
+    at = h.stage_is;
+    want = h.want_is;
+    on = h.on;
+    free = h.number.3;
+    begun = λ none. (let first = h.number.1 in let same = h.number.2 in omega arith);
+  }
 
-    -- and once it has finished it is done, and both devices are at home
-    module _ (c d : EngineView L D C) (asks : KeepsAsks n b.upkeep c.upkeep) (same : GoesOn n b.upkeep c.upkeep) (over : HasFinished n c d) where
-      its_want : over.job.want ≡ w
-      its_want = want_same n b.upkeep c.upkeep same begun.job over.job begun_has over.had ∙ begun.want_is
+  left : (w : Want) (k : ℕ) → HasBegunDeltas a b n w k → b.tablet ≡ a.tablet
+  left w k h = ap (λ (v : EngineView L D C). v.tablet) h.beside
 
-      pub ran_done : upkeep_at n d.upkeep.passes ≡ ran w over.job (upkeep_at n a.upkeep.passes)
-      ran_done =
-          over.upkeep.own ∙ ap (λ (x : Want). job_finished x (upkeep_at n c.upkeep.passes)) its_want ∙ ap (job_finished w) asks.own
-          ∙ ap (λ (u : UpkeepView). job_finished w (record u { job = job_of n c.upkeep })) begun.upkeep.own
-          ∙ ap (λ (o : Option JobView). record (ran w over.job (upkeep_at n a.upkeep.passes)) { done = o }) over.had
+  left_beside : (w : Want) (k : ℕ) → HasBegunDeltas a b n w k → b ≡ record a { tablet = b.tablet; upkeep = b.upkeep }
+  left_beside w k h = h.beside ∙ (λ i. record a { tablet = sym (left w k h) i; upkeep = b.upkeep })
 
-      -- and it has given what was asked
-      pub ran_given : IsMerge w → GivesMerged (IsFound c) same.job → IsVisit n c d → HasGiven (IsFound d) w over.job
-      ran_given merges gives visit =
-          let own : same.job ≡ over.job = some_is same.job over.job (sym same.has ∙ over.had) in
-          record { want_is = its_want; gives = merged_for (IsFound d) w over.job merges (gives_then c d over.job (root_stays n c d visit) (subst (λ (j : JobView). GivesMerged (IsFound c) j) own gives)) }
+  pub has_begun : (w : Want) (k : ℕ) → ByWant w (HasBegunJob a b n w k) (λ r. HasBegunDeltas a b n w k) → HasBegun w
+  unfolding merge_at
+  has_begun want.Flush k h = record { job = h.job; own = h.upkeep.own; tablet = h.tablet; beside = h.beside; begins = record { at = merge_at want.Flush k h tt; want = h.want_is } }
+  has_begun (want.Compact taken) k h = record { job = h.job; own = h.upkeep.own; tablet = h.tablet; beside = h.beside; begins = record { at = merge_at (want.Compact taken) k h tt; want = h.want_is } }
+  has_begun (want.FlushDeltas r) k h = record { job = h.job; own = h.upkeep.own; tablet = left (want.FlushDeltas r) k h; beside = left_beside (want.FlushDeltas r) k h; begins = deltas_at (want.FlushDeltas r) k h }
+  has_begun (want.Minor r) k h = record { job = h.job; own = h.upkeep.own; tablet = left (want.Minor r) k h; beside = left_beside (want.Minor r) k h; begins = deltas_at (want.Minor r) k h }
+  has_begun (want.Major r) k h = record { job = h.job; own = h.upkeep.own; tablet = left (want.Major r) k h; beside = left_beside (want.Major r) k h; begins = deltas_at (want.Major r) k h }
 
-      pub ran_home : IsReady a → c.log ≡ b.log → c.store.holder ≡ None → HasNoDevice n d
-      ran_home r log home =
-          no_device n d
-          (ap (λ (v : EngineView L D C). v.log.holder) over.beside ∙ ap (λ l. l.holder) log ∙ ap (λ (v : EngineView L D C). v.log.holder) begun.beside ∙ r.settled.2)
-          (ap (λ (v : EngineView L D C). v.store.holder) over.beside ∙ home)
+  -- it is ready as before
+  pub begun_ready : (w : Want) → HasBegun w → IsReady a → IsReady b
+  begun_ready w begun r =
+      let calm = calm_taken w begun.tablet in
+      record {
+        goes = calm.0 ∙ r.goes;
+        calm = calm.1 ∙ r.calm;
+        settled = (ap (λ (v : EngineView L D C). v.log.queued) begun.beside ∙ r.settled.0, ap (λ (v : EngineView L D C). v.log.out) begun.beside ∙ r.settled.1, ap (λ (v : EngineView L D C). v.log.holder) begun.beside ∙ r.settled.2);
+        home = ap (λ (v : EngineView L D C). v.store.holder) begun.beside ∙ r.home;
+      }
 
-      pub over_stands : StandsAs n c d
-      over_stands = record { line = inl (ap (λ x. x.trail) over.changed.stores); session = ap (λ x. part x n) over.changed.stores; place = ap (λ (t : View C). place_at n t.places) over.changed.beside }
+-- ---- and is over
+
+pub record IsOver {L D C : Type 0} (n : ℕ) (job : JobView) (a b : EngineView L D C) : Type 0 where
+  pub own : upkeep_at n b.upkeep.passes ≡ job_finished job.want (upkeep_at n a.upkeep.passes)
+  pub beside : (b.log ≡ a.log) × (b.store ≡ a.store)
+  pub line : b.tablet.core.trail ≡ a.tablet.core.trail
+  pub session : part b.tablet.core n ≡ part a.tablet.core n
+  pub place : place_at n b.tablet.places ≡ place_at n a.tablet.places
+
+pub is_over : {L D C : Type 0} (n : ℕ) (a b : EngineView L D C) (job : JobView) (o : Option RowSetData) → job_of n a.upkeep ≡ Some job → HasEndedBy o n a b → IsOver n job a b
+is_over {L} {D} {C} n a b job None has h = record {
+  own = h.upkeep.own ∙ ap (λ (j : JobView). job_finished j.want (upkeep_at n a.upkeep.passes)) (some_is h.job job (sym h.had ∙ has));
+  beside = (ap (λ (v : EngineView L D C). v.log) h.beside, ap (λ (v : EngineView L D C). v.store) h.beside);
+  line = ap (λ x. x.trail) h.changed.stores;
+  session = ap (λ x. part x n) h.changed.stores;
+  place = ap (λ (t : View C). place_at n t.places) h.changed.beside;
+}
+is_over {L} {D} {C} n a b job (Some d) has h = record {
+  own = h.upkeep.own ∙ ap (λ (j : JobView). job_finished j.want (upkeep_at n a.upkeep.passes)) (some_is h.job job (sym h.had ∙ has));
+  beside = (ap (λ (v : EngineView L D C). v.log) h.beside, ap (λ (v : EngineView L D C). v.store) h.beside);
+  line = ap (λ (v : EngineView L D C). v.tablet.core.trail) h.beside;
+  session = ap (λ (v : EngineView L D C). part v.tablet.core n) h.beside;
+  place = ap (λ (v : EngineView L D C). place_at n v.tablet.places) h.beside;
+}
+
+-- the session stands behind it as before
+pub stands_over : {L D C : Type 0} (n : ℕ) (a b c : EngineView L D C) (job : JobView) → StandsAs n a b → IsOver n job b c → StandsAs n a c
+stands_over n a b c job first h = record { line = subst (λ (t : List Event). AddsStop a.tablet.core.trail t) (sym h.line) first.line; session = h.session ∙ first.session; place = h.place ∙ first.place }
+
+-- and where the tablet stays
+pub stands_on : {L D C : Type 0} (n : ℕ) (a b c : EngineView L D C) → StandsAs n a b → c.tablet ≡ b.tablet → StandsAs n a c
+stands_on {L} {D} {C} n a b c first same = record {
+  line = subst (λ (t : List Event). AddsStop a.tablet.core.trail t) (sym (ap (λ (t : View C). t.core.trail) same)) first.line;
+  session = ap (λ (t : View C). part t.core n) same ∙ first.session;
+  place = ap (λ (t : View C). place_at n t.places) same ∙ first.place;
+}
+
+-- what it gave it has given then
+gives_for : {L D C : Type 0} (a b : EngineView L D C) (w : Want) (job : JobView) → root_of b ≡ root_of a → GivesFor (IsFound a) w job → GivesFor (IsFound b) w job
+gives_for a b want.Flush job root g = gives_then a b job job.stage job.super root g
+gives_for a b (want.Compact taken) job root g = gives_then a b job job.stage job.super root g
+gives_for a b (want.FlushDeltas r) job root g = g
+gives_for a b (want.Minor r) job root g = g
+gives_for a b (want.Major r) job root g = g
+
+-- the pass asked once more, and what it asked for is done
+module _ {L D C : Type 0} (n : ℕ) (e0 e1 e2 e3 e4 : EngineView L D C) (w : Want) (begun : HasBegun n e1 e2 w) (asks : KeepsAsks n e2.upkeep e3.upkeep) (ends : MayEnd e3 n w) (over : IsOver n ends.job e3 e4) where
+  pub has_run : e1.upkeep ≡ e0.upkeep → IsVisit n e3 e4 → HasRun n w e0 e4
+  has_run same visit = record {
+    job = ends.job;
+    upkeep = over.own ∙ ap (λ (x : Want). job_finished x (upkeep_at n e3.upkeep.passes)) ends.given.want_is ∙ ap (job_finished w) asks.own
+        ∙ ap (λ (u : UpkeepView). job_finished w (record u { job = job_of n e3.upkeep })) begun.own
+        ∙ ap (λ (o : Option JobView). record (ran w ends.job (upkeep_at n e1.upkeep.passes)) { done = o }) ends.has
+        ∙ ap (λ (u : UpkeepsView). ran w ends.job (upkeep_at n u.passes)) same;
+    given = record { want_is = ends.given.want_is; gives = gives_for e3 e4 w ends.job (root_stays n e3 e4 visit) ends.given.gives };
+  }
+
+  pub run_home : IsReady e1 → e3.log ≡ e2.log → e3.store.holder ≡ None → HasNoDevice n e4
+  run_home r log home =
+      no_device n e4
+      (ap (λ l. l.holder) over.beside.0 ∙ ap (λ l. l.holder) log ∙ ap (λ (v : EngineView L D C). v.log.holder) begun.beside ∙ r.settled.2)
+      (ap (λ s. s.holder) over.beside.1 ∙ home)

@@ -1,6 +1,6 @@
 -- A job on the files of one disk rowset, step by step.
-use Rattle.std.proofs.Common.{◌≡◌, ◌≢◌, ◌≤◌, ◌<◌, ◌+◌, ℕ, Bool, true, false, cond, List, [], ◌∷◌, Option, Some, None, Result, Ok, Err, inl, refl, sym, ap, subst, ◌∙◌, arith}
-use Rattle.std.specs.Prelude.{IsTrue, IfOk, OnOk, ◌==◌}
+use Rattle.std.proofs.Common.{◌≡◌, ◌≤◌, ◌+◌, ℕ, Bool, true, false, cond, List, [], ◌∷◌, Option, Some, Result, Ok, Err, inl, refl, sym, ap, subst, ◌∙◌, arith}
+use Rattle.std.specs.Prelude.{IsTrue, IfOk, ◌==◌}
 use Rattle.kt_disk.specs.Disk.{Files}
 use Rattle.kt_history.specs.declared.target.Target.{Target}
 use Rattle.kt_history.specs.declared.target.Target.TheVariants.{Mem, Delta}
@@ -13,7 +13,8 @@ use Rattle.kt_super.specs.declared.meta.MetaRowset.{MetaRowset}
 use Rattle.kt_super.specs.Rowsets.{is_small, AreRowsets}
 use Rattle.kt_diskrowset.specs.declared.data.RowSetData.{RowSetData}
 use Rattle.kt_diskrowset.specs.Data.{files_in, held_in, store_in}
-use Rattle.kt_diskrowset.specs.Rows.{store_with}
+use Rattle.kt_diskrowset.specs.declared.inputs.Inputs.{Inputs}
+use Rattle.kt_diskrowset.specs.Rows.{UndosLeadBack, store_with}
 use Rattle.kt_diskrowset.proofs.UndosFit.{fit_lead_back}
 use Rattle.kt_files.specs.Reading.{HoldsRowset}
 use Rattle.kt_outputs.specs.Outputs.{meta_in, IsWhole}
@@ -26,30 +27,25 @@ use Rattle.kt_storeside.specs.Sides.{StoreView, MayBeLent, IsSide}
 use Rattle.kt_storeside.proofs.Named.{first_file}
 use Rattle.kt_pick.specs.declared.rules.Want.{Want}
 use Rattle.kt_pick.specs.declared.rules.Want.TheVariants as want
-use Rattle.kt_storeside.specs.declared.side.Lent.{Lent}
 use Rattle.kt_tablet.specs.Views.{View}
 use Rattle.kt_tablet.specs.Jobs.{dms_in, store_in_names, next_dms, files_of}
 use Rattle.kt_engine.specs.declared.upkeep.Stage.{Stage}
 use Rattle.kt_engine.specs.declared.upkeep.Stage.TheVariants as stage
-use Rattle.kt_engine.specs.Engines.{EngineView}
-use Rattle.kt_engine.specs.declared.job.MaintNo.{MaintNo}
-use Rattle.kt_engine.specs.declared.job.MaintNo.TheVariants as no
+use Rattle.kt_engine.specs.Engines.{EngineView, IsFound}
 use Rattle.kt_engine.specs.Stored.{IsStored, next_super}
 use Rattle.kt_engine.specs.Files.{IsFiled, AreFiled}
-use Rattle.kt_engine.specs.Jobs.{JobView, UpkeepView, UpkeepsView, job_of, upkeep_at, job_finished, IsUnpublished}
-use Rattle.kt_engine.specs.JobSteps.{AtNewStage, IsLent}
-use Rattle.kt_engine.specs.Visits.{IsVisit}
-use Rattle.kt_engine.specs.DeltaJobs.{HasBegunDeltas, IsOn, IsRead, RedosAs, HasShape, FilesStay, StayIn, delta_meta, lent_deltas, MayPublishDeltas, MayFinishDeltas}
+use Rattle.kt_engine.specs.Jobs.{JobView, UpkeepView, UpkeepsView, job_of, IsUnpublished}
+use Rattle.kt_engine.specs.JobSteps.{HasInput, AtNewStage}
+use Rattle.kt_engine.specs.JobCalls.{ByWant, HasReadRowset, GivesOne, MayEndBy}
+use Rattle.kt_engine.specs.DeltaJobs.{IsOn, IsRead, RedosAs, HasShape, FilesStay, StayIn, delta_meta, MayPublishDeltas, MayFinishDeltas}
 use Rattle.kt_engine.proofs.Filed.{entry_number}
+use Rattle.kt_engine.proofs.JobCalls.{by_rowset, as_rowset}
 use Rattle.kt_engine.proofs.Stored.{filed_now}
 use Rattle.kt_maint.specs.Done.{GivesRewritten, GivesFor}
-use Rattle.kt_maint.specs.declared.tries.Turn.{Turn}
-use Rattle.kt_maint.specs.declared.tries.Turn.TheVariants as turn
-use Rattle.kt_maint.specs.Runs.{over, ran, RunsAs, KeepsAsks, IsQuiet, IsReady, HasTurned, MayAbandon, IsPublishing, IsPublished}
-use Rattle.kt_maint.specs.DeltaRuns.{EndsAs, DeltasAt, Leaves, IsMade, HasRewritten, IsPublishedRowset}
-use Rattle.kt_maint.proofs.Coming.{its_job}
+use Rattle.kt_maint.specs.Runs.{IsQuiet, IsReady, MayAbandon, IsPublished, going_out}
+use Rattle.kt_maint.specs.DeltaRuns.{DeltasAt, Leaves, IsMade, HasRewritten}
+use Rattle.kt_maint.specs.JobRuns.{HasHandedIn, HasHandedOne, HandsIn, OneIsWritten, MayEnd}
 use Rattle.kt_maint.proofs.Stages.{some_is}
-use Rattle.kt_maint.proofs.Visiting.{LentOut}
 use Rattle.kt_maint.proofs.Kept.{IsOfSuper, entry_rules, keeps_rowset, files_stay, kept_stand}
 
 -- ---- what is written again
@@ -79,16 +75,20 @@ shape_kept w a b same none shape = record {
   redos = subst (RedosAs w) (sym same) shape.redos;
 }
 
+-- a list of one
+pub one_is : (x y : RowSetData) → x ∷ [] ≡ y ∷ [] → x ≡ y
+one_is x y e = cc
+
 module _ {L D C : Type 0} (n : ℕ) (w : Want) where
   -- ---- the job comes further
 
-  abbrev pub at_then : {s : Stage} (a b : EngineView L D C) (at : DeltasAt a n w s) (t : Stage) (dms : ℕ) (read output : Option RowSetData) → AtNewStage n (record at.job { stage = t; dms = dms; read = read; output = output }) a b → DeltasAt b n w t
-  at_then a b at t dms read output h = record {
-    job = record at.job { stage = t; dms = dms; read = read; output = output };
+  abbrev pub at_then : {s : Stage} (a b : EngineView L D C) (at : DeltasAt a n w s) (t : Stage) (job : JobView) → job.stage ≡ t → job.want ≡ at.job.want → job.rowset ≡ at.job.rowset → AtNewStage n job a b → DeltasAt b n w t
+  at_then a b at t job stage want rowset h = record {
+    job = job;
     has = ap (λ (u : UpkeepView). u.job) h.upkeep.own;
-    at = refl;
-    want = at.want;
-    on = at.on;
+    at = stage;
+    want = want ∙ at.want;
+    on = subst (λ (r : ℕ). IsOn r w) (sym rowset) at.on;
     free = h.begun.1 ∙ at.free;
     begun = λ e. at.begun (sym h.begun.0 ∙ e);
   }
@@ -96,22 +96,48 @@ module _ {L D C : Type 0} (n : ℕ) (w : Want) where
   pub may_abandon : {s : Stage} (v : EngineView L D C) → DeltasAt v n w s → IsUnpublished s → MayAbandon v n
   may_abandon v at early = record { job = at.job; has = at.has; early = subst IsUnpublished (sym at.at) early; free = at.free }
 
+  -- its disk rowset was handed out
+  pub record ReadsOne (a b : EngineView L D C) (at : DeltasAt a n w stage.Begun) (d : RowSetData) : Type 0 where
+    pub bound : ℕ
+    pub mark : ℕ
+    pub inputs : Inputs
+    pub dms : ℕ
+    pub is : IsRead a.tablet at.job.rowset dms d
+    pub held : files_of d.number a.tablet.files ≡ Some (held_in d)
+    pub later : AtNewStage n (record at.job { stage = stage.Read; bound = bound; mark = mark; inputs = Some inputs; dms = dms; read = Some d }) a b
+
+  -- alone
+  pub reads_one : (tells : Bool) (seen : D → Files) (a b : EngineView L D C) (at : DeltasAt a n w stage.Begun) (inputs : Inputs) (bound mark : ℕ)
+      → ByWant at.job.want (HasInput a.tablet at.job.taken inputs bound mark × AtNewStage n (record at.job { stage = stage.Read; bound = bound; mark = mark; inputs = Some inputs }) a b) (λ r. HasReadRowset tells seen n at.job inputs bound mark a b)
+      → (h : HasReadRowset tells seen n at.job inputs bound mark a b) × ((d : RowSetData) → inputs.rowsets ≡ d ∷ [] → ReadsOne a b at d)
+  reads_one tells seen a b at inputs bound mark read =
+      let h = by_rowset (HasInput a.tablet at.job.taken inputs bound mark × AtNewStage n (record at.job { stage = stage.Read; bound = bound; mark = mark; inputs = Some inputs }) a b) (λ r. HasReadRowset tells seen n at.job inputs bound mark a b) at.job.want at.job.rowset (subst (IsOn at.job.rowset) (sym at.want) at.on) read in (
+        h,
+        λ d e. subst (ReadsOne a b at) (one_is h.d d (sym h.alone.1 ∙ e)) (record { bound = bound; mark = mark; inputs = inputs; dms = h.dms; is = h.is; held = h.held; later = h.later }),
+      )
+
+  pub read_at : (a b : EngineView L D C) (at : DeltasAt a n w stage.Begun) (d : RowSetData) → ReadsOne a b at d → DeltasAt b n w stage.Read
+  read_at a b at d h = at_then a b at stage.Read (record at.job { stage = stage.Read; bound = h.bound; mark = h.mark; inputs = Some h.inputs; dms = h.dms; read = Some d }) refl refl refl h.later
+
+  pub read_on : (a b : EngineView L D C) (at : DeltasAt a n w stage.Begun) (d : RowSetData) → ReadsOne a b at d → IsOn d.number w
+  read_on a b at d h = subst (λ (r : ℕ). IsOn r w) (sym h.is.number) at.on
+
   -- what was read and written as it is to be
-  pub made : (a b : EngineView L D C) (at : DeltasAt a n w stage.Begun) (read d : RowSetData) (dms : ℕ) → IsRead a.tablet at.job.rowset dms read → AtNewStage n (record at.job { stage = stage.Read; dms = dms; read = Some read }) a b → IsRewritten read d → HasShape w d → IsWhole d
-      → files_of read.number a.tablet.files ≡ Some (held_in read) → Leaves w (held_in read) (held_in d) → IsMade b n w d
-  made a b at read d dms is h rewritten shape whole has leaves =
-      let tablet : b.tablet ≡ a.tablet = ap (λ (v : EngineView L D C). v.tablet) h.beside in
+  pub made : (a b : EngineView L D C) (at : DeltasAt a n w stage.Begun) (read d : RowSetData) → ReadsOne a b at read → IsRewritten read d → HasShape w d → IsWhole d → Leaves w (held_in read) (held_in d) → IsMade b n w d
+  made a b at read d h rewritten shape whole leaves =
+      let is = h.is in
+      let tablet : b.tablet ≡ a.tablet = ap (λ (v : EngineView L D C). v.tablet) h.later.beside in
       let number : d.number ≡ at.job.rowset = rewritten.number ∙ is.number in
       record {
-        at = at_then a b at stage.Read dms (Some read) at.job.output h;
+        at = at_then a b at stage.Read (record at.job { stage = stage.Read; bound = h.bound; mark = h.mark; inputs = Some h.inputs; dms = h.dms; read = Some read }) refl refl refl h.later;
         all = record {
-          name = subst (λ (t : View C). dms_in d.number t.names ≡ Some dms) (sym tablet) (ap (λ (r : ℕ). dms_in r a.tablet.names) number ∙ is.name);
+          name = subst (λ (t : View C). dms_in d.number t.names ≡ Some h.dms) (sym tablet) (ap (λ (r : ℕ). dms_in r a.tablet.names) number ∙ is.name);
           store = subst (λ (t : View C). store_in d ≡ store_in_names d.number t.names t.core.stores) (sym tablet) (rewritten.store ∙ is.store ∙ ap (λ (r : ℕ). store_in_names r a.tablet.names a.tablet.core.stores) (sym number));
           fresh = rewritten.fresh;
         };
         shape = shape;
         was = held_in read;
-        there = subst (λ (t : View C). files_of d.number t.files ≡ Some (held_in read)) (sym tablet) (ap (λ (r : ℕ). files_of r a.tablet.files) rewritten.number ∙ has);
+        there = subst (λ (t : View C). files_of d.number t.files ≡ Some (held_in read)) (sym tablet) (ap (λ (r : ℕ). files_of r a.tablet.files) rewritten.number ∙ h.held);
         leaves = leaves;
         read = read;
         has_read = (refl, refl);
@@ -120,10 +146,10 @@ module _ {L D C : Type 0} (n : ℕ) (w : Want) where
         whole = whole;
       }
 
-  pub made_result : {E : Type 0} (a b : EngineView L D C) (at : DeltasAt a n w stage.Begun) (read : RowSetData) (dms : ℕ) → IsRead a.tablet at.job.rowset dms read → AtNewStage n (record at.job { stage = stage.Read; dms = dms; read = Some read }) a b
-      → (r : Result RowSetData E) → IfOk r (IsRewritten read) → IfOk r (HasShape w) → IfOk r IsWhole → files_of read.number a.tablet.files ≡ Some (held_in read) → IfOk r (λ d. Leaves w (held_in read) (held_in d)) → IfOk r (IsMade b n w)
-  made_result a b at read dms is h (Ok d) rewritten shape whole has leaves = made a b at read d dms is h rewritten shape whole has leaves
-  made_result a b at read dms is h (Err lost) rewritten shape whole has leaves = tt
+  pub made_result : {E : Type 0} (a b : EngineView L D C) (at : DeltasAt a n w stage.Begun) (read : RowSetData) → ReadsOne a b at read → (r : Result RowSetData E) → IfOk r (IsRewritten read) → IfOk r (HasShape w) → IfOk r IsWhole → IfOk r (λ d. Leaves w (held_in read) (held_in d))
+      → IfOk r (IsMade b n w)
+  made_result a b at read h (Ok d) rewritten shape whole leaves = made a b at read d h rewritten shape whole leaves
+  made_result a b at read h (Err lost) rewritten shape whole leaves = tt
 
 -- what memory has of files then is what the published superblock names
 pub filed_after : {L D C : Type 0} {log_tells tells : Bool} {log_seen : L → Files} {seen : D → Files} {faults : D → ℕ} (n : ℕ) (w : Want) (e1 e2 : EngineView L D C) (d : RowSetData) → IsMade e1 n w d → e2.upkeep ≡ e1.upkeep → IsStored log_tells log_seen tells seen faults e2
@@ -137,6 +163,12 @@ no_flush w r on is = subst (IsOn r) is on
 
 no_compaction : (w : Want) (r : ℕ) → IsOn r w → (rs : List ℕ) → w ≡ want.Compact rs → ⊥
 no_compaction w r on rs is = subst (IsOn r) is on
+
+-- what was handed in is the one that was written
+handed_as : {L D C : Type 0} (n : ℕ) (job : JobView) (outputs : List RowSetData) (out : RowSetData) (a b : EngineView L D C) → outputs ≡ out ∷ [] → HasHandedOne n job outputs a b
+    → ((undos_fit (files_in out) ≡ true) × UndosLeadBack (files_in out)) × AtNewStage n (record job { stage = stage.Written; output = Some out }) a b
+handed_as n job outputs out a b alone h =
+    subst (λ (d : RowSetData). ((undos_fit (files_in d) ≡ true) × UndosLeadBack (files_in d)) × AtNewStage n (record job { stage = stage.Written; output = Some d }) a b) (one_is h.d out (sym h.alone ∙ alone)) (h.fits, h.later)
 
 -- ---- its superblock
 
@@ -204,61 +236,66 @@ module _ {L D C : Type 0} (tells : Bool) (seen : D → Files) (now : D → ℕ) 
     stand told = kept_stand (seen e2.store.known) its_files.entry its_files.held is.was d its_files.names its_files.is (its_files.holds told) is.whole w is.leaves (no_flush w d.number is.shape.on) (no_compaction w d.number is.shape.on)
 
     -- as the job asks it
-    pub swap_stays : e2.upkeep ≡ e1.upkeep → (j : JobView) → job_of n e2.upkeep ≡ Some j → StayIn j.want e2.tablet.files out
+    swap_stays : e2.upkeep ≡ e1.upkeep → (j : JobView) → job_of n e2.upkeep ≡ Some j → StayIn j.want e2.tablet.files out
     swap_stays same j has =
         let one : is.at.job ≡ j = some_is is.at.job j (sym is.at.has ∙ sym (ap (job_of n) same) ∙ has) in
         subst (λ (x : Want). StayIn x e2.tablet.files out) (sym is.at.want ∙ ap (λ (x : JobView). x.want) one) stays
 
+    pub swap_gives : (outputs : List RowSetData) → outputs ≡ out ∷ [] → e2.upkeep ≡ e1.upkeep → (j : JobView) → job_of n e2.upkeep ≡ Some j → ByWant j.want (Unit {0}) (λ r. GivesOne j.want e2.tablet.files outputs)
+    swap_gives outputs alone same j has =
+        let one : is.at.job ≡ j = some_is is.at.job j (sym is.at.has ∙ sym (ap (job_of n) same) ∙ has) in
+        let shape : HasShape j.want out = subst (λ (x : Want). HasShape x out) (sym is.at.want ∙ ap (λ (x : JobView). x.want) one) (shape_kept w d out files.same files.fresh is.shape) in
+        as_rowset (Unit {0}) (λ r. GivesOne j.want e2.tablet.files outputs) j.want out.number shape.on (record { d = out; alone = alone; shape = shape; stay = swap_stays same j has })
+
   -- the job whose rowset is written and was handed in
-  pub may_publish : (n : ℕ) (w : Want) (e0 e1 e2 e3 : EngineView L D C) (d out : RowSetData) → a_rewritten_rowset_comes_in_place → a_rewritten_rowset_stands_in_place → IsSide tells seen now leaves faults e0.store → IsReady e0
+  pub one_written : (n : ℕ) (w : Want) (e0 e1 e2 e3 : EngineView L D C) (d out : RowSetData) → a_rewritten_rowset_comes_in_place → a_rewritten_rowset_stands_in_place → IsSide tells seen now leaves faults e0.store → IsReady e0
       → IsQuiet n e0 e1 → e1 ≡ record e0 { upkeep = e1.upkeep } → IsMade e1 n w d → IsQuiet n e1 e2 → e2.upkeep ≡ e1.upkeep → HasRewritten tells seen now leaves e1.store e2.store d out
-      → ((j : JobView) → job_of n e2.upkeep ≡ Some j → AtNewStage n (record j { stage = stage.Written; output = Some out }) e2 e3) → undos_fit (files_in out) ≡ true
-      → AreFiled tells (seen e2.store.known) e2.store.meta.rowsets e2.tablet.files → (x : RowSetData) × ((at : DeltasAt e3 n w stage.Written) × MayPublishDeltas tells seen now leaves e3 at.job x × GivesRewritten at.job)
+      → (outputs : List RowSetData) → outputs ≡ out ∷ [] → ((j : JobView) → job_of n e2.upkeep ≡ Some j → HandsIn n j outputs e2 e3) → AreFiled tells (seen e2.store.known) e2.store.meta.rowsets e2.tablet.files → OneIsWritten tells seen now leaves e3 n w
   unfolding stays
-  may_publish n w e0 e1 e2 e3 d out comes stands side ready q1 beside1 is q2 same files later fits filed =
+  one_written n w e0 e1 e2 e3 d out comes stands side ready q1 beside1 is q2 same files outputs alone hands filed =
       let job = is.at.job in
       let has : job_of n e2.upkeep ≡ Some job = ap (job_of n) same ∙ is.at.has in
       let at2 : DeltasAt e2 n w stage.Read = record { job = job; has = has; at = is.at.at; want = is.at.want; on = is.at.on; free = ap (λ (u : UpkeepsView). u.publishing) same ∙ is.at.free; begun = λ e. is.at.begun (sym (ap (λ (u : UpkeepsView). u.begun) same) ∙ e) } in
-      let h = later job has in
+      let handed = handed_as n job outputs out e2 e3 alone (by_rowset (HasHandedIn n job outputs e2 e3) (λ r. HasHandedOne n job outputs e2 e3) job.want job.rowset (subst (IsOn job.rowset) (sym is.at.want) is.at.on) (hands job has)) in
+      let h = handed.1 in
       let store3 : e3.store ≡ e2.store = ap (λ (v : EngineView L D C). v.store) h.beside in
       let tablet : e3.tablet ≡ e1.tablet = ap (λ (v : EngineView L D C). v.tablet) h.beside ∙ q2.tablet in
       let written : HasRewritten tells seen now leaves e1.store e3.store d out = subst (λ (s : StoreView D). HasRewritten tells seen now leaves e1.store s d out) (sym store3) files in
       let number : out.number ≡ d.number = ap (λ (f : DiskRowset). f.rowset) files.same in
       let entry : MetaRowset = (its_files n w e0 e1 e2 d out side beside1 is q2 files filed).entry in
-      let at3 = at_then n w e2 e3 at2 stage.Written job.dms job.read (Some out) h in (
-        out,
-        (
-          at3,
-          record {
-            at = refl;
-            output = refl;
-            shape = subst (λ (x : Want). HasShape x out) (sym is.at.want) (shape_kept w d out files.same files.fresh is.shape);
-            stay = subst (λ (x : Want). StayIn x e3.tablet.files out) (sym is.at.want) (subst (λ (t : View C). StayIn w t.files out) (sym (ap (λ (v : EngineView L D C). v.tablet) h.beside)) (stays n w e0 e1 e2 d out side beside1 is q2 files filed));
-            calm = ap (λ (t : View C). t.core.aloft) (tablet ∙ q1.tablet) ∙ ready.calm;
-            all = record {
-              name = subst (λ (t : View C). dms_in out.number t.names ≡ Some job.dms) (sym tablet) (ap (λ (r : ℕ). dms_in r e1.tablet.names) number ∙ is.all.name);
-              store = subst (λ (t : View C). store_in out ≡ store_in_names out.number t.names t.core.stores) (sym tablet)
-                  (files_tell d out files.same is.all.fresh files.fresh ∙ is.all.store ∙ ap (λ (r : ℕ). store_in_names r e1.tablet.names e1.tablet.core.stores) (sym number));
-              fresh = files.fresh;
-            };
-            fits = fits;
-            begun = at3.begun;
-            hold = λ told. subst (λ (s : StoreView D). HoldsRowset (seen s.known) (meta_in job.dms out) (held_in out)) (sym store3) (files.holds told (stand n w e0 e1 e2 d out side beside1 is q2 files filed told) job.dms);
-            lent = in_place_lent e1 e3 d out job.dms (its_side n w e0 e1 e2 d out side beside1 is q2 files filed) written entry
-                (subst (λ (s : StoreView D). entry_of out.number s.meta.rowsets ≡ Some entry) (sym store3) (ap (λ (r : ℕ). entry_of r e2.store.meta.rowsets) number ∙ (its_files n w e0 e1 e2 d out side beside1 is q2 files filed).there))
-                (subst (λ (s : StoreView D). KeepsRowset e1.store.next_file s.next_file entry (meta_in job.dms out)) (sym store3) (keeps n w e0 e1 e2 d out side beside1 is q2 files filed job.dms)) comes stands;
-          },
-          record {
-            was = is.read;
-            read = is.has_read.0;
-            now = out;
-            gave = refl;
-            same = files_tell d out files.same is.all.fresh files.fresh ∙ is.same;
-            shape = subst (λ (x : Want). HasShape x out) (sym is.at.want) (shape_kept w d out files.same files.fresh is.shape);
-            stay = subst (λ (x : Want). FilesStay x (held_in is.read) (held_in out)) (sym is.at.want) (subst (λ (h : HeldFiles). FilesStay w h (held_in out)) is.has_read.1 (stays n w e0 e1 e2 d out side beside1 is q2 files filed).stay);
-          },
-        ),
-      )
+      let at3 = at_then n w e2 e3 at2 stage.Written (record job { stage = stage.Written; output = Some out }) refl refl refl h in
+      record {
+        d = out;
+        at = at3;
+        may = record {
+          at = refl;
+          output = refl;
+          shape = subst (λ (x : Want). HasShape x out) (sym is.at.want) (shape_kept w d out files.same files.fresh is.shape);
+          stay = subst (λ (x : Want). StayIn x e3.tablet.files out) (sym is.at.want) (subst (λ (t : View C). StayIn w t.files out) (sym (ap (λ (v : EngineView L D C). v.tablet) h.beside)) (stays n w e0 e1 e2 d out side beside1 is q2 files filed));
+          calm = ap (λ (t : View C). t.core.aloft) (tablet ∙ q1.tablet) ∙ ready.calm;
+          all = record {
+            name = subst (λ (t : View C). dms_in out.number t.names ≡ Some job.dms) (sym tablet) (ap (λ (r : ℕ). dms_in r e1.tablet.names) number ∙ is.all.name);
+            store = subst (λ (t : View C). store_in out ≡ store_in_names out.number t.names t.core.stores) (sym tablet)
+                (files_tell d out files.same is.all.fresh files.fresh ∙ is.all.store ∙ ap (λ (r : ℕ). store_in_names r e1.tablet.names e1.tablet.core.stores) (sym number));
+            fresh = files.fresh;
+          };
+          fits = handed.0.0;
+          begun = at3.begun;
+          hold = λ told. subst (λ (s : StoreView D). HoldsRowset (seen s.known) (meta_in job.dms out) (held_in out)) (sym store3) (files.holds told (stand n w e0 e1 e2 d out side beside1 is q2 files filed told) job.dms);
+          lent = in_place_lent e1 e3 d out job.dms (its_side n w e0 e1 e2 d out side beside1 is q2 files filed) written entry
+              (subst (λ (s : StoreView D). entry_of out.number s.meta.rowsets ≡ Some entry) (sym store3) (ap (λ (r : ℕ). entry_of r e2.store.meta.rowsets) number ∙ (its_files n w e0 e1 e2 d out side beside1 is q2 files filed).there))
+              (subst (λ (s : StoreView D). KeepsRowset e1.store.next_file s.next_file entry (meta_in job.dms out)) (sym store3) (keeps n w e0 e1 e2 d out side beside1 is q2 files filed job.dms)) comes stands;
+        };
+        gives = record {
+          was = is.read;
+          read = is.has_read.0;
+          now = out;
+          gave = refl;
+          same = files_tell d out files.same is.all.fresh files.fresh ∙ is.same;
+          shape = subst (λ (x : Want). HasShape x out) (sym is.at.want) (shape_kept w d out files.same files.fresh is.shape);
+          stay = subst (λ (x : Want). FilesStay x (held_in is.read) (held_in out)) (sym is.at.want) (subst (λ (h : HeldFiles). FilesStay w h (held_in out)) is.has_read.1 (stays n w e0 e1 e2 d out side beside1 is q2 files filed).stay);
+        };
+      }
 
 -- ---- the next DeltaMemStore takes changes
 
@@ -284,71 +321,10 @@ next_store number (Delta r k ∷ names) (s ∷ stores) = elim (r == number) as (
       | false ↦ λ is. ap (λ (b : Bool). cond b s (store_in_names number (next_dms number names) stores)) is ∙ next_store number names stores
     ] refl
 
--- ---- its superblock went out
-
--- as it is while the next DeltaMemStore takes changes
-abbrev pub renamed : {L D C : Type 0} → ℕ → EngineView L D C → EngineView L D C
-renamed r v = record v { tablet = record v.tablet { names = next_dms r v.tablet.names } }
-
--- which is seen in no other pass's part
-pub visit_renamed : {L D C : Type 0} (n r : ℕ) (b new : EngineView L D C) → IsVisit n (renamed r b) new → IsVisit n b new
-visit_renamed n r b new v = record { line = v.line; parts = v.parts }
-
--- it may be published
-pub is_publishing : {L D C : Type 0} (n r : ℕ) (b out : EngineView L D C) (lent : Lent D) (meta : Meta) (job : JobView) → out ≡ lent_deltas b n r meta out.upkeep → IsLent n job meta.number b.upkeep out.upkeep → meta.number ≡ b.store.meta.number + 1 → meta.schema ≡ b.store.meta.schema
-    → lent.device ≡ b.store.known → lent.meta ≡ Some meta → (lent.next_rowset ≡ b.store.next_rowset) × (lent.next_file ≡ b.store.next_file) → IsTrue b.store.whole → IsPublishing out n lent
-is_publishing {L} {D} {C} n r b out lent meta job is went next schema device same numbers whole = record {
-  out = ap (λ (v : EngineView L D C). v.store.holder) is;
-  whole = subst (λ (v : EngineView L D C). IsTrue v.store.whole) (sym is) whole;
-  device = device ∙ sym (ap (λ (v : EngineView L D C). v.store.known) is);
-  numbers = (numbers.0 ∙ sym (ap (λ (v : EngineView L D C). v.store.next_rowset) is), numbers.1 ∙ sym (ap (λ (v : EngineView L D C). v.store.next_file) is));
-  meta = meta;
-  is = (same, ap (λ (v : EngineView L D C). v.store.lent) is);
-  schema = schema ∙ sym (ap (λ (v : EngineView L D C). v.store.meta.schema) is);
-  job = its_job job meta.number;
-  has = ap (λ (u : UpkeepView). u.job) went.upkeep.own;
-  at = refl;
-  own = (went.begun.1, refl, subst (λ (v : EngineView L D C). v.store.meta.number < meta.number) (sym is) (omega (arith, next)));
-}
-
--- how the store went out
-pub lent_out : {L D C : Type 0} {n : ℕ} (r : ℕ) (b out : EngineView L D C) (lent : Lent D) (meta : Meta) → out ≡ lent_deltas b n r meta out.upkeep → lent.meta ≡ Some meta → LentOut n (renamed r b) lent out
-lent_out {n = n} r b out lent meta is same = is ∙ (λ k. record (renamed r b) { store = record b.store { home = None; holder = Some n; lent = sym same k }; upkeep = out.upkeep })
-
--- it came home published
-pub published_as : {L D C : Type 0} (n r : ℕ) (b out new : EngineView L D C) (meta : Meta) (job : JobView) (answer : Result (Unit {0}) MaintNo) → out ≡ lent_deltas b n r meta out.upkeep → (answer ≢ Err no.Stopped → HasTurned out new) → OnOk answer (IsPublished n job (renamed r b) new)
-    → OnOk answer (IsPublishedRowset n job r b new)
-published_as {L} {D} {C} n r b out new meta job (Ok done) is turned p =
-    let t = turned (λ e. cc) in
-    record {
-      tablet = ap (λ (v : EngineView L D C). v.tablet) t.beside ∙ ap (λ (v : EngineView L D C). v.tablet) is;
-      number = p.number;
-      has = p.has;
-      own = p.own;
-    }
-published_as n r b out new meta job (Err e) is turned p = tt
-
--- once it is published the job may finish
-pub may_finish : {L D C : Type 0} (tells : Bool) (seen : D → Files) (now : D → ℕ) (leaves : D → ℕ → Files → Type 0) (n : ℕ) (c d : EngineView L D C) (job : JobView) (x : RowSetData) → MayPublishDeltas tells seen now leaves c job x → (p : IsPublishedRowset n job x.number c d)
-    → MayFinishDeltas d n (record job { stage = stage.Published; super = p.number }) x
-may_finish {L} {D} {C} tells seen now leaves n c d job x may p = record {
-  at = refl;
-  output = may.output;
-  published = p.own;
-  there = (job.dms + 1, subst (λ (t : View C). dms_in x.number t.names ≡ Some (job.dms + 1)) (sym p.tablet) (next_is x.number job.dms c.tablet.names may.all.name));
-  store = subst (λ (t : View C). store_in x ≡ store_in_names x.number t.names t.core.stores) (sym p.tablet) (may.all.store ∙ sym (next_store x.number c.tablet.names c.tablet.core.stores));
-  fresh = may.all.fresh;
-  lead = fit_lead_back (files_in x) may.fits;
-}
-
--- and then the pass has finished it
-pub ends_done : {L D C : Type 0} (n : ℕ) (w : Want) (a b c : EngineView L D C) (job later : JobView) → KeepsAsks n a.upkeep b.upkeep → job_of n b.upkeep ≡ Some later → later.want ≡ w → upkeep_at n c.upkeep.passes ≡ job_finished later.want (upkeep_at n b.upkeep.passes)
-    → upkeep_at n c.upkeep.passes ≡ over w later (upkeep_at n a.upkeep.passes)
-ends_done n w a b c job later asks had want_is finished =
-    finished ∙ ap (λ (x : Want). job_finished x (upkeep_at n b.upkeep.passes)) want_is ∙ ap (job_finished w) asks.own ∙ ap (λ (o : Option JobView). record (over w later (upkeep_at n a.upkeep.passes)) { done = o }) had
+-- ---- it ends
 
 -- what it gave
-pub gives_published : (job : JobView) (number : ℕ) → GivesRewritten job → GivesRewritten (record job { stage = stage.Published; super = number })
+gives_published : (job : JobView) (number : ℕ) → GivesRewritten job → GivesRewritten (record job { stage = stage.Published; super = number })
 gives_published job number g = record { was = g.was; read = g.read; now = g.now; gave = g.gave; same = g.same; shape = g.shape; stay = g.stay }
 
 pub rewritten_for : (found : Past → Type 0) (w : Want) (r : ℕ) (job : JobView) → IsOn r w → GivesRewritten job → GivesFor found w job
@@ -358,17 +334,30 @@ rewritten_for found (want.FlushDeltas s) r job on g = g
 rewritten_for found (want.Minor s) r job on g = g
 rewritten_for found (want.Major s) r job on g = g
 
--- the pass asked, and what it began has ended
-pub ran_deltas : {L D C : Type 0} (n k : ℕ) (w : Want) (e0 e1 e2 e3 e4 : EngineView L D C) → e1.upkeep ≡ e0.upkeep → HasBegunDeltas e1 e2 n w k → KeepsAsks n e2.upkeep e3.upkeep → (t : Turn) → EndsAs n w e3 e4 t → RunsAs n w e0 e4 t
-ran_deltas n k w e0 e1 e2 e3 e4 same begun asks turn.Done ends = (
-  record {
-    job = ends.0.job;
-    upkeep = ends.0.upkeep ∙ ap (over w ends.0.job) asks.own ∙ ap (λ (u : UpkeepView). over w ends.0.job (record u { job = job_of n e3.upkeep })) begun.upkeep.own ∙ ap (λ (u : UpkeepsView). ran w ends.0.job (upkeep_at n u.passes)) same;
-    given = ends.0.given;
-  },
-  ends.1,
-)
-ran_deltas n k w e0 e1 e2 e3 e4 same begun asks turn.Nothing ends = absurd ends
-ran_deltas n k w e0 e1 e2 e3 e4 same begun asks turn.Wait ends = absurd ends
-ran_deltas n k w e0 e1 e2 e3 e4 same begun asks turn.Memory ends = ends
-ran_deltas n k w e0 e1 e2 e3 e4 same begun asks turn.Stopped ends = ends
+module _ {L D C : Type 0} (tells : Bool) (seen : D → Files) (now : D → ℕ) (leaves : D → ℕ → Files → Type 0) (n : ℕ) (c d : EngineView L D C) where
+  -- once its superblock is published it may finish
+  may_finish : (job : JobView) (x : RowSetData) → MayPublishDeltas tells seen now leaves c job x → (p : IsPublished n job c d) → MayFinishDeltas d n (record job { stage = stage.Published; super = p.number }) x
+  may_finish job x may p =
+      let tablet : d.tablet ≡ record c.tablet { names = next_dms x.number c.tablet.names } = p.tablet ∙ ap (λ (o : Option RowSetData). going_out o c.tablet) may.output in
+      record {
+        at = refl;
+        output = may.output;
+        published = p.own;
+        there = (job.dms + 1, subst (λ (t : View C). dms_in x.number t.names ≡ Some (job.dms + 1)) (sym tablet) (next_is x.number job.dms c.tablet.names may.all.name));
+        store = subst (λ (t : View C). store_in x ≡ store_in_names x.number t.names t.core.stores) (sym tablet) (may.all.store ∙ sym (next_store x.number c.tablet.names c.tablet.core.stores));
+        fresh = may.all.fresh;
+        lead = fit_lead_back (files_in x) may.fits;
+      }
+
+  -- and has given what its want asks for
+  pub one_ends : (w : Want) → OneIsWritten tells seen now leaves c n w → ((j : JobView) → job_of n c.upkeep ≡ Some j → IsPublished n j c d) → MayEnd d n w
+  one_ends w x published =
+      let job = x.at.job in
+      let p = published job x.at.has in
+      let later : JobView = record job { stage = stage.Published; super = p.number } in
+      record {
+        job = later;
+        has = p.has;
+        may = subst (MayEndBy d n later) (sym x.may.output) (may_finish job x.d x.may p);
+        given = record { want_is = x.at.want; gives = rewritten_for (IsFound d) w job.rowset later x.at.on (gives_published job p.number x.gives) };
+      }

@@ -7,6 +7,9 @@ pub mod Coming
 pub mod Kept
 pub mod DeltaSteps
 pub mod Stages
+pub mod ByWants
+pub mod HandedIn
+pub mod JobEnds
 pub mod Begun
 pub mod Merged
 pub mod Written

@@ -26,16 +26,16 @@ use Rattle.kt_joblaws.specs.Outputs.{outputs_pass, marks_may_rise}
 use Rattle.kt_tablet.specs.Jobs.{taken_stores, rows_in_first}
 use Rattle.kt_pick.specs.declared.rules.Want.{Want}
 use Rattle.kt_pick.specs.declared.rules.Want.TheVariants as want
-use Rattle.kt_engine.specs.Jobs.{JobView, job_of, takes_by, takes_of, taken_by}
+use Rattle.kt_engine.specs.Jobs.{JobView, takes_by, takes_of, taken_by}
 use Rattle.kt_engine.proofs.JobOut.{frozen_are_taken}
 use Rattle.kt_engine.specs.Engines.{EngineView, IsFound, IsContent}
 use Rattle.kt_engine.specs.Logged.{PlanPasses}
 use Rattle.kt_engine.specs.JobSteps.{IsMerge, HasInput, TellAll, TellPassing, HoldInputs, TakesFrozen, TakesInputs, TakesBy, stores_read}
+use Rattle.kt_engine.specs.declared.upkeep.Stage.{Stage}
 use Rattle.kt_engine.specs.declared.upkeep.Stage.TheVariants as stage
 use Rattle.kt_engine.specs.Visits.{Root, root_of}
 use Rattle.kt_maint.specs.Done.{FoundBy, AreMerged, GivesMerged, GivesFor}
-use Rattle.kt_maint.specs.Runs.{HoldsMerged, JobHas, KeepsRead}
-use Rattle.kt_maint.proofs.Stages.{some_is}
+use Rattle.kt_maint.specs.Runs.{HoldsMerged, JobHas}
 
 -- ---- the outputs
 
@@ -154,30 +154,27 @@ taken_is v job (want.FlushDeltas r) never = absurd never
 taken_is v job (want.Minor r) never = absurd never
 taken_is v job (want.Major r) never = absurd never
 
--- the outputs of a job that is published are what merging makes
-pub gives_merged : {L D C : Type 0} (n : ℕ) (e1 e3 e4 : EngineView L D C) (merged out : List RowSetData) (first number : ℕ) → root_of e4 ≡ root_of e1 → ((job : JobView) → job_of n e1.upkeep ≡ Some job → AreMerged (IsFound e1) job merged) → KeepsRead n e1.upkeep e3.upkeep → AreWritten first merged out
-    → (has : JobHas e3 n stage.Written out) → GivesMerged (IsFound e4) (record has.at.job { stage = stage.Published; super = number })
-gives_merged {L} {D} {C} n e1 e3 e4 merged out first number root made keeps written has =
-    let own : has.at.job ≡ keeps.job = some_is has.at.job keeps.job (sym has.at.has ∙ keeps.has) in
-    record {
-      taken = taken_is e3 has.at.job has.at.job.want has.at.takes.takes;
-      made = merged;
-      merged = merged_same (IsFound e1) (IsFound e4) (λ past. subst (λ (r : Root L D C). FoundBy r past) root) keeps.was (record has.at.job { stage = stage.Published; super = number })
-          (ap (λ (j : JobView). j.inputs) own ∙ keeps.inputs) (ap (λ (j : JobView). j.bound) own ∙ keeps.times.0) (ap (λ (j : JobView). j.mark) own ∙ keeps.times.1) merged (made keeps.was keeps.had);
-      first = first;
-      out = out;
-      written = written;
-      from = has.from;
-      metas = has.metas;
-      held = has.held;
-    }
+-- the outputs of a job that are written are what merging makes
+pub gives_merged : {L D C : Type 0} (n : ℕ) (e1 e3 : EngineView L D C) (was : JobView) (merged out : List RowSetData) (first : ℕ) → root_of e3 ≡ root_of e1 → AreMerged (IsFound e1) was merged → AreWritten first merged out
+    → (has : JobHas e3 n stage.Written out) → has.at.job.inputs ≡ was.inputs → has.at.job.bound ≡ was.bound → has.at.job.mark ≡ was.mark → GivesMerged (IsFound e3) has.at.job
+gives_merged {L} {D} {C} n e1 e3 was merged out first root made written has inputs bound mark = record {
+  taken = taken_is e3 has.at.job has.at.job.want has.at.takes.takes;
+  made = merged;
+  merged = merged_same (IsFound e1) (IsFound e3) (λ past. subst (λ (r : Root L D C). FoundBy r past) root) was has.at.job inputs bound mark merged made;
+  first = first;
+  out = out;
+  written = written;
+  from = has.from;
+  metas = has.metas;
+  held = has.held;
+}
 
--- and so they are once it is over
-pub gives_then : {L D C : Type 0} (c d : EngineView L D C) (job : JobView) → root_of d ≡ root_of c → GivesMerged (IsFound c) job → GivesMerged (IsFound d) job
-gives_then {L} {D} {C} c d job root g = record {
+-- and so they are once it is published, or over
+pub gives_then : {L D C : Type 0} (c d : EngineView L D C) (job : JobView) (s : Stage) (number : ℕ) → root_of d ≡ root_of c → GivesMerged (IsFound c) job → GivesMerged (IsFound d) (record job { stage = s; super = number })
+gives_then {L} {D} {C} c d job s number root g = record {
   taken = g.taken;
   made = g.made;
-  merged = merged_same (IsFound c) (IsFound d) (λ past. subst (λ (r : Root L D C). FoundBy r past) root) job job refl refl refl g.made g.merged;
+  merged = merged_same (IsFound c) (IsFound d) (λ past. subst (λ (r : Root L D C). FoundBy r past) root) job (record job { stage = s; super = number }) refl refl refl g.made g.merged;
   first = g.first;
   out = g.out;
   written = g.written;

@@ -1,27 +1,22 @@
 -- A job that goes on, in steps that leave the tablet and its log.
-use Rattle.std.proofs.Common.{◌≡◌, ◌≤◌, ◌<◌, ◌+◌, ◌^◌, ◌++◌, ℕ, List, [], Option, Some, None, length, map, drop, refl, sym, ap, subst, ◌∙◌, arith}
+use Rattle.std.proofs.Common.{◌≡◌, ◌≤◌, ◌<◌, ◌+◌, ◌++◌, ℕ, List, [], Option, Some, None, length, drop, refl, sym, ap, subst, ◌∙◌, arith}
 use Rattle.kt_super.specs.declared.meta.MetaRowset.{MetaRowset}
 use Rattle.kt_super.specs.declared.meta.Meta.{Meta}
 use Rattle.kt_loglaws.specs.Side.{SideView}
-use Rattle.kt_content.specs.Flushes.{AreFrom}
-use Rattle.kt_diskrowset.specs.declared.data.RowSetData.{RowSetData}
 use Rattle.kt_diskrowset.specs.declared.inputs.Inputs.{Inputs}
-use Rattle.kt_diskrowset.specs.Data.{files_in, held_in}
 use Rattle.kt_diskrowset.specs.Rowset.{HeldFiles}
-use Rattle.kt_outputs.specs.Outputs.{meta_in}
 use Rattle.kt_tablet.specs.Views.{View}
 use Rattle.kt_tablet.specs.Jobs.{rows_in_first, frozen_names}
 use Rattle.kt_engine.specs.declared.upkeep.Stage.{Stage}
-use Rattle.kt_engine.specs.declared.upkeep.Stage.TheVariants as stage
 use Rattle.kt_engine.specs.Over.{AreLeft}
 use Rattle.kt_engine.specs.Engines.{EngineView}
 use Rattle.kt_engine.specs.Near.{first_number}
 use Rattle.kt_engine.specs.Visits.{IsVisit}
-use Rattle.kt_engine.specs.Jobs.{JobView, UpkeepView, UpkeepsView, HasRowset, HasUpkeep, IsUnpublished, upkeep_at, job_of, takes_of}
+use Rattle.kt_engine.specs.Jobs.{JobView, UpkeepView, UpkeepsView, HasRowset, HasUpkeep, IsUnpublished, upkeep_at, job_of}
 use Rattle.kt_pick.specs.declared.rules.Want.{Want}
 use Rattle.kt_pick.specs.declared.rules.Want.TheVariants as want
-use Rattle.kt_engine.specs.JobSteps.{TakesInputs, TakesBy, AreUpTo, AtNewStage, HasSwapped}
-use Rattle.kt_maint.specs.Runs.{KeepsAsks, IsQuiet, IsReady, JobIsAt, JobHas, GoesOn, KeepsRead, MayAbandon}
+use Rattle.kt_engine.specs.JobSteps.{TakesInputs, TakesBy, AreUpTo, AtNewStage}
+use Rattle.kt_maint.specs.Runs.{KeepsAsks, IsQuiet, IsReady, JobIsAt, GoesOn, MayAbandon}
 
 pub some_is : {A : Type 0} (x y : A) → Some x ≡ Some y → x ≡ y
 some_is x y e = cc
@@ -89,23 +84,6 @@ module _ {L D C : Type 0} (n : ℕ) (a b : EngineView L D C) where
     takes = refl;
   }
 
-  -- behind what was handed out to it
-  pub stage_keeps : (job : JobView) (t : Stage) (metas : List MetaRowset) (held : List HeldFiles) (room super : ℕ) → job_of n a.upkeep ≡ Some job → AtNewStage n (staged job t job.bound job.mark job.inputs metas held room super) a b → KeepsRead n a.upkeep b.upkeep
-  stage_keeps job t metas held room super had h = record {
-    was = job;
-    had = had;
-    job = staged job t job.bound job.mark job.inputs metas held room super;
-    has = ap (λ (u : UpkeepView). u.job) h.upkeep.own;
-    inputs = refl;
-    times = (refl, refl);
-  }
-
-  pub swapped_keeps : (out : List RowSetData) (metas : List MetaRowset) → HasSwapped n out metas a b → KeepsRead n a.upkeep b.upkeep
-  swapped_keeps out metas sw = stage_keeps sw.job stage.Swapped metas (map held_in out) sw.room sw.job.super sw.had sw.later
-
-  pub swapped_on : (out : List RowSetData) (metas : List MetaRowset) → HasSwapped n out metas a b → GoesOn n a.upkeep b.upkeep
-  swapped_on out metas sw = stage_on sw.job stage.Swapped sw.job.bound sw.job.mark sw.job.inputs metas (map held_in out) sw.room sw.job.super sw.had sw.later
-
   -- nothing but what passes have of maintenance has changed, through two steps or none
   pub beside_then : (c : EngineView L D C) → b ≡ record a { upkeep = b.upkeep } → c ≡ record b { upkeep = c.upkeep } → c ≡ record a { upkeep = c.upkeep }
   beside_then c first second = second ∙ ap (λ (v : EngineView L D C). record v { upkeep = c.upkeep }) first
@@ -145,62 +123,11 @@ module _ {L D C : Type 0} (n : ℕ) (a b : EngineView L D C) where
     as_many = subst (λ (v : View C). length v.names ≡ length v.core.stores) (sym tablet) at.as_many;
   }
 
-  -- its outputs are there, and stay
-  pub has_swapped : (at : JobIsAt a n stage.Read) (out : List RowSetData) → HasSwapped n out (map (meta_in 0) out) a b → length a.tablet.core.stores + length out < 2 ^ 32 → AreFrom at.job.first_rowset (map files_in out) → JobHas b n stage.Swapped out
-  has_swapped at out sw few from =
-      let later : AtNewStage n (staged at.job stage.Swapped at.job.bound at.job.mark at.job.inputs (map (meta_in 0) out) (map held_in out) sw.room at.job.super) a b =
-      subst (λ (j : JobView). AtNewStage n (record j { stage = stage.Swapped; metas = map (meta_in 0) out; held = map held_in out; room = sw.room }) a b) (some_is sw.job at.job (sym sw.had ∙ at.has)) sw.later in
-      record {
-        at = goes_on at stage.Swapped at.job.bound at.job.mark at.job.inputs (map (meta_in 0) out) (map held_in out) sw.room at.job.super later;
-        from = from;
-        metas = refl;
-        held = refl;
-        room = subst (λ (v : EngineView L D C). length v.tablet.core.stores + length out ≤ sw.room + v.tablet.frozen + 1) (sym later.beside) sw.enough;
-        few = subst (λ (v : EngineView L D C). length v.tablet.core.stores + length out < 2 ^ 32) (sym later.beside) few;
-      }
-
-  abbrev pub has_then : {s : Stage} (out : List RowSetData) (h : JobHas a n s out) (t : Stage) → AtNewStage n (record h.at.job { stage = t }) a b → JobHas b n t out
-  has_then out h t later = record {
-    at = goes_on h.at t h.at.job.bound h.at.job.mark h.at.job.inputs h.at.job.metas h.at.job.held h.at.job.room h.at.job.super later;
-    from = h.from;
-    metas = h.metas;
-    held = h.held;
-    room = subst (λ (v : EngineView L D C). length v.tablet.core.stores + length out ≤ h.at.job.room + v.tablet.frozen + 1) (sym later.beside) h.room;
-    few = subst (λ (v : EngineView L D C). length v.tablet.core.stores + length out < 2 ^ 32) (sym later.beside) h.few;
-  }
-
 -- a job that publishes nothing may be given up
 pub may_abandon : {L D C : Type 0} (v : EngineView L D C) (n : ℕ) {s : Stage} → JobIsAt v n s → IsUnpublished s → MayAbandon v n
 may_abandon v n at early = record { job = at.job; has = at.has; early = subst IsUnpublished (sym at.at) early; free = at.free }
 
 -- ---- the job of a pass from one step to the next
-
-pub keeps_then : (n : ℕ) (a b c : UpkeepsView) → KeepsRead n a b → KeepsRead n b c → KeepsRead n a c
-keeps_then n a b c first second =
-    let mid : second.was ≡ first.job = some_is second.was first.job (sym second.had ∙ first.has) in
-    record {
-      was = first.was;
-      had = first.had;
-      job = second.job;
-      has = second.has;
-      inputs = second.inputs ∙ ap (λ (j : JobView). j.inputs) mid ∙ first.inputs;
-      times = (second.times.0 ∙ ap (λ (j : JobView). j.bound) mid ∙ first.times.0, second.times.1 ∙ ap (λ (j : JobView). j.mark) mid ∙ first.times.1);
-    }
-
-pub on_then : (n : ℕ) (a b c : UpkeepsView) → GoesOn n a b → GoesOn n b c → GoesOn n a c
-on_then n a b c first second =
-    let mid : second.was ≡ first.job = some_is second.was first.job (sym second.had ∙ first.has) in
-    record {
-      was = first.was;
-      had = first.had;
-      job = second.job;
-      has = second.has;
-      want = second.want ∙ ap (λ (j : JobView). j.want) mid ∙ first.want;
-      takes = second.takes ∙ ap takes_of mid ∙ first.takes;
-    }
-
-pub takes_same : (n : ℕ) (a b : UpkeepsView) (on : GoesOn n a b) (was job : JobView) → job_of n a ≡ Some was → job_of n b ≡ Some job → takes_of job ≡ takes_of was
-takes_same n a b on was job had has = ap takes_of (some_is job on.job (sym has ∙ on.has)) ∙ on.takes ∙ ap takes_of (some_is on.was was (sym on.had ∙ had))
 
 pub want_same : (n : ℕ) (a b : UpkeepsView) (on : GoesOn n a b) (was job : JobView) → job_of n a ≡ Some was → job_of n b ≡ Some job → job.want ≡ was.want
 want_same n a b on was job had has = ap (λ (j : JobView). j.want) (some_is job on.job (sym has ∙ on.has)) ∙ on.want ∙ ap (λ (j : JobView). j.want) (some_is on.was was (sym on.had ∙ had))

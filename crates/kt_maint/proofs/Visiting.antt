@@ -19,6 +19,12 @@ use Rattle.kt_maint.specs.Runs.{KeepsAsks, IsQuiet, LentToWrite, HasTurned, HasB
 pub asks_same : (n : ℕ) (old new : UpkeepsView) → new ≡ old → KeepsAsks n old new
 asks_same n old new same = record { own = ap (λ (u : UpkeepsView). upkeep_at n u.passes) same ∙ (λ k. record (upkeep_at n old.passes) { job = (upkeep_at n (sym same k).passes).job }); begun = ap (λ (u : UpkeepsView). u.begun) same }
 
+pub asks_then : (n : ℕ) (a b c : UpkeepsView) → KeepsAsks n a b → KeepsAsks n b c → KeepsAsks n a c
+asks_then n a b c first second = record {
+  own = second.own ∙ (λ k. record (first.own k) { job = (upkeep_at n c.passes).job });
+  begun = second.begun ∙ first.begun;
+}
+
 module _ {L D C : Type 0} (n : ℕ) where
   -- steps of which the first adds no line are one visit
   pub visits_then : (a b c : EngineView L D C) → IsVisit n a b → b.tablet.core.trail ≡ a.tablet.core.trail → IsVisit n b c → IsVisit n a c
@@ -47,10 +53,7 @@ module _ {L D C : Type 0} (n : ℕ) where
     visit = visit_then a b c first second.visit;
     tablet = second.tablet ∙ first.tablet;
     log = second.log ∙ first.log;
-    asks = record {
-      own = second.asks.own ∙ (λ k. record (first.asks.own k) { job = (upkeep_at n c.upkeep.passes).job });
-      begun = second.asks.begun ∙ first.asks.begun;
-    };
+    asks = asks_then n a.upkeep b.upkeep c.upkeep first.asks second.asks;
   }
 
   -- the store and this pass's maintenance have changed, and who has it out has not
@@ -87,14 +90,6 @@ module _ {L D C : Type 0} (n : ℕ) where
     turned_visit t others =
         let all : new ≡ record b { store = new.store; upkeep = new.upkeep } = t.beside ∙ ap (λ (v : EngineView L D C). record v { store = new.store; upkeep = new.upkeep }) is in
         subst (IsVisit n b) (sym all) (side_visit b new.store new.upkeep (t.home ∙ sym home) (t.columns ∙ ap (λ (v : EngineView L D C). v.store.meta.schema) is) others)
-
-    pub turned_quiet : HasTurned out new → ((k : ℕ) → (k ≡ n → ⊥) → upkeep_at k new.upkeep.passes ≡ upkeep_at k b.upkeep.passes) → KeepsAsks n b.upkeep new.upkeep → IsQuiet n b new
-    turned_quiet t others asks = record {
-      visit = turned_visit t others;
-      tablet = ap (λ (v : EngineView L D C). v.tablet) t.beside ∙ ap (λ (v : EngineView L D C). v.tablet) is;
-      log = ap (λ (v : EngineView L D C). v.log) t.beside ∙ ap (λ (v : EngineView L D C). v.log) is;
-      asks = asks;
-    }
 
     pub broken_turn : HasBroken out new → ((k : ℕ) → (k ≡ n → ⊥) → upkeep_at k out.upkeep.passes ≡ upkeep_at k b.upkeep.passes) → IsVisit n b new
     broken_turn t others =

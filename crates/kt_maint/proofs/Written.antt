@@ -1,6 +1,6 @@
 -- The outputs of a job, written: its superblock may be published, and once it is the job may finish.
-use Rattle.std.proofs.Common.{◌≡◌, ◌≤◌, ◌<◌, ◌+◌, ◌^◌, ◌++◌, ℕ, suc, Bool, true, false, List, [], ◌∷◌, length, map, None, Result, Ok, Err, refl, sym, ap, subst, ◌∙◌, arith}
-use Rattle.std.specs.Prelude.{IsTrue, OnOk, ◌==◌, ◌≢◌}
+use Rattle.std.proofs.Common.{◌≡◌, ◌≤◌, ◌<◌, ◌+◌, ◌^◌, ◌++◌, ℕ, suc, Bool, true, false, List, [], ◌∷◌, length, map, Option, Some, None, refl, sym, ap, subst, ◌∙◌, arith}
+use Rattle.std.specs.Prelude.{IsTrue, ◌==◌}
 use Rattle.std.specs.List.{AllByRecursion}
 use Rattle.std.proofs.lemmas.Bool.Decides.{nat_tests}
 use Rattle.std.proofs.lemmas.List.{length-map}
@@ -33,23 +33,27 @@ use Rattle.kt_storeside.proofs.Named.{first_file}
 use Rattle.kt_tablet.specs.Views.{View, Opens}
 use Rattle.kt_stores.specs.Takes.{Takes, mems, rowsets}
 use Rattle.kt_tablet.specs.Jobs.{taken_stores, MayChangeOver}
-use Rattle.kt_engine.specs.declared.job.MaintNo.{MaintNo}
-use Rattle.kt_engine.specs.declared.job.MaintNo.TheVariants as no
 use Rattle.kt_engine.specs.declared.upkeep.Stage.TheVariants as stage
 use Rattle.kt_engine.specs.Over.{bare_store}
 use Rattle.kt_engine.specs.Engines.{EngineView, IsFound, IsContent}
 use Rattle.kt_engine.specs.Stored.{next_super, job_meta}
 use Rattle.kt_engine.specs.Logged.{PlanPasses}
 use Rattle.kt_engine.specs.Visits.{Root, root_of}
-use Rattle.kt_engine.specs.JobSteps.{HoldInputs, MayPublishJob, MayFinish, outputs_of}
+use Rattle.kt_engine.specs.JobSteps.{IsMerge, HoldInputs, MayPublishJob, MayFinish, outputs_of}
+use Rattle.kt_engine.specs.JobCalls.{MayEndBy}
 use Rattle.kt_engine.specs.JobMeta.{metas_left, last_by}
-use Rattle.kt_engine.specs.Jobs.{JobView, UpkeepsView, takes_by, takes_of}
+use Rattle.kt_engine.specs.Jobs.{JobView, job_of, takes_by, takes_of}
 use Rattle.kt_engine.proofs.Filed.{own_names}
 use Rattle.kt_engine.proofs.Flushed.{bare_hists}
 use Rattle.kt_engine.proofs.Visiting.{root_stays}
-use Rattle.kt_maint.specs.Done.{GivesMerged}
-use Rattle.kt_maint.specs.Runs.{IsQuiet, IsReady, IsPublished, HasFiles, HoldsMerged, JobHas, GoesOn}
-use Rattle.kt_maint.proofs.Stages.{some_is, ready_then}
+use Rattle.kt_pick.specs.declared.rules.Want.{Want}
+use Rattle.kt_maint.specs.Done.{AreMerged}
+use Rattle.kt_maint.specs.Runs.{IsQuiet, IsReady, IsPublished, HasFiles, HoldsMerged, JobIsAt, JobHas, GoesOn, going_out}
+use Rattle.kt_maint.specs.JobRuns.{HasHandedIn, HasHandedOne, HandsIn, MergeIsWritten, MayEnd}
+use Rattle.kt_engine.proofs.JobCalls.{by_merge}
+use Rattle.kt_maint.proofs.HandedIn.{has_handed}
+use Rattle.kt_maint.proofs.Merged.{gives_merged, gives_then, merged_for}
+use Rattle.kt_maint.proofs.Stages.{ready_then, is_at_then, want_same}
 
 -- ---- what was written
 
@@ -109,6 +113,10 @@ content_back {L} {D} {C} rules first a c root is = record {
   opens = subst (λ (r : Root L D C). Opens r.opening r.mark r.opened first) root is.opens;
   holds = subst (λ (r : Root L D C). HoldsPast rules r.work.fill r.super r.records r.opened first) root is.holds;
 }
+
+-- it has read what it takes, beside a store with more files
+abbrev pub read_then : {L D C : Type 0} {tells : Bool} {seen : D → Files} {now : D → ℕ} {leaves : D → ℕ → Files → Type 0} {merged out : List RowSetData} (n : ℕ) (a b : EngineView L D C) → JobIsAt a n stage.Read → IsQuiet n a b → b.upkeep ≡ a.upkeep → HasFiles tells seen now leaves a.store b.store merged out → JobIsAt b n stage.Read
+read_then {merged = merged} n a b at quiet upkeep files = is_at_then n a b at quiet.tablet quiet.log upkeep files.meta (let more = files.rowset in omega arith)
 
 -- ---- publishing
 
@@ -204,28 +212,28 @@ module _ {L D C : Type 0} (tells : Bool) (seen : D → Files) (now : D → ℕ) 
         }
 
   -- once it is published the job may finish
-  pub may_finish : (c d : EngineView L D C) (out : List RowSetData) (has : JobHas c n stage.Written out) → MayPublishJob tells seen now leaves c has.at.job → IsQuiet n c d → (p : IsPublished n has.at.job c d) → MayFinish d n (record has.at.job { stage = stage.Published; super = p.number })
-  may_finish c d out has may quiet p =
+  may_finish : (c d : EngineView L D C) (out : List RowSetData) (has : JobHas c n stage.Written out) → MayPublishJob tells seen now leaves c has.at.job → d.tablet ≡ c.tablet → d.upkeep.begun ≡ c.upkeep.begun → (p : IsPublished n has.at.job c d) → MayFinish d n (record has.at.job { stage = stage.Published; super = p.number })
+  may_finish c d out has may tablet begun p =
       let job = has.at.job in
       let long : length job.held ≡ length out = ap length has.held ∙ length-map out held_in in
       record {
         at = refl;
         output = may.output;
-        calm = ap (λ (t : View C). t.core.aloft) quiet.tablet ∙ may.calm;
+        calm = ap (λ (t : View C). t.core.aloft) tablet ∙ may.calm;
         published = p.own;
-        may = subst (λ (t : View C). MayChangeOver t (takes_of job) (map bare_store (outputs_of job))) (sym quiet.tablet) (record {
+        may = subst (λ (t : View C). MayChangeOver t (takes_of job) (map bare_store (outputs_of job))) (sym tablet) (record {
           alike = λ first opens q. subst (λ (hs : List Hist). AreAlike c.tablet.core.a (hists q (taken_stores (takes_of job) c.tablet)) hs) (sym (bare_hists q (outputs_of job))) ((may.holds first opens).alike q);
           sound = λ first opens q. subst (λ (hs : List Hist). AreSound c.tablet.core.a hs) (sym (bare_hists q (outputs_of job))) ((may.holds first opens).sound q);
         });
-        room = subst (λ (t : View C). length t.core.stores + length job.held ≤ job.room + t.frozen + 1) (sym quiet.tablet) (subst (λ (k : ℕ). length c.tablet.core.stores + k ≤ job.room + c.tablet.frozen + 1) (sym long) has.room);
-        few = subst (λ (t : View C). length t.core.stores + length job.held < 2 ^ 32) (sym quiet.tablet) (subst (λ (k : ℕ). length c.tablet.core.stores + k < 2 ^ 32) (sym long) has.few);
+        room = subst (λ (t : View C). length t.core.stores + length job.held ≤ job.room + t.frozen + 1) (sym tablet) (subst (λ (k : ℕ). length c.tablet.core.stores + k ≤ job.room + c.tablet.frozen + 1) (sym long) has.room);
+        few = subst (λ (t : View C). length t.core.stores + length job.held < 2 ^ 32) (sym tablet) (subst (λ (k : ℕ). length c.tablet.core.stores + k < 2 ^ 32) (sym long) has.few);
         given = subst (λ (k : ℕ). RowsetsBelow (before k job.last_mem) (outputs_of job)) (sym p.numbers) may.given;
         small = subst (λ (k : ℕ). k < 2 ^ 64) (sym p.numbers) may.up.1;
-        begun = λ e. has.at.begun (sym quiet.asks.begun ∙ e);
+        begun = λ e. has.at.begun (sym begun ∙ e);
       }
 
   -- what was merged, written and handed in
-  pub may_publish_then : (faults : D → ℕ) (e0 e1 e2 e3 : EngineView L D C) (merged out : List RowSetData) → written_rowsets_are_the_same → written_rowsets_pass → named_rowsets_tell → outputs_come_behind → outputs_stand → some_may_be_named → some_stand → (t : Takes)
+  may_publish_then : (faults : D → ℕ) (e0 e1 e2 e3 : EngineView L D C) (merged out : List RowSetData) → written_rowsets_are_the_same → written_rowsets_pass → named_rowsets_tell → outputs_come_behind → outputs_stand → some_may_be_named → some_stand → (t : Takes)
       → IsSide tells seen now leaves faults e0.store → IsReady e0 → IsQuiet n e0 e1 → e1 ≡ record e0 { upkeep = e1.upkeep } → HoldsMerged tells e1 t merged → IsQuiet n e1 e2 → HasFiles tells seen now leaves e1.store e2.store merged out → e2.store.holder ≡ None
       → IsQuiet n e2 e3 → e3 ≡ record e2 { upkeep = e3.upkeep } → (has : JobHas e3 n stage.Written out) → takes_of has.at.job ≡ t → MayPublishJob tells seen now leaves e3 has.at.job
   may_publish_then faults e0 e1 e2 e3 merged out same pass told behind stand fewer still t side ready q1 beside1 holds q2 files home q3 beside3 has took =
@@ -234,20 +242,32 @@ module _ {L D C : Type 0} (tells : Bool) (seen : D → Files) (now : D → ℕ) 
       (ready_then n e0 e3 (q3.tablet ∙ q2.tablet ∙ q1.tablet) (q3.log ∙ q2.log ∙ q1.log) (ap (λ (v : EngineView L D C). v.store.holder) beside3 ∙ home) ready) (q3.tablet ∙ q2.tablet)
       (root_stays n e2 e3 q3.visit ∙ root_stays n e1 e2 q2.visit)
 
-  pub may_finish_then : (c d : EngineView L D C) (out : List RowSetData) (has : JobHas c n stage.Written out) → MayPublishJob tells seen now leaves c has.at.job → (r : Result (Unit {0}) MaintNo) → (r ≢ Err no.Stopped → IsQuiet n c d) → OnOk r (IsPublished n has.at.job c d)
-      → (before : UpkeepsView) → GoesOn n before c.upkeep → (IsQuiet n c d → (number : ℕ) → GivesMerged (IsFound d) (record has.at.job { stage = stage.Published; super = number })) → OnOk r ((same : GoesOn n before d.upkeep) × MayFinish d n same.job × GivesMerged (IsFound d) same.job)
-  may_finish_then c d out has may (Ok done) quiet p before on gives =
-      let is = quiet (λ e. cc) in
-      let own : has.at.job ≡ on.job = some_is has.at.job on.job (sym has.at.has ∙ on.has) in (
-        record {
-          was = on.was;
-          had = on.had;
-          job = record has.at.job { stage = stage.Published; super = p.number };
-          has = p.has;
-          want = ap (λ (j : JobView). j.want) own ∙ on.want;
-          takes = ap takes_of own ∙ on.takes;
-        },
-        may_finish c d out has may is p,
-        gives is p.number,
-      )
-  may_finish_then c d out has may (Err x) quiet p before on gives = tt
+  -- the job as it is written, of what it was as it began
+  pub merge_written : (faults : D → ℕ) (e0 e1 e2 e3 : EngineView L D C) (merged out : List RowSetData) → written_rowsets_are_the_same → written_rowsets_pass → named_rowsets_tell → outputs_come_behind → outputs_stand → some_may_be_named → some_stand
+      → IsSide tells seen now leaves faults e0.store → IsReady e0 → IsQuiet n e0 e1 → e1 ≡ record e0 { upkeep = e1.upkeep } → (at : JobIsAt e1 n stage.Read) → HoldsMerged tells e1 (takes_of at.job) merged → AreMerged (IsFound e1) at.job merged → GoesOn n e0.upkeep e1.upkeep
+      → IsQuiet n e1 e2 → e2.upkeep ≡ e1.upkeep → HasFiles tells seen now leaves e1.store e2.store merged out → e2.store.holder ≡ None → IsQuiet n e2 e3 → e3 ≡ record e2 { upkeep = e3.upkeep }
+      → ((j : JobView) → job_of n e2.upkeep ≡ Some j → HandsIn n j out e2 e3) → (j : JobView) → job_of n e0.upkeep ≡ Some j → MergeIsWritten tells seen now leaves e3 n j.want
+  merge_written faults e0 e1 e2 e3 merged out same pass told behind stand fewer still side ready q1 beside1 at holds made on q2 upkeep files home q3 beside3 hands j has =
+      let at2 = read_then n e1 e2 at q2 upkeep files in
+      let handed = by_merge (HasHandedIn n at.job out e2 e3) (λ r. HasHandedOne n at.job out e2 e3) at.job.want at.want (hands at.job at2.has) in
+      let has3 = has_handed n e2 e3 at2 out handed (from_written at.job.first_rowset e1.store.next_rowset merged out at.given files.written) in
+      record {
+        outputs = out;
+        has = has3;
+        want = want_same n e0.upkeep e1.upkeep on j at.job has at.has;
+        may = may_publish_then faults e0 e1 e2 e3 merged out same pass told behind stand fewer still (takes_of at.job) side ready q1 beside1 holds q2 files home q3 beside3 has3 refl;
+        gives = gives_merged n e1 e3 at.job merged out e1.store.next_rowset (root_stays n e2 e3 q3.visit ∙ root_stays n e1 e2 q2.visit) made files.written has3 refl refl refl;
+      }
+
+  -- once its superblock is the published one it may end, and has given what its want asks for
+  pub merge_ends : (c d : EngineView L D C) (w : Want) → IsMerge w → MergeIsWritten tells seen now leaves c n w → root_of d ≡ root_of c → d.upkeep.begun ≡ c.upkeep.begun → ((j : JobView) → job_of n c.upkeep ≡ Some j → IsPublished n j c d) → MayEnd d n w
+  merge_ends c d w merges x root begun published =
+      let job = x.has.at.job in
+      let p = published job x.has.at.has in
+      let later : JobView = record job { stage = stage.Published; super = p.number } in
+      record {
+        job = later;
+        has = p.has;
+        may = subst (MayEndBy d n later) (sym x.may.output) (may_finish c d x.outputs x.has x.may (p.tablet ∙ ap (λ (o : Option RowSetData). going_out o c.tablet) x.may.output) begun p);
+        given = record { want_is = x.want; gives = merged_for (IsFound d) w later merges (gives_then c d job stage.Published p.number root x.gives) };
+      }

@@ -1,5 +1,5 @@
 -- What the steps of a job on the files of one disk rowset do to the engine, in one visit.
-use Rattle.std.specs.Prelude.{◌≡◌, ◌≢◌, ◌≤◌, ℕ, Bool, true, IsTrue, [], Some, None}
+use Rattle.std.specs.Prelude.{◌≡◌, ◌≢◌, ℕ, Bool, IsTrue, [], Some, None}
 use Rattle.kt_disk.specs.Disk.{Files}
 use Rattle.kt_storeside.specs.Sides.{StoreView}
 use Rattle.kt_diskrowset.specs.declared.data.RowSetData.{RowSetData}
@@ -12,20 +12,12 @@ use Rattle.kt_outputs.specs.Outputs.{meta_in, AreStable, IsWhole}
 use Rattle.kt_outputs.specs.Rewriting.{HasNumbers, KeptStand}
 use Rattle.kt_pick.specs.declared.rules.Want.{Want}
 use Rattle.kt_pick.specs.declared.rules.Want.TheVariants as want
-use Rattle.kt_tablet.specs.Jobs.{next_dms, files_of}
-use Rattle.kt_engine.specs.Engines.{EngineView, IsFound}
+use Rattle.kt_tablet.specs.Jobs.{files_of}
+use Rattle.kt_engine.specs.Engines.{EngineView}
 use Rattle.kt_engine.specs.declared.upkeep.Stage.{Stage}
 use Rattle.kt_engine.specs.declared.upkeep.Stage.TheVariants as stage
-use Rattle.kt_engine.specs.Jobs.{JobView, job_of, upkeep_at}
+use Rattle.kt_engine.specs.Jobs.{JobView, job_of}
 use Rattle.kt_engine.specs.DeltaJobs.{IsOn, HasShape, TellsAll}
-use Rattle.kt_maint.specs.declared.tries.Turn.{Turn}
-use Rattle.kt_maint.specs.declared.tries.Turn.TheVariants as turn
-use Rattle.kt_maint.specs.Done.{HasGiven}
-use Rattle.kt_maint.specs.Runs.{HasNoDevice, over}
-
--- a want on the files of a disk rowset
-abbrev pub IsOfRowset : Want → Type 0
-IsOfRowset w = (r : ℕ) × IsOn r w
 
 -- the job of a pass for such a want is at a stage, and none publishes
 pub record DeltasAt {L D C : Type 0} (v : EngineView L D C) (n : ℕ) (w : Want) (s : Stage) : Type 0 where
@@ -67,24 +59,3 @@ pub record HasRewritten {D : Type 0} (tells : Bool) (seen : D → Files) (now : 
   pub holds : IsTrue tells → KeptStand (seen new.known) d → (dms : ℕ) → HoldsRowset (seen new.known) (meta_in dms out) (held_in out)
   pub stable : IsTrue tells → AreStable seen now leaves old.next_file new.next_file new.known
   pub meta : new.meta ≡ old.meta
-
--- The superblock of such a job is published: the next DeltaMemStore of its rowset takes changes
-pub record IsPublishedRowset {L D C : Type 0} (n : ℕ) (job : JobView) (r : ℕ) (old new : EngineView L D C) : Type 0 where
-  pub tablet : new.tablet ≡ record old.tablet { names = next_dms r old.tablet.names }
-  pub number : ℕ
-  pub has : job_of n new.upkeep ≡ Some (record job { stage = stage.Published; super = number })
-  pub own : (new.upkeep.publishing ≡ Some n) × (number ≤ new.store.meta.number) × (new.store.lent ≡ None)
-
--- the job of a pass is done, and has given what it is for
-pub record HasEnded {L D C : Type 0} (n : ℕ) (w : Want) (old new : EngineView L D C) : Type 0 where
-  pub job : JobView
-  pub upkeep : upkeep_at n new.upkeep.passes ≡ over w job (upkeep_at n old.upkeep.passes)
-  pub given : HasGiven (IsFound new) w job
-
--- how a job whose rowset is written ends
-abbrev pub EndsAs : {L D C : Type 0} → ℕ → Want → EngineView L D C → EngineView L D C → Turn → Type 0
-EndsAs n w old new turn.Done = HasEnded n w old new × HasNoDevice n new
-EndsAs n w old new turn.Nothing = ⊥
-EndsAs n w old new turn.Wait = ⊥
-EndsAs n w old new turn.Memory = HasNoDevice n new
-EndsAs n w old new turn.Stopped = (new.tablet.core.stopped ≡ true) × HasNoDevice n new

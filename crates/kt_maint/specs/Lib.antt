@@ -1,5 +1,6 @@
 pub mod Done
 pub mod Runs
 pub mod DeltaRuns
+pub mod JobRuns
 pub mod Calls
 pub mod Work

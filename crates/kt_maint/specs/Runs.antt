@@ -6,7 +6,8 @@ use Rattle.kt_history.specs.declared.event.Event.{Event}
 use Rattle.kt_history.specs.declared.event.Event.TheVariants as event
 use Rattle.kt_histlaws.specs.Events.{halted}
 use Rattle.kt_histlaws.specs.Parts.{part}
-use Rattle.kt_tablet.specs.Views.{place_at}
+use Rattle.kt_tablet.specs.Views.{View, place_at}
+use Rattle.kt_tablet.specs.Jobs.{next_dms}
 use Rattle.kt_super.specs.declared.meta.Meta.{Meta}
 use Rattle.kt_content.specs.Flushes.{AreFrom}
 use Rattle.kt_content.specs.Rules.{Rules, RowsetsPass}
@@ -108,15 +109,6 @@ pub record GoesOn (n : ℕ) (old new : UpkeepsView) : Type 0 where
   pub want : job.want ≡ was.want
   pub takes : takes_of job ≡ takes_of was
 
--- and was handed out the same
-pub record KeepsRead (n : ℕ) (old new : UpkeepsView) : Type 0 where
-  pub was : JobView
-  pub had : job_of n old ≡ Some was
-  pub job : JobView
-  pub has : job_of n new ≡ Some job
-  pub inputs : job.inputs ≡ was.inputs
-  pub times : (job.bound ≡ was.bound) × (job.mark ≡ was.mark)
-
 pub record MayAbandon {L D C : Type 0} (v : EngineView L D C) (n : ℕ) : Type 0 where
   pub job : JobView
   pub has : job_of n v.upkeep ≡ Some job
@@ -176,10 +168,6 @@ abbrev pub turn_of : MaintNo → Turn
 turn_of no.Stopped = turn.Stopped
 turn_of no.Memory = turn.Memory
 
--- the job that a pass had is done, and is kept as the last one
-abbrev pub over : Want → JobView → UpkeepView → UpkeepView
-over w job u = record u { last = finished w; todo = without_want w u.todo; job = None; done = Some job }
-
 -- the pass asked, and the job that began is done
 abbrev pub ran : Want → JobView → UpkeepView → UpkeepView
 ran w job u = record u { asks = more (2 ^ 64 - 1) u.asks; last = finished w; todo = without_want w u.todo; job = None; done = Some job }
@@ -212,8 +200,14 @@ pub record IsPublishing {L D C : Type 0} (v : EngineView L D C) (n : ℕ) (lent 
   pub at : job.stage ≡ stage.Publishing
   pub own : (v.upkeep.publishing ≡ Some n) × (job.super ≡ meta.number) × (v.store.meta.number < meta.number)
 
+-- the tablet as a superblock goes out: where that is of a job on the files of a disk rowset, the next DeltaMemStore of this takes changes from then on
+abbrev pub going_out : {C : Type 0} → Option RowSetData → View C → View C
+going_out None tablet = tablet
+going_out (Some d) tablet = record tablet { names = next_dms d.number tablet.names }
+
 -- Its superblock is the published one
 pub record IsPublished {L D C : Type 0} (n : ℕ) (job : JobView) (old new : EngineView L D C) : Type 0 where
+  pub tablet : new.tablet ≡ going_out job.output old.tablet
   pub number : ℕ
   pub has : job_of n new.upkeep ≡ Some (record job { stage = stage.Published; super = number })
   pub own : (new.upkeep.publishing ≡ Some n) × (number ≤ new.store.meta.number) × (new.store.lent ≡ None)

@@ -8,7 +8,9 @@
 
 pub mod chore;
 pub mod deltas;
-pub mod flush;
+mod handing;
+pub mod jobs;
+pub mod merging;
 mod numbers;
 mod publishing;
 mod ready;

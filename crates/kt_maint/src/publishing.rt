@@ -2,10 +2,11 @@
 ghost use Rattle.std.specs.Prelude.{◌≡◌, ◌≢◌, [], None, Some, true, false, OnOk, Err};
 ghost use Rattle.kt_super.specs.declared.meta.Meta.{Meta};
 ghost use Rattle.kt_engine.specs.Jobs.{JobView, job_of};
-ghost use Rattle.kt_engine.specs.JobSteps.{HasComeHome, MayPublishJob};
+ghost use Rattle.kt_engine.specs.JobSteps.{HasComeHome};
+ghost use Rattle.kt_engine.specs.JobCalls.{MayGoOut};
 ghost use Rattle.kt_engine.specs.Stored.{MayPublish};
 ghost use Rattle.kt_engine.specs.Visits.{IsVisit};
-ghost use Rattle.kt_maint.specs.Runs.{IsQuiet, IsPublishing, IsPublished, HasTurned, HasBroken, StandsAs, MayAbandon};
+ghost use Rattle.kt_maint.specs.Runs.{KeepsAsks, IsPublishing, IsPublished, HasTurned, HasBroken, StandsAs, MayAbandon};
 
 use kt_base::Clock;
 use kt_disk::Disk;
@@ -15,7 +16,7 @@ use kt_super::PrepareNo;
 use std::alloc::Global;
 
 // Publishes the superblock of a job that is lent, and takes the store home. After a fault the tablet is stopped.
-pub(crate) fn publish_and_return<L: Disk, D: Disk + Drop, C: Clock>(
+fn publish_and_return<L: Disk, D: Disk + Drop, C: Clock>(
     alloc: Global,
     engine: &mut Engine<L, D, C>,
     by: u32,
@@ -65,7 +66,7 @@ pub(crate) fn publish_and_return<L: Disk, D: Disk + Drop, C: Clock>(
     }
 }
 
-/// Publishes the superblock of this pass's job, whose outputs are written. After a fault the tablet is stopped.
+/// Publishes the superblock of this pass's job, whose outputs are written, and which publishes until it is over. After a fault the tablet is stopped.
 pub fn publish_job<L: Disk, D: Disk + Drop, C: Clock>(
     alloc: Global,
     engine: &mut Engine<L, D, C>,
@@ -74,12 +75,12 @@ pub fn publish_job<L: Disk, D: Disk + Drop, C: Clock>(
     requires home { engine.old.store.holder ≡ None }
     requires durable { (engine.old.log.queued ≡ []) × (engine.old.log.out ≡ []) }
     requires goes { engine.old.tablet.core.stopped ≡ false }
-    requires may { (job : JobView) × (job_of by engine.old.upkeep ≡ Some job) × MayPublishJob D.tells D.seen D.now D.leaves engine.old job }
+    requires may { (job : JobView) × (job_of by engine.old.upkeep ≡ Some job) × MayGoOut D.tells D.seen D.now D.leaves engine.old job job.output }
     requires free { engine.old.upkeep.publishing ≡ None }
     ensures visit { IsVisit by engine.old engine.new }
     ensures still { StandsAs by engine.old engine.new }
     ensures log { engine.new.log ≡ engine.old.log }
-    ensures quiet { result ≢ Err MaintNo.Stopped → IsQuiet by engine.old engine.new }
+    ensures asks { result ≢ Err MaintNo.Stopped → KeepsAsks by engine.old.upkeep engine.new.upkeep }
     ensures stops { result ≡ Err MaintNo.Stopped → engine.new.tablet.core.stopped ≡ true }
     ensures published { (job : JobView) → job_of by engine.old.upkeep ≡ Some job → OnOk result (IsPublished by job engine.old engine.new) }
     ensures back { result ≡ Err MaintNo.Memory → MayAbandon engine.new by }

@@ -2,12 +2,9 @@
 ghost use Rattle.kt_seatlock.specs.Passes.{number, seen, part, MayEnter, IsBack};
 ghost use Rattle.kt_pick.specs.declared.rules.Want.TheVariants as want;
 ghost use Rattle.kt_engine.specs.Calls.{SeesOthers, HasNoDevice, StandsStill};
-ghost use Rattle.kt_engine.specs.Visits.{IsVisit};
-ghost use Rattle.kt_maint.specs.Runs.{HasNoDevice as PassHasNone, StandsAs, RunsAs};
 ghost use Rattle.kt_maint.specs.Calls.{AfterCall, AfterTurn};
 
-use crate::deltas::deltas_now;
-use crate::flush::merge_now;
+use crate::jobs::job_now;
 use crate::tries::Turn;
 use kt_base::Clock;
 use kt_disk::Disk;
@@ -28,27 +25,12 @@ pub enum Ran {
     Nothing,
 }
 
-// Tries a job in this visit.
-pub(crate) fn turn_now<L: Disk, D: Disk + Drop, C: Clock>(
-    alloc: Global,
-    engine: &mut Engine<L, D, C>,
-    by: u32,
-    want: &Want,
-) -> Turn
-    requires home { PassHasNone by engine.old }
-    ensures visit { IsVisit by engine.old engine.new }
-    ensures still { StandsAs by engine.old engine.new }
-    ensures runs { RunsAs by want.now engine.old engine.new result }
-{
-    match want {
-        Want::Flush | Want::Compact(_) => merge_now(alloc, engine, by, want),
-        Want::FlushDeltas(_) | Want::Minor(_) | Want::Major(_) => {
-            deltas_now(alloc, engine, by, want)
-        }
-    }
+// Whether something is under way that another pass has, and that ends in a visit of that pass.
+fn is_held<L: Disk, D: Disk + Drop, C: Clock>(engine: &Engine<L, D, C>) -> bool {
+    !engine.is_stopped() && !engine.is_idle()
 }
 
-// One visit that tries a job.
+// One visit that tries a job. Where it has to wait for what another pass has, it wakes nobody who rests.
 fn try_job<L: Disk, D: Disk + Drop, C: Clock, R: Wait>(
     rt: &R,
     alloc: Global,
@@ -65,7 +47,11 @@ fn try_job<L: Disk, D: Disk + Drop, C: Clock, R: Wait>(
 {
     let by = pass.number();
     let mut engine = lock.enter(rt, pass);
-    let turn = turn_now(alloc, &mut engine, by, want);
+    if is_held(&engine) {
+        lock.leave_same(pass, engine);
+        return Turn::Wait;
+    }
+    let turn = job_now(alloc, &mut engine, by, want);
     // Its lines tell whether the tablet has stopped.
     engine.standing();
     lock.leave(pass, engine);

@@ -1,12 +1,12 @@
 //! Background workers: each picks a job and runs it in one visit, and rests where there is none.
-ghost use Rattle.std.specs.Prelude.{IfOk};
+ghost use Rattle.std.specs.Prelude.{◌≡◌, ◌≢◌, ◌⊎◌, false, IfOk};
 ghost use Rattle.kt_seatlock.specs.Passes.{number, seen, part, MayEnter, IsBack, IsPassOf, IsOutside, IsSame};
 ghost use Rattle.kt_engine.specs.Calls.{SeesOthers, HasNoDevice, StandsStill};
 ghost use Rattle.kt_engine.specs.Visits.{IsVisit};
 ghost use Rattle.kt_maint.specs.Runs.{HasNoDevice as PassHasNone, StandsAs};
 ghost use Rattle.kt_maint.specs.Work.{Picks};
 
-use crate::run::turn_now;
+use crate::jobs::job_now;
 use crate::tries::Turn;
 use kt_base::{Clock, NoMemory};
 use kt_disk::Disk;
@@ -97,12 +97,26 @@ fn is_due(watch: Option<Watch>, now: Pulse) -> bool {
 enum Step {
     /// It has run a job.
     Worked,
-    /// There may be something to do once what is under way has ended.
+    /// What was picked has to wait after all, or there was nothing to do for it.
+    Tried,
+    /// There may be something to do once what is under way has ended. Nothing was changed.
     Busy,
-    /// There is nothing to do.
+    /// There is nothing to do. Nothing was changed.
     Idle,
     /// No session runs any more, the tablet has stopped, or there was no memory.
     Over,
+}
+
+impl Step {
+    // Whether the visit may have changed the engine.
+    fn changes(self) -> bool
+        ensures { result ≡ false → (self ≡ Step.Busy) ⊎ (self ≡ Step.Idle) }
+    {
+        match self {
+            Step::Worked | Step::Tried | Step::Over => true,
+            Step::Busy | Step::Idle => false,
+        }
+    }
 }
 
 // Tries what was picked, in the visit in which it was. Where something is under way after all it is looked for again.
@@ -117,13 +131,14 @@ fn run_found<L: Disk, D: Disk + Drop, C: Clock>(
     ensures visit { IsVisit by engine.old engine.new }
     ensures still { StandsAs by engine.old engine.new }
     ensures home { PassHasNone by engine.new }
+    ensures tried { (result ≢ Step.Busy) × (result ≢ Step.Idle) }
 {
-    match turn_now(alloc, engine, by, want) {
+    match job_now(alloc, engine, by, want) {
         Turn::Done => Step::Worked,
-        Turn::Nothing => Step::Idle,
+        Turn::Nothing => Step::Tried,
         Turn::Wait => {
             *watch = None;
-            Step::Busy
+            Step::Tried
         }
         Turn::Stopped | Turn::Memory => Step::Over,
     }
@@ -140,6 +155,7 @@ fn turn<L: Disk, D: Disk + Drop, C: Clock>(
     ensures visit { IsVisit by engine.old engine.new }
     ensures still { StandsAs by engine.old engine.new }
     ensures home { PassHasNone by engine.new }
+    ensures same { (result ≡ Step.Busy) ⊎ (result ≡ Step.Idle) → engine.new ≡ engine.old }
 {
     if engine.over() || engine.is_stopped() {
         return Step::Over;
@@ -175,7 +191,7 @@ fn wait<L: Disk, D: Disk + Drop, C: Clock, R: Wait>(
 {
     match step {
         Step::Worked | Step::Over => {}
-        Step::Busy => lock.rest(rt, pass),
+        Step::Tried | Step::Busy => lock.rest(rt, pass),
         Step::Idle => {
             lock.rest(rt, pass);
             Parker::new().park_timeout(rt, Duration::from_millis(NAP));
@@ -183,7 +199,7 @@ fn wait<L: Disk, D: Disk + Drop, C: Clock, R: Wait>(
     }
 }
 
-// One visit of a worker, and a rest behind it where it ran no job.
+// One visit of a worker, and a rest behind it where it ran no job. Where it changed nothing it wakes nobody who rests.
 fn take_step<L: Disk, D: Disk + Drop, C: Clock, R: Wait>(
     rt: &R,
     alloc: Global,
@@ -201,7 +217,7 @@ fn take_step<L: Disk, D: Disk + Drop, C: Clock, R: Wait>(
     let by = pass.number();
     let mut engine = lock.enter(rt, pass);
     let step = turn(alloc, &mut engine, by, watch);
-    lock.leave(pass, engine);
+    lock.leave_as(pass, engine, step.changes());
     wait(rt, lock, pass, step);
     step
 }

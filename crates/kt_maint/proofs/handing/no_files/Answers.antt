@@ -1,7 +1,7 @@
 use Rattle.std.proofs.Common.{◌≡◌, ◌+◌, ◌++◌, ◌∷◌, [], ℕ, zero, suc, List, Option, None, refl, sym, ap, ◌∙◌, arith}
 use Rattle.std.specs.Prelude.{replicate}
 use Rattle.kt_diskrowset.specs.declared.files.FileHeld.{FileHeld}
-use Rattle.kt_maint.proofs.flush.no_files.Goals as goal
+use Rattle.kt_maint.proofs.handing.no_files.Goals as goal
 
 abbrev none : Option FileHeld
 none = None

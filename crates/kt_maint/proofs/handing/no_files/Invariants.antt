@@ -1,7 +1,7 @@
 use Rattle.std.proofs.Common.{◌≡◌, ◌≤◌, None}
 use Rattle.std.specs.Prelude.{replicate}
 use Rattle.std.specs.Vec.{vec_len, vec_capacity}
-use Rattle.kt_maint.proofs.flush.no_files.Given as goal
+use Rattle.kt_maint.proofs.handing.no_files.Given as goal
 
 abbrev pub invariant-files : goal.invariant-files
 invariant-files l = record {
