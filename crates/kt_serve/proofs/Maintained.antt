@@ -4,6 +4,7 @@ use Rattle.std.specs.Prelude.{◌==◌, IfOk, OnOk, OnErr}
 use Rattle.std.specs.List.{filter}
 use Rattle.kt_base.specs.declared.chore.Chore.{Chore}
 use Rattle.kt_bytes.specs.declared.memory.NoMemory.{NoMemory}
+use Rattle.kt_history.specs.declared.command.Command.{Command}
 use Rattle.kt_history.specs.declared.command.Command.TheVariants as command
 use Rattle.kt_history.specs.declared.event.Event.{Event}
 use Rattle.kt_history.specs.declared.event.Event.TheVariants as event
@@ -15,9 +16,9 @@ use Rattle.kt_tablet.specs.Visits.{MayAnswerChore}
 use Rattle.kt_seatlock.specs.Trails.{Follows}
 use Rattle.kt_engine.specs.Calls.{HasNoDevice, HasDone, StandsStill, SeesOthers, IsThrough}
 use Rattle.kt_engine.specs.Engines.{EngineView}
-use Rattle.kt_engine.specs.Jobs.{upkeep_at}
+use Rattle.kt_engine.specs.Jobs.{UpkeepView, UpkeepsView, upkeep_at}
 use Rattle.kt_engine.specs.Visits.{PartView, part_in, session_of, root_of}
-use Rattle.kt_serve.specs.Maintained.{StoreRests, HasDoneWith}
+use Rattle.kt_serve.specs.Maintained.{StoreRests, HasDoneWith, KeepsUpkeep}
 use Rattle.kt_serve.specs.Answered.{IsOpen, IsAnswered}
 use Rattle.kt_serve.specs.Sessions.{HasRoot, SameRoot, IsFree, IsCommand, HasNoLog, OnRoot, AnswersOne, AfterCommand, IsGoing}
 use Rattle.kt_serve.proofs.Lines.{follows_quiet, is_mine}
@@ -88,6 +89,37 @@ module _ {L D C : Type 0} where
   done_with chore a b h = record { part = h.part; is = h.is; through = h.through }
 
   -- ---- and then its answer
+
+  -- a visit that leaves what the engine has of maintenance
+  pub keeps_upkeep : (told told' : Option (PartView L D C)) (x y : EngineView L D C) (n n' : ℕ) → told ≡ Some (part_in x n) → told' ≡ Some (part_in y n') → n' ≡ n → y.upkeep ≡ x.upkeep → KeepsUpkeep told told'
+  keeps_upkeep told told' x y n n' was is same e = record {
+    was = part_in x n;
+    was_is = was;
+    part = part_in y n';
+    is = is;
+    same = ap (λ k. upkeep_at k y.upkeep.passes) same ∙ ap (λ (u : UpkeepsView). upkeep_at n u.passes) e;
+  }
+
+  done_still : (chore : Chore) (a b c : Option (PartView L D C)) → HasDone chore a b → KeepsUpkeep b c → HasDone chore a c
+  done_still chore a b c h k =
+      let same : k.part.pass.upkeep ≡ h.part.pass.upkeep = k.same ∙ ap (λ (p : PartView L D C). p.pass.upkeep) (some_is k.was h.part (sym k.was_is ∙ h.is)) in
+      record {
+        was = h.was;
+        was_is = h.was_is;
+        part = k.part;
+        is = k.is;
+        rounds = ap (λ (u : UpkeepView). u.rounds) same ∙ h.rounds;
+        through = record { round = ap (λ (u : UpkeepView). u.round) same ∙ h.through.round; todo = ap (λ (u : UpkeepView). u.todo) same ∙ h.through.todo };
+      }
+
+  pub done_chore : (chore : Chore) (a b c : Option (PartView L D C)) (r : Result Reply NoMemory) → HasDone chore a b → KeepsUpkeep b c → IfOk r (λ q. (q ≡ reply.Stopped → ⊥) → HasDone chore a c)
+  done_chore chore a b c (Ok q) h k = λ ne. done_still chore a b c h k
+  done_chore chore a b c (Err lost) h k = tt
+
+  -- the command has one chore
+  pub done_command : (given : Command) (mine chore : Chore) (a b : Option (PartView L D C)) (r : Result Reply NoMemory) → given ≡ command.Chore mine → IfOk r (λ q. (q ≡ reply.Stopped → ⊥) → HasDone mine a b) → given ≡ command.Chore chore
+      → IfOk r (λ q. (q ≡ reply.Stopped → ⊥) → HasDone chore a b)
+  done_command given mine chore a b r is done asked = subst (λ k. IfOk r (λ q. (q ≡ reply.Stopped → ⊥) → HasDone k a b)) (same_chore mine chore (ap Some (sym is ∙ asked))) done
 
   -- it was open before, where it is open behind
   pub open_chore : (s t i : ℕ) (a b : Option (PartView L D C)) (xs ys : List Event) (r : Result Reply NoMemory) → t ≡ s → IsGoing s a b xs ys → OnOk r (OnRoot b (λ root. IsOpen root t i ys))

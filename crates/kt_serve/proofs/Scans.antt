@@ -1,5 +1,5 @@
 -- The visits of a scan.
-use Rattle.std.proofs.Common.{◌≡◌, ◌≢◌, ◌≤◌, ◌<◌, ◌^◌, ℕ, ◌+◌, List, [], ◌∷◌, ◌++◌, Option, Some, None, length, true, cond, refl, sym, ap, ◌∙◌, subst, ne_eqb, arith, Result, Ok, Err}
+use Rattle.std.proofs.Common.{◌≡◌, ◌≢◌, ◌≤◌, ◌<◌, ◌^◌, ℕ, ◌+◌, List, [], ◌∷◌, ◌++◌, Option, Some, None, length, true, false, cond, refl, sym, ap, ◌∙◌, subst, ne_eqb, arith, Result, Ok, Err}
 use Rattle.std.specs.Prelude.{◌==◌, IfOk, IfErr, OnErr}
 use Rattle.std.specs.List.{filter}
 use Rattle.kt_base.specs.declared.cell.Cell.{Cell}
@@ -36,7 +36,7 @@ use Rattle.kt_seatlock.specs.Trails.{Follows}
 use Rattle.kt_engine.specs.Engines.{EngineView, IsFound, TellsStop, core_from}
 use Rattle.kt_engine.specs.Visits.{Root, root_of, PartView, part_in, session_of, out_of}
 use Rattle.kt_serve.specs.Sessions.{told_by, SameRoot, OnRoot, IsFree, HasNoLog, IsCommand, IsQuiet, AnswersOne, IsGoing, TellsOwn, has_stop}
-use Rattle.kt_serve.specs.Scans.{IsOn, ScansAt, IsLooking, AfterLook, past_by, TabletSnap, snap_row, ShowsRows, AnswersRows, HasSnapped, turn_of_read, AfterRead, IsQuietBut, LacksReply, TellsBut}
+use Rattle.kt_serve.specs.Scans.{IsOn, ScansAt, IsLooking, AfterLook, past_by, TabletSnap, snap_row, ShowsRows, AnswersRows, HasSnapped, turn_of_read, changes, AfterRead, IsQuietBut, LacksReply, TellsBut}
 use Rattle.kt_serve.proofs.Lines.{told_more, or_none, follows_quiet, quiet_self, quiet_then, quiet_line, is_mine}
 use Rattle.kt_serve.proofs.Flights.{none_flies, nth_set}
 use Rattle.kt_serve.proofs.Begins.{some_is, root_at, has_root, content_of, free_calm, free_turn, free_home, line_answers}
@@ -161,6 +161,15 @@ module _ {L D C : Type 0} where
     rests = none_flies by x.tablet.core.aloft (ap (λ k. filter (λ v. v.s == k) x.tablet.core.aloft) me ∙ look_calm told i at x n f is);
     scan = subst (λ k. IfScan (command_at x.tablet.core.work k i) (λ w. w ≡ at)) (sym me) (its (root_of x) (has_root told x n is));
   }
+
+  -- a scan that waits leaves the engine as it was
+  pub waits_same : (x y : EngineView L D C) (n i : ℕ) (r : Result TabletSnap SnapNo) → y ≡ record x { tablet = record x.tablet { core = y.tablet.core } } → IfErr r (LeavesRead x.tablet y.tablet n i) → changes (turn_of_read r) ≡ false → y ≡ x
+  waits_same x y n i (Ok snap) beside left is = absurd (cc)
+  waits_same x y n i (Err no.Stopped) beside left is = absurd (cc)
+  waits_same x y n i (Err (no.Ancient t a)) beside left is = absurd (cc)
+  waits_same x y n i (Err (no.Busy t f)) beside left is = absurd (cc)
+  waits_same x y n i (Err (no.NotYet f)) beside left is = beside ∙ ap (λ t. record x { tablet = record x.tablet { core = t.core } }) left
+  waits_same x y n i (Err no.Memory) beside left is = absurd (cc)
 
   -- the log is where it was
   pub look_stays : (told told' : Option (PartView L D C)) (x y : EngineView L D C) (n n' i : ℕ) (at : At) → told ≡ Some (part_in x n) → told' ≡ Some (part_in y n') → n' ≡ n → IsLooking told i at → y.log ≡ x.log → HasNoLog told'

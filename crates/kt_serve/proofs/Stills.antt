@@ -16,7 +16,7 @@ use Rattle.std.specs.List.{filter}
 use Rattle.kt_history.specs.declared.operation.RowOp.{RowOp}
 use Rattle.kt_serve.specs.declared.log.LogTurn.{LogTurn}
 use Rattle.kt_serve.specs.declared.log.LogTurn.TheVariants as turn
-use Rattle.kt_serve.specs.Sessions.{AfterTurn, LentBy, Flies, HasRoot, IsQuiet, HasNoLog, HasLog, IsGoing, IsStill, IsAloft, has_stop}
+use Rattle.kt_serve.specs.Sessions.{AfterTurn, LentBy, changes, Flies, HasRoot, IsQuiet, HasNoLog, HasLog, IsGoing, IsStill, IsAloft, has_stop}
 use Rattle.kt_serve.proofs.Lines.{follows_quiet, quiet_self, quiet_then, quiet_line}
 use Rattle.kt_serve.proofs.Stops.{has_stop-end, has_stop-more, stop_seen}
 use Rattle.kt_serve.proofs.Begins.{some_is}
@@ -49,6 +49,14 @@ module _ {L D C : Type 0} where
   went_out told x n journal records is h =
       let here : part_in x n ≡ h.part = some_is (part_in x n) h.part (sym is ∙ h.is) in
       (known_of x.log.holder x.log.known journal n (ap (λ (p : PartView L D C). p.lent) here ∙ h.lent), out_is x.log.holder x.log.out records n (ap (λ (p : PartView L D C). p.pass.out) here ∙ h.out))
+
+  -- where the log does not go out the engine is as it was
+  pub lent_same : (Ready : JournalView L → List Entry → Type 0) (x y : EngineView L D C) (by : ℕ) (t : LogTurn L) → LentBy Ready x y by t → changes t ≡ false → y ≡ x
+  lent_same Ready x y by turn.Durable lent is = lent
+  lent_same Ready x y by (turn.Append batch) lent is = absurd (cc)
+  lent_same Ready x y by turn.Wait lent is = lent
+  lent_same Ready x y by turn.Stopped lent is = lent.0
+  lent_same Ready x y by turn.Memory lent is = lent
 
   pub still_visit : (told told' : Option (PartView L D C)) (seen seen' : List Event) (x y : EngineView L D C) (m n n' : ℕ) → told ≡ Some (part_in x n) → told' ≡ Some (part_in y n') → n' ≡ n → Follows session_of n seen x.tablet.core.trail → seen' ≡ y.tablet.core.trail
       → IsVisit m x y → part y.tablet.core n ≡ part x.tablet.core n → AddsStop x.tablet.core.trail y.tablet.core.trail → IsStill n told told' seen seen'

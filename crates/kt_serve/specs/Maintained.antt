@@ -14,3 +14,11 @@ pub record HasDoneWith {L D C : Type 0} (chore : Chore) (told : Option (PartView
   pub part : PartView L D C
   pub is : told ≡ Some part
   pub through : IsThrough chore part.pass.upkeep
+
+-- What the pass has of maintenance stays.
+pub record KeepsUpkeep {L D C : Type 0} (before after : Option (PartView L D C)) : Type 0 where
+  pub was : PartView L D C
+  pub was_is : before ≡ Some was
+  pub part : PartView L D C
+  pub is : after ≡ Some part
+  pub same : part.pass.upkeep ≡ was.pass.upkeep

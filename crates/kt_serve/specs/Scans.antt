@@ -1,5 +1,5 @@
 -- The visits of a scan, and what they leave of its session.
-use Rattle.std.specs.Prelude.{◌≡◌, ◌≢◌, ◌≤◌, ◌+◌, ◌==◌, ℕ, List, [], length, true, Option, Some, None, Result, Ok, Err, if◌then◌else◌}
+use Rattle.std.specs.Prelude.{◌≡◌, ◌≢◌, ◌≤◌, ◌+◌, ◌==◌, ℕ, Bool, List, [], length, true, false, Option, Some, None, Result, Ok, Err, if◌then◌else◌}
 use Rattle.std.specs.List.{All}
 use Rattle.kt_history.specs.declared.event.Event.{Event}
 use Rattle.kt_history.specs.declared.reply.Reply.{Reply}
@@ -89,6 +89,13 @@ turn_of_read (Err (no.Ancient t a)) = turn.Told (reply.Ancient t a)
 turn_of_read (Err (no.Busy t f)) = turn.Told (reply.Busy t f)
 turn_of_read (Err (no.NotYet f)) = turn.Wait
 turn_of_read (Err no.Memory) = turn.Memory
+
+-- whether a visit that may read a snapshot may change the engine: not where the scan waits
+abbrev pub changes : ScanTurn → Bool
+changes (turn.Read snap) = true
+changes (turn.Told reply) = true
+changes turn.Wait = false
+changes turn.Memory = true
 
 -- what a visit leaves that may read a snapshot
 abbrev pub AfterRead : {L D C : Type 0} → Option (PartView L D C) → Option (PartView L D C) → List Event → List Event → ℕ → ℕ → At → ScanTurn → Type 0

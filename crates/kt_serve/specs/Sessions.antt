@@ -144,6 +144,14 @@ LentBy Ready old new by turn.Wait = new ≡ old
 LentBy Ready old new by turn.Stopped = (new ≡ old) × (old.tablet.core.stopped ≡ true)
 LentBy Ready old new by turn.Memory = new ≡ old
 
+-- whether a visit that asks for the log may change the engine: only where it goes out
+abbrev pub changes : {L : Type 0} → LogTurn L → Bool
+changes turn.Durable = false
+changes (turn.Append batch) = true
+changes turn.Wait = false
+changes turn.Stopped = false
+changes turn.Memory = false
+
 -- a write of the session flies
 abbrev pub Flies : {L D C : Type 0} → EngineView L D C → ℕ → Type 0
 Flies view s = (w : Aloft) × (rest : List Aloft) × (filter (λ v. v.s == s) view.tablet.core.aloft ≡ w ∷ rest)

@@ -5,7 +5,7 @@ ghost use Rattle.kt_history.specs.declared.command.Command.{Command};
 ghost use Rattle.kt_seatlock.specs.Passes.{number, seen, part, MayEnter, IsBack};
 ghost use Rattle.kt_engine.specs.Calls.{HasNoDevice, HasDone, StandsStill, SeesOthers};
 ghost use Rattle.kt_serve.specs.Answered.{IsOpen};
-ghost use Rattle.kt_serve.specs.Maintained.{HasDoneWith, StoreRests};
+ghost use Rattle.kt_serve.specs.Maintained.{HasDoneWith, KeepsUpkeep, StoreRests};
 ghost use Rattle.kt_serve.specs.Sessions.{IsFree, IsCommand, SameRoot, OnRoot, AfterCommand, IsGoing, HasNoLog, has_stop};
 
 use kt_base::{Chore, Clock, NoMemory};
@@ -66,6 +66,7 @@ fn answer_once<L: Disk, D: Disk + Drop, C: Clock, R: Wait>(
     requires few { index + 1 < 2 ^ 32 }
     requires done { HasDoneWith chore (part pass.old) }
     ensures pass { IsBack pass.old pass.new }
+    ensures upkeep { KeepsUpkeep (part pass.old) (part pass.new) }
     ensures home { HasNoLog (part pass.new) }
     ensures root { SameRoot (part pass.old) (part pass.new) }
     ensures open { OnOk result (OnRoot (part pass.old) (λ root. IsOpen root (number pass.old) index (seen pass.old))) }
@@ -85,7 +86,7 @@ fn answer_once<L: Disk, D: Disk + Drop, C: Clock, R: Wait>(
     }
 }
 
-/// Runs a chore as the next command of a session, and answers it once nothing of it is left to do.
+/// Runs a chore as the next command of a session, and answers it once nothing of it is left to do: of the round that this call made of it.
 pub fn run_chore<L: Disk, D: Disk + Drop, C: Clock, R: Wait, H: Chores<L, D, C>>(
     rt: &R,
     alloc: Global,
@@ -101,6 +102,7 @@ pub fn run_chore<L: Disk, D: Disk + Drop, C: Clock, R: Wait, H: Chores<L, D, C>>
     requires command { IsCommand (part pass.old) (number pass.old) index (Command.Chore chore) }
     requires few { index + 1 < 2 ^ 32 }
     ensures pass { IsBack pass.old pass.new }
+    ensures done { IfOk result (λ reply. reply ≢ Reply.Stopped → HasDone chore (part pass.old) (part pass.new)) }
     ensures home { HasNoLog (part pass.new) }
     ensures root { SameRoot (part pass.old) (part pass.new) }
     ensures open { IfOk result (λ reply. reply ≢ Reply.Stopped → OnRoot (part pass.old) (λ root. IsOpen root (number pass.old) index (seen pass.old))) }

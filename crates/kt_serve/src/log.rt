@@ -4,7 +4,7 @@ ghost use Rattle.kt_history.specs.declared.operation.RowOp.{RowOp};
 ghost use Rattle.kt_seatlock.specs.Passes.{number, seen, part, MayEnter, IsBack};
 ghost use Rattle.kt_engine.specs.Engines.{IsLent};
 ghost use Rattle.kt_engine.specs.Visits.{IsVisit};
-ghost use Rattle.kt_serve.specs.Sessions.{Flies, LentBy, IsAloft, HasNoLog, HasLog, IsStill, AfterTurn, has_stop};
+ghost use Rattle.kt_serve.specs.Sessions.{Flies, LentBy, IsAloft, HasNoLog, HasLog, IsStill, AfterTurn, changes, has_stop};
 
 use crate::home::{take_back, take_broken, take_home};
 use kt_base::Clock;
@@ -36,6 +36,15 @@ pub enum LogTurn<L: Disk> {
     Wait,
     Stopped,
     Memory,
+}
+
+impl<L: Disk> LogTurn<L> {
+    // Whether the visit may have changed the engine.
+    fn changes(&self) -> bool
+        ensures { result ≡ changes self.now }
+    {
+        matches!(self, LogTurn::Append(_))
+    }
 }
 
 // Lends the log, unless the REPLICATE of the session's write is durable.
@@ -83,7 +92,7 @@ fn ask_log<L: Disk, D: Disk + Drop, C: Clock, R: Wait>(
     let mut engine = lock.enter(rt, pass);
     engine.standing();
     let turn = lend(alloc, &mut engine, by);
-    lock.leave(pass, engine);
+    lock.leave_as(pass, engine, turn.changes());
     turn
 }
 
@@ -119,7 +128,8 @@ fn bring_home<L: Disk, D: Disk + Drop, C: Clock, R: Wait>(
     }
 }
 
-/// Makes the REPLICATE of the session's write durable: this pass does it, or waits for the one that has the log.
+/// Makes the REPLICATE of the session's write durable: this pass does it, or waits for the one that has the log. Its visits wake nobody who rests, but those
+/// that take the log out and bring it home.
 pub fn make_durable<L: Disk, D: Disk + Drop, C: Clock, R: Wait>(
     rt: &R,
     alloc: Global,

@@ -6,7 +6,7 @@ ghost use Rattle.kt_history.specs.declared.scan.At.TheVariants.{Looked};
 ghost use Rattle.kt_seatlock.specs.Passes.{number, seen, part, MayEnter, IsBack};
 ghost use Rattle.kt_serve.specs.Answered.{IsAnswered, IsOpen};
 ghost use Rattle.kt_serve.specs.Sessions.{IsFree, IsCommand, OnRoot, SameRoot, HasNoLog, IsGoing, AfterCommand, has_stop};
-ghost use Rattle.kt_serve.specs.Scans.{IsOn, ScansAt, IsLooking, AfterLook, turn_of_read, AfterRead, LacksReply};
+ghost use Rattle.kt_serve.specs.Scans.{IsOn, ScansAt, IsLooking, AfterLook, turn_of_read, changes, AfterRead, LacksReply};
 
 use crate::log::Halt;
 use crate::shown::snap_shown;
@@ -31,6 +31,15 @@ pub enum ScanTurn {
     /// A write flies that is not later than the time that it has drawn.
     Wait,
     Memory,
+}
+
+impl ScanTurn {
+    // Whether the visit may have changed the engine.
+    fn changes(&self) -> bool
+        ensures { result ≡ changes self.now }
+    {
+        !matches!(self, ScanTurn::Wait)
+    }
 }
 
 fn turn_of(read: Result<Snap<RowSetView>, SnapNo>) -> ScanTurn
@@ -120,8 +129,9 @@ fn read_once<L: Disk, D: Disk + Drop, C: Clock, R: Wait>(
     let mut engine = lock.enter(rt, pass);
     engine.standing();
     let read = engine.snapshot(alloc, by, index, at);
-    lock.leave(pass, engine);
-    turn_of(read)
+    let turn = turn_of(read);
+    lock.leave_as(pass, engine, turn.changes());
+    turn
 }
 
 // Answers a scan whose time is drawn or given, as soon as no write flies that is not later than the time drawn.

@@ -3,6 +3,8 @@ ghost use Rattle.std.specs.Prelude.{◌≡◌, ◌≢◌, ◌<◌, ◌+◌, ◌^
 ghost use Rattle.kt_history.specs.declared.change.Outcome.{Outcome};
 ghost use Rattle.kt_history.specs.declared.command.Command.{Command};
 ghost use Rattle.kt_seatlock.specs.Passes.{number, seen, part, MayEnter, IsBack};
+ghost use Rattle.kt_base.specs.declared.chore.Chore.{Chore};
+ghost use Rattle.kt_engine.specs.Calls.{HasDone};
 ghost use Rattle.kt_serve.specs.Answered.{IsAnswered};
 ghost use Rattle.kt_serve.specs.Maintained.{StoreRests};
 ghost use Rattle.kt_serve.specs.Scans.{IsOn, LacksReply};
@@ -103,7 +105,7 @@ impl<L: Disk, D: Disk + Drop, C: Clock> SharedTablet<L, D, C> {
         mark_once(rt, &self.lock, pass, index, to)
     }
 
-    /// Maintenance: it is answered once all that it asks for is done. The same holds of its reply.
+    /// Maintenance: it is answered once all that it asks for is done, by a round of this call. The same holds of its reply.
     pub fn chore<R: Wait, H: Chores<L, D, C>>(
         &self,
         rt: &R,
@@ -123,6 +125,7 @@ impl<L: Disk, D: Disk + Drop, C: Clock> SharedTablet<L, D, C> {
         ensures root { SameRoot (part pass.old) (part pass.new) }
         ensures reply { IfOk result (λ reply. AfterCommand (part pass.old) (part pass.new) (seen pass.old) (seen pass.new) (number pass.old) index reply) }
         ensures answer { IfOk result (λ reply. reply ≢ Reply.Stopped → OnRoot (part pass.old) (λ root. IsAnswered root (number pass.old) index reply (seen pass.new))) }
+        ensures done { IfOk result (λ reply. reply ≢ Reply.Stopped → HasDone chore (part pass.old) (part pass.new)) }
         ensures unwritten { (ts : ℕ) (outcomes : List Outcome) → result ≢ Ok (Reply.At ts outcomes) }
         ensures memory { OnErr result (IsGoing (number pass.old) (part pass.old) (part pass.new) (seen pass.old) (seen pass.new)) }
     {
@@ -168,6 +171,7 @@ impl<L: Disk, D: Disk + Drop, C: Clock> SharedTablet<L, D, C> {
         ensures reply { IfOk result (λ reply. AfterCommand (part pass.old) (part pass.new) (seen pass.old) (seen pass.new) (number pass.old) index reply) }
         ensures answer { IfOk result (λ reply. reply ≢ Reply.Stopped → OnRoot (part pass.old) (λ root. IsAnswered root (number pass.old) index reply (seen pass.new))) }
         ensures begun { (ts : ℕ) (outcomes : List Outcome) → result ≡ Ok (Reply.At ts outcomes) → G.came gate.now (Point.Begun (number pass.old) index) }
+        ensures done { (chore : Chore) → command.now ≡ Command.Chore chore → IfOk result (λ reply. reply ≢ Reply.Stopped → HasDone chore (part pass.old) (part pass.new)) }
         ensures memory { OnErr result (LacksReply (number pass.old) index (part pass.old) (part pass.new) (seen pass.old) (seen pass.new)) }
     {
         match command {

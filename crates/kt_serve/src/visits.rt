@@ -1,5 +1,5 @@
 //! Single visits of a pass.
-ghost use Rattle.std.specs.Prelude.{◌≡◌, ◌≢◌, ◌<◌, ◌+◌, ◌^◌, ℕ, List, Ok, Err, Some, IfOk, OnOk, OnErr, true};
+ghost use Rattle.std.specs.Prelude.{◌≡◌, ◌≢◌, ◌<◌, ◌+◌, ◌^◌, ℕ, List, Ok, Err, Some, IfOk, OnOk, OnErr, true, false};
 ghost use Rattle.kt_history.specs.declared.change.Outcome.{Outcome};
 ghost use Rattle.kt_history.specs.declared.command.Command.{Command};
 ghost use Rattle.kt_seatlock.specs.Passes.{number, seen, part, MayEnter, IsBack};
@@ -15,6 +15,13 @@ use kt_history::{Reply, Write};
 use kt_seatlock::{Pass, SeatLock};
 use std::alloc::Global;
 use std::sync::Wait;
+
+// Whether a visit that would begin a write may have changed the engine: not where the write waits.
+fn changes(begun: &Result<u64, BeginNo>) -> bool
+    ensures { result ≡ false → (ts : ℕ) × (begun.now ≡ Err (BeginNo.Wait ts)) }
+{
+    !matches!(begun, Err(BeginNo::Wait { ts: _ }))
+}
 
 /// Begins the next command of a session, a write that was made ready, unless something stands in its way. What was made
 /// ready then stays for another visit.
@@ -40,7 +47,7 @@ pub fn begin_once<L: Disk, D: Disk + Drop, C: Clock, R: Wait>(
     let mut engine = lock.enter(rt, pass);
     engine.standing();
     let begun = engine.begin_draft(alloc, by, index, draft);
-    lock.leave(pass, engine);
+    lock.leave_as(pass, engine, changes(&begun));
     begun
 }
 

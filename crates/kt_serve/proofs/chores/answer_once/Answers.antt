@@ -1,5 +1,5 @@
 use Rattle.std.proofs.Common.{None, rules, ap, ◌∙◌}
-use Rattle.kt_serve.proofs.Maintained.{may_answer, is_through, after_chore}
+use Rattle.kt_serve.proofs.Maintained.{may_answer, is_through, after_chore, keeps_upkeep}
 use Rattle.kt_serve.proofs.Begins.{same_root, free_turn}
 use Rattle.kt_serve.proofs.Open.{is_open}
 use Rattle.kt_serve.proofs.Stills.{still_tablet, still_going}
@@ -40,3 +40,12 @@ returns-in-Ok-clause-open g c = is_open _ c.enter-engine.result _ c.args.index N
 
 pub returns-in-Err-Stopped-clause-open : goal.returns-in-Err-Stopped-clause-open
 returns-in-Err-Stopped-clause-open g c = is_open _ c.enter-engine.result _ c.args.index None _ g.C.Clock.readings c.enter-engine.ensures.part.0 (free_turn _ _ c.enter-engine.result _ c.requires.next c.enter-engine.ensures.part.0) c.enter-engine.ensures.trail c.standing.ensures.sound
+
+pub returns-in-Ok-clause-upkeep : goal.returns-in-Ok-clause-upkeep
+returns-in-Ok-clause-upkeep g c = keeps_upkeep _ _ c.enter-engine.result c.chore_done-answered.new.self _ _ c.enter-engine.ensures.part.0 c.leave.ensures.told.1 (c.leave.ensures.pass.0.1 ∙ c.enter-engine.ensures.pass.0.1) (ap (λ v. v.upkeep) c.in-Ok.ensures.answered)
+
+pub returns-in-Err-Stopped-clause-upkeep : goal.returns-in-Err-Stopped-clause-upkeep
+returns-in-Err-Stopped-clause-upkeep g c = keeps_upkeep _ _ c.enter-engine.result c.chore_done-answered.new.self _ _ c.enter-engine.ensures.part.0 c.leave.ensures.told.1 (c.leave.ensures.pass.0.1 ∙ c.enter-engine.ensures.pass.0.1) (ap (λ v. v.upkeep) (rw c.in-Err-Stopped.is at c.chore_done-answered.ensures.same))
+
+pub returns-in-Err-Memory-clause-upkeep : goal.returns-in-Err-Memory-clause-upkeep
+returns-in-Err-Memory-clause-upkeep g c = keeps_upkeep _ _ c.enter-engine.result c.chore_done-answered.new.self _ _ c.enter-engine.ensures.part.0 c.leave.ensures.told.1 (c.leave.ensures.pass.0.1 ∙ c.enter-engine.ensures.pass.0.1) (ap (λ v. v.upkeep) (rw c.in-Err-Memory.is at c.chore_done-answered.ensures.same))

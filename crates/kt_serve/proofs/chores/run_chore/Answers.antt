@@ -1,7 +1,7 @@
 use Rattle.std.proofs.Common.{rules, refl}
 use Rattle.kt_history.specs.declared.command.Command.TheVariants as command
 use Rattle.kt_seatlock.specs.Passes.{number, part, seen}
-use Rattle.kt_serve.proofs.Maintained.{no_device, device_log, still_goes, still_free, done_with, open_chore, reply_chore, lost_chore}
+use Rattle.kt_serve.proofs.Maintained.{no_device, device_log, still_goes, still_free, done_with, done_chore, open_chore, reply_chore, lost_chore}
 use Rattle.kt_serve.proofs.Commands.{command_after}
 use Rattle.kt_serve.proofs.chores.run_chore.Goals as goal
 
@@ -59,3 +59,9 @@ returns-in-Err-Memory-clause-root g c = let going = still_goes (number c.args.pa
 
 pub returns-in-Err-Memory-clause-memory : goal.returns-in-Err-Memory-clause-memory
 returns-in-Err-Memory-clause-memory g c = still_goes (number c.args.pass.now) (part c.args.pass.now) (part c.run.new.pass) (seen c.args.pass.now) (seen c.run.new.pass) c.run.ensures.still c.run.ensures.quiet
+
+pub returns-in-Ok-clause-done : goal.returns-in-Ok-clause-done
+returns-in-Ok-clause-done g c = done_chore c.args.chore (part c.args.pass.now) (part c.run.new.pass) (part c.answer_once.new.pass) c.answer_once.result c.in-Ok.ensures.done c.answer_once.ensures.upkeep
+
+pub returns-in-Err-Stopped-clause-done : goal.returns-in-Err-Stopped-clause-done
+returns-in-Err-Stopped-clause-done g c = λ ne. absurd (ne refl)

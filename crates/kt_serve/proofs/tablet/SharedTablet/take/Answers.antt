@@ -1,6 +1,7 @@
 use Rattle.std.proofs.lemmas.Result.{on_err_weaker}
 use Rattle.kt_seatlock.specs.Passes.{number, part, seen}
 use Rattle.kt_serve.proofs.Scans.{going_lacks}
+use Rattle.kt_serve.proofs.Maintained.{done_command}
 use Rattle.kt_serve.proofs.tablet.SharedTablet.take.Goals as goal
 
 pub returns-in-Write-clause-memory : goal.returns-in-Write-clause-memory
@@ -11,3 +12,6 @@ returns-in-Mark-clause-memory g c = on_err_weaker c.mark.result (going_lacks (nu
 
 pub returns-in-Chore-clause-memory : goal.returns-in-Chore-clause-memory
 returns-in-Chore-clause-memory g c = on_err_weaker c.chore.result (going_lacks (number c.args.pass.now) c.args.index (part c.args.pass.now) (part c.chore.new.pass) (seen c.args.pass.now) (seen c.chore.new.pass)) c.chore.ensures.memory
+
+pub returns-in-Chore-clause-done : goal.returns-in-Chore-clause-done
+returns-in-Chore-clause-done g c = λ chore asked. done_command c.args.command.now _ chore (part c.args.pass.now) (part c.chore.new.pass) c.chore.result c.in-Chore.is c.chore.ensures.done asked
