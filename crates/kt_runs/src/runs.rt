@@ -1,6 +1,5 @@
 //! Whole runs over the outside in memory.
 ghost use Rattle.std.specs.Prelude.{◌≡◌, [], IsTrue, IfOk};
-ghost use Rattle.kt_disk.specs.Memory.{mem_now, mem_seen, mem_leaves};
 ghost use Rattle.kt_journal.specs.Log.{CanOpen};
 ghost use Rattle.kt_storeside.specs.Supers.{NamedStand};
 
@@ -15,6 +14,7 @@ use std::thread::Threads;
 mod crashes;
 mod points;
 mod schedules;
+mod stops;
 
 const HEAD: &[u8] = b"table\ncolumn id int64 key\ncolumn v string\n";
 
@@ -37,16 +37,16 @@ fn room(alloc: Global) -> Result<MemSink, NoMemory> {
 
 // The status, what was written, and both devices, where a script of these lines is run at the readings 5 and 3 and comes to
 // the points of this gate.
-fn run<R: Threads + Wait + Sync, L: Disk + Send + Drop, G: Gate + Sync>(
+fn run<R: Threads + Wait + Sync, L: Disk + Send + Drop, D: Disk + Send + Drop, G: Gate + Sync>(
     rt: &R,
     alloc: Global,
     lines: &[u8],
     log: L,
-    store: MemDisk,
+    store: D,
     gate: &G,
-) -> Result<(u8, MemSink, L, MemDisk), NoMemory>
+) -> Result<(u8, MemSink, L, D), NoMemory>
     requires openable { IsTrue L.tells → CanOpen L.now L.leaves log }
-    requires stand { NamedStand mem_seen mem_now mem_leaves store }
+    requires stand { IsTrue D.tells → NamedStand D.seen D.now D.leaves store }
 {
     let clock = MemClock::of(ReadingList::of(vec![in alloc; 5, 3]?));
     let mut source = MemSource::of(script(alloc, lines)?, no_calls(alloc));
@@ -65,7 +65,7 @@ fn run<R: Threads + Wait + Sync, L: Disk + Send + Drop, G: Gate + Sync>(
     Ok((ended.status, sink, ended.log, ended.store))
 }
 
-// An empty log of which a change fails.
+// An empty device of which a change fails. They are counted from 1.
 fn failing(alloc: Global, change: u64) -> Result<FaultDisk<MemDisk>, Fail>
     ensures { IfOk result (λ disk. disk.inner.calls ≡ []) }
 {

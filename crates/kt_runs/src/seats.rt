@@ -2,7 +2,7 @@
 ghost use Rattle.std.specs.Prelude.{◌≡◌, ◌+◌, ◌<◌, ◌≤◌, [], IfOk, length};
 ghost use Rattle.kt_seatlock.specs.Passes.{joined, given, passes_of, IsOutside, IsSamePass, MayEnter, IsBack};
 
-use kt_seatlock::{Journal, Line, NoMemory, Pass, SeatLock, write_all};
+use kt_seatlock::{Journal, Line, NoMemory, Pass, SeatLock, count_lines, write_all};
 use std::alloc::{AllocError, Global};
 use std::sync::Wait;
 use std::test::Fail;
@@ -171,7 +171,7 @@ fn with_four<R: Threads + Wait + Sync>(
     back
 }
 
-// Rests until another's visit has ended, and says how many lines there are then.
+// Rests until another's visit has changed something, and says how many lines there are then.
 fn rested<R: Wait>(rt: &R, lock: &SeatLock<Journal>, mut pass: Pass<Journal>) -> usize
     requires { MayEnter lock.now pass }
 {
@@ -182,12 +182,14 @@ fn rested<R: Wait>(rt: &R, lock: &SeatLock<Journal>, mut pass: Pass<Journal>) ->
     found
 }
 
-// Writes a line after a while.
+// Counts the lines after a while, by which nobody's rest ends, and writes one after another while.
 fn late<R: Wait + Clock>(rt: &R, lock: &SeatLock<Journal>, mut pass: Pass<Journal>) -> bool
     requires { MayEnter lock.now pass }
 {
-    thread::sleep(rt, Duration::from_millis(300));
-    write_all(rt, lock, &mut pass, &[7]).is_ok()
+    thread::sleep(rt, Duration::from_millis(200));
+    let none = count_lines(rt, lock, &mut pass) == 0;
+    thread::sleep(rt, Duration::from_millis(200));
+    none && write_all(rt, lock, &mut pass, &[7]).is_ok()
 }
 
 fn resting<R: Threads + Wait + Clock + Sync>(
@@ -243,7 +245,7 @@ fn eight_threads_write_each_line_once(rt: HostRuntime) -> Result<(), Fail> {
 }
 
 #[test]
-fn a_thread_rests_until_anothers_visit(rt: HostRuntime) -> Result<(), Fail> {
+fn a_thread_rests_until_another_changes_something(rt: HostRuntime) -> Result<(), Fail> {
     let journal = empty(rt.alloc(), 2)?;
     let (lock, mut pass) = filled(rt.alloc(), journal, 2).expect(&rt, "memory");
     let other = lock.split(&mut pass);

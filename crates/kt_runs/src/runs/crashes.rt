@@ -48,13 +48,13 @@ const COMPACT: Upkeep = Upkeep {
 };
 
 // What becomes of the writes that are not stable: all are left out, all are there, half of each is, or each has ones in its place.
-const PICKS: [[u8; 64]; 4] = [[0; 64], [1; 64], [2; 64], [3; 64]];
+pub(super) const PICKS: [[u8; 64]; 4] = [[0; 64], [1; 64], [2; 64], [3; 64]];
 
 // Both devices of a run.
 #[derive(Drop)]
-struct Devices {
-    log: MemDisk,
-    store: MemDisk,
+pub(super) struct Devices {
+    pub(super) log: MemDisk,
+    pub(super) store: MemDisk,
 }
 
 // New ones.
@@ -82,7 +82,7 @@ fn after<R: Threads + Wait + Sync>(
 }
 
 // What a crash at these moments leaves of both.
-fn left(
+pub(super) fn left(
     alloc: Global,
     devices: &Devices,
     log: u64,
@@ -99,16 +99,17 @@ fn left(
     })
 }
 
-// What the reads print over devices to which nothing was done yet.
-fn reads<R: Threads + Wait + Sync>(
+// What these lines print over devices to which nothing was done yet.
+pub(super) fn reads<R: Threads + Wait + Sync>(
     rt: &R,
     alloc: Global,
+    lines: &[u8],
     devices: Devices,
 ) -> Result<MemSink, NoMemory>
     requires { (devices.log.calls ≡ []) × (devices.store.calls ≡ []) }
 {
     let Devices { log, store } = devices;
-    let (_, sink, ..) = run(rt, alloc, READS, log, store, &PassGate)?;
+    let (_, sink, ..) = run(rt, alloc, lines, log, store, &PassGate)?;
     Ok(sink)
 }
 
@@ -121,7 +122,7 @@ fn log_keeps<R: Threads + Wait + Sync>(
     before: &[u8],
 ) -> Result<bool, NoMemory> {
     'moments: for at in 0..devices.log.moment() {
-        let sink = reads(rt, alloc, left(alloc, devices, at, 0, pick)?)?;
+        let sink = reads(rt, alloc, READS, left(alloc, devices, at, 0, pick)?)?;
         if sink.bytes() != before {
             return Ok(false);
         }
@@ -140,7 +141,7 @@ fn store_keeps<R: Threads + Wait + Sync>(
     let end = devices.log.moment();
     let mut is_done = false;
     'moments: for at in 0..devices.store.moment() {
-        let sink = reads(rt, alloc, left(alloc, devices, end, at, pick)?)?;
+        let sink = reads(rt, alloc, READS, left(alloc, devices, end, at, pick)?)?;
         if sink.bytes() == it.after {
             is_done = true;
         } else if is_done || sink.bytes() != it.before {

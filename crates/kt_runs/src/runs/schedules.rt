@@ -56,7 +56,7 @@ const FIRST_ENDED: Moment = Moment::At(Point::After {
 });
 
 // A rule that holds nothing.
-const NONE: Rule = Rule {
+pub(super) const NONE: Rule = Rule {
     hold: Moment::At(Point::After {
         session: 0,
         index: 0,
