@@ -22,7 +22,7 @@ rises_cut a low (c ∷ steps) r = by (nat_lt a c.0) refl (rises_cut a c.0 steps 
         (up, subst (Rises c.0) (sym (each_above a steps (each_from a c.0 steps (omega arith) r.1))) r.1)
     by false e rest = rest
 
-above_twice : (j a : ℕ) (steps : Steps) → j ≤ a → steps_above a (steps_above j steps) ≡ steps_above a steps
+pub above_twice : (j a : ℕ) (steps : Steps) → j ≤ a → steps_above a (steps_above j steps) ≡ steps_above a steps
 above_twice j a [] le = refl
 above_twice j a (c ∷ steps) le = by (nat_lt j c.0) refl (above_twice j a steps le)
   where

@@ -4,11 +4,13 @@ pub mod Compacted
 pub mod Groups
 pub mod InMemory
 pub mod Joined
+pub mod Late
 pub mod Later
 pub mod Listed
 pub mod ListsRise
 pub mod Merged
 pub mod OfTable
+pub mod OnceEach
 pub mod Passed
 pub mod Passing
 pub mod PassingHistories

@@ -3,5 +3,6 @@ pub mod ChangesOver
 pub mod Compacts
 pub mod DeltaJobs
 pub mod InMemory
+pub mod Late
 pub mod Outputs
 pub mod Written

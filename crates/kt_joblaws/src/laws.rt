@@ -5,6 +5,7 @@ ghost use Rattle.kt_joblaws.specs.Written.{written_rowsets_are_the_same, written
 ghost use Rattle.kt_joblaws.specs.Outputs.{outputs_pass, lists_tell_all, lists_rise, marks_may_rise};
 ghost use Rattle.kt_joblaws.specs.Apart.{stores_that_stand_are_apart, some_are_apart, those_are_apart, a_joined_history_is_shown, a_flush_reads_no_fault};
 ghost use Rattle.kt_joblaws.specs.InMemory.{what_memory_has_passes};
+ghost use Rattle.kt_joblaws.specs.Late.{what_was_read_has_nothing_later, a_change_comes_later, late_changes_are_apart, late_changes_make_alike, late_changes_pass, late_outputs_are_alike, a_late_output_passes, outputs_have_a_key_once};
 ghost use Rattle.kt_joblaws.specs.DeltaJobs.{a_rewritten_rowset_stands, a_rowset_of_passing_histories_passes, histories_of_passing_rowsets_pass};
 
 /// The superblock of a flush stands over the stores with its outputs.
@@ -91,4 +92,16 @@ pub fn merge_law()
 /// And where a superblock and a log hold a past by the rules of the table, it passes them.
 pub fn taken_law()
     ensures { what_is_taken_passes }
+{}
+
+/// Outputs that were written of what was read show with the changes that came later what the stores show now.
+pub fn late_law()
+    ensures read { what_was_read_has_nothing_later }
+    ensures more { a_change_comes_later }
+    ensures apart { late_changes_are_apart }
+    ensures alike { late_changes_make_alike }
+    ensures pass { late_changes_pass }
+    ensures outputs { late_outputs_are_alike }
+    ensures passes { a_late_output_passes }
+    ensures once { outputs_have_a_key_once }
 {}

@@ -32,3 +32,5 @@ pub mod Refolded
 pub mod AllUndone
 pub mod Holding
 pub mod ToldInOrder
+pub mod LateMoved
+pub mod LateTold

@@ -8,5 +8,6 @@ pub mod Told
 pub mod Changes
 pub mod Heads
 pub mod Merge
+pub mod Late
 pub mod Major
 pub mod Rewriting

@@ -2,6 +2,7 @@
 ghost use Rattle.kt_merge.specs.Minor.{merged_files_tell_the_same};
 ghost use Rattle.kt_merge.specs.Folding.{a_row_folded_is_alike, a_row_folded_whole_is_the_same, a_row_folded_whole_leads_back, changes_that_fit_leave_a_row};
 ghost use Rattle.kt_merge.specs.Major.{a_folded_rowset_tells_the_same};
+ghost use Rattle.kt_merge.specs.Late.{late_changes_are_in_memory};
 ghost use Rattle.kt_merge.specs.Merge.{outputs_are_alike, outputs_are_sound, outputs_lead_back};
 ghost use Rattle.kt_merge.specs.OneKey.{a_key_written_is_alike, a_key_written_is_sound, a_key_written_leads_back, a_key_written_fits_files};
 ghost use Rattle.kt_merge.specs.Laws.{a_row_written_is_the_history, a_row_written_leads_back, a_row_not_written_is_not_there};
@@ -49,4 +50,9 @@ pub fn outputs_law()
     ensures alike { outputs_are_alike }
     ensures sound { outputs_are_sound }
     ensures led { outputs_lead_back }
+{}
+
+/// What disk rowsets have above a bound is in memory, where none of their records lies above it.
+pub fn late_law()
+    ensures { late_changes_are_in_memory }
 {}

@@ -3,7 +3,8 @@
 //! For the layer above: `merge_rows` writes of each key of its inputs one row, which has the row at a mark and the changes above it up
 //! to a bound; `major` folds a rowset's REDO records into its base rows, which then tell the same; `minor` makes one REDO file of
 //! several, with all their records; `with_deltas`, `with_one_redo` and `with_folded` write one rowset's files anew, so that they tell
-//! exactly what it told; `folded_whole` is both of the first and the last, with each row's changes in their order. It stands on disk rowsets as plain data, on base files and delta files, and on the definitions of
+//! exactly what it told; `folded_whole` is both of the first and the last, with each row's changes in their order. `with_late` puts into an output what its
+//! inputs took since they were read. It stands on disk rowsets as plain data, on base files and delta files, and on the definitions of
 //! changes and of histories.
 #![tactic(auto)]
 
@@ -12,6 +13,7 @@ pub mod compacting;
 pub mod fitting;
 pub mod folding;
 pub mod heads;
+pub mod late;
 pub mod laws;
 pub mod merge;
 pub mod output;
@@ -24,6 +26,7 @@ mod undoing;
 
 pub use compacting::folded_whole;
 pub use folding::{Folded, major};
+pub use late::with_late;
 pub use merge::merge_rows;
 pub use redo::{merge_files, minor};
 pub use refold::with_folded;

@@ -32,8 +32,8 @@ fn may_stand(front: &[Delta], record: &Delta, rows: u32) -> bool
     fits_redo(record)
 }
 
-// Whether records are those of a REDO file over so many rows.
-fn are_redos(records: &[Delta], rows: u32) -> bool
+/// Whether records are those of a REDO file over so many rows.
+pub(crate) fn are_redos(records: &[Delta], rows: u32) -> bool
     ensures { OnTrue result (FileFits Redo rows records.now) }
 {
     if records.len() > u32::MAX as usize {
@@ -93,8 +93,8 @@ fn is_above(files: &[FileHeld], record: &Delta) -> bool
     are_older(files, record.ordinal, record.ts)
 }
 
-// Whether each of these records does.
-fn are_above(files: &[FileHeld], records: &[Delta]) -> bool
+/// Whether each of these records does.
+pub(crate) fn are_above(files: &[FileHeld], records: &[Delta]) -> bool
     ensures { OnTrue result (AreAbove files.now records.now) }
 {
     'records: for record in records {

@@ -87,7 +87,7 @@ still_rowsets file next_rowset next_file rowset_later file_later least was taken
 pub from_least : (least next n : ℕ) → (nat_le least n && nat_lt n next) ≡ true → least ≤ n
 from_least least next n h = leb-true least n (both_true (nat_le least n) (nat_lt n next) h).0
 
-others_stay : (m : MetaRowset) (next_rowset next_file least : ℕ) (taken : List ℕ) (rowsets : List MetaRowset) → m.rowset < least → AreRowsets next_rowset next_file least taken rowsets → in_place m rowsets ≡ rowsets
+pub others_stay : (m : MetaRowset) (next_rowset next_file least : ℕ) (taken : List ℕ) (rowsets : List MetaRowset) → m.rowset < least → AreRowsets next_rowset next_file least taken rowsets → in_place m rowsets ≡ rowsets
 others_stay m next_rowset next_file least taken [] lt are = refl
 others_stay m next_rowset next_file least taken (r ∷ rowsets) lt are =
     let up : least ≤ r.rowset = from_least least next_rowset r.rowset are.0.rowset in
@@ -287,19 +287,19 @@ named_place m n (r ∷ rowsets) none is =
     by true rest h = on_left (has (named_by r) n) (has (named_in rowsets) n) (rest (ap (λ (b : Bool). b || has (named_in (in_place m rowsets)) n) (sym none) ∙ h))
 
 -- the files of a rowset, in three parts
-or_left : (a b : Bool) → a ≡ true → (a || b) ≡ true
+pub or_left : (a b : Bool) → a ≡ true → (a || b) ≡ true
 or_left true b h = refl
 or_left false b h = absurd (cc)
 
-or_right : (a b : Bool) → b ≡ true → (a || b) ≡ true
+pub or_right : (a b : Bool) → b ≡ true → (a || b) ≡ true
 or_right true b h = refl
 or_right false b h = h
 
-or_cases : (a b : Bool) → (a || b) ≡ true → (a ≡ true) ⊎ (b ≡ true)
+pub or_cases : (a b : Bool) → (a || b) ≡ true → (a ≡ true) ⊎ (b ≡ true)
 or_cases true b h = inl refl
 or_cases false b h = inr h
 
-named_parts : (r : MetaRowset) (n : ℕ) → has (named_by r) n ≡ (has (numbers_of (r.base ∷ [])) n || (has (numbers_of r.undo) n || has (numbers_of r.redo) n))
+pub named_parts : (r : MetaRowset) (n : ℕ) → has (named_by r) n ≡ (has (numbers_of (r.base ∷ [])) n || (has (numbers_of r.undo) n || has (numbers_of r.redo) n))
 named_parts r n = has_join (r.base.file ∷ []) (numbers_of r.undo ++ numbers_of r.redo) n ∙ ap (λ (b : Bool). has (r.base.file ∷ []) n || b) (has_join (numbers_of r.undo) (numbers_of r.redo) n)
 
 named_new : (file file_later : ℕ) (old new : MetaRowset) → KeepsRowset file file_later old new → (n : ℕ) → has (named_by new) n ≡ true → ((file ≤ n) × (n < file_later)) ⊎ (has (named_by old) n ≡ true)

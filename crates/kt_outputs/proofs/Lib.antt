@@ -4,3 +4,6 @@ pub mod WholeFiles
 pub mod Numbered
 pub mod InPlace
 pub mod Fewer
+pub mod AllNumbered
+pub mod LateNamed
+pub mod LateFiles

@@ -207,7 +207,7 @@ named_files (d ∷ done) =
     ap (λ (l : List ℕ). (d.base.file ∷ (l ++ numbers_of (map delta_ref d.redo))) ++ named_in (map (meta_in 0) done)) (refs_numbers d.undo)
     ∙ ap (λ (l : List ℕ). (d.base.file ∷ (delta_numbers d.undo ++ l)) ++ named_in (map (meta_in 0) done)) (refs_numbers d.redo) ∙ ap (λ (l : List ℕ). file_numbers d ++ l) (named_files done)
 
-named_join : (xs ys : List MetaRowset) (n : ℕ) → has (named_in (xs ++ ys)) n ≡ (has (named_in xs) n || has (named_in ys) n)
+pub named_join : (xs ys : List MetaRowset) (n : ℕ) → has (named_in (xs ++ ys)) n ≡ (has (named_in xs) n || has (named_in ys) n)
 named_join [] ys n = refl
 named_join (x ∷ xs) ys n =
     list_any-append (λ (k : ℕ). k == n) (named_by x) (named_in (xs ++ ys)) ∙ ap (λ (b : Bool). has (named_by x) n || b) (named_join xs ys n)

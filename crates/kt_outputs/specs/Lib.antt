@@ -3,3 +3,4 @@ pub mod Named
 pub mod Rewriting
 pub mod InPlace
 pub mod Fewer
+pub mod Again

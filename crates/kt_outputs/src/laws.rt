@@ -1,6 +1,7 @@
 //! Laws of disk rowsets that were written and that a superblock is to name.
 ghost use Rattle.kt_outputs.specs.Named.{outputs_come_behind, outputs_stand};
 ghost use Rattle.kt_outputs.specs.Fewer.{some_may_be_named, some_stand};
+ghost use Rattle.kt_outputs.specs.Again.{late_files_may_be_named, late_files_stand, others_hold_beside_late_files};
 ghost use Rattle.kt_outputs.specs.InPlace.{a_rewritten_rowset_comes_in_place, a_rewritten_rowset_stands_in_place};
 
 /// Rowsets that were written under the next numbers may stand behind those that a superblock names.
@@ -23,4 +24,12 @@ pub fn in_place_law()
 pub fn fewer_law()
     ensures named { some_may_be_named }
     ensures stand { some_stand }
+{}
+
+/// A superblock may name disk rowsets with REDO files that came to them where it may name them without, and these stand. The others
+/// hold what they did.
+pub fn again_law()
+    ensures named { late_files_may_be_named }
+    ensures stand { late_files_stand }
+    ensures others { others_hold_beside_late_files }
 {}

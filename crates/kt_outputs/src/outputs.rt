@@ -1,5 +1,5 @@
 //! Writing the files of new disk rowsets.
-ghost use Rattle.std.specs.Prelude.{◌≡◌, ◌≤◌, ◌<◌, ◌+◌, ◌^◌, [], ℕ, true, IsTrue, Err, Some, None, IfOk, OnOk, map, length};
+ghost use Rattle.std.specs.Prelude.{◌≡◌, ◌≤◌, ◌<◌, ◌+◌, ◌^◌, max, [], ℕ, true, IsTrue, Err, Some, None, IfOk, OnOk, map, length};
 ghost use Rattle.kt_base.specs.Causes.{Rose};
 ghost use Rattle.kt_disk.specs.Disk.{Files};
 ghost use Rattle.kt_deltafile.specs.declared.file.Way.{Way};
@@ -64,19 +64,24 @@ pub struct NextNumbers {
     pub file: u64,
 }
 
-// A superblock can spell numbers below this one, and one more.
+// A superblock can spell the numbers of rowsets below this one, and one more.
 const MOST_NUMBERS: u64 = (1 << 62) - 2;
 
 // And lengths below this one.
 const MOST_LEN: u64 = 1 << 62;
 
-// Writes the next file and makes it stable. It tells the length. Where no number is left, or the length is too great for a superblock, there is no memory
-// for it.
-fn write_next<D: Disk>(disk: &mut D, next: &mut u64, bytes: &[u8]) -> Result<u64, WriteNo>
+// Writes the next file and makes it stable. It tells the length. Where no number below `most` is left, or the length is too great for a superblock, there
+// is no memory for it.
+fn write_next<D: Disk>(
+    disk: &mut D,
+    next: &mut u64,
+    most: u64,
+    bytes: &[u8],
+) -> Result<u64, WriteNo>
     requires vacant { IsTrue D.tells → (n : ℕ) → next.old ≤ n → D.seen disk.old n ≡ None }
     requires apart { 3 ≤ next.old }
     ensures up { next.old ≤ next.new }
-    ensures few { next.old < 2 ^ 62 → next.new < 2 ^ 62 }
+    ensures few { next.new ≤ max next.old most }
     ensures given { OnOk result (next.new ≡ next.old + 1) }
     ensures len { IfOk result (λ len. len ≡ length bytes.now) }
     ensures short { IfOk result (λ len. is_small len ≡ true) }
@@ -88,7 +93,7 @@ fn write_next<D: Disk>(disk: &mut D, next: &mut u64, bytes: &[u8]) -> Result<u64
 {
     let file = *next;
     let len = bytes.len() as u64;
-    if file >= MOST_NUMBERS || len >= MOST_LEN {
+    if file >= most || len >= MOST_LEN {
         return Err(WriteNo::Memory);
     }
     *next = file + 1;
@@ -101,6 +106,7 @@ pub(crate) fn write_base<D: Disk>(
     alloc: Global,
     disk: &mut D,
     next: &mut u64,
+    most: u64,
     base: &BaseHeld,
 ) -> Result<BaseHeld, WriteNo>
     requires vacant { IsTrue D.tells → (n : ℕ) → next.old ≤ n → D.seen disk.old n ≡ None }
@@ -111,7 +117,7 @@ pub(crate) fn write_base<D: Disk>(
     ensures given { OnOk result (next.new ≡ next.old + 1) }
     ensures holds { IfOk result (λ b. IsTrue D.tells → (files : Files) → AreThere next.old next.new (D.seen disk.new) files → HoldsBase files (base_ref b) (base_in b)) }
     ensures up { next.old ≤ next.new }
-    ensures few { next.old < 2 ^ 62 → next.new < 2 ^ 62 }
+    ensures few { next.new ≤ max next.old most }
     ensures stable { OnOk result (IsTrue D.tells → AreStable D.seen D.now D.leaves next.old next.new disk.new) }
     ensures left { IsTrue D.tells → HasLeft D.seen D.now D.leaves next.old next.new disk.old disk.new }
     ensures fault { result ≡ Err WriteNo.Fault → Rose (D.faults disk.old) (D.faults disk.new) }
@@ -120,7 +126,7 @@ pub(crate) fn write_base<D: Disk>(
     let bytes = base.set.spell(alloc)?;
     let held = base.copy()?;
     let file = *next;
-    let len = write_next(disk, next, bytes.as_slice())?;
+    let len = write_next(disk, next, most, bytes.as_slice())?;
     Ok(BaseHeld {
         file,
         len,
@@ -133,6 +139,7 @@ pub(crate) fn write_delta<D: Disk>(
     alloc: Global,
     disk: &mut D,
     next: &mut u64,
+    most: u64,
     delta: &FileHeld,
 ) -> Result<FileHeld, WriteNo>
     requires vacant { IsTrue D.tells → (n : ℕ) → next.old ≤ n → D.seen disk.old n ≡ None }
@@ -143,7 +150,7 @@ pub(crate) fn write_delta<D: Disk>(
     ensures given { OnOk result (next.new ≡ next.old + 1) }
     ensures holds { IfOk result (λ f. IsTrue D.tells → (way : Way) (rows : ℕ) → IsOfWay way rows delta.now → (files : Files) → AreThere next.old next.new (D.seen disk.new) files → HoldsDeltas files way rows (delta_ref f) (as_file f)) }
     ensures up { next.old ≤ next.new }
-    ensures few { next.old < 2 ^ 62 → next.new < 2 ^ 62 }
+    ensures few { next.new ≤ max next.old most }
     ensures stable { OnOk result (IsTrue D.tells → AreStable D.seen D.now D.leaves next.old next.new disk.new) }
     ensures left { IsTrue D.tells → HasLeft D.seen D.now D.leaves next.old next.new disk.old disk.new }
     ensures fault { result ≡ Err WriteNo.Fault → Rose (D.faults disk.old) (D.faults disk.new) }
@@ -152,7 +159,7 @@ pub(crate) fn write_delta<D: Disk>(
     let bytes = spell(alloc, delta.deltas.list(), delta.deltas.way())?;
     let held = delta.copy()?;
     let file = *next;
-    let len = write_next(disk, next, bytes.as_slice())?;
+    let len = write_next(disk, next, most, bytes.as_slice())?;
     Ok(FileHeld {
         file,
         len,
@@ -165,6 +172,7 @@ fn write_deltas<D: Disk>(
     alloc: Global,
     disk: &mut D,
     next: &mut u64,
+    most: u64,
     deltas: &[FileHeld],
 ) -> Result<FileLists, WriteNo>
     requires vacant { IsTrue D.tells → (n : ℕ) → next.old ≤ n → D.seen disk.old n ≡ None }
@@ -174,7 +182,7 @@ fn write_deltas<D: Disk>(
     ensures short { IfOk result (λ written. AreShortFiles written) }
     ensures holds { IfOk result (λ written. IsTrue D.tells → (way : Way) (rows : ℕ) → AreOfWay way rows deltas.now → (files : Files) → AreThere next.old next.new (D.seen disk.new) files → HoldEach files way rows (map delta_ref written) (as_files written)) }
     ensures up { next.old ≤ next.new }
-    ensures few { next.old < 2 ^ 62 → next.new < 2 ^ 62 }
+    ensures few { next.new ≤ max next.old most }
     ensures stable { OnOk result (IsTrue D.tells → AreStable D.seen D.now D.leaves next.old next.new disk.new) }
     ensures left { IsTrue D.tells → HasLeft D.seen D.now D.leaves next.old next.new disk.old disk.new }
     ensures fault { result ≡ Err WriteNo.Fault → Rose (D.faults disk.old) (D.faults disk.new) }
@@ -182,7 +190,7 @@ fn write_deltas<D: Disk>(
 {
     let mut files = Vec::with_capacity(alloc, deltas.len())?;
     'deltas: for delta in deltas {
-        let file = write_delta(alloc, disk, next, delta)?;
+        let file = write_delta(alloc, disk, next, most, delta)?;
         files.push_reserved(file);
     }
     Ok(FileLists::of(files))
@@ -193,6 +201,7 @@ fn write_rowset<D: Disk>(
     alloc: Global,
     disk: &mut D,
     next: &mut u64,
+    most: u64,
     number: u64,
     rowset: &RowSetData,
 ) -> Result<RowSetData, WriteNo>
@@ -204,15 +213,15 @@ fn write_rowset<D: Disk>(
     ensures short { IfOk result (λ d. IsShort d) }
     ensures holds { IfOk result (λ d. IsTrue D.tells → IsWhole rowset.now → (files : Files) → AreThere next.old next.new (D.seen disk.new) files → HoldsRowset files (meta_in 0 d) (held_in d)) }
     ensures up { next.old ≤ next.new }
-    ensures few { next.old < 2 ^ 62 → next.new < 2 ^ 62 }
+    ensures few { next.new ≤ max next.old most }
     ensures stable { OnOk result (IsTrue D.tells → AreStable D.seen D.now D.leaves next.old next.new disk.new) }
     ensures left { IsTrue D.tells → HasLeft D.seen D.now D.leaves next.old next.new disk.old disk.new }
     ensures fault { result ≡ Err WriteNo.Fault → Rose (D.faults disk.old) (D.faults disk.new) }
     ensures faults { D.faults disk.old ≤ D.faults disk.new }
 {
-    let base = write_base(alloc, disk, next, &rowset.base)?;
-    let undo = write_deltas(alloc, disk, next, rowset.undo.as_slice())?;
-    let redo = write_deltas(alloc, disk, next, rowset.redo.as_slice())?;
+    let base = write_base(alloc, disk, next, most, &rowset.base)?;
+    let undo = write_deltas(alloc, disk, next, most, rowset.undo.as_slice())?;
+    let redo = write_deltas(alloc, disk, next, most, rowset.redo.as_slice())?;
     Ok(RowSetData {
         number,
         base,
@@ -223,11 +232,13 @@ fn write_rowset<D: Disk>(
 }
 
 /// Writes new disk rowsets in turn, each under the next rowset number, and each of their files under the next file number. From
-/// these numbers on there is no file yet. Where no number is left that a superblock can spell there is no memory.
+/// these numbers on there is no file yet. Files get numbers below `most`, and rowsets those that a superblock can spell: where none is left
+/// there is no memory.
 pub fn write_outputs<D: Disk>(
     alloc: Global,
     disk: &mut D,
     next: &mut NextNumbers,
+    most: u64,
     outputs: &Outputs,
 ) -> Result<Outputs, WriteNo>
     requires vacant { IsTrue D.tells → (n : ℕ) → next.old.file ≤ n → D.seen disk.old n ≡ None }
@@ -248,11 +259,11 @@ pub fn write_outputs<D: Disk>(
     // A crash leaves them so.
     ensures stable { OnOk result (IsTrue D.tells → AreStable D.seen D.now D.leaves next.old.file next.new.file disk.new) }
 
-    // Numbers rise, and stay such that a superblock can spell them.
+    // Numbers rise: those of rowsets by one each, and stay such that a superblock can spell them, and those of files up to `most`.
     ensures up { (next.old.rowset ≤ next.new.rowset) × (next.old.file ≤ next.new.file) }
     ensures risen { next.new.rowset ≤ next.old.rowset + length outputs.now.rowsets }
     ensures few_rowsets { next.old.rowset < 2 ^ 62 → next.new.rowset < 2 ^ 62 }
-    ensures few_files { next.old.file < 2 ^ 62 → next.new.file < 2 ^ 62 }
+    ensures few_files { next.new.file ≤ max next.old.file most }
 
     // Whatever comes of it, no other file has changed, in no image either.
     ensures left { IsTrue D.tells → HasLeft D.seen D.now D.leaves next.old.file next.new.file disk.old disk.new }
@@ -266,7 +277,7 @@ pub fn write_outputs<D: Disk>(
         if number >= MOST_NUMBERS {
             return Err(WriteNo::Memory);
         }
-        let written = write_rowset(alloc, disk, &mut next.file, number, rowset)?;
+        let written = write_rowset(alloc, disk, &mut next.file, most, number, rowset)?;
         next.rowset = number + 1;
         rowsets.push_reserved(written);
     }

@@ -22,7 +22,7 @@ deltas-init g c = record {
   numbered = subst (λ (l : List FileHeld). CountUp c.args.next.now c.args.next.now (delta_numbers l)) (sym c.in_ok-files.ensures.items) refl;
   short = subst AreShortFiles (sym c.in_ok-files.ensures.items) tt;
   up = omega arith;
-  few = λ few. few;
+  few = omega arith;
   stable = λ told. stable_none g.D.Disk.seen g.D.Disk.now g.D.Disk.leaves c.args.next.now c.args.disk.now;
   left = λ told. left_none g.D.Disk.seen g.D.Disk.now g.D.Disk.leaves c.args.next.now c.args.disk.now;
   faults = omega arith;
@@ -57,7 +57,7 @@ deltas-preserved g c =
       numbered = counted_files c.args.next.now c.deltas.next c.write_delta.new.next c.deltas.files.items c.push_reserved.new.self.items c.in_ok-file.file c.push_reserved.ensures.items i.numbered e.number e.given;
       short = all_and (λ (f : FileHeld). is_small f.len ≡ true) c.deltas.files.items c.push_reserved.new.self.items c.in_ok-file.file c.push_reserved.ensures.items i.short e.short;
       up = (let a = i.up in omega arith);
-      few = λ few. e.few (i.few few);
+      few = (let a = i.few in let b = e.few in omega arith);
       stable = λ told. stable_then seen now leaves c.args.next.now c.deltas.next c.write_delta.new.next c.args.disk.now c.deltas.disk c.write_delta.new.disk i.up up (i.stable told) (e.left told) (e.stable told);
       left = λ told. left_then seen now leaves c.args.next.now c.deltas.next c.write_delta.new.next c.args.disk.now c.deltas.disk c.write_delta.new.disk i.up up (i.left told) (e.left told);
       faults = (let a = i.faults in let b = e.faults in omega arith);

@@ -1,4 +1,4 @@
-use Rattle.std.proofs.Common.{◌≡◌, ◌≤◌, ◌<◌, ◌^◌, ℕ, IsTrue, take, map, length}
+use Rattle.std.proofs.Common.{◌≡◌, ◌≤◌, max, ℕ, IsTrue, take, map, length}
 use Rattle.std.specs.Vec.{vec_len, vec_capacity}
 use Rattle.kt_deltafile.specs.declared.file.Way.{Way}
 use Rattle.kt_disk.specs.Disk.{Files}
@@ -17,7 +17,7 @@ invariant-deltas g l = record {
   numbered : CountUp l.initial.next l.next (delta_numbers l.files.items);
   short : AreShortFiles l.files.items;
   up : l.initial.next ≤ l.next;
-  few : l.initial.next < 2 ^ 62 → l.next < 2 ^ 62;
+  few : l.next ≤ max l.initial.next l.most;
   stable : IsTrue g.D.Disk.tells → AreStable g.D.Disk.seen g.D.Disk.now g.D.Disk.leaves l.initial.next l.next l.disk;
   left : IsTrue g.D.Disk.tells → HasLeft g.D.Disk.seen g.D.Disk.now g.D.Disk.leaves l.initial.next l.next l.initial.disk l.disk;
   faults : g.D.Disk.faults l.initial.disk ≤ g.D.Disk.faults l.disk;

@@ -23,7 +23,7 @@ outputs-init g c = record {
   short = subst AreShort (sym c.in_ok-rowsets.ensures.items) tt;
   up = omega arith;
   few_rowsets = λ few. few;
-  few_files = λ few. few;
+  few_files = omega arith;
   stable = λ told. stable_none g.D.Disk.seen g.D.Disk.now g.D.Disk.leaves c.args.next.now.file c.args.disk.now;
   left = λ told. left_none g.D.Disk.seen g.D.Disk.now g.D.Disk.leaves c.args.next.now.file c.args.disk.now;
   faults = omega arith;
@@ -64,7 +64,7 @@ outputs-preserved g c =
       short = all_and (λ (d : RowSetData). IsShort d) c.outputs.rowsets.items c.push_reserved.new.self.items c.in_ok-written.written c.push_reserved.ensures.items i.short e.short;
       up = (let a = i.up in let b = e.up in omega arith);
       few_rowsets = λ few. omega arith;
-      few_files = λ few. e.few (i.few_files few);
+      few_files = (let a = i.few_files in let b = e.few in omega arith);
       stable = λ told. stable_then seen now leaves c.args.next.now.file c.outputs.next.file c.write_rowset.new.next c.args.disk.now c.outputs.disk c.write_rowset.new.disk i.up e.up (i.stable told) (e.left told) (e.stable told);
       left = λ told. left_then seen now leaves c.args.next.now.file c.outputs.next.file c.write_rowset.new.next c.args.disk.now c.outputs.disk c.write_rowset.new.disk i.up e.up (i.left told) (e.left told);
       faults = (let a = i.faults in let b = e.faults in omega arith);

@@ -1,4 +1,4 @@
-use Rattle.std.proofs.Common.{◌≡◌, ◌≤◌, ◌<◌, ◌+◌, ◌^◌, IsTrue, take, map, length}
+use Rattle.std.proofs.Common.{◌≡◌, ◌≤◌, ◌<◌, ◌+◌, ◌^◌, max, IsTrue, take, map, length}
 use Rattle.std.specs.Vec.{vec_len, vec_capacity}
 use Rattle.kt_disk.specs.Disk.{Files}
 use Rattle.kt_diskrowset.specs.Data.{held_in}
@@ -18,7 +18,7 @@ invariant-outputs g l = record {
   short : AreShort l.rowsets.items;
   up : l.initial.next.file ≤ l.next.file;
   few_rowsets : l.initial.next.rowset < 2 ^ 62 → l.next.rowset < 2 ^ 62;
-  few_files : l.initial.next.file < 2 ^ 62 → l.next.file < 2 ^ 62;
+  few_files : l.next.file ≤ max l.initial.next.file l.most;
   stable : IsTrue g.D.Disk.tells → AreStable g.D.Disk.seen g.D.Disk.now g.D.Disk.leaves l.initial.next.file l.next.file l.disk;
   left : IsTrue g.D.Disk.tells → HasLeft g.D.Disk.seen g.D.Disk.now g.D.Disk.leaves l.initial.next.file l.next.file l.initial.disk l.disk;
   faults : g.D.Disk.faults l.initial.disk ≤ g.D.Disk.faults l.disk;

@@ -20,7 +20,7 @@ deltas-init g c = record {
   holds = λ told way rows of files there stands. subst (λ (l : List FileHeld). HoldEach files way rows (map delta_ref l) (as_files l)) (sym c.in_ok-files.ensures.items) tt;
   numbered = subst (λ (l : List FileHeld). AreNumbered c.args.next.now c.args.next.now (as_files []) (as_files l)) (sym c.in_ok-files.ensures.items) refl;
   up = omega arith;
-  few = λ few. few;
+  few = omega arith;
   stable = λ told. stable_none g.D.Disk.seen g.D.Disk.now g.D.Disk.leaves c.args.next.now c.args.disk.now;
   left = λ told. left_none g.D.Disk.seen g.D.Disk.now g.D.Disk.leaves c.args.next.now c.args.disk.now;
   faults = omega arith;
@@ -57,7 +57,7 @@ deltas-preserved g c =
       numbered = numbered_more c.args.next.now c.deltas.next c.rewrite_delta.new.next c.args.deltas.now c.deltas.delta-index c.delta-item.result c.in_ok-file.file c.deltas.files.items c.push_reserved.new.self.items lt c.push_reserved.ensures.items i.numbered
           (subst (λ (f : FileHeld). AreNumbered c.deltas.next c.rewrite_delta.new.next (as_file f ∷ []) (as_file c.in_ok-file.file ∷ [])) c.delta-item.is e.numbered);
       up = (let a = i.up in omega arith);
-      few = λ few. e.few (i.few few);
+      few = (let a = i.few in let b = e.few in omega arith);
       stable = λ told. stable_then seen now leaves c.args.next.now c.deltas.next c.rewrite_delta.new.next c.args.disk.now c.deltas.disk c.rewrite_delta.new.disk i.up up (i.stable told) (e.left told) (e.stable told);
       left = λ told. left_then seen now leaves c.args.next.now c.deltas.next c.rewrite_delta.new.next c.args.disk.now c.deltas.disk c.rewrite_delta.new.disk i.up up (i.left told) (e.left told);
       faults = (let a = i.faults in let b = e.faults in omega arith);

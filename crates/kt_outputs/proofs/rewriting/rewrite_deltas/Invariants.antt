@@ -1,4 +1,4 @@
-use Rattle.std.proofs.Common.{◌≡◌, ◌≤◌, ◌<◌, ◌^◌, ℕ, IsTrue, take, map, length}
+use Rattle.std.proofs.Common.{◌≡◌, ◌≤◌, max, ℕ, IsTrue, take, map, length}
 use Rattle.std.specs.Vec.{vec_len, vec_capacity}
 use Rattle.kt_deltafile.specs.declared.file.Way.{Way}
 use Rattle.kt_disk.specs.Disk.{Files}
@@ -16,7 +16,7 @@ invariant-deltas g l = record {
   holds : IsTrue g.D.Disk.tells → (way : Way) (rows : ℕ) → AreOfWay way rows (take l.delta-index l.deltas) → (files : Files) → AreThere l.initial.next l.next (g.D.Disk.seen l.disk) files → EachStands files way rows (take l.delta-index l.deltas) → HoldEach files way rows (map delta_ref l.files.items) (as_files l.files.items);
   numbered : AreNumbered l.initial.next l.next (as_files (take l.delta-index l.deltas)) (as_files l.files.items);
   up : l.initial.next ≤ l.next;
-  few : l.initial.next < 2 ^ 62 → l.next < 2 ^ 62;
+  few : l.next ≤ max l.initial.next l.most;
   stable : IsTrue g.D.Disk.tells → AreStable g.D.Disk.seen g.D.Disk.now g.D.Disk.leaves l.initial.next l.next l.disk;
   left : IsTrue g.D.Disk.tells → HasLeft g.D.Disk.seen g.D.Disk.now g.D.Disk.leaves l.initial.next l.next l.initial.disk l.disk;
   faults : g.D.Disk.faults l.initial.disk ≤ g.D.Disk.faults l.disk;
