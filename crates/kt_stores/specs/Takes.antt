@@ -47,3 +47,7 @@ shelf_over t come (s ∷ shelf) = s ∷ left_on t shelf ++ come
 abbrev pub files_left : Takes → List HeldFiles → List HeldFiles
 files_left (mems last) files = files
 files_left (rowsets numbers) files = filter (λ (h : HeldFiles). not (list_any (λ (s : ℕ). s == h.number) numbers)) files
+
+-- the files of the disk rowsets of some numbers
+abbrev pub files_taken : List ℕ → List HeldFiles → List HeldFiles
+files_taken numbers files = filter (λ (h : HeldFiles). list_any (λ (s : ℕ). s == h.number) numbers) files

@@ -6,7 +6,7 @@ ghost use Rattle.kt_pool.specs.Contents.{Contents};
 ghost use Rattle.kt_history.specs.Beside.{AllStand, AreApart};
 ghost use Rattle.kt_memrowset.specs.declared.store.MemRowSet.{MemRowSet as MemRowSetSpec};
 ghost use Rattle.kt_memrowset.specs.Stores.{IsStore, Owns};
-ghost use Rattle.kt_diskrowset.specs.Data.{files_in, store_in};
+ghost use Rattle.kt_diskrowset.specs.Data.{files_in, held_in, store_in};
 ghost use Rattle.kt_diskrowset.specs.Rows.{UndosLeadBack};
 ghost use Rattle.kt_diskrowset.specs.declared.rowset.DiskRowSet.{DiskRowSet as DiskRowSetSpec};
 ghost use Rattle.kt_diskrowset.specs.Rowset as rowset_specs;
@@ -15,7 +15,7 @@ ghost use Rattle.kt_stores.specs.Parts.{shelved_mem};
 ghost use Rattle.kt_stores.specs.Ranges.{AreRanged};
 ghost use Rattle.kt_stores.specs.Leaving.{HaveLeft, Going, AreNew, shelved_rowset, stays_behind, stays_beside};
 ghost use Rattle.kt_stores.specs.Shelf.{names_of, stores_of};
-ghost use Rattle.kt_stores.specs.Takes.{mems, rowsets, takes, of_taken, left_on, files_left, shelf_over};
+ghost use Rattle.kt_stores.specs.Takes.{mems, rowsets, takes, of_taken, left_on, files_left, files_taken, shelf_over};
 
 use super::Stores;
 use crate::file_store::FileStore;
@@ -188,6 +188,7 @@ impl Stores<DiskRowSet> {
     /// All that the disk rowsets of some numbers have, as plain data, in the order in which they stand.
     pub fn read_taken(&self, alloc: Global, numbers: &[u64]) -> Result<Vec<RowSetData>, NoMemory>
         ensures stores { IfOk result (λ list. map store_in list.items ≡ of_taken (rowsets numbers.now) (drop (suc self.now.frozen) (names_of self.now.shelf)) (drop (suc self.now.frozen) (stores_of self.now))) }
+        ensures files { IfOk result (λ list. map held_in list.items ≡ files_taken numbers.now self.now.files) }
         ensures numbers { IfOk result (λ list. AllByRecursion (λ d. list_any (λ s. s == d.number) numbers.now ≡ true) list.items) }
         ensures lead { IfOk result (λ list. AllByRecursion (λ d. UndosLeadBack (files_in d)) list.items) }
         ensures order { IfOk result (λ list. AllByRecursion (λ d. IsNonDecreasingBy (λ c. c.ordinal) d.fresh) list.items) }

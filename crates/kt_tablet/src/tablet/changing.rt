@@ -2,12 +2,12 @@
 ghost use Rattle.std.specs.Prelude.{◌≡◌, ◌==◌, ◌≤◌, ◌<◌, ◌^◌, ◌+◌, [], true, map, length, slice_get, Some, IfOk};
 ghost use Rattle.std.specs.List.{AllByRecursion, list_any};
 ghost use Rattle.std.specs.List.Sorted.{IsNonDecreasingBy};
-ghost use Rattle.kt_diskrowset.specs.Data.{files_in, store_in};
+ghost use Rattle.kt_diskrowset.specs.Data.{files_in, held_in, store_in};
 ghost use Rattle.kt_diskrowset.specs.Rows.{UndosLeadBack};
 ghost use Rattle.kt_diskrowset.specs.Rowset.{store_of, name_of, held_of};
 ghost use Rattle.kt_history.specs.declared.target.Target.TheVariants.{Mem};
 ghost use Rattle.kt_stores.specs.Leaving.{AreNew};
-ghost use Rattle.kt_stores.specs.Takes.{mems, rowsets};
+ghost use Rattle.kt_stores.specs.Takes.{mems, rowsets, files_taken};
 ghost use Rattle.kt_tablet.specs.Jobs.{taken_rowsets, MayChangeOver, HasChangedOver};
 
 use super::Tablet;
@@ -64,6 +64,7 @@ impl<C: Clock> Tablet<DiskRowSet, C> {
     /// All that the disk rowsets of some numbers have, as plain data, in the order in which they stand.
     pub fn read_taken(&self, alloc: Global, numbers: &[u64]) -> Result<Vec<RowSetData>, NoMemory>
         ensures stores { IfOk result (λ list. map store_in list.items ≡ taken_rowsets numbers.now self.now) }
+        ensures files { IfOk result (λ list. map held_in list.items ≡ files_taken numbers.now self.now.files) }
         ensures numbers { IfOk result (λ list. AllByRecursion (λ d. list_any (λ s. s == d.number) numbers.now ≡ true) list.items) }
         ensures lead { IfOk result (λ list. AllByRecursion (λ d. UndosLeadBack (files_in d)) list.items) }
         ensures order { IfOk result (λ list. AllByRecursion (λ d. IsNonDecreasingBy (λ c. c.ordinal) d.fresh) list.items) }
