@@ -127,7 +127,8 @@ pub fn open_tablet<L: Disk, D: Disk + Drop, C: Clock>(
     ensures store_moment { IfOk result (λ engine. IsTrue D.tells → LeavesOnly D.now D.leaves (IsOfStore D.now D.leaves (first_meta schema.now) store) store engine.store.known) }
     ensures store_moment_err { IfErr result (λ e. IsTrue D.tells → LeavesOnly D.now D.leaves (IsOfStore D.now D.leaves (first_meta schema.now) store) store e.store) }
 
-    // So each pair of images that a crash leaves now holds what a pair from before the call holds, and opening answers the same.
+    // So each pair of images that a crash leaves at a moment of the call holds what a pair from before it holds, and opening answers the same: the log comes
+    // to its end before the first superblock is published.
     ensures any_moment_ok { IfOk result (λ engine. IsTrue L.tells → IsTrue D.tells → KeepsContent L.now L.leaves D.now D.leaves schema.now log store engine.log.known.disk engine.store.known) }
     ensures any_moment { IfErr result (λ e. IsTrue L.tells → IsTrue D.tells → KeepsContent L.now L.leaves D.now D.leaves schema.now log store e.log e.store) }
 {

@@ -1,5 +1,5 @@
 -- The past that the images of a log and of a store hold together.
-use Rattle.std.specs.Prelude.{◌≡◌, ◌⊎◌, ◌↔◌, ℕ, List, [], Some, None, Result, Ok}
+use Rattle.std.specs.Prelude.{◌≡◌, ◌≤◌, ◌⊎◌, ◌↔◌, ℕ, List, [], Some, None, Result, Ok}
 use Rattle.kt_disk.specs.Disk.{Files, held}
 use Rattle.kt_history.specs.History.{Past}
 use Rattle.kt_records.specs.declared.entry.Entry.{Entry}
@@ -30,10 +30,23 @@ pub record AreAlikePairs (columns : List Column) (log store log' store' : Files)
   pub pasts : (rules : Rules) (c : ℕ) (past : Past) → HoldBoth rules columns log store c past ↔ HoldBoth rules columns log' store' c past
   pub answers : (answer : Result Found Why) → Answers columns log store answer ↔ Answers columns log' store' answer
 
--- Each pair of images that a crash now may leave of the new devices holds what a pair holds that one might have left of the old ones.
+-- a crash at this moment of a call leaves these files
+pub record IsLeft {D : Type 0} (now : D → ℕ) (leaves : D → ℕ → Files → Type 0) (old new : D) (moment : ℕ) (c : Files) : Type 0 where
+  pub since : now old ≤ moment
+  pub until : moment ≤ now new
+  pub left : leaves new moment c
+
+-- a store has the superblock of an image that a crash at the last moment of that disk might have left
+pub record HadSuper {D : Type 0} (now : D → ℕ) (leaves : D → ℕ → Files → Type 0) (disk : D) (c : Files) : Type 0 where
+  pub image : Files
+  pub was_left : leaves disk (now disk) image
+  pub super : super_of c ≡ super_of image
+
+-- Each image of the log at a moment of a call holds with each of the store at one what a pair holds that a crash might have left before the call, and opening
+-- answers the same. But beside a superblock that the store did not have before the log is at its end, or has no record.
 abbrev pub KeepsContent : {L D : Type 0} → (L → ℕ) → (L → ℕ → Files → Type 0) → (D → ℕ) → (D → ℕ → Files → Type 0) → List Column → L → D → L → D → Type 0
 KeepsContent now leaves now' leaves' columns log store log' store' =
-    (l s : Files) → leaves log' (now log') l → leaves' store' (now' store') s
+    (m n : ℕ) (l s : Files) → IsLeft now leaves log log' m l → IsLeft now' leaves' store store' n s → (m ≡ now log') ⊎ ((log_of l ≡ Ok []) ⊎ HadSuper now' leaves' store s)
     → (k t : Files) × leaves log (now log) k × leaves' store (now' store) t × AreAlikePairs columns l s k t
 
 -- ---- one device at a time

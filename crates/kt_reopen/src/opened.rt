@@ -358,7 +358,8 @@ pub fn open_devices<L: Disk, D: Disk>(
     // And of the store it leaves the superblock of one image from before it, or the first one where that has none, and all files that it names.
     ensures store_moment { IsTrue D.tells → LeavesOnly D.now D.leaves (IsOfStore D.now D.leaves (first_meta schema.now) store.old) store.old store.new }
 
-    // So each pair of images that a crash leaves now holds what a pair from before the call holds, and opening answers the same.
+    // So each pair of images that a crash leaves at a moment of the call holds what a pair from before it holds, and opening answers the same: the log comes
+    // to its end before the first superblock is published.
     ensures keeps { IfOk result (λ o. IsTrue L.tells → IsTrue D.tells → KeepsContent L.now L.leaves D.now D.leaves schema.now log store.old o.journal.disk store.new) }
     ensures keeps_err { IfErr result (λ e. IsTrue L.tells → IsTrue D.tells → KeepsContent L.now L.leaves D.now D.leaves schema.now log store.old e.0 store.new) }
 

@@ -284,6 +284,15 @@ returns-in-Err-of-clause-any_moment g c = λ told told'.
     subst (λ d. KeepsContent g.L.Disk.now g.L.Disk.leaves g.D.Disk.now g.D.Disk.leaves c.args.schema.now c.args.log c.args.store d closed.result.store) (sym closed.ensures.log)
     (subst (λ s. KeepsContent g.L.Disk.now g.L.Disk.leaves g.D.Disk.now g.D.Disk.leaves c.args.schema.now c.args.log c.args.store c.in-Ok.opened.journal.disk s) (sym closed.ensures.back.0) (c.in-Ok.ensures.keeps told told'))
 
+-- as they are taken into the engine
+pub returns-in-Ok-of-2-clause-any_moment_ok : goal.returns-in-Ok-of-2-clause-any_moment_ok
+returns-in-Ok-of-2-clause-any_moment_ok g c = λ told told'.
+    let view = c.in-Ok-of-2.ensures.view in
+    let log : c.in-Ok-of-2.engine.log.known.disk ≡ c.in-Ok.opened.journal.disk = ap (λ e. e.log.known.disk) view in
+    let store : c.in-Ok-of-2.engine.store.known ≡ c.open_devices.new.store = ap (λ e. e.store.known) view ∙ ap (λ s. s.known) c.of-side.ensures in
+    subst (λ d. KeepsContent g.L.Disk.now g.L.Disk.leaves g.D.Disk.now g.D.Disk.leaves c.args.schema.now c.args.log c.args.store d c.in-Ok-of-2.engine.store.known) (sym log)
+    (subst (λ s. KeepsContent g.L.Disk.now g.L.Disk.leaves g.D.Disk.now g.D.Disk.leaves c.args.schema.now c.args.log c.args.store c.in-Ok.opened.journal.disk s) (sym store) (c.in-Ok.ensures.keeps told told'))
+
 pub returns-clause-any_moment : goal.returns-clause-any_moment
 returns-clause-any_moment g c = λ told told'.
     let closed = c.given_up-in-Err-of-2 in
