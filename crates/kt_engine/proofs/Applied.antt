@@ -79,10 +79,14 @@ noted_here old new log s at outcome waits apart h n =
       is = n.notes ∙ ap (λ i. on_nth i (λ rows. rows ++ commit_row n.name outcome ∷ []) old.notes) place;
     }
 
+-- all that the stores have of its key lies below it
+pub keys_under : (core : Core) → Stands core → (j ts : ℕ) (op : RowOp) → IsNextOp j core.aloft ts op → AllUnder ts (hists op.key core.stores)
+keys_under core st j ts op next = let a = applies core st j ts op next in in_order core st op.key ts (a.goes.before ts ∙ same ts)
+
 -- the stores with its change, if it makes one
 pub pushed_is : (core : Core) → Stands core → (j ts : ℕ) (op : RowOp) → IsNextOp j core.aloft ts op → (new : Core) → (AllUnder ts (hists op.key core.stores) → new ≡ applied core j (place_of op.key core.stores) ts op)
     → new.stores ≡ pushed_if (place_of op.key core.stores) op.key ts (effect core.work.fill op.kind op.cells (live core.stores op.key ts)).0 core.stores
-pushed_is core st j ts op next new stores = let a = applies core st j ts op next in ap (λ (c : Core). c.stores) (stores (in_order core st op.key ts (a.goes.before ts ∙ same ts)))
+pushed_is core st j ts op next new stores = ap (λ (c : Core). c.stores) (stores (keys_under core st j ts op next))
 
 -- its outcome is the run's, and its change reaches that store: so what can be recovered goes on
 pub applied_run : (rules : Rules) (core : Core) (super : Super) (names : List Target) (notes later : List (List CommitRow)) (records run : List Entry) (places : List (ℕ × ℕ)) (new : Core) (s at : ℕ) (outcome : Outcome) (from : ℕ) (past : Past)

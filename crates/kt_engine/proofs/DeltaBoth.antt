@@ -1,5 +1,5 @@
 -- The engine and its store at the events of a job on the files of a disk rowset: it begins, and it is over.
-use Rattle.std.proofs.Common.{◌≡◌, ℕ, suc, ◌<◌, ◌≤◌, ◌+◌, ◌^◌, Bool, List, [], ◌∷◌, ◌++◌, length, take, Option, Some, None, refl, sym, ap, ◌∙◌, subst, arith, inl, inr}
+use Rattle.std.proofs.Common.{◌≡◌, ℕ, suc, ◌<◌, ◌≤◌, ◌+◌, ◌^◌, Bool, false, List, [], ◌∷◌, ◌++◌, length, take, Option, Some, None, refl, sym, ap, ◌∙◌, subst, arith, inl, inr}
 use Rattle.kt_disk.specs.Disk.{Files}
 use Rattle.kt_content.specs.Flushes.{before}
 use Rattle.kt_content.specs.RunEvents.{RecordsBelow}
@@ -19,11 +19,13 @@ use Rattle.kt_engine.specs.Files.{AreFiled, publisher_by, job_at, files_by, file
 use Rattle.kt_engine.specs.Jobs.{JobView, UpkeepView, UpkeepsView, JobOn, HasUpkeep, upkeep_at, job_of, asked, job_finished, over_for, over_of, over_by, takes_of}
 use Rattle.kt_engine.specs.Logged.{KeepsSince}
 use Rattle.kt_engine.specs.Near.{AreNear}
+use Rattle.kt_engine.specs.Outside.{is_at_outside}
 use Rattle.kt_engine.specs.Over.{Over, over_at, core_over, names_over}
 use Rattle.kt_engine.specs.Stored.{IsOneOf, IsStored, over, files_at}
 use Rattle.kt_engine.specs.Visits.{IsVisit}
 use Rattle.kt_engine.proofs.Filed.{none_at, own_job}
 use Rattle.kt_engine.proofs.Near.{near_begun}
+use Rattle.kt_engine.proofs.Outsiders.{none_kept, none_beside, outside_beside}
 use Rattle.kt_engine.proofs.Stored.{filed_now}
 use Rattle.kt_engine.proofs.Upkeeps.{jobs_kept, upkeep_keeps}
 use Rattle.kt_engine.proofs.Visiting.{shelf_visit}
@@ -45,8 +47,8 @@ module _ {L D C : Type 0} (log_tells : Bool) (log_seen : L → Files) (log_now :
 
   -- one job more has begun
   pub begun_more : (n : ℕ) (w : Want) (job : JobView) → HasUpkeep n (asked w job (upkeep_at n view.upkeep.passes)) view.upkeep upkeep → upkeep.begun ≡ suc view.upkeep.begun → upkeep.publishing ≡ view.upkeep.publishing → view.upkeep.begun < 2 ^ 24
-      → view.upkeep.publishing ≡ None → (is : Both view) → JobOn (view.records ++ is.1.run) job → Both (record view { upkeep = upkeep })
-  begun_more n w job has counted publishing few none is on =
+      → view.upkeep.publishing ≡ None → is_at_outside job.stage ≡ false → (is : Both view) → JobOn (view.records ++ is.1.run) job → Both (record view { upkeep = upkeep })
+  begun_more n w job has counted publishing few none other is on =
       let free : upkeep.publishing ≡ None = publishing ∙ none in
       let s = is.1 in (
         upkeep_keeps log_tells log_seen log_now log_leaves log_faults view upkeep (λ zero_. absurd (let no : suc view.upkeep.begun ≡ 0 = sym counted ∙ zero_ in cc)) is.0,
@@ -62,14 +64,17 @@ module _ {L D C : Type 0} (log_tells : Bool) (log_seen : L → Files) (log_now :
           below = s.below;
           names_below = s.names_below;
           near = subst (λ (k : ℕ). AreNear view.found view.tablet.names view.first_rowset view.store.next_rowset k s.run) (sym counted) (near_begun view.found view.tablet.names view.first_rowset view.store.next_rowset view.upkeep.begun s.run few s.near);
+          files_near = s.files_near;
           rests = inl free;
           jobs = jobs_kept (view.records ++ s.run) n (asked w job (upkeep_at n view.upkeep.passes)) view.upkeep upkeep has (λ j e. subst (JobOn (view.records ++ s.run)) (let one : job ≡ j = cc in one) on) s.jobs;
+          outside = outside_beside view s.run s.outside upkeep n (asked w job (upkeep_at n view.upkeep.passes)) has free (λ zero_. absurd (let no : suc view.upkeep.begun ≡ 0 = sym counted ∙ zero_ in cc)) (λ j e. let one : job ≡ j = cc in sym (ap (λ (x : JobView). is_at_outside x.stage) one) ∙ other);
           holds = s.holds;
           files = λ m one. subst (AreFiled tells (seen view.store.known) m.rowsets) (sym (none_at m.number upkeep view.tablet.files free)) (filed_now log_tells log_seen tells seen faults view s none m one);
           columns = s.columns;
           mark = s.mark;
           marked = s.marked;
           clock = s.clock;
+          low = s.low;
           later = s.later;
           home = s.home;
         },
@@ -149,14 +154,17 @@ module _ {L D C : Type 0} (log_tells : Bool) (log_seen : L → Files) (log_now :
     below = s.below;
     names_below = s.names_below;
     near = subst (λ (k : ℕ). AreNear view.found view.tablet.names view.first_rowset view.store.next_rowset k s.run) (sym counted.0) s.near;
+    files_near = s.files_near;
     rests = inl counted.1;
     jobs = jobs_kept (view.records ++ s.run) n (job_finished job.want (upkeep_at n view.upkeep.passes)) view.upkeep upkeep has (λ j e. absurd (let no : None ≡ Some j = e in cc)) s.jobs;
+    outside = λ k j at out. absurd (none_kept n (job_finished job.want (upkeep_at n view.upkeep.passes)) view.upkeep upkeep has (λ i e. absurd (let no : None ≡ Some i = e in cc)) (none_beside view s.run s.outside n may.published.0) k j at out);
     holds = s.holds;
     files = λ m one. subst (AreFiled tells (seen view.store.known) m.rowsets) (told m (later m one) ∙ sym (none_at m.number upkeep (with_files (held_in d) view.tablet.files) counted.1)) (s.files m one);
     columns = s.columns;
     mark = s.mark;
     marked = s.marked;
     clock = s.clock;
+    low = s.low;
     later = s.later;
     home = s.home;
   }

@@ -1,5 +1,5 @@
 -- The superblock of a job on the files of a disk rowset goes out: it stands over the stores in memory, whose DeltaMemStore of that rowset is frozen.
-use Rattle.std.proofs.Common.{◌≡◌, ◌≢◌, ℕ, suc, ◌<◌, ◌≤◌, ◌+◌, ◌^◌, Bool, List, [], ◌++◌, length, map, Option, Some, None, refl, sym, ap, ◌∙◌, subst, arith, inl, inr}
+use Rattle.std.proofs.Common.{◌≡◌, ◌≢◌, ℕ, suc, ◌<◌, ◌≤◌, ◌+◌, ◌^◌, Bool, false, List, [], ◌++◌, length, map, Option, Some, None, refl, sym, ap, ◌∙◌, subst, arith, inl, inr}
 use Rattle.std.specs.Prelude.{◌-◌, IsTrue}
 use Rattle.std.proofs.lemmas.List.{append-nil, length-map}
 use Rattle.kt_disk.specs.Disk.{Files}
@@ -45,6 +45,7 @@ use Rattle.kt_tablet.specs.Jobs.{dms_in, store_in_names, next_dms, with_files}
 use Rattle.kt_tablet.specs.Views.{View}
 use Rattle.kt_engine.specs.Memory.{name_of, by_name, named_writes, resident}
 use Rattle.kt_engine.specs.Logged.{PlanPasses, LogStands, UntoldFly, KeepsSince}
+use Rattle.kt_engine.specs.Outside.{is_at_outside}
 use Rattle.kt_engine.specs.Over.{over_at}
 use Rattle.kt_engine.specs.Engines.{EngineView, IsContent, IsFound, IsEngine, core_from}
 use Rattle.kt_engine.specs.declared.upkeep.Stage.TheVariants.{Publishing}
@@ -62,6 +63,7 @@ use Rattle.kt_engine.proofs.Flushed.{each_told, hists_named}
 use Rattle.kt_engine.proofs.Marks.{of_each}
 use Rattle.kt_engine.proofs.Rising.{given_same}
 use Rattle.kt_engine.proofs.StoreEvents.{past_is, stands_now, ends}
+use Rattle.kt_engine.proofs.Outsiders.{NoneOutside, none_kept}
 use Rattle.kt_engine.proofs.Stored.{to_plain, of_plain, plain, filed_now}
 use Rattle.kt_engine.proofs.Upkeeps.{jobs_kept, upkeep_keeps}
 
@@ -84,6 +86,7 @@ next_names_since rules core super names notes records run durable r n at fits k 
   rest = k.rest;
   parts = k.parts;
   made = k.made;
+  opened = k.opened;
   low = k.low;
   from = k.from;
   up = k.up;
@@ -146,6 +149,7 @@ module _ (rules : Rules) (core : Core) (super : Super) (names : List Target) (no
     rest = [];
     parts = sym (append-nil run);
     made = omega (arith, all);
+    opened = (let s = log.since in omega arith);
     low = core.c;
     from = log.since;
     up = omega arith;
@@ -167,7 +171,7 @@ module _ (rules : Rules) (core : Core) (super : Super) (names : List Target) (no
 
 module _ {L D C : Type 0} (log_tells : Bool) (log_seen : L → Files) (tells : Bool) (seen : D → Files) (now : D → ℕ) (leaves : D → ℕ → Files → Type 0) (faults : D → ℕ) (view : EngineView L D C) (is : IsStored log_tells log_seen tells seen faults view)
     (n : ℕ) (job : JobView) (d : RowSetData) (may : MayPublishDeltas tells seen now leaves view job d) (rise : AreRising (keys_in d.base.set.value.rows)) (few : job.dms < most_deltas view.first_rowset) (fits : job.dms + 1 < 2 ^ 64)
-    (not_last : view.store.next_rowset ≢ 2 ^ 64 - 1) (settled : (view.log.out ≡ []) × (view.log.queued ≡ [])) (none : view.upkeep.publishing ≡ None) (stands : (first : Past) → IsFound view first → Stands (core_from view first))
+    (not_last : view.store.next_rowset ≢ 2 ^ 64 - 1) (settled : (view.log.out ≡ []) × (view.log.queued ≡ [])) (none : view.upkeep.publishing ≡ None) (inside : NoneOutside view.upkeep) (stands : (first : Past) → IsFound view first → Stands (core_from view first))
     (long : length view.tablet.names ≡ length view.tablet.core.stores) (upkeep : UpkeepsView) (had : job_of n view.upkeep ≡ Some job) (goes : IsLent n job (view.store.meta.number + 1) view.upkeep upkeep) where
   abbrev meta : Meta
   meta = delta_meta view job.dms d
@@ -268,8 +272,10 @@ module _ {L D C : Type 0} (log_tells : Bool) (log_seen : L → Files) (tells : B
     near = subst (λ (k : ℕ). AreNear view.found later view.first_rowset view.store.next_rowset k is.run) (sym goes.begun.0)
         (near_next view.found view.first_rowset view.store.next_rowset view.upkeep.begun d.number job.dms names is.run may.all.name
         (let low = rowset_below (numbers_of view) d.number job.dms names may.all.name is.names_below in let same = given_same view.store.next_rowset not_last in omega arith) few is.near);
+    files_near = is.files_near;
     rests = inr may.calm;
     jobs = jobs_kept (view.records ++ is.run) n _ view.upkeep upkeep goes.upkeep (λ own same. still_on own same) is.jobs;
+    outside = λ k j at out. absurd (none_kept n _ view.upkeep upkeep goes.upkeep its_stage inside k j at out);
     holds = λ t m one. elim one [
       | inl was ↦ is.holds t m (inl was)
       | inr lent ↦ (
@@ -284,6 +290,7 @@ module _ {L D C : Type 0} (log_tells : Bool) (log_seen : L → Files) (tells : B
     mark = is.mark;
     marked = of_each (λ (o : Meta). IsMarkOf view.tablet.mark view.tablet.core.trail o.a) went.store (is.marked view.store.meta (inl refl)) (λ m lent. let same : m ≡ meta = (let e : Some meta ≡ Some m = lent in cc) in subst (λ (o : Meta). IsMarkOf view.tablet.mark view.tablet.core.trail o.a) (sym same) is.mark);
     clock = of_each (λ (o : Meta). o.c ≤ view.tablet.core.c) went.store (is.clock view.store.meta (inl refl)) (λ m lent. let same : m ≡ meta = (let e : Some meta ≡ Some m = lent in cc) in subst (λ (o : Meta). o.c ≤ view.tablet.core.c) (sym same) (omega arith));
+    low = of_each (λ (o : Meta). o.a ≤ view.tablet.core.a) went.store (is.low view.store.meta (inl refl)) (λ m lent. let same : m ≡ meta = (let e : Some meta ≡ Some m = lent in cc) in subst (λ (o : Meta). o.a ≤ view.tablet.core.a) (sym same) (omega arith));
     later = is.later;
     home = λ disk at. absurd (let no : None ≡ Some disk = at in cc);
   }
@@ -302,6 +309,9 @@ module _ {L D C : Type 0} (log_tells : Bool) (log_seen : L → Files) (tells : B
           subst (AreFiled tells (seen view.store.known) m.rowsets)
           (sym (ap (λ (o : Option JobView). files_over o view.tablet.files) (own_job m.number lent_job up) ∙ ap (λ (o : Option RowSetData). files_by o (takes_of job) job.held view.tablet.files) may.output))
           (subst (λ (o : Meta). AreFiled tells (seen view.store.known) o.rowsets (with_files (held_in d) view.tablet.files)) (sym same) now)
+
+      its_stage : (own : JobView) → Some lent_job ≡ Some own → is_at_outside own.stage ≡ false
+      its_stage own same = let e : lent_job ≡ own = cc in sym (ap (λ (j : JobView). is_at_outside j.stage) e)
 
       -- its job is on as it was
       still_on : (own : JobView) → Some lent_job ≡ Some own → JobOn (view.records ++ is.run) own
@@ -341,11 +351,11 @@ next_names_keeps tells seen now leaves faults view r n some at fits is = record 
 -- both, as they go out
 pub deltas_out : {L D C : Type 0} (log_tells : Bool) (log_seen : L → Files) (log_now : L → ℕ) (log_leaves : L → ℕ → Files → Type 0) (log_faults : L → ℕ) (tells : Bool) (seen : D → Files) (now : D → ℕ) (leaves : D → ℕ → Files → Type 0) (faults : D → ℕ) (view : EngineView L D C)
     → IsEngine log_tells log_seen log_now log_leaves log_faults view × IsStored log_tells log_seen tells seen faults view → (n : ℕ) (job : JobView) (d : RowSetData) (may : MayPublishDeltas tells seen now leaves view job d) → AreRising (keys_in d.base.set.value.rows)
-    → job.dms < most_deltas view.first_rowset → job.dms + 1 < 2 ^ 64 → view.store.next_rowset ≢ 2 ^ 64 - 1 → (view.log.out ≡ []) × (view.log.queued ≡ []) → view.upkeep.publishing ≡ None → ((first : Past) → IsFound view first → Stands (core_from view first))
+    → job.dms < most_deltas view.first_rowset → job.dms + 1 < 2 ^ 64 → view.store.next_rowset ≢ 2 ^ 64 - 1 → (view.log.out ≡ []) × (view.log.queued ≡ []) → view.upkeep.publishing ≡ None → NoneOutside view.upkeep → ((first : Past) → IsFound view first → Stands (core_from view first))
     → length view.tablet.names ≡ length view.tablet.core.stores → (upkeep : UpkeepsView) → job_of n view.upkeep ≡ Some job → IsLent n job (view.store.meta.number + 1) view.upkeep upkeep → (tablet : View C) (store : StoreView D)
     → tablet ≡ record view.tablet { names = next_dms d.number view.tablet.names } → store ≡ record view.store { home = None; holder = Some n; lent = Some (delta_meta view job.dms d) }
     → IsEngine log_tells log_seen log_now log_leaves log_faults (record view { tablet = tablet; store = store; upkeep = upkeep }) × IsStored log_tells log_seen tells seen faults (record view { tablet = tablet; store = store; upkeep = upkeep })
-deltas_out {L} {D} {C} log_tells log_seen log_now log_leaves log_faults tells seen now leaves faults view is n job d may rise few fits not_last settled none stands long upkeep had goes tablet store is_tablet is_store =
+deltas_out {L} {D} {C} log_tells log_seen log_now log_leaves log_faults tells seen now leaves faults view is n job d may rise few fits not_last settled none inside stands long upkeep had goes tablet store is_tablet is_store =
     subst (λ (t : View C). IsEngine log_tells log_seen log_now log_leaves log_faults (record view { tablet = t; store = store; upkeep = upkeep }) × IsStored log_tells log_seen tells seen faults (record view { tablet = t; store = store; upkeep = upkeep })) (sym is_tablet)
     (subst (λ (s : StoreView D). IsEngine log_tells log_seen log_now log_leaves log_faults (record view { tablet = record view.tablet { names = next_dms d.number view.tablet.names }; store = s; upkeep = upkeep })
     × IsStored log_tells log_seen tells seen faults (record view { tablet = record view.tablet { names = next_dms d.number view.tablet.names }; store = s; upkeep = upkeep })) (sym is_store) (
@@ -353,18 +363,18 @@ deltas_out {L} {D} {C} log_tells log_seen log_now log_leaves log_faults tells se
           (record view { tablet = record view.tablet { names = next_dms d.number view.tablet.names }; store = record view.store { home = None; holder = Some n; lent = Some (delta_meta view job.dms d) } }) upkeep (λ zero_. sym goes.begun.0 ∙ zero_)
           (store_keeps log_tells log_seen log_now log_leaves log_faults (record view { tablet = record view.tablet { names = next_dms d.number view.tablet.names } }) (record view.store { home = None; holder = Some n; lent = Some (delta_meta view job.dms d) }) refl
           (next_names_keeps log_tells log_seen log_now log_leaves log_faults view d.number job.dms may.begun may.all.name fits is.0)),
-      deltas_lent log_tells log_seen tells seen now leaves faults view is.1 n job d may rise few fits not_last settled none stands long upkeep had goes,
+      deltas_lent log_tells log_seen tells seen now leaves faults view is.1 n job d may rise few fits not_last settled none inside stands long upkeep had goes,
     ))
 
 -- the same of the number and the superblock as they are handed on
 pub deltas_out_as : {L D C : Type 0} (log_tells : Bool) (log_seen : L → Files) (log_now : L → ℕ) (log_leaves : L → ℕ → Files → Type 0) (log_faults : L → ℕ) (tells : Bool) (seen : D → Files) (now : D → ℕ) (leaves : D → ℕ → Files → Type 0) (faults : D → ℕ) (view : EngineView L D C)
     → IsEngine log_tells log_seen log_now log_leaves log_faults view × IsStored log_tells log_seen tells seen faults view → (n : ℕ) (job : JobView) (d : RowSetData) (may : MayPublishDeltas tells seen now leaves view job d) (r : ℕ) (m : Meta) → m ≡ delta_meta view job.dms d → r ≡ d.number
-    → job.dms < most_deltas view.first_rowset → AreRising (keys_in d.base.set.value.rows) → (k : ℕ) × (dms_in r view.tablet.names ≡ Some k) × (k + 1 < 2 ^ 64) → view.store.next_rowset ≢ 2 ^ 64 - 1 → (view.log.out ≡ []) × (view.log.queued ≡ []) → view.upkeep.publishing ≡ None
+    → job.dms < most_deltas view.first_rowset → AreRising (keys_in d.base.set.value.rows) → (k : ℕ) × (dms_in r view.tablet.names ≡ Some k) × (k + 1 < 2 ^ 64) → view.store.next_rowset ≢ 2 ^ 64 - 1 → (view.log.out ≡ []) × (view.log.queued ≡ []) → view.upkeep.publishing ≡ None → NoneOutside view.upkeep
     → ((first : Past) → IsFound view first → Stands (core_from view first)) → length view.tablet.names ≡ length view.tablet.core.stores → (upkeep : UpkeepsView) → job_of n view.upkeep ≡ Some job → IsLent n job m.number view.upkeep upkeep → (tablet : View C) (store : StoreView D)
     → tablet ≡ record view.tablet { names = next_dms r view.tablet.names } → store ≡ record view.store { home = None; holder = Some n; lent = Some m }
     → IsEngine log_tells log_seen log_now log_leaves log_faults (record view { tablet = tablet; store = store; upkeep = upkeep }) × IsStored log_tells log_seen tells seen faults (record view { tablet = tablet; store = store; upkeep = upkeep })
-deltas_out_as {L} {D} {C} log_tells log_seen log_now log_leaves log_faults tells seen now leaves faults view is n job d may r m meta_is number_is few rise there not_last settled none stands long upkeep had goes tablet store is_tablet is_store =
+deltas_out_as {L} {D} {C} log_tells log_seen log_now log_leaves log_faults tells seen now leaves faults view is n job d may r m meta_is number_is few rise there not_last settled none inside stands long upkeep had goes tablet store is_tablet is_store =
     let here : dms_in d.number view.tablet.names ≡ Some there.0 = subst (λ (k : ℕ). dms_in k view.tablet.names ≡ Some there.0) number_is there.1 in
     let same : there.0 ≡ job.dms = (let other = may.all.name in cc) in
-    deltas_out log_tells log_seen log_now log_leaves log_faults tells seen now leaves faults view is n job d may rise few (subst (λ (k : ℕ). k + 1 < 2 ^ 64) same there.2) not_last settled none stands long upkeep had (subst (λ (k : ℕ). IsLent n job k view.upkeep upkeep) (ap (λ (x : Meta). x.number) meta_is) goes) tablet store
+    deltas_out log_tells log_seen log_now log_leaves log_faults tells seen now leaves faults view is n job d may rise few (subst (λ (k : ℕ). k + 1 < 2 ^ 64) same there.2) not_last settled none inside stands long upkeep had (subst (λ (k : ℕ). IsLent n job k view.upkeep upkeep) (ap (λ (x : Meta). x.number) meta_is) goes) tablet store
     (is_tablet ∙ ap (λ (k : ℕ). record view.tablet { names = next_dms k view.tablet.names }) number_is) (is_store ∙ ap (λ (x : Meta). record view.store { home = None; holder = Some n; lent = Some x }) meta_is)

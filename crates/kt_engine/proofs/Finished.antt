@@ -28,6 +28,7 @@ use Rattle.kt_engine.proofs.Filed.{none_at}
 use Rattle.kt_engine.proofs.Jobs.{finished_since, both_below, come_below, some_below}
 use Rattle.kt_engine.proofs.Near.{near_over, over_each}
 use Rattle.kt_engine.proofs.Lists.{all_none, all_cons}
+use Rattle.kt_engine.proofs.Outsiders.{NoneOutside}
 use Rattle.kt_engine.proofs.Rising.{given_up, records_rise}
 use Rattle.kt_engine.proofs.Shelved.{over_shelved}
 use Rattle.kt_engine.proofs.Stored.{of_plain, plain}
@@ -111,8 +112,8 @@ module _ {L D C : Type 0} (view : EngineView L D C) (tablet : View C) (upkeep : 
   -- each superblock is told of the stores that stand now
   pub finished_stored : (log_tells : Bool) (log_seen : L → Files) (tells : Bool) (seen : D → Files) (faults : D → ℕ) (is : IsStored log_tells log_seen tells seen faults view) (o : Over) (last : ℕ) → over view ≡ Some o → o.takes ≡ t → o.outputs ≡ outputs → o.number ≤ view.store.meta.number → view.store.lent ≡ None
       → ((m : Meta) → o.number ≤ m.number → files_at view m ≡ over_files) → upkeep.publishing ≡ None → upkeep.begun ≡ view.upkeep.begun → RowsetsBelow (before view.store.next_rowset last) outputs → ((n : ℕ) (job : JobView) → job_of n upkeep ≡ Some job → JobOn (view.records ++ is.run) job)
-      → IsStored log_tells log_seen tells seen faults (record view { tablet = tablet; upkeep = upkeep })
-  finished_stored log_tells log_seen tells seen faults is o last over_is took same up none told still counted own jobs =
+      → NoneOutside upkeep → IsStored log_tells log_seen tells seen faults (record view { tablet = tablet; upkeep = upkeep })
+  finished_stored log_tells log_seen tells seen faults is o last over_is took same up none told still counted own jobs inside =
       subst (λ (t : View C). IsStored log_tells log_seen tells seen faults (record view { tablet = t; upkeep = upkeep })) (sym is_over) (record {
         run = is.run;
         all = is.all;
@@ -131,14 +132,17 @@ module _ {L D C : Type 0} (view : EngineView L D C) (tablet : View C) (upkeep : 
             (over_below (numbers_of view) t outputs view.tablet.names (own_below view.store.next_rowset last (first_number view.tablet.names) outputs own) is.names_below);
         near = subst (λ (n : ℕ). AreNear view.found over_names view.first_rowset view.store.next_rowset n is.run) (sym counted)
             (near_over view.found view.tablet.names view.first_rowset view.store.next_rowset view.upkeep.begun last t outputs is.run (first_over t view.tablet.names (map first_name outputs)) own is.near);
+        files_near = is.files_near;
         rests = inl still;
         jobs = jobs;
+        outside = λ n job has at. absurd (inside n job has at);
         holds = is.holds;
         files = λ m one. subst (AreFiled tells (seen view.store.known) m.rowsets) (told m (later m one) ∙ sym (none_at m.number upkeep over_files still)) (is.files m one);
         columns = is.columns;
         mark = is.mark;
         marked = is.marked;
         clock = is.clock;
+        low = is.low;
         later = is.later;
         home = is.home;
       })

@@ -242,6 +242,7 @@ module _ (rules : Rules) (core : Core) (super : Super) (names : List Target) (no
     rest = [];
     parts = sym (append-nil run);
     made = omega (arith, all);
+    opened = (let s = log.since in omega arith);
     low = core.c;
     from = log.since;
     up = omega arith;

@@ -48,6 +48,7 @@ frozen_since rules core super names notes records run durable n named k =
       rest = k.rest;
       parts = k.parts;
       made = k.made;
+      opened = k.opened;
       low = k.low;
       from = k.from;
       up = k.up;

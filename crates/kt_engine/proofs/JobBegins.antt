@@ -70,7 +70,7 @@ all_asked taken names none r asked = by (list_any (is_rowset r) names) refl
     by true e = e
     by false e = absurd (none (record { r = r; asked = asked; lacks = λ has. let no : true ≡ false = sym has ∙ e in cc }))
 
-drop_first : {A : Type 0} (n : ℕ) (xs : List A) → drop (suc n) xs ≡ drop n (drop 1 xs)
+pub drop_first : {A : Type 0} (n : ℕ) (xs : List A) → drop (suc n) xs ≡ drop n (drop 1 xs)
 drop_first zero [] = refl
 drop_first (suc n) [] = refl
 drop_first n (x ∷ xs) = refl

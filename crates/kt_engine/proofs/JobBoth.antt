@@ -13,6 +13,8 @@ use Rattle.kt_diskrowset.specs.declared.data.RowSetData.{RowSetData}
 use Rattle.kt_diskrowset.specs.Rowset.{HeldFiles}
 use Rattle.kt_files.specs.Content.{rowsets_in}
 use Rattle.kt_engine.specs.declared.upkeep.Stage.{Stage}
+use Rattle.kt_engine.specs.declared.upkeep.Stage.TheVariants as stage
+use Rattle.kt_engine.specs.Outside.{IsOutside, is_at_outside}
 use Rattle.kt_engine.specs.Over.{over_at}
 use Rattle.kt_engine.specs.Files.{publisher, publisher_by, job_at, files_over}
 use Rattle.kt_engine.specs.Jobs.{JobView, UpkeepView, UpkeepsView, HasUpkeep, JobOn, job_of, upkeep_at, asked, asked_for_nothing, job_abandoned, over_for, over_of, over_by, over_in, takes_of}
@@ -23,6 +25,8 @@ use Rattle.kt_tablet.specs.Views.{View}
 use Rattle.kt_tablet.specs.Jobs.{HasFrozen}
 use Rattle.kt_engine.proofs.Filed.{none_at, before_job}
 use Rattle.kt_engine.proofs.Jobs.{before_over, frozen_keeps, frozen_stored, job_begins}
+use Rattle.kt_engine.proofs.Outside.{outside_upkeep}
+use Rattle.kt_engine.proofs.Outsiders.{not_outside, none_kept, none_beside, outside_kept, outside_beside}
 use Rattle.kt_engine.proofs.Stored.{upkeep_stored}
 use Rattle.kt_engine.proofs.Upkeeps.{jobs_kept, upkeep_keeps}
 
@@ -90,7 +94,10 @@ module _ {L D C : Type 0} (log_tells : Bool) (log_seen : L → Files) (log_now :
         upkeep_stored log_tells log_seen tells seen faults view is.1 upkeep same.0 (λ m one. ap (over_at m.number) (over_same view.upkeep upkeep jobs same.1))
             (λ m one. ap (λ (o : Option JobView). files_over (job_at m.number o) view.tablet.files) (publisher_same view.upkeep upkeep jobs same.1))
             (elim is.1.rests [ inl none ↦ inl (same.1 ∙ none) | inr calm ↦ inr calm ])
-            (λ k job at. is.1.jobs k job (sym (jobs k) ∙ at)),
+            (λ k job at. is.1.jobs k job (sym (jobs k) ∙ at))
+            (λ k job at out.
+            let was = is.1.outside k job (sym (jobs k) ∙ at) out in
+            outside_upkeep view.tablet view.store.meta view.store.lent view.upkeep view.records is.1.run job was upkeep (same.1 ∙ was.free.0) (λ zero_. sym same.0 ∙ zero_)),
       )
 
   -- a place is made, or nothing has changed
@@ -107,21 +114,22 @@ module _ {L D C : Type 0} (log_tells : Bool) (log_seen : L → Files) (log_now :
 
   -- a pass has something else, while no job publishes
   pub free_both : (n : ℕ) (u : UpkeepView) → HasUpkeep n u view.upkeep upkeep → view.upkeep.publishing ≡ None → (upkeep.begun ≡ view.upkeep.begun) × (upkeep.publishing ≡ view.upkeep.publishing) → (is : BothOn view)
-      → ((job : JobView) → u.job ≡ Some job → JobOn (view.records ++ is.1.run) job) → BothOn (record view { upkeep = upkeep })
-  free_both n u has none same is own = (
+      → ((job : JobView) → u.job ≡ Some job → JobOn (view.records ++ is.1.run) job) → ((job : JobView) → u.job ≡ Some job → job.stage ≡ stage.Outside → IsOutside view.tablet view.store.meta view.store.lent view.upkeep (view.records ++ is.1.run) job) → BothOn (record view { upkeep = upkeep })
+  free_both n u has none same is own out = (
     upkeep_keeps log_tells log_seen log_now log_leaves log_faults view upkeep (λ zero_. sym same.0 ∙ zero_) is.0,
     upkeep_stored log_tells log_seen tells seen faults view is.1 upkeep same.0
         (λ m one. ap (λ (p : Option ℕ). over_at m.number (over_by p upkeep)) (same.1 ∙ none) ∙ sym (ap (λ (p : Option ℕ). over_at m.number (over_by p view.upkeep)) none))
         (λ m one. none_at m.number upkeep view.tablet.files (same.1 ∙ none) ∙ sym (none_at m.number view.upkeep view.tablet.files none))
-        (inl (same.1 ∙ none)) (jobs_kept (view.records ++ is.1.run) n u view.upkeep upkeep has own is.1.jobs),
+        (inl (same.1 ∙ none)) (jobs_kept (view.records ++ is.1.run) n u view.upkeep upkeep has own is.1.jobs) (outside_kept view is.1.run is.1.outside upkeep n u has (same.1 ∙ none) (λ zero_. sym same.0 ∙ zero_) out),
   )
 
   -- its job has come further
   pub further_both : (n : ℕ) (job later : JobView) → job_of n view.upkeep ≡ Some job → ((records : List Entry) → JobOn records job → JobOn records later) → HasUpkeep n (record (upkeep_at n view.upkeep.passes) { job = Some later }) view.upkeep upkeep
-      → view.upkeep.publishing ≡ None → (upkeep.begun ≡ view.upkeep.begun) × (upkeep.publishing ≡ view.upkeep.publishing) → BothOn view → BothOn (record view { upkeep = upkeep })
-  further_both n job later has on changed none same is =
+      → view.upkeep.publishing ≡ None → (upkeep.begun ≡ view.upkeep.begun) × (upkeep.publishing ≡ view.upkeep.publishing) → is_at_outside later.stage ≡ false → BothOn view → BothOn (record view { upkeep = upkeep })
+  further_both n job later has on changed none same other is =
       free_both n (record (upkeep_at n view.upkeep.passes) { job = Some later }) changed none same is
       (λ j e. subst (JobOn (view.records ++ is.1.run)) (let one : later ≡ j = cc in one) (on (view.records ++ is.1.run) (is.1.jobs n job has)))
+      (λ j e at. absurd (not_outside later.stage other (let one : later ≡ j = cc in ap (λ (x : JobView). x.stage) one ∙ at)))
 
   -- its superblock has come home, published or not
   pub came_both : (n : ℕ) (job : JobView) (published : Bool) → job_of n view.upkeep ≡ Some job → view.upkeep.publishing ≡ Some n → HasUpkeep n (record (upkeep_at n view.upkeep.passes) { job = Some (record job { stage = stage_home published }) }) view.upkeep upkeep
@@ -129,9 +137,17 @@ module _ {L D C : Type 0} (log_tells : Bool) (log_seen : L → Files) (log_now :
   came_both n job published had mine changed same older is = (
     upkeep_keeps log_tells log_seen log_now log_leaves log_faults view upkeep (λ none. sym same.0 ∙ none) is.0,
     upkeep_stored log_tells log_seen tells seen faults view is.1 upkeep same.0 (λ m one. over_is m one published refl) (λ m one. files_are m one published refl) rests
-        (jobs_kept (view.records ++ is.1.run) n (record (upkeep_at n view.upkeep.passes) { job = Some (record job { stage = stage_home published }) }) view.upkeep upkeep changed own is.1.jobs),
+        (jobs_kept (view.records ++ is.1.run) n (record (upkeep_at n view.upkeep.passes) { job = Some (record job { stage = stage_home published }) }) view.upkeep upkeep changed own is.1.jobs)
+        (λ k j at out. absurd (none_kept n (record (upkeep_at n view.upkeep.passes) { job = Some (record job { stage = stage_home published }) }) view.upkeep upkeep changed home_stage (none_beside view is.1.run is.1.outside n mine) k j at out)),
   )
     where
+      home_is : (b : Bool) → is_at_outside (stage_home b) ≡ false
+      home_is true = refl
+      home_is false = refl
+
+      home_stage : (j : JobView) → Some (record job { stage = stage_home published }) ≡ Some j → is_at_outside j.stage ≡ false
+      home_stage j e = let one : record job { stage = stage_home published } ≡ j = cc in sym (ap (λ (x : JobView). is_at_outside x.stage) one) ∙ home_is published
+
       was : over_in view.upkeep ≡ over_of (Some job)
       was = ap (λ (p : Option ℕ). over_by p view.upkeep) mine ∙ ap over_of had
 
@@ -169,15 +185,16 @@ module _ {L D C : Type 0} (log_tells : Bool) (log_seen : L → Files) (log_now :
   -- it is given up
   pub abandoned_both : (n : ℕ) (w : Want) → HasUpkeep n (job_abandoned w (upkeep_at n view.upkeep.passes)) view.upkeep upkeep → view.upkeep.publishing ≡ None → (upkeep.begun ≡ view.upkeep.begun) × (upkeep.publishing ≡ view.upkeep.publishing) → BothOn view
       → BothOn (record view { upkeep = upkeep })
-  abandoned_both n w changed none same is = free_both n (job_abandoned w (upkeep_at n view.upkeep.passes)) changed none same is (λ j e. absurd (let no : None ≡ Some j = e in cc))
+  abandoned_both n w changed none same is = free_both n (job_abandoned w (upkeep_at n view.upkeep.passes)) changed none same is (λ j e. absurd (let no : None ≡ Some j = e in cc)) (λ j e at. absurd (let no : None ≡ Some j = e in cc))
 
   -- a job has begun
   pub begun_both : (tablet : View C) (n : ℕ) (w : Want) (job : JobView) (h : HasFrozen view.tablet tablet) → h.number + 1 < 2 ^ 64 → HasUpkeep n (asked w job (upkeep_at n view.upkeep.passes)) view.upkeep upkeep
       → (upkeep.begun ≡ job.number) × (upkeep.publishing ≡ view.upkeep.publishing) → job.number ≡ suc view.upkeep.begun → view.upkeep.begun < 2 ^ 24 → view.upkeep.publishing ≡ None → job.many ≡ view.log.known.count + length (view.log.out ++ view.log.queued)
-      → job.first_rowset ≡ view.store.next_rowset → view.store.next_rowset ≢ 2 ^ 64 - 1 → job.last_mem ≡ h.number → BothOn view → BothOn (record view { tablet = tablet; upkeep = upkeep })
-  begun_both tablet n w job h fits has counted next begins none many rowset few last is = (
+      → job.first_rowset ≡ view.store.next_rowset → view.store.next_rowset ≢ 2 ^ 64 - 1 → job.last_mem ≡ h.number → is_at_outside job.stage ≡ false → BothOn view → BothOn (record view { tablet = tablet; upkeep = upkeep })
+  begun_both tablet n w job h fits has counted next begins none many rowset few last other is = (
     frozen_keeps log_tells log_seen log_now log_leaves log_faults tells seen faults view tablet upkeep h fits (λ zero_. let no : suc view.upkeep.begun ≡ 0 = sym next ∙ sym counted.0 ∙ zero_ in cc) is.0,
     frozen_stored log_tells log_seen log_now log_leaves log_faults tells seen faults view tablet upkeep h fits is.1 none (counted.1 ∙ none) (counted.0 ∙ next) begins
         (jobs_kept (view.records ++ is.1.run) n (asked w job (upkeep_at n view.upkeep.passes)) view.upkeep upkeep has
-        (λ j e. subst (JobOn (view.records ++ is.1.run)) (let one : job ≡ j = cc in one) (job_begins log_tells log_seen log_now log_leaves log_faults tells seen faults view tablet upkeep h fits is.1 job many rowset few last)) is.1.jobs),
+        (λ j e. subst (JobOn (view.records ++ is.1.run)) (let one : job ≡ j = cc in one) (job_begins log_tells log_seen log_now log_leaves log_faults tells seen faults view tablet upkeep h fits is.1 job many rowset few last)) is.1.jobs)
+        (outside_beside view is.1.run is.1.outside upkeep n (asked w job (upkeep_at n view.upkeep.passes)) has (counted.1 ∙ none) (λ zero_. absurd (let no : suc view.upkeep.begun ≡ 0 = sym next ∙ sym counted.0 ∙ zero_ in cc)) (λ j e. let one : job ≡ j = cc in sym (ap (λ (x : JobView). is_at_outside x.stage) one) ∙ other)),
   )

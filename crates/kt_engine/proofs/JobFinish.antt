@@ -25,6 +25,7 @@ use Rattle.kt_engine.specs.Visits.{IsVisit}
 use Rattle.kt_engine.proofs.Filed.{own_job}
 use Rattle.kt_engine.proofs.Finished.{over_core, over_names, over_frozen, over_files, is_over, finished_keeps, finished_stored}
 use Rattle.kt_engine.proofs.NewRowsets.{outputs_stores, outputs_names}
+use Rattle.kt_engine.proofs.Outsiders.{none_kept, none_beside}
 use Rattle.kt_engine.proofs.Upkeeps.{jobs_kept}
 use Rattle.kt_engine.proofs.Visiting.{shelf_visit}
 
@@ -60,7 +61,8 @@ module _ {L D C : Type 0} (log_tells : Bool) (log_seen : L → Files) (log_now :
       let over_is : over view ≡ Some o = ap (λ (p : Option ℕ). over_by p view.upkeep) may.published.0 ∙ ap over_of had ∙ ap (λ (p : Option RowSetData). over_for p job) may.output in (
         finished_keeps view tablet upkeep (takes_of job) (outputs_of job) job.held h log_tells log_seen log_now log_leaves log_faults job.last_mem (λ none. may.begun (sym same.0 ∙ none)) may.small may.given is.0,
         finished_stored view tablet upkeep (takes_of job) (outputs_of job) job.held h log_tells log_seen tells seen faults is.1 o job.last_mem over_is refl refl may.published.1 may.published.2 told same.1 same.0 may.given
-            (jobs_kept (view.records ++ is.1.run) n (job_finished job.want (upkeep_at n view.upkeep.passes)) view.upkeep upkeep has (λ j e. absurd (let no : None ≡ Some j = e in cc)) is.1.jobs),
+            (jobs_kept (view.records ++ is.1.run) n (job_finished job.want (upkeep_at n view.upkeep.passes)) view.upkeep upkeep has (λ j e. absurd (let no : None ≡ Some j = e in cc)) is.1.jobs)
+            (none_kept n (job_finished job.want (upkeep_at n view.upkeep.passes)) view.upkeep upkeep has (λ j e. absurd (let no : None ≡ Some j = e in cc)) (none_beside view is.1.run is.1.outside n may.published.0)),
       )
     where
       -- from its superblock on each is told of the files that memory has then

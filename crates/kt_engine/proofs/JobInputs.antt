@@ -39,6 +39,7 @@ its_input readings tablet (r ∷ taken) inputs upto mark may last marked reads =
   mark_is = marked;
   reads = (reads.mems, reads.rowsets_are);
   readable = readable_rowsets readings tablet (r ∷ taken) inputs reads may.shelved may.named;
+  files = reads.files;
   few = reads.few;
 }
 
@@ -68,4 +69,4 @@ its_passing log_tells log_seen log_now log_leaves log_faults tells seen faults r
 its_passing log_tells log_seen log_now log_leaves log_faults tells seen faults readings view is (r ∷ taken) inputs upto mark may last marked reads free calm t rules first content plan =
     subst (λ (n : ℕ). TellPassing rules upto n inputs) (sym (own_mark readings view.tablet upto mark may.sound last marked first content.opens))
     (subst (λ (n : ℕ). TellPassing rules n view.tablet.core.a inputs) (sym last)
-    (passing_taken log_tells log_seen tells seen faults readings view is.1 (r ∷ taken) inputs reads may.sound may.shelved may.named free calm t rules first content plan))
+    (passing_taken log_tells log_seen tells seen faults view is.1 (r ∷ taken) free calm t rules first content plan readings inputs reads may.sound may.shelved may.named))

@@ -1,5 +1,5 @@
 -- The superblock of a job goes out, a flush's or a compaction's: it stands over the stores that the tablet has once the job is over.
-use Rattle.std.proofs.Common.{◌≡◌, ◌≢◌, ℕ, suc, ◌<◌, ◌≤◌, ◌+◌, ◌^◌, Bool, cond, List, [], ◌∷◌, ◌++◌, length, map, take, drop, Option, Some, None, refl, sym, ap, ◌∙◌, subst, arith, inl, inr, length-append}
+use Rattle.std.proofs.Common.{◌≡◌, ◌≢◌, ℕ, suc, ◌<◌, ◌≤◌, ◌+◌, ◌^◌, Bool, false, cond, List, [], ◌∷◌, ◌++◌, length, map, take, drop, Option, Some, None, refl, sym, ap, ◌∙◌, subst, arith, inl, inr, length-append}
 use Rattle.std.specs.Prelude.{◌==◌, true, false, IsTrue}
 use Rattle.std.proofs.lemmas.Bool.{le-leb, eqb-true}
 use Rattle.std.proofs.lemmas.List.{take_all, take-append-drop}
@@ -33,6 +33,7 @@ use Rattle.kt_pick.specs.declared.rules.Want.{Want}
 use Rattle.kt_pick.specs.declared.rules.Want.TheVariants as want
 use Rattle.kt_engine.specs.Memory.{name_of, AreNamed, IsNamed}
 use Rattle.kt_engine.specs.Logged.{PlanPasses, KeepsSince}
+use Rattle.kt_engine.specs.Outside.{is_at_outside}
 use Rattle.kt_engine.specs.Over.{Over, bare_store, first_name, over_at, core_over, names_over, AreLeft, AreLow, AreShelved}
 use Rattle.kt_engine.specs.Engines.{EngineView, IsContent, IsFound, core_from}
 use Rattle.kt_engine.specs.Jobs.{JobView, UpkeepView, UpkeepsView, JobOn, job_of, over_for, over_of, over_by, over_in, takes_by, takes_of}
@@ -49,6 +50,7 @@ use Rattle.kt_engine.proofs.Jobs.{before_over, later_over, hold_both, hold_left,
 use Rattle.kt_engine.proofs.Lists.{all_head, all_tail}
 use Rattle.kt_engine.proofs.Shelved.{names_behind}
 use Rattle.kt_engine.proofs.Marks.{of_each}
+use Rattle.kt_engine.proofs.Outsiders.{NoneOutside, none_kept}
 use Rattle.kt_engine.proofs.Stored.{to_plain, of_plain, plain, filed_now}
 use Rattle.kt_engine.proofs.Upkeeps.{jobs_kept}
 
@@ -117,7 +119,7 @@ some_names (t ∷ names) n lt = omega arith
 
 module _ {L D C : Type 0} (log_tells : Bool) (log_seen : L → Files) (tells : Bool) (seen : D → Files) (now : D → ℕ) (leaves : D → ℕ → Files → Type 0) (faults : D → ℕ) (view : EngineView L D C) (is : IsStored log_tells log_seen tells seen faults view)
     (side : IsSide tells seen now leaves faults view.store) (n : ℕ) (job : JobView) (upkeep : UpkeepsView) (had : job_of n view.upkeep ≡ Some job) (may : MayPublishJob tells seen now leaves view job)
-    (settled : (view.log.out ≡ []) × (view.log.queued ≡ [])) (none : view.upkeep.publishing ≡ None) (stands : (first : Past) → IsFound view first → Stands (core_from view first)) (long : length view.tablet.names ≡ length view.tablet.core.stores)
+    (settled : (view.log.out ≡ []) × (view.log.queued ≡ [])) (none : view.upkeep.publishing ≡ None) (inside : NoneOutside view.upkeep) (stands : (first : Past) → IsFound view first → Stands (core_from view first)) (long : length view.tablet.names ≡ length view.tablet.core.stores)
     (shelved : AreShelved (suc view.tablet.frozen) (2 ^ 64) view.tablet.names)
     (goes : IsLent n job (view.store.meta.number + 1) view.upkeep upkeep) where
   abbrev meta : Meta
@@ -412,8 +414,10 @@ module _ {L D C : Type 0} (log_tells : Bool) (log_seen : L → Files) (tells : B
     below = is.below;
     names_below = is.names_below;
     near = subst (λ (n : ℕ). AreNear view.found view.tablet.names view.first_rowset view.store.next_rowset n is.run) (sym goes.begun.0) is.near;
+    files_near = is.files_near;
     rests = inr may.calm;
     jobs = jobs_kept (view.records ++ is.run) n _ view.upkeep upkeep goes.upkeep (λ own same. still_on own same) is.jobs;
+    outside = λ k j at out. absurd (none_kept n _ view.upkeep upkeep goes.upkeep its_stage inside k j at out);
     holds = λ t m one. elim one [
       | inl was ↦ is.holds t m (inl was)
       | inr lent ↦ (
@@ -427,6 +431,7 @@ module _ {L D C : Type 0} (log_tells : Bool) (log_seen : L → Files) (tells : B
     mark = is.mark;
     marked = of_each (λ (o : Meta). IsMarkOf view.tablet.mark view.tablet.core.trail o.a) went.store (is.marked view.store.meta (inl refl)) (λ m lent. let same : m ≡ meta = (let e : Some meta ≡ Some m = lent in cc) in subst (λ (o : Meta). IsMarkOf view.tablet.mark view.tablet.core.trail o.a) (sym same) is.mark);
     clock = of_each (λ (o : Meta). o.c ≤ view.tablet.core.c) went.store (is.clock view.store.meta (inl refl)) (λ m lent. let same : m ≡ meta = (let e : Some meta ≡ Some m = lent in cc) in subst (λ (o : Meta). o.c ≤ view.tablet.core.c) (sym same) (omega arith));
+    low = of_each (λ (o : Meta). o.a ≤ view.tablet.core.a) went.store (is.low view.store.meta (inl refl)) (λ m lent. let same : m ≡ meta = (let e : Some meta ≡ Some m = lent in cc) in subst (λ (o : Meta). o.a ≤ view.tablet.core.a) (sym same) (omega arith));
     later = is.later;
     home = λ disk at. absurd (let no : None ≡ Some disk = at in cc);
   }
@@ -454,6 +459,9 @@ module _ {L D C : Type 0} (log_tells : Bool) (log_seen : L → Files) (tells : B
           subst (AreFiled tells (seen view.store.known) m.rowsets)
           (sym (ap (λ (o : Option JobView). files_over o view.tablet.files) (own_job m.number (record job { stage = Publishing; super = view.store.meta.number + 1 }) up) ∙ ap (λ (o : Option RowSetData). files_by o (takes_of job) job.held view.tablet.files) may.output))
           (subst (λ (o : Meta). AreFiled tells (seen view.store.known) o.rowsets (files_left (takes_of job) view.tablet.files ++ job.held)) (sym same) now)
+
+      its_stage : (own : JobView) → Some (record job { stage = Publishing; super = view.store.meta.number + 1 }) ≡ Some own → is_at_outside own.stage ≡ false
+      its_stage own same = let e : record job { stage = Publishing; super = view.store.meta.number + 1 } ≡ own = cc in sym (ap (λ (j : JobView). is_at_outside j.stage) e)
 
       -- its job is on as it was
       still_on : (own : JobView) → Some (record job { stage = Publishing; super = view.store.meta.number + 1 }) ≡ Some own → JobOn (view.records ++ is.run) own

@@ -35,7 +35,7 @@ use Rattle.kt_engine.specs.Logged.{KeepsSince}
 use Rattle.kt_engine.specs.Over.{Over, bare_store, first_name, over_at, core_over, names_over, AreTaken, AreLeft, AreLow, AreShelved}
 use Rattle.kt_engine.specs.Engines.{EngineView, IsEngine, core_from}
 use Rattle.kt_engine.specs.Near.{AreNear, first_number}
-use Rattle.kt_engine.specs.Stored.{IsStored, over, next_given, numbers_of}
+use Rattle.kt_engine.specs.Stored.{IsStored, AreOutside, over, next_given, numbers_of}
 use Rattle.kt_engine.specs.Jobs.{JobView, UpkeepsView, JobOn, job_of}
 use Rattle.kt_engine.specs.Files.{AreFiled}
 use Rattle.kt_engine.specs.JobMeta.{left_metas}
@@ -46,6 +46,7 @@ use Rattle.kt_engine.proofs.Near.{near_frozen}
 use Rattle.kt_engine.proofs.Lists.{all_cons, all_head, all_tail, all_front}
 use Rattle.kt_engine.proofs.Rising.{given_same, records_rise, names_rise, rowsets_rise}
 use Rattle.kt_engine.proofs.Filed.{none_at}
+use Rattle.kt_engine.proofs.Outside.{outside_frozen}
 use Rattle.kt_engine.proofs.Stored.{to_plain, of_plain, plain, filed_now}
 
 -- ---- a freeze, with a job that begins
@@ -92,8 +93,8 @@ module _ {L D C : Type 0} (log_tells : Bool) (log_seen : L → Files) (log_now :
   named_above super named = (all_head (IsNamed super) (Mem h.number) h.others (subst (All (IsNamed super)) h.was named.each)).0
 
   pub frozen_stored : (is : IsStored log_tells log_seen tells seen faults view) → view.upkeep.publishing ≡ None → upkeep.publishing ≡ None → upkeep.begun ≡ suc view.upkeep.begun → view.upkeep.begun < 2 ^ 24 → ((n : ℕ) (job : JobView) → job_of n upkeep ≡ Some job → JobOn (view.records ++ is.run) job)
-      → IsStored log_tells log_seen tells seen faults (record view { tablet = tablet; upkeep = upkeep })
-  frozen_stored is none still counted few jobs = subst (λ (t : View C). IsStored log_tells log_seen tells seen faults (record view { tablet = t; upkeep = upkeep })) (sym h.is) (record {
+      → AreOutside (record view { upkeep = upkeep }) (view.records ++ is.run) → IsStored log_tells log_seen tells seen faults (record view { tablet = tablet; upkeep = upkeep })
+  frozen_stored is none still counted few jobs outside = subst (λ (t : View C). IsStored log_tells log_seen tells seen faults (record view { tablet = t; upkeep = upkeep })) (sym h.is) (record {
     run = is.run;
     all = is.all;
     count = is.count;
@@ -109,14 +110,17 @@ module _ {L D C : Type 0} (log_tells : Bool) (log_seen : L → Files) (log_now :
     names_below = (omega arith, names_rise (numbers_of view) later_numbers (map name_of view.tablet.names) (omega arith) (omega (arith, first_is)) is.names_below);
     near = subst (λ (n : ℕ). AreNear view.found (Mem (h.number + 1) ∷ view.tablet.names) view.first_rowset view.store.next_rowset n is.run) (sym counted)
         (near_frozen view.found view.tablet.names view.first_rowset view.store.next_rowset view.upkeep.begun h.number is.run first_is few is.near);
+    files_near = is.files_near;
     rests = inl still;
     jobs = jobs;
+    outside = λ n job has at. outside_frozen view.tablet view.store.meta view.store.lent upkeep view.records is.run job (outside n job has at) h.number h.others h.was;
     holds = is.holds;
     files = λ m one. subst (AreFiled tells (seen view.store.known) m.rowsets) (sym (none_at m.number upkeep view.tablet.files still)) (filed_now log_tells log_seen tells seen faults view is none m one);
     columns = is.columns;
     mark = is.mark;
     marked = is.marked;
     clock = is.clock;
+    low = is.low;
     later = is.later;
     home = is.home;
   })

@@ -37,6 +37,11 @@ pub mod Passes
 pub mod NewRowsets
 pub mod Statistics
 pub mod Jobs
+pub mod LaterRows
+pub mod Outside
+pub mod Outsiders
+pub mod LaterFiles
+pub mod Leaving
 pub mod Compacted
 pub mod TakenRead
 pub mod Entries

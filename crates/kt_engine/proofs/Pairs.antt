@@ -83,6 +83,7 @@ since_holds rules core super names notes records run places durable front behind
       t = t;
       after_opening = (let from = k.from in let l = last.0 in omega arith);
       acknowledged = acknowledged_by (records ++ front) t core.trail low acknowledged;
+      since = omega (arith, k.opened, last_of-front records front);
       holds = subst (λ (l : List Entry). HoldsPast rules fill super l (max super.c (last_of l)) (raise (upto t (run_past core)) super.a)) here
           (subst (λ (p : Past). HoldsPast rules fill super (base ++ s.more) (max super.c (last_of (base ++ s.more))) (raise p super.a)) past_is holds);
       last = low;
@@ -120,7 +121,7 @@ module _ {L D C : Type 0} (log_tells : Bool) (log_seen : L → Files) (log_now :
 
   -- what an image holds is told of no store, so it holds the same whatever stores the superblock is told of
   of_core : (m : Meta) (super : Super) (image : Files) (first : Past) → {rules : Rules} → HoldsUpTo rules (core_at view m (core_from view first)) super view.records (numbers_of view) image → HoldsUpTo rules (core_from view first) super view.records (numbers_of view) image
-  of_core m super image first h = record { records = h.records; reads = h.reads; log = h.log; run = h.run; front = h.front; names = h.names; t = h.t; after_opening = h.after_opening; acknowledged = h.acknowledged; holds = h.holds; last = h.last; within = h.within }
+  of_core m super image first h = record { records = h.records; reads = h.reads; log = h.log; run = h.run; front = h.front; names = h.names; t = h.t; after_opening = h.after_opening; acknowledged = h.acknowledged; since = h.since; holds = h.holds; last = h.last; within = h.within }
 
   pub recovers_pair : RecoversPair log_tells log_seen tells seen view
   recovers_pair rules first content plan lt t n log_image image reads has =

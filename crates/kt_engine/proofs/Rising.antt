@@ -1,5 +1,5 @@
 -- Numbers that are below some are below greater ones.
-use Rattle.std.proofs.Common.{◌≡◌, ◌≢◌, ℕ, Bool, true, false, ◌<◌, ◌≤◌, ◌-◌, ◌^◌, List, [], ◌∷◌, ◌++◌, map, refl, arith, inl, inr}
+use Rattle.std.proofs.Common.{◌≡◌, ◌≢◌, ℕ, Bool, true, false, ◌<◌, ◌≤◌, ◌-◌, ◌^◌, List, [], ◌∷◌, ◌++◌, map, refl, subst, append_assoc, arith, inl, inr}
 use Rattle.std.specs.Prelude.{◌==◌, ◌⊎◌, ◌+◌, min, nat_lt, if◌then◌else◌}
 use Rattle.std.proofs.lemmas.Bool.Decides.{nat_tests}
 use Rattle.kt_history.specs.declared.target.Target.{Target}
@@ -83,6 +83,9 @@ pub records_join : (numbers : Numbers) (xs ys : List Entry) → RecordsBelow num
 records_join numbers [] ys p q = q
 records_join numbers (Replicate ts ops ∷ xs) ys p q = records_join numbers xs ys p q
 records_join numbers (Commit ts rows ∷ xs) ys p q = (p.0, records_join numbers xs ys p.1 q)
+
+pub below_more : (numbers : Numbers) (records run : List Entry) (e : Entry) → RecordsBelow numbers (records ++ run) → RecordsBelow numbers (e ∷ []) → RecordsBelow numbers (records ++ (run ++ e ∷ []))
+below_more numbers records run e below own = subst (RecordsBelow numbers) (append_assoc records run (e ∷ [])) (records_join numbers (records ++ run) (e ∷ []) below own)
 
 pub records_parts : (numbers : Numbers) (xs ys : List Entry) → RecordsBelow numbers (xs ++ ys) → RecordsBelow numbers xs × RecordsBelow numbers ys
 records_parts numbers [] ys h = (tt, h)

@@ -46,6 +46,7 @@ use Rattle.kt_engine.specs.Over.{AreRowsetNames, AreShelved, over_at, core_over,
 use Rattle.kt_engine.specs.Stored.{IsStored, IsSuperOf}
 use Rattle.kt_engine.proofs.Lists.{all_head, all_tail}
 use Rattle.kt_engine.proofs.Flushed.{each_told}
+use Rattle.kt_engine.proofs.LaterFiles.{none_are_upto}
 
 -- ---- the first stores
 
@@ -181,7 +182,7 @@ module _ {C : Type 0} (readings : C → Option (List ℕ)) (tablet : View C) (in
   here = subst (λ (n : ℕ). ReadsMemory tablet n inputs) last reads
 
   pub input_is : mark ≡ min upto tablet.core.a → HasInput tablet [] inputs upto mark
-  input_is marked = record { bound_is = last; mark_is = marked; reads = (reads.mems, reads.rowsets); readable = readable readings tablet inputs here grown; few = reads.few }
+  input_is marked = record { bound_is = last; mark_is = marked; reads = (reads.mems, reads.rowsets); readable = readable readings tablet inputs here grown; files = none_are_upto tablet; few = reads.few }
 
   module _ (sound : IsSound readings tablet) (marked : mark ≡ min upto tablet.core.a) (first : Past) (opens : Opens tablet.opening tablet.mark tablet.core.opened first) where
     pub the_mark : mark ≡ tablet.core.a

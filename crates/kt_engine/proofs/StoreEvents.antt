@@ -40,14 +40,15 @@ use Rattle.kt_engine.specs.Logged.{PlanPasses, LogStands, KeepsSince}
 use Rattle.kt_engine.specs.Engines.{EngineView, IsContent, IsFound, IsLogged, IsEngine, core_from}
 use Rattle.kt_engine.specs.Over.{over_at}
 use Rattle.kt_engine.specs.Files.{AreFiled}
-use Rattle.kt_engine.specs.Stored.{IsOneOf, IsMarkOf, IsSuperOf, IsStored, over, core_at, names_at, files_at, numbers_of, next_super}
+use Rattle.kt_engine.specs.Stored.{IsOneOf, IsMarkOf, IsSuperOf, IsStored, AreOutside, over, core_at, names_at, files_at, numbers_of, next_super}
 use Rattle.kt_engine.proofs.Devices.{store_keeps}
 use Rattle.kt_engine.proofs.Filed.{filed_on, none_at}
 use Rattle.kt_engine.proofs.Fronts.{last_of-append, low_below}
 use Rattle.kt_engine.proofs.Marks.{of_each}
-use Rattle.kt_engine.specs.Near.{most_rowsets}
+use Rattle.kt_engine.specs.Near.{most_rowsets, most_files}
 use Rattle.kt_engine.proofs.Near.{near_rises}
 use Rattle.kt_engine.proofs.Lists.{all_each}
+use Rattle.kt_engine.proofs.Outsiders.{NoneOutside, outside_lent, outside_home}
 use Rattle.kt_engine.proofs.Rising.{given_rises, records_rise, names_rise}
 use Rattle.kt_engine.proofs.Stored.{same_log, to_plain, of_plain, plain, filed_now}
 use Rattle.kt_engine.proofs.Untold.{flies_above}
@@ -55,8 +56,8 @@ use Rattle.kt_engine.proofs.Untold.{flies_above}
 -- ---- the superblock that comes next, where all records are durable
 
 -- the numbers that a turn has given are not too many
-most_given : (old new first : ℕ) → old ≤ first + most_rowsets → new ≤ max old (first + most_rowsets) → new ≤ first + most_rowsets
-most_given old new first low high = omega arith
+most_given : (most old new first : ℕ) → old ≤ first + most → new ≤ max old (first + most) → new ≤ first + most
+most_given most old new first low high = omega arith
 
 module _ (rules : Rules) (core : Core) (super : Super) (names : List Target) (notes : List (List CommitRow)) (records run : List Entry) (places : List (ℕ × ℕ)) (durable : ℕ) (log : LogStands core records places run) (st : Stands core)
     (k : KeepsSince rules core super names notes records run durable) (all : durable ≡ length (records ++ run)) where
@@ -115,6 +116,7 @@ module _ (rules : Rules) (core : Core) (super : Super) (names : List Target) (no
         rest = [];
         parts = sym (append-nil run);
         made = omega arith;
+        opened = (let s = log.since in omega arith);
         low = core.c;
         from = log.since;
         up = omega arith;
@@ -148,9 +150,9 @@ module _ {L D C : Type 0} (log_tells : Bool) (log_seen : L → Files) (tells : B
   lent_view number lent = record view.store { home = None; holder = Some number; lent = lent }
 
   pub lent_stored : (store : StoreView D) (number : ℕ) (lent : Option Meta) → store ≡ lent_view number lent → ((m : Meta) → lent ≡ Some m → m ≡ next_super view) → ((m : Meta) → lent ≡ Some m → (view.log.out ≡ []) × (view.log.queued ≡ []) × (view.upkeep.publishing ≡ None))
-      → ((first : Past) → IsFound view first → Stands (core_from view first)) → Stored (record view { store = store })
+      → ((m : Meta) → lent ≡ Some m → NoneOutside view.upkeep) → ((first : Past) → IsFound view first → Stands (core_from view first)) → Stored (record view { store = store })
   unfolding published
-  lent_stored store number lent e next settled stands = subst (λ (s : StoreView D). Stored (record view { store = s })) (sym e) (record {
+  lent_stored store number lent e next settled inside stands = subst (λ (s : StoreView D). Stored (record view { store = s })) (sym e) (record {
     run = is.run;
     all = is.all;
     count = is.count;
@@ -159,18 +161,26 @@ module _ {L D C : Type 0} (log_tells : Bool) (log_seen : L → Files) (tells : B
     below = is.below;
     names_below = is.names_below;
     near = is.near;
+    files_near = is.files_near;
     rests = is.rests;
     jobs = is.jobs;
+    outside = outside_out lent refl;
     holds = λ t m one. elim one [ inl was ↦ is.holds t m (inl was) | inr new ↦ subst (λ (o : Meta). (held : List HeldFiles) × HoldAll (seen view.store.known) o.rowsets held) (sym (next m new)) (is.holds t view.store.meta (inl refl)) ];
     files = λ m one. elim one [ inl was ↦ is.files m (inl was) | inr new ↦ files_next m new ];
     columns = λ m new. ap (λ (o : Meta). o.schema) (next m new);
     mark = is.mark;
     marked = of_each (λ (o : Meta). IsMarkOf view.tablet.mark view.tablet.core.trail o.a) (lent_view number lent) (is.marked view.store.meta (inl refl)) (λ m new. subst (λ (o : Meta). IsMarkOf view.tablet.mark view.tablet.core.trail o.a) (sym (next m new)) is.mark);
     clock = of_each (λ (o : Meta). o.c ≤ view.tablet.core.c) (lent_view number lent) (is.clock view.store.meta (inl refl)) (λ m new. subst (λ (o : Meta). o.c ≤ view.tablet.core.c) (sym (next m new)) (omega arith));
+    low = of_each (λ (o : Meta). o.a ≤ view.tablet.core.a) (lent_view number lent) (is.low view.store.meta (inl refl)) (λ m new. subst (λ (o : Meta). o.a ≤ view.tablet.core.a) (sym (next m new)) (omega arith));
     later = is.later;
     home = λ disk at. absurd (let none : None ≡ Some disk = at in cc);
   })
     where
+      -- one that goes out to publish finds no job outside
+      outside_out : (o : Option Meta) → lent ≡ o → AreOutside (record view { store = lent_view number lent }) (view.records ++ is.run)
+      outside_out None none n job has at = outside_lent view.tablet view.store.meta view.store.lent view.upkeep (view.records ++ is.run) job (is.outside n job has at) lent none
+      outside_out (Some m) new n job has at = absurd (inside m new n job has at)
+
       keeps : (rules : Rules) (first : Past) → IsContent rules view first → PlanPasses rules view.tablet.core.work → IsTrue tells → (super : Super) → (one : IsSuperOf seen (lent_view number lent) super)
           → KeepsSince rules (core_at view one.meta (core_from view first)) super (names_at view one.meta) view.tablet.notes view.records is.run view.log.known.count
       keeps rules first h plan t super one = elim one.one [
@@ -207,8 +217,8 @@ module _ {L D C : Type 0} (log_tells : Bool) (log_seen : L → Files) (tells : B
 
   pub home_stored : (store : StoreView D) (disk : D) (published : Bool) (lent : Option Meta) (next : ℕ) → lent ≡ view.store.lent → (IsTrue tells → IsTurn seen now leaves view.store.next_file next view.store.known disk) → faults view.store.known ≤ faults disk
       → store.home ≡ Some disk → store.known ≡ disk → store.meta ≡ published_in published lent view.store.meta → store.lent ≡ None → view.store.next_rowset ≤ store.next_rowset
-      → store.next_rowset ≤ max view.store.next_rowset (view.first_rowset + most_rowsets) → Stored (record view { store = store })
-  home_stored store disk published lent next same turn more at known meta none given few = record {
+      → store.next_rowset ≤ max view.store.next_rowset (view.first_rowset + most_rowsets) → store.next_file ≤ max view.store.next_file (view.first_file + most_files) → Stored (record view { store = store })
+  home_stored store disk published lent next same turn more at known meta none given few few_files = record {
     run = is.run;
     all = is.all;
     count = is.count;
@@ -218,9 +228,11 @@ module _ {L D C : Type 0} (log_tells : Bool) (log_seen : L → Files) (tells : B
         (record { meta = one.meta; one = was one.meta one.one; held = one.held; hold = before t one.meta (was one.meta one.one) one.held one.hold; is = one.is });
     below = records_rise (numbers_of view) (numbers_of (record view { store = store })) (view.records ++ is.run) (given_rises view.store.next_rowset store.next_rowset given) (omega arith) is.below;
     names_below = names_rise (numbers_of view) (numbers_of (record view { store = store })) (map name_of view.tablet.names) (given_rises view.store.next_rowset store.next_rowset given) (omega arith) is.names_below;
-    near = near_rises view.found view.tablet.names view.first_rowset view.store.next_rowset store.next_rowset view.upkeep.begun is.run given (most_given view.store.next_rowset store.next_rowset view.first_rowset is.near.rowsets few) is.near;
+    near = near_rises view.found view.tablet.names view.first_rowset view.store.next_rowset store.next_rowset view.upkeep.begun is.run given (most_given most_rowsets view.store.next_rowset store.next_rowset view.first_rowset is.near.rowsets few) is.near;
+    files_near = most_given most_files view.store.next_file store.next_file view.first_file is.files_near few_files;
     rests = is.rests;
     jobs = is.jobs;
+    outside = λ n job has at. outside_home view.tablet view.store.meta view.store.lent view.upkeep (view.records ++ is.run) job (is.outside n job has at) store.meta store.lent published (meta ∙ ap (λ (o : Option Meta). published_in published o view.store.meta) same) none;
     holds = λ t m one.
         let held = is.holds t m (was m one) in
         (held.0, subst (λ (d : D). HoldAll (seen d) m.rowsets held.0) (sym known) (named_hold m held.0 (seen view.store.known) (seen disk) (λ n e. (turn t).reads n (left m (was m one) next n e)) held.1));
@@ -230,6 +242,7 @@ module _ {L D C : Type 0} (log_tells : Bool) (log_seen : L → Files) (tells : B
     mark = is.mark;
     marked = λ m one. is.marked m (was m one);
     clock = λ m one. is.clock m (was m one);
+    low = λ m one. is.low m (was m one);
     later = subst (λ (d : D). faults view.store_device ≤ faults d) (sym known) (let low = is.later in omega arith);
     home = λ d here. let one : disk ≡ d = cc in subst (λ (x : D). faults store.known ≤ faults x) one (subst (λ (x : D). faults x ≤ faults disk) (sym known) (omega arith));
   }
@@ -251,12 +264,14 @@ module _ {L D C : Type 0} (log_tells : Bool) (log_seen : L → Files) (tells : B
 -- the engine and its store stand when the store has come home
 pub home_both : {L D C : Type 0} (log_tells : Bool) (log_seen : L → Files) (log_now : L → ℕ) (log_leaves : L → ℕ → Files → Type 0) (log_faults : L → ℕ) (tells : Bool) (seen : D → Files) (now : D → ℕ) (leaves : D → ℕ → Files → Type 0) (faults : D → ℕ) (view : EngineView L D C)
     → IsSide tells seen now leaves faults view.store → (store : StoreView D) (disk : D) (published : Bool) (lent : Option Meta) (rowset file : ℕ) → IsTrue view.store.whole → lent ≡ view.store.lent → (IsTrue tells → IsTurn seen now leaves view.store.next_file file view.store.known disk)
-    → faults view.store.known ≤ faults disk → view.store.next_rowset ≤ rowset → rowset ≤ max view.store.next_rowset (view.first_rowset + most_rowsets) → store ≡ record { home = Some disk; known = disk; holder = None; meta = published_in published lent view.store.meta; lent = None; next_rowset = rowset; next_file = file; whole = true }
+    → faults view.store.known ≤ faults disk → view.store.next_rowset ≤ rowset → rowset ≤ max view.store.next_rowset (view.first_rowset + most_rowsets)
+    → file ≤ max view.store.next_file (view.first_file + most_files) → store ≡ record { home = Some disk; known = disk; holder = None; meta = published_in published lent view.store.meta; lent = None; next_rowset = rowset; next_file = file; whole = true }
     → IsEngine log_tells log_seen log_now log_leaves log_faults view × IsStored log_tells log_seen tells seen faults view
     → IsEngine log_tells log_seen log_now log_leaves log_faults (record view { store = store }) × IsStored log_tells log_seen tells seen faults (record view { store = store })
-home_both log_tells log_seen log_now log_leaves log_faults tells seen now leaves faults view side store disk published lent rowset file whole same turn more given few e is = (
+home_both log_tells log_seen log_now log_leaves log_faults tells seen now leaves faults view side store disk published lent rowset file whole same turn more given few few_files e is = (
   store_keeps log_tells log_seen log_now log_leaves log_faults view store (ap (λ (s : StoreView _). s.whole) e ∙ sym whole) is.0,
   home_stored log_tells log_seen tells seen now leaves faults view is.1 side store disk published lent file same turn more (ap (λ (s : StoreView _). s.home) e) (ap (λ (s : StoreView _). s.known) e) (ap (λ (s : StoreView _). s.meta) e) (ap (λ (s : StoreView _). s.lent) e)
       (subst (λ (n : ℕ). view.store.next_rowset ≤ n) (sym (ap (λ (s : StoreView _). s.next_rowset) e)) given)
-      (subst (λ (n : ℕ). n ≤ max view.store.next_rowset (view.first_rowset + most_rowsets)) (sym (ap (λ (s : StoreView _). s.next_rowset) e)) few),
+      (subst (λ (n : ℕ). n ≤ max view.store.next_rowset (view.first_rowset + most_rowsets)) (sym (ap (λ (s : StoreView _). s.next_rowset) e)) few)
+      (subst (λ (n : ℕ). n ≤ max view.store.next_file (view.first_file + most_files)) (sym (ap (λ (s : StoreView _). s.next_file) e)) few_files),
 )

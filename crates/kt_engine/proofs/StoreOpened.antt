@@ -76,6 +76,7 @@ store_opened {L} {D} {C} log_tells log_seen tells seen faults tablet journal rec
         rest = queued;
         parts = refl;
         made = omega (arith, count, ap (λ (l : List Entry). length l) (append-nil records));
+        opened = omega (arith, c);
         low = tablet.core.opened;
         from = omega arith;
         up = since;
@@ -91,8 +92,10 @@ store_opened {L} {D} {C} log_tells log_seen tells seen faults tablet journal rec
   below = records_rise numbers.0 given (records ++ queued) numbers.2 numbers.3 numbers.1.records_below;
   names_below = names_rise numbers.0 given (map name_of tablet.names) numbers.2 numbers.3 numbers.1.stores;
   near = near_opened tablet.names store.next_rowset queued only;
+  files_near = omega arith;
   rests = inl refl;
   jobs = λ n job has. absurd (let no : None ≡ Some job = has in cc);
+  outside = λ n job has at. absurd (let no : None ≡ Some job = has in cc);
   holds = λ t m one. elim one [ inl was ↦ (let f = found t in (f.0, subst (λ (o : Meta). HoldAll (seen store.known) o.rowsets f.0) (sym was) f.1)) | inr new ↦ absurd (let no : None ≡ Some m = sym none ∙ new in cc) ];
   files = λ m one. elim one [
     | inl was ↦ subst (λ (o : Meta). AreFiled tells (seen store.known) o.rowsets tablet.files) (sym was) (filed_read tells (seen store.known) store.meta.rowsets filed.0 tablet.files filed.1 filed.2 filed.3)
@@ -102,6 +105,7 @@ store_opened {L} {D} {C} log_tells log_seen tells seen faults tablet journal rec
   mark = subst (λ (es : List Event). IsMarkOf tablet.mark es tablet.core.a) (sym trail) mark.1;
   marked = of_each (λ (o : Meta). IsMarkOf tablet.mark tablet.core.trail o.a) store (subst (λ (es : List Event). IsMarkOf tablet.mark es store.meta.a) (sym trail) mark.0) (λ m new. absurd (let no : None ≡ Some m = sym none ∙ new in cc));
   clock = of_each (λ (o : Meta). o.c ≤ tablet.core.c) store clock (λ m new. absurd (let no : None ≡ Some m = sym none ∙ new in cc));
+  low = of_each (λ (o : Meta). o.a ≤ tablet.core.a) store (omega (arith, mark.0, mark.1)) (λ m new. absurd (let no : None ≡ Some m = sym none ∙ new in cc));
   later = later;
   home = λ disk at. subst (λ (d : D). faults store.known ≤ faults d) (sym (at_home disk at)) (omega arith);
 }

@@ -45,9 +45,9 @@ use Rattle.kt_engine.specs.Over.{Over, over_at, names_over, core_over}
 use Rattle.kt_engine.specs.Jobs.{JobView, UpkeepsView, JobOn, job_of, over_by, over_in}
 use Rattle.kt_engine.specs.Files.{AreFiled, publisher, job_at, files_over}
 use Rattle.kt_engine.specs.Near.{AreNear}
-use Rattle.kt_engine.specs.Stored.{IsOneOf, IsSuperOf, IsStored, over, core_at, names_at, files_at}
+use Rattle.kt_engine.specs.Stored.{IsOneOf, IsSuperOf, IsStored, AreOutside, over, core_at, names_at, files_at}
 use Rattle.kt_engine.proofs.Filed.{none_at}
-use Rattle.kt_engine.proofs.Rising.{records_join}
+use Rattle.kt_engine.proofs.Outside.{outside_line}
 use Rattle.kt_engine.proofs.Applied.{NotedHere, applied_run, pushed_is}
 use Rattle.kt_engine.proofs.Begun.{begun_run}
 use Rattle.kt_engine.proofs.Commits.{commit_names}
@@ -81,7 +81,7 @@ module _ (core : Core) (records since rest run : List Entry) (parts : run ≡ si
 
 -- more records are durable
 pub more_durable : {rules : Rules} {core : Core} {super : Super} {names : List Target} {notes : List (List CommitRow)} {records run : List Entry} (n m : ℕ) → n ≤ m → KeepsSince rules core super names notes records run n → KeepsSince rules core super names notes records run m
-more_durable n m le k = record { since = k.since; rest = k.rest; parts = k.parts; made = (let d = k.made in omega arith); low = k.low; from = k.from; up = k.up; last = k.last; mark = k.mark; clock = k.clock; named = k.named; deltas = k.deltas; passes = k.passes; keeps = k.keeps }
+more_durable n m le k = record { since = k.since; rest = k.rest; parts = k.parts; made = (let d = k.made in omega arith); opened = k.opened; low = k.low; from = k.from; up = k.up; last = k.last; mark = k.mark; clock = k.clock; named = k.named; deltas = k.deltas; passes = k.passes; keeps = k.keeps }
 
 -- a write begins
 pub begun_since : (rules : Rules) (core : Core) (super : Super) (names : List Target) (notes : List (List CommitRow)) (records : List Entry) (places : List (ℕ × ℕ)) (run : List Entry) (durable s i ts m : ℕ) (ops : List RowOp)
@@ -92,6 +92,7 @@ begun_since rules core super names notes records places run durable s i ts m ops
   rest = k.rest ++ Replicate ts ops ∷ [];
   parts = parts_more core records k.since k.rest run k.parts (Replicate ts ops);
   made = k.made;
+  opened = k.opened;
   low = k.low;
   from = k.from;
   up = (let u = k.up in omega arith);
@@ -118,6 +119,7 @@ ended_since rules core super names notes later records places run durable s i j 
       rest = k.rest ++ Commit f.ts rows ∷ [];
       parts = more;
       made = k.made;
+      opened = k.opened;
       low = k.low;
       from = k.from;
       up = k.up;
@@ -142,6 +144,7 @@ applied_since rules core super names notes later records places run durable new 
   rest = k.rest;
   parts = k.parts;
   made = k.made;
+  opened = k.opened;
   low = k.low;
   from = k.from;
   up = k.up;
@@ -168,6 +171,7 @@ line_since rules core super names notes records run durable e a c turns stopped 
   rest = k.rest;
   parts = k.parts;
   made = k.made;
+  opened = k.opened;
   low = k.low;
   from = k.from;
   up = (let u = k.up in omega arith);
@@ -207,9 +211,6 @@ none_publishes view t w flies (inr calm) = absurd (let no : None ≡ Some w = sy
 
 -- ---- records more
 
-pub below_more : (numbers : Numbers) (records run : List Entry) (e : Entry) → RecordsBelow numbers (records ++ run) → RecordsBelow numbers (e ∷ []) → RecordsBelow numbers (records ++ (run ++ e ∷ []))
-below_more numbers records run e below own = subst (RecordsBelow numbers) (append_assoc records run (e ∷ [])) (records_join numbers (records ++ run) (e ∷ []) below own)
-
 pub job_more : (records run : List Entry) (e : Entry) (job : JobView) → JobOn (records ++ run) job → JobOn (records ++ (run ++ e ∷ [])) job
 job_more records run e job on = subst (λ (l : List Entry). JobOn l job) (append_assoc records run (e ∷ [])) (record {
   many = (let n = length-append (records ++ run) (e ∷ []) in let low = on.many in omega arith);
@@ -239,14 +240,17 @@ module _ {L D C : Type 0} (log_tells : Bool) (log_seen : L → Files) (tells : B
     below = is.below;
     names_below = is.names_below;
     near = is.near;
+    files_near = is.files_near;
     rests = is.rests;
     jobs = is.jobs;
+    outside = λ n job has at. outside_line view.tablet view.store.meta view.store.lent view.upkeep view.records is.run job (is.outside n job has at) e a c turns stopped clock rise up;
     holds = is.holds;
     files = is.files;
     columns = is.columns;
     mark = moved_mark view.tablet.mark view.tablet.core.trail e view.tablet.core.a a moves is.mark;
     marked = λ m one. still_mark view.tablet.mark view.tablet.core.trail e m.a (is.marked m one);
     clock = λ m one. (let low = is.clock m one in omega arith);
+    low = λ m one. (let low = is.low m one in omega arith);
     later = is.later;
     home = is.home;
   }
@@ -263,14 +267,17 @@ module _ {L D C : Type 0} (log_tells : Bool) (log_seen : L → Files) (tells : B
     below = is.below;
     names_below = is.names_below;
     near = is.near;
+    files_near = is.files_near;
     rests = is.rests;
     jobs = is.jobs;
+    outside = is.outside;
     holds = is.holds;
     files = is.files;
     columns = is.columns;
     mark = is.mark;
     marked = is.marked;
     clock = is.clock;
+    low = is.low;
     later = is.later;
     home = is.home;
   }
@@ -317,14 +324,17 @@ module _ {L D C : Type 0} (log_tells : Bool) (log_seen : L → Files) (tells : B
     below = is.below;
     names_below = is.names_below;
     near = is.near;
+    files_near = is.files_near;
     rests = is.rests;
     jobs = is.jobs;
+    outside = is.outside;
     holds = is.holds;
     files = is.files;
     columns = is.columns;
     mark = is.mark;
     marked = is.marked;
     clock = is.clock;
+    low = is.low;
     later = is.later;
     home = is.home;
   }
@@ -332,8 +342,8 @@ module _ {L D C : Type 0} (log_tells : Bool) (log_seen : L → Files) (tells : B
   -- passes have something else of maintenance, and each superblock is told of the same stores and files
   pub upkeep_stored : (upkeep : UpkeepsView) → upkeep.begun ≡ view.upkeep.begun → ((m : Meta) → IsOneOf view.store m → over_at m.number (over_in upkeep) ≡ over_at m.number (over view))
       → ((m : Meta) → IsOneOf view.store m → files_over (job_at m.number (publisher upkeep)) view.tablet.files ≡ files_at view m) → (upkeep.publishing ≡ None) ⊎ (view.tablet.core.aloft ≡ [])
-      → ((n : ℕ) (job : JobView) → job_of n upkeep ≡ Some job → JobOn (view.records ++ is.run) job) → Stored (record view { upkeep = upkeep })
-  upkeep_stored upkeep counted same told rests jobs = record {
+      → ((n : ℕ) (job : JobView) → job_of n upkeep ≡ Some job → JobOn (view.records ++ is.run) job) → AreOutside (record view { upkeep = upkeep }) (view.records ++ is.run) → Stored (record view { upkeep = upkeep })
+  upkeep_stored upkeep counted same told rests jobs outside = record {
     run = is.run;
     all = is.all;
     count = is.count;
@@ -344,14 +354,17 @@ module _ {L D C : Type 0} (log_tells : Bool) (log_seen : L → Files) (tells : B
     below = is.below;
     names_below = is.names_below;
     near = subst (λ (n : ℕ). AreNear view.found view.tablet.names view.first_rowset view.store.next_rowset n is.run) (sym counted) is.near;
+    files_near = is.files_near;
     rests = rests;
     jobs = jobs;
+    outside = outside;
     holds = is.holds;
     files = λ m one. subst (AreFiled tells (seen view.store.known) m.rowsets) (sym (told m one)) (is.files m one);
     columns = is.columns;
     mark = is.mark;
     marked = is.marked;
     clock = is.clock;
+    low = is.low;
     later = is.later;
     home = is.home;
   }
@@ -375,14 +388,17 @@ module _ {L D C : Type 0} (log_tells : Bool) (log_seen : L → Files) (tells : B
     below = is.below;
     names_below = is.names_below;
     near = is.near;
+    files_near = is.files_near;
     rests = is.rests;
     jobs = is.jobs;
+    outside = is.outside;
     holds = is.holds;
     files = is.files;
     columns = is.columns;
     mark = is.mark;
     marked = is.marked;
     clock = is.clock;
+    low = is.low;
     later = is.later;
     home = λ d at. let same : disk ≡ d = cc in subst (λ (x : D). faults view.store.known ≤ faults x) same more;
   })

@@ -6,6 +6,7 @@ use Rattle.kt_history.specs.Machine.{Workload, first_turns}
 use Rattle.kt_tablet.specs.Views.{View}
 use Rattle.kt_engine.specs.Engines.{EngineView, core_from}
 use Rattle.kt_engine.specs.Stored.{IsStored}
+use Rattle.kt_engine.proofs.Outside.{outside_planned}
 use Rattle.kt_engine.proofs.Plans.{no_plan, past_at_first}
 
 pub plan_stored : {L D C : Type 0} (log_tells : Bool) (log_seen : L → Files) (tells : Bool) (seen : D → Files) (faults : D → ℕ) (view : EngineView L D C) → IsStored log_tells log_seen tells seen faults view → (tablet : View C) (plan : List (List Command))
@@ -25,6 +26,7 @@ plan_stored {L} {D} {C} log_tells log_seen tells seen faults view is tablet plan
             rest = k.rest;
             parts = k.parts;
             made = k.made;
+            opened = k.opened;
             low = k.low;
             from = k.from;
             up = k.up;
@@ -44,14 +46,17 @@ plan_stored {L} {D} {C} log_tells log_seen tells seen faults view is tablet plan
       below = is.below;
       names_below = is.names_below;
       near = is.near;
+      files_near = is.files_near;
       rests = is.rests;
       jobs = is.jobs;
+      outside = λ n job has at. outside_planned view.tablet view.store.meta view.store.lent view.upkeep view.records is.run job (is.outside n job has at) work (first_turns plan);
       holds = is.holds;
       files = is.files;
       columns = is.columns;
       mark = is.mark;
       marked = is.marked;
       clock = is.clock;
+      low = is.low;
       later = is.later;
       home = is.home;
     })

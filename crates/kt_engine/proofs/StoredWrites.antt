@@ -1,22 +1,27 @@
 -- The life of a write keeps the store of an engine.
-use Rattle.std.proofs.Common.{◌≡◌, ℕ, suc, ◌+◌, ◌-◌, ◌<◌, ◌≤◌, ◌^◌, Bool, true, false, List, [], ◌∷◌, ◌++◌, length, map, None, Some, refl, sym, ap, ◌∙◌, subst, arith, inl, length-append}
+use Rattle.std.proofs.Common.{◌≡◌, ℕ, suc, ◌+◌, ◌-◌, ◌<◌, ◌≤◌, ◌^◌, Bool, true, false, List, [], ◌∷◌, ◌++◌, length, map, Option, None, Some, refl, sym, ap, ◌∙◌, subst, arith, inl, length-append}
 use Rattle.std.specs.Prelude.{◌==◌, not, IsTrue, IfOk, OnErr, Result, Ok, Err}
 use Rattle.std.specs.List.{All, list_any, find, filter}
 use Rattle.kt_disk.specs.Disk.{Files}
+use Rattle.kt_history.specs.declared.change.Change.{Change}
 use Rattle.kt_history.specs.declared.change.Outcome.{Outcome}
 use Rattle.kt_history.specs.declared.operation.RowOp.{RowOp}
 use Rattle.kt_history.specs.History.{Past}
 use Rattle.kt_history.specs.Machine.{next_timestamp}
+use Rattle.kt_history.specs.Operations.{effect}
 use Rattle.kt_history.specs.declared.event.Event.TheVariants as event
 use Rattle.kt_records.specs.declared.entry.Entry.{Entry}
 use Rattle.kt_records.specs.declared.entry.Entry.TheVariants.{Replicate, Commit}
 use Rattle.kt_records.specs.declared.entry.CommitRow.{CommitRow}
 use Rattle.kt_journal.specs.Order.{IsFramed}
 use Rattle.kt_journal.specs.Log.{records_of}
-use Rattle.kt_histlaws.specs.Core.{Core, Stands}
+use Rattle.kt_histlaws.specs.Core.{Core, Stands, live}
 use Rattle.kt_histlaws.specs.Events.{advance, begun, ended, IsOver}
 use Rattle.kt_histlaws.specs.Histories.{on_nth}
 use Rattle.kt_histlaws.specs.Pending.{Aloft}
+use Rattle.kt_content.specs.Flushes.{before}
+use Rattle.kt_content.specs.RunEvents.{IsBelow}
+use Rattle.kt_stores.specs.Shelf.{place_of}
 use Rattle.kt_tablet.specs.Plans.{WriteKeeps}
 use Rattle.kt_tablet.specs.Rows.{AreRecorded}
 use Rattle.kt_tablet.specs.Views.{View}
@@ -25,18 +30,24 @@ use Rattle.kt_tablet.specs.declared.tablet.Stopped.{Stopped}
 use Rattle.kt_tablet.specs.Visits.{MayBegin, HasBegun, holder_of, HasApplied, HasNoted, IsRunOutcome, MayEnd, HasEnded, IsWritten, HasHandedOut}
 use Rattle.kt_engine.specs.Logged.{Waits, KeepsSince}
 use Rattle.kt_engine.specs.Engines.{EngineView, IsFound, IsEngine, core_from}
-use Rattle.kt_engine.specs.Over.{over_at}
+use Rattle.kt_engine.specs.Near.{first_number}
+use Rattle.kt_engine.specs.Over.{AreLeft, over_at}
 use Rattle.kt_engine.specs.Stored.{IsStored, over, core_at, names_at, numbers_of}
-use Rattle.kt_engine.proofs.Applied.{noted_here}
+use Rattle.kt_engine.proofs.Applied.{noted_here, keys_under, pushed_is}
 use Rattle.kt_engine.proofs.Begun.{begun_log}
 use Rattle.kt_engine.proofs.Commits.{recorded_count, commit_names}
 use Rattle.kt_engine.proofs.Ended.{own_framed, own_commit, each_below, rows_below, ended_log, at_its_place}
 use Rattle.kt_engine.proofs.Near.{near_replicate, near_commit}
-use Rattle.kt_engine.proofs.Lists.{found_passes}
+use Rattle.kt_engine.proofs.Lists.{all_at, all_found, found_passes}
 use Rattle.kt_engine.proofs.Marks.{still_mark}
 use Rattle.kt_engine.proofs.Places.{advanced_all, any_session, is_session, others_apart, over_found}
 use Rattle.kt_engine.proofs.Records.{all_parts, count_parts}
-use Rattle.kt_engine.proofs.Stored.{to_plain, of_plain, plain, none_publishes, below_more, job_more, begun_since, applied_since, ended_since}
+use Rattle.kt_engine.proofs.Stored.{to_plain, of_plain, plain, none_publishes, job_more, begun_since, applied_since, ended_since}
+use Rattle.kt_engine.proofs.JobBegins.{drop_first}
+use Rattle.kt_engine.proofs.Jobs.{low_shelved}
+use Rattle.kt_engine.proofs.LaterRows.{row_there, plain_change, named_low}
+use Rattle.kt_engine.proofs.Outside.{IsChanged, outside_begun, outside_ended, outside_applied}
+use Rattle.kt_engine.proofs.Rising.{below_more}
 use Rattle.kt_engine.proofs.Waiting.{none_holds, untold_advanced}
 
 module _ {L D C : Type 0} (log_tells : Bool) (log_seen : L → Files) (log_now : L → ℕ) (log_leaves : L → ℕ → Files → Type 0) (log_faults : L → ℕ) (tells : Bool) (seen : D → Files) (faults : D → ℕ) (old : EngineView L D C)
@@ -64,14 +75,17 @@ module _ {L D C : Type 0} (log_tells : Bool) (log_seen : L → Files) (log_now :
         below = below_more (numbers_of old) old.records is.run (Replicate ts ops) is.below tt;
         names_below = is.names_below;
         near = near_replicate old.found old.tablet.names old.first_rowset old.store.next_rowset old.upkeep.begun is.run ts ops is.near;
+        files_near = is.files_near;
         rests = inl none;
         jobs = λ n job has. job_more old.records is.run (Replicate ts ops) job (is.jobs n job has);
+        outside = λ n job has at. outside_begun old.tablet old.store.meta old.store.lent old.upkeep old.records is.run job (is.outside n job has at) s i ts m place ops new above;
         holds = is.holds;
         files = is.files;
         columns = is.columns;
         mark = still_mark old.tablet.mark core.trail (event.Begin s i ts m) core.a is.mark;
         marked = λ meta one. still_mark old.tablet.mark core.trail (event.Begin s i ts m) meta.a (is.marked meta one);
         clock = λ meta one. (let low = is.clock meta one in omega arith);
+        low = λ meta one. is.low meta one;
         later = is.later;
         home = is.home;
       }
@@ -105,14 +119,17 @@ module _ {L D C : Type 0} (log_tells : Bool) (log_seen : L → Files) (log_now :
         below = below_more (numbers_of old) old.records is.run (Commit f.ts rows) is.below (rows_below (numbers_of old) old.tablet.names outcomes rows (each_below (numbers_of old) old.tablet.names is.names_below) are, tt);
         names_below = is.names_below;
         near = near_commit old.found old.tablet.names old.first_rowset old.store.next_rowset old.upkeep.begun is.run f.ts rows (commit_names old.tablet.names f.ts outcomes rows are) is.near;
+        files_near = is.files_near;
         rests = inl none;
         jobs = λ n job has. job_more old.records is.run (Commit f.ts rows) job (is.jobs n job has);
+        outside = λ n job has at. outside_ended old.tablet old.store.meta old.store.lent old.upkeep old.records is.run job (is.outside n job has at) s i f.ts handed.j rows tablet.notes (filter (λ p. not (p.0 == s)) old.tablet.places) handed.rows_are handed.notes;
         holds = is.holds;
         files = is.files;
         columns = is.columns;
         mark = still_mark old.tablet.mark core.trail (event.End s i f.ts) core.a is.mark;
         marked = λ meta one. still_mark old.tablet.mark core.trail (event.End s i f.ts) meta.a (is.marked meta one);
         clock = λ meta one. is.clock meta one;
+        low = λ meta one. is.low meta one;
         later = is.later;
         home = is.home;
       }
@@ -148,17 +165,43 @@ module _ {L D C : Type 0} (log_tells : Bool) (log_seen : L → Files) (log_now :
         below = is.below;
         names_below = is.names_below;
         near = is.near;
+        files_near = is.files_near;
         rests = inl none;
         jobs = is.jobs;
+        outside = λ n job has out.
+            let was = is.outside n job has out in
+            let low = low_shelved (suc old.tablet.frozen) (2 ^ 64) job.first_rowset old.tablet.names e.ready.shelved (subst (AreLeft job.first_rowset) (sym (drop_first old.tablet.frozen old.tablet.names)) was.left) in
+            let below = named_low job.first_rowset (numbers_of old) old.tablet.names low is.names_below in
+            outside_applied old.tablet old.store.meta old.store.lent old.upkeep old.records is.run job was h.j (place_of h.op.key core.stores) h.flight.ts h.op its_change here.name outcome new.core.stores new.notes new.pool
+            h.many changed here.is here.there (all_at (IsBelow (before job.first_rowset (first_number old.tablet.names))) old.tablet.names (place_of h.op.key core.stores) here.name here.there below)
+            (all_found (λ (w : Aloft). job.bound < w.ts) (λ w. w.s == s) core.aloft h.flight h.flies was.flies);
         holds = is.holds;
         files = is.files;
         columns = is.columns;
         mark = is.mark;
         marked = is.marked;
         clock = is.clock;
+        low = is.low;
         later = is.later;
         home = is.home;
       }
+    where
+      its_change : Option Change
+      its_change = (effect old.tablet.core.work.fill h.op.kind h.op.cells (live old.tablet.core.stores h.op.key h.flight.ts)).0
+
+      -- what it changes, for each past that opening found
+      changed : (first : Past) → IsFound old first → IsChanged old.tablet.core.stores new.core.stores (place_of h.op.key old.tablet.core.stores) h.flight.ts h.op its_change
+      changed first found =
+          let st = stands first found in
+          let under = keys_under (core_from old first) st h.j h.flight.ts h.op h.next in
+          let there = (noted_here old.tablet new (old.records ++ is.run) s at outcome is.stands.flying e.ready.apart h note).there in
+          record {
+            stores_are = pushed_is (core_from old first) st h.j h.flight.ts h.op h.next (core_from (record old { tablet = new }) first) (λ low. ap (λ (c : Core). record c { first = first }) (h.stores low));
+            under = under;
+            fit = λ k c behind is_change.
+                let row = row_there h.op.key h.flight.ts k old.tablet.names _ old.tablet.core.stores behind stored there under in
+                (plain_change old.tablet.core.work.fill h.op.kind h.op.cells (live old.tablet.core.stores h.op.key h.flight.ts) c row.0 is_change, row.1);
+          }
 
   -- ---- the same, of what the tablet and the log tell of it
 

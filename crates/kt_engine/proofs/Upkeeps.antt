@@ -12,12 +12,15 @@ not_publishing None e = refl
 not_publishing (Some x) e = absurd (let f : true ≡ false = e in cc)
 
 -- where a pass has another upkeep, each job is one of those from before, or its own
-pub jobs_kept : (records : List Entry) (n : ℕ) (u : UpkeepView) (old new : UpkeepsView) → HasUpkeep n u old new → ((job : JobView) → u.job ≡ Some job → JobOn records job)
-    → ((k : ℕ) (job : JobView) → job_of k old ≡ Some job → JobOn records job) → (k : ℕ) (job : JobView) → job_of k new ≡ Some job → JobOn records job
-jobs_kept records n u old new has own others k job at = elim (cases_eq k n) [
+pub each_kept : (P : JobView → Type 0) (n : ℕ) (u : UpkeepView) (old new : UpkeepsView) → HasUpkeep n u old new → ((job : JobView) → u.job ≡ Some job → P job) → ((k : ℕ) (job : JobView) → job_of k old ≡ Some job → P job) → (k : ℕ) (job : JobView) → job_of k new ≡ Some job → P job
+each_kept P n u old new has own others k job at = elim (cases_eq k n) [
   | inl same ↦ own job (sym (ap (λ (x : UpkeepView). x.job) has.own) ∙ sym (ap (λ (i : ℕ). job_of i new) same) ∙ at)
   | inr ne ↦ others k job (sym (ap (λ (x : UpkeepView). x.job) (has.others k ne)) ∙ at)
 ]
+
+pub jobs_kept : (records : List Entry) (n : ℕ) (u : UpkeepView) (old new : UpkeepsView) → HasUpkeep n u old new → ((job : JobView) → u.job ≡ Some job → JobOn records job)
+    → ((k : ℕ) (job : JobView) → job_of k old ≡ Some job → JobOn records job) → (k : ℕ) (job : JobView) → job_of k new ≡ Some job → JobOn records job
+jobs_kept records = each_kept (JobOn records)
 
 -- an engine stands whatever passes have of maintenance, as long as its jobs are counted
 pub upkeep_keeps : {L D C : Type 0} (tells : Bool) (seen : L → Files) (now : L → ℕ) (leaves : L → ℕ → Files → Type 0) (faults : L → ℕ) (view : EngineView L D C) (upkeep : UpkeepsView) → (upkeep.begun ≡ 0 → view.upkeep.begun ≡ 0)

@@ -59,6 +59,7 @@ core_visit n v tablet line parts places root = record {
   parts = λ k ne i. record {
     pass = record { session = parts k ne i; place = places k ne i; out = out_of v.log.holder v.log.out k; runs = runs k v.running; upkeep = upkeep_at k v.upkeep.passes };
     lent = lent_of v.log.holder v.log.known k;
+    turn = lent_of v.store.holder v.store k;
     root = root i;
   };
 }
@@ -92,6 +93,7 @@ beside_visit n v tablet log a lent = record {
   parts = λ k ne i. let p = a.parts k ne i in record {
     pass = record { session = p.pass.session; place = p.pass.place; out = out_of (lent i).0 (lent i).1 k; runs = p.pass.runs; upkeep = p.pass.upkeep };
     lent = lent_of (lent i).0 (lent i).2 k;
+    turn = p.turn;
     root = p.root;
   };
 }
@@ -138,6 +140,7 @@ over_visit n v running fewer = record {
   parts = λ k ne i. record {
     pass = record { session = part v.tablet.core k; place = place_at k v.tablet.places; out = out_of v.log.holder v.log.out k; runs = (ap (runs k) fewer ∙ runs_fewer v.running n k ne) i; upkeep = upkeep_at k v.upkeep.passes };
     lent = lent_of v.log.holder v.log.known k;
+    turn = lent_of v.store.holder v.store k;
     root = root_of v;
   };
 }
@@ -161,21 +164,48 @@ out_visit n v log home lent = record {
   parts = λ k ne.
       let out = ap (λ h. out_of h log.out k) lent ∙ none_out n k log.out ne ∙ sym (ap (λ h. out_of h v.log.out k) home) in
       let known = ap (λ h. lent_of h log.known k) lent ∙ none_lent n k log.known ne ∙ sym (ap (λ h. lent_of h v.log.known k) home) in
-      λ i. record { pass = record { session = part v.tablet.core k; place = place_at k v.tablet.places; out = out i; runs = runs k v.running; upkeep = upkeep_at k v.upkeep.passes }; lent = known i; root = root_of v };
+      λ i. record { pass = record { session = part v.tablet.core k; place = place_at k v.tablet.places; out = out i; runs = runs k v.running; upkeep = upkeep_at k v.upkeep.passes }; lent = known i; turn = lent_of v.store.holder v.store k; root = root_of v };
 }
 
 -- ---- a turn of the store
 
--- it went out and is home again, or another superblock of the same columns is published
-pub turn_visit : {L D C : Type 0} (n : ℕ) (v : EngineView L D C) (store : StoreView D) → store.holder ≡ v.store.holder → store.meta.schema ≡ v.store.meta.schema → IsVisit n v (record v { store = store })
-turn_visit n v store home columns = record {
-  line = inl refl;
+-- Another store, whose superblock has the same columns: of a pass that does not have it before and behind nothing changes
+turn_part : {L D C : Type 0} (n : ℕ) (v : EngineView L D C) (tablet : View C) (store : StoreView D) (upkeep : UpkeepsView) → Adds session_of n v.tablet.core.trail tablet.core.trail → ((k : ℕ) → (k ≡ n → ⊥) → part tablet.core k ≡ part v.tablet.core k) → tablet.places ≡ v.tablet.places
+    → tablet_root v tablet ≡ root_of v → ((k : ℕ) → (k ≡ n → ⊥) → lent_of store.holder store k ≡ None) → ((k : ℕ) → (k ≡ n → ⊥) → lent_of v.store.holder v.store k ≡ None) → store.meta.schema ≡ v.store.meta.schema
+    → ((k : ℕ) → (k ≡ n → ⊥) → upkeep_at k upkeep.passes ≡ upkeep_at k v.upkeep.passes) → IsVisit n v (record v { tablet = tablet; store = store; upkeep = upkeep })
+turn_part n v tablet store upkeep line session places root after before columns others = record {
+  line = line;
   parts = λ k ne i. record {
-    pass = record { session = part v.tablet.core k; place = place_at k v.tablet.places; out = out_of v.log.holder v.log.out k; runs = runs k v.running; upkeep = upkeep_at k v.upkeep.passes };
+    pass = record { session = session k ne i; place = place_at k (places i); out = out_of v.log.holder v.log.out k; runs = runs k v.running; upkeep = others k ne i };
     lent = lent_of v.log.holder v.log.known k;
-    root = record (root_of v) { columns = columns i; turn = home i };
+    turn = (after k ne ∙ sym (before k ne)) i;
+    root = record (root i) { columns = columns i };
   };
 }
+
+none_of : {J : Type 0} (holder : Option ℕ) (known : J) (k : ℕ) → holder ≡ None → lent_of holder known k ≡ None
+none_of holder known k home = ap (λ h. lent_of h known k) home
+
+others_of : {J : Type 0} (n : ℕ) (holder : Option ℕ) (known : J) → holder ≡ Some n → (k : ℕ) → (k ≡ n → ⊥) → lent_of holder known k ≡ None
+others_of n holder known out k ne = ap (λ h. lent_of h known k) out ∙ none_lent n k known ne
+
+-- it went out to this pass, or came home from it, and this pass's maintenance may have changed
+pub turn_out_visit : {L D C : Type 0} (n : ℕ) (v : EngineView L D C) (store : StoreView D) (upkeep : UpkeepsView) → v.store.holder ≡ None → store.holder ≡ Some n → store.meta.schema ≡ v.store.meta.schema → ((k : ℕ) → (k ≡ n → ⊥) → upkeep_at k upkeep.passes ≡ upkeep_at k v.upkeep.passes)
+    → IsVisit n v (record v { store = store; upkeep = upkeep })
+turn_out_visit n v store upkeep home out columns others =
+    turn_part n v v.tablet store upkeep (inl refl) (λ k ne. refl) refl refl (others_of n store.holder store out) (λ k ne. none_of v.store.holder v.store k home) columns others
+
+pub turn_home_visit : {L D C : Type 0} (n : ℕ) (v : EngineView L D C) (store : StoreView D) (upkeep : UpkeepsView) → v.store.holder ≡ Some n → store.holder ≡ None → store.meta.schema ≡ v.store.meta.schema → ((k : ℕ) → (k ≡ n → ⊥) → upkeep_at k upkeep.passes ≡ upkeep_at k v.upkeep.passes)
+    → IsVisit n v (record v { store = store; upkeep = upkeep })
+turn_home_visit n v store upkeep out home columns others =
+    turn_part n v v.tablet store upkeep (inl refl) (λ k ne. refl) refl refl (λ k ne. none_of store.holder store k home) (others_of n v.store.holder v.store out) columns others
+
+-- it goes out while a DeltaMemStore of a rowset is frozen
+pub deltas_out_visit : {L D C : Type 0} (n : ℕ) (v : EngineView L D C) (tablet : View C) (names : List Target) (store : StoreView D) (upkeep : UpkeepsView) → tablet ≡ record v.tablet { names = names } → v.store.holder ≡ None → store.holder ≡ Some n → store.meta.schema ≡ v.store.meta.schema
+    → ((k : ℕ) → (k ≡ n → ⊥) → upkeep_at k upkeep.passes ≡ upkeep_at k v.upkeep.passes) → IsVisit n v (record v { tablet = tablet; store = store; upkeep = upkeep })
+deltas_out_visit {L} {D} {C} n v tablet names store upkeep frozen home out columns others =
+    subst (λ (t : View C). IsVisit n v (record v { tablet = t; store = store; upkeep = upkeep })) (sym frozen)
+    (turn_part n v (record v.tablet { names = names }) store upkeep (inl refl) (λ k ne. refl) refl refl (others_of n store.holder store out) (λ k ne. none_of v.store.holder v.store k home) columns others)
 
 -- ---- what a pass has of maintenance
 
@@ -185,6 +215,7 @@ upkeep_visit n u v upkeep has = record {
   parts = λ k ne i. record {
     pass = record { session = part v.tablet.core k; place = place_at k v.tablet.places; out = out_of v.log.holder v.log.out k; runs = runs k v.running; upkeep = has.others k ne i };
     lent = lent_of v.log.holder v.log.known k;
+    turn = lent_of v.store.holder v.store k;
     root = root_of v;
   };
 }
@@ -201,6 +232,7 @@ shelf_visit n u v tablet upkeep stores names frozen pool files is has = record {
       λ i. record {
         pass = record { session = session i; place = place i; out = out_of v.log.holder v.log.out k; runs = runs k v.running; upkeep = has.others k ne i };
         lent = lent_of v.log.holder v.log.known k;
+        turn = lent_of v.store.holder v.store k;
         root = root i;
       };
 }

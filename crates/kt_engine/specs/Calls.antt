@@ -15,7 +15,7 @@ pub record HasNoDevice {L D C : Type 0} (told : Option (PartView L D C)) : Type 
   pub part : PartView L D C
   pub is : told ≡ Some part
   pub log : part.pass.out ≡ None
-  pub store : part.root.turn ≡ None
+  pub store : part.turn ≡ None
 
 -- it stands in its session where it did, and what is alike in every part stays
 pub record StandsStill {L D C : Type 0} (before after : Option (PartView L D C)) : Type 0 where

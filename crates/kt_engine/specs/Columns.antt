@@ -13,6 +13,7 @@ use Rattle.kt_joblaws.specs.Compacts.{TellsTable}
 use Rattle.kt_stores.specs.Takes.{rowsets}
 use Rattle.kt_tablet.specs.Views.{View}
 use Rattle.kt_tablet.specs.Jobs.{changes_in_memory, taken_stores}
+use Rattle.kt_engine.specs.Outside.{FilesAreUpTo}
 
 abbrev pub shape_of : Column → ColumnShape
 shape_of c = record { id = c.id; kind = c.kind; nullable = c.nullable }
@@ -37,6 +38,7 @@ pub record ReadsRowsets {C : Type 0} (tablet : View C) (taken : List ℕ) (input
   pub shapes : AreShapes inputs.columns
   pub readable : AllByRecursion IsReadable inputs.rowsets
   pub table : AllByRecursion (TellsTable inputs.columns) inputs.rowsets
+  pub files : FilesAreUpTo taken tablet
   pub few : rows_and_changes inputs < 2 ^ 31
 
 -- what a job reads as of a time: of the disk rowsets that it takes, or of the MemRowSets where it takes none

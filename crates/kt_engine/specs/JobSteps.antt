@@ -33,6 +33,7 @@ use Rattle.kt_tablet.specs.Views.{View}
 use Rattle.kt_tablet.specs.Jobs.{frozen_names, taken_stores, entries_in, changes_in_memory, rows_in_first, HasFrozen, HasChangedOver, MayChangeOver}
 use Rattle.kt_engine.specs.declared.upkeep.Stage.{Stage}
 use Rattle.kt_engine.specs.declared.upkeep.Stage.TheVariants as stage
+use Rattle.kt_engine.specs.Outside.{FilesAreUpTo}
 use Rattle.kt_engine.specs.Over.{bare_store, first_name, AreLeft}
 use Rattle.kt_engine.specs.Engines.{EngineView, IsFound, IsContent}
 use Rattle.kt_engine.specs.Logged.{PlanPasses}
@@ -173,6 +174,7 @@ pub record HasInput {C : Type 0} (tablet : View C) (taken : List ℕ) (inputs : 
   pub mark_is : mark ≡ min bound tablet.core.a
   pub reads : Reads tablet taken bound inputs
   pub readable : AreReadable inputs
+  pub files : FilesAreUpTo taken tablet
   pub few : rows_and_changes inputs < 2 ^ 31
 
 -- what was read is all that these stores have

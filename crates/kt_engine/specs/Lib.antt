@@ -5,6 +5,7 @@ pub mod Over
 pub mod Jobs
 pub mod Outputs
 pub mod Upkeeps
+pub mod Outside
 pub mod Stats
 pub mod Engines
 pub mod Sessions
@@ -16,6 +17,7 @@ pub mod Moments
 pub mod Pairs
 pub mod Columns
 pub mod JobSteps
+pub mod Returning
 pub mod DeltaJobs
 pub mod JobCalls
 pub mod Rounds

@@ -155,12 +155,13 @@ abbrev pub KeepsRun : Rules → Core → Super → List Target → List (List Co
 KeepsRun rules core super names notes records run = KeepsFrom rules core super names notes records run core.opened core.first
 
 -- And of a superblock that was made when since were durable of the run: what it holds with them is the opened past with their writes, up to low.
--- No record names a DeltaMemStore that came since, and what the stores have passes the rules of the table.
+-- With what opening found it has no earlier last timestamp than opening found. No record names a DeltaMemStore that came since, and what the stores have passes the rules of the table.
 pub record KeepsSince (rules : Rules) (core : Core) (super : Super) (names : List Target) (notes : List (List CommitRow)) (records run : List Entry) (durable : ℕ) : Type 0 where
   pub since : List Entry
   pub rest : List Entry
   pub parts : run ≡ since ++ rest
   pub made : length (records ++ since) ≤ durable
+  pub opened : core.opened ≤ max super.c (last_of records)
   pub low : ℕ
   pub from : core.opened ≤ low
   pub up : low ≤ core.c
@@ -206,7 +207,7 @@ pub record HoldsRun (rules : Rules) (core : Core) (super : Super) (found : List 
   pub last : last_of records ≤ core.c
 
 -- It holds, from the superblock's mark on, the opened past with the run's writes up to some time, each acknowledged one among them, and nothing later than
--- the run's last timestamp. Its COMMITs name no store of a number that the engine has not given.
+-- the run's last timestamp; its own is no earlier than what opening found. Its COMMITs name no store of a number that the engine has not given.
 pub record HoldsUpTo (rules : Rules) (core : Core) (super : Super) (found : List Entry) (numbers : Numbers) (image : Files) : Type 0 where
   pub records : List Entry
   pub reads : log_of image ≡ Ok records
@@ -217,6 +218,7 @@ pub record HoldsUpTo (rules : Rules) (core : Core) (super : Super) (found : List
   pub t : ℕ
   pub after_opening : core.opened ≤ t
   pub acknowledged : AcknowledgedBy t core.trail
+  pub since : core.opened ≤ max super.c (last_of records)
   pub holds : HoldsPast rules core.work.fill super records (max super.c (last_of records)) (raise (upto t (run_past core)) super.a)
   pub last : last_of records ≤ t
   pub within : last_of records ≤ core.c

@@ -1,5 +1,5 @@
 -- The moments inside a call on one device: what a crash there leaves of it holds the run, with whatever one leaves of the other device.
-use Rattle.std.specs.Prelude.{◌≡◌, ◌++◌, ℕ, Bool, IsTrue, List, take, Some, Ok}
+use Rattle.std.specs.Prelude.{◌≡◌, ◌++◌, ℕ, Bool, IsTrue, List, take, Option, Some, None, Ok}
 use Rattle.kt_disk.specs.Disk.{Files, LeavesOnly}
 use Rattle.kt_history.specs.History.{Past}
 use Rattle.kt_records.specs.declared.entry.Entry.{Entry}
@@ -59,6 +59,11 @@ AppendsRecover L D C log_tells log_seen log_now log_leaves tells seen = (pass : 
     → LeavesOnly log_now log_leaves (HoldsWithStore seen rules first view) journal.disk later
 
 -- ---- calls on the store
+
+-- At each moment of a turn that was to publish a superblock, a crash left what publishing it leaves; of one that was to write files, it left all files but those of these numbers.
+abbrev pub LeavesInTurn : {D : Type 0} → (D → Files) → (D → ℕ) → (D → ℕ → Files → Type 0) → Option Meta → ℕ → ℕ → D → D → Type 0
+LeavesInTurn seen now leaves (Some meta) first next old new = LeavesOnly now leaves (BetweenBoth seen now leaves meta old) old new
+LeavesInTurn seen now leaves None first next old new = LeavesOnly now leaves (ButNumbers now leaves old first next) old new
 
 -- at each moment since it went out a crash left the published superblock or the lent one, and the files that it names
 abbrev pub HasEitherSince : {D : Type 0} → (D → Files) → (D → ℕ) → (D → ℕ → Files → Type 0) → StoreView D → D → Type 0

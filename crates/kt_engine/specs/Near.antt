@@ -34,6 +34,10 @@ NamesEach known (Commit ts rows) = All (λ row. All known row.targets) rows
 abbrev pub most_rowsets : ℕ
 most_rowsets = 2 ^ 44 + 2 ^ 32
 
+-- and so many file numbers
+abbrev pub most_files : ℕ
+most_files = 2 ^ 44 + 2 ^ 34
+
 -- The stores and the COMMITs of the run have names that opening found or that were given since, each job has frozen one MemRowSet at most, and not too many
 -- rowset numbers were given.
 pub record AreNear (found names : List Target) (first_rowset next_rowset begun : ℕ) (run : List Entry) : Type 0 where

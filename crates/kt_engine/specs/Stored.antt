@@ -26,9 +26,11 @@ use Rattle.kt_storeside.specs.Next.{next_meta}
 use Rattle.kt_engine.specs.declared.store.Purpose.{Purpose}
 use Rattle.kt_engine.specs.declared.store.Purpose.TheVariants as purpose
 use Rattle.kt_engine.specs.Memory.{name_of}
-use Rattle.kt_engine.specs.Near.{AreNear, first_number}
+use Rattle.kt_engine.specs.Near.{AreNear, first_number, most_files}
 use Rattle.kt_engine.specs.Over.{Over, over_at, names_over, core_over}
 use Rattle.kt_engine.specs.Jobs.{JobView, JobOn, job_of, over_in}
+use Rattle.kt_engine.specs.declared.upkeep.Stage.TheVariants as stage
+use Rattle.kt_engine.specs.Outside.{IsOutside}
 use Rattle.kt_engine.specs.Files.{AreFiled, publisher, job_at, files_over}
 use Rattle.kt_engine.specs.JobMeta.{with_outputs}
 use Rattle.kt_engine.specs.Logged.{PlanPasses, LogStands, KeepsSince, HoldsUpTo}
@@ -81,9 +83,13 @@ pub record IsSuperOf {D : Type 0} (seen : D → Files) (store : StoreView D) (su
   pub hold : HoldAll (seen store.known) meta.rowsets held
   pub is : super ≡ super_in meta held
 
+-- each job that is outside is as it went
+abbrev pub AreOutside : {L D C : Type 0} → EngineView L D C → List Entry → Type 0
+AreOutside view records = (n : ℕ) (job : JobView) → job_of n view.upkeep ≡ Some job → job.stage ≡ stage.Outside → IsOutside view.tablet view.store.meta view.store.lent view.upkeep records job
+
 -- Beside a log that stands: under each superblock that is published or lent the log keeps the run for each past that opening found, from the records on that were
 -- durable as it was made, over the stores that it is told of. No record and no store has a number above those that the engine has given, and these lie near those that opening found. While a job publishes nothing flies. The files of each hold rowsets, those of the disk rowsets in memory among them, and each has the same columns, the mark that opening
--- found or that of a `mark` line, and no later last timestamp than the run. The store went out with no fewer faults than were handed in.
+-- found or that of a `mark` line, none above that of the run, and no later last timestamp than the run. A job that is outside finds its disk rowsets with what it took. The store went out with no fewer faults than were handed in.
 pub record IsStored {L D C : Type 0} (log_tells : Bool) (log_seen : L → Files) (tells : Bool) (seen : D → Files) (faults : D → ℕ) (view : EngineView L D C) : Type 0 where
   pub run : List Entry
   pub all : IsTrue log_tells → view.records ++ run ≡ all_of log_seen view.log
@@ -94,14 +100,17 @@ pub record IsStored {L D C : Type 0} (log_tells : Bool) (log_seen : L → Files)
   pub below : RecordsBelow (numbers_of view) (view.records ++ run)
   pub names_below : StoresBelow (numbers_of view) (map name_of view.tablet.names)
   pub near : AreNear view.found view.tablet.names view.first_rowset view.store.next_rowset view.upkeep.begun run
+  pub files_near : view.store.next_file ≤ view.first_file + most_files
   pub rests : (view.upkeep.publishing ≡ None) ⊎ (view.tablet.core.aloft ≡ [])
   pub jobs : (n : ℕ) (job : JobView) → job_of n view.upkeep ≡ Some job → JobOn (view.records ++ run) job
+  pub outside : AreOutside view (view.records ++ run)
   pub holds : IsTrue tells → (m : Meta) → IsOneOf view.store m → (held : List HeldFiles) × HoldAll (seen view.store.known) m.rowsets held
   pub files : (m : Meta) → IsOneOf view.store m → AreFiled tells (seen view.store.known) m.rowsets (files_at view m)
   pub columns : (m : Meta) → view.store.lent ≡ Some m → m.schema ≡ view.store.meta.schema
   pub mark : IsMarkOf view.tablet.mark view.tablet.core.trail view.tablet.core.a
   pub marked : (m : Meta) → IsOneOf view.store m → IsMarkOf view.tablet.mark view.tablet.core.trail m.a
   pub clock : (m : Meta) → IsOneOf view.store m → m.c ≤ view.tablet.core.c
+  pub low : (m : Meta) → IsOneOf view.store m → m.a ≤ view.tablet.core.a
   pub later : faults view.store_device ≤ faults view.store.known
   pub home : (disk : D) → view.store.home ≡ Some disk → faults view.store.known ≤ faults disk
 

@@ -11,6 +11,7 @@ use Rattle.kt_history.specs.Stores.{Store}
 use Rattle.kt_histlaws.specs.Parts.{SessionPart, part}
 use Rattle.kt_content.specs.Places.{Super}
 use Rattle.kt_tablet.specs.Views.{place_at}
+use Rattle.kt_storeside.specs.Sides.{StoreView}
 use Rattle.kt_schema.specs.declared.column.Column.{Column}
 use Rattle.kt_engine.specs.Engines.{EngineView}
 use Rattle.kt_engine.specs.Sessions.{runs}
@@ -46,8 +47,7 @@ pub record PassPart : Type 0 where
 abbrev pub part_of : {L D C : Type 0} → EngineView L D C → ℕ → PassPart
 part_of view n = record { session = part view.tablet.core n; place = place_at n view.tablet.places; out = out_of view.log.holder view.log.out n; runs = runs n view.running; upkeep = upkeep_at n view.upkeep.passes }
 
--- What is alike in every part and never changes while passes visit: what is to be run, what opening found, the names of its stores then and the first rowset number, the columns of each superblock,
--- and which pass has the store out: none between two visits, since one visit makes a whole turn.
+-- What is alike in every part and never changes while passes visit: what is to be run, what opening found, the names of its stores then and the first rowset and file numbers, and the columns of each superblock.
 pub record Root (L D C : Type 0) : Type 0 where
   pub work : Workload
   pub opened : ℕ
@@ -61,7 +61,7 @@ pub record Root (L D C : Type 0) : Type 0 where
   pub columns : List Column
   pub found : List Target
   pub first_rowset : ℕ
-  pub turn : Option ℕ
+  pub first_file : ℕ
 
 abbrev pub root_of : {L D C : Type 0} → EngineView L D C → Root L D C
 root_of view = record {
@@ -77,22 +77,23 @@ root_of view = record {
   columns = view.store.meta.schema;
   found = view.found;
   first_rowset = view.first_rowset;
-  turn = view.store.holder;
+  first_file = view.first_file;
 }
 
--- the log as it went out, if this pass has it
+-- the log or the store as it went out, if this pass has it
 abbrev pub lent_of : {J : Type 0} → Option ℕ → J → ℕ → Option J
 lent_of None known n = None
 lent_of (Some by) known n = if by == n then Some known else None
 
--- What the lock knows of one pass: what the engine has of it, the log as it went out to it, and what is alike in every part.
+-- What the lock knows of one pass: what the engine has of it, the log and the store as they went out to it, and what is alike in every part.
 pub record PartView (L D C : Type 0) : Type 0 where
   pub pass : PassPart
   pub lent : Option (JournalView L)
+  pub turn : Option (StoreView D)
   pub root : Root L D C
 
 abbrev pub part_in : {L D C : Type 0} → EngineView L D C → ℕ → PartView L D C
-part_in view n = record { pass = part_of view n; lent = lent_of view.log.holder view.log.known n; root = root_of view }
+part_in view n = record { pass = part_of view n; lent = lent_of view.log.holder view.log.known n; turn = lent_of view.store.holder view.store n; root = root_of view }
 
 -- It adds one line at most, of its own session or of none, and changes no other pass's part.
 pub record IsVisit {L D C : Type 0} (n : ℕ) (old new : EngineView L D C) : Type 0 where

@@ -8,6 +8,7 @@ ghost use Rattle.kt_diskrowset.specs.Data.{held_in};
 ghost use Rattle.kt_outputs.specs.InPlace.{in_place};
 ghost use Rattle.kt_storeside.specs.Sides.{MayBeLent};
 ghost use Rattle.kt_tablet.specs.Jobs.{dms_in, files_of};
+ghost use Rattle.kt_engine.specs.Outside.{any_outside};
 ghost use Rattle.kt_engine.specs.Jobs.{JobView, IsAtStage, job_of};
 ghost use Rattle.kt_engine.specs.JobSteps.{IsLent};
 ghost use Rattle.kt_engine.specs.JobCalls.{HasReadRowset, GivesOne, HasTakenOne};
@@ -285,6 +286,8 @@ impl<L: Disk, D: Disk + Drop, C: Clock> Engine<L, D, C> {
         requires last { self.old.store.next_rowset ≢ 2 ^ 64 - 1 }
         requires settled { (self.old.log.out ≡ []) × (self.old.log.queued ≡ []) }
         requires free { self.old.upkeep.publishing ≡ None }
+        requires inside { any_outside self.old.upkeep.passes ≡ false }
+        ensures visit { IsVisit number self.old self.new }
         ensures device { IfOk result (λ lent. (self.old.store.home ≡ Some lent.device) × (lent.device ≡ self.old.store.known)) }
         ensures meta { IfOk result (λ lent. lent.meta ≡ Some meta) }
         ensures numbers { IfOk result (λ lent. (lent.next_rowset ≡ self.old.store.next_rowset) × (lent.next_file ≡ self.old.store.next_file)) }
@@ -311,6 +314,8 @@ impl<L: Disk, D: Disk + Drop, C: Clock> Engine<L, D, C> {
         requires may { (job : JobView) × ((d : DataSpec) × (job_of number self.old.upkeep ≡ Some job) × MayPublishDeltas D.tells D.seen D.now D.leaves self.old job d) }
         requires settled { (self.old.log.out ≡ []) × (self.old.log.queued ≡ []) }
         requires free { self.old.upkeep.publishing ≡ None }
+        requires inside { any_outside self.old.upkeep.passes ≡ false }
+        ensures visit { IsVisit number self.old self.new }
         ensures lent { IfOk result (λ lent. (self.old.store.home ≡ Some lent.device) × (lent.device ≡ self.old.store.known)) }
         ensures out { IfOk result (λ lent. (job : JobView) (d : DataSpec) → job_of number self.old.upkeep ≡ Some job → job.output ≡ Some d
             → (lent.meta ≡ Some (delta_meta self.old job.dms d)) × (self.new ≡ lent_deltas self.old number d.number (delta_meta self.old job.dms d) self.new.upkeep)) }

@@ -16,7 +16,8 @@ ghost use Rattle.kt_engine.specs.Columns.{shape_of, ReadsMemory, ReadsRowsets, R
 ghost use Rattle.kt_engine.specs.Engines.{IsFound, IsContent};
 ghost use Rattle.kt_engine.specs.Logged.{PlanPasses};
 ghost use Rattle.kt_engine.specs.Jobs.{JobView, IsAtStage, IsUnpublished, HasUpkeep, upkeep_at, job_of, asked_for_nothing, job_abandoned, first_flying, NoRows, takes_by};
-ghost use Rattle.kt_engine.specs.JobSteps.{TellAll, TellPassing, running, first_holder, IsMerge, IsNothing, LacksOne, HasBegunJob, IsUntouched, AtNewStage, HasInput, HasSwapped, MayFinish, HasFinished};
+ghost use Rattle.kt_engine.specs.JobSteps.{TellAll, TellPassing, running, first_holder, IsMerge, IsNothing, LacksOne, TakesInputs, HasBegunJob, IsUntouched, AtNewStage, HasInput, HasSwapped, MayFinish, HasFinished};
+ghost use Rattle.kt_engine.specs.Returning.{LeavesAs, HasReturned};
 ghost use Rattle.kt_engine.specs.Upkeeps.{IsThere};
 ghost use Rattle.kt_engine.specs.DeltaJobs.{IsOn, HasNoWork, HasBegunDeltas};
 ghost use Rattle.kt_engine.specs.JobCalls.{ByWant, HasReadRowset, GivesOne, HasTakenOne, MayEndBy, HasEndedBy};
@@ -122,8 +123,8 @@ const MANY_CHANGES: u64 = 1 << 31;
 /// So many run at once at most.
 const MOST_RUNNING: usize = 512;
 
-/// So many file numbers are given in one opening at most.
-const MANY_FILES: u64 = 1 << 44;
+/// So many file numbers are given in one opening at most, but for those of the last turn.
+pub(crate) const MANY_FILES: u64 = 1 << 44;
 
 /// More stores than this a tablet does not take.
 const MOST_STORES: usize = 1 << 31;
@@ -585,6 +586,58 @@ impl<L: Disk, D: Disk + Drop, C: Clock> Engine<L, D, C> {
             return Ok(self.delta_snapshot(alloc, number)?);
         }
         Ok(self.merge_snapshot(alloc, number)?)
+    }
+
+    /// A compaction goes on outside the lock with what was handed out to it, while nothing flies. The store is out to its pass.
+    pub fn job_leave(&mut self, number: u32)
+        requires free { self.old.upkeep.publishing ≡ None }
+        requires stage { (job : JobView) × IsAtStage self.old.upkeep number Stage.Read job × (job.want ≡ Want.Compact job.taken) × (job.output ≡ None) × TakesInputs self.old job × LeavesAs self.old.tablet job }
+        requires as_many { length self.old.tablet.names ≡ length self.old.tablet.core.stores }
+        requires out { (self.old.store.holder ≡ Some number) × (self.old.store.lent ≡ None) }
+        requires calm { self.old.tablet.core.aloft ≡ [] }
+        requires begun { self.old.upkeep.begun ≢ 0 }
+        ensures visit { IsVisit number self.old self.new }
+        ensures left { (job : JobView) → job_of number self.old.upkeep ≡ Some job → AtNewStage number (record job { stage = Stage.Outside }) self.old self.new }
+    {
+        // Its disk rowsets have no change above the last timestamp.
+        self.tablet.standing();
+        self.upkeep.go_on(number, Stage::Outside);
+    }
+
+    // A job that was outside is back, while nothing flies: all that its disk rowsets have now is read.
+    fn merge_return(&mut self, alloc: Global, number: u32) -> Result<RowSetList, NoMemory>
+        requires stage { (job : JobView) × IsAtStage self.old.upkeep number Stage.Outside job }
+        requires calm { self.old.tablet.core.aloft ≡ [] }
+        ensures visit { IsVisit number self.old self.new }
+        ensures back { IfOk result (λ list. (job : JobView) → job_of number self.old.upkeep ≡ Some job → HasReturned D.tells number job list self.old self.new) }
+        ensures same { OnErr result (self.new ≡ self.old) }
+    {
+        let Some(job) = self.upkeep.job(number) else {
+            return Err(NoMemory);
+        };
+        let list = self.tablet.read_taken(alloc, job.taken.as_slice())?;
+        let many = self.log.count();
+        let last_mem = self.tablet.active_number();
+        self.upkeep.come_back(number, many, last_mem);
+        Ok(RowSetList::of(list))
+    }
+
+    /// A job that was outside goes on in this visit, once nothing flies. It hands out all that its disk rowsets have now.
+    pub fn job_return(&mut self, alloc: Global, number: u32) -> Result<RowSetList, JobWait>
+        requires stage { (job : JobView) × IsAtStage self.old.upkeep number Stage.Outside job }
+        ensures visit { IsVisit number self.old self.new }
+        ensures back { IfOk result (λ list. (job : JobView) → job_of number self.old.upkeep ≡ Some job → HasReturned D.tells number job list self.old self.new) }
+        ensures waits { (ts : ℕ) → result ≡ Err (JobWait.NotYet ts) ↔ (self.old.tablet.core.stopped ≡ false) × (first_flying self.old.tablet ≡ Some ts) }
+        ensures stopped { result ≡ Err JobWait.Stopped ↔ self.old.tablet.core.stopped ≡ true }
+        ensures same { OnErr result (self.new ≡ self.old) }
+    {
+        if self.tablet.is_stopped() {
+            return Err(JobWait::Stopped);
+        }
+        if let Some(ts) = self.tablet.least_flying() {
+            return Err(JobWait::NotYet { ts });
+        }
+        Ok(self.merge_return(alloc, number)?)
     }
 
     // Takes the outputs of a flush or a compaction, new disk rowsets that have no change in memory. It takes the memory of the end.

@@ -8,6 +8,7 @@ ghost use Rattle.kt_storeside.specs.Turns.{IsTurn, HasOneOf};
 ghost use Rattle.kt_storeside.specs.Sides.{published_in};
 ghost use Rattle.kt_tablet.specs.Views.{place_at};
 ghost use Rattle.kt_engine.specs.Engines.{IsLent, KeepsOthers};
+ghost use Rattle.kt_engine.specs.Moments.{IsAppendedTo, LeavesInTurn};
 ghost use Rattle.kt_engine.specs.Visits.{IsVisit};
 
 use crate::engine::Engine;
@@ -103,6 +104,8 @@ impl<L: Disk, D: Disk + Drop, C: Clock> Engine<L, D, C> {
         requires opens { IsTrue L.tells → CanOpen L.now L.leaves batch.journal.disk }
         requires others { IsTrue L.tells → KeepsOthers L.now L.leaves self.old.log.known.disk batch.journal.disk }
         requires faults { L.faults self.old.log.known.disk ≤ L.faults batch.journal.disk }
+        // At no moment has a crash left anything else than what was durable, or that and the batch.
+        requires moments { IsTrue L.tells → IsAppendedTo L.seen L.now L.leaves self.old.log.known self.old.log.out batch.journal.disk }
         ensures visit { IsVisit number self.old self.new }
         ensures home { self.new ≡ record self.old { log = record self.old.log { home = Some batch.journal; known = batch.journal; holder = None; out = [] } } }
     {
@@ -129,6 +132,7 @@ impl<L: Disk, D: Disk + Drop, C: Clock> Engine<L, D, C> {
         requires images { (batch : _) → device ≡ Broken.Log batch → IsTrue L.tells → (image : Files) → L.leaves batch.journal.disk (L.now batch.journal.disk) image → IsOldOrBoth (records_of (L.seen self.old.log.known.disk)) self.old.log.out (image 1) }
         requires opens { (batch : _) → device ≡ Broken.Log batch → IsTrue L.tells → CanOpen L.now L.leaves batch.journal.disk }
         requires others { (batch : _) → device ≡ Broken.Log batch → IsTrue L.tells → KeepsOthers L.now L.leaves self.old.log.known.disk batch.journal.disk }
+        requires log_moments { (batch : _) → device ≡ Broken.Log batch → IsTrue L.tells → IsAppendedTo L.seen L.now L.leaves self.old.log.known self.old.log.out batch.journal.disk }
 
         // The store went out for a turn: it touched no file but the slots and those of new numbers, and each image has the superblock that is published or the one
         // that went out to be.
@@ -138,8 +142,9 @@ impl<L: Disk, D: Disk + Drop, C: Clock> Engine<L, D, C> {
         requires numbers { (lent : _) → device ≡ Broken.Store lent → self.old.store.next_file ≤ lent.next_file }
         requires turn { (lent : _) → device ≡ Broken.Store lent → IsTrue D.tells → IsTurn D.seen D.now D.leaves self.old.store.next_file lent.next_file self.old.store.known lent.device }
         requires one_of { (lent : _) → device ≡ Broken.Store lent → IsTrue D.tells → HasOneOf D.now D.leaves self.old.store.meta (published_in true self.old.store.lent self.old.store.meta) lent.device }
+        requires store_moments { (lent : _) → device ≡ Broken.Store lent → IsTrue D.tells → LeavesInTurn D.seen D.now D.leaves self.old.store.lent self.old.store.next_file lent.next_file self.old.store.known lent.device }
 
-        ensures visit { (batch : _) → device ≡ Broken.Log batch → IsVisit number self.old self.new }
+        ensures visit { IsVisit number self.old self.new }
         ensures core { self.old.tablet.core.stopped ≡ false → self.new.tablet ≡ record self.old.tablet { core = halted self.old.tablet.core } }
         ensures once { self.old.tablet.core.stopped ≡ true → self.new.tablet ≡ self.old.tablet }
         ensures home { (batch : _) → device ≡ Broken.Log batch → self.new ≡ record self.old { tablet = self.new.tablet; log = record self.old.log { home = Some batch.journal; holder = None; whole = false } } }

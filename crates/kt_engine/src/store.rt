@@ -10,10 +10,14 @@ ghost use Rattle.kt_engine.specs.Jobs.{JobView, job_of};
 ghost use Rattle.kt_engine.specs.JobSteps.{IsLent, HasComeHome, MayPublishJob};
 ghost use Rattle.kt_engine.specs.DeltaJobs.{StayNamed, NamesAtMostOneRedo};
 ghost use Rattle.kt_engine.specs.JobCalls.{MayGoOut, goes_out, lent_with, meta_with};
-ghost use Rattle.kt_engine.specs.Near.{most_rowsets};
+ghost use Rattle.kt_engine.specs.Moments.{LeavesInTurn};
+ghost use Rattle.kt_engine.specs.Near.{most_rowsets, most_files};
+ghost use Rattle.kt_engine.specs.Outside.{any_outside};
 ghost use Rattle.kt_engine.specs.Stored.{next_super, job_meta, meta_for, MayPublish};
+ghost use Rattle.kt_engine.specs.Visits.{IsVisit};
 
 use crate::engine::Engine;
+use crate::job::MANY_FILES;
 use kt_base::{Clock, NoMemory};
 use kt_disk::Disk;
 use kt_storeside::Lent;
@@ -91,17 +95,20 @@ impl<L: Disk, D: Disk + Drop, C: Clock> Engine<L, D, C> {
         }
     }
 
-    // Whether no job publishes, if the store is to publish, and rowset numbers are left, if it is to write.
+    // Whether no job publishes or is outside, if the store is to publish, and rowset and file numbers are left, if it is to write.
     fn is_free(&self, purpose: Purpose) -> bool
         ensures free { IsTrue result → purpose ≡ Purpose.Publish → self.now.upkeep.publishing ≡ None }
+        ensures inside { IsTrue result → purpose ≡ Purpose.Publish → any_outside self.now.upkeep.passes ≡ false }
         ensures near { IsTrue result → purpose ≡ Purpose.Write → self.now.store.next_rowset < self.now.first_rowset + 2 ^ 44 }
+        ensures near_files { IsTrue result → purpose ≡ Purpose.Write → self.now.store.next_file < self.now.first_file + 2 ^ 44 }
     {
         match purpose {
             Purpose::Write => {
-                let (next_rowset, _) = self.store.next_numbers();
+                let (next_rowset, next_file) = self.store.next_numbers();
                 next_rowset.saturating_sub(self.first_rowset) < MANY_ROWSETS
+                    && next_file.saturating_sub(self.first_file) < MANY_FILES
             }
-            Purpose::Publish => !self.upkeep.is_publishing(),
+            Purpose::Publish => !self.upkeep.is_publishing() && !self.upkeep.is_outside(),
         }
     }
 
@@ -124,6 +131,8 @@ impl<L: Disk, D: Disk + Drop, C: Clock> Engine<L, D, C> {
         requires lent { (m : MetaSpec) → meta ≡ Some m → MayBeLent D.tells D.seen D.now D.leaves self.old.store m }
         requires settled { (self.old.log.out ≡ []) × (self.old.log.queued ≡ []) }
         requires free { self.old.upkeep.publishing ≡ None }
+        requires inside { any_outside self.old.upkeep.passes ≡ false }
+        ensures visit { IsVisit number self.old self.new }
         ensures device { (self.old.store.home ≡ Some result.device) × (result.device ≡ self.old.store.known) }
         ensures meta { result.meta ≡ meta }
         ensures numbers { (result.next_rowset ≡ self.old.store.next_rowset) × (result.next_file ≡ self.old.store.next_file) }
@@ -150,7 +159,9 @@ impl<L: Disk, D: Disk + Drop, C: Clock> Engine<L, D, C> {
         requires goes { self.old.tablet.core.stopped ≡ false }
         requires settled { purpose ≡ Purpose.Publish → (self.old.log.out ≡ []) × (self.old.log.queued ≡ []) }
         requires free { purpose ≡ Purpose.Publish → self.old.upkeep.publishing ≡ None }
+        requires inside { purpose ≡ Purpose.Publish → any_outside self.old.upkeep.passes ≡ false }
         requires job { (job : JobView) → purpose ≡ Purpose.Publish → job_of number self.old.upkeep ≡ Some job → MayPublishJob D.tells D.seen D.now D.leaves self.old job }
+        ensures visit { IsVisit number self.old self.new }
         ensures lent { IfOk result (λ lent. (self.old.store.home ≡ Some lent.device) × (lent.device ≡ self.old.store.known)
             × (self.new ≡ record self.old { store = record self.old.store { home = None; holder = Some number; lent = lent.meta }; upkeep = self.new.upkeep })) }
         ensures upkeep { IfOk result (λ lent. (lent.meta ≡ None) ⊎ (job_of number self.old.upkeep ≡ None) → self.new.upkeep ≡ self.old.upkeep) }
@@ -183,7 +194,7 @@ impl<L: Disk, D: Disk + Drop, C: Clock> Engine<L, D, C> {
 
     /// Lends the store to a pass, and to publish with it the superblock that comes next: the same rowsets with the present mark and last timestamp, or with those of
     /// the pass's job. Of a job on the files of one disk rowset the next DeltaMemStore of that takes changes from now on. Until jobs run in two phases it is lent
-    /// for that only while all records are durable, and not while a job publishes.
+    /// for that only while all records are durable, and not while a job publishes or is outside.
     pub fn store_out(
         &mut self,
         alloc: Global,
@@ -192,6 +203,7 @@ impl<L: Disk, D: Disk + Drop, C: Clock> Engine<L, D, C> {
     ) -> Result<Lent<D>, StoreNo>
         requires settled { purpose ≡ Purpose.Publish → (self.old.log.out ≡ []) × (self.old.log.queued ≡ []) }
         requires job { (job : JobView) → purpose ≡ Purpose.Publish → job_of number self.old.upkeep ≡ Some job → MayGoOut D.tells D.seen D.now D.leaves self.old job job.output }
+        ensures visit { IsVisit number self.old self.new }
         ensures lent { IfOk result (λ lent. (self.old.store.home ≡ Some lent.device) × (lent.device ≡ self.old.store.known)
             × (self.new ≡ lent_with (goes_out purpose (job_of number self.old.upkeep)) self.old number lent.meta self.new.upkeep)) }
         ensures upkeep { IfOk result (λ lent. (lent.meta ≡ None) ⊎ (job_of number self.old.upkeep ≡ None) → self.new.upkeep ≡ self.old.upkeep) }
@@ -204,6 +216,7 @@ impl<L: Disk, D: Disk + Drop, C: Clock> Engine<L, D, C> {
         ensures ready { IfOk result (λ lent. (m : MetaSpec) → lent.meta ≡ Some m → MayPublish D.tells D.seen D.now D.leaves lent.device m) }
         ensures whole { IfOk result (λ _. IsTrue self.old.store.whole) }
         ensures near { IfOk result (λ _. purpose ≡ Purpose.Write → self.old.store.next_rowset < self.old.first_rowset + 2 ^ 44) }
+        ensures near_files { IfOk result (λ _. purpose ≡ Purpose.Write → self.old.store.next_file < self.old.first_file + 2 ^ 44) }
         ensures stopped { result ≡ Err StoreNo.Stopped ↔ self.old.tablet.core.stopped ≡ true }
         ensures out { (by : ℕ) → result ≡ Err (StoreNo.Out by) ↔ (self.old.tablet.core.stopped ≡ false) × (self.old.store.holder ≡ Some by) }
         ensures stays { OnErr result (self.new ≡ self.old) }
@@ -236,8 +249,12 @@ impl<L: Disk, D: Disk + Drop, C: Clock> Engine<L, D, C> {
         requires superblock { IsTrue D.tells → super_of (D.seen lent.device) ≡ Ok (Some (published_in published lent.meta self.old.store.meta)) }
         requires slots { IsTrue D.tells → AreStable D.seen D.now D.leaves lent.device }
         requires faults { D.faults self.old.store.known ≤ D.faults lent.device }
-        // Its turn has not given too many rowset numbers.
+        // At no moment has a crash left anything else than its turn was for.
+        requires moments { IsTrue D.tells → LeavesInTurn D.seen D.now D.leaves self.old.store.lent self.old.store.next_file lent.next_file self.old.store.known lent.device }
+        // Its turn has not given too many numbers.
         requires near { lent.next_rowset ≤ max self.old.store.next_rowset (self.old.first_rowset + most_rowsets) }
+        requires near_files { lent.next_file ≤ max self.old.store.next_file (self.old.first_file + most_files) }
+        ensures visit { IsVisit number self.old self.new }
         ensures columns { self.new.store.meta.schema ≡ self.old.store.meta.schema }
         ensures home { self.new ≡ record self.old { store = record { home = Some lent.device; known = lent.device; holder = None; meta = published_in published lent.meta self.old.store.meta; lent = None; next_rowset = lent.next_rowset; next_file = lent.next_file; whole = true }; upkeep = self.new.upkeep } }
         ensures upkeep { (lent.meta ≡ None) ⊎ (self.old.upkeep.publishing ≡ None) → self.new.upkeep ≡ self.old.upkeep }

@@ -7,6 +7,7 @@ ghost use Rattle.kt_diskrowset.specs.Rowset.{held_of};
 ghost use Rattle.kt_engine.specs.Jobs.{idle, no_upkeep, upkeep_at, job_of, asked, asked_for_nothing, job_finished, job_abandoned, same_want, without_want, rewritten, JobView, HasUpkeep};
 ghost use Rattle.kt_engine.specs.DeltaJobs.{IsOn};
 ghost use Rattle.kt_engine.specs.JobSteps.{IsMerge, one_job, running, stage_home, publishing_home, shares, names, or_holder, first_holder};
+ghost use Rattle.kt_engine.specs.Outside.{is_outside, any_outside, job_back};
 ghost use Rattle.kt_engine.specs.Rounds.{round_of};
 ghost use Rattle.kt_engine.specs.Upkeeps.{upkeep_of, job_in, IsThere};
 
@@ -26,6 +27,8 @@ pub enum Stage {
     Begun,
     /// They were handed out.
     Read,
+    /// It goes on outside the lock with them.
+    Outside,
     /// Its outputs are there.
     Swapped,
     /// What they lack was handed out.
@@ -246,6 +249,28 @@ impl Upkeep {
         }
     }
 
+    // Its job is back, with so many records in the log, and this MemRowSet takes inserts.
+    fn come_back(&mut self, many: u64, last_mem: u64)
+        ensures own { (job : JobView) → (upkeep_of self.old).1.job ≡ Some job → (upkeep_of self.new).1 ≡ record (upkeep_of self.old).1 { job = Some (job_back many last_mem job) } }
+        ensures pass { self.new.pass ≡ self.old.pass }
+    {
+        if let Some(job) = &mut self.job {
+            job.stage = Stage::Read;
+            job.many = many;
+            job.last_mem = last_mem;
+        }
+    }
+
+    // Whether its job is outside the lock.
+    fn is_outside(&self) -> bool
+        ensures { result ≡ is_outside (upkeep_of self.now).1.job }
+    {
+        match &self.job {
+            Some(job) => job.stage == Stage::Outside,
+            None => false,
+        }
+    }
+
     // All that the tablet has of the disk rowset of its job was handed out.
     fn read_deltas(&mut self, dms: u64, read: Snapshot<RowSetData>)
         ensures own { (job : JobView) → (upkeep_of self.old).1.job ≡ Some job → (upkeep_of self.new).1 ≡ record (upkeep_of self.old).1 { job = Some (record job { stage = Stage.Read; dms = dms; read = Some read.value }) } }
@@ -461,6 +486,25 @@ impl Upkeeps {
         self.passes[at].read(bound, mark, inputs);
     }
 
+    /// It is back from outside the lock, with so many records in the log, and this MemRowSet takes inserts.
+    pub fn come_back(&mut self, pass: u32, many: u64, last_mem: u64)
+        requires job { (job : JobView) × (job_of pass self.old ≡ Some job) }
+        ensures own { (job : JobView) → job_of pass self.old ≡ Some job → HasUpkeep pass (record (upkeep_at pass self.old.passes) { job = Some (job_back many last_mem job) }) self.old self.new }
+        ensures begun { (self.new.begun ≡ self.old.begun) × (self.new.publishing ≡ self.old.publishing) }
+    {
+        let Some(at) = self.place(pass) else {
+            return;
+        };
+        self.passes[at].come_back(many, last_mem);
+    }
+
+    /// Whether a job is outside the lock.
+    pub fn is_outside(&self) -> bool
+        ensures { result ≡ any_outside self.now.passes }
+    {
+        outside_in(&self.passes)
+    }
+
     /// All that the tablet has of the disk rowset of the job of a pass was handed out, of which this DeltaMemStore takes changes.
     pub fn read_deltas(&mut self, pass: u32, dms: u64, read: Snapshot<RowSetData>)
         requires job { (job : JobView) × (job_of pass self.old ≡ Some job) }
@@ -599,6 +643,13 @@ fn held_by(upkeep: &Upkeep, want: &Want) -> Option<u32>
     } else {
         None
     }
+}
+
+// Whether one of these passes has a job that is outside the lock.
+fn outside_in(passes: &[Upkeep]) -> bool
+    ensures { result ≡ any_outside (map upkeep_of passes.now) }
+{
+    passes.iter().any(|upkeep| upkeep.is_outside())
 }
 
 // The job of the first pass that has one which holds an input of a want.

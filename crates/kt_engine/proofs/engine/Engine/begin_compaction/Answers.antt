@@ -21,7 +21,7 @@ invariant_of-self g c =
     let few = rw old at c.requires.last in
     let none = rw old at c.requires.free in
     begun_more g.L.Disk.tells g.L.Disk.seen g.L.Disk.now g.L.Disk.leaves g.L.Disk.faults g.D.Disk.tells g.D.Disk.seen g.D.Disk.faults _ c.begin.new.self c.args.number c.args.asked (job_in c.args.asked job) c.begin.ensures.own
-    (count.1 ∙ ap (λ n. n + 1) c.counts-begun.ensures.begun ∙ next_number c.self.inside.upkeep.begun) count.2 (rw old at c.requires.few) none c.self.invariant
+    (count.1 ∙ ap (λ n. n + 1) c.counts-begun.ensures.begun ∙ next_number c.self.inside.upkeep.begun) count.2 (rw old at c.requires.few) none refl c.self.invariant
     (compaction_on g.L.Disk.tells g.L.Disk.seen g.D.Disk.tells g.D.Disk.seen g.D.Disk.faults _ c.self.invariant.1 (job_in c.args.asked job) many (ap (λ p. p.0) numbers) few last)
 
 pub returns : goal.returns

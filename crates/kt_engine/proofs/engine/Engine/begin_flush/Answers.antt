@@ -21,7 +21,7 @@ invariant_of-self-2 g c =
     let few = rw old at c.requires.last in
     let none = rw old at c.requires.free in
     begun_both g.L.Disk.tells g.L.Disk.seen g.L.Disk.now g.L.Disk.leaves g.L.Disk.faults g.D.Disk.tells g.D.Disk.seen g.D.Disk.faults _ c.begin.new.self c.freeze.new.self c.args.number c.args.asked (job_in c.args.asked job) h (c.in_ok-freeze.ensures.fits (h.number + 1) _ (ap (λ t. t.names) h.is)) c.begin.ensures.own (count.1, count.2) (ap (λ n. n + 1) c.counts-begun.ensures.begun ∙ next_number c.self.inside.upkeep.begun) (rw old at c.requires.few) none many
-    (ap (λ p. p.0) numbers) few last c.self.invariant
+    (ap (λ p. p.0) numbers) few last refl c.self.invariant
 
 pub returns-clause-begun : goal.returns-clause-begun
 returns-clause-begun g c =

@@ -23,7 +23,7 @@ invariant_of-self g c =
     let job = rw old at c.requires.stage in
     let own = read_then c.args.number c.times-a.result.1 c.min-mark.result c.in_ok-rowset.dms job.0 c.of.result.value c.of.result.value c.of-read.result.value c.of-read.result.value c.self.inside.upkeep c.read.new.self c.read_deltas-2.new.self (c.read.ensures.own job.0 job.1.has) c.read_deltas-2.ensures.own refl refl in
     further_both g.L.Disk.tells g.L.Disk.seen g.L.Disk.now g.L.Disk.leaves g.L.Disk.faults g.D.Disk.tells g.D.Disk.seen g.D.Disk.faults _ c.read_deltas-2.new.self c.args.number job.0 (record job.0 { stage = stage.Read; bound = c.times-a.result.1; mark = c.min-mark.result; inputs = Some c.of.result.value; dms = c.in_ok-rowset.dms; read = Some c.of-read.result.value }) job.1.has (λ records on. record { many = on.many; names = on.names }) own (rw old at c.requires.free)
-    (c.read_deltas-2.ensures.begun.0 ∙ c.read.ensures.begun.0, c.read_deltas-2.ensures.begun.1 ∙ c.read.ensures.begun.1) c.self.invariant
+    (c.read_deltas-2.ensures.begun.0 ∙ c.read.ensures.begun.0, c.read_deltas-2.ensures.begun.1 ∙ c.read.ensures.begun.1) refl c.self.invariant
 
 pub returns-clause-visit : goal.returns-clause-visit
 returns-clause-visit g c =

@@ -1,4 +1,4 @@
-use Rattle.std.proofs.Common.{sym}
+use Rattle.std.proofs.Common.{refl, sym}
 use Rattle.kt_engine.specs.declared.upkeep.Stage.TheVariants as stage
 use Rattle.kt_engine.proofs.JobBoth.{further_both}
 use Rattle.kt_engine.proofs.Visiting.{visit_of, upkeep_visit}
@@ -13,7 +13,7 @@ pub invariant_of-self : goal.invariant_of-self
 invariant_of-self g c =
     let old = sym c.self.view_is in
     let job = rw old at c.requires.stage in
-    further_both g.L.Disk.tells g.L.Disk.seen g.L.Disk.now g.L.Disk.leaves g.L.Disk.faults g.D.Disk.tells g.D.Disk.seen g.D.Disk.faults _ c.go_on.new.self c.args.number job.0 (record job.0 { stage = stage.Collected }) job.1.has (λ records on. record { many = on.many; names = on.names }) (c.go_on.ensures.own job.0 job.1.has) (rw old at c.requires.free) c.go_on.ensures.begun c.self.invariant
+    further_both g.L.Disk.tells g.L.Disk.seen g.L.Disk.now g.L.Disk.leaves g.L.Disk.faults g.D.Disk.tells g.D.Disk.seen g.D.Disk.faults _ c.go_on.new.self c.args.number job.0 (record job.0 { stage = stage.Collected }) job.1.has (λ records on. record { many = on.many; names = on.names }) (c.go_on.ensures.own job.0 job.1.has) (rw old at c.requires.free) c.go_on.ensures.begun refl c.self.invariant
 
 pub returns-clause-visit : goal.returns-clause-visit
 returns-clause-visit g c =

@@ -1,7 +1,9 @@
-use Rattle.std.proofs.Common.{sym, ap, ◌∙◌}
+use Rattle.std.proofs.Common.{refl, sym, ap, ◌∙◌}
 use Rattle.kt_engine.proofs.Devices.{store_keeps, both_whole}
+use Rattle.kt_engine.proofs.Outsiders.{none_is_outside}
 use Rattle.kt_engine.proofs.StoreEvents.{lent_stored}
 use Rattle.kt_engine.proofs.StorePurposes.{lent_is_next, publishes_settled, may_publish}
+use Rattle.kt_engine.proofs.Visiting.{visit_of, turn_out_visit}
 use Rattle.kt_engine.proofs.engine.Engine.lend_out.Goals as goal
 
 pub invariant_of-self : goal.invariant_of-self
@@ -12,7 +14,8 @@ invariant_of-self g c =
     let meta = rw old at c.in_ok-meta.ensures.meta in (
       store_keeps g.L.Disk.tells g.L.Disk.seen g.L.Disk.now g.L.Disk.leaves g.L.Disk.faults _ c.lend.new.self (ap (λ s. s.whole) store) c.self.invariant.0,
       lent_stored g.L.Disk.tells g.L.Disk.seen g.D.Disk.tells g.D.Disk.seen g.D.Disk.now g.D.Disk.leaves g.D.Disk.faults _ c.self.invariant.1 side c.lend.new.self c.args.number c.in_ok-meta.meta store (lent_is_next c.args.number c.args.purpose _ c.in_ok-meta.meta meta (rw old at (c.is_of_job.ensures.no c.if-is_of_job.false)))
-          (λ m is. let rest = (rw old at c.requires.settled) (publishes_settled c.args.number c.args.purpose _ c.in_ok-meta.meta meta m is) in (rest.0, rest.1, (rw old at c.requires.free) (publishes_settled c.args.number c.args.purpose _ c.in_ok-meta.meta meta m is))) (rw c.deref.ensures at c.standing.ensures.sound.stands),
+          (λ m is. let rest = (rw old at c.requires.settled) (publishes_settled c.args.number c.args.purpose _ c.in_ok-meta.meta meta m is) in (rest.0, rest.1, (rw old at c.requires.free) (publishes_settled c.args.number c.args.purpose _ c.in_ok-meta.meta meta m is)))
+          (λ m is. none_is_outside c.self.inside.upkeep ((rw old at c.requires.inside) (publishes_settled c.args.number c.args.purpose _ c.in_ok-meta.meta meta m is))) (rw c.deref.ensures at c.standing.ensures.sound.stands),
     )
 
 -- what goes out may be published
@@ -44,3 +47,13 @@ returns-then-is_of_job-clause-ready g c =
     let old = sym c.self.view_is in
     let side = rw c.deref-2.ensures at c.standing-2.ensures.side in
     may_publish g.D.Disk.tells g.D.Disk.seen g.D.Disk.now g.D.Disk.leaves g.D.Disk.faults _ side c.lend_of_job.result.device c.in_ok-meta.meta c.lend_of_job.result.meta (rw old at c.lend_of_job.ensures.device.1) c.lend_of_job.ensures.meta (rw old at c.in_ok-meta.ensures.lent)
+
+-- no other pass's part has changed
+pub returns-clause-visit : goal.returns-clause-visit
+returns-clause-visit g c =
+    let store = rw c.deref_mut.ensures.value at c.lend.ensures.side in
+    visit_of c.args.number _ _ _ c.self.view_is
+    (turn_out_visit c.args.number _ c.lend.new.self c.self.inside.upkeep (rw (sym c.self.view_is) at c.requires.home) (ap (λ s. s.holder) store) (ap (λ s. s.meta.schema) store) (λ k ne. refl))
+
+pub returns-then-is_of_job-clause-visit : goal.returns-then-is_of_job-clause-visit
+returns-then-is_of_job-clause-visit g c = c.lend_of_job.ensures.visit

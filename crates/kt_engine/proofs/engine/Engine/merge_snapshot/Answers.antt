@@ -17,7 +17,7 @@ pub invariant_of-self : goal.invariant_of-self
 invariant_of-self g c =
     let old = sym c.self.view_is in
     let job = rw old at c.requires.stage in
-    further_both g.L.Disk.tells g.L.Disk.seen g.L.Disk.now g.L.Disk.leaves g.L.Disk.faults g.D.Disk.tells g.D.Disk.seen g.D.Disk.faults _ c.read.new.self c.args.number job.0 (record job.0 { stage = stage.Read; bound = c.in_ok-input.input.bound; mark = c.in_ok-input.input.mark; inputs = Some c.of-inputs.result.value }) job.1.has (λ records on. record { many = on.many; names = on.names }) (c.read.ensures.own job.0 job.1.has) (rw old at c.requires.free) c.read.ensures.begun c.self.invariant
+    further_both g.L.Disk.tells g.L.Disk.seen g.L.Disk.now g.L.Disk.leaves g.L.Disk.faults g.D.Disk.tells g.D.Disk.seen g.D.Disk.faults _ c.read.new.self c.args.number job.0 (record job.0 { stage = stage.Read; bound = c.in_ok-input.input.bound; mark = c.in_ok-input.input.mark; inputs = Some c.of-inputs.result.value }) job.1.has (λ records on. record { many = on.many; names = on.names }) (c.read.ensures.own job.0 job.1.has) (rw old at c.requires.free) c.read.ensures.begun refl c.self.invariant
 
 pub returns-clause-visit : goal.returns-clause-visit
 returns-clause-visit g c =

@@ -1,0 +1,187 @@
+-- A job leaves the lock with what it read, and comes back.
+use Rattle.std.proofs.Common.{◌≡◌, ◌≢◌, ◌<◌, ◌+◌, ◌^◌, ℕ, suc, min, Bool, List, [], ◌∷◌, ◌++◌, length, map, take, Option, Some, None, refl, sym, ap, ◌∙◌, subst, arith, inl}
+use Rattle.std.specs.Prelude.{IsTrue}
+use Rattle.std.specs.List.{All, AllByRecursion}
+use Rattle.std.proofs.lemmas.List.{take_all}
+use Rattle.kt_disk.specs.Disk.{Files}
+use Rattle.kt_history.specs.History.{Past}
+use Rattle.kt_history.specs.Stores.{Hist}
+use Rattle.kt_histlaws.specs.Flights.{AllUnder}
+use Rattle.kt_histlaws.specs.Histories.{hists}
+use Rattle.kt_histlaws.specs.Pending.{Aloft}
+use Rattle.kt_rowfiles.specs.Merging.{joined_history}
+use Rattle.kt_content.specs.Flushes.{before}
+use Rattle.kt_content.specs.Rules.{Rules, HistPasses}
+use Rattle.kt_content.specs.RunEvents.{RecordsBelow, RowsBelow}
+use Rattle.kt_pick.specs.declared.rules.Want.TheVariants as want
+use Rattle.kt_diskrowset.specs.declared.data.RowSetData.{RowSetData}
+use Rattle.kt_diskrowset.specs.Data.{held_in, store_in}
+use Rattle.kt_merge.specs.Merge.{hists_of}
+use Rattle.kt_joblaws.specs.Apart.{AreApart}
+use Rattle.kt_joblaws.specs.Late.{AllHaveLater}
+use Rattle.kt_joblaws.proofs.Late.{nothing_later, late_apart}
+use Rattle.kt_stores.specs.Takes.{rowsets as disks, files_taken}
+use Rattle.kt_tablet.specs.Views.{Opens, IsSound}
+use Rattle.kt_tablet.specs.Jobs.{taken_stores, taken_rowsets}
+use Rattle.kt_engine.specs.declared.upkeep.Stage.TheVariants as stage
+use Rattle.kt_engine.specs.Engines.{EngineView, IsEngine, IsFound, IsContent}
+use Rattle.kt_engine.specs.Jobs.{JobView, UpkeepsView, JobOn, HasUpkeep, IsAtStage, job_of, upkeep_at}
+use Rattle.kt_engine.specs.JobSteps.{TakesBy, TakesInputs, TakesRowsets}
+use Rattle.kt_engine.specs.Logged.{PlanPasses}
+use Rattle.kt_engine.specs.Near.{first_number}
+use Rattle.kt_engine.specs.Outside.{IsOutside, AreUpToInFiles, job_back}
+use Rattle.kt_engine.specs.Over.{AreShelved}
+use Rattle.kt_engine.specs.Returning.{LeavesAs, HasReturned}
+use Rattle.kt_engine.specs.Stored.{IsStored}
+use Rattle.kt_engine.proofs.JobBoth.{free_both}
+use Rattle.kt_engine.proofs.LaterFiles.{of_each_key, none_above}
+use Rattle.kt_engine.proofs.Lists.{all_none, some_one}
+use Rattle.kt_engine.proofs.Outsiders.{not_outside}
+use Rattle.kt_engine.proofs.Rising.{records_rise}
+use Rattle.kt_engine.proofs.TakenRead.{own_are, taken_apart, own_under, hists_read, rowsets_are_taken, passing_from}
+
+-- where nothing is, each is so
+none_noted : {A B : Type 0} (P : A → Type 0) (notes : List A) (xs : List B) → length notes ≡ length xs → xs ≡ [] → AllByRecursion P notes
+none_noted P [] xs same none = tt
+none_noted P (x ∷ notes) xs same none = absurd (let no : length xs ≡ 0 = ap length none in omega (arith, same, no))
+
+module _ {L D C : Type 0} (log_tells : Bool) (log_seen : L → Files) (tells : Bool) (seen : D → Files) (faults : D → ℕ) (readings : C → Option (List ℕ)) (view : EngineView L D C) (is : IsStored log_tells log_seen tells seen faults view) (sound : IsSound readings view.tablet)
+    (shelved : AreShelved (suc view.tablet.frozen) (2 ^ 64) view.tablet.names) (as_many : length view.tablet.names ≡ length view.tablet.core.stores) (noted : length view.tablet.notes ≡ length view.tablet.core.aloft)
+    (calm : view.tablet.core.aloft ≡ []) (free : view.upkeep.publishing ≡ None) (none : view.store.lent ≡ None) (begun : view.upkeep.begun ≢ 0) (n : ℕ) (job : JobView) (had : job_of n view.upkeep ≡ Some job)
+    (wants : job.want ≡ want.Compact job.taken) (takes : TakesInputs view job) (leaves : LeavesAs view.tablet job) where
+  its_rowsets : TakesRowsets view job
+  its_rowsets = (subst (TakesBy view job) wants takes.takes).1
+
+  -- the records of the log name nothing that came since
+  all_named : RecordsBelow (before job.first_rowset (first_number view.tablet.names)) (view.records ++ is.run)
+  all_named =
+      let on = is.jobs n job had in
+      let all : take job.many (view.records ++ is.run) ≡ view.records ++ is.run = take_all job.many (view.records ++ is.run) (let k = is.count in let m = takes.many in omega arith) in
+      let first = its_rowsets.first in
+      records_rise (before job.first_rowset job.last_mem) (before job.first_rowset (first_number view.tablet.names)) (view.records ++ is.run) (omega arith) (omega (arith, first))
+      (subst (RecordsBelow (before job.first_rowset job.last_mem)) all on.names)
+
+  -- what it read is what its disk rowsets have
+  read_is : (q : List ℕ) → hists_of q leaves.inputs ≡ hists q (taken_stores (disks job.taken) view.tablet)
+  read_is q = hists_read q (taken_stores (disks job.taken) view.tablet) leaves.inputs leaves.no_lists leaves.stores
+
+  abbrev Found : Past → Type 0
+  Found first = Opens view.tablet.opening view.tablet.mark view.tablet.core.opened first
+
+  -- its mark is the engine's
+  mark_is : (first : Past) → Found first → job.mark ≡ view.tablet.core.a
+  mark_is first opens = let up = (sound.stands first opens).flown.marked in let bound = leaves.bound in leaves.mark ∙ ap (λ (b : ℕ). min b view.tablet.core.a) bound ∙ (omega arith)
+
+  under_bound : (first : Past) → Found first → (q : List ℕ) → AllUnder (suc job.bound) (hists q (taken_stores (disks job.taken) view.tablet))
+  under_bound first opens q =
+      subst (λ (b : ℕ). AllUnder (suc b) (hists q (taken_stores (disks job.taken) view.tablet))) (sym leaves.bound) (own_under view.tablet job.taken shelved as_many readings sound first opens q)
+
+  apart_read : (first : Past) → Found first → (q : List ℕ) → AreApart job.mark (hists_of q leaves.inputs) × AllUnder (suc job.bound) (hists_of q leaves.inputs)
+  apart_read first opens q = (
+    subst (λ (a : ℕ). AreApart a (hists_of q leaves.inputs)) (sym (mark_is first opens))
+        (subst (AreApart view.tablet.core.a) (own_are view.tablet job.taken shelved as_many q ∙ sym (read_is q)) (taken_apart view.tablet job.taken shelved as_many readings sound first opens q)),
+    subst (AllUnder (suc job.bound)) (sym (read_is q)) (under_bound first opens q),
+  )
+
+  pub goes_outside : IsOutside view.tablet view.store.meta view.store.lent view.upkeep (view.records ++ is.run) (record job { stage = stage.Outside })
+  goes_outside = record {
+    inputs = leaves.inputs;
+    read = leaves.read;
+    free = (free, none);
+    begun = begun;
+    want_is = wants;
+    some = its_rowsets.some;
+    there = its_rowsets.there;
+    left = takes.left;
+    below = takes.below;
+    as_many = as_many;
+    named = all_named;
+    noted = none_noted (RowsBelow (before job.first_rowset (first_number view.tablet.names))) view.tablet.notes view.tablet.core.aloft noted calm;
+    since = (let bound = leaves.bound in omega arith);
+    flies = subst (All (λ (w : Aloft). job.bound < w.ts)) (sym calm) (all_none (λ (w : Aloft). job.bound < w.ts));
+    mark = (let least = leaves.mark in (omega arith, omega arith));
+    low = λ first opens. let up = mark_is first opens in let low = is.low view.store.meta (inl refl) in omega arith;
+    later = λ first opens q. subst (λ (hs : List Hist). AllHaveLater job.bound hs (hists q (taken_stores (disks job.taken) view.tablet))) (sym (read_is q)) (nothing_later job.bound (hists q (taken_stores (disks job.taken) view.tablet)));
+    apart = apart_read;
+    upto = λ first opens. of_each_key job.bound (files_taken job.taken view.tablet.files) (λ q. leaves.files job.bound q (under_bound first opens q));
+  }
+
+-- it has left: no other job has changed
+pub left_both : {L D C : Type 0} (log_tells : Bool) (log_seen : L → Files) (log_now : L → ℕ) (log_leaves : L → ℕ → Files → Type 0) (log_faults : L → ℕ) (tells : Bool) (seen : D → Files) (faults : D → ℕ) (view : EngineView L D C)
+    → (are : IsEngine log_tells log_seen log_now log_leaves log_faults view × IsStored log_tells log_seen tells seen faults view) → (n : ℕ) (job : JobView) → job_of n view.upkeep ≡ Some job → (upkeep : UpkeepsView)
+    → HasUpkeep n (record (upkeep_at n view.upkeep.passes) { job = Some (record job { stage = stage.Outside }) }) view.upkeep upkeep → view.upkeep.publishing ≡ None → (upkeep.begun ≡ view.upkeep.begun) × (upkeep.publishing ≡ view.upkeep.publishing)
+    → IsOutside view.tablet view.store.meta view.store.lent view.upkeep (view.records ++ are.1.run) (record job { stage = stage.Outside })
+    → IsEngine log_tells log_seen log_now log_leaves log_faults (record view { upkeep = upkeep }) × IsStored log_tells log_seen tells seen faults (record view { upkeep = upkeep })
+left_both log_tells log_seen log_now log_leaves log_faults tells seen faults view are n job had upkeep has free same out =
+    let on = are.1.jobs n job had in
+    free_both log_tells log_seen log_now log_leaves log_faults tells seen faults view upkeep n (record (upkeep_at n view.upkeep.passes) { job = Some (record job { stage = stage.Outside }) }) has free same are
+    (λ j e. subst (JobOn (view.records ++ are.1.run)) (some_one (record job { stage = stage.Outside }) j e) (record { many = on.many; names = on.names }))
+    (λ j e at. subst (IsOutside view.tablet view.store.meta view.store.lent view.upkeep (view.records ++ are.1.run)) (some_one (record job { stage = stage.Outside }) j e) out)
+
+-- the job that is at a stage is the pass's own
+pub same_stage : (n : ℕ) (v : UpkeepsView) (known : (job : JobView) × IsAtStage v n stage.Outside job) (job : JobView) → job_of n v ≡ Some job → job.stage ≡ stage.Outside
+same_stage n v known job had = ap (λ (j : JobView). j.stage) (some_one job known.0 (sym had ∙ known.1.has)) ∙ known.1.at
+
+-- ---- it comes back
+
+module _ {L D C : Type 0} (log_tells : Bool) (log_seen : L → Files) (log_now : L → ℕ) (log_leaves : L → ℕ → Files → Type 0) (log_faults : L → ℕ) (tells : Bool) (seen : D → Files) (faults : D → ℕ) (view : EngineView L D C)
+    (are : IsEngine log_tells log_seen log_now log_leaves log_faults view × IsStored log_tells log_seen tells seen faults view) (n : ℕ) (job : JobView) (had : job_of n view.upkeep ≡ Some job) (at : job.stage ≡ stage.Outside) (many last : ℕ)
+    (count : many ≡ view.log.known.count + length (view.log.out ++ view.log.queued)) (active : last ≡ first_number view.tablet.names) (upkeep : UpkeepsView) (has : HasUpkeep n (record (upkeep_at n view.upkeep.passes) { job = Some (job_back many last job) }) view.upkeep upkeep)
+    (same : (upkeep.begun ≡ view.upkeep.begun) × (upkeep.publishing ≡ view.upkeep.publishing)) where
+  was : IsOutside view.tablet view.store.meta view.store.lent view.upkeep (view.records ++ are.1.run) job
+  was = are.1.outside n job had at
+
+  on_again : JobOn (view.records ++ are.1.run) (job_back many last job)
+  on_again =
+      let k = are.1.count in
+      let c = count in
+      record {
+        many = omega arith;
+        names = subst (RecordsBelow (before job.first_rowset last)) (sym (take_all many (view.records ++ are.1.run) (omega arith))) (subst (λ (l : ℕ). RecordsBelow (before job.first_rowset l) (view.records ++ are.1.run)) (sym active) was.named);
+      }
+
+  pub back_both : IsEngine log_tells log_seen log_now log_leaves log_faults (record view { upkeep = upkeep }) × IsStored log_tells log_seen tells seen faults (record view { upkeep = upkeep })
+  back_both = free_both log_tells log_seen log_now log_leaves log_faults tells seen faults view upkeep n (record (upkeep_at n view.upkeep.passes) { job = Some (job_back many last job) }) has was.free.0 same are
+      (λ j e. subst (JobOn (view.records ++ are.1.run)) (some_one (job_back many last job) j e) on_again)
+      (λ j e out. absurd (not_outside (job_back many last job).stage refl (ap (λ (x : JobView). x.stage) (some_one (job_back many last job) j e) ∙ out)))
+
+  its_takes : TakesInputs (record view { upkeep = upkeep }) (job_back many last job)
+  its_takes = record {
+    takes = subst (TakesBy (record view { upkeep = upkeep }) (job_back many last job)) (sym was.want_is) (refl, record { some = was.some; there = was.there; first = omega (arith, active) });
+    left = was.left;
+    below = was.below;
+    many = count;
+  }
+
+  -- they are apart, with what came later
+  apart_now : (first : Past) → IsFound view first → (q : List ℕ) → AreApart job.mark (hists q (taken_stores (disks job.taken) view.tablet))
+  apart_now first opens q =
+      let then = was.apart first opens q in
+      late_apart job.mark job.bound (hists_of q was.inputs) (hists q (taken_stores (disks job.taken) view.tablet)) was.mark.0 then.0 then.1 (was.later first opens q)
+
+  passes_now : IsTrue tells → view.tablet.core.aloft ≡ [] → (rules : Rules) (first : Past) → IsContent rules view first → PlanPasses rules view.tablet.core.work → (q : List ℕ) → HistPasses rules q (joined_history job.mark (hists q (taken_stores (disks job.taken) view.tablet)))
+  passes_now t calm rules first content plan q =
+      let shelved = are.0.ready.shelved in
+      let all = own_are view.tablet job.taken shelved was.as_many q in
+      subst (λ (l : List Hist). HistPasses rules q (joined_history job.mark l)) all
+      (passing_from log_tells log_seen tells seen faults view are.1 job.taken was.free.0 calm t rules first content plan job.mark (was.low first content.opens) q
+      (subst (AreApart job.mark) (sym all) (apart_now first content.opens q)))
+
+  -- with all that its disk rowsets have now
+  pub has_returned : view.tablet.core.aloft ≡ [] → (list : List RowSetData) → map store_in list ≡ taken_rowsets job.taken view.tablet → map held_in list ≡ files_taken job.taken view.tablet.files → HasReturned tells n job list view (record view { upkeep = upkeep })
+  has_returned calm list stores files = record {
+    many = many;
+    at = record { upkeep = subst (λ (l : ℕ). HasUpkeep n (record (upkeep_at n view.upkeep.passes) { job = Some (job_back many l job) }) view.upkeep upkeep) active has; begun = same; beside = refl };
+    takes = subst (λ (l : ℕ). TakesInputs (record view { upkeep = upkeep }) (job_back many l job)) active its_takes;
+    as_many = was.as_many;
+    free = same.1 ∙ was.free.0;
+    begun = λ none. was.begun (sym same.0 ∙ none);
+    inputs = was.inputs;
+    read = was.read;
+    stores = stores ∙ rowsets_are_taken view.tablet job.taken are.0.ready.shelved;
+    later = λ first opens q. was.later first opens q;
+    apart = λ first opens q. was.apart first opens q;
+    upto = λ first opens. none_above job.bound list (subst (AllByRecursion (AreUpToInFiles job.bound)) (sym files) (was.upto first opens));
+    mark = was.mark;
+    passes = λ t rules first content plan. passes_now t calm rules first (record { closed = content.closed; opens = content.opens; holds = content.holds }) plan;
+  }
